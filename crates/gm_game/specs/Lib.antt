@@ -1,0 +1,14 @@
+pub mod Rules
+pub mod Texts
+pub mod Laws
+pub mod Shown
+pub mod Values
+pub mod Children
+pub mod Masks
+pub mod Records
+pub mod Places
+pub mod Numbers
+pub mod Settling
+pub mod Evaluation
+pub mod Ascending
+pub mod Boards

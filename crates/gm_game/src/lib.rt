@@ -1,0 +1,12 @@
+//! A two-player game without chance or hidden information, as positions, moves and primitive values, with its laws.
+//!
+//! The words are those of docs/DEFINITIONS.md. `specs/` has the definitions that contracts cite, and `proofs/` the theory over them.
+#![tactic(auto)]
+
+pub mod children;
+pub mod evaluate;
+pub mod game;
+pub mod limits;
+pub mod position;
+pub mod shown;
+pub mod text;

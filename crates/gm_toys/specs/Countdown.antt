@@ -1,0 +1,12 @@
+-- The rules of Countdown: at most two may be taken at a time.
+use Rattle.std.specs.Prelude.{ℕ, List, [], ◌∷◌, ◌++◌, codes}
+use Rattle.gm_game.specs.Rules.{Rules}
+use Rattle.gm_toys.specs.Subtraction.{subtraction}
+
+-- the name, padded with zeros
+abbrev pub countdown_name : List ℕ
+countdown_name = codes "countdown" ++ 0 ∷ 0 ∷ 0 ∷ 0 ∷ 0 ∷ 0 ∷ 0 ∷ []
+
+-- from n down to 0
+abbrev pub countdown : ℕ → Rules
+countdown n = subtraction countdown_name 2 n

@@ -1,0 +1,3 @@
+pub mod Subtraction
+pub mod SubtractionLaws
+pub mod Countdown
