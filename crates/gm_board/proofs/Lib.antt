@@ -1,0 +1,10 @@
+pub mod PascalRows
+pub mod RankSteps
+pub mod UnrankSteps
+pub mod PackSteps
+pub mod IndexSteps
+pub mod GroupTests
+pub mod ImageSteps
+pub mod Orders
+pub mod LeastSteps
+pub mod RadixSteps

@@ -1,0 +1,13 @@
+use Rattle.std.proofs.Common.{◌<◌, length, [], refl, sym, arith}
+use Rattle.gm_board.specs.Binomials.{binomial_past}
+use Rattle.gm_board.specs.declared.pascal.TheConstants.{ROWS}
+use Rattle.gm_board.proofs.PascalRows.{triangle_is}
+use Rattle.gm_board.proofs.pascal.binomial.Goals as goal
+
+pub returns-then-k-n-clause-value : goal.returns-then-k-n-clause-value
+returns-then-k-n-clause-value c = sym (binomial_past c.args.n c.args.k c.if-k-n.true)
+
+pub returns-clause-value : goal.returns-clause-value
+returns-clause-value c =
+    let below : c.args.n < length ROWS = omega arith in
+    (triangle_is ROWS refl c.args.n [] below).entries c.args.k (omega arith)

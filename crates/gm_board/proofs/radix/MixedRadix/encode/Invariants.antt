@@ -1,0 +1,6 @@
+use Rattle.std.proofs.Common.{◌≡◌, take}
+use Rattle.gm_board.specs.Digits.{digits_number}
+use Rattle.gm_board.proofs.radix.MixedRadix.encode.Given as goal
+
+abbrev pub invariant-loop-k : goal.invariant-loop-k
+invariant-loop-k g l = l.number ≡ digits_number (take l.k l.self.radices) (take l.k l.digits)

@@ -1,0 +1,13 @@
+pub mod Lists
+pub mod Binomials
+pub mod Ranks
+pub mod Masks
+pub mod Arrangements
+pub mod Pieces
+pub mod Permutations
+pub mod Groups
+pub mod Patterns
+pub mod Images
+pub mod Orbits
+pub mod BoardMasks
+pub mod Digits

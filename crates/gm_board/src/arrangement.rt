@@ -1,0 +1,96 @@
+//! Numbers of the arrangements of two sides' pieces.
+ghost use Rattle.std.specs.Prelude.{◌≡◌, ◌<◌, ◌≤◌, ◌^◌, ◌-◌};
+ghost use Rattle.gm_board.specs.Arrangements.{their_bits, arrangement_index, arrangements};
+ghost use Rattle.gm_board.specs.Masks.{mask_of};
+ghost use Rattle.gm_board.specs.Pieces.{cells_of, HasPieces, mine_mask, their_mask, spread_mask};
+
+use crate::pascal::binomial;
+use crate::subset::{rank_subset, unrank_subset};
+
+/// Boards of `cells` cells, at most 32, with `mine` pieces of the mover's and `theirs` of the opponent's.
+///
+/// The index of an arrangement is `rank(mine) * C(cells - mine, theirs) + rank'(theirs)`, where `rank'` numbers the
+/// cells without the mover's pieces from 0 in ascending order.
+#[derive(Clone, Copy, Debug, PartialEq, Eq)]
+pub struct Arrangement {
+    pub cells: u32,
+    pub mine: u32,
+    pub theirs: u32,
+    ghost within: { cells ≤ 32 },
+}
+
+impl Arrangement {
+    /// The number of arrangements: `C(cells, mine) * C(cells - mine, theirs)`.
+    pub fn size(self) -> u64
+        ensures { result ≡ arrangements self.cells self.mine self.theirs }
+    {
+        binomial(self.cells, self.mine) * binomial(self.free(), self.theirs)
+    }
+
+    /// The index of the arrangement with these masks of pieces.
+    pub fn index(self, mine: u32, theirs: u32) -> u64
+        requires { HasPieces self.cells self.mine self.theirs mine theirs }
+        ensures value { result ≡ arrangement_index (cells_of self.cells mine theirs) }
+        ensures below { result < arrangements self.cells self.mine self.theirs }
+        ensures mine_back { mine_mask self.cells self.mine self.theirs result ≡ mine }
+        ensures theirs_back { their_mask self.cells self.mine self.theirs result ≡ theirs }
+    {
+        let packed = pack(self.cells, mine, theirs);
+        rank_subset(mine) * binomial(self.free(), self.theirs) + rank_subset(packed)
+    }
+
+    /// The masks of the mover's and of the opponent's pieces in the arrangement with this index.
+    pub fn masks(self, index: u64) -> (u32, u32)
+        requires { index < arrangements self.cells self.mine self.theirs }
+        ensures mine { result.0 ≡ mine_mask self.cells self.mine self.theirs index }
+        ensures theirs { result.1 ≡ their_mask self.cells self.mine self.theirs index }
+        ensures pieces { HasPieces self.cells self.mine self.theirs result.0 result.1 }
+        ensures back { arrangement_index (cells_of self.cells result.0 result.1) ≡ index }
+    {
+        let free = self.free();
+        let ways = binomial(free, self.theirs);
+        let mine = unrank_subset(self.cells, self.mine, index / ways);
+        let packed = unrank_subset(free, self.theirs, index % ways);
+        let theirs = spread(self.cells, mine, packed);
+        (mine, theirs)
+    }
+
+    /// The number of cells without the mover's pieces, 0 where the mover has more pieces than there are cells.
+    fn free(self) -> u32
+        ensures { result ≡ self.cells - self.mine }
+    {
+        self.cells.saturating_sub(self.mine)
+    }
+}
+
+/// The opponent's pieces on the cells without the mover's, which are numbered from 0 in ascending order.
+fn pack(cells: u32, mine: u32, theirs: u32) -> u32
+    requires { cells ≤ 32 }
+    ensures { result ≡ mask_of (their_bits (cells_of cells mine theirs)) }
+{
+    let mut packed = 0;
+    let mut free: u32 = 0;
+    for cell in 0..cells {
+        if mine >> cell & 1 == 0 {
+            packed += (theirs >> cell & 1) << free;
+            free += 1;
+        }
+    }
+    packed
+}
+
+/// The opponent's pieces on all cells, from those on the cells without the mover's.
+fn spread(cells: u32, mine: u32, packed: u32) -> u32
+    requires { cells ≤ 32 }
+    ensures { result ≡ spread_mask cells mine packed }
+{
+    let mut theirs = 0;
+    let mut rest = packed;
+    for cell in 0..cells {
+        if mine >> cell & 1 == 0 {
+            theirs += (rest & 1) << cell;
+            rest >>= 1;
+        }
+    }
+    theirs
+}

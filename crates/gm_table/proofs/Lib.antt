@@ -1,0 +1,6 @@
+pub mod CheckLemmas
+pub mod LevelLemmas
+pub mod PlaceLemmas
+pub mod RunLemmas
+pub mod TableLemmas
+pub mod ValueLemmas

@@ -1,0 +1,7 @@
+use Rattle.std.proofs.Common.{subst}
+use Rattle.gm_table.specs.Tables.{AreTables}
+use Rattle.gm_table.proofs.TableLemmas.{kept_tables}
+use Rattle.gm_table.proofs.tables.Tables.truth.Goals as goal
+
+pub returns : goal.returns
+returns g c = subst (AreTables g.G.Game.rules) c.self.view_is (kept_tables g.G.Game.rules c.self.inside.entries.entries c.self.invariant)

@@ -1,0 +1,47 @@
+-- Records that are checked one by one.
+use Rattle.std.specs.Prelude.{◌≡◌, ℕ, ◌<◌, List, Option, Some, length, map, slice_get}
+use Rattle.gm_game.specs.declared.position.Position.{Position}
+use Rattle.gm_game.specs.declared.position.Solved.{Solved}
+use Rattle.gm_game.specs.declared.limits.TheConstants.{REMOTENESS}
+use Rattle.gm_game.specs.Rules.{Rules, at}
+use Rattle.gm_game.specs.Children.{canonical_children_of}
+use Rattle.gm_game.specs.Records.{IsRecord, settled_by, look_in, Fits}
+use Rattle.gm_table.specs.declared.checker.CheckError.{CheckError}
+use Rattle.gm_table.specs.declared.checker.CheckError.TheVariants.{OutOfMemory, WrongSize, WrongRecord}
+use Rattle.gm_table.specs.Tables.{TableData, value_in}
+
+-- the records fit: each follows from those of its canonical children, which are among them in the tier itself, and in the tables elsewhere
+abbrev pub FitTables : Rules → List TableData → ℕ → List (Option Solved) → Type 0
+FitTables r entries tier records = Fits r REMOTENESS tier (value_in r entries) records
+
+-- what the records, and the tables of other tiers, say of a canonical position
+abbrev pub look_up : Rules → List TableData → ℕ → List (Option Solved) → Position → Option Solved
+look_up r entries tier records = look_in tier records (value_in r entries)
+
+-- what they say of the canonical children of a position
+abbrev pub child_records : Rules → List TableData → ℕ → List (Option Solved) → Position → List (Option Solved)
+child_records r entries tier records p = map (look_up r entries tier records) (canonical_children_of r p)
+
+-- the value that they give a position
+abbrev pub value_from : Rules → List TableData → ℕ → List (Option Solved) → Position → Solved
+value_from r entries tier records p = settled_by r (look_up r entries tier records) p
+
+-- a record of a position fits: it has that value, within the limit, and there is none where the position isn't legal and canonical
+abbrev pub RecordFits : Rules → List TableData → ℕ → List (Option Solved) → Position → Option Solved → Type 0
+RecordFits r entries tier records p o = IsRecord r REMOTENESS (λ q s. s ≡ value_from r entries tier records q) p o
+
+-- the record at an index fits
+abbrev pub FitsAt : Rules → List TableData → ℕ → List (Option Solved) → ℕ → Type 0
+FitsAt r entries tier records index = (o : Option Solved) → slice_get records index ≡ Some o → RecordFits r entries tier records (at tier index) o
+
+-- the record at an index doesn't fit, and each one before it does
+pub record IsFirstWrong (r : Rules) (entries : List TableData) (tier : ℕ) (records : List (Option Solved)) (index : ℕ) : Type 0 where
+  pub there : index < length records
+  pub wrong : FitsAt r entries tier records index → ⊥
+  pub before : (i : ℕ) → i < index → FitsAt r entries tier records i
+
+-- the numbers of the errors
+abbrev pub number_of : CheckError → ℕ
+number_of OutOfMemory = 1
+number_of WrongSize = 2
+number_of (WrongRecord index) = 3

@@ -1,0 +1,4 @@
+pub mod Checks
+pub mod Levels
+pub mod Runs
+pub mod Tables

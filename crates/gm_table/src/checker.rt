@@ -1,0 +1,257 @@
+//! The checker: how records from anywhere become a table.
+ghost use Rattle.std.specs.Prelude.{◌≡◌, ◌≢◌, ◌↔◌, ◌+◌, ◌≤◌, ℕ, true, length, IsTrue, IfOk, IsErrOf, IsOkUnless, MatchOption};
+ghost use Rattle.gm_game.specs.Rules.{IsCanonical};
+ghost use Rattle.gm_game.specs.Records.{IsTrueTable, settle, solved as solved_spec, lost_in, won_in, tied_in, lesser, greater, least_of, all_won};
+ghost use Rattle.gm_table.specs.Tables.{IsTable, AreHeld};
+ghost use Rattle.gm_table.specs.Checks.{FitTables, look_up, child_records, value_from, RecordFits, FitsAt, IsFirstWrong, number_of};
+
+use crate::table::Table;
+use crate::tables::Tables;
+use gm_game::children::canonical_children;
+use gm_game::evaluate::of_end;
+use gm_game::game::Game;
+use gm_game::limits::{REMOTENESS, TIER_SIZE};
+use gm_game::position::{Position, Solved, Value};
+use std::alloc::Global;
+use thiserror::Error;
+
+/// Why records aren't the table of a tier.
+#[derive(Clone, Copy, Debug, PartialEq, Eq, Error)]
+pub enum CheckError {
+    #[error("out of memory")]
+    OutOfMemory,
+    #[error("there are not as many records as the tier has indexes")]
+    WrongSize,
+    #[error("the record at index {index} doesn't follow from its children")]
+    WrongRecord { index: u64 },
+}
+
+impl CheckError {
+    /// The number of the error.
+    pub fn number(&self) -> u8
+        ensures { result ≡ number_of self.now }
+    {
+        match self {
+            CheckError::OutOfMemory => 1,
+            CheckError::WrongSize => 2,
+            CheckError::WrongRecord { .. } => 3,
+        }
+    }
+}
+
+/// Makes a table of records that fit: each canonical legal position has the value that follows from the records of its canonical children, of a remoteness within the limit, and every other index has none. The tables of the child tiers are given; children in the tier itself are looked up in the records, even where the tier has a table.
+///
+/// The size is tested first, then the records by index, and memory is asked for last.
+pub fn check<G: Game>(
+    alloc: Global,
+    tier: u64,
+    records: &[Option<Solved>],
+    tables: &Tables<G>,
+) -> Result<Table<G>, CheckError>
+    requires children { AreHeld G.rules tables.now tier }
+    requires is_small { G.rules.tier_size tier ≤ TIER_SIZE }
+
+    // The table has the given records.
+    ensures tier { IfOk result (λ t. t.tier ≡ tier) }
+    ensures records { IfOk result (λ t. t.records ≡ records.now) }
+    ensures table { IfOk result (IsTable G.rules) }
+
+    // Want of memory aside, records are taken exactly where they fit, and those are the true ones.
+    ensures fit { IsOkUnless result CheckError.OutOfMemory ↔ FitTables G.rules tables.now tier records.now }
+    ensures are_true { IsOkUnless result CheckError.OutOfMemory ↔ IsTrueTable G.rules REMOTENESS tier records.now }
+
+    // Why records don't fit.
+    ensures wrong_size { IsErrOf result CheckError.WrongSize ↔ (length records.now ≢ G.rules.tier_size tier) }
+    ensures wrong_record { (i : ℕ) → IsErrOf result (CheckError.WrongRecord i)
+        ↔ ((length records.now ≡ G.rules.tier_size tier) × IsFirstWrong G.rules tables.now tier records.now i) }
+{
+    tables.truth();
+    if records.len() as u64 != G::tier_size(tier) {
+        return Err(CheckError::WrongSize);
+    }
+    if let Some(index) = first_wrong::<G>(tier, records, tables) {
+        return Err(CheckError::WrongRecord { index });
+    }
+    match Vec::from_slice(alloc, records) {
+        Ok(copy) => Ok(Table::from_true(tier, copy)),
+        Err(_) => Err(CheckError::OutOfMemory),
+    }
+}
+
+// The least index whose record doesn't fit.
+fn first_wrong<G: Game>(tier: u64, records: &[Option<Solved>], tables: &Tables<G>) -> Option<u64>
+    ensures { MatchOption result ((i : ℕ) → FitsAt G.rules tables.now tier records.now i)
+        (IsFirstWrong G.rules tables.now tier records.now) }
+{
+    for (index, known) in records.iter().enumerate() {
+        let p = Position {
+            tier,
+            index: index as u64,
+        };
+        if !fits::<G>(tier, records, tables, p, *known) {
+            return Some(index as u64);
+        }
+    }
+    None
+}
+
+// Whether this record of a position fits.
+fn fits<G: Game>(
+    tier: u64,
+    records: &[Option<Solved>],
+    tables: &Tables<G>,
+    p: Position,
+    known: Option<Solved>,
+) -> bool
+    ensures { IsTrue result ↔ RecordFits G.rules tables.now tier records.now p known }
+{
+    match known {
+        None => !is_canonical::<G>(p),
+        Some(solved) => {
+            is_canonical::<G>(p)
+                && solved.remoteness <= REMOTENESS
+                && follows::<G>(tier, records, tables, p, solved)
+        }
+    }
+}
+
+// Whether p is legal and canonical.
+fn is_canonical<G: Game>(p: Position) -> bool
+    ensures { IsTrue result ↔ IsCanonical G.rules p }
+{
+    G::is_legal(p) && G::canonical(p) == p
+}
+
+// Whether a value is the one that the rules give a position.
+fn follows<G: Game>(
+    tier: u64,
+    records: &[Option<Solved>],
+    tables: &Tables<G>,
+    p: Position,
+    solved: Solved,
+) -> bool
+    requires { G.rules.is_legal p ≡ true }
+    ensures { IsTrue result ↔ (solved ≡ value_from G.rules tables.now tier records.now p) }
+{
+    match G::primitive(p) {
+        Some(end) => solved == of_end(end),
+        None => gather::<G>(tier, records, tables, p).settles(solved),
+    }
+}
+
+// What the canonical children of a position say.
+fn gather<G: Game>(
+    tier: u64,
+    records: &[Option<Solved>],
+    tables: &Tables<G>,
+    p: Position,
+) -> Summary
+    requires { G.rules.is_legal p ≡ true }
+    ensures lost { result.lost ≡ least_of lost_in (child_records G.rules tables.now tier records.now p) }
+    ensures won { result.won ≡ all_won (child_records G.rules tables.now tier records.now p) }
+    ensures tied { result.tied ≡ least_of tied_in (child_records G.rules tables.now tier records.now p) }
+{
+    let children = canonical_children::<G>(p);
+    let mut seen = Summary {
+        lost: None,
+        won: Some(0),
+        tied: None,
+    };
+    for c in children.as_slice() {
+        seen = seen.with(look_up::<G>(tier, records, tables, *c));
+    }
+    seen
+}
+
+// The record of a canonical position: a given one in the tier, and elsewhere that of a table.
+fn look_up<G: Game>(
+    tier: u64,
+    records: &[Option<Solved>],
+    tables: &Tables<G>,
+    c: Position,
+) -> Option<Solved>
+    requires { IsCanonical G.rules c }
+    ensures { result ≡ look_up G.rules tables.now tier records.now c }
+{
+    if c.tier == tier {
+        *records.get(c.index as usize)?
+    } else {
+        tables.record(c)
+    }
+}
+
+// What some children's records say: the least remoteness of a loss, the greatest of a win where all are wins, and the least of a tie.
+#[derive(Clone, Copy)]
+struct Summary {
+    lost: Option<u32>,
+    won: Option<u32>,
+    tied: Option<u32>,
+}
+
+impl Summary {
+    // With one child's record more.
+    fn with(self, known: Option<Solved>) -> Summary
+        ensures lost { result.lost ≡ lesser self.lost (lost_in known) }
+        ensures won { result.won ≡ greater self.won (won_in known) }
+        ensures tied { result.tied ≡ lesser self.tied (tied_in known) }
+    {
+        match known {
+            Some(
+                Solved {
+                    value: Value::Lose,
+                    remoteness,
+                },
+            ) => Summary {
+                lost: least(self.lost, remoteness),
+                won: None,
+                ..self
+            },
+            Some(
+                Solved {
+                    value: Value::Win,
+                    remoteness,
+                },
+            ) => Summary {
+                won: self.won.map(|n| n.max(remoteness)),
+                ..self
+            },
+            Some(
+                Solved {
+                    value: Value::Tie,
+                    remoteness,
+                },
+            ) => Summary {
+                won: None,
+                tied: least(self.tied, remoteness),
+                ..self
+            },
+            _ => Summary { won: None, ..self },
+        }
+    }
+
+    // Whether a position with these children has this value.
+    fn settles(self, solved: Solved) -> bool
+        ensures { IsTrue result ↔ (solved ≡ settle self.lost self.won self.tied) }
+    {
+        match (self.lost, self.won, self.tied) {
+            (Some(n), _, _) => is_next(solved, Value::Win, n),
+            (None, Some(n), _) => is_next(solved, Value::Lose, n),
+            (None, None, Some(n)) => is_next(solved, Value::Tie, n),
+            (None, None, None) => solved.value == Value::Draw && solved.remoteness == 0,
+        }
+    }
+}
+
+// The lesser of a remoteness, if there is one, and n.
+fn least(lost: Option<u32>, n: u32) -> Option<u32>
+    ensures { result ≡ lesser lost (Some n) }
+{
+    Some(lost.map_or(n, |m| m.min(n)))
+}
+
+// Whether a value is this one, with a remoteness of one more.
+fn is_next(solved: Solved, value: Value, n: u32) -> bool
+    ensures { IsTrue result ↔ (solved ≡ solved_spec value (n + 1)) }
+{
+    solved.value == value && u64::from(solved.remoteness) == u64::from(n) + 1
+}

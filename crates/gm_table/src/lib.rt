@@ -1,0 +1,11 @@
+//! The true tables of tiers, and the checker that makes them of records from anywhere.
+//!
+//! A table is true by its type: whoever holds one holds the true table of its tier. `specs/` has the definitions that contracts cite, and `proofs/` what follows from them.
+#![tactic(auto)]
+
+pub mod checker;
+mod entry;
+mod levels;
+mod runs;
+pub mod table;
+pub mod tables;

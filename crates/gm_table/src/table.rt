@@ -1,0 +1,98 @@
+//! The true table of a tier.
+ghost use Rattle.std.specs.Prelude.{◌≡◌, ◌≤◌, length};
+ghost use Rattle.gm_game.specs.Rules.{at};
+ghost use Rattle.gm_game.specs.Values.{IsTrueValue};
+ghost use Rattle.gm_game.specs.Records.{IsTrueTable, IsRecord};
+ghost use Rattle.gm_table.specs.Levels.{IsGreatest};
+
+use crate::levels::greatest_in;
+use gm_game::game::Game;
+use gm_game::limits::{REMOTENESS, TIER_SIZE};
+use gm_game::position::{Phase, Solved};
+use std::marker::{Model, PhantomData};
+
+/// The true records of a tier: each canonical legal position has its value and remoteness, and every other index has none.
+#[derive(Drop)]
+pub struct Table<G: Game> {
+    tier: u64,
+    records: Vec<Option<Solved>>,
+    greatest_win_lose: Option<u32>,
+    greatest_tie: Option<u32>,
+    game: PhantomData<G>,
+}
+
+impl<G: Game> Model for Table<G> {
+    ghost use Rattle.gm_table.specs.Tables.{TableData, IsKept};
+
+    ghost Value = { TableData };
+
+    ghost view = { λ t. record { tier = t.tier; records = t.records.items } };
+
+    ghost invariant = { λ t. IsKept G.rules (record { tier = t.tier; records = t.records.items }) t.greatest_win_lose t.greatest_tie };
+}
+
+impl<G: Game> Table<G> {
+    ghost use Rattle.gm_table.specs.Tables.{record_at, IsTable};
+
+    /// Makes a table of records that are the true ones, of a tier within the limits.
+    pub fn from_true(tier: u64, records: Vec<Option<Solved>>) -> Self
+        requires is_true { IsTrueTable G.rules REMOTENESS tier records.items }
+        requires is_small { G.rules.tier_size tier ≤ TIER_SIZE }
+        ensures tier { result.tier ≡ tier }
+        ensures records { result.records ≡ records.items }
+    {
+        let greatest_win_lose = greatest_in(Phase::WinLose, records.as_slice());
+        let greatest_tie = greatest_in(Phase::Ties, records.as_slice());
+        Table {
+            tier,
+            records,
+            greatest_win_lose,
+            greatest_tie,
+            game: PhantomData,
+        }
+    }
+
+    /// The tier of the table.
+    pub fn tier(&self) -> u64
+        ensures value { result ≡ self.now.tier }
+        ensures table { IsTable G.rules self.now }
+    {
+        self.tier
+    }
+
+    /// How many indexes the tier has.
+    pub fn size(&self) -> u64
+        ensures value { result ≡ length self.now.records }
+        ensures table { IsTable G.rules self.now }
+    {
+        self.records.len() as u64
+    }
+
+    /// The records by index.
+    pub(crate) fn records(&self) -> &[Option<Solved>]
+        ensures value { result.now ≡ self.now.records }
+        ensures table { IsTable G.rules self.now }
+    {
+        self.records.as_slice()
+    }
+
+    /// The value of the canonical legal position with this index; `None` for any other index, also past the size.
+    pub fn at(&self, index: u64) -> Option<Solved>
+        ensures value { result ≡ record_at self.now.records index }
+        ensures is_true { IsRecord G.rules REMOTENESS (IsTrueValue G.rules) (at self.now.tier index) result }
+        ensures table { IsTable G.rules self.now }
+    {
+        *self.records.get(index as usize)?
+    }
+
+    /// The greatest remoteness among wins and losses, or among ties; `None` where there is none.
+    pub fn greatest(&self, phase: Phase) -> Option<u32>
+        ensures value { IsGreatest phase self.now.records result }
+        ensures table { IsTable G.rules self.now }
+    {
+        match phase {
+            Phase::WinLose => self.greatest_win_lose,
+            Phase::Ties => self.greatest_tie,
+        }
+    }
+}
