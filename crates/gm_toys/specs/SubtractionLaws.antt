@@ -35,7 +35,7 @@ range_push a (suc n) =
     let f : a + 1 + n ≡ a + suc n = omega arith in
     rw e (ap (λ (xs : List ℕ). a ∷ xs) (range_push (a + 1) n ∙ ap (λ (x : ℕ). range_with_len (a + 1) n ++ x ∷ []) f))
 
-range_ascending : (a n : ℕ) → IsAscending (range_with_len a n)
+pub range_ascending : (a n : ℕ) → IsAscending (range_with_len a n)
 range_ascending a zero = tt
 range_ascending a (suc zero) = tt
 range_ascending a (suc (suc n)) = (omega arith, range_ascending (a + 1) (suc n))
@@ -53,10 +53,10 @@ unended_in name most n p e = grind (arith, nat_tests)
 unended_from : (name : List ℕ) (most n t i : ℕ) → 0 < i → (subtraction name most n).primitive (at t i) ≡ None
 unended_from name most n t i l = grind (arith, nat_tests)
 
-no_moves : (most i : ℕ) → i ≡ 0 → moves_down most i ≡ []
+pub no_moves : (most i : ℕ) → i ≡ 0 → moves_down most i ≡ []
 no_moves most i e = ap (range_with_len 1) (let z : min most i ≡ 0 = omega arith in z)
 
-some_moves : (most i : ℕ) → 0 < most → 0 < i → moves_down most i ≡ [] → ⊥
+pub some_moves : (most i : ℕ) → 0 < most → 0 < i → moves_down most i ≡ [] → ⊥
 some_moves most i p q e = let l = length-range_with_len 1 (min most i) in let z = ap (λ (xs : List ℕ). length xs) e in omega arith
 
 -- only tier 0 has parents

@@ -1,4 +1,8 @@
 //! Worked values of docs/EXAMPLES.md.
+mod chain;
+mod stairs;
+mod wheel;
+
 use crate::countdown::{Countdown, countdown_is};
 use gm_game::children::{canonical_children, child_place, is_inner};
 use gm_game::evaluate::within;
@@ -8,7 +12,7 @@ use gm_game::shown::{Shown, texts};
 use gm_game::text::value_text;
 use std::test::Fail;
 
-fn at(index: u64) -> Position {
+pub fn at(index: u64) -> Position {
     Position { tier: 0, index }
 }
 

@@ -1,0 +1,63 @@
+-- Parts and pieces of a list of notes.
+use Rattle.std.proofs.Common.{◌≡◌, ℕ, suc, ◌+◌, ◌-◌, ◌<◌, ◌≤◌, inl, inr, min, List, [], ◌∷◌, ◌++◌, length, get_or, take, drop, sym, ap, subst, ◌∙◌, arith, Some}
+use Rattle.std.specs.List.{Contains, flat_map, slice_get}
+use Rattle.std.proofs.Math.Seq.{drop-cons, take-nil}
+use Rattle.std.proofs.lemmas.List.{get_or_append_left, drop_all, take_min, take_more, take_all, flat_map_more, length-drop}
+use Rattle.std.proofs.lemmas.List.Elements.{Contains-append_cases}
+use Rattle.std.proofs.lemmas.Option.{get_or_from_slice_get, slice_get_within, slice_get-get_or}
+use Rattle.std.proofs.lemmas.Bool.{cases_lt}
+use Rattle.gm_game.proofs.Lists.{contains_none, contains_cases}
+
+-- what stands in a part stands there in the parts from it on
+pub found_in_part : {A : Type 0} (xss : List (List A)) (i j : ℕ) (xs : List A) (x d : A) → i < length xss → xs ≡ get_or xss i xs → slice_get xs j ≡ Some x → get_or (flat_map (λ part. part) (drop i xss)) j d ≡ x
+found_in_part {A} xss i j xs x d l e s =
+    let front : drop i xss ≡ xs ∷ drop (suc i) xss = drop-cons xss i xs l ∙ ap (λ (ys : List A). ys ∷ drop (suc i) xss) (sym e) in
+    ap (λ (yss : List (List A)). get_or (flat_map (λ part. part) yss) j d) front
+    ∙ get_or_append_left xs (flat_map (λ part. part) (drop (suc i) xss)) d j (slice_get_within xs j x s)
+    ∙ get_or_from_slice_get xs j x d s
+
+-- so the whole has it where it was looked for
+pub found_in_whole : {A : Type 0} (xss : List (List A)) (i j k : ℕ) (xs : List A) (x : A) → k < length (flat_map (λ part. part) xss) → i < length xss → xs ≡ get_or xss i xs
+    → ((d : A) → get_or (flat_map (λ part. part) xss) k d ≡ get_or (flat_map (λ part. part) (drop i xss)) j d) → slice_get xs j ≡ Some x → slice_get (flat_map (λ part. part) xss) k ≡ Some x
+found_in_whole xss i j k xs x within l e same s =
+    slice_get-get_or (flat_map (λ part. part) xss) k x within ∙ ap Some (same x ∙ found_in_part xss i j xs x x l e s)
+
+-- parts that have something left aren't all passed
+pub parts_left : {A : Type 0} (xss : List (List A)) (i j : ℕ) → j < length (flat_map (λ part. part) (drop i xss)) → i < length xss
+parts_left {A} xss i j l = elim (cases_lt i (length xss)) [
+  | inl h ↦ h
+  | inr h ↦ (let e : length (flat_map (λ part. part) (drop i xss)) ≡ 0 = ap (λ (yss : List (List A)). length (flat_map (λ part. part) yss)) (drop_all i xss h) in absurd (omega arith))
+]
+
+-- the piece from one number up to another, both cut at the length
+pub stretch_piece : {A : Type 0} (xs : List A) (p n most from to : ℕ) → length xs ≤ most → from ≡ min (min p most) (length xs) → to ≡ min (min (from + n) most) (length xs) → take (to - from) (drop from xs) ≡ take n (drop p xs)
+stretch_piece {A} xs p n most from to l f t = elim (cases_lt p (length xs)) [
+  | inl h ↦ (let here : from ≡ p = omega arith in
+      let left = length-drop p xs in
+      let count : to - from ≡ min n (length (drop p xs)) = omega arith in
+      ap (λ (m : ℕ). take m (drop from xs)) count ∙ ap (λ (m : ℕ). take (min n (length (drop p xs))) (drop m xs)) here ∙ take_min n (drop p xs))
+  | inr h ↦ (let past : length xs ≤ from = omega arith in
+      ap (take (to - from)) (drop_all from xs past) ∙ nothing (to - from) n ∙ ap (take n) (sym (drop_all p xs h)))
+]
+  where
+    nothing : (m n : ℕ) → take {A = A} m [] ≡ take n []
+    nothing m n = simp take-nil
+
+-- one more turn of a loop that joins what f gives of each element
+pub joined_more : {X A : Type 0} (f : X → List A) (xs : List X) (i : ℕ) (x d : X) (old before new part : List A) → i < length xs → x ≡ get_or xs i d → before ≡ old ++ flat_map f (take i xs) → new ≡ before ++ part → part ≡ f x → new ≡ old ++ flat_map f (take (i + 1) xs)
+joined_more {X} {A} f xs i x d old before new part l e b n p =
+    let front : take (i + 1) xs ≡ take i xs ++ x ∷ [] = take_more xs i d l ∙ ap (λ (y : X). take i xs ++ y ∷ []) (sym e) in
+    n ∙ ap (λ (ys : List A). before ++ ys) p ∙ ap (λ (ys : List A). ys ++ f x) b ∙ flat_map_more f old (take i xs) x ∙ ap (λ (ys : List X). old ++ flat_map f ys) (sym front)
+
+-- and of one that holds a fact of each
+pub all_more : {X : Type 0} (P : X → Type 0) (xs : List X) (i : ℕ) (x d : X) → i < length xs → x ≡ get_or xs i d → ((y : X) → Contains (take i xs) y → P y) → P x → (y : X) → Contains (take (i + 1) xs) y → P y
+all_more {X} P xs i x d l e before here y h =
+    let front : take (i + 1) xs ≡ take i xs ++ x ∷ [] = take_more xs i d l ∙ ap (λ (z : X). take i xs ++ z ∷ []) (sym e) in
+    elim (Contains-append_cases (take i xs) (x ∷ []) y (subst (λ (ys : List X). Contains ys y) front h)) [
+      | inl a ↦ before y a
+      | inr b ↦ elim (contains_cases x y [] b) [ inl s ↦ subst P s here | inr t ↦ absurd (contains_none y t) ]
+    ]
+
+-- and at its end
+pub all_taken : {X : Type 0} (P : X → Type 0) (xs : List X) (i : ℕ) → length xs ≤ i → ((y : X) → Contains (take i xs) y → P y) → (y : X) → Contains xs y → P y
+all_taken {X} P xs i l h y m = h y (subst (λ (ys : List X). Contains ys y) (sym (take_all i xs l)) m)

@@ -1,0 +1,33 @@
+-- The pairs that an iterator has left, when it takes the next note.
+use Rattle.std.proofs.Common.{◌≡◌, ℕ, suc, ◌+◌, ◌*◌, ◌-◌, ◌<◌, ◌≤◌, List, [], ◌∷◌, ◌++◌, length, take, drop, sym, ap, ◌∙◌, arith, Some, add-one}
+use Rattle.std.specs.List.{slice_get}
+use Rattle.std.proofs.Math.Seq.{drop-cons}
+use Rattle.std.proofs.lemmas.List.{take_all}
+use Rattle.std.proofs.lemmas.Option.{get_or_from_slice_get}
+use Rattle.gm_game.specs.Rules.{Rules}
+use Rattle.gm_frontier.specs.Notes.{NoteData}
+use Rattle.gm_frontier.specs.Pairs.{pairs_of, pairs_of_note, piece_of}
+use Rattle.gm_frontier.specs.Rows.{stretch}
+
+-- the first of a stretch, and the others
+stretch_first : (from to : ℕ) (notes : List NoteData) (n : NoteData) → from < to → to ≤ length notes → slice_get notes from ≡ Some n → stretch from to notes ≡ n ∷ stretch (from + 1) to notes
+stretch_first from to notes n l fits s =
+    let here : drop from notes ≡ n ∷ drop (from + 1) notes = drop-cons notes from n (omega arith) ∙ ap (λ (x : NoteData). x ∷ drop (suc from) notes) (get_or_from_slice_get notes from n n s) ∙ ap (λ (k : ℕ). n ∷ drop k notes) (sym (add-one from)) in
+    let count : to - from ≡ suc (to - (from + 1)) = omega arith in
+    ap (λ (k : ℕ). take k (drop from notes)) count ∙ ap (take (suc (to - (from + 1)))) here
+
+-- the next note's pairs come first among those that are left
+pub row_taken : (r : Rules) (tier lo hi from to : ℕ) (notes : List NoteData) (n : NoteData) (row next : List (NoteData × ℕ)) → from < to → to ≤ length notes → slice_get notes from ≡ Some n → row ≡ [] → next ≡ pairs_of_note r tier lo hi n
+    → next ++ pairs_of r tier lo hi (stretch (from + 1) to notes) ≡ row ++ pairs_of r tier lo hi (stretch from to notes)
+row_taken r tier lo hi from to notes n row next l fits s none e =
+    let all : pairs_of r tier lo hi (stretch from to notes) ≡ pairs_of_note r tier lo hi n ++ pairs_of r tier lo hi (stretch (from + 1) to notes) = ap (pairs_of r tier lo hi) (stretch_first from to notes n l fits s) in
+    let rest = pairs_of r tier lo hi (stretch (from + 1) to notes) in
+    ap (λ (ps : List (NoteData × ℕ)). ps ++ rest) e ∙ sym all ∙ ap (λ (ps : List (NoteData × ℕ)). ps ++ pairs_of r tier lo hi (stretch from to notes)) (sym none)
+
+-- all notes
+pub stretch_all : (notes : List NoteData) (len : ℕ) → len ≡ length notes → stretch 0 len notes ≡ notes
+stretch_all notes len e = let all : length notes ≤ len - 0 = omega arith in take_all (len - 0) notes all
+
+-- a piece that takes all notes
+pub whole_piece : (n : ℕ) (notes : List NoteData) → length notes ≤ n → piece_of 0 n notes ≡ notes
+whole_piece n notes l = let first : drop (0 * n) notes ≡ notes = ap (λ (k : ℕ). drop k notes) (let z : 0 * n ≡ 0 = grind arith in z) in ap (take n) first ∙ take_all n notes l

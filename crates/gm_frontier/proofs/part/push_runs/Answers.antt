@@ -1,0 +1,19 @@
+use Rattle.std.proofs.Common.{◌∙◌}
+use Rattle.gm_frontier.specs.Notes.{joined}
+use Rattle.gm_frontier.specs.Levels.{RunData, IsRun}
+use Rattle.gm_frontier.proofs.PieceLemmas.{joined_more, all_more, all_taken}
+use Rattle.gm_frontier.proofs.part.push_runs.Goals as goal
+
+pub loop-run-preserved : goal.loop-run-preserved
+loop-run-preserved g c =
+    let runs = c.args.runs.now in
+    let run = c.run-item.result in
+    let i = c.loop-run.run-index in
+    record {
+      notes = joined_more (λ (x : RunData). x.notes) runs i run run (joined c.args.parts.now.items) (joined c.loop-run.parts.items) (joined c.push_part.new.parts.items) c.listed.result
+          c.loop-run-test.true c.run-item.is c.loop-run.invariant.notes c.in_ok-push_part.ensures (c.listed.ensures ∙ c.list.ensures.value);
+      whole = all_more (λ (x : RunData). IsRun g.G.Game.rules x.place x.lo x.hi x.notes) runs i run run c.loop-run-test.true c.run-item.is c.loop-run.invariant.whole c.list.ensures.run;
+    }
+
+pub returns-clause-whole : goal.returns-clause-whole
+returns-clause-whole g c = all_taken (λ (x : RunData). IsRun g.G.Game.rules x.place x.lo x.hi x.notes) c.args.runs.now c.loop-run.run-index c.loop-run-test.false c.loop-run.invariant.whole

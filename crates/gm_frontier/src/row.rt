@@ -1,0 +1,76 @@
+//! One note with its parents in a range.
+ghost use Rattle.std.specs.Prelude.{◌≡◌, [], ◌∷◌, filter, MatchOption};
+ghost use Rattle.gm_frontier.specs.Pairs.{is_within, pairs_of_note};
+
+use crate::note::Note;
+use arrayvec::ArrayVec;
+use gm_game::game::Game;
+use gm_game::limits::PARENTS;
+use std::marker::Model;
+
+/// The pairs of one note that are still to come. Contracts see their list.
+#[derive(Drop)]
+pub(crate) struct Row<G: Game> {
+    note: Option<Note<G>>,
+    parents: ArrayVec<u64, PARENTS>,
+    passed: usize,
+}
+
+impl<G: Game> Model for Row<G> {
+    ghost use Rattle.std.specs.Prelude.{ℕ, List, drop};
+    ghost use Rattle.gm_frontier.specs.Notes.{NoteData};
+    ghost use Rattle.gm_frontier.specs.Rows.{row_pairs};
+
+    ghost Value = { List (NoteData × ℕ) };
+
+    ghost view = { λ r. row_pairs r.note (drop r.passed r.parents.items) };
+}
+
+// Whether an index is in the range.
+fn is_within(lo: u64, hi: u64, index: u64) -> bool
+    ensures { result ≡ is_within lo hi index }
+{
+    lo <= index && index < hi
+}
+
+// The indexes from `lo` up to `hi`.
+fn within(mut indexes: ArrayVec<u64, PARENTS>, lo: u64, hi: u64) -> ArrayVec<u64, PARENTS>
+    ensures { result.items ≡ filter (is_within lo hi) indexes.items }
+{
+    indexes.retain(|i| is_within(lo, hi, *i));
+    indexes
+}
+
+impl<G: Game> Row<G> {
+    /// No pairs.
+    pub(crate) fn empty() -> Row<G>
+        ensures { result ≡ [] }
+    {
+        Row {
+            note: None,
+            parents: ArrayVec::new(),
+            passed: 0,
+        }
+    }
+
+    /// The pairs of a note with its parents in the tier from `lo` up to `hi`.
+    pub(crate) fn of(note: Note<G>, tier: u64, lo: u64, hi: u64) -> Row<G>
+        ensures { result ≡ pairs_of_note G.rules tier lo hi note }
+    {
+        Row {
+            parents: within(G::parents(note.position(), tier), lo, hi),
+            note: Some(note),
+            passed: 0,
+        }
+    }
+
+    /// The next pair.
+    pub(crate) fn next(&mut self) -> Option<(Note<G>, u64)>
+        ensures { MatchOption result ((self.old ≡ []) × (self.new ≡ [])) (λ pair. self.old ≡ pair ∷ self.new) }
+    {
+        let note = self.note.as_ref()?;
+        let parent = *self.parents.as_slice().get(self.passed)?;
+        self.passed += 1;
+        Some((note.copied(), parent))
+    }
+}

@@ -1,0 +1,128 @@
+-- The queue of the positions of a range that have ended, index by index.
+use Rattle.std.proofs.Common.{◌≡◌, ℕ, ◌+◌, ◌<◌, ◌≤◌, ◌↔◌, inl, inr, List, [], ◌∷◌, ◌++◌, length, refl, sym, ap, subst, ◌∙◌, arith, Some}
+use Rattle.std.specs.List.{Contains, slice_get}
+use Rattle.std.proofs.lemmas.Bool.{cases_eq}
+use Rattle.std.proofs.lemmas.Option.{slice_get_within, get_or_from_slice_get}
+use Rattle.std.proofs.lemmas.List.Elements.{Contains-get_or, Contains-append_left, Contains-append_right, Contains-append_cases}
+use Rattle.gm_game.specs.declared.position.Position.{Position}
+use Rattle.gm_game.specs.declared.position.End.{End}
+use Rattle.gm_game.specs.declared.position.End.TheVariants.{Lose as EndLose, Tie as EndTie, Win as EndWin}
+use Rattle.gm_game.specs.declared.position.Phase.{Phase}
+use Rattle.gm_game.specs.declared.position.Solved.{Solved}
+use Rattle.gm_game.specs.Rules.{Rules, at}
+use Rattle.gm_game.specs.Records.{from_end}
+use Rattle.gm_game.specs.Settling.{IsSettled}
+use Rattle.gm_game.proofs.Lists.{contains_none, contains_first, contains_cases}
+use Rattle.gm_shard.specs.declared.status.Status.{Status}
+use Rattle.gm_shard.specs.declared.status.Status.TheVariants.{Hole, Undecided, Settled}
+use Rattle.gm_shard.specs.State.{ShardState, IsInRange, delivered_to}
+use Rattle.gm_shard.specs.Status.{In, StatusIs}
+use Rattle.gm_shard.specs.Good.{IsGood}
+use Rattle.gm_shard.specs.Queues.{QueueData, IsSettledIn, IsQueue, AreDistinct, HasPhase, IsEmptied}
+use Rattle.gm_shard.proofs.NoteLemmas.{none_of}
+use Rattle.gm_shard.proofs.BeginLemmas.{nothing_settled}
+use Rattle.gm_shard.proofs.DistinctLemmas.{distinct_none, distinct_push, distinct_few}
+use Rattle.gm_shard.proofs.QueueLemmas.{settled_once}
+
+-- the queue of the first n indexes
+pub record IsFilled (r : Rules) (s : ShardState) (phase : Phase) (n : ℕ) (q : QueueData) : Type 0 where
+  pub listed : (k : ℕ) → Contains q.indexes k ↔ ((k < n) × IsSettledIn r s phase k)
+  pub once : AreDistinct q.indexes
+  pub from : q.from ≡ 0
+  pub to : q.to ≡ 0
+  pub room : length s.delivered ≤ q.room
+
+pub filled_none : (r : Rules) (s : ShardState) (phase : Phase) (q : QueueData) → q.indexes ≡ [] → q.from ≡ 0 → q.to ≡ 0 → length s.delivered ≤ q.room → IsFilled r s phase 0 q
+filled_none r s phase q e from to room = record {
+  listed = λ k. (λ h. absurd (contains_none k (subst (λ (l : List ℕ). Contains l k) e h)), λ (l, w). absurd (omega arith));
+  once = subst AreDistinct (sym e) distinct_none;
+  from = from;
+  to = to;
+  room = room;
+}
+
+pub filled_few : (r : Rules) (s : ShardState) (phase : Phase) (n : ℕ) (q : QueueData) → IsFilled r s phase n q → n < length s.delivered → length q.indexes < q.room
+filled_few r s phase n q f l =
+    let few = distinct_few n q.indexes f.once (λ x h. ((f.listed x).0 h).0) in
+    let room = f.room in
+    omega arith
+
+-- a settled status has this phase exactly where the record has
+has_phase_of : (r : Rules) (s : ShardState) → IsGood r s → (phase : Phase) (i : ℕ) → IsInRange s i → (status : Status) (x : Solved) → StatusIs r s i status → StatusIs r s i (Settled x) → HasPhase phase (Settled x) → HasPhase phase status
+has_phase_of r s g phase i m Hole x a b p = absurd (none_of r (at s.tier i) (delivered_to s i) Hole a (λ y e. cc) x b)
+has_phase_of r s g phase i m Undecided x a b p = absurd (none_of r (at s.tier i) (delivered_to s i) Undecided a (λ y e. cc) x b)
+has_phase_of r s g phase i m (Settled y) x a b p = subst (λ (z : Solved). HasPhase phase (Settled z)) (settled_once r s g i m x y b a) p
+
+settled_in : (r : Rules) (s : ShardState) (phase : Phase) (k : ℕ) → k < length s.delivered → (status : Status) → StatusIs r s (s.lo + k) status → HasPhase phase status → IsSettledIn r s phase k
+settled_in r s phase k l Hole a p = absurd p
+settled_in r s phase k l Undecided a p = absurd p
+settled_in r s phase k l (Settled x) a p = record { within = l; value = x; settled = a; phase_is = p }
+
+module _ (r : Rules) (s : ShardState) (good : IsGood r s) (phase : Phase) (n : ℕ) (within : n < length s.delivered) (q : QueueData) (f : IsFilled r s phase n q) (status : Status) (is : StatusIs r s (s.lo + n) status) where
+  pub filled_more : HasPhase phase status → (p : QueueData) → p.indexes ≡ q.indexes ++ n ∷ [] → p.from ≡ q.from → p.to ≡ q.to → q.room ≤ p.room → IsFilled r s phase (n + 1) p
+  filled_more has p e from to room = record {
+    listed = λ k. (
+      λ h. elim (Contains-append_cases q.indexes (n ∷ []) k (subst (λ (l : List ℕ). Contains l k) e h)) [
+        | inl a ↦ (let (l, w) = (f.listed k).0 a in (omega arith, w))
+        | inr a ↦ elim (contains_cases n k [] a) [
+          | inl i ↦ (omega arith, subst (IsSettledIn r s phase) i (settled_in r s phase n within status is has))
+          | inr z ↦ absurd (contains_none k z)
+        ]
+      ],
+      λ (l, w). subst (λ (l : List ℕ). Contains l k) (sym e) (elim (cases_eq k n) [
+        | inl i ↦ subst (Contains (q.indexes ++ n ∷ [])) (sym i) (Contains-append_right q.indexes (n ∷ []) n (contains_first n []))
+        | inr ne ↦ Contains-append_left q.indexes (n ∷ []) k ((f.listed k).1 (omega arith, w))
+      ]),
+    );
+    once = subst AreDistinct (sym e) (distinct_push q.indexes n f.once (λ h. let l = ((f.listed n).0 h).0 in omega arith));
+    from = from ∙ f.from;
+    to = to ∙ f.to;
+    room = (let l = f.room in omega arith);
+  }
+
+  pub filled_past : (HasPhase phase status → ⊥) → IsFilled r s phase (n + 1) q
+  filled_past none = record {
+    listed = λ k. (
+      λ h. (let (l, w) = (f.listed k).0 h in (omega arith, w)),
+      λ (l, w). elim (cases_eq k n) [
+        | inl i ↦ (
+            let a : StatusIs r s (s.lo + n) (Settled w.value) = subst (λ (j : ℕ). StatusIs r s (s.lo + j) (Settled w.value)) i w.settled in
+            absurd (none (has_phase_of r s good phase (s.lo + n) (omega arith, omega arith) status w.value is a w.phase_is)))
+        | inr ne ↦ (f.listed k).1 (omega arith, w)
+      ],
+    );
+    once = f.once;
+    from = f.from;
+    to = f.to;
+    room = f.room;
+  }
+
+-- where no child is delivered a settled position has ended
+end_at_once : (e : End) → (from_end e).remoteness ≡ 0
+end_at_once EndLose = refl
+end_at_once EndTie = refl
+end_at_once EndWin = refl
+
+at_once : (r : Rules) (s : ShardState) (i : ℕ) (x : Solved) → delivered_to s i ≡ [] → StatusIs r s i (Settled x) → x.remoteness ≡ 0
+at_once r s i x e (inl h) = ap (λ (y : Solved). y.remoteness) h.value ∙ end_at_once h.ended
+at_once r s i x e (inr (inner, h)) = absurd (nothing_settled r (at s.tier i) x.value x.remoteness (subst (λ (d : List Position). IsSettled r (at s.tier i) (In d) x.value x.remoteness) e h))
+
+-- the queue of all indexes is that of level 0
+pub filled_all : (r : Rules) (s : ShardState) (phase : Phase) (n : ℕ) (q : QueueData) → IsEmptied s → n ≡ length s.delivered → IsFilled r s phase n q → IsQueue r s phase 0 (record q { from = q.to; to = length q.indexes })
+filled_all r s phase n q none all f = record {
+  listed = λ k. (λ h. ((f.listed k).0 h).1, λ w. (f.listed k).1 (let l = w.within in omega arith, w));
+  once = f.once;
+  placed = λ place k x is h.
+      let l : place < length q.indexes = slice_get_within q.indexes place k is in
+      let w = (f.listed k).0 (there place k is) in
+      let m = w.1.within in
+      let z = at_once r s (s.lo + k) x (none (s.lo + k) (omega arith, omega arith)) h in
+      let to = f.to in
+      record { before = λ a. absurd (omega arith); present = λ a b. z; after = λ a. absurd (omega arith) };
+  order = (let to = f.to in omega arith);
+  inside = omega arith;
+  room = f.room;
+}
+  where
+    there : (place k : ℕ) → slice_get q.indexes place ≡ Some k → Contains q.indexes k
+    there place k is = subst (Contains q.indexes) (get_or_from_slice_get q.indexes place k 0 is) (Contains-get_or q.indexes place 0 (slice_get_within q.indexes place k is))

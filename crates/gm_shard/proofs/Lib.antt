@@ -1,0 +1,15 @@
+pub mod MaskList
+pub mod StatusLemmas
+pub mod StepLemmas
+pub mod BeginLemmas
+pub mod GoodLemmas
+pub mod CloseLemmas
+pub mod NoteLemmas
+pub mod DistinctLemmas
+pub mod QueueLemmas
+pub mod ShardLemmas
+pub mod FillLemmas
+pub mod FreshLemmas
+pub mod NotesAtLemmas
+pub mod FinishLemmas
+pub mod RunLemmas
