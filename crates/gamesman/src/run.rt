@@ -68,7 +68,7 @@ mod tests {
 
     #[test]
     fn lines_of_the_program(rt: HostRuntime) -> Result<(), Fail> {
-        let lines: [(&[&str], u8, &[u8], &[u8]); 10] = [
+        let lines: [(&[&str], u8, &[u8], &[u8]); 13] = [
             (
                 &["gamesman", "query", "countdown", "10"],
                 DONE,
@@ -81,7 +81,25 @@ mod tests {
                 b"lose in 0\n",
                 b"",
             ),
-            (&["gamesman", "list"], DONE, b"countdown\n", b""),
+            (&["gamesman", "list"], DONE, b"countdown\nwheel\n", b""),
+            (
+                &["gamesman", "query", "wheel", "3"],
+                DONE,
+                b"unknown\n",
+                b"",
+            ),
+            (
+                &["gamesman", "query", "wheel", "9"],
+                DONE,
+                b"win in 3\n",
+                b"",
+            ),
+            (
+                &["gamesman", "query", "wheel", "10"],
+                REFUSED,
+                b"",
+                b"gamesman: no such position\n",
+            ),
             (
                 &["gamesman", "query", "countdown", "11"],
                 REFUSED,

@@ -11,3 +11,4 @@ pub mod Images
 pub mod Orbits
 pub mod BoardMasks
 pub mod Digits
+pub mod Squares

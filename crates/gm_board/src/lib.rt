@@ -8,6 +8,9 @@ pub mod image;
 pub mod least;
 pub mod pascal;
 pub mod radix;
+pub mod square;
+#[cfg(test)]
+mod square_tests;
 pub mod subset;
 #[cfg(test)]
 mod tests;

@@ -33,7 +33,7 @@ impl<G: Game> Model for Tables<G> {
 }
 
 impl<G: Game> Tables<G> {
-    ghost use Rattle.gm_table.specs.Tables.{table_of, Inserts, IsHeld, AreTables, record_in, value_in, run_of};
+    ghost use Rattle.gm_table.specs.Tables.{table_of, Inserts, IsHeld, AreHeld, AreTables, record_in, value_in, run_of};
 
     /// No tables. Those that are inserted are laid out in memory of this allocator.
     pub fn new(alloc: Global) -> Self
@@ -70,6 +70,20 @@ impl<G: Game> Tables<G> {
         ensures tables { AreTables G.rules self.now }
     {
         self.table(tier).is_some()
+    }
+
+    /// Whether each child tier of the tier has a table.
+    pub fn has_children(&self, tier: u64) -> bool
+        ensures value { IsTrue result ↔ AreHeld G.rules self.now tier }
+        ensures tables { AreTables G.rules self.now }
+    {
+        self.truth();
+        for child in G::child_tiers(tier).as_slice() {
+            if !self.has(*child) {
+                return false;
+            }
+        }
+        true
     }
 
     /// The table of a tier.

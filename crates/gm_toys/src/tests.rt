@@ -4,6 +4,7 @@ mod stairs;
 mod wheel;
 
 use crate::countdown::{Countdown, countdown_is};
+use crate::wheel::Wheel;
 use gm_game::children::{canonical_children, child_place, is_inner};
 use gm_game::evaluate::within;
 use gm_game::game::{Game, laws};
@@ -17,10 +18,10 @@ pub fn at(index: u64) -> Position {
 }
 
 // What looking n moves ahead from a number says.
-fn looked_ahead(index: u64, n: u32) -> Option<Solved> {
+fn looked_ahead<G: Game>(index: u64, n: u32) -> Option<Solved> {
     let p = at(index);
-    if Countdown::<10>::is_legal(p) {
-        within::<Countdown<10>>(p, n)
+    if G::is_legal(p) {
+        within::<G>(p, n)
     } else {
         None
     }
@@ -47,7 +48,7 @@ fn countdown_table(rt: HostRuntime) {
     ];
     for (index, (value, remoteness)) in table.iter().enumerate() {
         assert_eq!(rt;
-            looked_ahead(index as u64, 16),
+            looked_ahead::<Countdown<10>>(index as u64, 16),
             Some(solved(*value, *remoteness))
         );
     }
@@ -55,9 +56,21 @@ fn countdown_table(rt: HostRuntime) {
 
 #[test]
 fn within_on_countdown(rt: HostRuntime) {
-    assert_eq!(rt; looked_ahead(10, 7), Some(solved(Value::Win, 7)));
-    assert_eq!(rt; looked_ahead(10, 6), None);
-    assert_eq!(rt; looked_ahead(0, 0), Some(solved(Value::Lose, 0)));
+    assert_eq!(rt;
+        looked_ahead::<Countdown<10>>(10, 7),
+        Some(solved(Value::Win, 7))
+    );
+    assert_eq!(rt; looked_ahead::<Countdown<10>>(10, 6), None);
+    assert_eq!(rt;
+        looked_ahead::<Countdown<10>>(0, 0),
+        Some(solved(Value::Lose, 0))
+    );
+}
+
+#[test]
+fn within_on_wheel(rt: HostRuntime) {
+    assert_eq!(rt; looked_ahead::<Wheel>(3, 20), None);
+    assert_eq!(rt; looked_ahead::<Wheel>(9, 3), Some(solved(Value::Win, 3)));
 }
 
 #[test]

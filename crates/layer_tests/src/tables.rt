@@ -1,44 +1,13 @@
-use gm_game::position::{Phase, Position, Solved, Value};
+use crate::records::{lose, of_countdown, of_wheel, win};
+use gm_game::position::{Phase, Position};
 use gm_table::checker::{CheckError, check};
 use gm_table::table::Table;
 use gm_table::tables::Tables;
 use gm_toys::countdown::Countdown;
-use std::alloc::{AllocError, Global};
+use gm_toys::wheel::Wheel;
 use std::test::Fail;
 
 type Game = Countdown<10>;
-
-fn win(remoteness: u32) -> Option<Solved> {
-    Some(Solved {
-        value: Value::Win,
-        remoteness,
-    })
-}
-
-fn lose(remoteness: u32) -> Option<Solved> {
-    Some(Solved {
-        value: Value::Lose,
-        remoteness,
-    })
-}
-
-// The values of 0 to 10.
-fn true_records(alloc: Global) -> Result<Vec<Option<Solved>>, AllocError> {
-    let records = vec![in alloc;
-        lose(0),
-        win(1),
-        win(1),
-        lose(2),
-        win(3),
-        win(3),
-        lose(4),
-        win(5),
-        win(5),
-        lose(6),
-        win(7),
-    ]?;
-    Ok(records)
-}
 
 // Threads may share tables.
 fn shared<T: Send + Sync>(tables: &T) -> &T {
@@ -46,8 +15,24 @@ fn shared<T: Send + Sync>(tables: &T) -> &T {
 }
 
 #[test]
-fn true_records_are_a_table(rt: HostRuntime) -> Result<(), Fail> {
-    let records = true_records(rt.alloc())?;
+fn check_of_countdown(rt: HostRuntime) -> Result<(), Fail> {
+    let mut records = of_countdown(rt.alloc())?;
+    let mut tables: Tables<Game> = Tables::new(rt.alloc());
+    let table = check(rt.alloc(), 0, records.as_slice(), &tables)?;
+    assert!(rt; tables.insert(table).is_ok());
+    assert_eq!(rt; records.len(), 11);
+    records[9] = lose(7);
+    let wrong = check(rt.alloc(), 0, records.as_slice(), &tables).err();
+    assert_eq!(rt; wrong, Some(CheckError::WrongRecord { index: 9 }));
+    let _last = records.pop();
+    let short = check(rt.alloc(), 0, records.as_slice(), &tables).err();
+    assert_eq!(rt; short, Some(CheckError::WrongSize));
+    Ok(())
+}
+
+#[test]
+fn table_of_countdown(rt: HostRuntime) -> Result<(), Fail> {
+    let records = of_countdown(rt.alloc())?;
     let tables: Tables<Game> = Tables::new(rt.alloc());
     let table = check(rt.alloc(), 0, records.as_slice(), &tables)?;
     assert_eq!(rt; table.tier(), 0);
@@ -62,8 +47,8 @@ fn true_records_are_a_table(rt: HostRuntime) -> Result<(), Fail> {
 }
 
 #[test]
-fn a_table_is_held(rt: HostRuntime) -> Result<(), Fail> {
-    let records = true_records(rt.alloc())?;
+fn runs_of_tables(rt: HostRuntime) -> Result<(), Fail> {
+    let records = of_countdown(rt.alloc())?;
     let mut tables: Tables<Game> = Tables::new(rt.alloc());
     assert!(rt; !tables.has(0));
     assert!(rt; tables.table(0).is_none());
@@ -89,18 +74,16 @@ fn a_table_is_held(rt: HostRuntime) -> Result<(), Fail> {
 }
 
 #[test]
-fn wrong_records_are_refused(rt: HostRuntime) -> Result<(), Fail> {
-    let mut records = true_records(rt.alloc())?;
-    let mut tables: Tables<Game> = Tables::new(rt.alloc());
+fn runs_of_wheel(rt: HostRuntime) -> Result<(), Fail> {
+    let records = of_wheel(rt.alloc())?;
+    let mut tables: Tables<Wheel> = Tables::new(rt.alloc());
     let table = check(rt.alloc(), 0, records.as_slice(), &tables)?;
+    assert_eq!(rt; table.greatest(Phase::WinLose), Some(3));
+    assert_eq!(rt; table.greatest(Phase::Ties), Some(2));
     assert!(rt; tables.insert(table).is_ok());
-    assert_eq!(rt; records.len(), 11);
-    records[9] = lose(7);
-    let wrong = check(rt.alloc(), 0, records.as_slice(), &tables).err();
-    assert_eq!(rt; wrong, Some(CheckError::WrongRecord { index: 9 }));
-    let _last = records.pop();
-    let short = check(rt.alloc(), 0, records.as_slice(), &tables).err();
-    assert_eq!(rt; short, Some(CheckError::WrongSize));
+    assert_eq!(rt; tables.run(0, Phase::Ties, 0), [0].as_slice());
+    assert_eq!(rt; tables.run(0, Phase::Ties, 2), [2].as_slice());
+    assert!(rt; tables.run(1, Phase::Ties, 0).is_empty());
     Ok(())
 }
 

@@ -1,0 +1,42 @@
+//! Solves the lower tiers of Tac Tix on 5 by 5 by one thread, and prints for each its positions and deliveries, with the milliseconds on standard error. docs/BENCHMARKS.md has the figures.
+#![tactic(auto)]
+
+ghost use Rattle.std.specs.Prelude.{◌≤◌};
+
+mod solve;
+
+use crate::solve::solve_tiers;
+use std::process::ExitCode;
+use std::{env, io};
+
+/// The greatest tier, where none is given.
+const DEFAULT: u64 = 3;
+
+/// The greatest tier that may be given: the tier of all counters.
+const GREATEST: u64 = 25;
+
+// The greatest tier to solve: the first word after the program's name, where it is a number of 0 to 25.
+fn greatest(words: &[String]) -> u64
+    ensures { result ≤ GREATEST }
+{
+    match words.get(1) {
+        Some(word) => match word.as_str().parse::<u64>() {
+            Ok(tier) => tier.min(GREATEST),
+            Err(_) => DEFAULT,
+        },
+        None => DEFAULT,
+    }
+}
+
+fn main(rt: HostRuntime) -> io::Result<ExitCode> {
+    let mut words = Vec::new(rt.alloc());
+    for word in env::args(&rt)? {
+        words.push(word)?;
+    }
+    let solved = solve_tiers(&rt, greatest(words.as_slice()))?;
+    Ok(if solved {
+        ExitCode::SUCCESS
+    } else {
+        ExitCode::FAILURE
+    })
+}

@@ -1,0 +1,94 @@
+-- What is known once the levels of both phases are passed.
+use Rattle.std.proofs.Common.{◌≡◌, ℕ, ◌+◌, ◌++◌, inl, inr, List, [], length, refl, sym, ap, subst, ◌∙◌, arith, Option}
+use Rattle.gm_game.specs.declared.limits.TheConstants.{REMOTENESS}
+use Rattle.gm_game.specs.declared.position.Position.{Position}
+use Rattle.gm_game.specs.declared.position.Solved.{Solved}
+use Rattle.gm_game.specs.declared.position.Phase.{Phase}
+use Rattle.gm_game.specs.declared.position.Phase.TheVariants.{WinLose, Ties}
+use Rattle.gm_game.specs.declared.position.Place.{Place}
+use Rattle.gm_game.specs.Rules.{Rules, at}
+use Rattle.gm_game.specs.Laws.{IsGame}
+use Rattle.gm_game.specs.Values.{IsTrueValue}
+use Rattle.gm_game.specs.Records.{IsRecord, IsTrueTable}
+use Rattle.gm_game.specs.Places.{StandsAt, IsPlaceBefore, StandsBefore, IsNear, IsLastLevel}
+use Rattle.gm_game.proofs.Basic.{HasValue_once}
+use Rattle.gm_table.specs.Tables.{TableData, AreHeld, AreTables}
+use Rattle.gm_frontier.specs.Counts.{ExpectedData, IsExpected, IsPairInto, IsNumberBefore}
+use Rattle.gm_frontier.proofs.PairLemmas.{near_of_pair}
+use Rattle.gm_shard.specs.State.{ShardState}
+use Rattle.gm_shard.specs.Steps.{place_of}
+use Rattle.gm_shard.specs.Closing.{ArePart}
+use Rattle.gm_solver.specs.Solving.{IsDelivery, AreDeliveries, IsTooFar}
+use Rattle.gm_solver.specs.Over.{IsOver}
+use Rattle.gm_solver.proofs.Places.{stands_no_draw, value_place}
+use Rattle.gm_solver.proofs.Far.{table_knows, child_known}
+
+-- the part of a shard over the whole tier is its true table
+pub whole_part : (r : Rules) (tier : ℕ) (records : List (Option Solved)) → length records ≡ r.tier_size tier → ArePart r tier 0 records → IsTrueTable r REMOTENESS tier records
+whole_part r tier records whole part = record {
+  whole = whole;
+  each = λ i o e. subst (λ (k : ℕ). IsRecord r REMOTENESS (IsTrueValue r) (at tier k) o) (let same : 0 + i ≡ i = omega arith in same) (part.each i o e);
+}
+
+-- no position of a tier with a true table has a remoteness above the limit
+pub not_too_far : (r : Rules) → IsGame r → (tier : ℕ) (records : List (Option Solved)) → IsTrueTable r REMOTENESS tier records → IsTooFar r tier → ⊥
+not_too_far r g tier records t far =
+    let (x, is_true, near) = table_knows r g REMOTENESS tier records t (at tier far.index) far.canonical refl in
+    let e = (HasValue_once r (at tier far.index) x.value far.value x.remoteness (REMOTENESS + 1) is_true far.far).1 in
+    omega arith
+
+module _ (r : Rules) (g : IsGame r) (entries : List TableData) (tables : AreTables r entries) (tier : ℕ) (held : AreHeld r entries tier) (records : List (Option Solved)) (is_true : IsTrueTable r REMOTENESS tier records)
+    (level : ℕ) (last : IsLastLevel r tier Ties level) where
+  known : (c : Position) → IsNear r tier c → (x : Solved) × IsTrueValue r c x
+  known c (canonical, inl e) = let (x, value, near) = table_knows r g REMOTENESS tier records is_true c canonical e in (x, value)
+  known c (canonical, inr k) = let (x, value, near) = child_known r g entries tables tier held c canonical k in (x, value)
+
+  before_end : (phase : Phase) (n : ℕ) (c : Position) → IsNear r tier c → StandsAt r phase n c → IsPlaceBefore phase n Ties level
+  before_end WinLose n c near stands = tt
+  before_end Ties n c near stands = last c n near stands
+
+  -- the pairs whose child is no draw are those that were counted
+  counted : (pair : Position × ℕ) → (IsPairInto r tier 0 (r.tier_size tier) pair.0 pair.1 × StandsBefore r Ties level pair.0) → IsDelivery r tier pair
+  counted pair (into, before) = record { is_parent = into.is_parent; no_draw = stands_no_draw r pair.0 before.own_phase before.own_level before.stands }
+
+  uncounted : (pair : Position × ℕ) → IsDelivery r tier pair → IsPairInto r tier 0 (r.tier_size tier) pair.0 pair.1 × StandsBefore r Ties level pair.0
+  uncounted pair d =
+      let near = near_of_pair r g tier pair.1 pair.0 d.is_parent in
+      let (x, value) = known pair.0 near in
+      let (phase, stands) = value_place r pair.0 x.value x.remoteness value d.no_draw in
+      let high = g.index_below (at tier pair.1) d.is_parent.0.legal in (
+        record { low = omega arith; high = high; is_parent = d.is_parent },
+        record { own_phase = phase; own_level = x.remoteness; stands = stands; before = before_end phase x.remoteness pair.0 near stands },
+      )
+
+  pub all_deliveries : (number : ℕ) → IsNumberBefore r tier 0 (r.tier_size tier) Ties level number → AreDeliveries r tier number
+  all_deliveries number (xs, long, lists) = (
+    xs,
+    long,
+    record {
+      each = λ pair. ((λ d. (lists.each pair).0 (uncounted pair d)), (λ k. counted pair ((lists.each pair).1 k)));
+      once = lists.once;
+    },
+  )
+
+-- the same, of the shard and the count as they stand at the end
+pub final_table : (r : Rules) (tier : ℕ) (t : ShardState) (e : ExpectedData) → IsOver r t e → t.tier ≡ tier → (old records : List (Option Solved)) → old ≡ []
+    → ((part : List (Option Solved)) × (records ≡ old ++ part) × (length part ≡ length t.delivered) × ArePart r t.tier t.lo part) → IsTrueTable r REMOTENESS tier records
+final_table r tier t e over tier_is old records none (part, is, long, are) =
+    let all : records ≡ part = is ∙ ap (λ (xs : List (Option Solved)). xs ++ part) none in
+    let from = subst (λ (k : ℕ). ArePart r t.tier k part) over.lo are in
+    subst (IsTrueTable r REMOTENESS tier) (sym all)
+    (whole_part r tier part (long ∙ over.whole ∙ ap r.tier_size tier_is) (subst (λ (u : ℕ). ArePart r u 0 part) tier_is from))
+
+pub final_deliveries : (r : Rules) → IsGame r → (entries : List TableData) → AreTables r entries → (tier : ℕ) → AreHeld r entries tier → (records : List (Option Solved)) → IsTrueTable r REMOTENESS tier records
+    → (t : ShardState) (e : ExpectedData) → IsOver r t e → t.phase ≡ Ties → t.tier ≡ tier → (place : Place) → place ≡ place_of t → IsLastLevel r place.tier place.phase place.level
+    → IsExpected r e → (number : ℕ) → number ≡ e.number → AreDeliveries r tier number
+final_deliveries r g entries tables tier held records is_true t e over phase tier_is place here last exact number is =
+    let end = subst (λ (p : Place). IsLastLevel r p.tier p.phase p.level) here last in
+    let end_of_ties = subst (λ (ph : Phase). IsLastLevel r tier ph t.level) phase (subst (λ (u : ℕ). IsLastLevel r u t.phase t.level) tier_is end) in
+    let by_tier = subst (λ (u : ℕ). IsNumberBefore r u e.lo e.hi e.phase e.level e.number) (over.tier ∙ tier_is) exact.number in
+    let by_lo = subst (λ (k : ℕ). IsNumberBefore r tier k e.hi e.phase e.level e.number) over.from by_tier in
+    let by_hi = subst (λ (k : ℕ). IsNumberBefore r tier 0 k e.phase e.level e.number) (over.to ∙ ap r.tier_size tier_is) by_lo in
+    let by_phase = subst (λ (ph : Phase). IsNumberBefore r tier 0 (r.tier_size tier) ph e.level e.number) (over.phase ∙ phase) by_hi in
+    let by_level = subst (λ (k : ℕ). IsNumberBefore r tier 0 (r.tier_size tier) Ties k e.number) over.level by_phase in
+    subst (AreDeliveries r tier) (sym is) (all_deliveries r g entries tables tier held records is_true t.level end_of_ties e.number by_level)

@@ -1,0 +1,5 @@
+pub mod Places
+pub mod Far
+pub mod Whole
+pub mod Final
+pub mod Gains

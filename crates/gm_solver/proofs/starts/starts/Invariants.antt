@@ -1,0 +1,9 @@
+use Rattle.std.proofs.Common.{◌≡◌, ◌+◌, length}
+use Rattle.gm_shard.specs.Begin.{AreStarts}
+use Rattle.gm_solver.proofs.starts.starts.Given as goal
+
+abbrev pub invariant-loop-index : goal.invariant-loop-index
+invariant-loop-index g l = record {
+  long : l.lo + length l.list.items ≡ l.index;
+  starts : AreStarts g.G.Game.rules l.tier l.lo l.list.items;
+}

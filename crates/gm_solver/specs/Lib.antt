@@ -1,0 +1,5 @@
+pub mod Solving
+pub mod Over
+pub mod Plans
+pub mod Spots
+pub mod Amounts

@@ -1,0 +1,256 @@
+//! Four shards of a tier, each under a lock of its own, and shares of their ledgers.
+ghost use Rattle.std.specs.Prelude.{◌≡◌, ◌^◌, ◌-◌, ◌<◌, ◌≤◌, min};
+ghost use Rattle.gm_shard.specs.State.{pairs_in};
+ghost use Rattle.gm_solver.specs.Spots.{spot_of, choose, gain, AreFourTiles, IsWithin, IsAnswer};
+ghost use Rattle.gm_solver.specs.Amounts.{Amounts, one_part, amount_of, raised, joined, split_of};
+
+use crate::held::Held;
+use crate::share::{Desk, Share};
+use gm_frontier::note::Note;
+use gm_game::game::Game;
+use gm_shard::shard::Shard;
+use gm_shard::status::{Delivery, Refused};
+use std::marker::Model;
+use std::sync::ledger::Blank;
+use std::sync::{Mutex, Wait};
+
+/// One item for each shard, 0 to 3.
+#[derive(Drop)]
+pub struct Four<T> {
+    pub a: T,
+    pub b: T,
+    pub c: T,
+    pub d: T,
+}
+
+/// A share of each shard's ledger, all of equally many parts.
+#[derive(Drop)]
+pub struct Shares<A: Desk, B: Desk, C: Desk, D: Desk> {
+    parts: u64,
+    a: Share<A>,
+    b: Share<B>,
+    c: Share<C>,
+    d: Share<D>,
+}
+
+impl<A: Desk, B: Desk, C: Desk, D: Desk> Model for Shares<A, B, C, D> {
+    ghost use Rattle.std.specs.Prelude.{◌≡◌, ◌<◌, ◌^◌};
+    ghost use Rattle.gm_solver.specs.Amounts.{Amounts};
+
+    ghost Value = { Amounts };
+
+    ghost view = { λ s. record { parts = s.parts; a = s.a.amount; b = s.b.amount; c = s.c.amount; d = s.d.amount } };
+
+    ghost invariant = { λ s. (0 < s.parts) × (s.a.parts ≡ s.parts) × (s.b.parts ≡ s.parts) × (s.c.parts ≡ s.parts) × (s.d.parts ≡ s.parts)
+        × (A.parts ≡ B.parts) × (A.parts ≡ C.parts) × (A.parts ≡ D.parts) × (A.parts < 2 ^ 64) };
+}
+
+impl<A: Desk, B: Desk, C: Desk, D: Desk> Shares<A, B, C, D> {
+    /// How many pairs were delivered to a shard by these shares: exact below the greatest number of 64 bits, and else that.
+    pub fn amount(&self, shard: usize) -> u64
+        requires { shard < 4 }
+        ensures { result ≡ min (amount_of self.now shard) (2 ^ 64 - 1) }
+    {
+        match shard {
+            0 => self.a.amount(),
+            1 => self.b.amount(),
+            2 => self.c.amount(),
+            _ => self.d.amount(),
+        }
+    }
+
+    /// Of how many parts each share is.
+    pub fn parts(&self) -> u64
+        ensures { result ≡ self.now.parts }
+    {
+        self.parts
+    }
+
+    /// Takes one part of each, with no amount.
+    pub fn split(&mut self) -> Shares<A, B, C, D>
+        requires { 1 < self.old.parts }
+        ensures taken { result ≡ one_part }
+        ensures left { self.new ≡ split_of self.old }
+    {
+        self.parts -= 1;
+        Shares {
+            parts: 1,
+            a: self.a.split(),
+            b: self.b.split(),
+            c: self.c.split(),
+            d: self.d.split(),
+        }
+    }
+
+    /// Puts the parts and amounts of others to these.
+    pub fn join(&mut self, other: Shares<A, B, C, D>)
+        ensures { self.new ≡ joined self.old other }
+    {
+        let Shares { parts, a, b, c, d } = other;
+        self.a.join(a);
+        self.b.join(b);
+        self.c.join(c);
+        self.d.join(d);
+        self.parts += parts;
+    }
+}
+
+/// Four shards that tile a tier, each under a lock of its own. Whenever a lock is got, a good shard stands behind it, at its name's place, with as many pairs as its book says.
+#[derive(Drop)]
+pub struct Board<G: Game, A: Desk, B: Desk, C: Desk, D: Desk> {
+    a: Mutex<Held<G, A>>,
+    b: Mutex<Held<G, B>>,
+    c: Mutex<Held<G, C>>,
+    d: Mutex<Held<G, D>>,
+    ranges: Four<(u64, u64)>,
+    ghost a_is: { (ranges.a.0 ≡ A.spot.lo) × (ranges.a.1 ≡ A.spot.hi) },
+    ghost b_is: { (ranges.b.0 ≡ B.spot.lo) × (ranges.b.1 ≡ B.spot.hi) },
+    ghost c_is: { (ranges.c.0 ≡ C.spot.lo) × (ranges.c.1 ≡ C.spot.hi) },
+    ghost d_is: { (ranges.d.0 ≡ D.spot.lo) × (ranges.d.1 ≡ D.spot.hi) },
+    ghost tiled: { AreFourTiles G.rules A.spot B.spot C.spot D.spot },
+}
+
+impl<G: Game, A: Desk, B: Desk, C: Desk, D: Desk> Board<G, A, B, C, D> {
+    /// Puts each shard under its lock. The shards tile one tier at one place, the blanks have the names of the ledgers and so many parts each, and the names stand where the shards stand.
+    /// The shares have all parts.
+    pub fn around(
+        parts: u64,
+        blanks: Four<Blank>,
+        shards: Four<Shard<G>>,
+    ) -> (Board<G, A, B, C, D>, Shares<A, B, C, D>)
+        requires names { (blanks.a.name ≡ A.name) × (blanks.b.name ≡ B.name) × (blanks.c.name ≡ C.name) × (blanks.d.name ≡ D.name) }
+        requires parts { (blanks.a.parts ≡ A.parts) × (blanks.b.parts ≡ B.parts) × (blanks.c.parts ≡ C.parts) × (blanks.d.parts ≡ D.parts) }
+        requires equal { (A.parts ≡ parts) × (B.parts ≡ parts) × (C.parts ≡ parts) × (D.parts ≡ parts) }
+        requires some { 0 < parts }
+        requires spots { (spot_of shards.a ≡ A.spot) × (spot_of shards.b ≡ B.spot) × (spot_of shards.c ≡ C.spot) × (spot_of shards.d ≡ D.spot) }
+        requires tiles { AreFourTiles G.rules A.spot B.spot C.spot D.spot }
+        ensures { result.1 ≡ record { parts = parts; a = pairs_in shards.a; b = pairs_in shards.b; c = pairs_in shards.c; d = pairs_in shards.d } }
+    {
+        let ranges = Four {
+            a: shards.a.range(),
+            b: shards.b.range(),
+            c: shards.c.range(),
+            d: shards.d.range(),
+        };
+        let (a, one) = hold(blanks.a, shards.a);
+        let (b, two) = hold(blanks.b, shards.b);
+        let (c, three) = hold(blanks.c, shards.c);
+        let (d, four) = hold(blanks.d, shards.d);
+        let board = Board {
+            a: Mutex::new(a),
+            b: Mutex::new(b),
+            c: Mutex::new(c),
+            d: Mutex::new(d),
+            ranges,
+        };
+        let shares = Shares {
+            parts,
+            a: one,
+            b: two,
+            c: three,
+            d: four,
+        };
+        (board, shares)
+    }
+
+    /// The lock of shard 0.
+    pub fn a(&self) -> &Mutex<Held<G, A>> {
+        &self.a
+    }
+
+    /// The lock of shard 1.
+    pub fn b(&self) -> &Mutex<Held<G, B>> {
+        &self.b
+    }
+
+    /// The lock of shard 2.
+    pub fn c(&self) -> &Mutex<Held<G, C>> {
+        &self.c
+    }
+
+    /// The lock of shard 3.
+    pub fn d(&self) -> &Mutex<Held<G, D>> {
+        &self.d
+    }
+
+    /// The index range of a shard: the first index, and the one past the last.
+    pub fn range(&self, shard: usize) -> (u64, u64)
+        requires { shard < 4 }
+        ensures lo { result.0 ≡ (choose shard A.spot B.spot C.spot D.spot).lo }
+        ensures hi { result.1 ≡ (choose shard A.spot B.spot C.spot D.spot).hi }
+    {
+        match shard {
+            0 => self.ranges.a,
+            1 => self.ranges.b,
+            2 => self.ranges.c,
+            _ => self.ranges.d,
+        }
+    }
+
+    /// The shard whose range has this index of the tier.
+    pub fn shard_of(&self, parent: u64) -> usize
+        requires { parent < G.rules.tier_size A.spot.tier }
+        ensures shard { result < 4 }
+        ensures range { IsWithin (choose result A.spot B.spot C.spot D.spot) parent }
+    {
+        if parent < self.ranges.a.1 {
+            0
+        } else if parent < self.ranges.b.1 {
+            1
+        } else if parent < self.ranges.c.1 {
+            2
+        } else {
+            3
+        }
+    }
+
+    /// Delivers a note to a parent under that one shard's lock. The caller's amount of this shard rises by one exactly where the pair is new, and the others stay.
+    pub fn deliver<R: Wait>(
+        &self,
+        rt: &R,
+        shard: usize,
+        note: &Note<G>,
+        parent: u64,
+        shares: &mut Shares<A, B, C, D>,
+    ) -> Result<Delivery, Refused>
+        requires { shard < 4 }
+        ensures shares { shares.new ≡ raised shares.old shard (gain result) }
+        ensures refusals { IsAnswer G.rules (choose shard A.spot B.spot C.spot D.spot) note.now parent result }
+    {
+        match shard {
+            0 => self.a.lock(rt).deliver(note, parent, &mut shares.a),
+            1 => self.b.lock(rt).deliver(note, parent, &mut shares.b),
+            2 => self.c.lock(rt).deliver(note, parent, &mut shares.c),
+            _ => self.d.lock(rt).deliver(note, parent, &mut shares.d),
+        }
+    }
+
+    /// Takes the shards out of their locks, with shares of all parts: they tile the same tier at the same place, and to each as many pairs are delivered as its whole share says.
+    pub fn into_shards(self, shares: Shares<A, B, C, D>) -> Four<Shard<G>>
+        requires { shares.parts ≡ A.parts }
+        ensures spots { (spot_of result.a ≡ A.spot) × (spot_of result.b ≡ B.spot) × (spot_of result.c ≡ C.spot) × (spot_of result.d ≡ D.spot) }
+        ensures amounts { (pairs_in result.a ≡ shares.a) × (pairs_in result.b ≡ shares.b) × (pairs_in result.c ≡ shares.c) × (pairs_in result.d ≡ shares.d) }
+    {
+        Four {
+            a: self.a.into_inner().into_shard(shares.a),
+            b: self.b.into_inner().into_shard(shares.b),
+            c: self.c.into_inner().into_shard(shares.c),
+            d: self.d.into_inner().into_shard(shares.d),
+        }
+    }
+}
+
+// A shard with its book, and the share that has all parts.
+fn hold<G: Game, L: Desk>(blank: Blank, shard: Shard<G>) -> (Held<G, L>, Share<L>)
+    requires name { blank.name ≡ L.name }
+    requires parts { blank.parts ≡ L.parts }
+    requires some { 0 < L.parts }
+    requires spot { spot_of shard ≡ L.spot }
+    ensures { result.1 ≡ record { parts = L.parts; amount = pairs_in shard } }
+{
+    let delivered = shard.delivered();
+    let (mut book, mark) = blank.open::<L>();
+    let mut share = Share::whole(mark);
+    share.raise(&mut book, delivered);
+    (Held::new(shard, book), share)
+}

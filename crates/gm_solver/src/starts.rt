@@ -1,0 +1,55 @@
+//! A tier before its first level.
+ghost use Rattle.std.specs.Prelude.{◌≡◌, ◌-◌, ◌≤◌, length, IfOk};
+ghost use Rattle.gm_game.specs.declared.position.Phase.TheVariants.{WinLose};
+ghost use Rattle.gm_shard.specs.Begin.{AreStarts, first_state};
+ghost use Rattle.gm_solver.specs.Over.{IsOver};
+
+use gm_frontier::expected::Expected;
+use gm_game::game::Game;
+use gm_game::limits::TIER_SIZE;
+use gm_game::position::Position;
+use gm_shard::begin::start;
+use gm_shard::shard::Shard;
+use gm_shard::status::Start;
+use std::alloc::{AllocError, Global};
+
+// The starts of the indexes of a tier from `lo` up to `hi`.
+fn starts<G: Game>(alloc: Global, tier: u64, lo: u64, hi: u64) -> Result<Vec<Start>, AllocError>
+    requires { lo ≤ hi }
+    ensures length { IfOk result (λ list. length list.items ≡ hi - lo) }
+    ensures starts { IfOk result (λ list. AreStarts G.rules tier lo list.items) }
+{
+    let mut list = Vec::new(alloc);
+    for index in lo..hi {
+        list.push(start::<G>(Position { tier, index }))?;
+    }
+    Ok(list)
+}
+
+/// The shard of the indexes of a tier from `lo` up to `hi`, before the first level.
+pub fn begin_range<G: Game>(
+    alloc: Global,
+    tier: u64,
+    lo: u64,
+    hi: u64,
+) -> Result<Shard<G>, AllocError>
+    requires order { lo ≤ hi }
+    requires within { hi ≤ TIER_SIZE }
+    ensures { IfOk result (λ shard. shard ≡ first_state tier lo (hi - lo)) }
+{
+    let list = starts::<G>(alloc, tier, lo, hi)?;
+    Shard::begin(alloc, tier, lo, list.as_slice())
+}
+
+/// The shard of a whole tier and the count of its pairs, before the first level.
+pub fn begin_tier<G: Game>(alloc: Global, tier: u64) -> Result<(Shard<G>, Expected<G>), AllocError>
+    requires { G.rules.tier_size tier ≤ TIER_SIZE }
+    ensures tier { IfOk result (λ begun. begun.0.tier ≡ tier) }
+    ensures phase { IfOk result (λ begun. begun.0.phase ≡ WinLose) }
+    ensures level { IfOk result (λ begun. begun.0.level ≡ 0) }
+    ensures over { IfOk result (λ begun. IsOver G.rules begun.0 begun.1) }
+{
+    let size = G::tier_size(tier);
+    let shard = begin_range(alloc, tier, 0, size)?;
+    Ok((shard, Expected::start(tier, 0, size)))
+}

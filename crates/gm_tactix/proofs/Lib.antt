@@ -1,0 +1,6 @@
+pub mod Positions
+pub mod MaskSteps
+pub mod MaskMoves
+pub mod StartPosition
+pub mod TextSteps
+pub mod ReadSteps

@@ -1,0 +1,213 @@
+-- Boards of counters: cells emptied and filled, and how many counters there are.
+use Rattle.std.proofs.Common.{◌≡◌, ℕ, zero, suc, ◌+◌, ◌<◌, ◌≤◌, Bool, true, false, not, ◌&&◌, ◌||◌, List, [], ◌∷◌, ◌++◌, map, reverse, length, set, refl, sym, ap, ap₂, ◌∙◌, subst, arith, inl, inr, length-set, get_or-set_same, get_or-set_other, eq-eqb}
+use Rattle.std.specs.List.{Contains, list_all, range_with_len, sum_by}
+use Rattle.std.proofs.lemmas.Bool.{cases_lt, cases_eq, ne_eqb, not-true}
+use Rattle.std.proofs.lemmas.List.{ext_get_or, get_or_past, reverse-append}
+use Rattle.std.proofs.lemmas.List.FromFn.{length-map-range_with_len, get_or-map-range_with_len}
+use Rattle.std.proofs.lemmas.List.Sums.{sum_by-cons}
+use Rattle.gm_board.specs.Lists.{contains_head, contains_later, and_left, and_right, and_both}
+use Rattle.gm_board.specs.Masks.{weight}
+use Rattle.gm_board.specs.Ranks.{members}
+use Rattle.gm_board.specs.Permutations.{all_at}
+use Rattle.gm_tactix.specs.Segments.{cells_from}
+use Rattle.gm_tactix.specs.Board.{has_counter, is_full, is_free, is_among, without, with_counters}
+use Rattle.gm_tactix.specs.SegmentFacts.{among_in, among_from}
+
+-- ---- cells of boards
+-- boards that agree on each cell
+pub same_board : (a b : List Bool) → length a ≡ length b → ((k : ℕ) → k < length a → has_counter a k ≡ has_counter b k) → a ≡ b
+same_board a b e h = ext_get_or false a b e h
+
+-- emptied cells stay cells
+pub length_without : (b : List Bool) (cs : List ℕ) → length (without b cs) ≡ length b
+unfolding without
+length_without b cs = length-map-range_with_len (λ (k : ℕ). has_counter b k && not (is_among k cs)) 0 (length b)
+
+-- so do filled ones
+pub length_with : (b : List Bool) (cs : List ℕ) → length (with_counters b cs) ≡ length b
+unfolding with_counters
+length_with b cs = length-map-range_with_len (λ (k : ℕ). has_counter b k || is_among k cs) 0 (length b)
+
+past_false : (a b : Bool) → b ≡ false → false ≡ (b && a)
+past_false a b e = rw e refl
+
+-- a cell of a board with cells emptied
+pub without_at : (b : List Bool) (cs : List ℕ) (k : ℕ) → has_counter (without b cs) k ≡ (has_counter b k && not (is_among k cs))
+unfolding without
+without_at b cs k = elim (cases_lt k (length b)) [
+  | inl l ↦ get_or-map-range_with_len (λ (k : ℕ). has_counter b k && not (is_among k cs)) 0 (length b) k k false l (omega arith)
+  | inr l ↦ get_or_past (map (λ (k : ℕ). has_counter b k && not (is_among k cs)) (range_with_len 0 (length b))) k false
+      (let e = length-map-range_with_len (λ (k : ℕ). has_counter b k && not (is_among k cs)) 0 (length b) in omega (arith, e))
+      ∙ past_false (not (is_among k cs)) (has_counter b k) (get_or_past b k false l)
+]
+
+-- a cell of a board with cells filled
+pub with_at : (b : List Bool) (cs : List ℕ) (k : ℕ) → k < length b → has_counter (with_counters b cs) k ≡ (has_counter b k || is_among k cs)
+unfolding with_counters
+with_at b cs k l = get_or-map-range_with_len (λ (k : ℕ). has_counter b k || is_among k cs) 0 (length b) k k false l (omega arith)
+
+-- ---- full and free cells
+pub full_at : (b : List Bool) (cs : List ℕ) (k : ℕ) → is_full b cs ≡ true → Contains cs k → has_counter b k ≡ true
+full_at b cs k e c = all_at (has_counter b) cs k e c
+
+-- a free cell has no counter
+pub free_at : (b : List Bool) (cs : List ℕ) (k : ℕ) → is_free b cs ≡ true → Contains cs k → has_counter b k ≡ false
+free_at b cs k e c = not-true _ (all_at (λ (j : ℕ). not (has_counter b j)) cs k e c)
+
+-- a test that each cell of a list passes
+pub all_cells : (p : ℕ → Bool) (cs : List ℕ) → ((k : ℕ) → Contains cs k → p k ≡ true) → list_all p cs ≡ true
+all_cells p [] h = refl
+all_cells p (c ∷ cs) h = and_both _ _ (h c (contains_head c cs)) (all_cells p cs (λ k d. h k (contains_later c cs k d)))
+
+-- a cell with a counter is a cell of the board
+pub counter_within : (b : List Bool) (k : ℕ) → has_counter b k ≡ true → k < length b
+counter_within b k e = elim (cases_lt k (length b)) [
+  | inl l ↦ l
+  | inr l ↦ absurd (let p = get_or_past b k false l in let z : ⊥ = cc in z)
+]
+
+-- no cell of a board is left on cells emptied
+pub free_without : (b : List Bool) (cs : List ℕ) → is_free (without b cs) cs ≡ true
+free_without b cs =
+    all_cells (λ (k : ℕ). not (has_counter (without b cs) k)) cs
+    (λ k c. ap not (without_at b cs k ∙ ap (λ (x : Bool). has_counter b k && not x) (among_from k cs c) ∙ and_false (has_counter b k)))
+  where
+    and_false : (x : Bool) → (x && false) ≡ false
+    and_false true = refl
+    and_false false = refl
+
+-- cells of the board that were filled are full
+pub full_with : (b : List Bool) (cs : List ℕ) → ((k : ℕ) → Contains cs k → k < length b) → is_full (with_counters b cs) cs ≡ true
+full_with b cs h =
+    all_cells (has_counter (with_counters b cs)) cs
+    (λ k c. with_at b cs k (h k c) ∙ ap (λ (x : Bool). has_counter b k || x) (among_from k cs c) ∙ or_true (has_counter b k))
+  where
+    or_true : (x : Bool) → (x || true) ≡ true
+    or_true true = refl
+    or_true false = refl
+
+-- free cells that are filled and emptied again
+pub without_with : (b : List Bool) (cs : List ℕ) → is_free b cs ≡ true → without (with_counters b cs) cs ≡ b
+without_with b cs e =
+    same_board (without (with_counters b cs) cs) b (length_without (with_counters b cs) cs ∙ length_with b cs)
+    (λ k l. let m : k < length b = omega (arith, length_without (with_counters b cs) cs, length_with b cs) in
+    without_at (with_counters b cs) cs k
+    ∙ ap (λ (x : Bool). x && not (is_among k cs)) (with_at b cs k m)
+    ∙ back (has_counter b k) (is_among k cs) (λ f. free_at b cs k e (among_in k cs f)))
+  where
+    back : (x y : Bool) → (y ≡ true → x ≡ false) → ((x || y) && not y) ≡ x
+    back true true h = sym (h refl)
+    back true false h = refl
+    back false true h = refl
+    back false false h = refl
+
+-- full cells that are emptied and filled again
+pub with_without : (b : List Bool) (cs : List ℕ) → is_full b cs ≡ true → with_counters (without b cs) cs ≡ b
+with_without b cs e =
+    same_board (with_counters (without b cs) cs) b (length_with (without b cs) cs ∙ length_without b cs)
+    (λ k l. let m : k < length (without b cs) = omega (arith, length_with (without b cs) cs) in
+    with_at (without b cs) cs k m
+    ∙ ap (λ (x : Bool). x || is_among k cs) (without_at b cs k)
+    ∙ back (has_counter b k) (is_among k cs) (λ f. full_at b cs k e (among_in k cs f)))
+  where
+    back : (x y : Bool) → (y ≡ true → x ≡ true) → ((x && not y) || y) ≡ x
+    back true true h = refl
+    back true false h = refl
+    back false true h = sym (h refl)
+    back false false h = refl
+
+-- ---- numbers of counters
+pub members_weight : (b : List Bool) → members b ≡ sum_by weight b
+members_weight [] = refl
+members_weight (true ∷ b) = let e = sum_by-cons weight true b in omega (arith, members_weight b, e)
+members_weight (false ∷ b) = let e = sum_by-cons weight false b in omega (arith, members_weight b, e)
+
+members_append : (a b : List Bool) → members (a ++ b) ≡ members a + members b
+members_append [] b = omega arith
+members_append (true ∷ a) b = omega (arith, members_append a b)
+members_append (false ∷ a) b = omega (arith, members_append a b)
+
+members_one : (x : Bool) (b : List Bool) → members (x ∷ b) ≡ members b + members (x ∷ [])
+members_one true b = omega arith
+members_one false b = omega arith
+
+-- the order of the cells does not matter
+pub members_reverse : (b : List Bool) → members (reverse b) ≡ members b
+members_reverse [] = refl
+members_reverse (x ∷ b) =
+    ap members (reverse-append (x ∷ []) b)
+    ∙ members_append (reverse b) (x ∷ [])
+    ∙ ap (λ (n : ℕ). n + members (x ∷ [])) (members_reverse b)
+    ∙ sym (members_one x b)
+
+-- a counter less
+members_set : (b : List Bool) (c : ℕ) → has_counter b c ≡ true → members (set b c false) + 1 ≡ members b
+members_set [] c e = absurd (let z : ⊥ = cc in z)
+members_set (true ∷ b) zero e = omega arith
+members_set (false ∷ b) zero e = absurd (let z : ⊥ = cc in z)
+members_set (true ∷ b) (suc c) e = omega (arith, members_set b c e)
+members_set (false ∷ b) (suc c) e = omega (arith, members_set b c e)
+
+-- cells that come later
+among_later : (k c step n : ℕ) → k < c → is_among k (cells_from c step n) ≡ false
+among_later k c step zero l = refl
+among_later k c step (suc n) l =
+    ap₂ (λ (x y : Bool). x || y) (ne_eqb c k (λ e. omega arith)) (among_later k (c + step) step n (omega arith))
+
+without_none : (b : List Bool) → without b [] ≡ b
+without_none b =
+    same_board (without b []) b (length_without b []) (λ k l. without_at b [] k ∙ and_true (has_counter b k))
+  where
+    and_true : (x : Bool) → (x && true) ≡ x
+    and_true true = refl
+    and_true false = refl
+
+without_more : (b : List Bool) (c : ℕ) (cs : List ℕ) → without b (c ∷ cs) ≡ set (without b cs) c false
+without_more b c cs =
+    same_board (without b (c ∷ cs)) (set (without b cs) c false)
+    (length_without b (c ∷ cs) ∙ sym (length-set (without b cs) c false ∙ length_without b cs))
+    (λ k l. let m : k < length (without b cs) = omega (arith, length_without b (c ∷ cs), length_without b cs) in
+    without_at b (c ∷ cs) k ∙
+    elim (cases_eq k c) [
+      | inl e ↦ ap (λ (x : Bool). has_counter b k && not (x || is_among k cs)) (eq-eqb c k (sym e))
+          ∙ and_false (has_counter b k)
+          ∙ sym (ap (λ (j : ℕ). has_counter (set (without b cs) c false) j) e ∙ get_or-set_same (without b cs) c false false (subst (λ (j : ℕ). j < length (without b cs)) e m))
+      | inr n ↦ ap (λ (x : Bool). has_counter b k && not (x || is_among k cs)) (ne_eqb c k (λ e. n (sym e)))
+          ∙ sym (without_at b cs k)
+          ∙ sym (get_or-set_other (without b cs) c k false false n)
+    ])
+  where
+    and_false : (x : Bool) → (x && false) ≡ false
+    and_false true = refl
+    and_false false = refl
+
+-- taking n counters from cells in a row leaves so many less
+pub members_without : (b : List Bool) (c step n : ℕ) → 0 < step → is_full b (cells_from c step n) ≡ true → members (without b (cells_from c step n)) + n ≡ members b
+members_without b c step zero p e = let q : members (without b []) ≡ members b = ap members (without_none b) in omega arith
+members_without b c step (suc n) p e =
+    let rest = cells_from (c + step) step n in
+    let here : has_counter (without b rest) c ≡ true =
+    without_at b rest c ∙ ap₂ (λ (x y : Bool). x && not y) (and_left _ _ e) (among_later c (c + step) step n (omega arith)) in
+    let q : members (without b (c ∷ rest)) ≡ members (set (without b rest) c false) = ap members (without_more b c rest) in
+    let r = members_set (without b rest) c here in
+    let i : members (without b rest) + n ≡ members b = members_without b (c + step) step n p (and_right (has_counter b c) (is_full b rest) e) in
+    omega (arith, q, r, i)
+
+-- a board without counters, and one with some
+pub no_counters : (b : List Bool) (k : ℕ) → members b ≡ 0 → has_counter b k ≡ false
+no_counters [] k e = refl
+no_counters (true ∷ b) k e = absurd (omega arith)
+no_counters (false ∷ b) zero e = refl
+no_counters (false ∷ b) (suc k) e = no_counters b k e
+
+-- a board with counters has one on some cell
+pub some_counter : (b : List Bool) → 0 < members b → (k : ℕ) × (has_counter b k ≡ true)
+some_counter [] l = absurd (omega arith)
+some_counter (true ∷ b) l = (0, refl)
+some_counter (false ∷ b) l = let x = some_counter b l in (suc x.0, x.1)
+
+-- no more counters than cells
+pub members_le_length : (b : List Bool) → members b ≤ length b
+members_le_length [] = omega arith
+members_le_length (true ∷ b) = omega (arith, members_le_length b)
+members_le_length (false ∷ b) = omega (arith, members_le_length b)

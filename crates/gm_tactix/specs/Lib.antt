@@ -1,0 +1,9 @@
+pub mod Segments
+pub mod Board
+pub mod SegmentFacts
+pub mod CounterFacts
+pub mod MoveFacts
+pub mod TactixLaws
+pub mod CounterMasks
+pub mod Texts
+pub mod TextLaws

@@ -1,0 +1,225 @@
+-- Segments of the squares of side 1 to 5: what computing shows of each, and what follows for all.
+use Rattle.std.proofs.Common.{◌≡◌, ℕ, zero, suc, ◌+◌, ◌-◌, ◌*◌, ◌/◌, ◌%◌, ◌<◌, ◌≤◌, min, max, Bool, true, false, ◌&&◌, ◌||◌, cond, eqb, ltb, leb, List, [], ◌∷◌, ◌++◌, reverse, length, get_or, refl, sym, ap, ap₂, ◌∙◌, subst, arith, inl, inr, eqb-true, eq-eqb, ltb-true, lt-ltb, leb-true, le-leb}
+use Rattle.std.specs.List.{Contains, list_all, range_with_len}
+use Rattle.std.proofs.lemmas.Bool.{or_cases}
+use Rattle.std.proofs.lemmas.List.{reverse-append}
+use Rattle.gm_board.specs.Lists.{and_left, and_right, and_both, contains_range, contains_head, contains_later, filter_to}
+use Rattle.gm_board.specs.Permutations.{same_list, same_list_true, permute, all_at}
+use Rattle.gm_board.specs.Groups.{IsGroup, any_at, group_inverse, undone}
+use Rattle.gm_board.specs.Patterns.{same_tests, any_from}
+use Rattle.gm_board.specs.Squares.{square_symmetries, square_group}
+use Rattle.gm_tactix.specs.Segments.{first_cell, segment_length, goes_down, segment_cells, is_segment, numbers_end, segments}
+use Rattle.gm_tactix.specs.Board.{is_among}
+
+-- ---- tests that compute, for each side
+-- the last of a list of cells, or 0
+abbrev pub last_of : List ℕ → ℕ
+last_of [] = 0
+last_of (c ∷ []) = c
+last_of (c ∷ d ∷ cs) = last_of (d ∷ cs)
+
+-- the number of the segment of n cells between two cells
+abbrev pub number_between : ℕ → ℕ → ℕ → ℕ → ℕ
+number_between s n a b = 16 * min a b + 2 * n + cond (ltb (max a b - min a b) s) 0 1
+
+-- the number of the segment that has these cells, in order or in reverse order
+abbrev pub number_of : ℕ → List ℕ → ℕ
+number_of s [] = 0
+number_of s (c ∷ cs) = number_between s (length (c ∷ cs)) c (last_of (c ∷ cs))
+
+-- whether the cells are those of the segment m, in order or in reverse order
+abbrev pub are_cells : ℕ → List ℕ → ℕ → Bool
+are_cells s cs m = is_segment s m && (same_list cs (segment_cells s m) || same_list cs (reverse (segment_cells s m)))
+
+-- whether each symmetry takes each segment to a segment
+unfoldable pub keeps_segments : ℕ → Bool
+keeps_segments s = list_all (λ g. list_all (λ m. are_cells s (permute 0 (segment_cells s m) g) (number_of s (permute 0 (segment_cells s m) g))) (segments s)) (square_symmetries s)
+
+-- whether the cells of each segment are on the square
+unfoldable pub segments_within : ℕ → Bool
+segments_within s = list_all (λ m. list_all (λ k. ltb k (s * s)) (segment_cells s m)) (segments s)
+
+-- whether there are at most 128 segments, each on the square and taken to a segment by each symmetry
+unfoldable pub segments_pass : ℕ → Bool
+segments_pass s = leb (length (segments s)) 128 && (segments_within s && keeps_segments s)
+
+pass_1 : segments_pass 1 ≡ true
+unfolding segments_pass keeps_segments segments_within segment_cells is_segment square_symmetries
+pass_1 = refl
+
+pass_2 : segments_pass 2 ≡ true
+unfolding segments_pass keeps_segments segments_within segment_cells is_segment square_symmetries
+pass_2 = refl
+
+pass_3 : segments_pass 3 ≡ true
+unfolding segments_pass keeps_segments segments_within segment_cells is_segment square_symmetries
+pass_3 = refl
+
+pass_4 : segments_pass 4 ≡ true
+unfolding segments_pass keeps_segments segments_within segment_cells is_segment square_symmetries
+pass_4 = refl
+
+pass_5 : segments_pass 5 ≡ true
+unfolding segments_pass keeps_segments segments_within segment_cells is_segment square_symmetries
+pass_5 = refl
+
+-- what holds of each side
+pub for_sides : (P : ℕ → Type 0) → P 1 → P 2 → P 3 → P 4 → P 5 → (s : ℕ) → 1 ≤ s → s ≤ 5 → P s
+for_sides P a b c d e zero l h = absurd (omega arith)
+for_sides P a b c d e (suc zero) l h = a
+for_sides P a b c d e (suc (suc zero)) l h = b
+for_sides P a b c d e (suc (suc (suc zero))) l h = c
+for_sides P a b c d e (suc (suc (suc (suc zero)))) l h = d
+for_sides P a b c d e (suc (suc (suc (suc (suc zero))))) l h = e
+for_sides P a b c d e (suc (suc (suc (suc (suc (suc s)))))) l h = absurd (omega arith)
+
+pass : (s : ℕ) → 1 ≤ s → s ≤ 5 → segments_pass s ≡ true
+pass = for_sides (λ s. segments_pass s ≡ true) pass_1 pass_2 pass_3 pass_4 pass_5
+
+-- a square has at most 25 cells
+pub square_small : (s : ℕ) → 1 ≤ s → s ≤ 5 → s * s ≤ 25
+square_small = for_sides (λ s. s * s ≤ 25) (omega arith) (omega arith) (omega arith) (omega arith) (omega arith)
+
+-- also one of side 0
+pub square_few : (s : ℕ) → s ≤ 5 → s * s ≤ 25
+square_few zero h = omega arith
+square_few (suc s) h = square_small (suc s) (omega arith) h
+
+-- ---- single segments
+-- the least cell is on the square
+pub first_within : (s m : ℕ) → is_segment s m ≡ true → first_cell m < s * s
+unfolding is_segment
+first_within s m e = ltb-true (first_cell m) (s * s) (and_left _ _ e)
+
+-- numbers of segments are below the end
+pub number_below : (s m : ℕ) → is_segment s m ≡ true → m < numbers_end s
+number_below s m e = let l = first_within s m e in omega (arith, l)
+
+two_bounds : (b : Bool) (n x y s : ℕ) → cond b (leb 2 n && leb (x + n) s) (leb 1 n && leb (y + n) s) ≡ true → (1 ≤ n) × (n ≤ s)
+two_bounds true n x y s e =
+    let a : 2 ≤ n = leb-true 2 n (and_left _ _ e) in
+    let c : x + n ≤ s = leb-true (x + n) s (and_right (leb 2 n) (leb (x + n) s) e) in (omega arith, omega arith)
+two_bounds false n x y s e =
+    let a : 1 ≤ n = leb-true 1 n (and_left _ _ e) in
+    let c : y + n ≤ s = leb-true (y + n) s (and_right (leb 1 n) (leb (y + n) s) e) in (omega arith, omega arith)
+
+-- a segment has at least one cell and at most a whole row or column
+pub length_bounds : (s m : ℕ) → is_segment s m ≡ true → (1 ≤ segment_length m) × (segment_length m ≤ s)
+unfolding is_segment
+length_bounds s m e = two_bounds (goes_down m) (segment_length m) (first_cell m / s) (first_cell m % s) s (and_right _ _ e)
+
+-- the segment of one cell
+pub single : (s k : ℕ) → 1 ≤ s → k < s * s → is_segment s (16 * k + 2) ≡ true
+unfolding is_segment
+single s k l h =
+    let f : first_cell (16 * k + 2) ≡ k = omega arith in
+    let n : segment_length (16 * k + 2) ≡ 1 = omega arith in
+    let d : (16 * k + 2) % 2 ≡ 0 = omega arith in
+    let r : k % s + 1 ≤ s = omega arith in
+    rw (f, n, d) (and_both _ _ (lt-ltb k (s * s) h) (le-leb (k % s + 1) s r))
+
+-- its cell
+pub single_cells : (s k : ℕ) → segment_cells s (16 * k + 2) ≡ k ∷ []
+unfolding segment_cells
+single_cells s k =
+    let f : first_cell (16 * k + 2) ≡ k = omega arith in
+    let n : segment_length (16 * k + 2) ≡ 1 = omega arith in
+    rw (f, n) refl
+
+-- ---- all segments
+pub in_segments : (s m : ℕ) → is_segment s m ≡ true → Contains (segments s) m
+in_segments s m e = filter_to (is_segment s) (range_with_len 0 (numbers_end s)) m (contains_range (numbers_end s) m (number_below s m e)) e
+
+module _ (s : ℕ) (low : 1 ≤ s) (high : s ≤ 5) where
+  passed : segments_pass s ≡ true
+  passed = pass s low high
+
+  -- there are at most 128
+  pub segments_few : length (segments s) ≤ 128
+  unfolding segments_pass
+  segments_few = leb-true (length (segments s)) 128 (and_left _ _ passed)
+
+  -- the cells of a segment are on the square
+  pub cells_within : (m k : ℕ) → is_segment s m ≡ true → Contains (segment_cells s m) k → k < s * s
+  unfolding segments_pass segments_within
+  cells_within m k e c =
+      ltb-true k (s * s)
+      (all_at (λ (j : ℕ). ltb j (s * s)) (segment_cells s m) k
+      (all_at (λ (n : ℕ). list_all (λ (j : ℕ). ltb j (s * s)) (segment_cells s n)) (segments s) m (and_left _ _ (and_right _ _ passed)) (in_segments s m e)) c)
+
+  kept : (g : List ℕ) (m : ℕ) → Contains (square_symmetries s) g → is_segment s m ≡ true
+      → are_cells s (permute 0 (segment_cells s m) g) (number_of s (permute 0 (segment_cells s m) g)) ≡ true
+  unfolding segments_pass keeps_segments
+  kept g m c e =
+      all_at (λ (n : ℕ). are_cells s (permute 0 (segment_cells s n) g) (number_of s (permute 0 (segment_cells s n) g))) (segments s) m
+      (all_at (λ (h : List ℕ). list_all (λ (n : ℕ). are_cells s (permute 0 (segment_cells s n) h) (number_of s (permute 0 (segment_cells s n) h))) (segments s)) (square_symmetries s) g
+      (and_right _ _ (and_right _ _ passed)) c) (in_segments s m e)
+
+-- ---- what is among the cells of an image
+-- a cell that is among cells is one of them
+pub among_in : (k : ℕ) (cs : List ℕ) → is_among k cs ≡ true → Contains cs k
+among_in k cs e =
+    let x = any_at (λ (c : ℕ). eqb c k) cs e in subst (λ (c : ℕ). Contains cs c) (eqb-true x.0 k x.2) x.1
+
+-- and the other way round
+pub among_from : (k : ℕ) (cs : List ℕ) → Contains cs k → is_among k cs ≡ true
+among_from k cs c = any_from (λ (c : ℕ). eqb c k) cs k c (eq-eqb k k refl)
+
+among_append : (k : ℕ) (xs ys : List ℕ) → is_among k (xs ++ ys) ≡ (is_among k ys || is_among k xs)
+among_append k [] ys = or_false_right (is_among k ys)
+  where
+    or_false_right : (b : Bool) → b ≡ (b || false)
+    or_false_right true = refl
+    or_false_right false = refl
+among_append k (x ∷ xs) ys = ap (λ (b : Bool). eqb x k || b) (among_append k xs ys) ∙ swap (eqb x k) (is_among k ys) (is_among k xs)
+  where
+    swap : (a b c : Bool) → (a || (b || c)) ≡ (b || (a || c))
+    swap true true c = refl
+    swap true false c = refl
+    swap false b c = refl
+
+-- the order of the cells does not matter
+among_reverse : (k : ℕ) (cs : List ℕ) → is_among k (reverse cs) ≡ is_among k cs
+among_reverse k [] = refl
+among_reverse k (c ∷ cs) =
+    ap (is_among k) (reverse_cons c cs)
+    ∙ among_append k (reverse cs) (c ∷ [])
+    ∙ or_one (eqb c k) (is_among k (reverse cs))
+    ∙ ap (λ (b : Bool). eqb c k || b) (among_reverse k cs)
+  where
+    reverse_cons : (x : ℕ) (xs : List ℕ) → reverse (x ∷ xs) ≡ reverse xs ++ x ∷ []
+    reverse_cons x xs = reverse-append (x ∷ []) xs
+
+    or_one : (a b : Bool) → ((a || false) || b) ≡ (a || b)
+    or_one true b = refl
+    or_one false b = refl
+
+module _ (n : ℕ) (G : List (List ℕ)) (o : IsGroup n G) (g h : List ℕ) (c : Contains G g) (d : Contains G h)
+    (gh : permute 0 g h ≡ range_with_len 0 n) (hg : permute 0 h g ≡ range_with_len 0 n) where
+  cell_back : (k x : ℕ) → k < n → x < n → eqb (get_or h x 0) k ≡ eqb x (get_or g k 0)
+  cell_back k x l m =
+      same_tests _ _
+      (λ e. eq-eqb _ _ (sym (undone n G o h g d c hg x m) ∙ ap (λ (y : ℕ). get_or g y 0) (eqb-true _ _ e)))
+      (λ e. eq-eqb _ _ (ap (λ (y : ℕ). get_or h y 0) (eqb-true _ _ e) ∙ undone n G o g h c d gh k l))
+
+  among_mapped : (k : ℕ) (cs : List ℕ) → k < n → ((x : ℕ) → Contains cs x → x < n) → is_among k (permute 0 cs h) ≡ is_among (get_or g k 0) cs
+  among_mapped k [] l all = refl
+  among_mapped k (x ∷ cs) l all =
+      ap₂ (λ (a b : Bool). a || b) (cell_back k x l (all x (contains_head x cs))) (among_mapped k cs l (λ y e. all y (contains_later x cs y e)))
+
+-- the segment that a symmetry brings to another: it has a cell where that one has the cell whose piece comes there
+pub segment_image : (s : ℕ) → 1 ≤ s → s ≤ 5 → (g : List ℕ) (m : ℕ) → Contains (square_symmetries s) g → is_segment s m ≡ true
+    → (n : ℕ) × (is_segment s n ≡ true) × ((k : ℕ) → k < s * s → is_among k (segment_cells s n) ≡ is_among (get_or g k 0) (segment_cells s m))
+segment_image s low high g m c e =
+    let G = square_symmetries s in
+    let o = square_group s low high in
+    let h = group_inverse (s * s) G o g c in
+    let cs = permute 0 (segment_cells s m) h.0 in
+    let n = number_of s cs in
+    let t = kept s low high h.0 m h.1 e in
+    let same : (k : ℕ) → is_among k (segment_cells s n) ≡ is_among k cs =
+    λ k. elim (or_cases _ _ (and_right _ _ t)) [
+      | inl f ↦ ap (is_among k) (sym (same_list_true cs (segment_cells s n) f))
+      | inr f ↦ sym (among_reverse k (segment_cells s n)) ∙ ap (is_among k) (sym (same_list_true cs (reverse (segment_cells s n)) f))
+    ] in
+    (n, and_left _ _ t, λ k l. same k ∙ among_mapped (s * s) G o g h.0 c h.1 h.2 h.3 k (segment_cells s m) l (λ x f. cells_within s low high m x e f))

@@ -1,0 +1,101 @@
+-- The texts of Tac Tix fit a line, and tell positions and moves apart.
+use Rattle.std.proofs.Common.{◌≡◌, ℕ, ◌+◌, ◌-◌, ◌*◌, ◌≤◌, Bool, true, false, cond, eqb, eqb-true, List, [], ◌∷◌, ◌++◌, map, length, refl, sym, ap, ap₂, ◌∙◌, arith}
+use Rattle.std.specs.List.{list_all}
+use Rattle.std.proofs.lemmas.Bool.{cond_both}
+use Rattle.std.proofs.lemmas.List.{length-map}
+use Rattle.gm_game.specs.Boards.{position_of, board_of}
+use Rattle.gm_game.specs.Shown.{IsShown}
+use Rattle.gm_game.proofs.BoardLaws.{position_back}
+use Rattle.gm_board.specs.Permutations.{all_at}
+use Rattle.gm_board.specs.Squares.{cell_text}
+use Rattle.gm_tactix.specs.Segments.{first_cell, segment_length, is_segment, segments}
+use Rattle.gm_tactix.specs.Board.{side_of, counters_at, tactix, tactix_rules}
+use Rattle.gm_tactix.specs.SegmentFacts.{for_sides, square_small, in_segments}
+use Rattle.gm_tactix.specs.MoveFacts.{move_in}
+use Rattle.gm_tactix.specs.TactixLaws.{board_length, numbered, side_low, side_high}
+use Rattle.gm_tactix.specs.Texts.{counter_text, board_text, last_cell, segment_text, position_text, move_text}
+
+-- ---- boards
+pub text_length : (b : List Bool) → length (board_text b) ≡ length b
+unfolding board_text
+text_length b = length-map b counter_text
+
+same_counter : (a b : Bool) → counter_text a ≡ counter_text b → a ≡ b
+same_counter true true e = refl
+same_counter true false e = absurd (omega arith)
+same_counter false true e = absurd (omega arith)
+same_counter false false e = refl
+
+-- boards with one text are one
+pub text_once : (a b : List Bool) → board_text a ≡ board_text b → a ≡ b
+unfolding board_text
+text_once [] [] e = refl
+text_once [] (y ∷ b) e = absurd (let z : ⊥ = cc in z)
+text_once (x ∷ a) [] e = absurd (let z : ⊥ = cc in z)
+text_once (x ∷ a) (y ∷ b) e =
+    let head : counter_text x ≡ counter_text y = cc in
+    let tail : map counter_text a ≡ map counter_text b = cc in
+    ap₂ (λ (c : Bool) (cs : List Bool). c ∷ cs) (same_counter x y head) (text_once a b tail)
+
+-- ---- moves
+-- the number of the segment with this text
+abbrev pub number_in_text : ℕ → List ℕ → ℕ
+number_in_text s (r ∷ c ∷ []) = 16 * (s * (r - 97) + (c - 49)) + 2
+number_in_text s (r ∷ c ∷ d ∷ q ∷ e ∷ cs) = 16 * (s * (r - 97) + (c - 49)) + cond (eqb r q) (2 * (e - c + 1)) (2 * (q - r + 1) + 1)
+number_in_text s cs = 0
+
+-- whether each segment's number is in its text
+unfoldable pub texts_pass : ℕ → Bool
+texts_pass s = list_all (λ m. eqb (number_in_text s (segment_text s m)) m) (segments s)
+
+texts_1 : texts_pass 1 ≡ true
+unfolding texts_pass segment_text is_segment
+texts_1 = refl
+
+texts_2 : texts_pass 2 ≡ true
+unfolding texts_pass segment_text is_segment
+texts_2 = refl
+
+texts_3 : texts_pass 3 ≡ true
+unfolding texts_pass segment_text is_segment
+texts_3 = refl
+
+texts_4 : texts_pass 4 ≡ true
+unfolding texts_pass segment_text is_segment
+texts_4 = refl
+
+texts_5 : texts_pass 5 ≡ true
+unfolding texts_pass segment_text is_segment
+texts_5 = refl
+
+number_back : (s m : ℕ) → 1 ≤ s → s ≤ 5 → is_segment s m ≡ true → number_in_text s (segment_text s m) ≡ m
+unfolding texts_pass
+number_back s m low high e =
+    eqb-true (number_in_text s (segment_text s m)) m
+    (all_at (λ (n : ℕ). eqb (number_in_text s (segment_text s n)) n) (segments s) m (for_sides (λ s. texts_pass s ≡ true) texts_1 texts_2 texts_3 texts_4 texts_5 s low high) (in_segments s m e))
+
+-- segments with one text are one
+pub segment_once : (s m n : ℕ) → 1 ≤ s → s ≤ 5 → is_segment s m ≡ true → is_segment s n ≡ true → segment_text s m ≡ segment_text s n → m ≡ n
+segment_once s m n low high e f g = sym (number_back s m low high e) ∙ ap (number_in_text s) g ∙ number_back s n low high f
+
+-- the text of a segment has at most five bytes
+pub segment_short : (s m : ℕ) → length (segment_text s m) ≤ 5
+unfolding segment_text
+segment_short s m =
+    cond_both (eqb (segment_length m) 1) (cell_text s (first_cell m)) (cell_text s (first_cell m) ++ 45 ∷ cell_text s (last_cell s m)) (λ (t : List ℕ). length t ≤ 5) (λ e. omega arith) (λ e. omega arith)
+
+-- ---- the laws of texts
+pub texts_readable : (n : ℕ) (misere : Bool) → IsShown (tactix_rules n misere) (position_text n) (move_text n)
+texts_readable n misere =
+    let s = side_of n in
+    let low = side_low n in
+    let high = side_high n in
+    record {
+      shown_fits = λ p l. let a = text_length (counters_at s p.tier p.index) in let b = board_length s low high p.tier p.index in let few = square_small s low high in omega (arith, a, b, few);
+      shown_once = λ p q l k e.
+          let r = tactix s misere in
+          let one = numbered s low high misere in
+          sym (position_back r one p l) ∙ ap (position_of r) (text_once (board_of r p) (board_of r q) e) ∙ position_back r one q k;
+      move_shown_fits = λ p m l c. let short = segment_short s m in omega (arith, short);
+      move_shown_once = λ p m k l c d e. segment_once s m k low high (move_in s _ m c).0 (move_in s _ k d).0 e;
+    }

@@ -1,0 +1,13 @@
+//! Tac Tix on squares of side 1 to 5. Its rules are in docs/GAMES.md, Tac Tix, and `specs/` states them.
+#![tactic(auto)]
+
+pub mod ascending;
+pub mod counters;
+pub mod moves;
+pub mod segment;
+pub mod side;
+pub mod tactix;
+#[cfg(test)]
+mod tests;
+pub mod text;
+pub mod tiers;

@@ -1,0 +1,13 @@
+//! The side of the board.
+ghost use Rattle.std.specs.Prelude.{◌≡◌, ◌≤◌};
+ghost use Rattle.gm_tactix.specs.Board.{side_of};
+
+/// The side that a game for N is played with: N of 1 to 5, and any other N plays as 1.
+#[tactic(auto, unfolding(crate::specs::Board::side_of))]
+pub fn side_for(n: u32) -> u32
+    ensures value { result ≡ side_of n }
+    ensures low { 1 ≤ result }
+    ensures high { result ≤ 5 }
+{
+    if 1 <= n && n <= 5 { n } else { 1 }
+}

@@ -1,0 +1,67 @@
+//! Tiers: a tier is the number of counters that are left.
+ghost use Rattle.std.specs.Prelude.{◌≡◌, ◌≤◌, ◌*◌, ◌-◌, ◌==◌, if◌then◌else◌, None, Some};
+ghost use Rattle.std.specs.List.{range_with_len};
+ghost use Rattle.gm_board.specs.Binomials.{binomial as binomial_of};
+ghost use Rattle.gm_tactix.specs.Board.{tactix_name};
+
+use arrayvec::ArrayVec;
+use gm_board::pascal::binomial;
+use gm_game::limits::{CHILD_TIERS, NAME};
+use gm_game::position::End;
+
+/// The name of a game: `tactix-N` or `tactix-N-misere`, padded with zeros (docs/GAMES.md, Tac Tix).
+pub fn name(side: u32, misere: bool) -> [u8; NAME]
+    requires { side ≤ 5 }
+    ensures { result ≡ tactix_name side misere }
+{
+    let digit = b'0' + side as u8;
+    if misere {
+        let mut name = *b"tactix-0-misere\0";
+        name[7] = digit;
+        name
+    } else {
+        let mut name = *b"tactix-0\0\0\0\0\0\0\0\0";
+        name[7] = digit;
+        name
+    }
+}
+
+/// How many boards of a square of side up to 5 have so many counters: 0 where there are fewer cells.
+pub fn tier_size(side: u32, tier: u64) -> u64
+    requires { side ≤ 5 }
+    ensures { result ≡ binomial_of (side * side) tier }
+{
+    let cells = side * side;
+    if tier <= u64::from(cells) {
+        binomial(cells, tier as u32)
+    } else {
+        0
+    }
+}
+
+/// The end for the player to move where so many counters are left, or `None` where there are some: without counters Lose, and in misère Win.
+pub fn end(misere: bool, tier: u64) -> Option<End>
+    ensures { result ≡ (if tier == 0 then Some (if misere then End.Win else End.Lose) else None) }
+{
+    if tier > 0 {
+        return None;
+    }
+    if misere {
+        Some(End::Win)
+    } else {
+        Some(End::Lose)
+    }
+}
+
+/// The tiers that a move can lead to, ascending: from 1 up to `side` counters less.
+pub fn child_tiers(side: u32, tier: u64) -> ArrayVec<u64, CHILD_TIERS>
+    requires { side ≤ 5 }
+    ensures { result.items ≡ range_with_len (tier - side) (tier - (tier - side)) }
+{
+    let first = tier.saturating_sub(u64::from(side));
+    let mut list = ArrayVec::new();
+    for child in first..tier {
+        list.push(child);
+    }
+    list
+}

@@ -1,0 +1,7 @@
+use Rattle.std.proofs.Common.{◌≡◌, ◌++◌, take}
+use Rattle.std.specs.List.{flat_map}
+use Rattle.gm_tierdb.specs.TierText.{record_bytes}
+use Rattle.gm_tierdb.proofs.encode.push_records.Given as goal
+
+abbrev pub invariant-loop-index : goal.invariant-loop-index
+invariant-loop-index g l = l.file.items ≡ l.initial.file.items ++ flat_map record_bytes (take l.index l.table.records)

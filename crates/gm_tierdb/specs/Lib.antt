@@ -1,0 +1,5 @@
+pub mod TierText
+pub mod Refusals
+pub mod StoreTexts
+pub mod Streams
+pub mod Turns

@@ -1,0 +1,47 @@
+//! Where the texts of tiers are kept.
+ghost use Rattle.std.specs.Prelude.{◌≡◌, ◌+◌, ◌<◌, ℕ, Bool, List, Option, IsTrue, IfOk, OnOk, IsErrOf};
+ghost use Rattle.std.specs.Option.{option_map};
+ghost use Rattle.gm_tierdb.specs.StoreTexts.{AreSame, Sets, MaySet, failures_of};
+
+use crate::store_error::StoreError;
+use std::alloc::Global;
+use std::fs::Files;
+
+/// A store of texts: a map from tiers to bytes, with a count of the calls that have failed.
+pub trait Store: Drop {
+    /// Whether the map is promised. Where it is not, as on a disk that others write to, only the count of failures is.
+    ghost KEEPS: { Bool };
+
+    /// The text of each tier that has one.
+    ghost texts: { Self → ℕ → Option (List ℕ) };
+
+    /// How many calls have failed.
+    ghost failed: { Self → ℕ };
+
+    /// Whether the map is promised.
+    const KEEPS: bool;
+
+    /// The text of a tier, or `None` where it has none. No text changes.
+    fn read<R: Files>(
+        &mut self,
+        rt: &R,
+        alloc: Global,
+        tier: u64,
+    ) -> Result<Option<Vec<u8>>, StoreError>
+        requires { failed self.old < u64.MAX }
+        ensures text { IsTrue KEEPS → IfOk result (λ o. option_map (λ v. v.items) o ≡ texts self.old tier) }
+        ensures same { IsTrue KEEPS → AreSame (texts self.old) (texts self.new) }
+        ensures count { failed self.new ≡ failed self.old + failures_of result };
+
+    /// Gives a tier this text. Where memory runs out no text has changed; after a failure the tier has its old text or this one.
+    fn write<R: Files>(&mut self, rt: &R, tier: u64, bytes: &[u8]) -> Result<(), StoreError>
+        requires { failed self.old < u64.MAX }
+        ensures ok { IsTrue KEEPS → OnOk result (Sets tier bytes.now (texts self.old) (texts self.new)) }
+        ensures out_of_memory { IsTrue KEEPS → IsErrOf result StoreError.OutOfMemory → AreSame (texts self.old) (texts self.new) }
+        ensures err { IsTrue KEEPS → IsErrOf result StoreError.Failed → MaySet tier bytes.now (texts self.old) (texts self.new) }
+        ensures count { failed self.new ≡ failed self.old + failures_of result };
+
+    /// How many calls have answered `Failed`.
+    fn failures(&self) -> u64
+        ensures { result ≡ failed self.now };
+}

@@ -1,0 +1,55 @@
+//! Texts from readers and to writers.
+ghost use Rattle.std.specs.Prelude.{◌≡◌, ◌⊎◌, ◌≤◌, ℕ, List, IfOk, OnOk, OnErr, IfErr, length};
+ghost use Rattle.std.specs.Io.KnownBytes.{Appends, Consumes, IsAtEnd};
+ghost use Rattle.gm_tierdb.specs.Streams.{AppendsPart, ConsumesPart};
+
+use crate::layout::FILE_LEN;
+use crate::store_error::StoreError;
+use std::alloc::Global;
+use std::io::{Read, Write};
+
+/// As many bytes are read of a text: one more than the longest file of a tier has.
+pub const READ_LEN: usize = FILE_LEN + 1;
+
+/// How many bytes are read at a time.
+const CHUNK_LEN: usize = 4096;
+
+/// The bytes of a reader up to its end, but at most 33,554,505 of them (`READ_LEN`). After an error the reader has lost some of its bytes.
+pub fn read_text<R: Read>(alloc: Global, reader: &mut R) -> Result<Vec<u8>, StoreError>
+    ensures text { IfOk result (λ v. Consumes (R.remaining reader.old) (R.remaining reader.new) v.items) }
+    ensures most { IfOk result (λ v. length v.items ≤ READ_LEN) }
+    ensures all { IfOk result (λ v. (length v.items ≡ READ_LEN) ⊎ IsAtEnd (R.remaining reader.new)) }
+    ensures err { OnErr result (ConsumesPart (R.remaining reader.old) (R.remaining reader.new) READ_LEN) }
+{
+    let mut text = Vec::new(alloc);
+    let mut chunk = [0u8; CHUNK_LEN];
+    while text.len() < READ_LEN {
+        let room = CHUNK_LEN.min(READ_LEN - text.len());
+        match reader.read(&mut chunk[..room]) {
+            Ok(0) => return Ok(text),
+            Ok(count) => match text.extend_from_slice(&chunk[..count]) {
+                Ok(()) => {}
+                Err(_) => return Err(StoreError::OutOfMemory),
+            },
+            Err(_) => return Err(StoreError::Failed),
+        }
+    }
+    Ok(text)
+}
+
+/// Writes all of the bytes. After `Failed`, the one error, the writer has got a front of them. A write that takes no byte is a failure.
+pub fn write_text<W: Write>(writer: &mut W, bytes: &[u8]) -> Result<(), StoreError>
+    ensures text { OnOk result (Appends (W.contents writer.old) (W.contents writer.new) bytes.now) }
+    ensures front { OnErr result (AppendsPart (W.contents writer.old) (W.contents writer.new) bytes.now) }
+    ensures failed { IfErr result (λ e. e ≡ StoreError.Failed) }
+{
+    let mut done = 0;
+    while done < bytes.len() {
+        match writer.write(&bytes[done..]) {
+            Ok(0) => return Err(StoreError::Failed),
+            Ok(count) => done += count,
+            Err(_) => return Err(StoreError::Failed),
+        }
+    }
+    Ok(())
+}

@@ -1,0 +1,11 @@
+use Rattle.std.proofs.Common.{ℕ, take}
+use Rattle.std.specs.List.{Contains}
+use Rattle.gm_tiers.specs.Reach.{IsGrown}
+use Rattle.gm_tiers.specs.Limits.{AreWithin}
+use Rattle.gm_tiers.proofs.search.find_children.Given as goal
+
+abbrev pub invariant-loop-child : goal.invariant-loop-child
+invariant-loop-child g l =
+    AreWithin g.G.Game.rules l.found.keys
+    × IsGrown l.initial.found.keys l.found.keys
+    × ((child : ℕ) → Contains (take l.child-index l.child-items) child → Contains l.found.keys child)

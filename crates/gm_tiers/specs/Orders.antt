@@ -1,0 +1,21 @@
+-- The order in which tiers are solved.
+use Rattle.std.specs.Prelude.{◌≡◌, ℕ, ◌<◌, ◌≤◌, ◌⊎◌, ◌↔◌, List, length, take, slice_get, Some}
+use Rattle.std.specs.List.{Contains, AllPairs}
+use Rattle.gm_game.specs.declared.limits.TheConstants.{TIER_SIZE, TIERS}
+use Rattle.gm_game.specs.Rules.{Rules}
+use Rattle.gm_tiers.specs.Reach.{IsReached}
+
+-- t has a smaller rank, or the same rank and a smaller number
+abbrev pub IsBefore : Rules → ℕ → ℕ → Type 0
+IsBefore r t u = (r.tier_rank t < r.tier_rank u) ⊎ ((r.tier_rank t ≡ r.tier_rank u) × (t < u))
+
+-- exactly the tiers that are reached, each before those after it, within the limits
+pub record IsTierOrder (r : Rules) (tiers : List ℕ) : Type 0 where
+  pub each : (t : ℕ) → Contains tiers t ↔ IsReached r t
+  pub ordered : AllPairs (IsBefore r) tiers
+  pub few : length tiers ≤ TIERS
+  pub small : (t : ℕ) → Contains tiers t → r.tier_size t ≤ TIER_SIZE
+
+-- the child tiers of each tier come before it
+abbrev pub ComeChildrenFirst : Rules → List ℕ → Type 0
+ComeChildrenFirst r tiers = (k t child : ℕ) → slice_get tiers k ≡ Some t → Contains (r.child_tiers t) child → Contains (take k tiers) child

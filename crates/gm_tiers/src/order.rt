@@ -1,0 +1,75 @@
+//! The order of tiers.
+ghost use Rattle.std.specs.Prelude.{◌≡◌, ℕ, IfOk, OnOk, OnErr, IsErrOf, IsPermutation};
+ghost use Rattle.std.specs.List.{AllPairs};
+ghost use Rattle.gm_tiers.specs.Orders.{IsBefore, IsTierOrder, ComeChildrenFirst};
+ghost use Rattle.gm_tiers.specs.Reach.{IsReached};
+ghost use Rattle.gm_tiers.specs.Limits.{HasTooMany, AreMoreThan, IsTooLarge};
+
+use crate::search::search;
+use crate::tier_error::TierError;
+use gm_game::game::Game;
+use gm_game::limits::TIERS;
+use indexmap::IndexSet;
+use std::alloc::{AllocError, Global};
+use std::marker::{Model, PhantomData};
+
+/// All tiers that a game reaches, each once and child tiers first. Contracts see their list.
+#[derive(Drop)]
+pub struct TierOrder<G: Game> {
+    tiers: IndexSet<u64>,
+    game: PhantomData<G>,
+}
+
+impl<G: Game> Model for TierOrder<G> {
+    ghost use Rattle.std.specs.Prelude.{ℕ, List};
+    ghost use Rattle.gm_tiers.specs.Orders.{IsTierOrder};
+
+    ghost Value = { List ℕ };
+
+    ghost view = { λ o. o.tiers.keys };
+
+    ghost invariant = { λ o. IsTierOrder G.rules o.tiers.keys };
+}
+
+impl<G: Game> TierOrder<G> {
+    /// All tiers reached from the initial one by `child_tiers`, by ascending rank and then by number. There may be 1,024 of them, of 16,777,216 positions each.
+    ///
+    /// Each tier is tested for its size when it is first found, and then the number of tiers is tested; the first test that fails is the answer.
+    pub fn from_initial(alloc: Global) -> Result<Self, TierError>
+        ensures order { IfOk result (IsTierOrder G.rules) }
+        ensures too_many { IsErrOf result TierError.TooManyTiers → HasTooMany G.rules }
+        ensures more { IsErrOf result TierError.TooManyTiers → AreMoreThan G.rules TIERS }
+        ensures too_large { (tier : ℕ) → IsErrOf result (TierError.TierTooLarge tier) → IsTooLarge G.rules tier }
+        ensures reached { (tier : ℕ) → IsErrOf result (TierError.TierTooLarge tier) → IsReached G.rules tier }
+    {
+        let mut tiers = search::<G>(alloc)?;
+        match put_in_order::<G>(&mut tiers) {
+            Ok(()) => Ok(TierOrder {
+                tiers,
+                game: PhantomData,
+            }),
+            Err(_) => Err(TierError::OutOfMemory),
+        }
+    }
+
+    /// The tiers. No tier comes before one of its child tiers.
+    pub fn tiers(&self) -> &[u64]
+        ensures value { result.now ≡ self.now }
+        ensures order { IsTierOrder G.rules self.now }
+        ensures children_first { ComeChildrenFirst G.rules self.now }
+    {
+        self.tiers.as_slice()
+    }
+}
+
+// Sorts tiers by rank and then by number.
+fn put_in_order<G: Game>(tiers: &mut IndexSet<u64>) -> Result<(), AllocError>
+    ensures same { IsPermutation tiers.old.keys tiers.new.keys }
+    ensures ordered { OnOk result (AllPairs (IsBefore G.rules) tiers.new.keys) }
+{
+    tiers.sort_unstable_by_key(
+        |tier: &u64| -> (u64, u64)
+            ensures { result ≡ (G.rules.tier_rank tier.now, tier.now) }
+        { (G::tier_rank(*tier), *tier) },
+    )
+}

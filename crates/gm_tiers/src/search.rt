@@ -1,0 +1,74 @@
+//! The search for the tiers that a game reaches.
+ghost use Rattle.std.specs.Prelude.{◌≡◌, ℕ, IfOk, OnOk, IsErrOf};
+ghost use Rattle.std.specs.List.{Contains};
+ghost use Rattle.gm_tiers.specs.Reach.{IsNext, IsGrown};
+ghost use Rattle.gm_tiers.specs.Limits.{AreWithin, AreFound, HasTooMany, IsTooLarge};
+
+use crate::tier_error::TierError;
+use gm_game::game::Game;
+use gm_game::limits::{TIER_SIZE, TIERS};
+use indexmap::IndexSet;
+use std::alloc::Global;
+
+/// All tiers that the game reaches, in the order in which they are found: first the initial one, then the child tiers of each in turn.
+pub(crate) fn search<G: Game>(alloc: Global) -> Result<IndexSet<u64>, TierError>
+    ensures found { IfOk result (λ s. AreFound G.rules s.keys) }
+    ensures too_many { IsErrOf result TierError.TooManyTiers → HasTooMany G.rules }
+    ensures too_large { (tier : ℕ) → IsErrOf result (TierError.TierTooLarge tier) → IsTooLarge G.rules tier }
+{
+    let mut found = IndexSet::new(alloc);
+    let initial = G::initial().tier;
+    find::<G>(&mut found, initial)?;
+    for next in 0..TIERS {
+        match found.get_index(next) {
+            None => return Ok(found),
+            Some(tier) => {
+                let tier = *tier;
+                find_children::<G>(&mut found, tier)?;
+            }
+        }
+    }
+    Ok(found)
+}
+
+// Finds the child tiers of a tier that is found.
+fn find_children<G: Game>(found: &mut IndexSet<u64>, tier: u64) -> Result<(), TierError>
+    requires within { AreWithin G.rules found.old.keys }
+    requires there { Contains found.old.keys tier }
+    ensures within { OnOk result (AreWithin G.rules found.new.keys) }
+    ensures grown { OnOk result (IsGrown found.old.keys found.new.keys) }
+    ensures children { OnOk result ((child : ℕ) → Contains (G.rules.child_tiers tier) child → Contains found.new.keys child) }
+    ensures too_many { IsErrOf result TierError.TooManyTiers → HasTooMany G.rules }
+    ensures too_large { (t : ℕ) → IsErrOf result (TierError.TierTooLarge t) → IsTooLarge G.rules t }
+{
+    let children = G::child_tiers(tier);
+    for child in children.as_slice() {
+        find::<G>(found, *child)?;
+    }
+    Ok(())
+}
+
+// Finds a tier. One that is new is tested for its size, and then there must be room for it.
+fn find<G: Game>(found: &mut IndexSet<u64>, tier: u64) -> Result<(), TierError>
+    requires within { AreWithin G.rules found.old.keys }
+    requires next { IsNext G.rules found.old.keys tier }
+    ensures within { OnOk result (AreWithin G.rules found.new.keys) }
+    ensures grown { OnOk result (IsGrown found.old.keys found.new.keys) }
+    ensures there { OnOk result (Contains found.new.keys tier) }
+    ensures too_many { IsErrOf result TierError.TooManyTiers → HasTooMany G.rules }
+    ensures too_large { (t : ℕ) → IsErrOf result (TierError.TierTooLarge t) → IsTooLarge G.rules t }
+{
+    if found.contains(&tier) {
+        return Ok(());
+    }
+    if G::tier_size(tier) > TIER_SIZE {
+        return Err(TierError::TierTooLarge { tier });
+    }
+    if found.len() >= TIERS {
+        return Err(TierError::TooManyTiers);
+    }
+    match found.insert(tier) {
+        Ok(_) => Ok(()),
+        Err(_) => Err(TierError::OutOfMemory),
+    }
+}

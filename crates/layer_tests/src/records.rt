@@ -1,0 +1,67 @@
+//! The true records of the toys.
+
+use gm_game::position::{Solved, Value};
+use std::alloc::{AllocError, Global};
+
+pub(crate) fn win(remoteness: u32) -> Option<Solved> {
+    Some(Solved {
+        value: Value::Win,
+        remoteness,
+    })
+}
+
+pub(crate) fn lose(remoteness: u32) -> Option<Solved> {
+    Some(Solved {
+        value: Value::Lose,
+        remoteness,
+    })
+}
+
+pub(crate) fn tie(remoteness: u32) -> Option<Solved> {
+    Some(Solved {
+        value: Value::Tie,
+        remoteness,
+    })
+}
+
+pub(crate) fn draw() -> Option<Solved> {
+    Some(Solved {
+        value: Value::Draw,
+        remoteness: 0,
+    })
+}
+
+/// Those of Countdown<10>, from 0 to 10.
+pub(crate) fn of_countdown(alloc: Global) -> Result<Vec<Option<Solved>>, AllocError> {
+    let records = vec![in alloc;
+        lose(0),
+        win(1),
+        win(1),
+        lose(2),
+        win(3),
+        win(3),
+        lose(4),
+        win(5),
+        win(5),
+        lose(6),
+        win(7),
+    ]?;
+    Ok(records)
+}
+
+/// Those of Wheel, from 0 to 9.
+pub(crate) fn of_wheel(alloc: Global) -> Result<Vec<Option<Solved>>, AllocError> {
+    let records = vec![in alloc;
+        tie(0),
+        tie(1),
+        tie(2),
+        draw(),
+        draw(),
+        lose(0),
+        win(1),
+        lose(2),
+        draw(),
+        win(3),
+    ]?;
+    Ok(records)
+}

@@ -1,0 +1,87 @@
+//! Plans, sources, errors, and the tier solved by the call with workers.
+use gm_game::position::{Phase, Place, Solved, Value};
+use gm_solver::error::SolveError;
+use gm_solver::gate::{Gate, NoGate};
+use gm_solver::plan::Plan;
+use gm_solver::source::{Counter, Source};
+use gm_solver::tier::solve_tier;
+use gm_table::tables::Tables;
+use gm_toys::countdown::Countdown;
+use std::test::Fail;
+
+#[test]
+fn plans_outside_the_limits(rt: HostRuntime) {
+    for (workers, shards, piece) in [
+        (0, 1, 1),
+        (17, 1, 1),
+        (1, 0, 1),
+        (1, 5, 1),
+        (1, 1, 0),
+        (1, 1, 4097),
+    ] {
+        assert_eq!(rt; Plan::new(workers, shards, piece), None);
+    }
+    for (workers, shards, piece) in [(1, 1, 1), (16, 4, 4096), (4, 2, 64)] {
+        let found = match Plan::new(workers, shards, piece) {
+            Some(plan) => {
+                plan.workers() == workers && plan.shards() == shards && plan.piece() == piece
+            }
+            None => false,
+        };
+        assert!(rt; found);
+    }
+}
+
+#[test]
+fn counter_hands_out(rt: HostRuntime) {
+    let counter = Counter::new();
+    assert_eq!(rt; counter.next(&rt, 0), None);
+    counter.begin(&rt, 2);
+    assert_eq!(rt; counter.next(&rt, 0), Some(0));
+    assert_eq!(rt; counter.next(&rt, 1), Some(1));
+    assert_eq!(rt; counter.next(&rt, 0), None);
+    assert_eq!(rt; counter.next(&rt, 1), None);
+    counter.begin(&rt, 0);
+    assert_eq!(rt; counter.next(&rt, 0), None);
+}
+
+#[test]
+fn gate_that_does_nothing(rt: HostRuntime) {
+    let place = Place {
+        tier: 0,
+        phase: Phase::WinLose,
+        level: 0,
+    };
+    NoGate.before(&rt, 0, place);
+    NoGate.after(&rt, 0, place);
+}
+
+#[test]
+fn errors_have_numbers(rt: HostRuntime) {
+    assert_eq!(rt; SolveError::OutOfMemory.number(), 1);
+    assert_eq!(rt; SolveError::TooFar { tier: 5 }.number(), 2);
+}
+
+#[test]
+fn deliveries_of_countdown(rt: HostRuntime) -> Result<(), Fail> {
+    let tables: Tables<Countdown<10>> = Tables::new(rt.alloc());
+    if let Some(plan) = Plan::new(2, 2, 1) {
+        let (table, report) = solve_tier(
+            &rt,
+            rt.alloc(),
+            0,
+            &tables,
+            plan,
+            &NoGate,
+            &Counter::new(),
+        )?;
+        let top = Some(Solved {
+            value: Value::Win,
+            remoteness: 7,
+        });
+        assert_eq!(rt; table.at(10), top);
+        assert_eq!(rt; report.deliveries, 19);
+        assert_eq!(rt; report.by_hand, 19);
+    }
+    Ok(())
+}

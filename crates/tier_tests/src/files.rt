@@ -1,0 +1,189 @@
+use gm_game::position::{Solved, Value};
+use gm_table::checker::{CheckError, check};
+use gm_table::tables::Tables;
+use gm_tierdb::decode::decode;
+use gm_tierdb::encode::encode;
+use gm_tierdb::file_error::FileError;
+use gm_toys::countdown::Countdown;
+use sha2::{Digest, Sha256};
+use std::alloc::{AllocError, Global};
+use std::test::Fail;
+
+type Game = Countdown<10>;
+
+// The file of Countdown from 10: docs/FORMATS.md, `file_of_countdown`.
+const FRONT: [u8; 62] = [
+    0x47, 0x4d, 0x54, 0x49, 0x45, 0x52, 0x30, 0x31, 0x63, 0x6f, 0x75, 0x6e, 0x74, 0x64, 0x6f, 0x77,
+    0x6e, 0x00, 0x00, 0x00, 0x00, 0x00, 0x00, 0x00, 0x00, 0x00, 0x00, 0x00, 0x00, 0x00, 0x00, 0x00,
+    0x0b, 0x00, 0x00, 0x00, 0x00, 0x00, 0x00, 0x00, 0x00, 0x10, 0x01, 0x40, 0x01, 0x40, 0x02, 0x10,
+    0x03, 0x40, 0x03, 0x40, 0x04, 0x10, 0x05, 0x40, 0x05, 0x40, 0x06, 0x10, 0x07, 0x40,
+];
+
+const DIGEST: [u8; 32] = [
+    0xb9, 0xdf, 0x1f, 0xd1, 0x0f, 0x8b, 0x71, 0x5f, 0xfd, 0xae, 0xaf, 0xac, 0xde, 0x68, 0x86, 0xf7,
+    0x91, 0xd7, 0x0c, 0xb2, 0xb7, 0xc0, 0x03, 0x1d, 0x4f, 0xcd, 0xeb, 0x40, 0xa4, 0x4c, 0xa2, 0xae,
+];
+
+fn file_of_countdown(alloc: Global) -> Result<Vec<u8>, AllocError> {
+    let mut file = Vec::from_slice(alloc, &FRONT)?;
+    file.extend_from_slice(&DIGEST)?;
+    Ok(file)
+}
+
+fn record(value: Value, remoteness: u32) -> Option<Solved> {
+    Some(Solved { value, remoteness })
+}
+
+// The values of 0 to 10.
+fn true_records(alloc: Global) -> Result<Vec<Option<Solved>>, AllocError> {
+    let records = vec![in alloc;
+        record(Value::Lose, 0),
+        record(Value::Win, 1),
+        record(Value::Win, 1),
+        record(Value::Lose, 2),
+        record(Value::Win, 3),
+        record(Value::Win, 3),
+        record(Value::Lose, 4),
+        record(Value::Win, 5),
+        record(Value::Win, 5),
+        record(Value::Lose, 6),
+        record(Value::Win, 7),
+    ]?;
+    Ok(records)
+}
+
+// Why these bytes are refused.
+fn refusal(alloc: Global, bytes: &[u8]) -> Option<FileError> {
+    decode::<Game>(alloc, 0, bytes).err()
+}
+
+// The file with the bytes from `at` on changed, and with its digest made anew.
+fn with_bytes(alloc: Global, at: usize, bytes: &[u8]) -> Result<Vec<u8>, AllocError> {
+    let mut file = Vec::new(alloc);
+    for (index, byte) in FRONT.iter().enumerate() {
+        let changed = index.checked_sub(at).and_then(|offset| bytes.get(offset));
+        file.push(*changed.unwrap_or(byte)).map_err(|_| AllocError)?;
+    }
+    let digest = Sha256::digest(file.as_slice());
+    file.extend_from_slice(&digest)?;
+    Ok(file)
+}
+
+#[test]
+fn a_table_is_written(rt: HostRuntime) -> Result<(), Fail> {
+    let records = true_records(rt.alloc())?;
+    let tables: Tables<Game> = Tables::new(rt.alloc());
+    let table = check(rt.alloc(), 0, records.as_slice(), &tables)?;
+    let file = encode(rt.alloc(), &table)?;
+    assert_eq!(rt; file, file_of_countdown(rt.alloc())?);
+    assert_eq!(rt; file.len(), 94);
+    Ok(())
+}
+
+#[test]
+fn a_file_is_read(rt: HostRuntime) -> Result<(), Fail> {
+    let file = file_of_countdown(rt.alloc())?;
+    let records = decode::<Game>(rt.alloc(), 0, file.as_slice())?;
+    assert_eq!(rt; records, true_records(rt.alloc())?);
+    Ok(())
+}
+
+#[test]
+fn changed_files_are_refused(rt: HostRuntime) -> Result<(), Fail> {
+    let mut longer = file_of_countdown(rt.alloc())?;
+    longer.push(0).map_err(|_| AllocError)?;
+    assert_eq!(rt;
+        refusal(rt.alloc(), longer.as_slice()),
+        Some(FileError::Trailing)
+    );
+    for (at, bytes, why) in [
+        (0, b"X".as_slice(), FileError::BadMagic),
+        (16, b"m".as_slice(), FileError::WrongGame),
+        (24, b"\x01".as_slice(), FileError::WrongTier),
+        (32, b"\x0c".as_slice(), FileError::WrongSize),
+        (
+            40,
+            b"\x03\x20".as_slice(),
+            FileError::BadRecord { index: 0 },
+        ),
+        (
+            60,
+            b"\x00\x50".as_slice(),
+            FileError::BadRecord { index: 10 },
+        ),
+    ] {
+        let file = with_bytes(rt.alloc(), at, bytes)?;
+        assert_eq!(rt; refusal(rt.alloc(), file.as_slice()), Some(why));
+    }
+    let other_tier = decode::<Game>(rt.alloc(), 1, file_of_countdown(rt.alloc())?.as_slice());
+    assert_eq!(rt; other_tier.err(), Some(FileError::WrongTier));
+    Ok(())
+}
+
+#[test]
+fn cut_files_are_truncated(rt: HostRuntime) -> Result<(), Fail> {
+    let file = file_of_countdown(rt.alloc())?;
+    for len in 0..94usize {
+        let cut = file.as_slice().get(..len).unwrap_or(&[]);
+        assert_eq!(rt;
+            refusal(rt.alloc(), cut),
+            Some(FileError::Truncated),
+            "at {len}"
+        );
+    }
+    Ok(())
+}
+
+#[test]
+fn each_changed_byte_is_found(rt: HostRuntime) -> Result<(), Fail> {
+    for at in 0..94usize {
+        let mut file = file_of_countdown(rt.alloc())?;
+        if let Some(byte) = file.get_mut(at) {
+            *byte ^= 1;
+        }
+        let why = match at {
+            0..=7 => FileError::BadMagic,
+            8..=23 => FileError::WrongGame,
+            24..=31 => FileError::WrongTier,
+            32..=39 => FileError::WrongSize,
+            _ => FileError::BadDigest,
+        };
+        assert_eq!(rt; refusal(rt.alloc(), file.as_slice()), Some(why), "at {at}");
+    }
+    Ok(())
+}
+
+#[test]
+fn a_new_digest_does_not_make_records_true(rt: HostRuntime) -> Result<(), Fail> {
+    let tables: Tables<Game> = Tables::new(rt.alloc());
+    for index in 0..11usize {
+        let low = FRONT.get(40 + 2 * index).map_or(0, |byte| byte ^ 1);
+        let file = with_bytes(rt.alloc(), 40 + 2 * index, &[low])?;
+        let records = decode::<Game>(rt.alloc(), 0, file.as_slice())?;
+        let why = CheckError::WrongRecord {
+            index: index as u64,
+        };
+        assert_eq!(rt;
+            check(rt.alloc(), 0, records.as_slice(), &tables).err(),
+            Some(why)
+        );
+    }
+    Ok(())
+}
+
+#[test]
+fn file_errors_have_numbers(rt: HostRuntime) {
+    for (error, number) in [
+        (FileError::OutOfMemory, 1),
+        (FileError::Truncated, 2),
+        (FileError::BadMagic, 3),
+        (FileError::WrongGame, 4),
+        (FileError::WrongTier, 5),
+        (FileError::WrongSize, 6),
+        (FileError::BadRecord { index: 5 }, 7),
+        (FileError::Trailing, 8),
+        (FileError::BadDigest, 9),
+    ] {
+        assert_eq!(rt; error.number(), number);
+    }
+}

@@ -1,0 +1,11 @@
+//! The worked values of tier orders and tier files, on the toys.
+#![tactic(auto)]
+
+#[cfg(test)]
+mod files;
+#[cfg(test)]
+mod orders;
+#[cfg(test)]
+mod stores;
+#[cfg(test)]
+mod streams;
