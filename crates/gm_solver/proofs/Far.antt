@@ -33,6 +33,7 @@ use Rattle.gm_shard.proofs.StatusLemmas.{settled_same}
 use Rattle.gm_shard.specs.Steps.{place_of}
 use Rattle.gm_solver.specs.Solving.{IsTooFar}
 use Rattle.gm_solver.specs.Over.{IsDeliverable}
+use Rattle.gm_solver.specs.Covered.{IsCovered}
 use Rattle.gm_solver.proofs.Places.{value_stands, stands_remoteness}
 
 -- the children delivered to an inner position of a good shard, at its place
@@ -113,44 +114,52 @@ child_known r g entries tables tier held c canonical k = found (table_of entries
     found None e some = absurd (false≢true some)
     found (Some t) e some = let (same, table) = tables c.tier t e in table_knows r g REMOTENESS t.tier t.records table.is_true c canonical (sym same)
 
--- one level above the limit nothing is left
-pub past_limit : (r : Rules) → IsGame r → (entries : List TableData) → AreTables r entries → (s : ShardState) → IsGood r s → s.lo ≡ 0 → length s.delivered ≡ r.tier_size s.tier → AreHeld r entries s.tier → REMOTENESS < s.level → s.level ≤ REMOTENESS + 1
-    → IsLastLevel r s.tier s.phase s.level
-past_limit r g entries tables s good lo whole held above below = λ c m near stands. elim (cases_lt m s.level) [
+-- one level above the limit nothing is left, where good shards have every index of the tier
+past_limit : (r : Rules) → IsGame r → (entries : List TableData) → AreTables r entries → (place : Place) → ((i : ℕ) → i < r.tier_size place.tier → IsCovered r place i) → AreHeld r entries place.tier → REMOTENESS < place.level
+    → IsLastLevel r place.tier place.phase place.level
+past_limit r g entries tables place covered held above = λ c m near stands. elim (cases_lt m place.level) [
   | inl l ↦ l
   | inr l ↦ absurd (elim near.1 [
-    | inl e ↦ none_from_last r g s.tier s.phase s.level none_here none_below c m near.0 e l stands
+    | inl e ↦ none_from_last r g place.tier place.phase place.level none_here none_below c m near.0 e l stands
     | inr k ↦ none_below c m l k near.0 stands
   ])
 ]
   where
-    none_below : (c : Position) (m : ℕ) → s.level ≤ m → Contains (r.child_tiers s.tier) c.tier → IsCanonical r c → StandsAt r s.phase m c → ⊥
+    none_below : (c : Position) (m : ℕ) → place.level ≤ m → Contains (r.child_tiers place.tier) c.tier → IsCanonical r c → StandsAt r place.phase m c → ⊥
     none_below c m l k canonical stands =
-        let (x, is_true, near) = child_known r g entries tables s.tier held c canonical k in
-        let e = stands_remoteness r c s.phase m x stands is_true in
+        let (x, is_true, near) = child_known r g entries tables place.tier held c canonical k in
+        let e = stands_remoteness r c place.phase m x stands is_true in
         omega arith
 
     same_place : (q : Phase) (n : ℕ) → IsPlaceBefore q n q (n + 1)
     same_place WinLose n = omega arith
     same_place Ties n = omega arith
 
-    own_none : (i : ℕ) → IsCanonical r (at s.tier i) → StandsAt r s.phase s.level (at s.tier i) → ⊥
-    own_none i canonical stands =
-        let size = g.index_below (at s.tier i) canonical.0 in
-        let m : IsInRange s i = (omega arith, omega arith) in
+    of_shard : (s : ShardState) → IsGood r s → (i : ℕ) → IsInRange s i → REMOTENESS < s.level → IsCanonical r (at s.tier i) → StandsAt r s.phase s.level (at s.tier i) → ⊥
+    of_shard s good i m far canonical stands =
         let (x, settled) = good.true_is_settled i m canonical (record { own_phase = s.phase; own_level = s.level; stands = stands; before = same_place s.phase s.level }) in
         let (is_true, near) = good.settled_is_true i x m settled in
         let e = stands_remoteness r (at s.tier i) s.phase s.level x stands is_true in
         omega arith
 
-    none_here : (c : Position) → IsAtLevel r s.tier s.phase s.level c → ⊥
-    none_here c (canonical, inl e, stands) = own_none c.index (subst (λ (t : ℕ). IsCanonical r (at t c.index)) e canonical) (subst (λ (t : ℕ). StandsAt r s.phase s.level (at t c.index)) e stands)
-    none_here c (canonical, inr k, stands) = none_below c s.level (omega arith) k canonical stands
+    own_none : (i : ℕ) → IsCanonical r (at place.tier i) → StandsAt r place.phase place.level (at place.tier i) → ⊥
+    own_none i canonical stands =
+        let k = covered i (g.index_below (at place.tier i) canonical.0) in
+        let back = sym k.here in
+        of_shard k.shard k.good i k.mine (subst (λ (p : Place). REMOTENESS < p.level) back above) (subst (λ (p : Place). IsCanonical r (at p.tier i)) back canonical) (subst (λ (p : Place). StandsAt r p.phase p.level (at p.tier i)) back stands)
+
+    none_here : (c : Position) → IsAtLevel r place.tier place.phase place.level c → ⊥
+    none_here c (canonical, inl e, stands) = own_none c.index (subst (λ (t : ℕ). IsCanonical r (at t c.index)) e canonical) (subst (λ (t : ℕ). StandsAt r place.phase place.level (at t c.index)) e stands)
+    none_here c (canonical, inr k, stands) = none_below c place.level (omega arith) k canonical stands
 
 -- so where something is left the level is within the limit
-pub level_near : (r : Rules) → IsGame r → (entries : List TableData) → AreTables r entries → (s : ShardState) → IsGood r s → s.lo ≡ 0 → length s.delivered ≡ r.tier_size s.tier → AreHeld r entries s.tier → s.level ≤ REMOTENESS + 1
-    → (place : Place) → place ≡ place_of s → (IsLastLevel r place.tier place.phase place.level → ⊥) → s.level ≤ REMOTENESS
-level_near r g entries tables s good lo whole held below place here more = elim (cases_lt REMOTENESS s.level) [
-  | inl above ↦ absurd (more (subst (λ (p : Place). IsLastLevel r p.tier p.phase p.level) (sym here) (past_limit r g entries tables s good lo whole held above below)))
+pub level_near : (r : Rules) → IsGame r → (entries : List TableData) → AreTables r entries → (place : Place) → ((i : ℕ) → i < r.tier_size place.tier → IsCovered r place i) → AreHeld r entries place.tier
+    → (IsLastLevel r place.tier place.phase place.level → ⊥) → place.level ≤ REMOTENESS
+level_near r g entries tables place covered held more = elim (cases_lt REMOTENESS place.level) [
+  | inl above ↦ absurd (more (past_limit r g entries tables place covered held above))
   | inr near ↦ near
 ]
+
+-- one shard over a whole tier has every index
+pub whole_covered : (r : Rules) (s : ShardState) → IsGood r s → s.lo ≡ 0 → length s.delivered ≡ r.tier_size s.tier → (i : ℕ) → i < r.tier_size s.tier → IsCovered r (place_of s) i
+whole_covered r s good lo whole i l = record { shard = s; good = good; mine = (omega arith, omega arith); here = refl }

@@ -92,3 +92,11 @@ final_deliveries r g entries tables tier held records is_true t e over phase tie
     let by_phase = subst (λ (ph : Phase). IsNumberBefore r tier 0 (r.tier_size tier) ph e.level e.number) (over.phase ∙ phase) by_hi in
     let by_level = subst (λ (k : ℕ). IsNumberBefore r tier 0 (r.tier_size tier) Ties k e.number) over.level by_phase in
     subst (AreDeliveries r tier) (sym is) (all_deliveries r g entries tables tier held records is_true t.level end_of_ties e.number by_level)
+
+-- the same, of the number of all pairs before the end of ties
+pub end_deliveries : (r : Rules) → IsGame r → (entries : List TableData) → AreTables r entries → (tier : ℕ) → AreHeld r entries tier → (records : List (Option Solved)) → IsTrueTable r REMOTENESS tier records
+    → (place : Place) → place.tier ≡ tier → place.phase ≡ Ties → IsLastLevel r place.tier place.phase place.level → (number : ℕ) → IsNumberBefore r place.tier 0 (r.tier_size place.tier) place.phase place.level number → AreDeliveries r tier number
+end_deliveries r g entries tables tier held records is_true place tier_is phase last number exact =
+    let end = subst (λ (ph : Phase). IsLastLevel r tier ph place.level) phase (subst (λ (u : ℕ). IsLastLevel r u place.phase place.level) tier_is last) in
+    let counted = subst (λ (ph : Phase). IsNumberBefore r tier 0 (r.tier_size tier) ph place.level number) phase (subst (λ (u : ℕ). IsNumberBefore r u 0 (r.tier_size u) place.phase place.level number) tier_is exact) in
+    all_deliveries r g entries tables tier held records is_true place.level end number counted

@@ -1,5 +1,5 @@
 -- A shard to which every pair of a level is delivered.
-use Rattle.std.proofs.Common.{◌≡◌, ℕ, ◌*◌, ◌-◌, ◌<◌, ◌≤◌, ◌⊎◌, ◌^◌, inl, inr, List, [], ◌∷◌, length, take, drop, refl, sym, ap, subst, ◌∙◌, arith, get_or-set_same, get_or-set_other, length-set, Result, Ok, Err}
+use Rattle.std.proofs.Common.{◌≡◌, ℕ, ◌+◌, ◌*◌, ◌-◌, ◌<◌, ◌≤◌, ◌⊎◌, ◌^◌, inl, inr, List, [], ◌∷◌, length, take, drop, refl, sym, ap, subst, ◌∙◌, arith, get_or-set_same, get_or-set_other, length-set, Result, Ok, Err}
 use Rattle.std.specs.List.{Contains}
 use Rattle.std.specs.Result.{IsOk}
 use Rattle.std.proofs.lemmas.Bool.{cases_eq}
@@ -122,12 +122,12 @@ one_delivered r s t pairs rest note parent answer here d h = record {
   ];
 }
 
--- the pairs of a level into the whole tier, by a piece that has all notes
-module _ (r : Rules) (g : IsGame r) (s : ShardState) (lo : s.lo ≡ 0) (whole : length s.delivered ≡ r.tier_size s.tier) (l : LevelData) (place : l.place ≡ place_of s) (level : IsLevel r l.place l.notes) (n : ℕ) (long : length l.notes ≤ n) (hi : ℕ) (to : hi ≡ r.tier_size s.tier) where
+-- the pairs of a level into a shard's range, by a piece that has all notes
+module _ (r : Rules) (g : IsGame r) (s : ShardState) (l : LevelData) (place : l.place ≡ place_of s) (level : IsLevel r l.place l.notes) (n : ℕ) (long : length l.notes ≤ n) (lo hi : ℕ) (from : lo ≡ s.lo) (to : hi ≡ s.lo + length s.delivered) where
   -- each is one for the shard
-  pub pair_deliverable : (pair : NoteData × ℕ) → Contains (pairs_of r l.place.tier 0 hi (piece_of 0 n l.notes)) pair → IsDeliverable r s pair
+  pub pair_deliverable : (pair : NoteData × ℕ) → Contains (pairs_of r l.place.tier lo hi (piece_of 0 n l.notes)) pair → IsDeliverable r s pair
   pair_deliverable pair h =
-      let (note, parent, low, high) = in_pairs r l.place.tier 0 hi (piece_of 0 n l.notes) pair h in
+      let (note, parent, low, high) = in_pairs r l.place.tier lo hi (piece_of 0 n l.notes) pair h in
       let noted = level.noted pair.0 (in_piece 0 n l.notes pair.0 note) in
       let canonical = piece_canonical r g l.place l.notes level 0 n pair.0 note in
       record {
@@ -140,14 +140,13 @@ module _ (r : Rules) (g : IsGame r) (s : ShardState) (lo : s.lo ≡ 0) (whole : 
       }
 
   -- they are few
-  pub pairs_fit : r.tier_size s.tier ≤ TIER_SIZE → length (pairs_of r l.place.tier 0 hi (piece_of 0 n l.notes)) < 2 ^ 64
+  pub pairs_fit : r.tier_size l.place.tier ≤ TIER_SIZE → length (pairs_of r l.place.tier lo hi (piece_of 0 n l.notes)) < 2 ^ 64
   pairs_fit small =
-      let few = notes_few r g l.place.tier 0 hi (piece_of 0 n l.notes) (piece_positions_once r g l.place l.notes level 0 n) (piece_canonical r g l.place l.notes level 0 n) in
-      let same : r.tier_size l.place.tier ≡ r.tier_size s.tier = ap (λ (p : Place). r.tier_size p.tier) place in
+      let few = notes_few r g l.place.tier lo hi (piece_of 0 n l.notes) (piece_positions_once r g l.place l.notes level 0 n) (piece_canonical r g l.place l.notes level 0 n) in
       omega arith
 
   -- where all are delivered the level is whole
-  pub whole_from : (t : ShardState) → IsSameSpot s t → IsGood r t → ((pair : NoteData × ℕ) → Contains (pairs_of r l.place.tier 0 hi (piece_of 0 n l.notes)) pair → Contains (delivered_to t pair.1) pair.0.position) → IsWhole r t
+  pub whole_from : (t : ShardState) → IsSameSpot s t → IsGood r t → ((pair : NoteData × ℕ) → Contains (pairs_of r l.place.tier lo hi (piece_of 0 n l.notes)) pair → Contains (delivered_to t pair.1) pair.0.position) → IsWhole r t
   whole_from t same good all i c m parent before = elim (split_level r t.phase t.level c before) [
     | inl earlier ↦ good.whole i c m parent earlier
     | inr stands ↦ (let near = near_of_pair r g t.tier i c parent in
@@ -161,8 +160,8 @@ module _ (r : Rules) (g : IsGame r) (s : ShardState) (lo : s.lo ≡ 0) (whole : 
         let listed = (g.parents_exact note.position l.place.tier i canonical).1 (subst (λ (d : Position). IsParent r d l.place.tier i) (sym e) (subst (λ (u : ℕ). IsParent r c u i) tier parent)) in
         let in_piece_too = subst (λ (ns : List NoteData). Contains ns note) (sym (whole_piece l.notes n long)) among in
         let size = same.size in
-        let from = same.lo in
-        let pair = pairs_have r l.place.tier 0 hi (piece_of 0 n l.notes) note i in_piece_too listed (omega arith) (omega arith) in
+        let low = same.lo in
+        let pair = pairs_have r l.place.tier lo hi (piece_of 0 n l.notes) note i in_piece_too listed (omega arith) (omega arith) in
         subst (λ (d : Position). Contains (delivered_to t i) d) e (all (note, i) pair))
   ]
     where

@@ -4,9 +4,11 @@ ghost use Rattle.std.specs.List.{Contains};
 ghost use Rattle.gm_frontier.specs.Notes.{NoteData};
 ghost use Rattle.gm_shard.specs.State.{delivered_to};
 ghost use Rattle.gm_solver.specs.Solving.{IsError};
+ghost use Rattle.gm_shard.specs.Steps.{place_of, IsWhole};
 ghost use Rattle.gm_solver.specs.Over.{IsSameSpot, IsDeliverable};
 
 use crate::error::SolveError;
+use gm_frontier::level::Level;
 use gm_frontier::pairs::Pairs;
 use gm_game::game::Game;
 use gm_game::limits::REMOTENESS;
@@ -38,4 +40,22 @@ pub(crate) fn deliver_pairs<G: Game>(
         }
     }
     Ok(count)
+}
+
+/// Delivers a level's pairs into the shard's range. After that each pair of the range whose child stands at or before the shard's place is there.
+pub(crate) fn deliver_level<G: Game>(
+    shard: &mut Shard<G>,
+    level: &Level<G>,
+) -> Result<(), SolveError>
+    requires place { level.now.place ≡ place_of shard.old }
+    requires near { shard.old.level ≤ REMOTENESS }
+    ensures same { IsSameSpot shard.old shard.new }
+    ensures whole { OnOk result (IsWhole G.rules shard.new) }
+    ensures error { IfErr result (IsError G.rules shard.old.tier) }
+{
+    let (lo, hi) = shard.range();
+    let _level = level.place();
+    deliver_pairs(shard, level.pairs(0, level.len().max(1), lo, hi))?;
+    let _good = shard.range();
+    Ok(())
 }

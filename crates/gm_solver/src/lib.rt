@@ -5,13 +5,20 @@
 
 pub mod alone;
 pub mod board;
+mod crew;
 mod deliver;
 pub mod error;
+mod found;
 pub mod gate;
 pub mod held;
+mod levels;
 pub mod phase;
+mod pieces;
 pub mod plan;
+mod round;
 pub mod share;
 pub mod source;
 pub mod starts;
 pub mod tier;
+mod tiles;
+mod work;

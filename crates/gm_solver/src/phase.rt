@@ -6,7 +6,7 @@ ghost use Rattle.gm_shard.specs.Steps.{place_of};
 ghost use Rattle.gm_solver.specs.Solving.{IsError};
 ghost use Rattle.gm_solver.specs.Over.{IsOver, IsLater, IsNext};
 
-use crate::deliver::deliver_pairs;
+use crate::deliver::deliver_level;
 use crate::error::SolveError;
 use gm_frontier::expected::Expected;
 use gm_frontier::last::Last;
@@ -30,10 +30,7 @@ fn finish_level<G: Game>(
     ensures next { OnOk result (IsNext shard.old shard.new) }
     ensures error { IfErr result (IsError G.rules shard.old.tier) }
 {
-    let (lo, hi) = shard.range();
-    let _level = level.place();
-    deliver_pairs(shard, level.pairs(0, level.len().max(1), lo, hi))?;
-    let _good = shard.range();
+    deliver_level(shard, level)?;
     expected.add(level);
     shard.close(expected).unwrap();
     Ok(())

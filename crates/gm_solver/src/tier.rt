@@ -3,11 +3,12 @@ ghost use Rattle.std.specs.Prelude.{◌≡◌, ◌≤◌, IfOk, IfErr, OnOk};
 ghost use Rattle.gm_table.specs.Tables.{AreHeld, IsTable};
 ghost use Rattle.gm_solver.specs.Solving.{IsError, IsTooFar, AreDeliveries};
 
-use crate::alone::solve_alone;
 use crate::error::SolveError;
 use crate::gate::Gate;
+use crate::levels::finish_levels;
 use crate::plan::Plan;
 use crate::source::Source;
+use crate::tiles::{begin_tiles, tile_width};
 use gm_game::game::Game;
 use gm_game::limits::TIER_SIZE;
 use gm_table::table::Table;
@@ -25,17 +26,21 @@ pub struct Report {
     pub by_hand: u64,
 }
 
-/// Solves a tier: its true table, and what it took. Neither the table nor the number of deliveries depends on the plan, the gate or the source.
+/// Solves a tier: its true table, and what it took. Neither the table nor the number of deliveries depends on the plan, the gate or the source, or on the order in which threads take the locks.
 ///
-/// There are no workers yet: the tier is solved by `solve_alone`, which asks neither the gate nor the source, and all deliveries are by hand.
+/// The tier is split into the plan's shards. At each level workers, each in a thread of its own, ask the source for pieces of the level and deliver their pairs to the
+/// shards' locks. After they have ended the coordinator delivers what is missing, which is `by_hand`. A worker that can't be started is done without.
+///
+/// The tables of the child tiers are given, and the tier has at most `TIER_SIZE` indexes. `TooFar` comes only where a canonical legal position of the tier has a
+/// remoteness one above the limit, and where there is one the answer is never `Ok`.
 pub fn solve_tier<G: Game + Send + Sync, R: Threads + Wait + Sync, T: Gate, S: Source>(
-    _rt: &R,
+    rt: &R,
     alloc: Global,
     tier: u64,
     tables: &Tables<G>,
-    _plan: Plan,
-    _gate: &T,
-    _source: &S,
+    plan: Plan,
+    gate: &T,
+    source: &S,
 ) -> Result<(Table<G>, Report), SolveError>
     requires held { AreHeld G.rules tables.now tier }
     requires small { G.rules.tier_size tier ≤ TIER_SIZE }
@@ -46,10 +51,15 @@ pub fn solve_tier<G: Game + Send + Sync, R: Threads + Wait + Sync, T: Gate, S: S
     ensures near { OnOk result (IsTooFar G.rules tier → ⊥) }
     ensures error { IfErr result (IsError G.rules tier) }
 {
-    let (table, deliveries) = solve_alone(alloc, tier, tables)?;
+    let width = tile_width::<G>(tier, plan.shards());
+    let tiles = begin_tiles::<G, R>(rt, alloc, tier, width)?;
+    let (mut tiles, last, wins) = finish_levels(rt, alloc, tables, plan, gate, source, tiles)?;
+    tiles.next_phase(&last);
+    let (tiles, last, ties) = finish_levels(rt, alloc, tables, plan, gate, source, tiles)?;
+    let (table, deliveries) = tiles.table(alloc, tables, &last)?;
     let report = Report {
         deliveries,
-        by_hand: deliveries,
+        by_hand: deliveries.saturating_sub(wins.saturating_add(ties)),
     };
     Ok((table, report))
 }

@@ -2,9 +2,16 @@
 #![tactic(auto)]
 
 #[cfg(test)]
+mod boards;
+#[cfg(test)]
 mod by_hand;
+pub mod crews;
+pub mod desks;
 pub mod holding;
 #[cfg(test)]
 mod parts;
+pub mod sources;
 #[cfg(test)]
 mod tables;
+#[cfg(test)]
+mod workers;

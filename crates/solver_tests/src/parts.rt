@@ -81,7 +81,7 @@ fn deliveries_of_countdown(rt: HostRuntime) -> Result<(), Fail> {
         });
         assert_eq!(rt; table.at(10), top);
         assert_eq!(rt; report.deliveries, 19);
-        assert_eq!(rt; report.by_hand, 19);
+        assert_eq!(rt; report.by_hand, 0);
     }
     Ok(())
 }

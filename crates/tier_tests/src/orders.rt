@@ -1,3 +1,5 @@
+use gm_hare::hare::Hare;
+use gm_tactix::tactix::TacTix;
 use gm_tiers::order::TierOrder;
 use gm_tiers::tier_error::TierError;
 use gm_toys::chain::Chain;
@@ -26,6 +28,15 @@ fn stairs_come_from_below(rt: HostRuntime) -> Result<(), Fail> {
     for (index, tier) in many.tiers().iter().enumerate() {
         assert_eq!(rt; *tier, index as u64);
     }
+    Ok(())
+}
+
+#[test]
+fn games_on_boards_come_from_their_ends(rt: HostRuntime) -> Result<(), Fail> {
+    let tactix = TierOrder::<TacTix<2, false>>::from_initial(rt.alloc())?;
+    assert_eq!(rt; tactix.tiers(), [0, 1, 2, 3, 4].as_slice());
+    let hare = TierOrder::<Hare>::from_initial(rt.alloc())?;
+    assert_eq!(rt; hare.tiers(), [10, 9, 8, 7, 6, 5, 4, 3, 2].as_slice());
     Ok(())
 }
 

@@ -1,0 +1,15 @@
+//! The worked values of builds: whole games over stores that fail, and over files that are damaged; and of answers over what is built.
+#![tactic(auto)]
+
+#[cfg(test)]
+mod answers;
+#[cfg(test)]
+mod damaged;
+#[cfg(test)]
+mod failing;
+#[cfg(test)]
+mod files;
+#[cfg(test)]
+mod games;
+#[cfg(test)]
+mod work;

@@ -1,0 +1,48 @@
+//! Builds with two workers, two shards and pieces of one note.
+use gm_build::build::{Built, build};
+use gm_build::build_error::BuildError;
+use gm_game::game::Game;
+use gm_solver::gate::NoGate;
+use gm_solver::plan::Plan;
+use gm_solver::source::Counter;
+use gm_tierdb::store::Store;
+use std::alloc::Global;
+use std::fs::Files;
+use std::sync::Wait;
+use std::thread::Threads;
+
+/// What a build took: how many tiers were solved, how many reused, and the number of deliveries.
+#[derive(Clone, Copy, Debug, PartialEq, Eq)]
+pub(crate) struct Took {
+    pub(crate) solved: usize,
+    pub(crate) reused: usize,
+    pub(crate) deliveries: u64,
+}
+
+/// Builds a game over a store.
+pub(crate) fn built<G: Game + Send + Sync, R: Threads + Wait + Files + Sync, S: Store>(
+    rt: &R,
+    alloc: Global,
+    store: &mut S,
+) -> Result<Built<G>, BuildError> {
+    match Plan::new(2, 2, 1) {
+        Some(plan) if store.failures() < u64::MAX => {
+            build(rt, alloc, store, plan, &NoGate, &Counter::new())
+        }
+        _ => Err(BuildError::OutOfMemory),
+    }
+}
+
+/// What it takes to build a game over a store.
+pub(crate) fn work<G: Game + Send + Sync, R: Threads + Wait + Files + Sync, S: Store>(
+    rt: &R,
+    alloc: Global,
+    store: &mut S,
+) -> Result<Took, BuildError> {
+    let built: Built<G> = built(rt, alloc, store)?;
+    Ok(Took {
+        solved: built.solved,
+        reused: built.reused,
+        deliveries: built.deliveries,
+    })
+}

@@ -1,0 +1,9 @@
+//! The worked values of the games that are solved tier by tier.
+#![tactic(auto)]
+
+#[cfg(test)]
+mod nine_points;
+#[cfg(test)]
+mod rings;
+#[cfg(test)]
+mod solving;

@@ -1,0 +1,103 @@
+//! Games of nine points, solved from their last tier to their first.
+use crate::solving::{agrees, solve_tiers};
+use gm_game::game::Game;
+use gm_game::position::{Position, Solved, Value};
+use gm_morris::games::{Achi, ThreeMens, TicTacToe};
+use gm_table::tables::Tables;
+use std::test::Fail;
+
+// Positions of a tier: those with a value, those with a record, and of these the lost and the tied ones of remoteness 0.
+#[derive(Clone, Copy, Debug, PartialEq, Eq)]
+struct Counts {
+    legal: u64,
+    canonical: u64,
+    lost: u64,
+    tied: u64,
+}
+
+impl Counts {
+    const NONE: Counts = Counts {
+        legal: 0,
+        canonical: 0,
+        lost: 0,
+        tied: 0,
+    };
+
+    // One more position with this value.
+    fn and(self, solved: Solved, is_canonical: bool) -> Counts {
+        let ended = is_canonical && solved.remoteness == 0;
+        Counts {
+            legal: self.legal.saturating_add(1),
+            canonical: self.canonical.saturating_add(u64::from(is_canonical)),
+            lost: self
+                .lost
+                .saturating_add(u64::from(ended && solved.value == Value::Lose)),
+            tied: self
+                .tied
+                .saturating_add(u64::from(ended && solved.value == Value::Tie)),
+        }
+    }
+}
+
+// What a tier adds to the counts.
+fn with_tier<G: Game>(tables: &Tables<G>, tier: u64, before: Counts) -> Counts {
+    let mut counts = before;
+    for index in 0..G::tier_size(tier) {
+        let p = Position { tier, index };
+        if let Some(solved) = tables.get(p) {
+            counts = counts.and(solved, is_recorded(tables, p));
+        }
+    }
+    counts
+}
+
+// Whether the table of a position's tier has a record at its index.
+fn is_recorded<G: Game>(tables: &Tables<G>, p: Position) -> bool {
+    match tables.table(p.tier) {
+        Some(table) => table.at(p.index).is_some(),
+        None => false,
+    }
+}
+
+#[test]
+fn tictactoe_table(rt: HostRuntime) -> Result<(), Fail> {
+    let tiers = [9, 8, 7, 6, 5, 4, 3, 2, 1, 0];
+    let tables = solve_tiers::<TicTacToe>(rt.alloc(), &tiers)?.ok_or("a child tier is missing")?;
+    let start = Some(Solved {
+        value: Value::Tie,
+        remoteness: 9,
+    });
+    assert_eq!(rt; tables.get(TicTacToe::initial()), start);
+    let mut counts = Counts::NONE;
+    for tier in tiers {
+        counts = with_tier(&tables, tier, counts);
+    }
+    let expected = Counts {
+        legal: 5478,
+        canonical: 765,
+        lost: 135,
+        tied: 3,
+    };
+    assert_eq!(rt; counts, expected);
+    Ok(())
+}
+
+#[test]
+fn threemens_agrees_with_looking_ahead(rt: HostRuntime) -> Result<(), Fail> {
+    let tiers = [6, 5, 4, 3, 2, 1, 0];
+    let tables = solve_tiers::<ThreeMens>(rt.alloc(), &tiers)?.ok_or("a child tier is missing")?;
+    for tier in tiers {
+        assert!(rt; agrees(&tables, tier));
+    }
+    Ok(())
+}
+
+#[test]
+fn achi_agrees_with_looking_ahead(rt: HostRuntime) -> Result<(), Fail> {
+    let tiers = [8, 7, 6, 5, 4, 3, 2, 1, 0];
+    let tables = solve_tiers::<Achi>(rt.alloc(), &tiers)?.ok_or("a child tier is missing")?;
+    for tier in tiers {
+        assert!(rt; agrees(&tables, tier));
+    }
+    Ok(())
+}

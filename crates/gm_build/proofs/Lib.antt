@@ -1,0 +1,5 @@
+pub mod WorkLemmas
+pub mod StoreLemmas
+pub mod OrderLemmas
+pub mod SoFar
+pub mod ErrorLemmas

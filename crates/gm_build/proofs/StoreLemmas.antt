@@ -1,0 +1,70 @@
+-- What becomes of the texts and tables of the tiers before, when one tier more is built.
+use Rattle.std.proofs.Common.{◌≡◌, ◌≢◌, ◌==◌, ℕ, ◌⊎◌, ◌↔◌, inl, inr, true, false, if◌then◌else◌, List, [], ◌∷◌, ◌++◌, Some, IsSome, refl, ap, sym, subst, ◌∙◌, eqb-true, eq-eqb}
+use Rattle.std.specs.List.{Contains}
+use Rattle.std.proofs.lemmas.List.Elements.{Contains-append_left, Contains-push, Contains-push_cases}
+use Rattle.gm_game.specs.Rules.{Rules}
+use Rattle.gm_table.specs.Tables.{TableData, IsTable, table_of, Inserts, IsHeld}
+use Rattle.gm_tierdb.specs.TierText.{IsTierText}
+use Rattle.gm_tierdb.specs.StoreTexts.{Texts, AreSameBut}
+use Rattle.gm_build.specs.TrueTexts.{IsTrueText, HasText, HaveTexts, KeepsOthers}
+use Rattle.gm_build.specs.Work.{HoldsExactly, HoldsToo}
+
+-- an entry that stays the same stays the text of the true table
+pub text_kept : (r : Rules) (old new : Texts) (tier : ℕ) → new tier ≡ old tier → HasText r old tier → HasText r new tier
+text_kept r old new tier e h = record { bytes = h.bytes; entry = e ∙ h.entry; is_true = h.is_true }
+
+-- the text of a table that is written is that of the true table of its tier
+pub text_written : (r : Rules) (new : Texts) (table : TableData) (tier : ℕ) (file bytes : List ℕ) → IsTable r table → table.tier ≡ tier → IsTierText r table.tier table.records file → bytes ≡ file → new tier ≡ Some bytes → HasText r new tier
+text_written r new table tier file bytes is e text same entry =
+    let written : IsTrueText r table.tier bytes = record { records = table.records; is_true = is.is_true; text = subst (IsTierText r table.tier table.records) (sym same) text } in
+    record { bytes = bytes; entry = entry; is_true = subst (λ (t : ℕ). IsTrueText r t bytes) e written }
+
+module _ (r : Rules) (front : List ℕ) (tier : ℕ) (fresh : Contains front tier → ⊥) where
+  -- the tier's entry is still as at the start
+  pub text_as_before : (start old : Texts) → KeepsOthers front start old → HasText r start tier ↔ HasText r old tier
+  text_as_before start old others =
+      let e : old tier ≡ start tier = others tier fresh in (λ h. text_kept r start old tier e h, λ h. text_kept r old start tier (sym e) h)
+
+  not_here : (t : ℕ) → Contains front t → t ≢ tier
+  not_here t i e = fresh (subst (Contains front) e i)
+
+  -- the tiers before keep their texts
+  pub texts_kept : (old new : Texts) → HaveTexts r old front → AreSameBut tier old new → HaveTexts r new front
+  texts_kept old new have same t i = text_kept r old new t (same t (not_here t i)) (have t i)
+
+  -- and the tier has its own
+  pub texts_more : (old new : Texts) → HaveTexts r old front → AreSameBut tier old new → HasText r new tier → HaveTexts r new (front ++ tier ∷ [])
+  texts_more old new have same here t i =
+      elim (Contains-push_cases front tier t i) [ inl h ↦ texts_kept old new have same t h | inr e ↦ subst (HasText r new) e here ]
+
+  -- all others are as at the start
+  pub others_more : (start old new : Texts) → KeepsOthers front start old → AreSameBut tier old new → KeepsOthers (front ++ tier ∷ []) start new
+  others_more start old new others same t absent =
+      same t (λ e. absent (subst (Contains (front ++ tier ∷ [])) (sym e) (Contains-push front tier)))
+      ∙ others t (λ i. absent (Contains-append_left front (tier ∷ []) t i))
+
+-- a table that is inserted is held, and all that were
+pub holds_too : (old new : List TableData) (table : TableData) (tier : ℕ) → table.tier ≡ tier → Inserts old new table → HoldsToo tier old new
+holds_too old new table tier is inserts t =
+    elim (table.tier == t) as (λ b. table.tier == t ≡ b → IsHeld new t ↔ (IsHeld old t ⊎ (tier ≡ t))) [
+      | true ↦ λ e. (
+        λ h. inr (sym is ∙ eqb-true table.tier t e),
+        λ o. subst IsSome (sym (inserts t ∙ ap (λ b. if b then Some table else table_of old t) e)) refl,
+      )
+      | false ↦ λ e. (
+        λ h. inl (subst IsSome (inserts t ∙ ap (λ b. if b then Some table else table_of old t) e) h),
+        λ o. elim o [
+          | inl h ↦ subst IsSome (sym (inserts t ∙ ap (λ b. if b then Some table else table_of old t) e)) h
+          | inr k ↦ absurd (let y : table.tier == t ≡ true = eq-eqb table.tier t (is ∙ k) in cc)
+        ],
+      )
+    ] refl
+
+pub holds_more : (old new : List TableData) (front : List ℕ) (tier : ℕ) → HoldsExactly old front → HoldsToo tier old new → HoldsExactly new (front ++ tier ∷ [])
+holds_more old new front tier exact too t = (
+  λ h. elim ((too t).0 h) [
+    | inl k ↦ Contains-append_left front (tier ∷ []) t ((exact t).0 k)
+    | inr e ↦ subst (Contains (front ++ tier ∷ [])) e (Contains-push front tier)
+  ],
+  λ h. (too t).1 (elim (Contains-push_cases front tier t h) [ inl i ↦ inl ((exact t).1 i) | inr e ↦ inr e ]),
+)

@@ -1,0 +1,75 @@
+-- How a build ends without its tables, and what the store has then.
+use Rattle.std.specs.Prelude.{◌≡◌, ℕ, ◌⊎◌, ◌+◌, List, take, slice_get, Some, Result, Ok, Err}
+use Rattle.gm_game.specs.declared.limits.TheConstants.{TIERS}
+use Rattle.gm_game.specs.Rules.{Rules}
+use Rattle.gm_tiers.specs.declared.tier_error.TierError.{TierError}
+use Rattle.gm_tiers.specs.declared.tier_error.TierError.TheVariants.{OutOfMemory as NoRoom, TooManyTiers as TooMany, TierTooLarge as TooLarge}
+use Rattle.gm_tiers.specs.Reach.{IsReached}
+use Rattle.gm_tiers.specs.Orders.{IsTierOrder}
+use Rattle.gm_tiers.specs.Limits.{HasTooMany, AreMoreThan, IsTooLarge}
+use Rattle.gm_tierdb.specs.StoreTexts.{Texts, AreSame}
+use Rattle.gm_solver.specs.Solving.{IsTooFar}
+use Rattle.gm_build.specs.declared.build_error.BuildError.{BuildError}
+use Rattle.gm_build.specs.declared.build_error.BuildError.TheVariants.{OutOfMemory, TooFar, StoreFailed, TooManyTiers, TierTooLarge}
+use Rattle.gm_build.specs.TrueTexts.{HasText, HaveTexts, KeepsOthers}
+
+-- the build's error for one of the order
+abbrev pub of_tier_error : TierError → BuildError
+of_tier_error NoRoom = OutOfMemory
+of_tier_error TooMany = TooManyTiers
+of_tier_error (TooLarge tier) = TierTooLarge tier
+
+-- how many failures of the store an answer is
+abbrev pub failures_in : {T : Type 0} → Result T BuildError → ℕ
+failures_in (Ok x) = 0
+failures_in (Err OutOfMemory) = 0
+failures_in (Err (TooFar tier)) = 0
+failures_in (Err (StoreFailed tier)) = 1
+failures_in (Err TooManyTiers) = 0
+failures_in (Err (TierTooLarge tier)) = 0
+
+-- a tier is not built for this reason
+abbrev pub IsTierError : Rules → ℕ → BuildError → Type 0
+IsTierError r tier OutOfMemory = Unit {0}
+IsTierError r tier (TooFar t) = (t ≡ tier) × IsTooFar r tier
+IsTierError r tier (StoreFailed t) = t ≡ tier
+IsTierError r tier TooManyTiers = ⊥
+IsTierError r tier (TierTooLarge t) = ⊥
+
+-- a game is not built for this reason
+abbrev pub IsBuildError : Rules → BuildError → Type 0
+IsBuildError r OutOfMemory = Unit {0}
+IsBuildError r (TooFar tier) = IsReached r tier × IsTooFar r tier
+IsBuildError r (StoreFailed tier) = IsReached r tier
+IsBuildError r TooManyTiers = HasTooMany r × AreMoreThan r TIERS
+IsBuildError r (TierTooLarge tier) = IsTooLarge r tier × IsReached r tier
+
+-- the tier's entry is as before, or the text of its true table
+abbrev pub MayHaveText : Rules → Texts → Texts → ℕ → Type 0
+MayHaveText r old new tier = (new tier ≡ old tier) ⊎ HasText r new tier
+
+-- a build stopped at this tier: those before it in the order have their texts, and no entry has changed after it
+pub record StopsAt (r : Rules) (old new : Texts) (tier : ℕ) : Type 0 where
+  pub tiers : List ℕ
+  pub order : IsTierOrder r tiers
+  pub done : ℕ
+  pub next : slice_get tiers done ≡ Some tier
+  pub texts : HaveTexts r new (take done tiers)
+  pub here : MayHaveText r old new tier
+  pub others : KeepsOthers (take (done + 1) tiers) old new
+
+-- what the store has after an error
+abbrev pub IsStopped : Rules → Texts → Texts → BuildError → Type 0
+IsStopped r old new OutOfMemory = AreSame old new ⊎ ((tier : ℕ) × StopsAt r old new tier)
+IsStopped r old new (TooFar tier) = StopsAt r old new tier
+IsStopped r old new (StoreFailed tier) = StopsAt r old new tier
+IsStopped r old new TooManyTiers = AreSame old new
+IsStopped r old new (TierTooLarge tier) = AreSame old new
+
+-- the numbers of the errors
+abbrev pub number_of : BuildError → ℕ
+number_of OutOfMemory = 1
+number_of (TooFar tier) = 2
+number_of (StoreFailed tier) = 3
+number_of TooManyTiers = 4
+number_of (TierTooLarge tier) = 5

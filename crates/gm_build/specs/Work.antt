@@ -1,0 +1,35 @@
+-- What a build has done with some tiers.
+use Rattle.std.specs.Prelude.{◌≡◌, ℕ, ◌≤◌, ◌↔◌, ◌⊎◌, List}
+use Rattle.std.specs.List.{Contains}
+use Rattle.gm_game.specs.declared.position.Position.{Position}
+use Rattle.gm_game.specs.Rules.{Rules}
+use Rattle.gm_game.specs.Numbers.{AreThere}
+use Rattle.gm_table.specs.Tables.{TableData, IsHeld}
+use Rattle.gm_solver.specs.Solving.{IsDelivery}
+
+-- a pair of one of the tiers that was solved, whose child is no draw
+pub record IsSolvedDelivery (r : Rules) (tiers : List ℕ) (IsReused : ℕ → Type 0) (d : ℕ × (Position × ℕ)) : Type 0 where
+  pub there : Contains tiers d.0
+  pub solved : IsReused d.0 → ⊥
+  pub delivery : IsDelivery r d.0 d.1
+
+-- some of the tiers were reused and all others solved: how many of each, how many deliveries that took, and that no more of them were by hand
+pub record IsWorkOn (r : Rules) (tiers : List ℕ) (IsReused : ℕ → Type 0) (solved reused deliveries by_hand : ℕ) : Type 0 where
+  pub those_solved : AreThere solved (λ tier. Contains tiers tier × (IsReused tier → ⊥))
+  pub those_reused : AreThere reused (λ tier. Contains tiers tier × IsReused tier)
+  pub those_delivered : AreThere deliveries (IsSolvedDelivery r tiers IsReused)
+  pub few_by_hand : by_hand ≤ deliveries
+
+-- the same, whichever of them were reused
+pub record IsSomeWork (r : Rules) (tiers : List ℕ) (solved reused deliveries by_hand : ℕ) : Type 0 where
+  pub reused_tiers : List ℕ
+  pub among : (tier : ℕ) → Contains reused_tiers tier → Contains tiers tier
+  pub work : IsWorkOn r tiers (Contains reused_tiers) solved reused deliveries by_hand
+
+-- exactly these tiers have a table
+abbrev pub HoldsExactly : List TableData → List ℕ → Type 0
+HoldsExactly entries tiers = (tier : ℕ) → IsHeld entries tier ↔ Contains tiers tier
+
+-- this tier has a table as well as those before
+abbrev pub HoldsToo : ℕ → List TableData → List TableData → Type 0
+HoldsToo tier old new = (t : ℕ) → IsHeld new t ↔ (IsHeld old t ⊎ (tier ≡ t))

@@ -1,0 +1,5 @@
+pub mod PointSteps
+pub mod HoundSteps
+pub mod Boards
+pub mod GoSteps
+pub mod ReadSteps

@@ -1,0 +1,7 @@
+use Rattle.std.proofs.Common.{◌≡◌, map}
+use Rattle.std.specs.List.{range_with_len}
+use Rattle.gm_hare.specs.Texts.{hunt_char}
+use Rattle.gm_hare.proofs.text.hunt_text.Given as goal
+
+abbrev pub invariant-loop-place : goal.invariant-loop-place
+invariant-loop-place l = l.line.items ≡ map (hunt_char l.board) (range_with_len 0 l.place)

@@ -1,0 +1,400 @@
+-- Hare and Hounds has the laws of a game.
+use Rattle.std.proofs.Common.{◌≡◌, ◌≢◌, ℕ, ◌+◌, ◌-◌, ◌*◌, ◌/◌, ◌%◌, ◌<◌, ◌≤◌, Bool, true, false, not, ◌&&◌, ◌||◌, if◌then◌else◌, eqb, leb, List, [], ◌∷◌, reverse, length, set, None, Some, refl, sym, ap, ap₂, ◌∙◌, subst, arith, inl, inr, ◌⊎◌}
+use Rattle.std.specs.List.{Contains, list_all, range_with_len}
+use Rattle.std.proofs.lemmas.Bool.{cases_Bool, cond-true, cond-false, cond_both, true≢false}
+use Rattle.std.proofs.lemmas.Bool.Decides.{nat_tests}
+use Rattle.std.proofs.lemmas.Nat.{div-mul-add, mod-mul-add}
+use Rattle.std.proofs.lemmas.List.{length-reverse, reverse-reverse}
+use Rattle.gm_game.specs.declared.position.End.TheVariants.{Lose, Win}
+use Rattle.gm_game.specs.Texts.{IsPaddedText}
+use Rattle.gm_game.specs.Laws.{IsGame}
+use Rattle.gm_game.specs.Rules.{at, IsAscending}
+use Rattle.gm_game.specs.Boards.{position_of, IsBefore, IsBoardGame, IsNumbered, IsSymmetric}
+use Rattle.gm_game.proofs.BoardParents.{symmetric_is_game}
+use Rattle.gm_board.specs.Lists.{contains_head, contains_later, contains_cases, contains_range, range_below}
+use Rattle.gm_board.specs.Binomials.{binomial}
+use Rattle.gm_board.specs.Ranks.{members, rank, unrank, rank_below, rank_unrank, unrank_rank}
+use Rattle.gm_board.specs.Patterns.{same_tests}
+use Rattle.gm_board.specs.Permutations.{permute, permute_get, permute_length, all_at}
+use Rattle.gm_board.specs.Groups.{image_slide}
+use Rattle.gm_steps.specs.Steps.{step_number, from_point, to_point, from_back, to_back}
+use Rattle.gm_steps.specs.Listed.{nil_or}
+use Rattle.gm_hare.specs.declared.hunt.Hunt.{Hunt}
+use Rattle.gm_hare.specs.Board.{column, has_hound, hunt_tier, has_escaped, legal, moves, hound_gone, hare_gone, gone, play, lost, ended, mirror, mirror_point, mirrored, turn_of, hunt_index, hunt_board, hare_name, hare_and_hounds, hare_rules}
+use Rattle.gm_hare.specs.PointFacts.{joined_from, joined_to, mirror_below, mirror_twice, mirror_column, mirror_joined, mirror_ahead, two, two_group, mirror_in}
+use Rattle.gm_hare.specs.HoundFacts.{count, members_count, same_hunt, for_eleven, mirror_count, mirror_columns, mirror_hounds_twice, three_columns}
+use Rattle.gm_hare.specs.MoveFacts.{IsLegal, legal_in, legal_from, IsMove, move_in, move_from, move_taken, taken_move, step_below, moves_ascending, moves_few, gone_legal, gone_tier, IsTakenFrom, befores_in, befores_from, befores_few}
+
+-- ---- tiers
+abbrev pub tier_size_of : ℕ → ℕ
+tier_size_of t = if (leb 2 t && leb t 10) then 3630 else 0
+
+abbrev pub child_tiers_of : ℕ → List ℕ
+child_tiers_of t = if (leb 2 t && leb t 9) then (t + 1) ∷ [] else []
+
+abbrev pub tier_rank_of : ℕ → ℕ
+tier_rank_of t = if (leb 2 t && leb t 10) then 10 - t else 0
+
+size_in : (t : ℕ) → 2 ≤ t → t ≤ 10 → tier_size_of t ≡ 3630
+size_in t l h = grind (arith, nat_tests)
+
+size_most : (t : ℕ) → tier_size_of t ≤ 3630
+size_most t = cond_both (leb 2 t && leb t 10) 3630 0 (λ (n : ℕ). n ≤ 3630) (λ e. omega arith) (λ e. omega arith)
+
+child_in : (t : ℕ) → 2 ≤ t → t ≤ 9 → (leb 2 t && leb t 9) ≡ true
+child_in t l h = grind (arith, nat_tests)
+
+child_bounds : (t : ℕ) → (leb 2 t && leb t 9) ≡ true → (2 ≤ t) × (t ≤ 9)
+child_bounds t e = (grind (arith, nat_tests), grind (arith, nat_tests))
+
+rank_in : (t : ℕ) → 2 ≤ t → t ≤ 10 → tier_rank_of t ≡ 10 - t
+rank_in t l h = grind (arith, nat_tests)
+
+child_rank : (t u : ℕ) → Contains (child_tiers_of t) u → tier_rank_of u < tier_rank_of t
+child_rank t u c = elim (cases_Bool (leb 2 t && leb t 9)) [
+  | inl e ↦ (
+      let b = child_bounds t e in
+      elim (contains_cases (t + 1) [] u (subst (λ (xs : List ℕ). Contains xs u) (cond-true _ ((t + 1) ∷ []) [] e) c)) [
+        | inl f ↦ (let x = rank_in t (omega (arith, b.0)) (omega (arith, b.1)) in let y = rank_in u (omega (arith, b.0, f)) (omega (arith, b.1, f)) in omega (arith, x, y, f, b.0, b.1))
+        | inr d ↦ absurd (omega (arith, d.1))
+      ])
+  | inr e ↦ (let d = subst (λ (xs : List ℕ). Contains xs u) (cond-false _ ((t + 1) ∷ []) [] e) c in absurd (omega (arith, d.1)))
+]
+
+-- the tier of a legal board
+pub legal_tier : (b : Hunt) → IsLegal b → (2 ≤ hunt_tier b) × (hunt_tier b ≤ 10)
+legal_tier b l = three_columns b.hounds l.eleven l.three
+
+-- ---- numbering
+-- three hounds stand on eleven points in 165 ways
+pub ways : binomial 11 3 ≡ 165
+unfolding binomial
+ways = refl
+
+count_reverse : (xs : List Bool) → length xs ≡ 11 → count (reverse xs) ≡ count xs
+count_reverse = for_eleven (λ xs. count (reverse xs) ≡ count xs) (λ a b c d e f g h i j k. omega arith)
+
+-- three hounds, the highest point first
+pub down_members : (b : Hunt) → IsLegal b → members (reverse b.hounds) ≡ 3
+down_members b l = members_count (reverse b.hounds) ∙ count_reverse b.hounds l.eleven ∙ l.three
+
+-- on eleven points
+pub down_length : (b : Hunt) → IsLegal b → length (reverse b.hounds) ≡ 11
+down_length b l = length-reverse b.hounds ∙ l.eleven
+
+-- the rank of the hounds is below 165
+pub hounds_rank : (b : Hunt) → IsLegal b → rank (reverse b.hounds) < 165
+hounds_rank b l =
+    subst (λ (n : ℕ). rank (reverse b.hounds) < n) (ap₂ binomial (down_length b l) (down_members b l) ∙ ways) (rank_below (reverse b.hounds))
+
+turn_small : (x : Bool) → turn_of x ≤ 1
+turn_small true = omega arith
+turn_small false = omega arith
+
+turn_test : (x : Bool) → eqb (turn_of x) 0 ≡ x
+turn_test true = refl
+turn_test false = refl
+
+turn_back : (n : ℕ) → n < 2 → turn_of (eqb n 0) ≡ n
+turn_back n l = grind (arith, nat_tests)
+
+-- an index is below 3,630
+pub index_small : (b : Hunt) → IsLegal b → hunt_index b < 3630
+unfolding hunt_index
+index_small b l = let t = turn_small b.hounds_move in let r = hounds_rank b l in omega (arith, t, r, l.below)
+
+board_back : (b : Hunt) → IsLegal b → hunt_board (hunt_index b) ≡ b
+unfolding hunt_index hunt_board
+board_back b l =
+    let t = turn_of b.hounds_move in
+    let r = rank (reverse b.hounds) in
+    let i = (t * 165 + r) * 11 + b.hare in
+    let over : i / 11 ≡ t * 165 + r = div-mul-add (t * 165 + r) 11 b.hare l.below in
+    let turn : i / 11 / 165 ≡ t = ap (λ (n : ℕ). n / 165) over ∙ div-mul-add t 165 r (hounds_rank b l) in
+    let hounds : i / 11 % 165 ≡ r = ap (λ (n : ℕ). n % 165) over ∙ mod-mul-add t 165 r (hounds_rank b l) in
+    let hare : i % 11 ≡ b.hare = mod-mul-add (t * 165 + r) 11 b.hare l.below in
+    same_hunt (record { hounds_move = eqb (i / 11 / 165) 0; hounds = reverse (unrank 11 3 (i / 11 % 165)); hare = i % 11 }) b
+    (ap (λ (n : ℕ). eqb n 0) turn ∙ turn_test b.hounds_move)
+    (ap (λ (n : ℕ). reverse (unrank 11 3 n)) hounds
+    ∙ ap reverse (sym (ap₂ (λ (n k : ℕ). unrank n k r) (down_length b l) (down_members b l)) ∙ unrank_rank (reverse b.hounds))
+    ∙ reverse-reverse b.hounds)
+    hare
+
+index_back : (i : ℕ) → i < 3630 → hunt_index (hunt_board i) ≡ i
+unfolding hunt_index hunt_board
+index_back i l =
+    let q = i / 11 in
+    let turn : turn_of (eqb (q / 165) 0) ≡ q / 165 = turn_back (q / 165) (omega arith) in
+    let few : q % 165 < binomial 11 3 = omega (arith, ways) in
+    let hounds : rank (reverse (reverse (unrank 11 3 (q % 165)))) ≡ q % 165 = ap rank (reverse-reverse (unrank 11 3 (q % 165))) ∙ rank_unrank 11 3 (q % 165) few in
+    ap₂ (λ (t r : ℕ). (t * 165 + r) * 11 + i % 11) turn hounds ∙ omega arith
+
+-- the numbering is one to one
+pub numbered : IsNumbered hare_and_hounds
+numbered = record {
+  tier_fits = λ b l. let t = legal_tier b (legal_in b l) in omega (arith, t.1);
+  size_fits = λ b l. let s = size_most (hunt_tier b) in omega (arith, s);
+  index_below = λ b l. let h = legal_in b l in let t = legal_tier b h in let s = size_in (hunt_tier b) t.0 t.1 in omega (arith, s, index_small b h);
+  board_back = λ b l. board_back b (legal_in b l);
+  index_back = λ t i l k e. let s = size_most t in index_back i (omega (arith, s));
+}
+
+-- ---- ends
+lost_none : (ms : List ℕ) → lost ms ≢ None → ms ≡ []
+lost_none [] h = refl
+lost_none (m ∷ ms) h = absurd (h refl)
+
+not_lost : (ms : List ℕ) → lost ms ≡ None → ms ≢ []
+not_lost [] e = absurd (let z : ⊥ = cc in z)
+not_lost (m ∷ ms) e = λ q. (let z : ⊥ = cc in z)
+
+goes_on : (ms : List ℕ) (m : ℕ) → Contains ms m → lost ms ≡ None
+goes_on [] m c = absurd (omega (arith, c.1))
+goes_on (n ∷ ms) m c = refl
+
+lost_same : (xs ys : List ℕ) → ((m : ℕ) → Contains xs m → (n : ℕ) × Contains ys n) → ((m : ℕ) → Contains ys m → (n : ℕ) × Contains xs n) → lost xs ≡ lost ys
+lost_same [] [] f g = refl
+lost_same [] (y ∷ ys) f g = let h = (g y (0, omega arith, refl)).1 in absurd (omega (arith, h.1))
+lost_same (x ∷ xs) [] f g = let h = (f x (0, omega arith, refl)).1 in absurd (omega (arith, h.1))
+lost_same (x ∷ xs) (y ∷ ys) f g = refl
+
+-- there is no move after an escape
+escaped_moves : (b : Hunt) → has_escaped b ≡ true → moves b ≡ []
+escaped_moves b e = nil_or (moves b) (λ m c. true≢false (sym e ∙ (move_in b m (move_taken b m c)).hunted))
+
+ended_moves : (b : Hunt) → ended b ≢ None → moves b ≡ []
+unfolding ended
+ended_moves b h = elim (cases_Bool (has_escaped b)) [
+  | inl e ↦ escaped_moves b e
+  | inr e ↦ lost_none (moves b) (λ q. h (cond-false _ _ _ e ∙ q))
+]
+
+unended : (b : Hunt) → ended b ≡ None → moves b ≢ []
+unfolding ended
+unended b h = elim (cases_Bool (has_escaped b)) [
+  | inl e ↦ absurd (let q : Some (if b.hounds_move then Lose else Win) ≡ None = sym (cond-true _ _ _ e) ∙ h in let z : ⊥ = cc in z)
+  | inr e ↦ not_lost (moves b) (sym (cond-false _ _ _ e) ∙ h)
+]
+
+not_ended : (b : Hunt) (m : ℕ) → Contains (moves b) m → ended b ≡ None
+unfolding ended
+not_ended b m c = cond-false _ _ _ (move_in b m (move_taken b m c)).hunted ∙ goes_on (moves b) m c
+
+-- ---- moves
+-- a move keeps a legal board legal
+pub play_legal : (b : Hunt) (m : ℕ) → legal b ≡ true → Contains (moves b) m → legal (play b m) ≡ true
+unfolding play
+play_legal b m l c = legal_from (play b m) (gone_legal b (from_point m) (to_point m) (legal_in b l) (move_in b m (move_taken b m c)))
+
+play_tier : (b : Hunt) (m : ℕ) → legal b ≡ true → Contains (moves b) m → (hunt_tier (play b m) ≡ hunt_tier b) ⊎ Contains (child_tiers_of (hunt_tier b)) (hunt_tier (play b m))
+unfolding play
+play_tier b m l c =
+    let h = legal_in b l in
+    let v = move_in b m (move_taken b m c) in
+    let a = from_point m in
+    let z = to_point m in
+    elim (gone_tier b a z h v) [
+      | inl e ↦ inl e
+      | inr e ↦ (
+          let low = legal_tier b h in
+          let high = legal_tier (gone b a z) (gone_legal b a z h v) in
+          let few : hunt_tier b ≤ 9 = omega (arith, high.1, e) in
+          inr (subst (λ (xs : List ℕ). Contains xs (hunt_tier (gone b a z))) (sym (cond-true _ ((hunt_tier b + 1) ∷ []) [] (child_in (hunt_tier b) low.0 few)))
+          (subst (λ (n : ℕ). Contains ((hunt_tier b + 1) ∷ []) n) (sym e) (contains_head (hunt_tier b + 1) []))))
+    ]
+
+start_legal : legal (hare_and_hounds.start) ≡ true
+unfolding legal
+start_legal = refl
+
+name_text : (length hare_name ≡ 16) × IsPaddedText hare_name
+name_text = (refl, refl)
+
+before_in : (t : ℕ) (d b : Hunt) → IsTakenFrom t d b → IsBefore hare_and_hounds t d b
+before_in t d b h = record {
+  legal = legal_from b h.legal;
+  unended = not_ended b h.move.0 h.move.1;
+  tier = h.tier;
+  move = h.move;
+}
+
+before_from : (t : ℕ) (d b : Hunt) → IsBefore hare_and_hounds t d b → IsTakenFrom t d b
+before_from t d b h = record {
+  tier = h.tier;
+  legal = legal_in b h.legal;
+  move = h.move;
+}
+
+board_game : IsBoardGame hare_and_hounds
+board_game = record {
+  name_length = name_text.0;
+  name_text = name_text.1;
+  moves_ascending = λ b l. moves_ascending b;
+  ended = λ b l h. ended_moves b h;
+  unended = λ b l h. unended b h;
+  start_legal = start_legal;
+  move_fits = λ b m l c. let h = step_below m (move_in b m (move_taken b m c)).joined in omega (arith, h);
+  play_legal = λ b m l c. play_legal b m l c;
+  play_tier = λ b m l c. play_tier b m l c;
+  child_rank = child_rank;
+  child_tiers_ascending = λ t. cond_both (leb 2 t && leb t 9) ((t + 1) ∷ []) [] IsAscending (λ e. tt) (λ e. tt);
+  befores_exact = λ t d b l. (
+    λ c. before_in t d b (befores_in t d b (legal_in d l) c),
+    λ h. befores_from t d b (before_from t d b h),
+  );
+  moves_few = λ b l. moves_few b;
+  befores_few = λ t d l. befores_few t d;
+  child_tiers_few = λ t. cond_both (leb 2 t && leb t 9) ((t + 1) ∷ []) [] (λ (xs : List ℕ). length xs ≤ 16) (λ e. omega arith) (λ e. omega arith);
+}
+
+-- ---- top and bottom exchanged
+mirrored_on : (b : Hunt) (k : ℕ) → k < 11 → has_hound (mirrored b) k ≡ has_hound b (mirror_point k)
+mirrored_on b k l = permute_get false mirror b.hounds k l
+
+-- the point of a hound goes to its mirror point
+mirrored_at : (b : Hunt) (k : ℕ) → k < 11 → has_hound (mirrored b) (mirror_point k) ≡ has_hound b k
+mirrored_at b k l = mirrored_on b (mirror_point k) (mirror_below k l) ∙ ap (has_hound b) (mirror_twice k l)
+
+-- an image of a legal board is legal
+pub mirrored_legal : (b : Hunt) → IsLegal b → IsLegal (mirrored b)
+mirrored_legal b l = record {
+  eleven = permute_length false mirror b.hounds;
+  three = mirror_count b.hounds l.eleven ∙ l.three;
+  below = mirror_below b.hare l.below;
+  apart = mirrored_at b b.hare l.below ∙ l.apart;
+}
+
+-- exchanged twice
+pub mirrored_twice : (b : Hunt) → IsLegal b → mirrored (mirrored b) ≡ b
+mirrored_twice b l = same_hunt (mirrored (mirrored b)) b refl (mirror_hounds_twice b.hounds l.eleven) (mirror_twice b.hare l.below)
+
+all_points : (p : ℕ → Bool) (ks : List ℕ) → ((k : ℕ) → Contains ks k → p k ≡ true) → list_all p ks ≡ true
+all_points p [] h = refl
+all_points p (k ∷ ks) h = (let first = h k (contains_head k ks) in let rest = all_points p ks (λ j c. h j (contains_later k ks j c)) in rw (first, rest) refl)
+
+-- an escape stays one
+mirrored_escape : (b : Hunt) → IsLegal b → has_escaped b ≡ true → has_escaped (mirrored b) ≡ true
+unfolding has_escaped
+mirrored_escape b l e =
+    all_points (λ (k : ℕ). not (has_hound (mirrored b) k) || leb (column (mirror_point b.hare)) (column k)) (range_with_len 0 11)
+    (λ k c.
+    let h : k < 11 = range_below 11 k c in
+    ap₂ (λ (x y : Bool). not x || y) (mirrored_on b k h) (ap₂ leb (mirror_column b.hare l.below) (sym (mirror_column k h)))
+    ∙ all_at (λ (k : ℕ). not (has_hound b k) || leb (column b.hare) (column k)) (range_with_len 0 11) (mirror_point k) e (contains_range 11 (mirror_point k) (mirror_below k h)))
+
+mirrored_escaped : (b : Hunt) → IsLegal b → has_escaped (mirrored b) ≡ has_escaped b
+mirrored_escaped b l =
+    same_tests _ _
+    (λ e. sym (ap has_escaped (mirrored_twice b l)) ∙ mirrored_escape (mirrored b) (mirrored_legal b l) e)
+    (λ e. mirrored_escape b l e)
+
+mirrored_move : (b : Hunt) (a c : ℕ) → IsLegal b → IsMove b a c → IsMove (mirrored b) (mirror_point a) (mirror_point c)
+mirrored_move b a c l h =
+    let la = joined_from a c h.joined in
+    let lc = joined_to a c h.joined in
+    record {
+      hunted = mirrored_escaped b l ∙ h.hunted;
+      joined = mirror_joined a c la lc ∙ h.joined;
+      free = record {
+        hounds = mirrored_at b c lc ∙ h.free.hounds;
+        hare = λ e. h.free.hare (sym (mirror_twice c lc) ∙ ap mirror_point e ∙ mirror_twice b.hare l.below);
+      };
+      hound = λ t. (let w = h.hound t in (mirrored_at b a la ∙ w.0, mirror_ahead a c la lc ∙ w.1));
+      hare = λ t. ap mirror_point (h.hare t);
+    }
+
+mirrored_gone : (b : Hunt) (a c : ℕ) → IsLegal b → IsMove b a c → gone (mirrored b) (mirror_point a) (mirror_point c) ≡ mirrored (gone b a c)
+mirrored_gone b a c l h = elim (cases_Bool b.hounds_move) [
+  | inl t ↦ (
+      let la = joined_from a c h.joined in
+      let lc = joined_to a c h.joined in
+      let x = image_slide false 11 two two_group mirror mirror_in b.hounds a c false true l.eleven la lc in
+      let i : x.0 ≡ mirror_point a = sym (mirror_twice x.0 x.2) ∙ ap mirror_point x.4 in
+      let j : x.1 ≡ mirror_point c = sym (mirror_twice x.1 x.3) ∙ ap mirror_point x.5 in
+      cond-true b.hounds_move (hound_gone (mirrored b) (mirror_point a) (mirror_point c)) (hare_gone (mirrored b) (mirror_point c)) t
+      ∙ same_hunt (hound_gone (mirrored b) (mirror_point a) (mirror_point c)) (mirrored (hound_gone b a c)) refl
+      (sym (x.6 ∙ ap₂ (λ (p q : ℕ). set (set (permute false mirror b.hounds) p false) q true) i j)) refl
+      ∙ sym (ap mirrored (cond-true b.hounds_move (hound_gone b a c) (hare_gone b c) t)))
+  | inr t ↦
+      cond-false b.hounds_move (hound_gone (mirrored b) (mirror_point a) (mirror_point c)) (hare_gone (mirrored b) (mirror_point c)) t
+      ∙ sym (ap mirrored (cond-false b.hounds_move (hound_gone b a c) (hare_gone b c) t))
+]
+
+-- a move and its image
+mirrored_moves : (b : Hunt) (m : ℕ) → IsLegal b → Contains (moves b) m → (n : ℕ) × Contains (moves (mirrored b)) n × (play (mirrored b) n ≡ mirrored (play b m))
+unfolding play
+mirrored_moves b m l d =
+    let a = from_point m in
+    let c = to_point m in
+    let h = move_in b m (move_taken b m d) in
+    let n = step_number (mirror_point a) (mirror_point c) in
+    let lc = mirror_below c (joined_to a c h.joined) in
+    let from : from_point n ≡ mirror_point a = from_back (mirror_point a) (mirror_point c) (omega (arith, lc)) in
+    let to : to_point n ≡ mirror_point c = to_back (mirror_point a) (mirror_point c) (omega (arith, lc)) in
+    let image = mirrored b in
+    let move = mirrored_move b a c l h in (
+      n,
+      taken_move image n (move_from image n (subst (λ (p : ℕ). IsMove image p (to_point n)) (sym from) (subst (λ (q : ℕ). IsMove image (mirror_point a) q) (sym to) move))),
+      ap₂ (gone image) from to ∙ mirrored_gone b a c l h,
+    )
+
+mirrored_ended : (b : Hunt) → IsLegal b → ended (mirrored b) ≡ ended b
+unfolding ended
+mirrored_ended b l =
+    ap₂ (λ (x : Bool) (o : _). if x then Some (if b.hounds_move then Lose else Win) else o) (mirrored_escaped b l)
+    (lost_same (moves (mirrored b)) (moves b)
+    (λ m d. let x = mirrored_moves (mirrored b) m (mirrored_legal b l) d in (x.0, subst (λ (a : Hunt). Contains (moves a) x.0) (mirrored_twice b l) x.1))
+    (λ m d. let x = mirrored_moves b m l d in (x.0, x.1)))
+
+-- the image under one of the two symmetries
+abbrev image : Bool → Hunt → Hunt
+image exchanged b = if exchanged then mirrored b else b
+
+both : (g : Bool) → Contains (false ∷ true ∷ []) g
+both false = (0, omega arith, refl)
+both true = (1, omega arith, refl)
+
+product : (g h : Bool) → (k : Bool) × Contains (false ∷ true ∷ []) k × ((b : Hunt) → legal b ≡ true → image g (image h b) ≡ image k b)
+product false h = (h, both h, λ b l. refl)
+product true false = (true, both true, λ b l. refl)
+product true true = (false, both false, λ b l. mirrored_twice b (legal_in b l))
+
+inverse : (g : Bool) → (h : Bool) × Contains (false ∷ true ∷ []) h × ((b : Hunt) → legal b ≡ true → image h (image g b) ≡ b)
+inverse false = (false, both false, λ b l. refl)
+inverse true = (true, both true, λ b l. mirrored_twice b (legal_in b l))
+
+image_legal : (g : Bool) (b : Hunt) → legal b ≡ true → legal (image g b) ≡ true
+image_legal false b l = l
+image_legal true b l = legal_from (mirrored b) (mirrored_legal b (legal_in b l))
+
+image_ended : (g : Bool) (b : Hunt) → legal b ≡ true → ended (image g b) ≡ ended b
+image_ended false b l = refl
+image_ended true b l = mirrored_ended b (legal_in b l)
+
+image_tier : (g : Bool) (b : Hunt) → legal b ≡ true → hunt_tier (image g b) ≡ hunt_tier b
+image_tier false b l = refl
+image_tier true b l = mirror_columns b.hounds (legal_in b l).eleven
+
+image_moves : (g : Bool) (b : Hunt) (m : ℕ) → legal b ≡ true → Contains (moves b) m → (n : ℕ) × Contains (moves (image g b)) n × (play (image g b) n ≡ image g (play b m))
+image_moves false b m l c = (m, c, refl)
+image_moves true b m l c = mirrored_moves b m (legal_in b l) c
+
+symmetric : IsSymmetric hare_and_hounds
+symmetric = record {
+  identity = (false, both false, λ b l. refl);
+  closed = λ g h c d. product g h;
+  inverse = λ g c. inverse g;
+  keeps_legal = λ g b c l. image_legal g b l;
+  keeps_ended = λ g b c l. image_ended g b l;
+  keeps_tier = λ g b c l. image_tier g b l;
+  keeps_moves = λ g b m c l d. image_moves g b m l d;
+}
+
+-- all laws hold
+pub hare_lawful : IsGame hare_rules
+hare_lawful = symmetric_is_game hare_and_hounds board_game numbered symmetric
+
+-- the start has tier 2 and index 21
+pub start_position : position_of hare_and_hounds hare_and_hounds.start ≡ at 2 21
+unfolding hunt_index column binomial
+start_position = refl

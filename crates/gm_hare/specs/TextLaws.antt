@@ -1,0 +1,135 @@
+-- The texts of Hare and Hounds fit a line, and tell positions and moves apart.
+use Rattle.std.proofs.Common.{◌≡◌, ℕ, ◌<◌, ◌≤◌, Bool, true, false, cond, if◌then◌else◌, eqb, leb, eqb-true, eq-eqb, List, [], ◌∷◌, length, get_or, refl, sym, ap, ◌∙◌, arith, zero-add, inl, inr}
+use Rattle.std.specs.List.{Contains, filter, list_all, range_with_len}
+use Rattle.std.proofs.lemmas.Bool.{cond-true, true≢false, cases_Bool}
+use Rattle.std.proofs.lemmas.Bool.Decides.{nat_tests}
+use Rattle.std.proofs.lemmas.List.{ext_get_or}
+use Rattle.std.proofs.lemmas.List.FromFn.{length-map-range_with_len, get_or-map-range_with_len}
+use Rattle.gm_game.specs.Boards.{position_of, board_of}
+use Rattle.gm_game.specs.Shown.{IsShown}
+use Rattle.gm_game.proofs.BoardLaws.{position_back, legal_board}
+use Rattle.gm_board.specs.Lists.{contains_range, filter_to}
+use Rattle.gm_board.specs.Permutations.{all_at, same_list}
+use Rattle.gm_steps.specs.Steps.{from_point, to_point}
+use Rattle.gm_hare.specs.declared.hunt.Hunt.{Hunt}
+use Rattle.gm_hare.specs.Board.{has_hound, are_joined, numbers_end, hunt_board, hare_and_hounds, hare_rules}
+use Rattle.gm_hare.specs.PointFacts.{is_step}
+use Rattle.gm_hare.specs.HoundFacts.{same_hunt}
+use Rattle.gm_hare.specs.MoveFacts.{IsLegal, legal_in, move_taken, move_in, step_below}
+use Rattle.gm_hare.specs.HareLaws.{numbered}
+use Rattle.gm_hare.specs.Texts.{hunt_char, hunt_text, point_name, step_text, position_text, move_text}
+
+-- ---- boards
+pub text_length : (b : Hunt) → length (hunt_text b) ≡ 13
+unfolding hunt_text
+text_length b = length-map-range_with_len (hunt_char b) 0 13
+
+-- a byte of the text
+pub text_at : (b : Hunt) (k : ℕ) → k < 13 → get_or (hunt_text b) k 0 ≡ hunt_char b k
+unfolding hunt_text
+text_at b k l = get_or-map-range_with_len (hunt_char b) 0 13 k k 0 l (zero-add k)
+
+point_at : (x : Bool) (k h t : ℕ) → k < 11 → (if eqb k 11 then 32 else (if eqb k 12 then t else (if x then 100 else (if eqb k h then 104 else 46)))) ≡ (if x then 100 else (if eqb k h then 104 else 46))
+point_at x k h t l = grind (arith, nat_tests)
+
+-- the byte of a point
+pub point_char : (b : Hunt) (k : ℕ) → k < 11 → get_or (hunt_text b) k 0 ≡ (if has_hound b k then 100 else (if eqb k b.hare then 104 else 46))
+point_char b k l = text_at b k (omega arith) ∙ point_at (has_hound b k) k b.hare (if b.hounds_move then 100 else 104) l
+
+hound_by : (x : Bool) (k h : ℕ) → eqb (if x then 100 else (if eqb k h then 104 else 46)) 100 ≡ x
+hound_by true k h = refl
+hound_by false k h = elim (cases_Bool (eqb k h)) [ inl e ↦ rw e refl | inr e ↦ rw e refl ]
+
+-- the byte of a hound
+pub hound_char : (b : Hunt) (k : ℕ) → k < 11 → eqb (get_or (hunt_text b) k 0) 100 ≡ has_hound b k
+hound_char b k l = ap (λ (n : ℕ). eqb n 100) (point_char b k l) ∙ hound_by (has_hound b k) k b.hare
+
+hare_by : (x : Bool) (k h : ℕ) → eqb (if x then 100 else (if eqb k h then 104 else 46)) 104 ≡ true → k ≡ h
+hare_by true k h e = absurd (true≢false (sym e))
+hare_by false k h e = elim (cases_Bool (eqb k h)) [
+  | inl f ↦ eqb-true k h f
+  | inr f ↦ absurd (true≢false (sym e ∙ ap (λ (x : Bool). eqb (if x then 104 else 46) 104) f))
+]
+
+-- a point with the byte of the hare is the hare's
+pub hare_char : (b : Hunt) (k : ℕ) → k < 11 → eqb (get_or (hunt_text b) k 0) 104 ≡ true → k ≡ b.hare
+hare_char b k l e = hare_by (has_hound b k) k b.hare (sym (ap (λ (n : ℕ). eqb n 104) (point_char b k l)) ∙ e)
+
+hare_there : (x : Bool) (k h : ℕ) → x ≡ false → k ≡ h → eqb (if x then 100 else (if eqb k h then 104 else 46)) 104 ≡ true
+hare_there true k h e f = absurd (true≢false e)
+hare_there false k h e f = (let g = eq-eqb k h f in rw g refl)
+
+-- the hare's point has that byte
+pub hare_at : (b : Hunt) → IsLegal b → eqb (get_or (hunt_text b) b.hare 0) 104 ≡ true
+hare_at b l = ap (λ (n : ℕ). eqb n 104) (point_char b b.hare l.below) ∙ hare_there (has_hound b b.hare) b.hare b.hare l.apart refl
+
+turn_by : (x : Bool) → eqb (if x then 100 else 104) 100 ≡ x
+turn_by true = refl
+turn_by false = refl
+
+-- the byte of who moves
+pub turn_char : (b : Hunt) → eqb (get_or (hunt_text b) 12 0) 100 ≡ b.hounds_move
+turn_char b = ap (λ (n : ℕ). eqb n 100) (text_at b 12 (omega arith)) ∙ turn_by b.hounds_move
+
+-- boards with one text are one
+pub text_once : (x y : Hunt) → IsLegal x → IsLegal y → hunt_text x ≡ hunt_text y → x ≡ y
+text_once x y l m e =
+    same_hunt x y
+    (sym (turn_char x) ∙ ap (λ (t : List ℕ). eqb (get_or t 12 0) 100) e ∙ turn_char y)
+    (ext_get_or false x.hounds y.hounds (l.eleven ∙ sym m.eleven)
+    (λ k h. let below : k < 11 = omega (arith, l.eleven) in
+    sym (hound_char x k below) ∙ ap (λ (t : List ℕ). eqb (get_or t k 0) 100) e ∙ hound_char y k below))
+    (hare_char y x.hare l.below (sym (ap (λ (t : List ℕ). eqb (get_or t x.hare 0) 104) e) ∙ hare_at x l))
+
+-- ---- moves
+abbrev steps : List ℕ
+steps = filter is_step (range_with_len 0 numbers_end)
+
+apart_test : ℕ → ℕ → Bool
+apart_test m n = cond (same_list (step_text m) (step_text n)) (eqb m n) true
+
+texts_table : list_all (λ m. list_all (apart_test m) steps) steps ≡ true
+unfolding are_joined from_point to_point step_text point_name apart_test
+texts_table = refl
+
+same_lists : (xs ys : List ℕ) → xs ≡ ys → same_list xs ys ≡ true
+same_lists [] [] e = refl
+same_lists [] (y ∷ ys) e = absurd (let z : ⊥ = cc in z)
+same_lists (x ∷ xs) [] e = absurd (let z : ⊥ = cc in z)
+same_lists (x ∷ xs) (y ∷ ys) e =
+    let head : x ≡ y = cc in
+    let tail : xs ≡ ys = cc in
+    let first = eq-eqb x y head in let rest = same_lists xs ys tail in rw (first, rest) refl
+
+-- moves with one text are one
+pub step_once : (m n : ℕ) → is_step m ≡ true → is_step n ≡ true → step_text m ≡ step_text n → m ≡ n
+unfolding apart_test
+step_once m n e f g =
+    let there : (k : ℕ) → is_step k ≡ true → Contains steps k = λ k h. filter_to is_step (range_with_len 0 numbers_end) k (contains_range numbers_end k (step_below k h)) h in
+    let t = all_at (apart_test m) steps n (all_at (λ (m : ℕ). list_all (apart_test m) steps) steps m texts_table (there m e)) (there n f) in
+    eqb-true m n (sym (cond-true (same_list (step_text m) (step_text n)) (eqb m n) true (same_lists _ _ g)) ∙ t)
+
+short_table : list_all (λ m. leb (length (step_text m)) 5) steps ≡ true
+unfolding are_joined from_point to_point step_text point_name
+short_table = refl
+
+five : (n : ℕ) → leb n 5 ≡ true → n ≤ 5
+five n e = grind (arith, nat_tests)
+
+-- the text of a move has at most five bytes
+pub step_short : (m : ℕ) → is_step m ≡ true → length (step_text m) ≤ 5
+step_short m e =
+    five (length (step_text m)) (all_at (λ (m : ℕ). leb (length (step_text m)) 5) steps m short_table (filter_to is_step (range_with_len 0 numbers_end) m (contains_range numbers_end m (step_below m e)) e))
+
+-- ---- the laws of texts
+pub texts_readable : IsShown hare_rules position_text move_text
+texts_readable = record {
+  shown_fits = λ p l. let a = text_length (hunt_board p.index) in omega (arith, a);
+  shown_once = λ p q l k e.
+      sym (position_back hare_and_hounds numbered p l)
+      ∙ ap (position_of hare_and_hounds) (text_once (board_of hare_and_hounds p) (board_of hare_and_hounds q) (legal_in _ (legal_board hare_and_hounds p l)) (legal_in _ (legal_board hare_and_hounds q k)) e)
+      ∙ position_back hare_and_hounds numbered q k;
+  move_shown_fits = λ p m l c. let a = step_short m (move_in (hunt_board p.index) m (move_taken (hunt_board p.index) m c)).joined in omega (arith, a);
+  move_shown_once = λ p m k l c d e.
+      step_once m k (move_in (hunt_board p.index) m (move_taken (hunt_board p.index) m c)).joined (move_in (hunt_board p.index) k (move_taken (hunt_board p.index) k d)).joined e;
+}

@@ -1,0 +1,11 @@
+//! Hare and Hounds. Its rules are in docs/GAMES.md, Hare and Hounds, and `specs/` states them.
+#![tactic(auto)]
+
+pub mod hare;
+pub mod hunt;
+pub mod moves;
+pub mod points;
+#[cfg(test)]
+mod tests;
+pub mod text;
+pub mod tiers;

@@ -1,0 +1,62 @@
+//! The eleven points: their columns and the edges between them.
+ghost use Rattle.std.specs.Prelude.{◌≡◌, ◌↔◌, ◌<◌, IsTrue, slice_index_or, []};
+ghost use Rattle.std.specs.List.{Contains};
+ghost use Rattle.gm_hare.specs.Board.{column as column_of, edges, are_joined as are_joined_of, is_ahead as is_ahead_of};
+
+/// The column of each point.
+const COLUMNS: [u32; 11] = [0, 1, 1, 1, 2, 2, 2, 3, 3, 3, 4];
+
+/// The column of a point.
+#[tactic(auto, unfolding(crate::specs::Board::column))]
+pub fn column(point: u32) -> u32
+    requires { point < 11 }
+    ensures { result ≡ column_of point }
+{
+    COLUMNS[point as usize]
+}
+
+// The points that an edge joins to a point: none where there is no such point.
+fn neighbors(point: u32) -> &'static [u32]
+    ensures { result.now ≡ slice_index_or edges point [] }
+{
+    match point {
+        0 => &[1, 2, 3],
+        1 => &[0, 2, 4, 5],
+        2 => &[0, 1, 3, 5],
+        3 => &[0, 2, 5, 6],
+        4 => &[1, 5, 7],
+        5 => &[1, 2, 3, 4, 6, 7, 8, 9],
+        6 => &[3, 5, 9],
+        7 => &[4, 5, 8, 10],
+        8 => &[5, 7, 9, 10],
+        9 => &[5, 6, 8, 10],
+        10 => &[7, 8, 9],
+        _ => &[],
+    }
+}
+
+// Whether the second point is one of those that an edge joins to the first.
+fn is_neighbor(a: u32, c: u32) -> bool
+    ensures { IsTrue result ↔ Contains (slice_index_or edges a []) c }
+{
+    neighbors(a).contains(&c)
+}
+
+/// Whether an edge joins the two points.
+pub fn are_joined(a: u32, c: u32) -> bool
+    ensures { result ≡ are_joined_of a c }
+{
+    is_neighbor(a, c)
+}
+
+/// Whether the second point is in the next column or in the column of the first.
+#[tactic(auto, unfolding(crate::specs::Board::is_ahead))]
+pub fn is_ahead(a: u32, c: u32) -> bool
+    requires from { a < 11 }
+    requires to { c < 11 }
+    ensures { result ≡ is_ahead_of a c }
+{
+    let here = column(a);
+    let there = column(c);
+    there == here || there == here + 1
+}

@@ -1,0 +1,62 @@
+use crate::hare::Hare;
+use gm_game::children::canonical_children;
+use gm_game::game::Game;
+use gm_game::position::Position;
+use gm_game::shown::Shown;
+
+// The numbers of the moves of the start, and how many canonical children it has.
+fn at_start<G: Game>(numbers: &[u32]) -> (bool, usize) {
+    let p = G::initial();
+    (
+        G::moves(p).as_slice() == numbers,
+        canonical_children::<G>(p).len(),
+    )
+}
+
+// How many canonical children of the start are in a tier.
+fn children_in<G: Game>(tier: u64) -> usize {
+    canonical_children::<G>(G::initial())
+        .iter()
+        .filter(|c| c.tier == tier)
+        .count()
+}
+
+// Whether the move with this text at the start has this number, and again this text.
+fn is_move<G: Shown>(text: &[u8], number: u32) -> bool {
+    let p = G::initial();
+    match G::read_move(p, text) {
+        Some(m) => m == number && G::move_text(p, m).as_slice() == text,
+        None => false,
+    }
+}
+
+// Whether this is the text of the start.
+fn starts<G: Shown>(text: &[u8]) -> bool {
+    G::show(G::initial()).as_slice() == text
+}
+
+#[test]
+fn hare_start(rt: HostRuntime) {
+    assert_eq!(rt; Hare::initial(), Position { tier: 2, index: 21 });
+    assert_eq!(rt; at_start::<Hare>(&[2, 18, 20, 21, 50, 53, 54]), (true, 4));
+    assert_eq!(rt; children_in::<Hare>(2), 1);
+    assert_eq!(rt; children_in::<Hare>(3), 3);
+}
+
+#[test]
+fn hare_texts(rt: HostRuntime) {
+    assert!(rt; starts::<Hare>(b"dd.d......h d"));
+    assert_eq!(rt;
+        Hare::read(b"dd.d......h d"),
+        Some(Position { tier: 2, index: 21 })
+    );
+    assert!(rt; is_move::<Hare>(b"L-M1", 2));
+    assert!(rt; is_move::<Hare>(b"T1-M2", 21));
+    assert!(rt; is_move::<Hare>(b"B1-B2", 54));
+    // The hare does not move yet, and no hound goes to a point that another holds.
+    assert!(rt; !is_move::<Hare>(b"R-M3", 168));
+    assert!(rt; !is_move::<Hare>(b"L-T1", 1));
+    assert_eq!(rt; Hare::read(b"dd.d......h  "), None);
+    assert_eq!(rt; Hare::read(b"dddd......h d"), None);
+    assert_eq!(rt; Hare::read(b"dd.d...h..h d"), None);
+}

@@ -1,0 +1,159 @@
+//! Texts of boards and of moves.
+ghost use Rattle.std.specs.Prelude.{◌≡◌, ◌↔◌, ◌<◌, ◌==◌, ◌≤◌, ℕ, length, true, Some, IsTrue, slice_index, slice_index_or, []};
+ghost use Rattle.std.specs.List.{Contains};
+ghost use Rattle.gm_hare.specs.declared.hunt.Hunt.{Hunt};
+ghost use Rattle.gm_hare.specs.Board.{legal, moves as moves_of};
+ghost use Rattle.gm_hare.specs.Texts.{hunt_char, hunt_text as hunt_text_of, names, step_text as step_text_of};
+
+use crate::hunt::{Hunt, is_legal_hunt};
+use crate::moves::{NUMBERS, can_move};
+use arrayvec::ArrayVec;
+use gm_game::shown::Line;
+use gm_game::text::push_text;
+use gm_steps::step::Step;
+
+// The byte of a text's place: at a point what is there, then a space, then who moves.
+fn hunt_byte(board: &Hunt, place: usize) -> u8
+    requires { place < 13 }
+    ensures { result ≡ hunt_char board.now place }
+{
+    if place == 11 {
+        b' '
+    } else if place == 12 {
+        if board.hounds_move { b'd' } else { b'h' }
+    } else if board.hounds[place] {
+        b'd'
+    } else if place as u32 == board.hare {
+        b'h'
+    } else {
+        b'.'
+    }
+}
+
+/// The text of a board: its points in order, `d` for a hound, `h` for the hare and `.` for an empty point; a space; `d` or `h` for who moves (docs/GAMES.md, Hare and Hounds).
+pub fn hunt_text(board: &Hunt) -> Line
+    ensures { result.items ≡ hunt_text_of board.now }
+{
+    let mut line = ArrayVec::new();
+    for place in 0..13 {
+        line.push(hunt_byte(board, place));
+    }
+    line
+}
+
+// Whether a text has a byte at a place.
+fn has_byte(text: &[u8], place: usize, byte: u8) -> bool
+    requires { 0 < byte }
+    ensures { result ≡ (slice_index text.now place == byte) }
+{
+    match text.get(place) {
+        Some(found) => *found == byte,
+        None => false,
+    }
+}
+
+// The point at which a text has the hare: 0 where it has none.
+fn hare_in(text: &[u8]) -> u32
+    ensures { (b : Hunt) → legal b ≡ true → hunt_text_of b ≡ text.now → b.hare ≡ result }
+{
+    for place in 0..11 {
+        if has_byte(text, place, b'h') {
+            return place as u32;
+        }
+    }
+    0
+}
+
+// The points at which a text has a hound.
+fn hounds_in(text: &[u8]) -> [bool; 11]
+    ensures { (b : Hunt) → legal b ≡ true → hunt_text_of b ≡ text.now → b.hounds ≡ result }
+{
+    let mut hounds = [false; 11];
+    for place in 0..11 {
+        hounds[place] = has_byte(text, place, b'd');
+    }
+    hounds
+}
+
+// The board that a text can be of.
+fn hunt_in(text: &[u8]) -> Hunt
+    ensures { (b : Hunt) → legal b ≡ true → hunt_text_of b ≡ text.now → b ≡ result }
+{
+    Hunt {
+        hounds_move: has_byte(text, 12, b'd'),
+        hounds: hounds_in(text),
+        hare: hare_in(text),
+    }
+}
+
+// Whether this is the text of the board.
+fn is_shown(board: &Hunt, text: &[u8]) -> bool
+    ensures { IsTrue result ↔ (hunt_text_of board.now ≡ text.now) }
+{
+    hunt_text(board).as_slice() == text
+}
+
+/// The legal board with this text, if there is one. Any bytes may be given.
+pub fn read_hunt(text: &[u8]) -> Option<Hunt>
+    ensures { (b : Hunt) → (result ≡ Some b) ↔ ((legal b ≡ true) × (hunt_text_of b ≡ text.now)) }
+{
+    let board = hunt_in(text);
+    if is_legal_hunt(&board) && is_shown(&board, text) {
+        Some(board)
+    } else {
+        None
+    }
+}
+
+// The name of a point.
+fn point_name(point: u32) -> &'static [u8]
+    ensures name { result.now ≡ slice_index_or names point [] }
+    ensures short { length result.now ≤ 2 }
+{
+    match point {
+        0 => b"L",
+        1 => b"T1",
+        2 => b"M1",
+        3 => b"B1",
+        4 => b"T2",
+        5 => b"M2",
+        6 => b"B2",
+        7 => b"T3",
+        8 => b"M3",
+        9 => b"B3",
+        10 => b"R",
+        _ => b"",
+    }
+}
+
+/// The text of a move: the names of the two points with `-` between them (docs/GAMES.md, Hare and Hounds).
+pub fn step_text(number: u32) -> Line
+    ensures { result.items ≡ step_text_of number }
+{
+    let step = Step::numbered(number);
+    let mut line = ArrayVec::new();
+    push_text(&mut line, point_name(step.from));
+    push_text(&mut line, b"-");
+    push_text(&mut line, point_name(step.to));
+    line
+}
+
+// Whether this is the text of a move.
+fn has_text(number: u32, text: &[u8]) -> bool
+    ensures { IsTrue result ↔ (step_text_of number ≡ text.now) }
+{
+    step_text(number).as_slice() == text
+}
+
+/// The move with this text, if there is one. Any bytes may be given.
+pub fn read_step(board: &Hunt, text: &[u8]) -> Option<u32>
+    requires { legal board.now ≡ true }
+    ensures { (m : ℕ) → (result ≡ Some m) ↔ (Contains (moves_of board.now) m × (step_text_of m ≡ text.now)) }
+{
+    for number in 0..NUMBERS {
+        if can_move(board, number) && has_text(number, text) {
+            return Some(number);
+        }
+    }
+    None
+}

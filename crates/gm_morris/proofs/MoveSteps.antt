@@ -1,0 +1,284 @@
+-- Steps of the loops over numbers of moves, and what the code's tests say of a move.
+use Rattle.std.proofs.Common.{◌≡◌, ℕ, zero, suc, ◌+◌, ◌-◌, ◌/◌, ◌%◌, ◌^◌, ◌<◌, ◌≤◌, Bool, true, false, ◌&&◌, ◌||◌, not, eqb, leb, le-leb, ltb, lt-ltb, List, [], ◌∷◌, ◌++◌, map, set, get_or, length, Option, None, Some, refl, sym, ap, ap₂, ◌∙◌, subst, arith, eqb-true, eq-eqb, inl, inr, get_or-set_other}
+use Rattle.std.specs.List.{Contains, list_any, list_all, filter, filter_map, range_with_len}
+use Rattle.std.proofs.lemmas.Bool.{cases_lt, ne_eqb, cond-true, cond-false}
+use Rattle.std.proofs.lemmas.List.{append-nil, length-append, length-map, get_or_past}
+use Rattle.std.proofs.lemmas.List.Elements.{filter-append, filter_map-append}
+use Rattle.std.proofs.lemmas.Nat.Bits.{bit_at_above}
+use Rattle.std.specs.Prelude.{bit_and}
+use Rattle.gm_game.specs.Ascending.{put_all}
+use Rattle.gm_game.proofs.Putting.{put_all_few}
+use Rattle.gm_board.specs.declared.cell.Cell.{Cell}
+use Rattle.gm_board.specs.declared.cell.Cell.TheVariants.{Empty, Mine, Theirs}
+use Rattle.gm_board.specs.Lists.{and_both, range_more, contains_range, filter_to}
+use Rattle.gm_board.specs.Binomials.{binomial}
+use Rattle.gm_board.specs.Arrangements.{arrangements}
+use Rattle.gm_board.specs.Masks.{has_cell}
+use Rattle.gm_board.specs.Pieces.{cell_by, apart_below}
+use Rattle.gm_board.specs.Permutations.{all_at}
+use Rattle.gm_board.specs.BoardMasks.{turned}
+use Rattle.gm_board.specs.Images.{board_of, board_length, board_get}
+use Rattle.gm_morris.specs.declared.variant.Variant.{Variant}
+use Rattle.gm_morris.specs.declared.tiers.TheConstants.{SIZES}
+use Rattle.gm_morris.specs.Points.{last_tier, lines, joins}
+use Rattle.gm_morris.specs.Morris.{is_mine, is_theirs, is_empty, mine, theirs, has_line, legal, can_move, numbers_end, steps, moves, was_moved, taken_back, is_open, before_at, befores, size_of, board_at}
+use Rattle.gm_morris.specs.BoardFacts.{cell_turned}
+use Rattle.gm_morris.specs.PointFacts.{joined_within}
+use Rattle.gm_morris.specs.MoveFacts.{IsSlide, IsPlacement, step_cases, last_end, other_end, move_in, steps_few}
+use Rattle.gm_morris.specs.BeforeFacts.{WasSlide, WasPlacement, was_cases, befores_few}
+use Rattle.gm_morris.specs.MorrisLaws.{size_at, tier_below, below_arrangements, board_numbers}
+
+-- ---- sizes
+sizes_pass : list_all (λ t. eqb (get_or SIZES t 0) (arrangements 9 (t / 2) (t - t / 2))) (range_with_len 0 10) ≡ true
+unfolding arrangements binomial
+sizes_pass = refl
+
+-- the sizes of the tiers
+pub sizes_are : (v : Variant) (t : ℕ) → t ≤ last_tier v → last_tier v ≤ 9 → get_or SIZES t 0 ≡ size_of v t
+sizes_are v t l h =
+    eqb-true _ _ (all_at (λ (t : ℕ). eqb (get_or SIZES t 0) (arrangements 9 (t / 2) (t - t / 2))) (range_with_len 0 10) t sizes_pass (contains_range 10 t (omega arith)))
+    ∙ sym (size_at v t l)
+
+-- ---- lines
+same_all : (p q : ℕ → Bool) (cs : List ℕ) → ((k : ℕ) → p k ≡ q k) → list_all p cs ≡ list_all q cs
+same_all p q [] h = refl
+same_all p q (c ∷ cs) h = ap₂ (λ (x y : Bool). x && y) (h c) (same_all p q cs h)
+
+same_any : (p q : ℕ → Bool) (ls : List (List ℕ)) → ((k : ℕ) → p k ≡ q k) → list_any (λ line. list_all p line) ls ≡ list_any (λ line. list_all q line) ls
+same_any p q [] h = refl
+same_any p q (l ∷ ls) h = ap₂ (λ (x y : Bool). x || y) (same_all p q l h) (same_any p q ls h)
+
+past_cell : (a b k : ℕ) → 9 ≤ k → get_or (board_of 9 a b) k Empty ≡ Empty
+past_cell a b k l = get_or_past (board_of 9 a b) k Empty (let n = board_length 9 a b in omega (arith, n, l))
+
+past_mask : (a k : ℕ) → a < 2 ^ 9 → 9 ≤ k → has_cell a k ≡ false
+past_mask a k l h = ap (λ (v : ℕ). eqb v 1) (bit_at_above a 9 k l h)
+
+mine_by : (x y : Bool) → is_mine (cell_by x y) ≡ x
+mine_by true y = refl
+mine_by false true = refl
+mine_by false false = refl
+
+theirs_by : (x y : Bool) → (x ≡ true → y ≡ false) → is_theirs (cell_by x y) ≡ y
+theirs_by true y h = sym (h refl)
+theirs_by false true h = refl
+theirs_by false false h = refl
+
+-- the mover's lines are those of his mask
+pub own_line : (v : Variant) (a b : ℕ) → a < 2 ^ 9 → list_any (λ line. list_all (has_cell a) line) (lines v) ≡ has_line v is_mine (board_of 9 a b)
+unfolding has_line
+own_line v a b l =
+    same_any (has_cell a) (λ (k : ℕ). is_mine (get_or (board_of 9 a b) k Empty)) (lines v)
+    (λ k. elim (cases_lt k 9) [
+      | inl h ↦ sym (ap is_mine (board_get 9 a b k h) ∙ mine_by (has_cell a k) (has_cell b k))
+      | inr h ↦ past_mask a k l h ∙ sym (ap is_mine (past_cell a b k h))
+    ])
+
+-- the opponent's are those of his
+pub their_line : (v : Variant) (a b : ℕ) → b < 2 ^ 9 → bit_and a b ≡ 0 → list_any (λ line. list_all (has_cell b) line) (lines v) ≡ has_line v is_theirs (board_of 9 a b)
+unfolding has_line
+their_line v a b l e =
+    same_any (has_cell b) (λ (k : ℕ). is_theirs (get_or (board_of 9 a b) k Empty)) (lines v)
+    (λ k. elim (cases_lt k 9) [
+      | inl h ↦ sym (ap is_theirs (board_get 9 a b k h) ∙ theirs_by (has_cell a k) (has_cell b k) (apart_below 9 a b e k h))
+      | inr h ↦ past_mask b k l h ∙ sym (ap is_theirs (past_cell a b k h))
+    ])
+
+-- what a legal board is, by the tests of the code
+legal_tests : (v : Variant) (d : List Cell) (x : Bool) → length d ≡ 9 → mine d ≡ (mine d + theirs d) / 2 → mine d + theirs d ≤ last_tier v → x ≡ has_line v is_mine d → not x ≡ legal v d
+unfolding legal
+legal_tests v d x n e l f =
+    let cells : eqb (length d) 9 ≡ true = eq-eqb _ _ n in
+    let half : eqb (mine d) ((mine d + theirs d) / 2) ≡ true = eq-eqb _ _ e in
+    let few : leb (mine d + theirs d) (last_tier v) ≡ true = le-leb _ _ l in
+    ap not f ∙ sym (ap₂ (λ (y z : Bool). y && (z && (leb (mine d + theirs d) (last_tier v) && not (has_line v is_mine d)))) cells half ∙ ap (λ (y : Bool). y && not (has_line v is_mine d)) few)
+
+-- of a board by its masks
+pub legal_by : (v : Variant) (a b : ℕ) (x : Bool) → mine (board_of 9 a b) ≡ (mine (board_of 9 a b) + theirs (board_of 9 a b)) / 2 → mine (board_of 9 a b) + theirs (board_of 9 a b) ≤ last_tier v
+    → x ≡ has_line v is_mine (board_of 9 a b) → not x ≡ legal v (board_of 9 a b)
+legal_by v a b x e l f = legal_tests v (board_of 9 a b) x (board_length 9 a b) e l f
+
+-- of a position, by its index and the mover's lines
+pub legal_at : (v : Variant) (t i : ℕ) (x : Bool) → i < size_of v t → x ≡ has_line v is_mine (board_at t i)
+    → not x ≡ (ltb i (size_of v t) && (legal v (board_at t i) && eqb (mine (board_at t i) + theirs (board_at t i)) t))
+legal_at v t i x l e =
+    let d = board_at t i in
+    let h = board_numbers t i (below_arrangements v t i l) in
+    let all : mine d + theirs d ≡ t = omega (arith, h.own, h.other) in
+    let half : mine d ≡ (mine d + theirs d) / 2 = h.own ∙ ap (λ (n : ℕ). n / 2) (sym all) in
+    let top = tier_below v t i l in
+    let few : mine d + theirs d ≤ last_tier v = omega (arith, all, top) in
+    legal_tests v d x h.cells half few e
+    ∙ and_true (legal v d)
+    ∙ sym (ap₂ (λ (y z : Bool). y && (legal v d && z)) (lt-ltb _ _ l) (eq-eqb _ _ all))
+  where
+    and_true : (y : Bool) → y ≡ (y && true)
+    and_true true = refl
+    and_true false = refl
+
+-- the same where the code has a number for the size and a board for the position
+pub legal_position : (v w : Variant) (t i n : ℕ) (x : Bool) (d : List Cell) → w ≡ v → n ≡ size_of w t → i < n → d ≡ board_at t i → x ≡ has_line w is_mine d
+    → not x ≡ (ltb i (size_of v t) && (legal v (board_at t i) && eqb (mine (board_at t i) + theirs (board_at t i)) t))
+legal_position v w t i n x d e f l g h =
+    legal_at v t i x (subst (λ (u : Variant). i < size_of u t) e (subst (λ (k : ℕ). i < k) f l))
+    (h ∙ ap₂ (λ (u : Variant) (b : List Cell). has_line u is_mine b) e g)
+
+-- ---- single moves
+-- the points of a number of the last tier
+pub from_below : (v : Variant) (t m l p : ℕ) → m < numbers_end v t → p ≡ t → l ≡ last_tier v → p ≡ l → m / 16 < 9
+from_below v t m l p h e f g = let n = last_end v t (sym e ∙ g ∙ f) in omega (arith, h, n)
+
+-- of a number of another
+pub point_below : (v : Variant) (t m l p : ℕ) → m < numbers_end v t → p ≡ t → l ≡ last_tier v → (p ≡ l → ⊥) → m < 9
+point_below v t m l p h e f g = let n = other_end v t (λ q. g (e ∙ q ∙ sym f)) in omega (arith, h, n)
+
+-- where a piece goes to
+pub to_below : (v : Variant) (a b : ℕ) (x : Bool) → x ≡ joins v a b → x ≡ true → b < 9
+to_below v a b x e f = (joined_within v a b (sym e ∙ f)).1
+
+-- a move of the last tier
+pub slide_here : (v : Variant) (b : List Cell) (m l p : ℕ) → Contains (moves v b) m → p ≡ mine b + theirs b → l ≡ last_tier v → p ≡ l → IsSlide v b m
+slide_here v b m l p c e f g = elim (step_cases v b m (move_in v b m c).step) [
+  | inl h ↦ h
+  | inr h ↦ absurd (h.before (sym e ∙ g ∙ f))
+]
+
+-- of another
+pub placement_here : (v : Variant) (b : List Cell) (m l p : ℕ) → Contains (moves v b) m → p ≡ mine b + theirs b → l ≡ last_tier v → (p ≡ l → ⊥) → IsPlacement v b m
+placement_here v b m l p c e f g = elim (step_cases v b m (move_in v b m c).step) [
+  | inl h ↦ absurd (g (e ∙ h.last ∙ sym f))
+  | inr h ↦ h
+]
+
+-- the goal of a piece that was lifted is free
+pub goal_free : (v : Variant) (b d : List Cell) (m : ℕ) → IsSlide v b m → d ≡ set b (m / 16) Empty → is_empty (get_or d (m % 16) Empty) ≡ true
+goal_free v b d m h e =
+    ap (λ (x : List Cell). is_empty (get_or x (m % 16) Empty)) e
+    ∙ ap is_empty (get_or-set_other b (m / 16) (m % 16) Empty Empty (λ q. mine_or_empty (sym h.here ∙ ap (λ (k : ℕ). get_or b k Empty) (sym q) ∙ h.free)) ∙ h.free)
+  where
+    mine_or_empty : Mine ≡ Empty → ⊥
+    mine_or_empty e = cc
+
+-- ---- single moves taken back
+pub slide_was : (v : Variant) (t : ℕ) (d : List Cell) (m l : ℕ) → was_moved v t d m ≡ true → l ≡ last_tier v → t ≡ l → WasSlide v t d m
+slide_was v t d m l e f g = elim (was_cases v t d m e) [
+  | inl h ↦ h
+  | inr h ↦ absurd (h.other (g ∙ f))
+]
+
+pub placement_was : (v : Variant) (t : ℕ) (d : List Cell) (m l : ℕ) → was_moved v t d m ≡ true → l ≡ last_tier v → (t ≡ l → ⊥) → WasPlacement v t d m
+placement_was v t d m l e f g = elim (was_cases v t d m e) [
+  | inl h ↦ absurd (g (h.last ∙ sym f))
+  | inr h ↦ h
+]
+
+-- the piece that was moved, as who moved it sees it
+pub moved_mine : (d e : List Cell) (k : ℕ) → e ≡ map turned d → get_or d k Empty ≡ Theirs → is_mine (get_or e k Empty) ≡ true
+moved_mine d e k s h = ap (λ (x : List Cell). is_mine (get_or x k Empty)) s ∙ ap is_mine (cell_turned d k ∙ ap turned h)
+
+-- the point that it left is free
+pub start_free : (v : Variant) (t : ℕ) (d e f : List Cell) (m : ℕ) → WasSlide v t d m → e ≡ map turned d → f ≡ set e (m % 16) Empty → is_empty (get_or f (m / 16) Empty) ≡ true
+start_free v t d e f m h s r =
+    ap (λ (x : List Cell). is_empty (get_or x (m / 16) Empty)) (r ∙ ap (λ (x : List Cell). set x (m % 16) Empty) s)
+    ∙ ap is_empty (
+    get_or-set_other (map turned d) (m % 16) (m / 16) Empty Empty (λ q. their_or_empty (sym h.there ∙ ap (λ (k : ℕ). get_or d k Empty) (sym q) ∙ h.left))
+    ∙ cell_turned d (m / 16) ∙ ap turned h.left)
+  where
+    their_or_empty : Theirs ≡ Empty → ⊥
+    their_or_empty e = cc
+
+-- ---- the board before a move
+pub before_some : (v : Variant) (t : ℕ) (d b : List Cell) (m : ℕ) (x : Bool) → was_moved v t d m ≡ true → b ≡ taken_back v t d m → x ≡ is_open v t b → x ≡ true → before_at v t d m ≡ Some b
+unfolding before_at
+before_some v t d b m x e f g h =
+    cond-true _ _ _ (and_both _ _ e (ap (is_open v t) (sym f) ∙ sym g ∙ h)) ∙ ap (λ (y : List Cell). Some y) (sym f)
+
+pub before_closed : (v : Variant) (t : ℕ) (d b : List Cell) (m : ℕ) (x : Bool) → was_moved v t d m ≡ true → b ≡ taken_back v t d m → x ≡ is_open v t b → x ≡ false → before_at v t d m ≡ None
+unfolding before_at
+before_closed v t d b m x e f g h =
+    cond-false _ _ _ (ap₂ (λ (y z : Bool). y && z) e (ap (is_open v t) (sym f) ∙ sym g ∙ h))
+
+pub before_none : (v : Variant) (t : ℕ) (d : List Cell) (m : ℕ) → was_moved v t d m ≡ false → before_at v t d m ≡ None
+unfolding before_at
+before_none v t d m e = cond-false _ _ _ (ap (λ (y : Bool). y && is_open v t (taken_back v t d m)) e)
+
+-- ---- loops over the numbers
+filter_one : (p : ℕ → Bool) (n : ℕ) → filter p (range_with_len 0 (n + 1)) ≡ filter p (range_with_len 0 n) ++ filter p (n ∷ [])
+filter_one p n = ap (filter p) (range_more n) ∙ filter-append p (range_with_len 0 n) (n ∷ [])
+
+-- one more number that is kept, or not
+pub filter_in : (p : ℕ → Bool) (n : ℕ) → p n ≡ true → filter p (range_with_len 0 (n + 1)) ≡ filter p (range_with_len 0 n) ++ n ∷ []
+filter_in p n e = filter_one p n ∙ rw e refl
+
+-- one that is not kept
+pub filter_out : (p : ℕ → Bool) (n : ℕ) → p n ≡ false → filter p (range_with_len 0 (n + 1)) ≡ filter p (range_with_len 0 n)
+filter_out p n e = filter_one p n ∙ rw e (append-nil (filter p (range_with_len 0 n)))
+
+filter_prefix : (p : ℕ → Bool) (n k : ℕ) → length (filter p (range_with_len 0 n)) ≤ length (filter p (range_with_len 0 (n + k)))
+filter_prefix p n zero = let e : n + 0 ≡ n = omega arith in rw e (omega arith)
+filter_prefix p n (suc k) =
+    let e : n + suc k ≡ n + k + 1 = omega arith in
+    let l = ap (λ (xs : List ℕ). length xs) (filter_one p (n + k)) ∙ length-append (filter p (range_with_len 0 (n + k))) (filter p ((n + k) ∷ [])) in
+    rw e (omega (arith, l, filter_prefix p n k))
+
+filter_map_prefix : {B : Type 0} (h : ℕ → Option B) (n k : ℕ) → length (filter_map h (range_with_len 0 n)) ≤ length (filter_map h (range_with_len 0 (n + k)))
+filter_map_prefix h n zero = let e : n + 0 ≡ n = omega arith in rw e (omega arith)
+filter_map_prefix h n (suc k) =
+    let e : n + suc k ≡ n + k + 1 = omega arith in
+    let l = ap (λ (xs : List _). length xs) (ap (filter_map h) (range_more (n + k)) ∙ filter_map-append h (range_with_len 0 (n + k)) ((n + k) ∷ [])) ∙ length-append (filter_map h (range_with_len 0 (n + k))) (filter_map h ((n + k) ∷ [])) in
+    rw e (omega (arith, l, filter_map_prefix h n k))
+
+-- a number that is kept is one of the steps
+pub step_listed : (v : Variant) (b : List Cell) (m : ℕ) → m < numbers_end v (mine b + theirs b) → can_move v b m ≡ true → eqb (length (steps v b)) 0 ≡ false
+unfolding steps
+step_listed v b m l e =
+    let c = filter_to (can_move v b) (range_with_len 0 (numbers_end v (mine b + theirs b))) m (contains_range (numbers_end v (mine b + theirs b)) m l) e in
+    ne_eqb _ _ (λ q. omega (arith, c.1, q))
+
+-- all steps
+pub all_steps : (v : Variant) (b : List Cell) (n : ℕ) → n ≡ numbers_end v (mine b + theirs b) → filter (can_move v b) (range_with_len 0 n) ≡ steps v b
+unfolding steps
+all_steps v b n e = ap (λ (k : ℕ). filter (can_move v b) (range_with_len 0 k)) e
+
+-- without a line of the opponent's they are the moves
+pub all_moves : (v : Variant) (b : List Cell) (x : Bool) → x ≡ has_line v is_theirs b → x ≡ false → steps v b ≡ moves v b
+unfolding moves
+all_moves v b x e f = sym (cond-false _ _ _ (sym e ∙ f))
+
+-- with one there are none
+pub no_moves : (v : Variant) (b : List Cell) (x : Bool) → x ≡ has_line v is_theirs b → x ≡ true → [] ≡ moves v b
+unfolding moves
+no_moves v b x e f = sym (cond-true _ _ _ (sym e ∙ f))
+
+-- there is room for each move
+pub move_room : (v : Variant) (b : List Cell) (m : ℕ) (xs : List ℕ) → m < numbers_end v (mine b + theirs b) → can_move v b m ≡ true → xs ≡ filter (can_move v b) (range_with_len 0 m) → length xs < 128
+unfolding steps
+move_room v b m xs l e is =
+    let n = numbers_end v (mine b + theirs b) in
+    let all : length (filter (can_move v b) (range_with_len 0 n)) ≤ 128 = steps_few v b in
+    let rest : m + 1 + (n - (m + 1)) ≡ n = omega arith in
+    let prefix : length (filter (can_move v b) (range_with_len 0 (m + 1))) ≤ length (filter (can_move v b) (range_with_len 0 n)) =
+    subst (λ (k : ℕ). length (filter (can_move v b) (range_with_len 0 (m + 1))) ≤ length (filter (can_move v b) (range_with_len 0 k))) rest (filter_prefix (can_move v b) (m + 1) (n - (m + 1))) in
+    let one : length (filter (can_move v b) (range_with_len 0 (m + 1))) ≡ length (filter (can_move v b) (range_with_len 0 m)) + 1 =
+    ap (λ (ys : List ℕ). length ys) (filter_in (can_move v b) m e) ∙ length-append (filter (can_move v b) (range_with_len 0 m)) (m ∷ []) in
+    let same : length xs ≡ length (filter (can_move v b) (range_with_len 0 m)) = ap (λ (ys : List ℕ). length ys) is in
+    omega arith
+
+-- there is room for each parent
+pub parent_room : (v : Variant) (t : ℕ) (d a : List Cell) (m : ℕ) (f : List Cell → ℕ) (xs : List ℕ) → m < numbers_end v t → before_at v t d m ≡ Some a
+    → xs ≡ put_all [] (map f (filter_map (before_at v t d) (range_with_len 0 m))) → length xs < 128
+unfolding befores
+parent_room v t d a m f xs l e is =
+    let n = numbers_end v t in
+    let h = before_at v t d in
+    let all : length (filter_map h (range_with_len 0 n)) ≤ 128 = befores_few v t d in
+    let rest : m + 1 + (n - (m + 1)) ≡ n = omega arith in
+    let prefix : length (filter_map h (range_with_len 0 (m + 1))) ≤ length (filter_map h (range_with_len 0 n)) =
+    subst (λ (k : ℕ). length (filter_map h (range_with_len 0 (m + 1))) ≤ length (filter_map h (range_with_len 0 k))) rest (filter_map_prefix h (m + 1) (n - (m + 1))) in
+    let last : length (filter_map h (m ∷ [])) ≡ 1 = rw e refl in
+    let one : length (filter_map h (range_with_len 0 (m + 1))) ≡ length (filter_map h (range_with_len 0 m)) + length (filter_map h (m ∷ [])) =
+    ap (λ (ys : List _). length ys) (ap (filter_map h) (range_more m) ∙ filter_map-append h (range_with_len 0 m) (m ∷ [])) ∙ length-append (filter_map h (range_with_len 0 m)) (filter_map h (m ∷ [])) in
+    let few : length (put_all [] (map f (filter_map h (range_with_len 0 m)))) ≤ 0 + length (map f (filter_map h (range_with_len 0 m))) = put_all_few [] (map f (filter_map h (range_with_len 0 m))) in
+    let long : length (map f (filter_map h (range_with_len 0 m))) ≡ length (filter_map h (range_with_len 0 m)) = length-map (filter_map h (range_with_len 0 m)) f in
+    let same : length xs ≡ length (put_all [] (map f (filter_map h (range_with_len 0 m)))) = ap (λ (ys : List ℕ). length ys) is in
+    omega arith

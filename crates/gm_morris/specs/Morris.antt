@@ -1,0 +1,164 @@
+-- The rules of the games of nine points, said of boards: a board is a list of nine cells as the player to move sees them.
+use Rattle.std.specs.Prelude.{ℕ, ◌+◌, ◌-◌, ◌/◌, ◌%◌, Bool, true, false, not, ◌&&◌, ◌==◌, nat_le, nat_lt, List, [], ◌∷◌, map, reverse, replicate, length, get_or, set, fold, min, if◌then◌else◌, Option, None, Some}
+use Rattle.std.specs.List.{filter, filter_map, count_by, range_with_len}
+use Rattle.gm_game.specs.declared.position.End.{End}
+use Rattle.gm_game.specs.declared.position.End.TheVariants.{Lose}
+use Rattle.gm_game.specs.Rules.{Rules}
+use Rattle.gm_game.specs.Boards.{BoardGame, rules_of}
+use Rattle.gm_board.specs.declared.cell.Cell.{Cell}
+use Rattle.gm_board.specs.declared.cell.Cell.TheVariants.{Empty, Mine, Theirs}
+use Rattle.gm_board.specs.Arrangements.{arrangement, arrangements, arrangement_index}
+use Rattle.gm_board.specs.BoardMasks.{turned}
+use Rattle.gm_board.specs.Patterns.{has_filled}
+use Rattle.gm_board.specs.Permutations.{permute}
+use Rattle.gm_board.specs.Squares.{square_symmetries}
+use Rattle.gm_morris.specs.declared.variant.Variant.{Variant}
+use Rattle.gm_morris.specs.Points.{variant_of, name_of, last_tier, stuck, lines, joins}
+
+-- whether a piece of the mover's stands on a cell
+abbrev pub is_mine : Cell → Bool
+is_mine Empty = false
+is_mine Mine = true
+is_mine Theirs = false
+
+-- whether a piece of the opponent's does
+abbrev pub is_theirs : Cell → Bool
+is_theirs Empty = false
+is_theirs Mine = false
+is_theirs Theirs = true
+
+-- whether no piece does
+abbrev pub is_empty : Cell → Bool
+is_empty Empty = true
+is_empty Mine = false
+is_empty Theirs = false
+
+-- what stands on a point
+abbrev pub cell_at : List Cell → ℕ → Cell
+cell_at b k = get_or b k Empty
+
+-- how many pieces the mover has
+unfoldable pub mine : List Cell → ℕ
+mine b = count_by is_mine b
+
+-- how many the opponent has
+unfoldable pub theirs : List Cell → ℕ
+theirs b = count_by is_theirs b
+
+-- how many pieces there are: the tier
+abbrev pub pieces : List Cell → ℕ
+pieces b = mine b + theirs b
+
+-- whether all cells of a line pass the test
+unfoldable pub has_line : Variant → (Cell → Bool) → List Cell → Bool
+has_line v p b = has_filled Empty (lines v) p b
+
+-- nine cells; the mover has half of the pieces, rounded down; no more pieces than in the last tier; no line of the mover
+unfoldable pub legal : Variant → List Cell → Bool
+legal v b = length b == 9 && (mine b == pieces b / 2 && (nat_le (pieces b) (last_tier v) && not (has_line v is_mine b)))
+
+-- where a piece comes from, by the number of its move
+abbrev pub from_point : ℕ → ℕ
+from_point m = m / 16
+
+-- where it goes to
+abbrev pub to_point : ℕ → ℕ
+to_point m = m % 16
+
+-- whether a move with this number can be made: in the last tier a piece moves to an empty point, in any other one is placed on one
+unfoldable pub can_move : Variant → List Cell → ℕ → Bool
+can_move v b m = if pieces b == last_tier v
+    then joins v (from_point m) (to_point m) && (is_mine (cell_at b (from_point m)) && is_empty (cell_at b (to_point m)))
+    else is_empty (cell_at b m)
+
+-- all numbers of moves of a tier are below this one
+unfoldable pub numbers_end : Variant → ℕ → ℕ
+numbers_end v t = if t == last_tier v then 144 else 9
+
+-- the moves that can be made, were the game not over by a line
+unfoldable pub steps : Variant → List Cell → List ℕ
+steps v b = filter (can_move v b) (range_with_len 0 (numbers_end v (pieces b)))
+
+-- a line of the opponent's loses, which is tested first; then who can't move ends the game
+unfoldable pub ended : Variant → List Cell → Option End
+ended v b = if has_line v is_theirs b then Some Lose else (if length (steps v b) == 0 then Some (stuck v) else None)
+
+-- the moves
+unfoldable pub moves : Variant → List Cell → List ℕ
+moves v b = if has_line v is_theirs b then [] else steps v b
+
+-- the board when the mover has moved
+unfoldable pub moved : Variant → List Cell → ℕ → List Cell
+moved v b m = if pieces b == last_tier v then set (set b (from_point m) Empty) (to_point m) Mine else set b m Mine
+
+-- then the roles swap
+unfoldable pub play : Variant → List Cell → ℕ → List Cell
+play v b m = map turned (moved v b m)
+
+-- whether the move could have been made from tier t, leaving d
+unfoldable pub was_moved : Variant → ℕ → List Cell → ℕ → Bool
+was_moved v t d m = if t == last_tier v
+    then joins v (from_point m) (to_point m) && (is_theirs (cell_at d (to_point m)) && is_empty (cell_at d (from_point m)))
+    else is_theirs (cell_at d m)
+
+-- the board before it
+unfoldable pub taken_back : Variant → ℕ → List Cell → ℕ → List Cell
+taken_back v t d m = if t == last_tier v
+    then set (set (map turned d) (to_point m) Empty) (from_point m) Mine
+    else set (map turned d) m Empty
+
+-- whether the game goes on from a board of tier t, where a move can be made
+unfoldable pub is_open : Variant → ℕ → List Cell → Bool
+is_open v t b = legal v b && (pieces b == t && not (has_line v is_theirs b))
+
+-- the board of tier t before d and the move with this number
+unfoldable pub before_at : Variant → ℕ → List Cell → ℕ → Option (List Cell)
+before_at v t d m = if was_moved v t d m && is_open v t (taken_back v t d m) then Some (taken_back v t d m) else None
+
+-- the boards of tier t before d
+unfoldable pub befores : Variant → ℕ → List Cell → List (List Cell)
+befores v t d = filter_map (before_at v t d) (range_with_len 0 (numbers_end v t))
+
+-- the index of a board
+unfoldable pub board_index : List Cell → ℕ
+board_index b = arrangement_index (reverse b)
+
+-- the board of an index of tier t
+unfoldable pub board_at : ℕ → ℕ → List Cell
+board_at t i = reverse (arrangement 9 (t / 2) (t - t / 2) i)
+
+-- how many indexes a tier has
+unfoldable pub size_of : Variant → ℕ → ℕ
+size_of v t = if nat_le t (last_tier v) then arrangements 9 (t / 2) (t - t / 2) else 0
+
+-- a placement leads to the next tier
+unfoldable pub child_tiers_of : Variant → ℕ → List ℕ
+child_tiers_of v t = if nat_lt t (last_tier v) then (t + 1) ∷ [] else []
+
+-- the least index among a board and its images
+abbrev pub least_index_of : List Cell → ℕ
+least_index_of b = fold min (board_index b) (map board_index (map (λ g. permute Empty g b) (square_symmetries 3)))
+
+-- the game: an empty board at the start, and the turns and reflections of the square
+abbrev pub morris : Variant → BoardGame (List Cell) (List ℕ)
+morris v = record {
+  name = name_of v;
+  start = replicate 9 Empty;
+  legal = legal v;
+  ended = ended v;
+  moves = moves v;
+  play = play v;
+  befores = befores v;
+  symmetries = square_symmetries 3;
+  image = λ g b. permute Empty g b;
+  tier = λ b. pieces b;
+  index = board_index;
+  board = board_at;
+  size = size_of v;
+  child_tiers = child_tiers_of v;
+  tier_rank = λ t. last_tier v - t;
+}
+
+-- the rules of the game with this last tier
+abbrev pub morris_rules : ℕ → Rules
+morris_rules n = rules_of (morris (variant_of n))

@@ -1,0 +1,210 @@
+-- Moves of the games of nine points: placements and moves from point to point, and the ends of games.
+use Rattle.std.proofs.Common.{◌≡◌, ◌≢◌, ℕ, ◌+◌, ◌/◌, ◌%◌, ◌<◌, ◌≤◌, Bool, true, false, ◌&&◌, cond, List, [], length, get_or, Option, None, Some, ◌⊎◌, inl, inr, refl, sym, ap, ◌∙◌, subst, arith, eqb, eq-eqb}
+use Rattle.std.specs.List.{Contains, filter, range_with_len}
+use Rattle.std.proofs.lemmas.Bool.{cases_eq, cases_Bool, cond-true, cond-false, cond_both, ne_eqb}
+use Rattle.gm_game.specs.declared.position.End.{End}
+use Rattle.gm_game.specs.declared.position.End.TheVariants.{Lose}
+use Rattle.gm_game.specs.Rules.{IsAscending}
+use Rattle.gm_board.specs.declared.cell.Cell.{Cell}
+use Rattle.gm_board.specs.declared.cell.Cell.TheVariants.{Empty, Mine, Theirs}
+use Rattle.gm_board.specs.Lists.{and_left, and_right, and_both, contains_range, range_below, filter_from, filter_to}
+use Rattle.gm_morris.specs.declared.variant.Variant.{Variant}
+use Rattle.gm_morris.specs.Points.{last_tier, stuck, joins}
+use Rattle.gm_morris.specs.Morris.{is_mine, is_theirs, is_empty, mine, theirs, has_line, can_move, numbers_end, steps, ended, moves}
+use Rattle.gm_morris.specs.ListFacts.{filter_ascending, filter_few, nil_from}
+use Rattle.gm_morris.specs.PointFacts.{joined_within, joined_few}
+
+-- ---- cells
+pub mine_cell : (c : Cell) → is_mine c ≡ true → c ≡ Mine
+mine_cell Empty e = absurd (let z : ⊥ = cc in z)
+mine_cell Mine e = refl
+mine_cell Theirs e = absurd (let z : ⊥ = cc in z)
+
+pub their_cell : (c : Cell) → is_theirs c ≡ true → c ≡ Theirs
+their_cell Empty e = absurd (let z : ⊥ = cc in z)
+their_cell Mine e = absurd (let z : ⊥ = cc in z)
+their_cell Theirs e = refl
+
+pub empty_cell : (c : Cell) → is_empty c ≡ true → c ≡ Empty
+empty_cell Empty e = refl
+empty_cell Mine e = absurd (let z : ⊥ = cc in z)
+empty_cell Theirs e = absurd (let z : ⊥ = cc in z)
+
+-- ---- what a move is
+-- a piece moves from point to point in the last tier
+pub record IsSlide (v : Variant) (b : List Cell) (m : ℕ) : Type 0 where
+  pub last : mine b + theirs b ≡ last_tier v
+  pub joined : joins v (m / 16) (m % 16) ≡ true
+  pub here : get_or b (m / 16) Empty ≡ Mine
+  pub free : get_or b (m % 16) Empty ≡ Empty
+
+-- a piece is placed in another tier
+pub record IsPlacement (v : Variant) (b : List Cell) (m : ℕ) : Type 0 where
+  pub before : mine b + theirs b ≢ last_tier v
+  pub point : m < 9
+  pub free : get_or b m Empty ≡ Empty
+
+-- the end of the numbers, in the last tier and in any other
+pub last_end : (v : Variant) (t : ℕ) → t ≡ last_tier v → numbers_end v t ≡ 144
+unfolding numbers_end
+last_end v t e = cond-true _ _ _ (eq-eqb _ _ e)
+
+pub other_end : (v : Variant) (t : ℕ) → t ≢ last_tier v → numbers_end v t ≡ 9
+unfolding numbers_end
+other_end v t q = cond-false _ _ _ (ne_eqb _ _ q)
+
+slide_or_place : (v : Variant) (b : List Cell) (m : ℕ) → can_move v b m ≡ true → m < numbers_end v (mine b + theirs b) → IsSlide v b m ⊎ IsPlacement v b m
+unfolding can_move
+slide_or_place v b m e l = elim (cases_eq (mine b + theirs b) (last_tier v)) [
+  | inl q ↦ (
+      let t : eqb (mine b + theirs b) (last_tier v) ≡ true = eq-eqb _ _ q in
+      let f : (joins v (m / 16) (m % 16) && (is_mine (get_or b (m / 16) Empty) && is_empty (get_or b (m % 16) Empty))) ≡ true = sym (cond-true _ _ _ t) ∙ e in
+      let r = and_right _ _ f in
+      inl (record { last = q; joined = and_left _ _ f; here = mine_cell _ (and_left _ _ r); free = empty_cell _ (and_right _ _ r) }))
+  | inr q ↦ (
+      let t : eqb (mine b + theirs b) (last_tier v) ≡ false = ne_eqb _ _ q in
+      let f : is_empty (get_or b m Empty) ≡ true = sym (cond-false _ _ _ t) ∙ e in
+      let n = other_end v (mine b + theirs b) q in
+      inr (record { before = q; point = omega (arith, l, n); free = empty_cell _ f }))
+]
+
+-- a number that is listed is one of the two
+pub step_cases : (v : Variant) (b : List Cell) (m : ℕ) → Contains (steps v b) m → IsSlide v b m ⊎ IsPlacement v b m
+unfolding steps
+step_cases v b m c =
+    let h = filter_from (can_move v b) (range_with_len 0 (numbers_end v (mine b + theirs b))) m c in
+    slide_or_place v b m h.1 (range_below (numbers_end v (mine b + theirs b)) m h.0)
+
+-- the points of a move
+pub record ArePoints (v : Variant) (m : ℕ) : Type 0 where
+  pub start : m / 16 < 9
+  pub goal : m % 16 < 9
+
+pub slide_points : (v : Variant) (m : ℕ) → joins v (m / 16) (m % 16) ≡ true → ArePoints v m
+slide_points v m e = let w = joined_within v (m / 16) (m % 16) e in record { start = w.0; goal = w.1 }
+
+-- and the other way round
+pub slide_step : (v : Variant) (b : List Cell) (m : ℕ) → IsSlide v b m → Contains (steps v b) m
+unfolding steps can_move
+slide_step v b m h =
+    let t : eqb (mine b + theirs b) (last_tier v) ≡ true = eq-eqb _ _ h.last in
+    let w = slide_points v m h.joined in
+    filter_to (can_move v b) (range_with_len 0 (numbers_end v (mine b + theirs b))) m
+    (contains_range (numbers_end v (mine b + theirs b)) m (let n = last_end v (mine b + theirs b) h.last in omega (arith, n, w.start)))
+    (cond-true _ _ _ t ∙ and_both _ _ h.joined (and_both _ _ (ap is_mine h.here) (ap is_empty h.free)))
+
+-- of a placement
+pub placement_step : (v : Variant) (b : List Cell) (m : ℕ) → IsPlacement v b m → Contains (steps v b) m
+unfolding steps can_move
+placement_step v b m h =
+    let t : eqb (mine b + theirs b) (last_tier v) ≡ false = ne_eqb _ _ h.before in
+    filter_to (can_move v b) (range_with_len 0 (numbers_end v (mine b + theirs b))) m
+    (contains_range (numbers_end v (mine b + theirs b)) m (let n = other_end v (mine b + theirs b) h.before in omega (arith, n, h.point)))
+    (cond-false _ _ _ t ∙ ap is_empty h.free)
+
+-- a move fits its number
+pub step_below : (v : Variant) (b : List Cell) (m : ℕ) → Contains (steps v b) m → m < 144
+step_below v b m c = elim (step_cases v b m c) [
+  | inl h ↦ (let w = slide_points v m h.joined in omega (arith, w.start))
+  | inr h ↦ omega (arith, h.point)
+]
+
+-- ---- ends
+-- the moves of a board without a line of the opponent's
+pub record IsMove (v : Variant) (b : List Cell) (m : ℕ) : Type 0 where
+  pub no_line : has_line v is_theirs b ≡ false
+  pub step : Contains (steps v b) m
+
+pub move_in : (v : Variant) (b : List Cell) (m : ℕ) → Contains (moves v b) m → IsMove v b m
+unfolding moves
+move_in v b m c = elim (cases_Bool (has_line v is_theirs b)) [
+  | inl e ↦ absurd (let d = subst (λ (xs : List ℕ). Contains xs m) (cond-true _ _ _ e) c in omega (arith, d.1))
+  | inr e ↦ record { no_line = e; step = subst (λ (xs : List ℕ). Contains xs m) (cond-false _ _ _ e) c }
+]
+
+pub move_from : (v : Variant) (b : List Cell) (m : ℕ) → IsMove v b m → Contains (moves v b) m
+unfolding moves
+move_from v b m h = subst (λ (xs : List ℕ). Contains xs m) (sym (cond-false _ _ _ h.no_line)) h.step
+
+no_length : (n : ℕ) → n ≢ 0 → (o : Option End) → cond (eqb n 0) o None ≡ None
+no_length n q o = cond-false _ _ _ (ne_eqb n 0 q)
+
+-- a board that goes on has no line of the opponent's, and a move
+pub goes_on : (v : Variant) (b : List Cell) (m : ℕ) → IsMove v b m → ended v b ≡ None
+unfolding ended
+goes_on v b m h =
+    cond-false _ _ _ h.no_line ∙ no_length (length (steps v b)) (λ e. let d = h.step in omega (arith, d.1, e)) (Some (stuck v))
+
+pub no_line_left : (v : Variant) (b : List Cell) → ended v b ≡ None → has_line v is_theirs b ≡ false
+unfolding ended
+no_line_left v b e = elim (cases_Bool (has_line v is_theirs b)) [
+  | inl f ↦ absurd (let g : Some Lose ≡ None = sym (cond-true _ _ _ f) ∙ e in let z : ⊥ = cc in z)
+  | inr f ↦ f
+]
+
+-- a board that goes on has a move
+pub moves_left : (v : Variant) (b : List Cell) → ended v b ≡ None → moves v b ≢ []
+unfolding ended moves
+moves_left v b e q =
+    let f = no_line_left v b e in
+    let none : steps v b ≡ [] = sym (cond-false _ _ _ f) ∙ q in
+    let zero_long : length (steps v b) ≡ 0 = ap (λ (xs : List ℕ). length xs) none in
+    let g : Some (stuck v) ≡ None = sym (cond-true _ _ _ (eq-eqb _ _ zero_long)) ∙ sym (cond-false _ _ _ f) ∙ e in
+    let z : ⊥ = cc in z
+
+-- an ended one has none
+pub moves_none : (v : Variant) (b : List Cell) → ended v b ≢ None → moves v b ≡ []
+unfolding ended moves
+moves_none v b q = elim (cases_Bool (has_line v is_theirs b)) [
+  | inl f ↦ cond-true _ _ _ f
+  | inr f ↦ elim (cases_eq (length (steps v b)) 0) [
+    | inl n ↦ cond-false _ _ _ f ∙ nil_from (steps v b) n
+    | inr n ↦ absurd (q (cond-false _ _ _ f ∙ no_length (length (steps v b)) n (Some (stuck v))))
+  ]
+]
+
+-- ---- lists of moves
+-- the moves ascend
+pub moves_ascending : (v : Variant) (b : List Cell) → IsAscending (moves v b)
+unfolding moves steps
+moves_ascending v b =
+    cond_both (has_line v is_theirs b) [] (filter (can_move v b) (range_with_len 0 (numbers_end v (mine b + theirs b)))) IsAscending
+    (λ e. tt) (λ e. filter_ascending (can_move v b) 0 (numbers_end v (mine b + theirs b)))
+
+-- whether a number is one of a move of tier t
+unfoldable pub is_number : Variant → ℕ → ℕ → Bool
+is_number v t m = cond (eqb t (last_tier v)) (joins v (m / 16) (m % 16)) true
+
+-- there are at most 128
+pub numbers_few : (v : Variant) (t : ℕ) → length (filter (is_number v t) (range_with_len 0 (numbers_end v t))) ≤ 128
+unfolding is_number
+numbers_few v t = elim (cases_eq t (last_tier v)) [
+  | inl e ↦ (
+      let less = filter_few (is_number v t) (λ m. joins v (m / 16) (m % 16)) (λ m f. sym (cond-true _ _ _ (eq-eqb _ _ e)) ∙ f) (range_with_len 0 144) in
+      let all = joined_few v in
+      subst (λ (n : ℕ). length (filter (is_number v t) (range_with_len 0 n)) ≤ 128) (sym (last_end v t e)) (omega (arith, less, all)))
+  | inr q ↦ (
+      let less = filter_few (is_number v t) (λ m. true) (λ m f. refl) (range_with_len 0 9) in
+      let all : length (filter (λ (m : ℕ). true) (range_with_len 0 9)) ≤ 128 = omega arith in
+      subst (λ (n : ℕ). length (filter (is_number v t) (range_with_len 0 n)) ≤ 128) (sym (other_end v t q)) (omega (arith, less, all)))
+]
+
+can_number : (v : Variant) (b : List Cell) (m : ℕ) → can_move v b m ≡ true → is_number v (mine b + theirs b) m ≡ true
+unfolding can_move is_number
+can_number v b m e = elim (cases_Bool (eqb (mine b + theirs b) (last_tier v))) [
+  | inl t ↦ cond-true _ _ _ t ∙ and_left _ _ (sym (cond-true _ _ _ t) ∙ e)
+  | inr t ↦ cond-false _ _ _ t
+]
+
+-- so few can be made
+pub steps_few : (v : Variant) (b : List Cell) → length (steps v b) ≤ 128
+unfolding steps
+steps_few v b =
+    let t = mine b + theirs b in
+    let few = filter_few (can_move v b) (is_number v t) (can_number v b) (range_with_len 0 (numbers_end v t)) in
+    let all = numbers_few v t in omega (arith, few, all)
+
+-- so are the moves
+pub moves_few : (v : Variant) (b : List Cell) → length (moves v b) ≤ 128
+unfolding moves
+moves_few v b = cond_both (has_line v is_theirs b) [] (steps v b) (λ (xs : List ℕ). length xs ≤ 128) (λ e. omega arith) (λ e. steps_few v b)

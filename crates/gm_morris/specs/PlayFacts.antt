@@ -1,0 +1,228 @@
+-- What a move of the games of nine points leaves, and the moves of images.
+use Rattle.std.proofs.Common.{◌≡◌, ◌≢◌, ℕ, ◌+◌, ◌*◌, ◌/◌, ◌%◌, ◌<◌, ◌≤◌, true, false, List, [], ◌∷◌, map, length, get_or, set, ◌⊎◌, inl, inr, refl, sym, ap, ap₂, ◌∙◌, subst, arith, eqb, eqb-true, eq-eqb, lt-ltb, length-set, get_or-set_other}
+use Rattle.std.specs.List.{Contains}
+use Rattle.std.proofs.lemmas.Bool.{cases_eq, cond-true, cond-false, ne_eqb}
+use Rattle.std.proofs.lemmas.List.{length-map}
+use Rattle.gm_board.specs.declared.cell.Cell.{Cell}
+use Rattle.gm_board.specs.declared.cell.Cell.TheVariants.{Empty, Mine}
+use Rattle.gm_board.specs.Lists.{contains_head}
+use Rattle.gm_board.specs.BoardMasks.{turned}
+use Rattle.gm_board.specs.Groups.{group_length, image_length, image_back, image_set, image_slide}
+use Rattle.gm_board.specs.Patterns.{same_tests}
+use Rattle.gm_board.specs.Permutations.{permute, permute_get}
+use Rattle.gm_board.specs.Squares.{square_symmetries}
+use Rattle.gm_morris.specs.declared.variant.Variant.{Variant}
+use Rattle.gm_morris.specs.Points.{last_tier, joins}
+use Rattle.gm_morris.specs.Morris.{is_mine, is_theirs, mine, theirs, has_line, legal, steps, moves, moved, play, child_tiers_of}
+use Rattle.gm_morris.specs.PointFacts.{last_tier_even, joined_image}
+use Rattle.gm_morris.specs.BoardFacts.{one_if, mine_set, theirs_set, mine_turned, theirs_turned, permute_turned, line_turned, line_set, group, image_mine, image_theirs, image_line, IsLegal, legal_in, legal_from}
+use Rattle.gm_morris.specs.MoveFacts.{IsSlide, IsPlacement, step_cases, slide_points, slide_step, placement_step, move_in, move_from}
+
+-- ---- what a move leaves
+pub slide_moved : (v : Variant) (b : List Cell) (m : ℕ) → mine b + theirs b ≡ last_tier v → moved v b m ≡ set (set b (m / 16) Empty) (m % 16) Mine
+unfolding moved
+slide_moved v b m e = cond-true _ _ _ (eq-eqb _ _ e)
+
+pub placement_moved : (v : Variant) (b : List Cell) (m : ℕ) → mine b + theirs b ≢ last_tier v → moved v b m ≡ set b m Mine
+unfolding moved
+placement_moved v b m q = cond-false _ _ _ (ne_eqb _ _ q)
+
+-- the board after a move, before the roles swap
+pub record IsLeft (v : Variant) (b d : List Cell) (more : ℕ) : Type 0 where
+  pub cells : length d ≡ length b
+  pub own : mine d ≡ mine b + more
+  pub other : theirs d ≡ theirs b
+  pub line : has_line v is_theirs d ≡ has_line v is_theirs b
+
+mine_or_empty : Mine ≡ Empty → ⊥
+mine_or_empty e = cc
+
+slide_apart : (v : Variant) (b : List Cell) (m : ℕ) → IsSlide v b m → m % 16 ≢ m / 16
+slide_apart v b m h e = mine_or_empty (sym h.here ∙ ap (λ (k : ℕ). get_or b k Empty) (sym e) ∙ h.free)
+
+slide_left : (v : Variant) (b : List Cell) (m : ℕ) → length b ≡ 9 → IsSlide v b m → IsLeft v b (set (set b (m / 16) Empty) (m % 16) Mine) 0
+slide_left v b m n h =
+    let w = slide_points v m h.joined in
+    let a = set b (m / 16) Empty in
+    let la : length a ≡ 9 = length-set b (m / 16) Empty ∙ n in
+    let lf : m / 16 < length b = omega (arith, w.start, n) in
+    let lt : m % 16 < length a = omega (arith, w.goal, la) in
+    let free : get_or a (m % 16) Empty ≡ Empty = get_or-set_other b (m / 16) (m % 16) Empty Empty (slide_apart v b m h) ∙ h.free in
+    let m1 = mine_set b (m / 16) Empty lf in
+    let m2 = mine_set a (m % 16) Mine lt in
+    let t1 = theirs_set b (m / 16) Empty lf in
+    let t2 = theirs_set a (m % 16) Mine lt in
+    let x1 : one_if (is_mine (get_or b (m / 16) Empty)) ≡ 1 = ap (λ (c : Cell). one_if (is_mine c)) h.here in
+    let x2 : one_if (is_mine (get_or a (m % 16) Empty)) ≡ 0 = ap (λ (c : Cell). one_if (is_mine c)) free in
+    let y1 : one_if (is_theirs (get_or b (m / 16) Empty)) ≡ 0 = ap (λ (c : Cell). one_if (is_theirs c)) h.here in
+    let y2 : one_if (is_theirs (get_or a (m % 16) Empty)) ≡ 0 = ap (λ (c : Cell). one_if (is_theirs c)) free in
+    record {
+      cells = length-set a (m % 16) Mine ∙ length-set b (m / 16) Empty;
+      own = omega (arith, m1, m2, x1, x2);
+      other = omega (arith, t1, t2, y1, y2);
+      line = line_set v a (m % 16) Mine lt (ap is_theirs (sym free)) ∙ line_set v b (m / 16) Empty lf (ap is_theirs (sym h.here));
+    }
+
+placement_left : (v : Variant) (b : List Cell) (m : ℕ) → length b ≡ 9 → IsPlacement v b m → IsLeft v b (set b m Mine) 1
+placement_left v b m n h =
+    let l : m < length b = omega (arith, h.point, n) in
+    let m1 = mine_set b m Mine l in
+    let t1 = theirs_set b m Mine l in
+    let x1 : one_if (is_mine (get_or b m Empty)) ≡ 0 = ap (λ (c : Cell). one_if (is_mine c)) h.free in
+    let y1 : one_if (is_theirs (get_or b m Empty)) ≡ 0 = ap (λ (c : Cell). one_if (is_theirs c)) h.free in
+    record {
+      cells = length-set b m Mine;
+      own = omega (arith, m1, x1);
+      other = omega (arith, t1, y1);
+      line = line_set v b m Mine l (ap is_theirs (sym h.free));
+    }
+
+-- the board after the roles swap
+left_legal : (v : Variant) (b d : List Cell) (more : ℕ) → IsLegal v b → has_line v is_theirs b ≡ false → IsLeft v b d more
+    → theirs b ≡ (mine b + theirs b + more) / 2 → mine b + theirs b + more ≤ last_tier v → legal v (map turned d) ≡ true
+left_legal v b d more h e k half few =
+    let m = mine_turned d in
+    let t = theirs_turned d in
+    legal_from v (map turned d) (record {
+      cells = length-map d turned ∙ k.cells ∙ h.cells;
+      half = (let s : mine (map turned d) + theirs (map turned d) ≡ mine b + theirs b + more = omega (arith, m, t, k.own, k.other) in
+          m ∙ k.other ∙ half ∙ ap (λ (n : ℕ). n / 2) (sym s));
+      few = omega (arith, m, t, k.own, k.other, few);
+      no_line = line_turned v d ∙ k.line ∙ e;
+    })
+
+even_half : (x y n : ℕ) → x + y ≡ n → n % 2 ≡ 0 → x ≡ (x + y) / 2 → y ≡ (x + y + 0) / 2
+even_half x y n e f h = omega arith
+
+odd_half : (x y : ℕ) → x ≡ (x + y) / 2 → y ≡ (x + y + 1) / 2
+odd_half x y h = omega arith
+
+-- a move leads to a legal board
+pub play_legal : (v : Variant) (b : List Cell) (m : ℕ) → legal v b ≡ true → Contains (moves v b) m → legal v (play v b m) ≡ true
+unfolding play
+play_legal v b m l c =
+    let h = legal_in v b l in
+    let k = move_in v b m c in
+    elim (step_cases v b m k.step) [
+      | inl s ↦ subst (λ (d : List Cell). legal v (map turned d) ≡ true) (sym (slide_moved v b m s.last))
+          (left_legal v b (set (set b (m / 16) Empty) (m % 16) Mine) 0 h k.no_line (slide_left v b m h.cells s)
+          (even_half (mine b) (theirs b) (last_tier v) s.last (last_tier_even v _ _ s.joined) h.half)
+          (omega (arith, h.few)))
+      | inr s ↦ subst (λ (d : List Cell). legal v (map turned d) ≡ true) (sym (placement_moved v b m s.before))
+          (left_legal v b (set b m Mine) 1 h k.no_line (placement_left v b m h.cells s)
+          (odd_half (mine b) (theirs b) h.half)
+          (let n = s.before in omega (arith, h.few, n)))
+    ]
+
+left_pieces : (v : Variant) (b d : List Cell) (more : ℕ) → IsLeft v b d more → mine (map turned d) + theirs (map turned d) ≡ mine b + theirs b + more
+left_pieces v b d more k = let m = mine_turned d in let t = theirs_turned d in omega (arith, m, t, k.own, k.other)
+
+next_tier : (v : Variant) (t : ℕ) → t < last_tier v → Contains (child_tiers_of v t) (t + 1)
+unfolding child_tiers_of
+next_tier v t l = subst (λ (xs : List ℕ). Contains xs (t + 1)) (sym (cond-true _ _ _ (lt-ltb _ _ l))) (contains_head (t + 1) [])
+
+-- it stays in its tier or goes to the next
+pub play_tier : (v : Variant) (b : List Cell) (m : ℕ) → legal v b ≡ true → Contains (moves v b) m
+    → (mine (play v b m) + theirs (play v b m) ≡ mine b + theirs b) ⊎ Contains (child_tiers_of v (mine b + theirs b)) (mine (play v b m) + theirs (play v b m))
+unfolding play
+play_tier v b m l c =
+    let h = legal_in v b l in
+    let k = move_in v b m c in
+    elim (step_cases v b m k.step) [
+      | inl s ↦ inl (
+          ap (λ (d : List Cell). mine (map turned d) + theirs (map turned d)) (slide_moved v b m s.last)
+          ∙ left_pieces v b (set (set b (m / 16) Empty) (m % 16) Mine) 0 (slide_left v b m h.cells s)
+          ∙ (let z : mine b + theirs b + 0 ≡ mine b + theirs b = omega arith in z))
+      | inr s ↦ inr (
+          let e : mine (map turned (moved v b m)) + theirs (map turned (moved v b m)) ≡ mine b + theirs b + 1 =
+          ap (λ (d : List Cell). mine (map turned d) + theirs (map turned d)) (placement_moved v b m s.before)
+          ∙ left_pieces v b (set b m Mine) 1 (placement_left v b m h.cells s) in
+          subst (λ (t : ℕ). Contains (child_tiers_of v (mine b + theirs b)) t) (sym e)
+          (next_tier v (mine b + theirs b) (let n = s.before in omega (arith, h.few, n))))
+    ]
+
+-- ---- images
+image_cell : (g : List ℕ) (b : List Cell) (k : ℕ) → Contains (square_symmetries 3) g → k < 9 → get_or (permute Empty g b) k Empty ≡ get_or b (get_or g k 0) Empty
+image_cell g b k c l = permute_get Empty g b k (subst (λ (n : ℕ). k < n) (sym (group_length 9 (square_symmetries 3) group g c)) l)
+
+slide_image : (v : Variant) (g : List ℕ) (b : List Cell) (m : ℕ) → Contains (square_symmetries 3) g → length b ≡ 9 → IsSlide v b m
+    → (n : ℕ) × IsSlide v (permute Empty g b) n × (play v (permute Empty g b) n ≡ permute Empty g (play v b m))
+unfolding play
+slide_image v g b m c e h =
+    let w = slide_points v m h.joined in
+    let x = image_slide Empty 9 (square_symmetries 3) group g c b (m / 16) (m % 16) Empty Mine e w.start w.goal in
+    let image = permute Empty g b in
+    let n = 16 * x.0 + x.1 in
+    let lx = x.2 in
+    let ly = x.3 in
+    let nf : n / 16 ≡ x.0 = omega (arith, ly) in
+    let nt : n % 16 ≡ x.1 = omega (arith, ly) in
+    let last : mine image + theirs image ≡ last_tier v = ap₂ (λ (a b : ℕ). a + b) (image_mine g b c e) (image_theirs g b c e) ∙ h.last in (
+      n,
+      record {
+        last = last;
+        joined = ap₂ (joins v) nf nt ∙ sym (joined_image v g x.0 x.1 c lx ly) ∙ ap₂ (joins v) x.4 x.5 ∙ h.joined;
+        here = ap (λ (k : ℕ). get_or image k Empty) nf ∙ image_cell g b x.0 c lx ∙ ap (λ (k : ℕ). get_or b k Empty) x.4 ∙ h.here;
+        free = ap (λ (k : ℕ). get_or image k Empty) nt ∙ image_cell g b x.1 c ly ∙ ap (λ (k : ℕ). get_or b k Empty) x.5 ∙ h.free;
+      },
+      ap (map turned) (
+          slide_moved v image n last
+          ∙ ap₂ (λ (a z : ℕ). set (set image a Empty) z Mine) nf nt
+          ∙ sym x.6
+          ∙ ap (permute Empty g) (sym (slide_moved v b m h.last)))
+          ∙ sym (permute_turned g (moved v b m)),
+    )
+
+placement_image : (v : Variant) (g : List ℕ) (b : List Cell) (m : ℕ) → Contains (square_symmetries 3) g → length b ≡ 9 → IsPlacement v b m
+    → (n : ℕ) × IsPlacement v (permute Empty g b) n × (play v (permute Empty g b) n ≡ permute Empty g (play v b m))
+unfolding play
+placement_image v g b m c e h =
+    let x = image_set Empty 9 (square_symmetries 3) group g c b m Mine e h.point in
+    let image = permute Empty g b in
+    let same : mine image + theirs image ≡ mine b + theirs b = ap₂ (λ (a b : ℕ). a + b) (image_mine g b c e) (image_theirs g b c e) in
+    let before : mine image + theirs image ≢ last_tier v = λ q. h.before (sym same ∙ q) in (
+      x.0,
+      record {
+        before = before;
+        point = x.1;
+        free = image_cell g b x.0 c x.1 ∙ ap (λ (k : ℕ). get_or b k Empty) x.2 ∙ h.free;
+      },
+      ap (map turned) (placement_moved v image x.0 before ∙ sym x.3 ∙ ap (permute Empty g) (sym (placement_moved v b m h.before)))
+          ∙ sym (permute_turned g (moved v b m)),
+    )
+
+image_step : (v : Variant) (g : List ℕ) (b : List Cell) (m : ℕ) → Contains (square_symmetries 3) g → length b ≡ 9 → Contains (steps v b) m
+    → (n : ℕ) × Contains (steps v (permute Empty g b)) n × (play v (permute Empty g b) n ≡ permute Empty g (play v b m))
+image_step v g b m c e d = elim (step_cases v b m d) [
+  | inl h ↦ (let x = slide_image v g b m c e h in (x.0, slide_step v (permute Empty g b) x.0 x.1, x.2))
+  | inr h ↦ (let x = placement_image v g b m c e h in (x.0, placement_step v (permute Empty g b) x.0 x.1, x.2))
+]
+
+-- a move of a board is one of its image
+pub image_move : (v : Variant) (g : List ℕ) (b : List Cell) (m : ℕ) → Contains (square_symmetries 3) g → length b ≡ 9 → Contains (moves v b) m
+    → (n : ℕ) × Contains (moves v (permute Empty g b)) n × (play v (permute Empty g b) n ≡ permute Empty g (play v b m))
+image_move v g b m c e d =
+    let h = move_in v b m d in
+    let x = image_step v g b m c e h.step in
+    (x.0, move_from v (permute Empty g b) x.0 (record { no_line = image_line v is_theirs g b c e ∙ h.no_line; step = x.1 }), x.2)
+
+some_in : (xs : List ℕ) → length xs ≢ 0 → (x : ℕ) × Contains xs x
+some_in [] q = absurd (q refl)
+some_in (x ∷ xs) q = (x, contains_head x xs)
+
+steps_carry : (v : Variant) (g : List ℕ) (b : List Cell) → Contains (square_symmetries 3) g → length b ≡ 9 → length (steps v (permute Empty g b)) ≡ 0 → length (steps v b) ≡ 0
+steps_carry v g b c e n = elim (cases_eq (length (steps v b)) 0) [
+  | inl q ↦ q
+  | inr q ↦ absurd (
+      let m = some_in (steps v b) q in
+      let x = image_step v g b m.0 c e m.1 in
+      let d = x.1 in omega (arith, d.1, n))
+]
+
+-- an image has a move where the board has one
+pub image_steps : (v : Variant) (g : List ℕ) (b : List Cell) → Contains (square_symmetries 3) g → length b ≡ 9 → eqb (length (steps v (permute Empty g b))) 0 ≡ eqb (length (steps v b)) 0
+image_steps v g b c e =
+    let h = image_back Empty 9 (square_symmetries 3) group g c b e in
+    same_tests _ _
+    (λ t. eq-eqb _ _ (steps_carry v g b c e (eqb-true _ _ t)))
+    (λ t. eq-eqb _ _ (steps_carry v h.0 (permute Empty g b) h.1 (image_length Empty 9 (square_symmetries 3) group g c b) (ap (λ (x : List Cell). length (steps v x)) h.2 ∙ eqb-true _ _ t)))

@@ -1,0 +1,90 @@
+-- The texts of the games of nine points fit a line, and tell positions and moves apart.
+use Rattle.std.proofs.Common.{◌≡◌, ℕ, ◌+◌, ◌/◌, ◌%◌, ◌≤◌, eqb, List, [], ◌∷◌, ◌++◌, map, length, refl, sym, ap, ap₂, ◌∙◌, arith, inl, inr}
+use Rattle.std.proofs.lemmas.Bool.{cases_Bool, cond_both, cond-true, cond-false}
+use Rattle.std.proofs.lemmas.List.{length-map}
+use Rattle.gm_game.specs.Boards.{position_of, board_of}
+use Rattle.gm_game.specs.Shown.{IsShown}
+use Rattle.gm_game.proofs.BoardLaws.{position_back, legal_board}
+use Rattle.gm_board.specs.declared.cell.Cell.{Cell}
+use Rattle.gm_board.specs.declared.cell.Cell.TheVariants.{Empty, Mine, Theirs}
+use Rattle.gm_board.specs.Squares.{cell_text}
+use Rattle.gm_morris.specs.declared.variant.Variant.{Variant}
+use Rattle.gm_morris.specs.Points.{variant_of, last_tier}
+use Rattle.gm_morris.specs.Morris.{board_at, morris, morris_rules}
+use Rattle.gm_morris.specs.BoardFacts.{legal_in}
+use Rattle.gm_morris.specs.MorrisLaws.{numbered}
+use Rattle.gm_morris.specs.Texts.{cell_char, board_text, step_text, position_text, move_text}
+
+-- ---- boards
+pub text_length : (b : List Cell) → length (board_text b) ≡ length b
+unfolding board_text
+text_length b = length-map b cell_char
+
+same_cell : (a b : Cell) → cell_char a ≡ cell_char b → a ≡ b
+same_cell Empty Empty e = refl
+same_cell Empty Mine e = absurd (omega arith)
+same_cell Empty Theirs e = absurd (omega arith)
+same_cell Mine Empty e = absurd (omega arith)
+same_cell Mine Mine e = refl
+same_cell Mine Theirs e = absurd (omega arith)
+same_cell Theirs Empty e = absurd (omega arith)
+same_cell Theirs Mine e = absurd (omega arith)
+same_cell Theirs Theirs e = refl
+
+-- boards with one text are one
+pub text_once : (a b : List Cell) → board_text a ≡ board_text b → a ≡ b
+unfolding board_text
+text_once [] [] e = refl
+text_once [] (y ∷ b) e = absurd (let z : ⊥ = cc in z)
+text_once (x ∷ a) [] e = absurd (let z : ⊥ = cc in z)
+text_once (x ∷ a) (y ∷ b) e =
+    let head : cell_char x ≡ cell_char y = cc in
+    let tail : map cell_char a ≡ map cell_char b = cc in
+    ap₂ (λ (c : Cell) (cs : List Cell). c ∷ cs) (same_cell x y head) (text_once a b tail)
+
+-- ---- moves
+point_once : (j k : ℕ) → 97 + j / 3 ≡ 97 + k / 3 → 49 + j % 3 ≡ 49 + k % 3 → j ≡ k
+point_once j k e f = omega arith
+
+slide_once : (m k : ℕ) → cell_text 3 (m / 16) ++ 45 ∷ cell_text 3 (m % 16) ≡ cell_text 3 (k / 16) ++ 45 ∷ cell_text 3 (k % 16) → m ≡ k
+slide_once m k e =
+    let a : 97 + m / 16 / 3 ≡ 97 + k / 16 / 3 = cc in
+    let b : 49 + m / 16 % 3 ≡ 49 + k / 16 % 3 = cc in
+    let c : 97 + m % 16 / 3 ≡ 97 + k % 16 / 3 = cc in
+    let d : 49 + m % 16 % 3 ≡ 49 + k % 16 % 3 = cc in
+    let f = point_once (m / 16) (k / 16) a b in
+    let g = point_once (m % 16) (k % 16) c d in
+    omega (arith, f, g)
+
+placement_once : (m k : ℕ) → cell_text 3 m ≡ cell_text 3 k → m ≡ k
+placement_once m k e =
+    let a : 97 + m / 3 ≡ 97 + k / 3 = cc in
+    let b : 49 + m % 3 ≡ 49 + k % 3 = cc in
+    point_once m k a b
+
+-- moves with one text are one
+pub step_once : (v : Variant) (t m k : ℕ) → step_text v t m ≡ step_text v t k → m ≡ k
+unfolding step_text
+step_once v t m k e = elim (cases_Bool (eqb t (last_tier v))) [
+  | inl f ↦ slide_once m k (sym (cond-true _ _ _ f) ∙ e ∙ cond-true _ _ _ f)
+  | inr f ↦ placement_once m k (sym (cond-false _ _ _ f) ∙ e ∙ cond-false _ _ _ f)
+]
+
+-- the text of a move has at most five bytes
+pub step_short : (v : Variant) (t m : ℕ) → length (step_text v t m) ≤ 5
+unfolding step_text
+step_short v t m =
+    cond_both (eqb t (last_tier v)) (cell_text 3 (m / 16) ++ 45 ∷ cell_text 3 (m % 16)) (cell_text 3 m) (λ (t : List ℕ). length t ≤ 5) (λ e. omega arith) (λ e. omega arith)
+
+-- ---- the laws of texts
+pub texts_readable : (n : ℕ) → IsShown (morris_rules n) position_text (move_text n)
+texts_readable n =
+    let v = variant_of n in
+    record {
+      shown_fits = λ p l. let a = text_length (board_at p.tier p.index) in let b = (legal_in v (board_at p.tier p.index) (legal_board (morris v) p l)).cells in omega (arith, a, b);
+      shown_once = λ p q l k e.
+          let r = morris v in
+          sym (position_back r (numbered v) p l) ∙ ap (position_of r) (text_once (board_of r p) (board_of r q) e) ∙ position_back r (numbered v) q k;
+      move_shown_fits = λ p m l c. let short = step_short v p.tier m in omega (arith, short);
+      move_shown_once = λ p m k l c d e. step_once v p.tier m k e;
+    }

@@ -1,0 +1,119 @@
+//! Moves: a piece is placed, and in the last tier moved from point to point.
+ghost use Rattle.std.specs.Prelude.{◌≡◌, ◌<◌, ◌==◌, true, length};
+ghost use Rattle.std.specs.List.{Contains};
+ghost use Rattle.gm_board.specs.Images.{board_of};
+ghost use Rattle.gm_morris.specs.Morris.{pieces, has_line as has_line_of, is_mine, is_theirs as is_theirs_cell, legal, numbers_end as numbers_end_of, can_move as can_move_of, steps, ended, moves as moves_of, moved as moved_of, play as play_of};
+
+use crate::board::Board;
+use crate::tiers::numbers_end;
+use crate::variant::Variant;
+use arrayvec::ArrayVec;
+use gm_game::limits::MOVES;
+use gm_game::position::End;
+
+/// Whether the mover has a line.
+pub fn has_own_line(variant: Variant, board: Board) -> bool
+    ensures { result ≡ has_line_of variant is_mine (board_of 9 board.mine board.theirs) }
+{
+    variant.has_line(board.mine)
+}
+
+/// Whether the opponent has a line.
+pub fn has_their_line(variant: Variant, board: Board) -> bool
+    ensures { result ≡ has_line_of variant is_theirs_cell (board_of 9 board.mine board.theirs) }
+{
+    variant.has_line(board.theirs)
+}
+
+/// Whether a board is one of the game: the mover has half of the pieces, rounded down, there are no more than in the last tier, and the mover has no line.
+#[tactic(auto, unfolding(crate::specs::Morris::legal))]
+pub fn is_legal_board(variant: Variant, board: Board) -> bool
+    ensures { result ≡ legal variant (board_of 9 board.mine board.theirs) }
+{
+    let pieces = board.pieces();
+    if board.own_pieces() != pieces / 2 {
+        return false;
+    }
+    pieces <= variant.last_tier() && !has_own_line(variant, board)
+}
+
+/// Whether the move with this number can be made.
+#[tactic(auto, unfolding(crate::specs::Morris::can_move))]
+pub fn can_move(variant: Variant, board: Board, number: u32) -> bool
+    requires { number < numbers_end_of variant (pieces (board_of 9 board.mine board.theirs)) }
+    ensures { result ≡ can_move_of variant (board_of 9 board.mine board.theirs) number }
+{
+    if board.pieces() != variant.last_tier() {
+        return board.is_free(number);
+    }
+    let from = number / 16;
+    let to = number % 16;
+    if !variant.joins(from, to) {
+        return false;
+    }
+    board.has_mine(from) && board.is_free(to)
+}
+
+/// Whether no move can be made.
+pub fn is_stuck(variant: Variant, board: Board) -> bool
+    ensures { result ≡ (length (steps variant (board_of 9 board.mine board.theirs)) == 0) }
+{
+    for number in 0..numbers_end(variant, board.pieces()) {
+        if can_move(variant, board, number) {
+            return false;
+        }
+    }
+    true
+}
+
+/// The end for the player to move: a line of the opponent's loses, which is tested first; then who can't move ends the game.
+#[tactic(auto, unfolding(crate::specs::Morris::ended))]
+pub fn end(variant: Variant, board: Board) -> Option<End>
+    ensures { result ≡ ended variant (board_of 9 board.mine board.theirs) }
+{
+    if has_their_line(variant, board) {
+        Some(End::Lose)
+    } else if is_stuck(variant, board) {
+        Some(variant.stuck())
+    } else {
+        None
+    }
+}
+
+/// The numbers of the moves, ascending.
+pub fn moves(variant: Variant, board: Board) -> ArrayVec<u32, MOVES>
+    ensures { result.items ≡ moves_of variant (board_of 9 board.mine board.theirs) }
+{
+    let mut list = ArrayVec::new();
+    if has_their_line(variant, board) {
+        return list;
+    }
+    for number in 0..numbers_end(variant, board.pieces()) {
+        if can_move(variant, board, number) {
+            list.push(number);
+        }
+    }
+    list
+}
+
+// The board when the mover has moved.
+#[tactic(auto, unfolding(crate::specs::Morris::moved))]
+fn moved(variant: Variant, board: Board, number: u32) -> Board
+    requires { Contains (moves_of variant (board_of 9 board.mine board.theirs)) number }
+    ensures { board_of 9 result.mine result.theirs ≡ moved_of variant (board_of 9 board.mine board.theirs) number }
+{
+    if board.pieces() == variant.last_tier() {
+        board.without_piece(number / 16).with_piece(number % 16)
+    } else {
+        board.with_piece(number)
+    }
+}
+
+/// The board after a move, as the other side sees it.
+#[tactic(auto, unfolding(crate::specs::Morris::play))]
+pub fn play(variant: Variant, board: Board, number: u32) -> Board
+    requires { Contains (moves_of variant (board_of 9 board.mine board.theirs)) number }
+    ensures { board_of 9 result.mine result.theirs ≡ play_of variant (board_of 9 board.mine board.theirs) number }
+{
+    moved(variant, board, number).turned()
+}

@@ -1,0 +1,50 @@
+//! Tiers: a tier is the number of pieces.
+ghost use Rattle.std.specs.Prelude.{◌≡◌, ◌-◌};
+ghost use Rattle.gm_morris.specs.Points.{last_tier};
+ghost use Rattle.gm_morris.specs.Morris.{size_of, child_tiers_of, numbers_end as numbers_end_of};
+
+use crate::variant::Variant;
+use arrayvec::ArrayVec;
+use gm_game::limits::CHILD_TIERS;
+
+/// How many arrangements of so many pieces the nine points have, the mover's half of them, rounded down.
+const SIZES: [u64; 10] = [1, 9, 72, 252, 756, 1260, 1680, 1260, 630, 126];
+
+/// How many indexes a tier has: 0 past the last one.
+#[tactic(auto, unfolding(crate::specs::Morris::size_of))]
+pub fn tier_size(variant: Variant, tier: u64) -> u64
+    ensures { result ≡ size_of variant tier }
+{
+    if tier <= variant.last_tier() {
+        SIZES[tier as usize]
+    } else {
+        0
+    }
+}
+
+/// The tiers to which a move leads from another: the next one, but none from the last.
+#[tactic(auto, unfolding(crate::specs::Morris::child_tiers_of))]
+pub fn child_tiers(variant: Variant, tier: u64) -> ArrayVec<u64, CHILD_TIERS>
+    ensures { result.items ≡ child_tiers_of variant tier }
+{
+    let mut list = ArrayVec::new();
+    if tier < variant.last_tier() {
+        list.push(tier + 1);
+    }
+    list
+}
+
+/// A number that is smaller for the next tier.
+pub fn tier_rank(variant: Variant, tier: u64) -> u64
+    ensures { result ≡ last_tier variant - tier }
+{
+    variant.last_tier().saturating_sub(tier)
+}
+
+/// All numbers of moves of a tier are below this one: in the last tier of moves from point to point, else of placements.
+#[tactic(auto, unfolding(crate::specs::Morris::numbers_end))]
+pub fn numbers_end(variant: Variant, tier: u64) -> u32
+    ensures { result ≡ numbers_end_of variant tier }
+{
+    if tier == variant.last_tier() { 144 } else { 9 }
+}

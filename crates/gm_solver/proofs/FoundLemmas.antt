@@ -1,0 +1,79 @@
+-- Tallies at the numbers of their pieces.
+use Rattle.std.proofs.Common.{◌≡◌, ◌≢◌, ℕ, zero, suc, ◌+◌, List, [], ◌∷◌, ◌++◌, length, map, Option, Some, slice_get, set, refl, sym, ap, subst, ◌∙◌, inl, inr, arith, length-set}
+use Rattle.std.specs.List.{Contains}
+use Rattle.std.specs.Int.{div_ceil}
+use Rattle.std.proofs.lemmas.Bool.{cases_eq}
+use Rattle.std.proofs.lemmas.List.{map_push, length-append}
+use Rattle.std.proofs.lemmas.List.Elements.{Contains-push_cases}
+use Rattle.gm_frontier.specs.Levels.{LevelData}
+use Rattle.gm_frontier.specs.Tallies.{TallyData, numbers_from}
+use Rattle.gm_frontier.proofs.TalliedLemmas.{numbers_push}
+use Rattle.gm_solver.specs.Found.{AreFound, IsTallyAt}
+
+set_same : (xs : List (Option TallyData)) (i : ℕ) (x y : Option TallyData) → slice_get (set xs i x) i ≡ Some y → x ≡ y
+set_same [] i x y e = absurd (cc)
+set_same (z ∷ zs) zero x y e = cc
+set_same (z ∷ zs) (suc i) x y e = set_same zs i x y e
+
+set_other : (xs : List (Option TallyData)) (i k : ℕ) (x y : Option TallyData) → k ≢ i → slice_get (set xs i x) k ≡ Some y → slice_get xs k ≡ Some y
+set_other [] i k x y n e = absurd (cc)
+set_other (z ∷ zs) zero zero x y n e = absurd (n refl)
+set_other (z ∷ zs) zero (suc k) x y n e = e
+set_other (z ∷ zs) (suc i) zero x y n e = e
+set_other (z ∷ zs) (suc i) (suc k) x y n e = set_other zs i k x y (λ q. n (ap suc q)) e
+
+-- one more
+pub found_more : (level : LevelData) (n width : ℕ) (found : List (Option TallyData)) (t : TallyData) → AreFound level n width found → (t.place ≡ level.place) × (t.n ≡ n) × (t.width ≡ width) → AreFound level n width (set found t.piece (Some t))
+found_more level n width found t h is = record {
+  whole = length-set found t.piece (Some t) ∙ h.whole;
+  each = λ k u e. elim (cases_eq k t.piece) [
+    | inl q ↦ (let same : Some t ≡ Some u = set_same found t.piece (Some t) (Some u) (subst (λ (i : ℕ). slice_get (set found t.piece (Some t)) i ≡ Some (Some u)) q e) in
+        let one : t ≡ u = cc in
+        let back = sym q in
+        subst (λ (v : TallyData). (v.place ≡ level.place) × (v.n ≡ n) × (v.width ≡ width) × (v.piece ≡ k)) one (is.0, is.1, is.2, back))
+    | inr o ↦ h.each k u (set_other found t.piece k (Some t) (Some u) o e)
+  ];
+}
+
+-- the entries of the pieces from a number on
+pub record AreFoundFrom (level : LevelData) (n width from : ℕ) (found : List (Option TallyData)) : Type 0 where
+  pub whole : from + length found ≡ div_ceil (length level.notes) n
+  pub each : (k : ℕ) (t : TallyData) → slice_get found k ≡ Some (Some t) → IsTallyAt level n width (from + k) t
+
+pub found_from : (level : LevelData) (n width : ℕ) (found : List (Option TallyData)) → AreFound level n width found → AreFoundFrom level n width 0 found
+found_from level n width found h = record {
+  whole = (let e = h.whole in omega arith);
+  each = λ k t e. (let (a, b, c, d) = h.each k t e in (a, b, c, omega arith));
+}
+
+pub from_first : (level : LevelData) (n width from : ℕ) (o : Option TallyData) (rest : List (Option TallyData)) → AreFoundFrom level n width from (o ∷ rest) → (t : TallyData) → o ≡ Some t → IsTallyAt level n width from t
+from_first level n width from o rest h t e = (let (a, b, c, d) = h.each 0 t (ap Some e) in (a, b, c, omega arith))
+
+pub from_next : (level : LevelData) (n width from : ℕ) (o : Option TallyData) (rest : List (Option TallyData)) → AreFoundFrom level n width from (o ∷ rest) → AreFoundFrom level n width (from + 1) rest
+from_next level n width from o rest h = record {
+  whole = (let e = h.whole in omega arith);
+  each = λ k t e. (let (a, b, c, d) = h.each (suc k) t e in (a, b, c, omega arith));
+}
+
+-- the tallies so far, in order
+pub record AreSoFar (level : LevelData) (n width : ℕ) (tallies : List TallyData) : Type 0 where
+  pub alike : (t : TallyData) → Contains tallies t → (t.place ≡ level.place) × (t.n ≡ n) × (t.width ≡ width)
+  pub pieces : map (λ t. t.piece) tallies ≡ numbers_from 0 (length tallies)
+
+pub none_so_far : (level : LevelData) (n width : ℕ) (tallies : List TallyData) → tallies ≡ [] → AreSoFar level n width tallies
+none_so_far level n width tallies e = subst (AreSoFar level n width) (sym e) (record { alike = λ t h. absurd (no_item t h); pieces = refl })
+  where
+    no_item : (t : TallyData) → Contains [] t → ⊥
+    no_item t (i, l, q) = absurd (omega arith)
+
+pub one_so_far : (level : LevelData) (n width : ℕ) (tallies : List TallyData) (t : TallyData) → AreSoFar level n width tallies → IsTallyAt level n width (length tallies) t → AreSoFar level n width (tallies ++ t ∷ [])
+one_so_far level n width tallies t h is = record {
+  alike = λ u k. elim (Contains-push_cases tallies t u k) [
+    | inl old ↦ h.alike u old
+    | inr e ↦ subst (λ (v : TallyData). (v.place ≡ level.place) × (v.n ≡ n) × (v.width ≡ width)) e (is.0, is.1, is.2)
+  ];
+  pieces = map_push (λ (u : TallyData). u.piece) tallies t ∙ ap (λ (ks : List ℕ). ks ++ t.piece ∷ []) h.pieces ∙ last ∙ sym (ap (numbers_from 0) (length-append tallies (t ∷ [])));
+}
+  where
+    last : numbers_from 0 (length tallies) ++ t.piece ∷ [] ≡ numbers_from 0 (length tallies + 1)
+    last = (let here : t.piece ≡ 0 + length tallies = (let e = is.3 in omega arith) in ap (λ (m : ℕ). numbers_from 0 (length tallies) ++ m ∷ []) here ∙ sym (numbers_push 0 (length tallies)))

@@ -1,0 +1,236 @@
+-- Four tiles of a tier: every index is in one, and what is known of each is known of the tier.
+use Rattle.std.proofs.Common.{◌≡◌, ℕ, zero, suc, ◌+◌, ◌*◌, ◌^◌, ◌<◌, ◌≤◌, ◌⊎◌, inl, inr, min, List, [], ◌∷◌, ◌++◌, length, Option, Some, slice_get, refl, sym, ap, subst, ◌∙◌, arith}
+use Rattle.std.specs.List.{Contains}
+use Rattle.std.specs.Int.{div_ceil}
+use Rattle.std.proofs.lemmas.Bool.{cases_lt}
+use Rattle.std.proofs.lemmas.List.{length-append}
+use Rattle.std.proofs.lemmas.List.Elements.{Contains-append_cases, Contains-append_left, Contains-append_right}
+use Rattle.gm_game.specs.declared.limits.TheConstants.{REMOTENESS}
+use Rattle.gm_game.specs.declared.position.Position.{Position}
+use Rattle.gm_game.specs.declared.position.Phase.{Phase}
+use Rattle.gm_game.specs.declared.position.Place.{Place}
+use Rattle.gm_game.specs.declared.position.Solved.{Solved}
+use Rattle.gm_game.specs.Rules.{Rules, at}
+use Rattle.gm_game.specs.Laws.{IsGame}
+use Rattle.gm_game.specs.Records.{IsRecord, IsTrueTable}
+use Rattle.gm_game.specs.Values.{IsTrueValue}
+use Rattle.gm_frontier.specs.Counts.{ExpectedData, IsExpected, IsNumberBefore}
+use Rattle.gm_frontier.specs.Levels.{LevelData, RunData, AreTiles, place_at}
+use Rattle.gm_frontier.specs.Tallies.{TallyData, AreTallies, IsTile}
+use Rattle.gm_frontier.proofs.Distinct.{no_repeats_from, no_repeats_to, no_repeats_append}
+use Rattle.gm_frontier.proofs.CountLemmas.{number_few}
+use Rattle.gm_frontier.proofs.TalliedLemmas.{tallies_in_order}
+use Rattle.gm_shard.specs.State.{ShardState}
+use Rattle.gm_shard.specs.Good.{IsGood}
+use Rattle.gm_shard.specs.Steps.{place_of}
+use Rattle.gm_shard.specs.Closing.{ArePart}
+use Rattle.gm_solver.specs.declared.board.Four.{Four}
+use Rattle.gm_solver.specs.Spots.{Spot, spot_of, AreFourTiles}
+use Rattle.gm_solver.specs.Covered.{IsCovered}
+use Rattle.gm_solver.specs.Tiling.{IsWide, tile_at, spot_counted, AreShardsAt, AreCountsAt, AreAllTallies}
+use Rattle.gm_solver.proofs.Final.{whole_part}
+
+-- the tiles follow one another
+tiles_are : (r : Rules) (place : Place) (width : ℕ) → IsWide r place.tier width → AreFourTiles r (tile_at r place width 0) (tile_at r place width 1) (tile_at r place width 2) (tile_at r place width 3)
+tiles_are r place width wide =
+    let enough = wide.enough in
+    record {
+      first = omega arith;
+      order = omega arith;
+      second = record { tier = refl; phase = refl; level = refl; from = refl; order = omega arith };
+      third = record { tier = refl; phase = refl; level = refl; from = refl; order = omega arith };
+      fourth = record { tier = refl; phase = refl; level = refl; from = refl; order = omega arith };
+      whole = omega arith;
+    }
+
+pub four_tiles : (r : Rules) (place : Place) (width : ℕ) → IsWide r place.tier width → (a b c d : Spot) → a ≡ tile_at r place width 0 → b ≡ tile_at r place width 1 → c ≡ tile_at r place width 2 → d ≡ tile_at r place width 3 → AreFourTiles r a b c d
+four_tiles r place width wide a b c d e f g h = rw (e, f, g, h) (tiles_are r place width wide)
+
+-- where a shard stands, by its spot
+pub spot_place : (r : Rules) (place : Place) (width k : ℕ) (s : ShardState) → spot_of s ≡ tile_at r place width k → place_of s ≡ place
+spot_place r place width k s e = ap (λ (x : Spot). place_at x.tier x.phase x.level) e
+
+in_tile : (r : Rules) (place : Place) (width k : ℕ) (s : ShardState) → IsGood r s → spot_of s ≡ tile_at r place width k → (i : ℕ) → k * width ≤ i → i < suc k * width → i < r.tier_size place.tier → IsCovered r place i
+in_tile r place width k s good e i low high inside =
+    let lo = ap (λ (x : Spot). x.lo) e in
+    let hi = ap (λ (x : Spot). x.hi) e in
+    record { shard = s; good = good; mine = (omega arith, omega arith); here = spot_place r place width k s e }
+
+-- a good shard has each index
+pub covered : (r : Rules) (place : Place) (width : ℕ) → IsWide r place.tier width → (shards : Four ShardState) → AreShardsAt r place width shards → IsGood r shards.a → IsGood r shards.b → IsGood r shards.c → IsGood r shards.d
+    → (i : ℕ) → i < r.tier_size place.tier → IsCovered r place i
+covered r place width wide shards are a b c d i inside =
+    let enough = wide.enough in
+    elim (cases_lt i (1 * width)) [
+      | inl one ↦ in_tile r place width 0 shards.a a are.a i (omega arith) one inside
+      | inr one ↦ elim (cases_lt i (2 * width)) [
+        | inl two ↦ in_tile r place width 1 shards.b b are.b i one two inside
+        | inr two ↦ elim (cases_lt i (3 * width)) [
+          | inl three ↦ in_tile r place width 2 shards.c c are.c i two three inside
+          | inr three ↦ in_tile r place width 3 shards.d d are.d i three (omega arith) inside
+        ]
+      ]
+    ]
+
+-- runs of the tiles tile the tier
+pub runs_tile : (r : Rules) (place : Place) (width : ℕ) → IsWide r place.tier width → (shards : Four ShardState) → AreShardsAt r place width shards → (a b c d : RunData)
+    → a.place ≡ place_of shards.a → a.lo ≡ shards.a.lo → a.hi ≡ shards.a.lo + length shards.a.delivered
+    → b.place ≡ place_of shards.b → b.lo ≡ shards.b.lo → b.hi ≡ shards.b.lo + length shards.b.delivered
+    → c.place ≡ place_of shards.c → c.lo ≡ shards.c.lo → c.hi ≡ shards.c.lo + length shards.c.delivered
+    → d.place ≡ place_of shards.d → d.lo ≡ shards.d.lo → d.hi ≡ shards.d.lo + length shards.d.delivered
+    → AreTiles place 0 (r.tier_size place.tier) (a ∷ b ∷ c ∷ d ∷ [])
+runs_tile r place width wide shards are a b c d ap_ al ah bp bl bh cp cl ch dp dl dh =
+    let enough = wide.enough in
+    let lo_a = ap (λ (x : Spot). x.lo) are.a in
+    let hi_a = ap (λ (x : Spot). x.hi) are.a in
+    let lo_b = ap (λ (x : Spot). x.lo) are.b in
+    let hi_b = ap (λ (x : Spot). x.hi) are.b in
+    let lo_c = ap (λ (x : Spot). x.lo) are.c in
+    let hi_c = ap (λ (x : Spot). x.hi) are.c in
+    let lo_d = ap (λ (x : Spot). x.lo) are.d in
+    let hi_d = ap (λ (x : Spot). x.hi) are.d in (
+      ap_ ∙ spot_place r place width 0 shards.a are.a,
+      omega arith,
+      omega arith,
+      (
+        bp ∙ spot_place r place width 1 shards.b are.b,
+        omega arith,
+        omega arith,
+        (
+          cp ∙ spot_place r place width 2 shards.c are.c,
+          omega arith,
+          omega arith,
+          (dp ∙ spot_place r place width 3 shards.d are.d, omega arith, omega arith, omega arith),
+        ),
+      ),
+    )
+
+-- a tile, cut at the size, is one of the tiles of the tier, or has no index
+pub tile_is_one : (size width k lo hi : ℕ) → lo ≡ min (k * width) size → hi ≡ min (suc k * width) size → IsTile size width lo hi
+tile_is_one size width k lo hi e f = elim (cases_lt (k * width) size) [ inl l ↦ inr (k, omega arith, f) | inr l ↦ inl (omega arith) ]
+
+-- the tallies of all pieces count into each tile
+pub all_tallies : (r : Rules) (level : LevelData) (n width k lo hi : ℕ) (tallies : List TallyData) → 0 < n → AreAllTallies level n width tallies → lo ≡ min (k * width) (r.tier_size level.place.tier) → hi ≡ min (suc k * width) (r.tier_size level.place.tier)
+    → AreTallies r level lo hi tallies
+all_tallies r level n width k lo hi tallies some all e f = record {
+  n = n;
+  width = width;
+  some_notes = some;
+  alike = all.alike;
+  pieces = tallies_in_order (div_ceil (length level.notes) n) tallies all.pieces;
+  range = inr (tile_is_one (r.tier_size level.place.tier) width k lo hi e f);
+}
+
+-- the true records of the indexes below n
+pub record AreFirst (r : Rules) (tier n : ℕ) (records : List (Option Solved)) : Type 0 where
+  pub long : length records ≡ n
+  pub part : ArePart r tier 0 records
+
+-- with the part of one more shard
+record_at : (xs ys : List (Option Solved)) (k : ℕ) (o : Option Solved) → slice_get (xs ++ ys) k ≡ Some o → (slice_get xs k ≡ Some o) ⊎ ((j : ℕ) × (k ≡ length xs + j) × (slice_get ys j ≡ Some o))
+record_at [] ys k o e = inr (k, omega arith, e)
+record_at (x ∷ xs) ys zero o e = inl e
+record_at (x ∷ xs) ys (suc k) o e = elim (record_at xs ys k o e) [ inl h ↦ inl h | inr (j, q, h) ↦ inr (j, omega arith, h) ]
+
+pub first_more : (r : Rules) (tier : ℕ) (s : ShardState) (old new : List (Option Solved)) → AreFirst r tier s.lo old → s.tier ≡ tier
+    → ((part : List (Option Solved)) × (new ≡ old ++ part) × (length part ≡ length s.delivered) × ArePart r s.tier s.lo part) → AreFirst r tier (s.lo + length s.delivered) new
+first_more r tier s old new first same (part, is, long, are) = subst (AreFirst r tier (s.lo + length s.delivered)) (sym is) (record {
+  long = (let a = length-append old part in let b = first.long in omega arith);
+  part = record {
+    each = λ k o e. elim (record_at old part k o e) [
+      | inl h ↦ first.part.each k o h
+      | inr (j, q, h) ↦ (let b = first.long in
+          let here : s.lo + j ≡ 0 + k = omega arith in
+          subst (λ (i : ℕ). IsRecord r REMOTENESS (IsTrueValue r) (at tier i) o) here (subst (λ (t : ℕ). IsRecord r REMOTENESS (IsTrueValue r) (at t (s.lo + j)) o) same (are.each j o h)))
+    ];
+  };
+})
+
+-- four parts are the true table
+pub first_all : (r : Rules) (tier n : ℕ) (records : List (Option Solved)) → AreFirst r tier n records → n ≡ r.tier_size tier → IsTrueTable r REMOTENESS tier records
+first_all r tier n records first e = whole_part r tier records (first.long ∙ e) first.part
+
+-- the pairs into two ranges that follow one another
+pub number_joined : (r : Rules) (tier lo mid hi : ℕ) (phase : Phase) (level m n : ℕ) → lo ≤ mid → mid ≤ hi → IsNumberBefore r tier lo mid phase level m → IsNumberBefore r tier mid hi phase level n → IsNumberBefore r tier lo hi phase level (m + n)
+number_joined r tier lo mid hi phase level m n below above (xs, long, first) (ys, wide, second) = (
+  xs ++ ys,
+  (let e = length-append xs ys in omega arith),
+  record {
+    each = λ pair. (
+      (λ h. elim (cases_lt pair.1 mid) [
+        | inl l ↦ in_first pair ((first.each pair).0 (record { low = h.0.low; high = l; is_parent = h.0.is_parent }, h.1))
+        | inr l ↦ in_second pair ((second.each pair).0 (record { low = l; high = h.0.high; is_parent = h.0.is_parent }, h.1))
+      ]),
+      (λ k. elim (Contains-append_cases xs ys pair k) [
+        | inl i ↦ (let (into, before) = (first.each pair).1 i in let high = into.high in (record { low = into.low; high = omega arith; is_parent = into.is_parent }, before))
+        | inr i ↦ (let (into, before) = (second.each pair).1 i in let low = into.low in (record { low = omega arith; high = into.high; is_parent = into.is_parent }, before))
+      ]),
+    );
+    once = no_repeats_to (xs ++ ys) (no_repeats_append xs ys (no_repeats_from xs first.once) (no_repeats_from ys second.once) (λ pair i j. (let a = ((first.each pair).1 i).0.high in let b = ((second.each pair).1 j).0.low in omega arith)));
+  },
+)
+  where
+    in_first : (pair : Position × ℕ) → Contains xs pair → Contains (xs ++ ys) pair
+    in_first pair h = Contains-append_left xs ys pair h
+
+    in_second : (pair : Position × ℕ) → Contains ys pair → Contains (xs ++ ys) pair
+    in_second pair h = Contains-append_right xs ys pair h
+
+-- the exact number of a tile
+number_at : (r : Rules) (place : Place) (width k : ℕ) (e : ExpectedData) → spot_counted e ≡ tile_at r place width k → IsExpected r e
+    → IsNumberBefore r place.tier (min (k * width) (r.tier_size place.tier)) (min (suc k * width) (r.tier_size place.tier)) place.phase place.level e.number
+number_at r place width k e same exact = subst (λ (x : Spot). IsNumberBefore r x.tier x.lo x.hi x.phase x.level e.number) same exact.number
+
+-- the numbers of the four add up to that of the tier
+pub number_all : (r : Rules) (place : Place) (width : ℕ) → IsWide r place.tier width → (counts : Four ExpectedData) → AreCountsAt r place width counts → IsExpected r counts.a → IsExpected r counts.b → IsExpected r counts.c → IsExpected r counts.d
+    → IsNumberBefore r place.tier 0 (r.tier_size place.tier) place.phase place.level (counts.a.number + counts.b.number + counts.c.number + counts.d.number)
+number_all r place width wide counts are a b c d =
+    let size = r.tier_size place.tier in
+    let enough = wide.enough in
+    let t = place.tier in
+    let ab = number_joined r t (min (0 * width) size) (min (1 * width) size) (min (2 * width) size) place.phase place.level counts.a.number counts.b.number (omega arith) (omega arith) (number_at r place width 0 counts.a are.a a) (number_at r place width 1 counts.b are.b b) in
+    let abc = number_joined r t (min (0 * width) size) (min (2 * width) size) (min (3 * width) size) place.phase place.level (counts.a.number + counts.b.number) counts.c.number (omega arith) (omega arith) ab (number_at r place width 2 counts.c are.c c) in
+    let all = number_joined r t (min (0 * width) size) (min (3 * width) size) (min (4 * width) size) place.phase place.level (counts.a.number + counts.b.number + counts.c.number) counts.d.number (omega arith) (omega arith) abc (number_at r place width 3 counts.d are.d d) in
+    let number = counts.a.number + counts.b.number + counts.c.number + counts.d.number in
+    let from : min (0 * width) size ≡ 0 = omega arith in
+    let to : min (4 * width) size ≡ size = omega arith in
+    subst (λ (m : ℕ). IsNumberBefore r t 0 m place.phase place.level number) to (subst (λ (m : ℕ). IsNumberBefore r t m (min (4 * width) size) place.phase place.level number) from all)
+
+-- and each is small
+pub number_small : (r : Rules) → IsGame r → (e : ExpectedData) → IsExpected r e → e.number ≤ 2 ^ 40
+number_small r g e exact =
+    let few = number_few r g e.tier e.lo e.hi e.phase e.level e.number exact.number in
+    let small = exact.small in
+    omega arith
+
+-- the parts of the four are the true table
+pub four_parts : (r : Rules) (place : Place) (width : ℕ) → IsWide r place.tier width → (shards : Four ShardState) → AreShardsAt r place width shards → (none one two three four : List (Option Solved)) → none ≡ []
+    → ((part : List (Option Solved)) × (one ≡ none ++ part) × (length part ≡ length shards.a.delivered) × ArePart r shards.a.tier shards.a.lo part)
+    → ((part : List (Option Solved)) × (two ≡ one ++ part) × (length part ≡ length shards.b.delivered) × ArePart r shards.b.tier shards.b.lo part)
+    → ((part : List (Option Solved)) × (three ≡ two ++ part) × (length part ≡ length shards.c.delivered) × ArePart r shards.c.tier shards.c.lo part)
+    → ((part : List (Option Solved)) × (four ≡ three ++ part) × (length part ≡ length shards.d.delivered) × ArePart r shards.d.tier shards.d.lo part)
+    → IsTrueTable r REMOTENESS place.tier four
+four_parts r place width wide shards are none one two three four empty a b c d =
+    let t = place.tier in
+    let enough = wide.enough in
+    let lo_a = ap (λ (x : Spot). x.lo) are.a in
+    let hi_a = ap (λ (x : Spot). x.hi) are.a in
+    let lo_b = ap (λ (x : Spot). x.lo) are.b in
+    let hi_b = ap (λ (x : Spot). x.hi) are.b in
+    let lo_c = ap (λ (x : Spot). x.lo) are.c in
+    let hi_c = ap (λ (x : Spot). x.hi) are.c in
+    let lo_d = ap (λ (x : Spot). x.lo) are.d in
+    let hi_d = ap (λ (x : Spot). x.hi) are.d in
+    let start : AreFirst r t shards.a.lo none = subst (AreFirst r t shards.a.lo) (sym empty) (record { long = (let e : 0 ≡ shards.a.lo = omega arith in e); part = record { each = λ k o e. absurd (no_item k o e) } }) in
+    let at_b : shards.a.lo + length shards.a.delivered ≡ shards.b.lo = omega arith in
+    let at_c : shards.b.lo + length shards.b.delivered ≡ shards.c.lo = omega arith in
+    let at_d : shards.c.lo + length shards.c.delivered ≡ shards.d.lo = omega arith in
+    let end : shards.d.lo + length shards.d.delivered ≡ r.tier_size t = omega arith in
+    let first = subst (λ (n : ℕ). AreFirst r t n one) at_b (first_more r t shards.a none one start (ap (λ (x : Spot). x.tier) are.a) a) in
+    let second = subst (λ (n : ℕ). AreFirst r t n two) at_c (first_more r t shards.b one two first (ap (λ (x : Spot). x.tier) are.b) b) in
+    let third = subst (λ (n : ℕ). AreFirst r t n three) at_d (first_more r t shards.c two three second (ap (λ (x : Spot). x.tier) are.c) c) in
+    let fourth = first_more r t shards.d three four third (ap (λ (x : Spot). x.tier) are.d) d in
+    first_all r t (shards.d.lo + length shards.d.delivered) four fourth end
+  where
+    no_item : (k : ℕ) (o : Option Solved) → slice_get {X = Option Solved} [] k ≡ Some o → ⊥
+    no_item k o e = absurd (cc)

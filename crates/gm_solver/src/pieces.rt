@@ -1,0 +1,18 @@
+//! The pieces of a level, as workers take them.
+ghost use Rattle.std.specs.Prelude.{◌≡◌, ◌<◌, ◌≤◌, ◌^◌, length};
+ghost use Rattle.std.specs.Int.{div_ceil};
+ghost use Rattle.gm_frontier.specs.Levels.{IsLevel};
+ghost use Rattle.gm_solver.specs.Tiling.{IsWide};
+
+use gm_frontier::level::Level;
+use gm_game::game::Game;
+
+/// A level, of how many notes a piece of it is, and how many indexes a tile of its tier has.
+#[derive(Drop)]
+pub(crate) struct Pieces<'a, G: Game> {
+    pub level: &'a Level<'a, G>,
+    pub notes: usize,
+    pub width: u64,
+    ghost some: { 0 < notes },
+    ghost wide: { IsWide G.rules level.now.place.tier width },
+}

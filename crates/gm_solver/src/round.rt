@@ -1,0 +1,204 @@
+//! One level by workers: their deliveries, and what the coordinator makes up for.
+ghost use Rattle.std.specs.Prelude.{◌≡◌, ◌+◌, ◌≤◌, IfOk, IfErr, OnOk};
+ghost use Rattle.gm_game.specs.declared.position.Place.{Place};
+ghost use Rattle.gm_frontier.specs.Levels.{place_at};
+ghost use Rattle.gm_frontier.specs.Tallies.{AreTallies};
+ghost use Rattle.gm_shard.specs.Steps.{place_of};
+ghost use Rattle.gm_solver.specs.Solving.{IsError};
+ghost use Rattle.gm_solver.specs.Spots.{spot_of, AreFourTiles};
+ghost use Rattle.gm_solver.specs.Tiling.{AreShardsAt, AreCountsAt, AreAllTallies, spot_counted, next_spot, next_place};
+
+use crate::board::{Board, Four, Shares};
+use crate::crew::serve_level;
+use crate::deliver::deliver_level;
+use crate::error::SolveError;
+use crate::found::fill;
+use crate::gate::Gate;
+use crate::pieces::Pieces;
+use crate::plan::Plan;
+use crate::share::Desk;
+use crate::source::Source;
+use crate::tiles::Tiles;
+use gm_frontier::expected::Expected;
+use gm_frontier::level::Level;
+use gm_frontier::tally::Tally;
+use gm_game::game::Game;
+use gm_game::limits::REMOTENESS;
+use gm_shard::shard::Shard;
+use std::alloc::{AllocError, Global};
+use std::marker::Brand;
+use std::sync::Wait;
+use std::sync::ledger::Blank;
+use std::thread::Threads;
+
+/// A level after its workers have ended.
+#[derive(Drop)]
+pub(crate) struct Served<G: Game> {
+    pub shards: Four<Shard<G>>,
+    /// The tallies of all pieces.
+    pub tallies: Vec<Tally<G>>,
+    /// How many pairs the workers delivered.
+    pub by_workers: u64,
+}
+
+// The number of pairs that shares tell of.
+fn sum_of<A: Desk, B: Desk, C: Desk, D: Desk>(shares: &Shares<A, B, C, D>) -> u64 {
+    (0..4).fold(0u64, |sum, shard| sum.saturating_add(shares.amount(shard)))
+}
+
+// Serves a level on a board of these names.
+fn serve_named<
+    G: Game + Send + Sync,
+    A: Desk + Send + Sync,
+    B: Desk + Send + Sync,
+    C: Desk + Send + Sync,
+    D: Desk + Send + Sync,
+    R: Threads + Wait + Sync,
+    T: Gate,
+    S: Source,
+>(
+    rt: &R,
+    alloc: Global,
+    pieces: &Pieces<G>,
+    gate: &T,
+    source: &S,
+    workers: usize,
+    blanks: Four<Blank>,
+    shards: Four<Shard<G>>,
+) -> Result<Served<G>, AllocError>
+    requires few { workers ≤ 16 }
+    requires names { (blanks.a.name ≡ A.name) × (blanks.b.name ≡ B.name) × (blanks.c.name ≡ C.name) × (blanks.d.name ≡ D.name) }
+    requires parts { (blanks.a.parts ≡ A.parts) × (blanks.b.parts ≡ B.parts) × (blanks.c.parts ≡ C.parts) × (blanks.d.parts ≡ D.parts) }
+    requires equal { (A.parts ≡ workers + 1) × (B.parts ≡ workers + 1) × (C.parts ≡ workers + 1) × (D.parts ≡ workers + 1) }
+    requires spots { (spot_of shards.a ≡ A.spot) × (spot_of shards.b ≡ B.spot) × (spot_of shards.c ≡ C.spot) × (spot_of shards.d ≡ D.spot) }
+    requires here { AreShardsAt G.rules pieces.now.level.now.place pieces.now.width shards }
+    ensures here { IfOk result (λ served. AreShardsAt G.rules pieces.now.level.now.place pieces.now.width served.shards) }
+    ensures tallies { IfOk result (λ served. AreAllTallies pieces.now.level.now pieces.now.notes pieces.now.width served.tallies.items) }
+{
+    let (board, mut rest) = Board::<G, A, B, C, D>::around(workers as u64 + 1, blanks, shards);
+    let before = sum_of(&rest);
+    let found = serve_level(rt, alloc, &board, pieces, gate, source, workers, &mut rest)?;
+    let by_workers = sum_of(&rest).saturating_sub(before);
+    let tallies = fill(rt, alloc, &board, pieces, found, &mut rest)?;
+    Ok(Served {
+        shards: board.into_shards(rest),
+        tallies,
+        by_workers,
+    })
+}
+
+/// Serves a level: by workers, and by the coordinator where they left a piece. The pairs that were refused are missing.
+pub(crate) fn serve<G: Game + Send + Sync, R: Threads + Wait + Sync, T: Gate, S: Source>(
+    rt: &R,
+    alloc: Global,
+    pieces: &Pieces<G>,
+    gate: &T,
+    source: &S,
+    workers: usize,
+    shards: Four<Shard<G>>,
+) -> Result<Served<G>, AllocError>
+    requires few { workers ≤ 16 }
+    requires here { AreShardsAt G.rules pieces.now.level.now.place pieces.now.width shards }
+    ensures here { IfOk result (λ served. AreShardsAt G.rules pieces.now.level.now.place pieces.now.width served.shards) }
+    ensures tallies { IfOk result (λ served. AreAllTallies pieces.now.level.now pieces.now.notes pieces.now.width served.tallies.items) }
+{
+    source.begin(rt, pieces.level.pieces(pieces.notes));
+    let parts = workers as u64 + 1;
+    let blanks = Four {
+        a: Blank::new(parts),
+        b: Blank::new(parts),
+        c: Blank::new(parts),
+        d: Blank::new(parts),
+    };
+    serve_named::<G, Brand, Brand, Brand, Brand, R, T, S>(
+        rt, alloc, pieces, gate, source, workers, blanks, shards,
+    )
+}
+
+// Counts a level's pairs into a shard by the tallies of all pieces, delivers those that are missing, and turns to the next level.
+fn close_tile<G: Game>(
+    shard: &mut Shard<G>,
+    count: &mut Expected<G>,
+    level: &Level<G>,
+    tallies: &[Tally<G>],
+) -> Result<(), SolveError>
+    requires count { spot_of shard.old ≡ spot_counted count.old }
+    requires place { level.now.place ≡ place_of shard.old }
+    requires tallies { AreTallies G.rules level.now count.old.lo count.old.hi tallies.now }
+    requires near { shard.old.level ≤ REMOTENESS }
+    ensures shard { OnOk result (spot_of shard.new ≡ next_spot (spot_of shard.old)) }
+    ensures count { OnOk result (spot_counted count.new ≡ next_spot (spot_counted count.old)) }
+    ensures error { IfErr result (IsError G.rules shard.old.tier) }
+{
+    count.add_counted(level, tallies);
+    if shard.close(count).is_ok() {
+        return Ok(());
+    }
+    deliver_level(shard, level)?;
+    shard.close(count).unwrap();
+    Ok(())
+}
+
+/// Runs one level of a tier: by workers, and by the coordinator what they left.
+pub(crate) fn run_level<G: Game + Send + Sync, R: Threads + Wait + Sync, T: Gate, S: Source>(
+    rt: &R,
+    alloc: Global,
+    plan: Plan,
+    gate: &T,
+    source: &S,
+    tiles: Tiles<G>,
+    level: &Level<G>,
+) -> Result<(Tiles<G>, u64), SolveError>
+    requires place { level.now.place ≡ place_of tiles.shards.a }
+    requires near { tiles.shards.a.level ≤ REMOTENESS }
+    ensures next { IfOk result (λ next. place_of next.0.shards.a ≡ next_place (place_of tiles.shards.a)) }
+    ensures error { IfErr result (IsError G.rules tiles.shards.a.tier) }
+{
+    let Tiles {
+        shards,
+        mut counts,
+        width,
+    } = tiles;
+    let notes = plan.piece();
+    let pieces = Pieces {
+        level,
+        notes,
+        width,
+    };
+    let Served {
+        mut shards,
+        tallies,
+        by_workers,
+    } = serve(rt, alloc, &pieces, gate, source, plan.workers(), shards)?;
+    if let Err(error) = close_tiles(&mut shards, &mut counts, &pieces, tallies.as_slice()) {
+        return Err(error);
+    }
+    let tiles = Tiles {
+        shards,
+        counts,
+        width,
+    };
+    Ok((tiles, by_workers))
+}
+
+// Closes a level in all four shards.
+fn close_tiles<G: Game>(
+    shards: &mut Four<Shard<G>>,
+    counts: &mut Four<Expected<G>>,
+    pieces: &Pieces<G>,
+    tallies: &[Tally<G>],
+) -> Result<(), SolveError>
+    requires shards { AreShardsAt G.rules pieces.now.level.now.place pieces.now.width shards.old }
+    requires counts { AreCountsAt G.rules pieces.now.level.now.place pieces.now.width counts.old }
+    requires tallies { AreAllTallies pieces.now.level.now pieces.now.notes pieces.now.width tallies.now }
+    requires near { pieces.now.level.now.place.level ≤ REMOTENESS }
+    ensures shards { OnOk result (AreShardsAt G.rules (next_place pieces.now.level.now.place) pieces.now.width shards.new) }
+    ensures counts { OnOk result (AreCountsAt G.rules (next_place pieces.now.level.now.place) pieces.now.width counts.new) }
+    ensures error { IfErr result (IsError G.rules pieces.now.level.now.place.tier) }
+{
+    let level = pieces.level;
+    close_tile(&mut shards.a, &mut counts.a, level, tallies)?;
+    close_tile(&mut shards.b, &mut counts.b, level, tallies)?;
+    close_tile(&mut shards.c, &mut counts.c, level, tallies)?;
+    close_tile(&mut shards.d, &mut counts.d, level, tallies)
+}

@@ -1,0 +1,208 @@
+//! The tiles of a tier before its first level: a shard of each, and the count of the pairs into it.
+ghost use Rattle.std.specs.Prelude.{ℕ, ◌≡◌, ◌-◌, ◌<◌, ◌≤◌, length, max, IfOk, OnOk};
+ghost use Rattle.std.specs.Int.{div_ceil};
+ghost use Rattle.gm_game.specs.declared.position.Phase.TheVariants.{WinLose, Ties};
+ghost use Rattle.gm_game.specs.Records.{IsTrueTable};
+ghost use Rattle.gm_game.specs.Rules.{at};
+ghost use Rattle.gm_frontier.specs.Levels.{place_at};
+ghost use Rattle.gm_shard.specs.Begin.{IsStart, AreStarts};
+ghost use Rattle.gm_frontier.specs.Counts.{IsNumberBefore};
+ghost use Rattle.gm_shard.specs.Steps.{place_of, CanTurn};
+ghost use Rattle.gm_game.specs.Places.{IsLastLevel};
+ghost use Rattle.gm_table.specs.Tables.{AreHeld, IsTable};
+ghost use Rattle.gm_solver.specs.Covered.{IsCovered};
+ghost use Rattle.gm_solver.specs.Solving.{IsTooFar, AreDeliveries};
+ghost use Rattle.gm_solver.specs.Spots.{spot_of};
+ghost use Rattle.gm_solver.specs.Tiling.{IsWide, AreShardsAt, AreCountsAt, tile_at, spot_counted};
+
+use crate::board::Four;
+use gm_frontier::expected::Expected;
+use gm_frontier::last::Last;
+use gm_game::game::Game;
+use gm_game::limits::{REMOTENESS, TIER_SIZE};
+use gm_game::position::{Position, Solved};
+use gm_shard::begin::start;
+use gm_shard::shard::Shard;
+use gm_shard::status::Start;
+use gm_table::table::Table;
+use gm_table::tables::Tables;
+use rayon::prelude::*;
+use std::alloc::{AllocError, Global};
+use std::thread::Threads;
+
+/// Four shards that tile a tier at one place, each with the count of the pairs into it.
+#[derive(Drop)]
+pub(crate) struct Tiles<G: Game> {
+    pub shards: Four<Shard<G>>,
+    pub counts: Four<Expected<G>>,
+    pub width: u64,
+    ghost wide: { IsWide G.rules shards.a.tier width },
+    ghost shards_are: { AreShardsAt G.rules (place_of shards.a) width shards },
+    ghost counts_are: { AreCountsAt G.rules (place_of shards.a) width counts },
+}
+
+/// How many indexes a tile has: the size of the tier by the number of shards, rounded up, and at least 1.
+pub(crate) fn tile_width<G: Game>(tier: u64, shards: usize) -> u64
+    requires some { 0 < shards }
+    requires few { shards ≤ 4 }
+    requires small { G.rules.tier_size tier ≤ TIER_SIZE }
+    ensures value { result ≡ max (div_ceil (G.rules.tier_size tier) shards) 1 }
+    ensures wide { IsWide G.rules tier result }
+{
+    G::tier_size(tier).div_ceil(shards as u64).max(1)
+}
+
+// The starts of the indexes of a tier from `lo` up to `hi`, found by as many threads as there are processors.
+fn scan<G: Game + Send + Sync, R: Threads + Sync>(
+    rt: &R,
+    alloc: Global,
+    tier: u64,
+    lo: u64,
+    hi: u64,
+) -> Result<Vec<Start>, AllocError>
+    requires { lo ≤ hi }
+    ensures length { IfOk result (λ list. length list.items ≡ hi - lo) }
+    ensures starts { IfOk result (λ list. AreStarts G.rules tier lo list.items) }
+{
+    (lo..hi)
+        .into_par_iter()
+        .map(
+            |index: u64| -> Start
+                ensures { IsStart G.rules (at tier index) result }
+            { start::<G>(Position { tier, index }) },
+        )
+        .collect(rt, alloc)
+}
+
+// The shard of tile k and the count of the pairs into it.
+fn begin_tile<G: Game + Send + Sync, R: Threads + Sync>(
+    rt: &R,
+    alloc: Global,
+    tier: u64,
+    width: u64,
+    k: u64,
+) -> Result<(Shard<G>, Expected<G>), AllocError>
+    requires small { G.rules.tier_size tier ≤ TIER_SIZE }
+    requires wide { IsWide G.rules tier width }
+    requires tile { k < 4 }
+    ensures shard { IfOk result (λ begun. spot_of begun.0 ≡ tile_at G.rules (place_at tier WinLose 0) width k) }
+    ensures count { IfOk result (λ begun. spot_counted begun.1 ≡ tile_at G.rules (place_at tier WinLose 0) width k) }
+{
+    let size = G::tier_size(tier);
+    let lo = (k * width).min(size);
+    let hi = ((k + 1) * width).min(size);
+    let starts = scan::<G, R>(rt, alloc, tier, lo, hi)?;
+    let shard = Shard::begin(alloc, tier, lo, starts.as_slice())?;
+    Ok((shard, Expected::start(tier, lo, hi)))
+}
+
+/// A tier before its first level.
+pub(crate) fn begin_tiles<G: Game + Send + Sync, R: Threads + Sync>(
+    rt: &R,
+    alloc: Global,
+    tier: u64,
+    width: u64,
+) -> Result<Tiles<G>, AllocError>
+    requires small { G.rules.tier_size tier ≤ TIER_SIZE }
+    requires wide { IsWide G.rules tier width }
+    ensures place { IfOk result (λ tiles. place_of tiles.shards.a ≡ place_at tier WinLose 0) }
+{
+    let (a, in_a) = begin_tile::<G, R>(rt, alloc, tier, width, 0)?;
+    let (b, in_b) = begin_tile::<G, R>(rt, alloc, tier, width, 1)?;
+    let (c, in_c) = begin_tile::<G, R>(rt, alloc, tier, width, 2)?;
+    let (d, in_d) = begin_tile::<G, R>(rt, alloc, tier, width, 3)?;
+    Ok(Tiles {
+        shards: Four { a, b, c, d },
+        counts: Four {
+            a: in_a,
+            b: in_b,
+            c: in_c,
+            d: in_d,
+        },
+        width,
+    })
+}
+
+impl<G: Game> Tiles<G> {
+    // Shows that a good shard has each index of the tier.
+    fn show_good(&self)
+        ensures { (i : ℕ) → i < G.rules.tier_size self.now.shards.a.tier → IsCovered G.rules (place_of self.now.shards.a) i }
+    {
+        let _a = self.shards.a.range();
+        let _b = self.shards.b.range();
+        let _c = self.shards.c.range();
+        let _d = self.shards.d.range();
+    }
+
+    /// Shows that the present level is within the limit, where something of its phase is left. For the shards are good and the tables are true.
+    pub(crate) fn show_near(&self, tables: &Tables<G>)
+        requires held { AreHeld G.rules tables.now self.now.shards.a.tier }
+        requires left { IsLastLevel G.rules self.now.shards.a.tier self.now.shards.a.phase self.now.shards.a.level → ⊥ }
+        ensures { self.now.shards.a.level ≤ REMOTENESS }
+    {
+        self.show_good();
+        let _held = tables.has(self.shards.a.tier());
+    }
+
+    /// Turns from wins and losses to ties.
+    pub(crate) fn next_phase(&mut self, last: &Last<G>)
+        requires { CanTurn self.old.shards.a last.now }
+        ensures { place_of self.new.shards.a ≡ place_at self.old.shards.a.tier Ties 0 }
+    {
+        self.shards.a.next_phase(last);
+        self.shards.b.next_phase(last);
+        self.shards.c.next_phase(last);
+        self.shards.d.next_phase(last);
+        self.counts.a.next_phase(last);
+        self.counts.b.next_phase(last);
+        self.counts.c.next_phase(last);
+        self.counts.d.next_phase(last);
+    }
+
+    // The true records of the tier, where nothing is left to settle.
+    fn records(&self, alloc: Global, last: &Last<G>) -> Result<Vec<Option<Solved>>, AllocError>
+        requires last { last.now ≡ place_of self.now.shards.a }
+        requires ties { self.now.shards.a.phase ≡ Ties }
+        ensures { IfOk result (λ records. IsTrueTable G.rules REMOTENESS self.now.shards.a.tier records.items) }
+    {
+        let mut records = Vec::new(alloc);
+        self.shards.a.finish(last, &mut records)?;
+        self.shards.b.finish(last, &mut records)?;
+        self.shards.c.finish(last, &mut records)?;
+        self.shards.d.finish(last, &mut records)?;
+        Ok(records)
+    }
+
+    // The number of all pairs whose child stands before the present place.
+    fn number(&self) -> u64
+        ensures { IsNumberBefore G.rules self.now.shards.a.tier 0 (G.rules.tier_size self.now.shards.a.tier) self.now.shards.a.phase self.now.shards.a.level result }
+    {
+        self.counts.a.number()
+            + self.counts.b.number()
+            + self.counts.c.number()
+            + self.counts.d.number()
+    }
+
+    /// The true table of the tier, where nothing is left to settle, and the number of all pairs whose child is no draw.
+    pub(crate) fn table(
+        &self,
+        alloc: Global,
+        tables: &Tables<G>,
+        last: &Last<G>,
+    ) -> Result<(Table<G>, u64), AllocError>
+        requires held { AreHeld G.rules tables.now self.now.shards.a.tier }
+        requires small { G.rules.tier_size self.now.shards.a.tier ≤ TIER_SIZE }
+        requires last { last.now ≡ place_of self.now.shards.a }
+        requires ties { self.now.shards.a.phase ≡ Ties }
+        ensures tier { IfOk result (λ answer. answer.0.tier ≡ self.now.shards.a.tier) }
+        ensures table { IfOk result (λ answer. IsTable G.rules answer.0) }
+        ensures deliveries { IfOk result (λ answer. AreDeliveries G.rules self.now.shards.a.tier answer.1) }
+        ensures near { OnOk result (IsTooFar G.rules self.now.shards.a.tier → ⊥) }
+    {
+        let tier = self.shards.a.tier();
+        let _end = last.place();
+        let _held = tables.has(tier);
+        let records = self.records(alloc, last)?;
+        Ok((Table::from_true(tier, records), self.number()))
+    }
+}

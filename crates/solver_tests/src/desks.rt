@@ -1,0 +1,219 @@
+//! Boards of four shards, as callers with workers of their own use them.
+ghost use Rattle.std.specs.Prelude.{◌≡◌, ◌<◌, ◌≤◌, IfOk};
+ghost use Rattle.gm_solver.specs.Spots.{spot_of, AreFourTiles};
+
+use gm_frontier::note::Note;
+use gm_game::game::Game;
+use gm_game::limits::TIER_SIZE;
+use gm_shard::shard::Shard;
+use gm_shard::status::{Delivery, Refused};
+use gm_solver::board::{Board, Four, Shares};
+use gm_solver::share::Desk;
+use gm_solver::starts::begin_range;
+use std::alloc::{AllocError, Global};
+use std::marker::Brand;
+use std::sync::ledger::Blank;
+use std::sync::{Mutex, Wait};
+use std::thread;
+use std::thread::Threads;
+
+/// The shards of a tier that is cut at one index, and two without positions.
+pub fn cut_at<G: Game>(alloc: Global, tier: u64, cut: u64) -> Result<Four<Shard<G>>, AllocError>
+    requires within { cut ≤ G.rules.tier_size tier }
+    requires small { G.rules.tier_size tier ≤ TIER_SIZE }
+    ensures { IfOk result (λ shards. AreFourTiles G.rules (spot_of shards.a) (spot_of shards.b) (spot_of shards.c) (spot_of shards.d)) }
+{
+    let size = G::tier_size(tier);
+    Ok(Four {
+        a: begin_range(alloc, tier, 0, cut)?,
+        b: begin_range(alloc, tier, cut, size)?,
+        c: begin_range(alloc, tier, size, size)?,
+        d: begin_range(alloc, tier, size, size)?,
+    })
+}
+
+/// Blanks of so many parts.
+pub fn blanks_of(parts: u64) -> Four<Blank>
+    requires { 0 < parts }
+    ensures { (result.a.parts ≡ parts) × (result.b.parts ≡ parts) × (result.c.parts ≡ parts) × (result.d.parts ≡ parts) }
+{
+    Four {
+        a: Blank::new(parts),
+        b: Blank::new(parts),
+        c: Blank::new(parts),
+        d: Blank::new(parts),
+    }
+}
+
+/// What a board answered to deliveries, with the amounts of the first two shards after each, and what those had at the end.
+#[derive(Debug, Drop, PartialEq)]
+pub struct Answers {
+    pub each: [(Result<Delivery, Refused>, u64, u64); 3],
+    pub delivered: (u64, u64),
+}
+
+// Delivers a note to a parent, and tells the amounts of the first two shards.
+fn told<G: Game, A: Desk, B: Desk, C: Desk, D: Desk, R: Wait>(
+    rt: &R,
+    board: &Board<G, A, B, C, D>,
+    shard: usize,
+    note: &Note<G>,
+    parent: u64,
+    shares: &mut Shares<A, B, C, D>,
+) -> (Result<Delivery, Refused>, u64, u64)
+    requires { shard < 4 }
+    ensures { shares.new.parts ≡ shares.old.parts }
+{
+    let answer = board.deliver(rt, shard, note, parent, shares);
+    (answer, shares.amount(0), shares.amount(1))
+}
+
+// On a board of these names: to shard 0 twice, and then to shard 1.
+fn deliver_named<G: Game, A: Desk, B: Desk, C: Desk, D: Desk, R: Wait>(
+    rt: &R,
+    blanks: Four<Blank>,
+    shards: Four<Shard<G>>,
+    note: &Note<G>,
+    parent: u64,
+) -> Answers
+    requires names { (blanks.a.name ≡ A.name) × (blanks.b.name ≡ B.name) × (blanks.c.name ≡ C.name) × (blanks.d.name ≡ D.name) }
+    requires parts { (blanks.a.parts ≡ A.parts) × (blanks.b.parts ≡ B.parts) × (blanks.c.parts ≡ C.parts) × (blanks.d.parts ≡ D.parts) }
+    requires equal { (A.parts ≡ 1) × (B.parts ≡ 1) × (C.parts ≡ 1) × (D.parts ≡ 1) }
+    requires spots { (spot_of shards.a ≡ A.spot) × (spot_of shards.b ≡ B.spot) × (spot_of shards.c ≡ C.spot) × (spot_of shards.d ≡ D.spot) }
+    requires tiles { AreFourTiles G.rules A.spot B.spot C.spot D.spot }
+{
+    let (board, mut shares) = Board::<G, A, B, C, D>::around(1, blanks, shards);
+    let first = told(rt, &board, 0, note, parent, &mut shares);
+    let again = told(rt, &board, 0, note, parent, &mut shares);
+    let other = told(rt, &board, 1, note, parent, &mut shares);
+    let shards = board.into_shards(shares);
+    Answers {
+        each: [first, again, other],
+        delivered: (shards.a.delivered(), shards.b.delivered()),
+    }
+}
+
+/// Delivers a note to a parent on a board round these shards: to shard 0 twice, and then to shard 1.
+pub fn deliver_by_hand<G: Game, R: Wait>(
+    rt: &R,
+    shards: Four<Shard<G>>,
+    note: &Note<G>,
+    parent: u64,
+) -> Answers
+    requires { AreFourTiles G.rules (spot_of shards.a) (spot_of shards.b) (spot_of shards.c) (spot_of shards.d) }
+{
+    let blanks = blanks_of(1);
+    deliver_named::<G, Brand, Brand, Brand, Brand, R>(rt, blanks, shards, note, parent)
+}
+
+/// What two threads found at one board: a counter that one of them read under the lock of shard 0, what shard 1 answered to the other meanwhile, and whether the first gave up waiting for it.
+#[derive(Debug, Drop, PartialEq)]
+pub struct Seen {
+    pub counter: Option<u32>,
+    pub answer: Option<Result<Delivery, Refused>>,
+    pub gave_up: bool,
+}
+
+// Waits until the other thread has read its counter, at most a million turns, and delivers to shard 1.
+fn deliver_meanwhile<G: Game, A: Desk, B: Desk, C: Desk, D: Desk, R: Wait>(
+    rt: &R,
+    board: &Board<G, A, B, C, D>,
+    shares: &Mutex<Shares<A, B, C, D>>,
+    seen: &Mutex<Seen>,
+    note: &Note<G>,
+    parent: u64,
+) {
+    let _read = (0..1_000_000).any(|_| seen.lock(rt).counter.is_some());
+    let mut mine = shares.lock(rt);
+    let answer = board.deliver(rt, 1, note, parent, &mut mine);
+    seen.lock(rt).answer = Some(answer);
+}
+
+// Holds the lock of shard 0: reads a counter, and waits for the other thread's answer, at most a million turns.
+fn hold<G: Game, A: Desk, B: Desk, C: Desk, D: Desk, R: Wait>(
+    rt: &R,
+    board: &Board<G, A, B, C, D>,
+    seen: &Mutex<Seen>,
+    index: u64,
+) {
+    let held = board.a().lock(rt);
+    let shard = held.shard();
+    let (lo, hi) = shard.range();
+    if lo <= index && index < hi {
+        seen.lock(rt).counter = Some(shard.counter(index));
+    }
+    let answered = (0..1_000_000).any(|_| seen.lock(rt).answer.is_some());
+    seen.lock(rt).gave_up = !answered;
+}
+
+// Runs both, each in a thread of its own, and waits for them.
+fn run_both<
+    G: Game + Send + Sync,
+    A: Desk + Send + Sync,
+    B: Desk + Send + Sync,
+    C: Desk + Send + Sync,
+    D: Desk + Send + Sync,
+    R: Threads + Wait + Sync,
+>(
+    rt: &R,
+    board: &Board<G, A, B, C, D>,
+    shares: &Mutex<Shares<A, B, C, D>>,
+    seen: &Mutex<Seen>,
+    note: &Note<G>,
+    index: u64,
+    parent: u64,
+) {
+    thread::scope(thread::scope_env(), rt, |scope| {
+        let _holds = scope.spawn(move || hold(rt, board, seen, index));
+        let _delivers = scope.spawn(move || deliver_meanwhile(
+            rt, board, shares, seen, note, parent,
+        ));
+    });
+}
+
+// The same on a board of these names.
+fn watch_named<
+    G: Game + Send + Sync,
+    A: Desk + Send + Sync,
+    B: Desk + Send + Sync,
+    C: Desk + Send + Sync,
+    D: Desk + Send + Sync,
+    R: Threads + Wait + Sync,
+>(
+    rt: &R,
+    blanks: Four<Blank>,
+    shards: Four<Shard<G>>,
+    note: &Note<G>,
+    index: u64,
+    parent: u64,
+) -> Seen
+    requires names { (blanks.a.name ≡ A.name) × (blanks.b.name ≡ B.name) × (blanks.c.name ≡ C.name) × (blanks.d.name ≡ D.name) }
+    requires parts { (blanks.a.parts ≡ A.parts) × (blanks.b.parts ≡ B.parts) × (blanks.c.parts ≡ C.parts) × (blanks.d.parts ≡ D.parts) }
+    requires equal { (A.parts ≡ 1) × (B.parts ≡ 1) × (C.parts ≡ 1) × (D.parts ≡ 1) }
+    requires spots { (spot_of shards.a ≡ A.spot) × (spot_of shards.b ≡ B.spot) × (spot_of shards.c ≡ C.spot) × (spot_of shards.d ≡ D.spot) }
+    requires tiles { AreFourTiles G.rules A.spot B.spot C.spot D.spot }
+{
+    let (board, shares) = Board::<G, A, B, C, D>::around(1, blanks, shards);
+    let desk = Mutex::new(shares);
+    let seen = Mutex::new(Seen {
+        counter: None,
+        answer: None,
+        gave_up: true,
+    });
+    run_both(rt, &board, &desk, &seen, note, index, parent);
+    seen.into_inner()
+}
+
+/// One thread holds the lock of shard 0 and reads the counter of an index, while another delivers a note to a parent in shard 1.
+pub fn watch<G: Game + Send + Sync, R: Threads + Wait + Sync>(
+    rt: &R,
+    shards: Four<Shard<G>>,
+    note: &Note<G>,
+    index: u64,
+    parent: u64,
+) -> Seen
+    requires { AreFourTiles G.rules (spot_of shards.a) (spot_of shards.b) (spot_of shards.c) (spot_of shards.d) }
+{
+    let blanks = blanks_of(1);
+    watch_named::<G, Brand, Brand, Brand, Brand, R>(rt, blanks, shards, note, index, parent)
+}

@@ -1,0 +1,159 @@
+//! Sources that lose pieces, or hand them out again, and a gate that waits.
+use gm_game::position::{Phase, Place};
+use gm_solver::gate::Gate;
+use gm_solver::source::Source;
+use std::sync::atomic::{AtomicUsize, Ordering};
+use std::sync::{Mutex, Wait};
+
+/// What a source answers to the asks of a level, one after another.
+#[derive(Clone, Copy, Debug, Drop)]
+pub enum Habit {
+    /// Nothing.
+    Silent,
+    /// Always this number.
+    Always(usize),
+    /// Each number twice in a row.
+    Twice,
+    /// The odd numbers below that of the pieces, and then nothing.
+    Odd,
+}
+
+/// A source of a habit. It counts the levels that are begun.
+#[derive(Debug, Drop)]
+pub struct Odd {
+    pub habit: Habit,
+    pub levels: AtomicUsize,
+    pieces: AtomicUsize,
+    asked: AtomicUsize,
+}
+
+impl Odd {
+    /// A source before its first level.
+    pub fn new(habit: Habit) -> Self {
+        Odd {
+            habit,
+            levels: AtomicUsize::new(0),
+            pieces: AtomicUsize::new(0),
+            asked: AtomicUsize::new(0),
+        }
+    }
+}
+
+impl Source for Odd {
+    fn begin<R: Wait>(&self, _rt: &R, pieces: usize) {
+        self.levels.fetch_add(1, Ordering::SeqCst);
+        self.pieces.store(pieces, Ordering::SeqCst);
+        self.asked.store(0, Ordering::SeqCst);
+    }
+
+    fn next<R: Wait>(&self, _rt: &R, _worker: usize) -> Option<usize> {
+        let asked = self.asked.fetch_add(1, Ordering::SeqCst);
+        match self.habit {
+            Habit::Silent => None,
+            Habit::Always(piece) => Some(piece),
+            Habit::Twice => Some(asked / 2),
+            Habit::Odd => {
+                let piece = asked.saturating_mul(2).saturating_add(1);
+                (piece < self.pieces.load(Ordering::SeqCst)).then_some(piece)
+            }
+        }
+    }
+}
+
+/// Gives worker 0 piece 0 and worker 1 piece 1, once for each level.
+#[derive(Drop)]
+pub struct OwnPieces {
+    taken: Mutex<[bool; 2]>,
+}
+
+impl OwnPieces {
+    pub fn new() -> Self {
+        OwnPieces {
+            taken: Mutex::new([true; 2]),
+        }
+    }
+}
+
+impl Source for OwnPieces {
+    fn begin<R: Wait>(&self, rt: &R, _pieces: usize) {
+        *self.taken.lock(rt) = [false; 2];
+    }
+
+    fn next<R: Wait>(&self, rt: &R, worker: usize) -> Option<usize> {
+        if worker >= 2 {
+            return None;
+        }
+        let mut taken = self.taken.lock(rt);
+        let first = !taken[worker];
+        taken[worker] = true;
+        first.then_some(worker)
+    }
+}
+
+/// Holds each of two workers at its first delivery of the first level of wins and losses above 0, until the other has come there too, at most a million turns.
+#[derive(Drop)]
+pub struct Meeting {
+    pub arrived: Mutex<[bool; 2]>,
+    pub gave_up: Mutex<bool>,
+}
+
+impl Meeting {
+    pub fn new() -> Self {
+        Meeting {
+            arrived: Mutex::new([false; 2]),
+            gave_up: Mutex::new(false),
+        }
+    }
+
+    // Marks the worker's coming: whether it is its first.
+    fn arrive<R: Wait>(&self, rt: &R, worker: usize) -> bool {
+        let mut arrived = self.arrived.lock(rt);
+        if worker >= 2 || arrived[worker] {
+            return false;
+        }
+        arrived[worker] = true;
+        true
+    }
+
+    // Waits for both: whether they came.
+    fn wait<R: Wait>(&self, rt: &R) -> bool {
+        (0..1_000_000).any(|_| *self.arrived.lock(rt) == [true; 2])
+    }
+}
+
+impl Gate for Meeting {
+    fn before<R: Wait>(&self, rt: &R, worker: usize, place: Place) {
+        if place.phase == Phase::WinLose && place.level == 1 && self.arrive(rt, worker) {
+            if !self.wait(rt) {
+                *self.gave_up.lock(rt) = true;
+            }
+        }
+    }
+
+    fn after<R: Wait>(&self, _rt: &R, _worker: usize, _place: Place) {}
+}
+
+/// Takes and frees a mutex a thousand times before each delivery.
+#[derive(Drop)]
+pub struct SlowGate {
+    lock: Mutex<u32>,
+}
+
+impl SlowGate {
+    pub fn new() -> Self {
+        SlowGate {
+            lock: Mutex::new(0),
+        }
+    }
+}
+
+impl Gate for SlowGate {
+    fn before<R: Wait>(&self, rt: &R, _worker: usize, _place: Place) {
+        for _ in 0..1000 {
+            let mut turns = self.lock.lock(rt);
+            *turns = turns.wrapping_add(1);
+        }
+    }
+
+    fn after<R: Wait>(&self, _rt: &R, _worker: usize, _place: Place) {}
+}
