@@ -1,10 +1,13 @@
-//! Solves the lower tiers of Tac Tix on 5 by 5 by one thread, and prints for each its positions and deliveries, with the milliseconds on standard error. docs/BENCHMARKS.md has the figures.
+//! Solves the lower tiers of Tac Tix on 5 by 5 by one thread, or Dao by one thread or by workers, and prints the positions and deliveries, with the milliseconds on standard error.
+//! docs/BENCHMARKS.md has the figures.
 #![tactic(auto)]
 
 ghost use Rattle.std.specs.Prelude.{◌≤◌};
 
+mod dao;
 mod solve;
 
+use crate::dao::solve_dao;
 use crate::solve::solve_tiers;
 use std::process::ExitCode;
 use std::{env, io};
@@ -28,12 +31,32 @@ fn greatest(words: &[String]) -> u64
     }
 }
 
+// Whether Dao is to be solved: the first word after the program's name.
+fn is_dao(words: &[String]) -> bool {
+    match words.get(1) {
+        Some(word) => word.as_str() == "dao",
+        None => false,
+    }
+}
+
+// How many workers are to solve it: the second word, where it is a number.
+fn workers(words: &[String]) -> Option<usize> {
+    match words.get(2) {
+        Some(word) => word.as_str().parse::<usize>().ok(),
+        None => None,
+    }
+}
+
 fn main(rt: HostRuntime) -> io::Result<ExitCode> {
     let mut words = Vec::new(rt.alloc());
     for word in env::args(&rt)? {
         words.push(word)?;
     }
-    let solved = solve_tiers(&rt, greatest(words.as_slice()))?;
+    let solved = if is_dao(words.as_slice()) {
+        solve_dao(&rt, workers(words.as_slice()))?
+    } else {
+        solve_tiers(&rt, greatest(words.as_slice()))?
+    };
     Ok(if solved {
         ExitCode::SUCCESS
     } else {

@@ -1,6 +1,8 @@
-//! The worked values of builds: whole games over stores that fail, and over files that are damaged; and of answers over what is built.
+//! The worked values of builds: whole games over stores that fail, and over files that are damaged; and of answers and lines of play over what is built.
 #![tactic(auto)]
 
+#[cfg(test)]
+mod analyses;
 #[cfg(test)]
 mod answers;
 #[cfg(test)]
@@ -11,5 +13,7 @@ mod failing;
 mod files;
 #[cfg(test)]
 mod games;
+#[cfg(test)]
+mod lines;
 #[cfg(test)]
 mod work;

@@ -1,4 +1,8 @@
 //! Builds with two workers, two shards and pieces of one note.
+ghost use Rattle.std.specs.Prelude.{IfOk};
+ghost use Rattle.gm_build.specs.Work.{HoldsExactly};
+ghost use Rattle.gm_tiers.specs.Orders.{IsTierOrder};
+
 use gm_build::build::{Built, build};
 use gm_build::build_error::BuildError;
 use gm_game::game::Game;
@@ -24,7 +28,10 @@ pub(crate) fn built<G: Game + Send + Sync, R: Threads + Wait + Files + Sync, S: 
     rt: &R,
     alloc: Global,
     store: &mut S,
-) -> Result<Built<G>, BuildError> {
+) -> Result<Built<G>, BuildError>
+    ensures order { IfOk result (λ built. IsTierOrder G.rules built.order) }
+    ensures held { IfOk result (λ built. HoldsExactly built.tables built.order) }
+{
     match Plan::new(2, 2, 1) {
         Some(plan) if store.failures() < u64::MAX => {
             build(rt, alloc, store, plan, &NoGate, &Counter::new())

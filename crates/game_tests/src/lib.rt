@@ -2,7 +2,11 @@
 #![tactic(auto)]
 
 #[cfg(test)]
+mod dao;
+#[cfg(test)]
 mod nine_points;
+#[cfg(test)]
+mod plans;
 #[cfg(test)]
 mod rings;
 #[cfg(test)]

@@ -26,24 +26,29 @@ pub fn solve_tiers<G: Game>(alloc: Global, tiers: &[u64]) -> Result<Option<Table
     Ok(Some(tables))
 }
 
-// Whether a solved value is what looking ahead says, where it says something; where it says nothing the game is no win or loss within as many moves.
-fn fits(ahead: Option<Solved>, solved: Solved) -> bool {
-    match ahead {
+// Whether a solved value is what looking as many moves ahead says, where it says something; where it says nothing the game is no win or loss within as many moves.
+fn fits(known: Option<Solved>, moves: u32, solved: Solved) -> bool {
+    match known {
         Some(known) => known == solved,
         None => match solved.value {
-            Value::Lose | Value::Win => solved.remoteness > AHEAD,
+            Value::Lose | Value::Win => solved.remoteness > moves,
             Value::Tie | Value::Draw => true,
         },
     }
 }
 
-// Whether a position is held with a value that fits.
-fn is_held_right<G: Game>(tables: &Tables<G>, p: Position) -> bool {
-    if !G::is_legal(p) || G::canonical(p) != p {
-        return true;
+// Whether a position is canonical and legal.
+fn is_canonical<G: Game>(p: Position) -> bool {
+    G::is_legal(p) && G::canonical(p) == p
+}
+
+// Whether a position that is canonical and legal is held with a value that fits.
+fn is_held_right<G: Game>(tables: &Tables<G>, p: Position, moves: u32) -> bool {
+    if !G::is_legal(p) {
+        return false;
     }
     match tables.get(p) {
-        Some(solved) => fits(within::<G>(p, AHEAD), solved),
+        Some(solved) => fits(within::<G>(p, moves), moves, solved),
         None => false,
     }
 }
@@ -51,8 +56,28 @@ fn is_held_right<G: Game>(tables: &Tables<G>, p: Position) -> bool {
 /// Whether each canonical legal position of a tier is held with a value that agrees with looking ahead.
 pub fn agrees<G: Game>(tables: &Tables<G>, tier: u64) -> bool {
     for index in 0..G::tier_size(tier) {
-        if !is_held_right(tables, Position { tier, index }) {
+        let p = Position { tier, index };
+        if is_canonical::<G>(p) && !is_held_right(tables, p, AHEAD) {
             return false;
+        }
+    }
+    true
+}
+
+/// How far apart the indexes are from which on a large tier is looked at.
+const APART: u64 = 900;
+
+/// Whether for every 900th index of a tier from 0 on the first canonical legal position at or after it is held with a value that agrees with looking as many moves ahead.
+pub fn agrees_at_some<G: Game>(tables: &Tables<G>, tier: u64, moves: u32) -> bool {
+    let mut is_due = false;
+    for index in 0..G::tier_size(tier) {
+        is_due = is_due || index % APART == 0;
+        let p = Position { tier, index };
+        if is_due && is_canonical::<G>(p) {
+            if !is_held_right(tables, p, moves) {
+                return false;
+            }
+            is_due = false;
         }
     }
     true

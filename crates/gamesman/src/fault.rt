@@ -1,5 +1,8 @@
 //! Why a line of words was refused.
 
+use gm_build::build_error::BuildError;
+use gm_play::session_error::SessionError;
+use gm_tiers::tier_error::TierError;
 use std::alloc::AllocError;
 use std::io;
 use thiserror::Error;
@@ -13,6 +16,35 @@ pub enum Fault {
     NoSuchPosition,
     #[error("out of memory")]
     OutOfMemory(#[from(alloc)] AllocError),
+    #[error("{0}")]
+    NotBuilt(#[from] BuildError),
+    #[error("input failed")]
+    InputFailed,
     #[error("output failed")]
-    OutputFailed(#[from] io::Error),
+    OutputFailed,
+    #[error("too much input")]
+    TooMuchInput,
+}
+
+// What is written goes to standard output alone, and so does what fails there.
+impl From<io::Error> for Fault {
+    fn from(_error: io::Error) -> Fault {
+        Fault::OutputFailed
+    }
+}
+
+impl From<SessionError> for Fault {
+    fn from(error: SessionError) -> Fault {
+        match error {
+            SessionError::ReadFailed => Fault::InputFailed,
+            SessionError::WriteFailed => Fault::OutputFailed,
+            SessionError::TooMuchInput => Fault::TooMuchInput,
+        }
+    }
+}
+
+impl From<TierError> for Fault {
+    fn from(error: TierError) -> Fault {
+        Fault::NotBuilt(BuildError::from(error))
+    }
 }

@@ -1,32 +1,67 @@
-//! The program: it lists games and answers positions. Its lines are in docs/PROGRAM.md.
+//! The program: it lists games, solves them, answers positions, counts, checks folders, and plays. Its lines are in docs/PROGRAM.md.
 #![tactic(auto)]
 
-mod command;
+mod analyse;
+mod asked;
+mod check;
+mod commands;
 mod fault;
+#[cfg(test)]
+mod folders;
 mod games;
+#[cfg(test)]
+mod lines;
+mod play;
+#[cfg(test)]
+mod plays;
 mod query;
 mod run;
+#[cfg(test)]
+mod said;
+mod solve;
+mod tables;
 
-use crate::run::run_words;
+use crate::fault::Fault;
+use crate::run::{bad_line, refused, run_words};
+use std::alloc::AllocError;
+use std::env::{self, Args};
+use std::fs::Files;
+use std::io::{ErrorKind, Read, Write};
 use std::process::ExitCode;
-use std::{env, io};
+use std::sync::Wait;
+use std::thread::Threads;
 
-fn main(rt: HostRuntime) -> io::Result<ExitCode> {
-    let alloc = rt.alloc();
-    let mut args = Vec::new(alloc);
-    for arg in env::args(&rt)? {
-        args.push(arg)?;
+fn main(rt: HostRuntime) -> ExitCode {
+    let mut errors = rt.stderr();
+    let status = match env::args(&rt) {
+        Ok(args) => match run_args(&rt, args, &mut rt.reader(), &mut rt.stdout(), &mut errors) {
+            Ok(status) => status,
+            Err(error) => refused(&Fault::OutOfMemory(error), &mut errors),
+        },
+        Err(error) if error.kind() == ErrorKind::OutOfMemory => {
+            refused(&Fault::OutOfMemory(AllocError), &mut errors)
+        }
+        // A word that is no UTF-8.
+        Err(_) => bad_line(&mut errors),
+    };
+    ExitCode::from(status)
+}
+
+// Runs the line of these words.
+fn run_args<R: Threads + Wait + Files + Sync + AllocGlobal, I: Read, O: Write, E: Write>(
+    rt: &R,
+    args: Args,
+    input: &mut I,
+    output: &mut O,
+    errors: &mut E,
+) -> Result<u8, AllocError> {
+    let mut owned = Vec::new(rt.alloc());
+    for arg in args {
+        owned.push(arg)?;
     }
-    let mut words: Vec<&str> = Vec::new(alloc);
-    for arg in &args {
+    let mut words: Vec<&str> = Vec::new(rt.alloc());
+    for arg in &owned {
         words.push(arg.as_str())?;
     }
-    let status = run_words(
-        &rt,
-        words.as_slice(),
-        &mut rt.reader(),
-        &mut rt.stdout(),
-        &mut rt.stderr(),
-    );
-    Ok(ExitCode::from(status))
+    Ok(run_words(rt, words.as_slice(), input, output, errors))
 }

@@ -1,33 +1,39 @@
 //! The value of one position.
 
 use crate::fault::Fault;
-use crate::games::Task;
-use gm_game::evaluate::within;
+use crate::games::with_game;
+use crate::run::DONE;
+use crate::tables::Place;
 use gm_game::shown::Shown;
 use gm_game::text::value_text;
+use gm_play::answer::answer;
+use std::fs::Files;
 use std::io::Write;
+use std::sync::Wait;
+use std::thread::Threads;
 
-/// How many moves a query looks ahead.
-const DEPTH: u32 = 16;
-
-/// Prints the value of a position, or `unknown` where looking ahead doesn't decide it.
-#[derive(Drop)]
-pub struct Query<'a, O: Write> {
-    pub position: &'a str,
-    pub output: &'a mut O,
+/// Prints the value of a position of the game of this name.
+pub fn query<R: Threads + Wait + Files + Sync + AllocGlobal, O: Write>(
+    rt: &R,
+    name: &str,
+    position: &str,
+    place: Place<'_>,
+    output: &mut O,
+) -> Result<u8, Fault> {
+    with_game!(name, query_game::<R, O>(rt, position, place, output))
 }
 
-impl<O: Write> Task for Query<'_, O> {
-    fn run<G: Shown>(self) -> Result<(), Fault> {
-        let Query { position, output } = self;
-        match G::read(position.as_bytes()) {
-            Some(p) => match within::<G>(p, DEPTH) {
-                Some(solved) => output.write_all(value_text(solved).as_slice())?,
-                None => output.write_all(b"unknown")?,
-            },
-            None => return Err(Fault::NoSuchPosition),
-        }
-        output.write_all(b"\n")?;
-        Ok(())
-    }
+fn query_game<G: Shown + Send + Sync, R: Threads + Wait + Files + Sync + AllocGlobal, O: Write>(
+    rt: &R,
+    position: &str,
+    place: Place<'_>,
+    output: &mut O,
+) -> Result<u8, Fault> {
+    let p = G::read(position.as_bytes()).ok_or(Fault::NoSuchPosition)?;
+    let built = place.build::<G, R>(rt)?;
+    // Each legal position of the games of the program lies in a tier that their start reaches, so its table is held.
+    let solved = answer(&built.tables, p).map_err(|_| Fault::NoSuchPosition)?;
+    output.write_all(value_text(solved).as_slice())?;
+    output.write_all(b"\n")?;
+    Ok(DONE)
 }

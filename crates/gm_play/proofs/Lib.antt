@@ -1,2 +1,14 @@
 pub mod Choosing
 pub mod Wanted
+pub mod Keeping
+pub mod Held
+pub mod Promise
+pub mod Playing
+pub mod Parts
+pub mod Reaching
+pub mod Saying
+pub mod Reading
+pub mod Kept
+pub mod Talk
+pub mod Courses
+pub mod Advising

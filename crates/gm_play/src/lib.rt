@@ -1,7 +1,13 @@
-//! Answers about positions, and the best move of each: read from the true tables.
+//! Answers about positions, the best move of each, and lines of play: read from the true tables.
 //!
 //! `specs/` has the definitions that contracts cite, and `proofs/` what follows from them.
 #![tactic(auto)]
 
 pub mod answer;
 pub mod best_move;
+pub mod play_line;
+pub mod session;
+pub mod session_error;
+pub mod side;
+pub(crate) mod streams;
+pub(crate) mod turns;

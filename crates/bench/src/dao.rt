@@ -1,0 +1,107 @@
+//! Dao's one tier: solved, written as a file and read again.
+use gm_dao::dao::Dao;
+use gm_game::game::Game;
+use gm_game::limits::TIER_SIZE;
+use gm_solver::alone::solve_alone;
+use gm_solver::error::SolveError;
+use gm_solver::gate::NoGate;
+use gm_solver::plan::Plan;
+use gm_solver::source::Counter;
+use gm_solver::tier::solve_tier;
+use gm_table::table::Table;
+use gm_table::tables::Tables;
+use gm_tierdb::decode::decode;
+use gm_tierdb::encode::encode;
+use std::io;
+use std::rt::Clock;
+use std::sync::Wait;
+use std::thread::Threads;
+use std::time::Instant;
+
+/// Into how many shards the tier is split.
+const SHARDS: usize = 4;
+
+/// How many notes a piece of a level has.
+const PIECE: usize = 64;
+
+// The table of the tier and the number of deliveries: by the workers of the plan, or by one thread without locks where there is no plan.
+fn solved<R: AllocGlobal + Threads + Wait + Sync>(
+    rt: &R,
+    plan: Option<Plan>,
+) -> Result<Option<(Table<Dao>, u64)>, SolveError> {
+    let tables: Tables<Dao> = Tables::new(rt.alloc());
+    if !tables.has_children(0) || Dao::tier_size(0) > TIER_SIZE {
+        return Ok(None);
+    }
+    match plan {
+        Some(plan) => {
+            let source = Counter::new();
+            let (table, report) = solve_tier(rt, rt.alloc(), 0, &tables, plan, &NoGate, &source)?;
+            Ok(Some((table, report.deliveries)))
+        }
+        None => Ok(Some(solve_alone(rt.alloc(), 0, &tables)?)),
+    }
+}
+
+/// Solves Dao by this many workers, or by one thread without locks where no number is given, then writes its file and reads it. Prints the positions, the deliveries and the bytes, with the
+/// milliseconds on standard error, and says whether all went well. More workers than a plan has, or none, are refused.
+pub fn solve_dao<R: Print + Eprint + Clock + AllocGlobal + Threads + Wait + Sync>(
+    rt: &R,
+    workers: Option<usize>,
+) -> io::Result<bool> {
+    match workers {
+        Some(workers) => match Plan::new(workers, SHARDS, PIECE) {
+            Some(plan) => solve_by(rt, Some(plan)),
+            None => {
+                eprintln!(rt; "dao: no plan has {workers} workers")?;
+                Ok(false)
+            }
+        },
+        None => solve_by(rt, None),
+    }
+}
+
+// Solves Dao by the workers of the plan, or by one thread without locks where there is no plan.
+fn solve_by<R: Print + Eprint + Clock + AllocGlobal + Threads + Wait + Sync>(
+    rt: &R,
+    plan: Option<Plan>,
+) -> io::Result<bool> {
+    let start = Instant::now(rt)?;
+    match solved(rt, plan) {
+        Ok(Some((table, deliveries))) => {
+            let milliseconds = start.elapsed(rt)?.as_millis();
+            let positions = table.size();
+            println!(rt; "dao: {positions} positions, {deliveries} deliveries")?;
+            eprintln!(rt; "dao: solved in {milliseconds} ms")?;
+            write_and_read(rt, &table)
+        }
+        Ok(None) => Ok(false),
+        Err(error) => {
+            eprintln!(rt; "dao: {error}")?;
+            Ok(false)
+        }
+    }
+}
+
+// Writes a table's file and reads it: whether as many records came back.
+fn write_and_read<R: Print + Eprint + Clock + AllocGlobal>(
+    rt: &R,
+    table: &Table<Dao>,
+) -> io::Result<bool> {
+    let start = Instant::now(rt)?;
+    let Ok(file) = encode(rt.alloc(), table) else {
+        return Ok(false);
+    };
+    let milliseconds = start.elapsed(rt)?.as_millis();
+    let bytes = file.len();
+    println!(rt; "dao: {bytes} bytes")?;
+    eprintln!(rt; "dao: written in {milliseconds} ms")?;
+    let start = Instant::now(rt)?;
+    let records = decode::<Dao>(rt.alloc(), 0, file.as_slice());
+    let milliseconds = start.elapsed(rt)?.as_millis();
+    eprintln!(rt; "dao: read in {milliseconds} ms")?;
+    Ok(match records {
+        Ok(records) => records.len() as u64 == table.size(),
+        Err(_) => false,
+    })
+}

@@ -1,0 +1,136 @@
+//! What a line of words asks for.
+
+use crate::commands::gamesman;
+use clap::error::ErrorKind;
+use clap::{ArgMatches, Error};
+use gm_play::side::Side;
+use gm_solver::plan::Plan;
+use std::alloc::Global;
+use std::fmt;
+
+/// What a line of words asks for.
+#[derive(Drop)]
+pub enum Asked<'a> {
+    List,
+    Solve {
+        game: &'a str,
+        folder: &'a str,
+        plan: Plan,
+    },
+    Query {
+        game: &'a str,
+        position: &'a str,
+        folder: Option<&'a str>,
+    },
+    Analyse {
+        game: &'a str,
+        folder: Option<&'a str>,
+    },
+    Check {
+        game: &'a str,
+        folder: &'a str,
+    },
+    Play {
+        game: &'a str,
+        folder: Option<&'a str>,
+        first: Side,
+    },
+    Help(Help),
+}
+
+/// A text of help.
+#[derive(Drop)]
+pub struct Help(Error);
+
+impl fmt::Display for Help {
+    fn fmt<W: fmt::Write>(&self, f: &mut fmt::Formatter<W>) -> fmt::Result {
+        let text = &self.0;
+        write!(f, "{text}")
+    }
+}
+
+/// Why a line of words can't be read.
+#[derive(Clone, Copy, Debug, PartialEq, Eq)]
+pub enum Unread {
+    BadLine,
+    OutOfMemory,
+}
+
+// The plan of a line of `solve`: its defaults and ranges are those of the command.
+fn plan_of(matches: &ArgMatches<'_>) -> Option<Plan> {
+    let workers = matches.get_one::<u32>("workers")?;
+    let shards = matches.get_one::<u32>("shards")?;
+    let piece = matches.get_one::<u32>("piece")?;
+    Plan::new(workers as usize, shards as usize, piece as usize)
+}
+
+fn solve_of<'a>(inner: &ArgMatches<'a>) -> Option<Asked<'a>> {
+    Some(Asked::Solve {
+        game: inner.get_str("GAME")?,
+        folder: inner.get_str("FOLDER")?,
+        plan: plan_of(inner)?,
+    })
+}
+
+fn query_of<'a>(inner: &ArgMatches<'a>) -> Option<Asked<'a>> {
+    Some(Asked::Query {
+        game: inner.get_str("GAME")?,
+        position: inner.get_str("POSITION")?,
+        folder: inner.get_str("folder"),
+    })
+}
+
+fn analyse_of<'a>(inner: &ArgMatches<'a>) -> Option<Asked<'a>> {
+    Some(Asked::Analyse {
+        game: inner.get_str("GAME")?,
+        folder: inner.get_str("folder"),
+    })
+}
+
+fn check_of<'a>(inner: &ArgMatches<'a>) -> Option<Asked<'a>> {
+    Some(Asked::Check {
+        game: inner.get_str("GAME")?,
+        folder: inner.get_str("FOLDER")?,
+    })
+}
+
+fn play_of<'a>(inner: &ArgMatches<'a>) -> Option<Asked<'a>> {
+    let first = if inner.get_flag("second") {
+        Side::Computer
+    } else {
+        Side::You
+    };
+    Some(Asked::Play {
+        game: inner.get_str("GAME")?,
+        folder: inner.get_str("folder"),
+        first,
+    })
+}
+
+fn asked_of<'a>(matches: &ArgMatches<'a>) -> Option<Asked<'a>> {
+    match matches.subcommand() {
+        Some(("list", _)) => Some(Asked::List),
+        Some(("solve", inner)) => solve_of(inner),
+        Some(("query", inner)) => query_of(inner),
+        Some(("analyse", inner)) => analyse_of(inner),
+        Some(("check", inner)) => check_of(inner),
+        Some(("play", inner)) => play_of(inner),
+        _ => None,
+    }
+}
+
+fn matched<'a>(alloc: Global, words: &'a [&'a str]) -> Result<ArgMatches<'a>, Error> {
+    gamesman(alloc)?.try_get_matches_from(words)
+}
+
+/// Reads a line of words, of which the first is the program's name.
+pub fn read_words<'a>(alloc: Global, words: &'a [&'a str]) -> Result<Asked<'a>, Unread> {
+    match matched(alloc, words) {
+        Ok(matches) => asked_of(&matches).ok_or(Unread::BadLine),
+        Err(error) => match error.kind() {
+            ErrorKind::DisplayHelp => Ok(Asked::Help(Help(error))),
+            ErrorKind::OutOfMemory => Err(Unread::OutOfMemory),
+            _ => Err(Unread::BadLine),
+        },
+    }
+}

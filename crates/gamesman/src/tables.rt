@@ -1,0 +1,67 @@
+//! The tables of a game, in a folder or in memory.
+ghost use Rattle.std.specs.Prelude.{IfOk};
+ghost use Rattle.gm_tiers.specs.Orders.{IsTierOrder};
+ghost use Rattle.gm_build.specs.Work.{HoldsExactly};
+
+use crate::fault::Fault;
+use gm_build::build::{Built, build};
+use gm_game::game::Game;
+use gm_solver::gate::NoGate;
+use gm_solver::plan::Plan;
+use gm_solver::source::Counter;
+use gm_tierdb::folder_store::FolderStore;
+use gm_tierdb::mem_store::MemStore;
+use std::fs::Files;
+use std::string::String;
+use std::sync::Wait;
+use std::thread::Threads;
+
+/// Where the tables of a game are kept, and how they are made.
+#[derive(Clone, Copy)]
+pub struct Place<'a> {
+    /// In memory where there is none.
+    pub folder: Option<&'a str>,
+    pub plan: Plan,
+}
+
+impl Place<'_> {
+    /// Builds a game there.
+    pub fn build<G: Game + Send + Sync, R: Threads + Wait + Files + Sync + AllocGlobal>(
+        self,
+        rt: &R,
+    ) -> Result<Built<G>, Fault>
+        ensures order { IfOk result (λ built. IsTierOrder G.rules built.order) }
+        ensures held { IfOk result (λ built. HoldsExactly built.tables built.order) }
+    {
+        match self.folder {
+            Some(folder) => build_in(rt, folder, self.plan),
+            None => build_in_memory(rt, self.plan),
+        }
+    }
+}
+
+/// Builds a game over a folder.
+pub fn build_in<G: Game + Send + Sync, R: Threads + Wait + Files + Sync + AllocGlobal>(
+    rt: &R,
+    folder: &str,
+    plan: Plan,
+) -> Result<Built<G>, Fault>
+    ensures order { IfOk result (λ built. IsTierOrder G.rules built.order) }
+    ensures held { IfOk result (λ built. HoldsExactly built.tables built.order) }
+{
+    let alloc = rt.alloc();
+    let mut store = FolderStore::new(alloc, String::from_str(alloc, folder)?);
+    Ok(build(rt, alloc, &mut store, plan, &NoGate, &Counter::new())?)
+}
+
+fn build_in_memory<G: Game + Send + Sync, R: Threads + Wait + Files + Sync + AllocGlobal>(
+    rt: &R,
+    plan: Plan,
+) -> Result<Built<G>, Fault>
+    ensures order { IfOk result (λ built. IsTierOrder G.rules built.order) }
+    ensures held { IfOk result (λ built. HoldsExactly built.tables built.order) }
+{
+    let alloc = rt.alloc();
+    let mut store = MemStore::new(alloc);
+    Ok(build(rt, alloc, &mut store, plan, &NoGate, &Counter::new())?)
+}

@@ -1,0 +1,71 @@
+-- Numbers of indexes with one index more.
+use Rattle.std.proofs.Common.{◌≡◌, ℕ, zero, suc, ◌<◌, ◌≤◌, ◌+◌, ◌==◌, Bool, true, false, if◌then◌else◌, List, set, replicate, length, get_or, refl, sym, ap, ◌∙◌, subst, arith, inl, inr, Option, None, Some, eq-eqb, ne_eqb}
+use Rattle.std.proofs.lemmas.Bool.{cases_eq, cases_lt}
+use Rattle.std.proofs.lemmas.List.{get_or-set_same, get_or-set_other, get_or-replicate, get_or_past, length-replicate}
+use Rattle.std.proofs.lemmas.Option.{same_Some}
+use Rattle.gm_game.specs.declared.position.Position.{Position}
+use Rattle.gm_game.specs.declared.position.Solved.{Solved}
+use Rattle.gm_game.specs.declared.position.Value.{Value}
+use Rattle.gm_game.specs.Rules.{Rules}
+use Rattle.gm_game.specs.Records.{IsRecord}
+use Rattle.gm_table.specs.Levels.{is_level}
+use Rattle.gm_table.specs.Tables.{record_at}
+use Rattle.gm_analyse.specs.Numbers.{count_where, rank, remoteness_in, is_solved, number_in}
+
+count_more : (test : ℕ → Bool) (n : ℕ) → count_where test (n + 1) ≡ (if test n then count_where test n + 1 else count_where test n)
+count_more test n = let e : n + 1 ≡ suc n = omega arith in rw e refl
+
+pub count_yes : (test : ℕ → Bool) (n : ℕ) → test n ≡ true → count_where test (n + 1) ≡ count_where test n + 1
+count_yes test n e = count_more test n ∙ rw e refl
+
+pub count_no : (test : ℕ → Bool) (n : ℕ) → test n ≡ false → count_where test (n + 1) ≡ count_where test n
+count_no test n e = count_more test n ∙ rw e refl
+
+one_at_most : (b : Bool) (m n : ℕ) → m ≤ n → (if b then m + 1 else m) ≤ suc n
+one_at_most true m n h = omega arith
+one_at_most false m n h = omega arith
+
+pub count_le : (test : ℕ → Bool) (n : ℕ) → count_where test n ≤ n
+count_le test zero = omega arith
+count_le test (suc n) = one_at_most (test n) (count_where test n) n (count_le test n)
+
+-- a record with this value
+pub within_limit : (r : Rules) (limit : ℕ) (Is : Position → Solved → Type 0) (p : Position) (v : Value) (o : Option Solved) (m : ℕ) → IsRecord r limit Is p o → Some m ≡ remoteness_in v o → m ≤ limit
+within_limit r limit Is p v None m h e = absurd (cc)
+within_limit r limit Is p v (Some s) m h e = go (rank s.value == rank v) e
+  where
+    go : (b : Bool) → Some m ≡ (if b then Some s.remoteness else None) → m ≤ limit
+    go true q = let a = same_Some m s.remoteness q in let b = h.2 in omega arith
+    go false q = absurd (cc)
+
+module _ (records : List (Option Solved)) (v : Value) (i : ℕ) where
+  abbrev Here : Option ℕ
+  Here = remoteness_in v (record_at records i)
+
+  number_more : (o : Option ℕ) (n : ℕ) → o ≡ Here → number_in records (i + 1) v n ≡ (if is_level n o then number_in records i v n + 1 else number_in records i v n)
+  number_more o n e = count_more (is_solved records v n) i ∙ ap (λ (w : Option ℕ). if is_level n w then number_in records i v n + 1 else number_in records i v n) (sym e)
+
+  -- one more has remoteness m
+  pub numbers_with : (m d : ℕ) (xs ys : List ℕ) → Some m ≡ Here → m < length xs → ((n : ℕ) → get_or xs n 0 ≡ number_in records i v n) → d ≡ get_or xs m 0 → ys ≡ set xs m (d + 1) → (n : ℕ) → get_or ys n 0 ≡ number_in records (i + 1) v n
+  numbers_with m d xs ys e l h q w n = elim (cases_eq m n) [
+    | inl s ↦ (
+        let same : (m == n) ≡ true = eq-eqb m n s in
+        let new : get_or ys n 0 ≡ d + 1 = subst (λ (k : ℕ). get_or ys k 0 ≡ d + 1) s (ap (λ (zs : List ℕ). get_or zs m 0) w ∙ get_or-set_same xs m (d + 1) 0 l) in
+        let old : d ≡ number_in records i v n = subst (λ (k : ℕ). d ≡ number_in records i v k) s (q ∙ h m) in
+        let more : number_in records (i + 1) v n ≡ number_in records i v n + 1 = number_more (Some m) n e ∙ rw same refl in
+        new ∙ ap (λ (k : ℕ). k + 1) old ∙ sym more)
+    | inr s ↦ (
+        let other : (m == n) ≡ false = ne_eqb m n s in
+        let new : get_or ys n 0 ≡ get_or xs n 0 = ap (λ (zs : List ℕ). get_or zs n 0) w ∙ get_or-set_other xs m n (d + 1) 0 (λ z. s (sym z)) in
+        let more : number_in records (i + 1) v n ≡ number_in records i v n = number_more (Some m) n e ∙ rw other refl in
+        new ∙ h n ∙ sym more)
+  ]
+
+  -- one more has another value, or none
+  pub numbers_without : (xs : List ℕ) → None ≡ Here → ((n : ℕ) → get_or xs n 0 ≡ number_in records i v n) → (n : ℕ) → get_or xs n 0 ≡ number_in records (i + 1) v n
+  numbers_without xs e h n = h n ∙ sym (number_more None n e)
+
+-- a list of zeros
+pub zeros : (m n z : ℕ) → get_or (replicate m z) n z ≡ z
+zeros m n z =
+    elim (cases_lt n m) [ inl l ↦ get_or-replicate m n z z l | inr l ↦ get_or_past (replicate m z) n z (let e = length-replicate m z in omega arith) ]

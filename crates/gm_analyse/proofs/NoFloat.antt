@@ -1,0 +1,18 @@
+-- The tree of an analysis has no float.
+use Rattle.std.proofs.Common.{◌≡◌, ℕ, false, List, [], ◌∷◌, map, Option, None, Some, refl}
+use Rattle.serde_json.specs.Written.{has_float, items_have_float}
+use Rattle.serde_json.specs.View.{items_of}
+use Rattle.gm_analyse.specs.declared.counts.Count.{Count}
+use Rattle.gm_analyse.specs.declared.analysis.Analysis.{Analysis}
+use Rattle.gm_analyse.specs.Tree.{count_tree, longest_tree, analysis_tree}
+
+counts_no_float : (cs : List Count) → items_have_float (items_of (map count_tree cs)) ≡ false
+counts_no_float [] = refl
+counts_no_float (c ∷ cs) = counts_no_float cs
+
+longest_no_float : (l : Option (ℕ × ℕ)) → has_float (longest_tree l) ≡ false
+longest_no_float None = refl
+longest_no_float (Some l) = refl
+
+pub tree_no_float : (game : List ℕ) (a : Analysis) → has_float (analysis_tree game a) ≡ false
+tree_no_float game a = rw (counts_no_float a.counts, longest_no_float a.longest_win) refl

@@ -1,0 +1,14 @@
+use Rattle.std.proofs.Common.{◌≡◌, ℕ, List, ap, ◌∙◌}
+use Rattle.std.proofs.lemmas.Result.{IfOk-weaker}
+use Rattle.serde_json.specs.Written.{compact_text}
+use Rattle.serde_json.specs.View.{view}
+use Rattle.gm_analyse.specs.Tree.{name_text, analysis_tree}
+use Rattle.gm_analyse.proofs.NoFloat.{tree_no_float}
+use Rattle.gm_analyse.proofs.json.to_json.Goals as goal
+
+pub returns : goal.returns
+returns g c =
+    let name : c.text_of.result.now ≡ name_text g.G.Game.rules.name = c.text_of.ensures ∙ ap name_text c.name-name.ensures in
+    let same : view c.in_ok-tree.field-0 ≡ analysis_tree (name_text g.G.Game.rules.name) c.args.analysis.now =
+    c.in_ok-tree.ensures ∙ ap (λ (game : List ℕ). analysis_tree game c.args.analysis.now) name in
+    IfOk-weaker c.to_string.result _ _ (λ s h. h (rw same (tree_no_float (name_text g.G.Game.rules.name) c.args.analysis.now)) ∙ ap compact_text same) c.to_string.ensures.text

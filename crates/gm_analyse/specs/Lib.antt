@@ -1,0 +1,4 @@
+pub mod Numbers
+pub mod Listing
+pub mod LongestWins
+pub mod Tree

@@ -1,0 +1,28 @@
+-- The counts of a table.
+use Rattle.std.specs.Prelude.{◌≡◌, ℕ, ◌<◌, ◌⊎◌, ◌↔◌, List, Option, length}
+use Rattle.std.specs.List.{Contains, AllPairs}
+use Rattle.gm_game.specs.declared.position.Solved.{Solved}
+use Rattle.gm_analyse.specs.declared.counts.Count.{Count}
+use Rattle.gm_analyse.specs.Numbers.{rank, number_in}
+
+-- the count comes before those of the value with this rank and of this remoteness
+abbrev pub ComesBefore : ℕ → ℕ → Count → Type 0
+ComesBefore r k c = (rank c.value < r) ⊎ ((rank c.value ≡ r) × (c.remoteness < k))
+
+-- the first comes before the second
+abbrev pub IsBefore : Count → Count → Type 0
+IsBefore a b = ComesBefore (rank b.value) b.remoteness a
+
+-- some record has this value and remoteness, and it is the number of those that have it
+abbrev pub IsCount : List (Option Solved) → Count → Type 0
+IsCount records c = (c.number ≡ number_in records (length records) c.value c.remoteness) × (0 < c.number)
+
+-- the counts are those of each value and remoteness that some record has, in order
+pub record AreCounts (records : List (Option Solved)) (counts : List Count) : Type 0 where
+  pub ordered : AllPairs IsBefore counts
+  pub exact : (c : Count) → Contains counts c ↔ IsCount records c
+
+-- the same of those alone that come before a value and remoteness
+pub record AreCountsBefore (records : List (Option Solved)) (r k : ℕ) (counts : List Count) : Type 0 where
+  pub ordered : AllPairs IsBefore counts
+  pub exact : (c : Count) → Contains counts c ↔ (IsCount records c × ComesBefore r k c)

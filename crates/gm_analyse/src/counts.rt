@@ -1,0 +1,107 @@
+//! How many positions have each value and remoteness.
+ghost use Rattle.std.specs.Prelude.{◌≡◌, ◌+◌, ◌≤◌, ℕ, length, slice_index_or, vec_len, IfOk, OnOk};
+ghost use Rattle.gm_analyse.specs.Numbers.{remoteness_in as remoteness_in_spec, number_in, rank};
+ghost use Rattle.gm_analyse.specs.Listing.{AreCounts, AreCountsBefore};
+
+use gm_game::game::Game;
+use gm_game::limits::REMOTENESS;
+use gm_game::position::{Solved, Value};
+use gm_table::table::Table;
+use std::alloc::{AllocError, Global};
+use std::marker::Model;
+
+/// How many canonical positions have one value and remoteness.
+#[derive(Clone, Copy, Debug, PartialEq, Eq)]
+pub struct Count {
+    pub value: Value,
+    pub remoteness: u32,
+    pub number: u64,
+}
+
+/// The counts of a table. Contracts see their list.
+#[derive(Drop)]
+pub struct Counts {
+    counts: Vec<Count>,
+}
+
+impl Model for Counts {
+    ghost use Rattle.std.specs.Prelude.{List};
+    ghost use Rattle.gm_analyse.specs.declared.counts.Count.{Count as CountData};
+
+    ghost Value = { List CountData };
+
+    ghost view = { λ c. c.counts.items };
+}
+
+impl Counts {
+    /// The counts, without memory: in the order Lose, Draw, Tie, Win, then by remoteness.
+    pub fn list(&self) -> &[Count]
+        ensures { result.now ≡ self.now }
+    {
+        self.counts.as_slice()
+    }
+}
+
+/// Counts the records of a table by value and remoteness.
+pub(crate) fn counts_of<G: Game>(alloc: Global, table: &Table<G>) -> Result<Counts, AllocError>
+    ensures { IfOk result (AreCounts table.now.records) }
+{
+    let mut counts = Vec::new(alloc);
+    for value in [Value::Lose, Value::Draw, Value::Tie, Value::Win] {
+        add_counts(&mut counts, table, value)?;
+    }
+    Ok(Counts { counts })
+}
+
+// Adds the counts of a value to those of the values before it.
+fn add_counts<G: Game>(
+    counts: &mut Vec<Count>,
+    table: &Table<G>,
+    value: Value,
+) -> Result<(), AllocError>
+    requires { AreCountsBefore table.now.records (rank value) 0 counts.old.items }
+    ensures { OnOk result (AreCountsBefore table.now.records (rank value + 1) 0 counts.new.items) }
+{
+    let numbers = numbers_of(*counts.allocator(), table, value)?;
+    for (remoteness, number) in numbers.iter().enumerate() {
+        if *number > 0 {
+            counts.push(Count {
+                value,
+                remoteness: remoteness as u32,
+                number: *number,
+            })?;
+        }
+    }
+    Ok(())
+}
+
+// How many records have this value, for each remoteness within the limit.
+fn numbers_of<G: Game>(
+    alloc: Global,
+    table: &Table<G>,
+    value: Value,
+) -> Result<Vec<u64>, AllocError>
+    ensures few { IfOk result (λ numbers. vec_len numbers ≡ REMOTENESS + 1) }
+    ensures numbers { IfOk result (λ numbers. (n : ℕ)
+        → slice_index_or numbers.items n 0 ≡ number_in table.now.records (length table.now.records) value n) }
+{
+    let mut numbers = vec![in alloc; 0u64; REMOTENESS as usize + 1]?;
+    for index in 0..table.size() {
+        if let Some(remoteness) = remoteness_in(value, table.at(index)) {
+            numbers[remoteness as usize] += 1;
+        }
+    }
+    Ok(numbers)
+}
+
+/// The remoteness of a record of this value.
+pub(crate) fn remoteness_in(value: Value, known: Option<Solved>) -> Option<u32>
+    ensures { result ≡ remoteness_in_spec value known }
+{
+    let solved = known?;
+    if solved.value == value {
+        Some(solved.remoteness)
+    } else {
+        None
+    }
+}

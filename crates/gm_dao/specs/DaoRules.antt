@@ -1,0 +1,244 @@
+-- The rules of Dao, said of boards: a board is a list of sixteen cells as the player to move sees them.
+use Rattle.std.specs.Prelude.{ℕ, ◌+◌, ◌-◌, ◌/◌, ◌%◌, max, Bool, true, false, not, ◌&&◌, ◌||◌, ◌==◌, nat_le, nat_lt, List, [], ◌∷◌, ◌++◌, map, reverse, length, get_or, set, fold, min, codes, if◌then◌else◌, Option, None, Some}
+use Rattle.std.specs.List.{filter, filter_map, count_by, list_any, range_with_len}
+use Rattle.gm_game.specs.declared.position.End.{End}
+use Rattle.gm_game.specs.declared.position.End.TheVariants.{Lose, Win}
+use Rattle.gm_game.specs.Rules.{Rules}
+use Rattle.gm_game.specs.Boards.{BoardGame, rules_of}
+use Rattle.gm_board.specs.declared.cell.Cell.{Cell}
+use Rattle.gm_board.specs.declared.cell.Cell.TheVariants.{Empty, Mine, Theirs}
+use Rattle.gm_board.specs.Arrangements.{arrangement, arrangements, arrangement_index}
+use Rattle.gm_board.specs.BoardMasks.{turned}
+use Rattle.gm_board.specs.Patterns.{fills, has_filled}
+use Rattle.gm_board.specs.Permutations.{permute}
+use Rattle.gm_board.specs.Squares.{cell_in, square_symmetries}
+use Rattle.gm_steps.specs.Steps.{from_point, to_point}
+
+-- ---- cells
+-- whether a piece of the mover's stands on a cell
+abbrev pub is_mine : Cell → Bool
+is_mine Empty = false
+is_mine Mine = true
+is_mine Theirs = false
+
+-- whether a piece of the opponent's does
+abbrev pub is_theirs : Cell → Bool
+is_theirs Empty = false
+is_theirs Mine = false
+is_theirs Theirs = true
+
+-- whether no piece does
+abbrev pub is_empty : Cell → Bool
+is_empty Empty = true
+is_empty Mine = false
+is_empty Theirs = false
+
+-- whether a piece of either side does
+abbrev pub is_taken : Cell → Bool
+is_taken Empty = false
+is_taken Mine = true
+is_taken Theirs = true
+
+-- what stands on the cell with this number
+abbrev pub cell_at : List Cell → ℕ → Cell
+cell_at b k = get_or b k Empty
+
+-- how many cells pass a test
+unfoldable pub number_of : (Cell → Bool) → List Cell → ℕ
+number_of p b = count_by p b
+
+-- how far two numbers are from each other
+abbrev pub distance : ℕ → ℕ → ℕ
+distance x y = (x - y) + (y - x)
+
+-- how far apart two cells are in rows
+abbrev pub rows_apart : ℕ → ℕ → ℕ
+rows_apart a c = distance (a / 4) (c / 4)
+
+-- in columns
+abbrev pub columns_apart : ℕ → ℕ → ℕ
+columns_apart a c = distance (a % 4) (c % 4)
+
+-- ---- formations
+-- the square of side 2 with this cell as its first
+abbrev pub small_square : ℕ → ℕ → List ℕ
+small_square row column = cell_in 4 row column ∷ cell_in 4 row (column + 1) ∷ cell_in 4 (row + 1) column ∷ cell_in 4 (row + 1) (column + 1) ∷ []
+
+-- the corners of the board
+abbrev pub corners : List ℕ
+corners = 0 ∷ 3 ∷ 12 ∷ 15 ∷ []
+
+-- the rows, the columns, the squares of side 2 and the four corners
+unfoldable pub formations : List (List ℕ)
+formations =
+    map (λ row. map (λ column. cell_in 4 row column) (range_with_len 0 4)) (range_with_len 0 4)
+    ++ map (λ column. map (λ row. cell_in 4 row column) (range_with_len 0 4)) (range_with_len 0 4)
+    ++ map (λ k. small_square (k / 3) (k % 3)) (range_with_len 0 9)
+    ++ corners ∷ []
+
+-- whether all cells of a formation pass the test
+unfoldable pub has_formation : (Cell → Bool) → List Cell → Bool
+has_formation p b = has_filled Empty formations p b
+
+-- sixteen cells, four pieces of each side, no formation of the mover's
+unfoldable pub legal : List Cell → Bool
+legal b = length b == 16 && (number_of is_mine b == 4 && (number_of is_theirs b == 4 && not (has_formation is_mine b)))
+
+-- ---- corners
+-- the cells next to a cell, in its row, its column and its diagonals: three where it is a corner
+unfoldable pub around : ℕ → List ℕ
+around k = filter (λ j. not (j == k) && (nat_le (rows_apart k j) 1 && nat_le (columns_apart k j) 1)) (range_with_len 0 16)
+
+-- whether a piece of the mover's stands there, and opponent's pieces on all cells next to it
+abbrev pub is_trapped : List Cell → ℕ → Bool
+is_trapped b k = is_mine (cell_at b k) && fills Empty is_theirs b (around k)
+
+-- whether that is so in a corner
+unfoldable pub has_trapped : List Cell → Bool
+has_trapped b = list_any (is_trapped b) corners
+
+-- ---- slides
+-- the number that is n steps from x in the direction of y; x itself where they are one
+abbrev pub toward : ℕ → ℕ → ℕ → ℕ
+toward x y n = if nat_lt x y then x + n else (if nat_lt y x then x - n else x)
+
+-- whether these steps stay within the four rows or columns
+abbrev pub stays : ℕ → ℕ → ℕ → Bool
+stays x y n = if nat_lt x y then nat_lt (x + n) 4 else (if nat_lt y x then nat_le n x else true)
+
+-- whether c lies in one of the eight directions from a: in its row, its column or one of its diagonals
+unfoldable pub in_line : ℕ → ℕ → Bool
+in_line a c = nat_lt a 16 && (nat_lt c 16 && (not (a == c) && (rows_apart a c == 0 || (columns_apart a c == 0 || rows_apart a c == columns_apart a c))))
+
+-- how many steps it is from one to the other
+abbrev pub steps_apart : ℕ → ℕ → ℕ
+steps_apart a c = max (rows_apart a c) (columns_apart a c)
+
+-- the cell n steps from a in the direction of c
+abbrev pub step_cell : ℕ → ℕ → ℕ → ℕ
+step_cell a c n = cell_in 4 (toward (a / 4) (c / 4) n) (toward (a % 4) (c % 4) n)
+
+-- the cells on the way from a to c: those after a, the last of which is c
+unfoldable pub path : ℕ → ℕ → List ℕ
+path a c = map (step_cell a c) (range_with_len 1 (steps_apart a c))
+
+-- the cell that follows on c on this way, if the board goes on there
+unfoldable pub beyond : ℕ → ℕ → List ℕ
+beyond a c =
+    if stays (a / 4) (c / 4) (steps_apart a c + 1) && stays (a % 4) (c % 4) (steps_apart a c + 1)
+    then step_cell a c (steps_apart a c + 1) ∷ []
+    else []
+
+-- whether a piece slides from a to c, as far as it can in this direction: all cells on the way are empty, and the cell that follows is taken or off the board
+abbrev pub slides : List Cell → ℕ → ℕ → Bool
+slides b a c = in_line a c && (fills Empty is_empty b (path a c) && fills Empty is_taken b (beyond a c))
+
+-- ---- moves
+-- whether a piece of the mover's slides from a to c
+abbrev pub can_go : List Cell → ℕ → ℕ → Bool
+can_go b a c = is_mine (cell_at b a) && slides b a c
+
+-- whether the move with this number can be made
+unfoldable pub can_move : List Cell → ℕ → Bool
+can_move b m = can_go b (from_point m) (to_point m)
+
+-- the numbers of moves are below this one
+abbrev pub numbers_end : ℕ
+numbers_end = 256
+
+-- the moves that can be made, were the game not over
+unfoldable pub steps : List Cell → List ℕ
+steps b = filter (can_move b) (range_with_len 0 numbers_end)
+
+-- whether the last move has ended the game: by a formation, or by trapping a piece in a corner
+unfoldable pub is_over : List Cell → Bool
+is_over b = has_formation is_theirs b || has_trapped b
+
+-- a formation of the opponent's loses, which is tested first; then a piece that is trapped in a corner wins; then who can't move loses
+unfoldable pub ended : List Cell → Option End
+ended b =
+    if has_formation is_theirs b then Some Lose
+    else (if has_trapped b then Some Win
+    else (if length (steps b) == 0 then Some Lose else None))
+
+-- the moves
+unfoldable pub moves : List Cell → List ℕ
+moves b = if is_over b then [] else steps b
+
+-- the board with a piece gone from one cell to another, as the other player sees it
+abbrev pub gone : List Cell → ℕ → ℕ → List Cell
+gone b a c = map turned (set (set b a Empty) c Mine)
+
+-- a move, after which the roles swap
+unfoldable pub play : List Cell → ℕ → List Cell
+play b m = gone b (from_point m) (to_point m)
+
+-- ---- moves back
+-- whether the move can have led to d: a piece of the opponent's stands where it ended, and none where it began
+unfoldable pub was_moved : List Cell → ℕ → Bool
+was_moved d m = in_line (from_point m) (to_point m) && (is_theirs (cell_at d (to_point m)) && is_empty (cell_at d (from_point m)))
+
+-- the board before it
+unfoldable pub taken_back : List Cell → ℕ → List Cell
+taken_back d m = set (set (map turned d) (to_point m) Empty) (from_point m) Mine
+
+-- whether the game goes on from a board by this move
+unfoldable pub goes_on : List Cell → ℕ → Bool
+goes_on b m = legal b && (not (is_over b) && can_move b m)
+
+-- the board before d and the move with this number, in the one tier
+unfoldable pub before_at : ℕ → List Cell → ℕ → Option (List Cell)
+before_at t d m = if (t == 0 && (was_moved d m && goes_on (taken_back d m) m)) then Some (taken_back d m) else None
+
+-- the boards before d
+unfoldable pub befores : ℕ → List Cell → List (List Cell)
+befores t d = filter_map (before_at t d) (range_with_len 0 numbers_end)
+
+-- ---- the game
+-- the name, padded with zeros
+abbrev pub dao_name : List ℕ
+dao_name = codes "dao" ++ 0 ∷ 0 ∷ 0 ∷ 0 ∷ 0 ∷ 0 ∷ 0 ∷ 0 ∷ 0 ∷ 0 ∷ 0 ∷ 0 ∷ 0 ∷ []
+
+-- the mover on one diagonal, the opponent on the other
+abbrev pub start_board : List Cell
+start_board =
+    Mine ∷ Empty ∷ Empty ∷ Theirs
+    ∷ Empty ∷ Mine ∷ Theirs ∷ Empty
+    ∷ Empty ∷ Theirs ∷ Mine ∷ Empty
+    ∷ Theirs ∷ Empty ∷ Empty ∷ Mine ∷ []
+
+-- the index of an arrangement: the lowest cell comes first in a board, and the highest in an arrangement
+unfoldable pub board_index : List Cell → ℕ
+board_index b = arrangement_index (reverse b)
+
+-- the board with this index
+unfoldable pub board_at : ℕ → List Cell
+board_at i = reverse (arrangement 16 4 4 i)
+
+-- the least index among a board and its images
+abbrev pub least_index_of : List Cell → ℕ
+least_index_of b = fold min (board_index b) (map board_index (map (λ g. permute Empty g b) (square_symmetries 4)))
+
+-- Dao: one tier, and the turns and reflections of the square
+abbrev pub dao : BoardGame (List Cell) (List ℕ)
+dao = record {
+  name = dao_name;
+  start = start_board;
+  legal = legal;
+  ended = ended;
+  moves = moves;
+  play = play;
+  befores = befores;
+  symmetries = square_symmetries 4;
+  image = λ g b. permute Empty g b;
+  tier = λ b. 0;
+  index = board_index;
+  board = λ t i. board_at i;
+  size = λ t. if t == 0 then arrangements 16 4 4 else 0;
+  child_tiers = λ t. [];
+  tier_rank = λ t. 0;
+}
+
+-- the rules of its positions
+abbrev pub dao_rules : Rules
+dao_rules = rules_of dao

@@ -1,0 +1,74 @@
+-- The texts of Dao fit a line, and tell positions and moves apart.
+use Rattle.std.proofs.Common.{◌≡◌, ℕ, ◌+◌, ◌/◌, ◌%◌, List, [], ◌∷◌, ◌++◌, map, length, refl, sym, ap, ap₂, ◌∙◌, arith}
+use Rattle.std.proofs.lemmas.List.{length-map}
+use Rattle.gm_game.specs.Boards.{position_of, board_of}
+use Rattle.gm_game.specs.Shown.{IsShown}
+use Rattle.gm_game.proofs.BoardLaws.{position_back, legal_board}
+use Rattle.gm_board.specs.declared.cell.Cell.{Cell}
+use Rattle.gm_board.specs.declared.cell.Cell.TheVariants.{Empty, Mine, Theirs}
+use Rattle.gm_board.specs.Squares.{cell_text}
+use Rattle.gm_steps.specs.Steps.{from_point, to_point, same_step}
+use Rattle.gm_dao.specs.DaoRules.{board_at, dao, dao_rules}
+use Rattle.gm_dao.specs.BoardFacts.{legal_in}
+use Rattle.gm_dao.specs.DaoLaws.{numbered}
+use Rattle.gm_dao.specs.Texts.{cell_char, board_text, step_text, position_text, move_text}
+
+-- ---- boards
+-- one byte a cell
+pub text_length : (b : List Cell) → length (board_text b) ≡ length b
+unfolding board_text
+text_length b = length-map b cell_char
+
+same_cell : (a b : Cell) → cell_char a ≡ cell_char b → a ≡ b
+same_cell Empty Empty e = refl
+same_cell Empty Mine e = absurd (omega arith)
+same_cell Empty Theirs e = absurd (omega arith)
+same_cell Mine Empty e = absurd (omega arith)
+same_cell Mine Mine e = refl
+same_cell Mine Theirs e = absurd (omega arith)
+same_cell Theirs Empty e = absurd (omega arith)
+same_cell Theirs Mine e = absurd (omega arith)
+same_cell Theirs Theirs e = refl
+
+-- boards with one text are one
+pub text_once : (a b : List Cell) → board_text a ≡ board_text b → a ≡ b
+unfolding board_text
+text_once [] [] e = refl
+text_once [] (y ∷ b) e = absurd (let z : ⊥ = cc in z)
+text_once (x ∷ a) [] e = absurd (let z : ⊥ = cc in z)
+text_once (x ∷ a) (y ∷ b) e =
+    let head : cell_char x ≡ cell_char y = cc in
+    let tail : map cell_char a ≡ map cell_char b = cc in
+    ap₂ (λ (c : Cell) (cs : List Cell). c ∷ cs) (same_cell x y head) (text_once a b tail)
+
+-- ---- moves
+point_once : (j k : ℕ) → 97 + j / 4 ≡ 97 + k / 4 → 49 + j % 4 ≡ 49 + k % 4 → j ≡ k
+point_once j k e f = omega arith
+
+texts_once : (a b c d : ℕ) → cell_text 4 a ++ 45 ∷ cell_text 4 b ≡ cell_text 4 c ++ 45 ∷ cell_text 4 d → (a ≡ c) × (b ≡ d)
+texts_once a b c d e =
+    let p : 97 + a / 4 ≡ 97 + c / 4 = cc in
+    let q : 49 + a % 4 ≡ 49 + c % 4 = cc in
+    let r : 97 + b / 4 ≡ 97 + d / 4 = cc in
+    let s : 49 + b % 4 ≡ 49 + d % 4 = cc in
+    (point_once a c p q, point_once b d r s)
+
+-- moves with one text are one
+pub step_once : (m k : ℕ) → step_text m ≡ step_text k → m ≡ k
+unfolding step_text
+step_once m k e = let h = texts_once (from_point m) (to_point m) (from_point k) (to_point k) e in same_step m k h.0 h.1
+
+-- the text of a move has five bytes
+pub step_length : (m : ℕ) → length (step_text m) ≡ 5
+unfolding step_text
+step_length m = refl
+
+-- ---- the laws of texts
+pub texts_readable : IsShown dao_rules position_text move_text
+texts_readable = record {
+  shown_fits = λ p l. let a = text_length (board_at p.index) in let b = (legal_in (board_at p.index) (legal_board dao p l)).cells in omega (arith, a, b);
+  shown_once = λ p q l k e.
+      sym (position_back dao numbered p l) ∙ ap (position_of dao) (text_once (board_of dao p) (board_of dao q) e) ∙ position_back dao numbered q k;
+  move_shown_fits = λ p m l c. let a = step_length m in omega (arith, a);
+  move_shown_once = λ p m k l c d e. step_once m k e;
+}

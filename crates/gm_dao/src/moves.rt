@@ -1,0 +1,116 @@
+//! Moves: a piece slides as far as it can.
+ghost use Rattle.std.specs.Prelude.{◌≡◌, ◌<◌, ◌==◌, true, length};
+ghost use Rattle.gm_board.specs.Images.{board_of};
+ghost use Rattle.gm_dao.specs.DaoRules.{has_formation as has_formation_of, has_trapped as has_trapped_of, is_mine, is_theirs, legal, can_move as can_move_of, steps, is_over as is_over_of, ended, moves as moves_of, play as play_of};
+
+use crate::board::Board;
+use crate::formations::{has_formation, has_trapped};
+use crate::slides::can_slide;
+use arrayvec::ArrayVec;
+use gm_game::limits::MOVES;
+use gm_game::position::End;
+use gm_steps::step::Step;
+
+/// The numbers of moves are below this.
+pub const NUMBERS: u32 = 256;
+
+/// Whether the mover has a formation.
+pub fn has_own_formation(board: Board) -> bool
+    ensures { result ≡ has_formation_of is_mine (board_of 16 board.mine board.theirs) }
+{
+    has_formation(board.mine)
+}
+
+/// Whether the opponent has a formation.
+pub fn has_their_formation(board: Board) -> bool
+    ensures { result ≡ has_formation_of is_theirs (board_of 16 board.mine board.theirs) }
+{
+    has_formation(board.theirs)
+}
+
+/// Whether a piece of the mover's is trapped in a corner.
+pub fn is_trapped(board: Board) -> bool
+    ensures { result ≡ has_trapped_of (board_of 16 board.mine board.theirs) }
+{
+    has_trapped(board.mine, board.theirs)
+}
+
+/// Whether a board is one of the game: four pieces of each side, and no formation of the mover's.
+#[tactic(auto, unfolding(crate::specs::DaoRules::legal))]
+pub fn is_legal_board(board: Board) -> bool
+    ensures { result ≡ legal (board_of 16 board.mine board.theirs) }
+{
+    board.has_all_pieces() && !has_own_formation(board)
+}
+
+/// Whether the move with this number can be made.
+pub fn can_move(board: Board, number: u32) -> bool
+    requires { number < 256 }
+    ensures { result ≡ can_move_of (board_of 16 board.mine board.theirs) number }
+{
+    let step = Step::numbered(number);
+    board.has_mine(step.from) && can_slide(board.free(), board.taken(), step.from, step.to)
+}
+
+/// Whether no move can be made.
+pub fn is_stuck(board: Board) -> bool
+    ensures { result ≡ (length (steps (board_of 16 board.mine board.theirs)) == 0) }
+{
+    for number in 0..NUMBERS {
+        if can_move(board, number) {
+            return false;
+        }
+    }
+    true
+}
+
+/// Whether the last move has ended the game, by a formation or by trapping a piece in a corner.
+#[tactic(auto, unfolding(crate::specs::DaoRules::is_over))]
+pub fn is_over(board: Board) -> bool
+    ensures { result ≡ is_over_of (board_of 16 board.mine board.theirs) }
+{
+    has_their_formation(board) || is_trapped(board)
+}
+
+/// The end for the player to move: a formation of the opponent's loses, which is tested first; then a piece that is trapped in a corner wins; then who can't move loses.
+#[tactic(auto, unfolding(crate::specs::DaoRules::ended))]
+pub fn end(board: Board) -> Option<End>
+    ensures { result ≡ ended (board_of 16 board.mine board.theirs) }
+{
+    if has_their_formation(board) {
+        Some(End::Lose)
+    } else if is_trapped(board) {
+        Some(End::Win)
+    } else if is_stuck(board) {
+        Some(End::Lose)
+    } else {
+        None
+    }
+}
+
+/// The numbers of the moves, ascending.
+pub fn moves(board: Board) -> ArrayVec<u32, MOVES>
+    requires { legal (board_of 16 board.mine board.theirs) ≡ true }
+    ensures { result.items ≡ moves_of (board_of 16 board.mine board.theirs) }
+{
+    let mut list = ArrayVec::new();
+    if is_over(board) {
+        return list;
+    }
+    for number in 0..NUMBERS {
+        if can_move(board, number) {
+            list.push(number);
+        }
+    }
+    list
+}
+
+/// The board after a move, as the other side sees it.
+#[tactic(auto, unfolding(crate::specs::DaoRules::play))]
+pub fn play(board: Board, number: u32) -> Board
+    requires { can_move_of (board_of 16 board.mine board.theirs) number ≡ true }
+    ensures { board_of 16 result.mine result.theirs ≡ play_of (board_of 16 board.mine board.theirs) number }
+{
+    let step = Step::numbered(number);
+    board.without_piece(step.from).with_piece(step.to).turned()
+}

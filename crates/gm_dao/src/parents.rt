@@ -1,0 +1,84 @@
+//! Moves taken back: the boards before a board.
+//!
+//! No slide is reversed. With the roles swapped each piece that may have moved is put on each empty cell, and of what
+//! comes of this the boards stay from which the game goes on by the move that leads back.
+ghost use Rattle.std.specs.Prelude.{◌≡◌, ◌<◌, true, map, [], MatchOption, None, Some};
+ghost use Rattle.gm_game.specs.Ascending.{put_all};
+ghost use Rattle.gm_board.specs.Images.{board_of};
+ghost use Rattle.gm_dao.specs.DaoRules.{legal, was_moved as was_moved_of, taken_back as taken_back_of, goes_on as goes_on_of, before_at, befores, least_index_of};
+
+use crate::board::Board;
+use crate::moves::{NUMBERS, can_move, is_legal_board, is_over};
+use crate::slides::are_in_line;
+use arrayvec::ArrayVec;
+use gm_game::limits::PARENTS;
+use gm_steps::ascending::put;
+use gm_steps::step::Step;
+
+/// Whether the move with this number can have led to the board.
+#[tactic(auto, unfolding(crate::specs::DaoRules::was_moved))]
+pub fn was_moved(board: Board, number: u32) -> bool
+    requires { number < 256 }
+    ensures { result ≡ was_moved_of (board_of 16 board.mine board.theirs) number }
+{
+    let step = Step::numbered(number);
+    if !are_in_line(step.from, step.to) {
+        return false;
+    }
+    board.has_theirs(step.to) && board.is_free(step.from)
+}
+
+// The board before that move.
+#[tactic(auto, unfolding(crate::specs::DaoRules::taken_back))]
+fn taken_back(board: Board, number: u32) -> Board
+    requires { was_moved_of (board_of 16 board.mine board.theirs) number ≡ true }
+    ensures { board_of 16 result.mine result.theirs ≡ taken_back_of (board_of 16 board.mine board.theirs) number }
+{
+    let step = Step::numbered(number);
+    board.turned().without_piece(step.to).with_piece(step.from)
+}
+
+/// Whether the game goes on from a board by this move.
+#[tactic(auto, unfolding(crate::specs::DaoRules::goes_on))]
+pub fn goes_on(board: Board, number: u32) -> bool
+    requires { number < 256 }
+    ensures { result ≡ goes_on_of (board_of 16 board.mine board.theirs) number }
+{
+    is_legal_board(board) && !is_over(board) && can_move(board, number)
+}
+
+// The board of the tier before that move, if there is one.
+fn before(tier: u64, board: Board, number: u32) -> Option<Board>
+    requires { number < 256 }
+    ensures { MatchOption result
+        (before_at tier (board_of 16 board.mine board.theirs) number ≡ None)
+        (λ earlier. before_at tier (board_of 16 board.mine board.theirs) number ≡ Some (board_of 16 earlier.mine earlier.theirs)) }
+{
+    if tier != 0 {
+        return None;
+    }
+    if !was_moved(board, number) {
+        return None;
+    }
+    let earlier = taken_back(board, number);
+    if goes_on(earlier, number) {
+        Some(earlier)
+    } else {
+        None
+    }
+}
+
+/// The least indexes of the boards of the tier from which a move leads to this one, ascending and once each.
+pub fn parents(tier: u64, board: Board) -> ArrayVec<u64, PARENTS>
+    requires { legal (board_of 16 board.mine board.theirs) ≡ true }
+    ensures { result.items ≡ put_all [] (map least_index_of (befores tier (board_of 16 board.mine board.theirs))) }
+{
+    let mut list = ArrayVec::new();
+    for number in 0..NUMBERS {
+        match before(tier, board, number) {
+            Some(earlier) => put(&mut list, earlier.least_index()),
+            None => {}
+        }
+    }
+    list
+}

@@ -1,0 +1,63 @@
+-- A line of which a front is kept is answered as the whole line: no move has a text that is longer.
+use Rattle.std.proofs.Common.{◌≡◌, ℕ, ◌+◌, ◌-◌, ◌≤◌, ◌<◌, ◌⊎◌, inl, inr, Bool, true, false, List, [], ◌∷◌, ◌++◌, length, take, drop, codes, nat_eq, None, sym, ap, ◌∙◌, arith}
+use Rattle.std.specs.Prelude.{◌==◌, if◌then◌else◌}
+use Rattle.std.specs.Str.{bytes_eq}
+use Rattle.std.specs.Cmp.Lexicographic.{unequal}
+use Rattle.std.proofs.lemmas.Bool.{cases_lt}
+use Rattle.std.proofs.lemmas.List.{take_all, take-append-le, length-take, length-take-le, length-append}
+use Rattle.gm_game.specs.declared.limits.TheConstants.{LINE}
+use Rattle.gm_game.specs.declared.position.Position.{Position}
+use Rattle.gm_game.specs.Rules.{Rules}
+use Rattle.gm_game.specs.Shown.{IsShown}
+use Rattle.gm_play.specs.declared.session.TheConstants.{KEPT}
+use Rattle.gm_play.specs.Dialogue.{Advice, Said, asks, without_return, reply, closing}
+use Rattle.gm_play.proofs.Reading.{none_found, reply_is, after_reply, closing_is}
+
+-- one byte more
+pub kept_push : (kept line : List ℕ) (b : ℕ) → kept ≡ take KEPT line → length kept < KEPT → kept ++ b ∷ [] ≡ take KEPT (line ++ b ∷ [])
+kept_push kept line b e short =
+    let n : length kept ≡ length (take KEPT line) = ap length e in
+    let few : length line < KEPT = omega (arith, n, short, length-take KEPT line) in
+    ap (λ (l : List ℕ). l ++ b ∷ []) (e ∙ take_all KEPT line (omega (arith, few))) ∙ sym (take_all KEPT (line ++ b ∷ []) (omega (arith, few, length-append line (b ∷ []))))
+
+pub kept_full : (kept line : List ℕ) (b : ℕ) → kept ≡ take KEPT line → length kept ≡ KEPT → kept ≡ take KEPT (line ++ b ∷ [])
+kept_full kept line b e full =
+    let n : length kept ≡ length (take KEPT line) = ap length e in
+    e ∙ sym (take-append-le KEPT line (b ∷ []) (omega (arith, n, full, length-take KEPT line)))
+
+text_of_length : (line : List ℕ) (c : Bool) (n : ℕ) → n < length line → n ≤ length (if c then take (length line - 1) line else line)
+text_of_length line true n h = omega (arith, h, length-take-le (length line - 1) line (omega arith))
+text_of_length line false n h = omega (arith, h)
+
+text_long : (line : List ℕ) (n : ℕ) → n < length line → n ≤ length (without_return line)
+text_long line n h = text_of_length line (bytes_eq (drop (length line - 1) line) (13 ∷ [])) n h
+
+module _ (r : Rules) (shown : Position → List ℕ) (move_shown : Position → ℕ → List ℕ) (t : IsShown r shown move_shown) (k : Advice) (p : Position) (legal : r.is_legal p ≡ true) where
+  no_move : (line : List ℕ) → LINE + 1 < length line → asks (codes "not a move\nyour move?\n") p ≡ reply r shown move_shown k p line
+  no_move line long =
+      let text = without_return line in
+      let many : LINE + 1 ≤ length text = text_long line (LINE + 1) long in
+      reply_is r shown move_shown k p line None
+      (unequal nat_eq text (codes "quit") (λ e. omega (arith, e, many)))
+      (none_found (λ m. bytes_eq (move_shown p m) text) (r.moves p)
+      (λ m has. unequal nat_eq (move_shown p m) text (λ e. (let fits = t.move_shown_fits p m legal has in omega (arith, e, fits, many)))))
+
+  heard_if : (line : List ℕ) → (KEPT < length line) ⊎ (length line ≤ KEPT) → reply r shown move_shown k p (take KEPT line) ≡ reply r shown move_shown k p line
+  heard_if line (inl long) = sym (no_move (take KEPT line) (omega (arith, long, length-take KEPT line))) ∙ no_move line (omega (arith, long))
+  heard_if line (inr short) = ap (reply r shown move_shown k p) (take_all KEPT line short)
+
+  pub heard : (line : List ℕ) → reply r shown move_shown k p (take KEPT line) ≡ reply r shown move_shown k p line
+  heard line = heard_if line (cases_lt KEPT (length line))
+
+  some_bytes : (n : ℕ) → 0 < n → (n == 0) ≡ false
+  some_bytes n h = grind arith
+
+  closed_if : (line : List ℕ) → (KEPT < length line) ⊎ (length line ≤ KEPT) → closing r shown move_shown k p (take KEPT line) ≡ closing r shown move_shown k p line
+  closed_if line (inl long) =
+      sym (closing_is r shown move_shown k p (take KEPT line) (some_bytes (length (take KEPT line)) (omega (arith, long, length-take KEPT line))))
+      ∙ ap (λ (s : Said). s.text ++ after_reply r shown move_shown k p line s.asked) (heard line)
+      ∙ closing_is r shown move_shown k p line (some_bytes (length line) (omega (arith, long)))
+  closed_if line (inr short) = ap (closing r shown move_shown k p) (take_all KEPT line short)
+
+  pub closed : (line : List ℕ) → closing r shown move_shown k p (take KEPT line) ≡ closing r shown move_shown k p line
+  closed line = closed_if line (cases_lt KEPT (length line))

@@ -1,0 +1,59 @@
+-- Turns, by how the game stands.
+use Rattle.std.proofs.Common.{◌≡◌, ℕ, true, List, ◌++◌, codes, Option, None, Some, refl, sym, ap, ◌∙◌}
+use Rattle.std.specs.Result.{is_ok}
+use Rattle.std.specs.Prelude.{Result, Ok, Err}
+use Rattle.gm_play.specs.declared.answer.AnswerError.{AnswerError}
+use Rattle.gm_play.specs.declared.answer.AnswerError.TheVariants.{Illegal, NotHeld}
+use Rattle.gm_game.specs.declared.position.Position.{Position}
+use Rattle.gm_game.specs.declared.position.Solved.{Solved}
+use Rattle.gm_game.specs.declared.position.End.{End}
+use Rattle.gm_game.specs.Rules.{Rules}
+use Rattle.gm_game.specs.Texts.{text_of}
+use Rattle.gm_game.specs.Values.{IsTrueValue}
+use Rattle.gm_game.proofs.Checker.{IsTrueValue_once}
+use Rattle.gm_play.specs.declared.side.Side.TheVariants.{You, Computer}
+use Rattle.gm_play.specs.Dialogue.{Advice, IsKnown, before, after_move, game_over, asks, place, asks_or_ends, persons_turn, moves_or_ends}
+use Rattle.gm_play.specs.BestMoves.{IsBestMove}
+use Rattle.gm_play.proofs.Keeping.{best_once}
+use Rattle.gm_play.proofs.Reaching.{own_reached}
+
+-- the true value is the known one
+pub value_known : (r : Rules) (k : Advice) (p : Position) (s : Solved) → r.is_legal p ≡ true → IsKnown r p.tier k → IsTrueValue r p s → s ≡ k.value p
+value_known r k p s l known h = IsTrueValue_once r p s (k.value p) h (known p (own_reached r p l)).0
+
+module _ (r : Rules) (shown : Position → List ℕ) (move_shown : Position → ℕ → List ℕ) (k : Advice) (p : Position) where
+  pub place_is : (f b : List ℕ) → f ≡ shown p → b ≡ text_of (k.value p) → f ++ codes " " ++ b ++ codes "\n" ≡ place r shown move_shown k p
+  place_is f b e d = ap (λ (x : List ℕ). x ++ codes " " ++ b ++ codes "\n") e ∙ ap (λ (x : List ℕ). shown p ++ codes " " ++ x ++ codes "\n") d
+
+  pub person_ends : (e : End) → r.primitive p ≡ Some e → game_over You e ≡ asks_or_ends r shown move_shown k p (r.primitive p)
+  person_ends e h = ap (asks_or_ends r shown move_shown k p) (sym h)
+
+  pub person_is_asked : r.primitive p ≡ None → asks (codes "your move?\n") p ≡ asks_or_ends r shown move_shown k p (r.primitive p)
+  person_is_asked h = ap (asks_or_ends r shown move_shown k p) (sym h)
+
+  pub computer_ends : (e : End) → r.primitive p ≡ Some e → game_over Computer e ≡ moves_or_ends r shown move_shown k p (r.primitive p) (k.best p)
+  computer_ends e h = ap (λ (o : Option End). moves_or_ends r shown move_shown k p o (k.best p)) (sym h)
+
+  -- the best move is the known one
+  best_is_known : (m : ℕ) (o : Option ℕ) → IsBestMove r p (Some m) → IsBestMove r p o → k.best p ≡ o → k.best p ≡ Some m
+  best_is_known m None a b e = absurd (b a.0)
+  best_is_known m (Some n) a b e = e ∙ ap Some (best_once r p n m b a)
+
+  pub best_known : (m : ℕ) → r.is_legal p ≡ true → IsKnown r p.tier k → IsBestMove r p (Some m) → k.best p ≡ Some m
+  best_known m l known h = best_is_known m (k.best p) h (known p (own_reached r p l)).1 refl
+
+  -- the line on a move
+  abbrev pub move_line : ℕ → List ℕ
+  move_line m = codes "computer" ++ codes ": " ++ move_shown p m ++ codes "\n"
+
+  pub computer_moves : (m : ℕ) → r.is_legal p ≡ true → IsKnown r p.tier k → IsBestMove r p (Some m)
+      → after_move (before (move_line m) (persons_turn r shown move_shown k (r.play p m))) ≡ moves_or_ends r shown move_shown k p (r.primitive p) (k.best p)
+  computer_moves m l known h =
+      ap (λ (o : Option End). moves_or_ends r shown move_shown k p o (Some m)) (sym h.0)
+      ∙ ap (moves_or_ends r shown move_shown k p (r.primitive p)) (sym (best_known m l known h))
+
+-- no other answer is left
+pub ok_unless : (r : Result (Option ℕ) AnswerError) → (r ≡ Err Illegal → ⊥) → (r ≡ Err NotHeld → ⊥) → is_ok r ≡ true
+ok_unless (Ok x) a b = refl
+ok_unless (Err Illegal) a b = absurd (a refl)
+ok_unless (Err NotHeld) a b = absurd (b refl)

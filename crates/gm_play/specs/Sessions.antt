@@ -1,0 +1,77 @@
+-- What a session reads and writes.
+use Rattle.std.specs.Prelude.{◌≡◌, ℕ, ◌+◌, ◌≤◌, ◌⊎◌, List, [], ◌∷◌, ◌++◌, length, Option, None, Some}
+use Rattle.std.specs.Io.KnownBytes.{Keeps, Appends, Consumes, IsAtEnd}
+use Rattle.gm_game.specs.declared.position.Position.{Position}
+use Rattle.gm_game.specs.Rules.{Rules}
+use Rattle.gm_play.specs.declared.side.Side.{Side}
+use Rattle.gm_play.specs.declared.session_error.SessionError.{SessionError}
+use Rattle.gm_play.specs.declared.session_error.SessionError.TheVariants.{ReadFailed, WriteFailed, TooMuchInput}
+use Rattle.gm_play.specs.Dialogue.{Advice, Said, dialogue, dialogue_so_far, used}
+
+-- the most bytes that one session reads
+abbrev pub most_bytes : ℕ
+most_bytes = 1000000
+
+-- a read gave the next byte, or none at the end
+abbrev pub ReadsByte : Option (List ℕ) → Option (List ℕ) → Option ℕ → Type 0
+ReadsByte old new None = Keeps old new × IsAtEnd new
+ReadsByte old new (Some b) = Consumes old new (b ∷ [])
+
+-- a front of the text is written
+abbrev pub AppendsPart : Option (List ℕ) → Option (List ℕ) → List ℕ → Type 0
+AppendsPart old new text = (done rest : List ℕ) × (text ≡ done ++ rest) × Appends old new done
+
+-- this is said, and the next question asked
+abbrev pub Says : Option (List ℕ) → Option (List ℕ) → Said → Option Position → Type 0
+Says old new said asked = (asked ≡ said.asked) × Appends old new said.text
+
+module _ (r : Rules) (shown : Position → List ℕ) (move_shown : Position → ℕ → List ℕ) (k : Advice) (start : Position) (first : Side) where
+  -- these bytes were read, no more than one session reads, and none after the line that ends it
+  pub record IsRead (old new : Option (List ℕ)) (bytes : List ℕ) : Type 0 where
+    pub reads : Consumes old new bytes
+    pub few : length bytes ≤ most_bytes
+    pub all_used : used r shown move_shown k start first bytes ≡ length bytes
+
+  -- a line ends the dialogue after these bytes: it reads no further ones
+  abbrev pub IsEnded : List ℕ → Type 0
+  IsEnded bytes = (more : List ℕ) → used r shown move_shown k start first (bytes ++ more) ≡ length bytes
+
+  -- a session: the dialogue of the bytes that were read is written, and a line ended it or the input did
+  pub record IsSession (old new before after : Option (List ℕ)) : Type 0 where
+    pub bytes : List ℕ
+    pub is_read : IsRead old new bytes
+    pub writes : Appends before after (dialogue r shown move_shown k start first bytes)
+    pub end : IsEnded bytes ⊎ IsAtEnd new
+
+  -- a session whose input failed: all was written that the bytes before are answered with
+  pub record IsUnread (old new before after : Option (List ℕ)) : Type 0 where
+    pub bytes : List ℕ
+    pub is_read : IsRead old new bytes
+    pub writes : Appends before after (dialogue_so_far r shown move_shown k start first bytes)
+
+  -- a session whose output failed: a front of the dialogue is written
+  pub record IsUnwritten (old new before after : Option (List ℕ)) : Type 0 where
+    pub bytes : List ℕ
+    pub is_read : IsRead old new bytes
+    pub writes : AppendsPart before after (dialogue r shown move_shown k start first bytes)
+
+  -- a session that one byte more than may be read came to, which is not answered
+  pub record IsTooLong (old new before after : Option (List ℕ)) : Type 0 where
+    pub bytes : List ℕ
+    pub last : ℕ
+    pub reads : Consumes old new (bytes ++ last ∷ [])
+    pub many : length bytes ≡ most_bytes
+    pub all_used : used r shown move_shown k start first (bytes ++ last ∷ []) ≡ most_bytes + 1
+    pub writes : Appends before after (dialogue_so_far r shown move_shown k start first bytes)
+
+  -- a session that ended with an error
+  abbrev pub IsBroken : SessionError → Option (List ℕ) → Option (List ℕ) → Option (List ℕ) → Option (List ℕ) → Type 0
+  IsBroken ReadFailed old new before after = IsUnread old new before after
+  IsBroken WriteFailed old new before after = IsUnwritten old new before after
+  IsBroken TooMuchInput old new before after = IsTooLong old new before after
+
+-- the numbers of the errors
+abbrev pub number_of : SessionError → ℕ
+number_of ReadFailed = 1
+number_of WriteFailed = 2
+number_of TooMuchInput = 3

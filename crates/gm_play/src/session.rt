@@ -1,0 +1,108 @@
+//! Play against the computer over a reader and a writer.
+ghost use Rattle.std.specs.Prelude.{◌≡◌, ℕ, List, true, OnOk, IfErr};
+ghost use Rattle.gm_play.specs.Reached.{AreAllHeld};
+ghost use Rattle.gm_play.specs.Dialogue.{Advice, IsKnown, course};
+ghost use Rattle.gm_play.specs.Courses.{IsWonCourse, IsUnlostCourse};
+ghost use Rattle.gm_play.specs.Sides.{IsWonIn, IsEven};
+ghost use Rattle.gm_play.specs.Sessions.{IsSession, IsBroken};
+
+use crate::session_error::SessionError;
+use crate::side::Side;
+use crate::streams::read_byte;
+use crate::turns::{close, reply, turn};
+use arrayvec::ArrayVec;
+use gm_game::game::Game;
+use gm_game::limits::LINE;
+use gm_game::position::Position;
+use gm_game::shown::Shown;
+use gm_table::tables::Tables;
+use std::io::{Read, Write};
+
+/// The most bytes that one session reads.
+pub const SESSION_BYTES: u32 = 1_000_000;
+
+// How much of a line is kept: the longest text of a move, its return, and a byte that tells a longer line.
+const KEPT: usize = LINE + 2;
+
+/// Plays a game with the person behind a reader and a writer: see docs/PROGRAM.md for the lines. It takes no memory.
+///
+/// It reads a byte at a time, none after the line that ends the session, and at most `SESSION_BYTES`: one byte more is `TooMuchInput`.
+pub fn session<G: Shown, R: Read, W: Write>(
+    tables: &Tables<G>,
+    start: Position,
+    first: Side,
+    input: &mut R,
+    output: &mut W,
+) -> Result<(), SessionError>
+    requires legal { G.Game.rules.is_legal start ≡ true }
+    requires held { AreAllHeld G.Game.rules tables.now start.tier }
+    ensures ok { (k : Advice) → IsKnown G.Game.rules start.tier k
+        → OnOk result (IsSession G.Game.rules G.shown G.move_shown k start first (R.remaining input.old) (R.remaining input.new) (W.contents output.old) (W.contents output.new)) }
+    ensures err { (k : Advice) → IsKnown G.Game.rules start.tier k
+        → IfErr result (λ e. IsBroken G.Game.rules G.shown G.move_shown k start first e (R.remaining input.old) (R.remaining input.new) (W.contents output.old) (W.contents output.new)) }
+    ensures won { (n : ℕ) → IsWonIn G.Game.rules start first n → (k : Advice) → IsKnown G.Game.rules start.tier k
+        → (bytes : List ℕ) → IsWonCourse n (course G.Game.rules G.shown G.move_shown k start first bytes) }
+    ensures even { IsEven G.Game.rules start → (k : Advice) → IsKnown G.Game.rules start.tier k
+        → (bytes : List ℕ) → IsUnlostCourse (course G.Game.rules G.shown G.move_shown k start first bytes) }
+    ensures known { (k : Advice) × IsKnown G.Game.rules start.tier k }
+{
+    advice(tables, start.tier);
+    converse(tables, start, first, input, output)
+}
+
+// Hands out that there is a look-up of true values and best moves where every tier that is reached is held.
+fn advice<G: Game>(tables: &Tables<G>, tier: u64)
+    requires { AreAllHeld G.rules tables.now tier }
+    ensures { (k : Advice) × IsKnown G.rules tier k }
+{
+    let _held = tables.has(tier);
+}
+
+// The session, byte by byte.
+fn converse<G: Shown, R: Read, W: Write>(
+    tables: &Tables<G>,
+    start: Position,
+    first: Side,
+    input: &mut R,
+    output: &mut W,
+) -> Result<(), SessionError>
+    requires legal { G.Game.rules.is_legal start ≡ true }
+    requires held { AreAllHeld G.Game.rules tables.now start.tier }
+    ensures ok { (k : Advice) → IsKnown G.Game.rules start.tier k
+        → OnOk result (IsSession G.Game.rules G.shown G.move_shown k start first (R.remaining input.old) (R.remaining input.new) (W.contents output.old) (W.contents output.new)) }
+    ensures err { (k : Advice) → IsKnown G.Game.rules start.tier k
+        → IfErr result (λ e. IsBroken G.Game.rules G.shown G.move_shown k start first e (R.remaining input.old) (R.remaining input.new) (W.contents output.old) (W.contents output.new)) }
+{
+    let mut asked = match turn(tables, start, first, output) {
+        Ok(Some(p)) => p,
+        Ok(None) => return Ok(()),
+        Err(_) => return Err(SessionError::WriteFailed),
+    };
+    let mut line = ArrayVec::<u8, KEPT>::new();
+    for count in 0..SESSION_BYTES + 1 {
+        let byte = match read_byte(input) {
+            Ok(Some(byte)) => byte,
+            Ok(None) => {
+                return match close(tables, asked, &line, output) {
+                    Ok(()) => Ok(()),
+                    Err(_) => Err(SessionError::WriteFailed),
+                };
+            }
+            Err(_) => return Err(SessionError::ReadFailed),
+        };
+        if count == SESSION_BYTES {
+            return Err(SessionError::TooMuchInput);
+        }
+        if byte == b'\n' {
+            match reply(tables, asked, &line, output) {
+                Ok(Some(next)) => asked = next,
+                Ok(None) => return Ok(()),
+                Err(_) => return Err(SessionError::WriteFailed),
+            }
+            line.clear();
+        } else if !line.is_full() {
+            line.push(byte);
+        }
+    }
+    Err(SessionError::TooMuchInput)
+}

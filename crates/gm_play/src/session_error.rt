@@ -1,0 +1,30 @@
+//! Why a session ends early.
+ghost use Rattle.std.specs.Prelude.{◌≡◌};
+ghost use Rattle.gm_play.specs.Sessions.{number_of};
+
+use thiserror::Error;
+
+/// Why a session ended early.
+#[derive(Clone, Copy, Debug, PartialEq, Eq, Error)]
+pub enum SessionError {
+    #[error("input failed")]
+    ReadFailed,
+    #[error("output failed")]
+    WriteFailed,
+    /// More bytes came than one session reads.
+    #[error("too much input")]
+    TooMuchInput,
+}
+
+impl SessionError {
+    /// The number of the error.
+    pub fn number(&self) -> u8
+        ensures { result ≡ number_of self.now }
+    {
+        match self {
+            SessionError::ReadFailed => 1,
+            SessionError::WriteFailed => 2,
+            SessionError::TooMuchInput => 3,
+        }
+    }
+}

@@ -1,0 +1,187 @@
+//! The turns of a session.
+ghost use Rattle.std.specs.Prelude.{◌≡◌, true, OnOk, OnErr, IfOk, IfSome};
+ghost use Rattle.std.specs.Io.KnownBytes.{Appends};
+ghost use Rattle.gm_table.specs.Tables.{IsHeld};
+ghost use Rattle.gm_play.specs.Reached.{AreAllHeld, IsReached};
+ghost use Rattle.gm_play.specs.Dialogue.{Advice, IsKnown, over as over_spec, without_return as without_return_spec, place, persons_turn, computers_turn, turn as turn_spec, reply as reply_spec, closing};
+ghost use Rattle.gm_play.specs.Sessions.{AppendsPart, Says};
+
+use crate::best_move::best_move;
+use crate::side::Side;
+use crate::streams::{write_line, write_text};
+use gm_game::position::{End, Position};
+use gm_game::shown::Shown;
+use gm_game::text::value_text;
+use gm_table::tables::Tables;
+use std::io::{self, Write};
+
+// The line on the end of a game, with this side to move.
+fn over(side: Side, end: End) -> &'static [u8]
+    ensures { result.now ≡ over_spec side end }
+{
+    match (side, end) {
+        (_, End::Tie) => b"over: tie\n",
+        (Side::You, End::Win) | (Side::Computer, End::Lose) => b"over: you win\n",
+        (Side::You, End::Lose) | (Side::Computer, End::Win) => b"over: computer wins\n",
+    }
+}
+
+// Writes the line on a position.
+fn write_place<G: Shown, W: Write>(
+    tables: &Tables<G>,
+    p: Position,
+    output: &mut W,
+) -> io::Result<()>
+    requires legal { G.Game.rules.is_legal p ≡ true }
+    requires held { IsHeld tables.now p.tier }
+    ensures ok { (k : Advice) → IsKnown G.Game.rules p.tier k
+        → OnOk result (Appends (W.contents output.old) (W.contents output.new) (place G.Game.rules G.shown G.move_shown k p)) }
+    ensures err { (k : Advice) → IsKnown G.Game.rules p.tier k
+        → OnErr result (AppendsPart (W.contents output.old) (W.contents output.new) (place G.Game.rules G.shown G.move_shown k p)) }
+{
+    let solved = tables.get(p).unwrap();
+    write_line(
+        output,
+        G::show(p).as_slice(),
+        b" ",
+        value_text(solved).as_slice(),
+    )
+}
+
+// The person's turn: where they are asked, or `None` where the game has ended.
+fn ask<G: Shown, W: Write>(
+    tables: &Tables<G>,
+    p: Position,
+    output: &mut W,
+) -> io::Result<Option<Position>>
+    requires legal { G.Game.rules.is_legal p ≡ true }
+    requires held { IsHeld tables.now p.tier }
+    ensures ok { (k : Advice) → IsKnown G.Game.rules p.tier k
+        → IfOk result (Says (W.contents output.old) (W.contents output.new) (persons_turn G.Game.rules G.shown G.move_shown k p)) }
+    ensures err { (k : Advice) → IsKnown G.Game.rules p.tier k
+        → OnErr result (AppendsPart (W.contents output.old) (W.contents output.new) (persons_turn G.Game.rules G.shown G.move_shown k p).text) }
+    ensures asked { IfOk result (λ o. IfSome o (IsReached G.Game.rules p.tier)) }
+{
+    write_place(tables, p, output)?;
+    match G::primitive(p) {
+        Some(end) => {
+            write_text(output, over(Side::You, end))?;
+            Ok(None)
+        }
+        None => {
+            write_text(output, b"your move?\n")?;
+            Ok(Some(p))
+        }
+    }
+}
+
+// The computer's turn, and then the person's.
+fn move_and_ask<G: Shown, W: Write>(
+    tables: &Tables<G>,
+    p: Position,
+    output: &mut W,
+) -> io::Result<Option<Position>>
+    requires legal { G.Game.rules.is_legal p ≡ true }
+    requires held { AreAllHeld G.Game.rules tables.now p.tier }
+    ensures ok { (k : Advice) → IsKnown G.Game.rules p.tier k
+        → IfOk result (Says (W.contents output.old) (W.contents output.new) (computers_turn G.Game.rules G.shown G.move_shown k p)) }
+    ensures err { (k : Advice) → IsKnown G.Game.rules p.tier k
+        → OnErr result (AppendsPart (W.contents output.old) (W.contents output.new) (computers_turn G.Game.rules G.shown G.move_shown k p).text) }
+    ensures asked { IfOk result (λ o. IfSome o (IsReached G.Game.rules p.tier)) }
+{
+    write_place(tables, p, output)?;
+    if let Some(end) = G::primitive(p) {
+        write_text(output, over(Side::Computer, end))?;
+        return Ok(None);
+    }
+    match best_move(tables, p).unwrap() {
+        Some(m) => {
+            write_line(output, b"computer", b": ", G::move_text(p, m).as_slice())?;
+            ask(tables, G::play(p, m), output)
+        }
+        None => Ok(None),
+    }
+}
+
+/// Writes the turn of the side to move, and of the person after the computer: where the person is asked, or `None` where the game has ended.
+pub(crate) fn turn<G: Shown, W: Write>(
+    tables: &Tables<G>,
+    p: Position,
+    side: Side,
+    output: &mut W,
+) -> io::Result<Option<Position>>
+    requires legal { G.Game.rules.is_legal p ≡ true }
+    requires held { AreAllHeld G.Game.rules tables.now p.tier }
+    ensures ok { (k : Advice) → IsKnown G.Game.rules p.tier k
+        → IfOk result (Says (W.contents output.old) (W.contents output.new) (turn_spec G.Game.rules G.shown G.move_shown k p side)) }
+    ensures err { (k : Advice) → IsKnown G.Game.rules p.tier k
+        → OnErr result (AppendsPart (W.contents output.old) (W.contents output.new) (turn_spec G.Game.rules G.shown G.move_shown k p side).text) }
+    ensures asked { IfOk result (λ o. IfSome o (IsReached G.Game.rules p.tier)) }
+{
+    match side {
+        Side::You => ask(tables, p, output),
+        Side::Computer => move_and_ask(tables, p, output),
+    }
+}
+
+// The line without the return at its end.
+fn without_return(line: &[u8]) -> &[u8]
+    ensures { result.now ≡ without_return_spec line.now }
+{
+    match line.strip_suffix(b"\r") {
+        Some(text) => text,
+        None => line,
+    }
+}
+
+/// Answers a line: where the person is asked next, or `None` where the session ends.
+pub(crate) fn reply<G: Shown, W: Write>(
+    tables: &Tables<G>,
+    p: Position,
+    line: &[u8],
+    output: &mut W,
+) -> io::Result<Option<Position>>
+    requires legal { G.Game.rules.is_legal p ≡ true }
+    requires held { AreAllHeld G.Game.rules tables.now p.tier }
+    ensures ok { (k : Advice) → IsKnown G.Game.rules p.tier k
+        → IfOk result (Says (W.contents output.old) (W.contents output.new) (reply_spec G.Game.rules G.shown G.move_shown k p line.now)) }
+    ensures err { (k : Advice) → IsKnown G.Game.rules p.tier k
+        → OnErr result (AppendsPart (W.contents output.old) (W.contents output.new) (reply_spec G.Game.rules G.shown G.move_shown k p line.now).text) }
+    ensures asked { IfOk result (λ o. IfSome o (IsReached G.Game.rules p.tier)) }
+{
+    let text = without_return(line);
+    if text == b"quit".as_slice() {
+        write_text(output, b"bye\n")?;
+        return Ok(None);
+    }
+    match G::read_move(p, text) {
+        Some(m) => move_and_ask(tables, G::play(p, m), output),
+        None => {
+            write_text(output, b"not a move\nyour move?\n")?;
+            Ok(Some(p))
+        }
+    }
+}
+
+/// Answers what stands before the end of the input.
+pub(crate) fn close<G: Shown, W: Write>(
+    tables: &Tables<G>,
+    p: Position,
+    line: &[u8],
+    output: &mut W,
+) -> io::Result<()>
+    requires legal { G.Game.rules.is_legal p ≡ true }
+    requires held { AreAllHeld G.Game.rules tables.now p.tier }
+    ensures ok { (k : Advice) → IsKnown G.Game.rules p.tier k
+        → OnOk result (Appends (W.contents output.old) (W.contents output.new) (closing G.Game.rules G.shown G.move_shown k p line.now)) }
+    ensures err { (k : Advice) → IsKnown G.Game.rules p.tier k
+        → OnErr result (AppendsPart (W.contents output.old) (W.contents output.new) (closing G.Game.rules G.shown G.move_shown k p line.now)) }
+{
+    if line.is_empty() {
+        return write_text(output, b"input ended\n");
+    }
+    match reply(tables, p, line, output)? {
+        Some(_) => write_text(output, b"input ended\n"),
+        None => Ok(()),
+    }
+}

@@ -1,0 +1,8 @@
+//! Worked sessions of play on the toys.
+#![tactic(auto)]
+
+pub mod one_tier;
+#[cfg(test)]
+mod sessions;
+#[cfg(test)]
+mod streams;

@@ -1,0 +1,172 @@
+//! Sessions of Countdown from 4.
+use crate::one_tier::play;
+use crate::streams::{Fault, LongLine, SlowReader, SlowWriter};
+use gm_game::position::{Position, Solved, Value};
+use gm_play::session::SESSION_BYTES;
+use gm_play::session_error::SessionError;
+use gm_play::side::Side;
+use gm_table::checker::check;
+use gm_table::tables::Tables;
+use gm_toys::countdown::Countdown;
+use std::alloc::{AllocError, Global};
+use std::test::Fail;
+
+type Game = Countdown<4>;
+
+const START: Position = Position { tier: 0, index: 4 };
+
+const WON_BY_YOU: &[u8] =
+    b"4 win in 3\nyour move?\n3 lose in 2\ncomputer: 1\n2 win in 1\nyour move?\n0 lose in 0\nover: you win\n";
+
+fn known(value: Value, remoteness: u32) -> Option<Solved> {
+    Some(Solved { value, remoteness })
+}
+
+// The table of the game.
+fn tables(alloc: Global) -> Result<Tables<Game>, Fail> {
+    let records = vec![in alloc;
+        known(Value::Lose, 0),
+        known(Value::Win, 1),
+        known(Value::Win, 1),
+        known(Value::Lose, 2),
+        known(Value::Win, 3),
+    ]?;
+    let mut tables: Tables<Game> = Tables::new(alloc);
+    let table = check(alloc, 0, records.as_slice(), &tables)?;
+    let _held = tables.insert(table);
+    Ok(tables)
+}
+
+#[test]
+fn sessions_of_countdown(rt: HostRuntime) -> Result<(), Fail> {
+    let tables = tables(rt.alloc())?;
+    for (first, lines, text) in [
+        (Side::You, b"1\n2\n".as_slice(), WON_BY_YOU),
+        (Side::You, b"1\r\n2\r\n".as_slice(), WON_BY_YOU),
+        (Side::You, b"1\n2".as_slice(), WON_BY_YOU),
+        (
+            Side::You,
+            b"3\nquit\n".as_slice(),
+            b"4 win in 3\nyour move?\nnot a move\nyour move?\nbye\n".as_slice(),
+        ),
+        (
+            Side::You,
+            b"".as_slice(),
+            b"4 win in 3\nyour move?\ninput ended\n".as_slice(),
+        ),
+        (
+            Side::Computer,
+            b"2\n".as_slice(),
+            b"4 win in 3\ncomputer: 1\n3 lose in 2\nyour move?\n1 win in 1\ncomputer: 1\n0 lose in 0\nover: computer wins\n".as_slice(),
+        ),
+    ] {
+        let mut input = lines;
+        let mut output = Vec::new(rt.alloc());
+        let ended = play(&tables, START, first, &mut input, &mut output);
+        assert_eq!(rt; ended, Some(Ok(())));
+        assert_eq!(rt; output.as_slice(), text);
+        assert!(rt; input.is_empty());
+    }
+    Ok(())
+}
+
+#[test]
+fn nothing_is_read_after_the_last_line(rt: HostRuntime) -> Result<(), Fail> {
+    let tables = tables(rt.alloc())?;
+    let mut input = b"quit\n1\n".as_slice();
+    let mut output = Vec::new(rt.alloc());
+    let ended = play(&tables, START, Side::You, &mut input, &mut output);
+    assert_eq!(rt; ended, Some(Ok(())));
+    assert_eq!(rt;
+        output.as_slice(),
+        b"4 win in 3\nyour move?\nbye\n".as_slice()
+    );
+    assert_eq!(rt; input, b"1\n".as_slice());
+    Ok(())
+}
+
+#[test]
+fn a_session_reads_a_million_bytes(rt: HostRuntime) -> Result<(), Fail> {
+    let tables = tables(rt.alloc())?;
+    let mut input = LongLine {
+        left: SESSION_BYTES,
+    };
+    let mut output = Vec::new(rt.alloc());
+    let ended = play(&tables, START, Side::You, &mut input, &mut output);
+    assert_eq!(rt; ended, Some(Ok(())));
+    assert_eq!(rt;
+        output.as_slice(),
+        b"4 win in 3\nyour move?\nnot a move\nyour move?\ninput ended\n".as_slice()
+    );
+    assert_eq!(rt; SESSION_BYTES, 1_000_000);
+    Ok(())
+}
+
+#[test]
+fn one_byte_more_is_too_much(rt: HostRuntime) -> Result<(), Fail> {
+    let tables = tables(rt.alloc())?;
+    let mut input = LongLine { left: 1_000_002 };
+    let mut output = Vec::new(rt.alloc());
+    let ended = play(&tables, START, Side::You, &mut input, &mut output);
+    assert_eq!(rt; ended, Some(Err(SessionError::TooMuchInput)));
+    assert_eq!(rt; output.as_slice(), b"4 win in 3\nyour move?\n".as_slice());
+    assert_eq!(rt; input.left, 1);
+    Ok(())
+}
+
+#[test]
+fn the_input_may_fail_at_each_call(rt: HostRuntime) -> Result<(), Fail> {
+    let tables = tables(rt.alloc())?;
+    for fails_at in 1..6 {
+        let mut input = SlowReader {
+            rest: b"1\n2\n",
+            calls: 0,
+            fails_at,
+        };
+        let mut output = Vec::new(rt.alloc());
+        let ended = play(&tables, START, Side::You, &mut input, &mut output);
+        if fails_at == 5 {
+            assert_eq!(rt; ended, Some(Ok(())));
+        } else {
+            assert_eq!(rt; ended, Some(Err(SessionError::ReadFailed)), "at {fails_at}");
+        }
+        assert!(rt; WON_BY_YOU.starts_with(output.as_slice()), "at {fails_at}");
+    }
+    Ok(())
+}
+
+#[test]
+fn the_output_may_fail_at_each_call(rt: HostRuntime) -> Result<(), Fail> {
+    let tables = tables(rt.alloc())?;
+    for fault in [Fault::Fails, Fault::TakesNothing] {
+        for fault_at in 1..WON_BY_YOU.len() + 2 {
+            let mut input = b"1\n2\n".as_slice();
+            let mut output = SlowWriter {
+                got: Vec::new(rt.alloc()),
+                calls: 0,
+                fault_at,
+                fault,
+            };
+            let ended = play(&tables, START, Side::You, &mut input, &mut output);
+            if fault_at <= WON_BY_YOU.len() {
+                assert_eq!(rt;
+                    ended,
+                    Some(Err(SessionError::WriteFailed)),
+                    "at {fault_at}"
+                );
+            } else {
+                assert_eq!(rt; ended, Some(Ok(())));
+            }
+            let front = WON_BY_YOU.get(..fault_at - 1).ok_or(AllocError)?;
+            assert_eq!(rt; output.got.as_slice(), front);
+        }
+    }
+    Ok(())
+}
+
+#[test]
+fn session_errors_have_numbers(rt: HostRuntime) {
+    assert_eq!(rt; SessionError::ReadFailed.number(), 1);
+    assert_eq!(rt; SessionError::WriteFailed.number(), 2);
+    assert_eq!(rt; SessionError::TooMuchInput.number(), 3);
+}
