@@ -1,5 +1,5 @@
 -- One delivery of a new pair.
-use Rattle.std.proofs.Common.{◌≡◌, ◌≢◌, ℕ, ◌+◌, ◌-◌, ◌^◌, ◌<◌, ◌≤◌, ◌⊎◌, inl, inr, ⊎_elim, Bool, true, false, List, [], length, get_or, map, refl, ap, sym, subst, ◌∙◌, arith, Some, Ok, Err, get_or-set_same, get_or-set_other, length-set, true≢false, ◌==◌}
+use Rattle.std.proofs.Common.{◌≡◌, ◌≢◌, ℕ, ◌+◌, ◌-◌, ◌^◌, ◌<◌, ◌≤◌, ◌⊎◌, inl, inr, ⊎_elim, Bool, true, false, List, [], length, get_or, map, refl, ap, sym, subst, ◌∙◌, arith, Option, None, Some, Ok, Err, get_or-set_same, get_or-set_other, length-set, true≢false, ◌==◌}
 use Rattle.std.specs.List.{Contains, slice_get}
 use Rattle.std.proofs.Math.ListN.{set}
 use Rattle.std.proofs.lemmas.List.Sums.{sum_by-set}
@@ -28,7 +28,7 @@ use Rattle.gm_game.specs.Settling.{AreAll}
 use Rattle.gm_shard.specs.State.{ShardState, IsInRange, delivered_to, with_pair, state_of, children_of_masks}
 use Rattle.gm_shard.specs.Status.{In, HasStatus, StatusIs}
 use Rattle.gm_shard.specs.Good.{IsShard, IsWithinLimit, IsKept, IsCounter}
-use Rattle.gm_shard.specs.Delivery.{Delivers, next_status, is_settling, IsThisLevel, IsPairHere, IsSettledNow, KeepsStatus}
+use Rattle.gm_shard.specs.Delivery.{IsPlaceOf, Delivers, next_status, is_settling, IsThisLevel, IsPairHere, IsSettledNow, KeepsStatus}
 use Rattle.gm_game.proofs.SetLemmas.{has_old, with_cases, set_has, has_set, ascending_set, ascending_with, shorter, no_longer, has_all, length_with}
 use Rattle.gm_shard.proofs.StatusLemmas.{after_any, reached_at}
 use Rattle.gm_game.specs.Masks.{picked}
@@ -232,11 +232,22 @@ out_not_mine r tier lo phase level masks note parent s e is_level out =
     no_room (inr l) m = (let a = m.0 in let b = m.1 in let f = length-masks r tier lo masks in omega arith)
 
 -- an index that is no inner position
-pub out_not_inner : (r : Rules) (tier lo : ℕ) (phase : Phase) (level : ℕ) (masks : List ℕ) (note : NoteData) (parent : ℕ) (s : ShardState) → state_of r tier lo phase level masks ≡ s
-    → IsThisLevel (state_of r tier lo phase level masks) note → lo ≤ parent → parent - lo < length masks → (IsInner r (at tier parent) → ⊥) → Delivers r note parent s s (Err NotAParent)
-out_not_inner r tier lo phase level masks note parent s e is_level low high none =
+pub out_no_parent : (r : Rules) (tier lo : ℕ) (phase : Phase) (level : ℕ) (masks : List ℕ) (note : NoteData) (parent : ℕ) (s : ShardState) → state_of r tier lo phase level masks ≡ s
+    → IsThisLevel (state_of r tier lo phase level masks) note → lo ≤ parent → parent - lo < length masks → (IsParent r note.position tier parent → ⊥) → Delivers r note parent s s (Err NotAParent)
+out_no_parent r tier lo phase level masks note parent s e is_level low high none =
     subst (λ (s : ShardState). Delivers r note parent s s (Err NotAParent)) e
-    (refl, is_level, (low, (let f = length-masks r tier lo masks in omega arith)), λ h. none h.0)
+    (refl, is_level, (low, (let f = length-masks r tier lo masks in omega arith)), none)
+
+-- the place that a caller knows is that of the state's tier
+pub place_of : (r : Rules) (tier lo : ℕ) (phase : Phase) (level : ℕ) (masks : List ℕ) (c : Position) (parent : ℕ) (s : ShardState) (o : Option ℕ) (k : ℕ) → state_of r tier lo phase level masks ≡ s
+    → o ≡ Some k → IsPlaceOf r c s.tier parent o → IsPlaceOf r c tier parent (Some k)
+place_of r tier lo phase level masks c parent s o k e is h =
+    subst (λ (t : ℕ). IsPlaceOf r c t parent (Some k)) (sym (ap (λ (x : ShardState). x.tier) e)) (subst (λ (x : Option ℕ). IsPlaceOf r c s.tier parent x) is h)
+
+pub no_place : (r : Rules) (tier lo : ℕ) (phase : Phase) (level : ℕ) (masks : List ℕ) (c : Position) (parent : ℕ) (s : ShardState) (o : Option ℕ) → state_of r tier lo phase level masks ≡ s
+    → o ≡ None → IsPlaceOf r c s.tier parent o → IsParent r c tier parent → ⊥
+no_place r tier lo phase level masks c parent s o e is h =
+    subst (λ (t : ℕ). IsParent r c t parent → ⊥) (sym (ap (λ (x : ShardState). x.tier) e)) (subst (λ (x : Option ℕ). IsPlaceOf r c s.tier parent x) is h)
 
 same_test : (a b c : ℕ) → a + b ≡ c → (a == 1) ≡ (b + 1 == c)
 same_test a b c e =
@@ -263,11 +274,6 @@ module _ {r : Rules} {tier lo : ℕ} {phase : Phase} {level : ℕ} {masks left :
 
   is_pair : (k : ℕ) → slice_get (canonical_children_of r (at tier parent)) k ≡ Some note.position → IsPairHere r (state_of r tier lo phase level masks) note parent
   is_pair k h = record { is_level = t.is_level; is_mine = in_range; is_parent = (t.inner, from_children_of r (at tier parent) note.position (at_place (canonical_children_of r (at tier parent)) k note.position h)) }
-
-  pub out_not_a_parent : (s : ShardState) → state_of r tier lo phase level masks ≡ s → (IsCanonicalChild r (at tier parent) note.position → ⊥)
-      → Delivers r note parent s s (Err NotAParent)
-  out_not_a_parent s e none =
-      subst (λ (s : ShardState). Delivers r note parent s s (Err NotAParent)) e (refl, t.is_level, in_range, λ h. none h.1)
 
   pub out_repeat : (s : ShardState) → state_of r tier lo phase level masks ≡ s → (k : ℕ) → slice_get (canonical_children_of r (at tier parent)) k ≡ Some note.position
       → bit_at (get_or masks (parent - lo) 0) k ≡ 1 → Delivers r note parent s s (Ok Repeat)

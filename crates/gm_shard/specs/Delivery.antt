@@ -1,11 +1,13 @@
 -- What one delivery does.
-use Rattle.std.specs.Prelude.{◌≡◌, ℕ, ◌+◌, ◌≤◌, ◌<◌, Result, Ok, Err, Bool, true, false, if◌then◌else◌}
+use Rattle.std.specs.Prelude.{◌≡◌, ℕ, ◌+◌, ◌≤◌, ◌<◌, Option, None, Some, Result, Ok, Err, Bool, true, false, if◌then◌else◌, slice_get}
 use Rattle.std.specs.List.{Contains}
-use Rattle.gm_game.specs.declared.limits.TheConstants.{REMOTENESS}
+use Rattle.gm_game.specs.declared.limits.TheConstants.{MOVES, REMOTENESS}
+use Rattle.gm_game.specs.declared.position.Position.{Position}
 use Rattle.gm_game.specs.declared.position.Solved.{Solved}
 use Rattle.gm_game.specs.declared.position.Value.TheVariants.{Lose, Draw, Tie, Win}
 use Rattle.gm_game.specs.Records.{solved}
-use Rattle.gm_game.specs.Rules.{Rules, IsParent}
+use Rattle.gm_game.specs.Rules.{Rules, at, IsInner, IsParent}
+use Rattle.gm_game.specs.Children.{canonical_children_of}
 use Rattle.gm_frontier.specs.Notes.{NoteData, phase_of}
 use Rattle.gm_shard.specs.declared.status.Status.{Status}
 use Rattle.gm_shard.specs.declared.status.Status.TheVariants.{Hole, Undecided, Settled}
@@ -39,6 +41,11 @@ pub record KeepsStatus (r : Rules) (s t : ShardState) (parent : ℕ) : Type 0 wh
   pub status : Status
   pub before : StatusIs r s parent status
   pub after : StatusIs r t parent status
+
+-- the place of c among the canonical children of the parent; none where it is no parent of c
+abbrev pub IsPlaceOf : Rules → Position → ℕ → ℕ → Option ℕ → Type 0
+IsPlaceOf r c tier parent None = IsParent r c tier parent → ⊥
+IsPlaceOf r c tier parent (Some k) = IsInner r (at tier parent) × (slice_get (canonical_children_of r (at tier parent)) k ≡ Some c) × (k < MOVES)
 
 -- what a delivery of the note to the parent answers, and the state that it leaves
 abbrev pub Delivers : Rules → NoteData → ℕ → ShardState → ShardState → Result Delivery Refused → Type 0

@@ -8,7 +8,6 @@ use crate::status::{
 use gm_frontier::expected::Expected;
 use gm_frontier::last::Last;
 use gm_frontier::note::Note;
-use gm_game::children::{child_place, is_inner};
 use gm_game::game::Game;
 use gm_game::limits::{REMOTENESS, TIER_SIZE};
 use gm_game::position::{Phase, Place, Position};
@@ -43,7 +42,7 @@ impl<G: Game> Model for Deliveries<G> {
 impl<G: Game> Deliveries<G> {
     ghost use Rattle.std.specs.Prelude.{◌≡◌, ◌+◌, ◌≤◌, length, IfOk};
     ghost use Rattle.gm_shard.specs.Begin.{AreStarts, first_state};
-    ghost use Rattle.gm_shard.specs.Delivery.{Delivers};
+    ghost use Rattle.gm_shard.specs.Delivery.{IsPlaceOf, Delivers};
 
     pub fn tier(&self) -> u64
         ensures { result ≡ self.now.tier }
@@ -78,11 +77,16 @@ impl<G: Game> Deliveries<G> {
         })
     }
 
-    /// Delivers a note to a parent.
-    pub fn deliver(&mut self, note: &Note<G>, parent: u64) -> Result<Delivery, Refused>
+    /// Delivers a note to a parent, where the place of the note's position among its children is known.
+    pub fn deliver(
+        &mut self,
+        note: &Note<G>,
+        parent: u64,
+        place: Option<u32>,
+    ) -> Result<Delivery, Refused>
+        requires { IsPlaceOf G.rules note.now.position self.old.tier parent place }
         ensures { Delivers G.rules note.now parent self.old self.new result }
     {
-        let c = note.position();
         let solved = note.solved();
         if phase_of(solved.value) != self.phase || solved.remoteness != self.level {
             return Err(Refused::NotThisLevel);
@@ -90,14 +94,7 @@ impl<G: Game> Deliveries<G> {
         if parent < self.lo || parent - self.lo >= self.masks.len() as u64 {
             return Err(Refused::NotMine);
         }
-        let p = Position {
-            tier: self.tier,
-            index: parent,
-        };
-        if !is_inner::<G>(p) {
-            return Err(Refused::NotAParent);
-        }
-        let Some(place) = child_place::<G>(p, c) else {
+        let Some(place) = place else {
             return Err(Refused::NotAParent);
         };
         let k = (parent - self.lo) as usize;

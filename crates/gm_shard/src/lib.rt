@@ -5,6 +5,7 @@ pub mod begin;
 mod bits;
 mod deliveries;
 pub mod event;
+pub mod place;
 mod queue;
 pub mod replay;
 pub mod shard;

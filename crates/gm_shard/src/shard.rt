@@ -6,6 +6,7 @@ ghost use Rattle.gm_shard.specs.Queues.{IsEmptied, IsQueue, IsSettledAt, AreNote
 ghost use Rattle.gm_shard.specs.Closing.{record_of};
 
 use crate::deliveries::Deliveries;
+use crate::place::place_of;
 use crate::queue::Queue;
 use crate::status::{Delivery, Refused, Short, Start, Status, has_phase};
 use gm_frontier::expected::Expected;
@@ -107,7 +108,7 @@ impl<G: Game> Shard<G> {
     ghost use Rattle.gm_shard.specs.State.{IsInRange, pairs_in};
     ghost use Rattle.gm_shard.specs.Status.{StatusIs};
     ghost use Rattle.gm_shard.specs.Good.{IsGood, IsCounter};
-    ghost use Rattle.gm_shard.specs.Delivery.{Delivers};
+    ghost use Rattle.gm_shard.specs.Delivery.{IsPlaceOf, Delivers};
     ghost use Rattle.gm_shard.specs.Steps.{IsFor, CanTurn, place_of, first_ties};
     ghost use Rattle.gm_shard.specs.Closing.{Closes, IsNoteOf, ArePart};
 
@@ -201,8 +202,22 @@ impl<G: Game> Shard<G> {
     pub fn deliver(&mut self, note: &Note<G>, parent: u64) -> Result<Delivery, Refused>
         ensures { Delivers G.rules note.now parent self.old self.new result }
     {
+        let place = place_of(note, self.tier(), parent);
+        self.deliver_at(note, parent, place)
+    }
+
+    /// The same, where the place of the note's position among the children of the parent is known (`place_of`).
+    pub fn deliver_at(
+        &mut self,
+        note: &Note<G>,
+        parent: u64,
+        place: Option<u32>,
+    ) -> Result<Delivery, Refused>
+        requires { IsPlaceOf G.rules note.now.position self.old.tier parent place }
+        ensures { Delivers G.rules note.now parent self.old self.new result }
+    {
         let (lo, _count) = self.children.range();
-        let answer = self.children.deliver(note, parent);
+        let answer = self.children.deliver(note, parent, place);
         let _good = self.children.range();
         if has_settled(&answer) {
             let index = (parent - lo) as u32;

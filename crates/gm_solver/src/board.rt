@@ -8,6 +8,7 @@ use crate::held::Held;
 use crate::share::{Desk, Share};
 use gm_frontier::note::Note;
 use gm_game::game::Game;
+use gm_shard::place::place_of;
 use gm_shard::shard::Shard;
 use gm_shard::status::{Delivery, Refused};
 use std::marker::Model;
@@ -102,7 +103,9 @@ pub struct Board<G: Game, A: Desk, B: Desk, C: Desk, D: Desk> {
     b: Mutex<Held<G, B>>,
     c: Mutex<Held<G, C>>,
     d: Mutex<Held<G, D>>,
+    tier: u64,
     ranges: Four<(u64, u64)>,
+    ghost tier_is: { tier ≡ A.spot.tier },
     ghost a_is: { (ranges.a.0 ≡ A.spot.lo) × (ranges.a.1 ≡ A.spot.hi) },
     ghost b_is: { (ranges.b.0 ≡ B.spot.lo) × (ranges.b.1 ≡ B.spot.hi) },
     ghost c_is: { (ranges.c.0 ≡ C.spot.lo) × (ranges.c.1 ≡ C.spot.hi) },
@@ -132,6 +135,7 @@ impl<G: Game, A: Desk, B: Desk, C: Desk, D: Desk> Board<G, A, B, C, D> {
             c: shards.c.range(),
             d: shards.d.range(),
         };
+        let tier = shards.a.tier();
         let (a, one) = hold(blanks.a, shards.a);
         let (b, two) = hold(blanks.b, shards.b);
         let (c, three) = hold(blanks.c, shards.c);
@@ -141,6 +145,7 @@ impl<G: Game, A: Desk, B: Desk, C: Desk, D: Desk> Board<G, A, B, C, D> {
             b: Mutex::new(b),
             c: Mutex::new(c),
             d: Mutex::new(d),
+            tier,
             ranges,
         };
         let shares = Shares {
@@ -217,11 +222,24 @@ impl<G: Game, A: Desk, B: Desk, C: Desk, D: Desk> Board<G, A, B, C, D> {
         ensures shares { shares.new ≡ raised shares.old shard (gain result) }
         ensures refusals { IsAnswer G.rules (choose shard A.spot B.spot C.spot D.spot) note.now parent result }
     {
+        let place = place_of(note, self.tier, parent);
         match shard {
-            0 => self.a.lock(rt).deliver(note, parent, &mut shares.a),
-            1 => self.b.lock(rt).deliver(note, parent, &mut shares.b),
-            2 => self.c.lock(rt).deliver(note, parent, &mut shares.c),
-            _ => self.d.lock(rt).deliver(note, parent, &mut shares.d),
+            0 => self
+                .a
+                .lock(rt)
+                .deliver_at(note, parent, place, &mut shares.a),
+            1 => self
+                .b
+                .lock(rt)
+                .deliver_at(note, parent, place, &mut shares.b),
+            2 => self
+                .c
+                .lock(rt)
+                .deliver_at(note, parent, place, &mut shares.c),
+            _ => self
+                .d
+                .lock(rt)
+                .deliver_at(note, parent, place, &mut shares.d),
         }
     }
 

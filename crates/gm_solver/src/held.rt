@@ -2,12 +2,13 @@
 ghost use Rattle.std.specs.Prelude.{◌≡◌, ◌+◌, ◌<◌, ◌≤◌};
 ghost use Rattle.gm_shard.specs.State.{pairs_in};
 ghost use Rattle.gm_shard.specs.Good.{IsGood};
-ghost use Rattle.gm_shard.specs.Delivery.{Delivers};
+ghost use Rattle.gm_shard.specs.Delivery.{IsPlaceOf, Delivers};
 ghost use Rattle.gm_solver.specs.Spots.{spot_of, gain, IsAnswer};
 
 use crate::share::{Desk, Share};
 use gm_frontier::note::Note;
 use gm_game::game::Game;
+use gm_shard::place::place_of;
 use gm_shard::shard::Shard;
 use gm_shard::status::{Delivery, Refused};
 use std::marker::Model;
@@ -79,9 +80,30 @@ impl<G: Game, L: Desk> Held<G, L> {
         ensures share { share.new ≡ record { parts = share.old.parts; amount = share.old.amount + gain result } }
         ensures bound { share.new.amount ≤ self.new.book }
     {
+        let place = place_of(note, self.shard.tier(), parent);
+        self.deliver_at(note, parent, place, share)
+    }
+
+    /// The same, where the place of the note's position among the children of the parent is known: what costs most of a delivery is then done before the lock is taken.
+    pub fn deliver_at(
+        &mut self,
+        note: &Note<G>,
+        parent: u64,
+        place: Option<u32>,
+        share: &mut Share<L>,
+    ) -> Result<Delivery, Refused>
+        requires place { IsPlaceOf G.rules note.now.position L.spot.tier parent place }
+        requires parts { 0 < share.old.parts }
+        ensures answer { Delivers G.rules note.now parent self.old.shard self.new.shard result }
+        ensures refusals { IsAnswer G.rules L.spot note.now parent result }
+        ensures spot { spot_of self.new.shard ≡ L.spot }
+        ensures book { self.new.book ≡ self.old.book + gain result }
+        ensures share { share.new ≡ record { parts = share.old.parts; amount = share.old.amount + gain result } }
+        ensures bound { share.new.amount ≤ self.new.book }
+    {
         let Held { shard, book } = self;
         let _before = shard.range();
-        let answer = shard.deliver(note, parent);
+        let answer = shard.deliver_at(note, parent, place);
         share.raise(book, gained(&answer));
         share.audit(book);
         answer

@@ -12,7 +12,7 @@ use Rattle.gm_shard.specs.State.{ShardState, state_of, with_pair}
 use Rattle.gm_shard.specs.declared.status.Delivery.{Delivery}
 use Rattle.gm_shard.specs.declared.status.Refused.{Refused}
 use Rattle.gm_shard.specs.Delivery.{Delivers, is_settling, next_status}
-use Rattle.gm_shard.proofs.StepLemmas.{Seen, Unset, out_not_mine, out_not_inner, out_not_a_parent, out_repeat, out_far, out_settled, out_fresh, step_of, state_with, near_settling, near_staying, fields_after, in_left, in_statuses, left_above, count_room}
+use Rattle.gm_shard.proofs.StepLemmas.{Seen, Unset, out_not_mine, out_no_parent, place_of, no_place, out_repeat, out_far, out_settled, out_fresh, step_of, state_with, near_settling, near_staying, fields_after, in_left, in_statuses, left_above, count_room}
 use Rattle.gm_shard.proofs.deliveries.Deliveries.deliver.Goals as goal
 use Rattle.gm_shard.proofs.deliveries.Deliveries.deliver.Goals.{then-parent-self-via-then-parent-self, then-parent-self-via-else-parent-self+then-parent-self-2, else-settles-via-then-settles+else-self-ge-REMOTENESS, else-settles-via-else-settles, then-settles-2, else-settles-2}
 
@@ -30,19 +30,6 @@ returns-then-parent-self g c =
     ] in
     out_not_mine r f.tier f.lo f.phase f.level f.masks.items note parent c.args.self.now c.self.view_is (level, level') outside
 
-pub returns-then-not-is_inner : goal.returns-then-not-is_inner
-returns-then-not-is_inner g c =
-    let r = g.G.Game.rules in
-    let note = c.args.note.now in
-    let parent = c.args.parent in
-    let f = c.self.inside in
-    let level : phase_of note.solved.value ≡ f.phase = search rules in
-    let level' : note.solved.remoteness ≡ f.level = search rules in
-    let low : f.lo ≤ parent = omega arith in
-    let high : parent - f.lo < length f.masks.items = omega arith in
-    let none : IsInner r (at f.tier parent) → ⊥ = search rules in
-    out_not_inner r f.tier f.lo f.phase f.level f.masks.items note parent c.args.self.now c.self.view_is (level, level') low high none
-
 pub returns-in_default : goal.returns-in_default
 returns-in_default g c =
     let r = g.G.Game.rules in
@@ -53,11 +40,8 @@ returns-in_default g c =
     let level' : note.solved.remoteness ≡ f.level = search rules in
     let low : f.lo ≤ parent = omega arith in
     let high : parent - f.lo < length f.masks.items = omega arith in
-    let inner : IsInner r (at f.tier parent) = search rules in
-    let seen : Seen r f.tier f.lo f.phase f.level f.masks.items f.left.items f.statuses.items f.delivered note parent =
-    record { kept = c.self.invariant; is_note = c.position-c.ensures.note; is_level = (level, level'); low = low; high = high; inner = inner } in
-    let none : IsCanonicalChild r (at f.tier parent) note.position → ⊥ = search rules in
-    out_not_a_parent seen c.args.self.now c.self.view_is none
+    out_no_parent r f.tier f.lo f.phase f.level f.masks.items note parent c.args.self.now c.self.view_is (level, level') low high
+    (no_place r f.tier f.lo f.phase f.level f.masks.items note.position parent c.args.self.now c.args.place c.self.view_is c.in_default.is c.requires)
 
 pub returns-then-has_bit : goal.returns-then-has_bit
 returns-then-has_bit g c =
@@ -69,10 +53,11 @@ returns-then-has_bit g c =
     let level' : note.solved.remoteness ≡ f.level = search rules in
     let low : f.lo ≤ parent = omega arith in
     let high : parent - f.lo < length f.masks.items = omega arith in
-    let inner : IsInner r (at f.tier parent) = search rules in
+    let is_place = place_of r f.tier f.lo f.phase f.level f.masks.items note.position parent c.args.self.now c.args.place c.in-Some.place c.self.view_is c.in-Some.is c.requires in
+    let inner : IsInner r (at f.tier parent) = is_place.0 in
     let seen : Seen r f.tier f.lo f.phase f.level f.masks.items f.left.items f.statuses.items f.delivered note parent =
-    record { kept = c.self.invariant; is_note = c.position-c.ensures.note; is_level = (level, level'); low = low; high = high; inner = inner } in
-    let place : slice_get (canonical_children_of r (at f.tier parent)) c.in-Some.place ≡ Some note.position = c.in-Some.ensures.place ∙ ap Some c.position-c.ensures.value in
+    record { kept = c.self.invariant; is_note = c.solved-solved.ensures.note; is_level = (level, level'); low = low; high = high; inner = inner } in
+    let place : slice_get (canonical_children_of r (at f.tier parent)) c.in-Some.place ≡ Some note.position = is_place.1 in
     let mask' : c.index-mask.result.now ≡ get_or f.masks.items (parent - f.lo) c.index-mask.result.now = search rules in
     let mask : c.index-mask.result.now ≡ get_or f.masks.items (parent - f.lo) 0 = get_or_read f.masks.items (parent - f.lo) c.index-mask.result.now high mask' 0 in
     let bit : bit_at c.index-mask.result.now c.in-Some.place ≡ 1 = search rules in
@@ -88,9 +73,10 @@ index-left-requires g c =
     let level' : note.solved.remoteness ≡ f.level = search rules in
     let low : f.lo ≤ parent = omega arith in
     let high : parent - f.lo < length f.masks.items = omega arith in
-    let inner : IsInner r (at f.tier parent) = search rules in
+    let is_place = place_of r f.tier f.lo f.phase f.level f.masks.items note.position parent c.args.self.now c.args.place c.in-Some.place c.self.view_is c.in-Some.is c.requires in
+    let inner : IsInner r (at f.tier parent) = is_place.0 in
     let seen : Seen r f.tier f.lo f.phase f.level f.masks.items f.left.items f.statuses.items f.delivered note parent =
-    record { kept = c.self.invariant; is_note = c.position-c.ensures.note; is_level = (level, level'); low = low; high = high; inner = inner } in
+    record { kept = c.self.invariant; is_note = c.solved-solved.ensures.note; is_level = (level, level'); low = low; high = high; inner = inner } in
     let l = in_left seen in
     let e : Rattle.std.specs.Vec.vec_len f.left ≡ length f.left.items = search rules in
     omega arith
@@ -105,9 +91,10 @@ index-old-requires g c =
     let level' : note.solved.remoteness ≡ f.level = search rules in
     let low : f.lo ≤ parent = omega arith in
     let high : parent - f.lo < length f.masks.items = omega arith in
-    let inner : IsInner r (at f.tier parent) = search rules in
+    let is_place = place_of r f.tier f.lo f.phase f.level f.masks.items note.position parent c.args.self.now c.args.place c.in-Some.place c.self.view_is c.in-Some.is c.requires in
+    let inner : IsInner r (at f.tier parent) = is_place.0 in
     let seen : Seen r f.tier f.lo f.phase f.level f.masks.items f.left.items f.statuses.items f.delivered note parent =
-    record { kept = c.self.invariant; is_note = c.position-c.ensures.note; is_level = (level, level'); low = low; high = high; inner = inner } in
+    record { kept = c.self.invariant; is_note = c.solved-solved.ensures.note; is_level = (level, level'); low = low; high = high; inner = inner } in
     let l = in_statuses seen in
     let e : Rattle.std.specs.Vec.vec_len f.statuses ≡ length f.statuses.items = search rules in
     omega arith
@@ -122,10 +109,11 @@ returns-then-self-ge-REMOTENESS g c =
     let level' : note.solved.remoteness ≡ f.level = search rules in
     let low : f.lo ≤ parent = omega arith in
     let high : parent - f.lo < length f.masks.items = omega arith in
-    let inner : IsInner r (at f.tier parent) = search rules in
+    let is_place = place_of r f.tier f.lo f.phase f.level f.masks.items note.position parent c.args.self.now c.args.place c.in-Some.place c.self.view_is c.in-Some.is c.requires in
+    let inner : IsInner r (at f.tier parent) = is_place.0 in
     let seen : Seen r f.tier f.lo f.phase f.level f.masks.items f.left.items f.statuses.items f.delivered note parent =
-    record { kept = c.self.invariant; is_note = c.position-c.ensures.note; is_level = (level, level'); low = low; high = high; inner = inner } in
-    let place : slice_get (canonical_children_of r (at f.tier parent)) c.in-Some.place ≡ Some note.position = c.in-Some.ensures.place ∙ ap Some c.position-c.ensures.value in
+    record { kept = c.self.invariant; is_note = c.solved-solved.ensures.note; is_level = (level, level'); low = low; high = high; inner = inner } in
+    let place : slice_get (canonical_children_of r (at f.tier parent)) c.in-Some.place ≡ Some note.position = is_place.1 in
     let mask' : c.index-mask.result.now ≡ get_or f.masks.items (parent - f.lo) c.index-mask.result.now = search rules in
     let mask : c.index-mask.result.now ≡ get_or f.masks.items (parent - f.lo) 0 = get_or_read f.masks.items (parent - f.lo) c.index-mask.result.now high mask' 0 in
     let clear : bit_at c.index-mask.result.now c.in-Some.place ≡ 1 → ⊥ = search rules in
@@ -149,10 +137,11 @@ overflow_sub-left g c =
     let level' : note.solved.remoteness ≡ f.level = search rules in
     let low : f.lo ≤ parent = omega arith in
     let high : parent - f.lo < length f.masks.items = omega arith in
-    let inner : IsInner r (at f.tier parent) = search rules in
+    let is_place = place_of r f.tier f.lo f.phase f.level f.masks.items note.position parent c.args.self.now c.args.place c.in-Some.place c.self.view_is c.in-Some.is c.requires in
+    let inner : IsInner r (at f.tier parent) = is_place.0 in
     let seen : Seen r f.tier f.lo f.phase f.level f.masks.items f.left.items f.statuses.items f.delivered note parent =
-    record { kept = c.self.invariant; is_note = c.position-c.ensures.note; is_level = (level, level'); low = low; high = high; inner = inner } in
-    let place : slice_get (canonical_children_of r (at f.tier parent)) c.in-Some.place ≡ Some note.position = c.in-Some.ensures.place ∙ ap Some c.position-c.ensures.value in
+    record { kept = c.self.invariant; is_note = c.solved-solved.ensures.note; is_level = (level, level'); low = low; high = high; inner = inner } in
+    let place : slice_get (canonical_children_of r (at f.tier parent)) c.in-Some.place ≡ Some note.position = is_place.1 in
     let mask' : c.index-mask.result.now ≡ get_or f.masks.items (parent - f.lo) c.index-mask.result.now = search rules in
     let mask : c.index-mask.result.now ≡ get_or f.masks.items (parent - f.lo) 0 = get_or_read f.masks.items (parent - f.lo) c.index-mask.result.now high mask' 0 in
     let clear : bit_at c.index-mask.result.now c.in-Some.place ≡ 1 → ⊥ = search rules in
@@ -173,9 +162,10 @@ index_mut-requires-2 g c =
     let level' : note.solved.remoteness ≡ f.level = search rules in
     let low : f.lo ≤ parent = omega arith in
     let high : parent - f.lo < length f.masks.items = omega arith in
-    let inner : IsInner r (at f.tier parent) = search rules in
+    let is_place = place_of r f.tier f.lo f.phase f.level f.masks.items note.position parent c.args.self.now c.args.place c.in-Some.place c.self.view_is c.in-Some.is c.requires in
+    let inner : IsInner r (at f.tier parent) = is_place.0 in
     let seen : Seen r f.tier f.lo f.phase f.level f.masks.items f.left.items f.statuses.items f.delivered note parent =
-    record { kept = c.self.invariant; is_note = c.position-c.ensures.note; is_level = (level, level'); low = low; high = high; inner = inner } in
+    record { kept = c.self.invariant; is_note = c.solved-solved.ensures.note; is_level = (level, level'); low = low; high = high; inner = inner } in
     let l = in_left seen in
     let e : Rattle.std.specs.Vec.vec_len f.left ≡ length f.left.items = search rules in
     omega arith
@@ -190,9 +180,10 @@ index_mut-requires-3 g c =
     let level' : note.solved.remoteness ≡ f.level = search rules in
     let low : f.lo ≤ parent = omega arith in
     let high : parent - f.lo < length f.masks.items = omega arith in
-    let inner : IsInner r (at f.tier parent) = search rules in
+    let is_place = place_of r f.tier f.lo f.phase f.level f.masks.items note.position parent c.args.self.now c.args.place c.in-Some.place c.self.view_is c.in-Some.is c.requires in
+    let inner : IsInner r (at f.tier parent) = is_place.0 in
     let seen : Seen r f.tier f.lo f.phase f.level f.masks.items f.left.items f.statuses.items f.delivered note parent =
-    record { kept = c.self.invariant; is_note = c.position-c.ensures.note; is_level = (level, level'); low = low; high = high; inner = inner } in
+    record { kept = c.self.invariant; is_note = c.solved-solved.ensures.note; is_level = (level, level'); low = low; high = high; inner = inner } in
     let l = in_statuses seen in
     let e : Rattle.std.specs.Vec.vec_len f.statuses ≡ length f.statuses.items = search rules in
     omega arith
@@ -207,9 +198,10 @@ overflow_add-self g c =
     let level' : note.solved.remoteness ≡ f.level = search rules in
     let low : f.lo ≤ parent = omega arith in
     let high : parent - f.lo < length f.masks.items = omega arith in
-    let inner : IsInner r (at f.tier parent) = search rules in
+    let is_place = place_of r f.tier f.lo f.phase f.level f.masks.items note.position parent c.args.self.now c.args.place c.in-Some.place c.self.view_is c.in-Some.is c.requires in
+    let inner : IsInner r (at f.tier parent) = is_place.0 in
     let seen : Seen r f.tier f.lo f.phase f.level f.masks.items f.left.items f.statuses.items f.delivered note parent =
-    record { kept = c.self.invariant; is_note = c.position-c.ensures.note; is_level = (level, level'); low = low; high = high; inner = inner } in
+    record { kept = c.self.invariant; is_note = c.solved-solved.ensures.note; is_level = (level, level'); low = low; high = high; inner = inner } in
     let k = count_room seen in
     omega arith
 
@@ -223,10 +215,11 @@ invariant_of-self g c =
     let level' : note.solved.remoteness ≡ f.level = search rules in
     let low : f.lo ≤ parent = omega arith in
     let high : parent - f.lo < length f.masks.items = omega arith in
-    let inner : IsInner r (at f.tier parent) = search rules in
+    let is_place = place_of r f.tier f.lo f.phase f.level f.masks.items note.position parent c.args.self.now c.args.place c.in-Some.place c.self.view_is c.in-Some.is c.requires in
+    let inner : IsInner r (at f.tier parent) = is_place.0 in
     let seen : Seen r f.tier f.lo f.phase f.level f.masks.items f.left.items f.statuses.items f.delivered note parent =
-    record { kept = c.self.invariant; is_note = c.position-c.ensures.note; is_level = (level, level'); low = low; high = high; inner = inner } in
-    let place : slice_get (canonical_children_of r (at f.tier parent)) c.in-Some.place ≡ Some note.position = c.in-Some.ensures.place ∙ ap Some c.position-c.ensures.value in
+    record { kept = c.self.invariant; is_note = c.solved-solved.ensures.note; is_level = (level, level'); low = low; high = high; inner = inner } in
+    let place : slice_get (canonical_children_of r (at f.tier parent)) c.in-Some.place ≡ Some note.position = is_place.1 in
     let mask' : c.index-mask.result.now ≡ get_or f.masks.items (parent - f.lo) c.index-mask.result.now = search rules in
     let mask : c.index-mask.result.now ≡ get_or f.masks.items (parent - f.lo) 0 = get_or_read f.masks.items (parent - f.lo) c.index-mask.result.now high mask' 0 in
     let clear : bit_at c.index-mask.result.now c.in-Some.place ≡ 1 → ⊥ = search rules in
@@ -258,10 +251,11 @@ returns g c =
     let level' : note.solved.remoteness ≡ f.level = search rules in
     let low : f.lo ≤ parent = omega arith in
     let high : parent - f.lo < length f.masks.items = omega arith in
-    let inner : IsInner r (at f.tier parent) = search rules in
+    let is_place = place_of r f.tier f.lo f.phase f.level f.masks.items note.position parent c.args.self.now c.args.place c.in-Some.place c.self.view_is c.in-Some.is c.requires in
+    let inner : IsInner r (at f.tier parent) = is_place.0 in
     let seen : Seen r f.tier f.lo f.phase f.level f.masks.items f.left.items f.statuses.items f.delivered note parent =
-    record { kept = c.self.invariant; is_note = c.position-c.ensures.note; is_level = (level, level'); low = low; high = high; inner = inner } in
-    let place : slice_get (canonical_children_of r (at f.tier parent)) c.in-Some.place ≡ Some note.position = c.in-Some.ensures.place ∙ ap Some c.position-c.ensures.value in
+    record { kept = c.self.invariant; is_note = c.solved-solved.ensures.note; is_level = (level, level'); low = low; high = high; inner = inner } in
+    let place : slice_get (canonical_children_of r (at f.tier parent)) c.in-Some.place ≡ Some note.position = is_place.1 in
     let mask' : c.index-mask.result.now ≡ get_or f.masks.items (parent - f.lo) c.index-mask.result.now = search rules in
     let mask : c.index-mask.result.now ≡ get_or f.masks.items (parent - f.lo) 0 = get_or_read f.masks.items (parent - f.lo) c.index-mask.result.now high mask' 0 in
     let clear : bit_at c.index-mask.result.now c.in-Some.place ≡ 1 → ⊥ = search rules in

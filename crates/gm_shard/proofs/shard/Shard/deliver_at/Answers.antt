@@ -5,7 +5,7 @@ use Rattle.gm_shard.specs.declared.status.Delivery.TheVariants.{FreshSettled}
 use Rattle.gm_shard.specs.declared.status.Refused.{Refused}
 use Rattle.gm_shard.specs.Delivery.{Delivers}
 use Rattle.gm_shard.proofs.ShardLemmas.{quiet, room_wins, room_ties, pushed_wins, pushed_ties}
-use Rattle.gm_shard.proofs.shard.Shard.deliver.Goals as goal
+use Rattle.gm_shard.proofs.shard.Shard.deliver_at.Goals as goal
 
 pub push-requires : goal.push-requires
 push-requires g c =
