@@ -1,4 +1,5 @@
 //! Dao's one tier: solved, written as a file and read again.
+use crate::versions::compare_versions;
 use gm_dao::dao::Dao;
 use gm_game::game::Game;
 use gm_game::limits::TIER_SIZE;
@@ -7,7 +8,7 @@ use gm_solver::error::SolveError;
 use gm_solver::gate::NoGate;
 use gm_solver::plan::Plan;
 use gm_solver::source::Counter;
-use gm_solver::tier::solve_tier;
+use gm_solver::tier::{solve_passes, solve_tier};
 use gm_table::table::Table;
 use gm_table::tables::Tables;
 use gm_tierdb::decode::decode;
@@ -24,56 +25,79 @@ const SHARDS: usize = 4;
 /// How many notes a piece of a level has.
 const PIECE: usize = 64;
 
+/// Who solves the tier: one thread without locks, or so many workers, which take pieces of a level or passes of the shards.
+#[derive(Clone, Copy, Debug, PartialEq, Eq)]
+pub enum Crew {
+    Alone,
+    Pieces(usize),
+    Passes(usize),
+}
+
+impl Crew {
+    // The workers, where there are any.
+    fn workers(self) -> Option<usize> {
+        match self {
+            Crew::Alone => None,
+            Crew::Pieces(workers) | Crew::Passes(workers) => Some(workers),
+        }
+    }
+}
+
 // The table of the tier and the number of deliveries: by the workers of the plan, or by one thread without locks where there is no plan.
 fn solved<R: AllocGlobal + Threads + Wait + Sync>(
     rt: &R,
+    crew: Crew,
     plan: Option<Plan>,
 ) -> Result<Option<(Table<Dao>, u64)>, SolveError> {
     let tables: Tables<Dao> = Tables::new(rt.alloc());
     if !tables.has_children(0) || Dao::tier_size(0) > TIER_SIZE {
         return Ok(None);
     }
-    match plan {
-        Some(plan) => {
-            let source = Counter::new();
-            let (table, report) = solve_tier(rt, rt.alloc(), 0, &tables, plan, &NoGate, &source)?;
-            Ok(Some((table, report.deliveries)))
+    let Some(plan) = plan else {
+        return Ok(Some(solve_alone(rt.alloc(), 0, &tables)?));
+    };
+    let source = Counter::new();
+    let (table, report) = match crew {
+        Crew::Passes(_) => solve_passes(rt, rt.alloc(), 0, &tables, plan, &NoGate, &source)?,
+        Crew::Alone | Crew::Pieces(_) => {
+            solve_tier(rt, rt.alloc(), 0, &tables, plan, &NoGate, &source)?
         }
-        None => Ok(Some(solve_alone(rt.alloc(), 0, &tables)?)),
-    }
+    };
+    Ok(Some((table, report.deliveries)))
 }
 
-/// Solves Dao by this many workers, or by one thread without locks where no number is given, then writes its file and reads it. Prints the positions, the deliveries and the bytes, with the
-/// milliseconds on standard error, and says whether all went well. More workers than a plan has, or none, are refused.
+/// Solves Dao, then writes its file and reads it. Prints the positions, the deliveries and the bytes, with the milliseconds on standard error, and says whether all went well. More workers than a plan
+/// has, or none, are refused.
 pub fn solve_dao<R: Print + Eprint + Clock + AllocGlobal + Threads + Wait + Sync>(
     rt: &R,
-    workers: Option<usize>,
+    crew: Crew,
 ) -> io::Result<bool> {
-    match workers {
+    match crew.workers() {
         Some(workers) => match Plan::new(workers, SHARDS, PIECE) {
-            Some(plan) => solve_by(rt, Some(plan)),
+            Some(plan) => solve_by(rt, crew, Some(plan)),
             None => {
                 eprintln!(rt; "dao: no plan has {workers} workers")?;
                 Ok(false)
             }
         },
-        None => solve_by(rt, None),
+        None => solve_by(rt, crew, None),
     }
 }
 
 // Solves Dao by the workers of the plan, or by one thread without locks where there is no plan.
 fn solve_by<R: Print + Eprint + Clock + AllocGlobal + Threads + Wait + Sync>(
     rt: &R,
+    crew: Crew,
     plan: Option<Plan>,
 ) -> io::Result<bool> {
     let start = Instant::now(rt)?;
-    match solved(rt, plan) {
+    match solved(rt, crew, plan) {
         Ok(Some((table, deliveries))) => {
             let milliseconds = start.elapsed(rt)?.as_millis();
             let positions = table.size();
             println!(rt; "dao: {positions} positions, {deliveries} deliveries")?;
             eprintln!(rt; "dao: solved in {milliseconds} ms")?;
-            write_and_read(rt, &table)
+            Ok(write_and_read(rt, &table)? && compare_versions(rt, &table)?)
         }
         Ok(None) => Ok(false),
         Err(error) => {

@@ -1,4 +1,4 @@
-//! Solves the lower tiers of Tac Tix on 5 by 5 by one thread, or Dao by one thread or by workers, and prints the positions and deliveries, with the milliseconds on standard error.
+//! Solves the lower tiers of Tac Tix on 5 by 5 by one thread, or Dao by one thread or by workers (with pieces, or with passes), and prints the positions and deliveries, with the milliseconds on standard error.
 //! docs/BENCHMARKS.md has the figures.
 #![tactic(auto)]
 
@@ -6,8 +6,9 @@ ghost use Rattle.std.specs.Prelude.{◌≤◌};
 
 mod dao;
 mod solve;
+mod versions;
 
-use crate::dao::solve_dao;
+use crate::dao::{Crew, solve_dao};
 use crate::solve::solve_tiers;
 use std::process::ExitCode;
 use std::{env, io};
@@ -47,13 +48,30 @@ fn workers(words: &[String]) -> Option<usize> {
     }
 }
 
+// Whether they are to take passes: the third word.
+fn by_passes(words: &[String]) -> bool {
+    match words.get(3) {
+        Some(word) => word.as_str() == "--passes",
+        None => false,
+    }
+}
+
+// Who is to solve Dao: one thread, where no number of workers is given.
+fn crew(words: &[String]) -> Crew {
+    match workers(words) {
+        Some(workers) if by_passes(words) => Crew::Passes(workers),
+        Some(workers) => Crew::Pieces(workers),
+        None => Crew::Alone,
+    }
+}
+
 fn main(rt: HostRuntime) -> io::Result<ExitCode> {
     let mut words = Vec::new(rt.alloc());
     for word in env::args(&rt)? {
         words.push(word)?;
     }
     let solved = if is_dao(words.as_slice()) {
-        solve_dao(&rt, workers(words.as_slice()))?
+        solve_dao(&rt, crew(words.as_slice()))?
     } else {
         solve_tiers(&rt, greatest(words.as_slice()))?
     };

@@ -45,7 +45,7 @@ fn a_file_cut_to_any_length_is_mended(rt: HostRuntime) -> Result<(), Fail> {
     let path = "folder_cut/tier-0.gmt";
     fs::create_dir(&rt, folder)?;
     let right = file_of_countdown(rt.alloc())?;
-    for len in 0..94usize {
+    for len in 0..116usize {
         let cut = right.as_slice().get(..len).ok_or(AllocError)?;
         fs::write(&rt, path, cut)?;
         assert_eq!(rt; rebuild(&rt, rt.alloc(), folder)?, 1, "at {len}");
@@ -60,7 +60,7 @@ fn a_half_written_file_is_no_file(rt: HostRuntime) -> Result<(), Fail> {
     let folder = "folder_half";
     fs::create_dir(&rt, folder)?;
     let right = file_of_countdown(rt.alloc())?;
-    for len in 0..95usize {
+    for len in 0..117usize {
         let half = right.as_slice().get(..len).ok_or(AllocError)?;
         fs::write(&rt, "folder_half/tier-0.tmp", half)?;
         assert_eq!(rt; rebuild(&rt, rt.alloc(), folder)?, 1, "at {len}");

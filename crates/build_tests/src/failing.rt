@@ -26,7 +26,9 @@ fn a_failing_store_is_built_later(rt: HostRuntime) -> Result<(), Fail> {
     let solved = Took {
         solved: 1,
         reused: 0,
+        migrated: 0,
         deliveries: 19,
+        by_hand: 0,
     };
     assert_eq!(rt; done, solved);
     let file = inner.read(&rt, rt.alloc(), 0)?;
@@ -58,7 +60,9 @@ fn a_build_reads_and_writes_each_tier_once(rt: HostRuntime) -> Result<(), Fail> 
     let five = Took {
         solved: 5,
         reused: 0,
+        migrated: 0,
         deliveries: 9,
+        by_hand: 0,
     };
     assert_eq!(rt; solved, five);
     assert_eq!(rt; store.failures(), 0);
@@ -69,7 +73,9 @@ fn a_build_reads_and_writes_each_tier_once(rt: HostRuntime) -> Result<(), Fail> 
     let none = Took {
         solved: 0,
         reused: 5,
+        migrated: 0,
         deliveries: 0,
+        by_hand: 0,
     };
     assert_eq!(rt; reused, none);
     let sixth = work::<TacTix<2, false>, _, _>(&rt, rt.alloc(), &mut store);

@@ -7,7 +7,6 @@ use gm_game::position::{Position, Solved, Value};
 use gm_tactix::tactix::TacTix;
 use gm_tierdb::mem_store::MemStore;
 use gm_tierdb::store::Store;
-use gm_toys::chain::Chain;
 use gm_toys::countdown::Countdown;
 use gm_toys::stairs::Stairs;
 use std::test::Fail;
@@ -19,14 +18,18 @@ fn countdown_is_built_and_reused(rt: HostRuntime) -> Result<(), Fail> {
     let solved = Took {
         solved: 1,
         reused: 0,
+        migrated: 0,
         deliveries: 19,
+        by_hand: 0,
     };
     assert_eq!(rt; first, solved);
     let again = work::<Countdown<10>, _, _>(&rt, rt.alloc(), &mut store)?;
     let reused = Took {
         solved: 0,
         reused: 1,
+        migrated: 0,
         deliveries: 0,
+        by_hand: 0,
     };
     assert_eq!(rt; again, reused);
     let file = store.read(&rt, rt.alloc(), 0)?;
@@ -56,15 +59,6 @@ fn a_full_square_of_four_is_lost(rt: HostRuntime) -> Result<(), Fail> {
     let start = square.tables.get(<TacTix<4, false> as Game>::initial());
     assert_eq!(rt; start.map(|solved| solved.value), Some(Value::Lose));
     assert_eq!(rt; square.solved, 17);
-    Ok(())
-}
-
-#[test]
-fn a_chain_above_the_limit_is_not_built(rt: HostRuntime) -> Result<(), Fail> {
-    let mut store = MemStore::new(rt.alloc());
-    let far = work::<Chain<4096>, _, _>(&rt, rt.alloc(), &mut store);
-    assert_eq!(rt; far, Err(BuildError::TooFar { tier: 0 }));
-    assert_eq!(rt; store.read(&rt, rt.alloc(), 0)?, None);
     Ok(())
 }
 

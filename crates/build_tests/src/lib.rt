@@ -16,4 +16,6 @@ mod games;
 #[cfg(test)]
 mod lines;
 #[cfg(test)]
+mod migrating;
+#[cfg(test)]
 mod work;

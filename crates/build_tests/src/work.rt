@@ -15,12 +15,14 @@ use std::fs::Files;
 use std::sync::Wait;
 use std::thread::Threads;
 
-/// What a build took: how many tiers were solved, how many reused, and the number of deliveries.
+/// What a build took: how many tiers were solved, how many reused and migrated, and the number of deliveries, of which some were by hand.
 #[derive(Clone, Copy, Debug, PartialEq, Eq)]
 pub(crate) struct Took {
     pub(crate) solved: usize,
     pub(crate) reused: usize,
+    pub(crate) migrated: usize,
     pub(crate) deliveries: u64,
+    pub(crate) by_hand: u64,
 }
 
 /// Builds a game over a store.
@@ -50,6 +52,8 @@ pub(crate) fn work<G: Game + Send + Sync, R: Threads + Wait + Files + Sync, S: S
     Ok(Took {
         solved: built.solved,
         reused: built.reused,
+        migrated: built.migrated,
         deliveries: built.deliveries,
+        by_hand: built.by_hand,
     })
 }

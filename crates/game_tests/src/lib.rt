@@ -8,6 +8,10 @@ mod nine_points;
 #[cfg(test)]
 mod plans;
 #[cfg(test)]
+mod records;
+#[cfg(test)]
 mod rings;
 #[cfg(test)]
 mod solving;
+#[cfg(test)]
+mod tactix_of_five;

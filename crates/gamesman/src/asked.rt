@@ -1,6 +1,9 @@
 //! What a line of words asks for.
 
 use crate::commands::gamesman;
+use crate::explore::PositionAsked;
+use crate::explorer::explore_of;
+use crate::tables::Kept;
 use clap::error::ErrorKind;
 use clap::{ArgMatches, Error};
 use gm_play::side::Side;
@@ -20,11 +23,15 @@ pub enum Asked<'a> {
     Query {
         game: &'a str,
         position: &'a str,
-        folder: Option<&'a str>,
+        kept: Kept<'a>,
+    },
+    Explore {
+        asked: PositionAsked<'a>,
+        kept: Kept<'a>,
     },
     Analyse {
         game: &'a str,
-        folder: Option<&'a str>,
+        kept: Kept<'a>,
     },
     Check {
         game: &'a str,
@@ -32,13 +39,13 @@ pub enum Asked<'a> {
     },
     Play {
         game: &'a str,
-        folder: Option<&'a str>,
+        kept: Kept<'a>,
         first: Side,
     },
     Help(Help),
 }
 
-/// A text of help.
+/// A text of help, or of the version.
 #[derive(Drop)]
 pub struct Help(Error);
 
@@ -54,6 +61,14 @@ impl fmt::Display for Help {
 pub enum Unread {
     BadLine,
     OutOfMemory,
+}
+
+// Where a line keeps its tables.
+fn kept_of<'a>(inner: &ArgMatches<'a>) -> Kept<'a> {
+    Kept {
+        folder: inner.get_str("folder"),
+        read_only: inner.get_flag("read-only"),
+    }
 }
 
 // The plan of a line of `solve`: its defaults and ranges are those of the command.
@@ -76,14 +91,14 @@ fn query_of<'a>(inner: &ArgMatches<'a>) -> Option<Asked<'a>> {
     Some(Asked::Query {
         game: inner.get_str("GAME")?,
         position: inner.get_str("POSITION")?,
-        folder: inner.get_str("folder"),
+        kept: kept_of(inner),
     })
 }
 
 fn analyse_of<'a>(inner: &ArgMatches<'a>) -> Option<Asked<'a>> {
     Some(Asked::Analyse {
         game: inner.get_str("GAME")?,
-        folder: inner.get_str("folder"),
+        kept: kept_of(inner),
     })
 }
 
@@ -102,7 +117,7 @@ fn play_of<'a>(inner: &ArgMatches<'a>) -> Option<Asked<'a>> {
     };
     Some(Asked::Play {
         game: inner.get_str("GAME")?,
-        folder: inner.get_str("folder"),
+        kept: kept_of(inner),
         first,
     })
 }
@@ -115,7 +130,11 @@ fn asked_of<'a>(matches: &ArgMatches<'a>) -> Option<Asked<'a>> {
         Some(("analyse", inner)) => analyse_of(inner),
         Some(("check", inner)) => check_of(inner),
         Some(("play", inner)) => play_of(inner),
-        _ => None,
+        Some((name, inner)) => Some(Asked::Explore {
+            asked: explore_of(name, inner)?,
+            kept: kept_of(inner),
+        }),
+        None => None,
     }
 }
 
@@ -128,7 +147,7 @@ pub fn read_words<'a>(alloc: Global, words: &'a [&'a str]) -> Result<Asked<'a>, 
     match matched(alloc, words) {
         Ok(matches) => asked_of(&matches).ok_or(Unread::BadLine),
         Err(error) => match error.kind() {
-            ErrorKind::DisplayHelp => Ok(Asked::Help(Help(error))),
+            ErrorKind::DisplayHelp | ErrorKind::DisplayVersion => Ok(Asked::Help(Help(error))),
             ErrorKind::OutOfMemory => Err(Unread::OutOfMemory),
             _ => Err(Unread::BadLine),
         },

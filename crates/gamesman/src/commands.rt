@@ -1,12 +1,15 @@
 //! The commands of the program, by clap, with what `--help` says of them.
 
+use crate::explorer::{line, moves};
 use clap::{Arg, ArgAction, Command, value_parser};
 use std::alloc::{AllocError, Global};
 
-const GAME: &str = "The name of a game, one of those that `gamesman list` prints";
+const VERSION: &str = "0.1.0";
 
-// A word that has to be there.
-fn word<'a>(alloc: Global, name: &'a str, help: &'a str) -> Arg<'a> {
+pub(crate) const GAME: &str = "The name of a game, one of those that `gamesman list` prints";
+
+/// A word that has to be there.
+pub(crate) fn word<'a>(alloc: Global, name: &'a str, help: &'a str) -> Arg<'a> {
     Arg::new(alloc, name)
         .required(true)
         .action(ArgAction::Set)
@@ -22,8 +25,8 @@ fn number<'a>(alloc: Global, name: &'a str, default: &'a str, most: i64, help: &
         .help(help)
 }
 
-// Where the tables are kept, if not in memory.
-fn folder<'a>(alloc: Global) -> Arg<'a> {
+/// Where the tables are kept, if not in memory.
+pub(crate) fn folder<'a>(alloc: Global) -> Arg<'a> {
     Arg::new(alloc, "folder").long("folder").help(
         "A folder for the tables, which are then kept and used again",
     )
@@ -62,6 +65,14 @@ fn solve<'a>(alloc: Global) -> Result<Command<'a>, AllocError> {
         .arg(piece)
 }
 
+/// Whether a folder is only read.
+pub(crate) fn read_only<'a>(alloc: Global) -> Arg<'a> {
+    Arg::new(alloc, "read-only")
+        .long("read-only")
+        .action(ArgAction::SetTrue)
+        .help("Reads the folder and writes nothing: each of its tables has to be there and right")
+}
+
 fn query<'a>(alloc: Global) -> Result<Command<'a>, AllocError> {
     Command::new(alloc, "query")
         .about("Answers the value of a position and the number of moves to the end")
@@ -71,16 +82,19 @@ fn query<'a>(alloc: Global) -> Result<Command<'a>, AllocError> {
             "POSITION",
             "The position, as `10` in countdown, `x...o....` in tictactoe or `dd.d......h d` in hare",
         ))?
-        .arg(folder(alloc))
+        .arg(folder(alloc))?
+        .arg(read_only(alloc))
 }
 
 fn analyse<'a>(alloc: Global) -> Result<Command<'a>, AllocError> {
     Command::new(alloc, "analyse")
+        .alias("analyze")?
         .about(
             "Counts the positions of a game by value and remoteness, one line of JSON for each tier",
         )
         .arg(word(alloc, "GAME", GAME))?
-        .arg(folder(alloc))
+        .arg(folder(alloc))?
+        .arg(read_only(alloc))
 }
 
 fn check<'a>(alloc: Global) -> Result<Command<'a>, AllocError> {
@@ -101,6 +115,7 @@ fn play<'a>(alloc: Global) -> Result<Command<'a>, AllocError> {
         )
         .arg(word(alloc, "GAME", GAME))?
         .arg(folder(alloc))?
+        .arg(read_only(alloc))?
         .arg(second)
 }
 
@@ -108,10 +123,13 @@ fn play<'a>(alloc: Global) -> Result<Command<'a>, AllocError> {
 pub fn gamesman<'a>(alloc: Global) -> Result<Command<'a>, AllocError> {
     Command::new(alloc, "gamesman")
         .about("Solves two-player games")
+        .version(VERSION)
         .subcommand_required(true)
         .subcommand(Command::new(alloc, "list").about("Lists the games"))?
         .subcommand(solve(alloc)?)?
         .subcommand(query(alloc)?)?
+        .subcommand(moves(alloc)?)?
+        .subcommand(line(alloc)?)?
         .subcommand(analyse(alloc)?)?
         .subcommand(check(alloc)?)?
         .subcommand(play(alloc)?)

@@ -18,10 +18,16 @@ pub enum Fault {
     OutOfMemory(#[from(alloc)] AllocError),
     #[error("{0}")]
     NotBuilt(#[from] BuildError),
+    /// The file of a tier is an intact one of another game, and stays.
+    #[error("tier {tier} is another game's")]
+    AnotherGames { tier: u64 },
     #[error("input failed")]
     InputFailed,
     #[error("output failed")]
     OutputFailed,
+    /// Nobody reads what is written: nothing more is said.
+    #[error("output closed")]
+    OutputClosed,
     #[error("too much input")]
     TooMuchInput,
 }

@@ -9,17 +9,19 @@ pub use gm_toys::countdown::Countdown;
 pub use gm_toys::wheel::Wheel;
 
 /// The names, in the order in which they are listed.
-pub const NAMES: [&str; 16] = [
+pub const NAMES: [&str; 18] = [
     "countdown",
     "wheel",
     "tactix-1",
     "tactix-2",
     "tactix-3",
     "tactix-4",
+    "tactix-5",
     "tactix-1-misere",
     "tactix-2-misere",
     "tactix-3-misere",
     "tactix-4-misere",
+    "tactix-5-misere",
     "tictactoe",
     "threemens",
     "achi",
@@ -38,10 +40,12 @@ macro_rules! with_game {
             "tactix-2" => $function::<$crate::games::TacTix<2, false>, $($parameter),*>($($argument),*),
             "tactix-3" => $function::<$crate::games::TacTix<3, false>, $($parameter),*>($($argument),*),
             "tactix-4" => $function::<$crate::games::TacTix<4, false>, $($parameter),*>($($argument),*),
+            "tactix-5" => $function::<$crate::games::TacTix<5, false>, $($parameter),*>($($argument),*),
             "tactix-1-misere" => $function::<$crate::games::TacTix<1, true>, $($parameter),*>($($argument),*),
             "tactix-2-misere" => $function::<$crate::games::TacTix<2, true>, $($parameter),*>($($argument),*),
             "tactix-3-misere" => $function::<$crate::games::TacTix<3, true>, $($parameter),*>($($argument),*),
             "tactix-4-misere" => $function::<$crate::games::TacTix<4, true>, $($parameter),*>($($argument),*),
+            "tactix-5-misere" => $function::<$crate::games::TacTix<5, true>, $($parameter),*>($($argument),*),
             "tictactoe" => $function::<$crate::games::TicTacToe, $($parameter),*>($($argument),*),
             "threemens" => $function::<$crate::games::ThreeMens, $($parameter),*>($($argument),*),
             "achi" => $function::<$crate::games::Achi, $($parameter),*>($($argument),*),

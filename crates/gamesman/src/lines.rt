@@ -4,9 +4,9 @@ use crate::said::{Said, says};
 use std::test::Fail;
 
 const LISTED: &[u8] =
-    b"countdown\nwheel\ntactix-1\ntactix-2\ntactix-3\ntactix-4\ntactix-1-misere\ntactix-2-misere\ntactix-3-misere\ntactix-4-misere\ntictactoe\nthreemens\nachi\nmutorere\ndao\nhare\n";
+    b"countdown\nwheel\ntactix-1\ntactix-2\ntactix-3\ntactix-4\ntactix-5\ntactix-1-misere\ntactix-2-misere\ntactix-3-misere\ntactix-4-misere\ntactix-5-misere\ntictactoe\nthreemens\nachi\nmutorere\ndao\nhare\n";
 
-const COUNTED: &[u8] =
+pub(crate) const COUNTED: &[u8] =
     b"{\"canonical\":11,\"counts\":[[\"lose\",0,1],[\"lose\",2,1],[\"lose\",4,1],[\"lose\",6,1],[\"win\",1,2],[\"win\",3,2],[\"win\",5,2],[\"win\",7,1]],\"game\":\"countdown\",\"legal\":11,\"longest_win\":[7,10],\"size\":11,\"tier\":0}\n";
 
 const NO_POSITION: Said<'_> = Said(REFUSED, b"", b"gamesman: no such position\n");

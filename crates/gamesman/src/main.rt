@@ -5,10 +5,16 @@ mod analyse;
 mod asked;
 mod check;
 mod commands;
+mod explore;
+mod explorer;
+#[cfg(test)]
+mod explores;
 mod fault;
 #[cfg(test)]
 mod folders;
 mod games;
+#[cfg(test)]
+mod guarded;
 #[cfg(test)]
 mod lines;
 mod play;

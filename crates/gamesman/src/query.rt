@@ -5,8 +5,7 @@ use crate::games::with_game;
 use crate::run::DONE;
 use crate::tables::Place;
 use gm_game::shown::Shown;
-use gm_game::text::value_text;
-use gm_play::answer::answer;
+use gm_play::texts::answer_text;
 use std::fs::Files;
 use std::io::Write;
 use std::sync::Wait;
@@ -29,11 +28,13 @@ fn query_game<G: Shown + Send + Sync, R: Threads + Wait + Files + Sync + AllocGl
     place: Place<'_>,
     output: &mut O,
 ) -> Result<u8, Fault> {
-    let p = G::read(position.as_bytes()).ok_or(Fault::NoSuchPosition)?;
+    if G::read(position.as_bytes()).is_none() {
+        return Err(Fault::NoSuchPosition);
+    }
     let built = place.build::<G, R>(rt)?;
     // Each legal position of the games of the program lies in a tier that their start reaches, so its table is held.
-    let solved = answer(&built.tables, p).map_err(|_| Fault::NoSuchPosition)?;
-    output.write_all(value_text(solved).as_slice())?;
+    let text = answer_text(&built.tables, position.as_bytes()).map_err(|_| Fault::NoSuchPosition)?;
+    output.write_all(text.as_slice())?;
     output.write_all(b"\n")?;
     Ok(DONE)
 }

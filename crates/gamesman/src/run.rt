@@ -3,12 +3,13 @@
 use crate::analyse::analyse;
 use crate::asked::{Asked, Unread, read_words};
 use crate::check::check;
+use crate::explore::explore;
 use crate::fault::Fault;
 use crate::games::NAMES;
 use crate::play::play;
 use crate::query::query;
 use crate::solve::solve;
-use crate::tables::Place;
+use crate::tables::{Kept, Place};
 use gm_solver::plan::Plan;
 use std::alloc::AllocError;
 use std::fs::Files;
@@ -33,9 +34,9 @@ fn list<O: Write>(output: &mut O) -> Result<u8, Fault> {
 }
 
 // The tables of lines that have no options for a plan.
-fn place(folder: Option<&str>) -> Place<'_> {
+fn place(kept: Kept<'_>) -> Place<'_> {
     let plan = Plan::new(4, 4, 64).unwrap();
-    Place { folder, plan }
+    Place { kept, plan }
 }
 
 fn answer<R: Threads + Wait + Files + Sync + AllocGlobal, I: Read, O: Write>(
@@ -50,15 +51,12 @@ fn answer<R: Threads + Wait + Files + Sync + AllocGlobal, I: Read, O: Write>(
         Asked::Query {
             game,
             position,
-            folder,
-        } => query(rt, game, position, place(folder), output),
-        Asked::Analyse { game, folder } => analyse(rt, game, place(folder), output),
+            kept,
+        } => query(rt, game, position, place(kept), output),
+        Asked::Explore { asked, kept } => explore(rt, asked, place(kept), output),
+        Asked::Analyse { game, kept } => analyse(rt, game, place(kept), output),
         Asked::Check { game, folder } => check(rt, game, folder, output),
-        Asked::Play {
-            game,
-            folder,
-            first,
-        } => play(rt, game, place(folder), first, input, output),
+        Asked::Play { game, kept, first } => play(rt, game, place(kept), first, input, output),
         Asked::Help(text) => {
             write!(output, "{text}")?;
             Ok(DONE)
@@ -68,7 +66,9 @@ fn answer<R: Threads + Wait + Files + Sync + AllocGlobal, I: Read, O: Write>(
 
 /// Says on standard error why a line was refused. This is the last that can be said: where it fails, the status still tells.
 pub fn refused<E: Write>(fault: &Fault, errors: &mut E) -> u8 {
-    let _ = writeln!(errors, "gamesman: {fault}");
+    if !matches!(fault, Fault::OutputClosed) {
+        let _ = writeln!(errors, "gamesman: {fault}");
+    }
     REFUSED
 }
 

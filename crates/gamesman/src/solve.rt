@@ -29,11 +29,11 @@ fn solve_game<G: Shown + Send + Sync, R: Threads + Wait + Files + Sync + AllocGl
     output: &mut O,
 ) -> Result<u8, Fault> {
     let built = build_in::<G, R>(rt, folder, plan)?;
-    let (solved, reused) = (built.solved, built.reused);
+    let (solved, reused, migrated) = (built.solved, built.reused, built.migrated);
     let (deliveries, by_hand) = (built.deliveries, built.by_hand);
     writeln!(
         output,
-        "solved {solved} reused {reused} deliveries {deliveries} by hand {by_hand}"
+        "solved {solved} reused {reused} migrated {migrated} deliveries {deliveries} by hand {by_hand}"
     )?;
     Ok(DONE)
 }

@@ -5,22 +5,32 @@ ghost use Rattle.gm_build.specs.Work.{HoldsExactly};
 
 use crate::fault::Fault;
 use gm_build::build::{Built, build};
+use gm_build::build_error::BuildError;
 use gm_game::game::Game;
 use gm_solver::gate::NoGate;
 use gm_solver::plan::Plan;
 use gm_solver::source::Counter;
 use gm_tierdb::folder_store::FolderStore;
 use gm_tierdb::mem_store::MemStore;
+use gm_tierdb::read_only::ReadOnly;
 use std::fs::Files;
 use std::string::String;
 use std::sync::Wait;
 use std::thread::Threads;
 
+/// Where the tables of a game are kept.
+#[derive(Clone, Copy)]
+pub struct Kept<'a> {
+    /// In memory where there is none.
+    pub folder: Option<&'a str>,
+    /// Whether the folder is only read.
+    pub read_only: bool,
+}
+
 /// Where the tables of a game are kept, and how they are made.
 #[derive(Clone, Copy)]
 pub struct Place<'a> {
-    /// In memory where there is none.
-    pub folder: Option<&'a str>,
+    pub kept: Kept<'a>,
     pub plan: Plan,
 }
 
@@ -33,7 +43,8 @@ impl Place<'_> {
         ensures order { IfOk result (λ built. IsTierOrder G.rules built.order) }
         ensures held { IfOk result (λ built. HoldsExactly built.tables built.order) }
     {
-        match self.folder {
+        match self.kept.folder {
+            Some(folder) if self.kept.read_only => build_read_only(rt, folder, self.plan),
             Some(folder) => build_in(rt, folder, self.plan),
             None => build_in_memory(rt, self.plan),
         }
@@ -51,6 +62,27 @@ pub fn build_in<G: Game + Send + Sync, R: Threads + Wait + Files + Sync + AllocG
 {
     let alloc = rt.alloc();
     let mut store = FolderStore::new(alloc, String::from_str(alloc, folder)?);
+    match build(rt, alloc, &mut store, plan, &NoGate, &Counter::new()) {
+        Ok(built) => Ok(built),
+        Err(BuildError::StoreFailed { tier }) if store.met_another() => {
+            Err(Fault::AnotherGames { tier })
+        }
+        Err(error) => Err(Fault::NotBuilt(error)),
+    }
+}
+
+// Builds a game over a folder that is only read.
+fn build_read_only<G: Game + Send + Sync, R: Threads + Wait + Files + Sync + AllocGlobal>(
+    rt: &R,
+    folder: &str,
+    plan: Plan,
+) -> Result<Built<G>, Fault>
+    ensures order { IfOk result (λ built. IsTierOrder G.rules built.order) }
+    ensures held { IfOk result (λ built. HoldsExactly built.tables built.order) }
+{
+    let alloc = rt.alloc();
+    let folder = FolderStore::new(alloc, String::from_str(alloc, folder)?);
+    let mut store = ReadOnly::new(folder);
     Ok(build(rt, alloc, &mut store, plan, &NoGate, &Counter::new())?)
 }
 

@@ -1,7 +1,7 @@
 -- Numbers of indexes with one index more.
-use Rattle.std.proofs.Common.{◌≡◌, ℕ, zero, suc, ◌<◌, ◌≤◌, ◌+◌, ◌==◌, Bool, true, false, if◌then◌else◌, List, set, replicate, length, get_or, refl, sym, ap, ◌∙◌, subst, arith, inl, inr, Option, None, Some, eq-eqb, ne_eqb}
-use Rattle.std.proofs.lemmas.Bool.{cases_eq, cases_lt}
-use Rattle.std.proofs.lemmas.List.{get_or-set_same, get_or-set_other, get_or-replicate, get_or_past, length-replicate}
+use Rattle.std.proofs.Common.{◌≡◌, ℕ, zero, suc, ◌<◌, ◌≤◌, ◌+◌, ◌==◌, Bool, true, false, if◌then◌else◌, List, set, length, get_or, refl, sym, ap, ◌∙◌, subst, arith, inl, inr, Option, None, Some, eq-eqb, ne_eqb}
+use Rattle.std.proofs.lemmas.Bool.{cases_eq}
+use Rattle.std.proofs.lemmas.List.{get_or-set_same, get_or-set_other}
 use Rattle.std.proofs.lemmas.Option.{same_Some}
 use Rattle.gm_game.specs.declared.position.Position.{Position}
 use Rattle.gm_game.specs.declared.position.Solved.{Solved}
@@ -64,8 +64,3 @@ module _ (records : List (Option Solved)) (v : Value) (i : ℕ) where
   -- one more has another value, or none
   pub numbers_without : (xs : List ℕ) → None ≡ Here → ((n : ℕ) → get_or xs n 0 ≡ number_in records i v n) → (n : ℕ) → get_or xs n 0 ≡ number_in records (i + 1) v n
   numbers_without xs e h n = h n ∙ sym (number_more None n e)
-
--- a list of zeros
-pub zeros : (m n z : ℕ) → get_or (replicate m z) n z ≡ z
-zeros m n z =
-    elim (cases_lt n m) [ inl l ↦ get_or-replicate m n z z l | inr l ↦ get_or_past (replicate m z) n z (let e = length-replicate m z in omega arith) ]

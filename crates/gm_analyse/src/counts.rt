@@ -1,5 +1,5 @@
 //! How many positions have each value and remoteness.
-ghost use Rattle.std.specs.Prelude.{◌≡◌, ◌+◌, ◌≤◌, ℕ, length, slice_index_or, vec_len, IfOk, OnOk};
+ghost use Rattle.std.specs.Prelude.{◌≡◌, ◌+◌, ◌<◌, ◌≤◌, ℕ, max, length, slice_index_or, vec_len, IfOk, OnOk};
 ghost use Rattle.gm_analyse.specs.Numbers.{remoteness_in as remoteness_in_spec, number_in, rank};
 ghost use Rattle.gm_analyse.specs.Listing.{AreCounts, AreCountsBefore};
 
@@ -75,23 +75,37 @@ fn add_counts<G: Game>(
     Ok(())
 }
 
-// How many records have this value, for each remoteness within the limit.
+// How many records have this value, for each remoteness up to the greatest.
 fn numbers_of<G: Game>(
     alloc: Global,
     table: &Table<G>,
     value: Value,
 ) -> Result<Vec<u64>, AllocError>
-    ensures few { IfOk result (λ numbers. vec_len numbers ≡ REMOTENESS + 1) }
+    ensures few { IfOk result (λ numbers. vec_len numbers ≤ REMOTENESS + 1) }
     ensures numbers { IfOk result (λ numbers. (n : ℕ)
         → slice_index_or numbers.items n 0 ≡ number_in table.now.records (length table.now.records) value n) }
 {
-    let mut numbers = vec![in alloc; 0u64; REMOTENESS as usize + 1]?;
+    let mut numbers = Vec::new(alloc);
     for index in 0..table.size() {
         if let Some(remoteness) = remoteness_in(value, table.at(index)) {
-            numbers[remoteness as usize] += 1;
+            let level = remoteness as usize;
+            grow(&mut numbers, level)?;
+            numbers[level] += 1;
         }
     }
     Ok(numbers)
+}
+
+// Adds zeros until there is a number at this level.
+fn grow(numbers: &mut Vec<u64>, level: usize) -> Result<(), AllocError>
+    ensures room { OnOk result (level < vec_len numbers.new) }
+    ensures few { OnOk result (vec_len numbers.new ≤ max (vec_len numbers.old) (level + 1)) }
+    ensures same { OnOk result ((n : ℕ) → slice_index_or numbers.new.items n 0 ≡ slice_index_or numbers.old.items n 0) }
+{
+    while numbers.len() <= level {
+        numbers.push(0)?;
+    }
+    Ok(())
 }
 
 /// The remoteness of a record of this value.

@@ -6,12 +6,39 @@ use Rattle.gm_game.specs.Rules.{Rules}
 use Rattle.gm_table.specs.Tables.{TableData, IsTable, table_of, Inserts, IsHeld}
 use Rattle.gm_tierdb.specs.TierText.{IsTierText}
 use Rattle.gm_tierdb.specs.StoreTexts.{Texts, AreSameBut}
-use Rattle.gm_build.specs.TrueTexts.{IsTrueText, HasText, HaveTexts, KeepsOthers}
+use Rattle.gm_build.specs.TrueTexts.{IsTrueText, IsOldText, HasText, HasOldText, HaveTexts, KeepsOthers}
+use Rattle.gm_build.specs.declared.found.Found.{Found}
+use Rattle.gm_build.specs.declared.found.Found.TheVariants.{Current, Old, Nothing}
+use Rattle.gm_build.specs.Steps.{IsFound, IsFoundIn}
 use Rattle.gm_build.specs.Work.{HoldsExactly, HoldsToo}
 
 -- an entry that stays the same stays the text of the true table
 pub text_kept : (r : Rules) (old new : Texts) (tier : ℕ) → new tier ≡ old tier → HasText r old tier → HasText r new tier
 text_kept r old new tier e h = record { bytes = h.bytes; entry = e ∙ h.entry; is_true = h.is_true }
+
+pub old_kept : (r : Rules) (old new : Texts) (tier : ℕ) → new tier ≡ old tier → HasOldText r old tier → HasOldText r new tier
+old_kept r old new tier e h = record { bytes = h.bytes; entry = e ∙ h.entry; is_true = h.is_true }
+
+-- what a text is, the entry is that has it
+one_entry : (texts : Texts) (tier : ℕ) (bytes others : List ℕ) → texts tier ≡ Some bytes → texts tier ≡ Some others → others ≡ bytes
+one_entry texts tier bytes others e f = let same : Some others ≡ Some bytes = sym f ∙ e in cc
+
+has_text : (r : Rules) (texts : Texts) (tier : ℕ) (bytes : List ℕ) → texts tier ≡ Some bytes → HasText r texts tier ↔ IsTrueText r tier bytes
+has_text r texts tier bytes e = (
+  λ h. subst (IsTrueText r tier) (one_entry texts tier bytes h.bytes e h.entry) h.is_true,
+  λ is. record { bytes = bytes; entry = e; is_true = is },
+)
+
+has_old_text : (r : Rules) (texts : Texts) (tier : ℕ) (bytes : List ℕ) → texts tier ≡ Some bytes → HasOldText r texts tier ↔ IsOldText r tier bytes
+has_old_text r texts tier bytes e = (
+  λ h. subst (IsOldText r tier) (one_entry texts tier bytes h.bytes e h.entry) h.is_true,
+  λ is. record { bytes = bytes; entry = e; is_true = is },
+)
+
+pub found_in : {G : Type 0} → (r : Rules) (texts : Texts) (tier : ℕ) (bytes : List ℕ) → texts tier ≡ Some bytes → (found : Found G) → IsFound r tier bytes found → IsFoundIn r texts tier found
+found_in r texts tier bytes e (Current table) is = ((has_text r texts tier bytes e).1 is.0, λ h. is.1 ((has_old_text r texts tier bytes e).0 h))
+found_in r texts tier bytes e (Old table) is = ((has_old_text r texts tier bytes e).1 is.0, λ h. is.1 ((has_text r texts tier bytes e).0 h))
+found_in r texts tier bytes e Nothing is = (λ h. is.0 ((has_text r texts tier bytes e).0 h), λ h. is.1 ((has_old_text r texts tier bytes e).0 h))
 
 -- the text of a table that is written is that of the true table of its tier
 pub text_written : (r : Rules) (new : Texts) (table : TableData) (tier : ℕ) (file bytes : List ℕ) → IsTable r table → table.tier ≡ tier → IsTierText r table.tier table.records file → bytes ≡ file → new tier ≡ Some bytes → HasText r new tier
@@ -24,6 +51,10 @@ module _ (r : Rules) (front : List ℕ) (tier : ℕ) (fresh : Contains front tie
   pub text_as_before : (start old : Texts) → KeepsOthers front start old → HasText r start tier ↔ HasText r old tier
   text_as_before start old others =
       let e : old tier ≡ start tier = others tier fresh in (λ h. text_kept r start old tier e h, λ h. text_kept r old start tier (sym e) h)
+
+  pub old_as_before : (start old : Texts) → KeepsOthers front start old → HasOldText r start tier ↔ HasOldText r old tier
+  old_as_before start old others =
+      let e : old tier ≡ start tier = others tier fresh in (λ h. old_kept r start old tier e h, λ h. old_kept r old start tier (sym e) h)
 
   not_here : (t : ℕ) → Contains front t → t ≢ tier
   not_here t i e = fresh (subst (Contains front) e i)

@@ -1,3 +1,4 @@
 pub mod TrueTexts
 pub mod Work
 pub mod Outcomes
+pub mod Steps

@@ -7,24 +7,32 @@ use Rattle.gm_game.specs.Numbers.{AreThere}
 use Rattle.gm_table.specs.Tables.{TableData, IsHeld}
 use Rattle.gm_solver.specs.Solving.{IsDelivery}
 
+-- neither reused nor migrated, and so solved
+abbrev pub IsSolvedTier : (ℕ → Type 0) → (ℕ → Type 0) → ℕ → Type 0
+IsSolvedTier IsReused IsMigrated tier = (IsReused tier → ⊥) × (IsMigrated tier → ⊥)
+
 -- a pair of one of the tiers that was solved, whose child is no draw
-pub record IsSolvedDelivery (r : Rules) (tiers : List ℕ) (IsReused : ℕ → Type 0) (d : ℕ × (Position × ℕ)) : Type 0 where
+pub record IsSolvedDelivery (r : Rules) (tiers : List ℕ) (IsSolved : ℕ → Type 0) (d : ℕ × (Position × ℕ)) : Type 0 where
   pub there : Contains tiers d.0
-  pub solved : IsReused d.0 → ⊥
+  pub solved : IsSolved d.0
   pub delivery : IsDelivery r d.0 d.1
 
--- some of the tiers were reused and all others solved: how many of each, how many deliveries that took, and that no more of them were by hand
-pub record IsWorkOn (r : Rules) (tiers : List ℕ) (IsReused : ℕ → Type 0) (solved reused deliveries by_hand : ℕ) : Type 0 where
-  pub those_solved : AreThere solved (λ tier. Contains tiers tier × (IsReused tier → ⊥))
+-- some of the tiers were reused, some migrated, and all others solved: how many of each, how many deliveries that took, and that no more of them were by hand
+pub record IsWorkOn (r : Rules) (tiers : List ℕ) (IsReused IsMigrated : ℕ → Type 0) (solved reused migrated deliveries by_hand : ℕ) : Type 0 where
+  pub those_solved : AreThere solved (λ tier. Contains tiers tier × IsSolvedTier IsReused IsMigrated tier)
   pub those_reused : AreThere reused (λ tier. Contains tiers tier × IsReused tier)
-  pub those_delivered : AreThere deliveries (IsSolvedDelivery r tiers IsReused)
+  pub those_migrated : AreThere migrated (λ tier. Contains tiers tier × IsMigrated tier)
+  pub those_delivered : AreThere deliveries (IsSolvedDelivery r tiers (IsSolvedTier IsReused IsMigrated))
   pub few_by_hand : by_hand ≤ deliveries
 
--- the same, whichever of them were reused
-pub record IsSomeWork (r : Rules) (tiers : List ℕ) (solved reused deliveries by_hand : ℕ) : Type 0 where
+-- the same, whichever of them were reused and migrated, none both
+pub record IsSomeWork (r : Rules) (tiers : List ℕ) (solved reused migrated deliveries by_hand : ℕ) : Type 0 where
   pub reused_tiers : List ℕ
+  pub migrated_tiers : List ℕ
   pub among : (tier : ℕ) → Contains reused_tiers tier → Contains tiers tier
-  pub work : IsWorkOn r tiers (Contains reused_tiers) solved reused deliveries by_hand
+  pub among_too : (tier : ℕ) → Contains migrated_tiers tier → Contains tiers tier
+  pub apart : (tier : ℕ) → Contains reused_tiers tier → Contains migrated_tiers tier → ⊥
+  pub work : IsWorkOn r tiers (Contains reused_tiers) (Contains migrated_tiers) solved reused migrated deliveries by_hand
 
 -- exactly these tiers have a table
 abbrev pub HoldsExactly : List TableData → List ℕ → Type 0

@@ -2,12 +2,12 @@
 ghost use Rattle.std.specs.Prelude.{◌≡◌, ◌+◌, ◌<◌, IsTrue, IfOk, IfErr};
 ghost use Rattle.gm_table.specs.Tables.{AreTables};
 ghost use Rattle.gm_tiers.specs.Orders.{IsTierOrder};
-ghost use Rattle.gm_build.specs.TrueTexts.{HasText, HaveTexts, KeepsOthers};
+ghost use Rattle.gm_build.specs.TrueTexts.{HasText, HasOldText, HaveTexts, KeepsOthers};
 ghost use Rattle.gm_build.specs.Work.{IsWorkOn, IsSomeWork, HoldsExactly};
 ghost use Rattle.gm_build.specs.Outcomes.{failures_in, IsBuildError, IsStopped};
 
 use crate::build_error::BuildError;
-use crate::tier::build_tier;
+use crate::tier::{Step, build_tier};
 use gm_game::game::{Game, laws};
 use gm_solver::gate::Gate;
 use gm_solver::plan::Plan;
@@ -31,6 +31,8 @@ pub struct Built<G: Game> {
     pub solved: usize,
     /// How many of them were reused: the store had the text of their true table.
     pub reused: usize,
+    /// How many of them were migrated: the store had the text of their true table in version 1, and has the new one.
+    pub migrated: usize,
     /// The number of deliveries of the tiers that were solved, the same whatever the workers did.
     pub deliveries: u64,
     /// How many of them the coordinator did itself.
@@ -38,7 +40,8 @@ pub struct Built<G: Game> {
 }
 
 /// Builds a game: the true table of each tier that it reaches, child tiers first. The order of tiers is made before the first read. Then each tier is read once: a text that is
-/// decoded and checked is reused and not written; with any other, or with none, the tier is solved and its text written once.
+/// decoded and checked is reused and not written; one of version 1 that is, is migrated: the tier's text is written once; with any other, or with none, the tier is solved
+/// and its text written once.
 ///
 /// Neither the tables nor the texts nor the number of deliveries depend on the plan, the gate or the source. A store that does not keep its map, as a folder, is promised
 /// nothing of its texts: the tables are true all the same. The store's count of failures rises exactly where the answer is `StoreFailed`.
@@ -56,12 +59,12 @@ pub fn build<G: Game + Send + Sync, R: Threads + Wait + Files + Sync, S: Store, 
     ensures order { IfOk result (λ built. IsTierOrder G.rules built.order) }
     ensures held { IfOk result (λ built. HoldsExactly built.tables built.order) }
     ensures tables { IfOk result (λ built. AreTables G.rules built.tables) }
-    ensures some_work { IfOk result (λ built. IsSomeWork G.rules built.order built.solved built.reused built.deliveries built.by_hand) }
+    ensures some_work { IfOk result (λ built. IsSomeWork G.rules built.order built.solved built.reused built.migrated built.deliveries built.by_hand) }
 
-    // A store that keeps its map then has the texts of their tables and nothing else has changed, and those that were reused are those whose text it had.
+    // A store that keeps its map then has the texts of their tables and nothing else has changed, and those that were reused or migrated are those whose text it had.
     ensures texts { IsTrue S.KEEPS → IfOk result (λ built. HaveTexts G.rules (S.texts store.new) built.order) }
     ensures others { IsTrue S.KEEPS → IfOk result (λ built. KeepsOthers built.order (S.texts store.old) (S.texts store.new)) }
-    ensures work { IsTrue S.KEEPS → IfOk result (λ built. IsWorkOn G.rules built.order (HasText G.rules (S.texts store.old)) built.solved built.reused built.deliveries built.by_hand) }
+    ensures work { IsTrue S.KEEPS → IfOk result (λ built. IsWorkOn G.rules built.order (HasText G.rules (S.texts store.old)) (HasOldText G.rules (S.texts store.old)) built.solved built.reused built.migrated built.deliveries built.by_hand) }
 
     // Why it is not built, and what the store has then.
     ensures error { IfErr result (IsBuildError G.rules) }
@@ -72,14 +75,16 @@ pub fn build<G: Game + Send + Sync, R: Threads + Wait + Files + Sync, S: Store, 
     let mut tables = Tables::new(alloc);
     let mut solved = 0;
     let mut reused = 0;
+    let mut migrated = 0;
     let mut deliveries = 0;
     let mut by_hand = 0;
     // By the laws of the game the sum of the deliveries fits.
     laws::<G>();
     for tier in order.tiers() {
         match build_tier(rt, alloc, *tier, &mut tables, store, plan, gate, source)? {
-            None => reused += 1,
-            Some(report) => {
+            Step::Reused => reused += 1,
+            Step::Migrated => migrated += 1,
+            Step::Solved(report) => {
                 solved += 1;
                 deliveries += report.deliveries;
                 by_hand += report.by_hand;
@@ -93,6 +98,7 @@ pub fn build<G: Game + Send + Sync, R: Threads + Wait + Files + Sync, S: Store, 
         order,
         solved,
         reused,
+        migrated,
         deliveries,
         by_hand,
     })

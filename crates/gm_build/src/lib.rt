@@ -5,4 +5,5 @@
 
 pub mod build;
 pub mod build_error;
+mod found;
 mod tier;

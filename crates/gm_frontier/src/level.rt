@@ -125,10 +125,11 @@ impl<'a, G: Game> Level<'a, G> {
         self.len().div_ceil(n)
     }
 
-    /// For each note of a piece, in order, each of its parents in the tier from `lo` up to `hi`, ascending. A piece past the last has none.
+    /// For each note of a piece, in order, each of its parents in the tier from `lo` up to `hi`, ascending. A piece past the last has none. Where the first piece has all notes, its pairs don't depend on `n`.
     pub fn pairs<'b>(&'b self, piece: usize, n: usize, lo: u64, hi: u64) -> Pairs<'b, G>
         requires { 0 < n }
-        ensures { result ≡ pairs_of G.rules self.now.place.tier lo hi (piece_of piece n self.now.notes) }
+        ensures value { result ≡ pairs_of G.rules self.now.place.tier lo hi (piece_of piece n self.now.notes) }
+        ensures whole { piece ≡ 0 → length self.now.notes ≤ n → result ≡ pairs_of G.rules self.now.place.tier lo hi self.now.notes }
     {
         let len = self.len();
         let from = piece.saturating_mul(n).min(len);

@@ -16,7 +16,7 @@ pub const TIER_SIZE: u64 = 16_777_216;
 pub const TIERS: usize = 1024;
 
 /// The greatest remoteness of a record.
-pub const REMOTENESS: u32 = 4095;
+pub const REMOTENESS: u32 = 1_048_575;
 
 /// The bytes of a game's name, padded with zeros.
 pub const NAME: usize = 16;

@@ -2,6 +2,11 @@ pub mod Choosing
 pub mod Wanted
 pub mod Keeping
 pub mod Held
+pub mod Lowering
+pub mod Ranking
+pub mod Walking
+pub mod Choices
+pub mod Rows
 pub mod Promise
 pub mod Playing
 pub mod Parts

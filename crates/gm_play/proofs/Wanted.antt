@@ -97,6 +97,9 @@ some_true : (r : Rules) (d : Position) (o : Option Solved) → IsSome o → IfSo
 some_true r d None is h = absurd (cc)
 some_true r d (Some s) is h = (s, h)
 
+pub own_known : (r : Rules) → IsGame r → (entries : List TableData) → AreTables r entries → (p : Position) → r.is_legal p ≡ true → IsHeld entries p.tier → (s : Solved) × IsTrueValue r p s
+own_known r g entries tables p legal own = some_true r p (value_in r entries p) ((value_known r g entries p tables).1 (legal, own)) (value_true r g entries p tables)
+
 pub children_known : (r : Rules) → IsGame r → (entries : List TableData) → AreTables r entries → (p : Position) → r.is_legal p ≡ true → IsHeld entries p.tier → AreHeld r entries p.tier → (d : Position) → IsChild r p d → (s : Solved) × IsTrueValue r d s
 children_known r g entries tables p legal own held d is =
     let (m, has, e) = map_in (r.play p) (r.moves p) d is in

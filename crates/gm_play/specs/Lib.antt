@@ -1,8 +1,12 @@
 pub mod Refusals
 pub mod BestMoves
+pub mod MoveValues
 pub mod Sides
 pub mod Reached
 pub mod Lines
+pub mod Firsts
+pub mod BestLines
+pub mod PlayTexts
 pub mod Dialogue
 pub mod Sessions
 pub mod Courses

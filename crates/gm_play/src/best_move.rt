@@ -74,8 +74,8 @@ fn consider<G: Game>(
     Some(better(value, best, Choice { number, remoteness }))
 }
 
-// The value to which the best move of a position with this one goes.
-fn wanted(value: Value) -> Value
+/// The value to which the best move of a position with this one goes.
+pub(crate) fn wanted(value: Value) -> Value
     ensures { result ≡ wanted_from value }
 {
     match value {

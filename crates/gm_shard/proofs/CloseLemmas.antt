@@ -1,9 +1,10 @@
 -- A level is whole exactly where as many pairs are delivered as there are.
-use Rattle.std.proofs.Common.{◌≡◌, ◌≢◌, ℕ, zero, suc, ◌+◌, ◌-◌, ◌<◌, ◌≤◌, ◌⊎◌, inl, inr, true, List, [], ◌∷◌, ◌++◌, length, get_or, map, refl, ap, sym, subst, ◌∙◌, arith, Some, Option, Ok, Err, sum_by, AllPairs}
+use Rattle.std.proofs.Common.{◌≡◌, ◌≢◌, ℕ, zero, suc, ◌+◌, ◌-◌, ◌*◌, ◌<◌, ◌≤◌, ◌⊎◌, inl, inr, true, List, [], ◌∷◌, ◌++◌, length, get_or, map, refl, ap, sym, subst, arith, Some, Option, Result, Ok, Err, sum_by, AllPairs}
+use Rattle.std.specs.Result.{IsOk}
 use Rattle.std.specs.List.{Contains}
 use Rattle.std.proofs.lemmas.List.{length-map, length-append}
 use Rattle.std.proofs.lemmas.List.Sums.{sum_by-cons}
-use Rattle.gm_game.specs.declared.limits.TheConstants.{REMOTENESS}
+use Rattle.gm_game.specs.declared.limits.TheConstants.{REMOTENESS, MOVES, TIER_SIZE}
 use Rattle.gm_game.specs.declared.position.Position.{Position}
 use Rattle.gm_game.specs.declared.position.Phase.{Phase}
 use Rattle.gm_game.specs.declared.position.Phase.TheVariants.{WinLose, Ties}
@@ -16,12 +17,17 @@ use Rattle.gm_game.proofs.Lists.{contains_none, contains_first, contains_later, 
 use Rattle.gm_game.proofs.Counts.{HasNoRepeats, all_there, no_longer}
 use Rattle.gm_game.proofs.SetLemmas.{before_itself, all_there as fact_there}
 use Rattle.gm_game.proofs.Symmetry.{near_child}
-use Rattle.gm_frontier.specs.Counts.{ExpectedData, IsExpected, IsPairInto, Follows}
+use Rattle.gm_frontier.specs.Counts.{ExpectedData, IsExpected, IsPairInto, IsNumberBefore, Follows}
+use Rattle.gm_frontier.proofs.Distinct.{no_repeats_to}
+use Rattle.gm_frontier.proofs.ForGame.{stands_now}
+use Rattle.gm_shard.specs.declared.status.Short.{Short}
 use Rattle.gm_shard.specs.declared.status.Status.{Status}
-use Rattle.gm_shard.specs.State.{ShardState, IsInRange, delivered_to}
-use Rattle.gm_shard.specs.Good.{IsKept}
+use Rattle.gm_shard.specs.State.{ShardState, IsInRange, delivered_to, pairs_in}
+use Rattle.gm_shard.specs.Good.{IsGood, IsKept}
 use Rattle.gm_shard.specs.Steps.{IsFor, IsWhole, place_of, next_level, first_ties, CanTurn}
 use Rattle.gm_shard.specs.Closing.{Closes}
+use Rattle.gm_shard.proofs.MaskList.{sum_small}
+use Rattle.gm_shard.proofs.GoodLemmas.{good_from}
 
 -- lists joined
 pub append_cases : {X : Type 0} (xs ys : List X) (x : X) → Contains (xs ++ ys) x → Contains xs x ⊎ Contains ys x
@@ -147,7 +153,8 @@ from_here r tier here ph n c (inr (p, l, w, last)) s =
 pub near_of_pair : (r : Rules) → IsGame r → (tier i : ℕ) (c : Position) → IsParent r c tier i → IsNear r tier c
 near_of_pair r g tier i c p = near_child r g tier (at tier i) c refl p.0.legal p.1
 
-module _ {r : Rules} (g : IsGame r) {s : ShardState} {statuses : List Status} {left : List ℕ} {count : ℕ} (t : IsKept r s statuses left count) {e : ExpectedData} (x : IsExpected r e) (f : IsFor e s) where
+-- a good shard, and a count for it that has the present level
+module _ {r : Rules} (g : IsGame r) {s : ShardState} (t : IsGood r s) {e : ExpectedData} (x : IsExpected r e) (f : IsFor e s) where
   follows : Follows r s.tier (Some (place_of s)) e.phase e.level
   follows = subst (λ (u : ℕ). Follows r u (Some (place_of s)) e.phase e.level) f.tier (subst (λ (o : Option Place). Follows r e.tier o e.phase e.level) f.last x.next)
 
@@ -169,13 +176,13 @@ module _ {r : Rules} (g : IsGame r) {s : ShardState} {statuses : List Status} {l
   unfolding theirs
   all_once = no_repeats_from x.number.0 x.number.2.once
 
-  ours_is : length ours ≡ count
+  ours_is : length ours ≡ pairs_in s
   unfolding ours
-  ours_is = length-pairs s.lo s.delivered ∙ sym t.number
+  ours_is = length-pairs s.lo s.delivered
 
   ours_once : HasNoRepeats ours
   unfolding ours
-  ours_once = no_repeats_pairs s.lo s.delivered (λ j l. subst (λ (k : ℕ). AreAscending (get_or s.delivered k [])) (let z : s.lo + j - s.lo ≡ j = omega arith in z) (t.shard.once (s.lo + j) (omega arith, omega arith)))
+  ours_once = no_repeats_pairs s.lo s.delivered (λ j l. subst (λ (k : ℕ). AreAscending (get_or s.delivered k [])) (let z : s.lo + j - s.lo ≡ j = omega arith in z) (t.once (s.lo + j) (omega arith, omega arith)))
 
   ours_in : (p : Position × ℕ) → Contains ours p → IsInRange s p.1 × Contains (delivered_to s p.1) p.0
   unfolding ours
@@ -216,11 +223,11 @@ module _ {r : Rules} (g : IsGame r) {s : ShardState} {statuses : List Status} {l
   within : (p : Position × ℕ) → Contains ours p → Contains theirs p
   within p h =
       let k = ours_in p h in
-      let q = t.shard.pairs p.1 p.0 k.0 k.1 in
+      let q = t.pairs p.1 p.0 k.0 k.1 in
       put p.1 p.0 k.0 q.0 q.1
 
   -- as many as there are: all of them
-  pub whole_from : e.number ≤ count → IsWhole r s
+  pub whole_from : e.number ≤ pairs_in s → IsWhole r s
   whole_from l i c m p b =
       let a = all_is in
       let o = ours_is in
@@ -228,7 +235,7 @@ module _ {r : Rules} (g : IsGame r) {s : ShardState} {statuses : List Status} {l
       (ours_in (c, i) h).1
 
   -- fewer: one is not there
-  pub not_whole : count < e.number → IsWhole r s → ⊥
+  pub not_whole : pairs_in s < e.number → IsWhole r s → ⊥
   not_whole l w =
       let a = all_is in
       let o = ours_is in
@@ -275,16 +282,60 @@ kept_ties r g s statuses left count t last is turn = record {
     is_last : IsLastLevel r s.tier WinLose s.level
     is_last = subst (λ (ph : Phase). IsLastLevel r s.tier ph s.level) turn.phase (subst (λ (p : Place). IsLastLevel r p.tier p.phase p.level) turn.stands is)
 
+-- the number of pairs is small
+pub few_there : (r : Rules) (s : ShardState) (statuses : List Status) (left : List ℕ) (count : ℕ) → IsKept r s statuses left count → pairs_in s ≤ MOVES * TIER_SIZE
+few_there r s statuses left count t =
+    let m = sum_small MOVES s.delivered (λ k l. subst (λ (j : ℕ). length (get_or s.delivered j []) ≤ MOVES) (let e : s.lo + k - s.lo ≡ k = omega arith in e) (t.short (s.lo + k) (omega arith, omega arith))) in
+    let f = t.few in
+    omega arith
+
+-- where as many pairs are there as the count says, a close is not short
+pub closes_reached : (r : Rules) (e : ExpectedData) (s t : ShardState) (answer : Result (Unit {0}) Short) → Closes r e s t answer → e.number ≤ pairs_in s → IsOk answer
+closes_reached r e s t (Ok done) h l = refl
+closes_reached r e s t (Err short) h l = absurd (let a = h.2 in let b = h.3 in let c = h.4 in omega arith)
+
+-- where no child at the present place is there, the pairs are all those whose child stands before it
+module _ {r : Rules} {s : ShardState} (t : IsGood r s) (none : (i : ℕ) (c : Position) → IsInRange s i → Contains (delivered_to s i) c → StandsAt r s.phase s.level c → ⊥) where
+  before_has : (p : Position × ℕ) → IsPairInto r s.tier s.lo (s.lo + length s.delivered) p.0 p.1 × StandsBefore r s.phase s.level p.0 → Contains (pairs_from s.lo s.delivered) p
+  before_has p k =
+      let low = k.0.low in
+      let high = k.0.high in
+      let z : s.lo + (p.1 - s.lo) ≡ p.1 = omega arith in
+      let here = t.whole p.1 p.0 (low, high) k.0.is_parent k.1 in
+      subst (λ (i : ℕ). Contains (pairs_from s.lo s.delivered) (p.0, i)) z (pair_there s.lo s.delivered (p.1 - s.lo) p.0 (omega arith) here)
+
+  before_is : (p : Position × ℕ) → Contains (pairs_from s.lo s.delivered) p → IsPairInto r s.tier s.lo (s.lo + length s.delivered) p.0 p.1 × StandsBefore r s.phase s.level p.0
+  before_is p h =
+      let (j, k, l, q) = pair_from s.lo s.delivered p h in
+      let z : j ≡ p.1 - s.lo = omega arith in
+      let m : IsInRange s p.1 = (omega arith, omega arith) in
+      let there : Contains (delivered_to s p.1) p.0 = subst (λ (i : ℕ). Contains (get_or s.delivered i []) p.0) z q in
+      let pair = t.pairs p.1 p.0 m there in (
+        record { low = m.0; high = m.1; is_parent = pair.0 },
+        elim (stands_now r s.phase s.level p.0 pair.1) [ inl b ↦ b | inr a ↦ absurd (none p.1 p.0 m there a) ],
+      )
+
+  pub number_before : IsNumberBefore r s.tier s.lo (s.lo + length s.delivered) s.phase s.level (pairs_in s)
+  number_before = (
+    pairs_from s.lo s.delivered,
+    length-pairs s.lo s.delivered,
+    record {
+      each = λ (p : Position × ℕ). (before_has p, before_is p);
+      once = no_repeats_to (pairs_from s.lo s.delivered)
+          (no_repeats_pairs s.lo s.delivered (λ j l. subst (λ (k : ℕ). AreAscending (get_or s.delivered k [])) (let z : s.lo + j - s.lo ≡ j = omega arith in z) (t.once (s.lo + j) (omega arith, omega arith))));
+    },
+  )
+
 -- what a close answers
 pub out_short : (r : Rules) → IsGame r → (s : ShardState) (statuses : List Status) (left : List ℕ) (count : ℕ) → IsKept r s statuses left count → (e : ExpectedData) → IsExpected r e
     → (u : ShardState) → s ≡ u → IsFor e u → (n : ℕ) → n ≡ e.number → count < n → Closes r e u u (Err (record { delivered = count; expected = n }))
 out_short r g s statuses left count t e x u same f n is l =
     subst (λ (u : ShardState). IsFor e u → Closes r e u u (Err (record { delivered = count; expected = n }))) same
-    (λ f. (refl, not_whole g t x f (omega arith), t.number, is, l)) f
+    (λ f. (refl, not_whole g (good_from g t.shard) x f (let k = t.number in omega arith), t.number, is, l)) f
 
 pub whole_there : (r : Rules) → IsGame r → (s : ShardState) (statuses : List Status) (left : List ℕ) (count : ℕ) → IsKept r s statuses left count → (e : ExpectedData) → IsExpected r e
     → (u : ShardState) → s ≡ u → IsFor e u → e.number ≤ count → IsWhole r s
-whole_there r g s statuses left count t e x u same f l = whole_from g t x (subst (λ (u : ShardState). IsFor e u) (sym same) f) l
+whole_there r g s statuses left count t e x u same f l = whole_from g (good_from g t.shard) x (subst (λ (u : ShardState). IsFor e u) (sym same) f) (let k = t.number in omega arith)
 
 pub out_closed : (r : Rules) (e : ExpectedData) (s u v : ShardState) → s ≡ u → v ≡ next_level s → IsWhole r s → Closes r e u v (Ok tt)
 out_closed r e s u v same is w = subst (λ (u : ShardState). Closes r e u v (Ok tt)) same (is, w)

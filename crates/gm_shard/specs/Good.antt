@@ -22,14 +22,14 @@ pub record IsGood (r : Rules) (s : ShardState) : Type 0 where
   -- each pair of the range whose child stands before the present place is delivered
   pub whole : (i : ℕ) (c : Position) → IsInRange s i → IsParent r c s.tier i → StandsBefore r s.phase s.level c
       → Contains (delivered_to s i) c
-  -- each settled status is the true value, of remoteness at most 4,095
+  -- each settled status is the true value, of remoteness within the limit
   pub settled_is_true : (i : ℕ) (x : Solved) → IsInRange s i → StatusIs r s i (Settled x)
       → IsTrueValue r (at s.tier i) x × (x.remoteness ≤ REMOTENESS)
   -- each position whose own place is at or before the present one is settled
   pub true_is_settled : (i : ℕ) → IsInRange s i → IsCanonical r (at s.tier i)
       → StandsBefore r s.phase (s.level + 1) (at s.tier i) → (x : Solved) × StatusIs r s i (Settled x)
 
--- a stored status is no settled one above 4,095
+-- a stored status is no settled one above the limit
 abbrev pub IsWithinLimit : Status → Type 0
 IsWithinLimit Hole = Unit {0}
 IsWithinLimit Undecided = Unit {0}

@@ -18,7 +18,7 @@ use Rattle.gm_shard.specs.Status.{StatusIs}
 abbrev pub place_of : ShardState → Place
 place_of s = place_at s.tier s.phase s.level
 
--- c stands at the present place and is a child of the parent, which lies in the range; the pair is new, and settles nothing above 4,095
+-- c stands at the present place and is a child of the parent, which lies in the range; the pair is new, and settles nothing above the limit
 pub record CanDeliver (r : Rules) (s : ShardState) (c : Position) (parent : ℕ) : Type 0 where
   pub stands : StandsAt r s.phase s.level c
   pub is_mine : IsInRange s parent

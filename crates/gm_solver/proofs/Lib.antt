@@ -6,3 +6,8 @@ pub mod Gains
 pub mod Scans
 pub mod FoundLemmas
 pub mod TilingLemmas
+pub mod RoundLemmas
+pub mod OneTally
+pub mod FullLemmas
+pub mod SmallTiers
+pub mod BlockLemmas

@@ -6,3 +6,6 @@ pub mod Amounts
 pub mod Tiling
 pub mod Found
 pub mod Covered
+pub mod Rounds
+pub mod Begun
+pub mod Blocks

@@ -1,6 +1,7 @@
 //! Four shards of a tier, each under a lock of its own, and shares of their ledgers.
 ghost use Rattle.std.specs.Prelude.{◌≡◌, ◌^◌, ◌-◌, ◌<◌, ◌≤◌, min};
 ghost use Rattle.gm_shard.specs.State.{pairs_in};
+ghost use Rattle.gm_shard.specs.Delivery.{IsPlaceOf};
 ghost use Rattle.gm_solver.specs.Spots.{spot_of, choose, gain, AreFourTiles, IsWithin, IsAnswer};
 ghost use Rattle.gm_solver.specs.Amounts.{Amounts, one_part, amount_of, raised, joined, split_of};
 
@@ -223,6 +224,24 @@ impl<G: Game, A: Desk, B: Desk, C: Desk, D: Desk> Board<G, A, B, C, D> {
         ensures refusals { IsAnswer G.rules (choose shard A.spot B.spot C.spot D.spot) note.now parent result }
     {
         let place = place_of(note, self.tier, parent);
+        self.deliver_at(rt, shard, note, parent, place, shares)
+    }
+
+    /// The same, where the place of the note's position among the children of the parent is known.
+    pub fn deliver_at<R: Wait>(
+        &self,
+        rt: &R,
+        shard: usize,
+        note: &Note<G>,
+        parent: u64,
+        place: Option<u32>,
+        shares: &mut Shares<A, B, C, D>,
+    ) -> Result<Delivery, Refused>
+        requires shard { shard < 4 }
+        requires place { IsPlaceOf G.rules note.now.position A.spot.tier parent place }
+        ensures shares { shares.new ≡ raised shares.old shard (gain result) }
+        ensures refusals { IsAnswer G.rules (choose shard A.spot B.spot C.spot D.spot) note.now parent result }
+    {
         match shard {
             0 => self
                 .a

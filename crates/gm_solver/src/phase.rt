@@ -6,8 +6,9 @@ ghost use Rattle.gm_shard.specs.Steps.{place_of};
 ghost use Rattle.gm_solver.specs.Solving.{IsError};
 ghost use Rattle.gm_solver.specs.Over.{IsOver, IsLater, IsNext};
 
-use crate::deliver::deliver_level;
 use crate::error::SolveError;
+use crate::listed::deliver_listed;
+use crate::tier_lists::TierLists;
 use gm_frontier::expected::Expected;
 use gm_frontier::last::Last;
 use gm_frontier::level::Level;
@@ -20,17 +21,19 @@ use std::alloc::Global;
 // Delivers a level's pairs, counts them, and turns to the next level.
 fn finish_level<G: Game>(
     shard: &mut Shard<G>,
+    lists: &TierLists<G>,
     expected: &mut Expected<G>,
     level: &Level<G>,
 ) -> Result<(), SolveError>
     requires over { IsOver G.rules shard.old expected.old }
     requires place { level.now.place ≡ place_of shard.old }
+    requires lists { lists.now ≡ shard.old.tier }
     requires near { shard.old.level ≤ REMOTENESS }
     ensures over { OnOk result (IsOver G.rules shard.new expected.new) }
     ensures next { OnOk result (IsNext shard.old shard.new) }
     ensures error { IfErr result (IsError G.rules shard.old.tier) }
 {
-    deliver_level(shard, level)?;
+    deliver_listed(shard, lists, level)?;
     expected.add(level);
     shard.close(expected).unwrap();
     Ok(())
@@ -42,12 +45,14 @@ fn finish_level<G: Game>(
 pub fn finish_phase<G: Game>(
     alloc: Global,
     shard: &mut Shard<G>,
+    lists: &TierLists<G>,
     expected: &mut Expected<G>,
     tables: &Tables<G>,
 ) -> Result<Last<G>, SolveError>
     requires over { IsOver G.rules shard.old expected.old }
     requires held { AreHeld G.rules tables.now shard.old.tier }
     requires small { G.rules.tier_size shard.old.tier ≤ TIER_SIZE }
+    requires lists { lists.now ≡ shard.old.tier }
     requires near { shard.old.level ≤ REMOTENESS + 1 }
     ensures over { OnOk result (IsOver G.rules shard.new expected.new) }
     ensures later { OnOk result (IsLater shard.old shard.new) }
@@ -63,6 +68,6 @@ pub fn finish_phase<G: Game>(
         if let Some(last) = level.last(tables) {
             return Ok(last);
         }
-        finish_level(shard, expected, &level)?;
+        finish_level(shard, lists, expected, &level)?;
     }
 }

@@ -4,15 +4,18 @@ ghost use Rattle.std.specs.Int.{div_ceil};
 ghost use Rattle.gm_frontier.specs.Levels.{IsLevel};
 ghost use Rattle.gm_solver.specs.Tiling.{IsWide};
 
+use crate::tier_lists::TierLists;
 use gm_frontier::level::Level;
 use gm_game::game::Game;
 
-/// A level, of how many notes a piece of it is, and how many indexes a tile of its tier has.
+/// A level, the canonical children of its tier, of how many notes a piece of the level is, and how many indexes a tile of the tier has.
 #[derive(Drop)]
 pub(crate) struct Pieces<'a, G: Game> {
     pub level: &'a Level<'a, G>,
+    pub lists: &'a TierLists<G>,
     pub notes: usize,
     pub width: u64,
+    ghost lists_are: { lists.now ≡ level.now.place.tier },
     ghost some: { 0 < notes },
     ghost wide: { IsWide G.rules level.now.place.tier width },
 }

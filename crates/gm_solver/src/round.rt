@@ -6,14 +6,15 @@ ghost use Rattle.gm_frontier.specs.Tallies.{AreTallies};
 ghost use Rattle.gm_shard.specs.Steps.{place_of};
 ghost use Rattle.gm_solver.specs.Solving.{IsError};
 ghost use Rattle.gm_solver.specs.Spots.{spot_of, AreFourTiles};
-ghost use Rattle.gm_solver.specs.Tiling.{AreShardsAt, AreCountsAt, AreAllTallies, spot_counted, next_spot, next_place};
+ghost use Rattle.gm_solver.specs.Tiling.{AreShardsAt, AreCountsAt, AreAllTallies, HaveNoneHere, spot_counted, next_spot, next_place};
+ghost use Rattle.gm_solver.specs.Rounds.{HasNoneHere};
 
 use crate::board::{Board, Four, Shares};
 use crate::crew::serve_level;
-use crate::deliver::deliver_level;
 use crate::error::SolveError;
 use crate::found::fill;
 use crate::gate::Gate;
+use crate::listed::deliver_listed;
 use crate::pieces::Pieces;
 use crate::plan::Plan;
 use crate::share::Desk;
@@ -119,22 +120,26 @@ pub(crate) fn serve<G: Game + Send + Sync, R: Threads + Wait + Sync, T: Gate, S:
 fn close_tile<G: Game>(
     shard: &mut Shard<G>,
     count: &mut Expected<G>,
-    level: &Level<G>,
+    pieces: &Pieces<G>,
     tallies: &[Tally<G>],
 ) -> Result<(), SolveError>
     requires count { spot_of shard.old ≡ spot_counted count.old }
-    requires place { level.now.place ≡ place_of shard.old }
-    requires tallies { AreTallies G.rules level.now count.old.lo count.old.hi tallies.now }
+    requires place { pieces.now.level.now.place ≡ place_of shard.old }
+    requires tallies { AreTallies G.rules pieces.now.level.now count.old.lo count.old.hi tallies.now }
     requires near { shard.old.level ≤ REMOTENESS }
     ensures shard { OnOk result (spot_of shard.new ≡ next_spot (spot_of shard.old)) }
     ensures count { OnOk result (spot_counted count.new ≡ next_spot (spot_counted count.old)) }
+    ensures none { OnOk result (HasNoneHere G.rules shard.new) }
     ensures error { IfErr result (IsError G.rules shard.old.tier) }
 {
+    let Pieces { level, lists, .. } = *pieces;
     count.add_counted(level, tallies);
+    let _good = shard.range();
     if shard.close(count).is_ok() {
         return Ok(());
     }
-    deliver_level(shard, level)?;
+    deliver_listed(shard, lists, level)?;
+    let _still = shard.range();
     shard.close(count).unwrap();
     Ok(())
 }
@@ -157,11 +162,13 @@ pub(crate) fn run_level<G: Game + Send + Sync, R: Threads + Wait + Sync, T: Gate
     let Tiles {
         shards,
         mut counts,
+        lists,
         width,
     } = tiles;
     let notes = plan.piece();
     let pieces = Pieces {
         level,
+        lists: &lists,
         notes,
         width,
     };
@@ -176,6 +183,7 @@ pub(crate) fn run_level<G: Game + Send + Sync, R: Threads + Wait + Sync, T: Gate
     let tiles = Tiles {
         shards,
         counts,
+        lists,
         width,
     };
     Ok((tiles, by_workers))
@@ -194,11 +202,11 @@ fn close_tiles<G: Game>(
     requires near { pieces.now.level.now.place.level ≤ REMOTENESS }
     ensures shards { OnOk result (AreShardsAt G.rules (next_place pieces.now.level.now.place) pieces.now.width shards.new) }
     ensures counts { OnOk result (AreCountsAt G.rules (next_place pieces.now.level.now.place) pieces.now.width counts.new) }
+    ensures none { OnOk result (HaveNoneHere G.rules shards.new) }
     ensures error { IfErr result (IsError G.rules pieces.now.level.now.place.tier) }
 {
-    let level = pieces.level;
-    close_tile(&mut shards.a, &mut counts.a, level, tallies)?;
-    close_tile(&mut shards.b, &mut counts.b, level, tallies)?;
-    close_tile(&mut shards.c, &mut counts.c, level, tallies)?;
-    close_tile(&mut shards.d, &mut counts.d, level, tallies)
+    close_tile(&mut shards.a, &mut counts.a, pieces, tallies)?;
+    close_tile(&mut shards.b, &mut counts.b, pieces, tallies)?;
+    close_tile(&mut shards.c, &mut counts.c, pieces, tallies)?;
+    close_tile(&mut shards.d, &mut counts.d, pieces, tallies)
 }

@@ -1,16 +1,20 @@
 //! A tier before its first level.
 ghost use Rattle.std.specs.Prelude.{◌≡◌, ◌-◌, ◌≤◌, length, IfOk};
 ghost use Rattle.gm_game.specs.declared.position.Phase.TheVariants.{WinLose};
+ghost use Rattle.gm_table.specs.Tables.{AreHeld};
 ghost use Rattle.gm_shard.specs.Begin.{AreStarts, first_state};
 ghost use Rattle.gm_solver.specs.Over.{IsOver};
 
+use crate::tier_lists::TierLists;
 use gm_frontier::expected::Expected;
 use gm_game::game::Game;
 use gm_game::limits::TIER_SIZE;
 use gm_game::position::Position;
 use gm_shard::begin::start;
+use gm_shard::lists::scan;
 use gm_shard::shard::Shard;
 use gm_shard::status::Start;
+use gm_table::tables::Tables;
 use std::alloc::{AllocError, Global};
 
 // The starts of the indexes of a tier from `lo` up to `hi`.
@@ -41,15 +45,24 @@ pub fn begin_range<G: Game>(
     Shard::begin(alloc, tier, lo, list.as_slice())
 }
 
-/// The shard of a whole tier and the count of its pairs, before the first level.
-pub fn begin_tier<G: Game>(alloc: Global, tier: u64) -> Result<(Shard<G>, Expected<G>), AllocError>
-    requires { G.rules.tier_size tier ≤ TIER_SIZE }
+/// The shard of a whole tier, the lists of its canonical children and the count of its pairs, before the first level. The tables of the child tiers are given.
+pub fn begin_tier<G: Game>(
+    alloc: Global,
+    tier: u64,
+    tables: &Tables<G>,
+) -> Result<(Shard<G>, TierLists<G>, Expected<G>), AllocError>
+    requires held { AreHeld G.rules tables.now tier }
+    requires small { G.rules.tier_size tier ≤ TIER_SIZE }
     ensures tier { IfOk result (λ begun. begun.0.tier ≡ tier) }
     ensures phase { IfOk result (λ begun. begun.0.phase ≡ WinLose) }
     ensures level { IfOk result (λ begun. begun.0.level ≡ 0) }
-    ensures over { IfOk result (λ begun. IsOver G.rules begun.0 begun.1) }
+    ensures lists { IfOk result (λ begun. begun.1 ≡ tier) }
+    ensures over { IfOk result (λ begun. IsOver G.rules begun.0 begun.2) }
 {
+    let _held = tables.has(tier);
     let size = G::tier_size(tier);
-    let shard = begin_range(alloc, tier, 0, size)?;
-    Ok((shard, Expected::start(tier, 0, size)))
+    let (lists, starts) = scan::<G>(alloc, tier, 0, size)?;
+    let shard = Shard::begin(alloc, tier, 0, starts.as_slice())?;
+    let lists = TierLists::whole(alloc, tier, lists)?;
+    Ok((shard, lists, Expected::start(tier, 0, size)))
 }

@@ -5,7 +5,7 @@ ghost use Rattle.gm_solver.specs.Solving.{IsError, IsTooFar, AreDeliveries};
 
 use crate::error::SolveError;
 use crate::gate::Gate;
-use crate::levels::finish_levels;
+use crate::levels::{Way, finish_levels};
 use crate::plan::Plan;
 use crate::source::Source;
 use crate::tiles::{begin_tiles, tile_width};
@@ -51,11 +51,57 @@ pub fn solve_tier<G: Game + Send + Sync, R: Threads + Wait + Sync, T: Gate, S: S
     ensures near { OnOk result (IsTooFar G.rules tier → ⊥) }
     ensures error { IfErr result (IsError G.rules tier) }
 {
+    solve_by(rt, alloc, tier, tables, Way::Pieces, plan, gate, source)
+}
+
+/// Solves a tier as `solve_tier` does, but with one pass a shard: at each level a worker takes the pass of a shard that the source names, and delivers the level's pairs into that shard in their order,
+/// so that none is delivered twice. The source is told of four passes a level, and a worker asks it at most four times.
+pub fn solve_passes<G: Game + Send + Sync, R: Threads + Wait + Sync, T: Gate, S: Source>(
+    rt: &R,
+    alloc: Global,
+    tier: u64,
+    tables: &Tables<G>,
+    plan: Plan,
+    gate: &T,
+    source: &S,
+) -> Result<(Table<G>, Report), SolveError>
+    requires held { AreHeld G.rules tables.now tier }
+    requires small { G.rules.tier_size tier ≤ TIER_SIZE }
+    ensures tier { IfOk result (λ answer. answer.0.tier ≡ tier) }
+    ensures table { IfOk result (λ answer. IsTable G.rules answer.0) }
+    ensures deliveries { IfOk result (λ answer. AreDeliveries G.rules tier answer.1.deliveries) }
+    ensures by_hand { IfOk result (λ answer. answer.1.by_hand ≤ answer.1.deliveries) }
+    ensures near { OnOk result (IsTooFar G.rules tier → ⊥) }
+    ensures error { IfErr result (IsError G.rules tier) }
+{
+    solve_by(rt, alloc, tier, tables, Way::Passes, plan, gate, source)
+}
+
+// Solves a tier in one of the two ways.
+fn solve_by<G: Game + Send + Sync, R: Threads + Wait + Sync, T: Gate, S: Source>(
+    rt: &R,
+    alloc: Global,
+    tier: u64,
+    tables: &Tables<G>,
+    way: Way,
+    plan: Plan,
+    gate: &T,
+    source: &S,
+) -> Result<(Table<G>, Report), SolveError>
+    requires held { AreHeld G.rules tables.now tier }
+    requires small { G.rules.tier_size tier ≤ TIER_SIZE }
+    ensures tier { IfOk result (λ answer. answer.0.tier ≡ tier) }
+    ensures table { IfOk result (λ answer. IsTable G.rules answer.0) }
+    ensures deliveries { IfOk result (λ answer. AreDeliveries G.rules tier answer.1.deliveries) }
+    ensures by_hand { IfOk result (λ answer. answer.1.by_hand ≤ answer.1.deliveries) }
+    ensures near { OnOk result (IsTooFar G.rules tier → ⊥) }
+    ensures error { IfErr result (IsError G.rules tier) }
+{
     let width = tile_width::<G>(tier, plan.shards());
-    let tiles = begin_tiles::<G, R>(rt, alloc, tier, width)?;
-    let (mut tiles, last, wins) = finish_levels(rt, alloc, tables, plan, gate, source, tiles)?;
+    let tiles = begin_tiles::<G, R>(rt, alloc, tier, tables, width)?;
+    let (mut tiles, last, wins) = finish_levels(rt, alloc, tables, way, plan, gate, source, tiles)?;
     tiles.next_phase(&last);
-    let (tiles, last, ties) = finish_levels(rt, alloc, tables, plan, gate, source, tiles)?;
+    let (tiles, last, ties) = finish_levels(rt, alloc, tables, way, plan, gate, source, tiles)?;
     let (table, deliveries) = tiles.table(alloc, tables, &last)?;
     let report = Report {
         deliveries,

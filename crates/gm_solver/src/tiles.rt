@@ -3,9 +3,8 @@ ghost use Rattle.std.specs.Prelude.{ℕ, ◌≡◌, ◌-◌, ◌<◌, ◌≤◌,
 ghost use Rattle.std.specs.Int.{div_ceil};
 ghost use Rattle.gm_game.specs.declared.position.Phase.TheVariants.{WinLose, Ties};
 ghost use Rattle.gm_game.specs.Records.{IsTrueTable};
-ghost use Rattle.gm_game.specs.Rules.{at};
 ghost use Rattle.gm_frontier.specs.Levels.{place_at};
-ghost use Rattle.gm_shard.specs.Begin.{IsStart, AreStarts};
+ghost use Rattle.gm_shard.specs.Begin.{AreStarts};
 ghost use Rattle.gm_frontier.specs.Counts.{IsNumberBefore};
 ghost use Rattle.gm_shard.specs.Steps.{place_of, CanTurn};
 ghost use Rattle.gm_game.specs.Places.{IsLastLevel};
@@ -13,32 +12,35 @@ ghost use Rattle.gm_table.specs.Tables.{AreHeld, IsTable};
 ghost use Rattle.gm_solver.specs.Covered.{IsCovered};
 ghost use Rattle.gm_solver.specs.Solving.{IsTooFar, AreDeliveries};
 ghost use Rattle.gm_solver.specs.Spots.{spot_of};
-ghost use Rattle.gm_solver.specs.Tiling.{IsWide, AreShardsAt, AreCountsAt, tile_at, spot_counted};
+ghost use Rattle.gm_solver.specs.Tiling.{IsWide, AreShardsAt, AreCountsAt, HaveNoneHere, AreGood, tile_at, spot_counted};
+ghost use Rattle.gm_solver.specs.Rounds.{HasNoneHere};
 
 use crate::board::Four;
+use crate::tier_lists::{TierLists, scan_tier};
 use gm_frontier::expected::Expected;
 use gm_frontier::last::Last;
 use gm_game::game::Game;
 use gm_game::limits::{REMOTENESS, TIER_SIZE};
-use gm_game::position::{Position, Solved};
-use gm_shard::begin::start;
+use gm_game::position::Solved;
 use gm_shard::shard::Shard;
 use gm_shard::status::Start;
 use gm_table::table::Table;
 use gm_table::tables::Tables;
-use rayon::prelude::*;
 use std::alloc::{AllocError, Global};
 use std::thread::Threads;
 
-/// Four shards that tile a tier at one place, each with the count of the pairs into it.
+/// Four shards that tile a tier at one place, each with the count of the pairs into it, and the canonical children of the tier.
 #[derive(Drop)]
 pub(crate) struct Tiles<G: Game> {
     pub shards: Four<Shard<G>>,
     pub counts: Four<Expected<G>>,
+    pub lists: TierLists<G>,
     pub width: u64,
+    ghost lists_are: { lists ≡ shards.a.tier },
     ghost wide: { IsWide G.rules shards.a.tier width },
     ghost shards_are: { AreShardsAt G.rules (place_of shards.a) width shards },
     ghost counts_are: { AreCountsAt G.rules (place_of shards.a) width counts },
+    ghost none_are: { HaveNoneHere G.rules shards },
 }
 
 /// How many indexes a tile has: the size of the tier by the number of shards, rounded up, and at least 1.
@@ -52,47 +54,27 @@ pub(crate) fn tile_width<G: Game>(tier: u64, shards: usize) -> u64
     G::tier_size(tier).div_ceil(shards as u64).max(1)
 }
 
-// The starts of the indexes of a tier from `lo` up to `hi`, found by as many threads as there are processors.
-fn scan<G: Game + Send + Sync, R: Threads + Sync>(
-    rt: &R,
-    alloc: Global,
-    tier: u64,
-    lo: u64,
-    hi: u64,
-) -> Result<Vec<Start>, AllocError>
-    requires { lo ≤ hi }
-    ensures length { IfOk result (λ list. length list.items ≡ hi - lo) }
-    ensures starts { IfOk result (λ list. AreStarts G.rules tier lo list.items) }
-{
-    (lo..hi)
-        .into_par_iter()
-        .map(
-            |index: u64| -> Start
-                ensures { IsStart G.rules (at tier index) result }
-            { start::<G>(Position { tier, index }) },
-        )
-        .collect(rt, alloc)
-}
-
 // The shard of tile k and the count of the pairs into it.
-fn begin_tile<G: Game + Send + Sync, R: Threads + Sync>(
-    rt: &R,
+fn begin_tile<G: Game>(
     alloc: Global,
     tier: u64,
     width: u64,
     k: u64,
+    starts: &[Start],
 ) -> Result<(Shard<G>, Expected<G>), AllocError>
+    requires starts { AreStarts G.rules tier 0 starts.now }
+    requires whole { length starts.now ≡ G.rules.tier_size tier }
     requires small { G.rules.tier_size tier ≤ TIER_SIZE }
     requires wide { IsWide G.rules tier width }
     requires tile { k < 4 }
     ensures shard { IfOk result (λ begun. spot_of begun.0 ≡ tile_at G.rules (place_at tier WinLose 0) width k) }
     ensures count { IfOk result (λ begun. spot_counted begun.1 ≡ tile_at G.rules (place_at tier WinLose 0) width k) }
+    ensures none { IfOk result (λ begun. HasNoneHere G.rules begun.0) }
 {
     let size = G::tier_size(tier);
     let lo = (k * width).min(size);
     let hi = ((k + 1) * width).min(size);
-    let starts = scan::<G, R>(rt, alloc, tier, lo, hi)?;
-    let shard = Shard::begin(alloc, tier, lo, starts.as_slice())?;
+    let shard = Shard::begin(alloc, tier, lo, &starts[lo as usize..hi as usize])?;
     Ok((shard, Expected::start(tier, lo, hi)))
 }
 
@@ -101,16 +83,20 @@ pub(crate) fn begin_tiles<G: Game + Send + Sync, R: Threads + Sync>(
     rt: &R,
     alloc: Global,
     tier: u64,
+    tables: &Tables<G>,
     width: u64,
 ) -> Result<Tiles<G>, AllocError>
+    requires held { AreHeld G.rules tables.now tier }
     requires small { G.rules.tier_size tier ≤ TIER_SIZE }
     requires wide { IsWide G.rules tier width }
     ensures place { IfOk result (λ tiles. place_of tiles.shards.a ≡ place_at tier WinLose 0) }
 {
-    let (a, in_a) = begin_tile::<G, R>(rt, alloc, tier, width, 0)?;
-    let (b, in_b) = begin_tile::<G, R>(rt, alloc, tier, width, 1)?;
-    let (c, in_c) = begin_tile::<G, R>(rt, alloc, tier, width, 2)?;
-    let (d, in_d) = begin_tile::<G, R>(rt, alloc, tier, width, 3)?;
+    let _held = tables.has(tier);
+    let (lists, starts) = scan_tier::<G, R>(rt, alloc, tier)?;
+    let (a, in_a) = begin_tile(alloc, tier, width, 0, starts.as_slice())?;
+    let (b, in_b) = begin_tile(alloc, tier, width, 1, starts.as_slice())?;
+    let (c, in_c) = begin_tile(alloc, tier, width, 2, starts.as_slice())?;
+    let (d, in_d) = begin_tile(alloc, tier, width, 3, starts.as_slice())?;
     Ok(Tiles {
         shards: Four { a, b, c, d },
         counts: Four {
@@ -119,11 +105,22 @@ pub(crate) fn begin_tiles<G: Game + Send + Sync, R: Threads + Sync>(
             c: in_c,
             d: in_d,
         },
+        lists,
         width,
     })
 }
 
 impl<G: Game> Tiles<G> {
+    // Shows that the shards are good.
+    fn show_good_shards(&self)
+        ensures { AreGood G.rules self.now.shards }
+    {
+        let _a = self.shards.a.range();
+        let _b = self.shards.b.range();
+        let _c = self.shards.c.range();
+        let _d = self.shards.d.range();
+    }
+
     // Shows that a good shard has each index of the tier.
     fn show_good(&self)
         ensures { (i : ℕ) → i < G.rules.tier_size self.now.shards.a.tier → IsCovered G.rules (place_of self.now.shards.a) i }
@@ -149,6 +146,7 @@ impl<G: Game> Tiles<G> {
         requires { CanTurn self.old.shards.a last.now }
         ensures { place_of self.new.shards.a ≡ place_at self.old.shards.a.tier Ties 0 }
     {
+        self.show_good_shards();
         self.shards.a.next_phase(last);
         self.shards.b.next_phase(last);
         self.shards.c.next_phase(last);

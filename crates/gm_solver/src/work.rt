@@ -41,9 +41,11 @@ pub(crate) fn walk<G: Game, A: Desk, B: Desk, C: Desk, D: Desk, R: Wait, T: Gate
     let mut counts = vec![in alloc; 0u64; size.div_ceil(pieces.width) as usize]?;
     for (note, parent) in level.pairs(piece, pieces.notes, 0, size) {
         counts[(parent / pieces.width) as usize] += 1;
+        let stands = pieces.lists.place_of(note.position(), parent);
         gate.before(rt, worker, place);
         // A pair that is refused as too far is missing at the end of the level, where the coordinator finds it.
-        let _answer = board.deliver(rt, board.shard_of(parent), &note, parent, shares);
+        let shard = board.shard_of(parent);
+        let _answer = board.deliver_at(rt, shard, &note, parent, stands, shares);
         gate.after(rt, worker, place);
     }
     Ok(Tally::of(level, piece, pieces.notes, pieces.width, counts))

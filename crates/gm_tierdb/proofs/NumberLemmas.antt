@@ -1,25 +1,41 @@
 -- The number of a record tells it apart from each other record.
-use Rattle.std.proofs.Common.{◌≡◌, ℕ, ◌+◌, ◌*◌, ◌<◌, ◌≤◌, ◌^◌, Option, None, Some, refl, ap, sym, ◌∙◌, arith}
-use Rattle.std.specs.Int.{from_le_bytes, w16}
-use Rattle.std.proofs.lemmas.Nat.{from_le_bytes-to_le_bytes_2}
+use Rattle.std.proofs.Common.{◌≡◌, ◌≢◌, ℕ, suc, ◌+◌, ◌*◌, ◌<◌, ◌≤◌, ◌^◌, List, take, slice_get, MatchOption, Option, None, Some, refl, ap, sym, ◌∙◌, arith}
+use Rattle.std.specs.Int.{from_le_bytes, to_le_bytes, w32}
+use Rattle.std.proofs.lemmas.Nat.{from_le_bytes-to_le_bytes_2, from_le_bytes-to_le_bytes_4}
 use Rattle.gm_game.specs.declared.limits.TheConstants.{REMOTENESS}
 use Rattle.gm_game.specs.declared.position.Value.{Value}
 use Rattle.gm_game.specs.declared.position.Value.TheVariants.{Lose, Draw, Tie, Win}
 use Rattle.gm_game.specs.declared.position.Solved.{Solved}
+use Rattle.gm_game.specs.declared.position.Phase.{Phase}
+use Rattle.gm_game.specs.declared.position.Phase.TheVariants.{WinLose, Ties}
 use Rattle.gm_game.specs.declared.position.Position.{Position}
 use Rattle.gm_game.specs.Rules.{Rules}
 use Rattle.gm_game.specs.Values.{IsTrueValue, HasValue}
 use Rattle.gm_game.specs.Records.{IsRecord, solved}
-use Rattle.gm_tierdb.specs.TierText.{code, IsStorableSolved, IsStorable, record_number, record_bytes}
+use Rattle.gm_table.specs.Levels.{HasLevel, IsGreatest}
+use Rattle.gm_tierdb.specs.declared.version.TheConstants.{REMOTENESS_1}
+use Rattle.gm_tierdb.specs.declared.version.Version.{Version}
+use Rattle.gm_tierdb.specs.declared.version.Version.TheVariants.{One, Two}
+use Rattle.gm_tierdb.specs.TierText.{word, width, step, most, code, IsStorableSolved, IsStorable, record_number, record_bytes, AreUpTo}
+
+-- the limits of the versions
+pub step_most : (v : Version) → step v ≡ suc (most v)
+step_most One = refl
+step_most Two = refl
+
+-- the bytes of a number in a record are the first of its four
+pub first_bytes : (v : Version) (n : ℕ) → take (width v) (to_le_bytes w32 n) ≡ to_le_bytes (word v) n
+first_bytes One n = refl
+first_bytes Two n = refl
 
 -- no remoteness is above the limit
-remoteness_small : (v : Value) (n : ℕ) → IsStorableSolved v n → n < 4096
-remoteness_small Lose n h = omega arith
-remoteness_small Draw n h = omega arith
-remoteness_small Tie n h = omega arith
-remoteness_small Win n h = omega arith
+pub remoteness_small : (v : Version) (value : Value) (n : ℕ) → IsStorableSolved v value n → n < step v
+remoteness_small v Lose n h = omega (arith, step_most v)
+remoteness_small v Draw n h = omega (arith, step_most v)
+remoteness_small v Tie n h = omega (arith, step_most v)
+remoteness_small v Win n h = omega (arith, step_most v)
 
-code_small : (v : Value) → (1 ≤ code v) × (code v ≤ 4)
+code_small : (value : Value) → (1 ≤ code value) × (code value ≤ 4)
 code_small Lose = (omega arith, omega arith)
 code_small Draw = (omega arith, omega arith)
 code_small Tie = (omega arith, omega arith)
@@ -44,36 +60,86 @@ same_code Win Tie e = absurd (omega arith)
 same_code Win Win e = refl
 
 -- a number splits into code and remoteness in one way
-split_once : (a b n m : ℕ) → n < 4096 → m < 4096 → a * 4096 + n ≡ b * 4096 + m → (a ≡ b) × (n ≡ m)
-split_once a b n m n< m< e = (omega arith, omega arith)
+pub split_once : (v : Version) (a b n m : ℕ) → n < step v → m < step v → a * step v + n ≡ b * step v + m → (a ≡ b) × (n ≡ m)
+split_once One a b n m n< m< e = (omega arith, omega arith)
+split_once Two a b n m n< m< e = (omega arith, omega arith)
 
-same_solved : (s t : Solved) → IsStorableSolved s.value s.remoteness → IsStorableSolved t.value t.remoteness → code s.value * 4096 + s.remoteness ≡ code t.value * 4096 + t.remoteness → s ≡ t
-same_solved s t hs ht e =
-    let (c, n) = split_once (code s.value) (code t.value) s.remoteness t.remoteness (remoteness_small s.value s.remoteness hs) (remoteness_small t.value t.remoteness ht) e in
-    ap (λ v. solved v s.remoteness) (same_code s.value t.value c) ∙ ap (solved t.value) n
+same_solved : (v : Version) (s t : Solved) → IsStorableSolved v s.value s.remoteness → IsStorableSolved v t.value t.remoteness → code s.value * step v + s.remoteness ≡ code t.value * step v + t.remoteness → s ≡ t
+same_solved v s t hs ht e =
+    let (c, n) = split_once v (code s.value) (code t.value) s.remoteness t.remoteness (remoteness_small v s.value s.remoteness hs) (remoteness_small v t.value t.remoteness ht) e in
+    ap (λ x. solved x s.remoteness) (same_code s.value t.value c) ∙ ap (solved t.value) n
 
-pub same_record : (o p : Option Solved) → IsStorable o → IsStorable p → record_number o ≡ record_number p → o ≡ p
-same_record None None ho hp e = refl
-same_record None (Some t) ho hp e = let low = (code_small t.value).0 in absurd (omega arith)
-same_record (Some s) None ho hp e = let low = (code_small s.value).0 in absurd (omega arith)
-same_record (Some s) (Some t) ho hp e = ap (λ x. Some x) (same_solved s t ho hp e)
+-- the number of a record with a value isn't 0
+above_zero : (v : Version) (s : Solved) → 0 < record_number v (Some s)
+above_zero One s = let low = (code_small s.value).0 in omega arith
+above_zero Two s = let low = (code_small s.value).0 in omega arith
 
-number_small : (o : Option Solved) → IsStorable o → record_number o < 2 ^ 16
-number_small None h = omega arith
-number_small (Some s) h = let high = (code_small s.value).1 in let small = remoteness_small s.value s.remoteness h in omega arith
+pub same_record : (v : Version) (o p : Option Solved) → IsStorable v o → IsStorable v p → record_number v o ≡ record_number v p → o ≡ p
+same_record v None None ho hp e = refl
+same_record v None (Some t) ho hp e = let low = above_zero v t in absurd (omega arith)
+same_record v (Some s) None ho hp e = let low = above_zero v s in absurd (omega arith)
+same_record v (Some s) (Some t) ho hp e = ap (λ x. Some x) (same_solved v s t ho hp e)
 
--- so do its bytes
-pub same_bytes : (o p : Option Solved) → IsStorable o → IsStorable p → record_bytes o ≡ record_bytes p → o ≡ p
-same_bytes o p ho hp e =
-    same_record o p ho hp (sym (from_le_bytes-to_le_bytes_2 (record_number o) (number_small o ho)) ∙ ap (from_le_bytes w16) e ∙ from_le_bytes-to_le_bytes_2 (record_number p) (number_small p hp))
+number_small : (v : Version) (o : Option Solved) → IsStorable v o → record_number v o < 256 ^ width v
+number_small One None h = omega arith
+number_small Two None h = omega arith
+number_small One (Some s) h = let high = (code_small s.value).1 in let small = remoteness_small One s.value s.remoteness h in omega arith
+number_small Two (Some s) h = let high = (code_small s.value).1 in let small = remoteness_small Two s.value s.remoteness h in omega arith
+
+-- the bytes of a number give it back
+number_back : (v : Version) (n : ℕ) → n < 256 ^ width v → from_le_bytes (word v) (to_le_bytes (word v) n) ≡ n
+number_back One n h = from_le_bytes-to_le_bytes_2 n h
+number_back Two n h = from_le_bytes-to_le_bytes_4 n h
+
+-- where a number is that of no record, its bytes are those of none
+pub none_here : (v : Version) (number : ℕ) (one : List ℕ) → number < 256 ^ width v → to_le_bytes (word v) number ≡ one → ((o : Option Solved) → IsStorable v o → record_number v o ≢ number)
+    → (o : Option Solved) → IsStorable v o → one ≢ record_bytes v o
+none_here v number one small e none o ok same =
+    none o ok (sym (number_back v (record_number v o) (number_small v o ok)) ∙ ap (from_le_bytes (word v)) (sym (e ∙ same)) ∙ number_back v number small)
+
+-- so do those of a record
+pub same_bytes : (v : Version) (o p : Option Solved) → IsStorable v o → IsStorable v p → record_bytes v o ≡ record_bytes v p → o ≡ p
+same_bytes v o p ho hp e =
+    same_record v o p ho hp (sym (number_back v (record_number v o) (number_small v o ho)) ∙ ap (from_le_bytes (word v)) e ∙ number_back v (record_number v p) (number_small v p hp))
 
 -- a record of a table can be in a file
-storable_value : (r : Rules) (p : Position) (v : Value) (n : ℕ) → HasValue r p v n → n ≤ REMOTENESS → IsStorableSolved v n
+storable_value : (r : Rules) (p : Position) (value : Value) (n : ℕ) → HasValue r p value n → n ≤ REMOTENESS → IsStorableSolved Two value n
 storable_value r p Lose n h small = small
 storable_value r p Draw n h small = h.0
 storable_value r p Tie n h small = small
 storable_value r p Win n h small = small
 
-pub storable_record : (r : Rules) (p : Position) (o : Option Solved) → IsRecord r REMOTENESS (IsTrueValue r) p o → IsStorable o
+pub storable_record : (r : Rules) (p : Position) (o : Option Solved) → IsRecord r REMOTENESS (IsTrueValue r) p o → IsStorable Two o
 storable_record r p None h = tt
 storable_record r p (Some s) h = storable_value r p s.value s.remoteness h.1 h.2
+
+-- a record of a table without a level above that of version 1 can be in a file of it
+old_value : (records : List (Option Solved)) → AreUpTo REMOTENESS_1 records → (k : ℕ) (value : Value) (n : ℕ) → slice_get records k ≡ Some (Some (solved value n)) → IsStorableSolved Two value n → IsStorableSolved One value n
+old_value records up k Lose n e h = up.each WinLose n (k, Some (solved Lose n), e, refl)
+old_value records up k Draw n e h = h
+old_value records up k Tie n e h = up.each Ties n (k, Some (solved Tie n), e, refl)
+old_value records up k Win n e h = up.each WinLose n (k, Some (solved Win n), e, refl)
+
+pub old_record : (records : List (Option Solved)) → AreUpTo REMOTENESS_1 records → (k : ℕ) (o : Option Solved) → slice_get records k ≡ Some o → IsStorable Two o → IsStorable One o
+old_record records up k None e h = tt
+old_record records up k (Some s) e h = old_value records up k s.value s.remoteness e h
+
+-- the levels of a table are within a limit where the greatest of each phase is
+pub within_all : (limit : ℕ) (phase : Phase) (records : List (Option Solved)) (greatest : Option ℕ) → IsGreatest phase records greatest → MatchOption greatest (Unit {0}) (λ n. n ≤ limit)
+    → (n : ℕ) → HasLevel phase records n → n ≤ limit
+within_all limit phase records None is small n h = absurd (is n h)
+within_all limit phase records (Some m) is small n h = let less = is.greatest n h in omega arith
+
+pub within_greatest : (limit : ℕ) (phase : Phase) (records : List (Option Solved)) (greatest : Option ℕ) → IsGreatest phase records greatest → AreUpTo limit records → MatchOption greatest (Unit {0}) (λ n. n ≤ limit)
+within_greatest limit phase records None is up = tt
+within_greatest limit phase records (Some m) is up = up.each phase m is.there
+
+both_phases : (limit : ℕ) (records : List (Option Solved)) → ((n : ℕ) → HasLevel WinLose records n → n ≤ limit) → ((n : ℕ) → HasLevel Ties records n → n ≤ limit) → (phase : Phase) (n : ℕ) → HasLevel phase records n → n ≤ limit
+both_phases limit records win_lose ties WinLose n h = win_lose n h
+both_phases limit records win_lose ties Ties n h = ties n h
+
+pub within_both : (limit : ℕ) (records : List (Option Solved)) (win_lose ties : Option ℕ) → IsGreatest WinLose records win_lose → IsGreatest Ties records ties
+    → MatchOption win_lose (Unit {0}) (λ n. n ≤ limit) → MatchOption ties (Unit {0}) (λ n. n ≤ limit) → AreUpTo limit records
+within_both limit records win_lose ties is also small tied = record {
+  each = both_phases limit records (λ n h. within_all limit WinLose records win_lose is small n h) (λ n h. within_all limit Ties records ties also tied n h);
+}

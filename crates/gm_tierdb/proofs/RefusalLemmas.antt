@@ -1,66 +1,101 @@
 -- What is refused, and what isn't.
-use Rattle.std.proofs.Common.{◌≡◌, ℕ, ◌<◌, List, length, take, drop, Option, Vec, Result, Ok, Err, IfOk, IfErr, MatchResult, ⊎_elim, refl, sym, ap, subst, ◌∙◌, arith}
+use Rattle.std.proofs.Common.{◌≡◌, ℕ, ◌<◌, List, length, take, drop, get_or, Option, Vec, Result, Ok, Err, IfOk, IfErr, MatchResult, IsErrOf, ⊎_elim, refl, sym, ap, subst, ◌∙◌, arith}
 use Rattle.std.specs.declared.alloc.Global.{Global}
 use Rattle.sha2.specs.Sha256.{sha256}
 use Rattle.gm_game.specs.declared.limits.TheConstants.{NAME}
 use Rattle.gm_game.specs.declared.position.Solved.{Solved}
 use Rattle.gm_game.specs.Rules.{Rules}
 use Rattle.gm_tierdb.specs.declared.file_error.FileError.{FileError}
-use Rattle.gm_tierdb.specs.declared.file_error.FileError.TheVariants.{OutOfMemory, Truncated, BadMagic, WrongGame, WrongTier, WrongSize, BadRecord, Trailing, BadDigest}
-use Rattle.gm_tierdb.specs.TierText.{AreRecords, IsTierText}
-use Rattle.gm_tierdb.specs.Refusals.{HasHeader, HasRecords, RefusesRecords, Refuses, records_part, body_len, file_len}
+use Rattle.gm_tierdb.specs.declared.file_error.FileError.TheVariants.{OutOfMemory, Truncated, BadMagic, WrongGame, WrongTier, WrongSize, BadRecord, Trailing, BadDigest, OldVersion}
+use Rattle.gm_tierdb.specs.declared.version.Version.{Version}
+use Rattle.gm_tierdb.specs.declared.version.Version.TheVariants.{One, Two}
+use Rattle.gm_tierdb.specs.TierText.{magic, AreRecords, IsVersionText}
+use Rattle.gm_tierdb.specs.Refusals.{HasHeader, HasRecords, RefusesRecords, RefusesIn, IsOld, records_part, body_len, file_len}
 use Rattle.gm_tierdb.proofs.RecordLemmas.{none_bad}
 use Rattle.gm_tierdb.proofs.TextLemmas.{parts_of_text, text_of_parts, same_text}
 
+-- no first bytes are those of two versions
+pub not_old : (v : Version) (first : List ℕ) → first ≡ magic v → IsOld v first → ⊥
+not_old One first e h = h
+not_old Two first e h = let other : get_or (magic Two) 7 0 ≡ get_or (magic One) 7 0 = ap (λ bytes. get_or bytes 7 0) (sym e ∙ h) in omega arith
+
 -- a text is refused for want of memory alone
-pub only_memory : (r : Rules) → length r.name ≡ NAME → (tier : ℕ) (records : List (Option Solved)) (bytes : List ℕ) → IsTierText r tier records bytes → (e : FileError) → Refuses r tier bytes e → e ≡ OutOfMemory
-only_memory r named tier records bytes is OutOfMemory h = refl
-only_memory r named tier records bytes is Truncated h =
-    let p = parts_of_text r named tier records bytes is in let len = p.len in
-    absurd (⊎_elim (λ (short : length bytes < 40). let none : ⊥ = omega arith in none) (λ (short : HasHeader r tier bytes × (length bytes < file_len (r.tier_size tier))). let less = short.1 in let none : ⊥ = omega arith in none) h)
-only_memory r named tier records bytes is BadMagic h = absurd (h.1 (parts_of_text r named tier records bytes is).header.0.0.0.1)
-only_memory r named tier records bytes is WrongGame h = absurd (h.1 (parts_of_text r named tier records bytes is).header.0.0.1)
-only_memory r named tier records bytes is WrongTier h = absurd (h.1 (parts_of_text r named tier records bytes is).header.0.1)
-only_memory r named tier records bytes is WrongSize h = absurd (h.1 (parts_of_text r named tier records bytes is).header.1)
-only_memory r named tier records bytes is (BadRecord index) h =
-    let p = (parts_of_text r named tier records bytes is).inner in
+pub only_memory : (v : Version) (r : Rules) → length r.name ≡ NAME → (tier : ℕ) (records : List (Option Solved)) (bytes : List ℕ) → IsVersionText v r tier records bytes → (e : FileError) → RefusesIn v r tier bytes e → e ≡ OutOfMemory
+only_memory v r named tier records bytes is OutOfMemory h = refl
+only_memory v r named tier records bytes is Truncated h =
+    let p = parts_of_text v r named tier records bytes is in let len = p.len in
+    absurd (⊎_elim (λ (short : length bytes < 40). let none : ⊥ = omega arith in none) (λ (short : HasHeader v r tier bytes × (length bytes < file_len v (r.tier_size tier))). let less = short.1 in let none : ⊥ = omega arith in none) h)
+only_memory v r named tier records bytes is BadMagic h = absurd (h.1 (parts_of_text v r named tier records bytes is).header.0.0.0.1)
+only_memory v r named tier records bytes is WrongGame h = absurd (h.1 (parts_of_text v r named tier records bytes is).header.0.0.1)
+only_memory v r named tier records bytes is WrongTier h = absurd (h.1 (parts_of_text v r named tier records bytes is).header.0.1)
+only_memory v r named tier records bytes is WrongSize h = absurd (h.1 (parts_of_text v r named tier records bytes is).header.1)
+only_memory v r named tier records bytes is (BadRecord index) h =
+    let p = (parts_of_text v r named tier records bytes is).inner in
     let less : length h.2.front < length records = omega (arith, p.whole, h.2.count, h.2.within) in
-    absurd (none_bad h.2.front records h.2.rest p.storable less (sym p.text ∙ h.2.split) h.2.bad)
-only_memory r named tier records bytes is Trailing h = let len = (parts_of_text r named tier records bytes is).len in let more = h.1 in absurd (omega arith)
-only_memory r named tier records bytes is BadDigest h = absurd (h.3 (parts_of_text r named tier records bytes is).digest)
+    absurd (none_bad v h.2.front records h.2.rest p.storable less (sym p.text ∙ h.2.split) h.2.bad)
+only_memory v r named tier records bytes is Trailing h = let len = (parts_of_text v r named tier records bytes is).len in let more = h.1 in absurd (omega arith)
+only_memory v r named tier records bytes is BadDigest h = absurd (h.3 (parts_of_text v r named tier records bytes is).digest)
+only_memory v r named tier records bytes is OldVersion h = absurd (not_old v (take 8 bytes) (parts_of_text v r named tier records bytes is).header.0.0.0.1 h.1)
 
 -- where the bytes are the text of some records, these are the answer, or there is no memory
-pub exact_answer : (r : Rules) → length r.name ≡ NAME → (tier : ℕ) (bytes : List ℕ) (result : Result (Vec (Option Solved) Global) FileError)
-    → IfOk result (λ v. IsTierText r tier v.items bytes) → IfErr result (Refuses r tier bytes) → (records : List (Option Solved)) → IsTierText r tier records bytes
-    → MatchResult result (λ v. v.items ≡ records) (λ e. e ≡ OutOfMemory)
-exact_answer r named tier bytes (Ok v) found refused records is = same_text r named tier v.items records bytes found is
-exact_answer r named tier bytes (Err e) found refused records is = only_memory r named tier records bytes is e refused
+pub exact_answer : (v : Version) (r : Rules) → length r.name ≡ NAME → (tier : ℕ) (bytes : List ℕ) (result : Result (Vec (Option Solved) Global) FileError)
+    → IfOk result (λ x. IsVersionText v r tier x.items bytes) → IfErr result (RefusesIn v r tier bytes) → (records : List (Option Solved)) → IsVersionText v r tier records bytes
+    → MatchResult result (λ x. x.items ≡ records) (λ e. e ≡ OutOfMemory)
+exact_answer v r named tier bytes (Ok x) found refused records is = same_text v r named tier x.items records bytes found is
+exact_answer v r named tier bytes (Err e) found refused records is = only_memory v r named tier records bytes is e refused
+
+-- a text of version 1 is refused as that
+old_version : (r : Rules) → length r.name ≡ NAME → (tier : ℕ) (records : List (Option Solved)) (bytes : List ℕ) → IsVersionText One r tier records bytes → (e : FileError) → RefusesIn Two r tier bytes e → e ≡ OldVersion
+old_version r named tier records bytes is e h =
+    let p = parts_of_text One r named tier records bytes is in
+    let old = p.header.0.0.0.1 in
+    let len = p.len in
+    elim e as (λ x. RefusesIn Two r tier bytes x → x ≡ OldVersion) [
+      | OutOfMemory ↦ λ k. absurd (not_old Two (take 8 bytes) (parts_of_text Two r named tier k.0 bytes k.1).header.0.0.0.1 old)
+      | Truncated ↦ λ k. absurd (⊎_elim (λ (short : length bytes < 40). let none : ⊥ = omega arith in none) (λ (short : HasHeader Two r tier bytes × (length bytes < file_len Two (r.tier_size tier))). not_old Two (take 8 bytes) short.0.0.0.0.1 old) k)
+      | BadMagic ↦ λ k. absurd (k.2 old)
+      | WrongGame ↦ λ k. absurd (not_old Two (take 8 bytes) k.0.1 old)
+      | WrongTier ↦ λ k. absurd (not_old Two (take 8 bytes) k.0.0.1 old)
+      | WrongSize ↦ λ k. absurd (not_old Two (take 8 bytes) k.0.0.0.1 old)
+      | BadRecord index ↦ λ k. absurd (not_old Two (take 8 bytes) k.0.0.0.0.1 old)
+      | Trailing ↦ λ k. absurd (not_old Two (take 8 bytes) k.0.0.0.0.1 old)
+      | BadDigest ↦ λ k. absurd (not_old Two (take 8 bytes) k.0.0.0.0.1 old)
+      | OldVersion ↦ λ k. refl
+    ] h
+
+pub old_answer : (r : Rules) → length r.name ≡ NAME → (tier : ℕ) (bytes : List ℕ) (result : Result (Vec (Option Solved) Global) FileError)
+    → IfOk result (λ x. IsVersionText Two r tier x.items bytes) → IfErr result (RefusesIn Two r tier bytes) → (records : List (Option Solved)) → IsVersionText One r tier records bytes
+    → IsErrOf result OldVersion
+old_answer r named tier bytes (Ok x) found refused records is =
+    absurd (not_old Two (take 8 bytes) (parts_of_text Two r named tier x.items bytes found).header.0.0.0.1 (parts_of_text One r named tier records bytes is).header.0.0.0.1)
+old_answer r named tier bytes (Err e) found refused records is = ap (λ x. Err x) (old_version r named tier records bytes is e refused)
 
 -- why the records are refused is why the bytes are
-pub refused_records : (r : Rules) (tier : ℕ) (bytes : List ℕ) → HasHeader r tier bytes → length bytes ≡ file_len (r.tier_size tier) → HasRecords (r.tier_size tier) (records_part (r.tier_size tier) bytes)
-    → drop (body_len (r.tier_size tier)) bytes ≡ sha256 (take (body_len (r.tier_size tier)) bytes)
-    → (e : FileError) → RefusesRecords (r.tier_size tier) (records_part (r.tier_size tier) bytes) e → Refuses r tier bytes e
-refused_records r tier bytes header len has digest OutOfMemory h = (has.0, text_of_parts r tier bytes has.0 header has.1 digest)
-refused_records r tier bytes header len has digest Truncated h = absurd h
-refused_records r tier bytes header len has digest BadMagic h = absurd h
-refused_records r tier bytes header len has digest WrongGame h = absurd h
-refused_records r tier bytes header len has digest WrongTier h = absurd h
-refused_records r tier bytes header len has digest WrongSize h = absurd h
-refused_records r tier bytes header len has digest (BadRecord index) h = (header, omega arith, h)
-refused_records r tier bytes header len has digest Trailing h = absurd h
-refused_records r tier bytes header len has digest BadDigest h = absurd h
+pub refused_records : (v : Version) (r : Rules) (tier : ℕ) (bytes : List ℕ) → HasHeader v r tier bytes → length bytes ≡ file_len v (r.tier_size tier) → HasRecords v (r.tier_size tier) (records_part v (r.tier_size tier) bytes)
+    → drop (body_len v (r.tier_size tier)) bytes ≡ sha256 (take (body_len v (r.tier_size tier)) bytes)
+    → (e : FileError) → RefusesRecords v (r.tier_size tier) (records_part v (r.tier_size tier) bytes) e → RefusesIn v r tier bytes e
+refused_records v r tier bytes header len has digest OutOfMemory h = (has.0, text_of_parts v r tier bytes has.0 header has.1 digest)
+refused_records v r tier bytes header len has digest Truncated h = absurd h
+refused_records v r tier bytes header len has digest BadMagic h = absurd h
+refused_records v r tier bytes header len has digest WrongGame h = absurd h
+refused_records v r tier bytes header len has digest WrongTier h = absurd h
+refused_records v r tier bytes header len has digest WrongSize h = absurd h
+refused_records v r tier bytes header len has digest (BadRecord index) h = (header, omega arith, h)
+refused_records v r tier bytes header len has digest Trailing h = absurd h
+refused_records v r tier bytes header len has digest BadDigest h = absurd h
+refused_records v r tier bytes header len has digest OldVersion h = absurd h
 
 -- the same, where the size and the part are known by other names
-pub found_text : (r : Rules) (tier : ℕ) (bytes : List ℕ) (size : ℕ) (part : List ℕ) → size ≡ r.tier_size tier → part ≡ records_part size bytes → HasHeader r tier bytes
-    → drop (body_len size) bytes ≡ sha256 (take (body_len size) bytes) → (records : List (Option Solved)) → AreRecords size records part → IsTierText r tier records bytes
-found_text r tier bytes size part e p header digest records are =
-    text_of_parts r tier bytes records header (subst (λ s. AreRecords s records (records_part s bytes)) e (subst (AreRecords size records) p are))
-    (subst (λ s. drop (body_len s) bytes ≡ sha256 (take (body_len s) bytes)) e digest)
+pub found_text : (v : Version) (r : Rules) (tier : ℕ) (bytes : List ℕ) (size : ℕ) (part : List ℕ) → size ≡ r.tier_size tier → part ≡ records_part v size bytes → HasHeader v r tier bytes
+    → drop (body_len v size) bytes ≡ sha256 (take (body_len v size) bytes) → (records : List (Option Solved)) → AreRecords v size records part → IsVersionText v r tier records bytes
+found_text v r tier bytes size part e p header digest records are =
+    text_of_parts v r tier bytes records header (subst (λ s. AreRecords v s records (records_part v s bytes)) e (subst (AreRecords v size records) p are))
+    (subst (λ s. drop (body_len v s) bytes ≡ sha256 (take (body_len v s) bytes)) e digest)
 
-pub refused_text : (r : Rules) (tier : ℕ) (bytes : List ℕ) (size : ℕ) (part : List ℕ) → size ≡ r.tier_size tier → part ≡ records_part size bytes → HasHeader r tier bytes
-    → length bytes ≡ file_len size → HasRecords size part → drop (body_len size) bytes ≡ sha256 (take (body_len size) bytes)
-    → (e : FileError) → RefusesRecords size part e → Refuses r tier bytes e
-refused_text r tier bytes size part e p header len has digest why h =
-    refused_records r tier bytes header (len ∙ ap file_len e) (subst (λ s. HasRecords s (records_part s bytes)) e (subst (HasRecords size) p has))
-    (subst (λ s. drop (body_len s) bytes ≡ sha256 (take (body_len s) bytes)) e digest) why
-    (subst (λ s. RefusesRecords s (records_part s bytes) why) e (subst (λ l. RefusesRecords size l why) p h))
+pub refused_text : (v : Version) (r : Rules) (tier : ℕ) (bytes : List ℕ) (size : ℕ) (part : List ℕ) → size ≡ r.tier_size tier → part ≡ records_part v size bytes → HasHeader v r tier bytes
+    → length bytes ≡ file_len v size → HasRecords v size part → drop (body_len v size) bytes ≡ sha256 (take (body_len v size) bytes)
+    → (e : FileError) → RefusesRecords v size part e → RefusesIn v r tier bytes e
+refused_text v r tier bytes size part e p header len has digest why h =
+    refused_records v r tier bytes header (len ∙ ap (file_len v) e) (subst (λ s. HasRecords v s (records_part v s bytes)) e (subst (HasRecords v size) p has))
+    (subst (λ s. drop (body_len v s) bytes ≡ sha256 (take (body_len v s) bytes)) e digest) why
+    (subst (λ s. RefusesRecords v s (records_part v s bytes) why) e (subst (λ l. RefusesRecords v size l why) p h))

@@ -3,3 +3,4 @@ pub mod Refusals
 pub mod StoreTexts
 pub mod Streams
 pub mod Turns
+pub mod Owners

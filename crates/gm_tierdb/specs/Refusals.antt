@@ -6,77 +6,93 @@ use Rattle.sha2.specs.Sha256.{sha256}
 use Rattle.gm_game.specs.declared.position.Solved.{Solved}
 use Rattle.gm_game.specs.Rules.{Rules}
 use Rattle.gm_tierdb.specs.declared.file_error.FileError.{FileError}
-use Rattle.gm_tierdb.specs.declared.file_error.FileError.TheVariants.{OutOfMemory, Truncated, BadMagic, WrongGame, WrongTier, WrongSize, BadRecord, Trailing, BadDigest}
-use Rattle.gm_tierdb.specs.TierText.{magic, record_bytes, IsStorable, AreRecords, IsTierText}
+use Rattle.gm_tierdb.specs.declared.file_error.FileError.TheVariants.{OutOfMemory, Truncated, BadMagic, WrongGame, WrongTier, WrongSize, BadRecord, Trailing, BadDigest, OldVersion}
+use Rattle.gm_tierdb.specs.declared.version.Version.{Version}
+use Rattle.gm_tierdb.specs.declared.version.Version.TheVariants.{One, Two}
+use Rattle.gm_tierdb.specs.TierText.{magic, width, record_bytes, IsStorable, AreRecords, IsVersionText}
+
+-- the first bytes are those of an older version
+abbrev pub IsOld : Version → List ℕ → Type 0
+IsOld One first = ⊥
+IsOld Two first = first ≡ magic One
 
 -- the header is there, and the first bytes are right
-abbrev pub HasMagic : List ℕ → Type 0
-HasMagic bytes = (40 ≤ length bytes) × (take 8 bytes ≡ magic)
+abbrev pub HasMagic : Version → List ℕ → Type 0
+HasMagic v bytes = (40 ≤ length bytes) × (take 8 bytes ≡ magic v)
 
 -- so is the game's name
-abbrev pub HasName : List ℕ → List ℕ → Type 0
-HasName name bytes = HasMagic bytes × (take 16 (drop 8 bytes) ≡ name)
+abbrev pub HasName : Version → List ℕ → List ℕ → Type 0
+HasName v name bytes = HasMagic v bytes × (take 16 (drop 8 bytes) ≡ name)
 
 -- and the tier
-abbrev pub HasTier : List ℕ → ℕ → List ℕ → Type 0
-HasTier name tier bytes = HasName name bytes × (take 8 (drop 24 bytes) ≡ to_le_bytes w64 tier)
+abbrev pub HasTier : Version → List ℕ → ℕ → List ℕ → Type 0
+HasTier v name tier bytes = HasName v name bytes × (take 8 (drop 24 bytes) ≡ to_le_bytes w64 tier)
 
 -- and its size
-abbrev pub HasHeader : Rules → ℕ → List ℕ → Type 0
-HasHeader r tier bytes = HasTier r.name tier bytes × (take 8 (drop 32 bytes) ≡ to_le_bytes w64 (r.tier_size tier))
+abbrev pub HasHeader : Version → Rules → ℕ → List ℕ → Type 0
+HasHeader v r tier bytes = HasTier v r.name tier bytes × (take 8 (drop 32 bytes) ≡ to_le_bytes w64 (r.tier_size tier))
 
 -- how many bytes there are before the digest, and how many in all
-abbrev pub body_len : ℕ → ℕ
-body_len size = 40 + 2 * size
+abbrev pub body_len : Version → ℕ → ℕ
+body_len v size = 40 + width v * size
 
-abbrev pub file_len : ℕ → ℕ
-file_len size = 72 + 2 * size
+abbrev pub file_len : Version → ℕ → ℕ
+file_len v size = 72 + width v * size
 
 -- where the records stand
-abbrev pub records_part : ℕ → List ℕ → List ℕ
-records_part size bytes = drop 40 (take (body_len size) bytes)
+abbrev pub records_part : Version → ℕ → List ℕ → List ℕ
+records_part v size bytes = drop 40 (take (body_len v size) bytes)
 
 -- these bytes are so many records
-abbrev pub HasRecords : ℕ → List ℕ → Type 0
-HasRecords size bytes = (records : List (Option Solved)) × AreRecords size records bytes
+abbrev pub HasRecords : Version → ℕ → List ℕ → Type 0
+HasRecords v size bytes = (records : List (Option Solved)) × AreRecords v size records bytes
 
 -- the bytes begin with this many records, fewer than the size, and no record comes next
-pub record IsFirstBad (size : ℕ) (bytes : List ℕ) (index : ℕ) : Type 0 where
+pub record IsFirstBad (v : Version) (size : ℕ) (bytes : List ℕ) (index : ℕ) : Type 0 where
   pub front : List (Option Solved)
   pub rest : List ℕ
-  pub storable : All IsStorable front
+  pub storable : All (IsStorable v) front
   pub count : length front ≡ index
   pub within : index < size
-  pub split : bytes ≡ flat_map record_bytes front ++ rest
-  pub bad : (o : Option Solved) → IsStorable o → take 2 rest ≢ record_bytes o
+  pub split : bytes ≡ flat_map (record_bytes v) front ++ rest
+  pub bad : (o : Option Solved) → IsStorable v o → take (width v) rest ≢ record_bytes v o
 
 -- why the records are refused
-abbrev pub RefusesRecords : ℕ → List ℕ → FileError → Type 0
-RefusesRecords size bytes OutOfMemory = Unit {0}
-RefusesRecords size bytes Truncated = ⊥
-RefusesRecords size bytes BadMagic = ⊥
-RefusesRecords size bytes WrongGame = ⊥
-RefusesRecords size bytes WrongTier = ⊥
-RefusesRecords size bytes WrongSize = ⊥
-RefusesRecords size bytes (BadRecord index) = IsFirstBad size bytes index
-RefusesRecords size bytes Trailing = ⊥
-RefusesRecords size bytes BadDigest = ⊥
+abbrev pub RefusesRecords : Version → ℕ → List ℕ → FileError → Type 0
+RefusesRecords v size bytes OutOfMemory = Unit {0}
+RefusesRecords v size bytes Truncated = ⊥
+RefusesRecords v size bytes BadMagic = ⊥
+RefusesRecords v size bytes WrongGame = ⊥
+RefusesRecords v size bytes WrongTier = ⊥
+RefusesRecords v size bytes WrongSize = ⊥
+RefusesRecords v size bytes (BadRecord index) = IsFirstBad v size bytes index
+RefusesRecords v size bytes Trailing = ⊥
+RefusesRecords v size bytes BadDigest = ⊥
+RefusesRecords v size bytes OldVersion = ⊥
 
 -- why the bytes are refused; memory comes last, where they are the text of some records
+abbrev pub RefusesIn : Version → Rules → ℕ → List ℕ → FileError → Type 0
+RefusesIn v r tier bytes OutOfMemory = (records : List (Option Solved)) × IsVersionText v r tier records bytes
+RefusesIn v r tier bytes Truncated = (length bytes < 40) ⊎ (HasHeader v r tier bytes × (length bytes < file_len v (r.tier_size tier)))
+RefusesIn v r tier bytes BadMagic = (40 ≤ length bytes) × (take 8 bytes ≢ magic v) × (IsOld v (take 8 bytes) → ⊥)
+RefusesIn v r tier bytes WrongGame = HasMagic v bytes × (take 16 (drop 8 bytes) ≢ r.name)
+RefusesIn v r tier bytes WrongTier = HasName v r.name bytes × (take 8 (drop 24 bytes) ≢ to_le_bytes w64 tier)
+RefusesIn v r tier bytes WrongSize = HasTier v r.name tier bytes × (take 8 (drop 32 bytes) ≢ to_le_bytes w64 (r.tier_size tier))
+RefusesIn v r tier bytes (BadRecord index) =
+    HasHeader v r tier bytes × (file_len v (r.tier_size tier) ≤ length bytes) × IsFirstBad v (r.tier_size tier) (records_part v (r.tier_size tier) bytes) index
+RefusesIn v r tier bytes Trailing =
+    HasHeader v r tier bytes × (file_len v (r.tier_size tier) < length bytes) × HasRecords v (r.tier_size tier) (records_part v (r.tier_size tier) bytes)
+RefusesIn v r tier bytes BadDigest =
+    HasHeader v r tier bytes × (length bytes ≡ file_len v (r.tier_size tier)) × HasRecords v (r.tier_size tier) (records_part v (r.tier_size tier) bytes)
+    × (drop (body_len v (r.tier_size tier)) bytes ≢ sha256 (take (body_len v (r.tier_size tier)) bytes))
+RefusesIn v r tier bytes OldVersion = (40 ≤ length bytes) × IsOld v (take 8 bytes)
+
+-- why the bytes of a file are refused, and those of an older one
 abbrev pub Refuses : Rules → ℕ → List ℕ → FileError → Type 0
-Refuses r tier bytes OutOfMemory = (records : List (Option Solved)) × IsTierText r tier records bytes
-Refuses r tier bytes Truncated = (length bytes < 40) ⊎ (HasHeader r tier bytes × (length bytes < file_len (r.tier_size tier)))
-Refuses r tier bytes BadMagic = (40 ≤ length bytes) × (take 8 bytes ≢ magic)
-Refuses r tier bytes WrongGame = HasMagic bytes × (take 16 (drop 8 bytes) ≢ r.name)
-Refuses r tier bytes WrongTier = HasName r.name bytes × (take 8 (drop 24 bytes) ≢ to_le_bytes w64 tier)
-Refuses r tier bytes WrongSize = HasTier r.name tier bytes × (take 8 (drop 32 bytes) ≢ to_le_bytes w64 (r.tier_size tier))
-Refuses r tier bytes (BadRecord index) =
-    HasHeader r tier bytes × (file_len (r.tier_size tier) ≤ length bytes) × IsFirstBad (r.tier_size tier) (records_part (r.tier_size tier) bytes) index
-Refuses r tier bytes Trailing =
-    HasHeader r tier bytes × (file_len (r.tier_size tier) < length bytes) × HasRecords (r.tier_size tier) (records_part (r.tier_size tier) bytes)
-Refuses r tier bytes BadDigest =
-    HasHeader r tier bytes × (length bytes ≡ file_len (r.tier_size tier)) × HasRecords (r.tier_size tier) (records_part (r.tier_size tier) bytes)
-    × (drop (body_len (r.tier_size tier)) bytes ≢ sha256 (take (body_len (r.tier_size tier)) bytes))
+Refuses = RefusesIn Two
+
+abbrev pub Refuses1 : Rules → ℕ → List ℕ → FileError → Type 0
+Refuses1 = RefusesIn One
 
 -- the numbers of the errors
 abbrev pub number_of : FileError → ℕ
@@ -89,3 +105,4 @@ number_of WrongSize = 6
 number_of (BadRecord index) = 7
 number_of Trailing = 8
 number_of BadDigest = 9
+number_of OldVersion = 10

@@ -1,13 +1,14 @@
 //! Reading the file of a tier.
-ghost use Rattle.std.specs.Prelude.{◌≡◌, ◌∷◌, [], ◌*◌, ℕ, IfOk, OnOk, IfErr, IfSome, IfNone, IsErrOf, length, Option, List, MatchResult};
-ghost use Rattle.std.specs.Int.{to_le_bytes, w16, w64};
+ghost use Rattle.std.specs.Prelude.{◌≡◌, ◌+◌, ◌*◌, ◌^◌, ◌<◌, ◌≤◌, IfOk, OnOk, IfErr, IsErrOf, IfSome, IfNone, length, Option, List, MatchResult};
+ghost use Rattle.std.specs.Int.{to_le_bytes, w64};
 ghost use Rattle.gm_game.specs.declared.position.Solved.{Solved};
-ghost use Rattle.gm_tierdb.specs.TierText.{AreRecords, IsTierText};
-ghost use Rattle.gm_tierdb.specs.Refusals.{IsFirstBad, RefusesRecords, HasRecords, HasHeader, Refuses};
+ghost use Rattle.gm_tierdb.specs.TierText.{word, width, AreRecords, IsTierText, IsTierText1, IsVersionText};
+ghost use Rattle.gm_tierdb.specs.Refusals.{IsFirstBad, RefusesRecords, HasRecords, HasHeader, Refuses, Refuses1, RefusesIn};
 
 use crate::file_error::FileError;
-use crate::layout::{DIGEST_LEN, HEADER_LEN, MAGIC, MAGIC_LEN, NAME_END, RECORD_LEN, TIER_END};
+use crate::layout::{DIGEST_LEN, HEADER_LEN, MAGIC_LEN, NAME_END, TIER_END};
 use crate::number::record_of;
+use crate::version::Version;
 use gm_game::game::Game;
 use gm_game::position::Solved;
 use sha2::{Digest, Sha256};
@@ -15,7 +16,7 @@ use std::alloc::Global;
 
 /// The records of a tier, from its file: docs/FORMATS.md, "Tier file". Any bytes may be given; memory is asked for last.
 ///
-/// Whether the records are the true ones, only `check` of gm_table tells.
+/// Whether the records are the true ones, only `check` of gm_table tells. A file of version 1 is refused as `OldVersion`; `decode_v1` reads it.
 pub fn decode<G: Game>(
     alloc: Global,
     tier: u64,
@@ -24,31 +25,45 @@ pub fn decode<G: Game>(
     ensures found { IfOk result (λ v. IsTierText G.rules tier v.items bytes.now) }
     ensures exact { (records : List (Option Solved)) → IsTierText G.rules tier records bytes.now
         → MatchResult result (λ v. v.items ≡ records) (λ e. e ≡ FileError.OutOfMemory) }
+    ensures old { (records : List (Option Solved)) → IsTierText1 G.rules tier records bytes.now → IsErrOf result FileError.OldVersion }
     ensures refused { IfErr result (Refuses G.rules tier bytes.now) }
 {
-    read_file::<G>(alloc, tier, bytes)
+    read_file::<G>(alloc, Version::Two, tier, bytes)
+}
+
+/// The records of a tier, from its file of version 1: docs/FORMATS.md, "Version 1". It is as `decode`, and never answers `OldVersion`.
+pub fn decode_v1<G: Game>(
+    alloc: Global,
+    tier: u64,
+    bytes: &[u8],
+) -> Result<Vec<Option<Solved>>, FileError>
+    ensures found { IfOk result (λ v. IsTierText1 G.rules tier v.items bytes.now) }
+    ensures exact { (records : List (Option Solved)) → IsTierText1 G.rules tier records bytes.now
+        → MatchResult result (λ v. v.items ≡ records) (λ e. e ≡ FileError.OutOfMemory) }
+    ensures refused { IfErr result (Refuses1 G.rules tier bytes.now) }
+{
+    read_file::<G>(alloc, Version::One, tier, bytes)
 }
 
 // The records, or why the bytes are refused.
 fn read_file<G: Game>(
     alloc: Global,
+    version: Version,
     tier: u64,
     bytes: &[u8],
 ) -> Result<Vec<Option<Solved>>, FileError>
-    ensures found { IfOk result (λ v. IsTierText G.rules tier v.items bytes.now) }
-    ensures refused { IfErr result (Refuses G.rules tier bytes.now) }
+    ensures found { IfOk result (λ v. IsVersionText version G.rules tier v.items bytes.now) }
+    ensures refused { IfErr result (RefusesIn version G.rules tier bytes.now) }
 {
     let size = G::tier_size(tier);
-    check_header::<G>(tier, size, bytes)?;
-    let size = size as usize;
-    if bytes.len() < HEADER_LEN + DIGEST_LEN
-        || (bytes.len() - HEADER_LEN - DIGEST_LEN) / RECORD_LEN < size
-    {
+    check_header::<G>(version, tier, size, bytes)?;
+    let Some(len) = records_len(version, size, bytes.len()) else {
         return Err(FileError::Truncated);
-    }
-    let (body, digest) = bytes.split_at(HEADER_LEN + RECORD_LEN * size);
+    };
+    let size = size as usize;
+    let (body, digest) = bytes.split_at(HEADER_LEN + len);
     let (_, records) = body.split_at(HEADER_LEN);
-    if let Some(index) = first_bad(records, size) {
+    if let Some(index) = first_bad(version, records, size) {
         return Err(FileError::BadRecord { index });
     }
     if digest.len() != DIGEST_LEN {
@@ -57,19 +72,28 @@ fn read_file<G: Game>(
     if Sha256::digest(body).as_slice() != digest {
         return Err(FileError::BadDigest);
     }
-    read_records(alloc, records, size)
+    read_records(alloc, version, records, size)
 }
 
 // Tests all that stands before the records.
-fn check_header<G: Game>(tier: u64, size: u64, bytes: &[u8]) -> Result<(), FileError>
+fn check_header<G: Game>(
+    version: Version,
+    tier: u64,
+    size: u64,
+    bytes: &[u8],
+) -> Result<(), FileError>
     requires { size ≡ G.rules.tier_size tier }
-    ensures ok { OnOk result (HasHeader G.rules tier bytes.now) }
-    ensures refused { IfErr result (Refuses G.rules tier bytes.now) }
+    ensures ok { OnOk result (HasHeader version G.rules tier bytes.now) }
+    ensures refused { IfErr result (RefusesIn version G.rules tier bytes.now) }
 {
     if bytes.len() < HEADER_LEN {
         return Err(FileError::Truncated);
     }
-    if &bytes[..MAGIC_LEN] != MAGIC {
+    let magic = &bytes[..MAGIC_LEN];
+    if version.is_newer_than(magic) {
+        return Err(FileError::OldVersion);
+    }
+    if magic != version.magic() {
         return Err(FileError::BadMagic);
     }
     if &bytes[MAGIC_LEN..NAME_END] != G::name().as_slice() {
@@ -84,37 +108,52 @@ fn check_header<G: Game>(tier: u64, size: u64, bytes: &[u8]) -> Result<(), FileE
     Ok(())
 }
 
-// The first index at which no record stands.
-fn first_bad(bytes: &[u8], size: usize) -> Option<u64>
-    requires { length bytes.now ≡ 2 * size }
-    ensures none { IfNone result (HasRecords size bytes.now) }
-    ensures some { IfSome result (IsFirstBad size bytes.now) }
+// How many bytes the records of a file have; `None` where a file of this length has no room for them and the digest.
+fn records_len(version: Version, size: u64, file_len: usize) -> Option<usize>
+    ensures some { IfSome result (λ len. (len ≡ width version * size) × (72 + len ≤ file_len)) }
+    ensures none { IfNone result (file_len < 72 + width version * size) }
 {
-    let mut index = 0;
+    let len = version.record_len().checked_mul(size as usize)?;
+    let room = file_len.checked_sub(HEADER_LEN + DIGEST_LEN)?;
+    if len <= room { Some(len) } else { None }
+}
+
+// The first index at which no record stands.
+fn first_bad(version: Version, bytes: &[u8], size: usize) -> Option<u64>
+    requires { length bytes.now ≡ width version * size }
+    ensures none { IfNone result (HasRecords version size bytes.now) }
+    ensures some { IfSome result (IsFirstBad version size bytes.now) }
+{
     let mut rest = bytes;
-    while let [low, high, more @ ..] = rest {
-        match record_of(u16_of(*low, *high)) {
-            None => return Some(index),
-            Some(_found) => index += 1,
+    for index in 0..size {
+        let (record, more) = rest.split_at(version.record_len());
+        match record_of(version, number_at(version, record)) {
+            None => return Some(index as u64),
+            Some(_found) => rest = more,
         }
-        rest = more;
     }
     None
 }
 
 // The records that stand in the bytes.
-fn read_records(alloc: Global, bytes: &[u8], size: usize) -> Result<Vec<Option<Solved>>, FileError>
-    requires { length bytes.now ≡ 2 * size }
-    ensures found { IfOk result (λ v. AreRecords size v.items bytes.now) }
-    ensures refused { IfErr result (RefusesRecords size bytes.now) }
+fn read_records(
+    alloc: Global,
+    version: Version,
+    bytes: &[u8],
+    size: usize,
+) -> Result<Vec<Option<Solved>>, FileError>
+    requires { length bytes.now ≡ width version * size }
+    ensures found { IfOk result (λ v. AreRecords version size v.items bytes.now) }
+    ensures refused { IfErr result (RefusesRecords version size bytes.now) }
 {
     let mut records = Vec::new(alloc);
     let mut rest = bytes;
-    while let [low, high, more @ ..] = rest {
-        match record_of(u16_of(*low, *high)) {
+    for index in 0..size {
+        let (record, more) = rest.split_at(version.record_len());
+        match record_of(version, number_at(version, record)) {
             None => {
                 return Err(FileError::BadRecord {
-                    index: records.len() as u64,
+                    index: index as u64,
                 });
             }
             Some(found) => records.push(found).map_err(|_| FileError::OutOfMemory)?,
@@ -134,9 +173,14 @@ fn u64_of(bytes: &[u8]) -> u64
     ])
 }
 
-// The number that two bytes stand for.
-fn u16_of(low: u8, high: u8) -> u16
-    ensures { to_le_bytes w16 result ≡ low ∷ high ∷ [] }
+// The number that the bytes of a record stand for.
+fn number_at(version: Version, bytes: &[u8]) -> u32
+    requires { length bytes.now ≡ width version }
+    ensures bytes { to_le_bytes (word version) result ≡ bytes.now }
+    ensures fits { result < 256 ^ width version }
 {
-    u16::from_le_bytes([low, high])
+    match version {
+        Version::One => u32::from(u16::from_le_bytes([bytes[0], bytes[1]])),
+        Version::Two => u32::from_le_bytes([bytes[0], bytes[1], bytes[2], bytes[3]]),
+    }
 }

@@ -1,42 +1,101 @@
 //! Writing the file of a tier.
-ghost use Rattle.std.specs.Prelude.{◌≡◌, ◌++◌, IfOk, OnOk};
+ghost use Rattle.std.specs.Prelude.{◌≡◌, ◌↔◌, ◌≤◌, ◌++◌, IsTrue, IfOk, OnOk, MatchOption, All};
 ghost use Rattle.std.specs.List.{flat_map};
-ghost use Rattle.std.specs.Int.{to_le_bytes, w16, w64};
-ghost use Rattle.gm_tierdb.specs.TierText.{record_bytes, IsTierText};
+ghost use Rattle.std.specs.Int.{to_le_bytes, w64};
+ghost use Rattle.gm_tierdb.specs.TierText.{record_bytes, IsStorable, IsTierText, IsTierText1, IsVersionText, AreUpTo, IsFor};
 
-use crate::layout::{DIGEST_LEN, HEADER_LEN, MAGIC, RECORD_LEN};
+use crate::layout::{DIGEST_LEN, HEADER_LEN, RECORD_LEN};
 use crate::number::number_of;
+use crate::version::{REMOTENESS_1, Version};
 use byteorder::{ByteOrder, LittleEndian};
 use gm_game::game::Game;
+use gm_game::position::{Phase, Solved};
 use gm_table::table::Table;
 use sha2::{Digest, Sha256};
 use std::alloc::{AllocError, Global};
 
-/// The file of a table's tier: docs/FORMATS.md, "Tier file". It has 72 bytes and 2 for each index of the tier.
+/// The file of a table's tier: docs/FORMATS.md, "Tier file". It has 72 bytes and 4 for each index of the tier.
 pub fn encode<G: Game>(alloc: Global, table: &Table<G>) -> Result<Vec<u8>, AllocError>
     ensures { IfOk result (λ file. IsTierText G.rules table.now.tier table.now.records file.items) }
 {
+    write_file(alloc, Version::Two, table)
+}
+
+/// The file of a table's tier in version 1, which has no record above a remoteness of 4,095: docs/FORMATS.md, "Version 1". It has 72 bytes and 2 for each index of the tier.
+/// `fits_v1` is the test.
+pub fn encode_v1<G: Game>(alloc: Global, table: &Table<G>) -> Result<Vec<u8>, AllocError>
+    requires { AreUpTo REMOTENESS_1 table.now.records }
+    ensures { IfOk result (λ file. IsTierText1 G.rules table.now.tier table.now.records file.items) }
+{
+    write_file(alloc, Version::One, table)
+}
+
+/// Whether a file of version 1 can have the records of a table: whether the `greatest` of both phases is at most 4,095.
+pub fn fits_v1<G: Game>(table: &Table<G>) -> bool
+    ensures { IsTrue result ↔ AreUpTo REMOTENESS_1 table.now.records }
+{
+    is_within(table.greatest(Phase::WinLose)) && is_within(table.greatest(Phase::Ties))
+}
+
+// Whether a file of version 1 can have a remoteness.
+fn is_within(greatest: Option<u32>) -> bool
+    ensures { IsTrue result ↔ MatchOption greatest (Unit {0}) (λ n. n ≤ REMOTENESS_1) }
+{
+    match greatest {
+        None => true,
+        Some(remoteness) => remoteness <= REMOTENESS_1,
+    }
+}
+
+// The file of a table's tier, in this version.
+fn write_file<G: Game>(
+    alloc: Global,
+    version: Version,
+    table: &Table<G>,
+) -> Result<Vec<u8>, AllocError>
+    requires { IsFor version table.now.records }
+    ensures { IfOk result (λ file. IsVersionText version G.rules table.now.tier table.now.records file.items) }
+{
     let size = table.size();
-    let room = HEADER_LEN + RECORD_LEN * size as usize + DIGEST_LEN;
+    let room = HEADER_LEN + version.record_len() * size as usize + DIGEST_LEN;
     let mut file = Vec::with_capacity(alloc, room)?;
-    file.extend_from_slice(MAGIC)?;
+    file.extend_from_slice(version.magic())?;
     file.extend_from_slice(&G::name())?;
     push_u64(&mut file, table.tier())?;
     push_u64(&mut file, size)?;
-    push_records(&mut file, table)?;
+    push_records(&mut file, version, table)?;
     let digest = Sha256::digest(file.as_slice());
     file.extend_from_slice(&digest)?;
     Ok(file)
 }
 
 // Appends the records of a table.
-fn push_records<G: Game>(file: &mut Vec<u8>, table: &Table<G>) -> Result<(), AllocError>
-    ensures { OnOk result (file.new.items ≡ file.old.items ++ flat_map record_bytes table.now.records) }
+fn push_records<G: Game>(
+    file: &mut Vec<u8>,
+    version: Version,
+    table: &Table<G>,
+) -> Result<(), AllocError>
+    requires { All (IsStorable version) table.now.records }
+    ensures { OnOk result (file.new.items ≡ file.old.items ++ flat_map (record_bytes version) table.now.records) }
 {
     for index in 0..table.size() {
-        push_u16(file, number_of(table.at(index)))?;
+        push_record(file, version, table.at(index))?;
     }
     Ok(())
+}
+
+// Appends a record.
+fn push_record(
+    file: &mut Vec<u8>,
+    version: Version,
+    entry: Option<Solved>,
+) -> Result<(), AllocError>
+    requires { IsStorable version entry }
+    ensures { OnOk result (file.new.items ≡ file.old.items ++ record_bytes version entry) }
+{
+    let mut bytes = [0u8; RECORD_LEN];
+    LittleEndian::write_u32(&mut bytes, number_of(version, entry));
+    file.extend_from_slice(&bytes[..version.record_len()])
 }
 
 // Appends a number of eight bytes.
@@ -45,14 +104,5 @@ fn push_u64(file: &mut Vec<u8>, number: u64) -> Result<(), AllocError>
 {
     let mut bytes = [0u8; 8];
     LittleEndian::write_u64(&mut bytes, number);
-    file.extend_from_slice(&bytes)
-}
-
-// Appends a number of two bytes.
-fn push_u16(file: &mut Vec<u8>, number: u16) -> Result<(), AllocError>
-    ensures { OnOk result (file.new.items ≡ file.old.items ++ to_le_bytes w16 number) }
-{
-    let mut bytes = [0u8; RECORD_LEN];
-    LittleEndian::write_u16(&mut bytes, number);
     file.extend_from_slice(&bytes)
 }

@@ -25,6 +25,9 @@ pub enum FileError {
     Trailing,
     #[error("bad digest")]
     BadDigest,
+    /// The file is of version 1, which `decode_v1` reads.
+    #[error("old version")]
+    OldVersion,
 }
 
 impl FileError {
@@ -42,6 +45,7 @@ impl FileError {
             FileError::BadRecord { .. } => 7,
             FileError::Trailing => 8,
             FileError::BadDigest => 9,
+            FileError::OldVersion => 10,
         }
     }
 }

@@ -1,21 +1,26 @@
 //! A store in a folder of files.
-ghost use Rattle.std.specs.Prelude.{◌≡◌, ◌+◌, ◌<◌, false, None};
+ghost use Rattle.std.specs.Prelude.{◌≡◌, ◌+◌, ◌<◌, false, None, IfOk, string_bytes};
+ghost use Rattle.gm_tierdb.specs.Owners.{path_text};
 ghost use Rattle.gm_tierdb.specs.StoreTexts.{failures_of};
 
+use crate::owner::is_anothers;
 use crate::store::Store;
 use crate::store_error::StoreError;
 use crate::streams::{read_text, write_text};
 use std::alloc::Global;
-use std::fs::{self, Files, OpenFile};
+use std::fs::{self, File, Files, OpenFile};
 use std::io::ErrorKind;
 
 /// A store in a folder: docs/FORMATS.md, "Files in a folder". Tier t is the file `tier-<t>.gmt`, which is written as `tier-<t>.tmp`, synced and renamed.
-/// A file that is not there is no text. The folder is not made. What it holds between two calls is not promised, only the count of failures.
+/// A file that is not there is no text. The folder is not made, and an empty path is no folder. What it holds between two calls is not promised, only the count of failures.
+///
+/// An intact file of another game is never written over: the write fails. What is no ordinary file is not opened.
 #[derive(Drop)]
 pub struct FolderStore {
     alloc: Global,
     folder: String,
     broken: u64,
+    met_another: bool,
 }
 
 impl FolderStore {
@@ -28,12 +33,19 @@ impl FolderStore {
             alloc,
             folder,
             broken: 0,
+            met_another: false,
         }
+    }
+
+    /// Whether a write has failed since the file there is another game's.
+    pub fn met_another(&self) -> bool {
+        self.met_another
     }
 
     // The path of a tier's file with this ending.
     fn path(&self, tier: u64, ending: &str) -> Result<String, StoreError>
-        ensures { failures_of result ≡ 0 }
+        ensures text { IfOk result (λ s. string_bytes s ≡ path_text (string_bytes self.now.folder) tier ending.now) }
+        ensures count { failures_of result ≡ 0 }
     {
         match format!(in self.alloc; "{}/tier-{tier}.{ending}", self.folder) {
             Ok(path) => Ok(path),
@@ -69,15 +81,28 @@ impl Store for FolderStore {
         alloc: Global,
         tier: u64,
     ) -> Result<Option<Vec<u8>>, StoreError> {
+        if self.folder.is_empty() {
+            return self.counted(Err(StoreError::Failed));
+        }
         let path = self.path(tier, "gmt")?;
         let answer = read_file(rt, alloc, path.as_str());
         self.counted(answer)
     }
 
     fn write<R: Files>(&mut self, rt: &R, tier: u64, bytes: &[u8]) -> Result<(), StoreError> {
+        if self.folder.is_empty() {
+            return self.counted(Err(StoreError::Failed));
+        }
         let path = self.path(tier, "gmt")?;
         let beside = self.path(tier, "tmp")?;
-        let answer = write_file(rt, path.as_str(), beside.as_str(), bytes);
+        let answer = match read_file(rt, self.alloc, path.as_str()) {
+            Ok(Some(text)) if is_anothers(text.as_slice(), bytes) => {
+                self.met_another = true;
+                Err(StoreError::Failed)
+            }
+            Ok(_) => write_file(rt, path.as_str(), beside.as_str(), bytes),
+            Err(error) => Err(error),
+        };
         self.counted(answer)
     }
 
@@ -88,20 +113,41 @@ impl Store for FolderStore {
 
 // The text of a file, or none where it is not there.
 fn read_file<R: Files>(rt: &R, alloc: Global, path: &str) -> Result<Option<Vec<u8>>, StoreError> {
-    let mut file = match fs::open(rt, path) {
-        Ok(file) => file,
+    match fs::metadata(rt, path) {
+        Ok(metadata) if metadata.is_file() => {}
         Err(error) if error.kind() == ErrorKind::NotFound => return Ok(None),
-        Err(_) => return Err(StoreError::Failed),
-    };
+        _ => return Err(StoreError::Failed),
+    }
+    let mut file = fs::open(rt, path).map_err(|_| StoreError::Failed)?;
     let text = read_text(alloc, &mut file)?;
     Ok(Some(text))
 }
 
-// Writes a text beside a file, and puts it in its place.
+// Writes a text beside a file, and puts it in its place. After a failure nothing is left beside it, as far as that goes.
 fn write_file<R: Files>(rt: &R, path: &str, beside: &str, bytes: &[u8]) -> Result<(), StoreError> {
-    let mut file = fs::create(rt, beside).map_err(|_| StoreError::Failed)?;
-    write_text(&mut file, bytes)?;
-    file.sync_all().map_err(|_| StoreError::Failed)?;
+    clear(rt, beside)?;
+    let mut file = File::create_new(rt, beside).map_err(|_| StoreError::Failed)?;
+    let mut written = write_text(&mut file, bytes);
+    if written.is_ok() {
+        written = file.sync_all().map_err(|_| StoreError::Failed);
+    }
     drop(file);
-    fs::rename(rt, beside, path).map_err(|_| StoreError::Failed)
+    if written.is_ok() {
+        written = fs::rename(rt, beside, path).map_err(|_| StoreError::Failed);
+    }
+    if written.is_err() {
+        let _ = fs::remove_file(rt, beside);
+    }
+    written
+}
+
+// Removes what an earlier run has left, and follows no link there.
+fn clear<R: Files>(rt: &R, beside: &str) -> Result<(), StoreError> {
+    match fs::symlink_metadata(rt, beside) {
+        Err(error) if error.kind() == ErrorKind::NotFound => Ok(()),
+        Ok(metadata) if metadata.is_file() || metadata.is_symlink() => {
+            fs::remove_file(rt, beside).map_err(|_| StoreError::Failed)
+        }
+        _ => Err(StoreError::Failed),
+    }
 }

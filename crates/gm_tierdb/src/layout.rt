@@ -2,9 +2,6 @@
 
 use gm_game::limits::TIER_SIZE;
 
-/// What each file begins with.
-pub(crate) const MAGIC: &[u8] = b"GMTIER01";
-
 /// The bytes before the game's name.
 pub(crate) const MAGIC_LEN: usize = 8;
 
@@ -17,8 +14,8 @@ pub(crate) const TIER_END: usize = 32;
 /// The bytes before the records.
 pub(crate) const HEADER_LEN: usize = 40;
 
-/// The bytes of a record.
-pub(crate) const RECORD_LEN: usize = 2;
+/// The bytes of the widest record.
+pub(crate) const RECORD_LEN: usize = 4;
 
 /// The bytes of the digest after the records.
 pub(crate) const DIGEST_LEN: usize = 32;

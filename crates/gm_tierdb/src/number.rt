@@ -1,31 +1,29 @@
 //! The number that stands for a record.
-ghost use Rattle.std.specs.Prelude.{◌≡◌, ◌≢◌, IfSome, IfNone, Option};
+ghost use Rattle.std.specs.Prelude.{◌≡◌, ◌≢◌, ◌+◌, ◌*◌, ◌<◌, ◌≤◌, IfSome, IfNone, Option};
 ghost use Rattle.gm_game.specs.declared.position.Solved.{Solved};
 ghost use Rattle.gm_tierdb.specs.TierText.{code, record_number, IsStorable};
 
+use crate::version::Version;
 use gm_game::position::{Solved, Value};
 
-/// How many numbers there are for each code.
-const STEP: u16 = 4096;
-
 /// The number of a record.
-pub(crate) fn number_of(entry: Option<Solved>) -> u16
-    requires { IsStorable entry }
-    ensures { result ≡ record_number entry }
+pub(crate) fn number_of(version: Version, entry: Option<Solved>) -> u32
+    requires { IsStorable version entry }
+    ensures { result ≡ record_number version entry }
 {
     match entry {
         None => 0,
-        Some(solved) => code_of(solved.value) * STEP + solved.remoteness as u16,
+        Some(solved) => code_of(solved.value) * version.step() + solved.remoteness,
     }
 }
 
 /// The record with this number; `None` where no record has it.
-pub(crate) fn record_of(number: u16) -> Option<Option<Solved>>
-    ensures some { IfSome result (λ r. IsStorable r × (record_number r ≡ number)) }
-    ensures none { IfNone result ((r : Option Solved) → IsStorable r → record_number r ≢ number) }
+pub(crate) fn record_of(version: Version, number: u32) -> Option<Option<Solved>>
+    ensures some { IfSome result (λ r. IsStorable version r × (record_number version r ≡ number)) }
+    ensures none { IfNone result ((r : Option Solved) → IsStorable version r → record_number version r ≢ number) }
 {
-    let remoteness = u32::from(number % STEP);
-    let value = match number / STEP {
+    let remoteness = number % version.step();
+    let value = match number / version.step() {
         0 if remoteness == 0 => return Some(None),
         1 => Value::Lose,
         2 if remoteness == 0 => Value::Draw,
@@ -37,8 +35,9 @@ pub(crate) fn record_of(number: u16) -> Option<Option<Solved>>
 }
 
 // The code of a value.
-fn code_of(value: Value) -> u16
-    ensures { result ≡ code value }
+fn code_of(value: Value) -> u32
+    ensures value { result ≡ code value }
+    ensures few { result ≤ 4 }
 {
     match value {
         Value::Lose => 1,

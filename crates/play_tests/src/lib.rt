@@ -3,6 +3,8 @@
 
 pub mod one_tier;
 #[cfg(test)]
+mod questions;
+#[cfg(test)]
 mod sessions;
 #[cfg(test)]
 mod streams;

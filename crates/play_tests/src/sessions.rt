@@ -23,7 +23,7 @@ fn known(value: Value, remoteness: u32) -> Option<Solved> {
 }
 
 // The table of the game.
-fn tables(alloc: Global) -> Result<Tables<Game>, Fail> {
+pub(crate) fn tables(alloc: Global) -> Result<Tables<Game>, Fail> {
     let records = vec![in alloc;
         known(Value::Lose, 0),
         known(Value::Win, 1),

@@ -10,6 +10,9 @@ pub mod desks;
 pub mod holding;
 #[cfg(test)]
 mod parts;
+pub mod pass_desks;
+#[cfg(test)]
+mod passes;
 pub mod sources;
 #[cfg(test)]
 mod tables;

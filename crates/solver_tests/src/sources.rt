@@ -18,11 +18,13 @@ pub enum Habit {
     Odd,
 }
 
-/// A source of a habit. It counts the levels that are begun.
+/// A source of a habit. It counts the levels that are begun, the pieces that it was told of at these, and how often it was asked.
 #[derive(Debug, Drop)]
 pub struct Odd {
     pub habit: Habit,
     pub levels: AtomicUsize,
+    pub told: AtomicUsize,
+    pub asks: AtomicUsize,
     pieces: AtomicUsize,
     asked: AtomicUsize,
 }
@@ -33,6 +35,8 @@ impl Odd {
         Odd {
             habit,
             levels: AtomicUsize::new(0),
+            told: AtomicUsize::new(0),
+            asks: AtomicUsize::new(0),
             pieces: AtomicUsize::new(0),
             asked: AtomicUsize::new(0),
         }
@@ -42,11 +46,13 @@ impl Odd {
 impl Source for Odd {
     fn begin<R: Wait>(&self, _rt: &R, pieces: usize) {
         self.levels.fetch_add(1, Ordering::SeqCst);
+        self.told.fetch_add(pieces, Ordering::SeqCst);
         self.pieces.store(pieces, Ordering::SeqCst);
         self.asked.store(0, Ordering::SeqCst);
     }
 
     fn next<R: Wait>(&self, _rt: &R, _worker: usize) -> Option<usize> {
+        self.asks.fetch_add(1, Ordering::SeqCst);
         let asked = self.asked.fetch_add(1, Ordering::SeqCst);
         match self.habit {
             Habit::Silent => None,
@@ -90,16 +96,19 @@ impl Source for OwnPieces {
     }
 }
 
-/// Holds each of two workers at its first delivery of the first level of wins and losses above 0, until the other has come there too, at most a million turns.
+/// Holds each of two workers at its first delivery of one level of wins and losses, until the other has come there too, at most a million turns.
 #[derive(Drop)]
 pub struct Meeting {
     pub arrived: Mutex<[bool; 2]>,
     pub gave_up: Mutex<bool>,
+    level: u32,
 }
 
 impl Meeting {
-    pub fn new() -> Self {
+    /// A meeting at this level.
+    pub fn at(level: u32) -> Self {
         Meeting {
+            level,
             arrived: Mutex::new([false; 2]),
             gave_up: Mutex::new(false),
         }
@@ -123,7 +132,7 @@ impl Meeting {
 
 impl Gate for Meeting {
     fn before<R: Wait>(&self, rt: &R, worker: usize, place: Place) {
-        if place.phase == Phase::WinLose && place.level == 1 && self.arrive(rt, worker) {
+        if place.phase == Phase::WinLose && place.level == self.level && self.arrive(rt, worker) {
             if !self.wait(rt) {
                 *self.gave_up.lock(rt) = true;
             }

@@ -76,11 +76,11 @@ fn wheel_table(rt: HostRuntime) -> Result<(), Fail> {
 
 #[test]
 fn chain_at_the_limit(rt: HostRuntime) -> Result<(), Fail> {
-    let tables: Tables<Chain<4095>> = Tables::new(rt.alloc());
+    let tables: Tables<Chain<1048575>> = Tables::new(rt.alloc());
     let (table, deliveries) = solve_alone(rt.alloc(), 0, &tables)?;
-    assert_eq!(rt; table.at(4095), value(Value::Win, 4095));
-    assert_eq!(rt; deliveries, 4095);
-    let tables: Tables<Chain<4096>> = Tables::new(rt.alloc());
+    assert_eq!(rt; table.at(1_048_575), value(Value::Win, 1_048_575));
+    assert_eq!(rt; deliveries, 1_048_575);
+    let tables: Tables<Chain<1048576>> = Tables::new(rt.alloc());
     let far = solve_alone(rt.alloc(), 0, &tables).err();
     assert_eq!(rt; far, Some(SolveError::TooFar { tier: 0 }));
     Ok(())

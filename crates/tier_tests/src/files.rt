@@ -9,22 +9,24 @@ use sha2::{Digest, Sha256};
 use std::alloc::{AllocError, Global};
 use std::test::Fail;
 
-type Game = Countdown<10>;
+pub(crate) type Game = Countdown<10>;
 
 // The file of Countdown from 10: docs/FORMATS.md, `file_of_countdown`.
-const FRONT: [u8; 62] = [
-    0x47, 0x4d, 0x54, 0x49, 0x45, 0x52, 0x30, 0x31, 0x63, 0x6f, 0x75, 0x6e, 0x74, 0x64, 0x6f, 0x77,
+const FRONT: [u8; 84] = [
+    0x47, 0x4d, 0x54, 0x49, 0x45, 0x52, 0x30, 0x32, 0x63, 0x6f, 0x75, 0x6e, 0x74, 0x64, 0x6f, 0x77,
     0x6e, 0x00, 0x00, 0x00, 0x00, 0x00, 0x00, 0x00, 0x00, 0x00, 0x00, 0x00, 0x00, 0x00, 0x00, 0x00,
-    0x0b, 0x00, 0x00, 0x00, 0x00, 0x00, 0x00, 0x00, 0x00, 0x10, 0x01, 0x40, 0x01, 0x40, 0x02, 0x10,
-    0x03, 0x40, 0x03, 0x40, 0x04, 0x10, 0x05, 0x40, 0x05, 0x40, 0x06, 0x10, 0x07, 0x40,
+    0x0b, 0x00, 0x00, 0x00, 0x00, 0x00, 0x00, 0x00, 0x00, 0x00, 0x10, 0x00, 0x01, 0x00, 0x40, 0x00,
+    0x01, 0x00, 0x40, 0x00, 0x02, 0x00, 0x10, 0x00, 0x03, 0x00, 0x40, 0x00, 0x03, 0x00, 0x40, 0x00,
+    0x04, 0x00, 0x10, 0x00, 0x05, 0x00, 0x40, 0x00, 0x05, 0x00, 0x40, 0x00, 0x06, 0x00, 0x10, 0x00,
+    0x07, 0x00, 0x40, 0x00,
 ];
 
 const DIGEST: [u8; 32] = [
-    0xb9, 0xdf, 0x1f, 0xd1, 0x0f, 0x8b, 0x71, 0x5f, 0xfd, 0xae, 0xaf, 0xac, 0xde, 0x68, 0x86, 0xf7,
-    0x91, 0xd7, 0x0c, 0xb2, 0xb7, 0xc0, 0x03, 0x1d, 0x4f, 0xcd, 0xeb, 0x40, 0xa4, 0x4c, 0xa2, 0xae,
+    0x2e, 0xf8, 0x81, 0x3d, 0x47, 0x8f, 0xdc, 0xe4, 0xab, 0xd4, 0x0b, 0xf6, 0x24, 0x82, 0x9f, 0x9a,
+    0x01, 0xbd, 0x2c, 0x77, 0x00, 0xa0, 0xac, 0x79, 0x69, 0x57, 0x2a, 0x95, 0x4a, 0xe3, 0x9b, 0xd4,
 ];
 
-fn file_of_countdown(alloc: Global) -> Result<Vec<u8>, AllocError> {
+pub(crate) fn file_of_countdown(alloc: Global) -> Result<Vec<u8>, AllocError> {
     let mut file = Vec::from_slice(alloc, &FRONT)?;
     file.extend_from_slice(&DIGEST)?;
     Ok(file)
@@ -35,7 +37,7 @@ fn record(value: Value, remoteness: u32) -> Option<Solved> {
 }
 
 // The values of 0 to 10.
-fn true_records(alloc: Global) -> Result<Vec<Option<Solved>>, AllocError> {
+pub(crate) fn true_records(alloc: Global) -> Result<Vec<Option<Solved>>, AllocError> {
     let records = vec![in alloc;
         record(Value::Lose, 0),
         record(Value::Win, 1),
@@ -76,7 +78,7 @@ fn a_table_is_written(rt: HostRuntime) -> Result<(), Fail> {
     let table = check(rt.alloc(), 0, records.as_slice(), &tables)?;
     let file = encode(rt.alloc(), &table)?;
     assert_eq!(rt; file, file_of_countdown(rt.alloc())?);
-    assert_eq!(rt; file.len(), 94);
+    assert_eq!(rt; file.len(), 116);
     Ok(())
 }
 
@@ -103,12 +105,12 @@ fn changed_files_are_refused(rt: HostRuntime) -> Result<(), Fail> {
         (32, b"\x0c".as_slice(), FileError::WrongSize),
         (
             40,
-            b"\x03\x20".as_slice(),
+            b"\x03\x00\x20\x00".as_slice(),
             FileError::BadRecord { index: 0 },
         ),
         (
-            60,
-            b"\x00\x50".as_slice(),
+            80,
+            b"\x00\x00\x50\x00".as_slice(),
             FileError::BadRecord { index: 10 },
         ),
     ] {
@@ -123,7 +125,7 @@ fn changed_files_are_refused(rt: HostRuntime) -> Result<(), Fail> {
 #[test]
 fn cut_files_are_truncated(rt: HostRuntime) -> Result<(), Fail> {
     let file = file_of_countdown(rt.alloc())?;
-    for len in 0..94usize {
+    for len in 0..116usize {
         let cut = file.as_slice().get(..len).unwrap_or(&[]);
         assert_eq!(rt;
             refusal(rt.alloc(), cut),
@@ -136,7 +138,7 @@ fn cut_files_are_truncated(rt: HostRuntime) -> Result<(), Fail> {
 
 #[test]
 fn each_changed_byte_is_found(rt: HostRuntime) -> Result<(), Fail> {
-    for at in 0..94usize {
+    for at in 0..116usize {
         let mut file = file_of_countdown(rt.alloc())?;
         if let Some(byte) = file.get_mut(at) {
             *byte ^= 1;
@@ -146,6 +148,10 @@ fn each_changed_byte_is_found(rt: HostRuntime) -> Result<(), Fail> {
             8..=23 => FileError::WrongGame,
             24..=31 => FileError::WrongTier,
             32..=39 => FileError::WrongSize,
+            // The highest byte of a record makes its code one that there is not.
+            40..=83 if at % 4 == 3 => FileError::BadRecord {
+                index: (at as u64 - 40) / 4,
+            },
             _ => FileError::BadDigest,
         };
         assert_eq!(rt; refusal(rt.alloc(), file.as_slice()), Some(why), "at {at}");
@@ -157,8 +163,8 @@ fn each_changed_byte_is_found(rt: HostRuntime) -> Result<(), Fail> {
 fn a_new_digest_does_not_make_records_true(rt: HostRuntime) -> Result<(), Fail> {
     let tables: Tables<Game> = Tables::new(rt.alloc());
     for index in 0..11usize {
-        let low = FRONT.get(40 + 2 * index).map_or(0, |byte| byte ^ 1);
-        let file = with_bytes(rt.alloc(), 40 + 2 * index, &[low])?;
+        let low = FRONT.get(40 + 4 * index).map_or(0, |byte| byte ^ 1);
+        let file = with_bytes(rt.alloc(), 40 + 4 * index, &[low])?;
         let records = decode::<Game>(rt.alloc(), 0, file.as_slice())?;
         let why = CheckError::WrongRecord {
             index: index as u64,
@@ -183,6 +189,7 @@ fn file_errors_have_numbers(rt: HostRuntime) {
         (FileError::BadRecord { index: 5 }, 7),
         (FileError::Trailing, 8),
         (FileError::BadDigest, 9),
+        (FileError::OldVersion, 10),
     ] {
         assert_eq!(rt; error.number(), number);
     }

@@ -100,8 +100,8 @@ fn a_reader_may_fail_at_each_call(rt: HostRuntime) -> Result<(), Fail> {
 #[test]
 fn a_long_text_is_cut(rt: HostRuntime) -> Result<(), Fail> {
     let text = read_text(rt.alloc(), &mut Endless)?;
-    assert_eq!(rt; text.len(), 33_554_505);
-    assert_eq!(rt; READ_LEN, 33_554_505);
+    assert_eq!(rt; text.len(), 67_108_937);
+    assert_eq!(rt; READ_LEN, 67_108_937);
     Ok(())
 }
 

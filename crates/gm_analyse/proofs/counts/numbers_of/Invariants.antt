@@ -1,7 +1,7 @@
-use Rattle.std.proofs.Common.{◌≡◌, ◌+◌, ℕ, slice_index_or, vec_len}
+use Rattle.std.proofs.Common.{◌≡◌, ◌+◌, ◌≤◌, ℕ, slice_index_or, vec_len}
 use Rattle.gm_game.specs.declared.limits.TheConstants.{REMOTENESS}
 use Rattle.gm_analyse.specs.Numbers.{number_in}
 use Rattle.gm_analyse.proofs.counts.numbers_of.Given as goal
 
 abbrev pub invariant-loop-index : goal.invariant-loop-index
-invariant-loop-index g l = (vec_len l.numbers ≡ REMOTENESS + 1) × ((n : ℕ) → slice_index_or l.numbers.items n 0 ≡ number_in l.table.records l.index l.value n)
+invariant-loop-index g l = (vec_len l.numbers ≤ REMOTENESS + 1) × ((n : ℕ) → slice_index_or l.numbers.items n 0 ≡ number_in l.table.records l.index l.value n)

@@ -1,4 +1,4 @@
-use Rattle.std.proofs.Common.{◌≡◌, ◌≤◌, ◌+◌, ◌++◌, ◌∷◌, ℕ, List, Option, MatchOption, IsTrue, [], take, length, get_or, refl, sym, subst, ◌∙◌, arith, length-take}
+use Rattle.std.proofs.Common.{◌≡◌, ◌≤◌, ◌+◌, ◌++◌, ◌∷◌, ℕ, List, IsTrue, [], take, length, get_or, refl, sym, subst, ◌∙◌, arith, length-take}
 use Rattle.std.proofs.lemmas.List.{take_more, take_all}
 use Rattle.std.proofs.lemmas.List.Elements.{Contains-get_or}
 use Rattle.std.proofs.lemmas.Result.{err_from_is_err_and}
@@ -6,20 +6,19 @@ use Rattle.gm_game.specs.declared.limits.TheConstants.{TIERS}
 use Rattle.gm_table.specs.Tables.{TableData}
 use Rattle.gm_tiers.specs.Orders.{IsTierOrder, ComeChildrenFirst}
 use Rattle.gm_tiers.specs.Reach.{IsReached}
-use Rattle.gm_solver.specs.declared.tier.Report.{Report}
-use Rattle.gm_solver.specs.Solving.{AreDeliveries}
-use Rattle.gm_build.specs.TrueTexts.{HasText, HaveTexts, KeepsOthers}
+use Rattle.gm_build.specs.TrueTexts.{HasText, HasOldText, HaveTexts, KeepsOthers}
 use Rattle.gm_build.specs.Work.{IsWorkOn, IsSomeWork, HoldsExactly}
+use Rattle.gm_build.specs.Steps.{IsStep, IsStepWork}
 use Rattle.gm_build.proofs.WorkLemmas.{deliveries_few}
 use Rattle.gm_build.proofs.OrderLemmas.{fresh_tier, children_held, stops_here}
 use Rattle.gm_build.proofs.ErrorLemmas.{build_error, stopped_by}
-use Rattle.gm_build.proofs.SoFar.{IsSoFar, so_far_none, so_far_reused, so_far_solved, so_far_at}
+use Rattle.gm_build.proofs.SoFar.{IsSoFar, so_far_none, so_far_reused, so_far_migrated, so_far_solved, so_far_at}
 use Rattle.gm_build.proofs.build.build.Goals as goal
-use Rattle.gm_build.proofs.build.build.Goals.{in-None, in-Some}
+use Rattle.gm_build.proofs.build.build.Goals.{in-Reused, in-Migrated, in-Solved}
 
 pub loop-tier-init : goal.loop-tier-init
 loop-tier-init g c = record {
-  so_far = subst (λ (entries : List TableData). IsSoFar g.G.Game.rules (IsTrue g.S.Store.KEEPS) (g.S.Store.texts c.args.store.now) (g.S.Store.texts c.args.store.now) entries [] 0 0 0 0) (sym c.new-tables.ensures)
+  so_far = subst (λ (entries : List TableData). IsSoFar g.G.Game.rules (IsTrue g.S.Store.KEEPS) (g.S.Store.texts c.args.store.now) (g.S.Store.texts c.args.store.now) entries [] 0 0 0 0 0) (sym c.new-tables.ensures)
       (so_far_none g.G.Game.rules (IsTrue g.S.Store.KEEPS) (g.S.Store.texts c.args.store.now));
   count = refl;
 }
@@ -66,8 +65,8 @@ overflow_add-deliveries g c =
     let few : length tiers ≤ TIERS = order.few in
     let inside = c.loop-tier-test.true in
     let small = order.small tier (Contains-get_or tiers c.loop-tier.tier-index 0 inside) in
-    let are = subst (λ (o : Option Report). MatchOption o (Unit {0}) (λ report. AreDeliveries r tier report.deliveries)) c.in-Some.is c.in_ok-build_tier.ensures.deliveries in
-    let most = deliveries_few r c.laws.ensures tier c.in-Some.report.deliveries small are in
+    let work = subst (IsStepWork r tier) c.in-Solved.is c.in_ok-build_tier.ensures.work in
+    let most = deliveries_few r c.laws.ensures tier c.in-Solved.report.deliveries small work.0 in
     let so = c.loop-tier.invariant.so_far.few_deliveries in
     let long = length-take c.loop-tier.tier-index tiers in
     omega arith
@@ -81,9 +80,9 @@ overflow_add-by_hand g c =
     let few : length tiers ≤ TIERS = order.few in
     let inside = c.loop-tier-test.true in
     let small = order.small tier (Contains-get_or tiers c.loop-tier.tier-index 0 inside) in
-    let are = subst (λ (o : Option Report). MatchOption o (Unit {0}) (λ report. AreDeliveries r tier report.deliveries)) c.in-Some.is c.in_ok-build_tier.ensures.deliveries in
-    let hand = subst (λ (o : Option Report). MatchOption o (Unit {0}) (λ report. report.by_hand ≤ report.deliveries)) c.in-Some.is c.in_ok-build_tier.ensures.by_hand in
-    let most = deliveries_few r c.laws.ensures tier c.in-Some.report.deliveries small are in
+    let work = subst (IsStepWork r tier) c.in-Solved.is c.in_ok-build_tier.ensures.work in
+    let hand = work.1 in
+    let most = deliveries_few r c.laws.ensures tier c.in-Solved.report.deliveries small work.0 in
     let so = c.loop-tier.invariant.so_far.few_deliveries in
     let below = c.loop-tier.invariant.so_far.few_by_hand in
     let long = length-take c.loop-tier.tier-index tiers in
@@ -111,22 +110,28 @@ loop-tier-preserved g c =
     let e = c.in_ok-build_tier.ensures in
     let count : g.S.Store.failed c.build_tier.new.store ≡ g.S.Store.failed c.args.store.now = (let a = e.count in let b = l.invariant.count in omega arith) in
     elim c.match-branch-3.branch [
-      | in-None w ↦ record {
-        so_far = so_far_at r Keeps start new c.build_tier.new.tables (front ++ tier ∷ []) (take (k + 1) tiers) l.solved m.solved (l.reused + 1) m.reused l.deliveries m.deliveries l.by_hand m.by_hand
-            more w.solved-is w.reused-is w.deliveries-is w.by_hand-is
-            (so_far_reused r c.laws.ensures Keeps start old new l.tables c.build_tier.new.tables front tier fresh l.solved l.reused l.deliveries l.by_hand so e.held e.text e.others
-            (λ keeps. subst (λ (o : Option Report). MatchOption o (HasText r old tier) (λ _. HasText r old tier → ⊥)) w.in-None.is (e.reused keeps)));
+      | in-Reused w ↦ record {
+        so_far = so_far_at r Keeps start new c.build_tier.new.tables (front ++ tier ∷ []) (take (k + 1) tiers) l.solved m.solved (l.reused + 1) m.reused l.migrated m.migrated l.deliveries m.deliveries l.by_hand m.by_hand
+            more w.solved-is w.reused-is w.migrated-is w.deliveries-is w.by_hand-is
+            (so_far_reused r c.laws.ensures Keeps start old new l.tables c.build_tier.new.tables front tier fresh l.solved l.reused l.migrated l.deliveries l.by_hand so e.held e.text e.others
+            (λ keeps. subst (IsStep r old tier) w.in-Reused.is (e.step keeps)));
         count = count;
       }
-      | in-Some w ↦ (
-          let report = w.in-Some.report in
-          let are = subst (λ (o : Option Report). MatchOption o (Unit {0}) (λ u. AreDeliveries r tier u.deliveries)) w.in-Some.is e.deliveries in
-          let hand = subst (λ (o : Option Report). MatchOption o (Unit {0}) (λ u. u.by_hand ≤ u.deliveries)) w.in-Some.is e.by_hand in
+      | in-Migrated w ↦ record {
+        so_far = so_far_at r Keeps start new c.build_tier.new.tables (front ++ tier ∷ []) (take (k + 1) tiers) l.solved m.solved l.reused m.reused (l.migrated + 1) m.migrated l.deliveries m.deliveries l.by_hand m.by_hand
+            more w.solved-is w.reused-is w.migrated-is w.deliveries-is w.by_hand-is
+            (so_far_migrated r c.laws.ensures Keeps start old new l.tables c.build_tier.new.tables front tier fresh l.solved l.reused l.migrated l.deliveries l.by_hand so e.held e.text e.others
+            (λ keeps. subst (IsStep r old tier) w.in-Migrated.is (e.step keeps)));
+        count = count;
+      }
+      | in-Solved w ↦ (
+          let report = w.in-Solved.report in
+          let work = subst (IsStepWork r tier) w.in-Solved.is e.work in
           record {
-            so_far = so_far_at r Keeps start new c.build_tier.new.tables (front ++ tier ∷ []) (take (k + 1) tiers) (l.solved + 1) m.solved l.reused m.reused (l.deliveries + report.deliveries) m.deliveries (l.by_hand + report.by_hand) m.by_hand
-                more w.solved-is w.reused-is w.deliveries-is w.by_hand-is
-                (so_far_solved r c.laws.ensures Keeps start old new l.tables c.build_tier.new.tables front tier fresh l.solved l.reused l.deliveries l.by_hand so e.held e.text e.others
-                (λ keeps. subst (λ (o : Option Report). MatchOption o (HasText r old tier) (λ _. HasText r old tier → ⊥)) w.in-Some.is (e.reused keeps)) small report.deliveries report.by_hand are hand);
+            so_far = so_far_at r Keeps start new c.build_tier.new.tables (front ++ tier ∷ []) (take (k + 1) tiers) (l.solved + 1) m.solved l.reused m.reused l.migrated m.migrated (l.deliveries + report.deliveries) m.deliveries (l.by_hand + report.by_hand) m.by_hand
+                more w.solved-is w.reused-is w.migrated-is w.deliveries-is w.by_hand-is
+                (so_far_solved r c.laws.ensures Keeps start old new l.tables c.build_tier.new.tables front tier fresh l.solved l.reused l.migrated l.deliveries l.by_hand so e.held e.text e.others
+                (λ keeps. subst (IsStep r old tier) w.in-Solved.is (e.step keeps)) small report.deliveries report.by_hand work.0 work.1);
             count = count;
           }
           )
@@ -140,7 +145,7 @@ returns-clause-held g c =
 pub returns-clause-some_work : goal.returns-clause-some_work
 returns-clause-some_work g c =
     let whole : take c.loop-tier.tier-index c.tiers-tier-items.result.now ≡ c.in_ok-order.order = take_all c.loop-tier.tier-index c.tiers-tier-items.result.now (omega arith) ∙ c.tiers-tier-items.ensures.value in
-    subst (λ (tiers : List ℕ). IsSomeWork g.G.Game.rules tiers c.loop-tier.solved c.loop-tier.reused c.loop-tier.deliveries c.loop-tier.by_hand) whole c.loop-tier.invariant.so_far.some_work
+    subst (λ (tiers : List ℕ). IsSomeWork g.G.Game.rules tiers c.loop-tier.solved c.loop-tier.reused c.loop-tier.migrated c.loop-tier.deliveries c.loop-tier.by_hand) whole c.loop-tier.invariant.so_far.some_work
 
 pub returns-clause-texts : goal.returns-clause-texts
 returns-clause-texts g c keeps =
@@ -155,4 +160,4 @@ returns-clause-others g c keeps =
 pub returns-clause-work : goal.returns-clause-work
 returns-clause-work g c keeps =
     let whole : take c.loop-tier.tier-index c.tiers-tier-items.result.now ≡ c.in_ok-order.order = take_all c.loop-tier.tier-index c.tiers-tier-items.result.now (omega arith) ∙ c.tiers-tier-items.ensures.value in
-    subst (λ (tiers : List ℕ). IsWorkOn g.G.Game.rules tiers (HasText g.G.Game.rules (g.S.Store.texts c.args.store.now)) c.loop-tier.solved c.loop-tier.reused c.loop-tier.deliveries c.loop-tier.by_hand) whole (c.loop-tier.invariant.so_far.work keeps)
+    subst (λ (tiers : List ℕ). IsWorkOn g.G.Game.rules tiers (HasText g.G.Game.rules (g.S.Store.texts c.args.store.now)) (HasOldText g.G.Game.rules (g.S.Store.texts c.args.store.now)) c.loop-tier.solved c.loop-tier.reused c.loop-tier.migrated c.loop-tier.deliveries c.loop-tier.by_hand) whole (c.loop-tier.invariant.so_far.work keeps)

@@ -24,9 +24,9 @@ Within size pairs = (pair : NoteData × ℕ) → Contains pairs pair → pair.1 
 Counted : ℕ → ℕ → List ℕ → List (NoteData × ℕ) → List (NoteData × ℕ) → Type 0
 Counted width n counts all pairs = (k : ℕ) → k < n → get_or counts k 0 + tile_count width k pairs ≡ tile_count width k all
 
-pub shard_of-requires : goal.shard_of-requires
+pub shard_of-shard-requires : goal.shard_of-shard-requires
 unfolding Within
-shard_of-requires g c =
+shard_of-shard-requires g c =
     let r = g.G.Game.rules in
     let l = c.args.pieces.now.level.now in
     let size = c.tier_size-size.result in
@@ -35,6 +35,19 @@ shard_of-requires g c =
     let below = within pair (contains_first pair c.next.new.self) in
     let e : size ≡ r.tier_size l.place.tier = c.tier_size-size.ensures ∙ ap (λ (p : Place). r.tier_size p.tier) c.place-place.ensures.value in
     let same = ap r.tier_size c.requires in
+    omega arith
+
+pub place_of-stands-requires : goal.place_of-stands-requires
+unfolding Within
+place_of-stands-requires g c =
+    let r = g.G.Game.rules in
+    let l = c.args.pieces.now.level.now in
+    let size = c.tier_size-size.result in
+    let pair : NoteData × ℕ = (c.in-Some.note, c.in-Some.parent) in
+    let within = subst (Within size) c.in-Some.ensures.steps c.loop-note.invariant.within in
+    let below = within pair (contains_first pair c.next.new.self) in
+    let e : size ≡ r.tier_size l.place.tier = c.tier_size-size.ensures ∙ ap (λ (p : Place). r.tier_size p.tier) c.place-place.ensures.value in
+    let same = ap r.tier_size c.args.pieces.now.lists_are in
     omega arith
 
 pub index_mut-requires : goal.index_mut-requires
@@ -77,7 +90,7 @@ loop-note-init g c =
     let size = c.tier_size-size.result in
     let width = c.args.pieces.now.width in
     let all = pairs_of r l.place.tier 0 size (piece_of c.args.piece c.args.pieces.now.notes l.notes) in
-    let is : c.into_iter-note-iterator.result ≡ all = c.into_iter-note-iterator.ensures.into_iter_gives ∙ c.pairs-note-items.ensures in
+    let is : c.into_iter-note-iterator.result ≡ all = c.into_iter-note-iterator.ensures.into_iter_gives ∙ c.pairs-note-items.ensures.value in
     let zeros = c.in_ok-counts.ensures.items_if_clones_equal (λ y h. h) in
     record {
       parts = refl;
@@ -106,7 +119,7 @@ loop-note-preserved g c =
     let new = set c.loop-note.counts.items (c.in-Some.parent / width) (c.index_mut.result.now + 1) in
     let more = counted_more width c.loop-note.counts.items new pair c.next.new.self all n same inside (ap (λ (v : ℕ). set c.loop-note.counts.items (c.in-Some.parent / width) (v + 1)) value) counted in
     record {
-      parts = ap (λ (s : Amounts). s.parts) c.deliver-answer.ensures.shares ∙ c.loop-note.invariant.parts;
+      parts = ap (λ (s : Amounts). s.parts) c.deliver_at-answer.ensures.shares ∙ c.loop-note.invariant.parts;
       tiles = c.loop-note.invariant.tiles;
       within = λ x h. within x (contains_later pair x c.next.new.self h);
       counted = more;

@@ -1,11 +1,8 @@
-use Rattle.std.proofs.Common.{◌≡◌, ◌++◌, ◌+◌, ◌*◌, All, length}
+use Rattle.std.proofs.Common.{◌≡◌, ◌++◌, ◌-◌, ◌*◌, All, length}
 use Rattle.std.specs.List.{flat_map}
-use Rattle.gm_tierdb.specs.TierText.{record_bytes, IsStorable}
+use Rattle.gm_tierdb.specs.TierText.{width, record_bytes, IsStorable}
 use Rattle.gm_tierdb.proofs.decode.read_records.Given as goal
 
-abbrev pub invariant-loop-rest : goal.invariant-loop-rest
-invariant-loop-rest l =
-    (l.bytes ≡ flat_map record_bytes l.records.items ++ l.rest) × All IsStorable l.records.items × (2 * length l.records.items + length l.rest ≡ 2 * l.size)
-
-abbrev pub decreases-loop-rest : goal.decreases-loop-rest
-decreases-loop-rest l = length l.rest
+abbrev pub invariant-loop-index : goal.invariant-loop-index
+invariant-loop-index l =
+    (l.bytes ≡ flat_map (record_bytes l.version) l.records.items ++ l.rest) × All (IsStorable l.version) l.records.items × (length l.records.items ≡ l.index) × (length l.rest ≡ width l.version * (l.size - l.index))

@@ -4,4 +4,4 @@ use Rattle.gm_tierdb.specs.TierText.{record_bytes}
 use Rattle.gm_tierdb.proofs.encode.push_records.Given as goal
 
 abbrev pub invariant-loop-index : goal.invariant-loop-index
-invariant-loop-index g l = l.file.items ≡ l.initial.file.items ++ flat_map record_bytes (take l.index l.table.records)
+invariant-loop-index g l = l.file.items ≡ l.initial.file.items ++ flat_map (record_bytes l.version) (take l.index l.table.records)

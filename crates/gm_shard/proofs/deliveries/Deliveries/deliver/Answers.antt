@@ -4,7 +4,7 @@ use Rattle.std.specs.Int.{bit_at}
 use Rattle.std.proofs.Math.ListN.{set}
 use Rattle.std.proofs.lemmas.List.{get_or_read}
 use Rattle.gm_game.specs.declared.limits.TheConstants.{REMOTENESS}
-use Rattle.gm_game.specs.Rules.{IsInner, at, IsCanonicalChild}
+use Rattle.gm_game.specs.Rules.{IsInner, at}
 use Rattle.gm_game.specs.Children.{canonical_children_of}
 use Rattle.gm_frontier.specs.Notes.{phase_of}
 use Rattle.gm_shard.specs.Good.{IsWithinLimit}

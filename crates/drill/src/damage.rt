@@ -1,0 +1,77 @@
+//! Damaged files: each line of the input is `tier hex`, the bytes that are said to be the file of a tier; the answer is a sign for each line.
+use gm_game::game::Game;
+use gm_game::limits::TIER_SIZE;
+use gm_solver::alone::solve_alone;
+use gm_table::checker::{CheckError, check};
+use gm_table::tables::Tables;
+use gm_tierdb::decode::decode;
+use gm_tierdb::file_error::FileError;
+use gm_tiers::order::TierOrder;
+use std::alloc::Global;
+use std::io::{self, BufRead, BufReader, Read};
+
+// What is said of a file.
+const ACCEPTED: char = '+';
+
+const REFUSED: char = '-';
+
+const UNREAD: char = '?';
+
+const OUT_OF_MEMORY: char = '!';
+
+// All true tables of a game; none where memory was refused.
+fn solved<G: Game>(alloc: Global) -> Option<Tables<G>> {
+    let order = TierOrder::<G>::from_initial(alloc).ok()?;
+    let mut tables: Tables<G> = Tables::new(alloc);
+    for tier in order.tiers() {
+        if !tables.has_children(*tier) || G::tier_size(*tier) > TIER_SIZE {
+            return None;
+        }
+        let (table, _) = solve_alone(alloc, *tier, &tables).ok()?;
+        tables.insert(table).ok()?;
+    }
+    Some(tables)
+}
+
+// Whether bytes are taken as the file of a tier.
+fn judged<G: Game>(alloc: Global, tables: &Tables<G>, tier: u64, file: &[u8]) -> char {
+    if !tables.has_children(tier) || G::tier_size(tier) > TIER_SIZE {
+        return UNREAD;
+    }
+    let records = match decode::<G>(alloc, tier, file) {
+        Ok(records) => records,
+        Err(FileError::OutOfMemory) => return OUT_OF_MEMORY,
+        Err(_) => return REFUSED,
+    };
+    match check(alloc, tier, records.as_slice(), tables) {
+        Ok(_) => ACCEPTED,
+        Err(CheckError::OutOfMemory) => OUT_OF_MEMORY,
+        Err(_) => REFUSED,
+    }
+}
+
+// A line, judged.
+fn judged_line<G: Game>(alloc: Global, tables: &Tables<G>, line: &str) -> char {
+    let mut words = line.split(' ');
+    let (Some(tier), Some(digits)) = (words.next(), words.next()) else {
+        return UNREAD;
+    };
+    match (tier.parse::<u64>(), hex::decode(alloc, digits)) {
+        (Ok(tier), Ok(file)) => judged(alloc, tables, tier, file.as_slice()),
+        _ => UNREAD,
+    }
+}
+
+/// Judges each line of the input as the file of a tier of this game.
+pub fn damage<G: Game, R: Print + AllocGlobal, I: Read + Drop>(rt: &R, input: I) -> io::Result<()> {
+    let alloc = rt.alloc();
+    let Some(tables) = solved::<G>(alloc) else {
+        return println!(rt; "not solved");
+    };
+    let lines = BufReader::new(alloc, input)?;
+    for line in lines.lines(alloc) {
+        let sign = judged_line(alloc, &tables, line?.as_str());
+        println!(rt; "{sign}")?;
+    }
+    Ok(())
+}

@@ -1,0 +1,173 @@
+//! Tiers solved and a game built.
+use crate::marks::marked;
+use crate::said::say;
+use gm_build::build::{Built, build as build_game};
+use gm_build::build_error::BuildError;
+use gm_game::game::Game;
+use gm_game::limits::TIER_SIZE;
+use gm_game::position::{Solved, Value};
+use gm_solver::alone::solve_alone;
+use gm_solver::gate::NoGate;
+use gm_solver::plan::Plan;
+use gm_solver::source::Counter;
+use gm_solver::tier::{solve_passes, solve_tier};
+use gm_table::table::Table;
+use gm_table::tables::Tables;
+use gm_tactix::tactix::TacTix;
+use gm_tierdb::encode::encode;
+use gm_tierdb::mem_store::MemStore;
+use gm_tierdb::store::Store;
+use gm_tierdb::store_error::StoreError;
+use std::alloc::{AllocError, Global};
+use std::fs::Files;
+use std::io;
+use std::sync::Wait;
+use std::thread::Threads;
+
+// What solves a tier.
+#[derive(Clone, Copy, Debug)]
+pub enum Way {
+    Alone,
+    Pieces,
+    Passes,
+}
+
+// The records of a table and the number of deliveries, as a line; none where memory was refused.
+fn line<G: Game>(alloc: Global, table: &Table<G>, deliveries: u64) -> Result<String, AllocError> {
+    let mut line = format!(in alloc; "{deliveries} deliveries:")?;
+    for index in 0..table.size() {
+        let Some(Solved { value, remoteness }) = table.at(index) else {
+            line.push_str(" -")?;
+            continue;
+        };
+        let letter = match value {
+            Value::Lose => 'L',
+            Value::Win => 'W',
+            Value::Tie => 'T',
+            Value::Draw => 'D',
+        };
+        let word = format!(in alloc; " {letter}{remoteness}")?;
+        line.push_str(word.as_str())?;
+    }
+    Ok(line)
+}
+
+// Solves the first tier of a game in a way.
+fn solved<G: Game + Send + Sync, R: Threads + Wait + Sync>(
+    rt: &R,
+    alloc: Global,
+    way: Way,
+    tables: &Tables<G>,
+) -> Option<(Table<G>, u64)> {
+    if !tables.has_children(0) || G::tier_size(0) > TIER_SIZE {
+        return None;
+    }
+    let plan = Plan::new(2, 2, 1)?;
+    match way {
+        Way::Alone => solve_alone(alloc, 0, tables).ok(),
+        Way::Pieces => {
+            let solved = solve_tier(rt, alloc, 0, tables, plan, &NoGate, &Counter::new());
+            let (table, report) = solved.ok()?;
+            Some((table, report.deliveries))
+        }
+        Way::Passes => {
+            let solved = solve_passes(rt, alloc, 0, tables, plan, &NoGate, &Counter::new());
+            let (table, report) = solved.ok()?;
+            Some((table, report.deliveries))
+        }
+    }
+}
+
+// Prints a solved tier.
+fn say_solved<G: Game, R: Print>(
+    rt: &R,
+    alloc: Global,
+    what: &str,
+    answer: Option<(Table<G>, u64)>,
+) -> io::Result<()> {
+    match answer {
+        Some((table, deliveries)) => say(rt, what, Some(line(alloc, &table, deliveries)?)),
+        None => say(rt, what, None::<u64>),
+    }
+}
+
+/// Solves the first tier of a game.
+pub fn solve<G: Game + Send + Sync, R: Print + AllocGlobal + Threads + Wait + Sync>(
+    rt: &R,
+    way: Way,
+) -> io::Result<()> {
+    let alloc = rt.alloc();
+    let tables: Tables<G> = Tables::new(alloc);
+    let first = marked!(alloc, solved(rt, alloc, way, &tables));
+    say_solved(rt, alloc, "answer", first)?;
+    let again = solved(rt, alloc, way, &tables);
+    say_solved(rt, alloc, "again", again)
+}
+
+type Four = TacTix<2, false>;
+
+// What a store has of a tier, as a sign: the right text, none, or another.
+fn sign(found: Result<Option<Vec<u8>>, StoreError>, right: &[u8]) -> char {
+    match found {
+        Ok(None) => '-',
+        Ok(Some(text)) => { if text.as_slice() == right { '=' } else { 'x' } }
+        Err(_) => 'x',
+    }
+}
+
+// A sign for each tier of the order.
+fn texts<R: Files>(
+    rt: &R,
+    alloc: Global,
+    store: &mut MemStore,
+    built: &Built<Four>,
+) -> Result<String, AllocError> {
+    let mut signs = String::new(alloc);
+    for tier in built.order.tiers() {
+        let right = match built.tables.table(*tier) {
+            Some(table) => encode(alloc, table)?,
+            None => Vec::new(alloc),
+        };
+        if store.failures() < u64::MAX {
+            signs.push(sign(store.read(rt, alloc, *tier), right.as_slice()))?;
+        }
+    }
+    Ok(signs)
+}
+
+fn built<R: Threads + Wait + Files + Sync>(
+    rt: &R,
+    alloc: Global,
+    store: &mut MemStore,
+) -> Result<Built<Four>, BuildError> {
+    match Plan::new(2, 2, 1) {
+        Some(plan) if store.failures() < u64::MAX => {
+            build_game(rt, alloc, store, plan, &NoGate, &Counter::new())
+        }
+        _ => Err(BuildError::OutOfMemory),
+    }
+}
+
+/// Builds Tac Tix on 2 by 2 over a store in memory: after a refusal the tiers before have their texts, and a second build ends it.
+pub fn build<R: Print + AllocGlobal + Threads + Wait + Files + Sync>(rt: &R) -> io::Result<()> {
+    let alloc = rt.alloc();
+    let mut other = MemStore::new(alloc);
+    let Ok(right) = built(rt, alloc, &mut other) else {
+        return say(rt, "before", Some("not built"));
+    };
+    let mut store = MemStore::new(alloc);
+    let first = marked!(alloc, built(rt, alloc, &mut store));
+    say(
+        rt,
+        "answer",
+        first.ok().map(|built| built.order.tiers().len()),
+    )?;
+    say(rt, "texts", Some(texts(rt, alloc, &mut store, &right)?))?;
+    let again = built(rt, alloc, &mut store);
+    say(
+        rt,
+        "again",
+        again.ok().map(|built| built.order.tiers().len()),
+    )?;
+    say(rt, "end", Some(texts(rt, alloc, &mut store, &right)?))
+}

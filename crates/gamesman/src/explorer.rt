@@ -1,0 +1,68 @@
+//! The command line of questions about a position.
+
+use crate::commands::{GAME, folder, read_only, word};
+use crate::explore::{PositionAsked, Question};
+use clap::{Arg, ArgAction, ArgMatches, Command, value_parser};
+use std::alloc::{AllocError, Global};
+
+// A position, or the start.
+fn position<'a>(alloc: Global) -> Arg<'a> {
+    Arg::new(alloc, "POSITION").help("The position; the start where it is left out")
+}
+
+/// The command `moves`.
+pub fn moves<'a>(alloc: Global) -> Result<Command<'a>, AllocError> {
+    let distinct = Arg::new(alloc, "distinct")
+        .long("distinct")
+        .action(ArgAction::SetTrue)
+        .help(
+            "Of moves that lead to positions that are the same but for symmetry, the first alone",
+        );
+    Command::new(alloc, "moves")
+        .about("Lists the moves of a position, the best first: what each is worth, and its result")
+        .arg(word(alloc, "GAME", GAME))?
+        .arg(position(alloc))?
+        .arg(distinct)?
+        .arg(folder(alloc))?
+        .arg(read_only(alloc))
+}
+
+/// The command `line`.
+pub fn line<'a>(alloc: Global) -> Result<Command<'a>, AllocError> {
+    let limit = Arg::new(alloc, "limit")
+        .long("limit")
+        .value_parser(value_parser!(u32).range(1..=4_294_967_295))
+        .help("The most moves that are made, from 1 on");
+    Command::new(alloc, "line")
+        .about("Plays the best moves of both sides from a position to the end")
+        .arg(word(alloc, "GAME", GAME))?
+        .arg(position(alloc))?
+        .arg(limit)?
+        .arg(folder(alloc))?
+        .arg(read_only(alloc))
+}
+
+fn limit_of(inner: &ArgMatches<'_>) -> usize {
+    match inner.get_one::<u32>("limit") {
+        Some(limit) => limit as usize,
+        None => usize::MAX,
+    }
+}
+
+/// Reads a line with one of these commands.
+pub fn explore_of<'a>(name: &str, inner: &ArgMatches<'a>) -> Option<PositionAsked<'a>> {
+    let question = match name {
+        "moves" => Question::Moves {
+            distinct: inner.get_flag("distinct"),
+        },
+        "line" => Question::Line {
+            limit: limit_of(inner),
+        },
+        _ => return None,
+    };
+    Some(PositionAsked {
+        game: inner.get_str("GAME")?,
+        position: inner.get_str("POSITION"),
+        question,
+    })
+}

@@ -1,0 +1,126 @@
+//! The true table of a tier, by its entry in a store.
+ghost use Rattle.std.specs.Prelude.{◌≡◌, ◌+◌, ◌<◌, ◌≤◌, IsTrue, IfOk, IfErr, MatchOption};
+ghost use Rattle.gm_game.specs.Records.{IsTrueTable};
+ghost use Rattle.gm_table.specs.Tables.{AreHeld};
+ghost use Rattle.gm_tierdb.specs.StoreTexts.{AreSame};
+ghost use Rattle.gm_build.specs.TrueTexts.{IsTrueText, IsOldText};
+ghost use Rattle.gm_build.specs.Steps.{IsOfTier, IsFound, IsFoundIn};
+ghost use Rattle.gm_build.specs.Outcomes.{failures_in, IsTierError};
+
+use crate::build_error::BuildError;
+use gm_game::game::Game;
+use gm_game::limits::{REMOTENESS, TIER_SIZE};
+use gm_game::position::Solved;
+use gm_table::checker::{CheckError, check};
+use gm_table::table::Table;
+use gm_table::tables::Tables;
+use gm_tierdb::decode::{decode, decode_v1};
+use gm_tierdb::file_error::FileError;
+use gm_tierdb::store::Store;
+use gm_tierdb::store_error::StoreError;
+use std::alloc::{AllocError, Global};
+use std::fs::Files;
+
+/// What a tier's entry is.
+#[derive(Drop)]
+pub(crate) enum Found<G: Game> {
+    /// The text of its true table.
+    Current(Table<G>),
+    /// The text of its true table in version 1.
+    Old(Table<G>),
+    /// Neither, or there is none.
+    Nothing,
+}
+
+/// Reads the entry of a tier once, and tells what it is. The child tiers are held.
+pub(crate) fn find<G: Game, R: Files, S: Store>(
+    rt: &R,
+    alloc: Global,
+    tier: u64,
+    tables: &Tables<G>,
+    store: &mut S,
+) -> Result<Found<G>, BuildError>
+    requires held { AreHeld G.rules tables.now tier }
+    requires small { G.rules.tier_size tier ≤ TIER_SIZE }
+    requires few { S.failed store.old < u64.MAX }
+    ensures tier { IfOk result (IsOfTier tier) }
+    ensures found { IsTrue S.KEEPS → IfOk result (IsFoundIn G.rules (S.texts store.old) tier) }
+    ensures same { IsTrue S.KEEPS → AreSame (S.texts store.old) (S.texts store.new) }
+    ensures error { IfErr result (IsTierError G.rules tier) }
+    ensures count { S.failed store.new ≡ S.failed store.old + failures_in result }
+{
+    let text = match store.read(rt, alloc, tier) {
+        Ok(Some(text)) => text,
+        Ok(None) => return Ok(Found::Nothing),
+        Err(StoreError::OutOfMemory) => return Err(BuildError::OutOfMemory),
+        Err(StoreError::Failed) => return Err(BuildError::StoreFailed { tier }),
+    };
+    match text_kind(alloc, tier, text.as_slice(), tables) {
+        Ok(found) => Ok(found),
+        Err(_refused) => Err(BuildError::OutOfMemory),
+    }
+}
+
+// What a text is.
+fn text_kind<G: Game>(
+    alloc: Global,
+    tier: u64,
+    bytes: &[u8],
+    tables: &Tables<G>,
+) -> Result<Found<G>, AllocError>
+    requires held { AreHeld G.rules tables.now tier }
+    requires small { G.rules.tier_size tier ≤ TIER_SIZE }
+    ensures tier { IfOk result (IsOfTier tier) }
+    ensures exact { IfOk result (IsFound G.rules tier bytes.now) }
+{
+    match decode::<G>(alloc, tier, bytes) {
+        Ok(records) => match true_table(alloc, tier, records.as_slice(), tables)? {
+            Some(table) => Ok(Found::Current(table)),
+            None => Ok(Found::Nothing),
+        },
+        Err(FileError::OldVersion) => match old_table(alloc, tier, bytes, tables)? {
+            Some(table) => Ok(Found::Old(table)),
+            None => Ok(Found::Nothing),
+        },
+        Err(FileError::OutOfMemory) => Err(AllocError),
+        Err(_) => Ok(Found::Nothing),
+    }
+}
+
+// The true table of a tier, where these bytes are its text in version 1.
+fn old_table<G: Game>(
+    alloc: Global,
+    tier: u64,
+    bytes: &[u8],
+    tables: &Tables<G>,
+) -> Result<Option<Table<G>>, AllocError>
+    requires held { AreHeld G.rules tables.now tier }
+    requires small { G.rules.tier_size tier ≤ TIER_SIZE }
+    ensures tier { IfOk result (λ o. MatchOption o (Unit {0}) (λ table. table.tier ≡ tier)) }
+    ensures exact { IfOk result (λ o. MatchOption o (IsOldText G.rules tier bytes.now → ⊥) (λ _. IsOldText G.rules tier bytes.now)) }
+{
+    match decode_v1::<G>(alloc, tier, bytes) {
+        Ok(records) => true_table(alloc, tier, records.as_slice(), tables),
+        Err(FileError::OutOfMemory) => Err(AllocError),
+        Err(_) => Ok(None),
+    }
+}
+
+// The table of these records, where they are the true ones of a tier.
+fn true_table<G: Game>(
+    alloc: Global,
+    tier: u64,
+    records: &[Option<Solved>],
+    tables: &Tables<G>,
+) -> Result<Option<Table<G>>, AllocError>
+    requires held { AreHeld G.rules tables.now tier }
+    requires small { G.rules.tier_size tier ≤ TIER_SIZE }
+    ensures tier { IfOk result (λ o. MatchOption o (Unit {0}) (λ table. table.tier ≡ tier)) }
+    ensures exact { IfOk result (λ o. MatchOption o (IsTrueTable G.rules REMOTENESS tier records.now → ⊥) (λ _. IsTrueTable G.rules REMOTENESS tier records.now)) }
+{
+    match check(alloc, tier, records, tables) {
+        Ok(table) => Ok(Some(table)),
+        Err(CheckError::OutOfMemory) => Err(AllocError),
+        Err(_) => Ok(None),
+    }
+}

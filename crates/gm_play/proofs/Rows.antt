@@ -1,0 +1,67 @@
+-- The rows of moves and of lines of play.
+use Rattle.std.proofs.Common.{◌≡◌, ℕ, ◌+◌, ◌-◌, true, List, [], ◌∷◌, ◌++◌, map, get_or, Option, Some, refl, sym, ap, subst, ◌∙◌, arith}
+use Rattle.std.specs.List.{All, Contains}
+use Rattle.std.proofs.lemmas.List.{append_assoc}
+use Rattle.std.proofs.lemmas.List.Elements.{All-contains_itself}
+use Rattle.std.proofs.lemmas.List.Sorted.{Contains-permutation, IsPermutation-sym}
+use Rattle.gm_game.specs.declared.position.Position.{Position}
+use Rattle.gm_game.specs.declared.position.Solved.{Solved}
+use Rattle.gm_game.specs.declared.position.Value.{Value}
+use Rattle.gm_game.specs.declared.position.Value.TheVariants.{Lose, Draw, Tie, Win}
+use Rattle.gm_game.specs.Laws.{IsGame}
+use Rattle.gm_game.specs.Records.{solved}
+use Rattle.gm_game.specs.Rules.{Rules}
+use Rattle.gm_game.specs.Texts.{text_of}
+use Rattle.gm_game.specs.Values.{HasValue, IsTrueValue}
+use Rattle.gm_game.proofs.Lists.{map_from}
+use Rattle.gm_play.specs.declared.move_values.MoveValue.{MoveValue}
+use Rattle.gm_play.specs.BestLines.{AreBest}
+use Rattle.gm_play.specs.BestMoves.{wanted_from, IsBestMove}
+use Rattle.gm_play.specs.MoveValues.{worth_from, AreMoveValues}
+use Rattle.gm_play.specs.PlayTexts.{row, after_best, IsMoveOf, AreLineRows, rows_from}
+use Rattle.gm_play.proofs.Walking.{step_value}
+
+-- there is one position with a text
+pub same_read : (p q : Position) (o : Option Position) → o ≡ Some p → o ≡ Some q → p ≡ q
+same_read p q o a b = let e : Some p ≡ Some q = sym a ∙ b in cc
+
+-- moves with their values have legal results
+pub are_moves : (r : Rules) → IsGame r → (p : Position) → r.is_legal p ≡ true → (list : List MoveValue) → AreMoveValues r p list → All (IsMoveOf r p) list
+are_moves r g p legal list h k d inside =
+    let x = get_or list k d in
+    let number : MoveValue → ℕ = λ (y : MoveValue). y.number in
+    let there : Contains list x = All-contains_itself list k d inside in
+    let has : Contains (r.moves p) x.number = Contains-permutation (map number list) (r.moves p) x.number (IsPermutation-sym (r.moves p) (map number list) h.listed) (map_from number list x there) in
+    (has, subst (λ (q : Position). r.is_legal q ≡ true) (sym (h.each k d inside).position) (g.play_legal p x.number legal has))
+
+-- the value after the best move
+lowered : (v : Value) (k n : ℕ) → (v ≡ Draw → n ≡ 0) → worth_from (wanted_from v) k ≡ solved v n → k ≡ n - 1
+lowered Lose k n d e = let f : k + 1 ≡ n = ap (λ s. s.remoteness) e in omega arith
+lowered Draw k n d e = let f : k ≡ n = ap (λ s. s.remoteness) e in let z : n ≡ 0 = d refl in omega arith
+lowered Tie k n d e = let f : k + 1 ≡ n = ap (λ s. s.remoteness) e in omega arith
+lowered Win k n d e = let f : k + 1 ≡ n = ap (λ s. s.remoteness) e in omega arith
+
+drawn_zero : (r : Rules) (p : Position) (v : Value) (n : ℕ) → HasValue r p v n → v ≡ Draw → n ≡ 0
+drawn_zero r p v n h e = (subst (λ (w : Value). HasValue r p w n) e h).0
+
+pub after_true : (r : Rules) (p : Position) (m : ℕ) (s : Solved) → IsBestMove r p (Some m) → IsTrueValue r p s → IsTrueValue r (r.play p m) (after_best s)
+after_true r p m s b h =
+    let (k, here, e) = step_value r p m s.value s.remoteness b h in
+    subst (λ (n : ℕ). HasValue r (r.play p m) (wanted_from s.value) n) (lowered s.value k s.remoteness (drawn_zero r p s.value s.remoteness h) e) here
+
+module _ (r : Rules) (shown : Position → List ℕ) (move_shown : Position → ℕ → List ℕ) where
+  pub rows_true : (ms : List ℕ) (p : Position) (s : Solved) → AreBest r p ms → IsTrueValue r p s → AreLineRows r shown move_shown p ms (rows_from r shown move_shown p s ms)
+  rows_true [] p s best h = refl
+  rows_true (m ∷ ms) p s best h =
+      let next = after_true r p m s best.0 h in
+      (after_best s, rows_from r shown move_shown (r.play p m) (after_best s) ms, next, rows_true ms (r.play p m) (after_best s) best.1 next, refl)
+
+  -- one row more
+  pub rows_next : (p q : Position) (s t : Solved) (m : ℕ) (ms done more all : List ℕ) → q ≡ r.play p m → t ≡ after_best s → more ≡ done ++ row (move_shown p m) (shown q) (text_of t)
+      → done ++ rows_from r shown move_shown p s (m ∷ ms) ≡ all → more ++ rows_from r shown move_shown q t ms ≡ all
+  rows_next p q s t m ms done more all e f w h =
+      let line = row (move_shown p m) (shown q) (text_of t) in
+      let rest = rows_from r shown move_shown q t ms in
+      let here : line ++ rest ≡ rows_from r shown move_shown p s (m ∷ ms) = ap (λ (x : Position). row (move_shown p m) (shown x) (text_of t) ++ rows_from r shown move_shown x t ms) e
+      ∙ ap (λ (u : Solved). row (move_shown p m) (shown (r.play p m)) (text_of u) ++ rows_from r shown move_shown (r.play p m) u ms) f in
+      ap (λ (x : List ℕ). x ++ rest) w ∙ append_assoc done line rest ∙ ap (λ (x : List ℕ). done ++ x) here ∙ h

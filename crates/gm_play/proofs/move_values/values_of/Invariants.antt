@@ -1,0 +1,11 @@
+use Rattle.std.proofs.Common.{◌≡◌, take, map}
+use Rattle.std.specs.List.{All}
+use Rattle.gm_play.specs.declared.move_values.MoveValue.{MoveValue}
+use Rattle.gm_play.specs.MoveValues.{IsMoveValue}
+use Rattle.gm_play.proofs.move_values.values_of.Given as goal
+
+abbrev pub invariant-loop-number : goal.invariant-loop-number
+invariant-loop-number g l = record {
+  listed : map (λ (x : MoveValue). x.number) l.list.items ≡ take l.number-index l.number-items;
+  each : All (IsMoveValue g.G.Game.rules l.p) l.list.items;
+}

@@ -1,0 +1,7 @@
+use Rattle.std.proofs.Common.{◌≡◌, take}
+use Rattle.std.specs.List.{flat_map}
+use Rattle.gm_play.specs.PlayTexts.{move_row}
+use Rattle.gm_play.proofs.texts.move_rows.Given as goal
+
+abbrev pub invariant-loop-x : goal.invariant-loop-x
+invariant-loop-x g l = l.rows.items ≡ flat_map (move_row g.G.Game.rules g.G.Shown.shown g.G.Shown.move_shown l.p) (take l.x-index l.list)

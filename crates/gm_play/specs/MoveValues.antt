@@ -1,0 +1,54 @@
+-- The moves of a position, by what they are worth.
+use Rattle.std.specs.Prelude.{◌≡◌, ℕ, ◌+◌, ◌-◌, ◌*◌, ◌^◌, ◌≤◌, List, [], ◌∷◌, map, IsPermutation, None, Some}
+use Rattle.std.specs.List.{All}
+use Rattle.std.specs.List.Sorted.{IsNonDecreasingBy}
+use Rattle.gm_game.specs.declared.limits.TheConstants.{REMOTENESS}
+use Rattle.gm_game.specs.declared.position.Position.{Position}
+use Rattle.gm_game.specs.declared.position.Solved.{Solved}
+use Rattle.gm_game.specs.declared.position.Value.{Value}
+use Rattle.gm_game.specs.declared.position.Value.TheVariants.{Lose, Draw, Tie, Win}
+use Rattle.gm_game.specs.Records.{solved}
+use Rattle.gm_game.specs.Rules.{Rules}
+use Rattle.gm_game.specs.Values.{IsTrueValue}
+use Rattle.gm_play.specs.BestMoves.{IsBestMove}
+use Rattle.gm_play.specs.declared.move_values.MoveValue.{MoveValue}
+
+-- what a move to a position of this value and remoteness is worth to the side that makes it, counted from before it
+abbrev pub worth_from : Value → ℕ → Solved
+worth_from Lose k = solved Win (k + 1)
+worth_from Draw k = solved Draw k
+worth_from Tie k = solved Tie (k + 1)
+worth_from Win k = solved Lose (k + 1)
+
+abbrev pub worth_of : Solved → Solved
+worth_of s = worth_from s.value s.remoteness
+
+-- where a move to such a position stands among others: those to a loss first, the near ones before the far ones, then those to a tie, the near ones before the far ones, those to a
+-- draw, and those to a win, the far ones before the near ones
+abbrev pub rank : Value → ℕ → ℕ
+rank Lose k = k
+rank Tie k = 2 ^ 32 + k
+rank Draw k = 2 * 2 ^ 32
+rank Win k = 4 * 2 ^ 32 - k
+
+-- among equals the least number stands first
+abbrev pub place : MoveValue → ℕ
+place x = 2 ^ 32 * rank x.result.value x.result.remoteness + x.number
+
+-- the result of the move, its true value, and what the move is worth
+pub record IsMoveValue (r : Rules) (p : Position) (x : MoveValue) : Type 0 where
+  pub position : x.position ≡ r.play p x.number
+  pub is_true : IsTrueValue r x.position x.result
+  pub small : x.result.remoteness ≤ REMOTENESS
+  pub worth : x.worth ≡ worth_of x.result
+
+-- these are the moves of p, each once, the best first
+pub record AreMoveValues (r : Rules) (p : Position) (list : List MoveValue) : Type 0 where
+  pub listed : IsPermutation (r.moves p) (map (λ (x : MoveValue). x.number) list)
+  pub each : All (IsMoveValue r p) list
+  pub ordered : IsNonDecreasingBy place list
+
+-- the first is the best move, and what it is worth is the true value of p; there is none where the game has ended
+abbrev pub BeginsBest : Rules → Position → List MoveValue → Type 0
+BeginsBest r p [] = IsBestMove r p None
+BeginsBest r p (x ∷ xs) = IsBestMove r p (Some x.number) × IsTrueValue r p x.worth

@@ -1,0 +1,131 @@
+//! Best play of both sides.
+ghost use Rattle.std.specs.Prelude.{◌≡◌, ◌↔◌, ◌<◌, true, false, MatchOption, IfOk, IfErr, IsErrOf, Some, slice_get};
+ghost use Rattle.std.specs.List.{Contains};
+ghost use Rattle.gm_play.specs.BestLines.{IsBestLine, IsWhole, ComesToNotHeld};
+ghost use Rattle.gm_play.specs.BestMoves.{IsBestMove};
+ghost use Rattle.gm_play.specs.Refusals.{AreNotHeld};
+
+use crate::answer::AnswerError;
+use crate::best_move::best_move;
+use crate::play_error::PlayError;
+use gm_game::game::Game;
+use gm_game::position::Position;
+use gm_table::tables::Tables;
+use std::alloc::Global;
+
+/// How a line of best play ends.
+#[derive(Clone, Copy, Debug, PartialEq, Eq)]
+pub enum LineEnd {
+    /// The game has ended.
+    Over,
+    /// The last position has come before: it is the one at this place of the line, from 0.
+    Again { first: usize },
+    /// As many moves were made as were asked for.
+    Cut,
+}
+
+/// Best play of both sides from a position.
+#[derive(Debug, Drop)]
+pub struct BestLine {
+    /// The numbers of the moves.
+    pub moves: Vec<u32>,
+    /// The position that the line starts from, and the result of each move.
+    pub positions: Vec<Position>,
+    pub end: LineEnd,
+}
+
+/// The line of play in which both sides make their best moves, up to the end of the game, to a position that has come before, or to so many moves.
+///
+/// Each best move lowers the remoteness by one: from a win, a loss or a tie the line has as many moves as the remoteness says, unless it is cut. A draw does not end. `Illegal` is
+/// tested first; `NotHeld` comes where the line comes to a position whose tier, or one of its child tiers, has no table. Each position is looked for among those before it.
+pub fn best_line<G: Game>(
+    alloc: Global,
+    tables: &Tables<G>,
+    start: Position,
+    limit: usize,
+) -> Result<BestLine, PlayError>
+    ensures line { IfOk result (IsBestLine G.rules start limit) }
+    ensures whole { IfOk result (IsWhole G.rules start limit) }
+    ensures illegal { IsErrOf result PlayError.Illegal ↔ (G.rules.is_legal start ≡ false) }
+    ensures not_held { IsErrOf result PlayError.NotHeld → ComesToNotHeld G.rules tables.now start }
+{
+    if !G::is_legal(start) {
+        return Err(PlayError::Illegal);
+    }
+    walk(alloc, tables, start, limit)
+}
+
+// The line, move by move.
+fn walk<G: Game>(
+    alloc: Global,
+    tables: &Tables<G>,
+    start: Position,
+    limit: usize,
+) -> Result<BestLine, PlayError>
+    requires { G.rules.is_legal start ≡ true }
+    ensures line { IfOk result (IsBestLine G.rules start limit) }
+    ensures legal { IfErr result (λ e. e ≡ PlayError.Illegal → ⊥) }
+    ensures not_held { IsErrOf result PlayError.NotHeld → ComesToNotHeld G.rules tables.now start }
+{
+    let mut moves = Vec::new(alloc);
+    let mut positions = Vec::new(alloc);
+    let mut p = start;
+    positions.push(p).map_err(|_| PlayError::OutOfMemory)?;
+    while moves.len() < limit {
+        let Some(number) = next_move(tables, p)? else {
+            let end = LineEnd::Over;
+            return Ok(BestLine {
+                moves,
+                positions,
+                end,
+            });
+        };
+        p = G::play(p, number);
+        let before = place_of(positions.as_slice(), p);
+        moves.push(number).map_err(|_| PlayError::OutOfMemory)?;
+        positions.push(p).map_err(|_| PlayError::OutOfMemory)?;
+        if let Some(first) = before {
+            let end = LineEnd::Again { first };
+            return Ok(BestLine {
+                moves,
+                positions,
+                end,
+            });
+        }
+    }
+    let end = match G::primitive(p) {
+        Some(_) => LineEnd::Over,
+        None => LineEnd::Cut,
+    };
+    Ok(BestLine {
+        moves,
+        positions,
+        end,
+    })
+}
+
+// The best move of a legal position.
+fn next_move<G: Game>(tables: &Tables<G>, p: Position) -> Result<Option<u32>, PlayError>
+    requires { G.rules.is_legal p ≡ true }
+    ensures best { IfOk result (IsBestMove G.rules p) }
+    ensures err { IfErr result (λ e. e ≡ PlayError.NotHeld) }
+    ensures not_held { IsErrOf result PlayError.NotHeld → AreNotHeld G.rules tables.now p }
+{
+    match best_move(tables, p) {
+        Ok(best) => Ok(best),
+        Err(AnswerError::Illegal) => Err(PlayError::Illegal),
+        Err(AnswerError::NotHeld) => Err(PlayError::NotHeld),
+    }
+}
+
+// The place at which a position stands.
+fn place_of(positions: &[Position], p: Position) -> Option<usize>
+    ensures { MatchOption result (Contains positions.now p → ⊥) (λ k. slice_get positions.now k ≡ Some p) }
+{
+    for (place, q) in positions.iter().enumerate() {
+        if *q == p {
+            return Some(place);
+        }
+    }
+    None
+}

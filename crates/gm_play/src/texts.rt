@@ -1,0 +1,201 @@
+//! The texts of answers: values, moves and lines of play.
+ghost use Rattle.std.specs.Prelude.{◌≡◌, ◌↔◌, ◌∷◌, ◌++◌, ◌<◌, ◌^◌, [], true, IfOk, OnOk, IfErr, IsErrOf};
+ghost use Rattle.gm_game.specs.declared.position.Position.{Position};
+ghost use Rattle.std.specs.List.{All, Contains, flat_map};
+ghost use Rattle.gm_game.specs.Texts.{text_of};
+ghost use Rattle.gm_game.specs.Values.{IsTrueValue};
+ghost use Rattle.gm_play.specs.BestLines.{AreBest, ComesToNotHeld};
+ghost use Rattle.gm_play.specs.PlayTexts.{row, end_row, after_best, IsMoveOf, IsReadAs, IsNoPosition, IsAnswerText, move_row, AreMoveRows, rows_from, IsLineText};
+ghost use Rattle.gm_play.specs.Refusals.{IsNotHeld, AreNotHeld};
+
+use crate::answer::{AnswerError, answer};
+use crate::best_line::{LineEnd, best_line};
+use crate::best_move::wanted;
+use crate::firsts::chosen;
+use crate::move_values::{MoveValue, move_values};
+use crate::play_error::PlayError;
+use gm_game::game::Game;
+use gm_game::position::{Position, Solved};
+use gm_game::shown::{Line, Shown};
+use gm_game::text::{push_decimal, value_text};
+use gm_table::tables::Tables;
+use std::alloc::{AllocError, Global};
+
+/// The text of the true value of the position with this text. Any bytes may be given. It takes no memory.
+pub fn answer_text<G: Shown>(tables: &Tables<G>, text: &[u8]) -> Result<Line, AnswerError>
+    ensures text { IfOk result (λ line. IsAnswerText G.Game.rules G.shown G.move_shown text.now line.items) }
+    ensures illegal { IsErrOf result AnswerError.Illegal ↔ IsNoPosition G.Game.rules G.shown G.move_shown text.now }
+    ensures not_held { IsErrOf result AnswerError.NotHeld ↔ ((p : Position) × IsReadAs G.Game.rules G.shown G.move_shown text.now p × IsNotHeld G.Game.rules tables.now p) }
+{
+    match G::read(text) {
+        Some(p) => Ok(value_text(answer(tables, p)?)),
+        None => Err(AnswerError::Illegal),
+    }
+}
+
+/// The rows of the moves of the position with this text, the best first: the text of the move, what it is worth, and its result, with a tab between them. Where `distinct` is set, of moves that lead to one canonical position the first stands alone. Any bytes may be given.
+pub fn moves_text<G: Shown>(
+    alloc: Global,
+    tables: &Tables<G>,
+    text: &[u8],
+    distinct: bool,
+) -> Result<Vec<u8>, PlayError>
+    ensures text { IfOk result (λ v. AreMoveRows G.Game.rules G.shown G.move_shown distinct text.now v.items) }
+    ensures illegal { IsErrOf result PlayError.Illegal ↔ IsNoPosition G.Game.rules G.shown G.move_shown text.now }
+    ensures not_held { IsErrOf result PlayError.NotHeld ↔ ((p : Position) × IsReadAs G.Game.rules G.shown G.move_shown text.now p × AreNotHeld G.Game.rules tables.now p) }
+{
+    let p = match G::read(text) {
+        Some(p) => p,
+        None => return Err(PlayError::Illegal),
+    };
+    let list = match move_values(tables, p) {
+        Ok(list) => list,
+        Err(_) => return Err(PlayError::NotHeld),
+    };
+    let list = chosen::<G>(list, distinct);
+    match move_rows::<G>(alloc, p, list.as_slice()) {
+        Ok(rows) => Ok(rows),
+        Err(_) => Err(PlayError::OutOfMemory),
+    }
+}
+
+// The rows of some moves of a legal position.
+fn move_rows<G: Shown>(
+    alloc: Global,
+    p: Position,
+    list: &[MoveValue],
+) -> Result<Vec<u8>, AllocError>
+    requires legal { G.Game.rules.is_legal p ≡ true }
+    requires each { All (IsMoveOf G.Game.rules p) list.now }
+    ensures { IfOk result (λ v. v.items ≡ flat_map (move_row G.Game.rules G.shown G.move_shown p) list.now) }
+{
+    let mut rows = Vec::new(alloc);
+    for x in list {
+        push_move::<G>(&mut rows, p, x)?;
+    }
+    Ok(rows)
+}
+
+fn push_move<G: Shown>(rows: &mut Vec<u8>, p: Position, x: &MoveValue) -> Result<(), AllocError>
+    requires legal { G.Game.rules.is_legal p ≡ true }
+    requires each { IsMoveOf G.Game.rules p x.now }
+    ensures { OnOk result (rows.new.items ≡ rows.old.items ++ move_row G.Game.rules G.shown G.move_shown p x.now) }
+{
+    let x = *x;
+    push_row(
+        rows,
+        G::move_text(p, x.number).as_slice(),
+        value_text(x.worth).as_slice(),
+        G::show(x.position).as_slice(),
+    )
+}
+
+// Appends three fields, with a tab between them.
+fn push_row(rows: &mut Vec<u8>, a: &[u8], b: &[u8], c: &[u8]) -> Result<(), AllocError>
+    ensures { OnOk result (rows.new.items ≡ rows.old.items ++ row a.now b.now c.now) }
+{
+    rows.extend_from_slice(a)?;
+    rows.extend_from_slice(b"\t")?;
+    rows.extend_from_slice(b)?;
+    rows.extend_from_slice(b"\t")?;
+    rows.extend_from_slice(c)?;
+    rows.extend_from_slice(b"\n")
+}
+
+/// The rows of the line of best play from the position with this text: the text of a move (none at first), the position and its value, with a tab between them, and at the end of a
+/// draw the number of the row, from 0, in which the last position stood before. Any bytes may be given. At most so many moves are made.
+pub fn line_text<G: Shown>(
+    alloc: Global,
+    tables: &Tables<G>,
+    text: &[u8],
+    limit: usize,
+) -> Result<Vec<u8>, PlayError>
+    ensures text { IfOk result (λ v. IsLineText G.Game.rules G.shown G.move_shown text.now limit v.items) }
+    ensures illegal { IsErrOf result PlayError.Illegal ↔ IsNoPosition G.Game.rules G.shown G.move_shown text.now }
+    ensures not_held { IsErrOf result PlayError.NotHeld → ((p : Position) × IsReadAs G.Game.rules G.shown G.move_shown text.now p × ComesToNotHeld G.Game.rules tables.now p) }
+{
+    let start = match G::read(text) {
+        Some(p) => p,
+        None => return Err(PlayError::Illegal),
+    };
+    let line = best_line(alloc, tables, start, limit)?;
+    let value = known_value(tables, start)?;
+    match line_rows::<G>(alloc, start, value, line.moves.as_slice(), line.end) {
+        Ok(rows) => Ok(rows),
+        Err(_) => Err(PlayError::OutOfMemory),
+    }
+}
+
+// The value of a legal position.
+fn known_value<G: Game>(tables: &Tables<G>, p: Position) -> Result<Solved, PlayError>
+    requires { G.rules.is_legal p ≡ true }
+    ensures value { IfOk result (IsTrueValue G.rules p) }
+    ensures err { IfErr result (λ e. e ≡ PlayError.NotHeld) }
+    ensures not_held { IsErrOf result PlayError.NotHeld → IsNotHeld G.rules tables.now p }
+{
+    match answer(tables, p) {
+        Ok(value) => Ok(value),
+        Err(_) => Err(PlayError::NotHeld),
+    }
+}
+
+// The rows of best moves from a position of this value.
+fn line_rows<G: Shown>(
+    alloc: Global,
+    start: Position,
+    value: Solved,
+    moves: &[u32],
+    end: LineEnd,
+) -> Result<Vec<u8>, AllocError>
+    requires legal { G.Game.rules.is_legal start ≡ true }
+    requires value { IsTrueValue G.Game.rules start value }
+    requires best { AreBest G.Game.rules start moves.now }
+    ensures { IfOk result (λ v. v.items ≡ row [] (G.shown start) (text_of value) ++ rows_from G.Game.rules G.shown G.move_shown start value moves.now ++ end_row end) }
+{
+    let mut rows = Vec::new(alloc);
+    push_row(
+        &mut rows,
+        b"",
+        G::show(start).as_slice(),
+        value_text(value).as_slice(),
+    )?;
+    let mut p = start;
+    let mut value = value;
+    for number in moves {
+        let text = G::move_text(p, *number);
+        p = G::play(p, *number);
+        value = value_after(value);
+        push_row(
+            &mut rows,
+            text.as_slice(),
+            G::show(p).as_slice(),
+            value_text(value).as_slice(),
+        )?;
+    }
+    push_end(&mut rows, end)?;
+    Ok(rows)
+}
+
+// The value after the best move.
+fn value_after(value: Solved) -> Solved
+    ensures { result ≡ after_best value }
+{
+    Solved {
+        value: wanted(value.value),
+        remoteness: value.remoteness.saturating_sub(1),
+    }
+}
+
+// Appends where the last position of a line has come before.
+fn push_end(rows: &mut Vec<u8>, end: LineEnd) -> Result<(), AllocError>
+    ensures { OnOk result (rows.new.items ≡ rows.old.items ++ end_row end) }
+{
+    if let LineEnd::Again { first } = end {
+        let mut number = Line::new();
+        push_decimal(&mut number, first as u64);
+        rows.extend_from_slice(b"again ")?;
+        rows.extend_from_slice(number.as_slice())?;
+        rows.extend_from_slice(b"\n")?;
+    }
+    Ok(())
+}

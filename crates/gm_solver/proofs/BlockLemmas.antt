@@ -1,0 +1,78 @@
+-- Blocks of a tier, one after another.
+use Rattle.std.proofs.Common.{◌≡◌, ℕ, zero, suc, ◌+◌, ◌-◌, ◌⊎◌, inl, inr, List, [], ◌∷◌, ◌++◌, length, take, drop, slice_get, Some, sym, ap, subst, ◌∙◌, arith}
+use Rattle.std.specs.List.{AllZip, range_with_len}
+use Rattle.std.proofs.lemmas.Slice.Zip.{AllZip-long}
+use Rattle.std.proofs.lemmas.List.FromFn.{length-range_with_len}
+use Rattle.gm_game.specs.Rules.{Rules, at}
+use Rattle.gm_shard.specs.declared.status.Start.{Start}
+use Rattle.gm_shard.specs.Begin.{IsStart, AreStarts}
+use Rattle.gm_shard.specs.Lists.{ListsData}
+use Rattle.gm_solver.specs.Blocks.{block_at}
+
+-- an item of two lists, one after the other, stands in one of them
+pub append_cases : {X : Type 0} (xs ys : List X) (k : ℕ) (x : X) → slice_get (xs ++ ys) k ≡ Some x → (slice_get xs k ≡ Some x) ⊎ ((j : ℕ) × (k ≡ length xs + j) × (slice_get ys j ≡ Some x))
+append_cases [] ys k x e = inr (k, (let same : k ≡ 0 + k = omega arith in same), e)
+append_cases (z ∷ zs) ys zero x e = inl e
+append_cases (z ∷ zs) ys (suc k) x e = elim (append_cases zs ys k x e) [
+  | inl h ↦ inl h
+  | inr (j, i, q) ↦ inr (j, (let more : suc k ≡ suc (length zs) + j = omega arith in more), q)
+]
+
+-- each of these blocks stands where its number says
+abbrev pub AreInOrder : Rules → ℕ → ℕ → List ListsData → Type 0
+AreInOrder r tier width blocks = (k : ℕ) (b : ListsData) → slice_get blocks k ≡ Some b → b ≡ block_at r tier width k
+
+pub none_ordered : (r : Rules) (tier width : ℕ) → AreInOrder r tier width []
+none_ordered r tier width k b e = absurd (cc)
+
+pub one_ordered : (r : Rules) (tier width : ℕ) (blocks : List ListsData) (b : ListsData) → b ≡ block_at r tier width (length blocks) → AreInOrder r tier width blocks → AreInOrder r tier width (blocks ++ b ∷ [])
+one_ordered r tier width blocks b is before k x e = elim (append_cases blocks (b ∷ []) k x e) [
+  | inl h ↦ before k x h
+  | inr (zero, i, q) ↦ (let same : b ≡ x = cc in let here : length blocks ≡ k = omega arith in sym same ∙ is ∙ ap (block_at r tier width) here)
+  | inr (suc j, i, q) ↦ absurd (cc)
+]
+
+-- the starts of a range, and those of the range that goes on where it ends
+pub starts_more : (r : Rules) (tier lo : ℕ) (xs ys : List Start) → length xs ≡ lo → AreStarts r tier 0 xs → AreStarts r tier lo ys → AreStarts r tier 0 (xs ++ ys)
+starts_more r tier lo xs ys long before more k x e = elim (append_cases xs ys k x e) [
+  | inl h ↦ before k x h
+  | inr (j, i, q) ↦ (let here : lo + j ≡ 0 + k = omega arith in subst (λ (m : ℕ). IsStart r (at tier m) x) here (more j x q))
+]
+
+-- the first of numbered items, and the others
+pub zip_step : {X : Type 0} (R : ℕ → X → Type 0) (n : ℕ) (rest : List X) (x : X) (xs : List X) → rest ≡ x ∷ xs → AllZip R (range_with_len n (length rest)) rest → R n x × AllZip R (range_with_len (suc n) (length xs)) xs
+zip_step {X} R n rest x xs e h =
+    let z = subst (λ (ys : List X). AllZip R (range_with_len n (length ys)) ys) e h in
+    let next : n + 1 ≡ suc n = omega arith in
+    (z.0, subst (λ (i : ℕ). AllZip R (range_with_len i (length xs)) xs) next z.1)
+
+-- a list that goes with the numbers below n, item by item
+pub zip_whole : {X : Type 0} (R : ℕ → X → Type 0) (n : ℕ) (numbers : List ℕ) (xs items : List X) → numbers ≡ range_with_len 0 (n - 0) → AllZip R numbers xs → items ≡ xs → (length items ≡ n) × AllZip R (range_with_len 0 (length items)) items
+zip_whole {X} R n numbers xs items places zip same =
+    let same_end : n - 0 ≡ n = omega arith in
+    let z = subst (λ (ys : List X). AllZip R (range_with_len 0 n) ys) (sym same) (subst (λ (is : List ℕ). AllZip R is xs) (places ∙ ap (range_with_len 0) same_end) zip) in
+    let long : length items ≡ n = AllZip-long R (range_with_len 0 n) items z ∙ length-range_with_len 0 n in
+    (long, subst (λ (m : ℕ). AllZip R (range_with_len 0 m) items) (sym long) z)
+
+-- before the first of them
+pub zip_first : {X Y : Type 0} (R : ℕ → X → Type 0) (done : List Y) (xs items : List X) → done ≡ [] → items ≡ xs → AllZip R (range_with_len 0 (length xs)) xs → AllZip R (range_with_len (length done) (length items)) items
+zip_first {X} {Y} R done xs items none same zip =
+    subst (λ (ds : List Y). AllZip R (range_with_len (length ds) (length items)) items) (sym none) (subst (λ (ys : List X). AllZip R (range_with_len 0 (length ys)) ys) (sym same) zip)
+
+-- an item of a part of a list stands in the list
+take_get : {X : Type 0} (n k : ℕ) (xs : List X) (x : X) → slice_get (take n xs) k ≡ Some x → slice_get xs k ≡ Some x
+take_get zero k xs x e = absurd (cc)
+take_get (suc n) k [] x e = absurd (cc)
+take_get (suc n) zero (y ∷ ys) x e = e
+take_get (suc n) (suc k) (y ∷ ys) x e = take_get n k ys x e
+
+drop_get : {X : Type 0} (lo k : ℕ) (xs : List X) (x : X) → slice_get (drop lo xs) k ≡ Some x → slice_get xs (lo + k) ≡ Some x
+drop_get zero k xs x e = (let same : k ≡ 0 + k = omega arith in subst (λ (m : ℕ). slice_get xs m ≡ Some x) same e)
+drop_get (suc lo) k [] x e = absurd (cc)
+drop_get (suc lo) k (y ∷ ys) x e = (let same : suc (lo + k) ≡ suc lo + k = omega arith in subst (λ (m : ℕ). slice_get (y ∷ ys) m ≡ Some x) same (drop_get lo k ys x e))
+
+-- the starts of a part of a tier
+pub starts_part : (r : Rules) (tier lo n : ℕ) (xs : List Start) → AreStarts r tier 0 xs → AreStarts r tier lo (take n (drop lo xs))
+starts_part r tier lo n xs all k x e =
+    let same : 0 + (lo + k) ≡ lo + k = omega arith in
+    subst (λ (m : ℕ). IsStart r (at tier m) x) same (all (lo + k) x (drop_get lo k xs x (take_get n k (drop lo xs) x e)))

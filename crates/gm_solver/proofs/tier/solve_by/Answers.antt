@@ -1,0 +1,28 @@
+use Rattle.std.proofs.Common.{◌≡◌, ℕ, sym, ap, subst, ◌∙◌}
+use Rattle.std.proofs.lemmas.Result.{err_from_is_err_and}
+use Rattle.gm_game.specs.declared.position.Place.{Place}
+use Rattle.gm_table.specs.Tables.{AreHeld}
+use Rattle.gm_solver.specs.Solving.{IsTooFar}
+use Rattle.gm_solver.proofs.tier.solve_by.Goals as goal
+
+pub table-requires-clause-held : goal.table-requires-clause-held
+table-requires-clause-held g c =
+    let tier_of = λ (p : Place). p.tier in
+    let tier : c.in_ok-tiles-3.tiles.shards.a.tier ≡ c.args.tier = c.in_ok-tiles-3.ensures.later.tier ∙ ap tier_of c.next_phase.ensures ∙ c.in_ok-tiles-2.ensures.later.tier ∙ ap tier_of c.in_ok-tiles.ensures.place in
+    subst (AreHeld g.G.Game.rules c.args.tables.now) (sym tier) c.requires.held
+
+pub finish_levels-requires-clause-held : goal.finish_levels-requires-clause-held
+finish_levels-requires-clause-held g c κs within =
+    let tier : c.in_ok-tiles.tiles.shards.a.tier ≡ c.args.tier = ap (λ (p : Place). p.tier) c.in_ok-tiles.ensures.place in
+    subst (AreHeld g.G.Game.rules c.args.tables.now) (sym tier) c.requires.held
+
+pub returns-clause-near : goal.returns-clause-near
+returns-clause-near g c =
+    let tier_of = λ (p : Place). p.tier in
+    let tier : c.in_ok-tiles-3.tiles.shards.a.tier ≡ c.args.tier = c.in_ok-tiles-3.ensures.later.tier ∙ ap tier_of c.next_phase.ensures ∙ c.in_ok-tiles-2.ensures.later.tier ∙ ap tier_of c.in_ok-tiles.ensures.place in
+    subst (λ (t : ℕ). IsTooFar g.G.Game.rules t → ⊥) tier c.in_ok-table.ensures.near
+
+pub returns-in_err-table-clause-error : goal.returns-in_err-table-clause-error
+returns-in_err-table-clause-error g c =
+    let p = err_from_is_err_and c.from_residual-in_err-table.result c.from_residual-in_err-table.ensures.1 in
+    rw (p.1, p.2) tt

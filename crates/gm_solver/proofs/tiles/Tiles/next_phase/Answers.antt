@@ -1,0 +1,24 @@
+use Rattle.std.proofs.Common.{rules, sym, ap, ◌∙◌}
+use Rattle.gm_shard.specs.State.{ShardState}
+use Rattle.gm_shard.specs.Steps.{place_of}
+use Rattle.gm_solver.proofs.RoundLemmas.{turned_none}
+use Rattle.gm_solver.proofs.tiles.Tiles.next_phase.Goals as goal
+
+pub invariant_of-self : goal.invariant_of-self
+invariant_of-self g c =
+    let r = g.G.Game.rules in
+    let s = c.args.self.now in
+    let place = place_of s.shards.a in
+    let good = c.show_good_shards.ensures in
+    record {
+      lists_are = s.lists_are ∙ sym (ap (λ (t : ShardState). t.tier) c.next_phase.ensures);
+      wide = search rules;
+      shards_are = search rules;
+      counts_are = search rules;
+      none_are = record {
+        a = turned_none r s.shards.a c.next_phase.new.self place s.width 0 c.next_phase.ensures good.a s.shards_are.a c.requires.phase;
+        b = turned_none r s.shards.b c.next_phase-2.new.self place s.width 1 c.next_phase-2.ensures good.b s.shards_are.b c.requires.phase;
+        c = turned_none r s.shards.c c.next_phase-3.new.self place s.width 2 c.next_phase-3.ensures good.c s.shards_are.c c.requires.phase;
+        d = turned_none r s.shards.d c.next_phase-4.new.self place s.width 3 c.next_phase-4.ensures good.d s.shards_are.d c.requires.phase;
+      };
+    }

@@ -1,0 +1,35 @@
+//! Whose the text of a tier is.
+ghost use Rattle.std.specs.Prelude.{◌≡◌, ◌↔◌, ◌≤◌, IsTrue, length};
+ghost use Rattle.gm_tierdb.specs.Owners.{IsIntact, IsAnothers, owner_of};
+
+use crate::layout::{DIGEST_LEN, HEADER_LEN, MAGIC_LEN, NAME_END};
+use sha2::{Digest, Sha256};
+
+/// What the file of a tier begins with, whatever its version is.
+const MARK: &[u8] = b"GMTIER";
+
+/// Whether a text is an intact file of a tier, and of another game than these bytes are a file of. Any bytes may be given.
+pub fn is_anothers(text: &[u8], bytes: &[u8]) -> bool
+    ensures { IsTrue result ↔ IsAnothers text.now bytes.now }
+{
+    is_intact(text) && (bytes.len() < NAME_END || owner(text) != owner(bytes))
+}
+
+// Whether a text is the file of a tier: what it begins with, and its digest.
+fn is_intact(text: &[u8]) -> bool
+    ensures { IsTrue result ↔ IsIntact text.now }
+{
+    if text.len() < HEADER_LEN + DIGEST_LEN || &text[..MARK.len()] != MARK {
+        return false;
+    }
+    let (body, digest) = text.split_at(text.len() - DIGEST_LEN);
+    Sha256::digest(body).as_slice() == digest
+}
+
+// The name of the game that a file is of.
+fn owner(text: &[u8]) -> &[u8]
+    requires { 24 ≤ length text.now }
+    ensures { result.now ≡ owner_of text.now }
+{
+    &text[MAGIC_LEN..NAME_END]
+}

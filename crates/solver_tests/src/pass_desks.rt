@@ -1,0 +1,136 @@
+//! Desks that are delivered to in order, as callers with workers of their own use them.
+ghost use Rattle.std.specs.Prelude.{◌≡◌, ◌<◌, ◌≤◌};
+ghost use Rattle.gm_table.specs.Tables.{AreHeld};
+ghost use Rattle.gm_shard.specs.State.{pairs_in};
+ghost use Rattle.gm_shard.specs.Begin.{first_state};
+ghost use Rattle.gm_solver.specs.Spots.{spot_of};
+ghost use Rattle.gm_solver.specs.Rounds.{place_of_spot, HasNoneHere, IsForSpot, IsLevelAt};
+
+use gm_frontier::expected::Expected;
+use gm_frontier::level::Level;
+use gm_game::game::Game;
+use gm_game::limits::{REMOTENESS, TIER_SIZE};
+use gm_shard::shard::Shard;
+use gm_shard::status::{Delivery, Refused};
+use gm_solver::pass::{Pass, PassDesk, Round};
+use gm_solver::starts::begin_range;
+use gm_table::tables::Tables;
+use std::alloc::{AllocError, Global};
+use std::marker::Brand;
+use std::sync::Wait;
+use std::sync::ledger::Blank;
+
+/// What a desk answered to one delivery, with the amount of the pass after it, and whether that was full.
+pub type Told = (Result<Delivery, Refused>, u64, bool);
+
+/// What one desk answered to the deliveries of a level, one after another.
+#[derive(Debug, Drop)]
+pub struct Passed {
+    /// Whether the pass was full before any delivery.
+    pub full_at_first: bool,
+    pub each: Vec<Told>,
+    /// Where the pass was full at the end: how many pairs the shard had, and whether its level could be closed.
+    pub whole: Option<(u64, bool)>,
+}
+
+// Delivers each of the level's pairs into the desk's range that is the pass's next one.
+fn deliver_all<G: Game, L: Round, R: Wait>(
+    rt: &R,
+    alloc: Global,
+    desk: &PassDesk<G, L>,
+    level: &Level<G>,
+    pass: &mut Pass<L>,
+    expected: &Expected<G>,
+) -> Result<Vec<Told>, AllocError>
+    requires level { IsLevelAt level.now L.spot L.notes }
+    requires is_for { IsForSpot expected.now L.spot }
+{
+    let _place = level.place();
+    let (lo, hi) = desk.range();
+    let mut each = Vec::new(alloc);
+    let mut number = 0u64;
+    for (note, parent) in level.pairs(0, level.len().max(1), lo, hi) {
+        if number == pass.amount() {
+            let answer = desk.deliver_next(rt, &note, parent, pass);
+            each.push((answer, pass.amount(), pass.full(expected)))?;
+        }
+        number += 1;
+    }
+    Ok(each)
+}
+
+// The same at a desk of this name round a shard, which it takes out at the end where its pass is full.
+fn pass_named<G: Game, L: Round, R: Wait>(
+    rt: &R,
+    alloc: Global,
+    blank: Blank,
+    shard: Shard<G>,
+    level: &Level<G>,
+    expected: &Expected<G>,
+) -> Result<Passed, AllocError>
+    requires name { blank.name ≡ L.name }
+    requires parts { (blank.parts ≡ L.parts) × (0 < L.parts) }
+    requires spot { spot_of shard ≡ L.spot }
+    requires level { IsLevelAt level.now L.spot L.notes }
+    requires base { pairs_in shard ≡ L.base }
+    requires none { HasNoneHere G.rules shard }
+    requires is_for { IsForSpot expected.now L.spot }
+    requires near { L.spot.level ≤ REMOTENESS }
+{
+    let (desk, mut pass) = PassDesk::<G, L>::around(blank, shard, level);
+    let full_at_first = pass.full(expected);
+    let each = deliver_all(rt, alloc, &desk, level, &mut pass, expected)?;
+    let whole = if pass.full(expected) {
+        let mut shard = desk.into_whole(pass, expected);
+        let delivered = shard.delivered();
+        Some((delivered, shard.close(expected).is_ok()))
+    } else {
+        None
+    };
+    Ok(Passed {
+        full_at_first,
+        each,
+        whole,
+    })
+}
+
+// The same for the indexes of a tier from `lo` up to `hi`, at the tier's first level.
+fn pass_range<G: Game, R: Wait>(
+    rt: &R,
+    alloc: Global,
+    level: &Level<G>,
+    lo: u64,
+    hi: u64,
+) -> Result<Passed, AllocError>
+    requires first { level.now.place ≡ place_of_spot (spot_of (first_state level.now.place.tier 0 0)) }
+    requires order { lo ≤ hi }
+    requires within { hi ≤ TIER_SIZE }
+{
+    let tier = level.tier();
+    let shard = begin_range::<G>(alloc, tier, lo, hi)?;
+    let mut expected = Expected::start(tier, lo, hi);
+    expected.add(level);
+    let blank = Blank::new(1);
+    pass_named::<G, Brand, R>(rt, alloc, blank, shard, level, &expected)
+}
+
+/// The first level of a tier at two desks, round the indexes before a cut and from it on.
+pub fn pass_by_hand<G: Game, R: Wait>(
+    rt: &R,
+    alloc: Global,
+    tier: u64,
+    cut: u64,
+    tables: &Tables<G>,
+) -> Result<(Passed, Passed), AllocError>
+    requires held { AreHeld G.rules tables.now tier }
+    requires small { G.rules.tier_size tier ≤ TIER_SIZE }
+    requires within { cut ≤ G.rules.tier_size tier }
+{
+    let size = G::tier_size(tier);
+    let whole = begin_range::<G>(alloc, tier, 0, size)?;
+    let runs = vec![in alloc; whole.fresh(alloc)?]?;
+    let level = Level::gather(alloc, whole.place(), runs.as_slice(), tables)?;
+    let low = pass_range(rt, alloc, &level, 0, cut)?;
+    let high = pass_range(rt, alloc, &level, cut, size)?;
+    Ok((low, high))
+}

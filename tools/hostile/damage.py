@@ -1,0 +1,90 @@
+"""Damaged tier files: nothing is taken that differs from the text of the true table."""
+import random
+import re
+import struct
+import subprocess
+
+from common import DRILL, Figures, as_version_1, digested, right_files
+
+GAMES = ("countdown", "tactix-2")
+OTHERS = ("wheel", "tactix-2-misere", "tactix-1", "hare")
+
+
+def tier_of(name):
+    return int(re.search(r"\d+", name)[0])
+
+
+def bits(chance, text, _all):
+    text = bytearray(text)
+    for _ in range(chance.randint(1, 3)):
+        text[chance.randrange(len(text))] ^= 1 << chance.randrange(8)
+    return bytes(text)
+
+
+def cut(chance, text, _all):
+    return text[: chance.randrange(len(text))]
+
+
+def longer(chance, text, _all):
+    return text + chance.randbytes(chance.randint(1, 40))
+
+
+def swapped(chance, _text, all_texts):
+    return chance.choice(all_texts)
+
+
+def sized(chance, text, _all):
+    """Another size, from small ones to those past every limit, with the digest made anew."""
+    size = chance.choice([0, 1, 2, len(text), 2**24, 2**24 + 1, 2**31, 2**32, 2**61, 2**62, 2**63, 2**64 - 1, chance.randrange(2**64)])
+    return digested(text[:32] + struct.pack("<Q", size) + text[40:-32])
+
+
+def header(chance, text, _all):
+    """Another byte of the header, with the digest made anew."""
+    front = bytearray(text[:-32])
+    front[chance.randrange(40)] = chance.randrange(256)
+    return digested(bytes(front))
+
+
+def record(chance, text, _all):
+    """Other records, with the digest made anew."""
+    front = bytearray(text[:-32])
+    for _ in range(chance.randint(1, 2)):
+        at = 40 + 4 * chance.randrange((len(front) - 40) // 4)
+        front[at : at + 4] = chance.choice([struct.pack("<I", chance.randint(0, 4) << 20 | chance.randint(0, 9)), chance.randbytes(4)])
+    return digested(bytes(front))
+
+
+def old(_chance, text, _all):
+    return as_version_1(text)
+
+
+def same(_chance, text, _all):
+    return text
+
+
+WAYS = (bits, bits, cut, longer, swapped, sized, header, record, record, old, same)
+
+
+def damage(room, options):
+    """Seeded mutations of the files of two games, through one drill each."""
+    figures = Figures(f"damage (seed {options.seed})")
+    right = {game: right_files(room, game) for game in (*GAMES, *OTHERS)}
+    everything = [text for files in right.values() for text in files.values()]
+    for game in GAMES:
+        chance = random.Random(f"{options.seed} {game}")
+        cases = []
+        for _ in range(100_000 if options.all else 10_000):
+            name, text = chance.choice(sorted(right[game].items()))
+            tier = tier_of(name)
+            cases.append((tier, chance.choice(WAYS)(chance, text, everything), text))
+        given = "".join(f"{tier} {text.hex()}\n" for tier, text, _ in cases)
+        ran = subprocess.run([DRILL, f"damage-{game}"], input=given.encode(), capture_output=True, timeout=600)
+        signs = ran.stdout.decode().split()
+        if ran.returncode or len(signs) != len(cases):
+            figures.add(0, f"{game}: status {ran.returncode}, {len(signs)} answers to {len(cases)} files")
+            continue
+        for (tier, text, true), sign in zip(cases, signs):
+            wanted = "+" if text == true else "-"
+            figures.add(sign == "-", None if sign == wanted else f"{game}, tier {tier}, {sign} for {text.hex()}")
+    return figures

@@ -1,0 +1,116 @@
+// A library to preload (LD_PRELOAD): of the calls of one kind that a program makes, the one with the number REFUSE_AT, counted from 1, fails,
+// and with REFUSE_ON every one after it too.
+//
+// REFUSE_KIND  malloc (also realloc), thread, read, write (to files), output (writes to standard output), sync or rename
+// REFUSE_MARKS counting begins at an allocation of START bytes and ends at one of END bytes: the calls that a program makes between the two
+// REFUSE_SEEN  a file, which then has two numbers of eight bytes: the calls of the kind, and those that were refused
+#define _GNU_SOURCE
+#include <dlfcn.h>
+#include <errno.h>
+#include <fcntl.h>
+#include <pthread.h>
+#include <stdatomic.h>
+#include <stdio.h>
+#include <stdlib.h>
+#include <string.h>
+#include <sys/mman.h>
+#include <sys/uio.h>
+#include <unistd.h>
+
+// Sizes that no other allocation of a drill has (crates/drill/src/marks.rt).
+enum { START = 1048583, END = 1048589 };
+
+enum kind { NONE, MALLOC, THREAD, READ, WRITE, OUTPUT, SYNC, RENAME, KINDS };
+static const char *const names[KINDS] = {"", "malloc", "thread", "read", "write", "output", "sync", "rename"};
+
+static enum kind kind;
+static long at;
+static int from_there_on;
+static atomic_int counting;
+static atomic_long own[2], *seen = own;
+
+static int refused(enum kind k) {
+    if (k != kind || !counting) return 0;
+    long n = atomic_fetch_add(&seen[0], 1) + 1;
+    int refuses = at > 0 && (n == at || (from_there_on && n > at));
+    if (refuses) atomic_fetch_add(&seen[1], 1);
+    return refuses;
+}
+
+__attribute__((constructor)) static void start(void) {
+    const char *k = getenv("REFUSE_KIND"), *a = getenv("REFUSE_AT"), *path = getenv("REFUSE_SEEN");
+    for (int i = 1; k && i < KINDS; i++) if (!strcmp(k, names[i])) kind = i;
+    at = a ? atol(a) : 0;
+    from_there_on = getenv("REFUSE_ON") != NULL;
+    int file = path ? open(path, O_RDWR | O_CREAT | O_TRUNC, 0644) : -1;
+    if (file >= 0 && !ftruncate(file, sizeof own)) {
+        void *shared = mmap(0, sizeof own, PROT_READ | PROT_WRITE, MAP_SHARED, file, 0);
+        if (shared != MAP_FAILED) seen = shared;
+    }
+    if (file >= 0) close(file);
+    counting = getenv("REFUSE_MARKS") == NULL;
+}
+
+#define REAL(name) static __typeof__(name) *real; if (!real) real = (__typeof__(name) *)dlsym(RTLD_NEXT, #name)
+
+extern void *__libc_malloc(size_t);
+extern void *__libc_realloc(void *, size_t);
+
+void *malloc(size_t n) {
+    if (n == START) counting = 1;
+    else if (n == END) counting = 0;
+    else if (refused(MALLOC)) { errno = ENOMEM; return NULL; }
+    return __libc_malloc(n);
+}
+
+void *realloc(void *p, size_t n) {
+    if (refused(MALLOC)) { errno = ENOMEM; return NULL; }
+    return __libc_realloc(p, n);
+}
+
+int pthread_create(pthread_t *t, const pthread_attr_t *a, void *(*f)(void *), void *x) {
+    REAL(pthread_create);
+    return refused(THREAD) ? EAGAIN : real(t, a, f, x);
+}
+
+ssize_t read(int d, void *b, size_t n) {
+    REAL(read);
+    if (refused(READ)) { errno = EIO; return -1; }
+    return real(d, b, n);
+}
+
+// Standard error is never refused: what a program says there is what is looked at.
+static int write_is_refused(int d) { return d > 2 ? refused(WRITE) : d == 1 && refused(OUTPUT); }
+
+ssize_t write(int d, const void *b, size_t n) {
+    REAL(write);
+    if (write_is_refused(d)) { errno = ENOSPC; return -1; }
+    return real(d, b, n);
+}
+
+// (the name under which a program's lines are written)
+ssize_t __write(int d, const void *b, size_t n) { return write(d, b, n); }
+
+ssize_t writev(int d, const struct iovec *parts, int n) {
+    REAL(writev);
+    if (write_is_refused(d)) { errno = ENOSPC; return -1; }
+    return real(d, parts, n);
+}
+
+int fsync(int d) {
+    REAL(fsync);
+    if (refused(SYNC)) { errno = EIO; return -1; }
+    return real(d);
+}
+
+int fdatasync(int d) {
+    REAL(fdatasync);
+    if (refused(SYNC)) { errno = EIO; return -1; }
+    return real(d);
+}
+
+int rename(const char *a, const char *b) {
+    REAL(rename);
+    if (refused(RENAME)) { errno = EIO; return -1; }
+    return real(a, b);
+}
