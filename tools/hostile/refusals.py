@@ -119,6 +119,16 @@ def refuse_in_line(room, line, kind, on):
         at += 1
 
 
+def torn_lines(room, line):
+    """Whether a line that is written takes another number of writes than one a line; a text of several lines may take one."""
+    figures = Figures("lines")
+    for kind, stream in (("output", "out"), ("errors", "err")):
+        ran, _ = line.once(room, kind=kind)
+        written = getattr(ran, stream).count(b"\n")
+        figures.add(0, f"{' '.join(line.words)}: {written} lines by {ran.calls} writes" if ran.calls > written else None)
+    return figures
+
+
 def without(files, *names):
     return {name: text for name, text in files.items() if name not in names}
 
@@ -155,7 +165,10 @@ def program(room, options):
     ]
     work += [(Line(["play", "countdown"], given=b"1\n2\n1\n"), kind, on) for kind in ("read", "output") for on in (False, True)]
     figures = Figures("program")
-    for each in room.in_lanes(lambda it: refuse_in_line(room, *it), work):
+    whole = [["list"], ["solve", "tactix-2", "@"], ["query", "wheel", "3"], ["moves", "wheel"], ["line", "wheel"], ["analyse", "tactix-2"]]
+    whole += [["query", "wheel", "x"], ["query", "chess", "1"], ["query"], ["check", "tactix-2", "@"]]
+    done = [torn_lines(room, line) for line in [checked, *(Line(words) for words in whole)]]
+    for each in done + room.in_lanes(lambda it: refuse_in_line(room, *it), work):
         figures.runs += each.runs
         figures.refused += each.refused
         figures.wrong += each.wrong

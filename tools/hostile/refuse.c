@@ -1,7 +1,8 @@
 // A library to preload (LD_PRELOAD): of the calls of one kind that a program makes, the one with the number REFUSE_AT, counted from 1, fails,
 // and with REFUSE_ON every one after it too.
 //
-// REFUSE_KIND  malloc (also realloc), thread, read, write (to files), output (writes to standard output), sync or rename
+// REFUSE_KIND  malloc (also realloc), thread, read, write (to files), output (writes to standard output), errors (to standard error: these are
+//              counted and never refused), sync or rename
 // REFUSE_MARKS counting begins at an allocation of START bytes and ends at one of END bytes: the calls that a program makes between the two
 // REFUSE_SEEN  a file, which then has two numbers of eight bytes: the calls of the kind, and those that were refused
 #define _GNU_SOURCE
@@ -20,8 +21,8 @@
 // Sizes that no other allocation of a drill has (crates/drill/src/marks.rt).
 enum { START = 1048583, END = 1048589 };
 
-enum kind { NONE, MALLOC, THREAD, READ, WRITE, OUTPUT, SYNC, RENAME, KINDS };
-static const char *const names[KINDS] = {"", "malloc", "thread", "read", "write", "output", "sync", "rename"};
+enum kind { NONE, MALLOC, THREAD, READ, WRITE, OUTPUT, ERRORS, SYNC, RENAME, KINDS };
+static const char *const names[KINDS] = {"", "malloc", "thread", "read", "write", "output", "errors", "sync", "rename"};
 
 static enum kind kind;
 static long at;
@@ -79,8 +80,11 @@ ssize_t read(int d, void *b, size_t n) {
     return real(d, b, n);
 }
 
-// Standard error is never refused: what a program says there is what is looked at.
-static int write_is_refused(int d) { return d > 2 ? refused(WRITE) : d == 1 && refused(OUTPUT); }
+static int write_is_refused(int d) {
+    // (what a program says on standard error is looked at)
+    if (d == 2) return refused(ERRORS), 0;
+    return d > 2 ? refused(WRITE) : d == 1 && refused(OUTPUT);
+}
 
 ssize_t write(int d, const void *b, size_t n) {
     REAL(write);

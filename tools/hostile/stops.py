@@ -7,7 +7,7 @@ import time
 from common import GAMESMAN, Figures, files_of, right_files, wrong_file
 
 # How many times each game is stopped.
-STOPS = {"tactix-3": 80, "achi": 80, "dao": 40}
+STOPS = {"tactix-3": 200, "achi": 200, "dao": 200}
 
 
 def stop_game(room, game, stops, seed):

@@ -32,8 +32,9 @@ fn analyse_game<G: Shown + Send + Sync, R: Threads + Wait + Files + Sync + Alloc
     for tier in built.order.tiers() {
         if let Some(table) = built.tables.table(*tier) {
             let analysis = count(alloc, table)?;
-            let line = to_json::<G>(alloc, &analysis)?;
-            writeln!(output, "{line}")?;
+            let mut line = to_json::<G>(alloc, &analysis)?;
+            line.push('\n')?;
+            output.write_all(line.as_bytes())?;
         }
     }
     Ok(DONE)

@@ -3,6 +3,7 @@
 use crate::fault::Fault;
 use crate::games::with_game;
 use crate::run::{DONE, REFUSED};
+use crate::whole_line::write_line;
 use gm_build::build_error::BuildError;
 use gm_game::game::Game;
 use gm_game::limits::TIER_SIZE;
@@ -47,6 +48,18 @@ impl<G: Game> fmt::Display for Found<G> {
             }
             Found::NoTable(_) => f.write_str("bad: wrong size"),
         }
+    }
+}
+
+// A tier with what its file is found to be.
+struct Checked<'a, G: Game> {
+    tier: u64,
+    found: &'a Found<G>,
+}
+
+impl<G: Game> fmt::Display for Checked<'_, G> {
+    fn fmt<W: fmt::Write>(&self, f: &mut fmt::Formatter<W>) -> fmt::Result {
+        write!(f, "tier {} {}", self.tier, self.found)
     }
 }
 
@@ -112,7 +125,13 @@ fn check_game<G: Game, R: Files + AllocGlobal, O: Write>(
     let mut status = DONE;
     for tier in order.tiers() {
         let found = inspect(rt, alloc, folder, *tier, &tables)?;
-        writeln!(output, "tier {tier} {found}")?;
+        write_line(
+            output,
+            &Checked {
+                tier: *tier,
+                found: &found,
+            },
+        )?;
         match found {
             Found::Right(table) => {
                 if tables.insert(table).is_err() {

@@ -26,6 +26,7 @@ mod run;
 mod said;
 mod solve;
 mod tables;
+mod whole_line;
 
 use crate::fault::Fault;
 use crate::run::{bad_line, refused, run_words};

@@ -10,6 +10,7 @@ use crate::play::play;
 use crate::query::query;
 use crate::solve::solve;
 use crate::tables::{Kept, Place};
+use crate::whole_line::{Told, write_line};
 use gm_solver::plan::Plan;
 use std::alloc::AllocError;
 use std::fs::Files;
@@ -27,8 +28,8 @@ pub const REFUSED: u8 = 1;
 pub const BAD_LINE: u8 = 2;
 
 fn list<O: Write>(output: &mut O) -> Result<u8, Fault> {
-    for name in NAMES {
-        writeln!(output, "{name}")?;
+    for name in &NAMES {
+        write_line(output, name)?;
     }
     Ok(DONE)
 }
@@ -67,14 +68,14 @@ fn answer<R: Threads + Wait + Files + Sync + AllocGlobal, I: Read, O: Write>(
 /// Says on standard error why a line was refused. This is the last that can be said: where it fails, the status still tells.
 pub fn refused<E: Write>(fault: &Fault, errors: &mut E) -> u8 {
     if !matches!(fault, Fault::OutputClosed) {
-        let _ = writeln!(errors, "gamesman: {fault}");
+        let _ = write_line(errors, &Told { fault });
     }
     REFUSED
 }
 
 /// Says on standard error that the line is none that the program knows.
 pub fn bad_line<E: Write>(errors: &mut E) -> u8 {
-    let _ = writeln!(errors, "gamesman: bad line");
+    let _ = errors.write_all(b"gamesman: bad line\n");
     BAD_LINE
 }
 
