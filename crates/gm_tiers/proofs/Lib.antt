@@ -1,2 +1,3 @@
 pub mod SearchLemmas
+pub mod AnswerLemmas
 pub mod OrderLemmas

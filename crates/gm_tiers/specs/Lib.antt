@@ -1,3 +1,4 @@
 pub mod Reach
 pub mod Limits
 pub mod Orders
+pub mod Search

@@ -1,8 +1,10 @@
 //! The order of tiers.
-ghost use Rattle.std.specs.Prelude.{◌≡◌, ℕ, IfOk, OnOk, OnErr, IsErrOf, IsPermutation};
+ghost use Rattle.std.specs.Prelude.{◌≡◌, ℕ, List, Ok, IfOk, OnOk, OnErr, IsErrOf, IsPermutation};
 ghost use Rattle.std.specs.List.{AllPairs};
 ghost use Rattle.gm_tiers.specs.Orders.{IsBefore, IsTierOrder, ComeChildrenFirst};
 ghost use Rattle.gm_tiers.specs.Reach.{IsReached};
+ghost use Rattle.gm_tiers.specs.Search.{search_of, EndsWith};
+ghost use Rattle.gm_tiers.specs.declared.tier_error.TierError.{TierError};
 ghost use Rattle.gm_tiers.specs.Limits.{HasTooMany, AreMoreThan, IsTooLarge};
 
 use crate::search::search;
@@ -34,9 +36,12 @@ impl<G: Game> Model for TierOrder<G> {
 impl<G: Game> TierOrder<G> {
     /// All tiers reached from the initial one by `child_tiers`, by ascending rank and then by number. There may be 1,024 of them, of 16,777,216 positions each.
     ///
-    /// Each tier is tested for its size when it is first found, and then the number of tiers is tested; the first test that fails is the answer.
+    /// The search comes to the initial tier, and then to the child tiers of each tier in the order in which it was found. A tier that is new is tested for its size, and then the number
+    /// of tiers is tested; the first test that fails is the answer. So what is answered is determined by the game, unless memory runs out.
     pub fn from_initial(alloc: Global) -> Result<Self, TierError>
         ensures order { IfOk result (IsTierOrder G.rules) }
+        ensures answer { IfOk result (λ o. (found : List ℕ) × (search_of G.rules ≡ Ok found) × IsPermutation found o) }
+        ensures refusal { (e : TierError) → IsErrOf result e → EndsWith (search_of G.rules) e }
         ensures too_many { IsErrOf result TierError.TooManyTiers → HasTooMany G.rules }
         ensures more { IsErrOf result TierError.TooManyTiers → AreMoreThan G.rules TIERS }
         ensures too_large { (tier : ℕ) → IsErrOf result (TierError.TierTooLarge tier) → IsTooLarge G.rules tier }

@@ -1,7 +1,9 @@
 //! The search for the tiers that a game reaches.
-ghost use Rattle.std.specs.Prelude.{◌≡◌, ℕ, IfOk, OnOk, IsErrOf};
+ghost use Rattle.std.specs.Prelude.{◌≡◌, ℕ, Ok, IfOk, OnOk, IsErrOf};
 ghost use Rattle.std.specs.List.{Contains};
 ghost use Rattle.gm_tiers.specs.Reach.{IsNext, IsGrown};
+ghost use Rattle.gm_tiers.specs.Search.{search_of, comes_to, comes_to_all, EndsWith};
+ghost use Rattle.gm_tiers.specs.declared.tier_error.TierError.{TierError};
 ghost use Rattle.gm_tiers.specs.Limits.{AreWithin, AreFound, HasTooMany, IsTooLarge};
 
 use crate::tier_error::TierError;
@@ -13,6 +15,8 @@ use std::alloc::Global;
 /// All tiers that the game reaches, in the order in which they are found: first the initial one, then the child tiers of each in turn.
 pub(crate) fn search<G: Game>(alloc: Global) -> Result<IndexSet<u64>, TierError>
     ensures found { IfOk result (λ s. AreFound G.rules s.keys) }
+    ensures answer { IfOk result (λ s. search_of G.rules ≡ Ok s.keys) }
+    ensures refusal { (e : TierError) → IsErrOf result e → EndsWith (search_of G.rules) e }
     ensures too_many { IsErrOf result TierError.TooManyTiers → HasTooMany G.rules }
     ensures too_large { (tier : ℕ) → IsErrOf result (TierError.TierTooLarge tier) → IsTooLarge G.rules tier }
 {
@@ -37,6 +41,8 @@ fn find_children<G: Game>(found: &mut IndexSet<u64>, tier: u64) -> Result<(), Ti
     requires there { Contains found.old.keys tier }
     ensures within { OnOk result (AreWithin G.rules found.new.keys) }
     ensures grown { OnOk result (IsGrown found.old.keys found.new.keys) }
+    ensures answer { OnOk result (comes_to_all G.rules (Ok found.old.keys) (G.rules.child_tiers tier) ≡ Ok found.new.keys) }
+    ensures refusal { (e : TierError) → IsErrOf result e → EndsWith (comes_to_all G.rules (Ok found.old.keys) (G.rules.child_tiers tier)) e }
     ensures children { OnOk result ((child : ℕ) → Contains (G.rules.child_tiers tier) child → Contains found.new.keys child) }
     ensures too_many { IsErrOf result TierError.TooManyTiers → HasTooMany G.rules }
     ensures too_large { (t : ℕ) → IsErrOf result (TierError.TierTooLarge t) → IsTooLarge G.rules t }
@@ -54,6 +60,8 @@ fn find<G: Game>(found: &mut IndexSet<u64>, tier: u64) -> Result<(), TierError>
     requires next { IsNext G.rules found.old.keys tier }
     ensures within { OnOk result (AreWithin G.rules found.new.keys) }
     ensures grown { OnOk result (IsGrown found.old.keys found.new.keys) }
+    ensures answer { OnOk result (comes_to G.rules (Ok found.old.keys) tier ≡ Ok found.new.keys) }
+    ensures refusal { (e : TierError) → IsErrOf result e → EndsWith (comes_to G.rules (Ok found.old.keys) tier) e }
     ensures there { OnOk result (Contains found.new.keys tier) }
     ensures too_many { IsErrOf result TierError.TooManyTiers → HasTooMany G.rules }
     ensures too_large { (t : ℕ) → IsErrOf result (TierError.TierTooLarge t) → IsTooLarge G.rules t }

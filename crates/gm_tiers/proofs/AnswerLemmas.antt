@@ -1,0 +1,71 @@
+-- What a search answers, step by step.
+use Rattle.std.proofs.Common.{◌≡◌, ℕ, zero, suc, ◌+◌, ◌-◌, ◌<◌, ◌≤◌, inl, inr, List, [], ◌∷◌, ◌++◌, length, take, drop, get_or, slice_get, None, Some, Ok, Err, refl, ap, sym, ◌∙◌, arith}
+use Rattle.std.proofs.lemmas.List.{take_more, take-append-drop}
+use Rattle.std.proofs.lemmas.Option.{slice_get_past}
+use Rattle.gm_game.specs.declared.limits.TheConstants.{TIERS}
+use Rattle.gm_game.specs.Rules.{Rules}
+use Rattle.gm_tiers.specs.declared.tier_error.TierError.{TierError}
+use Rattle.gm_tiers.specs.Search.{Search, comes_to, comes_to_all, comes_to_children, goes_through, search_of, EndsWith}
+
+-- a search that has ended stays so
+ended_all : (r : Rules) (e : TierError) (ts : List ℕ) → comes_to_all r (Err e) ts ≡ Err e
+ended_all r e [] = refl
+ended_all r e (t ∷ ts) = ended_all r e ts
+
+ended_through : (r : Rules) (e : TierError) (n k : ℕ) → goes_through r n k (Err e) ≡ Err e
+ended_through r e zero k = refl
+ended_through r e (suc n) k = ended_through r e n (suc k)
+
+-- first to some, then to the others
+all_append : (r : Rules) (s : Search) (ts us : List ℕ) → comes_to_all r s (ts ++ us) ≡ comes_to_all r (comes_to_all r s ts) us
+all_append r s [] us = refl
+all_append r s (t ∷ ts) us = all_append r (comes_to r s t) ts us
+
+-- to one more
+pub one_more_comes : (r : Rules) (s now : Search) (ts : List ℕ) (i : ℕ) → i < length ts → comes_to_all r s (take i ts) ≡ now → comes_to_all r s (take (i + 1) ts) ≡ comes_to r now (get_or ts i 0)
+one_more_comes r s now ts i h e =
+    ap (comes_to_all r s) (take_more ts i 0 h) ∙ all_append r s (take i ts) (get_or ts i 0 ∷ []) ∙ ap (λ u. comes_to r u (get_or ts i 0)) e
+
+-- where it ends among some, it ends among all
+ends_among : (r : Rules) (s : Search) (e : TierError) (ts : List ℕ) (n : ℕ) → comes_to_all r s (take n ts) ≡ Err e → comes_to_all r s ts ≡ Err e
+ends_among r s e ts n h =
+    ap (comes_to_all r s) (sym (take-append-drop n ts)) ∙ all_append r s (take n ts) (drop n ts) ∙ ap (λ u. comes_to_all r u (drop n ts)) h ∙ ended_all r e (drop n ts)
+
+pub ends_here : (r : Rules) (s now : Search) (e : TierError) (ts us : List ℕ) (i : ℕ) → ts ≡ us → i < length ts → comes_to_all r s (take i ts) ≡ now
+    → EndsWith (comes_to r now (get_or ts i 0)) e → EndsWith (comes_to_all r s us) e
+ends_here r s now e ts us i same h before (inl o) = inl o
+ends_here r s now e ts us i same h before (inr last) = inr (ap (comes_to_all r s) (sym same) ∙ ends_among r s e ts (i + 1) (one_more_comes r s now ts i h before ∙ last))
+
+-- past the last place nothing comes
+pub past_all : (r : Rules) (found : List ℕ) (n k : ℕ) → length found ≤ k → goes_through r n k (Ok found) ≡ Ok found
+past_all r found zero k h = refl
+past_all r found (suc n) k h =
+    let at : comes_to_children r k (Ok found) ≡ Ok found = ap (λ o. elim o [ None ↦ Ok found | Some t ↦ comes_to_all r (Ok found) (r.child_tiers t) ]) (slice_get_past found k h) in
+    ap (goes_through r n (suc k)) at ∙ past_all r found n (suc k) (omega arith)
+
+-- the child tiers of the tier at a place
+at_place : (r : Rules) (found : List ℕ) (k t : ℕ) → slice_get found k ≡ Some t → comes_to_children r k (Ok found) ≡ comes_to_all r (Ok found) (r.child_tiers t)
+at_place r found k t e = ap (λ o. elim o [ None ↦ Ok found | Some u ↦ comes_to_all r (Ok found) (r.child_tiers u) ]) e
+
+-- one place of those that are left
+one_place : (r : Rules) (n k : ℕ) (s : Search) → k < n → goes_through r (n - k) k s ≡ goes_through r (n - (k + 1)) (k + 1) (comes_to_children r k s)
+one_place r n k s h =
+    let left : n - k ≡ suc (n - (k + 1)) = omega arith in
+    let next : suc k ≡ k + 1 = omega arith in
+    ap (λ m. goes_through r m k s) left ∙ ap (λ j. goes_through r (n - (k + 1)) j (comes_to_children r k s)) next
+
+-- a search that has gone on to a place, and on to the child tiers of the tier there
+pub place_more : (r : Rules) (n k t : ℕ) (found new : List ℕ) → k < n → search_of r ≡ goes_through r (n - k) k (Ok found) → slice_get found k ≡ Some t
+    → comes_to_all r (Ok found) (r.child_tiers t) ≡ Ok new → search_of r ≡ goes_through r (n - (k + 1)) (k + 1) (Ok new)
+place_more r n k t found new h before at e =
+    before ∙ one_place r n k (Ok found) h ∙ ap (goes_through r (n - (k + 1)) (k + 1)) (at_place r found k t at ∙ e)
+
+pub place_ends : (r : Rules) (n k t : ℕ) (found : List ℕ) (e : TierError) → k < n → search_of r ≡ goes_through r (n - k) k (Ok found) → slice_get found k ≡ Some t
+    → EndsWith (comes_to_all r (Ok found) (r.child_tiers t)) e → EndsWith (search_of r) e
+place_ends r n k t found e h before at (inl o) = inl o
+place_ends r n k t found e h before at (inr s) =
+    inr (before ∙ one_place r n k (Ok found) h ∙ ap (goes_through r (n - (k + 1)) (k + 1)) (at_place r found k t at ∙ s) ∙ ended_through r e (n - (k + 1)) (k + 1))
+
+pub first_ends : (r : Rules) (e : TierError) → EndsWith (comes_to r (Ok []) r.initial.tier) e → EndsWith (search_of r) e
+first_ends r e (inl o) = inl o
+first_ends r e (inr s) = inr (ap (goes_through r TIERS 0) s ∙ ended_through r e TIERS 0)
