@@ -10,6 +10,8 @@ use Rattle.gm_shard.specs.declared.status.Delivery.TheVariants.{Fresh, FreshSett
 use Rattle.gm_shard.specs.declared.status.Refused.{Refused}
 use Rattle.gm_shard.specs.declared.status.Refused.TheVariants.{NotThisLevel, NotMine, NotAParent, TooFar}
 use Rattle.gm_shard.specs.State.{ShardState}
+use Rattle.gm_shard.specs.Delivery.{Delivers}
+use Rattle.gm_shard.specs.Good.{IsGood}
 
 -- a range of a tier at a place
 pub record Spot : Type 0 where
@@ -69,3 +71,13 @@ pub record IsAnswer (r : Rules) (s : Spot) (note : NoteData) (parent : ℕ) (ans
   pub not_mine : (answer ≡ Err NotMine) ↔ (IsAtPlace s note × (IsWithin s parent → ⊥))
   pub not_a_parent : (answer ≡ Err NotAParent) ↔ (IsAtPlace s note × IsWithin s parent × (IsParent r note.position s.tier parent → ⊥))
   pub too_far : answer ≡ Err TooFar → REMOTENESS ≤ s.level
+
+-- one delivery to a good shard at the spot, which leaves a good one there
+pub record IsDeliveryAt (r : Rules) (s : Spot) (note : NoteData) (parent : ℕ) (answer : Result Delivery Refused) : Type 0 where
+  pub old : ShardState
+  pub new : ShardState
+  pub old_good : IsGood r old
+  pub new_good : IsGood r new
+  pub old_spot : spot_of old ≡ s
+  pub new_spot : spot_of new ≡ s
+  pub event : Delivers r note parent old new answer

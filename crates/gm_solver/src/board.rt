@@ -2,7 +2,7 @@
 ghost use Rattle.std.specs.Prelude.{◌≡◌, ◌^◌, ◌-◌, ◌<◌, ◌≤◌, min};
 ghost use Rattle.gm_shard.specs.State.{pairs_in};
 ghost use Rattle.gm_shard.specs.Delivery.{IsPlaceOf};
-ghost use Rattle.gm_solver.specs.Spots.{spot_of, choose, gain, AreFourTiles, IsWithin, IsAnswer};
+ghost use Rattle.gm_solver.specs.Spots.{spot_of, choose, gain, AreFourTiles, IsWithin, IsAnswer, IsDeliveryAt};
 ghost use Rattle.gm_solver.specs.Amounts.{Amounts, one_part, amount_of, raised, joined, split_of};
 
 use crate::held::Held;
@@ -222,6 +222,7 @@ impl<G: Game, A: Desk, B: Desk, C: Desk, D: Desk> Board<G, A, B, C, D> {
         requires { shard < 4 }
         ensures shares { shares.new ≡ raised shares.old shard (gain result) }
         ensures refusals { IsAnswer G.rules (choose shard A.spot B.spot C.spot D.spot) note.now parent result }
+        ensures event { IsDeliveryAt G.rules (choose shard A.spot B.spot C.spot D.spot) note.now parent result }
     {
         let place = place_of(note, self.tier, parent);
         self.deliver_at(rt, shard, note, parent, place, shares)
@@ -241,6 +242,7 @@ impl<G: Game, A: Desk, B: Desk, C: Desk, D: Desk> Board<G, A, B, C, D> {
         requires place { IsPlaceOf G.rules note.now.position A.spot.tier parent place }
         ensures shares { shares.new ≡ raised shares.old shard (gain result) }
         ensures refusals { IsAnswer G.rules (choose shard A.spot B.spot C.spot D.spot) note.now parent result }
+        ensures event { IsDeliveryAt G.rules (choose shard A.spot B.spot C.spot D.spot) note.now parent result }
     {
         match shard {
             0 => self
