@@ -10,6 +10,9 @@ use Rattle.gm_build.specs.TrueTexts.{IsTrueText, IsOldText, HasText, HasOldText,
 use Rattle.gm_build.specs.declared.found.Found.{Found}
 use Rattle.gm_build.specs.declared.found.Found.TheVariants.{Current, Old, Nothing}
 use Rattle.gm_build.specs.Steps.{IsFound, IsFoundIn}
+use Rattle.gm_build.specs.declared.inspect.Inspected.{Inspected}
+use Rattle.gm_build.specs.declared.inspect.Inspected.TheVariants.{Right, Missing, NoFile, NoTable}
+use Rattle.gm_build.specs.Inspections.{IsInspected, IsInspectedIn}
 use Rattle.gm_build.specs.Work.{HoldsExactly, HoldsToo}
 
 -- an entry that stays the same stays the text of the true table
@@ -39,6 +42,14 @@ pub found_in : {G : Type 0} → (r : Rules) (texts : Texts) (tier : ℕ) (bytes 
 found_in r texts tier bytes e (Current table) is = ((has_text r texts tier bytes e).1 is.0, λ h. is.1 ((has_old_text r texts tier bytes e).0 h))
 found_in r texts tier bytes e (Old table) is = ((has_old_text r texts tier bytes e).1 is.0, λ h. is.1 ((has_text r texts tier bytes e).0 h))
 found_in r texts tier bytes e Nothing is = (λ h. is.0 ((has_text r texts tier bytes e).0 h), λ h. is.1 ((has_old_text r texts tier bytes e).0 h))
+
+-- what the entry is found to be, by its bytes
+pub inspected_in : {G : Type 0} → (r : Rules) (entries : List TableData) (texts : Texts) (tier : ℕ) (bytes : List ℕ) → texts tier ≡ Some bytes → (found : Inspected G)
+    → IsInspected r entries tier bytes found → IsInspectedIn r entries texts tier found
+inspected_in r entries texts tier bytes e (Right table) is = (bytes, e, is)
+inspected_in r entries texts tier bytes e Missing is = absurd is
+inspected_in r entries texts tier bytes e (NoFile why) is = (bytes, e, is)
+inspected_in r entries texts tier bytes e (NoTable why) is = (bytes, e, is)
 
 -- the text of a table that is written is that of the true table of its tier
 pub text_written : (r : Rules) (new : Texts) (table : TableData) (tier : ℕ) (file bytes : List ℕ) → IsTable r table → table.tier ≡ tier → IsTierText r table.tier table.records file → bytes ≡ file → new tier ≡ Some bytes → HasText r new tier

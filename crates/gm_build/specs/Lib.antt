@@ -2,3 +2,4 @@ pub mod TrueTexts
 pub mod Work
 pub mod Outcomes
 pub mod Steps
+pub mod Inspections

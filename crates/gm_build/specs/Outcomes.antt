@@ -36,6 +36,14 @@ IsTierError r tier (StoreFailed t) = t ≡ tier
 IsTierError r tier TooManyTiers = ⊥
 IsTierError r tier (TierTooLarge t) = ⊥
 
+-- a tier's entry is not read for this reason
+abbrev pub IsReadError : ℕ → BuildError → Type 0
+IsReadError tier OutOfMemory = Unit {0}
+IsReadError tier (TooFar t) = ⊥
+IsReadError tier (StoreFailed t) = t ≡ tier
+IsReadError tier TooManyTiers = ⊥
+IsReadError tier (TierTooLarge t) = ⊥
+
 -- a game is not built for this reason
 abbrev pub IsBuildError : Rules → BuildError → Type 0
 IsBuildError r OutOfMemory = Unit {0}

@@ -8,16 +8,16 @@ ghost use Rattle.gm_build.specs.Steps.{IsOfTier, IsFound, IsFoundIn};
 ghost use Rattle.gm_build.specs.Outcomes.{failures_in, IsTierError};
 
 use crate::build_error::BuildError;
+use crate::inspect::{Inspected, inspect_text, read_entry};
 use gm_game::game::Game;
 use gm_game::limits::{REMOTENESS, TIER_SIZE};
 use gm_game::position::Solved;
 use gm_table::checker::{CheckError, check};
 use gm_table::table::Table;
 use gm_table::tables::Tables;
-use gm_tierdb::decode::{decode, decode_v1};
+use gm_tierdb::decode::decode_v1;
 use gm_tierdb::file_error::FileError;
 use gm_tierdb::store::Store;
-use gm_tierdb::store_error::StoreError;
 use std::alloc::{AllocError, Global};
 use std::fs::Files;
 
@@ -49,11 +49,9 @@ pub(crate) fn find<G: Game, R: Files, S: Store>(
     ensures error { IfErr result (IsTierError G.rules tier) }
     ensures count { S.failed store.new ≡ S.failed store.old + failures_in result }
 {
-    let text = match store.read(rt, alloc, tier) {
-        Ok(Some(text)) => text,
-        Ok(None) => return Ok(Found::Nothing),
-        Err(StoreError::OutOfMemory) => return Err(BuildError::OutOfMemory),
-        Err(StoreError::Failed) => return Err(BuildError::StoreFailed { tier }),
+    let text = match read_entry(rt, alloc, tier, store)? {
+        Some(text) => text,
+        None => return Ok(Found::Nothing),
     };
     match text_kind(alloc, tier, text.as_slice(), tables) {
         Ok(found) => Ok(found),
@@ -73,17 +71,13 @@ fn text_kind<G: Game>(
     ensures tier { IfOk result (IsOfTier tier) }
     ensures exact { IfOk result (IsFound G.rules tier bytes.now) }
 {
-    match decode::<G>(alloc, tier, bytes) {
-        Ok(records) => match true_table(alloc, tier, records.as_slice(), tables)? {
-            Some(table) => Ok(Found::Current(table)),
-            None => Ok(Found::Nothing),
-        },
-        Err(FileError::OldVersion) => match old_table(alloc, tier, bytes, tables)? {
+    match inspect_text(alloc, tier, bytes, tables)? {
+        Inspected::Right(table) => Ok(Found::Current(table)),
+        Inspected::NoFile(FileError::OldVersion) => match old_table(alloc, tier, bytes, tables)? {
             Some(table) => Ok(Found::Old(table)),
             None => Ok(Found::Nothing),
         },
-        Err(FileError::OutOfMemory) => Err(AllocError),
-        Err(_) => Ok(Found::Nothing),
+        _ => Ok(Found::Nothing),
     }
 }
 

@@ -6,4 +6,5 @@
 pub mod build;
 pub mod build_error;
 mod found;
+pub mod inspect;
 mod tier;

@@ -1,0 +1,7 @@
+use Rattle.std.proofs.Common.{rules}
+use Rattle.gm_build.proofs.inspect.inspect_text.Goals as goal
+
+pub returns : goal.returns
+returns g c =
+    let wrong = (c.check.ensures.wrong_record c.in-Err-WrongRecord.index).0 (search rules) in
+    record { exact = ((c.as_slice.result.now, search rules, wrong), search rules, search rules) }

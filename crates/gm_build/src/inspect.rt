@@ -1,0 +1,106 @@
+//! What a tier's entry in a store is found to be.
+ghost use Rattle.std.specs.Prelude.{◌≡◌, ◌+◌, ◌<◌, ◌≤◌, IsTrue, IfOk, IfErr, option_map};
+ghost use Rattle.gm_table.specs.Tables.{AreHeld};
+ghost use Rattle.gm_tierdb.specs.StoreTexts.{AreSame};
+ghost use Rattle.gm_build.specs.Inspections.{IsInspected, IsInspectedIn};
+ghost use Rattle.gm_build.specs.Outcomes.{failures_in, IsTierError, IsReadError};
+
+use crate::build_error::BuildError;
+use gm_game::game::Game;
+use gm_game::limits::TIER_SIZE;
+use gm_table::checker::{CheckError, check};
+use gm_table::table::Table;
+use gm_table::tables::Tables;
+use gm_tierdb::decode::decode;
+use gm_tierdb::file_error::FileError;
+use gm_tierdb::store::Store;
+use gm_tierdb::store_error::StoreError;
+use std::alloc::{AllocError, Global};
+use std::fs::Files;
+
+/// What a tier's entry is found to be.
+#[derive(Drop)]
+pub enum Inspected<G: Game> {
+    /// The text of the tier's true table, which is this one.
+    Right(Table<G>),
+    /// There is none.
+    Missing,
+    /// The bytes are no text of a tier file of the present version.
+    NoFile(FileError),
+    /// They are the text of records that are not the tier's.
+    NoTable(CheckError),
+}
+
+/// Reads the entry of a tier once, and tells what it is; nothing is written. The tables of the child tiers are given. Memory aside, the answer is determined by the entry.
+///
+/// The bytes are decoded first, and then the records are checked in turn: `NoFile` and `NoTable` have the first reason that applies.
+pub fn inspect_tier<G: Game, R: Files, S: Store>(
+    rt: &R,
+    alloc: Global,
+    tier: u64,
+    tables: &Tables<G>,
+    store: &mut S,
+) -> Result<Inspected<G>, BuildError>
+    requires held { AreHeld G.rules tables.now tier }
+    requires small { G.rules.tier_size tier ≤ TIER_SIZE }
+    requires few { S.failed store.old < u64.MAX }
+    ensures found { IsTrue S.KEEPS → IfOk result (IsInspectedIn G.rules tables.now (S.texts store.old) tier) }
+    ensures same { IsTrue S.KEEPS → AreSame (S.texts store.old) (S.texts store.new) }
+    ensures error { IfErr result (IsTierError G.rules tier) }
+    ensures count { S.failed store.new ≡ S.failed store.old + failures_in result }
+{
+    let text = match read_entry(rt, alloc, tier, store)? {
+        Some(text) => text,
+        None => return Ok(Inspected::Missing),
+    };
+    match inspect_text(alloc, tier, text.as_slice(), tables) {
+        Ok(found) => Ok(found),
+        Err(_refused) => Err(BuildError::OutOfMemory),
+    }
+}
+
+/// Reads the entry of a tier once.
+pub(crate) fn read_entry<R: Files, S: Store>(
+    rt: &R,
+    alloc: Global,
+    tier: u64,
+    store: &mut S,
+) -> Result<Option<Vec<u8>>, BuildError>
+    requires { S.failed store.old < u64.MAX }
+    ensures text { IsTrue S.KEEPS → IfOk result (λ o. option_map (λ v. v.items) o ≡ S.texts store.old tier) }
+    ensures same { IsTrue S.KEEPS → AreSame (S.texts store.old) (S.texts store.new) }
+    ensures error { IfErr result (IsReadError tier) }
+    ensures count { S.failed store.new ≡ S.failed store.old + failures_in result }
+{
+    match store.read(rt, alloc, tier) {
+        Ok(text) => Ok(text),
+        Err(StoreError::OutOfMemory) => Err(BuildError::OutOfMemory),
+        Err(StoreError::Failed) => Err(BuildError::StoreFailed { tier }),
+    }
+}
+
+/// What a text is.
+pub(crate) fn inspect_text<G: Game>(
+    alloc: Global,
+    tier: u64,
+    bytes: &[u8],
+    tables: &Tables<G>,
+) -> Result<Inspected<G>, AllocError>
+    requires held { AreHeld G.rules tables.now tier }
+    requires small { G.rules.tier_size tier ≤ TIER_SIZE }
+    ensures exact { IfOk result (IsInspected G.rules tables.now tier bytes.now) }
+{
+    let records = match decode::<G>(alloc, tier, bytes) {
+        Ok(records) => records,
+        Err(FileError::OutOfMemory) => return Err(AllocError),
+        Err(why) => return Ok(Inspected::NoFile(why)),
+    };
+    match check(alloc, tier, records.as_slice(), tables) {
+        Ok(table) => Ok(Inspected::Right(table)),
+        Err(CheckError::OutOfMemory) => Err(AllocError),
+        Err(CheckError::WrongSize) => Ok(Inspected::NoTable(CheckError::WrongSize)),
+        Err(CheckError::WrongRecord { index }) => {
+            Ok(Inspected::NoTable(CheckError::WrongRecord { index }))
+        }
+    }
+}
