@@ -3,6 +3,7 @@
 //! A drawing is plain ASCII of at most 50 columns. `specs/` has the drawings as templates, in which each capital letter stands for a byte of the position's text.
 #![tactic(auto)]
 
+pub mod boards;
 pub mod drawn;
 pub mod points;
 pub mod rows;
