@@ -32,32 +32,32 @@ text_of_length line false n h = omega (arith, h)
 text_long : (line : List ℕ) (n : ℕ) → n < length line → n ≤ length (without_return line)
 text_long line n h = text_of_length line (bytes_eq (drop (length line - 1) line) (13 ∷ [])) n h
 
-module _ (r : Rules) (shown : Position → List ℕ) (move_shown : Position → ℕ → List ℕ) (t : IsShown r shown move_shown) (k : Advice) (p : Position) (legal : r.is_legal p ≡ true) where
-  no_move : (line : List ℕ) → LINE + 1 < length line → asks (codes "not a move\nyour move?\n") p ≡ reply r shown move_shown k p line
+module _ (r : Rules) (shown : Position → List ℕ) (move_shown : Position → ℕ → List ℕ) (t : IsShown r shown move_shown) (k : Advice) (seen : Position → List ℕ) (p : Position) (legal : r.is_legal p ≡ true) where
+  no_move : (line : List ℕ) → LINE + 1 < length line → asks (codes "not a move\n" ++ seen p ++ codes "your move?\n") p ≡ reply r shown move_shown k seen p line
   no_move line long =
       let text = without_return line in
       let many : LINE + 1 ≤ length text = text_long line (LINE + 1) long in
-      reply_is r shown move_shown k p line None
+      reply_is r shown move_shown k seen p line None
       (unequal nat_eq text (codes "quit") (λ e. omega (arith, e, many)))
       (none_found (λ m. bytes_eq (move_shown p m) text) (r.moves p)
       (λ m has. unequal nat_eq (move_shown p m) text (λ e. (let fits = t.move_shown_fits p m legal has in omega (arith, e, fits, many)))))
 
-  heard_if : (line : List ℕ) → (KEPT < length line) ⊎ (length line ≤ KEPT) → reply r shown move_shown k p (take KEPT line) ≡ reply r shown move_shown k p line
+  heard_if : (line : List ℕ) → (KEPT < length line) ⊎ (length line ≤ KEPT) → reply r shown move_shown k seen p (take KEPT line) ≡ reply r shown move_shown k seen p line
   heard_if line (inl long) = sym (no_move (take KEPT line) (omega (arith, long, length-take KEPT line))) ∙ no_move line (omega (arith, long))
-  heard_if line (inr short) = ap (reply r shown move_shown k p) (take_all KEPT line short)
+  heard_if line (inr short) = ap (reply r shown move_shown k seen p) (take_all KEPT line short)
 
-  pub heard : (line : List ℕ) → reply r shown move_shown k p (take KEPT line) ≡ reply r shown move_shown k p line
+  pub heard : (line : List ℕ) → reply r shown move_shown k seen p (take KEPT line) ≡ reply r shown move_shown k seen p line
   heard line = heard_if line (cases_lt KEPT (length line))
 
   some_bytes : (n : ℕ) → 0 < n → (n == 0) ≡ false
   some_bytes n h = grind arith
 
-  closed_if : (line : List ℕ) → (KEPT < length line) ⊎ (length line ≤ KEPT) → closing r shown move_shown k p (take KEPT line) ≡ closing r shown move_shown k p line
+  closed_if : (line : List ℕ) → (KEPT < length line) ⊎ (length line ≤ KEPT) → closing r shown move_shown k seen p (take KEPT line) ≡ closing r shown move_shown k seen p line
   closed_if line (inl long) =
-      sym (closing_is r shown move_shown k p (take KEPT line) (some_bytes (length (take KEPT line)) (omega (arith, long, length-take KEPT line))))
-      ∙ ap (λ (s : Said). s.text ++ after_reply r shown move_shown k p line s.asked) (heard line)
-      ∙ closing_is r shown move_shown k p line (some_bytes (length line) (omega (arith, long)))
-  closed_if line (inr short) = ap (closing r shown move_shown k p) (take_all KEPT line short)
+      sym (closing_is r shown move_shown k seen p (take KEPT line) (some_bytes (length (take KEPT line)) (omega (arith, long, length-take KEPT line))))
+      ∙ ap (λ (s : Said). s.text ++ after_reply r shown move_shown k seen p line s.asked) (heard line)
+      ∙ closing_is r shown move_shown k seen p line (some_bytes (length line) (omega (arith, long)))
+  closed_if line (inr short) = ap (closing r shown move_shown k seen p) (take_all KEPT line short)
 
-  pub closed : (line : List ℕ) → closing r shown move_shown k p (take KEPT line) ≡ closing r shown move_shown k p line
+  pub closed : (line : List ℕ) → closing r shown move_shown k seen p (take KEPT line) ≡ closing r shown move_shown k seen p line
   closed line = closed_if line (cases_lt KEPT (length line))

@@ -17,3 +17,4 @@ pub mod Kept
 pub mod Talk
 pub mod Courses
 pub mod Advising
+pub mod Ending

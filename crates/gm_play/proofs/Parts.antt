@@ -35,16 +35,6 @@ part_longer a b xs ys (done, rest, e, h) = (done, rest ++ ys, ap (λ l. l ++ ys)
 pub part_after : (a b c : Option (List ℕ)) (xs ys : List ℕ) → Appends a b xs → AppendsPart b c ys → AppendsPart a c (xs ++ ys)
 part_after a b c xs ys h (done, rest, e, k) = (xs ++ done, rest, ap (λ l. xs ++ l) e ∙ sym (append_assoc xs done rest), Appends-trans a b c xs done h k)
 
--- a front of the first of four texts is one of all, and so on
-pub first_stops : (a b : Option (List ℕ)) (xs ys zs ends : List ℕ) → AppendsPart a b xs → AppendsPart a b (xs ++ ys ++ zs ++ ends)
-first_stops a b xs ys zs ends h = part_longer a b (xs ++ ys ++ zs) ends (part_longer a b (xs ++ ys) zs (part_longer a b xs ys h))
-
-pub second_stops : (a b c : Option (List ℕ)) (xs ys zs ends : List ℕ) → Appends a b xs → AppendsPart b c ys → AppendsPart a c (xs ++ ys ++ zs ++ ends)
-second_stops a b c xs ys zs ends h k = part_longer a c (xs ++ ys ++ zs) ends (part_longer a c (xs ++ ys) zs (part_after a b c xs ys h k))
-
-pub third_stops : (a b c : Option (List ℕ)) (xs ys zs ends : List ℕ) → Appends a b (xs ++ ys) → AppendsPart b c zs → AppendsPart a c (xs ++ ys ++ zs ++ ends)
-third_stops a b c xs ys zs ends h k = part_longer a c (xs ++ ys ++ zs) ends (part_after a b c (xs ++ ys) zs h k)
-
 -- what is said after a text
 pub says_after : (a b c : Option (List ℕ)) (xs : List ℕ) (said : Said) (asked : Option Position) → Appends a b xs → Says b c said asked → Says a c (before xs said) asked
 says_after a b c xs said asked h (e, k) = (e, Appends-trans a b c xs said.text h k)

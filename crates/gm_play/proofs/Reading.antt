@@ -49,20 +49,20 @@ module _ (r : Rules) (shown : Position → List ℕ) (move_shown : Position → 
   pub read_is : (o : Option ℕ) → IsReadAs o → move_read r shown move_shown p text ≡ o
   read_is o h = found o (find test (r.moves p)) refl h
 
-module _ (r : Rules) (shown : Position → List ℕ) (move_shown : Position → ℕ → List ℕ) (k : Advice) (p : Position) (line : List ℕ) where
+module _ (r : Rules) (shown : Position → List ℕ) (move_shown : Position → ℕ → List ℕ) (k : Advice) (seen : Position → List ℕ) (p : Position) (line : List ℕ) where
   abbrev Reply : Bool → Option ℕ → Said
-  Reply quits o = if quits then ends (codes "bye\n") else answer_to r shown move_shown k p o
+  Reply quits o = if quits then ends (codes "bye\n") else answer_to r shown move_shown k seen p o
 
-  pub reply_quits : bytes_eq (without_return line) (codes "quit") ≡ true → ends (codes "bye\n") ≡ reply r shown move_shown k p line
+  pub reply_quits : bytes_eq (without_return line) (codes "quit") ≡ true → ends (codes "bye\n") ≡ reply r shown move_shown k seen p line
   reply_quits h = ap (λ (b : Bool). Reply b (move_read r shown move_shown p (without_return line))) (sym h)
 
   pub reply_is : (o : Option ℕ) → bytes_eq (without_return line) (codes "quit") ≡ false → move_read r shown move_shown p (without_return line) ≡ o
-      → answer_to r shown move_shown k p o ≡ reply r shown move_shown k p line
-  reply_is o h e = ap (answer_to r shown move_shown k p) (sym e) ∙ ap (λ (b : Bool). Reply b (move_read r shown move_shown p (without_return line))) (sym h)
+      → answer_to r shown move_shown k seen p o ≡ reply r shown move_shown k seen p line
+  reply_is o h e = ap (answer_to r shown move_shown k seen p) (sym e) ∙ ap (λ (b : Bool). Reply b (move_read r shown move_shown p (without_return line))) (sym h)
 
   -- the input ends after some bytes of a line
   abbrev pub after_reply : Option Position → List ℕ
   after_reply o = text_after (λ q. codes "input ended\n") o
 
-  pub closing_is : (length line == 0) ≡ false → (reply r shown move_shown k p line).text ++ after_reply (reply r shown move_shown k p line).asked ≡ closing r shown move_shown k p line
-  closing_is h = ap (λ (b : Bool). if b then codes "input ended\n" else (reply r shown move_shown k p line).text ++ after_reply (reply r shown move_shown k p line).asked) (sym h)
+  pub closing_is : (length line == 0) ≡ false → (reply r shown move_shown k seen p line).text ++ after_reply (reply r shown move_shown k seen p line).asked ≡ closing r shown move_shown k seen p line
+  closing_is h = ap (λ (b : Bool). if b then codes "input ended\n" else (reply r shown move_shown k seen p line).text ++ after_reply (reply r shown move_shown k seen p line).asked) (sym h)

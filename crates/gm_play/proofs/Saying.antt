@@ -21,18 +21,18 @@ use Rattle.gm_play.proofs.Reaching.{own_reached}
 pub value_known : (r : Rules) (k : Advice) (p : Position) (s : Solved) → r.is_legal p ≡ true → IsKnown r p.tier k → IsTrueValue r p s → s ≡ k.value p
 value_known r k p s l known h = IsTrueValue_once r p s (k.value p) h (known p (own_reached r p l)).0
 
-module _ (r : Rules) (shown : Position → List ℕ) (move_shown : Position → ℕ → List ℕ) (k : Advice) (p : Position) where
-  pub place_is : (f b : List ℕ) → f ≡ shown p → b ≡ text_of (k.value p) → f ++ codes " " ++ b ++ codes "\n" ≡ place r shown move_shown k p
+module _ (r : Rules) (shown : Position → List ℕ) (move_shown : Position → ℕ → List ℕ) (k : Advice) (seen : Position → List ℕ) (p : Position) where
+  pub place_is : (f b : List ℕ) → f ≡ shown p → b ≡ text_of (k.value p) → f ++ codes " " ++ b ++ codes "\n" ≡ place r shown move_shown k seen p
   place_is f b e d = ap (λ (x : List ℕ). x ++ codes " " ++ b ++ codes "\n") e ∙ ap (λ (x : List ℕ). shown p ++ codes " " ++ x ++ codes "\n") d
 
-  pub person_ends : (e : End) → r.primitive p ≡ Some e → game_over You e ≡ asks_or_ends r shown move_shown k p (r.primitive p)
-  person_ends e h = ap (asks_or_ends r shown move_shown k p) (sym h)
+  pub person_ends : (e : End) → r.primitive p ≡ Some e → game_over You e ≡ asks_or_ends r shown move_shown k seen p (r.primitive p)
+  person_ends e h = ap (asks_or_ends r shown move_shown k seen p) (sym h)
 
-  pub person_is_asked : r.primitive p ≡ None → asks (codes "your move?\n") p ≡ asks_or_ends r shown move_shown k p (r.primitive p)
-  person_is_asked h = ap (asks_or_ends r shown move_shown k p) (sym h)
+  pub person_is_asked : r.primitive p ≡ None → asks (seen p ++ codes "your move?\n") p ≡ asks_or_ends r shown move_shown k seen p (r.primitive p)
+  person_is_asked h = ap (asks_or_ends r shown move_shown k seen p) (sym h)
 
-  pub computer_ends : (e : End) → r.primitive p ≡ Some e → game_over Computer e ≡ moves_or_ends r shown move_shown k p (r.primitive p) (k.best p)
-  computer_ends e h = ap (λ (o : Option End). moves_or_ends r shown move_shown k p o (k.best p)) (sym h)
+  pub computer_ends : (e : End) → r.primitive p ≡ Some e → game_over Computer e ≡ moves_or_ends r shown move_shown k seen p (r.primitive p) (k.best p)
+  computer_ends e h = ap (λ (o : Option End). moves_or_ends r shown move_shown k seen p o (k.best p)) (sym h)
 
   -- the best move is the known one
   best_is_known : (m : ℕ) (o : Option ℕ) → IsBestMove r p (Some m) → IsBestMove r p o → k.best p ≡ o → k.best p ≡ Some m
@@ -47,10 +47,10 @@ module _ (r : Rules) (shown : Position → List ℕ) (move_shown : Position → 
   move_line m = codes "computer" ++ codes ": " ++ move_shown p m ++ codes "\n"
 
   pub computer_moves : (m : ℕ) → r.is_legal p ≡ true → IsKnown r p.tier k → IsBestMove r p (Some m)
-      → after_move (before (move_line m) (persons_turn r shown move_shown k (r.play p m))) ≡ moves_or_ends r shown move_shown k p (r.primitive p) (k.best p)
+      → after_move (before (move_line m) (persons_turn r shown move_shown k seen (r.play p m))) ≡ moves_or_ends r shown move_shown k seen p (r.primitive p) (k.best p)
   computer_moves m l known h =
-      ap (λ (o : Option End). moves_or_ends r shown move_shown k p o (Some m)) (sym h.0)
-      ∙ ap (moves_or_ends r shown move_shown k p (r.primitive p)) (sym (best_known m l known h))
+      ap (λ (o : Option End). moves_or_ends r shown move_shown k seen p o (Some m)) (sym h.0)
+      ∙ ap (moves_or_ends r shown move_shown k seen p (r.primitive p)) (sym (best_known m l known h))
 
 -- no other answer is left
 pub ok_unless : (r : Result (Option ℕ) AnswerError) → (r ≡ Err Illegal → ⊥) → (r ≡ Err NotHeld → ⊥) → is_ok r ≡ true

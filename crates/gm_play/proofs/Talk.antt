@@ -19,15 +19,15 @@ asked_text said f q e = ap (λ (o : Option Position). said.text ++ text_after f 
 ended_text : (said : Said) (f : Position → List ℕ) → None ≡ said.asked → said.text ++ text_after f said.asked ≡ said.text
 ended_text said f e = ap (λ (o : Option Position). said.text ++ text_after f o) (sym e) ∙ append-nil said.text
 
-module _ (r : Rules) (shown : Position → List ℕ) (move_shown : Position → ℕ → List ℕ) (k : Advice) where
+module _ (r : Rules) (shown : Position → List ℕ) (move_shown : Position → ℕ → List ℕ) (k : Advice) (seen : Position → List ℕ) where
   abbrev Talk : (Position → List ℕ → List ℕ) → Position → List ℕ → List ℕ → List ℕ
-  Talk = talk r shown move_shown k
+  Talk = talk r shown move_shown k seen
 
   abbrev Count : Position → List ℕ → List ℕ → ℕ
-  Count = count r shown move_shown k
+  Count = count r shown move_shown k seen
 
   abbrev Reply : Position → List ℕ → Said
-  Reply = reply r shown move_shown k
+  Reply = reply r shown move_shown k seen
 
   -- a byte of a line, and the byte that ends it
   talk_more : (f : Position → List ℕ → List ℕ) (p : Position) (line : List ℕ) (b : ℕ) (more : List ℕ) → (b == 10) ≡ false → Talk f p line (b ∷ more) ≡ Talk f p (line ++ b ∷ []) more
@@ -65,13 +65,13 @@ module _ (r : Rules) (shown : Position → List ℕ) (move_shown : Position → 
 
   module _ (start : Position) (first : Side) where
     abbrev Spoken : (Position → List ℕ → List ℕ) → List ℕ → List ℕ
-    Spoken f bytes = spoken r shown move_shown k f start first bytes
+    Spoken f bytes = spoken r shown move_shown k seen f start first bytes
 
     abbrev Used : List ℕ → ℕ
-    Used bytes = used r shown move_shown k start first bytes
+    Used bytes = used r shown move_shown k seen start first bytes
 
     abbrev Turn : Said
-    Turn = turn r shown move_shown k start first
+    Turn = turn r shown move_shown k seen start first
 
     -- these bytes are read and this text is written; the person is asked at p and has given these bytes of a line, of which a front is kept; the rest is the talk from here
     pub record GoesOn (number : ℕ) (r0 r1 w0 w1 : Option (List ℕ)) (p : Position) (kept : List ℕ) : Type 0 where
@@ -98,23 +98,23 @@ module _ (r : Rules) (shown : Position → List ℕ) (move_shown : Position → 
       uses = λ more. (let h : count_after (λ q. Count q [] more) Turn.asked ≡ Count p [] more = ap (count_after (λ q. Count q [] more)) (sym e) in omega (arith, h));
     }
 
-    nothing_read : (r0 : Option (List ℕ)) → IsRead r shown move_shown k start first r0 r0 []
+    nothing_read : (r0 : Option (List ℕ)) → IsRead r shown move_shown k seen start first r0 r0 []
     nothing_read r0 = record { reads = Consumes-nil r0; few = omega arith; all_used = count_none Turn.asked }
 
     -- the game has ended at the start
-    pub over_at_once : (r0 w0 w1 : Option (List ℕ)) → Says w0 w1 Turn None → IsSession r shown move_shown k start first r0 r0 w0 w1
+    pub over_at_once : (r0 w0 w1 : Option (List ℕ)) → Says w0 w1 Turn None → IsSession r shown move_shown k seen start first r0 r0 w0 w1
     over_at_once r0 w0 w1 (e, a) = record {
       bytes = [];
       is_read = nothing_read r0;
-      writes = text_is w0 w1 Turn.text (Spoken (closing r shown move_shown k) []) (sym (ended_text Turn (λ q. Talk (closing r shown move_shown k) q [] []) e)) a;
+      writes = text_is w0 w1 Turn.text (Spoken (closing r shown move_shown k seen) []) (sym (ended_text Turn (λ q. Talk (closing r shown move_shown k seen) q [] []) e)) a;
       end = inl (λ more. ap (count_after (λ q. Count q [] more)) (sym e));
     }
 
-    pub cut_at_once : (r0 w0 w1 : Option (List ℕ)) → AppendsPart w0 w1 Turn.text → IsUnwritten r shown move_shown k start first r0 r0 w0 w1
+    pub cut_at_once : (r0 w0 w1 : Option (List ℕ)) → AppendsPart w0 w1 Turn.text → IsUnwritten r shown move_shown k seen start first r0 r0 w0 w1
     cut_at_once r0 w0 w1 a = record {
       bytes = [];
       is_read = nothing_read r0;
-      writes = part_longer w0 w1 Turn.text (text_after (λ q. Talk (closing r shown move_shown k) q [] []) Turn.asked) a;
+      writes = part_longer w0 w1 Turn.text (text_after (λ q. Talk (closing r shown move_shown k seen) q [] []) Turn.asked) a;
     }
 
     module _ {number : ℕ} {r0 r1 w0 w1 : Option (List ℕ)} {p : Position} {kept : List ℕ} (g : GoesOn number r0 r1 w0 w1 p kept) where
@@ -160,14 +160,14 @@ module _ (r : Rules) (shown : Position → List ℕ) (move_shown : Position → 
             omega (arith, h, d, t, length-append g.bytes (b ∷ [])));
       }
 
-      read_so_far : (r2 : Option (List ℕ)) → Keeps r1 r2 → number ≤ SESSION_BYTES → IsRead r shown move_shown k start first r0 r2 g.bytes
+      read_so_far : (r2 : Option (List ℕ)) → Keeps r1 r2 → number ≤ SESSION_BYTES → IsRead r shown move_shown k seen start first r0 r2 g.bytes
       read_so_far r2 h few = record {
         reads = Consumes-kept r0 r1 r2 g.bytes g.reads h;
         few = omega (arith, g.len, few);
         all_used = ap Used (sym (append-nil g.bytes)) ∙ g.uses [] ∙ (let h = count_end p g.line in omega (arith, h));
       }
 
-      read_one_more : (r2 : Option (List ℕ)) (b : ℕ) → Consumes r1 r2 (b ∷ []) → number + 1 ≤ SESSION_BYTES → IsRead r shown move_shown k start first r0 r2 (g.bytes ++ b ∷ [])
+      read_one_more : (r2 : Option (List ℕ)) (b : ℕ) → Consumes r1 r2 (b ∷ []) → number + 1 ≤ SESSION_BYTES → IsRead r shown move_shown k seen start first r0 r2 (g.bytes ++ b ∷ [])
       read_one_more r2 b c few = record {
         reads = Consumes-trans r0 r1 r2 g.bytes (b ∷ []) g.reads c;
         few = omega (arith, g.len, few, length-append g.bytes (b ∷ []));
@@ -176,9 +176,9 @@ module _ (r : Rules) (shown : Position → List ℕ) (move_shown : Position → 
 
       -- the line that ends the session
       pub last_line : (r2 w2 : Option (List ℕ)) (b : ℕ) → Consumes r1 r2 (b ∷ []) → (b == 10) ≡ true → number + 1 ≤ SESSION_BYTES → Says w1 w2 (Reply p g.line) None
-          → IsSession r shown move_shown k start first r0 r2 w0 w2
+          → IsSession r shown move_shown k seen start first r0 r2 w0 w2
       last_line r2 w2 b c e few (o, a) =
-          let f = closing r shown move_shown k in
+          let f = closing r shown move_shown k seen in
           let said : Spoken f (g.bytes ++ b ∷ []) ≡ g.written ++ (Reply p g.line).text =
           g.talks f (b ∷ []) ∙ ap (λ (l : List ℕ). g.written ++ l) (talk_line f p g.line b [] e ∙ ended_text (Reply p g.line) (λ s. Talk f s [] []) o) in
           record {
@@ -193,9 +193,9 @@ module _ (r : Rules) (shown : Position → List ℕ) (move_shown : Position → 
           }
 
       -- the end of the input
-      pub input_ends : (r2 w2 : Option (List ℕ)) → Keeps r1 r2 → IsAtEnd r2 → number ≤ SESSION_BYTES → Appends w1 w2 (closing r shown move_shown k p g.line) → IsSession r shown move_shown k start first r0 r2 w0 w2
+      pub input_ends : (r2 w2 : Option (List ℕ)) → Keeps r1 r2 → IsAtEnd r2 → number ≤ SESSION_BYTES → Appends w1 w2 (closing r shown move_shown k seen p g.line) → IsSession r shown move_shown k seen start first r0 r2 w0 w2
       input_ends r2 w2 h d few a =
-          let f = closing r shown move_shown k in
+          let f = closing r shown move_shown k seen in
           let said : Spoken f g.bytes ≡ g.written ++ f p g.line = ap (Spoken f) (sym (append-nil g.bytes)) ∙ g.talks f [] ∙ ap (λ (l : List ℕ). g.written ++ l) (talk_end f p g.line) in
           record {
             bytes = g.bytes;
@@ -205,22 +205,22 @@ module _ (r : Rules) (shown : Position → List ℕ) (move_shown : Position → 
           }
 
       -- errors: in reading
-      pub read_fails : (r2 : Option (List ℕ)) → Keeps r1 r2 → number ≤ SESSION_BYTES → IsUnread r shown move_shown k start first r0 r2 w0 w1
+      pub read_fails : (r2 : Option (List ℕ)) → Keeps r1 r2 → number ≤ SESSION_BYTES → IsUnread r shown move_shown k seen start first r0 r2 w0 w1
       read_fails r2 h few =
           let said : Spoken waiting g.bytes ≡ g.written = ap (Spoken waiting) (sym (append-nil g.bytes)) ∙ g.talks waiting [] ∙ ap (λ (l : List ℕ). g.written ++ l) (talk_end waiting p g.line) ∙ append-nil g.written in
           record { bytes = g.bytes; is_read = read_so_far r2 h few; writes = text_is w0 w1 g.written (Spoken waiting g.bytes) (sym said) g.writes }
 
       -- in writing at the end of the input
-      pub close_fails : (r2 w2 : Option (List ℕ)) → Keeps r1 r2 → number ≤ SESSION_BYTES → AppendsPart w1 w2 (closing r shown move_shown k p g.line) → IsUnwritten r shown move_shown k start first r0 r2 w0 w2
+      pub close_fails : (r2 w2 : Option (List ℕ)) → Keeps r1 r2 → number ≤ SESSION_BYTES → AppendsPart w1 w2 (closing r shown move_shown k seen p g.line) → IsUnwritten r shown move_shown k seen start first r0 r2 w0 w2
       close_fails r2 w2 h few a =
-          let f = closing r shown move_shown k in
+          let f = closing r shown move_shown k seen in
           let said : Spoken f g.bytes ≡ g.written ++ f p g.line = ap (Spoken f) (sym (append-nil g.bytes)) ∙ g.talks f [] ∙ ap (λ (l : List ℕ). g.written ++ l) (talk_end f p g.line) in
           record { bytes = g.bytes; is_read = read_so_far r2 h few; writes = part_is w0 w2 (g.written ++ f p g.line) (Spoken f g.bytes) (sym said) (part_after w0 w1 w2 g.written (f p g.line) g.writes a) }
 
       -- in writing after a line
-      pub reply_fails : (r2 w2 : Option (List ℕ)) (b : ℕ) → Consumes r1 r2 (b ∷ []) → (b == 10) ≡ true → number + 1 ≤ SESSION_BYTES → AppendsPart w1 w2 (Reply p g.line).text → IsUnwritten r shown move_shown k start first r0 r2 w0 w2
+      pub reply_fails : (r2 w2 : Option (List ℕ)) (b : ℕ) → Consumes r1 r2 (b ∷ []) → (b == 10) ≡ true → number + 1 ≤ SESSION_BYTES → AppendsPart w1 w2 (Reply p g.line).text → IsUnwritten r shown move_shown k seen start first r0 r2 w0 w2
       reply_fails r2 w2 b c e few a =
-          let f = closing r shown move_shown k in
+          let f = closing r shown move_shown k seen in
           let rest = text_after (λ s. Talk f s [] []) (Reply p g.line).asked in
           let said : Spoken f (g.bytes ++ b ∷ []) ≡ g.written ++ ((Reply p g.line).text ++ rest) = g.talks f (b ∷ []) ∙ ap (λ (l : List ℕ). g.written ++ l) (talk_line f p g.line b [] e) in
           record {
@@ -231,7 +231,7 @@ module _ (r : Rules) (shown : Position → List ℕ) (move_shown : Position → 
           }
 
       -- one byte too many
-      pub too_long : (r2 : Option (List ℕ)) (b : ℕ) → Consumes r1 r2 (b ∷ []) → number ≡ SESSION_BYTES → IsTooLong r shown move_shown k start first r0 r2 w0 w1
+      pub too_long : (r2 : Option (List ℕ)) (b : ℕ) → Consumes r1 r2 (b ∷ []) → number ≡ SESSION_BYTES → IsTooLong r shown move_shown k seen start first r0 r2 w0 w1
       too_long r2 b c many =
           let said : Spoken waiting g.bytes ≡ g.written = ap (Spoken waiting) (sym (append-nil g.bytes)) ∙ g.talks waiting [] ∙ ap (λ (l : List ℕ). g.written ++ l) (talk_end waiting p g.line) ∙ append-nil g.written in
           record {

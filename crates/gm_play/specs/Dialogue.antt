@@ -94,6 +94,10 @@ course_with said (Some q) f = record { moves = said.moves + (f q).moves; ending 
 abbrev pub course_after : Said → (Position → Course) → Course
 course_after said f = course_with said said.asked f
 
+-- nothing is seen beside the lines
+abbrev pub unseen : Position → List ℕ
+unseen p = []
+
 -- nothing is written yet
 abbrev pub waiting : Position → List ℕ → List ℕ
 waiting p line = []
@@ -103,7 +107,11 @@ module _ (r : Rules) (shown : Position → List ℕ) (move_shown : Position → 
   abbrev pub move_read : Position → List ℕ → Option ℕ
   move_read p text = find (λ m. bytes_eq (move_shown p m) text) (r.moves p)
 
-  module _ (k : Advice) where
+  module _ (k : Advice) (seen : Position → List ℕ) where
+    -- what the person sees, and the question
+    abbrev pub question : Position → List ℕ
+    question p = seen p ++ codes "your move?\n"
+
     -- the line on a position
     abbrev pub place : Position → List ℕ
     place p = shown p ++ codes " " ++ text_of (k.value p) ++ codes "\n"
@@ -111,7 +119,7 @@ module _ (r : Rules) (shown : Position → List ℕ) (move_shown : Position → 
     -- the person is to move
     abbrev pub asks_or_ends : Position → Option End → Said
     asks_or_ends p (Some e) = game_over You e
-    asks_or_ends p None = asks (codes "your move?\n") p
+    asks_or_ends p None = asks (question p) p
 
     abbrev pub persons_turn : Position → Said
     persons_turn p = before (place p) (asks_or_ends p (r.primitive p))
@@ -132,7 +140,7 @@ module _ (r : Rules) (shown : Position → List ℕ) (move_shown : Position → 
 
     -- what a line is answered with
     abbrev pub answer_to : Position → Option ℕ → Said
-    answer_to p None = asks (codes "not a move\nyour move?\n") p
+    answer_to p None = asks (codes "not a move\n" ++ question p) p
     answer_to p (Some m) = after_move (computers_turn (r.play p m))
 
     abbrev pub reply : Position → List ℕ → Said

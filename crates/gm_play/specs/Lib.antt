@@ -10,3 +10,4 @@ pub mod PlayTexts
 pub mod Dialogue
 pub mod Sessions
 pub mod Courses
+pub mod LastLines

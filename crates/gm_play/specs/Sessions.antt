@@ -25,35 +25,35 @@ AppendsPart old new text = (done rest : List ℕ) × (text ≡ done ++ rest) × 
 abbrev pub Says : Option (List ℕ) → Option (List ℕ) → Said → Option Position → Type 0
 Says old new said asked = (asked ≡ said.asked) × Appends old new said.text
 
-module _ (r : Rules) (shown : Position → List ℕ) (move_shown : Position → ℕ → List ℕ) (k : Advice) (start : Position) (first : Side) where
+module _ (r : Rules) (shown : Position → List ℕ) (move_shown : Position → ℕ → List ℕ) (k : Advice) (seen : Position → List ℕ) (start : Position) (first : Side) where
   -- these bytes were read, no more than one session reads, and none after the line that ends it
   pub record IsRead (old new : Option (List ℕ)) (bytes : List ℕ) : Type 0 where
     pub reads : Consumes old new bytes
     pub few : length bytes ≤ most_bytes
-    pub all_used : used r shown move_shown k start first bytes ≡ length bytes
+    pub all_used : used r shown move_shown k seen start first bytes ≡ length bytes
 
   -- a line ends the dialogue after these bytes: it reads no further ones
   abbrev pub IsEnded : List ℕ → Type 0
-  IsEnded bytes = (more : List ℕ) → used r shown move_shown k start first (bytes ++ more) ≡ length bytes
+  IsEnded bytes = (more : List ℕ) → used r shown move_shown k seen start first (bytes ++ more) ≡ length bytes
 
   -- a session: the dialogue of the bytes that were read is written, and a line ended it or the input did
   pub record IsSession (old new before after : Option (List ℕ)) : Type 0 where
     pub bytes : List ℕ
     pub is_read : IsRead old new bytes
-    pub writes : Appends before after (dialogue r shown move_shown k start first bytes)
+    pub writes : Appends before after (dialogue r shown move_shown k seen start first bytes)
     pub end : IsEnded bytes ⊎ IsAtEnd new
 
   -- a session whose input failed: all was written that the bytes before are answered with
   pub record IsUnread (old new before after : Option (List ℕ)) : Type 0 where
     pub bytes : List ℕ
     pub is_read : IsRead old new bytes
-    pub writes : Appends before after (dialogue_so_far r shown move_shown k start first bytes)
+    pub writes : Appends before after (dialogue_so_far r shown move_shown k seen start first bytes)
 
   -- a session whose output failed: a front of the dialogue is written
   pub record IsUnwritten (old new before after : Option (List ℕ)) : Type 0 where
     pub bytes : List ℕ
     pub is_read : IsRead old new bytes
-    pub writes : AppendsPart before after (dialogue r shown move_shown k start first bytes)
+    pub writes : AppendsPart before after (dialogue r shown move_shown k seen start first bytes)
 
   -- a session that one byte more than may be read came to, which is not answered
   pub record IsTooLong (old new before after : Option (List ℕ)) : Type 0 where
@@ -61,8 +61,8 @@ module _ (r : Rules) (shown : Position → List ℕ) (move_shown : Position → 
     pub last : ℕ
     pub reads : Consumes old new (bytes ++ last ∷ [])
     pub many : length bytes ≡ most_bytes
-    pub all_used : used r shown move_shown k start first (bytes ++ last ∷ []) ≡ most_bytes + 1
-    pub writes : Appends before after (dialogue_so_far r shown move_shown k start first bytes)
+    pub all_used : used r shown move_shown k seen start first (bytes ++ last ∷ []) ≡ most_bytes + 1
+    pub writes : Appends before after (dialogue_so_far r shown move_shown k seen start first bytes)
 
   -- a session that ended with an error
   abbrev pub IsBroken : SessionError → Option (List ℕ) → Option (List ℕ) → Option (List ℕ) → Option (List ℕ) → Type 0

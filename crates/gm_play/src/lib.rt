@@ -16,3 +16,4 @@ pub mod side;
 pub(crate) mod streams;
 pub mod texts;
 pub(crate) mod turns;
+pub mod view;

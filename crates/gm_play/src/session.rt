@@ -1,8 +1,9 @@
 //! Play against the computer over a reader and a writer.
 ghost use Rattle.std.specs.Prelude.{◌≡◌, ℕ, List, true, OnOk, IfErr};
 ghost use Rattle.gm_play.specs.Reached.{AreAllHeld};
-ghost use Rattle.gm_play.specs.Dialogue.{Advice, IsKnown, course};
+ghost use Rattle.gm_play.specs.Dialogue.{Advice, IsKnown, course, unseen};
 ghost use Rattle.gm_play.specs.Courses.{IsWonCourse, IsUnlostCourse};
+ghost use Rattle.gm_play.specs.LastLines.{EndsWon, EndsUnlost, WritesOne};
 ghost use Rattle.gm_play.specs.Sides.{IsWonIn, IsEven};
 ghost use Rattle.gm_play.specs.Sessions.{IsSession, IsBroken};
 
@@ -10,6 +11,7 @@ use crate::session_error::SessionError;
 use crate::side::Side;
 use crate::streams::read_byte;
 use crate::turns::{close, reply, turn};
+use crate::view::{Plain, View};
 use arrayvec::ArrayVec;
 use gm_game::game::Game;
 use gm_game::limits::LINE;
@@ -37,17 +39,46 @@ pub fn session<G: Shown, R: Read, W: Write>(
     requires legal { G.Game.rules.is_legal start ≡ true }
     requires held { AreAllHeld G.Game.rules tables.now start.tier }
     ensures ok { (k : Advice) → IsKnown G.Game.rules start.tier k
-        → OnOk result (IsSession G.Game.rules G.shown G.move_shown k start first (R.remaining input.old) (R.remaining input.new) (W.contents output.old) (W.contents output.new)) }
+        → OnOk result (IsSession G.Game.rules G.shown G.move_shown k unseen start first (R.remaining input.old) (R.remaining input.new) (W.contents output.old) (W.contents output.new)) }
     ensures err { (k : Advice) → IsKnown G.Game.rules start.tier k
-        → IfErr result (λ e. IsBroken G.Game.rules G.shown G.move_shown k start first e (R.remaining input.old) (R.remaining input.new) (W.contents output.old) (W.contents output.new)) }
+        → IfErr result (λ e. IsBroken G.Game.rules G.shown G.move_shown k unseen start first e (R.remaining input.old) (R.remaining input.new) (W.contents output.old) (W.contents output.new)) }
     ensures won { (n : ℕ) → IsWonIn G.Game.rules start first n → (k : Advice) → IsKnown G.Game.rules start.tier k
-        → (bytes : List ℕ) → IsWonCourse n (course G.Game.rules G.shown G.move_shown k start first bytes) }
+        → (bytes : List ℕ) → IsWonCourse n (course G.Game.rules G.shown G.move_shown k unseen start first bytes) }
     ensures even { IsEven G.Game.rules start → (k : Advice) → IsKnown G.Game.rules start.tier k
-        → (bytes : List ℕ) → IsUnlostCourse (course G.Game.rules G.shown G.move_shown k start first bytes) }
+        → (bytes : List ℕ) → IsUnlostCourse (course G.Game.rules G.shown G.move_shown k unseen start first bytes) }
+    ensures won_text { (n : ℕ) → IsWonIn G.Game.rules start first n → OnOk result (WritesOne EndsWon (W.contents output.old) (W.contents output.new)) }
+    ensures even_text { IsEven G.Game.rules start → OnOk result (WritesOne EndsUnlost (W.contents output.old) (W.contents output.new)) }
+    ensures known { (k : Advice) × IsKnown G.Game.rules start.tier k }
+{
+    session_with::<G, Plain, R, W>(tables, start, first, input, output)
+}
+
+/// A session in which the person sees more before each question: what the view says of the position. It takes no memory.
+///
+/// It reads a byte at a time, none after the line that ends the session, and at most `SESSION_BYTES`: one byte more is `TooMuchInput`.
+pub fn session_with<G: Shown, V: View<G>, R: Read, W: Write>(
+    tables: &Tables<G>,
+    start: Position,
+    first: Side,
+    input: &mut R,
+    output: &mut W,
+) -> Result<(), SessionError>
+    requires legal { G.Game.rules.is_legal start ≡ true }
+    requires held { AreAllHeld G.Game.rules tables.now start.tier }
+    ensures ok { (k : Advice) → IsKnown G.Game.rules start.tier k
+        → OnOk result (IsSession G.Game.rules G.shown G.move_shown k V.seen start first (R.remaining input.old) (R.remaining input.new) (W.contents output.old) (W.contents output.new)) }
+    ensures err { (k : Advice) → IsKnown G.Game.rules start.tier k
+        → IfErr result (λ e. IsBroken G.Game.rules G.shown G.move_shown k V.seen start first e (R.remaining input.old) (R.remaining input.new) (W.contents output.old) (W.contents output.new)) }
+    ensures won { (n : ℕ) → IsWonIn G.Game.rules start first n → (k : Advice) → IsKnown G.Game.rules start.tier k
+        → (bytes : List ℕ) → IsWonCourse n (course G.Game.rules G.shown G.move_shown k V.seen start first bytes) }
+    ensures even { IsEven G.Game.rules start → (k : Advice) → IsKnown G.Game.rules start.tier k
+        → (bytes : List ℕ) → IsUnlostCourse (course G.Game.rules G.shown G.move_shown k V.seen start first bytes) }
+    ensures won_text { (n : ℕ) → IsWonIn G.Game.rules start first n → OnOk result (WritesOne EndsWon (W.contents output.old) (W.contents output.new)) }
+    ensures even_text { IsEven G.Game.rules start → OnOk result (WritesOne EndsUnlost (W.contents output.old) (W.contents output.new)) }
     ensures known { (k : Advice) × IsKnown G.Game.rules start.tier k }
 {
     advice(tables, start.tier);
-    converse(tables, start, first, input, output)
+    converse::<G, V, R, W>(tables, start, first, input, output)
 }
 
 // Hands out that there is a look-up of true values and best moves where every tier that is reached is held.
@@ -59,7 +90,7 @@ fn advice<G: Game>(tables: &Tables<G>, tier: u64)
 }
 
 // The session, byte by byte.
-fn converse<G: Shown, R: Read, W: Write>(
+fn converse<G: Shown, V: View<G>, R: Read, W: Write>(
     tables: &Tables<G>,
     start: Position,
     first: Side,
@@ -69,11 +100,11 @@ fn converse<G: Shown, R: Read, W: Write>(
     requires legal { G.Game.rules.is_legal start ≡ true }
     requires held { AreAllHeld G.Game.rules tables.now start.tier }
     ensures ok { (k : Advice) → IsKnown G.Game.rules start.tier k
-        → OnOk result (IsSession G.Game.rules G.shown G.move_shown k start first (R.remaining input.old) (R.remaining input.new) (W.contents output.old) (W.contents output.new)) }
+        → OnOk result (IsSession G.Game.rules G.shown G.move_shown k V.seen start first (R.remaining input.old) (R.remaining input.new) (W.contents output.old) (W.contents output.new)) }
     ensures err { (k : Advice) → IsKnown G.Game.rules start.tier k
-        → IfErr result (λ e. IsBroken G.Game.rules G.shown G.move_shown k start first e (R.remaining input.old) (R.remaining input.new) (W.contents output.old) (W.contents output.new)) }
+        → IfErr result (λ e. IsBroken G.Game.rules G.shown G.move_shown k V.seen start first e (R.remaining input.old) (R.remaining input.new) (W.contents output.old) (W.contents output.new)) }
 {
-    let mut asked = match turn(tables, start, first, output) {
+    let mut asked = match turn::<G, V, W>(tables, start, first, output) {
         Ok(Some(p)) => p,
         Ok(None) => return Ok(()),
         Err(_) => return Err(SessionError::WriteFailed),
@@ -83,7 +114,7 @@ fn converse<G: Shown, R: Read, W: Write>(
         let byte = match read_byte(input) {
             Ok(Some(byte)) => byte,
             Ok(None) => {
-                return match close(tables, asked, &line, output) {
+                return match close::<G, V, W>(tables, asked, &line, output) {
                     Ok(()) => Ok(()),
                     Err(_) => Err(SessionError::WriteFailed),
                 };
@@ -94,7 +125,7 @@ fn converse<G: Shown, R: Read, W: Write>(
             return Err(SessionError::TooMuchInput);
         }
         if byte == b'\n' {
-            match reply(tables, asked, &line, output) {
+            match reply::<G, V, W>(tables, asked, &line, output) {
                 Ok(Some(next)) => asked = next,
                 Ok(None) => return Ok(()),
                 Err(_) => return Err(SessionError::WriteFailed),

@@ -1,8 +1,10 @@
 //! Bytes from a reader, and texts to a writer.
-ghost use Rattle.std.specs.Prelude.{◌≡◌, ◌++◌, codes, OnOk, OnErr, IfOk};
+ghost use Rattle.std.specs.Prelude.{◌≡◌, ◌<◌, ◌+◌, ◌++◌, codes, length, OnOk, OnErr, IfOk};
 ghost use Rattle.std.specs.Io.KnownBytes.{Keeps, Appends};
 ghost use Rattle.gm_play.specs.Sessions.{ReadsByte, AppendsPart};
 
+use arrayvec::ArrayVec;
+use gm_game::limits::LINE;
 use std::io::{self, ErrorKind, Read, Write};
 
 /// The next byte, or `None` at the end of the input. No byte is read beyond it.
@@ -34,18 +36,32 @@ pub(crate) fn write_text<W: Write>(output: &mut W, text: &[u8]) -> io::Result<()
     Ok(())
 }
 
-/// Writes a line of two texts with a third between them. After an error a front of it is written.
+/// The bytes of the longest line: two texts, what stands between them, and the line end.
+const WIDTH: usize = 2 * LINE + 16;
+
+/// Writes a line of two texts with a third between them, by one call of a writer that takes it. After an error a front of it is written.
 pub(crate) fn write_line<W: Write>(
     output: &mut W,
     front: &[u8],
     between: &[u8],
     back: &[u8],
 ) -> io::Result<()>
+    requires { length front.now + length between.now + length back.now < WIDTH }
     ensures ok { OnOk result (Appends (W.contents output.old) (W.contents output.new) (front.now ++ between.now ++ back.now ++ codes "\n")) }
     ensures err { OnErr result (AppendsPart (W.contents output.old) (W.contents output.new) (front.now ++ between.now ++ back.now ++ codes "\n")) }
 {
-    write_text(output, front)?;
-    write_text(output, between)?;
-    write_text(output, back)?;
-    write_text(output, b"\n")
+    write_text(output, whole_line(front, between, back).as_slice())
+}
+
+// The line of three texts.
+fn whole_line(front: &[u8], between: &[u8], back: &[u8]) -> ArrayVec<u8, WIDTH>
+    requires { length front.now + length between.now + length back.now < WIDTH }
+    ensures { result.items ≡ front.now ++ between.now ++ back.now ++ codes "\n" }
+{
+    let mut line = ArrayVec::new();
+    let _fits = line.try_extend_from_slice(front);
+    let _fits = line.try_extend_from_slice(between);
+    let _fits = line.try_extend_from_slice(back);
+    line.push(b'\n');
+    line
 }

@@ -1,5 +1,5 @@
 //! The turns of a session.
-ghost use Rattle.std.specs.Prelude.{◌≡◌, true, OnOk, OnErr, IfOk, IfSome};
+ghost use Rattle.std.specs.Prelude.{◌≡◌, ◌++◌, codes, true, OnOk, OnErr, IfOk, IfSome};
 ghost use Rattle.std.specs.Io.KnownBytes.{Appends};
 ghost use Rattle.gm_table.specs.Tables.{IsHeld};
 ghost use Rattle.gm_play.specs.Reached.{AreAllHeld, IsReached};
@@ -9,6 +9,7 @@ ghost use Rattle.gm_play.specs.Sessions.{AppendsPart, Says};
 use crate::best_move::best_move;
 use crate::side::Side;
 use crate::streams::{write_line, write_text};
+use crate::view::View;
 use gm_game::position::{End, Position};
 use gm_game::shown::Shown;
 use gm_game::text::value_text;
@@ -27,7 +28,7 @@ fn over(side: Side, end: End) -> &'static [u8]
 }
 
 // Writes the line on a position.
-fn write_place<G: Shown, W: Write>(
+fn write_place<G: Shown, V: View<G>, W: Write>(
     tables: &Tables<G>,
     p: Position,
     output: &mut W,
@@ -35,9 +36,9 @@ fn write_place<G: Shown, W: Write>(
     requires legal { G.Game.rules.is_legal p ≡ true }
     requires held { IsHeld tables.now p.tier }
     ensures ok { (k : Advice) → IsKnown G.Game.rules p.tier k
-        → OnOk result (Appends (W.contents output.old) (W.contents output.new) (place G.Game.rules G.shown G.move_shown k p)) }
+        → OnOk result (Appends (W.contents output.old) (W.contents output.new) (place G.Game.rules G.shown G.move_shown k V.seen p)) }
     ensures err { (k : Advice) → IsKnown G.Game.rules p.tier k
-        → OnErr result (AppendsPart (W.contents output.old) (W.contents output.new) (place G.Game.rules G.shown G.move_shown k p)) }
+        → OnErr result (AppendsPart (W.contents output.old) (W.contents output.new) (place G.Game.rules G.shown G.move_shown k V.seen p)) }
 {
     let solved = tables.get(p).unwrap();
     write_line(
@@ -48,8 +49,18 @@ fn write_place<G: Shown, W: Write>(
     )
 }
 
+// Writes what the person sees, and the question.
+fn write_question<G: Shown, V: View<G>, W: Write>(p: Position, output: &mut W) -> io::Result<()>
+    requires { G.Game.rules.is_legal p ≡ true }
+    ensures ok { OnOk result (Appends (W.contents output.old) (W.contents output.new) (V.seen p ++ codes "your move?\n")) }
+    ensures err { OnErr result (AppendsPart (W.contents output.old) (W.contents output.new) (V.seen p ++ codes "your move?\n")) }
+{
+    write_text(output, V::see(p).as_slice())?;
+    write_text(output, b"your move?\n")
+}
+
 // The person's turn: where they are asked, or `None` where the game has ended.
-fn ask<G: Shown, W: Write>(
+fn ask<G: Shown, V: View<G>, W: Write>(
     tables: &Tables<G>,
     p: Position,
     output: &mut W,
@@ -57,26 +68,26 @@ fn ask<G: Shown, W: Write>(
     requires legal { G.Game.rules.is_legal p ≡ true }
     requires held { IsHeld tables.now p.tier }
     ensures ok { (k : Advice) → IsKnown G.Game.rules p.tier k
-        → IfOk result (Says (W.contents output.old) (W.contents output.new) (persons_turn G.Game.rules G.shown G.move_shown k p)) }
+        → IfOk result (Says (W.contents output.old) (W.contents output.new) (persons_turn G.Game.rules G.shown G.move_shown k V.seen p)) }
     ensures err { (k : Advice) → IsKnown G.Game.rules p.tier k
-        → OnErr result (AppendsPart (W.contents output.old) (W.contents output.new) (persons_turn G.Game.rules G.shown G.move_shown k p).text) }
+        → OnErr result (AppendsPart (W.contents output.old) (W.contents output.new) (persons_turn G.Game.rules G.shown G.move_shown k V.seen p).text) }
     ensures asked { IfOk result (λ o. IfSome o (IsReached G.Game.rules p.tier)) }
 {
-    write_place(tables, p, output)?;
+    write_place::<G, V, W>(tables, p, output)?;
     match G::primitive(p) {
         Some(end) => {
             write_text(output, over(Side::You, end))?;
             Ok(None)
         }
         None => {
-            write_text(output, b"your move?\n")?;
+            write_question::<G, V, W>(p, output)?;
             Ok(Some(p))
         }
     }
 }
 
 // The computer's turn, and then the person's.
-fn move_and_ask<G: Shown, W: Write>(
+fn move_and_ask<G: Shown, V: View<G>, W: Write>(
     tables: &Tables<G>,
     p: Position,
     output: &mut W,
@@ -84,12 +95,12 @@ fn move_and_ask<G: Shown, W: Write>(
     requires legal { G.Game.rules.is_legal p ≡ true }
     requires held { AreAllHeld G.Game.rules tables.now p.tier }
     ensures ok { (k : Advice) → IsKnown G.Game.rules p.tier k
-        → IfOk result (Says (W.contents output.old) (W.contents output.new) (computers_turn G.Game.rules G.shown G.move_shown k p)) }
+        → IfOk result (Says (W.contents output.old) (W.contents output.new) (computers_turn G.Game.rules G.shown G.move_shown k V.seen p)) }
     ensures err { (k : Advice) → IsKnown G.Game.rules p.tier k
-        → OnErr result (AppendsPart (W.contents output.old) (W.contents output.new) (computers_turn G.Game.rules G.shown G.move_shown k p).text) }
+        → OnErr result (AppendsPart (W.contents output.old) (W.contents output.new) (computers_turn G.Game.rules G.shown G.move_shown k V.seen p).text) }
     ensures asked { IfOk result (λ o. IfSome o (IsReached G.Game.rules p.tier)) }
 {
-    write_place(tables, p, output)?;
+    write_place::<G, V, W>(tables, p, output)?;
     if let Some(end) = G::primitive(p) {
         write_text(output, over(Side::Computer, end))?;
         return Ok(None);
@@ -97,14 +108,14 @@ fn move_and_ask<G: Shown, W: Write>(
     match best_move(tables, p).unwrap() {
         Some(m) => {
             write_line(output, b"computer", b": ", G::move_text(p, m).as_slice())?;
-            ask(tables, G::play(p, m), output)
+            ask::<G, V, W>(tables, G::play(p, m), output)
         }
         None => Ok(None),
     }
 }
 
 /// Writes the turn of the side to move, and of the person after the computer: where the person is asked, or `None` where the game has ended.
-pub(crate) fn turn<G: Shown, W: Write>(
+pub(crate) fn turn<G: Shown, V: View<G>, W: Write>(
     tables: &Tables<G>,
     p: Position,
     side: Side,
@@ -113,14 +124,14 @@ pub(crate) fn turn<G: Shown, W: Write>(
     requires legal { G.Game.rules.is_legal p ≡ true }
     requires held { AreAllHeld G.Game.rules tables.now p.tier }
     ensures ok { (k : Advice) → IsKnown G.Game.rules p.tier k
-        → IfOk result (Says (W.contents output.old) (W.contents output.new) (turn_spec G.Game.rules G.shown G.move_shown k p side)) }
+        → IfOk result (Says (W.contents output.old) (W.contents output.new) (turn_spec G.Game.rules G.shown G.move_shown k V.seen p side)) }
     ensures err { (k : Advice) → IsKnown G.Game.rules p.tier k
-        → OnErr result (AppendsPart (W.contents output.old) (W.contents output.new) (turn_spec G.Game.rules G.shown G.move_shown k p side).text) }
+        → OnErr result (AppendsPart (W.contents output.old) (W.contents output.new) (turn_spec G.Game.rules G.shown G.move_shown k V.seen p side).text) }
     ensures asked { IfOk result (λ o. IfSome o (IsReached G.Game.rules p.tier)) }
 {
     match side {
-        Side::You => ask(tables, p, output),
-        Side::Computer => move_and_ask(tables, p, output),
+        Side::You => ask::<G, V, W>(tables, p, output),
+        Side::Computer => move_and_ask::<G, V, W>(tables, p, output),
     }
 }
 
@@ -135,7 +146,7 @@ fn without_return(line: &[u8]) -> &[u8]
 }
 
 /// Answers a line: where the person is asked next, or `None` where the session ends.
-pub(crate) fn reply<G: Shown, W: Write>(
+pub(crate) fn reply<G: Shown, V: View<G>, W: Write>(
     tables: &Tables<G>,
     p: Position,
     line: &[u8],
@@ -144,9 +155,9 @@ pub(crate) fn reply<G: Shown, W: Write>(
     requires legal { G.Game.rules.is_legal p ≡ true }
     requires held { AreAllHeld G.Game.rules tables.now p.tier }
     ensures ok { (k : Advice) → IsKnown G.Game.rules p.tier k
-        → IfOk result (Says (W.contents output.old) (W.contents output.new) (reply_spec G.Game.rules G.shown G.move_shown k p line.now)) }
+        → IfOk result (Says (W.contents output.old) (W.contents output.new) (reply_spec G.Game.rules G.shown G.move_shown k V.seen p line.now)) }
     ensures err { (k : Advice) → IsKnown G.Game.rules p.tier k
-        → OnErr result (AppendsPart (W.contents output.old) (W.contents output.new) (reply_spec G.Game.rules G.shown G.move_shown k p line.now).text) }
+        → OnErr result (AppendsPart (W.contents output.old) (W.contents output.new) (reply_spec G.Game.rules G.shown G.move_shown k V.seen p line.now).text) }
     ensures asked { IfOk result (λ o. IfSome o (IsReached G.Game.rules p.tier)) }
 {
     let text = without_return(line);
@@ -155,16 +166,17 @@ pub(crate) fn reply<G: Shown, W: Write>(
         return Ok(None);
     }
     match G::read_move(p, text) {
-        Some(m) => move_and_ask(tables, G::play(p, m), output),
+        Some(m) => move_and_ask::<G, V, W>(tables, G::play(p, m), output),
         None => {
-            write_text(output, b"not a move\nyour move?\n")?;
+            write_text(output, b"not a move\n")?;
+            write_question::<G, V, W>(p, output)?;
             Ok(Some(p))
         }
     }
 }
 
 /// Answers what stands before the end of the input.
-pub(crate) fn close<G: Shown, W: Write>(
+pub(crate) fn close<G: Shown, V: View<G>, W: Write>(
     tables: &Tables<G>,
     p: Position,
     line: &[u8],
@@ -173,14 +185,14 @@ pub(crate) fn close<G: Shown, W: Write>(
     requires legal { G.Game.rules.is_legal p ≡ true }
     requires held { AreAllHeld G.Game.rules tables.now p.tier }
     ensures ok { (k : Advice) → IsKnown G.Game.rules p.tier k
-        → OnOk result (Appends (W.contents output.old) (W.contents output.new) (closing G.Game.rules G.shown G.move_shown k p line.now)) }
+        → OnOk result (Appends (W.contents output.old) (W.contents output.new) (closing G.Game.rules G.shown G.move_shown k V.seen p line.now)) }
     ensures err { (k : Advice) → IsKnown G.Game.rules p.tier k
-        → OnErr result (AppendsPart (W.contents output.old) (W.contents output.new) (closing G.Game.rules G.shown G.move_shown k p line.now)) }
+        → OnErr result (AppendsPart (W.contents output.old) (W.contents output.new) (closing G.Game.rules G.shown G.move_shown k V.seen p line.now)) }
 {
     if line.is_empty() {
         return write_text(output, b"input ended\n");
     }
-    match reply(tables, p, line, output)? {
+    match reply::<G, V, W>(tables, p, line, output)? {
         Some(_) => write_text(output, b"input ended\n"),
         None => Ok(()),
     }

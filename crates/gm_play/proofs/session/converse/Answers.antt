@@ -12,13 +12,14 @@ use Rattle.gm_play.proofs.session.converse.Goals as goal
 use Rattle.gm_play.proofs.session.converse.Goals.{then-byte-eq10+in-Ok-Some-reply, else-byte-eq10+then-not-is_full, else-byte-eq10+else-not-is_full}
 
 pub returns-in-Err-clause-err : goal.returns-in-Err-clause-err
-returns-in-Err-clause-err g c k known = cut_at_once g.G.Game.rules g.G.Shown.shown g.G.Shown.move_shown k c.args.start c.args.first _ _ _ (c.in-Err.ensures.err k known)
+returns-in-Err-clause-err g c k known = cut_at_once g.G.Game.rules g.G.Shown.shown g.G.Shown.move_shown k g.V.View.seen c.args.start c.args.first _ _ _ (c.in-Err.ensures.err k known)
 
 pub loop-count-init : goal.loop-count-init
 loop-count-init g c =
     let r = g.G.Game.rules in
     let s = g.G.Shown.shown in
     let m = g.G.Shown.move_shown in
+    let v = g.V.View.seen in
     let w0 = g.W.Write.contents c.args.output.now in
     let w1 = g.W.Write.contents c.turn.new.output in
     let start = c.args.start in
@@ -27,8 +28,8 @@ loop-count-init g c =
       few = omega arith;
       reached = reached;
       talk = λ (k : Advice) known. (
-          let said : Says w0 w1 (turn r s m k start c.args.first) (Some c.in-Ok-Some.p) = subst (Says w0 w1 (turn r s m k start c.args.first)) c.in-Ok-Some.field-0-is (c.in-Ok-Some.ensures.ok k known) in
-          rw c.new-line.ensures (begins r s m k start c.args.first _ w0 w1 c.in-Ok-Some.p said));
+          let said : Says w0 w1 (turn r s m k v start c.args.first) (Some c.in-Ok-Some.p) = subst (Says w0 w1 (turn r s m k v start c.args.first)) c.in-Ok-Some.field-0-is (c.in-Ok-Some.ensures.ok k known) in
+          rw c.new-line.ensures (begins r s m k v start c.args.first _ w0 w1 c.in-Ok-Some.p said));
     }
 
 pub close-requires-clause-legal : goal.close-requires-clause-legal
@@ -42,6 +43,7 @@ returns-in-Ok-clause-ok g c k known =
     let r = g.G.Game.rules in
     let s = g.G.Shown.shown in
     let m = g.G.Shown.move_shown in
+    let v = g.V.View.seen in
     let start = c.args.start in
     let first = c.args.first in
     let asked = c.loop-count.asked in
@@ -49,17 +51,18 @@ returns-in-Ok-clause-ok g c k known =
     let there = known_from r start.tier k asked known c.loop-count.invariant.reached in
     let reads : ReadsByte (g.R.Read.remaining c.loop-count.input) (g.R.Read.remaining c.read_byte.new.input) None =
     subst (ReadsByte _ _) c.in-Ok-None-read_byte.field-0-is c.in-Ok-None-read_byte.ensures.ok in
-    let same : closing r s m k asked c.deref.result.now ≡ closing r s m k asked talk.line =
-    ap (closing r s m k asked) (c.deref.ensures.0 ∙ talk.keeps) ∙ closed r s m g.met.G.Shown.readable k asked c.loop-count.invariant.reached.0 talk.line in
+    let same : closing r s m k v asked c.deref.result.now ≡ closing r s m k v asked talk.line =
+    ap (closing r s m k v asked) (c.deref.ensures.0 ∙ talk.keeps) ∙ closed r s m g.met.G.Shown.readable k v asked c.loop-count.invariant.reached.0 talk.line in
     let w1 = g.W.Write.contents c.loop-count.output in
     let w2 = g.W.Write.contents c.close.new.output in
-    input_ends r s m k start first talk _ w2 reads.0 reads.1 c.loop-count.invariant.few (subst (λ (t : List ℕ). Appends w1 w2 t) same (c.in-Ok.ensures.ok k there))
+    input_ends r s m k v start first talk _ w2 reads.0 reads.1 c.loop-count.invariant.few (subst (λ (t : List ℕ). Appends w1 w2 t) same (c.in-Ok.ensures.ok k there))
 
 pub returns-in-Err-close-clause-err : goal.returns-in-Err-close-clause-err
 returns-in-Err-close-clause-err g c k known =
     let r = g.G.Game.rules in
     let s = g.G.Shown.shown in
     let m = g.G.Shown.move_shown in
+    let v = g.V.View.seen in
     let start = c.args.start in
     let first = c.args.first in
     let asked = c.loop-count.asked in
@@ -67,21 +70,21 @@ returns-in-Err-close-clause-err g c k known =
     let there = known_from r start.tier k asked known c.loop-count.invariant.reached in
     let reads : ReadsByte (g.R.Read.remaining c.loop-count.input) (g.R.Read.remaining c.read_byte.new.input) None =
     subst (ReadsByte _ _) c.in-Ok-None-read_byte.field-0-is c.in-Ok-None-read_byte.ensures.ok in
-    let same : closing r s m k asked c.deref.result.now ≡ closing r s m k asked talk.line =
-    ap (closing r s m k asked) (c.deref.ensures.0 ∙ talk.keeps) ∙ closed r s m g.met.G.Shown.readable k asked c.loop-count.invariant.reached.0 talk.line in
+    let same : closing r s m k v asked c.deref.result.now ≡ closing r s m k v asked talk.line =
+    ap (closing r s m k v asked) (c.deref.ensures.0 ∙ talk.keeps) ∙ closed r s m g.met.G.Shown.readable k v asked c.loop-count.invariant.reached.0 talk.line in
     let w1 = g.W.Write.contents c.loop-count.output in
     let w2 = g.W.Write.contents c.close.new.output in
-    close_fails r s m k start first talk _ w2 reads.0 c.loop-count.invariant.few (subst (λ (t : List ℕ). AppendsPart w1 w2 t) same (c.in-Err-close.ensures.err k there))
+    close_fails r s m k v start first talk _ w2 reads.0 c.loop-count.invariant.few (subst (λ (t : List ℕ). AppendsPart w1 w2 t) same (c.in-Err-close.ensures.err k there))
 
 pub returns-in-Err-read_byte-clause-err : goal.returns-in-Err-read_byte-clause-err
 returns-in-Err-read_byte-clause-err g c k known =
-    read_fails g.G.Game.rules g.G.Shown.shown g.G.Shown.move_shown k c.args.start c.args.first (c.loop-count.invariant.talk k known) _ c.in-Err-read_byte.ensures.err c.loop-count.invariant.few
+    read_fails g.G.Game.rules g.G.Shown.shown g.G.Shown.move_shown k g.V.View.seen c.args.start c.args.first (c.loop-count.invariant.talk k known) _ c.in-Err-read_byte.ensures.err c.loop-count.invariant.few
 
 pub returns-then-count-eq-SESSION_BYTES-clause-err : goal.returns-then-count-eq-SESSION_BYTES-clause-err
 returns-then-count-eq-SESSION_BYTES-clause-err g c k known =
     let reads : ReadsByte (g.R.Read.remaining c.loop-count.input) (g.R.Read.remaining c.read_byte.new.input) (Some c.in-Ok-Some-read_byte.byte) =
     subst (ReadsByte _ _) c.in-Ok-Some-read_byte.field-0-is c.in-Ok-Some-read_byte.ensures.ok in
-    too_long g.G.Game.rules g.G.Shown.shown g.G.Shown.move_shown k c.args.start c.args.first (c.loop-count.invariant.talk k known) _ c.in-Ok-Some-read_byte.byte reads (search rules)
+    too_long g.G.Game.rules g.G.Shown.shown g.G.Shown.move_shown k g.V.View.seen c.args.start c.args.first (c.loop-count.invariant.talk k known) _ c.in-Ok-Some-read_byte.byte reads (search rules)
 
 pub reply-requires-clause-legal : goal.reply-requires-clause-legal
 reply-requires-clause-legal g c = c.loop-count.invariant.reached.0
@@ -94,6 +97,7 @@ returns-in-Ok-None-reply-clause-ok g c k known =
     let r = g.G.Game.rules in
     let s = g.G.Shown.shown in
     let m = g.G.Shown.move_shown in
+    let v = g.V.View.seen in
     let start = c.args.start in
     let first = c.args.first in
     let asked = c.loop-count.asked in
@@ -101,12 +105,12 @@ returns-in-Ok-None-reply-clause-ok g c k known =
     let there = known_from r start.tier k asked known c.loop-count.invariant.reached in
     let reads : ReadsByte (g.R.Read.remaining c.loop-count.input) (g.R.Read.remaining c.read_byte.new.input) (Some c.in-Ok-Some-read_byte.byte) =
     subst (ReadsByte _ _) c.in-Ok-Some-read_byte.field-0-is c.in-Ok-Some-read_byte.ensures.ok in
-    let same : reply r s m k asked c.deref-then-byte-eq10.result.now ≡ reply r s m k asked talk.line =
-    ap (reply r s m k asked) (c.deref-then-byte-eq10.ensures.0 ∙ talk.keeps) ∙ heard r s m g.met.G.Shown.readable k asked c.loop-count.invariant.reached.0 talk.line in
+    let same : reply r s m k v asked c.deref-then-byte-eq10.result.now ≡ reply r s m k v asked talk.line =
+    ap (reply r s m k v asked) (c.deref-then-byte-eq10.ensures.0 ∙ talk.keeps) ∙ heard r s m g.met.G.Shown.readable k v asked c.loop-count.invariant.reached.0 talk.line in
     let w1 = g.W.Write.contents c.loop-count.output in
     let w2 = g.W.Write.contents c.reply.new.output in
-    let before : Says w1 w2 (reply r s m k asked c.deref-then-byte-eq10.result.now) None = subst (Says w1 w2 (reply r s m k asked c.deref-then-byte-eq10.result.now)) c.in-Ok-None-reply.field-0-is (c.in-Ok-None-reply.ensures.ok k there) in
-    last_line r s m k start first talk _ w2 c.in-Ok-Some-read_byte.byte reads (search rules) (omega (arith, c.loop-count.invariant.few, c.if-count-eq-SESSION_BYTES.false))
+    let before : Says w1 w2 (reply r s m k v asked c.deref-then-byte-eq10.result.now) None = subst (Says w1 w2 (reply r s m k v asked c.deref-then-byte-eq10.result.now)) c.in-Ok-None-reply.field-0-is (c.in-Ok-None-reply.ensures.ok k there) in
+    last_line r s m k v start first talk _ w2 c.in-Ok-Some-read_byte.byte reads (search rules) (omega (arith, c.loop-count.invariant.few, c.if-count-eq-SESSION_BYTES.false))
     (subst (λ (t : Said). Says w1 w2 t None) same before)
 
 pub returns-in-Err-reply-clause-err : goal.returns-in-Err-reply-clause-err
@@ -114,6 +118,7 @@ returns-in-Err-reply-clause-err g c k known =
     let r = g.G.Game.rules in
     let s = g.G.Shown.shown in
     let m = g.G.Shown.move_shown in
+    let v = g.V.View.seen in
     let start = c.args.start in
     let first = c.args.first in
     let asked = c.loop-count.asked in
@@ -121,11 +126,11 @@ returns-in-Err-reply-clause-err g c k known =
     let there = known_from r start.tier k asked known c.loop-count.invariant.reached in
     let reads : ReadsByte (g.R.Read.remaining c.loop-count.input) (g.R.Read.remaining c.read_byte.new.input) (Some c.in-Ok-Some-read_byte.byte) =
     subst (ReadsByte _ _) c.in-Ok-Some-read_byte.field-0-is c.in-Ok-Some-read_byte.ensures.ok in
-    let same : reply r s m k asked c.deref-then-byte-eq10.result.now ≡ reply r s m k asked talk.line =
-    ap (reply r s m k asked) (c.deref-then-byte-eq10.ensures.0 ∙ talk.keeps) ∙ heard r s m g.met.G.Shown.readable k asked c.loop-count.invariant.reached.0 talk.line in
+    let same : reply r s m k v asked c.deref-then-byte-eq10.result.now ≡ reply r s m k v asked talk.line =
+    ap (reply r s m k v asked) (c.deref-then-byte-eq10.ensures.0 ∙ talk.keeps) ∙ heard r s m g.met.G.Shown.readable k v asked c.loop-count.invariant.reached.0 talk.line in
     let w1 = g.W.Write.contents c.loop-count.output in
     let w2 = g.W.Write.contents c.reply.new.output in
-    reply_fails r s m k start first talk _ w2 c.in-Ok-Some-read_byte.byte reads (search rules) (omega (arith, c.loop-count.invariant.few, c.if-count-eq-SESSION_BYTES.false))
+    reply_fails r s m k v start first talk _ w2 c.in-Ok-Some-read_byte.byte reads (search rules) (omega (arith, c.loop-count.invariant.few, c.if-count-eq-SESSION_BYTES.false))
     (subst (λ (t : Said). AppendsPart w1 w2 t.text) same (c.in-Err-reply.ensures.err k there))
 
 pub loop-count-preserved : goal.loop-count-preserved
@@ -133,6 +138,7 @@ loop-count-preserved g c =
     let r = g.G.Game.rules in
     let s = g.G.Shown.shown in
     let m = g.G.Shown.move_shown in
+    let v = g.V.View.seen in
     let start = c.args.start in
     let first = c.args.first in
     let asked = c.loop-count.asked in
@@ -151,12 +157,12 @@ loop-count-preserved g c =
             reached = rw w.asked-is (reached_reached r start.tier asked next reached below);
             talk = λ (k : Advice) known. (
                 let talk = c.loop-count.invariant.talk k known in
-                let same : reply r s m k asked w.deref-then-byte-eq10.result.now ≡ reply r s m k asked talk.line =
-                ap (reply r s m k asked) (w.deref-then-byte-eq10.ensures.0 ∙ talk.keeps) ∙ heard r s m g.met.G.Shown.readable k asked reached.0 talk.line in
-                let before : Says w1 w2 (reply r s m k asked w.deref-then-byte-eq10.result.now) (Some next) =
-                subst (Says w1 w2 (reply r s m k asked w.deref-then-byte-eq10.result.now)) w.in-Ok-Some-reply.field-0-is (w.in-Ok-Some-reply.ensures.ok k (known_from r start.tier k asked known reached)) in
+                let same : reply r s m k v asked w.deref-then-byte-eq10.result.now ≡ reply r s m k v asked talk.line =
+                ap (reply r s m k v asked) (w.deref-then-byte-eq10.ensures.0 ∙ talk.keeps) ∙ heard r s m g.met.G.Shown.readable k v asked reached.0 talk.line in
+                let before : Says w1 w2 (reply r s m k v asked w.deref-then-byte-eq10.result.now) (Some next) =
+                subst (Says w1 w2 (reply r s m k v asked w.deref-then-byte-eq10.result.now)) w.in-Ok-Some-reply.field-0-is (w.in-Ok-Some-reply.ensures.ok k (known_from r start.tier k asked known reached)) in
                 rw (w.output-is, w.asked-is, w.line-is, w.clear.ensures)
-                (next_line r s m k start first talk _ w2 c.in-Ok-Some-read_byte.byte next reads (search rules) (subst (λ (t : Said). Says w1 w2 t (Some next)) same before)));
+                (next_line r s m k v start first talk _ w2 c.in-Ok-Some-read_byte.byte next reads (search rules) (subst (λ (t : Said). Says w1 w2 t (Some next)) same before)));
           })
       | else-byte-eq10+then-not-is_full w ↦ (
           let grown : w.push.new.self.items ≡ c.loop-count.line.items ++ c.in-Ok-Some-read_byte.byte ∷ [] = search rules in
@@ -167,7 +173,7 @@ loop-count-preserved g c =
             talk = λ (k : Advice) known. (
                 let talk = c.loop-count.invariant.talk k known in
                 rw (w.output-is, w.asked-is, w.line-is)
-                (goes_on r s m k start first talk _ c.in-Ok-Some-read_byte.byte w.push.new.self.items reads (search rules)
+                (goes_on r s m k v start first talk _ c.in-Ok-Some-read_byte.byte w.push.new.self.items reads (search rules)
                 (grown ∙ kept_push c.loop-count.line.items talk.line c.in-Ok-Some-read_byte.byte talk.keeps short)));
           })
       | else-byte-eq10+else-not-is_full w ↦ (
@@ -178,7 +184,7 @@ loop-count-preserved g c =
             talk = λ (k : Advice) known. (
                 let talk = c.loop-count.invariant.talk k known in
                 rw (w.output-is, w.asked-is, w.line-is)
-                (goes_on r s m k start first talk _ c.in-Ok-Some-read_byte.byte c.loop-count.line.items reads (search rules)
+                (goes_on r s m k v start first talk _ c.in-Ok-Some-read_byte.byte c.loop-count.line.items reads (search rules)
                 (kept_full c.loop-count.line.items talk.line c.in-Ok-Some-read_byte.byte talk.keeps full)));
           })
     ]

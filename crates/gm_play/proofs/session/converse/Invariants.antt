@@ -10,5 +10,5 @@ invariant-loop-count g l = record {
   few : l.count ≤ SESSION_BYTES;
   reached : IsReached g.G.Game.rules l.fn.start.tier l.asked;
   talk : (k : Advice) → IsKnown g.G.Game.rules l.fn.start.tier k
-      → GoesOn g.G.Game.rules g.G.Shown.shown g.G.Shown.move_shown k l.fn.start l.fn.first l.count (g.R.Read.remaining l.fn.input) (g.R.Read.remaining l.input) (g.W.Write.contents l.fn.output) (g.W.Write.contents l.output) l.asked l.line.items;
+      → GoesOn g.G.Game.rules g.G.Shown.shown g.G.Shown.move_shown k g.V.View.seen l.fn.start l.fn.first l.count (g.R.Read.remaining l.fn.input) (g.R.Read.remaining l.input) (g.W.Write.contents l.fn.output) (g.W.Write.contents l.output) l.asked l.line.items;
 }

@@ -21,29 +21,32 @@ returns-in_err-write_place-clause-err g c k known =
     let r = g.G.Game.rules in
     let s = g.G.Shown.shown in
     let m = g.G.Shown.move_shown in
+    let v = g.V.View.seen in
     let p = c.args.p in
-    on_err c.from_residual.result _ (part_longer _ _ (place r s m k p) (moves_or_ends r s m k p (r.primitive p) (k.best p)).text (c.in_err-write_place.ensures.err k known))
+    on_err c.from_residual.result _ (part_longer _ _ (place r s m k v p) (moves_or_ends r s m k v p (r.primitive p) (k.best p)).text (c.in_err-write_place.ensures.err k known))
 
 pub returns-in_err-write_text-clause-err : goal.returns-in_err-write_text-clause-err
 returns-in_err-write_text-clause-err g c k known =
     let r = g.G.Game.rules in
     let s = g.G.Shown.shown in
     let m = g.G.Shown.move_shown in
+    let v = g.V.View.seen in
     let p = c.args.p in
     let e = c.in-Some.end in
-    let said = computer_ends r s m k p e (sym c.primitive.ensures ∙ c.in-Some.is) in
+    let said = computer_ends r s m k v p e (sym c.primitive.ensures ∙ c.in-Some.is) in
     on_err c.from_residual-in_err-write_text.result _
-    (stops_after _ _ _ (place r s m k p) (moves_or_ends r s m k p (r.primitive p) (k.best p)) (game_over Computer e) c.over.result.now (c.in_ok-write_place.ensures.ok k known) said c.over.ensures c.in_err-write_text.ensures.err)
+    (stops_after _ _ _ (place r s m k v p) (moves_or_ends r s m k v p (r.primitive p) (k.best p)) (game_over Computer e) c.over.result.now (c.in_ok-write_place.ensures.ok k known) said c.over.ensures c.in_err-write_text.ensures.err)
 
 pub returns-in-Some-clause-ok : goal.returns-in-Some-clause-ok
 returns-in-Some-clause-ok g c k known =
     let r = g.G.Game.rules in
     let s = g.G.Shown.shown in
     let m = g.G.Shown.move_shown in
+    let v = g.V.View.seen in
     let p = c.args.p in
     let e = c.in-Some.end in
-    let said = computer_ends r s m k p e (sym c.primitive.ensures ∙ c.in-Some.is) in
-    done_after _ _ _ (place r s m k p) (moves_or_ends r s m k p (r.primitive p) (k.best p)) (game_over Computer e) None c.over.result.now (c.in_ok-write_place.ensures.ok k known) said c.over.ensures refl c.in_ok-write_text.ensures.ok
+    let said = computer_ends r s m k v p e (sym c.primitive.ensures ∙ c.in-Some.is) in
+    done_after _ _ _ (place r s m k v p) (moves_or_ends r s m k v p (r.primitive p) (k.best p)) (game_over Computer e) None c.over.result.now (c.in_ok-write_place.ensures.ok k known) said c.over.ensures refl c.in_ok-write_text.ensures.ok
 
 pub unwrap-requires : goal.unwrap-requires
 unwrap-requires g c =
@@ -60,55 +63,58 @@ returns-in_err-write_line-in-Some-unwrap-clause-err g c k known =
     let r = g.G.Game.rules in
     let s = g.G.Shown.shown in
     let m = g.G.Shown.move_shown in
+    let v = g.V.View.seen in
     let p = c.args.p in
     let n = c.in-Some-unwrap.m in
     let best : IsBestMove r p (Some n) = search rules in
-    let said = computer_moves r s m k p n c.requires.legal known best in
-    let line : codes "computer" ++ codes ": " ++ c.as_slice.result.now ++ codes "\n" ≡ move_line r s m k p n = ap (λ (t : List ℕ). codes "computer" ++ codes ": " ++ t ++ codes "\n") (search rules) in
-    let next = persons_turn r s m k (r.play p n) in
+    let said = computer_moves r s m k v p n c.requires.legal known best in
+    let line : codes "computer" ++ codes ": " ++ c.as_slice.result.now ++ codes "\n" ≡ move_line r s m k v p n = ap (λ (t : List ℕ). codes "computer" ++ codes ": " ++ t ++ codes "\n") (search rules) in
+    let next = persons_turn r s m k v (r.play p n) in
     on_err c.from_residual-in_err-write_line-in-Some-unwrap.result _
-    (stops_after _ _ _ (place r s m k p) (moves_or_ends r s m k p (r.primitive p) (k.best p)) (after_move (before (move_line r s m k p n) next)) (move_line r s m k p n ++ next.text) (c.in_ok-write_place.ensures.ok k known) said refl
-    (part_longer _ _ (move_line r s m k p n) next.text (part_is _ _ _ _ line c.in_err-write_line-in-Some-unwrap.ensures.err)))
+    (stops_after _ _ _ (place r s m k v p) (moves_or_ends r s m k v p (r.primitive p) (k.best p)) (after_move (before (move_line r s m k v p n) next)) (move_line r s m k v p n ++ next.text) (c.in_ok-write_place.ensures.ok k known) said refl
+    (part_longer _ _ (move_line r s m k v p n) next.text (part_is _ _ _ _ line c.in_err-write_line-in-Some-unwrap.ensures.err)))
 
 pub returns-in_ok-write_line-in-Some-unwrap-clause-ok : goal.returns-in_ok-write_line-in-Some-unwrap-clause-ok
 returns-in_ok-write_line-in-Some-unwrap-clause-ok g c k known =
     let r = g.G.Game.rules in
     let s = g.G.Shown.shown in
     let m = g.G.Shown.move_shown in
+    let v = g.V.View.seen in
     let p = c.args.p in
     let n = c.in-Some-unwrap.m in
     let w2 = g.W.Write.contents c.write_line.new.output in
     let w3 = g.W.Write.contents c.ask.new.output in
     let best : IsBestMove r p (Some n) = search rules in
-    let said = computer_moves r s m k p n c.requires.legal known best in
-    let line : codes "computer" ++ codes ": " ++ c.as_slice.result.now ++ codes "\n" ≡ move_line r s m k p n = ap (λ (t : List ℕ). codes "computer" ++ codes ": " ++ t ++ codes "\n") (search rules) in
-    let next = persons_turn r s m k (r.play p n) in
+    let said = computer_moves r s m k v p n c.requires.legal known best in
+    let line : codes "computer" ++ codes ": " ++ c.as_slice.result.now ++ codes "\n" ≡ move_line r s m k v p n = ap (λ (t : List ℕ). codes "computer" ++ codes ": " ++ t ++ codes "\n") (search rules) in
+    let next = persons_turn r s m k v (r.play p n) in
     let there : IsKnown r (r.play p n).tier k = known_from r p.tier k (r.play p n) known (played_reached r g.met.G.Game.lawful p n c.requires.legal best.1.best.there) in
     let asks : IfOk c.ask.result (Says w2 w3 next) =
-    subst (λ (q : Position). IfOk c.ask.result (Says w2 w3 (persons_turn r s m k q))) c.play.ensures (c.ask.ensures.ok k (subst (λ (q : Position). IsKnown r q.tier k) (sym c.play.ensures) there)) in
-    IfOk-weaker c.ask.result (Says w2 w3 next) (Says _ _ (computers_turn r s m k p))
-    (λ o h. done_after _ _ _ (place r s m k p) (moves_or_ends r s m k p (r.primitive p) (k.best p)) (after_move (before (move_line r s m k p n) next)) o (move_line r s m k p n ++ next.text) (c.in_ok-write_place.ensures.ok k known) said refl h.0
-    (Appends-trans _ _ _ (move_line r s m k p n) next.text (text_is _ _ _ _ line c.in_ok-write_line-in-Some-unwrap.ensures.ok) h.1)) asks
+    subst (λ (q : Position). IfOk c.ask.result (Says w2 w3 (persons_turn r s m k v q))) c.play.ensures (c.ask.ensures.ok k (subst (λ (q : Position). IsKnown r q.tier k) (sym c.play.ensures) there)) in
+    IfOk-weaker c.ask.result (Says w2 w3 next) (Says _ _ (computers_turn r s m k v p))
+    (λ o h. done_after _ _ _ (place r s m k v p) (moves_or_ends r s m k v p (r.primitive p) (k.best p)) (after_move (before (move_line r s m k v p n) next)) o (move_line r s m k v p n ++ next.text) (c.in_ok-write_place.ensures.ok k known) said refl h.0
+    (Appends-trans _ _ _ (move_line r s m k v p n) next.text (text_is _ _ _ _ line c.in_ok-write_line-in-Some-unwrap.ensures.ok) h.1)) asks
 
 pub returns-in_ok-write_line-in-Some-unwrap-clause-err : goal.returns-in_ok-write_line-in-Some-unwrap-clause-err
 returns-in_ok-write_line-in-Some-unwrap-clause-err g c k known =
     let r = g.G.Game.rules in
     let s = g.G.Shown.shown in
     let m = g.G.Shown.move_shown in
+    let v = g.V.View.seen in
     let p = c.args.p in
     let n = c.in-Some-unwrap.m in
     let w2 = g.W.Write.contents c.write_line.new.output in
     let w3 = g.W.Write.contents c.ask.new.output in
     let best : IsBestMove r p (Some n) = search rules in
-    let said = computer_moves r s m k p n c.requires.legal known best in
-    let line : codes "computer" ++ codes ": " ++ c.as_slice.result.now ++ codes "\n" ≡ move_line r s m k p n = ap (λ (t : List ℕ). codes "computer" ++ codes ": " ++ t ++ codes "\n") (search rules) in
-    let next = persons_turn r s m k (r.play p n) in
+    let said = computer_moves r s m k v p n c.requires.legal known best in
+    let line : codes "computer" ++ codes ": " ++ c.as_slice.result.now ++ codes "\n" ≡ move_line r s m k v p n = ap (λ (t : List ℕ). codes "computer" ++ codes ": " ++ t ++ codes "\n") (search rules) in
+    let next = persons_turn r s m k v (r.play p n) in
     let there : IsKnown r (r.play p n).tier k = known_from r p.tier k (r.play p n) known (played_reached r g.met.G.Game.lawful p n c.requires.legal best.1.best.there) in
     let asks : OnErr c.ask.result (AppendsPart w2 w3 next.text) =
-    subst (λ (q : Position). OnErr c.ask.result (AppendsPart w2 w3 (persons_turn r s m k q).text)) c.play.ensures (c.ask.ensures.err k (subst (λ (q : Position). IsKnown r q.tier k) (sym c.play.ensures) there)) in
+    subst (λ (q : Position). OnErr c.ask.result (AppendsPart w2 w3 (persons_turn r s m k v q).text)) c.play.ensures (c.ask.ensures.err k (subst (λ (q : Position). IsKnown r q.tier k) (sym c.play.ensures) there)) in
     on_err_weaker c.ask.result
-    (λ h. stops_after _ _ _ (place r s m k p) (moves_or_ends r s m k p (r.primitive p) (k.best p)) (after_move (before (move_line r s m k p n) next)) (move_line r s m k p n ++ next.text) (c.in_ok-write_place.ensures.ok k known) said refl
-    (part_after _ _ _ (move_line r s m k p n) next.text (text_is _ _ _ _ line c.in_ok-write_line-in-Some-unwrap.ensures.ok) h)) asks
+    (λ h. stops_after _ _ _ (place r s m k v p) (moves_or_ends r s m k v p (r.primitive p) (k.best p)) (after_move (before (move_line r s m k v p n) next)) (move_line r s m k v p n ++ next.text) (c.in_ok-write_place.ensures.ok k known) said refl
+    (part_after _ _ _ (move_line r s m k v p n) next.text (text_is _ _ _ _ line c.in_ok-write_line-in-Some-unwrap.ensures.ok) h)) asks
 
 pub returns-in_ok-write_line-in-Some-unwrap-clause-asked : goal.returns-in_ok-write_line-in-Some-unwrap-clause-asked
 returns-in_ok-write_line-in-Some-unwrap-clause-asked g c =

@@ -15,7 +15,7 @@ returns-clause-ok g c k known =
     let front : c.as_slice.result.now ≡ g.G.Shown.shown c.args.p = search rules in
     let back : c.as_slice-2.result.now ≡ text_of (k.value c.args.p) = c.as_slice-2.ensures.value ∙ c.value_text.ensures ∙ ap text_of value in
     subst (λ (t : List ℕ). OnOk c.write_line.result (Appends (g.W.Write.contents c.args.output.now) (g.W.Write.contents c.write_line.new.output) t))
-    (place_is r g.G.Shown.shown g.G.Shown.move_shown k c.args.p c.as_slice.result.now c.as_slice-2.result.now front back) c.write_line.ensures.ok
+    (place_is r g.G.Shown.shown g.G.Shown.move_shown k g.V.View.seen c.args.p c.as_slice.result.now c.as_slice-2.result.now front back) c.write_line.ensures.ok
 
 pub returns-clause-err : goal.returns-clause-err
 returns-clause-err g c k known =
@@ -25,4 +25,4 @@ returns-clause-err g c k known =
     let front : c.as_slice.result.now ≡ g.G.Shown.shown c.args.p = search rules in
     let back : c.as_slice-2.result.now ≡ text_of (k.value c.args.p) = c.as_slice-2.ensures.value ∙ c.value_text.ensures ∙ ap text_of value in
     subst (λ (t : List ℕ). OnErr c.write_line.result (AppendsPart (g.W.Write.contents c.args.output.now) (g.W.Write.contents c.write_line.new.output) t))
-    (place_is r g.G.Shown.shown g.G.Shown.move_shown k c.args.p c.as_slice.result.now c.as_slice-2.result.now front back) c.write_line.ensures.err
+    (place_is r g.G.Shown.shown g.G.Shown.move_shown k g.V.View.seen c.args.p c.as_slice.result.now c.as_slice-2.result.now front back) c.write_line.ensures.err

@@ -1,0 +1,35 @@
+-- The boards of the games as templates: the k-th capital letter stands for the byte k of the position's text.
+use Rattle.std.specs.Prelude.{ℕ, ◌==◌, List, ◌++◌, codes, if◌then◌else◌}
+use Rattle.gm_morris.specs.declared.variant.Variant.{Variant}
+use Rattle.gm_morris.specs.declared.variant.Variant.TheVariants.{TicTacToe, ThreeMens, Achi}
+
+-- the columns of a square of side 3, far apart
+abbrev pub three_columns : List ℕ
+three_columns = codes "    1   2   3\n"
+
+-- the games of nine points
+unfoldable pub nine_points : Variant → List ℕ
+nine_points TicTacToe = three_columns ++ codes "a   A | B | C\n   ---+---+---\nb   D | E | F\n   ---+---+---\nc   G | H | I"
+nine_points ThreeMens = three_columns ++ codes "a   A---B---C\n    |   |   |\nb   D---E---F\n    |   |   |\nc   G---H---I"
+nine_points Achi = three_columns ++ codes "a   A---B---C\n    | \\ | / |\nb   D---E---F\n    | / | \\ |\nc   G---H---I"
+
+-- Dao
+unfoldable pub dao_board : List ℕ
+dao_board = codes "    1 2 3 4\na   A B C D\nb   E F G H\nc   I J K L\nd   M N O P"
+
+-- Tac Tix, by the side of the board
+unfoldable pub tactix_board : ℕ → List ℕ
+tactix_board s =
+    if s == 5 then codes "    1 2 3 4 5\na   A B C D E\nb   F G H I J\nc   K L M N O\nd   P Q R S T\ne   U V W X Y" else
+    if s == 4 then codes "    1 2 3 4\na   A B C D\nb   E F G H\nc   I J K L\nd   M N O P" else
+    if s == 3 then codes "    1 2 3\na   A B C\nb   D E F\nc   G H I" else
+    if s == 2 then codes "    1 2\na   A B\nb   C D" else
+    codes "    1\na   A"
+
+-- Mu Torere: point 0 is at the top, and the ring goes round by the right
+unfoldable pub ring_board : List ℕ
+ring_board = codes "H---A---B\n| \\ | / |\nG---I---C\n| / | \\ |\nF---E---D"
+
+-- Hare and Hounds: the hounds begin on the left
+unfoldable pub hare_board : List ℕ
+hare_board = codes "      B---E---H\n    / | \\ | / | \\\n   A---C---F---I---K\n    \\ | / | \\ | /\n      D---G---J"

@@ -1,0 +1,64 @@
+-- The rows of numbers tell positions apart: the bracket stands after the numbers before the current one.
+use Rattle.std.proofs.Common.{◌≡◌, ℕ, ◌+◌, ◌<◌, ◌≤◌, Bool, true, cond, eqb, leb, eqb-true, List, [], ◌∷◌, length, refl, sym, ap, ◌∙◌, arith}
+use Rattle.std.specs.List.{list_all, range_with_len}
+use Rattle.std.specs.Prelude.{◌&&◌}
+use Rattle.std.proofs.lemmas.Bool.Decides.{nat_tests}
+use Rattle.gm_game.specs.declared.position.Position.{Position}
+use Rattle.gm_game.proofs.SetLemmas.{same_position}
+use Rattle.gm_board.specs.Lists.{contains_range, and_left, and_right}
+use Rattle.gm_board.specs.Permutations.{all_at}
+use Rattle.gm_toys.specs.Countdown.{countdown, countdown_name}
+use Rattle.gm_toys.specs.SubtractionLaws.{legal_in}
+use Rattle.gm_toys.specs.Wheel.{wheel}
+use Rattle.gm_toys.specs.WheelLaws.{wheel_legal_in}
+use Rattle.gm_draw.specs.declared.drawn.TheConstants.{DRAWING}
+use Rattle.gm_draw.specs.Drawn.{IsDrawn}
+use Rattle.gm_draw.specs.Names.{player_moves}
+use Rattle.gm_draw.specs.Rows.{countdown_row, wheel_row}
+
+-- how many spaces stand before the bracket
+abbrev spaces : List ℕ → ℕ
+spaces [] = 0
+spaces (b ∷ bs) = cond (eqb b 91) 0 (cond (eqb b 32) 1 0 + spaces bs)
+
+abbrev row_test : (ℕ → List ℕ) → ℕ → Bool
+row_test row i = eqb (spaces (row i)) i && leb (length (row i)) 256
+
+countdown_table : list_all (row_test countdown_row) (range_with_len 0 11) ≡ true
+unfolding countdown_row
+countdown_table = refl
+
+wheel_table : list_all (row_test wheel_row) (range_with_len 0 10) ≡ true
+unfolding wheel_row
+wheel_table = refl
+
+short : (n : ℕ) → leb n 256 ≡ true → n ≤ DRAWING
+short n e = grind (arith, nat_tests)
+
+module _ (row : ℕ → List ℕ) (n : ℕ) (table : list_all (row_test row) (range_with_len 0 n) ≡ true) where
+  row_back : (i : ℕ) → i < n → spaces (row i) ≡ i
+  row_back i l = eqb-true _ _ (and_left _ _ (all_at (row_test row) (range_with_len 0 n) i table (contains_range n i l)))
+
+  row_short : (i : ℕ) → i < n → length (row i) ≤ DRAWING
+  row_short i l = short _ (and_right _ _ (all_at (row_test row) (range_with_len 0 n) i table (contains_range n i l)))
+
+  row_once : (i j : ℕ) → i < n → j < n → row i ≡ row j → i ≡ j
+  row_once i j l m e = sym (row_back i l) ∙ ap spaces e ∙ row_back j m
+
+pub countdown_drawn : IsDrawn (countdown 10) (λ p. countdown_row p.index) player_moves
+countdown_drawn = record {
+  drawn_fits = λ p l. let (t, i) = legal_in countdown_name 2 10 p l in row_short countdown_row 11 countdown_table p.index (omega arith);
+  drawn_once = λ p q l k e m.
+      let (t, i) = legal_in countdown_name 2 10 p l in
+      let (u, j) = legal_in countdown_name 2 10 q k in
+      same_position p q (t ∙ sym u) (row_once countdown_row 11 countdown_table p.index q.index (omega arith) (omega arith) e);
+}
+
+pub wheel_drawn : IsDrawn wheel (λ p. wheel_row p.index) player_moves
+wheel_drawn = record {
+  drawn_fits = λ p l. let (t, i) = wheel_legal_in p l in row_short wheel_row 10 wheel_table p.index i;
+  drawn_once = λ p q l k e m.
+      let (t, i) = wheel_legal_in p l in
+      let (u, j) = wheel_legal_in q k in
+      same_position p q (t ∙ sym u) (row_once wheel_row 10 wheel_table p.index q.index i j e);
+}

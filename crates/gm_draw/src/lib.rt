@@ -1,0 +1,13 @@
+//! Boards to look at: a drawing of each position of a game, with its coordinates, who is to move, and how cells and moves are named.
+//!
+//! A drawing is plain ASCII of at most 50 columns. `specs/` has the drawings as templates, in which each capital letter stands for a byte of the position's text.
+#![tactic(auto)]
+
+pub mod boards;
+pub mod drawn;
+pub mod points;
+pub mod rows;
+pub mod show;
+pub mod squares;
+#[cfg(test)]
+mod tests;

@@ -1,0 +1,115 @@
+//! The games on a row of numbers: Countdown from 10, and Wheel.
+ghost use Rattle.std.specs.Prelude.{◌≡◌, ◌≤◌, ◌<◌, length, true};
+ghost use Rattle.gm_game.specs.declared.position.Position.{Position};
+ghost use Rattle.gm_draw.specs.Rows.{countdown_row as countdown_row_of, wheel_row as wheel_row_of};
+ghost use Rattle.gm_draw.specs.Names.{player_moves, countdown_naming, wheel_naming};
+ghost use Rattle.gm_draw.specs.RowLaws.{countdown_drawn, wheel_drawn};
+
+use crate::drawn::{DRAWING, Drawing, Drawn};
+use arrayvec::ArrayVec;
+use gm_game::position::Position;
+use gm_toys::countdown::Countdown;
+use gm_toys::wheel::Wheel;
+
+// The numbers of Countdown with the current one in brackets, and its moves.
+#[tactic(auto, unfolding(crate::specs::Rows::countdown_row))]
+fn countdown_row(index: u64) -> &'static [u8]
+    ensures value { result.now ≡ countdown_row_of index }
+    ensures fits { length result.now ≤ DRAWING }
+{
+    match index {
+        0 => b"[0] 1 2 3 4 5 6 7 8 9 10",
+        1 => b"0 [1] 2 3 4 5 6 7 8 9 10     take 1",
+        2 => b"0 1 [2] 3 4 5 6 7 8 9 10     take 1 or 2",
+        3 => b"0 1 2 [3] 4 5 6 7 8 9 10     take 1 or 2",
+        4 => b"0 1 2 3 [4] 5 6 7 8 9 10     take 1 or 2",
+        5 => b"0 1 2 3 4 [5] 6 7 8 9 10     take 1 or 2",
+        6 => b"0 1 2 3 4 5 [6] 7 8 9 10     take 1 or 2",
+        7 => b"0 1 2 3 4 5 6 [7] 8 9 10     take 1 or 2",
+        8 => b"0 1 2 3 4 5 6 7 [8] 9 10     take 1 or 2",
+        9 => b"0 1 2 3 4 5 6 7 8 [9] 10     take 1 or 2",
+        10 => b"0 1 2 3 4 5 6 7 8 9 [10]     take 1 or 2",
+        _ => b"",
+    }
+}
+
+// The numbers of Wheel with the current one in brackets, and its moves.
+#[tactic(auto, unfolding(crate::specs::Rows::wheel_row))]
+fn wheel_row(index: u64) -> &'static [u8]
+    ensures value { result.now ≡ wheel_row_of index }
+    ensures fits { length result.now ≤ DRAWING }
+{
+    match index {
+        0 => b"[0] 1 2 3 4 5 6 7 8 9",
+        1 => b"0 [1] 2 3 4 5 6 7 8 9        1 -> 0 2",
+        2 => b"0 1 [2] 3 4 5 6 7 8 9        2 -> 1 3",
+        3 => b"0 1 2 [3] 4 5 6 7 8 9        3 -> 4",
+        4 => b"0 1 2 3 [4] 5 6 7 8 9        4 -> 3",
+        5 => b"0 1 2 3 4 [5] 6 7 8 9",
+        6 => b"0 1 2 3 4 5 [6] 7 8 9        6 -> 0 5",
+        7 => b"0 1 2 3 4 5 6 [7] 8 9        7 -> 6",
+        8 => b"0 1 2 3 4 5 6 7 [8] 9        8 -> 3 6",
+        9 => b"0 1 2 3 4 5 6 7 8 [9]        9 -> 1 7",
+        _ => b"",
+    }
+}
+
+// The drawing of this text.
+fn drawing_of(text: &[u8]) -> Drawing
+    requires { length text.now ≤ DRAWING }
+    ensures { result.items ≡ text.now }
+{
+    let mut drawing = ArrayVec::new();
+    let _fits = drawing.try_extend_from_slice(text);
+    drawing
+}
+
+impl Drawn for Countdown<10> {
+    ghost drawn = { λ p. countdown_row_of p.index };
+
+    ghost mover = { player_moves };
+
+    ghost naming = { countdown_naming };
+
+    ghost tells = { countdown_drawn };
+
+    fn draw(p: Position) -> Drawing {
+        drawing_of(countdown_row(p.index))
+    }
+
+    fn mover(_p: Position) -> &'static [u8] {
+        b"player"
+    }
+
+    fn naming() -> &'static [u8] {
+        b"A position is a number. A move is how much is\ntaken from it.\n"
+    }
+}
+
+impl Drawn for Wheel {
+    ghost drawn = { λ p. wheel_row_of p.index };
+
+    ghost mover = { player_moves };
+
+    ghost naming = { wheel_naming };
+
+    ghost tells = { wheel_drawn };
+
+    fn draw(p: Position) -> Drawing {
+        drawing_of(wheel_row(p.index))
+    }
+
+    fn mover(_p: Position) -> &'static [u8] {
+        b"player"
+    }
+
+    fn naming() -> &'static [u8] {
+        b"A position is a number. A move is the number that\nit leads to.\n"
+    }
+}
+
+/// The drawings of Countdown and Wheel are their rows.
+pub fn rows_are_drawn()
+    ensures countdown { ⟦<Countdown<10> as Drawn>⟧.drawn ≡ (λ p. countdown_row_of p.index) }
+    ensures wheel { ⟦<Wheel as Drawn>⟧.drawn ≡ (λ p. wheel_row_of p.index) }
+{}

@@ -1,0 +1,91 @@
+//! What is shown of a position: the board, who is to move, and the value.
+ghost use Rattle.std.specs.Prelude.{◌≡◌, ◌↔◌, ◌++◌, codes, true, OnOk, IfOk, IsErrOf};
+ghost use Rattle.gm_game.specs.declared.position.Position.{Position};
+ghost use Rattle.gm_play.specs.PlayTexts.{IsReadAs, IsNoPosition};
+ghost use Rattle.gm_play.specs.Refusals.{IsNotHeld};
+ghost use Rattle.gm_draw.specs.ShowTexts.{board_text, naming_text, first_move, explained_text, IsShowText};
+
+use crate::drawn::Drawn;
+use gm_game::position::{Position, Solved};
+use gm_game::text::value_text;
+use gm_play::answer::answer;
+use gm_play::play_error::PlayError;
+use gm_table::tables::Tables;
+use std::alloc::{AllocError, Global};
+
+/// The board of the position with this text, with a line on who is to move and the true value; where it is to be explained, also how cells, positions and moves are written. Any bytes may be given.
+pub fn show_text<G: Drawn>(
+    alloc: Global,
+    tables: &Tables<G>,
+    text: &[u8],
+    explained: bool,
+) -> Result<Vec<u8>, PlayError>
+    ensures text { IfOk result (λ v. IsShowText G.Game.rules G.shown G.move_shown G.drawn G.mover G.naming explained text.now v.items) }
+    ensures illegal { IsErrOf result PlayError.Illegal ↔ IsNoPosition G.Game.rules G.shown G.move_shown text.now }
+    ensures not_held { IsErrOf result PlayError.NotHeld ↔ ((p : Position) × IsReadAs G.Game.rules G.shown G.move_shown text.now p × IsNotHeld G.Game.rules tables.now p) }
+{
+    let p = match G::read(text) {
+        Some(p) => p,
+        None => return Err(PlayError::Illegal),
+    };
+    let value = match answer(tables, p) {
+        Ok(value) => value,
+        Err(_) => return Err(PlayError::NotHeld),
+    };
+    match board_and_naming::<G>(alloc, p, value, explained) {
+        Ok(shown) => Ok(shown),
+        Err(_) => Err(PlayError::OutOfMemory),
+    }
+}
+
+// The board of a legal position of this value, and how it is written.
+fn board_and_naming<G: Drawn>(
+    alloc: Global,
+    p: Position,
+    value: Solved,
+    explained: bool,
+) -> Result<Vec<u8>, AllocError>
+    requires { G.Game.rules.is_legal p ≡ true }
+    ensures { IfOk result (λ v. v.items ≡ board_text G.Game.rules G.shown G.move_shown G.drawn G.mover G.naming p value ++ explained_text G.Game.rules G.shown G.move_shown G.drawn G.mover G.naming explained p) }
+{
+    let mut text = Vec::new(alloc);
+    text.extend_from_slice(G::draw(p).as_slice())?;
+    text.extend_from_slice(b"\n")?;
+    text.extend_from_slice(G::mover(p))?;
+    push_line(&mut text, b" to move: ", value_text(value).as_slice())?;
+    if explained {
+        push_naming::<G>(&mut text, p)?;
+    }
+    Ok(text)
+}
+
+// Appends a line of two texts.
+fn push_line(text: &mut Vec<u8>, front: &[u8], back: &[u8]) -> Result<(), AllocError>
+    ensures { OnOk result (text.new.items ≡ text.old.items ++ front.now ++ back.now ++ codes "\n") }
+{
+    text.extend_from_slice(front)?;
+    text.extend_from_slice(back)?;
+    text.extend_from_slice(b"\n")
+}
+
+// Appends how cells, positions and moves are written.
+fn push_naming<G: Drawn>(text: &mut Vec<u8>, p: Position) -> Result<(), AllocError>
+    requires { G.Game.rules.is_legal p ≡ true }
+    ensures { OnOk result (text.new.items ≡ text.old.items ++ naming_text G.Game.rules G.shown G.move_shown G.drawn G.mover G.naming p) }
+{
+    text.extend_from_slice(b"\n")?;
+    text.extend_from_slice(G::naming())?;
+    push_line(text, b"This position: ", G::show(p).as_slice())?;
+    push_first_move::<G>(text, p)
+}
+
+// Appends the first move, if there is one.
+fn push_first_move<G: Drawn>(text: &mut Vec<u8>, p: Position) -> Result<(), AllocError>
+    requires { G.Game.rules.is_legal p ≡ true }
+    ensures { OnOk result (text.new.items ≡ text.old.items ++ first_move G.Game.rules G.shown G.move_shown G.drawn G.mover G.naming p (G.Game.rules.moves p)) }
+{
+    match G::moves(p).as_slice().first() {
+        Some(number) => push_line(text, b"A move here: ", G::move_text(p, *number).as_slice()),
+        None => Ok(()),
+    }
+}

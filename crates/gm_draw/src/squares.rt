@@ -1,0 +1,161 @@
+//! The square boards: the games of nine points, Dao and Tac Tix.
+ghost use Rattle.std.specs.Prelude.{◌≡◌, ◌≤◌, length, true};
+ghost use Rattle.gm_game.specs.declared.position.Position.{Position};
+ghost use Rattle.gm_morris.specs.Points.{variant_of};
+ghost use Rattle.gm_morris.specs.Texts.{position_text as nine_text};
+ghost use Rattle.gm_dao.specs.Texts.{position_text as dao_text};
+ghost use Rattle.gm_tactix.specs.Board.{side_of};
+ghost use Rattle.gm_tactix.specs.Texts.{position_text as tactix_text};
+ghost use Rattle.gm_draw.specs.Templates.{filled};
+ghost use Rattle.gm_draw.specs.Pictures.{nine_points, dao_board, tactix_board as tactix_board_of};
+ghost use Rattle.gm_draw.specs.Names.{x_moves, player_moves, nine_naming as nine_naming_of, dao_naming, tactix_naming};
+ghost use Rattle.gm_draw.specs.DrawnLaws.{nine_drawn, dao_drawn, tactix_drawn};
+
+use crate::drawn::{DRAWING, Drawing, Drawn, fill};
+use gm_dao::dao::Dao;
+use gm_game::position::Position;
+use gm_game::shown::Shown;
+use gm_morris::games::NinePoints;
+use gm_morris::variant::Variant;
+use gm_tactix::side::side_for;
+use gm_tactix::tactix::TacTix;
+
+// The board of a game of nine points.
+#[tactic(auto, unfolding(crate::specs::Pictures::nine_points))]
+fn nine_board(variant: Variant) -> &'static [u8]
+    ensures value { result.now ≡ nine_points variant }
+    ensures fits { length result.now ≤ DRAWING }
+{
+    match variant {
+        Variant::TicTacToe => {
+            b"    1   2   3\na   A | B | C\n   ---+---+---\nb   D | E | F\n   ---+---+---\nc   G | H | I"
+        }
+        Variant::ThreeMens => {
+            b"    1   2   3\na   A---B---C\n    |   |   |\nb   D---E---F\n    |   |   |\nc   G---H---I"
+        }
+        Variant::Achi => {
+            b"    1   2   3\na   A---B---C\n    | \\ | / |\nb   D---E---F\n    | / | \\ |\nc   G---H---I"
+        }
+    }
+}
+
+// How its cells, positions and moves are written.
+#[tactic(auto, unfolding(crate::specs::Names::nine_naming))]
+fn nine_naming(variant: Variant) -> &'static [u8]
+    ensures { result.now ≡ nine_naming_of variant }
+{
+    match variant {
+        Variant::TicTacToe => {
+            b"A cell is its row and its column, as a1.\nA position is its cells, row by row: x for the\nside to move, o for the other, . where it is empty\nA move is the cell that is taken.\n"
+        }
+        Variant::ThreeMens => {
+            b"A cell is its row and its column, as a1.\nA position is its cells, row by row: x for the\nside to move, o for the other, . where it is empty\nA move is the cell where a piece is put; with six\npieces on the board, from one cell to the next.\n"
+        }
+        Variant::Achi => {
+            b"A cell is its row and its column, as a1.\nA position is its cells, row by row: x for the\nside to move, o for the other, . where it is empty\nA move is the cell where a piece is put; with\neight on the board, from one cell to the next.\n"
+        }
+    }
+}
+
+impl<const LAST: u64> Drawn for NinePoints<LAST> {
+    ghost drawn = { λ p. filled (nine_points (variant_of LAST)) (nine_text p) };
+
+    ghost mover = { x_moves };
+
+    ghost naming = { nine_naming_of (variant_of LAST) };
+
+    ghost tells = { nine_drawn LAST };
+
+    fn draw(p: Position) -> Drawing {
+        let board = nine_board(Variant::with_last_tier(LAST));
+        fill(board, Self::show(p).as_slice())
+    }
+
+    fn mover(_p: Position) -> &'static [u8] {
+        b"x"
+    }
+
+    fn naming() -> &'static [u8] {
+        nine_naming(Variant::with_last_tier(LAST))
+    }
+}
+
+impl Drawn for Dao {
+    ghost drawn = { λ p. filled dao_board (dao_text p) };
+
+    ghost mover = { x_moves };
+
+    ghost naming = { dao_naming };
+
+    ghost tells = { dao_drawn };
+
+    #[tactic(auto, unfolding(crate::specs::Pictures::dao_board))]
+    fn draw(p: Position) -> Drawing {
+        fill(
+            b"    1 2 3 4\na   A B C D\nb   E F G H\nc   I J K L\nd   M N O P",
+            Self::show(p).as_slice(),
+        )
+    }
+
+    fn mover(_p: Position) -> &'static [u8] {
+        b"x"
+    }
+
+    fn naming() -> &'static [u8] {
+        b"A cell is its row and its column, as a1.\nA position is its cells, row by row: x for the\nside to move, o for the other, . where it is empty\nA move is from one cell to another; a piece\nslides as far as it can.\n"
+    }
+}
+
+// The board of Tac Tix with this side.
+#[tactic(auto, unfolding(crate::specs::Pictures::tactix_board))]
+fn tactix_board(side: u32) -> &'static [u8]
+    ensures value { result.now ≡ tactix_board_of side }
+    ensures fits { length result.now ≤ DRAWING }
+{
+    match side {
+        5 => {
+            b"    1 2 3 4 5\na   A B C D E\nb   F G H I J\nc   K L M N O\nd   P Q R S T\ne   U V W X Y"
+        }
+        4 => b"    1 2 3 4\na   A B C D\nb   E F G H\nc   I J K L\nd   M N O P",
+        3 => b"    1 2 3\na   A B C\nb   D E F\nc   G H I",
+        2 => b"    1 2\na   A B\nb   C D",
+        _ => b"    1\na   A",
+    }
+}
+
+impl<const N: u32, const MISERE: bool> Drawn for TacTix<N, MISERE> {
+    ghost drawn = { λ p. filled (tactix_board_of (side_of N)) (tactix_text N p) };
+
+    ghost mover = { player_moves };
+
+    ghost naming = { tactix_naming };
+
+    ghost tells = { tactix_drawn N MISERE };
+
+    fn draw(p: Position) -> Drawing {
+        fill(tactix_board(side_for(N)), Self::show(p).as_slice())
+    }
+
+    fn mover(_p: Position) -> &'static [u8] {
+        b"player"
+    }
+
+    fn naming() -> &'static [u8] {
+        b"A cell is its row and its column, as a1.\nA position is its cells, row by row: x for a\ncounter, . where there is none.\nA move is the counter that is taken, or the first\nand the last of neighbors in a row or a column.\n"
+    }
+}
+
+/// The drawings of the games of nine points are their boards with the cells of the position in them.
+pub fn nine_points_are_drawn<const LAST: u64>()
+    ensures { ⟦<NinePoints<LAST> as Drawn>⟧.drawn ≡ (λ p. filled (nine_points (variant_of LAST)) (nine_text p)) }
+{}
+
+/// The drawing of Dao is its board with the cells of the position in it.
+pub fn dao_is_drawn()
+    ensures { ⟦<Dao as Drawn>⟧.drawn ≡ (λ p. filled dao_board (dao_text p)) }
+{}
+
+/// The drawing of Tac Tix is its board with the counters of the position in it.
+pub fn tactix_is_drawn<const N: u32, const MISERE: bool>()
+    ensures { ⟦<TacTix<N, MISERE> as Drawn>⟧.drawn ≡ (λ p. filled (tactix_board_of (side_of N)) (tactix_text N p)) }
+{}

@@ -1,0 +1,37 @@
+//! What the person sees before they are asked.
+ghost use Rattle.std.specs.Prelude.{◌≡◌, List, ℕ, true};
+ghost use Rattle.gm_game.specs.declared.position.Position.{Position};
+ghost use Rattle.gm_play.specs.Dialogue.{unseen};
+
+use arrayvec::ArrayVec;
+use gm_game::position::Position;
+use gm_game::shown::Shown;
+
+/// The most bytes that are seen before a question.
+pub const SIGHT: usize = 320;
+
+/// Lines that are seen before a question.
+pub type Sight = ArrayVec<u8, SIGHT>;
+
+/// What the person sees before they are asked.
+pub trait View<G: Shown> {
+    /// What is seen of a position.
+    ghost seen: { Position → List ℕ };
+
+    /// What is seen of a legal position, in lines.
+    fn see(p: Position) -> Sight
+        requires { G.Game.rules.is_legal p ≡ true }
+        ensures { result.items ≡ seen p };
+}
+
+/// Nothing but the lines of the dialogue.
+#[derive(Drop)]
+pub struct Plain;
+
+impl<G: Shown> View<G> for Plain {
+    ghost seen = { unseen };
+
+    fn see(_p: Position) -> Sight {
+        ArrayVec::new()
+    }
+}
