@@ -1,5 +1,5 @@
 -- The positions that play from the start reaches.
-use Rattle.std.specs.Prelude.{◌≡◌, ℕ, ◌↔◌, List, [], ◌∷◌}
+use Rattle.std.specs.Prelude.{◌≡◌, ℕ, ◌↔◌, List, [], ◌∷◌, ◌++◌}
 use Rattle.std.specs.List.{Contains}
 use Rattle.gm_game.specs.declared.position.Position.{Position}
 use Rattle.gm_game.specs.Rules.{Rules}
@@ -21,3 +21,7 @@ key_of p = (p.tier, p.index)
 -- these are the keys of exactly the positions that are reached
 abbrev pub AreReached : Rules → List (ℕ × ℕ) → Type 0
 AreReached r keys = (c : Position) → Contains keys (key_of c) ↔ IsReachedByPlay r c
+
+-- the new list has more at its end
+abbrev pub IsGrown : List (ℕ × ℕ) → List (ℕ × ℕ) → Type 0
+IsGrown old new = (more : List (ℕ × ℕ)) × (new ≡ old ++ more)

@@ -3,8 +3,11 @@
 //! `specs/` has the definitions that contracts cite, and `proofs/` what follows from them.
 #![tactic(auto)]
 
-pub mod find;
 pub mod find_error;
+pub mod found;
 mod only;
+pub mod positions;
 pub mod reached;
+pub mod rows;
+mod search;
 pub mod sought;

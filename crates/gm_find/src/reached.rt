@@ -1,10 +1,12 @@
 //! The positions that play from the start reaches.
-ghost use Rattle.std.specs.Prelude.{◌↔◌, ◌≡◌, IsTrue};
-ghost use Rattle.gm_find.specs.Reaching.{IsReachedByPlay};
+ghost use Rattle.std.specs.Prelude.{◌↔◌, ◌≡◌, IsTrue, IfOk};
+ghost use Rattle.gm_find.specs.Reaching.{IsReachedByPlay, AreReached};
 
+use crate::search::search;
 use gm_game::game::Game;
 use gm_game::position::Position;
 use indexmap::IndexSet;
+use std::alloc::{AllocError, Global};
 use std::marker::{Model, PhantomData};
 
 /// The canonical positions that play from the start reaches: 16 bytes and a place in a hash table for each.
@@ -26,6 +28,16 @@ impl<G: Game> Model for Reached<G> {
 }
 
 impl<G: Game> Reached<G> {
+    /// All canonical positions that play from the start reaches, found by a search: each of them once, with its canonical children.
+    pub fn from_start(alloc: Global) -> Result<Self, AllocError>
+        ensures { IfOk result (AreReached G.rules) }
+    {
+        Ok(Reached {
+            keys: search::<G>(alloc)?,
+            game: PhantomData,
+        })
+    }
+
     /// Whether some line of play from the start ends in a position with this canonical one. It takes no memory.
     pub fn has(&self, c: Position) -> bool
         ensures { IsTrue result ↔ IsReachedByPlay G.rules c }
