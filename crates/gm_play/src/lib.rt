@@ -6,7 +6,7 @@
 pub mod answer;
 pub mod best_line;
 pub mod best_move;
-pub(crate) mod firsts;
+pub mod firsts;
 pub mod move_values;
 pub mod play_error;
 pub mod play_line;
