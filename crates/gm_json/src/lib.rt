@@ -3,5 +3,7 @@
 //! `specs/` has the definitions that contracts cite, and `proofs/` what follows from them.
 #![tactic(auto)]
 
+pub mod ask;
+pub mod ask_error;
 pub mod moves;
 mod words;

@@ -13,6 +13,6 @@ pub mod play_line;
 pub mod session;
 pub mod session_error;
 pub mod side;
-pub(crate) mod streams;
+pub mod streams;
 pub mod texts;
 pub(crate) mod turns;
