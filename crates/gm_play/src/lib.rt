@@ -6,14 +6,14 @@
 pub mod answer;
 pub mod best_line;
 pub mod best_move;
-pub(crate) mod firsts;
+pub mod firsts;
 pub mod move_values;
 pub mod play_error;
 pub mod play_line;
 pub mod session;
 pub mod session_error;
 pub mod side;
-pub(crate) mod streams;
+pub mod streams;
 pub mod texts;
 pub(crate) mod turns;
 pub mod view;

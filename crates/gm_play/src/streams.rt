@@ -8,7 +8,7 @@ use gm_game::limits::LINE;
 use std::io::{self, ErrorKind, Read, Write};
 
 /// The next byte, or `None` at the end of the input. No byte is read beyond it.
-pub(crate) fn read_byte<R: Read>(input: &mut R) -> io::Result<Option<u8>>
+pub fn read_byte<R: Read>(input: &mut R) -> io::Result<Option<u8>>
     ensures ok { IfOk result (λ o. ReadsByte (R.remaining input.old) (R.remaining input.new) o) }
     ensures err { OnErr result (Keeps (R.remaining input.old) (R.remaining input.new)) }
 {
@@ -21,7 +21,7 @@ pub(crate) fn read_byte<R: Read>(input: &mut R) -> io::Result<Option<u8>>
 }
 
 /// Writes all of a text. After an error a front of it is written: `write_all` says nothing of that.
-pub(crate) fn write_text<W: Write>(output: &mut W, text: &[u8]) -> io::Result<()>
+pub fn write_text<W: Write>(output: &mut W, text: &[u8]) -> io::Result<()>
     ensures ok { OnOk result (Appends (W.contents output.old) (W.contents output.new) text.now) }
     ensures err { OnErr result (AppendsPart (W.contents output.old) (W.contents output.new) text.now) }
 {

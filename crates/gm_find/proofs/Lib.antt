@@ -1,0 +1,5 @@
+pub mod ListLemmas
+pub mod Matching
+pub mod Keys
+pub mod Searching
+pub mod Telling

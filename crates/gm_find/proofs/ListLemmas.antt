@@ -1,0 +1,138 @@
+-- The elements of a list that have a property, with one element or list more.
+use Rattle.std.proofs.Common.{◌≡◌, ℕ, zero, suc, ◌<◌, ◌≤◌, ◌+◌, ◌-◌, ◌⊎◌, inl, inr, List, [], ◌∷◌, ◌++◌, map, length, refl, sym, ap, ◌∙◌, subst, arith, append_assoc, length-append}
+use Rattle.std.specs.List.{Contains, range_with_len}
+use Rattle.std.proofs.lemmas.Bool.{cases_lt}
+use Rattle.gm_game.specs.Rules.{IsAscending}
+use Rattle.gm_game.proofs.Lists.{contains_none, contains_first, contains_later, contains_cases}
+use Rattle.gm_find.specs.Lists.{AreThose, IsFirst}
+
+module _ {A : Type 0} (P : A → Type 0) where
+  -- one element more, which has the property or not
+  pub those_push : (xs ys : List A) (x : A) → AreThose P xs ys → P x → AreThose P (xs ++ x ∷ []) (ys ++ x ∷ [])
+  those_push [] ys x h p = inl ([], p, ap (λ (l : List A). l ++ x ∷ []) h, refl)
+  those_push (z ∷ zs) ys x (inl (rest, q, e, t)) p = inl (rest ++ x ∷ [], q, ap (λ (l : List A). l ++ x ∷ []) e, those_push zs rest x t p)
+  those_push (z ∷ zs) ys x (inr (n, t)) p = inr (n, those_push zs ys x t p)
+
+  pub those_skip : (xs ys : List A) (x : A) → AreThose P xs ys → (P x → ⊥) → AreThose P (xs ++ x ∷ []) ys
+  those_skip [] ys x h p = inr (p, h)
+  those_skip (z ∷ zs) ys x (inl (rest, q, e, t)) p = inl (rest, q, e, those_skip zs rest x t p)
+  those_skip (z ∷ zs) ys x (inr (n, t)) p = inr (n, those_skip zs ys x t p)
+
+  -- there is one such list
+  pub those_once : (xs ys zs : List A) → AreThose P xs ys → AreThose P xs zs → ys ≡ zs
+  those_once [] ys zs h k = h ∙ sym k
+  those_once (x ∷ xs) ys zs (inl (a, p, e, t)) (inl (b, q, f, u)) = e ∙ ap (λ (l : List A). x ∷ l) (those_once xs a b t u) ∙ sym f
+  those_once (x ∷ xs) ys zs (inl (a, p, e, t)) (inr (n, u)) = absurd (n p)
+  those_once (x ∷ xs) ys zs (inr (n, t)) (inl (b, q, f, u)) = absurd (n q)
+  those_once (x ∷ xs) ys zs (inr (n, t)) (inr (m, u)) = those_once xs ys zs t u
+
+  first_zero : (xs ys : List A) → IsFirst P 0 xs ys → ys ≡ []
+  first_zero [] ys h = h
+  first_zero (x ∷ xs) ys h = h
+
+  zero_first : (xs : List A) → IsFirst P 0 xs []
+  zero_first [] = refl
+  zero_first (x ∷ xs) = refl
+
+  pub first_not : (n : ℕ) (x : A) → (P x → ⊥) → IsFirst P n (x ∷ []) []
+  first_not zero x h = refl
+  first_not (suc n) x h = inr (h, refl)
+
+  pub first_full : (n : ℕ) (x : A) → n ≡ 0 → IsFirst P n (x ∷ []) []
+  first_full n x e = subst (λ (k : ℕ). IsFirst P k (x ∷ []) []) (sym e) refl
+
+  pub first_is : (n : ℕ) (x : A) → 0 < n → P x → IsFirst P n (x ∷ []) (x ∷ [])
+  first_is zero x l p = absurd (omega arith)
+  first_is (suc n) x l p = inl ([], p, refl, refl)
+
+  at_count : (m n : ℕ) (xs ys : List A) → m ≡ n → IsFirst P m xs ys → IsFirst P n xs ys
+  at_count m n xs ys e h = subst (λ (k : ℕ). IsFirst P k xs ys) e h
+
+  -- those of two lists
+  pub first_append : (n : ℕ) (xs zs ys ws : List A) → IsFirst P n xs ys → IsFirst P (n - length ys) zs ws → IsFirst P n (xs ++ zs) (ys ++ ws)
+  first_append n [] zs ys ws h k =
+      let none : length ys ≡ 0 = ap length h in
+      let same : n - length ys ≡ n = omega arith in
+      subst (IsFirst P n zs) (ap (λ (l : List A). l ++ ws) (sym h)) (at_count (n - length ys) n zs ws same k)
+  first_append zero (x ∷ xs) zs ys ws h k =
+      let none : length ys ≡ 0 = ap length h in
+      let same : 0 - length ys ≡ 0 = omega arith in
+      ap (λ (l : List A). l ++ ws) h ∙ first_zero zs ws (at_count (0 - length ys) 0 zs ws same k)
+  first_append (suc n) (x ∷ xs) zs ys ws (inl (rest, p, e, t)) k =
+      let long : length ys ≡ suc (length rest) = ap length e in
+      let same : suc n - length ys ≡ n - length rest = omega arith in
+      inl (rest ++ ws, p, ap (λ (l : List A). l ++ ws) e, first_append n xs zs rest ws t (at_count (suc n - length ys) (n - length rest) zs ws same k))
+  first_append (suc n) (x ∷ xs) zs ys ws (inr (p, t)) k = inr (p, first_append (suc n) xs zs ys ws t k)
+
+  -- a list that grows by those of some further elements
+  pub first_more : (limit : ℕ) (old cur new more add xs zs : List A) → cur ≡ old ++ more → new ≡ cur ++ add → IsFirst P (limit - length old) xs more → IsFirst P (limit - length cur) zs add
+      → (all : List A) × (new ≡ old ++ all) × IsFirst P (limit - length old) (xs ++ zs) all
+  first_more limit old cur new more add xs zs e f h k =
+      let long : length cur ≡ length old + length more = ap length e ∙ length-append old more in
+      let same : limit - length cur ≡ (limit - length old) - length more = omega arith in (
+        more ++ add,
+        f ∙ ap (λ (l : List A). l ++ add) e ∙ append_assoc old more add,
+        first_append (limit - length old) xs zs more add h (at_count (limit - length cur) ((limit - length old) - length more) zs add same k),
+      )
+
+  -- of an ascending list of numbers that has all those with the property, the first are those of all numbers
+  ascending_above : (x : ℕ) (xs : List ℕ) → IsAscending (x ∷ xs) → (y : ℕ) → Contains xs y → x < y
+  ascending_above x [] h y c = absurd (contains_none y c)
+  ascending_above x (z ∷ xs) h y c = elim (contains_cases z y xs c) [ inl e ↦ (let l = h.0 in omega arith) | inr d ↦ (let l = h.0 in let m = ascending_above z xs h.1 y d in omega arith) ]
+
+  ascending_rest : (x : ℕ) (xs : List ℕ) → IsAscending (x ∷ xs) → IsAscending xs
+  ascending_rest x [] h = tt
+  ascending_rest x (z ∷ xs) h = h.1
+
+  module _ (f : ℕ → A) where
+    -- what is known of the list: ascending numbers from k to below k + n, with all of them that have the property
+    pub record IsRun (k n : ℕ) (is : List ℕ) : Type 0 where
+      pub ascending : IsAscending is
+      pub within : (i : ℕ) → Contains is i → (k ≤ i) × (i < k + n)
+      pub all : (i : ℕ) → k ≤ i → i < k + n → P (f i) → Contains is i
+
+    -- the run from the next number on, where the first number isn't in it
+    later : (k n : ℕ) (is : List ℕ) → ((i : ℕ) → Contains is i → k < i) → IsRun k (suc n) is → IsRun (k + 1) n is
+    later k n is above h = record {
+      ascending = h.ascending;
+      within = λ i c. (let a = above i c in let b = (h.within i c).1 in (omega arith, omega arith));
+      all = λ i a b p. h.all i (omega arith) (omega arith) p;
+    }
+
+    next : (k n : ℕ) (is : List ℕ) → IsRun k (suc n) (k ∷ is) → IsRun (k + 1) n is
+    next k n is h = record {
+      ascending = ascending_rest k is h.ascending;
+      within = λ i c. (let a = ascending_above k is h.ascending i c in let b = (h.within i (contains_later k i is c)).1 in (omega arith, omega arith));
+      all = λ i a b p. elim (contains_cases k i is (h.all i (omega arith) (omega arith) p)) [ inl e ↦ absurd (omega arith) | inr c ↦ c ];
+    }
+
+    absent : (k i : ℕ) (is : List ℕ) → k < i → IsAscending (i ∷ is) → Contains (i ∷ is) k → ⊥
+    absent k i is l h c = elim (contains_cases i k is c) [ inl e ↦ omega arith | inr d ↦ (let m = ascending_above i is h k d in omega arith) ]
+
+    above_all : (k i : ℕ) (is : List ℕ) → k < i → IsAscending (i ∷ is) → (j : ℕ) → Contains (i ∷ is) j → k < j
+    above_all k i is l h j c = elim (contains_cases i j is c) [ inl e ↦ omega arith | inr d ↦ (let m = ascending_above i is h j d in omega arith) ]
+
+    -- the next number is in the run
+    there : (m k i : ℕ) (is ns : List ℕ) (ys : List A) → i ≡ k → ((j : ℕ) (zs : List A) → IsFirst P j (map f is) zs → IsFirst P j (map f ns) zs) → IsFirst P (suc m) (f i ∷ map f is) ys → IsFirst P (suc m) (f k ∷ map f ns) ys
+    there m k i is ns ys e step (inl (rest, p, q, t)) = inl (rest, subst (λ (j : ℕ). P (f j)) e p, q ∙ ap (λ (j : ℕ). f j ∷ rest) e, step m rest t)
+    there m k i is ns ys e step (inr (p, t)) = inr (λ q. p (subst (λ (j : ℕ). P (f j)) (sym e) q), step (suc m) ys t)
+
+    pub run_first : (n m k : ℕ) (is : List ℕ) (ys : List A) → IsRun k n is → IsFirst P m (map f is) ys → IsFirst P m (map f (range_with_len k n)) ys
+    run_first zero m k [] ys run h = h
+    run_first zero m k (i ∷ is) ys run h = let w = run.within i (contains_first i is) in let a = w.0 in let b = w.1 in absurd (omega arith)
+    run_first (suc n) zero k is ys run h = first_zero (map f is) ys h
+    run_first (suc n) (suc m) k [] ys run h = inr (λ p. contains_none k (run.all k (omega arith) (omega arith) p), run_first n (suc m) (k + 1) [] ys (later k n [] (λ i c. absurd (contains_none i c)) run) h)
+    run_first (suc n) (suc m) k (i ∷ is) ys run h = elim (cases_lt k i) [
+      | inl l ↦ inr (λ p. absent k i is l run.ascending (run.all k (omega arith) (omega arith) p), run_first n (suc m) (k + 1) (i ∷ is) ys (later k n (i ∷ is) (above_all k i is l run.ascending) run) h)
+      | inr l ↦ (
+          let w = (run.within i (contains_first i is)).0 in
+          let e : i ≡ k = omega arith in
+          let same : IsRun k (suc n) (k ∷ is) = subst (λ (j : ℕ). IsRun k (suc n) (j ∷ is)) e run in
+          there m k i is (range_with_len (k + 1) n) ys e (λ j zs t. run_first n j (k + 1) is zs (next k n is same) t) h)
+    ]
+
+  -- they are no more than the list has
+  pub those_few : (xs ys : List A) → AreThose P xs ys → length ys ≤ length xs
+  those_few [] ys h = let e = ap length h in omega arith
+  those_few (x ∷ xs) ys (inl (rest, p, e, t)) = let n = ap length e in let m = those_few xs rest t in omega arith
+  those_few (x ∷ xs) ys (inr (p, t)) = let m = those_few xs ys t in omega arith

@@ -1,0 +1,10 @@
+use Rattle.std.proofs.Common.{◌≡◌, take, map}
+use Rattle.std.specs.List.{All}
+use Rattle.gm_find.specs.Founds.{IsFound, position_of}
+use Rattle.gm_find.proofs.found.look_up.Given as goal
+
+abbrev pub invariant-loop-p : goal.invariant-loop-p
+invariant-loop-p g l = record {
+  positions : map position_of l.found.items ≡ take l.p-index l.positions;
+  each : All (IsFound g.G.Game.rules) l.found.items;
+}

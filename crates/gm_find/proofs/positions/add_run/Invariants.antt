@@ -1,0 +1,11 @@
+use Rattle.std.proofs.Common.{◌≡◌, ◌-◌, ◌++◌, List, map, take, length}
+use Rattle.std.specs.Option.{is_some}
+use Rattle.gm_game.specs.declared.position.Position.{Position}
+use Rattle.gm_game.specs.Rules.{at}
+use Rattle.gm_find.specs.Lists.{IsFirst}
+use Rattle.gm_find.specs.Finding.{IsMatch}
+use Rattle.gm_find.proofs.positions.add_run.Given as goal
+
+abbrev pub invariant-loop-i : goal.invariant-loop-i
+invariant-loop-i g l = (more : List Position) × (l.found.items ≡ l.initial.found.items ++ more)
+    × IsFirst (IsMatch g.G.Game.rules l.sought (is_some l.reached)) (l.limit - length l.initial.found.items) (map (at l.tier) (take l.i-index l.run)) more

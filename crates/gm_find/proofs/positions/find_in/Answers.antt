@@ -1,0 +1,32 @@
+use Rattle.std.proofs.Common.{◌≡◌, ◌-◌, ◌+◌, ◌++◌, ◌∷◌, [], ℕ, List, take, length, get_or, ap, sym, subst, ◌∙◌, arith}
+use Rattle.std.specs.List.{flat_map}
+use Rattle.std.specs.Option.{is_some}
+use Rattle.std.proofs.lemmas.List.{take_more, append-nil}
+use Rattle.std.proofs.lemmas.List.Elements.{Contains-get_or}
+use Rattle.std.proofs.lemmas.Grind.{flat_map-append}
+use Rattle.gm_game.specs.declared.position.Position.{Position}
+use Rattle.gm_find.specs.Lists.{IsFirst}
+use Rattle.gm_find.specs.Finding.{IsMatch, positions_in, all_positions}
+use Rattle.gm_find.proofs.ListLemmas.{first_append}
+use Rattle.gm_find.proofs.positions.find_in.Goals as goal
+
+pub add_tier-requires-clause-own : goal.add_tier-requires-clause-own
+add_tier-requires-clause-own g c = (c.requires (get_or c.args.tiers.now c.loop-tier.tier-index 0) (Contains-get_or c.args.tiers.now c.loop-tier.tier-index 0 c.loop-tier-test.true)).0
+
+pub add_tier-requires-clause-children : goal.add_tier-requires-clause-children
+add_tier-requires-clause-children g c = (c.requires (get_or c.args.tiers.now c.loop-tier.tier-index 0) (Contains-get_or c.args.tiers.now c.loop-tier.tier-index 0 c.loop-tier-test.true)).1
+
+pub loop-tier-preserved : goal.loop-tier-preserved
+loop-tier-preserved g c =
+    let r = g.G.Game.rules in
+    let P : Position → Type 0 = IsMatch r c.args.sought (is_some c.args.reached) in
+    let tiers = c.args.tiers.now in
+    let k = c.loop-tier.tier-index in
+    let t = get_or tiers k 0 in
+    let cur = c.loop-tier.found.items in
+    let (more, is, first) = c.in_ok-add_tier.ensures in
+    let both = first_append P c.args.limit (all_positions r (take k tiers)) (positions_in r t) cur more c.loop-tier.invariant first in
+    let longer : all_positions r (take (k + 1) tiers) ≡ all_positions r (take k tiers) ++ positions_in r t =
+    ap (all_positions r) (take_more tiers k 0 c.loop-tier-test.true) ∙ flat_map-append (positions_in r) (take k tiers) (t ∷ []) ∙ ap (λ (xs : List Position). all_positions r (take k tiers) ++ xs) (append-nil (positions_in r t)) in
+    subst (λ (ys : List Position). IsFirst P c.args.limit (all_positions r (take (k + 1) tiers)) ys) (sym is)
+    (subst (λ (xs : List Position). IsFirst P c.args.limit xs (cur ++ more)) (sym longer) both)

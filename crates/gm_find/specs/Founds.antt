@@ -1,0 +1,33 @@
+-- What is told of found positions.
+use Rattle.std.specs.Prelude.{◌≡◌, ℕ, Bool, true, List, map, length}
+use Rattle.std.specs.List.{All}
+use Rattle.gm_game.specs.declared.position.Position.{Position}
+use Rattle.gm_game.specs.Rules.{Rules}
+use Rattle.gm_game.specs.Values.{IsTrueValue}
+use Rattle.gm_table.specs.Tables.{TableData, IsHeld, AreHeld}
+use Rattle.gm_play.specs.BestMoves.{IsBestMove}
+use Rattle.gm_find.specs.declared.found.Found.{Found}
+use Rattle.gm_find.specs.declared.sought.Sought.{Sought}
+use Rattle.gm_find.specs.Lists.{IsFirst}
+use Rattle.gm_find.specs.Finding.{IsMatch, all_positions}
+
+-- the true value of the position, its best move and the number of its moves
+pub record IsFound (r : Rules) (x : Found) : Type 0 where
+  pub legal : r.is_legal x.position ≡ true
+  pub value : IsTrueValue r x.position x.value
+  pub best : IsBestMove r x.position x.best
+  pub moves : x.moves ≡ length (r.moves x.position)
+
+abbrev pub position_of : Found → Position
+position_of x = x.position
+
+-- the first positions that are sought, at most so many, and what is told of each
+pub record AreFound (r : Rules) (q : Sought) (reached : Bool) (limit : ℕ) (tiers : List ℕ) (xs : List Found) : Type 0 where
+  pub positions : IsFirst (IsMatch r q reached) limit (all_positions r tiers) (map position_of xs)
+  pub each : All (IsFound r) xs
+
+-- a legal position whose tier has a table, as has each of its child tiers
+pub record IsHeldAt (r : Rules) (entries : List TableData) (p : Position) : Type 0 where
+  pub legal : r.is_legal p ≡ true
+  pub own : IsHeld entries p.tier
+  pub children : AreHeld r entries p.tier

@@ -1,0 +1,14 @@
+-- The elements of a list that have a property.
+use Rattle.std.specs.Prelude.{◌≡◌, ℕ, zero, suc, ◌⊎◌, List, [], ◌∷◌}
+
+module _ {A : Type 0} (P : A → Type 0) where
+  -- ys are those of the xs that have the property, in their order
+  abbrev pub AreThose : List A → List A → Type 0
+  AreThose [] ys = ys ≡ []
+  AreThose (x ∷ xs) ys = ((rest : List A) × P x × (ys ≡ x ∷ rest) × AreThose xs rest) ⊎ ((P x → ⊥) × AreThose xs ys)
+
+  -- ys are the first of them, at most n
+  abbrev pub IsFirst : ℕ → List A → List A → Type 0
+  IsFirst n [] ys = ys ≡ []
+  IsFirst zero (x ∷ xs) ys = ys ≡ []
+  IsFirst (suc n) (x ∷ xs) ys = ((rest : List A) × P x × (ys ≡ x ∷ rest) × IsFirst n xs rest) ⊎ ((P x → ⊥) × IsFirst (suc n) xs ys)

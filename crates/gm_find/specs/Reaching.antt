@@ -1,0 +1,27 @@
+-- The positions that play from the start reaches.
+use Rattle.std.specs.Prelude.{◌≡◌, ℕ, ◌↔◌, List, [], ◌∷◌, ◌++◌}
+use Rattle.std.specs.List.{Contains}
+use Rattle.gm_game.specs.declared.position.Position.{Position}
+use Rattle.gm_game.specs.Rules.{Rules}
+use Rattle.gm_play.specs.Lines.{position_after}
+
+-- these moves can be played from p one after another
+abbrev pub IsPlay : Rules → Position → List ℕ → Type 0
+IsPlay r p [] = Unit {0}
+IsPlay r p (m ∷ ms) = Contains (r.moves p) m × IsPlay r (r.play p m) ms
+
+-- some line of play from the start ends in a position with this canonical one
+abbrev pub IsReachedByPlay : Rules → Position → Type 0
+IsReachedByPlay r c = (ms : List ℕ) × IsPlay r r.initial ms × (r.canonical (position_after r r.initial ms) ≡ c)
+
+-- the tier and index of a position
+abbrev pub key_of : Position → ℕ × ℕ
+key_of p = (p.tier, p.index)
+
+-- these are the keys of exactly the positions that are reached
+abbrev pub AreReached : Rules → List (ℕ × ℕ) → Type 0
+AreReached r keys = (c : Position) → Contains keys (key_of c) ↔ IsReachedByPlay r c
+
+-- the new list has more at its end
+abbrev pub IsGrown : List (ℕ × ℕ) → List (ℕ × ℕ) → Type 0
+IsGrown old new = (more : List (ℕ × ℕ)) × (new ≡ old ++ more)

@@ -1,0 +1,27 @@
+-- Found positions as rows of text.
+use Rattle.std.specs.Prelude.{◌≡◌, ℕ, Bool, List, [], ◌∷◌, ◌++◌, codes, Option, None, Some}
+use Rattle.std.specs.Fmt.{decimal}
+use Rattle.std.specs.List.{flat_map}
+use Rattle.gm_game.specs.declared.position.Position.{Position}
+use Rattle.gm_game.specs.Rules.{Rules}
+use Rattle.gm_game.specs.Texts.{text_of}
+use Rattle.gm_find.specs.declared.found.Found.{Found}
+use Rattle.gm_find.specs.declared.sought.Sought.{Sought}
+use Rattle.gm_find.specs.Founds.{AreFound}
+
+-- four fields of a line
+abbrev pub row : List ℕ → List ℕ → List ℕ → List ℕ → List ℕ
+row a b c d = (a ++ codes "\t") ++ (b ++ codes "\t") ++ (c ++ codes "\t") ++ (d ++ codes "\n")
+
+-- the text of a best move, and none where the game has ended
+abbrev pub best_text : (Position → ℕ → List ℕ) → Position → Option ℕ → List ℕ
+best_text move_shown p None = []
+best_text move_shown p (Some m) = move_shown p m
+
+-- a found position: its text, its value, its best move and the number of its moves
+abbrev pub found_row : (Position → List ℕ) → (Position → ℕ → List ℕ) → Found → List ℕ
+found_row shown move_shown x = row (shown x.position) (text_of x.value) (best_text move_shown x.position x.best) (decimal x.moves)
+
+-- the rows of the first positions that are sought, at most so many
+abbrev pub IsFoundText : Rules → (Position → List ℕ) → (Position → ℕ → List ℕ) → Sought → Bool → ℕ → List ℕ → List ℕ → Type 0
+IsFoundText r shown move_shown q reached limit tiers out = (xs : List Found) × AreFound r q reached limit tiers xs × (out ≡ flat_map (found_row shown move_shown) xs)

@@ -1,0 +1,80 @@
+//! Found positions, each with its value, its best move and the number of its moves.
+ghost use Rattle.std.specs.Prelude.{◌≡◌, ◌↔◌, ℕ, List, true, map, length, IfOk, IsErrOf, is_some};
+ghost use Rattle.std.specs.List.{All};
+ghost use Rattle.gm_table.specs.Tables.{IsHeld, AreHeld};
+ghost use Rattle.gm_find.specs.Finding.{AreTiersHeld};
+ghost use Rattle.gm_find.specs.Founds.{IsFound, AreFound, IsHeldAt, position_of};
+
+use crate::find_error::FindError;
+use crate::positions::find_positions;
+use crate::reached::Reached;
+use crate::sought::Sought;
+use gm_game::game::Game;
+use gm_game::position::{Position, Solved};
+use gm_play::best_move::best_move;
+use gm_table::tables::Tables;
+use std::alloc::{AllocError, Global};
+
+/// A position that was found.
+#[derive(Clone, Copy, Debug, PartialEq, Eq)]
+pub struct Found {
+    pub position: Position,
+    pub value: Solved,
+    /// The number of the best move; `None` where the game has ended.
+    pub best: Option<u32>,
+    /// How many moves there are.
+    pub moves: usize,
+}
+
+/// The canonical positions that are sought, each with its value, its best move and the number of its moves: tier by tier in the order given and by ascending index, the first of them,
+/// at most so many. Where reached positions are given, those alone.
+///
+/// `NotHeld` is tested first, and comes exactly where one of the tiers, or one of its child tiers, has no table.
+pub fn find<G: Game>(
+    alloc: Global,
+    tables: &Tables<G>,
+    tiers: &[u64],
+    sought: Sought,
+    reached: Option<&Reached<G>>,
+    limit: usize,
+) -> Result<Vec<Found>, FindError>
+    ensures found { IfOk result (λ v. AreFound G.rules sought (is_some reached.entry) limit tiers.now v.items) }
+    ensures not_held { IsErrOf result FindError.NotHeld ↔ (AreTiersHeld G.rules tables.now tiers.now → ⊥) }
+{
+    let positions = find_positions(alloc, tables, tiers, sought, reached, limit)?;
+    match look_up(alloc, tables, positions.as_slice()) {
+        Ok(found) => Ok(found),
+        Err(_) => Err(FindError::OutOfMemory),
+    }
+}
+
+// What is told of some positions.
+fn look_up<G: Game>(
+    alloc: Global,
+    tables: &Tables<G>,
+    positions: &[Position],
+) -> Result<Vec<Found>, AllocError>
+    requires { All (IsHeldAt G.rules tables.now) positions.now }
+    ensures positions { IfOk result (λ v. map position_of v.items ≡ positions.now) }
+    ensures each { IfOk result (λ v. All (IsFound G.rules) v.items) }
+{
+    let mut found = Vec::new(alloc);
+    for p in positions {
+        found.push(found_at(tables, *p))?;
+    }
+    Ok(found)
+}
+
+// What is told of a position.
+fn found_at<G: Game>(tables: &Tables<G>, p: Position) -> Found
+    requires { IsHeldAt G.rules tables.now p }
+    ensures position { result.position ≡ p }
+    ensures found { IsFound G.rules result }
+{
+    Found {
+        position: p,
+        value: tables.get(p).unwrap(),
+        best: best_move(tables, p).unwrap(),
+        moves: G::moves(p).len(),
+    }
+}

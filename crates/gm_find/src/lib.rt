@@ -1,0 +1,13 @@
+//! Positions that are looked for: those of a value, those that play from the start reaches, and how many there are of each value and remoteness.
+//!
+//! `specs/` has the definitions that contracts cite, and `proofs/` what follows from them.
+#![tactic(auto)]
+
+pub mod find_error;
+pub mod found;
+mod only;
+pub mod positions;
+pub mod reached;
+pub mod rows;
+mod search;
+pub mod sought;

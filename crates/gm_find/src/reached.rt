@@ -1,0 +1,47 @@
+//! The positions that play from the start reaches.
+ghost use Rattle.std.specs.Prelude.{◌↔◌, ◌≡◌, IsTrue, IfOk};
+ghost use Rattle.gm_find.specs.Reaching.{IsReachedByPlay, AreReached};
+
+use crate::search::search;
+use gm_game::game::Game;
+use gm_game::position::Position;
+use indexmap::IndexSet;
+use std::alloc::{AllocError, Global};
+use std::marker::{Model, PhantomData};
+
+/// The canonical positions that play from the start reaches: 16 bytes and a place in a hash table for each.
+#[derive(Drop)]
+pub struct Reached<G: Game> {
+    keys: IndexSet<(u64, u64)>,
+    game: PhantomData<G>,
+}
+
+impl<G: Game> Model for Reached<G> {
+    ghost use Rattle.std.specs.Prelude.{ℕ, List};
+    ghost use Rattle.gm_find.specs.Reaching.{AreReached};
+
+    ghost Value = { List (ℕ × ℕ) };
+
+    ghost view = { λ s. s.keys.keys };
+
+    ghost invariant = { λ s. AreReached G.rules s.keys.keys };
+}
+
+impl<G: Game> Reached<G> {
+    /// All canonical positions that play from the start reaches, found by a search: each of them once, with its canonical children.
+    pub fn from_start(alloc: Global) -> Result<Self, AllocError>
+        ensures { IfOk result (AreReached G.rules) }
+    {
+        Ok(Reached {
+            keys: search::<G>(alloc)?,
+            game: PhantomData,
+        })
+    }
+
+    /// Whether some line of play from the start ends in a position with this canonical one. It takes no memory.
+    pub fn has(&self, c: Position) -> bool
+        ensures { IsTrue result ↔ IsReachedByPlay G.rules c }
+    {
+        self.keys.contains(&(c.tier, c.index))
+    }
+}

@@ -1,0 +1,97 @@
+//! Found positions as rows of text.
+ghost use Rattle.std.specs.Prelude.{◌≡◌, ◌↔◌, ◌++◌, true, IfOk, OnOk, IsErrOf, is_some};
+ghost use Rattle.std.specs.List.{All, flat_map};
+ghost use Rattle.gm_play.specs.BestMoves.{IsBestMove};
+ghost use Rattle.gm_find.specs.Finding.{AreTiersHeld};
+ghost use Rattle.gm_find.specs.Founds.{IsFound};
+ghost use Rattle.gm_find.specs.Rows.{best_text as best_text_spec, found_row, row, IsFoundText};
+
+use crate::find_error::FindError;
+use crate::found::{Found, find};
+use crate::reached::Reached;
+use crate::sought::Sought;
+use gm_game::position::Position;
+use gm_game::shown::{Line, Shown};
+use gm_game::text::{push_decimal, value_text};
+use gm_table::tables::Tables;
+use std::alloc::{AllocError, Global};
+
+/// The rows of the canonical positions that are sought: the position, its value, its best move (none where the game has ended) and the number of its moves, with a tab between them. They
+/// stand tier by tier in the order given and by ascending index: the first of them, at most so many. Where reached positions are given, those alone.
+///
+/// `NotHeld` is tested first, and comes exactly where one of the tiers, or one of its child tiers, has no table.
+pub fn find_text<G: Shown>(
+    alloc: Global,
+    tables: &Tables<G>,
+    tiers: &[u64],
+    sought: Sought,
+    reached: Option<&Reached<G>>,
+    limit: usize,
+) -> Result<Vec<u8>, FindError>
+    ensures text { IfOk result (λ v. IsFoundText G.Game.rules G.shown G.move_shown sought (is_some reached.entry) limit tiers.now v.items) }
+    ensures not_held { IsErrOf result FindError.NotHeld ↔ (AreTiersHeld G.Game.rules tables.now tiers.now → ⊥) }
+{
+    let found = find(alloc, tables, tiers, sought, reached, limit)?;
+    match found_rows::<G>(alloc, found.as_slice()) {
+        Ok(rows) => Ok(rows),
+        Err(_) => Err(FindError::OutOfMemory),
+    }
+}
+
+// The rows of found positions.
+fn found_rows<G: Shown>(alloc: Global, found: &[Found]) -> Result<Vec<u8>, AllocError>
+    requires { All (IsFound G.Game.rules) found.now }
+    ensures { IfOk result (λ v. v.items ≡ flat_map (found_row G.shown G.move_shown) found.now) }
+{
+    let mut rows = Vec::new(alloc);
+    for x in found {
+        push_found::<G>(&mut rows, x)?;
+    }
+    Ok(rows)
+}
+
+fn push_found<G: Shown>(rows: &mut Vec<u8>, x: &Found) -> Result<(), AllocError>
+    requires { IsFound G.Game.rules x.now }
+    ensures { OnOk result (rows.new.items ≡ rows.old.items ++ found_row G.shown G.move_shown x.now) }
+{
+    let x = *x;
+    let mut number = Line::new();
+    push_decimal(&mut number, x.moves as u64);
+    push_row(
+        rows,
+        G::show(x.position).as_slice(),
+        value_text(x.value).as_slice(),
+        best_text::<G>(x.position, x.best).as_slice(),
+        number.as_slice(),
+    )
+}
+
+/// The text of a best move; none where the game has ended.
+pub fn best_text<G: Shown>(p: Position, best: Option<u32>) -> Line
+    requires legal { G.Game.rules.is_legal p ≡ true }
+    requires best { IsBestMove G.Game.rules p best }
+    ensures { result.items ≡ best_text_spec G.move_shown p best }
+{
+    match best {
+        Some(m) => G::move_text(p, m),
+        None => Line::new(),
+    }
+}
+
+// Appends four fields, with a tab between them.
+fn push_row(rows: &mut Vec<u8>, a: &[u8], b: &[u8], c: &[u8], d: &[u8]) -> Result<(), AllocError>
+    ensures { OnOk result (rows.new.items ≡ rows.old.items ++ row a.now b.now c.now d.now) }
+{
+    push_field(rows, a, b"\t")?;
+    push_field(rows, b, b"\t")?;
+    push_field(rows, c, b"\t")?;
+    push_field(rows, d, b"\n")
+}
+
+// Appends a field and what stands after it.
+fn push_field(rows: &mut Vec<u8>, field: &[u8], after: &[u8]) -> Result<(), AllocError>
+    ensures { OnOk result (rows.new.items ≡ rows.old.items ++ (field.now ++ after.now)) }
+{
+    rows.extend_from_slice(field)?;
+    rows.extend_from_slice(after)
+}

@@ -1,0 +1,9 @@
+//! Answers as lines of JSON: what the moves of a position are worth, lines of play and found positions; and a service that reads positions and answers each.
+//!
+//! `specs/` has the definitions that contracts cite, and `proofs/` what follows from them.
+#![tactic(auto)]
+
+pub mod ask;
+pub mod ask_error;
+pub mod moves;
+mod words;

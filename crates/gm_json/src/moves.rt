@@ -1,0 +1,114 @@
+//! What the moves of a position are worth, in JSON.
+ghost use Rattle.std.specs.Prelude.{◌≡◌, ◌↔◌, true, IfOk, IsErrOf, string_bytes};
+ghost use Rattle.std.specs.List.{All};
+ghost use Rattle.gm_game.specs.declared.position.Position.{Position};
+ghost use Rattle.serde_json.specs.View.{view};
+ghost use Rattle.serde_json.specs.Written.{compact_text};
+ghost use Rattle.gm_play.specs.PlayTexts.{IsMoveOf, IsNoPosition, IsReadAs};
+ghost use Rattle.gm_play.specs.Refusals.{AreNotHeld};
+ghost use Rattle.gm_json.specs.Moves.{move_tree, move_trees, moves_tree, IsMovesJson};
+
+use crate::words::{text_value, word_of};
+use gm_game::position::{Position, Solved};
+use gm_game::shown::Shown;
+use gm_play::answer::answer;
+use gm_play::firsts::chosen;
+use gm_play::move_values::{MoveValue, move_values};
+use gm_play::play_error::PlayError;
+use gm_table::tables::Tables;
+use serde_json::{Value as Json, json};
+use std::alloc::{AllocError, Global};
+
+/// The position with this text as one line of compact JSON, without its end: its value and remoteness, and its moves, the best first, each with what it is worth, its result and the value
+/// and remoteness of that. The members stand in alphabetical order. Where `distinct` is set, of moves that lead to one canonical position the first stands alone. Any bytes may be given.
+pub fn moves_json<G: Shown>(
+    alloc: Global,
+    tables: &Tables<G>,
+    text: &[u8],
+    distinct: bool,
+) -> Result<String, PlayError>
+    ensures text { IfOk result (λ s. IsMovesJson G.Game.rules G.shown G.move_shown distinct text.now (string_bytes s)) }
+    ensures illegal { IsErrOf result PlayError.Illegal ↔ IsNoPosition G.Game.rules G.shown G.move_shown text.now }
+    ensures not_held { IsErrOf result PlayError.NotHeld ↔ ((p : Position) × IsReadAs G.Game.rules G.shown G.move_shown text.now p × AreNotHeld G.Game.rules tables.now p) }
+{
+    let p = match G::read(text) {
+        Some(p) => p,
+        None => return Err(PlayError::Illegal),
+    };
+    let list = match move_values(tables, p) {
+        Ok(list) => list,
+        Err(_) => return Err(PlayError::NotHeld),
+    };
+    let value = match answer(tables, p) {
+        Ok(value) => value,
+        Err(_) => return Err(PlayError::NotHeld),
+    };
+    let list = chosen::<G>(list, distinct);
+    match moves_line::<G>(alloc, p, value, list.as_slice()) {
+        Ok(line) => Ok(line),
+        Err(_) => Err(PlayError::OutOfMemory),
+    }
+}
+
+// A legal position with some of its moves.
+fn moves_line<G: Shown>(
+    alloc: Global,
+    p: Position,
+    value: Solved,
+    list: &[MoveValue],
+) -> Result<String, AllocError>
+    requires legal { G.Game.rules.is_legal p ≡ true }
+    requires each { All (IsMoveOf G.Game.rules p) list.now }
+    ensures { IfOk result (λ s. string_bytes s ≡ compact_text (moves_tree G.Game.rules G.shown G.move_shown p value list.now)) }
+{
+    moves_value::<G>(alloc, p, value, list)?.to_string(alloc)
+}
+
+fn moves_value<G: Shown>(
+    alloc: Global,
+    p: Position,
+    value: Solved,
+    list: &[MoveValue],
+) -> Result<Json, AllocError>
+    requires legal { G.Game.rules.is_legal p ≡ true }
+    requires each { All (IsMoveOf G.Game.rules p) list.now }
+    ensures { IfOk result (λ v. view v ≡ moves_tree G.Game.rules G.shown G.move_shown p value list.now) }
+{
+    let moves = move_list::<G>(alloc, p, list)?;
+    let position = text_value(alloc, G::show(p).as_slice())?;
+    json!(in alloc; {
+        "moves": moves,
+        "position": position,
+        "positionValue": word_of(value.value),
+        "remoteness": value.remoteness
+    })
+}
+
+fn move_list<G: Shown>(alloc: Global, p: Position, list: &[MoveValue]) -> Result<Json, AllocError>
+    requires legal { G.Game.rules.is_legal p ≡ true }
+    requires each { All (IsMoveOf G.Game.rules p) list.now }
+    ensures { IfOk result (λ v. view v ≡ move_trees G.Game.rules G.shown G.move_shown p list.now) }
+{
+    let mut moves = Vec::new(alloc);
+    for x in list {
+        moves.push(move_value::<G>(alloc, p, x)?)?;
+    }
+    Ok(Json::Array(moves))
+}
+
+fn move_value<G: Shown>(alloc: Global, p: Position, x: &MoveValue) -> Result<Json, AllocError>
+    requires legal { G.Game.rules.is_legal p ≡ true }
+    requires each { IsMoveOf G.Game.rules p x.now }
+    ensures { IfOk result (λ v. view v ≡ move_tree G.Game.rules G.shown G.move_shown p x.now) }
+{
+    let x = *x;
+    let name = text_value(alloc, G::move_text(p, x.number).as_slice())?;
+    let position = text_value(alloc, G::show(x.position).as_slice())?;
+    json!(in alloc; {
+        "move": name,
+        "moveValue": word_of(x.worth.value),
+        "position": position,
+        "positionValue": word_of(x.result.value),
+        "remoteness": x.result.remoteness
+    })
+}
