@@ -1,5 +1,5 @@
 //! A tier solved by workers.
-ghost use Rattle.std.specs.Prelude.{◌≡◌, ◌≤◌, IfOk, IfErr, OnOk};
+ghost use Rattle.std.specs.Prelude.{◌≡◌, ◌≤◌, ℕ, IfOk, IfErr, OnOk};
 ghost use Rattle.gm_table.specs.Tables.{AreHeld, IsTable};
 ghost use Rattle.gm_solver.specs.Solving.{IsError, IsTooFar, AreDeliveries};
 
@@ -109,3 +109,8 @@ fn solve_by<G: Game + Send + Sync, R: Threads + Wait + Sync, T: Gate, S: Source>
     };
     Ok((table, report))
 }
+
+/// The number of deliveries of a tier depends on nothing but the game: there is one such number.
+pub fn deliveries_once<G: Game>(tier: u64)
+    ensures { (m n : ℕ) → AreDeliveries G.rules tier m → AreDeliveries G.rules tier n → m ≡ n }
+{}
