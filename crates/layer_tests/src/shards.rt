@@ -89,19 +89,29 @@ fn first_level<G: Game>(
     deliver(rt, shard, &zero, &[(1, Err(Refused::NotThisLevel))]);
 }
 
+// The note of 1 at the second level: 2 and 3 have it among their children.
+fn one_at_second_level<G: Game>(rt: &impl Abort, shard: &mut Shard<G>, note: &Note<G>) {
+    deliver(rt, shard, note, &[(2, Ok(Delivery::Fresh))]);
+    assert_eq!(rt; known(rt, shard, 2).1, 0);
+    deliver(rt, shard, note, &[(3, Ok(Delivery::Fresh))]);
+    assert_eq!(rt; known(rt, shard, 3), (Status::Undecided, 1));
+}
+
+// The note of 2: 3 has no other child left.
+fn two_at_second_level<G: Game>(rt: &impl Abort, shard: &mut Shard<G>, note: &Note<G>) {
+    deliver(rt, shard, note, &[(3, Ok(Delivery::FreshSettled))]);
+    assert_eq!(rt; noted(rt, shard, 3), lose(2));
+    assert_eq!(rt; shard.delivered(), 5);
+}
+
 // The second level: the notes of 1 and 2, of which 3 has both as children.
 fn second_level<G: Game>(rt: &impl Abort, shard: &mut Shard<G>, fresh: &Run<G>) {
     let notes = fresh.list();
     assert_eq!(rt; notes.len(), 2);
     assert_eq!(rt; notes[0].position().index, 1);
     assert_eq!(rt; notes[1].position().index, 2);
-    deliver(rt, shard, &notes[0], &[(2, Ok(Delivery::Fresh))]);
-    assert_eq!(rt; known(rt, shard, 2).1, 0);
-    deliver(rt, shard, &notes[0], &[(3, Ok(Delivery::Fresh))]);
-    assert_eq!(rt; known(rt, shard, 3), (Status::Undecided, 1));
-    deliver(rt, shard, &notes[1], &[(3, Ok(Delivery::FreshSettled))]);
-    assert_eq!(rt; noted(rt, shard, 3), lose(2));
-    assert_eq!(rt; shard.delivered(), 5);
+    one_at_second_level(rt, shard, &notes[0]);
+    two_at_second_level(rt, shard, &notes[1]);
     assert_eq!(rt; shard.tier(), 0);
     assert_eq!(rt; shard.phase(), Phase::WinLose);
 }
