@@ -156,6 +156,22 @@ fn one_position_to_its_end(rt: HostRuntime) -> Result<(), Fail> {
     Ok(())
 }
 
+// Deliveries of a note: to a parent twice, to an index that is no parent, to a shard that isn't there, and to another parent.
+fn deliveries(
+    alloc: Global,
+    note: Note<Countdown<10>>,
+) -> Result<Vec<Event<Countdown<10>>>, AllocError> {
+    let mut events = Vec::new(alloc);
+    for (shard, parent) in [(0, 2), (0, 2), (0, 5), (1, 1), (0, 1)] {
+        events.push(Event::Deliver {
+            shard,
+            note,
+            parent,
+        })?;
+    }
+    Ok(events)
+}
+
 #[test]
 fn replay_of_a_level(rt: HostRuntime) -> Result<(), Fail> {
     let tables: Tables<Countdown<10>> = Tables::new(rt.alloc());
@@ -164,18 +180,10 @@ fn replay_of_a_level(rt: HostRuntime) -> Result<(), Fail> {
     let level = Level::gather(rt.alloc(), shard.place(), runs.as_slice(), &tables)?;
     let mut expected = Expected::start(0, 0, 11);
     expected.add(&level);
-    let mut shards = vec![in rt.alloc(); shard]?;
-    let mut events = Vec::new(rt.alloc());
     assert_eq!(rt; level.len(), 1);
-    let note = level.note(0);
-    for (shard, parent) in [(0, 2), (0, 2), (0, 5), (1, 1), (0, 1)] {
-        events.push(Event::Deliver {
-            shard,
-            note,
-            parent,
-        })?;
-    }
+    let mut events = deliveries(rt.alloc(), level.note(0))?;
     events.push(Event::Close { shard: 0, expected })?;
+    let mut shards = vec![in rt.alloc(); shard]?;
     assert_eq!(rt; replay(shards.as_mut_slice(), events.as_slice()), 3);
     assert_eq!(rt; shards.len(), 1);
     assert_eq!(rt; shards[0].level(), 1);
