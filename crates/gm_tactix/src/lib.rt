@@ -2,6 +2,7 @@
 #![tactic(auto)]
 
 pub mod ascending;
+pub mod children;
 pub mod counters;
 pub mod moves;
 pub mod segment;
