@@ -4,6 +4,7 @@
 pub mod ascending;
 pub mod children;
 pub mod counters;
+pub mod masks;
 pub mod moves;
 pub mod segment;
 pub mod side;
