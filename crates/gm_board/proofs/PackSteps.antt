@@ -1,35 +1,17 @@
 -- The steps of packing the opponent's pieces on the cells without the mover's, and of spreading them again.
-use Rattle.std.proofs.Common.{◌≡◌, ℕ, zero, suc, ◌+◌, ◌-◌, ◌*◌, ◌/◌, ◌%◌, ◌^◌, ◌<◌, ◌≤◌, Bool, true, false, List, [], ◌∷◌, length, refl, sym, ap, ap₂, ◌∙◌, subst, arith, add-one}
-use Rattle.std.specs.Prelude.{bit_and}
-use Rattle.std.specs.Int.{bit_at}
-use Rattle.std.proofs.lemmas.Nat.{shr-shr, shl_whole, and_le_r}
+use Rattle.std.proofs.Common.{◌≡◌, ℕ, zero, suc, ◌+◌, ◌-◌, ◌*◌, ◌/◌, ◌%◌, ◌^◌, ◌<◌, ◌≤◌, Bool, true, false, eqb, List, [], ◌∷◌, length, refl, sym, ap, ap₂, ◌∙◌, subst, arith, add-one, pow_pos, lt_of_le_of_lt}
+use Rattle.std.specs.Prelude.{bit_and, count_ones}
+use Rattle.std.specs.Int.{bit_at, trailing_zeros, w32}
+use Rattle.std.proofs.Math.Nat.{mul-add, add-mul, two-pow-succ, div-eq_of_lt, mod-eq_of_lt}
+use Rattle.std.proofs.Math.Pow.{pow_mono}
+use Rattle.std.proofs.lemmas.Nat.{shr-shr, shr_split, mod-pow-add, mod-mul-add, div-mul-add, mod_below}
 use Rattle.std.proofs.lemmas.Nat.Bits.{shr_and_one, bit_at-lt}
 use Rattle.gm_board.specs.declared.cell.Cell.{Cell}
 use Rattle.gm_board.specs.Ranks.{members, members_le}
-use Rattle.gm_board.specs.Masks.{has_cell, tests_of, tests_none, tests_more, tests_length, mask_of, mask_cons, mask_below, weight, weight_bit}
+use Rattle.gm_board.specs.Masks.{has_cell, tests_of, tests_none, tests_more, tests_length, mask_of, mask_cons, mask_below, weight, weight_bit, members_small}
 use Rattle.gm_board.specs.Arrangements.{their_bits, their_cell, merge, their_bits_length}
-use Rattle.gm_board.specs.Pieces.{cell_by, cells_of, cells_none, cells_more, cells_length, their_tests, spread_mask}
-
--- the test `(m >> c) & 1` where it gives 0
-pub has_none : (m c : ℕ) → bit_and (m / 2 ^ c) 1 ≡ 0 → has_cell m c ≡ false
-has_none m c e = let b : bit_at m c ≡ 0 = sym (shr_and_one m c) ∙ e in rw b refl
-
--- the same where the bit is not 0
-pub has_some : (m c : ℕ) → (bit_and (m / 2 ^ c) 1 ≡ 0 → ⊥) → has_cell m c ≡ true
-has_some m c n =
-    let e = shr_and_one m c in
-    let l = bit_at-lt m c in
-    let b : bit_at m c ≡ 1 = one (bit_at m c) l (λ z. n (e ∙ z)) in
-    rw b refl
-  where
-    one : (v : ℕ) → v < 2 → (v ≡ 0 → ⊥) → v ≡ 1
-    one zero l n = absurd (n refl)
-    one (suc zero) l n = refl
-    one (suc (suc v)) l n = absurd (omega arith)
-
--- a bit moved up stays whole
-pub bit_moved : (m places : ℕ) → places < 32 → bit_and m 1 * 2 ^ places % 2 ^ 32 ≡ bit_and m 1 * 2 ^ places
-bit_moved m places l = let b : bit_and m 1 < 2 ^ 1 = omega (arith, and_le_r m 1) in shl_whole (bit_and m 1) 1 places 32 b (omega arith)
+use Rattle.gm_board.specs.Pieces.{cell_by, cells_of, cells_none, cells_more, cells_length, their_tests, spread_mask, apart_below}
+use Rattle.gm_board.specs.NextCells.{rest_all, next_cell, cell_below, none_left}
 
 -- the opponent's pieces below `cell` are packed
 pub record IsPacked (mine theirs cell packed free : ℕ) : Type 0 where
@@ -117,15 +99,6 @@ spread_none mine packed = record {
     whole : (n : ℕ) → n / 1 ≡ n
     whole n = omega arith
 
--- what is spread fits the cells that are looked at
-pub spread_below : (mine packed cell theirs rest : ℕ) → IsSpread mine packed cell theirs rest → theirs < 2 ^ cell
-unfolding spread_mask
-spread_below mine packed cell theirs rest h =
-    let ms = tests_of cell mine in
-    let ts = tests_of (cell - members ms) packed in
-    subst (λ (v : ℕ). v < 2 ^ cell) (sym h.is_theirs)
-    (subst (λ (k : ℕ). mask_of (their_tests (merge ms ts)) < 2 ^ k) (merge_length ms ts ∙ tests_length cell mine) (mask_below (their_tests (merge ms ts))))
-
 -- a cell of the mover's
 pub spread_skip : (mine packed cell theirs rest : ℕ) → IsSpread mine packed cell theirs rest → has_cell mine cell ≡ true → IsSpread mine packed (cell + 1) theirs rest
 unfolding spread_mask free_below
@@ -170,3 +143,251 @@ spread_more mine packed cell theirs rest h e =
           ∙ shr-shr packed k 1
           ∙ ap (λ (j : ℕ). packed / 2 ^ j) ((let z : k + 1 ≡ suc k = omega arith in z) ∙ sym f);
     }
+
+-- ---- by the mover's own cells
+-- a number's last n + 1 binary digits
+low_more : (t n : ℕ) → t % 2 ^ (n + 1) ≡ t % 2 ^ n + bit_and (t / 2 ^ n) 1 * 2 ^ n
+low_more t n =
+    ap (λ (k : ℕ). t % 2 ^ k) (let z : n + 1 ≡ 1 + n = omega arith in z)
+    ∙ mod-pow-add t 1 n
+    ∙ ap (λ (v : ℕ). v * 2 ^ n + t % 2 ^ n) (sym (shr_and_one t n))
+    ∙ (let z : bit_and (t / 2 ^ n) 1 * 2 ^ n + t % 2 ^ n ≡ t % 2 ^ n + bit_and (t / 2 ^ n) 1 * 2 ^ n = omega arith in z)
+
+-- twice as much of the higher digits
+twice : (a n : ℕ) → a * 2 ^ (n + 1) ≡ a * 2 ^ n + a * 2 ^ n
+twice a n =
+    ap (λ (k : ℕ). a * 2 ^ k) (add-one n)
+    ∙ ap (λ (v : ℕ). a * v) (two-pow-succ n)
+    ∙ mul-add a (2 ^ n) (2 ^ n)
+
+-- the cells below n are spread, and the pieces from there on stand as they did in the packed mask
+abbrev pub IsSpreadTo : ℕ → ℕ → ℕ → ℕ → Type 0
+IsSpreadTo mine packed n t = IsSpread mine packed n (t % 2 ^ n) (t / 2 ^ n)
+
+-- nothing is spread yet
+pub spread_start : (mine packed : ℕ) → IsSpreadTo mine packed 0 packed
+spread_start mine packed =
+    let h = spread_none mine packed in
+    let l : packed % 1 < 1 = mod_below packed 1 (omega arith) in
+    let z : packed % 1 ≡ 0 = omega (arith, l) in
+    let w : packed / 1 ≡ packed = omega arith in
+    record { is_theirs = z ∙ h.is_theirs; is_rest = w ∙ h.is_rest }
+
+spread_free : (mine packed n t : ℕ) → IsSpreadTo mine packed n t → has_cell mine n ≡ false → IsSpreadTo mine packed (n + 1) t
+spread_free mine packed n t h e =
+    let m = spread_more mine packed n (t % 2 ^ n) (t / 2 ^ n) h e in
+    record { is_theirs = low_more t n ∙ m.is_theirs; is_rest = sym (shr-shr t n 1) ∙ m.is_rest }
+
+-- cells without the mover's pieces, s of them
+pub spread_frees : (mine packed n s t : ℕ) → IsSpreadTo mine packed n t → ((i : ℕ) → i < s → has_cell mine (n + i) ≡ false) → IsSpreadTo mine packed (n + s) t
+spread_frees mine packed n zero t h f = subst (λ (k : ℕ). IsSpreadTo mine packed k t) (let e : n ≡ n + 0 = omega arith in e) h
+spread_frees mine packed n (suc s) t h f =
+    subst (λ (k : ℕ). IsSpreadTo mine packed k t) (let e : n + s + 1 ≡ n + suc s = omega arith in e)
+    (spread_free mine packed (n + s) t (spread_frees mine packed n s t h (λ i l. f i (omega arith))) (f s (omega arith)))
+
+-- a cell of the mover's
+pub spread_own : (mine packed n t : ℕ) → IsSpreadTo mine packed n t → has_cell mine n ≡ true → IsSpreadTo mine packed (n + 1) (t + t / 2 ^ n * 2 ^ n)
+spread_own mine packed n t h e =
+    let m = spread_skip mine packed n (t % 2 ^ n) (t / 2 ^ n) h e in
+    let a = t / 2 ^ n in
+    let q : t + a * 2 ^ n ≡ a * 2 ^ (n + 1) + t % 2 ^ n = omega (arith, shr_split t n, twice a n) in
+    let low : t % 2 ^ n < 2 ^ n = mod_below t (2 ^ n) (pow_pos n) in
+    let b : t % 2 ^ n < 2 ^ (n + 1) = omega (arith, low, twice 1 n) in
+    record {
+      is_theirs = ap (λ (v : ℕ). v % 2 ^ (n + 1)) q ∙ mod-mul-add a (2 ^ (n + 1)) (t % 2 ^ n) b ∙ m.is_theirs;
+      is_rest = ap (λ (v : ℕ). v / 2 ^ (n + 1)) q ∙ div-mul-add a (2 ^ (n + 1)) (t % 2 ^ n) b ∙ m.is_rest;
+    }
+
+-- all is spread
+pub spread_end : (cells mine packed t : ℕ) → IsSpreadTo mine packed cells t → mine < 2 ^ cells → packed < 2 ^ (cells - count_ones mine) → t ≡ spread_mask cells mine packed
+unfolding free_below
+spread_end cells mine packed t h f g =
+    let k : free_below mine cells ≡ cells - count_ones mine = ap (λ (v : ℕ). cells - v) (members_small cells mine f) in
+    let z : t / 2 ^ cells ≡ 0 = h.is_rest ∙ ap (λ (v : ℕ). packed / 2 ^ v) k ∙ div-eq_of_lt g in
+    let w : t / 2 ^ cells * 2 ^ cells ≡ 0 = ap (λ (v : ℕ). v * 2 ^ cells) z ∙ (let u : 0 * 2 ^ cells ≡ 0 = omega arith in u) in
+    (let e : t ≡ t % 2 ^ cells = omega (arith, shr_split t cells, w) in e) ∙ h.is_theirs
+
+-- the cells below n are packed, and the pieces from there on follow
+pub record IsPackedTo (mine theirs n free packed : ℕ) : Type 0 where
+  pub low : IsPacked mine theirs n (packed % 2 ^ free) free
+  pub high : packed / 2 ^ free ≡ theirs / 2 ^ n
+
+-- nothing is packed yet
+pub packed_start : (mine theirs : ℕ) → IsPackedTo mine theirs 0 0 theirs
+packed_start mine theirs =
+    let l : theirs % 1 < 1 = mod_below theirs 1 (omega arith) in
+    let z : 0 ≡ theirs % 1 = omega (arith, l) in
+    record { low = subst (λ (v : ℕ). IsPacked mine theirs 0 v 0) z (packed_none mine theirs); high = refl }
+
+packed_free : (mine theirs n free packed : ℕ) → IsPackedTo mine theirs n free packed → has_cell mine n ≡ false → IsPackedTo mine theirs (n + 1) (free + 1) packed
+packed_free mine theirs n free packed h e =
+    let m = packed_more mine theirs n (packed % 2 ^ free) free h.low e in
+    record {
+      low = subst (λ (v : ℕ). IsPacked mine theirs (n + 1) v (free + 1))
+          (ap (λ (v : ℕ). packed % 2 ^ free + bit_and v 1 * 2 ^ free) (sym h.high) ∙ sym (low_more packed free)) m;
+      high = sym (shr-shr packed free 1) ∙ ap (λ (v : ℕ). v / 2) h.high ∙ shr-shr theirs n 1;
+    }
+
+-- cells without the mover's pieces, s of them
+pub packed_frees : (mine theirs n s free packed : ℕ) → IsPackedTo mine theirs n free packed → ((i : ℕ) → i < s → has_cell mine (n + i) ≡ false) → IsPackedTo mine theirs (n + s) (free + s) packed
+packed_frees mine theirs n zero free packed h f =
+    subst (λ (k : ℕ). IsPackedTo mine theirs (n + 0) k packed) (let e : free ≡ free + 0 = omega arith in e)
+    (subst (λ (k : ℕ). IsPackedTo mine theirs k free packed) (let e : n ≡ n + 0 = omega arith in e) h)
+packed_frees mine theirs n (suc s) free packed h f =
+    subst (λ (k : ℕ). IsPackedTo mine theirs (n + suc s) k packed) (let e : free + s + 1 ≡ free + suc s = omega arith in e)
+    (subst (λ (k : ℕ). IsPackedTo mine theirs k (free + s + 1) packed) (let e : n + s + 1 ≡ n + suc s = omega arith in e)
+    (packed_free mine theirs (n + s) (free + s) packed (packed_frees mine theirs n s free packed h (λ i l. f i (omega arith))) (f s (omega arith))))
+
+-- what the step takes away, and what it leaves
+pub record IsStepDown (theirs n free packed : ℕ) : Type 0 where
+  pub fits : theirs / 2 ^ n / 2 * 2 ^ free ≤ packed
+  pub left : packed - theirs / 2 ^ n / 2 * 2 ^ free ≡ theirs / 2 ^ n / 2 * 2 ^ free + packed % 2 ^ free
+
+-- where the cell has no piece of the opponent's
+pub step_down : (mine theirs n free packed : ℕ) → IsPackedTo mine theirs n free packed → has_cell theirs n ≡ false → IsStepDown theirs n free packed
+step_down mine theirs n free packed h e =
+    let a = theirs / 2 ^ n / 2 in
+    let bit : theirs / 2 ^ n % 2 ≡ 0 = no_bit theirs n e in
+    let half : theirs / 2 ^ n ≡ a + a = omega (arith, bit) in
+    let q : packed / 2 ^ free * 2 ^ free ≡ a * 2 ^ free + a * 2 ^ free = ap (λ (v : ℕ). v * 2 ^ free) (h.high ∙ half) ∙ add-mul a a (2 ^ free) in
+    record { fits = omega (arith, shr_split packed free, q); left = omega (arith, shr_split packed free, q) }
+  where
+    none : (v : ℕ) → v < 2 → eqb v 1 ≡ false → v ≡ 0
+    none zero l f = refl
+    none (suc zero) l f = cc
+    none (suc (suc v)) l f = absurd (omega arith)
+
+    no_bit : (m c : ℕ) → has_cell m c ≡ false → m / 2 ^ c % 2 ≡ 0
+    no_bit m c f = none (bit_at m c) (bit_at-lt m c) f
+
+-- a cell of the mover's
+pub packed_own : (mine theirs n free packed : ℕ) → IsPackedTo mine theirs n free packed → has_cell mine n ≡ true → has_cell theirs n ≡ false
+    → IsPackedTo mine theirs (n + 1) free (packed - theirs / 2 ^ n / 2 * 2 ^ free)
+packed_own mine theirs n free packed h e f =
+    let s = step_down mine theirs n free packed h f in
+    let a = theirs / 2 ^ n / 2 in
+    let b : packed % 2 ^ free < 2 ^ free = mod_below packed (2 ^ free) (pow_pos free) in
+    let m = packed_skip mine theirs n (packed % 2 ^ free) free h.low e in
+    record {
+      low = subst (λ (v : ℕ). IsPacked mine theirs (n + 1) v free) (sym (ap (λ (v : ℕ). v % 2 ^ free) s.left ∙ mod-mul-add a (2 ^ free) (packed % 2 ^ free) b)) m;
+      high = ap (λ (v : ℕ). v / 2 ^ free) s.left ∙ div-mul-add a (2 ^ free) (packed % 2 ^ free) b ∙ shr-shr theirs n 1;
+    }
+
+-- all is packed
+pub packed_end : (cells mine theirs free packed : ℕ) → IsPackedTo mine theirs cells free packed → theirs < 2 ^ cells → packed ≡ mask_of (their_bits (cells_of cells mine theirs))
+packed_end cells mine theirs free packed h l =
+    let z : packed / 2 ^ free ≡ 0 = h.high ∙ div-eq_of_lt l in
+    let w : packed / 2 ^ free * 2 ^ free ≡ 0 = ap (λ (v : ℕ). v * 2 ^ free) z ∙ (let u : 0 * 2 ^ free ≡ 0 = omega arith in u) in
+    (let e : packed ≡ packed % 2 ^ free = omega (arith, shr_split packed free, w) in e) ∙ h.low.is_packed
+
+-- ---- the loops
+-- what holds before each of the mover's cells
+pub record IsPacking (cells mine theirs next free rest packed : ℕ) : Type 0 where
+  pub within : next ≤ cells
+  pub free_le : free ≤ next
+  pub is_rest : rest ≡ mine / 2 ^ next
+  pub is_to : IsPackedTo mine theirs next free packed
+
+-- what a turn does, where s cells are skipped
+pub record IsPackTurn (cells mine theirs next free rest packed s : ℕ) : Type 0 where
+  pub shift : next + s < cells
+  pub whole : theirs / 2 ^ (next + s) / 2 * 2 ^ (free + s) % 2 ^ 32 ≡ theirs / 2 ^ (next + s) / 2 * 2 ^ (free + s)
+  pub fits : theirs / 2 ^ (next + s) / 2 * 2 ^ (free + s) ≤ packed
+  pub after : IsPacking cells mine theirs (next + s + 1) (free + s) (rest / 2 ^ s / 2) (packed - theirs / 2 ^ (next + s) / 2 * 2 ^ (free + s))
+
+-- nothing is packed yet
+pub packing : (cells mine theirs : ℕ) → IsPacking cells mine theirs 0 0 mine theirs
+packing cells mine theirs = record { within = omega arith; free_le = omega arith; is_rest = rest_all mine; is_to = packed_start mine theirs }
+
+-- a turn
+pub pack_turn : (cells mine theirs next free rest packed : ℕ) → IsPacking cells mine theirs next free rest packed → mine < 2 ^ cells → bit_and mine theirs ≡ 0
+    → packed < 2 ^ 32 → rest < 2 ^ 32 → 0 < rest → IsPackTurn cells mine theirs next free rest packed (trailing_zeros w32 rest)
+pack_turn cells mine theirs next free rest packed h f a j g p =
+    let s = trailing_zeros w32 rest in
+    let z = next_cell mine next rest h.is_rest g p in
+    let below : next + s < cells = cell_below mine cells (next + s) f z.has in
+    let none : has_cell theirs (next + s) ≡ false = apart_below (next + s + 1) mine theirs a (next + s) (omega arith) z.has in
+    let to = packed_frees mine theirs next s free packed h.is_to z.none in
+    let d = step_down mine theirs (next + s) (free + s) packed to none in
+    record {
+      shift = below;
+      whole = mod-eq_of_lt (lt_of_le_of_lt d.fits j);
+      fits = d.fits;
+      after = record {
+        within = omega (arith, below);
+        free_le = omega (arith, h.free_le);
+        is_rest = z.is_rest;
+        is_to = packed_own mine theirs (next + s) (free + s) packed to z.has none;
+      };
+    }
+
+-- all is packed
+pub pack_done : (cells mine theirs next free rest packed : ℕ) → IsPacking cells mine theirs next free rest packed → theirs < 2 ^ cells → rest ≡ 0 → packed ≡ mask_of (their_bits (cells_of cells mine theirs))
+pack_done cells mine theirs next free rest packed h l n =
+    packed_end cells mine theirs (free + (cells - next)) packed
+    (subst (λ (k : ℕ). IsPackedTo mine theirs k (free + (cells - next)) packed) (let e : next + (cells - next) ≡ cells = omega (arith, h.within) in e)
+    (packed_frees mine theirs next (cells - next) free packed h.is_to (λ i k. none_left mine next rest (next + i) h.is_rest n (omega arith))))
+    l
+
+-- what holds before each of the mover's cells
+pub record IsSpreading (cells mine packed next rest theirs : ℕ) : Type 0 where
+  pub within : next ≤ cells
+  pub fits : theirs < 2 ^ (32 + next)
+  pub is_rest : rest ≡ mine / 2 ^ next
+  pub is_to : IsSpreadTo mine packed next theirs
+
+-- what a turn does, where s cells are skipped
+pub record IsSpreadTurn (cells mine packed next rest theirs s : ℕ) : Type 0 where
+  pub shift : next + s < cells
+  pub whole : theirs / 2 ^ (next + s) * 2 ^ (next + s) % 2 ^ 64 ≡ theirs / 2 ^ (next + s) * 2 ^ (next + s)
+  pub fits : theirs + theirs / 2 ^ (next + s) * 2 ^ (next + s) < 2 ^ 64
+  pub after : IsSpreading cells mine packed (next + s + 1) (rest / 2 ^ s / 2) (theirs + theirs / 2 ^ (next + s) * 2 ^ (next + s))
+
+-- nothing is spread yet
+pub spreading : (cells mine packed : ℕ) → packed < 2 ^ 32 → IsSpreading cells mine packed 0 mine packed
+spreading cells mine packed l = record { within = omega arith; fits = l; is_rest = rest_all mine; is_to = spread_start mine packed }
+
+-- a turn
+pub spread_turn : (cells mine packed next rest theirs : ℕ) → IsSpreading cells mine packed next rest theirs → cells ≤ 32 → mine < 2 ^ cells
+    → rest < 2 ^ 32 → 0 < rest → IsSpreadTurn cells mine packed next rest theirs (trailing_zeros w32 rest)
+spread_turn cells mine packed next rest theirs h w f g p =
+    let s = trailing_zeros w32 rest in
+    let n = next + s in
+    let z = next_cell mine next rest h.is_rest g p in
+    let below : n < cells = cell_below mine cells n f z.has in
+    let to = spread_frees mine packed next s theirs h.is_to z.none in
+    let up = theirs / 2 ^ n * 2 ^ n in
+    let part : up ≤ theirs = omega (arith, shr_split theirs n) in
+    let e : 2 ^ (32 + (n + 1)) ≡ 2 ^ (32 + n) + 2 ^ (32 + n) = ap (λ (k : ℕ). 2 ^ k) (let q : 32 + (n + 1) ≡ suc (32 + n) = omega arith in q) ∙ two-pow-succ (32 + n) in
+    let b : 2 ^ (32 + next) ≤ 2 ^ (32 + n) = pow_mono (let q : 32 + next ≤ 32 + n = omega arith in q) in
+    let c : 2 ^ (32 + (n + 1)) ≤ 2 ^ 64 = pow_mono (let q : 32 + (n + 1) ≤ 64 = omega arith in q) in
+    let twofold : theirs + up < 2 ^ (32 + (n + 1)) = omega (arith, part, h.fits, e, b) in
+    record {
+      shift = below;
+      whole = mod-eq_of_lt (let q : up < 2 ^ 64 = omega (arith, part, twofold, c) in q);
+      fits = omega (arith, twofold, c);
+      after = record {
+        within = omega (arith, below);
+        fits = twofold;
+        is_rest = z.is_rest;
+        is_to = spread_own mine packed n theirs to z.has;
+      };
+    }
+
+-- all is spread
+pub spread_done : (cells mine packed next rest theirs : ℕ) → IsSpreading cells mine packed next rest theirs → mine < 2 ^ cells → packed < 2 ^ (cells - count_ones mine) → rest ≡ 0 → theirs ≡ spread_mask cells mine packed
+spread_done cells mine packed next rest theirs h f g n =
+    spread_end cells mine packed theirs
+    (subst (λ (k : ℕ). IsSpreadTo mine packed k theirs) (let e : next + (cells - next) ≡ cells = omega (arith, h.within) in e)
+    (spread_frees mine packed next (cells - next) theirs h.is_to (λ i k. none_left mine next rest (next + i) h.is_rest n (omega arith))))
+    f g
+
+-- what is spread fits the cells
+pub spread_fits : (cells mine packed : ℕ) → cells ≤ 32 → spread_mask cells mine packed < 2 ^ 32
+unfolding spread_mask
+spread_fits cells mine packed w =
+    let ms = tests_of cells mine in
+    let ts = tests_of (cells - members ms) packed in
+    let l : mask_of (their_tests (merge ms ts)) < 2 ^ cells = subst (λ (k : ℕ). mask_of (their_tests (merge ms ts)) < 2 ^ k) (merge_length ms ts ∙ tests_length cells mine) (mask_below (their_tests (merge ms ts))) in
+    let p : 2 ^ cells ≤ 2 ^ 32 = pow_mono w in
+    omega (arith, l, p)

@@ -1,5 +1,5 @@
 //! Numbers of the arrangements of two sides' pieces.
-ghost use Rattle.std.specs.Prelude.{◌≡◌, ◌<◌, ◌≤◌, ◌^◌, ◌-◌};
+ghost use Rattle.std.specs.Prelude.{◌≡◌, ◌<◌, ◌≤◌, ◌^◌, ◌-◌, bit_and, count_ones};
 ghost use Rattle.gm_board.specs.Arrangements.{their_bits, arrangement_index, arrangements};
 ghost use Rattle.gm_board.specs.Masks.{mask_of};
 ghost use Rattle.gm_board.specs.Pieces.{cells_of, HasPieces, mine_mask, their_mask, spread_mask};
@@ -65,32 +65,45 @@ impl Arrangement {
 
 /// The opponent's pieces on the cells without the mover's, which are numbered from 0 in ascending order.
 fn pack(cells: u32, mine: u32, theirs: u32) -> u32
-    requires { cells ≤ 32 }
+    requires cells { cells ≤ 32 }
+    requires mine { mine < 2 ^ cells }
+    requires theirs { theirs < 2 ^ cells }
+    requires apart { bit_and mine theirs ≡ 0 }
     ensures { result ≡ mask_of (their_bits (cells_of cells mine theirs)) }
 {
-    let mut packed = 0;
+    let mut packed = theirs;
+    let mut rest = mine;
+    let mut next = 0;
     let mut free: u32 = 0;
-    for cell in 0..cells {
-        if mine >> cell & 1 == 0 {
-            packed += (theirs >> cell & 1) << free;
-            free += 1;
-        }
+    while rest != 0 {
+        let skipped = rest.trailing_zeros();
+        next += skipped;
+        free += skipped;
+        // The pieces past this cell of the mover's move one place down.
+        packed -= (theirs >> next >> 1) << free;
+        next += 1;
+        rest = rest >> skipped >> 1;
     }
     packed
 }
 
 /// The opponent's pieces on all cells, from those on the cells without the mover's.
 fn spread(cells: u32, mine: u32, packed: u32) -> u32
-    requires { cells ≤ 32 }
+    requires cells { cells ≤ 32 }
+    requires mine { mine < 2 ^ cells }
+    requires packed { packed < 2 ^ (cells - count_ones mine) }
     ensures { result ≡ spread_mask cells mine packed }
 {
-    let mut theirs = 0;
-    let mut rest = packed;
-    for cell in 0..cells {
-        if mine >> cell & 1 == 0 {
-            theirs += (rest & 1) << cell;
-            rest >>= 1;
-        }
+    let mut theirs = u64::from(packed);
+    let mut rest = mine;
+    let mut next = 0;
+    while rest != 0 {
+        let skipped = rest.trailing_zeros();
+        next += skipped;
+        // The pieces from this cell of the mover's on move one place up.
+        theirs += theirs >> next << next;
+        next += 1;
+        rest = rest >> skipped >> 1;
     }
-    theirs
+    theirs as u32
 }

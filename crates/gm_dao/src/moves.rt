@@ -1,18 +1,17 @@
 //! Moves: a piece slides as far as it can.
-ghost use Rattle.std.specs.Prelude.{◌≡◌, ◌<◌, ◌==◌, true, length};
+ghost use Rattle.std.specs.Prelude.{◌≡◌, ◌<◌, ◌≤◌, ◌+◌, ◌*◌, ◌==◌, true, length};
 ghost use Rattle.gm_board.specs.Images.{board_of};
+ghost use Rattle.gm_board.specs.Masks.{has_cell};
 ghost use Rattle.gm_dao.specs.DaoRules.{has_formation as has_formation_of, has_trapped as has_trapped_of, is_mine, is_theirs, legal, can_move as can_move_of, steps, is_over as is_over_of, ended, moves as moves_of, play as play_of};
+ghost use Rattle.gm_dao.specs.MaskSlides.{AreMovesBelow};
 
 use crate::board::Board;
 use crate::formations::{has_formation, has_trapped};
-use crate::slides::can_slide;
+use crate::slides::{can_slide, goals};
 use arrayvec::ArrayVec;
 use gm_game::limits::MOVES;
 use gm_game::position::End;
 use gm_steps::step::Step;
-
-/// The numbers of moves are below this.
-pub const NUMBERS: u32 = 256;
 
 /// Whether the mover has a formation.
 pub fn has_own_formation(board: Board) -> bool
@@ -56,10 +55,18 @@ pub fn can_move(board: Board, number: u32) -> bool
 pub fn is_stuck(board: Board) -> bool
     ensures { result ≡ (length (steps (board_of 16 board.mine board.theirs)) == 0) }
 {
-    for number in 0..NUMBERS {
-        if can_move(board, number) {
+    let free = board.free();
+    let taken = board.taken();
+    let mut rest = board.mine;
+    let mut next = 0;
+    while rest != 0 {
+        let skipped = rest.trailing_zeros();
+        next += skipped;
+        if goals(free, taken, next) != 0 {
             return false;
         }
+        next += 1;
+        rest = rest >> skipped >> 1;
     }
     true
 }
@@ -88,6 +95,26 @@ pub fn end(board: Board) -> Option<End>
     }
 }
 
+// Adds the numbers of the moves of the mover's piece on a cell.
+fn push_moves(list: &mut ArrayVec<u32, MOVES>, board: Board, from: u32)
+    requires cell { from < 16 }
+    requires few { length (steps (board_of 16 board.mine board.theirs)) ≤ 128 }
+    requires own { has_cell board.mine from ≡ true }
+    requires before { AreMovesBelow (board_of 16 board.mine board.theirs) (16 * from) list.old.items }
+    ensures { AreMovesBelow (board_of 16 board.mine board.theirs) (16 * from + 16) list.new.items }
+{
+    let reached = goals(board.free(), board.taken(), from);
+    let mut rest = reached;
+    let mut next = 0;
+    while rest != 0 {
+        let skipped = rest.trailing_zeros();
+        next += skipped;
+        list.push(16 * from + next);
+        next += 1;
+        rest = rest >> skipped >> 1;
+    }
+}
+
 /// The numbers of the moves, ascending.
 pub fn moves(board: Board) -> ArrayVec<u32, MOVES>
     requires { legal (board_of 16 board.mine board.theirs) ≡ true }
@@ -97,10 +124,14 @@ pub fn moves(board: Board) -> ArrayVec<u32, MOVES>
     if is_over(board) {
         return list;
     }
-    for number in 0..NUMBERS {
-        if can_move(board, number) {
-            list.push(number);
-        }
+    let mut rest = board.mine;
+    let mut next = 0;
+    while rest != 0 {
+        let skipped = rest.trailing_zeros();
+        next += skipped;
+        push_moves(&mut list, board, next);
+        next += 1;
+        rest = rest >> skipped >> 1;
     }
     list
 }

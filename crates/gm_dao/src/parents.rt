@@ -2,13 +2,14 @@
 //!
 //! No slide is reversed. With the roles swapped each piece that may have moved is put on each empty cell, and of what
 //! comes of this the boards stay from which the game goes on by the move that leads back.
-ghost use Rattle.std.specs.Prelude.{◌≡◌, ◌<◌, true, map, [], MatchOption, None, Some};
+ghost use Rattle.std.specs.Prelude.{◌≡◌, ◌<◌, ◌≤◌, ◌+◌, ◌*◌, true, length, map, [], MatchOption, None, Some};
 ghost use Rattle.gm_game.specs.Ascending.{put_all};
 ghost use Rattle.gm_board.specs.Images.{board_of};
 ghost use Rattle.gm_dao.specs.DaoRules.{legal, was_moved as was_moved_of, taken_back as taken_back_of, goes_on as goes_on_of, before_at, befores, least_index_of};
+ghost use Rattle.gm_dao.specs.MaskSlides.{AreBeforesBelow};
 
 use crate::board::Board;
-use crate::moves::{NUMBERS, can_move, is_legal_board, is_over};
+use crate::moves::{can_move, is_legal_board, is_over};
 use crate::slides::are_in_line;
 use arrayvec::ArrayVec;
 use gm_game::limits::PARENTS;
@@ -44,7 +45,7 @@ pub fn goes_on(board: Board, number: u32) -> bool
     requires { number < 256 }
     ensures { result ≡ goes_on_of (board_of 16 board.mine board.theirs) number }
 {
-    is_legal_board(board) && !is_over(board) && can_move(board, number)
+    can_move(board, number) && is_legal_board(board) && !is_over(board)
 }
 
 // The board of the tier before that move, if there is one.
@@ -68,16 +69,36 @@ fn before(tier: u64, board: Board, number: u32) -> Option<Board>
     }
 }
 
+// Puts the least indexes of the boards before the moves that leave a cell.
+fn put_befores(list: &mut ArrayVec<u64, PARENTS>, tier: u64, board: Board, from: u32)
+    requires cell { from < 16 }
+    requires few { length (befores tier (board_of 16 board.mine board.theirs)) ≤ 128 }
+    requires before { AreBeforesBelow tier (board_of 16 board.mine board.theirs) (16 * from) list.old.items }
+    ensures { AreBeforesBelow tier (board_of 16 board.mine board.theirs) (16 * from + 16) list.new.items }
+{
+    let mut rest = board.theirs;
+    let mut next = 0;
+    while rest != 0 {
+        let skipped = rest.trailing_zeros();
+        next += skipped;
+        match before(tier, board, 16 * from + next) {
+            Some(earlier) => put(list, earlier.least_index()),
+            None => {}
+        }
+        next += 1;
+        rest = rest >> skipped >> 1;
+    }
+}
+
 /// The least indexes of the boards of the tier from which a move leads to this one, ascending and once each.
 pub fn parents(tier: u64, board: Board) -> ArrayVec<u64, PARENTS>
     requires { legal (board_of 16 board.mine board.theirs) ≡ true }
     ensures { result.items ≡ put_all [] (map least_index_of (befores tier (board_of 16 board.mine board.theirs))) }
 {
     let mut list = ArrayVec::new();
-    for number in 0..NUMBERS {
-        match before(tier, board, number) {
-            Some(earlier) => put(&mut list, earlier.least_index()),
-            None => {}
+    for from in 0..16 {
+        if board.is_free(from) {
+            put_befores(&mut list, tier, board, from);
         }
     }
     list

@@ -1,6 +1,6 @@
 //! The checker: how records from anywhere become a table.
 ghost use Rattle.std.specs.Prelude.{◌≡◌, ◌≢◌, ◌↔◌, ◌+◌, ◌≤◌, ℕ, true, length, IsTrue, IfOk, IsErrOf, IsOkUnless, MatchOption};
-ghost use Rattle.gm_game.specs.Rules.{IsCanonical};
+ghost use Rattle.gm_game.specs.Rules.{IsCanonical, IsInner};
 ghost use Rattle.gm_game.specs.Records.{IsTrueTable, settle, solved as solved_spec, lost_in, won_in, tied_in, lesser, greater, least_of, all_won};
 ghost use Rattle.gm_table.specs.Tables.{IsTable, AreHeld};
 ghost use Rattle.gm_table.specs.Checks.{FitTables, look_up, child_records, value_from, RecordFits, FitsAt, IsFirstWrong, number_of};
@@ -11,7 +11,7 @@ use gm_game::children::canonical_children;
 use gm_game::evaluate::of_end;
 use gm_game::game::Game;
 use gm_game::limits::{REMOTENESS, TIER_SIZE};
-use gm_game::position::{Position, Solved, Value};
+use gm_game::position::{Kind, Position, Solved, Value};
 use std::alloc::Global;
 use thiserror::Error;
 
@@ -105,24 +105,17 @@ fn fits<G: Game>(
 ) -> bool
     ensures { IsTrue result ↔ RecordFits G.rules tables.now tier records.now p known }
 {
-    match known {
-        None => !is_canonical::<G>(p),
-        Some(solved) => {
-            is_canonical::<G>(p)
-                && solved.remoteness <= REMOTENESS
-                && follows::<G>(tier, records, tables, p, solved)
+    match (G::kind(p), known) {
+        (Kind::Hole, None) => true,
+        (Kind::Hole, Some(_)) | (_, None) => false,
+        (Kind::Ended(end), Some(solved)) => solved == of_end(end),
+        (Kind::Inner, Some(solved)) => {
+            solved.remoteness <= REMOTENESS && follows::<G>(tier, records, tables, p, solved)
         }
     }
 }
 
-// Whether p is legal and canonical.
-fn is_canonical<G: Game>(p: Position) -> bool
-    ensures { IsTrue result ↔ IsCanonical G.rules p }
-{
-    G::is_legal(p) && G::canonical(p) == p
-}
-
-// Whether a value is the one that the rules give a position.
+// Whether a value is the one that the rules give a position in which the game goes on.
 fn follows<G: Game>(
     tier: u64,
     records: &[Option<Solved>],
@@ -130,13 +123,10 @@ fn follows<G: Game>(
     p: Position,
     solved: Solved,
 ) -> bool
-    requires { G.rules.is_legal p ≡ true }
+    requires { IsInner G.rules p }
     ensures { IsTrue result ↔ (solved ≡ value_from G.rules tables.now tier records.now p) }
 {
-    match G::primitive(p) {
-        Some(end) => solved == of_end(end),
-        None => gather::<G>(tier, records, tables, p).settles(solved),
-    }
+    gather::<G>(tier, records, tables, p).settles(solved)
 }
 
 // What the canonical children of a position say.

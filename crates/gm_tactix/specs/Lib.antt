@@ -1,4 +1,5 @@
 pub mod Segments
+pub mod SegmentMasks
 pub mod Board
 pub mod SegmentFacts
 pub mod CounterFacts

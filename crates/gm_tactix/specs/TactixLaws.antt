@@ -1,5 +1,5 @@
 -- Tac Tix has the laws of a game.
-use Rattle.std.proofs.Common.{◌≡◌, ◌≢◌, ℕ, zero, suc, ◌-◌, ◌*◌, ◌<◌, ◌≤◌, Bool, true, false, not, ◌&&◌, eqb, List, [], ◌∷◌, reverse, length, get_or, None, Some, refl, sym, ap, ap₂, ◌∙◌, subst, arith, inl, inr, eqb-true, eq-eqb, ltb, ltb-true, if◌then◌else◌}
+use Rattle.std.proofs.Common.{◌≡◌, ◌≢◌, ℕ, zero, suc, ◌-◌, ◌*◌, ◌<◌, ◌≤◌, Bool, true, false, not, ◌&&◌, eqb, List, reverse, length, get_or, None, Some, refl, sym, ap, ap₂, ◌∙◌, subst, arith, inl, inr, eqb-true, eq-eqb, ltb, ltb-true, if◌then◌else◌}
 use Rattle.std.specs.List.{Contains, range_with_len}
 use Rattle.std.proofs.lemmas.Bool.{cases_Bool, ne_eqb}
 use Rattle.std.proofs.lemmas.Bool.Decides.{nat_tests}
@@ -9,7 +9,9 @@ use Rattle.gm_game.specs.declared.position.Position.{Position}
 use Rattle.gm_game.specs.declared.position.End.TheVariants.{Lose, Win}
 use Rattle.gm_game.specs.Texts.{IsPaddedText}
 use Rattle.gm_game.specs.Laws.{IsGame}
-use Rattle.gm_game.specs.Boards.{rules_of, IsBefore, IsBoardGame, IsNumbered, IsSymmetric}
+use Rattle.gm_game.specs.Children.{AreCanonicalChildren, IsSetOf}
+use Rattle.gm_game.specs.Boards.{rules_of, next_images, IsBefore, IsBoardGame, IsNumbered, IsSymmetric}
+use Rattle.gm_game.proofs.ChildrenSteps.{board_children}
 use Rattle.gm_game.proofs.BoardParents.{symmetric_is_game}
 use Rattle.gm_board.specs.Lists.{and_both}
 use Rattle.gm_board.specs.Binomials.{binomial, binomial_small}
@@ -222,3 +224,8 @@ legal_below s misere p low high =
           and_both _ _ e (and_both _ _ (eq-eqb _ _ (board_length s low high p.tier p.index)) (eq-eqb _ _ (board_members s low high p.tier p.index l))) ∙ sym e)
       | inr e ↦ rw e refl
     ]
+
+-- the least images of the boards that follow are the canonical children
+pub children_images : (n : ℕ) (misere : Bool) (p : Position) → (tactix_rules n misere).is_legal p ≡ true → (cs : List Position)
+    → IsSetOf (next_images (tactix (side_of n) false) (counters_at (side_of n) p.tier p.index)) cs → AreCanonicalChildren (tactix_rules n misere) p cs
+children_images n misere = board_children (tactix (side_of n) misere) (board_game (side_of n) (side_low n) (side_high n) misere) (numbered (side_of n) (side_low n) (side_high n) misere)

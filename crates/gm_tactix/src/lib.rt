@@ -2,7 +2,9 @@
 #![tactic(auto)]
 
 pub mod ascending;
+pub mod children;
 pub mod counters;
+pub mod masks;
 pub mod moves;
 pub mod segment;
 pub mod side;

@@ -8,6 +8,7 @@ ghost use Rattle.gm_tactix.specs.CounterMasks.{counters_of};
 
 use crate::ascending::put;
 use crate::counters::least_index;
+use crate::masks::segment_mask;
 use crate::segment::Segment;
 use arrayvec::ArrayVec;
 use gm_game::limits::{MOVES, PARENTS};
@@ -18,13 +19,8 @@ pub fn can_take(side: u32, counters: u32, number: u32) -> bool
     requires high { side ≤ 5 }
     ensures { result ≡ can_take_of side (counters_of (side * side) counters) number }
 {
-    match Segment::numbered(side, number) {
-        Some(segment) => {
-            let cells = segment.mask();
-            counters & cells == cells
-        }
-        None => false,
-    }
+    let cells = segment_mask(side, number);
+    cells != 0 && counters & cells == cells
 }
 
 /// The numbers of the segments that can be taken, ascending.
@@ -66,17 +62,16 @@ fn before(side: u32, tier: u64, counters: u32, number: u32) -> Option<u32>
         (before_at side tier (counters_of (side * side) counters) number ≡ None)
         (λ more. (before_at side tier (counters_of (side * side) counters) number ≡ Some (counters_of (side * side) more)) × (more < 2 ^ (side * side))) }
 {
-    match Segment::numbered(side, number) {
-        Some(segment) => {
-            let cells = segment.mask();
-            let number_before = u64::from(counters.count_ones() + segment.length());
-            if counters & cells == 0 && number_before == tier {
-                Some(counters | cells)
-            } else {
-                None
-            }
-        }
-        None => None,
+    let cells = segment_mask(side, number);
+    if cells == 0 {
+        return None;
+    }
+    // The length stands in the number.
+    let number_before = u64::from(counters.count_ones() + number % 16 / 2);
+    if counters & cells == 0 && number_before == tier {
+        Some(counters | cells)
+    } else {
+        None
     }
 }
 

@@ -1,5 +1,9 @@
-use Rattle.gm_board.proofs.PackSteps.{IsPacked}
+use Rattle.std.proofs.Common.{◌-◌}
+use Rattle.gm_board.proofs.PackSteps.{IsPacking}
 use Rattle.gm_board.proofs.arrangement.pack.Given as goal
 
-abbrev pub invariant-loop-cell : goal.invariant-loop-cell
-invariant-loop-cell l = IsPacked l.mine l.theirs l.cell l.packed l.free
+abbrev pub invariant-loop-rest : goal.invariant-loop-rest
+invariant-loop-rest l = IsPacking l.cells l.mine l.theirs l.next l.free l.rest l.packed
+
+abbrev pub decreases-loop-rest : goal.decreases-loop-rest
+decreases-loop-rest l = l.cells - l.next

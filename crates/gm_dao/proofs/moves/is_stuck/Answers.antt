@@ -1,19 +1,39 @@
-use Rattle.std.proofs.Common.{◌≡◌, ℕ, List, [], length, sym, ap, ◌∙◌, arith, eq-eqb}
+use Rattle.std.proofs.Common.{◌≡◌, ℕ, List, [], length, sym, ap, arith, eq-eqb}
 use Rattle.gm_board.specs.Images.{board_of}
-use Rattle.gm_steps.specs.Listed.{filter_out}
-use Rattle.gm_dao.specs.DaoRules.{can_move, steps, numbers_end}
-use Rattle.gm_dao.proofs.MoveSteps.{step_listed, all_steps}
+use Rattle.gm_board.specs.NextCells.{next_cell, cell_below}
+use Rattle.gm_dao.specs.DaoRules.{steps}
+use Rattle.gm_dao.proofs.LoopSteps.{goals_are, moves_skip, moves_end, goal_found, goals_none}
 use Rattle.gm_dao.proofs.moves.is_stuck.Goals as goal
 
-pub returns-then-can_move : goal.returns-then-can_move
-returns-then-can_move c = sym (step_listed (board_of 16 c.args.board.mine c.args.board.theirs) c.loop-number.number (sym c.can_move.ensures ∙ c.if-can_move.true))
+pub goals-requires : goal.goals-requires
+goals-requires c =
+    let z = next_cell c.args.board.mine c.loop-rest.next c.loop-rest.rest c.loop-rest.invariant.is_rest (omega arith) (omega arith) in
+    cell_below c.args.board.mine 16 _ c.args.board.mine_within z.has
 
-pub loop-number-preserved : goal.loop-number-preserved
-loop-number-preserved c = filter_out (can_move (board_of 16 c.args.board.mine c.args.board.theirs)) c.loop-number.number (sym c.can_move.ensures ∙ c.if-can_move.false) ∙ c.loop-number.invariant
+pub returns-then-goals-ne0 : goal.returns-then-goals-ne0
+returns-then-goals-ne0 c =
+    let a = c.args.board.mine in
+    let z = next_cell a c.loop-rest.next c.loop-rest.rest c.loop-rest.invariant.is_rest (omega arith) (omega arith) in
+    let l = cell_below a 16 _ c.args.board.mine_within z.has in
+    let h = goals_are a c.args.board.theirs c.free-free.result c.taken-taken.result c.goals.result _ c.args.board.mine_within l z.has c.free-free.ensures c.taken-taken.ensures c.goals.ensures.cells in
+    sym (goal_found (board_of 16 a c.args.board.theirs) _ c.goals.result h c.goals.ensures.within (omega arith))
+
+pub loop-rest-preserved : goal.loop-rest-preserved
+loop-rest-preserved c =
+    let a = c.args.board.mine in
+    let z = next_cell a c.loop-rest.next c.loop-rest.rest c.loop-rest.invariant.is_rest (omega arith) (omega arith) in
+    let l = cell_below a 16 _ c.args.board.mine_within z.has in
+    let h = goals_are a c.args.board.theirs c.free-free.result c.taken-taken.result c.goals.result _ c.args.board.mine_within l z.has c.free-free.ensures c.taken-taken.ensures c.goals.ensures.cells in
+    record {
+      within = omega (arith, l);
+      is_rest = z.is_rest;
+      below = goals_none (board_of 16 a c.args.board.theirs) _ c.goals.result h c.if-goals-ne0.false
+          (moves_skip a c.args.board.theirs c.loop-rest.next _ [] c.args.board.mine_within z.none c.loop-rest.invariant.below);
+    }
 
 pub returns : goal.returns
 returns c =
-    let b = (board_of 16 c.args.board.mine c.args.board.theirs) in
-    let end : c.loop-number.number ≡ numbers_end = omega arith in
-    let none : steps b ≡ [] = sym (all_steps b c.loop-number.number end) ∙ c.loop-number.invariant in
-    sym (eq-eqb _ _ (ap (λ (xs : List ℕ). length xs) none))
+    let i = c.loop-rest.invariant in
+    let none : [] ≡ steps (board_of 16 c.args.board.mine c.args.board.theirs) =
+    moves_end c.args.board.mine c.args.board.theirs c.loop-rest.next c.loop-rest.rest [] c.args.board.mine_within i.within i.is_rest c.loop-rest-test.false i.below in
+    sym (eq-eqb _ _ (ap (λ (xs : List ℕ). length xs) (sym none)))

@@ -1,16 +1,19 @@
-use Rattle.std.proofs.Common.{◌*◌, ◌∙◌, sym, ap₂, ℕ}
-use Rattle.gm_board.specs.BoardMasks.{pattern_mask}
-use Rattle.gm_tactix.specs.Segments.{segment_cells, is_segment}
+use Rattle.std.proofs.Common.{◌*◌, ◌∙◌, not, eq-eqb, ap, sym}
 use Rattle.gm_tactix.specs.CounterMasks.{counters_of}
 use Rattle.gm_tactix.proofs.MaskMoves.{take_of, no_segment}
+use Rattle.gm_tactix.proofs.MaskTable.{mask_of_segment, none_by_mask, segment_by_mask}
 use Rattle.gm_tactix.proofs.moves.can_take.Goals as goal
 
-pub returns-in-Some : goal.returns-in-Some
-returns-in-Some c =
-    let same = c.in-Some.ensures in
-    take_of c.args.side c.args.counters c.args.number c.mask-cells.result c.requires.low c.requires.high
-    (sym (ap₂ is_segment same.0 same.1) ∙ c.in-Some.segment.on_square)
-    (c.mask-cells.ensures.value ∙ ap₂ (λ (s m : ℕ). pattern_mask (segment_cells s m)) same.0 same.1)
+pub returns-then-cells-ne0 : goal.returns-then-cells-ne0
+returns-then-cells-ne0 c =
+    let s = c.args.side in
+    let m = c.args.number in
+    let v = c.segment_mask-cells.ensures.value in
+    let e = segment_by_mask s m _ v c.if-cells-ne0.true in
+    take_of s c.args.counters m c.segment_mask-cells.result c.requires.low c.requires.high e (v ∙ mask_of_segment s m e)
 
-pub returns-in-None : goal.returns-in-None
-returns-in-None c = sym (no_segment c.args.side (counters_of (c.args.side * c.args.side) c.args.counters) c.args.number c.in-None.ensures)
+pub returns-else-cells-ne0 : goal.returns-else-cells-ne0
+returns-else-cells-ne0 c =
+    let s = c.args.side in
+    let m = c.args.number in
+    ap not (eq-eqb _ _ c.if-cells-ne0.false) ∙ sym (no_segment s (counters_of (s * s) c.args.counters) m (none_by_mask s m _ c.requires.low c.requires.high c.segment_mask-cells.ensures.value c.if-cells-ne0.false))

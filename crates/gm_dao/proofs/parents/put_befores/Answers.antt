@@ -1,0 +1,52 @@
+use Rattle.std.proofs.Common.{arith}
+use Rattle.gm_board.specs.Images.{board_of}
+use Rattle.gm_board.specs.NextCells.{next_cell, cell_below}
+use Rattle.gm_steps.specs.Listed.{put_room}
+use Rattle.gm_dao.specs.DaoRules.{numbers_end, before_at, befores, least_index_of}
+use Rattle.gm_dao.proofs.LoopSteps.{befores_skip, befores_end, before_less, before_more}
+use Rattle.gm_dao.proofs.parents.put_befores.Goals as goal
+use Rattle.gm_dao.proofs.parents.put_befores.Goals.{in-Some, in-None}
+
+pub before-requires : goal.before-requires
+before-requires c =
+    let b = c.args.board.theirs in
+    let z = next_cell b c.loop-rest.next c.loop-rest.rest c.loop-rest.invariant.is_rest (omega arith) (omega arith) in
+    let l = cell_below b 16 _ c.args.board.theirs_within z.has in
+    omega (arith, l, c.requires.cell)
+
+pub put-requires : goal.put-requires
+unfolding befores
+put-requires c =
+    let b = c.args.board.theirs in
+    let i = c.loop-rest.invariant in
+    let z = next_cell b c.loop-rest.next c.loop-rest.rest i.is_rest (omega arith) (omega arith) in
+    let l = cell_below b 16 _ c.args.board.theirs_within z.has in
+    let e = c.in-Some.earlier in
+    put_room (before_at c.args.tier (board_of 16 c.args.board.mine b)) least_index_of numbers_end _ (board_of 16 e.mine e.theirs) c.loop-rest.list.items
+    c.requires.few (omega (arith, l, c.requires.cell)) c.in-Some.ensures
+    (befores_skip c.args.tier c.args.board.mine b c.args.from c.loop-rest.next _ c.loop-rest.list.items c.args.board.theirs_within c.args.board.apart (omega (arith, l)) z.none i.below)
+
+pub loop-rest-preserved : goal.loop-rest-preserved
+loop-rest-preserved c =
+    let a = c.args.board.mine in
+    let b = c.args.board.theirs in
+    let t = c.args.tier in
+    let i = c.loop-rest.invariant in
+    let z = next_cell b c.loop-rest.next c.loop-rest.rest i.is_rest (omega arith) (omega arith) in
+    let l = cell_below b 16 _ c.args.board.theirs_within z.has in
+    let skipped = befores_skip t a b c.args.from c.loop-rest.next _ c.loop-rest.list.items c.args.board.theirs_within c.args.board.apart (omega (arith, l)) z.none i.below in
+    record {
+      within = omega (arith, l);
+      is_rest = z.is_rest;
+      below = elim c.match-before.branch [
+        | in-Some w ↦ before_more t (board_of 16 a b) (board_of 16 w.in-Some.earlier.mine w.in-Some.earlier.theirs) c.args.from _ w.least_index.result c.loop-rest.list.items c.match-before.list.items
+            w.in-Some.ensures w.least_index.ensures (rw w.list-is w.put.ensures) skipped
+        | in-None w ↦ rw w.list-is (before_less t (board_of 16 a b) c.args.from _ c.loop-rest.list.items w.in-None.ensures skipped)
+      ];
+    }
+
+pub returns : goal.returns
+returns c =
+    let i = c.loop-rest.invariant in
+    befores_end c.args.tier c.args.board.mine c.args.board.theirs c.args.from c.loop-rest.next c.loop-rest.rest c.loop-rest.list.items c.args.board.theirs_within c.args.board.apart
+    i.within i.is_rest c.loop-rest-test.false i.below

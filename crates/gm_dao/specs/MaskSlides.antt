@@ -1,0 +1,19 @@
+-- Slides over masks of the free and of the taken cells.
+use Rattle.std.specs.Prelude.{◌≡◌, ℕ, Bool, ◌&&◌, List, [], map}
+use Rattle.std.specs.List.{list_all, filter, filter_map, range_with_len}
+use Rattle.gm_game.specs.Ascending.{put_all}
+use Rattle.gm_board.specs.declared.cell.Cell.{Cell}
+use Rattle.gm_board.specs.Masks.{has_cell}
+use Rattle.gm_dao.specs.DaoRules.{in_line, path, beyond, can_move, before_at, least_index_of}
+
+-- whether a piece slides from a to c: all cells on the way are free, and the cell that follows is taken or off the board
+abbrev pub slides_by_masks : ℕ → ℕ → ℕ → ℕ → Bool
+slides_by_masks free taken a c = in_line a c && (list_all (has_cell free) (path a c) && list_all (has_cell taken) (beyond a c))
+
+-- the list has the moves with numbers below n
+abbrev pub AreMovesBelow : List Cell → ℕ → List ℕ → Type 0
+AreMovesBelow b n ms = ms ≡ filter (can_move b) (range_with_len 0 n)
+
+-- the list has the least indexes of the boards before the moves with numbers below n, ascending and once each
+abbrev pub AreBeforesBelow : ℕ → List Cell → ℕ → List ℕ → Type 0
+AreBeforesBelow t d n is = is ≡ put_all [] (map least_index_of (filter_map (before_at t d) (range_with_len 0 n)))
