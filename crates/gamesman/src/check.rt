@@ -18,6 +18,7 @@ use std::io::Write;
 use std::string::String;
 
 // A tier with what its file is found to be: none where a child tier isn't right, so that the file isn't read.
+#[derive(Drop)]
 struct Checked<'a, G: Game> {
     tier: u64,
     found: Option<&'a Inspected<G>>,
