@@ -52,6 +52,7 @@ impl<G: Game> fmt::Display for Found<G> {
 }
 
 // A tier with what its file is found to be.
+#[derive(Drop)]
 struct Checked<'a, G: Game> {
     tier: u64,
     found: &'a Found<G>,

@@ -47,6 +47,7 @@ fn solve_game<G: Shown + Send + Sync, R: Threads + Wait + Files + Sync + AllocGl
 }
 
 // What a build took.
+#[derive(Drop)]
 struct Took {
     solved: usize,
     reused: usize,

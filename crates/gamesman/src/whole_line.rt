@@ -17,6 +17,7 @@ pub fn write_line<W: Write, T: Display>(output: &mut W, words: &T) -> io::Result
 }
 
 /// A fault as it is told: after the program's name.
+#[derive(Drop)]
 pub struct Told<'a, T> {
     pub fault: &'a T,
 }
