@@ -3,6 +3,8 @@
 use crate::commands::gamesman;
 use crate::explore::PositionAsked;
 use crate::explorer::explore_of;
+use crate::pages::{Page, page_of};
+use crate::play::PlayAsked;
 use crate::tables::Kept;
 use clap::error::ErrorKind;
 use clap::{ArgMatches, Error};
@@ -38,14 +40,14 @@ pub enum Asked<'a> {
         folder: &'a str,
     },
     Play {
-        game: &'a str,
+        asked: PlayAsked<'a>,
         kept: Kept<'a>,
-        first: Side,
     },
+    Page(Page),
     Help(Help),
 }
 
-/// A text of help, or of the version.
+/// A text of the command line's own: help, the version, or what is wrong with a line.
 #[derive(Drop)]
 pub struct Help(Error);
 
@@ -115,10 +117,15 @@ fn play_of<'a>(inner: &ArgMatches<'a>) -> Option<Asked<'a>> {
     } else {
         Side::You
     };
-    Some(Asked::Play {
+    let asked = PlayAsked {
         game: inner.get_str("GAME")?,
-        kept: kept_of(inner),
+        position: inner.get_str("from"),
         first,
+        drawn: inner.get_flag("show"),
+    };
+    Some(Asked::Play {
+        asked,
+        kept: kept_of(inner),
     })
 }
 
@@ -130,6 +137,8 @@ fn asked_of<'a>(matches: &ArgMatches<'a>) -> Option<Asked<'a>> {
         Some(("analyse", inner)) => analyse_of(inner),
         Some(("check", inner)) => check_of(inner),
         Some(("play", inner)) => play_of(inner),
+        Some(("completions", inner)) => Some(Asked::Page(page_of(inner)?)),
+        Some(("man", _)) => Some(Asked::Page(Page::Man)),
         Some((name, inner)) => Some(Asked::Explore {
             asked: explore_of(name, inner)?,
             kept: kept_of(inner),
@@ -140,6 +149,14 @@ fn asked_of<'a>(matches: &ArgMatches<'a>) -> Option<Asked<'a>> {
 
 fn matched<'a>(alloc: Global, words: &'a [&'a str]) -> Result<ArgMatches<'a>, Error> {
     gamesman(alloc)?.try_get_matches_from(words)
+}
+
+/// What the command line says of a bad line: none where it is not the one that refuses it.
+pub fn what_is_wrong(alloc: Global, words: &[&str]) -> Option<Help> {
+    match matched(alloc, words) {
+        Ok(_) => None,
+        Err(error) => Some(Help(error)),
+    }
 }
 
 /// Reads a line of words, of which the first is the program's name.

@@ -1,6 +1,7 @@
 //! The commands of the program, by clap, with what `--help` says of them.
 
-use crate::explorer::{line, moves};
+use crate::explorer::{line, moves, show};
+use crate::pages::{completions, man};
 use clap::{Arg, ArgAction, Command, value_parser};
 use std::alloc::{AllocError, Global};
 
@@ -20,6 +21,7 @@ pub(crate) fn word<'a>(alloc: Global, name: &'a str, help: &'a str) -> Arg<'a> {
 fn number<'a>(alloc: Global, name: &'a str, default: &'a str, most: i64, help: &'a str) -> Arg<'a> {
     Arg::new(alloc, name)
         .long(name)
+        .value_name("N")
         .value_parser(value_parser!(u32).range(1..=most))
         .default_value(default)
         .help(help)
@@ -27,9 +29,10 @@ fn number<'a>(alloc: Global, name: &'a str, default: &'a str, most: i64, help: &
 
 /// Where the tables are kept, if not in memory.
 pub(crate) fn folder<'a>(alloc: Global) -> Arg<'a> {
-    Arg::new(alloc, "folder").long("folder").help(
-        "A folder for the tables, which are then kept and used again",
-    )
+    Arg::new(alloc, "folder")
+        .long("folder")
+        .value_name("FOLDER")
+        .help("A folder for the tables, which are then kept and used again")
 }
 
 fn solve<'a>(alloc: Global) -> Result<Command<'a>, AllocError> {
@@ -58,6 +61,9 @@ fn solve<'a>(alloc: Global) -> Result<Command<'a>, AllocError> {
         .about(
             "Solves a game into a folder, which has to be there; tables that are there and true are kept",
         )
+        .after_help(
+            "Examples:\n  gamesman solve countdown tables\n  gamesman solve dao tables --workers 8",
+        )
         .arg(word(alloc, "GAME", GAME))?
         .arg(word(alloc, "FOLDER", "The folder for the tables"))?
         .arg(workers)?
@@ -76,6 +82,9 @@ pub(crate) fn read_only<'a>(alloc: Global) -> Arg<'a> {
 fn query<'a>(alloc: Global) -> Result<Command<'a>, AllocError> {
     Command::new(alloc, "query")
         .about("Answers the value of a position and the number of moves to the end")
+        .after_help(
+            "Examples:\n  gamesman query countdown 10\n  gamesman query hare 'dd.d......h d' --folder tables",
+        )
         .arg(word(alloc, "GAME", GAME))?
         .arg(word(
             alloc,
@@ -92,6 +101,9 @@ fn analyse<'a>(alloc: Global) -> Result<Command<'a>, AllocError> {
         .about(
             "Counts the positions of a game by value and remoteness, one line of JSON for each tier",
         )
+        .after_help(
+            "Examples:\n  gamesman analyse countdown\n  gamesman analyse dao --folder tables",
+        )
         .arg(word(alloc, "GAME", GAME))?
         .arg(folder(alloc))?
         .arg(read_only(alloc))
@@ -100,6 +112,7 @@ fn analyse<'a>(alloc: Global) -> Result<Command<'a>, AllocError> {
 fn check<'a>(alloc: Global) -> Result<Command<'a>, AllocError> {
     Command::new(alloc, "check")
         .about("Checks the tables of a game in a folder, tier by tier")
+        .after_help("Examples:\n  gamesman check countdown tables\n  gamesman check dao tables")
         .arg(word(alloc, "GAME", GAME))?
         .arg(word(alloc, "FOLDER", "The folder of the tables"))
 }
@@ -109,14 +122,29 @@ fn play<'a>(alloc: Global) -> Result<Command<'a>, AllocError> {
         .long("second")
         .action(ArgAction::SetTrue)
         .help("Lets the computer move first");
+    let from = Arg::new(alloc, "from")
+        .long("from")
+        .value_name("POSITION")
+        .help(
+            "Begins at this position; you are the side to move, or with `--second` the other one",
+        );
+    let show = Arg::new(alloc, "show")
+        .long("show")
+        .action(ArgAction::SetTrue)
+        .help("Draws the board before each question, with you as `x` where a game has `x` and `o`");
     Command::new(alloc, "play")
         .about(
             "Plays a game with you from its start: type a move, as `1` in countdown or `a1` in tictactoe, or `quit`",
         )
+        .after_help(
+            "Examples:\n  gamesman play tictactoe --show\n  gamesman play countdown --from 7 --second",
+        )
         .arg(word(alloc, "GAME", GAME))?
         .arg(folder(alloc))?
         .arg(read_only(alloc))?
-        .arg(second)
+        .arg(second)?
+        .arg(from)?
+        .arg(show)
 }
 
 /// The program's command line.
@@ -125,12 +153,19 @@ pub fn gamesman<'a>(alloc: Global) -> Result<Command<'a>, AllocError> {
         .about("Solves two-player games")
         .version(VERSION)
         .subcommand_required(true)
-        .subcommand(Command::new(alloc, "list").about("Lists the games"))?
+        .subcommand(
+            Command::new(alloc, "list")
+                .about("Lists the games")
+                .after_help("Examples:\n  gamesman list\n  gamesman list | grep tactix"),
+        )?
         .subcommand(solve(alloc)?)?
         .subcommand(query(alloc)?)?
         .subcommand(moves(alloc)?)?
         .subcommand(line(alloc)?)?
+        .subcommand(show(alloc)?)?
         .subcommand(analyse(alloc)?)?
         .subcommand(check(alloc)?)?
-        .subcommand(play(alloc)?)
+        .subcommand(play(alloc)?)?
+        .subcommand(completions(alloc)?)?
+        .subcommand(man(alloc))
 }

@@ -4,6 +4,8 @@ use crate::fault::Fault;
 use crate::games::with_game;
 use crate::run::DONE;
 use crate::tables::Place;
+use gm_draw::drawn::Drawn;
+use gm_draw::show::show_text;
 use gm_game::game::laws;
 use gm_game::shown::{Line, Shown};
 use gm_play::play_error::PlayError;
@@ -22,6 +24,8 @@ pub enum Question {
     Moves { distinct: bool },
     /// Best play of both sides, of at most so many moves.
     Line { limit: usize },
+    /// The board and the value; where it is to be explained, also how cells, positions and moves are written.
+    Show { explained: bool },
 }
 
 /// A question about a position of a game, or about its start.
@@ -42,7 +46,7 @@ pub fn explore<R: Threads + Wait + Files + Sync + AllocGlobal, O: Write>(
     with_game!(asked.game, explore_game::<R, O>(rt, asked, place, output))
 }
 
-fn explore_game<G: Shown + Send + Sync, R: Threads + Wait + Files + Sync + AllocGlobal, O: Write>(
+fn explore_game<G: Drawn + Send + Sync, R: Threads + Wait + Files + Sync + AllocGlobal, O: Write>(
     rt: &R,
     asked: PositionAsked<'_>,
     place: Place<'_>,
@@ -79,7 +83,7 @@ fn position_text<G: Shown>(position: Option<&str>) -> Result<Line, Fault> {
     }
 }
 
-fn text_for<G: Shown>(
+fn text_for<G: Drawn>(
     alloc: Global,
     tables: &Tables<G>,
     position: &[u8],
@@ -88,11 +92,12 @@ fn text_for<G: Shown>(
     match question {
         Question::Moves { distinct } => moves_text(alloc, tables, position, distinct),
         Question::Line { limit } => line_text(alloc, tables, position, limit),
+        Question::Show { explained } => show_text(alloc, tables, position, explained),
     }
 }
 
-// Writes a text, of which nobody may read the rest.
-fn put<O: Write>(output: &mut O, text: &[u8]) -> Result<(), Fault> {
+/// Writes a text by one call. Nobody may read the rest of it.
+pub fn put<O: Write>(output: &mut O, text: &[u8]) -> Result<(), Fault> {
     match output.write_all(text) {
         Ok(()) => Ok(()),
         Err(error) if error.kind() == ErrorKind::BrokenPipe => Err(Fault::OutputClosed),

@@ -20,6 +20,9 @@ pub fn moves<'a>(alloc: Global) -> Result<Command<'a>, AllocError> {
         );
     Command::new(alloc, "moves")
         .about("Lists the moves of a position, the best first: what each is worth, and its result")
+        .after_help(
+            "Examples:\n  gamesman moves tictactoe xo.......\n  gamesman moves dao --distinct --folder tables",
+        )
         .arg(word(alloc, "GAME", GAME))?
         .arg(position(alloc))?
         .arg(distinct)?
@@ -31,13 +34,28 @@ pub fn moves<'a>(alloc: Global) -> Result<Command<'a>, AllocError> {
 pub fn line<'a>(alloc: Global) -> Result<Command<'a>, AllocError> {
     let limit = Arg::new(alloc, "limit")
         .long("limit")
+        .value_name("N")
         .value_parser(value_parser!(u32).range(1..=4_294_967_295))
         .help("The most moves that are made, from 1 on");
     Command::new(alloc, "line")
         .about("Plays the best moves of both sides from a position to the end")
+        .after_help("Examples:\n  gamesman line tactix-3\n  gamesman line wheel 3 --limit 4")
         .arg(word(alloc, "GAME", GAME))?
         .arg(position(alloc))?
         .arg(limit)?
+        .arg(folder(alloc))?
+        .arg(read_only(alloc))
+}
+
+/// The command `show`.
+pub fn show<'a>(alloc: Global) -> Result<Command<'a>, AllocError> {
+    Command::new(alloc, "show")
+        .about(
+            "Draws the board of a position, with who is to move and the value; of the start also how cells, positions and moves are written",
+        )
+        .after_help("Examples:\n  gamesman show tictactoe\n  gamesman show dao x..o.xo..ox.o..x")
+        .arg(word(alloc, "GAME", GAME))?
+        .arg(position(alloc))?
         .arg(folder(alloc))?
         .arg(read_only(alloc))
 }
@@ -57,6 +75,9 @@ pub fn explore_of<'a>(name: &str, inner: &ArgMatches<'a>) -> Option<PositionAske
         },
         "line" => Question::Line {
             limit: limit_of(inner),
+        },
+        "show" => Question::Show {
+            explained: inner.get_str("POSITION").is_none(),
         },
         _ => return None,
     };

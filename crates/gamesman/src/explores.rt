@@ -112,7 +112,7 @@ fn questions_that_are_refused(rt: HostRuntime) -> Result<(), Fail> {
 
 #[test]
 fn an_output_that_is_closed(rt: HostRuntime) -> Result<(), Fail> {
-    for command in ["moves", "line"] {
+    for command in ["moves", "line", "show"] {
         let words = ["gamesman", command, "countdown"];
         let mut input: &[u8] = b"";
         let mut errors = Vec::new(rt.alloc());

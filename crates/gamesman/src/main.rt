@@ -17,6 +17,7 @@ mod games;
 mod guarded;
 #[cfg(test)]
 mod lines;
+mod pages;
 mod play;
 #[cfg(test)]
 mod plays;
@@ -24,16 +25,18 @@ mod query;
 mod run;
 #[cfg(test)]
 mod said;
+#[cfg(test)]
+mod shows;
 mod solve;
 mod tables;
 mod whole_line;
 
 use crate::fault::Fault;
-use crate::run::{bad_line, refused, run_words};
+use crate::run::{BAD_LINE, bad_line, explain, refused, run_words};
 use std::alloc::AllocError;
 use std::env::{self, Args};
 use std::fs::Files;
-use std::io::{ErrorKind, Read, Write};
+use std::io::{ErrorKind, IsTerminal, Read, Write};
 use std::process::ExitCode;
 use std::sync::Wait;
 use std::thread::Threads;
@@ -54,14 +57,13 @@ fn main(rt: HostRuntime) -> ExitCode {
     ExitCode::from(status)
 }
 
-// Runs the line of these words.
-fn run_args<R: Threads + Wait + Files + Sync + AllocGlobal, I: Read, O: Write, E: Write>(
-    rt: &R,
-    args: Args,
-    input: &mut I,
-    output: &mut O,
-    errors: &mut E,
-) -> Result<u8, AllocError> {
+// Runs the line of these words. At a terminal a bad line is also explained.
+fn run_args<
+    R: Threads + Wait + Files + Sync + AllocGlobal,
+    I: Read,
+    O: Write,
+    E: Write + IsTerminal,
+>(rt: &R, args: Args, input: &mut I, output: &mut O, errors: &mut E) -> Result<u8, AllocError> {
     let mut owned = Vec::new(rt.alloc());
     for arg in args {
         owned.push(arg)?;
@@ -70,5 +72,9 @@ fn run_args<R: Threads + Wait + Files + Sync + AllocGlobal, I: Read, O: Write, E
     for arg in &owned {
         words.push(arg.as_str())?;
     }
-    Ok(run_words(rt, words.as_slice(), input, output, errors))
+    let status = run_words(rt, words.as_slice(), input, output, errors);
+    if status == BAD_LINE && errors.is_terminal() {
+        explain(rt.alloc(), words.as_slice(), errors);
+    }
+    Ok(status)
 }

@@ -1,18 +1,19 @@
 //! A line of words, from the program's name to the status that it ends with.
 
 use crate::analyse::analyse;
-use crate::asked::{Asked, Unread, read_words};
+use crate::asked::{Asked, Unread, read_words, what_is_wrong};
 use crate::check::check;
 use crate::explore::explore;
 use crate::fault::Fault;
 use crate::games::NAMES;
+use crate::pages::write_page;
 use crate::play::play;
 use crate::query::query;
 use crate::solve::solve;
 use crate::tables::{Kept, Place};
 use crate::whole_line::{Told, write_line};
 use gm_solver::plan::Plan;
-use std::alloc::AllocError;
+use std::alloc::{AllocError, Global};
 use std::fs::Files;
 use std::io::{Read, Write};
 use std::sync::Wait;
@@ -57,7 +58,8 @@ fn answer<R: Threads + Wait + Files + Sync + AllocGlobal, I: Read, O: Write>(
         Asked::Explore { asked, kept } => explore(rt, asked, place(kept), output),
         Asked::Analyse { game, kept } => analyse(rt, game, place(kept), output),
         Asked::Check { game, folder } => check(rt, game, folder, output),
-        Asked::Play { game, kept, first } => play(rt, game, place(kept), first, input, output),
+        Asked::Play { asked, kept } => play(rt, asked, place(kept), input, output),
+        Asked::Page(page) => write_page(rt.alloc(), page, output),
         Asked::Help(text) => {
             write!(output, "{text}")?;
             Ok(DONE)
@@ -77,6 +79,13 @@ pub fn refused<E: Write>(fault: &Fault, errors: &mut E) -> u8 {
 pub fn bad_line<E: Write>(errors: &mut E) -> u8 {
     let _ = errors.write_all(b"gamesman: bad line\n");
     BAD_LINE
+}
+
+/// Says on standard error what is wrong with a bad line.
+pub fn explain<E: Write>(alloc: Global, words: &[&str], errors: &mut E) {
+    if let Some(text) = what_is_wrong(alloc, words) {
+        let _ = write!(errors, "{text}");
+    }
 }
 
 /// Runs a line of words, of which the first is the program's name, and answers the status to end with.

@@ -74,7 +74,8 @@ impl Drawn for Hare {
 
 /// The drawing of Mu Torere is its board with the points of the position in it.
 pub fn mutorere_is_drawn()
-    ensures { ⟦<MuTorere as Drawn>⟧.drawn ≡ (λ p. filled ring_board (ring_text p)) }
+    ensures mover { ⟦<MuTorere as Drawn>⟧.mover ≡ x_moves }
+    ensures drawn { ⟦<MuTorere as Drawn>⟧.drawn ≡ (λ p. filled ring_board (ring_text p)) }
 {}
 
 /// The drawing of Hare and Hounds is its board with the points of the position in it, and the side to move that of the position.

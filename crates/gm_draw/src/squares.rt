@@ -147,15 +147,18 @@ impl<const N: u32, const MISERE: bool> Drawn for TacTix<N, MISERE> {
 
 /// The drawings of the games of nine points are their boards with the cells of the position in them.
 pub fn nine_points_are_drawn<const LAST: u64>()
-    ensures { ⟦<NinePoints<LAST> as Drawn>⟧.drawn ≡ (λ p. filled (nine_points (variant_of LAST)) (nine_text p)) }
+    ensures mover { ⟦<NinePoints<LAST> as Drawn>⟧.mover ≡ x_moves }
+    ensures drawn { ⟦<NinePoints<LAST> as Drawn>⟧.drawn ≡ (λ p. filled (nine_points (variant_of LAST)) (nine_text p)) }
 {}
 
 /// The drawing of Dao is its board with the cells of the position in it.
 pub fn dao_is_drawn()
-    ensures { ⟦<Dao as Drawn>⟧.drawn ≡ (λ p. filled dao_board (dao_text p)) }
+    ensures mover { ⟦<Dao as Drawn>⟧.mover ≡ x_moves }
+    ensures drawn { ⟦<Dao as Drawn>⟧.drawn ≡ (λ p. filled dao_board (dao_text p)) }
 {}
 
 /// The drawing of Tac Tix is its board with the counters of the position in it.
 pub fn tactix_is_drawn<const N: u32, const MISERE: bool>()
-    ensures { ⟦<TacTix<N, MISERE> as Drawn>⟧.drawn ≡ (λ p. filled (tactix_board_of (side_of N)) (tactix_text N p)) }
+    ensures mover { ⟦<TacTix<N, MISERE> as Drawn>⟧.mover ≡ player_moves }
+    ensures drawn { ⟦<TacTix<N, MISERE> as Drawn>⟧.drawn ≡ (λ p. filled (tactix_board_of (side_of N)) (tactix_text N p)) }
 {}

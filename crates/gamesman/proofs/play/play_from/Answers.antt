@@ -1,0 +1,14 @@
+use Rattle.std.proofs.Common.{rules}
+use Rattle.gm_table.specs.Tables.{IsHeld}
+use Rattle.gamesman.proofs.Reached.{whole_held}
+use Rattle.gamesman.proofs.play.play_from.Goals as goal
+
+pub session_with-ended-requires-clause-held : goal.session_with-ended-requires-clause-held
+session_with-ended-requires-clause-held g c =
+    let own : IsHeld c.args.built.now.tables c.args.start.tier = search rules in
+    whole_held g.G.Game.rules c.args.built.now.tables c.args.built.now.order c.args.start.tier c.requires.order c.requires.held own
+
+pub session-ended-requires-clause-held : goal.session-ended-requires-clause-held
+session-ended-requires-clause-held g c =
+    let own : IsHeld c.args.built.now.tables c.args.start.tier = search rules in
+    whole_held g.G.Game.rules c.args.built.now.tables c.args.built.now.order c.args.start.tier c.requires.order c.requires.held own
