@@ -46,7 +46,7 @@ pub fn find_positions<G: Game>(
 }
 
 /// Whether each of these tiers, and each of its child tiers, has a table.
-pub(crate) fn are_held<G: Game>(tables: &Tables<G>, tiers: &[u64]) -> bool
+pub fn are_held<G: Game>(tables: &Tables<G>, tiers: &[u64]) -> bool
     ensures { IsTrue result ↔ AreTiersHeld G.rules tables.now tiers.now }
 {
     for tier in tiers {
@@ -213,7 +213,7 @@ fn is_sought<G: Game>(
 }
 
 /// The true value of a canonical position of a tier that is held; `None` for any other.
-pub(crate) fn record<G: Game>(tables: &Tables<G>, p: Position) -> Option<Solved>
+pub fn record<G: Game>(tables: &Tables<G>, p: Position) -> Option<Solved>
     requires { IsHeld tables.now p.tier }
     ensures { IsRecord G.rules REMOTENESS (IsTrueValue G.rules) p result }
 {

@@ -1,0 +1,18 @@
+use Rattle.std.proofs.Common.{◌≡◌, ◌+◌, ℕ, subst, arith}
+use Rattle.std.specs.Option.{is_some}
+use Rattle.gm_find.specs.Finding.{all_positions}
+use Rattle.gm_count.specs.Counting.{AreCountsBefore}
+use Rattle.gm_count.proofs.Listed.{all_counts, rank_listed}
+use Rattle.gm_count.proofs.counts.counts_of.Goals as goal
+
+pub loop-value-preserved : goal.loop-value-preserved
+loop-value-preserved g c =
+    let r = g.G.Game.rules in
+    subst (λ (n : ℕ). AreCountsBefore r (is_some c.args.reached) (all_positions r c.args.tiers.now) (n + 1) 0 c.add_counts.new.counts.items) (rank_listed c.loop-value.value-index _ c.loop-value-test.true) c.in_ok-add_counts.ensures
+
+pub returns : goal.returns
+returns g c =
+    let r = g.G.Game.rules in
+    let tiers = c.args.tiers.now in
+    let last : c.loop-value.value-index ≡ 4 = omega arith in
+    all_counts r (is_some c.args.reached) tiers c.loop-value.counts.items (subst (λ n. AreCountsBefore r (is_some c.args.reached) (all_positions r tiers) n 0 c.loop-value.counts.items) last c.loop-value.invariant)
