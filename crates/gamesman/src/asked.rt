@@ -5,6 +5,8 @@ use crate::explore::PositionAsked;
 use crate::explorer::explore_of;
 use crate::pages::{Page, page_of};
 use crate::play::PlayAsked;
+use crate::seek::Search;
+use crate::seeker::search_of;
 use crate::tables::Kept;
 use clap::error::ErrorKind;
 use clap::{ArgMatches, Error};
@@ -29,6 +31,11 @@ pub enum Asked<'a> {
     },
     Explore {
         asked: PositionAsked<'a>,
+        kept: Kept<'a>,
+    },
+    Search {
+        game: &'a str,
+        asked: Search,
         kept: Kept<'a>,
     },
     Analyse {
@@ -139,10 +146,17 @@ fn asked_of<'a>(matches: &ArgMatches<'a>) -> Option<Asked<'a>> {
         Some(("play", inner)) => play_of(inner),
         Some(("completions", inner)) => Some(Asked::Page(page_of(inner)?)),
         Some(("man", _)) => Some(Asked::Page(Page::Man)),
-        Some((name, inner)) => Some(Asked::Explore {
-            asked: explore_of(name, inner)?,
-            kept: kept_of(inner),
-        }),
+        Some((name, inner)) => match search_of(name, inner) {
+            Some(asked) => Some(Asked::Search {
+                game: inner.get_str("GAME")?,
+                asked,
+                kept: kept_of(inner),
+            }),
+            None => Some(Asked::Explore {
+                asked: explore_of(name, inner)?,
+                kept: kept_of(inner),
+            }),
+        },
         None => None,
     }
 }

@@ -2,6 +2,7 @@
 
 use crate::explorer::{line, moves, show};
 use crate::pages::{completions, man};
+use crate::seeker::{ask, counts, find};
 use clap::{Arg, ArgAction, Command, value_parser};
 use std::alloc::{AllocError, Global};
 
@@ -163,6 +164,9 @@ pub fn gamesman<'a>(alloc: Global) -> Result<Command<'a>, AllocError> {
         .subcommand(moves(alloc)?)?
         .subcommand(line(alloc)?)?
         .subcommand(show(alloc)?)?
+        .subcommand(find(alloc)?)?
+        .subcommand(counts(alloc)?)?
+        .subcommand(ask(alloc)?)?
         .subcommand(analyse(alloc)?)?
         .subcommand(check(alloc)?)?
         .subcommand(play(alloc)?)?

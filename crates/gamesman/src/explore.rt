@@ -8,6 +8,7 @@ use gm_draw::drawn::Drawn;
 use gm_draw::show::show_text;
 use gm_game::game::laws;
 use gm_game::shown::{Line, Shown};
+use gm_json::moves::moves_json;
 use gm_play::play_error::PlayError;
 use gm_play::texts::{line_text, moves_text};
 use gm_table::tables::Tables;
@@ -21,7 +22,7 @@ use std::thread::Threads;
 #[derive(Clone, Copy, Debug, PartialEq, Eq)]
 pub enum Question {
     /// What each move is worth; of those that lead to one canonical position the first alone, where they are to be distinct.
-    Moves { distinct: bool },
+    Moves { distinct: bool, json: bool },
     /// Best play of both sides, of at most so many moves.
     Line { limit: usize },
     /// The board and the value; where it is to be explained, also how cells, positions and moves are written.
@@ -90,9 +91,27 @@ fn text_for<G: Drawn>(
     question: Question,
 ) -> Result<Vec<u8>, PlayError> {
     match question {
-        Question::Moves { distinct } => moves_text(alloc, tables, position, distinct),
+        Question::Moves {
+            distinct,
+            json: true,
+        } => moves_line(alloc, tables, position, distinct),
+        Question::Moves { distinct, .. } => moves_text(alloc, tables, position, distinct),
         Question::Line { limit } => line_text(alloc, tables, position, limit),
         Question::Show { explained } => show_text(alloc, tables, position, explained),
+    }
+}
+
+// The moves as a line of JSON.
+fn moves_line<G: Shown>(
+    alloc: Global,
+    tables: &Tables<G>,
+    position: &[u8],
+    distinct: bool,
+) -> Result<Vec<u8>, PlayError> {
+    let mut line = moves_json(alloc, tables, position, distinct)?;
+    match line.push('\n') {
+        Ok(()) => Ok(line.into_bytes()),
+        Err(_) => Err(PlayError::OutOfMemory),
     }
 }
 

@@ -10,6 +10,14 @@ fn position<'a>(alloc: Global) -> Arg<'a> {
     Arg::new(alloc, "POSITION").help("The position; the start where it is left out")
 }
 
+// Whether the answer is JSON.
+fn json<'a>(alloc: Global) -> Arg<'a> {
+    Arg::new(alloc, "json")
+        .long("json")
+        .action(ArgAction::SetTrue)
+        .help("Answers with a line of JSON")
+}
+
 /// The command `moves`.
 pub fn moves<'a>(alloc: Global) -> Result<Command<'a>, AllocError> {
     let distinct = Arg::new(alloc, "distinct")
@@ -26,6 +34,7 @@ pub fn moves<'a>(alloc: Global) -> Result<Command<'a>, AllocError> {
         .arg(word(alloc, "GAME", GAME))?
         .arg(position(alloc))?
         .arg(distinct)?
+        .arg(json(alloc))?
         .arg(folder(alloc))?
         .arg(read_only(alloc))
 }
@@ -72,6 +81,7 @@ pub fn explore_of<'a>(name: &str, inner: &ArgMatches<'a>) -> Option<PositionAske
     let question = match name {
         "moves" => Question::Moves {
             distinct: inner.get_flag("distinct"),
+            json: inner.get_flag("json"),
         },
         "line" => Question::Line {
             limit: limit_of(inner),

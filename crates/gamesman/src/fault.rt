@@ -1,6 +1,8 @@
 //! Why a line of words was refused.
 
 use gm_build::build_error::BuildError;
+use gm_find::find_error::FindError;
+use gm_json::ask_error::AskError;
 use gm_play::session_error::SessionError;
 use gm_tiers::tier_error::TierError;
 use std::alloc::AllocError;
@@ -14,6 +16,8 @@ pub enum Fault {
     NoSuchGame,
     #[error("no such position")]
     NoSuchPosition,
+    #[error("no such tier {tier}")]
+    NoSuchTier { tier: u64 },
     #[error("out of memory")]
     OutOfMemory(#[from(alloc)] AllocError),
     #[error("{0}")]
@@ -45,6 +49,28 @@ impl From<SessionError> for Fault {
             SessionError::ReadFailed => Fault::InputFailed,
             SessionError::WriteFailed => Fault::OutputFailed,
             SessionError::TooMuchInput => Fault::TooMuchInput,
+        }
+    }
+}
+
+// Each tier of a game of the program is held, and so are its child tiers.
+impl From<FindError> for Fault {
+    fn from(error: FindError) -> Fault {
+        match error {
+            FindError::OutOfMemory => Fault::OutOfMemory(AllocError),
+            FindError::NotHeld => Fault::NoSuchPosition,
+        }
+    }
+}
+
+impl From<AskError> for Fault {
+    fn from(error: AskError) -> Fault {
+        match error {
+            AskError::OutOfMemory => Fault::OutOfMemory(AllocError),
+            AskError::NotHeld => Fault::NoSuchPosition,
+            AskError::ReadFailed => Fault::InputFailed,
+            AskError::WriteFailed => Fault::OutputFailed,
+            AskError::OutputClosed => Fault::OutputClosed,
         }
     }
 }

@@ -25,6 +25,10 @@ mod query;
 mod run;
 #[cfg(test)]
 mod said;
+mod seek;
+mod seeker;
+#[cfg(test)]
+mod seeks;
 #[cfg(test)]
 mod shows;
 mod solve;

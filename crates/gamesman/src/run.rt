@@ -9,6 +9,7 @@ use crate::games::NAMES;
 use crate::pages::write_page;
 use crate::play::play;
 use crate::query::query;
+use crate::seek::search_tables;
 use crate::solve::solve;
 use crate::tables::{Kept, Place};
 use crate::whole_line::{Told, write_line};
@@ -56,6 +57,9 @@ fn answer<R: Threads + Wait + Files + Sync + AllocGlobal, I: Read, O: Write>(
             kept,
         } => query(rt, game, position, place(kept), output),
         Asked::Explore { asked, kept } => explore(rt, asked, place(kept), output),
+        Asked::Search { game, asked, kept } => {
+            search_tables(rt, game, asked, place(kept), input, output)
+        }
         Asked::Analyse { game, kept } => analyse(rt, game, place(kept), output),
         Asked::Check { game, folder } => check(rt, game, folder, output),
         Asked::Play { asked, kept } => play(rt, asked, place(kept), input, output),

@@ -1,0 +1,141 @@
+//! The command line of searches over all tables, and of the service that answers positions.
+
+use crate::commands::{GAME, folder, read_only, word};
+use crate::seek::{Hunt, Search};
+use clap::{Arg, ArgAction, ArgMatches, Command, value_parser};
+use gm_find::sought::Sought;
+use gm_game::position::Value;
+use std::alloc::{AllocError, Global};
+
+// A word that switches something on.
+fn flag<'a>(alloc: Global, name: &'a str, help: &'a str) -> Arg<'a> {
+    Arg::new(alloc, name)
+        .long(name)
+        .action(ArgAction::SetTrue)
+        .help(help)
+}
+
+fn value<'a>(alloc: Global) -> Arg<'a> {
+    Arg::new(alloc, "value")
+        .long("value")
+        .required(true)
+        .help("The value: win, tie, draw or lose")
+}
+
+/// The command `find`.
+pub fn find<'a>(alloc: Global) -> Result<Command<'a>, AllocError> {
+    let remoteness = Arg::new(alloc, "remoteness")
+        .long("remoteness")
+        .value_parser(value_parser!(u32).range(0..=4_294_967_295))
+        .help("The number of moves to the end: none with draw");
+    let tier = Arg::new(alloc, "tier")
+        .long("tier")
+        .value_parser(value_parser!(u64))
+        .help("Of this tier alone");
+    let limit = Arg::new(alloc, "limit")
+        .long("limit")
+        .value_parser(value_parser!(u32).range(1..=4_294_967_295))
+        .help("The most positions that are listed, from 1 on");
+    Command::new(alloc, "find")
+        .about(
+            "Lists the positions of a value, of those that are the same but for symmetry one: its value, its best move and the number of its moves",
+        )
+        .arg(word(alloc, "GAME", GAME))?
+        .arg(value(alloc))?
+        .arg(remoteness)?
+        .arg(tier)?
+        .arg(flag(
+            alloc,
+            "only-move",
+            "Those alone from which exactly one move keeps the win or the tie",
+        ))?
+        .arg(flag(
+            alloc,
+            "reached",
+            "Those alone that play from the start can reach",
+        ))?
+        .arg(limit)?
+        .arg(folder(alloc))?
+        .arg(read_only(alloc))
+}
+
+/// The command `counts`.
+pub fn counts<'a>(alloc: Global) -> Result<Command<'a>, AllocError> {
+    Command::new(alloc, "counts")
+        .about("Counts the positions of a game by value and remoteness, with bars")
+        .arg(word(alloc, "GAME", GAME))?
+        .arg(flag(
+            alloc,
+            "reached",
+            "Those alone that play from the start can reach",
+        ))?
+        .arg(folder(alloc))?
+        .arg(read_only(alloc))
+}
+
+/// The command `ask`.
+pub fn ask<'a>(alloc: Global) -> Result<Command<'a>, AllocError> {
+    Command::new(alloc, "ask")
+        .about(
+            "Reads positions, a line each, and answers each with a line of JSON: its value and what its moves are worth",
+        )
+        .arg(word(alloc, "GAME", GAME))?
+        .arg(folder(alloc))?
+        .arg(read_only(alloc))
+}
+
+fn value_of(word: &str) -> Option<Value> {
+    match word {
+        "win" => Some(Value::Win),
+        "tie" => Some(Value::Tie),
+        "draw" => Some(Value::Draw),
+        "lose" => Some(Value::Lose),
+        _ => None,
+    }
+}
+
+// What is sought: no remoteness with draw, and an only move with win and tie alone.
+fn sought_of(inner: &ArgMatches<'_>) -> Option<Sought> {
+    let value = value_of(inner.get_str("value")?)?;
+    let remoteness = inner.get_one::<u32>("remoteness");
+    let only_move = inner.get_flag("only-move");
+    let fits = match value {
+        Value::Draw => remoteness.is_none() && !only_move,
+        Value::Lose => !only_move,
+        Value::Tie | Value::Win => true,
+    };
+    if fits {
+        Some(Sought {
+            value,
+            remoteness,
+            only_move,
+        })
+    } else {
+        None
+    }
+}
+
+fn hunt_of(inner: &ArgMatches<'_>) -> Option<Hunt> {
+    let limit = match inner.get_one::<u32>("limit") {
+        Some(limit) => limit as usize,
+        None => usize::MAX,
+    };
+    Some(Hunt {
+        sought: sought_of(inner)?,
+        tier: inner.get_one::<u64>("tier"),
+        reached: inner.get_flag("reached"),
+        limit,
+    })
+}
+
+/// Reads a line with one of these commands.
+pub fn search_of(name: &str, inner: &ArgMatches<'_>) -> Option<Search> {
+    match name {
+        "find" => Some(Search::Find(hunt_of(inner)?)),
+        "counts" => Some(Search::Counts {
+            reached: inner.get_flag("reached"),
+        }),
+        "ask" => Some(Search::Ask),
+        _ => None,
+    }
+}
