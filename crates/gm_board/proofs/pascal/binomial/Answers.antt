@@ -4,7 +4,6 @@ use Rattle.gm_board.specs.declared.pascal.TheConstants.{ROWS}
 use Rattle.gm_board.proofs.PascalRows.{triangle_is}
 use Rattle.gm_board.proofs.pascal.binomial.Goals as goal
 
-
 pub returns-then-k-gt32-clause-value : goal.returns-then-k-gt32-clause-value
 returns-then-k-gt32-clause-value c = let far : c.args.n < c.args.k = omega arith in sym (binomial_past c.args.n c.args.k far)
 
