@@ -167,7 +167,9 @@ def program(room, options):
     figures = Figures("program")
     whole = [["list"], ["solve", "tactix-2", "@"], ["query", "wheel", "3"], ["moves", "wheel"], ["line", "wheel"], ["analyse", "tactix-2"]]
     whole += [["query", "wheel", "x"], ["query", "chess", "1"], ["query"], ["check", "tactix-2", "@"]]
-    done = [torn_lines(room, line) for line in [checked, *(Line(words) for words in whole)]]
+    whole += [["show", "wheel"], ["find", "wheel", "--value", "win"], ["counts", "wheel"], ["moves", "wheel", "--json"]]
+    said = [Line(["play", "countdown"], given=b"1\n2\n1\n"), Line(["play", "wheel", "--show"], given=b"1\nquit\n"), Line(["ask", "countdown"], given=b"3\nx\n")]
+    done = [torn_lines(room, line) for line in [checked, *said, *(Line(words) for words in whole)]]
     for each in done + room.in_lanes(lambda it: refuse_in_line(room, *it), work):
         figures.runs += each.runs
         figures.refused += each.refused
