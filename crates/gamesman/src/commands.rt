@@ -80,6 +80,14 @@ pub(crate) fn read_only<'a>(alloc: Global) -> Arg<'a> {
         .help("Reads the folder and writes nothing: each of its tables has to be there and right")
 }
 
+/// Whether the answer is JSON.
+pub(crate) fn json<'a>(alloc: Global) -> Arg<'a> {
+    Arg::new(alloc, "json")
+        .long("json")
+        .action(ArgAction::SetTrue)
+        .help("Answers with lines of JSON")
+}
+
 fn query<'a>(alloc: Global) -> Result<Command<'a>, AllocError> {
     Command::new(alloc, "query")
         .about("Answers the value of a position and the number of moves to the end")

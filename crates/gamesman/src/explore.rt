@@ -8,6 +8,7 @@ use gm_draw::drawn::Drawn;
 use gm_draw::show::show_text;
 use gm_game::game::laws;
 use gm_game::shown::{Line, Shown};
+use gm_json::line::line_json;
 use gm_json::moves::moves_json;
 use gm_play::play_error::PlayError;
 use gm_play::texts::{line_text, moves_text};
@@ -24,7 +25,7 @@ pub enum Question {
     /// What each move is worth; of those that lead to one canonical position the first alone, where they are to be distinct.
     Moves { distinct: bool, json: bool },
     /// Best play of both sides, of at most so many moves.
-    Line { limit: usize },
+    Line { limit: usize, json: bool },
     /// The board and the value; where it is to be explained, also how cells, positions and moves are written.
     Show { explained: bool },
 }
@@ -96,7 +97,8 @@ fn text_for<G: Drawn>(
             json: true,
         } => moves_line(alloc, tables, position, distinct),
         Question::Moves { distinct, .. } => moves_text(alloc, tables, position, distinct),
-        Question::Line { limit } => line_text(alloc, tables, position, limit),
+        Question::Line { limit, json: true } => line_json(alloc, tables, position, limit),
+        Question::Line { limit, .. } => line_text(alloc, tables, position, limit),
         Question::Show { explained } => show_text(alloc, tables, position, explained),
     }
 }

@@ -1,6 +1,6 @@
 //! The command line of questions about a position.
 
-use crate::commands::{GAME, folder, read_only, word};
+use crate::commands::{GAME, folder, json, read_only, word};
 use crate::explore::{PositionAsked, Question};
 use clap::{Arg, ArgAction, ArgMatches, Command, value_parser};
 use std::alloc::{AllocError, Global};
@@ -8,14 +8,6 @@ use std::alloc::{AllocError, Global};
 // A position, or the start.
 fn position<'a>(alloc: Global) -> Arg<'a> {
     Arg::new(alloc, "POSITION").help("The position; the start where it is left out")
-}
-
-// Whether the answer is JSON.
-fn json<'a>(alloc: Global) -> Arg<'a> {
-    Arg::new(alloc, "json")
-        .long("json")
-        .action(ArgAction::SetTrue)
-        .help("Answers with a line of JSON")
 }
 
 /// The command `moves`.
@@ -52,6 +44,7 @@ pub fn line<'a>(alloc: Global) -> Result<Command<'a>, AllocError> {
         .arg(word(alloc, "GAME", GAME))?
         .arg(position(alloc))?
         .arg(limit)?
+        .arg(json(alloc))?
         .arg(folder(alloc))?
         .arg(read_only(alloc))
 }
@@ -85,6 +78,7 @@ pub fn explore_of<'a>(name: &str, inner: &ArgMatches<'a>) -> Option<PositionAske
         },
         "line" => Question::Line {
             limit: limit_of(inner),
+            json: inner.get_flag("json"),
         },
         "show" => Question::Show {
             explained: inner.get_str("POSITION").is_none(),

@@ -1,6 +1,8 @@
 //! The program: it lists games, solves them, answers positions, counts, checks folders, and plays. Its lines are in docs/PROGRAM.md.
 #![tactic(auto)]
 
+#[cfg(test)]
+mod agreement;
 mod analyse;
 mod asked;
 mod check;
@@ -15,6 +17,8 @@ mod folders;
 mod games;
 #[cfg(test)]
 mod guarded;
+#[cfg(test)]
+mod jsons;
 #[cfg(test)]
 mod lines;
 mod pages;

@@ -12,6 +12,7 @@ use gm_find::rows::find_text;
 use gm_find::sought::Sought;
 use gm_game::shown::Shown;
 use gm_json::ask::ask;
+use gm_json::find::find_json;
 use gm_tiers::order::TierOrder;
 use std::alloc::Global;
 use std::fs::Files;
@@ -29,6 +30,8 @@ pub struct Hunt {
     pub reached: bool,
     /// At most so many.
     pub limit: usize,
+    /// Whether they are told as lines of JSON.
+    pub json: bool,
 }
 
 /// What is asked of all tables of a game.
@@ -86,7 +89,7 @@ fn test_tier<G: Shown>(alloc: Global, tier: Option<u64>) -> Result<(), Fault> {
     Ok(())
 }
 
-// The rows of the positions that are looked for.
+// The rows of the positions that are looked for, or their lines of JSON.
 fn found<G: Shown>(alloc: Global, built: &Built<G>, hunt: Hunt) -> Result<Vec<u8>, Fault> {
     let reached = reached_from_start(alloc, hunt.reached)?;
     let one = [hunt.tier.unwrap_or(0)];
@@ -94,14 +97,13 @@ fn found<G: Shown>(alloc: Global, built: &Built<G>, hunt: Hunt) -> Result<Vec<u8
         Some(_) => one.as_slice(),
         None => built.order.tiers(),
     };
-    Ok(find_text(
-        alloc,
-        &built.tables,
-        tiers,
-        hunt.sought,
-        reached.as_ref(),
-        hunt.limit,
-    )?)
+    let (tables, reached) = (&built.tables, reached.as_ref());
+    let (sought, limit) = (hunt.sought, hunt.limit);
+    if hunt.json {
+        Ok(find_json(alloc, tables, tiers, sought, reached, limit)?)
+    } else {
+        Ok(find_text(alloc, tables, tiers, sought, reached, limit)?)
+    }
 }
 
 // The rows of the counts over all tiers.

@@ -1,6 +1,6 @@
 //! The command line of searches over all tables, and of the service that answers positions.
 
-use crate::commands::{GAME, folder, read_only, word};
+use crate::commands::{GAME, folder, json, read_only, word};
 use crate::seek::{Hunt, Search};
 use clap::{Arg, ArgAction, ArgMatches, Command, value_parser};
 use gm_find::sought::Sought;
@@ -55,6 +55,7 @@ pub fn find<'a>(alloc: Global) -> Result<Command<'a>, AllocError> {
             "Those alone that play from the start can reach",
         ))?
         .arg(limit)?
+        .arg(json(alloc))?
         .arg(folder(alloc))?
         .arg(read_only(alloc))
 }
@@ -125,6 +126,7 @@ fn hunt_of(inner: &ArgMatches<'_>) -> Option<Hunt> {
         tier: inner.get_one::<u64>("tier"),
         reached: inner.get_flag("reached"),
         limit,
+        json: inner.get_flag("json"),
     })
 }
 

@@ -1,6 +1,7 @@
 //! Boards to look at, sessions from a position, and pages about the program: docs/PROGRAM.md.
 use crate::run::{BAD_LINE, DONE, REFUSED, run_words};
 use crate::said::{Said, says};
+use std::str::from_utf8;
 use std::test::Fail;
 
 #[test]
@@ -63,11 +64,6 @@ fn boards_and_sessions_that_are_refused(rt: HostRuntime) -> Result<(), Fail> {
     Ok(())
 }
 
-// Whether a text stands in another.
-fn contains(text: &[u8], part: &[u8]) -> bool {
-    text.windows(part.len()).any(|window| window == part)
-}
-
 #[test]
 fn pages_name_every_command(rt: HostRuntime) -> Result<(), Fail> {
     let names = [
@@ -99,8 +95,9 @@ fn pages_name_every_command(rt: HostRuntime) -> Result<(), Fail> {
         let mut input = b"".as_slice();
         let status = run_words(&rt, words, &mut input, &mut output, &mut errors);
         assert!(rt; status == DONE && errors.is_empty());
+        let page = from_utf8(output.as_slice())?;
         for name in names {
-            assert!(rt; contains(output.as_slice(), name.as_bytes()));
+            assert!(rt; page.contains(name));
         }
     }
     Ok(())

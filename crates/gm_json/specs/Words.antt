@@ -1,7 +1,9 @@
 -- Texts and values in JSON.
-use Rattle.std.specs.Prelude.{ℕ, List, codes}
+use Rattle.std.specs.Prelude.{ℕ, List, ◌++◌, codes, Option, None, Some}
 use Rattle.std.specs.Str.Lossy.{utf8_lossy}
-use Rattle.serde_json.specs.Data.{Data, number, unsigned, string}
+use Rattle.serde_json.specs.Data.{Data, null, number, unsigned, string}
+use Rattle.serde_json.specs.Written.{compact_text}
+use Rattle.gm_game.specs.declared.position.Position.{Position}
 use Rattle.gm_game.specs.declared.position.Value.{Value}
 use Rattle.gm_game.specs.declared.position.Value.TheVariants.{Lose, Draw, Tie, Win}
 
@@ -17,3 +19,12 @@ whole n = number (unsigned n)
 -- a text: bytes that are no UTF-8 are replaced
 abbrev pub text : List ℕ → Data
 text bs = string (utf8_lossy bs)
+
+-- a move of p, and null where there is none
+abbrev pub move_or_null : (Position → ℕ → List ℕ) → Position → Option ℕ → Data
+move_or_null move_shown p None = null
+move_or_null move_shown p (Some m) = text (move_shown p m)
+
+-- a tree as a line of compact text
+abbrev pub line_of : Data → List ℕ
+line_of d = compact_text d ++ codes "\n"

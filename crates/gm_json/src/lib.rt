@@ -5,5 +5,7 @@
 
 pub mod ask;
 pub mod ask_error;
+pub mod find;
+pub mod line;
 pub mod moves;
 mod words;

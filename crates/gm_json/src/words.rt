@@ -1,9 +1,10 @@
-//! Texts and values in JSON.
-ghost use Rattle.std.specs.Prelude.{◌≡◌, IfOk};
+//! Texts and values in JSON, and lines of it.
+ghost use Rattle.std.specs.Prelude.{◌≡◌, ◌++◌, false, IfOk, OnOk};
 ghost use Rattle.std.specs.Str.Lossy.{utf8_lossy};
 ghost use Rattle.serde_json.specs.Data.{string};
 ghost use Rattle.serde_json.specs.View.{view};
-ghost use Rattle.gm_json.specs.Words.{value_word};
+ghost use Rattle.serde_json.specs.Written.{has_float};
+ghost use Rattle.gm_json.specs.Words.{value_word, line_of};
 
 use gm_game::position::Value;
 use serde_json::Value as Json;
@@ -26,4 +27,14 @@ pub(crate) fn word_of(value: Value) -> &'static str
         Value::Tie => "tie",
         Value::Win => "win",
     }
+}
+
+/// Appends a tree as a line of compact JSON.
+pub(crate) fn push_line(alloc: Global, lines: &mut Vec<u8>, tree: &Json) -> Result<(), AllocError>
+    requires { has_float (view tree.now) ≡ false }
+    ensures { OnOk result (lines.new.items ≡ lines.old.items ++ line_of (view tree.now)) }
+{
+    let text = tree.to_string(alloc)?;
+    lines.extend_from_slice(text.as_bytes())?;
+    lines.extend_from_slice(b"\n")
 }

@@ -1,4 +1,3 @@
-use Rattle.std.proofs.Common.{◌≤◌, ◌+◌}
 use Rattle.gm_json.proofs.Serving.{GoesOn}
 use Rattle.gm_json.proofs.ask.ask.Given as goal
 

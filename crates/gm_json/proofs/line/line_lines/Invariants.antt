@@ -1,0 +1,14 @@
+use Rattle.std.proofs.Common.{◌≡◌, true, ◌++◌, drop}
+use Rattle.serde_json.specs.Data.{null}
+use Rattle.gm_play.specs.BestLines.{AreBest}
+use Rattle.gm_json.specs.Words.{line_of}
+use Rattle.gm_json.specs.Lines.{step_tree, steps_from}
+use Rattle.gm_json.proofs.line.line_lines.Given as goal
+
+abbrev pub invariant-loop-number : goal.invariant-loop-number
+invariant-loop-number g l = record {
+  legal : g.G.Game.rules.is_legal l.p ≡ true;
+  best : AreBest g.G.Game.rules l.p (drop l.number-index l.moves);
+  lines : l.lines.items ++ steps_from g.G.Game.rules g.G.Shown.shown g.G.Shown.move_shown l.p l.value (drop l.number-index l.moves)
+      ≡ line_of (step_tree g.G.Shown.shown null l.fn.start l.fn.value) ++ steps_from g.G.Game.rules g.G.Shown.shown g.G.Shown.move_shown l.fn.start l.fn.value l.moves;
+}

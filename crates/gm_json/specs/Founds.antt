@@ -1,0 +1,26 @@
+-- Found positions, as JSON trees.
+use Rattle.std.specs.Prelude.{◌≡◌, ℕ, Bool, List, codes}
+use Rattle.std.specs.List.{flat_map}
+use Rattle.serde_json.specs.Data.{Data, string, object, member, no_members}
+use Rattle.gm_game.specs.declared.position.Position.{Position}
+use Rattle.gm_game.specs.Rules.{Rules}
+use Rattle.gm_find.specs.declared.found.Found.{Found}
+use Rattle.gm_find.specs.declared.sought.Sought.{Sought}
+use Rattle.gm_find.specs.Founds.{AreFound}
+use Rattle.gm_json.specs.Words.{value_word, whole, text, move_or_null, line_of}
+
+-- a found position: its best move, the number of its moves, its text and its value; the members in alphabetical order
+abbrev pub found_tree : (Position → List ℕ) → (Position → ℕ → List ℕ) → Found → Data
+found_tree shown move_shown x =
+    object (member (codes "bestMove") (move_or_null move_shown x.position x.best)
+    (member (codes "moves") (whole x.moves)
+    (member (codes "position") (text (shown x.position))
+    (member (codes "remoteness") (whole x.value.remoteness)
+    (member (codes "value") (string (value_word x.value.value)) no_members)))))
+
+abbrev pub found_line : (Position → List ℕ) → (Position → ℕ → List ℕ) → Found → List ℕ
+found_line shown move_shown x = line_of (found_tree shown move_shown x)
+
+-- the lines of the first positions that are sought, at most so many
+abbrev pub IsFoundJson : Rules → (Position → List ℕ) → (Position → ℕ → List ℕ) → Sought → Bool → ℕ → List ℕ → List ℕ → Type 0
+IsFoundJson r shown move_shown q reached limit tiers out = (xs : List Found) × AreFound r q reached limit tiers xs × (out ≡ flat_map (found_line shown move_shown) xs)

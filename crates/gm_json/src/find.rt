@@ -1,0 +1,84 @@
+//! Found positions, in JSON.
+ghost use Rattle.std.specs.Prelude.{◌≡◌, ◌↔◌, true, IfOk, IsErrOf, is_some};
+ghost use Rattle.std.specs.List.{All, flat_map};
+ghost use Rattle.serde_json.specs.View.{view};
+ghost use Rattle.gm_play.specs.BestMoves.{IsBestMove};
+ghost use Rattle.gm_find.specs.Finding.{AreTiersHeld};
+ghost use Rattle.gm_find.specs.Founds.{IsFound};
+ghost use Rattle.gm_json.specs.Words.{move_or_null};
+ghost use Rattle.gm_json.specs.Founds.{found_tree, found_line, IsFoundJson};
+
+use crate::words::{push_line, text_value, word_of};
+use gm_find::find_error::FindError;
+use gm_find::found::{Found, find};
+use gm_find::reached::Reached;
+use gm_find::sought::Sought;
+use gm_game::position::Position;
+use gm_game::shown::Shown;
+use gm_table::tables::Tables;
+use serde_json::{Value as Json, json};
+use std::alloc::{AllocError, Global};
+
+/// The canonical positions that are sought as lines of compact JSON, each with its end: the best move (`null` where the game has ended), the number of the moves, the position, its
+/// remoteness and its value. The members stand in alphabetical order; the lines tier by tier in the order given and by ascending index: the first of them, at most so many. Where
+/// reached positions are given, those alone.
+///
+/// `NotHeld` is tested first, and comes exactly where one of the tiers, or one of its child tiers, has no table.
+pub fn find_json<G: Shown>(
+    alloc: Global,
+    tables: &Tables<G>,
+    tiers: &[u64],
+    sought: Sought,
+    reached: Option<&Reached<G>>,
+    limit: usize,
+) -> Result<Vec<u8>, FindError>
+    ensures text { IfOk result (λ v. IsFoundJson G.Game.rules G.shown G.move_shown sought (is_some reached.entry) limit tiers.now v.items) }
+    ensures not_held { IsErrOf result FindError.NotHeld ↔ (AreTiersHeld G.Game.rules tables.now tiers.now → ⊥) }
+{
+    let found = find(alloc, tables, tiers, sought, reached, limit)?;
+    match found_lines::<G>(alloc, found.as_slice()) {
+        Ok(lines) => Ok(lines),
+        Err(_) => Err(FindError::OutOfMemory),
+    }
+}
+
+// The lines of found positions.
+fn found_lines<G: Shown>(alloc: Global, found: &[Found]) -> Result<Vec<u8>, AllocError>
+    requires { All (IsFound G.Game.rules) found.now }
+    ensures { IfOk result (λ v. v.items ≡ flat_map (found_line G.shown G.move_shown) found.now) }
+{
+    let mut lines = Vec::new(alloc);
+    for x in found {
+        let tree = found_value::<G>(alloc, x)?;
+        push_line(alloc, &mut lines, &tree)?;
+    }
+    Ok(lines)
+}
+
+fn found_value<G: Shown>(alloc: Global, x: &Found) -> Result<Json, AllocError>
+    requires { IsFound G.Game.rules x.now }
+    ensures { IfOk result (λ v. view v ≡ found_tree G.shown G.move_shown x.now) }
+{
+    let x = *x;
+    let best = best_value::<G>(alloc, x.position, x.best)?;
+    let position = text_value(alloc, G::show(x.position).as_slice())?;
+    json!(in alloc; {
+        "bestMove": best,
+        "moves": x.moves as u64,
+        "position": position,
+        "remoteness": x.value.remoteness,
+        "value": word_of(x.value.value)
+    })
+}
+
+// A best move; null where the game has ended.
+fn best_value<G: Shown>(alloc: Global, p: Position, best: Option<u32>) -> Result<Json, AllocError>
+    requires legal { G.Game.rules.is_legal p ≡ true }
+    requires best { IsBestMove G.Game.rules p best }
+    ensures { IfOk result (λ v. view v ≡ move_or_null G.move_shown p best) }
+{
+    match best {
+        Some(m) => text_value(alloc, G::move_text(p, m).as_slice()),
+        None => Ok(Json::Null),
+    }
+}

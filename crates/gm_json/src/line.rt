@@ -1,0 +1,155 @@
+//! Lines of best play, in JSON.
+ghost use Rattle.std.specs.Prelude.{◌≡◌, ◌↔◌, ◌++◌, true, false, IfOk, OnOk, IfErr, IsErrOf};
+ghost use Rattle.serde_json.specs.Data.{null};
+ghost use Rattle.serde_json.specs.View.{view};
+ghost use Rattle.serde_json.specs.Written.{has_float};
+ghost use Rattle.gm_game.specs.declared.position.Position.{Position};
+ghost use Rattle.gm_game.specs.Values.{IsTrueValue};
+ghost use Rattle.gm_play.specs.BestLines.{AreBest, ComesToNotHeld};
+ghost use Rattle.gm_play.specs.PlayTexts.{after_best, IsNoPosition, IsReadAs};
+ghost use Rattle.gm_play.specs.Refusals.{IsNotHeld};
+ghost use Rattle.gm_json.specs.Words.{line_of};
+ghost use Rattle.gm_json.specs.Lines.{again_tree, end_line, step_tree, steps_from, IsLineJson};
+
+use crate::words::{push_line, text_value, word_of};
+use gm_game::game::Game;
+use gm_game::position::{Position, Solved, Value};
+use gm_game::shown::Shown;
+use gm_play::answer::answer;
+use gm_play::best_line::{LineEnd, best_line};
+use gm_play::play_error::PlayError;
+use gm_table::tables::Tables;
+use serde_json::{Value as Json, json};
+use std::alloc::{AllocError, Global};
+
+/// The line of best play from the position with this text as lines of compact JSON, each with its end: the move (`null` at first), the position, its remoteness and its value, the
+/// members in alphabetical order; and at the end of a draw `{"again":K}` with the number of the line, from 0, in which the last position stood before. Any bytes may be given. At most
+/// so many moves are made.
+pub fn line_json<G: Shown>(
+    alloc: Global,
+    tables: &Tables<G>,
+    text: &[u8],
+    limit: usize,
+) -> Result<Vec<u8>, PlayError>
+    ensures text { IfOk result (λ v. IsLineJson G.Game.rules G.shown G.move_shown text.now limit v.items) }
+    ensures illegal { IsErrOf result PlayError.Illegal ↔ IsNoPosition G.Game.rules G.shown G.move_shown text.now }
+    ensures not_held { IsErrOf result PlayError.NotHeld → ((p : Position) × IsReadAs G.Game.rules G.shown G.move_shown text.now p × ComesToNotHeld G.Game.rules tables.now p) }
+{
+    let start = match G::read(text) {
+        Some(p) => p,
+        None => return Err(PlayError::Illegal),
+    };
+    let line = best_line(alloc, tables, start, limit)?;
+    let value = known_value(tables, start)?;
+    match line_lines::<G>(alloc, start, value, line.moves.as_slice(), line.end) {
+        Ok(lines) => Ok(lines),
+        Err(_) => Err(PlayError::OutOfMemory),
+    }
+}
+
+// The value of a legal position.
+fn known_value<G: Game>(tables: &Tables<G>, p: Position) -> Result<Solved, PlayError>
+    requires { G.rules.is_legal p ≡ true }
+    ensures value { IfOk result (IsTrueValue G.rules p) }
+    ensures err { IfErr result (λ e. e ≡ PlayError.NotHeld) }
+    ensures not_held { IsErrOf result PlayError.NotHeld → IsNotHeld G.rules tables.now p }
+{
+    match answer(tables, p) {
+        Ok(value) => Ok(value),
+        Err(_) => Err(PlayError::NotHeld),
+    }
+}
+
+// The lines of best moves from a position of this value.
+fn line_lines<G: Shown>(
+    alloc: Global,
+    start: Position,
+    value: Solved,
+    moves: &[u32],
+    end: LineEnd,
+) -> Result<Vec<u8>, AllocError>
+    requires legal { G.Game.rules.is_legal start ≡ true }
+    requires value { IsTrueValue G.Game.rules start value }
+    requires best { AreBest G.Game.rules start moves.now }
+    ensures { IfOk result (λ v. v.items ≡ line_of (step_tree G.shown null start value) ++ steps_from G.Game.rules G.shown G.move_shown start value moves.now ++ end_line end) }
+{
+    let mut lines = Vec::new(alloc);
+    push_step::<G>(alloc, &mut lines, Json::Null, start, value)?;
+    let mut p = start;
+    let mut value = value;
+    for number in moves {
+        let name = text_value(alloc, G::move_text(p, *number).as_slice())?;
+        p = G::play(p, *number);
+        value = value_after(value);
+        push_step::<G>(alloc, &mut lines, name, p, value)?;
+    }
+    push_end(alloc, &mut lines, end)?;
+    Ok(lines)
+}
+
+// Appends a legal position with what leads to it.
+fn push_step<G: Shown>(
+    alloc: Global,
+    lines: &mut Vec<u8>,
+    name: Json,
+    p: Position,
+    value: Solved,
+) -> Result<(), AllocError>
+    requires legal { G.Game.rules.is_legal p ≡ true }
+    requires name { has_float (view name) ≡ false }
+    ensures { OnOk result (lines.new.items ≡ lines.old.items ++ line_of (step_tree G.shown (view name) p value)) }
+{
+    let tree = step_value::<G>(alloc, name, p, value)?;
+    push_line(alloc, lines, &tree)
+}
+
+fn step_value<G: Shown>(
+    alloc: Global,
+    name: Json,
+    p: Position,
+    value: Solved,
+) -> Result<Json, AllocError>
+    requires { G.Game.rules.is_legal p ≡ true }
+    ensures { IfOk result (λ v. view v ≡ step_tree G.shown (view name) p value) }
+{
+    let position = text_value(alloc, G::show(p).as_slice())?;
+    json!(in alloc; {
+        "move": name,
+        "position": position,
+        "remoteness": value.remoteness,
+        "value": word_of(value.value)
+    })
+}
+
+// The value after the best move.
+fn value_after(value: Solved) -> Solved
+    ensures { result ≡ after_best value }
+{
+    let result = match value.value {
+        Value::Lose => Value::Win,
+        Value::Draw => Value::Draw,
+        Value::Tie => Value::Tie,
+        Value::Win => Value::Lose,
+    };
+    Solved {
+        value: result,
+        remoteness: value.remoteness.saturating_sub(1),
+    }
+}
+
+// Appends where the last position of a line has come before.
+fn push_end(alloc: Global, lines: &mut Vec<u8>, end: LineEnd) -> Result<(), AllocError>
+    ensures { OnOk result (lines.new.items ≡ lines.old.items ++ end_line end) }
+{
+    if let LineEnd::Again { first } = end {
+        let tree = again_value(alloc, first)?;
+        push_line(alloc, lines, &tree)?;
+    }
+    Ok(())
+}
+
+fn again_value(alloc: Global, first: usize) -> Result<Json, AllocError>
+    ensures { IfOk result (λ v. view v ≡ again_tree first) }
+{
+    json!(in alloc; {"again": first as u64})
+}
