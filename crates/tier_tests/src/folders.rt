@@ -4,11 +4,29 @@ use gm_tierdb::folder_store::FolderStore;
 use gm_tierdb::store::Store;
 use gm_tierdb::store_error::StoreError;
 use std::alloc::{AllocError, Global};
-use std::fs;
+use std::fs::{self, Files};
 use std::test::Fail;
 
 fn store_in(alloc: Global, folder: &str) -> Result<FolderStore, AllocError> {
     Ok(FolderStore::new(alloc, String::from_str(alloc, folder)?))
+}
+
+// Gives a tier this text, in a store that can count one more failure.
+fn write_to<S: Store, R: Files>(
+    rt: &R,
+    store: &mut S,
+    tier: u64,
+    bytes: &[u8],
+) -> Result<(), StoreError> {
+    if store.failures() == u64::MAX {
+        return Err(StoreError::Failed);
+    }
+    store.write(rt, tier, bytes)
+}
+
+// Whether the text of a tier can't be read.
+fn is_unread<S: Store, R: Files>(rt: &R, alloc: Global, store: &mut S, tier: u64) -> bool {
+    store.failures() < u64::MAX && store.read(rt, alloc, tier) == Err(StoreError::Failed)
 }
 
 // Whether a file has this text.
@@ -21,9 +39,9 @@ fn each_tier_has_its_own_file(rt: HostRuntime) -> Result<(), Fail> {
     let folder = "folder_of_numbers";
     fs::create_dir(&rt, folder)?;
     let mut store = store_in(rt.alloc(), folder)?;
-    store.write(&rt, 2, b"two")?;
-    store.write(&rt, 12, b"twelve")?;
-    store.write(&rt, u64::MAX, b"the greatest")?;
+    write_to(&rt, &mut store, 2, b"two")?;
+    write_to(&rt, &mut store, 12, b"twelve")?;
+    write_to(&rt, &mut store, u64::MAX, b"the greatest")?;
     let two = fs::read(&rt, "folder_of_numbers/tier-2.gmt")?;
     assert!(rt; has(two.as_slice(), b"two"));
     let twelve = fs::read(&rt, "folder_of_numbers/tier-12.gmt")?;
@@ -41,8 +59,11 @@ fn what_is_no_plain_file_fails(rt: HostRuntime) -> Result<(), Fail> {
     fs::create_dir(&rt, "folder_with_a_folder/tier-3.gmt")?;
     let mut store = store_in(rt.alloc(), folder)?;
     // Neither read nor renamed over, and what was written beside it is gone.
-    assert_eq!(rt; store.read(&rt, rt.alloc(), 3), Err(StoreError::Failed));
-    assert_eq!(rt; store.write(&rt, 3, b"three"), Err(StoreError::Failed));
+    assert!(rt; is_unread(&rt, rt.alloc(), &mut store, 3));
+    assert_eq!(rt;
+        write_to(&rt, &mut store, 3, b"three"),
+        Err(StoreError::Failed)
+    );
     assert_eq!(rt; store.failures(), 2);
     assert!(rt; !fs::exists(&rt, "folder_with_a_folder/tier-3.tmp")?);
     fs::remove_dir_all(&rt, folder)?;
@@ -54,8 +75,11 @@ fn a_flaky_folder_is_reached(rt: HostRuntime) -> Result<(), Fail> {
     let folder = "folder_that_flakes";
     fs::create_dir(&rt, folder)?;
     let mut store = Flaky::new(store_in(rt.alloc(), folder)?, 2, 2);
-    store.write(&rt, 1, b"one")?;
-    assert_eq!(rt; store.write(&rt, 1, b"lost"), Err(StoreError::Failed));
+    write_to(&rt, &mut store, 1, b"one")?;
+    assert_eq!(rt;
+        write_to(&rt, &mut store, 1, b"lost"),
+        Err(StoreError::Failed)
+    );
     let one = fs::read(&rt, "folder_that_flakes/tier-1.gmt")?;
     assert!(rt; has(one.as_slice(), b"one"));
     assert_eq!(rt; store.failures(), 1);
