@@ -108,3 +108,10 @@ impl Shown for Takeaway {
         read_step(MOST, p.index, text)
     }
 }
+
+/// Takeaway's rules and texts are those that `specs/` states.
+pub fn takeaway_is()
+    ensures rules { ⟦<Takeaway as Game>⟧.rules ≡ takeaway }
+    ensures shown { ⟦<Takeaway as Shown>⟧.shown ≡ number_text }
+    ensures move_shown { ⟦<Takeaway as Shown>⟧.move_shown ≡ step_text }
+{}

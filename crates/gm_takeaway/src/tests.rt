@@ -1,5 +1,5 @@
 //! Values of Takeaway worked by hand: with 0, 4, 8 or 12 counters left, who is to move loses.
-use crate::takeaway::Takeaway;
+use crate::takeaway::{Takeaway, takeaway_is};
 use gm_game::evaluate::within;
 use gm_game::game::Game;
 use gm_game::position::{Position, Solved, Value};
@@ -40,6 +40,7 @@ fn every_fourth_number_loses(rt: HostRuntime) {
 
 #[test]
 fn texts_are_numbers(rt: HostRuntime) {
+    takeaway_is();
     let p = Takeaway::read(b"7");
     assert_eq!(rt; p, Some(Position { tier: 0, index: 7 }));
     assert_eq!(rt; Takeaway::read(b"13"), None);
