@@ -14,6 +14,7 @@ use gm_tiers::order::TierOrder;
 use std::alloc::{AllocError, Global};
 use std::fmt;
 use std::fs::Files;
+use std::thread::Threads;
 use std::io::Write;
 use std::string::String;
 
@@ -41,7 +42,7 @@ impl<G: Game> fmt::Display for Checked<'_, G> {
 }
 
 // What a tier's file is, with the tables of the tiers that are right.
-fn inspect<G: Game, R: Files>(
+fn inspect<G: Game + Send + Sync, R: Threads + Files + Sync>(
     rt: &R,
     alloc: Global,
     folder: &str,
@@ -56,7 +57,7 @@ fn inspect<G: Game, R: Files>(
 }
 
 /// Prints for each tier of the game of this name what its file in a folder is.
-pub fn check<R: Files + AllocGlobal, O: Write>(
+pub fn check<R: Threads + Files + Sync + AllocGlobal, O: Write>(
     rt: &R,
     name: &str,
     folder: &str,
@@ -65,7 +66,11 @@ pub fn check<R: Files + AllocGlobal, O: Write>(
     with_game!(name, check_game::<R, O>(rt, folder, output))
 }
 
-fn check_game<G: Game, R: Files + AllocGlobal, O: Write>(
+fn check_game<
+    G: Game + Send + Sync,
+    R: Threads + Files + Sync + AllocGlobal,
+    O: Write,
+>(
     rt: &R,
     folder: &str,
     output: &mut O,

@@ -12,7 +12,7 @@ use crate::inspect::{Inspected, inspect_text, read_entry};
 use gm_game::game::Game;
 use gm_game::limits::{REMOTENESS, TIER_SIZE};
 use gm_game::position::Solved;
-use gm_table::checker::{CheckError, check};
+use gm_table::checker::{CheckError, check_by};
 use gm_table::table::Table;
 use gm_table::tables::Tables;
 use gm_tierdb::decode::decode_v1;
@@ -20,6 +20,7 @@ use gm_tierdb::file_error::FileError;
 use gm_tierdb::store::Store;
 use std::alloc::{AllocError, Global};
 use std::fs::Files;
+use std::thread::Threads;
 
 /// What a tier's entry is.
 #[derive(Drop)]
@@ -33,7 +34,7 @@ pub(crate) enum Found<G: Game> {
 }
 
 /// Reads the entry of a tier once, and tells what it is. The child tiers are held.
-pub(crate) fn find<G: Game, R: Files, S: Store>(
+pub(crate) fn find<G: Game + Send + Sync, R: Threads + Files + Sync, S: Store>(
     rt: &R,
     alloc: Global,
     tier: u64,
@@ -53,14 +54,15 @@ pub(crate) fn find<G: Game, R: Files, S: Store>(
         Some(text) => text,
         None => return Ok(Found::Nothing),
     };
-    match text_kind(alloc, tier, text.as_slice(), tables) {
+    match text_kind(rt, alloc, tier, text.as_slice(), tables) {
         Ok(found) => Ok(found),
         Err(_refused) => Err(BuildError::OutOfMemory),
     }
 }
 
 // What a text is.
-fn text_kind<G: Game>(
+fn text_kind<G: Game + Send + Sync, R: Threads + Sync>(
+    rt: &R,
     alloc: Global,
     tier: u64,
     bytes: &[u8],
@@ -71,9 +73,9 @@ fn text_kind<G: Game>(
     ensures tier { IfOk result (IsOfTier tier) }
     ensures exact { IfOk result (IsFound G.rules tier bytes.now) }
 {
-    match inspect_text(alloc, tier, bytes, tables)? {
+    match inspect_text(rt, alloc, tier, bytes, tables)? {
         Inspected::Right(table) => Ok(Found::Current(table)),
-        Inspected::NoFile(FileError::OldVersion) => match old_table(alloc, tier, bytes, tables)? {
+        Inspected::NoFile(FileError::OldVersion) => match old_table(rt, alloc, tier, bytes, tables)? {
             Some(table) => Ok(Found::Old(table)),
             None => Ok(Found::Nothing),
         },
@@ -82,7 +84,8 @@ fn text_kind<G: Game>(
 }
 
 // The true table of a tier, where these bytes are its text in version 1.
-fn old_table<G: Game>(
+fn old_table<G: Game + Send + Sync, R: Threads + Sync>(
+    rt: &R,
     alloc: Global,
     tier: u64,
     bytes: &[u8],
@@ -94,14 +97,15 @@ fn old_table<G: Game>(
     ensures exact { IfOk result (λ o. MatchOption o (IsOldText G.rules tier bytes.now → ⊥) (λ _. IsOldText G.rules tier bytes.now)) }
 {
     match decode_v1::<G>(alloc, tier, bytes) {
-        Ok(records) => true_table(alloc, tier, records.as_slice(), tables),
+        Ok(records) => true_table(rt, alloc, tier, records.as_slice(), tables),
         Err(FileError::OutOfMemory) => Err(AllocError),
         Err(_) => Ok(None),
     }
 }
 
 // The table of these records, where they are the true ones of a tier.
-fn true_table<G: Game>(
+fn true_table<G: Game + Send + Sync, R: Threads + Sync>(
+    rt: &R,
     alloc: Global,
     tier: u64,
     records: &[Option<Solved>],
@@ -112,7 +116,7 @@ fn true_table<G: Game>(
     ensures tier { IfOk result (λ o. MatchOption o (Unit {0}) (λ table. table.tier ≡ tier)) }
     ensures exact { IfOk result (λ o. MatchOption o (IsTrueTable G.rules REMOTENESS tier records.now → ⊥) (λ _. IsTrueTable G.rules REMOTENESS tier records.now)) }
 {
-    match check(alloc, tier, records, tables) {
+    match check_by(rt, alloc, tier, records, tables) {
         Ok(table) => Ok(Some(table)),
         Err(CheckError::OutOfMemory) => Err(AllocError),
         Err(_) => Ok(None),

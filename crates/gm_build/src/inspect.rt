@@ -8,7 +8,7 @@ ghost use Rattle.gm_build.specs.Outcomes.{failures_in, IsTierError, IsReadError}
 use crate::build_error::BuildError;
 use gm_game::game::Game;
 use gm_game::limits::TIER_SIZE;
-use gm_table::checker::{CheckError, check};
+use gm_table::checker::{CheckError, check_by};
 use gm_table::table::Table;
 use gm_table::tables::Tables;
 use gm_tierdb::decode::decode;
@@ -17,6 +17,7 @@ use gm_tierdb::store::Store;
 use gm_tierdb::store_error::StoreError;
 use std::alloc::{AllocError, Global};
 use std::fs::Files;
+use std::thread::Threads;
 
 /// What a tier's entry is found to be.
 #[derive(Drop)]
@@ -34,7 +35,7 @@ pub enum Inspected<G: Game> {
 /// Reads the entry of a tier once, and tells what it is; nothing is written. The tables of the child tiers are given. Memory aside, the answer is determined by the entry.
 ///
 /// The bytes are decoded first, and then the records are checked in turn: `NoFile` and `NoTable` have the first reason that applies.
-pub fn inspect_tier<G: Game, R: Files, S: Store>(
+pub fn inspect_tier<G: Game + Send + Sync, R: Threads + Files + Sync, S: Store>(
     rt: &R,
     alloc: Global,
     tier: u64,
@@ -53,7 +54,7 @@ pub fn inspect_tier<G: Game, R: Files, S: Store>(
         Some(text) => text,
         None => return Ok(Inspected::Missing),
     };
-    match inspect_text(alloc, tier, text.as_slice(), tables) {
+    match inspect_text(rt, alloc, tier, text.as_slice(), tables) {
         Ok(found) => Ok(found),
         Err(_refused) => Err(BuildError::OutOfMemory),
     }
@@ -80,7 +81,8 @@ pub(crate) fn read_entry<R: Files, S: Store>(
 }
 
 /// What a text is.
-pub(crate) fn inspect_text<G: Game>(
+pub(crate) fn inspect_text<G: Game + Send + Sync, R: Threads + Sync>(
+    rt: &R,
     alloc: Global,
     tier: u64,
     bytes: &[u8],
@@ -95,7 +97,7 @@ pub(crate) fn inspect_text<G: Game>(
         Err(FileError::OutOfMemory) => return Err(AllocError),
         Err(why) => return Ok(Inspected::NoFile(why)),
     };
-    match check(alloc, tier, records.as_slice(), tables) {
+    match check_by(rt, alloc, tier, records.as_slice(), tables) {
         Ok(table) => Ok(Inspected::Right(table)),
         Err(CheckError::OutOfMemory) => Err(AllocError),
         Err(CheckError::WrongSize) => Ok(Inspected::NoTable(CheckError::WrongSize)),

@@ -14,7 +14,7 @@ use gm_game::position::{End, Phase, Solved, Value};
 pub enum Start {
     Hole,
     Ended(End),
-    Inner { children: u32 },
+    Inner { children: u8 },
 }
 
 /// What is known of an index.
@@ -122,7 +122,7 @@ pub(crate) fn first_left(start: Start) -> u8
     match start {
         Start::Hole => 0,
         Start::Ended(_) => 0,
-        Start::Inner { children } => children as u8,
+        Start::Inner { children } => children,
     }
 }
 

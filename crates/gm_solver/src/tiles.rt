@@ -201,6 +201,7 @@ impl<G: Game> Tiles<G> {
         let _end = last.place();
         let _held = tables.has(tier);
         let records = self.records(alloc, last)?;
-        Ok((Table::from_true(tier, records), self.number()))
+        let table = Table::from_true(alloc, tier, records.as_slice())?;
+        Ok((table, self.number()))
     }
 }

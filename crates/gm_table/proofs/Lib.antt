@@ -1,3 +1,4 @@
+pub mod BlockLemmas
 pub mod CheckLemmas
 pub mod LevelLemmas
 pub mod PlaceLemmas

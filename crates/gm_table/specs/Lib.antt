@@ -1,4 +1,5 @@
 pub mod Checks
 pub mod Levels
+pub mod Packed
 pub mod Runs
 pub mod Tables

@@ -5,6 +5,7 @@ ghost use Rattle.gm_game.specs.Records.{IsTrueTable, settle, solved as solved_sp
 ghost use Rattle.gm_table.specs.Tables.{IsTable, AreHeld};
 ghost use Rattle.gm_table.specs.Checks.{FitTables, look_up, child_records, value_from, RecordFits, FitsAt, IsFirstWrong, number_of};
 
+use crate::blocks::first_wrong_by;
 use crate::table::Table;
 use crate::tables::Tables;
 use gm_game::children::canonical_children;
@@ -13,6 +14,7 @@ use gm_game::game::Game;
 use gm_game::limits::{REMOTENESS, TIER_SIZE};
 use gm_game::position::{Kind, Position, Solved, Value};
 use std::alloc::Global;
+use std::thread::Threads;
 use thiserror::Error;
 
 /// Why records aren't the table of a tier.
@@ -65,21 +67,89 @@ pub fn check<G: Game>(
     ensures wrong_record { (i : ℕ) → IsErrOf result (CheckError.WrongRecord i)
         ↔ ((length records.now ≡ G.rules.tier_size tier) × IsFirstWrong G.rules tables.now tier records.now i) }
 {
+    let first = if records.len() as u64 == G::tier_size(tier) {
+        first_wrong::<G>(tier, records, tables)
+    } else {
+        None
+    };
+    table_unless(alloc, tier, records, tables, first)
+}
+
+/// As `check`, by as many threads as there are processors.
+pub fn check_by<G: Game + Send + Sync, R: Threads + Sync>(
+    rt: &R,
+    alloc: Global,
+    tier: u64,
+    records: &[Option<Solved>],
+    tables: &Tables<G>,
+) -> Result<Table<G>, CheckError>
+    requires children { AreHeld G.rules tables.now tier }
+    requires is_small { G.rules.tier_size tier ≤ TIER_SIZE }
+
+    // The table has the given records.
+    ensures tier { IfOk result (λ t. t.tier ≡ tier) }
+    ensures records { IfOk result (λ t. t.records ≡ records.now) }
+    ensures table { IfOk result (IsTable G.rules) }
+
+    // Want of memory aside, records are taken exactly where they fit, and those are the true ones.
+    ensures fit { IsOkUnless result CheckError.OutOfMemory ↔ FitTables G.rules tables.now tier records.now }
+    ensures are_true { IsOkUnless result CheckError.OutOfMemory ↔ IsTrueTable G.rules REMOTENESS tier records.now }
+
+    // Why records don't fit.
+    ensures wrong_size { IsErrOf result CheckError.WrongSize ↔ (length records.now ≢ G.rules.tier_size tier) }
+    ensures wrong_record { (i : ℕ) → IsErrOf result (CheckError.WrongRecord i)
+        ↔ ((length records.now ≡ G.rules.tier_size tier) × IsFirstWrong G.rules tables.now tier records.now i) }
+{
+    let first = if records.len() as u64 == G::tier_size(tier) {
+        first_wrong_by(rt, tier, records, tables)
+    } else {
+        None
+    };
+    table_unless(alloc, tier, records, tables, first)
+}
+
+// The table of these records, where their number is right and this is the first wrong one among them.
+fn table_unless<G: Game>(
+    alloc: Global,
+    tier: u64,
+    records: &[Option<Solved>],
+    tables: &Tables<G>,
+    first: Option<u64>,
+) -> Result<Table<G>, CheckError>
+    requires children { AreHeld G.rules tables.now tier }
+    requires is_small { G.rules.tier_size tier ≤ TIER_SIZE }
+    requires first { length records.now ≡ G.rules.tier_size tier
+        → MatchOption first ((i : ℕ) → FitsAt G.rules tables.now tier records.now i) (IsFirstWrong G.rules tables.now tier records.now) }
+
+    // The table has the given records.
+    ensures tier { IfOk result (λ t. t.tier ≡ tier) }
+    ensures records { IfOk result (λ t. t.records ≡ records.now) }
+    ensures table { IfOk result (IsTable G.rules) }
+
+    // Want of memory aside, records are taken exactly where they fit, and those are the true ones.
+    ensures fit { IsOkUnless result CheckError.OutOfMemory ↔ FitTables G.rules tables.now tier records.now }
+    ensures are_true { IsOkUnless result CheckError.OutOfMemory ↔ IsTrueTable G.rules REMOTENESS tier records.now }
+
+    // Why records don't fit.
+    ensures wrong_size { IsErrOf result CheckError.WrongSize ↔ (length records.now ≢ G.rules.tier_size tier) }
+    ensures wrong_record { (i : ℕ) → IsErrOf result (CheckError.WrongRecord i)
+        ↔ ((length records.now ≡ G.rules.tier_size tier) × IsFirstWrong G.rules tables.now tier records.now i) }
+{
     tables.truth();
     if records.len() as u64 != G::tier_size(tier) {
         return Err(CheckError::WrongSize);
     }
-    if let Some(index) = first_wrong::<G>(tier, records, tables) {
+    if let Some(index) = first {
         return Err(CheckError::WrongRecord { index });
     }
-    match Vec::from_slice(alloc, records) {
-        Ok(copy) => Ok(Table::from_true(tier, copy)),
+    match Table::from_true(alloc, tier, records) {
+        Ok(table) => Ok(table),
         Err(_) => Err(CheckError::OutOfMemory),
     }
 }
 
-// The least index whose record doesn't fit.
-fn first_wrong<G: Game>(tier: u64, records: &[Option<Solved>], tables: &Tables<G>) -> Option<u64>
+/// The least index whose record doesn't fit.
+pub(crate) fn first_wrong<G: Game>(tier: u64, records: &[Option<Solved>], tables: &Tables<G>) -> Option<u64>
     ensures { MatchOption result ((i : ℕ) → FitsAt G.rules tables.now tier records.now i)
         (IsFirstWrong G.rules tables.now tier records.now) }
 {
@@ -95,8 +165,8 @@ fn first_wrong<G: Game>(tier: u64, records: &[Option<Solved>], tables: &Tables<G
     None
 }
 
-// Whether this record of a position fits.
-fn fits<G: Game>(
+/// Whether this record of a position fits.
+pub(crate) fn fits<G: Game>(
     tier: u64,
     records: &[Option<Solved>],
     tables: &Tables<G>,

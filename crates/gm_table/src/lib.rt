@@ -3,9 +3,11 @@
 //! A table is true by its type: whoever holds one holds the true table of its tier. `specs/` has the definitions that contracts cite, and `proofs/` what follows from them.
 #![tactic(auto)]
 
+mod blocks;
 pub mod checker;
 mod entry;
 mod levels;
+pub mod packed;
 mod runs;
 pub mod table;
 pub mod tables;

@@ -4,8 +4,9 @@ ghost use Rattle.gm_table.specs.Levels.{indexes_at};
 ghost use Rattle.gm_table.specs.Runs.{run_at, run_in, AreRunsOf};
 
 use crate::levels::level_in;
+use crate::packed::Packed;
 use gm_game::limits::TIER_SIZE;
-use gm_game::position::{Phase, Solved};
+use gm_game::position::Phase;
 use std::alloc::{AllocError, Global};
 
 /// The indexes of the records that stand at each place: for each phase a list for each level, ascending.
@@ -17,7 +18,7 @@ pub(crate) struct Runs {
 
 impl Runs {
     /// Lays out the indexes of these records, in one pass for each phase.
-    pub(crate) fn of(alloc: Global, records: &[Option<Solved>]) -> Result<Runs, AllocError>
+    pub(crate) fn of(alloc: Global, records: &Packed) -> Result<Runs, AllocError>
         requires { length records.now ≤ TIER_SIZE }
         ensures { IfOk result (AreRunsOf records.now) }
     {
@@ -45,15 +46,15 @@ impl Runs {
 // The indexes of the records of one phase: a list for each level up to the greatest.
 fn lay_out(
     alloc: Global,
-    records: &[Option<Solved>],
+    records: &Packed,
     phase: Phase,
 ) -> Result<Vec<Vec<u32>>, AllocError>
     requires { length records.now ≤ TIER_SIZE }
     ensures { IfOk result (λ runs. (n : ℕ) → run_at runs n ≡ indexes_at phase n records.now) }
 {
     let mut runs = Vec::new(alloc);
-    for (index, known) in records.iter().enumerate() {
-        if let Some(level) = level_in(phase, *known) {
+    for index in 0..records.len() {
+        if let Some(level) = level_in(phase, records.get(index)) {
             add(&mut runs, level as usize, index as u32)?;
         }
     }

@@ -1,21 +1,23 @@
 //! The true table of a tier.
-ghost use Rattle.std.specs.Prelude.{◌≡◌, ◌≤◌, length};
+ghost use Rattle.std.specs.Prelude.{◌≡◌, ◌≤◌, length, IfOk};
 ghost use Rattle.gm_game.specs.Rules.{at};
 ghost use Rattle.gm_game.specs.Values.{IsTrueValue};
 ghost use Rattle.gm_game.specs.Records.{IsTrueTable, IsRecord};
 ghost use Rattle.gm_table.specs.Levels.{IsGreatest};
 
 use crate::levels::greatest_in;
+use crate::packed::Packed;
 use gm_game::game::Game;
 use gm_game::limits::{REMOTENESS, TIER_SIZE};
 use gm_game::position::{Phase, Solved};
+use std::alloc::{AllocError, Global};
 use std::marker::{Model, PhantomData};
 
 /// The true records of a tier: each canonical legal position has its value and remoteness, and every other index has none.
 #[derive(Drop)]
 pub struct Table<G: Game> {
     tier: u64,
-    records: Vec<Option<Solved>>,
+    records: Packed,
     greatest_win_lose: Option<u32>,
     greatest_tie: Option<u32>,
     game: PhantomData<G>,
@@ -26,30 +28,32 @@ impl<G: Game> Model for Table<G> {
 
     ghost Value = { TableData };
 
-    ghost view = { λ t. record { tier = t.tier; records = t.records.items } };
+    ghost view = { λ t. record { tier = t.tier; records = t.records } };
 
-    ghost invariant = { λ t. IsKept G.rules (record { tier = t.tier; records = t.records.items }) t.greatest_win_lose t.greatest_tie };
+    ghost invariant = { λ t. IsKept G.rules (record { tier = t.tier; records = t.records }) t.greatest_win_lose t.greatest_tie };
 }
 
 impl<G: Game> Table<G> {
     ghost use Rattle.gm_table.specs.Tables.{record_at, IsTable};
 
-    /// Makes a table of records that are the true ones, of a tier within the limits.
-    pub fn from_true(tier: u64, records: Vec<Option<Solved>>) -> Self
-        requires is_true { IsTrueTable G.rules REMOTENESS tier records.items }
+    /// Makes a table of records that are the true ones, of a tier within the limits. A table has four bytes an index.
+    pub fn from_true(
+        alloc: Global,
+        tier: u64,
+        records: &[Option<Solved>],
+    ) -> Result<Self, AllocError>
+        requires is_true { IsTrueTable G.rules REMOTENESS tier records.now }
         requires is_small { G.rules.tier_size tier ≤ TIER_SIZE }
-        ensures tier { result.tier ≡ tier }
-        ensures records { result.records ≡ records.items }
+        ensures tier { IfOk result (λ t. t.tier ≡ tier) }
+        ensures records { IfOk result (λ t. t.records ≡ records.now) }
     {
-        let greatest_win_lose = greatest_in(Phase::WinLose, records.as_slice());
-        let greatest_tie = greatest_in(Phase::Ties, records.as_slice());
-        Table {
+        Ok(Table {
             tier,
-            records,
-            greatest_win_lose,
-            greatest_tie,
+            records: Packed::of(alloc, records)?,
+            greatest_win_lose: greatest_in(Phase::WinLose, records),
+            greatest_tie: greatest_in(Phase::Ties, records),
             game: PhantomData,
-        }
+        })
     }
 
     /// The tier of the table.
@@ -69,11 +73,11 @@ impl<G: Game> Table<G> {
     }
 
     /// The records by index.
-    pub(crate) fn records(&self) -> &[Option<Solved>]
+    pub(crate) fn records(&self) -> &Packed
         ensures value { result.now ≡ self.now.records }
         ensures table { IsTable G.rules self.now }
     {
-        self.records.as_slice()
+        &self.records
     }
 
     /// The value of the canonical legal position with this index; `None` for any other index, also past the size.
@@ -82,7 +86,7 @@ impl<G: Game> Table<G> {
         ensures is_true { IsRecord G.rules REMOTENESS (IsTrueValue G.rules) (at self.now.tier index) result }
         ensures table { IsTable G.rules self.now }
     {
-        *self.records.get(index as usize)?
+        self.records.get(index as usize)
     }
 
     /// The greatest remoteness among wins and losses, or among ties; `None` where there is none.

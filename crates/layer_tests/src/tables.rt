@@ -41,7 +41,7 @@ fn table_of_countdown(rt: HostRuntime) -> Result<(), Fail> {
     assert_eq!(rt; table.at(11), None);
     assert_eq!(rt; table.greatest(Phase::WinLose), Some(7));
     assert_eq!(rt; table.greatest(Phase::Ties), None);
-    let same: Table<Game> = Table::from_true(0, records);
+    let same: Table<Game> = Table::from_true(rt.alloc(), 0, records.as_slice())?;
     assert_eq!(rt; same.at(10), win(7));
     Ok(())
 }

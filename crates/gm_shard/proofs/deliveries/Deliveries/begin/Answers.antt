@@ -1,4 +1,4 @@
-use Rattle.std.proofs.Common.{◌≡◌, ℕ, ◌+◌, ◌≤◌, length, get_or, map, replicate, take, ap, ◌∙◌, arith}
+use Rattle.std.proofs.Common.{rules, ◌≡◌, ℕ, ◌+◌, ◌≤◌, length, get_or, map, replicate, take, ap, ◌∙◌, arith}
 use Rattle.std.proofs.Math.Seq.{take-length}
 use Rattle.std.proofs.lemmas.Option.{slice_get-get_or}
 use Rattle.gm_game.specs.declared.limits.TheConstants.{TIER_SIZE}
@@ -22,12 +22,12 @@ invariant_of-result g c =
     let all : c.loop-start.start-index ≡ length starts = omega arith in
     let few : c.args.lo + length starts ≤ TIER_SIZE = c.requires.within in
     let whole : take c.loop-start.start-index starts ≡ starts = ap (λ (n : ℕ). take n starts) all ∙ take-length starts in
-    let statuses : c.loop-start.statuses.items ≡ map first_status starts = c.loop-start.invariant.statuses ∙ ap (map first_status) whole in
+    let statuses : c.loop-start.statuses ≡ map first_status starts = c.loop-start.invariant.statuses ∙ ap (map first_status) whole in
     let left : c.loop-start.left.items ≡ map first_left starts = c.loop-start.invariant.left ∙ ap (map first_left) whole in
-    let masks : c.loop-start.masks.items ≡ replicate (length starts) 0 = c.loop-start.invariant.masks ∙ ap (λ (n : ℕ). replicate n 0) all in
-    first_fields r c.args.tier c.args.lo starts c.requires.starts few c.loop-start.masks.items c.loop-start.left.items c.loop-start.statuses.items masks left statuses
+    let masks : c.in_ok-vec.field-0.items ≡ replicate (length starts) 0 = search rules in
+    first_fields r c.args.tier c.args.lo starts c.requires.starts few c.in_ok-vec.field-0.items c.loop-start.left.items c.loop-start.statuses masks left statuses
 
 pub returns : goal.returns
 returns g c =
     let all : c.loop-start.start-index ≡ length c.args.starts.now = omega arith in
-    first_masks g.G.Game.rules c.args.tier c.args.lo (length c.args.starts.now) c.loop-start.masks.items (c.loop-start.invariant.masks ∙ ap (λ (n : ℕ). replicate n 0) all)
+    first_masks g.G.Game.rules c.args.tier c.args.lo (length c.args.starts.now) c.in_ok-vec.field-0.items (search rules)

@@ -4,7 +4,6 @@ use Rattle.gm_shard.proofs.deliveries.Deliveries.begin.Given as goal
 
 abbrev pub invariant-loop-start : goal.invariant-loop-start
 invariant-loop-start g l = record {
-  masks : l.masks.items ≡ replicate l.start-index 0;
   left : l.left.items ≡ map first_left (take l.start-index l.starts);
-  statuses : l.statuses.items ≡ map first_status (take l.start-index l.starts);
+  statuses : l.statuses ≡ map first_status (take l.start-index l.starts);
 }

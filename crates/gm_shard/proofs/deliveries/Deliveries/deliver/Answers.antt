@@ -1,13 +1,15 @@
-use Rattle.std.proofs.Common.{rules, ◌≡◌, ◌≢◌, ℕ, ◌+◌, ◌-◌, ◌<◌, ◌≤◌, ◌⊎◌, inl, inr, Some, length, arith, subst, sym, ◌∙◌, false, true, ap, get_or, ◌==◌, Result}
+use Rattle.std.proofs.Common.{rules, ◌≡◌, ◌≢◌, ℕ, List, ◌+◌, ◌-◌, ◌<◌, ◌≤◌, ◌⊎◌, inl, inr, Some, length, arith, subst, sym, ◌∙◌, false, true, ap, get_or, ◌==◌, Result}
 use Rattle.std.specs.List.{slice_get}
 use Rattle.std.specs.Int.{bit_at}
 use Rattle.std.proofs.Math.ListN.{set}
 use Rattle.std.proofs.lemmas.List.{get_or_read}
+use Rattle.std.proofs.lemmas.Option.{get_or_from_slice_get}
 use Rattle.gm_game.specs.declared.limits.TheConstants.{REMOTENESS}
 use Rattle.gm_game.specs.Rules.{IsInner, at}
 use Rattle.gm_game.specs.Children.{canonical_children_of}
 use Rattle.gm_frontier.specs.Notes.{phase_of}
-use Rattle.gm_shard.specs.Good.{IsWithinLimit}
+use Rattle.gm_shard.specs.Good.{IsWithinLimit, IsKept}
+use Rattle.gm_shard.specs.declared.status.Status.{Status}
 use Rattle.gm_shard.specs.State.{ShardState, state_of, with_pair}
 use Rattle.gm_shard.specs.declared.status.Delivery.{Delivery}
 use Rattle.gm_shard.specs.declared.status.Refused.{Refused}
@@ -55,7 +57,7 @@ returns-then-has_bit g c =
     let high : parent - f.lo < length f.masks.items = omega arith in
     let is_place = place_of r f.tier f.lo f.phase f.level f.masks.items note.position parent c.args.self.now c.args.place c.in-Some.place c.self.view_is c.in-Some.is c.requires in
     let inner : IsInner r (at f.tier parent) = is_place.0 in
-    let seen : Seen r f.tier f.lo f.phase f.level f.masks.items f.left.items f.statuses.items f.delivered note parent =
+    let seen : Seen r f.tier f.lo f.phase f.level f.masks.items f.left.items f.statuses f.delivered note parent =
     record { kept = c.self.invariant; is_note = c.solved-solved.ensures.note; is_level = (level, level'); low = low; high = high; inner = inner } in
     let place : slice_get (canonical_children_of r (at f.tier parent)) c.in-Some.place ≡ Some note.position = is_place.1 in
     let mask' : c.index-mask.result.now ≡ get_or f.masks.items (parent - f.lo) c.index-mask.result.now = search rules in
@@ -75,14 +77,14 @@ index-left-requires g c =
     let high : parent - f.lo < length f.masks.items = omega arith in
     let is_place = place_of r f.tier f.lo f.phase f.level f.masks.items note.position parent c.args.self.now c.args.place c.in-Some.place c.self.view_is c.in-Some.is c.requires in
     let inner : IsInner r (at f.tier parent) = is_place.0 in
-    let seen : Seen r f.tier f.lo f.phase f.level f.masks.items f.left.items f.statuses.items f.delivered note parent =
+    let seen : Seen r f.tier f.lo f.phase f.level f.masks.items f.left.items f.statuses f.delivered note parent =
     record { kept = c.self.invariant; is_note = c.solved-solved.ensures.note; is_level = (level, level'); low = low; high = high; inner = inner } in
     let l = in_left seen in
     let e : Rattle.std.specs.Vec.vec_len f.left ≡ length f.left.items = search rules in
     omega arith
 
-pub index-old-requires : goal.index-old-requires
-index-old-requires g c =
+pub get-old-requires : goal.get-old-requires
+get-old-requires g c =
     let r = g.G.Game.rules in
     let note = c.args.note.now in
     let parent = c.args.parent in
@@ -93,10 +95,9 @@ index-old-requires g c =
     let high : parent - f.lo < length f.masks.items = omega arith in
     let is_place = place_of r f.tier f.lo f.phase f.level f.masks.items note.position parent c.args.self.now c.args.place c.in-Some.place c.self.view_is c.in-Some.is c.requires in
     let inner : IsInner r (at f.tier parent) = is_place.0 in
-    let seen : Seen r f.tier f.lo f.phase f.level f.masks.items f.left.items f.statuses.items f.delivered note parent =
+    let seen : Seen r f.tier f.lo f.phase f.level f.masks.items f.left.items f.statuses f.delivered note parent =
     record { kept = c.self.invariant; is_note = c.solved-solved.ensures.note; is_level = (level, level'); low = low; high = high; inner = inner } in
     let l = in_statuses seen in
-    let e : Rattle.std.specs.Vec.vec_len f.statuses ≡ length f.statuses.items = search rules in
     omega arith
 
 pub returns-then-self-ge-REMOTENESS : goal.returns-then-self-ge-REMOTENESS
@@ -111,7 +112,7 @@ returns-then-self-ge-REMOTENESS g c =
     let high : parent - f.lo < length f.masks.items = omega arith in
     let is_place = place_of r f.tier f.lo f.phase f.level f.masks.items note.position parent c.args.self.now c.args.place c.in-Some.place c.self.view_is c.in-Some.is c.requires in
     let inner : IsInner r (at f.tier parent) = is_place.0 in
-    let seen : Seen r f.tier f.lo f.phase f.level f.masks.items f.left.items f.statuses.items f.delivered note parent =
+    let seen : Seen r f.tier f.lo f.phase f.level f.masks.items f.left.items f.statuses f.delivered note parent =
     record { kept = c.self.invariant; is_note = c.solved-solved.ensures.note; is_level = (level, level'); low = low; high = high; inner = inner } in
     let place : slice_get (canonical_children_of r (at f.tier parent)) c.in-Some.place ≡ Some note.position = is_place.1 in
     let mask' : c.index-mask.result.now ≡ get_or f.masks.items (parent - f.lo) c.index-mask.result.now = search rules in
@@ -121,10 +122,10 @@ returns-then-self-ge-REMOTENESS g c =
     record { place = place; unset = λ e. clear (subst (λ (m : ℕ). bit_at m c.in-Some.place ≡ 1) (sym mask) e) } in
     let left' : c.index-left.result.now ≡ get_or f.left.items (parent - f.lo) c.index-left.result.now = search rules in
     let left : c.index-left.result.now ≡ get_or f.left.items (parent - f.lo) 0 = get_or_read f.left.items (parent - f.lo) c.index-left.result.now (in_left seen) left' 0 in
-    let was : c.index-old.result.now ≡ get_or f.statuses.items (parent - f.lo) c.index-old.result.now = search rules in
+    let was : c.get-old.result ≡ get_or f.statuses (parent - f.lo) c.get-old.result = sym (get_or_from_slice_get f.statuses (parent - f.lo) c.get-old.result c.get-old.result c.get-old.ensures) in
     let last = c.index-left.result.now == 1 in
-    let step = step_of seen c.in-Some.place unset c.index-old.result.now was c.index-left.result.now left in
-    let settles : is_settling c.index-old.result.now (next_status c.index-old.result.now note.solved (c.index-left.result.now == 1)) ≡ true = search rules in
+    let step = step_of seen c.in-Some.place unset c.get-old.result was c.index-left.result.now left in
+    let settles : is_settling c.get-old.result (next_status c.get-old.result note.solved (c.index-left.result.now == 1)) ≡ true = search rules in
     out_far step c.args.self.now c.self.view_is settles c.if-self-ge-REMOTENESS.true
 
 pub overflow_sub-left : goal.overflow_sub-left
@@ -139,7 +140,7 @@ overflow_sub-left g c =
     let high : parent - f.lo < length f.masks.items = omega arith in
     let is_place = place_of r f.tier f.lo f.phase f.level f.masks.items note.position parent c.args.self.now c.args.place c.in-Some.place c.self.view_is c.in-Some.is c.requires in
     let inner : IsInner r (at f.tier parent) = is_place.0 in
-    let seen : Seen r f.tier f.lo f.phase f.level f.masks.items f.left.items f.statuses.items f.delivered note parent =
+    let seen : Seen r f.tier f.lo f.phase f.level f.masks.items f.left.items f.statuses f.delivered note parent =
     record { kept = c.self.invariant; is_note = c.solved-solved.ensures.note; is_level = (level, level'); low = low; high = high; inner = inner } in
     let place : slice_get (canonical_children_of r (at f.tier parent)) c.in-Some.place ≡ Some note.position = is_place.1 in
     let mask' : c.index-mask.result.now ≡ get_or f.masks.items (parent - f.lo) c.index-mask.result.now = search rules in
@@ -149,8 +150,8 @@ overflow_sub-left g c =
     record { place = place; unset = λ e. clear (subst (λ (m : ℕ). bit_at m c.in-Some.place ≡ 1) (sym mask) e) } in
     let left' : c.index-left.result.now ≡ get_or f.left.items (parent - f.lo) c.index-left.result.now = search rules in
     let left : c.index-left.result.now ≡ get_or f.left.items (parent - f.lo) 0 = get_or_read f.left.items (parent - f.lo) c.index-left.result.now (in_left seen) left' 0 in
-    let was : c.index-old.result.now ≡ get_or f.statuses.items (parent - f.lo) c.index-old.result.now = search rules in
-    left_above seen c.in-Some.place unset c.index-old.result.now was c.index-left.result.now left
+    let was : c.get-old.result ≡ get_or f.statuses (parent - f.lo) c.get-old.result = sym (get_or_from_slice_get f.statuses (parent - f.lo) c.get-old.result c.get-old.result c.get-old.ensures) in
+    left_above seen c.in-Some.place unset c.get-old.result was c.index-left.result.now left
 
 pub index_mut-requires-2 : goal.index_mut-requires-2
 index_mut-requires-2 g c =
@@ -164,14 +165,14 @@ index_mut-requires-2 g c =
     let high : parent - f.lo < length f.masks.items = omega arith in
     let is_place = place_of r f.tier f.lo f.phase f.level f.masks.items note.position parent c.args.self.now c.args.place c.in-Some.place c.self.view_is c.in-Some.is c.requires in
     let inner : IsInner r (at f.tier parent) = is_place.0 in
-    let seen : Seen r f.tier f.lo f.phase f.level f.masks.items f.left.items f.statuses.items f.delivered note parent =
+    let seen : Seen r f.tier f.lo f.phase f.level f.masks.items f.left.items f.statuses f.delivered note parent =
     record { kept = c.self.invariant; is_note = c.solved-solved.ensures.note; is_level = (level, level'); low = low; high = high; inner = inner } in
     let l = in_left seen in
     let e : Rattle.std.specs.Vec.vec_len f.left ≡ length f.left.items = search rules in
     omega arith
 
-pub index_mut-requires-3 : goal.index_mut-requires-3
-index_mut-requires-3 g c =
+pub set-requires-clause-place : goal.set-requires-clause-place
+set-requires-clause-place g c =
     let r = g.G.Game.rules in
     let note = c.args.note.now in
     let parent = c.args.parent in
@@ -182,10 +183,9 @@ index_mut-requires-3 g c =
     let high : parent - f.lo < length f.masks.items = omega arith in
     let is_place = place_of r f.tier f.lo f.phase f.level f.masks.items note.position parent c.args.self.now c.args.place c.in-Some.place c.self.view_is c.in-Some.is c.requires in
     let inner : IsInner r (at f.tier parent) = is_place.0 in
-    let seen : Seen r f.tier f.lo f.phase f.level f.masks.items f.left.items f.statuses.items f.delivered note parent =
+    let seen : Seen r f.tier f.lo f.phase f.level f.masks.items f.left.items f.statuses f.delivered note parent =
     record { kept = c.self.invariant; is_note = c.solved-solved.ensures.note; is_level = (level, level'); low = low; high = high; inner = inner } in
     let l = in_statuses seen in
-    let e : Rattle.std.specs.Vec.vec_len f.statuses ≡ length f.statuses.items = search rules in
     omega arith
 
 pub overflow_add-self : goal.overflow_add-self
@@ -200,10 +200,43 @@ overflow_add-self g c =
     let high : parent - f.lo < length f.masks.items = omega arith in
     let is_place = place_of r f.tier f.lo f.phase f.level f.masks.items note.position parent c.args.self.now c.args.place c.in-Some.place c.self.view_is c.in-Some.is c.requires in
     let inner : IsInner r (at f.tier parent) = is_place.0 in
-    let seen : Seen r f.tier f.lo f.phase f.level f.masks.items f.left.items f.statuses.items f.delivered note parent =
+    let seen : Seen r f.tier f.lo f.phase f.level f.masks.items f.left.items f.statuses f.delivered note parent =
     record { kept = c.self.invariant; is_note = c.solved-solved.ensures.note; is_level = (level, level'); low = low; high = high; inner = inner } in
     let k = count_room seen in
     omega arith
+
+pub set-requires-clause-near : goal.set-requires-clause-near
+set-requires-clause-near g c =
+    let r = g.G.Game.rules in
+    let note = c.args.note.now in
+    let parent = c.args.parent in
+    let f = c.self.inside in
+    let level : phase_of note.solved.value ≡ f.phase = search rules in
+    let level' : note.solved.remoteness ≡ f.level = search rules in
+    let low : f.lo ≤ parent = omega arith in
+    let high : parent - f.lo < length f.masks.items = omega arith in
+    let is_place = place_of r f.tier f.lo f.phase f.level f.masks.items note.position parent c.args.self.now c.args.place c.in-Some.place c.self.view_is c.in-Some.is c.requires in
+    let inner : IsInner r (at f.tier parent) = is_place.0 in
+    let seen : Seen r f.tier f.lo f.phase f.level f.masks.items f.left.items f.statuses f.delivered note parent =
+    record { kept = c.self.invariant; is_note = c.solved-solved.ensures.note; is_level = (level, level'); low = low; high = high; inner = inner } in
+    let place : slice_get (canonical_children_of r (at f.tier parent)) c.in-Some.place ≡ Some note.position = is_place.1 in
+    let mask' : c.index-mask.result.now ≡ get_or f.masks.items (parent - f.lo) c.index-mask.result.now = search rules in
+    let mask : c.index-mask.result.now ≡ get_or f.masks.items (parent - f.lo) 0 = get_or_read f.masks.items (parent - f.lo) c.index-mask.result.now high mask' 0 in
+    let clear : bit_at c.index-mask.result.now c.in-Some.place ≡ 1 → ⊥ = search rules in
+    let unset : Unset r f.tier f.masks.items f.lo note parent c.in-Some.place =
+    record { place = place; unset = λ e. clear (subst (λ (m : ℕ). bit_at m c.in-Some.place ≡ 1) (sym mask) e) } in
+    let left' : c.index-left.result.now ≡ get_or f.left.items (parent - f.lo) c.index-left.result.now = search rules in
+    let left : c.index-left.result.now ≡ get_or f.left.items (parent - f.lo) 0 = get_or_read f.left.items (parent - f.lo) c.index-left.result.now (in_left seen) left' 0 in
+    let was : c.get-old.result ≡ get_or f.statuses (parent - f.lo) c.get-old.result = sym (get_or_from_slice_get f.statuses (parent - f.lo) c.get-old.result c.get-old.result c.get-old.ensures) in
+    let last = c.index-left.result.now == 1 in
+    let step = step_of seen c.in-Some.place unset c.get-old.result was c.index-left.result.now left in
+    let next : c.next_status-next.result ≡ next_status c.get-old.result note.solved (c.index-left.result.now == 1) = search rules in
+    let near : IsWithinLimit (next_status c.get-old.result note.solved (c.index-left.result.now == 1)) =
+    elim c.else-settles.branch [
+      | else-settles-via-then-settles+else-self-ge-REMOTENESS w ↦ near_settling step (search rules) (search rules)
+      | else-settles-via-else-settles w ↦ near_staying step (search rules)
+    ] in
+    subst IsWithinLimit (sym next) near
 
 pub invariant_of-self : goal.invariant_of-self
 invariant_of-self g c =
@@ -217,7 +250,7 @@ invariant_of-self g c =
     let high : parent - f.lo < length f.masks.items = omega arith in
     let is_place = place_of r f.tier f.lo f.phase f.level f.masks.items note.position parent c.args.self.now c.args.place c.in-Some.place c.self.view_is c.in-Some.is c.requires in
     let inner : IsInner r (at f.tier parent) = is_place.0 in
-    let seen : Seen r f.tier f.lo f.phase f.level f.masks.items f.left.items f.statuses.items f.delivered note parent =
+    let seen : Seen r f.tier f.lo f.phase f.level f.masks.items f.left.items f.statuses f.delivered note parent =
     record { kept = c.self.invariant; is_note = c.solved-solved.ensures.note; is_level = (level, level'); low = low; high = high; inner = inner } in
     let place : slice_get (canonical_children_of r (at f.tier parent)) c.in-Some.place ≡ Some note.position = is_place.1 in
     let mask' : c.index-mask.result.now ≡ get_or f.masks.items (parent - f.lo) c.index-mask.result.now = search rules in
@@ -227,19 +260,21 @@ invariant_of-self g c =
     record { place = place; unset = λ e. clear (subst (λ (m : ℕ). bit_at m c.in-Some.place ≡ 1) (sym mask) e) } in
     let left' : c.index-left.result.now ≡ get_or f.left.items (parent - f.lo) c.index-left.result.now = search rules in
     let left : c.index-left.result.now ≡ get_or f.left.items (parent - f.lo) 0 = get_or_read f.left.items (parent - f.lo) c.index-left.result.now (in_left seen) left' 0 in
-    let was : c.index-old.result.now ≡ get_or f.statuses.items (parent - f.lo) c.index-old.result.now = search rules in
+    let was : c.get-old.result ≡ get_or f.statuses (parent - f.lo) c.get-old.result = sym (get_or_from_slice_get f.statuses (parent - f.lo) c.get-old.result c.get-old.result c.get-old.ensures) in
     let last = c.index-left.result.now == 1 in
-    let step = step_of seen c.in-Some.place unset c.index-old.result.now was c.index-left.result.now left in
+    let step = step_of seen c.in-Some.place unset c.get-old.result was c.index-left.result.now left in
     let same : bit_at c.with_bit.result c.in-Some.place ≡ 1 = c.with_bit.ensures.same in
     let other : (j : ℕ) → j ≢ c.in-Some.place → bit_at c.with_bit.result j ≡ bit_at (get_or f.masks.items (parent - f.lo) 0) j =
     λ j ne. c.with_bit.ensures.other j ne ∙ ap (λ (m : ℕ). bit_at m j) mask in
-    let next : c.next_status-next.result ≡ next_status c.index-old.result.now note.solved (c.index-left.result.now == 1) = search rules in
-    let near : IsWithinLimit (next_status c.index-old.result.now note.solved (c.index-left.result.now == 1)) =
+    let next : c.next_status-next.result ≡ next_status c.get-old.result note.solved (c.index-left.result.now == 1) = search rules in
+    let near : IsWithinLimit (next_status c.get-old.result note.solved (c.index-left.result.now == 1)) =
     elim c.else-settles.branch [
       | else-settles-via-then-settles+else-self-ge-REMOTENESS w ↦ near_settling step (search rules) (search rules)
       | else-settles-via-else-settles w ↦ near_staying step (search rules)
     ] in
-    fields_after seen c.in-Some.place c.with_bit.result c.with_bit.ensures.fits unset same other c.index-old.result.now was c.index-left.result.now left c.next_status-next.result next near
+    let now : ShardState = state_of r f.tier f.lo f.phase f.level (set f.masks.items (parent - f.lo) c.with_bit.result) in
+    subst (λ (xs : List Status). IsKept r now xs (set f.left.items (parent - f.lo) (c.index-left.result.now - 1)) (f.delivered + 1)) (sym c.set.ensures)
+    (fields_after seen c.in-Some.place c.with_bit.result c.with_bit.ensures.fits unset same other c.get-old.result was c.index-left.result.now left c.next_status-next.result next near)
 
 pub returns : goal.returns
 returns g c =
@@ -253,7 +288,7 @@ returns g c =
     let high : parent - f.lo < length f.masks.items = omega arith in
     let is_place = place_of r f.tier f.lo f.phase f.level f.masks.items note.position parent c.args.self.now c.args.place c.in-Some.place c.self.view_is c.in-Some.is c.requires in
     let inner : IsInner r (at f.tier parent) = is_place.0 in
-    let seen : Seen r f.tier f.lo f.phase f.level f.masks.items f.left.items f.statuses.items f.delivered note parent =
+    let seen : Seen r f.tier f.lo f.phase f.level f.masks.items f.left.items f.statuses f.delivered note parent =
     record { kept = c.self.invariant; is_note = c.solved-solved.ensures.note; is_level = (level, level'); low = low; high = high; inner = inner } in
     let place : slice_get (canonical_children_of r (at f.tier parent)) c.in-Some.place ≡ Some note.position = is_place.1 in
     let mask' : c.index-mask.result.now ≡ get_or f.masks.items (parent - f.lo) c.index-mask.result.now = search rules in
@@ -263,9 +298,9 @@ returns g c =
     record { place = place; unset = λ e. clear (subst (λ (m : ℕ). bit_at m c.in-Some.place ≡ 1) (sym mask) e) } in
     let left' : c.index-left.result.now ≡ get_or f.left.items (parent - f.lo) c.index-left.result.now = search rules in
     let left : c.index-left.result.now ≡ get_or f.left.items (parent - f.lo) 0 = get_or_read f.left.items (parent - f.lo) c.index-left.result.now (in_left seen) left' 0 in
-    let was : c.index-old.result.now ≡ get_or f.statuses.items (parent - f.lo) c.index-old.result.now = search rules in
+    let was : c.get-old.result ≡ get_or f.statuses (parent - f.lo) c.get-old.result = sym (get_or_from_slice_get f.statuses (parent - f.lo) c.get-old.result c.get-old.result c.get-old.ensures) in
     let last = c.index-left.result.now == 1 in
-    let step = step_of seen c.in-Some.place unset c.index-old.result.now was c.index-left.result.now left in
+    let step = step_of seen c.in-Some.place unset c.get-old.result was c.index-left.result.now left in
     let same : bit_at c.with_bit.result c.in-Some.place ≡ 1 = c.with_bit.ensures.same in
     let other : (j : ℕ) → j ≢ c.in-Some.place → bit_at c.with_bit.result j ≡ bit_at (get_or f.masks.items (parent - f.lo) 0) j =
     λ j ne. c.with_bit.ensures.other j ne ∙ ap (λ (m : ℕ). bit_at m j) mask in
@@ -273,7 +308,7 @@ returns g c =
     let is : now ≡ with_pair (state_of r f.tier f.lo f.phase f.level f.masks.items) note.position parent = state_with seen c.in-Some.place c.with_bit.result unset same other in
     elim c.if-settles-2.branch [
       | then-settles-2 w ↦
-          let settles : is_settling c.index-old.result.now (next_status c.index-old.result.now note.solved (c.index-left.result.now == 1)) ≡ true = search rules in
+          let settles : is_settling c.get-old.result (next_status c.get-old.result note.solved (c.index-left.result.now == 1)) ≡ true = search rules in
           let near : f.level + 1 ≤ REMOTENESS = elim c.else-settles.branch [
             | else-settles-via-then-settles+else-self-ge-REMOTENESS b ↦ search rules
             | else-settles-via-else-settles b ↦ search rules
@@ -281,7 +316,7 @@ returns g c =
           let out = out_settled step c.args.self.now now c.self.view_is is settles near in
           subst (λ (x : Result Delivery Refused). Delivers r note parent c.args.self.now now x) (sym w.result-is) out
       | else-settles-2 w ↦
-          let settles : is_settling c.index-old.result.now (next_status c.index-old.result.now note.solved (c.index-left.result.now == 1)) ≡ false = search rules in
+          let settles : is_settling c.get-old.result (next_status c.get-old.result note.solved (c.index-left.result.now == 1)) ≡ false = search rules in
           let out = out_fresh step c.args.self.now now c.self.view_is is settles in
           subst (λ (x : Result Delivery Refused). Delivers r note parent c.args.self.now now x) (sym w.result-is) out
     ]

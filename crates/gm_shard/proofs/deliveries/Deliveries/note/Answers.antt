@@ -14,7 +14,7 @@ of-requires g c =
     let x = c.in-Settled.x in
     let s : ShardState = state_of r f.tier f.lo f.phase f.level f.masks.items in
     let h : StatusIs r c.args.self.now c.args.index (Settled x) = subst (λ (y : Status). StatusIs r c.args.self.now c.args.index y) c.in-Settled.is c.status.ensures in
-    note_of r g.met.G.Game.lawful s f.statuses.items c.self.invariant.shard c.args.index (subst (λ (u : ShardState). IsInRange u c.args.index) (sym c.self.view_is) c.requires) x
+    note_of r g.met.G.Game.lawful s f.statuses c.self.invariant.shard c.args.index (subst (λ (u : ShardState). IsInRange u c.args.index) (sym c.self.view_is) c.requires) x
     (subst (λ (u : ShardState). StatusIs r u c.args.index (Settled x)) (sym c.self.view_is) h)
 
 pub returns-in_default : goal.returns-in_default

@@ -1,0 +1,6 @@
+use Rattle.std.proofs.Common.{◌≡◌, map, take}
+use Rattle.gm_table.specs.Packed.{unpacked}
+use Rattle.gm_table.proofs.packed.Packed.of.Given as goal
+
+abbrev pub invariant-loop-known : goal.invariant-loop-known
+invariant-loop-known l = map unpacked l.numbers.items ≡ take l.known-index l.records

@@ -1,0 +1,30 @@
+-- Records as numbers of 32 bits.
+use Rattle.std.specs.Prelude.{◌≡◌, ℕ, ◌/◌, ◌%◌, ◌==◌, ◌≤◌, if◌then◌else◌, List, Option, None, Some, IfSome, slice_get}
+use Rattle.gm_game.specs.declared.position.Value.{Value}
+use Rattle.gm_game.specs.declared.position.Value.TheVariants.{Lose, Draw, Tie, Win}
+use Rattle.gm_game.specs.declared.position.Solved.{Solved}
+use Rattle.gm_game.specs.declared.limits.TheConstants.{REMOTENESS}
+use Rattle.gm_game.specs.Records.{solved}
+
+-- the code of a value
+abbrev pub code_of : Value → ℕ
+code_of Lose = 1
+code_of Draw = 2
+code_of Tie = 3
+code_of Win = 4
+
+-- the value with this code
+abbrev pub value_of : ℕ → Value
+value_of code = if code == 1 then Lose else if code == 2 then Draw else if code == 3 then Tie else Win
+
+-- the record with this number: its value's code times 1,048,576, and its remoteness; none below that
+abbrev pub unpacked : ℕ → Option Solved
+unpacked number = if number / 1048576 == 0 then None else Some (solved (value_of (number / 1048576)) (number % 1048576))
+
+-- a record is within the greatest remoteness
+abbrev pub IsNear : Option Solved → Type 0
+IsNear o = IfSome o (λ s. s.remoteness ≤ REMOTENESS)
+
+-- each record is
+abbrev pub AreNear : List (Option Solved) → Type 0
+AreNear records = (i : ℕ) (o : Option Solved) → slice_get records i ≡ Some o → IsNear o

@@ -1,0 +1,98 @@
+//! Records of four bytes each.
+ghost use Rattle.std.specs.Prelude.{◌≡◌, ◌≢◌, ◌*◌, ◌≤◌, ◌<◌, ◌++◌, map, IfSome, IfOk, length, OnOk};
+ghost use Rattle.gm_game.specs.declared.limits.TheConstants.{REMOTENESS};
+ghost use Rattle.gm_table.specs.Packed.{code_of, unpacked, IsNear, AreNear};
+ghost use Rattle.gm_table.specs.Tables.{record_at};
+
+use gm_game::position::{Solved, Value};
+use std::alloc::{AllocError, Global};
+use std::marker::Model;
+
+/// Above the greatest remoteness: a record's number is its value's code times this, and its remoteness.
+const STEP: u32 = 1_048_576;
+
+/// Records of four bytes each. Contracts see the records.
+#[derive(Drop)]
+pub(crate) struct Packed {
+    numbers: Vec<u32>,
+}
+
+impl Model for Packed {
+    ghost use Rattle.std.specs.Prelude.{List, Option, map};
+    ghost use Rattle.gm_game.specs.declared.position.Solved.{Solved};
+    ghost use Rattle.gm_table.specs.Packed.{unpacked};
+
+    ghost Value = { List (Option Solved) };
+
+    ghost view = { λ p. map unpacked p.numbers.items };
+}
+
+impl Packed {
+    /// Packs records within the greatest remoteness.
+    pub(crate) fn of(alloc: Global, records: &[Option<Solved>]) -> Result<Packed, AllocError>
+        requires { AreNear records.now }
+        ensures { IfOk result (λ packed. packed ≡ records.now) }
+    {
+        let mut numbers = Vec::with_capacity(alloc, records.len())?;
+        for known in records {
+            numbers.push(number_of(*known))?;
+        }
+        Ok(Packed { numbers })
+    }
+
+    /// How many records there are.
+    pub(crate) fn len(&self) -> usize
+        ensures { result ≡ length self.now }
+    {
+        self.numbers.len()
+    }
+
+    /// The record at an index; `None` past the end.
+    pub(crate) fn get(&self, index: usize) -> Option<Solved>
+        ensures { result ≡ record_at self.now index }
+    {
+        unpacked(*self.numbers.get(index)?)
+    }
+}
+
+// The code of a value.
+fn code_of(value: Value) -> u32
+    ensures value { result ≡ code_of value }
+    ensures few { result ≤ 4 }
+{
+    match value {
+        Value::Lose => 1,
+        Value::Draw => 2,
+        Value::Tie => 3,
+        Value::Win => 4,
+    }
+}
+
+/// The number of a record within the greatest remoteness. It is never 1.
+pub fn number_of(known: Option<Solved>) -> u32
+    requires { IsNear known }
+    ensures number { unpacked result ≡ known }
+    ensures apart { result ≢ 1 }
+{
+    match known {
+        None => 0,
+        Some(solved) => code_of(solved.value) * STEP + solved.remoteness,
+    }
+}
+
+/// The record with this number.
+pub fn unpacked(number: u32) -> Option<Solved>
+    ensures { result ≡ unpacked number }
+{
+    let value = match number / STEP {
+        0 => return None,
+        1 => Value::Lose,
+        2 => Value::Draw,
+        3 => Value::Tie,
+        _ => Value::Win,
+    };
+    Some(Solved {
+        value,
+        remoteness: number % STEP,
+    })
+}
