@@ -1,6 +1,7 @@
 -- What a checked position's canonical children say, and the records that fit.
-use Rattle.std.proofs.Common.{◌≡◌, ◌↔◌, ℕ, ◌<◌, ◌≤◌, ◌+◌, Bool, true, false, MatchOption, List, map, take, length, get_or, refl, sym, ap, ◌∙◌, subst, arith, Option, None, Some}
+use Rattle.std.proofs.Common.{◌≡◌, ℕ, ◌<◌, ◌≤◌, ◌+◌, true, MatchOption, List, map, take, length, get_or, refl, sym, ap, ◌∙◌, subst, arith, inl, inr, Option, None, Some}
 use Rattle.std.proofs.lemmas.List.{map_more}
+use Rattle.std.proofs.lemmas.Bool.{cases_eq}
 use Rattle.std.proofs.lemmas.Option.{same_Some, slice_get-get_or, slice_get_within}
 use Rattle.std.proofs.lemmas.List.Elements.{Contains-get_or}
 use Rattle.gm_game.specs.declared.position.Position.{Position}
@@ -15,8 +16,7 @@ use Rattle.gm_game.proofs.Folding.{least_push, all_won_push}
 use Rattle.gm_game.proofs.Sets.{settled_by_list}
 use Rattle.gm_game.proofs.ChildrenLemmas.{canonical_children_listed}
 use Rattle.gm_table.specs.Tables.{TableData}
-use Rattle.gm_table.specs.Checks.{RecordFits, FitsAt, IsFirstWrong}
-use Rattle.gm_table.proofs.BlockLemmas.{IsFirstFrom}
+use Rattle.gm_table.specs.Checks.{RecordFits, FitsAt, IsFirstWrong, IsFirstWrongIn, FitBetween}
 
 -- one child's record more
 pub least_more : (f : Option Solved → Option ℕ) (look : Position → Option Solved) (cs : List Position) (i : ℕ) (d : Position) → i < length cs → least_of f (map look (take (i + 1) cs)) ≡ lesser (least_of f (map look (take i cs))) (f (look (get_or cs i d)))
@@ -44,21 +44,14 @@ module _ (r : Rules) (entries : List TableData) (tier : ℕ) (records : List (Op
   pub fits_at : (i : ℕ) (d : Option Solved) → i < length records → RecordFits r entries tier records (at tier i) (get_or records i d) → FitsAt r entries tier records i
   fits_at i d l h o e = let same = same_Some (get_or records i d) o (sym (slice_get-get_or records i d l) ∙ e) in subst (RecordFits r entries tier records (at tier i)) same h
 
-  pub first_wrong : (i : ℕ) (d : Option Solved) → i < length records → (RecordFits r entries tier records (at tier i) (get_or records i d) → ⊥) → ((k : ℕ) → k < i → FitsAt r entries tier records k) → IsFirstWrong r entries tier records i
-  first_wrong i d l h b = record { there = l; wrong = λ f. h (f (get_or records i d) (slice_get-get_or records i d l)); before = b }
+  pub wrong_at : (i : ℕ) (d : Option Solved) → i < length records → (RecordFits r entries tier records (at tier i) (get_or records i d) → ⊥) → FitsAt r entries tier records i → ⊥
+  wrong_at i d l h f = h (f (get_or records i d) (slice_get-get_or records i d l))
 
-  -- no is the answer for the index of a record that fits
-  abbrev pub IsAnswer : ℕ → Bool → Type 0
-  IsAnswer i b = (b ≡ false) ↔ FitsAt r entries tier records i
+  -- one record more fits
+  pub fit_more : (lo i : ℕ) → FitBetween r entries tier records lo i → FitsAt r entries tier records i → FitBetween r entries tier records lo (i + 1)
+  fit_more lo i h f k l u = elim (cases_eq k i) [ | inl e ↦ subst (FitsAt r entries tier records) (sym e) f | inr o ↦ h k l (omega arith) ]
 
-  -- the first yes is the first wrong one
-  pub first_yes : (n : ℕ) (first : Option ℕ) → length records ≡ n → IsFirstFrom IsAnswer 0 n first → MatchOption first ((i : ℕ) → FitsAt r entries tier records i) (IsFirstWrong r entries tier records)
-  first_yes n None whole h = λ i o e. (let inside = slice_get_within records i o e in (h i (omega arith) (omega arith)).0 refl o e)
-  first_yes n (Some k) whole h =
-      let below = h.0 in
-      let place : 0 + k ≡ k = omega arith in
-      let yes : IsAnswer k true = subst (λ (i : ℕ). IsAnswer i true) place h.1 in
-      record { there = omega arith; wrong = λ f. (let never = yes.1 f in absurd (cc)); before = λ i l. (h.2 i (omega arith) (omega arith)).0 refl }
-
-  pub all_fit : (n : ℕ) → length records ≤ n → ((k : ℕ) → k < n → FitsAt r entries tier records k) → (k : ℕ) → FitsAt r entries tier records k
-  all_fit n l h k o e = let m = slice_get_within records k o e in h k (omega arith) o e
+  -- all of the records
+  pub first_of_all : (first : Option ℕ) → IsFirstWrongIn r entries tier records 0 (length records) first → MatchOption first ((i : ℕ) → FitsAt r entries tier records i) (IsFirstWrong r entries tier records)
+  first_of_all None h = λ i o e. (let inside = slice_get_within records i o e in h i (omega arith) inside o e)
+  first_of_all (Some w) h = record { there = h.1; wrong = h.2; before = λ i l. h.3 i (omega arith) l }

@@ -1,5 +1,5 @@
 -- Records that are checked one by one.
-use Rattle.std.specs.Prelude.{◌≡◌, ℕ, ◌<◌, List, Option, Some, length, map, slice_get}
+use Rattle.std.specs.Prelude.{◌≡◌, ℕ, ◌<◌, ◌≤◌, ◌/◌, ◌%◌, List, Option, Some, MatchOption, length, map, slice_get}
 use Rattle.gm_game.specs.declared.position.Position.{Position}
 use Rattle.gm_game.specs.declared.position.Solved.{Solved}
 use Rattle.gm_game.specs.declared.limits.TheConstants.{REMOTENESS}
@@ -39,6 +39,24 @@ pub record IsFirstWrong (r : Rules) (entries : List TableData) (tier : ℕ) (rec
   pub there : index < length records
   pub wrong : FitsAt r entries tier records index → ⊥
   pub before : (i : ℕ) → i < index → FitsAt r entries tier records i
+
+-- the records from lo up to hi fit
+abbrev pub FitBetween : Rules → List TableData → ℕ → List (Option Solved) → ℕ → ℕ → Type 0
+FitBetween r entries tier records lo hi = (i : ℕ) → lo ≤ i → i < hi → FitsAt r entries tier records i
+
+-- this is the first index from lo up to hi whose record doesn't fit, or there is none
+abbrev pub IsFirstWrongIn : Rules → List TableData → ℕ → List (Option Solved) → ℕ → ℕ → Option ℕ → Type 0
+IsFirstWrongIn r entries tier records lo hi first = MatchOption first (FitBetween r entries tier records lo hi)
+    (λ w. (lo ≤ w) × (w < hi) × (FitsAt r entries tier records w → ⊥) × FitBetween r entries tier records lo w)
+
+-- the class of an index: blocks of 8 indexes are dealt out to 8,192 classes in turn
+abbrev pub class_of : ℕ → ℕ
+class_of i = i / 8 % 8192
+
+-- the records of the class before this index fit, and that at the index doesn't, where there is one
+pub record IsFirstOfClass (r : Rules) (entries : List TableData) (tier : ℕ) (records : List (Option Solved)) (class first : ℕ) : Type 0 where
+  pub before : (i : ℕ) → class_of i ≡ class → i < first → FitsAt r entries tier records i
+  pub wrong : first < length records → FitsAt r entries tier records first → ⊥
 
 -- the numbers of the errors
 abbrev pub number_of : CheckError → ℕ

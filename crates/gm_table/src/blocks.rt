@@ -1,9 +1,9 @@
 //! Records checked by as many threads as there are processors.
-ghost use Rattle.std.specs.Prelude.{◌≡◌, ◌↔◌, ◌≤◌, ℕ, false, length, MatchOption};
+ghost use Rattle.std.specs.Prelude.{◌≡◌, ◌<◌, ◌≤◌, ℕ, length, MatchOption};
 ghost use Rattle.gm_game.specs.declared.limits.TheConstants.{TIER_SIZE};
-ghost use Rattle.gm_table.specs.Checks.{FitsAt, IsFirstWrong};
+ghost use Rattle.gm_table.specs.Checks.{FitsAt, IsFirstWrong, IsFirstWrongIn, IsFirstOfClass};
 
-use crate::checker::{first_wrong, fits};
+use crate::checker::fits;
 use crate::tables::Tables;
 use gm_game::game::Game;
 use gm_game::limits::TIER_SIZE;
@@ -14,6 +14,15 @@ use std::thread::Threads;
 /// So many records are checked by the caller's thread alone.
 const FEW: usize = 4096;
 
+/// Blocks of so many indexes are dealt out to the classes in turn: canonical positions have low indexes, so pieces in one part of the tier would be unlike in work.
+const BLOCK: usize = 8;
+
+/// So many classes there are: enough for as many threads as rayon starts.
+const CLASSES: usize = 8192;
+
+/// The indexes of one round of blocks, one for each class.
+const ROUND: usize = 65_536;
+
 // Records of a tier that are to be checked, with the tables that they are checked against.
 #[derive(Drop)]
 struct Given<'a, G: Game> {
@@ -23,36 +32,79 @@ struct Given<'a, G: Game> {
     ghost small: { length records.now ≤ TIER_SIZE },
 }
 
-impl<'a, G: Game + Send + Sync> Given<'a, G> {
-    // Whether the record at an index doesn't fit.
-    fn is_wrong(&self, index: u32) -> bool
-        ensures { (result ≡ false) ↔ FitsAt G.rules self.now.tables.now self.now.tier self.now.records.now index }
+impl<'a, G: Game> Given<'a, G> {
+    // The least index from `lo` up to `hi` whose record doesn't fit.
+    fn first_between(&self, lo: usize, hi: usize) -> Option<u64>
+        requires { hi ≤ length self.now.records.now }
+        ensures { IsFirstWrongIn G.rules self.now.tables.now self.now.tier self.now.records.now lo hi result }
     {
-        let p = Position {
-            tier: self.tier,
-            index: u64::from(index),
-        };
-        match self.records.get(index as usize) {
-            Some(known) => !fits::<G>(self.tier, self.records, self.tables, p, *known),
-            None => false,
+        for index in lo..hi {
+            let p = Position {
+                tier: self.tier,
+                index: index as u64,
+            };
+            let known = self.records[index];
+            if !fits::<G>(self.tier, self.records, self.tables, p, known) {
+                return Some(index as u64);
+            }
         }
+        None
     }
 
-    // The least index whose record doesn't fit.
-    fn first_wrong<R: Threads + Sync>(&self, rt: &R) -> Option<usize>
-        ensures { MatchOption result ((i : ℕ) → FitsAt G.rules self.now.tables.now self.now.tier self.now.records.now i)
-            (IsFirstWrong G.rules self.now.tables.now self.now.tier self.now.records.now) }
+    // The least index of a class whose record doesn't fit, or how many records there are.
+    fn first_of(&self, class: u32) -> u64
+        ensures { IsFirstOfClass G.rules self.now.tables.now self.now.tier self.now.records.now class result }
     {
-        (0..self.records.len() as u32).into_par_iter().position_first(
-            rt,
-            |index: u32| -> bool
-                ensures { (result ≡ false) ↔ FitsAt G.rules self.entry.now.tables.now self.entry.now.tier self.entry.now.records.now index }
-            { self.is_wrong(index) },
-        )
+        let size = self.records.len();
+        for round in 0..size.div_ceil(ROUND) {
+            let start = round * ROUND + (class as usize % CLASSES) * BLOCK;
+            let lo = start.min(size);
+            let hi = (start + BLOCK).min(size);
+            if let Some(index) = self.first_between(lo, hi) {
+                return index;
+            }
+        }
+        size as u64
+    }
+}
+
+impl<'a, G: Game + Send + Sync> Given<'a, G> {
+    // The least index whose record doesn't fit, or how many records there are.
+    fn first_of_all<R: Threads + Sync>(&self, rt: &R) -> Option<u64>
+        ensures { MatchOption result ((i : ℕ) → FitsAt G.rules self.now.tables.now self.now.tier self.now.records.now i)
+            (λ w. (w < length self.now.records.now → IsFirstWrong G.rules self.now.tables.now self.now.tier self.now.records.now w)
+            × (length self.now.records.now ≤ w → (i : ℕ) → FitsAt G.rules self.now.tables.now self.now.tier self.now.records.now i)) }
+    {
+        (0..CLASSES as u32)
+            .into_par_iter()
+            .map(
+                |class: u32| -> u64
+                    ensures { IsFirstOfClass G.rules self.entry.now.tables.now self.entry.now.tier self.entry.now.records.now class result }
+                { self.first_of(class) },
+            )
+            .min(rt)
     }
 }
 
 /// The least index whose record doesn't fit.
+pub(crate) fn first_wrong<G: Game>(
+    tier: u64,
+    records: &[Option<Solved>],
+    tables: &Tables<G>,
+) -> Option<u64>
+    requires { length records.now ≤ TIER_SIZE }
+    ensures { MatchOption result ((i : ℕ) → FitsAt G.rules tables.now tier records.now i)
+        (IsFirstWrong G.rules tables.now tier records.now) }
+{
+    let given = Given {
+        tier,
+        records,
+        tables,
+    };
+    given.first_between(0, records.len())
+}
+
+/// The same, by as many threads as there are processors.
 pub(crate) fn first_wrong_by<G: Game + Send + Sync, R: Threads + Sync>(
     rt: &R,
     tier: u64,
@@ -71,5 +123,6 @@ pub(crate) fn first_wrong_by<G: Game + Send + Sync, R: Threads + Sync>(
         records,
         tables,
     };
-    Some(given.first_wrong(rt)? as u64)
+    let first = given.first_of_all(rt)?;
+    if first < records.len() as u64 { Some(first) } else { None }
 }

@@ -5,7 +5,7 @@ ghost use Rattle.gm_game.specs.Records.{IsTrueTable, settle, solved as solved_sp
 ghost use Rattle.gm_table.specs.Tables.{IsTable, AreHeld};
 ghost use Rattle.gm_table.specs.Checks.{FitTables, look_up, child_records, value_from, RecordFits, FitsAt, IsFirstWrong, number_of};
 
-use crate::blocks::first_wrong_by;
+use crate::blocks::{first_wrong, first_wrong_by};
 use crate::table::Table;
 use crate::tables::Tables;
 use gm_game::children::canonical_children;
@@ -146,23 +146,6 @@ fn table_unless<G: Game>(
         Ok(table) => Ok(table),
         Err(_) => Err(CheckError::OutOfMemory),
     }
-}
-
-/// The least index whose record doesn't fit.
-pub(crate) fn first_wrong<G: Game>(tier: u64, records: &[Option<Solved>], tables: &Tables<G>) -> Option<u64>
-    ensures { MatchOption result ((i : ℕ) → FitsAt G.rules tables.now tier records.now i)
-        (IsFirstWrong G.rules tables.now tier records.now) }
-{
-    for (index, known) in records.iter().enumerate() {
-        let p = Position {
-            tier,
-            index: index as u64,
-        };
-        if !fits::<G>(tier, records, tables, p, *known) {
-            return Some(index as u64);
-        }
-    }
-    None
 }
 
 /// Whether this record of a position fits.
