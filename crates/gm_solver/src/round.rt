@@ -166,6 +166,7 @@ pub(crate) fn run_level<G: Game + Send + Sync, R: Threads + Wait + Sync, T: Gate
         width,
     } = tiles;
     let notes = plan.piece();
+    let workers = plan.workers().min(level.pieces(notes));
     let pieces = Pieces {
         level,
         lists: &lists,
@@ -176,7 +177,7 @@ pub(crate) fn run_level<G: Game + Send + Sync, R: Threads + Wait + Sync, T: Gate
         mut shards,
         tallies,
         by_workers,
-    } = serve(rt, alloc, &pieces, gate, source, plan.workers(), shards)?;
+    } = serve(rt, alloc, &pieces, gate, source, workers, shards)?;
     if let Err(error) = close_tiles(&mut shards, &mut counts, &pieces, tallies.as_slice()) {
         return Err(error);
     }
