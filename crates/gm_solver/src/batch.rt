@@ -40,11 +40,6 @@ impl<G: Game, L: Desk> Batch<G, L> {
         })
     }
 
-    // Whether no more pairs are to wait.
-    pub(crate) fn is_full(&self) -> bool {
-        self.pairs.len() >= BATCH
-    }
-
     // The pairs, in the order in which they came.
     pub(crate) fn pairs(&self) -> &[(Note<G>, u64, Option<u32>)]
         ensures value { result.now ≡ self.now }

@@ -2,7 +2,7 @@
 ghost use Rattle.std.specs.Prelude.{◌≡◌, ◌<◌, ◌≤◌, IfOk};
 ghost use Rattle.gm_frontier.specs.Tallies.{IsTallyOf};
 
-use crate::batch::Batch;
+use crate::batch::{BATCH, Batch};
 use crate::board::{Board, Shares};
 use crate::gate::Gate;
 use crate::pieces::Pieces;
@@ -22,13 +22,14 @@ pub(crate) struct Slot<G: Game, A: Desk, B: Desk, C: Desk, D: Desk> {
     ghost one_part: { shares.parts ≡ 1 },
 }
 
-// Delivers a shard's batch under one lock, with the gate called before and after for each pair, and empties it.
-fn deliver<G: Game, A: Desk, B: Desk, C: Desk, D: Desk, R: Wait, T: Gate>(
+// Delivers a shard's batch under one lock where it has so many pairs, and empties it. The gate is called before and after for each pair, while no lock is held.
+fn deliver_from<G: Game, A: Desk, B: Desk, C: Desk, D: Desk, R: Wait, T: Gate>(
     rt: &R,
     board: &Board<G, A, B, C, D>,
     gate: &T,
     worker: usize,
     place: Place,
+    least: usize,
     shard: usize,
     batch: &mut Batch<G, A>,
     shares: &mut Shares<A, B, C, D>,
@@ -37,6 +38,9 @@ fn deliver<G: Game, A: Desk, B: Desk, C: Desk, D: Desk, R: Wait, T: Gate>(
     ensures { shares.new.parts ≡ shares.old.parts }
 {
     let pairs = batch.pairs();
+    if pairs.len() < least {
+        return;
+    }
     for _ in 0..pairs.len() {
         gate.before(rt, worker, place);
     }
@@ -46,25 +50,6 @@ fn deliver<G: Game, A: Desk, B: Desk, C: Desk, D: Desk, R: Wait, T: Gate>(
         gate.after(rt, worker, place);
     }
     batch.clear();
-}
-
-// Delivers a shard's batch where it is full.
-fn make_room<G: Game, A: Desk, B: Desk, C: Desk, D: Desk, R: Wait, T: Gate>(
-    rt: &R,
-    board: &Board<G, A, B, C, D>,
-    gate: &T,
-    worker: usize,
-    place: Place,
-    shard: usize,
-    batch: &mut Batch<G, A>,
-    shares: &mut Shares<A, B, C, D>,
-)
-    requires { shard < 4 }
-    ensures { shares.new.parts ≡ shares.old.parts }
-{
-    if batch.is_full() {
-        deliver(rt, board, gate, worker, place, shard, batch, shares);
-    }
 }
 
 // Delivers what is left in the batches of all shards.
@@ -80,12 +65,13 @@ fn deliver_rest<G: Game, A: Desk, B: Desk, C: Desk, D: Desk, R: Wait, T: Gate>(
     ensures { shares.new.parts ≡ shares.old.parts }
 {
     for shard in 0..4 {
-        deliver(
+        deliver_from(
             rt,
             board,
             gate,
             worker,
             place,
+            1,
             shard,
             &mut batches[shard],
             shares,
@@ -123,7 +109,7 @@ pub(crate) fn walk<G: Game, A: Desk, B: Desk, C: Desk, D: Desk, R: Wait, T: Gate
         let stands = pieces.lists.place_of(note.position(), parent);
         let shard = board.shard_of(parent);
         let batch = &mut batches[shard];
-        make_room(rt, board, gate, worker, place, shard, batch, shares);
+        deliver_from(rt, board, gate, worker, place, BATCH, shard, batch, shares);
         batch.push(note, parent, stands)?;
     }
     deliver_rest(rt, board, gate, worker, place, &mut batches, shares);

@@ -118,7 +118,7 @@ loop-note-preserved g c =
     let new = set c.loop-note.counts.items (c.in-Some.parent / width) (c.index_mut.result.now + 1) in
     let more = counted_more width c.loop-note.counts.items new pair c.next.new.self all n same inside (ap (λ (v : ℕ). set c.loop-note.counts.items (c.in-Some.parent / width) (v + 1)) value) counted in
     record {
-      parts = c.make_room.ensures ∙ c.loop-note.invariant.parts;
+      parts = c.deliver_from.ensures ∙ c.loop-note.invariant.parts;
       tiles = c.loop-note.invariant.tiles;
       within = λ x h. within x (contains_later pair x c.next.new.self h);
       counted = more;
