@@ -158,6 +158,34 @@ fn close_post<G: Game, L: Round>(
     Ok((shard, delivered))
 }
 
+// The same in two shards. The number is that of the pairs that both had before.
+fn close_two<G: Game, L: Round, M: Round>(
+    low: Ended<G, L>,
+    high: Ended<G, M>,
+    low_count: &mut Expected<G>,
+    high_count: &mut Expected<G>,
+    level: &Level<G>,
+    lists: &TierLists<G>,
+    tallies: &[Tally<G>],
+) -> Result<(Shard<G>, Shard<G>, u64), SolveError>
+    requires lists { (lists.now ≡ L.spot.tier) × (lists.now ≡ M.spot.tier) }
+    requires counts { (L.spot ≡ spot_counted low_count.old) × (M.spot ≡ spot_counted high_count.old) }
+    requires levels { IsLevelAt level.now L.spot L.notes × IsLevelAt level.now M.spot M.notes }
+    requires low_tallies { AreTallies G.rules level.now low_count.old.lo low_count.old.hi tallies.now }
+    requires high_tallies { AreTallies G.rules level.now high_count.old.lo high_count.old.hi tallies.now }
+    requires near { (L.spot.level ≤ REMOTENESS) × (M.spot.level ≤ REMOTENESS) }
+    ensures low { IfOk result (λ done. spot_of done.0 ≡ next_spot L.spot) }
+    ensures high { IfOk result (λ done. spot_of done.1 ≡ next_spot M.spot) }
+    ensures none { IfOk result (λ done. HasNoneHere G.rules done.0 × HasNoneHere G.rules done.1) }
+    ensures low_count { OnOk result (spot_counted low_count.new ≡ next_spot (spot_counted low_count.old)) }
+    ensures high_count { OnOk result (spot_counted high_count.new ≡ next_spot (spot_counted high_count.old)) }
+    ensures error { IfErr result (IsError G.rules lists.now) }
+{
+    let (low, in_low) = close_post(low, low_count, level, lists, tallies)?;
+    let (high, in_high) = close_post(high, high_count, level, lists, tallies)?;
+    Ok((low, high, in_low.saturating_add(in_high)))
+}
+
 // The four posts after their workers.
 #[derive(Drop)]
 struct Ends<G: Game, A: Round, B: Round, C: Round, D: Round> {
@@ -194,15 +222,31 @@ fn close_ends<G: Game, A: Round, B: Round, C: Round, D: Round>(
         d: ends.d.number,
     };
     let tallies = tally_of(alloc, pieces, numbers)?;
-    let (a, in_a) = close_post(ends.a, &mut counts.a, level, lists, tallies.as_slice())?;
-    let (b, in_b) = close_post(ends.b, &mut counts.b, level, lists, tallies.as_slice())?;
-    let (c, in_c) = close_post(ends.c, &mut counts.c, level, lists, tallies.as_slice())?;
-    let (d, in_d) = close_post(ends.d, &mut counts.d, level, lists, tallies.as_slice())?;
-    let delivered = in_a
-        .saturating_add(in_b)
-        .saturating_add(in_c)
-        .saturating_add(in_d);
-    Ok((Four { a, b, c, d }, delivered))
+    let Ends {
+        a: one,
+        b: two,
+        c: three,
+        d: four,
+    } = ends;
+    let (a, b, low) = close_two(
+        one,
+        two,
+        &mut counts.a,
+        &mut counts.b,
+        level,
+        lists,
+        tallies.as_slice(),
+    )?;
+    let (c, d, high) = close_two(
+        three,
+        four,
+        &mut counts.c,
+        &mut counts.d,
+        level,
+        lists,
+        tallies.as_slice(),
+    )?;
+    Ok((Four { a, b, c, d }, low.saturating_add(high)))
 }
 
 // Serves and closes a level at desks of these names.

@@ -52,6 +52,15 @@ fn deliver_from<G: Game, A: Desk, B: Desk, C: Desk, D: Desk, R: Wait, T: Gate>(
     batch.clear();
 }
 
+// An empty batch for each shard.
+fn empty_batches<G: Game, A: Desk>(alloc: Global) -> Result<[Batch<G, A>; 4], AllocError> {
+    let a = Batch::new(alloc)?;
+    let b = Batch::new(alloc)?;
+    let c = Batch::new(alloc)?;
+    let d = Batch::new(alloc)?;
+    Ok([a, b, c, d])
+}
+
 // Delivers what is left in the batches of all shards.
 fn deliver_rest<G: Game, A: Desk, B: Desk, C: Desk, D: Desk, R: Wait, T: Gate>(
     rt: &R,
@@ -98,12 +107,7 @@ pub(crate) fn walk<G: Game, A: Desk, B: Desk, C: Desk, D: Desk, R: Wait, T: Gate
     let place = level.place();
     let size = G::tier_size(place.tier);
     let mut counts = vec![in alloc; 0u64; size.div_ceil(pieces.width) as usize]?;
-    let mut batches: [Batch<G, A>; 4] = [
-        Batch::new(alloc)?,
-        Batch::new(alloc)?,
-        Batch::new(alloc)?,
-        Batch::new(alloc)?,
-    ];
+    let mut batches = empty_batches::<G, A>(alloc)?;
     for (note, parent) in level.pairs(piece, pieces.notes, 0, size) {
         counts[(parent / pieces.width) as usize] += 1;
         let stands = pieces.lists.place_of(note.position(), parent);
