@@ -11,3 +11,4 @@ pub mod OneTally
 pub mod FullLemmas
 pub mod SmallTiers
 pub mod BlockLemmas
+pub mod AnswerLemmas

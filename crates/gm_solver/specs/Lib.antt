@@ -9,3 +9,4 @@ pub mod Covered
 pub mod Rounds
 pub mod Begun
 pub mod Blocks
+pub mod Batches

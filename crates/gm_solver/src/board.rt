@@ -4,6 +4,7 @@ ghost use Rattle.gm_shard.specs.State.{pairs_in};
 ghost use Rattle.gm_shard.specs.Delivery.{IsPlaceOf};
 ghost use Rattle.gm_solver.specs.Spots.{spot_of, choose, gain, AreFourTiles, IsWithin, IsAnswer, IsDeliveryAt};
 ghost use Rattle.gm_solver.specs.Amounts.{Amounts, one_part, amount_of, raised, joined, split_of};
+ghost use Rattle.gm_solver.specs.Batches.{ArePlaced, AreAnswers};
 
 use crate::held::Held;
 use crate::share::{Desk, Share};
@@ -261,6 +262,28 @@ impl<G: Game, A: Desk, B: Desk, C: Desk, D: Desk> Board<G, A, B, C, D> {
                 .d
                 .lock(rt)
                 .deliver_at(note, parent, place, &mut shares.d),
+        }
+    }
+
+    /// Delivers pairs to one shard, one after another under that shard's one lock, and counts those that are new. Each is given with the place of its note's position among the children of its parent.
+    /// The caller's amount of this shard rises by their number, and the others stay.
+    pub fn deliver_all<R: Wait>(
+        &self,
+        rt: &R,
+        shard: usize,
+        pairs: &[(Note<G>, u64, Option<u32>)],
+        shares: &mut Shares<A, B, C, D>,
+    ) -> u64
+        requires shard { shard < 4 }
+        requires places { ArePlaced G.rules A.spot.tier pairs.now }
+        ensures shares { shares.new ≡ raised shares.old shard result }
+        ensures answers { AreAnswers G.rules (choose shard A.spot B.spot C.spot D.spot) pairs.now result }
+    {
+        match shard {
+            0 => self.a.lock(rt).deliver_all(pairs, &mut shares.a),
+            1 => self.b.lock(rt).deliver_all(pairs, &mut shares.b),
+            2 => self.c.lock(rt).deliver_all(pairs, &mut shares.c),
+            _ => self.d.lock(rt).deliver_all(pairs, &mut shares.d),
         }
     }
 

@@ -36,7 +36,7 @@ fn slots_of<G: Game, A: Desk, B: Desk, C: Desk, D: Desk>(
     Ok(slots)
 }
 
-// Runs a worker for each slot in a thread of its own, and waits for all. A worker that can't be started leaves its slot as it was.
+// Runs a worker for each slot, the first in this thread and each other in one of its own, and waits for all. A worker that can't be started leaves its slot as it was.
 fn run_workers<
     G: Game + Send + Sync,
     A: Desk + Send + Sync,
@@ -63,7 +63,7 @@ fn run_workers<
         |scope|
             requires { A.spot.tier ≡ pieces.now.level.now.place.tier }
         {
-            for worker in 0..slots.len() {
+            for worker in 1..slots.len() {
                 let slot = &slots[worker];
                 let _started = scope.spawn(
                     move ||
@@ -73,6 +73,10 @@ fn run_workers<
                         work(rt, alloc, board, pieces, gate, source, worker, &mut mine);
                     },
                 );
+            }
+            if let Some(slot) = slots.first() {
+                let mut mine = slot.lock(rt);
+                work(rt, alloc, board, pieces, gate, source, 0, &mut mine);
             }
         },
     );

@@ -4,6 +4,7 @@
 #![tactic(auto)]
 
 pub mod alone;
+mod batch;
 pub mod board;
 mod crew;
 pub mod error;

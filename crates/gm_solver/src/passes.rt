@@ -2,7 +2,7 @@
 ghost use Rattle.std.specs.Prelude.{◌≡◌, ◌<◌, ◌≤◌, length, IfOk, IfErr, OnOk};
 ghost use Rattle.gm_frontier.specs.Tallies.{AreTallies};
 ghost use Rattle.gm_shard.specs.State.{pairs_in};
-ghost use Rattle.gm_shard.specs.Steps.{place_of, IsWhole};
+ghost use Rattle.gm_shard.specs.Steps.{IsWhole};
 ghost use Rattle.gm_solver.specs.Solving.{IsError};
 ghost use Rattle.gm_solver.specs.Spots.{spot_of};
 ghost use Rattle.gm_solver.specs.Rounds.{HasNoneHere, IsLevelAt, IsForSpot};
@@ -14,11 +14,9 @@ use crate::gate::Gate;
 use crate::listed::deliver_listed;
 use crate::pass::Round;
 use crate::pieces::Pieces;
-use crate::plan::Plan;
 use crate::post::{Ended, Post};
 use crate::source::Source;
 use crate::tier_lists::TierLists;
-use crate::tiles::Tiles;
 use gm_frontier::expected::Expected;
 use gm_frontier::level::Level;
 use gm_frontier::tally::Tally;
@@ -64,7 +62,7 @@ impl<'a, G: Game, A: Round, B: Round, C: Round, D: Round> Posts<'a, G, A, B, C, 
     }
 }
 
-// Runs workers, each in a thread of its own, and waits for all. A worker that can't be started is done without.
+// Runs workers, the first in this thread and each other in one of its own, and waits for all. A worker that can't be started is done without.
 fn run_workers<
     'a,
     G: Game + Send + Sync,
@@ -77,9 +75,10 @@ fn run_workers<
     S: Source,
 >(rt: &R, posts: &Posts<'a, G, A, B, C, D>, gate: &T, source: &S, workers: usize) {
     thread::scope(thread::scope_env(), rt, |scope| {
-        for worker in 0..workers {
+        for worker in 1..workers {
             let _started = scope.spawn(move || posts.work(rt, gate, source, worker));
         }
+        posts.work(rt, gate, source, 0);
     });
 }
 
@@ -159,6 +158,34 @@ fn close_post<G: Game, L: Round>(
     Ok((shard, delivered))
 }
 
+// The same in two shards. The number is that of the pairs that both had before.
+fn close_two<G: Game, L: Round, M: Round>(
+    low: Ended<G, L>,
+    high: Ended<G, M>,
+    low_count: &mut Expected<G>,
+    high_count: &mut Expected<G>,
+    level: &Level<G>,
+    lists: &TierLists<G>,
+    tallies: &[Tally<G>],
+) -> Result<(Shard<G>, Shard<G>, u64), SolveError>
+    requires lists { (lists.now ≡ L.spot.tier) × (lists.now ≡ M.spot.tier) }
+    requires counts { (L.spot ≡ spot_counted low_count.old) × (M.spot ≡ spot_counted high_count.old) }
+    requires levels { IsLevelAt level.now L.spot L.notes × IsLevelAt level.now M.spot M.notes }
+    requires low_tallies { AreTallies G.rules level.now low_count.old.lo low_count.old.hi tallies.now }
+    requires high_tallies { AreTallies G.rules level.now high_count.old.lo high_count.old.hi tallies.now }
+    requires near { (L.spot.level ≤ REMOTENESS) × (M.spot.level ≤ REMOTENESS) }
+    ensures low { IfOk result (λ done. spot_of done.0 ≡ next_spot L.spot) }
+    ensures high { IfOk result (λ done. spot_of done.1 ≡ next_spot M.spot) }
+    ensures none { IfOk result (λ done. HasNoneHere G.rules done.0 × HasNoneHere G.rules done.1) }
+    ensures low_count { OnOk result (spot_counted low_count.new ≡ next_spot (spot_counted low_count.old)) }
+    ensures high_count { OnOk result (spot_counted high_count.new ≡ next_spot (spot_counted high_count.old)) }
+    ensures error { IfErr result (IsError G.rules lists.now) }
+{
+    let (low, in_low) = close_post(low, low_count, level, lists, tallies)?;
+    let (high, in_high) = close_post(high, high_count, level, lists, tallies)?;
+    Ok((low, high, in_low.saturating_add(in_high)))
+}
+
 // The four posts after their workers.
 #[derive(Drop)]
 struct Ends<G: Game, A: Round, B: Round, C: Round, D: Round> {
@@ -195,15 +222,31 @@ fn close_ends<G: Game, A: Round, B: Round, C: Round, D: Round>(
         d: ends.d.number,
     };
     let tallies = tally_of(alloc, pieces, numbers)?;
-    let (a, in_a) = close_post(ends.a, &mut counts.a, level, lists, tallies.as_slice())?;
-    let (b, in_b) = close_post(ends.b, &mut counts.b, level, lists, tallies.as_slice())?;
-    let (c, in_c) = close_post(ends.c, &mut counts.c, level, lists, tallies.as_slice())?;
-    let (d, in_d) = close_post(ends.d, &mut counts.d, level, lists, tallies.as_slice())?;
-    let delivered = in_a
-        .saturating_add(in_b)
-        .saturating_add(in_c)
-        .saturating_add(in_d);
-    Ok((Four { a, b, c, d }, delivered))
+    let Ends {
+        a: one,
+        b: two,
+        c: three,
+        d: four,
+    } = ends;
+    let (a, b, low) = close_two(
+        one,
+        two,
+        &mut counts.a,
+        &mut counts.b,
+        level,
+        lists,
+        tallies.as_slice(),
+    )?;
+    let (c, d, high) = close_two(
+        three,
+        four,
+        &mut counts.c,
+        &mut counts.d,
+        level,
+        lists,
+        tallies.as_slice(),
+    )?;
+    Ok((Four { a, b, c, d }, low.saturating_add(high)))
 }
 
 // Serves and closes a level at desks of these names.
@@ -306,53 +349,51 @@ fn delivered_to<G: Game>(shards: &Four<Shard<G>>) -> u64 {
         .saturating_add(shards.d.delivered())
 }
 
-/// Runs one level of a tier: by workers with one pass a shard, and by the coordinator what they left. The number is that of the workers' deliveries.
+/// Serves a level and closes it: by workers with one pass a shard, and by the coordinator what they left. The number is that of the workers' deliveries.
 pub(crate) fn run_passes<G: Game + Send + Sync, R: Threads + Wait + Sync, T: Gate, S: Source>(
     rt: &R,
     alloc: Global,
-    plan: Plan,
+    pieces: &Pieces<G>,
     gate: &T,
     source: &S,
-    tiles: Tiles<G>,
-    level: &Level<G>,
-) -> Result<(Tiles<G>, u64), SolveError>
-    requires place { level.now.place ≡ place_of tiles.shards.a }
-    requires near { tiles.shards.a.level ≤ REMOTENESS }
-    ensures next { IfOk result (λ next. place_of next.0.shards.a ≡ next_place (place_of tiles.shards.a)) }
-    ensures error { IfErr result (IsError G.rules tiles.shards.a.tier) }
+    workers: usize,
+    shards: Four<Shard<G>>,
+    counts: &mut Four<Expected<G>>,
+) -> Result<(Four<Shard<G>>, u64), SolveError>
+    requires here { AreShardsAt G.rules pieces.now.level.now.place pieces.now.width shards }
+    requires none { HaveNoneHere G.rules shards }
+    requires counts { AreCountsAt G.rules pieces.now.level.now.place pieces.now.width counts.old }
+    requires near { pieces.now.level.now.place.level ≤ REMOTENESS }
+    ensures shards { IfOk result (λ done. AreShardsAt G.rules (next_place pieces.now.level.now.place) pieces.now.width done.0) }
+    ensures none { IfOk result (λ done. HaveNoneHere G.rules done.0) }
+    ensures counts { OnOk result (AreCountsAt G.rules (next_place pieces.now.level.now.place) pieces.now.width counts.new) }
+    ensures error { IfErr result (IsError G.rules pieces.now.level.now.place.tier) }
 {
-    let Tiles {
-        shards,
-        mut counts,
+    let Pieces {
+        level,
         lists,
         width,
-    } = tiles;
+        ..
+    } = *pieces;
     let before = delivered_to(&shards);
     let notes = level.len().max(1);
-    let pieces = Pieces {
+    let whole = Pieces {
         level,
-        lists: &lists,
+        lists,
         notes,
         width,
     };
-    let (shards, delivered) = match serve_passes(
+    match serve_passes(
         rt,
         alloc,
-        &pieces,
+        &whole,
         gate,
         source,
-        plan.workers(),
-        shards,
-        &mut counts,
-    ) {
-        Ok(served) => served,
-        Err(error) => return Err(error),
-    };
-    let tiles = Tiles {
+        workers.min(4),
         shards,
         counts,
-        lists,
-        width,
-    };
-    Ok((tiles, delivered.saturating_sub(before)))
+    ) {
+        Ok((shards, delivered)) => Ok((shards, delivered.saturating_sub(before))),
+        Err(error) => Err(error),
+    }
 }

@@ -16,10 +16,8 @@ use crate::found::fill;
 use crate::gate::Gate;
 use crate::listed::deliver_listed;
 use crate::pieces::Pieces;
-use crate::plan::Plan;
 use crate::share::Desk;
 use crate::source::Source;
-use crate::tiles::Tiles;
 use gm_frontier::expected::Expected;
 use gm_frontier::level::Level;
 use gm_frontier::tally::Tally;
@@ -144,49 +142,36 @@ fn close_tile<G: Game>(
     Ok(())
 }
 
-/// Runs one level of a tier: by workers, and by the coordinator what they left.
-pub(crate) fn run_level<G: Game + Send + Sync, R: Threads + Wait + Sync, T: Gate, S: Source>(
+/// Serves a level and closes it: by workers, and by the coordinator what they left. The number is that of the workers' deliveries.
+pub(crate) fn run_pieces<G: Game + Send + Sync, R: Threads + Wait + Sync, T: Gate, S: Source>(
     rt: &R,
     alloc: Global,
-    plan: Plan,
+    pieces: &Pieces<G>,
     gate: &T,
     source: &S,
-    tiles: Tiles<G>,
-    level: &Level<G>,
-) -> Result<(Tiles<G>, u64), SolveError>
-    requires place { level.now.place ≡ place_of tiles.shards.a }
-    requires near { tiles.shards.a.level ≤ REMOTENESS }
-    ensures next { IfOk result (λ next. place_of next.0.shards.a ≡ next_place (place_of tiles.shards.a)) }
-    ensures error { IfErr result (IsError G.rules tiles.shards.a.tier) }
+    workers: usize,
+    shards: Four<Shard<G>>,
+    counts: &mut Four<Expected<G>>,
+) -> Result<(Four<Shard<G>>, u64), SolveError>
+    requires few { workers ≤ 16 }
+    requires here { AreShardsAt G.rules pieces.now.level.now.place pieces.now.width shards }
+    requires counts { AreCountsAt G.rules pieces.now.level.now.place pieces.now.width counts.old }
+    requires near { pieces.now.level.now.place.level ≤ REMOTENESS }
+    ensures shards { IfOk result (λ done. AreShardsAt G.rules (next_place pieces.now.level.now.place) pieces.now.width done.0) }
+    ensures none { IfOk result (λ done. HaveNoneHere G.rules done.0) }
+    ensures counts { OnOk result (AreCountsAt G.rules (next_place pieces.now.level.now.place) pieces.now.width counts.new) }
+    ensures error { IfErr result (IsError G.rules pieces.now.level.now.place.tier) }
 {
-    let Tiles {
-        shards,
-        mut counts,
-        lists,
-        width,
-    } = tiles;
-    let notes = plan.piece();
-    let pieces = Pieces {
-        level,
-        lists: &lists,
-        notes,
-        width,
-    };
+    let workers = workers.min(pieces.level.pieces(pieces.notes));
     let Served {
         mut shards,
         tallies,
         by_workers,
-    } = serve(rt, alloc, &pieces, gate, source, plan.workers(), shards)?;
-    if let Err(error) = close_tiles(&mut shards, &mut counts, &pieces, tallies.as_slice()) {
+    } = serve(rt, alloc, pieces, gate, source, workers, shards)?;
+    if let Err(error) = close_tiles(&mut shards, counts, pieces, tallies.as_slice()) {
         return Err(error);
     }
-    let tiles = Tiles {
-        shards,
-        counts,
-        lists,
-        width,
-    };
-    Ok((tiles, by_workers))
+    Ok((shards, by_workers))
 }
 
 // Closes a level in all four shards.

@@ -1,6 +1,9 @@
 //! A tier solved by workers.
 ghost use Rattle.std.specs.Prelude.{◌≡◌, ◌≤◌, ℕ, IfOk, IfErr, OnOk};
+ghost use Rattle.gm_game.specs.declared.position.Phase.TheVariants.{WinLose, Ties};
 ghost use Rattle.gm_table.specs.Tables.{AreHeld, IsTable};
+ghost use Rattle.gm_frontier.specs.Levels.{place_at};
+ghost use Rattle.gm_shard.specs.Steps.{place_of};
 ghost use Rattle.gm_solver.specs.Solving.{IsError, IsTooFar, AreDeliveries};
 
 use crate::error::SolveError;
@@ -8,7 +11,8 @@ use crate::gate::Gate;
 use crate::levels::{Way, finish_levels};
 use crate::plan::Plan;
 use crate::source::Source;
-use crate::tiles::{begin_tiles, tile_width};
+use crate::tiles::{Tiles, begin_tiles, tile_width};
+use gm_frontier::last::Last;
 use gm_game::game::Game;
 use gm_game::limits::TIER_SIZE;
 use gm_table::table::Table;
@@ -77,6 +81,31 @@ pub fn solve_passes<G: Game + Send + Sync, R: Threads + Wait + Sync, T: Gate, S:
     solve_by(rt, alloc, tier, tables, Way::Passes, plan, gate, source)
 }
 
+// Takes a tier from its first level through both phases, in one of the two ways. The number is that of the workers' deliveries.
+fn finish_phases<G: Game + Send + Sync, R: Threads + Wait + Sync, T: Gate, S: Source>(
+    rt: &R,
+    alloc: Global,
+    tables: &Tables<G>,
+    way: Way,
+    plan: Plan,
+    gate: &T,
+    source: &S,
+    tiles: Tiles<G>,
+) -> Result<(Tiles<G>, Last<G>, u64), SolveError>
+    requires held { AreHeld G.rules tables.now tiles.shards.a.tier }
+    requires small { G.rules.tier_size tiles.shards.a.tier ≤ TIER_SIZE }
+    requires first { place_of tiles.shards.a ≡ place_at tiles.shards.a.tier WinLose 0 }
+    ensures tier { IfOk result (λ done. done.0.shards.a.tier ≡ tiles.shards.a.tier) }
+    ensures ties { IfOk result (λ done. done.0.shards.a.phase ≡ Ties) }
+    ensures last { IfOk result (λ done. done.1 ≡ place_of done.0.shards.a) }
+    ensures error { IfErr result (IsError G.rules tiles.shards.a.tier) }
+{
+    let (mut tiles, last, wins) = finish_levels(rt, alloc, tables, way, plan, gate, source, tiles)?;
+    tiles.next_phase(&last);
+    let (tiles, last, ties) = finish_levels(rt, alloc, tables, way, plan, gate, source, tiles)?;
+    Ok((tiles, last, wins.saturating_add(ties)))
+}
+
 // Solves a tier in one of the two ways.
 fn solve_by<G: Game + Send + Sync, R: Threads + Wait + Sync, T: Gate, S: Source>(
     rt: &R,
@@ -99,13 +128,13 @@ fn solve_by<G: Game + Send + Sync, R: Threads + Wait + Sync, T: Gate, S: Source>
 {
     let width = tile_width::<G>(tier, plan.shards());
     let tiles = begin_tiles::<G, R>(rt, alloc, tier, tables, width)?;
-    let (mut tiles, last, wins) = finish_levels(rt, alloc, tables, way, plan, gate, source, tiles)?;
-    tiles.next_phase(&last);
-    let (tiles, last, ties) = finish_levels(rt, alloc, tables, way, plan, gate, source, tiles)?;
+    let (tiles, last, by_workers) = finish_phases(
+        rt, alloc, tables, way, plan, gate, source, tiles,
+    )?;
     let (table, deliveries) = tiles.table(alloc, tables, &last)?;
     let report = Report {
         deliveries,
-        by_hand: deliveries.saturating_sub(wins.saturating_add(ties)),
+        by_hand: deliveries.saturating_sub(by_workers),
     };
     Ok((table, report))
 }

@@ -97,6 +97,7 @@ impl<G: Game + Send + Sync> Frame<G> {
     {
         (0..self.size.div_ceil(BLOCK) as u32)
             .into_par_iter()
+            .with_min_len(1)
             .map(
                 |k: u32| -> Result<(Lists<G>, Vec<Start>), AllocError>
                     ensures { IfOk result (λ block. IsBlock G.rules self.entry.now.tier BLOCK k block.0 block.1.items) }

@@ -1,5 +1,5 @@
 //! The tiles of a tier before its first level: a shard of each, and the count of the pairs into it.
-ghost use Rattle.std.specs.Prelude.{ℕ, ◌≡◌, ◌-◌, ◌<◌, ◌≤◌, length, max, IfOk, OnOk};
+ghost use Rattle.std.specs.Prelude.{ℕ, ◌≡◌, ◌+◌, ◌-◌, ◌<◌, ◌≤◌, length, max, IfOk, OnOk};
 ghost use Rattle.std.specs.Int.{div_ceil};
 ghost use Rattle.gm_game.specs.declared.position.Phase.TheVariants.{WinLose, Ties};
 ghost use Rattle.gm_game.specs.Records.{IsTrueTable};
@@ -78,6 +78,30 @@ fn begin_tile<G: Game>(
     Ok((shard, Expected::start(tier, lo, hi)))
 }
 
+// The shards of tiles k and k + 1, each with the count of the pairs into it.
+fn begin_two<G: Game>(
+    alloc: Global,
+    tier: u64,
+    width: u64,
+    k: u64,
+    starts: &[Start],
+) -> Result<((Shard<G>, Expected<G>), (Shard<G>, Expected<G>)), AllocError>
+    requires starts { AreStarts G.rules tier 0 starts.now }
+    requires whole { length starts.now ≡ G.rules.tier_size tier }
+    requires small { G.rules.tier_size tier ≤ TIER_SIZE }
+    requires wide { IsWide G.rules tier width }
+    requires tiles { k < 3 }
+    ensures low { IfOk result (λ begun. spot_of begun.0.0 ≡ tile_at G.rules (place_at tier WinLose 0) width k) }
+    ensures low_count { IfOk result (λ begun. spot_counted begun.0.1 ≡ tile_at G.rules (place_at tier WinLose 0) width k) }
+    ensures high { IfOk result (λ begun. spot_of begun.1.0 ≡ tile_at G.rules (place_at tier WinLose 0) width (k + 1)) }
+    ensures high_count { IfOk result (λ begun. spot_counted begun.1.1 ≡ tile_at G.rules (place_at tier WinLose 0) width (k + 1)) }
+    ensures none { IfOk result (λ begun. HasNoneHere G.rules begun.0.0 × HasNoneHere G.rules begun.1.0) }
+{
+    let low = begin_tile(alloc, tier, width, k, starts)?;
+    let high = begin_tile(alloc, tier, width, k + 1, starts)?;
+    Ok((low, high))
+}
+
 /// A tier before its first level.
 pub(crate) fn begin_tiles<G: Game + Send + Sync, R: Threads + Sync>(
     rt: &R,
@@ -93,10 +117,8 @@ pub(crate) fn begin_tiles<G: Game + Send + Sync, R: Threads + Sync>(
 {
     let _held = tables.has(tier);
     let (lists, starts) = scan_tier::<G, R>(rt, alloc, tier)?;
-    let (a, in_a) = begin_tile(alloc, tier, width, 0, starts.as_slice())?;
-    let (b, in_b) = begin_tile(alloc, tier, width, 1, starts.as_slice())?;
-    let (c, in_c) = begin_tile(alloc, tier, width, 2, starts.as_slice())?;
-    let (d, in_d) = begin_tile(alloc, tier, width, 3, starts.as_slice())?;
+    let ((a, in_a), (b, in_b)) = begin_two(alloc, tier, width, 0, starts.as_slice())?;
+    let ((c, in_c), (d, in_d)) = begin_two(alloc, tier, width, 2, starts.as_slice())?;
     Ok(Tiles {
         shards: Four { a, b, c, d },
         counts: Four {

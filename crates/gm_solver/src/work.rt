@@ -2,6 +2,7 @@
 ghost use Rattle.std.specs.Prelude.{◌≡◌, ◌<◌, ◌≤◌, IfOk};
 ghost use Rattle.gm_frontier.specs.Tallies.{IsTallyOf};
 
+use crate::batch::{BATCH, Batch};
 use crate::board::{Board, Shares};
 use crate::gate::Gate;
 use crate::pieces::Pieces;
@@ -9,6 +10,7 @@ use crate::share::Desk;
 use crate::source::Source;
 use gm_frontier::tally::Tally;
 use gm_game::game::Game;
+use gm_game::position::Place;
 use std::alloc::{AllocError, Global};
 use std::sync::Wait;
 
@@ -20,7 +22,73 @@ pub(crate) struct Slot<G: Game, A: Desk, B: Desk, C: Desk, D: Desk> {
     ghost one_part: { shares.parts ≡ 1 },
 }
 
-// Walks a piece's pairs once: counts each in its tile, and delivers it to its shard. Memory is asked for before the first delivery.
+// Delivers a shard's batch under one lock where it has so many pairs, and empties it. The gate is called before and after for each pair, while no lock is held.
+fn deliver_from<G: Game, A: Desk, B: Desk, C: Desk, D: Desk, R: Wait, T: Gate>(
+    rt: &R,
+    board: &Board<G, A, B, C, D>,
+    gate: &T,
+    worker: usize,
+    place: Place,
+    least: usize,
+    shard: usize,
+    batch: &mut Batch<G, A>,
+    shares: &mut Shares<A, B, C, D>,
+)
+    requires { shard < 4 }
+    ensures { shares.new.parts ≡ shares.old.parts }
+{
+    let pairs = batch.pairs();
+    if pairs.len() < least {
+        return;
+    }
+    for _ in 0..pairs.len() {
+        gate.before(rt, worker, place);
+    }
+    // A pair that is refused as too far is missing at the end of the level, where the coordinator finds it.
+    let _fresh = board.deliver_all(rt, shard, pairs, shares);
+    for _ in 0..pairs.len() {
+        gate.after(rt, worker, place);
+    }
+    batch.clear();
+}
+
+// An empty batch for each shard.
+fn empty_batches<G: Game, A: Desk>(alloc: Global) -> Result<[Batch<G, A>; 4], AllocError> {
+    let a = Batch::new(alloc)?;
+    let b = Batch::new(alloc)?;
+    let c = Batch::new(alloc)?;
+    let d = Batch::new(alloc)?;
+    Ok([a, b, c, d])
+}
+
+// Delivers what is left in the batches of all shards.
+fn deliver_rest<G: Game, A: Desk, B: Desk, C: Desk, D: Desk, R: Wait, T: Gate>(
+    rt: &R,
+    board: &Board<G, A, B, C, D>,
+    gate: &T,
+    worker: usize,
+    place: Place,
+    batches: &mut [Batch<G, A>; 4],
+    shares: &mut Shares<A, B, C, D>,
+)
+    ensures { shares.new.parts ≡ shares.old.parts }
+{
+    for shard in 0..4 {
+        deliver_from(
+            rt,
+            board,
+            gate,
+            worker,
+            place,
+            1,
+            shard,
+            &mut batches[shard],
+            shares,
+        );
+    }
+}
+
+// Walks a piece's pairs once: counts each in its tile, and delivers it to its shard, many under one lock.
 pub(crate) fn walk<G: Game, A: Desk, B: Desk, C: Desk, D: Desk, R: Wait, T: Gate>(
     rt: &R,
     alloc: Global,
@@ -39,15 +107,16 @@ pub(crate) fn walk<G: Game, A: Desk, B: Desk, C: Desk, D: Desk, R: Wait, T: Gate
     let place = level.place();
     let size = G::tier_size(place.tier);
     let mut counts = vec![in alloc; 0u64; size.div_ceil(pieces.width) as usize]?;
+    let mut batches = empty_batches::<G, A>(alloc)?;
     for (note, parent) in level.pairs(piece, pieces.notes, 0, size) {
         counts[(parent / pieces.width) as usize] += 1;
         let stands = pieces.lists.place_of(note.position(), parent);
-        gate.before(rt, worker, place);
-        // A pair that is refused as too far is missing at the end of the level, where the coordinator finds it.
         let shard = board.shard_of(parent);
-        let _answer = board.deliver_at(rt, shard, &note, parent, stands, shares);
-        gate.after(rt, worker, place);
+        let batch = &mut batches[shard];
+        deliver_from(rt, board, gate, worker, place, BATCH, shard, batch, shares);
+        batch.push(note, parent, stands)?;
     }
+    deliver_rest(rt, board, gate, worker, place, &mut batches, shares);
     Ok(Tally::of(level, piece, pieces.notes, pieces.width, counts))
 }
 

@@ -7,19 +7,17 @@ use Rattle.gm_solver.proofs.tier.solve_by.Goals as goal
 
 pub table-requires-clause-held : goal.table-requires-clause-held
 table-requires-clause-held g c =
-    let tier_of = λ (p : Place). p.tier in
-    let tier : c.in_ok-tiles-3.tiles.shards.a.tier ≡ c.args.tier = c.in_ok-tiles-3.ensures.later.tier ∙ ap tier_of c.next_phase.ensures ∙ c.in_ok-tiles-2.ensures.later.tier ∙ ap tier_of c.in_ok-tiles.ensures.place in
+    let tier : c.in_ok-tiles-2.tiles.shards.a.tier ≡ c.args.tier = c.in_ok-tiles-2.ensures.tier ∙ ap (λ (p : Place). p.tier) c.in_ok-tiles.ensures.place in
     subst (AreHeld g.G.Game.rules c.args.tables.now) (sym tier) c.requires.held
 
-pub finish_levels-requires-clause-held : goal.finish_levels-requires-clause-held
-finish_levels-requires-clause-held g c κs within =
+pub finish_phases-requires-clause-held : goal.finish_phases-requires-clause-held
+finish_phases-requires-clause-held g c κs within =
     let tier : c.in_ok-tiles.tiles.shards.a.tier ≡ c.args.tier = ap (λ (p : Place). p.tier) c.in_ok-tiles.ensures.place in
     subst (AreHeld g.G.Game.rules c.args.tables.now) (sym tier) c.requires.held
 
 pub returns-clause-near : goal.returns-clause-near
 returns-clause-near g c =
-    let tier_of = λ (p : Place). p.tier in
-    let tier : c.in_ok-tiles-3.tiles.shards.a.tier ≡ c.args.tier = c.in_ok-tiles-3.ensures.later.tier ∙ ap tier_of c.next_phase.ensures ∙ c.in_ok-tiles-2.ensures.later.tier ∙ ap tier_of c.in_ok-tiles.ensures.place in
+    let tier : c.in_ok-tiles-2.tiles.shards.a.tier ≡ c.args.tier = c.in_ok-tiles-2.ensures.tier ∙ ap (λ (p : Place). p.tier) c.in_ok-tiles.ensures.place in
     subst (λ (t : ℕ). IsTooFar g.G.Game.rules t → ⊥) tier c.in_ok-table.ensures.near
 
 pub returns-in_err-table-clause-error : goal.returns-in_err-table-clause-error

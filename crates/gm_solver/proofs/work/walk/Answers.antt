@@ -1,7 +1,6 @@
 use Rattle.std.proofs.Common.{rules, ◌≡◌, ℕ, ◌+◌, ◌<◌, ◌≤◌, ◌/◌, List, [], length, get_or, subst, sym, refl, ap, ◌∙◌, arith, set}
 use Rattle.std.proofs.lemmas.List.{get_or-replicate}
 use Rattle.gm_game.specs.declared.position.Place.{Place}
-use Rattle.gm_solver.specs.Amounts.{Amounts}
 use Rattle.std.specs.List.{Contains}
 use Rattle.std.specs.Int.{div_ceil}
 use Rattle.gm_game.proofs.Lists.{contains_first, contains_later}
@@ -119,7 +118,7 @@ loop-note-preserved g c =
     let new = set c.loop-note.counts.items (c.in-Some.parent / width) (c.index_mut.result.now + 1) in
     let more = counted_more width c.loop-note.counts.items new pair c.next.new.self all n same inside (ap (λ (v : ℕ). set c.loop-note.counts.items (c.in-Some.parent / width) (v + 1)) value) counted in
     record {
-      parts = ap (λ (s : Amounts). s.parts) c.deliver_at-answer.ensures.shares ∙ c.loop-note.invariant.parts;
+      parts = c.deliver_from.ensures ∙ c.loop-note.invariant.parts;
       tiles = c.loop-note.invariant.tiles;
       within = λ x h. within x (contains_later pair x c.next.new.self h);
       counted = more;
