@@ -7,7 +7,7 @@ ghost use Rattle.gm_game.specs.Rules.{IsKind};
 ghost use Rattle.gm_pieces.specs.MoveGames.{board_game, move_rules, steps, befores};
 
 use crate::boards::{is_canonical, least_position};
-use crate::moves::{has_no_move, open_moves, plays_on, put_befores};
+use crate::moves::{has_no_move, list_moves, plays_on, put_befores};
 use crate::rules::MoveRules;
 use arrayvec::ArrayVec;
 use gm_game::children::insert_position;
@@ -41,13 +41,21 @@ pub trait MoveLists: MoveRules {
         }
     }
 
+    /// The numbers of the moves, were the game not over, ascending.
+    fn open_moves(board: Self::Board) -> ArrayVec<u32, MOVES>
+        requires { Self.game.legal (Self.cells board) ≡ true }
+        ensures { result.items ≡ steps Self.game (Self.cells board) }
+    {
+        list_moves::<Self>(board)
+    }
+
     /// The numbers of the moves, ascending.
     fn moves(board: Self::Board) -> ArrayVec<u32, MOVES>
         requires { Self.game.legal (Self.cells board) ≡ true }
         ensures { result.items ≡ (board_game Self.game).moves (Self.cells board) }
     {
         if plays_on::<Self>(board) {
-            open_moves::<Self>(board)
+            Self::open_moves(board)
         } else {
             ArrayVec::new()
         }

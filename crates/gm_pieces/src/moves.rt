@@ -18,7 +18,7 @@ pub fn plays_on<T: MoveRules>(board: T::Board) -> bool
 }
 
 /// The numbers of the moves, were the game not over, ascending.
-pub fn open_moves<T: MoveRules>(board: T::Board) -> ArrayVec<u32, MOVES>
+pub fn list_moves<T: MoveRules>(board: T::Board) -> ArrayVec<u32, MOVES>
     requires { T.game.legal (T.cells board) ≡ true }
     ensures { result.items ≡ steps T.game (T.cells board) }
 {
@@ -44,19 +44,8 @@ pub fn has_no_move<T: MoveRules>(board: T::Board) -> bool
     true
 }
 
-// Whether the game goes on from a board of the tier by this move.
-fn goes_on<T: MoveRules>(tier: u64, board: T::Board, number: u32) -> bool
-    requires { number < T.game.numbers_end tier }
-    ensures { result ≡ goes_on_of T.game tier (T.cells board) number }
-{
-    T::is_legal_board(board)
-        && T::tier(board) == tier
-        && plays_on::<T>(board)
-        && T::can_move(board, number)
-}
-
-// The board of the tier before a move with this number that led to this one, if there is one.
-fn before<T: MoveRules>(tier: u64, board: T::Board, number: u32) -> Option<T::Board>
+/// The board of the tier before a move with this number that led to this one, if there is one.
+pub fn before<T: MoveRules>(tier: u64, board: T::Board, number: u32) -> Option<T::Board>
     requires legal { T.game.legal (T.cells board) ≡ true }
     requires below { number < T.game.numbers_end tier }
     ensures { MatchOption result
@@ -67,7 +56,7 @@ fn before<T: MoveRules>(tier: u64, board: T::Board, number: u32) -> Option<T::Bo
         return None;
     }
     let earlier = T::taken_back(tier, board, number);
-    if goes_on::<T>(tier, earlier, number) {
+    if T::goes_on(tier, earlier, number) {
         Some(earlier)
     } else {
         None

@@ -1,7 +1,7 @@
 //! What a game gives that is said by the numbers of its moves.
 ghost use Rattle.std.specs.Prelude.{◌≡◌, ◌<◌, ◌==◌, ℕ, true, List};
 ghost use Rattle.gm_game.specs.Boards.{position_of, least_index as least_index_of, IsNumbered};
-ghost use Rattle.gm_pieces.specs.MoveGames.{MoveGame, board_game, move_rules, IsMove, IsMoveGame, IsMoveSymmetric};
+ghost use Rattle.gm_pieces.specs.MoveGames.{MoveGame, board_game, move_rules, plays_on, goes_on as goes_on_of, IsMove, IsMoveGame, IsMoveSymmetric};
 ghost use Rattle.gm_pieces.specs.MoveTexts.{AreTexts};
 
 use arrayvec::ArrayVec;
@@ -133,6 +133,17 @@ pub trait MoveRules: Drop {
         requires below { number < game.numbers_end tier }
         requires was { game.was_moved tier (cells board) number ≡ true }
         ensures { cells result ≡ game.taken_back tier (cells board) number };
+
+    /// Whether the game goes on from a board of the tier by this move. A game may make the tests in another order.
+    fn goes_on(tier: u64, board: Self::Board, number: u32) -> bool
+        requires { number < game.numbers_end tier }
+        ensures { result ≡ goes_on_of game tier (cells board) number }
+    {
+        Self::is_legal_board(board)
+            && Self::tier(board) == tier
+            && Self::over(board).is_none()
+            && Self::can_move(board, number)
+    }
 
     /// The text of a board.
     fn board_text(board: Self::Board) -> Line
