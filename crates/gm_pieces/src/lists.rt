@@ -6,7 +6,7 @@ ghost use Rattle.gm_game.specs.Children.{IsSetOf};
 ghost use Rattle.gm_game.specs.Rules.{IsKind};
 ghost use Rattle.gm_pieces.specs.MoveGames.{board_game, move_rules, steps, befores};
 
-use crate::boards::{is_canonical, least_position};
+use crate::boards::least_position;
 use crate::moves::{has_no_move, list_moves, plays_on, put_befores};
 use crate::rules::MoveRules;
 use arrayvec::ArrayVec;
@@ -82,7 +82,7 @@ pub trait MoveLists: MoveRules {
             return Kind::Hole;
         }
         let board = Self::board(p.tier, p.index);
-        if !is_canonical::<Self>(p, board) {
+        if !Self::is_canonical(p, board) {
             return Kind::Hole;
         }
         match Self::end(board) {

@@ -1,6 +1,7 @@
 //! What a game gives that is said by the numbers of its moves.
-ghost use Rattle.std.specs.Prelude.{◌≡◌, ◌<◌, ◌==◌, ℕ, true, List};
-ghost use Rattle.gm_game.specs.Boards.{position_of, least_index as least_index_of, IsNumbered};
+ghost use Rattle.std.specs.Prelude.{◌≡◌, ◌<◌, ◌↔◌, ℕ, true, IsTrue, List};
+ghost use Rattle.gm_game.specs.Boards.{board_of, position_of, least_index as least_index_of, IsNumbered};
+ghost use Rattle.gm_game.specs.Rules.{IsCanonical};
 ghost use Rattle.gm_pieces.specs.MoveGames.{MoveGame, board_game, move_rules, plays_on, goes_on as goes_on_of, IsMove, IsMoveGame, IsMoveSymmetric};
 ghost use Rattle.gm_pieces.specs.MoveTexts.{AreTexts};
 
@@ -80,13 +81,15 @@ pub trait MoveRules: Drop {
         requires { game.legal (cells board) ≡ true }
         ensures { result ≡ least_index_of (board_game game) (cells board) };
 
-    /// Whether the index of a board is the least of those of its images.
-    fn is_least(board: Self::Board, index: u64) -> bool
-        requires legal { game.legal (cells board) ≡ true }
-        requires own { index ≡ game.index (cells board) }
-        ensures { result ≡ (least_index_of (board_game game) (cells board) == index) }
+    /// Whether p is legal and the representative of its symmetric positions, where this is the board with its index. A game may make the tests in another order.
+    fn is_canonical(p: Position, board: Self::Board) -> bool
+        requires below { p.index < game.size p.tier }
+        requires own { cells board ≡ board_of (board_game game) p }
+        ensures { IsTrue result ↔ IsCanonical (move_rules game) p }
     {
-        Self::least_index(board) == index
+        Self::is_legal_board(board)
+            && Self::tier(board) == p.tier
+            && Self::least_index(board) == p.index
     }
 
     /// Whether p is a position of the game. A game may have a test that needs no board.
