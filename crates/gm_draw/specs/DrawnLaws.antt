@@ -1,13 +1,12 @@
 -- Drawings tell positions apart: each byte of a position's text has a slot.
 use Rattle.std.proofs.Common.{◌≡◌, ℕ, ◌+◌, ◌-◌, ◌*◌, ◌<◌, ◌≤◌, Bool, true, false, cond, eqb, leb, eqb-true, List, [], ◌∷◌, map, length, get_or, refl, sym, ap, subst, ◌∙◌, arith, inl, inr}
-use Rattle.std.specs.Prelude.{◌&&◌, slice_index, codes, if◌then◌else◌}
+use Rattle.std.specs.Prelude.{if◌then◌else◌}
 use Rattle.std.specs.List.{range_with_len}
 use Rattle.std.proofs.lemmas.Bool.{cases_Bool, cond-true, true≢false}
 use Rattle.std.proofs.lemmas.Bool.Decides.{nat_tests}
 use Rattle.std.proofs.lemmas.List.{ext_get_or, length-map}
 use Rattle.gm_game.specs.declared.position.Position.{Position}
 use Rattle.gm_game.specs.Rules.{Rules}
-use Rattle.gm_game.specs.Boards.{board_of}
 use Rattle.gm_game.specs.Shown.{IsShown}
 use Rattle.gm_game.proofs.BoardLaws.{legal_board}
 use Rattle.gm_board.specs.Lists.{contains_range}
@@ -25,7 +24,7 @@ use Rattle.gm_dao.specs.BoardFacts.{legal_in as legal_dao}
 use Rattle.gm_dao.specs.Texts.{position_text as dao_text}
 use Rattle.gm_dao.specs.TextLaws.{text_length as dao_length, texts_readable as dao_readable}
 use Rattle.gm_tactix.specs.Board.{side_of, counters_at, tactix_rules}
-use Rattle.gm_tactix.specs.SegmentFacts.{for_sides, square_small}
+use Rattle.gm_tactix.specs.SegmentFacts.{for_sides}
 use Rattle.gm_tactix.specs.TactixLaws.{board_length, side_low, side_high}
 use Rattle.gm_tactix.specs.Texts.{position_text as tactix_text}
 use Rattle.gm_tactix.specs.TextLaws.{text_length as tactix_length, texts_readable as tactix_readable}
