@@ -23,12 +23,14 @@ use Rattle.gm_board.specs.NextCells.{rest_all, next_cell, cell_below, none_left}
 use Rattle.gm_board.specs.Images.{board_of}
 use Rattle.gm_steps.specs.Steps.{from_point, to_point, from_back, to_back}
 use Rattle.gm_steps.specs.Listed.{filter_in, filter_out}
-use Rattle.gm_dao.specs.DaoRules.{is_mine, is_theirs, is_empty, is_taken, cell_at, in_line, path, beyond, can_move, steps, was_moved, before_at, board_index, least_index_of}
+use Rattle.gm_pieces.specs.MoveGames.{steps, before_at}
+use Rattle.gm_pieces.specs.MoveLaws.{before_none, all_steps, step_listed}
+use Rattle.gm_dao.specs.DaoRules.{is_mine, is_theirs, is_empty, is_taken, cell_at, in_line, path, beyond, can_move, was_moved, board_index, least_index_of, dao}
 use Rattle.gm_dao.specs.MaskSlides.{slides_by_masks, AreMovesBelow, AreBeforesBelow}
-use Rattle.gm_dao.specs.MoveFacts.{move_slide}
+use Rattle.gm_dao.specs.MoveFacts.{move_slide, line_below}
 use Rattle.gm_dao.specs.BeforeFacts.{was_in}
 use Rattle.gm_dao.proofs.MaskFacts.{has_pieces, index_is, least_has_pieces, least_is}
-use Rattle.gm_dao.proofs.MoveSteps.{own_cells, their_cells, slides_by, move_by, before_none, all_steps, step_listed}
+use Rattle.gm_dao.proofs.MoveSteps.{own_cells, their_cells, slides_by, move_by}
 
 filter_skip : (p : ℕ → Bool) (n k : ℕ) → ((i : ℕ) → i < k → p (n + i) ≡ false) → filter p (range_with_len 0 (n + k)) ≡ filter p (range_with_len 0 n)
 filter_skip p n zero h = ap (λ (m : ℕ). filter p (range_with_len 0 m)) (let e : n + 0 ≡ n = omega arith in e)
@@ -92,9 +94,13 @@ pub no_cell : (k : ℕ) → has_cell 0 k ≡ false
 no_cell k = rw (bit_at-zero k) refl
 
 -- ---- boards before
+-- no board before a move that cannot have led to d
+before_not : (t : ℕ) (d : List Cell) (m : ℕ) → was_moved d m ≡ false → before_at dao t d m ≡ None
+before_not t d m e = before_none dao t d m (λ w. absurd (true≢false (sym w ∙ e)))
+
 -- no move ends on a cell without a piece of the opponent's
-no_before_to : (t a b m : ℕ) → b < 2 ^ 16 → bit_and a b ≡ 0 → has_cell b (to_point m) ≡ false → before_at t (board_of 16 a b) m ≡ None
-no_before_to t a b m l q e = before_none t (board_of 16 a b) m (elim (cases_Bool (was_moved (board_of 16 a b) m)) [
+no_before_to : (t a b m : ℕ) → b < 2 ^ 16 → bit_and a b ≡ 0 → has_cell b (to_point m) ≡ false → before_at dao t (board_of 16 a b) m ≡ None
+no_before_to t a b m l q e = before_not t (board_of 16 a b) m (elim (cases_Bool (was_moved (board_of 16 a b) m)) [
   | inl w ↦ absurd (true≢false (sym (their_cells a b (to_point m) l q ∙ ap is_theirs (was_in (board_of 16 a b) m w).there) ∙ e))
   | inr f ↦ f
 ])
@@ -106,16 +112,16 @@ befores_skip t a b from n s is l q w none e =
     let d = board_of 16 a b in
     e
     ∙ sym (
-    ap (λ (m : ℕ). put_all [] (map least_index_of (filter_map (before_at t d) (range_with_len 0 m)))) (let z : 16 * from + (n + s) ≡ 16 * from + n + s = omega arith in z)
-    ∙ puts_skip least_index_of (before_at t d) (16 * from + n) s (λ i k.
-    ap (before_at t d) (let z : 16 * from + n + i ≡ 16 * from + (n + i) = omega arith in z)
+    ap (λ (m : ℕ). put_all [] (map least_index_of (filter_map (before_at dao t d) (range_with_len 0 m)))) (let z : 16 * from + (n + s) ≡ 16 * from + n + s = omega arith in z)
+    ∙ puts_skip least_index_of (before_at dao t d) (16 * from + n) s (λ i k.
+    ap (before_at dao t d) (let z : 16 * from + n + i ≡ 16 * from + (n + i) = omega arith in z)
     ∙ no_before_to t a b (16 * from + (n + i)) l q (ap (has_cell b) (to_back from (n + i) (omega arith)) ∙ none i k)))
 
 -- no move has left a cell on which a piece stands
 pub befores_past : (t : ℕ) (d : List Cell) (from : ℕ) (is : List ℕ) → is_empty (cell_at d from) ≡ false → AreBeforesBelow t d (16 * from) is → AreBeforesBelow t d (16 * from + 16) is
 befores_past t d from is e h =
     h
-    ∙ sym (puts_skip least_index_of (before_at t d) (16 * from) 16 (λ i k. before_none t d (16 * from + i) (elim (cases_Bool (was_moved d (16 * from + i))) [
+    ∙ sym (puts_skip least_index_of (before_at dao t d) (16 * from) 16 (λ i k. before_not t d (16 * from + i) (elim (cases_Bool (was_moved d (16 * from + i))) [
       | inl w ↦ absurd (true≢false (sym (ap (λ (x : ℕ). is_empty (cell_at d x)) (sym (from_back from i k)) ∙ ap is_empty (was_in d (16 * from + i) w).left) ∙ e))
       | inr f ↦ f
     ])))
@@ -203,17 +209,17 @@ goals_end b from g n rest ms h l e z m =
     (goals_skip b from g n (16 - n) ms h (omega (arith, l)) (λ i k. none_left g n rest (n + i) e z (omega arith)) m)
 
 -- no piece is left
-pub moves_end : (a b n rest : ℕ) (ms : List ℕ) → a < 2 ^ 16 → n ≤ 16 → rest ≡ a / 2 ^ n → rest ≡ 0 → AreMovesBelow (board_of 16 a b) (16 * n) ms → ms ≡ steps (board_of 16 a b)
+pub moves_end : (a b n rest : ℕ) (ms : List ℕ) → a < 2 ^ 16 → n ≤ 16 → rest ≡ a / 2 ^ n → rest ≡ 0 → AreMovesBelow (board_of 16 a b) (16 * n) ms → ms ≡ steps dao (board_of 16 a b)
 moves_end a b n rest ms w l e z m =
     let q : AreMovesBelow (board_of 16 a b) (16 * (n + (16 - n))) ms = moves_skip a b n (16 - n) ms w (λ i k. none_left a n rest (n + i) e z (omega arith)) m in
-    q ∙ all_steps (board_of 16 a b) (16 * (n + (16 - n))) (let t : 16 * (n + (16 - n)) ≡ 256 = omega (arith, l) in t)
+    q ∙ all_steps dao (board_of 16 a b) (16 * (n + (16 - n))) (let t : 16 * (n + (16 - n)) ≡ 256 = omega (arith, l) in t)
 
 -- where there is a goal there is a move
-pub goal_found : (b : List Cell) (from g : ℕ) → AreGoals b from g → g < 2 ^ 16 → 0 < g → eqb (length (steps b)) 0 ≡ false
+pub goal_found : (b : List Cell) (from g : ℕ) → AreGoals b from g → g < 2 ^ 16 → 0 < g → eqb (length (steps dao b)) 0 ≡ false
 goal_found b from g h l p =
     let z = next_cell g 0 g (rest_all g) (omega (arith, l)) p in
     let k = 0 + trailing_zeros w32 g in
-    step_listed b (16 * from + k) (sym (h k (cell_below g 16 k l z.has)) ∙ z.has)
+    step_listed dao b (16 * from + k) (line_below (16 * from + k) (move_slide b (16 * from + k) (sym (h k (cell_below g 16 k l z.has)) ∙ z.has)).line) (sym (h k (cell_below g 16 k l z.has)) ∙ z.has)
 
 -- and where there is none, there is none
 pub goals_none : (b : List Cell) (from g : ℕ) → AreGoals b from g → g ≡ 0 → AreMovesBelow b (16 * from) [] → AreMovesBelow b (16 * (from + 1)) []
@@ -228,16 +234,16 @@ befores_end t a b from n rest is w q l e z m =
     (befores_skip t a b from n (16 - n) is w q (omega (arith, l)) (λ i k. none_left b n rest (n + i) e z (omega arith)) m)
 
 -- the number has no board before it
-pub before_less : (t : ℕ) (d : List Cell) (from k : ℕ) (is : List ℕ) → before_at t d (16 * from + k) ≡ None → AreBeforesBelow t d (16 * from + k) is → AreBeforesBelow t d (16 * from + (k + 1)) is
+pub before_less : (t : ℕ) (d : List Cell) (from k : ℕ) (is : List ℕ) → before_at dao t d (16 * from + k) ≡ None → AreBeforesBelow t d (16 * from + k) is → AreBeforesBelow t d (16 * from + (k + 1)) is
 before_less t d from k is e h =
     h
-    ∙ sym (put_more_none least_index_of (before_at t d) (16 * from + k) e)
-    ∙ ap (λ (n : ℕ). put_all [] (map least_index_of (filter_map (before_at t d) (range_with_len 0 n)))) (let z : 16 * from + k + 1 ≡ 16 * from + (k + 1) = omega arith in z)
+    ∙ sym (put_more_none least_index_of (before_at dao t d) (16 * from + k) e)
+    ∙ ap (λ (n : ℕ). put_all [] (map least_index_of (filter_map (before_at dao t d) (range_with_len 0 n)))) (let z : 16 * from + k + 1 ≡ 16 * from + (k + 1) = omega arith in z)
 
 -- or one
-pub before_more : (t : ℕ) (d b : List Cell) (from k i : ℕ) (is new : List ℕ) → before_at t d (16 * from + k) ≡ Some b → i ≡ least_index_of b → new ≡ put i is → AreBeforesBelow t d (16 * from + k) is → AreBeforesBelow t d (16 * from + (k + 1)) new
+pub before_more : (t : ℕ) (d b : List Cell) (from k i : ℕ) (is new : List ℕ) → before_at dao t d (16 * from + k) ≡ Some b → i ≡ least_index_of b → new ≡ put i is → AreBeforesBelow t d (16 * from + k) is → AreBeforesBelow t d (16 * from + (k + 1)) new
 before_more t d b from k i is new e f p h =
     p
     ∙ ap₂ put f h
-    ∙ sym (put_more_some least_index_of (before_at t d) (16 * from + k) b e)
-    ∙ ap (λ (n : ℕ). put_all [] (map least_index_of (filter_map (before_at t d) (range_with_len 0 n)))) (let z : 16 * from + k + 1 ≡ 16 * from + (k + 1) = omega arith in z)
+    ∙ sym (put_more_some least_index_of (before_at dao t d) (16 * from + k) b e)
+    ∙ ap (λ (n : ℕ). put_all [] (map least_index_of (filter_map (before_at dao t d) (range_with_len 0 n)))) (let z : 16 * from + k + 1 ≡ 16 * from + (k + 1) = omega arith in z)

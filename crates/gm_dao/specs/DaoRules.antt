@@ -1,10 +1,9 @@
 -- The rules of Dao, said of boards: a board is a list of sixteen cells as the player to move sees them.
 use Rattle.std.specs.Prelude.{ℕ, ◌+◌, ◌-◌, ◌/◌, ◌%◌, max, Bool, true, false, not, ◌&&◌, ◌||◌, ◌==◌, nat_le, nat_lt, List, [], ◌∷◌, ◌++◌, map, reverse, length, get_or, set, fold, min, codes, if◌then◌else◌, Option, None, Some}
-use Rattle.std.specs.List.{filter, filter_map, count_by, list_any, range_with_len}
+use Rattle.std.specs.List.{filter, count_by, list_any, range_with_len}
 use Rattle.gm_game.specs.declared.position.End.{End}
 use Rattle.gm_game.specs.declared.position.End.TheVariants.{Lose, Win}
 use Rattle.gm_game.specs.Rules.{Rules}
-use Rattle.gm_game.specs.Boards.{BoardGame, rules_of}
 use Rattle.gm_board.specs.declared.cell.Cell.{Cell}
 use Rattle.gm_board.specs.declared.cell.Cell.TheVariants.{Empty, Mine, Theirs}
 use Rattle.gm_board.specs.Arrangements.{arrangement, arrangements, arrangement_index}
@@ -13,6 +12,7 @@ use Rattle.gm_board.specs.Patterns.{fills, has_filled}
 use Rattle.gm_board.specs.Permutations.{permute}
 use Rattle.gm_board.specs.Squares.{cell_in, square_symmetries}
 use Rattle.gm_steps.specs.Steps.{from_point, to_point}
+use Rattle.gm_pieces.specs.MoveGames.{MoveGame, move_rules}
 
 -- ---- cells
 -- whether a piece of the mover's stands on a cell
@@ -146,24 +146,9 @@ can_move b m = can_go b (from_point m) (to_point m)
 abbrev pub numbers_end : ℕ
 numbers_end = 256
 
--- the moves that can be made, were the game not over
-unfoldable pub steps : List Cell → List ℕ
-steps b = filter (can_move b) (range_with_len 0 numbers_end)
-
--- whether the last move has ended the game: by a formation, or by trapping a piece in a corner
-unfoldable pub is_over : List Cell → Bool
-is_over b = has_formation is_theirs b || has_trapped b
-
--- a formation of the opponent's loses, which is tested first; then a piece that is trapped in a corner wins; then who can't move loses
-unfoldable pub ended : List Cell → Option End
-ended b =
-    if has_formation is_theirs b then Some Lose
-    else (if has_trapped b then Some Win
-    else (if length (steps b) == 0 then Some Lose else None))
-
--- the moves
-unfoldable pub moves : List Cell → List ℕ
-moves b = if is_over b then [] else steps b
+-- how the last move has ended the game: a formation of the opponent's loses, which is tested first; then a piece that is trapped in a corner wins
+unfoldable pub over : List Cell → Option End
+over b = if has_formation is_theirs b then Some Lose else (if has_trapped b then Some Win else None)
 
 -- the board with a piece gone from one cell to another, as the other player sees it
 abbrev pub gone : List Cell → ℕ → ℕ → List Cell
@@ -181,18 +166,6 @@ was_moved d m = in_line (from_point m) (to_point m) && (is_theirs (cell_at d (to
 -- the board before it
 unfoldable pub taken_back : List Cell → ℕ → List Cell
 taken_back d m = set (set (map turned d) (to_point m) Empty) (from_point m) Mine
-
--- whether the game goes on from a board by this move
-unfoldable pub goes_on : List Cell → ℕ → Bool
-goes_on b m = legal b && (not (is_over b) && can_move b m)
-
--- the board before d and the move with this number, in the one tier
-unfoldable pub before_at : ℕ → List Cell → ℕ → Option (List Cell)
-before_at t d m = if (t == 0 && (was_moved d m && goes_on (taken_back d m) m)) then Some (taken_back d m) else None
-
--- the boards before d
-unfoldable pub befores : ℕ → List Cell → List (List Cell)
-befores t d = filter_map (before_at t d) (range_with_len 0 numbers_end)
 
 -- ---- the game
 -- the name, padded with zeros
@@ -219,16 +192,19 @@ board_at i = reverse (arrangement 16 4 4 i)
 abbrev pub least_index_of : List Cell → ℕ
 least_index_of b = fold min (board_index b) (map board_index (map (λ g. permute Empty g b) (square_symmetries 4)))
 
--- Dao: one tier, and the turns and reflections of the square
-abbrev pub dao : BoardGame (List Cell) (List ℕ)
+-- Dao: one tier, who can't move has lost, and the turns and reflections of the square
+abbrev pub dao : MoveGame (List Cell) (List ℕ)
 dao = record {
   name = dao_name;
   start = start_board;
   legal = legal;
-  ended = ended;
-  moves = moves;
-  play = play;
-  befores = befores;
+  over = over;
+  stuck = Lose;
+  numbers_end = λ t. numbers_end;
+  can_move = can_move;
+  moved = play;
+  was_moved = λ t d m. was_moved d m;
+  taken_back = λ t d m. taken_back d m;
   symmetries = square_symmetries 4;
   image = λ g b. permute Empty g b;
   tier = λ b. 0;
@@ -241,4 +217,4 @@ dao = record {
 
 -- the rules of its positions
 abbrev pub dao_rules : Rules
-dao_rules = rules_of dao
+dao_rules = move_rules dao

@@ -4,7 +4,8 @@ use Rattle.std.specs.List.{list_all, filter, filter_map, range_with_len}
 use Rattle.gm_game.specs.Ascending.{put_all}
 use Rattle.gm_board.specs.declared.cell.Cell.{Cell}
 use Rattle.gm_board.specs.Masks.{has_cell}
-use Rattle.gm_dao.specs.DaoRules.{in_line, path, beyond, can_move, before_at, least_index_of}
+use Rattle.gm_pieces.specs.MoveGames.{before_at}
+use Rattle.gm_dao.specs.DaoRules.{in_line, path, beyond, can_move, least_index_of, dao}
 
 -- whether a piece slides from a to c: all cells on the way are free, and the cell that follows is taken or off the board
 abbrev pub slides_by_masks : ℕ → ℕ → ℕ → ℕ → Bool
@@ -16,4 +17,4 @@ AreMovesBelow b n ms = ms ≡ filter (can_move b) (range_with_len 0 n)
 
 -- the list has the least indexes of the boards before the moves with numbers below n, ascending and once each
 abbrev pub AreBeforesBelow : ℕ → List Cell → ℕ → List ℕ → Type 0
-AreBeforesBelow t d n is = is ≡ put_all [] (map least_index_of (filter_map (before_at t d) (range_with_len 0 n)))
+AreBeforesBelow t d n is = is ≡ put_all [] (map least_index_of (filter_map (before_at dao t d) (range_with_len 0 n)))

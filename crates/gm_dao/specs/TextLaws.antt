@@ -1,14 +1,14 @@
 -- The texts of Dao fit a line, and tell positions and moves apart.
-use Rattle.std.proofs.Common.{◌≡◌, ℕ, ◌+◌, ◌/◌, ◌%◌, List, [], ◌∷◌, ◌++◌, map, length, refl, sym, ap, ap₂, ◌∙◌, arith}
+use Rattle.std.proofs.Common.{◌≡◌, ℕ, ◌+◌, ◌/◌, ◌%◌, List, [], ◌∷◌, ◌++◌, map, length, refl, ap₂, arith}
 use Rattle.std.proofs.lemmas.List.{length-map}
-use Rattle.gm_game.specs.Boards.{position_of, board_of}
 use Rattle.gm_game.specs.Shown.{IsShown}
-use Rattle.gm_game.proofs.BoardLaws.{position_back, legal_board}
 use Rattle.gm_board.specs.declared.cell.Cell.{Cell}
 use Rattle.gm_board.specs.declared.cell.Cell.TheVariants.{Empty, Mine, Theirs}
 use Rattle.gm_board.specs.Squares.{cell_text}
 use Rattle.gm_steps.specs.Steps.{from_point, to_point, same_step}
-use Rattle.gm_dao.specs.DaoRules.{board_at, dao, dao_rules}
+use Rattle.gm_pieces.specs.MoveTexts.{AreTexts}
+use Rattle.gm_pieces.specs.TextFacts.{texts_are_shown}
+use Rattle.gm_dao.specs.DaoRules.{dao, dao_rules}
 use Rattle.gm_dao.specs.BoardFacts.{legal_in}
 use Rattle.gm_dao.specs.DaoLaws.{numbered}
 use Rattle.gm_dao.specs.Texts.{cell_char, board_text, step_text, position_text, move_text}
@@ -64,11 +64,14 @@ unfolding step_text
 step_length m = refl
 
 -- ---- the laws of texts
-pub texts_readable : IsShown dao_rules position_text move_text
-texts_readable = record {
-  shown_fits = λ p l. let a = text_length (board_at p.index) in let b = (legal_in (board_at p.index) (legal_board dao p l)).cells in omega (arith, a, b);
-  shown_once = λ p q l k e.
-      sym (position_back dao numbered p l) ∙ ap (position_of dao) (text_once (board_of dao p) (board_of dao q) e) ∙ position_back dao numbered q k;
-  move_shown_fits = λ p m l c. let a = step_length m in omega (arith, a);
-  move_shown_once = λ p m k l c d e. step_once m k e;
+pub readable : AreTexts dao board_text (λ t m. step_text m)
+readable = record {
+  text_fits = λ b l. let a = text_length b in let e = (legal_in b l).cells in omega (arith, a, e);
+  text_once = λ a b l k e. text_once a b e;
+  step_fits = λ b m l h. let a = step_length m in omega (arith, a);
+  step_once = λ b m n l h k e. step_once m n e;
 }
+
+-- the same of positions
+pub texts_readable : IsShown dao_rules position_text move_text
+texts_readable = texts_are_shown dao board_text (λ t m. step_text m) numbered readable

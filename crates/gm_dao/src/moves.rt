@@ -2,7 +2,8 @@
 ghost use Rattle.std.specs.Prelude.{◌≡◌, ◌<◌, ◌≤◌, ◌+◌, ◌*◌, ◌==◌, true, length};
 ghost use Rattle.gm_board.specs.Images.{board_of};
 ghost use Rattle.gm_board.specs.Masks.{has_cell};
-ghost use Rattle.gm_dao.specs.DaoRules.{has_formation as has_formation_of, has_trapped as has_trapped_of, is_mine, is_theirs, legal, can_move as can_move_of, steps, is_over as is_over_of, ended, moves as moves_of, play as play_of};
+ghost use Rattle.gm_pieces.specs.MoveGames.{steps};
+ghost use Rattle.gm_dao.specs.DaoRules.{has_formation as has_formation_of, has_trapped as has_trapped_of, is_mine, is_theirs, legal, can_move as can_move_of, over as over_of, play as play_of, dao};
 ghost use Rattle.gm_dao.specs.MaskSlides.{AreMovesBelow};
 
 use crate::board::Board;
@@ -12,6 +13,9 @@ use arrayvec::ArrayVec;
 use gm_game::limits::MOVES;
 use gm_game::position::End;
 use gm_steps::step::Step;
+
+/// The numbers of moves are below this.
+pub const NUMBERS: u32 = 256;
 
 /// Whether the mover has a formation.
 pub fn has_own_formation(board: Board) -> bool
@@ -53,7 +57,7 @@ pub fn can_move(board: Board, number: u32) -> bool
 
 /// Whether no move can be made.
 pub fn is_stuck(board: Board) -> bool
-    ensures { result ≡ (length (steps (board_of 16 board.mine board.theirs)) == 0) }
+    ensures { result ≡ (length (steps dao (board_of 16 board.mine board.theirs)) == 0) }
 {
     let free = board.free();
     let taken = board.taken();
@@ -71,25 +75,15 @@ pub fn is_stuck(board: Board) -> bool
     true
 }
 
-/// Whether the last move has ended the game, by a formation or by trapping a piece in a corner.
-#[tactic(auto, unfolding(crate::specs::DaoRules::is_over))]
-pub fn is_over(board: Board) -> bool
-    ensures { result ≡ is_over_of (board_of 16 board.mine board.theirs) }
-{
-    has_their_formation(board) || is_trapped(board)
-}
-
-/// The end for the player to move: a formation of the opponent's loses, which is tested first; then a piece that is trapped in a corner wins; then who can't move loses.
-#[tactic(auto, unfolding(crate::specs::DaoRules::ended))]
-pub fn end(board: Board) -> Option<End>
-    ensures { result ≡ ended (board_of 16 board.mine board.theirs) }
+/// The end that the last move has made: a formation of the opponent's loses, which is tested first; then a piece that is trapped in a corner wins.
+#[tactic(auto, unfolding(crate::specs::DaoRules::over))]
+pub fn over(board: Board) -> Option<End>
+    ensures { result ≡ over_of (board_of 16 board.mine board.theirs) }
 {
     if has_their_formation(board) {
         Some(End::Lose)
     } else if is_trapped(board) {
         Some(End::Win)
-    } else if is_stuck(board) {
-        Some(End::Lose)
     } else {
         None
     }
@@ -98,7 +92,7 @@ pub fn end(board: Board) -> Option<End>
 // Adds the numbers of the moves of the mover's piece on a cell.
 fn push_moves(list: &mut ArrayVec<u32, MOVES>, board: Board, from: u32)
     requires cell { from < 16 }
-    requires few { length (steps (board_of 16 board.mine board.theirs)) ≤ 128 }
+    requires few { length (steps dao (board_of 16 board.mine board.theirs)) ≤ 128 }
     requires own { has_cell board.mine from ≡ true }
     requires before { AreMovesBelow (board_of 16 board.mine board.theirs) (16 * from) list.old.items }
     ensures { AreMovesBelow (board_of 16 board.mine board.theirs) (16 * from + 16) list.new.items }
@@ -115,15 +109,12 @@ fn push_moves(list: &mut ArrayVec<u32, MOVES>, board: Board, from: u32)
     }
 }
 
-/// The numbers of the moves, ascending.
-pub fn moves(board: Board) -> ArrayVec<u32, MOVES>
+/// The numbers of the moves, were the game not over, ascending.
+pub fn open_moves(board: Board) -> ArrayVec<u32, MOVES>
     requires { legal (board_of 16 board.mine board.theirs) ≡ true }
-    ensures { result.items ≡ moves_of (board_of 16 board.mine board.theirs) }
+    ensures { result.items ≡ steps dao (board_of 16 board.mine board.theirs) }
 {
     let mut list = ArrayVec::new();
-    if is_over(board) {
-        return list;
-    }
     let mut rest = board.mine;
     let mut next = 0;
     while rest != 0 {

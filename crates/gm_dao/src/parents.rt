@@ -2,17 +2,20 @@
 //!
 //! No slide is reversed. With the roles swapped each piece that may have moved is put on each empty cell, and of what
 //! comes of this the boards stay from which the game goes on by the move that leads back.
-ghost use Rattle.std.specs.Prelude.{◌≡◌, ◌<◌, ◌≤◌, ◌+◌, ◌*◌, true, length, map, [], MatchOption, None, Some};
+ghost use Rattle.std.specs.Prelude.{◌≡◌, ◌<◌, ◌≤◌, ◌+◌, ◌*◌, true, length, map, []};
 ghost use Rattle.gm_game.specs.Ascending.{put_all};
 ghost use Rattle.gm_board.specs.Images.{board_of};
-ghost use Rattle.gm_dao.specs.DaoRules.{legal, was_moved as was_moved_of, taken_back as taken_back_of, goes_on as goes_on_of, before_at, befores, least_index_of};
+ghost use Rattle.gm_pieces.specs.MoveGames.{goes_on as goes_on_of, befores};
+ghost use Rattle.gm_dao.specs.DaoRules.{was_moved as was_moved_of, taken_back as taken_back_of, legal, least_index_of, dao};
 ghost use Rattle.gm_dao.specs.MaskSlides.{AreBeforesBelow};
 
 use crate::board::Board;
-use crate::moves::{can_move, is_legal_board, is_over};
+use crate::dao::DaoRules;
+use crate::moves::{can_move, is_legal_board, over};
 use crate::slides::are_in_line;
 use arrayvec::ArrayVec;
 use gm_game::limits::PARENTS;
+use gm_pieces::moves::before;
 use gm_steps::ascending::put;
 use gm_steps::step::Step;
 
@@ -29,9 +32,9 @@ pub fn was_moved(board: Board, number: u32) -> bool
     board.has_theirs(step.to) && board.is_free(step.from)
 }
 
-// The board before that move.
+/// The board before that move.
 #[tactic(auto, unfolding(crate::specs::DaoRules::taken_back))]
-fn taken_back(board: Board, number: u32) -> Board
+pub fn taken_back(board: Board, number: u32) -> Board
     requires { was_moved_of (board_of 16 board.mine board.theirs) number ≡ true }
     ensures { board_of 16 result.mine result.theirs ≡ taken_back_of (board_of 16 board.mine board.theirs) number }
 {
@@ -39,40 +42,19 @@ fn taken_back(board: Board, number: u32) -> Board
     board.turned().without_piece(step.to).with_piece(step.from)
 }
 
-/// Whether the game goes on from a board by this move.
-#[tactic(auto, unfolding(crate::specs::DaoRules::goes_on))]
-pub fn goes_on(board: Board, number: u32) -> bool
+/// Whether the game goes on from a board of the tier by this move, which is tested first.
+pub fn goes_on(tier: u64, board: Board, number: u32) -> bool
     requires { number < 256 }
-    ensures { result ≡ goes_on_of (board_of 16 board.mine board.theirs) number }
+    ensures { result ≡ goes_on_of dao tier (board_of 16 board.mine board.theirs) number }
 {
-    can_move(board, number) && is_legal_board(board) && !is_over(board)
-}
-
-// The board of the tier before that move, if there is one.
-fn before(tier: u64, board: Board, number: u32) -> Option<Board>
-    requires { number < 256 }
-    ensures { MatchOption result
-        (before_at tier (board_of 16 board.mine board.theirs) number ≡ None)
-        (λ earlier. before_at tier (board_of 16 board.mine board.theirs) number ≡ Some (board_of 16 earlier.mine earlier.theirs)) }
-{
-    if tier != 0 {
-        return None;
-    }
-    if !was_moved(board, number) {
-        return None;
-    }
-    let earlier = taken_back(board, number);
-    if goes_on(earlier, number) {
-        Some(earlier)
-    } else {
-        None
-    }
+    tier == 0 && can_move(board, number) && is_legal_board(board) && over(board).is_none()
 }
 
 // Puts the least indexes of the boards before the moves that leave a cell.
 fn put_befores(list: &mut ArrayVec<u64, PARENTS>, tier: u64, board: Board, from: u32)
     requires cell { from < 16 }
-    requires few { length (befores tier (board_of 16 board.mine board.theirs)) ≤ 128 }
+    requires legal { legal (board_of 16 board.mine board.theirs) ≡ true }
+    requires few { length (befores dao tier (board_of 16 board.mine board.theirs)) ≤ 128 }
     requires before { AreBeforesBelow tier (board_of 16 board.mine board.theirs) (16 * from) list.old.items }
     ensures { AreBeforesBelow tier (board_of 16 board.mine board.theirs) (16 * from + 16) list.new.items }
 {
@@ -81,7 +63,7 @@ fn put_befores(list: &mut ArrayVec<u64, PARENTS>, tier: u64, board: Board, from:
     while rest != 0 {
         let skipped = rest.trailing_zeros();
         next += skipped;
-        match before(tier, board, 16 * from + next) {
+        match before::<DaoRules>(tier, board, 16 * from + next) {
             Some(earlier) => put(list, earlier.least_index()),
             None => {}
         }
@@ -93,7 +75,7 @@ fn put_befores(list: &mut ArrayVec<u64, PARENTS>, tier: u64, board: Board, from:
 /// The least indexes of the boards of the tier from which a move leads to this one, ascending and once each.
 pub fn parents(tier: u64, board: Board) -> ArrayVec<u64, PARENTS>
     requires { legal (board_of 16 board.mine board.theirs) ≡ true }
-    ensures { result.items ≡ put_all [] (map least_index_of (befores tier (board_of 16 board.mine board.theirs))) }
+    ensures { result.items ≡ put_all [] (map least_index_of (befores dao tier (board_of 16 board.mine board.theirs))) }
 {
     let mut list = ArrayVec::new();
     for from in 0..16 {

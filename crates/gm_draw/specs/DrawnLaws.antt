@@ -1,17 +1,17 @@
 -- Drawings tell positions apart: each byte of a position's text has a slot.
 use Rattle.std.proofs.Common.{◌≡◌, ℕ, ◌+◌, ◌-◌, ◌*◌, ◌<◌, ◌≤◌, Bool, true, false, cond, eqb, leb, eqb-true, List, [], ◌∷◌, map, length, get_or, refl, sym, ap, subst, ◌∙◌, arith, inl, inr}
-use Rattle.std.specs.Prelude.{◌&&◌, slice_index, codes, if◌then◌else◌}
+use Rattle.std.specs.Prelude.{if◌then◌else◌}
 use Rattle.std.specs.List.{range_with_len}
 use Rattle.std.proofs.lemmas.Bool.{cases_Bool, cond-true, true≢false}
 use Rattle.std.proofs.lemmas.Bool.Decides.{nat_tests}
 use Rattle.std.proofs.lemmas.List.{ext_get_or, length-map}
 use Rattle.gm_game.specs.declared.position.Position.{Position}
 use Rattle.gm_game.specs.Rules.{Rules}
-use Rattle.gm_game.specs.Boards.{board_of}
 use Rattle.gm_game.specs.Shown.{IsShown}
 use Rattle.gm_game.proofs.BoardLaws.{legal_board}
 use Rattle.gm_board.specs.Lists.{contains_range}
 use Rattle.gm_board.specs.Permutations.{all_at}
+use Rattle.gm_pieces.specs.MoveGames.{board_game}
 use Rattle.gm_morris.specs.declared.variant.Variant.{Variant}
 use Rattle.gm_morris.specs.declared.variant.Variant.TheVariants.{TicTacToe, ThreeMens, Achi}
 use Rattle.gm_morris.specs.Points.{variant_of}
@@ -24,7 +24,7 @@ use Rattle.gm_dao.specs.BoardFacts.{legal_in as legal_dao}
 use Rattle.gm_dao.specs.Texts.{position_text as dao_text}
 use Rattle.gm_dao.specs.TextLaws.{text_length as dao_length, texts_readable as dao_readable}
 use Rattle.gm_tactix.specs.Board.{side_of, counters_at, tactix_rules}
-use Rattle.gm_tactix.specs.SegmentFacts.{for_sides, square_small}
+use Rattle.gm_tactix.specs.SegmentFacts.{for_sides}
 use Rattle.gm_tactix.specs.TactixLaws.{board_length, side_low, side_high}
 use Rattle.gm_tactix.specs.Texts.{position_text as tactix_text}
 use Rattle.gm_tactix.specs.TextLaws.{text_length as tactix_length, texts_readable as tactix_readable}
@@ -141,13 +141,13 @@ pub nine_drawn : (n : ℕ) → IsDrawn (morris_rules n) (λ p. filled (nine_poin
 nine_drawn n =
     let v = variant_of n in
     drawn_by (morris_rules n) nine_text _ x_moves (nine_points v) 9 (nine_readable n)
-    (λ p l. (let a = nine_length (board_at p.tier p.index) in let b = (legal_nine v (board_at p.tier p.index) (legal_board (morris v) p l)).cells in a ∙ b))
+    (λ p l. (let a = nine_length (board_at p.tier p.index) in let b = (legal_nine v (board_at p.tier p.index) (legal_board (board_game (morris v)) p l)).cells in a ∙ b))
     (nine_template v)
 
 pub dao_drawn : IsDrawn dao_rules (λ p. filled dao_board (dao_text p)) x_moves
 dao_drawn =
     drawn_by dao_rules dao_text _ x_moves dao_board 16 dao_readable
-    (λ p l. (let a = dao_length (dao_at p.index) in let b = (legal_dao (dao_at p.index) (legal_board dao p l)).cells in a ∙ b))
+    (λ p l. (let a = dao_length (dao_at p.index) in let b = (legal_dao (dao_at p.index) (legal_board (board_game dao) p l)).cells in a ∙ b))
     dao_template
 
 pub tactix_drawn : (n : ℕ) (misere : Bool) → IsDrawn (tactix_rules n misere) (λ p. filled (tactix_board (side_of n)) (tactix_text n p)) player_moves
@@ -162,7 +162,7 @@ tactix_drawn n misere =
 pub ring_drawn : IsDrawn mutorere_rules (λ p. filled ring_board (ring_text p)) x_moves
 ring_drawn =
     drawn_by mutorere_rules ring_text _ x_moves ring_board 9 ring_readable
-    (λ p l. (let a = ring_length (ring_at p.index) in let b = legal_length (ring_at p.index) (legal_board mutorere p l) in a ∙ b))
+    (λ p l. (let a = ring_length (ring_at p.index) in let b = legal_length (ring_at p.index) (legal_board (board_game mutorere) p l) in a ∙ b))
     ring_template
 
 -- ---- Hare and Hounds: who moves is no part of the board

@@ -3,7 +3,6 @@ use Rattle.std.proofs.Common.{◌≡◌, ℕ, ◌+◌, ◌<◌, ◌≤◌, Bool,
 use Rattle.std.specs.List.{list_all, range_with_len}
 use Rattle.std.specs.Prelude.{◌&&◌}
 use Rattle.std.proofs.lemmas.Bool.Decides.{nat_tests}
-use Rattle.gm_game.specs.declared.position.Position.{Position}
 use Rattle.gm_game.proofs.SetLemmas.{same_position}
 use Rattle.gm_board.specs.Lists.{contains_range, and_left, and_right}
 use Rattle.gm_board.specs.Permutations.{all_at}

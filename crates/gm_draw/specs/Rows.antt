@@ -1,6 +1,5 @@
 -- The drawings of games on a row of numbers: the current one in brackets, and its moves.
 use Rattle.std.specs.Prelude.{ℕ, List, [], ◌∷◌, codes, slice_index_or}
-use Rattle.gm_game.specs.declared.position.Position.{Position}
 
 -- Countdown from 10, by the number
 abbrev pub countdown_rows : List (List ℕ)

@@ -2,4 +2,3 @@ pub mod PointSteps
 pub mod HoundSteps
 pub mod Boards
 pub mod GoSteps
-pub mod ReadSteps

@@ -1,13 +1,13 @@
 -- The rules of Hare and Hounds, said of boards: who moves, a test for each of the eleven points whether a hound is there, and the point of the hare.
 use Rattle.std.specs.Prelude.{ℕ, ◌+◌, ◌-◌, ◌*◌, ◌/◌, ◌%◌, Bool, true, false, not, ◌&&◌, ◌||◌, ◌==◌, nat_lt, nat_le, List, [], ◌∷◌, ◌++◌, reverse, length, slice_index_or, slice_set, codes, if◌then◌else◌, Option, None, Some}
-use Rattle.std.specs.List.{filter, filter_map, list_all, list_any, range_with_len}
+use Rattle.std.specs.List.{list_all, list_any, range_with_len}
 use Rattle.gm_game.specs.declared.position.End.{End}
 use Rattle.gm_game.specs.declared.position.End.TheVariants.{Lose, Win}
-use Rattle.gm_game.specs.Boards.{BoardGame, rules_of}
 use Rattle.gm_game.specs.Rules.{Rules}
 use Rattle.gm_board.specs.Ranks.{members, rank, unrank}
 use Rattle.gm_board.specs.Permutations.{permute}
 use Rattle.gm_steps.specs.Steps.{from_point, to_point}
+use Rattle.gm_pieces.specs.MoveGames.{MoveGame, move_rules}
 use Rattle.gm_hare.specs.declared.hunt.Hunt.{Hunt}
 
 -- ---- points
@@ -74,17 +74,13 @@ legal b = length b.hounds == 11 && (members b.hounds == 3 && (nat_lt b.hare 11 &
 abbrev pub can_go : Hunt → ℕ → ℕ → Bool
 can_go b a c = are_joined a c && (is_free b c && (if b.hounds_move then (has_hound b a && is_ahead a c) else (a == b.hare)))
 
--- whether there is a move with this number: none after an escape
+-- whether the move with this number can be made, were the game not over
 unfoldable pub can_move : Hunt → ℕ → Bool
-can_move b m = not (has_escaped b) && can_go b (from_point m) (to_point m)
+can_move b m = can_go b (from_point m) (to_point m)
 
 -- a move's number is below this
 abbrev pub numbers_end : ℕ
 numbers_end = 176
-
--- the moves
-unfoldable pub moves : Hunt → List ℕ
-moves b = filter (can_move b) (range_with_len 0 numbers_end)
 
 -- the board with a hound, or the hare, gone from one point to another
 abbrev pub hound_gone : Hunt → ℕ → ℕ → Hunt
@@ -100,14 +96,9 @@ gone b a c = if b.hounds_move then hound_gone b a c else hare_gone b c
 unfoldable pub play : Hunt → ℕ → Hunt
 play b m = gone b (from_point m) (to_point m)
 
--- who can't move has lost
-abbrev pub lost : List ℕ → Option End
-lost [] = Some Lose
-lost (m ∷ ms) = None
-
--- the end as the side to move sees it: an escape is tested first
-unfoldable pub ended : Hunt → Option End
-ended b = if has_escaped b then Some (if b.hounds_move then Lose else Win) else lost (moves b)
+-- an escape has ended the game, as the side to move sees it
+unfoldable pub over : Hunt → Option End
+over b = if has_escaped b then Some (if b.hounds_move then Lose else Win) else None
 
 -- ---- moves back
 -- whether the side that has moved can have gone from one point to another
@@ -124,17 +115,9 @@ hare_back d a = record { hounds_move = false; hounds = d.hounds; hare = a }
 unfoldable pub taken_back : Hunt → ℕ → Hunt
 taken_back d m = if d.hounds_move then hare_back d (from_point m) else hound_back d (from_point m) (to_point m)
 
--- whether a move with this number can have led to the board from one of tier t, where the hare had not escaped
-unfoldable pub can_have_moved : ℕ → Hunt → ℕ → Bool
-can_have_moved t d m = can_have_gone d (from_point m) (to_point m) && (not (has_escaped (taken_back d m)) && hunt_tier (taken_back d m) == t)
-
--- the board before that move
-unfoldable pub before_at : ℕ → Hunt → ℕ → Option Hunt
-before_at t d m = if can_have_moved t d m then Some (taken_back d m) else None
-
--- the boards of tier t before d
-unfoldable pub befores : ℕ → Hunt → List Hunt
-befores t d = filter_map (before_at t d) (range_with_len 0 numbers_end)
+-- whether the move with this number can have led to the board
+unfoldable pub was_moved : Hunt → ℕ → Bool
+was_moved d m = can_have_gone d (from_point m) (to_point m)
 
 -- ---- the game
 -- for each point the one that comes there when top and bottom are exchanged
@@ -164,16 +147,19 @@ hunt_board i = record { hounds_move = i / 11 / 165 == 0; hounds = reverse (unran
 abbrev pub hare_name : List ℕ
 hare_name = codes "hare" ++ 0 ∷ 0 ∷ 0 ∷ 0 ∷ 0 ∷ 0 ∷ 0 ∷ 0 ∷ 0 ∷ 0 ∷ 0 ∷ 0 ∷ []
 
--- Hare and Hounds; a symmetry is whether top and bottom are exchanged
-abbrev pub hare_and_hounds : BoardGame Hunt Bool
+-- Hare and Hounds: an escape is tested first, and then who can't move has lost; a symmetry is whether top and bottom are exchanged
+abbrev pub hare_and_hounds : MoveGame Hunt Bool
 hare_and_hounds = record {
   name = hare_name;
   start = record { hounds_move = true; hounds = true ∷ true ∷ false ∷ true ∷ false ∷ false ∷ false ∷ false ∷ false ∷ false ∷ false ∷ []; hare = 10 };
   legal = legal;
-  ended = ended;
-  moves = moves;
-  play = play;
-  befores = befores;
+  over = over;
+  stuck = Lose;
+  numbers_end = λ t. numbers_end;
+  can_move = can_move;
+  moved = play;
+  was_moved = λ t d m. was_moved d m;
+  taken_back = λ t d m. taken_back d m;
   symmetries = false ∷ true ∷ [];
   image = λ exchanged b. if exchanged then mirrored b else b;
   tier = hunt_tier;
@@ -186,4 +172,4 @@ hare_and_hounds = record {
 
 -- the rules of its positions
 abbrev pub hare_rules : Rules
-hare_rules = rules_of hare_and_hounds
+hare_rules = move_rules hare_and_hounds

@@ -1,16 +1,14 @@
 -- Hare and Hounds has the laws of a game.
-use Rattle.std.proofs.Common.{◌≡◌, ◌≢◌, ℕ, ◌+◌, ◌-◌, ◌*◌, ◌/◌, ◌%◌, ◌<◌, ◌≤◌, Bool, true, false, not, ◌&&◌, ◌||◌, if◌then◌else◌, eqb, leb, List, [], ◌∷◌, reverse, length, set, None, Some, refl, sym, ap, ap₂, ◌∙◌, subst, arith, inl, inr, ◌⊎◌}
+use Rattle.std.proofs.Common.{◌≡◌, ℕ, ◌+◌, ◌-◌, ◌*◌, ◌/◌, ◌%◌, ◌<◌, ◌≤◌, Bool, true, false, not, ◌&&◌, ◌||◌, if◌then◌else◌, eqb, leb, List, [], ◌∷◌, reverse, length, set, None, Some, refl, sym, ap, ap₂, ◌∙◌, subst, arith, inl, inr, ◌⊎◌}
 use Rattle.std.specs.List.{Contains, list_all, range_with_len}
-use Rattle.std.proofs.lemmas.Bool.{cases_Bool, cond-true, cond-false, cond_both, true≢false}
+use Rattle.std.proofs.lemmas.Bool.{cases_Bool, cond-true, cond-false, cond_both}
 use Rattle.std.proofs.lemmas.Bool.Decides.{nat_tests}
 use Rattle.std.proofs.lemmas.Nat.{div-mul-add, mod-mul-add}
 use Rattle.std.proofs.lemmas.List.{length-reverse, reverse-reverse}
 use Rattle.gm_game.specs.declared.position.End.TheVariants.{Lose, Win}
 use Rattle.gm_game.specs.Texts.{IsPaddedText}
-use Rattle.gm_game.specs.Laws.{IsGame}
 use Rattle.gm_game.specs.Rules.{at, IsAscending}
-use Rattle.gm_game.specs.Boards.{position_of, IsBefore, IsBoardGame, IsNumbered, IsSymmetric}
-use Rattle.gm_game.proofs.BoardParents.{symmetric_is_game}
+use Rattle.gm_game.specs.Boards.{position_of, IsNumbered}
 use Rattle.gm_board.specs.Lists.{contains_head, contains_later, contains_cases, contains_range, range_below}
 use Rattle.gm_board.specs.Binomials.{binomial}
 use Rattle.gm_board.specs.Ranks.{members, rank, unrank, rank_below, rank_unrank, unrank_rank}
@@ -18,12 +16,12 @@ use Rattle.gm_board.specs.Patterns.{same_tests}
 use Rattle.gm_board.specs.Permutations.{permute, permute_get, permute_length, all_at}
 use Rattle.gm_board.specs.Groups.{image_slide}
 use Rattle.gm_steps.specs.Steps.{step_number, from_point, to_point, from_back, to_back}
-use Rattle.gm_steps.specs.Listed.{nil_or}
+use Rattle.gm_pieces.specs.MoveGames.{board_game, IsMove, IsMoveGame, IsMoveSymmetric}
 use Rattle.gm_hare.specs.declared.hunt.Hunt.{Hunt}
-use Rattle.gm_hare.specs.Board.{column, has_hound, hunt_tier, has_escaped, legal, moves, hound_gone, hare_gone, gone, play, lost, ended, mirror, mirror_point, mirrored, turn_of, hunt_index, hunt_board, hare_name, hare_and_hounds, hare_rules}
+use Rattle.gm_hare.specs.Board.{column, has_hound, hunt_tier, has_escaped, legal, over, can_move, hound_gone, hare_gone, gone, play, mirror, mirror_point, mirrored, turn_of, hunt_index, hunt_board, hare_name, hare_and_hounds}
 use Rattle.gm_hare.specs.PointFacts.{joined_from, joined_to, mirror_below, mirror_twice, mirror_column, mirror_joined, mirror_ahead, two, two_group, mirror_in}
 use Rattle.gm_hare.specs.HoundFacts.{count, members_count, same_hunt, for_eleven, mirror_count, mirror_columns, mirror_hounds_twice, three_columns}
-use Rattle.gm_hare.specs.MoveFacts.{IsLegal, legal_in, legal_from, IsMove, move_in, move_from, move_taken, taken_move, step_below, moves_ascending, moves_few, gone_legal, gone_tier, IsTakenFrom, befores_in, befores_from, befores_few}
+use Rattle.gm_hare.specs.MoveFacts.{IsLegal, legal_in, legal_from, CanGo, move_in, move_from, step_below, moves_few, gone_legal, gone_tier, undone, redone, befores_few}
 
 -- ---- tiers
 abbrev pub tier_size_of : ℕ → ℕ
@@ -130,7 +128,7 @@ index_back i l =
     ap₂ (λ (t r : ℕ). (t * 165 + r) * 11 + i % 11) turn hounds ∙ omega arith
 
 -- the numbering is one to one
-pub numbered : IsNumbered hare_and_hounds
+pub numbered : IsNumbered (board_game hare_and_hounds)
 numbered = record {
   tier_fits = λ b l. let t = legal_tier b (legal_in b l) in omega (arith, t.1);
   size_fits = λ b l. let s = size_most (hunt_tier b) in omega (arith, s);
@@ -139,58 +137,17 @@ numbered = record {
   index_back = λ t i l k e. let s = size_most t in index_back i (omega (arith, s));
 }
 
--- ---- ends
-lost_none : (ms : List ℕ) → lost ms ≢ None → ms ≡ []
-lost_none [] h = refl
-lost_none (m ∷ ms) h = absurd (h refl)
-
-not_lost : (ms : List ℕ) → lost ms ≡ None → ms ≢ []
-not_lost [] e = absurd (let z : ⊥ = cc in z)
-not_lost (m ∷ ms) e = λ q. (let z : ⊥ = cc in z)
-
-goes_on : (ms : List ℕ) (m : ℕ) → Contains ms m → lost ms ≡ None
-goes_on [] m c = absurd (omega (arith, c.1))
-goes_on (n ∷ ms) m c = refl
-
-lost_same : (xs ys : List ℕ) → ((m : ℕ) → Contains xs m → (n : ℕ) × Contains ys n) → ((m : ℕ) → Contains ys m → (n : ℕ) × Contains xs n) → lost xs ≡ lost ys
-lost_same [] [] f g = refl
-lost_same [] (y ∷ ys) f g = let h = (g y (0, omega arith, refl)).1 in absurd (omega (arith, h.1))
-lost_same (x ∷ xs) [] f g = let h = (f x (0, omega arith, refl)).1 in absurd (omega (arith, h.1))
-lost_same (x ∷ xs) (y ∷ ys) f g = refl
-
--- there is no move after an escape
-escaped_moves : (b : Hunt) → has_escaped b ≡ true → moves b ≡ []
-escaped_moves b e = nil_or (moves b) (λ m c. true≢false (sym e ∙ (move_in b m (move_taken b m c)).hunted))
-
-ended_moves : (b : Hunt) → ended b ≢ None → moves b ≡ []
-unfolding ended
-ended_moves b h = elim (cases_Bool (has_escaped b)) [
-  | inl e ↦ escaped_moves b e
-  | inr e ↦ lost_none (moves b) (λ q. h (cond-false _ _ _ e ∙ q))
-]
-
-unended : (b : Hunt) → ended b ≡ None → moves b ≢ []
-unfolding ended
-unended b h = elim (cases_Bool (has_escaped b)) [
-  | inl e ↦ absurd (let q : Some (if b.hounds_move then Lose else Win) ≡ None = sym (cond-true _ _ _ e) ∙ h in let z : ⊥ = cc in z)
-  | inr e ↦ not_lost (moves b) (sym (cond-false _ _ _ e) ∙ h)
-]
-
-not_ended : (b : Hunt) (m : ℕ) → Contains (moves b) m → ended b ≡ None
-unfolding ended
-not_ended b m c = cond-false _ _ _ (move_in b m (move_taken b m c)).hunted ∙ goes_on (moves b) m c
-
 -- ---- moves
 -- a move keeps a legal board legal
-pub play_legal : (b : Hunt) (m : ℕ) → legal b ≡ true → Contains (moves b) m → legal (play b m) ≡ true
+pub play_legal : (b : Hunt) (m : ℕ) → legal b ≡ true → can_move b m ≡ true → legal (play b m) ≡ true
 unfolding play
-play_legal b m l c = legal_from (play b m) (gone_legal b (from_point m) (to_point m) (legal_in b l) (move_in b m (move_taken b m c)))
+play_legal b m l c = legal_from (play b m) (gone_legal b (from_point m) (to_point m) (legal_in b l) (move_in b m c))
 
-play_tier : (b : Hunt) (m : ℕ) → legal b ≡ true → Contains (moves b) m → (hunt_tier (play b m) ≡ hunt_tier b) ⊎ Contains (child_tiers_of (hunt_tier b)) (hunt_tier (play b m))
+play_tier : (b : Hunt) (m : ℕ) → legal b ≡ true → can_move b m ≡ true → (hunt_tier (play b m) ≡ hunt_tier b) ⊎ Contains (child_tiers_of (hunt_tier b)) (hunt_tier (play b m))
 unfolding play
 play_tier b m l c =
     let h = legal_in b l in
-    let v = move_in b m (move_taken b m c) in
+    let v = move_in b m c in
     let a = from_point m in
     let z = to_point m in
     elim (gone_tier b a z h v) [
@@ -210,40 +167,21 @@ start_legal = refl
 name_text : (length hare_name ≡ 16) × IsPaddedText hare_name
 name_text = (refl, refl)
 
-before_in : (t : ℕ) (d b : Hunt) → IsTakenFrom t d b → IsBefore hare_and_hounds t d b
-before_in t d b h = record {
-  legal = legal_from b h.legal;
-  unended = not_ended b h.move.0 h.move.1;
-  tier = h.tier;
-  move = h.move;
-}
-
-before_from : (t : ℕ) (d b : Hunt) → IsBefore hare_and_hounds t d b → IsTakenFrom t d b
-before_from t d b h = record {
-  tier = h.tier;
-  legal = legal_in b h.legal;
-  move = h.move;
-}
-
-board_game : IsBoardGame hare_and_hounds
-board_game = record {
+-- the laws that are its own
+pub lawful : IsMoveGame hare_and_hounds
+lawful = record {
   name_length = name_text.0;
   name_text = name_text.1;
-  moves_ascending = λ b l. moves_ascending b;
-  ended = λ b l h. ended_moves b h;
-  unended = λ b l h. unended b h;
   start_legal = start_legal;
-  move_fits = λ b m l c. let h = step_below m (move_in b m (move_taken b m c)).joined in omega (arith, h);
-  play_legal = λ b m l c. play_legal b m l c;
-  play_tier = λ b m l c. play_tier b m l c;
+  numbers_fit = λ t. omega arith;
+  moved_legal = λ b m l h. play_legal b m l h.can;
+  moved_tier = λ b m l h. play_tier b m l h.can;
   child_rank = child_rank;
   child_tiers_ascending = λ t. cond_both (leb 2 t && leb t 9) ((t + 1) ∷ []) [] IsAscending (λ e. tt) (λ e. tt);
-  befores_exact = λ t d b l. (
-    λ c. before_in t d b (befores_in t d b (legal_in d l) c),
-    λ h. befores_from t d b (before_from t d b h),
-  );
+  undone = λ b m l h. undone b m (legal_in b l) (move_in b m h.can);
+  redone = λ t d m l w k e h. redone d m w;
   moves_few = λ b l. moves_few b;
-  befores_few = λ t d l. befores_few t d;
+  befores_few = λ t d l. befores_few d;
   child_tiers_few = λ t. cond_both (leb 2 t && leb t 9) ((t + 1) ∷ []) [] (λ (xs : List ℕ). length xs ≤ 16) (λ e. omega arith) (λ e. omega arith);
 }
 
@@ -288,12 +226,11 @@ mirrored_escaped b l =
     (λ e. sym (ap has_escaped (mirrored_twice b l)) ∙ mirrored_escape (mirrored b) (mirrored_legal b l) e)
     (λ e. mirrored_escape b l e)
 
-mirrored_move : (b : Hunt) (a c : ℕ) → IsLegal b → IsMove b a c → IsMove (mirrored b) (mirror_point a) (mirror_point c)
+mirrored_move : (b : Hunt) (a c : ℕ) → IsLegal b → CanGo b a c → CanGo (mirrored b) (mirror_point a) (mirror_point c)
 mirrored_move b a c l h =
     let la = joined_from a c h.joined in
     let lc = joined_to a c h.joined in
     record {
-      hunted = mirrored_escaped b l ∙ h.hunted;
       joined = mirror_joined a c la lc ∙ h.joined;
       free = record {
         hounds = mirrored_at b c lc ∙ h.free.hounds;
@@ -303,7 +240,7 @@ mirrored_move b a c l h =
       hare = λ t. ap mirror_point (h.hare t);
     }
 
-mirrored_gone : (b : Hunt) (a c : ℕ) → IsLegal b → IsMove b a c → gone (mirrored b) (mirror_point a) (mirror_point c) ≡ mirrored (gone b a c)
+mirrored_gone : (b : Hunt) (a c : ℕ) → IsLegal b → CanGo b a c → gone (mirrored b) (mirror_point a) (mirror_point c) ≡ mirrored (gone b a c)
 mirrored_gone b a c l h = elim (cases_Bool b.hounds_move) [
   | inl t ↦ (
       let la = joined_from a c h.joined in
@@ -321,12 +258,12 @@ mirrored_gone b a c l h = elim (cases_Bool b.hounds_move) [
 ]
 
 -- a move and its image
-mirrored_moves : (b : Hunt) (m : ℕ) → IsLegal b → Contains (moves b) m → (n : ℕ) × Contains (moves (mirrored b)) n × (play (mirrored b) n ≡ mirrored (play b m))
+mirrored_moves : (b : Hunt) (m : ℕ) → IsLegal b → can_move b m ≡ true → (n : ℕ) × (can_move (mirrored b) n ≡ true) × (play (mirrored b) n ≡ mirrored (play b m))
 unfolding play
 mirrored_moves b m l d =
     let a = from_point m in
     let c = to_point m in
-    let h = move_in b m (move_taken b m d) in
+    let h = move_in b m d in
     let n = step_number (mirror_point a) (mirror_point c) in
     let lc = mirror_below c (joined_to a c h.joined) in
     let from : from_point n ≡ mirror_point a = from_back (mirror_point a) (mirror_point c) (omega (arith, lc)) in
@@ -334,17 +271,13 @@ mirrored_moves b m l d =
     let image = mirrored b in
     let move = mirrored_move b a c l h in (
       n,
-      taken_move image n (move_from image n (subst (λ (p : ℕ). IsMove image p (to_point n)) (sym from) (subst (λ (q : ℕ). IsMove image (mirror_point a) q) (sym to) move))),
+      move_from image n (subst (λ (p : ℕ). CanGo image p (to_point n)) (sym from) (subst (λ (q : ℕ). CanGo image (mirror_point a) q) (sym to) move)),
       ap₂ (gone image) from to ∙ mirrored_gone b a c l h,
     )
 
-mirrored_ended : (b : Hunt) → IsLegal b → ended (mirrored b) ≡ ended b
-unfolding ended
-mirrored_ended b l =
-    ap₂ (λ (x : Bool) (o : _). if x then Some (if b.hounds_move then Lose else Win) else o) (mirrored_escaped b l)
-    (lost_same (moves (mirrored b)) (moves b)
-    (λ m d. let x = mirrored_moves (mirrored b) m (mirrored_legal b l) d in (x.0, subst (λ (a : Hunt). Contains (moves a) x.0) (mirrored_twice b l) x.1))
-    (λ m d. let x = mirrored_moves b m l d in (x.0, x.1)))
+mirrored_over : (b : Hunt) → IsLegal b → over (mirrored b) ≡ over b
+unfolding over
+mirrored_over b l = ap (λ (x : Bool). if x then Some (if b.hounds_move then Lose else Win) else None) (mirrored_escaped b l)
 
 -- the image under one of the two symmetries
 abbrev image : Bool → Hunt → Hunt
@@ -367,34 +300,34 @@ image_legal : (g : Bool) (b : Hunt) → legal b ≡ true → legal (image g b) �
 image_legal false b l = l
 image_legal true b l = legal_from (mirrored b) (mirrored_legal b (legal_in b l))
 
-image_ended : (g : Bool) (b : Hunt) → legal b ≡ true → ended (image g b) ≡ ended b
-image_ended false b l = refl
-image_ended true b l = mirrored_ended b (legal_in b l)
+image_over : (g : Bool) (b : Hunt) → legal b ≡ true → over (image g b) ≡ over b
+image_over false b l = refl
+image_over true b l = mirrored_over b (legal_in b l)
 
 image_tier : (g : Bool) (b : Hunt) → legal b ≡ true → hunt_tier (image g b) ≡ hunt_tier b
 image_tier false b l = refl
 image_tier true b l = mirror_columns b.hounds (legal_in b l).eleven
 
-image_moves : (g : Bool) (b : Hunt) (m : ℕ) → legal b ≡ true → Contains (moves b) m → (n : ℕ) × Contains (moves (image g b)) n × (play (image g b) n ≡ image g (play b m))
-image_moves false b m l c = (m, c, refl)
-image_moves true b m l c = mirrored_moves b m (legal_in b l) c
+image_move : (g : Bool) (b : Hunt) (m : ℕ) → legal b ≡ true → IsMove hare_and_hounds b m → (n : ℕ) × IsMove hare_and_hounds (image g b) n × (play (image g b) n ≡ image g (play b m))
+image_move false b m l h = (m, h, refl)
+image_move true b m l h =
+    let x = mirrored_moves b m (legal_in b l) h.can in
+    (x.0, record { below = step_below x.0 (move_in (mirrored b) x.0 x.1).joined; not_over = mirrored_over b (legal_in b l) ∙ h.not_over; can = x.1 }, x.2)
 
-symmetric : IsSymmetric hare_and_hounds
+pub symmetric : IsMoveSymmetric hare_and_hounds
 symmetric = record {
-  identity = (false, both false, λ b l. refl);
-  closed = λ g h c d. product g h;
-  inverse = λ g c. inverse g;
+  group = record {
+    identity = (false, both false, λ b l. refl);
+    closed = λ g h c d. product g h;
+    inverse = λ g c. inverse g;
+  };
   keeps_legal = λ g b c l. image_legal g b l;
-  keeps_ended = λ g b c l. image_ended g b l;
+  keeps_over = λ g b c l. image_over g b l;
   keeps_tier = λ g b c l. image_tier g b l;
-  keeps_moves = λ g b m c l d. image_moves g b m l d;
+  keeps_move = λ g b m c l h. image_move g b m l h;
 }
 
--- all laws hold
-pub hare_lawful : IsGame hare_rules
-hare_lawful = symmetric_is_game hare_and_hounds board_game numbered symmetric
-
 -- the start has tier 2 and index 21
-pub start_position : position_of hare_and_hounds hare_and_hounds.start ≡ at 2 21
+pub start_position : position_of (board_game hare_and_hounds) hare_and_hounds.start ≡ at 2 21
 unfolding hunt_index column binomial
 start_position = refl

@@ -1,14 +1,14 @@
 -- Moves of Hare and Hounds: which there are, what they leave, and the boards before a board.
-use Rattle.std.proofs.Common.{◌≡◌, ◌≢◌, ℕ, ◌+◌, ◌<◌, ◌≤◌, true, false, not, ◌&&◌, if◌then◌else◌, eqb, ltb, ltb-true, lt-ltb, eqb-true, eq-eqb, length, None, Some, refl, sym, ap, ◌∙◌, subst, arith, inl, inr, ◌⊎◌}
-use Rattle.std.specs.List.{Contains, range_with_len}
+use Rattle.std.proofs.Common.{◌≡◌, ◌≢◌, ℕ, ◌+◌, ◌<◌, ◌≤◌, true, false, not, ◌&&◌, if◌then◌else◌, eqb, ltb, ltb-true, lt-ltb, eqb-true, eq-eqb, length, refl, sym, ap, ◌∙◌, subst, arith, inl, inr, ◌⊎◌}
+use Rattle.std.specs.List.{filter, range_with_len}
 use Rattle.std.proofs.lemmas.Bool.{cases_Bool, cond-true, cond-false, true≢false, not-true, ne_eqb}
-use Rattle.gm_game.specs.Rules.{IsAscending}
-use Rattle.gm_board.specs.Lists.{and_left, and_right, and_both, contains_range, filter_from, filter_to, filter_map_from, filter_map_to}
+use Rattle.gm_board.specs.Lists.{and_left, and_right, and_both}
 use Rattle.gm_board.specs.Ranks.{members}
 use Rattle.gm_steps.specs.Steps.{from_point, to_point, number_below}
-use Rattle.gm_steps.specs.Listed.{filter_ascending, filter_few, filter_map_few}
+use Rattle.gm_steps.specs.Listed.{filter_few}
+use Rattle.gm_pieces.specs.MoveGames.{steps}
 use Rattle.gm_hare.specs.declared.hunt.Hunt.{Hunt}
-use Rattle.gm_hare.specs.Board.{are_joined, is_ahead, has_hound, is_free, hunt_tier, has_escaped, legal, can_move, numbers_end, moves, hound_gone, hare_gone, gone, play, can_have_gone, hound_back, hare_back, taken_back, can_have_moved, before_at, befores}
+use Rattle.gm_hare.specs.Board.{are_joined, is_ahead, has_hound, is_free, hunt_tier, legal, can_move, numbers_end, hound_gone, hare_gone, gone, play, hound_back, hare_back, was_moved, taken_back, hare_and_hounds}
 use Rattle.gm_hare.specs.PointFacts.{joined_from, joined_to, joined_apart, ahead_column, is_step, steps_few}
 use Rattle.gm_hare.specs.HoundFacts.{count, members_count, same_hunt, both_length, both_first, both_second, both_other, both_back, moved_count, moved_columns}
 
@@ -56,25 +56,22 @@ pub free_from : (b : Hunt) (k : ℕ) → IsFree b k → is_free b k ≡ true
 free_from b k h = and_both _ _ (ap not h.hounds) (ap not (ne_eqb k b.hare h.hare))
 
 -- what a move says
-pub record IsMove (b : Hunt) (a c : ℕ) : Type 0 where
-  pub hunted : has_escaped b ≡ false
+pub record CanGo (b : Hunt) (a c : ℕ) : Type 0 where
   pub joined : are_joined a c ≡ true
   pub free : IsFree b c
   pub hound : b.hounds_move ≡ true → (has_hound b a ≡ true) × (is_ahead a c ≡ true)
   pub hare : b.hounds_move ≡ false → a ≡ b.hare
 
 -- what the test says
-pub move_in : (b : Hunt) (m : ℕ) → can_move b m ≡ true → IsMove b (from_point m) (to_point m)
+pub move_in : (b : Hunt) (m : ℕ) → can_move b m ≡ true → CanGo b (from_point m) (to_point m)
 unfolding can_move
-move_in b m e =
+move_in b m x =
     let a = from_point m in
     let c = to_point m in
     let mover = if b.hounds_move then (has_hound b a && is_ahead a c) else eqb a b.hare in
-    let x = and_right (not (has_escaped b)) (are_joined a c && (is_free b c && mover)) e in
     let y = and_right (are_joined a c) (is_free b c && mover) x in
     let z : mover ≡ true = and_right (is_free b c) mover y in
     record {
-      hunted = not-true _ (and_left _ _ e);
       joined = and_left (are_joined a c) (is_free b c && mover) x;
       free = free_in b c (and_left (is_free b c) mover y);
       hound = λ t. (let w : (has_hound b a && is_ahead a c) ≡ true = sym (cond-true _ _ _ t) ∙ z in (and_left _ _ w, and_right (has_hound b a) (is_ahead a c) w));
@@ -82,44 +79,28 @@ move_in b m e =
     }
 
 -- and the other way round
-pub move_from : (b : Hunt) (m : ℕ) → IsMove b (from_point m) (to_point m) → can_move b m ≡ true
+pub move_from : (b : Hunt) (m : ℕ) → CanGo b (from_point m) (to_point m) → can_move b m ≡ true
 unfolding can_move
 move_from b m h =
-    and_both _ _ (ap not h.hunted)
-    (and_both _ _ h.joined
+    and_both _ _ h.joined
     (and_both _ _ (free_from b (to_point m) h.free)
     (elim (cases_Bool b.hounds_move) [
       | inl t ↦ (let w = h.hound t in cond-true _ _ _ t ∙ and_both _ _ w.0 w.1)
       | inr t ↦ cond-false _ _ _ t ∙ eq-eqb _ _ (h.hare t)
-    ])))
-
--- a move is a number for which the test holds
-pub move_taken : (b : Hunt) (m : ℕ) → Contains (moves b) m → can_move b m ≡ true
-unfolding moves
-move_taken b m c = (filter_from (can_move b) (range_with_len 0 numbers_end) m c).1
+    ]))
 
 -- its number is below 176
 pub step_below : (m : ℕ) → is_step m ≡ true → m < numbers_end
 step_below m e = let l = number_below m 11 (joined_from (from_point m) (to_point m) e) in omega (arith, l)
 
--- each number for which the test holds is listed
-pub taken_move : (b : Hunt) (m : ℕ) → can_move b m ≡ true → Contains (moves b) m
-unfolding moves
-taken_move b m e = filter_to (can_move b) (range_with_len 0 numbers_end) m (contains_range numbers_end m (step_below m (move_in b m e).joined)) e
-
--- moves ascend
-pub moves_ascending : (b : Hunt) → IsAscending (moves b)
-unfolding moves
-moves_ascending b = filter_ascending (can_move b) 0 numbers_end
-
 -- there are few
-pub moves_few : (b : Hunt) → length (moves b) ≤ 128
-unfolding moves
+pub moves_few : (b : Hunt) → length (steps hare_and_hounds b) ≤ 128
+unfolding steps
 moves_few b =
     let few = filter_few (can_move b) is_step (λ m e. (move_in b m e).joined) (range_with_len 0 numbers_end) in omega (arith, few, steps_few)
 
 -- ---- what a move leaves
-module _ (b : Hunt) (a c : ℕ) (l : IsLegal b) (h : IsMove b a c) where
+module _ (b : Hunt) (a c : ℕ) (l : IsLegal b) (h : CanGo b a c) where
   from_below : a < 11
   from_below = joined_from a c h.joined
 
@@ -184,110 +165,42 @@ pub record WasMove (d : Hunt) (a c : ℕ) : Type 0 where
   pub hound : d.hounds_move ≡ false → (has_hound d c ≡ true) × (is_ahead a c ≡ true)
 
 -- what the test says
-pub record WasMoved (t : ℕ) (d : Hunt) (m : ℕ) : Type 0 where
-  pub went : WasMove d (from_point m) (to_point m)
-  pub hunted : has_escaped (taken_back d m) ≡ false
-  pub tier : hunt_tier (taken_back d m) ≡ t
-
-pub moved_in : (t : ℕ) (d : Hunt) (m : ℕ) → can_have_moved t d m ≡ true → WasMoved t d m
-unfolding can_have_moved
-moved_in t d m e =
+pub moved_in : (d : Hunt) (m : ℕ) → was_moved d m ≡ true → WasMove d (from_point m) (to_point m)
+unfolding was_moved
+moved_in d m x =
     let a = from_point m in
     let c = to_point m in
     let mover = if d.hounds_move then eqb c d.hare else (has_hound d c && is_ahead a c) in
-    let later = not (has_escaped (taken_back d m)) && eqb (hunt_tier (taken_back d m)) t in
-    let x : can_have_gone d a c ≡ true = and_left (can_have_gone d a c) later e in
-    let s = and_right (can_have_gone d a c) later e in
     let y = and_right (are_joined a c) (is_free d a && mover) x in
     let z : mover ≡ true = and_right (is_free d a) mover y in
     record {
-      went = record {
-        joined = and_left (are_joined a c) (is_free d a && mover) x;
-        free = free_in d a (and_left (is_free d a) mover y);
-        hare = λ t. eqb-true c d.hare (sym (cond-true _ _ _ t) ∙ z);
-        hound = λ t. (let w : (has_hound d c && is_ahead a c) ≡ true = sym (cond-false _ _ _ t) ∙ z in (and_left _ _ w, and_right (has_hound d c) (is_ahead a c) w));
-      };
-      hunted = not-true _ (and_left _ _ s);
-      tier = eqb-true _ _ (and_right (not (has_escaped (taken_back d m))) (eqb (hunt_tier (taken_back d m)) t) s);
+      joined = and_left (are_joined a c) (is_free d a && mover) x;
+      free = free_in d a (and_left (is_free d a) mover y);
+      hare = λ t. eqb-true c d.hare (sym (cond-true _ _ _ t) ∙ z);
+      hound = λ t. (let w : (has_hound d c && is_ahead a c) ≡ true = sym (cond-false _ _ _ t) ∙ z in (and_left _ _ w, and_right (has_hound d c) (is_ahead a c) w));
     }
 
 -- and the other way round
-pub moved_from : (t : ℕ) (d : Hunt) (m : ℕ) → WasMoved t d m → can_have_moved t d m ≡ true
-unfolding can_have_moved
-moved_from t d m h =
-    and_both _ _
-    (and_both _ _ h.went.joined
-    (and_both _ _ (free_from d (from_point m) h.went.free)
+pub moved_from : (d : Hunt) (m : ℕ) → WasMove d (from_point m) (to_point m) → was_moved d m ≡ true
+unfolding was_moved
+moved_from d m h =
+    and_both _ _ h.joined
+    (and_both _ _ (free_from d (from_point m) h.free)
     (elim (cases_Bool d.hounds_move) [
-      | inl t ↦ cond-true _ _ _ t ∙ eq-eqb _ _ (h.went.hare t)
-      | inr t ↦ (let w = h.went.hound t in cond-false _ _ _ t ∙ and_both _ _ w.0 w.1)
-    ])))
-    (and_both _ _ (ap not h.hunted) (eq-eqb _ _ h.tier))
+      | inl t ↦ cond-true _ _ _ t ∙ eq-eqb _ _ (h.hare t)
+      | inr t ↦ (let w = h.hound t in cond-false _ _ _ t ∙ and_both _ _ w.0 w.1)
+    ]))
 
 -- the board before a move
 abbrev back : Hunt → ℕ → ℕ → Hunt
 back d a c = if d.hounds_move then hare_back d a else hound_back d a c
 
-module _ (d : Hunt) (a c : ℕ) (l : IsLegal d) (h : WasMove d a c) where
-  start_below : a < 11
-  start_below = joined_from a c h.joined
-
-  end_below : c < 11
-  end_below = joined_to a c h.joined
-
+module _ (d : Hunt) (a c : ℕ) (h : WasMove d a c) where
   turned_points : c ≢ a
   turned_points e = joined_apart a c h.joined (sym e)
 
-  -- is legal
-  pub back_legal : IsLegal (back d a c)
-  back_legal = elim (cases_Bool d.hounds_move) [
-    | inl t ↦ subst IsLegal (sym (cond-true _ _ _ t)) (record {
-      eleven = l.eleven;
-      three = l.three;
-      below = start_below;
-      apart = h.free.hounds;
-    })
-    | inr t ↦ (
-        let w = h.hound t in
-        let la : a < length d.hounds = omega (arith, start_below, l.eleven) in
-        let lc : c < length d.hounds = omega (arith, end_below, l.eleven) in
-        let away : d.hare ≢ c = λ e. true≢false (sym w.0 ∙ ap (has_hound d) (sym e) ∙ l.apart) in
-        subst IsLegal (sym (cond-false _ _ _ t)) (record {
-          eleven = both_length d.hounds c a false true turned_points ∙ l.eleven;
-          three = moved_count d.hounds c a turned_points lc la w.0 h.free.hounds ∙ l.three;
-          below = l.below;
-          apart = both_other d.hounds c a false true turned_points d.hare away (λ e. h.free.hare (sym e)) ∙ l.apart;
-        }))
-  ]
-
-  -- has the move, where the hare has not escaped
-  pub back_move : has_escaped (back d a c) ≡ false → IsMove (back d a c) a c
-  back_move e = elim (cases_Bool d.hounds_move) [
-    | inl t ↦ (
-        let q : back d a c ≡ hare_back d a = cond-true _ _ _ t in
-        subst (λ (x : Hunt). IsMove x a c) (sym q) (record {
-          hunted = ap has_escaped (sym q) ∙ e;
-          joined = h.joined;
-          free = record { hounds = ap (has_hound d) (h.hare t) ∙ l.apart; hare = turned_points };
-          hound = λ f. absurd (true≢false (sym f));
-          hare = λ f. refl;
-        }))
-    | inr t ↦ (
-        let w = h.hound t in
-        let la : a < length d.hounds = omega (arith, start_below, l.eleven) in
-        let lc : c < length d.hounds = omega (arith, end_below, l.eleven) in
-        let q : back d a c ≡ hound_back d a c = cond-false _ _ _ t in
-        subst (λ (x : Hunt). IsMove x a c) (sym q) (record {
-          hunted = ap has_escaped (sym q) ∙ e;
-          joined = h.joined;
-          free = record { hounds = both_first d.hounds c a false true turned_points lc; hare = λ f. true≢false (sym w.0 ∙ ap (has_hound d) f ∙ l.apart) };
-          hound = λ f. (both_second d.hounds c a false true turned_points la, w.1);
-          hare = λ f. absurd (true≢false f);
-        }))
-  ]
-
-  -- which leads here
-  pub back_gone : gone (back d a c) a c ≡ d
+  -- a move taken back, made again
+  back_gone : gone (back d a c) a c ≡ d
   back_gone = elim (cases_Bool d.hounds_move) [
     | inl t ↦ ap (λ (x : Hunt). gone x a c) (cond-true d.hounds_move (hare_back d a) (hound_back d a c) t)
         ∙ same_hunt (hare_gone (hare_back d a) c) d (sym t) refl (h.hare t)
@@ -297,7 +210,7 @@ module _ (d : Hunt) (a c : ℕ) (l : IsLegal d) (h : WasMove d a c) where
   ]
 
 -- ---- a move, taken back
-module _ (b : Hunt) (a c : ℕ) (l : IsLegal b) (h : IsMove b a c) where
+module _ (b : Hunt) (a c : ℕ) (l : IsLegal b) (h : CanGo b a c) where
   gone_back : back (gone b a c) a c ≡ b
   gone_back = elim (cases_Bool b.hounds_move) [
     | inl t ↦ (let w = h.hound t in
@@ -328,79 +241,21 @@ module _ (b : Hunt) (a c : ℕ) (l : IsLegal b) (h : IsMove b a c) where
     })
   ]
 
--- ---- the boards before
--- a board before another
-pub record IsTakenFrom (t : ℕ) (d b : Hunt) : Type 0 where
-  pub tier : hunt_tier b ≡ t
-  pub legal : IsLegal b
-  pub move : (m : ℕ) × Contains (moves b) m × (play b m ≡ d)
-
--- what is before a board comes from a move that can have been made
-pub before_cases : (t : ℕ) (d : Hunt) (m : ℕ) (b : Hunt) → before_at t d m ≡ Some b → (can_have_moved t d m ≡ true) × (taken_back d m ≡ b)
-unfolding before_at
-before_cases t d m b e = elim (cases_Bool (can_have_moved t d m)) [
-  | inl f ↦ (f, (let g : Some (taken_back d m) ≡ Some b = sym (cond-true _ _ _ f) ∙ e in cc))
-  | inr f ↦ absurd (let g : None ≡ Some b = sym (cond-false _ _ _ f) ∙ e in let z : ⊥ = cc in z)
-]
-
--- such a move gives a board
-pub before_some : (t : ℕ) (d : Hunt) (m : ℕ) → can_have_moved t d m ≡ true → before_at t d m ≡ Some (taken_back d m)
-unfolding before_at
-before_some t d m f = cond-true _ _ _ f
-
--- another gives none
-pub before_none : (t : ℕ) (d : Hunt) (m : ℕ) → can_have_moved t d m ≡ false → before_at t d m ≡ None
-unfolding before_at
-before_none t d m f = cond-false _ _ _ f
-
--- the board before a move
-pub taken_from : (t : ℕ) (d : Hunt) (m : ℕ) → IsLegal d → can_have_moved t d m ≡ true → IsTakenFrom t d (taken_back d m)
-unfolding taken_back play
-taken_from t d m l e =
+-- ---- numbers of moves
+-- a move made, taken back
+pub undone : (b : Hunt) (m : ℕ) → IsLegal b → CanGo b (from_point m) (to_point m) → (was_moved (play b m) m ≡ true) × (taken_back (play b m) m ≡ b)
+unfolding play taken_back
+undone b m l h =
     let a = from_point m in
     let c = to_point m in
-    let h = moved_in t d m e in
-    let b = back d a c in
-    record {
-      tier = h.tier;
-      legal = back_legal d a c l h.went;
-      move = (m, taken_move b m (move_from b m (back_move d a c l h.went h.hunted)), back_gone d a c l h.went);
-    }
+    (moved_from (gone b a c) m (gone_was b a c l h), gone_back b a c l h)
 
--- exactly the boards of the tier from which a move leads to d
-pub befores_in : (t : ℕ) (d b : Hunt) → IsLegal d → Contains (befores t d) b → IsTakenFrom t d b
-unfolding befores
-befores_in t d b l c =
-    let x = filter_map_from (before_at t d) (range_with_len 0 numbers_end) b c in
-    let y = before_cases t d x.0 b x.2 in
-    subst (λ (a : Hunt). IsTakenFrom t d a) y.1 (taken_from t d x.0 l y.0)
-
-was_moved : (t : ℕ) (d b : Hunt) (m : ℕ) → IsLegal b → IsMove b (from_point m) (to_point m) → play b m ≡ d → hunt_tier b ≡ t → (taken_back d m ≡ b) × (can_have_moved t d m ≡ true)
-unfolding taken_back play
-was_moved t d b m l h e f =
-    let a = from_point m in
-    let c = to_point m in
-    let same : back d a c ≡ b = ap (λ (x : Hunt). back x a c) (sym e) ∙ gone_back b a c l h in (
-      same,
-      moved_from t d m (record {
-        went = subst (λ (x : Hunt). WasMove x a c) e (gone_was b a c l h);
-        hunted = ap has_escaped same ∙ h.hunted;
-        tier = ap hunt_tier same ∙ f;
-      }),
-    )
-
--- each of them is listed
-pub befores_from : (t : ℕ) (d b : Hunt) → IsTakenFrom t d b → Contains (befores t d) b
-unfolding befores
-befores_from t d b h =
-    let m = h.move.0 in
-    let v = move_in b m (move_taken b m h.move.1) in
-    let w = was_moved t d b m h.legal v h.move.2 h.tier in
-    filter_map_to (before_at t d) (range_with_len 0 numbers_end) m b (contains_range numbers_end m (step_below m v.joined))
-    (before_some t d m w.1 ∙ ap (λ (a : Hunt). Some a) w.0)
+-- and a move taken back, made again
+pub redone : (d : Hunt) (m : ℕ) → was_moved d m ≡ true → play (taken_back d m) m ≡ d
+unfolding play taken_back
+redone d m e = back_gone d (from_point m) (to_point m) (moved_in d m e)
 
 -- there are few
-pub befores_few : (t : ℕ) (d : Hunt) → length (befores t d) ≤ 128
-unfolding befores
-befores_few t d =
-    let few = filter_map_few (before_at t d) is_step (λ m b e. (moved_in t d m (before_cases t d m b e).0).went.joined) (range_with_len 0 numbers_end) in omega (arith, few, steps_few)
+pub befores_few : (d : Hunt) → length (filter (was_moved d) (range_with_len 0 numbers_end)) ≤ 128
+befores_few d =
+    let few = filter_few (was_moved d) is_step (λ m e. (moved_in d m e).joined) (range_with_len 0 numbers_end) in omega (arith, few, steps_few)

@@ -5,17 +5,17 @@ use Rattle.std.proofs.lemmas.Bool.{cond-true, true≢false, cases_Bool}
 use Rattle.std.proofs.lemmas.Bool.Decides.{nat_tests}
 use Rattle.std.proofs.lemmas.List.{ext_get_or}
 use Rattle.std.proofs.lemmas.List.FromFn.{length-map-range_with_len, get_or-map-range_with_len}
-use Rattle.gm_game.specs.Boards.{position_of, board_of}
 use Rattle.gm_game.specs.Shown.{IsShown}
-use Rattle.gm_game.proofs.BoardLaws.{position_back, legal_board}
 use Rattle.gm_board.specs.Lists.{contains_range, filter_to}
 use Rattle.gm_board.specs.Permutations.{all_at, same_list}
 use Rattle.gm_steps.specs.Steps.{from_point, to_point}
+use Rattle.gm_pieces.specs.MoveTexts.{AreTexts}
+use Rattle.gm_pieces.specs.TextFacts.{texts_are_shown}
 use Rattle.gm_hare.specs.declared.hunt.Hunt.{Hunt}
-use Rattle.gm_hare.specs.Board.{has_hound, are_joined, numbers_end, hunt_board, hare_and_hounds, hare_rules}
+use Rattle.gm_hare.specs.Board.{has_hound, are_joined, numbers_end, hare_and_hounds, hare_rules}
 use Rattle.gm_hare.specs.PointFacts.{is_step}
 use Rattle.gm_hare.specs.HoundFacts.{same_hunt}
-use Rattle.gm_hare.specs.MoveFacts.{IsLegal, legal_in, move_taken, move_in, step_below}
+use Rattle.gm_hare.specs.MoveFacts.{IsLegal, legal_in, move_in, step_below}
 use Rattle.gm_hare.specs.HareLaws.{numbered}
 use Rattle.gm_hare.specs.Texts.{hunt_char, hunt_text, point_name, step_text, position_text, move_text}
 
@@ -122,14 +122,14 @@ step_short m e =
     five (length (step_text m)) (all_at (λ (m : ℕ). leb (length (step_text m)) 5) steps m short_table (filter_to is_step (range_with_len 0 numbers_end) m (contains_range numbers_end m (step_below m e)) e))
 
 -- ---- the laws of texts
-pub texts_readable : IsShown hare_rules position_text move_text
-texts_readable = record {
-  shown_fits = λ p l. let a = text_length (hunt_board p.index) in omega (arith, a);
-  shown_once = λ p q l k e.
-      sym (position_back hare_and_hounds numbered p l)
-      ∙ ap (position_of hare_and_hounds) (text_once (board_of hare_and_hounds p) (board_of hare_and_hounds q) (legal_in _ (legal_board hare_and_hounds p l)) (legal_in _ (legal_board hare_and_hounds q k)) e)
-      ∙ position_back hare_and_hounds numbered q k;
-  move_shown_fits = λ p m l c. let a = step_short m (move_in (hunt_board p.index) m (move_taken (hunt_board p.index) m c)).joined in omega (arith, a);
-  move_shown_once = λ p m k l c d e.
-      step_once m k (move_in (hunt_board p.index) m (move_taken (hunt_board p.index) m c)).joined (move_in (hunt_board p.index) k (move_taken (hunt_board p.index) k d)).joined e;
+pub readable : AreTexts hare_and_hounds hunt_text (λ t m. step_text m)
+readable = record {
+  text_fits = λ b l. let a = text_length b in omega (arith, a);
+  text_once = λ a b l k e. text_once a b (legal_in a l) (legal_in b k) e;
+  step_fits = λ b m l h. let a = step_short m (move_in b m h.can).joined in omega (arith, a);
+  step_once = λ b m n l h k e. step_once m n (move_in b m h.can).joined (move_in b n k.can).joined e;
 }
+
+-- the same of positions
+pub texts_readable : IsShown hare_rules position_text move_text
+texts_readable = texts_are_shown hare_and_hounds hunt_text (λ t m. step_text m) numbered readable

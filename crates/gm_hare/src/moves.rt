@@ -1,15 +1,10 @@
 //! Moves on boards.
-ghost use Rattle.std.specs.Prelude.{◌≡◌, ◌&&◌, ◌<◌, true, false, map, [], MatchOption, None, Some};
-ghost use Rattle.gm_game.specs.Ascending.{put_all};
-ghost use Rattle.gm_game.specs.Boards.{least_index as least_index_of};
+ghost use Rattle.std.specs.Prelude.{◌≡◌, ◌<◌, true};
 ghost use Rattle.gm_hare.specs.PointFacts.{is_step};
-ghost use Rattle.gm_hare.specs.Board.{legal, is_free as is_free_of, can_go as can_go_of, can_move as can_move_of, moves as moves_of, play as play_of, can_have_gone as can_have_gone_of, can_have_moved as can_have_moved_of, taken_back as taken_back_of, before_at, befores, are_joined as are_joined_of, hare_and_hounds};
+ghost use Rattle.gm_hare.specs.Board.{is_free as is_free_of, can_go as can_go_of, can_move as can_move_of, play as play_of, can_have_gone as can_have_gone_of, was_moved as was_moved_of, taken_back as taken_back_of, are_joined as are_joined_of};
 
-use crate::hunt::{Hunt, column_sum, has_escaped, least_index};
+use crate::hunt::Hunt;
 use crate::points::{are_joined, is_ahead};
-use arrayvec::ArrayVec;
-use gm_game::limits::{MOVES, PARENTS};
-use gm_steps::ascending::put;
 use gm_steps::step::Step;
 
 /// The numbers of moves are below this.
@@ -38,33 +33,15 @@ fn can_go(board: &Hunt, step: Step) -> bool
     }
 }
 
-/// Whether there is a move with this number: none after an escape.
+/// Whether the move with this number can be made, were the game not over.
 pub fn can_move(board: &Hunt, number: u32) -> bool
-    requires { legal board.now ≡ true }
     ensures { result ≡ can_move_of board.now number }
 {
     let step = Step::numbered(number);
-    if has_escaped(board) {
-        return false;
-    }
     if !are_joined(step.from, step.to) {
         return false;
     }
     can_go(board, step)
-}
-
-/// The numbers of the moves, ascending.
-pub fn moves(board: &Hunt) -> ArrayVec<u32, MOVES>
-    requires { legal board.now ≡ true }
-    ensures { result.items ≡ moves_of board.now }
-{
-    let mut list = ArrayVec::new();
-    for number in 0..NUMBERS {
-        if can_move(board, number) {
-            list.push(number);
-        }
-    }
-    list
 }
 
 /// The board after a move.
@@ -106,8 +83,19 @@ fn can_have_gone(board: &Hunt, step: Step) -> bool
     }
 }
 
-// The board before a move with this number.
-fn taken_back(board: &Hunt, number: u32) -> Hunt
+/// Whether the move with this number can have led to the board.
+pub fn was_moved(board: &Hunt, number: u32) -> bool
+    ensures { result ≡ was_moved_of board.now number }
+{
+    let step = Step::numbered(number);
+    if !are_joined(step.from, step.to) {
+        return false;
+    }
+    can_have_gone(board, step)
+}
+
+/// The board before a move with this number.
+pub fn taken_back(board: &Hunt, number: u32) -> Hunt
     requires { is_step number ≡ true }
     ensures { result ≡ taken_back_of board.now number }
 {
@@ -128,44 +116,4 @@ fn taken_back(board: &Hunt, number: u32) -> Hunt
             hare: board.hare,
         }
     }
-}
-
-// The board of the tier before a move with this number that led to this one, if there is one.
-fn before(tier: u64, board: &Hunt, number: u32) -> Option<Hunt>
-    requires { legal board.now ≡ true }
-    ensures { MatchOption result
-        (before_at tier board.now number ≡ None)
-        (λ b. (before_at tier board.now number ≡ Some b) × (legal b ≡ true)) }
-{
-    let step = Step::numbered(number);
-    if !are_joined(step.from, step.to) {
-        return None;
-    }
-    if !can_have_gone(board, step) {
-        return None;
-    }
-    let earlier = taken_back(board, number);
-    if has_escaped(&earlier) {
-        return None;
-    }
-    if column_sum(&earlier) == tier {
-        Some(earlier)
-    } else {
-        None
-    }
-}
-
-/// The least indexes of the boards of the tier from which a move leads to this one, ascending and once each.
-pub fn parents(tier: u64, board: &Hunt) -> ArrayVec<u64, PARENTS>
-    requires { legal board.now ≡ true }
-    ensures { result.items ≡ put_all [] (map (least_index_of hare_and_hounds) (befores tier board.now)) }
-{
-    let mut list = ArrayVec::new();
-    for number in 0..NUMBERS {
-        match before(tier, board, number) {
-            Some(earlier) => put(&mut list, least_index(&earlier)),
-            None => {}
-        }
-    }
-    list
 }

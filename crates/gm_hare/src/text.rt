@@ -1,12 +1,10 @@
 //! Texts of boards and of moves.
-ghost use Rattle.std.specs.Prelude.{◌≡◌, ◌↔◌, ◌<◌, ◌==◌, ◌≤◌, ℕ, length, true, Some, IsTrue, slice_index, slice_index_or, []};
-ghost use Rattle.std.specs.List.{Contains};
+ghost use Rattle.std.specs.Prelude.{◌≡◌, ◌<◌, ◌==◌, ◌≤◌, length, true, slice_index, slice_index_or, []};
 ghost use Rattle.gm_hare.specs.declared.hunt.Hunt.{Hunt};
-ghost use Rattle.gm_hare.specs.Board.{legal, moves as moves_of};
+ghost use Rattle.gm_hare.specs.Board.{legal};
 ghost use Rattle.gm_hare.specs.Texts.{hunt_char, hunt_text as hunt_text_of, names, step_text as step_text_of};
 
-use crate::hunt::{Hunt, is_legal_hunt};
-use crate::moves::{NUMBERS, can_move};
+use crate::hunt::Hunt;
 use arrayvec::ArrayVec;
 use gm_game::shown::Line;
 use gm_game::text::push_text;
@@ -75,33 +73,14 @@ fn hounds_in(text: &[u8]) -> [bool; 11]
     hounds
 }
 
-// The board that a text can be of.
-fn hunt_in(text: &[u8]) -> Hunt
+/// The board that has this text, where there is one. Any bytes may be given.
+pub fn hunt_in(text: &[u8]) -> Hunt
     ensures { (b : Hunt) → legal b ≡ true → hunt_text_of b ≡ text.now → b ≡ result }
 {
     Hunt {
         hounds_move: has_byte(text, 12, b'd'),
         hounds: hounds_in(text),
         hare: hare_in(text),
-    }
-}
-
-// Whether this is the text of the board.
-fn is_shown(board: &Hunt, text: &[u8]) -> bool
-    ensures { IsTrue result ↔ (hunt_text_of board.now ≡ text.now) }
-{
-    hunt_text(board).as_slice() == text
-}
-
-/// The legal board with this text, if there is one. Any bytes may be given.
-pub fn read_hunt(text: &[u8]) -> Option<Hunt>
-    ensures { (b : Hunt) → (result ≡ Some b) ↔ ((legal b ≡ true) × (hunt_text_of b ≡ text.now)) }
-{
-    let board = hunt_in(text);
-    if is_legal_hunt(&board) && is_shown(&board, text) {
-        Some(board)
-    } else {
-        None
     }
 }
 
@@ -136,24 +115,4 @@ pub fn step_text(number: u32) -> Line
     push_text(&mut line, b"-");
     push_text(&mut line, point_name(step.to));
     line
-}
-
-// Whether this is the text of a move.
-fn has_text(number: u32, text: &[u8]) -> bool
-    ensures { IsTrue result ↔ (step_text_of number ≡ text.now) }
-{
-    step_text(number).as_slice() == text
-}
-
-/// The move with this text, if there is one. Any bytes may be given.
-pub fn read_step(board: &Hunt, text: &[u8]) -> Option<u32>
-    requires { legal board.now ≡ true }
-    ensures { (m : ℕ) → (result ≡ Some m) ↔ (Contains (moves_of board.now) m × (step_text_of m ≡ text.now)) }
-{
-    for number in 0..NUMBERS {
-        if can_move(board, number) && has_text(number, text) {
-            return Some(number);
-        }
-    }
-    None
 }

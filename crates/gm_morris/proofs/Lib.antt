@@ -1,4 +1,4 @@
 pub mod MaskFacts
 pub mod MoveSteps
 pub mod TextSteps
-pub mod ReadSteps
+pub mod Start

@@ -1,16 +1,13 @@
--- Steps of the loops over numbers of moves, and what the code's tests say of a move.
-use Rattle.std.proofs.Common.{◌≡◌, ℕ, zero, suc, ◌+◌, ◌-◌, ◌/◌, ◌%◌, ◌^◌, ◌<◌, ◌≤◌, Bool, true, false, ◌&&◌, ◌||◌, not, eqb, leb, le-leb, ltb, lt-ltb, List, [], ◌∷◌, ◌++◌, map, set, get_or, length, Option, None, Some, refl, sym, ap, ap₂, ◌∙◌, subst, arith, eqb-true, eq-eqb, inl, inr, get_or-set_other}
-use Rattle.std.specs.List.{Contains, list_any, list_all, filter, filter_map, range_with_len}
-use Rattle.std.proofs.lemmas.Bool.{cases_lt, ne_eqb, cond-true, cond-false}
-use Rattle.std.proofs.lemmas.List.{append-nil, length-append, length-map, get_or_past}
-use Rattle.std.proofs.lemmas.List.Elements.{filter-append, filter_map-append}
+-- What the code's tests say of a board and of a move.
+use Rattle.std.proofs.Common.{◌≡◌, ℕ, ◌+◌, ◌-◌, ◌/◌, ◌%◌, ◌^◌, ◌<◌, ◌≤◌, Bool, true, false, ◌&&◌, ◌||◌, not, eqb, leb, le-leb, ltb, lt-ltb, List, [], ◌∷◌, map, set, get_or, length, refl, sym, ap, ap₂, ◌∙◌, subst, arith, eqb-true, eq-eqb, inl, inr, get_or-set_other}
+use Rattle.std.specs.List.{list_any, list_all, range_with_len}
+use Rattle.std.proofs.lemmas.Bool.{cases_lt}
+use Rattle.std.proofs.lemmas.List.{get_or_past}
 use Rattle.std.proofs.lemmas.Nat.Bits.{bit_at_above}
 use Rattle.std.specs.Prelude.{bit_and}
-use Rattle.gm_game.specs.Ascending.{put_all}
-use Rattle.gm_game.proofs.Putting.{put_all_few}
 use Rattle.gm_board.specs.declared.cell.Cell.{Cell}
 use Rattle.gm_board.specs.declared.cell.Cell.TheVariants.{Empty, Mine, Theirs}
-use Rattle.gm_board.specs.Lists.{and_both, range_more, contains_range, filter_to}
+use Rattle.gm_board.specs.Lists.{contains_range}
 use Rattle.gm_board.specs.Binomials.{binomial}
 use Rattle.gm_board.specs.Arrangements.{arrangements}
 use Rattle.gm_board.specs.Masks.{has_cell}
@@ -18,14 +15,15 @@ use Rattle.gm_board.specs.Pieces.{cell_by, apart_below}
 use Rattle.gm_board.specs.Permutations.{all_at}
 use Rattle.gm_board.specs.BoardMasks.{turned}
 use Rattle.gm_board.specs.Images.{board_of, board_length, board_get}
+use Rattle.gm_pieces.specs.MoveGames.{IsMove}
 use Rattle.gm_morris.specs.declared.variant.Variant.{Variant}
 use Rattle.gm_morris.specs.declared.tiers.TheConstants.{SIZES}
 use Rattle.gm_morris.specs.Points.{last_tier, lines, joins}
-use Rattle.gm_morris.specs.Morris.{is_mine, is_theirs, is_empty, mine, theirs, has_line, legal, can_move, numbers_end, steps, moves, was_moved, taken_back, is_open, before_at, befores, size_of, board_at}
+use Rattle.gm_morris.specs.Morris.{is_mine, is_theirs, is_empty, mine, theirs, has_line, legal, numbers_end, was_moved, size_of, board_at, morris}
 use Rattle.gm_morris.specs.BoardFacts.{cell_turned}
 use Rattle.gm_morris.specs.PointFacts.{joined_within}
-use Rattle.gm_morris.specs.MoveFacts.{IsSlide, IsPlacement, step_cases, last_end, other_end, move_in, steps_few}
-use Rattle.gm_morris.specs.BeforeFacts.{WasSlide, WasPlacement, was_cases, befores_few}
+use Rattle.gm_morris.specs.MoveFacts.{IsSlide, IsPlacement, step_cases, last_end, other_end}
+use Rattle.gm_morris.specs.BeforeFacts.{WasSlide, WasPlacement, was_cases}
 use Rattle.gm_morris.specs.MorrisLaws.{size_at, tier_below, below_arrangements, board_numbers}
 
 -- ---- sizes
@@ -137,15 +135,15 @@ pub to_below : (v : Variant) (a b : ℕ) (x : Bool) → x ≡ joins v a b → x 
 to_below v a b x e f = (joined_within v a b (sym e ∙ f)).1
 
 -- a move of the last tier
-pub slide_here : (v : Variant) (b : List Cell) (m l p : ℕ) → Contains (moves v b) m → p ≡ mine b + theirs b → l ≡ last_tier v → p ≡ l → IsSlide v b m
-slide_here v b m l p c e f g = elim (step_cases v b m (move_in v b m c).step) [
+pub slide_here : (v : Variant) (b : List Cell) (m l p : ℕ) → IsMove (morris v) b m → p ≡ mine b + theirs b → l ≡ last_tier v → p ≡ l → IsSlide v b m
+slide_here v b m l p c e f g = elim (step_cases v b m c) [
   | inl h ↦ h
   | inr h ↦ absurd (h.before (sym e ∙ g ∙ f))
 ]
 
 -- of another
-pub placement_here : (v : Variant) (b : List Cell) (m l p : ℕ) → Contains (moves v b) m → p ≡ mine b + theirs b → l ≡ last_tier v → (p ≡ l → ⊥) → IsPlacement v b m
-placement_here v b m l p c e f g = elim (step_cases v b m (move_in v b m c).step) [
+pub placement_here : (v : Variant) (b : List Cell) (m l p : ℕ) → IsMove (morris v) b m → p ≡ mine b + theirs b → l ≡ last_tier v → (p ≡ l → ⊥) → IsPlacement v b m
+placement_here v b m l p c e f g = elim (step_cases v b m c) [
   | inl h ↦ absurd (g (e ∙ h.last ∙ sym f))
   | inr h ↦ h
 ]
@@ -186,99 +184,3 @@ start_free v t d e f m h s r =
   where
     their_or_empty : Theirs ≡ Empty → ⊥
     their_or_empty e = cc
-
--- ---- the board before a move
-pub before_some : (v : Variant) (t : ℕ) (d b : List Cell) (m : ℕ) (x : Bool) → was_moved v t d m ≡ true → b ≡ taken_back v t d m → x ≡ is_open v t b → x ≡ true → before_at v t d m ≡ Some b
-unfolding before_at
-before_some v t d b m x e f g h =
-    cond-true _ _ _ (and_both _ _ e (ap (is_open v t) (sym f) ∙ sym g ∙ h)) ∙ ap (λ (y : List Cell). Some y) (sym f)
-
-pub before_closed : (v : Variant) (t : ℕ) (d b : List Cell) (m : ℕ) (x : Bool) → was_moved v t d m ≡ true → b ≡ taken_back v t d m → x ≡ is_open v t b → x ≡ false → before_at v t d m ≡ None
-unfolding before_at
-before_closed v t d b m x e f g h =
-    cond-false _ _ _ (ap₂ (λ (y z : Bool). y && z) e (ap (is_open v t) (sym f) ∙ sym g ∙ h))
-
-pub before_none : (v : Variant) (t : ℕ) (d : List Cell) (m : ℕ) → was_moved v t d m ≡ false → before_at v t d m ≡ None
-unfolding before_at
-before_none v t d m e = cond-false _ _ _ (ap (λ (y : Bool). y && is_open v t (taken_back v t d m)) e)
-
--- ---- loops over the numbers
-filter_one : (p : ℕ → Bool) (n : ℕ) → filter p (range_with_len 0 (n + 1)) ≡ filter p (range_with_len 0 n) ++ filter p (n ∷ [])
-filter_one p n = ap (filter p) (range_more n) ∙ filter-append p (range_with_len 0 n) (n ∷ [])
-
--- one more number that is kept, or not
-pub filter_in : (p : ℕ → Bool) (n : ℕ) → p n ≡ true → filter p (range_with_len 0 (n + 1)) ≡ filter p (range_with_len 0 n) ++ n ∷ []
-filter_in p n e = filter_one p n ∙ rw e refl
-
--- one that is not kept
-pub filter_out : (p : ℕ → Bool) (n : ℕ) → p n ≡ false → filter p (range_with_len 0 (n + 1)) ≡ filter p (range_with_len 0 n)
-filter_out p n e = filter_one p n ∙ rw e (append-nil (filter p (range_with_len 0 n)))
-
-filter_prefix : (p : ℕ → Bool) (n k : ℕ) → length (filter p (range_with_len 0 n)) ≤ length (filter p (range_with_len 0 (n + k)))
-filter_prefix p n zero = let e : n + 0 ≡ n = omega arith in rw e (omega arith)
-filter_prefix p n (suc k) =
-    let e : n + suc k ≡ n + k + 1 = omega arith in
-    let l = ap (λ (xs : List ℕ). length xs) (filter_one p (n + k)) ∙ length-append (filter p (range_with_len 0 (n + k))) (filter p ((n + k) ∷ [])) in
-    rw e (omega (arith, l, filter_prefix p n k))
-
-filter_map_prefix : {B : Type 0} (h : ℕ → Option B) (n k : ℕ) → length (filter_map h (range_with_len 0 n)) ≤ length (filter_map h (range_with_len 0 (n + k)))
-filter_map_prefix h n zero = let e : n + 0 ≡ n = omega arith in rw e (omega arith)
-filter_map_prefix h n (suc k) =
-    let e : n + suc k ≡ n + k + 1 = omega arith in
-    let l = ap (λ (xs : List _). length xs) (ap (filter_map h) (range_more (n + k)) ∙ filter_map-append h (range_with_len 0 (n + k)) ((n + k) ∷ [])) ∙ length-append (filter_map h (range_with_len 0 (n + k))) (filter_map h ((n + k) ∷ [])) in
-    rw e (omega (arith, l, filter_map_prefix h n k))
-
--- a number that is kept is one of the steps
-pub step_listed : (v : Variant) (b : List Cell) (m : ℕ) → m < numbers_end v (mine b + theirs b) → can_move v b m ≡ true → eqb (length (steps v b)) 0 ≡ false
-unfolding steps
-step_listed v b m l e =
-    let c = filter_to (can_move v b) (range_with_len 0 (numbers_end v (mine b + theirs b))) m (contains_range (numbers_end v (mine b + theirs b)) m l) e in
-    ne_eqb _ _ (λ q. omega (arith, c.1, q))
-
--- all steps
-pub all_steps : (v : Variant) (b : List Cell) (n : ℕ) → n ≡ numbers_end v (mine b + theirs b) → filter (can_move v b) (range_with_len 0 n) ≡ steps v b
-unfolding steps
-all_steps v b n e = ap (λ (k : ℕ). filter (can_move v b) (range_with_len 0 k)) e
-
--- without a line of the opponent's they are the moves
-pub all_moves : (v : Variant) (b : List Cell) (x : Bool) → x ≡ has_line v is_theirs b → x ≡ false → steps v b ≡ moves v b
-unfolding moves
-all_moves v b x e f = sym (cond-false _ _ _ (sym e ∙ f))
-
--- with one there are none
-pub no_moves : (v : Variant) (b : List Cell) (x : Bool) → x ≡ has_line v is_theirs b → x ≡ true → [] ≡ moves v b
-unfolding moves
-no_moves v b x e f = sym (cond-true _ _ _ (sym e ∙ f))
-
--- there is room for each move
-pub move_room : (v : Variant) (b : List Cell) (m : ℕ) (xs : List ℕ) → m < numbers_end v (mine b + theirs b) → can_move v b m ≡ true → xs ≡ filter (can_move v b) (range_with_len 0 m) → length xs < 128
-unfolding steps
-move_room v b m xs l e is =
-    let n = numbers_end v (mine b + theirs b) in
-    let all : length (filter (can_move v b) (range_with_len 0 n)) ≤ 128 = steps_few v b in
-    let rest : m + 1 + (n - (m + 1)) ≡ n = omega arith in
-    let prefix : length (filter (can_move v b) (range_with_len 0 (m + 1))) ≤ length (filter (can_move v b) (range_with_len 0 n)) =
-    subst (λ (k : ℕ). length (filter (can_move v b) (range_with_len 0 (m + 1))) ≤ length (filter (can_move v b) (range_with_len 0 k))) rest (filter_prefix (can_move v b) (m + 1) (n - (m + 1))) in
-    let one : length (filter (can_move v b) (range_with_len 0 (m + 1))) ≡ length (filter (can_move v b) (range_with_len 0 m)) + 1 =
-    ap (λ (ys : List ℕ). length ys) (filter_in (can_move v b) m e) ∙ length-append (filter (can_move v b) (range_with_len 0 m)) (m ∷ []) in
-    let same : length xs ≡ length (filter (can_move v b) (range_with_len 0 m)) = ap (λ (ys : List ℕ). length ys) is in
-    omega arith
-
--- there is room for each parent
-pub parent_room : (v : Variant) (t : ℕ) (d a : List Cell) (m : ℕ) (f : List Cell → ℕ) (xs : List ℕ) → m < numbers_end v t → before_at v t d m ≡ Some a
-    → xs ≡ put_all [] (map f (filter_map (before_at v t d) (range_with_len 0 m))) → length xs < 128
-unfolding befores
-parent_room v t d a m f xs l e is =
-    let n = numbers_end v t in
-    let h = before_at v t d in
-    let all : length (filter_map h (range_with_len 0 n)) ≤ 128 = befores_few v t d in
-    let rest : m + 1 + (n - (m + 1)) ≡ n = omega arith in
-    let prefix : length (filter_map h (range_with_len 0 (m + 1))) ≤ length (filter_map h (range_with_len 0 n)) =
-    subst (λ (k : ℕ). length (filter_map h (range_with_len 0 (m + 1))) ≤ length (filter_map h (range_with_len 0 k))) rest (filter_map_prefix h (m + 1) (n - (m + 1))) in
-    let last : length (filter_map h (m ∷ [])) ≡ 1 = rw e refl in
-    let one : length (filter_map h (range_with_len 0 (m + 1))) ≡ length (filter_map h (range_with_len 0 m)) + length (filter_map h (m ∷ [])) =
-    ap (λ (ys : List _). length ys) (ap (filter_map h) (range_more m) ∙ filter_map-append h (range_with_len 0 m) (m ∷ [])) ∙ length-append (filter_map h (range_with_len 0 m)) (filter_map h (m ∷ [])) in
-    let few : length (put_all [] (map f (filter_map h (range_with_len 0 m)))) ≤ 0 + length (map f (filter_map h (range_with_len 0 m))) = put_all_few [] (map f (filter_map h (range_with_len 0 m))) in
-    let long : length (map f (filter_map h (range_with_len 0 m))) ≡ length (filter_map h (range_with_len 0 m)) = length-map (filter_map h (range_with_len 0 m)) f in
-    let same : length xs ≡ length (put_all [] (map f (filter_map h (range_with_len 0 m)))) = ap (λ (ys : List ℕ). length ys) is in
-    omega arith

@@ -1,11 +1,11 @@
 -- Steps on the texts of boards and moves.
-use Rattle.std.proofs.Common.{◌≡◌, ◌≢◌, ℕ, zero, suc, ◌+◌, ◌*◌, ◌/◌, ◌%◌, ◌^◌, ◌<◌, min, Bool, true, false, ◌&&◌, eqb, ltb, lt-ltb, List, [], ◌∷◌, ◌++◌, map, length, get_or, Option, None, Some, w32, refl, sym, ap, ap₂, ◌∙◌, subst, arith, inl, inr, zero-add, eqb-true, eq-eqb}
-use Rattle.std.specs.Prelude.{bit_and, bit_or, ◌↔◌}
+use Rattle.std.proofs.Common.{◌≡◌, ◌≢◌, ℕ, zero, suc, ◌+◌, ◌*◌, ◌/◌, ◌%◌, ◌^◌, ◌<◌, min, Bool, true, false, ◌&&◌, eqb, ltb, lt-ltb, List, [], ◌∷◌, ◌++◌, map, length, get_or, w32, refl, sym, ap, ap₂, ◌∙◌, arith, inl, inr, zero-add, eqb-true, eq-eqb}
+use Rattle.std.specs.Prelude.{bit_and, bit_or}
 use Rattle.std.specs.Int.{bit_at}
-use Rattle.std.specs.List.{Contains, range_with_len}
+use Rattle.std.specs.List.{range_with_len}
 use Rattle.std.proofs.lemmas.Bool.{cases_order, cases_eq, le-ltb, true≢false, cond-true, cond-false, ne_eqb}
 use Rattle.std.proofs.lemmas.Nat.Bits.{bit_at-lt, bit_at-zero, bit_at_and, bit_at_set_same, bit_at_set_other, same_from_bits}
-use Rattle.std.proofs.lemmas.List.{ext_get_or, get_or-map, get_or_default, map_push}
+use Rattle.std.proofs.lemmas.List.{ext_get_or, get_or-map, map_push}
 use Rattle.std.proofs.lemmas.List.FromFn.{map-range_with_len_more}
 use Rattle.gm_board.specs.declared.cell.Cell.{Cell}
 use Rattle.gm_board.specs.declared.cell.Cell.TheVariants.{Empty, Mine, Theirs}
@@ -15,9 +15,8 @@ use Rattle.gm_board.specs.Images.{board_of, board_length, board_get}
 use Rattle.gm_board.specs.Squares.{cell_text}
 use Rattle.gm_morris.specs.declared.variant.Variant.{Variant}
 use Rattle.gm_morris.specs.Points.{last_tier}
-use Rattle.gm_morris.specs.Morris.{mine, theirs, moves}
 use Rattle.gm_morris.specs.Texts.{cell_char, board_text, step_text}
-use Rattle.gm_morris.specs.TextLaws.{text_length, step_once}
+use Rattle.gm_morris.specs.TextLaws.{text_length}
 
 -- ---- boards
 -- the text of one more cell
@@ -120,21 +119,3 @@ slide_text v p n m l s t u e f g h i j =
 pub placement_text : (v : Variant) (p n m l : ℕ) (s : List ℕ) → p ≡ n → l ≡ last_tier v → (p ≡ l → ⊥) → s ≡ [] ++ cell_text 3 m → s ≡ step_text v n m
 unfolding step_text
 placement_text v p n m l s e f g h = h ∙ sym (cond-false _ _ _ (ne_eqb _ _ (λ q. g (e ∙ q ∙ sym f))))
-
--- what is read of a text is the move with this text
-abbrev pub ReadsMove : Variant → List Cell → List ℕ → Option ℕ → Type 0
-ReadsMove v b text o = (m : ℕ) → (o ≡ Some m) ↔ (Contains (moves v b) m × (step_text v (mine b + theirs b) m ≡ text))
-
-pub move_found : (v : Variant) (b : List Cell) (text : List ℕ) (n : ℕ) → Contains (moves v b) n → step_text v (mine b + theirs b) n ≡ text → ReadsMove v b text (Some n)
-move_found v b text n c f m = (
-  λ g. (let same : n ≡ m = cc in subst (λ (x : ℕ). Contains (moves v b) x × (step_text v (mine b + theirs b) x ≡ text)) same (c, f)),
-  λ g. ap (λ (x : ℕ). Some x) (step_once v (mine b + theirs b) n m (f ∙ sym g.1)),
-)
-
--- no move has the text
-pub move_missing : (v : Variant) (b : List Cell) (text xs : List ℕ) → xs ≡ moves v b → ((k : ℕ) → k < length xs → step_text v (mine b + theirs b) (get_or xs k 0) ≡ text → ⊥) → ReadsMove v b text None
-move_missing v b text xs e h m = (
-  λ g. absurd (let z : ⊥ = cc in z),
-  λ g. absurd (let c = subst (λ (ys : List ℕ). Contains ys m) (sym e) g.0 in
-      h c.0 c.1 (ap (step_text v (mine b + theirs b)) (get_or_default xs c.0 0 m c.1 ∙ c.2) ∙ g.1)),
-)

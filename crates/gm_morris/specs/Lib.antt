@@ -1,6 +1,5 @@
 pub mod Points
 pub mod Morris
-pub mod ListFacts
 pub mod PointFacts
 pub mod BoardFacts
 pub mod MoveFacts

@@ -1,10 +1,9 @@
 -- The rules of the games of nine points, said of boards: a board is a list of nine cells as the player to move sees them.
 use Rattle.std.specs.Prelude.{ℕ, ◌+◌, ◌-◌, ◌/◌, ◌%◌, Bool, true, false, not, ◌&&◌, ◌==◌, nat_le, nat_lt, List, [], ◌∷◌, map, reverse, replicate, length, get_or, set, fold, min, if◌then◌else◌, Option, None, Some}
-use Rattle.std.specs.List.{filter, filter_map, count_by, range_with_len}
+use Rattle.std.specs.List.{count_by}
 use Rattle.gm_game.specs.declared.position.End.{End}
 use Rattle.gm_game.specs.declared.position.End.TheVariants.{Lose}
 use Rattle.gm_game.specs.Rules.{Rules}
-use Rattle.gm_game.specs.Boards.{BoardGame, rules_of}
 use Rattle.gm_board.specs.declared.cell.Cell.{Cell}
 use Rattle.gm_board.specs.declared.cell.Cell.TheVariants.{Empty, Mine, Theirs}
 use Rattle.gm_board.specs.Arrangements.{arrangement, arrangements, arrangement_index}
@@ -12,6 +11,7 @@ use Rattle.gm_board.specs.BoardMasks.{turned}
 use Rattle.gm_board.specs.Patterns.{has_filled}
 use Rattle.gm_board.specs.Permutations.{permute}
 use Rattle.gm_board.specs.Squares.{square_symmetries}
+use Rattle.gm_pieces.specs.MoveGames.{MoveGame, move_rules}
 use Rattle.gm_morris.specs.declared.variant.Variant.{Variant}
 use Rattle.gm_morris.specs.Points.{variant_of, name_of, last_tier, stuck, lines, joins}
 
@@ -75,17 +75,9 @@ can_move v b m = if pieces b == last_tier v
 unfoldable pub numbers_end : Variant → ℕ → ℕ
 numbers_end v t = if t == last_tier v then 144 else 9
 
--- the moves that can be made, were the game not over by a line
-unfoldable pub steps : Variant → List Cell → List ℕ
-steps v b = filter (can_move v b) (range_with_len 0 (numbers_end v (pieces b)))
-
--- a line of the opponent's loses, which is tested first; then who can't move ends the game
-unfoldable pub ended : Variant → List Cell → Option End
-ended v b = if has_line v is_theirs b then Some Lose else (if length (steps v b) == 0 then Some (stuck v) else None)
-
--- the moves
-unfoldable pub moves : Variant → List Cell → List ℕ
-moves v b = if has_line v is_theirs b then [] else steps v b
+-- a line of the opponent's has lost the game
+unfoldable pub over : Variant → List Cell → Option End
+over v b = if has_line v is_theirs b then Some Lose else None
 
 -- the board when the mover has moved
 unfoldable pub moved : Variant → List Cell → ℕ → List Cell
@@ -107,18 +99,6 @@ taken_back v t d m = if t == last_tier v
     then set (set (map turned d) (to_point m) Empty) (from_point m) Mine
     else set (map turned d) m Empty
 
--- whether the game goes on from a board of tier t, where a move can be made
-unfoldable pub is_open : Variant → ℕ → List Cell → Bool
-is_open v t b = legal v b && (pieces b == t && not (has_line v is_theirs b))
-
--- the board of tier t before d and the move with this number
-unfoldable pub before_at : Variant → ℕ → List Cell → ℕ → Option (List Cell)
-before_at v t d m = if was_moved v t d m && is_open v t (taken_back v t d m) then Some (taken_back v t d m) else None
-
--- the boards of tier t before d
-unfoldable pub befores : Variant → ℕ → List Cell → List (List Cell)
-befores v t d = filter_map (before_at v t d) (range_with_len 0 (numbers_end v t))
-
 -- the index of a board
 unfoldable pub board_index : List Cell → ℕ
 board_index b = arrangement_index (reverse b)
@@ -139,16 +119,19 @@ child_tiers_of v t = if nat_lt t (last_tier v) then (t + 1) ∷ [] else []
 abbrev pub least_index_of : List Cell → ℕ
 least_index_of b = fold min (board_index b) (map board_index (map (λ g. permute Empty g b) (square_symmetries 3)))
 
--- the game: an empty board at the start, and the turns and reflections of the square
-abbrev pub morris : Variant → BoardGame (List Cell) (List ℕ)
+-- the game: an empty board at the start, and the turns and reflections of the square; a line is tested first, and then who can't move ends the game
+abbrev pub morris : Variant → MoveGame (List Cell) (List ℕ)
 morris v = record {
   name = name_of v;
   start = replicate 9 Empty;
   legal = legal v;
-  ended = ended v;
-  moves = moves v;
-  play = play v;
-  befores = befores v;
+  over = over v;
+  stuck = stuck v;
+  numbers_end = numbers_end v;
+  can_move = can_move v;
+  moved = play v;
+  was_moved = was_moved v;
+  taken_back = taken_back v;
   symmetries = square_symmetries 3;
   image = λ g b. permute Empty g b;
   tier = λ b. pieces b;
@@ -161,4 +144,4 @@ morris v = record {
 
 -- the rules of the game with this last tier
 abbrev pub morris_rules : ℕ → Rules
-morris_rules n = rules_of (morris (variant_of n))
+morris_rules n = move_rules (morris (variant_of n))

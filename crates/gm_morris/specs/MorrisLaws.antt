@@ -1,30 +1,27 @@
 -- The games of nine points have the laws of a game.
-use Rattle.std.proofs.Common.{◌≡◌, ℕ, ◌+◌, ◌-◌, ◌/◌, ◌^◌, ◌<◌, ◌≤◌, Bool, true, false, cond, List, [], ◌∷◌, reverse, replicate, length, None, Some, refl, sym, ap, ap₂, ◌∙◌, subst, arith, ltb, ltb-true, leb, leb-true, le-leb, inl, inr}
-use Rattle.std.specs.List.{Contains, range_with_len}
+use Rattle.std.proofs.Common.{◌≡◌, ℕ, ◌+◌, ◌-◌, ◌/◌, ◌^◌, ◌<◌, ◌≤◌, true, false, List, [], ◌∷◌, reverse, replicate, length, refl, sym, ap, ap₂, ◌∙◌, subst, arith, ltb, ltb-true, leb, leb-true, le-leb, inl, inr}
+use Rattle.std.specs.List.{Contains}
 use Rattle.std.proofs.lemmas.Bool.{cases_Bool, cond-true, cond-false, cond_both}
 use Rattle.std.proofs.lemmas.List.{length-reverse, reverse-reverse}
-use Rattle.gm_game.specs.declared.position.End.TheVariants.{Lose}
-use Rattle.gm_game.specs.Laws.{IsGame}
 use Rattle.gm_game.specs.Rules.{IsAscending}
-use Rattle.gm_game.specs.Boards.{rules_of, IsBoardGame, IsNumbered, IsSymmetric}
-use Rattle.gm_game.proofs.BoardParents.{symmetric_is_game}
+use Rattle.gm_game.specs.Boards.{IsNumbered}
 use Rattle.gm_board.specs.declared.cell.Cell.{Cell}
 use Rattle.gm_board.specs.declared.cell.Cell.TheVariants.{Empty}
 use Rattle.gm_board.specs.Lists.{contains_cases}
 use Rattle.gm_board.specs.Arrangements.{mine_bits, their_bits, arrangement, arrangements, arrangement_index, arrangement_is, index_below_at, back_at, arrangements_fit}
 use Rattle.gm_board.specs.Ranks.{members}
-use Rattle.gm_board.specs.Permutations.{permute, permute_identity}
-use Rattle.gm_board.specs.Groups.{group_inverse, image_image}
 use Rattle.gm_board.specs.Squares.{square_symmetries}
+use Rattle.gm_pieces.specs.MoveGames.{board_game, IsMoveGame, IsMoveSymmetric}
+use Rattle.gm_pieces.specs.Images.{permuted_group}
 use Rattle.gm_morris.specs.declared.variant.Variant.{Variant}
 use Rattle.gm_morris.specs.declared.variant.Variant.TheVariants.{TicTacToe, ThreeMens, Achi}
-use Rattle.gm_morris.specs.Points.{variant_of, last_tier, stuck, lines}
-use Rattle.gm_morris.specs.Morris.{mine, theirs, has_line, legal, ended, is_mine, is_theirs, board_index, board_at, size_of, child_tiers_of, morris, morris_rules}
+use Rattle.gm_morris.specs.Points.{last_tier, lines}
+use Rattle.gm_morris.specs.Morris.{mine, theirs, has_line, legal, is_mine, board_index, board_at, size_of, child_tiers_of, morris}
 use Rattle.gm_morris.specs.PointFacts.{name_text}
-use Rattle.gm_morris.specs.BoardFacts.{mine_reverse, theirs_reverse, mine_members, their_members, pieces_few, group, image_mine, image_theirs, image_line, IsLegal, legal_in, legal_from, image_legal}
-use Rattle.gm_morris.specs.MoveFacts.{move_in, moves_left, moves_none, moves_ascending, moves_few, step_below}
-use Rattle.gm_morris.specs.PlayFacts.{play_legal, play_tier, image_move, image_steps}
-use Rattle.gm_morris.specs.BeforeFacts.{befores_in, befores_from, befores_few}
+use Rattle.gm_morris.specs.BoardFacts.{mine_reverse, theirs_reverse, mine_members, their_members, pieces_few, group, image_mine, image_theirs, IsLegal, legal_in, legal_from, image_legal}
+use Rattle.gm_morris.specs.MoveFacts.{end_fits, steps_few}
+use Rattle.gm_morris.specs.PlayFacts.{play_legal, play_tier, image_over, image_move}
+use Rattle.gm_morris.specs.BeforeFacts.{undone, redone, befores_few}
 
 -- ---- the numbering
 pub size_at : (v : Variant) (t : ℕ) → t ≤ last_tier v → size_of v t ≡ arrangements 9 (t / 2) (t - t / 2)
@@ -95,7 +92,7 @@ size_fits v t =
     (λ e. arrangements_fit 9 (t / 2) (t - t / 2) (omega arith)) (λ e. omega arith)
 
 -- the numbering is one to one
-pub numbered : (v : Variant) → IsNumbered (morris v)
+pub numbered : (v : Variant) → IsNumbered (board_game (morris v))
 numbered v = record {
   tier_fits = λ b l. let h = legal_in v b l in let n = pieces_few b in omega (arith, n, h.cells);
   size_fits = λ b l. size_fits v (mine b + theirs b);
@@ -142,53 +139,30 @@ start_legal v =
       no_line = no_lines v;
     })
 
--- what a game on boards shows
-board_game : (v : Variant) → IsBoardGame (morris v)
-board_game v = record {
+-- the laws that are their own
+pub lawful : (v : Variant) → IsMoveGame (morris v)
+lawful v = record {
   name_length = (name_text v).0;
   name_text = (name_text v).1;
-  moves_ascending = λ b l. moves_ascending v b;
-  ended = λ b l h. moves_none v b h;
-  unended = λ b l h. moves_left v b h;
   start_legal = start_legal v;
-  move_fits = λ b m l c. let n = step_below v b m (move_in v b m c).step in omega (arith, n);
-  play_legal = λ b m l c. play_legal v b m l c;
-  play_tier = λ b m l c. play_tier v b m l c;
+  numbers_fit = λ t. end_fits v t;
+  moved_legal = λ b m l h. play_legal v b m l h;
+  moved_tier = λ b m l h. play_tier v b m l h;
   child_rank = λ t u c. let h = child_in v t u c in omega (arith, h.0, h.1);
   child_tiers_ascending = λ t. (child_list v t).0;
-  befores_exact = λ t d b l. (λ c. befores_in v t d b l c, λ h. befores_from v t d b h);
-  moves_few = λ b l. moves_few v b;
+  undone = λ b m l h. undone v b m (legal_in v b l).cells h;
+  redone = λ t d m l w k e h. redone v t d m w e;
+  moves_few = λ b l. steps_few v b;
   befores_few = λ t d l. befores_few v t d;
   child_tiers_few = λ t. (child_list v t).1;
 }
 
--- ---- symmetries
-image_ended : (v : Variant) (g : List ℕ) (b : List Cell) → Contains (square_symmetries 3) g → legal v b ≡ true → ended v (permute Empty g b) ≡ ended v b
-unfolding ended
-image_ended v g b c l =
-    let e = (legal_in v b l).cells in
-    ap₂ (λ (x y : Bool). cond x (Some Lose) (cond y (Some (stuck v)) None)) (image_line v is_theirs g b c e) (image_steps v g b c e)
-
-symmetric : (v : Variant) → IsSymmetric (morris v)
+-- the turns and reflections of the square keep moves and what ends the game
+pub symmetric : (v : Variant) → IsMoveSymmetric (morris v)
 symmetric v = record {
-  identity = (range_with_len 0 9, group.identity, λ b l. permute_identity Empty 9 b (legal_in v b l).cells);
-  closed = λ g h c d. (permute 0 g h, group.closed g h c d, λ b l. image_image Empty 9 (square_symmetries 3) group g h c d b);
-  inverse = λ g c. let h = group_inverse 9 (square_symmetries 3) group g c in (
-    h.0,
-    h.1,
-    λ b l. image_image Empty 9 (square_symmetries 3) group h.0 g h.1 c b
-        ∙ ap (λ (k : List ℕ). permute Empty k b) h.3 ∙ permute_identity Empty 9 b (legal_in v b l).cells,
-  );
+  group = permuted_group Empty 9 (square_symmetries 3) (legal v) group (λ b l. (legal_in v b l).cells);
   keeps_legal = λ g b c l. image_legal v g b c l;
-  keeps_ended = λ g b c l. image_ended v g b c l;
+  keeps_over = λ g b c l. image_over v g b c (legal_in v b l).cells;
   keeps_tier = λ g b c l. let h = legal_in v b l in ap₂ (λ (m t : ℕ). m + t) (image_mine g b c h.cells) (image_theirs g b c h.cells);
-  keeps_moves = λ g b m c l d. image_move v g b m c (legal_in v b l).cells d;
+  keeps_move = λ g b m c l h. image_move v g b m c (legal_in v b l).cells h;
 }
-
--- all laws hold
-pub morris_lawful : (v : Variant) → IsGame (rules_of (morris v))
-morris_lawful v = symmetric_is_game (morris v) (board_game v) (numbered v) (symmetric v)
-
--- whatever the number for which the game is played
-pub rules_lawful : (n : ℕ) → IsGame (morris_rules n)
-rules_lawful n = morris_lawful (variant_of n)

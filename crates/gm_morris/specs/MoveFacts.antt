@@ -1,17 +1,16 @@
 -- Moves of the games of nine points: placements and moves from point to point, and the ends of games.
-use Rattle.std.proofs.Common.{◌≡◌, ◌≢◌, ℕ, ◌+◌, ◌/◌, ◌%◌, ◌<◌, ◌≤◌, Bool, true, false, ◌&&◌, cond, List, [], length, get_or, Option, None, Some, ◌⊎◌, inl, inr, refl, sym, ap, ◌∙◌, subst, arith, eqb, eq-eqb}
-use Rattle.std.specs.List.{Contains, filter, range_with_len}
+use Rattle.std.proofs.Common.{◌≡◌, ◌≢◌, ℕ, ◌+◌, ◌/◌, ◌%◌, ◌^◌, ◌<◌, ◌≤◌, Bool, true, false, ◌&&◌, cond, List, length, get_or, None, Some, ◌⊎◌, inl, inr, refl, sym, ap, ◌∙◌, subst, arith, eqb, eq-eqb}
+use Rattle.std.specs.List.{filter, range_with_len}
 use Rattle.std.proofs.lemmas.Bool.{cases_eq, cases_Bool, cond-true, cond-false, cond_both, ne_eqb}
-use Rattle.gm_game.specs.declared.position.End.{End}
 use Rattle.gm_game.specs.declared.position.End.TheVariants.{Lose}
-use Rattle.gm_game.specs.Rules.{IsAscending}
 use Rattle.gm_board.specs.declared.cell.Cell.{Cell}
 use Rattle.gm_board.specs.declared.cell.Cell.TheVariants.{Empty, Mine, Theirs}
-use Rattle.gm_board.specs.Lists.{and_left, and_right, and_both, contains_range, range_below, filter_from, filter_to}
+use Rattle.gm_board.specs.Lists.{and_left, and_right, and_both}
+use Rattle.gm_steps.specs.Listed.{filter_few}
+use Rattle.gm_pieces.specs.MoveGames.{steps, IsMove}
 use Rattle.gm_morris.specs.declared.variant.Variant.{Variant}
-use Rattle.gm_morris.specs.Points.{last_tier, stuck, joins}
-use Rattle.gm_morris.specs.Morris.{is_mine, is_theirs, is_empty, mine, theirs, has_line, can_move, numbers_end, steps, ended, moves}
-use Rattle.gm_morris.specs.ListFacts.{filter_ascending, filter_few, nil_from}
+use Rattle.gm_morris.specs.Points.{last_tier, joins}
+use Rattle.gm_morris.specs.Morris.{is_mine, is_theirs, is_empty, mine, theirs, has_line, over, can_move, numbers_end, morris}
 use Rattle.gm_morris.specs.PointFacts.{joined_within, joined_few}
 
 -- ---- cells
@@ -68,12 +67,9 @@ slide_or_place v b m e l = elim (cases_eq (mine b + theirs b) (last_tier v)) [
       inr (record { before = q; point = omega (arith, l, n); free = empty_cell _ f }))
 ]
 
--- a number that is listed is one of the two
-pub step_cases : (v : Variant) (b : List Cell) (m : ℕ) → Contains (steps v b) m → IsSlide v b m ⊎ IsPlacement v b m
-unfolding steps
-step_cases v b m c =
-    let h = filter_from (can_move v b) (range_with_len 0 (numbers_end v (mine b + theirs b))) m c in
-    slide_or_place v b m h.1 (range_below (numbers_end v (mine b + theirs b)) m h.0)
+-- a move is one of the two
+pub step_cases : (v : Variant) (b : List Cell) (m : ℕ) → IsMove (morris v) b m → IsSlide v b m ⊎ IsPlacement v b m
+step_cases v b m h = slide_or_place v b m h.can h.below
 
 -- the points of a move
 pub record ArePoints (v : Variant) (m : ℕ) : Type 0 where
@@ -84,93 +80,37 @@ pub slide_points : (v : Variant) (m : ℕ) → joins v (m / 16) (m % 16) ≡ tru
 slide_points v m e = let w = joined_within v (m / 16) (m % 16) e in record { start = w.0; goal = w.1 }
 
 -- and the other way round
-pub slide_step : (v : Variant) (b : List Cell) (m : ℕ) → IsSlide v b m → Contains (steps v b) m
-unfolding steps can_move
-slide_step v b m h =
-    let t : eqb (mine b + theirs b) (last_tier v) ≡ true = eq-eqb _ _ h.last in
-    let w = slide_points v m h.joined in
-    filter_to (can_move v b) (range_with_len 0 (numbers_end v (mine b + theirs b))) m
-    (contains_range (numbers_end v (mine b + theirs b)) m (let n = last_end v (mine b + theirs b) h.last in omega (arith, n, w.start)))
-    (cond-true _ _ _ t ∙ and_both _ _ h.joined (and_both _ _ (ap is_mine h.here) (ap is_empty h.free)))
+pub slide_step : (v : Variant) (b : List Cell) (m : ℕ) → IsSlide v b m → over v b ≡ None → IsMove (morris v) b m
+unfolding can_move
+slide_step v b m h o = record {
+  below = (let n = last_end v (mine b + theirs b) h.last in let w = slide_points v m h.joined in omega (arith, n, w.start));
+  not_over = o;
+  can = cond-true _ _ _ (eq-eqb _ _ h.last) ∙ and_both _ _ h.joined (and_both _ _ (ap is_mine h.here) (ap is_empty h.free));
+}
 
 -- of a placement
-pub placement_step : (v : Variant) (b : List Cell) (m : ℕ) → IsPlacement v b m → Contains (steps v b) m
-unfolding steps can_move
-placement_step v b m h =
-    let t : eqb (mine b + theirs b) (last_tier v) ≡ false = ne_eqb _ _ h.before in
-    filter_to (can_move v b) (range_with_len 0 (numbers_end v (mine b + theirs b))) m
-    (contains_range (numbers_end v (mine b + theirs b)) m (let n = other_end v (mine b + theirs b) h.before in omega (arith, n, h.point)))
-    (cond-false _ _ _ t ∙ ap is_empty h.free)
+pub placement_step : (v : Variant) (b : List Cell) (m : ℕ) → IsPlacement v b m → over v b ≡ None → IsMove (morris v) b m
+unfolding can_move
+placement_step v b m h o = record {
+  below = (let n = other_end v (mine b + theirs b) h.before in omega (arith, n, h.point));
+  not_over = o;
+  can = cond-false _ _ _ (ne_eqb _ _ h.before) ∙ ap is_empty h.free;
+}
 
 -- a move fits its number
-pub step_below : (v : Variant) (b : List Cell) (m : ℕ) → Contains (steps v b) m → m < 144
-step_below v b m c = elim (step_cases v b m c) [
-  | inl h ↦ (let w = slide_points v m h.joined in omega (arith, w.start))
-  | inr h ↦ omega (arith, h.point)
-]
+pub end_fits : (v : Variant) (t : ℕ) → numbers_end v t ≤ 2 ^ 32
+unfolding numbers_end
+end_fits v t = cond_both (eqb t (last_tier v)) 144 9 (λ (n : ℕ). n ≤ 2 ^ 32) (λ e. omega arith) (λ e. omega arith)
 
--- ---- ends
--- the moves of a board without a line of the opponent's
-pub record IsMove (v : Variant) (b : List Cell) (m : ℕ) : Type 0 where
-  pub no_line : has_line v is_theirs b ≡ false
-  pub step : Contains (steps v b) m
-
-pub move_in : (v : Variant) (b : List Cell) (m : ℕ) → Contains (moves v b) m → IsMove v b m
-unfolding moves
-move_in v b m c = elim (cases_Bool (has_line v is_theirs b)) [
-  | inl e ↦ absurd (let d = subst (λ (xs : List ℕ). Contains xs m) (cond-true _ _ _ e) c in omega (arith, d.1))
-  | inr e ↦ record { no_line = e; step = subst (λ (xs : List ℕ). Contains xs m) (cond-false _ _ _ e) c }
-]
-
-pub move_from : (v : Variant) (b : List Cell) (m : ℕ) → IsMove v b m → Contains (moves v b) m
-unfolding moves
-move_from v b m h = subst (λ (xs : List ℕ). Contains xs m) (sym (cond-false _ _ _ h.no_line)) h.step
-
-no_length : (n : ℕ) → n ≢ 0 → (o : Option End) → cond (eqb n 0) o None ≡ None
-no_length n q o = cond-false _ _ _ (ne_eqb n 0 q)
-
--- a board that goes on has no line of the opponent's, and a move
-pub goes_on : (v : Variant) (b : List Cell) (m : ℕ) → IsMove v b m → ended v b ≡ None
-unfolding ended
-goes_on v b m h =
-    cond-false _ _ _ h.no_line ∙ no_length (length (steps v b)) (λ e. let d = h.step in omega (arith, d.1, e)) (Some (stuck v))
-
-pub no_line_left : (v : Variant) (b : List Cell) → ended v b ≡ None → has_line v is_theirs b ≡ false
-unfolding ended
-no_line_left v b e = elim (cases_Bool (has_line v is_theirs b)) [
+-- where the game goes on the opponent has no line
+pub no_line : (v : Variant) (b : List Cell) → over v b ≡ None → has_line v is_theirs b ≡ false
+unfolding over
+no_line v b e = elim (cases_Bool (has_line v is_theirs b)) [
   | inl f ↦ absurd (let g : Some Lose ≡ None = sym (cond-true _ _ _ f) ∙ e in let z : ⊥ = cc in z)
   | inr f ↦ f
 ]
 
--- a board that goes on has a move
-pub moves_left : (v : Variant) (b : List Cell) → ended v b ≡ None → moves v b ≢ []
-unfolding ended moves
-moves_left v b e q =
-    let f = no_line_left v b e in
-    let none : steps v b ≡ [] = sym (cond-false _ _ _ f) ∙ q in
-    let zero_long : length (steps v b) ≡ 0 = ap (λ (xs : List ℕ). length xs) none in
-    let g : Some (stuck v) ≡ None = sym (cond-true _ _ _ (eq-eqb _ _ zero_long)) ∙ sym (cond-false _ _ _ f) ∙ e in
-    let z : ⊥ = cc in z
-
--- an ended one has none
-pub moves_none : (v : Variant) (b : List Cell) → ended v b ≢ None → moves v b ≡ []
-unfolding ended moves
-moves_none v b q = elim (cases_Bool (has_line v is_theirs b)) [
-  | inl f ↦ cond-true _ _ _ f
-  | inr f ↦ elim (cases_eq (length (steps v b)) 0) [
-    | inl n ↦ cond-false _ _ _ f ∙ nil_from (steps v b) n
-    | inr n ↦ absurd (q (cond-false _ _ _ f ∙ no_length (length (steps v b)) n (Some (stuck v))))
-  ]
-]
-
 -- ---- lists of moves
--- the moves ascend
-pub moves_ascending : (v : Variant) (b : List Cell) → IsAscending (moves v b)
-unfolding moves steps
-moves_ascending v b =
-    cond_both (has_line v is_theirs b) [] (filter (can_move v b) (range_with_len 0 (numbers_end v (mine b + theirs b)))) IsAscending
-    (λ e. tt) (λ e. filter_ascending (can_move v b) 0 (numbers_end v (mine b + theirs b)))
-
 -- whether a number is one of a move of tier t
 unfoldable pub is_number : Variant → ℕ → ℕ → Bool
 is_number v t m = cond (eqb t (last_tier v)) (joins v (m / 16) (m % 16)) true
@@ -197,14 +137,9 @@ can_number v b m e = elim (cases_Bool (eqb (mine b + theirs b) (last_tier v))) [
 ]
 
 -- so few can be made
-pub steps_few : (v : Variant) (b : List Cell) → length (steps v b) ≤ 128
+pub steps_few : (v : Variant) (b : List Cell) → length (steps (morris v) b) ≤ 128
 unfolding steps
 steps_few v b =
     let t = mine b + theirs b in
     let few = filter_few (can_move v b) (is_number v t) (can_number v b) (range_with_len 0 (numbers_end v t)) in
     let all = numbers_few v t in omega (arith, few, all)
-
--- so are the moves
-pub moves_few : (v : Variant) (b : List Cell) → length (moves v b) ≤ 128
-unfolding moves
-moves_few v b = cond_both (has_line v is_theirs b) [] (steps v b) (λ (xs : List ℕ). length xs ≤ 128) (λ e. omega arith) (λ e. steps_few v b)

@@ -1,22 +1,23 @@
 -- What a move of the games of nine points leaves, and the moves of images.
-use Rattle.std.proofs.Common.{◌≡◌, ◌≢◌, ℕ, ◌+◌, ◌*◌, ◌/◌, ◌%◌, ◌<◌, ◌≤◌, true, false, List, [], ◌∷◌, map, length, get_or, set, ◌⊎◌, inl, inr, refl, sym, ap, ap₂, ◌∙◌, subst, arith, eqb, eqb-true, eq-eqb, lt-ltb, length-set, get_or-set_other}
+use Rattle.std.proofs.Common.{◌≡◌, ◌≢◌, ℕ, ◌+◌, ◌*◌, ◌/◌, ◌%◌, ◌<◌, ◌≤◌, Bool, true, false, cond, List, [], map, length, get_or, set, None, Some, ◌⊎◌, inl, inr, sym, ap, ap₂, ◌∙◌, subst, arith, eq-eqb, lt-ltb, length-set, get_or-set_other}
 use Rattle.std.specs.List.{Contains}
-use Rattle.std.proofs.lemmas.Bool.{cases_eq, cond-true, cond-false, ne_eqb}
+use Rattle.std.proofs.lemmas.Bool.{cond-true, cond-false, ne_eqb}
 use Rattle.std.proofs.lemmas.List.{length-map}
 use Rattle.gm_board.specs.declared.cell.Cell.{Cell}
 use Rattle.gm_board.specs.declared.cell.Cell.TheVariants.{Empty, Mine}
 use Rattle.gm_board.specs.Lists.{contains_head}
 use Rattle.gm_board.specs.BoardMasks.{turned}
-use Rattle.gm_board.specs.Groups.{group_length, image_length, image_back, image_set, image_slide}
-use Rattle.gm_board.specs.Patterns.{same_tests}
+use Rattle.gm_board.specs.Groups.{group_length, image_set, image_slide}
 use Rattle.gm_board.specs.Permutations.{permute, permute_get}
 use Rattle.gm_board.specs.Squares.{square_symmetries}
+use Rattle.gm_game.specs.declared.position.End.TheVariants.{Lose}
+use Rattle.gm_pieces.specs.MoveGames.{IsMove}
 use Rattle.gm_morris.specs.declared.variant.Variant.{Variant}
 use Rattle.gm_morris.specs.Points.{last_tier, joins}
-use Rattle.gm_morris.specs.Morris.{is_mine, is_theirs, mine, theirs, has_line, legal, steps, moves, moved, play, child_tiers_of}
+use Rattle.gm_morris.specs.Morris.{is_mine, is_theirs, mine, theirs, has_line, legal, over, moved, play, child_tiers_of, morris}
 use Rattle.gm_morris.specs.PointFacts.{last_tier_even, joined_image}
 use Rattle.gm_morris.specs.BoardFacts.{one_if, mine_set, theirs_set, mine_turned, theirs_turned, permute_turned, line_turned, line_set, group, image_mine, image_theirs, image_line, IsLegal, legal_in, legal_from}
-use Rattle.gm_morris.specs.MoveFacts.{IsSlide, IsPlacement, step_cases, slide_points, slide_step, placement_step, move_in, move_from}
+use Rattle.gm_morris.specs.MoveFacts.{IsSlide, IsPlacement, step_cases, slide_points, slide_step, placement_step, no_line}
 
 -- ---- what a move leaves
 pub slide_moved : (v : Variant) (b : List Cell) (m : ℕ) → mine b + theirs b ≡ last_tier v → moved v b m ≡ set (set b (m / 16) Empty) (m % 16) Mine
@@ -98,18 +99,18 @@ odd_half : (x y : ℕ) → x ≡ (x + y) / 2 → y ≡ (x + y + 1) / 2
 odd_half x y h = omega arith
 
 -- a move leads to a legal board
-pub play_legal : (v : Variant) (b : List Cell) (m : ℕ) → legal v b ≡ true → Contains (moves v b) m → legal v (play v b m) ≡ true
+pub play_legal : (v : Variant) (b : List Cell) (m : ℕ) → legal v b ≡ true → IsMove (morris v) b m → legal v (play v b m) ≡ true
 unfolding play
 play_legal v b m l c =
     let h = legal_in v b l in
-    let k = move_in v b m c in
-    elim (step_cases v b m k.step) [
+    let k = no_line v b c.not_over in
+    elim (step_cases v b m c) [
       | inl s ↦ subst (λ (d : List Cell). legal v (map turned d) ≡ true) (sym (slide_moved v b m s.last))
-          (left_legal v b (set (set b (m / 16) Empty) (m % 16) Mine) 0 h k.no_line (slide_left v b m h.cells s)
+          (left_legal v b (set (set b (m / 16) Empty) (m % 16) Mine) 0 h k (slide_left v b m h.cells s)
           (even_half (mine b) (theirs b) (last_tier v) s.last (last_tier_even v _ _ s.joined) h.half)
           (omega (arith, h.few)))
       | inr s ↦ subst (λ (d : List Cell). legal v (map turned d) ≡ true) (sym (placement_moved v b m s.before))
-          (left_legal v b (set b m Mine) 1 h k.no_line (placement_left v b m h.cells s)
+          (left_legal v b (set b m Mine) 1 h k (placement_left v b m h.cells s)
           (odd_half (mine b) (theirs b) h.half)
           (let n = s.before in omega (arith, h.few, n)))
     ]
@@ -122,13 +123,12 @@ unfolding child_tiers_of
 next_tier v t l = subst (λ (xs : List ℕ). Contains xs (t + 1)) (sym (cond-true _ _ _ (lt-ltb _ _ l))) (contains_head (t + 1) [])
 
 -- it stays in its tier or goes to the next
-pub play_tier : (v : Variant) (b : List Cell) (m : ℕ) → legal v b ≡ true → Contains (moves v b) m
+pub play_tier : (v : Variant) (b : List Cell) (m : ℕ) → legal v b ≡ true → IsMove (morris v) b m
     → (mine (play v b m) + theirs (play v b m) ≡ mine b + theirs b) ⊎ Contains (child_tiers_of v (mine b + theirs b)) (mine (play v b m) + theirs (play v b m))
 unfolding play
 play_tier v b m l c =
     let h = legal_in v b l in
-    let k = move_in v b m c in
-    elim (step_cases v b m k.step) [
+    elim (step_cases v b m c) [
       | inl s ↦ inl (
           ap (λ (d : List Cell). mine (map turned d) + theirs (map turned d)) (slide_moved v b m s.last)
           ∙ left_pieces v b (set (set b (m / 16) Empty) (m % 16) Mine) 0 (slide_left v b m h.cells s)
@@ -191,38 +191,17 @@ placement_image v g b m c e h =
           ∙ sym (permute_turned g (moved v b m)),
     )
 
-image_step : (v : Variant) (g : List ℕ) (b : List Cell) (m : ℕ) → Contains (square_symmetries 3) g → length b ≡ 9 → Contains (steps v b) m
-    → (n : ℕ) × Contains (steps v (permute Empty g b)) n × (play v (permute Empty g b) n ≡ permute Empty g (play v b m))
-image_step v g b m c e d = elim (step_cases v b m d) [
-  | inl h ↦ (let x = slide_image v g b m c e h in (x.0, slide_step v (permute Empty g b) x.0 x.1, x.2))
-  | inr h ↦ (let x = placement_image v g b m c e h in (x.0, placement_step v (permute Empty g b) x.0 x.1, x.2))
-]
+-- an image has ended where the board has
+pub image_over : (v : Variant) (g : List ℕ) (b : List Cell) → Contains (square_symmetries 3) g → length b ≡ 9 → over v (permute Empty g b) ≡ over v b
+unfolding over
+image_over v g b c e = ap (λ (x : Bool). cond x (Some Lose) None) (image_line v is_theirs g b c e)
 
 -- a move of a board is one of its image
-pub image_move : (v : Variant) (g : List ℕ) (b : List Cell) (m : ℕ) → Contains (square_symmetries 3) g → length b ≡ 9 → Contains (moves v b) m
-    → (n : ℕ) × Contains (moves v (permute Empty g b)) n × (play v (permute Empty g b) n ≡ permute Empty g (play v b m))
+pub image_move : (v : Variant) (g : List ℕ) (b : List Cell) (m : ℕ) → Contains (square_symmetries 3) g → length b ≡ 9 → IsMove (morris v) b m
+    → (n : ℕ) × IsMove (morris v) (permute Empty g b) n × (play v (permute Empty g b) n ≡ permute Empty g (play v b m))
 image_move v g b m c e d =
-    let h = move_in v b m d in
-    let x = image_step v g b m c e h.step in
-    (x.0, move_from v (permute Empty g b) x.0 (record { no_line = image_line v is_theirs g b c e ∙ h.no_line; step = x.1 }), x.2)
-
-some_in : (xs : List ℕ) → length xs ≢ 0 → (x : ℕ) × Contains xs x
-some_in [] q = absurd (q refl)
-some_in (x ∷ xs) q = (x, contains_head x xs)
-
-steps_carry : (v : Variant) (g : List ℕ) (b : List Cell) → Contains (square_symmetries 3) g → length b ≡ 9 → length (steps v (permute Empty g b)) ≡ 0 → length (steps v b) ≡ 0
-steps_carry v g b c e n = elim (cases_eq (length (steps v b)) 0) [
-  | inl q ↦ q
-  | inr q ↦ absurd (
-      let m = some_in (steps v b) q in
-      let x = image_step v g b m.0 c e m.1 in
-      let d = x.1 in omega (arith, d.1, n))
-]
-
--- an image has a move where the board has one
-pub image_steps : (v : Variant) (g : List ℕ) (b : List Cell) → Contains (square_symmetries 3) g → length b ≡ 9 → eqb (length (steps v (permute Empty g b))) 0 ≡ eqb (length (steps v b)) 0
-image_steps v g b c e =
-    let h = image_back Empty 9 (square_symmetries 3) group g c b e in
-    same_tests _ _
-    (λ t. eq-eqb _ _ (steps_carry v g b c e (eqb-true _ _ t)))
-    (λ t. eq-eqb _ _ (steps_carry v h.0 (permute Empty g b) h.1 (image_length Empty 9 (square_symmetries 3) group g c b) (ap (λ (x : List Cell). length (steps v x)) h.2 ∙ eqb-true _ _ t)))
+    let o = image_over v g b c e ∙ d.not_over in
+    elim (step_cases v b m d) [
+      | inl h ↦ (let x = slide_image v g b m c e h in (x.0, slide_step v (permute Empty g b) x.0 x.1 o, x.2))
+      | inr h ↦ (let x = placement_image v g b m c e h in (x.0, placement_step v (permute Empty g b) x.0 x.1 o, x.2))
+    ]

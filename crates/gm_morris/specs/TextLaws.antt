@@ -1,16 +1,16 @@
 -- The texts of the games of nine points fit a line, and tell positions and moves apart.
-use Rattle.std.proofs.Common.{◌≡◌, ℕ, ◌+◌, ◌/◌, ◌%◌, ◌≤◌, eqb, List, [], ◌∷◌, ◌++◌, map, length, refl, sym, ap, ap₂, ◌∙◌, arith, inl, inr}
+use Rattle.std.proofs.Common.{◌≡◌, ℕ, ◌+◌, ◌/◌, ◌%◌, ◌≤◌, eqb, List, [], ◌∷◌, ◌++◌, map, length, refl, sym, ap₂, ◌∙◌, arith, inl, inr}
 use Rattle.std.proofs.lemmas.Bool.{cases_Bool, cond_both, cond-true, cond-false}
 use Rattle.std.proofs.lemmas.List.{length-map}
-use Rattle.gm_game.specs.Boards.{position_of, board_of}
 use Rattle.gm_game.specs.Shown.{IsShown}
-use Rattle.gm_game.proofs.BoardLaws.{position_back, legal_board}
 use Rattle.gm_board.specs.declared.cell.Cell.{Cell}
 use Rattle.gm_board.specs.declared.cell.Cell.TheVariants.{Empty, Mine, Theirs}
 use Rattle.gm_board.specs.Squares.{cell_text}
+use Rattle.gm_pieces.specs.MoveTexts.{AreTexts}
+use Rattle.gm_pieces.specs.TextFacts.{texts_are_shown}
 use Rattle.gm_morris.specs.declared.variant.Variant.{Variant}
 use Rattle.gm_morris.specs.Points.{variant_of, last_tier}
-use Rattle.gm_morris.specs.Morris.{board_at, morris, morris_rules}
+use Rattle.gm_morris.specs.Morris.{mine, theirs, morris, morris_rules}
 use Rattle.gm_morris.specs.BoardFacts.{legal_in}
 use Rattle.gm_morris.specs.MorrisLaws.{numbered}
 use Rattle.gm_morris.specs.Texts.{cell_char, board_text, step_text, position_text, move_text}
@@ -77,14 +77,14 @@ step_short v t m =
     cond_both (eqb t (last_tier v)) (cell_text 3 (m / 16) ++ 45 ∷ cell_text 3 (m % 16)) (cell_text 3 m) (λ (t : List ℕ). length t ≤ 5) (λ e. omega arith) (λ e. omega arith)
 
 -- ---- the laws of texts
+pub readable : (v : Variant) → AreTexts (morris v) board_text (step_text v)
+readable v = record {
+  text_fits = λ b l. let a = text_length b in let e = (legal_in v b l).cells in omega (arith, a, e);
+  text_once = λ a b l k e. text_once a b e;
+  step_fits = λ b m l h. let short = step_short v (mine b + theirs b) m in omega (arith, short);
+  step_once = λ b m n l h k e. step_once v (mine b + theirs b) m n e;
+}
+
+-- the same of positions, in the game with this last tier
 pub texts_readable : (n : ℕ) → IsShown (morris_rules n) position_text (move_text n)
-texts_readable n =
-    let v = variant_of n in
-    record {
-      shown_fits = λ p l. let a = text_length (board_at p.tier p.index) in let b = (legal_in v (board_at p.tier p.index) (legal_board (morris v) p l)).cells in omega (arith, a, b);
-      shown_once = λ p q l k e.
-          let r = morris v in
-          sym (position_back r (numbered v) p l) ∙ ap (position_of r) (text_once (board_of r p) (board_of r q) e) ∙ position_back r (numbered v) q k;
-      move_shown_fits = λ p m l c. let short = step_short v p.tier m in omega (arith, short);
-      move_shown_once = λ p m k l c d e. step_once v p.tier m k e;
-    }
+texts_readable n = let v = variant_of n in texts_are_shown (morris v) board_text (step_text v) (numbered v) (readable v)

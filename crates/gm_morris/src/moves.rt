@@ -1,14 +1,11 @@
 //! Moves: a piece is placed, and in the last tier moved from point to point.
-ghost use Rattle.std.specs.Prelude.{◌≡◌, ◌<◌, ◌==◌, true, length};
-ghost use Rattle.std.specs.List.{Contains};
+ghost use Rattle.std.specs.Prelude.{◌≡◌, ◌<◌};
 ghost use Rattle.gm_board.specs.Images.{board_of};
-ghost use Rattle.gm_morris.specs.Morris.{pieces, has_line as has_line_of, is_mine, is_theirs as is_theirs_cell, legal, numbers_end as numbers_end_of, can_move as can_move_of, steps, ended, moves as moves_of, moved as moved_of, play as play_of};
+ghost use Rattle.gm_pieces.specs.MoveGames.{IsMove};
+ghost use Rattle.gm_morris.specs.Morris.{pieces, has_line as has_line_of, is_mine, is_theirs as is_theirs_cell, legal, numbers_end as numbers_end_of, over as over_of, can_move as can_move_of, moved as moved_of, play as play_of, morris};
 
 use crate::board::Board;
-use crate::tiers::numbers_end;
 use crate::variant::Variant;
-use arrayvec::ArrayVec;
-use gm_game::limits::MOVES;
 use gm_game::position::End;
 
 /// Whether the mover has a line.
@@ -54,52 +51,22 @@ pub fn can_move(variant: Variant, board: Board, number: u32) -> bool
     board.has_mine(from) && board.is_free(to)
 }
 
-/// Whether no move can be made.
-pub fn is_stuck(variant: Variant, board: Board) -> bool
-    ensures { result ≡ (length (steps variant (board_of 9 board.mine board.theirs)) == 0) }
-{
-    for number in 0..numbers_end(variant, board.pieces()) {
-        if can_move(variant, board, number) {
-            return false;
-        }
-    }
-    true
-}
-
-/// The end for the player to move: a line of the opponent's loses, which is tested first; then who can't move ends the game.
-#[tactic(auto, unfolding(crate::specs::Morris::ended))]
-pub fn end(variant: Variant, board: Board) -> Option<End>
-    ensures { result ≡ ended variant (board_of 9 board.mine board.theirs) }
+/// The end that the last move has made: a line of the opponent's loses.
+#[tactic(auto, unfolding(crate::specs::Morris::over))]
+pub fn over(variant: Variant, board: Board) -> Option<End>
+    ensures { result ≡ over_of variant (board_of 9 board.mine board.theirs) }
 {
     if has_their_line(variant, board) {
         Some(End::Lose)
-    } else if is_stuck(variant, board) {
-        Some(variant.stuck())
     } else {
         None
     }
 }
 
-/// The numbers of the moves, ascending.
-pub fn moves(variant: Variant, board: Board) -> ArrayVec<u32, MOVES>
-    ensures { result.items ≡ moves_of variant (board_of 9 board.mine board.theirs) }
-{
-    let mut list = ArrayVec::new();
-    if has_their_line(variant, board) {
-        return list;
-    }
-    for number in 0..numbers_end(variant, board.pieces()) {
-        if can_move(variant, board, number) {
-            list.push(number);
-        }
-    }
-    list
-}
-
 // The board when the mover has moved.
 #[tactic(auto, unfolding(crate::specs::Morris::moved))]
 fn moved(variant: Variant, board: Board, number: u32) -> Board
-    requires { Contains (moves_of variant (board_of 9 board.mine board.theirs)) number }
+    requires { IsMove (morris variant) (board_of 9 board.mine board.theirs) number }
     ensures { board_of 9 result.mine result.theirs ≡ moved_of variant (board_of 9 board.mine board.theirs) number }
 {
     if board.pieces() == variant.last_tier() {
@@ -112,7 +79,7 @@ fn moved(variant: Variant, board: Board, number: u32) -> Board
 /// The board after a move, as the other side sees it.
 #[tactic(auto, unfolding(crate::specs::Morris::play))]
 pub fn play(variant: Variant, board: Board, number: u32) -> Board
-    requires { Contains (moves_of variant (board_of 9 board.mine board.theirs)) number }
+    requires { IsMove (morris variant) (board_of 9 board.mine board.theirs) number }
     ensures { board_of 9 result.mine result.theirs ≡ play_of variant (board_of 9 board.mine board.theirs) number }
 {
     moved(variant, board, number).turned()

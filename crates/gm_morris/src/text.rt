@@ -1,14 +1,13 @@
 //! Texts of boards and of moves.
-ghost use Rattle.std.specs.Prelude.{◌≡◌, ◌↔◌, ℕ, ◌<◌, ◌^◌, ◌&&◌, ◌==◌, nat_lt, true, Some, List, length, slice_index, MatchOption, IsTrue};
-ghost use Rattle.std.specs.List.{Contains};
+ghost use Rattle.std.specs.Prelude.{◌≡◌, ℕ, ◌<◌, ◌^◌, ◌&&◌, ◌==◌, nat_lt, List, length, slice_index};
 ghost use Rattle.gm_board.specs.Images.{board_of};
 ghost use Rattle.gm_board.specs.Masks.{has_cell};
 ghost use Rattle.gm_board.specs.declared.cell.Cell.{Cell as BoardCell};
-ghost use Rattle.gm_morris.specs.Morris.{pieces, moves as moves_of};
+ghost use Rattle.gm_pieces.specs.MoveGames.{IsMove};
+ghost use Rattle.gm_morris.specs.Morris.{pieces, morris};
 ghost use Rattle.gm_morris.specs.Texts.{cell_char, board_text as board_text_of, step_text};
 
 use crate::board::Board;
-use crate::moves::moves;
 use crate::variant::Variant;
 use arrayvec::ArrayVec;
 use gm_board::cell::Cell;
@@ -73,33 +72,19 @@ fn marks(text: &[u8], byte: u8) -> u32
     marks
 }
 
-// Whether this is the text of a board.
-fn has_board_text(board: Board, text: &[u8]) -> bool
-    ensures { IsTrue result ↔ (board_text_of (board_of 9 board.mine board.theirs) ≡ text.now) }
+/// The board that has this text, where there is one. Any bytes may be given.
+pub fn board_in(text: &[u8]) -> Board
+    ensures { (b : List BoardCell) → length b ≡ 9 → board_text_of b ≡ text.now → b ≡ board_of 9 result.mine result.theirs }
 {
-    board_text(board).as_slice() == text
-}
-
-/// The board with this text, if there is one. Any bytes may be given.
-pub fn read_board(text: &[u8]) -> Option<Board>
-    ensures { MatchOption result
-        ((b : List BoardCell) → length b ≡ 9 → board_text_of b ≡ text.now → ⊥)
-        (λ board. board_text_of (board_of 9 board.mine board.theirs) ≡ text.now) }
-{
-    let board = Board {
+    Board {
         mine: marks(text, MINE),
         theirs: marks(text, THEIRS),
-    };
-    if has_board_text(board, text) {
-        Some(board)
-    } else {
-        None
     }
 }
 
 /// The text of a move: the point on which a piece is placed, and in the last tier the one that it leaves, `-` and the one to which it goes (docs/GAMES.md, Common forms).
 pub fn move_text(variant: Variant, board: Board, number: u32) -> Line
-    requires { Contains (moves_of variant (board_of 9 board.mine board.theirs)) number }
+    requires { IsMove (morris variant) (board_of 9 board.mine board.theirs) number }
     ensures { result.items ≡ step_text variant (pieces (board_of 9 board.mine board.theirs)) number }
 {
     let mut line = ArrayVec::new();
@@ -111,25 +96,4 @@ pub fn move_text(variant: Variant, board: Board, number: u32) -> Line
         push_text(&mut line, &square_cell_text(3, number));
     }
     line
-}
-
-// Whether this is the text of a move.
-fn has_move_text(variant: Variant, board: Board, number: u32, text: &[u8]) -> bool
-    requires { Contains (moves_of variant (board_of 9 board.mine board.theirs)) number }
-    ensures { IsTrue result ↔ (step_text variant (pieces (board_of 9 board.mine board.theirs)) number ≡ text.now) }
-{
-    move_text(variant, board, number).as_slice() == text
-}
-
-/// The move with this text, if there is one. Any bytes may be given.
-pub fn read_move(variant: Variant, board: Board, text: &[u8]) -> Option<u32>
-    ensures { (m : ℕ) → (result ≡ Some m) ↔ (Contains (moves_of variant (board_of 9 board.mine board.theirs)) m × (step_text variant (pieces (board_of 9 board.mine board.theirs)) m ≡ text.now)) }
-{
-    let moves = moves(variant, board);
-    for number in moves.as_slice() {
-        if has_move_text(variant, board, *number, text) {
-            return Some(*number);
-        }
-    }
-    None
 }

@@ -3,5 +3,4 @@ pub mod MaskSteps
 pub mod MaskMoves
 pub mod StartPosition
 pub mod TextSteps
-pub mod ReadSteps
 pub mod MaskTable

@@ -1,18 +1,19 @@
 -- Steps on the texts of boards.
-use Rattle.std.proofs.Common.{◌≡◌, ◌≢◌, ℕ, zero, suc, ◌+◌, ◌*◌, ◌%◌, ◌^◌, ◌<◌, ◌≤◌, Bool, true, false, ◌&&◌, ◌||◌, eqb, ltb, lt-ltb, List, [], ◌∷◌, ◌++◌, map, length, get_or, refl, sym, ap, ap₂, ◌∙◌, subst, arith, inl, inr, zero-add}
+use Rattle.std.proofs.Common.{◌≡◌, ◌≢◌, ℕ, ◌+◌, ◌*◌, ◌%◌, ◌^◌, ◌<◌, ◌≤◌, Bool, true, false, ◌&&◌, ◌||◌, eqb, ltb, lt-ltb, List, [], ◌∷◌, ◌++◌, map, length, get_or, refl, sym, ap, ap₂, ◌∙◌, subst, arith, inl, inr, zero-add}
 use Rattle.std.specs.Prelude.{bit_or}
 use Rattle.std.specs.Int.{bit_at}
 use Rattle.std.specs.List.{range_with_len}
 use Rattle.std.proofs.Math.Nat.{mod-eq_of_lt}
 use Rattle.std.proofs.Math.Pow.{pow-lt}
-use Rattle.std.proofs.lemmas.Bool.{cases_order, le-ltb, true≢false}
+use Rattle.std.proofs.lemmas.Bool.{cases_order, le-ltb}
 use Rattle.std.proofs.lemmas.Nat.{or_lt}
-use Rattle.std.proofs.lemmas.Nat.Bits.{bit_at-lt, bit_at-pow_same, bit_at-pow_other, same_from_bits_below}
+use Rattle.std.proofs.lemmas.Nat.Bits.{bit_at-pow_same, bit_at-pow_other}
 use Rattle.std.proofs.lemmas.List.{get_or-map, map_push}
 use Rattle.std.proofs.lemmas.List.FromFn.{map-range_with_len_more}
 use Rattle.gm_board.specs.Masks.{has_cell}
 use Rattle.gm_tactix.specs.Texts.{counter_text, board_text}
 use Rattle.gm_tactix.specs.TextLaws.{text_length}
+use Rattle.gm_tactix.specs.CounterFacts.{same_board}
 use Rattle.gm_tactix.specs.CounterMasks.{counters_of, counters_length, counter_at, has_or}
 
 -- the text of one more cell
@@ -83,29 +84,19 @@ read_fits cells n marks l few h =
     let bit : 1 * 2 ^ n % 4294967296 ≡ 2 ^ n = ap (λ (v : ℕ). v % 4294967296) one ∙ mod-eq_of_lt small in
     or_lt cells marks (1 * 2 ^ n % 4294967296) h (subst (λ (v : ℕ). v < 2 ^ cells) (sym bit) (pow-lt l))
 
-same_bit : (x y : ℕ) → x < 2 → y < 2 → eqb x 1 ≡ eqb y 1 → x ≡ y
-same_bit zero zero l m e = refl
-same_bit zero (suc zero) l m e = absurd (true≢false (sym e))
-same_bit zero (suc (suc y)) l m e = absurd (omega arith)
-same_bit (suc zero) zero l m e = absurd (true≢false e)
-same_bit (suc zero) (suc zero) l m e = refl
-same_bit (suc zero) (suc (suc y)) l m e = absurd (omega arith)
-same_bit (suc (suc x)) y l m e = absurd (omega arith)
-
 mark_back : (b : Bool) → eqb (counter_text b) 120 ≡ b
 mark_back true = refl
 mark_back false = refl
 
 -- the marks of a board's text are the board's counters
-pub read_all : (n marks counters : ℕ) (text : List ℕ) → IsRead text n marks → marks < 2 ^ n → counters < 2 ^ n → board_text (counters_of n counters) ≡ text → counters ≡ marks
+pub read_all : (n marks : ℕ) (b : List Bool) (text : List ℕ) → IsRead text n marks → length b ≡ n → board_text b ≡ text → b ≡ counters_of n marks
 unfolding board_text
-read_all n marks counters text h l m e =
-    same_from_bits_below n counters marks m l
-    (λ i k.
-    let long : i < length (counters_of n counters) = omega (arith, k, counters_length n counters) in
-    let byte : get_or text i 0 ≡ counter_text (has_cell counters i) =
-    ap (λ (t : List ℕ). get_or t i 0) (sym e) ∙ get_or-map counter_text (counters_of n counters) i false 0 long ∙ ap counter_text (counter_at n counters i k) in
-    let mark : has_cell marks i ≡ has_cell counters i =
-    h i
-    ∙ ap₂ (λ (x y : Bool). x && y) (lt-ltb i n k) (ap (λ (v : ℕ). eqb v 120) byte ∙ mark_back (has_cell counters i)) in
-    same_bit (bit_at counters i) (bit_at marks i) (bit_at-lt counters i) (bit_at-lt marks i) (sym mark))
+read_all n marks b text h long e =
+    same_board b (counters_of n marks) (long ∙ sym (counters_length n marks))
+    (λ i l.
+    let k : i < n = omega (arith, l, long) in
+    let byte : get_or text i 0 ≡ counter_text (get_or b i false) = ap (λ (t : List ℕ). get_or t i 0) (sym e) ∙ get_or-map counter_text b i false 0 l in
+    sym (
+    counter_at n marks i k
+    ∙ h i
+    ∙ ap₂ (λ (x y : Bool). x && y) (lt-ltb i n k) (ap (λ (v : ℕ). eqb v 120) byte ∙ mark_back (get_or b i false))))

@@ -1,14 +1,14 @@
 -- The rules of Tac Tix, said of boards: a board is a list of tests, one a cell and the lowest cell first, whether there is a counter.
 use Rattle.std.specs.Prelude.{ℕ, ◌+◌, ◌-◌, ◌*◌, Bool, true, false, not, ◌&&◌, ◌||◌, ◌==◌, nat_le, List, [], ◌∷◌, ◌++◌, map, reverse, replicate, length, slice_index_or, codes, if◌then◌else◌, Option, None, Some}
-use Rattle.std.specs.List.{filter, filter_map, list_all, list_any, range_with_len}
+use Rattle.std.specs.List.{list_all, list_any, range_with_len}
 use Rattle.gm_game.specs.declared.position.End.{End}
 use Rattle.gm_game.specs.declared.position.End.TheVariants.{Lose, Win}
 use Rattle.gm_game.specs.Rules.{Rules}
-use Rattle.gm_game.specs.Boards.{BoardGame, rules_of}
 use Rattle.gm_board.specs.Binomials.{binomial}
 use Rattle.gm_board.specs.Ranks.{members, rank, unrank}
 use Rattle.gm_board.specs.Permutations.{permute}
 use Rattle.gm_board.specs.Squares.{square_symmetries}
+use Rattle.gm_pieces.specs.MoveGames.{MoveGame, move_rules}
 use Rattle.gm_tactix.specs.Segments.{is_segment, segment_cells, segment_length, numbers_end}
 
 -- the side that a game is played with: N of 1 to 5, and any other plays as 1
@@ -40,16 +40,12 @@ unfoldable pub with_counters : List Bool → List ℕ → List Bool
 with_counters b cells = map (λ k. has_counter b k || is_among k cells) (range_with_len 0 (length b))
 
 -- who has taken the last counter has won, or in misère lost: the end as the player to move sees it
-abbrev pub ended : Bool → List Bool → Option End
-ended misere b = if members b == 0 then Some (if misere then Win else Lose) else None
+abbrev pub over : Bool → List Bool → Option End
+over misere b = if members b == 0 then Some (if misere then Win else Lose) else None
 
 -- whether the counters of a segment can be taken
 unfoldable pub can_take : ℕ → List Bool → ℕ → Bool
 can_take s b m = is_segment s m && is_full b (segment_cells s m)
-
--- the moves: the segments whose cells all have counters
-unfoldable pub moves : ℕ → List Bool → List ℕ
-moves s b = filter (can_take s b) (range_with_len 0 (numbers_end s))
 
 -- a move takes the counters of its segment
 unfoldable pub play : ℕ → List Bool → ℕ → List Bool
@@ -58,14 +54,6 @@ play s b m = without b (segment_cells s m)
 -- whether a move could have taken the counters of a segment, leaving d, from t of them
 unfoldable pub was_taken : ℕ → ℕ → List Bool → ℕ → Bool
 was_taken s t d m = is_segment s m && (is_free d (segment_cells s m) && (members d + segment_length m == t))
-
--- the board before that move
-unfoldable pub before_at : ℕ → ℕ → List Bool → ℕ → Option (List Bool)
-before_at s t d m = if was_taken s t d m then Some (with_counters d (segment_cells s m)) else None
-
--- the boards of t counters before d
-unfoldable pub befores : ℕ → ℕ → List Bool → List (List Bool)
-befores s t d = filter_map (before_at s t d) (range_with_len 0 (numbers_end s))
 
 -- the name: `tactix-N` or `tactix-N-misere`, padded with zeros
 unfoldable pub tactix_name : ℕ → Bool → List ℕ
@@ -83,16 +71,19 @@ counters_at s t i = reverse (unrank (s * s) t i)
 abbrev pub counters_image : List ℕ → List Bool → List Bool
 counters_image g b = permute false g b
 
--- Tac Tix on a square of side s: all cells have counters at the start, and the tier is how many are left
-abbrev pub tactix : ℕ → Bool → BoardGame (List Bool) (List ℕ)
+-- Tac Tix on a square of side s: all cells have counters at the start, and the tier is how many are left. While there are counters one of them can be taken, so no one is stuck
+abbrev pub tactix : ℕ → Bool → MoveGame (List Bool) (List ℕ)
 tactix s misere = record {
   name = tactix_name s misere;
   start = replicate (s * s) true;
   legal = λ b. length b == s * s;
-  ended = ended misere;
-  moves = moves s;
-  play = play s;
-  befores = befores s;
+  over = over misere;
+  stuck = Lose;
+  numbers_end = λ t. numbers_end s;
+  can_move = can_take s;
+  moved = play s;
+  was_moved = was_taken s;
+  taken_back = λ t d m. with_counters d (segment_cells s m);
   symmetries = square_symmetries s;
   image = counters_image;
   tier = members;
@@ -105,4 +96,4 @@ tactix s misere = record {
 
 -- the rules of the game for N, normal or misère
 abbrev pub tactix_rules : ℕ → Bool → Rules
-tactix_rules n misere = rules_of (tactix (side_of n) misere)
+tactix_rules n misere = move_rules (tactix (side_of n) misere)

@@ -3,16 +3,16 @@ use Rattle.std.proofs.Common.{◌≡◌, ℕ, ◌+◌, ◌-◌, ◌*◌, ◌≤�
 use Rattle.std.specs.List.{list_all}
 use Rattle.std.proofs.lemmas.Bool.{cond_both}
 use Rattle.std.proofs.lemmas.List.{length-map}
-use Rattle.gm_game.specs.Boards.{position_of, board_of}
 use Rattle.gm_game.specs.Shown.{IsShown}
-use Rattle.gm_game.proofs.BoardLaws.{position_back}
 use Rattle.gm_board.specs.Permutations.{all_at}
 use Rattle.gm_board.specs.Squares.{cell_text}
+use Rattle.gm_pieces.specs.MoveTexts.{AreTexts}
+use Rattle.gm_pieces.specs.TextFacts.{texts_are_shown}
 use Rattle.gm_tactix.specs.Segments.{first_cell, segment_length, is_segment, segments}
-use Rattle.gm_tactix.specs.Board.{side_of, counters_at, tactix, tactix_rules}
+use Rattle.gm_tactix.specs.Board.{side_of, tactix, tactix_rules}
 use Rattle.gm_tactix.specs.SegmentFacts.{for_sides, square_small, in_segments}
 use Rattle.gm_tactix.specs.MoveFacts.{move_in}
-use Rattle.gm_tactix.specs.TactixLaws.{board_length, numbered, side_low, side_high}
+use Rattle.gm_tactix.specs.TactixLaws.{numbered, side_low, side_high}
 use Rattle.gm_tactix.specs.Texts.{counter_text, board_text, last_cell, segment_text, position_text, move_text}
 
 -- ---- boards
@@ -85,17 +85,18 @@ segment_short s m =
     cond_both (eqb (segment_length m) 1) (cell_text s (first_cell m)) (cell_text s (first_cell m) ++ 45 ∷ cell_text s (last_cell s m)) (λ (t : List ℕ). length t ≤ 5) (λ e. omega arith) (λ e. omega arith)
 
 -- ---- the laws of texts
+pub readable : (s : ℕ) (misere : Bool) → 1 ≤ s → s ≤ 5 → AreTexts (tactix s misere) board_text (λ t m. segment_text s m)
+readable s misere low high = record {
+  text_fits = λ b l. let a = text_length b in let e = eqb-true _ _ l in let few = square_small s low high in omega (arith, a, e, few);
+  text_once = λ a b l k e. text_once a b e;
+  step_fits = λ b m l h. let short = segment_short s m in omega (arith, short);
+  step_once = λ b m n l h k e. segment_once s m n low high (move_in s b m h.can).0 (move_in s b n k.can).0 e;
+}
+
+-- the same of positions, for any N
 pub texts_readable : (n : ℕ) (misere : Bool) → IsShown (tactix_rules n misere) (position_text n) (move_text n)
 texts_readable n misere =
     let s = side_of n in
     let low = side_low n in
     let high = side_high n in
-    record {
-      shown_fits = λ p l. let a = text_length (counters_at s p.tier p.index) in let b = board_length s low high p.tier p.index in let few = square_small s low high in omega (arith, a, b, few);
-      shown_once = λ p q l k e.
-          let r = tactix s misere in
-          let one = numbered s low high misere in
-          sym (position_back r one p l) ∙ ap (position_of r) (text_once (board_of r p) (board_of r q) e) ∙ position_back r one q k;
-      move_shown_fits = λ p m l c. let short = segment_short s m in omega (arith, short);
-      move_shown_once = λ p m k l c d e. segment_once s m k low high (move_in s _ m c).0 (move_in s _ k d).0 e;
-    }
+    texts_are_shown (tactix s misere) board_text (λ t m. segment_text s m) (numbered s low high misere) (readable s misere low high)

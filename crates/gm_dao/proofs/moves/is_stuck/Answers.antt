@@ -1,7 +1,8 @@
 use Rattle.std.proofs.Common.{◌≡◌, ℕ, List, [], length, sym, ap, arith, eq-eqb}
 use Rattle.gm_board.specs.Images.{board_of}
 use Rattle.gm_board.specs.NextCells.{next_cell, cell_below}
-use Rattle.gm_dao.specs.DaoRules.{steps}
+use Rattle.gm_pieces.specs.MoveGames.{steps}
+use Rattle.gm_dao.specs.DaoRules.{dao}
 use Rattle.gm_dao.proofs.LoopSteps.{goals_are, moves_skip, moves_end, goal_found, goals_none}
 use Rattle.gm_dao.proofs.moves.is_stuck.Goals as goal
 
@@ -34,6 +35,6 @@ loop-rest-preserved c =
 pub returns : goal.returns
 returns c =
     let i = c.loop-rest.invariant in
-    let none : [] ≡ steps (board_of 16 c.args.board.mine c.args.board.theirs) =
+    let none : [] ≡ steps dao (board_of 16 c.args.board.mine c.args.board.theirs) =
     moves_end c.args.board.mine c.args.board.theirs c.loop-rest.next c.loop-rest.rest [] c.args.board.mine_within i.within i.is_rest c.loop-rest-test.false i.below in
     sym (eq-eqb _ _ (ap (λ (xs : List ℕ). length xs) (sym none)))

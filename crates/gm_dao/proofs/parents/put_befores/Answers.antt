@@ -2,13 +2,14 @@ use Rattle.std.proofs.Common.{arith}
 use Rattle.gm_board.specs.Images.{board_of}
 use Rattle.gm_board.specs.NextCells.{next_cell, cell_below}
 use Rattle.gm_steps.specs.Listed.{put_room}
-use Rattle.gm_dao.specs.DaoRules.{numbers_end, before_at, befores, least_index_of}
+use Rattle.gm_pieces.specs.MoveGames.{before_at, befores}
+use Rattle.gm_dao.specs.DaoRules.{numbers_end, least_index_of, dao}
 use Rattle.gm_dao.proofs.LoopSteps.{befores_skip, befores_end, before_less, before_more}
 use Rattle.gm_dao.proofs.parents.put_befores.Goals as goal
 use Rattle.gm_dao.proofs.parents.put_befores.Goals.{in-Some, in-None}
 
-pub before-requires : goal.before-requires
-before-requires c =
+pub before-requires-clause-below : goal.before-requires-clause-below
+before-requires-clause-below c =
     let b = c.args.board.theirs in
     let z = next_cell b c.loop-rest.next c.loop-rest.rest c.loop-rest.invariant.is_rest (omega arith) (omega arith) in
     let l = cell_below b 16 _ c.args.board.theirs_within z.has in
@@ -22,8 +23,8 @@ put-requires c =
     let z = next_cell b c.loop-rest.next c.loop-rest.rest i.is_rest (omega arith) (omega arith) in
     let l = cell_below b 16 _ c.args.board.theirs_within z.has in
     let e = c.in-Some.earlier in
-    put_room (before_at c.args.tier (board_of 16 c.args.board.mine b)) least_index_of numbers_end _ (board_of 16 e.mine e.theirs) c.loop-rest.list.items
-    c.requires.few (omega (arith, l, c.requires.cell)) c.in-Some.ensures
+    put_room (before_at dao c.args.tier (board_of 16 c.args.board.mine b)) least_index_of numbers_end _ (board_of 16 e.mine e.theirs) c.loop-rest.list.items
+    c.requires.few (omega (arith, l, c.requires.cell)) c.in-Some.ensures.0
     (befores_skip c.args.tier c.args.board.mine b c.args.from c.loop-rest.next _ c.loop-rest.list.items c.args.board.theirs_within c.args.board.apart (omega (arith, l)) z.none i.below)
 
 pub loop-rest-preserved : goal.loop-rest-preserved
@@ -40,7 +41,7 @@ loop-rest-preserved c =
       is_rest = z.is_rest;
       below = elim c.match-before.branch [
         | in-Some w ↦ before_more t (board_of 16 a b) (board_of 16 w.in-Some.earlier.mine w.in-Some.earlier.theirs) c.args.from _ w.least_index.result c.loop-rest.list.items c.match-before.list.items
-            w.in-Some.ensures w.least_index.ensures (rw w.list-is w.put.ensures) skipped
+            w.in-Some.ensures.0 w.least_index.ensures (rw w.list-is w.put.ensures) skipped
         | in-None w ↦ rw w.list-is (before_less t (board_of 16 a b) c.args.from _ c.loop-rest.list.items w.in-None.ensures skipped)
       ];
     }

@@ -1,11 +1,6 @@
 use Rattle.std.proofs.Common.{sym, ◌∙◌}
-use Rattle.gm_hare.proofs.GoSteps.{none_after, none_across, some_going}
+use Rattle.gm_hare.proofs.GoSteps.{none_across, some_going}
 use Rattle.gm_hare.proofs.moves.can_move.Goals as goal
-
-pub returns-then-has_escaped : goal.returns-then-has_escaped
-returns-then-has_escaped c =
-    none_after c.args.board.now c.args.number c.numbered-step.result.from c.numbered-step.result.to c.numbered-step.ensures.from c.numbered-step.ensures.to
-    (sym c.has_escaped.ensures ∙ c.if-has_escaped.true)
 
 pub returns-then-not-are_joined : goal.returns-then-not-are_joined
 returns-then-not-are_joined c =
@@ -16,4 +11,3 @@ pub returns : goal.returns
 returns c =
     c.can_go.ensures
     ∙ some_going c.args.board.now c.args.number c.numbered-step.result.from c.numbered-step.result.to c.numbered-step.ensures.from c.numbered-step.ensures.to
-    (sym c.has_escaped.ensures ∙ c.if-has_escaped.false)

@@ -14,4 +14,4 @@ returns-in-Some-clause-board c =
 
 pub returns-in-None-clause-board : goal.returns-in-None-clause-board
 returns-in-None-clause-board c =
-    absurd (move_segment c.args.side (counters_of (c.args.side * c.args.side) c.args.counters) c.args.number c.requires.listed c.in-None.ensures)
+    absurd (move_segment c.args.side (counters_of (c.args.side * c.args.side) c.args.counters) c.args.number c.requires.segment c.in-None.ensures)

@@ -23,7 +23,7 @@ loop-cell-preserved c =
     ]
 
 pub returns-clause-value : goal.returns-clause-value
-returns-clause-value c counters l e =
+returns-clause-value c b l e =
     let n = c.args.side * c.args.side in
     let end : c.loop-cell.cell ≡ n = omega arith in
-    read_all n c.loop-cell.marks counters c.args.text.now (subst (λ (k : ℕ). IsRead c.args.text.now k c.loop-cell.marks) end c.loop-cell.invariant.read) c.loop-cell.invariant.within l e
+    read_all n c.loop-cell.marks b c.args.text.now (subst (λ (k : ℕ). IsRead c.args.text.now k c.loop-cell.marks) end c.loop-cell.invariant.read) l e

@@ -1,0 +1,101 @@
+//! What follows from the rules of a game: its lists of moves, children and parents.
+ghost use Rattle.std.specs.Prelude.{◌≡◌, ◌==◌, true, [], map, length};
+ghost use Rattle.gm_game.specs.Ascending.{put_all};
+ghost use Rattle.gm_game.specs.Boards.{least_index as least_index_of, next_images};
+ghost use Rattle.gm_game.specs.Children.{IsSetOf};
+ghost use Rattle.gm_game.specs.Rules.{IsKind};
+ghost use Rattle.gm_pieces.specs.MoveGames.{board_game, move_rules, steps, befores};
+
+use crate::boards::least_position;
+use crate::moves::{has_no_move, list_moves, plays_on, put_befores};
+use crate::rules::MoveRules;
+use arrayvec::ArrayVec;
+use gm_game::children::insert_position;
+use gm_game::limits::{MOVES, PARENTS};
+use gm_game::position::{End, Kind, Position};
+
+/// The lists of a game on boards. Each has a body, and a game may write a faster one.
+pub trait MoveLists: MoveRules {
+    /// Whether no move can be made, were the game not over.
+    fn is_stuck(board: Self::Board) -> bool
+        requires { Self.game.legal (Self.cells board) ≡ true }
+        ensures { result ≡ (length (steps Self.game (Self.cells board)) == 0) }
+    {
+        has_no_move::<Self>(board)
+    }
+
+    /// The end: that which the last move has made, or else that of who can't move.
+    fn end(board: Self::Board) -> Option<End>
+        requires { Self.game.legal (Self.cells board) ≡ true }
+        ensures { result ≡ (board_game Self.game).ended (Self.cells board) }
+    {
+        match Self::over(board) {
+            Some(end) => Some(end),
+            None => {
+                if Self::is_stuck(board) {
+                    Some(Self::stuck())
+                } else {
+                    None
+                }
+            }
+        }
+    }
+
+    /// The numbers of the moves, were the game not over, ascending.
+    fn open_moves(board: Self::Board) -> ArrayVec<u32, MOVES>
+        requires { Self.game.legal (Self.cells board) ≡ true }
+        ensures { result.items ≡ steps Self.game (Self.cells board) }
+    {
+        list_moves::<Self>(board)
+    }
+
+    /// The numbers of the moves, ascending.
+    fn moves(board: Self::Board) -> ArrayVec<u32, MOVES>
+        requires { Self.game.legal (Self.cells board) ≡ true }
+        ensures { result.items ≡ (board_game Self.game).moves (Self.cells board) }
+    {
+        if plays_on::<Self>(board) {
+            Self::open_moves(board)
+        } else {
+            ArrayVec::new()
+        }
+    }
+
+    /// The positions of the least images of the boards that follow, ascending and once each.
+    fn children(board: Self::Board) -> ArrayVec<Position, MOVES>
+        requires { Self.game.legal (Self.cells board) ≡ true }
+        ensures { IsSetOf (next_images (board_game Self.game) (Self.cells board)) result.items }
+    {
+        let moves = Self::moves(board);
+        let mut set = ArrayVec::new();
+        for m in moves.as_slice() {
+            insert_position(&mut set, least_position::<Self>(Self::moved(board, *m)));
+        }
+        set
+    }
+
+    /// What p is to a solver.
+    fn kind(p: Position) -> Kind
+        ensures { IsKind (move_rules Self.game) p result }
+    {
+        if p.index >= Self::tier_size(p.tier) {
+            return Kind::Hole;
+        }
+        let board = Self::board(p.tier, p.index);
+        if !Self::is_canonical(p, board) {
+            return Kind::Hole;
+        }
+        match Self::end(board) {
+            Some(end) => Kind::Ended(end),
+            None => Kind::Inner,
+        }
+    }
+
+    /// The least indexes of the boards of the tier from which a move leads to this one, ascending and once each.
+    fn parents(tier: u64, board: Self::Board) -> ArrayVec<u64, PARENTS>
+        requires { Self.game.legal (Self.cells board) ≡ true }
+        ensures { result.items ≡ put_all [] (map (least_index_of (board_game Self.game)) (befores Self.game tier (Self.cells board))) }
+    {
+        put_befores::<Self>(tier, board)
+    }
+}

@@ -1,0 +1,79 @@
+//! The loops over the numbers of moves.
+ghost use Rattle.std.specs.Prelude.{◌≡◌, ◌<◌, ◌&&◌, true, map, [], length, ◌==◌, MatchOption, None, Some};
+ghost use Rattle.gm_game.specs.Ascending.{put_all};
+ghost use Rattle.gm_game.specs.Boards.{least_index as least_index_of};
+ghost use Rattle.gm_pieces.specs.MoveGames.{board_game, plays_on as plays_on_of, steps, goes_on as goes_on_of, before_at, befores};
+
+use crate::rules::MoveRules;
+use arrayvec::ArrayVec;
+use gm_game::limits::{MOVES, PARENTS};
+use gm_steps::ascending::put;
+
+/// Whether the last move has not ended the game.
+pub fn plays_on<T: MoveRules>(board: T::Board) -> bool
+    requires { T.game.legal (T.cells board) ≡ true }
+    ensures { result ≡ plays_on_of (T.game.over (T.cells board)) }
+{
+    T::over(board).is_none()
+}
+
+/// The numbers of the moves, were the game not over, ascending.
+pub fn list_moves<T: MoveRules>(board: T::Board) -> ArrayVec<u32, MOVES>
+    requires { T.game.legal (T.cells board) ≡ true }
+    ensures { result.items ≡ steps T.game (T.cells board) }
+{
+    let mut list = ArrayVec::new();
+    for number in 0..T::numbers_end(T::tier(board)) {
+        if T::can_move(board, number) {
+            list.push(number);
+        }
+    }
+    list
+}
+
+/// Whether no move can be made, were the game not over.
+pub fn has_no_move<T: MoveRules>(board: T::Board) -> bool
+    requires { T.game.legal (T.cells board) ≡ true }
+    ensures { result ≡ (length (steps T.game (T.cells board)) == 0) }
+{
+    for number in 0..T::numbers_end(T::tier(board)) {
+        if T::can_move(board, number) {
+            return false;
+        }
+    }
+    true
+}
+
+/// The board of the tier before a move with this number that led to this one, if there is one.
+pub fn before<T: MoveRules>(tier: u64, board: T::Board, number: u32) -> Option<T::Board>
+    requires legal { T.game.legal (T.cells board) ≡ true }
+    requires below { number < T.game.numbers_end tier }
+    ensures { MatchOption result
+        (before_at T.game tier (T.cells board) number ≡ None)
+        (λ b. (before_at T.game tier (T.cells board) number ≡ Some (T.cells b)) × (T.game.legal (T.cells b) ≡ true)) }
+{
+    if !T::was_moved(tier, board, number) {
+        return None;
+    }
+    let earlier = T::taken_back(tier, board, number);
+    if T::goes_on(tier, earlier, number) {
+        Some(earlier)
+    } else {
+        None
+    }
+}
+
+/// The least indexes of the boards of the tier from which a move leads to this one, ascending and once each.
+pub fn put_befores<T: MoveRules>(tier: u64, board: T::Board) -> ArrayVec<u64, PARENTS>
+    requires { T.game.legal (T.cells board) ≡ true }
+    ensures { result.items ≡ put_all [] (map (least_index_of (board_game T.game)) (befores T.game tier (T.cells board))) }
+{
+    let mut list = ArrayVec::new();
+    for number in 0..T::numbers_end(tier) {
+        match before::<T>(tier, board, number) {
+            Some(earlier) => put(&mut list, T::least_index(earlier)),
+            None => {}
+        }
+    }
+    list
+}

@@ -1,0 +1,75 @@
+//! The calls of a game that is said by the numbers of its moves.
+ghost use Rattle.gm_pieces.specs.MoveGames.{move_rules};
+ghost use Rattle.gm_pieces.specs.MoveLaws.{moves_are_game};
+
+use crate::boards::{board, least_position, position};
+use crate::lists::MoveLists;
+use arrayvec::ArrayVec;
+use gm_game::game::Game;
+use gm_game::limits::{CHILD_TIERS, MOVES, NAME, PARENTS};
+use gm_game::position::{End, Kind, Position};
+use std::marker::PhantomData;
+
+/// The game with the rules T.
+#[derive(Drop)]
+pub struct OnBoards<T: MoveLists> {
+    rules: PhantomData<T>,
+}
+
+impl<T: MoveLists> Game for OnBoards<T> {
+    ghost rules = { move_rules T.game };
+
+    ghost lawful = { moves_are_game T.game T.lawful T.numbered T.symmetric };
+
+    fn name() -> [u8; NAME] {
+        T::name()
+    }
+
+    fn initial() -> Position {
+        T::initial()
+    }
+
+    fn tier_size(tier: u64) -> u64 {
+        T::tier_size(tier)
+    }
+
+    fn is_legal(p: Position) -> bool {
+        T::is_legal(p)
+    }
+
+    fn primitive(p: Position) -> Option<End> {
+        T::end(board::<T>(p))
+    }
+
+    fn moves(p: Position) -> ArrayVec<u32, MOVES> {
+        T::moves(board::<T>(p))
+    }
+
+    fn play(p: Position, m: u32) -> Position {
+        position::<T>(T::moved(board::<T>(p), m))
+    }
+
+    fn canonical(p: Position) -> Position {
+        least_position::<T>(board::<T>(p))
+    }
+
+    fn canonical_children(p: Position) -> ArrayVec<Position, MOVES> {
+        T::children(board::<T>(p))
+    }
+
+    fn kind(p: Position) -> Kind {
+        T::kind(p)
+    }
+
+    fn parents(c: Position, tier: u64) -> ArrayVec<u64, PARENTS> {
+        T::parents(tier, board::<T>(c))
+    }
+
+    fn child_tiers(tier: u64) -> ArrayVec<u64, CHILD_TIERS> {
+        T::child_tiers(tier)
+    }
+
+    fn tier_rank(tier: u64) -> u64 {
+        T::tier_rank(tier)
+    }
+}

@@ -1,0 +1,177 @@
+//! What a game gives that is said by the numbers of its moves.
+ghost use Rattle.std.specs.Prelude.{◌≡◌, ◌<◌, ◌↔◌, ℕ, true, IsTrue, List};
+ghost use Rattle.gm_game.specs.Boards.{board_of, position_of, least_index as least_index_of, IsNumbered};
+ghost use Rattle.gm_game.specs.Rules.{IsCanonical};
+ghost use Rattle.gm_pieces.specs.MoveGames.{MoveGame, board_game, move_rules, plays_on, goes_on as goes_on_of, IsMove, IsMoveGame, IsMoveSymmetric};
+ghost use Rattle.gm_pieces.specs.MoveTexts.{AreTexts};
+
+use arrayvec::ArrayVec;
+use gm_game::limits::{CHILD_TIERS, NAME};
+use gm_game::position::{End, Position};
+use gm_game::shown::Line;
+
+/// A game on boards: its tests of one board and one move, and their texts. The rest follows.
+pub trait MoveRules: Drop {
+    /// A board, as the rules see it.
+    ghost Cells: { Type 0 };
+
+    /// A symmetry.
+    ghost Symmetry: { Type 0 };
+
+    /// The rules.
+    ghost game: { MoveGame Cells Symmetry };
+
+    /// A board.
+    type Board: Copy;
+
+    /// What the rules see of a board.
+    ghost cells: { Self.Board → Cells };
+
+    /// The text of a board.
+    ghost text: { Cells → List ℕ };
+
+    /// The text of a move, by its tier and number.
+    ghost step_text: { ℕ → ℕ → List ℕ };
+
+    /// The game's name in ASCII, padded with zeros.
+    fn name() -> [u8; NAME]
+        ensures { result ≡ game.name };
+
+    /// The position that the game starts from.
+    fn initial() -> Position
+        ensures { result ≡ position_of (board_game game) game.start };
+
+    /// How many indexes the tier has: 0 where it is no tier of the game.
+    fn tier_size(tier: u64) -> u64
+        ensures { result ≡ game.size tier };
+
+    /// The other tiers, ascending, that a move from this tier can lead to.
+    fn child_tiers(tier: u64) -> ArrayVec<u64, CHILD_TIERS>
+        ensures { result.items ≡ game.child_tiers tier };
+
+    /// A number that is smaller for each child tier.
+    fn tier_rank(tier: u64) -> u64
+        ensures { result ≡ game.tier_rank tier };
+
+    /// The numbers of moves from a tier are below this one.
+    fn numbers_end(tier: u64) -> u32
+        ensures { result ≡ game.numbers_end tier };
+
+    /// The board with this index.
+    fn board(tier: u64, index: u64) -> Self::Board
+        requires { index < game.size tier }
+        ensures { cells result ≡ game.board tier index };
+
+    /// Whether a board is one of the game.
+    fn is_legal_board(board: Self::Board) -> bool
+        ensures { result ≡ game.legal (cells board) };
+
+    /// The tier of a board.
+    fn tier(board: Self::Board) -> u64
+        requires { game.legal (cells board) ≡ true }
+        ensures { result ≡ game.tier (cells board) };
+
+    /// The index of a board.
+    fn index(board: Self::Board) -> u64
+        requires { game.legal (cells board) ≡ true }
+        ensures { result ≡ game.index (cells board) };
+
+    /// The least index among those of the images of a board.
+    fn least_index(board: Self::Board) -> u64
+        requires { game.legal (cells board) ≡ true }
+        ensures { result ≡ least_index_of (board_game game) (cells board) };
+
+    /// Whether p is legal and the representative of its symmetric positions, where this is the board with its index. A game may make the tests in another order.
+    fn is_canonical(p: Position, board: Self::Board) -> bool
+        requires below { p.index < game.size p.tier }
+        requires own { cells board ≡ board_of (board_game game) p }
+        ensures { IsTrue result ↔ IsCanonical (move_rules game) p }
+    {
+        Self::is_legal_board(board)
+            && Self::tier(board) == p.tier
+            && Self::least_index(board) == p.index
+    }
+
+    /// Whether p is a position of the game. A game may have a test that needs no board.
+    fn is_legal(p: Position) -> bool
+        ensures { result ≡ (move_rules game).is_legal p }
+    {
+        if p.index >= Self::tier_size(p.tier) {
+            return false;
+        }
+        let board = Self::board(p.tier, p.index);
+        Self::is_legal_board(board) && Self::tier(board) == p.tier
+    }
+
+    /// The end that the last move has made, if it has made one.
+    fn over(board: Self::Board) -> Option<End>
+        requires { game.legal (cells board) ≡ true }
+        ensures { result ≡ game.over (cells board) };
+
+    /// The end for who can't move.
+    fn stuck() -> End
+        ensures { result ≡ game.stuck };
+
+    /// Whether the move with this number can be made, were the game not over.
+    fn can_move(board: Self::Board, number: u32) -> bool
+        requires legal { game.legal (cells board) ≡ true }
+        requires below { number < game.numbers_end (game.tier (cells board)) }
+        ensures { result ≡ game.can_move (cells board) number };
+
+    /// The board after a move, as the other player sees it.
+    fn moved(board: Self::Board, number: u32) -> Self::Board
+        requires legal { game.legal (cells board) ≡ true }
+        requires step { IsMove game (cells board) number }
+        ensures { cells result ≡ game.moved (cells board) number };
+
+    /// Whether the move with this number can have led to the board from one of the tier.
+    fn was_moved(tier: u64, board: Self::Board, number: u32) -> bool
+        requires legal { game.legal (cells board) ≡ true }
+        requires below { number < game.numbers_end tier }
+        ensures { result ≡ game.was_moved tier (cells board) number };
+
+    /// The board before that move, as the player who made it saw it.
+    fn taken_back(tier: u64, board: Self::Board, number: u32) -> Self::Board
+        requires legal { game.legal (cells board) ≡ true }
+        requires below { number < game.numbers_end tier }
+        requires was { game.was_moved tier (cells board) number ≡ true }
+        ensures { cells result ≡ game.taken_back tier (cells board) number };
+
+    /// Whether the game goes on from a board of the tier by this move. A game may make the tests in another order.
+    fn goes_on(tier: u64, board: Self::Board, number: u32) -> bool
+        requires { number < game.numbers_end tier }
+        ensures { result ≡ goes_on_of game tier (cells board) number }
+    {
+        Self::is_legal_board(board)
+            && Self::tier(board) == tier
+            && Self::over(board).is_none()
+            && Self::can_move(board, number)
+    }
+
+    /// The text of a board.
+    fn board_text(board: Self::Board) -> Line
+        requires { game.legal (cells board) ≡ true }
+        ensures { result.items ≡ text (cells board) };
+
+    /// The board that has this text, where there is one. Any bytes may be given.
+    fn board_in(bytes: &[u8]) -> Self::Board
+        ensures { (b : Cells) → game.legal b ≡ true → text b ≡ bytes.now → b ≡ cells result };
+
+    /// The text of a move.
+    fn move_text(board: Self::Board, number: u32) -> Line
+        requires legal { game.legal (cells board) ≡ true }
+        requires step { IsMove game (cells board) number }
+        ensures { result.items ≡ step_text (game.tier (cells board)) number };
+
+    /// A move and its taking back undo one another, and the rest that is the game's own.
+    ghost lawful: { IsMoveGame game };
+
+    /// The numbering is one to one.
+    ghost numbered: { IsNumbered (board_game game) };
+
+    /// The symmetries keep the rules.
+    ghost symmetric: { IsMoveSymmetric game };
+
+    /// Texts fit a line, and tell boards and moves apart.
+    ghost readable: { AreTexts game text step_text };
+}
