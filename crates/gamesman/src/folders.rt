@@ -13,6 +13,7 @@ use std::fs::{self, Files};
 use std::sync::Wait;
 use std::test::Fail;
 use std::thread::Threads;
+use std::time::Clock;
 
 // The file of version 1 of a table, where it has one.
 fn old_file<G: Game>(alloc: Global, table: &Table<G>) -> Result<Option<Vec<u8>>, AllocError> {
@@ -24,7 +25,7 @@ fn old_file<G: Game>(alloc: Global, table: &Table<G>) -> Result<Option<Vec<u8>>,
 }
 
 // Writes the files of version 1 of a game into a folder, by those that another one has: how many.
-fn write_old<G: Game + Send + Sync, R: Threads + Wait + Files + Sync + AllocGlobal>(
+fn write_old<G: Game + Send + Sync, R: Threads + Wait + Clock + Files + Sync + AllocGlobal>(
     rt: &R,
     new: &str,
     old: &str,
@@ -42,7 +43,7 @@ fn write_old<G: Game + Send + Sync, R: Threads + Wait + Files + Sync + AllocGlob
 }
 
 // Solves a game into a folder, and migrates its old files in another one: whether both then have the same files, and the program tells how many were migrated.
-fn migrates<G: Game + Send + Sync, R: Threads + Wait + Files + Sync + AllocGlobal>(
+fn migrates<G: Game + Send + Sync, R: Threads + Wait + Clock + Files + Sync + AllocGlobal>(
     rt: &R,
     game: &str,
     new: &str,

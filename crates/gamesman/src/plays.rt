@@ -6,6 +6,7 @@ use std::io::{self, ErrorKind, Read, Write};
 use std::sync::Wait;
 use std::test::Fail;
 use std::thread::Threads;
+use std::time::Clock;
 
 const INPUT: &[u8] = b"3\nquit\n";
 
@@ -60,7 +61,7 @@ impl Write for SlowWriter {
 }
 
 // The session with a reader and a writer that fail at these bytes: whether it ends so, with the beginning of its text written.
-fn ends<R: Threads + Wait + Files + Sync + AllocGlobal>(
+fn ends<R: Threads + Wait + Clock + Files + Sync + AllocGlobal>(
     rt: &R,
     read: usize,
     written: usize,

@@ -19,6 +19,7 @@ use std::fs::Files;
 use std::io::{Read, Write};
 use std::sync::Wait;
 use std::thread::Threads;
+use std::time::Clock;
 
 /// What was asked was done.
 pub const DONE: u8 = 0;
@@ -42,15 +43,15 @@ fn place(kept: Kept<'_>) -> Place<'_> {
     Place { kept, plan }
 }
 
-fn answer<R: Threads + Wait + Files + Sync + AllocGlobal, I: Read, O: Write>(
-    rt: &R,
-    asked: Asked<'_>,
-    input: &mut I,
-    output: &mut O,
-) -> Result<u8, Fault> {
+fn answer<
+    R: Threads + Wait + Clock + Files + Sync + AllocGlobal,
+    I: Read,
+    O: Write,
+    E: Write + Send,
+>(rt: &R, asked: Asked<'_>, input: &mut I, output: &mut O, errors: &mut E) -> Result<u8, Fault> {
     match asked {
         Asked::List => list(output),
-        Asked::Solve { game, folder, plan } => solve(rt, game, folder, plan, output),
+        Asked::Solve(asked) => solve(rt, asked, output, errors),
         Asked::Query {
             game,
             position,
@@ -93,15 +94,14 @@ pub fn explain<E: Write>(alloc: Global, words: &[&str], errors: &mut E) {
 }
 
 /// Runs a line of words, of which the first is the program's name, and answers the status to end with.
-pub fn run_words<R: Threads + Wait + Files + Sync + AllocGlobal, I: Read, O: Write, E: Write>(
-    rt: &R,
-    words: &[&str],
-    input: &mut I,
-    output: &mut O,
-    errors: &mut E,
-) -> u8 {
+pub fn run_words<
+    R: Threads + Wait + Clock + Files + Sync + AllocGlobal,
+    I: Read,
+    O: Write,
+    E: Write + Send,
+>(rt: &R, words: &[&str], input: &mut I, output: &mut O, errors: &mut E) -> u8 {
     match read_words(rt.alloc(), words) {
-        Ok(asked) => match answer(rt, asked, input, output) {
+        Ok(asked) => match answer(rt, asked, input, output, errors) {
             Ok(status) => status,
             Err(fault) => refused(&fault, errors),
         },

@@ -4,13 +4,14 @@ use std::alloc::AllocError;
 use std::fs::Files;
 use std::sync::Wait;
 use std::thread::Threads;
+use std::time::Clock;
 
 /// The status of a line, and what it writes to standard output and to standard error.
 #[derive(Clone, Copy)]
 pub(crate) struct Said<'a>(pub(crate) u8, pub(crate) &'a [u8], pub(crate) &'a [u8]);
 
 /// Runs a line, without the program's name, over this input: whether it says exactly that.
-pub(crate) fn says<R: Threads + Wait + Files + Sync + AllocGlobal>(
+pub(crate) fn says<R: Threads + Wait + Clock + Files + Sync + AllocGlobal>(
     rt: &R,
     words: &[&str],
     mut input: &[u8],
