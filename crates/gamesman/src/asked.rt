@@ -2,11 +2,11 @@
 
 use crate::commands::gamesman;
 use crate::explore::PositionAsked;
-use crate::explorer::explore_of;
+use crate::explore_commands::explore_of;
 use crate::pages::{Page, page_of};
 use crate::play::PlayAsked;
-use crate::seek::Search;
-use crate::seeker::search_of;
+use crate::search::Search;
+use crate::search_commands::search_of;
 use crate::solve::SolveAsked;
 use crate::tables::Kept;
 use clap::error::ErrorKind;

@@ -1,8 +1,8 @@
 //! The commands of the program, by clap, with what `--help` says of them.
 
-use crate::explorer::{line, moves, show};
+use crate::explore_commands::{line, moves, show};
 use crate::pages::{completions, man};
-use crate::seeker::{ask, counts, find};
+use crate::search_commands::{ask, counts, find};
 use clap::{Arg, ArgAction, Command, value_parser};
 use std::alloc::{AllocError, Global};
 

@@ -8,7 +8,7 @@ mod asked;
 mod check;
 mod commands;
 mod explore;
-mod explorer;
+mod explore_commands;
 #[cfg(test)]
 mod explores;
 mod fault;
@@ -21,6 +21,8 @@ mod guarded;
 mod jsons;
 #[cfg(test)]
 mod lines;
+#[cfg(test)]
+mod outcome;
 mod pages;
 mod play;
 #[cfg(test)]
@@ -30,12 +32,10 @@ mod progress;
 mod progresses;
 mod query;
 mod run;
+mod search;
+mod search_commands;
 #[cfg(test)]
-mod said;
-mod seek;
-mod seeker;
-#[cfg(test)]
-mod seeks;
+mod searches;
 #[cfg(test)]
 mod shows;
 mod solve;

@@ -1,7 +1,7 @@
 //! Progress on standard error: docs/PROGRAM.md.
+use crate::outcome::{Outcome, has_outcome};
 use crate::progress::Progress;
 use crate::run::{DONE, REFUSED, run_words};
-use crate::said::{Said, says};
 use gm_build::watch::Watch;
 use gm_game::position::{Phase, Place};
 use gm_solver::gate::Gate;
@@ -207,9 +207,9 @@ fn progress_that_nobody_reads(rt: HostRuntime) -> Result<(), Fail> {
 
 #[test]
 fn a_refusal_follows_progress(rt: HostRuntime) -> Result<(), Fail> {
-    let failed = Said(REFUSED, b"", b"gamesman: store failed at tier 0\n");
-    assert!(rt; says(&rt, &["solve", "countdown", "", "--progress"], b"", failed)?);
-    let no_game = Said(REFUSED, b"", b"gamesman: no such game\n");
-    assert!(rt; says(&rt, &["solve", "chess", "", "--progress"], b"", no_game)?);
+    let failed = Outcome(REFUSED, b"", b"gamesman: store failed at tier 0\n");
+    assert!(rt; has_outcome(&rt, &["solve", "countdown", "", "--progress"], b"", failed)?);
+    let no_game = Outcome(REFUSED, b"", b"gamesman: no such game\n");
+    assert!(rt; has_outcome(&rt, &["solve", "chess", "", "--progress"], b"", no_game)?);
     Ok(())
 }

@@ -9,10 +9,10 @@ use crate::games::NAMES;
 use crate::pages::write_page;
 use crate::play::play;
 use crate::query::query;
-use crate::seek::search_tables;
+use crate::search::search_tables;
 use crate::solve::solve;
 use crate::tables::{Kept, Place};
-use crate::whole_line::{Told, write_line};
+use crate::whole_line::{FaultLine, write_line};
 use gm_solver::plan::Plan;
 use std::alloc::{AllocError, Global};
 use std::fs::Files;
@@ -75,7 +75,7 @@ fn answer<
 /// Says on standard error why a line was refused. This is the last that can be said: where it fails, the status still tells.
 pub fn refused<E: Write>(fault: &Fault, errors: &mut E) -> u8 {
     if !matches!(fault, Fault::OutputClosed) {
-        let _ = write_line(errors, &Told { fault });
+        let _ = write_line(errors, &FaultLine { fault });
     }
     REFUSED
 }

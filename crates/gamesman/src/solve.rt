@@ -50,7 +50,7 @@ fn solve_game<
     let (deliveries, by_hand) = (built.deliveries, built.by_hand);
     write_line(
         output,
-        &Took {
+        &BuildReport {
             solved,
             reused,
             migrated,
@@ -63,7 +63,7 @@ fn solve_game<
 
 // What a build took.
 #[derive(Drop)]
-struct Took {
+struct BuildReport {
     solved: usize,
     reused: usize,
     migrated: usize,
@@ -71,9 +71,9 @@ struct Took {
     by_hand: u64,
 }
 
-impl fmt::Display for Took {
+impl fmt::Display for BuildReport {
     fn fmt<W: fmt::Write>(&self, f: &mut fmt::Formatter<W>) -> fmt::Result {
-        let Took {
+        let BuildReport {
             solved,
             reused,
             migrated,
