@@ -207,7 +207,8 @@ fn progress_that_nobody_reads(rt: HostRuntime) -> Result<(), Fail> {
 
 #[test]
 fn a_refusal_follows_progress(rt: HostRuntime) -> Result<(), Fail> {
-    let failed = Outcome(REFUSED, b"", b"gamesman: store failed at tier 0\n");
+    let told = b"tier 0 (1 of 1): check, 0 delivered\ngamesman: store failed at tier 0\n";
+    let failed = Outcome(REFUSED, b"", told);
     assert!(rt; has_outcome(&rt, &["solve", "countdown", "", "--progress"], b"", failed)?);
     let no_game = Outcome(REFUSED, b"", b"gamesman: no such game\n");
     assert!(rt; has_outcome(&rt, &["solve", "chess", "", "--progress"], b"", no_game)?);
