@@ -5,12 +5,13 @@ use std::str::from_utf8;
 use std::sync::Wait;
 use std::test::Fail;
 use std::thread::Threads;
+use std::time::Clock;
 
 // The most columns that a drawing takes.
 const COLUMNS: usize = 50;
 
 // What a line of words writes.
-fn told<R: Threads + Wait + Files + Sync + AllocGlobal>(
+fn told<R: Threads + Wait + Clock + Files + Sync + AllocGlobal>(
     rt: &R,
     words: &[&str],
 ) -> Result<Vec<u8>, Fail> {
@@ -50,7 +51,7 @@ fn begins(moves: &str, line: &str) -> bool {
 }
 
 // Whether what the lines of a game say of its start agrees.
-fn agrees<R: Threads + Wait + Files + Sync + AllocGlobal>(
+fn agrees<R: Threads + Wait + Clock + Files + Sync + AllocGlobal>(
     rt: &R,
     game: &str,
 ) -> Result<bool, Fail> {
@@ -63,7 +64,7 @@ fn agrees<R: Threads + Wait + Files + Sync + AllocGlobal>(
 }
 
 // Whether the drawing of a game's start is narrow enough.
-fn is_narrow<R: Threads + Wait + Files + Sync + AllocGlobal>(
+fn is_narrow<R: Threads + Wait + Clock + Files + Sync + AllocGlobal>(
     rt: &R,
     game: &str,
 ) -> Result<bool, Fail> {

@@ -2,11 +2,12 @@
 
 use crate::commands::gamesman;
 use crate::explore::PositionAsked;
-use crate::explorer::explore_of;
+use crate::explore_commands::explore_of;
 use crate::pages::{Page, page_of};
 use crate::play::PlayAsked;
-use crate::seek::Search;
-use crate::seeker::search_of;
+use crate::search::Search;
+use crate::search_commands::search_of;
+use crate::solve::SolveAsked;
 use crate::tables::Kept;
 use clap::error::ErrorKind;
 use clap::{ArgMatches, Error};
@@ -19,11 +20,7 @@ use std::fmt;
 #[derive(Drop)]
 pub enum Asked<'a> {
     List,
-    Solve {
-        game: &'a str,
-        folder: &'a str,
-        plan: Plan,
-    },
+    Solve(SolveAsked<'a>),
     Query {
         game: &'a str,
         position: &'a str,
@@ -89,11 +86,12 @@ fn plan_of(matches: &ArgMatches<'_>) -> Option<Plan> {
 }
 
 fn solve_of<'a>(inner: &ArgMatches<'a>) -> Option<Asked<'a>> {
-    Some(Asked::Solve {
+    Some(Asked::Solve(SolveAsked {
         game: inner.get_str("GAME")?,
         folder: inner.get_str("FOLDER")?,
         plan: plan_of(inner)?,
-    })
+        progress: inner.get_flag("progress"),
+    }))
 }
 
 fn query_of<'a>(inner: &ArgMatches<'a>) -> Option<Asked<'a>> {

@@ -1,8 +1,8 @@
 //! The commands of the program, by clap, with what `--help` says of them.
 
-use crate::explorer::{line, moves, show};
+use crate::explore_commands::{line, moves, show};
 use crate::pages::{completions, man};
-use crate::seeker::{ask, counts, find};
+use crate::search_commands::{ask, counts, find};
 use clap::{Arg, ArgAction, Command, value_parser};
 use std::alloc::{AllocError, Global};
 
@@ -58,18 +58,23 @@ fn solve<'a>(alloc: Global) -> Result<Command<'a>, AllocError> {
         4096,
         "How many notes a thread takes at a time, 1 to 4096",
     );
+    let progress = Arg::new(alloc, "progress")
+        .long("progress")
+        .action(ArgAction::SetTrue)
+        .help("Tells on standard error, a few times a second, how far it is");
     Command::new(alloc, "solve")
         .about(
             "Solves a game into a folder, which has to be there; tables that are there and true are kept",
         )
         .after_help(
-            "Examples:\n  gamesman solve countdown tables\n  gamesman solve dao tables --workers 8",
+            "Examples:\n  gamesman solve countdown tables\n  gamesman solve dao tables --workers 8 --progress",
         )
         .arg(word(alloc, "GAME", GAME))?
         .arg(word(alloc, "FOLDER", "The folder for the tables"))?
         .arg(workers)?
         .arg(shards)?
-        .arg(piece)
+        .arg(piece)?
+        .arg(progress)
 }
 
 /// Whether a folder is only read.

@@ -1,8 +1,7 @@
 //! Questions about a position: docs/PROGRAM.md.
 use crate::lines::COUNTED;
-use crate::run::{BAD_LINE, DONE, REFUSED, run_words};
-use crate::said::{Said, says};
-use std::io::{self, ErrorKind, Write};
+use crate::outcome::{Outcome, has_outcome, is_left};
+use crate::run::{BAD_LINE, DONE, REFUSED};
 use std::test::Fail;
 
 const MOVES: &[u8] =
@@ -11,23 +10,9 @@ const MOVES: &[u8] =
 const LINE: &[u8] =
     b"\t10\twin in 7\n1\t9\tlose in 6\n1\t8\twin in 5\n2\t6\tlose in 4\n1\t5\twin in 3\n2\t3\tlose in 2\n1\t2\twin in 1\n2\t0\tlose in 0\n";
 
-const NO_POSITION: Said<'_> = Said(REFUSED, b"", b"gamesman: no such position\n");
+const NO_POSITION: Outcome<'_> = Outcome(REFUSED, b"", b"gamesman: no such position\n");
 
-const BAD: Said<'_> = Said(BAD_LINE, b"", b"gamesman: bad line\n");
-
-// An output that nobody reads.
-#[derive(Drop)]
-struct Closed;
-
-impl Write for Closed {
-    fn write(&mut self, _buf: &[u8]) -> io::Result<usize> {
-        Err(io::Error::from(ErrorKind::BrokenPipe))
-    }
-
-    fn flush(&mut self) -> io::Result<()> {
-        Ok(())
-    }
-}
+const BAD: Outcome<'_> = Outcome(BAD_LINE, b"", b"gamesman: bad line\n");
 
 #[test]
 fn moves_of_positions(rt: HostRuntime) -> Result<(), Fail> {
@@ -49,7 +34,7 @@ fn moves_of_positions(rt: HostRuntime) -> Result<(), Fail> {
         ),
     ];
     for (words, text) in lines {
-        assert!(rt; says(&rt, words, b"", Said(DONE, text, b""))?);
+        assert!(rt; has_outcome(&rt, words, b"", Outcome(DONE, text, b""))?);
     }
     Ok(())
 }
@@ -71,21 +56,21 @@ fn lines_of_best_play(rt: HostRuntime) -> Result<(), Fail> {
         ),
     ];
     for (words, text) in lines {
-        assert!(rt; says(&rt, words, b"", Said(DONE, text, b""))?);
+        assert!(rt; has_outcome(&rt, words, b"", Outcome(DONE, text, b""))?);
     }
     Ok(())
 }
 
 #[test]
 fn other_words_for_commands(rt: HostRuntime) -> Result<(), Fail> {
-    let version = Said(DONE, b"gamesman 0.1.0\n", b"");
-    assert!(rt; says(&rt, &["--version"], b"", version)?);
+    let version = Outcome(DONE, b"gamesman 0.1.0\n", b"");
+    assert!(rt; has_outcome(&rt, &["--version"], b"", version)?);
     assert!(rt;
-        says(
+        has_outcome(
             &rt,
             &["analyze", "countdown"],
             b"",
-            Said(DONE, COUNTED, b"")
+            Outcome(DONE, COUNTED, b"")
         )?
     );
     Ok(())
@@ -93,8 +78,8 @@ fn other_words_for_commands(rt: HostRuntime) -> Result<(), Fail> {
 
 #[test]
 fn questions_that_are_refused(rt: HostRuntime) -> Result<(), Fail> {
-    let no_game = Said(REFUSED, b"", b"gamesman: no such game\n");
-    let lines: [(&[&str], Said<'_>); 8] = [
+    let no_game = Outcome(REFUSED, b"", b"gamesman: no such game\n");
+    let lines: [(&[&str], Outcome<'_>); 8] = [
         (&["moves", "chess"], no_game),
         (&["line", "chess", "1"], no_game),
         (&["moves", "countdown", "11"], NO_POSITION),
@@ -104,8 +89,8 @@ fn questions_that_are_refused(rt: HostRuntime) -> Result<(), Fail> {
         (&["line", "countdown", "--limit", "x"], BAD),
         (&["moves", "countdown", "10", "9"], BAD),
     ];
-    for (words, said) in lines {
-        assert!(rt; says(&rt, words, b"", said)?);
+    for (words, outcome) in lines {
+        assert!(rt; has_outcome(&rt, words, b"", outcome)?);
     }
     Ok(())
 }
@@ -114,10 +99,7 @@ fn questions_that_are_refused(rt: HostRuntime) -> Result<(), Fail> {
 fn an_output_that_is_closed(rt: HostRuntime) -> Result<(), Fail> {
     for command in ["moves", "line", "show"] {
         let words = ["gamesman", command, "countdown"];
-        let mut input: &[u8] = b"";
-        let mut errors = Vec::new(rt.alloc());
-        let status = run_words(&rt, words.as_slice(), &mut input, &mut Closed, &mut errors);
-        assert!(rt; status == REFUSED && errors.is_empty());
+        assert!(rt; is_left(&rt, words.as_slice(), b""));
     }
     Ok(())
 }

@@ -1,7 +1,7 @@
 //! The lines of the program over real folders: docs/PROGRAM.md.
 use crate::games::{Achi, Countdown, Dao, TacTix};
+use crate::outcome::{Outcome, has_outcome};
 use crate::run::{DONE, REFUSED};
-use crate::said::{Said, says};
 use crate::tables::build_in;
 use gm_build::build::Built;
 use gm_game::game::Game;
@@ -13,6 +13,7 @@ use std::fs::{self, Files};
 use std::sync::Wait;
 use std::test::Fail;
 use std::thread::Threads;
+use std::time::Clock;
 
 // The file of version 1 of a table, where it has one.
 fn old_file<G: Game>(alloc: Global, table: &Table<G>) -> Result<Option<Vec<u8>>, AllocError> {
@@ -24,7 +25,7 @@ fn old_file<G: Game>(alloc: Global, table: &Table<G>) -> Result<Option<Vec<u8>>,
 }
 
 // Writes the files of version 1 of a game into a folder, by those that another one has: how many.
-fn write_old<G: Game + Send + Sync, R: Threads + Wait + Files + Sync + AllocGlobal>(
+fn write_old<G: Game + Send + Sync, R: Threads + Wait + Clock + Files + Sync + AllocGlobal>(
     rt: &R,
     new: &str,
     old: &str,
@@ -42,7 +43,7 @@ fn write_old<G: Game + Send + Sync, R: Threads + Wait + Files + Sync + AllocGlob
 }
 
 // Solves a game into a folder, and migrates its old files in another one: whether both then have the same files, and the program tells how many were migrated.
-fn migrates<G: Game + Send + Sync, R: Threads + Wait + Files + Sync + AllocGlobal>(
+fn migrates<G: Game + Send + Sync, R: Threads + Wait + Clock + Files + Sync + AllocGlobal>(
     rt: &R,
     game: &str,
     new: &str,
@@ -53,11 +54,11 @@ fn migrates<G: Game + Send + Sync, R: Threads + Wait + Files + Sync + AllocGloba
     fs::create_dir(rt, old)?;
     let tiers = write_old::<G, R>(rt, new, old)?;
     let line = format!(in alloc; "solved 0 reused 0 migrated {tiers} deliveries 0 by hand 0\n")?;
-    let mut same = says(
+    let mut same = has_outcome(
         rt,
         &["solve", game, old],
         b"",
-        Said(DONE, line.as_bytes(), b""),
+        Outcome(DONE, line.as_bytes(), b""),
     )?;
     for entry in 0..tiers {
         let ours = format!(in alloc; "{old}/tier-{entry}.gmt")?;
@@ -93,13 +94,13 @@ fn an_old_file_is_told_and_migrated(rt: HostRuntime) -> Result<(), Fail> {
     fs::create_dir(&rt, new)?;
     fs::create_dir(&rt, old)?;
     write_old::<Countdown<10>, _>(&rt, new, old)?;
-    let told = Said(REFUSED, b"tier 0 bad: old version\n", b"");
-    assert!(rt; says(&rt, &["check", "countdown", old], b"", told)?);
+    let told = Outcome(REFUSED, b"tier 0 bad: old version\n", b"");
+    assert!(rt; has_outcome(&rt, &["check", "countdown", old], b"", told)?);
     // A query behind the folder migrates it.
     let query: [&str; 5] = ["query", "countdown", "9", "--folder", old];
-    assert!(rt; says(&rt, &query, b"", Said(DONE, b"lose in 6\n", b""))?);
-    let right = Said(DONE, b"tier 0 ok\n", b"");
-    assert!(rt; says(&rt, &["check", "countdown", old], b"", right)?);
+    assert!(rt; has_outcome(&rt, &query, b"", Outcome(DONE, b"lose in 6\n", b""))?);
+    let right = Outcome(DONE, b"tier 0 ok\n", b"");
+    assert!(rt; has_outcome(&rt, &["check", "countdown", old], b"", right)?);
     assert_eq!(rt;
         fs::read(&rt, "countdown_old/tier-0.gmt")?,
         fs::read(&rt, "countdown_new/tier-0.gmt")?
@@ -114,20 +115,20 @@ fn a_folder_is_solved_and_reused(rt: HostRuntime) -> Result<(), Fail> {
     let folder = "program_countdown";
     fs::create_dir(&rt, folder)?;
     let solve: [&str; 3] = ["solve", "countdown", folder];
-    let solved = Said(
+    let solved = Outcome(
         DONE,
         b"solved 1 reused 0 migrated 0 deliveries 19 by hand 0\n",
         b"",
     );
-    let reused = Said(
+    let reused = Outcome(
         DONE,
         b"solved 0 reused 1 migrated 0 deliveries 0 by hand 0\n",
         b"",
     );
-    assert!(rt; says(&rt, &solve, b"", solved)?);
-    assert!(rt; says(&rt, &solve, b"", reused)?);
+    assert!(rt; has_outcome(&rt, &solve, b"", solved)?);
+    assert!(rt; has_outcome(&rt, &solve, b"", reused)?);
     let query: [&str; 5] = ["query", "countdown", "9", "--folder", folder];
-    assert!(rt; says(&rt, &query, b"", Said(DONE, b"lose in 6\n", b""))?);
+    assert!(rt; has_outcome(&rt, &query, b"", Outcome(DONE, b"lose in 6\n", b""))?);
     fs::remove_dir_all(&rt, folder)?;
     Ok(())
 }
@@ -136,19 +137,19 @@ fn a_folder_is_solved_and_reused(rt: HostRuntime) -> Result<(), Fail> {
 fn a_folder_is_checked_tier_by_tier(rt: HostRuntime) -> Result<(), Fail> {
     let folder = "program_tactix";
     fs::create_dir(&rt, folder)?;
-    let solved = Said(
+    let solved = Outcome(
         DONE,
         b"solved 5 reused 0 migrated 0 deliveries 9 by hand 0\n",
         b"",
     );
-    assert!(rt; says(&rt, &["solve", "tactix-2", folder], b"", solved)?);
+    assert!(rt; has_outcome(&rt, &["solve", "tactix-2", folder], b"", solved)?);
     let check: [&str; 3] = ["check", "tactix-2", folder];
     let right = b"tier 0 ok\ntier 1 ok\ntier 2 ok\ntier 3 ok\ntier 4 ok\n";
-    assert!(rt; says(&rt, &check, b"", Said(DONE, right, b""))?);
+    assert!(rt; has_outcome(&rt, &check, b"", Outcome(DONE, right, b""))?);
 
     fs::remove_file(&rt, "program_tactix/tier-2.gmt")?;
     let missing = b"tier 0 ok\ntier 1 ok\ntier 2 missing\ntier 3 not checked\ntier 4 not checked\n";
-    assert!(rt; says(&rt, &check, b"", Said(REFUSED, missing, b""))?);
+    assert!(rt; has_outcome(&rt, &check, b"", Outcome(REFUSED, missing, b""))?);
 
     let first = "program_tactix/tier-0.gmt";
     let mut file = fs::read(&rt, first)?;
@@ -158,20 +159,20 @@ fn a_folder_is_checked_tier_by_tier(rt: HostRuntime) -> Result<(), Fail> {
     fs::write(&rt, first, file.as_slice())?;
     let bad =
         b"tier 0 bad: bad digest\ntier 1 not checked\ntier 2 not checked\ntier 3 not checked\ntier 4 not checked\n";
-    assert!(rt; says(&rt, &check, b"", Said(REFUSED, bad, b""))?);
+    assert!(rt; has_outcome(&rt, &check, b"", Outcome(REFUSED, bad, b""))?);
     fs::remove_dir_all(&rt, folder)?;
     Ok(())
 }
 
 #[test]
 fn a_folder_that_is_not_there(rt: HostRuntime) -> Result<(), Fail> {
-    let failed = Said(REFUSED, b"", b"gamesman: store failed at tier 0\n");
+    let failed = Outcome(REFUSED, b"", b"gamesman: store failed at tier 0\n");
     let solve: [&str; 3] = ["solve", "countdown", "program_nowhere"];
-    assert!(rt; says(&rt, &solve, b"", failed)?);
+    assert!(rt; has_outcome(&rt, &solve, b"", failed)?);
     let query: [&str; 5] = ["query", "countdown", "9", "--folder", "program_nowhere"];
-    assert!(rt; says(&rt, &query, b"", failed)?);
-    let missing = Said(REFUSED, b"tier 0 missing\n", b"");
+    assert!(rt; has_outcome(&rt, &query, b"", failed)?);
+    let missing = Outcome(REFUSED, b"tier 0 missing\n", b"");
     let check: [&str; 3] = ["check", "countdown", "program_nowhere"];
-    assert!(rt; says(&rt, &check, b"", missing)?);
+    assert!(rt; has_outcome(&rt, &check, b"", missing)?);
     Ok(())
 }

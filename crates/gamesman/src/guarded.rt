@@ -1,25 +1,25 @@
 //! Folders that are not written: docs/PROGRAM.md.
+use crate::outcome::{Outcome, has_outcome};
 use crate::run::{DONE, REFUSED};
-use crate::said::{Said, says};
 use std::fs;
 use std::test::Fail;
 
-const FAILED: Said<'_> = Said(REFUSED, b"", b"gamesman: store failed at tier 0\n");
+const FAILED: Outcome<'_> = Outcome(REFUSED, b"", b"gamesman: store failed at tier 0\n");
 
 #[test]
 fn another_games_file_stays(rt: HostRuntime) -> Result<(), Fail> {
     let folder = "program_another";
     fs::create_dir(&rt, folder)?;
     let solve: [&str; 5] = ["query", "countdown", "9", "--folder", folder];
-    assert!(rt; says(&rt, &solve, b"", Said(DONE, b"lose in 6\n", b""))?);
-    let another = Said(REFUSED, b"", b"gamesman: tier 0 is another game's\n");
+    assert!(rt; has_outcome(&rt, &solve, b"", Outcome(DONE, b"lose in 6\n", b""))?);
+    let another = Outcome(REFUSED, b"", b"gamesman: tier 0 is another game's\n");
     let query: [&str; 5] = ["query", "wheel", "3", "--folder", folder];
-    assert!(rt; says(&rt, &query, b"", another)?);
+    assert!(rt; has_outcome(&rt, &query, b"", another)?);
     let check: [&str; 3] = ["check", "countdown", folder];
-    assert!(rt; says(&rt, &check, b"", Said(DONE, b"tier 0 ok\n", b""))?);
+    assert!(rt; has_outcome(&rt, &check, b"", Outcome(DONE, b"tier 0 ok\n", b""))?);
     // What is damaged is repaired, also by another game.
     fs::write(&rt, "program_another/tier-0.gmt", b"GMTIER")?;
-    assert!(rt; says(&rt, &query, b"", Said(DONE, b"draw\n", b""))?);
+    assert!(rt; has_outcome(&rt, &query, b"", Outcome(DONE, b"draw\n", b""))?);
     fs::remove_dir_all(&rt, folder)?;
     Ok(())
 }
@@ -36,14 +36,14 @@ fn a_folder_that_is_only_read(rt: HostRuntime) -> Result<(), Fail> {
         &["play", "countdown", "--read-only", "--folder", folder],
     ];
     for words in lines {
-        assert!(rt; says(&rt, words, b"", FAILED)?);
+        assert!(rt; has_outcome(&rt, words, b"", FAILED)?);
     }
     assert!(rt;
-        says(
+        has_outcome(
             &rt,
             &["check", "countdown", folder],
             b"",
-            Said(REFUSED, b"tier 0 missing\n", b"")
+            Outcome(REFUSED, b"tier 0 missing\n", b"")
         )?
     );
     let query: [&str; 5] = ["query", "countdown", "9", "--folder", folder];
@@ -52,9 +52,9 @@ fn a_folder_that_is_only_read(rt: HostRuntime) -> Result<(), Fail> {
         b"2\twin in 1\t0\n1\tlose in 2\t1\n",
         b"\t1\twin in 1\n1\t0\tlose in 0\n",
     ];
-    assert!(rt; says(&rt, &query, b"", Said(DONE, answers[0], b""))?);
+    assert!(rt; has_outcome(&rt, &query, b"", Outcome(DONE, answers[0], b""))?);
     for (words, text) in lines.iter().zip(answers) {
-        assert!(rt; says(&rt, words, b"", Said(DONE, text, b""))?);
+        assert!(rt; has_outcome(&rt, words, b"", Outcome(DONE, text, b""))?);
     }
     fs::remove_dir_all(&rt, folder)?;
     Ok(())
@@ -62,9 +62,9 @@ fn a_folder_that_is_only_read(rt: HostRuntime) -> Result<(), Fail> {
 
 #[test]
 fn no_folder_and_no_file(rt: HostRuntime) -> Result<(), Fail> {
-    assert!(rt; says(&rt, &["solve", "countdown", ""], b"", FAILED)?);
+    assert!(rt; has_outcome(&rt, &["solve", "countdown", ""], b"", FAILED)?);
     assert!(rt;
-        says(
+        has_outcome(
             &rt,
             &["query", "countdown", "9", "--folder", ""],
             b"",
@@ -74,8 +74,8 @@ fn no_folder_and_no_file(rt: HostRuntime) -> Result<(), Fail> {
     let folder = "program_no_file";
     fs::create_dir(&rt, folder)?;
     fs::create_dir(&rt, "program_no_file/tier-0.gmt")?;
-    assert!(rt; says(&rt, &["solve", "countdown", folder], b"", FAILED)?);
-    assert!(rt; says(&rt, &["check", "countdown", folder], b"", FAILED)?);
+    assert!(rt; has_outcome(&rt, &["solve", "countdown", folder], b"", FAILED)?);
+    assert!(rt; has_outcome(&rt, &["check", "countdown", folder], b"", FAILED)?);
     fs::remove_dir_all(&rt, folder)?;
     Ok(())
 }
@@ -86,7 +86,7 @@ fn what_an_earlier_run_has_left(rt: HostRuntime) -> Result<(), Fail> {
     fs::create_dir(&rt, folder)?;
     fs::write(&rt, "program_left/tier-0.tmp", b"left")?;
     let query: [&str; 5] = ["query", "countdown", "9", "--folder", folder];
-    assert!(rt; says(&rt, &query, b"", Said(DONE, b"lose in 6\n", b""))?);
+    assert!(rt; has_outcome(&rt, &query, b"", Outcome(DONE, b"lose in 6\n", b""))?);
     assert!(rt; !fs::exists(&rt, "program_left/tier-0.tmp")?);
     fs::remove_dir_all(&rt, folder)?;
     Ok(())

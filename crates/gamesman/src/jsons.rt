@@ -1,6 +1,6 @@
 //! Lines of best play and found positions as lines of JSON: docs/PROGRAM.md.
+use crate::outcome::{Outcome, has_outcome};
 use crate::run::{BAD_LINE, DONE};
-use crate::said::{Said, says};
 use std::test::Fail;
 
 const LINE: &[u8] =
@@ -23,7 +23,7 @@ fn lines_of_best_play_in_json(rt: HostRuntime) -> Result<(), Fail> {
         ),
     ];
     for (words, text) in lines {
-        assert!(rt; says(&rt, words, b"", Said(DONE, text, b""))?);
+        assert!(rt; has_outcome(&rt, words, b"", Outcome(DONE, text, b""))?);
     }
     Ok(())
 }
@@ -50,14 +50,14 @@ fn found_positions_in_json(rt: HostRuntime) -> Result<(), Fail> {
         ),
     ];
     for (words, text) in lines {
-        assert!(rt; says(&rt, words, b"", Said(DONE, text, b""))?);
+        assert!(rt; has_outcome(&rt, words, b"", Outcome(DONE, text, b""))?);
     }
     Ok(())
 }
 
 #[test]
 fn bad_lines_of_json(rt: HostRuntime) -> Result<(), Fail> {
-    let bad = Said(BAD_LINE, b"", b"gamesman: bad line\n");
+    let bad = Outcome(BAD_LINE, b"", b"gamesman: bad line\n");
     let lines: [&[&str]; 4] = [
         &["line", "countdown", "--json=1"],
         &["line", "countdown", "--json", "--json"],
@@ -65,7 +65,7 @@ fn bad_lines_of_json(rt: HostRuntime) -> Result<(), Fail> {
         &["query", "countdown", "1", "--json"],
     ];
     for words in lines {
-        assert!(rt; says(&rt, words, b"", bad)?);
+        assert!(rt; has_outcome(&rt, words, b"", bad)?);
     }
     Ok(())
 }

@@ -1,6 +1,6 @@
 //! The lines of the program, over tables in memory: docs/PROGRAM.md.
+use crate::outcome::{Outcome, has_outcome};
 use crate::run::{BAD_LINE, DONE, REFUSED, run_words};
-use crate::said::{Said, says};
 use std::test::Fail;
 
 const LISTED: &[u8] =
@@ -9,40 +9,40 @@ const LISTED: &[u8] =
 pub(crate) const COUNTED: &[u8] =
     b"{\"canonical\":11,\"counts\":[[\"lose\",0,1],[\"lose\",2,1],[\"lose\",4,1],[\"lose\",6,1],[\"win\",1,2],[\"win\",3,2],[\"win\",5,2],[\"win\",7,1]],\"game\":\"countdown\",\"legal\":11,\"longest_win\":[7,10],\"size\":11,\"tier\":0}\n";
 
-const NO_POSITION: Said<'_> = Said(REFUSED, b"", b"gamesman: no such position\n");
+const NO_POSITION: Outcome<'_> = Outcome(REFUSED, b"", b"gamesman: no such position\n");
 
-const BAD: Said<'_> = Said(BAD_LINE, b"", b"gamesman: bad line\n");
+const BAD: Outcome<'_> = Outcome(BAD_LINE, b"", b"gamesman: bad line\n");
 
 #[test]
 fn lines_of_the_program(rt: HostRuntime) -> Result<(), Fail> {
-    let no_game = Said(REFUSED, b"", b"gamesman: no such game\n");
-    let lines: [(&[&str], Said<'_>); 11] = [
-        (&["list"], Said(DONE, LISTED, b"")),
+    let no_game = Outcome(REFUSED, b"", b"gamesman: no such game\n");
+    let lines: [(&[&str], Outcome<'_>); 11] = [
+        (&["list"], Outcome(DONE, LISTED, b"")),
         (
             &["query", "countdown", "10"],
-            Said(DONE, b"win in 7\n", b""),
+            Outcome(DONE, b"win in 7\n", b""),
         ),
         (
             &["query", "countdown", "0"],
-            Said(DONE, b"lose in 0\n", b""),
+            Outcome(DONE, b"lose in 0\n", b""),
         ),
-        (&["query", "wheel", "3"], Said(DONE, b"draw\n", b"")),
-        (&["query", "wheel", "9"], Said(DONE, b"win in 3\n", b"")),
+        (&["query", "wheel", "3"], Outcome(DONE, b"draw\n", b"")),
+        (&["query", "wheel", "9"], Outcome(DONE, b"win in 3\n", b"")),
         (
             &["query", "tactix-2", "xxxx"],
-            Said(DONE, b"lose in 4\n", b""),
+            Outcome(DONE, b"lose in 4\n", b""),
         ),
         (
             &["query", "tactix-2-misere", "xxxx"],
-            Said(DONE, b"lose in 3\n", b""),
+            Outcome(DONE, b"lose in 3\n", b""),
         ),
         (&["query", "wheel", "10"], NO_POSITION),
         (&["query", "countdown", "11"], NO_POSITION),
         (&["query", "chess", "1"], no_game),
-        (&["analyse", "countdown"], Said(DONE, COUNTED, b"")),
+        (&["analyse", "countdown"], Outcome(DONE, COUNTED, b"")),
     ];
-    for (words, said) in lines {
-        assert!(rt; says(&rt, words, b"", said)?);
+    for (words, outcome) in lines {
+        assert!(rt; has_outcome(&rt, words, b"", outcome)?);
     }
     Ok(())
 }
@@ -61,7 +61,7 @@ fn bad_lines(rt: HostRuntime) -> Result<(), Fail> {
         &["check", "countdown"],
     ];
     for words in lines {
-        assert!(rt; says(&rt, words, b"", BAD)?);
+        assert!(rt; has_outcome(&rt, words, b"", BAD)?);
     }
     Ok(())
 }

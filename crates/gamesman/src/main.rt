@@ -8,7 +8,7 @@ mod asked;
 mod check;
 mod commands;
 mod explore;
-mod explorer;
+mod explore_commands;
 #[cfg(test)]
 mod explores;
 mod fault;
@@ -21,18 +21,21 @@ mod guarded;
 mod jsons;
 #[cfg(test)]
 mod lines;
+#[cfg(test)]
+mod outcome;
 mod pages;
 mod play;
 #[cfg(test)]
 mod plays;
+mod progress;
+#[cfg(test)]
+mod progresses;
 mod query;
 mod run;
+mod search;
+mod search_commands;
 #[cfg(test)]
-mod said;
-mod seek;
-mod seeker;
-#[cfg(test)]
-mod seeks;
+mod searches;
 #[cfg(test)]
 mod shows;
 mod solve;
@@ -48,6 +51,7 @@ use std::io::{ErrorKind, IsTerminal, Read, Write};
 use std::process::ExitCode;
 use std::sync::Wait;
 use std::thread::Threads;
+use std::time::Clock;
 
 fn main(rt: HostRuntime) -> ExitCode {
     let mut errors = rt.stderr();
@@ -67,10 +71,10 @@ fn main(rt: HostRuntime) -> ExitCode {
 
 // Runs the line of these words. At a terminal a bad line is also explained.
 fn run_args<
-    R: Threads + Wait + Files + Sync + AllocGlobal,
+    R: Threads + Wait + Clock + Files + Sync + AllocGlobal,
     I: Read,
     O: Write,
-    E: Write + IsTerminal,
+    E: Write + IsTerminal + Send,
 >(rt: &R, args: Args, input: &mut I, output: &mut O, errors: &mut E) -> Result<u8, AllocError> {
     let mut owned = Vec::new(rt.alloc());
     for arg in args {

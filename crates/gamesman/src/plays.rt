@@ -1,11 +1,12 @@
 //! Sessions of the program, over input and output that may fail: docs/PROGRAM.md.
+use crate::outcome::{Outcome, has_outcome};
 use crate::run::{DONE, REFUSED, run_words};
-use crate::said::{Said, says};
 use std::fs::Files;
 use std::io::{self, ErrorKind, Read, Write};
 use std::sync::Wait;
 use std::test::Fail;
 use std::thread::Threads;
+use std::time::Clock;
 
 const INPUT: &[u8] = b"3\nquit\n";
 
@@ -60,7 +61,7 @@ impl Write for SlowWriter {
 }
 
 // The session with a reader and a writer that fail at these bytes: whether it ends so, with the beginning of its text written.
-fn ends<R: Threads + Wait + Files + Sync + AllocGlobal>(
+fn ends<R: Threads + Wait + Clock + Files + Sync + AllocGlobal>(
     rt: &R,
     read: usize,
     written: usize,
@@ -85,10 +86,10 @@ fn ends<R: Threads + Wait + Files + Sync + AllocGlobal>(
 fn sessions_of_the_program(rt: HostRuntime) -> Result<(), Fail> {
     let first = b"10 win in 7\nyour move?\ninput ended\n";
     let second = b"10 win in 7\ncomputer: 1\n9 lose in 6\nyour move?\ninput ended\n";
-    assert!(rt; says(&rt, &["play", "countdown"], b"", Said(DONE, first, b""))?);
+    assert!(rt; has_outcome(&rt, &["play", "countdown"], b"", Outcome(DONE, first, b""))?);
     let words = ["play", "countdown", "--second"];
-    assert!(rt; says(&rt, &words, b"", Said(DONE, second, b""))?);
-    assert!(rt; says(&rt, &words, INPUT, Said(DONE, SESSION, b""))?);
+    assert!(rt; has_outcome(&rt, &words, b"", Outcome(DONE, second, b""))?);
+    assert!(rt; has_outcome(&rt, &words, INPUT, Outcome(DONE, SESSION, b""))?);
     Ok(())
 }
 
@@ -130,13 +131,13 @@ fn a_session_reads_so_much(rt: HostRuntime) -> Result<(), Fail> {
     let mut input = vec![in rt.alloc(); b'a'; 1_000_000]?;
     let ended = b"10 win in 7\nyour move?\nnot a move\nyour move?\ninput ended\n";
     let words = ["play", "countdown"];
-    assert!(rt; says(&rt, &words, input.as_slice(), Said(DONE, ended, b""))?);
+    assert!(rt; has_outcome(&rt, &words, input.as_slice(), Outcome(DONE, ended, b""))?);
     input.push(b'a')?;
-    let stopped = Said(
+    let stopped = Outcome(
         REFUSED,
         b"10 win in 7\nyour move?\n",
         b"gamesman: too much input\n",
     );
-    assert!(rt; says(&rt, &words, input.as_slice(), stopped)?);
+    assert!(rt; has_outcome(&rt, &words, input.as_slice(), stopped)?);
     Ok(())
 }

@@ -9,16 +9,17 @@ use crate::games::NAMES;
 use crate::pages::write_page;
 use crate::play::play;
 use crate::query::query;
-use crate::seek::search_tables;
+use crate::search::search_tables;
 use crate::solve::solve;
 use crate::tables::{Kept, Place};
-use crate::whole_line::{Told, write_line};
+use crate::whole_line::{FaultLine, write_line};
 use gm_solver::plan::Plan;
 use std::alloc::{AllocError, Global};
 use std::fs::Files;
 use std::io::{Read, Write};
 use std::sync::Wait;
 use std::thread::Threads;
+use std::time::Clock;
 
 /// What was asked was done.
 pub const DONE: u8 = 0;
@@ -42,15 +43,15 @@ fn place(kept: Kept<'_>) -> Place<'_> {
     Place { kept, plan }
 }
 
-fn answer<R: Threads + Wait + Files + Sync + AllocGlobal, I: Read, O: Write>(
-    rt: &R,
-    asked: Asked<'_>,
-    input: &mut I,
-    output: &mut O,
-) -> Result<u8, Fault> {
+fn answer<
+    R: Threads + Wait + Clock + Files + Sync + AllocGlobal,
+    I: Read,
+    O: Write,
+    E: Write + Send,
+>(rt: &R, asked: Asked<'_>, input: &mut I, output: &mut O, errors: &mut E) -> Result<u8, Fault> {
     match asked {
         Asked::List => list(output),
-        Asked::Solve { game, folder, plan } => solve(rt, game, folder, plan, output),
+        Asked::Solve(asked) => solve(rt, asked, output, errors),
         Asked::Query {
             game,
             position,
@@ -74,7 +75,7 @@ fn answer<R: Threads + Wait + Files + Sync + AllocGlobal, I: Read, O: Write>(
 /// Says on standard error why a line was refused. This is the last that can be said: where it fails, the status still tells.
 pub fn refused<E: Write>(fault: &Fault, errors: &mut E) -> u8 {
     if !matches!(fault, Fault::OutputClosed) {
-        let _ = write_line(errors, &Told { fault });
+        let _ = write_line(errors, &FaultLine { fault });
     }
     REFUSED
 }
@@ -93,15 +94,14 @@ pub fn explain<E: Write>(alloc: Global, words: &[&str], errors: &mut E) {
 }
 
 /// Runs a line of words, of which the first is the program's name, and answers the status to end with.
-pub fn run_words<R: Threads + Wait + Files + Sync + AllocGlobal, I: Read, O: Write, E: Write>(
-    rt: &R,
-    words: &[&str],
-    input: &mut I,
-    output: &mut O,
-    errors: &mut E,
-) -> u8 {
+pub fn run_words<
+    R: Threads + Wait + Clock + Files + Sync + AllocGlobal,
+    I: Read,
+    O: Write,
+    E: Write + Send,
+>(rt: &R, words: &[&str], input: &mut I, output: &mut O, errors: &mut E) -> u8 {
     match read_words(rt.alloc(), words) {
-        Ok(asked) => match answer(rt, asked, input, output) {
+        Ok(asked) => match answer(rt, asked, input, output, errors) {
             Ok(status) => status,
             Err(fault) => refused(&fault, errors),
         },

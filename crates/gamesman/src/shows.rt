@@ -1,6 +1,6 @@
 //! Boards to look at, sessions from a position, and pages about the program: docs/PROGRAM.md.
+use crate::outcome::{Outcome, has_outcome};
 use crate::run::{BAD_LINE, DONE, REFUSED, run_words};
-use crate::said::{Said, says};
 use std::str::from_utf8;
 use std::test::Fail;
 
@@ -25,7 +25,7 @@ fn boards_are_shown(rt: HostRuntime) -> Result<(), Fail> {
         ),
     ];
     for (words, text) in lines {
-        assert!(rt; says(&rt, words, b"", Said(DONE, text, b""))?);
+        assert!(rt; has_outcome(&rt, words, b"", Outcome(DONE, text, b""))?);
     }
     Ok(())
 }
@@ -34,23 +34,23 @@ fn boards_are_shown(rt: HostRuntime) -> Result<(), Fail> {
 fn sessions_from_a_position(rt: HostRuntime) -> Result<(), Fail> {
     let from: [&str; 4] = ["play", "countdown", "--from", "2"];
     let won = b"2 win in 1\nyour move?\n0 lose in 0\nover: you win\n";
-    assert!(rt; says(&rt, &from, b"2\n", Said(DONE, won, b""))?);
+    assert!(rt; has_outcome(&rt, &from, b"2\n", Outcome(DONE, won, b""))?);
     let second: [&str; 5] = ["play", "countdown", "--from", "2", "--second"];
     let lost = b"2 win in 1\ncomputer: 2\n0 lose in 0\nover: computer wins\n";
-    assert!(rt; says(&rt, &second, b"", Said(DONE, lost, b""))?);
+    assert!(rt; has_outcome(&rt, &second, b"", Outcome(DONE, lost, b""))?);
     let drawn: [&str; 5] = ["play", "wheel", "--from", "3", "--show"];
     let shown =
         b"3 draw\n0 1 2 [3] 4 5 6 7 8 9        3 -> 4\nyour move?\nnot a move\n0 1 2 [3] 4 5 6 7 8 9        3 -> 4\nyour move?\nbye\n";
-    assert!(rt; says(&rt, &drawn, b"5\nquit\n", Said(DONE, shown, b""))?);
+    assert!(rt; has_outcome(&rt, &drawn, b"5\nquit\n", Outcome(DONE, shown, b""))?);
     Ok(())
 }
 
 #[test]
 fn boards_and_sessions_that_are_refused(rt: HostRuntime) -> Result<(), Fail> {
-    let no_position = Said(REFUSED, b"", b"gamesman: no such position\n");
-    let bad = Said(BAD_LINE, b"", b"gamesman: bad line\n");
-    let no_game = Said(REFUSED, b"", b"gamesman: no such game\n");
-    let lines: [(&[&str], Said<'_>); 6] = [
+    let no_position = Outcome(REFUSED, b"", b"gamesman: no such position\n");
+    let bad = Outcome(BAD_LINE, b"", b"gamesman: bad line\n");
+    let no_game = Outcome(REFUSED, b"", b"gamesman: no such game\n");
+    let lines: [(&[&str], Outcome<'_>); 6] = [
         (&["show", "chess"], no_game),
         (&["show", "wheel", "10"], no_position),
         (&["show", "wheel", "1", "2"], bad),
@@ -58,8 +58,8 @@ fn boards_and_sessions_that_are_refused(rt: HostRuntime) -> Result<(), Fail> {
         (&["play", "countdown", "--from"], bad),
         (&["completions", "tcsh"], bad),
     ];
-    for (words, said) in lines {
-        assert!(rt; says(&rt, words, b"", said)?);
+    for (words, outcome) in lines {
+        assert!(rt; has_outcome(&rt, words, b"", outcome)?);
     }
     Ok(())
 }

@@ -4,7 +4,8 @@ ghost use Rattle.gm_tiers.specs.Orders.{IsTierOrder};
 ghost use Rattle.gm_build.specs.Work.{HoldsExactly};
 
 use crate::fault::Fault;
-use gm_build::build::{Built, build};
+use crate::progress::Progress;
+use gm_build::build::{Built, build, build_watched};
 use gm_build::build_error::BuildError;
 use gm_game::game::Game;
 use gm_solver::gate::NoGate;
@@ -14,9 +15,11 @@ use gm_tierdb::folder_store::FolderStore;
 use gm_tierdb::mem_store::MemStore;
 use gm_tierdb::read_only::ReadOnly;
 use std::fs::Files;
+use std::io::Write;
 use std::string::String;
 use std::sync::Wait;
 use std::thread::Threads;
+use std::time::Clock;
 
 /// Where the tables of a game are kept.
 #[derive(Clone, Copy)]
@@ -64,10 +67,30 @@ pub fn build_in<G: Game + Send + Sync, R: Threads + Wait + Files + Sync + AllocG
     let mut store = FolderStore::new(alloc, String::from_str(alloc, folder)?);
     match build(rt, alloc, &mut store, plan, &NoGate, &Counter::new()) {
         Ok(built) => Ok(built),
-        Err(BuildError::StoreFailed { tier }) if store.met_another() => {
-            Err(Fault::AnotherGames { tier })
-        }
-        Err(error) => Err(Fault::NotBuilt(error)),
+        Err(error) => Err(why_not(error, store.met_another())),
+    }
+}
+
+/// Builds a game over a folder, as `build_in` does, and tells standard error how far it is.
+pub fn build_telling<
+    G: Game + Send + Sync,
+    R: Threads + Wait + Clock + Files + Sync + AllocGlobal,
+    E: Write + Send,
+>(rt: &R, folder: &str, plan: Plan, errors: &mut E) -> Result<Built<G>, Fault> {
+    let alloc = rt.alloc();
+    let mut store = FolderStore::new(alloc, String::from_str(alloc, folder)?);
+    let progress = Progress::new(rt, errors);
+    match build_watched(rt, alloc, &mut store, plan, &progress, &progress, &progress) {
+        Ok(built) => Ok(built),
+        Err(error) => Err(why_not(error, store.met_another())),
+    }
+}
+
+// Why a game is not built over a folder, which may have another game's file.
+fn why_not(error: BuildError, met_another: bool) -> Fault {
+    match error {
+        BuildError::StoreFailed { tier } if met_another => Fault::AnotherGames { tier },
+        error => Fault::NotBuilt(error),
     }
 }
 

@@ -18,11 +18,11 @@ pub fn write_line<W: Write, T: Display>(output: &mut W, words: &T) -> io::Result
 
 /// A fault as it is told: after the program's name.
 #[derive(Drop)]
-pub struct Told<'a, T> {
+pub struct FaultLine<'a, T> {
     pub fault: &'a T,
 }
 
-impl<T: Display> Display for Told<'_, T> {
+impl<T: Display> Display for FaultLine<'_, T> {
     fn fmt<W: std::fmt::Write>(&self, f: &mut std::fmt::Formatter<W>) -> std::fmt::Result {
         write!(f, "gamesman: {}", self.fault)
     }

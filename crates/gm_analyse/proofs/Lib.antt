@@ -1,4 +1,5 @@
 pub mod Counting
+pub mod CountLists
 pub mod Lists
 pub mod Longer
 pub mod Names

@@ -8,6 +8,7 @@ ghost use Rattle.gm_build.specs.Outcomes.{failures_in, IsBuildError, IsStopped};
 
 use crate::build_error::BuildError;
 use crate::tier::{Step, build_tier};
+use crate::watch::{NoWatch, Watch};
 use gm_game::game::{Game, laws};
 use gm_solver::gate::Gate;
 use gm_solver::plan::Plan;
@@ -71,7 +72,46 @@ pub fn build<G: Game + Send + Sync, R: Threads + Wait + Files + Sync, S: Store, 
     ensures stopped { IsTrue S.KEEPS → IfErr result (IsStopped G.rules (S.texts store.old) (S.texts store.new)) }
     ensures count { S.failed store.new ≡ S.failed store.old + failures_in result }
 {
+    build_watched(rt, alloc, store, plan, gate, source, &NoWatch)
+}
+
+/// Builds a game as `build` does, which is watched: nothing depends on who watches.
+pub fn build_watched<
+    G: Game + Send + Sync,
+    R: Threads + Wait + Files + Sync,
+    S: Store,
+    T: Gate,
+    P: Source,
+    H: Watch,
+>(
+    rt: &R,
+    alloc: Global,
+    store: &mut S,
+    plan: Plan,
+    gate: &T,
+    source: &P,
+    watch: &H,
+) -> Result<Built<G>, BuildError>
+    requires { S.failed store.old < u64.MAX }
+
+    // What is built: the tiers, their true tables, and what was done with them.
+    ensures order { IfOk result (λ built. IsTierOrder G.rules built.order) }
+    ensures held { IfOk result (λ built. HoldsExactly built.tables built.order) }
+    ensures tables { IfOk result (λ built. AreTables G.rules built.tables) }
+    ensures some_work { IfOk result (λ built. IsSomeWork G.rules built.order built.solved built.reused built.migrated built.deliveries built.by_hand) }
+
+    // A store that keeps its map then has the texts of their tables and nothing else has changed, and those that were reused or migrated are those whose text it had.
+    ensures texts { IsTrue S.KEEPS → IfOk result (λ built. HaveTexts G.rules (S.texts store.new) built.order) }
+    ensures others { IsTrue S.KEEPS → IfOk result (λ built. KeepsOthers built.order (S.texts store.old) (S.texts store.new)) }
+    ensures work { IsTrue S.KEEPS → IfOk result (λ built. IsWorkOn G.rules built.order (HasText G.rules (S.texts store.old)) (HasOldText G.rules (S.texts store.old)) built.solved built.reused built.migrated built.deliveries built.by_hand) }
+
+    // Why it is not built, and what the store has then.
+    ensures error { IfErr result (IsBuildError G.rules) }
+    ensures stopped { IsTrue S.KEEPS → IfErr result (IsStopped G.rules (S.texts store.old) (S.texts store.new)) }
+    ensures count { S.failed store.new ≡ S.failed store.old + failures_in result }
+{
     let order = TierOrder::from_initial(alloc)?;
+    watch.begin(rt, order.tiers().len());
     let mut tables = Tables::new(alloc);
     let mut solved = 0;
     let mut reused = 0;
@@ -81,7 +121,17 @@ pub fn build<G: Game + Send + Sync, R: Threads + Wait + Files + Sync, S: Store, 
     // By the laws of the game the sum of the deliveries fits.
     laws::<G>();
     for tier in order.tiers() {
-        match build_tier(rt, alloc, *tier, &mut tables, store, plan, gate, source)? {
+        match build_tier(
+            rt,
+            alloc,
+            *tier,
+            &mut tables,
+            store,
+            plan,
+            gate,
+            source,
+            watch,
+        )? {
             Step::Reused => reused += 1,
             Step::Migrated => migrated += 1,
             Step::Solved(report) => {

@@ -8,3 +8,4 @@ pub mod build_error;
 mod found;
 pub mod inspect;
 mod tier;
+pub mod watch;

@@ -10,6 +10,7 @@ ghost use Rattle.gm_build.specs.Outcomes.{failures_in, IsTierError, MayHaveText}
 
 use crate::build_error::BuildError;
 use crate::found::{Found, find};
+use crate::watch::Watch;
 use gm_game::game::Game;
 use gm_game::limits::TIER_SIZE;
 use gm_solver::error::SolveError;
@@ -46,6 +47,7 @@ pub(crate) fn build_tier<
     S: Store,
     T: Gate,
     P: Source,
+    H: Watch,
 >(
     rt: &R,
     alloc: Global,
@@ -55,6 +57,7 @@ pub(crate) fn build_tier<
     plan: Plan,
     gate: &T,
     source: &P,
+    watch: &H,
 ) -> Result<Step, BuildError>
     requires held { AreHeld G.rules tables.old tier }
     requires small { G.rules.tier_size tier ≤ TIER_SIZE }
@@ -68,6 +71,7 @@ pub(crate) fn build_tier<
     ensures error { IfErr result (IsTierError G.rules tier) }
     ensures count { S.failed store.new ≡ S.failed store.old + failures_in result }
 {
+    watch.read(rt, tier);
     match find(rt, alloc, tier, tables, store)? {
         Found::Current(table) => {
             hold(table, tables)?;
@@ -79,6 +83,7 @@ pub(crate) fn build_tier<
             Ok(Step::Migrated)
         }
         Found::Nothing => {
+            watch.solve(rt, tier);
             let (table, report) = solve(rt, alloc, tier, tables, plan, gate, source)?;
             write(rt, alloc, &table, store)?;
             hold(table, tables)?;

@@ -1,5 +1,5 @@
 -- Counts as lines of text with bars.
-use Rattle.std.specs.Prelude.{◌≡◌, ℕ, ◌+◌, ◌-◌, ◌*◌, ◌/◌, max, min, Bool, List, [], ◌∷◌, ◌++◌, codes, take, fold}
+use Rattle.std.specs.Prelude.{◌≡◌, ℕ, ◌+◌, ◌-◌, ◌*◌, ◌/◌, max, min, Bool, List, ◌++◌, codes, take, fold}
 use Rattle.std.specs.Fmt.{decimal}
 use Rattle.std.specs.List.{flat_map}
 use Rattle.gm_game.specs.Rules.{Rules}

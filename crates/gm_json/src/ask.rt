@@ -27,7 +27,7 @@ const KEPT: usize = LINE + 2;
 /// Reads positions, a line each, and answers each at once with one line of JSON, which is written by one call: the position with its value and its moves, or
 /// `{"error":"no such position","line":N}` with the number of the line, from 1. A return before the end of a line is no part of it; the last line needs no end.
 ///
-/// It reads to the end of the input, a byte at a time.
+/// It reads to the end of the input, a byte at a time. `NotHeld` comes only where a position's tier, or one of its child tiers, has no table.
 pub fn ask<G: Shown, R: Read, W: Write>(
     alloc: Global,
     tables: &Tables<G>,
@@ -36,6 +36,7 @@ pub fn ask<G: Shown, R: Read, W: Write>(
 ) -> Result<(), AskError>
     ensures ok { OnOk result (IsServed G.Game.rules G.shown G.move_shown (R.remaining input.old) (R.remaining input.new) (W.contents output.old) (W.contents output.new)) }
     ensures err { OnErr result (IsCutShort G.Game.rules G.shown G.move_shown (R.remaining input.old) (R.remaining input.new) (W.contents output.old) (W.contents output.new)) }
+    ensures not_held { IsErrOf result AskError.NotHeld → ((p : Position) × AreNotHeld G.Game.rules tables.now p) }
 {
     let mut line = ArrayVec::<u8, KEPT>::new();
     let mut number = 1;
@@ -71,6 +72,7 @@ fn answer_line<G: Shown, W: Write>(
 ) -> Result<(), AskError>
     ensures ok { OnOk result ((out : List ℕ) × IsAnswer G.Game.rules G.shown G.move_shown line.now number out × Appends (W.contents output.old) (W.contents output.new) (out ++ codes "\n")) }
     ensures err { OnErr result (IsHalfSaid G.Game.rules G.shown G.move_shown line.now number (W.contents output.old) (W.contents output.new)) }
+    ensures not_held { IsErrOf result AskError.NotHeld → ((p : Position) × AreNotHeld G.Game.rules tables.now p) }
 {
     let mut text = match ask_line(alloc, tables, line, number) {
         Ok(text) => text,

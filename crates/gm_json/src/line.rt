@@ -1,22 +1,20 @@
 //! Lines of best play, in JSON.
-ghost use Rattle.std.specs.Prelude.{◌≡◌, ◌↔◌, ◌++◌, true, false, IfOk, OnOk, IfErr, IsErrOf};
+ghost use Rattle.std.specs.Prelude.{◌≡◌, ◌↔◌, ◌++◌, true, false, IfOk, OnOk, IsErrOf};
 ghost use Rattle.serde_json.specs.Data.{null};
 ghost use Rattle.serde_json.specs.View.{view};
 ghost use Rattle.serde_json.specs.Written.{has_float};
 ghost use Rattle.gm_game.specs.declared.position.Position.{Position};
 ghost use Rattle.gm_game.specs.Values.{IsTrueValue};
 ghost use Rattle.gm_play.specs.BestLines.{AreBest, ComesToNotHeld};
-ghost use Rattle.gm_play.specs.PlayTexts.{after_best, IsNoPosition, IsReadAs};
-ghost use Rattle.gm_play.specs.Refusals.{IsNotHeld};
+ghost use Rattle.gm_play.specs.PlayTexts.{IsNoPosition, IsReadAs};
 ghost use Rattle.gm_json.specs.Words.{line_of};
 ghost use Rattle.gm_json.specs.Lines.{again_tree, end_line, step_tree, steps_from, IsLineJson};
 
 use crate::words::{push_line, text_value, word_of};
-use gm_game::game::Game;
-use gm_game::position::{Position, Solved, Value};
+use gm_game::position::{Position, Solved};
 use gm_game::shown::Shown;
-use gm_play::answer::answer;
-use gm_play::best_line::{LineEnd, best_line};
+use gm_play::best_line::LineEnd;
+use gm_play::by_text::{best_play, value_after};
 use gm_play::play_error::PlayError;
 use gm_table::tables::Tables;
 use serde_json::{Value as Json, json};
@@ -35,28 +33,17 @@ pub fn line_json<G: Shown>(
     ensures illegal { IsErrOf result PlayError.Illegal ↔ IsNoPosition G.Game.rules G.shown G.move_shown text.now }
     ensures not_held { IsErrOf result PlayError.NotHeld → ((p : Position) × IsReadAs G.Game.rules G.shown G.move_shown text.now p × ComesToNotHeld G.Game.rules tables.now p) }
 {
-    let start = match G::read(text) {
-        Some(p) => p,
-        None => return Err(PlayError::Illegal),
-    };
-    let line = best_line(alloc, tables, start, limit)?;
-    let value = known_value(tables, start)?;
-    match line_lines::<G>(alloc, start, value, line.moves.as_slice(), line.end) {
+    let play = best_play(alloc, tables, text, limit)?;
+    let line = &play.line;
+    match line_lines::<G>(
+        alloc,
+        play.start,
+        play.value,
+        line.moves.as_slice(),
+        line.end,
+    ) {
         Ok(lines) => Ok(lines),
         Err(_) => Err(PlayError::OutOfMemory),
-    }
-}
-
-// The value of a legal position.
-fn known_value<G: Game>(tables: &Tables<G>, p: Position) -> Result<Solved, PlayError>
-    requires { G.rules.is_legal p ≡ true }
-    ensures value { IfOk result (IsTrueValue G.rules p) }
-    ensures err { IfErr result (λ e. e ≡ PlayError.NotHeld) }
-    ensures not_held { IsErrOf result PlayError.NotHeld → IsNotHeld G.rules tables.now p }
-{
-    match answer(tables, p) {
-        Ok(value) => Ok(value),
-        Err(_) => Err(PlayError::NotHeld),
     }
 }
 
@@ -119,22 +106,6 @@ fn step_value<G: Shown>(
         "remoteness": value.remoteness,
         "value": word_of(value.value)
     })
-}
-
-// The value after the best move.
-fn value_after(value: Solved) -> Solved
-    ensures { result ≡ after_best value }
-{
-    let result = match value.value {
-        Value::Lose => Value::Win,
-        Value::Draw => Value::Draw,
-        Value::Tie => Value::Tie,
-        Value::Win => Value::Lose,
-    };
-    Solved {
-        value: result,
-        remoteness: value.remoteness.saturating_sub(1),
-    }
 }
 
 // Appends where the last position of a line has come before.

@@ -11,9 +11,8 @@ ghost use Rattle.gm_json.specs.Moves.{move_tree, move_trees, moves_tree, IsMoves
 use crate::words::{text_value, word_of};
 use gm_game::position::{Position, Solved};
 use gm_game::shown::Shown;
-use gm_play::answer::answer;
-use gm_play::firsts::chosen;
-use gm_play::move_values::{MoveValue, move_values};
+use gm_play::by_text::{known_value, moves_at};
+use gm_play::move_values::MoveValue;
 use gm_play::play_error::PlayError;
 use gm_table::tables::Tables;
 use serde_json::{Value as Json, json};
@@ -31,19 +30,8 @@ pub fn moves_json<G: Shown>(
     ensures illegal { IsErrOf result PlayError.Illegal ↔ IsNoPosition G.Game.rules G.shown G.move_shown text.now }
     ensures not_held { IsErrOf result PlayError.NotHeld ↔ ((p : Position) × IsReadAs G.Game.rules G.shown G.move_shown text.now p × AreNotHeld G.Game.rules tables.now p) }
 {
-    let p = match G::read(text) {
-        Some(p) => p,
-        None => return Err(PlayError::Illegal),
-    };
-    let list = match move_values(tables, p) {
-        Ok(list) => list,
-        Err(_) => return Err(PlayError::NotHeld),
-    };
-    let value = match answer(tables, p) {
-        Ok(value) => value,
-        Err(_) => return Err(PlayError::NotHeld),
-    };
-    let list = chosen::<G>(list, distinct);
+    let (p, list) = moves_at(tables, text, distinct)?;
+    let value = known_value(tables, p)?;
     match moves_line::<G>(alloc, p, value, list.as_slice()) {
         Ok(line) => Ok(line),
         Err(_) => Err(PlayError::OutOfMemory),

@@ -11,3 +11,4 @@ pub mod Dialogue
 pub mod Sessions
 pub mod Courses
 pub mod LastLines
+pub mod ByText

@@ -6,6 +6,7 @@
 pub mod answer;
 pub mod best_line;
 pub mod best_move;
+pub mod by_text;
 pub mod firsts;
 pub mod move_values;
 pub mod play_error;

@@ -9,12 +9,10 @@ ghost use Rattle.gm_play.specs.PlayTexts.{row, end_row, after_best, IsMoveOf, Is
 ghost use Rattle.gm_play.specs.Refusals.{IsNotHeld, AreNotHeld};
 
 use crate::answer::{AnswerError, answer};
-use crate::best_line::{LineEnd, best_line};
-use crate::best_move::wanted;
-use crate::firsts::chosen;
-use crate::move_values::{MoveValue, move_values};
+use crate::best_line::LineEnd;
+use crate::by_text::{best_play, moves_at, value_after};
+use crate::move_values::MoveValue;
 use crate::play_error::PlayError;
-use gm_game::game::Game;
 use gm_game::position::{Position, Solved};
 use gm_game::shown::{Line, Shown};
 use gm_game::text::{push_decimal, value_text};
@@ -44,15 +42,7 @@ pub fn moves_text<G: Shown>(
     ensures illegal { IsErrOf result PlayError.Illegal ↔ IsNoPosition G.Game.rules G.shown G.move_shown text.now }
     ensures not_held { IsErrOf result PlayError.NotHeld ↔ ((p : Position) × IsReadAs G.Game.rules G.shown G.move_shown text.now p × AreNotHeld G.Game.rules tables.now p) }
 {
-    let p = match G::read(text) {
-        Some(p) => p,
-        None => return Err(PlayError::Illegal),
-    };
-    let list = match move_values(tables, p) {
-        Ok(list) => list,
-        Err(_) => return Err(PlayError::NotHeld),
-    };
-    let list = chosen::<G>(list, distinct);
+    let (p, list) = moves_at(tables, text, distinct)?;
     match move_rows::<G>(alloc, p, list.as_slice()) {
         Ok(rows) => Ok(rows),
         Err(_) => Err(PlayError::OutOfMemory),
@@ -114,28 +104,17 @@ pub fn line_text<G: Shown>(
     ensures illegal { IsErrOf result PlayError.Illegal ↔ IsNoPosition G.Game.rules G.shown G.move_shown text.now }
     ensures not_held { IsErrOf result PlayError.NotHeld → ((p : Position) × IsReadAs G.Game.rules G.shown G.move_shown text.now p × ComesToNotHeld G.Game.rules tables.now p) }
 {
-    let start = match G::read(text) {
-        Some(p) => p,
-        None => return Err(PlayError::Illegal),
-    };
-    let line = best_line(alloc, tables, start, limit)?;
-    let value = known_value(tables, start)?;
-    match line_rows::<G>(alloc, start, value, line.moves.as_slice(), line.end) {
+    let play = best_play(alloc, tables, text, limit)?;
+    let line = &play.line;
+    match line_rows::<G>(
+        alloc,
+        play.start,
+        play.value,
+        line.moves.as_slice(),
+        line.end,
+    ) {
         Ok(rows) => Ok(rows),
         Err(_) => Err(PlayError::OutOfMemory),
-    }
-}
-
-// The value of a legal position.
-fn known_value<G: Game>(tables: &Tables<G>, p: Position) -> Result<Solved, PlayError>
-    requires { G.rules.is_legal p ≡ true }
-    ensures value { IfOk result (IsTrueValue G.rules p) }
-    ensures err { IfErr result (λ e. e ≡ PlayError.NotHeld) }
-    ensures not_held { IsErrOf result PlayError.NotHeld → IsNotHeld G.rules tables.now p }
-{
-    match answer(tables, p) {
-        Ok(value) => Ok(value),
-        Err(_) => Err(PlayError::NotHeld),
     }
 }
 
@@ -174,16 +153,6 @@ fn line_rows<G: Shown>(
     }
     push_end(&mut rows, end)?;
     Ok(rows)
-}
-
-// The value after the best move.
-fn value_after(value: Solved) -> Solved
-    ensures { result ≡ after_best value }
-{
-    Solved {
-        value: wanted(value.value),
-        remoteness: value.remoteness.saturating_sub(1),
-    }
 }
 
 // Appends where the last position of a line has come before.

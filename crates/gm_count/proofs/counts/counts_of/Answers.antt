@@ -2,7 +2,8 @@ use Rattle.std.proofs.Common.{◌≡◌, ◌+◌, ℕ, subst, arith}
 use Rattle.std.specs.Option.{is_some}
 use Rattle.gm_find.specs.Finding.{all_positions}
 use Rattle.gm_count.specs.Counting.{AreCountsBefore}
-use Rattle.gm_count.proofs.Listed.{all_counts, rank_listed}
+use Rattle.gm_analyse.proofs.CountLists.{rank_listed}
+use Rattle.gm_count.proofs.Listed.{all_counts}
 use Rattle.gm_count.proofs.counts.counts_of.Goals as goal
 
 pub loop-value-preserved : goal.loop-value-preserved

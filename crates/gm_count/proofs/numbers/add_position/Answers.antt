@@ -1,4 +1,3 @@
-use Rattle.std.proofs.Common.{◌≡◌, ◌+◌, ℕ, get_or}
 use Rattle.std.specs.Option.{is_some}
 use Rattle.gm_count.proofs.Listed.{numbers_with, numbers_without, both_ok}
 use Rattle.gm_count.proofs.numbers.add_position.Goals as goal

@@ -1,5 +1,4 @@
-use Rattle.std.proofs.Common.{◌≡◌, IsTrue, sym, ◌∙◌, rules}
-use Rattle.gm_game.specs.declared.position.Value.{Value}
+use Rattle.std.proofs.Common.{◌≡◌, rules}
 use Rattle.gm_game.proofs.Basic.{HasValue_once}
 use Rattle.gm_count.proofs.numbers.level.Goals as goal
 use Rattle.gm_count.proofs.numbers.level.Goals.{then-ne-via-then-ne, then-ne-via-else-ne+then-not-is_in}

@@ -22,7 +22,7 @@ use std::thread::Threads;
 
 /// Positions that are looked for.
 #[derive(Clone, Copy, Debug, PartialEq, Eq)]
-pub struct Hunt {
+pub struct PositionsSought {
     pub sought: Sought,
     /// Of this tier alone; of all tiers where there is none.
     pub tier: Option<u64>,
@@ -37,7 +37,7 @@ pub struct Hunt {
 /// What is asked of all tables of a game.
 #[derive(Clone, Copy, Debug, PartialEq, Eq)]
 pub enum Search {
-    Find(Hunt),
+    Find(PositionsSought),
     /// How many positions there are of each value and remoteness; of those alone that play reaches, where that is asked.
     Counts { reached: bool },
     /// An answer to each position that is read.
@@ -66,12 +66,12 @@ fn search_game<
     O: Write,
 >(rt: &R, asked: Search, place: Place<'_>, input: &mut I, output: &mut O) -> Result<u8, Fault> {
     let alloc = rt.alloc();
-    if let Search::Find(hunt) = asked {
-        test_tier::<G>(alloc, hunt.tier)?;
+    if let Search::Find(positions) = asked {
+        test_tier::<G>(alloc, positions.tier)?;
     }
     let built = place.build::<G, R>(rt)?;
     match asked {
-        Search::Find(hunt) => put(output, found(alloc, &built, hunt)?.as_slice())?,
+        Search::Find(positions) => put(output, found(alloc, &built, positions)?.as_slice())?,
         Search::Counts { reached } => put(output, counted(alloc, &built, reached)?.as_slice())?,
         Search::Ask => ask(alloc, &built.tables, input, output)?,
     }
@@ -90,16 +90,20 @@ fn test_tier<G: Shown>(alloc: Global, tier: Option<u64>) -> Result<(), Fault> {
 }
 
 // The rows of the positions that are looked for, or their lines of JSON.
-fn found<G: Shown>(alloc: Global, built: &Built<G>, hunt: Hunt) -> Result<Vec<u8>, Fault> {
-    let reached = reached_from_start(alloc, hunt.reached)?;
-    let one = [hunt.tier.unwrap_or(0)];
-    let tiers = match hunt.tier {
+fn found<G: Shown>(
+    alloc: Global,
+    built: &Built<G>,
+    positions: PositionsSought,
+) -> Result<Vec<u8>, Fault> {
+    let reached = reached_from_start(alloc, positions.reached)?;
+    let one = [positions.tier.unwrap_or(0)];
+    let tiers = match positions.tier {
         Some(_) => one.as_slice(),
         None => built.order.tiers(),
     };
     let (tables, reached) = (&built.tables, reached.as_ref());
-    let (sought, limit) = (hunt.sought, hunt.limit);
-    if hunt.json {
+    let (sought, limit) = (positions.sought, positions.limit);
+    if positions.json {
         Ok(find_json(alloc, tables, tiers, sought, reached, limit)?)
     } else {
         Ok(find_text(alloc, tables, tiers, sought, reached, limit)?)

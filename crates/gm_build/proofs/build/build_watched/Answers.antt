@@ -13,8 +13,8 @@ use Rattle.gm_build.proofs.WorkLemmas.{deliveries_few}
 use Rattle.gm_build.proofs.OrderLemmas.{fresh_tier, children_held, stops_here}
 use Rattle.gm_build.proofs.ErrorLemmas.{build_error, stopped_by}
 use Rattle.gm_build.proofs.SoFar.{IsSoFar, so_far_none, so_far_reused, so_far_migrated, so_far_solved, so_far_at}
-use Rattle.gm_build.proofs.build.build.Goals as goal
-use Rattle.gm_build.proofs.build.build.Goals.{in-Reused, in-Migrated, in-Solved}
+use Rattle.gm_build.proofs.build.build_watched.Goals as goal
+use Rattle.gm_build.proofs.build.build_watched.Goals.{in-Reused, in-Migrated, in-Solved}
 
 pub loop-tier-init : goal.loop-tier-init
 loop-tier-init g c = record {

@@ -4,32 +4,23 @@ use Rattle.gm_play.specs.PlayTexts.{IsMoveOf}
 use Rattle.gm_play.specs.Refusals.{AreNotHeld}
 use Rattle.gm_play.proofs.Choices.{all_chosen}
 use Rattle.gm_play.proofs.Rows.{same_read, are_moves}
-use Rattle.gm_json.proofs.moves.moves_json.Goals as goal
+use Rattle.gm_play.proofs.by_text.moves_at.Goals as goal
 
-pub chosen-list-requires : goal.chosen-list-requires
-chosen-list-requires g c =
+pub chosen-requires : goal.chosen-requires
+chosen-requires g c =
     let r = g.G.Game.rules in
     let legal : r.is_legal c.in-Some.p ≡ true = search rules in
     λ k d inside. (are_moves r g.met.G.Game.lawful c.in-Some.p legal c.in-Ok.list.items c.in-Ok.ensures.values k d inside).1
 
-pub moves_line-requires-clause-each : goal.moves_line-requires-clause-each
-moves_line-requires-clause-each g c =
+pub returns-in-Ok-clause-each : goal.returns-in-Ok-clause-each
+returns-in-Ok-clause-each g c =
     let r = g.G.Game.rules in
     let legal : r.is_legal c.in-Some.p ≡ true = search rules in
     let these = all_chosen r (IsMoveOf r c.in-Some.p) c.args.distinct c.in-Ok.list.items (are_moves r g.met.G.Game.lawful c.in-Some.p legal c.in-Ok.list.items c.in-Ok.ensures.values) in
-    subst (All (IsMoveOf r c.in-Some.p)) (sym c.as_slice.ensures.value) (subst (All (IsMoveOf r c.in-Some.p)) (sym c.chosen-list.ensures) these)
+    subst (All (IsMoveOf r c.in-Some.p)) (sym c.chosen.ensures) these
 
-pub returns-in-Ok-moves_line-clause-not_held : goal.returns-in-Ok-moves_line-clause-not_held
-returns-in-Ok-moves_line-clause-not_held g c = (
-  λ e. absurd (cc),
-  λ (q, read, none). (
-      let same : c.in-Some.p ≡ q = same_read c.in-Some.p q c.read.result c.in-Some.is ((c.read.ensures q).1 read) in
-      let refused = c.in-Ok.ensures.not_held.1 (subst (AreNotHeld g.G.Game.rules c.args.tables.now) (sym same) none) in
-      absurd (cc)),
-)
-
-pub returns-in-Err-moves_line-clause-not_held : goal.returns-in-Err-moves_line-clause-not_held
-returns-in-Err-moves_line-clause-not_held g c = (
+pub returns-in-Ok-clause-not_held : goal.returns-in-Ok-clause-not_held
+returns-in-Ok-clause-not_held g c = (
   λ e. absurd (cc),
   λ (q, read, none). (
       let same : c.in-Some.p ≡ q = same_read c.in-Some.p q c.read.result c.in-Some.is ((c.read.ensures q).1 read) in

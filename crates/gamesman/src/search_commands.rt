@@ -1,7 +1,7 @@
 //! The command line of searches over all tables, and of the service that answers positions.
 
 use crate::commands::{GAME, folder, json, read_only, word};
-use crate::seek::{Hunt, Search};
+use crate::search::{PositionsSought, Search};
 use clap::{Arg, ArgAction, ArgMatches, Command, value_parser};
 use gm_find::sought::Sought;
 use gm_game::position::Value;
@@ -116,12 +116,12 @@ fn sought_of(inner: &ArgMatches<'_>) -> Option<Sought> {
     }
 }
 
-fn hunt_of(inner: &ArgMatches<'_>) -> Option<Hunt> {
+fn positions_of(inner: &ArgMatches<'_>) -> Option<PositionsSought> {
     let limit = match inner.get_one::<u32>("limit") {
         Some(limit) => limit as usize,
         None => usize::MAX,
     };
-    Some(Hunt {
+    Some(PositionsSought {
         sought: sought_of(inner)?,
         tier: inner.get_one::<u64>("tier"),
         reached: inner.get_flag("reached"),
@@ -133,7 +133,7 @@ fn hunt_of(inner: &ArgMatches<'_>) -> Option<Hunt> {
 /// Reads a line with one of these commands.
 pub fn search_of(name: &str, inner: &ArgMatches<'_>) -> Option<Search> {
     match name {
-        "find" => Some(Search::Find(hunt_of(inner)?)),
+        "find" => Some(Search::Find(positions_of(inner)?)),
         "counts" => Some(Search::Counts {
             reached: inner.get_flag("reached"),
         }),

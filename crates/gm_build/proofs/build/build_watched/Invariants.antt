@@ -1,6 +1,6 @@
 use Rattle.std.proofs.Common.{◌≡◌, IsTrue, take}
 use Rattle.gm_build.proofs.SoFar.{IsSoFar}
-use Rattle.gm_build.proofs.build.build.Given as goal
+use Rattle.gm_build.proofs.build.build_watched.Given as goal
 
 abbrev pub invariant-loop-tier : goal.invariant-loop-tier
 invariant-loop-tier g l = record {

@@ -1,27 +1,12 @@
 //! Searches over all tables, and the service that answers positions: docs/PROGRAM.md.
-use crate::run::{BAD_LINE, DONE, REFUSED, run_words};
-use crate::said::{Said, says};
-use std::io::{self, ErrorKind, Write};
+use crate::outcome::{Outcome, has_outcome, is_left};
+use crate::run::{BAD_LINE, DONE, REFUSED};
 use std::test::Fail;
 
-const BAD: Said<'_> = Said(BAD_LINE, b"", b"gamesman: bad line\n");
+const BAD: Outcome<'_> = Outcome(BAD_LINE, b"", b"gamesman: bad line\n");
 
 const TWO: &[u8] =
     b"{\"moves\":[{\"move\":\"2\",\"moveValue\":\"win\",\"position\":\"0\",\"positionValue\":\"lose\",\"remoteness\":0},{\"move\":\"1\",\"moveValue\":\"lose\",\"position\":\"1\",\"positionValue\":\"win\",\"remoteness\":1}],\"position\":\"2\",\"positionValue\":\"win\",\"remoteness\":1}\n";
-
-// An output that nobody reads.
-#[derive(Drop)]
-struct Closed;
-
-impl Write for Closed {
-    fn write(&mut self, _buf: &[u8]) -> io::Result<usize> {
-        Err(io::Error::from(ErrorKind::BrokenPipe))
-    }
-
-    fn flush(&mut self) -> io::Result<()> {
-        Ok(())
-    }
-}
 
 #[test]
 fn found_positions(rt: HostRuntime) -> Result<(), Fail> {
@@ -58,7 +43,7 @@ fn found_positions(rt: HostRuntime) -> Result<(), Fail> {
         ),
     ];
     for (words, text) in lines {
-        assert!(rt; says(&rt, words, b"", Said(DONE, text, b""))?);
+        assert!(rt; has_outcome(&rt, words, b"", Outcome(DONE, text, b""))?);
     }
     Ok(())
 }
@@ -68,9 +53,9 @@ fn found_positions(rt: HostRuntime) -> Result<(), Fail> {
 fn counted_positions(rt: HostRuntime) -> Result<(), Fail> {
     let text =
         b"lose in 0\t1\t####################\nlose in 2\t1\t####################\nlose in 4\t1\t####################\nlose in 6\t1\t####################\nwin in 1\t2\t########################################\nwin in 3\t2\t########################################\nwin in 5\t2\t########################################\nwin in 7\t1\t####################\n";
-    let said = Said(DONE, text, b"");
-    assert!(rt; says(&rt, &["counts", "countdown"], b"", said)?);
-    assert!(rt; says(&rt, &["counts", "countdown", "--reached"], b"", said)?);
+    let outcome = Outcome(DONE, text, b"");
+    assert!(rt; has_outcome(&rt, &["counts", "countdown"], b"", outcome)?);
+    assert!(rt; has_outcome(&rt, &["counts", "countdown", "--reached"], b"", outcome)?);
     Ok(())
 }
 
@@ -82,21 +67,21 @@ fn asked_positions(rt: HostRuntime) -> Result<(), Fail> {
     both.extend_from_slice(TWO)?;
     let words = ["ask", "countdown"];
     assert!(rt;
-        says(
+        has_outcome(
             &rt,
             &words,
             b"2\nx\n2\r\n",
-            Said(DONE, both.as_slice(), b"")
+            Outcome(DONE, both.as_slice(), b"")
         )?
     );
-    assert!(rt; says(&rt, &words, b"2", Said(DONE, TWO, b""))?);
-    assert!(rt; says(&rt, &words, b"", Said(DONE, b"", b""))?);
+    assert!(rt; has_outcome(&rt, &words, b"2", Outcome(DONE, TWO, b""))?);
+    assert!(rt; has_outcome(&rt, &words, b"", Outcome(DONE, b"", b""))?);
     assert!(rt;
-        says(
+        has_outcome(
             &rt,
             &["moves", "countdown", "2", "--json"],
             b"",
-            Said(DONE, TWO, b"")
+            Outcome(DONE, TWO, b"")
         )?
     );
     Ok(())
@@ -116,13 +101,13 @@ fn bad_searches(rt: HostRuntime) -> Result<(), Fail> {
         &["ask", "countdown", "2"],
     ];
     for words in lines {
-        assert!(rt; says(&rt, words, b"", BAD)?);
+        assert!(rt; has_outcome(&rt, words, b"", BAD)?);
     }
-    let told = Said(REFUSED, b"", b"gamesman: no such tier 7\n");
+    let told = Outcome(REFUSED, b"", b"gamesman: no such tier 7\n");
     let words = ["find", "countdown", "--value", "win", "--tier", "7"];
-    assert!(rt; says(&rt, &words, b"", told)?);
-    let told = Said(REFUSED, b"", b"gamesman: no such game\n");
-    assert!(rt; says(&rt, &["ask", "chess"], b"", told)?);
+    assert!(rt; has_outcome(&rt, &words, b"", told)?);
+    let told = Outcome(REFUSED, b"", b"gamesman: no such game\n");
+    assert!(rt; has_outcome(&rt, &["ask", "chess"], b"", told)?);
     Ok(())
 }
 
@@ -133,10 +118,7 @@ fn searches_that_nobody_reads(rt: HostRuntime) -> Result<(), Fail> {
         &["gamesman", "ask", "countdown"],
     ];
     for words in lines {
-        let mut input: &[u8] = b"2\n";
-        let mut errors = Vec::new(rt.alloc());
-        let status = run_words(&rt, words, &mut input, &mut Closed, &mut errors);
-        assert!(rt; status == REFUSED && errors.is_empty());
+        assert!(rt; is_left(&rt, words, b"2\n"));
     }
     Ok(())
 }
