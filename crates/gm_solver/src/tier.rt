@@ -131,7 +131,9 @@ fn solve_by<G: Game + Send + Sync, R: Threads + Wait + Sync, T: Gate, S: Source>
     let (tiles, last, by_workers) = finish_phases(
         rt, alloc, tables, way, plan, gate, source, tiles,
     )?;
-    let (table, deliveries) = tiles.table(alloc, tables, &last)?;
+    let solved = tiles.table(alloc, tables, &last);
+    drop(tiles);
+    let (table, deliveries) = solved?;
     let report = Report {
         deliveries,
         by_hand: deliveries.saturating_sub(by_workers),
