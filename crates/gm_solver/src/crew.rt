@@ -1,4 +1,4 @@
-//! The workers of one level, each in a thread of its own.
+//! The workers of one level: the first in the calling thread, and each other in one of its own.
 ghost use Rattle.std.specs.Prelude.{◌≡◌, ◌+◌, ◌<◌, OnOk, IfOk, vec_len};
 ghost use Rattle.gm_solver.specs.Found.{AreFound};
 

@@ -3,7 +3,8 @@
 use gm_game::position::Place;
 use std::sync::Wait;
 
-/// Called round each delivery of a worker, whose number is given. It may wait, as tests do to make workers meet.
+/// Called before and after each delivery of a worker, whose number is given. It may wait, as tests do to make workers meet. A worker delivers many pairs at a time: `before` is called for each of them, and
+/// when they are delivered `after` for each. No shard is locked while it runs.
 pub trait Gate: Drop + Sync {
     /// Called before a delivery at this place.
     fn before<R: Wait>(&self, rt: &R, worker: usize, place: Place);

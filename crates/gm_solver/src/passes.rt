@@ -195,6 +195,53 @@ struct Ends<G: Game, A: Round, B: Round, C: Round, D: Round> {
     d: Ended<G, D>,
 }
 
+// Closes a level in all four shards, by the tallies of all its pieces. The number is that of the pairs that they had before.
+fn close_all<G: Game, A: Round, B: Round, C: Round, D: Round>(
+    pieces: &Pieces<G>,
+    ends: Ends<G, A, B, C, D>,
+    counts: &mut Four<Expected<G>>,
+    tallies: &[Tally<G>],
+) -> Result<(Four<Shard<G>>, u64), SolveError>
+    requires a { (A.spot ≡ tile_at G.rules pieces.now.level.now.place pieces.now.width 0) × (A.notes ≡ pieces.now.level.now.notes) }
+    requires b { (B.spot ≡ tile_at G.rules pieces.now.level.now.place pieces.now.width 1) × (B.notes ≡ pieces.now.level.now.notes) }
+    requires c { (C.spot ≡ tile_at G.rules pieces.now.level.now.place pieces.now.width 2) × (C.notes ≡ pieces.now.level.now.notes) }
+    requires d { (D.spot ≡ tile_at G.rules pieces.now.level.now.place pieces.now.width 3) × (D.notes ≡ pieces.now.level.now.notes) }
+    requires counts { AreCountsAt G.rules pieces.now.level.now.place pieces.now.width counts.old }
+    requires tallies { AreAllTallies pieces.now.level.now pieces.now.notes pieces.now.width tallies.now }
+    requires near { pieces.now.level.now.place.level ≤ REMOTENESS }
+    ensures shards { IfOk result (λ done. AreShardsAt G.rules (next_place pieces.now.level.now.place) pieces.now.width done.0) }
+    ensures none { IfOk result (λ done. HaveNoneHere G.rules done.0) }
+    ensures counts { OnOk result (AreCountsAt G.rules (next_place pieces.now.level.now.place) pieces.now.width counts.new) }
+    ensures error { IfErr result (IsError G.rules pieces.now.level.now.place.tier) }
+{
+    let Pieces { level, lists, .. } = *pieces;
+    let Ends {
+        a: one,
+        b: two,
+        c: three,
+        d: four,
+    } = ends;
+    let (a, b, low) = close_two(
+        one,
+        two,
+        &mut counts.a,
+        &mut counts.b,
+        level,
+        lists,
+        tallies,
+    )?;
+    let (c, d, high) = close_two(
+        three,
+        four,
+        &mut counts.c,
+        &mut counts.d,
+        level,
+        lists,
+        tallies,
+    )?;
+    Ok((Four { a, b, c, d }, low.saturating_add(high)))
+}
+
 // Closes a level in all four shards. The number is that of the pairs that they had before.
 fn close_ends<G: Game, A: Round, B: Round, C: Round, D: Round>(
     alloc: Global,
@@ -214,39 +261,19 @@ fn close_ends<G: Game, A: Round, B: Round, C: Round, D: Round>(
     ensures counts { OnOk result (AreCountsAt G.rules (next_place pieces.now.level.now.place) pieces.now.width counts.new) }
     ensures error { IfErr result (IsError G.rules pieces.now.level.now.place.tier) }
 {
-    let Pieces { level, lists, .. } = *pieces;
     let numbers = Four {
         a: ends.a.number,
         b: ends.b.number,
         c: ends.c.number,
         d: ends.d.number,
     };
-    let tallies = tally_of(alloc, pieces, numbers)?;
-    let Ends {
-        a: one,
-        b: two,
-        c: three,
-        d: four,
-    } = ends;
-    let (a, b, low) = close_two(
-        one,
-        two,
-        &mut counts.a,
-        &mut counts.b,
-        level,
-        lists,
-        tallies.as_slice(),
-    )?;
-    let (c, d, high) = close_two(
-        three,
-        four,
-        &mut counts.c,
-        &mut counts.d,
-        level,
-        lists,
-        tallies.as_slice(),
-    )?;
-    Ok((Four { a, b, c, d }, low.saturating_add(high)))
+    match tally_of(alloc, pieces, numbers) {
+        Ok(tallies) => close_all(pieces, ends, counts, tallies.as_slice()),
+        Err(error) => {
+            drop(ends);
+            Err(SolveError::from(error))
+        }
+    }
 }
 
 // Serves and closes a level at desks of these names.

@@ -32,7 +32,7 @@ pub struct Report {
 
 /// Solves a tier: its true table, and what it took. Neither the table nor the number of deliveries depends on the plan, the gate or the source, or on the order in which threads take the locks.
 ///
-/// The tier is split into the plan's shards. At each level workers, each in a thread of its own, ask the source for pieces of the level and deliver their pairs to the
+/// The tier is split into the plan's shards. At each level workers, no more than pieces, the first in the calling thread and each other in one of its own, ask the source for pieces of the level and deliver their pairs to the
 /// shards' locks. After they have ended the coordinator delivers what is missing, which is `by_hand`. A worker that can't be started is done without.
 ///
 /// The tables of the child tiers are given, and the tier has at most `TIER_SIZE` indexes. `TooFar` comes only where a canonical legal position of the tier has a
@@ -131,7 +131,9 @@ fn solve_by<G: Game + Send + Sync, R: Threads + Wait + Sync, T: Gate, S: Source>
     let (tiles, last, by_workers) = finish_phases(
         rt, alloc, tables, way, plan, gate, source, tiles,
     )?;
-    let (table, deliveries) = tiles.table(alloc, tables, &last)?;
+    let solved = tiles.table(alloc, tables, &last);
+    drop(tiles);
+    let (table, deliveries) = solved?;
     let report = Report {
         deliveries,
         by_hand: deliveries.saturating_sub(by_workers),

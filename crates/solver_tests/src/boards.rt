@@ -1,5 +1,5 @@
 //! Boards by hand, and from two threads.
-use crate::desks::{Answers, Seen, cut_at, deliver_by_hand, watch};
+use crate::desks::{Answers, Seen, cut_at, deliver_by_hand, deliver_twice_by_hand, watch};
 use gm_game::game::Game;
 use gm_game::limits::TIER_SIZE;
 use gm_shard::status::{Delivery, Refused};
@@ -25,6 +25,21 @@ fn board_by_hand(rt: HostRuntime) -> Result<(), Fail> {
         delivered: (1, 0),
     };
     assert_eq!(rt; deliver_by_hand(&rt, shards, &note, 1), told);
+    Ok(())
+}
+
+#[test]
+fn board_by_hand_many_at_once(rt: HostRuntime) -> Result<(), Fail> {
+    let size = Ten::tier_size(0);
+    assert!(rt; 6 <= size && size <= TIER_SIZE);
+    let shards = cut_at::<Ten>(rt.alloc(), 0, 6)?;
+    let (lo, hi) = shards.a.range();
+    assert!(rt; lo == 0 && 0 < hi);
+    let note = shards.a.note(0).expect(&rt, "0 is lost");
+    assert_eq!(rt;
+        deliver_twice_by_hand(&rt, shards, &note, 1),
+        [(1, 1, 0), (0, 1, 0)]
+    );
     Ok(())
 }
 

@@ -4,11 +4,12 @@ ghost use Rattle.gm_table.specs.Tables.{AreHeld};
 
 use gm_game::game::Game;
 use gm_game::limits::TIER_SIZE;
+use gm_game::position::Solved;
 use gm_solver::alone::solve_alone;
 use gm_solver::error::SolveError;
-use gm_solver::gate::NoGate;
+use gm_solver::gate::{Gate, NoGate};
 use gm_solver::plan::Plan;
-use gm_solver::source::Counter;
+use gm_solver::source::{Counter, Source};
 use gm_solver::tier::{Report, solve_passes, solve_tier};
 use gm_table::table::Table;
 use gm_table::tables::Tables;
@@ -45,4 +46,92 @@ pub fn hold_same<G: Game + Send + Sync, R: Threads + Wait + Sync>(
         Ok(()) => Ok(same && pieces == wanted && passes == wanted),
         Err(_) => Err(SolveError::OutOfMemory),
     }
+}
+
+/// How workers share the pairs of a level: they take pieces of it, or one pass a shard.
+#[derive(Clone, Copy, Debug, PartialEq, Eq)]
+pub enum Way {
+    Pieces,
+    Passes,
+}
+
+/// Solves a tier by workers in one of the two ways.
+pub fn solve_by<G: Game + Send + Sync, R: Threads + Wait + Sync, T: Gate, S: Source>(
+    rt: &R,
+    alloc: Global,
+    tier: u64,
+    tables: &Tables<G>,
+    way: Way,
+    plan: Plan,
+    gate: &T,
+    source: &S,
+) -> Result<(Table<G>, Report), SolveError>
+    requires held { AreHeld G.rules tables.now tier }
+    requires small { G.rules.tier_size tier ≤ TIER_SIZE }
+{
+    match way {
+        Way::Pieces => solve_tier(rt, alloc, tier, tables, plan, gate, source),
+        Way::Passes => solve_passes(rt, alloc, tier, tables, plan, gate, source),
+    }
+}
+
+/// What solving a tier by workers showed: whether its records are those that one shard finds, the last of them, the number of deliveries, and how many of these the coordinator did.
+#[derive(Debug, Drop, PartialEq)]
+pub struct Shown {
+    pub same: bool,
+    pub last: Option<Solved>,
+    pub deliveries: u64,
+    pub by_hand: u64,
+}
+
+// Solves a tier by one shard and by workers.
+fn show<G: Game + Send + Sync, R: Threads + Wait + Sync, T: Gate, S: Source>(
+    rt: &R,
+    alloc: Global,
+    tables: &Tables<G>,
+    way: Way,
+    plan: Plan,
+    gate: &T,
+    source: &S,
+) -> Result<Shown, SolveError>
+    requires held { AreHeld G.rules tables.now 0 }
+    requires small { G.rules.tier_size 0 ≤ TIER_SIZE }
+{
+    let (alone, _deliveries) = solve_alone(alloc, 0, tables)?;
+    let (table, report) = solve_by(rt, alloc, 0, tables, way, plan, gate, source)?;
+    Ok(Shown {
+        same: are_same(&alone, &table),
+        last: table.at(table.size().saturating_sub(1)),
+        deliveries: report.deliveries,
+        by_hand: report.by_hand,
+    })
+}
+
+/// Tier 0 by so many workers, shards and notes of a piece: none where it has child tiers or is too large, or there is no such plan.
+pub fn show_first<G: Game + Send + Sync, R: Threads + Wait + Sync, T: Gate, S: Source>(
+    rt: &R,
+    alloc: Global,
+    way: Way,
+    (workers, shards, piece): (usize, usize, usize),
+    gate: &T,
+    source: &S,
+) -> Result<Option<Shown>, SolveError> {
+    let tables: Tables<G> = Tables::new(alloc);
+    let Some(plan) = Plan::new(workers, shards, piece) else {
+        return Ok(None);
+    };
+    if !tables.has_children(0) || G::tier_size(0) > TIER_SIZE {
+        return Ok(None);
+    }
+    Ok(Some(show(rt, alloc, &tables, way, plan, gate, source)?))
+}
+
+/// The records of one shard, of which the last is this one, by so many deliveries, of which so many by the coordinator.
+pub fn as_alone(last: Solved, deliveries: u64, by_hand: u64) -> Option<Shown> {
+    Some(Shown {
+        same: true,
+        last: Some(last),
+        deliveries,
+        by_hand,
+    })
 }

@@ -5,6 +5,7 @@ ghost use Rattle.gm_solver.specs.Spots.{spot_of, AreFourTiles};
 use gm_frontier::note::Note;
 use gm_game::game::Game;
 use gm_game::limits::TIER_SIZE;
+use gm_shard::place::place_of;
 use gm_shard::shard::Shard;
 use gm_shard::status::{Delivery, Refused};
 use gm_solver::board::{Board, Four, Shares};
@@ -104,6 +105,44 @@ pub fn deliver_by_hand<G: Game, R: Wait>(
 {
     let blanks = blanks_of(1);
     deliver_named::<G, Brand, Brand, Brand, Brand, R>(rt, blanks, shards, note, parent)
+}
+
+// On a board of these names: the same pair twice under the lock of shard 0, and then under that of shard 1.
+fn deliver_twice_named<G: Game, A: Desk, B: Desk, C: Desk, D: Desk, R: Wait>(
+    rt: &R,
+    blanks: Four<Blank>,
+    shards: Four<Shard<G>>,
+    note: &Note<G>,
+    parent: u64,
+) -> [(u64, u64, u64); 2]
+    requires names { (blanks.a.name ≡ A.name) × (blanks.b.name ≡ B.name) × (blanks.c.name ≡ C.name) × (blanks.d.name ≡ D.name) }
+    requires parts { (blanks.a.parts ≡ A.parts) × (blanks.b.parts ≡ B.parts) × (blanks.c.parts ≡ C.parts) × (blanks.d.parts ≡ D.parts) }
+    requires equal { (A.parts ≡ 1) × (B.parts ≡ 1) × (C.parts ≡ 1) × (D.parts ≡ 1) }
+    requires spots { (spot_of shards.a ≡ A.spot) × (spot_of shards.b ≡ B.spot) × (spot_of shards.c ≡ C.spot) × (spot_of shards.d ≡ D.spot) }
+    requires tiles { AreFourTiles G.rules A.spot B.spot C.spot D.spot }
+{
+    let place = place_of(note, shards.a.tier(), parent);
+    let first = Note::of(note.position(), note.solved());
+    let again = Note::of(note.position(), note.solved());
+    let pairs = [(first, parent, place), (again, parent, place)];
+    let (board, mut shares) = Board::<G, A, B, C, D>::around(1, blanks, shards);
+    let mine = board.deliver_all(rt, 0, &pairs, &mut shares);
+    let after = (mine, shares.amount(0), shares.amount(1));
+    let others = board.deliver_all(rt, 1, &pairs, &mut shares);
+    [after, (others, shares.amount(0), shares.amount(1))]
+}
+
+/// Delivers a note to a parent twice under one lock, to shard 0 and then to shard 1, on a board round these shards: how many were new, and the amounts of these shards.
+pub fn deliver_twice_by_hand<G: Game, R: Wait>(
+    rt: &R,
+    shards: Four<Shard<G>>,
+    note: &Note<G>,
+    parent: u64,
+) -> [(u64, u64, u64); 2]
+    requires { AreFourTiles G.rules (spot_of shards.a) (spot_of shards.b) (spot_of shards.c) (spot_of shards.d) }
+{
+    let blanks = blanks_of(1);
+    deliver_twice_named::<G, Brand, Brand, Brand, Brand, R>(rt, blanks, shards, note, parent)
 }
 
 /// What two threads found at one board: a counter that one of them read under the lock of shard 0, what shard 1 answered to the other meanwhile, and whether the first gave up waiting for it.

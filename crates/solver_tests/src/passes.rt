@@ -1,12 +1,11 @@
 //! Tiers solved with one pass a shard, whatever their source and gate do.
-use crate::crews::{are_same, hold_same};
+use crate::crews::{Way, as_alone, hold_same, show_first};
 use crate::pass_desks::{Told, pass_by_hand};
-use crate::sources::{Habit, Meeting, Odd, OwnPieces, SlowGate};
+use crate::sources::{Habit, Meeting, Odd, OwnPieces, SlowGate, Turnstile};
 use gm_game::game::Game;
 use gm_game::limits::TIER_SIZE;
 use gm_game::position::{Solved, Value};
 use gm_shard::status::Delivery;
-use gm_solver::alone::solve_alone;
 use gm_solver::gate::NoGate;
 use gm_solver::plan::Plan;
 use gm_solver::source::Counter;
@@ -19,29 +18,32 @@ use gm_toys::wheel::Wheel;
 use std::sync::atomic::Ordering;
 use std::test::Fail;
 
+type Ten = Countdown<10>;
+
+// The value of 10 in Countdown.
+const TOP: Solved = Solved {
+    value: Value::Win,
+    remoteness: 7,
+};
+
 #[test]
 fn every_pass_is_taken(rt: HostRuntime) -> Result<(), Fail> {
-    let tables: Tables<Countdown<10>> = Tables::new(rt.alloc());
     for (workers, shards) in [(1, 1), (2, 2), (16, 4)] {
-        let plan = Plan::new(workers, shards, 1).expect(&rt, "a plan");
-        let counter = Counter::new();
-        let (table, report) = solve_passes(&rt, rt.alloc(), 0, &tables, plan, &NoGate, &counter)?;
-        let top = Some(Solved {
-            value: Value::Win,
-            remoteness: 7,
-        });
-        assert_eq!(rt; table.at(10), top);
-        assert_eq!(rt; report.deliveries, 19);
-        assert_eq!(rt; report.by_hand, 0);
+        let found = show_first::<Ten, HostRuntime, NoGate, Counter>(
+            &rt,
+            rt.alloc(),
+            Way::Passes,
+            (workers, shards, 1),
+            &NoGate,
+            &Counter::new(),
+        )?;
+        assert_eq!(rt; found, as_alone(TOP, 19, 0));
     }
     Ok(())
 }
 
 #[test]
 fn sources_of_every_habit_by_passes(rt: HostRuntime) -> Result<(), Fail> {
-    let tables: Tables<Countdown<10>> = Tables::new(rt.alloc());
-    let plan = Plan::new(2, 2, 1).expect(&rt, "a plan");
-    let (alone, _deliveries) = solve_alone(rt.alloc(), 0, &tables)?;
     for (habit, by_hand) in [
         (Habit::Silent, 19),
         (Habit::Always(0), 10),
@@ -49,11 +51,15 @@ fn sources_of_every_habit_by_passes(rt: HostRuntime) -> Result<(), Fail> {
         (Habit::Odd, 9),
         (Habit::Always(usize::MAX), 19),
     ] {
-        let source = Odd::new(habit);
-        let (table, report) = solve_passes(&rt, rt.alloc(), 0, &tables, plan, &NoGate, &source)?;
-        assert!(rt; are_same(&alone, &table));
-        assert_eq!(rt; report.deliveries, 19);
-        assert_eq!(rt; report.by_hand, by_hand);
+        let found = show_first::<Ten, HostRuntime, NoGate, Odd>(
+            &rt,
+            rt.alloc(),
+            Way::Passes,
+            (2, 2, 1),
+            &NoGate,
+            &Odd::new(habit),
+        )?;
+        assert_eq!(rt; found, as_alone(TOP, 19, by_hand));
     }
     Ok(())
 }
@@ -80,35 +86,37 @@ fn desks_by_hand(rt: HostRuntime) -> Result<(), Fail> {
 
 #[test]
 fn two_workers_meet_with_passes(rt: HostRuntime) -> Result<(), Fail> {
-    let tables: Tables<Countdown<10>> = Tables::new(rt.alloc());
-    let plan = Plan::new(2, 2, 1).expect(&rt, "a plan");
     let meeting = Meeting::at(3);
-    let (_table, report) = solve_passes(
+    let found = show_first::<Ten, HostRuntime, Meeting, OwnPieces>(
         &rt,
         rt.alloc(),
-        0,
-        &tables,
-        plan,
+        Way::Passes,
+        (2, 2, 1),
         &meeting,
         &OwnPieces::new(),
     )?;
     assert_eq!(rt; *meeting.arrived.lock(&rt), [true; 2]);
     assert!(rt; !*meeting.gave_up.lock(&rt));
-    assert_eq!(rt; report.by_hand, 0);
+    assert_eq!(rt; found, as_alone(TOP, 19, 0));
     Ok(())
 }
 
 #[test]
 fn wheel_by_passes(rt: HostRuntime) -> Result<(), Fail> {
-    let tables: Tables<Wheel> = Tables::new(rt.alloc());
-    let plan = Plan::new(2, 2, 1).expect(&rt, "a plan");
-    let (alone, _deliveries) = solve_alone(rt.alloc(), 0, &tables)?;
     for (habit, by_hand) in [(Habit::Twice, 0), (Habit::Silent, 9)] {
-        let source = Odd::new(habit);
-        let (table, report) = solve_passes(&rt, rt.alloc(), 0, &tables, plan, &NoGate, &source)?;
-        assert!(rt; are_same(&alone, &table));
-        assert_eq!(rt; report.deliveries, 9);
-        assert_eq!(rt; report.by_hand, by_hand);
+        let found = show_first::<Wheel, HostRuntime, NoGate, Odd>(
+            &rt,
+            rt.alloc(),
+            Way::Passes,
+            (2, 2, 1),
+            &NoGate,
+            &Odd::new(habit),
+        )?;
+        let last = Solved {
+            value: Value::Win,
+            remoteness: 3,
+        };
+        assert_eq!(rt; found, as_alone(last, 9, by_hand));
     }
     Ok(())
 }
@@ -135,26 +143,49 @@ fn four_passes_at_each_level(rt: HostRuntime) -> Result<(), Fail> {
 
 #[test]
 fn slow_gate_by_passes(rt: HostRuntime) -> Result<(), Fail> {
-    let tables: Tables<Countdown<10>> = Tables::new(rt.alloc());
-    let plan = Plan::new(2, 2, 1).expect(&rt, "a plan");
-    let gate = SlowGate::new();
-    let (_table, report) = solve_passes(&rt, rt.alloc(), 0, &tables, plan, &gate, &Counter::new())?;
-    assert_eq!(rt; report.deliveries, 19);
-    assert_eq!(rt; report.by_hand, 0);
+    let found = show_first::<Ten, HostRuntime, SlowGate, Counter>(
+        &rt,
+        rt.alloc(),
+        Way::Passes,
+        (2, 2, 1),
+        &SlowGate::new(),
+        &Counter::new(),
+    )?;
+    assert_eq!(rt; found, as_alone(TOP, 19, 0));
+    Ok(())
+}
+
+#[test]
+fn gate_is_called_for_each_delivery_by_passes(rt: HostRuntime) -> Result<(), Fail> {
+    let gate = Turnstile::new();
+    let found = show_first::<Ten, HostRuntime, Turnstile, Counter>(
+        &rt,
+        rt.alloc(),
+        Way::Passes,
+        (2, 2, 1),
+        &gate,
+        &Counter::new(),
+    )?;
+    assert_eq!(rt; found, as_alone(TOP, 19, 0));
+    assert_eq!(rt; gate.before.load(Ordering::SeqCst), 19);
+    assert_eq!(rt; gate.after.load(Ordering::SeqCst), 19);
     Ok(())
 }
 
 #[test]
 fn a_long_chain_by_passes(rt: HostRuntime) -> Result<(), Fail> {
-    let plan = Plan::new(2, 2, 1).expect(&rt, "a plan");
-    let tables: Tables<Chain<4096>> = Tables::new(rt.alloc());
-    let counter = Counter::new();
-    let (table, report) = solve_passes(&rt, rt.alloc(), 0, &tables, plan, &NoGate, &counter)?;
-    let top = Some(Solved {
+    let found = show_first::<Chain<4096>, HostRuntime, NoGate, Counter>(
+        &rt,
+        rt.alloc(),
+        Way::Passes,
+        (2, 2, 1),
+        &NoGate,
+        &Counter::new(),
+    )?;
+    let top = Solved {
         value: Value::Lose,
         remoteness: 4096,
-    });
-    assert_eq!(rt; table.at(4096), top);
-    assert_eq!(rt; report.deliveries, 4096);
+    };
+    assert_eq!(rt; found, as_alone(top, 4096, 0));
     Ok(())
 }

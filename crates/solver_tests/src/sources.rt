@@ -166,3 +166,29 @@ impl Gate for SlowGate {
 
     fn after<R: Wait>(&self, _rt: &R, _worker: usize, _place: Place) {}
 }
+
+/// Counts the calls before and after deliveries.
+#[derive(Debug, Drop)]
+pub struct Turnstile {
+    pub before: AtomicUsize,
+    pub after: AtomicUsize,
+}
+
+impl Turnstile {
+    pub fn new() -> Self {
+        Turnstile {
+            before: AtomicUsize::new(0),
+            after: AtomicUsize::new(0),
+        }
+    }
+}
+
+impl Gate for Turnstile {
+    fn before<R: Wait>(&self, _rt: &R, _worker: usize, _place: Place) {
+        self.before.fetch_add(1, Ordering::SeqCst);
+    }
+
+    fn after<R: Wait>(&self, _rt: &R, _worker: usize, _place: Place) {
+        self.after.fetch_add(1, Ordering::SeqCst);
+    }
+}

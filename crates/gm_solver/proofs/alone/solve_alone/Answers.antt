@@ -1,14 +1,18 @@
-use Rattle.std.proofs.Common.{◌≡◌, ap, ◌∙◌}
+use Rattle.std.proofs.Common.{◌≡◌, List, Option, sym, ap, subst, ◌∙◌}
+use Rattle.gm_game.specs.declared.position.Solved.{Solved}
+use Rattle.gm_game.specs.declared.limits.TheConstants.{REMOTENESS}
+use Rattle.gm_game.specs.Records.{IsTrueTable}
 use Rattle.gm_game.specs.declared.position.Phase.TheVariants.{Ties}
 use Rattle.gm_shard.specs.State.{ShardState}
 use Rattle.gm_solver.proofs.Final.{final_table, final_deliveries, not_too_far}
 use Rattle.gm_solver.proofs.alone.solve_alone.Goals as goal
 
-pub from_true-table-requires-clause-is_true : goal.from_true-table-requires-clause-is_true
-from_true-table-requires-clause-is_true g c =
+pub from_true-requires-clause-is_true : goal.from_true-requires-clause-is_true
+from_true-requires-clause-is_true g c =
     let t = c.finish_phase-2.new.shard in
     let tier : t.tier ≡ c.args.tier = c.in_ok-last-2.ensures.later.tier ∙ ap (λ (s : ShardState). s.tier) c.next_phase.ensures ∙ c.in_ok-last.ensures.later.tier ∙ c.in_ok-shard.ensures.tier in
-    final_table g.G.Game.rules c.args.tier t c.finish_phase-2.new.expected c.in_ok-last-2.ensures.over tier c.new-records.result.items c.finish.new.records.items c.new-records.ensures.items c.in_ok-finish.ensures.ok
+    subst (λ (records : List (Option Solved)). IsTrueTable g.G.Game.rules REMOTENESS c.args.tier records) (sym c.as_slice.ensures.value)
+    (final_table g.G.Game.rules c.args.tier t c.finish_phase-2.new.expected c.in_ok-last-2.ensures.over tier c.new-records.result.items c.finish.new.records.items c.new-records.ensures.items c.in_ok-finish.ensures.ok)
 
 pub returns-clause-deliveries : goal.returns-clause-deliveries
 returns-clause-deliveries g c =

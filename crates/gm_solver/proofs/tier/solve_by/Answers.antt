@@ -5,8 +5,8 @@ use Rattle.gm_table.specs.Tables.{AreHeld}
 use Rattle.gm_solver.specs.Solving.{IsTooFar}
 use Rattle.gm_solver.proofs.tier.solve_by.Goals as goal
 
-pub table-requires-clause-held : goal.table-requires-clause-held
-table-requires-clause-held g c =
+pub table-solved-requires-clause-held : goal.table-solved-requires-clause-held
+table-solved-requires-clause-held g c =
     let tier : c.in_ok-tiles-2.tiles.shards.a.tier ≡ c.args.tier = c.in_ok-tiles-2.ensures.tier ∙ ap (λ (p : Place). p.tier) c.in_ok-tiles.ensures.place in
     subst (AreHeld g.G.Game.rules c.args.tables.now) (sym tier) c.requires.held
 
