@@ -3,5 +3,5 @@ use Rattle.gm_build.proofs.inspect.inspect_text.Goals as goal
 
 pub returns : goal.returns
 returns g c =
-    let wrong = (c.check.ensures.wrong_record c.in-Err-WrongRecord.index).0 (search rules) in
+    let wrong = (c.check_by.ensures.wrong_record c.in-Err-WrongRecord.index).0 (search rules) in
     record { exact = ((c.as_slice.result.now, search rules, wrong), search rules, search rules) }
