@@ -1,45 +1,16 @@
 -- The texts of Dao fit a line, and tell positions and moves apart.
-use Rattle.std.proofs.Common.{◌≡◌, ℕ, ◌+◌, ◌/◌, ◌%◌, List, [], ◌∷◌, ◌++◌, map, length, refl, ap₂, arith}
-use Rattle.std.proofs.lemmas.List.{length-map}
+use Rattle.std.proofs.Common.{◌≡◌, ℕ, ◌+◌, ◌/◌, ◌%◌, ◌∷◌, ◌++◌, length, refl, arith}
 use Rattle.gm_game.specs.Shown.{IsShown}
-use Rattle.gm_board.specs.declared.cell.Cell.{Cell}
-use Rattle.gm_board.specs.declared.cell.Cell.TheVariants.{Empty, Mine, Theirs}
 use Rattle.gm_board.specs.Squares.{cell_text}
 use Rattle.gm_steps.specs.Steps.{from_point, to_point, same_step}
+use Rattle.gm_sides.specs.SideTexts.{board_text}
+use Rattle.gm_sides.specs.SideTextFacts.{text_length, text_once}
 use Rattle.gm_pieces.specs.MoveTexts.{AreTexts}
 use Rattle.gm_pieces.specs.TextFacts.{texts_are_shown}
 use Rattle.gm_dao.specs.DaoRules.{dao, dao_rules}
 use Rattle.gm_dao.specs.BoardFacts.{legal_in}
 use Rattle.gm_dao.specs.DaoLaws.{numbered}
-use Rattle.gm_dao.specs.Texts.{cell_char, board_text, step_text, position_text, move_text}
-
--- ---- boards
--- one byte a cell
-pub text_length : (b : List Cell) → length (board_text b) ≡ length b
-unfolding board_text
-text_length b = length-map b cell_char
-
-same_cell : (a b : Cell) → cell_char a ≡ cell_char b → a ≡ b
-same_cell Empty Empty e = refl
-same_cell Empty Mine e = absurd (omega arith)
-same_cell Empty Theirs e = absurd (omega arith)
-same_cell Mine Empty e = absurd (omega arith)
-same_cell Mine Mine e = refl
-same_cell Mine Theirs e = absurd (omega arith)
-same_cell Theirs Empty e = absurd (omega arith)
-same_cell Theirs Mine e = absurd (omega arith)
-same_cell Theirs Theirs e = refl
-
--- boards with one text are one
-pub text_once : (a b : List Cell) → board_text a ≡ board_text b → a ≡ b
-unfolding board_text
-text_once [] [] e = refl
-text_once [] (y ∷ b) e = absurd (let z : ⊥ = cc in z)
-text_once (x ∷ a) [] e = absurd (let z : ⊥ = cc in z)
-text_once (x ∷ a) (y ∷ b) e =
-    let head : cell_char x ≡ cell_char y = cc in
-    let tail : map cell_char a ≡ map cell_char b = cc in
-    ap₂ (λ (c : Cell) (cs : List Cell). c ∷ cs) (same_cell x y head) (text_once a b tail)
+use Rattle.gm_dao.specs.Texts.{step_text, position_text, move_text}
 
 -- ---- moves
 point_once : (j k : ℕ) → 97 + j / 4 ≡ 97 + k / 4 → 49 + j % 4 ≡ 49 + k % 4 → j ≡ k

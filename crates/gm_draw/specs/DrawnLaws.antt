@@ -11,6 +11,7 @@ use Rattle.gm_game.specs.Shown.{IsShown}
 use Rattle.gm_game.proofs.BoardLaws.{legal_board}
 use Rattle.gm_board.specs.Lists.{contains_range}
 use Rattle.gm_board.specs.Permutations.{all_at}
+use Rattle.gm_sides.specs.SideTextFacts.{text_length}
 use Rattle.gm_pieces.specs.MoveGames.{board_game}
 use Rattle.gm_morris.specs.declared.variant.Variant.{Variant}
 use Rattle.gm_morris.specs.declared.variant.Variant.TheVariants.{TicTacToe, ThreeMens, Achi}
@@ -18,11 +19,11 @@ use Rattle.gm_morris.specs.Points.{variant_of}
 use Rattle.gm_morris.specs.Morris.{board_at, morris, morris_rules}
 use Rattle.gm_morris.specs.BoardFacts.{legal_in as legal_nine}
 use Rattle.gm_morris.specs.Texts.{position_text as nine_text}
-use Rattle.gm_morris.specs.TextLaws.{text_length as nine_length, texts_readable as nine_readable}
+use Rattle.gm_morris.specs.TextLaws.{texts_readable as nine_readable}
 use Rattle.gm_dao.specs.DaoRules.{board_at as dao_at, dao, dao_rules}
 use Rattle.gm_dao.specs.BoardFacts.{legal_in as legal_dao}
 use Rattle.gm_dao.specs.Texts.{position_text as dao_text}
-use Rattle.gm_dao.specs.TextLaws.{text_length as dao_length, texts_readable as dao_readable}
+use Rattle.gm_dao.specs.TextLaws.{texts_readable as dao_readable}
 use Rattle.gm_tactix.specs.Board.{side_of, counters_at, tactix_rules}
 use Rattle.gm_tactix.specs.SegmentFacts.{for_sides}
 use Rattle.gm_tactix.specs.TactixLaws.{board_length, side_low, side_high}
@@ -141,13 +142,13 @@ pub nine_drawn : (n : ℕ) → IsDrawn (morris_rules n) (λ p. filled (nine_poin
 nine_drawn n =
     let v = variant_of n in
     drawn_by (morris_rules n) nine_text _ x_moves (nine_points v) 9 (nine_readable n)
-    (λ p l. (let a = nine_length (board_at p.tier p.index) in let b = (legal_nine v (board_at p.tier p.index) (legal_board (board_game (morris v)) p l)).cells in a ∙ b))
+    (λ p l. (let a = text_length (board_at p.tier p.index) in let b = (legal_nine v (board_at p.tier p.index) (legal_board (board_game (morris v)) p l)).cells in a ∙ b))
     (nine_template v)
 
 pub dao_drawn : IsDrawn dao_rules (λ p. filled dao_board (dao_text p)) x_moves
 dao_drawn =
     drawn_by dao_rules dao_text _ x_moves dao_board 16 dao_readable
-    (λ p l. (let a = dao_length (dao_at p.index) in let b = (legal_dao (dao_at p.index) (legal_board (board_game dao) p l)).cells in a ∙ b))
+    (λ p l. (let a = text_length (dao_at p.index) in let b = (legal_dao (dao_at p.index) (legal_board (board_game dao) p l)).cells in a ∙ b))
     dao_template
 
 pub tactix_drawn : (n : ℕ) (misere : Bool) → IsDrawn (tactix_rules n misere) (λ p. filled (tactix_board (side_of n)) (tactix_text n p)) player_moves

@@ -1,22 +1,11 @@
 -- The texts of boards and of moves of the games of nine points.
-use Rattle.std.specs.Prelude.{ℕ, ◌==◌, List, ◌∷◌, ◌++◌, map, if◌then◌else◌}
+use Rattle.std.specs.Prelude.{ℕ, ◌==◌, List, ◌∷◌, ◌++◌, if◌then◌else◌}
 use Rattle.gm_game.specs.declared.position.Position.{Position}
-use Rattle.gm_board.specs.declared.cell.Cell.{Cell}
-use Rattle.gm_board.specs.declared.cell.Cell.TheVariants.{Empty, Mine, Theirs}
 use Rattle.gm_board.specs.Squares.{cell_text}
+use Rattle.gm_sides.specs.SideTexts.{board_text}
 use Rattle.gm_morris.specs.declared.variant.Variant.{Variant}
 use Rattle.gm_morris.specs.Points.{variant_of, last_tier}
 use Rattle.gm_morris.specs.Morris.{from_point, to_point, board_at}
-
--- `x` for the mover's piece, `o` for the opponent's, `.` for an empty cell
-abbrev pub cell_char : Cell → ℕ
-cell_char Empty = 46
-cell_char Mine = 120
-cell_char Theirs = 111
-
--- the cells in order
-unfoldable pub board_text : List Cell → List ℕ
-board_text b = map cell_char b
 
 -- in the last tier the point that a piece leaves, `-` and the one to which it goes; in any other the point on which it is placed
 unfoldable pub step_text : Variant → ℕ → ℕ → List ℕ

@@ -1,0 +1,6 @@
+use Rattle.std.proofs.Common.{◌<◌, ◌^◌}
+use Rattle.gm_sides.proofs.TextSteps.{IsRead}
+use Rattle.gm_sides.proofs.text.marks.Given as goal
+
+abbrev pub invariant-loop-cell : goal.invariant-loop-cell
+invariant-loop-cell l = record { within : l.marks < 2 ^ l.cells; read : IsRead l.text l.byte l.cell l.marks }

@@ -1,0 +1,4 @@
+//! The texts of boards on which two sides have pieces.
+#![tactic(auto)]
+
+pub mod text;
