@@ -14,9 +14,9 @@ use gm_tiers::order::TierOrder;
 use std::alloc::{AllocError, Global};
 use std::fmt;
 use std::fs::Files;
-use std::thread::Threads;
 use std::io::Write;
 use std::string::String;
+use std::thread::Threads;
 
 // A tier with what its file is found to be: none where a child tier isn't right, so that the file isn't read.
 #[derive(Drop)]
@@ -66,11 +66,7 @@ pub fn check<R: Threads + Files + Sync + AllocGlobal, O: Write>(
     with_game!(name, check_game::<R, O>(rt, folder, output))
 }
 
-fn check_game<
-    G: Game + Send + Sync,
-    R: Threads + Files + Sync + AllocGlobal,
-    O: Write,
->(
+fn check_game<G: Game + Send + Sync, R: Threads + Files + Sync + AllocGlobal, O: Write>(
     rt: &R,
     folder: &str,
     output: &mut O,

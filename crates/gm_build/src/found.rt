@@ -75,7 +75,9 @@ fn text_kind<G: Game + Send + Sync, R: Threads + Sync>(
 {
     match inspect_text(rt, alloc, tier, bytes, tables)? {
         Inspected::Right(table) => Ok(Found::Current(table)),
-        Inspected::NoFile(FileError::OldVersion) => match old_table(rt, alloc, tier, bytes, tables)? {
+        Inspected::NoFile(FileError::OldVersion) => match old_table(
+            rt, alloc, tier, bytes, tables,
+        )? {
             Some(table) => Ok(Found::Old(table)),
             None => Ok(Found::Nothing),
         },

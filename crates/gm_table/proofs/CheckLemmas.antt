@@ -49,7 +49,7 @@ module _ (r : Rules) (entries : List TableData) (tier : ℕ) (records : List (Op
 
   -- one record more fits
   pub fit_more : (lo i : ℕ) → FitBetween r entries tier records lo i → FitsAt r entries tier records i → FitBetween r entries tier records lo (i + 1)
-  fit_more lo i h f k l u = elim (cases_eq k i) [ | inl e ↦ subst (FitsAt r entries tier records) (sym e) f | inr o ↦ h k l (omega arith) ]
+  fit_more lo i h f k l u = elim (cases_eq k i) [ inl e ↦ subst (FitsAt r entries tier records) (sym e) f | inr o ↦ h k l (omega arith) ]
 
   -- all of the records
   pub first_of_all : (first : Option ℕ) → IsFirstWrongIn r entries tier records 0 (length records) first → MatchOption first ((i : ℕ) → FitsAt r entries tier records i) (IsFirstWrong r entries tier records)

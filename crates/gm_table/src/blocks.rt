@@ -124,5 +124,9 @@ pub(crate) fn first_wrong_by<G: Game + Send + Sync, R: Threads + Sync>(
         tables,
     };
     let first = given.first_of_all(rt)?;
-    if first < records.len() as u64 { Some(first) } else { None }
+    if first < records.len() as u64 {
+        Some(first)
+    } else {
+        None
+    }
 }

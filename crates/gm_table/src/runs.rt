@@ -44,11 +44,7 @@ impl Runs {
 }
 
 // The indexes of the records of one phase: a list for each level up to the greatest.
-fn lay_out(
-    alloc: Global,
-    records: &Packed,
-    phase: Phase,
-) -> Result<Vec<Vec<u32>>, AllocError>
+fn lay_out(alloc: Global, records: &Packed, phase: Phase) -> Result<Vec<Vec<u32>>, AllocError>
     requires { length records.now ≤ TIER_SIZE }
     ensures { IfOk result (λ runs. (n : ℕ) → run_at runs n ≡ indexes_at phase n records.now) }
 {
