@@ -1,13 +1,16 @@
 //! Solves the lower tiers of Tac Tix on 5 by 5 by one thread, or Dao by one thread or by workers (with pieces, or with passes), and prints the positions and deliveries, with the milliseconds on standard error.
+//! Or times the calls of boards.
 //! docs/BENCHMARKS.md has the figures.
 #![tactic(auto)]
 
 ghost use Rattle.std.specs.Prelude.{◌≤◌};
 
+mod boards;
 mod dao;
 mod solve;
 mod versions;
 
+use crate::boards::time_boards;
 use crate::dao::{Crew, solve_dao};
 use crate::solve::solve_tiers;
 use std::process::ExitCode;
@@ -32,10 +35,10 @@ fn greatest(words: &[String]) -> u64
     }
 }
 
-// Whether Dao is to be solved: the first word after the program's name.
-fn is_dao(words: &[String]) -> bool {
+// Whether this is the first word after the program's name.
+fn is_first(words: &[String], first: &str) -> bool {
     match words.get(1) {
-        Some(word) => word.as_str() == "dao",
+        Some(word) => word.as_str() == first,
         None => false,
     }
 }
@@ -70,7 +73,11 @@ fn main(rt: HostRuntime) -> io::Result<ExitCode> {
     for word in env::args(&rt)? {
         words.push(word)?;
     }
-    let solved = if is_dao(words.as_slice()) {
+    if is_first(words.as_slice(), "boards") {
+        time_boards(&rt)?;
+        return Ok(ExitCode::SUCCESS);
+    }
+    let solved = if is_first(words.as_slice(), "dao") {
         solve_dao(&rt, crew(words.as_slice()))?
     } else {
         solve_tiers(&rt, greatest(words.as_slice()))?

@@ -4,14 +4,14 @@ use crate::said::say;
 use gm_frontier::expected::Expected;
 use gm_frontier::level::Level;
 use gm_game::game::Game;
-use gm_game::position::Solved;
 use gm_shard::shard::Shard;
+use gm_table::packed::Packed;
 use gm_table::tables::Tables;
 use gm_tactix::tactix::TacTix;
+use gm_testing::by_hand::{add_fresh, begin_whole, last_of, starts_of, turn};
 use gm_tiers::order::TierOrder;
 use gm_tiers::tier_error::TierError;
 use gm_toys::countdown::Countdown;
-use layer_tests::by_hand::{add_fresh, begin_whole, last_of, starts_of, turn};
 use std::io;
 
 type Ten = Countdown<10>;
@@ -79,7 +79,7 @@ pub fn tally<R: Print + AllocGlobal>(rt: &R) -> io::Result<()> {
     say(rt, "again", again.ok().map(|tally| tally.count(0)))
 }
 
-/// `Shard::finish` of Countdown from 0, into a vector that has a record already.
+/// `Shard::finish` of Countdown from 0, into records of which there is one already.
 pub fn finish<R: Print + AllocGlobal>(rt: &R) -> io::Result<()> {
     let alloc = rt.alloc();
     let tables: Tables<Countdown<0>> = Tables::new(alloc);
@@ -92,7 +92,8 @@ pub fn finish<R: Print + AllocGlobal>(rt: &R) -> io::Result<()> {
     let Some(last) = last_of(alloc, &shard, &tables)? else {
         return say(rt, "answer", Some("no end"));
     };
-    let mut records: Vec<Option<Solved>> = vec![in alloc; None]?;
+    let mut records = Packed::with_capacity(alloc, 1)?;
+    records.push(None)?;
     say(rt, "before", Some(records.len()))?;
     let first = marked!(alloc, shard.finish(&last, &mut records));
     say(rt, "answer", first.ok().map(|()| "one record more"))?;

@@ -1,49 +1,8 @@
 //! The program: it lists games, solves them, answers positions, counts, checks folders, and plays. Its lines are in docs/PROGRAM.md.
 #![tactic(auto)]
 
-#[cfg(test)]
-mod agreement;
-mod analyse;
-mod asked;
-mod check;
-mod commands;
-mod explore;
-mod explore_commands;
-#[cfg(test)]
-mod explores;
-mod fault;
-#[cfg(test)]
-mod folders;
-mod games;
-#[cfg(test)]
-mod guarded;
-#[cfg(test)]
-mod jsons;
-#[cfg(test)]
-mod lines;
-#[cfg(test)]
-mod outcome;
-mod pages;
-mod play;
-#[cfg(test)]
-mod plays;
-mod progress;
-#[cfg(test)]
-mod progresses;
-mod query;
-mod run;
-mod search;
-mod search_commands;
-#[cfg(test)]
-mod searches;
-#[cfg(test)]
-mod shows;
-mod solve;
-mod tables;
-mod whole_line;
-
-use crate::fault::Fault;
-use crate::run::{BAD_LINE, bad_line, explain, refused, run_words};
+use gm_program::fault::Fault;
+use gm_program::run::{BAD_LINE, bad_line, explain, refused, run_words};
 use std::alloc::AllocError;
 use std::env::{self, Args};
 use std::fs::Files;

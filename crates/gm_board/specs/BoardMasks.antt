@@ -1,8 +1,8 @@
 -- Boards of cells against the masks of their pieces: one cell changed, the sides exchanged, patterns filled.
-use Rattle.std.proofs.Common.{◌≡◌, ◌≢◌, ℕ, ◌^◌, ◌<◌, min, max, Bool, true, false, eqb, eqb-true, List, [], ◌∷◌, map, get_or, set, refl, sym, ap, ap₂, ◌∙◌, subst, arith, ◌⊎◌, inl, inr, length-set, get_or-set_same, get_or-set_other}
+use Rattle.std.proofs.Common.{◌≡◌, ◌≢◌, ℕ, ◌^◌, ◌<◌, min, max, Bool, true, false, ◌||◌, eqb, eqb-true, eq-eqb, List, [], ◌∷◌, map, get_or, set, refl, sym, ap, ap₂, ◌∙◌, subst, arith, ◌⊎◌, inl, inr, length-set, get_or-set_same, get_or-set_other}
 use Rattle.std.specs.Prelude.{bit_and, bit_or, ◌↔◌}
 use Rattle.std.specs.Int.{bit_at}
-use Rattle.std.specs.List.{Contains, list_all}
+use Rattle.std.specs.List.{Contains, list_all, list_any}
 use Rattle.std.proofs.lemmas.Bool.{cases_eq}
 use Rattle.std.proofs.lemmas.List.{ext_get_or, get_or-map, length-map}
 use Rattle.std.proofs.lemmas.Nat.Bits.{bit_at-lt, bit_at-zero, bit_at_and, bit_at_or, bit_at-pow_same, bit_at-pow_other, same_from_bits}
@@ -11,6 +11,7 @@ use Rattle.gm_board.specs.declared.cell.Cell.TheVariants.{Empty, Mine, Theirs}
 use Rattle.gm_board.specs.Lists.{contains_head, contains_later, contains_cases, and_both}
 use Rattle.gm_board.specs.Masks.{has_cell}
 use Rattle.gm_board.specs.Pieces.{cell_by, AreApart}
+use Rattle.gm_board.specs.Patterns.{same_tests}
 use Rattle.gm_board.specs.Permutations.{all_at}
 use Rattle.gm_board.specs.Images.{board_of, board_length, board_get}
 
@@ -110,3 +111,19 @@ pattern_filled m l = (
             let z : min (bit_at m i) (bit_at (pattern_mask l) i) ≡ bit_at (pattern_mask l) i = omega (arith, e, w) in z)
       ])),
 )
+
+-- by the test of the code
+same_pattern : (m : ℕ) (l : List ℕ) → eqb (bit_and m (pattern_mask l)) (pattern_mask l) ≡ list_all (has_cell m) l
+same_pattern m l = let h = pattern_filled m l in same_tests _ _ (λ e. h.0 (eqb-true _ _ e)) (λ e. eq-eqb _ _ (h.1 e))
+
+-- the same of a mask that is that of a pattern
+pub filled_by : (m w : ℕ) (l : List ℕ) → pattern_mask l ≡ w → eqb (bit_and m w) w ≡ list_all (has_cell m) l
+filled_by m w l e = subst (λ (v : ℕ). eqb (bit_and m v) v ≡ list_all (has_cell m) l) e (same_pattern m l)
+
+any_mask : (m : ℕ) (ls : List (List ℕ)) → list_any (λ mask. eqb (bit_and m mask) mask) (map pattern_mask ls) ≡ list_any (λ line. list_all (has_cell m) line) ls
+any_mask m [] = refl
+any_mask m (l ∷ ls) = ap₂ (λ (x y : Bool). x || y) (same_pattern m l) (any_mask m ls)
+
+-- some mask is filled where some pattern is
+pub some_filled : (m : ℕ) (ws : List ℕ) (ls : List (List ℕ)) → map pattern_mask ls ≡ ws → list_any (λ mask. eqb (bit_and m mask) mask) ws ≡ list_any (λ line. list_all (has_cell m) line) ls
+some_filled m ws ls e = subst (λ (vs : List ℕ). list_any (λ mask. eqb (bit_and m mask) mask) vs ≡ list_any (λ line. list_all (has_cell m) line) ls) e (any_mask m ls)

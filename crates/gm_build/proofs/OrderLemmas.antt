@@ -6,14 +6,14 @@ use Rattle.std.proofs.lemmas.Option.{slice_get-get_or}
 use Rattle.std.proofs.lemmas.Grind.{get_or_default_zero}
 use Rattle.gm_game.specs.Rules.{Rules}
 use Rattle.gm_table.specs.Tables.{TableData, AreHeld}
-use Rattle.gm_tiers.specs.Orders.{IsBefore, IsTierOrder, ComeChildrenFirst}
+use Rattle.gm_tiers.specs.Orders.{IsBefore, IsOrderFrom, ComeChildrenFirst}
 use Rattle.gm_tierdb.specs.StoreTexts.{Texts, AreSameBut}
 use Rattle.gm_build.specs.TrueTexts.{HaveTexts, KeepsOthers}
 use Rattle.gm_build.specs.Work.{HoldsExactly}
 use Rattle.gm_build.specs.Outcomes.{MayHaveText, StopsAt}
 use Rattle.gm_build.proofs.StoreLemmas.{texts_kept, others_more}
 
-module _ (r : Rules) (tiers : List ℕ) (order : IsTierOrder r tiers) (k : ℕ) (inside : k < length tiers) where
+module _ (r : Rules) (first : ℕ) (tiers : List ℕ) (order : IsOrderFrom r first tiers) (k : ℕ) (inside : k < length tiers) where
   -- the tier is none of those before it
   pub fresh_tier : Contains (take k tiers) (get_or tiers k 0) → ⊥
   fresh_tier (j, low, e) =
@@ -30,11 +30,11 @@ module _ (r : Rules) (tiers : List ℕ) (order : IsTierOrder r tiers) (k : ℕ) 
 
   -- its child tiers are held, where those before it are
   pub children_held : (entries : List TableData) → HoldsExactly entries (take k tiers) → ComeChildrenFirst r tiers → AreHeld r entries (get_or tiers k 0)
-  children_held entries exact first child c = (exact child).1 (first k (get_or tiers k 0) child tier_there c)
+  children_held entries exact before child c = (exact child).1 (before k (get_or tiers k 0) child tier_there c)
 
   -- what the store has where the build stops there
   pub stops_here : (start old new : Texts) → HaveTexts r old (take k tiers) → KeepsOthers (take k tiers) start old → AreSameBut (get_or tiers k 0) old new → MayHaveText r old new (get_or tiers k 0)
-      → StopsAt r start new (get_or tiers k 0)
+      → StopsAt r first start new (get_or tiers k 0)
   stops_here start old new have others same here =
       let t = get_or tiers k 0 in
       record {

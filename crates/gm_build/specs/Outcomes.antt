@@ -4,8 +4,8 @@ use Rattle.gm_game.specs.declared.limits.TheConstants.{TIERS}
 use Rattle.gm_game.specs.Rules.{Rules}
 use Rattle.gm_tiers.specs.declared.tier_error.TierError.{TierError}
 use Rattle.gm_tiers.specs.declared.tier_error.TierError.TheVariants.{OutOfMemory as NoRoom, TooManyTiers as TooMany, TierTooLarge as TooLarge}
-use Rattle.gm_tiers.specs.Reach.{IsReached}
-use Rattle.gm_tiers.specs.Orders.{IsTierOrder}
+use Rattle.gm_tiers.specs.Reach.{IsReachedFrom}
+use Rattle.gm_tiers.specs.Orders.{IsOrderFrom}
 use Rattle.gm_tiers.specs.Limits.{HasTooMany, AreMoreThan, IsTooLarge}
 use Rattle.gm_tierdb.specs.StoreTexts.{Texts, AreSame}
 use Rattle.gm_solver.specs.Solving.{IsTooFar}
@@ -44,22 +44,22 @@ IsReadError tier (StoreFailed t) = t ≡ tier
 IsReadError tier TooManyTiers = ⊥
 IsReadError tier (TierTooLarge t) = ⊥
 
--- a game is not built for this reason
-abbrev pub IsBuildError : Rules → BuildError → Type 0
-IsBuildError r OutOfMemory = Unit {0}
-IsBuildError r (TooFar tier) = IsReached r tier × IsTooFar r tier
-IsBuildError r (StoreFailed tier) = IsReached r tier
-IsBuildError r TooManyTiers = HasTooMany r × AreMoreThan r TIERS
-IsBuildError r (TierTooLarge tier) = IsTooLarge r tier × IsReached r tier
+-- the tiers that the first one reaches are not built for this reason
+abbrev pub IsBuildError : Rules → ℕ → BuildError → Type 0
+IsBuildError r first OutOfMemory = Unit {0}
+IsBuildError r first (TooFar tier) = IsReachedFrom r first tier × IsTooFar r tier
+IsBuildError r first (StoreFailed tier) = IsReachedFrom r first tier
+IsBuildError r first TooManyTiers = HasTooMany r first × AreMoreThan r first TIERS
+IsBuildError r first (TierTooLarge tier) = IsTooLarge r first tier × IsReachedFrom r first tier
 
 -- the tier's entry is as before, or the text of its true table
 abbrev pub MayHaveText : Rules → Texts → Texts → ℕ → Type 0
 MayHaveText r old new tier = (new tier ≡ old tier) ⊎ HasText r new tier
 
 -- a build stopped at this tier: those before it in the order have their texts, and no entry has changed after it
-pub record StopsAt (r : Rules) (old new : Texts) (tier : ℕ) : Type 0 where
+pub record StopsAt (r : Rules) (first : ℕ) (old new : Texts) (tier : ℕ) : Type 0 where
   pub tiers : List ℕ
-  pub order : IsTierOrder r tiers
+  pub order : IsOrderFrom r first tiers
   pub done : ℕ
   pub next : slice_get tiers done ≡ Some tier
   pub texts : HaveTexts r new (take done tiers)
@@ -67,12 +67,12 @@ pub record StopsAt (r : Rules) (old new : Texts) (tier : ℕ) : Type 0 where
   pub others : KeepsOthers (take (done + 1) tiers) old new
 
 -- what the store has after an error
-abbrev pub IsStopped : Rules → Texts → Texts → BuildError → Type 0
-IsStopped r old new OutOfMemory = AreSame old new ⊎ ((tier : ℕ) × StopsAt r old new tier)
-IsStopped r old new (TooFar tier) = StopsAt r old new tier
-IsStopped r old new (StoreFailed tier) = StopsAt r old new tier
-IsStopped r old new TooManyTiers = AreSame old new
-IsStopped r old new (TierTooLarge tier) = AreSame old new
+abbrev pub IsStopped : Rules → ℕ → Texts → Texts → BuildError → Type 0
+IsStopped r first old new OutOfMemory = AreSame old new ⊎ ((tier : ℕ) × StopsAt r first old new tier)
+IsStopped r first old new (TooFar tier) = StopsAt r first old new tier
+IsStopped r first old new (StoreFailed tier) = StopsAt r first old new tier
+IsStopped r first old new TooManyTiers = AreSame old new
+IsStopped r first old new (TierTooLarge tier) = AreSame old new
 
 -- the numbers of the errors
 abbrev pub number_of : BuildError → ℕ

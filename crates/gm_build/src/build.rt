@@ -1,7 +1,7 @@
 //! The build of a game.
 ghost use Rattle.std.specs.Prelude.{◌≡◌, ◌+◌, ◌<◌, IsTrue, IfOk, IfErr};
 ghost use Rattle.gm_table.specs.Tables.{AreTables};
-ghost use Rattle.gm_tiers.specs.Orders.{IsTierOrder};
+ghost use Rattle.gm_tiers.specs.Orders.{IsTierOrder, IsOrderFrom};
 ghost use Rattle.gm_build.specs.TrueTexts.{HasText, HasOldText, HaveTexts, KeepsOthers};
 ghost use Rattle.gm_build.specs.Work.{IsWorkOn, IsSomeWork, HoldsExactly};
 ghost use Rattle.gm_build.specs.Outcomes.{failures_in, IsBuildError, IsStopped};
@@ -26,7 +26,7 @@ use std::thread::Threads;
 pub struct Built<G: Game> {
     /// The true table of each tier of the order.
     pub tables: Tables<G>,
-    /// The tiers that the game reaches, child tiers first.
+    /// The tiers that are built, child tiers first.
     pub order: TierOrder<G>,
     /// How many of them were solved.
     pub solved: usize,
@@ -68,15 +68,17 @@ pub fn build<G: Game + Send + Sync, R: Threads + Wait + Files + Sync, S: Store, 
     ensures work { IsTrue S.KEEPS → IfOk result (λ built. IsWorkOn G.rules built.order (HasText G.rules (S.texts store.old)) (HasOldText G.rules (S.texts store.old)) built.solved built.reused built.migrated built.deliveries built.by_hand) }
 
     // Why it is not built, and what the store has then.
-    ensures error { IfErr result (IsBuildError G.rules) }
-    ensures stopped { IsTrue S.KEEPS → IfErr result (IsStopped G.rules (S.texts store.old) (S.texts store.new)) }
+    ensures error { IfErr result (IsBuildError G.rules G.rules.initial.tier) }
+    ensures stopped { IsTrue S.KEEPS → IfErr result (IsStopped G.rules G.rules.initial.tier (S.texts store.old) (S.texts store.new)) }
     ensures count { S.failed store.new ≡ S.failed store.old + failures_in result }
 {
-    build_watched(rt, alloc, store, plan, gate, source, &NoWatch)
+    let first = G::initial().tier;
+    build_from(rt, alloc, first, store, plan, gate, source, &NoWatch)
 }
 
-/// Builds a game as `build` does, which is watched: nothing depends on who watches.
-pub fn build_watched<
+/// Builds the tiers that one tier reaches, as `build` builds those that the initial one reaches: what a value in that tier rests on. No other entry of the store is read or
+/// written. The build is watched, and nothing depends on who watches.
+pub fn build_from<
     G: Game + Send + Sync,
     R: Threads + Wait + Files + Sync,
     S: Store,
@@ -86,6 +88,7 @@ pub fn build_watched<
 >(
     rt: &R,
     alloc: Global,
+    first: u64,
     store: &mut S,
     plan: Plan,
     gate: &T,
@@ -95,7 +98,7 @@ pub fn build_watched<
     requires { S.failed store.old < u64.MAX }
 
     // What is built: the tiers, their true tables, and what was done with them.
-    ensures order { IfOk result (λ built. IsTierOrder G.rules built.order) }
+    ensures order { IfOk result (λ built. IsOrderFrom G.rules first built.order) }
     ensures held { IfOk result (λ built. HoldsExactly built.tables built.order) }
     ensures tables { IfOk result (λ built. AreTables G.rules built.tables) }
     ensures some_work { IfOk result (λ built. IsSomeWork G.rules built.order built.solved built.reused built.migrated built.deliveries built.by_hand) }
@@ -106,11 +109,11 @@ pub fn build_watched<
     ensures work { IsTrue S.KEEPS → IfOk result (λ built. IsWorkOn G.rules built.order (HasText G.rules (S.texts store.old)) (HasOldText G.rules (S.texts store.old)) built.solved built.reused built.migrated built.deliveries built.by_hand) }
 
     // Why it is not built, and what the store has then.
-    ensures error { IfErr result (IsBuildError G.rules) }
-    ensures stopped { IsTrue S.KEEPS → IfErr result (IsStopped G.rules (S.texts store.old) (S.texts store.new)) }
+    ensures error { IfErr result (IsBuildError G.rules first) }
+    ensures stopped { IsTrue S.KEEPS → IfErr result (IsStopped G.rules first (S.texts store.old) (S.texts store.new)) }
     ensures count { S.failed store.new ≡ S.failed store.old + failures_in result }
 {
-    let order = TierOrder::from_initial(alloc)?;
+    let order = TierOrder::from_tier(alloc, first)?;
     watch.begin(rt, order.tiers().len());
     let mut tables = Tables::new(alloc);
     let mut solved = 0;
@@ -142,7 +145,7 @@ pub fn build_watched<
         }
     }
     // What is held is true.
-    let _held = tables.has(G::initial().tier);
+    let _held = tables.has(first);
     Ok(Built {
         tables,
         order,

@@ -1,7 +1,7 @@
 //! What a tier's entry in a store is found to be.
 ghost use Rattle.std.specs.Prelude.{◌≡◌, ◌+◌, ◌<◌, ◌≤◌, IsTrue, IfOk, IfErr, option_map};
 ghost use Rattle.gm_table.specs.Tables.{AreHeld};
-ghost use Rattle.gm_tierdb.specs.StoreTexts.{AreSame};
+ghost use Rattle.gm_tierdb.specs.StoreTexts.{Texts, AreSame};
 ghost use Rattle.gm_build.specs.Inspections.{IsInspected, IsInspectedIn};
 ghost use Rattle.gm_build.specs.Outcomes.{failures_in, IsTierError, IsReadError};
 
@@ -46,6 +46,8 @@ pub fn inspect_tier<G: Game + Send + Sync, R: Threads + Files + Sync, S: Store>(
     requires small { G.rules.tier_size tier ≤ TIER_SIZE }
     requires few { S.failed store.old < u64.MAX }
     ensures found { IsTrue S.KEEPS → IfOk result (IsInspectedIn G.rules tables.now (S.texts store.old) tier) }
+    // Over a store that does not keep its map it is so of what was read.
+    ensures told { IfOk result (λ i. (read : Texts) × IsInspectedIn G.rules tables.now read tier i) }
     ensures same { IsTrue S.KEEPS → AreSame (S.texts store.old) (S.texts store.new) }
     ensures error { IfErr result (IsTierError G.rules tier) }
     ensures count { S.failed store.new ≡ S.failed store.old + failures_in result }

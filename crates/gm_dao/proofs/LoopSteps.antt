@@ -1,6 +1,6 @@
 -- The steps of the loops over cells: what is skipped gives no move and no board.
-use Rattle.std.proofs.Common.{◌≡◌, ℕ, zero, suc, ◌+◌, ◌-◌, ◌*◌, ◌/◌, ◌%◌, ◌^◌, ◌<◌, ◌≤◌, Bool, true, false, ◌&&◌, eqb, eqb-true, eq-eqb, List, [], ◌∷◌, ◌++◌, length, map, None, Some, refl, sym, ap, ap₂, ◌∙◌, subst, arith, inl, inr, Option}
-use Rattle.std.specs.Prelude.{bit_and, bit_or, count_ones}
+use Rattle.std.proofs.Common.{◌≡◌, ℕ, zero, suc, ◌+◌, ◌-◌, ◌*◌, ◌/◌, ◌%◌, ◌^◌, ◌<◌, ◌≤◌, Bool, true, false, ◌&&◌, eqb, eq-eqb, List, [], ◌∷◌, ◌++◌, length, map, None, Some, refl, sym, ap, ap₂, ◌∙◌, subst, arith, inl, inr, Option}
+use Rattle.std.specs.Prelude.{bit_and, bit_or}
 use Rattle.std.proofs.Math.Nat.{mod-eq_of_lt}
 use Rattle.std.proofs.Math.Pow.{pow-lt, pow_mono}
 use Rattle.std.proofs.lemmas.Nat.{or_lt}
@@ -12,25 +12,20 @@ use Rattle.std.proofs.lemmas.Nat.Bits.{bit_at-zero, bit_at_above, bit_at_set_sam
 use Rattle.gm_game.specs.Ascending.{put, put_all}
 use Rattle.gm_game.proofs.PuttingSteps.{put_more_none, put_more_some}
 use Rattle.gm_board.specs.declared.cell.Cell.{Cell}
-use Rattle.gm_board.specs.Lists.{and_left, and_right, and_both}
 use Rattle.gm_board.specs.Masks.{has_cell, weight}
-use Rattle.gm_board.specs.Arrangements.{arrangement_index}
-use Rattle.gm_board.specs.Pieces.{cells_of, mine_mask, their_mask, mine_again, theirs_again}
-use Rattle.gm_board.specs.Patterns.{same_tests}
-use Rattle.gm_board.specs.Orbits.{IsLeastArrangement}
-use Rattle.gm_board.specs.declared.square.TheConstants.{SQUARE_4}
 use Rattle.gm_board.specs.NextCells.{rest_all, next_cell, cell_below, none_left}
 use Rattle.gm_board.specs.Images.{board_of}
 use Rattle.gm_steps.specs.Steps.{from_point, to_point, from_back, to_back}
 use Rattle.gm_steps.specs.Listed.{filter_in, filter_out}
 use Rattle.gm_pieces.specs.MoveGames.{steps, before_at}
 use Rattle.gm_pieces.specs.MoveLaws.{before_none, all_steps, step_listed}
-use Rattle.gm_dao.specs.DaoRules.{is_mine, is_theirs, is_empty, is_taken, cell_at, in_line, path, beyond, can_move, was_moved, board_index, least_index_of, dao}
+use Rattle.gm_sides.specs.Sides.{is_mine, is_theirs, is_empty, is_taken, cell_at}
+use Rattle.gm_dao.specs.DaoRules.{in_line, path, beyond, can_move, was_moved, least_index_of, dao}
 use Rattle.gm_dao.specs.MaskSlides.{slides_by_masks, AreMovesBelow, AreBeforesBelow}
-use Rattle.gm_dao.specs.MoveFacts.{move_slide, line_below}
-use Rattle.gm_dao.specs.BeforeFacts.{was_in}
-use Rattle.gm_dao.proofs.MaskFacts.{has_pieces, index_is, least_has_pieces, least_is}
-use Rattle.gm_dao.proofs.MoveSteps.{own_cells, their_cells, slides_by, move_by}
+use Rattle.gm_dao.specs.laws.MoveFacts.{move_slide, line_below}
+use Rattle.gm_dao.specs.laws.BeforeFacts.{was_in}
+use Rattle.gm_sides.proofs.MaskFacts.{own_cells, their_cells}
+use Rattle.gm_dao.proofs.MoveSteps.{slides_by, move_by}
 
 filter_skip : (p : ℕ → Bool) (n k : ℕ) → ((i : ℕ) → i < k → p (n + i) ≡ false) → filter p (range_with_len 0 (n + k)) ≡ filter p (range_with_len 0 n)
 filter_skip p n zero h = ap (λ (m : ℕ). filter p (range_with_len 0 m)) (let e : n + 0 ≡ n = omega arith in e)
@@ -51,7 +46,7 @@ puts_skip f h n (suc k) e =
 -- no move leaves a cell without a piece of the mover's
 no_move_from : (a b m : ℕ) → a < 2 ^ 16 → has_cell a (from_point m) ≡ false → can_move (board_of 16 a b) m ≡ false
 no_move_from a b m l e = elim (cases_Bool (can_move (board_of 16 a b) m)) [
-  | inl t ↦ absurd (true≢false (sym (own_cells a b (from_point m) l ∙ ap is_mine (move_slide (board_of 16 a b) m t).mine) ∙ e))
+  | inl t ↦ absurd (true≢false (sym (own_cells 16 a b l (from_point m) ∙ ap is_mine (move_slide (board_of 16 a b) m t).mine) ∙ e))
   | inr f ↦ f
 ]
 
@@ -77,7 +72,7 @@ pub goals_are : (a b free taken g from : ℕ) → a < 2 ^ 16 → from < 16 → h
     → ((k : ℕ) → k < 16 → has_cell free k ≡ is_empty (cell_at (board_of 16 a b) k)) → ((k : ℕ) → k < 16 → has_cell taken k ≡ is_taken (cell_at (board_of 16 a b) k))
     → ((k : ℕ) → k < 16 → has_cell g k ≡ slides_by_masks free taken from k) → AreGoals (board_of 16 a b) from g
 goals_are a b free taken g from l w own f t h k j =
-    move_by (board_of 16 a b) (16 * from + k) from k true (has_cell g k) (sym (from_back from k j)) (sym (to_back from k j)) (sym own ∙ own_cells a b from l)
+    move_by (board_of 16 a b) (16 * from + k) from k true (has_cell g k) (sym (from_back from k j)) (sym (to_back from k j)) (sym own ∙ own_cells 16 a b l from)
     (h k j ∙ slides_by (board_of 16 a b) free taken from k f t)
 
 -- goals that there are not, s of them
@@ -101,7 +96,7 @@ before_not t d m e = before_none dao t d m (λ w. absurd (true≢false (sym w �
 -- no move ends on a cell without a piece of the opponent's
 no_before_to : (t a b m : ℕ) → b < 2 ^ 16 → bit_and a b ≡ 0 → has_cell b (to_point m) ≡ false → before_at dao t (board_of 16 a b) m ≡ None
 no_before_to t a b m l q e = before_not t (board_of 16 a b) m (elim (cases_Bool (was_moved (board_of 16 a b) m)) [
-  | inl w ↦ absurd (true≢false (sym (their_cells a b (to_point m) l q ∙ ap is_theirs (was_in (board_of 16 a b) m w).there) ∙ e))
+  | inl w ↦ absurd (true≢false (sym (their_cells 16 a b l q (to_point m) ∙ ap is_theirs (was_in (board_of 16 a b) m w).step.there) ∙ e))
   | inr f ↦ f
 ])
 
@@ -122,7 +117,7 @@ pub befores_past : (t : ℕ) (d : List Cell) (from : ℕ) (is : List ℕ) → is
 befores_past t d from is e h =
     h
     ∙ sym (puts_skip least_index_of (before_at dao t d) (16 * from) 16 (λ i k. before_not t d (16 * from + i) (elim (cases_Bool (was_moved d (16 * from + i))) [
-      | inl w ↦ absurd (true≢false (sym (ap (λ (x : ℕ). is_empty (cell_at d x)) (sym (from_back from i k)) ∙ ap is_empty (was_in d (16 * from + i) w).left) ∙ e))
+      | inl w ↦ absurd (true≢false (sym (ap (λ (x : ℕ). is_empty (cell_at d x)) (sym (from_back from i k)) ∙ ap is_empty (was_in d (16 * from + i) w).step.left) ∙ e))
       | inr f ↦ f
     ])))
 
@@ -174,23 +169,6 @@ found_more free taken from n g v false l h e w =
       within = wider g n h.within;
       cells = one_more (λ (k : ℕ). has_cell g k ≡ slides_by_masks free taken from k) n h.cells (ap (λ (u : ℕ). eqb u 1) (bit_at_above g n n h.within (omega arith)) ∙ e);
     })
-
--- ---- the least image
-pub least_by : (a b x y : ℕ) → a < 2 ^ 16 → b < 2 ^ 16 → bit_and a b ≡ 0 → IsLeastArrangement 16 SQUARE_4 a b x y
-    → (eqb x a && eqb y b) ≡ eqb (least_index_of (board_of 16 a b)) (board_index (board_of 16 a b))
-least_by a b x y l k e h =
-    let m = count_ones a in
-    let t = count_ones b in
-    let p = has_pieces a b l k e in
-    let q = least_has_pieces a b x y l k e h in
-    let least = least_is a b x y l k h in
-    same_tests _ _
-    (λ z. eq-eqb _ _ (sym least ∙ ap₂ (λ (u v : ℕ). board_index (board_of 16 u v)) (eqb-true x a (and_left _ _ z)) (eqb-true y b (and_right _ _ z))))
-    (λ z. (
-    let i : arrangement_index (cells_of 16 x y) ≡ arrangement_index (cells_of 16 a b) = index_is x y ∙ least ∙ eqb-true _ _ z ∙ sym (index_is a b) in
-    and_both _ _
-    (eq-eqb _ _ (sym (mine_again 16 m t x y q) ∙ ap (mine_mask 16 m t) i ∙ mine_again 16 m t a b p))
-    (eq-eqb _ _ (sym (theirs_again 16 m t x y q) ∙ ap (their_mask 16 m t) i ∙ theirs_again 16 m t a b p))))
 
 -- ---- ends of loops
 -- one more move

@@ -1,52 +1,20 @@
 -- The rules of Dao, said of boards: a board is a list of sixteen cells as the player to move sees them.
-use Rattle.std.specs.Prelude.{ℕ, ◌+◌, ◌-◌, ◌/◌, ◌%◌, max, Bool, true, false, not, ◌&&◌, ◌||◌, ◌==◌, nat_le, nat_lt, List, [], ◌∷◌, ◌++◌, map, reverse, length, get_or, set, fold, min, codes, if◌then◌else◌, Option, None, Some}
-use Rattle.std.specs.List.{filter, count_by, list_any, range_with_len}
+use Rattle.std.specs.Prelude.{ℕ, ◌+◌, ◌-◌, ◌/◌, ◌%◌, max, Bool, true, not, ◌&&◌, ◌||◌, ◌==◌, nat_le, nat_lt, List, [], ◌∷◌, ◌++◌, map, length, codes, if◌then◌else◌, Option, None, Some}
+use Rattle.std.specs.List.{filter, list_any, range_with_len}
 use Rattle.gm_game.specs.declared.position.End.{End}
 use Rattle.gm_game.specs.declared.position.End.TheVariants.{Lose, Win}
 use Rattle.gm_game.specs.Rules.{Rules}
 use Rattle.gm_board.specs.declared.cell.Cell.{Cell}
 use Rattle.gm_board.specs.declared.cell.Cell.TheVariants.{Empty, Mine, Theirs}
-use Rattle.gm_board.specs.Arrangements.{arrangement, arrangements, arrangement_index}
-use Rattle.gm_board.specs.BoardMasks.{turned}
+use Rattle.gm_board.specs.Arrangements.{arrangements}
 use Rattle.gm_board.specs.Patterns.{fills, has_filled}
 use Rattle.gm_board.specs.Permutations.{permute}
 use Rattle.gm_board.specs.Squares.{cell_in, square_symmetries}
 use Rattle.gm_steps.specs.Steps.{from_point, to_point}
+use Rattle.gm_sides.specs.Sides.{is_mine, is_theirs, is_empty, is_taken, cell_at, number_of, gone, brought_back, board_index, board_numbered, least_index_under}
 use Rattle.gm_pieces.specs.MoveGames.{MoveGame, move_rules}
 
--- ---- cells
--- whether a piece of the mover's stands on a cell
-abbrev pub is_mine : Cell → Bool
-is_mine Empty = false
-is_mine Mine = true
-is_mine Theirs = false
-
--- whether a piece of the opponent's does
-abbrev pub is_theirs : Cell → Bool
-is_theirs Empty = false
-is_theirs Mine = false
-is_theirs Theirs = true
-
--- whether no piece does
-abbrev pub is_empty : Cell → Bool
-is_empty Empty = true
-is_empty Mine = false
-is_empty Theirs = false
-
--- whether a piece of either side does
-abbrev pub is_taken : Cell → Bool
-is_taken Empty = false
-is_taken Mine = true
-is_taken Theirs = true
-
--- what stands on the cell with this number
-abbrev pub cell_at : List Cell → ℕ → Cell
-cell_at b k = get_or b k Empty
-
--- how many cells pass a test
-unfoldable pub number_of : (Cell → Bool) → List Cell → ℕ
-number_of p b = count_by p b
-
+-- ---- rows and columns
 -- how far two numbers are from each other
 abbrev pub distance : ℕ → ℕ → ℕ
 distance x y = (x - y) + (y - x)
@@ -150,10 +118,6 @@ numbers_end = 256
 unfoldable pub over : List Cell → Option End
 over b = if has_formation is_theirs b then Some Lose else (if has_trapped b then Some Win else None)
 
--- the board with a piece gone from one cell to another, as the other player sees it
-abbrev pub gone : List Cell → ℕ → ℕ → List Cell
-gone b a c = map turned (set (set b a Empty) c Mine)
-
 -- a move, after which the roles swap
 unfoldable pub play : List Cell → ℕ → List Cell
 play b m = gone b (from_point m) (to_point m)
@@ -165,7 +129,7 @@ was_moved d m = in_line (from_point m) (to_point m) && (is_theirs (cell_at d (to
 
 -- the board before it
 unfoldable pub taken_back : List Cell → ℕ → List Cell
-taken_back d m = set (set (map turned d) (to_point m) Empty) (from_point m) Mine
+taken_back d m = brought_back d (from_point m) (to_point m)
 
 -- ---- the game
 -- the name, padded with zeros
@@ -180,17 +144,13 @@ start_board =
     ∷ Empty ∷ Theirs ∷ Mine ∷ Empty
     ∷ Theirs ∷ Empty ∷ Empty ∷ Mine ∷ []
 
--- the index of an arrangement: the lowest cell comes first in a board, and the highest in an arrangement
-unfoldable pub board_index : List Cell → ℕ
-board_index b = arrangement_index (reverse b)
-
 -- the board with this index
-unfoldable pub board_at : ℕ → List Cell
-board_at i = reverse (arrangement 16 4 4 i)
+abbrev pub board_at : ℕ → List Cell
+board_at i = board_numbered 16 4 4 i
 
 -- the least index among a board and its images
 abbrev pub least_index_of : List Cell → ℕ
-least_index_of b = fold min (board_index b) (map board_index (map (λ g. permute Empty g b) (square_symmetries 4)))
+least_index_of b = least_index_under (square_symmetries 4) b
 
 -- Dao: one tier, who can't move has lost, and the turns and reflections of the square
 abbrev pub dao : MoveGame (List Cell) (List ℕ)

@@ -1,11 +1,16 @@
 -- Slides over masks of the free and of the taken cells.
-use Rattle.std.specs.Prelude.{◌≡◌, ℕ, Bool, ◌&&◌, List, [], map}
+use Rattle.std.specs.Prelude.{◌≡◌, ℕ, Bool, ◌&&◌, List, [], map, if◌then◌else◌}
 use Rattle.std.specs.List.{list_all, filter, filter_map, range_with_len}
 use Rattle.gm_game.specs.Ascending.{put_all}
 use Rattle.gm_board.specs.declared.cell.Cell.{Cell}
+use Rattle.gm_board.specs.BoardMasks.{pattern_mask}
 use Rattle.gm_board.specs.Masks.{has_cell}
 use Rattle.gm_pieces.specs.MoveGames.{before_at}
 use Rattle.gm_dao.specs.DaoRules.{in_line, path, beyond, can_move, least_index_of, dao}
+
+-- the mask of the way between two cells in line, 0 for other cells
+unfoldable pub way_mask : ℕ → ℕ → ℕ
+way_mask a c = if in_line a c then pattern_mask (path a c) else 0
 
 -- whether a piece slides from a to c: all cells on the way are free, and the cell that follows is taken or off the board
 abbrev pub slides_by_masks : ℕ → ℕ → ℕ → ℕ → Bool

@@ -1,9 +1,10 @@
 //! Moves: a piece slides as far as it can.
-ghost use Rattle.std.specs.Prelude.{◌≡◌, ◌<◌, ◌≤◌, ◌+◌, ◌*◌, ◌==◌, true, length};
+ghost use Rattle.std.specs.Prelude.{◌≡◌, ◌<◌, ◌≤◌, ◌+◌, ◌*◌, ◌&&◌, ◌==◌, true, length};
 ghost use Rattle.gm_board.specs.Images.{board_of};
 ghost use Rattle.gm_board.specs.Masks.{has_cell};
 ghost use Rattle.gm_pieces.specs.MoveGames.{steps};
-ghost use Rattle.gm_dao.specs.DaoRules.{has_formation as has_formation_of, has_trapped as has_trapped_of, is_mine, is_theirs, legal, can_move as can_move_of, over as over_of, play as play_of, dao};
+ghost use Rattle.gm_sides.specs.Sides.{is_mine, is_theirs, number_of};
+ghost use Rattle.gm_dao.specs.DaoRules.{has_formation as has_formation_of, has_trapped as has_trapped_of, legal, can_move as can_move_of, over as over_of, play as play_of, dao};
 ghost use Rattle.gm_dao.specs.MaskSlides.{AreMovesBelow};
 
 use crate::board::Board;
@@ -13,6 +14,9 @@ use arrayvec::ArrayVec;
 use gm_game::limits::MOVES;
 use gm_game::position::End;
 use gm_steps::step::Step;
+
+/// The pieces of each side.
+pub const PIECES: u32 = 4;
 
 /// The numbers of moves are below this.
 pub const NUMBERS: u32 = 256;
@@ -38,12 +42,19 @@ pub fn is_trapped(board: Board) -> bool
     has_trapped(board.mine, board.theirs)
 }
 
+// Whether each side has four pieces.
+fn has_all_pieces(board: Board) -> bool
+    ensures { result ≡ (number_of is_mine (board_of 16 board.mine board.theirs) == 4 && number_of is_theirs (board_of 16 board.mine board.theirs) == 4) }
+{
+    board.own_pieces() == PIECES && board.their_pieces() == PIECES
+}
+
 /// Whether a board is one of the game: four pieces of each side, and no formation of the mover's.
 #[tactic(auto, unfolding(crate::specs::DaoRules::legal))]
 pub fn is_legal_board(board: Board) -> bool
     ensures { result ≡ legal (board_of 16 board.mine board.theirs) }
 {
-    board.has_all_pieces() && !has_own_formation(board)
+    has_all_pieces(board) && !has_own_formation(board)
 }
 
 /// Whether the move with this number can be made.
@@ -134,5 +145,5 @@ pub fn play(board: Board, number: u32) -> Board
     ensures { board_of 16 result.mine result.theirs ≡ play_of (board_of 16 board.mine board.theirs) number }
 {
     let step = Step::numbered(number);
-    board.without_piece(step.from).with_piece(step.to).turned()
+    board.gone(step.from, step.to)
 }

@@ -9,7 +9,7 @@ ghost use Rattle.gm_pieces.specs.MoveGames.{goes_on as goes_on_of, befores};
 ghost use Rattle.gm_dao.specs.DaoRules.{was_moved as was_moved_of, taken_back as taken_back_of, legal, least_index_of, dao};
 ghost use Rattle.gm_dao.specs.MaskSlides.{AreBeforesBelow};
 
-use crate::board::Board;
+use crate::board::{Board, SIDE};
 use crate::dao::DaoRules;
 use crate::moves::{can_move, is_legal_board, over};
 use crate::slides::are_in_line;
@@ -39,7 +39,7 @@ pub fn taken_back(board: Board, number: u32) -> Board
     ensures { board_of 16 result.mine result.theirs ≡ taken_back_of (board_of 16 board.mine board.theirs) number }
 {
     let step = Step::numbered(number);
-    board.turned().without_piece(step.to).with_piece(step.from)
+    board.brought_back(step.from, step.to)
 }
 
 /// Whether the game goes on from a board of the tier by this move, which is tested first.
@@ -64,7 +64,7 @@ fn put_befores(list: &mut ArrayVec<u64, PARENTS>, tier: u64, board: Board, from:
         let skipped = rest.trailing_zeros();
         next += skipped;
         match before::<DaoRules>(tier, board, 16 * from + next) {
-            Some(earlier) => put(list, earlier.least_index()),
+            Some(earlier) => put(list, earlier.least_index(SIDE)),
             None => {}
         }
         next += 1;

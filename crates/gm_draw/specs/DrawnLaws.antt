@@ -11,19 +11,19 @@ use Rattle.gm_game.specs.Shown.{IsShown}
 use Rattle.gm_game.proofs.BoardLaws.{legal_board}
 use Rattle.gm_board.specs.Lists.{contains_range}
 use Rattle.gm_board.specs.Permutations.{all_at}
-use Rattle.gm_sides.specs.SideTextFacts.{text_length}
+use Rattle.gm_sides.specs.laws.TextFacts.{text_length}
 use Rattle.gm_pieces.specs.MoveGames.{board_game}
 use Rattle.gm_morris.specs.declared.variant.Variant.{Variant}
 use Rattle.gm_morris.specs.declared.variant.Variant.TheVariants.{TicTacToe, ThreeMens, Achi}
 use Rattle.gm_morris.specs.Points.{variant_of}
 use Rattle.gm_morris.specs.Morris.{board_at, morris, morris_rules}
-use Rattle.gm_morris.specs.BoardFacts.{legal_in as legal_nine}
+use Rattle.gm_morris.specs.laws.BoardFacts.{legal_in as legal_nine}
 use Rattle.gm_morris.specs.Texts.{position_text as nine_text}
-use Rattle.gm_morris.specs.TextLaws.{texts_readable as nine_readable}
+use Rattle.gm_morris.specs.laws.TextLaws.{texts_readable as nine_readable}
 use Rattle.gm_dao.specs.DaoRules.{board_at as dao_at, dao, dao_rules}
-use Rattle.gm_dao.specs.BoardFacts.{legal_in as legal_dao}
+use Rattle.gm_dao.specs.laws.BoardFacts.{legal_in as legal_dao}
 use Rattle.gm_dao.specs.Texts.{position_text as dao_text}
-use Rattle.gm_dao.specs.TextLaws.{texts_readable as dao_readable}
+use Rattle.gm_dao.specs.laws.TextLaws.{texts_readable as dao_readable}
 use Rattle.gm_tactix.specs.Board.{side_of, counters_at, tactix_rules}
 use Rattle.gm_tactix.specs.SegmentFacts.{for_sides}
 use Rattle.gm_tactix.specs.TactixLaws.{board_length, side_low, side_high}

@@ -9,5 +9,3 @@ pub mod points;
 pub mod rows;
 pub mod show;
 pub mod squares;
-#[cfg(test)]
-mod tests;

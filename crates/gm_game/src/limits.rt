@@ -1,4 +1,5 @@
 //! The limits that every game and every crate keeps to.
+ghost use Rattle.std.specs.Prelude.{◌≡◌};
 
 /// The moves of a position, and so its canonical children: at most so many.
 pub const MOVES: usize = 128;
@@ -23,3 +24,41 @@ pub const NAME: usize = 16;
 
 /// The bytes of the text of a position or a move: at most so many.
 pub const LINE: usize = 64;
+
+/// The limits, as one value: the constants above, by name.
+#[derive(Clone, Copy, Debug, PartialEq, Eq)]
+pub struct Limits {
+    pub moves: usize,
+    pub parents: usize,
+    pub child_tiers: usize,
+    pub tier_size: u64,
+    pub tiers: usize,
+    pub remoteness: u32,
+    pub name: usize,
+    pub line: usize,
+}
+
+impl Limits {
+    /// The limits in numbers: what docs/DEFINITIONS.md has.
+    pub fn all() -> Limits
+        ensures moves { result.moves ≡ 128 }
+        ensures parents { result.parents ≡ 128 }
+        ensures child_tiers { result.child_tiers ≡ 16 }
+        ensures tier_size { result.tier_size ≡ 16777216 }
+        ensures tiers { result.tiers ≡ 1024 }
+        ensures remoteness { result.remoteness ≡ 1048575 }
+        ensures name { result.name ≡ 16 }
+        ensures line { result.line ≡ 64 }
+    {
+        Limits {
+            moves: MOVES,
+            parents: PARENTS,
+            child_tiers: CHILD_TIERS,
+            tier_size: TIER_SIZE,
+            tiers: TIERS,
+            remoteness: REMOTENESS,
+            name: NAME,
+            line: LINE,
+        }
+    }
+}

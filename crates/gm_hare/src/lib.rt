@@ -5,7 +5,5 @@ pub mod hare;
 pub mod hunt;
 pub mod moves;
 pub mod points;
-#[cfg(test)]
-mod tests;
 pub mod text;
 pub mod tiers;

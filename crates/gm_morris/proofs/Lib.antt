@@ -1,4 +1,3 @@
-pub mod MaskFacts
 pub mod MoveSteps
 pub mod TextSteps
 pub mod Start

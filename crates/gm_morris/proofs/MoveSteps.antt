@@ -1,30 +1,29 @@
 -- What the code's tests say of a board and of a move.
-use Rattle.std.proofs.Common.{◌≡◌, ℕ, ◌+◌, ◌-◌, ◌/◌, ◌%◌, ◌^◌, ◌<◌, ◌≤◌, Bool, true, false, ◌&&◌, ◌||◌, not, eqb, leb, le-leb, ltb, lt-ltb, List, [], ◌∷◌, map, set, get_or, length, refl, sym, ap, ap₂, ◌∙◌, subst, arith, eqb-true, eq-eqb, inl, inr, get_or-set_other}
+use Rattle.std.proofs.Common.{◌≡◌, ℕ, ◌+◌, ◌-◌, ◌/◌, ◌^◌, ◌<◌, ◌≤◌, Bool, true, false, ◌&&◌, not, eqb, leb, le-leb, ltb, lt-ltb, List, map, get_or, length, refl, sym, ap, ap₂, ◌∙◌, subst, arith, eqb-true, eq-eqb, inl, inr}
 use Rattle.std.specs.List.{list_any, list_all, range_with_len}
-use Rattle.std.proofs.lemmas.Bool.{cases_lt}
-use Rattle.std.proofs.lemmas.List.{get_or_past}
-use Rattle.std.proofs.lemmas.Nat.Bits.{bit_at_above}
 use Rattle.std.specs.Prelude.{bit_and}
 use Rattle.gm_board.specs.declared.cell.Cell.{Cell}
-use Rattle.gm_board.specs.declared.cell.Cell.TheVariants.{Empty, Mine, Theirs}
+use Rattle.gm_board.specs.declared.cell.Cell.TheVariants.{Theirs}
 use Rattle.gm_board.specs.Lists.{contains_range}
 use Rattle.gm_board.specs.Binomials.{binomial}
 use Rattle.gm_board.specs.Arrangements.{arrangements}
 use Rattle.gm_board.specs.Masks.{has_cell}
-use Rattle.gm_board.specs.Pieces.{cell_by, apart_below}
 use Rattle.gm_board.specs.Permutations.{all_at}
 use Rattle.gm_board.specs.BoardMasks.{turned}
-use Rattle.gm_board.specs.Images.{board_of, board_length, board_get}
+use Rattle.gm_board.specs.Images.{board_of, board_length}
 use Rattle.gm_pieces.specs.MoveGames.{IsMove}
 use Rattle.gm_morris.specs.declared.variant.Variant.{Variant}
 use Rattle.gm_morris.specs.declared.tiers.TheConstants.{SIZES}
 use Rattle.gm_morris.specs.Points.{last_tier, lines, joins}
-use Rattle.gm_morris.specs.Morris.{is_mine, is_theirs, is_empty, mine, theirs, has_line, legal, numbers_end, was_moved, size_of, board_at, morris}
-use Rattle.gm_morris.specs.BoardFacts.{cell_turned}
-use Rattle.gm_morris.specs.PointFacts.{joined_within}
-use Rattle.gm_morris.specs.MoveFacts.{IsSlide, IsPlacement, step_cases, last_end, other_end}
-use Rattle.gm_morris.specs.BeforeFacts.{WasSlide, WasPlacement, was_cases}
-use Rattle.gm_morris.specs.MorrisLaws.{size_at, tier_below, below_arrangements, board_numbers}
+use Rattle.gm_sides.specs.Sides.{cell_at, is_mine, is_theirs}
+use Rattle.gm_morris.specs.Morris.{mine, theirs, has_line, legal, numbers_end, was_moved, size_of, board_at, morris}
+use Rattle.gm_sides.specs.laws.CellFacts.{turned_cell}
+use Rattle.gm_sides.specs.laws.NumberFacts.{board_numbers}
+use Rattle.gm_sides.proofs.MaskFacts.{own_patterns, their_patterns}
+use Rattle.gm_morris.specs.laws.PointFacts.{joined_within}
+use Rattle.gm_morris.specs.laws.MoveFacts.{IsSlide, IsPlacement, step_cases, last_end, other_end}
+use Rattle.gm_morris.specs.laws.BeforeFacts.{WasSlide, WasPlacement, was_cases}
+use Rattle.gm_morris.specs.laws.MorrisLaws.{size_at, tier_below, below_arrangements}
 
 -- ---- sizes
 sizes_pass : list_all (λ t. eqb (get_or SIZES t 0) (arrangements 9 (t / 2) (t - t / 2))) (range_with_len 0 10) ≡ true
@@ -38,50 +37,17 @@ sizes_are v t l h =
     ∙ sym (size_at v t l)
 
 -- ---- lines
-same_all : (p q : ℕ → Bool) (cs : List ℕ) → ((k : ℕ) → p k ≡ q k) → list_all p cs ≡ list_all q cs
-same_all p q [] h = refl
-same_all p q (c ∷ cs) h = ap₂ (λ (x y : Bool). x && y) (h c) (same_all p q cs h)
-
-same_any : (p q : ℕ → Bool) (ls : List (List ℕ)) → ((k : ℕ) → p k ≡ q k) → list_any (λ line. list_all p line) ls ≡ list_any (λ line. list_all q line) ls
-same_any p q [] h = refl
-same_any p q (l ∷ ls) h = ap₂ (λ (x y : Bool). x || y) (same_all p q l h) (same_any p q ls h)
-
-past_cell : (a b k : ℕ) → 9 ≤ k → get_or (board_of 9 a b) k Empty ≡ Empty
-past_cell a b k l = get_or_past (board_of 9 a b) k Empty (let n = board_length 9 a b in omega (arith, n, l))
-
-past_mask : (a k : ℕ) → a < 2 ^ 9 → 9 ≤ k → has_cell a k ≡ false
-past_mask a k l h = ap (λ (v : ℕ). eqb v 1) (bit_at_above a 9 k l h)
-
-mine_by : (x y : Bool) → is_mine (cell_by x y) ≡ x
-mine_by true y = refl
-mine_by false true = refl
-mine_by false false = refl
-
-theirs_by : (x y : Bool) → (x ≡ true → y ≡ false) → is_theirs (cell_by x y) ≡ y
-theirs_by true y h = sym (h refl)
-theirs_by false true h = refl
-theirs_by false false h = refl
-
 -- the mover's lines are those of his mask
 pub own_line : (v : Variant) (a b : ℕ) → a < 2 ^ 9 → list_any (λ line. list_all (has_cell a) line) (lines v) ≡ has_line v is_mine (board_of 9 a b)
 unfolding has_line
-own_line v a b l =
-    same_any (has_cell a) (λ (k : ℕ). is_mine (get_or (board_of 9 a b) k Empty)) (lines v)
-    (λ k. elim (cases_lt k 9) [
-      | inl h ↦ sym (ap is_mine (board_get 9 a b k h) ∙ mine_by (has_cell a k) (has_cell b k))
-      | inr h ↦ past_mask a k l h ∙ sym (ap is_mine (past_cell a b k h))
-    ])
+own_line v a b l = own_patterns 9 a b l (lines v)
 
 -- the opponent's are those of his
 pub their_line : (v : Variant) (a b : ℕ) → b < 2 ^ 9 → bit_and a b ≡ 0 → list_any (λ line. list_all (has_cell b) line) (lines v) ≡ has_line v is_theirs (board_of 9 a b)
 unfolding has_line
-their_line v a b l e =
-    same_any (has_cell b) (λ (k : ℕ). is_theirs (get_or (board_of 9 a b) k Empty)) (lines v)
-    (λ k. elim (cases_lt k 9) [
-      | inl h ↦ sym (ap is_theirs (board_get 9 a b k h) ∙ theirs_by (has_cell a k) (has_cell b k) (apart_below 9 a b e k h))
-      | inr h ↦ past_mask b k l h ∙ sym (ap is_theirs (past_cell a b k h))
-    ])
+their_line v a b l e = their_patterns 9 a b l e (lines v)
 
+-- ---- legal boards
 -- what a legal board is, by the tests of the code
 legal_tests : (v : Variant) (d : List Cell) (x : Bool) → length d ≡ 9 → mine d ≡ (mine d + theirs d) / 2 → mine d + theirs d ≤ last_tier v → x ≡ has_line v is_mine d → not x ≡ legal v d
 unfolding legal
@@ -101,7 +67,7 @@ pub legal_at : (v : Variant) (t i : ℕ) (x : Bool) → i < size_of v t → x �
     → not x ≡ (ltb i (size_of v t) && (legal v (board_at t i) && eqb (mine (board_at t i) + theirs (board_at t i)) t))
 legal_at v t i x l e =
     let d = board_at t i in
-    let h = board_numbers t i (below_arrangements v t i l) in
+    let h = board_numbers 9 (t / 2) (t - t / 2) i (below_arrangements v t i l) in
     let all : mine d + theirs d ≡ t = omega (arith, h.own, h.other) in
     let half : mine d ≡ (mine d + theirs d) / 2 = h.own ∙ ap (λ (n : ℕ). n / 2) (sym all) in
     let top = tier_below v t i l in
@@ -148,15 +114,6 @@ placement_here v b m l p c e f g = elim (step_cases v b m c) [
   | inr h ↦ h
 ]
 
--- the goal of a piece that was lifted is free
-pub goal_free : (v : Variant) (b d : List Cell) (m : ℕ) → IsSlide v b m → d ≡ set b (m / 16) Empty → is_empty (get_or d (m % 16) Empty) ≡ true
-goal_free v b d m h e =
-    ap (λ (x : List Cell). is_empty (get_or x (m % 16) Empty)) e
-    ∙ ap is_empty (get_or-set_other b (m / 16) (m % 16) Empty Empty (λ q. mine_or_empty (sym h.here ∙ ap (λ (k : ℕ). get_or b k Empty) (sym q) ∙ h.free)) ∙ h.free)
-  where
-    mine_or_empty : Mine ≡ Empty → ⊥
-    mine_or_empty e = cc
-
 -- ---- single moves taken back
 pub slide_was : (v : Variant) (t : ℕ) (d : List Cell) (m l : ℕ) → was_moved v t d m ≡ true → l ≡ last_tier v → t ≡ l → WasSlide v t d m
 slide_was v t d m l e f g = elim (was_cases v t d m e) [
@@ -170,17 +127,6 @@ placement_was v t d m l e f g = elim (was_cases v t d m e) [
   | inr h ↦ h
 ]
 
--- the piece that was moved, as who moved it sees it
-pub moved_mine : (d e : List Cell) (k : ℕ) → e ≡ map turned d → get_or d k Empty ≡ Theirs → is_mine (get_or e k Empty) ≡ true
-moved_mine d e k s h = ap (λ (x : List Cell). is_mine (get_or x k Empty)) s ∙ ap is_mine (cell_turned d k ∙ ap turned h)
-
--- the point that it left is free
-pub start_free : (v : Variant) (t : ℕ) (d e f : List Cell) (m : ℕ) → WasSlide v t d m → e ≡ map turned d → f ≡ set e (m % 16) Empty → is_empty (get_or f (m / 16) Empty) ≡ true
-start_free v t d e f m h s r =
-    ap (λ (x : List Cell). is_empty (get_or x (m / 16) Empty)) (r ∙ ap (λ (x : List Cell). set x (m % 16) Empty) s)
-    ∙ ap is_empty (
-    get_or-set_other (map turned d) (m % 16) (m / 16) Empty Empty (λ q. their_or_empty (sym h.there ∙ ap (λ (k : ℕ). get_or d k Empty) (sym q) ∙ h.left))
-    ∙ cell_turned d (m / 16) ∙ ap turned h.left)
-  where
-    their_or_empty : Theirs ≡ Empty → ⊥
-    their_or_empty e = cc
+-- the piece that was placed, as who placed it sees it
+pub placed_mine : (v : Variant) (t : ℕ) (d e : List Cell) (m : ℕ) → WasPlacement v t d m → e ≡ map turned d → is_mine (cell_at e m) ≡ true
+placed_mine v t d e m h s = ap (λ (x : List Cell). is_mine (cell_at x m)) s ∙ ap is_mine (turned_cell d m Theirs h.there)

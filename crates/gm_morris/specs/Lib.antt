@@ -1,10 +1,4 @@
 pub mod Points
 pub mod Morris
-pub mod PointFacts
-pub mod BoardFacts
-pub mod MoveFacts
-pub mod PlayFacts
-pub mod BeforeFacts
-pub mod MorrisLaws
 pub mod Texts
-pub mod TextLaws
+pub mod laws

@@ -1,49 +1,27 @@
 -- The rules of the games of nine points, said of boards: a board is a list of nine cells as the player to move sees them.
-use Rattle.std.specs.Prelude.{ℕ, ◌+◌, ◌-◌, ◌/◌, ◌%◌, Bool, true, false, not, ◌&&◌, ◌==◌, nat_le, nat_lt, List, [], ◌∷◌, map, reverse, replicate, length, get_or, set, fold, min, if◌then◌else◌, Option, None, Some}
-use Rattle.std.specs.List.{count_by}
+use Rattle.std.specs.Prelude.{ℕ, ◌+◌, ◌-◌, ◌/◌, ◌%◌, Bool, not, ◌&&◌, ◌==◌, nat_le, nat_lt, List, [], ◌∷◌, map, replicate, length, set, if◌then◌else◌, Option, None, Some}
 use Rattle.gm_game.specs.declared.position.End.{End}
 use Rattle.gm_game.specs.declared.position.End.TheVariants.{Lose}
 use Rattle.gm_game.specs.Rules.{Rules}
 use Rattle.gm_board.specs.declared.cell.Cell.{Cell}
-use Rattle.gm_board.specs.declared.cell.Cell.TheVariants.{Empty, Mine, Theirs}
-use Rattle.gm_board.specs.Arrangements.{arrangement, arrangements, arrangement_index}
+use Rattle.gm_board.specs.declared.cell.Cell.TheVariants.{Empty, Mine}
+use Rattle.gm_board.specs.Arrangements.{arrangements}
 use Rattle.gm_board.specs.BoardMasks.{turned}
 use Rattle.gm_board.specs.Patterns.{has_filled}
 use Rattle.gm_board.specs.Permutations.{permute}
 use Rattle.gm_board.specs.Squares.{square_symmetries}
+use Rattle.gm_sides.specs.Sides.{is_mine, is_theirs, is_empty, cell_at, number_of, brought_back, board_index, board_numbered, least_index_under}
 use Rattle.gm_pieces.specs.MoveGames.{MoveGame, move_rules}
 use Rattle.gm_morris.specs.declared.variant.Variant.{Variant}
 use Rattle.gm_morris.specs.Points.{variant_of, name_of, last_tier, stuck, lines, joins}
 
--- whether a piece of the mover's stands on a cell
-abbrev pub is_mine : Cell → Bool
-is_mine Empty = false
-is_mine Mine = true
-is_mine Theirs = false
-
--- whether a piece of the opponent's does
-abbrev pub is_theirs : Cell → Bool
-is_theirs Empty = false
-is_theirs Mine = false
-is_theirs Theirs = true
-
--- whether no piece does
-abbrev pub is_empty : Cell → Bool
-is_empty Empty = true
-is_empty Mine = false
-is_empty Theirs = false
-
--- what stands on a point
-abbrev pub cell_at : List Cell → ℕ → Cell
-cell_at b k = get_or b k Empty
-
 -- how many pieces the mover has
-unfoldable pub mine : List Cell → ℕ
-mine b = count_by is_mine b
+abbrev pub mine : List Cell → ℕ
+mine b = number_of is_mine b
 
 -- how many the opponent has
-unfoldable pub theirs : List Cell → ℕ
-theirs b = count_by is_theirs b
+abbrev pub theirs : List Cell → ℕ
+theirs b = number_of is_theirs b
 
 -- how many pieces there are: the tier
 abbrev pub pieces : List Cell → ℕ
@@ -96,16 +74,12 @@ was_moved v t d m = if t == last_tier v
 -- the board before it
 unfoldable pub taken_back : Variant → ℕ → List Cell → ℕ → List Cell
 taken_back v t d m = if t == last_tier v
-    then set (set (map turned d) (to_point m) Empty) (from_point m) Mine
+    then brought_back d (from_point m) (to_point m)
     else set (map turned d) m Empty
 
--- the index of a board
-unfoldable pub board_index : List Cell → ℕ
-board_index b = arrangement_index (reverse b)
-
 -- the board of an index of tier t
-unfoldable pub board_at : ℕ → ℕ → List Cell
-board_at t i = reverse (arrangement 9 (t / 2) (t - t / 2) i)
+abbrev pub board_at : ℕ → ℕ → List Cell
+board_at t i = board_numbered 9 (t / 2) (t - t / 2) i
 
 -- how many indexes a tier has
 unfoldable pub size_of : Variant → ℕ → ℕ
@@ -117,7 +91,7 @@ child_tiers_of v t = if nat_lt t (last_tier v) then (t + 1) ∷ [] else []
 
 -- the least index among a board and its images
 abbrev pub least_index_of : List Cell → ℕ
-least_index_of b = fold min (board_index b) (map board_index (map (λ g. permute Empty g b) (square_symmetries 3)))
+least_index_of b = least_index_under (square_symmetries 3) b
 
 -- the game: an empty board at the start, and the turns and reflections of the square; a line is tested first, and then who can't move ends the game
 abbrev pub morris : Variant → MoveGame (List Cell) (List ℕ)

@@ -5,8 +5,6 @@ pub mod board;
 pub mod games;
 pub mod moves;
 pub mod parents;
-#[cfg(test)]
-mod tests;
 pub mod text;
 pub mod tiers;
 pub mod variant;

@@ -2,9 +2,11 @@
 ghost use Rattle.std.specs.Prelude.{◌≡◌, ◌<◌};
 ghost use Rattle.gm_board.specs.Images.{board_of};
 ghost use Rattle.gm_pieces.specs.MoveGames.{IsMove};
-ghost use Rattle.gm_morris.specs.Morris.{pieces, has_line as has_line_of, is_mine, is_theirs as is_theirs_cell, legal, numbers_end as numbers_end_of, over as over_of, can_move as can_move_of, moved as moved_of, play as play_of, morris};
+ghost use Rattle.gm_sides.specs.Sides.{is_mine, is_theirs as is_theirs_cell};
+ghost use Rattle.gm_morris.specs.Morris.{pieces as pieces_of, has_line as has_line_of, legal, numbers_end as numbers_end_of, over as over_of, can_move as can_move_of, play as play_of, morris};
 
 use crate::board::Board;
+use crate::tiers::pieces;
 use crate::variant::Variant;
 use gm_game::position::End;
 
@@ -27,8 +29,8 @@ pub fn has_their_line(variant: Variant, board: Board) -> bool
 pub fn is_legal_board(variant: Variant, board: Board) -> bool
     ensures { result ≡ legal variant (board_of 9 board.mine board.theirs) }
 {
-    let pieces = board.pieces();
-    if board.own_pieces() != pieces / 2 {
+    let pieces = pieces(board);
+    if u64::from(board.own_pieces()) != pieces / 2 {
         return false;
     }
     pieces <= variant.last_tier() && !has_own_line(variant, board)
@@ -37,10 +39,10 @@ pub fn is_legal_board(variant: Variant, board: Board) -> bool
 /// Whether the move with this number can be made.
 #[tactic(auto, unfolding(crate::specs::Morris::can_move))]
 pub fn can_move(variant: Variant, board: Board, number: u32) -> bool
-    requires { number < numbers_end_of variant (pieces (board_of 9 board.mine board.theirs)) }
+    requires { number < numbers_end_of variant (pieces_of (board_of 9 board.mine board.theirs)) }
     ensures { result ≡ can_move_of variant (board_of 9 board.mine board.theirs) number }
 {
-    if board.pieces() != variant.last_tier() {
+    if pieces(board) != variant.last_tier() {
         return board.is_free(number);
     }
     let from = number / 16;
@@ -63,24 +65,14 @@ pub fn over(variant: Variant, board: Board) -> Option<End>
     }
 }
 
-// The board when the mover has moved.
-#[tactic(auto, unfolding(crate::specs::Morris::moved))]
-fn moved(variant: Variant, board: Board, number: u32) -> Board
-    requires { IsMove (morris variant) (board_of 9 board.mine board.theirs) number }
-    ensures { board_of 9 result.mine result.theirs ≡ moved_of variant (board_of 9 board.mine board.theirs) number }
-{
-    if board.pieces() == variant.last_tier() {
-        board.without_piece(number / 16).with_piece(number % 16)
-    } else {
-        board.with_piece(number)
-    }
-}
-
 /// The board after a move, as the other side sees it.
-#[tactic(auto, unfolding(crate::specs::Morris::play))]
 pub fn play(variant: Variant, board: Board, number: u32) -> Board
     requires { IsMove (morris variant) (board_of 9 board.mine board.theirs) number }
     ensures { board_of 9 result.mine result.theirs ≡ play_of variant (board_of 9 board.mine board.theirs) number }
 {
-    moved(variant, board, number).turned()
+    if pieces(board) == variant.last_tier() {
+        board.gone(number / 16, number % 16)
+    } else {
+        board.with_piece(number).turned()
+    }
 }

@@ -24,16 +24,14 @@ pub fn was_moved(variant: Variant, tier: u64, board: Board, number: u32) -> bool
 }
 
 /// The board before that move.
-#[tactic(auto, unfolding(crate::specs::Morris::taken_back))]
 pub fn taken_back(variant: Variant, tier: u64, board: Board, number: u32) -> Board
     requires within { number < numbers_end_of variant tier }
     requires was { was_moved_of variant tier (board_of 9 board.mine board.theirs) number ≡ true }
     ensures { board_of 9 result.mine result.theirs ≡ taken_back_of variant tier (board_of 9 board.mine board.theirs) number }
 {
-    let turned = board.turned();
     if tier == variant.last_tier() {
-        turned.without_piece(number % 16).with_piece(number / 16)
+        board.brought_back(number / 16, number % 16)
     } else {
-        turned.without_piece(number)
+        board.turned().without_piece(number)
     }
 }

@@ -1,14 +1,24 @@
 //! Tiers: a tier is the number of pieces.
-ghost use Rattle.std.specs.Prelude.{◌≡◌, ◌-◌};
+ghost use Rattle.std.specs.Prelude.{◌≡◌, ◌-◌, ◌≤◌};
 ghost use Rattle.gm_morris.specs.Points.{last_tier};
-ghost use Rattle.gm_morris.specs.Morris.{size_of, child_tiers_of, numbers_end as numbers_end_of};
+ghost use Rattle.gm_board.specs.Images.{board_of};
+ghost use Rattle.gm_morris.specs.Morris.{pieces as pieces_of, size_of, child_tiers_of, numbers_end as numbers_end_of};
 
+use crate::board::Board;
 use crate::variant::Variant;
 use arrayvec::ArrayVec;
 use gm_game::limits::CHILD_TIERS;
 
 /// How many arrangements of so many pieces the nine points have, the mover's half of them, rounded down.
 const SIZES: [u64; 10] = [1, 9, 72, 252, 756, 1260, 1680, 1260, 630, 126];
+
+/// How many pieces there are: the tier of a board.
+pub fn pieces(board: Board) -> u64
+    ensures value { result ≡ pieces_of (board_of 9 board.mine board.theirs) }
+    ensures small { result ≤ 9 }
+{
+    u64::from(board.pieces())
+}
 
 /// How many indexes a tier has: 0 past the last one.
 #[tactic(auto, unfolding(crate::specs::Morris::size_of))]

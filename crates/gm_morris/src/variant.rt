@@ -1,9 +1,10 @@
 //! What tells the games of nine points apart: their names, last tiers, lines, and the points between which pieces move.
-ghost use Rattle.std.specs.Prelude.{◌≡◌, ◌<◌, ◌≤◌, ◌==◌, bit_and};
+ghost use Rattle.std.specs.Prelude.{◌≡◌, ◌<◌, ◌≤◌};
 ghost use Rattle.std.specs.List.{list_any, list_all};
 ghost use Rattle.gm_board.specs.Masks.{has_cell};
 ghost use Rattle.gm_morris.specs.Points.{variant_of, name_of, last_tier as last_tier_of, stuck as stuck_of, lines, joins as joins_of};
 
+use gm_board::pattern::has_some;
 use gm_game::limits::NAME;
 use gm_game::position::End;
 
@@ -123,7 +124,7 @@ impl Variant {
     }
 
     /// Whether a piece can move from one point to the other in the last tier. Points are below 16, of which the board has nine.
-    #[tactic(auto, using(crate::specs::PointFacts::beside_joins, crate::specs::PointFacts::along_joins), unfolding(crate::specs::Points::joins))]
+    #[tactic(auto, using(crate::specs::laws::PointFacts::beside_joins, crate::specs::laws::PointFacts::along_joins), unfolding(crate::specs::Points::joins))]
     pub fn joins(self, from: u32, to: u32) -> bool
         requires from { from < 9 }
         requires to { to < 16 }
@@ -143,11 +144,4 @@ fn has_point(points: u32, point: u32) -> bool
     ensures { result ≡ has_cell points point }
 {
     points >> point & 1 == 1
-}
-
-// Whether these points have all points of one of these masks.
-fn has_some(points: u32, masks: &[u32]) -> bool
-    ensures { result ≡ list_any (λ mask. bit_and points mask == mask) masks.now }
-{
-    masks.iter().any(|mask| points & *mask == *mask)
 }

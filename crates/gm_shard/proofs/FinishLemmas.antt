@@ -15,6 +15,7 @@ use Rattle.gm_game.specs.Values.{IsTrueValue}
 use Rattle.gm_game.specs.Places.{IsLastLevel}
 use Rattle.gm_game.specs.Settling.{AreReached}
 use Rattle.gm_game.proofs.Levels.{undecided_draw}
+use Rattle.gm_table.specs.Packed.{IsNear}
 use Rattle.gm_shard.specs.declared.status.Status.{Status}
 use Rattle.gm_shard.specs.declared.status.Status.TheVariants.{Hole, Undecided, Settled}
 use Rattle.gm_shard.specs.State.{ShardState, IsInRange, delivered_to}
@@ -45,6 +46,12 @@ record_true r g s good ties last i m Undecided (inner, u) =
 record_true r g s good ties last i m (Settled x) h =
     let (value, near) = good.settled_is_true i x m h in
     (settled_canonical r (at s.tier i) (delivered_to s i) x h, value, near)
+
+-- and within the greatest remoteness
+pub record_near : (r : Rules) (s : ShardState) → IsGood r s → (i : ℕ) → IsInRange s i → (status : Status) → StatusIs r s i status → IsNear (record_of status)
+record_near r s good i m Hole h = tt
+record_near r s good i m Undecided h = omega arith
+record_near r s good i m (Settled x) h = (good.settled_is_true i x m h).1
 
 pub part_none : (r : Rules) (tier lo : ℕ) → ArePart r tier lo []
 part_none r tier lo = record { each = λ k o e. absurd (cc) }

@@ -1,2 +1,3 @@
+pub mod Sides
 pub mod SideTexts
-pub mod SideTextFacts
+pub mod laws

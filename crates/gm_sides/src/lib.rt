@@ -1,4 +1,5 @@
-//! The texts of boards on which two sides have pieces.
+//! Boards on which two sides have pieces, and their texts.
 #![tactic(auto)]
 
+pub mod board;
 pub mod text;

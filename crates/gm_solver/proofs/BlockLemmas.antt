@@ -1,13 +1,14 @@
 -- Blocks of a tier, one after another.
-use Rattle.std.proofs.Common.{◌≡◌, ℕ, zero, suc, ◌+◌, ◌-◌, ◌⊎◌, inl, inr, List, [], ◌∷◌, ◌++◌, length, take, drop, slice_get, Some, sym, ap, subst, ◌∙◌, arith}
+use Rattle.std.proofs.Common.{◌≡◌, ℕ, zero, suc, ◌+◌, ◌-◌, ◌*◌, ◌/◌, ◌%◌, ◌<◌, ◌⊎◌, inl, inr, List, [], ◌∷◌, ◌++◌, length, take, drop, slice_get, Some, refl, sym, ap, subst, ◌∙◌, arith}
 use Rattle.std.specs.List.{AllZip, range_with_len}
+use Rattle.std.proofs.Math.Nat.{div-lt_iff_lt-mul, mod-lt}
+use Rattle.std.proofs.lemmas.Nat.{mul-add-lt, mod-mul-add, div-mul-add, div-add-mod'}
 use Rattle.std.proofs.lemmas.Slice.Zip.{AllZip-long}
 use Rattle.std.proofs.lemmas.List.FromFn.{length-range_with_len}
 use Rattle.gm_game.specs.Rules.{Rules, at}
 use Rattle.gm_shard.specs.declared.status.Start.{Start}
 use Rattle.gm_shard.specs.Begin.{IsStart, AreStarts}
-use Rattle.gm_shard.specs.Lists.{ListsData}
-use Rattle.gm_solver.specs.Blocks.{block_at}
+use Rattle.gm_solver.specs.Blocks.{block_in}
 
 -- an item of two lists, one after the other, stands in one of them
 pub append_cases : {X : Type 0} (xs ys : List X) (k : ℕ) (x : X) → slice_get (xs ++ ys) k ≡ Some x → (slice_get xs k ≡ Some x) ⊎ ((j : ℕ) × (k ≡ length xs + j) × (slice_get ys j ≡ Some x))
@@ -18,19 +19,30 @@ append_cases (z ∷ zs) ys (suc k) x e = elim (append_cases zs ys k x e) [
   | inr (j, i, q) ↦ inr (j, (let more : suc k ≡ suc (length zs) + j = omega arith in more), q)
 ]
 
--- each of these blocks stands where its number says
-abbrev pub AreInOrder : Rules → ℕ → ℕ → List ListsData → Type 0
-AreInOrder r tier width blocks = (k : ℕ) (b : ListsData) → slice_get blocks k ≡ Some b → b ≡ block_at r tier width k
+-- each item of a list has a property at its place, and so has one more at the end
+abbrev pub EachAt : {X : Type 0} → (ℕ → X → Type 0) → List X → Type 0
+EachAt {X} P xs = (k : ℕ) (x : X) → slice_get xs k ≡ Some x → P k x
 
-pub none_ordered : (r : Rules) (tier width : ℕ) → AreInOrder r tier width []
-none_ordered r tier width k b e = absurd (cc)
+pub none_at : {X : Type 0} (P : ℕ → X → Type 0) → EachAt P []
+none_at {X} P k x e = absurd (cc)
 
-pub one_ordered : (r : Rules) (tier width : ℕ) (blocks : List ListsData) (b : ListsData) → b ≡ block_at r tier width (length blocks) → AreInOrder r tier width blocks → AreInOrder r tier width (blocks ++ b ∷ [])
-one_ordered r tier width blocks b is before k x e = elim (append_cases blocks (b ∷ []) k x e) [
-  | inl h ↦ before k x h
-  | inr (zero, i, q) ↦ (let same : b ≡ x = cc in let here : length blocks ≡ k = omega arith in sym same ∙ is ∙ ap (block_at r tier width) here)
+pub one_at : {X : Type 0} (P : ℕ → X → Type 0) (xs : List X) (x : X) → P (length xs) x → EachAt P xs → EachAt P (xs ++ x ∷ [])
+one_at {X} P xs x is before k y e = elim (append_cases xs (x ∷ []) k y e) [
+  | inl h ↦ before k y h
+  | inr (zero, i, q) ↦ (let same : x ≡ y = cc in let here : length xs ≡ k = omega arith in subst (P k) same (subst (λ (j : ℕ). P j x) here is))
   | inr (suc j, i, q) ↦ absurd (cc)
 ]
+
+-- where the block with this number is found
+pub dealt : (rows block : ℕ) → block < rows * 32 → (block % 32 * rows + block / 32 < rows * 32) × (block_in rows (block % 32 * rows + block / 32) ≡ block)
+dealt rows block within =
+    let row : block / 32 < rows = (div-lt_iff_lt-mul (omega arith)).1 within in
+    let class : block % 32 < 32 = mod-lt block {m = 32} (omega arith) in
+    let inside : block % 32 * rows + block / 32 < rows * 32 = mul-add-lt (block % 32) rows (block / 32) 32 class row in
+    let place = block % 32 * rows + block / 32 in
+    let low : place % rows ≡ block / 32 = mod-mul-add (block % 32) rows (block / 32) row in
+    let high : place / rows ≡ block % 32 = div-mul-add (block % 32) rows (block / 32) row in
+    (inside, ap (λ (a : ℕ). a * 32 + place / rows) low ∙ ap (λ (b : ℕ). block / 32 * 32 + b) high ∙ div-add-mod' block 32)
 
 -- the starts of a range, and those of the range that goes on where it ends
 pub starts_more : (r : Rules) (tier lo : ℕ) (xs ys : List Start) → length xs ≡ lo → AreStarts r tier 0 xs → AreStarts r tier lo ys → AreStarts r tier 0 (xs ++ ys)
@@ -76,3 +88,13 @@ pub starts_part : (r : Rules) (tier lo n : ℕ) (xs : List Start) → AreStarts 
 starts_part r tier lo n xs all k x e =
     let same : 0 + (lo + k) ≡ lo + k = omega arith in
     subst (λ (m : ℕ). IsStart r (at tier m) x) same (all (lo + k) x (drop_get lo k xs x (take_get n k (drop lo xs) x e)))
+
+-- items that have a property at their places go with the numbers from n on
+each_zip : {X : Type 0} (P : ℕ → X → Type 0) (n : ℕ) (xs : List X) → ((k : ℕ) (x : X) → slice_get xs k ≡ Some x → P (n + k) x) → AllZip P (range_with_len n (length xs)) xs
+each_zip {X} P n [] each = tt
+each_zip {X} P n (x ∷ xs) each =
+    let here : n + 0 ≡ n = omega arith in
+    (subst (λ (m : ℕ). P m x) here (each 0 x refl), each_zip P (n + 1) xs (λ k y e. let next : n + suc k ≡ n + 1 + k = omega arith in subst (λ (m : ℕ). P m y) next (each (suc k) y e)))
+
+pub each_whole : {X : Type 0} (P : ℕ → X → Type 0) (xs : List X) → EachAt P xs → AllZip P (range_with_len 0 (length xs)) xs
+each_whole {X} P xs each = each_zip P 0 xs (λ k x e. let same : k ≡ 0 + k = omega arith in subst (λ (m : ℕ). P m x) same (each k x e))

@@ -1,21 +1,40 @@
--- The canonical children of a tier, in blocks of indexes.
-use Rattle.std.specs.Prelude.{◌≡◌, ℕ, ◌+◌, ◌*◌, ◌≤◌, suc, min, List, Some, length, slice_get}
+-- The canonical children of a tier, in blocks of 512 indexes that are dealt out to 32 classes in turn.
+use Rattle.std.specs.Prelude.{◌≡◌, ℕ, ◌+◌, ◌*◌, ◌/◌, ◌%◌, ◌<◌, ◌≤◌, suc, min, List, Some, Vec, length, slice_get}
+use Rattle.std.specs.declared.alloc.Global.{Global}
 use Rattle.gm_game.specs.Rules.{Rules}
 use Rattle.gm_shard.specs.declared.status.Start.{Start}
 use Rattle.gm_shard.specs.Begin.{AreStarts}
 use Rattle.gm_shard.specs.Lists.{ListsData}
 
+-- the number of the block that is found at a place, where blocks are found class after class, each of so many rows
+abbrev pub block_in : ℕ → ℕ → ℕ
+block_in rows place = place % rows * 32 + place / rows
+
 -- block k of a tier: the indexes from k widths on, as many as the width, cut at the size
-abbrev pub block_at : Rules → ℕ → ℕ → ℕ → ListsData
-block_at r tier width k = record { tier = tier; lo = min (k * width) (r.tier_size tier); hi = min (suc k * width) (r.tier_size tier) }
+abbrev pub block_at : Rules → ℕ → ℕ → ListsData
+block_at r tier k = record { tier = tier; lo = min (k * 512) (r.tier_size tier); hi = min (suc k * 512) (r.tier_size tier) }
+
+-- what the indexes of block k are at the start
+pub record IsPart (r : Rules) (tier k : ℕ) (starts : List Start) : Type 0 where
+  pub long : min (k * 512) (r.tier_size tier) + length starts ≡ min (suc k * 512) (r.tier_size tier)
+  pub starts_are : AreStarts r tier (min (k * 512) (r.tier_size tier)) starts
 
 -- what a scan of block k finds: its lists, and what each index is at the start
-pub record IsBlock (r : Rules) (tier width k : ℕ) (lists : ListsData) (starts : List Start) : Type 0 where
-  pub lists_are : lists ≡ block_at r tier width k
-  pub long : lists.lo + length starts ≡ lists.hi
-  pub starts_are : AreStarts r tier lists.lo starts
+pub record IsBlock (r : Rules) (tier k : ℕ) (lists : ListsData) (starts : List Start) : Type 0 where
+  pub lists_are : lists ≡ block_at r tier k
+  pub part : IsPart r tier k starts
 
--- blocks of this width from the first on, up to the last index of the tier
-pub record AreBlocks (r : Rules) (tier width : ℕ) (blocks : List ListsData) : Type 0 where
-  pub many : r.tier_size tier ≤ length blocks * width
-  pub each : (k : ℕ) (b : ListsData) → slice_get blocks k ≡ Some b → b ≡ block_at r tier width k
+-- each of these blocks is the one that is found at its place
+abbrev pub AreInPlace : Rules → ℕ → ℕ → List ListsData → Type 0
+AreInPlace r tier rows blocks = (place : ℕ) (b : ListsData) → slice_get blocks place ≡ Some b → b ≡ block_at r tier (block_in rows place)
+
+-- each of these lists has the starts of the block that is found at its place
+abbrev pub AreParts : Rules → ℕ → ℕ → List (Vec Start Global) → Type 0
+AreParts r tier rows parts = (place : ℕ) (p : Vec Start Global) → slice_get parts place ≡ Some p → IsPart r tier (block_in rows place) p.items
+
+-- the blocks have every index of the tier
+pub record AreBlocks (r : Rules) (tier rows : ℕ) (blocks : List ListsData) : Type 0 where
+  pub few : rows ≤ 1024
+  pub many : length blocks ≡ rows * 32
+  pub enough : r.tier_size tier ≤ rows * 16384
+  pub each : AreInPlace r tier rows blocks

@@ -5,13 +5,12 @@ ghost use Rattle.gm_table.specs.Tables.{AreHeld};
 ghost use Rattle.gm_shard.specs.Begin.{AreStarts, first_state};
 ghost use Rattle.gm_solver.specs.Over.{IsOver};
 
-use crate::tier_lists::TierLists;
+use crate::tier_lists::{TierLists, scan_alone};
 use gm_frontier::expected::Expected;
 use gm_game::game::Game;
 use gm_game::limits::TIER_SIZE;
 use gm_game::position::Position;
 use gm_shard::begin::start;
-use gm_shard::lists::scan;
 use gm_shard::shard::Shard;
 use gm_shard::status::Start;
 use gm_table::tables::Tables;
@@ -60,9 +59,7 @@ pub fn begin_tier<G: Game>(
     ensures over { IfOk result (λ begun. IsOver G.rules begun.0 begun.2) }
 {
     let _held = tables.has(tier);
-    let size = G::tier_size(tier);
-    let (lists, starts) = scan::<G>(alloc, tier, 0, size)?;
+    let (lists, starts) = scan_alone::<G>(alloc, tier)?;
     let shard = Shard::begin(alloc, tier, 0, starts.as_slice())?;
-    let lists = TierLists::whole(alloc, tier, lists)?;
-    Ok((shard, lists, Expected::start(tier, 0, size)))
+    Ok((shard, lists, Expected::start(tier, 0, G::tier_size(tier))))
 }

@@ -3,8 +3,7 @@ ghost use Rattle.std.specs.Prelude.{◌≡◌, ℕ, ◌*◌, ◌-◌, ◌<◌, �
 ghost use Rattle.std.specs.List.{AllZip, range_with_len};
 ghost use Rattle.gm_shard.specs.Begin.{AreStarts};
 ghost use Rattle.gm_shard.specs.Lists.{AreSmall};
-ghost use Rattle.gm_solver.specs.Over.{whole_lists};
-ghost use Rattle.gm_solver.specs.Blocks.{IsBlock};
+ghost use Rattle.gm_solver.specs.Blocks.{block_in, IsBlock, AreInPlace, AreParts};
 ghost use Rattle.gm_game.specs.declared.limits.TheConstants.{TIER_SIZE};
 
 use gm_game::game::Game;
@@ -16,53 +15,58 @@ use std::alloc::{AllocError, Global};
 use std::marker::{Model, PhantomData};
 use std::thread::Threads;
 
-/// How many indexes a thread scans at a time.
-const BLOCK: u64 = 4096;
+/// How many indexes a block has.
+const BLOCK: u64 = 512;
+
+/// Blocks are dealt out to so many classes in turn, and found class after class: canonical positions have low indexes, so threads that take parts of the tier would have unlike work.
+const CLASSES: u64 = 32;
+
+/// The indexes of one row of blocks, one for each class.
+const ROW: u64 = 16_384;
+
+/// A tier of no more indexes is scanned by the caller's thread alone.
+const FEW: u64 = 2048;
 
 /// The canonical children of each inner position of a tier. Contracts see the tier. They never change, so workers share them without a lock.
 #[derive(Drop)]
 pub struct TierLists<G: Game> {
     tier: u64,
-    width: u64,
+    rows: u64,
     blocks: Vec<Lists<G>>,
 }
 
 impl<G: Game> Model for TierLists<G> {
-    ghost use Rattle.std.specs.Prelude.{ℕ, ◌<◌};
+    ghost use Rattle.std.specs.Prelude.{ℕ};
     ghost use Rattle.gm_solver.specs.Blocks.{AreBlocks};
 
     ghost Value = { ℕ };
 
     ghost view = { λ t. t.tier };
 
-    ghost invariant = { λ t. (0 < t.width) × AreBlocks G.rules t.tier t.width t.blocks.items };
+    ghost invariant = { λ t. AreBlocks G.rules t.tier t.rows t.blocks.items };
 }
 
 impl<G: Game> TierLists<G> {
     ghost use Rattle.gm_shard.specs.Delivery.{IsPlaceOf};
-
-    // The lists of a whole tier as one block.
-    pub(crate) fn whole(alloc: Global, tier: u64, lists: Lists<G>) -> Result<Self, AllocError>
-        requires { lists ≡ whole_lists G.rules tier }
-        ensures { IfOk result (λ made. made ≡ tier) }
-    {
-        let mut blocks = Vec::new(alloc);
-        blocks.push(lists)?;
-        Ok(TierLists {
-            tier,
-            width: G::tier_size(tier).max(1),
-            blocks,
-        })
-    }
 
     /// The place of c among the canonical children of a parent, or `None` where it is none of them or the parent is no canonical legal position in which the game goes on. It asks the game nothing.
     pub fn place_of(&self, c: Position, parent: u64) -> Option<u32>
         requires { parent < G.rules.tier_size self.now }
         ensures { IsPlaceOf G.rules c self.now parent result }
     {
-        let block = &self.blocks[(parent / self.width) as usize];
-        block.place_of(c, parent)
+        let place = place_in(self.rows, parent / BLOCK);
+        self.blocks[place as usize].place_of(c, parent)
     }
+}
+
+// Where the block with this number is found, where each class has so many.
+fn place_in(rows: u64, block: u64) -> u64
+    requires few { rows ≤ 1024 }
+    requires within { block < rows * CLASSES }
+    ensures within { result < rows * CLASSES }
+    ensures value { block_in rows result ≡ block }
+{
+    block % CLASSES * rows + block / CLASSES
 }
 
 // A tier within the limits that is to be scanned in blocks.
@@ -70,67 +74,139 @@ impl<G: Game> TierLists<G> {
 struct Frame<G: Game> {
     tier: u64,
     size: u64,
+    rows: u64,
     game: PhantomData<G>,
     ghost size_is: { size ≡ G.rules.tier_size tier },
     ghost within: { size ≤ TIER_SIZE },
     ghost small: { AreSmall G.rules tier },
+    ghost some: { 0 < rows },
+    ghost few: { rows ≤ 1024 },
+    ghost enough: { size ≤ rows * 16384 },
 }
 
-impl<G: Game + Send + Sync> Frame<G> {
-    // Scans block k.
-    fn scan(&self, alloc: Global, k: u32) -> Result<(Lists<G>, Vec<Start>), AllocError>
-        ensures { IfOk result (λ found. IsBlock G.rules self.now.tier BLOCK k found.0 found.1.items) }
+impl<G: Game> Frame<G> {
+    // The frame of a tier.
+    fn of(tier: u64) -> Self
+        requires within { G.rules.tier_size tier ≤ TIER_SIZE }
+        requires small { AreSmall G.rules tier }
+        ensures { result.tier ≡ tier }
     {
-        let lo = (u64::from(k) * BLOCK).min(self.size);
-        let hi = ((u64::from(k) + 1) * BLOCK).min(self.size);
+        let size = G::tier_size(tier);
+        Frame {
+            tier,
+            size,
+            rows: size.div_ceil(ROW).max(1),
+            game: PhantomData,
+        }
+    }
+
+    // Scans the block that is found at a place.
+    fn scan(&self, alloc: Global, place: u32) -> Result<(Lists<G>, Vec<Start>), AllocError>
+        ensures { IfOk result (λ found. IsBlock G.rules self.now.tier (block_in self.now.rows place) found.0 found.1.items) }
+    {
+        let place = u64::from(place);
+        let block = place % self.rows * CLASSES + place / self.rows;
+        let lo = (block * BLOCK).min(self.size);
+        let hi = ((block + 1) * BLOCK).min(self.size);
         scan::<G>(alloc, self.tier, lo, hi)
     }
 
-    // Scans all blocks.
-    fn scan_all<R: Threads + Sync>(
+    // Scans all blocks, one after another.
+    fn scan_in_turn(
         &self,
-        rt: &R,
         alloc: Global,
     ) -> Result<Vec<Result<(Lists<G>, Vec<Start>), AllocError>>, AllocError>
-        ensures length { IfOk result (λ found. self.now.size ≤ length found.items * BLOCK) }
-        ensures each { IfOk result (λ found. AllZip (λ k r. IfOk r (λ block. IsBlock G.rules self.now.tier BLOCK k block.0 block.1.items)) (range_with_len 0 (length found.items)) found.items) }
+        ensures length { IfOk result (λ found. length found.items ≡ self.now.rows * CLASSES) }
+        ensures each { IfOk result (λ found. AllZip (λ place r. IfOk r (λ block. IsBlock G.rules self.now.tier (block_in self.now.rows place) block.0 block.1.items)) (range_with_len 0 (length found.items)) found.items) }
     {
-        (0..self.size.div_ceil(BLOCK) as u32)
-            .into_par_iter()
-            .with_min_len(1)
-            .map(
-                |k: u32| -> Result<(Lists<G>, Vec<Start>), AllocError>
-                    ensures { IfOk result (λ block. IsBlock G.rules self.entry.now.tier BLOCK k block.0 block.1.items) }
-                { self.scan(alloc, k) },
-            )
-            .collect(rt, alloc)
+        let mut found = Vec::new(alloc);
+        for place in 0..(self.rows * CLASSES) as u32 {
+            found.push(self.scan(alloc, place))?;
+        }
+        Ok(found)
     }
 
-    // Puts the blocks one after another.
+    // The lists of the blocks, and what their indexes are at the start, each as they were found.
+    fn separate(
+        &self,
+        alloc: Global,
+        found: Vec<Result<(Lists<G>, Vec<Start>), AllocError>>,
+    ) -> Result<(Vec<Lists<G>>, Vec<Vec<Start>>), AllocError>
+        requires { AllZip (λ place r. IfOk r (λ block. IsBlock G.rules self.now.tier (block_in self.now.rows place) block.0 block.1.items)) (range_with_len 0 (length found.items)) found.items }
+        ensures as_many { IfOk result (λ apart. (length apart.0.items ≡ length found.items) × (length apart.1.items ≡ length found.items)) }
+        ensures lists { IfOk result (λ apart. AreInPlace G.rules self.now.tier self.now.rows apart.0.items) }
+        ensures starts { IfOk result (λ apart. AreParts G.rules self.now.tier self.now.rows apart.1.items) }
+    {
+        let mut blocks = Vec::with_capacity(alloc, found.len())?;
+        let mut parts = Vec::with_capacity(alloc, found.len())?;
+        for entry in found {
+            let (lists, starts) = entry?;
+            blocks.push(lists)?;
+            parts.push(starts)?;
+        }
+        Ok((blocks, parts))
+    }
+
+    // What the indexes of the tier are at the start, in order.
+    fn in_order(&self, alloc: Global, parts: &[Vec<Start>]) -> Result<Vec<Start>, AllocError>
+        requires many { length parts.now ≡ self.now.rows * CLASSES }
+        requires each { AreParts G.rules self.now.tier self.now.rows parts.now }
+        ensures length { IfOk result (λ all. length all.items ≡ G.rules.tier_size self.now.tier) }
+        ensures starts { IfOk result (λ all. AreStarts G.rules self.now.tier 0 all.items) }
+    {
+        let mut all = Vec::with_capacity(alloc, self.size as usize)?;
+        for block in 0..self.rows * CLASSES {
+            let part = &parts[place_in(self.rows, block) as usize];
+            all.extend_from_slice(part.as_slice())?;
+        }
+        Ok(all)
+    }
+
+    // The lists of the blocks and what their indexes are at the start, together.
     fn join(
         &self,
         alloc: Global,
         found: Vec<Result<(Lists<G>, Vec<Start>), AllocError>>,
     ) -> Result<(TierLists<G>, Vec<Start>), AllocError>
-        requires many { self.now.size ≤ length found.items * BLOCK }
-        requires each { AllZip (λ k r. IfOk r (λ block. IsBlock G.rules self.now.tier BLOCK k block.0 block.1.items)) (range_with_len 0 (length found.items)) found.items }
+        requires many { length found.items ≡ self.now.rows * CLASSES }
+        requires each { AllZip (λ place r. IfOk r (λ block. IsBlock G.rules self.now.tier (block_in self.now.rows place) block.0 block.1.items)) (range_with_len 0 (length found.items)) found.items }
         ensures lists { IfOk result (λ all. all.0 ≡ self.now.tier) }
         ensures length { IfOk result (λ all. length all.1.items ≡ G.rules.tier_size self.now.tier) }
         ensures starts { IfOk result (λ all. AreStarts G.rules self.now.tier 0 all.1.items) }
     {
-        let mut blocks = Vec::new(alloc);
-        let mut all = Vec::new(alloc);
-        for entry in found {
-            let (lists, starts) = entry?;
-            blocks.push(lists)?;
-            all.extend_from_slice(starts.as_slice())?;
-        }
+        let (blocks, parts) = self.separate(alloc, found)?;
+        let all = self.in_order(alloc, parts.as_slice())?;
         let lists = TierLists {
             tier: self.tier,
-            width: BLOCK,
+            rows: self.rows,
             blocks,
         };
         Ok((lists, all))
+    }
+}
+
+impl<G: Game + Send + Sync> Frame<G> {
+    // Scans all blocks, by as many threads as there are processors where there are many indexes.
+    fn scan_all<R: Threads + Sync>(
+        &self,
+        rt: &R,
+        alloc: Global,
+    ) -> Result<Vec<Result<(Lists<G>, Vec<Start>), AllocError>>, AllocError>
+        ensures length { IfOk result (λ found. length found.items ≡ self.now.rows * CLASSES) }
+        ensures each { IfOk result (λ found. AllZip (λ place r. IfOk r (λ block. IsBlock G.rules self.now.tier (block_in self.now.rows place) block.0 block.1.items)) (range_with_len 0 (length found.items)) found.items) }
+    {
+        if self.size <= FEW {
+            return self.scan_in_turn(alloc);
+        }
+        (0..(self.rows * CLASSES) as u32)
+            .into_par_iter()
+            .with_min_len(1)
+            .map(
+                |place: u32| -> Result<(Lists<G>, Vec<Start>), AllocError>
+                    ensures { IfOk result (λ block. IsBlock G.rules self.entry.now.tier (block_in self.entry.now.rows place) block.0 block.1.items) }
+                { self.scan(alloc, place) },
+            )
+            .collect(rt, alloc)
     }
 }
 
@@ -146,11 +222,23 @@ pub(crate) fn scan_tier<G: Game + Send + Sync, R: Threads + Sync>(
     ensures length { IfOk result (λ all. length all.1.items ≡ G.rules.tier_size tier) }
     ensures starts { IfOk result (λ all. AreStarts G.rules tier 0 all.1.items) }
 {
-    let frame = Frame::<G> {
-        tier,
-        size: G::tier_size(tier),
-        game: PhantomData,
-    };
+    let frame = Frame::<G>::of(tier);
     let found = frame.scan_all(rt, alloc)?;
+    frame.join(alloc, found)
+}
+
+/// The same, by the caller's thread alone.
+pub(crate) fn scan_alone<G: Game>(
+    alloc: Global,
+    tier: u64,
+) -> Result<(TierLists<G>, Vec<Start>), AllocError>
+    requires within { G.rules.tier_size tier ≤ TIER_SIZE }
+    requires small { AreSmall G.rules tier }
+    ensures lists { IfOk result (λ all. all.0 ≡ tier) }
+    ensures length { IfOk result (λ all. length all.1.items ≡ G.rules.tier_size tier) }
+    ensures starts { IfOk result (λ all. AreStarts G.rules tier 0 all.1.items) }
+{
+    let frame = Frame::<G>::of(tier);
+    let found = frame.scan_in_turn(alloc)?;
     frame.join(alloc, found)
 }

@@ -12,7 +12,7 @@ ghost use Rattle.gm_table.specs.Tables.{AreHeld, IsTable};
 ghost use Rattle.gm_solver.specs.Covered.{IsCovered};
 ghost use Rattle.gm_solver.specs.Solving.{IsTooFar, AreDeliveries};
 ghost use Rattle.gm_solver.specs.Spots.{spot_of};
-ghost use Rattle.gm_solver.specs.Tiling.{IsWide, AreShardsAt, AreCountsAt, HaveNoneHere, AreGood, tile_at, spot_counted};
+ghost use Rattle.gm_solver.specs.Tiling.{IsWide, AreShardsAt, AreCountsAt, HaveNoneHere, AreGood, AreTwo, tile_at, spot_counted};
 ghost use Rattle.gm_solver.specs.Rounds.{HasNoneHere};
 
 use crate::board::Four;
@@ -21,13 +21,13 @@ use gm_frontier::expected::Expected;
 use gm_frontier::last::Last;
 use gm_game::game::Game;
 use gm_game::limits::{REMOTENESS, TIER_SIZE};
-use gm_game::position::Solved;
 use gm_shard::shard::Shard;
 use gm_shard::status::Start;
+use gm_table::packed::Packed;
 use gm_table::table::Table;
 use gm_table::tables::Tables;
 use std::alloc::{AllocError, Global};
-use std::thread::Threads;
+use std::thread::{Threads, join};
 
 /// Four shards that tile a tier at one place, each with the count of the pairs into it, and the canonical children of the tier.
 #[derive(Drop)]
@@ -78,28 +78,49 @@ fn begin_tile<G: Game>(
     Ok((shard, Expected::start(tier, lo, hi)))
 }
 
+// Two shards of a tier before its first level, each with the count of the pairs into it.
+type Two<G> = Result<((Shard<G>, Expected<G>), (Shard<G>, Expected<G>)), AllocError>;
+
 // The shards of tiles k and k + 1, each with the count of the pairs into it.
-fn begin_two<G: Game>(
-    alloc: Global,
-    tier: u64,
-    width: u64,
-    k: u64,
-    starts: &[Start],
-) -> Result<((Shard<G>, Expected<G>), (Shard<G>, Expected<G>)), AllocError>
+fn begin_two<G: Game>(alloc: Global, tier: u64, width: u64, k: u64, starts: &[Start]) -> Two<G>
     requires starts { AreStarts G.rules tier 0 starts.now }
     requires whole { length starts.now ≡ G.rules.tier_size tier }
     requires small { G.rules.tier_size tier ≤ TIER_SIZE }
     requires wide { IsWide G.rules tier width }
     requires tiles { k < 3 }
-    ensures low { IfOk result (λ begun. spot_of begun.0.0 ≡ tile_at G.rules (place_at tier WinLose 0) width k) }
-    ensures low_count { IfOk result (λ begun. spot_counted begun.0.1 ≡ tile_at G.rules (place_at tier WinLose 0) width k) }
-    ensures high { IfOk result (λ begun. spot_of begun.1.0 ≡ tile_at G.rules (place_at tier WinLose 0) width (k + 1)) }
-    ensures high_count { IfOk result (λ begun. spot_counted begun.1.1 ≡ tile_at G.rules (place_at tier WinLose 0) width (k + 1)) }
-    ensures none { IfOk result (λ begun. HasNoneHere G.rules begun.0.0 × HasNoneHere G.rules begun.1.0) }
+    ensures { IfOk result (λ two. AreTwo G.rules tier width k two.0.0 two.0.1 two.1.0 two.1.1) }
 {
     let low = begin_tile(alloc, tier, width, k, starts)?;
     let high = begin_tile(alloc, tier, width, k + 1, starts)?;
     Ok((low, high))
+}
+
+// The shards of all four tiles, two by two side by side, each with the count of the pairs into it.
+fn begin_four<G: Game + Send + Sync, R: Threads + Sync>(
+    rt: &R,
+    alloc: Global,
+    tier: u64,
+    width: u64,
+    starts: &[Start],
+) -> (Two<G>, Two<G>)
+    requires starts { AreStarts G.rules tier 0 starts.now }
+    requires whole { length starts.now ≡ G.rules.tier_size tier }
+    requires small { G.rules.tier_size tier ≤ TIER_SIZE }
+    requires wide { IsWide G.rules tier width }
+    ensures low { IfOk result.0 (λ two. AreTwo G.rules tier width 0 two.0.0 two.0.1 two.1.0 two.1.1) }
+    ensures high { IfOk result.1 (λ two. AreTwo G.rules tier width 2 two.0.0 two.0.1 two.1.0 two.1.1) }
+{
+    join(
+        rt,
+        || -> Two<G>
+            requires { AreStarts G.rules tier 0 starts.now × (length starts.now ≡ G.rules.tier_size tier) × (G.rules.tier_size tier ≤ TIER_SIZE) × IsWide G.rules tier width }
+            ensures { IfOk result (λ two. AreTwo G.rules tier width 0 two.0.0 two.0.1 two.1.0 two.1.1) }
+        { begin_two(alloc, tier, width, 0, starts) },
+        || -> Two<G>
+            requires { AreStarts G.rules tier 0 starts.now × (length starts.now ≡ G.rules.tier_size tier) × (G.rules.tier_size tier ≤ TIER_SIZE) × IsWide G.rules tier width }
+            ensures { IfOk result (λ two. AreTwo G.rules tier width 2 two.0.0 two.0.1 two.1.0 two.1.1) }
+        { begin_two(alloc, tier, width, 2, starts) },
+    )
 }
 
 /// A tier before its first level.
@@ -117,8 +138,10 @@ pub(crate) fn begin_tiles<G: Game + Send + Sync, R: Threads + Sync>(
 {
     let _held = tables.has(tier);
     let (lists, starts) = scan_tier::<G, R>(rt, alloc, tier)?;
-    let ((a, in_a), (b, in_b)) = begin_two(alloc, tier, width, 0, starts.as_slice())?;
-    let ((c, in_c), (d, in_d)) = begin_two(alloc, tier, width, 2, starts.as_slice())?;
+    let (low, high) = begin_four::<G, R>(rt, alloc, tier, width, starts.as_slice());
+    drop(starts);
+    let ((a, in_a), (b, in_b)) = low?;
+    let ((c, in_c), (d, in_d)) = high?;
     Ok(Tiles {
         shards: Four { a, b, c, d },
         counts: Four {
@@ -180,12 +203,13 @@ impl<G: Game> Tiles<G> {
     }
 
     // The true records of the tier, where nothing is left to settle.
-    fn records(&self, alloc: Global, last: &Last<G>) -> Result<Vec<Option<Solved>>, AllocError>
+    fn records(&self, alloc: Global, last: &Last<G>) -> Result<Packed, AllocError>
         requires last { last.now ≡ place_of self.now.shards.a }
         requires ties { self.now.shards.a.phase ≡ Ties }
-        ensures { IfOk result (λ records. IsTrueTable G.rules REMOTENESS self.now.shards.a.tier records.items) }
+        ensures { IfOk result (IsTrueTable G.rules REMOTENESS self.now.shards.a.tier) }
     {
-        let mut records = Vec::new(alloc);
+        let size = G::tier_size(self.shards.a.tier());
+        let mut records = Packed::with_capacity(alloc, size as usize)?;
         self.shards.a.finish(last, &mut records)?;
         self.shards.b.finish(last, &mut records)?;
         self.shards.c.finish(last, &mut records)?;
@@ -223,7 +247,6 @@ impl<G: Game> Tiles<G> {
         let _end = last.place();
         let _held = tables.has(tier);
         let records = self.records(alloc, last)?;
-        let table = Table::from_true(alloc, tier, records.as_slice())?;
-        Ok((table, self.number()))
+        Ok((Table::from_packed(tier, records), self.number()))
     }
 }

@@ -1,11 +1,16 @@
 -- The greatest level of the records, and the indexes of those at a place.
 use Rattle.std.proofs.Common.{◌≡◌, ℕ, zero, suc, ◌<◌, ◌+◌, max, List, [], ◌∷◌, ◌++◌, take, length, get_or, refl, sym, ap, ◌∙◌, subst, arith, Option, None, Some, ◌⊎◌, inl, inr}
 use Rattle.std.proofs.lemmas.List.{take_more}
-use Rattle.std.proofs.lemmas.Option.{none-some, same_Some}
+use Rattle.std.proofs.lemmas.Option.{none-some, same_Some, slice_get-get_or}
 use Rattle.std.proofs.lemmas.Bool.{cases_lt}
 use Rattle.gm_game.specs.declared.position.Solved.{Solved}
 use Rattle.gm_game.specs.declared.position.Phase.{Phase}
+use Rattle.gm_table.specs.Tables.{record_at}
 use Rattle.gm_table.specs.Levels.{level_in, HasLevel, IsGreatest, later, greatest_of}
+
+-- the record at an index
+pub record_read : (os : List (Option Solved)) (i : ℕ) → i < length os → record_at os i ≡ get_or os i None
+record_read os i inside = ap (λ (known : Option (Option Solved)). elim known [ None ↦ None | Some o ↦ o ]) (slice_get-get_or os i None inside)
 
 later_none : (a : Option ℕ) → later a None ≡ a
 later_none None = refl

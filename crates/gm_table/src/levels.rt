@@ -2,6 +2,7 @@
 ghost use Rattle.std.specs.Prelude.{◌≡◌};
 ghost use Rattle.gm_table.specs.Levels.{level_in as level_in_spec, later as later_spec, greatest_of};
 
+use crate::packed::Packed;
 use gm_game::position::{Phase, Solved, Value};
 
 /// The level at which a record stands in a phase: its remoteness, or `None` where its value isn't settled in that phase.
@@ -28,12 +29,12 @@ fn later(a: Option<u32>, b: Option<u32>) -> Option<u32>
 }
 
 /// The greatest level of the phase at which one of these records stands.
-pub(crate) fn greatest_in(phase: Phase, records: &[Option<Solved>]) -> Option<u32>
+pub(crate) fn greatest_in(phase: Phase, records: &Packed) -> Option<u32>
     ensures { result ≡ greatest_of phase records.now }
 {
     let mut greatest = None;
-    for known in records {
-        greatest = later(greatest, level_in(phase, *known));
+    for index in 0..records.len() {
+        greatest = later(greatest, level_in(phase, records.get(index)));
     }
     greatest
 }

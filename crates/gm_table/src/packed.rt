@@ -1,5 +1,5 @@
 //! Records of four bytes each.
-ghost use Rattle.std.specs.Prelude.{◌≡◌, ◌≢◌, ◌*◌, ◌≤◌, ◌<◌, ◌++◌, map, IfSome, IfOk, length, OnOk};
+ghost use Rattle.std.specs.Prelude.{◌≡◌, ◌≢◌, ◌*◌, ◌≤◌, ◌<◌, ◌++◌, [], ◌∷◌, map, take, IfSome, IfOk, length, OnOk, OnErr};
 ghost use Rattle.gm_game.specs.declared.limits.TheConstants.{REMOTENESS};
 ghost use Rattle.gm_table.specs.Packed.{code_of, unpacked, IsNear, AreNear};
 ghost use Rattle.gm_table.specs.Tables.{record_at};
@@ -13,7 +13,7 @@ const STEP: u32 = 1_048_576;
 
 /// Records of four bytes each. Contracts see the records.
 #[derive(Drop)]
-pub(crate) struct Packed {
+pub struct Packed {
     numbers: Vec<u32>,
 }
 
@@ -28,6 +28,31 @@ impl Model for Packed {
 }
 
 impl Packed {
+    /// No records, with room for so many.
+    pub fn with_capacity(alloc: Global, room: usize) -> Result<Packed, AllocError>
+        ensures { IfOk result (λ packed. packed ≡ []) }
+    {
+        let numbers = Vec::with_capacity(alloc, room)?;
+        Ok(Packed { numbers })
+    }
+
+    /// Adds a record within the greatest remoteness at the end. On want of memory the records are as before.
+    pub fn push(&mut self, known: Option<Solved>) -> Result<(), AllocError>
+        requires { IsNear known }
+        ensures ok { OnOk result (self.new ≡ self.old ++ known ∷ []) }
+        ensures err { OnErr result (self.new ≡ self.old) }
+    {
+        self.numbers.push(number_of(known))?;
+        Ok(())
+    }
+
+    /// Leaves the first records, as many as are told.
+    pub fn truncate(&mut self, count: usize)
+        ensures { self.new ≡ take count self.old }
+    {
+        self.numbers.truncate(count);
+    }
+
     /// Packs records within the greatest remoteness.
     pub(crate) fn of(alloc: Global, records: &[Option<Solved>]) -> Result<Packed, AllocError>
         requires { AreNear records.now }
@@ -41,14 +66,14 @@ impl Packed {
     }
 
     /// How many records there are.
-    pub(crate) fn len(&self) -> usize
+    pub fn len(&self) -> usize
         ensures { result ≡ length self.now }
     {
         self.numbers.len()
     }
 
     /// The record at an index; `None` past the end.
-    pub(crate) fn get(&self, index: usize) -> Option<Solved>
+    pub fn get(&self, index: usize) -> Option<Solved>
         ensures { result ≡ record_at self.now index }
     {
         unpacked(*self.numbers.get(index)?)

@@ -47,13 +47,25 @@ impl<G: Game> Table<G> {
         ensures tier { IfOk result (λ t. t.tier ≡ tier) }
         ensures records { IfOk result (λ t. t.records ≡ records.now) }
     {
-        Ok(Table {
+        Ok(Table::from_packed(tier, Packed::of(alloc, records)?))
+    }
+
+    /// The same, of records that are packed already: it asks for no memory.
+    pub fn from_packed(tier: u64, records: Packed) -> Self
+        requires is_true { IsTrueTable G.rules REMOTENESS tier records }
+        requires is_small { G.rules.tier_size tier ≤ TIER_SIZE }
+        ensures tier { result.tier ≡ tier }
+        ensures records { result.records ≡ records }
+    {
+        let greatest_win_lose = greatest_in(Phase::WinLose, &records);
+        let greatest_tie = greatest_in(Phase::Ties, &records);
+        Table {
             tier,
-            records: Packed::of(alloc, records)?,
-            greatest_win_lose: greatest_in(Phase::WinLose, records),
-            greatest_tie: greatest_in(Phase::Ties, records),
+            records,
+            greatest_win_lose,
+            greatest_tie,
             game: PhantomData,
-        })
+        }
     }
 
     /// The tier of the table.

@@ -7,7 +7,5 @@ pub mod moves;
 pub mod segment;
 pub mod side;
 pub mod tactix;
-#[cfg(test)]
-mod tests;
 pub mod text;
 pub mod tiers;

@@ -55,17 +55,17 @@ one_place r n k s h =
     ap (λ m. goes_through r m k s) left ∙ ap (λ j. goes_through r (n - (k + 1)) j (comes_to_children r k s)) next
 
 -- a search that has gone on to a place, and on to the child tiers of the tier there
-pub place_more : (r : Rules) (n k t : ℕ) (found new : List ℕ) → k < n → search_of r ≡ goes_through r (n - k) k (Ok found) → slice_get found k ≡ Some t
-    → comes_to_all r (Ok found) (r.child_tiers t) ≡ Ok new → search_of r ≡ goes_through r (n - (k + 1)) (k + 1) (Ok new)
-place_more r n k t found new h before at e =
+pub place_more : (r : Rules) (first : ℕ) (n k t : ℕ) (found new : List ℕ) → k < n → search_of r first ≡ goes_through r (n - k) k (Ok found) → slice_get found k ≡ Some t
+    → comes_to_all r (Ok found) (r.child_tiers t) ≡ Ok new → search_of r first ≡ goes_through r (n - (k + 1)) (k + 1) (Ok new)
+place_more r first n k t found new h before at e =
     before ∙ one_place r n k (Ok found) h ∙ ap (goes_through r (n - (k + 1)) (k + 1)) (at_place r found k t at ∙ e)
 
-pub place_ends : (r : Rules) (n k t : ℕ) (found : List ℕ) (e : TierError) → k < n → search_of r ≡ goes_through r (n - k) k (Ok found) → slice_get found k ≡ Some t
-    → EndsWith (comes_to_all r (Ok found) (r.child_tiers t)) e → EndsWith (search_of r) e
-place_ends r n k t found e h before at (inl o) = inl o
-place_ends r n k t found e h before at (inr s) =
+pub place_ends : (r : Rules) (first : ℕ) (n k t : ℕ) (found : List ℕ) (e : TierError) → k < n → search_of r first ≡ goes_through r (n - k) k (Ok found) → slice_get found k ≡ Some t
+    → EndsWith (comes_to_all r (Ok found) (r.child_tiers t)) e → EndsWith (search_of r first) e
+place_ends r first n k t found e h before at (inl o) = inl o
+place_ends r first n k t found e h before at (inr s) =
     inr (before ∙ one_place r n k (Ok found) h ∙ ap (goes_through r (n - (k + 1)) (k + 1)) (at_place r found k t at ∙ s) ∙ ended_through r e (n - (k + 1)) (k + 1))
 
-pub first_ends : (r : Rules) (e : TierError) → EndsWith (comes_to r (Ok []) r.initial.tier) e → EndsWith (search_of r) e
-first_ends r e (inl o) = inl o
-first_ends r e (inr s) = inr (ap (goes_through r TIERS 0) s ∙ ended_through r e TIERS 0)
+pub first_ends : (r : Rules) (first : ℕ) (e : TierError) → EndsWith (comes_to r (Ok []) first) e → EndsWith (search_of r first) e
+first_ends r first e (inl o) = inl o
+first_ends r first e (inr s) = inr (ap (goes_through r TIERS 0) s ∙ ended_through r e TIERS 0)

@@ -15,10 +15,10 @@ use Rattle.std.proofs.lemmas.Grind.{get_or_default_zero}
 use Rattle.gm_game.specs.declared.limits.TheConstants.{TIERS}
 use Rattle.gm_game.specs.Rules.{Rules}
 use Rattle.gm_game.specs.Laws.{IsGame}
-use Rattle.gm_tiers.specs.Reach.{IsReached}
+use Rattle.gm_tiers.specs.Reach.{IsReachedFrom}
 use Rattle.gm_tiers.specs.Limits.{AreFound}
 use Rattle.gm_tiers.proofs.SearchLemmas.{search_reached, reached_found}
-use Rattle.gm_tiers.specs.Orders.{IsBefore, IsTierOrder, ComeChildrenFirst}
+use Rattle.gm_tiers.specs.Orders.{IsBefore, IsOrderFrom, ComeChildrenFirst}
 
 abbrev pub pair_cmp : ℕ × ℕ → ℕ × ℕ → Ordering
 pair_cmp x y = ordering_then (nat_cmp x.0 y.0) (nat_cmp x.1 y.1)
@@ -40,8 +40,8 @@ ordered r tiers once up i j d i<j j<n =
     (once i j d i<j j<n)
 
 -- a child tier has a smaller rank, so it comes first
-pub children_first : (r : Rules) → IsGame r → (tiers : List ℕ) → IsTierOrder r tiers → ComeChildrenFirst r tiers
-children_first r laws tiers is k t child e c =
+pub children_first : (r : Rules) → IsGame r → (first : ℕ) (tiers : List ℕ) → IsOrderFrom r first tiers → ComeChildrenFirst r tiers
+children_first r laws first tiers is k t child e c =
     let inside : k < length tiers = slice_get_within tiers k t e in
     let here : get_or tiers k 0 ≡ t = get_or_from_slice_get tiers k t 0 e in
     let (n, reached) = (is.each t).0 (k, inside, get_or_from_slice_get tiers k t t e) in
@@ -60,11 +60,11 @@ children_first r laws tiers is k t child e c =
     (cases_lt j k)
 
 -- the tiers that a search finds, sorted
-pub order_is : (r : Rules) (found tiers : List ℕ) → AreFound r found → IsPermutation found tiers → AllPairs (IsBefore r) tiers → IsTierOrder r tiers
-order_is r found tiers is same up = record {
+pub order_is : (r : Rules) (first : ℕ) (found tiers : List ℕ) → AreFound r first found → IsPermutation found tiers → AllPairs (IsBefore r) tiers → IsOrderFrom r first tiers
+order_is r first found tiers is same up = record {
   each = λ t. (
-    λ (has : Contains tiers t). search_reached r found is.within.search t (back t has),
-    λ (h : IsReached r t). Contains-permutation found tiers t same (reached_found r found is h.0 t h.1),
+    λ (has : Contains tiers t). search_reached r first found is.within.search t (back t has),
+    λ (h : IsReachedFrom r first t). Contains-permutation found tiers t same (reached_found r first found is h.0 t h.1),
   );
   ordered = up;
   few = let few : length found ≤ TIERS = is.within.few in omega (arith, length_permutation found tiers same);

@@ -9,7 +9,7 @@ use Rattle.std.proofs.lemmas.List.Quantifiers.{all_pairs_push}
 use Rattle.gm_game.specs.declared.limits.TheConstants.{TIER_SIZE, TIERS}
 use Rattle.gm_game.specs.Rules.{Rules}
 use Rattle.gm_game.proofs.Lists.{any_from, any_in, contains_none, contains_cases}
-use Rattle.gm_tiers.specs.Reach.{IsReachedIn, IsReached, IsNext, IsSearchFrom, IsSearch, IsClosed, IsGrown}
+use Rattle.gm_tiers.specs.Reach.{IsReachedIn, IsReachedFrom, IsNext, IsSearchOn, IsSearch, IsClosed, IsGrown}
 use Rattle.gm_tiers.specs.Limits.{AreWithin, AreFound, IsFoundNext, HasTooMany, AreMoreThan}
 
 -- what the test of a set means
@@ -24,25 +24,25 @@ pub put_last : (ks : List ℕ) (k : ℕ) → list_any (nat_eq k) ks ≡ false �
 put_last ks k h = ap (λ b. if b then ks else ks ++ k ∷ []) h
 
 -- a child tier of one that is found comes next
-pub next_child : (r : Rules) (found : List ℕ) (parent child : ℕ) → Contains found parent → Contains (r.child_tiers parent) child → IsNext r found child
-next_child r [] parent child has is = absurd (contains_none parent has)
-next_child r (t ∷ ts) parent child has is = (parent, has, is)
+pub next_child : (r : Rules) (first : ℕ) (found : List ℕ) (parent child : ℕ) → Contains found parent → Contains (r.child_tiers parent) child → IsNext r first found child
+next_child r first [] parent child has is = absurd (contains_none parent has)
+next_child r first (t ∷ ts) parent child has is = (parent, has, is)
 
 -- a search goes on to one more
-searched_more : (r : Rules) (found ts : List ℕ) (t : ℕ) → IsSearchFrom r found ts → IsNext r (found ++ ts) t → (Contains (found ++ ts) t → ⊥) → IsSearchFrom r found (ts ++ t ∷ [])
-searched_more r found [] t s next fresh =
-    (subst (λ l. IsNext r l t) (append-nil found) next, λ has. fresh (subst (λ l. Contains l t) (sym (append-nil found)) has), tt)
-searched_more r found (u ∷ us) t s next fresh =
+searched_more : (r : Rules) (first : ℕ) (found ts : List ℕ) (t : ℕ) → IsSearchOn r first found ts → IsNext r first (found ++ ts) t → (Contains (found ++ ts) t → ⊥) → IsSearchOn r first found (ts ++ t ∷ [])
+searched_more r first found [] t s next fresh =
+    (subst (λ l. IsNext r first l t) (append-nil found) next, λ has. fresh (subst (λ l. Contains l t) (sym (append-nil found)) has), tt)
+searched_more r first found (u ∷ us) t s next fresh =
     let e : found ++ (u ∷ us) ≡ (found ++ u ∷ []) ++ us = sym (append_assoc found (u ∷ []) us) in (
       s.0,
       s.1,
-      searched_more r (found ++ u ∷ []) us t s.2 (subst (λ l. IsNext r l t) e next)
+      searched_more r first (found ++ u ∷ []) us t s.2 (subst (λ l. IsNext r first l t) e next)
           (λ has. fresh (subst (λ l. Contains l t) (sym e) has)),
     )
 
-pub one_more : (r : Rules) (found : List ℕ) (tier : ℕ) → IsFoundNext r found tier → r.tier_size tier ≤ TIER_SIZE → length found < TIERS → AreWithin r (found ++ tier ∷ [])
-one_more r found tier is small room = record {
-  search = searched_more r [] found tier is.within.search is.next is.fresh;
+pub one_more : (r : Rules) (first : ℕ) (found : List ℕ) (tier : ℕ) → IsFoundNext r first found tier → r.tier_size tier ≤ TIER_SIZE → length found < TIERS → AreWithin r first (found ++ tier ∷ [])
+one_more r first found tier is small room = record {
+  search = searched_more r first [] found tier is.within.search is.next is.fresh;
   small = λ t has. ⊎_elim (λ (old : Contains found t). is.within.small t old) (λ (e : tier ≡ t). subst (λ u. r.tier_size u ≤ TIER_SIZE) e small) (Contains-push_cases found tier t has);
   few = omega (arith, length-append found (tier ∷ []));
 }
@@ -58,48 +58,48 @@ pub grown_again : (a b c : List ℕ) → IsGrown a b → IsGrown b c → IsGrown
 grown_again a b c (more, e) (most, f) = (more ++ most, f ∙ ap (λ l. l ++ most) e ∙ append_assoc a more most)
 
 -- each tier that is found is reached
-next_reached : (r : Rules) (found : List ℕ) (t : ℕ) → ((u : ℕ) → Contains found u → IsReached r u) → IsNext r found t → IsReached r t
-next_reached r [] t all next = (zero, next)
-next_reached r (x ∷ xs) t all (parent, has, is) = let (n, reached) = all parent has in (suc n, (parent, reached, is))
+next_reached : (r : Rules) (first : ℕ) (found : List ℕ) (t : ℕ) → ((u : ℕ) → Contains found u → IsReachedFrom r first u) → IsNext r first found t → IsReachedFrom r first t
+next_reached r first [] t all next = (zero, next)
+next_reached r first (x ∷ xs) t all (parent, has, is) = let (n, reached) = all parent has in (suc n, (parent, reached, is))
 
-searched_reached : (r : Rules) (found ts : List ℕ) → ((u : ℕ) → Contains found u → IsReached r u) → IsSearchFrom r found ts → (t : ℕ) → Contains ts t → IsReached r t
-searched_reached r found [] all s t has = absurd (contains_none t has)
-searched_reached r found (x ∷ xs) all s t has =
-    let first : IsReached r x = next_reached r found x all s.0 in
-    let more = λ (u : ℕ) (h : Contains (found ++ x ∷ []) u). ⊎_elim (λ (old : Contains found u). all u old) (λ (e : x ≡ u). subst (IsReached r) e first) (Contains-push_cases found x u h) in
-    ⊎_elim (λ (e : x ≡ t). subst (IsReached r) e first) (λ (h : Contains xs t). searched_reached r (found ++ x ∷ []) xs more s.2 t h) (contains_cases x t xs has)
+searched_reached : (r : Rules) (first : ℕ) (found ts : List ℕ) → ((u : ℕ) → Contains found u → IsReachedFrom r first u) → IsSearchOn r first found ts → (t : ℕ) → Contains ts t → IsReachedFrom r first t
+searched_reached r first found [] all s t has = absurd (contains_none t has)
+searched_reached r first found (x ∷ xs) all s t has =
+    let here : IsReachedFrom r first x = next_reached r first found x all s.0 in
+    let more = λ (u : ℕ) (h : Contains (found ++ x ∷ []) u). ⊎_elim (λ (old : Contains found u). all u old) (λ (e : x ≡ u). subst (IsReachedFrom r first) e here) (Contains-push_cases found x u h) in
+    ⊎_elim (λ (e : x ≡ t). subst (IsReachedFrom r first) e here) (λ (h : Contains xs t). searched_reached r first (found ++ x ∷ []) xs more s.2 t h) (contains_cases x t xs has)
 
-pub search_reached : (r : Rules) (found : List ℕ) → IsSearch r found → (t : ℕ) → Contains found t → IsReached r t
-search_reached r found s = searched_reached r [] found (λ u h. absurd (contains_none u h)) s
+pub search_reached : (r : Rules) (first : ℕ) (found : List ℕ) → IsSearch r first found → (t : ℕ) → Contains found t → IsReachedFrom r first t
+search_reached r first found s = searched_reached r first [] found (λ u h. absurd (contains_none u h)) s
 
-pub found_next_reached : (r : Rules) (found : List ℕ) (t : ℕ) → IsFoundNext r found t → IsReached r t
-found_next_reached r found t is = next_reached r found t (search_reached r found is.within.search) is.next
+pub found_next_reached : (r : Rules) (first : ℕ) (found : List ℕ) (t : ℕ) → IsFoundNext r first found t → IsReachedFrom r first t
+found_next_reached r first found t is = next_reached r first found t (search_reached r first found is.within.search) is.next
 
 -- no tier is found twice
-searched_once : (r : Rules) (found ts : List ℕ) → AllPairs (λ (t u : ℕ). t ≢ u) found → IsSearchFrom r found ts → AllPairs (λ (t u : ℕ). t ≢ u) (found ++ ts)
-searched_once r found [] once s = subst (AllPairs (λ (t u : ℕ). t ≢ u)) (sym (append-nil found)) once
-searched_once r found (x ∷ xs) once s =
+searched_once : (r : Rules) (first : ℕ) (found ts : List ℕ) → AllPairs (λ (t u : ℕ). t ≢ u) found → IsSearchOn r first found ts → AllPairs (λ (t u : ℕ). t ≢ u) (found ++ ts)
+searched_once r first found [] once s = subst (AllPairs (λ (t u : ℕ). t ≢ u)) (sym (append-nil found)) once
+searched_once r first found (x ∷ xs) once s =
     let push : AllPairs (λ (t u : ℕ). t ≢ u) (found ++ x ∷ []) = once_more found x once s.1 in
-    subst (AllPairs (λ (t u : ℕ). t ≢ u)) (append_assoc found (x ∷ []) xs) (searched_once r (found ++ x ∷ []) xs push s.2)
+    subst (AllPairs (λ (t u : ℕ). t ≢ u)) (append_assoc found (x ∷ []) xs) (searched_once r first (found ++ x ∷ []) xs push s.2)
   where
     once_more : (found : List ℕ) (x : ℕ) → AllPairs (λ (t u : ℕ). t ≢ u) found → (Contains found x → ⊥) → AllPairs (λ (t u : ℕ). t ≢ u) (found ++ x ∷ [])
     once_more found x once fresh =
         all_pairs_push (λ (t u : ℕ). t ≢ u) found x once (λ k d h e. fresh (subst (Contains found) e (Contains-get_or found k d h)))
 
-pub search_once : (r : Rules) (found : List ℕ) → IsSearch r found → AllPairs (λ (t u : ℕ). t ≢ u) found
-search_once r found s = searched_once r [] found (λ i j d i<j j<0. absurd (omega arith)) s
+pub search_once : (r : Rules) (first : ℕ) (found : List ℕ) → IsSearch r first found → AllPairs (λ (t u : ℕ). t ≢ u) found
+search_once r first found s = searched_once r first [] found (λ i j d i<j j<0. absurd (omega arith)) s
 
 -- where too many are found, too many are reached
-pub too_many_reached : (r : Rules) → HasTooMany r → AreMoreThan r TIERS
-too_many_reached r (found, tier, is, full, small) =
-    let s : IsSearch r (found ++ tier ∷ []) = searched_more r [] found tier is.within.search is.next is.fresh in
-    (found ++ tier ∷ [], omega (arith, length-append found (tier ∷ [])), search_once r (found ++ tier ∷ []) s, search_reached r (found ++ tier ∷ []) s)
+pub too_many_reached : (r : Rules) (first : ℕ) → HasTooMany r first → AreMoreThan r first TIERS
+too_many_reached r first (found, tier, is, full, small) =
+    let s : IsSearch r first (found ++ tier ∷ []) = searched_more r first [] found tier is.within.search is.next is.fresh in
+    (found ++ tier ∷ [], omega (arith, length-append found (tier ∷ [])), search_once r first (found ++ tier ∷ []) s, search_reached r first (found ++ tier ∷ []) s)
 
 -- all that is reached is found, where the child tiers of all that is found are
-pub reached_found : (r : Rules) (found : List ℕ) → AreFound r found → (n t : ℕ) → IsReachedIn r n t → Contains found t
-reached_found r found is zero t e = subst (Contains found) (sym e) is.initial
-reached_found r found is (suc n) t (parent, reached, child) =
-    is.closed parent t (subst (λ l. Contains l parent) (sym (take_all (length found) found (omega arith))) (reached_found r found is n parent reached)) child
+pub reached_found : (r : Rules) (first : ℕ) (found : List ℕ) → AreFound r first found → (n t : ℕ) → IsReachedIn r first n t → Contains found t
+reached_found r first found is zero t e = subst (Contains found) (sym e) is.has_first
+reached_found r first found is (suc n) t (parent, reached, child) =
+    is.closed parent t (subst (λ l. Contains l parent) (sym (take_all (length found) found (omega arith))) (reached_found r first found is n parent reached)) child
 
 -- what is among the first i of a list, and one more
 among_more : (xs : List ℕ) (i u : ℕ) → i < length xs → Contains (take (i + 1) xs) u → Contains (take i xs) u ⊎ (get_or xs i 0 ≡ u)
@@ -128,9 +128,9 @@ closed_more r old new n t closed (more, e) at children u child has is =
     (among_more old n u inside (subst (λ l. Contains l u) front has))
 
 -- the child tiers of all that is found are found
-pub found_all : (r : Rules) (found : List ℕ) (n : ℕ) → AreWithin r found → Contains found r.initial.tier → IsClosed r n found → length found ≤ n → AreFound r found
-found_all r found n within initial closed h = record {
+pub found_all : (r : Rules) (first : ℕ) (found : List ℕ) (n : ℕ) → AreWithin r first found → Contains found first → IsClosed r n found → length found ≤ n → AreFound r first found
+found_all r first found n within has_first closed h = record {
   within = within;
-  initial = initial;
+  has_first = has_first;
   closed = λ t child has is. closed t child (among_all found n t h (subst (λ l. Contains l t) (take_all (length found) found (omega arith)) has)) is;
 }

@@ -33,9 +33,9 @@ abbrev pub goes_through : Rules → ℕ → ℕ → Search → Search
 goes_through r zero k s = s
 goes_through r (suc n) k s = goes_through r n (suc k) (comes_to_children r k s)
 
--- the search from the initial tier: as many places as there may be tiers
-abbrev pub search_of : Rules → Search
-search_of r = goes_through r TIERS 0 (comes_to r (Ok []) r.initial.tier)
+-- the search from the first tier: as many places as there may be tiers
+abbrev pub search_of : Rules → ℕ → Search
+search_of r first = goes_through r TIERS 0 (comes_to r (Ok []) first)
 
 -- where this is the error that is answered, the search ends with it, unless memory has run out
 abbrev pub EndsWith : Search → TierError → Type 0

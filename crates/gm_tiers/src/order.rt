@@ -1,8 +1,8 @@
 //! The order of tiers.
 ghost use Rattle.std.specs.Prelude.{◌≡◌, ℕ, List, Ok, IfOk, OnOk, OnErr, IsErrOf, IsPermutation};
 ghost use Rattle.std.specs.List.{AllPairs};
-ghost use Rattle.gm_tiers.specs.Orders.{IsBefore, IsTierOrder, ComeChildrenFirst};
-ghost use Rattle.gm_tiers.specs.Reach.{IsReached};
+ghost use Rattle.gm_tiers.specs.Orders.{IsBefore, IsTierOrder, IsOrderFrom, IsSomeOrder, ComeChildrenFirst};
+ghost use Rattle.gm_tiers.specs.Reach.{IsReached, IsReachedFrom};
 ghost use Rattle.gm_tiers.specs.Search.{search_of, EndsWith};
 ghost use Rattle.gm_tiers.specs.declared.tier_error.TierError.{TierError};
 ghost use Rattle.gm_tiers.specs.Limits.{HasTooMany, AreMoreThan, IsTooLarge};
@@ -15,7 +15,7 @@ use indexmap::IndexSet;
 use std::alloc::{AllocError, Global};
 use std::marker::{Model, PhantomData};
 
-/// All tiers that a game reaches, each once and child tiers first. Contracts see their list.
+/// All tiers that a game reaches from one of its tiers, each once and child tiers first. Contracts see their list.
 #[derive(Drop)]
 pub struct TierOrder<G: Game> {
     tiers: IndexSet<u64>,
@@ -24,13 +24,13 @@ pub struct TierOrder<G: Game> {
 
 impl<G: Game> Model for TierOrder<G> {
     ghost use Rattle.std.specs.Prelude.{ℕ, List};
-    ghost use Rattle.gm_tiers.specs.Orders.{IsTierOrder};
+    ghost use Rattle.gm_tiers.specs.Orders.{IsSomeOrder};
 
     ghost Value = { List ℕ };
 
     ghost view = { λ o. o.tiers.keys };
 
-    ghost invariant = { λ o. IsTierOrder G.rules o.tiers.keys };
+    ghost invariant = { λ o. IsSomeOrder G.rules o.tiers.keys };
 }
 
 impl<G: Game> TierOrder<G> {
@@ -40,14 +40,27 @@ impl<G: Game> TierOrder<G> {
     /// of tiers is tested; the first test that fails is the answer. So what is answered is determined by the game, unless memory runs out.
     pub fn from_initial(alloc: Global) -> Result<Self, TierError>
         ensures order { IfOk result (IsTierOrder G.rules) }
-        ensures answer { IfOk result (λ o. (found : List ℕ) × (search_of G.rules ≡ Ok found) × IsPermutation found o) }
-        ensures refusal { (e : TierError) → IsErrOf result e → EndsWith (search_of G.rules) e }
-        ensures too_many { IsErrOf result TierError.TooManyTiers → HasTooMany G.rules }
-        ensures more { IsErrOf result TierError.TooManyTiers → AreMoreThan G.rules TIERS }
-        ensures too_large { (tier : ℕ) → IsErrOf result (TierError.TierTooLarge tier) → IsTooLarge G.rules tier }
+        ensures answer { IfOk result (λ o. (found : List ℕ) × (search_of G.rules G.rules.initial.tier ≡ Ok found) × IsPermutation found o) }
+        ensures refusal { (e : TierError) → IsErrOf result e → EndsWith (search_of G.rules G.rules.initial.tier) e }
+        ensures too_many { IsErrOf result TierError.TooManyTiers → HasTooMany G.rules G.rules.initial.tier }
+        ensures more { IsErrOf result TierError.TooManyTiers → AreMoreThan G.rules G.rules.initial.tier TIERS }
+        ensures too_large { (tier : ℕ) → IsErrOf result (TierError.TierTooLarge tier) → IsTooLarge G.rules G.rules.initial.tier tier }
         ensures reached { (tier : ℕ) → IsErrOf result (TierError.TierTooLarge tier) → IsReached G.rules tier }
     {
-        let mut tiers = search::<G>(alloc)?;
+        TierOrder::from_tier(alloc, G::initial().tier)
+    }
+
+    /// All tiers reached from this one, as `from_initial` has those reached from the initial one: what a value in this tier rests on. The tier need not be one that the game reaches.
+    pub fn from_tier(alloc: Global, first: u64) -> Result<Self, TierError>
+        ensures order { IfOk result (IsOrderFrom G.rules first) }
+        ensures answer { IfOk result (λ o. (found : List ℕ) × (search_of G.rules first ≡ Ok found) × IsPermutation found o) }
+        ensures refusal { (e : TierError) → IsErrOf result e → EndsWith (search_of G.rules first) e }
+        ensures too_many { IsErrOf result TierError.TooManyTiers → HasTooMany G.rules first }
+        ensures more { IsErrOf result TierError.TooManyTiers → AreMoreThan G.rules first TIERS }
+        ensures too_large { (tier : ℕ) → IsErrOf result (TierError.TierTooLarge tier) → IsTooLarge G.rules first tier }
+        ensures reached { (tier : ℕ) → IsErrOf result (TierError.TierTooLarge tier) → IsReachedFrom G.rules first tier }
+    {
+        let mut tiers = search::<G>(alloc, first)?;
         match put_in_order::<G>(&mut tiers) {
             Ok(()) => Ok(TierOrder {
                 tiers,
@@ -60,7 +73,7 @@ impl<G: Game> TierOrder<G> {
     /// The tiers. No tier comes before one of its child tiers.
     pub fn tiers(&self) -> &[u64]
         ensures value { result.now ≡ self.now }
-        ensures order { IsTierOrder G.rules self.now }
+        ensures order { IsSomeOrder G.rules self.now }
         ensures children_first { ComeChildrenFirst G.rules self.now }
     {
         self.tiers.as_slice()

@@ -12,23 +12,22 @@ use gm_game::limits::{TIER_SIZE, TIERS};
 use indexmap::IndexSet;
 use std::alloc::Global;
 
-/// All tiers that the game reaches, in the order in which they are found: first the initial one, then the child tiers of each in turn.
-pub(crate) fn search<G: Game>(alloc: Global) -> Result<IndexSet<u64>, TierError>
-    ensures found { IfOk result (λ s. AreFound G.rules s.keys) }
-    ensures answer { IfOk result (λ s. search_of G.rules ≡ Ok s.keys) }
-    ensures refusal { (e : TierError) → IsErrOf result e → EndsWith (search_of G.rules) e }
-    ensures too_many { IsErrOf result TierError.TooManyTiers → HasTooMany G.rules }
-    ensures too_large { (tier : ℕ) → IsErrOf result (TierError.TierTooLarge tier) → IsTooLarge G.rules tier }
+/// All tiers that are reached from the first one, in the order in which they are found: that one, then the child tiers of each in turn.
+pub(crate) fn search<G: Game>(alloc: Global, first: u64) -> Result<IndexSet<u64>, TierError>
+    ensures found { IfOk result (λ s. AreFound G.rules first s.keys) }
+    ensures answer { IfOk result (λ s. search_of G.rules first ≡ Ok s.keys) }
+    ensures refusal { (e : TierError) → IsErrOf result e → EndsWith (search_of G.rules first) e }
+    ensures too_many { IsErrOf result TierError.TooManyTiers → HasTooMany G.rules first }
+    ensures too_large { (tier : ℕ) → IsErrOf result (TierError.TierTooLarge tier) → IsTooLarge G.rules first tier }
 {
     let mut found = IndexSet::new(alloc);
-    let initial = G::initial().tier;
-    find::<G>(&mut found, initial)?;
+    find::<G>(&mut found, first, first)?;
     for next in 0..TIERS {
         match found.get_index(next) {
             None => return Ok(found),
             Some(tier) => {
                 let tier = *tier;
-                find_children::<G>(&mut found, tier)?;
+                find_children::<G>(&mut found, first, tier)?;
             }
         }
     }
@@ -36,35 +35,35 @@ pub(crate) fn search<G: Game>(alloc: Global) -> Result<IndexSet<u64>, TierError>
 }
 
 // Finds the child tiers of a tier that is found.
-fn find_children<G: Game>(found: &mut IndexSet<u64>, tier: u64) -> Result<(), TierError>
-    requires within { AreWithin G.rules found.old.keys }
+fn find_children<G: Game>(found: &mut IndexSet<u64>, first: u64, tier: u64) -> Result<(), TierError>
+    requires within { AreWithin G.rules first found.old.keys }
     requires there { Contains found.old.keys tier }
-    ensures within { OnOk result (AreWithin G.rules found.new.keys) }
+    ensures within { OnOk result (AreWithin G.rules first found.new.keys) }
     ensures grown { OnOk result (IsGrown found.old.keys found.new.keys) }
     ensures answer { OnOk result (comes_to_all G.rules (Ok found.old.keys) (G.rules.child_tiers tier) ≡ Ok found.new.keys) }
     ensures refusal { (e : TierError) → IsErrOf result e → EndsWith (comes_to_all G.rules (Ok found.old.keys) (G.rules.child_tiers tier)) e }
     ensures children { OnOk result ((child : ℕ) → Contains (G.rules.child_tiers tier) child → Contains found.new.keys child) }
-    ensures too_many { IsErrOf result TierError.TooManyTiers → HasTooMany G.rules }
-    ensures too_large { (t : ℕ) → IsErrOf result (TierError.TierTooLarge t) → IsTooLarge G.rules t }
+    ensures too_many { IsErrOf result TierError.TooManyTiers → HasTooMany G.rules first }
+    ensures too_large { (t : ℕ) → IsErrOf result (TierError.TierTooLarge t) → IsTooLarge G.rules first t }
 {
     let children = G::child_tiers(tier);
     for child in children.as_slice() {
-        find::<G>(found, *child)?;
+        find::<G>(found, first, *child)?;
     }
     Ok(())
 }
 
 // Finds a tier. One that is new is tested for its size, and then there must be room for it.
-fn find<G: Game>(found: &mut IndexSet<u64>, tier: u64) -> Result<(), TierError>
-    requires within { AreWithin G.rules found.old.keys }
-    requires next { IsNext G.rules found.old.keys tier }
-    ensures within { OnOk result (AreWithin G.rules found.new.keys) }
+fn find<G: Game>(found: &mut IndexSet<u64>, first: u64, tier: u64) -> Result<(), TierError>
+    requires within { AreWithin G.rules first found.old.keys }
+    requires next { IsNext G.rules first found.old.keys tier }
+    ensures within { OnOk result (AreWithin G.rules first found.new.keys) }
     ensures grown { OnOk result (IsGrown found.old.keys found.new.keys) }
     ensures answer { OnOk result (comes_to G.rules (Ok found.old.keys) tier ≡ Ok found.new.keys) }
     ensures refusal { (e : TierError) → IsErrOf result e → EndsWith (comes_to G.rules (Ok found.old.keys) tier) e }
     ensures there { OnOk result (Contains found.new.keys tier) }
-    ensures too_many { IsErrOf result TierError.TooManyTiers → HasTooMany G.rules }
-    ensures too_large { (t : ℕ) → IsErrOf result (TierError.TierTooLarge t) → IsTooLarge G.rules t }
+    ensures too_many { IsErrOf result TierError.TooManyTiers → HasTooMany G.rules first }
+    ensures too_large { (t : ℕ) → IsErrOf result (TierError.TierTooLarge t) → IsTooLarge G.rules first t }
 {
     if found.contains(&tier) {
         return Ok(());

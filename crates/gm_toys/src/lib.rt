@@ -5,6 +5,4 @@ pub mod chain;
 pub mod countdown;
 pub mod stairs;
 pub mod subtraction;
-#[cfg(test)]
-mod tests;
 pub mod wheel;

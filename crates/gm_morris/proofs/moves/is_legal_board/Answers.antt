@@ -7,5 +7,5 @@ returns-then-pieces-last_tier c =
     let p = c.pieces-pieces.ensures.value in
     let l = c.last_tier.ensures.value in
     legal_by c.args.variant c.args.board.mine c.args.board.theirs c.has_own_line.result
-    (let m = c.own_pieces.ensures in let h = c.if-own_pieces-pieces.false in omega (arith, m, h, p))
+    (let m = c.own_pieces.ensures in let f = c.from.ensures in let h = c.if-from-pieces.false in omega (arith, m, f, h, p))
     (omega (arith, p, l)) c.has_own_line.ensures

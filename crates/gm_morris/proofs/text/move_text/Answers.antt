@@ -1,7 +1,7 @@
 use Rattle.std.proofs.Common.{◌+◌}
 use Rattle.gm_board.specs.Images.{board_of}
 use Rattle.gm_morris.specs.Morris.{mine, theirs}
-use Rattle.gm_morris.specs.MoveFacts.{slide_points}
+use Rattle.gm_morris.specs.laws.MoveFacts.{slide_points}
 use Rattle.gm_morris.proofs.MoveSteps.{slide_here, placement_here}
 use Rattle.gm_morris.proofs.TextSteps.{slide_text, placement_text}
 use Rattle.gm_morris.proofs.text.move_text.Goals as goal

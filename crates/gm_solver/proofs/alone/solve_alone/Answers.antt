@@ -1,18 +1,14 @@
-use Rattle.std.proofs.Common.{◌≡◌, List, Option, sym, ap, subst, ◌∙◌}
-use Rattle.gm_game.specs.declared.position.Solved.{Solved}
-use Rattle.gm_game.specs.declared.limits.TheConstants.{REMOTENESS}
-use Rattle.gm_game.specs.Records.{IsTrueTable}
+use Rattle.std.proofs.Common.{◌≡◌, ap, ◌∙◌}
 use Rattle.gm_game.specs.declared.position.Phase.TheVariants.{Ties}
 use Rattle.gm_shard.specs.State.{ShardState}
 use Rattle.gm_solver.proofs.Final.{final_table, final_deliveries, not_too_far}
 use Rattle.gm_solver.proofs.alone.solve_alone.Goals as goal
 
-pub from_true-requires-clause-is_true : goal.from_true-requires-clause-is_true
-from_true-requires-clause-is_true g c =
+pub from_packed-requires-clause-is_true : goal.from_packed-requires-clause-is_true
+from_packed-requires-clause-is_true g c =
     let t = c.finish_phase-2.new.shard in
     let tier : t.tier ≡ c.args.tier = c.in_ok-last-2.ensures.later.tier ∙ ap (λ (s : ShardState). s.tier) c.next_phase.ensures ∙ c.in_ok-last.ensures.later.tier ∙ c.in_ok-shard.ensures.tier in
-    subst (λ (records : List (Option Solved)). IsTrueTable g.G.Game.rules REMOTENESS c.args.tier records) (sym c.as_slice.ensures.value)
-    (final_table g.G.Game.rules c.args.tier t c.finish_phase-2.new.expected c.in_ok-last-2.ensures.over tier c.new-records.result.items c.finish.new.records.items c.new-records.ensures.items c.in_ok-finish.ensures.ok)
+    final_table g.G.Game.rules c.args.tier t c.finish_phase-2.new.expected c.in_ok-last-2.ensures.over tier c.in_ok-records.records c.finish.new.records c.in_ok-records.ensures c.in_ok-finish.ensures.ok
 
 pub returns-clause-deliveries : goal.returns-clause-deliveries
 returns-clause-deliveries g c =
@@ -22,8 +18,8 @@ returns-clause-deliveries g c =
     let over = c.in_ok-last-2.ensures.over in
     let tier : t.tier ≡ c.args.tier = c.in_ok-last-2.ensures.later.tier ∙ ap (λ (s : ShardState). s.tier) c.next_phase.ensures ∙ c.in_ok-last.ensures.later.tier ∙ c.in_ok-shard.ensures.tier in
     let phase : t.phase ≡ Ties = c.in_ok-last-2.ensures.later.phase ∙ ap (λ (s : ShardState). s.phase) c.next_phase.ensures in
-    let is_true = final_table r c.args.tier t e over tier c.new-records.result.items c.finish.new.records.items c.new-records.ensures.items c.in_ok-finish.ensures.ok in
-    final_deliveries r g.met.G.Game.lawful c.args.tables.now c.has-held.ensures.tables c.args.tier c.requires.held c.finish.new.records.items is_true t e over phase tier c.in_ok-last-2.last c.in_ok-last-2.ensures.last c.place-end.ensures.last
+    let is_true = final_table r c.args.tier t e over tier c.in_ok-records.records c.finish.new.records c.in_ok-records.ensures c.in_ok-finish.ensures.ok in
+    final_deliveries r g.met.G.Game.lawful c.args.tables.now c.has-held.ensures.tables c.args.tier c.requires.held c.finish.new.records is_true t e over phase tier c.in_ok-last-2.last c.in_ok-last-2.ensures.last c.place-end.ensures.last
     c.number.ensures.exact c.number.result c.number.ensures.value
 
 pub returns-clause-near : goal.returns-clause-near
@@ -31,5 +27,5 @@ returns-clause-near g c =
     let r = g.G.Game.rules in
     let t = c.finish_phase-2.new.shard in
     let tier : t.tier ≡ c.args.tier = c.in_ok-last-2.ensures.later.tier ∙ ap (λ (s : ShardState). s.tier) c.next_phase.ensures ∙ c.in_ok-last.ensures.later.tier ∙ c.in_ok-shard.ensures.tier in
-    let is_true = final_table r c.args.tier t c.finish_phase-2.new.expected c.in_ok-last-2.ensures.over tier c.new-records.result.items c.finish.new.records.items c.new-records.ensures.items c.in_ok-finish.ensures.ok in
-    not_too_far r g.met.G.Game.lawful c.args.tier c.finish.new.records.items is_true
+    let is_true = final_table r c.args.tier t c.finish_phase-2.new.expected c.in_ok-last-2.ensures.over tier c.in_ok-records.records c.finish.new.records c.in_ok-records.ensures c.in_ok-finish.ensures.ok in
+    not_too_far r g.met.G.Game.lawful c.args.tier c.finish.new.records is_true

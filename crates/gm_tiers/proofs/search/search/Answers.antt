@@ -10,7 +10,7 @@ returns-in-None-clause-found g c =
     let (within, initial, closed, answer) = c.loop-next.invariant in
     let keys = c.loop-next.found.keys in
     let all : length keys ≤ c.loop-next.next = ⊎_elim (λ (h : c.loop-next.next < length keys). absurd (true≢false (sym (c.in-None.ensures.found.1 h)))) (λ (h : length keys ≤ c.loop-next.next). h) (cases_lt c.loop-next.next (length keys)) in
-    found_all g.G.Game.rules keys c.loop-next.next within initial closed all
+    found_all g.G.Game.rules c.args.first keys c.loop-next.next within initial closed all
 
 pub find_children-requires-clause-there : goal.find_children-requires-clause-there
 find_children-requires-clause-there g c = at_there c.loop-next.found.keys c.loop-next.next c.in-Some.tier.now (sym c.in-Some.ensures.key)
@@ -19,17 +19,18 @@ pub loop-next-preserved : goal.loop-next-preserved
 loop-next-preserved g c =
     let (within, initial, closed, answer) = c.loop-next.invariant in
     let r = g.G.Game.rules in
+    let first = c.args.first in
     let e = c.in_ok-find_children-in-Some.ensures in (
       e.within,
-      grown_has c.loop-next.found.keys c.find_children.new.found.keys r.initial.tier e.grown initial,
+      grown_has c.loop-next.found.keys c.find_children.new.found.keys first e.grown initial,
       closed_more r c.loop-next.found.keys c.find_children.new.found.keys c.loop-next.next c.in-Some.tier.now closed e.grown (sym c.in-Some.ensures.key) e.children,
-      place_more r TIERS c.loop-next.next c.in-Some.tier.now c.loop-next.found.keys c.find_children.new.found.keys (omega arith) answer (sym c.in-Some.ensures.key) e.answer,
+      place_more r first TIERS c.loop-next.next c.in-Some.tier.now c.loop-next.found.keys c.find_children.new.found.keys (omega arith) answer (sym c.in-Some.ensures.key) e.answer,
     )
 
 pub returns-clause-found : goal.returns-clause-found
 returns-clause-found g c =
     let (within, initial, closed, answer) = c.loop-next.invariant in
-    found_all g.G.Game.rules c.loop-next.found.keys c.loop-next.next within initial closed (omega (arith, within.few))
+    found_all g.G.Game.rules c.args.first c.loop-next.found.keys c.loop-next.next within initial closed (omega (arith, within.few))
 
 pub returns-in-None-clause-answer : goal.returns-in-None-clause-answer
 returns-in-None-clause-answer g c =
@@ -39,7 +40,7 @@ returns-in-None-clause-answer g c =
 
 pub returns-in_err-find_children-in-Some-clause-refusal : goal.returns-in_err-find_children-in-Some-clause-refusal
 returns-in_err-find_children-in-Some-clause-refusal g c e is =
-    place_ends g.G.Game.rules TIERS c.loop-next.next c.in-Some.tier.now c.loop-next.found.keys e (omega arith) c.loop-next.invariant.3 (sym c.in-Some.ensures.key)
+    place_ends g.G.Game.rules c.args.first TIERS c.loop-next.next c.in-Some.tier.now c.loop-next.found.keys e (omega arith) c.loop-next.invariant.3 (sym c.in-Some.ensures.key)
     (c.find_children.ensures.refusal e (search rules))
 
 pub returns-clause-answer : goal.returns-clause-answer

@@ -8,7 +8,7 @@ use Rattle.gm_tiers.proofs.search.search.Given as goal
 
 abbrev pub invariant-loop-next : goal.invariant-loop-next
 invariant-loop-next g l =
-    AreWithin g.G.Game.rules l.found.keys
-    × Contains l.found.keys g.G.Game.rules.initial.tier
+    AreWithin g.G.Game.rules l.first l.found.keys
+    × Contains l.found.keys l.first
     × IsClosed g.G.Game.rules l.next l.found.keys
-    × (search_of g.G.Game.rules ≡ goes_through g.G.Game.rules (TIERS - l.next) l.next (Ok l.found.keys))
+    × (search_of g.G.Game.rules l.first ≡ goes_through g.G.Game.rules (TIERS - l.next) l.next (Ok l.found.keys))

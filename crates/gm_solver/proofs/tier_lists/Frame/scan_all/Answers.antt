@@ -1,5 +1,4 @@
-use Rattle.std.proofs.Common.{◌∙◌, arith}
-use Rattle.std.proofs.lemmas.Grind.{div_ceil_times}
+use Rattle.std.proofs.Common.{◌∙◌, ◌*◌}
 use Rattle.rayon.specs.Numbers.{nat_range}
 use Rattle.rayon.proofs.ListFacts.{IfOk-then}
 use Rattle.gm_solver.proofs.BlockLemmas.{zip_whole}
@@ -8,18 +7,17 @@ use Rattle.gm_solver.proofs.tier_lists.Frame.scan_all.Goals as goal
 pub returns-clause-length : goal.returns-clause-length
 returns-clause-length g c =
     let ends = c.into_par_iter.ensures in
-    let enough = (div_ceil_times c.args.self.now.size 4096 (omega arith)).0 in
+    let count = c.args.self.now.rows * 32 in
     IfOk-then c.collect.result _ _ c.collect.ensures (λ v h.
     let chain = rw (c.map.ensures.base, c.map.ensures.f, c.with_min_len.ensures.base) at h.1 in
     let places = chain.1 ∙ (λ i. nat_range (ends.0 i) (ends.1 i)) in
-    let long = (zip_whole _ c.div_ceil.result chain.0 h.0 v.items places chain.2 h.2).0 in
-    let count = c.div_ceil.ensures in
-    omega arith)
+    (zip_whole _ count chain.0 h.0 v.items places chain.2 h.2).0)
 
 pub returns-clause-each : goal.returns-clause-each
 returns-clause-each g c =
     let ends = c.into_par_iter.ensures in
+    let count = c.args.self.now.rows * 32 in
     IfOk-then c.collect.result _ _ c.collect.ensures (λ v h.
     let chain = rw (c.map.ensures.base, c.map.ensures.f, c.with_min_len.ensures.base) at h.1 in
     let places = chain.1 ∙ (λ i. nat_range (ends.0 i) (ends.1 i)) in
-    (zip_whole _ c.div_ceil.result chain.0 h.0 v.items places chain.2 h.2).1)
+    (zip_whole _ count chain.0 h.0 v.items places chain.2 h.2).1)

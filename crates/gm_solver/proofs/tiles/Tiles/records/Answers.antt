@@ -5,5 +5,5 @@ use Rattle.gm_solver.proofs.tiles.Tiles.records.Goals as goal
 pub returns : goal.returns
 returns g c =
     let s = c.args.self.now in
-    four_parts g.G.Game.rules (place_of s.shards.a) s.width s.wide s.shards s.shards_are c.new-records.result.items c.finish.new.records.items c.finish-2.new.records.items c.finish-3.new.records.items c.finish-4.new.records.items c.new-records.ensures.items
+    four_parts g.G.Game.rules (place_of s.shards.a) s.width s.wide s.shards s.shards_are c.in_ok-records.records c.finish.new.records c.finish-2.new.records c.finish-3.new.records c.finish-4.new.records c.in_ok-records.ensures
     c.in_ok-finish.ensures.ok c.in_ok-finish-2.ensures.ok c.in_ok-finish-3.ensures.ok c.in_ok-finish-4.ensures.ok

@@ -10,7 +10,7 @@ returns-clause-deliveries g c =
     let r = g.G.Game.rules in
     let place = place_of c.args.self.now.shards.a in
     let end = subst (λ (p : Place). IsLastLevel r p.tier p.phase p.level) c.requires.last c.place-end.ensures.last in
-    end_deliveries r g.met.G.Game.lawful c.args.tables.now c.has-held.ensures.tables place.tier c.requires.held c.in_ok-records.records.items c.in_ok-records.ensures place refl c.requires.ties end c.number.result c.number.ensures
+    end_deliveries r g.met.G.Game.lawful c.args.tables.now c.has-held.ensures.tables place.tier c.requires.held c.in_ok-records.records c.in_ok-records.ensures place refl c.requires.ties end c.number.result c.number.ensures
 
 pub returns-clause-near : goal.returns-clause-near
-returns-clause-near g c = not_too_far g.G.Game.rules g.met.G.Game.lawful c.args.self.now.shards.a.tier c.in_ok-records.records.items c.in_ok-records.ensures
+returns-clause-near g c = not_too_far g.G.Game.rules g.met.G.Game.lawful c.args.self.now.shards.a.tier c.in_ok-records.records c.in_ok-records.ensures

@@ -1,23 +1,10 @@
-use Rattle.std.proofs.Common.{rules}
-use Rattle.gm_tiers.proofs.SearchLemmas.{too_many_reached, found_next_reached}
-use Rattle.gm_tiers.proofs.OrderLemmas.{order_is}
+use Rattle.std.proofs.Common.{ℕ, IsErrOf, ap, subst}
+use Rattle.gm_game.specs.declared.limits.TheConstants.{TIERS}
+use Rattle.gm_game.specs.declared.position.Position.{Position}
+use Rattle.gm_tiers.specs.declared.tier_error.TierError.TheVariants.{TooManyTiers}
+use Rattle.gm_tiers.specs.Limits.{AreMoreThan}
 use Rattle.gm_tiers.proofs.order.TierOrder.from_initial.Goals as goal
 
-pub returns-in_err-tiers-clause-too_many : goal.returns-in_err-tiers-clause-too_many
-returns-in_err-tiers-clause-too_many g c = search rules
-
-pub returns-in_err-tiers-clause-more : goal.returns-in_err-tiers-clause-more
-returns-in_err-tiers-clause-more g c e = too_many_reached g.G.Game.rules (returns-in_err-tiers-clause-too_many g c e)
-
-pub returns-in_err-tiers-clause-too_large : goal.returns-in_err-tiers-clause-too_large
-returns-in_err-tiers-clause-too_large g c = search rules
-
-pub returns-in_err-tiers-clause-reached : goal.returns-in_err-tiers-clause-reached
-returns-in_err-tiers-clause-reached g c tier e =
-    let (large, found, is) = returns-in_err-tiers-clause-too_large g c tier e in found_next_reached g.G.Game.rules found tier is
-
-pub invariant_of-result : goal.invariant_of-result
-invariant_of-result g c = order_is g.G.Game.rules c.in_ok-tiers.tiers.keys c.put_in_order.new.tiers.keys c.in_ok-tiers.ensures.found c.in-Ok.ensures.same c.in-Ok.ensures.ordered
-
-pub returns-in-Ok-clause-order : goal.returns-in-Ok-clause-order
-returns-in-Ok-clause-order g c = invariant_of-result g c
+pub returns-clause-more : goal.returns-clause-more
+returns-clause-more g c =
+    subst (λ (first : ℕ). IsErrOf c.from_tier.result TooManyTiers → AreMoreThan g.G.Game.rules first TIERS) (ap (λ (p : Position). p.tier) c.initial.ensures) c.from_tier.ensures.more

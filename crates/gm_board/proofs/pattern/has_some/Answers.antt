@@ -1,0 +1,6 @@
+use Rattle.std.proofs.Common.{◌∙◌}
+use Rattle.gm_board.specs.BoardMasks.{some_filled}
+use Rattle.gm_board.proofs.pattern.has_some.Goals as goal
+
+pub returns : goal.returns
+returns c patterns e = c.fills_some.ensures ∙ some_filled c.args.cells c.args.masks.now patterns e

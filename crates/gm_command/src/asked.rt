@@ -1,0 +1,148 @@
+//! A line of words, read.
+
+use crate::commands::gamesman;
+use crate::explore_commands::explore_of;
+use crate::pages::{Page, page_of};
+use crate::requests::{Asked, GameAsked, Kept, PlayAsked, SolveAsked};
+use crate::search_commands::search_of;
+use clap::error::ErrorKind;
+use clap::{ArgMatches, Error};
+use gm_play::side::Side;
+use gm_solver::plan::Plan;
+use std::alloc::Global;
+use std::fmt;
+
+/// A text of the command line's own: help, the version, or what is wrong with a line.
+#[derive(Drop)]
+pub struct Help(Error);
+
+impl fmt::Display for Help {
+    fn fmt<W: fmt::Write>(&self, f: &mut fmt::Formatter<W>) -> fmt::Result {
+        let text = &self.0;
+        write!(f, "{text}")
+    }
+}
+
+/// Why a line of words can't be read.
+#[derive(Clone, Copy, Debug, PartialEq, Eq)]
+pub enum Unread {
+    BadLine,
+    OutOfMemory,
+}
+
+// Where a line keeps its tables.
+fn kept_of<'a>(inner: &ArgMatches<'a>) -> Kept<'a> {
+    Kept {
+        folder: inner.get_str("folder"),
+        read_only: inner.get_flag("read-only"),
+    }
+}
+
+// The plan of a line of `solve`: its defaults and ranges are those of the command.
+fn plan_of(matches: &ArgMatches<'_>) -> Option<Plan> {
+    let workers = matches.get_one::<u32>("workers")?;
+    let shards = matches.get_one::<u32>("shards")?;
+    let piece = matches.get_one::<u32>("piece")?;
+    Plan::new(workers as usize, shards as usize, piece as usize)
+}
+
+fn solve_of<'a>(inner: &ArgMatches<'a>) -> Option<GameAsked<'a>> {
+    Some(GameAsked::Solve(SolveAsked {
+        folder: inner.get_str("FOLDER")?,
+        plan: plan_of(inner)?,
+        progress: inner.get_flag("progress"),
+    }))
+}
+
+fn query_of<'a>(inner: &ArgMatches<'a>) -> Option<GameAsked<'a>> {
+    Some(GameAsked::Query {
+        position: inner.get_str("POSITION")?,
+        kept: kept_of(inner),
+    })
+}
+
+fn check_of<'a>(inner: &ArgMatches<'a>) -> Option<GameAsked<'a>> {
+    Some(GameAsked::Check {
+        folder: inner.get_str("FOLDER")?,
+    })
+}
+
+fn play_of<'a>(inner: &ArgMatches<'a>) -> GameAsked<'a> {
+    let first = if inner.get_flag("second") {
+        Side::Computer
+    } else {
+        Side::You
+    };
+    let asked = PlayAsked {
+        position: inner.get_str("from"),
+        first,
+        drawn: inner.get_flag("show"),
+    };
+    GameAsked::Play {
+        asked,
+        kept: kept_of(inner),
+    }
+}
+
+// A question about a position, or a search over all tables.
+fn question_of<'a>(name: &str, inner: &ArgMatches<'a>) -> Option<GameAsked<'a>> {
+    let kept = kept_of(inner);
+    match search_of(name, inner) {
+        Some(asked) => Some(GameAsked::Search { asked, kept }),
+        None => Some(GameAsked::Explore {
+            asked: explore_of(name, inner)?,
+            kept,
+        }),
+    }
+}
+
+// What a command asks of a game.
+fn game_asked_of<'a>(name: &str, inner: &ArgMatches<'a>) -> Option<GameAsked<'a>> {
+    match name {
+        "solve" => solve_of(inner),
+        "query" => query_of(inner),
+        "analyse" => Some(GameAsked::Analyse {
+            kept: kept_of(inner),
+        }),
+        "check" => check_of(inner),
+        "play" => Some(play_of(inner)),
+        _ => question_of(name, inner),
+    }
+}
+
+fn asked_of<'a>(matches: &ArgMatches<'a>) -> Option<Asked<'a>> {
+    match matches.subcommand() {
+        Some(("list", _)) => Some(Asked::List),
+        Some(("completions", inner)) => Some(Asked::Page(page_of(inner)?)),
+        Some(("man", _)) => Some(Asked::Page(Page::Man)),
+        Some((name, inner)) => Some(Asked::Of {
+            game: inner.get_str("GAME")?,
+            asked: game_asked_of(name, inner)?,
+        }),
+        None => None,
+    }
+}
+
+fn matched<'a>(alloc: Global, words: &'a [&'a str]) -> Result<ArgMatches<'a>, Error> {
+    gamesman(alloc)?.try_get_matches_from(words)
+}
+
+/// What the command line says of a bad line: none where it is not the one that refuses it.
+pub fn what_is_wrong(alloc: Global, words: &[&str]) -> Option<Help> {
+    match matched(alloc, words) {
+        Ok(_) => None,
+        Err(error) => Some(Help(error)),
+    }
+}
+
+/// Reads a line of words, of which the first is the program's name.
+pub fn read_words<'a>(alloc: Global, words: &'a [&'a str]) -> Result<Asked<'a>, Unread> {
+    match matched(alloc, words) {
+        Ok(matches) => asked_of(&matches).ok_or(Unread::BadLine),
+        Err(error) => match error.kind() {
+            ErrorKind::DisplayHelp | ErrorKind::DisplayVersion => Ok(Asked::Help(Help(error))),
+            ErrorKind::OutOfMemory => Err(Unread::OutOfMemory),
+            _ => Err(Unread::BadLine),
+        },
+    }
+}

@@ -1,0 +1,198 @@
+//! The commands of the program, by clap, with what `--help` says of them.
+
+use crate::explore_commands::{line, moves, show};
+use crate::pages::{completions, man};
+use crate::search_commands::{ask, counts, find};
+use clap::{Arg, ArgAction, Command, value_parser};
+use std::alloc::{AllocError, Global};
+
+const VERSION: &str = "0.1.0";
+
+pub(crate) const GAME: &str = "The name of a game, one of those that `gamesman list` prints";
+
+/// A word that has to be there.
+pub(crate) fn word<'a>(alloc: Global, name: &'a str, help: &'a str) -> Arg<'a> {
+    Arg::new(alloc, name)
+        .required(true)
+        .action(ArgAction::Set)
+        .help(help)
+}
+
+// A number from 1 on.
+fn number<'a>(alloc: Global, name: &'a str, default: &'a str, most: i64, help: &'a str) -> Arg<'a> {
+    Arg::new(alloc, name)
+        .long(name)
+        .value_name("N")
+        .value_parser(value_parser!(u32).range(1..=most))
+        .default_value(default)
+        .help(help)
+}
+
+/// Where the tables are kept, if not in memory.
+pub(crate) fn folder<'a>(alloc: Global) -> Arg<'a> {
+    Arg::new(alloc, "folder")
+        .long("folder")
+        .value_name("FOLDER")
+        .help("A folder for the tables, which are then kept and used again")
+}
+
+fn workers<'a>(alloc: Global) -> Arg<'a> {
+    let help = "How many threads deliver, 1 to 16";
+    number(alloc, "workers", "4", 16, help)
+}
+
+fn shards<'a>(alloc: Global) -> Arg<'a> {
+    let help = "Into how many parts a tier is split, 1 to 4";
+    number(alloc, "shards", "4", 4, help)
+}
+
+fn piece<'a>(alloc: Global) -> Arg<'a> {
+    let help = "How many notes a thread takes at a time, 1 to 4096";
+    number(alloc, "piece", "64", 4096, help)
+}
+
+/// A word that switches something on.
+pub(crate) fn flag<'a>(alloc: Global, name: &'a str, help: &'a str) -> Arg<'a> {
+    Arg::new(alloc, name)
+        .long(name)
+        .action(ArgAction::SetTrue)
+        .help(help)
+}
+
+fn solve<'a>(alloc: Global) -> Result<Command<'a>, AllocError> {
+    Command::new(alloc, "solve")
+        .about(
+            "Solves a game into a folder, which has to be there; tables that are there and true are kept",
+        )
+        .after_help(
+            "Examples:\n  gamesman solve countdown tables\n  gamesman solve dao tables --workers 8 --progress",
+        )
+        .arg(word(alloc, "GAME", GAME))?
+        .arg(word(alloc, "FOLDER", "The folder for the tables"))?
+        .arg(workers(alloc))?
+        .arg(shards(alloc))?
+        .arg(piece(alloc))?
+        .arg(flag(
+            alloc,
+            "progress",
+            "Tells on standard error, a few times a second, how far it is",
+        ))
+}
+
+/// Whether a folder is only read.
+pub(crate) fn read_only<'a>(alloc: Global) -> Arg<'a> {
+    let help = "Reads the folder and writes nothing: each of its tables has to be there and right";
+    flag(alloc, "read-only", help)
+}
+
+/// Whether the answer is JSON.
+pub(crate) fn json<'a>(alloc: Global) -> Arg<'a> {
+    flag(alloc, "json", "Answers with lines of JSON")
+}
+
+fn query<'a>(alloc: Global) -> Result<Command<'a>, AllocError> {
+    Command::new(alloc, "query")
+        .about("Answers the value of a position and the number of moves to the end")
+        .after_help(
+            "Examples:\n  gamesman query countdown 10\n  gamesman query hare 'dd.d......h d' --folder tables",
+        )
+        .arg(word(alloc, "GAME", GAME))?
+        .arg(word(
+            alloc,
+            "POSITION",
+            "The position, as `10` in countdown, `x...o....` in tictactoe or `dd.d......h d` in hare",
+        ))?
+        .arg(folder(alloc))?
+        .arg(read_only(alloc))
+}
+
+fn analyse<'a>(alloc: Global) -> Result<Command<'a>, AllocError> {
+    Command::new(alloc, "analyse")
+        .alias("analyze")?
+        .about(
+            "Counts the positions of a game by value and remoteness, one line of JSON for each tier",
+        )
+        .after_help(
+            "Examples:\n  gamesman analyse countdown\n  gamesman analyse dao --folder tables",
+        )
+        .arg(word(alloc, "GAME", GAME))?
+        .arg(folder(alloc))?
+        .arg(read_only(alloc))
+}
+
+fn check<'a>(alloc: Global) -> Result<Command<'a>, AllocError> {
+    Command::new(alloc, "check")
+        .about("Checks the tables of a game in a folder, tier by tier")
+        .after_help("Examples:\n  gamesman check countdown tables\n  gamesman check dao tables")
+        .arg(word(alloc, "GAME", GAME))?
+        .arg(word(alloc, "FOLDER", "The folder of the tables"))
+}
+
+fn from<'a>(alloc: Global) -> Arg<'a> {
+    Arg::new(alloc, "from")
+        .long("from")
+        .value_name("POSITION")
+        .help("Begins at this position; you are the side to move, or with `--second` the other one")
+}
+
+fn drawn<'a>(alloc: Global) -> Arg<'a> {
+    let help = "Draws the board before each question, with you as `x` where a game has `x` and `o`";
+    flag(alloc, "show", help)
+}
+
+fn play<'a>(alloc: Global) -> Result<Command<'a>, AllocError> {
+    Command::new(alloc, "play")
+        .about(
+            "Plays a game with you from its start: type a move, as `1` in countdown or `a1` in tictactoe, or `quit`",
+        )
+        .after_help(
+            "Examples:\n  gamesman play tictactoe --show\n  gamesman play countdown --from 7 --second",
+        )
+        .arg(word(alloc, "GAME", GAME))?
+        .arg(folder(alloc))?
+        .arg(read_only(alloc))?
+        .arg(flag(alloc, "second", "Lets the computer move first"))?
+        .arg(from(alloc))?
+        .arg(drawn(alloc))
+}
+
+fn list<'a>(alloc: Global) -> Command<'a> {
+    Command::new(alloc, "list")
+        .about("Lists the games")
+        .after_help("Examples:\n  gamesman list\n  gamesman list | grep tactix")
+}
+
+// With the commands that ask about one position.
+fn with_questions<'a>(alloc: Global, all: Command<'a>) -> Result<Command<'a>, AllocError> {
+    all.subcommand(query(alloc)?)?
+        .subcommand(moves(alloc)?)?
+        .subcommand(line(alloc)?)?
+        .subcommand(show(alloc)?)
+}
+
+// With the commands that ask about all tables of a game.
+fn with_searches<'a>(alloc: Global, all: Command<'a>) -> Result<Command<'a>, AllocError> {
+    all.subcommand(find(alloc)?)?
+        .subcommand(counts(alloc)?)?
+        .subcommand(ask(alloc)?)?
+        .subcommand(analyse(alloc)?)?
+        .subcommand(check(alloc)?)
+}
+
+// With the commands that play, and tell of the program.
+fn with_others<'a>(alloc: Global, all: Command<'a>) -> Result<Command<'a>, AllocError> {
+    all.subcommand(play(alloc)?)?
+        .subcommand(completions(alloc)?)?
+        .subcommand(man(alloc))
+}
+
+/// The program's command line.
+pub fn gamesman<'a>(alloc: Global) -> Result<Command<'a>, AllocError> {
+    let all = Command::new(alloc, "gamesman")
+        .about("Solves two-player games")
+        .version(VERSION)
+        .subcommand_required(true)
+        .subcommand(list(alloc))?
+        .subcommand(solve(alloc)?)?;
+    with_others(alloc, with_searches(alloc, with_questions(alloc, all)?)?)
+}

@@ -1,0 +1,23 @@
+//! The names of the games.
+
+/// The names, in the order in which they are listed.
+pub const NAMES: [&str; 18] = [
+    "countdown",
+    "wheel",
+    "tactix-1",
+    "tactix-2",
+    "tactix-3",
+    "tactix-4",
+    "tactix-5",
+    "tactix-1-misere",
+    "tactix-2-misere",
+    "tactix-3-misere",
+    "tactix-4-misere",
+    "tactix-5-misere",
+    "tictactoe",
+    "threemens",
+    "achi",
+    "mutorere",
+    "dao",
+    "hare",
+];

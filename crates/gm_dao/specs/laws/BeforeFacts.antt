@@ -1,0 +1,55 @@
+-- The boards before a board of Dao: exactly those from which a move leads to it, and how many there are.
+use Rattle.std.proofs.Common.{◌≡◌, ℕ, ◌≤◌, true, List, length, sym, ap, ◌∙◌, arith}
+use Rattle.std.specs.List.{filter, range_with_len}
+use Rattle.gm_board.specs.declared.cell.Cell.{Cell}
+use Rattle.gm_board.specs.Lists.{and_left, and_right, and_both}
+use Rattle.gm_steps.specs.Steps.{from_point, to_point}
+use Rattle.gm_sides.specs.Sides.{WasStep, is_theirs, is_empty, cell_at}
+use Rattle.gm_dao.specs.DaoRules.{in_line, numbers_end, play, was_moved, taken_back, legal}
+use Rattle.gm_sides.specs.laws.CellFacts.{their_cell, empty_cell, cells_counted, all_cells}
+use Rattle.gm_sides.specs.laws.MoveFacts.{gone_again, back_again}
+use Rattle.gm_dao.specs.laws.BoardFacts.{legal_in}
+use Rattle.gm_dao.specs.laws.MoveFacts.{IsSlide, slide_step, blocks_few, from_is}
+
+-- ---- what the tests say
+-- a move that can have led to d
+pub record WasMoved (d : List Cell) (a c : ℕ) : Type 0 where
+  pub line : in_line a c ≡ true
+  pub step : WasStep d a c
+
+-- what the test says
+pub was_in : (d : List Cell) (m : ℕ) → was_moved d m ≡ true → WasMoved d (from_point m) (to_point m)
+unfolding was_moved
+was_in d m e =
+    let r = and_right _ _ e in
+    record {
+      line = and_left _ _ e;
+      step = record { there = their_cell _ (and_left _ _ r); left = empty_cell _ (and_right _ _ r) };
+    }
+
+-- and the other way round
+pub was_from : (d : List Cell) (m : ℕ) → WasMoved d (from_point m) (to_point m) → was_moved d m ≡ true
+unfolding was_moved
+was_from d m h = and_both _ _ h.line (and_both _ _ (ap is_theirs h.step.there) (ap is_empty h.step.left))
+
+-- ---- taken back and made again
+pub played_back : (d : List Cell) (m : ℕ) → WasMoved d (from_point m) (to_point m) → play (taken_back d m) m ≡ d
+unfolding play taken_back
+played_back d m h = gone_again d (from_point m) (to_point m) h.step
+
+-- made and taken back
+pub taken_played : (b : List Cell) (m : ℕ) → length b ≡ 16 → IsSlide b (from_point m) (to_point m) → WasMoved (play b m) (from_point m) (to_point m) × (taken_back (play b m) m ≡ b)
+unfolding play taken_back
+taken_played b m n h =
+    let x = back_again b (from_point m) (to_point m) (slide_step b (from_point m) (to_point m) n h) in
+    (record { line = h.line; step = x.0 }, x.1)
+
+-- at most sixteen for each empty cell
+pub befores_few : (d : List Cell) → legal d ≡ true → length (filter (was_moved d) (range_with_len 0 numbers_end)) ≤ 128
+befores_few d l =
+    let h = legal_in d l in
+    let blocks = blocks_few (was_moved d) (λ k. is_empty (cell_at d k))
+    (λ m f. ap (λ (k : ℕ). is_empty (cell_at d k)) (sym (from_is m)) ∙ ap is_empty (was_in d m f).step.left) 16 in
+    let all = cells_counted is_empty d 16 h.cells in
+    let cells = all_cells d in
+    omega (arith, blocks, all, cells, h.cells, h.own, h.other)

@@ -1,0 +1,138 @@
+-- Moves of Dao: which there are, how many, and the ends of games.
+use Rattle.std.proofs.Common.{◌≡◌, ℕ, zero, suc, ◌+◌, ◌*◌, ◌/◌, ◌<◌, ◌≤◌, Bool, true, false, cond, List, [], ◌∷◌, length, None, Some, inl, inr, refl, sym, ap, ◌∙◌, subst, arith}
+use Rattle.std.specs.List.{filter, range_with_len}
+use Rattle.std.proofs.lemmas.Bool.{cases_Bool, cond-true}
+use Rattle.std.proofs.lemmas.List.{length-append}
+use Rattle.gm_game.specs.declared.position.End.TheVariants.{Lose}
+use Rattle.gm_board.specs.declared.cell.Cell.{Cell}
+use Rattle.gm_board.specs.declared.cell.Cell.TheVariants.{Empty, Mine}
+use Rattle.gm_board.specs.Lists.{and_left, and_right, and_both}
+use Rattle.gm_board.specs.Patterns.{fills}
+use Rattle.gm_board.specs.Permutations.{all_at}
+use Rattle.gm_steps.specs.Steps.{from_point, to_point, number_below}
+use Rattle.gm_steps.specs.Listed.{filter_in, filter_out}
+use Rattle.gm_pieces.specs.MoveGames.{steps}
+use Rattle.gm_sides.specs.Sides.{is_mine, is_theirs, is_empty, is_taken, cell_at, number_of}
+use Rattle.gm_dao.specs.DaoRules.{has_formation, in_line, path, beyond, can_go, can_move, numbers_end, over, dao}
+use Rattle.gm_sides.specs.Sides.{IsStep}
+use Rattle.gm_dao.specs.laws.SlideFacts.{line_within, way}
+use Rattle.gm_sides.specs.laws.CellFacts.{mine_cell, empty_cell, cells_counted}
+
+-- ---- what a move is
+-- a piece of the mover's that slides from a to c
+pub record IsSlide (b : List Cell) (a c : ℕ) : Type 0 where
+  pub mine : cell_at b a ≡ Mine
+  pub line : in_line a c ≡ true
+  pub clear : fills Empty is_empty b (path a c) ≡ true
+  pub stopped : fills Empty is_taken b (beyond a c) ≡ true
+
+-- what the test says
+pub go_in : (b : List Cell) (a c : ℕ) → can_go b a c ≡ true → IsSlide b a c
+go_in b a c e =
+    let r = and_right _ _ e in
+    let s = and_right _ _ r in
+    record {
+      mine = mine_cell _ (and_left _ _ e);
+      line = and_left _ _ r;
+      clear = and_left _ _ s;
+      stopped = and_right _ _ s;
+    }
+
+-- and the other way round
+pub go_from : (b : List Cell) (a c : ℕ) → IsSlide b a c → can_go b a c ≡ true
+go_from b a c h = and_both _ _ (ap is_mine h.mine) (and_both _ _ h.line (and_both _ _ h.clear h.stopped))
+
+-- it ends on an empty cell
+pub slide_free : (b : List Cell) (a c : ℕ) → IsSlide b a c → cell_at b c ≡ Empty
+slide_free b a c h = empty_cell _ (all_at (λ (k : ℕ). is_empty (cell_at b k)) (path a c) c h.clear (way a c h.line).ends)
+
+-- it is the step of a piece
+pub slide_step : (b : List Cell) (a c : ℕ) → length b ≡ 16 → IsSlide b a c → IsStep b a c
+slide_step b a c n h =
+    let w = line_within a c h.line in
+    record { from_below = omega (arith, w.0, n); to_below = omega (arith, w.1, n); mine = h.mine; free = slide_free b a c h }
+
+-- the slide of a number for which the test holds
+pub move_slide : (b : List Cell) (m : ℕ) → can_move b m ≡ true → IsSlide b (from_point m) (to_point m)
+unfolding can_move
+move_slide b m e = go_in b (from_point m) (to_point m) e
+
+-- and the other way round
+pub slide_move : (b : List Cell) (m : ℕ) → IsSlide b (from_point m) (to_point m) → can_move b m ≡ true
+unfolding can_move
+slide_move b m h = go_from b (from_point m) (to_point m) h
+
+-- the number of a slide is below 256
+pub line_below : (m : ℕ) → in_line (from_point m) (to_point m) ≡ true → m < numbers_end
+line_below m e = let l = number_below m 16 (line_within (from_point m) (to_point m) e).0 in omega (arith, l)
+
+-- ---- the end of the game
+-- a board that is not over has no formation of the opponent's
+pub no_formation : (b : List Cell) → over b ≡ None → has_formation is_theirs b ≡ false
+unfolding over
+no_formation b e = elim (cases_Bool (has_formation is_theirs b)) [
+  | inl f ↦ absurd (let g : Some Lose ≡ None = sym (cond-true _ _ _ f) ∙ e in let z : ⊥ = cc in z)
+  | inr f ↦ f
+]
+
+-- ---- lists of moves
+-- in the block of sixteen numbers after 16 n only those pass whose n passes the second test
+block_few : (p q : ℕ → Bool) → ((m : ℕ) → p m ≡ true → q (m / 16) ≡ true) → (n k : ℕ) → k ≤ 16
+    → length (filter p (range_with_len 0 (16 * n + k))) ≤ length (filter p (range_with_len 0 (16 * n))) + cond (q n) k 0
+block_few p q h n zero l = let e : 16 * n + 0 ≡ 16 * n = omega arith in rw e (omega arith)
+block_few p q h n (suc k) l =
+    let m = 16 * n + k in
+    let e : 16 * n + suc k ≡ m + 1 = omega arith in
+    let d : m / 16 ≡ n = omega (arith, l) in
+    let i = block_few p q h n k (omega arith) in
+    elim (cases_Bool (p m)) [
+      | inl f ↦ (
+          let here : q n ≡ true = ap q (sym d) ∙ h m f in
+          let more = ap (λ (xs : List ℕ). length xs) (filter_in p m f) ∙ length-append (filter p (range_with_len 0 m)) (m ∷ []) in
+          let i2 : length (filter p (range_with_len 0 m)) ≤ length (filter p (range_with_len 0 (16 * n))) + k = subst (λ (x : Bool). length (filter p (range_with_len 0 m)) ≤ length (filter p (range_with_len 0 (16 * n))) + cond x k 0) here i in
+          rw (e, here) (omega (arith, more, i2)))
+      | inr f ↦ (
+          let same = ap (λ (xs : List ℕ). length xs) (filter_out p m f) in
+          let grow : cond (q n) k 0 ≤ cond (q n) (suc k) 0 = cond_grow (q n) k in
+          rw e (omega (arith, same, i, grow)))
+    ]
+  where
+    cond_grow : (x : Bool) (k : ℕ) → cond x k 0 ≤ cond x (suc k) 0
+    cond_grow true k = omega arith
+    cond_grow false k = omega arith
+
+-- at most sixteen numbers for each n that passes the second test
+pub blocks_few : (p q : ℕ → Bool) → ((m : ℕ) → p m ≡ true → q (m / 16) ≡ true) → (n : ℕ) → length (filter p (range_with_len 0 (16 * n))) ≤ 16 * length (filter q (range_with_len 0 n))
+blocks_few p q h zero = omega arith
+blocks_few p q h (suc n) =
+    let e : 16 * (n + 1) ≡ 16 * n + 16 = omega arith in
+    let s : suc n ≡ n + 1 = omega arith in
+    let b = block_few p q h n 16 (omega arith) in
+    let i = blocks_few p q h n in
+    let next : length (filter p (range_with_len 0 (16 * n + 16))) ≤ 16 * length (filter q (range_with_len 0 (n + 1))) =
+    elim (cases_Bool (q n)) [
+      | inl f ↦ (
+          let more = ap (λ (xs : List ℕ). length xs) (filter_in q n f) ∙ length-append (filter q (range_with_len 0 n)) (n ∷ []) in
+          let b2 : length (filter p (range_with_len 0 (16 * n + 16))) ≤ length (filter p (range_with_len 0 (16 * n))) + 16 = subst (λ (x : Bool). length (filter p (range_with_len 0 (16 * n + 16))) ≤ length (filter p (range_with_len 0 (16 * n))) + cond x 16 0) f b in
+          omega (arith, more, b2, i))
+      | inr f ↦ (
+          let same = ap (λ (xs : List ℕ). length xs) (filter_out q n f) in
+          let b2 : length (filter p (range_with_len 0 (16 * n + 16))) ≤ length (filter p (range_with_len 0 (16 * n))) + 0 = subst (λ (x : Bool). length (filter p (range_with_len 0 (16 * n + 16))) ≤ length (filter p (range_with_len 0 (16 * n))) + cond x 16 0) f b in
+          omega (arith, same, b2, i))
+    ] in
+    subst (λ (k : ℕ). length (filter p (range_with_len 0 (16 * k))) ≤ 16 * length (filter q (range_with_len 0 k))) (sym s)
+    (subst (λ (k : ℕ). length (filter p (range_with_len 0 k)) ≤ 16 * length (filter q (range_with_len 0 (n + 1)))) (sym e) next)
+
+-- the cell that a move leaves, by its number
+pub from_is : (m : ℕ) → from_point m ≡ m / 16
+unfolding from_point
+from_is m = refl
+
+-- at most sixteen for each piece of the mover's
+pub steps_few : (b : List Cell) → length b ≡ 16 → number_of is_mine b ≡ 4 → length (steps dao b) ≤ 128
+unfolding steps
+steps_few b e n =
+    let few = blocks_few (can_move b) (λ k. is_mine (cell_at b k))
+    (λ m f. ap (λ (k : ℕ). is_mine (cell_at b k)) (sym (from_is m)) ∙ ap is_mine (move_slide b m f).mine) 16 in
+    let all = cells_counted is_mine b 16 e in
+    omega (arith, few, all, n)

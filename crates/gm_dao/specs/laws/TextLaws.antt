@@ -1,0 +1,36 @@
+-- The texts of Dao fit a line, and tell positions and moves apart.
+use Rattle.std.proofs.Common.{◌≡◌, ℕ, length, refl, arith}
+use Rattle.gm_game.specs.Shown.{IsShown}
+use Rattle.gm_steps.specs.Steps.{from_point, to_point, same_step}
+use Rattle.gm_sides.specs.SideTexts.{board_text}
+use Rattle.gm_sides.specs.laws.TextFacts.{text_length, text_once, step_text_once}
+use Rattle.gm_pieces.specs.MoveTexts.{AreTexts}
+use Rattle.gm_pieces.specs.TextFacts.{texts_are_shown}
+use Rattle.gm_dao.specs.DaoRules.{dao, dao_rules}
+use Rattle.gm_dao.specs.laws.BoardFacts.{legal_in}
+use Rattle.gm_dao.specs.laws.DaoLaws.{numbered}
+use Rattle.gm_dao.specs.Texts.{step_text, position_text, move_text}
+
+-- ---- moves
+-- moves with one text are one
+pub step_once : (m k : ℕ) → step_text m ≡ step_text k → m ≡ k
+unfolding step_text
+step_once m k e = let h = step_text_once 4 (from_point m) (to_point m) (from_point k) (to_point k) e in same_step m k h.0 h.1
+
+-- the text of a move has five bytes
+pub step_length : (m : ℕ) → length (step_text m) ≡ 5
+unfolding step_text
+step_length m = refl
+
+-- ---- the laws of texts
+pub readable : AreTexts dao board_text (λ t m. step_text m)
+readable = record {
+  text_fits = λ b l. let a = text_length b in let e = (legal_in b l).cells in omega (arith, a, e);
+  text_once = λ a b l k e. text_once a b e;
+  step_fits = λ b m l h. let a = step_length m in omega (arith, a);
+  step_once = λ b m n l h k e. step_once m n e;
+}
+
+-- the same of positions
+pub texts_readable : IsShown dao_rules position_text move_text
+texts_readable = texts_are_shown dao board_text (λ t m. step_text m) numbered readable

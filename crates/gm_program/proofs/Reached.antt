@@ -1,0 +1,13 @@
+-- All tiers that a tier reaches are held: those below one of them too.
+use Rattle.std.proofs.Common.{ℕ, zero, suc, List, refl}
+use Rattle.gm_game.specs.Rules.{Rules}
+use Rattle.gm_table.specs.Tables.{TableData}
+use Rattle.gm_tiers.specs.Orders.{IsOrderFrom}
+use Rattle.gm_tiers.specs.Reach.{IsReachedFrom}
+use Rattle.gm_build.specs.Work.{HoldsExactly}
+use Rattle.gm_play.specs.Reached.{AreAllHeld}
+use Rattle.gm_play.proofs.Held.{all_held}
+
+pub reached_held : (r : Rules) (entries : List TableData) (order : List ℕ) (first : ℕ) → IsOrderFrom r first order → HoldsExactly entries order → AreAllHeld r entries first
+reached_held r entries order first is held =
+    all_held r entries (IsReachedFrom r first) (λ tier child (n, reached) has. (suc n, (tier, reached, has))) (λ tier reached. (held tier).1 ((is.each tier).1 reached)) first (zero, refl)

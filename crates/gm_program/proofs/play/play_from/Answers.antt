@@ -1,0 +1,8 @@
+use Rattle.gm_program.proofs.Reached.{reached_held}
+use Rattle.gm_program.proofs.play.play_from.Goals as goal
+
+pub session_with-ended-requires-clause-held : goal.session_with-ended-requires-clause-held
+session_with-ended-requires-clause-held g c = reached_held g.G.Game.rules c.args.built.now.tables c.args.built.now.order c.args.start.tier c.requires.order c.requires.held
+
+pub session-ended-requires-clause-held : goal.session-ended-requires-clause-held
+session-ended-requires-clause-held g c = reached_held g.G.Game.rules c.args.built.now.tables c.args.built.now.order c.args.start.tier c.requires.order c.requires.held

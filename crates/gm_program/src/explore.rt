@@ -1,0 +1,103 @@
+//! Questions about a position: what its moves are worth, and best play from it.
+ghost use Rattle.std.specs.Prelude.{◌≡◌, true, IfOk};
+
+use crate::fault::Fault;
+use crate::run::DONE;
+use crate::tables::Place;
+use gm_command::requests::{PositionAsked, Question};
+use gm_draw::drawn::Drawn;
+use gm_draw::show::show_text;
+use gm_game::game::laws;
+use gm_game::position::Position;
+use gm_game::shown::Shown;
+use gm_json::line::line_json;
+use gm_json::moves::moves_json;
+use gm_play::play_error::PlayError;
+use gm_play::texts::{line_text, moves_text};
+use gm_table::tables::Tables;
+use std::alloc::{AllocError, Global};
+use std::fs::Files;
+use std::io::{ErrorKind, Write};
+use std::sync::Wait;
+use std::thread::Threads;
+
+/// Answers a question about a position.
+pub fn explore<G: Drawn + Send + Sync, R: Threads + Wait + Files + Sync + AllocGlobal, O: Write>(
+    rt: &R,
+    asked: PositionAsked<'_>,
+    place: Place<'_>,
+    output: &mut O,
+) -> Result<u8, Fault> {
+    let position = position_of::<G>(asked.position)?;
+    let built = place.build_from::<G, R>(rt, position.tier)?;
+    let text = match text_for(
+        rt.alloc(),
+        &built.tables,
+        G::show(position).as_slice(),
+        asked.question,
+    ) {
+        Ok(text) => text,
+        Err(PlayError::OutOfMemory) => return Err(Fault::OutOfMemory(AllocError)),
+        // The position's own tier is among those that are built.
+        Err(_) => return Err(Fault::NoSuchPosition),
+    };
+    put(output, text.as_slice())?;
+    Ok(DONE)
+}
+
+/// The position that is asked about: the start where none is given.
+pub fn position_of<G: Shown>(position: Option<&str>) -> Result<Position, Fault>
+    ensures { IfOk result (λ p. G.Game.rules.is_legal p ≡ true) }
+{
+    match position {
+        Some(text) => match G::read(text.as_bytes()) {
+            Some(p) => Ok(p),
+            None => Err(Fault::NoSuchPosition),
+        },
+        None => {
+            laws::<G>();
+            Ok(G::initial())
+        }
+    }
+}
+
+fn text_for<G: Drawn>(
+    alloc: Global,
+    tables: &Tables<G>,
+    position: &[u8],
+    question: Question,
+) -> Result<Vec<u8>, PlayError> {
+    match question {
+        Question::Moves {
+            distinct,
+            json: true,
+        } => moves_line(alloc, tables, position, distinct),
+        Question::Moves { distinct, .. } => moves_text(alloc, tables, position, distinct),
+        Question::Line { limit, json: true } => line_json(alloc, tables, position, limit),
+        Question::Line { limit, .. } => line_text(alloc, tables, position, limit),
+        Question::Show { explained } => show_text(alloc, tables, position, explained),
+    }
+}
+
+// The moves as a line of JSON.
+fn moves_line<G: Shown>(
+    alloc: Global,
+    tables: &Tables<G>,
+    position: &[u8],
+    distinct: bool,
+) -> Result<Vec<u8>, PlayError> {
+    let mut line = moves_json(alloc, tables, position, distinct)?;
+    match line.push('\n') {
+        Ok(()) => Ok(line.into_bytes()),
+        Err(_) => Err(PlayError::OutOfMemory),
+    }
+}
+
+/// Writes a text by one call. Nobody may read the rest of it.
+pub fn put<O: Write>(output: &mut O, text: &[u8]) -> Result<(), Fault> {
+    match output.write_all(text) {
+        Ok(()) => Ok(()),
+        Err(error) if error.kind() == ErrorKind::BrokenPipe => Err(Fault::OutputClosed),
+        Err(_) => Err(Fault::OutputFailed),
+    }
+}

@@ -1,0 +1,101 @@
+//! A line of words, from the program's name to the status that it ends with.
+
+use crate::explore::put;
+use crate::fault::Fault;
+use crate::games::{Streams, answer_for};
+use crate::whole_line::{FaultLine, write_line};
+use gm_command::asked::{Unread, read_words, what_is_wrong};
+use gm_command::names::NAMES;
+use gm_command::pages::{Page, page_text};
+use gm_command::requests::Asked;
+use std::alloc::{AllocError, Global};
+use std::fs::Files;
+use std::io::{Read, Write};
+use std::sync::Wait;
+use std::thread::Threads;
+use std::time::Clock;
+
+/// What was asked was done.
+pub const DONE: u8 = 0;
+
+/// What was asked was refused, for a reason that standard error tells.
+pub const REFUSED: u8 = 1;
+
+/// The line is none that the program knows.
+pub const BAD_LINE: u8 = 2;
+
+fn list<O: Write>(output: &mut O) -> Result<u8, Fault> {
+    for name in &NAMES {
+        write_line(output, name)?;
+    }
+    Ok(DONE)
+}
+
+// Writes a page, by one call.
+fn write_page<O: Write>(alloc: Global, page: Page, output: &mut O) -> Result<u8, Fault> {
+    let text = page_text(alloc, page)?;
+    put(output, text.as_slice())?;
+    Ok(DONE)
+}
+
+fn answer<
+    R: Threads + Wait + Clock + Files + Sync + AllocGlobal,
+    I: Read,
+    O: Write,
+    E: Write + Send,
+>(rt: &R, asked: Asked<'_>, streams: Streams<'_, I, O, E>) -> Result<u8, Fault> {
+    match asked {
+        Asked::List => list(streams.output),
+        Asked::Of { game, asked } => answer_for(rt, game, asked, streams),
+        Asked::Page(page) => write_page(rt.alloc(), page, streams.output),
+        Asked::Help(text) => {
+            write!(streams.output, "{text}")?;
+            Ok(DONE)
+        }
+    }
+}
+
+/// Says on standard error why a line was refused. This is the last that can be said: where it fails, the status still tells.
+pub fn refused<E: Write>(fault: &Fault, errors: &mut E) -> u8 {
+    if !matches!(fault, Fault::OutputClosed) {
+        let _ = write_line(errors, &FaultLine { fault });
+    }
+    REFUSED
+}
+
+/// Says on standard error that the line is none that the program knows.
+pub fn bad_line<E: Write>(errors: &mut E) -> u8 {
+    let _ = errors.write_all(b"gamesman: bad line\n");
+    BAD_LINE
+}
+
+/// Says on standard error what is wrong with a bad line.
+pub fn explain<E: Write>(alloc: Global, words: &[&str], errors: &mut E) {
+    if let Some(text) = what_is_wrong(alloc, words) {
+        let _ = write!(errors, "{text}");
+    }
+}
+
+/// Runs a line of words, of which the first is the program's name, and answers the status to end with.
+pub fn run_words<
+    R: Threads + Wait + Clock + Files + Sync + AllocGlobal,
+    I: Read,
+    O: Write,
+    E: Write + Send,
+>(rt: &R, words: &[&str], input: &mut I, output: &mut O, errors: &mut E) -> u8 {
+    match read_words(rt.alloc(), words) {
+        Ok(asked) => {
+            let streams = Streams {
+                input,
+                output,
+                errors: &mut *errors,
+            };
+            match answer(rt, asked, streams) {
+                Ok(status) => status,
+                Err(fault) => refused(&fault, errors),
+            }
+        }
+        Err(Unread::OutOfMemory) => refused(&Fault::OutOfMemory(AllocError), errors),
+        Err(Unread::BadLine) => bad_line(errors),
+    }
+}

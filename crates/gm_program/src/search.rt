@@ -1,0 +1,104 @@
+//! Searches over all tables of a game, and the service that answers positions.
+
+use crate::explore::put;
+use crate::fault::Fault;
+use crate::run::DONE;
+use crate::tables::Place;
+use gm_build::build::Built;
+use gm_command::requests::{PositionsSought, Search};
+use gm_count::bars::counts_text;
+use gm_find::reached::Reached;
+use gm_find::rows::find_text;
+use gm_game::shown::Shown;
+use gm_json::ask::ask;
+use gm_json::find::find_json;
+use gm_tiers::order::TierOrder;
+use std::alloc::Global;
+use std::fs::Files;
+use std::io::{Read, Write};
+use std::sync::Wait;
+use std::thread::Threads;
+
+/// Answers what is asked of all tables of a game.
+pub fn search<
+    G: Shown + Send + Sync,
+    R: Threads + Wait + Files + Sync + AllocGlobal,
+    I: Read,
+    O: Write,
+>(rt: &R, asked: Search, place: Place<'_>, input: &mut I, output: &mut O) -> Result<u8, Fault> {
+    let alloc = rt.alloc();
+    let first = first_tier::<G>(alloc, asked)?;
+    let built = place.build_from::<G, R>(rt, first)?;
+    answer(alloc, &built, asked, input, output)?;
+    Ok(DONE)
+}
+
+fn answer<G: Shown, I: Read, O: Write>(
+    alloc: Global,
+    built: &Built<G>,
+    asked: Search,
+    input: &mut I,
+    output: &mut O,
+) -> Result<(), Fault> {
+    let text = match asked {
+        Search::Find(positions) => found(alloc, built, positions)?,
+        Search::Counts { reached } => counted(alloc, built, reached)?,
+        Search::Ask => return Ok(ask(alloc, &built.tables, input, output)?),
+    };
+    put(output, text.as_slice())
+}
+
+// The one tier that is asked about, which is one of the game; the initial one where all are.
+fn first_tier<G: Shown>(alloc: Global, asked: Search) -> Result<u64, Fault> {
+    let Search::Find(
+        PositionsSought {
+            tier: Some(tier),
+            ..
+        },
+    ) = asked
+    else {
+        return Ok(G::initial().tier);
+    };
+    let order = TierOrder::<G>::from_initial(alloc)?;
+    if order.tiers().contains(&tier) {
+        Ok(tier)
+    } else {
+        Err(Fault::NoSuchTier { tier })
+    }
+}
+
+// The rows of the positions that are looked for, or their lines of JSON.
+fn found<G: Shown>(
+    alloc: Global,
+    built: &Built<G>,
+    positions: PositionsSought,
+) -> Result<Vec<u8>, Fault> {
+    let reached = reached_from_start(alloc, positions.reached)?;
+    let one = [positions.tier.unwrap_or(0)];
+    let tiers = match positions.tier {
+        Some(_) => one.as_slice(),
+        None => built.order.tiers(),
+    };
+    let (tables, reached) = (&built.tables, reached.as_ref());
+    let (sought, limit) = (positions.sought, positions.limit);
+    if positions.json {
+        Ok(find_json(alloc, tables, tiers, sought, reached, limit)?)
+    } else {
+        Ok(find_text(alloc, tables, tiers, sought, reached, limit)?)
+    }
+}
+
+// The rows of the counts over all tiers.
+fn counted<G: Shown>(alloc: Global, built: &Built<G>, reached: bool) -> Result<Vec<u8>, Fault> {
+    let reached = reached_from_start(alloc, reached)?;
+    Ok(counts_text(alloc, &built.tables, built.order.tiers(), reached.as_ref())?)
+}
+
+// The positions that play reaches, where they are asked for.
+fn reached_from_start<G: Shown>(alloc: Global, asked: bool) -> Result<Option<Reached<G>>, Fault> {
+    if asked {
+        Ok(Some(Reached::from_start(alloc)?))
+    } else {
+        Ok(None)
+    }
+}

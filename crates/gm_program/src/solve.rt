@@ -1,0 +1,83 @@
+//! A game solved into a folder.
+
+use crate::fault::Fault;
+use crate::run::DONE;
+use crate::tables::{build_in, build_telling};
+use crate::whole_line::write_line;
+use gm_build::build::Built;
+use gm_command::requests::SolveAsked;
+use gm_game::game::Game;
+use std::fmt;
+use std::fs::Files;
+use std::io::Write;
+use std::sync::Wait;
+use std::thread::Threads;
+use std::time::Clock;
+
+/// Builds a game into a folder, and prints what that took.
+pub fn solve<
+    G: Game + Send + Sync,
+    R: Threads + Wait + Clock + Files + Sync + AllocGlobal,
+    O: Write,
+    E: Write + Send,
+>(rt: &R, asked: SolveAsked<'_>, output: &mut O, errors: &mut E) -> Result<u8, Fault> {
+    let report = built_report::<G, R, E>(rt, asked, errors)?;
+    write_line(output, &report)?;
+    Ok(DONE)
+}
+
+fn built_report<
+    G: Game + Send + Sync,
+    R: Threads + Wait + Clock + Files + Sync + AllocGlobal,
+    E: Write + Send,
+>(rt: &R, asked: SolveAsked<'_>, errors: &mut E) -> Result<BuildReport, Fault> {
+    let SolveAsked {
+        folder,
+        plan,
+        progress,
+    } = asked;
+    let built = if progress {
+        build_telling::<G, R, E>(rt, folder, plan, errors)?
+    } else {
+        build_in::<G, R>(rt, folder, G::initial().tier, plan)?
+    };
+    Ok(BuildReport::of(&built))
+}
+
+// What a build took.
+#[derive(Drop)]
+struct BuildReport {
+    solved: usize,
+    reused: usize,
+    migrated: usize,
+    deliveries: u64,
+    by_hand: u64,
+}
+
+impl BuildReport {
+    fn of<G: Game>(built: &Built<G>) -> Self {
+        BuildReport {
+            solved: built.solved,
+            reused: built.reused,
+            migrated: built.migrated,
+            deliveries: built.deliveries,
+            by_hand: built.by_hand,
+        }
+    }
+}
+
+impl fmt::Display for BuildReport {
+    fn fmt<W: fmt::Write>(&self, f: &mut fmt::Formatter<W>) -> fmt::Result {
+        let BuildReport {
+            solved,
+            reused,
+            migrated,
+            deliveries,
+            by_hand,
+        } = self;
+        write!(
+            f,
+            "solved {solved} reused {reused} migrated {migrated} deliveries {deliveries} by hand {by_hand}"
+        )
+    }
+}

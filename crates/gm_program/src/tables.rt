@@ -1,0 +1,160 @@
+//! The tables of a game, in a folder or in memory.
+ghost use Rattle.std.specs.Prelude.{IfOk};
+ghost use Rattle.gm_tiers.specs.Orders.{IsTierOrder, IsOrderFrom};
+ghost use Rattle.gm_build.specs.Work.{HoldsExactly};
+
+use crate::fault::Fault;
+use crate::progress::Progress;
+use gm_build::build::{Built, build_from};
+use gm_build::build_error::BuildError;
+use gm_build::watch::NoWatch;
+use gm_command::requests::Kept;
+use gm_game::game::Game;
+use gm_solver::gate::NoGate;
+use gm_solver::plan::Plan;
+use gm_solver::source::Counter;
+use gm_tierdb::folder_store::FolderStore;
+use gm_tierdb::mem_store::MemStore;
+use gm_tierdb::read_only::ReadOnly;
+use std::fs::Files;
+use std::io::Write;
+use std::string::String;
+use std::sync::Wait;
+use std::thread::Threads;
+use std::time::Clock;
+
+/// Where the tables of a game are kept, and how they are made.
+#[derive(Clone, Copy)]
+pub struct Place<'a> {
+    pub kept: Kept<'a>,
+    pub plan: Plan,
+}
+
+impl Place<'_> {
+    /// Builds a whole game there.
+    pub fn build<G: Game + Send + Sync, R: Threads + Wait + Files + Sync + AllocGlobal>(
+        self,
+        rt: &R,
+    ) -> Result<Built<G>, Fault>
+        ensures order { IfOk result (λ built. IsTierOrder G.rules built.order) }
+        ensures held { IfOk result (λ built. HoldsExactly built.tables built.order) }
+    {
+        self.build_from::<G, R>(rt, G::initial().tier)
+    }
+
+    /// Builds the tiers there that one tier reaches: all that a value in that tier rests on.
+    pub fn build_from<G: Game + Send + Sync, R: Threads + Wait + Files + Sync + AllocGlobal>(
+        self,
+        rt: &R,
+        first: u64,
+    ) -> Result<Built<G>, Fault>
+        ensures order { IfOk result (λ built. IsOrderFrom G.rules first built.order) }
+        ensures held { IfOk result (λ built. HoldsExactly built.tables built.order) }
+    {
+        match self.kept.folder {
+            Some(folder) if self.kept.read_only => build_read_only(rt, folder, first, self.plan),
+            Some(folder) => build_in(rt, folder, first, self.plan),
+            None => build_in_memory(rt, first, self.plan),
+        }
+    }
+}
+
+/// Builds the tiers of a game that one tier reaches over a folder.
+pub fn build_in<G: Game + Send + Sync, R: Threads + Wait + Files + Sync + AllocGlobal>(
+    rt: &R,
+    folder: &str,
+    first: u64,
+    plan: Plan,
+) -> Result<Built<G>, Fault>
+    ensures order { IfOk result (λ built. IsOrderFrom G.rules first built.order) }
+    ensures held { IfOk result (λ built. HoldsExactly built.tables built.order) }
+{
+    let alloc = rt.alloc();
+    let mut store = FolderStore::new(alloc, String::from_str(alloc, folder)?);
+    match build_from(
+        rt,
+        alloc,
+        first,
+        &mut store,
+        plan,
+        &NoGate,
+        &Counter::new(),
+        &NoWatch,
+    ) {
+        Ok(built) => Ok(built),
+        Err(error) => Err(why_not(error, store.met_another())),
+    }
+}
+
+/// Builds a whole game over a folder, and tells standard error how far it is.
+pub fn build_telling<
+    G: Game + Send + Sync,
+    R: Threads + Wait + Clock + Files + Sync + AllocGlobal,
+    E: Write + Send,
+>(rt: &R, folder: &str, plan: Plan, errors: &mut E) -> Result<Built<G>, Fault> {
+    let alloc = rt.alloc();
+    let first = G::initial().tier;
+    let mut store = FolderStore::new(alloc, String::from_str(alloc, folder)?);
+    let progress = Progress::new(rt, errors);
+    match build_from(
+        rt, alloc, first, &mut store, plan, &progress, &progress, &progress,
+    ) {
+        Ok(built) => Ok(built),
+        Err(error) => Err(why_not(error, store.met_another())),
+    }
+}
+
+// Why a game is not built over a folder, which may have another game's file.
+fn why_not(error: BuildError, met_another: bool) -> Fault {
+    match error {
+        BuildError::StoreFailed { tier } if met_another => Fault::AnotherGames { tier },
+        error => Fault::NotBuilt(error),
+    }
+}
+
+// Builds the tiers that one tier reaches over a folder that is only read.
+fn build_read_only<G: Game + Send + Sync, R: Threads + Wait + Files + Sync + AllocGlobal>(
+    rt: &R,
+    folder: &str,
+    first: u64,
+    plan: Plan,
+) -> Result<Built<G>, Fault>
+    ensures order { IfOk result (λ built. IsOrderFrom G.rules first built.order) }
+    ensures held { IfOk result (λ built. HoldsExactly built.tables built.order) }
+{
+    let alloc = rt.alloc();
+    let folder = FolderStore::new(alloc, String::from_str(alloc, folder)?);
+    let mut store = ReadOnly::new(folder);
+    Ok(build_from(
+        rt,
+        alloc,
+        first,
+        &mut store,
+        plan,
+        &NoGate,
+        &Counter::new(),
+        &NoWatch,
+    )?)
+}
+
+fn build_in_memory<G: Game + Send + Sync, R: Threads + Wait + Files + Sync + AllocGlobal>(
+    rt: &R,
+    first: u64,
+    plan: Plan,
+) -> Result<Built<G>, Fault>
+    ensures order { IfOk result (λ built. IsOrderFrom G.rules first built.order) }
+    ensures held { IfOk result (λ built. HoldsExactly built.tables built.order) }
+{
+    let alloc = rt.alloc();
+    let mut store = MemStore::new(alloc);
+    Ok(build_from(
+        rt,
+        alloc,
+        first,
+        &mut store,
+        plan,
+        &NoGate,
+        &Counter::new(),
+        &NoWatch,
+    )?)
+}

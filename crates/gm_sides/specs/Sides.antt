@@ -1,0 +1,75 @@
+-- Boards on which two sides have pieces: a board is a list of cells, as the player to move sees them.
+use Rattle.std.specs.Prelude.{◌≡◌, ℕ, ◌<◌, Bool, true, false, List, map, reverse, length, get_or, set, fold, min}
+use Rattle.std.specs.List.{count_by}
+use Rattle.gm_board.specs.declared.cell.Cell.{Cell}
+use Rattle.gm_board.specs.declared.cell.Cell.TheVariants.{Empty, Mine, Theirs}
+use Rattle.gm_board.specs.Arrangements.{arrangement, arrangement_index}
+use Rattle.gm_board.specs.BoardMasks.{turned}
+use Rattle.gm_board.specs.Permutations.{permute}
+
+-- ---- cells
+-- whether a piece of the mover's stands on a cell
+abbrev pub is_mine : Cell → Bool
+is_mine Empty = false
+is_mine Mine = true
+is_mine Theirs = false
+
+-- whether a piece of the opponent's does
+abbrev pub is_theirs : Cell → Bool
+is_theirs Empty = false
+is_theirs Mine = false
+is_theirs Theirs = true
+
+-- whether no piece does
+abbrev pub is_empty : Cell → Bool
+is_empty Empty = true
+is_empty Mine = false
+is_empty Theirs = false
+
+-- whether a piece of either side does
+abbrev pub is_taken : Cell → Bool
+is_taken Empty = false
+is_taken Mine = true
+is_taken Theirs = true
+
+-- what stands on the cell with this number
+abbrev pub cell_at : List Cell → ℕ → Cell
+cell_at b k = get_or b k Empty
+
+-- how many cells pass a test
+unfoldable pub number_of : (Cell → Bool) → List Cell → ℕ
+number_of p b = count_by p b
+
+-- ---- moves of a piece
+-- a piece of the mover's on the first cell, and none on the second
+pub record IsStep (b : List Cell) (a c : ℕ) : Type 0 where
+  pub from_below : a < length b
+  pub to_below : c < length b
+  pub mine : cell_at b a ≡ Mine
+  pub free : cell_at b c ≡ Empty
+
+-- none on the first, and on the second one of the opponent's, who can have moved it
+pub record WasStep (d : List Cell) (a c : ℕ) : Type 0 where
+  pub there : cell_at d c ≡ Theirs
+  pub left : cell_at d a ≡ Empty
+
+-- the board with the mover's piece gone from one cell to another, as the other player sees it
+abbrev pub gone : List Cell → ℕ → ℕ → List Cell
+gone b a c = map turned (set (set b a Empty) c Mine)
+
+-- the board before that
+abbrev pub brought_back : List Cell → ℕ → ℕ → List Cell
+brought_back d a c = set (set (map turned d) c Empty) a Mine
+
+-- ---- indexes
+-- the index of a board among those with as many pieces of each side: the lowest cell comes first in a board, and the highest in an arrangement
+unfoldable pub board_index : List Cell → ℕ
+board_index b = arrangement_index (reverse b)
+
+-- the board of n cells with m pieces of the mover's and t of the opponent's that has this index
+unfoldable pub board_numbered : ℕ → ℕ → ℕ → ℕ → List Cell
+board_numbered n m t i = reverse (arrangement n m t i)
+
+-- the least index among a board and its images
+abbrev pub least_index_under : List (List ℕ) → List Cell → ℕ
+least_index_under symmetries b = fold min (board_index b) (map board_index (map (λ g. permute Empty g b) symmetries))

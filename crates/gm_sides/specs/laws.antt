@@ -1,0 +1,5 @@
+-- What follows from the definitions.
+pub mod CellFacts
+pub mod MoveFacts
+pub mod NumberFacts
+pub mod TextFacts

@@ -1,0 +1,29 @@
+use Rattle.std.proofs.Common.{◌≡◌, ℕ, suc, ◌+◌, ◌*◌, ◌<◌, min, List, Some, [], ◌++◌, length, length-append, slice_get, sym, ap, subst, ◌∙◌, arith}
+use Rattle.std.proofs.lemmas.Option.{slice_get-get_or}
+use Rattle.gm_shard.specs.declared.status.Start.{Start}
+use Rattle.gm_shard.specs.Begin.{AreStarts}
+use Rattle.gm_solver.specs.Blocks.{block_in, IsPart}
+use Rattle.gm_solver.proofs.BlockLemmas.{starts_more}
+use Rattle.gm_solver.proofs.tier_lists.Frame.in_order.Goals as goal
+
+pub loop-block-preserved : goal.loop-block-preserved
+loop-block-preserved g c =
+    let r = g.G.Game.rules in
+    let self = c.args.self.now in
+    let size = self.size_is in
+    let block = c.loop-block.block in
+    let part = c.index-parts-place_in.result in
+    let place = c.place_in.result in
+    let inside : place < length c.args.parts.now = (let a = c.place_in.ensures.within in let b = c.requires.many in omega arith) in
+    let there : slice_get c.args.parts.now place ≡ Some part = slice_get-get_or c.args.parts.now place part inside ∙ ap Some (sym c.index-parts-place_in.is) in
+    let here : IsPart r self.tier block part.items = subst (λ (k : ℕ). IsPart r self.tier k part.items) c.place_in.ensures.value (c.requires.each place part there) in
+    let all = c.loop-block.all.items in
+    let extended : c.extend_from_slice.new.self.items ≡ all ++ part.items = c.in_ok-extend_from_slice.ensures.items ∙ ap (λ (xs : List Start). all ++ xs) c.as_slice.ensures.value in
+    let longer : length c.extend_from_slice.new.self.items ≡ length all + length part.items = ap length extended ∙ length-append all part.items in
+    let long = c.loop-block.invariant.long in
+    let next = here.long in
+    let same : length all ≡ min (block * 512) (r.tier_size self.tier) = omega arith in
+    record {
+      long = omega arith;
+      starts = subst (AreStarts r self.tier 0) (sym extended) (starts_more r self.tier (min (block * 512) (r.tier_size self.tier)) all part.items same c.loop-block.invariant.starts here.starts_are);
+    }

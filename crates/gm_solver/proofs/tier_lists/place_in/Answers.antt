@@ -1,0 +1,9 @@
+use Rattle.std.proofs.Common.{arith}
+use Rattle.gm_solver.proofs.BlockLemmas.{dealt}
+use Rattle.gm_solver.proofs.tier_lists.place_in.Goals as goal
+
+pub returns-clause-within : goal.returns-clause-within
+returns-clause-within c = (dealt c.args.rows c.args.block c.requires.within).0
+
+pub returns-clause-value : goal.returns-clause-value
+returns-clause-value c = (dealt c.args.rows c.args.block c.requires.within).1

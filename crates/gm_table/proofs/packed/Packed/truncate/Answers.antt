@@ -1,0 +1,7 @@
+use Rattle.std.proofs.Common.{map, take, ap, sym, ◌∙◌}
+use Rattle.std.proofs.lemmas.List.{take-map}
+use Rattle.gm_table.specs.Packed.{unpacked}
+use Rattle.gm_table.proofs.packed.Packed.truncate.Goals as goal
+
+pub returns : goal.returns
+returns c = ap (map unpacked) c.truncate.ensures.items ∙ sym (take-map unpacked c.args.count c.self.inside.numbers.items) ∙ ap (take c.args.count) c.self.view_is

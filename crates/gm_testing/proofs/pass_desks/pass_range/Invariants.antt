@@ -1,0 +1,12 @@
+use Rattle.gm_shard.specs.State.{pairs_in}
+use Rattle.gm_solver.specs.Spots.{spot_of}
+use Rattle.gm_testing.proofs.pass_desks.pass_range.Given as goal
+
+abbrev pub ghosts-pass_named-L-Ledger : goal.ghosts-pass_named-L-Ledger
+ghosts-pass_named-L-Ledger g a = record { name = a.blank.name; parts = a.blank.parts }
+
+abbrev pub ghosts-pass_named-L-Desk : goal.ghosts-pass_named-L-Desk
+ghosts-pass_named-L-Desk g a = record { spot = spot_of a.shard }
+
+abbrev pub ghosts-pass_named-L-Round : goal.ghosts-pass_named-L-Round
+ghosts-pass_named-L-Round g a = record { base = pairs_in a.shard; notes = a.level.now.notes }

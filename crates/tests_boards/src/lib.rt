@@ -1,0 +1,7 @@
+//! Worked ranks, images and symmetries of boards.
+#![tactic(auto)]
+
+#[cfg(test)]
+mod boards;
+#[cfg(test)]
+mod squares;

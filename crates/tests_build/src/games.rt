@@ -1,0 +1,97 @@
+use crate::files::file_of_countdown;
+use crate::work::{Took, built, built_from, work};
+use gm_build::build::Built;
+use gm_build::build_error::BuildError;
+use gm_game::game::Game;
+use gm_game::position::{Position, Solved, Value};
+use gm_tactix::tactix::TacTix;
+use gm_tierdb::mem_store::MemStore;
+use gm_tierdb::store::Store;
+use gm_toys::countdown::Countdown;
+use gm_toys::stairs::Stairs;
+use std::test::Fail;
+
+#[test]
+fn countdown_is_built_and_reused(rt: HostRuntime) -> Result<(), Fail> {
+    let mut store = MemStore::new(rt.alloc());
+    let first = work::<Countdown<10>, _, _>(&rt, rt.alloc(), &mut store)?;
+    let solved = Took {
+        solved: 1,
+        reused: 0,
+        migrated: 0,
+        deliveries: 19,
+        by_hand: 0,
+    };
+    assert_eq!(rt; first, solved);
+    let again = work::<Countdown<10>, _, _>(&rt, rt.alloc(), &mut store)?;
+    let reused = Took {
+        solved: 0,
+        reused: 1,
+        migrated: 0,
+        deliveries: 0,
+        by_hand: 0,
+    };
+    assert_eq!(rt; again, reused);
+    let file = store.read(&rt, rt.alloc(), 0)?;
+    assert_eq!(rt; file, Some(file_of_countdown(rt.alloc())?));
+    Ok(())
+}
+
+#[test]
+fn stairs_take_a_delivery_a_step(rt: HostRuntime) -> Result<(), Fail> {
+    let mut store = MemStore::new(rt.alloc());
+    let stairs: Built<Stairs<3>> = built(&rt, rt.alloc(), &mut store)?;
+    let top = Position { tier: 3, index: 0 };
+    let win_in_3 = Solved {
+        value: Value::Win,
+        remoteness: 3,
+    };
+    assert_eq!(rt; stairs.tables.get(top), Some(win_in_3));
+    assert_eq!(rt; stairs.solved, 4);
+    assert_eq!(rt; stairs.deliveries, 3);
+    Ok(())
+}
+
+#[test]
+fn what_a_tier_rests_on_is_built(rt: HostRuntime) -> Result<(), Fail> {
+    let mut store = MemStore::new(rt.alloc());
+    let low: Built<Stairs<3>> = built_from(&rt, rt.alloc(), 1, &mut store)?;
+    assert_eq!(rt; low.order.tiers(), [0, 1].as_slice());
+    assert_eq!(rt; low.solved, 2);
+    assert_eq!(rt; store.read(&rt, rt.alloc(), 2)?, None);
+    let all = work::<Stairs<3>, _, _>(&rt, rt.alloc(), &mut store)?;
+    assert_eq!(rt; (all.solved, all.reused), (2, 2));
+    Ok(())
+}
+
+#[test]
+fn a_full_square_of_four_is_lost(rt: HostRuntime) -> Result<(), Fail> {
+    let mut store = MemStore::new(rt.alloc());
+    let square: Built<TacTix<4, false>> = built(&rt, rt.alloc(), &mut store)?;
+    let start = square.tables.get(<TacTix<4, false> as Game>::initial());
+    assert_eq!(rt; start.map(|solved| solved.value), Some(Value::Lose));
+    assert_eq!(rt; square.solved, 17);
+    Ok(())
+}
+
+#[test]
+fn games_without_an_order_are_not_built(rt: HostRuntime) {
+    let mut store = MemStore::new(rt.alloc());
+    let many = work::<Stairs<1024>, _, _>(&rt, rt.alloc(), &mut store);
+    assert_eq!(rt; many, Err(BuildError::TooManyTiers));
+    let large = work::<Countdown<16777216>, _, _>(&rt, rt.alloc(), &mut store);
+    assert_eq!(rt; large, Err(BuildError::TierTooLarge { tier: 0 }));
+}
+
+#[test]
+fn build_errors_have_numbers(rt: HostRuntime) {
+    for (error, number) in [
+        (BuildError::OutOfMemory, 1),
+        (BuildError::TooFar { tier: 5 }, 2),
+        (BuildError::StoreFailed { tier: 5 }, 3),
+        (BuildError::TooManyTiers, 4),
+        (BuildError::TierTooLarge { tier: 5 }, 5),
+    ] {
+        assert_eq!(rt; error.number(), number);
+    }
+}

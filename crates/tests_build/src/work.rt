@@ -1,0 +1,82 @@
+//! Builds with two workers, two shards and pieces of one note.
+ghost use Rattle.std.specs.Prelude.{IfOk};
+ghost use Rattle.gm_build.specs.Work.{HoldsExactly};
+ghost use Rattle.gm_tiers.specs.Orders.{IsTierOrder, IsOrderFrom};
+
+use gm_build::build::{Built, build_from};
+use gm_build::build_error::BuildError;
+use gm_build::watch::NoWatch;
+use gm_game::game::Game;
+use gm_solver::gate::NoGate;
+use gm_solver::plan::Plan;
+use gm_solver::source::Counter;
+use gm_tierdb::store::Store;
+use std::alloc::Global;
+use std::fs::Files;
+use std::sync::Wait;
+use std::thread::Threads;
+
+/// What a build took: how many tiers were solved, how many reused and migrated, and the number of deliveries, of which some were by hand.
+#[derive(Clone, Copy, Debug, PartialEq, Eq)]
+pub(crate) struct Took {
+    pub(crate) solved: usize,
+    pub(crate) reused: usize,
+    pub(crate) migrated: usize,
+    pub(crate) deliveries: u64,
+    pub(crate) by_hand: u64,
+}
+
+/// Builds a game over a store.
+pub(crate) fn built<G: Game + Send + Sync, R: Threads + Wait + Files + Sync, S: Store>(
+    rt: &R,
+    alloc: Global,
+    store: &mut S,
+) -> Result<Built<G>, BuildError>
+    ensures order { IfOk result (λ built. IsTierOrder G.rules built.order) }
+    ensures held { IfOk result (λ built. HoldsExactly built.tables built.order) }
+{
+    built_from(rt, alloc, G::initial().tier, store)
+}
+
+/// Builds the tiers of a game that one tier reaches over a store.
+pub(crate) fn built_from<G: Game + Send + Sync, R: Threads + Wait + Files + Sync, S: Store>(
+    rt: &R,
+    alloc: Global,
+    first: u64,
+    store: &mut S,
+) -> Result<Built<G>, BuildError>
+    ensures order { IfOk result (λ built. IsOrderFrom G.rules first built.order) }
+    ensures held { IfOk result (λ built. HoldsExactly built.tables built.order) }
+{
+    match Plan::new(2, 2, 1) {
+        Some(plan) if store.failures() < u64::MAX => {
+            build_from(
+                rt,
+                alloc,
+                first,
+                store,
+                plan,
+                &NoGate,
+                &Counter::new(),
+                &NoWatch,
+            )
+        }
+        _ => Err(BuildError::OutOfMemory),
+    }
+}
+
+/// What it takes to build a game over a store.
+pub(crate) fn work<G: Game + Send + Sync, R: Threads + Wait + Files + Sync, S: Store>(
+    rt: &R,
+    alloc: Global,
+    store: &mut S,
+) -> Result<Took, BuildError> {
+    let built: Built<G> = built(rt, alloc, store)?;
+    Ok(Took {
+        solved: built.solved,
+        reused: built.reused,
+        migrated: built.migrated,
+        deliveries: built.deliveries,
+        by_hand: built.by_hand,
+    })
+}

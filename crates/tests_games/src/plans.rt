@@ -1,0 +1,115 @@
+//! Every tier of a game by workers, under nine plans, beside the same by one shard.
+use gm_game::game::Game;
+use gm_game::limits::TIER_SIZE;
+use gm_morris::games::{Achi, ThreeMens, TicTacToe};
+use gm_solver::plan::Plan;
+use gm_table::tables::Tables;
+use gm_tactix::tactix::TacTix;
+use gm_testing::crews::hold_same;
+use gm_tiers::order::TierOrder;
+use gm_toys::countdown::Countdown;
+use gm_toys::wheel::Wheel;
+use std::sync::Wait;
+use std::test::Fail;
+use std::thread::Threads;
+
+const WORKERS: [usize; 3] = [1, 2, 16];
+
+const SHARDS: [usize; 3] = [1, 2, 4];
+
+// Whether each tier of a game, child tiers first, is the same by so many workers, for each number of shards.
+fn are_same<G: Game + Send + Sync, R: Threads + Wait + Sync + AllocGlobal>(
+    rt: &R,
+    workers: usize,
+) -> Result<bool, Fail> {
+    let alloc = rt.alloc();
+    let order = TierOrder::<G>::from_initial(alloc)?;
+    let mut tables: Tables<G> = Tables::new(alloc);
+    for tier in order.tiers() {
+        for shards in SHARDS {
+            let plan = Plan::new(workers, shards, 64).ok_or("no plan")?;
+            if !tables.has_children(*tier) || G::tier_size(*tier) > TIER_SIZE {
+                return Ok(false);
+            }
+            if !hold_same(rt, alloc, &mut tables, *tier, plan)? {
+                return Ok(false);
+            }
+        }
+    }
+    Ok(true)
+}
+
+#[test]
+fn toys_under_nine_plans(rt: HostRuntime) -> Result<(), Fail> {
+    for workers in WORKERS {
+        assert!(rt; are_same::<Countdown<10>, _>(&rt, workers)?);
+        assert!(rt; are_same::<Wheel, _>(&rt, workers)?);
+    }
+    Ok(())
+}
+
+#[test]
+fn tactix_under_nine_plans(rt: HostRuntime) -> Result<(), Fail> {
+    for workers in WORKERS {
+        assert!(rt; are_same::<TacTix<1, false>, _>(&rt, workers)?);
+        assert!(rt; are_same::<TacTix<2, false>, _>(&rt, workers)?);
+        assert!(rt; are_same::<TacTix<3, false>, _>(&rt, workers)?);
+    }
+    Ok(())
+}
+
+#[test]
+fn misere_tactix_under_nine_plans(rt: HostRuntime) -> Result<(), Fail> {
+    for workers in WORKERS {
+        assert!(rt; are_same::<TacTix<1, true>, _>(&rt, workers)?);
+        assert!(rt; are_same::<TacTix<2, true>, _>(&rt, workers)?);
+        assert!(rt; are_same::<TacTix<3, true>, _>(&rt, workers)?);
+    }
+    Ok(())
+}
+
+#[test]
+fn tactix_of_four_by_one_worker(rt: HostRuntime) -> Result<(), Fail> {
+    assert!(rt; are_same::<TacTix<4, false>, _>(&rt, 1)?);
+    Ok(())
+}
+
+#[test]
+fn tactix_of_four_by_two_workers(rt: HostRuntime) -> Result<(), Fail> {
+    assert!(rt; are_same::<TacTix<4, false>, _>(&rt, 2)?);
+    Ok(())
+}
+
+#[test]
+fn tactix_of_four_by_sixteen_workers(rt: HostRuntime) -> Result<(), Fail> {
+    assert!(rt; are_same::<TacTix<4, false>, _>(&rt, 16)?);
+    Ok(())
+}
+
+#[test]
+fn misere_tactix_of_four_by_one_worker(rt: HostRuntime) -> Result<(), Fail> {
+    assert!(rt; are_same::<TacTix<4, true>, _>(&rt, 1)?);
+    Ok(())
+}
+
+#[test]
+fn misere_tactix_of_four_by_two_workers(rt: HostRuntime) -> Result<(), Fail> {
+    assert!(rt; are_same::<TacTix<4, true>, _>(&rt, 2)?);
+    Ok(())
+}
+
+#[test]
+fn misere_tactix_of_four_by_sixteen_workers(rt: HostRuntime) -> Result<(), Fail> {
+    assert!(rt; are_same::<TacTix<4, true>, _>(&rt, 16)?);
+    Ok(())
+}
+
+#[test]
+fn nine_point_games_under_nine_plans(rt: HostRuntime) -> Result<(), Fail> {
+    for workers in WORKERS {
+        assert!(rt; are_same::<TicTacToe, _>(&rt, workers)?);
+        assert!(rt; are_same::<ThreeMens, _>(&rt, workers)?);
+        assert!(rt; are_same::<Achi, _>(&rt, workers)?);
+    }
+    Ok(())
+}

@@ -1,0 +1,80 @@
+//! The lower tiers of Tac Tix on 5 by 5, by two workers.
+use gm_game::evaluate::within;
+use gm_game::game::Game;
+use gm_game::limits::TIER_SIZE;
+use gm_game::position::{Position, Solved, Value};
+use gm_game::shown::Shown;
+use gm_solver::plan::Plan;
+use gm_table::tables::Tables;
+use gm_tactix::tactix::TacTix;
+use gm_testing::crews::hold_same;
+use std::sync::Wait;
+use std::test::Fail;
+use std::thread::Threads;
+
+/// The greatest tier that is solved.
+const LAST: u64 = 5;
+
+/// Five counters in a row.
+const ROW: &[u8] = b"xxxxx....................";
+
+// The tables of the tiers up to the last, which are the same by one shard.
+fn lower_tiers<G: Game + Send + Sync, R: Threads + Wait + Sync + AllocGlobal>(
+    rt: &R,
+) -> Result<Tables<G>, Fail> {
+    let alloc = rt.alloc();
+    let plan = Plan::new(2, 2, 64).ok_or("no plan")?;
+    let mut tables: Tables<G> = Tables::new(alloc);
+    for tier in 0..=LAST {
+        if !tables.has_children(tier) || G::tier_size(tier) > TIER_SIZE {
+            return Err("a child tier is missing".into());
+        }
+        if !hold_same(rt, alloc, &mut tables, tier, plan)? {
+            return Err("one shard finds another table".into());
+        }
+    }
+    Ok(tables)
+}
+
+// Whether each canonical position of the tiers of so few counters has the value that looking as many moves ahead finds.
+fn are_known<G: Game>(tables: &Tables<G>, counters: u32) -> bool {
+    for tier in 0..=u64::from(counters) {
+        for index in 0..G::tier_size(tier) {
+            let p = Position { tier, index };
+            if G::is_legal(p) && G::canonical(p) == p {
+                let known = within::<G>(p, counters);
+                if known.is_none() || known != tables.get(p) {
+                    return false;
+                }
+            }
+        }
+    }
+    true
+}
+
+#[test]
+fn tactix_of_five(rt: HostRuntime) -> Result<(), Fail> {
+    let tables = lower_tiers::<TacTix<5, false>, _>(&rt)?;
+    let row = <TacTix<5, false> as Shown>::read(ROW).ok_or("a position")?;
+    let win_in_1 = Solved {
+        value: Value::Win,
+        remoteness: 1,
+    };
+    assert_eq!(rt; tables.get(row), Some(win_in_1));
+    assert!(rt; are_known(&tables, 4));
+    Ok(())
+}
+
+#[test]
+fn misere_tactix_of_five(rt: HostRuntime) -> Result<(), Fail> {
+    let tables = lower_tiers::<TacTix<5, true>, _>(&rt)?;
+    // Four are taken, and the other side has to take the last.
+    let row = <TacTix<5, true> as Shown>::read(ROW).ok_or("a position")?;
+    let win_in_2 = Solved {
+        value: Value::Win,
+        remoteness: 2,
+    };
+    assert_eq!(rt; tables.get(row), Some(win_in_2));
+    assert!(rt; are_known(&tables, 4));
+    Ok(())
+}

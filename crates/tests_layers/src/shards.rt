@@ -1,0 +1,204 @@
+ghost use Rattle.std.specs.Prelude.{◌≤◌};
+ghost use Rattle.gm_table.specs.Tables.{AreHeld};
+
+use crate::records::lose;
+use gm_frontier::expected::Expected;
+use gm_frontier::level::Level;
+use gm_frontier::note::Note;
+use gm_frontier::run::Run;
+use gm_game::game::Game;
+use gm_game::limits::{REMOTENESS, TIER_SIZE};
+use gm_game::position::{Phase, Solved};
+use gm_shard::event::Event;
+use gm_shard::replay::replay;
+use gm_shard::shard::Shard;
+use gm_shard::status::{Delivery, Refused, Short, Status};
+use gm_table::tables::Tables;
+use gm_testing::by_hand::{add_fresh, begin_whole, records_of, turn};
+use gm_toys::countdown::Countdown;
+use std::alloc::{AllocError, Global};
+use std::process::Abort;
+use std::test::Fail;
+
+// Delivers a note to some parents in turn, and compares the answers.
+fn deliver<G: Game>(
+    rt: &impl Abort,
+    shard: &mut Shard<G>,
+    note: &Note<G>,
+    answers: &[(u64, Result<Delivery, Refused>)],
+) {
+    for (parent, answer) in answers {
+        assert_eq!(rt; shard.deliver(note, *parent), *answer, "to {parent}");
+    }
+}
+
+// Closes a level with a count that is for the shard.
+fn close<G: Game>(
+    rt: &impl Abort,
+    shard: &mut Shard<G>,
+    expected: &Expected<G>,
+) -> Result<(), Short> {
+    assert!(rt; shard.is_for(expected));
+    assert!(rt; shard.level() <= REMOTENESS);
+    shard.close(expected)
+}
+
+// What is known of an index in the range, and its counter.
+fn known<G: Game>(rt: &impl Abort, shard: &Shard<G>, index: u64) -> (Status, u32) {
+    let (lo, hi) = shard.range();
+    assert!(rt; lo <= index);
+    assert!(rt; index < hi);
+    (shard.status(index), shard.counter(index))
+}
+
+// The value of the note of an index in the range.
+fn noted<G: Game>(rt: &impl Abort, shard: &Shard<G>, index: u64) -> Option<Solved> {
+    let (lo, hi) = shard.range();
+    assert!(rt; lo <= index);
+    assert!(rt; index < hi);
+    Some(shard.note(index)?.solved())
+}
+
+// The first level of Countdown: the note of 0, which has two parents.
+fn first_level<G: Game>(
+    rt: &impl Abort,
+    shard: &mut Shard<G>,
+    level: &Level<G>,
+    expected: &Expected<G>,
+) {
+    assert_eq!(rt; level.len(), 1);
+    let zero = level.note(0);
+    deliver(
+        rt,
+        shard,
+        &zero,
+        &[
+            (1, Ok(Delivery::FreshSettled)),
+            (1, Ok(Delivery::Repeat)),
+            (5, Err(Refused::NotAParent)),
+            (11, Err(Refused::NotMine)),
+        ],
+    );
+    let short = Short {
+        delivered: 1,
+        expected: 2,
+    };
+    assert_eq!(rt; close(rt, shard, expected), Err(short));
+    deliver(rt, shard, &zero, &[(2, Ok(Delivery::FreshSettled))]);
+    assert_eq!(rt; close(rt, shard, expected), Ok(()));
+    deliver(rt, shard, &zero, &[(1, Err(Refused::NotThisLevel))]);
+}
+
+// The note of 1 at the second level: 2 and 3 have it among their children.
+fn one_at_second_level<G: Game>(rt: &impl Abort, shard: &mut Shard<G>, note: &Note<G>) {
+    deliver(rt, shard, note, &[(2, Ok(Delivery::Fresh))]);
+    assert_eq!(rt; known(rt, shard, 2).1, 0);
+    deliver(rt, shard, note, &[(3, Ok(Delivery::Fresh))]);
+    assert_eq!(rt; known(rt, shard, 3), (Status::Undecided, 1));
+}
+
+// The note of 2: 3 has no other child left.
+fn two_at_second_level<G: Game>(rt: &impl Abort, shard: &mut Shard<G>, note: &Note<G>) {
+    deliver(rt, shard, note, &[(3, Ok(Delivery::FreshSettled))]);
+    assert_eq!(rt; noted(rt, shard, 3), lose(2));
+    assert_eq!(rt; shard.delivered(), 5);
+}
+
+// The second level: the notes of 1 and 2, of which 3 has both as children.
+fn second_level<G: Game>(rt: &impl Abort, shard: &mut Shard<G>, fresh: &Run<G>) {
+    let notes = fresh.list();
+    assert_eq!(rt; notes.len(), 2);
+    assert_eq!(rt; notes[0].position().index, 1);
+    assert_eq!(rt; notes[1].position().index, 2);
+    one_at_second_level(rt, shard, &notes[0]);
+    two_at_second_level(rt, shard, &notes[1]);
+    assert_eq!(rt; shard.tier(), 0);
+    assert_eq!(rt; shard.phase(), Phase::WinLose);
+}
+
+#[test]
+fn one_shard_by_hand(rt: HostRuntime) -> Result<(), Fail> {
+    let tables: Tables<Countdown<10>> = Tables::new(rt.alloc());
+    let mut shard = begin_whole::<Countdown<10>>(rt.alloc(), 0)?;
+    let runs = vec![in rt.alloc(); shard.fresh(rt.alloc())?]?;
+    let level = Level::gather(rt.alloc(), shard.place(), runs.as_slice(), &tables)?;
+    let mut expected = Expected::start(0, 0, 11);
+    expected.add(&level);
+    first_level(&rt, &mut shard, &level, &expected);
+    let fresh = shard.fresh(rt.alloc())?;
+    second_level(&rt, &mut shard, &fresh);
+    Ok(())
+}
+
+// Takes a tier whose only level is the first one to its end.
+fn to_its_end<G: Game>(
+    rt: &impl Abort,
+    alloc: Global,
+    tables: &Tables<G>,
+    tier: u64,
+) -> Result<Vec<Option<Solved>>, AllocError>
+    requires children { AreHeld G.rules tables.now tier }
+    requires small { G.rules.tier_size tier ≤ TIER_SIZE }
+{
+    let mut shard = begin_whole::<G>(alloc, tier)?;
+    let mut expected = Expected::start(tier, 0, G::tier_size(tier));
+    add_fresh(alloc, &shard, tables, &mut expected)?;
+    assert_eq!(rt; shard.close(&expected), Ok(()));
+    assert!(rt; turn(alloc, &mut shard, &mut expected, tables)?);
+    records_of(alloc, &shard, tables)
+}
+
+#[test]
+fn one_position_to_its_end(rt: HostRuntime) -> Result<(), Fail> {
+    let tables: Tables<Countdown<0>> = Tables::new(rt.alloc());
+    let records = to_its_end(&rt, rt.alloc(), &tables, 0)?;
+    assert_eq!(rt; records.as_slice(), [lose(0)].as_slice());
+    Ok(())
+}
+
+// Deliveries of a note: to a parent twice, to an index that is no parent, to a shard that isn't there, and to another parent.
+fn deliveries(
+    alloc: Global,
+    note: Note<Countdown<10>>,
+) -> Result<Vec<Event<Countdown<10>>>, AllocError> {
+    let mut events = Vec::new(alloc);
+    for (shard, parent) in [(0, 2), (0, 2), (0, 5), (1, 1), (0, 1)] {
+        events.push(Event::Deliver {
+            shard,
+            note,
+            parent,
+        })?;
+    }
+    Ok(events)
+}
+
+#[test]
+fn replay_of_a_level(rt: HostRuntime) -> Result<(), Fail> {
+    let tables: Tables<Countdown<10>> = Tables::new(rt.alloc());
+    let shard = begin_whole::<Countdown<10>>(rt.alloc(), 0)?;
+    let runs = vec![in rt.alloc(); shard.fresh(rt.alloc())?]?;
+    let level = Level::gather(rt.alloc(), shard.place(), runs.as_slice(), &tables)?;
+    let mut expected = Expected::start(0, 0, 11);
+    expected.add(&level);
+    assert_eq!(rt; level.len(), 1);
+    let mut events = deliveries(rt.alloc(), level.note(0))?;
+    events.push(Event::Close { shard: 0, expected })?;
+    let mut shards = vec![in rt.alloc(); shard]?;
+    assert_eq!(rt; replay(shards.as_mut_slice(), events.as_slice()), 3);
+    assert_eq!(rt; shards.len(), 1);
+    assert_eq!(rt; shards[0].level(), 1);
+    Ok(())
+}
+
+#[test]
+fn refusals_have_numbers(rt: HostRuntime) {
+    assert_eq!(rt; Refused::NotThisLevel.number(), 1);
+    assert_eq!(rt; Refused::NotMine.number(), 2);
+    assert_eq!(rt; Refused::NotAParent.number(), 3);
+    assert_eq!(rt; Refused::TooFar.number(), 4);
+    let short = Short {
+        delivered: 1,
+        expected: 2,
+    };
+    assert_eq!(rt; short.number(), 1);
+}

@@ -1,0 +1,40 @@
+use crate::asking::{at_start, is_start_move, starts};
+use gm_game::children::canonical_children;
+use gm_game::game::Game;
+use gm_game::position::Position;
+use gm_game::shown::Shown;
+use gm_hare::hare::Hare;
+
+// How many canonical children of the start are in a tier.
+fn children_in<G: Game>(tier: u64) -> usize {
+    canonical_children::<G>(G::initial())
+        .iter()
+        .filter(|c| c.tier == tier)
+        .count()
+}
+
+#[test]
+fn hare_start(rt: HostRuntime) {
+    assert_eq!(rt; Hare::initial(), Position { tier: 2, index: 21 });
+    assert_eq!(rt; at_start::<Hare>(&[2, 18, 20, 21, 50, 53, 54]), (true, 4));
+    assert_eq!(rt; children_in::<Hare>(2), 1);
+    assert_eq!(rt; children_in::<Hare>(3), 3);
+}
+
+#[test]
+fn hare_texts(rt: HostRuntime) {
+    assert!(rt; starts::<Hare>(b"dd.d......h d"));
+    assert_eq!(rt;
+        Hare::read(b"dd.d......h d"),
+        Some(Position { tier: 2, index: 21 })
+    );
+    assert!(rt; is_start_move::<Hare>(b"L-M1", 2));
+    assert!(rt; is_start_move::<Hare>(b"T1-M2", 21));
+    assert!(rt; is_start_move::<Hare>(b"B1-B2", 54));
+    // The hare does not move yet, and no hound goes to a point that another holds.
+    assert!(rt; !is_start_move::<Hare>(b"R-M3", 168));
+    assert!(rt; !is_start_move::<Hare>(b"L-T1", 1));
+    assert_eq!(rt; Hare::read(b"dd.d......h  "), None);
+    assert_eq!(rt; Hare::read(b"dddd......h d"), None);
+    assert_eq!(rt; Hare::read(b"dd.d...h..h d"), None);
+}

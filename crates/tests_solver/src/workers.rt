@@ -1,0 +1,92 @@
+//! Tiers solved by workers that take pieces of a level, whatever their source and gate do.
+use crate::ways::{asked_on_stairs, counted, habits, long_chain, slow, two_meet, wheel};
+use gm_game::position::{Solved, Value};
+use gm_solver::gate::NoGate;
+use gm_solver::plan::Plan;
+use gm_solver::source::Counter;
+use gm_table::tables::Tables;
+use gm_testing::crews::{Way, as_alone, hold_same, show_first};
+use gm_testing::sources::Habit;
+use gm_toys::countdown::Countdown;
+use gm_toys::wheel::Wheel;
+use std::test::Fail;
+
+#[test]
+fn two_workers_meet(rt: HostRuntime) -> Result<(), Fail> {
+    two_meet(&rt, Way::Pieces, 1)
+}
+
+#[test]
+fn sources_of_every_habit(rt: HostRuntime) -> Result<(), Fail> {
+    let by_hand = [
+        (Habit::Silent, 19),
+        (Habit::Always(0), 6),
+        (Habit::Twice, 0),
+        (Habit::Odd, 13),
+        (Habit::Always(usize::MAX), 19),
+    ];
+    habits(&rt, Way::Pieces, &by_hand)
+}
+
+#[test]
+fn wheel_without_workers(rt: HostRuntime) -> Result<(), Fail> {
+    wheel(&rt, Way::Pieces, Habit::Silent, 9)
+}
+
+#[test]
+fn shards_without_positions(rt: HostRuntime) -> Result<(), Fail> {
+    let found = show_first::<Countdown<0>, HostRuntime, NoGate, Counter>(
+        &rt,
+        rt.alloc(),
+        Way::Pieces,
+        (2, 4, 1),
+        &NoGate,
+        &Counter::new(),
+    )?;
+    let lost = Solved {
+        value: Value::Lose,
+        remoteness: 0,
+    };
+    assert_eq!(rt; found, as_alone(lost, 0, 0));
+    Ok(())
+}
+
+#[test]
+fn levels_of_stairs(rt: HostRuntime) -> Result<(), Fail> {
+    let (levels, _told, _asks) = asked_on_stairs(&rt, Way::Pieces)?;
+    // The levels 0 to 3 of wins and losses, and none of ties.
+    assert_eq!(rt; levels, 4);
+    Ok(())
+}
+
+#[test]
+fn same_tables_for_every_plan(rt: HostRuntime) -> Result<(), Fail> {
+    for workers in [1, 2, 16] {
+        for shards in [1, 2, 4] {
+            let plan = Plan::new(workers, shards, 1).expect(&rt, "a plan");
+            let mut tables: Tables<Countdown<10>> = Tables::new(rt.alloc());
+            assert!(rt; hold_same(&rt, rt.alloc(), &mut tables, 0, plan)?);
+            let mut tables: Tables<Wheel> = Tables::new(rt.alloc());
+            assert!(rt; hold_same(&rt, rt.alloc(), &mut tables, 0, plan)?);
+        }
+    }
+    Ok(())
+}
+
+#[test]
+fn slow_gate(rt: HostRuntime) -> Result<(), Fail> {
+    slow(&rt, Way::Pieces)
+}
+
+#[test]
+fn gate_is_called_for_each_delivery(rt: HostRuntime) -> Result<(), Fail> {
+    for piece in [1, 64] {
+        counted(&rt, Way::Pieces, piece)?;
+    }
+    Ok(())
+}
+
+#[test]
+fn a_long_chain(rt: HostRuntime) -> Result<(), Fail> {
+    long_chain(&rt, Way::Pieces)
+}

@@ -1,0 +1,82 @@
+//! What a game says of its positions, tiers and texts.
+use gm_game::children::canonical_children;
+use gm_game::game::Game;
+use gm_game::position::{End, Position};
+use gm_game::shown::Shown;
+
+/// A position of tier 0.
+pub fn at(index: u64) -> Position {
+    Position { tier: 0, index }
+}
+
+/// Whether a position is legal and has these moves.
+pub fn has_moves<G: Game>(p: Position, moves: &[u32]) -> bool {
+    G::is_legal(p) && G::moves(p).as_slice() == moves
+}
+
+/// Whether a position is legal, and ends the game so or not at all.
+pub fn ends<G: Game>(p: Position, end: Option<End>) -> bool {
+    G::is_legal(p) && G::primitive(p) == end
+}
+
+/// Whether a position is legal and canonical.
+pub fn is_canonical<G: Game>(p: Position) -> bool {
+    G::is_legal(p) && G::canonical(p) == p
+}
+
+/// Whether a position is legal and has these canonical children.
+pub fn has_children<G: Game>(p: Position, children: &[Position]) -> bool {
+    G::is_legal(p) && canonical_children::<G>(p).as_slice() == children
+}
+
+/// Whether a position is canonical and legal, and has these canonical parents in a tier.
+pub fn has_parents<G: Game>(c: Position, tier: u64, parents: &[u64]) -> bool {
+    G::is_legal(c) && G::canonical(c) == c && G::parents(c, tier).as_slice() == parents
+}
+
+/// Whether a tier has these child tiers.
+pub fn has_child_tiers<G: Game>(tier: u64, tiers: &[u64]) -> bool {
+    G::child_tiers(tier).as_slice() == tiers
+}
+
+/// Whether a tier has this size and this rank.
+pub fn has_size_and_rank<G: Game>(tier: u64, size: u64, rank: u64) -> bool {
+    G::tier_size(tier) == size && G::tier_rank(tier) == rank
+}
+
+/// Whether this is the text of a legal position, and is read as that position.
+pub fn shows<G: Shown>(p: Position, text: &[u8]) -> bool {
+    G::is_legal(p) && G::show(p).as_slice() == text && G::read(text) == Some(p)
+}
+
+/// Whether none of these texts is that of a position.
+pub fn reads_none<G: Shown>(texts: &[&[u8]]) -> bool {
+    texts.iter().all(|text| G::read(text).is_none())
+}
+
+/// Whether this text is read as this move of a legal position, and is the move's text.
+pub fn shows_move<G: Shown>(p: Position, text: &[u8], m: u32) -> bool {
+    if !G::is_legal(p) {
+        return false;
+    }
+    match G::read_move(p, text) {
+        Some(read) => read == m && G::move_text(p, read).as_slice() == text,
+        None => false,
+    }
+}
+
+/// Whether this text is read as a move of a legal position that leads there.
+pub fn leads<G: Shown>(p: Position, text: &[u8], child: Position) -> bool {
+    if !G::is_legal(p) {
+        return false;
+    }
+    match G::read_move(p, text) {
+        Some(read) => G::play(p, read) == child,
+        None => false,
+    }
+}
+
+/// Whether none of these texts is that of a move of a legal position.
+pub fn reads_no_move<G: Shown>(p: Position, texts: &[&[u8]]) -> bool {
+    G::is_legal(p) && texts.iter().all(|text| G::read_move(p, text).is_none())
+}
