@@ -11,7 +11,8 @@ use Rattle.gm_board.specs.Ranks.{members, members_le}
 use Rattle.gm_board.specs.Masks.{has_cell, tests_of, tests_none, tests_more, tests_length, mask_of, mask_cons, mask_below, weight, weight_bit, members_small}
 use Rattle.gm_board.specs.Arrangements.{their_bits, their_cell, merge, their_bits_length}
 use Rattle.gm_board.specs.Pieces.{cell_by, cells_of, cells_none, cells_more, cells_length, their_tests, spread_mask, apart_below}
-use Rattle.gm_board.specs.NextCells.{rest_all, next_cell, cell_below, none_left}
+use Rattle.gm_board.specs.NextCells.{cell_below}
+use Rattle.gm_board.proofs.LowestCells.{IsRest, rest_whole, lowest, nothing_left}
 
 -- the opponent's pieces below `cell` are packed
 pub record IsPacked (mine theirs cell packed free : ℕ) : Type 0 where
@@ -281,105 +282,127 @@ packed_end cells mine theirs free packed h l =
     (let e : packed ≡ packed % 2 ^ free = omega (arith, shr_split packed free, w) in e) ∙ h.low.is_packed
 
 -- ---- the loops
--- what holds before each of the mover's cells
-pub record IsPacking (cells mine theirs next free rest packed : ℕ) : Type 0 where
+-- what holds before each of the mover's cells: those below some `next` are done, of which the mover has `passed`
+pub record IsPacking (cells mine theirs rest passed packed : ℕ) : Type 0 where
+  pub next : ℕ
   pub within : next ≤ cells
-  pub free_le : free ≤ next
-  pub is_rest : rest ≡ mine / 2 ^ next
-  pub is_to : IsPackedTo mine theirs next free packed
+  pub passed_le : passed ≤ next
+  pub is_rest : IsRest mine next rest
+  pub is_to : IsPackedTo mine theirs next (next - passed) packed
 
--- what a turn does, where s cells are skipped
-pub record IsPackTurn (cells mine theirs next free rest packed s : ℕ) : Type 0 where
-  pub shift : next + s < cells
-  pub whole : theirs / 2 ^ (next + s) / 2 * 2 ^ (free + s) % 2 ^ 32 ≡ theirs / 2 ^ (next + s) / 2 * 2 ^ (free + s)
-  pub fits : theirs / 2 ^ (next + s) / 2 * 2 ^ (free + s) ≤ packed
-  pub after : IsPacking cells mine theirs (next + s + 1) (free + s) (rest / 2 ^ s / 2) (packed - theirs / 2 ^ (next + s) / 2 * 2 ^ (free + s))
+-- what a turn does at a cell
+pub record IsPackTurn (cells mine theirs rest passed packed cell : ℕ) : Type 0 where
+  pub shift : cell < cells
+  pub passed_le : passed ≤ cell
+  pub whole : theirs / 2 ^ cell / 2 * 2 ^ (cell - passed) % 2 ^ 32 ≡ theirs / 2 ^ cell / 2 * 2 ^ (cell - passed)
+  pub fits : theirs / 2 ^ cell / 2 * 2 ^ (cell - passed) ≤ packed
+  pub after : IsPacking cells mine theirs (bit_and rest (rest - 1)) (passed + 1) (packed - theirs / 2 ^ cell / 2 * 2 ^ (cell - passed))
 
 -- nothing is packed yet
-pub packing : (cells mine theirs : ℕ) → IsPacking cells mine theirs 0 0 mine theirs
-packing cells mine theirs = record { within = omega arith; free_le = omega arith; is_rest = rest_all mine; is_to = packed_start mine theirs }
+pub packing : (cells mine theirs : ℕ) → IsPacking cells mine theirs mine 0 theirs
+packing cells mine theirs = record { next = 0; within = omega arith; passed_le = omega arith; is_rest = rest_whole mine; is_to = packed_start mine theirs }
+
+-- a bit that is set is a cell, and one that is not is none
+is_cell : (m c : ℕ) → bit_at m c ≡ 1 → has_cell m c ≡ true
+is_cell m c e = rw e refl
+
+is_none : (m c : ℕ) → bit_at m c ≡ 0 → has_cell m c ≡ false
+is_none m c e = rw e refl
 
 -- a turn
-pub pack_turn : (cells mine theirs next free rest packed : ℕ) → IsPacking cells mine theirs next free rest packed → mine < 2 ^ cells → bit_and mine theirs ≡ 0
-    → packed < 2 ^ 32 → rest < 2 ^ 32 → 0 < rest → IsPackTurn cells mine theirs next free rest packed (trailing_zeros w32 rest)
-pack_turn cells mine theirs next free rest packed h f a j g p =
-    let s = trailing_zeros w32 rest in
-    let z = next_cell mine next rest h.is_rest g p in
-    let below : next + s < cells = cell_below mine cells (next + s) f z.has in
-    let none : has_cell theirs (next + s) ≡ false = apart_below (next + s + 1) mine theirs a (next + s) (omega arith) z.has in
-    let to = packed_frees mine theirs next s free packed h.is_to z.none in
-    let d = step_down mine theirs (next + s) (free + s) packed to none in
+pub pack_turn : (cells mine theirs rest passed packed : ℕ) → IsPacking cells mine theirs rest passed packed → mine < 2 ^ cells → bit_and mine theirs ≡ 0
+    → packed < 2 ^ 32 → rest < 2 ^ 32 → 0 < rest → IsPackTurn cells mine theirs rest passed packed (trailing_zeros w32 rest)
+pack_turn cells mine theirs rest passed packed h f a j g p =
+    let c = trailing_zeros w32 rest in
+    let n = h.next in
+    let z = lowest mine n rest h.is_rest g p in
+    let own : has_cell mine c ≡ true = is_cell mine c z.has in
+    let below : c < cells = cell_below mine cells c f own in
+    let none : has_cell theirs c ≡ false = apart_below (c + 1) mine theirs a c (omega arith) own in
+    let to = subst (λ (k : ℕ). IsPackedTo mine theirs c k packed) (let e : n - passed + (c - n) ≡ c - passed = omega (arith, z.from, h.passed_le) in e)
+    (subst (λ (k : ℕ). IsPackedTo mine theirs k (n - passed + (c - n)) packed) (let e : n + (c - n) ≡ c = omega (arith, z.from) in e)
+    (packed_frees mine theirs n (c - n) (n - passed) packed h.is_to (λ i l. is_none mine (n + i) (z.none i l)))) in
+    let d = step_down mine theirs c (c - passed) packed to none in
     record {
       shift = below;
+      passed_le = omega (arith, h.passed_le, z.from);
       whole = mod-eq_of_lt (lt_of_le_of_lt d.fits j);
       fits = d.fits;
       after = record {
+        next = c + 1;
         within = omega (arith, below);
-        free_le = omega (arith, h.free_le);
-        is_rest = z.is_rest;
-        is_to = packed_own mine theirs (next + s) (free + s) packed to z.has none;
+        passed_le = omega (arith, h.passed_le, z.from);
+        is_rest = z.left;
+        is_to = subst (λ (k : ℕ). IsPackedTo mine theirs (c + 1) k (packed - theirs / 2 ^ c / 2 * 2 ^ (c - passed))) (let e : c - passed ≡ c + 1 - (passed + 1) = omega arith in e)
+            (packed_own mine theirs c (c - passed) packed to own none);
       };
     }
 
 -- all is packed
-pub pack_done : (cells mine theirs next free rest packed : ℕ) → IsPacking cells mine theirs next free rest packed → theirs < 2 ^ cells → rest ≡ 0 → packed ≡ mask_of (their_bits (cells_of cells mine theirs))
-pack_done cells mine theirs next free rest packed h l n =
-    packed_end cells mine theirs (free + (cells - next)) packed
-    (subst (λ (k : ℕ). IsPackedTo mine theirs k (free + (cells - next)) packed) (let e : next + (cells - next) ≡ cells = omega (arith, h.within) in e)
-    (packed_frees mine theirs next (cells - next) free packed h.is_to (λ i k. none_left mine next rest (next + i) h.is_rest n (omega arith))))
+pub pack_done : (cells mine theirs rest passed packed : ℕ) → IsPacking cells mine theirs rest passed packed → theirs < 2 ^ cells → rest ≡ 0 → packed ≡ mask_of (their_bits (cells_of cells mine theirs))
+pack_done cells mine theirs rest passed packed h l e =
+    let n = h.next in
+    packed_end cells mine theirs (n - passed + (cells - n)) packed
+    (subst (λ (k : ℕ). IsPackedTo mine theirs k (n - passed + (cells - n)) packed) (let q : n + (cells - n) ≡ cells = omega (arith, h.within) in q)
+    (packed_frees mine theirs n (cells - n) (n - passed) packed h.is_to (λ i k. is_none mine (n + i) (nothing_left mine n rest (n + i) h.is_rest e (omega arith)))))
     l
 
--- what holds before each of the mover's cells
-pub record IsSpreading (cells mine packed next rest theirs : ℕ) : Type 0 where
+-- what holds before each of the mover's cells: those below some `next` are done
+pub record IsSpreading (cells mine packed rest theirs : ℕ) : Type 0 where
+  pub next : ℕ
   pub within : next ≤ cells
   pub fits : theirs < 2 ^ (32 + next)
-  pub is_rest : rest ≡ mine / 2 ^ next
+  pub is_rest : IsRest mine next rest
   pub is_to : IsSpreadTo mine packed next theirs
 
--- what a turn does, where s cells are skipped
-pub record IsSpreadTurn (cells mine packed next rest theirs s : ℕ) : Type 0 where
-  pub shift : next + s < cells
-  pub whole : theirs / 2 ^ (next + s) * 2 ^ (next + s) % 2 ^ 64 ≡ theirs / 2 ^ (next + s) * 2 ^ (next + s)
-  pub fits : theirs + theirs / 2 ^ (next + s) * 2 ^ (next + s) < 2 ^ 64
-  pub after : IsSpreading cells mine packed (next + s + 1) (rest / 2 ^ s / 2) (theirs + theirs / 2 ^ (next + s) * 2 ^ (next + s))
+-- what a turn does at a cell
+pub record IsSpreadTurn (cells mine packed rest theirs cell : ℕ) : Type 0 where
+  pub shift : cell < cells
+  pub whole : theirs / 2 ^ cell * 2 ^ cell % 2 ^ 64 ≡ theirs / 2 ^ cell * 2 ^ cell
+  pub fits : theirs + theirs / 2 ^ cell * 2 ^ cell < 2 ^ 64
+  pub after : IsSpreading cells mine packed (bit_and rest (rest - 1)) (theirs + theirs / 2 ^ cell * 2 ^ cell)
 
 -- nothing is spread yet
-pub spreading : (cells mine packed : ℕ) → packed < 2 ^ 32 → IsSpreading cells mine packed 0 mine packed
-spreading cells mine packed l = record { within = omega arith; fits = l; is_rest = rest_all mine; is_to = spread_start mine packed }
+pub spreading : (cells mine packed : ℕ) → packed < 2 ^ 32 → IsSpreading cells mine packed mine packed
+spreading cells mine packed l = record { next = 0; within = omega arith; fits = l; is_rest = rest_whole mine; is_to = spread_start mine packed }
 
 -- a turn
-pub spread_turn : (cells mine packed next rest theirs : ℕ) → IsSpreading cells mine packed next rest theirs → cells ≤ 32 → mine < 2 ^ cells
-    → rest < 2 ^ 32 → 0 < rest → IsSpreadTurn cells mine packed next rest theirs (trailing_zeros w32 rest)
-spread_turn cells mine packed next rest theirs h w f g p =
-    let s = trailing_zeros w32 rest in
-    let n = next + s in
-    let z = next_cell mine next rest h.is_rest g p in
-    let below : n < cells = cell_below mine cells n f z.has in
-    let to = spread_frees mine packed next s theirs h.is_to z.none in
-    let up = theirs / 2 ^ n * 2 ^ n in
-    let part : up ≤ theirs = omega (arith, shr_split theirs n) in
-    let e : 2 ^ (32 + (n + 1)) ≡ 2 ^ (32 + n) + 2 ^ (32 + n) = ap (λ (k : ℕ). 2 ^ k) (let q : 32 + (n + 1) ≡ suc (32 + n) = omega arith in q) ∙ two-pow-succ (32 + n) in
-    let b : 2 ^ (32 + next) ≤ 2 ^ (32 + n) = pow_mono (let q : 32 + next ≤ 32 + n = omega arith in q) in
-    let c : 2 ^ (32 + (n + 1)) ≤ 2 ^ 64 = pow_mono (let q : 32 + (n + 1) ≤ 64 = omega arith in q) in
-    let twofold : theirs + up < 2 ^ (32 + (n + 1)) = omega (arith, part, h.fits, e, b) in
+pub spread_turn : (cells mine packed rest theirs : ℕ) → IsSpreading cells mine packed rest theirs → cells ≤ 32 → mine < 2 ^ cells
+    → rest < 2 ^ 32 → 0 < rest → IsSpreadTurn cells mine packed rest theirs (trailing_zeros w32 rest)
+spread_turn cells mine packed rest theirs h w f g p =
+    let c = trailing_zeros w32 rest in
+    let n = h.next in
+    let z = lowest mine n rest h.is_rest g p in
+    let own : has_cell mine c ≡ true = is_cell mine c z.has in
+    let below : c < cells = cell_below mine cells c f own in
+    let to = subst (λ (k : ℕ). IsSpreadTo mine packed k theirs) (let e : n + (c - n) ≡ c = omega (arith, z.from) in e)
+    (spread_frees mine packed n (c - n) theirs h.is_to (λ i l. is_none mine (n + i) (z.none i l))) in
+    let up = theirs / 2 ^ c * 2 ^ c in
+    let part : up ≤ theirs = omega (arith, shr_split theirs c) in
+    let e : 2 ^ (32 + (c + 1)) ≡ 2 ^ (32 + c) + 2 ^ (32 + c) = ap (λ (k : ℕ). 2 ^ k) (let q : 32 + (c + 1) ≡ suc (32 + c) = omega arith in q) ∙ two-pow-succ (32 + c) in
+    let b : 2 ^ (32 + n) ≤ 2 ^ (32 + c) = pow_mono (let q : 32 + n ≤ 32 + c = omega (arith, z.from) in q) in
+    let d : 2 ^ (32 + (c + 1)) ≤ 2 ^ 64 = pow_mono (let q : 32 + (c + 1) ≤ 64 = omega (arith, below, w) in q) in
+    let twofold : theirs + up < 2 ^ (32 + (c + 1)) = omega (arith, part, h.fits, e, b) in
     record {
       shift = below;
-      whole = mod-eq_of_lt (let q : up < 2 ^ 64 = omega (arith, part, twofold, c) in q);
-      fits = omega (arith, twofold, c);
+      whole = mod-eq_of_lt (let q : up < 2 ^ 64 = omega (arith, part, twofold, d) in q);
+      fits = omega (arith, twofold, d);
       after = record {
+        next = c + 1;
         within = omega (arith, below);
         fits = twofold;
-        is_rest = z.is_rest;
-        is_to = spread_own mine packed n theirs to z.has;
+        is_rest = z.left;
+        is_to = spread_own mine packed c theirs to own;
       };
     }
 
 -- all is spread
-pub spread_done : (cells mine packed next rest theirs : ℕ) → IsSpreading cells mine packed next rest theirs → mine < 2 ^ cells → packed < 2 ^ (cells - count_ones mine) → rest ≡ 0 → theirs ≡ spread_mask cells mine packed
-spread_done cells mine packed next rest theirs h f g n =
+pub spread_done : (cells mine packed rest theirs : ℕ) → IsSpreading cells mine packed rest theirs → mine < 2 ^ cells → packed < 2 ^ (cells - count_ones mine) → rest ≡ 0 → theirs ≡ spread_mask cells mine packed
+spread_done cells mine packed rest theirs h f g e =
+    let n = h.next in
     spread_end cells mine packed theirs
-    (subst (λ (k : ℕ). IsSpreadTo mine packed k theirs) (let e : next + (cells - next) ≡ cells = omega (arith, h.within) in e)
-    (spread_frees mine packed next (cells - next) theirs h.is_to (λ i k. none_left mine next rest (next + i) h.is_rest n (omega arith))))
+    (subst (λ (k : ℕ). IsSpreadTo mine packed k theirs) (let q : n + (cells - n) ≡ cells = omega (arith, h.within) in q)
+    (spread_frees mine packed n (cells - n) theirs h.is_to (λ i k. is_none mine (n + i) (nothing_left mine n rest (n + i) h.is_rest e (omega arith)))))
     f g
 
 -- what is spread fits the cells

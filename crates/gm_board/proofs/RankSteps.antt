@@ -1,91 +1,76 @@
 -- The steps of ranking a mask, from its lowest cell up.
-use Rattle.std.proofs.Common.{◌≡◌, ℕ, suc, ◌+◌, ◌*◌, ◌/◌, ◌%◌, ◌^◌, ◌<◌, ◌≤◌, length, sym, ap, ap₂, ◌∙◌, arith, inl, inr}
-use Rattle.std.specs.Int.{bit_at, trailing_zeros, w32}
-use Rattle.std.proofs.lemmas.Bool.{cases_lt}
-use Rattle.std.proofs.lemmas.Nat.{shr-shr, pow_pos, shr_split, mod_below}
-use Rattle.std.proofs.lemmas.Nat.Bits.{bit_at-trailing_zeros, bit_at_above}
+use Rattle.std.proofs.Common.{◌≡◌, ℕ, suc, ◌+◌, ◌-◌, ◌^◌, ◌<◌, ◌≤◌, length, sym, ap, ap₂, ◌∙◌, arith}
+use Rattle.std.specs.Prelude.{bit_and}
+use Rattle.std.specs.Int.{trailing_zeros, w32}
 use Rattle.gm_board.specs.Binomials.{binomial, binomial_small}
 use Rattle.gm_board.specs.Ranks.{members, rank, rank_below, members_le}
-use Rattle.gm_board.specs.Masks.{tests_of, tests_none, tests_length, mask_rank, mask_rank_at, members_skips, rank_skips, members_add, rank_add}
+use Rattle.gm_board.specs.Masks.{tests_of, tests_none, tests_length, mask_rank, members_skips, rank_skips, members_add, rank_add}
+use Rattle.gm_board.proofs.LowestCells.{IsRest, rest_whole, lowest, nothing_left}
 
--- the cells below `next` are counted, and `rest` has the others
-pub record IsCounted (mask next rest count sum : ℕ) : Type 0 where
+-- the cells below some `next` are counted, and `rest` has the others
+pub record IsCounted (mask rest count sum : ℕ) : Type 0 where
+  pub next : ℕ
   pub within : next ≤ 32
-  pub is_rest : rest ≡ mask / 2 ^ next
+  pub is_rest : IsRest mask next rest
   pub is_count : count ≡ members (tests_of next mask)
   pub is_sum : sum ≡ rank (tests_of next mask)
 
 -- no cell is counted yet
-pub counted_none : (mask : ℕ) → IsCounted mask 0 mask 0 0
+pub counted_none : (mask : ℕ) → IsCounted mask mask 0 0
 counted_none mask = record {
+  next = 0;
   within = omega arith;
-  is_rest = let e : mask / 1 * 1 + mask % 1 ≡ mask = shr_split mask 0 in let z : mask % 1 < 1 = mod_below mask 1 (omega arith) in omega (arith, e, z);
+  is_rest = rest_whole mask;
   is_count = ap members (sym (tests_none mask));
   is_sum = ap rank (sym (tests_none mask));
 }
 
 -- bounds on what is counted
-pub record IsCountedSmall (next count sum : ℕ) : Type 0 where
-  pub count_le : count ≤ next
+pub record IsCountedSmall (count sum : ℕ) : Type 0 where
+  pub count_le : count ≤ 32
   pub sum_below : sum < 2 ^ 32
 
 -- the bounds hold
-pub counted_small : (mask next rest count sum : ℕ) → IsCounted mask next rest count sum → IsCountedSmall next count sum
-counted_small mask next rest count sum h = record {
-  count_le = omega (arith, h.is_count, members_le (tests_of next mask), tests_length next mask);
+pub counted_small : (mask rest count sum : ℕ) → IsCounted mask rest count sum → IsCountedSmall count sum
+counted_small mask rest count sum h = record {
+  count_le = omega (arith, h.is_count, members_le (tests_of h.next mask), tests_length h.next mask, h.within);
   sum_below =
-      let l : length (tests_of next mask) ≤ 32 = omega (arith, tests_length next mask, h.within) in
-      omega (arith, h.is_sum, rank_below (tests_of next mask), binomial_small (length (tests_of next mask)) (members (tests_of next mask)) l);
+      let l : length (tests_of h.next mask) ≤ 32 = omega (arith, tests_length h.next mask, h.within) in
+      omega (arith, h.is_sum, rank_below (tests_of h.next mask), binomial_small (length (tests_of h.next mask)) (members (tests_of h.next mask)) l);
 }
 
--- the rest has the mask's bits, `next` places down
-rest_bit : (mask next i : ℕ) → bit_at (mask / 2 ^ next) i ≡ bit_at mask (next + i)
-rest_bit mask next i = ap (λ (v : ℕ). v % 2) (shr-shr mask next i)
-
--- the lowest cell of the rest
-pub lowest_below : (mask next rest count sum : ℕ) → IsCounted mask next rest count sum → mask < 2 ^ 32 → rest < 2 ^ 32 → 0 < rest → next + trailing_zeros w32 rest < 32
-lowest_below mask next rest count sum h f g p =
-    let z = bit_at-trailing_zeros w32 rest p g in
-    let one : bit_at mask (next + trailing_zeros w32 rest) ≡ 1 =
-    sym (rest_bit mask next (trailing_zeros w32 rest)) ∙ ap (λ (v : ℕ). bit_at v (trailing_zeros w32 rest)) (sym h.is_rest) ∙ z.1 in
-    elim (cases_lt (next + trailing_zeros w32 rest) 32) [
-      | inl l ↦ l
-      | inr l ↦ absurd (let none : bit_at mask (next + trailing_zeros w32 rest) ≡ 0 = bit_at_above mask 32 (next + trailing_zeros w32 rest) f l in omega (arith, one, none))
-    ]
+-- the lowest cell of the rest is one of the board's
+pub lowest_below : (mask rest count sum : ℕ) → IsCounted mask rest count sum → rest < 2 ^ 32 → 0 < rest → trailing_zeros w32 rest < 32
+lowest_below mask rest count sum h g p = (lowest mask h.next rest h.is_rest g p).small
 
 -- the lowest cell of the rest is counted
-pub counted_more : (mask next rest count sum : ℕ) → IsCounted mask next rest count sum → mask < 2 ^ 32 → rest < 2 ^ 32 → 0 < rest
-    → IsCounted mask (next + (trailing_zeros w32 rest + 1)) (rest / 2 ^ trailing_zeros w32 rest / 2) (count + 1) (sum + binomial (next + trailing_zeros w32 rest) (count + 1))
-counted_more mask next rest count sum h f g p =
-    let s = trailing_zeros w32 rest in
-    let z = bit_at-trailing_zeros w32 rest p g in
-    let below : next + s < 32 = lowest_below mask next rest count sum h f g p in
-    let one : bit_at mask (next + s) ≡ 1 = sym (rest_bit mask next s) ∙ ap (λ (v : ℕ). bit_at v s) (sym h.is_rest) ∙ z.1 in
-    let none : (i : ℕ) → i < s → bit_at mask (next + i) ≡ 0 = λ i l. sym (rest_bit mask next i) ∙ ap (λ (v : ℕ). bit_at v i) (sym h.is_rest) ∙ z.2 i l in
-    let e : next + (s + 1) ≡ suc (next + s) = omega arith in
-    let m : members (tests_of (next + s) mask) ≡ count = members_skips next s mask none ∙ sym h.is_count in
+pub counted_more : (mask rest count sum : ℕ) → IsCounted mask rest count sum → rest < 2 ^ 32 → 0 < rest
+    → IsCounted mask (bit_and rest (rest - 1)) (count + 1) (sum + binomial (trailing_zeros w32 rest) (count + 1))
+counted_more mask rest count sum h g p =
+    let c = trailing_zeros w32 rest in
+    let z = lowest mask h.next rest h.is_rest g p in
+    let at : h.next + (c - h.next) ≡ c = omega (arith, z.from) in
+    let e : c + 1 ≡ suc c = omega arith in
+    let ms : members (tests_of c mask) ≡ count = ap (λ (k : ℕ). members (tests_of k mask)) (sym at) ∙ members_skips h.next (c - h.next) mask z.none ∙ sym h.is_count in
+    let rs : rank (tests_of c mask) ≡ sum = ap (λ (k : ℕ). rank (tests_of k mask)) (sym at) ∙ rank_skips h.next (c - h.next) mask z.none ∙ sym h.is_sum in
+    let more : suc (members (tests_of c mask)) ≡ count + 1 = omega (arith, ms) in
     record {
-      within = omega arith;
-      is_rest =
-          ap (λ (v : ℕ). v / 2 ^ s / 2) h.is_rest
-          ∙ ap (λ (v : ℕ). v / 2) (shr-shr mask next s)
-          ∙ shr-shr mask (next + s) 1
-          ∙ ap (λ (k : ℕ). mask / 2 ^ k) (let q : next + s + 1 ≡ next + (s + 1) = omega arith in q);
-      is_count = sym (ap (λ (k : ℕ). members (tests_of k mask)) e ∙ members_add (next + s) mask one ∙ (let q : suc (members (tests_of (next + s) mask)) ≡ count + 1 = omega (arith, m) in q));
+      next = c + 1;
+      within = omega (arith, z.small);
+      is_rest = z.left;
+      is_count = sym (ap (λ (k : ℕ). members (tests_of k mask)) e ∙ members_add c mask z.has ∙ more);
       is_sum = sym (
           ap (λ (k : ℕ). rank (tests_of k mask)) e
-          ∙ rank_add (next + s) mask one
-          ∙ ap₂ (λ (a b : ℕ). a + b)
-          (ap (binomial (next + s)) (let q : suc (members (tests_of (next + s) mask)) ≡ count + 1 = omega (arith, m) in q))
-          (rank_skips next s mask none ∙ sym h.is_sum)
-          ∙ (let q : binomial (next + s) (count + 1) + sum ≡ sum + binomial (next + s) (count + 1) = omega arith in q));
+          ∙ rank_add c mask z.has
+          ∙ ap₂ (λ (a b : ℕ). a + b) (ap (binomial c) more) rs
+          ∙ (let q : binomial c (count + 1) + sum ≡ sum + binomial c (count + 1) = omega arith in q));
     }
 
 -- no cell is left
-pub counted_all : (mask next rest count sum : ℕ) → IsCounted mask next rest count sum → rest ≡ 0 → sum ≡ mask_rank mask
-counted_all mask next rest count sum h n =
-    let q = shr_split mask next in
-    let l : mask % 2 ^ next < 2 ^ next = mod_below mask (2 ^ next) (pow_pos next) in
-    let z : mask / 2 ^ next * 2 ^ next ≡ 0 = ap (λ (v : ℕ). v * 2 ^ next) (sym h.is_rest ∙ n) ∙ (let t : 0 * 2 ^ next ≡ 0 = omega arith in t) in
-    let f : mask < 2 ^ next = omega (arith, q, l, z) in
-    h.is_sum ∙ sym (mask_rank_at next mask h.within f)
+pub counted_all : (mask rest count sum : ℕ) → IsCounted mask rest count sum → rest ≡ 0 → sum ≡ mask_rank mask
+unfolding mask_rank
+counted_all mask rest count sum h n =
+    h.is_sum
+    ∙ sym (
+    ap (λ (k : ℕ). rank (tests_of k mask)) (let e : 32 ≡ h.next + (32 - h.next) = omega (arith, h.within) in e)
+    ∙ rank_skips h.next (32 - h.next) mask (λ i l. nothing_left mask h.next rest (h.next + i) h.is_rest n (omega arith)))

@@ -39,7 +39,9 @@ impl Arrangement {
         rank_subset(mine) * binomial(self.free(), self.theirs) + rank_subset(packed)
     }
 
-    /// The masks of the mover's and of the opponent's pieces in the arrangement with this index.
+    /// The masks of the mover's and of the opponent's pieces in the arrangement with this index. Inlined, so that a game with constant numbers of pieces
+    /// divides by constants.
+    #[inline(always)]
     pub fn masks(self, index: u64) -> (u32, u32)
         requires { index < arrangements self.cells self.mine self.theirs }
         ensures mine { result.0 ≡ mine_mask self.cells self.mine self.theirs index }
@@ -56,6 +58,7 @@ impl Arrangement {
     }
 
     /// The number of cells without the mover's pieces, 0 where the mover has more pieces than there are cells.
+    #[inline(always)]
     fn free(self) -> u32
         ensures { result ≡ self.cells - self.mine }
     {
@@ -73,16 +76,13 @@ fn pack(cells: u32, mine: u32, theirs: u32) -> u32
 {
     let mut packed = theirs;
     let mut rest = mine;
-    let mut next = 0;
-    let mut free: u32 = 0;
+    let mut passed = 0;
     while rest != 0 {
-        let skipped = rest.trailing_zeros();
-        next += skipped;
-        free += skipped;
+        let cell = rest.trailing_zeros();
         // The pieces past this cell of the mover's move one place down.
-        packed -= (theirs >> next >> 1) << free;
-        next += 1;
-        rest = rest >> skipped >> 1;
+        packed -= (theirs >> cell >> 1) << (cell - passed);
+        passed += 1;
+        rest &= rest - 1;
     }
     packed
 }
@@ -96,14 +96,11 @@ fn spread(cells: u32, mine: u32, packed: u32) -> u32
 {
     let mut theirs = u64::from(packed);
     let mut rest = mine;
-    let mut next = 0;
     while rest != 0 {
-        let skipped = rest.trailing_zeros();
-        next += skipped;
+        let cell = rest.trailing_zeros();
         // The pieces from this cell of the mover's on move one place up.
-        theirs += theirs >> next << next;
-        next += 1;
-        rest = rest >> skipped >> 1;
+        theirs += theirs >> cell << cell;
+        rest &= rest - 1;
     }
     theirs as u32
 }

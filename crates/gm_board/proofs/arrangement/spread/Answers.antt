@@ -5,15 +5,19 @@ use Rattle.gm_board.proofs.arrangement.spread.Goals as goal
 pub loop-rest-init : goal.loop-rest-init
 loop-rest-init c = rw c.from-theirs.ensures (spreading c.args.cells c.args.mine c.args.packed (omega arith))
 
+pub overflow_add-theirs : goal.overflow_add-theirs
+overflow_add-theirs c =
+    let t = spread_turn _ _ _ _ _ c.loop-rest.invariant c.requires.cells c.requires.mine (omega arith) (omega arith) in rw t.whole (omega (arith, t.fits))
+
 pub loop-rest-preserved : goal.loop-rest-preserved
 loop-rest-preserved c =
-    let t = spread_turn _ _ _ _ _ _ c.loop-rest.invariant c.requires.cells c.requires.mine (omega arith) (omega arith) in rw t.whole t.after
+    let t = spread_turn _ _ _ _ _ c.loop-rest.invariant c.requires.cells c.requires.mine (omega arith) (omega arith) in rw t.whole t.after
 
 pub overflow_cast-result : goal.overflow_cast-result
 overflow_cast-result c =
-    let e = spread_done _ _ _ _ _ _ c.loop-rest.invariant c.requires.mine c.requires.packed c.loop-rest-test.false in
+    let e = spread_done _ _ _ _ _ c.loop-rest.invariant c.requires.mine c.requires.packed c.loop-rest-test.false in
     let l = spread_fits c.args.cells c.args.mine c.args.packed c.requires.cells in
     omega (arith, e, l)
 
 pub returns : goal.returns
-returns c = spread_done _ _ _ _ _ _ c.loop-rest.invariant c.requires.mine c.requires.packed c.loop-rest-test.false
+returns c = spread_done _ _ _ _ _ c.loop-rest.invariant c.requires.mine c.requires.packed c.loop-rest-test.false

@@ -9,27 +9,34 @@ pub loop-rest-init : goal.loop-rest-init
 loop-rest-init c = counted_none c.args.mask
 
 pub overflow_add-members : goal.overflow_add-members
-overflow_add-members c = let s = counted_small _ _ _ _ _ c.loop-rest.invariant in omega arith
+overflow_add-members c = let s = counted_small _ _ _ _ c.loop-rest.invariant in omega arith
 
 pub binomial-rank-requires : goal.binomial-rank-requires
 binomial-rank-requires c =
-    let l = lowest_below _ _ _ _ _ c.loop-rest.invariant (omega arith) (omega arith) (omega arith) in omega arith
+    let l = lowest_below _ _ _ _ c.loop-rest.invariant (omega arith) (omega arith) in omega arith
 
 pub overflow_add-rank : goal.overflow_add-rank
-overflow_add-rank c = let s = counted_small _ _ _ _ _ c.loop-rest.invariant in omega arith
+overflow_add-rank c = let s = counted_small _ _ _ _ c.loop-rest.invariant in omega arith
 
 pub loop-rest-preserved : goal.loop-rest-preserved
 loop-rest-preserved c =
-    rw c.binomial-rank.ensures.value (counted_more _ _ _ _ _ c.loop-rest.invariant (omega arith) (omega arith) (omega arith))
+    rw c.binomial-rank.ensures.value (counted_more _ _ _ _ c.loop-rest.invariant (omega arith) (omega arith))
+
+pub returns-then-mask-clause-below : goal.returns-then-mask-clause-below
+returns-then-mask-clause-below c n l f =
+    subst (λ (r : ℕ). r < binomial_of n (count_ones c.args.mask)) (sym c.short_rank.ensures) (mask_rank_below n c.args.mask l f)
+
+pub returns-then-mask-clause-back : goal.returns-then-mask-clause-back
+returns-then-mask-clause-back c n l f = ap (mask_unrank n (count_ones c.args.mask)) c.short_rank.ensures ∙ mask_unrank_rank n c.args.mask l f
 
 pub returns-clause-value : goal.returns-clause-value
-returns-clause-value c = counted_all _ _ _ _ _ c.loop-rest.invariant c.loop-rest-test.false
+returns-clause-value c = counted_all _ _ _ _ c.loop-rest.invariant c.loop-rest-test.false
 
 pub returns-clause-below : goal.returns-clause-below
 returns-clause-below c n l f =
-    subst (λ (r : ℕ). r < binomial_of n (count_ones c.args.mask)) (sym (counted_all _ _ _ _ _ c.loop-rest.invariant c.loop-rest-test.false))
+    subst (λ (r : ℕ). r < binomial_of n (count_ones c.args.mask)) (sym (counted_all _ _ _ _ c.loop-rest.invariant c.loop-rest-test.false))
     (mask_rank_below n c.args.mask l f)
 
 pub returns-clause-back : goal.returns-clause-back
 returns-clause-back c n l f =
-    ap (mask_unrank n (count_ones c.args.mask)) (counted_all _ _ _ _ _ c.loop-rest.invariant c.loop-rest-test.false) ∙ mask_unrank_rank n c.args.mask l f
+    ap (mask_unrank n (count_ones c.args.mask)) (counted_all _ _ _ _ c.loop-rest.invariant c.loop-rest-test.false) ∙ mask_unrank_rank n c.args.mask l f

@@ -1,0 +1,117 @@
+-- Ranks of subsets of sixteen cells, by bytes.
+use Rattle.std.proofs.Common.{◌≡◌, ℕ, zero, suc, ◌+◌, ◌-◌, ◌*◌, ◌/◌, ◌%◌, ◌^◌, ◌<◌, ◌≤◌, Bool, true, false, List, [], ◌∷◌, ◌++◌, map, length, get_or, eqb, refl, sym, ap, ap₂, ◌∙◌, arith}
+use Rattle.std.specs.Prelude.{count_ones}
+use Rattle.std.specs.Int.{bit_at}
+use Rattle.std.specs.List.{range_with_len}
+use Rattle.std.proofs.lemmas.Nat.Bits.{bit_at_cat_low, bit_at_cat_high}
+use Rattle.std.proofs.lemmas.List.FromFn.{get_or-map-range_with_len}
+use Rattle.gm_board.specs.Binomials.{binomial}
+use Rattle.gm_board.specs.Ranks.{members, rank, members_le}
+use Rattle.gm_board.specs.Masks.{tests_of, tests_none, tests_more, tests_length, tests_same, mask_rank, mask_rank_at, members_small}
+use Rattle.gm_board.specs.declared.pascal.TheConstants.{ROWS}
+use Rattle.gm_board.specs.declared.ranks.TheConstants.{LOW, HIGH}
+use Rattle.gm_board.proofs.PascalRows.{triangle_is}
+
+-- what cells add to a rank that have so many cells and so many members below them
+abbrev rank_above : ℕ → ℕ → List Bool → ℕ
+rank_above n k [] = 0
+rank_above n k (true ∷ bs) = binomial (n + length bs) (suc (k + members bs)) + rank_above n k bs
+rank_above n k (false ∷ bs) = rank_above n k bs
+
+-- the same by the constant rows of Pascal's triangle
+abbrev rank_by_rows : ℕ → ℕ → List Bool → ℕ
+rank_by_rows n k [] = 0
+rank_by_rows n k (true ∷ bs) = get_or (get_or ROWS (n + length bs) []) (suc (k + members bs)) 0 + rank_by_rows n k bs
+rank_by_rows n k (false ∷ bs) = rank_by_rows n k bs
+
+row_entry : (n k : ℕ) → n < 33 → k < 33 → get_or (get_or ROWS n []) k 0 ≡ binomial n k
+row_entry n k l h = (triangle_is ROWS refl n [] l).entries k h
+
+by_rows : (n k : ℕ) (bs : List Bool) → n + length bs ≤ 16 → k ≤ 8 → rank_by_rows n k bs ≡ rank_above n k bs
+by_rows n k [] l h = refl
+by_rows n k (true ∷ bs) l h =
+    ap₂ (λ (a b : ℕ). a + b)
+    (row_entry (n + length bs) (suc (k + members bs)) (omega (arith, l)) (omega (arith, l, h, members_le bs)))
+    (by_rows n k bs (omega (arith, l)) h)
+by_rows n k (false ∷ bs) l h = by_rows n k bs (omega (arith, l)) h
+
+-- the cells of both parts
+members_both : (hs ls : List Bool) → members (hs ++ ls) ≡ members ls + members hs
+members_both [] ls = omega arith
+members_both (true ∷ hs) ls = omega (arith, members_both hs ls)
+members_both (false ∷ hs) ls = members_both hs ls
+
+length_both : (hs ls : List Bool) → length (hs ++ ls) ≡ length ls + length hs
+length_both [] ls = omega arith
+length_both (b ∷ hs) ls = omega (arith, length_both hs ls)
+
+-- a rank by two parts
+rank_both : (hs ls : List Bool) → rank (hs ++ ls) ≡ rank ls + rank_above (length ls) (members ls) hs
+rank_both [] ls = omega arith
+rank_both (true ∷ hs) ls =
+    ap₂ (λ (a b : ℕ). a + b) (ap₂ (λ (n k : ℕ). binomial n (suc k)) (length_both hs ls) (members_both hs ls)) (rank_both hs ls)
+    ∙ (let e : binomial (length ls + length hs) (suc (members ls + members hs)) + (rank ls + rank_above (length ls) (members ls) hs)
+    ≡ rank ls + (binomial (length ls + length hs) (suc (members ls + members hs)) + rank_above (length ls) (members ls) hs) = omega arith in e)
+rank_both (false ∷ hs) ls = rank_both hs ls
+
+-- the tests of a mask of two parts
+tests_both : (n a b : ℕ) → b < 2 ^ 8 → tests_of (n + 8) (a * 2 ^ 8 + b) ≡ tests_of n a ++ tests_of 8 b
+tests_both zero a b l = tests_same 8 (a * 2 ^ 8 + b) b (λ i h. bit_at_cat_low a 8 b i h) ∙ sym (ap (λ (bs : List Bool). bs ++ tests_of 8 b) (tests_none a))
+tests_both (suc n) a b l =
+    ap (λ (k : ℕ). tests_of k (a * 2 ^ 8 + b)) (let e : suc n + 8 ≡ suc (n + 8) = omega arith in e)
+    ∙ tests_more (n + 8) (a * 2 ^ 8 + b)
+    ∙ ap₂ (λ (t : Bool) (ts : List Bool). t ∷ ts)
+    (ap (λ (v : ℕ). eqb v 1) (bit_at_cat_high a 8 b (n + 8) l (omega arith) ∙ ap (bit_at a) (let e : n + 8 - 8 ≡ n = omega arith in e)))
+    (tests_both n a b l)
+    ∙ sym (ap (λ (bs : List Bool). bs ++ tests_of 8 b) (tests_more n a))
+
+-- the tables
+low_are : map (λ b. rank_by_rows 0 0 (tests_of 8 b)) (range_with_len 0 256) ≡ LOW
+unfolding tests_of
+low_are = refl
+
+high_are : map (λ k. map (λ b. rank_by_rows 8 k (tests_of 8 b)) (range_with_len 0 256)) (range_with_len 0 9) ≡ HIGH
+unfolding tests_of
+high_are = refl
+
+rank_alone : (bs : List Bool) → rank_above 0 0 bs ≡ rank bs
+rank_alone [] = refl
+rank_alone (true ∷ bs) =
+    ap₂ (λ (a b : ℕ). a + b)
+    (ap₂ (λ (n k : ℕ). binomial n (suc k)) (let e : 0 + length bs ≡ length bs = omega arith in e) (let e : 0 + members bs ≡ members bs = omega arith in e))
+    (rank_alone bs)
+rank_alone (false ∷ bs) = rank_alone bs
+
+low_at : (b : ℕ) → b < 256 → get_or LOW b 0 ≡ rank (tests_of 8 b)
+low_at b l =
+    ap (λ (xs : List ℕ). get_or xs b 0) (sym low_are)
+    ∙ get_or-map-range_with_len (λ (b : ℕ). rank_by_rows 0 0 (tests_of 8 b)) 0 256 b b 0 l (omega arith)
+    ∙ by_rows 0 0 (tests_of 8 b) (omega (arith, tests_length 8 b)) (omega arith)
+    ∙ rank_alone (tests_of 8 b)
+
+high_at : (k b : ℕ) → k ≤ 8 → b < 256 → get_or (get_or HIGH k []) b 0 ≡ rank_above 8 k (tests_of 8 b)
+high_at k b l h =
+    ap (λ (xs : List (List ℕ)). get_or (get_or xs k []) b 0) (sym high_are)
+    ∙ ap (λ (xs : List ℕ). get_or xs b 0) (get_or-map-range_with_len (λ (k : ℕ). map (λ (b : ℕ). rank_by_rows 8 k (tests_of 8 b)) (range_with_len 0 256)) 0 9 k k [] (omega (arith, l)) (omega arith))
+    ∙ get_or-map-range_with_len (λ (b : ℕ). rank_by_rows 8 k (tests_of 8 b)) 0 256 b b 0 h (omega arith)
+    ∙ by_rows 8 k (tests_of 8 b) (omega (arith, tests_length 8 b)) l
+
+-- a byte has at most eight members
+pub byte_members : (b : ℕ) → b < 2 ^ 8 → count_ones b ≤ 8
+byte_members b l = omega (arith, members_small 8 b l, members_le (tests_of 8 b), tests_length 8 b)
+
+-- the rank of a subset of sixteen cells
+pub short_rank_is : (mask low high : ℕ) → mask < 2 ^ 16 → low ≡ mask % 256 → high ≡ mask / 2 ^ 8 → get_or LOW low 0 + get_or (get_or HIGH (count_ones low) []) high 0 ≡ mask_rank mask
+short_rank_is mask low high f e g =
+    let l : low < 2 ^ 8 = omega (arith, e) in
+    let h : high < 2 ^ 8 = omega (arith, g, f) in
+    let ls = tests_of 8 low in
+    let hs = tests_of 8 high in
+    let whole : high * 2 ^ 8 + low ≡ mask = omega (arith, e, g) in
+    let m : members ls ≡ count_ones low = members_small 8 low l in
+    ap₂ (λ (a b : ℕ). a + b) (low_at low l) (high_at (count_ones low) high (byte_members low l) h)
+    ∙ ap₂ (λ (n k : ℕ). rank ls + rank_above n k hs) (sym (tests_length 8 low)) (sym m)
+    ∙ sym (rank_both hs ls)
+    ∙ sym (ap rank (tests_both 8 high low l))
+    ∙ ap (λ (v : ℕ). rank (tests_of 16 v)) whole
+    ∙ sym (mask_rank_at 16 mask (omega arith) f)
