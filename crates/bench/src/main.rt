@@ -7,11 +7,13 @@ ghost use Rattle.std.specs.Prelude.{◌≤◌};
 
 mod boards;
 mod dao;
+mod numbers;
 mod solve;
 mod versions;
 
 use crate::boards::time_boards;
 use crate::dao::{Crew, solve_dao};
+use crate::numbers::time_numbers;
 use crate::solve::solve_tiers;
 use std::process::ExitCode;
 use std::{env, io};
@@ -74,6 +76,7 @@ fn main(rt: HostRuntime) -> io::Result<ExitCode> {
         words.push(word)?;
     }
     if is_first(words.as_slice(), "boards") {
+        time_numbers(&rt)?;
         time_boards(&rt)?;
         return Ok(ExitCode::SUCCESS);
     }
