@@ -19,8 +19,8 @@ pub(crate) struct Choice {
     remoteness: u32,
 }
 
-/// The number of the best move, or `None` where the game has ended. From Win it goes to a Lose of least remoteness, from Lose to a Win of greatest, from Tie to a Tie of least,
-/// from Draw to a Draw; among equals it has the least number. It takes no memory.
+/// The number of the best move, or `None` where the game has ended. From Win it goes to a Lose of least remoteness, from Lose to a Win of greatest remoteness,
+/// from Tie to a Tie of least remoteness, from Draw to a Draw; among equals it has the least number. It takes no memory.
 ///
 /// `Illegal` is tested before `NotHeld`, which comes where the tier of the position or one of its child tiers has no table, also where the game has ended.
 pub fn best_move<G: Game>(tables: &Tables<G>, p: Position) -> Result<Option<u32>, AnswerError>
