@@ -46,7 +46,7 @@ impl Clock for NoClock {
     }
 }
 
-// An output that takes so many calls, and counts them all and those that were a line each.
+// An output that accepts this many calls, and counts all calls and those that wrote one line each.
 #[derive(Drop)]
 struct Counting {
     calls: u64,
@@ -71,7 +71,7 @@ impl Write for Counting {
     }
 }
 
-// Delivers so many pairs, each at the next level of wins and losses.
+// Delivers this many pairs, each at the next level of wins and losses.
 fn deliver<R: Wait, C: Clock + Sync, E: Write + Send>(
     rt: &R,
     progress: &Progress<'_, C, E>,
