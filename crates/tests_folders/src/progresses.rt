@@ -160,7 +160,7 @@ fn told<R: Threads + Wait + Clock + Files + Sync + AllocGlobal>(
     }
 }
 
-// Whether what is told begins with this line, and each line is one of these tiers.
+// Whether the progress begins with this line, and each line is about one of these tiers.
 fn is_told(errors: &[u8], first: &str, tiers: &str) -> Result<bool, Fail> {
     let text = from_utf8(errors)?;
     let each = text.lines().all(|line| {

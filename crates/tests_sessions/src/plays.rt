@@ -37,7 +37,7 @@ impl Read for SlowReader {
     }
 }
 
-// A writer that takes a byte at a time, and fails where it has so many.
+// A writer that takes a byte at a time, and fails once it has this many.
 #[derive(Drop)]
 struct SlowWriter {
     got: Vec<u8>,

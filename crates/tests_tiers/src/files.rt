@@ -59,7 +59,7 @@ fn refusal(alloc: Global, bytes: &[u8]) -> Option<FileError> {
     decode::<Game>(alloc, 0, bytes).err()
 }
 
-// The file with the bytes from `at` on changed, and with its digest made anew.
+// The file with the bytes from `at` on changed, and with a fresh digest.
 fn with_bytes(alloc: Global, at: usize, bytes: &[u8]) -> Result<Vec<u8>, AllocError> {
     let mut file = Vec::new(alloc);
     for (index, byte) in FRONT.iter().enumerate() {
