@@ -76,7 +76,7 @@ fn greater(a: Option<u32>, b: Option<u32>) -> Option<u32>
     }
 }
 
-// This value for a position one move before one of this remoteness.
+// This value, with a remoteness greater by one than the given one.
 fn one_move_more(value: Value, remoteness: u32) -> Solved
     requires { remoteness + 1 < 2 ^ 32 }
     ensures { result ≡ solved value (remoteness + 1) }

@@ -16,7 +16,7 @@ use std::time::{Clock, Duration};
 /// The least time between two lines, in milliseconds.
 pub const PAUSE: u64 = 250;
 
-// The clock is read after each this many deliveries of all workers together, and at the first delivery of each level.
+// How many deliveries of all workers together lie between two readings of the clock within a level; it is also read at the first delivery of each level.
 const OFTEN: u64 = 4096;
 
 /// What is done with a tier.

@@ -60,7 +60,7 @@ impl Write for SlowWriter {
     }
 }
 
-// The session with a reader and a writer that fail at these bytes: whether it ends so, with the beginning of its text written.
+// The session with a reader and a writer that fail at these bytes: whether it ends in this way, with a prefix of its text written.
 fn ends<R: Threads + Wait + Clock + Files + Sync + AllocGlobal>(
     rt: &R,
     read: usize,

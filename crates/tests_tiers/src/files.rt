@@ -148,7 +148,7 @@ fn each_changed_byte_is_found(rt: HostRuntime) -> Result<(), Fail> {
             8..=23 => FileError::WrongGame,
             24..=31 => FileError::WrongTier,
             32..=39 => FileError::WrongSize,
-            // The highest byte of a record makes its code one that there is not.
+            // Changing the highest byte of a record makes its code one that no record has.
             40..=83 if at % 4 == 3 => FileError::BadRecord {
                 index: (at as u64 - 40) / 4,
             },
