@@ -19,13 +19,13 @@ use std::sync::Wait;
 use std::thread::Threads;
 use std::time::Instant;
 
-/// Into how many shards the tier is split.
+/// The number of shards into which the tier is split.
 const SHARDS: usize = 4;
 
-/// How many notes a piece of a level has.
+/// The number of notes in a piece of a level.
 const PIECE: usize = 64;
 
-/// Who solves the tier: one thread without locks, or so many workers, which take pieces of a level or passes of the shards.
+/// Who solves the tier: one thread without locks, or this many workers, which take pieces of a level or passes of the shards.
 #[derive(Clone, Copy, Debug, PartialEq, Eq)]
 pub enum Crew {
     Alone,

@@ -1,6 +1,5 @@
-//! Solves the lower tiers of Tac Tix on 5 by 5 by one thread, or Dao by one thread or by workers (with pieces, or with passes), and prints the positions and deliveries, with the milliseconds on standard error.
-//! Or times the calls of boards.
-//! docs/BENCHMARKS.md has the figures.
+//! Solves the lower tiers of Tac Tix on 5 by 5 by one thread, or Dao by one thread or by workers (with pieces, or with passes), and prints the positions and
+//! deliveries, with the milliseconds on standard error. With the word `boards` it times the calls of boards instead. docs/BENCHMARKS.md has the figures.
 #![tactic(auto)]
 
 ghost use Rattle.std.specs.Prelude.{◌≤◌};

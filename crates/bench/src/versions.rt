@@ -1,4 +1,4 @@
-//! Dao's file of today beside that of version 1: each read and checked, in turn.
+//! Dao's file of version 2 beside that of version 1: each read and checked, in turn.
 use gm_dao::dao::Dao;
 use gm_game::game::Game;
 use gm_game::limits::TIER_SIZE;
@@ -24,7 +24,7 @@ fn are_true(alloc: Global, records: &[Option<Solved>]) -> bool {
         && check(alloc, 0, records, &tables).is_ok()
 }
 
-// Reads and checks the file of today: whether it is right.
+// Reads and checks the file of version 2: whether it is right.
 fn read_new(alloc: Global, file: &[u8]) -> bool {
     match decode::<Dao>(alloc, 0, file) {
         Ok(records) => are_true(alloc, records.as_slice()),

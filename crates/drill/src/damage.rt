@@ -1,4 +1,4 @@
-//! Damaged files: each line of the input is `tier hex`, the bytes that are said to be the file of a tier; the answer is a sign for each line.
+//! Damaged files: each line of the input is `tier hex`, the bytes that are said to be the file of a tier; the output is one sign for each line.
 use gm_game::game::Game;
 use gm_game::limits::TIER_SIZE;
 use gm_solver::alone::solve_alone;
@@ -10,7 +10,7 @@ use gm_tiers::order::TierOrder;
 use std::alloc::Global;
 use std::io::{self, BufRead, BufReader, Read};
 
-// What is said of a file.
+// The judgement on a file.
 const ACCEPTED: char = '+';
 
 const REFUSED: char = '-';
@@ -33,7 +33,7 @@ fn solved<G: Game>(alloc: Global) -> Option<Tables<G>> {
     Some(tables)
 }
 
-// Whether bytes are taken as the file of a tier.
+// Whether bytes are accepted as the file of a tier.
 fn judged<G: Game>(alloc: Global, tables: &Tables<G>, tier: u64, file: &[u8]) -> char {
     if !tables.has_children(tier) || G::tier_size(tier) > TIER_SIZE {
         return UNREAD;

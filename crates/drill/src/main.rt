@@ -52,7 +52,7 @@ const WORDS: [&str; 28] = [
     "build",
 ];
 
-// Makes the call of a word: false where there is no such word.
+// Makes the call that a word names: false where there is no such word.
 fn drill<R: Print + AllocGlobal + Threads + Wait + Files + Sync>(
     rt: &R,
     word: &str,

@@ -2,7 +2,7 @@
 use std::fmt::Display;
 use std::io;
 
-/// Prints what a call answered: none stands for want of memory.
+/// Prints what a call answered: none stands for refused memory.
 pub fn say<R: Print, T: Display + Drop>(rt: &R, what: &str, answer: Option<T>) -> io::Result<()> {
     match answer {
         Some(answer) => println!(rt; "{what}: {answer}"),

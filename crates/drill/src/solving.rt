@@ -148,7 +148,7 @@ fn built<R: Threads + Wait + Files + Sync>(
     }
 }
 
-/// Builds Tac Tix on 2 by 2 over a store in memory: after a refusal the tiers before have their texts, and a second build ends it.
+/// Builds Tac Tix on 2 by 2 over a store in memory: after a refusal the earlier tiers have their texts, and a second build finishes the game.
 pub fn build<R: Print + AllocGlobal + Threads + Wait + Files + Sync>(rt: &R) -> io::Result<()> {
     let alloc = rt.alloc();
     let mut other = MemStore::new(alloc);

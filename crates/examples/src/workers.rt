@@ -26,7 +26,7 @@ impl Source for Backwards {
 
     fn next<R: Wait>(&self, _rt: &R, _worker: usize) -> Option<usize> {
         let left = self.left.fetch_sub(1, Ordering::SeqCst);
-        // Below none the number goes round: what names no piece is ignored.
+        // Below zero the number wraps round; a number that names no piece is ignored.
         left.checked_sub(1)
     }
 }

@@ -22,7 +22,7 @@ fn main(rt: HostRuntime) -> ExitCode {
         Err(error) if error.kind() == ErrorKind::OutOfMemory => {
             refused(&Fault::OutOfMemory(AllocError), &mut errors)
         }
-        // A word that is no UTF-8.
+        // A word that is not UTF-8.
         Err(_) => bad_line(&mut errors),
     };
     ExitCode::from(status)

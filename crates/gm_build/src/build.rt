@@ -40,12 +40,13 @@ pub struct Built<G: Game> {
     pub by_hand: u64,
 }
 
-/// Builds a game: the true table of each tier that it reaches, child tiers first. The order of tiers is made before the first read. Then each tier is read once: a text that is
-/// decoded and checked is reused and not written; one of version 1 that is, is migrated: the tier's text is written once; with any other, or with none, the tier is solved
-/// and its text written once.
+/// Builds a game: the true table of each tier that it reaches, child tiers first. The order of tiers is made before the first read. Then each tier is read
+/// once: a text that `decode` and `check` accept is reused and not written; a text of version 1 that `decode_v1` and `check` accept is migrated, by one write
+/// of the tier's text; otherwise the tier is solved, and its text is written once.
 ///
-/// Neither the tables nor the texts nor the number of deliveries depend on the plan, the gate or the source. A store that does not keep its map, as a folder, is promised
-/// nothing of its texts: the tables are true all the same. The store's count of failures rises exactly where the answer is `StoreFailed`.
+/// Neither the tables nor the texts nor the number of deliveries depend on the plan, the gate or the source. Of a store that does not keep its map, such as a
+/// folder, nothing is promised about its texts, but the tables are true all the same. The store's count of failures rises exactly where the answer is
+/// `StoreFailed`.
 pub fn build<G: Game + Send + Sync, R: Threads + Wait + Files + Sync, S: Store, T: Gate, P: Source>(
     rt: &R,
     alloc: Global,
@@ -62,12 +63,13 @@ pub fn build<G: Game + Send + Sync, R: Threads + Wait + Files + Sync, S: Store, 
     ensures tables { IfOk result (λ built. AreTables G.rules built.tables) }
     ensures some_work { IfOk result (λ built. IsSomeWork G.rules built.order built.solved built.reused built.migrated built.deliveries built.by_hand) }
 
-    // A store that keeps its map then has the texts of their tables and nothing else has changed, and those that were reused or migrated are those whose text it had.
+    // A store that keeps its map then has the texts of their tables, and nothing else has changed; the tiers that were reused or migrated are those whose text
+    // it had before.
     ensures texts { IsTrue S.KEEPS → IfOk result (λ built. HaveTexts G.rules (S.texts store.new) built.order) }
     ensures others { IsTrue S.KEEPS → IfOk result (λ built. KeepsOthers built.order (S.texts store.old) (S.texts store.new)) }
     ensures work { IsTrue S.KEEPS → IfOk result (λ built. IsWorkOn G.rules built.order (HasText G.rules (S.texts store.old)) (HasOldText G.rules (S.texts store.old)) built.solved built.reused built.migrated built.deliveries built.by_hand) }
 
-    // Why it is not built, and what the store has then.
+    // Why the game is not built, and what the store has then.
     ensures error { IfErr result (IsBuildError G.rules G.rules.initial.tier) }
     ensures stopped { IsTrue S.KEEPS → IfErr result (IsStopped G.rules G.rules.initial.tier (S.texts store.old) (S.texts store.new)) }
     ensures count { S.failed store.new ≡ S.failed store.old + failures_in result }
@@ -76,8 +78,8 @@ pub fn build<G: Game + Send + Sync, R: Threads + Wait + Files + Sync, S: Store, 
     build_from(rt, alloc, first, store, plan, gate, source, &NoWatch)
 }
 
-/// Builds the tiers that one tier reaches, as `build` builds those that the initial one reaches: what a value in that tier rests on. No other entry of the store is read or
-/// written. The build is watched, and nothing depends on who watches.
+/// Builds the tiers that one tier reaches, itself included, as `build` builds those that the initial tier reaches: the tiers on which the values of that tier
+/// rest. No other entry of the store is read or written. The watch is called as the build goes on, and nothing depends on what it does.
 pub fn build_from<
     G: Game + Send + Sync,
     R: Threads + Wait + Files + Sync,
@@ -103,12 +105,13 @@ pub fn build_from<
     ensures tables { IfOk result (λ built. AreTables G.rules built.tables) }
     ensures some_work { IfOk result (λ built. IsSomeWork G.rules built.order built.solved built.reused built.migrated built.deliveries built.by_hand) }
 
-    // A store that keeps its map then has the texts of their tables and nothing else has changed, and those that were reused or migrated are those whose text it had.
+    // A store that keeps its map then has the texts of their tables, and nothing else has changed; the tiers that were reused or migrated are those whose text
+    // it had before.
     ensures texts { IsTrue S.KEEPS → IfOk result (λ built. HaveTexts G.rules (S.texts store.new) built.order) }
     ensures others { IsTrue S.KEEPS → IfOk result (λ built. KeepsOthers built.order (S.texts store.old) (S.texts store.new)) }
     ensures work { IsTrue S.KEEPS → IfOk result (λ built. IsWorkOn G.rules built.order (HasText G.rules (S.texts store.old)) (HasOldText G.rules (S.texts store.old)) built.solved built.reused built.migrated built.deliveries built.by_hand) }
 
-    // Why it is not built, and what the store has then.
+    // Why the game is not built, and what the store has then.
     ensures error { IfErr result (IsBuildError G.rules first) }
     ensures stopped { IsTrue S.KEEPS → IfErr result (IsStopped G.rules first (S.texts store.old) (S.texts store.new)) }
     ensures count { S.failed store.new ≡ S.failed store.old + failures_in result }

@@ -5,7 +5,7 @@ ghost use Rattle.gm_build.specs.Outcomes.{number_of};
 use gm_tiers::tier_error::TierError;
 use thiserror::Error;
 
-/// Why a game is not built. The texts of the tiers before the one at which a build stopped are written, so the next build takes them up.
+/// Why a game is not built. The texts of the tiers before the one at which a build stopped are written, so the next build reuses them.
 #[derive(Clone, Copy, Debug, PartialEq, Eq, Error)]
 pub enum BuildError {
     #[error("out of memory")]

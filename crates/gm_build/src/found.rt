@@ -33,7 +33,7 @@ pub(crate) enum Found<G: Game> {
     Nothing,
 }
 
-/// Reads the entry of a tier once, and tells what it is. The child tiers are held.
+/// Reads the entry of a tier once, and answers what it is. The child tiers are held.
 pub(crate) fn find<G: Game + Send + Sync, R: Threads + Files + Sync, S: Store>(
     rt: &R,
     alloc: Global,

@@ -32,7 +32,8 @@ pub enum Inspected<G: Game> {
     NoTable(CheckError),
 }
 
-/// Reads the entry of a tier once, and tells what it is; nothing is written. The tables of the child tiers are given. Memory aside, the answer is determined by the entry.
+/// Reads the entry of a tier once, and answers what it is; nothing is written. The tables of the child tiers are given. Unless memory runs out, the entry
+/// determines the answer.
 ///
 /// The bytes are decoded first, and then the records are checked in turn: `NoFile` and `NoTable` have the first reason that applies.
 pub fn inspect_tier<G: Game + Send + Sync, R: Threads + Files + Sync, S: Store>(
@@ -46,7 +47,7 @@ pub fn inspect_tier<G: Game + Send + Sync, R: Threads + Files + Sync, S: Store>(
     requires small { G.rules.tier_size tier ≤ TIER_SIZE }
     requires few { S.failed store.old < u64.MAX }
     ensures found { IsTrue S.KEEPS → IfOk result (IsInspectedIn G.rules tables.now (S.texts store.old) tier) }
-    // Over a store that does not keep its map it is so of what was read.
+    // Over a store that does not keep its map this is said of the bytes that were read.
     ensures told { IfOk result (λ i. (read : Texts) × IsInspectedIn G.rules tables.now read tier i) }
     ensures same { IsTrue S.KEEPS → AreSame (S.texts store.old) (S.texts store.new) }
     ensures error { IfErr result (IsTierError G.rules tier) }

@@ -31,16 +31,16 @@ use std::thread::Threads;
 /// What was done with a tier.
 #[derive(Clone, Copy, Debug, PartialEq, Eq)]
 pub(crate) enum Step {
-    /// Its text was taken up as it is.
+    /// Its text was reused as it is.
     Reused,
-    /// Its text was of version 1, and was written anew.
+    /// Its text was of version 1, and was written again in version 2.
     Migrated,
     /// It was solved, and its text written.
     Solved(Report),
 }
 
-/// Holds the true table of a tier, and has its text in the store: that which is there, or one that is written once. The tier is solved where the store has no text of
-/// its true table, in either version.
+/// Puts the true table of a tier into the tables, and sees that its text is in the store: the one that is there, or one that is written once. The tier is
+/// solved where the store has no text of its true table, in either version.
 pub(crate) fn build_tier<
     G: Game + Send + Sync,
     R: Threads + Wait + Files + Sync,

@@ -12,7 +12,7 @@ use gm_solver::plan::Plan;
 use std::alloc::Global;
 use std::fmt;
 
-/// A text of the command line's own: help, the version, or what is wrong with a line.
+/// A text that the command line itself makes: help, the version, or what is wrong with a line.
 #[derive(Drop)]
 pub struct Help(Error);
 
@@ -127,7 +127,7 @@ fn matched<'a>(alloc: Global, words: &'a [&'a str]) -> Result<ArgMatches<'a>, Er
     gamesman(alloc)?.try_get_matches_from(words)
 }
 
-/// What the command line says of a bad line: none where it is not the one that refuses it.
+/// What the command line says of a bad line: `None` where something else refuses the line.
 pub fn what_is_wrong(alloc: Global, words: &[&str]) -> Option<Help> {
     match matched(alloc, words) {
         Ok(_) => None,

@@ -56,7 +56,7 @@ pub fn page_text(alloc: Global, page: Page) -> Result<Vec<u8>, AllocError> {
     }
 }
 
-// Makes a page, which fails only for want of memory.
+// Makes a page, which fails only where memory is refused.
 fn make_page(command: &Command<'_>, page: Page, text: &mut Vec<u8>) -> io::Result<()> {
     match page {
         Page::Bash => write_bash(command, text),
@@ -85,7 +85,7 @@ fn write_words<O: Write>(command: &Command<'_>, output: &mut O) -> io::Result<()
     Ok(())
 }
 
-// The words that can stand in the place of a word.
+// The values that a word of the command line can have.
 fn write_values<O: Write>(place: &str, output: &mut O) -> io::Result<()> {
     match place {
         "GAME" => {
@@ -156,7 +156,7 @@ fn write_fish<O: Write>(command: &Command<'_>, output: &mut O) -> io::Result<()>
     Ok(())
 }
 
-// An option, or the words that can stand in the place of a word.
+// An option, or the values that a word of the command line can have.
 fn write_fish_word<O: Write>(name: &str, arg: &Arg<'_>, output: &mut O) -> io::Result<()> {
     write!(
         output,

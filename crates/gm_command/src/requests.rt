@@ -9,7 +9,7 @@ use gm_solver::plan::Plan;
 /// Where the tables of a game are kept.
 #[derive(Clone, Copy)]
 pub struct Kept<'a> {
-    /// In memory where there is none.
+    /// The folder; tables are kept in memory where there is none.
     pub folder: Option<&'a str>,
     /// Whether the folder is only read.
     pub read_only: bool,
@@ -18,11 +18,11 @@ pub struct Kept<'a> {
 /// What is asked about a position.
 #[derive(Clone, Copy, Debug, PartialEq, Eq)]
 pub enum Question {
-    /// What each move is worth; of those that lead to one canonical position the first alone, where they are to be distinct.
+    /// What each move is worth; with `distinct`, of several moves that lead to one canonical position only the first.
     Moves { distinct: bool, json: bool },
-    /// Best play of both sides, of at most so many moves.
+    /// Best play of both sides, of at most this many moves.
     Line { limit: usize, json: bool },
-    /// The board and the value; where it is to be explained, also how cells, positions and moves are written.
+    /// The board and the value; where an explanation is asked for, also how cells, positions and moves are written.
     Show { explained: bool },
 }
 
@@ -37,13 +37,13 @@ pub struct PositionAsked<'a> {
 #[derive(Clone, Copy, Debug, PartialEq, Eq)]
 pub struct PositionsSought {
     pub sought: Sought,
-    /// Of this tier alone; of all tiers where there is none.
+    /// The one tier to look in; all tiers where there is none.
     pub tier: Option<u64>,
-    /// Those alone that play from the start reaches.
+    /// Whether only positions that play from the start reaches are looked for.
     pub reached: bool,
-    /// At most so many.
+    /// The greatest number of positions to answer.
     pub limit: usize,
-    /// Whether they are told as lines of JSON.
+    /// Whether they are printed as lines of JSON.
     pub json: bool,
 }
 
@@ -51,7 +51,7 @@ pub struct PositionsSought {
 #[derive(Clone, Copy, Debug, PartialEq, Eq)]
 pub enum Search {
     Find(PositionsSought),
-    /// How many positions there are of each value and remoteness; of those alone that play reaches, where that is asked.
+    /// How many positions there are of each value and remoteness; on request, only of those that play reaches.
     Counts { reached: bool },
     /// An answer to each position that is read.
     Ask,
@@ -62,14 +62,14 @@ pub enum Search {
 pub struct SolveAsked<'a> {
     pub folder: &'a str,
     pub plan: Plan,
-    /// Whether standard error is told how far it is.
+    /// Whether lines on standard error say how far the build is.
     pub progress: bool,
 }
 
 /// A session that is asked for.
 #[derive(Clone, Copy)]
 pub struct PlayAsked<'a> {
-    /// The game's start where there is none.
+    /// The position to start from; the game's start where there is none.
     pub position: Option<&'a str>,
     pub first: Side,
     /// Whether the board is drawn before each question.

@@ -94,7 +94,7 @@ fn value_of(word: &str) -> Option<Value> {
     }
 }
 
-// What is sought: no remoteness with draw, and an only move with win and tie alone.
+// What is sought. A remoteness can't be given with draw, and an only move can be asked for with win and tie alone.
 fn sought_of(inner: &ArgMatches<'_>) -> Option<Sought> {
     let value = value_of(inner.get_str("value")?)?;
     let remoteness = inner.get_one::<u32>("remoteness");

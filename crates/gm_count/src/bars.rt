@@ -18,8 +18,8 @@ use std::alloc::{AllocError, Global};
 // The longest bar.
 const WHOLE: &[u8] = b"########################################";
 
-/// The rows of the counts of some tiers: a value with its remoteness, the number of its canonical positions, and a bar of up to 40, with a tab between them. Where reached positions are
-/// given, those alone are counted.
+/// The rows of the counts of some tiers: a value with its remoteness, the number of its canonical positions, and a bar of up to 40, with a tab between them.
+/// Where a set of reached positions is given, only positions in it are counted.
 ///
 /// `NotHeld` is tested first, and comes exactly where one of the tiers, or one of its child tiers, has no table.
 pub fn counts_text<G: Game>(

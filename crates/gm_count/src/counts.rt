@@ -14,7 +14,8 @@ use gm_game::position::Value;
 use gm_table::tables::Tables;
 use std::alloc::{AllocError, Global};
 
-/// Counts the canonical positions of some tiers by value and remoteness; where reached positions are given, those alone: in the order Lose, Draw, Tie, Win, then by remoteness.
+/// Counts the canonical positions of some tiers by value and remoteness, in the order Lose, Draw, Tie, Win, then by remoteness. Where a set of reached
+/// positions is given, only positions in it are counted.
 ///
 /// `NotHeld` is tested first, and comes exactly where one of the tiers, or one of its child tiers, has no table.
 pub fn counts<G: Game>(

@@ -75,7 +75,7 @@ fn add_position<G: Game>(
     }
 }
 
-// Counts one more at a level. The numbers of positions stay far below what a number can hold: where one doesn't fit, that is a want of memory.
+// Counts one more at a level. Numbers of positions stay far below 2^64; one that doesn't fit would be answered as refused memory.
 fn count(numbers: &mut Vec<u64>, level: usize) -> Result<(), AllocError>
     ensures few { OnOk result (vec_len numbers.new ≤ max (vec_len numbers.old) (level + 1)) }
     ensures here { OnOk result (slice_index_or numbers.new.items level 0 ≡ slice_index_or numbers.old.items level 0 + 1) }

@@ -7,7 +7,7 @@ use arrayvec::ArrayVec;
 use gm_game::position::Position;
 use gm_play::view::{Sight, View};
 
-/// The person sees the board before they are asked. It is always seen from their side: in a game of `x` and `o`, `x` is the person and `o` the computer.
+/// Shows the person the board before each question, always as seen from the person's side: in a game of `x` and `o`, `x` is the person and `o` the computer.
 #[derive(Drop)]
 pub struct Boards;
 

@@ -39,11 +39,11 @@ pub trait Drawn: Shown {
     fn naming() -> &'static [u8]
         ensures { result.now ≡ naming };
 
-    /// A drawing fits, and with the side to move it tells positions apart.
+    /// The laws of drawings: each fits, and different positions differ in their drawing or their side to move.
     ghost tells: { IsDrawn Self.Game.rules drawn mover };
 }
 
-/// Hands out the laws of a game's drawings: positions with one drawing and one side to move are one.
+/// Has no effect; its contract states the laws of a game's drawings: positions with the same drawing and the same side to move are equal.
 pub fn drawings<G: Drawn>()
     ensures { IsDrawn G.Game.rules G.drawn G.mover }
 {}

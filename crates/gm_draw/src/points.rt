@@ -15,7 +15,7 @@ use gm_hare::hare::Hare;
 use gm_hare::hunt::hunt_at;
 use gm_mutorere::mutorere::MuTorere;
 
-/// Mu Torere: point 0 is at the top, and the ring goes round by the right.
+/// Mu Torere: point 0 is at the top, and the ring is numbered clockwise.
 const RING: &[u8] = b"H---A---B\n| \\ | / |\nG---I---C\n| / | \\ |\nF---E---D";
 
 /// Hare and Hounds: the hounds begin on the left.
@@ -78,7 +78,7 @@ pub fn mutorere_is_drawn()
     ensures drawn { ⟦<MuTorere as Drawn>⟧.drawn ≡ (λ p. filled ring_board (ring_text p)) }
 {}
 
-/// The drawing of Hare and Hounds is its board with the points of the position in it, and the side to move that of the position.
+/// The drawing of Hare and Hounds is its board with the points of the position in it, and the side to move is that of the position.
 pub fn hare_is_drawn()
     ensures drawn { ⟦<Hare as Drawn>⟧.drawn ≡ (λ p. filled hare_board (hare_text p)) }
     ensures mover { ⟦<Hare as Drawn>⟧.mover ≡ hare_mover }

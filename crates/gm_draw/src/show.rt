@@ -1,4 +1,4 @@
-//! What is shown of a position: the board, who is to move, and the value.
+//! What is shown of a position: the board, the side to move, and the value.
 ghost use Rattle.std.specs.Prelude.{◌≡◌, ◌↔◌, ◌++◌, codes, true, OnOk, IfOk, IsErrOf};
 ghost use Rattle.gm_game.specs.declared.position.Position.{Position};
 ghost use Rattle.gm_play.specs.PlayTexts.{IsReadAs, IsNoPosition};
@@ -13,7 +13,8 @@ use gm_play::play_error::PlayError;
 use gm_table::tables::Tables;
 use std::alloc::{AllocError, Global};
 
-/// The board of the position with this text, with a line on who is to move and the true value; where it is to be explained, also how cells, positions and moves are written. Any bytes may be given.
+/// The board of the position with this text, with a line for the side to move and the true value; where an explanation is asked for, also how cells, positions
+/// and moves are written. Any bytes may be given.
 pub fn show_text<G: Drawn>(
     alloc: Global,
     tables: &Tables<G>,

@@ -26,8 +26,8 @@ pub struct Found {
     pub moves: usize,
 }
 
-/// The canonical positions that are sought, each with its value, its best move and the number of its moves: tier by tier in the order given and by ascending index, the first of them,
-/// at most so many. Where reached positions are given, those alone.
+/// The canonical positions that are sought, each with its value, its best move and the number of its moves: tier by tier in the order given and by ascending
+/// index, the first of them, at most `limit`. Where a set of reached positions is given, only positions in it count.
 ///
 /// `NotHeld` is tested first, and comes exactly where one of the tiers, or one of its child tiers, has no table.
 pub fn find<G: Game>(
@@ -48,7 +48,7 @@ pub fn find<G: Game>(
     }
 }
 
-// What is told of some positions.
+// The answers for some positions.
 fn look_up<G: Game>(
     alloc: Global,
     tables: &Tables<G>,
@@ -65,7 +65,7 @@ fn look_up<G: Game>(
     Ok(found)
 }
 
-// What is told of a position.
+// The answer for a position: its value, its best move and the number of its moves.
 fn found_at<G: Game>(tables: &Tables<G>, p: Position) -> Found
     requires { IsHeldAt G.rules tables.now p }
     ensures position { result.position ≡ p }

@@ -20,10 +20,11 @@ use gm_game::position::{Phase, Position, Solved, Value};
 use gm_table::tables::Tables;
 use std::alloc::{AllocError, Global};
 
-/// The canonical positions that are sought, tier by tier in the order given and by ascending index: the first of them, at most so many. Where reached positions are given, those alone.
+/// The canonical positions that are sought, tier by tier in the order given and by ascending index: the first of them, at most `limit`. Where a set of reached
+/// positions is given, only positions in it count.
 ///
-/// Where a remoteness is given, the positions are read from the run at its place; else every record of the tiers is looked at. `NotHeld` is tested first, and comes exactly where one
-/// of the tiers, or one of its child tiers, has no table.
+/// Where a remoteness is given, the positions are read from the run at its place; otherwise every record of the tiers is looked at. `NotHeld` is tested first,
+/// and comes exactly where one of the tiers, or one of its child tiers, has no table.
 pub fn find_positions<G: Game>(
     alloc: Global,
     tables: &Tables<G>,

@@ -38,7 +38,7 @@ impl<G: Game> Reached<G> {
         })
     }
 
-    /// Whether some line of play from the start ends in a position with this canonical one. It takes no memory.
+    /// Whether some line of play from the start ends in a position that has this one as its canonical position. It takes no memory.
     pub fn has(&self, c: Position) -> bool
         ensures { IsTrue result ↔ IsReachedByPlay G.rules c }
     {

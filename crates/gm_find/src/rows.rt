@@ -16,8 +16,9 @@ use gm_game::text::{push_decimal, value_text};
 use gm_table::tables::Tables;
 use std::alloc::{AllocError, Global};
 
-/// The rows of the canonical positions that are sought: the position, its value, its best move (none where the game has ended) and the number of its moves, with a tab between them. They
-/// stand tier by tier in the order given and by ascending index: the first of them, at most so many. Where reached positions are given, those alone.
+/// The rows of the canonical positions that are sought: the position, its value, its best move (none where the game has ended) and the number of its moves,
+/// with a tab between them. They stand tier by tier in the order given and by ascending index: the first of them, at most `limit`. Where a set of reached
+/// positions is given, only positions in it count.
 ///
 /// `NotHeld` is tested first, and comes exactly where one of the tiers, or one of its child tiers, has no table.
 pub fn find_text<G: Shown>(

@@ -2,7 +2,8 @@
 
 use gm_game::position::Value;
 
-/// Canonical positions of a value; where a remoteness is given, of that one alone, and where `only_move` is set, those from which exactly one move keeps the value.
+/// Canonical positions of a value; where a remoteness is given, only those of that remoteness; where `only_move` is set, only those from which exactly one move
+/// keeps the value.
 #[derive(Clone, Copy, Debug, PartialEq, Eq)]
 pub struct Sought {
     pub value: Value,

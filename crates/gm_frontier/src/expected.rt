@@ -37,7 +37,7 @@ impl<G: Game> Expected<G> {
     ghost use Rattle.gm_frontier.specs.Counts.{ExpectedData, IsExpected, with_level};
     ghost use Rattle.gm_frontier.specs.Tallies.{number_into, AreTallies};
 
-    /// No pairs into the indexes of the tier from `lo` up to `hi`, before the first level.
+    /// The count before the first level: no pairs into the indexes of the tier from `lo` up to `hi`.
     pub fn start(tier: u64, lo: u64, hi: u64) -> Self
         requires { G.rules.tier_size tier ≤ TIER_SIZE }
         ensures { result ≡ record { tier = tier; lo = lo; hi = hi; last = None; phase = WinLose; level = 0; number = 0 } }

@@ -70,7 +70,7 @@ impl<G: Game> Last<G> {
         self.place.tier
     }
 
-    /// The place from which on there is nothing of its phase.
+    /// The place from which on nothing of its phase is left.
     pub fn place(&self) -> Place
         ensures value { result ≡ self.now }
         ensures last { IsLastLevel G.rules self.now.tier self.now.phase self.now.level }

@@ -66,7 +66,8 @@ impl<'a, G: Game> Level<'a, G> {
         Ok(Level { place, parts, len })
     }
 
-    /// The end of the phase: there is one exactly where this level is empty, and no child tier has a value of the phase with its remoteness or more.
+    /// The end of the phase, as a `Last`: there is one exactly where this level is empty, and no child tier has a value of the phase with its remoteness or
+    /// more.
     pub fn last(&self, tables: &Tables<G>) -> Option<Last<G>>
         requires { AreHeld G.rules tables.now self.now.place.tier }
         ensures found { IsSome result ↔ ((self.now.notes ≡ []) × AreBelow G.rules self.now.place) }

@@ -12,7 +12,8 @@ use gm_game::position::Place;
 use std::alloc::{AllocError, Global};
 use std::marker::{Model, PhantomData};
 
-/// The number of pairs of one piece of a level into each tile of its tier. Tile k has the indexes from k times the width on, as many as the width, up to the tier's size.
+/// The number of pairs of one piece of a level into each tile of its tier. Tile k has the indexes from k times the width up to k + 1 times the width, both cut
+/// at the tier's size.
 #[derive(Drop)]
 pub struct Tally<G: Game> {
     place: Place,

@@ -6,7 +6,7 @@ ghost use Rattle.gm_game.specs.Records.{solved, from_end, lesser as lesser_spec,
 use crate::game::Game;
 use crate::position::{End, Position, Solved, Value};
 
-/// The value of an ended game.
+/// The value of a position in which the game has ended.
 pub fn of_end(end: End) -> Solved
     ensures { result ≡ from_end end }
 {
@@ -76,7 +76,7 @@ fn greater(a: Option<u32>, b: Option<u32>) -> Option<u32>
     }
 }
 
-// A value that is decided one move before the end of a line of this remoteness.
+// This value, with a remoteness greater by one than the given one.
 fn one_move_more(value: Value, remoteness: u32) -> Solved
     requires { remoteness + 1 < 2 ^ 32 }
     ensures { result ≡ solved value (remoteness + 1) }
@@ -87,7 +87,8 @@ fn one_move_more(value: Value, remoteness: u32) -> Solved
     }
 }
 
-// What the least lost child, the greatest won one and the least tied one decide, where the last takes that all are known.
+// What is decided by the least remoteness of a Lose child, the greatest of a Win child and the least of a Tie child; the last decides only where all children
+// are known.
 fn choose(lost: Option<u32>, won: Option<u32>, known: bool, tied: Option<u32>) -> Option<Solved>
     requires lost_fits { IfSome lost (λ k. k + 1 < 2 ^ 32) }
     requires won_fits { IfSome won (λ k. k + 1 < 2 ^ 32) }

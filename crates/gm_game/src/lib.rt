@@ -1,6 +1,6 @@
 //! A two-player game without chance or hidden information, as positions, moves and primitive values, with its laws.
 //!
-//! The words are those of docs/DEFINITIONS.md. `specs/` has the definitions that contracts cite, and `proofs/` the theory over them.
+//! Terms are used as in docs/DEFINITIONS.md. `specs/` has the definitions that contracts cite, and `proofs/` the theory over them.
 #![tactic(auto)]
 
 pub mod children;

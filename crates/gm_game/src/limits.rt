@@ -1,28 +1,28 @@
 //! The limits that every game and every crate keeps to.
 ghost use Rattle.std.specs.Prelude.{◌≡◌};
 
-/// The moves of a position, and so its canonical children: at most so many.
+/// The greatest number of moves of a position, and so of its canonical children.
 pub const MOVES: usize = 128;
 
-/// The canonical parents of a position in one tier: at most so many.
+/// The greatest number of canonical parents of a position in one tier.
 pub const PARENTS: usize = 128;
 
-/// The child tiers of a tier: at most so many.
+/// The greatest number of child tiers of a tier.
 pub const CHILD_TIERS: usize = 16;
 
-/// The positions of a tier that is solved: at most so many.
+/// The greatest number of positions of a tier that is solved.
 pub const TIER_SIZE: u64 = 16_777_216;
 
-/// The tiers of a game that is solved: at most so many.
+/// The greatest number of tiers of a game that is solved.
 pub const TIERS: usize = 1024;
 
 /// The greatest remoteness of a record.
 pub const REMOTENESS: u32 = 1_048_575;
 
-/// The bytes of a game's name, padded with zeros.
+/// The number of bytes of a game's name, padded with zeros.
 pub const NAME: usize = 16;
 
-/// The bytes of the text of a position or a move: at most so many.
+/// The greatest number of bytes of the text of a position or a move.
 pub const LINE: usize = 64;
 
 /// The limits, as one value: the constants above, by name.
@@ -39,7 +39,7 @@ pub struct Limits {
 }
 
 impl Limits {
-    /// The limits in numbers: what docs/DEFINITIONS.md has.
+    /// The limits, stated as numbers by the contract: those of docs/DEFINITIONS.md.
     pub fn all() -> Limits
         ensures moves { result.moves ≡ 128 }
         ensures parents { result.parents ≡ 128 }

@@ -40,11 +40,11 @@ pub trait Shown: Game {
         requires { Self.rules.is_legal p ≡ true }
         ensures { (m : ℕ) → (result ≡ Some m) ↔ (Contains (Self.rules.moves p) m × (move_shown p m ≡ text.now)) };
 
-    /// Texts fit a line, and tell positions and moves apart.
+    /// The laws of texts: each fits a `Line`, and different positions, and different moves of a position, have different texts.
     ghost readable: { IsShown Self.rules shown move_shown };
 }
 
-/// Hands out the laws of a game's texts.
+/// Has no effect; its contract states the laws of a game's texts.
 pub fn texts<G: Shown>()
     ensures { IsShown G.Game.rules G.shown G.move_shown }
 {}

@@ -11,7 +11,7 @@ use arrayvec::ArrayVec;
 use itoa::Buffer;
 use std::str;
 
-/// Appends a text that fits.
+/// Appends a text, for which there is room.
 pub fn push_text(line: &mut Line, text: &[u8])
     requires { array_vec_len line.old + length text.now ≤ LINE }
     ensures { line.new.items ≡ line.old.items ++ text.now }
@@ -51,7 +51,7 @@ pub fn value_text(solved: Solved) -> Line
     line
 }
 
-// What std reads from the text, which may have a sign or leading zeros.
+// The number that std reads from the text, which may have a sign or leading zeros.
 fn parsed(text: &[u8]) -> Option<u64>
     ensures { (n : ℕ) → n < 2 ^ 64 → decimal n ≡ text.now → result ≡ Some n }
 {
@@ -70,7 +70,7 @@ fn is_written(number: u64, text: &[u8]) -> bool
     line.as_slice() == text
 }
 
-/// The number below 2^64 that is written so in decimal, without sign or leading zeros, if there is one. Any bytes may be given.
+/// The number below 2^64 whose decimal form, without sign or leading zeros, is this text, if there is one. Any bytes may be given.
 pub fn read_decimal(text: &[u8]) -> Option<u64>
     ensures { (n : ℕ) → (result ≡ Some n) ↔ ((n < 2 ^ 64) × (decimal n ≡ text.now)) }
 {

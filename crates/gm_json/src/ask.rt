@@ -25,7 +25,8 @@ use std::io::{ErrorKind, Read, Write};
 const KEPT: usize = LINE + 2;
 
 /// Reads positions, a line each, and answers each at once with one line of JSON, which is written by one call: the position with its value and its moves, or
-/// `{"error":"no such position","line":N}` with the number of the line, from 1. A return before the end of a line is no part of it; the last line needs no end.
+/// `{"error":"no such position","line":N}` with the number of the line, from 1. A carriage return before the end of a line is no part of it; the last line
+/// needs no line end.
 ///
 /// It reads to the end of the input, a byte at a time. `NotHeld` comes only where a position's tier, or one of its child tiers, has no table.
 pub fn ask<G: Shown, R: Read, W: Write>(
@@ -89,7 +90,8 @@ fn answer_line<G: Shown, W: Write>(
     }
 }
 
-/// The answer to the line with this number: the position with this text, as `moves_json` tells it, or that there is none. A return at the end of the line is no part of it.
+/// The answer to the line with this number: what `moves_json` answers for the position with this text, or that there is no such position. A carriage return at
+/// the end of the line is no part of it.
 pub fn ask_line<G: Shown>(
     alloc: Global,
     tables: &Tables<G>,
@@ -110,7 +112,7 @@ pub fn ask_line<G: Shown>(
     }
 }
 
-// What is told of a line that is the text of no position.
+// The answer to a line that is the text of no position.
 fn no_position(alloc: Global, number: u64) -> Result<String, AllocError>
     ensures { IfOk result (λ s. string_bytes s ≡ compact_text (error_tree number)) }
 {

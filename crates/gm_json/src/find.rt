@@ -19,9 +19,9 @@ use gm_table::tables::Tables;
 use serde_json::{Value as Json, json};
 use std::alloc::{AllocError, Global};
 
-/// The canonical positions that are sought as lines of compact JSON, each with its end: the best move (`null` where the game has ended), the number of the moves, the position, its
-/// remoteness and its value. The members stand in alphabetical order; the lines tier by tier in the order given and by ascending index: the first of them, at most so many. Where
-/// reached positions are given, those alone.
+/// The canonical positions that are sought as lines of compact JSON, each with its end: the best move (`null` where the game has ended), the number of the
+/// moves, the position, its remoteness and its value. The members stand in alphabetical order; the lines tier by tier in the order given and by ascending
+/// index: the first of them, at most `limit`. Where a set of reached positions is given, only positions in it count.
 ///
 /// `NotHeld` is tested first, and comes exactly where one of the tiers, or one of its child tiers, has no table.
 pub fn find_json<G: Shown>(

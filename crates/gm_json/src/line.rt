@@ -20,9 +20,9 @@ use gm_table::tables::Tables;
 use serde_json::{Value as Json, json};
 use std::alloc::{AllocError, Global};
 
-/// The line of best play from the position with this text as lines of compact JSON, each with its end: the move (`null` at first), the position, its remoteness and its value, the
-/// members in alphabetical order; and at the end of a draw `{"again":K}` with the number of the line, from 0, in which the last position stood before. Any bytes may be given. At most
-/// so many moves are made.
+/// The line of best play from the position with this text as lines of compact JSON, each with its end: the move (`null` at first), the position, its remoteness
+/// and its value, the members in alphabetical order; and at the end of a draw `{"again":K}` with the number of the line, from 0, in which the last position
+/// stood before. Any bytes may be given. At most `limit` moves are made.
 pub fn line_json<G: Shown>(
     alloc: Global,
     tables: &Tables<G>,

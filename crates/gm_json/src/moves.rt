@@ -18,8 +18,9 @@ use gm_table::tables::Tables;
 use serde_json::{Value as Json, json};
 use std::alloc::{AllocError, Global};
 
-/// The position with this text as one line of compact JSON, without its end: its value and remoteness, and its moves, the best first, each with what it is worth, its result and the value
-/// and remoteness of that. The members stand in alphabetical order. Where `distinct` is set, of moves that lead to one canonical position the first stands alone. Any bytes may be given.
+/// The position with this text as one line of compact JSON, without its end: its value and remoteness, and its moves, the best first, each with what it is
+/// worth, its result and the result's value and remoteness. The members stand in alphabetical order. Where `distinct` is set, of several moves that lead to one
+/// canonical position only the first is kept. Any bytes may be given.
 pub fn moves_json<G: Shown>(
     alloc: Global,
     tables: &Tables<G>,

@@ -1,4 +1,4 @@
-//! What comes of a line of the program, for the tests of its lines.
+//! The outcome of a line of the program, for the tests of its lines.
 #![tactic(auto)]
 
 pub mod outcome;

@@ -1,4 +1,4 @@
-//! What comes of a line of words.
+//! The outcome of a line of words.
 use gm_program::run::{REFUSED, run_words};
 use std::alloc::AllocError;
 use std::fs::Files;
@@ -11,7 +11,7 @@ use std::time::Clock;
 #[derive(Clone, Copy)]
 pub struct Outcome<'a>(pub u8, pub &'a [u8], pub &'a [u8]);
 
-/// Runs a line, without the program's name, over this input: whether exactly that comes of it.
+/// Runs a line, given without the program's name, over this input: whether it has exactly this outcome.
 pub fn has_outcome<R: Threads + Wait + Clock + Files + Sync + AllocGlobal>(
     rt: &R,
     words: &[&str],
@@ -27,7 +27,7 @@ pub fn has_outcome<R: Threads + Wait + Clock + Files + Sync + AllocGlobal>(
     Ok(status == outcome.0 && output.as_slice() == outcome.1 && errors.as_slice() == outcome.2)
 }
 
-// An output that nobody reads.
+// An output whose reader has closed it.
 #[derive(Drop)]
 struct Closed;
 
@@ -41,7 +41,7 @@ impl Write for Closed {
     }
 }
 
-/// Runs a line, with the program's name, over this input and an output that nobody reads: whether it is refused and nothing is told.
+/// Runs a line, given with the program's name, over this input and an output whose reader has closed it: whether it is refused and nothing is printed.
 pub fn is_left<R: Threads + Wait + Clock + Files + Sync + AllocGlobal>(
     rt: &R,
     words: &[&str],

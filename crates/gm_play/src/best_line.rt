@@ -34,10 +34,11 @@ pub struct BestLine {
     pub end: LineEnd,
 }
 
-/// The line of play in which both sides make their best moves, up to the end of the game, to a position that has come before, or to so many moves.
+/// The line of play in which both sides make their best moves, up to the end of the game, to a position that has come before, or to `limit` moves.
 ///
-/// Each best move lowers the remoteness by one: from a win, a loss or a tie the line has as many moves as the remoteness says, unless it is cut. A draw does not end. `Illegal` is
-/// tested first; `NotHeld` comes where the line comes to a position whose tier, or one of its child tiers, has no table. Each position is looked for among those before it.
+/// Each best move lowers the remoteness by one: from a win, a loss or a tie the line has as many moves as the remoteness says, unless it is cut. Play from a
+/// draw does not end. `Illegal` is tested first; `NotHeld` is answered where the line comes to a position whose tier, or one of its child tiers, has no table.
+/// Each position is looked for among those before it.
 pub fn best_line<G: Game>(
     alloc: Global,
     tables: &Tables<G>,

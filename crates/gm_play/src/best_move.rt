@@ -19,10 +19,10 @@ pub(crate) struct Choice {
     remoteness: u32,
 }
 
-/// The number of the best move, or `None` where the game has ended. From Win it goes to a Lose of least remoteness, from Lose to a Win of greatest, from Tie to a Tie of least,
-/// from Draw to a Draw; among equals it has the least number. It takes no memory.
+/// The number of the best move, or `None` where the game has ended. From Win it goes to a Lose of least remoteness, from Lose to a Win of greatest remoteness,
+/// from Tie to a Tie of least remoteness, from Draw to a Draw; among equals it has the least number. It takes no memory.
 ///
-/// `Illegal` is tested before `NotHeld`, which comes where the tier of the position or one of its child tiers has no table, also where the game has ended.
+/// `Illegal` is tested before `NotHeld`, which comes where the tier of the position or one of its child tiers has no table, even where the game has ended.
 pub fn best_move<G: Game>(tables: &Tables<G>, p: Position) -> Result<Option<u32>, AnswerError>
     ensures best { IfOk result (IsBestMove G.rules p) }
     ensures illegal { IsErrOf result AnswerError.Illegal ↔ (G.rules.is_legal p ≡ false) }
@@ -74,7 +74,7 @@ fn consider<G: Game>(
     Some(better(value, best, Choice { number, remoteness }))
 }
 
-/// The value to which the best move of a position with this one goes.
+/// The value of the result of a best move from a position with this value.
 pub(crate) fn wanted(value: Value) -> Value
     ensures { result ≡ wanted_from value }
 {

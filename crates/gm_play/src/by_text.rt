@@ -51,8 +51,8 @@ pub fn best_play<G: Shown>(
     Ok(BestPlay { start, value, line })
 }
 
-/// The position with this text and its moves, the best first, each with what it is worth. Where `distinct` is set, of moves that lead to one canonical position the first stands alone. Any bytes may be
-/// given. It takes no memory.
+/// The position with this text and its moves, the best first, each with what it is worth. Where `distinct` is set, of several moves that lead to one canonical
+/// position only the first is kept. Any bytes may be given. It takes no memory.
 pub fn moves_at<G: Shown>(
     tables: &Tables<G>,
     text: &[u8],

@@ -41,10 +41,11 @@ impl Default for MoveValue {
     }
 }
 
-/// The moves of a position, each once with the true value of its result, the best first: those to a Lose of least remoteness, to a Tie of least, to a Draw, to a Win of greatest, and
-/// among equals by number. So the first is the best move, and what it is worth is the value of the position. It takes no memory.
+/// The moves of a position, each once with the true value of its result, the best first: moves to a Lose, by least remoteness; then to a Tie, by least
+/// remoteness; then to a Draw; then to a Win, by greatest remoteness; and among equals by number. So the first is the best move, and its worth is the value of
+/// the position. It takes no memory.
 ///
-/// `Illegal` is tested before `NotHeld`, which comes where the tier of the position or one of its child tiers has no table, also where the game has ended.
+/// `Illegal` is tested before `NotHeld`, which comes where the tier of the position or one of its child tiers has no table, even where the game has ended.
 pub fn move_values<G: Game>(
     tables: &Tables<G>,
     p: Position,

@@ -23,8 +23,8 @@ pub struct PlayLine {
     pub moves: u64,
 }
 
-/// Plays a line from a legal position: the computer plays its best move, the other side the next reply, until the game ends or no reply is left. `None` where a reply
-/// is no move where its turn comes. It takes no memory.
+/// Plays a line from a legal position: the computer plays its best move, the other side the next reply, until the game ends or no reply is left. `None` where a
+/// reply is no move when its turn comes. It takes no memory.
 ///
 /// Whatever the replies are, from a win of the computer's side with remoteness n the line has at most n moves, and where it ends the game, that side has won; from a tie or
 /// a draw that side never loses.
@@ -88,7 +88,7 @@ fn answered<G: Game>(tables: &Tables<G>, line: PlayLine) -> PlayLine
     }
 }
 
-// The best move where all is held that it rests on.
+// The best move, where all tables that it rests on are held.
 fn known_best<G: Game>(tables: &Tables<G>, p: Position) -> Option<u32>
     requires legal { G.rules.is_legal p ≡ true }
     requires own { IsHeld tables.now p.tier }

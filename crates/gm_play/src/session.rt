@@ -53,7 +53,7 @@ pub fn session<G: Shown, R: Read, W: Write>(
     session_with::<G, Plain, R, W>(tables, start, first, input, output)
 }
 
-/// A session in which the person sees more before each question: what the view says of the position. It takes no memory.
+/// A session that shows the person, before each question, what the view says of the position. It takes no memory.
 ///
 /// It reads a byte at a time, none after the line that ends the session, and at most `SESSION_BYTES`: one byte more is `TooMuchInput`.
 pub fn session_with<G: Shown, V: View<G>, R: Read, W: Write>(
@@ -81,7 +81,7 @@ pub fn session_with<G: Shown, V: View<G>, R: Read, W: Write>(
     converse::<G, V, R, W>(tables, start, first, input, output)
 }
 
-// Hands out that there is a look-up of true values and best moves where every tier that is reached is held.
+// Has no effect; its contract states that there is a look-up of true values and best moves where every tier that is reached is held.
 fn advice<G: Game>(tables: &Tables<G>, tier: u64)
     requires { AreAllHeld G.rules tables.now tier }
     ensures { (k : Advice) × IsKnown G.rules tier k }

@@ -20,7 +20,7 @@ pub fn read_byte<R: Read>(input: &mut R) -> io::Result<Option<u8>>
     }
 }
 
-/// Writes all of a text. After an error a front of it is written: `write_all` says nothing of that.
+/// Writes all of a text. After an error a prefix of it is written, which the contract of `write_all` doesn't say.
 pub fn write_text<W: Write>(output: &mut W, text: &[u8]) -> io::Result<()>
     ensures ok { OnOk result (Appends (W.contents output.old) (W.contents output.new) text.now) }
     ensures err { OnErr result (AppendsPart (W.contents output.old) (W.contents output.new) text.now) }
@@ -39,7 +39,7 @@ pub fn write_text<W: Write>(output: &mut W, text: &[u8]) -> io::Result<()>
 /// The bytes of the longest line: two texts, what stands between them, and the line end.
 const WIDTH: usize = 2 * LINE + 16;
 
-/// Writes a line of two texts with a third between them, by one call of a writer that takes it. After an error a front of it is written.
+/// Writes a line of two texts with a third between them, by one call, where the writer takes it whole. After an error a prefix of it is written.
 pub(crate) fn write_line<W: Write>(
     output: &mut W,
     front: &[u8],

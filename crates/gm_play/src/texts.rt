@@ -31,7 +31,8 @@ pub fn answer_text<G: Shown>(tables: &Tables<G>, text: &[u8]) -> Result<Line, An
     }
 }
 
-/// The rows of the moves of the position with this text, the best first: the text of the move, what it is worth, and its result, with a tab between them. Where `distinct` is set, of moves that lead to one canonical position the first stands alone. Any bytes may be given.
+/// The rows of the moves of the position with this text, the best first: the text of the move, what it is worth, and its result, with a tab between them. Where
+/// `distinct` is set, of several moves that lead to one canonical position only the first is kept. Any bytes may be given.
 pub fn moves_text<G: Shown>(
     alloc: Global,
     tables: &Tables<G>,
@@ -92,8 +93,8 @@ fn push_row(rows: &mut Vec<u8>, a: &[u8], b: &[u8], c: &[u8]) -> Result<(), Allo
     rows.extend_from_slice(b"\n")
 }
 
-/// The rows of the line of best play from the position with this text: the text of a move (none at first), the position and its value, with a tab between them, and at the end of a
-/// draw the number of the row, from 0, in which the last position stood before. Any bytes may be given. At most so many moves are made.
+/// The rows of the line of best play from the position with this text: the text of a move (none at first), the position and its value, with a tab between them,
+/// and at the end of a draw the number of the row, from 0, in which the last position stood before. Any bytes may be given. At most `limit` moves are made.
 pub fn line_text<G: Shown>(
     alloc: Global,
     tables: &Tables<G>,

@@ -135,7 +135,7 @@ pub(crate) fn turn<G: Shown, V: View<G>, W: Write>(
     }
 }
 
-// The line without the return at its end.
+// The line without the carriage return at its end.
 fn without_return(line: &[u8]) -> &[u8]
     ensures { result.now ≡ without_return_spec line.now }
 {
@@ -175,7 +175,7 @@ pub(crate) fn reply<G: Shown, V: View<G>, W: Write>(
     }
 }
 
-/// Answers what stands before the end of the input.
+/// Answers the bytes that stand before the end of the input, as a last line.
 pub(crate) fn close<G: Shown, V: View<G>, W: Write>(
     tables: &Tables<G>,
     p: Position,

@@ -17,7 +17,7 @@ use std::io::Write;
 use std::string::String;
 use std::thread::Threads;
 
-// A tier with what its file is found to be: none where a child tier isn't right, so that the file isn't read.
+// A tier with what its file is found to be: `None` where a child tier isn't right and so the file isn't read.
 #[derive(Drop)]
 struct Checked<'a, G: Game> {
     tier: u64,
@@ -55,7 +55,7 @@ fn inspect<G: Game + Send + Sync, R: Threads + Files + Sync>(
     Ok(Some(inspect_tier(rt, alloc, tier, tables, &mut store)?))
 }
 
-// Prints what a tier's file is, and holds its table where it is right: whether it is.
+// Prints what a tier's file is, inserts its table where it is right, and answers whether it is.
 fn check_tier<G: Game + Send + Sync, R: Threads + Files + Sync + AllocGlobal, O: Write>(
     rt: &R,
     folder: &str,

@@ -93,7 +93,7 @@ fn moves_line<G: Shown>(
     }
 }
 
-/// Writes a text by one call. Nobody may read the rest of it.
+/// Writes a text by one call. The reader may have closed the stream.
 pub fn put<O: Write>(output: &mut O, text: &[u8]) -> Result<(), Fault> {
     match output.write_all(text) {
         Ok(()) => Ok(()),

@@ -29,14 +29,14 @@ pub enum Fault {
     InputFailed,
     #[error("output failed")]
     OutputFailed,
-    /// Nobody reads what is written: nothing more is said.
+    /// The reader has closed the output: nothing more is printed.
     #[error("output closed")]
     OutputClosed,
     #[error("too much input")]
     TooMuchInput,
 }
 
-// What is written goes to standard output alone, and so does what fails there.
+// Only standard output is written there, so a write that fails is a failure of standard output.
 impl From<io::Error> for Fault {
     fn from(_error: io::Error) -> Fault {
         Fault::OutputFailed

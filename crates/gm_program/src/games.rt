@@ -33,7 +33,7 @@ pub struct Streams<'a, I, O, E> {
     pub errors: &'a mut E,
 }
 
-// The tables of lines that have no options for a plan.
+// Where tables are kept and how they are made, for commands that have no options for a plan.
 fn place(kept: Kept<'_>) -> Place<'_> {
     let plan = Plan::new(4, 4, 64).unwrap();
     Place { kept, plan }

@@ -1,4 +1,4 @@
-//! What a build tells of itself while it runs.
+//! What is written on the progress of a build while it runs.
 ghost use Rattle.std.specs.Prelude.{◌≡◌, ◌+◌, ◌*◌, ◌≤◌, ◌↔◌, true, None, IfSome};
 ghost use Rattle.std.specs.Duration.{as_nanos};
 
@@ -16,7 +16,7 @@ use std::time::{Clock, Duration};
 /// The least time between two lines, in milliseconds.
 pub const PAUSE: u64 = 250;
 
-// Workers look at the clock after so many deliveries together, and at the first one of each level.
+// How many deliveries of all workers together lie between two readings of the clock within a level; it is also read at the first delivery of each level.
 const OFTEN: u64 = 4096;
 
 /// What is done with a tier.
@@ -47,7 +47,7 @@ impl fmt::Display for Stage {
     }
 }
 
-// A line: where a build is. The tier has this number, from 1 on, in the order of so many tiers.
+// What one line says: where a build is. `number` is the place of the tier, from 1, in the order of all `tiers`.
 #[derive(Clone, Copy, Debug, Drop)]
 struct Step {
     tier: u64,
@@ -89,11 +89,11 @@ pub fn is_due(last: Option<Duration>, now: Duration) -> bool
 struct Lines<'a, E: Write> {
     errors: &'a mut E,
     last: Option<Duration>,
-    // Whether one could not be written: then no more are.
+    // Whether a line could not be written: then no more are.
     closed: bool,
 }
 
-/// Tells of a build that it watches, as its gate and its source. Nobody waits for another one that tells.
+/// Writes lines on the progress of a build, as its watch, its gate and its source. No worker waits for another one that is writing.
 #[derive(Drop)]
 pub struct Progress<'a, C, E: Write> {
     clock: &'a C,
@@ -107,7 +107,7 @@ pub struct Progress<'a, C, E: Write> {
 }
 
 impl<'a, C: Clock, E: Write> Progress<'a, C, E> {
-    /// Tells of a build that is to begin.
+    /// The progress of a build that is to begin.
     pub fn new(clock: &'a C, errors: &'a mut E) -> Self {
         let lines = Lines {
             errors,

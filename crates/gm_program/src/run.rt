@@ -15,13 +15,13 @@ use std::sync::Wait;
 use std::thread::Threads;
 use std::time::Clock;
 
-/// What was asked was done.
+/// The status where the command was done.
 pub const DONE: u8 = 0;
 
-/// What was asked was refused, for a reason that standard error tells.
+/// The status where the command was refused or failed, for a reason written to standard error.
 pub const REFUSED: u8 = 1;
 
-/// The line is none that the program knows.
+/// The status of a line that the program doesn't know.
 pub const BAD_LINE: u8 = 2;
 
 fn list<O: Write>(output: &mut O) -> Result<u8, Fault> {
@@ -55,7 +55,7 @@ fn answer<
     }
 }
 
-/// Says on standard error why a line was refused. This is the last that can be said: where it fails, the status still tells.
+/// Says on standard error why a line was refused. Where this write fails nothing more is written, but the status still tells.
 pub fn refused<E: Write>(fault: &Fault, errors: &mut E) -> u8 {
     if !matches!(fault, Fault::OutputClosed) {
         let _ = write_line(errors, &FaultLine { fault });
@@ -63,7 +63,7 @@ pub fn refused<E: Write>(fault: &Fault, errors: &mut E) -> u8 {
     REFUSED
 }
 
-/// Says on standard error that the line is none that the program knows.
+/// Says on standard error that the program doesn't know the line.
 pub fn bad_line<E: Write>(errors: &mut E) -> u8 {
     let _ = errors.write_all(b"gamesman: bad line\n");
     BAD_LINE

@@ -19,7 +19,7 @@ use std::io::{Read, Write};
 use std::sync::Wait;
 use std::thread::Threads;
 
-/// Answers what is asked of all tables of a game.
+/// Answers a question about all tables of a game.
 pub fn search<
     G: Shown + Send + Sync,
     R: Threads + Wait + Files + Sync + AllocGlobal,

@@ -42,7 +42,7 @@ impl Place<'_> {
         self.build_from::<G, R>(rt, G::initial().tier)
     }
 
-    /// Builds the tiers there that one tier reaches: all that a value in that tier rests on.
+    /// Builds there the tiers that one tier reaches: all on which the values of that tier rest.
     pub fn build_from<G: Game + Send + Sync, R: Threads + Wait + Files + Sync + AllocGlobal>(
         self,
         rt: &R,
@@ -86,7 +86,7 @@ pub fn build_in<G: Game + Send + Sync, R: Threads + Wait + Files + Sync + AllocG
     }
 }
 
-/// Builds a whole game over a folder, and tells standard error how far it is.
+/// Builds a whole game over a folder, and says on standard error how far the build is.
 pub fn build_telling<
     G: Game + Send + Sync,
     R: Threads + Wait + Clock + Files + Sync + AllocGlobal,
@@ -104,7 +104,7 @@ pub fn build_telling<
     }
 }
 
-// Why a game is not built over a folder, which may have another game's file.
+// Why a game is not built over a folder, for instance since the folder has another game's file.
 fn why_not(error: BuildError, met_another: bool) -> Fault {
     match error {
         BuildError::StoreFailed { tier } if met_another => Fault::AnotherGames { tier },

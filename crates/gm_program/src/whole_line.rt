@@ -1,13 +1,13 @@
-//! Lines that are written by one call each, so that programs on one stream don't tear each other's.
+//! Lines that are written by one call each, so that programs that share a stream don't break up each other's lines.
 
 use arrayvec::ArrayString;
 use std::fmt::{Display, Write as _};
 use std::io::{self, Write};
 
-/// The bytes of the longest line that is written so: five numbers of twenty digits and the words between them.
+/// The bytes of the longest line that is written in one call: five numbers of twenty digits and the words between them.
 const LINE: usize = 192;
 
-/// Writes a line by one call. What is too long for it is written as it comes.
+/// Writes a line by one call. A line that is too long for that is written in parts.
 pub fn write_line<W: Write, T: Display>(output: &mut W, words: &T) -> io::Result<()> {
     let mut line: ArrayString<LINE> = ArrayString::new();
     if writeln!(line, "{words}").is_err() {
@@ -16,7 +16,7 @@ pub fn write_line<W: Write, T: Display>(output: &mut W, words: &T) -> io::Result
     output.write_all(line.as_bytes())
 }
 
-/// A fault as it is told: after the program's name.
+/// A fault as it is printed: after the program's name.
 #[derive(Drop)]
 pub struct FaultLine<'a, T> {
     pub fault: &'a T,

@@ -4,7 +4,7 @@ ghost use Rattle.std.specs.Prelude.{◌≡◌, ◌≤◌, ◌<◌, [], ◌∷◌
 use std::alloc::{AllocError, Global};
 use std::marker::Model;
 
-/// Indexes in the order in which they were settled, with room for all that can come. A part in the middle is that of the present level.
+/// Indexes in the order in which they were settled, with room for all that can come. The indexes of the present level are a part in the middle.
 #[derive(Drop)]
 pub(crate) struct Queue {
     indexes: Vec<u32>,
@@ -24,7 +24,7 @@ impl Model for Queue {
 }
 
 impl Queue {
-    /// An empty queue with room for so many indexes.
+    /// An empty queue with room for this many indexes.
     pub(crate) fn new(alloc: Global, room: usize) -> Result<Self, AllocError>
         ensures { IfOk result (λ q. (q.indexes ≡ []) × (q.from ≡ 0) × (q.to ≡ 0) × (room ≤ q.room)) }
     {
@@ -48,7 +48,7 @@ impl Queue {
         let _done = self.indexes.push(index);
     }
 
-    /// Turns to the next level: what came after the present part is the present part.
+    /// Turns to the next level: what was added after the present part becomes the present part.
     pub(crate) fn advance(&mut self)
         ensures { self.new ≡ record self.old { from = self.old.to; to = length self.old.indexes } }
     {

@@ -28,7 +28,7 @@ impl Model for Statuses {
 }
 
 impl Statuses {
-    /// None, with room for so many.
+    /// An empty list, with room for this many statuses.
     pub(crate) fn with_capacity(alloc: Global, room: usize) -> Result<Statuses, AllocError>
         ensures { IfOk result (λ statuses. statuses ≡ []) }
     {
@@ -36,7 +36,7 @@ impl Statuses {
         Ok(Statuses { numbers })
     }
 
-    /// Adds one at the end.
+    /// Adds a status at the end.
     pub(crate) fn push(&mut self, status: Status) -> Result<(), AllocError>
         requires { IsWithinLimit status }
         ensures { OnOk result (self.new ≡ self.old ++ status ∷ []) }
@@ -45,7 +45,7 @@ impl Statuses {
         Ok(())
     }
 
-    /// The one at a place.
+    /// The status at a place.
     pub(crate) fn get(&self, k: usize) -> Status
         requires { k < length self.now }
         ensures { slice_get self.now k ≡ Some result }
@@ -53,7 +53,7 @@ impl Statuses {
         status_of(self.numbers[k])
     }
 
-    /// Puts one in the place of another.
+    /// Puts a status in the place of another.
     pub(crate) fn set(&mut self, k: usize, status: Status)
         requires place { k < length self.old }
         requires near { IsWithinLimit status }

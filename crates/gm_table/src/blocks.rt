@@ -11,13 +11,14 @@ use gm_game::position::{Position, Solved};
 use rayon::prelude::*;
 use std::thread::Threads;
 
-/// So many records are checked by the caller's thread alone.
+/// Up to this many records are checked by the caller's thread alone.
 const FEW: usize = 4096;
 
-/// Blocks of so many indexes are dealt out to the classes in turn: canonical positions have low indexes, so pieces in one part of the tier would be unlike in work.
+/// The number of indexes of a block. Blocks are dealt out to the classes in turn: canonical positions have low indexes, so contiguous parts of the tier would
+/// mean unequal work.
 const BLOCK: usize = 8;
 
-/// So many classes there are: enough for as many threads as rayon starts.
+/// The number of classes: enough for as many threads as rayon starts.
 const CLASSES: usize = 8192;
 
 /// The indexes of one round of blocks, one for each class.
@@ -104,7 +105,7 @@ pub(crate) fn first_wrong<G: Game>(
     given.first_between(0, records.len())
 }
 
-/// The same, by as many threads as there are processors.
+/// The least index whose record doesn't fit, found by as many threads as there are processors.
 pub(crate) fn first_wrong_by<G: Game + Send + Sync, R: Threads + Sync>(
     rt: &R,
     tier: u64,

@@ -41,9 +41,12 @@ impl CheckError {
     }
 }
 
-/// Makes a table of records that fit: each canonical legal position has the value that follows from the records of its canonical children, of a remoteness within the limit, and every other index has none. The tables of the child tiers are given; children in the tier itself are looked up in the records, even where the tier has a table.
+/// Makes a table of records that fit: each canonical legal position has the value that follows from the records of its canonical children (or from its own
+/// end), with a remoteness within the limit, and every other index has none. The tables of the child tiers are given; children in the tier itself are looked up
+/// in the records, even where the tier has a table.
 ///
-/// The size is tested first, then the records by index, and memory is asked for last.
+/// The size is tested first (`WrongSize`), then the records by index (`WrongRecord` names the first that doesn't fit), and memory is asked for last
+/// (`OutOfMemory`).
 pub fn check<G: Game>(
     alloc: Global,
     tier: u64,
@@ -58,7 +61,7 @@ pub fn check<G: Game>(
     ensures records { IfOk result (λ t. t.records ≡ records.now) }
     ensures table { IfOk result (IsTable G.rules) }
 
-    // Want of memory aside, records are taken exactly where they fit, and those are the true ones.
+    // Unless memory runs out, records are accepted exactly where they fit, and those that fit are the true ones.
     ensures fit { IsOkUnless result CheckError.OutOfMemory ↔ FitTables G.rules tables.now tier records.now }
     ensures are_true { IsOkUnless result CheckError.OutOfMemory ↔ IsTrueTable G.rules REMOTENESS tier records.now }
 
@@ -91,7 +94,7 @@ pub fn check_by<G: Game + Send + Sync, R: Threads + Sync>(
     ensures records { IfOk result (λ t. t.records ≡ records.now) }
     ensures table { IfOk result (IsTable G.rules) }
 
-    // Want of memory aside, records are taken exactly where they fit, and those are the true ones.
+    // Unless memory runs out, records are accepted exactly where they fit, and those that fit are the true ones.
     ensures fit { IsOkUnless result CheckError.OutOfMemory ↔ FitTables G.rules tables.now tier records.now }
     ensures are_true { IsOkUnless result CheckError.OutOfMemory ↔ IsTrueTable G.rules REMOTENESS tier records.now }
 
@@ -126,7 +129,7 @@ fn table_unless<G: Game>(
     ensures records { IfOk result (λ t. t.records ≡ records.now) }
     ensures table { IfOk result (IsTable G.rules) }
 
-    // Want of memory aside, records are taken exactly where they fit, and those are the true ones.
+    // Unless memory runs out, records are accepted exactly where they fit, and those that fit are the true ones.
     ensures fit { IsOkUnless result CheckError.OutOfMemory ↔ FitTables G.rules tables.now tier records.now }
     ensures are_true { IsOkUnless result CheckError.OutOfMemory ↔ IsTrueTable G.rules REMOTENESS tier records.now }
 
@@ -168,7 +171,7 @@ pub(crate) fn fits<G: Game>(
     }
 }
 
-// Whether a value is the one that the rules give a position in which the game goes on.
+// Whether a value is the one that follows, by the rules, for a position in which the game goes on.
 fn follows<G: Game>(
     tier: u64,
     records: &[Option<Solved>],
@@ -232,7 +235,7 @@ struct Summary {
 }
 
 impl Summary {
-    // With one child's record more.
+    // The same with one more child's record.
     fn with(self, known: Option<Solved>) -> Summary
         ensures lost { result.lost ≡ lesser self.lost (lost_in known) }
         ensures won { result.won ≡ greater self.won (won_in known) }

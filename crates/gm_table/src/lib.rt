@@ -1,4 +1,4 @@
-//! The true tables of tiers, and the checker that makes them of records from anywhere.
+//! The true tables of tiers, and the checker that makes them from records of any origin.
 //!
 //! A table is true by its type: whoever holds one holds the true table of its tier. `specs/` has the definitions that contracts cite, and `proofs/` what follows from them.
 #![tactic(auto)]

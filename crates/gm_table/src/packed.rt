@@ -8,7 +8,7 @@ use gm_game::position::{Solved, Value};
 use std::alloc::{AllocError, Global};
 use std::marker::Model;
 
-/// Above the greatest remoteness: a record's number is its value's code times this, and its remoteness.
+/// One more than the greatest remoteness: a record's number is the code of its value times this, plus its remoteness.
 const STEP: u32 = 1_048_576;
 
 /// Records of four bytes each. Contracts see the records.
@@ -28,7 +28,7 @@ impl Model for Packed {
 }
 
 impl Packed {
-    /// No records, with room for so many.
+    /// An empty list, with room for this many records.
     pub fn with_capacity(alloc: Global, room: usize) -> Result<Packed, AllocError>
         ensures { IfOk result (λ packed. packed ≡ []) }
     {
@@ -36,7 +36,7 @@ impl Packed {
         Ok(Packed { numbers })
     }
 
-    /// Adds a record within the greatest remoteness at the end. On want of memory the records are as before.
+    /// Adds a record within the greatest remoteness at the end. Where memory is refused the records are as before.
     pub fn push(&mut self, known: Option<Solved>) -> Result<(), AllocError>
         requires { IsNear known }
         ensures ok { OnOk result (self.new ≡ self.old ++ known ∷ []) }
@@ -46,7 +46,7 @@ impl Packed {
         Ok(())
     }
 
-    /// Leaves the first records, as many as are told.
+    /// Keeps this many of the first records.
     pub fn truncate(&mut self, count: usize)
         ensures { self.new ≡ take count self.old }
     {

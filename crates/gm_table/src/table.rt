@@ -36,7 +36,7 @@ impl<G: Game> Model for Table<G> {
 impl<G: Game> Table<G> {
     ghost use Rattle.gm_table.specs.Tables.{record_at, IsTable};
 
-    /// Makes a table of records that are the true ones, of a tier within the limits. A table has four bytes an index.
+    /// Makes a table of the true records of a tier within the limits. A table takes four bytes an index.
     pub fn from_true(
         alloc: Global,
         tier: u64,
@@ -50,7 +50,7 @@ impl<G: Game> Table<G> {
         Ok(Table::from_packed(tier, Packed::of(alloc, records)?))
     }
 
-    /// The same, of records that are packed already: it asks for no memory.
+    /// Makes a table of true records that are packed already. It takes no memory.
     pub fn from_packed(tier: u64, records: Packed) -> Self
         requires is_true { IsTrueTable G.rules REMOTENESS tier records }
         requires is_small { G.rules.tier_size tier ≤ TIER_SIZE }

@@ -1,4 +1,4 @@
-//! Takeaway: twelve counters, one to three are taken at a time, and who takes the last one wins.
+//! Takeaway: twelve counters, one to three are taken at a time, and whoever takes the last one wins.
 ghost use Rattle.std.specs.Prelude.{◌≡◌, refl};
 ghost use Rattle.std.proofs.Common.{rules};
 ghost use Rattle.gm_toys.specs.Subtraction.{number_text, step_text};
@@ -15,10 +15,10 @@ use gm_toys::subtraction::{moves_down, numbers_above, read_number, read_step, sh
 /// How many counters there are at the start.
 const COUNTERS: u64 = 12;
 
-/// How many may be taken at a time.
+/// The most that may be taken at a time.
 const MOST: u32 = 3;
 
-/// Takeaway: a position is how many counters are left, and a move how many are taken.
+/// Takeaway: a position is the number of counters left, and a move the number of counters taken.
 #[derive(Drop)]
 pub struct Takeaway;
 

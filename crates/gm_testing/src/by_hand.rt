@@ -120,7 +120,7 @@ pub fn add_level<G: Game>(
     Ok(())
 }
 
-/// The same by the tallies of pieces of `n` notes, for a range that is a tile of this width.
+/// The same as the function before, by the tallies of pieces of `n` notes, for a range that is a tile of this width.
 pub fn add_level_counted<G: Game>(
     alloc: Global,
     place: Place,
@@ -172,7 +172,7 @@ pub fn expected_by_walks<G: Game>(
     Ok(expected)
 }
 
-/// The same by the tallies of pieces of `n` notes, for a range that is a tile of this width.
+/// The same as the function before, by the tallies of pieces of `n` notes, for a range that is a tile of this width.
 pub fn expected_by_tallies<G: Game>(
     alloc: Global,
     tier: u64,
@@ -239,7 +239,7 @@ pub fn last_of<G: Game>(
     Ok(level.last(tables))
 }
 
-/// Turns a shard of a whole tier and its count to ties, where no win or loss is left; says whether it did.
+/// Turns a shard of a whole tier, and its count, to ties where no win or loss is left; answers whether it did.
 pub fn turn<G: Game>(
     alloc: Global,
     shard: &mut Shard<G>,

@@ -22,7 +22,8 @@ pub fn are_same<G: Game>(one: &Table<G>, other: &Table<G>) -> bool {
     one.size() == other.size() && (0..one.size()).all(|index| one.at(index) == other.at(index))
 }
 
-/// Solves a tier by one shard, and in both ways by workers, and holds its table: whether all found the same records and the same number of deliveries, and none by hand.
+/// Solves a tier by one shard, and by workers in both ways, and inserts its table: whether all found the same records and the same number of deliveries, and
+/// none was made by hand.
 pub fn hold_same<G: Game + Send + Sync, R: Threads + Wait + Sync>(
     rt: &R,
     alloc: Global,
@@ -107,7 +108,8 @@ fn show<G: Game + Send + Sync, R: Threads + Wait + Sync, T: Gate, S: Source>(
     })
 }
 
-/// Tier 0 by so many workers, shards and notes of a piece: none where it has child tiers or is too large, or there is no such plan.
+/// Tier 0 solved by this many workers and shards, with this many notes in a piece: none where the tier has child tiers or is too large, or there is no such
+/// plan.
 pub fn show_first<G: Game + Send + Sync, R: Threads + Wait + Sync, T: Gate, S: Source>(
     rt: &R,
     alloc: Global,
@@ -126,7 +128,7 @@ pub fn show_first<G: Game + Send + Sync, R: Threads + Wait + Sync, T: Gate, S: S
     Ok(Some(show(rt, alloc, &tables, way, plan, gate, source)?))
 }
 
-/// The records of one shard, of which the last is this one, by so many deliveries, of which so many by the coordinator.
+/// The expected outcome: the records that one shard finds, the last of which is given, with these numbers of deliveries, in all and by the coordinator.
 pub fn as_alone(last: Solved, deliveries: u64, by_hand: u64) -> Option<Shown> {
     Some(Shown {
         same: true,

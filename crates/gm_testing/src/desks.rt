@@ -33,7 +33,7 @@ pub fn cut_at<G: Game>(alloc: Global, tier: u64, cut: u64) -> Result<Four<Shard<
     })
 }
 
-/// Blanks of so many parts.
+/// Blanks of this many parts.
 pub fn blanks_of(parts: u64) -> Four<Blank>
     requires { 0 < parts }
     ensures { (result.a.parts ≡ parts) × (result.b.parts ≡ parts) × (result.c.parts ≡ parts) × (result.d.parts ≡ parts) }
@@ -53,7 +53,7 @@ pub struct Answers {
     pub delivered: (u64, u64),
 }
 
-// Delivers a note to a parent, and tells the amounts of the first two shards.
+// Delivers a note to a parent, and answers the amounts of the first two shards as well.
 fn told<G: Game, A: Desk, B: Desk, C: Desk, D: Desk, R: Wait>(
     rt: &R,
     board: &Board<G, A, B, C, D>,

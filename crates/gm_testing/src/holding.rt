@@ -10,7 +10,7 @@ use gm_solver::error::SolveError;
 use gm_table::tables::Tables;
 use std::alloc::Global;
 
-/// Solves a tier whose child tiers are held, and holds its table. Answers the number of deliveries.
+/// Solves a tier whose child tiers are held, inserts its table, and answers the number of deliveries.
 pub fn hold_solved<G: Game>(
     alloc: Global,
     tables: &mut Tables<G>,

@@ -5,7 +5,7 @@ use gm_solver::source::Source;
 use std::sync::atomic::{AtomicUsize, Ordering};
 use std::sync::{Mutex, Wait};
 
-/// What a source answers to the asks of a level, one after another.
+/// What a source answers when it is asked during a level, one answer after another.
 #[derive(Clone, Copy, Debug, Drop)]
 pub enum Habit {
     /// Nothing.
@@ -18,7 +18,7 @@ pub enum Habit {
     Odd,
 }
 
-/// A source of a habit. It counts the levels that are begun, the pieces that it was told of at these, and how often it was asked.
+/// A source with a habit. It counts the levels that are begun, the pieces that it was told of at their beginning, and how often it was asked.
 #[derive(Debug, Drop)]
 pub struct Odd {
     pub habit: Habit,
@@ -96,7 +96,7 @@ impl Source for OwnPieces {
     }
 }
 
-/// Holds each of two workers at its first delivery of one level of wins and losses, until the other has come there too, at most a million turns.
+/// Holds each of two workers at its first delivery of one level of wins and losses, until the other has arrived there too, for at most a million turns.
 #[derive(Drop)]
 pub struct Meeting {
     pub arrived: Mutex<[bool; 2]>,
@@ -114,7 +114,7 @@ impl Meeting {
         }
     }
 
-    // Marks the worker's coming: whether it is its first.
+    // Marks that the worker has arrived, and answers whether it is its first time.
     fn arrive<R: Wait>(&self, rt: &R, worker: usize) -> bool {
         let mut arrived = self.arrived.lock(rt);
         if worker >= 2 || arrived[worker] {
@@ -124,7 +124,7 @@ impl Meeting {
         true
     }
 
-    // Waits for both: whether they came.
+    // Waits for both workers, and answers whether they arrived.
     fn wait<R: Wait>(&self, rt: &R) -> bool {
         (0..1_000_000).any(|_| *self.arrived.lock(rt) == [true; 2])
     }

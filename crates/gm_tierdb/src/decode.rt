@@ -16,7 +16,7 @@ use std::alloc::Global;
 
 /// The records of a tier, from its file: docs/FORMATS.md, "Tier file". Any bytes may be given; memory is asked for last.
 ///
-/// Whether the records are the true ones, only `check` of gm_table tells. A file of version 1 is refused as `OldVersion`; `decode_v1` reads it.
+/// Only `check` of gm_table tells whether the records are the true ones. A file of version 1 is refused as `OldVersion`; `decode_v1` reads it.
 pub fn decode<G: Game>(
     alloc: Global,
     tier: u64,
@@ -31,7 +31,7 @@ pub fn decode<G: Game>(
     read_file::<G>(alloc, Version::Two, tier, bytes)
 }
 
-/// The records of a tier, from its file of version 1: docs/FORMATS.md, "Version 1". It is as `decode`, and never answers `OldVersion`.
+/// The records of a tier, from its file of version 1: docs/FORMATS.md, "Version 1". It answers as `decode` does, but never `OldVersion`.
 pub fn decode_v1<G: Game>(
     alloc: Global,
     tier: u64,

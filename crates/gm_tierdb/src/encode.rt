@@ -21,8 +21,8 @@ pub fn encode<G: Game>(alloc: Global, table: &Table<G>) -> Result<Vec<u8>, Alloc
     write_file(alloc, Version::Two, table)
 }
 
-/// The file of a table's tier in version 1, which has no record above a remoteness of 4,095: docs/FORMATS.md, "Version 1". It has 72 bytes and 2 for each index of the tier.
-/// `fits_v1` is the test.
+/// The file of a table's tier in version 1: docs/FORMATS.md, "Version 1". It has 72 bytes and 2 for each index of the tier. No record of the table may have a
+/// remoteness above 4,095, which `fits_v1` tests.
 pub fn encode_v1<G: Game>(alloc: Global, table: &Table<G>) -> Result<Vec<u8>, AllocError>
     requires { AreUpTo REMOTENESS_1 table.now.records }
     ensures { IfOk result (λ file. IsTierText1 G.rules table.now.tier table.now.records file.items) }

@@ -11,10 +11,11 @@ use std::alloc::Global;
 use std::fs::{self, File, Files, OpenFile};
 use std::io::ErrorKind;
 
-/// A store in a folder: docs/FORMATS.md, "Files in a folder". Tier t is the file `tier-<t>.gmt`, which is written as `tier-<t>.tmp`, synced and renamed.
-/// A file that is not there is no text. The folder is not made, and an empty path is no folder. What it holds between two calls is not promised, only the count of failures.
+/// A store in a folder: docs/FORMATS.md, "Files in a folder". Tier t is the file `tier-<t>.gmt`, which is written as `tier-<t>.tmp`, synced and renamed. Where
+/// there is no file, the tier has no text. The folder is not made, and an empty path is no folder. Only the count of failures is promised, and not what the
+/// folder holds between two calls.
 ///
-/// An intact file of another game is never written over: the write fails. What is no ordinary file is not opened.
+/// An intact file of another game is never overwritten: the write fails. What is no ordinary file is not opened.
 #[derive(Drop)]
 pub struct FolderStore {
     alloc: Global,
@@ -37,7 +38,7 @@ impl FolderStore {
         }
     }
 
-    /// Whether a write has failed since the file there is another game's.
+    /// Whether a write has failed because the file there is another game's.
     pub fn met_another(&self) -> bool {
         self.met_another
     }
@@ -123,7 +124,7 @@ fn read_file<R: Files>(rt: &R, alloc: Global, path: &str) -> Result<Option<Vec<u
     Ok(Some(text))
 }
 
-// Writes a text beside a file, and puts it in its place. After a failure nothing is left beside it, as far as that goes.
+// Writes a text beside a file, and puts it in its place. After a failure the temporary file is removed where possible.
 fn write_file<R: Files>(rt: &R, path: &str, beside: &str, bytes: &[u8]) -> Result<(), StoreError> {
     clear(rt, beside)?;
     let mut file = File::create_new(rt, beside).map_err(|_| StoreError::Failed)?;

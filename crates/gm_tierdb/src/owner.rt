@@ -8,7 +8,7 @@ use sha2::{Digest, Sha256};
 /// What the file of a tier begins with, whatever its version is.
 const MARK: &[u8] = b"GMTIER";
 
-/// Whether a text is an intact file of a tier, and of another game than these bytes are a file of. Any bytes may be given.
+/// Whether a text is an intact tier file of another game than the one whose file these bytes are. Any bytes may be given.
 pub fn is_anothers(text: &[u8], bytes: &[u8]) -> bool
     ensures { IsTrue result ↔ IsAnothers text.now bytes.now }
 {

@@ -8,7 +8,7 @@ use crate::store_error::StoreError;
 use std::alloc::Global;
 use std::io::{Read, Write};
 
-/// As many bytes are read of a text: one more than the longest file of a tier has.
+/// The most bytes that are read of a text: one more than the longest file of a tier has.
 pub const READ_LEN: usize = FILE_LEN + 1;
 
 /// How many bytes are read at a time.
@@ -37,7 +37,7 @@ pub fn read_text<R: Read>(alloc: Global, reader: &mut R) -> Result<Vec<u8>, Stor
     Ok(text)
 }
 
-/// Writes all of the bytes. After `Failed`, the one error, the writer has got a front of them. A write that takes no byte is a failure.
+/// Writes all of the bytes. `Failed` is the only error; after it the writer has a prefix of them. A write that takes no byte is a failure.
 pub fn write_text<W: Write>(writer: &mut W, bytes: &[u8]) -> Result<(), StoreError>
     ensures text { OnOk result (Appends (W.contents writer.old) (W.contents writer.new) bytes.now) }
     ensures front { OnErr result (AppendsPart (W.contents writer.old) (W.contents writer.new) bytes.now) }

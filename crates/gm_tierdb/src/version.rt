@@ -8,7 +8,7 @@ use crate::layout::MAGIC_LEN;
 /// The greatest remoteness of a record in a file of version 1.
 pub const REMOTENESS_1: u32 = 4095;
 
-/// The form of a tier file: docs/FORMATS.md, "Tier file". The two differ in their first bytes and in how a record is stored.
+/// The form of a tier file: docs/FORMATS.md, "Tier file". The two versions differ in their first bytes and in how a record is stored.
 #[derive(Clone, Copy, Debug, PartialEq, Eq)]
 pub(crate) enum Version {
     /// Records of two bytes, of remoteness at most 4,095.

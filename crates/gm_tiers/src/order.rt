@@ -34,10 +34,11 @@ impl<G: Game> Model for TierOrder<G> {
 }
 
 impl<G: Game> TierOrder<G> {
-    /// All tiers reached from the initial one by `child_tiers`, by ascending rank and then by number. There may be 1,024 of them, of 16,777,216 positions each.
+    /// All tiers reached from the initial one by `child_tiers`, by ascending rank and then by number. At most 1,024 tiers are allowed, each of at most
+    /// 16,777,216 positions.
     ///
-    /// The search comes to the initial tier, and then to the child tiers of each tier in the order in which it was found. A tier that is new is tested for its size, and then the number
-    /// of tiers is tested; the first test that fails is the answer. So what is answered is determined by the game, unless memory runs out.
+    /// The search comes to the initial tier, and then to the child tiers of each tier in the order in which it was found. For each new tier its size is tested
+    /// first, and then the number of tiers; the first test that fails determines the error. So the game determines the answer, unless memory runs out.
     pub fn from_initial(alloc: Global) -> Result<Self, TierError>
         ensures order { IfOk result (IsTierOrder G.rules) }
         ensures answer { IfOk result (λ o. (found : List ℕ) × (search_of G.rules G.rules.initial.tier ≡ Ok found) × IsPermutation found o) }
@@ -50,7 +51,8 @@ impl<G: Game> TierOrder<G> {
         TierOrder::from_tier(alloc, G::initial().tier)
     }
 
-    /// All tiers reached from this one, as `from_initial` has those reached from the initial one: what a value in this tier rests on. The tier need not be one that the game reaches.
+    /// All tiers reached from this one, itself included, in the order and with the limits of `from_initial`: the tiers on which the values of this tier rest.
+    /// The tier need not be one that the game reaches.
     pub fn from_tier(alloc: Global, first: u64) -> Result<Self, TierError>
         ensures order { IfOk result (IsOrderFrom G.rules first) }
         ensures answer { IfOk result (λ o. (found : List ℕ) × (search_of G.rules first ≡ Ok found) × IsPermutation found o) }

@@ -34,7 +34,7 @@ pub(crate) fn search<G: Game>(alloc: Global, first: u64) -> Result<IndexSet<u64>
     Ok(found)
 }
 
-// Finds the child tiers of a tier that is found.
+// Finds the child tiers of a tier that was found.
 fn find_children<G: Game>(found: &mut IndexSet<u64>, first: u64, tier: u64) -> Result<(), TierError>
     requires within { AreWithin G.rules first found.old.keys }
     requires there { Contains found.old.keys tier }
@@ -53,7 +53,7 @@ fn find_children<G: Game>(found: &mut IndexSet<u64>, first: u64, tier: u64) -> R
     Ok(())
 }
 
-// Finds a tier. One that is new is tested for its size, and then there must be room for it.
+// Adds a tier, unless it is there. A new tier is tested for its size, and then there must be room for it.
 fn find<G: Game>(found: &mut IndexSet<u64>, first: u64, tier: u64) -> Result<(), TierError>
     requires within { AreWithin G.rules first found.old.keys }
     requires next { IsNext G.rules first found.old.keys tier }

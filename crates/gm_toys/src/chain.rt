@@ -15,7 +15,7 @@ use gm_game::shown::{Line, Shown};
 /// How many may be taken at a time.
 const MOST: u32 = 1;
 
-/// Goes down from `N` by one, so that each position is one move further from the end; who is to move at zero has lost. The rules are in docs/GAMES.md.
+/// Goes down from `N` by one, so that each position is one move further from the end; the player to move at zero has lost. The rules are in docs/GAMES.md.
 #[derive(Drop)]
 pub struct Chain<const N: u32>;
 

@@ -15,7 +15,7 @@ use gm_game::shown::{Line, Shown};
 /// How many may be taken at a time.
 const MOST: u32 = 2;
 
-/// Counts down from `N` by one or two; who is to move at zero has lost. The rules are in docs/GAMES.md.
+/// Counts down from `N` by one or two; the player to move at zero has lost. The rules are in docs/GAMES.md.
 #[derive(Drop)]
 pub struct Countdown<const N: u32>;
 

@@ -15,7 +15,7 @@ use gm_game::shown::{Line, Shown};
 /// How many tiers a move goes down.
 const STEP: u32 = 1;
 
-/// Goes down from tier `N`, one tier a move; who is to move at tier 0 has lost. The rules are in docs/GAMES.md.
+/// Goes down from tier `N`, one tier a move; the player to move at tier 0 has lost. The rules are in docs/GAMES.md.
 #[derive(Drop)]
 pub struct Stairs<const N: u32>;
 

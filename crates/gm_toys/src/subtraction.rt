@@ -1,4 +1,4 @@
-//! What subtraction games share: a number goes down, and texts are decimal numbers.
+//! What subtraction games share: each move lowers a number, and texts are decimal numbers.
 ghost use Rattle.std.specs.Prelude.{◌≡◌, ◌↔◌, ℕ, ◌≤◌, Some, IsTrue};
 ghost use Rattle.std.specs.List.{Contains};
 ghost use Rattle.std.specs.Fmt.{decimal};
@@ -9,7 +9,7 @@ use gm_game::limits::{MOVES, PARENTS};
 use gm_game::shown::Line;
 use gm_game::text::{push_decimal, read_decimal};
 
-/// The moves at a number: 1 up to `most`, as far as they do not go below zero.
+/// The moves at a number: 1 up to `most`, but at most the number itself.
 pub fn moves_down(most: u32, index: u64) -> ArrayVec<u32, MOVES>
     requires { most ≤ MOVES }
     ensures { result.items ≡ moves_down most index }
@@ -55,7 +55,7 @@ pub fn read_number(last: u64, text: &[u8]) -> Option<u64>
     }
 }
 
-// Whether so much may be taken from a number.
+// Whether this much may be taken from a number.
 fn is_step(most: u32, index: u64, taken: u64) -> bool
     ensures { IsTrue result ↔ ((1 ≤ taken) × (taken ≤ index) × (taken ≤ most)) }
 {

@@ -41,7 +41,7 @@ fn targets(index: u64) -> &'static [u32]
     }
 }
 
-// The numbers that a move to this one leads from.
+// The numbers from which a move leads to this one.
 fn sources(index: u64) -> &'static [u64]
     ensures value { result.now ≡ wheel_sources index }
     ensures few { length result.now ≤ 3 }

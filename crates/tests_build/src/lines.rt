@@ -76,7 +76,7 @@ fn a_countdown_stops_with_the_replies(rt: HostRuntime) -> Result<(), Fail> {
 fn a_lost_countdown_can_be_lost(rt: HostRuntime) -> Result<(), Fail> {
     let mut store = MemStore::new(rt.alloc());
     let game: Built<Countdown<10>> = built(&rt, rt.alloc(), &mut store)?;
-    // From 3 the computer takes 1, as both moves lose in as many, and the reply takes the last 2.
+    // From 3 the computer takes 1, as both moves lose in the same number of moves, and the reply takes the last 2.
     let lost = line_from(&game, 3, Side::Computer, &[2]);
     assert_eq!(rt; lost, come_to(0, Side::Computer, 2));
     // A reply of 1 lets it win.

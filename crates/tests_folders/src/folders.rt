@@ -98,7 +98,7 @@ fn an_old_file_is_told_and_migrated(rt: HostRuntime) -> Result<(), Fail> {
     write_old::<Countdown<10>, _>(&rt, new, old)?;
     let told = Outcome(REFUSED, b"tier 0 bad: old version\n", b"");
     assert!(rt; has_outcome(&rt, &["check", "countdown", old], b"", told)?);
-    // A query behind the folder migrates it.
+    // A query over the folder migrates it.
     let query: [&str; 5] = ["query", "countdown", "9", "--folder", old];
     assert!(rt; has_outcome(&rt, &query, b"", Outcome(DONE, b"lose in 6\n", b""))?);
     let right = Outcome(DONE, b"tier 0 ok\n", b"");

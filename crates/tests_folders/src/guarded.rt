@@ -17,7 +17,7 @@ fn another_games_file_stays(rt: HostRuntime) -> Result<(), Fail> {
     assert!(rt; has_outcome(&rt, &query, b"", another)?);
     let check: [&str; 3] = ["check", "countdown", folder];
     assert!(rt; has_outcome(&rt, &check, b"", Outcome(DONE, b"tier 0 ok\n", b""))?);
-    // What is damaged is repaired, also by another game.
+    // A damaged file is replaced, even by another game.
     fs::write(&rt, "program_another/tier-0.gmt", b"GMTIER")?;
     assert!(rt; has_outcome(&rt, &query, b"", Outcome(DONE, b"draw\n", b""))?);
     fs::remove_dir_all(&rt, folder)?;

@@ -46,7 +46,7 @@ impl Clock for NoClock {
     }
 }
 
-// An output that takes so many calls, and counts them all and those that were a line each.
+// An output that accepts this many calls, and counts all calls and those that wrote one line each.
 #[derive(Drop)]
 struct Counting {
     calls: u64,
@@ -71,7 +71,7 @@ impl Write for Counting {
     }
 }
 
-// Delivers so many pairs, each at the next level of wins and losses.
+// Delivers this many pairs, each at the next level of wins and losses.
 fn deliver<R: Wait, C: Clock + Sync, E: Write + Send>(
     rt: &R,
     progress: &Progress<'_, C, E>,
@@ -160,7 +160,7 @@ fn told<R: Threads + Wait + Clock + Files + Sync + AllocGlobal>(
     }
 }
 
-// Whether what is told begins with this line, and each line is one of these tiers.
+// Whether the progress begins with this line, and each line is about one of these tiers.
 fn is_told(errors: &[u8], first: &str, tiers: &str) -> Result<bool, Fail> {
     let text = from_utf8(errors)?;
     let each = text.lines().all(|line| {

@@ -17,7 +17,7 @@ const WORKERS: [usize; 3] = [1, 2, 16];
 
 const SHARDS: [usize; 3] = [1, 2, 4];
 
-// Whether each tier of a game, child tiers first, is the same by so many workers, for each number of shards.
+// Whether each tier of a game, child tiers first, is the same by this many workers, for each number of shards.
 fn are_same<G: Game + Send + Sync, R: Threads + Wait + Sync + AllocGlobal>(
     rt: &R,
     workers: usize,

@@ -26,7 +26,7 @@ pub fn solve_tiers<G: Game>(alloc: Global, tiers: &[u64]) -> Result<Option<Table
     Ok(Some(tables))
 }
 
-// Whether a solved value is what looking as many moves ahead says, where it says something; where it says nothing the game is no win or loss within as many moves.
+// Whether a solved value is what looking this many moves ahead finds; where that finds nothing, the position must be no win or loss within this many moves.
 fn fits(known: Option<Solved>, moves: u32, solved: Solved) -> bool {
     match known {
         Some(known) => known == solved,
@@ -64,10 +64,11 @@ pub fn agrees<G: Game>(tables: &Tables<G>, tier: u64) -> bool {
     true
 }
 
-/// How far apart the indexes are from which on a large tier is looked at.
+/// The distance between the indexes at which a large tier is sampled.
 const APART: u64 = 900;
 
-/// Whether for every 900th index of a tier from 0 on the first canonical legal position at or after it is held with a value that agrees with looking as many moves ahead.
+/// Whether, for every 900th index of a tier from 0 on, the first canonical legal position at or after it is held with a value that agrees with looking this
+/// many moves ahead.
 pub fn agrees_at_some<G: Game>(tables: &Tables<G>, tier: u64, moves: u32) -> bool {
     let mut is_due = false;
     for index in 0..G::tier_size(tier) {

@@ -36,7 +36,7 @@ fn lower_tiers<G: Game + Send + Sync, R: Threads + Wait + Sync + AllocGlobal>(
     Ok(tables)
 }
 
-// Whether each canonical position of the tiers of so few counters has the value that looking as many moves ahead finds.
+// Whether each canonical position of these low tiers has the value that looking that many moves ahead finds.
 fn are_known<G: Game>(tables: &Tables<G>, counters: u32) -> bool {
     for tier in 0..=u64::from(counters) {
         for index in 0..G::tier_size(tier) {

@@ -26,7 +26,7 @@ impl<'a> Read for SlowReader<'a> {
     }
 }
 
-/// A reader of so many bytes `a`.
+/// A reader of this many bytes `a`.
 #[derive(Drop)]
 pub(crate) struct LongLine {
     pub(crate) left: u32,

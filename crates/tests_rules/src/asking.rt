@@ -76,7 +76,7 @@ pub fn counts<G: Game>(tier: u64) -> (u64, u64, u64) {
     (size, legal, canonical)
 }
 
-/// What looking so many moves ahead says of a board.
+/// What looking this many moves ahead finds for a board.
 pub fn ahead<G: Shown>(text: &[u8], moves: u32) -> Option<Solved> {
     match G::read(text) {
         Some(p) => within::<G>(p, moves),

@@ -8,7 +8,7 @@ use gm_tactix::tactix::TacTix;
 use gm_toys::countdown::Countdown;
 use gm_toys::wheel::Wheel;
 
-// Whether the position with this text is drawn so, with this side to move.
+// Whether the position with this text has this drawing and this side to move.
 fn draws<G: Drawn>(text: &[u8], drawing: &[u8], mover: &[u8]) -> bool {
     drawings::<G>();
     match G::read(text) {

@@ -37,7 +37,7 @@ impl Read for SlowReader {
     }
 }
 
-// A writer that takes a byte at a time, and fails where it has so many.
+// A writer that takes a byte at a time, and fails once it has this many.
 #[derive(Drop)]
 struct SlowWriter {
     got: Vec<u8>,
@@ -60,7 +60,7 @@ impl Write for SlowWriter {
     }
 }
 
-// The session with a reader and a writer that fail at these bytes: whether it ends so, with the beginning of its text written.
+// The session with a reader and a writer that fail at these bytes: whether it ends in this way, with a prefix of its text written.
 fn ends<R: Threads + Wait + Clock + Files + Sync + AllocGlobal>(
     rt: &R,
     read: usize,

@@ -17,7 +17,7 @@ use std::sync::atomic::Ordering;
 use std::test::Fail;
 use std::thread::Threads;
 
-/// What Countdown from 10 shows where the coordinator did so many of its deliveries.
+/// What Countdown from 10 shows where the coordinator made this many of its deliveries.
 pub fn ten(by_hand: u64) -> Option<Shown> {
     let top = Solved {
         value: Value::Win,
@@ -26,7 +26,7 @@ pub fn ten(by_hand: u64) -> Option<Shown> {
     as_alone(top, 19, by_hand)
 }
 
-// Countdown from 10 by two workers and two shards, with so many notes a piece.
+// Countdown from 10 by two workers and two shards, with this many notes in a piece.
 fn ten_by<R: Threads + Wait + Sync + AllocGlobal, T: Gate, S: Source>(
     rt: &R,
     way: Way,
@@ -95,7 +95,7 @@ pub fn slow<R: Threads + Wait + Sync + AllocGlobal + Abort>(rt: &R, way: Way) ->
     Ok(())
 }
 
-/// A gate that counts, with so many notes a piece.
+/// A gate that counts, with this many notes in a piece.
 pub fn counted<R: Threads + Wait + Sync + AllocGlobal + Abort>(
     rt: &R,
     way: Way,
@@ -144,7 +144,8 @@ fn lower_stairs<R: Threads + Wait + Sync + AllocGlobal + Abort>(
     Ok(tables)
 }
 
-/// The last tier of Stairs from 3, of one delivery, by a source that hands out each piece twice: how many levels are begun, of how many pieces the source is told, and how often it is asked.
+/// The last tier of Stairs from 3, of one delivery, by a source that hands out each piece twice: how many levels are begun, how many pieces the source is told
+/// of, and how often it is asked.
 pub fn asked_on_stairs<R: Threads + Wait + Sync + AllocGlobal + Abort>(
     rt: &R,
     way: Way,

@@ -59,7 +59,7 @@ fn refusal(alloc: Global, bytes: &[u8]) -> Option<FileError> {
     decode::<Game>(alloc, 0, bytes).err()
 }
 
-// The file with the bytes from `at` on changed, and with its digest made anew.
+// The file with the bytes from `at` on changed, and with a fresh digest.
 fn with_bytes(alloc: Global, at: usize, bytes: &[u8]) -> Result<Vec<u8>, AllocError> {
     let mut file = Vec::new(alloc);
     for (index, byte) in FRONT.iter().enumerate() {
@@ -148,7 +148,7 @@ fn each_changed_byte_is_found(rt: HostRuntime) -> Result<(), Fail> {
             8..=23 => FileError::WrongGame,
             24..=31 => FileError::WrongTier,
             32..=39 => FileError::WrongSize,
-            // The highest byte of a record makes its code one that there is not.
+            // Changing the highest byte of a record makes its code one that no record has.
             40..=83 if at % 4 == 3 => FileError::BadRecord {
                 index: (at as u64 - 40) / 4,
             },

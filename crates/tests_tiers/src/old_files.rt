@@ -85,7 +85,7 @@ fn old_files_that_are_cut_or_changed(rt: HostRuntime) -> Result<(), Fail> {
             _ => FileError::BadDigest,
         };
         assert_eq!(rt; refusal(rt.alloc(), file.as_slice()), Some(why), "at {at}");
-        // Read as a file of today, it is old whatever stands behind its first bytes.
+        // Read as a file of version 2, it is refused as old, whatever follows its first bytes.
         let today = decode::<Game>(rt.alloc(), 0, file.as_slice()).err();
         let why = if at < 8 {
             FileError::BadMagic

@@ -14,7 +14,7 @@ pub fn has_moves<G: Game>(p: Position, moves: &[u32]) -> bool {
     G::is_legal(p) && G::moves(p).as_slice() == moves
 }
 
-/// Whether a position is legal, and ends the game so or not at all.
+/// Whether a position is legal, and ends the game in this way or not at all.
 pub fn ends<G: Game>(p: Position, end: Option<End>) -> bool {
     G::is_legal(p) && G::primitive(p) == end
 }
