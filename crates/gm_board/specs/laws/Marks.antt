@@ -1,5 +1,5 @@
--- Marks: the mask of the cells at which a text has a byte, read one cell after the other.
-use Rattle.std.proofs.Common.{◌≡◌, ◌≢◌, ℕ, ◌+◌, ◌*◌, ◌%◌, ◌^◌, ◌<◌, w32, Bool, true, false, ◌&&◌, eqb, ltb, lt-ltb, List, get_or, sym, ap, ap₂, ◌∙◌, arith, inl, inr, eqb-true, eq-eqb}
+-- Texts that have a byte for each cell: they tell boards apart. And marks: the mask of the cells at which a text has a byte, read one cell after the other.
+use Rattle.std.proofs.Common.{◌≡◌, ◌≢◌, ℕ, ◌+◌, ◌*◌, ◌%◌, ◌^◌, ◌<◌, w32, Bool, true, false, ◌&&◌, eqb, ltb, lt-ltb, List, [], ◌∷◌, map, get_or, refl, sym, ap, ap₂, ◌∙◌, arith, inl, inr, eqb-true, eq-eqb}
 use Rattle.std.specs.Prelude.{bit_and, bit_or}
 use Rattle.std.specs.Int.{bit_at}
 use Rattle.std.proofs.lemmas.Bool.{cases_eq, le-ltb}
@@ -9,6 +9,16 @@ use Rattle.gm_board.specs.Lists.{and_left, and_right}
 use Rattle.gm_board.specs.Masks.{has_cell}
 use Rattle.gm_board.specs.laws.MaskChanges.{has_and, has_none}
 
+-- ---- boards and their bytes
+map_back : {X Y : Type 0} (f : X → Y) (g : Y → X) → ((x : X) → g (f x) ≡ x) → (xs : List X) → map g (map f xs) ≡ xs
+map_back f g h [] = refl
+map_back f g h (x ∷ xs) = ap₂ (λ (y : _) (ys : List _). y ∷ ys) (h x) (map_back f g h xs)
+
+-- where a byte tells its cell, a text tells its board
+pub map_once : {X Y : Type 0} (f : X → Y) (g : Y → X) → ((x : X) → g (f x) ≡ x) → (xs ys : List X) → map f xs ≡ map f ys → xs ≡ ys
+map_once f g h xs ys e = sym (map_back f g h xs) ∙ ap (map g) e ∙ map_back f g h ys
+
+-- ---- marks
 -- a mark at each cell below n that has the byte
 abbrev pub IsRead : List ℕ → ℕ → ℕ → ℕ → Type 0
 IsRead text byte n marks = (k : ℕ) → has_cell marks k ≡ (ltb k n && eqb (get_or text k 0) byte)
