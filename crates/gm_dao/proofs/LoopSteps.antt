@@ -24,7 +24,7 @@ use Rattle.gm_dao.specs.DaoRules.{in_line, path, beyond, can_move, was_moved, le
 use Rattle.gm_dao.specs.MaskSlides.{slides_by_masks, AreMovesBelow, AreBeforesBelow}
 use Rattle.gm_dao.specs.laws.MoveFacts.{move_slide, line_below}
 use Rattle.gm_dao.specs.laws.BeforeFacts.{was_in}
-use Rattle.gm_sides.proofs.MaskFacts.{own_cells, their_cells}
+use Rattle.gm_sides.specs.laws.MaskFacts.{own_cells, their_cells}
 use Rattle.gm_dao.proofs.MoveSteps.{slides_by, move_by}
 
 filter_skip : (p : ℕ → Bool) (n k : ℕ) → ((i : ℕ) → i < k → p (n + i) ≡ false) → filter p (range_with_len 0 (n + k)) ≡ filter p (range_with_len 0 n)

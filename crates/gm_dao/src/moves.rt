@@ -22,6 +22,7 @@ pub const PIECES: u32 = 4;
 pub const NUMBERS: u32 = 256;
 
 /// Whether the mover has a formation.
+#[tactic(auto, using(crate::proofs::MoveSteps::own_formation))]
 pub fn has_own_formation(board: Board) -> bool
     ensures { result ≡ has_formation_of is_mine (board_of 16 board.mine board.theirs) }
 {
@@ -29,6 +30,7 @@ pub fn has_own_formation(board: Board) -> bool
 }
 
 /// Whether the opponent has a formation.
+#[tactic(auto, using(crate::proofs::MoveSteps::their_formation))]
 pub fn has_their_formation(board: Board) -> bool
     ensures { result ≡ has_formation_of is_theirs (board_of 16 board.mine board.theirs) }
 {
@@ -36,6 +38,7 @@ pub fn has_their_formation(board: Board) -> bool
 }
 
 /// Whether a piece of the mover's is trapped in a corner.
+#[tactic(auto, using(crate::proofs::MoveSteps::trapped_is))]
 pub fn is_trapped(board: Board) -> bool
     ensures { result ≡ has_trapped_of (board_of 16 board.mine board.theirs) }
 {

@@ -11,6 +11,7 @@ use crate::variant::Variant;
 use gm_game::position::End;
 
 /// Whether the mover has a line.
+#[tactic(auto, using(crate::proofs::MoveSteps::own_line))]
 pub fn has_own_line(variant: Variant, board: Board) -> bool
     ensures { result ≡ has_line_of variant is_mine (board_of 9 board.mine board.theirs) }
 {
@@ -18,6 +19,7 @@ pub fn has_own_line(variant: Variant, board: Board) -> bool
 }
 
 /// Whether the opponent has a line.
+#[tactic(auto, using(crate::proofs::MoveSteps::their_line))]
 pub fn has_their_line(variant: Variant, board: Board) -> bool
     ensures { result ≡ has_line_of variant is_theirs_cell (board_of 9 board.mine board.theirs) }
 {

@@ -21,7 +21,7 @@ pub fn pieces(board: Board) -> u64
 }
 
 /// How many indexes a tier has: 0 past the last one.
-#[tactic(auto, unfolding(crate::specs::Morris::size_of))]
+#[tactic(auto, using(crate::proofs::MoveSteps::sizes_are), unfolding(crate::specs::Morris::size_of))]
 pub fn tier_size(variant: Variant, tier: u64) -> u64
     ensures { result ≡ size_of variant tier }
 {

@@ -3,3 +3,4 @@ pub mod CellFacts
 pub mod MoveFacts
 pub mod NumberFacts
 pub mod TextFacts
+pub mod MaskFacts

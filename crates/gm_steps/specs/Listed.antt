@@ -65,10 +65,6 @@ pub nil_or : {X : Type 0} (xs : List X) → ((x : X) → Contains xs x → ⊥) 
 nil_or [] h = refl
 nil_or (x ∷ xs) h = absurd (h x (contains_head x xs))
 
--- a list with an element
-pub not_nil : {X : Type 0} (xs : List X) (x : X) → Contains xs x → xs ≢ []
-not_nil xs x c e = let d = subst (λ (ys : List _). Contains ys x) e c in absurd (omega (arith, d.1))
-
 -- ---- one number at a time
 filter_one : (p : ℕ → Bool) (n : ℕ) → filter p (range_with_len 0 (n + 1)) ≡ filter p (range_with_len 0 n) ++ filter p (n ∷ [])
 filter_one p n = ap (filter p) (range_more n) ∙ filter-append p (range_with_len 0 n) (n ∷ [])
@@ -81,42 +77,39 @@ filter_in p n e = filter_one p n ∙ rw e refl
 pub filter_out : (p : ℕ → Bool) (n : ℕ) → p n ≡ false → filter p (range_with_len 0 (n + 1)) ≡ filter p (range_with_len 0 n)
 filter_out p n e = filter_one p n ∙ rw e (append-nil (filter p (range_with_len 0 n)))
 
-filter_prefix : (p : ℕ → Bool) (n k : ℕ) → length (filter p (range_with_len 0 n)) ≤ length (filter p (range_with_len 0 (n + k)))
-filter_prefix p n zero = let e : n + 0 ≡ n = omega arith in rw e (omega arith)
-filter_prefix p n (suc k) =
-    let e : n + suc k ≡ n + k + 1 = omega arith in
-    let l = ap (λ (xs : List ℕ). length xs) (filter_one p (n + k)) ∙ length-append (filter p (range_with_len 0 (n + k))) (filter p ((n + k) ∷ [])) in
-    rw e (omega (arith, l, filter_prefix p n k))
+-- ---- room for one more
+one_more : (p : ℕ → Bool) (n : ℕ) → length (filter p (range_with_len 0 (n + 1))) ≡ length (filter p (range_with_len 0 n)) + length (filter p (n ∷ []))
+one_more p n = ap (λ (xs : List ℕ). length xs) (filter_one p n) ∙ length-append (filter p (range_with_len 0 n)) (filter p (n ∷ []))
 
-filter_map_prefix : {B : Type 0} (h : ℕ → Option B) (n k : ℕ) → length (filter_map h (range_with_len 0 n)) ≤ length (filter_map h (range_with_len 0 (n + k)))
-filter_map_prefix h n zero = let e : n + 0 ≡ n = omega arith in rw e (omega arith)
-filter_map_prefix h n (suc k) =
-    let e : n + suc k ≡ n + k + 1 = omega arith in
-    let l = ap (λ (xs : List _). length xs) (ap (filter_map h) (range_more (n + k)) ∙ filter_map-append h (range_with_len 0 (n + k)) ((n + k) ∷ [])) ∙ length-append (filter_map h (range_with_len 0 (n + k))) (filter_map h ((n + k) ∷ [])) in
-    rw e (omega (arith, l, filter_map_prefix h n k))
+one_more_map : {B : Type 0} (h : ℕ → Option B) (n : ℕ) → length (filter_map h (range_with_len 0 (n + 1))) ≡ length (filter_map h (range_with_len 0 n)) + length (filter_map h (n ∷ []))
+one_more_map h n =
+    ap (λ (xs : List _). length xs) (ap (filter_map h) (range_more n) ∙ filter_map-append h (range_with_len 0 n) (n ∷ []))
+    ∙ length-append (filter_map h (range_with_len 0 n)) (filter_map h (n ∷ []))
+
+grows : (f : ℕ → ℕ) → ((k : ℕ) → f k ≤ f (k + 1)) → (n k : ℕ) → f n ≤ f (n + k)
+grows f h n zero = let e : n + 0 ≡ n = omega arith in rw e (omega arith)
+grows f h n (suc k) = let e : n + suc k ≡ n + k + 1 = omega arith in rw e (omega (arith, h (n + k), grows f h n k))
+
+room : (f : ℕ → ℕ) → ((k : ℕ) → f k ≤ f (k + 1)) → (n m : ℕ) → f n ≤ 128 → m < n → f (m + 1) ≡ f m + 1 → f m < 128
+room f h n m all l e =
+    let rest : m + 1 + (n - (m + 1)) ≡ n = omega arith in
+    let up : f (m + 1) ≤ f n = subst (λ (k : ℕ). f (m + 1) ≤ f k) rest (grows f h (m + 1) (n - (m + 1))) in
+    omega (arith, up, all, e)
 
 -- there is room for each number that is kept, where they are at most 128
 pub filter_room : (p : ℕ → Bool) (n m : ℕ) (xs : List ℕ) → length (filter p (range_with_len 0 n)) ≤ 128 → m < n → p m ≡ true → xs ≡ filter p (range_with_len 0 m) → length xs < 128
 filter_room p n m xs all l e is =
-    let rest : m + 1 + (n - (m + 1)) ≡ n = omega arith in
-    let prefix : length (filter p (range_with_len 0 (m + 1))) ≤ length (filter p (range_with_len 0 n)) =
-    subst (λ (k : ℕ). length (filter p (range_with_len 0 (m + 1))) ≤ length (filter p (range_with_len 0 k))) rest (filter_prefix p (m + 1) (n - (m + 1))) in
-    let one : length (filter p (range_with_len 0 (m + 1))) ≡ length (filter p (range_with_len 0 m)) + 1 =
-    ap (λ (ys : List ℕ). length ys) (filter_in p m e) ∙ length-append (filter p (range_with_len 0 m)) (m ∷ []) in
-    let same : length xs ≡ length (filter p (range_with_len 0 m)) = ap (λ (ys : List ℕ). length ys) is in
-    omega arith
+    let last : length (filter p (m ∷ [])) ≡ 1 = rw e refl in
+    subst (λ (ys : List ℕ). length ys < 128) (sym is)
+    (room (λ k. length (filter p (range_with_len 0 k))) (λ k. let s = one_more p k in omega (arith, s)) n m all l (let s = one_more p m in omega (arith, s, last)))
 
 -- there is room for each index that is put into a list, where at most 128 are put
 pub put_room : {B : Type 0} (h : ℕ → Option B) (f : B → ℕ) (n m : ℕ) (a : B) (xs : List ℕ) → length (filter_map h (range_with_len 0 n)) ≤ 128 → m < n → h m ≡ Some a
     → xs ≡ put_all [] (map f (filter_map h (range_with_len 0 m))) → length xs < 128
 put_room h f n m a xs all l e is =
-    let rest : m + 1 + (n - (m + 1)) ≡ n = omega arith in
-    let prefix : length (filter_map h (range_with_len 0 (m + 1))) ≤ length (filter_map h (range_with_len 0 n)) =
-    subst (λ (k : ℕ). length (filter_map h (range_with_len 0 (m + 1))) ≤ length (filter_map h (range_with_len 0 k))) rest (filter_map_prefix h (m + 1) (n - (m + 1))) in
     let last : length (filter_map h (m ∷ [])) ≡ 1 = rw e refl in
-    let one : length (filter_map h (range_with_len 0 (m + 1))) ≡ length (filter_map h (range_with_len 0 m)) + length (filter_map h (m ∷ [])) =
-    ap (λ (ys : List _). length ys) (ap (filter_map h) (range_more m) ∙ filter_map-append h (range_with_len 0 m) (m ∷ [])) ∙ length-append (filter_map h (range_with_len 0 m)) (filter_map h (m ∷ [])) in
-    let few : length (put_all [] (map f (filter_map h (range_with_len 0 m)))) ≤ 0 + length (map f (filter_map h (range_with_len 0 m))) = put_all_few [] (map f (filter_map h (range_with_len 0 m))) in
-    let long : length (map f (filter_map h (range_with_len 0 m))) ≡ length (filter_map h (range_with_len 0 m)) = length-map (filter_map h (range_with_len 0 m)) f in
-    let same : length xs ≡ length (put_all [] (map f (filter_map h (range_with_len 0 m)))) = ap (λ (ys : List ℕ). length ys) is in
-    omega arith
+    let put = map f (filter_map h (range_with_len 0 m)) in
+    let few = put_all_few [] put in
+    let long = length-map (filter_map h (range_with_len 0 m)) f in
+    let less = room (λ k. length (filter_map h (range_with_len 0 k))) (λ k. let s = one_more_map h k in omega (arith, s)) n m all l (let s = one_more_map h m in omega (arith, s, last)) in
+    subst (λ (ys : List ℕ). length ys < 128) (sym is) (omega (arith, few, long, less))

@@ -1,18 +1,18 @@
 -- Boards of counters against masks: what the code's steps on masks say of boards.
-use Rattle.std.proofs.Common.{◌≡◌, ℕ, zero, suc, ◌+◌, ◌-◌, ◌*◌, ◌^◌, ◌<◌, ◌≤◌, min, max, w32, Bool, true, false, not, ◌&&◌, ◌||◌, eqb, List, [], ◌∷◌, map, reverse, length, refl, sym, ap, ap₂, ◌∙◌, subst, arith, inl, inr, zero-add, eq-eqb}
+use Rattle.std.proofs.Common.{◌≡◌, ℕ, zero, suc, ◌+◌, ◌*◌, ◌^◌, ◌<◌, ◌≤◌, Bool, true, false, not, ◌&&◌, ◌||◌, eqb, List, [], ◌∷◌, map, reverse, length, refl, sym, ap, ap₂, ◌∙◌, subst, arith, inl, inr, zero-add, eq-eqb}
 use Rattle.std.specs.Prelude.{bit_and, bit_or, count_ones, ◌↔◌}
-use Rattle.std.specs.Int.{bit_at, bit_not}
+use Rattle.std.specs.Int.{bit_at}
 use Rattle.std.specs.List.{Contains, list_all, range_with_len}
 use Rattle.std.proofs.lemmas.Bool.{cases_eq, ne_eqb, not-true, true≢false}
 use Rattle.std.proofs.lemmas.List.{reverse-append, reverse-reverse}
 use Rattle.std.proofs.lemmas.List.FromFn.{length-map-range_with_len, get_or-map-range_with_len, map-range_with_len_more}
-use Rattle.std.proofs.lemmas.Nat.Bits.{bit_at-lt, bit_at-zero, bit_at_and, bit_at_or, bit_at-pow_same, bit_at-pow_other, bit_at_not, same_from_bits}
-use Rattle.gm_board.specs.Lists.{contains_head, contains_later}
+use Rattle.std.proofs.lemmas.Nat.Bits.{bit_at-zero, bit_at-pow_same, bit_at-pow_other}
 use Rattle.gm_board.specs.Ranks.{members, rank}
 use Rattle.gm_board.specs.Masks.{has_cell, tests_of, mask_rank, mask_unrank, tests_none, tests_more, members_small, mask_rank_at, tests_unrank}
 use Rattle.gm_board.specs.Permutations.{permute, all_at, IsPermutationOf}
 use Rattle.gm_board.specs.Images.{image_mask, image_tests}
 use Rattle.gm_board.specs.BoardMasks.{pattern_mask, pattern_filled}
+use Rattle.gm_board.specs.laws.MaskChanges.{has_or, has_and, has_none, same_all}
 use Rattle.gm_tactix.specs.Board.{has_counter, is_full, is_free, is_among, without, with_counters, counters_index, counters_at}
 use Rattle.gm_tactix.specs.SegmentFacts.{among_in, among_from}
 use Rattle.gm_tactix.specs.CounterFacts.{same_board, all_cells, length_without, length_with, without_at, with_at, members_reverse}
@@ -63,47 +63,7 @@ pub counters_permute : (n : ℕ) (g : List ℕ) (mask : ℕ) → IsPermutationOf
 unfolding counters_of
 counters_permute n g mask p = image_tests n g mask p
 
--- ---- tests of bits
-or_bits : (x y : ℕ) → x < 2 → y < 2 → eqb (max x y) 1 ≡ (eqb x 1 || eqb y 1)
-or_bits zero zero l m = refl
-or_bits zero (suc zero) l m = refl
-or_bits zero (suc (suc y)) l m = absurd (omega arith)
-or_bits (suc zero) zero l m = refl
-or_bits (suc zero) (suc zero) l m = refl
-or_bits (suc zero) (suc (suc y)) l m = absurd (omega arith)
-or_bits (suc (suc x)) y l m = absurd (omega arith)
-
-and_bits : (x y : ℕ) → x < 2 → y < 2 → eqb (min x y) 1 ≡ (eqb x 1 && eqb y 1)
-and_bits zero zero l m = refl
-and_bits zero (suc zero) l m = refl
-and_bits zero (suc (suc y)) l m = absurd (omega arith)
-and_bits (suc zero) zero l m = refl
-and_bits (suc zero) (suc zero) l m = refl
-and_bits (suc zero) (suc (suc y)) l m = absurd (omega arith)
-and_bits (suc (suc x)) y l m = absurd (omega arith)
-
-not_bit : (x : ℕ) → x < 2 → eqb (1 - x) 1 ≡ not (eqb x 1)
-not_bit zero l = refl
-not_bit (suc zero) l = refl
-not_bit (suc (suc x)) l = absurd (omega arith)
-
-no_bit : (x : ℕ) → x < 2 → eqb x 1 ≡ false → x ≡ 0
-no_bit zero l e = refl
-no_bit (suc zero) l e = absurd (true≢false e)
-no_bit (suc (suc x)) l e = absurd (omega arith)
-
--- the cells of either of two masks
-pub has_or : (a b k : ℕ) → has_cell (bit_or a b) k ≡ (has_cell a k || has_cell b k)
-has_or a b k = ap (λ (v : ℕ). eqb v 1) (bit_at_or a b k) ∙ or_bits (bit_at a k) (bit_at b k) (bit_at-lt a k) (bit_at-lt b k)
-
--- the cells of both
-pub has_and : (a b k : ℕ) → has_cell (bit_and a b) k ≡ (has_cell a k && has_cell b k)
-has_and a b k = ap (λ (v : ℕ). eqb v 1) (bit_at_and a b k) ∙ and_bits (bit_at a k) (bit_at b k) (bit_at-lt a k) (bit_at-lt b k)
-
--- the cells that a mask of 32 cells does not have
-pub has_not : (a k : ℕ) → a < 2 ^ 32 → k < 32 → has_cell (bit_not w32 a) k ≡ not (has_cell a k)
-has_not a k l h = ap (λ (v : ℕ). eqb v 1) (bit_at_not w32 a k l h) ∙ not_bit (bit_at a k) (bit_at-lt a k)
-
+-- ---- patterns
 -- the mask of a list of cells has each of them, and no other
 pub has_pattern : (cs : List ℕ) (k : ℕ) → has_cell (pattern_mask cs) k ≡ is_among k cs
 has_pattern [] k = ap (λ (v : ℕ). eqb v 1) (bit_at-zero k)
@@ -115,10 +75,6 @@ has_pattern (c ∷ cs) k =
       | inr n ↦ ap (λ (v : ℕ). eqb v 1) (bit_at-pow_other c k n) ∙ sym (ne_eqb c k (λ e. n (sym e)))
     ])
     (has_pattern cs k)
-
-same_all : (p q : ℕ → Bool) (cs : List ℕ) → ((k : ℕ) → Contains cs k → p k ≡ q k) → list_all p cs ≡ list_all q cs
-same_all p q [] h = refl
-same_all p q (c ∷ cs) h = ap₂ (λ (x y : Bool). x && y) (h c (contains_head c cs)) (same_all p q cs (λ k d. h k (contains_later c cs k d)))
 
 -- ---- segments and masks
 module _ (n mask : ℕ) (cs : List ℕ) (below : (k : ℕ) → Contains cs k → k < n) where
@@ -138,13 +94,11 @@ module _ (n mask : ℕ) (cs : List ℕ) (below : (k : ℕ) → Contains cs k →
         let none : (has_cell mask k && is_among k cs) ≡ false =
         ap (λ (x : Bool). has_cell mask k && x) (sym (has_pattern cs k)) ∙ sym (has_and mask (pattern_mask cs) k) ∙ ap (λ (v : ℕ). has_cell v k) e ∙ ap (λ (v : ℕ). eqb v 1) (bit_at-zero k) in
         ap not (counter_at n mask k (below k c) ∙ first_false (has_cell mask k) (is_among k cs) none (among_from k cs c))),
-    λ e. same_from_bits (bit_and mask (pattern_mask cs)) 0
-        (λ i. no_bit (bit_at (bit_and mask (pattern_mask cs)) i) (bit_at-lt (bit_and mask (pattern_mask cs)) i)
-        (has_and mask (pattern_mask cs) i
+    λ e. has_none (bit_and mask (pattern_mask cs))
+        (λ i. has_and mask (pattern_mask cs) i
         ∙ ap (λ (x : Bool). has_cell mask i && x) (has_pattern cs i)
         ∙ both_false (has_cell mask i) (is_among i cs)
-        (λ f. let c = among_in i cs f in sym (counter_at n mask i (below i c)) ∙ not-true _ (all_at (λ (k : ℕ). not (has_counter (counters_of n mask) k)) cs i e c)))
-        ∙ sym (bit_at-zero i)),
+        (λ f. let c = among_in i cs f in sym (counter_at n mask i (below i c)) ∙ not-true _ (all_at (λ (k : ℕ). not (has_counter (counters_of n mask) k)) cs i e c))),
   )
     where
       first_false : (x y : Bool) → (x && y) ≡ false → y ≡ true → x ≡ false

@@ -1,11 +1,12 @@
 -- The texts of Tac Tix fit a line, and tell positions and moves apart.
-use Rattle.std.proofs.Common.{◌≡◌, ℕ, ◌+◌, ◌-◌, ◌*◌, ◌≤◌, Bool, true, false, cond, eqb, eqb-true, List, [], ◌∷◌, ◌++◌, map, length, refl, sym, ap, ap₂, ◌∙◌, arith}
+use Rattle.std.proofs.Common.{◌≡◌, ℕ, ◌+◌, ◌-◌, ◌*◌, ◌≤◌, Bool, true, false, cond, eqb, eqb-true, List, [], ◌∷◌, ◌++◌, length, refl, sym, ap, ◌∙◌, arith}
 use Rattle.std.specs.List.{list_all}
 use Rattle.std.proofs.lemmas.Bool.{cond_both}
 use Rattle.std.proofs.lemmas.List.{length-map}
 use Rattle.gm_game.specs.Shown.{IsShown}
 use Rattle.gm_board.specs.Permutations.{all_at}
 use Rattle.gm_board.specs.Squares.{cell_text}
+use Rattle.gm_board.specs.laws.Marks.{map_once}
 use Rattle.gm_pieces.specs.MoveTexts.{AreTexts}
 use Rattle.gm_pieces.specs.TextFacts.{texts_are_shown}
 use Rattle.gm_tactix.specs.Segments.{first_cell, segment_length, is_segment, segments}
@@ -20,22 +21,15 @@ pub text_length : (b : List Bool) → length (board_text b) ≡ length b
 unfolding board_text
 text_length b = length-map b counter_text
 
-same_counter : (a b : Bool) → counter_text a ≡ counter_text b → a ≡ b
-same_counter true true e = refl
-same_counter true false e = absurd (omega arith)
-same_counter false true e = absurd (omega arith)
-same_counter false false e = refl
+-- the cell with a byte
+pub counter_back : (b : Bool) → eqb (counter_text b) 120 ≡ b
+counter_back true = refl
+counter_back false = refl
 
 -- boards with one text are one
 pub text_once : (a b : List Bool) → board_text a ≡ board_text b → a ≡ b
 unfolding board_text
-text_once [] [] e = refl
-text_once [] (y ∷ b) e = absurd (let z : ⊥ = cc in z)
-text_once (x ∷ a) [] e = absurd (let z : ⊥ = cc in z)
-text_once (x ∷ a) (y ∷ b) e =
-    let head : counter_text x ≡ counter_text y = cc in
-    let tail : map counter_text a ≡ map counter_text b = cc in
-    ap₂ (λ (c : Bool) (cs : List Bool). c ∷ cs) (same_counter x y head) (text_once a b tail)
+text_once a b e = map_once counter_text (λ (v : ℕ). eqb v 120) counter_back a b e
 
 -- ---- moves
 -- the number of the segment with this text

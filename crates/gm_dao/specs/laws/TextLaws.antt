@@ -3,7 +3,8 @@ use Rattle.std.proofs.Common.{◌≡◌, ℕ, length, refl, arith}
 use Rattle.gm_game.specs.Shown.{IsShown}
 use Rattle.gm_steps.specs.Steps.{from_point, to_point, same_step}
 use Rattle.gm_sides.specs.SideTexts.{board_text}
-use Rattle.gm_sides.specs.laws.TextFacts.{text_length, text_once, step_text_once}
+use Rattle.gm_board.specs.laws.CellTexts.{step_text_once}
+use Rattle.gm_sides.specs.laws.TextFacts.{text_length, text_once}
 use Rattle.gm_pieces.specs.MoveTexts.{AreTexts}
 use Rattle.gm_pieces.specs.TextFacts.{texts_are_shown}
 use Rattle.gm_dao.specs.DaoRules.{dao, dao_rules}

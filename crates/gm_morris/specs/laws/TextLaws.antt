@@ -4,7 +4,8 @@ use Rattle.std.proofs.lemmas.Bool.{cases_Bool, cond_both, cond-true, cond-false}
 use Rattle.gm_game.specs.Shown.{IsShown}
 use Rattle.gm_board.specs.Squares.{cell_text}
 use Rattle.gm_sides.specs.SideTexts.{board_text}
-use Rattle.gm_sides.specs.laws.TextFacts.{text_length, text_once, cell_text_once, step_text_once}
+use Rattle.gm_board.specs.laws.CellTexts.{cell_text_once, step_text_once}
+use Rattle.gm_sides.specs.laws.TextFacts.{text_length, text_once}
 use Rattle.gm_pieces.specs.MoveTexts.{AreTexts}
 use Rattle.gm_pieces.specs.TextFacts.{texts_are_shown}
 use Rattle.gm_morris.specs.declared.variant.Variant.{Variant}

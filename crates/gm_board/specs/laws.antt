@@ -1,0 +1,6 @@
+-- What follows from the definitions.
+pub mod MaskChanges
+pub mod Marks
+pub mod Turned
+pub mod CellTexts
+pub mod SquareImages
