@@ -1,5 +1,5 @@
 //! The tables of a game, in a folder or in memory.
-ghost use Rattle.std.specs.Prelude.{IfOk};
+ghost use Rattle.std.specs.Prelude.{◌<◌, IfOk};
 ghost use Rattle.gm_tiers.specs.Orders.{IsTierOrder, IsOrderFrom};
 ghost use Rattle.gm_build.specs.Work.{HoldsExactly};
 
@@ -16,6 +16,7 @@ use gm_solver::source::Counter;
 use gm_tierdb::folder_store::FolderStore;
 use gm_tierdb::mem_store::MemStore;
 use gm_tierdb::read_only::ReadOnly;
+use gm_tierdb::store::Store;
 use std::fs::Files;
 use std::io::Write;
 use std::string::String;
@@ -59,6 +60,30 @@ impl Place<'_> {
     }
 }
 
+// Builds the tiers that one tier reaches over a store that has not failed yet, and watches nothing.
+fn build_over<G: Game + Send + Sync, R: Threads + Wait + Files + Sync + AllocGlobal, S: Store>(
+    rt: &R,
+    store: &mut S,
+    first: u64,
+    plan: Plan,
+) -> Result<Built<G>, BuildError>
+    requires { S.failed store.old < u64.MAX }
+    ensures order { IfOk result (λ built. IsOrderFrom G.rules first built.order) }
+    ensures held { IfOk result (λ built. HoldsExactly built.tables built.order) }
+{
+    let alloc = rt.alloc();
+    build_from(
+        rt,
+        alloc,
+        first,
+        store,
+        plan,
+        &NoGate,
+        &Counter::new(),
+        &NoWatch,
+    )
+}
+
 /// Builds the tiers of a game that one tier reaches over a folder.
 pub fn build_in<G: Game + Send + Sync, R: Threads + Wait + Files + Sync + AllocGlobal>(
     rt: &R,
@@ -71,16 +96,7 @@ pub fn build_in<G: Game + Send + Sync, R: Threads + Wait + Files + Sync + AllocG
 {
     let alloc = rt.alloc();
     let mut store = FolderStore::new(alloc, String::from_str(alloc, folder)?);
-    match build_from(
-        rt,
-        alloc,
-        first,
-        &mut store,
-        plan,
-        &NoGate,
-        &Counter::new(),
-        &NoWatch,
-    ) {
+    match build_over(rt, &mut store, first, plan) {
         Ok(built) => Ok(built),
         Err(error) => Err(why_not(error, store.met_another())),
     }
@@ -124,17 +140,7 @@ fn build_read_only<G: Game + Send + Sync, R: Threads + Wait + Files + Sync + All
 {
     let alloc = rt.alloc();
     let folder = FolderStore::new(alloc, String::from_str(alloc, folder)?);
-    let mut store = ReadOnly::new(folder);
-    Ok(build_from(
-        rt,
-        alloc,
-        first,
-        &mut store,
-        plan,
-        &NoGate,
-        &Counter::new(),
-        &NoWatch,
-    )?)
+    Ok(build_over(rt, &mut ReadOnly::new(folder), first, plan)?)
 }
 
 fn build_in_memory<G: Game + Send + Sync, R: Threads + Wait + Files + Sync + AllocGlobal>(
@@ -145,16 +151,6 @@ fn build_in_memory<G: Game + Send + Sync, R: Threads + Wait + Files + Sync + All
     ensures order { IfOk result (λ built. IsOrderFrom G.rules first built.order) }
     ensures held { IfOk result (λ built. HoldsExactly built.tables built.order) }
 {
-    let alloc = rt.alloc();
-    let mut store = MemStore::new(alloc);
-    Ok(build_from(
-        rt,
-        alloc,
-        first,
-        &mut store,
-        plan,
-        &NoGate,
-        &Counter::new(),
-        &NoWatch,
-    )?)
+    let mut store = MemStore::new(rt.alloc());
+    Ok(build_over(rt, &mut store, first, plan)?)
 }
