@@ -1,8 +1,6 @@
 -- The hounds of a board, one point at a time.
 use Rattle.std.proofs.Common.{◌≡◌, ℕ, zero, suc, ◌+◌, ◌*◌, ◌%◌, ◌^◌, ◌<◌, ◌≤◌, Bool, true, false, if◌then◌else◌, List, [], ◌∷◌, ◌++◌, reverse, length, get_or, set, take, sym, ap, ◌∙◌, subst, arith, zero-add, map, inl, inr, length-set, get_or-set_same, get_or-set_other}
 use Rattle.std.specs.List.{range_with_len}
-use Rattle.std.proofs.Math.Nat.{mod-eq_of_lt}
-use Rattle.std.proofs.Math.Pow.{pow-lt}
 use Rattle.std.proofs.Math.Seq.{take-length}
 use Rattle.std.proofs.lemmas.Bool.{cases_eq}
 use Rattle.std.proofs.lemmas.List.{ext_get_or, take_more, length-take-le, length-reverse, reverse-append, reverse-reverse}
@@ -24,13 +22,6 @@ points_length b n l = length-reverse (take n b) ∙ length-take-le n b l
 -- all points
 pub points_all : (b : List Bool) (n : ℕ) → n ≡ length b → points_down b n ≡ reverse b
 points_all b n e = ap reverse (ap (λ (k : ℕ). take k b) e ∙ take-length b)
-
--- the bit of a point, as the code makes it
-pub one_bit : (k : ℕ) → k < 32 → 1 * 2 ^ k % 4294967296 ≡ 2 ^ k
-one_bit k l =
-    let small : 2 ^ k < 2 ^ 32 = pow-lt l in
-    let one : 1 * 2 ^ k ≡ 2 ^ k = omega arith in
-    ap (λ (v : ℕ). v % 4294967296) one ∙ mod-eq_of_lt small
 
 -- a point with a hound
 pub mask_in : (b : List Bool) (n m : ℕ) → n < length b → get_or b n false ≡ true → m ≡ mask_of (points_down b n) → m + 2 ^ n ≡ mask_of (points_down b (n + 1))

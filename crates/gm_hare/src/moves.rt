@@ -19,6 +19,7 @@ fn is_free(board: &Hunt, point: u32) -> bool
 }
 
 // Whether the side to move can go along an edge: a hound not back, the hare either way.
+#[tactic(auto, using(crate::specs::PointFacts::joined_from, crate::specs::PointFacts::joined_to))]
 fn can_go(board: &Hunt, step: Step) -> bool
     requires { are_joined_of step.from step.to ≡ true }
     ensures { result ≡ can_go_of board.now step.from step.to }
@@ -69,6 +70,7 @@ pub fn play(board: &Hunt, number: u32) -> Hunt
 }
 
 // Whether the side that has moved can have gone along an edge.
+#[tactic(auto, using(crate::specs::PointFacts::joined_from, crate::specs::PointFacts::joined_to))]
 fn can_have_gone(board: &Hunt, step: Step) -> bool
     requires { are_joined_of step.from step.to ≡ true }
     ensures { result ≡ can_have_gone_of board.now step.from step.to }

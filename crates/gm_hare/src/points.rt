@@ -50,7 +50,7 @@ pub fn are_joined(a: u32, c: u32) -> bool
 }
 
 /// Whether the second point is in the next column or in the column of the first.
-#[tactic(auto, unfolding(crate::specs::Board::is_ahead))]
+#[tactic(auto, using(crate::proofs::PointSteps::column_small), unfolding(crate::specs::Board::is_ahead))]
 pub fn is_ahead(a: u32, c: u32) -> bool
     requires from { a < 11 }
     requires to { c < 11 }

@@ -96,6 +96,7 @@ static MASKS: [[u32; 400]; 5] = [
 ];
 
 /// The mask of the cells of the segment with this number; 0 where no segment of the square has it.
+#[tactic(auto, using(crate::proofs::MaskTable::mask_at, crate::proofs::MaskTable::mask_past))]
 pub fn segment_mask(side: u32, number: u32) -> u32
     requires low { 1 ≤ side }
     requires high { side ≤ 5 }

@@ -14,7 +14,7 @@ use Rattle.gm_sides.specs.Sides.{gone, brought_back, cell_at, WasStep, is_theirs
 use Rattle.gm_morris.specs.Morris.{mine, theirs, numbers_end, play, was_moved, taken_back, morris}
 use Rattle.gm_board.specs.laws.Turned.{turned_cell, turned_twice}
 use Rattle.gm_sides.specs.laws.CellFacts.{their_cell, empty_cell}
-use Rattle.gm_sides.specs.laws.MoveFacts.{placed_and_back, back_and_placed, gone_again, back_again}
+use Rattle.gm_sides.specs.laws.MoveFacts.{set_and_back, gone_again, back_again}
 use Rattle.gm_morris.specs.laws.MoveFacts.{IsSlide, IsPlacement, step_cases, slide_is_step, is_number, numbers_few}
 use Rattle.gm_morris.specs.laws.PlayFacts.{slide_played, placement_played}
 
@@ -72,7 +72,7 @@ placement_redone v t d m h tier =
     placement_played v (taken_back v t d m) m (λ q. h.other (sym tier ∙ q))
     ∙ ap (map turned) (
     ap (λ (x : List Cell). set x m Mine) (back_placement v t d m h.other)
-    ∙ back_and_placed (map turned d) m (turned_cell d m Theirs h.there))
+    ∙ set_and_back (map turned d) m Mine Empty (turned_cell d m Theirs h.there))
     ∙ turned_twice d
 
 -- a move taken back, made again
@@ -101,7 +101,7 @@ placement_undone v b m n h =
       },
       back_placement v (mine b + theirs b) (play v b m) m h.before
           ∙ ap (λ (x : List Cell). set x m Empty) (ap (map turned) played ∙ turned_twice c)
-          ∙ placed_and_back b m h.free,
+          ∙ set_and_back b m Empty Mine h.free,
     )
 
 -- a move made, taken back
