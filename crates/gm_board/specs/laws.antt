@@ -4,3 +4,5 @@ pub mod Marks
 pub mod Turned
 pub mod CellTexts
 pub mod SquareImages
+pub mod CellCounts
+pub mod Filters

@@ -3,7 +3,7 @@ ghost use Rattle.std.specs.Prelude.{◌≡◌, ◌<◌, ◌≤◌, ◌+◌, ◌*
 ghost use Rattle.gm_board.specs.Images.{board_of};
 ghost use Rattle.gm_board.specs.Masks.{has_cell};
 ghost use Rattle.gm_pieces.specs.MoveGames.{steps};
-ghost use Rattle.gm_sides.specs.Sides.{is_mine, is_theirs, number_of};
+ghost use Rattle.gm_board.specs.Cells.{is_mine, is_theirs, number_of};
 ghost use Rattle.gm_dao.specs.DaoRules.{has_formation as has_formation_of, has_trapped as has_trapped_of, legal, can_move as can_move_of, over as over_of, play as play_of, dao};
 ghost use Rattle.gm_dao.specs.MaskSlides.{AreMovesBelow};
 

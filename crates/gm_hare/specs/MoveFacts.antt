@@ -5,7 +5,7 @@ use Rattle.std.proofs.lemmas.Bool.{cases_Bool, cond-true, cond-false, true≢fal
 use Rattle.gm_board.specs.Lists.{and_left, and_right, and_both}
 use Rattle.gm_board.specs.Ranks.{members}
 use Rattle.gm_steps.specs.Steps.{from_point, to_point, number_below}
-use Rattle.gm_steps.specs.Listed.{filter_few}
+use Rattle.gm_board.specs.laws.Filters.{filter_few}
 use Rattle.gm_pieces.specs.MoveGames.{steps}
 use Rattle.gm_hare.specs.declared.hunt.Hunt.{Hunt}
 use Rattle.gm_hare.specs.Board.{are_joined, is_ahead, has_hound, is_free, hunt_tier, legal, can_move, numbers_end, hound_gone, hare_gone, gone, play, hound_back, hare_back, was_moved, taken_back, hare_and_hounds}

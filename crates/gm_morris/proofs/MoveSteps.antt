@@ -15,7 +15,7 @@ use Rattle.gm_pieces.specs.MoveGames.{IsMove}
 use Rattle.gm_morris.specs.declared.variant.Variant.{Variant}
 use Rattle.gm_morris.specs.declared.tiers.TheConstants.{SIZES}
 use Rattle.gm_morris.specs.Points.{last_tier, lines, joins}
-use Rattle.gm_sides.specs.Sides.{cell_at, is_mine, is_theirs}
+use Rattle.gm_board.specs.Cells.{cell_at, is_mine, is_theirs}
 use Rattle.gm_morris.specs.Morris.{mine, theirs, has_line, legal, numbers_end, was_moved, size_of, board_at, morris}
 use Rattle.gm_board.specs.laws.Turned.{turned_cell}
 use Rattle.gm_sides.specs.laws.NumberFacts.{board_numbers}

@@ -2,7 +2,7 @@
 ghost use Rattle.std.specs.Prelude.{◌≡◌, ◌<◌};
 ghost use Rattle.gm_board.specs.Images.{board_of};
 ghost use Rattle.gm_pieces.specs.MoveGames.{IsMove};
-ghost use Rattle.gm_sides.specs.Sides.{is_mine, is_theirs as is_theirs_cell};
+ghost use Rattle.gm_board.specs.Cells.{is_mine, is_theirs as is_theirs_cell};
 ghost use Rattle.gm_morris.specs.Morris.{pieces as pieces_of, has_line as has_line_of, legal, numbers_end as numbers_end_of, over as over_of, can_move as can_move_of, play as play_of, morris};
 
 use crate::board::Board;

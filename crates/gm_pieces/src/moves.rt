@@ -18,7 +18,7 @@ pub fn plays_on<T: MoveRules>(board: T::Board) -> bool
 }
 
 /// The numbers of the moves, were the game not over, ascending.
-#[tactic(auto, using(gm_steps::specs::Listed::filter_in, gm_steps::specs::Listed::filter_out, crate::specs::MoveLaws::all_steps))]
+#[tactic(auto, using(gm_board::specs::laws::Filters::filter_in, gm_board::specs::laws::Filters::filter_out, crate::specs::MoveLaws::all_steps))]
 pub fn list_moves<T: MoveRules>(board: T::Board) -> ArrayVec<u32, MOVES>
     requires { T.game.legal (T.cells board) ≡ true }
     ensures { result.items ≡ steps T.game (T.cells board) }
@@ -33,7 +33,7 @@ pub fn list_moves<T: MoveRules>(board: T::Board) -> ArrayVec<u32, MOVES>
 }
 
 /// Whether no move can be made, were the game not over.
-#[tactic(auto, using(gm_steps::specs::Listed::filter_out, crate::specs::MoveLaws::step_listed, crate::specs::MoveLaws::all_steps))]
+#[tactic(auto, using(gm_board::specs::laws::Filters::filter_out, crate::specs::MoveLaws::step_listed, crate::specs::MoveLaws::all_steps))]
 pub fn has_no_move<T: MoveRules>(board: T::Board) -> bool
     requires { T.game.legal (T.cells board) ≡ true }
     ensures { result ≡ (length (steps T.game (T.cells board)) == 0) }

@@ -7,7 +7,8 @@ use Rattle.std.proofs.lemmas.List.{map-id}
 use Rattle.gm_game.specs.Rules.{IsAscending}
 use Rattle.gm_board.specs.Lists.{contains_head, and_left, and_right, and_both}
 use Rattle.gm_board.specs.Ranks.{members}
-use Rattle.gm_steps.specs.Listed.{filter_ascending, filter_few, nil_or}
+use Rattle.gm_board.specs.laws.Filters.{filter_few, nil_or}
+use Rattle.gm_steps.specs.Listed.{filter_ascending}
 use Rattle.gm_pieces.specs.MoveGames.{steps}
 use Rattle.gm_pieces.specs.MoveLaws.{step_in, step_listed}
 use Rattle.gm_tactix.specs.Segments.{first_cell, segment_length, goes_down, stride, cells_from, segment_cells, is_segment, numbers_end}

@@ -16,7 +16,7 @@ use Rattle.gm_board.specs.Masks.{weight}
 use Rattle.gm_board.specs.Permutations.{permute, permute_get}
 use Rattle.gm_board.specs.Groups.{IsGroup, group_length, image_length, image_sum}
 use Rattle.gm_board.specs.Squares.{square_symmetries, square_group}
-use Rattle.gm_steps.specs.Listed.{range_in}
+use Rattle.gm_board.specs.laws.Filters.{range_in}
 use Rattle.gm_pieces.specs.MoveGames.{board_game, move_rules, IsMoveGame, IsMoveSymmetric}
 use Rattle.gm_pieces.specs.Images.{permuted_group}
 use Rattle.gm_tactix.specs.Segments.{segment_cells}

@@ -1,11 +1,9 @@
 -- Texts that have a byte for each cell: they tell boards apart. And marks: the mask of the cells at which a text has a byte, read one cell after the other.
-use Rattle.std.proofs.Common.{◌≡◌, ◌≢◌, ℕ, ◌+◌, ◌*◌, ◌%◌, ◌^◌, ◌<◌, w32, Bool, true, false, ◌&&◌, eqb, ltb, lt-ltb, List, [], ◌∷◌, map, get_or, refl, sym, ap, ap₂, ◌∙◌, arith, inl, inr, eqb-true, eq-eqb}
+use Rattle.std.proofs.Common.{◌≡◌, ◌≢◌, ℕ, ◌+◌, ◌*◌, ◌%◌, ◌^◌, ◌<◌, w32, Bool, true, false, ◌&&◌, eqb, ltb, lt-ltb, List, [], ◌∷◌, map, get_or, refl, sym, ap, ap₂, ◌∙◌, arith, inl, inr, eq-eqb}
 use Rattle.std.specs.Prelude.{bit_and, bit_or}
-use Rattle.std.specs.Int.{bit_at}
 use Rattle.std.proofs.lemmas.Bool.{cases_eq, le-ltb}
 use Rattle.std.proofs.lemmas.Bool.Decides.{nat_tests}
 use Rattle.std.proofs.lemmas.Nat.Bits.{bit_at-zero, bit_at_set_same, bit_at_set_other}
-use Rattle.gm_board.specs.Lists.{and_left, and_right}
 use Rattle.gm_board.specs.Masks.{has_cell}
 use Rattle.gm_board.specs.laws.MaskChanges.{has_and, has_none}
 

@@ -1,5 +1,5 @@
 -- Masks that are made of masks: the cells of both and of either, a cell more, a cell less, and patterns of cells below n.
-use Rattle.std.proofs.Common.{◌≡◌, ℕ, ◌+◌, ◌-◌, ◌*◌, ◌%◌, ◌^◌, ◌<◌, ◌≤◌, min, max, w32, Bool, true, false, not, ◌&&◌, ◌||◌, eqb, ltb, ltb-true, List, [], ◌∷◌, refl, sym, ap, ap₂, ◌∙◌, subst, arith, inl, inr}
+use Rattle.std.proofs.Common.{◌≡◌, ℕ, ◌-◌, ◌*◌, ◌%◌, ◌^◌, ◌<◌, ◌≤◌, min, max, w32, Bool, true, false, not, ◌&&◌, ◌||◌, eqb, ltb, ltb-true, List, [], ◌∷◌, refl, sym, ap, ap₂, ◌∙◌, subst, arith, inl, inr}
 use Rattle.std.specs.Prelude.{bit_and, bit_or}
 use Rattle.std.specs.Int.{bit_at, bit_not}
 use Rattle.std.specs.List.{Contains, list_all, list_any}

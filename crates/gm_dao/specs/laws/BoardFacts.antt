@@ -10,7 +10,7 @@ use Rattle.gm_board.specs.Groups.{image_length}
 use Rattle.gm_board.specs.Patterns.{filled_image}
 use Rattle.gm_board.specs.Permutations.{permute}
 use Rattle.gm_board.specs.Squares.{square_symmetries}
-use Rattle.gm_sides.specs.Sides.{is_mine, is_theirs, number_of}
+use Rattle.gm_board.specs.Cells.{is_mine, is_theirs, number_of}
 use Rattle.gm_sides.specs.laws.CellFacts.{filled_turned, image_number}
 use Rattle.gm_sides.specs.laws.MoveFacts.{IsLeft}
 use Rattle.gm_sides.specs.laws.NumberFacts.{HasNumbers}

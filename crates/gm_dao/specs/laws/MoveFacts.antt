@@ -10,13 +10,13 @@ use Rattle.gm_board.specs.Lists.{and_left, and_right, and_both}
 use Rattle.gm_board.specs.Patterns.{fills}
 use Rattle.gm_board.specs.Permutations.{all_at}
 use Rattle.gm_steps.specs.Steps.{from_point, to_point, number_below}
-use Rattle.gm_steps.specs.Listed.{filter_in, filter_out}
+use Rattle.gm_board.specs.laws.Filters.{filter_in, filter_out}
 use Rattle.gm_pieces.specs.MoveGames.{steps}
-use Rattle.gm_sides.specs.Sides.{is_mine, is_theirs, is_empty, is_taken, cell_at, number_of}
+use Rattle.gm_board.specs.Cells.{is_mine, is_theirs, is_empty, is_taken, cell_at, number_of}
 use Rattle.gm_dao.specs.DaoRules.{has_formation, in_line, path, beyond, can_go, can_move, numbers_end, over, dao}
 use Rattle.gm_sides.specs.Sides.{IsStep}
 use Rattle.gm_dao.specs.laws.SlideFacts.{line_within, way}
-use Rattle.gm_sides.specs.laws.CellFacts.{mine_cell, empty_cell, cells_counted}
+use Rattle.gm_board.specs.laws.CellCounts.{mine_cell, empty_cell, cells_counted}
 
 -- ---- what a move is
 -- a piece of the mover's that slides from a to c

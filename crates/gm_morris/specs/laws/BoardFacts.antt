@@ -10,8 +10,9 @@ use Rattle.gm_board.specs.Groups.{IsGroup, image_length}
 use Rattle.gm_board.specs.Patterns.{filled_image}
 use Rattle.gm_board.specs.Permutations.{permute}
 use Rattle.gm_board.specs.Squares.{square_symmetries, square_group}
-use Rattle.gm_sides.specs.Sides.{is_mine, is_theirs}
-use Rattle.gm_sides.specs.laws.CellFacts.{all_cells, filled_turned, image_number}
+use Rattle.gm_board.specs.Cells.{is_mine, is_theirs}
+use Rattle.gm_board.specs.laws.CellCounts.{all_cells}
+use Rattle.gm_sides.specs.laws.CellFacts.{filled_turned, image_number}
 use Rattle.gm_sides.specs.laws.MoveFacts.{IsLeft}
 use Rattle.gm_sides.specs.laws.NumberFacts.{HasNumbers}
 use Rattle.gm_morris.specs.declared.variant.Variant.{Variant}

@@ -6,12 +6,13 @@ use Rattle.gm_game.specs.declared.position.End.TheVariants.{Lose}
 use Rattle.gm_board.specs.declared.cell.Cell.{Cell}
 use Rattle.gm_board.specs.declared.cell.Cell.TheVariants.{Empty, Mine}
 use Rattle.gm_board.specs.Lists.{and_left, and_right, and_both}
-use Rattle.gm_steps.specs.Listed.{filter_few}
+use Rattle.gm_board.specs.laws.Filters.{filter_few}
 use Rattle.gm_pieces.specs.MoveGames.{steps, IsMove}
 use Rattle.gm_morris.specs.declared.variant.Variant.{Variant}
 use Rattle.gm_morris.specs.Points.{last_tier, joins}
-use Rattle.gm_sides.specs.laws.CellFacts.{mine_cell, empty_cell}
-use Rattle.gm_sides.specs.Sides.{IsStep, is_mine, is_theirs, is_empty}
+use Rattle.gm_board.specs.laws.CellCounts.{mine_cell, empty_cell}
+use Rattle.gm_board.specs.Cells.{is_mine, is_theirs, is_empty}
+use Rattle.gm_sides.specs.Sides.{IsStep}
 use Rattle.gm_morris.specs.Morris.{mine, theirs, has_line, over, can_move, numbers_end, morris}
 use Rattle.gm_morris.specs.laws.PointFacts.{joined_within, joined_few}
 

@@ -4,8 +4,9 @@ use Rattle.std.proofs.lemmas.List.{length-reverse, reverse-reverse}
 use Rattle.gm_board.specs.declared.cell.Cell.{Cell}
 use Rattle.gm_board.specs.Ranks.{members}
 use Rattle.gm_board.specs.Arrangements.{mine_bits, their_bits, arrangement, arrangements, arrangement_index, arrangement_is, index_below_at, back_at}
-use Rattle.gm_sides.specs.Sides.{is_mine, is_theirs, number_of, board_index, board_numbered}
-use Rattle.gm_sides.specs.laws.CellFacts.{number_reverse, mine_members, their_members}
+use Rattle.gm_board.specs.Cells.{is_mine, is_theirs, number_of}
+use Rattle.gm_sides.specs.Sides.{board_index, board_numbered}
+use Rattle.gm_board.specs.laws.CellCounts.{number_reverse, mine_members, their_members}
 
 -- n cells, m pieces of the mover's and t of the opponent's
 pub record HasNumbers (n m t : ℕ) (b : List Cell) : Type 0 where

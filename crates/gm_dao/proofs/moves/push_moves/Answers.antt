@@ -1,7 +1,7 @@
 use Rattle.std.proofs.Common.{◌<◌, length, sym, ◌∙◌, arith}
 use Rattle.gm_board.specs.Images.{board_of}
 use Rattle.gm_board.specs.NextCells.{next_cell, cell_below}
-use Rattle.gm_steps.specs.Listed.{filter_room}
+use Rattle.gm_board.specs.laws.Filters.{filter_room}
 use Rattle.gm_pieces.specs.MoveGames.{steps}
 use Rattle.gm_dao.specs.DaoRules.{can_move, numbers_end}
 use Rattle.gm_dao.proofs.LoopSteps.{AreGoals, goals_are, goals_skip, goals_end, move_more}

@@ -2,7 +2,7 @@ use Rattle.std.proofs.Common.{List, map, sym, ap, ◌∙◌, arith}
 use Rattle.gm_board.specs.declared.cell.Cell.{Cell}
 use Rattle.gm_board.specs.BoardMasks.{turned}
 use Rattle.gm_board.specs.Images.{board_of, board_length}
-use Rattle.gm_sides.specs.Sides.{is_empty}
+use Rattle.gm_board.specs.Cells.{is_empty}
 use Rattle.gm_morris.specs.laws.MoveFacts.{slide_is_step}
 use Rattle.gm_morris.specs.laws.PlayFacts.{slide_played, placement_played}
 use Rattle.gm_morris.proofs.MoveSteps.{slide_here, placement_here}
