@@ -12,9 +12,6 @@ use Rattle.gm_game.specs.Shown.{is_plain, IsPlain}
 pub plain_in : (c : ℕ) → 32 ≤ c → c ≤ 126 → is_plain c ≡ true
 plain_in c low high = grind (arith, nat_tests)
 
-pub plain_cons : (c : ℕ) (cs : List ℕ) → 32 ≤ c → c ≤ 126 → IsPlain cs → IsPlain (c ∷ cs)
-plain_cons c cs low high h = and_from _ _ (plain_in c low high) h
-
 pub plain_append : (xs ys : List ℕ) → IsPlain xs → IsPlain ys → IsPlain (xs ++ ys)
 plain_append xs ys h k = list_all-append is_plain xs ys ∙ and_from _ _ h k
 
@@ -25,7 +22,7 @@ plain_map f h (x ∷ xs) = and_from _ _ (h x) (plain_map f h xs)
 
 digits_plain : (ds : List ℕ) → AllDigits 10 ds → IsPlain ds
 digits_plain [] h = refl
-digits_plain (d ∷ ds) h = let (low, high) = digit_from_value d h.0 in plain_cons d ds (omega arith) (omega arith) (digits_plain ds h.1)
+digits_plain (d ∷ ds) h = let (low, high) = digit_from_value d h.0 in and_from _ _ (plain_in d (omega arith) (omega arith)) (digits_plain ds h.1)
 
 -- a number in decimal
 pub plain_decimal : (n : ℕ) → n < 2 ^ 64 → IsPlain (decimal n)
