@@ -25,13 +25,13 @@ pub text_length : (b : Hunt) → length (hunt_text b) ≡ 13
 unfolding hunt_text
 text_length b = length-map-range_with_len (hunt_char b) 0 13
 
-char_plain : (x y t v w : Bool) → is_plain (if x then 32 else (if y then (if t then 100 else 104) else (if v then 100 else (if w then 104 else 46)))) ≡ true
-char_plain x y t v w = grind (arith, nat_tests)
+char_plain : (b : Hunt) (k : ℕ) → is_plain (hunt_char b k) ≡ true
+char_plain b k = grind (arith, nat_tests)
 
 -- the text is plain
 pub text_plain : (b : Hunt) → IsPlain (hunt_text b)
 unfolding hunt_text
-text_plain b = plain_map (hunt_char b) (λ k. char_plain (eqb k 11) (eqb k 12) b.hounds_move (has_hound b k) (eqb k b.hare)) (range_with_len 0 13)
+text_plain b = plain_map (hunt_char b) (char_plain b) (range_with_len 0 13)
 
 -- a byte of the text
 pub text_at : (b : Hunt) (k : ℕ) → k < 13 → get_or (hunt_text b) k 0 ≡ hunt_char b k
