@@ -1,12 +1,13 @@
--- The texts of Hare and Hounds fit a line, and tell positions and moves apart.
-use Rattle.std.proofs.Common.{◌≡◌, ℕ, ◌<◌, ◌≤◌, Bool, true, false, cond, if◌then◌else◌, eqb, leb, eqb-true, eq-eqb, List, [], ◌∷◌, length, get_or, refl, sym, ap, ◌∙◌, arith, zero-add, inl, inr}
+-- The texts of Hare and Hounds are plain, fit a line, and tell positions and moves apart.
+use Rattle.std.proofs.Common.{◌≡◌, ℕ, ◌<◌, ◌≤◌, Bool, true, false, ◌&&◌, cond, if◌then◌else◌, eqb, leb, eqb-true, eq-eqb, List, [], ◌∷◌, length, get_or, refl, sym, ap, ◌∙◌, arith, zero-add, inl, inr}
 use Rattle.std.specs.List.{Contains, filter, list_all, range_with_len}
 use Rattle.std.proofs.lemmas.Bool.{cond-true, true≢false, cases_Bool}
 use Rattle.std.proofs.lemmas.Bool.Decides.{nat_tests}
 use Rattle.std.proofs.lemmas.List.{ext_get_or}
 use Rattle.std.proofs.lemmas.List.FromFn.{length-map-range_with_len, get_or-map-range_with_len}
-use Rattle.gm_game.specs.Shown.{IsShown}
-use Rattle.gm_board.specs.Lists.{contains_range, filter_to}
+use Rattle.gm_game.specs.Shown.{is_plain, IsPlain, IsShown}
+use Rattle.gm_game.proofs.PlainTexts.{plain_map}
+use Rattle.gm_board.specs.Lists.{and_left, and_right, contains_range, filter_to}
 use Rattle.gm_board.specs.Permutations.{all_at, same_list}
 use Rattle.gm_steps.specs.Steps.{from_point, to_point}
 use Rattle.gm_pieces.specs.MoveTexts.{AreTexts}
@@ -23,6 +24,14 @@ use Rattle.gm_hare.specs.Texts.{hunt_char, hunt_text, point_name, step_text, pos
 pub text_length : (b : Hunt) → length (hunt_text b) ≡ 13
 unfolding hunt_text
 text_length b = length-map-range_with_len (hunt_char b) 0 13
+
+char_plain : (b : Hunt) (k : ℕ) → is_plain (hunt_char b k) ≡ true
+char_plain b k = grind (arith, nat_tests)
+
+-- the text is plain
+pub text_plain : (b : Hunt) → IsPlain (hunt_text b)
+unfolding hunt_text
+text_plain b = plain_map (hunt_char b) (char_plain b) (range_with_len 0 13)
 
 -- a byte of the text
 pub text_at : (b : Hunt) (k : ℕ) → k < 13 → get_or (hunt_text b) k 0 ≡ hunt_char b k
@@ -109,23 +118,36 @@ step_once m n e f g =
     let t = all_at (apart_test m) steps n (all_at (λ (m : ℕ). list_all (apart_test m) steps) steps m texts_table (there m e)) (there n f) in
     eqb-true m n (sym (cond-true (same_list (step_text m) (step_text n)) (eqb m n) true (same_lists _ _ g)) ∙ t)
 
-short_table : list_all (λ m. leb (length (step_text m)) 5) steps ≡ true
-unfolding are_joined from_point to_point step_text point_name
+is_short : ℕ → Bool
+is_short m = leb (length (step_text m)) 5 && list_all is_plain (step_text m)
+
+short_table : list_all is_short steps ≡ true
+unfolding are_joined from_point to_point step_text point_name is_short
 short_table = refl
+
+short : (m : ℕ) → is_step m ≡ true → is_short m ≡ true
+short m e = all_at is_short steps m short_table (filter_to is_step (range_with_len 0 numbers_end) m (contains_range numbers_end m (step_below m e)) e)
 
 five : (n : ℕ) → leb n 5 ≡ true → n ≤ 5
 five n e = grind (arith, nat_tests)
 
 -- the text of a move has at most five bytes
 pub step_short : (m : ℕ) → is_step m ≡ true → length (step_text m) ≤ 5
-step_short m e =
-    five (length (step_text m)) (all_at (λ (m : ℕ). leb (length (step_text m)) 5) steps m short_table (filter_to is_step (range_with_len 0 numbers_end) m (contains_range numbers_end m (step_below m e)) e))
+unfolding is_short
+step_short m e = five (length (step_text m)) (and_left _ _ (short m e))
+
+-- it is plain
+pub step_plain : (m : ℕ) → is_step m ≡ true → IsPlain (step_text m)
+unfolding is_short
+step_plain m e = and_right _ _ (short m e)
 
 -- ---- the laws of texts
 pub readable : AreTexts hare_and_hounds hunt_text (λ t m. step_text m)
 readable = record {
+  text_plain = λ b l. text_plain b;
   text_fits = λ b l. let a = text_length b in omega (arith, a);
   text_once = λ a b l k e. text_once a b (legal_in a l) (legal_in b k) e;
+  step_plain = λ b m l h. step_plain m (move_in b m h.can).joined;
   step_fits = λ b m l h. let a = step_short m (move_in b m h.can).joined in omega (arith, a);
   step_once = λ b m n l h k e. step_once m n (move_in b m h.can).joined (move_in b n k.can).joined e;
 }

@@ -172,6 +172,6 @@ pub trait MoveRules: Drop {
     /// The symmetries keep the rules.
     ghost symmetric: { IsMoveSymmetric game };
 
-    /// Texts fit a line, and tell boards and moves apart.
+    /// Texts are plain and fit a line, and tell boards and moves apart.
     ghost readable: { AreTexts game text step_text };
 }

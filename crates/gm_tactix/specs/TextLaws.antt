@@ -1,9 +1,11 @@
--- The texts of Tac Tix fit a line, and tell positions and moves apart.
-use Rattle.std.proofs.Common.{◌≡◌, ℕ, ◌+◌, ◌-◌, ◌*◌, ◌≤◌, Bool, true, false, cond, eqb, eqb-true, List, [], ◌∷◌, ◌++◌, length, refl, sym, ap, ◌∙◌, arith}
+-- The texts of Tac Tix are plain, fit a line, and tell positions and moves apart.
+use Rattle.std.proofs.Common.{◌≡◌, ℕ, ◌+◌, ◌-◌, ◌*◌, ◌≤◌, Bool, true, false, ◌&&◌, cond, eqb, eqb-true, List, [], ◌∷◌, ◌++◌, length, refl, sym, ap, ◌∙◌, arith}
 use Rattle.std.specs.List.{list_all}
 use Rattle.std.proofs.lemmas.Bool.{cond_both}
 use Rattle.std.proofs.lemmas.List.{length-map}
-use Rattle.gm_game.specs.Shown.{IsShown}
+use Rattle.gm_game.specs.Shown.{is_plain, IsPlain, IsShown}
+use Rattle.gm_game.proofs.PlainTexts.{plain_map}
+use Rattle.gm_board.specs.Lists.{and_left, and_right}
 use Rattle.gm_board.specs.Permutations.{all_at}
 use Rattle.gm_board.specs.Squares.{cell_text}
 use Rattle.gm_board.specs.laws.Marks.{map_once}
@@ -31,6 +33,15 @@ pub text_once : (a b : List Bool) → board_text a ≡ board_text b → a ≡ b
 unfolding board_text
 text_once a b e = map_once counter_text (λ (v : ℕ). eqb v 120) counter_back a b e
 
+counter_plain : (b : Bool) → is_plain (counter_text b) ≡ true
+counter_plain true = refl
+counter_plain false = refl
+
+-- they are plain
+pub text_plain : (b : List Bool) → IsPlain (board_text b)
+unfolding board_text
+text_plain b = plain_map counter_text counter_plain b
+
 -- ---- moves
 -- the number of the segment with this text
 abbrev pub number_in_text : ℕ → List ℕ → ℕ
@@ -38,9 +49,13 @@ number_in_text s (r ∷ c ∷ []) = 16 * (s * (r - 97) + (c - 49)) + 2
 number_in_text s (r ∷ c ∷ d ∷ q ∷ e ∷ cs) = 16 * (s * (r - 97) + (c - 49)) + cond (eqb r q) (2 * (e - c + 1)) (2 * (q - r + 1) + 1)
 number_in_text s cs = 0
 
--- whether each segment's number is in its text
+-- whether the number of a segment is in its text, which is plain
+abbrev pub text_passes : ℕ → ℕ → Bool
+text_passes s m = eqb (number_in_text s (segment_text s m)) m && list_all is_plain (segment_text s m)
+
+-- whether this holds of each segment
 unfoldable pub texts_pass : ℕ → Bool
-texts_pass s = list_all (λ m. eqb (number_in_text s (segment_text s m)) m) (segments s)
+texts_pass s = list_all (text_passes s) (segments s)
 
 texts_1 : texts_pass 1 ≡ true
 unfolding texts_pass segment_text is_segment
@@ -62,11 +77,16 @@ texts_5 : texts_pass 5 ≡ true
 unfolding texts_pass segment_text is_segment
 texts_5 = refl
 
-number_back : (s m : ℕ) → 1 ≤ s → s ≤ 5 → is_segment s m ≡ true → number_in_text s (segment_text s m) ≡ m
+passes : (s m : ℕ) → 1 ≤ s → s ≤ 5 → is_segment s m ≡ true → text_passes s m ≡ true
 unfolding texts_pass
-number_back s m low high e =
-    eqb-true (number_in_text s (segment_text s m)) m
-    (all_at (λ (n : ℕ). eqb (number_in_text s (segment_text s n)) n) (segments s) m (for_sides (λ s. texts_pass s ≡ true) texts_1 texts_2 texts_3 texts_4 texts_5 s low high) (in_segments s m e))
+passes s m low high e = all_at (text_passes s) (segments s) m (for_sides (λ s. texts_pass s ≡ true) texts_1 texts_2 texts_3 texts_4 texts_5 s low high) (in_segments s m e)
+
+number_back : (s m : ℕ) → 1 ≤ s → s ≤ 5 → is_segment s m ≡ true → number_in_text s (segment_text s m) ≡ m
+number_back s m low high e = eqb-true _ _ (and_left _ _ (passes s m low high e))
+
+-- the text of a segment is plain
+pub segment_plain : (s m : ℕ) → 1 ≤ s → s ≤ 5 → is_segment s m ≡ true → IsPlain (segment_text s m)
+segment_plain s m low high e = and_right _ _ (passes s m low high e)
 
 -- segments with one text are one
 pub segment_once : (s m n : ℕ) → 1 ≤ s → s ≤ 5 → is_segment s m ≡ true → is_segment s n ≡ true → segment_text s m ≡ segment_text s n → m ≡ n
@@ -81,8 +101,10 @@ segment_short s m =
 -- ---- the laws of texts
 pub readable : (s : ℕ) (misere : Bool) → 1 ≤ s → s ≤ 5 → AreTexts (tactix s misere) board_text (λ t m. segment_text s m)
 readable s misere low high = record {
+  text_plain = λ b l. text_plain b;
   text_fits = λ b l. let a = text_length b in let e = eqb-true _ _ l in let few = square_small s low high in omega (arith, a, e, few);
   text_once = λ a b l k e. text_once a b e;
+  step_plain = λ b m l h. segment_plain s m low high (move_in s b m h.can).0;
   step_fits = λ b m l h. let short = segment_short s m in omega (arith, short);
   step_once = λ b m n l h k e. segment_once s m n low high (move_in s b m h.can).0 (move_in s b n k.can).0 e;
 }

@@ -10,6 +10,7 @@ use Rattle.gm_game.specs.Laws.{IsGame}
 use Rattle.gm_game.specs.Shown.{IsShown}
 use Rattle.gm_game.specs.Rules.{at, children, IsAscending, IsCanonical, IsCanonicalChild, IsParent}
 use Rattle.gm_game.proofs.Lists.{contains_none, contains_first, contains_cases, map_in, map_from}
+use Rattle.gm_game.proofs.PlainTexts.{plain_decimal}
 use Rattle.gm_game.proofs.SetLemmas.{same_position}
 use Rattle.gm_toys.specs.Subtraction.{moves_down, step_text}
 use Rattle.gm_toys.specs.SubtractionLaws.{range_in, range_from, range_ascending, no_moves, some_moves}
@@ -136,11 +137,13 @@ stairs_lawful n h = record {
 -- and so do those of the texts
 pub stairs_readable : (n : ℕ) → n < 2 ^ 32 → IsShown (stairs n) tier_text step_text
 stairs_readable n h = record {
+  shown_plain = λ p l. let (t, i) = stairs_legal_in n p l in plain_decimal p.tier (omega arith);
   shown_fits = λ p l. let (t, i) = stairs_legal_in n p l in let d = length-decimal-le 10 p.tier (omega arith) (omega arith) (omega arith) in omega arith;
   shown_once = λ p q l k e.
       let (t, i) = stairs_legal_in n p l in
       let (u, j) = stairs_legal_in n q k in
       same_position p q (decimal_injective p.tier q.tier (omega arith) (omega arith) e) (i ∙ sym j);
+  move_shown_plain = λ p m l c. let (one, t) = step_in p.tier m c in plain_decimal m (omega arith);
   move_shown_fits = λ p m l c.
       let (one, t) = step_in p.tier m c in
       let d = length-decimal-le 10 m (omega arith) (omega arith) (omega arith) in omega arith;

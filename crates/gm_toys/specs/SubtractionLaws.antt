@@ -12,6 +12,7 @@ use Rattle.gm_game.specs.Shown.{IsShown}
 use Rattle.gm_game.specs.Texts.{IsPaddedText}
 use Rattle.gm_game.specs.Rules.{at, children, IsAscending, IsCanonical, IsCanonicalChild, IsParent}
 use Rattle.gm_game.proofs.Lists.{map_in, map_from}
+use Rattle.gm_game.proofs.PlainTexts.{plain_decimal}
 use Rattle.gm_game.proofs.SetLemmas.{same_position}
 use Rattle.gm_toys.specs.Subtraction.{moves_down, numbers_above, subtraction, number_text, step_text}
 
@@ -135,11 +136,16 @@ subtraction_lawful name most n long text some few h = record {
 
 pub subtraction_readable : (name : List ℕ) (most n : ℕ) → n < 2 ^ 32 → IsShown (subtraction name most n) number_text step_text
 subtraction_readable name most n h = record {
+  shown_plain = λ p l. let (t, le) = legal_in name most n p l in plain_decimal p.index (omega arith);
   shown_fits = λ p l. let (t, le) = legal_in name most n p l in let d = length-decimal-le 10 p.index (omega arith) (omega arith) (omega arith) in omega arith;
   shown_once = λ p q l k e.
       let (t, le) = legal_in name most n p l in
       let (u, me) = legal_in name most n q k in
       same_position p q (t ∙ sym u) (decimal_injective p.index q.index (omega arith) (omega arith) e);
+  move_shown_plain = λ p m l c.
+      let (t, le) = legal_in name most n p l in
+      let (low, high) = range_in 1 (min most p.index) m c in
+      plain_decimal m (omega arith);
   move_shown_fits = λ p m l c.
       let (t, le) = legal_in name most n p l in
       let (low, high) = range_in 1 (min most p.index) m c in

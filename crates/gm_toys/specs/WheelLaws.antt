@@ -11,6 +11,7 @@ use Rattle.gm_game.specs.Laws.{IsGame}
 use Rattle.gm_game.specs.Shown.{IsShown}
 use Rattle.gm_game.specs.Rules.{at, children, IsAscending, IsCanonical, IsCanonicalChild, IsParent}
 use Rattle.gm_game.proofs.Lists.{contains_none, map_in, map_from, all_in, any_in}
+use Rattle.gm_game.proofs.PlainTexts.{plain_decimal}
 use Rattle.gm_game.proofs.SetLemmas.{same_position}
 use Rattle.gm_toys.specs.Subtraction.{number_text}
 use Rattle.gm_toys.specs.Wheel.{wheel, wheel_targets, wheel_sources, wheel_end, target_text}
@@ -148,11 +149,15 @@ wheel_lawful = record {
 -- and so do those of the texts
 pub wheel_readable : IsShown wheel number_text target_text
 wheel_readable = record {
+  shown_plain = λ p l. let (t, i) = wheel_legal_in p l in plain_decimal p.index (omega arith);
   shown_fits = λ p l. let (t, i) = wheel_legal_in p l in let d = length-decimal-le 10 p.index (omega arith) (omega arith) (omega arith) in omega arith;
   shown_once = λ p q l k e.
       let (t, i) = wheel_legal_in p l in
       let (u, j) = wheel_legal_in q k in
       same_position p q (t ∙ sym u) (decimal_injective p.index q.index (omega arith) (omega arith) e);
+  move_shown_plain = λ p m l c.
+      let (low, back) = target_in p.index (wheel_legal_in p l).1 m c in
+      plain_decimal m (omega arith);
   move_shown_fits = λ p m l c.
       let (low, back) = target_in p.index (wheel_legal_in p l).1 m c in
       let d = length-decimal-le 10 m (omega arith) (omega arith) (omega arith) in omega arith;

@@ -1,15 +1,19 @@
--- The texts of Dao fit a line, and tell positions and moves apart.
-use Rattle.std.proofs.Common.{◌≡◌, ℕ, length, refl, arith}
-use Rattle.gm_game.specs.Shown.{IsShown}
+-- The texts of Dao are plain, fit a line, and tell positions and moves apart.
+use Rattle.std.proofs.Common.{◌≡◌, ℕ, ◌<◌, ◌∷◌, length, refl, arith}
+use Rattle.gm_game.specs.Shown.{IsPlain, IsShown}
+use Rattle.gm_game.proofs.PlainTexts.{plain_append}
 use Rattle.gm_steps.specs.Steps.{from_point, to_point, same_step}
+use Rattle.gm_board.specs.Squares.{cell_text}
 use Rattle.gm_sides.specs.SideTexts.{board_text}
 use Rattle.gm_board.specs.laws.CellTexts.{step_text_once}
-use Rattle.gm_sides.specs.laws.TextFacts.{text_length, text_once}
+use Rattle.gm_sides.specs.laws.TextFacts.{text_length, text_once, text_plain, cell_plain}
 use Rattle.gm_pieces.specs.MoveTexts.{AreTexts}
 use Rattle.gm_pieces.specs.TextFacts.{texts_are_shown}
 use Rattle.gm_dao.specs.DaoRules.{dao, dao_rules}
 use Rattle.gm_dao.specs.laws.BoardFacts.{legal_in}
 use Rattle.gm_dao.specs.laws.DaoLaws.{numbered}
+use Rattle.gm_dao.specs.laws.MoveFacts.{move_slide}
+use Rattle.gm_dao.specs.laws.SlideFacts.{line_within}
 use Rattle.gm_dao.specs.Texts.{step_text, position_text, move_text}
 
 -- ---- moves
@@ -23,11 +27,18 @@ pub step_length : (m : ℕ) → length (step_text m) ≡ 5
 unfolding step_text
 step_length m = refl
 
+-- it is plain
+pub step_plain : (m : ℕ) → from_point m < 16 → to_point m < 16 → IsPlain (step_text m)
+unfolding step_text
+step_plain m l h = plain_append (cell_text 4 (from_point m)) (45 ∷ cell_text 4 (to_point m)) (cell_plain 4 (from_point m) (omega arith) (omega arith)) (cell_plain 4 (to_point m) (omega arith) (omega arith))
+
 -- ---- the laws of texts
 pub readable : AreTexts dao board_text (λ t m. step_text m)
 readable = record {
+  text_plain = λ b l. text_plain b;
   text_fits = λ b l. let a = text_length b in let e = (legal_in b l).cells in omega (arith, a, e);
   text_once = λ a b l k e. text_once a b e;
+  step_plain = λ b m l h. let w = line_within (from_point m) (to_point m) (move_slide b m h.can).line in step_plain m w.0 w.1;
   step_fits = λ b m l h. let a = step_length m in omega (arith, a);
   step_once = λ b m n l h k e. step_once m n e;
 }

@@ -1,16 +1,17 @@
--- The texts of the games of nine points fit a line, and tell positions and moves apart.
-use Rattle.std.proofs.Common.{◌≡◌, ℕ, ◌+◌, ◌/◌, ◌%◌, ◌≤◌, eqb, List, ◌∷◌, ◌++◌, length, sym, ◌∙◌, arith, inl, inr}
+-- The texts of the games of nine points are plain, fit a line, and tell positions and moves apart.
+use Rattle.std.proofs.Common.{◌≡◌, ℕ, ◌+◌, ◌/◌, ◌%◌, ◌<◌, ◌≤◌, eqb, List, ◌∷◌, ◌++◌, length, sym, ◌∙◌, arith, inl, inr}
 use Rattle.std.proofs.lemmas.Bool.{cases_Bool, cond_both, cond-true, cond-false}
-use Rattle.gm_game.specs.Shown.{IsShown}
+use Rattle.gm_game.specs.Shown.{IsPlain, IsShown}
+use Rattle.gm_game.proofs.PlainTexts.{plain_append}
 use Rattle.gm_board.specs.Squares.{cell_text}
 use Rattle.gm_sides.specs.SideTexts.{board_text}
 use Rattle.gm_board.specs.laws.CellTexts.{cell_text_once, step_text_once}
-use Rattle.gm_sides.specs.laws.TextFacts.{text_length, text_once}
+use Rattle.gm_sides.specs.laws.TextFacts.{text_length, text_once, text_plain, cell_plain}
 use Rattle.gm_pieces.specs.MoveTexts.{AreTexts}
 use Rattle.gm_pieces.specs.TextFacts.{texts_are_shown}
 use Rattle.gm_morris.specs.declared.variant.Variant.{Variant}
 use Rattle.gm_morris.specs.Points.{variant_of, last_tier}
-use Rattle.gm_morris.specs.Morris.{mine, theirs, morris, morris_rules}
+use Rattle.gm_morris.specs.Morris.{mine, theirs, numbers_end, morris, morris_rules}
 use Rattle.gm_morris.specs.laws.BoardFacts.{legal_in}
 use Rattle.gm_morris.specs.laws.MorrisLaws.{numbered}
 use Rattle.gm_morris.specs.Texts.{step_text, position_text, move_text}
@@ -33,11 +34,21 @@ unfolding step_text
 step_short v t m =
     cond_both (eqb t (last_tier v)) (cell_text 3 (m / 16) ++ 45 ∷ cell_text 3 (m % 16)) (cell_text 3 m) (λ (t : List ℕ). length t ≤ 5) (λ e. omega arith) (λ e. omega arith)
 
+-- it is plain
+pub step_plain : (v : Variant) (t m : ℕ) → m < numbers_end v t → IsPlain (step_text v t m)
+unfolding step_text numbers_end
+step_plain v t m l =
+    cond_both (eqb t (last_tier v)) (cell_text 3 (m / 16) ++ 45 ∷ cell_text 3 (m % 16)) (cell_text 3 m) IsPlain
+    (λ e. let n : numbers_end v t ≡ 144 = cond-true _ _ _ e in plain_append (cell_text 3 (m / 16)) (45 ∷ cell_text 3 (m % 16)) (cell_plain 3 (m / 16) (omega arith) (omega arith)) (cell_plain 3 (m % 16) (omega arith) (omega arith)))
+    (λ e. let n : numbers_end v t ≡ 9 = cond-false _ _ _ e in cell_plain 3 m (omega arith) (omega arith))
+
 -- ---- the laws of texts
 pub readable : (v : Variant) → AreTexts (morris v) board_text (step_text v)
 readable v = record {
+  text_plain = λ b l. text_plain b;
   text_fits = λ b l. let a = text_length b in let e = (legal_in v b l).cells in omega (arith, a, e);
   text_once = λ a b l k e. text_once a b e;
+  step_plain = λ b m l h. step_plain v (mine b + theirs b) m h.below;
   step_fits = λ b m l h. let short = step_short v (mine b + theirs b) m in omega (arith, short);
   step_once = λ b m n l h k e. step_once v (mine b + theirs b) m n e;
 }

@@ -1,9 +1,13 @@
--- The texts of boards have a byte for each cell, and tell boards apart.
-use Rattle.std.proofs.Common.{◌≡◌, ℕ, eqb, List, length, refl}
+-- The texts of boards have a byte for each cell, tell boards apart, and are plain; so are those of cells.
+use Rattle.std.proofs.Common.{◌≡◌, ℕ, ◌+◌, ◌/◌, ◌%◌, ◌≤◌, true, eqb, List, length, refl, arith}
 use Rattle.std.proofs.lemmas.List.{length-map}
+use Rattle.gm_game.specs.Shown.{is_plain, IsPlain}
+use Rattle.gm_game.proofs.PlainTexts.{plain_in, plain_map}
 use Rattle.gm_board.specs.declared.cell.Cell.{Cell}
 use Rattle.gm_board.specs.declared.cell.Cell.TheVariants.{Empty, Mine, Theirs}
 use Rattle.gm_board.specs.Pieces.{cell_by}
+use Rattle.gm_board.specs.Lists.{and_both}
+use Rattle.gm_board.specs.Squares.{cell_text}
 use Rattle.gm_board.specs.laws.Marks.{map_once}
 use Rattle.gm_sides.specs.SideTexts.{cell_char, board_text}
 
@@ -22,3 +26,17 @@ cell_back Theirs = refl
 pub text_once : (a b : List Cell) → board_text a ≡ board_text b → a ≡ b
 unfolding board_text
 text_once a b e = map_once cell_char (λ (v : ℕ). cell_by (eqb v 120) (eqb v 111)) cell_back a b e
+
+char_plain : (c : Cell) → is_plain (cell_char c) ≡ true
+char_plain Empty = refl
+char_plain Mine = refl
+char_plain Theirs = refl
+
+-- the text of a board is plain
+pub text_plain : (b : List Cell) → IsPlain (board_text b)
+unfolding board_text
+text_plain b = plain_map cell_char char_plain b
+
+-- and so is that of a cell whose row and column are few enough
+pub cell_plain : (s k : ℕ) → k / s ≤ 29 → k % s ≤ 77 → IsPlain (cell_text s k)
+cell_plain s k row column = and_both _ _ (plain_in (97 + k / s) (omega arith) (omega arith)) (and_both _ _ (plain_in (49 + k % s) (omega arith) (omega arith)) refl)
