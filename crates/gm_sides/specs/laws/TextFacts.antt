@@ -27,15 +27,10 @@ pub text_once : (a b : List Cell) → board_text a ≡ board_text b → a ≡ b
 unfolding board_text
 text_once a b e = map_once cell_char (λ (v : ℕ). cell_by (eqb v 120) (eqb v 111)) cell_back a b e
 
-char_plain : (c : Cell) → is_plain (cell_char c) ≡ true
-char_plain Empty = refl
-char_plain Mine = refl
-char_plain Theirs = refl
-
 -- the text of a board is plain
 pub text_plain : (b : List Cell) → IsPlain (board_text b)
 unfolding board_text
-text_plain b = plain_map cell_char char_plain b
+text_plain b = plain_map cell_char (λ c. elim c as (λ c. is_plain (cell_char c) ≡ true) [ Empty ↦ refl | Mine ↦ refl | Theirs ↦ refl ]) b
 
 -- and so is that of a cell whose row and column are few enough
 pub cell_plain : (s k : ℕ) → k / s ≤ 29 → k % s ≤ 77 → IsPlain (cell_text s k)
