@@ -60,6 +60,18 @@ pub(crate) fn flag<'a>(alloc: Global, name: &'a str, help: &'a str) -> Arg<'a> {
 }
 
 fn solve<'a>(alloc: Global) -> Result<Command<'a>, AllocError> {
+    let words = vec![in alloc;
+        word(alloc, "GAME", GAME),
+        word(alloc, "FOLDER", "The folder for the tables"),
+        workers(alloc),
+        shards(alloc),
+        piece(alloc),
+        flag(
+            alloc,
+            "progress",
+            "Tells on standard error, a few times a second, how far it is",
+        ),
+    ]?;
     Command::new(alloc, "solve")
         .about(
             "Solves a game into a folder, which has to be there; tables that are there and true are kept",
@@ -67,16 +79,7 @@ fn solve<'a>(alloc: Global) -> Result<Command<'a>, AllocError> {
         .after_help(
             "Examples:\n  gamesman solve countdown tables\n  gamesman solve dao tables --workers 8 --progress",
         )
-        .arg(word(alloc, "GAME", GAME))?
-        .arg(word(alloc, "FOLDER", "The folder for the tables"))?
-        .arg(workers(alloc))?
-        .arg(shards(alloc))?
-        .arg(piece(alloc))?
-        .arg(flag(
-            alloc,
-            "progress",
-            "Tells on standard error, a few times a second, how far it is",
-        ))
+        .args(words)
 }
 
 /// Whether a folder is only read.
@@ -91,22 +94,26 @@ pub(crate) fn json<'a>(alloc: Global) -> Arg<'a> {
 }
 
 fn query<'a>(alloc: Global) -> Result<Command<'a>, AllocError> {
+    let words = vec![in alloc;
+        word(alloc, "GAME", GAME),
+        word(
+            alloc,
+            "POSITION",
+            "The position, as `10` in countdown, `x...o....` in tictactoe or `dd.d......h d` in hare",
+        ),
+        folder(alloc),
+        read_only(alloc),
+    ]?;
     Command::new(alloc, "query")
         .about("Answers the value of a position and the number of moves to the end")
         .after_help(
             "Examples:\n  gamesman query countdown 10\n  gamesman query hare 'dd.d......h d' --folder tables",
         )
-        .arg(word(alloc, "GAME", GAME))?
-        .arg(word(
-            alloc,
-            "POSITION",
-            "The position, as `10` in countdown, `x...o....` in tictactoe or `dd.d......h d` in hare",
-        ))?
-        .arg(folder(alloc))?
-        .arg(read_only(alloc))
+        .args(words)
 }
 
 fn analyse<'a>(alloc: Global) -> Result<Command<'a>, AllocError> {
+    let words = vec![in alloc; word(alloc, "GAME", GAME), folder(alloc), read_only(alloc)]?;
     Command::new(alloc, "analyse")
         .alias("analyze")?
         .about(
@@ -115,17 +122,18 @@ fn analyse<'a>(alloc: Global) -> Result<Command<'a>, AllocError> {
         .after_help(
             "Examples:\n  gamesman analyse countdown\n  gamesman analyse dao --folder tables",
         )
-        .arg(word(alloc, "GAME", GAME))?
-        .arg(folder(alloc))?
-        .arg(read_only(alloc))
+        .args(words)
 }
 
 fn check<'a>(alloc: Global) -> Result<Command<'a>, AllocError> {
+    let words = vec![in alloc;
+        word(alloc, "GAME", GAME),
+        word(alloc, "FOLDER", "The folder of the tables"),
+    ]?;
     Command::new(alloc, "check")
         .about("Checks the tables of a game in a folder, tier by tier")
         .after_help("Examples:\n  gamesman check countdown tables\n  gamesman check dao tables")
-        .arg(word(alloc, "GAME", GAME))?
-        .arg(word(alloc, "FOLDER", "The folder of the tables"))
+        .args(words)
 }
 
 fn from<'a>(alloc: Global) -> Arg<'a> {
@@ -141,6 +149,14 @@ fn drawn<'a>(alloc: Global) -> Arg<'a> {
 }
 
 fn play<'a>(alloc: Global) -> Result<Command<'a>, AllocError> {
+    let words = vec![in alloc;
+        word(alloc, "GAME", GAME),
+        folder(alloc),
+        read_only(alloc),
+        flag(alloc, "second", "Lets the computer move first"),
+        from(alloc),
+        drawn(alloc),
+    ]?;
     Command::new(alloc, "play")
         .about(
             "Plays a game with you from its start: type a move, as `1` in countdown or `a1` in tictactoe, or `quit`",
@@ -148,12 +164,7 @@ fn play<'a>(alloc: Global) -> Result<Command<'a>, AllocError> {
         .after_help(
             "Examples:\n  gamesman play tictactoe --show\n  gamesman play countdown --from 7 --second",
         )
-        .arg(word(alloc, "GAME", GAME))?
-        .arg(folder(alloc))?
-        .arg(read_only(alloc))?
-        .arg(flag(alloc, "second", "Lets the computer move first"))?
-        .arg(from(alloc))?
-        .arg(drawn(alloc))
+        .args(words)
 }
 
 fn list<'a>(alloc: Global) -> Command<'a> {
@@ -162,37 +173,55 @@ fn list<'a>(alloc: Global) -> Command<'a> {
         .after_help("Examples:\n  gamesman list\n  gamesman list | grep tactix")
 }
 
-// With the commands that ask about one position.
-fn with_questions<'a>(alloc: Global, all: Command<'a>) -> Result<Command<'a>, AllocError> {
-    all.subcommand(query(alloc)?)?
-        .subcommand(moves(alloc)?)?
-        .subcommand(line(alloc)?)?
-        .subcommand(show(alloc)?)
+// Adds a command, where memory sufficed to make it.
+fn add<'a>(
+    all: &mut Vec<Command<'a>>,
+    one: Result<Command<'a>, AllocError>,
+) -> Result<(), AllocError> {
+    all.push(one?)?;
+    Ok(())
 }
 
-// With the commands that ask about all tables of a game.
-fn with_searches<'a>(alloc: Global, all: Command<'a>) -> Result<Command<'a>, AllocError> {
-    all.subcommand(find(alloc)?)?
-        .subcommand(counts(alloc)?)?
-        .subcommand(ask(alloc)?)?
-        .subcommand(analyse(alloc)?)?
-        .subcommand(check(alloc)?)
+// Adds the commands that ask about one position.
+fn add_questions<'a>(alloc: Global, all: &mut Vec<Command<'a>>) -> Result<(), AllocError> {
+    add(all, query(alloc))?;
+    add(all, moves(alloc))?;
+    add(all, line(alloc))?;
+    add(all, show(alloc))
 }
 
-// With the commands that play, and tell of the program.
-fn with_others<'a>(alloc: Global, all: Command<'a>) -> Result<Command<'a>, AllocError> {
-    all.subcommand(play(alloc)?)?
-        .subcommand(completions(alloc)?)?
-        .subcommand(man(alloc))
+// Adds the commands that ask about all tables of a game.
+fn add_searches<'a>(alloc: Global, all: &mut Vec<Command<'a>>) -> Result<(), AllocError> {
+    add(all, find(alloc))?;
+    add(all, counts(alloc))?;
+    add(all, ask(alloc))?;
+    add(all, analyse(alloc))?;
+    add(all, check(alloc))
+}
+
+// Adds the commands that play, and tell of the program.
+fn add_others<'a>(alloc: Global, all: &mut Vec<Command<'a>>) -> Result<(), AllocError> {
+    add(all, play(alloc))?;
+    add(all, completions(alloc))?;
+    add(all, Ok(man(alloc)))
+}
+
+// Adds all commands, in the order of the help.
+fn add_commands<'a>(alloc: Global, all: &mut Vec<Command<'a>>) -> Result<(), AllocError> {
+    add(all, Ok(list(alloc)))?;
+    add(all, solve(alloc))?;
+    add_questions(alloc, all)?;
+    add_searches(alloc, all)?;
+    add_others(alloc, all)
 }
 
 /// The program's command line.
 pub fn gamesman<'a>(alloc: Global) -> Result<Command<'a>, AllocError> {
-    let all = Command::new(alloc, "gamesman")
+    let mut all = Vec::new(alloc);
+    add_commands(alloc, &mut all)?;
+    Command::new(alloc, "gamesman")
         .about("Solves two-player games")
         .version(VERSION)
         .subcommand_required(true)
-        .subcommand(list(alloc))?
-        .subcommand(solve(alloc)?)?;
-    with_others(alloc, with_searches(alloc, with_questions(alloc, all)?)?)
+        .subcommands(all)
 }

@@ -26,43 +26,52 @@ fn limit<'a>(alloc: Global) -> Arg<'a> {
 
 /// The command `moves`.
 pub fn moves<'a>(alloc: Global) -> Result<Command<'a>, AllocError> {
+    let words = vec![in alloc;
+        word(alloc, "GAME", GAME),
+        position(alloc),
+        distinct(alloc),
+        json(alloc),
+        folder(alloc),
+        read_only(alloc),
+    ]?;
     Command::new(alloc, "moves")
         .about("Lists the moves of a position, the best first: what each is worth, and its result")
         .after_help(
             "Examples:\n  gamesman moves tictactoe xo.......\n  gamesman moves dao --distinct --folder tables",
         )
-        .arg(word(alloc, "GAME", GAME))?
-        .arg(position(alloc))?
-        .arg(distinct(alloc))?
-        .arg(json(alloc))?
-        .arg(folder(alloc))?
-        .arg(read_only(alloc))
+        .args(words)
 }
 
 /// The command `line`.
 pub fn line<'a>(alloc: Global) -> Result<Command<'a>, AllocError> {
+    let words = vec![in alloc;
+        word(alloc, "GAME", GAME),
+        position(alloc),
+        limit(alloc),
+        json(alloc),
+        folder(alloc),
+        read_only(alloc),
+    ]?;
     Command::new(alloc, "line")
         .about("Plays the best moves of both sides from a position to the end")
         .after_help("Examples:\n  gamesman line tactix-3\n  gamesman line wheel 3 --limit 4")
-        .arg(word(alloc, "GAME", GAME))?
-        .arg(position(alloc))?
-        .arg(limit(alloc))?
-        .arg(json(alloc))?
-        .arg(folder(alloc))?
-        .arg(read_only(alloc))
+        .args(words)
 }
 
 /// The command `show`.
 pub fn show<'a>(alloc: Global) -> Result<Command<'a>, AllocError> {
+    let words = vec![in alloc;
+        word(alloc, "GAME", GAME),
+        position(alloc),
+        folder(alloc),
+        read_only(alloc),
+    ]?;
     Command::new(alloc, "show")
         .about(
             "Draws the board of a position, with who is to move and the value; of the start also how cells, positions and moves are written",
         )
         .after_help("Examples:\n  gamesman show tictactoe\n  gamesman show dao x..o.xo..ox.o..x")
-        .arg(word(alloc, "GAME", GAME))?
-        .arg(position(alloc))?
-        .arg(folder(alloc))?
-        .arg(read_only(alloc))
+        .args(words)
 }
 
 fn limit_of(inner: &ArgMatches<'_>) -> usize {

@@ -47,41 +47,46 @@ fn reached<'a>(alloc: Global) -> Arg<'a> {
 
 /// The command `find`.
 pub fn find<'a>(alloc: Global) -> Result<Command<'a>, AllocError> {
+    let words = vec![in alloc;
+        word(alloc, "GAME", GAME),
+        value(alloc),
+        remoteness(alloc),
+        tier(alloc),
+        only_move(alloc),
+        reached(alloc),
+        limit(alloc),
+        json(alloc),
+        folder(alloc),
+        read_only(alloc),
+    ]?;
     Command::new(alloc, "find")
         .about(
             "Lists the positions of a value, of those that are the same but for symmetry one: its value, its best move and the number of its moves",
         )
-        .arg(word(alloc, "GAME", GAME))?
-        .arg(value(alloc))?
-        .arg(remoteness(alloc))?
-        .arg(tier(alloc))?
-        .arg(only_move(alloc))?
-        .arg(reached(alloc))?
-        .arg(limit(alloc))?
-        .arg(json(alloc))?
-        .arg(folder(alloc))?
-        .arg(read_only(alloc))
+        .args(words)
 }
 
 /// The command `counts`.
 pub fn counts<'a>(alloc: Global) -> Result<Command<'a>, AllocError> {
+    let words = vec![in alloc;
+        word(alloc, "GAME", GAME),
+        reached(alloc),
+        folder(alloc),
+        read_only(alloc),
+    ]?;
     Command::new(alloc, "counts")
         .about("Counts the positions of a game by value and remoteness, with bars")
-        .arg(word(alloc, "GAME", GAME))?
-        .arg(reached(alloc))?
-        .arg(folder(alloc))?
-        .arg(read_only(alloc))
+        .args(words)
 }
 
 /// The command `ask`.
 pub fn ask<'a>(alloc: Global) -> Result<Command<'a>, AllocError> {
+    let words = vec![in alloc; word(alloc, "GAME", GAME), folder(alloc), read_only(alloc)]?;
     Command::new(alloc, "ask")
         .about(
             "Reads positions, a line each, and answers each with a line of JSON: its value and what its moves are worth",
         )
-        .arg(word(alloc, "GAME", GAME))?
-        .arg(folder(alloc))?
-        .arg(read_only(alloc))
+        .args(words)
 }
 
 fn value_of(word: &str) -> Option<Value> {
