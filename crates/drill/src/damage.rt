@@ -62,16 +62,26 @@ fn judged_line<G: Game>(alloc: Global, tables: &Tables<G>, line: &str) -> char {
     }
 }
 
-/// Judges each line of the input as the file of a tier of this game.
-pub fn damage<G: Game, R: Print + AllocGlobal, I: Read + Drop>(rt: &R, input: I) -> io::Result<()> {
-    let alloc = rt.alloc();
-    let Some(tables) = solved::<G>(alloc) else {
-        return println!(rt; "not solved");
-    };
+// Judges each line of the input.
+fn judge_lines<G: Game, R: Print, I: Read + Drop>(
+    rt: &R,
+    alloc: Global,
+    tables: &Tables<G>,
+    input: I,
+) -> io::Result<()> {
     let lines = BufReader::new(alloc, input)?;
     for line in lines.lines(alloc) {
-        let sign = judged_line(alloc, &tables, line?.as_str());
+        let sign = judged_line(alloc, tables, line?.as_str());
         println!(rt; "{sign}")?;
     }
     Ok(())
+}
+
+/// Judges each line of the input as the file of a tier of this game.
+pub fn damage<G: Game, R: Print + AllocGlobal, I: Read + Drop>(rt: &R, input: I) -> io::Result<()> {
+    let alloc = rt.alloc();
+    match solved::<G>(alloc) {
+        Some(tables) => judge_lines(rt, alloc, &tables, input),
+        None => println!(rt; "not solved"),
+    }
 }

@@ -52,47 +52,52 @@ const WORDS: [&str; 28] = [
     "build",
 ];
 
+// Prints the words.
+fn list<R: Print>(rt: &R) -> io::Result<()> {
+    for word in WORDS {
+        println!(rt; "{word}")?;
+    }
+    Ok(())
+}
+
 // Makes the call of a word: false where there is no such word.
 fn drill<R: Print + AllocGlobal + Threads + Wait + Files + Sync>(
     rt: &R,
     word: &str,
 ) -> io::Result<bool> {
-    match word {
-        "list" => {
-            for word in WORDS {
-                println!(rt; "{word}")?;
-            }
-        }
-        "order" => levels::order(rt)?,
-        "begin" => levels::begin(rt)?,
-        "fresh" => levels::fresh(rt)?,
-        "gather" => levels::gather(rt)?,
-        "tally" => levels::tally(rt)?,
-        "finish" => levels::finish(rt)?,
-        "check" => tables::check(rt)?,
-        "insert" => tables::insert(rt)?,
-        "encode" => tables::encode(rt)?,
-        "decode" => tables::decode(rt)?,
-        "encode-old" => tables::encode_old(rt)?,
-        "decode-old" => tables::decode_old(rt)?,
-        "read-text" => tables::read_text(rt)?,
-        "analyse" => tables::analyse(rt)?,
-        "json" => tables::json(rt)?,
-        "write-to-memory" => stores::write_to_memory(rt)?,
-        "read-from-memory" => stores::read_from_memory(rt)?,
-        "write-through" => stores::write_through(rt)?,
-        "read-through" => stores::read_through(rt)?,
-        "write-to-folder" => stores::write_to_folder(rt)?,
-        "read-from-folder" => stores::read_from_folder(rt)?,
-        "alone-countdown" => solve::<Countdown<10>, R>(rt, Way::Alone)?,
-        "alone-wheel" => solve::<Wheel, R>(rt, Way::Alone)?,
-        "pieces-countdown" => solve::<Countdown<10>, R>(rt, Way::Pieces)?,
-        "pieces-wheel" => solve::<Wheel, R>(rt, Way::Pieces)?,
-        "passes-countdown" => solve::<Countdown<10>, R>(rt, Way::Passes)?,
-        "passes-wheel" => solve::<Wheel, R>(rt, Way::Passes)?,
-        "build" => build(rt)?,
+    let answer = match word {
+        "list" => list(rt),
+        "order" => levels::order(rt),
+        "begin" => levels::begin(rt),
+        "fresh" => levels::fresh(rt),
+        "gather" => levels::gather(rt),
+        "tally" => levels::tally(rt),
+        "finish" => levels::finish(rt),
+        "check" => tables::check(rt),
+        "insert" => tables::insert(rt),
+        "encode" => tables::encode(rt),
+        "decode" => tables::decode(rt),
+        "encode-old" => tables::encode_old(rt),
+        "decode-old" => tables::decode_old(rt),
+        "read-text" => tables::read_text(rt),
+        "analyse" => tables::analyse(rt),
+        "json" => tables::json(rt),
+        "write-to-memory" => stores::write_to_memory(rt),
+        "read-from-memory" => stores::read_from_memory(rt),
+        "write-through" => stores::write_through(rt),
+        "read-through" => stores::read_through(rt),
+        "write-to-folder" => stores::write_to_folder(rt),
+        "read-from-folder" => stores::read_from_folder(rt),
+        "alone-countdown" => solve::<Countdown<10>, R>(rt, Way::Alone),
+        "alone-wheel" => solve::<Wheel, R>(rt, Way::Alone),
+        "pieces-countdown" => solve::<Countdown<10>, R>(rt, Way::Pieces),
+        "pieces-wheel" => solve::<Wheel, R>(rt, Way::Pieces),
+        "passes-countdown" => solve::<Countdown<10>, R>(rt, Way::Passes),
+        "passes-wheel" => solve::<Wheel, R>(rt, Way::Passes),
+        "build" => build(rt),
         _ => return Ok(false),
-    }
+    };
+    answer?;
     Ok(true)
 }
 

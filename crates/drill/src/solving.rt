@@ -148,26 +148,47 @@ fn built<R: Threads + Wait + Files + Sync>(
     }
 }
 
+// Builds into a store: how many tiers there are.
+fn tiers_built<R: Threads + Wait + Files + Sync>(
+    rt: &R,
+    alloc: Global,
+    store: &mut MemStore,
+) -> Option<usize> {
+    Some(built(rt, alloc, store).ok()?.order.tiers().len())
+}
+
+// Prints which tiers of a store have the texts of a build.
+fn say_texts<R: Print + Files>(
+    rt: &R,
+    alloc: Global,
+    what: &str,
+    store: &mut MemStore,
+    right: &Built<Four>,
+) -> io::Result<()> {
+    say(rt, what, Some(texts(rt, alloc, store, right)?))
+}
+
+// Builds twice into an empty store, which then has the texts of a build that is right.
+fn say_builds<R: Print + Threads + Wait + Files + Sync>(
+    rt: &R,
+    alloc: Global,
+    store: &mut MemStore,
+    right: &Built<Four>,
+) -> io::Result<()> {
+    let first = marked!(alloc, tiers_built(rt, alloc, store));
+    say(rt, "answer", first)?;
+    say_texts(rt, alloc, "texts", store, right)?;
+    let again = tiers_built(rt, alloc, store);
+    say(rt, "again", again)?;
+    say_texts(rt, alloc, "end", store, right)
+}
+
 /// Builds Tac Tix on 2 by 2 over a store in memory: after a refusal the tiers before have their texts, and a second build ends it.
 pub fn build<R: Print + AllocGlobal + Threads + Wait + Files + Sync>(rt: &R) -> io::Result<()> {
     let alloc = rt.alloc();
-    let mut other = MemStore::new(alloc);
-    let Ok(right) = built(rt, alloc, &mut other) else {
+    let Ok(right) = built(rt, alloc, &mut MemStore::new(alloc)) else {
         return say(rt, "before", Some("not built"));
     };
     let mut store = MemStore::new(alloc);
-    let first = marked!(alloc, built(rt, alloc, &mut store));
-    say(
-        rt,
-        "answer",
-        first.ok().map(|built| built.order.tiers().len()),
-    )?;
-    say(rt, "texts", Some(texts(rt, alloc, &mut store, &right)?))?;
-    let again = built(rt, alloc, &mut store);
-    say(
-        rt,
-        "again",
-        again.ok().map(|built| built.order.tiers().len()),
-    )?;
-    say(rt, "end", Some(texts(rt, alloc, &mut store, &right)?))
+    say_builds(rt, alloc, &mut store, &right)
 }

@@ -137,6 +137,12 @@ pub fn decode_old<R: Print + AllocGlobal>(rt: &R) -> io::Result<()> {
     say(rt, "again", again.ok().map(|records| records.len()))
 }
 
+// The length of the text of a file, read from a stream.
+fn read_length(alloc: Global, file: &[u8]) -> Option<usize> {
+    let mut reader = file;
+    Some(read_stream(alloc, &mut reader).ok()?.len())
+}
+
 /// `read_text` of the file of the table.
 pub fn read_text<R: Print + AllocGlobal>(rt: &R) -> io::Result<()> {
     let alloc = rt.alloc();
@@ -144,15 +150,9 @@ pub fn read_text<R: Print + AllocGlobal>(rt: &R) -> io::Result<()> {
         return Ok(());
     };
     let file = encode_table(alloc, &table)?;
-    let mut reader = file.as_slice();
-    let first = marked!(alloc, read_stream(alloc, &mut reader));
-    say(rt, "answer", first.ok().map(|text| text.len()))?;
-    let mut reader = file.as_slice();
-    say(
-        rt,
-        "again",
-        read_stream(alloc, &mut reader).ok().map(|text| text.len()),
-    )
+    let first = marked!(alloc, read_length(alloc, file.as_slice()));
+    say(rt, "answer", first)?;
+    say(rt, "again", read_length(alloc, file.as_slice()))
 }
 
 /// `analyse` of the table.
