@@ -3,7 +3,7 @@ ghost use Rattle.std.specs.Prelude.{◌≡◌, ℕ, ◌+◌, ◌-◌, ◌<◌, �
 ghost use Rattle.gm_game.specs.declared.position.Phase.TheVariants.{Ties};
 ghost use Rattle.gm_table.specs.Tables.{IsHeld, AreHeld};
 ghost use Rattle.gm_frontier.specs.Records.{note_of, IsRecorded};
-ghost use Rattle.gm_frontier.specs.Levels.{place_at};
+ghost use Rattle.gm_frontier.specs.Levels.{AreTiles, place_at};
 ghost use Rattle.gm_frontier.specs.Counts.{with_level};
 ghost use Rattle.gm_frontier.specs.Tallies.{IsTile, AreTallies};
 ghost use Rattle.gm_shard.specs.Begin.{AreStarts, first_state};
@@ -204,6 +204,15 @@ pub fn expected_by_tallies<G: Game>(
     Ok(expected)
 }
 
+/// The fresh notes of a shard, as the one run of a list.
+pub fn fresh_run<G: Game>(alloc: Global, shard: &Shard<G>) -> Result<Vec<Run<G>>, AllocError>
+    ensures { IfOk result (λ runs. AreTiles (place_of shard.now) shard.now.lo (shard.now.lo + length shard.now.delivered) runs.items) }
+{
+    let mut runs = Vec::new(alloc);
+    runs.push(shard.fresh(alloc)?)?;
+    Ok(runs)
+}
+
 /// Adds the level of a shard of a whole tier, as far as the shard has settled it.
 pub fn add_fresh<G: Game>(
     alloc: Global,
@@ -217,7 +226,7 @@ pub fn add_fresh<G: Game>(
     requires small { G.rules.tier_size shard.now.tier ≤ TIER_SIZE }
     ensures { OnOk result (expected.new ≡ with_level expected.old (place_of shard.now) (expected.new.number - expected.old.number)) }
 {
-    let runs = vec![in alloc; shard.fresh(alloc)?]?;
+    let runs = fresh_run(alloc, shard)?;
     let level = Level::gather(alloc, shard.place(), runs.as_slice(), tables)?;
     expected.add(&level);
     Ok(())
@@ -234,7 +243,7 @@ pub fn last_of<G: Game>(
     requires small { G.rules.tier_size shard.now.tier ≤ TIER_SIZE }
     ensures { IfOk result (λ last. IfSome last (λ l. l ≡ place_of shard.now)) }
 {
-    let runs = vec![in alloc; shard.fresh(alloc)?]?;
+    let runs = fresh_run(alloc, shard)?;
     let level = Level::gather(alloc, shard.place(), runs.as_slice(), tables)?;
     Ok(level.last(tables))
 }

@@ -6,6 +6,7 @@ ghost use Rattle.gm_shard.specs.Begin.{first_state};
 ghost use Rattle.gm_solver.specs.Spots.{spot_of};
 ghost use Rattle.gm_solver.specs.Rounds.{place_of_spot, HasNoneHere, IsForSpot, IsLevelAt};
 
+use crate::by_hand::fresh_run;
 use gm_frontier::expected::Expected;
 use gm_frontier::level::Level;
 use gm_game::game::Game;
@@ -114,6 +115,23 @@ fn pass_range<G: Game, R: Wait>(
     pass_named::<G, Brand, R>(rt, alloc, blank, shard, level, &expected)
 }
 
+// The same for the indexes before a cut and for those from it up to `hi`.
+fn pass_both<G: Game, R: Wait>(
+    rt: &R,
+    alloc: Global,
+    level: &Level<G>,
+    cut: u64,
+    hi: u64,
+) -> Result<(Passed, Passed), AllocError>
+    requires first { level.now.place ≡ place_of_spot (spot_of (first_state level.now.place.tier 0 0)) }
+    requires order { cut ≤ hi }
+    requires within { hi ≤ TIER_SIZE }
+{
+    let low = pass_range(rt, alloc, level, 0, cut)?;
+    let high = pass_range(rt, alloc, level, cut, hi)?;
+    Ok((low, high))
+}
+
 /// The first level of a tier at two desks, round the indexes before a cut and from it on.
 pub fn pass_by_hand<G: Game, R: Wait>(
     rt: &R,
@@ -128,9 +146,7 @@ pub fn pass_by_hand<G: Game, R: Wait>(
 {
     let size = G::tier_size(tier);
     let whole = begin_range::<G>(alloc, tier, 0, size)?;
-    let runs = vec![in alloc; whole.fresh(alloc)?]?;
+    let runs = fresh_run(alloc, &whole)?;
     let level = Level::gather(alloc, whole.place(), runs.as_slice(), tables)?;
-    let low = pass_range(rt, alloc, &level, 0, cut)?;
-    let high = pass_range(rt, alloc, &level, cut, size)?;
-    Ok((low, high))
+    pass_both(rt, alloc, &level, cut, size)
 }
