@@ -1,5 +1,5 @@
 //! Orders of tiers, shards and levels.
-ghost use Rattle.std.specs.Prelude.{◌≡◌, ◌≤◌, ◌+◌, length, IfOk, IfSome};
+ghost use Rattle.std.specs.Prelude.{◌≡◌, ◌≤◌, IfOk, IfSome};
 ghost use Rattle.gm_game.specs.declared.position.Phase.TheVariants.{Ties};
 ghost use Rattle.gm_frontier.specs.Levels.{AreTiles};
 ghost use Rattle.gm_table.specs.Tables.{AreHeld};
@@ -19,7 +19,7 @@ use gm_shard::shard::Shard;
 use gm_table::packed::Packed;
 use gm_table::tables::Tables;
 use gm_tactix::tactix::TacTix;
-use gm_testing::by_hand::{add_fresh, begin_whole, last_of, starts_of, turn};
+use gm_testing::by_hand::{add_fresh, begin_whole, fresh_run, last_of, starts_of, turn};
 use gm_tiers::order::TierOrder;
 use gm_tiers::tier_error::TierError;
 use gm_toys::countdown::Countdown;
@@ -98,15 +98,6 @@ fn say_gather<G: Game, R: Print>(
     let first = marked!(alloc, notes_gathered(alloc, place, runs, tables));
     say(rt, "answer", first)?;
     say(rt, "again", notes_gathered(alloc, place, runs, tables))
-}
-
-// The fresh notes of a shard as the one run of a list.
-fn fresh_run<G: Game>(alloc: Global, shard: &Shard<G>) -> Result<Vec<Run<G>>, AllocError>
-    ensures { IfOk result (λ runs. AreTiles (place_of shard.now) shard.now.lo (shard.now.lo + length shard.now.delivered) runs.items) }
-{
-    let mut runs = Vec::new(alloc);
-    runs.push(shard.fresh(alloc)?)?;
-    Ok(runs)
 }
 
 // Gathers the first level of a tier.
