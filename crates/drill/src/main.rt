@@ -60,11 +60,7 @@ fn list<R: Print>(rt: &R) -> io::Result<()> {
     Ok(())
 }
 
-<<<<<<< HEAD
 // Makes the call that a word names: false where there is no such word.
-=======
-// Makes the call of a word: false where there is no such word.
->>>>>>> ease
 fn drill<R: Print + AllocGlobal + Threads + Wait + Files + Sync>(
     rt: &R,
     word: &str,

@@ -183,11 +183,7 @@ fn say_builds<R: Print + Threads + Wait + Files + Sync>(
     say_texts(rt, alloc, "end", store, right)
 }
 
-<<<<<<< HEAD
 /// Builds Tac Tix on 2 by 2 over a store in memory: after a refusal the earlier tiers have their texts, and a second build finishes the game.
-=======
-/// Builds Tac Tix on 2 by 2 over a store in memory: after a refusal the tiers before have their texts, and a second build ends it.
->>>>>>> ease
 pub fn build<R: Print + AllocGlobal + Threads + Wait + Files + Sync>(rt: &R) -> io::Result<()> {
     let alloc = rt.alloc();
     let Ok(right) = built(rt, alloc, &mut MemStore::new(alloc)) else {
