@@ -1,7 +1,7 @@
 -- The constant rows of Pascal's triangle.
 use Rattle.std.proofs.Common.{◌≡◌, ℕ, zero, suc, ◌+◌, ◌<◌, Bool, true, ◌&&◌, List, [], ◌∷◌, length, get_or, eqb, eqb-true, refl, ap, ◌∙◌, subst, arith}
 use Rattle.std.specs.List.{list_all}
-use Rattle.gm_board.specs.Lists.{and_left, and_right}
+use Rattle.gm_board.specs.laws.Lists.{and_left, and_right}
 use Rattle.gm_board.specs.Binomials.{binomial, binomial_zero, binomial_none, pascal}
 
 -- whether ys has the sums of the neighbours in p ∷ xs

@@ -8,7 +8,7 @@ use Rattle.std.proofs.lemmas.List.{ext_get_or, get_or-map, length-map}
 use Rattle.std.proofs.lemmas.Nat.Bits.{bit_at-lt, bit_at-zero, bit_at_and, bit_at_or, bit_at-pow_same, bit_at-pow_other, same_from_bits}
 use Rattle.gm_board.specs.declared.cell.Cell.{Cell}
 use Rattle.gm_board.specs.declared.cell.Cell.TheVariants.{Empty, Mine, Theirs}
-use Rattle.gm_board.specs.Lists.{contains_head, contains_later, contains_cases, and_both}
+use Rattle.gm_board.specs.laws.Lists.{contains_head, contains_later, contains_cases, and_both}
 use Rattle.gm_board.specs.Masks.{has_cell}
 use Rattle.gm_board.specs.Pieces.{cell_by, AreApart}
 use Rattle.gm_board.specs.Patterns.{same_tests}

@@ -1,7 +1,7 @@
 -- Patterns: sets of cells, as the lines of a board, and tests on the cells of each.
 use Rattle.std.proofs.Common.{◌≡◌, ℕ, ◌<◌, Bool, true, false, ◌&&◌, ◌||◌, cond, ltb, List, [], ◌∷◌, length, get_or, refl, sym, ap, ap₂, ◌∙◌, subst, arith, ◌⊎◌, inl, inr, ltb-true}
 use Rattle.std.specs.List.{Contains, list_any, list_all}
-use Rattle.gm_board.specs.Lists.{contains_cases, and_left, and_right}
+use Rattle.gm_board.specs.laws.Lists.{contains_cases, and_left, and_right}
 use Rattle.gm_board.specs.Permutations.{permute, same_list, same_list_true, all_at, permute_get}
 use Rattle.gm_board.specs.Groups.{IsGroup, any_at, group_length, image_back}
 

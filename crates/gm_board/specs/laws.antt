@@ -6,3 +6,4 @@ pub mod CellTexts
 pub mod SquareImages
 pub mod CellCounts
 pub mod Filters
+pub mod Lists

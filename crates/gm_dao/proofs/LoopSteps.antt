@@ -15,10 +15,11 @@ use Rattle.gm_board.specs.declared.cell.Cell.{Cell}
 use Rattle.gm_board.specs.Masks.{has_cell, weight}
 use Rattle.gm_board.specs.NextCells.{rest_all, next_cell, cell_below, none_left}
 use Rattle.gm_board.specs.Images.{board_of}
-use Rattle.gm_steps.specs.Steps.{from_point, to_point, from_back, to_back}
+use Rattle.gm_steps.specs.Steps.{from_point, to_point}
+use Rattle.gm_steps.specs.laws.StepFacts.{from_back, to_back}
 use Rattle.gm_board.specs.laws.Filters.{filter_in, filter_out}
 use Rattle.gm_pieces.specs.MoveGames.{steps, before_at}
-use Rattle.gm_pieces.specs.MoveLaws.{before_none, all_steps, step_listed}
+use Rattle.gm_pieces.specs.laws.MoveLaws.{before_none, all_steps, step_listed}
 use Rattle.gm_board.specs.Cells.{is_mine, is_theirs, is_empty, is_taken, cell_at}
 use Rattle.gm_dao.specs.DaoRules.{in_line, path, beyond, can_move, was_moved, least_index_of, dao}
 use Rattle.gm_dao.specs.MaskSlides.{slides_by_masks, AreMovesBelow, AreBeforesBelow}

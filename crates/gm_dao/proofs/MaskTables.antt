@@ -2,7 +2,7 @@
 use Rattle.std.proofs.Common.{◌≡◌, ℕ, ◌<◌, Bool, true, false, not, ◌&&◌, cond, eqb, eqb-true, [], ◌∷◌, map, get_or, refl, sym, ◌∙◌}
 use Rattle.std.specs.List.{list_all, range_with_len}
 use Rattle.std.proofs.lemmas.Bool.{cond-true}
-use Rattle.gm_board.specs.Lists.{and_left, and_right, contains_range}
+use Rattle.gm_board.specs.laws.Lists.{and_left, and_right, contains_range}
 use Rattle.gm_board.specs.BoardMasks.{pattern_mask}
 use Rattle.gm_board.specs.Permutations.{all_at}
 use Rattle.gm_dao.specs.declared.formations.TheConstants.{FORMATIONS, CORNERS, NEXT_TO_CORNERS}

@@ -9,7 +9,7 @@ use Rattle.gm_game.specs.declared.position.Position.{Position}
 use Rattle.gm_game.specs.Rules.{Rules}
 use Rattle.gm_game.specs.Shown.{IsShown}
 use Rattle.gm_game.proofs.BoardLaws.{legal_board}
-use Rattle.gm_board.specs.Lists.{contains_range}
+use Rattle.gm_board.specs.laws.Lists.{contains_range}
 use Rattle.gm_board.specs.Permutations.{all_at}
 use Rattle.gm_sides.specs.laws.TextFacts.{text_length}
 use Rattle.gm_pieces.specs.MoveGames.{board_game}
@@ -25,18 +25,18 @@ use Rattle.gm_dao.specs.laws.BoardFacts.{legal_in as legal_dao}
 use Rattle.gm_dao.specs.Texts.{position_text as dao_text}
 use Rattle.gm_dao.specs.laws.TextLaws.{texts_readable as dao_readable}
 use Rattle.gm_tactix.specs.Board.{side_of, counters_at, tactix_rules}
-use Rattle.gm_tactix.specs.SegmentFacts.{for_sides}
-use Rattle.gm_tactix.specs.TactixLaws.{board_length, side_low, side_high}
+use Rattle.gm_tactix.specs.laws.SegmentFacts.{for_sides}
+use Rattle.gm_tactix.specs.laws.TactixLaws.{board_length, side_low, side_high}
 use Rattle.gm_tactix.specs.Texts.{position_text as tactix_text}
-use Rattle.gm_tactix.specs.TextLaws.{text_length as tactix_length, texts_readable as tactix_readable}
+use Rattle.gm_tactix.specs.laws.TextLaws.{text_length as tactix_length, texts_readable as tactix_readable}
 use Rattle.gm_mutorere.specs.Board.{ring_board as ring_at, mutorere, mutorere_rules}
-use Rattle.gm_mutorere.specs.MutorereLaws.{legal_length}
+use Rattle.gm_mutorere.specs.laws.MutorereLaws.{legal_length}
 use Rattle.gm_mutorere.specs.Texts.{position_text as ring_text}
-use Rattle.gm_mutorere.specs.TextLaws.{text_length as ring_length, texts_readable as ring_readable}
+use Rattle.gm_mutorere.specs.laws.TextLaws.{text_length as ring_length, texts_readable as ring_readable}
 use Rattle.gm_hare.specs.declared.hunt.Hunt.{Hunt}
 use Rattle.gm_hare.specs.Board.{hunt_board, hare_rules}
 use Rattle.gm_hare.specs.Texts.{hunt_text, position_text as hare_text}
-use Rattle.gm_hare.specs.TextLaws.{text_at, text_length as hunt_length, texts_readable as hare_readable}
+use Rattle.gm_hare.specs.laws.TextLaws.{text_at, text_length as hunt_length, texts_readable as hare_readable}
 use Rattle.gm_draw.specs.declared.drawn.TheConstants.{DRAWING}
 use Rattle.gm_draw.specs.Templates.{is_slot, drawn_byte, filled, has_slot, has_slots}
 use Rattle.gm_draw.specs.Drawn.{IsDrawn}

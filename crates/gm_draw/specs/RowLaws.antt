@@ -4,12 +4,12 @@ use Rattle.std.specs.List.{list_all, range_with_len}
 use Rattle.std.specs.Prelude.{◌&&◌}
 use Rattle.std.proofs.lemmas.Bool.Decides.{nat_tests}
 use Rattle.gm_game.proofs.SetLemmas.{same_position}
-use Rattle.gm_board.specs.Lists.{contains_range, and_left, and_right}
+use Rattle.gm_board.specs.laws.Lists.{contains_range, and_left, and_right}
 use Rattle.gm_board.specs.Permutations.{all_at}
 use Rattle.gm_toys.specs.Countdown.{countdown, countdown_name}
-use Rattle.gm_toys.specs.SubtractionLaws.{legal_in}
+use Rattle.gm_toys.specs.laws.SubtractionLaws.{legal_in}
 use Rattle.gm_toys.specs.Wheel.{wheel}
-use Rattle.gm_toys.specs.WheelLaws.{wheel_legal_in}
+use Rattle.gm_toys.specs.laws.WheelLaws.{wheel_legal_in}
 use Rattle.gm_draw.specs.declared.drawn.TheConstants.{DRAWING}
 use Rattle.gm_draw.specs.Drawn.{IsDrawn}
 use Rattle.gm_draw.specs.Names.{player_moves}

@@ -3,7 +3,7 @@ use Rattle.std.proofs.Common.{◌≡◌, ℕ, ◌<◌, ◌≤◌, Bool, true, eq
 use Rattle.std.specs.Prelude.{◌↔◌, IsTrue}
 use Rattle.std.specs.List.{Contains, list_all, list_any, range_with_len}
 use Rattle.std.proofs.lemmas.Bool.Decides.{nat_tests}
-use Rattle.gm_board.specs.Lists.{contains_range}
+use Rattle.gm_board.specs.laws.Lists.{contains_range}
 use Rattle.gm_board.specs.Patterns.{same_tests, any_from}
 use Rattle.gm_board.specs.Permutations.{all_at}
 use Rattle.gm_board.specs.Groups.{any_at}

@@ -1,6 +1,6 @@
 //! Moves on boards.
 ghost use Rattle.std.specs.Prelude.{◌≡◌, ◌<◌, true};
-ghost use Rattle.gm_hare.specs.PointFacts.{is_step};
+ghost use Rattle.gm_hare.specs.laws.PointFacts.{is_step};
 ghost use Rattle.gm_hare.specs.Board.{is_free as is_free_of, can_go as can_go_of, can_move as can_move_of, play as play_of, can_have_gone as can_have_gone_of, was_moved as was_moved_of, taken_back as taken_back_of, are_joined as are_joined_of};
 
 use crate::hunt::Hunt;
@@ -19,7 +19,7 @@ fn is_free(board: &Hunt, point: u32) -> bool
 }
 
 // Whether the side to move can go along an edge: a hound not back, the hare either way.
-#[tactic(auto, using(crate::specs::PointFacts::joined_from, crate::specs::PointFacts::joined_to))]
+#[tactic(auto, using(crate::specs::laws::PointFacts::joined_from, crate::specs::laws::PointFacts::joined_to))]
 fn can_go(board: &Hunt, step: Step) -> bool
     requires { are_joined_of step.from step.to ≡ true }
     ensures { result ≡ can_go_of board.now step.from step.to }
@@ -70,7 +70,7 @@ pub fn play(board: &Hunt, number: u32) -> Hunt
 }
 
 // Whether the side that has moved can have gone along an edge.
-#[tactic(auto, using(crate::specs::PointFacts::joined_from, crate::specs::PointFacts::joined_to))]
+#[tactic(auto, using(crate::specs::laws::PointFacts::joined_from, crate::specs::laws::PointFacts::joined_to))]
 fn can_have_gone(board: &Hunt, step: Step) -> bool
     requires { are_joined_of step.from step.to ≡ true }
     ensures { result ≡ can_have_gone_of board.now step.from step.to }

@@ -1,6 +1,6 @@
 //! Tiers: a tier is the sum of the columns of the hounds, 2 to 10.
 ghost use Rattle.std.specs.Prelude.{◌≡◌};
-ghost use Rattle.gm_hare.specs.HareLaws.{tier_size_of, child_tiers_of, tier_rank_of};
+ghost use Rattle.gm_hare.specs.laws.HareLaws.{tier_size_of, child_tiers_of, tier_rank_of};
 
 use arrayvec::ArrayVec;
 use gm_game::limits::CHILD_TIERS;

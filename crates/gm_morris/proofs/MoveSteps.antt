@@ -4,7 +4,7 @@ use Rattle.std.specs.List.{list_any, list_all, range_with_len}
 use Rattle.std.specs.Prelude.{bit_and}
 use Rattle.gm_board.specs.declared.cell.Cell.{Cell}
 use Rattle.gm_board.specs.declared.cell.Cell.TheVariants.{Theirs}
-use Rattle.gm_board.specs.Lists.{contains_range}
+use Rattle.gm_board.specs.laws.Lists.{contains_range}
 use Rattle.gm_board.specs.Binomials.{binomial}
 use Rattle.gm_board.specs.Arrangements.{arrangements}
 use Rattle.gm_board.specs.Masks.{has_cell}

@@ -1,6 +1,6 @@
 //! The calls of a game that is said by the numbers of its moves.
 ghost use Rattle.gm_pieces.specs.MoveGames.{move_rules};
-ghost use Rattle.gm_pieces.specs.MoveLaws.{moves_are_game};
+ghost use Rattle.gm_pieces.specs.laws.MoveLaws.{moves_are_game};
 
 use crate::boards::{board, least_position, position};
 use crate::lists::MoveLists;

@@ -3,7 +3,7 @@ ghost use Rattle.std.specs.Prelude.{◌≡◌, ◌↔◌, ◌<◌, ℕ, true, Is
 ghost use Rattle.std.specs.List.{Contains};
 ghost use Rattle.gm_pieces.specs.MoveGames.{board_game, IsMove};
 ghost use Rattle.gm_pieces.specs.MoveTexts.{position_text, move_text};
-ghost use Rattle.gm_pieces.specs.TextFacts.{texts_are_shown};
+ghost use Rattle.gm_pieces.specs.laws.TextFacts.{texts_are_shown};
 
 use crate::boards::{board, position};
 use crate::lists::MoveLists;
@@ -45,7 +45,7 @@ fn has_text<T: MoveRules>(board: T::Board, number: u32, text: &[u8]) -> bool
 }
 
 // The move with this text, if there is one.
-#[tactic(auto, using(crate::specs::TextFacts::move_missing, crate::specs::MoveLaws::plays, crate::specs::MoveLaws::plays_not))]
+#[tactic(auto, using(crate::specs::laws::TextFacts::move_missing, crate::specs::laws::MoveLaws::plays, crate::specs::laws::MoveLaws::plays_not))]
 fn read_step<T: MoveRules>(board: T::Board, text: &[u8]) -> Option<u32>
     requires { T.game.legal (T.cells board) ≡ true }
     ensures { (m : ℕ) → (result ≡ Some m) ↔ (Contains ((board_game T.game).moves (T.cells board)) m × (T.step_text (T.game.tier (T.cells board)) m ≡ text.now)) }

@@ -11,9 +11,10 @@ use Rattle.gm_board.specs.BoardMasks.{pattern_mask}
 use Rattle.gm_board.specs.Ranks.{members}
 use Rattle.gm_tactix.specs.Segments.{segment_length, segment_cells, is_segment}
 use Rattle.gm_tactix.specs.Board.{is_full, is_free, with_counters, can_take, play, was_taken}
-use Rattle.gm_tactix.specs.SegmentFacts.{square_small, cells_within}
-use Rattle.gm_tactix.specs.MoveFacts.{move_in, taken_in}
-use Rattle.gm_tactix.specs.CounterMasks.{counters_of, counters_members, full_mask, free_mask, without_mask, with_mask}
+use Rattle.gm_tactix.specs.laws.SegmentFacts.{square_small, cells_within}
+use Rattle.gm_tactix.specs.laws.MoveFacts.{move_in, taken_in}
+use Rattle.gm_tactix.specs.CounterMasks.{counters_of}
+use Rattle.gm_tactix.specs.laws.CounterMaskFacts.{counters_members, full_mask, free_mask, without_mask, with_mask}
 use Rattle.gm_board.specs.laws.MaskChanges.{has_and, has_not}
 use Rattle.gm_tactix.proofs.MaskSteps.{pattern_below}
 

@@ -5,10 +5,10 @@ use Rattle.std.specs.List.{Contains}
 use Rattle.std.proofs.Math.Nat.{mod-eq_of_lt}
 use Rattle.std.proofs.Math.Pow.{pow-lt}
 use Rattle.std.proofs.lemmas.Nat.{or_comm, or_lt}
-use Rattle.gm_board.specs.Lists.{contains_head, contains_later}
+use Rattle.gm_board.specs.laws.Lists.{contains_head, contains_later}
 use Rattle.gm_board.specs.BoardMasks.{pattern_mask}
 use Rattle.gm_tactix.specs.Segments.{first_cell, segment_length, stride, cells_from, segment_cells, is_segment}
-use Rattle.gm_tactix.specs.SegmentFacts.{cells_within}
+use Rattle.gm_tactix.specs.laws.SegmentFacts.{cells_within}
 
 in_cells : (c step n j : ℕ) → j < n → Contains (cells_from c step n) (c + step * j)
 in_cells c step zero j l = absurd (omega arith)

@@ -2,13 +2,13 @@
 use Rattle.std.proofs.Common.{◌≡◌, ◌≢◌, ℕ, ◌-◌, ◌*◌, ◌^◌, ◌<◌, ◌≤◌, Bool, true, false, not, ◌&&◌, cond, eqb, eqb-true, eq-eqb, ltb, ltb-true, [], get_or, refl, sym, ap, ◌∙◌, arith, inl, inr}
 use Rattle.std.specs.List.{list_all, range_with_len}
 use Rattle.std.proofs.lemmas.Bool.{cases_Bool, cond-true, cond-false, true≢false}
-use Rattle.gm_board.specs.Lists.{and_left, and_right, contains_range}
+use Rattle.gm_board.specs.laws.Lists.{and_left, and_right, contains_range}
 use Rattle.gm_board.specs.BoardMasks.{pattern_mask}
 use Rattle.gm_board.specs.Permutations.{all_at}
 use Rattle.gm_tactix.specs.declared.masks.TheConstants.{MASKS}
 use Rattle.gm_tactix.specs.Segments.{segment_cells, is_segment}
 use Rattle.gm_tactix.specs.SegmentMasks.{segment_mask}
-use Rattle.gm_tactix.specs.SegmentFacts.{for_sides, square_small, number_below}
+use Rattle.gm_tactix.specs.laws.SegmentFacts.{for_sides, square_small, number_below}
 
 -- what the table says of a number
 abbrev agrees : ℕ → ℕ → Bool

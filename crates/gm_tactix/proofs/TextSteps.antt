@@ -6,9 +6,10 @@ use Rattle.std.proofs.lemmas.List.FromFn.{map-range_with_len_more}
 use Rattle.gm_board.specs.Masks.{has_cell}
 use Rattle.gm_board.specs.laws.Marks.{IsRead}
 use Rattle.gm_tactix.specs.Texts.{counter_text, board_text}
-use Rattle.gm_tactix.specs.TextLaws.{text_length, counter_back}
-use Rattle.gm_tactix.specs.CounterFacts.{same_board}
-use Rattle.gm_tactix.specs.CounterMasks.{counters_of, counters_length, counter_at}
+use Rattle.gm_tactix.specs.laws.TextLaws.{text_length, counter_back}
+use Rattle.gm_tactix.specs.laws.CounterFacts.{same_board}
+use Rattle.gm_tactix.specs.CounterMasks.{counters_of}
+use Rattle.gm_tactix.specs.laws.CounterMaskFacts.{counters_length, counter_at}
 
 -- the text of no cell
 pub text_none : (mask : ℕ) → board_text (counters_of 0 mask) ≡ []

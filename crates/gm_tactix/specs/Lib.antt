@@ -1,10 +1,6 @@
 pub mod Segments
 pub mod SegmentMasks
 pub mod Board
-pub mod SegmentFacts
-pub mod CounterFacts
-pub mod MoveFacts
-pub mod TactixLaws
 pub mod CounterMasks
 pub mod Texts
-pub mod TextLaws
+pub mod laws

@@ -29,7 +29,7 @@ impl Segment {
     }
 
     /// The least cell.
-    #[tactic(auto, using(crate::specs::SegmentFacts::first_within))]
+    #[tactic(auto, using(crate::specs::laws::SegmentFacts::first_within))]
     pub fn first(self) -> u32
         ensures value { result ≡ first_cell self.number }
         ensures within { result < self.side * self.side }

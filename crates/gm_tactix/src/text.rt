@@ -30,7 +30,7 @@ fn counter_byte(counters: u32, cell: u32) -> u8
 }
 
 /// The text of a board: its cells in order, `x` for a counter and `.` for an empty cell (docs/GAMES.md, Tac Tix).
-#[tactic(auto, using(crate::specs::SegmentFacts::square_few, crate::proofs::TextSteps::text_none, crate::proofs::TextSteps::text_more, crate::proofs::TextSteps::text_long))]
+#[tactic(auto, using(crate::specs::laws::SegmentFacts::square_few, crate::proofs::TextSteps::text_none, crate::proofs::TextSteps::text_more, crate::proofs::TextSteps::text_long))]
 pub fn board_text(side: u32, counters: u32) -> Line
     requires { side ≤ 5 }
     ensures { result.items ≡ board_text_of (counters_of (side * side) counters) }
@@ -53,7 +53,7 @@ fn has_mark(text: &[u8], cell: u32) -> bool
 }
 
 /// The mask of the cells of the square at which the text has the byte of a counter. Any bytes may be given.
-#[tactic(auto, using(crate::specs::SegmentFacts::square_few, gm_board::specs::laws::Marks::read_in, gm_board::specs::laws::Marks::read_out, gm_board::specs::laws::Marks::read_start, gm_board::specs::laws::MaskChanges::with_within, crate::proofs::TextSteps::read_all))]
+#[tactic(auto, using(crate::specs::laws::SegmentFacts::square_few, gm_board::specs::laws::Marks::read_in, gm_board::specs::laws::Marks::read_out, gm_board::specs::laws::Marks::read_start, gm_board::specs::laws::MaskChanges::with_within, crate::proofs::TextSteps::read_all))]
 pub fn marks(side: u32, text: &[u8]) -> u32
     requires { side ≤ 5 }
     ensures within { result < 2 ^ (side * side) }

@@ -5,7 +5,7 @@ use Rattle.gm_game.specs.declared.position.Position.{Position}
 use Rattle.gm_game.specs.Rules.{at}
 use Rattle.gm_game.proofs.SetLemmas.{same_position}
 use Rattle.gm_toys.specs.Subtraction.{subtraction, number_text}
-use Rattle.gm_toys.specs.SubtractionLaws.{legal_in, legal_from}
+use Rattle.gm_toys.specs.laws.SubtractionLaws.{legal_in, legal_from}
 
 -- a number that was read is the position with that text
 pub position_read : (name : List ℕ) (most n last : ℕ) (text : List ℕ) (read : Option ℕ) (i : ℕ) → last ≡ n → ((k : ℕ) → (read ≡ Some k) ↔ ((k ≤ last) × (decimal k ≡ text))) → read ≡ Some i

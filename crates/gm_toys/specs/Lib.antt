@@ -1,8 +1,6 @@
 pub mod Subtraction
-pub mod SubtractionLaws
 pub mod Countdown
 pub mod Chain
 pub mod Wheel
-pub mod WheelLaws
 pub mod Stairs
-pub mod StairsLaws
+pub mod laws

@@ -2,7 +2,7 @@
 ghost use Rattle.std.specs.Prelude.{◌≡◌, refl};
 ghost use Rattle.std.proofs.Common.{rules};
 ghost use Rattle.gm_toys.specs.Subtraction.{number_text, step_text};
-ghost use Rattle.gm_toys.specs.SubtractionLaws.{subtraction_lawful, subtraction_readable};
+ghost use Rattle.gm_toys.specs.laws.SubtractionLaws.{subtraction_lawful, subtraction_readable};
 ghost use Rattle.gm_toys.specs.Countdown.{countdown, countdown_name};
 
 use crate::subtraction::{moves_down, numbers_above, read_number, read_step, show_number};

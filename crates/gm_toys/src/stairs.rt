@@ -3,7 +3,7 @@ ghost use Rattle.std.specs.Prelude.{◌≡◌};
 ghost use Rattle.std.proofs.Common.{rules};
 ghost use Rattle.gm_toys.specs.Subtraction.{step_text};
 ghost use Rattle.gm_toys.specs.Stairs.{stairs, tier_text};
-ghost use Rattle.gm_toys.specs.StairsLaws.{stairs_lawful, stairs_readable};
+ghost use Rattle.gm_toys.specs.laws.StairsLaws.{stairs_lawful, stairs_readable};
 
 use crate::subtraction::{moves_down, read_number, read_step, show_number};
 use arrayvec::ArrayVec;

@@ -4,7 +4,7 @@ ghost use Rattle.std.specs.List.{Contains};
 ghost use Rattle.std.specs.Fmt.{decimal};
 ghost use Rattle.gm_toys.specs.Subtraction.{number_text};
 ghost use Rattle.gm_toys.specs.Wheel.{wheel, wheel_targets, wheel_sources, target_text};
-ghost use Rattle.gm_toys.specs.WheelLaws.{wheel_lawful, wheel_readable};
+ghost use Rattle.gm_toys.specs.laws.WheelLaws.{wheel_lawful, wheel_readable};
 
 use crate::subtraction::{read_number, show_number};
 use arrayvec::ArrayVec;

@@ -5,7 +5,7 @@ use Rattle.std.proofs.lemmas.Bool.{cases_Bool, cond_both, true≢false}
 use Rattle.std.proofs.lemmas.List.{append-nil, length-append}
 use Rattle.std.proofs.lemmas.List.Elements.{filter-append, filter_map-append}
 use Rattle.std.proofs.lemmas.List.FromFn.{length-range_with_len, get_or-range_with_len}
-use Rattle.gm_board.specs.Lists.{contains_head, range_more}
+use Rattle.gm_board.specs.laws.Lists.{contains_head, range_more}
 
 -- the numbers of a range
 pub range_in : (a n x : ℕ) → Contains (range_with_len a n) x → (a ≤ x) × (x < a + n)

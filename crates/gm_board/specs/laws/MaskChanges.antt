@@ -8,7 +8,7 @@ use Rattle.std.proofs.lemmas.Bool.{cases_eq}
 use Rattle.std.proofs.lemmas.Bool.Decides.{nat_tests}
 use Rattle.std.proofs.lemmas.Nat.{or_lt, and_le_l, one_shl}
 use Rattle.std.proofs.lemmas.Nat.Bits.{bit_at-lt, bit_at-zero, bit_at_and, bit_at_or, bit_at_not, bit_at_set_other, same_from_bits}
-use Rattle.gm_board.specs.Lists.{contains_head, contains_later}
+use Rattle.gm_board.specs.laws.Lists.{contains_head, contains_later}
 use Rattle.gm_board.specs.Masks.{has_cell}
 use Rattle.gm_board.specs.Permutations.{all_at}
 

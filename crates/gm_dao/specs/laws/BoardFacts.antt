@@ -4,7 +4,7 @@ use Rattle.std.specs.List.{Contains}
 use Rattle.std.proofs.lemmas.Bool.{not-true}
 use Rattle.gm_board.specs.declared.cell.Cell.{Cell}
 use Rattle.gm_board.specs.declared.cell.Cell.TheVariants.{Empty}
-use Rattle.gm_board.specs.Lists.{and_left, and_right, and_both}
+use Rattle.gm_board.specs.laws.Lists.{and_left, and_right, and_both}
 use Rattle.gm_board.specs.BoardMasks.{turned}
 use Rattle.gm_board.specs.Groups.{image_length}
 use Rattle.gm_board.specs.Patterns.{filled_image}

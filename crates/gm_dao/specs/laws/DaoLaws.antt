@@ -8,7 +8,7 @@ use Rattle.gm_board.specs.Binomials.{binomial}
 use Rattle.gm_board.specs.Arrangements.{arrangements, arrangement_index}
 use Rattle.gm_board.specs.Squares.{square_symmetries}
 use Rattle.gm_pieces.specs.MoveGames.{board_game, IsMoveGame, IsMoveSymmetric}
-use Rattle.gm_pieces.specs.Images.{permuted_group}
+use Rattle.gm_pieces.specs.laws.Images.{permuted_group}
 use Rattle.gm_board.specs.Cells.{is_mine, is_theirs, number_of}
 use Rattle.gm_sides.specs.Sides.{board_index}
 use Rattle.gm_dao.specs.DaoRules.{formations, has_formation, legal, board_at, dao_name, start_board, play, dao}

@@ -6,10 +6,11 @@ use Rattle.std.proofs.lemmas.List.{length-append}
 use Rattle.gm_game.specs.declared.position.End.TheVariants.{Lose}
 use Rattle.gm_board.specs.declared.cell.Cell.{Cell}
 use Rattle.gm_board.specs.declared.cell.Cell.TheVariants.{Empty, Mine}
-use Rattle.gm_board.specs.Lists.{and_left, and_right, and_both}
+use Rattle.gm_board.specs.laws.Lists.{and_left, and_right, and_both}
 use Rattle.gm_board.specs.Patterns.{fills}
 use Rattle.gm_board.specs.Permutations.{all_at}
-use Rattle.gm_steps.specs.Steps.{from_point, to_point, number_below}
+use Rattle.gm_steps.specs.Steps.{from_point, to_point}
+use Rattle.gm_steps.specs.laws.StepFacts.{number_below}
 use Rattle.gm_board.specs.laws.Filters.{filter_in, filter_out}
 use Rattle.gm_pieces.specs.MoveGames.{steps}
 use Rattle.gm_board.specs.Cells.{is_mine, is_theirs, is_empty, is_taken, cell_at, number_of}

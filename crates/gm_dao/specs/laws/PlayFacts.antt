@@ -5,13 +5,14 @@ use Rattle.std.proofs.lemmas.List.{length-map}
 use Rattle.gm_game.specs.declared.position.End.TheVariants.{Lose, Win}
 use Rattle.gm_board.specs.declared.cell.Cell.{Cell}
 use Rattle.gm_board.specs.declared.cell.Cell.TheVariants.{Empty, Mine}
-use Rattle.gm_board.specs.Lists.{contains_head, contains_later, and_left, and_right, and_both}
+use Rattle.gm_board.specs.laws.Lists.{contains_head, contains_later, and_left, and_right, and_both}
 use Rattle.gm_board.specs.BoardMasks.{turned}
 use Rattle.gm_board.specs.Groups.{image_back, image_slide, any_at}
 use Rattle.gm_board.specs.Patterns.{fills, same_tests, any_from}
 use Rattle.gm_board.specs.Permutations.{permute, all_at}
 use Rattle.gm_board.specs.Squares.{square_symmetries}
-use Rattle.gm_steps.specs.Steps.{step_number, from_point, to_point, from_back, to_back}
+use Rattle.gm_steps.specs.Steps.{step_number, from_point, to_point}
+use Rattle.gm_steps.specs.laws.StepFacts.{from_back, to_back}
 use Rattle.gm_pieces.specs.MoveGames.{IsMove}
 use Rattle.gm_board.specs.Cells.{is_mine, is_theirs, is_empty, is_taken, cell_at}
 use Rattle.gm_sides.specs.Sides.{gone}

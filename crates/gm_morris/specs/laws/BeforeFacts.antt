@@ -4,7 +4,7 @@ use Rattle.std.specs.List.{filter, range_with_len}
 use Rattle.std.proofs.lemmas.Bool.{cases_eq, cond-true, cond-false, ne_eqb}
 use Rattle.gm_board.specs.declared.cell.Cell.{Cell}
 use Rattle.gm_board.specs.declared.cell.Cell.TheVariants.{Empty, Mine, Theirs}
-use Rattle.gm_board.specs.Lists.{and_left, and_right, and_both}
+use Rattle.gm_board.specs.laws.Lists.{and_left, and_right, and_both}
 use Rattle.gm_board.specs.BoardMasks.{turned}
 use Rattle.gm_board.specs.laws.Filters.{filter_few}
 use Rattle.gm_pieces.specs.MoveGames.{IsMove}

@@ -6,11 +6,11 @@ use Rattle.gm_game.specs.Rules.{IsAscending}
 use Rattle.gm_game.specs.Boards.{IsNumbered}
 use Rattle.gm_board.specs.declared.cell.Cell.{Cell}
 use Rattle.gm_board.specs.declared.cell.Cell.TheVariants.{Empty}
-use Rattle.gm_board.specs.Lists.{contains_cases}
+use Rattle.gm_board.specs.laws.Lists.{contains_cases}
 use Rattle.gm_board.specs.Arrangements.{arrangements, arrangements_fit}
 use Rattle.gm_board.specs.Squares.{square_symmetries}
 use Rattle.gm_pieces.specs.MoveGames.{board_game, IsMoveGame, IsMoveSymmetric}
-use Rattle.gm_pieces.specs.Images.{permuted_group}
+use Rattle.gm_pieces.specs.laws.Images.{permuted_group}
 use Rattle.gm_morris.specs.declared.variant.Variant.{Variant}
 use Rattle.gm_morris.specs.declared.variant.Variant.TheVariants.{TicTacToe, ThreeMens, Achi}
 use Rattle.gm_morris.specs.Points.{last_tier, lines}

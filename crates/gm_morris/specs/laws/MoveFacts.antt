@@ -5,7 +5,7 @@ use Rattle.std.proofs.lemmas.Bool.{cases_eq, cases_Bool, cond-true, cond-false, 
 use Rattle.gm_game.specs.declared.position.End.TheVariants.{Lose}
 use Rattle.gm_board.specs.declared.cell.Cell.{Cell}
 use Rattle.gm_board.specs.declared.cell.Cell.TheVariants.{Empty, Mine}
-use Rattle.gm_board.specs.Lists.{and_left, and_right, and_both}
+use Rattle.gm_board.specs.laws.Lists.{and_left, and_right, and_both}
 use Rattle.gm_board.specs.laws.Filters.{filter_few}
 use Rattle.gm_pieces.specs.MoveGames.{steps, IsMove}
 use Rattle.gm_morris.specs.declared.variant.Variant.{Variant}

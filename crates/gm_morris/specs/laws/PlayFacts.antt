@@ -5,7 +5,7 @@ use Rattle.std.proofs.lemmas.Bool.{cond-true, cond-false, ne_eqb}
 use Rattle.std.proofs.lemmas.List.{length-map}
 use Rattle.gm_board.specs.declared.cell.Cell.{Cell}
 use Rattle.gm_board.specs.declared.cell.Cell.TheVariants.{Empty, Mine}
-use Rattle.gm_board.specs.Lists.{contains_head}
+use Rattle.gm_board.specs.laws.Lists.{contains_head}
 use Rattle.gm_board.specs.BoardMasks.{turned}
 use Rattle.gm_board.specs.Groups.{image_set, image_slide}
 use Rattle.gm_board.specs.Permutations.{permute}

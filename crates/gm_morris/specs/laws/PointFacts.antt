@@ -2,7 +2,7 @@
 use Rattle.std.proofs.Common.{◌≡◌, ℕ, ◌/◌, ◌%◌, ◌<◌, ◌≤◌, Bool, true, false, not, List, ◌++◌, map, length, get_or, ◌⊎◌, inl, inr, refl, ap, ◌∙◌, arith, leb, leb-true, ltb-true}
 use Rattle.std.specs.List.{Contains, list_all, filter, range_with_len}
 use Rattle.gm_game.specs.Texts.{IsPaddedText}
-use Rattle.gm_board.specs.Lists.{and_left, and_right, contains_range}
+use Rattle.gm_board.specs.laws.Lists.{and_left, and_right, contains_range}
 use Rattle.gm_board.specs.Masks.{has_cell}
 use Rattle.gm_board.specs.BoardMasks.{pattern_mask}
 use Rattle.gm_board.specs.Patterns.{keeps_patterns}

@@ -8,7 +8,7 @@ use Rattle.gm_sides.specs.SideTexts.{board_text}
 use Rattle.gm_board.specs.laws.CellTexts.{cell_text_once, step_text_once}
 use Rattle.gm_sides.specs.laws.TextFacts.{text_length, text_once, text_plain, cell_plain}
 use Rattle.gm_pieces.specs.MoveTexts.{AreTexts}
-use Rattle.gm_pieces.specs.TextFacts.{texts_are_shown}
+use Rattle.gm_pieces.specs.laws.TextFacts.{texts_are_shown}
 use Rattle.gm_morris.specs.declared.variant.Variant.{Variant}
 use Rattle.gm_morris.specs.Points.{variant_of, last_tier}
 use Rattle.gm_morris.specs.Morris.{mine, theirs, numbers_end, morris, morris_rules}

@@ -6,7 +6,7 @@ use Rattle.gm_game.proofs.PlainTexts.{plain_in, plain_map}
 use Rattle.gm_board.specs.declared.cell.Cell.{Cell}
 use Rattle.gm_board.specs.declared.cell.Cell.TheVariants.{Empty, Mine, Theirs}
 use Rattle.gm_board.specs.Pieces.{cell_by}
-use Rattle.gm_board.specs.Lists.{and_both}
+use Rattle.gm_board.specs.laws.Lists.{and_both}
 use Rattle.gm_board.specs.Squares.{cell_text}
 use Rattle.gm_board.specs.laws.Marks.{map_once}
 use Rattle.gm_sides.specs.SideTexts.{cell_char, board_text}

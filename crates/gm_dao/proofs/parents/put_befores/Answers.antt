@@ -1,7 +1,7 @@
 use Rattle.std.proofs.Common.{arith}
 use Rattle.gm_board.specs.Images.{board_of}
 use Rattle.gm_board.specs.NextCells.{next_cell, cell_below}
-use Rattle.gm_steps.specs.Listed.{put_room}
+use Rattle.gm_steps.specs.laws.Listed.{put_room}
 use Rattle.gm_pieces.specs.MoveGames.{before_at, befores}
 use Rattle.gm_dao.specs.DaoRules.{numbers_end, least_index_of, dao}
 use Rattle.gm_dao.proofs.LoopSteps.{befores_skip, befores_end, before_less, before_more}

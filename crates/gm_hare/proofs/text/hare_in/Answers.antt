@@ -1,7 +1,7 @@
 use Rattle.std.proofs.Common.{◌≡◌, ℕ, List, false, eqb, get_or, sym, ap, ◌∙◌, subst, arith, inl, inr}
 use Rattle.std.proofs.lemmas.Bool.{cases_lt, true≢false}
-use Rattle.gm_hare.specs.MoveFacts.{legal_in}
-use Rattle.gm_hare.specs.TextLaws.{hare_char, hare_at}
+use Rattle.gm_hare.specs.laws.MoveFacts.{legal_in}
+use Rattle.gm_hare.specs.laws.TextLaws.{hare_char, hare_at}
 use Rattle.gm_hare.proofs.text.hare_in.Goals as goal
 
 pub loop-place-preserved : goal.loop-place-preserved

@@ -1,6 +1,6 @@
 use Rattle.std.proofs.Common.{ℕ, List, eqb, get_or, sym, ap, ◌∙◌, arith}
-use Rattle.gm_hare.specs.MoveFacts.{legal_in}
-use Rattle.gm_hare.specs.TextLaws.{hound_char}
+use Rattle.gm_hare.specs.laws.MoveFacts.{legal_in}
+use Rattle.gm_hare.specs.laws.TextLaws.{hound_char}
 use Rattle.gm_hare.proofs.HoundSteps.{written_more, written_all}
 use Rattle.gm_hare.proofs.text.hounds_in.Goals as goal
 

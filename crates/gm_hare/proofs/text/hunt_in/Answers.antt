@@ -1,6 +1,6 @@
 use Rattle.std.proofs.Common.{ℕ, List, eqb, get_or, sym, ap, ◌∙◌}
-use Rattle.gm_hare.specs.HoundFacts.{same_hunt}
-use Rattle.gm_hare.specs.TextLaws.{turn_char}
+use Rattle.gm_hare.specs.laws.HoundFacts.{same_hunt}
+use Rattle.gm_hare.specs.laws.TextLaws.{turn_char}
 use Rattle.gm_hare.proofs.text.hunt_in.Goals as goal
 
 pub returns : goal.returns

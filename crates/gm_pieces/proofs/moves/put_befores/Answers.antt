@@ -1,7 +1,7 @@
 use Rattle.std.proofs.Common.{◌<◌, arith}
 use Rattle.gm_game.specs.Boards.{least_index}
 use Rattle.gm_pieces.specs.MoveGames.{board_game}
-use Rattle.gm_pieces.specs.MoveLaws.{before_room}
+use Rattle.gm_pieces.specs.laws.MoveLaws.{before_room}
 use Rattle.gm_pieces.proofs.moves.put_befores.Goals as goal
 
 pub put-requires : goal.put-requires

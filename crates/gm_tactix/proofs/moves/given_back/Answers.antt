@@ -1,5 +1,5 @@
 use Rattle.std.proofs.Common.{◌*◌, ◌∙◌}
-use Rattle.gm_tactix.specs.MoveFacts.{taken_in}
+use Rattle.gm_tactix.specs.laws.MoveFacts.{taken_in}
 use Rattle.gm_tactix.specs.CounterMasks.{counters_of}
 use Rattle.gm_tactix.proofs.MaskMoves.{back_of}
 use Rattle.gm_tactix.proofs.MaskTable.{mask_of_segment}

@@ -1,6 +1,6 @@
 use Rattle.std.proofs.Common.{◌≡◌, ◌+◌, ◌-◌, ℕ, List, length, ap, ◌∙◌, arith}
 use Rattle.std.proofs.lemmas.List.FromFn.{length-range_with_len}
-use Rattle.gm_tactix.specs.MoveFacts.{range_push}
+use Rattle.gm_tactix.specs.laws.MoveFacts.{range_push}
 use Rattle.gm_tactix.proofs.tiers.child_tiers.Goals as goal
 
 pub push-requires : goal.push-requires

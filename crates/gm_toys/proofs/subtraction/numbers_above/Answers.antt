@@ -1,6 +1,6 @@
 use Rattle.std.proofs.Common.{◌≡◌, ◌+◌, ℕ, List, length, ap, ◌∙◌, arith}
 use Rattle.std.proofs.lemmas.List.FromFn.{length-range_with_len}
-use Rattle.gm_toys.specs.SubtractionLaws.{range_push}
+use Rattle.gm_toys.specs.laws.SubtractionLaws.{range_push}
 use Rattle.gm_toys.proofs.subtraction.numbers_above.Goals as goal
 
 pub push-requires : goal.push-requires

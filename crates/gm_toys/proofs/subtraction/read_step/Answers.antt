@@ -2,7 +2,7 @@ use Rattle.std.proofs.Common.{◌≡◌, ◌≤◌, ◌^◌, ◌<◌, ◌↔◌,
 use Rattle.std.specs.List.{Contains}
 use Rattle.std.specs.Fmt.{decimal}
 use Rattle.gm_toys.specs.Subtraction.{moves_down}
-use Rattle.gm_toys.specs.SubtractionLaws.{range_in, range_from}
+use Rattle.gm_toys.specs.laws.SubtractionLaws.{range_in, range_from}
 use Rattle.gm_toys.proofs.subtraction.read_step.Goals as goal
 
 -- what is read is the number that a text is written for

@@ -2,7 +2,7 @@ use Rattle.std.proofs.Common.{◌≡◌, ◌≤◌, ◌<◌, ◌↔◌, ℕ, Lis
 use Rattle.std.specs.List.{Contains}
 use Rattle.std.specs.Fmt.{decimal}
 use Rattle.gm_toys.specs.Wheel.{wheel_targets}
-use Rattle.gm_toys.specs.WheelLaws.{target_in}
+use Rattle.gm_toys.specs.laws.WheelLaws.{target_in}
 use Rattle.gm_toys.proofs.wheel.read_target.Goals as goal
 
 -- what is read is the number that a text is written for

@@ -7,7 +7,7 @@ use Rattle.gm_game.specs.Children.{IsSetOf, with_position}
 use Rattle.gm_game.proofs.SetLemmas.{length_with_le}
 use Rattle.gm_game.proofs.ChildrenSteps.{set_step, set_end}
 use Rattle.gm_pieces.specs.MoveGames.{MoveGame, board_game, IsMove}
-use Rattle.gm_pieces.specs.MoveLaws.{move_in}
+use Rattle.gm_pieces.specs.laws.MoveLaws.{move_in}
 use Rattle.gm_pieces.proofs.lists.MoveLists.children.Goals as goal
 
 listed : {B S : Type 0} (r : MoveGame B S) (b : B) (xs : List ℕ) (i : ℕ) → xs ≡ (board_game r).moves b → i < length xs → IsMove r b (get_or xs i 0)

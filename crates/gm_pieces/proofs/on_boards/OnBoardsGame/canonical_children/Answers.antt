@@ -3,7 +3,7 @@ use Rattle.gm_game.specs.Boards.{next_images}
 use Rattle.gm_game.specs.Children.{IsSetOf}
 use Rattle.gm_game.proofs.ChildrenSteps.{board_children}
 use Rattle.gm_pieces.specs.MoveGames.{board_game}
-use Rattle.gm_pieces.specs.MoveLaws.{move_game_lawful}
+use Rattle.gm_pieces.specs.laws.MoveLaws.{move_game_lawful}
 use Rattle.gm_pieces.proofs.on_boards.OnBoardsGame.canonical_children.Goals as goal
 
 pub returns : goal.returns

@@ -1,7 +1,7 @@
 use Rattle.std.proofs.Common.{◌≡◌, true, sym, subst}
 use Rattle.gm_game.specs.Boards.{board_of}
 use Rattle.gm_pieces.specs.MoveGames.{board_game, IsMove}
-use Rattle.gm_pieces.specs.MoveLaws.{move_in}
+use Rattle.gm_pieces.specs.laws.MoveLaws.{move_in}
 use Rattle.gm_pieces.proofs.on_boards.OnBoardsGame.play.Goals as goal
 
 pub moved-requires-clause-step : goal.moved-requires-clause-step

@@ -1,4 +1,4 @@
-use Rattle.gm_tactix.specs.SegmentFacts.{length_bounds}
+use Rattle.gm_tactix.specs.laws.SegmentFacts.{length_bounds}
 use Rattle.gm_tactix.proofs.segment.Segment.length.Goals as goal
 
 pub returns-clause-low : goal.returns-clause-low

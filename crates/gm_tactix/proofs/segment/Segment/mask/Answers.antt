@@ -1,7 +1,7 @@
 use Rattle.std.proofs.Common.{◌≡◌, ◌<◌, ◌+◌, ◌-◌, ◌*◌, ◌^◌, ℕ, sym, ap, ap₂, ◌∙◌, subst, arith}
 use Rattle.gm_board.specs.BoardMasks.{pattern_mask}
 use Rattle.gm_tactix.specs.Segments.{first_cell, stride, segment_length, cells_from, segment_cells}
-use Rattle.gm_tactix.specs.SegmentFacts.{cells_within, square_small}
+use Rattle.gm_tactix.specs.laws.SegmentFacts.{cells_within, square_small}
 use Rattle.gm_tactix.proofs.MaskSteps.{segment_cell, mask_start, mask_more, mask_all, pattern_below}
 use Rattle.gm_tactix.proofs.segment.Segment.mask.Goals as goal
 use Rattle.gm_tactix.proofs.segment.Segment.mask.Goals.{In-loop-place, After-loop-place}

@@ -1,5 +1,5 @@
 use Rattle.std.proofs.Common.{arith}
-use Rattle.gm_toys.specs.SubtractionLaws.{range_in}
+use Rattle.gm_toys.specs.laws.SubtractionLaws.{range_in}
 use Rattle.gm_toys.proofs.countdown.CountdownGame.play.Goals as goal
 
 pub overflow_sub-result : goal.overflow_sub-result

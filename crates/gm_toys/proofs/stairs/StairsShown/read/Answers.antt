@@ -4,7 +4,7 @@ use Rattle.gm_game.specs.declared.position.Position.{Position}
 use Rattle.gm_game.specs.Rules.{at}
 use Rattle.gm_game.proofs.SetLemmas.{same_position}
 use Rattle.gm_toys.specs.Stairs.{stairs, tier_text}
-use Rattle.gm_toys.specs.StairsLaws.{stairs_legal_in, stairs_legal_from}
+use Rattle.gm_toys.specs.laws.StairsLaws.{stairs_legal_in, stairs_legal_from}
 use Rattle.gm_toys.proofs.stairs.StairsShown.read.Goals as goal
 
 -- a number that was read is the tier of the position with that text

@@ -5,7 +5,7 @@ use Rattle.gm_game.specs.Rules.{at}
 use Rattle.gm_game.proofs.SetLemmas.{same_position}
 use Rattle.gm_toys.specs.Subtraction.{number_text}
 use Rattle.gm_toys.specs.Wheel.{wheel}
-use Rattle.gm_toys.specs.WheelLaws.{wheel_legal_in, wheel_legal_from}
+use Rattle.gm_toys.specs.laws.WheelLaws.{wheel_legal_in, wheel_legal_from}
 use Rattle.gm_toys.proofs.wheel.WheelShown.read.Goals as goal
 
 -- a number that was read is the position with that text

@@ -7,7 +7,7 @@ use Rattle.gm_game.specs.Rules.{IsAscending}
 use Rattle.gm_game.specs.Ascending.{put_all}
 use Rattle.gm_game.proofs.Putting.{put_all_few}
 use Rattle.gm_board.specs.laws.Filters.{range_in, one_more_map, room}
-use Rattle.gm_board.specs.Lists.{contains_head, filter_from}
+use Rattle.gm_board.specs.laws.Lists.{contains_head, filter_from}
 
 -- ---- ascending lists
 ascending_cons : (x : ℕ) (xs : List ℕ) → ((y : ℕ) → Contains xs y → x < y) → IsAscending xs → IsAscending (x ∷ xs)

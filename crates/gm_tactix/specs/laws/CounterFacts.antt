@@ -5,13 +5,13 @@ use Rattle.std.proofs.lemmas.Bool.{cases_lt, cases_eq, ne_eqb, not-true}
 use Rattle.std.proofs.lemmas.List.{ext_get_or, get_or_past, reverse-append}
 use Rattle.std.proofs.lemmas.List.FromFn.{length-map-range_with_len, get_or-map-range_with_len}
 use Rattle.std.proofs.lemmas.List.Sums.{sum_by-cons}
-use Rattle.gm_board.specs.Lists.{contains_head, contains_later, and_left, and_right, and_both}
+use Rattle.gm_board.specs.laws.Lists.{contains_head, contains_later, and_left, and_right, and_both}
 use Rattle.gm_board.specs.Masks.{weight}
 use Rattle.gm_board.specs.Ranks.{members}
 use Rattle.gm_board.specs.Permutations.{all_at}
 use Rattle.gm_tactix.specs.Segments.{cells_from}
 use Rattle.gm_tactix.specs.Board.{has_counter, is_full, is_free, is_among, without, with_counters}
-use Rattle.gm_tactix.specs.SegmentFacts.{among_in, among_from}
+use Rattle.gm_tactix.specs.laws.SegmentFacts.{among_in, among_from}
 
 -- ---- cells of boards
 -- boards that agree on each cell

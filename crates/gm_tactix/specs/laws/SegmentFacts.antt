@@ -3,7 +3,7 @@ use Rattle.std.proofs.Common.{◌≡◌, ℕ, zero, suc, ◌+◌, ◌-◌, ◌*�
 use Rattle.std.specs.List.{Contains, list_all, range_with_len}
 use Rattle.std.proofs.lemmas.Bool.{or_cases}
 use Rattle.std.proofs.lemmas.List.{reverse-append}
-use Rattle.gm_board.specs.Lists.{and_left, and_right, and_both, contains_range, contains_head, contains_later, filter_to}
+use Rattle.gm_board.specs.laws.Lists.{and_left, and_right, and_both, contains_range, contains_head, contains_later, filter_to}
 use Rattle.gm_board.specs.Permutations.{same_list, same_list_true, permute, all_at}
 use Rattle.gm_board.specs.Groups.{IsGroup, any_at, group_inverse, undone}
 use Rattle.gm_board.specs.Patterns.{same_tests, any_from}

@@ -2,15 +2,16 @@
 use Rattle.std.proofs.Common.{◌≡◌, ◌≢◌, ℕ, ◌+◌, ◌<◌, ◌≤◌, true, false, not, ◌&&◌, if◌then◌else◌, eqb, ltb, ltb-true, lt-ltb, eqb-true, eq-eqb, length, refl, sym, ap, ◌∙◌, subst, arith, inl, inr, ◌⊎◌}
 use Rattle.std.specs.List.{filter, range_with_len}
 use Rattle.std.proofs.lemmas.Bool.{cases_Bool, cond-true, cond-false, true≢false, not-true, ne_eqb}
-use Rattle.gm_board.specs.Lists.{and_left, and_right, and_both}
+use Rattle.gm_board.specs.laws.Lists.{and_left, and_right, and_both}
 use Rattle.gm_board.specs.Ranks.{members}
-use Rattle.gm_steps.specs.Steps.{from_point, to_point, number_below}
+use Rattle.gm_steps.specs.Steps.{from_point, to_point}
+use Rattle.gm_steps.specs.laws.StepFacts.{number_below}
 use Rattle.gm_board.specs.laws.Filters.{filter_few}
 use Rattle.gm_pieces.specs.MoveGames.{steps}
 use Rattle.gm_hare.specs.declared.hunt.Hunt.{Hunt}
 use Rattle.gm_hare.specs.Board.{are_joined, is_ahead, has_hound, is_free, hunt_tier, legal, can_move, numbers_end, hound_gone, hare_gone, gone, play, hound_back, hare_back, was_moved, taken_back, hare_and_hounds}
-use Rattle.gm_hare.specs.PointFacts.{joined_from, joined_to, joined_apart, ahead_column, is_step, steps_few}
-use Rattle.gm_hare.specs.HoundFacts.{count, members_count, same_hunt, both_length, both_first, both_second, both_other, both_back, moved_count, moved_columns}
+use Rattle.gm_hare.specs.laws.PointFacts.{joined_from, joined_to, joined_apart, ahead_column, is_step, steps_few}
+use Rattle.gm_hare.specs.laws.HoundFacts.{count, members_count, same_hunt, both_length, both_first, both_second, both_other, both_back, moved_count, moved_columns}
 
 -- ---- legal boards
 pub record IsLegal (b : Hunt) : Type 0 where

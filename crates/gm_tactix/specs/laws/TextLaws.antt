@@ -5,17 +5,17 @@ use Rattle.std.proofs.lemmas.Bool.{cond_both}
 use Rattle.std.proofs.lemmas.List.{length-map}
 use Rattle.gm_game.specs.Shown.{is_plain, IsPlain, IsShown}
 use Rattle.gm_game.proofs.PlainTexts.{plain_map}
-use Rattle.gm_board.specs.Lists.{and_left, and_right}
+use Rattle.gm_board.specs.laws.Lists.{and_left, and_right}
 use Rattle.gm_board.specs.Permutations.{all_at}
 use Rattle.gm_board.specs.Squares.{cell_text}
 use Rattle.gm_board.specs.laws.Marks.{map_once}
 use Rattle.gm_pieces.specs.MoveTexts.{AreTexts}
-use Rattle.gm_pieces.specs.TextFacts.{texts_are_shown}
+use Rattle.gm_pieces.specs.laws.TextFacts.{texts_are_shown}
 use Rattle.gm_tactix.specs.Segments.{first_cell, segment_length, is_segment, segments}
 use Rattle.gm_tactix.specs.Board.{side_of, tactix, tactix_rules}
-use Rattle.gm_tactix.specs.SegmentFacts.{for_sides, square_small, in_segments}
-use Rattle.gm_tactix.specs.MoveFacts.{move_in}
-use Rattle.gm_tactix.specs.TactixLaws.{numbered, side_low, side_high}
+use Rattle.gm_tactix.specs.laws.SegmentFacts.{for_sides, square_small, in_segments}
+use Rattle.gm_tactix.specs.laws.MoveFacts.{move_in}
+use Rattle.gm_tactix.specs.laws.TactixLaws.{numbered, side_low, side_high}
 use Rattle.gm_tactix.specs.Texts.{counter_text, board_text, last_cell, segment_text, position_text, move_text}
 
 -- ---- boards

@@ -13,7 +13,7 @@ use Rattle.gm_game.proofs.Lists.{contains_none, contains_first, contains_cases, 
 use Rattle.gm_game.proofs.PlainTexts.{plain_decimal}
 use Rattle.gm_game.proofs.SetLemmas.{same_position}
 use Rattle.gm_toys.specs.Subtraction.{moves_down, step_text}
-use Rattle.gm_toys.specs.SubtractionLaws.{range_in, range_from, range_ascending, no_moves, some_moves}
+use Rattle.gm_toys.specs.laws.SubtractionLaws.{range_in, range_from, range_ascending, no_moves, some_moves}
 use Rattle.gm_toys.specs.Stairs.{stairs, only_if, tier_below, position_above, tier_text}
 
 -- what is in a list of at most one number

@@ -5,16 +5,16 @@ use Rattle.std.proofs.lemmas.Bool.{cases_lt, ne_eqb, true≢false}
 use Rattle.std.proofs.lemmas.List.FromFn.{length-range_with_len, get_or-range_with_len, map-range_with_len_more}
 use Rattle.std.proofs.lemmas.List.{map-id}
 use Rattle.gm_game.specs.Rules.{IsAscending}
-use Rattle.gm_board.specs.Lists.{contains_head, and_left, and_right, and_both}
+use Rattle.gm_board.specs.laws.Lists.{contains_head, and_left, and_right, and_both}
 use Rattle.gm_board.specs.Ranks.{members}
 use Rattle.gm_board.specs.laws.Filters.{filter_few, nil_or}
-use Rattle.gm_steps.specs.Listed.{filter_ascending}
+use Rattle.gm_steps.specs.laws.Listed.{filter_ascending}
 use Rattle.gm_pieces.specs.MoveGames.{steps}
-use Rattle.gm_pieces.specs.MoveLaws.{step_in, step_listed}
+use Rattle.gm_pieces.specs.laws.MoveLaws.{step_in, step_listed}
 use Rattle.gm_tactix.specs.Segments.{first_cell, segment_length, goes_down, stride, cells_from, segment_cells, is_segment, numbers_end}
 use Rattle.gm_tactix.specs.Board.{is_full, is_free, without, with_counters, can_take, play, was_taken, tactix}
-use Rattle.gm_tactix.specs.SegmentFacts.{number_below, length_bounds, single, single_cells, segments_few}
-use Rattle.gm_tactix.specs.CounterFacts.{length_without, full_at, counter_within, free_without, without_with, with_without, members_without, no_counters, some_counter}
+use Rattle.gm_tactix.specs.laws.SegmentFacts.{number_below, length_bounds, single, single_cells, segments_few}
+use Rattle.gm_tactix.specs.laws.CounterFacts.{length_without, full_at, counter_within, free_without, without_with, with_without, members_without, no_counters, some_counter}
 
 -- ---- ranges
 -- each of them is there

@@ -9,19 +9,20 @@ use Rattle.gm_game.specs.declared.position.End.TheVariants.{Lose, Win}
 use Rattle.gm_game.specs.Texts.{IsPaddedText}
 use Rattle.gm_game.specs.Rules.{at, IsAscending}
 use Rattle.gm_game.specs.Boards.{position_of, IsNumbered}
-use Rattle.gm_board.specs.Lists.{contains_head, contains_later, contains_cases, contains_range, range_below}
+use Rattle.gm_board.specs.laws.Lists.{contains_head, contains_later, contains_cases, contains_range, range_below}
 use Rattle.gm_board.specs.Binomials.{binomial}
 use Rattle.gm_board.specs.Ranks.{members, rank, unrank, rank_below, rank_unrank, unrank_rank}
 use Rattle.gm_board.specs.Patterns.{same_tests}
 use Rattle.gm_board.specs.Permutations.{permute, permute_get, permute_length, all_at}
 use Rattle.gm_board.specs.Groups.{image_slide}
-use Rattle.gm_steps.specs.Steps.{step_number, from_point, to_point, from_back, to_back}
+use Rattle.gm_steps.specs.Steps.{step_number, from_point, to_point}
+use Rattle.gm_steps.specs.laws.StepFacts.{from_back, to_back}
 use Rattle.gm_pieces.specs.MoveGames.{board_game, IsMove, IsMoveGame, IsMoveSymmetric}
 use Rattle.gm_hare.specs.declared.hunt.Hunt.{Hunt}
 use Rattle.gm_hare.specs.Board.{column, has_hound, hunt_tier, has_escaped, legal, over, can_move, hound_gone, hare_gone, gone, play, mirror, mirror_point, mirrored, turn_of, hunt_index, hunt_board, hare_name, hare_and_hounds}
-use Rattle.gm_hare.specs.PointFacts.{joined_from, joined_to, mirror_below, mirror_twice, mirror_column, mirror_joined, mirror_ahead, two, two_group, mirror_in}
-use Rattle.gm_hare.specs.HoundFacts.{count, members_count, same_hunt, for_eleven, mirror_count, mirror_columns, mirror_hounds_twice, three_columns}
-use Rattle.gm_hare.specs.MoveFacts.{IsLegal, legal_in, legal_from, CanGo, move_in, move_from, step_below, moves_few, gone_legal, gone_tier, undone, redone, befores_few}
+use Rattle.gm_hare.specs.laws.PointFacts.{joined_from, joined_to, mirror_below, mirror_twice, mirror_column, mirror_joined, mirror_ahead, two, two_group, mirror_in}
+use Rattle.gm_hare.specs.laws.HoundFacts.{count, members_count, same_hunt, for_eleven, mirror_count, mirror_columns, mirror_hounds_twice, three_columns}
+use Rattle.gm_hare.specs.laws.MoveFacts.{IsLegal, legal_in, legal_from, CanGo, move_in, move_from, step_below, moves_few, gone_legal, gone_tier, undone, redone, befores_few}
 
 -- ---- tiers
 abbrev pub tier_size_of : ℕ → ℕ

@@ -9,7 +9,7 @@ use Rattle.gm_game.specs.declared.position.Position.{Position}
 use Rattle.gm_game.specs.declared.position.End.TheVariants.{Lose, Win}
 use Rattle.gm_game.specs.Texts.{IsPaddedText}
 use Rattle.gm_game.specs.Boards.{IsNumbered}
-use Rattle.gm_board.specs.Lists.{and_both}
+use Rattle.gm_board.specs.laws.Lists.{and_both}
 use Rattle.gm_board.specs.Binomials.{binomial, binomial_small}
 use Rattle.gm_board.specs.Ranks.{members, rank, unrank, rank_below, unrank_length, unrank_members, rank_unrank, unrank_rank}
 use Rattle.gm_board.specs.Masks.{weight}
@@ -18,12 +18,12 @@ use Rattle.gm_board.specs.Groups.{IsGroup, group_length, image_length, image_sum
 use Rattle.gm_board.specs.Squares.{square_symmetries, square_group}
 use Rattle.gm_board.specs.laws.Filters.{range_in}
 use Rattle.gm_pieces.specs.MoveGames.{board_game, move_rules, IsMoveGame, IsMoveSymmetric}
-use Rattle.gm_pieces.specs.Images.{permuted_group}
+use Rattle.gm_pieces.specs.laws.Images.{permuted_group}
 use Rattle.gm_tactix.specs.Segments.{segment_cells}
 use Rattle.gm_tactix.specs.Board.{has_counter, is_full, without, can_take, play, tactix_name, counters_index, counters_at, side_of, tactix}
-use Rattle.gm_tactix.specs.SegmentFacts.{for_sides, square_small, number_below, length_bounds, cells_within, segment_image, among_in, among_from}
-use Rattle.gm_tactix.specs.CounterFacts.{same_board, length_without, without_at, full_at, all_cells, members_weight, members_reverse, members_le_length}
-use Rattle.gm_tactix.specs.MoveFacts.{range_from, range_ascending, move_in, move_from, moves_few, play_length, play_members, undone, redone, befores_few}
+use Rattle.gm_tactix.specs.laws.SegmentFacts.{for_sides, square_small, number_below, length_bounds, cells_within, segment_image, among_in, among_from}
+use Rattle.gm_tactix.specs.laws.CounterFacts.{same_board, length_without, without_at, full_at, all_cells, members_weight, members_reverse, members_le_length}
+use Rattle.gm_tactix.specs.laws.MoveFacts.{range_from, range_ascending, move_in, move_from, moves_few, play_length, play_members, undone, redone, befores_few}
 
 -- ---- numbering
 module _ (s : ℕ) (low : 1 ≤ s) (high : s ≤ 5) where

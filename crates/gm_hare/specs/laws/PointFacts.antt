@@ -4,7 +4,7 @@ use Rattle.std.specs.List.{Contains, filter, list_all, list_any, range_with_len}
 use Rattle.std.proofs.lemmas.Bool.{cases_lt, true≢false, not-true}
 use Rattle.std.proofs.lemmas.Bool.Decides.{nat_tests}
 use Rattle.std.proofs.lemmas.List.{get_or_past}
-use Rattle.gm_board.specs.Lists.{and_left, and_right, contains_range}
+use Rattle.gm_board.specs.laws.Lists.{and_left, and_right, contains_range}
 use Rattle.gm_board.specs.Permutations.{all_at}
 use Rattle.gm_board.specs.Groups.{IsGroup, is_group_table, group_from_table, any_at}
 use Rattle.gm_steps.specs.Steps.{from_point, to_point}

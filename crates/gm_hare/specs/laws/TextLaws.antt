@@ -7,17 +7,17 @@ use Rattle.std.proofs.lemmas.List.{ext_get_or}
 use Rattle.std.proofs.lemmas.List.FromFn.{length-map-range_with_len, get_or-map-range_with_len}
 use Rattle.gm_game.specs.Shown.{is_plain, IsPlain, IsShown}
 use Rattle.gm_game.proofs.PlainTexts.{plain_map}
-use Rattle.gm_board.specs.Lists.{and_left, and_right, contains_range, filter_to}
+use Rattle.gm_board.specs.laws.Lists.{and_left, and_right, contains_range, filter_to}
 use Rattle.gm_board.specs.Permutations.{all_at, same_list}
 use Rattle.gm_steps.specs.Steps.{from_point, to_point}
 use Rattle.gm_pieces.specs.MoveTexts.{AreTexts}
-use Rattle.gm_pieces.specs.TextFacts.{texts_are_shown}
+use Rattle.gm_pieces.specs.laws.TextFacts.{texts_are_shown}
 use Rattle.gm_hare.specs.declared.hunt.Hunt.{Hunt}
 use Rattle.gm_hare.specs.Board.{has_hound, are_joined, numbers_end, hare_and_hounds, hare_rules}
-use Rattle.gm_hare.specs.PointFacts.{is_step}
-use Rattle.gm_hare.specs.HoundFacts.{same_hunt}
-use Rattle.gm_hare.specs.MoveFacts.{IsLegal, legal_in, move_in, step_below}
-use Rattle.gm_hare.specs.HareLaws.{numbered}
+use Rattle.gm_hare.specs.laws.PointFacts.{is_step}
+use Rattle.gm_hare.specs.laws.HoundFacts.{same_hunt}
+use Rattle.gm_hare.specs.laws.MoveFacts.{IsLegal, legal_in, move_in, step_below}
+use Rattle.gm_hare.specs.laws.HareLaws.{numbered}
 use Rattle.gm_hare.specs.Texts.{hunt_char, hunt_text, point_name, step_text, position_text, move_text}
 
 -- ---- boards

@@ -1,0 +1,4 @@
+-- What follows from the definitions.
+pub mod StairsLaws
+pub mod SubtractionLaws
+pub mod WheelLaws
