@@ -10,7 +10,7 @@ use gm_game::shown::Line;
 use gm_game::text::push_text;
 use gm_steps::step::Step;
 
-// The byte of a text's place: at a point what is there, then a space, then who moves.
+// The byte at a place of a board's text: for each point what is there, then a space, then who moves.
 fn hunt_byte(board: &Hunt, place: usize) -> u8
     requires { place < 13 }
     ensures { result ≡ hunt_char board.now place }
@@ -39,7 +39,7 @@ pub fn hunt_text(board: &Hunt) -> Line
     line
 }
 
-// Whether a text has a byte at a place.
+// Whether a text has this byte at a place.
 fn has_byte(text: &[u8], place: usize, byte: u8) -> bool
     requires { 0 < byte }
     ensures { result ≡ (slice_index text.now place == byte) }
