@@ -28,7 +28,8 @@ fn hunt_byte(board: &Hunt, place: usize) -> u8
     }
 }
 
-/// The text of a board: its points in order, `d` for a hound, `h` for the hare and `.` for an empty point; a space; `d` or `h` for who moves (docs/GAMES.md, Hare and Hounds).
+/// The text of a board: its points in order, `d` for a hound, `h` for the hare and `.` for an empty point; a space; `d` or `h` for who moves (docs/GAMES.md,
+/// Hare and Hounds).
 pub fn hunt_text(board: &Hunt) -> Line
     ensures { result.items ≡ hunt_text_of board.now }
 {

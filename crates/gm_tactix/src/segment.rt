@@ -4,7 +4,8 @@ ghost use Rattle.gm_board.specs.BoardMasks.{pattern_mask};
 ghost use Rattle.gm_tactix.specs.Texts.{last_cell};
 ghost use Rattle.gm_tactix.specs.Segments.{first_cell, segment_length, goes_down, stride, segment_cells, is_segment};
 
-/// A segment of a square of side 1 to 5. Its number is `16*first + 2*length + direction`, first the least cell, direction 0 in a row and 1 in a column; a single cell has direction 0 (docs/GAMES.md, Tac Tix).
+/// A segment of a square of side 1 to 5. Its number is `16*first + 2*length + direction`, first the least cell, direction 0 in a row and 1 in a column; a
+/// single cell has direction 0 (docs/GAMES.md, Tac Tix).
 #[derive(Clone, Copy, Debug, PartialEq, Eq)]
 pub struct Segment {
     pub side: u32,
