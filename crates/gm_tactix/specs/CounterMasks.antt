@@ -1,4 +1,4 @@
--- Boards of counters against masks: what the code's steps on masks say of boards.
+-- Boards of counters as masks: what the code's steps on masks mean for boards.
 use Rattle.std.proofs.Common.{◌≡◌, ℕ, zero, suc, ◌+◌, ◌*◌, ◌^◌, ◌<◌, ◌≤◌, Bool, true, false, not, ◌&&◌, ◌||◌, eqb, List, [], ◌∷◌, map, reverse, length, refl, sym, ap, ap₂, ◌∙◌, subst, arith, inl, inr, zero-add, eq-eqb}
 use Rattle.std.specs.Prelude.{bit_and, bit_or, count_ones, ◌↔◌}
 use Rattle.std.specs.Int.{bit_at}
@@ -21,17 +21,17 @@ use Rattle.gm_tactix.specs.CounterFacts.{same_board, all_cells, length_without, 
 unfoldable pub counters_of : ℕ → ℕ → List Bool
 counters_of n mask = map (has_cell mask) (range_with_len 0 n)
 
--- one test a cell
+-- the board of a mask has one entry for each cell
 pub counters_length : (n mask : ℕ) → length (counters_of n mask) ≡ n
 unfolding counters_of
 counters_length n mask = length-map-range_with_len (has_cell mask) 0 n
 
--- a cell
+-- a cell has a counter exactly where the mask has the cell
 pub counter_at : (n mask k : ℕ) → k < n → has_counter (counters_of n mask) k ≡ has_cell mask k
 unfolding counters_of
 counter_at n mask k l = get_or-map-range_with_len (has_cell mask) 0 n k k false l (zero-add k)
 
--- the cells, the highest first
+-- a board with the highest cell first is the list of the mask's tests
 pub counters_reverse : (n mask : ℕ) → reverse (counters_of n mask) ≡ tests_of n mask
 unfolding counters_of
 counters_reverse zero mask = sym (tests_none mask)
@@ -42,23 +42,23 @@ counters_reverse (suc n) mask =
     ∙ ap (λ (bs : List Bool). has_cell mask n ∷ bs) (counters_reverse n mask)
     ∙ sym (tests_more n mask)
 
--- the tier and the index of the board of a mask
+-- the number of counters of the board of a mask
 pub counters_members : (n mask : ℕ) → mask < 2 ^ n → members (counters_of n mask) ≡ count_ones mask
 counters_members n mask l = sym (members_reverse (counters_of n mask)) ∙ ap members (counters_reverse n mask) ∙ members_small n mask l
 
--- its index is the rank of the mask
+-- the index of the board of a mask is the rank of the mask
 pub counters_rank : (n mask : ℕ) → n ≤ 32 → mask < 2 ^ n → counters_index (counters_of n mask) ≡ mask_rank mask
 unfolding counters_index
 counters_rank n mask s l = ap rank (counters_reverse n mask) ∙ sym (mask_rank_at n mask s l)
 
--- the board of a rank
+-- the board with an index is the board of the mask with this rank
 pub counters_unrank : (s t i : ℕ) → counters_at s t i ≡ counters_of (s * s) (mask_unrank (s * s) t i)
 unfolding counters_at
 counters_unrank s t i =
     ap reverse (sym (tests_unrank (s * s) t i) ∙ sym (counters_reverse (s * s) (mask_unrank (s * s) t i)))
     ∙ reverse-reverse (counters_of (s * s) (mask_unrank (s * s) t i))
 
--- the image of a board
+-- the image of the board of a mask is the board of the mask's image
 pub counters_permute : (n : ℕ) (g : List ℕ) (mask : ℕ) → IsPermutationOf n g → permute false g (counters_of n mask) ≡ counters_of n (image_mask g mask)
 unfolding counters_of
 counters_permute n g mask p = image_tests n g mask p
@@ -86,7 +86,7 @@ module _ (n mask : ℕ) (cs : List ℕ) (below : (k : ℕ) → Contains cs k →
         λ e. (pattern_filled mask cs).1 (sym same ∙ e),
       )
 
-  -- it has none of them exactly where none has a counter
+  -- the mask has no cell of the list exactly where none of them has a counter
   pub free_mask : (bit_and mask (pattern_mask cs) ≡ 0) ↔ (is_free (counters_of n mask) cs ≡ true)
   free_mask = (
     λ e. all_cells (λ (k : ℕ). not (has_counter (counters_of n mask) k)) cs
@@ -111,7 +111,7 @@ module _ (n mask : ℕ) (cs : List ℕ) (below : (k : ℕ) → Contains cs k →
       both_false true false h = refl
       both_false false y h = refl
 
--- the board with cells emptied is that of the mask without them
+-- the board with some cells emptied is the board of the mask without these cells
 pub without_mask : (n mask rest : ℕ) (cs : List ℕ) → ((k : ℕ) → k < n → has_cell rest k ≡ (has_cell mask k && not (has_cell (pattern_mask cs) k)))
     → counters_of n rest ≡ without (counters_of n mask) cs
 without_mask n mask rest cs h =
@@ -122,7 +122,7 @@ without_mask n mask rest cs h =
     ∙ ap₂ (λ (x y : Bool). x && not y) (sym (counter_at n mask k m)) (has_pattern cs k)
     ∙ sym (without_at (counters_of n mask) cs k))
 
--- the board with cells filled is that of the mask with them
+-- the board with some cells filled is the board of the mask with these cells
 pub with_mask : (n mask : ℕ) (cs : List ℕ) → counters_of n (bit_or mask (pattern_mask cs)) ≡ with_counters (counters_of n mask) cs
 with_mask n mask cs =
     same_board (counters_of n (bit_or mask (pattern_mask cs))) (with_counters (counters_of n mask) cs)
