@@ -9,11 +9,11 @@ use Rattle.gm_analyse.specs.Numbers.{rank, number_in}
 abbrev pub ComesBefore : ℕ → ℕ → Count → Type 0
 ComesBefore r k c = (rank c.value < r) ⊎ ((rank c.value ≡ r) × (c.remoteness < k))
 
--- the first comes before the second
+-- the first count comes before the second
 abbrev pub IsBefore : Count → Count → Type 0
 IsBefore a b = ComesBefore (rank b.value) b.remoteness a
 
--- some record has this value and remoteness, and it is the number of those that have it
+-- some record has the value and remoteness of the count, and its number is how many have
 abbrev pub IsCount : List (Option Solved) → Count → Type 0
 IsCount records c = (c.number ≡ number_in records (length records) c.value c.remoteness) × (0 < c.number)
 
@@ -22,7 +22,7 @@ pub record AreCounts (records : List (Option Solved)) (counts : List Count) : Ty
   pub ordered : AllPairs IsBefore counts
   pub exact : (c : Count) → Contains counts c ↔ IsCount records c
 
--- the same of those alone that come before a value and remoteness
+-- the counts that come before a value and remoteness
 pub record AreCountsBefore (records : List (Option Solved)) (r k : ℕ) (counts : List Count) : Type 0 where
   pub ordered : AllPairs IsBefore counts
   pub exact : (c : Count) → Contains counts c ↔ (IsCount records c × ComesBefore r k c)

@@ -20,7 +20,7 @@ abbrev pub IsLongestWin : List (Option Solved) → ℕ → Option (ℕ × ℕ) �
 IsLongestWin records n None = (m i : ℕ) → IsWinAt records n m i → ⊥
 IsLongestWin records n (Some l) = IsLongest records n l.0 l.1
 
--- the longest win so far, with the remoteness of a win at one more index
+-- the longest win, after one more index is looked at, which may have a win
 abbrev pub longer : Option (ℕ × ℕ) → Option ℕ → ℕ → Option (ℕ × ℕ)
 longer o None index = o
 longer None (Some m) index = Some (m, index)

@@ -21,19 +21,19 @@ value_word Win = codes "win"
 abbrev pub whole : ℕ → Data
 whole n = number (unsigned n)
 
--- a value's word, the remoteness and the number
+-- a count: the word of its value, its remoteness and its number
 abbrev pub count_tree : Count → Data
 count_tree c = array (item (string (value_word c.value)) (item (whole c.remoteness) (item (whole c.number) no_items)))
 
 abbrev pub counts_tree : List Count → Data
 counts_tree cs = array (items_of (map count_tree cs))
 
--- the remoteness and the index, or null
+-- the longest win: its remoteness and its index, or null where there is none
 abbrev pub longest_tree : Option (ℕ × ℕ) → Data
 longest_tree None = null
 longest_tree (Some l) = array (item (whole l.0) (item (whole l.1) no_items))
 
--- the members in alphabetical order
+-- an analysis, with its members in alphabetical order
 abbrev pub analysis_tree : List ℕ → Analysis → Data
 analysis_tree game a =
     object (member (codes "canonical") (whole a.canonical)

@@ -7,14 +7,14 @@ use Rattle.gm_board.specs.declared.cell.Cell.TheVariants.{Empty, Mine, Theirs}
 use Rattle.gm_board.specs.Binomials.{binomial, binomial_small}
 use Rattle.gm_board.specs.Ranks.{members, members_le, rank, unrank, rank_below, unrank_length, unrank_members, rank_unrank, unrank_rank}
 
--- the cells of the mover's pieces
+-- for each cell, whether a piece of the mover's stands on it
 abbrev pub mine_bits : List Cell → List Bool
 mine_bits [] = []
 mine_bits (Mine ∷ cs) = true ∷ mine_bits cs
 mine_bits (Theirs ∷ cs) = false ∷ mine_bits cs
 mine_bits (Empty ∷ cs) = false ∷ mine_bits cs
 
--- the cells of the opponent's pieces, among the cells without the mover's
+-- for each cell without a piece of the mover's, whether a piece of the opponent's stands on it
 abbrev pub their_bits : List Cell → List Bool
 their_bits [] = []
 their_bits (Mine ∷ cs) = their_bits cs
@@ -45,28 +45,28 @@ arrangement n m t i = merge (unrank n m (i / binomial (n - m) t)) (unrank (n - m
 unfoldable pub arrangements : ℕ → ℕ → ℕ → ℕ
 arrangements n m t = binomial n m * binomial (n - m) t
 
--- a board comes back from its two lists of tests
+-- the two lists of tests of a board give the board back
 pub merge_bits : (cs : List Cell) → merge (mine_bits cs) (their_bits cs) ≡ cs
 merge_bits [] = refl
 merge_bits (Mine ∷ cs) = ap (λ (ds : List Cell). Mine ∷ ds) (merge_bits cs)
 merge_bits (Theirs ∷ cs) = ap (λ (ds : List Cell). Theirs ∷ ds) (merge_bits cs)
 merge_bits (Empty ∷ cs) = ap (λ (ds : List Cell). Empty ∷ ds) (merge_bits cs)
 
--- one test a cell
+-- the mover's tests: one for each cell
 pub mine_bits_length : (cs : List Cell) → length (mine_bits cs) ≡ length cs
 mine_bits_length [] = refl
 mine_bits_length (Mine ∷ cs) = ap suc (mine_bits_length cs)
 mine_bits_length (Theirs ∷ cs) = ap suc (mine_bits_length cs)
 mine_bits_length (Empty ∷ cs) = ap suc (mine_bits_length cs)
 
--- one test a cell without the mover's pieces
+-- the opponent's tests: one for each cell without a piece of the mover's
 pub their_bits_length : (cs : List Cell) → length (their_bits cs) + members (mine_bits cs) ≡ length cs
 their_bits_length [] = refl
 their_bits_length (Mine ∷ cs) = omega (arith, their_bits_length cs)
 their_bits_length (Theirs ∷ cs) = omega (arith, their_bits_length cs)
 their_bits_length (Empty ∷ cs) = omega (arith, their_bits_length cs)
 
--- the mover's tests come back from the board
+-- the board of two lists of tests gives the mover's tests back
 pub mine_bits_merge : (ms ts : List Bool) → mine_bits (merge ms ts) ≡ ms
 mine_bits_merge [] ts = refl
 mine_bits_merge (true ∷ ms) ts = ap (λ (bs : List Bool). true ∷ bs) (mine_bits_merge ms ts)
@@ -74,7 +74,7 @@ mine_bits_merge (false ∷ ms) [] = ap (λ (bs : List Bool). false ∷ bs) (mine
 mine_bits_merge (false ∷ ms) (true ∷ ts) = ap (λ (bs : List Bool). false ∷ bs) (mine_bits_merge ms ts)
 mine_bits_merge (false ∷ ms) (false ∷ ts) = ap (λ (bs : List Bool). false ∷ bs) (mine_bits_merge ms ts)
 
--- the opponent's tests come back from the board
+-- the board of two lists of tests gives the opponent's tests back
 pub their_bits_merge : (ms ts : List Bool) → length ts + members ms ≡ length ms → their_bits (merge ms ts) ≡ ts
 their_bits_merge [] [] e = refl
 their_bits_merge [] (t ∷ ts) e = absurd (omega arith)
@@ -104,7 +104,7 @@ arrangement_index_below cs =
     subst (λ (f : ℕ). arrangement_index cs < binomial (length cs) (members (mine_bits cs)) * binomial f (members (their_bits cs))) (their_bits_free cs)
     (two_digits _ _ _ _ a (rank_below (their_bits cs)))
 
--- a board comes back from its index
+-- the index of a board gives the board back
 pub arrangement_back : (cs : List Cell) → arrangement (length cs) (members (mine_bits cs)) (members (their_bits cs)) (arrangement_index cs) ≡ cs
 unfolding arrangement_index arrangement
 arrangement_back cs =
@@ -118,14 +118,14 @@ arrangement_back cs =
     )
     (merge_bits cs)
 
--- what an index below the number gives
+-- what holds for the arrangement with an index below their number
 pub record IsArrangement (n m t i : ℕ) (cs : List Cell) : Type 0 where
   pub cells : length cs ≡ n
   pub mine : members (mine_bits cs) ≡ m
   pub theirs : members (their_bits cs) ≡ t
   pub back : arrangement_index cs ≡ i
 
--- each index below the number is that of its arrangement
+-- each index below the number of arrangements is the index of its arrangement
 pub arrangement_is : (n m t i : ℕ) → i < arrangements n m t → IsArrangement n m t i (arrangement n m t i)
 unfolding arrangement_index arrangement arrangements
 arrangement_is n m t i l =
@@ -148,21 +148,21 @@ arrangement_is n m t i l =
       back = rw (fm, ft, lt, et, rank_unrank n m (i / w) a, rank_unrank (n - m) t (i % w) b) (omega (arith, mod-add-div' i w));
     }
 
--- the same with the numbers as a game has them
+-- an index is below the number of arrangements, with the numbers of cells and pieces as a game has them
 pub index_below_at : (n m t : ℕ) (cs : List Cell) → length cs ≡ n → members (mine_bits cs) ≡ m → members (their_bits cs) ≡ t → arrangement_index cs < arrangements n m t
 index_below_at n m t cs e f h =
     subst (λ (a : ℕ). arrangement_index cs < arrangements a m t) e
     (subst (λ (a : ℕ). arrangement_index cs < arrangements (length cs) a t) f
     (subst (λ (a : ℕ). arrangement_index cs < arrangements (length cs) (members (mine_bits cs)) a) h (arrangement_index_below cs)))
 
--- the board comes back, with the numbers as a game has them
+-- the index of a board gives the board back, with the numbers of cells and pieces as a game has them
 pub back_at : (n m t : ℕ) (cs : List Cell) → length cs ≡ n → members (mine_bits cs) ≡ m → members (their_bits cs) ≡ t → arrangement n m t (arrangement_index cs) ≡ cs
 back_at n m t cs e f h =
     subst (λ (a : ℕ). arrangement a m t (arrangement_index cs) ≡ cs) e
     (subst (λ (a : ℕ). arrangement (length cs) a t (arrangement_index cs) ≡ cs) f
     (subst (λ (a : ℕ). arrangement (length cs) (members (mine_bits cs)) a (arrangement_index cs) ≡ cs) h (arrangement_back cs)))
 
--- the number of arrangements of a board of up to 32 cells fits
+-- the number of arrangements of a board of up to 32 cells fits 64 bits
 pub arrangements_fit : (n m t : ℕ) → n ≤ 32 → arrangements n m t < 2 ^ 64
 unfolding arrangements
 arrangements_fit n m t l =

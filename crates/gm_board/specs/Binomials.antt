@@ -8,18 +8,18 @@ binomial n zero = 1
 binomial zero (suc k) = 0
 binomial (suc n) (suc k) = binomial n k + binomial n (suc k)
 
--- one subset is empty
+-- exactly one subset is empty
 pub binomial_zero : (n : ℕ) → binomial n zero ≡ 1
 unfolding binomial
 binomial_zero zero = refl
 binomial_zero (suc n) = refl
 
--- the empty set has no other subset
+-- the empty set has no subset but itself
 pub binomial_none : (k : ℕ) → binomial zero (suc k) ≡ 0
 unfolding binomial
 binomial_none k = refl
 
--- the rule of the triangle
+-- the rule of Pascal's triangle
 pub pascal : (n k : ℕ) → binomial (suc n) (suc k) ≡ binomial n k + binomial n (suc k)
 unfolding binomial
 pascal n k = refl

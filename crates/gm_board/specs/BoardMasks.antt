@@ -45,7 +45,7 @@ turned_by true false h = refl
 turned_by false true h = refl
 turned_by false false h = refl
 
--- the sides exchanged
+-- the masks with the sides exchanged stand for the board as the other side sees it
 pub board_turned : (n mine theirs : ℕ) → AreApart n mine theirs → board_of n theirs mine ≡ map turned (board_of n mine theirs)
 board_turned n mine theirs h =
     ext_get_or Empty (board_of n theirs mine) (map turned (board_of n mine theirs))
@@ -94,7 +94,7 @@ all_from : (p : ℕ → Bool) (l : List ℕ) → ((k : ℕ) → Contains l k →
 all_from p [] h = refl
 all_from p (k ∷ l) h = and_both _ _ (h k (contains_head k l)) (all_from p l (λ j c. h j (contains_later k l j c)))
 
--- the mask has all cells of the pattern
+-- a mask has all bits of a pattern's mask exactly where it has all cells of the pattern
 pub pattern_filled : (m : ℕ) (l : List ℕ) → (bit_and m (pattern_mask l) ≡ pattern_mask l) ↔ (list_all (has_cell m) l ≡ true)
 pattern_filled m l = (
   (λ e. all_from (has_cell m) l (λ k c.
@@ -112,11 +112,11 @@ pattern_filled m l = (
       ])),
 )
 
--- by the test of the code
+-- the test in the code tells whether a mask has all cells of a pattern
 same_pattern : (m : ℕ) (l : List ℕ) → eqb (bit_and m (pattern_mask l)) (pattern_mask l) ≡ list_all (has_cell m) l
 same_pattern m l = let h = pattern_filled m l in same_tests _ _ (λ e. h.0 (eqb-true _ _ e)) (λ e. eq-eqb _ _ (h.1 e))
 
--- the same of a mask that is that of a pattern
+-- the test in the code, for a mask that is known to be a pattern's
 pub filled_by : (m w : ℕ) (l : List ℕ) → pattern_mask l ≡ w → eqb (bit_and m w) w ≡ list_all (has_cell m) l
 filled_by m w l e = subst (λ (v : ℕ). eqb (bit_and m v) v ≡ list_all (has_cell m) l) e (same_pattern m l)
 
@@ -124,6 +124,6 @@ any_mask : (m : ℕ) (ls : List (List ℕ)) → list_any (λ mask. eqb (bit_and 
 any_mask m [] = refl
 any_mask m (l ∷ ls) = ap₂ (λ (x y : Bool). x || y) (same_pattern m l) (any_mask m ls)
 
--- some mask is filled where some pattern is
+-- one of the masks is filled exactly where one of their patterns is
 pub some_filled : (m : ℕ) (ws : List ℕ) (ls : List (List ℕ)) → map pattern_mask ls ≡ ws → list_any (λ mask. eqb (bit_and m mask) mask) ws ≡ list_any (λ line. list_all (has_cell m) line) ls
 some_filled m ws ls e = subst (λ (vs : List ℕ). list_any (λ mask. eqb (bit_and m mask) mask) vs ≡ list_any (λ line. list_all (has_cell m) line) ls) e (any_mask m ls)

@@ -1,4 +1,4 @@
--- Boards of cells, as the player to move sees them: what stands on a cell, and on how many.
+-- Boards of cells, as the player to move sees them: what stands on a cell, and how many cells pass a test.
 use Rattle.std.specs.Prelude.{ℕ, Bool, true, false, List, get_or}
 use Rattle.std.specs.List.{count_by}
 use Rattle.gm_board.specs.declared.cell.Cell.{Cell}
@@ -10,19 +10,19 @@ is_mine Empty = false
 is_mine Mine = true
 is_mine Theirs = false
 
--- whether a piece of the opponent's does
+-- whether a piece of the opponent's stands on a cell
 abbrev pub is_theirs : Cell → Bool
 is_theirs Empty = false
 is_theirs Mine = false
 is_theirs Theirs = true
 
--- whether no piece does
+-- whether no piece stands on a cell
 abbrev pub is_empty : Cell → Bool
 is_empty Empty = true
 is_empty Mine = false
 is_empty Theirs = false
 
--- whether a piece of either side does
+-- whether a piece of either side stands on a cell
 abbrev pub is_taken : Cell → Bool
 is_taken Empty = false
 is_taken Mine = true

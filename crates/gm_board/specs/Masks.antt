@@ -1,4 +1,4 @@
--- Masks: sets of cells as numbers, cell c by the bit of weight 2 ^ c.
+-- Masks: sets of cells as numbers, where the bit of weight 2 ^ c stands for cell c.
 use Rattle.std.proofs.Common.{◌≡◌, ℕ, zero, suc, ◌+◌, ◌-◌, ◌*◌, ◌%◌, ◌^◌, ◌<◌, ◌≤◌, Bool, true, false, eqb, List, [], ◌∷◌, length, refl, sym, ap, ap₂, ◌∙◌, subst, arith, ◌⊎◌, inl, inr, pow_pos, pow-suc}
 use Rattle.std.specs.Prelude.{count_ones}
 use Rattle.std.specs.Int.{bit_at}
@@ -13,18 +13,18 @@ use Rattle.gm_board.specs.Ranks.{members, rank, unrank, rank_below, unrank_rank,
 abbrev pub has_cell : ℕ → ℕ → Bool
 has_cell m c = eqb (bit_at m c) 1
 
--- the tests of the cells below n, the highest first
+-- for each cell below n, the highest first, whether the mask has it
 unfoldable pub tests_of : ℕ → ℕ → List Bool
 tests_of zero m = []
 tests_of (suc n) m = has_cell m n ∷ tests_of n m
 
--- the mask of the cells that pass, the highest first
+-- the mask of the cells that pass their tests, where the highest cell comes first
 abbrev pub mask_of : List Bool → ℕ
 mask_of [] = 0
 mask_of (true ∷ bs) = 2 ^ length bs + mask_of bs
 mask_of (false ∷ bs) = mask_of bs
 
--- the rank of a mask among those of as many cells
+-- the rank of a mask among the masks with equally many cells
 unfoldable pub mask_rank : ℕ → ℕ
 mask_rank m = rank (tests_of 32 m)
 
@@ -32,17 +32,17 @@ mask_rank m = rank (tests_of 32 m)
 unfoldable pub mask_unrank : ℕ → ℕ → ℕ → ℕ
 mask_unrank n k r = mask_of (unrank n k r)
 
--- no cell, no test
+-- without cells there are no tests
 pub tests_none : (m : ℕ) → tests_of 0 m ≡ []
 unfolding tests_of
 tests_none m = refl
 
--- one more cell
+-- the tests with one more cell
 pub tests_more : (n m : ℕ) → tests_of (suc n) m ≡ has_cell m n ∷ tests_of n m
 unfolding tests_of
 tests_more n m = refl
 
--- one test a cell
+-- there is one test for each cell
 pub tests_length : (n m : ℕ) → length (tests_of n m) ≡ n
 unfolding tests_of
 tests_length zero m = refl
@@ -74,7 +74,7 @@ weight_bit m c = elim (bit_cases (bit_at m c) (bit_at-lt m c)) [
   | inr e ↦ rw e refl
 ]
 
--- masks that agree on the cells below n
+-- masks that agree on the cells below n have the same tests
 pub tests_same : (n a b : ℕ) → ((i : ℕ) → i < n → bit_at a i ≡ bit_at b i) → tests_of n a ≡ tests_of n b
 unfolding tests_of
 tests_same zero a b h = refl
@@ -93,11 +93,11 @@ mask_tests (suc n) m =
     ∙ sym (mod-pow-add m 1 n)
     ∙ ap (λ (k : ℕ). m % 2 ^ k) (let e : 1 + n ≡ suc n = omega arith in e)
 
--- a mask that fits comes back from its tests
+-- the tests of a mask that fits give the mask back
 pub mask_tests_small : (n m : ℕ) → m < 2 ^ n → mask_of (tests_of n m) ≡ m
 mask_tests_small n m l = mask_tests n m ∙ mod-eq_of_lt l
 
--- the tests of the mask of tests
+-- the mask of tests gives the tests back
 pub tests_mask : (bs : List Bool) → tests_of (length bs) (mask_of bs) ≡ bs
 tests_mask [] = tests_none 0
 tests_mask (b ∷ bs) =
@@ -113,25 +113,25 @@ tests_mask (b ∷ bs) =
     head true = refl
     head false = refl
 
--- a cell that the mask does not have changes neither the number of members nor the rank
+-- a cell that the mask does not have doesn't change the number of members
 pub members_skip : (n m : ℕ) → bit_at m n ≡ 0 → members (tests_of (suc n) m) ≡ members (tests_of n m)
 members_skip n m e = ap members (tests_more n m) ∙ rw e refl
 
--- nor the rank
+-- a cell that the mask does not have doesn't change the rank
 pub rank_skip : (n m : ℕ) → bit_at m n ≡ 0 → rank (tests_of (suc n) m) ≡ rank (tests_of n m)
 rank_skip n m e = ap rank (tests_more n m) ∙ rw e refl
 
--- a cell that the mask has
+-- a cell that the mask has adds a member
 pub members_add : (n m : ℕ) → bit_at m n ≡ 1 → members (tests_of (suc n) m) ≡ suc (members (tests_of n m))
 members_add n m e = ap members (tests_more n m) ∙ rw e refl
 
--- and its part of the rank
+-- a cell that the mask has adds its part to the rank
 pub rank_add : (n m : ℕ) → bit_at m n ≡ 1 → rank (tests_of (suc n) m) ≡ binomial n (suc (members (tests_of n m))) + rank (tests_of n m)
 rank_add n m e =
     ap rank (tests_more n m)
     ∙ rw e (ap (λ (k : ℕ). binomial k (suc (members (tests_of n m))) + rank (tests_of n m)) (tests_length n m))
 
--- cells that the mask does not have, s of them
+-- s cells that the mask does not have don't change the number of members
 pub members_skips : (n s m : ℕ) → ((i : ℕ) → i < s → bit_at m (n + i) ≡ 0) → members (tests_of (n + s) m) ≡ members (tests_of n m)
 members_skips n zero m h = ap (λ (k : ℕ). members (tests_of k m)) (let e : n + 0 ≡ n = omega arith in e)
 members_skips n (suc s) m h =
@@ -139,7 +139,7 @@ members_skips n (suc s) m h =
     ∙ members_skip (n + s) m (h s (omega arith))
     ∙ members_skips n s m (λ i l. h i (omega arith))
 
--- the same of the rank
+-- s cells that the mask does not have don't change the rank
 pub rank_skips : (n s m : ℕ) → ((i : ℕ) → i < s → bit_at m (n + i) ≡ 0) → rank (tests_of (n + s) m) ≡ rank (tests_of n m)
 rank_skips n zero m h = ap (λ (k : ℕ). rank (tests_of k m)) (let e : n + 0 ≡ n = omega arith in e)
 rank_skips n (suc s) m h =
@@ -147,19 +147,19 @@ rank_skips n (suc s) m h =
     ∙ rank_skip (n + s) m (h s (omega arith))
     ∙ rank_skips n s m (λ i l. h i (omega arith))
 
--- a wider board adds neither members nor rank to a mask that fits the narrower one
+-- a mask that fits a narrower board has the same rank on a wider one
 pub rank_wide : (n w m : ℕ) → n ≤ w → m < 2 ^ n → rank (tests_of w m) ≡ rank (tests_of n m)
 rank_wide n w m l f =
     ap (λ (k : ℕ). rank (tests_of k m)) (let e : w ≡ n + (w - n) = omega arith in e)
     ∙ rank_skips n (w - n) m (λ i h. bit_at_above m n (n + i) f (omega arith))
 
--- the same of the members
+-- a mask that fits a narrower board has the same members on a wider one
 pub members_wide : (n w m : ℕ) → n ≤ w → m < 2 ^ n → members (tests_of w m) ≡ members (tests_of n m)
 members_wide n w m l f =
     ap (λ (k : ℕ). members (tests_of k m)) (let e : w ≡ n + (w - n) = omega arith in e)
     ∙ members_skips n (w - n) m (λ i h. bit_at_above m n (n + i) f (omega arith))
 
--- the members are the set bits
+-- the number of members is the number of set bits below n
 pub members_ones : (n m : ℕ) → members (tests_of n m) ≡ count_ones (m % 2 ^ n)
 unfolding ones
 members_ones zero m = ap members (tests_none m) ∙ ap count_ones (let e : m % 1 < 1 = mod_below m 1 (omega arith) in let z : 0 ≡ m % 1 = omega (arith, e) in z)
@@ -174,7 +174,7 @@ members_ones (suc n) m =
     counted true bs = omega arith
     counted false bs = omega arith
 
--- the same for a mask that fits
+-- a mask that fits has as many members as set bits
 pub members_small : (n m : ℕ) → m < 2 ^ n → members (tests_of n m) ≡ count_ones m
 members_small n m l = members_ones n m ∙ ap count_ones (mod-eq_of_lt l)
 
@@ -189,7 +189,7 @@ mask_rank_below n m l f =
     let r = rank_below (tests_of n m) in
     rw (tests_length n m, members_small n m f, ← mask_rank_at n m l f) at r
 
--- a mask comes back from its rank
+-- the rank of a mask gives the mask back
 pub mask_unrank_rank : (n m : ℕ) → n ≤ 32 → m < 2 ^ n → mask_unrank n (count_ones m) (mask_rank m) ≡ m
 unfolding mask_unrank
 mask_unrank_rank n m l f =
@@ -212,7 +212,7 @@ pub mask_unrank_ones : (n k r : ℕ) → r < binomial n k → count_ones (mask_u
 mask_unrank_ones n k r l =
     sym (members_small n (mask_unrank n k r) (mask_unrank_below n k r)) ∙ ap members (tests_unrank n k r) ∙ unrank_members n k r l
 
--- a rank comes back from its mask
+-- the mask of a rank gives the rank back
 pub mask_rank_unrank : (n k r : ℕ) → n ≤ 32 → r < binomial n k → mask_rank (mask_unrank n k r) ≡ r
 mask_rank_unrank n k r s l =
     mask_rank_at n (mask_unrank n k r) s (mask_unrank_below n k r) ∙ ap rank (tests_unrank n k r) ∙ rank_unrank n k r l

@@ -18,11 +18,11 @@ cell_one m c e = rw e refl
 cell_none : (m c : ℕ) → bit_at m c ≡ 0 → has_cell m c ≡ false
 cell_none m c e = rw e refl
 
--- a number of all places is the whole
+-- before the first cell, all of the mask is left
 pub rest_all : (mask : ℕ) → mask ≡ mask / 2 ^ 0
 rest_all mask = let e : mask / 1 * 1 + mask % 1 ≡ mask = shr_split mask 0 in let z : mask % 1 < 1 = mod_below mask 1 (omega arith) in let q : mask ≡ mask / 1 = omega (arith, e, z) in q
 
--- the lowest cell of what is left of a mask
+-- the next cell is the lowest one of what is left of the mask
 pub next_cell : (mask next rest : ℕ) → rest ≡ mask / 2 ^ next → rest < 2 ^ 32 → 0 < rest → IsNext mask next (trailing_zeros w32 rest) (rest / 2 ^ trailing_zeros w32 rest / 2)
 next_cell mask next rest e g p =
     let s = trailing_zeros w32 rest in

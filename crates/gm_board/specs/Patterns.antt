@@ -1,4 +1,4 @@
--- Patterns: sets of cells, as the lines of a board, and tests on the cells of each.
+-- Patterns: sets of cells, such as the lines of a board, and tests on the cells of each.
 use Rattle.std.proofs.Common.{◌≡◌, ℕ, ◌<◌, Bool, true, false, ◌&&◌, ◌||◌, cond, ltb, List, [], ◌∷◌, length, get_or, refl, sym, ap, ap₂, ◌∙◌, subst, arith, ◌⊎◌, inl, inr, ltb-true}
 use Rattle.std.specs.List.{Contains, list_any, list_all}
 use Rattle.gm_board.specs.laws.Lists.{contains_cases, and_left, and_right}
@@ -27,7 +27,7 @@ has_filled d L p xs = list_any (fills d p xs) L
 abbrev pub keeps_patterns : ℕ → List (List ℕ) → List (List ℕ) → Bool
 keeps_patterns n G L = list_all (λ g. list_all (λ l. list_any (same_list (sort (permute 0 l g))) L) L) G && list_all (list_all (λ k. ltb k n)) L
 
--- two tests that imply each other
+-- two tests that imply each other are the same
 pub same_tests : (a b : Bool) → (a ≡ true → b ≡ true) → (b ≡ true → a ≡ true) → a ≡ b
 same_tests true true f g = refl
 same_tests true false f g = sym (f refl)
@@ -45,17 +45,17 @@ swapped true false c = refl
 swapped false true c = refl
 swapped false false c = refl
 
--- the first of two tests is passed
+-- a disjunction holds where its first test is passed
 pub or_left : (a b : Bool) → a ≡ true → (a || b) ≡ true
 or_left true b e = refl
 or_left false b e = cc
 
--- the second of two tests is passed
+-- a disjunction holds where its second test is passed
 pub or_right : (a b : Bool) → b ≡ true → (a || b) ≡ true
 or_right true b e = refl
 or_right false b e = e
 
--- an element that passes
+-- where an element passes a test, some element does
 pub any_from : {X : Type 0} (p : X → Bool) (xs : List X) (x : X) → Contains xs x → p x ≡ true → list_any p xs ≡ true
 any_from p [] x c e = absurd (omega (arith, c.1))
 any_from p (y ∷ ys) x c e =
@@ -112,13 +112,13 @@ fills_same : {X Y : Type 0} (d : X) (e : Y) (p : X → Bool) (q : Y → Bool) (x
 fills_same d e p q xs ys h [] = refl
 fills_same d e p q xs ys h (k ∷ l) = ap₂ (λ (x y : Bool). x && y) (h k) (fills_same d e p q xs ys h l)
 
--- boards whose cells pass tests alike have filled patterns alike
+-- boards whose cells pass the same tests have the same patterns filled
 pub filled_same : {X Y : Type 0} (d : X) (e : Y) (L : List (List ℕ)) (p : X → Bool) (q : Y → Bool) (xs : List X) (ys : List Y) → ((k : ℕ) → p (get_or xs k d) ≡ q (get_or ys k e))
     → has_filled d L p xs ≡ has_filled e L q ys
 filled_same d e [] p q xs ys h = refl
 filled_same d e (l ∷ L) p q xs ys h = ap₂ (λ (x y : Bool). x || y) (fills_same d e p q xs ys h l) (filled_same d e L p q xs ys h)
 
--- neither of two tests is passed
+-- a disjunction fails where neither of its tests is passed
 pub or_false : (a b : Bool) → a ≡ false → b ≡ false → (a || b) ≡ false
 or_false true b e f = e
 or_false false b e f = f

@@ -16,7 +16,7 @@ cell_by true t = Mine
 cell_by false true = Theirs
 cell_by false false = Empty
 
--- the cells below n, the highest first
+-- what stands on the cells below n, the highest cell first
 unfoldable pub cells_of : ℕ → ℕ → ℕ → List Cell
 cells_of zero mine theirs = []
 cells_of (suc n) mine theirs = cell_by (has_cell mine n) (has_cell theirs n) ∷ cells_of n mine theirs
@@ -29,32 +29,32 @@ pub record HasPieces (n m t mine theirs : ℕ) : Type 0 where
   pub mine_number : count_ones mine ≡ m
   pub their_number : count_ones theirs ≡ t
 
--- the cells of the opponent's pieces, among all cells
+-- for each cell, whether a piece of the opponent's stands on it
 abbrev pub their_tests : List Cell → List Bool
 their_tests [] = []
 their_tests (Mine ∷ cs) = false ∷ their_tests cs
 their_tests (Theirs ∷ cs) = true ∷ their_tests cs
 their_tests (Empty ∷ cs) = false ∷ their_tests cs
 
--- the masks of the arrangement with this index
+-- the mask of the mover's pieces in the arrangement with this index
 unfoldable pub mine_mask : ℕ → ℕ → ℕ → ℕ → ℕ
 mine_mask n m t i = mask_of (mine_bits (arrangement n m t i))
 
--- the opponent's
+-- the mask of the opponent's pieces in the arrangement with this index
 unfoldable pub their_mask : ℕ → ℕ → ℕ → ℕ → ℕ
 their_mask n m t i = mask_of (their_tests (arrangement n m t i))
 
--- no cell
+-- a board without cells is empty
 pub cells_none : (mine theirs : ℕ) → cells_of 0 mine theirs ≡ []
 unfolding cells_of
 cells_none mine theirs = refl
 
--- one more cell
+-- a board with one more cell
 pub cells_more : (n mine theirs : ℕ) → cells_of (suc n) mine theirs ≡ cell_by (has_cell mine n) (has_cell theirs n) ∷ cells_of n mine theirs
 unfolding cells_of
 cells_more n mine theirs = refl
 
--- one entry a cell
+-- a board has one entry for each cell
 pub cells_length : (n mine theirs : ℕ) → length (cells_of n mine theirs) ≡ n
 unfolding cells_of
 cells_length zero mine theirs = refl
@@ -84,7 +84,7 @@ apart_bits (suc zero) zero l k e f = refl
 apart_bits (suc zero) (suc b) l k e f = absurd (omega arith)
 apart_bits (suc (suc a)) b l k e f = absurd (omega arith)
 
--- masks without a common bit
+-- masks without a common bit have no cell in common
 pub apart_below : (n mine theirs : ℕ) → bit_and mine theirs ≡ 0 → AreApart n mine theirs
 apart_below n mine theirs e i l f =
     apart_bits (bit_at mine i) (bit_at theirs i) (bit_at-lt mine i) (bit_at-lt theirs i)
@@ -104,14 +104,14 @@ their_tests_cells (suc n) mine theirs h =
     ∙ ap (λ (bs : List Bool). has_cell theirs n ∷ bs) (their_tests_cells n mine theirs (λ i l. h i (omega arith)))
     ∙ sym (tests_more n theirs)
 
--- the opponent's pieces are as many among all cells as among those without the mover's
+-- the opponent has as many pieces on all cells as on the cells without the mover's pieces
 pub their_members : (cs : List Cell) → members (their_bits cs) ≡ members (their_tests cs)
 their_members [] = refl
 their_members (Mine ∷ cs) = their_members cs
 their_members (Theirs ∷ cs) = ap suc (their_members cs)
 their_members (Empty ∷ cs) = their_members cs
 
--- the board of lists of tests
+-- the board that two lists of tests give
 by_tests : List Bool → List Bool → List Cell
 by_tests [] ts = []
 by_tests (m ∷ ms) [] = []
@@ -154,7 +154,7 @@ cells_back n cs e =
     ∙ ap₂ by_tests (tests_at n (mine_bits cs) (mine_length cs ∙ e)) (tests_at n (their_tests cs) (theirs_length cs ∙ e))
     ∙ by_tests_back cs
 
--- a mask by the tests of its cells
+-- two masks with the same tests are the same
 pub same_mask : (n a b : ℕ) → a < 2 ^ n → b < 2 ^ n → tests_of n a ≡ tests_of n b → a ≡ b
 same_mask n a b f g e = sym (mask_tests_small n a f) ∙ ap mask_of e ∙ mask_tests_small n b g
 
@@ -201,15 +201,15 @@ pub arrangement_cells : (n m t i : ℕ) → i < arrangements n m t → cells_of 
 unfolding mine_mask their_mask
 arrangement_cells n m t i l = let h = arrangement_is n m t i l in cells_back n (arrangement n m t i) h.cells
 
--- the index comes back from its masks
+-- the masks of an index give the index back
 pub index_of_masks : (n m t i : ℕ) → i < arrangements n m t → arrangement_index (cells_of n (mine_mask n m t i) (their_mask n m t i)) ≡ i
 index_of_masks n m t i l = ap arrangement_index (arrangement_cells n m t i l) ∙ (arrangement_is n m t i l).back
 
--- what pieces give
+-- the number of the mover's pieces
 pub mine_count : (n m t mine theirs : ℕ) → HasPieces n m t mine theirs → members (mine_bits (cells_of n mine theirs)) ≡ m
 mine_count n m t mine theirs h = ap members (mine_bits_cells n mine theirs) ∙ members_small n mine h.mine_within ∙ h.mine_number
 
--- the opponent's number
+-- the number of the opponent's pieces
 pub their_count : (n m t mine theirs : ℕ) → HasPieces n m t mine theirs → members (their_bits (cells_of n mine theirs)) ≡ t
 their_count n m t mine theirs h =
     their_members (cells_of n mine theirs)
@@ -226,7 +226,7 @@ cells_again : (n m t mine theirs : ℕ) → HasPieces n m t mine theirs → arra
 cells_again n m t mine theirs h =
     back_at n m t (cells_of n mine theirs) (cells_length n mine theirs) (mine_count n m t mine theirs h) (their_count n m t mine theirs h)
 
--- the mover's mask comes back from the index
+-- the index gives the mover's mask back
 pub mine_again : (n m t mine theirs : ℕ) → HasPieces n m t mine theirs → mine_mask n m t (arrangement_index (cells_of n mine theirs)) ≡ mine
 unfolding mine_mask
 mine_again n m t mine theirs h =
@@ -234,7 +234,7 @@ mine_again n m t mine theirs h =
     ∙ ap mask_of (mine_bits_cells n mine theirs)
     ∙ mask_tests_small n mine h.mine_within
 
--- the opponent's mask comes back from the index
+-- the index gives the opponent's mask back
 pub theirs_again : (n m t mine theirs : ℕ) → HasPieces n m t mine theirs → their_mask n m t (arrangement_index (cells_of n mine theirs)) ≡ theirs
 unfolding their_mask
 theirs_again n m t mine theirs h =
@@ -242,6 +242,6 @@ theirs_again n m t mine theirs h =
     ∙ ap mask_of (their_tests_cells n mine theirs (apart_below n mine theirs h.apart))
     ∙ mask_tests_small n theirs h.theirs_within
 
--- the opponent's pieces on all cells, from their mask on those without the mover's
+-- the mask of the opponent's pieces on all cells, from their mask on the cells without the mover's pieces
 unfoldable pub spread_mask : ℕ → ℕ → ℕ → ℕ
 spread_mask n mine packed = mask_of (their_tests (merge (tests_of n mine) (tests_of (n - members (tests_of n mine)) packed)))

@@ -10,7 +10,7 @@ members [] = 0
 members (true ∷ bs) = suc (members bs)
 members (false ∷ bs) = members bs
 
--- each member, at cell c with j members below it, adds C(c, j + 1)
+-- the rank of a subset: each member, at cell c with j members below it, adds C(c, j + 1)
 abbrev pub rank : List Bool → ℕ
 rank [] = 0
 rank (true ∷ bs) = binomial (length bs) (suc (members bs)) + rank bs
@@ -28,7 +28,7 @@ rank_below [] = omega (arith, binomial_zero 0)
 rank_below (true ∷ bs) = omega (arith, rank_below bs, pascal (length bs) (members bs))
 rank_below (false ∷ bs) = omega (arith, rank_below bs, binomial_grows (length bs) (members bs))
 
--- the subset is one of n cells
+-- the subset with a rank is one of n cells
 pub unrank_length : (n k r : ℕ) → length (unrank n k r) ≡ n
 unrank_length zero k r = refl
 unrank_length (suc n) zero r = ap suc (unrank_length n zero r)
@@ -37,16 +37,16 @@ unrank_length (suc n) (suc k) r = grind (arith, nat_tests, unrank_length n (suc 
 ltb-from_le : (a b : ℕ) → b ≤ a → ltb a b ≡ false
 ltb-from_le a b l = grind (arith, nat_tests)
 
--- one step of unrank, at a cell that is not a member and at one that is
+-- the step of unrank at a cell that is not a member
 pub unrank_out : (n k r : ℕ) → r < binomial n k → unrank (suc n) k r ≡ false ∷ unrank n k r
 unrank_out n zero r l = refl
 unrank_out n (suc k) r l = rw (lt-ltb r (binomial n (suc k)) l) refl
 
--- the step at a member
+-- the step of unrank at a cell that is a member
 pub unrank_in : (n k r : ℕ) → binomial n (suc k) ≤ r → unrank (suc n) (suc k) r ≡ true ∷ unrank n k (r - binomial n (suc k))
 unrank_in n k r l = rw (ltb-from_le r (binomial n (suc k)) l) refl
 
--- the subset has k members
+-- the subset with a rank has k members
 pub unrank_members : (n k r : ℕ) → r < binomial n k → members (unrank n k r) ≡ k
 unrank_members zero zero r l = refl
 unrank_members zero (suc k) r l = absurd (omega (arith, binomial_none k))
@@ -57,7 +57,7 @@ unrank_members (suc n) (suc k) r l =
       | inr h ↦ ap members (unrank_in n k r h) ∙ ap suc (unrank_members n k (r - binomial n (suc k)) (omega (arith, pascal n k)))
     ]
 
--- a rank comes back from its subset
+-- the subset with a rank gives the rank back
 pub rank_unrank : (n k r : ℕ) → r < binomial n k → rank (unrank n k r) ≡ r
 rank_unrank zero zero r l = omega (arith, binomial_zero 0)
 rank_unrank zero (suc k) r l = absurd (omega (arith, binomial_none k))
@@ -73,7 +73,7 @@ rank_unrank (suc n) (suc k) r l =
           ∙ rw (unrank_length n k s, unrank_members n k s b, rank_unrank n k s b) (omega arith)
     ]
 
--- a subset comes back from its rank
+-- the rank of a subset gives the subset back
 pub unrank_rank : (bs : List Bool) → unrank (length bs) (members bs) (rank bs) ≡ bs
 unrank_rank [] = refl
 unrank_rank (true ∷ bs) =
@@ -84,7 +84,7 @@ unrank_rank (false ∷ bs) =
     unrank_out (length bs) (members bs) (rank bs) (rank_below bs)
     ∙ ap (λ (cs : List Bool). false ∷ cs) (unrank_rank bs)
 
--- no more members than cells
+-- there are no more members than cells
 pub members_le : (bs : List Bool) → members bs ≤ length bs
 members_le [] = omega arith
 members_le (true ∷ bs) = omega (arith, members_le bs)

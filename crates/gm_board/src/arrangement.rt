@@ -7,7 +7,7 @@ ghost use Rattle.gm_board.specs.Pieces.{cells_of, HasPieces, mine_mask, their_ma
 use crate::pascal::binomial;
 use crate::subset::{rank_subset, unrank_subset};
 
-/// Boards of `cells` cells, at most 32, with `mine` pieces of the mover's and `theirs` of the opponent's.
+/// Boards of `cells` cells, at most 32, on which the mover has `mine` pieces and the opponent `theirs`.
 ///
 /// The index of an arrangement is `rank(mine) * C(cells - mine, theirs) + rank'(theirs)`, where `rank'` numbers the
 /// cells without the mover's pieces from 0 in ascending order.
@@ -66,7 +66,7 @@ impl Arrangement {
     }
 }
 
-/// The opponent's pieces on the cells without the mover's, which are numbered from 0 in ascending order.
+/// The mask of the opponent's pieces on the cells without the mover's pieces, where these cells are numbered from 0 in ascending order.
 fn pack(cells: u32, mine: u32, theirs: u32) -> u32
     requires cells { cells ≤ 32 }
     requires mine { mine < 2 ^ cells }
@@ -79,7 +79,7 @@ fn pack(cells: u32, mine: u32, theirs: u32) -> u32
     let mut passed = 0;
     while rest != 0 {
         let cell = rest.trailing_zeros();
-        // The pieces past this cell of the mover's move one place down.
+        // The mover has a piece on this cell: the opponent's pieces past it move one place down.
         packed -= (theirs >> cell >> 1) << (cell - passed);
         passed += 1;
         rest &= rest - 1;
@@ -87,7 +87,7 @@ fn pack(cells: u32, mine: u32, theirs: u32) -> u32
     packed
 }
 
-/// The opponent's pieces on all cells, from those on the cells without the mover's.
+/// The mask of the opponent's pieces on all cells, from their mask on the cells without the mover's pieces.
 fn spread(cells: u32, mine: u32, packed: u32) -> u32
     requires cells { cells ≤ 32 }
     requires mine { mine < 2 ^ cells }
@@ -98,7 +98,7 @@ fn spread(cells: u32, mine: u32, packed: u32) -> u32
     let mut rest = mine;
     while rest != 0 {
         let cell = rest.trailing_zeros();
-        // The pieces from this cell of the mover's on move one place up.
+        // The mover has a piece on this cell: the opponent's pieces from here on move one place up.
         theirs += theirs >> cell << cell;
         rest &= rest - 1;
     }

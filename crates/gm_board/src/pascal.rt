@@ -2,7 +2,7 @@
 ghost use Rattle.std.specs.Prelude.{◌≡◌, ◌<◌, ◌≤◌, ◌^◌};
 ghost use Rattle.gm_board.specs.Binomials.{binomial as binomial_of};
 
-/// The rows of Pascal's triangle for up to 32 elements, each filled with zeros.
+/// The rows of Pascal's triangle for up to 32 elements, each filled up with zeros.
 static ROWS: [[u32; 33]; 33] = [
     [
         1, 0, 0, 0, 0, 0, 0, 0, 0, 0, 0, 0, 0, 0, 0, 0, 0, 0, 0, 0, 0, 0, 0, 0, 0, 0, 0, 0, 0, 0,
@@ -156,7 +156,7 @@ pub fn binomial(n: u32, k: u32) -> u64
     ensures value { result ≡ binomial_of n k }
     ensures small { result < 2 ^ 32 }
 {
-    // The rows are filled with zeros, so that only k past the last column is told apart: a branch that is foreseen.
+    // The rows are filled up with zeros, so only a k past the last column is a case of its own: a branch that processors predict well.
     if k > 32 {
         return 0;
     }

@@ -22,7 +22,7 @@ impl<const K: usize> MixedRadix<K> {
         size
     }
 
-    /// The number of these digits.
+    /// The number that has these digits.
     pub fn encode(&self, digits: &[u64; K]) -> u64
         requires { AreBelow self.now.radices digits.now }
         ensures value { result ≡ digits_number self.now.radices digits.now }

@@ -2,7 +2,7 @@
 ghost use Rattle.std.specs.Prelude.{◌≡◌, ◌<◌, ◌^◌};
 ghost use Rattle.gm_board.specs.Masks.{mask_rank};
 
-/// What the cells 0 to 7 of a subset add to its rank, for each set of them.
+/// What the cells 0 to 7 of a subset add to its rank, for each mask of these cells.
 const LOW: [u16; 256] = [
     0, 0, 1, 0, 2, 1, 2, 0, 3, 3, 4, 1, 5, 2, 3, 0, 4, 6, 7, 4, 8, 5, 6, 1, 9, 7, 8, 2, 9, 3, 4, 0,
     5, 10, 11, 10, 12, 11, 12, 5, 13, 13, 14, 6, 15, 7, 8, 1, 14, 16, 17, 9, 18, 10, 11, 2, 19, 12,
@@ -17,7 +17,7 @@ const LOW: [u16; 256] = [
     7, 0,
 ];
 
-/// What the cells 8 to 15 of a subset add to its rank, for each number of members among the cells 0 to 7, and each set of them.
+/// What the cells 8 to 15 of a subset add to its rank, for each number of members among the cells 0 to 7, and each mask of the cells 8 to 15.
 const HIGH: [[u16; 256]; 9] = [
     [
         0, 8, 9, 44, 10, 53, 54, 164, 11, 63, 64, 209, 65, 218, 219, 494, 12, 74, 75, 264, 76, 273,
@@ -188,7 +188,7 @@ const HIGH: [[u16; 256]; 9] = [
     ],
 ];
 
-/// The rank of a subset of sixteen cells among those of as many cells.
+/// The rank of a subset of sixteen cells among the subsets with equally many cells.
 #[inline]
 pub fn short_rank(mask: u32) -> u64
     requires { mask < 2 ^ 16 }

@@ -24,14 +24,14 @@ AreWrong r entries tier records (WrongRecord index) = (length records ≡ r.tier
 abbrev pub IsUntrueText : Rules → List TableData → ℕ → List ℕ → CheckError → Type 0
 IsUntrueText r entries tier bytes why = (records : List (Option Solved)) × IsTierText r tier records bytes × AreWrong r entries tier records why
 
--- the bytes are this; no text of version 1 is one of version 2
+-- what the bytes are found to be; no text of version 1 is one of version 2
 abbrev pub IsInspected : {G : Type 0} → Rules → List TableData → ℕ → List ℕ → Inspected G → Type 0
 IsInspected r entries tier bytes (Right table) = (table.tier ≡ tier) × IsTrueText r tier bytes × (IsOldText r tier bytes → ⊥)
 IsInspected r entries tier bytes Missing = ⊥
 IsInspected r entries tier bytes (NoFile why) = Refuses r tier bytes why × (IsTrueText r tier bytes → ⊥) × (IsOldText r tier bytes → why ≡ OldVersion)
 IsInspected r entries tier bytes (NoTable why) = IsUntrueText r entries tier bytes why × (IsTrueText r tier bytes → ⊥) × (IsOldText r tier bytes → ⊥)
 
--- the tier's entry is this
+-- what the tier's entry is found to be
 abbrev pub IsInspectedIn : {G : Type 0} → Rules → List TableData → Texts → ℕ → Inspected G → Type 0
 IsInspectedIn {G} r entries texts tier (Right table) = (bytes : List ℕ) × (texts tier ≡ Some bytes) × IsInspected {G = G} r entries tier bytes (Right table)
 IsInspectedIn r entries texts tier Missing = texts tier ≡ None

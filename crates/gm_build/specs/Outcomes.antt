@@ -13,13 +13,13 @@ use Rattle.gm_build.specs.declared.build_error.BuildError.{BuildError}
 use Rattle.gm_build.specs.declared.build_error.BuildError.TheVariants.{OutOfMemory, TooFar, StoreFailed, TooManyTiers, TierTooLarge}
 use Rattle.gm_build.specs.TrueTexts.{HasText, HaveTexts, KeepsOthers}
 
--- the build's error for one of the order
+-- the build's error for an error of the tier order
 abbrev pub of_tier_error : TierError → BuildError
 of_tier_error NoRoom = OutOfMemory
 of_tier_error TooMany = TooManyTiers
 of_tier_error (TooLarge tier) = TierTooLarge tier
 
--- how many failures of the store an answer is
+-- how many failures of the store an answer tells of
 abbrev pub failures_in : {T : Type 0} → Result T BuildError → ℕ
 failures_in (Ok x) = 0
 failures_in (Err OutOfMemory) = 0

@@ -15,25 +15,25 @@ IsOfTier tier (Current table) = table.tier ≡ tier
 IsOfTier tier (Old table) = table.tier ≡ tier
 IsOfTier tier Nothing = Unit {0}
 
--- the bytes are this
+-- what the bytes are found to be
 abbrev pub IsFound : {G : Type 0} → Rules → ℕ → List ℕ → Found G → Type 0
 IsFound r tier bytes (Current table) = IsTrueText r tier bytes × (IsOldText r tier bytes → ⊥)
 IsFound r tier bytes (Old table) = IsOldText r tier bytes × (IsTrueText r tier bytes → ⊥)
 IsFound r tier bytes Nothing = (IsTrueText r tier bytes → ⊥) × (IsOldText r tier bytes → ⊥)
 
--- the tier's entry is this
+-- what the tier's entry is found to be
 abbrev pub IsFoundIn : {G : Type 0} → Rules → Texts → ℕ → Found G → Type 0
 IsFoundIn r texts tier (Current table) = HasText r texts tier × (HasOldText r texts tier → ⊥)
 IsFoundIn r texts tier (Old table) = HasOldText r texts tier × (HasText r texts tier → ⊥)
 IsFoundIn r texts tier Nothing = (HasText r texts tier → ⊥) × (HasOldText r texts tier → ⊥)
 
--- this is done where the tier had such an entry
+-- what is done with the tier, by the entry that it had
 abbrev pub IsStep : Rules → Texts → ℕ → Step → Type 0
 IsStep r texts tier Reused = HasText r texts tier × (HasOldText r texts tier → ⊥)
 IsStep r texts tier Migrated = HasOldText r texts tier × (HasText r texts tier → ⊥)
 IsStep r texts tier (Solved report) = (HasText r texts tier → ⊥) × (HasOldText r texts tier → ⊥)
 
--- what it took
+-- how much work that took
 abbrev pub IsStepWork : Rules → ℕ → Step → Type 0
 IsStepWork r tier Reused = Unit {0}
 IsStepWork r tier Migrated = Unit {0}

@@ -7,7 +7,7 @@ use Rattle.gm_game.specs.Numbers.{AreThere}
 use Rattle.gm_table.specs.Tables.{TableData, IsHeld}
 use Rattle.gm_solver.specs.Solving.{IsDelivery}
 
--- neither reused nor migrated, and so solved
+-- a tier that is neither reused nor migrated is solved
 abbrev pub IsSolvedTier : (ℕ → Type 0) → (ℕ → Type 0) → ℕ → Type 0
 IsSolvedTier IsReused IsMigrated tier = (IsReused tier → ⊥) × (IsMigrated tier → ⊥)
 
@@ -17,7 +17,7 @@ pub record IsSolvedDelivery (r : Rules) (tiers : List ℕ) (IsSolved : ℕ → T
   pub solved : IsSolved d.0
   pub delivery : IsDelivery r d.0 d.1
 
--- some of the tiers were reused, some migrated, and all others solved: how many of each, how many deliveries that took, and that no more of them were by hand
+-- some of the tiers were reused, some migrated, and all others solved: how many of each, how many deliveries that took, and at most as many deliveries by hand
 pub record IsWorkOn (r : Rules) (tiers : List ℕ) (IsReused IsMigrated : ℕ → Type 0) (solved reused migrated deliveries by_hand : ℕ) : Type 0 where
   pub those_solved : AreThere solved (λ tier. Contains tiers tier × IsSolvedTier IsReused IsMigrated tier)
   pub those_reused : AreThere reused (λ tier. Contains tiers tier × IsReused tier)
@@ -25,7 +25,7 @@ pub record IsWorkOn (r : Rules) (tiers : List ℕ) (IsReused IsMigrated : ℕ �
   pub those_delivered : AreThere deliveries (IsSolvedDelivery r tiers (IsSolvedTier IsReused IsMigrated))
   pub few_by_hand : by_hand ≤ deliveries
 
--- the same, whichever of them were reused and migrated, none both
+-- work on the tiers with these numbers, whichever of them were reused and which migrated; none was both
 pub record IsSomeWork (r : Rules) (tiers : List ℕ) (solved reused migrated deliveries by_hand : ℕ) : Type 0 where
   pub reused_tiers : List ℕ
   pub migrated_tiers : List ℕ
@@ -38,6 +38,6 @@ pub record IsSomeWork (r : Rules) (tiers : List ℕ) (solved reused migrated del
 abbrev pub HoldsExactly : List TableData → List ℕ → Type 0
 HoldsExactly entries tiers = (tier : ℕ) → IsHeld entries tier ↔ Contains tiers tier
 
--- this tier has a table as well as those before
+-- this tier has a table too, beside those that had one before
 abbrev pub HoldsToo : ℕ → List TableData → List TableData → Type 0
 HoldsToo tier old new = (t : ℕ) → IsHeld new t ↔ (IsHeld old t ⊎ (tier ≡ t))

@@ -15,11 +15,11 @@ most cs = fold (λ m (c : Count). max c.number m) 0 cs
 abbrev pub whole_bar : List ℕ
 whole_bar = codes "########################################"
 
--- a bar of 40 for the greatest number, and for another of its part of that, rounded up
+-- the length of a bar: 40 for the greatest number, and the same part of 40 for a lesser number, rounded up
 abbrev pub bar_length : ℕ → ℕ → ℕ
 bar_length greatest n = min 40 ((n * 40 + (max greatest 1 - 1)) / max greatest 1)
 
--- a value with its remoteness, the number and its bar
+-- the row of a count: its value and remoteness, its number and its bar
 abbrev pub count_row : ℕ → Count → List ℕ
 count_row greatest c = (value_text_of c.value c.remoteness ++ codes "\t") ++ (decimal c.number ++ codes "\t") ++ (take (bar_length greatest c.number) whole_bar ++ codes "\n")
 

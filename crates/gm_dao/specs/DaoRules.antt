@@ -1,4 +1,4 @@
--- The rules of Dao, said of boards: a board is a list of sixteen cells as the player to move sees them.
+-- The rules of Dao on boards: a board is a list of sixteen cells as the player to move sees them.
 use Rattle.std.specs.Prelude.{ℕ, ◌+◌, ◌-◌, ◌/◌, ◌%◌, max, Bool, true, not, ◌&&◌, ◌||◌, ◌==◌, nat_le, nat_lt, List, [], ◌∷◌, ◌++◌, map, length, codes, if◌then◌else◌, Option, None, Some}
 use Rattle.std.specs.List.{filter, list_any, range_with_len}
 use Rattle.gm_game.specs.declared.position.End.{End}
@@ -24,7 +24,7 @@ distance x y = (x - y) + (y - x)
 abbrev pub rows_apart : ℕ → ℕ → ℕ
 rows_apart a c = distance (a / 4) (c / 4)
 
--- in columns
+-- how far apart two cells are in columns
 abbrev pub columns_apart : ℕ → ℕ → ℕ
 columns_apart a c = distance (a % 4) (c % 4)
 
@@ -49,25 +49,25 @@ formations =
 unfoldable pub has_formation : (Cell → Bool) → List Cell → Bool
 has_formation p b = has_filled Empty formations p b
 
--- sixteen cells, four pieces of each side, no formation of the mover's
+-- a legal board has sixteen cells, four pieces of each side, and no formation of the mover's
 unfoldable pub legal : List Cell → Bool
 legal b = length b == 16 && (number_of is_mine b == 4 && (number_of is_theirs b == 4 && not (has_formation is_mine b)))
 
 -- ---- corners
--- the cells next to a cell, in its row, its column and its diagonals: three where it is a corner
+-- the cells next to a cell, in its row, its column and its diagonals: three cells next to a corner
 unfoldable pub around : ℕ → List ℕ
 around k = filter (λ j. not (j == k) && (nat_le (rows_apart k j) 1 && nat_le (columns_apart k j) 1)) (range_with_len 0 16)
 
--- whether a piece of the mover's stands there, and opponent's pieces on all cells next to it
+-- whether a piece of the mover's stands on a cell, and the opponent's pieces on all cells next to it
 abbrev pub is_trapped : List Cell → ℕ → Bool
 is_trapped b k = is_mine (cell_at b k) && fills Empty is_theirs b (around k)
 
--- whether that is so in a corner
+-- whether a piece of the mover's is trapped in a corner
 unfoldable pub has_trapped : List Cell → Bool
 has_trapped b = list_any (is_trapped b) corners
 
 -- ---- slides
--- the number that is n steps from x in the direction of y; x itself where they are one
+-- the number that is n steps from x in the direction of y; x itself where x and y are equal
 abbrev pub toward : ℕ → ℕ → ℕ → ℕ
 toward x y n = if nat_lt x y then x + n else (if nat_lt y x then x - n else x)
 
@@ -79,7 +79,7 @@ stays x y n = if nat_lt x y then nat_lt (x + n) 4 else (if nat_lt y x then nat_l
 unfoldable pub in_line : ℕ → ℕ → Bool
 in_line a c = nat_lt a 16 && (nat_lt c 16 && (not (a == c) && (rows_apart a c == 0 || (columns_apart a c == 0 || rows_apart a c == columns_apart a c))))
 
--- how many steps it is from one to the other
+-- how many steps it is from one cell to the other
 abbrev pub steps_apart : ℕ → ℕ → ℕ
 steps_apart a c = max (rows_apart a c) (columns_apart a c)
 
@@ -91,14 +91,14 @@ step_cell a c n = cell_in 4 (toward (a / 4) (c / 4) n) (toward (a % 4) (c % 4) n
 unfoldable pub path : ℕ → ℕ → List ℕ
 path a c = map (step_cell a c) (range_with_len 1 (steps_apart a c))
 
--- the cell that follows on c on this way, if the board goes on there
+-- the cell after c on the way from a, if the board goes on there
 unfoldable pub beyond : ℕ → ℕ → List ℕ
 beyond a c =
     if stays (a / 4) (c / 4) (steps_apart a c + 1) && stays (a % 4) (c % 4) (steps_apart a c + 1)
     then step_cell a c (steps_apart a c + 1) ∷ []
     else []
 
--- whether a piece slides from a to c, as far as it can in this direction: all cells on the way are empty, and the cell that follows is taken or off the board
+-- whether a piece slides from a to c, as far as it can in this direction: all cells on the way are empty, and the cell after c is taken or off the board
 abbrev pub slides : List Cell → ℕ → ℕ → Bool
 slides b a c = in_line a c && (fills Empty is_empty b (path a c) && fills Empty is_taken b (beyond a c))
 
@@ -111,11 +111,12 @@ can_go b a c = is_mine (cell_at b a) && slides b a c
 unfoldable pub can_move : List Cell → ℕ → Bool
 can_move b m = can_go b (from_point m) (to_point m)
 
--- the numbers of moves are below this one
+-- all numbers of moves are below this number
 abbrev pub numbers_end : ℕ
 numbers_end = 256
 
--- how the last move has ended the game: a formation of the opponent's loses, which is tested first; then a piece that is trapped in a corner wins
+-- how the last move has ended the game, if it has: the mover loses where the opponent has a formation, which is tested first, and wins where a piece of the
+-- mover's is trapped in a corner
 unfoldable pub over : List Cell → Option End
 over b = if has_formation is_theirs b then Some Lose else (if has_trapped b then Some Win else None)
 
@@ -128,7 +129,7 @@ play b m = gone b (from_point m) (to_point m)
 unfoldable pub was_moved : List Cell → ℕ → Bool
 was_moved d m = in_line (from_point m) (to_point m) && (is_theirs (cell_at d (to_point m)) && is_empty (cell_at d (from_point m)))
 
--- the board before it
+-- the board before the move with this number
 unfoldable pub taken_back : List Cell → ℕ → List Cell
 taken_back d m = brought_back d (from_point m) (to_point m)
 
@@ -137,7 +138,7 @@ taken_back d m = brought_back d (from_point m) (to_point m)
 abbrev pub dao_name : List ℕ
 dao_name = codes "dao" ++ 0 ∷ 0 ∷ 0 ∷ 0 ∷ 0 ∷ 0 ∷ 0 ∷ 0 ∷ 0 ∷ 0 ∷ 0 ∷ 0 ∷ 0 ∷ []
 
--- the mover on one diagonal, the opponent on the other
+-- the starting board: the mover's pieces stand on one diagonal, the opponent's on the other
 abbrev pub start_board : List Cell
 start_board =
     Mine ∷ Empty ∷ Empty ∷ Theirs
@@ -149,11 +150,11 @@ start_board =
 abbrev pub board_at : ℕ → List Cell
 board_at i = board_numbered 16 4 4 i
 
--- the least index among a board and its images
+-- the least of the indexes of a board and its images
 abbrev pub least_index_of : List Cell → ℕ
 least_index_of b = least_index_under (square_symmetries 4) b
 
--- Dao: one tier, who can't move has lost, and the turns and reflections of the square
+-- Dao: there is one tier, a player who can't move has lost, and the symmetries are the turns and reflections of the square
 abbrev pub dao : MoveGame (List Cell) (List ℕ)
 dao = record {
   name = dao_name;
@@ -176,6 +177,6 @@ dao = record {
   tier_rank = λ t. 0;
 }
 
--- the rules of its positions
+-- the rules of Dao's positions
 abbrev pub dao_rules : Rules
 dao_rules = move_rules dao

@@ -8,11 +8,11 @@ use Rattle.gm_board.specs.Masks.{has_cell}
 use Rattle.gm_pieces.specs.MoveGames.{before_at}
 use Rattle.gm_dao.specs.DaoRules.{in_line, path, beyond, can_move, least_index_of, dao}
 
--- the mask of the way between two cells in line, 0 for other cells
+-- the mask of the way from one cell to another in line with it; 0 for other cells
 unfoldable pub way_mask : ℕ → ℕ → ℕ
 way_mask a c = if in_line a c then pattern_mask (path a c) else 0
 
--- whether a piece slides from a to c: all cells on the way are free, and the cell that follows is taken or off the board
+-- whether a piece slides from a to c: all cells on the way are free, and the cell after c is taken or off the board
 abbrev pub slides_by_masks : ℕ → ℕ → ℕ → ℕ → Bool
 slides_by_masks free taken a c = in_line a c && (list_all (has_cell free) (path a c) && list_all (has_cell taken) (beyond a c))
 

@@ -6,7 +6,7 @@ use Rattle.gm_sides.specs.SideTexts.{board_text}
 use Rattle.gm_steps.specs.Steps.{from_point, to_point}
 use Rattle.gm_dao.specs.DaoRules.{board_at}
 
--- the cell that a piece leaves, `-` and the one to which it goes
+-- the text of a move: the cell that a piece leaves, `-` and the cell to which it goes
 unfoldable pub step_text : ℕ → List ℕ
 step_text m = cell_text 4 (from_point m) ++ 45 ∷ cell_text 4 (to_point m)
 
@@ -14,6 +14,6 @@ step_text m = cell_text 4 (from_point m) ++ 45 ∷ cell_text 4 (to_point m)
 abbrev pub position_text : Position → List ℕ
 position_text p = board_text (board_at p.index)
 
--- and of a move
+-- the text of a position's move
 abbrev pub move_text : Position → ℕ → List ℕ
 move_text p m = step_text m

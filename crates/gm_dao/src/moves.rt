@@ -15,10 +15,10 @@ use gm_game::limits::MOVES;
 use gm_game::position::End;
 use gm_steps::step::Step;
 
-/// The pieces of each side.
+/// The number of pieces of each side.
 pub const PIECES: u32 = 4;
 
-/// The numbers of moves are below this.
+/// All numbers of moves are below this.
 pub const NUMBERS: u32 = 256;
 
 /// Whether the mover has a formation.
@@ -52,7 +52,7 @@ fn has_all_pieces(board: Board) -> bool
     board.own_pieces() == PIECES && board.their_pieces() == PIECES
 }
 
-/// Whether a board is one of the game: four pieces of each side, and no formation of the mover's.
+/// Whether a board is legal: each side has four pieces, and the mover has no formation.
 #[tactic(auto, unfolding(crate::specs::DaoRules::legal))]
 pub fn is_legal_board(board: Board) -> bool
     ensures { result ≡ legal (board_of 16 board.mine board.theirs) }
@@ -89,7 +89,8 @@ pub fn is_stuck(board: Board) -> bool
     true
 }
 
-/// The end that the last move has made: a formation of the opponent's loses, which is tested first; then a piece that is trapped in a corner wins.
+/// How the last move has ended the game, if it has: the mover loses where the opponent has a formation, which is tested first, and wins where a piece of the
+/// mover's is trapped in a corner.
 #[tactic(auto, unfolding(crate::specs::DaoRules::over))]
 pub fn over(board: Board) -> Option<End>
     ensures { result ≡ over_of (board_of 16 board.mine board.theirs) }
@@ -123,7 +124,7 @@ fn push_moves(list: &mut ArrayVec<u32, MOVES>, board: Board, from: u32)
     }
 }
 
-/// The numbers of the moves, were the game not over, ascending.
+/// The numbers of the moves that could be made if the game were not over, ascending.
 pub fn open_moves(board: Board) -> ArrayVec<u32, MOVES>
     requires { legal (board_of 16 board.mine board.theirs) ≡ true }
     ensures { result.items ≡ steps dao (board_of 16 board.mine board.theirs) }

@@ -1,7 +1,7 @@
 //! Moves taken back: the boards before a board.
 //!
-//! No slide is reversed. With the roles swapped each piece that may have moved is put on each empty cell, and of what
-//! comes of this the boards stay from which the game goes on by the move that leads back.
+//! Slides aren't reversed. Instead each piece that may have moved is put on each empty cell, with the roles of the sides swapped.
+//! Of these boards, those are kept from which the game goes on by the move that leads back.
 ghost use Rattle.std.specs.Prelude.{◌≡◌, ◌<◌, ◌≤◌, ◌+◌, ◌*◌, true, length, map, []};
 ghost use Rattle.gm_game.specs.Ascending.{put_all};
 ghost use Rattle.gm_board.specs.Images.{board_of};
@@ -32,7 +32,7 @@ pub fn was_moved(board: Board, number: u32) -> bool
     board.has_theirs(step.to) && board.is_free(step.from)
 }
 
-/// The board before that move.
+/// The board before the move with this number.
 #[tactic(auto, unfolding(crate::specs::DaoRules::taken_back))]
 pub fn taken_back(board: Board, number: u32) -> Board
     requires { was_moved_of (board_of 16 board.mine board.theirs) number ≡ true }
@@ -42,7 +42,7 @@ pub fn taken_back(board: Board, number: u32) -> Board
     board.brought_back(step.from, step.to)
 }
 
-/// Whether the game goes on from a board of the tier by this move, which is tested first.
+/// Whether the board is a legal one of the tier from which the game goes on by this move. The move is tested before the board.
 pub fn goes_on(tier: u64, board: Board, number: u32) -> bool
     requires { number < 256 }
     ensures { result ≡ goes_on_of dao tier (board_of 16 board.mine board.theirs) number }
@@ -50,7 +50,7 @@ pub fn goes_on(tier: u64, board: Board, number: u32) -> bool
     tier == 0 && can_move(board, number) && is_legal_board(board) && over(board).is_none()
 }
 
-// Puts the least indexes of the boards before the moves that leave a cell.
+// Puts into the list the least indexes of the boards before the moves that leave a cell.
 fn put_befores(list: &mut ArrayVec<u64, PARENTS>, tier: u64, board: Board, from: u32)
     requires cell { from < 16 }
     requires legal { legal (board_of 16 board.mine board.theirs) ≡ true }

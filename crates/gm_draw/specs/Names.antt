@@ -5,15 +5,15 @@ use Rattle.gm_morris.specs.declared.variant.Variant.{Variant}
 use Rattle.gm_morris.specs.declared.variant.Variant.TheVariants.{TicTacToe, ThreeMens, Achi}
 use Rattle.gm_hare.specs.Board.{hunt_board}
 
--- the side to move where positions are seen from it
+-- who is to move, in games whose positions are seen from the side to move
 abbrev pub x_moves : Position → List ℕ
 x_moves p = codes "x"
 
--- and where both sides have the same moves
+-- who is to move, in games where both sides have the same moves
 abbrev pub player_moves : Position → List ℕ
 player_moves p = codes "player"
 
--- of Hare and Hounds
+-- who is to move in Hare and Hounds
 abbrev pub hunt_mover : Bool → List ℕ
 hunt_mover hounds = if hounds then codes "hounds" else codes "hare"
 

@@ -7,17 +7,17 @@ use Rattle.gm_morris.specs.declared.variant.Variant.TheVariants.{TicTacToe, Thre
 abbrev pub three_columns : List ℕ
 three_columns = codes "    1   2   3\n"
 
--- the games of nine points
+-- the board of each game of nine points
 unfoldable pub nine_points : Variant → List ℕ
 nine_points TicTacToe = three_columns ++ codes "a   A | B | C\n   ---+---+---\nb   D | E | F\n   ---+---+---\nc   G | H | I"
 nine_points ThreeMens = three_columns ++ codes "a   A---B---C\n    |   |   |\nb   D---E---F\n    |   |   |\nc   G---H---I"
 nine_points Achi = three_columns ++ codes "a   A---B---C\n    | \\ | / |\nb   D---E---F\n    | / | \\ |\nc   G---H---I"
 
--- Dao
+-- the board of Dao
 unfoldable pub dao_board : List ℕ
 dao_board = codes "    1 2 3 4\na   A B C D\nb   E F G H\nc   I J K L\nd   M N O P"
 
--- Tac Tix, by the side of the board
+-- the board of Tac Tix, by its side
 unfoldable pub tactix_board : ℕ → List ℕ
 tactix_board s =
     if s == 5 then codes "    1 2 3 4 5\na   A B C D E\nb   F G H I J\nc   K L M N O\nd   P Q R S T\ne   U V W X Y" else
@@ -26,10 +26,10 @@ tactix_board s =
     if s == 2 then codes "    1 2\na   A B\nb   C D" else
     codes "    1\na   A"
 
--- Mu Torere: point 0 is at the top, and the ring goes round by the right
+-- the board of Mu Torere: point 0 is at the top, and the ring goes round clockwise
 unfoldable pub ring_board : List ℕ
 ring_board = codes "H---A---B\n| \\ | / |\nG---I---C\n| / | \\ |\nF---E---D"
 
--- Hare and Hounds: the hounds begin on the left
+-- the board of Hare and Hounds: the hounds begin on the left
 unfoldable pub hare_board : List ℕ
 hare_board = codes "      B---E---H\n    / | \\ | / | \\\n   A---C---F---I---K\n    \\ | / | \\ | /\n      D---G---J"

@@ -1,7 +1,7 @@
 -- The drawings of games on a row of numbers: the current one in brackets, and its moves.
 use Rattle.std.specs.Prelude.{ℕ, List, [], ◌∷◌, codes, slice_index_or}
 
--- Countdown from 10, by the number
+-- the rows of Countdown from 10, by the number
 abbrev pub countdown_rows : List (List ℕ)
 countdown_rows =
     codes "[0] 1 2 3 4 5 6 7 8 9 10"
@@ -17,7 +17,7 @@ countdown_rows =
     ∷ codes "0 1 2 3 4 5 6 7 8 9 [10]     take 1 or 2"
     ∷ []
 
--- Wheel, by the number
+-- the rows of Wheel, by the number
 abbrev pub wheel_rows : List (List ℕ)
 wheel_rows =
     codes "[0] 1 2 3 4 5 6 7 8 9"

@@ -19,6 +19,6 @@ abbrev pub has_slot : List ℕ → ℕ → Bool
 has_slot [] k = false
 has_slot (b ∷ bs) k = if b == 65 + k then true else has_slot bs k
 
--- whether it has those of the first n bytes
+-- whether a template has the slots of the first n bytes
 unfoldable pub has_slots : List ℕ → ℕ → Bool
 has_slots template n = list_all (has_slot template) (range_with_len 0 n)

@@ -20,7 +20,7 @@ use Rattle.gm_find.specs.Reaching.{IsReachedByPlay}
 abbrev pub positions_in : Rules → ℕ → List Position
 positions_in r tier = map (at tier) (range_with_len 0 (r.tier_size tier))
 
--- those of some tiers, tier by tier
+-- the positions of some tiers, tier by tier
 abbrev pub all_positions : Rules → List ℕ → List Position
 all_positions r tiers = flat_map (positions_in r) tiers
 
@@ -39,7 +39,7 @@ KeepsValue r v p m = (k : ℕ) × HasValue r (r.play p m) (kept_by v) k
 abbrev pub HasOnlyMove : Rules → Value → Position → Type 0
 HasOnlyMove r v p = (m : ℕ) × AreThose (KeepsValue r v p) (r.moves p) (m ∷ [])
 
--- any remoteness, or this one
+-- whether a remoteness is asked for: any is, or only this one
 abbrev pub IsAskedFor : Option ℕ → ℕ → Type 0
 IsAskedFor None n = Unit {0}
 IsAskedFor (Some k) n = k ≡ n
@@ -48,7 +48,7 @@ IsAskedFor (Some k) n = k ≡ n
 abbrev pub IsValueOf : Sought → Solved → Type 0
 IsValueOf q s = (q.value ≡ s.value) × IsAskedFor q.remoteness s.remoteness
 
--- a canonical position that is sought; where that is asked, one that play reaches
+-- a canonical position that is sought; where only reached positions are asked for, one that play reaches
 pub record IsMatch (r : Rules) (q : Sought) (reached : Bool) (p : Position) : Type 0 where
   pub canonical : IsCanonical r p
   pub value : (s : Solved) × IsTrueValue r p s × IsValueOf q s

@@ -7,7 +7,7 @@ module _ {A : Type 0} (P : A → Type 0) where
   AreThose [] ys = ys ≡ []
   AreThose (x ∷ xs) ys = ((rest : List A) × P x × (ys ≡ x ∷ rest) × AreThose xs rest) ⊎ ((P x → ⊥) × AreThose xs ys)
 
-  -- ys are the first of them, at most n
+  -- ys are the first of the xs that have the property, at most n
   abbrev pub IsFirst : ℕ → List A → List A → Type 0
   IsFirst n [] ys = ys ≡ []
   IsFirst zero (x ∷ xs) ys = ys ≡ []

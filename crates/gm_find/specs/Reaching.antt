@@ -10,7 +10,7 @@ abbrev pub IsPlay : Rules → Position → List ℕ → Type 0
 IsPlay r p [] = Unit {0}
 IsPlay r p (m ∷ ms) = Contains (r.moves p) m × IsPlay r (r.play p m) ms
 
--- some line of play from the start ends in a position with this canonical one
+-- some line of play from the start ends in a position whose canonical position is this one
 abbrev pub IsReachedByPlay : Rules → Position → Type 0
 IsReachedByPlay r c = (ms : List ℕ) × IsPlay r r.initial ms × (r.canonical (position_after r r.initial ms) ≡ c)
 
@@ -22,6 +22,6 @@ key_of p = (p.tier, p.index)
 abbrev pub AreReached : Rules → List (ℕ × ℕ) → Type 0
 AreReached r keys = (c : Position) → Contains keys (key_of c) ↔ IsReachedByPlay r c
 
--- the new list has more at its end
+-- the new list is the old one, possibly with more at its end
 abbrev pub IsGrown : List (ℕ × ℕ) → List (ℕ × ℕ) → Type 0
 IsGrown old new = (more : List (ℕ × ℕ)) × (new ≡ old ++ more)

@@ -22,6 +22,6 @@ best_text move_shown p (Some m) = move_shown p m
 abbrev pub found_row : (Position → List ℕ) → (Position → ℕ → List ℕ) → Found → List ℕ
 found_row shown move_shown x = row (shown x.position) (text_of x.value) (best_text move_shown x.position x.best) (decimal x.moves)
 
--- the rows of the first positions that are sought, at most so many
+-- the rows of the first positions that are sought, at most this many
 abbrev pub IsFoundText : Rules → (Position → List ℕ) → (Position → ℕ → List ℕ) → Sought → Bool → ℕ → List ℕ → List ℕ → Type 0
 IsFoundText r shown move_shown q reached limit tiers out = (xs : List Found) × AreFound r q reached limit tiers xs × (out ≡ flat_map (found_row shown move_shown) xs)

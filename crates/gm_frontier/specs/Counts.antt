@@ -30,7 +30,7 @@ pub record ExpectedData : Type 0 where
   pub level : ℕ
   pub number : ℕ
 
--- one level above another in the same phase, and else the first level
+-- the level to add after another one: one above it within its phase, and the first level in the other phase
 abbrev pub level_after : Phase → ℕ → Phase → ℕ
 level_after WinLose level WinLose = level + 1
 level_after WinLose level Ties = 0
@@ -48,12 +48,12 @@ Follows r tier None WinLose n = n ≡ 0
 Follows r tier None Ties n = (n ≡ 0) × IsLastLevel r tier WinLose 0
 Follows r tier (Some last) phase n = ((last.phase ≡ phase) × (n ≡ last.level + 1)) ⊎ ((phase ≡ Ties) × (n ≡ 0) × (last.phase ≡ WinLose) × IsLastLevel r tier WinLose (last.level + 1))
 
--- the number is exact
+-- the number of an Expected is exact
 pub record IsExpected (r : Rules) (e : ExpectedData) : Type 0 where
   pub small : r.tier_size e.tier ≤ TIER_SIZE
   pub next : Follows r e.tier e.last e.phase e.level
   pub number : IsNumberBefore r e.tier e.lo e.hi e.phase e.level e.number
 
--- with one more level, which has this many pairs into the range
+-- an Expected with one more level added, which has this many pairs into the range
 abbrev pub with_level : ExpectedData → Place → ℕ → ExpectedData
 with_level e place more = record e { last = Some place; level = e.level + 1; number = e.number + more }

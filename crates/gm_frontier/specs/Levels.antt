@@ -71,7 +71,7 @@ pub record IsChildPart (r : Rules) (place : Place) (t : ℕ) (notes : List NoteD
   pub small : r.tier_size t ≤ TIER_SIZE
   pub whole : AreNotesOf r place (IsInTier r place t) is_before notes
 
--- each of these runs is whole
+-- each of these runs has all notes of its place in its range
 abbrev pub AreRuns : Rules → List RunData → Type 0
 AreRuns r runs = (run : RunData) → Contains runs run → IsRun r run.place run.lo run.hi run.notes
 
@@ -90,6 +90,6 @@ pub record IsWhole (r : Rules) (l : LevelData) (len : ℕ) : Type 0 where
 abbrev pub IsBelow : Rules → Place → ℕ → Type 0
 IsBelow r place t = (c : Position) (m : ℕ) → c.tier ≡ t → IsCanonical r c → StandsAt r place.phase m c → m < place.level
 
--- nor of any child tier
+-- no canonical position of a child tier has a value of the place's phase with its remoteness or more
 abbrev pub AreBelow : Rules → Place → Type 0
 AreBelow r place = (t : ℕ) → Contains (r.child_tiers place.tier) t → IsBelow r place t

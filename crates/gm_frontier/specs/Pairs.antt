@@ -9,11 +9,11 @@ use Rattle.gm_frontier.specs.Notes.{NoteData, IsNoteAt}
 abbrev pub is_within : ℕ → ℕ → ℕ → Bool
 is_within lo hi i = nat_le lo i && nat_lt i hi
 
--- the note with each of these indexes that is in the range
+-- the pairs of a note with each of these indexes that is in the range
 abbrev pub pairs_with : NoteData → ℕ → ℕ → List ℕ → List (NoteData × ℕ)
 pairs_with n lo hi parents = map (λ i. (n, i)) (filter (is_within lo hi) parents)
 
--- a note with each of its parents in the range, ascending
+-- the pairs of a note with each of its parents in the range, ascending
 abbrev pub pairs_of_note : Rules → ℕ → ℕ → ℕ → NoteData → List (NoteData × ℕ)
 pairs_of_note r tier lo hi n = pairs_with n lo hi (r.parents n.position tier)
 

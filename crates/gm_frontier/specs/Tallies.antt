@@ -69,7 +69,8 @@ pub record IsTallyOf (r : Rules) (level : LevelData) (number size_of tile_width 
 abbrev pub IsTile : ℕ → ℕ → ℕ → ℕ → Type 0
 IsTile size width lo hi = (hi ≤ lo) ⊎ ((k : ℕ) × (lo ≡ tile_start width k) × (hi ≡ tile_end size width k))
 
--- the tallies are of the level, one for each of its pieces, all of one n and width, and the range is one of their tiles; for a level without notes there are none, and any range will do
+-- the tallies are those of the level, one for each of its pieces, all for the same size of pieces and width of tiles, and the range is one of the tiles; a
+-- level without notes has no tallies, and any range will do
 pub record AreTallies (r : Rules) (level : LevelData) (lo hi : ℕ) (tallies : List TallyData) : Type 0 where
   pub n : ℕ
   pub width : ℕ

@@ -30,10 +30,10 @@ pub record StandsBefore (r : Rules) (phase : Phase) (n : ℕ) (p : Position) : T
 abbrev pub IsNear : Rules → ℕ → Position → Type 0
 IsNear r tier c = IsCanonical r c × IsTierOrChild r tier c.tier
 
--- such a position, which stands at the place: F(place, tier)
+-- a canonical legal position of the tier or of one of its child tiers, which stands at the place: F(place, tier)
 abbrev pub IsAtLevel : Rules → ℕ → Phase → ℕ → Position → Type 0
 IsAtLevel r tier phase n c = IsCanonical r c × IsTierOrChild r tier c.tier × StandsAt r phase n c
 
--- none of them has a value of the phase at this remoteness or above
+-- no canonical legal position of the tier or of its child tiers has a value of the phase with this remoteness or a greater one
 abbrev pub IsLastLevel : Rules → ℕ → Phase → ℕ → Type 0
 IsLastLevel r tier phase n = (c : Position) (m : ℕ) → IsNear r tier c → StandsAt r phase m c → m < n

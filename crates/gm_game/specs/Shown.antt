@@ -9,11 +9,11 @@ use Rattle.gm_game.specs.Rules.{Rules}
 abbrev pub is_plain : ℕ → Bool
 is_plain c = nat_le 32 c && nat_le c 126
 
--- a text of such characters alone
+-- a text of visible ASCII characters and spaces alone
 abbrev pub IsPlain : List ℕ → Type 0
 IsPlain text = list_all is_plain text ≡ true
 
--- texts are plain and fit a line, and tell legal positions, and the moves of a legal position, apart
+-- texts are plain and fit a line; different legal positions have different texts, and so have different moves of a legal position
 pub record IsShown (r : Rules) (shown : Position → List ℕ) (move_shown : Position → ℕ → List ℕ) : Type 0 where
   pub shown_plain : (p : Position) → r.is_legal p ≡ true → IsPlain (shown p)
   pub shown_fits : (p : Position) → r.is_legal p ≡ true → length (shown p) ≤ LINE

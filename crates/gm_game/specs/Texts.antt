@@ -11,7 +11,7 @@ abbrev pub is_padded_text : List ℕ → Bool
 is_padded_text [] = true
 is_padded_text (b ∷ bs) = if b == 0 then list_all (λ c. c == 0) bs else nat_lt b 128 && is_padded_text bs
 
--- a text below 128, padded with zeros
+-- a text of bytes below 128, padded with zeros
 abbrev pub IsPaddedText : List ℕ → Type 0
 IsPaddedText bs = is_padded_text bs ≡ true
 

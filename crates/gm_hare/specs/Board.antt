@@ -1,4 +1,4 @@
--- The rules of Hare and Hounds, said of boards: who moves, a test for each of the eleven points whether a hound is there, and the point of the hare.
+-- The rules of Hare and Hounds on boards: a board tells who moves, for each of the eleven points whether a hound is there, and the point of the hare.
 use Rattle.std.specs.Prelude.{ℕ, ◌+◌, ◌-◌, ◌*◌, ◌/◌, ◌%◌, Bool, true, false, not, ◌&&◌, ◌||◌, ◌==◌, nat_lt, nat_le, List, [], ◌∷◌, ◌++◌, reverse, length, slice_index_or, slice_set, codes, if◌then◌else◌, Option, None, Some}
 use Rattle.std.specs.List.{list_all, list_any, range_with_len}
 use Rattle.gm_game.specs.declared.position.End.{End}
@@ -57,7 +57,7 @@ abbrev pub columns_from : ℕ → List Bool → ℕ
 columns_from k [] = 0
 columns_from k (h ∷ hs) = (if h then column k else 0) + columns_from (k + 1) hs
 
--- the tier
+-- the tier of a board: the sum of the columns of its hounds
 abbrev pub hunt_tier : Hunt → ℕ
 hunt_tier b = columns_from 0 b.hounds
 
@@ -65,24 +65,24 @@ hunt_tier b = columns_from 0 b.hounds
 unfoldable pub has_escaped : Hunt → Bool
 has_escaped b = list_all (λ k. not (has_hound b k) || nat_le (column b.hare) (column k)) (range_with_len 0 11)
 
--- three hounds on eleven points, and the hare on a point without one
+-- a legal board has three hounds on eleven points, and the hare on a point without a hound
 unfoldable pub legal : Hunt → Bool
 legal b = length b.hounds == 11 && (members b.hounds == 3 && (nat_lt b.hare 11 && not (has_hound b b.hare)))
 
 -- ---- moves
--- whether the side to move can go from one point to another: a hound not back, the hare along any edge
+-- whether a piece of the side to move can go from one point to another: a hound can't go back, and the hare can go along any edge
 abbrev pub can_go : Hunt → ℕ → ℕ → Bool
 can_go b a c = are_joined a c && (is_free b c && (if b.hounds_move then (has_hound b a && is_ahead a c) else (a == b.hare)))
 
--- whether the move with this number can be made, were the game not over
+-- whether the move with this number could be made if the game were not over
 unfoldable pub can_move : Hunt → ℕ → Bool
 can_move b m = can_go b (from_point m) (to_point m)
 
--- a move's number is below this
+-- all numbers of moves are below this number
 abbrev pub numbers_end : ℕ
 numbers_end = 176
 
--- the board with a hound, or the hare, gone from one point to another
+-- the board after a hound, or the hare, has gone from one point to another
 abbrev pub hound_gone : Hunt → ℕ → ℕ → Hunt
 hound_gone b a c = record { hounds_move = false; hounds = slice_set (slice_set b.hounds a false) c true; hare = b.hare }
 
@@ -92,20 +92,20 @@ hare_gone b c = record { hounds_move = true; hounds = b.hounds; hare = c }
 abbrev pub gone : Hunt → ℕ → ℕ → Hunt
 gone b a c = if b.hounds_move then hound_gone b a c else hare_gone b c
 
--- a move, after which the other side moves
+-- the board after a move, when the other side is to move
 unfoldable pub play : Hunt → ℕ → Hunt
 play b m = gone b (from_point m) (to_point m)
 
--- an escape has ended the game, as the side to move sees it
+-- how the last move has ended the game, if it has, for the side to move: by the hare's escape
 unfoldable pub over : Hunt → Option End
 over b = if has_escaped b then Some (if b.hounds_move then Lose else Win) else None
 
 -- ---- moves back
--- whether the side that has moved can have gone from one point to another
+-- whether a piece of the side that moved last can have gone from one point to another
 abbrev pub can_have_gone : Hunt → ℕ → ℕ → Bool
 can_have_gone d a c = are_joined a c && (is_free d a && (if d.hounds_move then (c == d.hare) else (has_hound d c && is_ahead a c)))
 
--- the board before it
+-- the board before a hound, or the hare, went from one point to another
 abbrev pub hound_back : Hunt → ℕ → ℕ → Hunt
 hound_back d a c = record { hounds_move = true; hounds = slice_set (slice_set d.hounds c false) a true; hare = d.hare }
 
@@ -120,7 +120,7 @@ unfoldable pub was_moved : Hunt → ℕ → Bool
 was_moved d m = can_have_gone d (from_point m) (to_point m)
 
 -- ---- the game
--- for each point the one that comes there when top and bottom are exchanged
+-- for each point, the point that comes in its place when top and bottom are exchanged
 abbrev pub mirror : List ℕ
 mirror = 0 ∷ 3 ∷ 2 ∷ 1 ∷ 6 ∷ 5 ∷ 4 ∷ 9 ∷ 8 ∷ 7 ∷ 10 ∷ []
 
@@ -147,7 +147,7 @@ hunt_board i = record { hounds_move = i / 11 / 165 == 0; hounds = reverse (unran
 abbrev pub hare_name : List ℕ
 hare_name = codes "hare" ++ 0 ∷ 0 ∷ 0 ∷ 0 ∷ 0 ∷ 0 ∷ 0 ∷ 0 ∷ 0 ∷ 0 ∷ 0 ∷ 0 ∷ []
 
--- Hare and Hounds: an escape is tested first, and then who can't move has lost; a symmetry is whether top and bottom are exchanged
+-- Hare and Hounds: an escape is tested first, and then a side that can't move has lost; a symmetry tells whether top and bottom are exchanged
 abbrev pub hare_and_hounds : MoveGame Hunt Bool
 hare_and_hounds = record {
   name = hare_name;
@@ -170,6 +170,6 @@ hare_and_hounds = record {
   tier_rank = λ t. if (nat_le 2 t && nat_le t 10) then 10 - t else 0;
 }
 
--- the rules of its positions
+-- the rules of the positions of Hare and Hounds
 abbrev pub hare_rules : Rules
 hare_rules = move_rules hare_and_hounds

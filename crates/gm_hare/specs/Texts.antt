@@ -6,14 +6,14 @@ use Rattle.gm_steps.specs.Steps.{from_point, to_point}
 use Rattle.gm_hare.specs.declared.hunt.Hunt.{Hunt}
 use Rattle.gm_hare.specs.Board.{has_hound, hunt_board}
 
--- at each point `d` for a hound, `h` for the hare, `.` where it is empty; then a space, and `d` or `h` for who moves
+-- the byte at a place of a text: for each point `d` for a hound, `h` for the hare, `.` where it is empty; then a space, and `d` or `h` for who moves
 abbrev pub hunt_char : Hunt → ℕ → ℕ
 hunt_char b k =
     if k == 11 then 32
     else (if k == 12 then (if b.hounds_move then 100 else 104)
     else (if has_hound b k then 100 else (if k == b.hare then 104 else 46)))
 
--- thirteen bytes
+-- the text of a board, of thirteen bytes
 unfoldable pub hunt_text : Hunt → List ℕ
 hunt_text b = map (hunt_char b) (range_with_len 0 13)
 
@@ -37,7 +37,7 @@ names =
 unfoldable pub point_name : ℕ → List ℕ
 point_name k = slice_index_or names k []
 
--- the two names with `-` between them
+-- the text of a move: the names of its two points with `-` between them
 unfoldable pub step_text : ℕ → List ℕ
 step_text m = point_name (from_point m) ++ 45 ∷ point_name (to_point m)
 
@@ -45,6 +45,6 @@ step_text m = point_name (from_point m) ++ 45 ∷ point_name (to_point m)
 abbrev pub position_text : Position → List ℕ
 position_text p = hunt_text (hunt_board p.index)
 
--- and of a move
+-- the text of a position's move
 abbrev pub move_text : Position → ℕ → List ℕ
 move_text p m = step_text m

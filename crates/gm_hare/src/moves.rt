@@ -7,7 +7,7 @@ use crate::hunt::Hunt;
 use crate::points::{are_joined, is_ahead};
 use gm_steps::step::Step;
 
-/// The numbers of moves are below this.
+/// All numbers of moves are below this.
 pub const NUMBERS: u32 = 176;
 
 // Whether a point is empty.
@@ -18,8 +18,13 @@ fn is_free(board: &Hunt, point: u32) -> bool
     !board.hounds[point as usize] && point != board.hare
 }
 
+<<<<<<< HEAD
 // Whether the side to move can go along an edge: a hound not back, the hare either way.
 #[tactic(auto, using(crate::specs::laws::PointFacts::joined_from, crate::specs::laws::PointFacts::joined_to))]
+=======
+// Whether a piece of the side to move can go along an edge: a hound can't go back, and the hare can go either way.
+#[tactic(auto, using(crate::specs::PointFacts::joined_from, crate::specs::PointFacts::joined_to))]
+>>>>>>> english2
 fn can_go(board: &Hunt, step: Step) -> bool
     requires { are_joined_of step.from step.to ≡ true }
     ensures { result ≡ can_go_of board.now step.from step.to }
@@ -34,7 +39,7 @@ fn can_go(board: &Hunt, step: Step) -> bool
     }
 }
 
-/// Whether the move with this number can be made, were the game not over.
+/// Whether the move with this number could be made if the game were not over.
 pub fn can_move(board: &Hunt, number: u32) -> bool
     ensures { result ≡ can_move_of board.now number }
 {
@@ -69,8 +74,13 @@ pub fn play(board: &Hunt, number: u32) -> Hunt
     }
 }
 
+<<<<<<< HEAD
 // Whether the side that has moved can have gone along an edge.
 #[tactic(auto, using(crate::specs::laws::PointFacts::joined_from, crate::specs::laws::PointFacts::joined_to))]
+=======
+// Whether a piece of the side that moved last can have gone along an edge.
+#[tactic(auto, using(crate::specs::PointFacts::joined_from, crate::specs::PointFacts::joined_to))]
+>>>>>>> english2
 fn can_have_gone(board: &Hunt, step: Step) -> bool
     requires { are_joined_of step.from step.to ≡ true }
     ensures { result ≡ can_have_gone_of board.now step.from step.to }

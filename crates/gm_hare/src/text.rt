@@ -10,7 +10,7 @@ use gm_game::shown::Line;
 use gm_game::text::push_text;
 use gm_steps::step::Step;
 
-// The byte of a text's place: at a point what is there, then a space, then who moves.
+// The byte at a place of a board's text: for each point what is there, then a space, then who moves.
 fn hunt_byte(board: &Hunt, place: usize) -> u8
     requires { place < 13 }
     ensures { result ≡ hunt_char board.now place }
@@ -28,7 +28,8 @@ fn hunt_byte(board: &Hunt, place: usize) -> u8
     }
 }
 
-/// The text of a board: its points in order, `d` for a hound, `h` for the hare and `.` for an empty point; a space; `d` or `h` for who moves (docs/GAMES.md, Hare and Hounds).
+/// The text of a board: its points in order, `d` for a hound, `h` for the hare and `.` for an empty point; a space; `d` or `h` for who moves (docs/GAMES.md,
+/// Hare and Hounds).
 pub fn hunt_text(board: &Hunt) -> Line
     ensures { result.items ≡ hunt_text_of board.now }
 {
@@ -39,7 +40,7 @@ pub fn hunt_text(board: &Hunt) -> Line
     line
 }
 
-// Whether a text has a byte at a place.
+// Whether a text has this byte at a place.
 fn has_byte(text: &[u8], place: usize, byte: u8) -> bool
     requires { 0 < byte }
     ensures { result ≡ (slice_index text.now place == byte) }

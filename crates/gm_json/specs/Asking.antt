@@ -1,4 +1,4 @@
--- A service that reads positions, a line each, and answers each with a line.
+-- A service that reads positions, one on each line, and answers each line with a line.
 use Rattle.std.specs.Prelude.{◌≡◌, ℕ, ◌+◌, ◌==◌, ◌⊎◌, false, List, [], ◌∷◌, ◌++◌, length, take, codes, if◌then◌else◌, Option}
 use Rattle.std.specs.Io.KnownBytes.{Appends, Consumes, Keeps, IsAtEnd}
 use Rattle.serde_json.specs.Data.{Data, string, object, member, no_members}
@@ -49,7 +49,7 @@ module _ (r : Rules) (shown : Position → List ℕ) (move_shown : Position → 
     pub answers : AreAnswers 1 (lines_of bytes) text
     pub writes : Appends before after text
 
-  -- it ended before: of the lines that were read the first were answered, and a front of the answers was written
+  -- the service ended early: the first of the lines that were read were answered, and a first part of the answers was written
   pub record IsCutShort (old new before after : Option (List ℕ)) : Type 0 where
     pub bytes : List ℕ
     pub lines : List (List ℕ)
@@ -60,7 +60,7 @@ module _ (r : Rules) (shown : Position → List ℕ) (move_shown : Position → 
     pub answers : AreAnswers 1 lines text
     pub writes : AppendsPart before after text
 
-  -- nothing of an answer was written, or a front of it
+  -- nothing of an answer was written, or a first part of it
   abbrev pub IsHalfSaid : List ℕ → ℕ → Option (List ℕ) → Option (List ℕ) → Type 0
   IsHalfSaid line n before after = Keeps before after ⊎ ((out : List ℕ) × IsAnswer line n out × AppendsPart before after (out ++ codes "\n"))
 

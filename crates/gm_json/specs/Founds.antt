@@ -21,6 +21,6 @@ found_tree shown move_shown x =
 abbrev pub found_line : (Position → List ℕ) → (Position → ℕ → List ℕ) → Found → List ℕ
 found_line shown move_shown x = line_of (found_tree shown move_shown x)
 
--- the lines of the first positions that are sought, at most so many
+-- the lines of the first positions that are sought, at most this many
 abbrev pub IsFoundJson : Rules → (Position → List ℕ) → (Position → ℕ → List ℕ) → Sought → Bool → ℕ → List ℕ → List ℕ → Type 0
 IsFoundJson r shown move_shown q reached limit tiers out = (xs : List Found) × AreFound r q reached limit tiers xs × (out ≡ flat_map (found_line shown move_shown) xs)

@@ -12,7 +12,7 @@ use Rattle.gm_play.specs.BestLines.{IsBestLine, IsWhole}
 use Rattle.gm_play.specs.PlayTexts.{after_best, IsReadAs}
 use Rattle.gm_json.specs.Words.{value_word, whole, text, line_of}
 
--- where the last position has come before
+-- the tree that tells where the last position has come before
 abbrev pub again_tree : ℕ → Data
 again_tree k = object (member (codes "again") (whole k) no_members)
 
@@ -21,7 +21,7 @@ end_line Over = []
 end_line (Again k) = line_of (again_tree k)
 end_line Cut = []
 
--- a position with what leads to it, and its value; the members in alphabetical order
+-- a position with the move that leads to it, and its value; the members in alphabetical order
 abbrev pub step_tree : (Position → List ℕ) → Data → Position → Solved → Data
 step_tree shown m p s =
     object (member (codes "move") m
@@ -30,13 +30,13 @@ step_tree shown m p s =
     (member (codes "value") (string (value_word s.value)) no_members))))
 
 module _ (r : Rules) (shown : Position → List ℕ) (move_shown : Position → ℕ → List ℕ) where
-  -- the lines of a line of play: each move with its result and the true value of that
+  -- the lines of a line of play: each move with its result and the true value of the result
   abbrev pub AreSteps : Position → List ℕ → List ℕ → Type 0
   AreSteps p [] out = out ≡ []
   AreSteps p (m ∷ ms) out = (s : Solved) × (rest : List ℕ) × IsTrueValue r (r.play p m) s × AreSteps (r.play p m) ms rest
       × (out ≡ line_of (step_tree shown (text (move_shown p m)) (r.play p m) s) ++ rest)
 
-  -- those of best moves from a position of this value
+  -- the lines of best moves from a position of this value
   abbrev pub steps_from : Position → Solved → List ℕ → List ℕ
   steps_from p s [] = []
   steps_from p s (m ∷ ms) = line_of (step_tree shown (text (move_shown p m)) (r.play p m) (after_best s)) ++ steps_from (r.play p m) (after_best s) ms

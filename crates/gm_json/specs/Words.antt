@@ -16,7 +16,7 @@ value_word Win = codes "win"
 abbrev pub whole : ℕ → Data
 whole n = number (unsigned n)
 
--- a text: bytes that are no UTF-8 are replaced
+-- a text, in which bytes that aren't UTF-8 are replaced
 abbrev pub text : List ℕ → Data
 text bs = string (utf8_lossy bs)
 

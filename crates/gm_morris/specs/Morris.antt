@@ -1,4 +1,4 @@
--- The rules of the games of nine points, said of boards: a board is a list of nine cells as the player to move sees them.
+-- The rules of the games of nine points on boards: a board is a list of nine cells as the player to move sees them.
 use Rattle.std.specs.Prelude.{ℕ, ◌+◌, ◌-◌, ◌/◌, ◌%◌, Bool, not, ◌&&◌, ◌==◌, nat_le, nat_lt, List, [], ◌∷◌, map, replicate, length, set, if◌then◌else◌, Option, None, Some}
 use Rattle.gm_game.specs.declared.position.End.{End}
 use Rattle.gm_game.specs.declared.position.End.TheVariants.{Lose}
@@ -20,7 +20,7 @@ use Rattle.gm_morris.specs.Points.{variant_of, name_of, last_tier, stuck, lines,
 abbrev pub mine : List Cell → ℕ
 mine b = number_of is_mine b
 
--- how many the opponent has
+-- how many pieces the opponent has
 abbrev pub theirs : List Cell → ℕ
 theirs b = number_of is_theirs b
 
@@ -32,7 +32,7 @@ pieces b = mine b + theirs b
 unfoldable pub has_line : Variant → (Cell → Bool) → List Cell → Bool
 has_line v p b = has_filled Empty (lines v) p b
 
--- nine cells; the mover has half of the pieces, rounded down; no more pieces than in the last tier; no line of the mover
+-- a legal board has nine cells; the mover has half of the pieces, rounded down; there are no more pieces than in the last tier; the mover has no line
 unfoldable pub legal : Variant → List Cell → Bool
 legal v b = length b == 9 && (mine b == pieces b / 2 && (nat_le (pieces b) (last_tier v) && not (has_line v is_mine b)))
 
@@ -40,39 +40,39 @@ legal v b = length b == 9 && (mine b == pieces b / 2 && (nat_le (pieces b) (last
 abbrev pub from_point : ℕ → ℕ
 from_point m = m / 16
 
--- where it goes to
+-- where a piece goes to, by the number of its move
 abbrev pub to_point : ℕ → ℕ
 to_point m = m % 16
 
--- whether a move with this number can be made: in the last tier a piece moves to an empty point, in any other one is placed on one
+-- whether a move with this number can be made: in the last tier a piece moves to an empty point, in any other tier a piece is placed on an empty point
 unfoldable pub can_move : Variant → List Cell → ℕ → Bool
 can_move v b m = if pieces b == last_tier v
     then joins v (from_point m) (to_point m) && (is_mine (cell_at b (from_point m)) && is_empty (cell_at b (to_point m)))
     else is_empty (cell_at b m)
 
--- all numbers of moves of a tier are below this one
+-- all numbers of moves from a tier are below this number
 unfoldable pub numbers_end : Variant → ℕ → ℕ
 numbers_end v t = if t == last_tier v then 144 else 9
 
--- a line of the opponent's has lost the game
+-- how the last move has ended the game, if it has: the mover has lost where the opponent has a line
 unfoldable pub over : Variant → List Cell → Option End
 over v b = if has_line v is_theirs b then Some Lose else None
 
--- the board when the mover has moved
+-- the board after a move, before the roles swap
 unfoldable pub moved : Variant → List Cell → ℕ → List Cell
 moved v b m = if pieces b == last_tier v then set (set b (from_point m) Empty) (to_point m) Mine else set b m Mine
 
--- then the roles swap
+-- the board after a move, when the roles have swapped
 unfoldable pub play : Variant → List Cell → ℕ → List Cell
 play v b m = map turned (moved v b m)
 
--- whether the move could have been made from tier t, leaving d
+-- whether the move with this number can have led to d from a board of tier t
 unfoldable pub was_moved : Variant → ℕ → List Cell → ℕ → Bool
 was_moved v t d m = if t == last_tier v
     then joins v (from_point m) (to_point m) && (is_theirs (cell_at d (to_point m)) && is_empty (cell_at d (from_point m)))
     else is_theirs (cell_at d m)
 
--- the board before it
+-- the board before the move with this number
 unfoldable pub taken_back : Variant → ℕ → List Cell → ℕ → List Cell
 taken_back v t d m = if t == last_tier v
     then brought_back d (from_point m) (to_point m)
@@ -86,15 +86,16 @@ board_at t i = board_numbered 9 (t / 2) (t - t / 2) i
 unfoldable pub size_of : Variant → ℕ → ℕ
 size_of v t = if nat_le t (last_tier v) then arrangements 9 (t / 2) (t - t / 2) else 0
 
--- a placement leads to the next tier
+-- the child tiers: a placement leads to the next tier
 unfoldable pub child_tiers_of : Variant → ℕ → List ℕ
 child_tiers_of v t = if nat_lt t (last_tier v) then (t + 1) ∷ [] else []
 
--- the least index among a board and its images
+-- the least of the indexes of a board and its images
 abbrev pub least_index_of : List Cell → ℕ
 least_index_of b = least_index_under (square_symmetries 3) b
 
--- the game: an empty board at the start, and the turns and reflections of the square; a line is tested first, and then who can't move ends the game
+-- the game: the board is empty at the start, and the symmetries are the turns and reflections of the square; a line ends the game, and else it ends where the
+-- player to move can't move
 abbrev pub morris : Variant → MoveGame (List Cell) (List ℕ)
 morris v = record {
   name = name_of v;

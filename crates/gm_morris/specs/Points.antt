@@ -1,4 +1,4 @@
--- What tells the games of nine points apart: their names, last tiers, lines, and the points between which pieces move.
+-- Where the games of nine points differ: their names, last tiers, lines, and the points between which pieces move.
 use Rattle.std.specs.Prelude.{ℕ, ◌+◌, ◌-◌, ◌/◌, ◌%◌, Bool, false, ◌&&◌, ◌||◌, ◌==◌, nat_lt, List, [], ◌∷◌, ◌++◌, codes, if◌then◌else◌}
 use Rattle.gm_game.specs.declared.position.End.{End}
 use Rattle.gm_game.specs.declared.position.End.TheVariants.{Lose, Tie}
@@ -15,13 +15,13 @@ name_of TicTacToe = codes "tictactoe" ++ 0 ∷ 0 ∷ 0 ∷ 0 ∷ 0 ∷ 0 ∷ 0 �
 name_of ThreeMens = codes "threemens" ++ 0 ∷ 0 ∷ 0 ∷ 0 ∷ 0 ∷ 0 ∷ 0 ∷ []
 name_of Achi = codes "achi" ++ 0 ∷ 0 ∷ 0 ∷ 0 ∷ 0 ∷ 0 ∷ 0 ∷ 0 ∷ 0 ∷ 0 ∷ 0 ∷ 0 ∷ []
 
--- the last tier: so many pieces there are when no piece is placed any more
+-- the last tier: the number of pieces from which on no more are placed
 unfoldable pub last_tier : Variant → ℕ
 last_tier TicTacToe = 9
 last_tier ThreeMens = 6
 last_tier Achi = 8
 
--- how the game ends for who can't move
+-- how the game ends for a player who can't move
 unfoldable pub stuck : Variant → End
 stuck TicTacToe = Tie
 stuck ThreeMens = Lose
@@ -35,7 +35,7 @@ straight_lines = (0 ∷ 1 ∷ 2 ∷ []) ∷ (3 ∷ 4 ∷ 5 ∷ []) ∷ (6 ∷ 7 
 abbrev pub diagonals : List (List ℕ)
 diagonals = (0 ∷ 4 ∷ 8 ∷ []) ∷ (2 ∷ 4 ∷ 6 ∷ []) ∷ []
 
--- the lines
+-- the lines of each game
 unfoldable pub lines : Variant → List (List ℕ)
 lines TicTacToe = straight_lines ++ diagonals
 lines ThreeMens = straight_lines
@@ -45,11 +45,11 @@ lines Achi = straight_lines ++ diagonals
 abbrev pub distance : ℕ → ℕ → ℕ
 distance x y = (x - y) + (y - x)
 
--- how far apart two points are in rows, and in columns
+-- how far apart two points are in rows
 abbrev pub rows_apart : ℕ → ℕ → ℕ
 rows_apart a b = distance (a / 3) (b / 3)
 
--- in columns
+-- how far apart two points are in columns
 abbrev pub columns_apart : ℕ → ℕ → ℕ
 columns_apart a b = distance (a % 3) (b % 3)
 
@@ -61,7 +61,7 @@ are_beside a b = rows_apart a b + columns_apart a b == 1
 abbrev pub are_diagonal : ℕ → ℕ → Bool
 are_diagonal a b = (a == 4 || b == 4) && (rows_apart a b == 1 && columns_apart a b == 1)
 
--- whether a piece can move from a point to another in the last tier
+-- whether a piece can move from one point to the other in the last tier
 unfoldable pub joins : Variant → ℕ → ℕ → Bool
 joins TicTacToe a b = false
 joins ThreeMens a b = nat_lt a 9 && (nat_lt b 9 && are_beside a b)

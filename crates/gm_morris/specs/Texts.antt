@@ -7,7 +7,8 @@ use Rattle.gm_morris.specs.declared.variant.Variant.{Variant}
 use Rattle.gm_morris.specs.Points.{variant_of, last_tier}
 use Rattle.gm_morris.specs.Morris.{from_point, to_point, board_at}
 
--- in the last tier the point that a piece leaves, `-` and the one to which it goes; in any other the point on which it is placed
+-- the text of a move: in the last tier the point that a piece leaves, `-` and the point to which it goes; in any other tier the point on which a piece is
+-- placed
 unfoldable pub step_text : Variant → ℕ → ℕ → List ℕ
 step_text v t m = if t == last_tier v then cell_text 3 (from_point m) ++ 45 ∷ cell_text 3 (to_point m) else cell_text 3 m
 
@@ -15,6 +16,6 @@ step_text v t m = if t == last_tier v then cell_text 3 (from_point m) ++ 45 ∷ 
 abbrev pub position_text : Position → List ℕ
 position_text p = board_text (board_at p.tier p.index)
 
--- and of a move, in the game with this last tier
+-- the text of a position's move, in the game with this last tier
 abbrev pub move_text : ℕ → Position → ℕ → List ℕ
 move_text n p m = step_text (variant_of n) p.tier m

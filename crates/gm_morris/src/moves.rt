@@ -26,7 +26,7 @@ pub fn has_their_line(variant: Variant, board: Board) -> bool
     variant.has_line(board.theirs)
 }
 
-/// Whether a board is one of the game: the mover has half of the pieces, rounded down, there are no more than in the last tier, and the mover has no line.
+/// Whether a board is legal: the mover has half of the pieces, rounded down, there are no more pieces than in the last tier, and the mover has no line.
 #[tactic(auto, unfolding(crate::specs::Morris::legal))]
 pub fn is_legal_board(variant: Variant, board: Board) -> bool
     ensures { result ≡ legal variant (board_of 9 board.mine board.theirs) }
@@ -55,7 +55,7 @@ pub fn can_move(variant: Variant, board: Board, number: u32) -> bool
     board.has_mine(from) && board.is_free(to)
 }
 
-/// The end that the last move has made: a line of the opponent's loses.
+/// How the last move has ended the game, if it has: the mover loses where the opponent has a line.
 #[tactic(auto, unfolding(crate::specs::Morris::over))]
 pub fn over(variant: Variant, board: Board) -> Option<End>
     ensures { result ≡ over_of variant (board_of 9 board.mine board.theirs) }

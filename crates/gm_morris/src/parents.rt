@@ -6,7 +6,7 @@ ghost use Rattle.gm_morris.specs.Morris.{numbers_end as numbers_end_of, was_move
 use crate::board::Board;
 use crate::variant::Variant;
 
-/// Whether the move with this number could have been made from the tier, leaving the board.
+/// Whether the move with this number can have led to the board from a board of the tier.
 #[tactic(auto, unfolding(crate::specs::Morris::was_moved))]
 pub fn was_moved(variant: Variant, tier: u64, board: Board, number: u32) -> bool
     requires { number < numbers_end_of variant tier }
@@ -23,7 +23,7 @@ pub fn was_moved(variant: Variant, tier: u64, board: Board, number: u32) -> bool
     board.has_theirs(to) && board.is_free(from)
 }
 
-/// The board before that move.
+/// The board before the move with this number.
 pub fn taken_back(variant: Variant, tier: u64, board: Board, number: u32) -> Board
     requires within { number < numbers_end_of variant tier }
     requires was { was_moved_of variant tier (board_of 9 board.mine board.theirs) number ≡ true }

@@ -13,7 +13,8 @@ use gm_board::square::square_cell_text;
 use gm_game::shown::Line;
 use gm_game::text::push_text;
 
-/// The text of a move: the point on which a piece is placed, and in the last tier the one that it leaves, `-` and the one to which it goes (docs/GAMES.md, Common forms).
+/// The text of a move: the point on which a piece is placed; in the last tier the point that a piece leaves, `-` and the point to which it goes (docs/GAMES.md,
+/// Common forms).
 pub fn move_text(variant: Variant, board: Board, number: u32) -> Line
     requires { IsMove (morris variant) (board_of 9 board.mine board.theirs) number }
     ensures { result.items ≡ step_text variant (pieces_of (board_of 9 board.mine board.theirs)) number }

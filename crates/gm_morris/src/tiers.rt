@@ -9,7 +9,7 @@ use crate::variant::Variant;
 use arrayvec::ArrayVec;
 use gm_game::limits::CHILD_TIERS;
 
-/// How many arrangements of so many pieces the nine points have, the mover's half of them, rounded down.
+/// For each number of pieces, how many arrangements of them the nine points have where half of them, rounded down, are the mover's.
 const SIZES: [u64; 10] = [1, 9, 72, 252, 756, 1260, 1680, 1260, 630, 126];
 
 /// How many pieces there are: the tier of a board.
@@ -20,7 +20,7 @@ pub fn pieces(board: Board) -> u64
     u64::from(board.pieces())
 }
 
-/// How many indexes a tier has: 0 past the last one.
+/// How many indexes a tier has: 0 past the last tier.
 #[tactic(auto, using(crate::proofs::MoveSteps::sizes_are), unfolding(crate::specs::Morris::size_of))]
 pub fn tier_size(variant: Variant, tier: u64) -> u64
     ensures { result ≡ size_of variant tier }
@@ -32,7 +32,7 @@ pub fn tier_size(variant: Variant, tier: u64) -> u64
     }
 }
 
-/// The tiers to which a move leads from another: the next one, but none from the last.
+/// The tiers to which a move from a tier leads, other than that tier: the next one, and none from the last.
 #[tactic(auto, unfolding(crate::specs::Morris::child_tiers_of))]
 pub fn child_tiers(variant: Variant, tier: u64) -> ArrayVec<u64, CHILD_TIERS>
     ensures { result.items ≡ child_tiers_of variant tier }
@@ -51,7 +51,7 @@ pub fn tier_rank(variant: Variant, tier: u64) -> u64
     variant.last_tier().saturating_sub(tier)
 }
 
-/// All numbers of moves of a tier are below this one: in the last tier of moves from point to point, else of placements.
+/// All numbers of moves from a tier are below this number: in the last tier those of moves from point to point, else those of placements.
 #[tactic(auto, unfolding(crate::specs::Morris::numbers_end))]
 pub fn numbers_end(variant: Variant, tier: u64) -> u32
     ensures { result ≡ numbers_end_of variant tier }

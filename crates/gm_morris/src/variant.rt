@@ -1,4 +1,4 @@
-//! What tells the games of nine points apart: their names, last tiers, lines, and the points between which pieces move.
+//! Where the games of nine points differ: their names, last tiers, lines, and the points between which pieces move.
 ghost use Rattle.std.specs.Prelude.{◌≡◌, ◌<◌, ◌≤◌};
 ghost use Rattle.std.specs.List.{list_any, list_all};
 ghost use Rattle.gm_board.specs.Masks.{has_cell};
@@ -30,7 +30,7 @@ const STRAIGHT_LINES: [u32; 6] = [
     0b100_100_100,
 ];
 
-/// For each point the mask of the points beside it in its row and its column.
+/// For each point, the mask of the points beside it in its row and its column.
 const BESIDE: [u32; 9] = [
     0b000_001_010,
     0b000_010_101,
@@ -43,7 +43,7 @@ const BESIDE: [u32; 9] = [
     0b010_100_000,
 ];
 
-/// For each point the mask of its neighbors along the lines of the board: those beside it, and between the center and the corners.
+/// For each point, the mask of its neighbors along the lines of the board: the points beside it, and the corners for the center and the center for a corner.
 const ALONG_LINES: [u32; 9] = [
     0b000_011_010,
     0b000_010_101,
@@ -89,7 +89,7 @@ impl Variant {
         }
     }
 
-    /// The last tier, which has the most pieces: in it none is placed.
+    /// The last tier, which has the most pieces: from it no piece is placed.
     #[tactic(auto, unfolding(crate::specs::Points::last_tier))]
     pub fn last_tier(self) -> u64
         ensures value { result ≡ last_tier_of self }
@@ -102,7 +102,7 @@ impl Variant {
         }
     }
 
-    /// How the game ends for who can't move: a full board is a tie, and who has no way out loses.
+    /// How the game ends for a player who can't move: in Tic-tac-toe the board is full, which is a tie, and in the other games the player loses.
     #[tactic(auto, unfolding(crate::specs::Points::stuck))]
     pub fn stuck(self) -> End
         ensures { result ≡ stuck_of self }
@@ -113,7 +113,7 @@ impl Variant {
         }
     }
 
-    /// Whether these points have all points of a line.
+    /// Whether these points include all points of a line.
     pub fn has_line(self, points: u32) -> bool
         ensures { result ≡ list_any (λ line. list_all (has_cell points) line) (lines self) }
     {
@@ -138,7 +138,7 @@ impl Variant {
     }
 }
 
-// Whether these points have the point.
+// Whether the point is one of these points.
 fn has_point(points: u32, point: u32) -> bool
     requires { point < 32 }
     ensures { result ≡ has_cell points point }

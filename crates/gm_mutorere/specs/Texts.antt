@@ -6,25 +6,25 @@ use Rattle.gm_board.specs.declared.cell.Cell.TheVariants.{Empty, Mine, Theirs}
 use Rattle.gm_steps.specs.Steps.{from_point, to_point}
 use Rattle.gm_mutorere.specs.Board.{ring_board}
 
--- `x` for a piece of the mover's, `o` for one of the opponent's, `.` for an empty point
+-- the byte of a point: `x` for a piece of the mover's, `o` for one of the opponent's, `.` for an empty point
 abbrev pub cell_text : Cell → ℕ
 cell_text Mine = 120
 cell_text Theirs = 111
 cell_text Empty = 46
 
--- the cell that has a text
+-- the cell that a byte stands for
 abbrev pub read_cell : ℕ → Cell
 read_cell t = if t == 120 then Mine else (if t == 111 then Theirs else Empty)
 
--- the points in order
+-- the text of a board: its points in order
 unfoldable pub board_text : List Cell → List ℕ
 board_text b = map cell_text b
 
--- a digit for a point of the ring, `c` for the center
+-- the byte of a point's name: a digit for a point of the ring, `c` for the center
 abbrev pub point_text : ℕ → ℕ
 point_text k = if k == 8 then 99 else 48 + k
 
--- the two points with `-` between them
+-- the text of a move: the two points with `-` between them
 unfoldable pub step_text : ℕ → List ℕ
 step_text m = point_text (from_point m) ∷ 45 ∷ point_text (to_point m) ∷ []
 
@@ -32,6 +32,6 @@ step_text m = point_text (from_point m) ∷ 45 ∷ point_text (to_point m) ∷ [
 abbrev pub position_text : Position → List ℕ
 position_text p = board_text (ring_board p.index)
 
--- and of a move
+-- the text of a position's move
 abbrev pub move_text : Position → ℕ → List ℕ
 move_text p m = step_text m

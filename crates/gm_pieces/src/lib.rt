@@ -1,4 +1,4 @@
-//! Games said by the numbers of their moves: what such a game gives, and the calls of a game that follow.
+//! Games with numbered moves: what such a game must give, and the calls of `Game` that follow from it.
 #![tactic(auto)]
 
 pub mod boards;

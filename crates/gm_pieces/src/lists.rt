@@ -14,9 +14,9 @@ use gm_game::children::insert_position;
 use gm_game::limits::{MOVES, PARENTS};
 use gm_game::position::{End, Kind, Position};
 
-/// The lists of a game on boards. Each has a body, and a game may write a faster one.
+/// The lists of a game on boards. Each call has a body here, and a game may put a faster one in its place.
 pub trait MoveLists: MoveRules {
-    /// Whether no move can be made, were the game not over.
+    /// Whether no move could be made if the game were not over.
     fn is_stuck(board: Self::Board) -> bool
         requires { Self.game.legal (Self.cells board) ≡ true }
         ensures { result ≡ (length (steps Self.game (Self.cells board)) == 0) }
@@ -24,7 +24,7 @@ pub trait MoveLists: MoveRules {
         has_no_move::<Self>(board)
     }
 
-    /// The end: that which the last move has made, or else that of who can't move.
+    /// How the game has ended: by the last move, or else because the player to move can't move.
     fn end(board: Self::Board) -> Option<End>
         requires { Self.game.legal (Self.cells board) ≡ true }
         ensures { result ≡ (board_game Self.game).ended (Self.cells board) }
@@ -41,7 +41,7 @@ pub trait MoveLists: MoveRules {
         }
     }
 
-    /// The numbers of the moves, were the game not over, ascending.
+    /// The numbers of the moves that could be made if the game were not over, ascending.
     fn open_moves(board: Self::Board) -> ArrayVec<u32, MOVES>
         requires { Self.game.legal (Self.cells board) ≡ true }
         ensures { result.items ≡ steps Self.game (Self.cells board) }
@@ -61,7 +61,7 @@ pub trait MoveLists: MoveRules {
         }
     }
 
-    /// The positions of the least images of the boards that follow, ascending and once each.
+    /// The positions of the least images of the boards that a move leads to, ascending and once each.
     fn children(board: Self::Board) -> ArrayVec<Position, MOVES>
         requires { Self.game.legal (Self.cells board) ≡ true }
         ensures { IsSetOf (next_images (board_game Self.game) (Self.cells board)) result.items }
@@ -74,7 +74,7 @@ pub trait MoveLists: MoveRules {
         set
     }
 
-    /// What p is to a solver.
+    /// Of what kind p is, for a solver.
     fn kind(p: Position) -> Kind
         ensures { IsKind (move_rules Self.game) p result }
     {

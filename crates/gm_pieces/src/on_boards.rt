@@ -1,4 +1,4 @@
-//! The calls of a game that is said by the numbers of its moves.
+//! The calls of `Game` for a game with numbered moves.
 ghost use Rattle.gm_pieces.specs.MoveGames.{move_rules};
 ghost use Rattle.gm_pieces.specs.laws.MoveLaws.{moves_are_game};
 

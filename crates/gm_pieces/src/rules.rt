@@ -1,4 +1,4 @@
-//! What a game gives that is said by the numbers of its moves.
+//! What a game with numbered moves must give.
 ghost use Rattle.std.specs.Prelude.{◌≡◌, ◌<◌, ◌↔◌, ℕ, true, IsTrue, List};
 ghost use Rattle.gm_game.specs.Boards.{board_of, position_of, least_index as least_index_of, IsNumbered};
 ghost use Rattle.gm_game.specs.Rules.{IsCanonical};
@@ -41,7 +41,7 @@ pub trait MoveRules: Drop {
     fn initial() -> Position
         ensures { result ≡ position_of (board_game game) game.start };
 
-    /// How many indexes the tier has: 0 where it is no tier of the game.
+    /// How many indexes the tier has: 0 for a number that is no tier of the game.
     fn tier_size(tier: u64) -> u64
         ensures { result ≡ game.size tier };
 
@@ -53,7 +53,7 @@ pub trait MoveRules: Drop {
     fn tier_rank(tier: u64) -> u64
         ensures { result ≡ game.tier_rank tier };
 
-    /// The numbers of moves from a tier are below this one.
+    /// All numbers of moves from a tier are below this number.
     fn numbers_end(tier: u64) -> u32
         ensures { result ≡ game.numbers_end tier };
 
@@ -62,7 +62,7 @@ pub trait MoveRules: Drop {
         requires { index < game.size tier }
         ensures { cells result ≡ game.board tier index };
 
-    /// Whether a board is one of the game.
+    /// Whether a board is legal.
     fn is_legal_board(board: Self::Board) -> bool
         ensures { result ≡ game.legal (cells board) };
 
@@ -76,12 +76,12 @@ pub trait MoveRules: Drop {
         requires { game.legal (cells board) ≡ true }
         ensures { result ≡ game.index (cells board) };
 
-    /// The least index among those of the images of a board.
+    /// The least of the indexes of a board's images.
     fn least_index(board: Self::Board) -> u64
         requires { game.legal (cells board) ≡ true }
         ensures { result ≡ least_index_of (board_game game) (cells board) };
 
-    /// Whether p is legal and the representative of its symmetric positions, where this is the board with its index. A game may make the tests in another order.
+    /// Whether p, whose board is given, is legal and the representative of its symmetric positions. A game may make the tests in another order.
     fn is_canonical(p: Position, board: Self::Board) -> bool
         requires below { p.index < game.size p.tier }
         requires own { cells board ≡ board_of (board_game game) p }
@@ -92,7 +92,7 @@ pub trait MoveRules: Drop {
             && Self::least_index(board) == p.index
     }
 
-    /// Whether p is a position of the game. A game may have a test that needs no board.
+    /// Whether p is a legal position. A game may have a test that needs no board.
     fn is_legal(p: Position) -> bool
         ensures { result ≡ (move_rules game).is_legal p }
     {
@@ -103,16 +103,16 @@ pub trait MoveRules: Drop {
         Self::is_legal_board(board) && Self::tier(board) == p.tier
     }
 
-    /// The end that the last move has made, if it has made one.
+    /// How the last move has ended the game, if it has.
     fn over(board: Self::Board) -> Option<End>
         requires { game.legal (cells board) ≡ true }
         ensures { result ≡ game.over (cells board) };
 
-    /// The end for who can't move.
+    /// How the game ends for a player who can't move.
     fn stuck() -> End
         ensures { result ≡ game.stuck };
 
-    /// Whether the move with this number can be made, were the game not over.
+    /// Whether the move with this number could be made if the game were not over.
     fn can_move(board: Self::Board, number: u32) -> bool
         requires legal { game.legal (cells board) ≡ true }
         requires below { number < game.numbers_end (game.tier (cells board)) }
@@ -124,20 +124,20 @@ pub trait MoveRules: Drop {
         requires step { IsMove game (cells board) number }
         ensures { cells result ≡ game.moved (cells board) number };
 
-    /// Whether the move with this number can have led to the board from one of the tier.
+    /// Whether the move with this number can have led to this board from a board of the tier.
     fn was_moved(tier: u64, board: Self::Board, number: u32) -> bool
         requires legal { game.legal (cells board) ≡ true }
         requires below { number < game.numbers_end tier }
         ensures { result ≡ game.was_moved tier (cells board) number };
 
-    /// The board before that move, as the player who made it saw it.
+    /// The board before the move with this number, as the player who made it saw it.
     fn taken_back(tier: u64, board: Self::Board, number: u32) -> Self::Board
         requires legal { game.legal (cells board) ≡ true }
         requires below { number < game.numbers_end tier }
         requires was { game.was_moved tier (cells board) number ≡ true }
         ensures { cells result ≡ game.taken_back tier (cells board) number };
 
-    /// Whether the game goes on from a board of the tier by this move. A game may make the tests in another order.
+    /// Whether the board is a legal one of the tier from which the game goes on by this move. A game may make the tests in another order.
     fn goes_on(tier: u64, board: Self::Board, number: u32) -> bool
         requires { number < game.numbers_end tier }
         ensures { result ≡ goes_on_of game tier (cells board) number }
@@ -163,15 +163,15 @@ pub trait MoveRules: Drop {
         requires step { IsMove game (cells board) number }
         ensures { result.items ≡ step_text (game.tier (cells board)) number };
 
-    /// A move and its taking back undo one another, and the rest that is the game's own.
+    /// The game's own laws: among others, making a move and taking it back undo one another.
     ghost lawful: { IsMoveGame game };
 
-    /// The numbering is one to one.
+    /// The numbering of boards is one to one.
     ghost numbered: { IsNumbered (board_game game) };
 
     /// The symmetries keep the rules.
     ghost symmetric: { IsMoveSymmetric game };
 
-    /// Texts are plain and fit a line, and tell boards and moves apart.
+    /// Texts are plain and fit a line, and different boards and different moves have different texts.
     ghost readable: { AreTexts game text step_text };
 }

@@ -1,4 +1,4 @@
-//! Texts that are read back.
+//! Boards and moves read back from their texts.
 ghost use Rattle.std.specs.Prelude.{◌≡◌, ◌↔◌, ◌<◌, ℕ, true, IsTrue, Option, MatchOption, None, Some};
 ghost use Rattle.std.specs.List.{Contains};
 ghost use Rattle.gm_pieces.specs.MoveGames.{board_game, IsMove};

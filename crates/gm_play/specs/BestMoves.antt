@@ -8,7 +8,7 @@ use Rattle.gm_game.specs.Rules.{Rules}
 use Rattle.gm_game.specs.Values.{HasValue}
 use Rattle.gm_play.specs.declared.best_move.Choice.{Choice}
 
--- the value to which the best move of a position with this one goes
+-- the value of the result of the best move, for a position of this value
 abbrev pub wanted_from : Value → Value
 wanted_from Lose = Win
 wanted_from Draw = Draw
@@ -22,26 +22,27 @@ IsNearer Draw k than = ⊥
 IsNearer Tie k than = k < than
 IsNearer Win k than = k < than
 
--- it is no worse
+-- from a position with this value, a result of the first remoteness is no worse than one of the second
 abbrev pub IsNoFarther : Value → ℕ → ℕ → Type 0
 IsNoFarther Lose k than = than ≤ k
 IsNoFarther Draw k than = Unit {0}
 IsNoFarther Tie k than = k ≤ than
 IsNoFarther Win k than = k ≤ than
 
--- the move is one of these, and goes to a wanted value with this remoteness; no other one goes to a better one, and the move has the least number among equals
+-- the move is one of these, and its result has the wanted value with this remoteness; no other of the moves has a better result, and the move has the least
+-- number among equals
 pub record IsBestOf (r : Rules) (p : Position) (value : Value) (moves : List ℕ) (m remoteness : ℕ) : Type 0 where
   pub there : Contains moves m
   pub reaches : HasValue r (r.play p m) (wanted_from value) remoteness
   pub no_better : (n k : ℕ) → Contains moves n → HasValue r (r.play p n) (wanted_from value) k → IsNoFarther value remoteness k
   pub first : (n : ℕ) → Contains moves n → HasValue r (r.play p n) (wanted_from value) remoteness → m ≤ n
 
--- the best of these moves, if one goes to a wanted value
+-- the best of these moves, if the result of one has the wanted value
 abbrev pub IsChoice : Rules → Position → Value → List ℕ → Option Choice → Type 0
 IsChoice r p value moves None = (n k : ℕ) → Contains moves n → HasValue r (r.play p n) (wanted_from value) k → ⊥
 IsChoice r p value moves (Some c) = IsBestOf r p value moves c.number c.remoteness
 
--- of a choice and a move to a wanted value with this remoteness, which one stands
+-- which one is kept of a choice and a move whose result has the wanted value with this remoteness
 abbrev pub Chooses : Value → Option Choice → ℕ → ℕ → Choice → Type 0
 Chooses value None m k c = c ≡ record { number = m; remoteness = k }
 Chooses value (Some old) m k c =

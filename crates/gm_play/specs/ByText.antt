@@ -1,4 +1,4 @@
--- What is asked of the position with a text.
+-- Questions about the position with a text.
 use Rattle.std.specs.Prelude.{◌≡◌, ℕ, Bool, List}
 use Rattle.gm_game.specs.declared.position.Position.{Position}
 use Rattle.gm_game.specs.Rules.{Rules}

@@ -1,4 +1,4 @@
--- What the course of a game keeps for the computer's side.
+-- What holds for the course of a game on the computer's side.
 use Rattle.std.specs.Prelude.{◌≡◌, ◌≢◌, ℕ, ◌≤◌, Some, IfSome}
 use Rattle.gm_play.specs.declared.side.Side.TheVariants.{You, Computer}
 use Rattle.gm_play.specs.Dialogue.{Course}

@@ -20,22 +20,23 @@ pub record Advice : Type 0 where
   pub value : Position → Solved
   pub best : Position → Option ℕ
 
--- it has the true value and the best move of every legal position that is reached from this tier
+-- the look-up has the true value and the best move of every legal position that is reached from this tier
 abbrev pub IsKnown : Rules → ℕ → Advice → Type 0
 IsKnown r tier k = (p : Position) → IsReached r tier p → IsTrueValue r p (k.value p) × IsBestMove r p (k.best p)
 
--- what is written up to the next question; the position where the person is asked: none where the session ends; how many moves are played; and where a game ends, its winner
+-- what is written up to the next question; the position at which the person is asked, none where the session ends; how many moves are played; and the winner,
+-- where a game ends
 pub record Said : Type 0 where
   pub text : List ℕ
   pub asked : Option Position
   pub moves : ℕ
   pub ending : Option (Option Side)
 
--- a text, and then what is said
+-- what is said, after a text before it
 abbrev pub before : List ℕ → Said → Said
 before text said = record { text = text ++ said.text; asked = said.asked; moves = said.moves; ending = said.ending }
 
--- a move, and then what is said
+-- what is said, with one more move played before it
 abbrev pub after_move : Said → Said
 after_move said = record { text = said.text; asked = said.asked; moves = 1 + said.moves; ending = said.ending }
 
@@ -47,7 +48,7 @@ ends text = record { text = text; asked = None; moves = 0; ending = None }
 abbrev pub asks : List ℕ → Position → Said
 asks text p = record { text = text; asked = Some p; moves = 0; ending = None }
 
--- who wins where the game has ended so for the side to move: nobody in a tie
+-- who wins, by how the game has ended for the side to move: nobody in a tie
 abbrev pub winner : Side → End → Option Side
 winner s EndTie = None
 winner s EndLose = Some (other s)
@@ -58,7 +59,7 @@ over_line None = codes "over: tie\n"
 over_line (Some You) = codes "over: you win\n"
 over_line (Some Computer) = codes "over: computer wins\n"
 
--- the line on the end of a game, with this side to move
+-- the line about the end of a game, with this side to move
 abbrev pub over : Side → End → List ℕ
 over s e = over_line (winner s e)
 
@@ -78,7 +79,7 @@ abbrev pub count_after : (Position → ℕ) → Option Position → ℕ
 count_after f None = 0
 count_after f (Some p) = f p
 
--- how many moves were played, and where a game has ended, its winner
+-- how many moves were played, and the winner, where a game has ended
 pub record Course : Type 0 where
   pub moves : ℕ
   pub ending : Option (Option Side)
@@ -112,11 +113,11 @@ module _ (r : Rules) (shown : Position → List ℕ) (move_shown : Position → 
     abbrev pub question : Position → List ℕ
     question p = seen p ++ codes "your move?\n"
 
-    -- the line on a position
+    -- the line about a position
     abbrev pub place : Position → List ℕ
     place p = shown p ++ codes " " ++ text_of (k.value p) ++ codes "\n"
 
-    -- the person is to move
+    -- what is said where the person is to move
     abbrev pub asks_or_ends : Position → Option End → Said
     asks_or_ends p (Some e) = game_over You e
     asks_or_ends p None = asks (question p) p
@@ -124,7 +125,7 @@ module _ (r : Rules) (shown : Position → List ℕ) (move_shown : Position → 
     abbrev pub persons_turn : Position → Said
     persons_turn p = before (place p) (asks_or_ends p (r.primitive p))
 
-    -- the computer is to move, and then the person
+    -- what is said where the computer is to move, and then the person
     abbrev pub moves_or_ends : Position → Option End → Option ℕ → Said
     moves_or_ends p (Some e) best = game_over Computer e
     moves_or_ends p None None = ends []
@@ -133,12 +134,12 @@ module _ (r : Rules) (shown : Position → List ℕ) (move_shown : Position → 
     abbrev pub computers_turn : Position → Said
     computers_turn p = before (place p) (moves_or_ends p (r.primitive p) (k.best p))
 
-    -- this side is to move
+    -- what is said where this side is to move
     abbrev pub turn : Position → Side → Said
     turn p You = persons_turn p
     turn p Computer = computers_turn p
 
-    -- what a line is answered with
+    -- what is said in answer to a line
     abbrev pub answer_to : Position → Option ℕ → Said
     answer_to p None = asks (codes "not a move\n" ++ question p) p
     answer_to p (Some m) = after_move (computers_turn (r.play p m))
@@ -146,7 +147,7 @@ module _ (r : Rules) (shown : Position → List ℕ) (move_shown : Position → 
     abbrev pub reply : Position → List ℕ → Said
     reply p line = let text = without_return line in if bytes_eq text (codes "quit") then ends (codes "bye\n") else answer_to p (move_read p text)
 
-    -- the input ends after these bytes of a line
+    -- what is written where the input ends after these bytes of a line
     abbrev pub closing : Position → List ℕ → List ℕ
     closing p line = if length line == 0 then codes "input ended\n" else (reply p line).text ++ text_after (λ q. codes "input ended\n") (reply p line).asked
 
@@ -168,11 +169,11 @@ module _ (r : Rules) (shown : Position → List ℕ) (move_shown : Position → 
     abbrev pub dialogue : Position → Side → List ℕ → List ℕ
     dialogue start first bytes = spoken closing start first bytes
 
-    -- its text so far, where further bytes may come
+    -- the text of a session over these bytes so far, where further bytes may come
     abbrev pub dialogue_so_far : Position → Side → List ℕ → List ℕ
     dialogue_so_far start first bytes = spoken waiting start first bytes
 
-    -- how many of the bytes it reads: none after the line that ends it
+    -- how many of the bytes a session reads: none after the line that ends it
     abbrev pub used : Position → Side → List ℕ → ℕ
     used start first bytes = count_after (λ p. count p [] bytes) (turn start first).asked
 

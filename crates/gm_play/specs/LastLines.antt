@@ -10,10 +10,10 @@ IsLastLine text line = (text ≡ line) ⊎ ((front : List ℕ) × (text ≡ fron
 abbrev pub EndsWon : List ℕ → Type 0
 EndsWon text = IsLastLine text (codes "over: computer wins\n") ⊎ (IsLastLine text (codes "bye\n") ⊎ IsLastLine text (codes "input ended\n"))
 
--- or it is a tie
+-- the computer has won, the game is a tie, or the person has ended the session before the end of the game
 abbrev pub EndsUnlost : List ℕ → Type 0
 EndsUnlost text = IsLastLine text (codes "over: tie\n") ⊎ EndsWon text
 
--- such a text was written
+-- a text of this kind was written
 abbrev pub WritesOne : (List ℕ → Type 0) → Option (List ℕ) → Option (List ℕ) → Type 0
 WritesOne P before after = (text : List ℕ) × Appends before after text × P text

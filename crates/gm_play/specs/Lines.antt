@@ -31,7 +31,7 @@ pub record LeadsTo (r : Rules) (p : Position) (s : Side) (moves : List ℕ) (end
   pub side : end.side ≡ side_after s moves
   pub number : end.moves ≡ length moves
 
--- a line with these replies leads there
+-- a line of play with these replies leads to this end
 abbrev pub IsPlayed : Rules → Position → Side → List ℕ → PlayLine → Type 0
 IsPlayed r p s replies end = (moves : List ℕ) × IsLine r p s replies moves × LeadsTo r p s moves end
 
@@ -39,7 +39,7 @@ IsPlayed r p s replies end = (moves : List ℕ) × IsLine r p s replies moves ×
 abbrev pub WinsWithin : Rules → ℕ → PlayLine → Type 0
 WinsWithin r n end = (end.moves ≤ n) × (r.primitive end.position ≢ None → HasWon r end.position end.side)
 
--- one more move
+-- a line with one more move
 abbrev pub one_more : Rules → PlayLine → ℕ → PlayLine
 one_more r line m = record { position = r.play line.position m; side = other line.side; moves = line.moves + 1 }
 

@@ -13,7 +13,7 @@ use Rattle.gm_game.specs.Values.{IsTrueValue}
 use Rattle.gm_play.specs.BestMoves.{IsBestMove}
 use Rattle.gm_play.specs.declared.move_values.MoveValue.{MoveValue}
 
--- what a move to a position of this value and remoteness is worth to the side that makes it, counted from before it
+-- what a move to a position of this value and remoteness is worth to the side that makes it, with the remoteness counted from before the move
 abbrev pub worth_from : Value → ℕ → Solved
 worth_from Lose k = solved Win (k + 1)
 worth_from Draw k = solved Draw k
@@ -23,8 +23,9 @@ worth_from Win k = solved Lose (k + 1)
 abbrev pub worth_of : Solved → Solved
 worth_of s = worth_from s.value s.remoteness
 
--- where a move to such a position stands among others: those to a loss first, the near ones before the far ones, then those to a tie, the near ones before the far ones, those to a
--- draw, and those to a win, the far ones before the near ones
+-- where a move to a position of this value and remoteness stands among others: first the moves to a loss, the near ones before the far ones, then those to a
+-- tie, the near ones
+-- before the far ones, then those to a draw, and last those to a win, the far ones before the near ones
 abbrev pub rank : Value → ℕ → ℕ
 rank Lose k = k
 rank Tie k = 2 ^ 32 + k

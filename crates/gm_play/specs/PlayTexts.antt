@@ -21,13 +21,13 @@ use Rattle.gm_play.specs.MoveValues.{AreMoveValues, BeginsBest}
 abbrev pub row : List ℕ → List ℕ → List ℕ → List ℕ
 row a b c = a ++ codes "\t" ++ b ++ codes "\t" ++ c ++ codes "\n"
 
--- where the last position has come before
+-- the row that tells where the last position has come before
 abbrev pub end_row : LineEnd → List ℕ
 end_row Over = []
 end_row (Again k) = codes "again " ++ decimal k ++ codes "\n"
 end_row Cut = []
 
--- the value of the result of the best move, by that of its position
+-- the value of the result of the best move, by the value of the position before it
 abbrev pub after_best : Solved → Solved
 after_best s = solved (wanted_from s.value) (s.remoteness - 1)
 
@@ -40,7 +40,7 @@ module _ (r : Rules) (shown : Position → List ℕ) (move_shown : Position → 
   abbrev pub IsReadAs : List ℕ → Position → Type 0
   IsReadAs text p = (r.is_legal p ≡ true) × (shown p ≡ text)
 
-  -- none has it
+  -- no legal position has this text
   abbrev pub IsNoPosition : List ℕ → Type 0
   IsNoPosition text = (p : Position) → IsReadAs text p → ⊥
 
@@ -56,7 +56,7 @@ module _ (r : Rules) (shown : Position → List ℕ) (move_shown : Position → 
   abbrev pub AreMoveRows : Bool → List ℕ → List ℕ → Type 0
   AreMoveRows distinct text out = (p : Position) × IsReadAs text p × (list : List MoveValue) × AreMoveValues r p list × BeginsBest r p list × (out ≡ flat_map (move_row p) (chosen r distinct list))
 
-  -- the rows of a line: each move, its result, and the true value of that
+  -- the rows of a line: each move, its result, and the true value of the result
   abbrev pub AreLineRows : Position → List ℕ → List ℕ → Type 0
   AreLineRows p [] out = out ≡ []
   AreLineRows p (m ∷ ms) out = (s : Solved) × (rest : List ℕ) × IsTrueValue r (r.play p m) s × AreLineRows (r.play p m) ms rest × (out ≡ row (move_shown p m) (shown (r.play p m)) (text_of s) ++ rest)

@@ -17,11 +17,11 @@ abbrev pub ReadsByte : Option (List ℕ) → Option (List ℕ) → Option ℕ �
 ReadsByte old new None = Keeps old new × IsAtEnd new
 ReadsByte old new (Some b) = Consumes old new (b ∷ [])
 
--- a front of the text is written
+-- a first part of the text is written
 abbrev pub AppendsPart : Option (List ℕ) → Option (List ℕ) → List ℕ → Type 0
 AppendsPart old new text = (done rest : List ℕ) × (text ≡ done ++ rest) × Appends old new done
 
--- this is said, and the next question asked
+-- this is said, and the next question is asked
 abbrev pub Says : Option (List ℕ) → Option (List ℕ) → Said → Option Position → Type 0
 Says old new said asked = (asked ≡ said.asked) × Appends old new said.text
 
@@ -36,26 +36,26 @@ module _ (r : Rules) (shown : Position → List ℕ) (move_shown : Position → 
   abbrev pub IsEnded : List ℕ → Type 0
   IsEnded bytes = (more : List ℕ) → used r shown move_shown k seen start first (bytes ++ more) ≡ length bytes
 
-  -- a session: the dialogue of the bytes that were read is written, and a line ended it or the input did
+  -- a session: the dialogue over the bytes that were read is written, and either a line or the end of the input ended it
   pub record IsSession (old new before after : Option (List ℕ)) : Type 0 where
     pub bytes : List ℕ
     pub is_read : IsRead old new bytes
     pub writes : Appends before after (dialogue r shown move_shown k seen start first bytes)
     pub end : IsEnded bytes ⊎ IsAtEnd new
 
-  -- a session whose input failed: all was written that the bytes before are answered with
+  -- a session whose input failed: all that answers the bytes before was written
   pub record IsUnread (old new before after : Option (List ℕ)) : Type 0 where
     pub bytes : List ℕ
     pub is_read : IsRead old new bytes
     pub writes : Appends before after (dialogue_so_far r shown move_shown k seen start first bytes)
 
-  -- a session whose output failed: a front of the dialogue is written
+  -- a session whose output failed: a first part of the dialogue is written
   pub record IsUnwritten (old new before after : Option (List ℕ)) : Type 0 where
     pub bytes : List ℕ
     pub is_read : IsRead old new bytes
     pub writes : AppendsPart before after (dialogue r shown move_shown k seen start first bytes)
 
-  -- a session that one byte more than may be read came to, which is not answered
+  -- a session to which one byte more came than may be read; that byte is not answered
   pub record IsTooLong (old new before after : Option (List ℕ)) : Type 0 where
     pub bytes : List ℕ
     pub last : ℕ

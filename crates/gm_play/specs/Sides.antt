@@ -1,4 +1,4 @@
--- The two sides, and what a position is worth to the computer's.
+-- The two sides, and what a position is worth to the computer's side.
 use Rattle.std.specs.Prelude.{◌≡◌, ℕ, ◌⊎◌, Some}
 use Rattle.gm_game.specs.declared.position.Position.{Position}
 use Rattle.gm_game.specs.declared.position.End.TheVariants.{Lose as EndLose, Win as EndWin}
@@ -26,7 +26,7 @@ abbrev pub HasWon : Rules → Position → Side → Type 0
 HasWon r p Computer = r.primitive p ≡ Some EndWin
 HasWon r p You = r.primitive p ≡ Some EndLose
 
--- it has lost
+-- with this side to move, the game has ended and the computer's side has lost
 abbrev pub HasLost : Rules → Position → Side → Type 0
 HasLost r p Computer = r.primitive p ≡ Some EndLose
 HasLost r p You = r.primitive p ≡ Some EndWin

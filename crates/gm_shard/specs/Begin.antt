@@ -17,13 +17,13 @@ IsStart r p Hole = IsCanonical r p → ⊥
 IsStart r p (Ended e) = IsCanonical r p × (r.primitive p ≡ Some e)
 IsStart r p (Inner children) = IsInner r p × (children ≡ length (canonical_children_of r p))
 
--- the status that it begins with
+-- the status that such a position begins with
 abbrev pub first_status : Start → Status
 first_status Hole = NoPosition
 first_status (Ended e) = Settled (from_end e)
 first_status (Inner children) = Undecided
 
--- the counter that it begins with
+-- the counter that such a position begins with
 abbrev pub first_left : Start → ℕ
 first_left Hole = 0
 first_left (Ended e) = 0

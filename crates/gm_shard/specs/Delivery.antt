@@ -42,7 +42,7 @@ pub record KeepsStatus (r : Rules) (s t : ShardState) (parent : ℕ) : Type 0 wh
   pub before : StatusIs r s parent status
   pub after : StatusIs r t parent status
 
--- the place of c among the canonical children of the parent; none where it is no parent of c
+-- the place of c among the canonical children of the parent; none where the index is no parent of c
 abbrev pub IsPlaceOf : Rules → Position → ℕ → ℕ → Option ℕ → Type 0
 IsPlaceOf r c tier parent None = IsParent r c tier parent → ⊥
 IsPlaceOf r c tier parent (Some k) = IsInner r (at tier parent) × (slice_get (canonical_children_of r (at tier parent)) k ≡ Some c) × (k < MOVES)
@@ -74,7 +74,7 @@ IsAdded (Ok Fresh) = Unit {0}
 IsAdded (Ok FreshSettled) = Unit {0}
 IsAdded (Ok Repeat) = ⊥
 
--- what a note makes of a status, where `last` says whether it is the last child
+-- the status after a note is delivered, where `last` says whether its position is the last child
 abbrev pub next_status : Status → Solved → Bool → Status
 next_status Hole note last = Hole
 next_status Undecided note last =

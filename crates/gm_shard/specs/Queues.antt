@@ -25,7 +25,7 @@ pub record IsSettledIn (r : Rules) (s : ShardState) (phase : Phase) (k : ℕ) : 
   pub settled : StatusIs r s (s.lo + k) (Settled value)
   pub phase_is : phase_of value.value ≡ phase
 
--- what stands at a place of a queue: before the present part what is below the level, then the level, then the next one
+-- the remoteness that stands at a place of a queue: below the level before the present part, the level itself in that part, and the next level after it
 pub record IsPlaced (level : ℕ) (q : QueueData) (place remoteness : ℕ) : Type 0 where
   pub before : place < q.from → remoteness < level
   pub present : q.from ≤ place → place < q.to → remoteness ≡ level
@@ -44,7 +44,7 @@ pub record IsQueue (r : Rules) (s : ShardState) (phase : Phase) (level : ℕ) (q
   pub inside : q.to ≤ length q.indexes
   pub room : length s.delivered ≤ q.room
 
--- the queue of the present phase, and before the phase of ties that of the ties that have ended
+-- the queue of the present phase, and before the phase of ties also the queue of the ties that have ended
 abbrev pub AreQueues : Rules → ShardState → Phase → QueueData → QueueData → Type 0
 AreQueues r s WinLose wins ties = IsQueue r s WinLose s.level wins × IsQueue r s Ties 0 ties
 AreQueues r s Ties wins ties = IsQueue r s Ties s.level ties

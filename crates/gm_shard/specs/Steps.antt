@@ -26,7 +26,7 @@ pub record CanDeliver (r : Rules) (s : ShardState) (c : Position) (parent : ℕ)
   pub new : Contains (delivered_to s parent) c → ⊥
   pub near : (x : Solved) → StatusIs r (with_pair s c parent) parent (Settled x) → x.remoteness ≤ REMOTENESS
 
--- every pair into the range whose child stands at or before the present place is there
+-- every pair into the range whose child stands at or before the present place is delivered
 abbrev pub IsWhole : Rules → ShardState → Type 0
 IsWhole r s = (i : ℕ) (c : Position) → IsInRange s i → IsParent r c s.tier i → StandsBefore r s.phase (s.level + 1) c → Contains (delivered_to s i) c
 

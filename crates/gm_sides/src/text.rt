@@ -29,7 +29,8 @@ fn cell_byte(cell: Cell) -> u8
     }
 }
 
-/// The text of a board of so many cells with these pieces: its cells in order, `x` for a piece of the mover's, `o` for one of the opponent's and `.` for an empty cell (docs/GAMES.md, Common forms).
+/// The text of a board of this many cells with these pieces: its cells in order, `x` for a piece of the mover's, `o` for one of the opponent's and `.` for an
+/// empty cell (docs/GAMES.md, Common forms).
 #[tactic(auto, using(crate::proofs::TextSteps::text_none, crate::proofs::TextSteps::text_more, crate::proofs::TextSteps::text_long))]
 pub fn board_text(cells: u32, mine: u32, theirs: u32) -> Line
     requires { cells ≤ 25 }
@@ -42,7 +43,7 @@ pub fn board_text(cells: u32, mine: u32, theirs: u32) -> Line
     line
 }
 
-// Whether the text has the byte at a cell.
+// Whether the text has this byte in the place of a cell.
 fn has_mark(text: &[u8], byte: u8, cell: u32) -> bool
     requires { 0 < byte }
     ensures { result ≡ (slice_index text.now cell == byte) }
@@ -53,7 +54,7 @@ fn has_mark(text: &[u8], byte: u8, cell: u32) -> bool
     }
 }
 
-// The mask of the cells at which the text has the byte.
+// The mask of the cells in whose places the text has this byte.
 #[tactic(auto, using(gm_board::specs::laws::Marks::read_in, gm_board::specs::laws::Marks::read_out, gm_board::specs::laws::Marks::read_start, gm_board::specs::laws::MaskChanges::with_within))]
 fn marks(cells: u32, text: &[u8], byte: u8) -> u32
     requires few { cells ≤ 25 }
@@ -70,7 +71,7 @@ fn marks(cells: u32, text: &[u8], byte: u8) -> u32
     marks
 }
 
-/// The masks of the mover's and of the opponent's pieces on the board of so many cells that has this text, where there is one. Any bytes may be given.
+/// The masks of the mover's and of the opponent's pieces on the board of this many cells that has this text, where there is one. Any bytes may be given.
 #[tactic(auto, using(crate::proofs::TextSteps::read_all))]
 pub fn masks_in(cells: u32, text: &[u8]) -> (u32, u32)
     requires { cells ≤ 25 }

@@ -13,7 +13,7 @@ pub record HeldData : Type 0 where
   pub shard : ShardState
   pub book : ℕ
 
--- equally many parts of four ledgers, and the amount of each
+-- the same number of parts of each of four ledgers, and the amount of each
 pub record Amounts : Type 0 where
   pub parts : ℕ
   pub a : ℕ
@@ -21,7 +21,7 @@ pub record Amounts : Type 0 where
   pub c : ℕ
   pub d : ℕ
 
--- one part of each, and no amount
+-- one part of each ledger, with amounts of 0
 abbrev pub one_part : Amounts
 one_part = record { parts = 1; a = 0; b = 0; c = 0; d = 0 }
 
@@ -29,7 +29,7 @@ one_part = record { parts = 1; a = 0; b = 0; c = 0; d = 0 }
 abbrev pub amount_of : Amounts → ℕ → ℕ
 amount_of s k = choose k s.a s.b s.c s.d
 
--- the amounts after shard k's rose by n
+-- the amounts after that of shard k has risen by n
 abbrev pub raised : Amounts → ℕ → ℕ → Amounts
 raised s k n =
     record {
@@ -44,6 +44,6 @@ raised s k n =
 abbrev pub joined : Amounts → Amounts → Amounts
 joined s t = record { parts = s.parts + t.parts; a = s.a + t.a; b = s.b + t.b; c = s.c + t.c; d = s.d + t.d }
 
--- one part less, and the same amounts
+-- one part fewer, and the same amounts
 abbrev pub split_of : Amounts → Amounts
 split_of s = record { parts = s.parts - 1; a = s.a; b = s.b; c = s.c; d = s.d }

@@ -8,16 +8,16 @@ use Rattle.gm_shard.specs.declared.status.Refused.{Refused}
 use Rattle.gm_shard.specs.Delivery.{IsPlaceOf}
 use Rattle.gm_solver.specs.Spots.{Spot, gain, IsAnswer, IsDeliveryAt}
 
--- of each pair of a note and a parent, the place of the note's position among the parent's children
+-- each pair of a note and a parent has with it the place of the note's position among the parent's children
 pub record ArePlaced (r : Rules) (tier : ℕ) (pairs : List (NoteData × ℕ × Option ℕ)) : Type 0 where
   pub each : (pair : NoteData × ℕ × Option ℕ) → Contains pairs pair → IsPlaceOf r pair.0.position tier pair.1 pair.2
 
--- what was answered to a pair at the spot
+-- the answer to the delivery of a pair at the spot
 pub record IsAnswerAt (r : Rules) (s : Spot) (pair : NoteData × ℕ × Option ℕ) (answer : Result Delivery Refused) : Type 0 where
   pub refusals : IsAnswer r s pair.0 pair.1 answer
   pub event : IsDeliveryAt r s pair.0 pair.1 answer
 
--- an answer to each pair, in order, which together raised the number of pairs by so many
+-- an answer to each pair, in order; together they raised the number of pairs by this much
 pub record AreAnswers (r : Rules) (s : Spot) (pairs : List (NoteData × ℕ × Option ℕ)) (gained : ℕ) : Type 0 where
   pub answers : List (Result Delivery Refused)
   pub each : AllZip (IsAnswerAt r s) pairs answers

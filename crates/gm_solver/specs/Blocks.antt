@@ -6,11 +6,11 @@ use Rattle.gm_shard.specs.declared.status.Start.{Start}
 use Rattle.gm_shard.specs.Begin.{AreStarts}
 use Rattle.gm_shard.specs.Lists.{ListsData}
 
--- the number of the block that is found at a place, where blocks are found class after class, each of so many rows
+-- the number of the block that is scanned at a place, where blocks are scanned class after class and each class has this many
 abbrev pub block_in : ℕ → ℕ → ℕ
 block_in rows place = place % rows * 32 + place / rows
 
--- block k of a tier: the indexes from k widths on, as many as the width, cut at the size
+-- block k of a tier: the indexes from k times the width on, as many as the width, cut at the tier's size
 abbrev pub block_at : Rules → ℕ → ℕ → ListsData
 block_at r tier k = record { tier = tier; lo = min (k * 512) (r.tier_size tier); hi = min (suc k * 512) (r.tier_size tier) }
 
@@ -24,11 +24,11 @@ pub record IsBlock (r : Rules) (tier k : ℕ) (lists : ListsData) (starts : List
   pub lists_are : lists ≡ block_at r tier k
   pub part : IsPart r tier k starts
 
--- each of these blocks is the one that is found at its place
+-- each of these blocks is the one that is scanned at its place
 abbrev pub AreInPlace : Rules → ℕ → ℕ → List ListsData → Type 0
 AreInPlace r tier rows blocks = (place : ℕ) (b : ListsData) → slice_get blocks place ≡ Some b → b ≡ block_at r tier (block_in rows place)
 
--- each of these lists has the starts of the block that is found at its place
+-- each of these lists has the starts of the block that is scanned at its place
 abbrev pub AreParts : Rules → ℕ → ℕ → List (Vec Start Global) → Type 0
 AreParts r tier rows parts = (place : ℕ) (p : Vec Start Global) → slice_get parts place ≡ Some p → IsPart r tier (block_in rows place) p.items
 

@@ -29,7 +29,7 @@ pairs_into r s notes = pairs_of r s.tier s.lo s.hi notes
 abbrev pub place_of_spot : Spot → Place
 place_of_spot s = place_at s.tier s.phase s.level
 
--- beside `base` other pairs the first n of these are delivered, and no later one is
+-- beside `base` other pairs the first n of these pairs are delivered, and no later one of them is
 pub record IsRound (pairs : List (NoteData × ℕ)) (base : ℕ) (s : ShardState) (n : ℕ) : Type 0 where
   pub count : pairs_in s ≡ base + n
   pub within : n ≤ length pairs
@@ -65,7 +65,7 @@ IsNextAnswer s (Err NotMine) = ⊥
 IsNextAnswer s (Err NotAParent) = ⊥
 IsNextAnswer s (Err TooFar) = REMOTENESS ≤ s.level
 
--- one delivery to a shard at the spot, to which n of the pairs were delivered before it, and m after it
+-- one delivery to a shard at the spot: n of the pairs were delivered to the shard before it, and m are after it
 pub record IsStep (r : Rules) (s : Spot) (pairs : List (NoteData × ℕ)) (base : ℕ) (note : NoteData) (parent : ℕ) (answer : Result Delivery Refused) (n m : ℕ) : Type 0 where
   pub old : ShardState
   pub new : ShardState

@@ -15,7 +15,7 @@ pub record IsDelivery (r : Rules) (tier : ℕ) (pair : Position × ℕ) : Type 0
   pub is_parent : IsParent r pair.0 tier pair.1
   pub no_draw : HasValue r pair.0 Draw 0 → ⊥
 
--- the tier has this many such pairs
+-- the tier has this many pairs whose child is no draw
 abbrev pub AreDeliveries : Rules → ℕ → ℕ → Type 0
 AreDeliveries r tier number = AreThere number (IsDelivery r tier)
 

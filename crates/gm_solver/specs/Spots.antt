@@ -1,4 +1,4 @@
--- Where a shard stands, in one piece, and four that tile a tier.
+-- Spots: where a shard stands, and four spots that tile a tier.
 use Rattle.std.specs.Prelude.{◌≡◌, ℕ, ◌+◌, ◌<◌, ◌≤◌, ◌↔◌, ◌==◌, if◌then◌else◌, length, Result, Ok, Err}
 use Rattle.gm_game.specs.declared.limits.TheConstants.{REMOTENESS}
 use Rattle.gm_game.specs.declared.position.Phase.{Phase}
@@ -41,7 +41,7 @@ pub record Follows (s t : Spot) : Type 0 where
   pub from : t.lo ≡ s.hi
   pub order : t.lo ≤ t.hi
 
--- the four tile a tier at one place
+-- the four spots tile a tier at one place
 pub record AreFourTiles (r : Rules) (a b c d : Spot) : Type 0 where
   pub first : a.lo ≡ 0
   pub order : a.lo ≤ a.hi
@@ -65,7 +65,7 @@ IsAtPlace s note = (phase_of note.solved.value ≡ s.phase) × (note.solved.remo
 abbrev pub IsWithin : Spot → ℕ → Type 0
 IsWithin s index = (s.lo ≤ index) × (index < s.hi)
 
--- the first three refusals, each exactly where its words hold, in their order; the fourth only at the limit
+-- an answer is one of the first three refusals exactly where that refusal's condition holds, in their order, and the fourth only at the limit
 pub record IsAnswer (r : Rules) (s : Spot) (note : NoteData) (parent : ℕ) (answer : Result Delivery Refused) : Type 0 where
   pub not_this_level : (answer ≡ Err NotThisLevel) ↔ (IsAtPlace s note → ⊥)
   pub not_mine : (answer ≡ Err NotMine) ↔ (IsAtPlace s note × (IsWithin s parent → ⊥))

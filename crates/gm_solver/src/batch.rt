@@ -1,4 +1,4 @@
-//! Pairs that wait for the lock of one shard, so that many are delivered under it at a time.
+//! Pairs that wait for the lock of one shard, so that many are delivered each time that it is taken.
 ghost use Rattle.std.specs.Prelude.{◌≡◌, ◌≤◌, List, length, IsTrue};
 ghost use Rattle.gm_shard.specs.Delivery.{IsPlaceOf};
 ghost use Rattle.gm_solver.specs.Batches.{ArePlaced};
@@ -9,7 +9,7 @@ use gm_game::game::Game;
 use std::alloc::{AllocError, Global};
 use std::marker::{Model, PhantomData};
 
-/// How many pairs wait at most for one shard.
+/// The most pairs that wait for one shard.
 pub(crate) const BATCH: usize = 64;
 
 /// Pairs of the desk's tier that wait to be delivered, each with the place of its note's position among the children of its parent.
@@ -32,7 +32,7 @@ impl<G: Game, L: Desk> Model for Batch<G, L> {
 }
 
 impl<G: Game, L: Desk> Batch<G, L> {
-    // No pairs, with memory for as many as there can be.
+    // An empty batch, with memory for as many pairs as it can have.
     pub(crate) fn new(alloc: Global) -> Result<Self, AllocError> {
         Ok(Batch {
             pairs: Vec::with_capacity(alloc, BATCH)?,
@@ -48,7 +48,7 @@ impl<G: Game, L: Desk> Batch<G, L> {
         self.pairs.as_slice()
     }
 
-    // Puts a pair to the others.
+    // Adds a pair.
     pub(crate) fn push(
         &mut self,
         note: Note<G>,
@@ -61,7 +61,7 @@ impl<G: Game, L: Desk> Batch<G, L> {
         Ok(())
     }
 
-    // Lets go of all pairs.
+    // Removes all pairs.
     pub(crate) fn clear(&mut self) {
         self.pairs.clear();
     }

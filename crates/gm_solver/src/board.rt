@@ -26,7 +26,7 @@ pub struct Four<T> {
     pub d: T,
 }
 
-/// A share of each shard's ledger, all of equally many parts.
+/// A share of each shard's ledger, all with the same number of parts.
 #[derive(Drop)]
 pub struct Shares<A: Desk, B: Desk, C: Desk, D: Desk> {
     parts: u64,
@@ -49,7 +49,7 @@ impl<A: Desk, B: Desk, C: Desk, D: Desk> Model for Shares<A, B, C, D> {
 }
 
 impl<A: Desk, B: Desk, C: Desk, D: Desk> Shares<A, B, C, D> {
-    /// How many pairs were delivered to a shard by these shares: exact below the greatest number of 64 bits, and else that.
+    /// How many pairs were delivered to a shard by these shares, or the greatest number of 64 bits where there were more.
     pub fn amount(&self, shard: usize) -> u64
         requires { shard < 4 }
         ensures { result ≡ min (amount_of self.now shard) (2 ^ 64 - 1) }
@@ -62,14 +62,14 @@ impl<A: Desk, B: Desk, C: Desk, D: Desk> Shares<A, B, C, D> {
         }
     }
 
-    /// Of how many parts each share is.
+    /// How many parts each share has.
     pub fn parts(&self) -> u64
         ensures { result ≡ self.now.parts }
     {
         self.parts
     }
 
-    /// Takes one part of each, with no amount.
+    /// Takes one part off each share, with an amount of 0.
     pub fn split(&mut self) -> Shares<A, B, C, D>
         requires { 1 < self.old.parts }
         ensures taken { result ≡ one_part }
@@ -85,7 +85,7 @@ impl<A: Desk, B: Desk, C: Desk, D: Desk> Shares<A, B, C, D> {
         }
     }
 
-    /// Puts the parts and amounts of others to these.
+    /// Adds the parts and amounts of other shares to these.
     pub fn join(&mut self, other: Shares<A, B, C, D>)
         ensures { self.new ≡ joined self.old other }
     {
@@ -98,7 +98,8 @@ impl<A: Desk, B: Desk, C: Desk, D: Desk> Shares<A, B, C, D> {
     }
 }
 
-/// Four shards that tile a tier, each under a lock of its own. Whenever a lock is got, a good shard stands behind it, at its name's place, with as many pairs as its book says.
+/// Four shards that tile a tier, each under a lock of its own. Whenever a lock is taken, the shard behind it is good, stands at the place that its name fixes,
+/// and has as many pairs as its book says.
 #[derive(Drop)]
 pub struct Board<G: Game, A: Desk, B: Desk, C: Desk, D: Desk> {
     a: Mutex<Held<G, A>>,
@@ -116,8 +117,9 @@ pub struct Board<G: Game, A: Desk, B: Desk, C: Desk, D: Desk> {
 }
 
 impl<G: Game, A: Desk, B: Desk, C: Desk, D: Desk> Board<G, A, B, C, D> {
-    /// Puts each shard under its lock. The shards tile one tier at one place, the blanks have the names of the ledgers and so many parts each, and the names stand where the shards stand.
-    /// The shares have all parts.
+    /// Puts each shard under its lock. The shards tile one tier at one place, the blanks have the names of the ledgers and `parts` parts each, and each name
+    /// fixes the place at which its shard stands.
+    /// The shares of the result have all parts.
     pub fn around(
         parts: u64,
         blanks: Four<Blank>,
@@ -211,7 +213,8 @@ impl<G: Game, A: Desk, B: Desk, C: Desk, D: Desk> Board<G, A, B, C, D> {
         }
     }
 
-    /// Delivers a note to a parent under that one shard's lock. The caller's amount of this shard rises by one exactly where the pair is new, and the others stay.
+    /// Delivers a note to a parent under the lock of the parent's shard alone. The caller's amount for this shard rises by one exactly where the pair is new,
+    /// and the other amounts stay.
     pub fn deliver<R: Wait>(
         &self,
         rt: &R,
@@ -229,7 +232,7 @@ impl<G: Game, A: Desk, B: Desk, C: Desk, D: Desk> Board<G, A, B, C, D> {
         self.deliver_at(rt, shard, note, parent, place, shares)
     }
 
-    /// The same, where the place of the note's position among the children of the parent is known.
+    /// As `deliver`, where the place of the note's position among the children of the parent is known.
     pub fn deliver_at<R: Wait>(
         &self,
         rt: &R,
@@ -265,8 +268,9 @@ impl<G: Game, A: Desk, B: Desk, C: Desk, D: Desk> Board<G, A, B, C, D> {
         }
     }
 
-    /// Delivers pairs to one shard, one after another under that shard's one lock, and counts those that are new. Each is given with the place of its note's position among the children of its parent.
-    /// The caller's amount of this shard rises by their number, and the others stay.
+    /// Delivers pairs to one shard, one after another while its lock is held, and counts those that are new. Each pair comes with the place of its note's
+    /// position among the children of its parent.
+    /// The caller's amount for this shard rises by the number of new pairs, and the other amounts stay.
     pub fn deliver_all<R: Wait>(
         &self,
         rt: &R,
@@ -287,7 +291,8 @@ impl<G: Game, A: Desk, B: Desk, C: Desk, D: Desk> Board<G, A, B, C, D> {
         }
     }
 
-    /// Takes the shards out of their locks, with shares of all parts: they tile the same tier at the same place, and to each as many pairs are delivered as its whole share says.
+    /// Takes the shards out of their locks, in exchange for shares of all parts. They tile the same tier at the same place, and each has as many pairs
+    /// delivered to it as its whole share says.
     pub fn into_shards(self, shares: Shares<A, B, C, D>) -> Four<Shard<G>>
         requires { shares.parts ≡ A.parts }
         ensures spots { (spot_of result.a ≡ A.spot) × (spot_of result.b ≡ B.spot) × (spot_of result.c ≡ C.spot) × (spot_of result.d ≡ D.spot) }

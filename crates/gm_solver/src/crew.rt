@@ -1,4 +1,4 @@
-//! The workers of one level: the first in the calling thread, and each other in one of its own.
+//! The workers of one level: the first in the calling thread, and every other in a thread of its own.
 ghost use Rattle.std.specs.Prelude.{◌≡◌, ◌+◌, ◌<◌, OnOk, IfOk, vec_len};
 ghost use Rattle.gm_solver.specs.Found.{AreFound};
 
@@ -36,7 +36,8 @@ fn slots_of<G: Game, A: Desk, B: Desk, C: Desk, D: Desk>(
     Ok(slots)
 }
 
-// Runs a worker for each slot, the first in this thread and each other in one of its own, and waits for all. A worker that can't be started leaves its slot as it was.
+// Runs a worker for each slot, the first in this thread and every other in a thread of its own, and waits for all. A worker that can't be started leaves its
+// slot as it was.
 fn run_workers<
     G: Game + Send + Sync,
     A: Desk + Send + Sync,
@@ -82,7 +83,7 @@ fn run_workers<
     );
 }
 
-/// Runs the workers of a level, and takes their parts back after the last has ended: the tallies that they found.
+/// Runs the workers of a level, and takes their parts of the shares back after the last has ended. The result is the tallies that they found.
 pub(crate) fn serve_level<
     G: Game + Send + Sync,
     A: Desk + Send + Sync,

@@ -1,4 +1,4 @@
-//! The tallies of a level's pieces: those that workers hand back, and the others by the coordinator's own walk.
+//! The tallies of a level's pieces: those that workers hand back, and the others, which the coordinator finds by its own walk.
 ghost use Rattle.std.specs.Prelude.{◌≡◌, IfOk, IfSome, IsTrue};
 ghost use Rattle.gm_solver.specs.Tiling.{AreAllTallies};
 ghost use Rattle.gm_solver.specs.Found.{AreFound, IsTallyAt};
@@ -13,7 +13,7 @@ use gm_game::game::Game;
 use std::alloc::{AllocError, Global};
 use std::sync::Wait;
 
-/// No tally of any piece.
+/// A list with no tally for any piece.
 pub(crate) fn none_found<G: Game>(
     alloc: Global,
     pieces: &Pieces<G>,
@@ -27,7 +27,7 @@ pub(crate) fn none_found<G: Game>(
     Ok(found)
 }
 
-// Whether a tally is one of this level's, by its place and sizes.
+// Whether a tally belongs to this level, by its place and sizes.
 fn is_of<G: Game>(tally: &Tally<G>, pieces: &Pieces<G>) -> bool
     ensures { IsTrue result → (tally.now.place ≡ pieces.now.level.now.place) × (tally.now.n ≡ pieces.now.notes) × (tally.now.width ≡ pieces.now.width) }
 {
@@ -53,7 +53,7 @@ pub(crate) fn keep_all<G: Game>(
     }
 }
 
-// The tally of a piece: the one that was found, or else by the coordinator's own walk.
+// The tally of a piece: the one that a worker found, or else the one that the coordinator finds by its own walk.
 fn found_or_walked<G: Game, A: Desk, B: Desk, C: Desk, D: Desk, R: Wait>(
     rt: &R,
     alloc: Global,

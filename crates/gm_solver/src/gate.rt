@@ -1,15 +1,16 @@
-//! What is called round each delivery of a worker.
+//! What is called before and after each delivery of a worker.
 
 use gm_game::position::Place;
 use std::sync::Wait;
 
-/// Called before and after each delivery of a worker, whose number is given. It may wait, as tests do to make workers meet. A worker delivers many pairs at a time: `before` is called for each of them, and
-/// when they are delivered `after` for each. No shard is locked while it runs.
+/// Called before and after each delivery of a worker, whose number is given. It may wait, as tests do to make workers meet. A worker may deliver many pairs at
+/// a time: then `before` is called for each of
+/// them first, and `after` for each when all are delivered. No shard is locked during these calls.
 pub trait Gate: Drop + Sync {
     /// Called before a delivery at this place.
     fn before<R: Wait>(&self, rt: &R, worker: usize, place: Place);
 
-    /// Called after it.
+    /// Called after a delivery at this place.
     fn after<R: Wait>(&self, rt: &R, worker: usize, place: Place);
 }
 

@@ -36,7 +36,7 @@ pub(crate) fn deliver_listed_pairs<G: Game>(
         let place = lists.place_of(note.position(), parent);
         match shard.deliver_at(&note, parent, place) {
             Ok(_) => count += 1,
-            // A pair of the present level, into the shard's range, is refused for nothing else.
+            // A pair of the present level into the shard's range is refused only where it is too far.
             Err(_refused) => {
                 let _good = shard.range();
                 return Err(SolveError::TooFar { tier });
@@ -46,7 +46,7 @@ pub(crate) fn deliver_listed_pairs<G: Game>(
     Ok(count)
 }
 
-/// Delivers a level's pairs into the shard's range. After that each pair of the range whose child stands at or before the shard's place is there.
+/// Delivers a level's pairs into the shard's range. After that the shard has each pair of its range whose child stands at or before the shard's place.
 pub(crate) fn deliver_listed<G: Game>(
     shard: &mut Shard<G>,
     lists: &TierLists<G>,

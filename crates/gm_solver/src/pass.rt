@@ -1,4 +1,4 @@
-//! Deliveries of a level's pairs to one shard in their order: no pair is delivered twice.
+//! Deliveries of a level's pairs to one shard in the order of the pairs, so that no pair is delivered twice.
 ghost use Rattle.std.specs.Prelude.{◌≡◌, ℕ, ◌+◌, ◌*◌, ◌<◌, ◌≤◌, ◌↔◌, List, [], Some, IsTrue, length, slice_get};
 ghost use Rattle.gm_game.specs.declared.limits.TheConstants.{MOVES, TIER_SIZE};
 ghost use Rattle.gm_frontier.specs.Notes.{NoteData};
@@ -56,7 +56,7 @@ impl<L: Round> Model for Pass<L> {
 }
 
 impl<L: Round> Pass<L> {
-    /// How many pairs of the level were delivered by it: so it is the number, from 0, of the next pair.
+    /// How many pairs of the level were delivered by this pass, which is also the number, from 0, of the next pair.
     pub fn amount(&self) -> u64
         ensures value { result ≡ self.now }
         ensures small { L.base + self.now ≤ MOVES * TIER_SIZE }
@@ -64,7 +64,8 @@ impl<L: Round> Pass<L> {
         self.share.amount()
     }
 
-    /// Whether the pairs that were delivered before and by this pass are as many as the count says: at a desk (`around`) whether all pairs of the level into the range were delivered by it.
+    /// Whether the pairs that were delivered before this pass and by it are as many as the count says: for the pass of a desk (`around`), whether it has
+    /// delivered all pairs of the level into the range.
     pub fn full<G: Game>(&self, expected: &Expected<G>) -> bool
         requires { IsForSpot expected.now L.spot }
         ensures number { IsTrue result ↔ (L.base + self.now ≡ expected.now.number) }
@@ -74,7 +75,7 @@ impl<L: Round> Pass<L> {
     }
 }
 
-/// What the lock of a desk keeps: a shard to which the first pairs of the level are delivered, as many as its book says, and no later one.
+/// What the lock of a desk keeps: a shard to which the first pairs of the level are delivered, as many as its book says, and no later pair.
 #[derive(Drop)]
 struct InOrder<G: Game, L: Round> {
     shard: Shard<G>,
@@ -120,7 +121,7 @@ impl<G: Game, L: Round> InOrder<G, L> {
     }
 }
 
-/// One lock round one shard, which is delivered to in the order of the level's pairs.
+/// One shard under a lock, to which the level's pairs are delivered in their order.
 #[derive(Drop)]
 pub struct PassDesk<G: Game, L: Round> {
     held: Mutex<InOrder<G, L>>,
@@ -164,8 +165,9 @@ impl<G: Game, L: Round> PassDesk<G, L> {
         self.range
     }
 
-    /// Delivers the pass's next pair, which is the pair with number `amount()`, from 0, of the level's pairs into the range. It is new and the amount rises by one; or it is too far, which comes only
-    /// where the level is at the limit, and nothing rises. It is one delivery to the shard.
+    /// Delivers the pass's next pair: the one with number `amount()`, from 0, of the level's pairs into the range. Either it is new and the amount rises by
+    /// one, or it is too far, which happens only
+    /// where the level is at the limit, and the amount stays. Either way it is one delivery to the shard.
     pub fn deliver_next<R: Wait>(
         &self,
         rt: &R,
@@ -182,7 +184,7 @@ impl<G: Game, L: Round> PassDesk<G, L> {
         self.deliver_next_at(rt, note, parent, place, pass)
     }
 
-    /// The same, where the place of the note's position among the children of the parent is known.
+    /// As `deliver_next`, where the place of the note's position among the children of the parent is known.
     pub fn deliver_next_at<R: Wait>(
         &self,
         rt: &R,
@@ -200,7 +202,8 @@ impl<G: Game, L: Round> PassDesk<G, L> {
         self.held.lock(rt).deliver_next(note, parent, place, pass)
     }
 
-    /// The shard, where the pass is full: every pair of the level into its range is delivered, and these are as many as the pass says. So `close` by this count can't answer `Short`.
+    /// The shard, where the pass is full: every pair of the level into its range is delivered, and there are as many of them as the pass says. So `close` by
+    /// this count can't answer `Short`.
     pub fn into_whole(self, pass: Pass<L>, expected: &Expected<G>) -> Shard<G>
         requires is_for { IsForSpot expected.now L.spot }
         requires full { L.base + pass ≡ expected.now.number }

@@ -1,4 +1,4 @@
-//! One level by passes: one pass a shard, in whose order the level's pairs are delivered.
+//! One level by passes: each shard has one pass, which delivers the level's pairs to it in their order.
 ghost use Rattle.std.specs.Prelude.{◌≡◌, ◌<◌, ◌≤◌, length, IfOk, IfErr, OnOk};
 ghost use Rattle.gm_frontier.specs.Tallies.{AreTallies};
 ghost use Rattle.gm_shard.specs.State.{pairs_in};
@@ -62,7 +62,7 @@ impl<'a, G: Game, A: Round, B: Round, C: Round, D: Round> Posts<'a, G, A, B, C, 
     }
 }
 
-// Runs workers, the first in this thread and each other in one of its own, and waits for all. A worker that can't be started is done without.
+// Runs workers, the first in this thread and every other in a thread of its own, and waits for all. A worker that can't be started is done without.
 fn run_workers<
     'a,
     G: Game + Send + Sync,
@@ -158,7 +158,7 @@ fn close_post<G: Game, L: Round>(
     Ok((shard, delivered))
 }
 
-// The same in two shards. The number is that of the pairs that both had before.
+// Closes two shards as `close_post` closes one. The number is that of the pairs that both had before.
 fn close_two<G: Game, L: Round, M: Round>(
     low: Ended<G, L>,
     high: Ended<G, M>,
@@ -186,7 +186,7 @@ fn close_two<G: Game, L: Round, M: Round>(
     Ok((low, high, in_low.saturating_add(in_high)))
 }
 
-// The four posts after their workers.
+// The four posts after their workers have ended.
 #[derive(Drop)]
 struct Ends<G: Game, A: Round, B: Round, C: Round, D: Round> {
     a: Ended<G, A>,
@@ -333,7 +333,7 @@ fn serve_named<
     close_ends(alloc, pieces, ends, counts)
 }
 
-// Serves and closes a level, one pass a shard.
+// Serves and closes a level, with one pass for each shard.
 fn serve_passes<G: Game + Send + Sync, R: Threads + Wait + Sync, T: Gate, S: Source>(
     rt: &R,
     alloc: Global,
@@ -376,7 +376,8 @@ fn delivered_to<G: Game>(shards: &Four<Shard<G>>) -> u64 {
         .saturating_add(shards.d.delivered())
 }
 
-/// Serves a level and closes it: by workers with one pass a shard, and by the coordinator what they left. The number is that of the workers' deliveries.
+/// Serves a level and closes it: workers deliver its pairs, with one pass for each shard, and the coordinator those that they left. The number is that of the
+/// workers' deliveries.
 pub(crate) fn run_passes<G: Game + Send + Sync, R: Threads + Wait + Sync, T: Gate, S: Source>(
     rt: &R,
     alloc: Global,

@@ -39,9 +39,10 @@ fn finish_level<G: Game>(
     Ok(())
 }
 
-/// Takes a shard over a whole tier, and the count of its pairs, through the levels of the present phase, until nothing of the phase is left in the tier or its child tiers.
+/// Takes a shard over a whole tier, and the count of its pairs, through the levels of the present phase, until nothing of the phase is left in the tier or its
+/// child tiers.
 ///
-/// The tables of the child tiers are given. `TooFar` comes only where a canonical legal position of the tier has a remoteness one above the limit.
+/// The tables of the child tiers are given. `TooFar` is the answer only where a canonical legal position of the tier has a remoteness one above the limit.
 pub fn finish_phase<G: Game>(
     alloc: Global,
     shard: &mut Shard<G>,
@@ -60,7 +61,7 @@ pub fn finish_phase<G: Game>(
     ensures error { IfErr result (IsError G.rules shard.old.tier) }
 {
     loop {
-        // The shard is good and the tables are true, so no level lies above the limit but the last.
+        // The shard is good and the tables are true, so only the last level can lie above the limit.
         let _good = shard.range();
         let _held = tables.has(shard.tier());
         let runs = [shard.fresh(alloc)?];

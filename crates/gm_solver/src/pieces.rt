@@ -8,7 +8,7 @@ use crate::tier_lists::TierLists;
 use gm_frontier::level::Level;
 use gm_game::game::Game;
 
-/// A level, the canonical children of its tier, of how many notes a piece of the level is, and how many indexes a tile of the tier has.
+/// A level, the canonical children of its tier, the number of notes in a piece of the level, and the number of indexes in a tile of the tier.
 #[derive(Drop)]
 pub(crate) struct Pieces<'a, G: Game> {
     pub level: &'a Level<'a, G>,

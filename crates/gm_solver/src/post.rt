@@ -78,7 +78,7 @@ pub(crate) struct Post<'a, G: Game, L: Round> {
     ghost lists_are: { lists.now ≡ L.spot.tier },
 }
 
-/// A post after its workers: the desk, the pass unless it is lost, and the number of the level's pairs into the range.
+/// A post after its workers have ended: the desk, the pass unless it is lost, and the number of the level's pairs into the range.
 #[derive(Drop)]
 pub(crate) struct Ended<G: Game, L: Round> {
     pub desk: PassDesk<G, L>,
@@ -116,7 +116,8 @@ impl<'a, G: Game, L: Round> Post<'a, G, L> {
         }
     }
 
-    // Walks the level's pairs into the range to their end, and delivers the pass's next ones: how many there are. After a refusal the next pair does not come again.
+    // Walks all of the level's pairs into the range and counts them; those from the pass's next pair on are delivered. After a refusal no more are, for the
+    // pair that was refused does not come again.
     fn walk<R: Wait, T: Gate>(&self, rt: &R, gate: &T, worker: usize, pass: &mut Pass<L>) -> u64
         ensures { result ≡ length (pairs_into G.rules L.spot L.notes) }
     {
@@ -146,7 +147,7 @@ impl<'a, G: Game, L: Round> Post<'a, G, L> {
         }
     }
 
-    /// The post after its workers. Where none found the number, it is found by a walk.
+    /// The post after its workers have ended. Where no worker found the number, it is found by a walk.
     pub(crate) fn end(self) -> Ended<G, L> {
         let Post {
             desk,

@@ -1,4 +1,4 @@
-//! One level by workers: their deliveries, and what the coordinator makes up for.
+//! One level by workers: their deliveries, and those that the coordinator makes up for.
 ghost use Rattle.std.specs.Prelude.{◌≡◌, ◌+◌, ◌≤◌, IfOk, IfErr, OnOk};
 ghost use Rattle.gm_game.specs.declared.position.Place.{Place};
 ghost use Rattle.gm_frontier.specs.Levels.{place_at};
@@ -40,7 +40,7 @@ pub(crate) struct Served<G: Game> {
     pub by_workers: u64,
 }
 
-// The number of pairs that shares tell of.
+// The number of pairs that were delivered by these shares.
 fn sum_of<A: Desk, B: Desk, C: Desk, D: Desk>(shares: &Shares<A, B, C, D>) -> u64 {
     (0..4).fold(0u64, |sum, shard| sum.saturating_add(shares.amount(shard)))
 }
@@ -86,7 +86,7 @@ fn serve_named<
     })
 }
 
-/// Serves a level: by workers, and by the coordinator where they left a piece. The pairs that were refused are missing.
+/// Serves a level: workers walk its pieces, and the coordinator those that they left. Pairs that were refused are still missing.
 pub(crate) fn serve<G: Game + Send + Sync, R: Threads + Wait + Sync, T: Gate, S: Source>(
     rt: &R,
     alloc: Global,
@@ -142,7 +142,7 @@ fn close_tile<G: Game>(
     Ok(())
 }
 
-/// Serves a level and closes it: by workers, and by the coordinator what they left. The number is that of the workers' deliveries.
+/// Serves a level and closes it: workers deliver its pairs, and the coordinator those that they left. The number is that of the workers' deliveries.
 pub(crate) fn run_pieces<G: Game + Send + Sync, R: Threads + Wait + Sync, T: Gate, S: Source>(
     rt: &R,
     alloc: Global,

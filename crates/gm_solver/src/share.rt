@@ -18,7 +18,7 @@ impl Desk for Brand {
     ghost spot = { first_spot };
 }
 
-/// A part of one shard's ledger, with the number of pairs that were delivered by it.
+/// A share of one shard's ledger: some of its parts, with the number of pairs that were delivered by them.
 #[derive(Drop)]
 pub struct Share<L: Desk> {
     mark: ledger::Share<L>,
@@ -37,7 +37,7 @@ impl<L: Desk> Model for Share<L> {
 }
 
 impl<L: Desk> Share<L> {
-    // A share of a ledger whose book is empty.
+    // A share by which nothing was delivered yet.
     pub(crate) fn whole(mark: ledger::Share<L>) -> Share<L>
         requires { mark.amount ≡ 0 }
         ensures { result ≡ record { parts = mark.parts; amount = 0 } }
@@ -45,14 +45,14 @@ impl<L: Desk> Share<L> {
         Share { mark, counted: 0 }
     }
 
-    // The amount, or the greatest number where it is above that.
+    // The amount, or the greatest number of 64 bits where the amount is above it.
     pub(crate) fn amount(&self) -> u64
         ensures { result ≡ min self.now.amount (2 ^ 64 - 1) }
     {
         self.counted
     }
 
-    // Raises the book and the share.
+    // Raises the total of the book and the amount of the share.
     pub(crate) fn raise(&mut self, book: &mut Book<L>, by: u64)
         requires { 0 < self.old.parts }
         ensures book { book.new.total ≡ book.old.total + by }
@@ -62,7 +62,7 @@ impl<L: Desk> Share<L> {
         self.counted = self.counted.saturating_add(by);
     }
 
-    // Shows that the amount is at most the book's total, and the same where the share has all parts.
+    // Shows that the amount is at most the book's total, and equal to it where the share has all parts.
     pub(crate) fn audit(&mut self, book: &mut Book<L>)
         ensures same { (self.new ≡ self.old) × (book.new.total ≡ book.old.total) }
         ensures bound { self.old.amount ≤ book.old.total }
@@ -71,7 +71,7 @@ impl<L: Desk> Share<L> {
         book.audit(&mut self.mark);
     }
 
-    // Takes one part, with no amount.
+    // Takes one part off the share, with an amount of 0.
     pub(crate) fn split(&mut self) -> Share<L>
         requires { 1 < self.old.parts }
         ensures { (result ≡ record { parts = 1; amount = 0 }) × (self.new.parts + 1 ≡ self.old.parts) × (self.new.amount ≡ self.old.amount) }
@@ -80,7 +80,7 @@ impl<L: Desk> Share<L> {
         Share { mark, counted: 0 }
     }
 
-    // Puts the other's parts and amount to these.
+    // Adds the parts and the amount of another share to this one.
     pub(crate) fn join(&mut self, other: Share<L>)
         ensures { (self.new.parts ≡ self.old.parts + other.parts) × (self.new.amount ≡ self.old.amount + other.amount) × (self.new.parts ≤ L.parts) }
     {

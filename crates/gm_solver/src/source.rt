@@ -12,7 +12,7 @@ pub trait Source: Drop + Sync {
     fn next<R: Wait>(&self, rt: &R, worker: usize) -> Option<usize>;
 }
 
-/// Hands out the numbers below that of the pieces, from 0 on and each once, and then `None`.
+/// Hands out the numbers of the pieces, from 0 on and each once, and then `None`.
 #[derive(Debug, Drop)]
 pub struct Counter {
     pieces: AtomicUsize,

@@ -16,7 +16,7 @@ use gm_shard::status::Start;
 use gm_table::tables::Tables;
 use std::alloc::{AllocError, Global};
 
-// The starts of the indexes of a tier from `lo` up to `hi`.
+// What each index of a tier from `lo` up to `hi` is at the start.
 fn starts<G: Game>(alloc: Global, tier: u64, lo: u64, hi: u64) -> Result<Vec<Start>, AllocError>
     requires { lo ≤ hi }
     ensures length { IfOk result (λ list. length list.items ≡ hi - lo) }

@@ -26,17 +26,20 @@ use std::thread::Threads;
 pub struct Report {
     /// The number of deliveries, the same whatever the workers did.
     pub deliveries: u64,
-    /// How many of them the coordinator did itself.
+    /// How many of the deliveries the coordinator did itself.
     pub by_hand: u64,
 }
 
-/// Solves a tier: its true table, and what it took. Neither the table nor the number of deliveries depends on the plan, the gate or the source, or on the order in which threads take the locks.
+/// Solves a tier: the result is its true table and what it took. Neither the table nor the number of deliveries depends on the plan, the gate or the source, or
+/// on the order in which threads take the locks.
 ///
-/// The tier is split into the plan's shards. At each level workers, no more than pieces, the first in the calling thread and each other in one of its own, ask the source for pieces of the level and deliver their pairs to the
-/// shards' locks. After they have ended the coordinator delivers what is missing, which is `by_hand`. A worker that can't be started is done without.
+/// The tier is split into the plan's shards. At each level workers ask the source for pieces of the level, and deliver their pairs under the shards' locks.
+/// There are no more workers than pieces, the first runs in the
+/// calling thread and every other in a thread of its own, and a worker that can't be started is done without. After they have ended, the coordinator delivers
+/// the pairs that are missing; `by_hand` counts these.
 ///
-/// The tables of the child tiers are given, and the tier has at most `TIER_SIZE` indexes. `TooFar` comes only where a canonical legal position of the tier has a
-/// remoteness one above the limit, and where there is one the answer is never `Ok`.
+/// The tables of the child tiers are given, and the tier has at most `TIER_SIZE` indexes. `TooFar` is the answer only where a canonical legal position of the
+/// tier has a remoteness one above the limit, and where there is such a position the answer is never `Ok`.
 pub fn solve_tier<G: Game + Send + Sync, R: Threads + Wait + Sync, T: Gate, S: Source>(
     rt: &R,
     alloc: Global,
@@ -58,8 +61,9 @@ pub fn solve_tier<G: Game + Send + Sync, R: Threads + Wait + Sync, T: Gate, S: S
     solve_by(rt, alloc, tier, tables, Way::Pieces, plan, gate, source)
 }
 
-/// Solves a tier as `solve_tier` does, but with one pass a shard: at each level a worker takes the pass of a shard that the source names, and delivers the level's pairs into that shard in their order,
-/// so that none is delivered twice. The source is told of four passes a level, and a worker asks it at most four times.
+/// Solves a tier as `solve_tier` does, but with one pass for each shard: at each level a worker takes the pass of a shard that the source names, and delivers
+/// the level's pairs into that shard in their order,
+/// so that none is delivered twice. At each level the source is told of four passes, and a worker asks it at most four times.
 pub fn solve_passes<G: Game + Send + Sync, R: Threads + Wait + Sync, T: Gate, S: Source>(
     rt: &R,
     alloc: Global,
@@ -141,7 +145,7 @@ fn solve_by<G: Game + Send + Sync, R: Threads + Wait + Sync, T: Gate, S: Source>
     Ok((table, report))
 }
 
-/// The number of deliveries of a tier depends on nothing but the game: there is one such number.
+/// The number of deliveries of a tier depends on the game alone: there is only one such number.
 pub fn deliveries_once<G: Game>(tier: u64)
     ensures { (m n : ℕ) → AreDeliveries G.rules tier m → AreDeliveries G.rules tier n → m ≡ n }
 {}

@@ -18,16 +18,17 @@ use std::thread::Threads;
 /// How many indexes a block has.
 const BLOCK: u64 = 512;
 
-/// Blocks are dealt out to so many classes in turn, and found class after class: canonical positions have low indexes, so threads that take parts of the tier would have unlike work.
+/// The number of classes. Blocks are dealt out to the classes in turn, and scanned class after class: canonical positions have low indexes, so contiguous parts
+/// of the tier would mean unequal work.
 const CLASSES: u64 = 32;
 
 /// The indexes of one row of blocks, one for each class.
 const ROW: u64 = 16_384;
 
-/// A tier of no more indexes is scanned by the caller's thread alone.
+/// A tier of at most this many indexes is scanned by the caller's thread alone.
 const FEW: u64 = 2048;
 
-/// The canonical children of each inner position of a tier. Contracts see the tier. They never change, so workers share them without a lock.
+/// The canonical children of each inner position of a tier. Contracts see the tier. The lists never change, so workers share them without a lock.
 #[derive(Drop)]
 pub struct TierLists<G: Game> {
     tier: u64,
@@ -49,7 +50,8 @@ impl<G: Game> Model for TierLists<G> {
 impl<G: Game> TierLists<G> {
     ghost use Rattle.gm_shard.specs.Delivery.{IsPlaceOf};
 
-    /// The place of c among the canonical children of a parent, or `None` where it is none of them or the parent is no canonical legal position in which the game goes on. It asks the game nothing.
+    /// The place of c among the canonical children of a parent, or `None` where c is none of them or the parent is no canonical legal position in which the
+    /// game goes on. Nothing of the game is called.
     pub fn place_of(&self, c: Position, parent: u64) -> Option<u32>
         requires { parent < G.rules.tier_size self.now }
         ensures { IsPlaceOf G.rules c self.now parent result }
@@ -59,7 +61,7 @@ impl<G: Game> TierLists<G> {
     }
 }
 
-// Where the block with this number is found, where each class has so many.
+// The place at which the block with this number is scanned, where each class has `rows` blocks.
 fn place_in(rows: u64, block: u64) -> u64
     requires few { rows ≤ 1024 }
     requires within { block < rows * CLASSES }
@@ -100,7 +102,7 @@ impl<G: Game> Frame<G> {
         }
     }
 
-    // Scans the block that is found at a place.
+    // Scans the block that belongs to a place.
     fn scan(&self, alloc: Global, place: u32) -> Result<(Lists<G>, Vec<Start>), AllocError>
         ensures { IfOk result (λ found. IsBlock G.rules self.now.tier (block_in self.now.rows place) found.0 found.1.items) }
     {
@@ -126,7 +128,7 @@ impl<G: Game> Frame<G> {
         Ok(found)
     }
 
-    // The lists of the blocks, and what their indexes are at the start, each as they were found.
+    // The lists of the blocks, and apart from them what the indexes of each block are at the start, both in the order in which the blocks were scanned.
     fn separate(
         &self,
         alloc: Global,
@@ -162,7 +164,7 @@ impl<G: Game> Frame<G> {
         Ok(all)
     }
 
-    // The lists of the blocks and what their indexes are at the start, together.
+    // The canonical children of the tier, and what its indexes are at the start, from those of the blocks.
     fn join(
         &self,
         alloc: Global,
@@ -186,7 +188,7 @@ impl<G: Game> Frame<G> {
 }
 
 impl<G: Game + Send + Sync> Frame<G> {
-    // Scans all blocks, by as many threads as there are processors where there are many indexes.
+    // Scans all blocks: where there are many indexes, by as many threads as there are processors.
     fn scan_all<R: Threads + Sync>(
         &self,
         rt: &R,
@@ -227,7 +229,7 @@ pub(crate) fn scan_tier<G: Game + Send + Sync, R: Threads + Sync>(
     frame.join(alloc, found)
 }
 
-/// The same, by the caller's thread alone.
+/// As `scan_tier`, by the caller's thread alone.
 pub(crate) fn scan_alone<G: Game>(
     alloc: Global,
     tier: u64,

@@ -43,7 +43,7 @@ pub(crate) struct Tiles<G: Game> {
     ghost none_are: { HaveNoneHere G.rules shards },
 }
 
-/// How many indexes a tile has: the size of the tier by the number of shards, rounded up, and at least 1.
+/// How many indexes a tile has: the size of the tier divided by the number of shards, rounded up, and at least 1.
 pub(crate) fn tile_width<G: Game>(tier: u64, shards: usize) -> u64
     requires some { 0 < shards }
     requires few { shards ≤ 4 }
@@ -95,7 +95,7 @@ fn begin_two<G: Game>(alloc: Global, tier: u64, width: u64, k: u64, starts: &[St
     Ok((low, high))
 }
 
-// The shards of all four tiles, two by two side by side, each with the count of the pairs into it.
+// The shards of all four tiles, made by two threads with two tiles each, and each shard with the count of the pairs into it.
 fn begin_four<G: Game + Send + Sync, R: Threads + Sync>(
     rt: &R,
     alloc: Global,
@@ -166,7 +166,7 @@ impl<G: Game> Tiles<G> {
         let _d = self.shards.d.range();
     }
 
-    // Shows that a good shard has each index of the tier.
+    // Shows that each index of the tier is in the range of a good shard.
     fn show_good(&self)
         ensures { (i : ℕ) → i < G.rules.tier_size self.now.shards.a.tier → IsCovered G.rules (place_of self.now.shards.a) i }
     {
@@ -176,7 +176,7 @@ impl<G: Game> Tiles<G> {
         let _d = self.shards.d.range();
     }
 
-    /// Shows that the present level is within the limit, where something of its phase is left. For the shards are good and the tables are true.
+    /// Shows that the present level is within the limit, where something of its phase is left, since the shards are good and the tables are true.
     pub(crate) fn show_near(&self, tables: &Tables<G>)
         requires held { AreHeld G.rules tables.now self.now.shards.a.tier }
         requires left { IsLastLevel G.rules self.now.shards.a.tier self.now.shards.a.phase self.now.shards.a.level → ⊥ }

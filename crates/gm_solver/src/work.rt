@@ -22,7 +22,8 @@ pub(crate) struct Slot<G: Game, A: Desk, B: Desk, C: Desk, D: Desk> {
     ghost one_part: { shares.parts ≡ 1 },
 }
 
-// Delivers a shard's batch under one lock where it has so many pairs, and empties it. The gate is called before and after for each pair, while no lock is held.
+// Delivers a shard's batch while its lock is held once, where the batch has at least `least` pairs, and empties it. The gate is called for each pair before and
+// after, while no lock is held.
 fn deliver_from<G: Game, A: Desk, B: Desk, C: Desk, D: Desk, R: Wait, T: Gate>(
     rt: &R,
     board: &Board<G, A, B, C, D>,
@@ -88,7 +89,7 @@ fn deliver_rest<G: Game, A: Desk, B: Desk, C: Desk, D: Desk, R: Wait, T: Gate>(
     }
 }
 
-// Walks a piece's pairs once: counts each in its tile, and delivers it to its shard, many under one lock.
+// Walks a piece's pairs once: counts each in its tile, and delivers it to its shard, many pairs each time that a lock is taken.
 pub(crate) fn walk<G: Game, A: Desk, B: Desk, C: Desk, D: Desk, R: Wait, T: Gate>(
     rt: &R,
     alloc: Global,
@@ -120,7 +121,7 @@ pub(crate) fn walk<G: Game, A: Desk, B: Desk, C: Desk, D: Desk, R: Wait, T: Gate
     Ok(Tally::of(level, piece, pieces.notes, pieces.width, counts))
 }
 
-// Walks a piece, and keeps its tally. Where memory is refused it has none, and the coordinator walks the piece.
+// Walks a piece, and keeps its tally. Where memory is refused there is no tally, and the coordinator walks the piece.
 fn serve<G: Game, A: Desk, B: Desk, C: Desk, D: Desk, R: Wait, T: Gate>(
     rt: &R,
     alloc: Global,

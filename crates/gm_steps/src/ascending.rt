@@ -20,7 +20,7 @@ fn place_of(list: &[u64], x: u64) -> usize
     list.len()
 }
 
-/// Puts x into an ascending list, once.
+/// Puts x into an ascending list, unless the list has it already.
 pub fn put(list: &mut ArrayVec<u64, PARENTS>, x: u64)
     requires { array_vec_len list.old < PARENTS }
     ensures { list.new.items ≡ put_once x list.old.items }

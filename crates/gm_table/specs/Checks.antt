@@ -10,7 +10,8 @@ use Rattle.gm_table.specs.declared.checker.CheckError.{CheckError}
 use Rattle.gm_table.specs.declared.checker.CheckError.TheVariants.{OutOfMemory, WrongSize, WrongRecord}
 use Rattle.gm_table.specs.Tables.{TableData, value_in}
 
--- the records fit: each follows from those of its canonical children, which are among them in the tier itself, and in the tables elsewhere
+-- the records fit: each follows from the records of the canonical children, which are looked up among these records within the tier, and in the tables for
+-- other tiers
 abbrev pub FitTables : Rules → List TableData → ℕ → List (Option Solved) → Type 0
 FitTables r entries tier records = Fits r REMOTENESS tier (value_in r entries) records
 
@@ -18,15 +19,16 @@ FitTables r entries tier records = Fits r REMOTENESS tier (value_in r entries) r
 abbrev pub look_up : Rules → List TableData → ℕ → List (Option Solved) → Position → Option Solved
 look_up r entries tier records = look_in tier records (value_in r entries)
 
--- what they say of the canonical children of a position
+-- what the records and the tables say of the canonical children of a position
 abbrev pub child_records : Rules → List TableData → ℕ → List (Option Solved) → Position → List (Option Solved)
 child_records r entries tier records p = map (look_up r entries tier records) (canonical_children_of r p)
 
--- the value that they give a position
+-- the value that the records and the tables give a position
 abbrev pub value_from : Rules → List TableData → ℕ → List (Option Solved) → Position → Solved
 value_from r entries tier records p = settled_by r (look_up r entries tier records) p
 
--- a record of a position fits: it has that value, within the limit, and there is none where the position isn't legal and canonical
+-- a record of a position fits: it has the value that the records and the tables give, within the limit, and there is none where the position isn't legal and
+-- canonical
 abbrev pub RecordFits : Rules → List TableData → ℕ → List (Option Solved) → Position → Option Solved → Type 0
 RecordFits r entries tier records p o = IsRecord r REMOTENESS (λ q s. s ≡ value_from r entries tier records q) p o
 
@@ -53,7 +55,7 @@ IsFirstWrongIn r entries tier records lo hi first = MatchOption first (FitBetwee
 abbrev pub class_of : ℕ → ℕ
 class_of i = i / 8 % 8192
 
--- the records of the class before this index fit, and that at the index doesn't, where there is one
+-- the records of the class before this index fit, and the record at the index, where there is one, doesn't
 pub record IsFirstOfClass (r : Rules) (entries : List TableData) (tier : ℕ) (records : List (Option Solved)) (class first : ℕ) : Type 0 where
   pub before : (i : ℕ) → class_of i ≡ class → i < first → FitsAt r entries tier records i
   pub wrong : first < length records → FitsAt r entries tier records first → ⊥

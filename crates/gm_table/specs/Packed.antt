@@ -17,7 +17,7 @@ code_of Win = 4
 abbrev pub value_of : ℕ → Value
 value_of code = if code == 1 then Lose else if code == 2 then Draw else if code == 3 then Tie else Win
 
--- the record with this number: its value's code times 1,048,576, and its remoteness; none below that
+-- the record with this number, which is the code of its value times 1,048,576 plus its remoteness; numbers below 1,048,576 stand for no record
 abbrev pub unpacked : ℕ → Option Solved
 unpacked number = if number / 1048576 == 0 then None else Some (solved (value_of (number / 1048576)) (number % 1048576))
 
@@ -25,6 +25,6 @@ unpacked number = if number / 1048576 == 0 then None else Some (solved (value_of
 abbrev pub IsNear : Option Solved → Type 0
 IsNear o = IfSome o (λ s. s.remoteness ≤ REMOTENESS)
 
--- each record is
+-- each record is within the greatest remoteness
 abbrev pub AreNear : List (Option Solved) → Type 0
 AreNear records = (i : ℕ) (o : Option Solved) → slice_get records i ≡ Some o → IsNear o

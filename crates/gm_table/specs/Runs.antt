@@ -7,7 +7,7 @@ use Rattle.gm_game.specs.declared.position.Phase.TheVariants.{WinLose, Ties}
 use Rattle.gm_table.specs.declared.runs.Runs.{Runs}
 use Rattle.gm_table.specs.Levels.{indexes_at}
 
--- the run at a level: empty past the last one
+-- the run at a level: empty past the last level
 abbrev pub run_at : Vec (Vec ℕ Global) Global → ℕ → List ℕ
 run_at runs n = slice_index_or (map (λ run. run.items) runs.items) n []
 

@@ -35,7 +35,7 @@ abbrev pub table_of : List TableData → ℕ → Option TableData
 table_of [] tier = None
 table_of (t ∷ ts) tier = if t.tier == tier then Some t else table_of ts tier
 
--- one table more is held, in place of the one of its tier
+-- one more table is held, in place of any other of its tier
 abbrev pub Inserts : List TableData → List TableData → TableData → Type 0
 Inserts old new t = (tier : ℕ) → table_of new tier ≡ (if t.tier == tier then Some t else table_of old tier)
 
@@ -51,19 +51,19 @@ AreHeld r entries tier = (child : ℕ) → Contains (r.child_tiers tier) child �
 abbrev pub record_in : List TableData → Position → Option Solved
 record_in entries p = elim (table_of entries p.tier) [ None ↦ None | Some t ↦ record_at t.records p.index ]
 
--- the record of the canonical position of a legal one; none for any other
+-- the record of a legal position's canonical position; none for a position that isn't legal
 abbrev pub value_in : Rules → List TableData → Position → Option Solved
 value_in r entries p = if r.is_legal p then record_in entries (r.canonical p) else None
 
--- the indexes at a place of the table of a tier, ascending; none where it isn't held
+-- the indexes at a place of the table of a tier, ascending; none where the table isn't held
 abbrev pub run_of : List TableData → ℕ → Phase → ℕ → List ℕ
 run_of entries tier phase n = elim (table_of entries tier) [ None ↦ [] | Some t ↦ indexes_at phase n t.records ]
 
--- what is held are true tables, each of its own tier
+-- the tables that are held are true, and each is held for its own tier
 abbrev pub AreTables : Rules → List TableData → Type 0
 AreTables r entries = (tier : ℕ) (t : TableData) → table_of entries tier ≡ Some t → (t.tier ≡ tier) × IsTable r t
 
--- what a map of tables keeps: each stands at its own tier, and is true
+-- what a map of tables keeps: each table stands at its own tier, and is true
 abbrev pub AreKept : Rules → List (ℕ × TableData) → Type 0
 AreKept r [] = Unit {0}
 AreKept r (e ∷ es) = (e.1.tier ≡ e.0) × IsTable r e.1 × AreKept r es

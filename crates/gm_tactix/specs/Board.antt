@@ -1,4 +1,4 @@
--- The rules of Tac Tix, said of boards: a board is a list of tests, one a cell and the lowest cell first, whether there is a counter.
+-- The rules of Tac Tix on boards: a board is a list that tells for each cell, the lowest first, whether it has a counter.
 use Rattle.std.specs.Prelude.{ℕ, ◌+◌, ◌-◌, ◌*◌, Bool, true, false, not, ◌&&◌, ◌||◌, ◌==◌, nat_le, List, [], ◌∷◌, ◌++◌, map, reverse, replicate, length, slice_index_or, codes, if◌then◌else◌, Option, None, Some}
 use Rattle.std.specs.List.{list_all, list_any, range_with_len}
 use Rattle.gm_game.specs.declared.position.End.{End}
@@ -11,7 +11,7 @@ use Rattle.gm_board.specs.Squares.{square_symmetries}
 use Rattle.gm_pieces.specs.MoveGames.{MoveGame, move_rules}
 use Rattle.gm_tactix.specs.Segments.{is_segment, segment_cells, segment_length, numbers_end}
 
--- the side that a game is played with: N of 1 to 5, and any other plays as 1
+-- the side of the square in the game for N: N where it is 1 to 5, and 1 for any other N
 unfoldable pub side_of : ℕ → ℕ
 side_of n = if nat_le 1 n && nat_le n 5 then n else 1
 
@@ -23,7 +23,7 @@ has_counter b k = slice_index_or b k false
 abbrev pub is_full : List Bool → List ℕ → Bool
 is_full b cells = list_all (has_counter b) cells
 
--- whether none of them has
+-- whether none of these cells has a counter
 abbrev pub is_free : List Bool → List ℕ → Bool
 is_free b cells = list_all (λ k. not (has_counter b k)) cells
 
@@ -35,11 +35,11 @@ is_among k cells = list_any (λ c. c == k) cells
 unfoldable pub without : List Bool → List ℕ → List Bool
 without b cells = map (λ k. has_counter b k && not (is_among k cells)) (range_with_len 0 (length b))
 
--- the board with a counter on each of them
+-- the board with a counter on each of these cells
 unfoldable pub with_counters : List Bool → List ℕ → List Bool
 with_counters b cells = map (λ k. has_counter b k || is_among k cells) (range_with_len 0 (length b))
 
--- who has taken the last counter has won, or in misère lost: the end as the player to move sees it
+-- how the game has ended, if it has, for the player to move: the player who has taken the last counter has won, or in misère lost
 abbrev pub over : Bool → List Bool → Option End
 over misere b = if members b == 0 then Some (if misere then Win else Lose) else None
 
@@ -51,7 +51,7 @@ can_take s b m = is_segment s m && is_full b (segment_cells s m)
 unfoldable pub play : ℕ → List Bool → ℕ → List Bool
 play s b m = without b (segment_cells s m)
 
--- whether a move could have taken the counters of a segment, leaving d, from t of them
+-- whether taking a segment from a board with t counters can have left d
 unfoldable pub was_taken : ℕ → ℕ → List Bool → ℕ → Bool
 was_taken s t d m = is_segment s m && (is_free d (segment_cells s m) && (members d + segment_length m == t))
 
@@ -59,11 +59,11 @@ was_taken s t d m = is_segment s m && (is_free d (segment_cells s m) && (members
 unfoldable pub tactix_name : ℕ → Bool → List ℕ
 tactix_name s misere = codes "tactix-" ++ (48 + s) ∷ (if misere then codes "-misere" ++ 0 ∷ [] else 0 ∷ 0 ∷ 0 ∷ 0 ∷ 0 ∷ 0 ∷ 0 ∷ 0 ∷ [])
 
--- the rank of the cells with counters
+-- the index of a board: the rank of its cells with counters
 unfoldable pub counters_index : List Bool → ℕ
 counters_index b = rank (reverse b)
 
--- the board of t counters with this rank
+-- the board of t counters with this index
 unfoldable pub counters_at : ℕ → ℕ → ℕ → List Bool
 counters_at s t i = reverse (unrank (s * s) t i)
 
@@ -71,7 +71,8 @@ counters_at s t i = reverse (unrank (s * s) t i)
 abbrev pub counters_image : List ℕ → List Bool → List Bool
 counters_image g b = permute false g b
 
--- Tac Tix on a square of side s: all cells have counters at the start, and the tier is how many are left. While there are counters one of them can be taken, so no one is stuck
+-- Tac Tix on a square of side s: all cells have counters at the start, and the tier is how many are left. While there are counters one of them can be taken, so
+-- there is always a move until the game is over
 abbrev pub tactix : ℕ → Bool → MoveGame (List Bool) (List ℕ)
 tactix s misere = record {
   name = tactix_name s misere;

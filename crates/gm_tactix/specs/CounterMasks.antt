@@ -1,8 +1,144 @@
+<<<<<<< HEAD
 -- Boards of counters by masks.
 use Rattle.std.specs.Prelude.{ℕ, Bool, List, map}
 use Rattle.std.specs.List.{range_with_len}
 use Rattle.gm_board.specs.Masks.{has_cell}
+=======
+-- Boards of counters as masks: what the code's steps on masks mean for boards.
+use Rattle.std.proofs.Common.{◌≡◌, ℕ, zero, suc, ◌+◌, ◌*◌, ◌^◌, ◌<◌, ◌≤◌, Bool, true, false, not, ◌&&◌, ◌||◌, eqb, List, [], ◌∷◌, map, reverse, length, refl, sym, ap, ap₂, ◌∙◌, subst, arith, inl, inr, zero-add, eq-eqb}
+use Rattle.std.specs.Prelude.{bit_and, bit_or, count_ones, ◌↔◌}
+use Rattle.std.specs.Int.{bit_at}
+use Rattle.std.specs.List.{Contains, list_all, range_with_len}
+use Rattle.std.proofs.lemmas.Bool.{cases_eq, ne_eqb, not-true, true≢false}
+use Rattle.std.proofs.lemmas.List.{reverse-append, reverse-reverse}
+use Rattle.std.proofs.lemmas.List.FromFn.{length-map-range_with_len, get_or-map-range_with_len, map-range_with_len_more}
+use Rattle.std.proofs.lemmas.Nat.Bits.{bit_at-zero, bit_at-pow_same, bit_at-pow_other}
+use Rattle.gm_board.specs.Ranks.{members, rank}
+use Rattle.gm_board.specs.Masks.{has_cell, tests_of, mask_rank, mask_unrank, tests_none, tests_more, members_small, mask_rank_at, tests_unrank}
+use Rattle.gm_board.specs.Permutations.{permute, all_at, IsPermutationOf}
+use Rattle.gm_board.specs.Images.{image_mask, image_tests}
+use Rattle.gm_board.specs.BoardMasks.{pattern_mask, pattern_filled}
+use Rattle.gm_board.specs.laws.MaskChanges.{has_or, has_and, has_none, same_all}
+use Rattle.gm_tactix.specs.Board.{has_counter, is_full, is_free, is_among, without, with_counters, counters_index, counters_at}
+use Rattle.gm_tactix.specs.SegmentFacts.{among_in, among_from}
+use Rattle.gm_tactix.specs.CounterFacts.{same_board, all_cells, length_without, length_with, without_at, with_at, members_reverse}
+>>>>>>> english2
 
 -- the board of n cells with the counters of a mask
 unfoldable pub counters_of : ℕ → ℕ → List Bool
 counters_of n mask = map (has_cell mask) (range_with_len 0 n)
+<<<<<<< HEAD
+=======
+
+-- the board of a mask has one entry for each cell
+pub counters_length : (n mask : ℕ) → length (counters_of n mask) ≡ n
+unfolding counters_of
+counters_length n mask = length-map-range_with_len (has_cell mask) 0 n
+
+-- a cell has a counter exactly where the mask has the cell
+pub counter_at : (n mask k : ℕ) → k < n → has_counter (counters_of n mask) k ≡ has_cell mask k
+unfolding counters_of
+counter_at n mask k l = get_or-map-range_with_len (has_cell mask) 0 n k k false l (zero-add k)
+
+-- a board with the highest cell first is the list of the mask's tests
+pub counters_reverse : (n mask : ℕ) → reverse (counters_of n mask) ≡ tests_of n mask
+unfolding counters_of
+counters_reverse zero mask = sym (tests_none mask)
+counters_reverse (suc n) mask =
+    ap (λ (k : ℕ). reverse (map (has_cell mask) (range_with_len 0 k))) (let z : suc n ≡ n + 1 = omega arith in z)
+    ∙ ap reverse (map-range_with_len_more (has_cell mask) 0 n n (zero-add n))
+    ∙ reverse-append (map (has_cell mask) (range_with_len 0 n)) (has_cell mask n ∷ [])
+    ∙ ap (λ (bs : List Bool). has_cell mask n ∷ bs) (counters_reverse n mask)
+    ∙ sym (tests_more n mask)
+
+-- the number of counters of the board of a mask
+pub counters_members : (n mask : ℕ) → mask < 2 ^ n → members (counters_of n mask) ≡ count_ones mask
+counters_members n mask l = sym (members_reverse (counters_of n mask)) ∙ ap members (counters_reverse n mask) ∙ members_small n mask l
+
+-- the index of the board of a mask is the rank of the mask
+pub counters_rank : (n mask : ℕ) → n ≤ 32 → mask < 2 ^ n → counters_index (counters_of n mask) ≡ mask_rank mask
+unfolding counters_index
+counters_rank n mask s l = ap rank (counters_reverse n mask) ∙ sym (mask_rank_at n mask s l)
+
+-- the board with an index is the board of the mask with this rank
+pub counters_unrank : (s t i : ℕ) → counters_at s t i ≡ counters_of (s * s) (mask_unrank (s * s) t i)
+unfolding counters_at
+counters_unrank s t i =
+    ap reverse (sym (tests_unrank (s * s) t i) ∙ sym (counters_reverse (s * s) (mask_unrank (s * s) t i)))
+    ∙ reverse-reverse (counters_of (s * s) (mask_unrank (s * s) t i))
+
+-- the image of the board of a mask is the board of the mask's image
+pub counters_permute : (n : ℕ) (g : List ℕ) (mask : ℕ) → IsPermutationOf n g → permute false g (counters_of n mask) ≡ counters_of n (image_mask g mask)
+unfolding counters_of
+counters_permute n g mask p = image_tests n g mask p
+
+-- ---- patterns
+-- the mask of a list of cells has each of them, and no other
+pub has_pattern : (cs : List ℕ) (k : ℕ) → has_cell (pattern_mask cs) k ≡ is_among k cs
+has_pattern [] k = ap (λ (v : ℕ). eqb v 1) (bit_at-zero k)
+has_pattern (c ∷ cs) k =
+    has_or (2 ^ c) (pattern_mask cs) k ∙
+    ap₂ (λ (x y : Bool). x || y)
+    (elim (cases_eq k c) [
+      | inl e ↦ ap (λ (v : ℕ). eqb v 1) (ap (bit_at (2 ^ c)) e ∙ bit_at-pow_same c) ∙ sym (eq-eqb c k (sym e))
+      | inr n ↦ ap (λ (v : ℕ). eqb v 1) (bit_at-pow_other c k n) ∙ sym (ne_eqb c k (λ e. n (sym e)))
+    ])
+    (has_pattern cs k)
+
+-- ---- segments and masks
+module _ (n mask : ℕ) (cs : List ℕ) (below : (k : ℕ) → Contains cs k → k < n) where
+  -- the mask has all cells of the list exactly where they all have counters
+  pub full_mask : (bit_and mask (pattern_mask cs) ≡ pattern_mask cs) ↔ (is_full (counters_of n mask) cs ≡ true)
+  full_mask =
+      let same : is_full (counters_of n mask) cs ≡ list_all (has_cell mask) cs = same_all (has_counter (counters_of n mask)) (has_cell mask) cs (λ k c. counter_at n mask k (below k c)) in (
+        λ e. same ∙ (pattern_filled mask cs).0 e,
+        λ e. (pattern_filled mask cs).1 (sym same ∙ e),
+      )
+
+  -- the mask has no cell of the list exactly where none of them has a counter
+  pub free_mask : (bit_and mask (pattern_mask cs) ≡ 0) ↔ (is_free (counters_of n mask) cs ≡ true)
+  free_mask = (
+    λ e. all_cells (λ (k : ℕ). not (has_counter (counters_of n mask) k)) cs
+        (λ k c.
+        let none : (has_cell mask k && is_among k cs) ≡ false =
+        ap (λ (x : Bool). has_cell mask k && x) (sym (has_pattern cs k)) ∙ sym (has_and mask (pattern_mask cs) k) ∙ ap (λ (v : ℕ). has_cell v k) e ∙ ap (λ (v : ℕ). eqb v 1) (bit_at-zero k) in
+        ap not (counter_at n mask k (below k c) ∙ first_false (has_cell mask k) (is_among k cs) none (among_from k cs c))),
+    λ e. has_none (bit_and mask (pattern_mask cs))
+        (λ i. has_and mask (pattern_mask cs) i
+        ∙ ap (λ (x : Bool). has_cell mask i && x) (has_pattern cs i)
+        ∙ both_false (has_cell mask i) (is_among i cs)
+        (λ f. let c = among_in i cs f in sym (counter_at n mask i (below i c)) ∙ not-true _ (all_at (λ (k : ℕ). not (has_counter (counters_of n mask) k)) cs i e c))),
+  )
+    where
+      first_false : (x y : Bool) → (x && y) ≡ false → y ≡ true → x ≡ false
+      first_false true true e f = absurd (true≢false e)
+      first_false true false e f = absurd (true≢false (sym f))
+      first_false false y e f = refl
+
+      both_false : (x y : Bool) → (y ≡ true → x ≡ false) → (x && y) ≡ false
+      both_false true true h = absurd (true≢false (h refl))
+      both_false true false h = refl
+      both_false false y h = refl
+
+-- the board with some cells emptied is the board of the mask without these cells
+pub without_mask : (n mask rest : ℕ) (cs : List ℕ) → ((k : ℕ) → k < n → has_cell rest k ≡ (has_cell mask k && not (has_cell (pattern_mask cs) k)))
+    → counters_of n rest ≡ without (counters_of n mask) cs
+without_mask n mask rest cs h =
+    same_board (counters_of n rest) (without (counters_of n mask) cs)
+    (counters_length n rest ∙ sym (length_without (counters_of n mask) cs ∙ counters_length n mask))
+    (λ k l. let m : k < n = omega (arith, counters_length n rest) in
+    counter_at n rest k m ∙ h k m
+    ∙ ap₂ (λ (x y : Bool). x && not y) (sym (counter_at n mask k m)) (has_pattern cs k)
+    ∙ sym (without_at (counters_of n mask) cs k))
+
+-- the board with some cells filled is the board of the mask with these cells
+pub with_mask : (n mask : ℕ) (cs : List ℕ) → counters_of n (bit_or mask (pattern_mask cs)) ≡ with_counters (counters_of n mask) cs
+with_mask n mask cs =
+    same_board (counters_of n (bit_or mask (pattern_mask cs))) (with_counters (counters_of n mask) cs)
+    (counters_length n (bit_or mask (pattern_mask cs)) ∙ sym (length_with (counters_of n mask) cs ∙ counters_length n mask))
+    (λ k l. let m : k < n = omega (arith, counters_length n (bit_or mask (pattern_mask cs))) in
+    counter_at n (bit_or mask (pattern_mask cs)) k m
+    ∙ has_or mask (pattern_mask cs) k
+    ∙ ap₂ (λ (x y : Bool). x || y) (sym (counter_at n mask k m)) (has_pattern cs k)
+    ∙ sym (with_at (counters_of n mask) cs k (subst (λ (j : ℕ). k < j) (sym (counters_length n mask)) m)))
+>>>>>>> english2

@@ -2,39 +2,39 @@
 use Rattle.std.specs.Prelude.{ℕ, zero, suc, ◌+◌, ◌*◌, ◌/◌, ◌%◌, Bool, ◌&&◌, ◌==◌, nat_le, nat_lt, List, [], ◌∷◌, if◌then◌else◌}
 use Rattle.std.specs.List.{filter, range_with_len}
 
--- the least cell
+-- the least cell of a segment
 abbrev pub first_cell : ℕ → ℕ
 first_cell m = m / 16
 
--- how many cells
+-- how many cells a segment has
 abbrev pub segment_length : ℕ → ℕ
 segment_length m = m % 16 / 2
 
--- whether it goes down a column; else it goes along a row
+-- whether a segment goes down a column; else it goes along a row
 abbrev pub goes_down : ℕ → Bool
 goes_down m = m % 2 == 1
 
--- how far each cell is from the one before, on a square of side s
+-- the step from each cell of a segment to the next, on a square of side s
 abbrev pub stride : ℕ → ℕ → ℕ
 stride s m = if goes_down m then s else 1
 
--- n cells from c on, each so far from the one before
+-- n cells from c on, each this far from the one before
 abbrev pub cells_from : ℕ → ℕ → ℕ → List ℕ
 cells_from c step zero = []
 cells_from c step (suc n) = c ∷ cells_from (c + step) step n
 
--- the cells
+-- the cells of a segment
 unfoldable pub segment_cells : ℕ → ℕ → List ℕ
 segment_cells s m = cells_from (first_cell m) (stride s m) (segment_length m)
 
--- whether a number is that of a segment: it has a cell and stays in its row or column. A single cell goes along its row
+-- whether there is a segment with this number: it has a cell and stays in its row or column, and a single cell goes along its row
 unfoldable pub is_segment : ℕ → ℕ → Bool
 is_segment s m = nat_lt (first_cell m) (s * s)
     && (if goes_down m
     then nat_le 2 (segment_length m) && nat_le (first_cell m / s + segment_length m) s
     else nat_le 1 (segment_length m) && nat_le (first_cell m % s + segment_length m) s)
 
--- all numbers of segments are below this one
+-- all numbers of segments are below this number
 abbrev pub numbers_end : ℕ → ℕ
 numbers_end s = 16 * (s * s)
 

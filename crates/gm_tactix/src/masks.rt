@@ -2,10 +2,10 @@
 ghost use Rattle.std.specs.Prelude.{◌≡◌, ◌≤◌, ◌<◌, ◌^◌, ◌*◌};
 ghost use Rattle.gm_tactix.specs.SegmentMasks.{segment_mask as segment_mask_of};
 
-/// Numbers of segments are below this.
+/// All numbers of segments are below this.
 const NUMBERS: u32 = 400;
 
-/// For each side from 1 the mask of the segment with each number; 0 where no segment has it.
+/// For each side from 1 and each number, the mask of the segment with this number; 0 where there is none.
 static MASKS: [[u32; 400]; 5] = [
     [
         0, 0, 1, 0, 0, 0, 0, 0, 0, 0, 0, 0, 0, 0, 0, 0, 0, 0, 0, 0, 0, 0, 0, 0, 0, 0, 0, 0, 0, 0,
@@ -95,7 +95,7 @@ static MASKS: [[u32; 400]; 5] = [
     ],
 ];
 
-/// The mask of the cells of the segment with this number; 0 where no segment of the square has it.
+/// The mask of the cells of the segment with this number; 0 where the square has no such segment.
 #[tactic(auto, using(crate::proofs::MaskTable::mask_at, crate::proofs::MaskTable::mask_past))]
 pub fn segment_mask(side: u32, number: u32) -> u32
     requires low { 1 ≤ side }

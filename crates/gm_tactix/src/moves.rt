@@ -7,7 +7,7 @@ ghost use Rattle.gm_tactix.specs.CounterMasks.{counters_of};
 use crate::masks::segment_mask;
 use crate::segment::Segment;
 
-/// Whether the segment with this number can be taken: false where no segment has it.
+/// Whether the segment with this number can be taken: false where there is no such segment.
 pub fn can_take(side: u32, counters: u32, number: u32) -> bool
     requires low { 1 ≤ side }
     requires high { side ≤ 5 }
@@ -32,7 +32,7 @@ pub fn play(side: u32, counters: u32, number: u32) -> u32
     }
 }
 
-/// Whether a move can have taken the counters of the segment with this number and left these, from so many: false where no segment has it.
+/// Whether taking the segment with this number can have left these counters of `tier` counters: false where there is no such segment.
 pub fn was_taken(side: u32, tier: u64, counters: u32, number: u32) -> bool
     requires low { 1 ≤ side }
     requires high { side ≤ 5 }
@@ -43,12 +43,12 @@ pub fn was_taken(side: u32, tier: u64, counters: u32, number: u32) -> bool
     if cells == 0 {
         return false;
     }
-    // The length stands in the number.
+    // The number of a segment tells its length.
     let number_before = u64::from(counters.count_ones() + number % 16 / 2);
     counters & cells == 0 && number_before == tier
 }
 
-/// The counters before that move.
+/// The counters before the segment with this number was taken.
 pub fn given_back(side: u32, tier: u64, counters: u32, number: u32) -> u32
     requires low { 1 ≤ side }
     requires high { side ≤ 5 }

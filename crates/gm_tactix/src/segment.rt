@@ -4,7 +4,8 @@ ghost use Rattle.gm_board.specs.BoardMasks.{pattern_mask};
 ghost use Rattle.gm_tactix.specs.Texts.{last_cell};
 ghost use Rattle.gm_tactix.specs.Segments.{first_cell, segment_length, goes_down, stride, segment_cells, is_segment};
 
-/// A segment of a square of side 1 to 5. Its number is `16*first + 2*length + direction`, first the least cell, direction 0 in a row and 1 in a column; a single cell has direction 0 (docs/GAMES.md, Tac Tix).
+/// A segment of a square of side 1 to 5. Its number is `16*first + 2*length + direction`, first the least cell, direction 0 in a row and 1 in a column; a
+/// single cell has direction 0 (docs/GAMES.md, Tac Tix).
 #[derive(Clone, Copy, Debug, PartialEq, Eq)]
 pub struct Segment {
     pub side: u32,
@@ -15,7 +16,7 @@ pub struct Segment {
 }
 
 impl Segment {
-    /// The segment with this number, or `None` where no segment of the square has it.
+    /// The segment with this number, or `None` where the square has no such segment.
     pub fn numbered(side: u32, number: u32) -> Option<Segment>
         requires low { 1 ≤ side }
         requires high { side ≤ 5 }
@@ -28,8 +29,13 @@ impl Segment {
         }
     }
 
+<<<<<<< HEAD
     /// The least cell.
     #[tactic(auto, using(crate::specs::laws::SegmentFacts::first_within))]
+=======
+    /// Its least cell.
+    #[tactic(auto, using(crate::specs::SegmentFacts::first_within))]
+>>>>>>> english2
     pub fn first(self) -> u32
         ensures value { result ≡ first_cell self.number }
         ensures within { result < self.side * self.side }
@@ -37,7 +43,7 @@ impl Segment {
         self.number / 16
     }
 
-    /// How many cells.
+    /// The number of its cells.
     pub fn length(self) -> u32
         ensures value { result ≡ segment_length self.number }
         ensures low { 1 ≤ result }
@@ -46,7 +52,7 @@ impl Segment {
         self.number % 16 / 2
     }
 
-    /// How far each cell is from the one before.
+    /// The step from each of its cells to the next.
     pub fn stride(self) -> u32
         ensures value { result ≡ stride self.side self.number }
         ensures high { result ≤ self.side }
@@ -54,7 +60,7 @@ impl Segment {
         if self.number % 2 == 1 { self.side } else { 1 }
     }
 
-    /// The last cell.
+    /// Its last cell.
     pub fn last(self) -> u32
         ensures value { result ≡ last_cell self.side self.number }
         ensures within { result < self.side * self.side }
@@ -62,7 +68,7 @@ impl Segment {
         self.first() + self.stride() * (self.length() - 1)
     }
 
-    /// The mask of the cells.
+    /// The mask of its cells.
     pub fn mask(self) -> u32
         ensures value { result ≡ pattern_mask (segment_cells self.side self.number) }
         ensures within { result < 2 ^ (self.side * self.side) }
@@ -78,7 +84,7 @@ impl Segment {
     }
 }
 
-// Whether a segment has the number.
+// Whether there is a segment with this number.
 #[tactic(auto, unfolding(crate::specs::Segments::is_segment))]
 fn is_numbered(side: u32, number: u32) -> bool
     requires low { 1 ≤ side }

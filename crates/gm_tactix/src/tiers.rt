@@ -1,4 +1,4 @@
-//! Tiers: a tier is the number of counters that are left.
+//! Tiers: the tier of a board is the number of its counters.
 ghost use Rattle.std.specs.Prelude.{◌≡◌, ◌≤◌, ◌*◌, ◌-◌, ◌==◌, if◌then◌else◌, None, Some};
 ghost use Rattle.std.specs.List.{range_with_len};
 ghost use Rattle.gm_board.specs.Binomials.{binomial as binomial_of};
@@ -26,7 +26,7 @@ pub fn name(side: u32, misere: bool) -> [u8; NAME]
     }
 }
 
-/// How many boards of a square of side up to 5 have so many counters: 0 where there are fewer cells.
+/// How many boards of a square of side up to 5 have `tier` counters: 0 where there are fewer cells.
 #[tactic(auto, using(gm_board::specs::Binomials::binomial_past))]
 pub fn tier_size(side: u32, tier: u64) -> u64
     requires { side ≤ 5 }
@@ -40,7 +40,7 @@ pub fn tier_size(side: u32, tier: u64) -> u64
     }
 }
 
-/// The end for the player to move where so many counters are left, or `None` where there are some: without counters Lose, and in misère Win.
+/// How the game has ended for the player to move with `tier` counters left: without counters Lose, or Win in misère, and `None` where there are counters.
 pub fn end(misere: bool, tier: u64) -> Option<End>
     ensures { result ≡ (if tier == 0 then Some (if misere then End.Win else End.Lose) else None) }
 {
@@ -54,7 +54,7 @@ pub fn end(misere: bool, tier: u64) -> Option<End>
     }
 }
 
-/// The tiers that a move can lead to, ascending: from 1 up to `side` counters less.
+/// The tiers that a move can lead to, ascending: those with 1 to `side` counters fewer.
 pub fn child_tiers(side: u32, tier: u64) -> ArrayVec<u64, CHILD_TIERS>
     requires { side ≤ 5 }
     ensures { result.items ≡ range_with_len (tier - side) (tier - (tier - side)) }

@@ -1,4 +1,4 @@
--- The rules of Takeaway: twelve counters, one to three are taken at a time, and who takes the last one wins.
+-- The rules of Takeaway: there are twelve counters, a move takes one to three of them, and the player who takes the last counter wins.
 use Rattle.std.specs.Prelude.{ℕ, List, [], ◌∷◌, ◌++◌, codes}
 use Rattle.gm_game.specs.Rules.{Rules}
 use Rattle.gm_toys.specs.Subtraction.{subtraction}
@@ -7,6 +7,6 @@ use Rattle.gm_toys.specs.Subtraction.{subtraction}
 abbrev pub takeaway_name : List ℕ
 takeaway_name = codes "takeaway" ++ 0 ∷ 0 ∷ 0 ∷ 0 ∷ 0 ∷ 0 ∷ 0 ∷ 0 ∷ []
 
--- from twelve down to none
+-- the game from twelve counters down to none
 abbrev pub takeaway : Rules
 takeaway = subtraction takeaway_name 3 12

@@ -1,19 +1,19 @@
--- Whose the text of a tier is.
+-- The game to which the text of a tier belongs.
 use Rattle.std.specs.Prelude.{◌≡◌, ◌≢◌, ℕ, ◌-◌, ◌<◌, ◌≤◌, ◌⊎◌, List, ◌++◌, length, take, drop, codes}
 use Rattle.std.specs.Fmt.{decimal}
 use Rattle.sha2.specs.Sha256.{sha256}
 
--- the text of a tier's file, of any version: what each begins with, and at its end the digest of all before
+-- an intact text of a tier's file, of any version: it begins as all of them do, and ends with the digest of all bytes before it
 pub record IsIntact (text : List ℕ) : Type 0 where
   pub long : 72 ≤ length text
   pub begins : take 6 text ≡ codes "GMTIER"
   pub digest : drop (length text - 32) text ≡ sha256 (take (length text - 32) text)
 
--- the name of the game that a tier's file is of
+-- the name of the game in a tier's file
 abbrev pub owner_of : List ℕ → List ℕ
 owner_of text = take 16 (drop 8 text)
 
--- an intact file of another game than these bytes are a file of
+-- the text is an intact file of another game than the one that these bytes name
 abbrev pub IsAnothers : List ℕ → List ℕ → Type 0
 IsAnothers text bytes = IsIntact text × ((length bytes < 24) ⊎ (owner_of text ≢ owner_of bytes))
 

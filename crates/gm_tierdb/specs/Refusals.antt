@@ -20,15 +20,15 @@ IsOld Two first = first ≡ magic One
 abbrev pub HasMagic : Version → List ℕ → Type 0
 HasMagic v bytes = (40 ≤ length bytes) × (take 8 bytes ≡ magic v)
 
--- so is the game's name
+-- the first bytes and the game's name are right
 abbrev pub HasName : Version → List ℕ → List ℕ → Type 0
 HasName v name bytes = HasMagic v bytes × (take 16 (drop 8 bytes) ≡ name)
 
--- and the tier
+-- the first bytes, the game's name and the tier are right
 abbrev pub HasTier : Version → List ℕ → ℕ → List ℕ → Type 0
 HasTier v name tier bytes = HasName v name bytes × (take 8 (drop 24 bytes) ≡ to_le_bytes w64 tier)
 
--- and its size
+-- the whole header is right: also the tier's size
 abbrev pub HasHeader : Version → Rules → ℕ → List ℕ → Type 0
 HasHeader v r tier bytes = HasTier v r.name tier bytes × (take 8 (drop 32 bytes) ≡ to_le_bytes w64 (r.tier_size tier))
 
@@ -43,7 +43,7 @@ file_len v size = 72 + width v * size
 abbrev pub records_part : Version → ℕ → List ℕ → List ℕ
 records_part v size bytes = drop 40 (take (body_len v size) bytes)
 
--- these bytes are so many records
+-- these bytes are this many records
 abbrev pub HasRecords : Version → ℕ → List ℕ → Type 0
 HasRecords v size bytes = (records : List (Option Solved)) × AreRecords v size records bytes
 

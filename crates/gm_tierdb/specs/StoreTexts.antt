@@ -23,7 +23,7 @@ Sets tier bytes old new = (new tier ≡ Some bytes) × AreSameBut tier old new
 abbrev pub MaySet : ℕ → List ℕ → Texts → Texts → Type 0
 MaySet tier bytes old new = ((new tier ≡ old tier) ⊎ (new tier ≡ Some bytes)) × AreSameBut tier old new
 
--- how many failures an answer is
+-- how many failures of the store an answer tells of: 1 for `Failed`, and else 0
 abbrev pub failures_of : {T : Type 0} → Result T StoreError → ℕ
 failures_of (Ok x) = 0
 failures_of (Err OutOfMemory) = 0

@@ -67,22 +67,22 @@ record_number v (Some s) = code s.value * step v + s.remoteness
 abbrev pub record_bytes : Version → Option Solved → List ℕ
 record_bytes v o = to_le_bytes (word v) (record_number v o)
 
--- these bytes are so many records that a file can have
+-- these bytes are this many records that a file can have
 pub record AreRecords (v : Version) (size : ℕ) (records : List (Option Solved)) (bytes : List ℕ) : Type 0 where
   pub whole : length records ≡ size
   pub storable : All (IsStorable v) records
   pub text : bytes ≡ flat_map (record_bytes v) records
 
--- all but the digest
+-- the text of a tier file without its digest
 abbrev pub body : Version → List ℕ → ℕ → List (Option Solved) → List ℕ
 body v name tier records =
     magic v ++ name ++ to_le_bytes w64 tier ++ to_le_bytes w64 (length records) ++ flat_map (record_bytes v) records
 
--- the text of a tier file: magic, name, tier, size, records, and the digest of all that
+-- the text of a tier file: magic, name, tier, size, records, and the digest of all these bytes
 unfoldable pub version_text : Version → List ℕ → ℕ → List (Option Solved) → List ℕ
 version_text v name tier records = body v name tier records ++ sha256 (body v name tier records)
 
--- the text of a tier file, and that of an older one
+-- the text of a tier file of the present version, and of the older one
 abbrev pub tier_text : List ℕ → ℕ → List (Option Solved) → List ℕ
 tier_text = version_text Two
 

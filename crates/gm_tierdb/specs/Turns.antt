@@ -1,7 +1,7 @@
 -- Which calls fail on purpose.
 use Rattle.std.specs.Prelude.{ℕ, ◌+◌, ◌-◌, ◌^◌, ◌≤◌, min}
 
--- the number of the next call, which stays at its greatest
+-- the number of the next call; the greatest number stays
 abbrev pub next_call : ℕ → ℕ
 next_call calls = min (calls + 1) (2 ^ 64 - 1)
 

@@ -33,7 +33,7 @@ IsTooLarge r first tier = (TIER_SIZE < r.tier_size tier) × (found : List ℕ) �
 abbrev pub HasTooMany : Rules → ℕ → Type 0
 HasTooMany r first = (found : List ℕ) × (tier : ℕ) × IsFoundNext r first found tier × (length found ≡ TIERS) × (r.tier_size tier ≤ TIER_SIZE)
 
--- more than n tiers are reached: each of these is, and no two are the same
+-- more than n tiers are reached from the first one, no two of them the same
 abbrev pub AreMoreThan : Rules → ℕ → ℕ → Type 0
 AreMoreThan r first n = (tiers : List ℕ) × (n < length tiers) × AllPairs (λ (t u : ℕ). t ≢ u) tiers × ((t : ℕ) → Contains tiers t → IsReachedFrom r first t)
 

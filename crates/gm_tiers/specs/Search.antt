@@ -18,25 +18,25 @@ comes_to r (Ok found) t =
     else (if nat_lt TIER_SIZE (r.tier_size t) then Err (TierTooLarge t)
     else (if nat_le TIERS (length found) then Err TooManyTiers else Ok (found ++ t ∷ [])))
 
--- it comes to each of these in turn
+-- the search comes to each of these tiers in turn
 abbrev pub comes_to_all : Rules → Search → List ℕ → Search
 comes_to_all r s [] = s
 comes_to_all r s (t ∷ ts) = comes_to_all r (comes_to r s t) ts
 
--- it comes to the child tiers of the tier at this place, by ascending number
+-- the search comes to the child tiers of the tier at this place, by ascending number
 abbrev pub comes_to_children : Rules → ℕ → Search → Search
 comes_to_children r k (Err e) = Err e
 comes_to_children r k (Ok found) = elim (slice_get found k) [ None ↦ Ok found | Some t ↦ comes_to_all r (Ok found) (r.child_tiers t) ]
 
--- and to those of the n tiers from this place on, one after the other
+-- the search comes to the child tiers of n tiers, from this place on, one after another
 abbrev pub goes_through : Rules → ℕ → ℕ → Search → Search
 goes_through r zero k s = s
 goes_through r (suc n) k s = goes_through r n (suc k) (comes_to_children r k s)
 
--- the search from the first tier: as many places as there may be tiers
+-- the search from the first tier, which goes through as many places as there may be tiers
 abbrev pub search_of : Rules → ℕ → Search
 search_of r first = goes_through r TIERS 0 (comes_to r (Ok []) first)
 
--- where this is the error that is answered, the search ends with it, unless memory has run out
+-- an error that is answered is the one that the search ends with, unless memory has run out
 abbrev pub EndsWith : Search → TierError → Type 0
 EndsWith s e = (e ≡ OutOfMemory) ⊎ (s ≡ Err e)

@@ -7,6 +7,6 @@ use Rattle.gm_toys.specs.Subtraction.{subtraction}
 abbrev pub chain_name : List ℕ
 chain_name = codes "chain" ++ 0 ∷ 0 ∷ 0 ∷ 0 ∷ 0 ∷ 0 ∷ 0 ∷ 0 ∷ 0 ∷ 0 ∷ 0 ∷ []
 
--- from n down to 0
+-- the game from n down to 0
 abbrev pub chain : ℕ → Rules
 chain n = subtraction chain_name 1 n

@@ -7,6 +7,6 @@ use Rattle.gm_toys.specs.Subtraction.{subtraction}
 abbrev pub countdown_name : List ℕ
 countdown_name = codes "countdown" ++ 0 ∷ 0 ∷ 0 ∷ 0 ∷ 0 ∷ 0 ∷ 0 ∷ []
 
--- from n down to 0
+-- the game from n down to 0
 abbrev pub countdown : ℕ → Rules
 countdown n = subtraction countdown_name 2 n

@@ -10,7 +10,7 @@ use Rattle.gm_toys.specs.Subtraction.{moves_down}
 abbrev pub stairs_name : List ℕ
 stairs_name = codes "stairs" ++ 0 ∷ 0 ∷ 0 ∷ 0 ∷ 0 ∷ 0 ∷ 0 ∷ 0 ∷ 0 ∷ 0 ∷ []
 
--- x alone where the test holds, and nothing elsewhere
+-- x alone where the test holds, and else nothing
 abbrev pub only_if : Bool → ℕ → List ℕ
 only_if b x = if b then x ∷ [] else []
 
@@ -22,7 +22,7 @@ tier_below n t = only_if (nat_lt 0 t && nat_le t n) (t - 1)
 abbrev pub position_above : ℕ → ℕ → ℕ → List ℕ
 position_above n c t = only_if ((t == c + 1) && nat_le t n) 0
 
--- from tier n down to tier 0, where who is to move has lost
+-- from tier n down to tier 0, where the player to move has lost
 abbrev pub stairs : ℕ → Rules
 stairs n = record {
   name = stairs_name;

@@ -1,4 +1,4 @@
--- Subtraction games: a number goes down by one or more, and who is to move at zero has lost.
+-- Subtraction games: a number goes down by one or more, and the player to move at zero has lost.
 use Rattle.std.specs.Prelude.{ℕ, ◌+◌, ◌-◌, min, ◌&&◌, ◌==◌, nat_le, List, [], if◌then◌else◌, None, Some}
 use Rattle.std.specs.List.{range_with_len}
 use Rattle.std.specs.Fmt.{decimal}
@@ -6,7 +6,7 @@ use Rattle.gm_game.specs.declared.position.Position.{Position}
 use Rattle.gm_game.specs.declared.position.End.TheVariants.{Lose}
 use Rattle.gm_game.specs.Rules.{Rules, at}
 
--- the moves at i: the numbers from 1 up to the most that may be taken, as far as i goes
+-- the moves at i: the numbers from 1 up to the most that may be taken, but at most i
 abbrev pub moves_down : ℕ → ℕ → List ℕ
 moves_down most i = range_with_len 1 (min most i)
 
@@ -14,7 +14,7 @@ moves_down most i = range_with_len 1 (min most i)
 abbrev pub numbers_above : ℕ → ℕ → ℕ → List ℕ
 numbers_above most n i = range_with_len (i + 1) (min most (n - i))
 
--- from n down to 0, at most so many at a time; one tier, and no symmetry
+-- the game from n down to 0, with at most this many taken at a time; one tier, and no symmetry
 abbrev pub subtraction : List ℕ → ℕ → ℕ → Rules
 subtraction name most n = record {
   name = name;
@@ -34,6 +34,6 @@ subtraction name most n = record {
 abbrev pub number_text : Position → List ℕ
 number_text p = decimal p.index
 
--- and a move's is what is taken
+-- a move's text is the number that it takes
 abbrev pub step_text : Position → ℕ → List ℕ
 step_text p m = decimal m

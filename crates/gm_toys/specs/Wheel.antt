@@ -10,7 +10,7 @@ use Rattle.gm_game.specs.Rules.{Rules, at}
 abbrev pub wheel_name : List ℕ
 wheel_name = codes "wheel" ++ 0 ∷ 0 ∷ 0 ∷ 0 ∷ 0 ∷ 0 ∷ 0 ∷ 0 ∷ 0 ∷ 0 ∷ 0 ∷ []
 
--- where the moves from i lead
+-- the numbers to which the moves from i lead
 abbrev pub wheel_targets : ℕ → List ℕ
 wheel_targets i =
     if i == 1 then 0 ∷ 2 ∷ [] else
@@ -22,7 +22,7 @@ wheel_targets i =
     if i == 8 then 3 ∷ 6 ∷ [] else
     if i == 9 then 1 ∷ 7 ∷ [] else []
 
--- where a move leads to i from
+-- the numbers from which a move leads to i
 abbrev pub wheel_sources : ℕ → List ℕ
 wheel_sources i =
     if i == 0 then 1 ∷ 6 ∷ [] else
@@ -34,11 +34,11 @@ wheel_sources i =
     if i == 6 then 7 ∷ 8 ∷ [] else
     if i == 7 then 9 ∷ [] else []
 
--- who is to move at 0 has tied, and at 5 has lost
+-- the player to move has a tie at 0, and has lost at 5
 abbrev pub wheel_end : ℕ → Option End
 wheel_end i = if i == 0 then Some Tie else if i == 5 then Some Lose else None
 
--- from 9 along the moves, each numbered by its target; one tier, and no symmetry
+-- the game from 9, each move numbered by its target; one tier, and no symmetry
 abbrev pub wheel : Rules
 wheel = record {
   name = wheel_name;

@@ -6,7 +6,7 @@ use Rattle.std.proofs.lemmas.List.{map-id}
 use Rattle.std.proofs.lemmas.List.FromFn.{map-range_with_len_more, length-range_with_len, get_or-range_with_len}
 use Rattle.std.specs.List.{Contains, fold, filter, filter_map, cons_option, range_with_len}
 
--- what a conjunction of tests says
+-- the first test of a conjunction
 pub and_left : (a b : Bool) → (a && b) ≡ true → a ≡ true
 and_left a b e = grind arith
 
@@ -18,11 +18,11 @@ and_right a b e = grind arith
 pub and_both : (a b : Bool) → a ≡ true → b ≡ true → (a && b) ≡ true
 and_both a b e f = grind arith
 
--- what stands in a list
+-- the head of a list stands in the list
 pub contains_head : {X : Type 0} (x : X) (xs : List X) → Contains (x ∷ xs) x
 contains_head x xs = (0, omega arith, refl)
 
--- what stands in the tail
+-- what stands in the tail stands in the list
 pub contains_later : {X : Type 0} (y : X) (xs : List X) (x : X) → Contains xs x → Contains (y ∷ xs) x
 contains_later y xs x c = (suc c.0, omega (arith, c.1), c.2)
 
@@ -42,7 +42,7 @@ contains_unmap f (x ∷ xs) y c =
     let l : c.0 < length (x ∷ xs) = omega (arith, length-map (x ∷ xs) f, c.1) in
     (get_or (x ∷ xs) c.0 x, Contains-get_or (x ∷ xs) c.0 x l, sym (get_or-map f (x ∷ xs) c.0 x y l) ∙ c.2)
 
--- the least
+-- the least is no greater than the first
 pub least_le_first : (a : ℕ) (xs : List ℕ) → fold min a xs ≤ a
 least_le_first a [] = omega arith
 least_le_first a (x ∷ xs) = omega (arith, least_le_first (min a x) xs)
@@ -71,7 +71,7 @@ least_is a (x ∷ xs) =
       | inr d ↦ inr (contains_later x xs _ d)
     ]
 
--- the least of a list that has the first
+-- the least stands in a list that has the first
 pub least_in : (a : ℕ) (xs : List ℕ) → Contains xs a → Contains xs (fold min a xs)
 least_in a xs c =
     elim (least_is a xs) [

@@ -14,7 +14,7 @@ ascending_cons : (x : ℕ) (xs : List ℕ) → ((y : ℕ) → Contains xs y → 
 ascending_cons x [] h a = tt
 ascending_cons x (y ∷ xs) h a = (h y (contains_head y xs), a)
 
--- what a test keeps of a range ascends
+-- the numbers of a range that pass a test ascend
 pub filter_ascending : (p : ℕ → Bool) (a n : ℕ) → IsAscending (filter p (range_with_len a n))
 filter_ascending p a zero = tt
 filter_ascending p a (suc n) =
