@@ -18,13 +18,8 @@ fn is_free(board: &Hunt, point: u32) -> bool
     !board.hounds[point as usize] && point != board.hare
 }
 
-<<<<<<< HEAD
-// Whether the side to move can go along an edge: a hound not back, the hare either way.
-#[tactic(auto, using(crate::specs::laws::PointFacts::joined_from, crate::specs::laws::PointFacts::joined_to))]
-=======
 // Whether a piece of the side to move can go along an edge: a hound can't go back, and the hare can go either way.
-#[tactic(auto, using(crate::specs::PointFacts::joined_from, crate::specs::PointFacts::joined_to))]
->>>>>>> english2
+#[tactic(auto, using(crate::specs::laws::PointFacts::joined_from, crate::specs::laws::PointFacts::joined_to))]
 fn can_go(board: &Hunt, step: Step) -> bool
     requires { are_joined_of step.from step.to ≡ true }
     ensures { result ≡ can_go_of board.now step.from step.to }
@@ -74,13 +69,8 @@ pub fn play(board: &Hunt, number: u32) -> Hunt
     }
 }
 
-<<<<<<< HEAD
-// Whether the side that has moved can have gone along an edge.
-#[tactic(auto, using(crate::specs::laws::PointFacts::joined_from, crate::specs::laws::PointFacts::joined_to))]
-=======
 // Whether a piece of the side that moved last can have gone along an edge.
-#[tactic(auto, using(crate::specs::PointFacts::joined_from, crate::specs::PointFacts::joined_to))]
->>>>>>> english2
+#[tactic(auto, using(crate::specs::laws::PointFacts::joined_from, crate::specs::laws::PointFacts::joined_to))]
 fn can_have_gone(board: &Hunt, step: Step) -> bool
     requires { are_joined_of step.from step.to ≡ true }
     ensures { result ≡ can_have_gone_of board.now step.from step.to }

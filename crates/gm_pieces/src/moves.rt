@@ -17,13 +17,8 @@ pub fn plays_on<T: MoveRules>(board: T::Board) -> bool
     T::over(board).is_none()
 }
 
-<<<<<<< HEAD
-/// The numbers of the moves, were the game not over, ascending.
-#[tactic(auto, using(gm_board::specs::laws::Filters::filter_in, gm_board::specs::laws::Filters::filter_out, crate::specs::laws::MoveLaws::all_steps))]
-=======
 /// The numbers of the moves that could be made if the game were not over, ascending.
-#[tactic(auto, using(gm_board::specs::laws::Filters::filter_in, gm_board::specs::laws::Filters::filter_out, crate::specs::MoveLaws::all_steps))]
->>>>>>> english2
+#[tactic(auto, using(gm_board::specs::laws::Filters::filter_in, gm_board::specs::laws::Filters::filter_out, crate::specs::laws::MoveLaws::all_steps))]
 pub fn list_moves<T: MoveRules>(board: T::Board) -> ArrayVec<u32, MOVES>
     requires { T.game.legal (T.cells board) ≡ true }
     ensures { result.items ≡ steps T.game (T.cells board) }
@@ -37,13 +32,8 @@ pub fn list_moves<T: MoveRules>(board: T::Board) -> ArrayVec<u32, MOVES>
     list
 }
 
-<<<<<<< HEAD
-/// Whether no move can be made, were the game not over.
-#[tactic(auto, using(gm_board::specs::laws::Filters::filter_out, crate::specs::laws::MoveLaws::step_listed, crate::specs::laws::MoveLaws::all_steps))]
-=======
 /// Whether no move could be made if the game were not over.
-#[tactic(auto, using(gm_board::specs::laws::Filters::filter_out, crate::specs::MoveLaws::step_listed, crate::specs::MoveLaws::all_steps))]
->>>>>>> english2
+#[tactic(auto, using(gm_board::specs::laws::Filters::filter_out, crate::specs::laws::MoveLaws::step_listed, crate::specs::laws::MoveLaws::all_steps))]
 pub fn has_no_move<T: MoveRules>(board: T::Board) -> bool
     requires { T.game.legal (T.cells board) ≡ true }
     ensures { result ≡ (length (steps T.game (T.cells board)) == 0) }
@@ -56,13 +46,8 @@ pub fn has_no_move<T: MoveRules>(board: T::Board) -> bool
     true
 }
 
-<<<<<<< HEAD
-/// The board of the tier before a move with this number that led to this one, if there is one.
-#[tactic(auto, using(crate::specs::laws::MoveLaws::before_some, crate::specs::laws::MoveLaws::before_none, gm_board::specs::laws::Lists::and_left))]
-=======
 /// The board of the tier from which a move with this number led to this board, if there is one.
-#[tactic(auto, using(crate::specs::MoveLaws::before_some, crate::specs::MoveLaws::before_none, gm_board::specs::Lists::and_left))]
->>>>>>> english2
+#[tactic(auto, using(crate::specs::laws::MoveLaws::before_some, crate::specs::laws::MoveLaws::before_none, gm_board::specs::laws::Lists::and_left))]
 pub fn before<T: MoveRules>(tier: u64, board: T::Board, number: u32) -> Option<T::Board>
     requires legal { T.game.legal (T.cells board) ≡ true }
     requires below { number < T.game.numbers_end tier }

@@ -29,13 +29,8 @@ impl Segment {
         }
     }
 
-<<<<<<< HEAD
-    /// The least cell.
-    #[tactic(auto, using(crate::specs::laws::SegmentFacts::first_within))]
-=======
     /// Its least cell.
-    #[tactic(auto, using(crate::specs::SegmentFacts::first_within))]
->>>>>>> english2
+    #[tactic(auto, using(crate::specs::laws::SegmentFacts::first_within))]
     pub fn first(self) -> u32
         ensures value { result ≡ first_cell self.number }
         ensures within { result < self.side * self.side }
