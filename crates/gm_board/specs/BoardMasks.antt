@@ -1,4 +1,4 @@
--- Boards of cells against the masks of their pieces: one cell changed, the sides exchanged, patterns filled.
+-- Boards of cells as the masks of their pieces: one cell changed, the sides exchanged, patterns filled.
 use Rattle.std.proofs.Common.{◌≡◌, ◌≢◌, ℕ, ◌^◌, ◌<◌, min, max, Bool, true, false, ◌||◌, eqb, eqb-true, eq-eqb, List, [], ◌∷◌, map, get_or, set, refl, sym, ap, ap₂, ◌∙◌, subst, arith, ◌⊎◌, inl, inr, length-set, get_or-set_same, get_or-set_other}
 use Rattle.std.specs.Prelude.{bit_and, bit_or, ◌↔◌}
 use Rattle.std.specs.Int.{bit_at}

@@ -56,7 +56,7 @@ slot_byte text x k e l =
     cond-true (is_slot x) (get_or text (x - 65) 0) x (letter_slot x k e l)
     ∙ ap (λ (i : ℕ). get_or text i 0) (letter_place x k e)
 
--- one drawing has one byte in a slot
+-- texts with the same drawing have the same byte in a slot
 same_in_slot : (t a b : List ℕ) (k : ℕ) → map (drawn_byte a) t ≡ map (drawn_byte b) t → has_slot t k ≡ true → k < 26 → get_or a k 0 ≡ get_or b k 0
 same_in_slot [] a b k e h l = absurd (true≢false (sym h))
 same_in_slot (x ∷ t) a b k e h l =
@@ -67,12 +67,12 @@ same_in_slot (x ∷ t) a b k e h l =
       | inr f ↦ same_in_slot t a b k tail (sym (ap (λ (c : Bool). cond c true (has_slot t k)) f) ∙ h) l
     ]
 
--- the slots up to n are there: each of these bytes is the same in one drawing
+-- where the first n bytes have slots, texts with the same drawing have the same first n bytes
 pub same_in_slots : (t a b : List ℕ) (n k : ℕ) → n ≤ 26 → has_slots t n ≡ true → filled t a ≡ filled t b → k < n → get_or a k 0 ≡ get_or b k 0
 unfolding filled has_slots
 same_in_slots t a b n k few slots e below = same_in_slot t a b k e (all_at (has_slot t) (range_with_len 0 n) k slots (contains_range n k below)) (omega arith)
 
--- texts of n bytes with one drawing are one
+-- texts of n bytes with the same drawing are the same
 pub filled_once : (t a b : List ℕ) (n : ℕ) → n ≤ 26 → has_slots t n ≡ true → length a ≡ n → length b ≡ n → filled t a ≡ filled t b → a ≡ b
 filled_once t a b n few slots la lb e = ext_get_or 0 a b (la ∙ sym lb) (λ k h. same_in_slots t a b n k few slots e (omega (arith, la)))
 

@@ -34,7 +34,8 @@ module _ (r : Rules) (shown : Position → List ℕ) (move_shown : Position → 
       (member (codes "positionValue") (string (value_word s.value))
       (member (codes "remoteness") (whole s.remoteness) no_members))))
 
-  -- the position with this text: its true value and its moves, the best first; where they are to be distinct, the first of those that lead to one canonical position
+  -- the position with this text: its true value and its moves, the best first; where they are to be distinct, the first of those that lead to one canonical
+  -- position
   pub record IsMovesJson (distinct : Bool) (asked out : List ℕ) : Type 0 where
     pub position : Position
     pub read : IsReadAs r shown move_shown asked position

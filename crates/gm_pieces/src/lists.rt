@@ -74,7 +74,7 @@ pub trait MoveLists: MoveRules {
         set
     }
 
-    /// Of what kind p is, for a solver.
+    /// The kind of p, for a solver.
     fn kind(p: Position) -> Kind
         ensures { IsKind (move_rules Self.game) p result }
     {

@@ -376,8 +376,7 @@ fn delivered_to<G: Game>(shards: &Four<Shard<G>>) -> u64 {
         .saturating_add(shards.d.delivered())
 }
 
-/// Serves a level and closes it: workers deliver its pairs, with one pass for each shard, and the coordinator those that they left. The number is that of the
-/// workers' deliveries.
+/// Serves and closes a level: workers deliver its pairs, one pass for each shard, and the coordinator the rest. The number is that of the workers' deliveries.
 pub(crate) fn run_passes<G: Game + Send + Sync, R: Threads + Wait + Sync, T: Gate, S: Source>(
     rt: &R,
     alloc: Global,

@@ -1,4 +1,5 @@
--- Segments of a square board: adjacent cells of one row or of one column. A move of Tac Tix takes the counters of a segment, and its number is `16*first + 2*length + direction`.
+-- Segments of a square board: adjacent cells of one row or of one column. A move of Tac Tix takes the counters of a segment, and its number is `16*first +
+-- 2*length + direction`.
 use Rattle.std.specs.Prelude.{ℕ, zero, suc, ◌+◌, ◌*◌, ◌/◌, ◌%◌, Bool, ◌&&◌, ◌==◌, nat_le, nat_lt, List, [], ◌∷◌, if◌then◌else◌}
 use Rattle.std.specs.List.{filter, range_with_len}
 

@@ -9,14 +9,14 @@ point_once s j k e f =
     let column : j % s ≡ k % s = omega (arith, f) in
     sym (div-add-mod j s) ∙ ap₂ (λ (x y : ℕ). s * x + y) row column ∙ div-add-mod k s
 
--- cells with one text are one
+-- cells with the same text are the same
 pub cell_text_once : (s j k : ℕ) → cell_text s j ≡ cell_text s k → j ≡ k
 cell_text_once s j k e =
     let p : 97 + j / s ≡ 97 + k / s = cc in
     let q : 49 + j % s ≡ 49 + k % s = cc in
     point_once s j k p q
 
--- and so are two with `-` between them
+-- pairs of cells with the same text, with `-` between them, are the same
 pub step_text_once : (s a b c d : ℕ) → cell_text s a ++ 45 ∷ cell_text s b ≡ cell_text s c ++ 45 ∷ cell_text s d → (a ≡ c) × (b ≡ d)
 step_text_once s a b c d e =
     let p : 97 + a / s ≡ 97 + c / s = cc in

@@ -24,14 +24,14 @@ option_length (Some x) bs n false l h = absurd (true≢false (sym (h x refl)))
 filter_length : (p : ℕ → Bool) (x : ℕ) (xs : List ℕ) → length (filter p (x ∷ xs)) ≡ cond (p x) (suc (length (filter p xs))) (length (filter p xs))
 filter_length p x xs = elim (cases_Bool (p x)) [ inl e ↦ rw e refl | inr e ↦ rw e refl ]
 
--- no more of a list gives something than passes a test that all that gives something passes
+-- a function gives something for no more elements of a list than pass a test, if all for which it gives something pass the test
 pub filter_map_few : {B : Type 0} (h : ℕ → Option B) (p : ℕ → Bool) → ((m : ℕ) (b : B) → h m ≡ Some b → p m ≡ true) → (xs : List ℕ) → length (filter_map h xs) ≤ length (filter p xs)
 filter_map_few h p all [] = omega arith
 filter_map_few h p all (x ∷ xs) =
     subst (λ (n : ℕ). length (filter_map h (x ∷ xs)) ≤ n) (sym (filter_length p x xs))
     (option_length (h x) (filter_map h xs) (length (filter p xs)) (p x) (filter_map_few h p all xs) (λ b e. all x b e))
 
--- the same of what a stricter test keeps
+-- a stricter test keeps no more elements of a list
 pub filter_few : (q p : ℕ → Bool) → ((m : ℕ) → q m ≡ true → p m ≡ true) → (xs : List ℕ) → length (filter q xs) ≤ length (filter p xs)
 filter_few q p all [] = omega arith
 filter_few q p all (x ∷ xs) =
@@ -42,7 +42,7 @@ filter_few q p all (x ∷ xs) =
     ]
 
 -- ---- empty lists
--- a list without an element
+-- a list without an element is empty
 pub nil_or : {X : Type 0} (xs : List X) → ((x : X) → Contains xs x → ⊥) → xs ≡ []
 nil_or [] h = refl
 nil_or (x ∷ xs) h = absurd (h x (contains_head x xs))
@@ -51,11 +51,11 @@ nil_or (x ∷ xs) h = absurd (h x (contains_head x xs))
 filter_one : (p : ℕ → Bool) (n : ℕ) → filter p (range_with_len 0 (n + 1)) ≡ filter p (range_with_len 0 n) ++ filter p (n ∷ [])
 filter_one p n = ap (filter p) (range_more n) ∙ filter-append p (range_with_len 0 n) (n ∷ [])
 
--- one more number that is kept, or not
+-- one more number of a range, which is kept
 pub filter_in : (p : ℕ → Bool) (n : ℕ) → p n ≡ true → filter p (range_with_len 0 (n + 1)) ≡ filter p (range_with_len 0 n) ++ n ∷ []
 filter_in p n e = filter_one p n ∙ rw e refl
 
--- one that is not kept
+-- one more number of a range, which is not kept
 pub filter_out : (p : ℕ → Bool) (n : ℕ) → p n ≡ false → filter p (range_with_len 0 (n + 1)) ≡ filter p (range_with_len 0 n)
 filter_out p n e = filter_one p n ∙ rw e (append-nil (filter p (range_with_len 0 n)))
 
@@ -63,7 +63,7 @@ filter_out p n e = filter_one p n ∙ rw e (append-nil (filter p (range_with_len
 one_more : (p : ℕ → Bool) (n : ℕ) → length (filter p (range_with_len 0 (n + 1))) ≡ length (filter p (range_with_len 0 n)) + length (filter p (n ∷ []))
 one_more p n = ap (λ (xs : List ℕ). length xs) (filter_one p n) ∙ length-append (filter p (range_with_len 0 n)) (filter p (n ∷ []))
 
--- the same of what a function gives
+-- one more number of a range adds as many results as the function gives for this number
 pub one_more_map : {B : Type 0} (h : ℕ → Option B) (n : ℕ) → length (filter_map h (range_with_len 0 (n + 1))) ≡ length (filter_map h (range_with_len 0 n)) + length (filter_map h (n ∷ []))
 one_more_map h n =
     ap (λ (xs : List _). length xs) (ap (filter_map h) (range_more n) ∙ filter_map-append h (range_with_len 0 n) (n ∷ []))

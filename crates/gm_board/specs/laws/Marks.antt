@@ -12,7 +12,7 @@ map_back : {X Y : Type 0} (f : X → Y) (g : Y → X) → ((x : X) → g (f x) �
 map_back f g h [] = refl
 map_back f g h (x ∷ xs) = ap₂ (λ (y : _) (ys : List _). y ∷ ys) (h x) (map_back f g h xs)
 
--- where a byte tells its cell, a text tells its board
+-- where the byte of a cell determines the cell, the text of a board determines the board
 pub map_once : {X Y : Type 0} (f : X → Y) (g : Y → X) → ((x : X) → g (f x) ≡ x) → (xs ys : List X) → map f xs ≡ map f ys → xs ≡ ys
 map_once f g h xs ys e = sym (map_back f g h xs) ∙ ap (map g) e ∙ map_back f g h ys
 
@@ -28,14 +28,14 @@ read_start text byte k = ap (λ (v : ℕ). eqb v 1) (bit_at-zero k) ∙ sym (ap 
 same_out : (x : Bool) (k n : ℕ) → (k ≡ n → x ≡ false) → (ltb k n && x) ≡ (ltb k (n + 1) && x)
 same_out x k n h = grind (arith, nat_tests)
 
--- a cell without the byte
+-- one more cell, without the byte
 pub read_out : (text : List ℕ) (byte n marks : ℕ) → IsRead text byte n marks → eqb (get_or text n 0) byte ≡ false → IsRead text byte (n + 1) marks
 read_out text byte n marks h e k = h k ∙ same_out (eqb (get_or text k 0) byte) k n (λ q. ap (λ (j : ℕ). eqb (get_or text j 0) byte) q ∙ e)
 
 same_in : (x : Bool) (k n : ℕ) → k ≢ n → (ltb k n && x) ≡ (ltb k (n + 1) && x)
 same_in x k n q = grind (arith, nat_tests)
 
--- a cell with it
+-- one more cell, with the byte
 pub read_in : (text : List ℕ) (byte n marks : ℕ) → n < 32 → IsRead text byte n marks → eqb (get_or text n 0) byte ≡ true → IsRead text byte (n + 1) (bit_or marks (1 * 2 ^ n % 2 ^ 32))
 read_in text byte n marks l h e k = elim (cases_eq k n) [
   | inl q ↦ ap (has_cell (bit_or marks (1 * 2 ^ n % 2 ^ 32))) q

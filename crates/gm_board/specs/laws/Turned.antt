@@ -6,7 +6,7 @@ use Rattle.gm_board.specs.declared.cell.Cell.TheVariants.{Empty, Mine, Theirs}
 use Rattle.gm_board.specs.BoardMasks.{turned}
 use Rattle.gm_board.specs.Permutations.{permute}
 
--- a cell
+-- a cell of a board with the sides exchanged
 pub cell_turned : (b : List Cell) (k : ℕ) → get_or (map turned b) k Empty ≡ turned (get_or b k Empty)
 cell_turned b k = get_or-map turned b k Empty
 
@@ -14,7 +14,7 @@ cell_turned b k = get_or-map turned b k Empty
 pub turned_cell : (b : List Cell) (k : ℕ) (c : Cell) → get_or b k Empty ≡ c → get_or (map turned b) k Empty ≡ turned c
 turned_cell b k c e = cell_turned b k ∙ ap turned e
 
--- exchanged twice
+-- the sides exchanged twice give the board back
 pub turned_twice : (b : List Cell) → map turned (map turned b) ≡ b
 turned_twice [] = refl
 turned_twice (c ∷ b) = ap₂ (λ (x : Cell) (xs : List Cell). x ∷ xs) (twice c) (turned_twice b)

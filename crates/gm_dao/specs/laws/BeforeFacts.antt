@@ -18,7 +18,7 @@ pub record WasMoved (d : List Cell) (a c : ℕ) : Type 0 where
   pub line : in_line a c ≡ true
   pub step : WasStep d a c
 
--- what the test says
+-- what holds where the test is passed
 pub was_in : (d : List Cell) (m : ℕ) → was_moved d m ≡ true → WasMoved d (from_point m) (to_point m)
 unfolding was_moved
 was_in d m e =
@@ -28,7 +28,7 @@ was_in d m e =
       step = record { there = their_cell _ (and_left _ _ r); left = empty_cell _ (and_right _ _ r) };
     }
 
--- and the other way round
+-- where that holds, the test is passed
 pub was_from : (d : List Cell) (m : ℕ) → WasMoved d (from_point m) (to_point m) → was_moved d m ≡ true
 unfolding was_moved
 was_from d m h = and_both _ _ h.line (and_both _ _ (ap is_theirs h.step.there) (ap is_empty h.step.left))
@@ -38,14 +38,14 @@ pub played_back : (d : List Cell) (m : ℕ) → WasMoved d (from_point m) (to_po
 unfolding play taken_back
 played_back d m h = gone_again d (from_point m) (to_point m) h.step
 
--- made and taken back
+-- a move made and taken back leads to the same board
 pub taken_played : (b : List Cell) (m : ℕ) → length b ≡ 16 → IsSlide b (from_point m) (to_point m) → WasMoved (play b m) (from_point m) (to_point m) × (taken_back (play b m) m ≡ b)
 unfolding play taken_back
 taken_played b m n h =
     let x = back_again b (from_point m) (to_point m) (slide_step b (from_point m) (to_point m) n h) in
     (record { line = h.line; step = x.0 }, x.1)
 
--- at most sixteen for each empty cell
+-- there are at most sixteen boards before for each empty cell
 pub befores_few : (d : List Cell) → legal d ≡ true → length (filter (was_moved d) (range_with_len 0 numbers_end)) ≤ 128
 befores_few d l =
     let h = legal_in d l in

@@ -18,7 +18,7 @@ use Rattle.gm_dao.specs.DaoRules.{formations, has_formation, legal}
 use Rattle.gm_dao.specs.laws.SlideFacts.{group, formations_kept}
 
 -- ---- formations
--- what was the opponent's formation is the mover's
+-- after the sides are exchanged, a formation of the opponent's is the mover's
 pub formation_turned : (b : List Cell) → has_formation is_mine (map turned b) ≡ has_formation is_theirs b
 unfolding has_formation
 formation_turned b = filled_turned formations b
@@ -40,7 +40,7 @@ pub record IsLegal (b : List Cell) : Type 0 where
   pub other : number_of is_theirs b ≡ 4
   pub no_formation : has_formation is_mine b ≡ false
 
--- what the test says
+-- what holds where the test is passed
 pub legal_in : (b : List Cell) → legal b ≡ true → IsLegal b
 unfolding legal
 legal_in b l =
@@ -53,12 +53,12 @@ legal_in b l =
       no_formation = not-true _ (and_right _ _ s);
     }
 
--- and the other way round
+-- where that holds, the board is legal
 pub legal_from : (b : List Cell) → IsLegal b → legal b ≡ true
 unfolding legal
 legal_from b h = and_both _ _ (eq-eqb _ _ h.cells) (and_both _ _ (eq-eqb _ _ h.own) (and_both _ _ (eq-eqb _ _ h.other) (ap not h.no_formation)))
 
--- its numbers
+-- a legal board has these numbers of cells and pieces
 pub legal_numbers : (b : List Cell) → IsLegal b → HasNumbers 16 4 4 b
 legal_numbers b h = record { cells = h.cells; own = h.own; other = h.other }
 

@@ -20,7 +20,7 @@ use Rattle.gm_dao.specs.laws.PlayFacts.{play_legal, image_over, image_move}
 use Rattle.gm_dao.specs.laws.BeforeFacts.{was_in, was_from, played_back, taken_played, befores_few}
 
 -- ---- the numbering
--- there are 900,900 of them
+-- there are 900,900 arrangements
 pub size_is : arrangements 16 4 4 ≡ 900900
 unfolding arrangements binomial
 size_is = refl
@@ -50,7 +50,7 @@ start_legal = legal_from start_board (record { cells = refl; own = start_numbers
 name_text : (length dao_name ≡ 16) × IsPaddedText dao_name
 name_text = (refl, refl)
 
--- ---- the laws that are its own
+-- ---- the game's own laws
 pub lawful : IsMoveGame dao
 lawful = record {
   name_length = name_text.0;

@@ -27,7 +27,7 @@ pub record IsSlide (b : List Cell) (a c : ℕ) : Type 0 where
   pub clear : fills Empty is_empty b (path a c) ≡ true
   pub stopped : fills Empty is_taken b (beyond a c) ≡ true
 
--- what the test says
+-- what holds where the test is passed
 pub go_in : (b : List Cell) (a c : ℕ) → can_go b a c ≡ true → IsSlide b a c
 go_in b a c e =
     let r = and_right _ _ e in
@@ -39,26 +39,26 @@ go_in b a c e =
       stopped = and_right _ _ s;
     }
 
--- and the other way round
+-- where that holds, the test is passed
 pub go_from : (b : List Cell) (a c : ℕ) → IsSlide b a c → can_go b a c ≡ true
 go_from b a c h = and_both _ _ (ap is_mine h.mine) (and_both _ _ h.line (and_both _ _ h.clear h.stopped))
 
--- it ends on an empty cell
+-- a slide ends on an empty cell
 pub slide_free : (b : List Cell) (a c : ℕ) → IsSlide b a c → cell_at b c ≡ Empty
 slide_free b a c h = empty_cell _ (all_at (λ (k : ℕ). is_empty (cell_at b k)) (path a c) c h.clear (way a c h.line).ends)
 
--- it is the step of a piece
+-- a slide is the step of a piece
 pub slide_step : (b : List Cell) (a c : ℕ) → length b ≡ 16 → IsSlide b a c → IsStep b a c
 slide_step b a c n h =
     let w = line_within a c h.line in
     record { from_below = omega (arith, w.0, n); to_below = omega (arith, w.1, n); mine = h.mine; free = slide_free b a c h }
 
--- the slide of a number for which the test holds
+-- where the test holds for a number, the number is that of a slide
 pub move_slide : (b : List Cell) (m : ℕ) → can_move b m ≡ true → IsSlide b (from_point m) (to_point m)
 unfolding can_move
 move_slide b m e = go_in b (from_point m) (to_point m) e
 
--- and the other way round
+-- the test holds for the number of a slide
 pub slide_move : (b : List Cell) (m : ℕ) → IsSlide b (from_point m) (to_point m) → can_move b m ≡ true
 unfolding can_move
 slide_move b m h = go_from b (from_point m) (to_point m) h
@@ -129,7 +129,7 @@ pub from_is : (m : ℕ) → from_point m ≡ m / 16
 unfolding from_point
 from_is m = refl
 
--- at most sixteen for each piece of the mover's
+-- there are at most sixteen moves for each piece of the mover's
 pub steps_few : (b : List Cell) → length b ≡ 16 → number_of is_mine b ≡ 4 → length (steps dao b) ≤ 128
 unfolding steps
 steps_few b e n =

@@ -41,7 +41,7 @@ play_legal b m l k =
     })
 
 -- ---- slides of images
--- a slide is one in the image
+-- a slide on the board is a slide in the image
 image_slides : (g : List ℕ) (b : List Cell) (i j : ℕ) → Contains (square_symmetries 4) g → i < 16 → j < 16 → IsSlide b (get_or g i 0) (get_or g j 0) → IsSlide (permute Empty g b) i j
 image_slides g b i j c li lj h =
     let k = line_kept g i j c li lj h.line in
@@ -53,7 +53,7 @@ image_slides g b i j c li lj h =
       stopped = image_fills 16 (square_symmetries 4) group g b c is_taken (beyond i j) w.beyond_within ∙ ap (fills Empty is_taken b) k.beyond_kept ∙ h.stopped;
     }
 
--- a move that can be made, and its image
+-- a move that can be made has an image that can be made in the image
 image_step : (g : List ℕ) (b : List Cell) (m : ℕ) → Contains (square_symmetries 4) g → length b ≡ 16 → can_move b m ≡ true
     → (n : ℕ) × (can_move (permute Empty g b) n ≡ true) × (play (permute Empty g b) n ≡ permute Empty g (play b m))
 unfolding play
@@ -113,7 +113,7 @@ pub image_over : (g : List ℕ) (b : List Cell) → Contains (square_symmetries 
 unfolding over
 image_over g b c e = ap₂ (λ (x y : Bool). cond x (Some Lose) (cond y (Some Win) None)) (image_formation is_theirs g b c e) (image_trapped g b c e)
 
--- a move of a board is one of its image
+-- a move of a board has an image among the moves of the image
 pub image_move : (g : List ℕ) (b : List Cell) (m : ℕ) → Contains (square_symmetries 4) g → length b ≡ 16 → IsMove dao b m
     → (n : ℕ) × IsMove dao (permute Empty g b) n × (play (permute Empty g b) n ≡ permute Empty g (play b m))
 image_move g b m c e h =

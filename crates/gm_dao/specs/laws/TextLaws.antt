@@ -18,7 +18,7 @@ use Rattle.gm_dao.specs.laws.SlideFacts.{line_within}
 use Rattle.gm_dao.specs.Texts.{step_text, position_text, move_text}
 
 -- ---- moves
--- moves with one text are one
+-- moves with the same text are the same
 pub step_once : (m k : ℕ) → step_text m ≡ step_text k → m ≡ k
 unfolding step_text
 step_once m k e = let h = step_text_once 4 (from_point m) (to_point m) (from_point k) (to_point k) e in same_step m k h.0 h.1
@@ -28,7 +28,7 @@ pub step_length : (m : ℕ) → length (step_text m) ≡ 5
 unfolding step_text
 step_length m = refl
 
--- it is plain
+-- the text of a move is plain
 pub step_plain : (m : ℕ) → from_point m < 16 → to_point m < 16 → IsPlain (step_text m)
 unfolding step_text
 step_plain m l h = plain_append (cell_text 4 (from_point m)) (45 ∷ cell_text 4 (to_point m)) (cell_plain 4 (from_point m) (omega arith) (omega arith)) (cell_plain 4 (to_point m) (omega arith) (omega arith))
@@ -44,6 +44,6 @@ readable = record {
   step_once = λ b m n l h k e. step_once m n e;
 }
 
--- the same of positions
+-- the laws of texts, for positions and their moves
 pub texts_readable : IsShown dao_rules position_text move_text
 texts_readable = texts_are_shown dao board_text (λ t m. step_text m) numbered readable

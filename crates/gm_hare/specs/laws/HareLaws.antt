@@ -77,7 +77,7 @@ count_reverse = for_eleven (λ xs. count (reverse xs) ≡ count xs) (λ a b c d 
 pub down_members : (b : Hunt) → IsLegal b → members (reverse b.hounds) ≡ 3
 down_members b l = members_count (reverse b.hounds) ∙ count_reverse b.hounds l.eleven ∙ l.three
 
--- on eleven points
+-- eleven points, the highest first
 pub down_length : (b : Hunt) → IsLegal b → length (reverse b.hounds) ≡ 11
 down_length b l = length-reverse b.hounds ∙ l.eleven
 
@@ -168,7 +168,7 @@ start_legal = refl
 name_text : (length hare_name ≡ 16) × IsPaddedText hare_name
 name_text = (refl, refl)
 
--- the laws that are its own
+-- the game's own laws
 pub lawful : IsMoveGame hare_and_hounds
 lawful = record {
   name_length = name_text.0;
@@ -203,7 +203,7 @@ mirrored_legal b l = record {
   apart = mirrored_at b b.hare l.below ∙ l.apart;
 }
 
--- exchanged twice
+-- exchanging top and bottom twice gives the board back
 pub mirrored_twice : (b : Hunt) → IsLegal b → mirrored (mirrored b) ≡ b
 mirrored_twice b l = same_hunt (mirrored (mirrored b)) b refl (mirror_hounds_twice b.hounds l.eleven) (mirror_twice b.hare l.below)
 
@@ -211,7 +211,7 @@ all_points : (p : ℕ → Bool) (ks : List ℕ) → ((k : ℕ) → Contains ks k
 all_points p [] h = refl
 all_points p (k ∷ ks) h = (let first = h k (contains_head k ks) in let rest = all_points p ks (λ j c. h j (contains_later k ks j c)) in rw (first, rest) refl)
 
--- an escape stays one
+-- an escape stays an escape
 mirrored_escape : (b : Hunt) → IsLegal b → has_escaped b ≡ true → has_escaped (mirrored b) ≡ true
 unfolding has_escaped
 mirrored_escape b l e =
@@ -258,7 +258,7 @@ mirrored_gone b a c l h = elim (cases_Bool b.hounds_move) [
       ∙ sym (ap mirrored (cond-false b.hounds_move (hound_gone b a c) (hare_gone b c) t))
 ]
 
--- a move and its image
+-- a move of a board has an image among the moves of the image
 mirrored_moves : (b : Hunt) (m : ℕ) → IsLegal b → can_move b m ≡ true → (n : ℕ) × (can_move (mirrored b) n ≡ true) × (play (mirrored b) n ≡ mirrored (play b m))
 unfolding play
 mirrored_moves b m l d =

@@ -9,7 +9,7 @@ use Rattle.gm_hare.specs.Board.{column, columns_from, mirror}
 abbrev pub one : Bool → ℕ
 one x = if x then 1 else 0
 
--- how many there are, as a sum
+-- how many hounds there are, as a sum
 abbrev pub count : List Bool → ℕ
 count [] = 0
 count (x ∷ xs) = one x + count xs
@@ -20,7 +20,7 @@ members_count [] = refl
 members_count (true ∷ xs) = omega (arith, members_count xs)
 members_count (false ∷ xs) = omega (arith, members_count xs)
 
--- boards with the same parts are one
+-- boards with the same parts are the same
 pub same_hunt : (x y : Hunt) → x.hounds_move ≡ y.hounds_move → x.hounds ≡ y.hounds → x.hare ≡ y.hare → x ≡ y
 same_hunt x y e f g =
     ap (λ (t : Bool). let z : Hunt = record { hounds_move = t; hounds = x.hounds; hare = x.hare } in z) e
@@ -32,14 +32,14 @@ count_set [] k v l = absurd (omega arith)
 count_set (x ∷ xs) zero v l = omega arith
 count_set (x ∷ xs) (suc k) v l = omega (arith, count_set xs k v (omega arith))
 
--- the sum of the columns
+-- the sum of the columns with one point changed
 pub columns_set : (n p : ℕ) (xs : List Bool) (k : ℕ) (v : Bool) → p ≡ n + k → k < length xs
     → columns_from n (set xs k v) + (if get_or xs k false then column p else 0) ≡ columns_from n xs + (if v then column p else 0)
 columns_set n p [] k v e l = absurd (omega arith)
 columns_set n p (x ∷ xs) zero v e l = (let q : p ≡ n = omega arith in rw q (omega arith))
 columns_set n p (x ∷ xs) (suc k) v e l = (let h = columns_set (n + 1) p xs k v (omega arith) (omega arith) in omega (arith, h))
 
--- what is written where it stands already
+-- writing what stands there already changes nothing
 same_set : (xs : List Bool) (k : ℕ) (v : Bool) → get_or xs k false ≡ v → set xs k v ≡ xs
 same_set xs k v e = ap (set xs k) (sym e) ∙ set-get_or xs k false
 
@@ -48,26 +48,26 @@ module _ (xs : List Bool) (a c : ℕ) (u v : Bool) (apart : a ≢ c) where
   pub both_length : length (set (set xs a u) c v) ≡ length xs
   both_length = length-set (set xs a u) c v ∙ length-set xs a u
 
-  -- the second
+  -- what stands on the second of two points changed
   pub both_second : c < length xs → get_or (set (set xs a u) c v) c false ≡ v
   both_second l = get_or-set_same (set xs a u) c v false (omega (arith, length-set xs a u, l))
 
-  -- the first
+  -- what stands on the first of two points changed
   pub both_first : a < length xs → get_or (set (set xs a u) c v) a false ≡ u
   both_first l = get_or-set_other (set xs a u) c a v false apart ∙ get_or-set_same xs a u false l
 
-  -- the others
+  -- what stands on the other points
   pub both_other : (k : ℕ) → k ≢ a → k ≢ c → get_or (set (set xs a u) c v) k false ≡ get_or xs k false
   both_other k n m = get_or-set_other (set xs a u) c k v false m ∙ get_or-set_other xs a k u false n
 
-  -- changed and changed back
+  -- two points changed and changed back
   pub both_back : (x y : Bool) → get_or xs a false ≡ x → get_or xs c false ≡ y → set (set (set (set xs a u) c v) c y) a x ≡ xs
   both_back x y e f =
       ap (λ (ys : List Bool). set ys a x) (set-set (set xs a u) c v y ∙ same_set (set xs a u) c y (get_or-set_other xs a c u false (λ q. apart (sym q)) ∙ f))
       ∙ set-set xs a u x
       ∙ same_set xs a x e
 
--- a hound that goes from a to c
+-- a hound that goes from a to c leaves as many hounds
 pub moved_count : (xs : List Bool) (a c : ℕ) → a ≢ c → a < length xs → c < length xs → get_or xs a false ≡ true → get_or xs c false ≡ false → count (set (set xs a false) c true) ≡ count xs
 moved_count xs a c apart la lc e f =
     let left = set xs a false in
@@ -78,7 +78,7 @@ moved_count xs a c apart la lc e f =
     let w : count (set left c true) + 0 ≡ count left + 1 = sym (ap (λ (v : Bool). count (set left c true) + one v) there) ∙ y in
     omega (arith, u, w)
 
--- it leaves its column for that of c
+-- a hound that goes from a to c leaves the column of a for that of c
 pub moved_columns : (xs : List Bool) (a c : ℕ) → a ≢ c → a < length xs → c < length xs → get_or xs a false ≡ true → get_or xs c false ≡ false
     → columns_from 0 (set (set xs a false) c true) + column a ≡ columns_from 0 xs + column c
 moved_columns xs a c apart la lc e f =
@@ -100,16 +100,16 @@ for_eleven P p xs q = absurd (omega arith)
 abbrev mirror_hounds : List Bool → List Bool
 mirror_hounds xs = permute false mirror xs
 
--- as many hounds
+-- there are as many hounds after the exchange
 pub mirror_count : (xs : List Bool) → length xs ≡ 11 → count (mirror_hounds xs) ≡ count xs
 mirror_count = for_eleven (λ xs. count (mirror_hounds xs) ≡ count xs) (λ a b c d e f g h i j k. omega arith)
 
--- in the same columns
+-- the hounds are in the same columns after the exchange
 pub mirror_columns : (xs : List Bool) → length xs ≡ 11 → columns_from 0 (mirror_hounds xs) ≡ columns_from 0 xs
 unfolding column
 mirror_columns = for_eleven (λ xs. columns_from 0 (mirror_hounds xs) ≡ columns_from 0 xs) (λ a b c d e f g h i j k. omega arith)
 
--- exchanged twice
+-- exchanging top and bottom twice gives the hounds back
 pub mirror_hounds_twice : (xs : List Bool) → length xs ≡ 11 → mirror_hounds (mirror_hounds xs) ≡ xs
 mirror_hounds_twice = for_eleven (λ xs. mirror_hounds (mirror_hounds xs) ≡ xs) (λ a b c d e f g h i j k. refl)
 

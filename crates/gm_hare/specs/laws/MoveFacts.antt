@@ -20,7 +20,7 @@ pub record IsLegal (b : Hunt) : Type 0 where
   pub below : b.hare < 11
   pub apart : has_hound b b.hare ≡ false
 
--- what the test says
+-- what holds where the test is passed
 pub legal_in : (b : Hunt) → legal b ≡ true → IsLegal b
 unfolding legal
 legal_in b l =
@@ -33,7 +33,7 @@ legal_in b l =
       apart = not-true _ (and_right (ltb b.hare 11) (not (has_hound b b.hare)) y);
     }
 
--- and the other way round
+-- where that holds, the board is legal
 pub legal_from : (b : Hunt) → IsLegal b → legal b ≡ true
 unfolding legal
 legal_from b h =
@@ -48,22 +48,22 @@ pub record IsFree (b : Hunt) (k : ℕ) : Type 0 where
 other : (j k : ℕ) → not (eqb j k) ≡ true → j ≢ k
 other j k e f = true≢false (sym (eq-eqb j k f) ∙ not-true _ e)
 
--- what the test says
+-- what holds where the test is passed
 pub free_in : (b : Hunt) (k : ℕ) → is_free b k ≡ true → IsFree b k
 free_in b k e = record { hounds = not-true _ (and_left _ _ e); hare = other k b.hare (and_right (not (has_hound b k)) (not (eqb k b.hare)) e) }
 
--- and the other way round
+-- where that holds, the point is free by the test
 pub free_from : (b : Hunt) (k : ℕ) → IsFree b k → is_free b k ≡ true
 free_from b k h = and_both _ _ (ap not h.hounds) (ap not (ne_eqb k b.hare h.hare))
 
--- what a move says
+-- what holds for a move from a to c
 pub record CanGo (b : Hunt) (a c : ℕ) : Type 0 where
   pub joined : are_joined a c ≡ true
   pub free : IsFree b c
   pub hound : b.hounds_move ≡ true → (has_hound b a ≡ true) × (is_ahead a c ≡ true)
   pub hare : b.hounds_move ≡ false → a ≡ b.hare
 
--- what the test says
+-- what holds where the test is passed
 pub move_in : (b : Hunt) (m : ℕ) → can_move b m ≡ true → CanGo b (from_point m) (to_point m)
 unfolding can_move
 move_in b m x =
@@ -79,7 +79,7 @@ move_in b m x =
       hare = λ t. eqb-true a b.hare (sym (cond-false _ _ _ t) ∙ z);
     }
 
--- and the other way round
+-- where that holds, the move with this number can be made
 pub move_from : (b : Hunt) (m : ℕ) → CanGo b (from_point m) (to_point m) → can_move b m ≡ true
 unfolding can_move
 move_from b m h =
@@ -90,11 +90,11 @@ move_from b m h =
       | inr t ↦ cond-false _ _ _ t ∙ eq-eqb _ _ (h.hare t)
     ]))
 
--- its number is below 176
+-- the number of a move is below 176
 pub step_below : (m : ℕ) → is_step m ≡ true → m < numbers_end
 step_below m e = let l = number_below m 11 (joined_from (from_point m) (to_point m) e) in omega (arith, l)
 
--- there are few
+-- there are at most 128 moves
 pub moves_few : (b : Hunt) → length (steps hare_and_hounds b) ≤ 128
 unfolding steps
 moves_few b =
@@ -111,7 +111,7 @@ module _ (b : Hunt) (a c : ℕ) (l : IsLegal b) (h : CanGo b a c) where
   two_points : a ≢ c
   two_points = joined_apart a c h.joined
 
-  -- a hound's
+  -- the board after a move of a hound is legal
   hound_legal : b.hounds_move ≡ true → IsLegal (hound_gone b a c)
   hound_legal t =
       let w = h.hound t in
@@ -125,7 +125,7 @@ module _ (b : Hunt) (a c : ℕ) (l : IsLegal b) (h : CanGo b a c) where
         apart = both_other b.hounds a c false true two_points b.hare away (λ e. h.free.hare (sym e)) ∙ l.apart;
       }
 
-  -- the hare's
+  -- the board after a move of the hare is legal
   hare_legal : IsLegal (hare_gone b c)
   hare_legal = record {
     eleven = l.eleven;
@@ -134,7 +134,7 @@ module _ (b : Hunt) (a c : ℕ) (l : IsLegal b) (h : CanGo b a c) where
     apart = h.free.hounds;
   }
 
-  -- either's
+  -- the board after a move is legal
   pub gone_legal : IsLegal (gone b a c)
   gone_legal = elim (cases_Bool b.hounds_move) [
     | inl t ↦ subst IsLegal (sym (cond-true _ _ _ t)) (hound_legal t)
@@ -158,14 +158,14 @@ module _ (b : Hunt) (a c : ℕ) (l : IsLegal b) (h : CanGo b a c) where
   ]
 
 -- ---- moves back
--- what a move that can have been made says
+-- what holds for a move from a to c that can have led to d
 pub record WasMove (d : Hunt) (a c : ℕ) : Type 0 where
   pub joined : are_joined a c ≡ true
   pub free : IsFree d a
   pub hare : d.hounds_move ≡ true → c ≡ d.hare
   pub hound : d.hounds_move ≡ false → (has_hound d c ≡ true) × (is_ahead a c ≡ true)
 
--- what the test says
+-- what holds where the test is passed
 pub moved_in : (d : Hunt) (m : ℕ) → was_moved d m ≡ true → WasMove d (from_point m) (to_point m)
 unfolding was_moved
 moved_in d m x =
@@ -181,7 +181,7 @@ moved_in d m x =
       hound = λ t. (let w : (has_hound d c && is_ahead a c) ≡ true = sym (cond-false _ _ _ t) ∙ z in (and_left _ _ w, and_right (has_hound d c) (is_ahead a c) w));
     }
 
--- and the other way round
+-- where that holds, the test is passed
 pub moved_from : (d : Hunt) (m : ℕ) → WasMove d (from_point m) (to_point m) → was_moved d m ≡ true
 unfolding was_moved
 moved_from d m h =
@@ -200,7 +200,7 @@ module _ (d : Hunt) (a c : ℕ) (h : WasMove d a c) where
   turned_points : c ≢ a
   turned_points e = joined_apart a c h.joined (sym e)
 
-  -- a move taken back, made again
+  -- a move taken back and made again leads to the same board
   back_gone : gone (back d a c) a c ≡ d
   back_gone = elim (cases_Bool d.hounds_move) [
     | inl t ↦ ap (λ (x : Hunt). gone x a c) (cond-true d.hounds_move (hare_back d a) (hound_back d a c) t)
@@ -243,7 +243,7 @@ module _ (b : Hunt) (a c : ℕ) (l : IsLegal b) (h : CanGo b a c) where
   ]
 
 -- ---- numbers of moves
--- a move made, taken back
+-- a move made and taken back leads to the same board
 pub undone : (b : Hunt) (m : ℕ) → IsLegal b → CanGo b (from_point m) (to_point m) → (was_moved (play b m) m ≡ true) × (taken_back (play b m) m ≡ b)
 unfolding play taken_back
 undone b m l h =
@@ -251,12 +251,12 @@ undone b m l h =
     let c = to_point m in
     (moved_from (gone b a c) m (gone_was b a c l h), gone_back b a c l h)
 
--- and a move taken back, made again
+-- a move taken back and made again leads to the same board
 pub redone : (d : Hunt) (m : ℕ) → was_moved d m ≡ true → play (taken_back d m) m ≡ d
 unfolding play taken_back
 redone d m e = back_gone d (from_point m) (to_point m) (moved_in d m e)
 
--- there are few
+-- there are at most 128 boards before
 pub befores_few : (d : Hunt) → length (filter (was_moved d) (range_with_len 0 numbers_end)) ≤ 128
 befores_few d =
     let few = filter_few (was_moved d) is_step (λ m e. (moved_in d m e).joined) (range_with_len 0 numbers_end) in omega (arith, few, steps_few)

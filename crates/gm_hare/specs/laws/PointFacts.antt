@@ -32,18 +32,18 @@ joined_parts a c e =
     let row = all_at (λ (a : ℕ). list_all (λ (c : ℕ). ltb c 11 && not (eqb a c)) (get_or edges a [])) (range_with_len 0 11) a edges_table (contains_range 11 a (joined_from a c e)) in
     ap (λ (k : ℕ). ltb k 11 && not (eqb a k)) (sym (eqb-true x.0 c x.2)) ∙ all_at (λ (c : ℕ). ltb c 11 && not (eqb a c)) (get_or edges a []) x.0 row x.1
 
--- it goes to one of them
+-- an edge goes to one of the eleven points
 pub joined_to : (a c : ℕ) → are_joined a c ≡ true → c < 11
 joined_to a c e = ltb-true c 11 (and_left _ _ (joined_parts a c e))
 
 differ : (a c : ℕ) → not (eqb a c) ≡ true → a ≢ c
 differ a c e = grind (arith, nat_tests)
 
--- and to another
+-- an edge goes to another point
 pub joined_apart : (a c : ℕ) → are_joined a c ≡ true → a ≢ c
 joined_apart a c e = differ a c (and_right (ltb c 11) (not (eqb a c)) (joined_parts a c e))
 
--- a point of the next column or of its own
+-- a point that is ahead is in the next column or in the same one
 pub ahead_column : (a c : ℕ) → is_ahead a c ≡ true → (column c ≡ column a) ⊎ (column c ≡ column a + 1)
 unfolding is_ahead
 ahead_column a c e = either (eqb (column c) (column a)) (eqb (column c) (column a + 1)) e (λ f. inl (eqb-true _ _ f)) (λ f. inr (eqb-true _ _ f))
@@ -78,15 +78,15 @@ points_table = refl
 point_at : (a : ℕ) → a < 11 → (ltb (mirror_point a) 11 && (eqb (mirror_point (mirror_point a)) a && eqb (column (mirror_point a)) (column a))) ≡ true
 point_at a l = all_at (λ (a : ℕ). ltb (mirror_point a) 11 && (eqb (mirror_point (mirror_point a)) a && eqb (column (mirror_point a)) (column a))) (range_with_len 0 11) a points_table (contains_range 11 a l)
 
--- a point goes to a point
+-- a point goes to a point when top and bottom are exchanged
 pub mirror_below : (a : ℕ) → a < 11 → mirror_point a < 11
 mirror_below a l = ltb-true _ _ (and_left _ _ (point_at a l))
 
--- and back
+-- the second exchange takes a point back
 pub mirror_twice : (a : ℕ) → a < 11 → mirror_point (mirror_point a) ≡ a
 mirror_twice a l = eqb-true _ _ (and_left _ _ (and_right _ _ (point_at a l)))
 
--- in the same column
+-- a point goes to a point of the same column
 pub mirror_column : (a : ℕ) → a < 11 → column (mirror_point a) ≡ column a
 mirror_column a l = eqb-true (column (mirror_point a)) (column a) (and_right (eqb (mirror_point (mirror_point a)) a) (eqb (column (mirror_point a)) (column a)) (and_right _ _ (point_at a l)))
 
@@ -102,7 +102,7 @@ mirror_joined a c l m =
     (all_at (λ (a : ℕ). list_all (λ (c : ℕ). same (are_joined (mirror_point a) (mirror_point c)) (are_joined a c)) (range_with_len 0 11)) (range_with_len 0 11) a edges_kept (contains_range 11 a l))
     (contains_range 11 c m))
 
--- ahead stays ahead
+-- a point that is ahead stays ahead
 pub mirror_ahead : (a c : ℕ) → a < 11 → c < 11 → is_ahead (mirror_point a) (mirror_point c) ≡ is_ahead a c
 unfolding is_ahead
 mirror_ahead a c l m = let e = mirror_column a l in let f = mirror_column c m in rw (e, f) refl
@@ -114,10 +114,10 @@ two = range_with_len 0 11 ∷ mirror ∷ []
 two_table : is_group_table 11 two ≡ true
 two_table = refl
 
--- they are a group
+-- the two symmetries are a group
 pub two_group : IsGroup 11 two
 two_group = group_from_table 11 two two_table
 
--- the exchange is one of them
+-- the exchange of top and bottom is one of the two
 pub mirror_in : Contains two mirror
 mirror_in = (1, omega arith, refl)

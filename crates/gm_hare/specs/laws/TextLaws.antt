@@ -28,7 +28,7 @@ text_length b = length-map-range_with_len (hunt_char b) 0 13
 char_plain : (b : Hunt) (k : ℕ) → is_plain (hunt_char b k) ≡ true
 char_plain b k = grind (arith, nat_tests)
 
--- the text is plain
+-- the text of a board is plain
 pub text_plain : (b : Hunt) → IsPlain (hunt_text b)
 unfolding hunt_text
 text_plain b = plain_map (hunt_char b) (char_plain b) (range_with_len 0 13)
@@ -68,7 +68,7 @@ hare_there : (x : Bool) (k h : ℕ) → x ≡ false → k ≡ h → eqb (if x th
 hare_there true k h e f = absurd (true≢false e)
 hare_there false k h e f = (let g = eq-eqb k h f in rw g refl)
 
--- the hare's point has that byte
+-- the hare's point has the byte of the hare
 pub hare_at : (b : Hunt) → IsLegal b → eqb (get_or (hunt_text b) b.hare 0) 104 ≡ true
 hare_at b l = ap (λ (n : ℕ). eqb n 104) (point_char b b.hare l.below) ∙ hare_there (has_hound b b.hare) b.hare b.hare l.apart refl
 
@@ -80,7 +80,7 @@ turn_by false = refl
 pub turn_char : (b : Hunt) → eqb (get_or (hunt_text b) 12 0) 100 ≡ b.hounds_move
 turn_char b = ap (λ (n : ℕ). eqb n 100) (text_at b 12 (omega arith)) ∙ turn_by b.hounds_move
 
--- boards with one text are one
+-- boards with the same text are the same
 pub text_once : (x y : Hunt) → IsLegal x → IsLegal y → hunt_text x ≡ hunt_text y → x ≡ y
 text_once x y l m e =
     same_hunt x y
@@ -110,7 +110,7 @@ same_lists (x ∷ xs) (y ∷ ys) e =
     let tail : xs ≡ ys = cc in
     let first = eq-eqb x y head in let rest = same_lists xs ys tail in rw (first, rest) refl
 
--- moves with one text are one
+-- moves with the same text are the same
 pub step_once : (m n : ℕ) → is_step m ≡ true → is_step n ≡ true → step_text m ≡ step_text n → m ≡ n
 unfolding apart_test
 step_once m n e f g =
@@ -136,7 +136,7 @@ pub step_short : (m : ℕ) → is_step m ≡ true → length (step_text m) ≤ 5
 unfolding is_short
 step_short m e = five (length (step_text m)) (and_left _ _ (short m e))
 
--- it is plain
+-- the text of a move is plain
 pub step_plain : (m : ℕ) → is_step m ≡ true → IsPlain (step_text m)
 unfolding is_short
 step_plain m e = and_right _ _ (short m e)
@@ -152,6 +152,6 @@ readable = record {
   step_once = λ b m n l h k e. step_once m n (move_in b m h.can).joined (move_in b n k.can).joined e;
 }
 
--- the same of positions
+-- the laws of texts, for positions and their moves
 pub texts_readable : IsShown hare_rules position_text move_text
 texts_readable = texts_are_shown hare_and_hounds hunt_text (λ t m. step_text m) numbered readable

@@ -31,7 +31,7 @@ pub record WasPlacement (v : Variant) (t : ℕ) (d : List Cell) (m : ℕ) : Type
   pub other : t ≢ last_tier v
   pub there : get_or d m Empty ≡ Theirs
 
--- one of the two
+-- what can have led to a board is one of the two
 pub was_cases : (v : Variant) (t : ℕ) (d : List Cell) (m : ℕ) → was_moved v t d m ≡ true → WasSlide v t d m ⊎ WasPlacement v t d m
 unfolding was_moved
 was_cases v t d m e = elim (cases_eq t (last_tier v)) [
@@ -52,7 +52,7 @@ was_placement : (v : Variant) (t : ℕ) (d : List Cell) (m : ℕ) → WasPlaceme
 unfolding was_moved
 was_placement v t d m h = cond-false _ _ _ (ne_eqb _ _ h.other) ∙ ap is_theirs h.there
 
--- the board before
+-- the board before a move from point to point
 pub back_slide : (v : Variant) (t : ℕ) (d : List Cell) (m : ℕ) → t ≡ last_tier v → taken_back v t d m ≡ brought_back d (m / 16) (m % 16)
 unfolding taken_back
 back_slide v t d m e = cond-true _ _ _ (eq-eqb _ _ e)
@@ -76,7 +76,7 @@ placement_redone v t d m h tier =
     ∙ set_and_back (map turned d) m Mine Empty (turned_cell d m Theirs h.there))
     ∙ turned_twice d
 
--- a move taken back, made again
+-- a move taken back and made again leads to the same board
 pub redone : (v : Variant) (t : ℕ) (d : List Cell) (m : ℕ) → was_moved v t d m ≡ true → mine (taken_back v t d m) + theirs (taken_back v t d m) ≡ t → play v (taken_back v t d m) m ≡ d
 redone v t d m w tier = elim (was_cases v t d m w) [
   | inl h ↦ slide_redone v t d m h tier
@@ -105,7 +105,7 @@ placement_undone v b m n h =
           ∙ set_and_back b m Empty Mine h.free,
     )
 
--- a move made, taken back
+-- a move made and taken back leads to the same board
 pub undone : (v : Variant) (b : List Cell) (m : ℕ) → length b ≡ 9 → IsMove (morris v) b m
     → (was_moved v (mine b + theirs b) (play v b m) m ≡ true) × (taken_back v (mine b + theirs b) (play v b m) m ≡ b)
 undone v b m n k = elim (step_cases v b m k) [
@@ -120,7 +120,7 @@ was_number v t d m e = elim (was_cases v t d m e) [
   | inr h ↦ cond-false _ _ _ (ne_eqb _ _ h.other)
 ]
 
--- there are at most 128 of them
+-- there are at most 128 boards before
 pub befores_few : (v : Variant) (t : ℕ) (d : List Cell) → length (filter (was_moved v t d) (range_with_len 0 (numbers_end v t))) ≤ 128
 befores_few v t d =
     let few = filter_few (was_moved v t d) (is_number v t) (was_number v t d) (range_with_len 0 (numbers_end v t)) in

@@ -20,12 +20,12 @@ use Rattle.gm_morris.specs.Points.{last_tier, lines}
 use Rattle.gm_morris.specs.Morris.{mine, theirs, has_line, legal}
 use Rattle.gm_morris.specs.laws.PointFacts.{lines_kept}
 
--- no more pieces than cells
+-- there are no more pieces than cells
 pub pieces_few : (b : List Cell) → mine b + theirs b ≤ length b
 pieces_few b = let n = all_cells b in omega (arith, n)
 
 -- ---- lines
--- what was the opponent's line is the mover's
+-- after the sides are exchanged, a line of the opponent's is the mover's
 pub line_turned : (v : Variant) (b : List Cell) → has_line v is_mine (map turned b) ≡ has_line v is_theirs b
 unfolding has_line
 line_turned v b = filled_turned (lines v) b
@@ -40,14 +40,14 @@ line_left v b d more h = h.filled (lines v)
 pub group : IsGroup 9 (square_symmetries 3)
 group = square_group 3 (omega arith) (omega arith)
 
--- an image has as many pieces
+-- an image has as many pieces of each side as the board
 pub image_pieces : (g : List ℕ) (b : List Cell) → Contains (square_symmetries 3) g → length b ≡ 9 → mine (permute Empty g b) + theirs (permute Empty g b) ≡ mine b + theirs b
 image_pieces g b c e =
     let m = image_number 9 (square_symmetries 3) group g b c is_mine e in
     let t = image_number 9 (square_symmetries 3) group g b c is_theirs e in
     omega (arith, m, t)
 
--- and a line where the board has one
+-- an image has a line where the board has one
 pub image_line : (v : Variant) (p : Cell → Bool) (g : List ℕ) (b : List Cell) → Contains (square_symmetries 3) g → length b ≡ 9 → has_line v p (permute Empty g b) ≡ has_line v p b
 unfolding has_line
 image_line v p g b c e = filled_image Empty p 9 (square_symmetries 3) (lines v) group (lines_kept v) g c b e
@@ -59,7 +59,7 @@ pub record IsLegal (v : Variant) (b : List Cell) : Type 0 where
   pub few : mine b + theirs b ≤ last_tier v
   pub no_line : has_line v is_mine b ≡ false
 
--- what the test says
+-- what holds where the test is passed
 pub legal_in : (v : Variant) (b : List Cell) → legal v b ≡ true → IsLegal v b
 unfolding legal
 legal_in v b l =
@@ -76,7 +76,7 @@ pub legal_from : (v : Variant) (b : List Cell) → IsLegal v b → legal v b ≡
 unfolding legal
 legal_from v b h = and_both _ _ (eq-eqb _ _ h.cells) (and_both _ _ (eq-eqb _ _ h.half) (and_both _ _ (le-leb _ _ h.few) (ap not h.no_line)))
 
--- its numbers
+-- a legal board has these numbers of cells and pieces
 pub legal_numbers : (v : Variant) (b : List Cell) → IsLegal v b → HasNumbers 9 ((mine b + theirs b) / 2) (mine b + theirs b - (mine b + theirs b) / 2) b
 legal_numbers v b h = record { cells = h.cells; own = h.half; other = other_half (mine b) (theirs b) h.half }
   where

@@ -29,7 +29,7 @@ pub size_at : (v : Variant) (t : ℕ) → t ≤ last_tier v → size_of v t ≡ 
 unfolding size_of
 size_at v t l = cond-true _ _ _ (le-leb _ _ l)
 
--- an index below the size is one of a tier of the game
+-- an index below the size is an index of a tier of the game
 pub tier_below : (v : Variant) (t i : ℕ) → i < size_of v t → t ≤ last_tier v
 unfolding size_of
 tier_below v t i l = elim (cases_Bool (leb t (last_tier v))) [
@@ -37,7 +37,7 @@ tier_below v t i l = elim (cases_Bool (leb t (last_tier v))) [
   | inr e ↦ absurd (let n = cond-false {A = ℕ} (leb t (last_tier v)) (arrangements 9 (t / 2) (t - t / 2)) 0 e in omega (arith, l, n))
 ]
 
--- and below the number of arrangements
+-- an index below the size is below the number of arrangements
 pub below_arrangements : (v : Variant) (t i : ℕ) → i < size_of v t → i < arrangements 9 (t / 2) (t - t / 2)
 below_arrangements v t i l = subst (λ (n : ℕ). i < n) (size_at v t (tier_below v t i l)) l
 
@@ -100,7 +100,7 @@ start_legal v =
       no_line = no_lines v;
     })
 
--- the laws that are their own
+-- each game's own laws
 pub lawful : (v : Variant) → IsMoveGame (morris v)
 lawful v = record {
   name_length = (name_text v).0;

@@ -54,11 +54,11 @@ slide_or_place v b m e l = elim (cases_eq (mine b + theirs b) (last_tier v)) [
       inr (record { before = q; point = omega (arith, l, n); free = empty_cell _ f }))
 ]
 
--- a move is one of the two
+-- a move is either from point to point or a placement
 pub step_cases : (v : Variant) (b : List Cell) (m : ℕ) → IsMove (morris v) b m → IsSlide v b m ⊎ IsPlacement v b m
 step_cases v b m h = slide_or_place v b m h.can h.below
 
--- the points of a move
+-- what holds for the two points of a move from point to point
 pub record ArePoints (v : Variant) (m : ℕ) : Type 0 where
   pub start : m / 16 < 9
   pub goal : m % 16 < 9
@@ -66,13 +66,13 @@ pub record ArePoints (v : Variant) (m : ℕ) : Type 0 where
 pub slide_points : (v : Variant) (m : ℕ) → joins v (m / 16) (m % 16) ≡ true → ArePoints v m
 slide_points v m e = let w = joined_within v (m / 16) (m % 16) e in record { start = w.0; goal = w.1 }
 
--- it is the step of a piece
+-- a move from point to point is the step of a piece
 pub slide_is_step : (v : Variant) (b : List Cell) (m : ℕ) → length b ≡ 9 → IsSlide v b m → IsStep b (m / 16) (m % 16)
 slide_is_step v b m n h =
     let w = slide_points v m h.joined in
     record { from_below = (let l = w.start in omega (arith, l, n)); to_below = (let l = w.goal in omega (arith, l, n)); mine = h.here; free = h.free }
 
--- and the other way round
+-- where the game is not over, what holds for a move from point to point makes it one
 pub slide_step : (v : Variant) (b : List Cell) (m : ℕ) → IsSlide v b m → over v b ≡ None → IsMove (morris v) b m
 unfolding can_move
 slide_step v b m h o = record {
@@ -81,7 +81,7 @@ slide_step v b m h o = record {
   can = cond-true _ _ _ (eq-eqb _ _ h.last) ∙ and_both _ _ h.joined (and_both _ _ (ap is_mine h.here) (ap is_empty h.free));
 }
 
--- of a placement
+-- where the game is not over, what holds for a placement makes it one
 pub placement_step : (v : Variant) (b : List Cell) (m : ℕ) → IsPlacement v b m → over v b ≡ None → IsMove (morris v) b m
 unfolding can_move
 placement_step v b m h o = record {
@@ -108,7 +108,7 @@ no_line v b e = elim (cases_Bool (has_line v is_theirs b)) [
 unfoldable pub is_number : Variant → ℕ → ℕ → Bool
 is_number v t m = cond (eqb t (last_tier v)) (joins v (m / 16) (m % 16)) true
 
--- there are at most 128
+-- there are at most 128 such numbers
 pub numbers_few : (v : Variant) (t : ℕ) → length (filter (is_number v t) (range_with_len 0 (numbers_end v t))) ≤ 128
 unfolding is_number
 numbers_few v t = elim (cases_eq t (last_tier v)) [
@@ -129,7 +129,7 @@ can_number v b m e = elim (cases_Bool (eqb (mine b + theirs b) (last_tier v))) [
   | inr t ↦ cond-false _ _ _ t
 ]
 
--- so few can be made
+-- so at most 128 moves can be made
 pub steps_few : (v : Variant) (b : List Cell) → length (steps (morris v) b) ≤ 128
 unfolding steps
 steps_few v b =

@@ -34,7 +34,7 @@ pub placement_moved : (v : Variant) (b : List Cell) (m : ℕ) → mine b + their
 unfolding moved
 placement_moved v b m q = cond-false _ _ _ (ne_eqb _ _ q)
 
--- the board when the roles swap
+-- the board after a move from point to point, when the roles have swapped
 pub slide_played : (v : Variant) (b : List Cell) (m : ℕ) → mine b + theirs b ≡ last_tier v → play v b m ≡ gone b (m / 16) (m % 16)
 unfolding play
 slide_played v b m e = ap (map turned) (slide_moved v b m e)
@@ -49,7 +49,7 @@ slide_left v b m n h = step_left b (m / 16) (m % 16) (slide_is_step v b m n h)
 placement_left : (v : Variant) (b : List Cell) (m : ℕ) → length b ≡ 9 → IsPlacement v b m → IsLeft b (set b m Mine) 1
 placement_left v b m n h = let p = h.point in placed_left b m (omega (arith, p, n)) h.free
 
--- the board after the roles swap
+-- what a move leaves is a legal board when the roles have swapped
 left_legal : (v : Variant) (b d : List Cell) (more : ℕ) → IsLegal v b → has_line v is_theirs b ≡ false → IsLeft b d more
     → theirs b ≡ (mine b + theirs b + more) / 2 → mine b + theirs b + more ≤ last_tier v → legal v (map turned d) ≡ true
 left_legal v b d more h e k half few =
@@ -93,7 +93,7 @@ next_tier : (v : Variant) (t : ℕ) → t < last_tier v → Contains (child_tier
 unfolding child_tiers_of
 next_tier v t l = subst (λ (xs : List ℕ). Contains xs (t + 1)) (sym (cond-true _ _ _ (lt-ltb _ _ l))) (contains_head (t + 1) [])
 
--- it stays in its tier or goes to the next
+-- a move stays in its tier or goes to the next
 pub play_tier : (v : Variant) (b : List Cell) (m : ℕ) → legal v b ≡ true → IsMove (morris v) b m
     → (mine (play v b m) + theirs (play v b m) ≡ mine b + theirs b) ⊎ Contains (child_tiers_of v (mine b + theirs b)) (mine (play v b m) + theirs (play v b m))
 unfolding play
@@ -164,7 +164,7 @@ pub image_over : (v : Variant) (g : List ℕ) (b : List Cell) → Contains (squa
 unfolding over
 image_over v g b c e = ap (λ (x : Bool). cond x (Some Lose) None) (image_line v is_theirs g b c e)
 
--- a move of a board is one of its image
+-- a move of a board has an image among the moves of the image
 pub image_move : (v : Variant) (g : List ℕ) (b : List Cell) (m : ℕ) → Contains (square_symmetries 3) g → length b ≡ 9 → IsMove (morris v) b m
     → (n : ℕ) × IsMove (morris v) (permute Empty g b) n × (play v (permute Empty g b) n ≡ permute Empty g (play v b m))
 image_move v g b m c e d =

@@ -20,14 +20,14 @@ name_text TicTacToe = (refl, refl)
 name_text ThreeMens = (refl, refl)
 name_text Achi = (refl, refl)
 
--- no more pieces than points
+-- there are no more pieces than points
 pub last_tier_small : (v : Variant) → last_tier v ≤ 9
 unfolding last_tier
 last_tier_small TicTacToe = omega arith
 last_tier_small ThreeMens = omega arith
 last_tier_small Achi = omega arith
 
--- where pieces move in the last tier, both sides have as many
+-- where pieces move in the last tier, both sides have equally many
 pub last_tier_even : (v : Variant) (a b : ℕ) → joins v a b ≡ true → last_tier v % 2 ≡ 0
 unfolding last_tier joins
 last_tier_even TicTacToe a b e = absurd (let z : ⊥ = cc in z)
@@ -59,13 +59,13 @@ joined_within Achi a b e = (ltb-true a 9 (and_left _ _ e), ltb-true b 9 (and_lef
 abbrev pub at_all : ℕ → ℕ → (ℕ → ℕ → Bool) → Bool
 at_all n m p = list_all (λ a. list_all (p a) (range_with_len 0 m)) (range_with_len 0 n)
 
--- it holds of each two
+-- a test that passes at all of them holds of each two
 pub at_each : (n m : ℕ) (p : ℕ → ℕ → Bool) → at_all n m p ≡ true → (a b : ℕ) → a < n → b < m → p a b ≡ true
 at_each n m p e a b l k =
     all_at (p a) (range_with_len 0 m) b
     (all_at (λ (x : ℕ). list_all (p x) (range_with_len 0 m)) (range_with_len 0 n) a e (contains_range n a l)) (contains_range m b k)
 
--- two tests with one answer
+-- two tests have the same answer
 abbrev pub agree : Bool → Bool → Bool
 agree true y = y
 agree false y = not y
@@ -76,7 +76,7 @@ agree_same true false e = absurd (let z : ⊥ = cc in z)
 agree_same false true e = absurd (let z : ⊥ = cc in z)
 agree_same false false e = refl
 
--- whether the points to which two points come are joined as they are
+-- whether two points are joined exactly where the points that a symmetry brings to them are
 unfoldable pub keeps_joins : Variant → Bool
 keeps_joins v = list_all (λ g. at_all 9 9 (λ a b. agree (joins v (get_or g a 0) (get_or g b 0)) (joins v a b))) (square_symmetries 3)
 
@@ -94,7 +94,7 @@ joined_image v g a b c l k =
     (all_at (λ (g : List ℕ). at_all 9 9 (λ a b. agree (joins v (get_or g a 0) (get_or g b 0)) (joins v a b))) (square_symmetries 3) g (joins_kept v) c)
     a b l k)
 
--- there are few numbers of moves from point to point
+-- whether there are at most 128 numbers of moves from point to point
 unfoldable pub few_joins : Variant → Bool
 few_joins v = leb (length (filter (λ m. joins v (m / 16) (m % 16)) (range_with_len 0 144))) 128
 
@@ -108,7 +108,7 @@ pub joined_few : (v : Variant) → length (filter (λ m. joins v (m / 16) (m % 1
 unfolding few_joins
 joined_few v = leb-true _ 128 (few v)
 
--- the tables of the code
+-- the code's table of neighbors is right for Three Men's Morris
 beside_passes : at_all 9 16 (λ a b. agree (has_cell (get_or BESIDE a 0) b) (joins ThreeMens a b)) ≡ true
 unfolding joins
 beside_passes = refl
@@ -120,7 +120,7 @@ along_passes : at_all 9 16 (λ a b. agree (has_cell (get_or ALONG_LINES a 0) b) 
 unfolding joins
 along_passes = refl
 
--- of Achi
+-- the code's table of neighbors is right for Achi
 pub along_joins : (a b : ℕ) → a < 9 → b < 16 → has_cell (get_or ALONG_LINES a 0) b ≡ joins Achi a b
 along_joins a b l k = agree_same _ _ (at_each 9 16 (λ a b. agree (has_cell (get_or ALONG_LINES a 0) b) (joins Achi a b)) along_passes a b l k)
 
@@ -129,7 +129,7 @@ pub all_lines : (v : Variant) → (v ≡ TicTacToe) ⊎ (v ≡ Achi) → map pat
 unfolding lines
 all_lines v h = elim h [ inl e ↦ ap (λ (u : Variant). map pattern_mask (lines u)) e ∙ masks_of_lines | inr e ↦ ap (λ (u : Variant). map pattern_mask (lines u)) e ∙ masks_of_lines ]
 
--- without the diagonals
+-- the masks of the lines without the diagonals
 pub most_lines : (v : Variant) → v ≡ ThreeMens → map pattern_mask (lines v) ≡ STRAIGHT_LINES
 unfolding lines
 most_lines v e = ap (λ (u : Variant). map pattern_mask (lines u)) e ∙ masks_of_straight_lines

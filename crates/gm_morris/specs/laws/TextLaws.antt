@@ -20,7 +20,7 @@ use Rattle.gm_morris.specs.Texts.{step_text, position_text, move_text}
 slide_once : (m k : ℕ) → cell_text 3 (m / 16) ++ 45 ∷ cell_text 3 (m % 16) ≡ cell_text 3 (k / 16) ++ 45 ∷ cell_text 3 (k % 16) → m ≡ k
 slide_once m k e = let h = step_text_once 3 (m / 16) (m % 16) (k / 16) (k % 16) e in omega (arith, h.0, h.1)
 
--- moves with one text are one
+-- moves with the same text are the same
 pub step_once : (v : Variant) (t m k : ℕ) → step_text v t m ≡ step_text v t k → m ≡ k
 unfolding step_text
 step_once v t m k e = elim (cases_Bool (eqb t (last_tier v))) [
@@ -34,7 +34,7 @@ unfolding step_text
 step_short v t m =
     cond_both (eqb t (last_tier v)) (cell_text 3 (m / 16) ++ 45 ∷ cell_text 3 (m % 16)) (cell_text 3 m) (λ (t : List ℕ). length t ≤ 5) (λ e. omega arith) (λ e. omega arith)
 
--- it is plain
+-- the text of a move is plain
 pub step_plain : (v : Variant) (t m : ℕ) → m < numbers_end v t → IsPlain (step_text v t m)
 unfolding step_text numbers_end
 step_plain v t m l =
@@ -53,6 +53,6 @@ readable v = record {
   step_once = λ b m n l h k e. step_once v (mine b + theirs b) m n e;
 }
 
--- the same of positions, in the game with this last tier
+-- the laws of texts, for positions and their moves in the game with this last tier
 pub texts_readable : (n : ℕ) → IsShown (morris_rules n) position_text (move_text n)
 texts_readable n = let v = variant_of n in texts_are_shown (morris v) board_text (step_text v) (numbered v) (readable v)

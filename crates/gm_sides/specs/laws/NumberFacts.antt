@@ -1,4 +1,4 @@
--- The numbering of the boards with so many pieces of each side is one to one.
+-- The numbering of the boards with these numbers of pieces of each side is one to one.
 use Rattle.std.proofs.Common.{◌≡◌, ℕ, ◌<◌, List, reverse, length, sym, ap, ◌∙◌}
 use Rattle.std.proofs.lemmas.List.{length-reverse, reverse-reverse}
 use Rattle.gm_board.specs.declared.cell.Cell.{Cell}
@@ -8,13 +8,13 @@ use Rattle.gm_board.specs.Cells.{is_mine, is_theirs, number_of}
 use Rattle.gm_sides.specs.Sides.{board_index, board_numbered}
 use Rattle.gm_board.specs.laws.CellCounts.{number_reverse, mine_members, their_members}
 
--- n cells, m pieces of the mover's and t of the opponent's
+-- the board has n cells, m pieces of the mover's and t of the opponent's
 pub record HasNumbers (n m t : ℕ) (b : List Cell) : Type 0 where
   pub cells : length b ≡ n
   pub own : number_of is_mine b ≡ m
   pub other : number_of is_theirs b ≡ t
 
--- each board of an index below the number of arrangements has them
+-- each board of an index below the number of arrangements has these numbers
 pub board_numbers : (n m t i : ℕ) → i < arrangements n m t → HasNumbers n m t (board_numbered n m t i)
 unfolding board_numbered
 board_numbers n m t i l =
@@ -34,17 +34,17 @@ module _ (n m t : ℕ) where
     reverse_theirs : members (their_bits (reverse b)) ≡ t
     reverse_theirs = their_members (reverse b) ∙ number_reverse is_theirs b ∙ h.other
 
-    -- its index is one of them
+    -- the index of a board is below the number of arrangements
     pub index_below : board_index b < arrangements n m t
     unfolding board_index
     index_below = index_below_at n m t (reverse b) (length-reverse b ∙ h.cells) reverse_mine reverse_theirs
 
-    -- and tells it
+    -- the index of a board gives the board back
     pub board_back : board_numbered n m t (board_index b) ≡ b
     unfolding board_index board_numbered
     board_back = ap reverse (back_at n m t (reverse b) (length-reverse b ∙ h.cells) reverse_mine reverse_theirs) ∙ reverse-reverse b
 
-  -- the index of the board of an index
+  -- the board of an index gives the index back
   pub index_back : (i : ℕ) → i < arrangements n m t → board_index (board_numbered n m t i) ≡ i
   unfolding board_index board_numbered
   index_back i l = ap arrangement_index (reverse-reverse (arrangement n m t i)) ∙ (arrangement_is n m t i l).back

@@ -14,16 +14,16 @@ use Rattle.gm_tactix.specs.Board.{has_counter, is_full, is_free, is_among, witho
 use Rattle.gm_tactix.specs.laws.SegmentFacts.{among_in, among_from}
 
 -- ---- cells of boards
--- boards that agree on each cell
+-- boards that agree on each cell are the same
 pub same_board : (a b : List Bool) → length a ≡ length b → ((k : ℕ) → k < length a → has_counter a k ≡ has_counter b k) → a ≡ b
 same_board a b e h = ext_get_or false a b e h
 
--- emptied cells stay cells
+-- a board has as many cells after cells are emptied
 pub length_without : (b : List Bool) (cs : List ℕ) → length (without b cs) ≡ length b
 unfolding without
 length_without b cs = length-map-range_with_len (λ (k : ℕ). has_counter b k && not (is_among k cs)) 0 (length b)
 
--- so do filled ones
+-- a board has as many cells after cells are filled
 pub length_with : (b : List Bool) (cs : List ℕ) → length (with_counters b cs) ≡ length b
 unfolding with_counters
 length_with b cs = length-map-range_with_len (λ (k : ℕ). has_counter b k || is_among k cs) 0 (length b)
@@ -54,7 +54,7 @@ full_at b cs k e c = all_at (has_counter b) cs k e c
 pub free_at : (b : List Bool) (cs : List ℕ) (k : ℕ) → is_free b cs ≡ true → Contains cs k → has_counter b k ≡ false
 free_at b cs k e c = not-true _ (all_at (λ (j : ℕ). not (has_counter b j)) cs k e c)
 
--- a test that each cell of a list passes
+-- a test that each cell of a list passes holds of the list
 pub all_cells : (p : ℕ → Bool) (cs : List ℕ) → ((k : ℕ) → Contains cs k → p k ≡ true) → list_all p cs ≡ true
 all_cells p [] h = refl
 all_cells p (c ∷ cs) h = and_both _ _ (h c (contains_head c cs)) (all_cells p cs (λ k d. h k (contains_later c cs k d)))
@@ -66,7 +66,7 @@ counter_within b k e = elim (cases_lt k (length b)) [
   | inr l ↦ absurd (let p = get_or_past b k false l in let z : ⊥ = cc in z)
 ]
 
--- no cell of a board is left on cells emptied
+-- cells that were emptied are free
 pub free_without : (b : List Bool) (cs : List ℕ) → is_free (without b cs) cs ≡ true
 free_without b cs =
     all_cells (λ (k : ℕ). not (has_counter (without b cs) k)) cs
@@ -86,7 +86,7 @@ full_with b cs h =
     or_true true = refl
     or_true false = refl
 
--- free cells that are filled and emptied again
+-- free cells that are filled and emptied again leave the board as it was
 pub without_with : (b : List Bool) (cs : List ℕ) → is_free b cs ≡ true → without (with_counters b cs) cs ≡ b
 without_with b cs e =
     same_board (without (with_counters b cs) cs) b (length_without (with_counters b cs) cs ∙ length_with b cs)
@@ -101,7 +101,7 @@ without_with b cs e =
     back false true h = refl
     back false false h = refl
 
--- full cells that are emptied and filled again
+-- full cells that are emptied and filled again leave the board as it was
 pub with_without : (b : List Bool) (cs : List ℕ) → is_full b cs ≡ true → with_counters (without b cs) cs ≡ b
 with_without b cs e =
     same_board (with_counters (without b cs) cs) b (length_with (without b cs) cs ∙ length_without b cs)
@@ -140,7 +140,7 @@ members_reverse (x ∷ b) =
     ∙ ap (λ (n : ℕ). n + members (x ∷ [])) (members_reverse b)
     ∙ sym (members_one x b)
 
--- a counter less
+-- a board with one counter fewer
 members_set : (b : List Bool) (c : ℕ) → has_counter b c ≡ true → members (set b c false) + 1 ≡ members b
 members_set [] c e = absurd (let z : ⊥ = cc in z)
 members_set (true ∷ b) zero e = omega arith
@@ -148,7 +148,7 @@ members_set (false ∷ b) zero e = absurd (let z : ⊥ = cc in z)
 members_set (true ∷ b) (suc c) e = omega (arith, members_set b c e)
 members_set (false ∷ b) (suc c) e = omega (arith, members_set b c e)
 
--- cells that come later
+-- a cell before the first of some cells is not among them
 among_later : (k c step n : ℕ) → k < c → is_among k (cells_from c step n) ≡ false
 among_later k c step zero l = refl
 among_later k c step (suc n) l =
@@ -181,7 +181,7 @@ without_more b c cs =
     and_false true = refl
     and_false false = refl
 
--- taking n counters from cells in a row leaves so many less
+-- taking n counters from cells in a row leaves n fewer
 pub members_without : (b : List Bool) (c step n : ℕ) → 0 < step → is_full b (cells_from c step n) ≡ true → members (without b (cells_from c step n)) + n ≡ members b
 members_without b c step zero p e = let q : members (without b []) ≡ members b = ap members (without_none b) in omega arith
 members_without b c step (suc n) p e =
@@ -193,7 +193,7 @@ members_without b c step (suc n) p e =
     let i : members (without b rest) + n ≡ members b = members_without b (c + step) step n p (and_right (has_counter b c) (is_full b rest) e) in
     omega (arith, q, r, i)
 
--- a board without counters, and one with some
+-- a board without counters has none on any cell
 pub no_counters : (b : List Bool) (k : ℕ) → members b ≡ 0 → has_counter b k ≡ false
 no_counters [] k e = refl
 no_counters (true ∷ b) k e = absurd (omega arith)
@@ -206,7 +206,7 @@ some_counter [] l = absurd (omega arith)
 some_counter (true ∷ b) l = (0, refl)
 some_counter (false ∷ b) l = let x = some_counter b l in (suc x.0, x.1)
 
--- no more counters than cells
+-- there are no more counters than cells
 pub members_le_length : (b : List Bool) → members b ≤ length b
 members_le_length [] = omega arith
 members_le_length (true ∷ b) = omega (arith, members_le_length b)

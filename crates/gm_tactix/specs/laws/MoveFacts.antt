@@ -17,7 +17,7 @@ use Rattle.gm_tactix.specs.laws.SegmentFacts.{number_below, length_bounds, singl
 use Rattle.gm_tactix.specs.laws.CounterFacts.{length_without, full_at, counter_within, free_without, without_with, with_without, members_without, no_counters, some_counter}
 
 -- ---- ranges
--- each of them is there
+-- each number of a range is in it
 pub range_from : (a n x : ℕ) → a ≤ x → x < a + n → Contains (range_with_len a n) x
 range_from a n x l h =
     let same = length-range_with_len a n in
@@ -50,7 +50,7 @@ pub move_from : (s : ℕ) (b : List Bool) (m : ℕ) → is_segment s m ≡ true 
 unfolding can_take
 move_from s b m e f = and_both _ _ e f
 
--- a move's segment is one
+-- there is a segment with a move's number
 pub take_segment : (s : ℕ) (b : List Bool) (m : ℕ) → can_take s b m ≡ true → is_segment s m ≡ true
 take_segment s b m e = (move_in s b m e).0
 
@@ -61,7 +61,7 @@ moves_few s misere b low high =
     let few = filter_few (can_take s b) (is_segment s) (take_segment s b) (range_with_len 0 (numbers_end s)) in
     let all = segments_few s low high in omega (arith, few, all)
 
--- a move keeps the square
+-- a move leaves as many cells
 pub play_length : (s : ℕ) (b : List Bool) (m : ℕ) → length (play s b m) ≡ length b
 unfolding play
 play_length s b m = length_without b (segment_cells s m)
@@ -87,7 +87,7 @@ first_in : (s m : ℕ) → 1 ≤ segment_length m → Contains (segment_cells s 
 unfolding segment_cells
 first_in s m l = cells_head (first_cell m) (stride s m) (segment_length m) l
 
--- there is no move without counters, and one with some
+-- without counters there is no move
 no_moves : (s : ℕ) (b : List Bool) → members b ≡ 0 → (m : ℕ) → can_take s b m ≡ true → ⊥
 no_moves s b e m c =
     let h = move_in s b m c in
@@ -105,7 +105,7 @@ some_move s b l e h =
           (ap (is_full b) (single_cells s x.0) ∙ and_both _ _ x.1 refl),
     )
 
--- so who has no counter is stuck, and only he
+-- so a player has no move exactly where there are no counters
 pub stuck_is : (s : ℕ) (misere : Bool) (b : List Bool) → 1 ≤ s → length b ≡ s * s → eqb (length (steps (tactix s misere) b)) 0 ≡ eqb (members b) 0
 stuck_is s misere b l e = elim (cases_lt 0 (members b)) [
   | inl h ↦ (
@@ -119,13 +119,13 @@ stuck_is s misere b l e = elim (cases_lt 0 (members b)) [
 ]
 
 -- ---- the boards before
--- what a segment that was taken says
+-- what holds for a segment that can have been taken
 pub record WasTaken (s t : ℕ) (d : List Bool) (m : ℕ) : Type 0 where
   pub segment : is_segment s m ≡ true
   pub free : is_free d (segment_cells s m) ≡ true
   pub tier : members d + segment_length m ≡ t
 
--- what the test says
+-- what holds where the test is passed
 pub taken_in : (s t : ℕ) (d : List Bool) (m : ℕ) → was_taken s t d m ≡ true → WasTaken s t d m
 unfolding was_taken
 taken_in s t d m e = record {
@@ -138,7 +138,7 @@ taken_from : (s t : ℕ) (d : List Bool) (m : ℕ) → WasTaken s t d m → was_
 unfolding was_taken
 taken_from s t d m h = and_both _ _ h.segment (and_both _ _ h.free (eq-eqb _ _ h.tier))
 
--- taken, and given back
+-- a segment taken and given back leaves the board as it was
 pub undone : (s : ℕ) (b : List Bool) (m : ℕ) → 1 ≤ s → can_take s b m ≡ true
     → (was_taken s (members b) (play s b m) m ≡ true) × (with_counters (play s b m) (segment_cells s m) ≡ b)
 unfolding play
@@ -149,12 +149,12 @@ undone s b m low e =
       with_without b cs v.1,
     )
 
--- given back, and taken again
+-- a segment given back and taken again leaves the board as it was
 pub redone : (s t : ℕ) (d : List Bool) (m : ℕ) → was_taken s t d m ≡ true → play s (with_counters d (segment_cells s m)) m ≡ d
 unfolding play
 redone s t d m e = without_with d (segment_cells s m) (taken_in s t d m e).free
 
--- there are at most 128 numbers to give back
+-- there are at most 128 segments to give back
 pub befores_few : (s t : ℕ) (d : List Bool) → 1 ≤ s → s ≤ 5 → length (filter (was_taken s t d) (range_with_len 0 (numbers_end s))) ≤ 128
 befores_few s t d low high =
     let few = filter_few (was_taken s t d) (is_segment s) (λ m e. (taken_in s t d m e).segment) (range_with_len 0 (numbers_end s)) in

@@ -63,7 +63,7 @@ pass_5 : segments_pass 5 ≡ true
 unfolding segments_pass keeps_segments segments_within segment_cells is_segment square_symmetries
 pass_5 = refl
 
--- what holds of each side
+-- what holds for each side from 1 to 5
 pub for_sides : (P : ℕ → Type 0) → P 1 → P 2 → P 3 → P 4 → P 5 → (s : ℕ) → 1 ≤ s → s ≤ 5 → P s
 for_sides P a b c d e zero l h = absurd (omega arith)
 for_sides P a b c d e (suc zero) l h = a
@@ -80,7 +80,7 @@ pass = for_sides (λ s. segments_pass s ≡ true) pass_1 pass_2 pass_3 pass_4 pa
 pub square_small : (s : ℕ) → 1 ≤ s → s ≤ 5 → s * s ≤ 25
 square_small = for_sides (λ s. s * s ≤ 25) (omega arith) (omega arith) (omega arith) (omega arith) (omega arith)
 
--- also one of side 0
+-- a square has at most 25 cells, also with side 0
 pub square_few : (s : ℕ) → s ≤ 5 → s * s ≤ 25
 square_few zero h = omega arith
 square_few (suc s) h = square_small (suc s) (omega arith) h
@@ -108,7 +108,7 @@ pub length_bounds : (s m : ℕ) → is_segment s m ≡ true → (1 ≤ segment_l
 unfolding is_segment
 length_bounds s m e = two_bounds (goes_down m) (segment_length m) (first_cell m / s) (first_cell m % s) s (and_right _ _ e)
 
--- the segment of one cell
+-- there is a segment of each single cell
 pub single : (s k : ℕ) → 1 ≤ s → k < s * s → is_segment s (16 * k + 2) ≡ true
 unfolding is_segment
 single s k l h =
@@ -118,7 +118,7 @@ single s k l h =
     let r : k % s + 1 ≤ s = omega arith in
     rw (f, n, d) (and_both _ _ (lt-ltb k (s * s) h) (le-leb (k % s + 1) s r))
 
--- its cell
+-- the segment of a single cell has this cell alone
 pub single_cells : (s k : ℕ) → segment_cells s (16 * k + 2) ≡ k ∷ []
 unfolding segment_cells
 single_cells s k =
@@ -134,7 +134,7 @@ module _ (s : ℕ) (low : 1 ≤ s) (high : s ≤ 5) where
   passed : segments_pass s ≡ true
   passed = pass s low high
 
-  -- there are at most 128
+  -- there are at most 128 segments
   pub segments_few : length (segments s) ≤ 128
   unfolding segments_pass
   segments_few = leb-true (length (segments s)) 128 (and_left _ _ passed)
@@ -161,7 +161,7 @@ pub among_in : (k : ℕ) (cs : List ℕ) → is_among k cs ≡ true → Contains
 among_in k cs e =
     let x = any_at (λ (c : ℕ). eqb c k) cs e in subst (λ (c : ℕ). Contains cs c) (eqb-true x.0 k x.2) x.1
 
--- and the other way round
+-- a cell that is one of some cells is among them
 pub among_from : (k : ℕ) (cs : List ℕ) → Contains cs k → is_among k cs ≡ true
 among_from k cs c = any_from (λ (c : ℕ). eqb c k) cs k c (eq-eqb k k refl)
 

@@ -49,12 +49,12 @@ module _ (s : ℕ) (low : 1 ≤ s) (high : s ≤ 5) where
   unfolding counters_index counters_at
   index_back t i l = ap rank (reverse-reverse (unrank (s * s) t i)) ∙ rank_unrank (s * s) t i l
 
-  -- each index below the size is that of a board
+  -- the board with an index has the cells of the square
   pub board_length : (t i : ℕ) → length (counters_at s t i) ≡ s * s
   unfolding counters_at
   board_length t i = length-reverse (unrank (s * s) t i) ∙ unrank_length (s * s) t i
 
-  -- it has as many counters as the tier says
+  -- the board with an index has as many counters as the tier says
   pub board_members : (t i : ℕ) → i < binomial (s * s) t → members (counters_at s t i) ≡ t
   unfolding counters_at
   board_members t i l = members_reverse (unrank (s * s) t i) ∙ unrank_members (s * s) t i l
@@ -84,7 +84,7 @@ module _ (s : ℕ) (low : 1 ≤ s) (high : s ≤ 5) where
   name_text true = for_sides (λ s. (length (tactix_name s true) ≡ 16) × IsPaddedText (tactix_name s true)) (refl, refl) (refl, refl) (refl, refl) (refl, refl) (refl, refl) s low high
   name_text false = for_sides (λ s. (length (tactix_name s false) ≡ 16) × IsPaddedText (tactix_name s false)) (refl, refl) (refl, refl) (refl, refl) (refl, refl) (refl, refl) s low high
 
-  -- the laws that are its own
+  -- the game's own laws
   pub lawful : (misere : Bool) → IsMoveGame (tactix s misere)
   lawful misere = record {
     name_length = (name_text misere).0;
@@ -152,12 +152,12 @@ module _ (s : ℕ) (low : 1 ≤ s) (high : s ≤ 5) where
         (x.0, record { below = number_below s x.0 (move_in s (permute false g b) x.0 x.1).0; not_over = over ∙ h.not_over; can = x.1 }, x.2);
   }
 
--- any N plays on a square of side 1 to 5
+-- the side of the square is at least 1 for any N
 pub side_low : (n : ℕ) → 1 ≤ side_of n
 unfolding side_of
 side_low n = grind (arith, nat_tests)
 
--- at most 5
+-- the side of the square is at most 5 for any N
 pub side_high : (n : ℕ) → side_of n ≤ 5
 unfolding side_of
 side_high n = grind (arith, nat_tests)

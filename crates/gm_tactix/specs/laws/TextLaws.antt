@@ -23,12 +23,12 @@ pub text_length : (b : List Bool) → length (board_text b) ≡ length b
 unfolding board_text
 text_length b = length-map b counter_text
 
--- the cell with a byte
+-- the byte of a cell gives back whether it has a counter
 pub counter_back : (b : Bool) → eqb (counter_text b) 120 ≡ b
 counter_back true = refl
 counter_back false = refl
 
--- boards with one text are one
+-- boards with the same text are the same
 pub text_once : (a b : List Bool) → board_text a ≡ board_text b → a ≡ b
 unfolding board_text
 text_once a b e = map_once counter_text (λ (v : ℕ). eqb v 120) counter_back a b e
@@ -37,7 +37,7 @@ counter_plain : (b : Bool) → is_plain (counter_text b) ≡ true
 counter_plain true = refl
 counter_plain false = refl
 
--- they are plain
+-- the text of a board is plain
 pub text_plain : (b : List Bool) → IsPlain (board_text b)
 unfolding board_text
 text_plain b = plain_map counter_text counter_plain b
@@ -49,11 +49,11 @@ number_in_text s (r ∷ c ∷ []) = 16 * (s * (r - 97) + (c - 49)) + 2
 number_in_text s (r ∷ c ∷ d ∷ q ∷ e ∷ cs) = 16 * (s * (r - 97) + (c - 49)) + cond (eqb r q) (2 * (e - c + 1)) (2 * (q - r + 1) + 1)
 number_in_text s cs = 0
 
--- whether the number of a segment is in its text, which is plain
+-- whether the text of a segment is plain and its number can be read from it
 abbrev pub text_passes : ℕ → ℕ → Bool
 text_passes s m = eqb (number_in_text s (segment_text s m)) m && list_all is_plain (segment_text s m)
 
--- whether this holds of each segment
+-- whether the test passes for each segment
 unfoldable pub texts_pass : ℕ → Bool
 texts_pass s = list_all (text_passes s) (segments s)
 
@@ -88,7 +88,7 @@ number_back s m low high e = eqb-true _ _ (and_left _ _ (passes s m low high e))
 pub segment_plain : (s m : ℕ) → 1 ≤ s → s ≤ 5 → is_segment s m ≡ true → IsPlain (segment_text s m)
 segment_plain s m low high e = and_right _ _ (passes s m low high e)
 
--- segments with one text are one
+-- segments with the same text are the same
 pub segment_once : (s m n : ℕ) → 1 ≤ s → s ≤ 5 → is_segment s m ≡ true → is_segment s n ≡ true → segment_text s m ≡ segment_text s n → m ≡ n
 segment_once s m n low high e f g = sym (number_back s m low high e) ∙ ap (number_in_text s) g ∙ number_back s n low high f
 
@@ -109,7 +109,7 @@ readable s misere low high = record {
   step_once = λ b m n l h k e. segment_once s m n low high (move_in s b m h.can).0 (move_in s b n k.can).0 e;
 }
 
--- the same of positions, for any N
+-- the laws of texts, for positions and their moves in the game for any N
 pub texts_readable : (n : ℕ) (misere : Bool) → IsShown (tactix_rules n misere) (position_text n) (move_text n)
 texts_readable n misere =
     let s = side_of n in

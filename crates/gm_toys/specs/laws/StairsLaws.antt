@@ -32,7 +32,7 @@ only_few : (b : Bool) (x : ℕ) → length (only_if b x) ≤ 1
 only_few true x = omega arith
 only_few false x = omega arith
 
--- what a legal position is
+-- what holds for a legal position
 pub stairs_legal_in : (n : ℕ) (p : Position) → (stairs n).is_legal p ≡ true → (p.tier ≤ n) × (p.index ≡ 0)
 stairs_legal_in n p l = (grind (arith, nat_tests), grind (arith, nat_tests))
 
@@ -70,7 +70,7 @@ above_in n c t i h =
 above_from : (n c t i : ℕ) → t ≡ c + 1 → t ≤ n → i ≡ 0 → Contains (position_above n c t) i
 above_from n c t i e l z = subst (λ x. Contains (position_above n c t) x) (sym z) (only_from (eqb t (c + 1) && nat_le t n) 0 (grind (arith, nat_tests)))
 
--- the canonical children, by moves
+-- a canonical child comes from a move
 child_in : (n t i : ℕ) (c : Position) → IsCanonicalChild (stairs n) (at t i) c → (0 < t) × (at (t - 1) i ≡ c)
 child_in n t i c h =
     let r = stairs n in
@@ -102,7 +102,7 @@ parents_from n c t i (inner, child) =
     let down : t - 1 ≡ c.tier = ap (λ (p : Position). p.tier) e in
     above_from n c.tier t i (omega arith) high z
 
--- the laws hold
+-- the laws of a game hold
 pub stairs_lawful : (n : ℕ) → n < 2 ^ 32 → IsGame (stairs n)
 stairs_lawful n h = record {
   name_length = refl;
@@ -134,7 +134,7 @@ stairs_lawful n h = record {
   child_tiers_few = λ t. let few = only_few (nat_lt 0 t && nat_le t n) (t - 1) in omega arith;
 }
 
--- and so do those of the texts
+-- the laws of texts hold
 pub stairs_readable : (n : ℕ) → n < 2 ^ 32 → IsShown (stairs n) tier_text step_text
 stairs_readable n h = record {
   shown_plain = λ p l. let (t, i) = stairs_legal_in n p l in plain_decimal p.tier (omega arith);

@@ -41,7 +41,7 @@ range_ascending a zero = tt
 range_ascending a (suc zero) = tt
 range_ascending a (suc (suc n)) = (omega arith, range_ascending (a + 1) (suc n))
 
--- what a legal position is
+-- what holds for a legal position
 pub legal_in : (name : List ℕ) (most n : ℕ) (p : Position) → (subtraction name most n).is_legal p ≡ true → (p.tier ≡ 0) × (p.index ≤ n)
 legal_in name most n p l = (grind (arith, nat_tests), grind (arith, nat_tests))
 
@@ -71,7 +71,7 @@ up_above : (name : List ℕ) (most n : ℕ) (c : Position) (t : ℕ) → IsAscen
 up_above name most n c t =
     elim (eqb t 0) as (λ b. IsAscending (if b then numbers_above most n c.index else [])) [ true ↦ range_ascending (c.index + 1) (min most (n - c.index)) | false ↦ tt ]
 
--- the canonical children, by moves
+-- a canonical child comes from a move
 child_in : (name : List ℕ) (most n t i : ℕ) (c : Position) → IsCanonicalChild (subtraction name most n) (at t i) c → (m : ℕ) × Contains (moves_down most i) m × (at t (i - m) ≡ c)
 child_in name most n t i c h =
     let r = subtraction name most n in
@@ -105,7 +105,7 @@ parents_from name most n c t i (inner, child) =
     let index : i - m ≡ c.index = ap (λ (p : Position). p.index) e in
     subst (λ (u : ℕ). Contains (r.parents c u) i) (sym z) (range_from (c.index + 1) (min most (n - c.index)) i (omega arith) (omega arith))
 
--- the laws hold
+-- the laws of a game hold
 pub subtraction_lawful : (name : List ℕ) (most n : ℕ) → length name ≡ NAME → IsPaddedText name → 0 < most → most ≤ MOVES → n < 2 ^ 32 → IsGame (subtraction name most n)
 subtraction_lawful name most n long text some few h = record {
   name_length = long;

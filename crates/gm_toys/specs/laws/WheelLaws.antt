@@ -30,7 +30,7 @@ below_ten P a b c d e f g h j k (suc (suc (suc (suc (suc (suc (suc (suc zero))))
 below_ten P a b c d e f g h j k (suc (suc (suc (suc (suc (suc (suc (suc (suc zero))))))))) l = k
 below_ten P a b c d e f g h j k (suc (suc (suc (suc (suc (suc (suc (suc (suc (suc n)))))))))) l = absurd (omega arith)
 
--- what a legal position is
+-- what holds for a legal position
 pub wheel_legal_in : (p : Position) → wheel.is_legal p ≡ true → (p.tier ≡ 0) × (p.index < 10)
 wheel_legal_in p l = (grind (arith, nat_tests), grind (arith, nat_tests))
 
@@ -59,7 +59,7 @@ some_targets = below_ten (λ i. wheel_end i ≡ None → wheel_targets i ≢ [])
 goes_on : (i : ℕ) → i < 10 → wheel_targets i ≢ [] → wheel_end i ≡ None
 goes_on = below_ten (λ i. wheel_targets i ≢ [] → wheel_end i ≡ None) (λ h. absurd (h refl)) (λ h. refl) (λ h. refl) (λ h. refl) (λ h. refl) (λ h. absurd (h refl)) (λ h. refl) (λ h. refl) (λ h. refl) (λ h. refl)
 
--- a list of numbers below ten, each of which is tested by its own list
+-- whether each number of a list is below ten and has i in its own list
 abbrev are_linked : (ℕ → List ℕ) → ℕ → List ℕ → Bool
 are_linked back i xs = list_all (λ x. nat_lt x 10 && list_any (λ y. eqb y i) (back x)) xs
 
@@ -87,7 +87,7 @@ few_parents c t l = let few = few_sources c.index l in elim (eqb t 0) as (λ b. 
 parents_up : (c : Position) (t : ℕ) → c.index < 10 → IsAscending (wheel.parents c t)
 parents_up c t l = elim (eqb t 0) as (λ b. IsAscending (if b then wheel_sources c.index else [])) [ true ↦ sources_up c.index l | false ↦ tt ]
 
--- the canonical children, by moves
+-- a canonical child comes from a move
 child_in : (t i : ℕ) (c : Position) → IsCanonicalChild wheel (at t i) c → Contains (wheel_targets i) c.index
 child_in t i c h =
     let (d, k, e) = map_in wheel.canonical (children wheel (at t i)) c h in
@@ -117,7 +117,7 @@ parents_from c t i (inner, child) =
     let (low, back) = target_in i l c.index (child_in t i c child) in
     subst (λ (u : ℕ). Contains (wheel.parents c u) i) (sym z) back
 
--- the laws hold
+-- the laws of a game hold
 pub wheel_lawful : IsGame wheel
 wheel_lawful = record {
   name_length = refl;
@@ -146,7 +146,7 @@ wheel_lawful = record {
   child_tiers_few = λ t. omega arith;
 }
 
--- and so do those of the texts
+-- the laws of texts hold
 pub wheel_readable : IsShown wheel number_text target_text
 wheel_readable = record {
   shown_plain = λ p l. let (t, i) = wheel_legal_in p l in plain_decimal p.index (omega arith);
