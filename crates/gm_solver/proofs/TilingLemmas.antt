@@ -27,7 +27,7 @@ use Rattle.gm_shard.specs.Closing.{ArePart}
 use Rattle.gm_solver.specs.declared.board.Four.{Four}
 use Rattle.gm_solver.specs.Spots.{Spot, spot_of, AreFourTiles}
 use Rattle.gm_solver.specs.Covered.{IsCovered}
-use Rattle.gm_solver.specs.Tiling.{IsWide, tile_at, spot_counted, AreShardsAt, AreCountsAt, AreAllTallies}
+use Rattle.gm_solver.specs.Tiling.{IsWide, tile_at, spot_counted, AreShardsAt, AreCountsAt, AreAllTallies, IsFreshRun}
 use Rattle.gm_solver.proofs.Final.{whole_part}
 
 -- the tiles follow one another
@@ -74,12 +74,17 @@ covered r place width wide shards are a b c d i inside =
 
 -- runs of the tiles tile the tier
 pub runs_tile : (r : Rules) (place : Place) (width : ℕ) → IsWide r place.tier width → (shards : Four ShardState) → AreShardsAt r place width shards → (a b c d : RunData)
-    → a.place ≡ place_of shards.a → a.lo ≡ shards.a.lo → a.hi ≡ shards.a.lo + length shards.a.delivered
-    → b.place ≡ place_of shards.b → b.lo ≡ shards.b.lo → b.hi ≡ shards.b.lo + length shards.b.delivered
-    → c.place ≡ place_of shards.c → c.lo ≡ shards.c.lo → c.hi ≡ shards.c.lo + length shards.c.delivered
-    → d.place ≡ place_of shards.d → d.lo ≡ shards.d.lo → d.hi ≡ shards.d.lo + length shards.d.delivered
+    → IsFreshRun shards.a a → IsFreshRun shards.b b → IsFreshRun shards.c c → IsFreshRun shards.d d
     → AreTiles place 0 (r.tier_size place.tier) (a ∷ b ∷ c ∷ d ∷ [])
-runs_tile r place width wide shards are a b c d ap_ al ah bp bl bh cp cl ch dp dl dh =
+runs_tile r place width wide shards are a b c d fa fb fc fd =
+    let al = fa.lo in
+    let ah = fa.hi in
+    let bl = fb.lo in
+    let bh = fb.hi in
+    let cl = fc.lo in
+    let ch = fc.hi in
+    let dl = fd.lo in
+    let dh = fd.hi in
     let enough = wide.enough in
     let lo_a = ap (λ (x : Spot). x.lo) are.a in
     let hi_a = ap (λ (x : Spot). x.hi) are.a in
@@ -89,18 +94,18 @@ runs_tile r place width wide shards are a b c d ap_ al ah bp bl bh cp cl ch dp d
     let hi_c = ap (λ (x : Spot). x.hi) are.c in
     let lo_d = ap (λ (x : Spot). x.lo) are.d in
     let hi_d = ap (λ (x : Spot). x.hi) are.d in (
-      ap_ ∙ spot_place r place width 0 shards.a are.a,
+      fa.place ∙ spot_place r place width 0 shards.a are.a,
       omega arith,
       omega arith,
       (
-        bp ∙ spot_place r place width 1 shards.b are.b,
+        fb.place ∙ spot_place r place width 1 shards.b are.b,
         omega arith,
         omega arith,
         (
-          cp ∙ spot_place r place width 2 shards.c are.c,
+          fc.place ∙ spot_place r place width 2 shards.c are.c,
           omega arith,
           omega arith,
-          (dp ∙ spot_place r place width 3 shards.d are.d, omega arith, omega arith, omega arith),
+          (fd.place ∙ spot_place r place width 3 shards.d are.d, omega arith, omega arith, omega arith),
         ),
       ),
     )

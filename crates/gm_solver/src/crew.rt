@@ -36,9 +36,40 @@ fn slots_of<G: Game, A: Desk, B: Desk, C: Desk, D: Desk>(
     Ok(slots)
 }
 
+// What the workers of a level share, and a slot for each of them.
+#[derive(Drop)]
+struct Crew<'a, 'b, G: Game, A: Desk, B: Desk, C: Desk, D: Desk> {
+    alloc: Global,
+    board: &'a Board<G, A, B, C, D>,
+    pieces: &'a Pieces<'b, G>,
+    slots: &'a [Mutex<Slot<G, A, B, C, D>>],
+    ghost here: { A.spot.tier ≡ pieces.now.level.now.place.tier },
+}
+
+impl<'a, 'b, G: Game, A: Desk, B: Desk, C: Desk, D: Desk> Crew<'a, 'b, G, A, B, C, D> {
+    // Does the work of one worker, over its slot.
+    fn work<R: Wait, T: Gate, S: Source>(&self, rt: &R, gate: &T, source: &S, worker: usize) {
+        if let Some(slot) = self.slots.get(worker) {
+            let mut mine = slot.lock(rt);
+            work(
+                rt,
+                self.alloc,
+                self.board,
+                self.pieces,
+                gate,
+                source,
+                worker,
+                &mut mine,
+            );
+        }
+    }
+}
+
 // Runs a worker for each slot, the first in this thread and every other in a thread of its own, and waits for all. A worker that can't be started leaves its
 // slot as it was.
 fn run_workers<
+    'a,
+    'b,
     G: Game + Send + Sync,
     A: Desk + Send + Sync,
     B: Desk + Send + Sync,
@@ -47,40 +78,13 @@ fn run_workers<
     R: Threads + Wait + Sync,
     T: Gate,
     S: Source,
->(
-    rt: &R,
-    alloc: Global,
-    board: &Board<G, A, B, C, D>,
-    pieces: &Pieces<G>,
-    gate: &T,
-    source: &S,
-    slots: &[Mutex<Slot<G, A, B, C, D>>],
-)
-    requires { A.spot.tier ≡ pieces.now.level.now.place.tier }
-{
-    thread::scope(
-        thread::scope_env(),
-        rt,
-        |scope|
-            requires { A.spot.tier ≡ pieces.now.level.now.place.tier }
-        {
-            for worker in 1..slots.len() {
-                let slot = &slots[worker];
-                let _started = scope.spawn(
-                    move ||
-                        requires { A.spot.tier ≡ pieces.now.level.now.place.tier }
-                    {
-                        let mut mine = slot.lock(rt);
-                        work(rt, alloc, board, pieces, gate, source, worker, &mut mine);
-                    },
-                );
-            }
-            if let Some(slot) = slots.first() {
-                let mut mine = slot.lock(rt);
-                work(rt, alloc, board, pieces, gate, source, 0, &mut mine);
-            }
-        },
-    );
+>(rt: &R, crew: &Crew<'a, 'b, G, A, B, C, D>, gate: &T, source: &S) {
+    thread::scope(thread::scope_env(), rt, |scope| {
+        for worker in 1..crew.slots.len() {
+            let _started = scope.spawn(move || crew.work(rt, gate, source, worker));
+        }
+        crew.work(rt, gate, source, 0);
+    });
 }
 
 /// Runs the workers of a level, and takes their parts of the shares back after the last has ended. The result is the tallies that they found.
@@ -109,7 +113,13 @@ pub(crate) fn serve_level<
     ensures found { IfOk result (λ found. AreFound pieces.now.level.now pieces.now.notes pieces.now.width found.items) }
 {
     let mut slots = slots_of::<G, A, B, C, D>(alloc, workers, rest)?;
-    run_workers(rt, alloc, board, pieces, gate, source, slots.as_slice());
+    let crew = Crew {
+        alloc,
+        board,
+        pieces,
+        slots: slots.as_slice(),
+    };
+    run_workers(rt, &crew, gate, source);
     let mut found = none_found(alloc, pieces)?;
     while let Some(slot) = slots.pop() {
         let Slot { shares, walked } = slot.into_inner();
