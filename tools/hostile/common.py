@@ -51,8 +51,8 @@ class Room:
         """A new empty folder."""
         return tempfile.mkdtemp(dir=self.folder)
 
-    def run(self, words, kind=None, at=0, on=False, marks=False, given=b"", cwd=None, seconds=SECONDS):
-        """Runs a program, with its call number `at` of a kind refused (0: none), and every later one too where `on`."""
+    def run(self, words, kind=None, at=0, on=False, marks=False, short=False, given=b"", errors=subprocess.PIPE, cwd=None, seconds=SECONDS):
+        """Runs a program, with its call number `at` of a kind refused (0: none), and every later one too where `on`; with one byte a call where `short`."""
         place = self.fresh()
         seen = os.path.join(place, "seen")
         env = {"PATH": "/usr/bin:/bin", "LANG": "C.UTF-8"}
@@ -60,9 +60,11 @@ class Room:
             env |= {"LD_PRELOAD": self.library, "REFUSE_KIND": kind, "REFUSE_AT": str(at), "REFUSE_SEEN": seen}
             env |= {"REFUSE_ON": "1"} if on else {}
             env |= {"REFUSE_MARKS": "1"} if marks else {}
+            env |= {"REFUSE_SHORT": "1"} if short else {}
         try:
-            ran = subprocess.run(words, input=given, capture_output=True, env=env, cwd=cwd or place, timeout=seconds)
-            status, out, err = ran.returncode, ran.stdout, ran.stderr
+            how = {"stdout": subprocess.PIPE, "stderr": errors, "env": env, "cwd": cwd or place, "timeout": seconds}
+            ran = subprocess.run(words, input=given, **how)
+            status, out, err = ran.returncode, ran.stdout, ran.stderr or b""
         except subprocess.TimeoutExpired as late:
             status, out, err = None, late.stdout or b"", late.stderr or b""
         calls, refused = 0, 0

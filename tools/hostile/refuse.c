@@ -3,6 +3,7 @@
 //
 // REFUSE_KIND  malloc (also realloc), thread, read, write (to files), output (writes to standard output), errors (to standard error: these are
 //              counted and never refused), sync or rename
+// REFUSE_SHORT standard input is read, and standard output written, by one byte a call
 // REFUSE_MARKS counting begins at an allocation of START bytes and ends at one of END bytes: the calls that a program makes between the two
 // REFUSE_SEEN  a file, which then has two numbers of eight bytes: the calls of the kind, and those that were refused
 #define _GNU_SOURCE
@@ -26,7 +27,7 @@ static const char *const names[KINDS] = {"", "malloc", "thread", "read", "write"
 
 static enum kind kind;
 static long at;
-static int from_there_on;
+static int from_there_on, is_short;
 static atomic_int counting;
 static atomic_long own[2], *seen = own;
 
@@ -43,6 +44,7 @@ __attribute__((constructor)) static void start(void) {
     for (int i = 1; k && i < KINDS; i++) if (!strcmp(k, names[i])) kind = i;
     at = a ? atol(a) : 0;
     from_there_on = getenv("REFUSE_ON") != NULL;
+    is_short = getenv("REFUSE_SHORT") != NULL;
     int file = path ? open(path, O_RDWR | O_CREAT | O_TRUNC, 0644) : -1;
     if (file >= 0 && !ftruncate(file, sizeof own)) {
         void *shared = mmap(0, sizeof own, PROT_READ | PROT_WRITE, MAP_SHARED, file, 0);
@@ -77,7 +79,7 @@ int pthread_create(pthread_t *t, const pthread_attr_t *a, void *(*f)(void *), vo
 ssize_t read(int d, void *b, size_t n) {
     REAL(read);
     if (refused(READ)) { errno = EIO; return -1; }
-    return real(d, b, n);
+    return real(d, b, is_short && d == 0 && n > 1 ? 1 : n);
 }
 
 static int write_is_refused(int d) {
@@ -89,7 +91,7 @@ static int write_is_refused(int d) {
 ssize_t write(int d, const void *b, size_t n) {
     REAL(write);
     if (write_is_refused(d)) { errno = ENOSPC; return -1; }
-    return real(d, b, n);
+    return real(d, b, is_short && d == 1 && n > 1 ? 1 : n);
 }
 
 // (the name under which a program's lines are written)

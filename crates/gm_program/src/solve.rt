@@ -3,10 +3,10 @@
 use crate::fault::Fault;
 use crate::run::DONE;
 use crate::tables::{build_in, build_telling};
-use crate::whole_line::write_line;
 use gm_build::build::Built;
 use gm_command::requests::SolveAsked;
 use gm_game::game::Game;
+use gm_progress::whole_line::write_line;
 use std::fmt;
 use std::fs::Files;
 use std::io::Write;

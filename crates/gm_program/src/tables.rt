@@ -4,12 +4,12 @@ ghost use Rattle.gm_tiers.specs.Orders.{IsTierOrder, IsOrderFrom};
 ghost use Rattle.gm_build.specs.Work.{HoldsExactly};
 
 use crate::fault::Fault;
-use crate::progress::Progress;
 use gm_build::build::{Built, build_from};
 use gm_build::build_error::BuildError;
 use gm_build::watch::NoWatch;
 use gm_command::requests::Kept;
 use gm_game::game::Game;
+use gm_progress::progress::Progress;
 use gm_solver::gate::NoGate;
 use gm_solver::plan::Plan;
 use gm_solver::source::Counter;

@@ -18,4 +18,6 @@ mod lines;
 #[cfg(test)]
 mod migrating;
 #[cfg(test)]
+mod progresses;
+#[cfg(test)]
 mod work;

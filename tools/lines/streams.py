@@ -1,0 +1,39 @@
+"""Sessions and progress over streams that fail, by the library that refuses calls (tools/hostile)."""
+import os
+
+from common import GAMESMAN
+
+SESSION = [GAMESMAN, "play", "countdown", "--second"]
+INPUT = b"3\nquit\n"
+OUTPUT = b"10 win in 7\ncomputer: 1\n9 lose in 6\nyour move?\nnot a move\nyour move?\nbye\n"
+
+
+def fails(room, kind, count, told):
+    """Why a session by one byte a call, of which each in turn fails, ends otherwise than it must, if it does."""
+    for at in range(1, count + 1):
+        ran = room.run(SESSION, kind=kind, at=at, short=True, given=INPUT)
+        if (ran.status, ran.err) != (1, told) or not OUTPUT.startswith(ran.out):
+            return f"{kind} {at}: {ran}"
+    whole = room.run(SESSION, kind=kind, at=count + 1, short=True, given=INPUT)
+    return None if (whole.status, whole.out, whole.err) == (0, OUTPUT, b"") else f"{kind} {count + 1}: {whole}"
+
+
+def a_reader_that_fails(room):
+    return fails(room, "read", len(INPUT), b"gamesman: input failed\n")
+
+
+def a_writer_that_fails(room):
+    return fails(room, "output", len(OUTPUT), b"gamesman: output failed\n")
+
+
+def progress_that_nobody_reads(room):
+    """No line follows the first one that could not be written, and nothing else changes."""
+    read_end, closed = os.pipe()
+    os.close(read_end)
+    ran = room.run([GAMESMAN, "solve", "tictactoe", room.fresh(), "--progress"], kind="errors", errors=closed)
+    os.close(closed)
+    right = (ran.status, ran.out, ran.calls) == (0, b"solved 10 reused 0 migrated 0 deliveries 2096 by hand 0\n", 1)
+    return None if right else f"{ran}, {ran.calls} writes of errors"
+
+
+STREAMS = (a_reader_that_fails, a_writer_that_fails, progress_that_nobody_reads)
