@@ -4,6 +4,7 @@
 pub mod counters;
 pub mod masks;
 pub mod moves;
+pub mod parents;
 pub mod segment;
 pub mod side;
 pub mod tactix;
