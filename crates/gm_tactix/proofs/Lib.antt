@@ -5,3 +5,4 @@ pub mod StartPosition
 pub mod TextSteps
 pub mod MaskTable
 pub mod BeforeSteps
+pub mod ChildSteps
