@@ -1,11 +1,13 @@
 -- The steps of ranking a mask, from its lowest cell up.
-use Rattle.std.proofs.Common.{◌≡◌, ℕ, suc, ◌+◌, ◌-◌, ◌^◌, ◌<◌, ◌≤◌, length, sym, ap, ap₂, ◌∙◌, arith}
-use Rattle.std.specs.Prelude.{bit_and}
-use Rattle.std.specs.Int.{trailing_zeros, w32}
+use Rattle.std.proofs.Common.{◌≡◌, ℕ, suc, ◌+◌, ◌-◌, ◌*◌, ◌/◌, ◌%◌, ◌^◌, ◌<◌, ◌≤◌, length, sym, ap, ap₂, ◌∙◌, arith}
+use Rattle.std.specs.Prelude.{bit_and, count_ones}
+use Rattle.std.specs.Int.{bit_at, trailing_zeros, w32}
+use Rattle.std.proofs.lemmas.Nat.{shr_split, mod_below}
+use Rattle.std.proofs.lemmas.Nat.Bits.{bit_at-zero, bit_at_cat_low, bit_at_cat_high}
 use Rattle.gm_board.specs.Binomials.{binomial, binomial_small}
 use Rattle.gm_board.specs.Ranks.{members, rank, rank_below, members_le}
-use Rattle.gm_board.specs.Masks.{tests_of, tests_none, tests_length, mask_rank, members_skips, rank_skips, members_add, rank_add}
-use Rattle.gm_board.proofs.LowestCells.{IsRest, rest_whole, lowest, nothing_left}
+use Rattle.gm_board.specs.Masks.{tests_of, tests_length, tests_same, mask_rank, mask_rank_at, members_ones, members_skips, rank_skips, members_add, rank_add}
+use Rattle.gm_board.proofs.LowestCells.{IsRest, lowest, nothing_left}
 
 -- the cells below some `next` are counted, and `rest` has the others
 pub record IsCounted (mask rest count sum : ℕ) : Type 0 where
@@ -15,15 +17,24 @@ pub record IsCounted (mask rest count sum : ℕ) : Type 0 where
   pub is_count : count ≡ members (tests_of next mask)
   pub is_sum : sum ≡ rank (tests_of next mask)
 
--- no cell is counted yet
-pub counted_none : (mask : ℕ) → IsCounted mask mask 0 0
-counted_none mask = record {
-  next = 0;
-  within = omega arith;
-  is_rest = rest_whole mask;
-  is_count = ap members (sym (tests_none mask));
-  is_sum = ap rank (sym (tests_none mask));
-}
+-- the lowest sixteen cells are counted together
+pub counted_low : (mask : ℕ) → IsCounted mask (mask - mask % 2 ^ 16) (count_ones (mask % 2 ^ 16)) (mask_rank (mask % 2 ^ 16))
+counted_low mask =
+    let low = mask % 2 ^ 16 in
+    let high = mask / 2 ^ 16 in
+    let below : low < 2 ^ 16 = mod_below mask (2 ^ 16) (omega arith) in
+    let whole : mask ≡ high * 2 ^ 16 + low = omega (arith, shr_split mask 16) in
+    let rest : mask - low ≡ high * 2 ^ 16 + 0 = omega (arith, whole) in
+    record {
+      next = 16;
+      within = omega arith;
+      is_rest = record {
+        none = λ i l. ap (λ (v : ℕ). bit_at v i) rest ∙ bit_at_cat_low high 16 0 i l ∙ bit_at-zero i;
+        same = λ i l. ap (λ (v : ℕ). bit_at v i) rest ∙ bit_at_cat_high high 16 0 i (omega arith) l ∙ sym (ap (λ (v : ℕ). bit_at v i) whole ∙ bit_at_cat_high high 16 low i below l);
+      };
+      is_count = sym (members_ones 16 mask);
+      is_sum = mask_rank_at 16 low (omega arith) below ∙ ap rank (tests_same 16 low mask (λ i l. sym (ap (λ (v : ℕ). bit_at v i) whole ∙ bit_at_cat_low high 16 low i l)));
+    }
 
 -- bounds on what is counted
 pub record IsCountedSmall (count sum : ℕ) : Type 0 where

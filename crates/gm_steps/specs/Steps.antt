@@ -1,6 +1,5 @@
 -- Moves from one point to another, by their numbers.
-use Rattle.std.proofs.Common.{◌≡◌, ℕ, ◌+◌, ◌*◌, ◌/◌, ◌%◌, ◌<◌, ap, ◌∙◌, arith}
-use Rattle.std.proofs.lemmas.Nat.{div-mul-add, mod-mul-add}
+use Rattle.std.proofs.Common.{ℕ, ◌+◌, ◌*◌, ◌/◌, ◌%◌}
 
 -- the number of the move from one point to another, of at most 16 points
 abbrev pub step_number : ℕ → ℕ → ℕ

@@ -1,3 +1,4 @@
 -- What follows from the definitions.
 pub mod StepFacts
 pub mod Listed
+pub mod Skipped

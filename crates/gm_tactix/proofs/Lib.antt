@@ -4,3 +4,5 @@ pub mod MaskMoves
 pub mod StartPosition
 pub mod TextSteps
 pub mod MaskTable
+pub mod BeforeSteps
+pub mod ChildSteps

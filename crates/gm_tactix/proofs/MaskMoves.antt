@@ -12,7 +12,7 @@ use Rattle.gm_board.specs.Ranks.{members}
 use Rattle.gm_tactix.specs.Segments.{segment_length, segment_cells, is_segment}
 use Rattle.gm_tactix.specs.Board.{is_full, is_free, with_counters, can_take, play, was_taken}
 use Rattle.gm_tactix.specs.laws.SegmentFacts.{square_small, cells_within}
-use Rattle.gm_tactix.specs.laws.MoveFacts.{move_in, taken_in}
+use Rattle.gm_tactix.specs.laws.MoveFacts.{taken_in}
 use Rattle.gm_tactix.specs.CounterMasks.{counters_of}
 use Rattle.gm_tactix.specs.laws.CounterMaskFacts.{counters_members, full_mask, free_mask, without_mask, with_mask}
 use Rattle.gm_board.specs.laws.MaskChanges.{has_and, has_not}
@@ -52,10 +52,6 @@ play_of s mask m cells low high w f =
     without_mask (s * s) mask (bit_and mask (bit_not w32 cells)) (segment_cells s m)
     (λ k l. has_and mask (bit_not w32 cells) k
     ∙ ap (λ (x : Bool). has_cell mask k && x) (has_not cells k (omega arith) (omega (arith, bits)) ∙ ap (λ (v : ℕ). not (has_cell v k)) f))
-
--- a move's number is that of a segment
-pub move_segment : (s : ℕ) (b : List Bool) (m : ℕ) → can_take s b m ≡ true → is_segment s m ≡ false → ⊥
-move_segment s b m c e = true≢false (sym (move_in s b m c).0 ∙ e)
 
 -- ---- a move taken back
 -- the code's test of a segment that was taken

@@ -1,9 +1,11 @@
 //! Tac Tix on squares of side 1 to 5. Its rules are in docs/GAMES.md, Tac Tix, and `specs/` states them.
 #![tactic(auto)]
 
+pub mod children;
 pub mod counters;
 pub mod masks;
 pub mod moves;
+pub mod parents;
 pub mod segment;
 pub mod side;
 pub mod tactix;

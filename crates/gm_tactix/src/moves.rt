@@ -5,7 +5,6 @@ ghost use Rattle.gm_tactix.specs.Board.{can_take as can_take_of, play as play_of
 ghost use Rattle.gm_tactix.specs.CounterMasks.{counters_of};
 
 use crate::masks::segment_mask;
-use crate::segment::Segment;
 
 /// Whether the segment with this number can be taken: false where there is no such segment.
 pub fn can_take(side: u32, counters: u32, number: u32) -> bool
@@ -26,10 +25,7 @@ pub fn play(side: u32, counters: u32, number: u32) -> u32
     ensures board { counters_of (side * side) result ≡ play_of side (counters_of (side * side) counters) number }
     ensures within { result < 2 ^ (side * side) }
 {
-    match Segment::numbered(side, number) {
-        Some(segment) => counters & !segment.mask(),
-        None => counters,
-    }
+    counters & !segment_mask(side, number)
 }
 
 /// Whether taking the segment with this number can have left these counters of `tier` counters: false where there is no such segment.

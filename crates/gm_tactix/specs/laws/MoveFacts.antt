@@ -83,12 +83,13 @@ cells_head : (c step n : ℕ) → 1 ≤ n → Contains (cells_from c step n) c
 cells_head c step zero l = absurd (omega arith)
 cells_head c step (suc n) l = contains_head c (cells_from (c + step) step n)
 
-first_in : (s m : ℕ) → 1 ≤ segment_length m → Contains (segment_cells s m) (first_cell m)
+-- its least cell is one of its cells
+pub first_in : (s m : ℕ) → 1 ≤ segment_length m → Contains (segment_cells s m) (first_cell m)
 unfolding segment_cells
 first_in s m l = cells_head (first_cell m) (stride s m) (segment_length m) l
 
 -- without counters there is no move
-no_moves : (s : ℕ) (b : List Bool) → members b ≡ 0 → (m : ℕ) → can_take s b m ≡ true → ⊥
+pub no_moves : (s : ℕ) (b : List Bool) → members b ≡ 0 → (m : ℕ) → can_take s b m ≡ true → ⊥
 no_moves s b e m c =
     let h = move_in s b m c in
     let n = length_bounds s m h.0 in

@@ -2,11 +2,11 @@ use Rattle.std.proofs.Common.{ℕ, ◌<◌, sym, ap, ◌∙◌, subst, arith}
 use Rattle.std.specs.Prelude.{count_ones}
 use Rattle.gm_board.specs.Binomials.{binomial as binomial_of}
 use Rattle.gm_board.specs.Masks.{mask_rank_below, mask_unrank, mask_unrank_rank}
-use Rattle.gm_board.proofs.RankSteps.{counted_none, counted_small, lowest_below, counted_more, counted_all}
+use Rattle.gm_board.proofs.RankSteps.{counted_low, counted_small, lowest_below, counted_more, counted_all}
 use Rattle.gm_board.proofs.subset.rank_subset.Goals as goal
 
 pub loop-rest-init : goal.loop-rest-init
-loop-rest-init c = counted_none c.args.mask
+loop-rest-init c = rw c.short_rank-rank.ensures (counted_low c.args.mask)
 
 pub overflow_add-members : goal.overflow_add-members
 overflow_add-members c = let s = counted_small _ _ _ _ c.loop-rest.invariant in omega arith
@@ -21,13 +21,6 @@ overflow_add-rank c = let s = counted_small _ _ _ _ c.loop-rest.invariant in ome
 pub loop-rest-preserved : goal.loop-rest-preserved
 loop-rest-preserved c =
     rw c.binomial-rank.ensures.value (counted_more _ _ _ _ c.loop-rest.invariant (omega arith) (omega arith))
-
-pub returns-then-mask-clause-below : goal.returns-then-mask-clause-below
-returns-then-mask-clause-below c n l f =
-    subst (λ (r : ℕ). r < binomial_of n (count_ones c.args.mask)) (sym c.short_rank.ensures) (mask_rank_below n c.args.mask l f)
-
-pub returns-then-mask-clause-back : goal.returns-then-mask-clause-back
-returns-then-mask-clause-back c n l f = ap (mask_unrank n (count_ones c.args.mask)) c.short_rank.ensures ∙ mask_unrank_rank n c.args.mask l f
 
 pub returns-clause-value : goal.returns-clause-value
 returns-clause-value c = counted_all _ _ _ _ c.loop-rest.invariant c.loop-rest-test.false
