@@ -3,6 +3,7 @@ import os
 import re
 import shlex
 import shutil
+import struct
 import subprocess
 
 from common import GAMESMAN, as_version_1
@@ -120,7 +121,21 @@ def old(new, to):
         put(f"{to}/{name}", as_version_1(content(f"{new}/{name}")))
 
 
-DEEDS = {"mkdir": os.mkdir, "remove": os.remove, "flip": flip, "gone": gone, "same": same, "old": old}
+def mix(folder, game, right):
+    """Mixes all records of a game's folder, tier by tier in the order of `check`, each with its index, and compares with the mix of right ones."""
+    ran = subprocess.run([GAMESMAN, "check", os.path.basename(game), folder], capture_output=True, timeout=SECONDS)
+    found = 0
+    for line in ran.stdout.decode().splitlines():
+        file = content(f"{folder}/tier-{line.split()[1]}.gmt")
+        (size,) = struct.unpack_from("<Q", file, 32)
+        for index, number in enumerate(struct.unpack_from(f"<{size}I", file, 40)):
+            # (a value and a remoteness below 4,096, as the independent solver mixes them)
+            record = (number >> 20) << 12 | number & 0xFFFFF
+            found = (found * 0x10000000_1B3 + (record ^ index)) % 2**64
+    return None if found == int(os.path.basename(right), 16) else f"the records differ: {found:x}"
+
+
+DEEDS = {"mkdir": os.mkdir, "remove": os.remove, "flip": flip, "gone": gone, "same": same, "old": old, "mix": mix}
 
 
 class Part:

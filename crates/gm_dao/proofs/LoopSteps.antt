@@ -1,5 +1,5 @@
 -- The steps of the loops over cells: what is skipped gives no move and no board.
-use Rattle.std.proofs.Common.{◌≡◌, ℕ, zero, suc, ◌+◌, ◌-◌, ◌*◌, ◌/◌, ◌%◌, ◌^◌, ◌<◌, ◌≤◌, Bool, true, false, ◌&&◌, eqb, eq-eqb, List, [], ◌∷◌, ◌++◌, length, map, None, Some, refl, sym, ap, ap₂, ◌∙◌, subst, arith, inl, inr, Option}
+use Rattle.std.proofs.Common.{◌≡◌, ℕ, ◌+◌, ◌-◌, ◌*◌, ◌/◌, ◌%◌, ◌^◌, ◌<◌, ◌≤◌, Bool, true, false, ◌&&◌, eqb, eq-eqb, List, [], ◌∷◌, ◌++◌, length, map, None, Some, refl, sym, ap, ap₂, ◌∙◌, subst, arith, inl, inr}
 use Rattle.std.specs.Prelude.{bit_and, bit_or}
 use Rattle.std.proofs.Math.Nat.{mod-eq_of_lt}
 use Rattle.std.proofs.Math.Pow.{pow-lt, pow_mono}
@@ -17,7 +17,8 @@ use Rattle.gm_board.specs.NextCells.{rest_all, next_cell, cell_below, none_left}
 use Rattle.gm_board.specs.Images.{board_of}
 use Rattle.gm_steps.specs.Steps.{from_point, to_point}
 use Rattle.gm_steps.specs.laws.StepFacts.{from_back, to_back}
-use Rattle.gm_board.specs.laws.Filters.{filter_in, filter_out}
+use Rattle.gm_steps.specs.laws.Skipped.{filter_skip, puts_skip}
+use Rattle.gm_board.specs.laws.Filters.{filter_in}
 use Rattle.gm_pieces.specs.MoveGames.{steps, before_at}
 use Rattle.gm_pieces.specs.laws.MoveLaws.{before_none, all_steps, step_listed}
 use Rattle.gm_board.specs.Cells.{is_mine, is_theirs, is_empty, is_taken, cell_at}
@@ -27,21 +28,6 @@ use Rattle.gm_dao.specs.laws.MoveFacts.{move_slide, line_below}
 use Rattle.gm_dao.specs.laws.BeforeFacts.{was_in}
 use Rattle.gm_sides.specs.laws.MaskFacts.{own_cells, their_cells}
 use Rattle.gm_dao.proofs.MoveSteps.{slides_by, move_by}
-
-filter_skip : (p : ℕ → Bool) (n k : ℕ) → ((i : ℕ) → i < k → p (n + i) ≡ false) → filter p (range_with_len 0 (n + k)) ≡ filter p (range_with_len 0 n)
-filter_skip p n zero h = ap (λ (m : ℕ). filter p (range_with_len 0 m)) (let e : n + 0 ≡ n = omega arith in e)
-filter_skip p n (suc k) h =
-    ap (λ (m : ℕ). filter p (range_with_len 0 m)) (let e : n + suc k ≡ n + k + 1 = omega arith in e)
-    ∙ filter_out p (n + k) (h k (omega arith))
-    ∙ filter_skip p n k (λ i l. h i (omega arith))
-
-puts_skip : {B : Type 0} (f : B → ℕ) (h : ℕ → Option B) (n k : ℕ) → ((i : ℕ) → i < k → h (n + i) ≡ None)
-    → put_all [] (map f (filter_map h (range_with_len 0 (n + k)))) ≡ put_all [] (map f (filter_map h (range_with_len 0 n)))
-puts_skip f h n zero e = ap (λ (m : ℕ). put_all [] (map f (filter_map h (range_with_len 0 m)))) (let z : n + 0 ≡ n = omega arith in z)
-puts_skip f h n (suc k) e =
-    ap (λ (m : ℕ). put_all [] (map f (filter_map h (range_with_len 0 m)))) (let z : n + suc k ≡ n + k + 1 = omega arith in z)
-    ∙ put_more_none f h (n + k) (e k (omega arith))
-    ∙ puts_skip f h n k (λ i l. e i (omega arith))
 
 -- ---- moves
 -- no move leaves a cell without a piece of the mover's

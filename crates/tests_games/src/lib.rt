@@ -8,8 +8,6 @@ mod nine_points;
 #[cfg(test)]
 mod plans;
 #[cfg(test)]
-mod records;
-#[cfg(test)]
 mod rings;
 #[cfg(test)]
 mod solving;
