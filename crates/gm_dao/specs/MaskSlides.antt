@@ -1,12 +1,13 @@
 -- Slides over masks of the free and of the taken cells.
-use Rattle.std.specs.Prelude.{◌≡◌, ℕ, Bool, ◌&&◌, List, [], map, if◌then◌else◌}
+use Rattle.std.specs.Prelude.{◌≡◌, ℕ, Bool, not, ◌&&◌, List, [], map, if◌then◌else◌}
 use Rattle.std.specs.List.{list_all, filter, filter_map, range_with_len}
 use Rattle.gm_game.specs.Ascending.{put_all}
 use Rattle.gm_board.specs.declared.cell.Cell.{Cell}
 use Rattle.gm_board.specs.BoardMasks.{pattern_mask}
+use Rattle.gm_board.specs.Cells.{is_mine}
 use Rattle.gm_board.specs.Masks.{has_cell}
 use Rattle.gm_pieces.specs.MoveGames.{before_at}
-use Rattle.gm_dao.specs.DaoRules.{in_line, path, beyond, can_move, least_index_of, dao}
+use Rattle.gm_dao.specs.DaoRules.{has_formation, has_trapped, in_line, path, beyond, can_move, least_index_of, dao}
 
 -- the mask of the way from one cell to another in line with it; 0 for other cells
 unfoldable pub way_mask : ℕ → ℕ → ℕ
@@ -23,3 +24,7 @@ AreMovesBelow b n ms = ms ≡ filter (can_move b) (range_with_len 0 n)
 -- the list has the least indexes of the boards before the moves with numbers below n, ascending and once each
 abbrev pub AreBeforesBelow : ℕ → List Cell → ℕ → List ℕ → Type 0
 AreBeforesBelow t d n is = is ≡ put_all [] (map least_index_of (filter_map (before_at dao t d) (range_with_len 0 n)))
+
+-- whether the mover has neither a formation nor a trapped piece
+abbrev pub is_open : List Cell → Bool
+is_open b = not (has_formation is_mine b) && not (has_trapped b)

@@ -2,20 +2,20 @@
 //!
 //! Slides aren't reversed. Instead each piece that may have moved is put on each empty cell, with the roles of the sides swapped.
 //! Of these boards, those are kept from which the game goes on by the move that leads back.
-ghost use Rattle.std.specs.Prelude.{◌≡◌, ◌<◌, ◌≤◌, ◌+◌, ◌*◌, true, length, map, []};
+ghost use Rattle.std.specs.Prelude.{◌≡◌, ◌<◌, ◌≤◌, ◌+◌, ◌*◌, true, length, map, [], MatchOption, None, Some};
 ghost use Rattle.gm_game.specs.Ascending.{put_all};
 ghost use Rattle.gm_board.specs.Images.{board_of};
-ghost use Rattle.gm_pieces.specs.MoveGames.{goes_on as goes_on_of, befores};
-ghost use Rattle.gm_dao.specs.DaoRules.{was_moved as was_moved_of, taken_back as taken_back_of, legal, least_index_of, dao};
-ghost use Rattle.gm_dao.specs.MaskSlides.{AreBeforesBelow};
+ghost use Rattle.gm_board.specs.Cells.{is_empty, cell_at};
+ghost use Rattle.gm_sides.specs.Sides.{WasStep};
+ghost use Rattle.gm_pieces.specs.MoveGames.{goes_on as goes_on_of, before_at, befores};
+ghost use Rattle.gm_dao.specs.DaoRules.{was_moved as was_moved_of, taken_back as taken_back_of, legal, slides as slides_of, least_index_of, dao};
+ghost use Rattle.gm_dao.specs.MaskSlides.{is_open as is_open_of, AreBeforesBelow};
 
 use crate::board::{Board, SIDE};
-use crate::dao::DaoRules;
-use crate::moves::{can_move, is_legal_board, over};
-use crate::slides::are_in_line;
+use crate::moves::{can_move, has_own_formation, is_legal_board, is_trapped, over};
+use crate::slides::{are_in_line, can_slide};
 use arrayvec::ArrayVec;
 use gm_game::limits::PARENTS;
-use gm_pieces::moves::before;
 use gm_steps::ascending::put;
 use gm_steps::step::Step;
 
@@ -50,9 +50,47 @@ pub fn goes_on(tier: u64, board: Board, number: u32) -> bool
     tier == 0 && can_move(board, number) && is_legal_board(board) && over(board).is_none()
 }
 
+// Whether a piece slides on the board from one cell to another.
+fn slides(board: Board, from: u32, to: u32) -> bool
+    requires from { from < 16 }
+    requires to { to < 16 }
+    ensures { result ≡ slides_of (board_of 16 board.mine board.theirs) from to }
+{
+    can_slide(board.free(), board.taken(), from, to)
+}
+
+// Whether the mover has neither a formation nor a trapped piece.
+fn is_open(board: Board) -> bool
+    ensures { result ≡ is_open_of (board_of 16 board.mine board.theirs) }
+{
+    !has_own_formation(board) && !is_trapped(board)
+}
+
+// The board of the tier before the opponent's piece went from one cell to another, if there is one. That the board after it is legal leaves little to be
+// tested: each side has its pieces, and the other side no formation.
+fn gone_before(tier: u64, board: Board, from: u32, to: u32) -> Option<Board>
+    requires from { from < 16 }
+    requires legal { legal (board_of 16 board.mine board.theirs) ≡ true }
+    requires was { WasStep (board_of 16 board.mine board.theirs) from to }
+    ensures { MatchOption result
+        (before_at dao tier (board_of 16 board.mine board.theirs) (16 * from + to) ≡ None)
+        (λ b. (before_at dao tier (board_of 16 board.mine board.theirs) (16 * from + to) ≡ Some (board_of 16 b.mine b.theirs)) × (legal (board_of 16 b.mine b.theirs) ≡ true)) }
+{
+    let earlier = board.brought_back(from, to);
+    if !slides(earlier, from, to) {
+        return None;
+    }
+    if tier == 0 && is_open(earlier) {
+        Some(earlier)
+    } else {
+        None
+    }
+}
+
 // Puts into the list the least indexes of the boards before the moves that leave a cell.
 fn put_befores(list: &mut ArrayVec<u64, PARENTS>, tier: u64, board: Board, from: u32)
     requires cell { from < 16 }
+    requires free { is_empty (cell_at (board_of 16 board.mine board.theirs) from) ≡ true }
     requires legal { legal (board_of 16 board.mine board.theirs) ≡ true }
     requires few { length (befores dao tier (board_of 16 board.mine board.theirs)) ≤ 128 }
     requires before { AreBeforesBelow tier (board_of 16 board.mine board.theirs) (16 * from) list.old.items }
@@ -63,7 +101,7 @@ fn put_befores(list: &mut ArrayVec<u64, PARENTS>, tier: u64, board: Board, from:
     while rest != 0 {
         let skipped = rest.trailing_zeros();
         next += skipped;
-        match before::<DaoRules>(tier, board, 16 * from + next) {
+        match gone_before(tier, board, from, next) {
             Some(earlier) => put(list, earlier.least_index(SIDE)),
             None => {}
         }

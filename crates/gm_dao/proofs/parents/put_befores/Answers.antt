@@ -1,19 +1,24 @@
-use Rattle.std.proofs.Common.{arith}
+use Rattle.std.proofs.Common.{sym, ◌∙◌, arith}
 use Rattle.gm_board.specs.Images.{board_of}
+use Rattle.gm_board.specs.laws.CellCounts.{their_cell, empty_cell}
 use Rattle.gm_board.specs.NextCells.{next_cell, cell_below}
 use Rattle.gm_steps.specs.laws.Listed.{put_room}
+use Rattle.gm_sides.specs.laws.MaskFacts.{their_cells}
 use Rattle.gm_pieces.specs.MoveGames.{before_at, befores}
 use Rattle.gm_dao.specs.DaoRules.{numbers_end, least_index_of, dao}
 use Rattle.gm_dao.proofs.LoopSteps.{befores_skip, befores_end, before_less, before_more}
 use Rattle.gm_dao.proofs.parents.put_befores.Goals as goal
 use Rattle.gm_dao.proofs.parents.put_befores.Goals.{in-Some, in-None}
 
-pub before-requires-clause-below : goal.before-requires-clause-below
-before-requires-clause-below c =
+pub gone_before-requires-clause-was : goal.gone_before-requires-clause-was
+gone_before-requires-clause-was c =
+    let a = c.args.board.mine in
     let b = c.args.board.theirs in
     let z = next_cell b c.loop-rest.next c.loop-rest.rest c.loop-rest.invariant.is_rest (omega arith) (omega arith) in
-    let l = cell_below b 16 _ c.args.board.theirs_within z.has in
-    omega (arith, l, c.requires.cell)
+    record {
+      there = their_cell _ (sym (their_cells 16 a b c.args.board.theirs_within c.args.board.apart _) ∙ z.has);
+      left = empty_cell _ c.requires.free;
+    }
 
 pub put-requires : goal.put-requires
 unfolding befores
@@ -39,8 +44,8 @@ loop-rest-preserved c =
     record {
       within = omega (arith, l);
       is_rest = z.is_rest;
-      below = elim c.match-before.branch [
-        | in-Some w ↦ before_more t (board_of 16 a b) (board_of 16 w.in-Some.earlier.mine w.in-Some.earlier.theirs) c.args.from _ w.least_index.result c.loop-rest.list.items c.match-before.list.items
+      below = elim c.match-gone_before.branch [
+        | in-Some w ↦ before_more t (board_of 16 a b) (board_of 16 w.in-Some.earlier.mine w.in-Some.earlier.theirs) c.args.from _ w.least_index.result c.loop-rest.list.items c.match-gone_before.list.items
             w.in-Some.ensures.0 w.least_index.ensures (rw w.list-is w.put.ensures) skipped
         | in-None w ↦ rw w.list-is (before_less t (board_of 16 a b) c.args.from _ c.loop-rest.list.items w.in-None.ensures skipped)
       ];
