@@ -44,7 +44,7 @@ loop-rest-preserved c =
     record {
       within = omega (arith, l);
       is_rest = z.is_rest;
-      below = goal_more b c.args.from g h _ _ c.least_position.result c.loop-rest.set.items c.insert_position.new.set.items l z.has c.gone.ensures c.least_position.ensures c.insert_position.ensures
+      below = goal_more b c.args.from g h _ _ c.least_position.result c.loop-rest.set.items c.insert_position.new.set.items l z.has c.gone.ensures.board c.least_position.ensures c.insert_position.ensures
           (goals_pass b c.args.from g h c.loop-rest.next _ c.loop-rest.set.items (omega (arith, l)) z.none i.below);
     }
 
