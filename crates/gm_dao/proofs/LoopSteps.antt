@@ -31,13 +31,14 @@ use Rattle.gm_dao.proofs.MoveSteps.{slides_by, move_by}
 
 -- ---- moves
 -- no move leaves a cell without a piece of the mover's
-no_move_from : (a b m : ℕ) → a < 2 ^ 16 → has_cell a (from_point m) ≡ false → can_move (board_of 16 a b) m ≡ false
+pub no_move_from : (a b m : ℕ) → a < 2 ^ 16 → has_cell a (from_point m) ≡ false → can_move (board_of 16 a b) m ≡ false
 no_move_from a b m l e = elim (cases_Bool (can_move (board_of 16 a b) m)) [
   | inl t ↦ absurd (true≢false (sym (own_cells 16 a b l (from_point m) ∙ ap is_mine (move_slide (board_of 16 a b) m t).mine) ∙ e))
   | inr f ↦ f
 ]
 
-from_far : (n i : ℕ) → from_point (16 * n + i) ≡ n + i / 16
+-- the cell that a number past those of n cells leaves
+pub from_far : (n i : ℕ) → from_point (16 * n + i) ≡ n + i / 16
 unfolding from_point
 from_far n i = omega arith
 

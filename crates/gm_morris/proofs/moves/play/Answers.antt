@@ -16,7 +16,7 @@ gone-requires c =
 pub returns-then-pieces-last_tier : goal.returns-then-pieces-last_tier
 returns-then-pieces-last_tier c =
     let h = slide_here c.args.variant (board_of 9 c.args.board.mine c.args.board.theirs) c.args.number c.last_tier.result c.pieces.result c.requires c.pieces.ensures.value c.last_tier.ensures.value c.if-pieces-last_tier.true in
-    c.gone.ensures ∙ sym (slide_played c.args.variant (board_of 9 c.args.board.mine c.args.board.theirs) c.args.number h.last)
+    c.gone.ensures.board ∙ sym (slide_played c.args.variant (board_of 9 c.args.board.mine c.args.board.theirs) c.args.number h.last)
 
 pub with_piece-requires : goal.with_piece-requires
 with_piece-requires c =
@@ -26,4 +26,4 @@ with_piece-requires c =
 pub returns-else-pieces-last_tier : goal.returns-else-pieces-last_tier
 returns-else-pieces-last_tier c =
     let h = placement_here c.args.variant (board_of 9 c.args.board.mine c.args.board.theirs) c.args.number c.last_tier.result c.pieces.result c.requires c.pieces.ensures.value c.last_tier.ensures.value c.if-pieces-last_tier.false in
-    c.turned.ensures ∙ ap (λ (x : List Cell). map turned x) c.with_piece.ensures ∙ sym (placement_played c.args.variant (board_of 9 c.args.board.mine c.args.board.theirs) c.args.number h.before)
+    c.turned.ensures.board ∙ ap (λ (x : List Cell). map turned x) c.with_piece.ensures.board ∙ sym (placement_played c.args.variant (board_of 9 c.args.board.mine c.args.board.theirs) c.args.number h.before)
