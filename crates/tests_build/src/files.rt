@@ -39,11 +39,6 @@ pub(crate) fn file_of_countdown(alloc: Global) -> Result<Vec<u8>, AllocError> {
     whole(alloc, &FRONT)
 }
 
-/// The file with a win in 8 for its last record, and with a fresh digest.
-pub(crate) fn file_of_a_longer_win(alloc: Global) -> Result<Vec<u8>, AllocError> {
-    ending(alloc, &FRONT, b"\x08\x00\x40\x00")
-}
-
 /// The right file of version 1.
 pub(crate) fn old_file_of_countdown(alloc: Global) -> Result<Vec<u8>, AllocError> {
     whole(alloc, &OLD_FRONT)

@@ -1,12 +1,10 @@
-//! The worked values of builds: whole games over stores that fail, and over files that are damaged; and of answers and lines of play over what is built.
+//! The worked values of builds: whole games over stores that fail, and over files of version 1; and of answers and lines of play over what is built.
 #![tactic(auto)]
 
 #[cfg(test)]
 mod analyses;
 #[cfg(test)]
 mod answers;
-#[cfg(test)]
-mod damaged;
 #[cfg(test)]
 mod failing;
 #[cfg(test)]
