@@ -11,7 +11,6 @@ pub mod OrderLemmas
 pub mod PairLemmas
 pub mod PieceLemmas
 pub mod RecordLemmas
-pub mod Retained
 pub mod RowLemmas
 pub mod SumLemmas
 pub mod TalliedLemmas

@@ -50,7 +50,7 @@ impl<'a, G: Game> Iterator for Pairs<'a, G> {
                 return None;
             }
             let note = self.level.note(self.from);
-            self.row = Row::of(note, self.level.tier(), self.lo, self.hi);
+            self.row.take_up(note, self.level.tier(), self.lo, self.hi);
             self.from += 1;
         }
     }

@@ -1,5 +1,5 @@
 //! One note with its parents in a range.
-ghost use Rattle.std.specs.Prelude.{◌≡◌, [], ◌∷◌, filter, MatchOption};
+ghost use Rattle.std.specs.Prelude.{◌≡◌, ◌≤◌, length, [], ◌∷◌, filter, MatchOption};
 ghost use Rattle.gm_frontier.specs.Pairs.{is_within, pairs_of_note};
 
 use crate::note::Note;
@@ -33,12 +33,17 @@ fn is_within(lo: u64, hi: u64, index: u64) -> bool
     lo <= index && index < hi
 }
 
-// The indexes from `lo` up to `hi`.
-fn within(mut indexes: ArrayVec<u64, PARENTS>, lo: u64, hi: u64) -> ArrayVec<u64, PARENTS>
-    ensures { result.items ≡ filter (is_within lo hi) indexes.items }
+// Writes the indexes from `lo` up to `hi` over those that a list holds.
+fn keep_within(kept: &mut ArrayVec<u64, PARENTS>, indexes: &[u64], lo: u64, hi: u64)
+    requires { length indexes.now ≤ PARENTS }
+    ensures { kept.new.items ≡ filter (is_within lo hi) indexes.now }
 {
-    indexes.retain(|i| is_within(lo, hi, *i));
-    indexes
+    kept.clear();
+    for index in indexes {
+        if is_within(lo, hi, *index) {
+            kept.push(*index);
+        }
+    }
 }
 
 impl<G: Game> Row<G> {
@@ -53,15 +58,14 @@ impl<G: Game> Row<G> {
         }
     }
 
-    /// The pairs of a note with its parents in the tier from `lo` up to `hi`.
-    pub(crate) fn of(note: Note<G>, tier: u64, lo: u64, hi: u64) -> Row<G>
-        ensures { result ≡ pairs_of_note G.rules tier lo hi note }
+    /// Takes up the pairs of a note with its parents in the tier from `lo` up to `hi`, in place of those that are still to come.
+    pub(crate) fn take_up(&mut self, note: Note<G>, tier: u64, lo: u64, hi: u64)
+        ensures { self.new ≡ pairs_of_note G.rules tier lo hi note }
     {
-        Row {
-            parents: within(G::parents(note.position(), tier), lo, hi),
-            note: Some(note),
-            passed: 0,
-        }
+        let found = G::parents(note.position(), tier);
+        keep_within(&mut self.parents, found.as_slice(), lo, hi);
+        self.note = Some(note);
+        self.passed = 0;
     }
 
     /// The next pair.

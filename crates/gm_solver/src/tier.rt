@@ -131,7 +131,7 @@ fn solve_by<G: Game + Send + Sync, R: Threads + Wait + Sync, T: Gate, S: Source>
     ensures error { IfErr result (IsError G.rules tier) }
 {
     let width = tile_width::<G>(tier, plan.shards());
-    let tiles = begin_tiles::<G, R>(rt, alloc, tier, tables, width)?;
+    let tiles = begin_tiles::<G, R>(rt, alloc, tier, tables, width, plan.workers())?;
     let (tiles, last, by_workers) = finish_phases(
         rt, alloc, tables, way, plan, gate, source, tiles,
     )?;

@@ -1,4 +1,4 @@
-//! The canonical children of a whole tier, found block by block, by as many threads as there are processors.
+//! The canonical children of a whole tier, found block by block: for several workers by as many threads as there are processors.
 ghost use Rattle.std.specs.Prelude.{◌≡◌, ℕ, ◌*◌, ◌-◌, ◌<◌, ◌≤◌, ◌^◌, length, IfOk, OnOk};
 ghost use Rattle.std.specs.List.{AllZip, range_with_len};
 ghost use Rattle.gm_shard.specs.Begin.{AreStarts};
@@ -188,16 +188,17 @@ impl<G: Game> Frame<G> {
 }
 
 impl<G: Game + Send + Sync> Frame<G> {
-    // Scans all blocks: where there are many indexes, by as many threads as there are processors.
+    // Scans all blocks: where there are many indexes and several workers, by as many threads as there are processors.
     fn scan_all<R: Threads + Sync>(
         &self,
         rt: &R,
         alloc: Global,
+        workers: usize,
     ) -> Result<Vec<Result<(Lists<G>, Vec<Start>), AllocError>>, AllocError>
         ensures length { IfOk result (λ found. length found.items ≡ self.now.rows * CLASSES) }
         ensures each { IfOk result (λ found. AllZip (λ place r. IfOk r (λ block. IsBlock G.rules self.now.tier (block_in self.now.rows place) block.0 block.1.items)) (range_with_len 0 (length found.items)) found.items) }
     {
-        if self.size <= FEW {
+        if workers == 1 || self.size <= FEW {
             return self.scan_in_turn(alloc);
         }
         (0..(self.rows * CLASSES) as u32)
@@ -212,11 +213,13 @@ impl<G: Game + Send + Sync> Frame<G> {
     }
 }
 
-/// The canonical children of a tier, and what each of its indexes is at the start. The tier and its child tiers have at most `TIER_SIZE` indexes.
+/// The canonical children of a tier, and what each of its indexes is at the start. The tier and its child tiers have at most `TIER_SIZE` indexes. For one worker
+/// no thread is started.
 pub(crate) fn scan_tier<G: Game + Send + Sync, R: Threads + Sync>(
     rt: &R,
     alloc: Global,
     tier: u64,
+    workers: usize,
 ) -> Result<(TierLists<G>, Vec<Start>), AllocError>
     requires within { G.rules.tier_size tier ≤ TIER_SIZE }
     requires small { AreSmall G.rules tier }
@@ -225,7 +228,7 @@ pub(crate) fn scan_tier<G: Game + Send + Sync, R: Threads + Sync>(
     ensures starts { IfOk result (λ all. AreStarts G.rules tier 0 all.1.items) }
 {
     let frame = Frame::<G>::of(tier);
-    let found = frame.scan_all(rt, alloc)?;
+    let found = frame.scan_all(rt, alloc, workers)?;
     frame.join(alloc, found)
 }
 

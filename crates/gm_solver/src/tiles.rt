@@ -95,13 +95,14 @@ fn begin_two<G: Game>(alloc: Global, tier: u64, width: u64, k: u64, starts: &[St
     Ok((low, high))
 }
 
-// The shards of all four tiles, made by two threads with two tiles each, and each shard with the count of the pairs into it.
+// The shards of all four tiles, each with the count of the pairs into it: for several workers made by two threads with two tiles each.
 fn begin_four<G: Game + Send + Sync, R: Threads + Sync>(
     rt: &R,
     alloc: Global,
     tier: u64,
     width: u64,
     starts: &[Start],
+    workers: usize,
 ) -> (Two<G>, Two<G>)
     requires starts { AreStarts G.rules tier 0 starts.now }
     requires whole { length starts.now ≡ G.rules.tier_size tier }
@@ -110,6 +111,11 @@ fn begin_four<G: Game + Send + Sync, R: Threads + Sync>(
     ensures low { IfOk result.0 (λ two. AreTwo G.rules tier width 0 two.0.0 two.0.1 two.1.0 two.1.1) }
     ensures high { IfOk result.1 (λ two. AreTwo G.rules tier width 2 two.0.0 two.0.1 two.1.0 two.1.1) }
 {
+    if workers == 1 {
+        let low = begin_two(alloc, tier, width, 0, starts);
+        let high = begin_two(alloc, tier, width, 2, starts);
+        return (low, high);
+    }
     join(
         rt,
         || -> Two<G>
@@ -123,13 +129,14 @@ fn begin_four<G: Game + Send + Sync, R: Threads + Sync>(
     )
 }
 
-/// A tier before its first level.
+/// A tier before its first level. For one worker no thread is started.
 pub(crate) fn begin_tiles<G: Game + Send + Sync, R: Threads + Sync>(
     rt: &R,
     alloc: Global,
     tier: u64,
     tables: &Tables<G>,
     width: u64,
+    workers: usize,
 ) -> Result<Tiles<G>, AllocError>
     requires held { AreHeld G.rules tables.now tier }
     requires small { G.rules.tier_size tier ≤ TIER_SIZE }
@@ -137,8 +144,8 @@ pub(crate) fn begin_tiles<G: Game + Send + Sync, R: Threads + Sync>(
     ensures place { IfOk result (λ tiles. place_of tiles.shards.a ≡ place_at tier WinLose 0) }
 {
     let _held = tables.has(tier);
-    let (lists, starts) = scan_tier::<G, R>(rt, alloc, tier)?;
-    let (low, high) = begin_four::<G, R>(rt, alloc, tier, width, starts.as_slice());
+    let (lists, starts) = scan_tier::<G, R>(rt, alloc, tier, workers)?;
+    let (low, high) = begin_four::<G, R>(rt, alloc, tier, width, starts.as_slice(), workers);
     drop(starts);
     let ((a, in_a), (b, in_b)) = low?;
     let ((c, in_c), (d, in_d)) = high?;

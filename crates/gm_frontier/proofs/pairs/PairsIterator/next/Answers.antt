@@ -8,8 +8,8 @@ loop-pair-preserved g c =
     let s = c.loop-pair.self-inside in
     record {
       fits = c.loop-pair.invariant.fits;
-      same = row_taken g.G.Game.rules s.level.now.place.tier s.lo s.hi s.from s.to s.level.now.notes c.note-note.result s.row c.of-self-inside.result
+      same = row_taken g.G.Game.rules s.level.now.place.tier s.lo s.hi s.from s.to s.level.now.notes c.note-note.result s.row c.take_up.new.self
           c.if-self.false c.loop-pair.invariant.fits c.note-note.ensures c.in_default.ensures.0
-          (c.of-self-inside.ensures ∙ ap (λ tier. pairs_of_note g.G.Game.rules tier s.lo s.hi c.note-note.result) c.tier.ensures.value)
+          (c.take_up.ensures ∙ ap (λ tier. pairs_of_note g.G.Game.rules tier s.lo s.hi c.note-note.result) c.tier.ensures.value)
           ∙ c.loop-pair.invariant.same;
     }
