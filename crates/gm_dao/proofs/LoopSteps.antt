@@ -1,9 +1,9 @@
 -- The steps of the loops over cells: what is skipped gives no move and no board.
-use Rattle.std.proofs.Common.{◌≡◌, ℕ, ◌+◌, ◌-◌, ◌*◌, ◌/◌, ◌%◌, ◌^◌, ◌<◌, ◌≤◌, Bool, true, false, ◌&&◌, eqb, eq-eqb, List, [], ◌∷◌, ◌++◌, length, map, None, Some, refl, sym, ap, ap₂, ◌∙◌, subst, arith, inl, inr}
+use Rattle.std.proofs.Common.{◌≡◌, ℕ, zero, suc, ◌+◌, ◌-◌, ◌*◌, ◌/◌, ◌%◌, ◌^◌, ◌<◌, ◌≤◌, Bool, true, false, ◌&&◌, eqb, eq-eqb, List, [], ◌∷◌, ◌++◌, length, map, None, Some, refl, sym, ap, ap₂, ◌∙◌, subst, arith, inl, inr}
 use Rattle.std.specs.Prelude.{bit_and, bit_or}
 use Rattle.std.proofs.Math.Nat.{mod-eq_of_lt}
 use Rattle.std.proofs.Math.Pow.{pow-lt, pow_mono}
-use Rattle.std.proofs.lemmas.Nat.{or_lt}
+use Rattle.std.proofs.lemmas.Nat.{or_lt, and_le_r}
 use Rattle.std.specs.Int.{trailing_zeros, w32}
 use Rattle.std.specs.Int.Bits.{or_zero_r}
 use Rattle.std.specs.List.{list_all, filter, filter_map, range_with_len}
@@ -19,6 +19,9 @@ use Rattle.gm_steps.specs.Steps.{from_point, to_point}
 use Rattle.gm_steps.specs.laws.StepFacts.{from_back, to_back}
 use Rattle.gm_steps.specs.laws.Skipped.{filter_skip, puts_skip}
 use Rattle.gm_board.specs.laws.Filters.{filter_in}
+use Rattle.gm_board.specs.laws.Lists.{contains_range}
+use Rattle.gm_board.specs.laws.MaskChanges.{has_and}
+use Rattle.gm_board.specs.Permutations.{all_at}
 use Rattle.gm_pieces.specs.MoveGames.{steps, before_at}
 use Rattle.gm_pieces.specs.laws.MoveLaws.{before_none, all_steps, step_listed}
 use Rattle.gm_board.specs.Cells.{is_mine, is_theirs, is_empty, is_taken, cell_at}
@@ -27,7 +30,7 @@ use Rattle.gm_dao.specs.MaskSlides.{slides_by_masks, AreMovesBelow, AreBeforesBe
 use Rattle.gm_dao.specs.laws.MoveFacts.{move_slide, line_below}
 use Rattle.gm_dao.specs.laws.BeforeFacts.{was_in}
 use Rattle.gm_sides.specs.laws.MaskFacts.{own_cells, their_cells}
-use Rattle.gm_dao.proofs.MoveSteps.{slides_by, move_by}
+use Rattle.gm_dao.proofs.MoveSteps.{and_one, slides_by, move_by}
 
 -- ---- moves
 -- no move leaves a cell without a piece of the mover's
@@ -108,6 +111,32 @@ befores_past t d from is e h =
       | inl w ↦ absurd (true≢false (sym (ap (λ (x : ℕ). is_empty (cell_at d x)) (sym (from_back from i k)) ∙ ap is_empty (was_in d (16 * from + i) w).step.left) ∙ e))
       | inr f ↦ f
     ])))
+
+-- the mask of the free cells among the sixteen
+pub free_within : (free : ℕ) → bit_and free 65535 < 2 ^ 16
+free_within free = omega (arith, and_le_r free 65535)
+
+pub free_cells : (d : List Cell) (free : ℕ) → ((k : ℕ) → k < 16 → has_cell free k ≡ is_empty (cell_at d k)) → (k : ℕ) → k < 16 → has_cell (bit_and free 65535) k ≡ is_empty (cell_at d k)
+free_cells d free h k l =
+    has_and free 65535 k
+    ∙ ap₂ (λ (x y : Bool). x && y) (h k l) (all_at (has_cell 65535) (range_with_len 0 16) k refl (contains_range 16 k l))
+    ∙ and_one (is_empty (cell_at d k))
+
+-- cells that are not free, s of them
+pub taken_skip : (t : ℕ) (d : List Cell) (left n s : ℕ) (is : List ℕ) → ((k : ℕ) → k < 16 → has_cell left k ≡ is_empty (cell_at d k)) → n + s ≤ 16
+    → ((i : ℕ) → i < s → has_cell left (n + i) ≡ false) → AreBeforesBelow t d (16 * n) is → AreBeforesBelow t d (16 * (n + s)) is
+taken_skip t d left n zero is h l none m = subst (λ (k : ℕ). AreBeforesBelow t d k is) (let z : 16 * n ≡ 16 * (n + 0) = omega arith in z) m
+taken_skip t d left n (suc s) is h l none m =
+    subst (λ (k : ℕ). AreBeforesBelow t d k is) (let z : 16 * (n + s) + 16 ≡ 16 * (n + suc s) = omega arith in z)
+    (befores_past t d (n + s) is (sym (h (n + s) (omega (arith, l))) ∙ none s (omega arith))
+    (taken_skip t d left n s is h (omega (arith, l)) (λ i k. none i (omega (arith, k))) m))
+
+-- no free cell is left
+pub taken_end : (t : ℕ) (d : List Cell) (left n rest : ℕ) (is : List ℕ) → ((k : ℕ) → k < 16 → has_cell left k ≡ is_empty (cell_at d k)) → n ≤ 16 → rest ≡ left / 2 ^ n → rest ≡ 0
+    → AreBeforesBelow t d (16 * n) is → AreBeforesBelow t d 256 is
+taken_end t d left n rest is h l e z m =
+    subst (λ (k : ℕ). AreBeforesBelow t d k is) (let p : 16 * (n + (16 - n)) ≡ 256 = omega (arith, l) in p)
+    (taken_skip t d left n (16 - n) is h (omega (arith, l)) (λ i k. none_left left n rest (n + i) e z (omega arith)) m)
 
 -- ---- slides by masks
 -- a slide, by its three tests

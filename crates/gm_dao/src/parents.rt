@@ -19,6 +19,9 @@ use gm_game::limits::PARENTS;
 use gm_steps::ascending::put;
 use gm_steps::step::Step;
 
+/// The mask of the sixteen cells.
+const CELLS: u32 = 0xffff;
+
 /// Whether the move with this number can have led to the board.
 #[tactic(auto, unfolding(crate::specs::DaoRules::was_moved))]
 pub fn was_moved(board: Board, number: u32) -> bool
@@ -74,7 +77,8 @@ fn gone_before(tier: u64, board: Board, from: u32, to: u32) -> Option<Board>
     requires was { WasStep (board_of 16 board.mine board.theirs) from to }
     ensures { MatchOption result
         (before_at dao tier (board_of 16 board.mine board.theirs) (16 * from + to) ≡ None)
-        (λ b. (before_at dao tier (board_of 16 board.mine board.theirs) (16 * from + to) ≡ Some (board_of 16 b.mine b.theirs)) × (legal (board_of 16 b.mine b.theirs) ≡ true)) }
+        (λ b. (before_at dao tier (board_of 16 board.mine board.theirs) (16 * from + to) ≡ Some (board_of 16 b.mine b.theirs))
+        × (legal (board_of 16 b.mine b.theirs) ≡ true)) }
 {
     let earlier = board.brought_back(from, to);
     if !slides(earlier, from, to) {
@@ -115,11 +119,16 @@ pub fn parents(tier: u64, board: Board) -> ArrayVec<u64, PARENTS>
     requires { legal (board_of 16 board.mine board.theirs) ≡ true }
     ensures { result.items ≡ put_all [] (map least_index_of (befores dao tier (board_of 16 board.mine board.theirs))) }
 {
+    let left = board.free() & CELLS;
     let mut list = ArrayVec::new();
-    for from in 0..16 {
-        if board.is_free(from) {
-            put_befores(&mut list, tier, board, from);
-        }
+    let mut rest = left;
+    let mut next = 0;
+    while rest != 0 {
+        let skipped = rest.trailing_zeros();
+        next += skipped;
+        put_befores(&mut list, tier, board, next);
+        next += 1;
+        rest = rest >> skipped >> 1;
     }
     list
 }
