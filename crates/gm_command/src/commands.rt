@@ -10,6 +10,16 @@ const VERSION: &str = "0.1.0";
 
 pub(crate) const GAME: &str = "The name of a game, one of those that `gamesman list` prints";
 
+/// A command, with what it does and examples.
+pub(crate) fn command<'a>(
+    alloc: Global,
+    name: &'a str,
+    about: &'a str,
+    examples: &'a str,
+) -> Command<'a> {
+    Command::new(alloc, name).about(about).after_help(examples)
+}
+
 /// A word that has to be there.
 pub(crate) fn word<'a>(alloc: Global, name: &'a str, help: &'a str) -> Arg<'a> {
     Arg::new(alloc, name)
@@ -28,12 +38,18 @@ fn number<'a>(alloc: Global, name: &'a str, default: &'a str, most: i64, help: &
         .help(help)
 }
 
+// A word with a value of its own, which the help shows by a name.
+fn valued<'a>(alloc: Global, name: &'a str, shown: &'a str, help: &'a str) -> Arg<'a> {
+    Arg::new(alloc, name)
+        .long(name)
+        .value_name(shown)
+        .help(help)
+}
+
 /// Where the tables are kept, if not in memory.
 pub(crate) fn folder<'a>(alloc: Global) -> Arg<'a> {
-    Arg::new(alloc, "folder")
-        .long("folder")
-        .value_name("FOLDER")
-        .help("A folder for the tables, which are then kept and used again")
+    let help = "A folder for the tables, which are then kept and used again";
+    valued(alloc, "folder", "FOLDER", help)
 }
 
 fn workers<'a>(alloc: Global) -> Arg<'a> {
@@ -72,14 +88,13 @@ fn solve<'a>(alloc: Global) -> Result<Command<'a>, AllocError> {
             "Tells on standard error, a few times a second, how far it is",
         ),
     ]?;
-    Command::new(alloc, "solve")
-        .about(
-            "Solves a game into a folder, which has to be there; tables that are there and true are kept",
-        )
-        .after_help(
-            "Examples:\n  gamesman solve countdown tables\n  gamesman solve dao tables --workers 8 --progress",
-        )
-        .args(words)
+    command(
+        alloc,
+        "solve",
+        "Solves a game into a folder, which has to be there; tables that are there and true are kept",
+        "Examples:\n  gamesman solve countdown tables\n  gamesman solve dao tables --workers 8 --progress",
+    )
+    .args(words)
 }
 
 /// Whether a folder is only read.
@@ -104,12 +119,13 @@ fn query<'a>(alloc: Global) -> Result<Command<'a>, AllocError> {
         folder(alloc),
         read_only(alloc),
     ]?;
-    Command::new(alloc, "query")
-        .about("Answers the value of a position and the number of moves to the end")
-        .after_help(
-            "Examples:\n  gamesman query countdown 10\n  gamesman query hare 'dd.d......h d' --folder tables",
-        )
-        .args(words)
+    command(
+        alloc,
+        "query",
+        "Answers the value of a position and the number of moves to the end",
+        "Examples:\n  gamesman query countdown 10\n  gamesman query hare 'dd.d......h d' --folder tables",
+    )
+    .args(words)
 }
 
 fn analyse<'a>(alloc: Global) -> Result<Command<'a>, AllocError> {
@@ -130,17 +146,19 @@ fn check<'a>(alloc: Global) -> Result<Command<'a>, AllocError> {
         word(alloc, "GAME", GAME),
         word(alloc, "FOLDER", "The folder of the tables"),
     ]?;
-    Command::new(alloc, "check")
-        .about("Checks the tables of a game in a folder, tier by tier")
-        .after_help("Examples:\n  gamesman check countdown tables\n  gamesman check dao tables")
-        .args(words)
+    command(
+        alloc,
+        "check",
+        "Checks the tables of a game in a folder, tier by tier",
+        "Examples:\n  gamesman check countdown tables\n  gamesman check dao tables",
+    )
+    .args(words)
 }
 
 fn from<'a>(alloc: Global) -> Arg<'a> {
-    Arg::new(alloc, "from")
-        .long("from")
-        .value_name("POSITION")
-        .help("Begins at this position; you are the side to move, or with `--second` the other one")
+    let help =
+        "Begins at this position; you are the side to move, or with `--second` the other one";
+    valued(alloc, "from", "POSITION", help)
 }
 
 fn drawn<'a>(alloc: Global) -> Arg<'a> {
@@ -157,20 +175,22 @@ fn play<'a>(alloc: Global) -> Result<Command<'a>, AllocError> {
         from(alloc),
         drawn(alloc),
     ]?;
-    Command::new(alloc, "play")
-        .about(
-            "Plays a game with you from its start: type a move, as `1` in countdown or `a1` in tictactoe, or `quit`",
-        )
-        .after_help(
-            "Examples:\n  gamesman play tictactoe --show\n  gamesman play countdown --from 7 --second",
-        )
-        .args(words)
+    command(
+        alloc,
+        "play",
+        "Plays a game with you from its start: type a move, as `1` in countdown or `a1` in tictactoe, or `quit`",
+        "Examples:\n  gamesman play tictactoe --show\n  gamesman play countdown --from 7 --second",
+    )
+    .args(words)
 }
 
 fn list<'a>(alloc: Global) -> Command<'a> {
-    Command::new(alloc, "list")
-        .about("Lists the games")
-        .after_help("Examples:\n  gamesman list\n  gamesman list | grep tactix")
+    command(
+        alloc,
+        "list",
+        "Lists the games",
+        "Examples:\n  gamesman list\n  gamesman list | grep tactix",
+    )
 }
 
 // Adds a command, where memory sufficed to make it.

@@ -1,6 +1,6 @@
 //! The command line of questions about a position.
 
-use crate::commands::{GAME, flag, folder, json, read_only, word};
+use crate::commands::{GAME, command, flag, folder, json, read_only, word};
 use crate::requests::{PositionAsked, Question};
 use clap::{Arg, ArgMatches, Command, value_parser};
 use std::alloc::{AllocError, Global};
@@ -34,12 +34,13 @@ pub fn moves<'a>(alloc: Global) -> Result<Command<'a>, AllocError> {
         folder(alloc),
         read_only(alloc),
     ]?;
-    Command::new(alloc, "moves")
-        .about("Lists the moves of a position, the best first: what each is worth, and its result")
-        .after_help(
-            "Examples:\n  gamesman moves tictactoe xo.......\n  gamesman moves dao --distinct --folder tables",
-        )
-        .args(words)
+    command(
+        alloc,
+        "moves",
+        "Lists the moves of a position, the best first: what each is worth, and its result",
+        "Examples:\n  gamesman moves tictactoe xo.......\n  gamesman moves dao --distinct --folder tables",
+    )
+    .args(words)
 }
 
 /// The command `line`.
@@ -52,10 +53,13 @@ pub fn line<'a>(alloc: Global) -> Result<Command<'a>, AllocError> {
         folder(alloc),
         read_only(alloc),
     ]?;
-    Command::new(alloc, "line")
-        .about("Plays the best moves of both sides from a position to the end")
-        .after_help("Examples:\n  gamesman line tactix-3\n  gamesman line wheel 3 --limit 4")
-        .args(words)
+    command(
+        alloc,
+        "line",
+        "Plays the best moves of both sides from a position to the end",
+        "Examples:\n  gamesman line tactix-3\n  gamesman line wheel 3 --limit 4",
+    )
+    .args(words)
 }
 
 /// The command `show`.
@@ -66,12 +70,13 @@ pub fn show<'a>(alloc: Global) -> Result<Command<'a>, AllocError> {
         folder(alloc),
         read_only(alloc),
     ]?;
-    Command::new(alloc, "show")
-        .about(
-            "Draws the board of a position, with who is to move and the value; of the start also how cells, positions and moves are written",
-        )
-        .after_help("Examples:\n  gamesman show tictactoe\n  gamesman show dao x..o.xo..ox.o..x")
-        .args(words)
+    command(
+        alloc,
+        "show",
+        "Draws the board of a position, with who is to move and the value; of the start also how cells, positions and moves are written",
+        "Examples:\n  gamesman show tictactoe\n  gamesman show dao x..o.xo..ox.o..x",
+    )
+    .args(words)
 }
 
 fn limit_of(inner: &ArgMatches<'_>) -> usize {

@@ -1,10 +1,9 @@
 //! Texts about the program, made from its command line: completions for shells, and a man page.
 
-use crate::commands::gamesman;
+use crate::commands::{command, gamesman};
 use crate::names::NAMES;
 use clap::{Arg, ArgAction, ArgMatches, Command};
 use std::alloc::{AllocError, Global};
-use std::io::{self, Write};
 
 /// A text about the program.
 #[derive(Clone, Copy, Debug, PartialEq, Eq)]
@@ -21,19 +20,23 @@ pub fn completions<'a>(alloc: Global) -> Result<Command<'a>, AllocError> {
         .required(true)
         .action(ArgAction::Set)
         .help("The shell: bash, zsh or fish");
-    Command::new(alloc, "completions")
-        .about("Prints the completions of a shell, for it to read at its start")
-        .after_help(
-            "Examples:\n  gamesman completions bash > ~/.local/share/bash-completion/completions/gamesman\n  gamesman completions fish > ~/.config/fish/completions/gamesman.fish",
-        )
-        .arg(shell)
+    command(
+        alloc,
+        "completions",
+        "Prints the completions of a shell, for it to read at its start",
+        "Examples:\n  gamesman completions bash > ~/.local/share/bash-completion/completions/gamesman\n  gamesman completions fish > ~/.config/fish/completions/gamesman.fish",
+    )
+    .arg(shell)
 }
 
 /// The command `man`.
 pub fn man<'a>(alloc: Global) -> Command<'a> {
-    Command::new(alloc, "man")
-        .about("Prints the manual page")
-        .after_help("Examples:\n  gamesman man > gamesman.1\n  gamesman man | man -l -")
+    command(
+        alloc,
+        "man",
+        "Prints the manual page",
+        "Examples:\n  gamesman man > gamesman.1\n  gamesman man | man -l -",
+    )
 }
 
 /// The shell of a line of `completions`.
@@ -49,15 +52,12 @@ pub fn page_of(inner: &ArgMatches<'_>) -> Option<Page> {
 /// The text of a page.
 pub fn page_text(alloc: Global, page: Page) -> Result<Vec<u8>, AllocError> {
     let command = gamesman(alloc)?;
-    let mut text = Vec::new(alloc);
-    match make_page(&command, page, &mut text) {
-        Ok(()) => Ok(text),
-        Err(_) => Err(AllocError),
-    }
+    let mut text = String::new(alloc);
+    write_page(&command, page, &mut text)?;
+    Ok(text.into_bytes())
 }
 
-// Makes a page, which fails only where memory is refused.
-fn make_page(command: &Command<'_>, page: Page, text: &mut Vec<u8>) -> io::Result<()> {
+fn write_page(command: &Command<'_>, page: Page, text: &mut String) -> Result<(), AllocError> {
     match page {
         Page::Bash => write_bash(command, text),
         Page::Zsh => write_zsh(command, text),
@@ -66,142 +66,160 @@ fn make_page(command: &Command<'_>, page: Page, text: &mut Vec<u8>) -> io::Resul
     }
 }
 
+// Adds some strings, one after another.
+fn add(text: &mut String, parts: &[&str]) -> Result<(), AllocError> {
+    for part in parts {
+        text.push_str(part)?;
+    }
+    Ok(())
+}
+
 // The names of the commands, a space before each.
-fn write_commands<O: Write>(command: &Command<'_>, output: &mut O) -> io::Result<()> {
+fn write_commands(command: &Command<'_>, text: &mut String) -> Result<(), AllocError> {
     for inner in command.get_subcommands() {
-        write!(output, " {}", inner.get_name())?;
+        add(text, &[" ", inner.get_name()])?;
     }
     Ok(())
 }
 
 // The words that can follow a command: its options, and the names of the games.
-fn write_words<O: Write>(command: &Command<'_>, output: &mut O) -> io::Result<()> {
+fn write_words(command: &Command<'_>, text: &mut String) -> Result<(), AllocError> {
     for arg in command.get_arguments() {
         match arg.get_long() {
-            Some(long) => write!(output, " --{long}")?,
-            None => write_values(arg.get_id(), output)?,
+            Some(long) => add(text, &[" --", long])?,
+            None => write_values(arg.get_id(), text)?,
         }
     }
     Ok(())
 }
 
 // The values that a word of the command line can have.
-fn write_values<O: Write>(place: &str, output: &mut O) -> io::Result<()> {
+fn write_values(place: &str, text: &mut String) -> Result<(), AllocError> {
     match place {
         "GAME" => {
             for name in &NAMES {
-                write!(output, " {name}")?;
+                add(text, &[" ", name])?;
             }
             Ok(())
         }
-        "SHELL" => write!(output, " bash zsh fish"),
+        "SHELL" => text.push_str(" bash zsh fish"),
         _ => Ok(()),
     }
 }
 
-fn write_bash<O: Write>(command: &Command<'_>, output: &mut O) -> io::Result<()> {
-    write!(
-        output,
-        "_gamesman() {{\n    local cur=${{COMP_WORDS[COMP_CWORD]}} words=\n    if [ \"$COMP_CWORD\" -eq 1 ]; then\n        words=\""
-    )?;
-    write_commands(command, output)?;
-    write!(
-        output,
-        "\"\n    else\n        case \"${{COMP_WORDS[1]}}\" in\n"
-    )?;
+// The words of each command, with strings before its name, before its words and after them.
+fn write_cases(
+    command: &Command<'_>,
+    start: &str,
+    before: &str,
+    after: &str,
+    text: &mut String,
+) -> Result<(), AllocError> {
     for inner in command.get_subcommands() {
-        write!(output, "        {}) words=\"", inner.get_name())?;
-        write_words(inner, output)?;
-        write!(output, "\" ;;\n")?;
+        add(text, &[start, inner.get_name(), before])?;
+        write_words(inner, text)?;
+        text.push_str(after)?;
     }
-    write!(
-        output,
-        "        esac\n    fi\n    COMPREPLY=($(compgen -W \"$words\" -- \"$cur\"))\n}}\ncomplete -o default -F _gamesman gamesman\n"
+    Ok(())
+}
+
+fn write_bash(command: &Command<'_>, text: &mut String) -> Result<(), AllocError> {
+    text.push_str(
+        "_gamesman() {\n    local cur=${COMP_WORDS[COMP_CWORD]} words=\n    if [ \"$COMP_CWORD\" -eq 1 ]; then\n        words=\"",
+    )?;
+    write_commands(command, text)?;
+    text.push_str("\"\n    else\n        case \"${COMP_WORDS[1]}\" in\n")?;
+    write_cases(command, "        ", ") words=\"", "\" ;;\n", text)?;
+    text.push_str(
+        "        esac\n    fi\n    COMPREPLY=($(compgen -W \"$words\" -- \"$cur\"))\n}\ncomplete -o default -F _gamesman gamesman\n",
     )
 }
 
-fn write_zsh<O: Write>(command: &Command<'_>, output: &mut O) -> io::Result<()> {
-    write!(
-        output,
-        "#compdef gamesman\n_gamesman() {{\n    if (( CURRENT == 2 )); then\n        compadd --"
+fn write_zsh(command: &Command<'_>, text: &mut String) -> Result<(), AllocError> {
+    text.push_str(
+        "#compdef gamesman\n_gamesman() {\n    if (( CURRENT == 2 )); then\n        compadd --",
     )?;
-    write_commands(command, output)?;
-    write!(
-        output,
-        "\n        return\n    fi\n    case ${{words[2]}} in\n"
-    )?;
-    for inner in command.get_subcommands() {
-        write!(output, "    {}) compadd --", inner.get_name())?;
-        write_words(inner, output)?;
-        write!(output, " ;;\n")?;
-    }
-    write!(
-        output,
-        "    esac\n    _files\n}}\ncompdef _gamesman gamesman\n"
-    )
+    write_commands(command, text)?;
+    text.push_str("\n        return\n    fi\n    case ${words[2]} in\n")?;
+    write_cases(command, "    ", ") compadd --", " ;;\n", text)?;
+    text.push_str("    esac\n    _files\n}\ncompdef _gamesman gamesman\n")
 }
 
-fn write_fish<O: Write>(command: &Command<'_>, output: &mut O) -> io::Result<()> {
+fn write_fish(command: &Command<'_>, text: &mut String) -> Result<(), AllocError> {
     for inner in command.get_subcommands() {
-        let name = inner.get_name();
-        let about = inner.get_about().unwrap_or("");
-        write!(
-            output,
-            "complete -c gamesman -n __fish_use_subcommand -a {name} -d '{about}'\n"
-        )?;
-        for arg in inner.get_arguments() {
-            write_fish_word(name, arg, output)?;
-        }
+        write_fish_command(inner, text)?;
+    }
+    Ok(())
+}
+
+fn write_fish_command(command: &Command<'_>, text: &mut String) -> Result<(), AllocError> {
+    let name = command.get_name();
+    let about = command.get_about().unwrap_or("");
+    add(
+        text,
+        &[
+            "complete -c gamesman -n __fish_use_subcommand -a ",
+            name,
+            " -d '",
+            about,
+            "'\n",
+        ],
+    )?;
+    for arg in command.get_arguments() {
+        write_fish_word(name, arg, text)?;
     }
     Ok(())
 }
 
 // An option, or the values that a word of the command line can have.
-fn write_fish_word<O: Write>(name: &str, arg: &Arg<'_>, output: &mut O) -> io::Result<()> {
-    write!(
-        output,
-        "complete -c gamesman -n '__fish_seen_subcommand_from {name}'"
+fn write_fish_word(name: &str, arg: &Arg<'_>, text: &mut String) -> Result<(), AllocError> {
+    add(
+        text,
+        &[
+            "complete -c gamesman -n '__fish_seen_subcommand_from ",
+            name,
+            "'",
+        ],
     )?;
     match arg.get_long() {
-        Some(long) => write!(output, " -l {long}\n"),
+        Some(long) => add(text, &[" -l ", long, "\n"]),
         None => {
-            write!(output, " -a '")?;
-            write_values(arg.get_id(), output)?;
-            write!(output, "'\n")
+            text.push_str(" -a '")?;
+            write_values(arg.get_id(), text)?;
+            text.push_str("'\n")
         }
     }
 }
 
-fn write_man<O: Write>(command: &Command<'_>, output: &mut O) -> io::Result<()> {
-    write!(
-        output,
-        ".TH GAMESMAN 1\n.SH NAME\ngamesman \\- solves two\\-player games\n.SH SYNOPSIS\n.B gamesman\n.I COMMAND\n[\\fIWORD\\fR ...]\n.SH COMMANDS\n"
+fn write_man(command: &Command<'_>, text: &mut String) -> Result<(), AllocError> {
+    text.push_str(
+        ".TH GAMESMAN 1\n.SH NAME\ngamesman \\- solves two\\-player games\n.SH SYNOPSIS\n.B gamesman\n.I COMMAND\n[\\fIWORD\\fR ...]\n.SH COMMANDS\n",
     )?;
     for inner in command.get_subcommands() {
-        write!(
-            output,
-            ".SS {}\n{}.\n",
-            inner.get_name(),
-            inner.get_about().unwrap_or("")
-        )?;
-        for arg in inner.get_arguments() {
-            write_man_word(arg, output)?;
-        }
+        write_man_command(inner, text)?;
     }
-    write!(output, ".SH GAMES\n")?;
+    text.push_str(".SH GAMES\n")?;
     for name in &NAMES {
-        write!(output, "{name}\n")?;
+        add(text, &[name, "\n"])?;
     }
-    write!(
-        output,
-        ".SH EXIT STATUS\n0 where what was asked was done, 1 where it was refused, 2 for a line that is none.\n"
+    text.push_str(
+        ".SH EXIT STATUS\n0 where what was asked was done, 1 where it was refused, 2 for a line that is none.\n",
     )
 }
 
-fn write_man_word<O: Write>(arg: &Arg<'_>, output: &mut O) -> io::Result<()> {
+fn write_man_command(command: &Command<'_>, text: &mut String) -> Result<(), AllocError> {
+    let about = command.get_about().unwrap_or("");
+    add(text, &[".SS ", command.get_name(), "\n", about, ".\n"])?;
+    for arg in command.get_arguments() {
+        write_man_word(arg, text)?;
+    }
+    Ok(())
+}
+
+fn write_man_word(arg: &Arg<'_>, text: &mut String) -> Result<(), AllocError> {
     let help = arg.get_help().unwrap_or("");
     match arg.get_long() {
-        Some(long) => write!(output, ".TP\n.B \\-\\-{long}\n{help}.\n"),
-        None => write!(output, ".TP\n.I {}\n{help}.\n", arg.get_id()),
+        Some(long) => add(text, &[".TP\n.B \\-\\-", long, "\n", help, ".\n"]),
+        None => add(text, &[".TP\n.I ", arg.get_id(), "\n", help, ".\n"]),
     }
 }
