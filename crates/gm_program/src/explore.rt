@@ -1,5 +1,6 @@
 //! Questions about a position: what its moves are worth, and best play from it.
-ghost use Rattle.std.specs.Prelude.{◌≡◌, true, IfOk};
+ghost use Rattle.std.specs.Prelude.{◌≡◌, true, None, Ok, IfOk, OnErr, IfSome};
+ghost use Rattle.gm_play.specs.PlayTexts.{IsReadAs, IsNoPosition};
 
 use crate::fault::Fault;
 use crate::run::DONE;
@@ -45,19 +46,30 @@ pub fn explore<G: Drawn + Send + Sync, R: Threads + Wait + Files + Sync + AllocG
     Ok(DONE)
 }
 
-/// The position that is asked about: the start where none is given.
+/// The position that is asked about: the start where none is given, and else the legal one with this text, if there is one.
 pub fn position_of<G: Shown>(position: Option<&str>) -> Result<Position, Fault>
-    ensures { IfOk result (λ p. G.Game.rules.is_legal p ≡ true) }
+    ensures legal { IfOk result (λ p. G.Game.rules.is_legal p ≡ true) }
+    ensures start { position.entry ≡ None → result ≡ Ok G.Game.rules.initial }
+    ensures read { IfSome position.entry (λ text. IfOk result (IsReadAs G.Game.rules G.shown G.move_shown text.now)) }
+    ensures refused { IfSome position.entry (λ text. OnErr result (IsNoPosition G.Game.rules G.shown G.move_shown text.now)) }
 {
     match position {
-        Some(text) => match G::read(text.as_bytes()) {
-            Some(p) => Ok(p),
-            None => Err(Fault::NoSuchPosition),
-        },
+        Some(text) => read_position::<G>(text),
         None => {
             laws::<G>();
             Ok(G::initial())
         }
+    }
+}
+
+// The legal position with this text, if there is one.
+fn read_position<G: Shown>(text: &str) -> Result<Position, Fault>
+    ensures read { IfOk result (IsReadAs G.Game.rules G.shown G.move_shown text.now) }
+    ensures refused { OnErr result (IsNoPosition G.Game.rules G.shown G.move_shown text.now) }
+{
+    match G::read(text.as_bytes()) {
+        Some(p) => Ok(p),
+        None => Err(Fault::NoSuchPosition),
     }
 }
 

@@ -67,6 +67,40 @@ fn answer<
     }
 }
 
+// Answers what is asked of Tac Tix by the misère rule, on a square of this name.
+fn answer_misere<
+    R: Threads + Wait + Clock + Files + Sync + AllocGlobal,
+    I: Read,
+    O: Write,
+    E: Write + Send,
+>(rt: &R, game: &str, asked: GameAsked<'_>, streams: Streams<'_, I, O, E>) -> Result<u8, Fault> {
+    match game {
+        "tactix-1-misere" => answer::<TacTix<1, true>, R, I, O, E>(rt, asked, streams),
+        "tactix-2-misere" => answer::<TacTix<2, true>, R, I, O, E>(rt, asked, streams),
+        "tactix-3-misere" => answer::<TacTix<3, true>, R, I, O, E>(rt, asked, streams),
+        "tactix-4-misere" => answer::<TacTix<4, true>, R, I, O, E>(rt, asked, streams),
+        "tactix-5-misere" => answer::<TacTix<5, true>, R, I, O, E>(rt, asked, streams),
+        _ => Err(Fault::NoSuchGame),
+    }
+}
+
+// Answers what is asked of Tac Tix on a square of this name.
+fn answer_tactix<
+    R: Threads + Wait + Clock + Files + Sync + AllocGlobal,
+    I: Read,
+    O: Write,
+    E: Write + Send,
+>(rt: &R, game: &str, asked: GameAsked<'_>, streams: Streams<'_, I, O, E>) -> Result<u8, Fault> {
+    match game {
+        "tactix-1" => answer::<TacTix<1, false>, R, I, O, E>(rt, asked, streams),
+        "tactix-2" => answer::<TacTix<2, false>, R, I, O, E>(rt, asked, streams),
+        "tactix-3" => answer::<TacTix<3, false>, R, I, O, E>(rt, asked, streams),
+        "tactix-4" => answer::<TacTix<4, false>, R, I, O, E>(rt, asked, streams),
+        "tactix-5" => answer::<TacTix<5, false>, R, I, O, E>(rt, asked, streams),
+        _ => answer_misere(rt, game, asked, streams),
+    }
+}
+
 /// Answers what is asked of the game of this name.
 pub fn answer_for<
     R: Threads + Wait + Clock + Files + Sync + AllocGlobal,
@@ -77,22 +111,12 @@ pub fn answer_for<
     match game {
         "countdown" => answer::<Countdown<10>, R, I, O, E>(rt, asked, streams),
         "wheel" => answer::<Wheel, R, I, O, E>(rt, asked, streams),
-        "tactix-1" => answer::<TacTix<1, false>, R, I, O, E>(rt, asked, streams),
-        "tactix-2" => answer::<TacTix<2, false>, R, I, O, E>(rt, asked, streams),
-        "tactix-3" => answer::<TacTix<3, false>, R, I, O, E>(rt, asked, streams),
-        "tactix-4" => answer::<TacTix<4, false>, R, I, O, E>(rt, asked, streams),
-        "tactix-5" => answer::<TacTix<5, false>, R, I, O, E>(rt, asked, streams),
-        "tactix-1-misere" => answer::<TacTix<1, true>, R, I, O, E>(rt, asked, streams),
-        "tactix-2-misere" => answer::<TacTix<2, true>, R, I, O, E>(rt, asked, streams),
-        "tactix-3-misere" => answer::<TacTix<3, true>, R, I, O, E>(rt, asked, streams),
-        "tactix-4-misere" => answer::<TacTix<4, true>, R, I, O, E>(rt, asked, streams),
-        "tactix-5-misere" => answer::<TacTix<5, true>, R, I, O, E>(rt, asked, streams),
         "tictactoe" => answer::<TicTacToe, R, I, O, E>(rt, asked, streams),
         "threemens" => answer::<ThreeMens, R, I, O, E>(rt, asked, streams),
         "achi" => answer::<Achi, R, I, O, E>(rt, asked, streams),
         "mutorere" => answer::<MuTorere, R, I, O, E>(rt, asked, streams),
         "dao" => answer::<Dao, R, I, O, E>(rt, asked, streams),
         "hare" => answer::<Hare, R, I, O, E>(rt, asked, streams),
-        _ => Err(Fault::NoSuchGame),
+        _ => answer_tactix(rt, game, asked, streams),
     }
 }
