@@ -1,5 +1,5 @@
 -- The boards after a board: what is skipped leads to no board.
-use Rattle.std.proofs.Common.{◌≡◌, ℕ, ◌+◌, ◌-◌, ◌*◌, ◌/◌, ◌^◌, ◌<◌, ◌≤◌, true, false, List, [], Option, None, Some, length, map, refl, sym, ap, ap₂, ◌∙◌, subst, arith}
+use Rattle.std.proofs.Common.{◌≡◌, ℕ, ◌+◌, ◌-◌, ◌*◌, ◌/◌, ◌^◌, ◌<◌, ◌≤◌, true, false, List, [], Option, None, Some, length, map, set, refl, sym, ap, ap₂, ◌∙◌, subst, arith}
 use Rattle.std.specs.Option.{is_some}
 use Rattle.std.proofs.lemmas.Bool.{true≢false}
 use Rattle.gm_game.specs.declared.position.Position.{Position}
@@ -8,6 +8,9 @@ use Rattle.gm_game.specs.Boards.{least_image, next_images}
 use Rattle.gm_game.specs.Children.{IsSetOf, with_position}
 use Rattle.gm_game.proofs.ChildrenSteps.{set_none}
 use Rattle.gm_board.specs.declared.cell.Cell.{Cell}
+use Rattle.gm_board.specs.declared.cell.Cell.TheVariants.{Empty, Mine}
+use Rattle.gm_board.specs.Cells.{is_mine, is_theirs, number_of}
+use Rattle.gm_board.specs.laws.CellCounts.{mine_turned, theirs_turned}
 use Rattle.gm_board.specs.Masks.{has_cell}
 use Rattle.gm_board.specs.NextCells.{none_left}
 use Rattle.gm_board.specs.Images.{board_of}
@@ -16,7 +19,9 @@ use Rattle.gm_pieces.specs.MoveGames.{board_game, steps, moves_by}
 use Rattle.gm_pieces.specs.MoveChildren.{position_after, AreChildrenBelow}
 use Rattle.gm_pieces.specs.laws.ChildFacts.{children_skip, child_more, all_children, all_are_moves}
 use Rattle.gm_sides.specs.Sides.{IsStep, gone}
-use Rattle.gm_dao.specs.DaoRules.{can_move, over, play, dao}
+use Rattle.gm_sides.specs.laws.MoveFacts.{step_left}
+use Rattle.gm_dao.specs.DaoRules.{can_move, over, play, legal, dao}
+use Rattle.gm_dao.specs.laws.BoardFacts.{legal_in}
 use Rattle.gm_dao.specs.laws.MoveFacts.{slide_step}
 use Rattle.gm_dao.proofs.MoveSteps.{slide_at}
 use Rattle.gm_dao.proofs.LoopSteps.{AreGoals, no_move_from, from_far}
@@ -44,6 +49,15 @@ no_child b o e f h = subst (λ (x : Option End). IsSetOf (map (position_after da
 played : (b : List Cell) (from k : ℕ) → k < 16 → play b (16 * from + k) ≡ gone b from k
 unfolding play
 played b from k l = ap₂ (gone b) (from_back from k l) (to_back from k l)
+
+-- the board after a step has four pieces of each side
+pub four_each : (b : List Cell) (from to : ℕ) → legal b ≡ true → IsStep b from to → (number_of is_mine (gone b from to) ≡ 4) × (number_of is_theirs (gone b from to) ≡ 4)
+four_each b from to l s =
+    let h = legal_in b l in
+    let d = set (set b from Empty) to Mine in
+    let x = step_left b from to s in
+    let o = theirs_turned d in
+    (mine_turned d ∙ x.other ∙ h.other, omega (arith, o, x.own, h.own))
 
 -- where the test of an answer fails there is none
 pub not_some : (o : Option End) → is_some o ≡ false → o ≡ None

@@ -11,7 +11,7 @@ ghost use Rattle.gm_pieces.specs.MoveGames.{goes_on as goes_on_of, before_at, be
 ghost use Rattle.gm_dao.specs.DaoRules.{was_moved as was_moved_of, taken_back as taken_back_of, legal, slides as slides_of, least_index_of, dao};
 ghost use Rattle.gm_dao.specs.MaskSlides.{is_open as is_open_of, AreBeforesBelow};
 
-use crate::board::{Board, SIDE};
+use crate::board::{Board, least_index};
 use crate::moves::{can_move, has_own_formation, is_legal_board, is_trapped, over};
 use crate::slides::{are_in_line, can_slide};
 use arrayvec::ArrayVec;
@@ -106,7 +106,7 @@ fn put_befores(list: &mut ArrayVec<u64, PARENTS>, tier: u64, board: Board, from:
         let skipped = rest.trailing_zeros();
         next += skipped;
         match gone_before(tier, board, from, next) {
-            Some(earlier) => put(list, earlier.least_index(SIDE)),
+            Some(earlier) => put(list, least_index(earlier, None)),
             None => {}
         }
         next += 1;

@@ -1,11 +1,12 @@
-use Rattle.std.proofs.Common.{arith}
+use Rattle.std.proofs.Common.{ap, ◌∙◌, arith}
+use Rattle.gm_board.specs.Cells.{is_mine, is_theirs, number_of}
 use Rattle.gm_board.specs.Images.{board_of, board_length}
 use Rattle.gm_board.specs.NextCells.{next_cell, cell_below}
 use Rattle.gm_pieces.specs.laws.ChildFacts.{child_room}
 use Rattle.gm_dao.specs.DaoRules.{dao}
 use Rattle.gm_dao.specs.laws.DaoLaws.{lawful}
 use Rattle.gm_dao.proofs.LoopSteps.{AreGoals, goals_are}
-use Rattle.gm_dao.proofs.ChildSteps.{goals_pass, goals_past, goal_move, goal_step, goal_more}
+use Rattle.gm_dao.proofs.ChildSteps.{goals_pass, goals_past, goal_move, goal_step, goal_more, four_each}
 use Rattle.gm_dao.proofs.children.put_children.Goals as goal
 use Rattle.gm_dao.proofs.children.put_children.Goals.{After-goals-reached}
 
@@ -21,6 +22,26 @@ gone-requires c =
     let z = next_cell g c.loop-rest.next c.loop-rest.rest c.loop-rest.invariant.is_rest (omega arith) (omega arith) in
     let l = cell_below g 16 _ c.goals-reached.ensures.within z.has in
     (omega arith, goal_step (board_of 16 a c.args.board.theirs) c.args.from g (reached ((goal.at.gone-requires c).After-goals-reached)) _ (board_length 16 a c.args.board.theirs) l z.has)
+
+pub least_position-requires-clause-own : goal.least_position-requires-clause-own
+least_position-requires-clause-own c =
+    let a = c.args.board.mine in
+    let b = board_of 16 a c.args.board.theirs in
+    let g = c.goals-reached.result in
+    let z = next_cell g c.loop-rest.next c.loop-rest.rest c.loop-rest.invariant.is_rest (omega arith) (omega arith) in
+    let l = cell_below g 16 _ c.goals-reached.ensures.within z.has in
+    let s = goal_step b c.args.from g (reached ((goal.at.least_position-requires-clause-own c).After-goals-reached)) _ (board_length 16 a c.args.board.theirs) l z.has in
+    ap (number_of is_mine) c.gone.ensures.board ∙ (four_each b c.args.from _ c.requires.legal s).0
+
+pub least_position-requires-clause-other : goal.least_position-requires-clause-other
+least_position-requires-clause-other c =
+    let a = c.args.board.mine in
+    let b = board_of 16 a c.args.board.theirs in
+    let g = c.goals-reached.result in
+    let z = next_cell g c.loop-rest.next c.loop-rest.rest c.loop-rest.invariant.is_rest (omega arith) (omega arith) in
+    let l = cell_below g 16 _ c.goals-reached.ensures.within z.has in
+    let s = goal_step b c.args.from g (reached ((goal.at.least_position-requires-clause-other c).After-goals-reached)) _ (board_length 16 a c.args.board.theirs) l z.has in
+    ap (number_of is_theirs) c.gone.ensures.board ∙ (four_each b c.args.from _ c.requires.legal s).1
 
 pub insert_position-requires : goal.insert_position-requires
 insert_position-requires c =

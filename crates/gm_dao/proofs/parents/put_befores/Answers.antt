@@ -6,6 +6,7 @@ use Rattle.gm_steps.specs.laws.Listed.{put_room}
 use Rattle.gm_sides.specs.laws.MaskFacts.{their_cells}
 use Rattle.gm_pieces.specs.MoveGames.{before_at, befores}
 use Rattle.gm_dao.specs.DaoRules.{numbers_end, least_index_of, dao}
+use Rattle.gm_dao.specs.laws.BoardFacts.{legal_in}
 use Rattle.gm_dao.proofs.LoopSteps.{befores_skip, befores_end, before_less, before_more}
 use Rattle.gm_dao.proofs.parents.put_befores.Goals as goal
 use Rattle.gm_dao.proofs.parents.put_befores.Goals.{in-Some, in-None}
@@ -19,6 +20,12 @@ gone_before-requires-clause-was c =
       there = their_cell _ (sym (their_cells 16 a b c.args.board.theirs_within c.args.board.apart _) ∙ z.has);
       left = empty_cell _ c.requires.free;
     }
+
+pub least_index-requires-clause-own : goal.least_index-requires-clause-own
+least_index-requires-clause-own c = (legal_in _ c.in-Some.ensures.1).own
+
+pub least_index-requires-clause-other : goal.least_index-requires-clause-other
+least_index-requires-clause-other c = (legal_in _ c.in-Some.ensures.1).other
 
 pub put-requires : goal.put-requires
 unfolding befores
