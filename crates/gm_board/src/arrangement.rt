@@ -27,7 +27,8 @@ impl Arrangement {
         binomial(self.cells, self.mine) * binomial(self.free(), self.theirs)
     }
 
-    /// The index of the arrangement with these masks of pieces.
+    /// The index of the arrangement with these masks of pieces. Inlined, as `masks` is.
+    #[inline(always)]
     pub fn index(self, mine: u32, theirs: u32) -> u64
         requires { HasPieces self.cells self.mine self.theirs mine theirs }
         ensures value { result ≡ arrangement_index (cells_of self.cells mine theirs) }
@@ -67,6 +68,7 @@ impl Arrangement {
 }
 
 /// The mask of the opponent's pieces on the cells without the mover's pieces, where these cells are numbered from 0 in ascending order.
+#[inline(always)]
 fn pack(cells: u32, mine: u32, theirs: u32) -> u32
     requires cells { cells ≤ 32 }
     requires mine { mine < 2 ^ cells }

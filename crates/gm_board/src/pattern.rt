@@ -12,15 +12,21 @@ pub fn has_all(cells: u32, mask: u32) -> bool
 }
 
 /// Whether these cells include all cells of one of the patterns with these masks.
+#[inline(always)]
 pub fn has_some(cells: u32, masks: &[u32]) -> bool
     ensures { (patterns : List (List ℕ)) → map pattern_mask patterns ≡ masks.now → result ≡ list_any (λ pattern. list_all (has_cell cells) pattern) patterns }
 {
     fills_some(cells, masks)
 }
 
-// Whether these cells include all cells of one of these masks.
+// Whether these cells include all cells of one of these masks. All masks are tested, so that the loop has no branches.
+#[inline(always)]
 fn fills_some(cells: u32, masks: &[u32]) -> bool
     ensures { result ≡ list_any (λ mask. bit_and cells mask == mask) masks.now }
 {
-    masks.iter().any(|mask| cells & *mask == *mask)
+    let mut found = false;
+    for mask in masks {
+        found |= cells & *mask == *mask;
+    }
+    found
 }

@@ -3,7 +3,7 @@ use Rattle.std.proofs.Common.{◌≡◌, ℕ, zero, suc, ◌+◌, ◌-◌, ◌*�
 use Rattle.std.specs.Prelude.{bit_and, bit_or}
 use Rattle.std.proofs.Math.Nat.{mod-eq_of_lt}
 use Rattle.std.proofs.Math.Pow.{pow-lt, pow_mono}
-use Rattle.std.proofs.lemmas.Nat.{or_lt, and_le_r}
+use Rattle.std.proofs.lemmas.Nat.{or_lt, and_le_l, and_le_r}
 use Rattle.std.specs.Int.{trailing_zeros, w32}
 use Rattle.std.specs.Int.Bits.{or_zero_r}
 use Rattle.std.specs.List.{list_all, filter, filter_map, range_with_len}
@@ -84,24 +84,36 @@ no_cell k = rw (bit_at-zero k) refl
 before_not : (t : ℕ) (d : List Cell) (m : ℕ) → was_moved d m ≡ false → before_at dao t d m ≡ None
 before_not t d m e = before_none dao t d m (λ w. absurd (true≢false (sym w ∙ e)))
 
--- no move ends on a cell without a piece of the opponent's
-no_before_to : (t a b m : ℕ) → b < 2 ^ 16 → bit_and a b ≡ 0 → has_cell b (to_point m) ≡ false → before_at dao t (board_of 16 a b) m ≡ None
+-- no move ends on a cell without a piece of the opponent's, or on one that is not in line with the cell that it left
+no_before_to : (t a b m : ℕ) → b < 2 ^ 16 → bit_and a b ≡ 0 → has_cell b (to_point m) && in_line (from_point m) (to_point m) ≡ false → before_at dao t (board_of 16 a b) m ≡ None
 no_before_to t a b m l q e = before_not t (board_of 16 a b) m (elim (cases_Bool (was_moved (board_of 16 a b) m)) [
-  | inl w ↦ absurd (true≢false (sym (their_cells 16 a b l q (to_point m) ∙ ap is_theirs (was_in (board_of 16 a b) m w).step.there) ∙ e))
+  | inl w ↦
+      let i = was_in (board_of 16 a b) m w in
+      absurd (true≢false (sym (ap₂ (λ (x y : Bool). x && y) (their_cells 16 a b l q (to_point m) ∙ ap is_theirs i.step.there) i.line) ∙ e))
   | inr f ↦ f
 ])
 
--- cells without the opponent's pieces, s of them
-pub befores_skip : (t a b from n s : ℕ) (is : List ℕ) → b < 2 ^ 16 → bit_and a b ≡ 0 → n + s ≤ 16 → ((i : ℕ) → i < s → has_cell b (n + i) ≡ false)
-    → AreBeforesBelow t (board_of 16 a b) (16 * from + n) is → AreBeforesBelow t (board_of 16 a b) (16 * from + (n + s)) is
-befores_skip t a b from n s is l q w none e =
+-- the mask of the opponent's pieces in line with a cell
+pub moved_within : (b lines : ℕ) → b < 2 ^ 16 → bit_and b lines < 2 ^ 16
+moved_within b lines l = omega (arith, l, and_le_l b lines)
+
+-- a cell with one of them
+pub moved_cell : (b lines from k : ℕ) → k < 16 → ((j : ℕ) → j < 16 → has_cell lines j ≡ in_line from j) → has_cell (bit_and b lines) k ≡ has_cell b k && in_line from k
+moved_cell b lines from k l h = has_and b lines k ∙ ap (λ (x : Bool). has_cell b k && x) (h k l)
+
+-- cells without such a piece, s of them
+pub befores_skip : (t a b lines from n s : ℕ) (is : List ℕ) → b < 2 ^ 16 → bit_and a b ≡ 0 → n + s ≤ 16 → ((j : ℕ) → j < 16 → has_cell lines j ≡ in_line from j)
+    → ((i : ℕ) → i < s → has_cell (bit_and b lines) (n + i) ≡ false) → AreBeforesBelow t (board_of 16 a b) (16 * from + n) is → AreBeforesBelow t (board_of 16 a b) (16 * from + (n + s)) is
+befores_skip t a b lines from n s is l q w h none e =
     let d = board_of 16 a b in
     e
     ∙ sym (
     ap (λ (m : ℕ). put_all [] (map least_index_of (filter_map (before_at dao t d) (range_with_len 0 m)))) (let z : 16 * from + (n + s) ≡ 16 * from + n + s = omega arith in z)
     ∙ puts_skip least_index_of (before_at dao t d) (16 * from + n) s (λ i k.
     ap (before_at dao t d) (let z : 16 * from + n + i ≡ 16 * from + (n + i) = omega arith in z)
-    ∙ no_before_to t a b (16 * from + (n + i)) l q (ap (has_cell b) (to_back from (n + i) (omega arith)) ∙ none i k)))
+    ∙ no_before_to t a b (16 * from + (n + i)) l q (
+    ap₂ (λ (x y : ℕ). has_cell b x && in_line y x) (to_back from (n + i) (omega arith)) (from_back from (n + i) (omega arith))
+    ∙ sym (moved_cell b lines from (n + i) (omega arith) h) ∙ none i k)))
 
 -- no move has left a cell on which a piece stands
 pub befores_past : (t : ℕ) (d : List Cell) (from : ℕ) (is : List ℕ) → is_empty (cell_at d from) ≡ false → AreBeforesBelow t d (16 * from) is → AreBeforesBelow t d (16 * from + 16) is
@@ -223,10 +235,11 @@ goals_none b from g h e m =
     (goals_end b from g 0 g [] h (omega arith) (rest_all g) e (subst (λ (k : ℕ). AreMovesBelow b k []) (let q : 16 * from ≡ 16 * from + 0 = omega arith in q) m))
 
 -- no piece of the opponent's is left
-pub befores_end : (t a b from n rest : ℕ) (is : List ℕ) → b < 2 ^ 16 → bit_and a b ≡ 0 → n ≤ 16 → rest ≡ b / 2 ^ n → rest ≡ 0 → AreBeforesBelow t (board_of 16 a b) (16 * from + n) is → AreBeforesBelow t (board_of 16 a b) (16 * from + 16) is
-befores_end t a b from n rest is w q l e z m =
+pub befores_end : (t a b lines from n rest : ℕ) (is : List ℕ) → b < 2 ^ 16 → bit_and a b ≡ 0 → n ≤ 16 → ((j : ℕ) → j < 16 → has_cell lines j ≡ in_line from j)
+    → rest ≡ bit_and b lines / 2 ^ n → rest ≡ 0 → AreBeforesBelow t (board_of 16 a b) (16 * from + n) is → AreBeforesBelow t (board_of 16 a b) (16 * from + 16) is
+befores_end t a b lines from n rest is w q l h e z m =
     subst (λ (k : ℕ). AreBeforesBelow t (board_of 16 a b) (16 * from + k) is) (let p : n + (16 - n) ≡ 16 = omega (arith, l) in p)
-    (befores_skip t a b from n (16 - n) is w q (omega (arith, l)) (λ i k. none_left b n rest (n + i) e z (omega arith)) m)
+    (befores_skip t a b lines from n (16 - n) is w q (omega (arith, l)) h (λ i k. none_left (bit_and b lines) n rest (n + i) e z (omega arith)) m)
 
 -- the number has no board before it
 pub before_less : (t : ℕ) (d : List Cell) (from k : ℕ) (is : List ℕ) → before_at dao t d (16 * from + k) ≡ None → AreBeforesBelow t d (16 * from + k) is → AreBeforesBelow t d (16 * from + (k + 1)) is

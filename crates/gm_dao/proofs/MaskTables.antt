@@ -6,7 +6,8 @@ use Rattle.gm_board.specs.laws.Lists.{and_left, and_right, contains_range}
 use Rattle.gm_board.specs.BoardMasks.{pattern_mask}
 use Rattle.gm_board.specs.Permutations.{all_at}
 use Rattle.gm_dao.specs.declared.formations.TheConstants.{FORMATIONS, CORNERS, NEXT_TO_CORNERS}
-use Rattle.gm_dao.specs.declared.slides.TheConstants.{PATHS, BEYOND}
+use Rattle.gm_board.specs.Masks.{has_cell}
+use Rattle.gm_dao.specs.declared.slides.TheConstants.{PATHS, BEYOND, LINES}
 use Rattle.gm_dao.specs.DaoRules.{formations, corners, around, in_line, path, beyond}
 use Rattle.gm_dao.specs.MaskSlides.{way_mask}
 use Rattle.gm_dao.specs.laws.SlideFacts.{at_all, at_each}
@@ -54,6 +55,23 @@ nexts_pass = refl
 -- the mask of the cell that follows
 pub next_is : (a c : ℕ) → a < 16 → c < 16 → in_line a c ≡ true → get_or (get_or BEYOND a []) c 0 ≡ pattern_mask (beyond a c)
 next_is a c l k e = eqb-true _ _ (sym (cond-true _ _ _ e) ∙ at_each nexts_agree nexts_pass a c l k)
+
+abbrev lines_agree : ℕ → ℕ → Bool
+lines_agree a c = cond (in_line a c) (has_cell (get_or LINES a 0) c) (not (has_cell (get_or LINES a 0) c))
+
+lines_pass : at_all lines_agree ≡ true
+unfolding in_line
+lines_pass = refl
+
+lines_seen : (x y : Bool) → cond x y (not y) ≡ true → y ≡ x
+lines_seen true true e = refl
+lines_seen true false e = absurd (let z : ⊥ = cc in z)
+lines_seen false true e = absurd (let z : ⊥ = cc in z)
+lines_seen false false e = refl
+
+-- the cells in line with a cell
+pub cells_in_line : (a c : ℕ) → a < 16 → c < 16 → has_cell (get_or LINES a 0) c ≡ in_line a c
+cells_in_line a c l k = lines_seen (in_line a c) (has_cell (get_or LINES a 0) c) (at_each lines_agree lines_pass a c l k)
 
 abbrev ways_show : ℕ → ℕ → Bool
 ways_show a c = cond (in_line a c) (not (eqb (way_mask a c) 0)) (eqb (way_mask a c) 0)

@@ -13,7 +13,7 @@ ghost use Rattle.gm_dao.specs.MaskSlides.{is_open as is_open_of, AreBeforesBelow
 
 use crate::board::{Board, least_index};
 use crate::moves::{can_move, has_own_formation, is_legal_board, is_trapped, over};
-use crate::slides::{are_in_line, can_slide};
+use crate::slides::{are_in_line, can_slide, in_line_with};
 use arrayvec::ArrayVec;
 use gm_game::limits::PARENTS;
 use gm_steps::ascending::put;
@@ -100,7 +100,9 @@ fn put_befores(list: &mut ArrayVec<u64, PARENTS>, tier: u64, board: Board, from:
     requires before { AreBeforesBelow tier (board_of 16 board.mine board.theirs) (16 * from) list.old.items }
     ensures { AreBeforesBelow tier (board_of 16 board.mine board.theirs) (16 * from + 16) list.new.items }
 {
-    let mut rest = board.theirs;
+    // A piece that has slid is still in line with the cell.
+    let moved = board.theirs & in_line_with(from);
+    let mut rest = moved;
     let mut next = 0;
     while rest != 0 {
         let skipped = rest.trailing_zeros();
@@ -114,21 +116,30 @@ fn put_befores(list: &mut ArrayVec<u64, PARENTS>, tier: u64, board: Board, from:
     }
 }
 
-/// The least indexes of the boards of the tier from which a move leads to this one, ascending and once each.
-pub fn parents(tier: u64, board: Board) -> ArrayVec<u64, PARENTS>
+/// Writes the least indexes of the boards of the tier from which a move leads to this one, ascending and once each, over what the list holds.
+pub fn fill_parents(tier: u64, board: Board, list: &mut ArrayVec<u64, PARENTS>)
     requires { legal (board_of 16 board.mine board.theirs) ≡ true }
-    ensures { result.items ≡ put_all [] (map least_index_of (befores dao tier (board_of 16 board.mine board.theirs))) }
+    ensures { list.new.items ≡ put_all [] (map least_index_of (befores dao tier (board_of 16 board.mine board.theirs))) }
 {
+    list.clear();
     let left = board.free() & CELLS;
-    let mut list = ArrayVec::new();
     let mut rest = left;
     let mut next = 0;
     while rest != 0 {
         let skipped = rest.trailing_zeros();
         next += skipped;
-        put_befores(&mut list, tier, board, next);
+        put_befores(list, tier, board, next);
         next += 1;
         rest = rest >> skipped >> 1;
     }
+}
+
+/// The least indexes of the boards of the tier from which a move leads to this one, ascending and once each.
+pub fn parents(tier: u64, board: Board) -> ArrayVec<u64, PARENTS>
+    requires { legal (board_of 16 board.mine board.theirs) ≡ true }
+    ensures { result.items ≡ put_all [] (map least_index_of (befores dao tier (board_of 16 board.mine board.theirs))) }
+{
+    let mut list = ArrayVec::new();
+    fill_parents(tier, board, &mut list);
     list
 }

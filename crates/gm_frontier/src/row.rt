@@ -26,24 +26,11 @@ impl<G: Game> Model for Row<G> {
     ghost view = { λ r. row_pairs r.note (drop r.passed r.parents.items) };
 }
 
-// Whether an index is in the range.
-fn is_within(lo: u64, hi: u64, index: u64) -> bool
-    ensures { result ≡ is_within lo hi index }
+// Removes the indexes of a list that aren't from `lo` up to `hi`.
+fn keep_within(list: &mut ArrayVec<u64, PARENTS>, lo: u64, hi: u64)
+    ensures { list.new.items ≡ filter (is_within lo hi) list.old.items }
 {
-    lo <= index && index < hi
-}
-
-// Writes the indexes from `lo` up to `hi` over those that a list holds.
-fn keep_within(kept: &mut ArrayVec<u64, PARENTS>, indexes: &[u64], lo: u64, hi: u64)
-    requires { length indexes.now ≤ PARENTS }
-    ensures { kept.new.items ≡ filter (is_within lo hi) indexes.now }
-{
-    kept.clear();
-    for index in indexes {
-        if is_within(lo, hi, *index) {
-            kept.push(*index);
-        }
-    }
+    list.retain(|index| lo <= *index && *index < hi);
 }
 
 impl<G: Game> Row<G> {
@@ -62,8 +49,8 @@ impl<G: Game> Row<G> {
     pub(crate) fn take_up(&mut self, note: Note<G>, tier: u64, lo: u64, hi: u64)
         ensures { self.new ≡ pairs_of_note G.rules tier lo hi note }
     {
-        let found = G::parents(note.position(), tier);
-        keep_within(&mut self.parents, found.as_slice(), lo, hi);
+        G::fill_parents(note.position(), tier, &mut self.parents);
+        keep_within(&mut self.parents, lo, hi);
         self.note = Some(note);
         self.passed = 0;
     }

@@ -61,17 +61,16 @@ pub trait MoveLists: MoveRules {
         }
     }
 
-    /// The positions of the least images of the boards that a move leads to, ascending and once each.
-    fn children(board: Self::Board) -> ArrayVec<Position, MOVES>
+    /// Writes the positions of the least images of the boards that a move leads to, ascending and once each, over what the set holds.
+    fn fill_children(board: Self::Board, set: &mut ArrayVec<Position, MOVES>)
         requires { Self.game.legal (Self.cells board) ≡ true }
-        ensures { IsSetOf (next_images (board_game Self.game) (Self.cells board)) result.items }
+        ensures { IsSetOf (next_images (board_game Self.game) (Self.cells board)) set.new.items }
     {
         let moves = Self::moves(board);
-        let mut set = ArrayVec::new();
+        set.clear();
         for m in moves.as_slice() {
-            insert_position(&mut set, least_position::<Self>(Self::moved(board, *m)));
+            insert_position(set, least_position::<Self>(Self::moved(board, *m)));
         }
-        set
     }
 
     /// The kind of p, for a solver.
@@ -97,5 +96,13 @@ pub trait MoveLists: MoveRules {
         ensures { result.items ≡ put_all [] (map (least_index_of (board_game Self.game)) (befores Self.game tier (Self.cells board))) }
     {
         put_befores::<Self>(tier, board)
+    }
+
+    /// Writes the indexes that `parents` gives over what the list holds.
+    fn fill_parents(tier: u64, board: Self::Board, list: &mut ArrayVec<u64, PARENTS>)
+        requires { Self.game.legal (Self.cells board) ≡ true }
+        ensures { list.new.items ≡ put_all [] (map (least_index_of (board_game Self.game)) (befores Self.game tier (Self.cells board))) }
+    {
+        *list = Self::parents(tier, board);
     }
 }

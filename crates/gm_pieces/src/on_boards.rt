@@ -53,8 +53,8 @@ impl<T: MoveLists> Game for OnBoards<T> {
         least_position::<T>(board::<T>(p))
     }
 
-    fn canonical_children(p: Position) -> ArrayVec<Position, MOVES> {
-        T::children(board::<T>(p))
+    fn fill_children(p: Position, set: &mut ArrayVec<Position, MOVES>) {
+        T::fill_children(board::<T>(p), set);
     }
 
     fn kind(p: Position) -> Kind {
@@ -63,6 +63,10 @@ impl<T: MoveLists> Game for OnBoards<T> {
 
     fn parents(c: Position, tier: u64) -> ArrayVec<u64, PARENTS> {
         T::parents(tier, board::<T>(c))
+    }
+
+    fn fill_parents(c: Position, tier: u64, list: &mut ArrayVec<u64, PARENTS>) {
+        T::fill_parents(tier, board::<T>(c), list);
     }
 
     fn child_tiers(tier: u64) -> ArrayVec<u64, CHILD_TIERS> {

@@ -5,8 +5,9 @@ ghost use Rattle.gm_table.specs.Checks.{FitsAt, IsFirstWrong, IsFirstWrongIn, Is
 
 use crate::checker::fits;
 use crate::tables::Tables;
+use arrayvec::ArrayVec;
 use gm_game::game::Game;
-use gm_game::limits::TIER_SIZE;
+use gm_game::limits::{MOVES, TIER_SIZE};
 use gm_game::position::{Position, Solved};
 use rayon::prelude::*;
 use std::thread::Threads;
@@ -34,8 +35,13 @@ struct Given<'a, G: Game> {
 }
 
 impl<'a, G: Game> Given<'a, G> {
-    // The least index from `lo` up to `hi` whose record doesn't fit.
-    fn first_between(&self, lo: usize, hi: usize) -> Option<u64>
+    // The least index from `lo` up to `hi` whose record doesn't fit. Children are written over what `children` holds.
+    fn first_between(
+        &self,
+        children: &mut ArrayVec<Position, MOVES>,
+        lo: usize,
+        hi: usize,
+    ) -> Option<u64>
         requires { hi ≤ length self.now.records.now }
         ensures { IsFirstWrongIn G.rules self.now.tables.now self.now.tier self.now.records.now lo hi result }
     {
@@ -45,7 +51,7 @@ impl<'a, G: Game> Given<'a, G> {
                 index: index as u64,
             };
             let known = self.records[index];
-            if !fits::<G>(self.tier, self.records, self.tables, p, known) {
+            if !fits::<G>(self.tier, self.records, self.tables, children, p, known) {
                 return Some(index as u64);
             }
         }
@@ -57,11 +63,12 @@ impl<'a, G: Game> Given<'a, G> {
         ensures { IsFirstOfClass G.rules self.now.tables.now self.now.tier self.now.records.now class result }
     {
         let size = self.records.len();
+        let mut children = ArrayVec::new();
         for round in 0..size.div_ceil(ROUND) {
             let start = round * ROUND + (class as usize % CLASSES) * BLOCK;
             let lo = start.min(size);
             let hi = (start + BLOCK).min(size);
-            if let Some(index) = self.first_between(lo, hi) {
+            if let Some(index) = self.first_between(&mut children, lo, hi) {
                 return index;
             }
         }
@@ -102,7 +109,7 @@ pub(crate) fn first_wrong<G: Game>(
         records,
         tables,
     };
-    given.first_between(0, records.len())
+    given.first_between(&mut ArrayVec::new(), 0, records.len())
 }
 
 /// The least index whose record doesn't fit, found by as many threads as there are processors.

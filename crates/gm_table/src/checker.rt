@@ -8,10 +8,11 @@ ghost use Rattle.gm_table.specs.Checks.{FitTables, look_up, child_records, value
 use crate::blocks::{first_wrong, first_wrong_by};
 use crate::table::Table;
 use crate::tables::Tables;
-use gm_game::children::canonical_children;
+use arrayvec::ArrayVec;
+use gm_game::children::fill_children;
 use gm_game::evaluate::of_end;
 use gm_game::game::Game;
-use gm_game::limits::{REMOTENESS, TIER_SIZE};
+use gm_game::limits::{MOVES, REMOTENESS, TIER_SIZE};
 use gm_game::position::{Kind, Position, Solved, Value};
 use std::alloc::Global;
 use std::thread::Threads;
@@ -151,11 +152,12 @@ fn table_unless<G: Game>(
     }
 }
 
-/// Whether this record of a position fits.
+/// Whether this record of a position fits. The position's children are written over what `children` holds.
 pub(crate) fn fits<G: Game>(
     tier: u64,
     records: &[Option<Solved>],
     tables: &Tables<G>,
+    children: &mut ArrayVec<Position, MOVES>,
     p: Position,
     known: Option<Solved>,
 ) -> bool
@@ -166,7 +168,8 @@ pub(crate) fn fits<G: Game>(
         (Kind::Hole, Some(_)) | (_, None) => false,
         (Kind::Ended(end), Some(solved)) => solved == of_end(end),
         (Kind::Inner, Some(solved)) => {
-            solved.remoteness <= REMOTENESS && follows::<G>(tier, records, tables, p, solved)
+            solved.remoteness <= REMOTENESS
+                && follows::<G>(tier, records, tables, children, p, solved)
         }
     }
 }
@@ -176,13 +179,14 @@ fn follows<G: Game>(
     tier: u64,
     records: &[Option<Solved>],
     tables: &Tables<G>,
+    children: &mut ArrayVec<Position, MOVES>,
     p: Position,
     solved: Solved,
 ) -> bool
     requires { IsInner G.rules p }
     ensures { IsTrue result ↔ (solved ≡ value_from G.rules tables.now tier records.now p) }
 {
-    gather::<G>(tier, records, tables, p).settles(solved)
+    gather::<G>(tier, records, tables, children, p).settles(solved)
 }
 
 // What the canonical children of a position say.
@@ -190,6 +194,7 @@ fn gather<G: Game>(
     tier: u64,
     records: &[Option<Solved>],
     tables: &Tables<G>,
+    children: &mut ArrayVec<Position, MOVES>,
     p: Position,
 ) -> Summary
     requires { G.rules.is_legal p ≡ true }
@@ -197,7 +202,7 @@ fn gather<G: Game>(
     ensures won { result.won ≡ all_won (child_records G.rules tables.now tier records.now p) }
     ensures tied { result.tied ≡ least_of tied_in (child_records G.rules tables.now tier records.now p) }
 {
-    let children = canonical_children::<G>(p);
+    fill_children::<G>(p, children);
     let mut seen = Summary {
         lost: None,
         won: Some(0),

@@ -1,4 +1,6 @@
 use Rattle.std.proofs.Common.{sym, ◌∙◌, arith}
+use Rattle.std.specs.Prelude.{bit_and}
+use Rattle.gm_board.specs.laws.Lists.{and_left}
 use Rattle.gm_board.specs.Images.{board_of}
 use Rattle.gm_board.specs.laws.CellCounts.{their_cell, empty_cell}
 use Rattle.gm_board.specs.NextCells.{next_cell, cell_below}
@@ -7,7 +9,7 @@ use Rattle.gm_sides.specs.laws.MaskFacts.{their_cells}
 use Rattle.gm_pieces.specs.MoveGames.{before_at, befores}
 use Rattle.gm_dao.specs.DaoRules.{numbers_end, least_index_of, dao}
 use Rattle.gm_dao.specs.laws.BoardFacts.{legal_in}
-use Rattle.gm_dao.proofs.LoopSteps.{befores_skip, befores_end, before_less, before_more}
+use Rattle.gm_dao.proofs.LoopSteps.{moved_within, moved_cell, befores_skip, befores_end, before_less, before_more}
 use Rattle.gm_dao.proofs.parents.put_befores.Goals as goal
 use Rattle.gm_dao.proofs.parents.put_befores.Goals.{in-Some, in-None}
 
@@ -15,9 +17,12 @@ pub gone_before-requires-clause-was : goal.gone_before-requires-clause-was
 gone_before-requires-clause-was c =
     let a = c.args.board.mine in
     let b = c.args.board.theirs in
-    let z = next_cell b c.loop-rest.next c.loop-rest.rest c.loop-rest.invariant.is_rest (omega arith) (omega arith) in
+    let m = bit_and b c.in_line_with.result in
+    let z = next_cell m c.loop-rest.next c.loop-rest.rest c.loop-rest.invariant.is_rest (omega arith) (omega arith) in
+    let l = cell_below m 16 _ (moved_within b _ c.args.board.theirs_within) z.has in
     record {
-      there = their_cell _ (sym (their_cells 16 a b c.args.board.theirs_within c.args.board.apart _) ∙ z.has);
+      there = their_cell _ (sym (their_cells 16 a b c.args.board.theirs_within c.args.board.apart _)
+          ∙ and_left _ _ (sym (moved_cell b _ c.args.from _ l c.in_line_with.ensures) ∙ z.has));
       left = empty_cell _ c.requires.free;
     }
 
@@ -31,23 +36,25 @@ pub put-requires : goal.put-requires
 unfolding befores
 put-requires c =
     let b = c.args.board.theirs in
+    let m = bit_and b c.in_line_with.result in
     let i = c.loop-rest.invariant in
-    let z = next_cell b c.loop-rest.next c.loop-rest.rest i.is_rest (omega arith) (omega arith) in
-    let l = cell_below b 16 _ c.args.board.theirs_within z.has in
+    let z = next_cell m c.loop-rest.next c.loop-rest.rest i.is_rest (omega arith) (omega arith) in
+    let l = cell_below m 16 _ (moved_within b _ c.args.board.theirs_within) z.has in
     let e = c.in-Some.earlier in
     put_room (before_at dao c.args.tier (board_of 16 c.args.board.mine b)) least_index_of numbers_end _ (board_of 16 e.mine e.theirs) c.loop-rest.list.items
     c.requires.few (omega (arith, l, c.requires.cell)) c.in-Some.ensures.0
-    (befores_skip c.args.tier c.args.board.mine b c.args.from c.loop-rest.next _ c.loop-rest.list.items c.args.board.theirs_within c.args.board.apart (omega (arith, l)) z.none i.below)
+    (befores_skip c.args.tier c.args.board.mine b _ c.args.from c.loop-rest.next _ c.loop-rest.list.items c.args.board.theirs_within c.args.board.apart (omega (arith, l)) c.in_line_with.ensures z.none i.below)
 
 pub loop-rest-preserved : goal.loop-rest-preserved
 loop-rest-preserved c =
     let a = c.args.board.mine in
     let b = c.args.board.theirs in
+    let m = bit_and b c.in_line_with.result in
     let t = c.args.tier in
     let i = c.loop-rest.invariant in
-    let z = next_cell b c.loop-rest.next c.loop-rest.rest i.is_rest (omega arith) (omega arith) in
-    let l = cell_below b 16 _ c.args.board.theirs_within z.has in
-    let skipped = befores_skip t a b c.args.from c.loop-rest.next _ c.loop-rest.list.items c.args.board.theirs_within c.args.board.apart (omega (arith, l)) z.none i.below in
+    let z = next_cell m c.loop-rest.next c.loop-rest.rest i.is_rest (omega arith) (omega arith) in
+    let l = cell_below m 16 _ (moved_within b _ c.args.board.theirs_within) z.has in
+    let skipped = befores_skip t a b _ c.args.from c.loop-rest.next _ c.loop-rest.list.items c.args.board.theirs_within c.args.board.apart (omega (arith, l)) c.in_line_with.ensures z.none i.below in
     record {
       within = omega (arith, l);
       is_rest = z.is_rest;
@@ -61,5 +68,12 @@ loop-rest-preserved c =
 pub returns : goal.returns
 returns c =
     let i = c.loop-rest.invariant in
-    befores_end c.args.tier c.args.board.mine c.args.board.theirs c.args.from c.loop-rest.next c.loop-rest.rest c.loop-rest.list.items c.args.board.theirs_within c.args.board.apart
-    i.within i.is_rest c.loop-rest-test.false i.below
+    befores_end c.args.tier c.args.board.mine c.args.board.theirs _ c.args.from c.loop-rest.next c.loop-rest.rest c.loop-rest.list.items c.args.board.theirs_within c.args.board.apart
+    i.within c.in_line_with.ensures i.is_rest c.loop-rest-test.false i.below
+
+pub loop-rest-smaller : goal.loop-rest-smaller
+loop-rest-smaller c =
+    let m = bit_and c.args.board.theirs c.in_line_with.result in
+    let z = next_cell m c.loop-rest.next c.loop-rest.rest c.loop-rest.invariant.is_rest (omega arith) (omega arith) in
+    let l = cell_below m 16 _ (moved_within c.args.board.theirs _ c.args.board.theirs_within) z.has in
+    omega (arith, l)

@@ -7,7 +7,7 @@ use Rattle.gm_shard.proofs.lists.scan.Goals as goal
 
 pub overflow_cast-len : goal.overflow_cast-len
 overflow_cast-len g c =
-    let (more, is, list) = c.in_ok-append.ensures.codes in
+    let (more, is, list) = c.in_ok-start.ensures.codes in
     let short = list_few g.G.Game.rules g.met.G.Game.lawful c.as_slice.result.now (at c.args.tier c.loop-index.index) more list in
     let sum = ap length is ∙ length-append c.loop-index.codes.items more in
     let few = c.loop-index.invariant.few in
@@ -21,14 +21,14 @@ pub loop-index-preserved : goal.loop-index-preserved
 loop-index-preserved g c =
     let r = g.G.Game.rules in
     let tier = c.args.tier in
-    let (more, is, list) = c.in_ok-append.ensures.codes in
+    let (more, is, list) = c.in_ok-start.ensures.codes in
     let xs = c.loop-index.starts.items in
     let short = list_few r g.met.G.Game.lawful c.as_slice.result.now (at tier c.loop-index.index) more list in
     let sum = ap length is ∙ length-append c.loop-index.codes.items more in
     let few = c.loop-index.invariant.few in
     let long = c.loop-index.invariant.long in
-    let pushed : c.push-in-loop-index.new.self.items ≡ xs ++ c.in_ok-append.field-0 ∷ [] = c.in_ok-push-2.ensures.items in
-    let one = ap length pushed ∙ length-append xs (c.in_ok-append.field-0 ∷ []) in
+    let pushed : c.push-in-loop-index.new.self.items ≡ xs ++ c.in_ok-start.start ∷ [] = c.in_ok-push-2.ensures.items in
+    let one = ap length pushed ∙ length-append xs (c.in_ok-start.start ∷ []) in
     let next : length c.push-in-loop-index.new.self.items ≡ length xs + 1 = one in
     let here : c.loop-index.index ≡ c.args.lo + length xs = sym long in
     let tiers : c.as_slice.result.now ≡ tiers_of r tier = c.as_slice.ensures.value ∙ c.tiers_of-tiers.ensures in
@@ -37,8 +37,8 @@ loop-index-preserved g c =
     let bounds = c.in_ok-push-3.ensures.items ∙ ap (λ (n : ℕ). c.loop-index.bounds.items ++ n ∷ []) (c.len.ensures ∙ c.append.new.codes.ok.0) in
     record {
       long = omega (arith, long, next);
-      starts = one_start r tier c.args.lo xs c.push-in-loop-index.new.self.items c.in_ok-append.field-0 pushed c.loop-index.invariant.starts
-          (subst (λ (i : ℕ). IsStart r (at tier i) c.in_ok-append.field-0) here c.in_ok-append.ensures.start);
+      starts = one_start r tier c.args.lo xs c.push-in-loop-index.new.self.items c.in_ok-start.start pushed c.loop-index.invariant.starts
+          (subst (λ (i : ℕ). IsStart r (at tier i) c.in_ok-start.start) here c.in_ok-start.ensures.start);
       listed = subst (λ (n : ℕ). AreListed r (tiers_of r tier) tier c.args.lo n c.push-in-loop-index-2.new.self.items c.append.new.codes.items) (sym next)
           (one_listed r (tiers_of r tier) tier c.args.lo (length xs) c.loop-index.bounds.items c.loop-index.codes.items more c.push-in-loop-index-2.new.self.items c.append.new.codes.items c.loop-index.invariant.listed listed is bounds);
       few = omega (arith, short, sum, few, next);

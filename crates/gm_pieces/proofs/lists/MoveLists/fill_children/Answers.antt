@@ -8,7 +8,7 @@ use Rattle.gm_game.proofs.SetLemmas.{length_with_le}
 use Rattle.gm_game.proofs.ChildrenSteps.{set_step, set_end}
 use Rattle.gm_pieces.specs.MoveGames.{MoveGame, board_game, IsMove}
 use Rattle.gm_pieces.specs.laws.MoveLaws.{move_in}
-use Rattle.gm_pieces.proofs.lists.MoveLists.children.Goals as goal
+use Rattle.gm_pieces.proofs.lists.MoveLists.fill_children.Goals as goal
 
 listed : {B S : Type 0} (r : MoveGame B S) (b : B) (xs : List ℕ) (i : ℕ) → xs ≡ (board_game r).moves b → i < length xs → IsMove r b (get_or xs i 0)
 listed r b xs i e l = move_in r b (get_or xs i 0) (subst (λ (ys : List ℕ). Contains ys (get_or xs i 0)) e (Contains-get_or xs i 0 l))

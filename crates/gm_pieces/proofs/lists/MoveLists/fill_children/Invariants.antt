@@ -2,7 +2,7 @@ use Rattle.std.proofs.Common.{◌≡◌, ℕ, ◌≤◌, length, take, map}
 use Rattle.gm_game.specs.Boards.{least_image}
 use Rattle.gm_game.specs.Children.{IsSetOf}
 use Rattle.gm_pieces.specs.MoveGames.{board_game}
-use Rattle.gm_pieces.proofs.lists.MoveLists.children.Given as goal
+use Rattle.gm_pieces.proofs.lists.MoveLists.fill_children.Given as goal
 
 abbrev pub invariant-loop-m : goal.invariant-loop-m
 invariant-loop-m g l =
