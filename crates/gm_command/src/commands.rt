@@ -64,7 +64,7 @@ fn shards<'a>(alloc: Global) -> Arg<'a> {
 
 fn piece<'a>(alloc: Global) -> Arg<'a> {
     let help = "How many notes a thread takes at a time, 1 to 4096";
-    number(alloc, "piece", "64", 4096, help)
+    number(alloc, "piece", "512", 4096, help)
 }
 
 /// A word that switches something on.

@@ -35,7 +35,7 @@ pub struct Streams<'a, I, O, E> {
 
 // Where tables are kept and how they are made, for commands that have no options for a plan.
 fn place(kept: Kept<'_>) -> Place<'_> {
-    let plan = Plan::new(4, 4, 64).unwrap();
+    let plan = Plan::new(4, 4, 512).unwrap();
     Place { kept, plan }
 }
 

@@ -25,8 +25,8 @@ const CLASSES: u64 = 32;
 /// The indexes of one row of blocks, one for each class.
 const ROW: u64 = 16_384;
 
-/// A tier of at most this many indexes is scanned by the caller's thread alone.
-const FEW: u64 = 2048;
+/// A tier of at most this many indexes is scanned, and its shards are made, by the calling thread alone: to start threads would take longer.
+pub(crate) const FEW: u64 = 16_384;
 
 /// The canonical children of each inner position of a tier. Contracts see the tier. The lists never change, so workers share them without a lock.
 #[derive(Drop)]

@@ -16,7 +16,7 @@ ghost use Rattle.gm_solver.specs.Tiling.{IsWide, AreShardsAt, AreCountsAt, HaveN
 ghost use Rattle.gm_solver.specs.Rounds.{HasNoneHere};
 
 use crate::board::Four;
-use crate::tier_lists::{TierLists, scan_tier};
+use crate::tier_lists::{FEW, TierLists, scan_tier};
 use gm_frontier::expected::Expected;
 use gm_frontier::last::Last;
 use gm_game::game::Game;
@@ -95,7 +95,8 @@ fn begin_two<G: Game>(alloc: Global, tier: u64, width: u64, k: u64, starts: &[St
     Ok((low, high))
 }
 
-// The shards of all four tiles, each with the count of the pairs into it: for several workers made by two threads with two tiles each.
+// The shards of all four tiles, each with the count of the pairs into it: for several workers, and a tier that isn't small, made by two threads with two tiles
+// each.
 fn begin_four<G: Game + Send + Sync, R: Threads + Sync>(
     rt: &R,
     alloc: Global,
@@ -111,7 +112,7 @@ fn begin_four<G: Game + Send + Sync, R: Threads + Sync>(
     ensures low { IfOk result.0 (λ two. AreTwo G.rules tier width 0 two.0.0 two.0.1 two.1.0 two.1.1) }
     ensures high { IfOk result.1 (λ two. AreTwo G.rules tier width 2 two.0.0 two.0.1 two.1.0 two.1.1) }
 {
-    if workers == 1 {
+    if workers == 1 || starts.len() as u64 <= FEW {
         let low = begin_two(alloc, tier, width, 0, starts);
         let high = begin_two(alloc, tier, width, 2, starts);
         return (low, high);

@@ -29,6 +29,27 @@ fn put_before(list: &mut ArrayVec<u64, PARENTS>, side: u32, tier: u64, counters:
     }
 }
 
+/// Writes the least indexes of the boards with `tier` counters from which a move leads to this one, ascending and once each, over what the list holds: in the
+/// normal game and in misère.
+pub fn fill_parents(side: u32, tier: u64, counters: u32, list: &mut ArrayVec<u64, PARENTS>)
+    requires low { 1 ≤ side }
+    requires high { side ≤ 5 }
+    requires within { counters < 2 ^ (side * side) }
+    ensures { (misere : Bool) → list.new.items ≡ put_all [] (map (least_index_of (board_game (tactix side misere))) (befores (tactix side misere) tier (counters_of (side * side) counters))) }
+{
+    list.clear();
+    let length = tier.saturating_sub(u64::from(counters.count_ones()));
+    if length > u64::from(side) {
+        return;
+    }
+    // Only segments of this length, in a row or in a column, can have been taken.
+    for first in 0..side * side {
+        let number = 16 * first + 2 * length as u32;
+        put_before(list, side, tier, counters, number);
+        put_before(list, side, tier, counters, number + 1);
+    }
+}
+
 /// The least indexes of the boards with `tier` counters from which a move leads to this one, ascending and once each, in the normal game and in misère.
 pub fn parents(side: u32, tier: u64, counters: u32) -> ArrayVec<u64, PARENTS>
     requires low { 1 ≤ side }
@@ -37,15 +58,6 @@ pub fn parents(side: u32, tier: u64, counters: u32) -> ArrayVec<u64, PARENTS>
     ensures { (misere : Bool) → result.items ≡ put_all [] (map (least_index_of (board_game (tactix side misere))) (befores (tactix side misere) tier (counters_of (side * side) counters))) }
 {
     let mut list = ArrayVec::new();
-    let length = tier.saturating_sub(u64::from(counters.count_ones()));
-    if length > u64::from(side) {
-        return list;
-    }
-    // Only segments of this length, in a row or in a column, can have been taken.
-    for first in 0..side * side {
-        let number = 16 * first + 2 * length as u32;
-        put_before(&mut list, side, tier, counters, number);
-        put_before(&mut list, side, tier, counters, number + 1);
-    }
+    fill_parents(side, tier, counters, &mut list);
     list
 }
