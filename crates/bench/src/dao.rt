@@ -93,11 +93,9 @@ fn solve_by<R: Print + Eprint + Clock + AllocGlobal + Threads + Wait + Sync>(
     let start = Instant::now(rt)?;
     match solved(rt, crew, plan) {
         Ok(Some((table, deliveries))) => {
-            let milliseconds = start.elapsed(rt)?.as_millis();
-            let positions = table.size();
-            println!(rt; "dao: {positions} positions, {deliveries} deliveries")?;
-            eprintln!(rt; "dao: solved in {milliseconds} ms")?;
-            Ok(write_and_read(rt, &table)? && compare_versions(rt, &table)?)
+            let went_well = go_on(rt, start, &table, deliveries);
+            drop(table);
+            went_well
         }
         Ok(None) => Ok(false),
         Err(error) => {
@@ -105,6 +103,20 @@ fn solve_by<R: Print + Eprint + Clock + AllocGlobal + Threads + Wait + Sync>(
             Ok(false)
         }
     }
+}
+
+// Prints what was solved since the start, then writes the table's file and reads it in both versions: whether all went well.
+fn go_on<R: Print + Eprint + Clock + AllocGlobal>(
+    rt: &R,
+    start: Instant,
+    table: &Table<Dao>,
+    deliveries: u64,
+) -> io::Result<bool> {
+    let milliseconds = start.elapsed(rt)?.as_millis();
+    let positions = table.size();
+    println!(rt; "dao: {positions} positions, {deliveries} deliveries")?;
+    eprintln!(rt; "dao: solved in {milliseconds} ms")?;
+    Ok(write_and_read(rt, table)? && compare_versions(rt, table)?)
 }
 
 // Writes a table's file and reads it: whether as many records came back.
@@ -116,16 +128,44 @@ fn write_and_read<R: Print + Eprint + Clock + AllocGlobal>(
     let Ok(file) = encode(rt.alloc(), table) else {
         return Ok(false);
     };
+    let read = tell_and_read(rt, start, table, file.as_slice());
+    drop(file);
+    read
+}
+
+// Prints the bytes of a table's file that was written since the start, and reads it: whether as many records came back.
+fn tell_and_read<R: Print + Eprint + Clock + AllocGlobal>(
+    rt: &R,
+    start: Instant,
+    table: &Table<Dao>,
+    file: &[u8],
+) -> io::Result<bool> {
     let milliseconds = start.elapsed(rt)?.as_millis();
     let bytes = file.len();
     println!(rt; "dao: {bytes} bytes")?;
     eprintln!(rt; "dao: written in {milliseconds} ms")?;
+    read_back(rt, table, file)
+}
+
+// Reads a table's file: whether as many records came back.
+fn read_back<R: Eprint + Clock + AllocGlobal>(
+    rt: &R,
+    table: &Table<Dao>,
+    file: &[u8],
+) -> io::Result<bool> {
     let start = Instant::now(rt)?;
-    let records = decode::<Dao>(rt.alloc(), 0, file.as_slice());
-    let milliseconds = start.elapsed(rt)?.as_millis();
-    eprintln!(rt; "dao: read in {milliseconds} ms")?;
-    Ok(match records {
+    let records = decode::<Dao>(rt.alloc(), 0, file);
+    let told = tell_read(rt, start);
+    let is_whole = match &records {
         Ok(records) => records.len() as u64 == table.size(),
         Err(_) => false,
-    })
+    };
+    drop(records);
+    told?;
+    Ok(is_whole)
+}
+
+fn tell_read<R: Eprint + Clock>(rt: &R, start: Instant) -> io::Result<()> {
+    let milliseconds = start.elapsed(rt)?.as_millis();
+    eprintln!(rt; "dao: read in {milliseconds} ms")
 }

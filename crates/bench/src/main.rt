@@ -15,6 +15,9 @@ use crate::dao::{Crew, solve_dao};
 use crate::numbers::time_numbers;
 use crate::solve::solve_tiers;
 use std::process::ExitCode;
+use std::rt::Clock;
+use std::sync::Wait;
+use std::thread::Threads;
 use std::{env, io};
 
 /// The greatest tier, where none is given.
@@ -69,22 +72,31 @@ fn crew(words: &[String]) -> Crew {
     }
 }
 
+// Does what the words ask for: whether all went well.
+fn run<R: Print + Eprint + Clock + AllocGlobal + Threads + Wait + Sync>(
+    rt: &R,
+    words: &[String],
+) -> io::Result<bool> {
+    if is_first(words, "boards") {
+        time_numbers(rt)?;
+        time_boards(rt)?;
+        return Ok(true);
+    }
+    if is_first(words, "dao") {
+        solve_dao(rt, crew(words))
+    } else {
+        solve_tiers(rt, greatest(words))
+    }
+}
+
 fn main(rt: HostRuntime) -> io::Result<ExitCode> {
     let mut words = Vec::new(rt.alloc());
     for word in env::args(&rt)? {
         words.push(word)?;
     }
-    if is_first(words.as_slice(), "boards") {
-        time_numbers(&rt)?;
-        time_boards(&rt)?;
-        return Ok(ExitCode::SUCCESS);
-    }
-    let solved = if is_first(words.as_slice(), "dao") {
-        solve_dao(&rt, crew(words.as_slice()))?
-    } else {
-        solve_tiers(&rt, greatest(words.as_slice()))?
-    };
-    Ok(if solved {
+    let went_well = run(&rt, words.as_slice());
+    drop(words);
+    Ok(if went_well? {
         ExitCode::SUCCESS
     } else {
         ExitCode::FAILURE

@@ -57,12 +57,24 @@ pub fn compare_versions<R: Eprint + Clock + AllocGlobal>(
     let Ok(Some((new, old))) = both_files(alloc, table) else {
         return Ok(false);
     };
+    let right = compare_files(rt, alloc, new.as_slice(), old.as_slice());
+    drop((new, old));
+    right
+}
+
+// Reads and checks a file of version 2 and one of version 1 six times in turn: whether both were right each time.
+fn compare_files<R: Eprint + Clock>(
+    rt: &R,
+    alloc: Global,
+    new: &[u8],
+    old: &[u8],
+) -> io::Result<bool> {
     for _ in 0..ROUNDS {
         let start = Instant::now(rt)?;
-        let new_right = read_new(alloc, new.as_slice());
+        let new_right = read_new(alloc, new);
         let new_took = start.elapsed(rt)?.as_millis();
         let start = Instant::now(rt)?;
-        let old_right = read_old(alloc, old.as_slice());
+        let old_right = read_old(alloc, old);
         let old_took = start.elapsed(rt)?.as_millis();
         eprintln!(rt; "dao: read and checked in {new_took} ms, in version 1 in {old_took} ms")?;
         if !new_right || !old_right {

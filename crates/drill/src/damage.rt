@@ -19,16 +19,32 @@ const UNREAD: char = '?';
 
 const OUT_OF_MEMORY: char = '!';
 
+// Solves a tier into the tables; none where memory was refused.
+fn solve_next<G: Game>(alloc: Global, tier: u64, tables: &mut Tables<G>) -> Option<()> {
+    if !tables.has_children(tier) || G::tier_size(tier) > TIER_SIZE {
+        return None;
+    }
+    let (table, _) = solve_alone(alloc, tier, tables).ok()?;
+    tables.insert(table).ok()
+}
+
+// Solves tiers one after another into the tables; none where memory was refused.
+fn solve_all<G: Game>(alloc: Global, tiers: &[u64], tables: &mut Tables<G>) -> Option<()> {
+    for tier in tiers {
+        solve_next(alloc, *tier, tables)?;
+    }
+    Some(())
+}
+
 // All true tables of a game; none where memory was refused.
 fn solved<G: Game>(alloc: Global) -> Option<Tables<G>> {
     let order = TierOrder::<G>::from_initial(alloc).ok()?;
     let mut tables: Tables<G> = Tables::new(alloc);
-    for tier in order.tiers() {
-        if !tables.has_children(*tier) || G::tier_size(*tier) > TIER_SIZE {
-            return None;
-        }
-        let (table, _) = solve_alone(alloc, *tier, &tables).ok()?;
-        tables.insert(table).ok()?;
+    let done = solve_all(alloc, order.tiers(), &mut tables);
+    drop(order);
+    if done.is_none() {
+        drop(tables);
+        return None;
     }
     Some(tables)
 }

@@ -1,8 +1,9 @@
 //! Orders of tiers, shards and levels.
-ghost use Rattle.std.specs.Prelude.{◌≡◌, ◌≤◌, IfOk, IfSome};
+ghost use Rattle.std.specs.Prelude.{◌≡◌, ◌≤◌, length, IsTrue, IfOk, IfSome};
 ghost use Rattle.gm_game.specs.declared.position.Phase.TheVariants.{Ties};
-ghost use Rattle.gm_frontier.specs.Levels.{AreTiles};
+ghost use Rattle.gm_frontier.specs.Levels.{AreTiles, place_at};
 ghost use Rattle.gm_table.specs.Tables.{AreHeld};
+ghost use Rattle.gm_shard.specs.Begin.{AreStarts, first_state};
 ghost use Rattle.gm_shard.specs.Steps.{place_of};
 ghost use Rattle.gm_testing.specs.ByHand.{IsOfTier};
 
@@ -16,38 +17,55 @@ use gm_game::game::Game;
 use gm_game::limits::TIER_SIZE;
 use gm_game::position::Place;
 use gm_shard::shard::Shard;
+use gm_shard::status::Start;
 use gm_table::packed::Packed;
 use gm_table::tables::Tables;
 use gm_tactix::tactix::TacTix;
 use gm_testing::by_hand::{add_fresh, begin_whole, fresh_run, last_of, starts_of, turn};
 use gm_tiers::order::TierOrder;
-use gm_tiers::tier_error::TierError;
 use gm_toys::countdown::Countdown;
 use std::alloc::{AllocError, Global};
 use std::io;
 
 type Ten = Countdown<10>;
 
-fn length_of(order: Result<TierOrder<TacTix<2, false>>, TierError>) -> Option<usize> {
-    Some(order.ok()?.tiers().len())
+// The number of tiers of a game.
+fn tiers_ordered<G: Game>(alloc: Global) -> Option<usize> {
+    Some(TierOrder::<G>::from_initial(alloc).ok()?.tiers().len())
 }
 
-/// `TierOrder::from_initial` of Tac Tix on 2 by 2.
-pub fn order<R: Print + AllocGlobal>(rt: &R) -> io::Result<()> {
-    let alloc = rt.alloc();
-    let first = marked!(alloc, TierOrder::from_initial(alloc));
-    say(rt, "answer", length_of(first))?;
-    say(rt, "again", length_of(TierOrder::from_initial(alloc)))
+// `TierOrder::from_initial` of a game.
+fn order<G: Game, R: Print>(rt: &R, alloc: Global) -> io::Result<()> {
+    let first = marked!(alloc, tiers_ordered::<G>(alloc));
+    say(rt, "answer", first)?;
+    say(rt, "again", tiers_ordered::<G>(alloc))
 }
 
-/// `Shard::begin` over Countdown from 10.
-pub fn begin<R: Print + AllocGlobal>(rt: &R) -> io::Result<()> {
-    let alloc = rt.alloc();
+// The number of deliveries to a shard that begins.
+fn delivered_first<G: Game>(alloc: Global, starts: &[Start]) -> Option<u64>
+    requires starts { AreStarts G.rules 0 0 starts.now }
+    requires within { length starts.now ≤ TIER_SIZE }
+{
+    let shard: Shard<G> = Shard::begin(alloc, 0, 0, starts).ok()?;
+    Some(shard.delivered())
+}
+
+// Begins a shard, twice.
+fn say_begin<G: Game, R: Print>(rt: &R, alloc: Global, starts: &[Start]) -> io::Result<()>
+    requires starts { AreStarts G.rules 0 0 starts.now }
+    requires within { length starts.now ≤ TIER_SIZE }
+{
+    let first = marked!(alloc, delivered_first::<G>(alloc, starts));
+    say(rt, "answer", first)?;
+    say(rt, "again", delivered_first::<G>(alloc, starts))
+}
+
+// `Shard::begin` over Countdown from 10.
+fn begin<R: Print>(rt: &R, alloc: Global) -> io::Result<()> {
     let starts = starts_of::<Ten>(alloc, 0, 0, Ten::tier_size(0))?;
-    let first: Result<Shard<Ten>, _> = marked!(alloc, Shard::begin(alloc, 0, 0, starts.as_slice()));
-    say(rt, "answer", first.ok().map(|shard| shard.delivered()))?;
-    let again: Result<Shard<Ten>, _> = Shard::begin(alloc, 0, 0, starts.as_slice());
-    say(rt, "again", again.ok().map(|shard| shard.delivered()))
+    let said = say_begin::<Ten, R>(rt, alloc, starts.as_slice());
+    drop(starts);
+    said
 }
 
 // The number of notes that are fresh in a shard.
@@ -62,11 +80,12 @@ fn say_fresh<G: Game, R: Print>(rt: &R, alloc: Global, shard: &Shard<G>) -> io::
     say(rt, "again", fresh_notes(alloc, shard))
 }
 
-/// `Shard::fresh` of the same at its first level.
-pub fn fresh<R: Print + AllocGlobal>(rt: &R) -> io::Result<()> {
-    let alloc = rt.alloc();
+// `Shard::fresh` of the same at its first level.
+fn fresh<R: Print>(rt: &R, alloc: Global) -> io::Result<()> {
     let shard = begin_whole::<Ten>(alloc, 0)?;
-    say_fresh(rt, alloc, &shard)
+    let said = say_fresh(rt, alloc, &shard);
+    drop(shard);
+    said
 }
 
 // The number of notes of a level.
@@ -100,28 +119,6 @@ fn say_gather<G: Game, R: Print>(
     say(rt, "again", notes_gathered(alloc, place, runs, tables))
 }
 
-// Gathers the first level of a tier.
-fn gather_first<G: Game, R: Print>(
-    rt: &R,
-    alloc: Global,
-    tier: u64,
-    tables: &Tables<G>,
-) -> io::Result<()>
-    requires held { AreHeld G.rules tables.now tier }
-    requires small { G.rules.tier_size tier ≤ TIER_SIZE }
-{
-    let shard = begin_whole::<G>(alloc, tier)?;
-    let runs = fresh_run(alloc, &shard)?;
-    say_gather(rt, alloc, shard.place(), runs.as_slice(), tables)
-}
-
-/// `Level::gather` of the first level.
-pub fn gather<R: Print + AllocGlobal>(rt: &R) -> io::Result<()> {
-    let alloc = rt.alloc();
-    let tables: Tables<Ten> = Tables::new(alloc);
-    gather_first(rt, alloc, 0, &tables)
-}
-
 // The pairs into the first tile of a level, by tiles of 6.
 fn counted<G: Game>(alloc: Global, level: &Level<'_, G>) -> Option<u64> {
     Some(level.tally(alloc, 0, 1, 6).ok()?.count(0))
@@ -134,10 +131,57 @@ fn say_tally<G: Game, R: Print>(rt: &R, alloc: Global, level: &Level<'_, G>) -> 
     say(rt, "again", counted(alloc, level))
 }
 
-// Counts the first level of a tier.
-fn tally_first<G: Game, R: Print>(
+// Counts the pairs of the level of these runs.
+fn tally_runs<G: Game, R: Print>(
     rt: &R,
     alloc: Global,
+    place: Place,
+    runs: &[Run<G>],
+    tables: &Tables<G>,
+) -> io::Result<()>
+    requires tiles { AreTiles place 0 (G.rules.tier_size place.tier) runs.now }
+    requires held { AreHeld G.rules tables.now place.tier }
+    requires small { G.rules.tier_size place.tier ≤ TIER_SIZE }
+{
+    let level = Level::gather(alloc, place, runs, tables)?;
+    let said = say_tally(rt, alloc, &level);
+    drop(level);
+    said
+}
+
+// What is called on the first level of a tier.
+#[derive(Clone, Copy)]
+enum Call {
+    Gather,
+    Tally,
+}
+
+// Makes the call on the level of a shard of a whole tier.
+fn call_on_shard<G: Game, R: Print>(
+    rt: &R,
+    alloc: Global,
+    call: Call,
+    shard: &Shard<G>,
+    tables: &Tables<G>,
+) -> io::Result<()>
+    requires whole { IsOfTier G.rules shard.now }
+    requires held { AreHeld G.rules tables.now shard.now.tier }
+    requires small { G.rules.tier_size shard.now.tier ≤ TIER_SIZE }
+{
+    let runs = fresh_run(alloc, shard)?;
+    let said = match call {
+        Call::Gather => say_gather(rt, alloc, shard.place(), runs.as_slice(), tables),
+        Call::Tally => tally_runs(rt, alloc, shard.place(), runs.as_slice(), tables),
+    };
+    drop(runs);
+    said
+}
+
+// Makes the call on the first level of a tier.
+fn call_on_first<G: Game, R: Print>(
+    rt: &R,
+    alloc: Global,
+    call: Call,
     tier: u64,
     tables: &Tables<G>,
 ) -> io::Result<()>
@@ -145,16 +189,41 @@ fn tally_first<G: Game, R: Print>(
     requires small { G.rules.tier_size tier ≤ TIER_SIZE }
 {
     let shard = begin_whole::<G>(alloc, tier)?;
-    let runs = fresh_run(alloc, &shard)?;
-    let level = Level::gather(alloc, shard.place(), runs.as_slice(), tables)?;
-    say_tally(rt, alloc, &level)
+    let said = call_on_shard(rt, alloc, call, &shard, tables);
+    drop(shard);
+    said
 }
 
-/// `Level::tally` of the first level, by tiles of 6.
-pub fn tally<R: Print + AllocGlobal>(rt: &R) -> io::Result<()> {
-    let alloc = rt.alloc();
+// `Level::gather` of the first level, or `Level::tally` of it by tiles of 6.
+fn first_level<R: Print>(rt: &R, alloc: Global, call: Call) -> io::Result<()> {
     let tables: Tables<Ten> = Tables::new(alloc);
-    tally_first(rt, alloc, 0, &tables)
+    let said = call_on_first(rt, alloc, call, 0, &tables);
+    drop(tables);
+    said
+}
+
+// Closes the level without wins and losses of a shard of a whole tier and turns the shard to ties: whether it has ties.
+fn turn_first<G: Game>(
+    alloc: Global,
+    shard: &mut Shard<G>,
+    expected: &mut Expected<G>,
+    tables: &Tables<G>,
+) -> Result<bool, AllocError>
+    requires first { shard.old ≡ first_state expected.old.tier 0 (G.rules.tier_size expected.old.tier) }
+    requires next { place_of shard.old ≡ place_at expected.old.tier expected.old.phase expected.old.level }
+    requires lo { expected.old.lo ≡ 0 }
+    requires hi { expected.old.hi ≡ G.rules.tier_size expected.old.tier }
+    requires children { AreHeld G.rules tables.now expected.old.tier }
+    requires small { G.rules.tier_size expected.old.tier ≤ TIER_SIZE }
+    ensures whole { IfOk result (λ turned. IsTrue turned → IsOfTier G.rules shard.new) }
+    ensures tier { IfOk result (λ turned. IsTrue turned → shard.new.tier ≡ expected.old.tier) }
+    ensures ties { IfOk result (λ turned. IsTrue turned → shard.new.phase ≡ Ties) }
+{
+    add_fresh(alloc, shard, tables, expected)?;
+    if shard.close(expected).is_err() {
+        return Ok(false);
+    }
+    turn(alloc, shard, expected, tables)
 }
 
 // The shard of a tier whose level without wins and losses is closed, at its first level of ties; none where it has no ties.
@@ -171,11 +240,19 @@ fn at_ties<G: Game>(
 {
     let mut shard = begin_whole::<G>(alloc, tier)?;
     let mut expected = Expected::start(tier, 0, G::tier_size(tier));
-    add_fresh(alloc, &shard, tables, &mut expected)?;
-    if shard.close(&expected).is_err() || !turn(alloc, &mut shard, &mut expected, tables)? {
-        return Ok(None);
+    let turned = turn_first(alloc, &mut shard, &mut expected, tables);
+    drop(expected);
+    match turned {
+        Ok(true) => Ok(Some(shard)),
+        Ok(false) => {
+            drop(shard);
+            Ok(None)
+        }
+        Err(error) => {
+            drop(shard);
+            Err(error)
+        }
     }
-    Ok(Some(shard))
 }
 
 // Records with one of no position.
@@ -212,6 +289,40 @@ fn say_finish<G: Game, R: Print>(
     say(rt, "again", finished(again))
 }
 
+// Finishes a shard of a whole tier at the end of ties.
+fn finish_at<G: Game, R: Print>(
+    rt: &R,
+    alloc: Global,
+    shard: &Shard<G>,
+    last: &Last<G>,
+) -> io::Result<()>
+    requires last { last.now ≡ place_of shard.now }
+    requires ties { shard.now.phase ≡ Ties }
+{
+    let mut records = one_record(alloc)?;
+    let said = say_finish(rt, alloc, shard, last, &mut records);
+    drop(records);
+    said
+}
+
+// Finishes a shard of a whole tier at its first level of ties.
+fn finish_shard<G: Game, R: Print>(
+    rt: &R,
+    alloc: Global,
+    shard: &Shard<G>,
+    tables: &Tables<G>,
+) -> io::Result<()>
+    requires whole { IsOfTier G.rules shard.now }
+    requires ties { shard.now.phase ≡ Ties }
+    requires held { AreHeld G.rules tables.now shard.now.tier }
+    requires small { G.rules.tier_size shard.now.tier ≤ TIER_SIZE }
+{
+    match last_of(alloc, shard, tables)? {
+        Some(last) => finish_at(rt, alloc, shard, &last),
+        None => say(rt, "answer", Some("no end")),
+    }
+}
+
 // Finishes a tier of one position.
 fn finish_tier<G: Game, R: Print>(
     rt: &R,
@@ -225,16 +336,31 @@ fn finish_tier<G: Game, R: Print>(
     let Some(shard) = at_ties(alloc, tier, tables)? else {
         return say(rt, "answer", Some("no ties"));
     };
-    let Some(last) = last_of(alloc, &shard, tables)? else {
-        return say(rt, "answer", Some("no end"));
-    };
-    let mut records = one_record(alloc)?;
-    say_finish(rt, alloc, &shard, &last, &mut records)
+    let said = finish_shard(rt, alloc, &shard, tables);
+    drop(shard);
+    said
 }
 
-/// `Shard::finish` of Countdown from 0, into records of which there is one already.
-pub fn finish<R: Print + AllocGlobal>(rt: &R) -> io::Result<()> {
-    let alloc = rt.alloc();
+// `Shard::finish` of Countdown from 0, into records of which there is one already.
+fn finish<R: Print>(rt: &R, alloc: Global) -> io::Result<()> {
     let tables: Tables<Countdown<0>> = Tables::new(alloc);
-    finish_tier(rt, alloc, 0, &tables)
+    let said = finish_tier(rt, alloc, 0, &tables);
+    drop(tables);
+    said
+}
+
+/// Makes the call on an order, a shard or a level that a word names: false where there is no such word.
+pub fn make_call<R: Print + AllocGlobal>(rt: &R, word: &str) -> io::Result<bool> {
+    let alloc = rt.alloc();
+    let said = match word {
+        "order" => order::<TacTix<2, false>, R>(rt, alloc),
+        "begin" => begin(rt, alloc),
+        "fresh" => fresh(rt, alloc),
+        "gather" => first_level(rt, alloc, Call::Gather),
+        "tally" => first_level(rt, alloc, Call::Tally),
+        "finish" => finish(rt, alloc),
+        _ => return Ok(false),
+    };
+    said?;
+    Ok(true)
 }

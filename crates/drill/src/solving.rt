@@ -18,6 +18,8 @@ use gm_tierdb::encode::encode;
 use gm_tierdb::mem_store::MemStore;
 use gm_tierdb::store::Store;
 use gm_tierdb::store_error::StoreError;
+use gm_toys::countdown::Countdown;
+use gm_toys::wheel::Wheel;
 use std::alloc::{AllocError, Global};
 use std::fs::Files;
 use std::io;
@@ -26,7 +28,7 @@ use std::thread::Threads;
 
 // What solves a tier.
 #[derive(Clone, Copy, Debug)]
-pub enum Way {
+enum Way {
     Alone,
     Pieces,
     Passes,
@@ -91,17 +93,29 @@ fn say_solved<G: Game, R: Print>(
     }
 }
 
-/// Solves the first tier of a game.
-pub fn solve<G: Game + Send + Sync, R: Print + AllocGlobal + Threads + Wait + Sync>(
+// Solves the first tier of a game in a way, twice.
+fn say_solves<G: Game + Send + Sync, R: Print + Threads + Wait + Sync>(
+    rt: &R,
+    alloc: Global,
+    way: Way,
+    tables: &Tables<G>,
+) -> io::Result<()> {
+    let first = marked!(alloc, solved(rt, alloc, way, tables));
+    say_solved(rt, alloc, "answer", first)?;
+    let again = solved(rt, alloc, way, tables);
+    say_solved(rt, alloc, "again", again)
+}
+
+// Solves the first tier of a game.
+fn solve<G: Game + Send + Sync, R: Print + AllocGlobal + Threads + Wait + Sync>(
     rt: &R,
     way: Way,
 ) -> io::Result<()> {
     let alloc = rt.alloc();
     let tables: Tables<G> = Tables::new(alloc);
-    let first = marked!(alloc, solved(rt, alloc, way, &tables));
-    say_solved(rt, alloc, "answer", first)?;
-    let again = solved(rt, alloc, way, &tables);
-    say_solved(rt, alloc, "again", again)
+    let said = say_solves(rt, alloc, way, &tables);
+    drop(tables);
+    said
 }
 
 type Four = TacTix<2, false>;
@@ -183,12 +197,33 @@ fn say_builds<R: Print + Threads + Wait + Files + Sync>(
     say_texts(rt, alloc, "end", store, right)
 }
 
-/// Builds Tac Tix on 2 by 2 over a store in memory: after a refusal the earlier tiers have their texts, and a second build finishes the game.
-pub fn build<R: Print + AllocGlobal + Threads + Wait + Files + Sync>(rt: &R) -> io::Result<()> {
+// Builds Tac Tix on 2 by 2 over a store in memory: after a refusal the earlier tiers have their texts, and a second build finishes the game.
+fn build<R: Print + AllocGlobal + Threads + Wait + Files + Sync>(rt: &R) -> io::Result<()> {
     let alloc = rt.alloc();
     let Ok(right) = built(rt, alloc, &mut MemStore::new(alloc)) else {
         return say(rt, "before", Some("not built"));
     };
     let mut store = MemStore::new(alloc);
-    say_builds(rt, alloc, &mut store, &right)
+    let said = say_builds(rt, alloc, &mut store, &right);
+    drop((right, store));
+    said
+}
+
+/// Solves or builds as a word says: false where there is no such word.
+pub fn make_call<R: Print + AllocGlobal + Threads + Wait + Files + Sync>(
+    rt: &R,
+    word: &str,
+) -> io::Result<bool> {
+    let said = match word {
+        "alone-countdown" => solve::<Countdown<10>, R>(rt, Way::Alone),
+        "alone-wheel" => solve::<Wheel, R>(rt, Way::Alone),
+        "pieces-countdown" => solve::<Countdown<10>, R>(rt, Way::Pieces),
+        "pieces-wheel" => solve::<Wheel, R>(rt, Way::Pieces),
+        "passes-countdown" => solve::<Countdown<10>, R>(rt, Way::Passes),
+        "passes-wheel" => solve::<Wheel, R>(rt, Way::Passes),
+        "build" => build(rt),
+        _ => return Ok(false),
+    };
+    said?;
+    Ok(true)
 }

@@ -22,7 +22,9 @@ pub fn analyse<G: Shown + Send + Sync, R: Threads + Wait + Files + Sync + AllocG
     output: &mut O,
 ) -> Result<u8, Fault> {
     let built = place.build::<G, R>(rt)?;
-    write_counts(rt.alloc(), &built, output)?;
+    let written = write_counts(rt.alloc(), &built, output);
+    drop(built);
+    written?;
     Ok(DONE)
 }
 

@@ -78,6 +78,23 @@ fn check_tier<G: Game + Send + Sync, R: Threads + Files + Sync + AllocGlobal, O:
     }
 }
 
+// Prints for each of these tiers what its file is, and answers the status to end with.
+fn check_tiers<G: Game + Send + Sync, R: Threads + Files + Sync + AllocGlobal, O: Write>(
+    rt: &R,
+    folder: &str,
+    tiers: &[u64],
+    tables: &mut Tables<G>,
+    output: &mut O,
+) -> Result<u8, Fault> {
+    let mut status = DONE;
+    for tier in tiers {
+        if !check_tier(rt, folder, *tier, tables, output)? {
+            status = REFUSED;
+        }
+    }
+    Ok(status)
+}
+
 /// Prints for each tier what its file in a folder is.
 pub fn check<G: Game + Send + Sync, R: Threads + Files + Sync + AllocGlobal, O: Write>(
     rt: &R,
@@ -87,11 +104,7 @@ pub fn check<G: Game + Send + Sync, R: Threads + Files + Sync + AllocGlobal, O: 
     let alloc = rt.alloc();
     let order = TierOrder::<G>::from_initial(alloc)?;
     let mut tables: Tables<G> = Tables::new(alloc);
-    let mut status = DONE;
-    for tier in order.tiers() {
-        if !check_tier(rt, folder, *tier, &mut tables, output)? {
-            status = REFUSED;
-        }
-    }
-    Ok(status)
+    let checked = check_tiers(rt, folder, order.tiers(), &mut tables, output);
+    drop((order, tables));
+    checked
 }

@@ -30,13 +30,28 @@ pub fn explore<G: Drawn + Send + Sync, R: Threads + Wait + Files + Sync + AllocG
     output: &mut O,
 ) -> Result<u8, Fault> {
     let position = position_of::<G>(asked.position)?;
+    let shown = G::show(position);
     let built = place.build_from::<G, R>(rt, position.tier)?;
-    let text = match text_for(
+    let written = write_answer(
         rt.alloc(),
         &built.tables,
-        G::show(position).as_slice(),
+        shown.as_slice(),
         asked.question,
-    ) {
+        output,
+    );
+    drop(built);
+    written
+}
+
+// Writes what is asked about the position with this text.
+fn write_answer<G: Drawn, O: Write>(
+    alloc: Global,
+    tables: &Tables<G>,
+    position: &[u8],
+    question: Question,
+    output: &mut O,
+) -> Result<u8, Fault> {
+    let text = match text_for(alloc, tables, position, question) {
         Ok(text) => text,
         Err(PlayError::OutOfMemory) => return Err(Fault::OutOfMemory(AllocError)),
         // The position's own tier is among those that are built.

@@ -67,20 +67,18 @@ fn answer<
     }
 }
 
-// Answers what is asked of Tac Tix by the misère rule, on a square of this name.
-fn answer_misere<
+// Answers what is asked of Tac Tix on a square of side N, by the normal or by the misère rule.
+fn answer_square<
+    const N: u32,
     R: Threads + Wait + Clock + Files + Sync + AllocGlobal,
     I: Read,
     O: Write,
     E: Write + Send,
->(rt: &R, game: &str, asked: GameAsked<'_>, streams: Streams<'_, I, O, E>) -> Result<u8, Fault> {
-    match game {
-        "tactix-1-misere" => answer::<TacTix<1, true>, R, I, O, E>(rt, asked, streams),
-        "tactix-2-misere" => answer::<TacTix<2, true>, R, I, O, E>(rt, asked, streams),
-        "tactix-3-misere" => answer::<TacTix<3, true>, R, I, O, E>(rt, asked, streams),
-        "tactix-4-misere" => answer::<TacTix<4, true>, R, I, O, E>(rt, asked, streams),
-        "tactix-5-misere" => answer::<TacTix<5, true>, R, I, O, E>(rt, asked, streams),
-        _ => Err(Fault::NoSuchGame),
+>(rt: &R, misere: bool, asked: GameAsked<'_>, streams: Streams<'_, I, O, E>) -> Result<u8, Fault> {
+    if misere {
+        answer::<TacTix<N, true>, R, I, O, E>(rt, asked, streams)
+    } else {
+        answer::<TacTix<N, false>, R, I, O, E>(rt, asked, streams)
     }
 }
 
@@ -91,17 +89,51 @@ fn answer_tactix<
     O: Write,
     E: Write + Send,
 >(rt: &R, game: &str, asked: GameAsked<'_>, streams: Streams<'_, I, O, E>) -> Result<u8, Fault> {
-    match game {
-        "tactix-1" => answer::<TacTix<1, false>, R, I, O, E>(rt, asked, streams),
-        "tactix-2" => answer::<TacTix<2, false>, R, I, O, E>(rt, asked, streams),
-        "tactix-3" => answer::<TacTix<3, false>, R, I, O, E>(rt, asked, streams),
-        "tactix-4" => answer::<TacTix<4, false>, R, I, O, E>(rt, asked, streams),
-        "tactix-5" => answer::<TacTix<5, false>, R, I, O, E>(rt, asked, streams),
-        _ => answer_misere(rt, game, asked, streams),
+    let (square, misere) = match game.strip_suffix("-misere") {
+        Some(square) => (square, true),
+        None => (game, false),
+    };
+    match square {
+        "tactix-1" => answer_square::<1, R, I, O, E>(rt, misere, asked, streams),
+        "tactix-2" => answer_square::<2, R, I, O, E>(rt, misere, asked, streams),
+        "tactix-3" => answer_square::<3, R, I, O, E>(rt, misere, asked, streams),
+        "tactix-4" => answer_square::<4, R, I, O, E>(rt, misere, asked, streams),
+        "tactix-5" => answer_square::<5, R, I, O, E>(rt, misere, asked, streams),
+        _ => Err(Fault::NoSuchGame),
     }
 }
 
-/// Answers what is asked of the game of this name.
+// Answers what is asked of Mu Torere, Dao, or Hare and Hounds, or of Tac Tix.
+fn answer_moving<
+    R: Threads + Wait + Clock + Files + Sync + AllocGlobal,
+    I: Read,
+    O: Write,
+    E: Write + Send,
+>(rt: &R, game: &str, asked: GameAsked<'_>, streams: Streams<'_, I, O, E>) -> Result<u8, Fault> {
+    match game {
+        "mutorere" => answer::<MuTorere, R, I, O, E>(rt, asked, streams),
+        "dao" => answer::<Dao, R, I, O, E>(rt, asked, streams),
+        "hare" => answer::<Hare, R, I, O, E>(rt, asked, streams),
+        _ => answer_tactix(rt, game, asked, streams),
+    }
+}
+
+// Answers what is asked of a game of three in a row, or of one of those after it.
+fn answer_lines<
+    R: Threads + Wait + Clock + Files + Sync + AllocGlobal,
+    I: Read,
+    O: Write,
+    E: Write + Send,
+>(rt: &R, game: &str, asked: GameAsked<'_>, streams: Streams<'_, I, O, E>) -> Result<u8, Fault> {
+    match game {
+        "tictactoe" => answer::<TicTacToe, R, I, O, E>(rt, asked, streams),
+        "threemens" => answer::<ThreeMens, R, I, O, E>(rt, asked, streams),
+        "achi" => answer::<Achi, R, I, O, E>(rt, asked, streams),
+        _ => answer_moving(rt, game, asked, streams),
+    }
+}
+
+/// Answers what is asked of the game of this name. The games are tried family by family, each family by a function of its own.
 pub fn answer_for<
     R: Threads + Wait + Clock + Files + Sync + AllocGlobal,
     I: Read,
@@ -111,12 +143,6 @@ pub fn answer_for<
     match game {
         "countdown" => answer::<Countdown<10>, R, I, O, E>(rt, asked, streams),
         "wheel" => answer::<Wheel, R, I, O, E>(rt, asked, streams),
-        "tictactoe" => answer::<TicTacToe, R, I, O, E>(rt, asked, streams),
-        "threemens" => answer::<ThreeMens, R, I, O, E>(rt, asked, streams),
-        "achi" => answer::<Achi, R, I, O, E>(rt, asked, streams),
-        "mutorere" => answer::<MuTorere, R, I, O, E>(rt, asked, streams),
-        "dao" => answer::<Dao, R, I, O, E>(rt, asked, streams),
-        "hare" => answer::<Hare, R, I, O, E>(rt, asked, streams),
-        _ => answer_tactix(rt, game, asked, streams),
+        _ => answer_lines(rt, game, asked, streams),
     }
 }

@@ -33,7 +33,9 @@ pub fn play<
 ) -> Result<u8, Fault> {
     let start = position_of::<G>(asked.position)?;
     let built = place.build_from::<G, R>(rt, start.tier)?;
-    play_from(&built, start, asked, input, output)?;
+    let played = play_from(&built, start, asked, input, output);
+    drop(built);
+    played?;
     Ok(DONE)
 }
 

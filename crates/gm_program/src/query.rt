@@ -27,7 +27,9 @@ pub fn query<G: Shown + Send + Sync, R: Threads + Wait + Files + Sync + AllocGlo
         None => return Err(Fault::NoSuchPosition),
     };
     let built = place.build_from::<G, R>(rt, tier)?;
-    write_value(&built.tables, position.as_bytes(), output)?;
+    let written = write_value(&built.tables, position.as_bytes(), output);
+    drop(built);
+    written?;
     Ok(DONE)
 }
 

@@ -3,7 +3,7 @@
 use crate::explore::put;
 use crate::fault::Fault;
 use crate::games::{Streams, answer_for};
-use gm_command::asked::{Unread, read_words, what_is_wrong};
+use gm_command::asked::{Help, Unread, read_words, what_is_wrong};
 use gm_command::names::NAMES;
 use gm_command::pages::{Page, page_text};
 use gm_command::requests::Asked;
@@ -38,6 +38,11 @@ fn write_page<O: Write>(alloc: Global, page: Page, output: &mut O) -> Result<u8,
     Ok(DONE)
 }
 
+fn write_help<O: Write>(text: Help, output: &mut O) -> Result<u8, Fault> {
+    write!(output, "{text}")?;
+    Ok(DONE)
+}
+
 fn answer<
     R: Threads + Wait + Clock + Files + Sync + AllocGlobal,
     I: Read,
@@ -48,10 +53,7 @@ fn answer<
         Asked::List => list(streams.output),
         Asked::Of { game, asked } => answer_for(rt, game, asked, streams),
         Asked::Page(page) => write_page(rt.alloc(), page, streams.output),
-        Asked::Help(text) => {
-            write!(streams.output, "{text}")?;
-            Ok(DONE)
-        }
+        Asked::Help(text) => write_help(text, streams.output),
     }
 }
 

@@ -7,6 +7,7 @@ use crate::tables::Place;
 use gm_build::build::Built;
 use gm_command::requests::{PositionsSought, Search};
 use gm_count::bars::counts_text;
+use gm_find::find_error::FindError;
 use gm_find::reached::Reached;
 use gm_find::rows::find_text;
 use gm_game::shown::Shown;
@@ -29,7 +30,9 @@ pub fn search<
     let alloc = rt.alloc();
     let first = first_tier::<G>(alloc, asked)?;
     let built = place.build_from::<G, R>(rt, first)?;
-    answer(alloc, &built, asked, input, output)?;
+    let answered = answer(alloc, &built, asked, input, output);
+    drop(built);
+    answered?;
     Ok(DONE)
 }
 
@@ -74,24 +77,38 @@ fn found<G: Shown>(
     positions: PositionsSought,
 ) -> Result<Vec<u8>, Fault> {
     let reached = reached_from_start(alloc, positions.reached)?;
+    let text = found_among(alloc, built, positions, reached.as_ref());
+    drop(reached);
+    Ok(text?)
+}
+
+// The same, where the positions that play reaches are known if they are asked for.
+fn found_among<G: Shown>(
+    alloc: Global,
+    built: &Built<G>,
+    positions: PositionsSought,
+    reached: Option<&Reached<G>>,
+) -> Result<Vec<u8>, FindError> {
     let one = [positions.tier.unwrap_or(0)];
     let tiers = match positions.tier {
         Some(_) => one.as_slice(),
         None => built.order.tiers(),
     };
-    let (tables, reached) = (&built.tables, reached.as_ref());
+    let tables = &built.tables;
     let (sought, limit) = (positions.sought, positions.limit);
     if positions.json {
-        Ok(find_json(alloc, tables, tiers, sought, reached, limit)?)
+        find_json(alloc, tables, tiers, sought, reached, limit)
     } else {
-        Ok(find_text(alloc, tables, tiers, sought, reached, limit)?)
+        find_text(alloc, tables, tiers, sought, reached, limit)
     }
 }
 
 // The rows of the counts over all tiers.
 fn counted<G: Shown>(alloc: Global, built: &Built<G>, reached: bool) -> Result<Vec<u8>, Fault> {
     let reached = reached_from_start(alloc, reached)?;
-    Ok(counts_text(alloc, &built.tables, built.order.tiers(), reached.as_ref())?)
+    let text = counts_text(alloc, &built.tables, built.order.tiers(), reached.as_ref());
+    drop(reached);
+    Ok(text?)
 }
 
 // The positions that play reaches, where they are asked for.

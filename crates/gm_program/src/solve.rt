@@ -41,7 +41,9 @@ fn built_report<
     } else {
         build_in::<G, R>(rt, folder, G::initial().tier, plan)?
     };
-    Ok(BuildReport::of(&built))
+    let report = BuildReport::of(&built);
+    drop(built);
+    Ok(report)
 }
 
 // What a build took.

@@ -109,15 +109,39 @@ pub fn build_telling<
     E: Write + Send,
 >(rt: &R, folder: &str, plan: Plan, errors: &mut E) -> Result<Built<G>, Fault> {
     let alloc = rt.alloc();
-    let first = G::initial().tier;
     let mut store = FolderStore::new(alloc, String::from_str(alloc, folder)?);
-    let progress = Progress::new(rt, errors);
-    match build_from(
-        rt, alloc, first, &mut store, plan, &progress, &progress, &progress,
-    ) {
+    let built = build_watched(rt, &mut store, plan, errors);
+    let met_another = store.met_another();
+    drop(store);
+    match built {
         Ok(built) => Ok(built),
-        Err(error) => Err(why_not(error, store.met_another())),
+        Err(error) => Err(why_not(error, met_another)),
     }
+}
+
+// Builds a whole game over a store that has not failed yet, and says on standard error how far the build is.
+fn build_watched<
+    G: Game + Send + Sync,
+    R: Threads + Wait + Clock + Files + Sync + AllocGlobal,
+    S: Store,
+    E: Write + Send,
+>(rt: &R, store: &mut S, plan: Plan, errors: &mut E) -> Result<Built<G>, BuildError>
+    requires { S.failed store.old < u64.MAX }
+{
+    let first = G::initial().tier;
+    let progress = Progress::new(rt, errors);
+    let built = build_from(
+        rt,
+        rt.alloc(),
+        first,
+        store,
+        plan,
+        &progress,
+        &progress,
+        &progress,
+    );
+    drop(progress);
+    built
 }
 
 // Why a game is not built over a folder, for instance since the folder has another game's file.

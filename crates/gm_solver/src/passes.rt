@@ -181,9 +181,20 @@ fn close_two<G: Game, L: Round, M: Round>(
     ensures high_count { OnOk result (spot_counted high_count.new ≡ next_spot (spot_counted high_count.old)) }
     ensures error { IfErr result (IsError G.rules lists.now) }
 {
-    let (low, in_low) = close_post(low, low_count, level, lists, tallies)?;
-    let (high, in_high) = close_post(high, high_count, level, lists, tallies)?;
-    Ok((low, high, in_low.saturating_add(in_high)))
+    let (low, in_low) = match close_post(low, low_count, level, lists, tallies) {
+        Ok(closed) => closed,
+        Err(error) => {
+            drop(high);
+            return Err(error);
+        }
+    };
+    match close_post(high, high_count, level, lists, tallies) {
+        Ok((high, in_high)) => Ok((low, high, in_low.saturating_add(in_high))),
+        Err(error) => {
+            drop(low);
+            Err(error)
+        }
+    }
 }
 
 // The four posts after their workers have ended.
@@ -221,7 +232,7 @@ fn close_all<G: Game, A: Round, B: Round, C: Round, D: Round>(
         c: three,
         d: four,
     } = ends;
-    let (a, b, low) = close_two(
+    let (a, b, low) = match close_two(
         one,
         two,
         &mut counts.a,
@@ -229,8 +240,14 @@ fn close_all<G: Game, A: Round, B: Round, C: Round, D: Round>(
         level,
         lists,
         tallies,
-    )?;
-    let (c, d, high) = close_two(
+    ) {
+        Ok(closed) => closed,
+        Err(error) => {
+            drop((three, four));
+            return Err(error);
+        }
+    };
+    match close_two(
         three,
         four,
         &mut counts.c,
@@ -238,8 +255,13 @@ fn close_all<G: Game, A: Round, B: Round, C: Round, D: Round>(
         level,
         lists,
         tallies,
-    )?;
-    Ok((Four { a, b, c, d }, low.saturating_add(high)))
+    ) {
+        Ok((c, d, high)) => Ok((Four { a, b, c, d }, low.saturating_add(high))),
+        Err(error) => {
+            drop((a, b));
+            Err(error)
+        }
+    }
 }
 
 // Closes a level in all four shards. The number is that of the pairs that they had before.

@@ -76,14 +76,25 @@ fn serve_named<
 {
     let (board, mut rest) = Board::<G, A, B, C, D>::around(workers as u64 + 1, blanks, shards);
     let before = sum_of(&rest);
-    let found = serve_level(rt, alloc, &board, pieces, gate, source, workers, &mut rest)?;
+    let found = match serve_level(rt, alloc, &board, pieces, gate, source, workers, &mut rest) {
+        Ok(found) => found,
+        Err(error) => {
+            drop((board, rest));
+            return Err(error);
+        }
+    };
     let by_workers = sum_of(&rest).saturating_sub(before);
-    let tallies = fill(rt, alloc, &board, pieces, found, &mut rest)?;
-    Ok(Served {
-        shards: board.into_shards(rest),
-        tallies,
-        by_workers,
-    })
+    match fill(rt, alloc, &board, pieces, found, &mut rest) {
+        Ok(tallies) => Ok(Served {
+            shards: board.into_shards(rest),
+            tallies,
+            by_workers,
+        }),
+        Err(error) => {
+            drop((board, rest));
+            Err(error)
+        }
+    }
 }
 
 /// Serves a level: workers walk its pieces, and the coordinator those that they left. Pairs that were refused are still missing.
@@ -168,10 +179,13 @@ pub(crate) fn run_pieces<G: Game + Send + Sync, R: Threads + Wait + Sync, T: Gat
         tallies,
         by_workers,
     } = serve(rt, alloc, pieces, gate, source, workers, shards)?;
-    if let Err(error) = close_tiles(&mut shards, counts, pieces, tallies.as_slice()) {
-        return Err(error);
+    match close_tiles(&mut shards, counts, pieces, tallies.as_slice()) {
+        Ok(()) => Ok((shards, by_workers)),
+        Err(error) => {
+            drop(shards);
+            Err(error)
+        }
     }
-    Ok((shards, by_workers))
 }
 
 // Closes a level in all four shards.

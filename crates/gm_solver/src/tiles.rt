@@ -148,8 +148,13 @@ pub(crate) fn begin_tiles<G: Game + Send + Sync, R: Threads + Sync>(
     let (lists, starts) = scan_tier::<G, R>(rt, alloc, tier, workers)?;
     let (low, high) = begin_four::<G, R>(rt, alloc, tier, width, starts.as_slice(), workers);
     drop(starts);
-    let ((a, in_a), (b, in_b)) = low?;
-    let ((c, in_c), (d, in_d)) = high?;
+    let (((a, in_a), (b, in_b)), ((c, in_c), (d, in_d))) = match (low, high) {
+        (Ok(low), Ok(high)) => (low, high),
+        (low, high) => {
+            drop((low, high, lists));
+            return Err(AllocError);
+        }
+    };
     Ok(Tiles {
         shards: Four { a, b, c, d },
         counts: Four {

@@ -22,6 +22,66 @@ pub fn are_same<G: Game>(one: &Table<G>, other: &Table<G>) -> bool {
     one.size() == other.size() && (0..one.size()).all(|index| one.at(index) == other.at(index))
 }
 
+// Whether workers find this table of a tier in one of the two ways, and report this.
+fn finds<G: Game + Send + Sync, R: Threads + Wait + Sync>(
+    rt: &R,
+    alloc: Global,
+    tables: &Tables<G>,
+    tier: u64,
+    way: Way,
+    plan: Plan,
+    counter: &Counter,
+    table: &Table<G>,
+    wanted: Report,
+) -> Result<bool, SolveError>
+    requires held { AreHeld G.rules tables.now tier }
+    requires small { G.rules.tier_size tier ≤ TIER_SIZE }
+{
+    let (found, report) = solve_by(rt, alloc, tier, tables, way, plan, &NoGate, counter)?;
+    let same = are_same(table, &found) && report == wanted;
+    drop(found);
+    Ok(same)
+}
+
+// The same in both ways, one after the other.
+fn finds_both<G: Game + Send + Sync, R: Threads + Wait + Sync>(
+    rt: &R,
+    alloc: Global,
+    tables: &Tables<G>,
+    tier: u64,
+    plan: Plan,
+    table: &Table<G>,
+    wanted: Report,
+) -> Result<bool, SolveError>
+    requires held { AreHeld G.rules tables.now tier }
+    requires small { G.rules.tier_size tier ≤ TIER_SIZE }
+{
+    let counter = Counter::new();
+    let by_pieces = finds(
+        rt,
+        alloc,
+        tables,
+        tier,
+        Way::Pieces,
+        plan,
+        &counter,
+        table,
+        wanted,
+    )?;
+    let by_passes = finds(
+        rt,
+        alloc,
+        tables,
+        tier,
+        Way::Passes,
+        plan,
+        &counter,
+        table,
+        wanted,
+    )?;
+    Ok(by_pieces && by_passes)
+}
+
 /// Solves a tier by one shard, and by workers in both ways, and inserts its table: whether all found the same records and the same number of deliveries, and
 /// none was made by hand.
 pub fn hold_same<G: Game + Send + Sync, R: Threads + Wait + Sync>(
@@ -35,17 +95,22 @@ pub fn hold_same<G: Game + Send + Sync, R: Threads + Wait + Sync>(
     requires small { G.rules.tier_size tier ≤ TIER_SIZE }
 {
     let (alone, deliveries) = solve_alone(alloc, tier, tables)?;
-    let counter = Counter::new();
-    let (by_pieces, pieces) = solve_tier(rt, alloc, tier, tables, plan, &NoGate, &counter)?;
-    let (by_passes, passes) = solve_passes(rt, alloc, tier, tables, plan, &NoGate, &counter)?;
     let wanted = Report {
         deliveries,
         by_hand: 0,
     };
-    let same = are_same(&alone, &by_pieces) && are_same(&alone, &by_passes);
-    match tables.insert(alone) {
-        Ok(()) => Ok(same && pieces == wanted && passes == wanted),
-        Err(_) => Err(SolveError::OutOfMemory),
+    match finds_both(rt, alloc, tables, tier, plan, &alone, wanted) {
+        Ok(same) => match tables.insert(alone) {
+            Ok(()) => Ok(same),
+            Err(failed) => {
+                drop(failed);
+                Err(SolveError::OutOfMemory)
+            }
+        },
+        Err(error) => {
+            drop(alone);
+            Err(error)
+        }
     }
 }
 

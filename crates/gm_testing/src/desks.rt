@@ -1,5 +1,6 @@
 //! Boards of four shards, as callers with workers of their own use them.
-ghost use Rattle.std.specs.Prelude.{◌≡◌, ◌<◌, ◌≤◌, IfOk};
+ghost use Rattle.std.specs.Prelude.{◌≡◌, ◌-◌, ◌<◌, ◌≤◌, IfOk};
+ghost use Rattle.gm_shard.specs.Begin.{first_state};
 ghost use Rattle.gm_solver.specs.Spots.{spot_of, AreFourTiles};
 
 use gm_frontier::note::Note;
@@ -18,6 +19,30 @@ use std::sync::{Mutex, Wait};
 use std::thread;
 use std::thread::Threads;
 
+// The shards of the indexes of a tier from `lo` up to a cut, and of those from it up to `hi`.
+fn two_at<G: Game>(
+    alloc: Global,
+    tier: u64,
+    lo: u64,
+    cut: u64,
+    hi: u64,
+) -> Result<(Shard<G>, Shard<G>), AllocError>
+    requires low { lo ≤ cut }
+    requires high { cut ≤ hi }
+    requires within { hi ≤ TIER_SIZE }
+    ensures first { IfOk result (λ two. two.0 ≡ first_state tier lo (cut - lo)) }
+    ensures second { IfOk result (λ two. two.1 ≡ first_state tier cut (hi - cut)) }
+{
+    let low = begin_range(alloc, tier, lo, cut)?;
+    match begin_range(alloc, tier, cut, hi) {
+        Ok(high) => Ok((low, high)),
+        Err(error) => {
+            drop(low);
+            Err(error)
+        }
+    }
+}
+
 /// The shards of a tier that is cut at one index, and two without positions.
 pub fn cut_at<G: Game>(alloc: Global, tier: u64, cut: u64) -> Result<Four<Shard<G>>, AllocError>
     requires within { cut ≤ G.rules.tier_size tier }
@@ -25,12 +50,14 @@ pub fn cut_at<G: Game>(alloc: Global, tier: u64, cut: u64) -> Result<Four<Shard<
     ensures { IfOk result (λ shards. AreFourTiles G.rules (spot_of shards.a) (spot_of shards.b) (spot_of shards.c) (spot_of shards.d)) }
 {
     let size = G::tier_size(tier);
-    Ok(Four {
-        a: begin_range(alloc, tier, 0, cut)?,
-        b: begin_range(alloc, tier, cut, size)?,
-        c: begin_range(alloc, tier, size, size)?,
-        d: begin_range(alloc, tier, size, size)?,
-    })
+    let (a, b) = two_at(alloc, tier, 0, cut, size)?;
+    match two_at(alloc, tier, size, size, size) {
+        Ok((c, d)) => Ok(Four { a, b, c, d }),
+        Err(error) => {
+            drop((a, b));
+            Err(error)
+        }
+    }
 }
 
 /// Blanks of this many parts.
@@ -88,9 +115,11 @@ fn deliver_named<G: Game, A: Desk, B: Desk, C: Desk, D: Desk, R: Wait>(
     let again = told(rt, &board, 0, note, parent, &mut shares);
     let other = told(rt, &board, 1, note, parent, &mut shares);
     let shards = board.into_shards(shares);
+    let delivered = (shards.a.delivered(), shards.b.delivered());
+    drop(shards);
     Answers {
         each: [first, again, other],
-        delivered: (shards.a.delivered(), shards.b.delivered()),
+        delivered,
     }
 }
 
@@ -129,7 +158,9 @@ fn deliver_twice_named<G: Game, A: Desk, B: Desk, C: Desk, D: Desk, R: Wait>(
     let mine = board.deliver_all(rt, 0, &pairs, &mut shares);
     let after = (mine, shares.amount(0), shares.amount(1));
     let others = board.deliver_all(rt, 1, &pairs, &mut shares);
-    [after, (others, shares.amount(0), shares.amount(1))]
+    let at_end = (others, shares.amount(0), shares.amount(1));
+    drop((board, shares));
+    [after, at_end]
 }
 
 /// Delivers a note to a parent twice under one lock, to shard 0 and then to shard 1, on a board round these shards: how many were new, and the amounts of these shards.

@@ -1,5 +1,5 @@
 //! Desks that are delivered to in order, as callers with workers of their own use them.
-ghost use Rattle.std.specs.Prelude.{◌≡◌, ◌<◌, ◌≤◌};
+ghost use Rattle.std.specs.Prelude.{◌≡◌, ◌+◌, ◌<◌, ◌≤◌};
 ghost use Rattle.gm_table.specs.Tables.{AreHeld};
 ghost use Rattle.gm_shard.specs.State.{pairs_in};
 ghost use Rattle.gm_shard.specs.Begin.{first_state};
@@ -60,6 +60,23 @@ fn deliver_all<G: Game, L: Round, R: Wait>(
     Ok(each)
 }
 
+// Takes the shard out of a desk whose pass is full: how many pairs it had, and whether its level could be closed.
+fn close_whole<G: Game, L: Round>(
+    desk: PassDesk<G, L>,
+    pass: Pass<L>,
+    expected: &Expected<G>,
+) -> (u64, bool)
+    requires is_for { IsForSpot expected.now L.spot }
+    requires full { L.base + pass ≡ expected.now.number }
+    requires near { L.spot.level ≤ REMOTENESS }
+{
+    let mut shard = desk.into_whole(pass, expected);
+    let delivered = shard.delivered();
+    let closed = shard.close(expected).is_ok();
+    drop(shard);
+    (delivered, closed)
+}
+
 // The same at a desk of this name round a shard, which it takes out at the end where its pass is full.
 fn pass_named<G: Game, L: Round, R: Wait>(
     rt: &R,
@@ -80,12 +97,17 @@ fn pass_named<G: Game, L: Round, R: Wait>(
 {
     let (desk, mut pass) = PassDesk::<G, L>::around(blank, shard, level);
     let full_at_first = pass.full(expected);
-    let each = deliver_all(rt, alloc, &desk, level, &mut pass, expected)?;
+    let each = match deliver_all(rt, alloc, &desk, level, &mut pass, expected) {
+        Ok(each) => each,
+        Err(error) => {
+            drop((desk, pass));
+            return Err(error);
+        }
+    };
     let whole = if pass.full(expected) {
-        let mut shard = desk.into_whole(pass, expected);
-        let delivered = shard.delivered();
-        Some((delivered, shard.close(expected).is_ok()))
+        Some(close_whole(desk, pass, expected))
     } else {
+        drop((desk, pass));
         None
     };
     Ok(Passed {
@@ -132,6 +154,33 @@ fn pass_both<G: Game, R: Wait>(
     Ok((low, high))
 }
 
+// The same for the level of a whole tier before its first level.
+fn pass_first<G: Game, R: Wait>(
+    rt: &R,
+    alloc: Global,
+    whole: &Shard<G>,
+    tier: u64,
+    cut: u64,
+    tables: &Tables<G>,
+) -> Result<(Passed, Passed), AllocError>
+    requires first { whole.now ≡ first_state tier 0 (G.rules.tier_size tier) }
+    requires held { AreHeld G.rules tables.now tier }
+    requires small { G.rules.tier_size tier ≤ TIER_SIZE }
+    requires within { cut ≤ G.rules.tier_size tier }
+{
+    let runs = fresh_run(alloc, whole)?;
+    let passed = match Level::gather(alloc, whole.place(), runs.as_slice(), tables) {
+        Ok(level) => {
+            let passed = pass_both(rt, alloc, &level, cut, G::tier_size(tier));
+            drop(level);
+            passed
+        }
+        Err(error) => Err(error),
+    };
+    drop(runs);
+    passed
+}
+
 /// The first level of a tier at two desks, round the indexes before a cut and from it on.
 pub fn pass_by_hand<G: Game, R: Wait>(
     rt: &R,
@@ -146,7 +195,7 @@ pub fn pass_by_hand<G: Game, R: Wait>(
 {
     let size = G::tier_size(tier);
     let whole = begin_range::<G>(alloc, tier, 0, size)?;
-    let runs = fresh_run(alloc, &whole)?;
-    let level = Level::gather(alloc, whole.place(), runs.as_slice(), tables)?;
-    pass_both(rt, alloc, &level, cut, size)
+    let passed = pass_first(rt, alloc, &whole, tier, cut, tables);
+    drop(whole);
+    passed
 }

@@ -1,3 +1,4 @@
+use crate::expect::{expect, expect_eq};
 use gm_board::arrangement::Arrangement;
 use gm_board::cell::Cell;
 use gm_board::group::is_group;
@@ -26,31 +27,31 @@ const OTHER_DIAGONAL: u32 = 0b0001_0010_0100_1000;
 
 #[test]
 fn binomials(rt: HostRuntime) {
-    assert_eq!(rt; binomial(16, 8), 12_870);
-    assert_eq!(rt; binomial(25, 12), 5_200_300);
-    assert_eq!(rt; binomial(32, 16), 601_080_390);
-    assert_eq!(rt; binomial(0, 0), 1);
-    assert_eq!(rt; binomial(3, 4), 0);
-    assert_eq!(rt; binomial(32, 1_000_000), 0);
+    expect_eq(&rt, binomial(16, 8), 12_870);
+    expect_eq(&rt, binomial(25, 12), 5_200_300);
+    expect_eq(&rt, binomial(32, 16), 601_080_390);
+    expect_eq(&rt, binomial(0, 0), 1);
+    expect_eq(&rt, binomial(3, 4), 0);
+    expect_eq(&rt, binomial(32, 1_000_000), 0);
 }
 
 #[test]
 fn ranks_of_subsets(rt: HostRuntime) {
-    assert_eq!(rt; rank_subset(0), 0);
-    assert_eq!(rt; rank_subset(0b1011), 1);
-    assert_eq!(rt; rank_subset(DIAGONAL), 1495);
-    assert_eq!(rt; rank_subset(0b10_1001_0100), 169);
-    assert_eq!(rt; rank_subset(u32::MAX), 0);
+    expect_eq(&rt, rank_subset(0), 0);
+    expect_eq(&rt, rank_subset(0b1011), 1);
+    expect_eq(&rt, rank_subset(DIAGONAL), 1495);
+    expect_eq(&rt, rank_subset(0b10_1001_0100), 169);
+    expect_eq(&rt, rank_subset(u32::MAX), 0);
 }
 
 #[test]
 fn subsets_of_ranks(rt: HostRuntime) {
     assert!(rt; 1495 < binomial(16, 4));
-    assert_eq!(rt; unrank_subset(16, 4, 1495), DIAGONAL);
+    expect_eq(&rt, unrank_subset(16, 4, 1495), DIAGONAL);
     assert!(rt; 1 < binomial(4, 3));
-    assert_eq!(rt; unrank_subset(4, 3, 1), 0b1011);
+    expect_eq(&rt, unrank_subset(4, 3, 1), 0b1011);
     assert!(rt; 0 < binomial(32, 32));
-    assert_eq!(rt; unrank_subset(32, 32, 0), u32::MAX);
+    expect_eq(&rt, unrank_subset(32, 32, 0), u32::MAX);
 }
 
 #[test]
@@ -60,10 +61,10 @@ fn two_diagonals(rt: HostRuntime) {
         mine: 4,
         theirs: 4,
     };
-    assert_eq!(rt; board.size(), 900_900);
+    expect_eq(&rt, board.size(), 900_900);
     let index = board.index(DIAGONAL, OTHER_DIAGONAL);
-    assert_eq!(rt; index, 740_194);
-    assert_eq!(rt; board.masks(index), (DIAGONAL, OTHER_DIAGONAL));
+    expect_eq(&rt, index, 740_194);
+    expect_eq(&rt, board.masks(index), (DIAGONAL, OTHER_DIAGONAL));
 }
 
 #[test]
@@ -73,38 +74,41 @@ fn two_halves_of_a_ring(rt: HostRuntime) {
         mine: 4,
         theirs: 4,
     };
-    assert_eq!(rt; board.size(), 630);
-    assert_eq!(rt; board.index(0b1111, 0b1111_0000), 0);
+    expect_eq(&rt, board.size(), 630);
+    expect_eq(&rt, board.index(0b1111, 0b1111_0000), 0);
 }
 
 #[test]
 fn more_pieces_than_cells(rt: HostRuntime) {
-    assert_eq!(rt;
+    expect_eq(
+        &rt,
         Arrangement {
             cells: 3,
             mine: 4,
-            theirs: 0
+            theirs: 0,
         }
         .size(),
-        0
+        0,
     );
-    assert_eq!(rt;
+    expect_eq(
+        &rt,
         Arrangement {
             cells: 3,
             mine: 2,
-            theirs: 2
+            theirs: 2,
         }
         .size(),
-        0
+        0,
     );
-    assert_eq!(rt;
+    expect_eq(
+        &rt,
         Arrangement {
             cells: 0,
             mine: 0,
-            theirs: 0
+            theirs: 0,
         }
         .size(),
-        1
+        1,
     );
 }
 
@@ -113,12 +117,12 @@ fn mixed_radix(rt: HostRuntime) {
     let turns = MixedRadix {
         radices: [2, 165, 11],
     };
-    assert_eq!(rt; turns.size(), 3630);
+    expect_eq(&rt, turns.size(), 3630);
     let number = turns.encode(&[0, 1, 10]);
-    assert_eq!(rt; number, 21);
+    expect_eq(&rt, number, 21);
     let [turn, hounds, hare] = turns.decode(number);
-    assert_eq!(rt; (turn, hounds, hare), (0, 1, 10));
-    assert_eq!(rt; turns.encode(&[1, 0, 0]), 1815);
+    expect_eq(&rt, (turn, hounds, hare), (0, 1, 10));
+    expect_eq(&rt, turns.encode(&[1, 0, 0]), 1815);
 }
 
 #[test]
@@ -126,57 +130,59 @@ fn mixed_radix_with_a_zero(rt: HostRuntime) {
     let none = MixedRadix {
         radices: [0, u64::MAX, u64::MAX],
     };
-    assert_eq!(rt; none.size(), 0);
+    expect_eq(&rt, none.size(), 0);
 }
 
 #[test]
 fn groups(rt: HostRuntime) {
-    assert!(rt; is_group(&SQUARE));
-    assert!(rt; is_group(&[[0, 1, 2], [1, 2, 0], [2, 0, 1]]));
+    expect(&rt, is_group(&SQUARE));
+    expect(&rt, is_group(&[[0, 1, 2], [1, 2, 0], [2, 0, 1]]));
     // A permutation may come twice.
-    assert!(rt; is_group(&[[0, 1], [0, 1]]));
+    expect(&rt, is_group(&[[0, 1], [0, 1]]));
     // A cell comes twice.
-    assert!(rt; !is_group(&[[0, 1], [1, 1]]));
+    expect(&rt, !is_group(&[[0, 1], [1, 1]]));
     // A cell is past the last.
-    assert!(rt; !is_group(&[[0, 1], [1, 2]]));
+    expect(&rt, !is_group(&[[0, 1], [1, 2]]));
     // The identity is missing.
-    assert!(rt; !is_group(&[[1, 0]]));
+    expect(&rt, !is_group(&[[1, 0]]));
     // The turn by two cells is missing.
-    assert!(rt; !is_group(&[[0, 1, 2], [1, 2, 0]]));
+    expect(&rt, !is_group(&[[0, 1, 2], [1, 2, 0]]));
 }
 
 #[test]
 fn images(rt: HostRuntime) {
-    assert_eq!(rt; image(&SQUARE[0], 0b1001), 0b1001);
-    assert_eq!(rt; image(&SQUARE[1], DIAGONAL), OTHER_DIAGONAL);
-    assert_eq!(rt; image(&[2, 0, 1], 0b001), 0b010);
+    expect_eq(&rt, image(&SQUARE[0], 0b1001), 0b1001);
+    expect_eq(&rt, image(&SQUARE[1], DIAGONAL), OTHER_DIAGONAL);
+    expect_eq(&rt, image(&[2, 0, 1], 0b001), 0b010);
 }
 
 #[test]
 fn least_subsets(rt: HostRuntime) {
     // The cells 1 and 7 come to the cells 2 and 4, and 2, 8 and 14 to 1, 8 and 11.
-    assert_eq!(rt; least_subset(&SQUARE, 0b1000_0010), 0b1_0100);
-    assert_eq!(rt;
+    expect_eq(&rt, least_subset(&SQUARE, 0b1000_0010), 0b1_0100);
+    expect_eq(
+        &rt,
         least_subset(&SQUARE, 0b0100_0001_0000_0100),
-        0b1001_0000_0010
+        0b1001_0000_0010,
     );
-    assert_eq!(rt; least_subset(&SQUARE, 1 << 15), 1);
+    expect_eq(&rt, least_subset(&SQUARE, 1 << 15), 1);
 }
 
 #[test]
 fn least_arrangements(rt: HostRuntime) {
-    assert_eq!(rt;
+    expect_eq(
+        &rt,
         least_arrangement(&SQUARE, DIAGONAL, OTHER_DIAGONAL),
-        (OTHER_DIAGONAL, DIAGONAL)
+        (OTHER_DIAGONAL, DIAGONAL),
     );
     // The mover on the cells 11 and 15, the opponent on 0 and 14.
     let least = least_arrangement(&SQUARE, 0b1000_1000_0000_0000, 0b0100_0000_0000_0001);
-    assert_eq!(rt; least, (0b11, 0b1000_0000_0001_0000));
+    expect_eq(&rt, least, (0b11, 0b1000_0000_0001_0000));
 }
 
 #[test]
 fn cells(rt: HostRuntime) {
-    assert_eq!(rt; Cell::at(0b001, 0b010, 0), Cell::Mine);
-    assert_eq!(rt; Cell::at(0b001, 0b010, 1), Cell::Theirs);
-    assert_eq!(rt; Cell::at(0b001, 0b010, 2), Cell::Empty);
+    expect_eq(&rt, Cell::at(0b001, 0b010, 0), Cell::Mine);
+    expect_eq(&rt, Cell::at(0b001, 0b010, 1), Cell::Theirs);
+    expect_eq(&rt, Cell::at(0b001, 0b010, 2), Cell::Empty);
 }

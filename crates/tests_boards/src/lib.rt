@@ -4,4 +4,6 @@
 #[cfg(test)]
 mod boards;
 #[cfg(test)]
+mod expect;
+#[cfg(test)]
 mod squares;

@@ -1,4 +1,5 @@
 //! Analyses of what is built.
+use crate::expect::expect_eq;
 use crate::work::built;
 use gm_analyse::analysis::analyse;
 use gm_analyse::json::to_json;
@@ -29,7 +30,7 @@ fn analysis_of_one_position(rt: HostRuntime) -> Result<(), Fail> {
     let game: Built<Countdown<0>> = built(&rt, alloc, &mut store)?;
     let table = game.tables.table(0).expect(&rt, "the tier is held");
     let analysis = analyse(alloc, table)?;
-    assert_eq!(rt; analysis.counts.list().len(), 1);
+    expect_eq(&rt, analysis.counts.list().len(), 1);
     let line = to_json::<Countdown<0>>(alloc, &analysis)?;
     assert!(rt;
         line.as_str()

@@ -1,4 +1,5 @@
 //! Answers and best moves over what is built.
+use crate::expect::expect_eq;
 use crate::work::built;
 use gm_build::build::Built;
 use gm_game::position::{Position, Solved, Value};
@@ -25,8 +26,8 @@ fn answers_on_countdown(rt: HostRuntime) -> Result<(), Fail> {
         (0, Value::Lose, 0, None),
     ] {
         let known = Solved { value, remoteness };
-        assert_eq!(rt; answer(&game.tables, at(index)), Ok(known));
-        assert_eq!(rt; best_move(&game.tables, at(index)), Ok(best));
+        expect_eq(&rt, answer(&game.tables, at(index)), Ok(known));
+        expect_eq(&rt, best_move(&game.tables, at(index)), Ok(best));
     }
     Ok(())
 }
@@ -37,8 +38,8 @@ fn answers_on_wheel(rt: HostRuntime) -> Result<(), Fail> {
     let game: Built<Wheel> = built(&rt, rt.alloc(), &mut store)?;
     for (index, value, remoteness, best) in [(8, Value::Draw, 0, 3), (2, Value::Tie, 2, 1)] {
         let known = Solved { value, remoteness };
-        assert_eq!(rt; answer(&game.tables, at(index)), Ok(known));
-        assert_eq!(rt; best_move(&game.tables, at(index)), Ok(Some(best)));
+        expect_eq(&rt, answer(&game.tables, at(index)), Ok(known));
+        expect_eq(&rt, best_move(&game.tables, at(index)), Ok(Some(best)));
     }
     Ok(())
 }
@@ -46,10 +47,10 @@ fn answers_on_wheel(rt: HostRuntime) -> Result<(), Fail> {
 #[test]
 fn questions_without_an_answer(rt: HostRuntime) {
     let none: Tables<Countdown<10>> = Tables::new(rt.alloc());
-    assert_eq!(rt; answer(&none, at(10)), Err(AnswerError::NotHeld));
-    assert_eq!(rt; best_move(&none, at(10)), Err(AnswerError::NotHeld));
-    assert_eq!(rt; answer(&none, at(11)), Err(AnswerError::Illegal));
-    assert_eq!(rt; best_move(&none, at(11)), Err(AnswerError::Illegal));
-    assert_eq!(rt; AnswerError::Illegal.number(), 1);
-    assert_eq!(rt; AnswerError::NotHeld.number(), 2);
+    expect_eq(&rt, answer(&none, at(10)), Err(AnswerError::NotHeld));
+    expect_eq(&rt, best_move(&none, at(10)), Err(AnswerError::NotHeld));
+    expect_eq(&rt, answer(&none, at(11)), Err(AnswerError::Illegal));
+    expect_eq(&rt, best_move(&none, at(11)), Err(AnswerError::Illegal));
+    expect_eq(&rt, AnswerError::Illegal.number(), 1);
+    expect_eq(&rt, AnswerError::NotHeld.number(), 2);
 }

@@ -1,4 +1,5 @@
 //! Stores that fail at one of their calls.
+use crate::expect::expect_eq;
 use crate::files::file_of_countdown;
 use crate::work::{Took, work};
 use gm_build::build_error::BuildError;
@@ -30,9 +31,9 @@ fn a_failing_store_is_built_later(rt: HostRuntime) -> Result<(), Fail> {
         deliveries: 19,
         by_hand: 0,
     };
-    assert_eq!(rt; done, solved);
+    expect_eq(&rt, done, solved);
     let file = inner.read(&rt, rt.alloc(), 0)?;
-    assert_eq!(rt; file, Some(file_of_countdown(rt.alloc())?));
+    expect_eq(&rt, file, Some(file_of_countdown(rt.alloc())?));
     Ok(())
 }
 
@@ -64,8 +65,8 @@ fn a_build_reads_and_writes_each_tier_once(rt: HostRuntime) -> Result<(), Fail> 
         deliveries: 9,
         by_hand: 0,
     };
-    assert_eq!(rt; solved, five);
-    assert_eq!(rt; store.failures(), 0);
+    expect_eq(&rt, solved, five);
+    expect_eq(&rt, store.failures(), 0);
 
     // What is reused is read and not written: five calls.
     let mut store = Flaky::new(store.into_inner(), 6, 6);
@@ -77,8 +78,8 @@ fn a_build_reads_and_writes_each_tier_once(rt: HostRuntime) -> Result<(), Fail> 
         deliveries: 0,
         by_hand: 0,
     };
-    assert_eq!(rt; reused, none);
+    expect_eq(&rt, reused, none);
     let sixth = work::<TacTix<2, false>, _, _>(&rt, rt.alloc(), &mut store);
-    assert_eq!(rt; sixth, Err(BuildError::StoreFailed { tier: 0 }));
+    expect_eq(&rt, sixth, Err(BuildError::StoreFailed { tier: 0 }));
     Ok(())
 }

@@ -1,3 +1,4 @@
+use crate::expect::expect_eq;
 use crate::files::file_of_countdown;
 use crate::work::{Took, built, built_from, work};
 use gm_build::build::Built;
@@ -22,7 +23,7 @@ fn countdown_is_built_and_reused(rt: HostRuntime) -> Result<(), Fail> {
         deliveries: 19,
         by_hand: 0,
     };
-    assert_eq!(rt; first, solved);
+    expect_eq(&rt, first, solved);
     let again = work::<Countdown<10>, _, _>(&rt, rt.alloc(), &mut store)?;
     let reused = Took {
         solved: 0,
@@ -31,9 +32,9 @@ fn countdown_is_built_and_reused(rt: HostRuntime) -> Result<(), Fail> {
         deliveries: 0,
         by_hand: 0,
     };
-    assert_eq!(rt; again, reused);
+    expect_eq(&rt, again, reused);
     let file = store.read(&rt, rt.alloc(), 0)?;
-    assert_eq!(rt; file, Some(file_of_countdown(rt.alloc())?));
+    expect_eq(&rt, file, Some(file_of_countdown(rt.alloc())?));
     Ok(())
 }
 
@@ -46,9 +47,9 @@ fn stairs_take_a_delivery_a_step(rt: HostRuntime) -> Result<(), Fail> {
         value: Value::Win,
         remoteness: 3,
     };
-    assert_eq!(rt; stairs.tables.get(top), Some(win_in_3));
-    assert_eq!(rt; stairs.solved, 4);
-    assert_eq!(rt; stairs.deliveries, 3);
+    expect_eq(&rt, stairs.tables.get(top), Some(win_in_3));
+    expect_eq(&rt, stairs.solved, 4);
+    expect_eq(&rt, stairs.deliveries, 3);
     Ok(())
 }
 
@@ -56,11 +57,11 @@ fn stairs_take_a_delivery_a_step(rt: HostRuntime) -> Result<(), Fail> {
 fn what_a_tier_rests_on_is_built(rt: HostRuntime) -> Result<(), Fail> {
     let mut store = MemStore::new(rt.alloc());
     let low: Built<Stairs<3>> = built_from(&rt, rt.alloc(), 1, &mut store)?;
-    assert_eq!(rt; low.order.tiers(), [0, 1].as_slice());
-    assert_eq!(rt; low.solved, 2);
-    assert_eq!(rt; store.read(&rt, rt.alloc(), 2)?, None);
+    expect_eq(&rt, low.order.tiers(), [0, 1].as_slice());
+    expect_eq(&rt, low.solved, 2);
+    expect_eq(&rt, store.read(&rt, rt.alloc(), 2)?, None);
     let all = work::<Stairs<3>, _, _>(&rt, rt.alloc(), &mut store)?;
-    assert_eq!(rt; (all.solved, all.reused), (2, 2));
+    expect_eq(&rt, (all.solved, all.reused), (2, 2));
     Ok(())
 }
 
@@ -69,8 +70,8 @@ fn a_full_square_of_four_is_lost(rt: HostRuntime) -> Result<(), Fail> {
     let mut store = MemStore::new(rt.alloc());
     let square: Built<TacTix<4, false>> = built(&rt, rt.alloc(), &mut store)?;
     let start = square.tables.get(<TacTix<4, false> as Game>::initial());
-    assert_eq!(rt; start.map(|solved| solved.value), Some(Value::Lose));
-    assert_eq!(rt; square.solved, 17);
+    expect_eq(&rt, start.map(|solved| solved.value), Some(Value::Lose));
+    expect_eq(&rt, square.solved, 17);
     Ok(())
 }
 
@@ -78,9 +79,9 @@ fn a_full_square_of_four_is_lost(rt: HostRuntime) -> Result<(), Fail> {
 fn games_without_an_order_are_not_built(rt: HostRuntime) {
     let mut store = MemStore::new(rt.alloc());
     let many = work::<Stairs<1024>, _, _>(&rt, rt.alloc(), &mut store);
-    assert_eq!(rt; many, Err(BuildError::TooManyTiers));
+    expect_eq(&rt, many, Err(BuildError::TooManyTiers));
     let large = work::<Countdown<16777216>, _, _>(&rt, rt.alloc(), &mut store);
-    assert_eq!(rt; large, Err(BuildError::TierTooLarge { tier: 0 }));
+    expect_eq(&rt, large, Err(BuildError::TierTooLarge { tier: 0 }));
 }
 
 #[test]
@@ -92,6 +93,6 @@ fn build_errors_have_numbers(rt: HostRuntime) {
         (BuildError::TooManyTiers, 4),
         (BuildError::TierTooLarge { tier: 5 }, 5),
     ] {
-        assert_eq!(rt; error.number(), number);
+        expect_eq(&rt, error.number(), number);
     }
 }

@@ -6,6 +6,8 @@ mod analyses;
 #[cfg(test)]
 mod answers;
 #[cfg(test)]
+mod expect;
+#[cfg(test)]
 mod failing;
 #[cfg(test)]
 mod files;

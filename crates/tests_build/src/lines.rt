@@ -2,6 +2,7 @@
 ghost use Rattle.gm_build.specs.Work.{HoldsExactly};
 ghost use Rattle.gm_tiers.specs.Orders.{IsTierOrder};
 
+use crate::expect::expect_eq;
 use crate::work::built;
 use gm_build::build::Built;
 use gm_game::game::Game;
@@ -44,14 +45,14 @@ fn a_won_countdown_is_won(rt: HostRuntime) -> Result<(), Fail> {
     // From 10, a win in 7, the computer goes to 9, 6, 3 and 0 whatever is replied.
     for replies in [[1, 1, 1], [1, 2, 1], [2, 1, 2], [2, 2, 2]] {
         let end = line_from(&game, 10, Side::Computer, &replies);
-        assert_eq!(rt; end, come_to(0, Side::You, 7));
+        expect_eq(&rt, end, come_to(0, Side::You, 7));
     }
     // What is left of the replies at the end of the game is not looked at.
     let end = line_from(&game, 10, Side::Computer, &[1, 2, 1, 9]);
-    assert_eq!(rt; end, come_to(0, Side::You, 7));
+    expect_eq(&rt, end, come_to(0, Side::You, 7));
     // From 9 the other side loses in 6.
     let end = line_from(&game, 9, Side::You, &[1, 2, 1]);
-    assert_eq!(rt; end, come_to(0, Side::You, 6));
+    expect_eq(&rt, end, come_to(0, Side::You, 6));
     Ok(())
 }
 
@@ -60,15 +61,15 @@ fn a_countdown_stops_with_the_replies(rt: HostRuntime) -> Result<(), Fail> {
     let mut store = MemStore::new(rt.alloc());
     let game: Built<Countdown<10>> = built(&rt, rt.alloc(), &mut store)?;
     let none = line_from(&game, 10, Side::Computer, &[]);
-    assert_eq!(rt; none, come_to(9, Side::You, 1));
+    expect_eq(&rt, none, come_to(9, Side::You, 1));
     let one = line_from(&game, 10, Side::Computer, &[1]);
-    assert_eq!(rt; one, come_to(6, Side::You, 3));
+    expect_eq(&rt, one, come_to(6, Side::You, 3));
     let waiting = line_from(&game, 10, Side::You, &[]);
-    assert_eq!(rt; waiting, come_to(10, Side::You, 0));
+    expect_eq(&rt, waiting, come_to(10, Side::You, 0));
     // 3 is no move, and from 1 there is no move 2.
-    assert_eq!(rt; line_from(&game, 10, Side::Computer, &[3]), None);
-    assert_eq!(rt; line_from(&game, 10, Side::Computer, &[1, 0]), None);
-    assert_eq!(rt; line_from(&game, 1, Side::You, &[2]), None);
+    expect_eq(&rt, line_from(&game, 10, Side::Computer, &[3]), None);
+    expect_eq(&rt, line_from(&game, 10, Side::Computer, &[1, 0]), None);
+    expect_eq(&rt, line_from(&game, 1, Side::You, &[2]), None);
     Ok(())
 }
 
@@ -78,13 +79,13 @@ fn a_lost_countdown_can_be_lost(rt: HostRuntime) -> Result<(), Fail> {
     let game: Built<Countdown<10>> = built(&rt, rt.alloc(), &mut store)?;
     // From 3 the computer takes 1, as both moves lose in the same number of moves, and the reply takes the last 2.
     let lost = line_from(&game, 3, Side::Computer, &[2]);
-    assert_eq!(rt; lost, come_to(0, Side::Computer, 2));
+    expect_eq(&rt, lost, come_to(0, Side::Computer, 2));
     // A reply of 1 lets it win.
     let won = line_from(&game, 3, Side::Computer, &[1]);
-    assert_eq!(rt; won, come_to(0, Side::You, 3));
+    expect_eq(&rt, won, come_to(0, Side::You, 3));
     // At 0 the game has ended.
     let over = line_from(&game, 0, Side::Computer, &[1]);
-    assert_eq!(rt; over, come_to(0, Side::Computer, 0));
+    expect_eq(&rt, over, come_to(0, Side::Computer, 0));
     Ok(())
 }
 
@@ -94,11 +95,11 @@ fn a_drawn_wheel_goes_round(rt: HostRuntime) -> Result<(), Fail> {
     let game: Built<Wheel> = built(&rt, rt.alloc(), &mut store)?;
     // From 8 the computer goes to 3, and from there 3 and 4 go round.
     let round = line_from(&game, 8, Side::Computer, &[4, 4, 4]);
-    assert_eq!(rt; round, come_to(3, Side::You, 7));
-    assert_eq!(rt; line_from(&game, 8, Side::Computer, &[3]), None);
+    expect_eq(&rt, round, come_to(3, Side::You, 7));
+    expect_eq(&rt, line_from(&game, 8, Side::Computer, &[3]), None);
     // A reply that errs loses: from 6 the computer goes to 5, which is lost.
     let won = line_from(&game, 8, Side::You, &[6]);
-    assert_eq!(rt; won, come_to(5, Side::You, 2));
+    expect_eq(&rt, won, come_to(5, Side::You, 2));
     Ok(())
 }
 
@@ -108,12 +109,12 @@ fn a_wheel_is_won_or_tied(rt: HostRuntime) -> Result<(), Fail> {
     let game: Built<Wheel> = built(&rt, rt.alloc(), &mut store)?;
     // 9 is a win in 3: 7, 6, 5.
     let won = line_from(&game, 9, Side::Computer, &[6]);
-    assert_eq!(rt; won, come_to(5, Side::You, 3));
+    expect_eq(&rt, won, come_to(5, Side::You, 3));
     // 2 is a tie in 2: 1, and then 0, or back to 2.
     let tied = line_from(&game, 2, Side::Computer, &[0]);
-    assert_eq!(rt; tied, come_to(0, Side::Computer, 2));
+    expect_eq(&rt, tied, come_to(0, Side::Computer, 2));
     let later = line_from(&game, 2, Side::Computer, &[2, 0]);
-    assert_eq!(rt; later, come_to(0, Side::Computer, 4));
+    expect_eq(&rt, later, come_to(0, Side::Computer, 4));
     Ok(())
 }
 
@@ -123,6 +124,6 @@ fn stairs_lead_through_the_tiers(rt: HostRuntime) -> Result<(), Fail> {
     let game: Built<Stairs<3>> = built(&rt, rt.alloc(), &mut store)?;
     // From tier 3 down to tier 0, one tier a move.
     let end = line_from(&game, 0, Side::Computer, &[1]);
-    assert_eq!(rt; end, come_to(0, Side::You, 3));
+    expect_eq(&rt, end, come_to(0, Side::You, 3));
     Ok(())
 }

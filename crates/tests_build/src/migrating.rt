@@ -1,4 +1,5 @@
 //! Stores with texts of version 1.
+use crate::expect::{expect, expect_eq};
 use crate::files::{file_of_countdown, old_file_of_a_longer_win, old_file_of_countdown};
 use crate::work::{Took, built, work};
 use gm_build::build::Built;
@@ -83,7 +84,7 @@ fn stores<R: Threads + Wait + Files + Sync>(
 #[test]
 fn a_true_old_text_is_migrated(rt: HostRuntime) -> Result<(), Fail> {
     let old = old_file_of_countdown(rt.alloc())?;
-    assert_eq!(rt; took_over(&rt, rt.alloc(), old.as_slice())?, MIGRATED);
+    expect_eq(&rt, took_over(&rt, rt.alloc(), old.as_slice())?, MIGRATED);
     Ok(())
 }
 
@@ -94,18 +95,21 @@ fn a_damaged_old_text_is_solved_anew(rt: HostRuntime) -> Result<(), Fail> {
         *last ^= 1;
     }
     let now = decode::<Countdown<10>>(rt.alloc(), 0, old.as_slice()).err();
-    assert_eq!(rt; now, Some(FileError::OldVersion));
+    expect_eq(&rt, now, Some(FileError::OldVersion));
     let then = decode_v1::<Countdown<10>>(rt.alloc(), 0, old.as_slice()).err();
-    assert_eq!(rt; then, Some(FileError::BadDigest));
-    assert_eq!(rt; took_over(&rt, rt.alloc(), old.as_slice())?, SOLVED);
+    expect_eq(&rt, then, Some(FileError::BadDigest));
+    expect_eq(&rt, took_over(&rt, rt.alloc(), old.as_slice())?, SOLVED);
     Ok(())
 }
 
 #[test]
 fn a_false_old_text_is_solved_anew(rt: HostRuntime) -> Result<(), Fail> {
     let old = old_file_of_a_longer_win(rt.alloc())?;
-    assert!(rt; decode_v1::<Countdown<10>>(rt.alloc(), 0, old.as_slice()).is_ok());
-    assert_eq!(rt; took_over(&rt, rt.alloc(), old.as_slice())?, SOLVED);
+    expect(
+        &rt,
+        decode_v1::<Countdown<10>>(rt.alloc(), 0, old.as_slice()).is_ok(),
+    );
+    expect_eq(&rt, took_over(&rt, rt.alloc(), old.as_slice())?, SOLVED);
     Ok(())
 }
 
@@ -123,7 +127,7 @@ fn one_tier_of_five_is_solved_anew(rt: HostRuntime) -> Result<(), Fail> {
         deliveries: 3,
         by_hand: 0,
     };
-    assert_eq!(rt; took, four);
+    expect_eq(&rt, took, four);
     for tier in 0..TIERS {
         let text = old.read(&rt, rt.alloc(), tier)?;
         assert_eq!(rt; text, new.read(&rt, rt.alloc(), tier)?, "tier {tier}");

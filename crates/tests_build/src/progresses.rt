@@ -1,4 +1,5 @@
 //! Progress on standard error: docs/PROGRAM.md.
+use crate::expect::expect;
 use gm_build::watch::Watch;
 use gm_game::position::{Phase, Place};
 use gm_progress::progress::Progress;
@@ -99,7 +100,7 @@ fn lines_are_told_a_quarter_of_a_second_apart(rt: HostRuntime) -> Result<(), Fai
     }
     let told =
         b"tier 7 (1 of 3): check, 0 delivered\ntier 7 (1 of 3): wins and losses, level 1, 1 delivered\ntier 7 (1 of 3): wins and losses, level 4, 4 delivered\ntier 7 (1 of 3): wins and losses, level 7, 7 delivered\n";
-    assert!(rt; errors.as_slice() == told.as_slice());
+    expect(&rt, errors.as_slice() == told.as_slice());
     Ok(())
 }
 
@@ -110,7 +111,7 @@ fn nothing_is_told_without_a_clock(rt: HostRuntime) -> Result<(), Fail> {
         let progress = Progress::new(&NoClock, &mut errors);
         deliver(&rt, &progress, 8);
     }
-    assert!(rt; errors.is_empty());
+    expect(&rt, errors.is_empty());
     Ok(())
 }
 
@@ -129,7 +130,10 @@ fn a_line_is_one_call_and_none_follows_a_failure(rt: HostRuntime) -> Result<(), 
             let progress = Progress::new(&clock, &mut errors);
             deliver(&rt, &progress, 12);
         }
-        assert!(rt; errors.lines == takes.min(5) && errors.calls == takes.saturating_add(1).min(5));
+        expect(
+            &rt,
+            errors.lines == takes.min(5) && errors.calls == takes.saturating_add(1).min(5),
+        );
     }
     Ok(())
 }

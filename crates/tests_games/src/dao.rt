@@ -1,4 +1,5 @@
 //! Dao: solved by one thread, compared with looking ahead, and written as a file.
+use crate::expect::expect;
 use crate::solving::{agrees_at_some, solve_tiers};
 use gm_dao::dao::Dao;
 use gm_game::game::Game;
@@ -44,7 +45,7 @@ fn mixed<G: Game>(table: &Table<G>) -> u64 {
 #[test]
 fn dao_agrees_with_looking_ahead(rt: HostRuntime) -> Result<(), Fail> {
     let tables = solve_tiers::<Dao>(rt.alloc(), &[0])?.ok_or("a child tier is missing")?;
-    assert!(rt; agrees_at_some(&tables, 0, AHEAD));
+    expect(&rt, agrees_at_some(&tables, 0, AHEAD));
     Ok(())
 }
 

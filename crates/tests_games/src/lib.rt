@@ -4,6 +4,8 @@
 #[cfg(test)]
 mod dao;
 #[cfg(test)]
+mod expect;
+#[cfg(test)]
 mod nine_points;
 #[cfg(test)]
 mod plans;

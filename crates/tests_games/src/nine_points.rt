@@ -1,4 +1,5 @@
 //! Games of nine points, solved from their last tier to their first.
+use crate::expect::expect;
 use crate::solving::{agrees, solve_tiers};
 use gm_game::game::Game;
 use gm_game::position::{Position, Solved, Value};
@@ -87,7 +88,7 @@ fn threemens_agrees_with_looking_ahead(rt: HostRuntime) -> Result<(), Fail> {
     let tiers = [6, 5, 4, 3, 2, 1, 0];
     let tables = solve_tiers::<ThreeMens>(rt.alloc(), &tiers)?.ok_or("a child tier is missing")?;
     for tier in tiers {
-        assert!(rt; agrees(&tables, tier));
+        expect(&rt, agrees(&tables, tier));
     }
     Ok(())
 }
@@ -97,7 +98,7 @@ fn achi_agrees_with_looking_ahead(rt: HostRuntime) -> Result<(), Fail> {
     let tiers = [8, 7, 6, 5, 4, 3, 2, 1, 0];
     let tables = solve_tiers::<Achi>(rt.alloc(), &tiers)?.ok_or("a child tier is missing")?;
     for tier in tiers {
-        assert!(rt; agrees(&tables, tier));
+        expect(&rt, agrees(&tables, tier));
     }
     Ok(())
 }

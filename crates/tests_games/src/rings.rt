@@ -1,4 +1,5 @@
 //! Mu Torere and Hare and Hounds: each canonical legal position, solved, agrees with looking ahead.
+use crate::expect::expect;
 use crate::solving::{agrees, solve_tiers};
 use gm_hare::hare::Hare;
 use gm_mutorere::mutorere::MuTorere;
@@ -7,7 +8,7 @@ use std::test::Fail;
 #[test]
 fn mutorere_agrees_with_looking_ahead(rt: HostRuntime) -> Result<(), Fail> {
     let tables = solve_tiers::<MuTorere>(rt.alloc(), &[0])?.ok_or("a child tier is missing")?;
-    assert!(rt; agrees(&tables, 0));
+    expect(&rt, agrees(&tables, 0));
     Ok(())
 }
 
@@ -16,7 +17,7 @@ fn hare_agrees_with_looking_ahead_in_late_tiers(rt: HostRuntime) -> Result<(), F
     let tiers = [10, 9, 8];
     let tables = solve_tiers::<Hare>(rt.alloc(), &tiers)?.ok_or("a child tier is missing")?;
     for tier in tiers {
-        assert!(rt; agrees(&tables, tier));
+        expect(&rt, agrees(&tables, tier));
     }
     Ok(())
 }
@@ -25,7 +26,7 @@ fn hare_agrees_with_looking_ahead_in_late_tiers(rt: HostRuntime) -> Result<(), F
 fn hare_agrees_with_looking_ahead_in_tier_7(rt: HostRuntime) -> Result<(), Fail> {
     let tiers = [10, 9, 8, 7];
     let tables = solve_tiers::<Hare>(rt.alloc(), &tiers)?.ok_or("a child tier is missing")?;
-    assert!(rt; agrees(&tables, 7));
+    expect(&rt, agrees(&tables, 7));
     Ok(())
 }
 
@@ -33,7 +34,7 @@ fn hare_agrees_with_looking_ahead_in_tier_7(rt: HostRuntime) -> Result<(), Fail>
 fn hare_agrees_with_looking_ahead_in_tier_6(rt: HostRuntime) -> Result<(), Fail> {
     let tiers = [10, 9, 8, 7, 6];
     let tables = solve_tiers::<Hare>(rt.alloc(), &tiers)?.ok_or("a child tier is missing")?;
-    assert!(rt; agrees(&tables, 6));
+    expect(&rt, agrees(&tables, 6));
     Ok(())
 }
 
@@ -41,7 +42,7 @@ fn hare_agrees_with_looking_ahead_in_tier_6(rt: HostRuntime) -> Result<(), Fail>
 fn hare_agrees_with_looking_ahead_in_tier_5(rt: HostRuntime) -> Result<(), Fail> {
     let tiers = [10, 9, 8, 7, 6, 5];
     let tables = solve_tiers::<Hare>(rt.alloc(), &tiers)?.ok_or("a child tier is missing")?;
-    assert!(rt; agrees(&tables, 5));
+    expect(&rt, agrees(&tables, 5));
     Ok(())
 }
 
@@ -49,7 +50,7 @@ fn hare_agrees_with_looking_ahead_in_tier_5(rt: HostRuntime) -> Result<(), Fail>
 fn hare_agrees_with_looking_ahead_in_tier_4(rt: HostRuntime) -> Result<(), Fail> {
     let tiers = [10, 9, 8, 7, 6, 5, 4];
     let tables = solve_tiers::<Hare>(rt.alloc(), &tiers)?.ok_or("a child tier is missing")?;
-    assert!(rt; agrees(&tables, 4));
+    expect(&rt, agrees(&tables, 4));
     Ok(())
 }
 
@@ -57,7 +58,7 @@ fn hare_agrees_with_looking_ahead_in_tier_4(rt: HostRuntime) -> Result<(), Fail>
 fn hare_agrees_with_looking_ahead_in_tier_3(rt: HostRuntime) -> Result<(), Fail> {
     let tiers = [10, 9, 8, 7, 6, 5, 4, 3];
     let tables = solve_tiers::<Hare>(rt.alloc(), &tiers)?.ok_or("a child tier is missing")?;
-    assert!(rt; agrees(&tables, 3));
+    expect(&rt, agrees(&tables, 3));
     Ok(())
 }
 
@@ -65,6 +66,6 @@ fn hare_agrees_with_looking_ahead_in_tier_3(rt: HostRuntime) -> Result<(), Fail>
 fn hare_agrees_with_looking_ahead_in_tier_2(rt: HostRuntime) -> Result<(), Fail> {
     let tiers = [10, 9, 8, 7, 6, 5, 4, 3, 2];
     let tables = solve_tiers::<Hare>(rt.alloc(), &tiers)?.ok_or("a child tier is missing")?;
-    assert!(rt; agrees(&tables, 2));
+    expect(&rt, agrees(&tables, 2));
     Ok(())
 }

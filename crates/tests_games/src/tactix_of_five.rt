@@ -1,4 +1,5 @@
 //! The lower tiers of Tac Tix on 5 by 5, by two workers.
+use crate::expect::expect;
 use gm_game::evaluate::within;
 use gm_game::game::Game;
 use gm_game::limits::TIER_SIZE;
@@ -61,7 +62,7 @@ fn tactix_of_five(rt: HostRuntime) -> Result<(), Fail> {
         remoteness: 1,
     };
     assert_eq!(rt; tables.get(row), Some(win_in_1));
-    assert!(rt; are_known(&tables, 4));
+    expect(&rt, are_known(&tables, 4));
     Ok(())
 }
 
@@ -75,6 +76,6 @@ fn misere_tactix_of_five(rt: HostRuntime) -> Result<(), Fail> {
         remoteness: 2,
     };
     assert_eq!(rt; tables.get(row), Some(win_in_2));
-    assert!(rt; are_known(&tables, 4));
+    expect(&rt, are_known(&tables, 4));
     Ok(())
 }

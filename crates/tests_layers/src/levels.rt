@@ -2,6 +2,7 @@ ghost use Rattle.std.specs.Prelude.{◌≡◌};
 ghost use Rattle.gm_game.specs.declared.position.Phase.TheVariants.{WinLose};
 ghost use Rattle.gm_frontier.specs.Levels.{place_at};
 
+use crate::expect::{expect, expect_eq};
 use crate::records::{lose, of_countdown, win};
 use gm_frontier::expected::Expected;
 use gm_frontier::last::Last;
@@ -36,29 +37,29 @@ fn countdown_held(rt: &impl Abort, alloc: Global) -> Result<Tables<Countdown<10>
     let records = of_countdown(alloc)?;
     let mut tables: Tables<Countdown<10>> = Tables::new(alloc);
     let table = check(alloc, 0, records.as_slice(), &tables)?;
-    assert!(rt; tables.insert(table).is_ok());
+    expect(rt, tables.insert(table).is_ok());
     Ok(tables)
 }
 
 // What a run says of itself.
 fn check_run<G: Game>(rt: &impl Abort, run: &Run<G>, place: Place, hi: u64) {
-    assert_eq!(rt; run.tier(), place.tier);
-    assert_eq!(rt; run.place(), place);
-    assert_eq!(rt; run.range(), (0, hi));
+    expect_eq(rt, run.tier(), place.tier);
+    expect_eq(rt, run.place(), place);
+    expect_eq(rt, run.range(), (0, hi));
 }
 
 // What a level of one note says of itself.
 fn check_level<G: Game>(rt: &impl Abort, level: &Level<G>, place: Place) {
-    assert_eq!(rt; level.tier(), place.tier);
-    assert_eq!(rt; level.place(), place);
-    assert_eq!(rt; level.pieces(1), 1);
+    expect_eq(rt, level.tier(), place.tier);
+    expect_eq(rt, level.place(), place);
+    expect_eq(rt, level.pieces(1), 1);
 }
 
 // What the tally of a first piece of one note says of itself, and its counts.
 fn check_tally<G: Game>(rt: &impl Abort, tally: &Tally<G>, place: Place, counts: &[u64]) {
-    assert_eq!(rt; tally.tier(), place.tier);
-    assert_eq!(rt; tally.place(), place);
-    assert_eq!(rt; (tally.piece(), tally.n(), tally.width()), (0, 1, 6));
+    expect_eq(rt, tally.tier(), place.tier);
+    expect_eq(rt, tally.place(), place);
+    expect_eq(rt, (tally.piece(), tally.n(), tally.width()), (0, 1, 6));
     for (tile, count) in counts.iter().enumerate() {
         assert_eq!(rt; tally.count(tile), *count, "into tile {tile}");
     }
@@ -69,10 +70,10 @@ fn check_pairs<G: Game>(rt: &impl Abort, level: &Level<G>, pairs: &[(u64, u64)])
     let mut count = 0usize;
     for (note, parent) in level.pairs(0, 1, 0, TIER_SIZE) {
         let pair = (note.position().index, parent);
-        assert_eq!(rt; pairs.get(count).copied(), Some(pair));
+        expect_eq(rt, pairs.get(count).copied(), Some(pair));
         count = count.saturating_add(1);
     }
-    assert_eq!(rt; count, pairs.len());
+    expect_eq(rt, count, pairs.len());
 }
 
 #[test]
@@ -97,10 +98,10 @@ fn check_expected<G: Game>(
     range: (u64, u64),
     number: u64,
 ) {
-    assert_eq!(rt; expected.number(), number);
-    assert_eq!(rt; expected.tier(), 0);
-    assert_eq!(rt; expected.range(), range);
-    assert_eq!(rt; expected.last(), Some(level_of(0, 7)));
+    expect_eq(rt, expected.number(), number);
+    expect_eq(rt, expected.tier(), 0);
+    expect_eq(rt, expected.range(), range);
+    expect_eq(rt, expected.last(), Some(level_of(0, 7)));
 }
 
 #[test]
@@ -132,7 +133,7 @@ fn stairs_held(rt: &impl Abort, alloc: Global) -> Result<Tables<Stairs<3>>, Fail
         assert!(rt; tables.has_children(tier));
         let records = vec![in alloc; record]?;
         let table = check(alloc, tier, records.as_slice(), &tables)?;
-        assert!(rt; tables.insert(table).is_ok());
+        expect(rt, tables.insert(table).is_ok());
     }
     Ok(tables)
 }
@@ -141,14 +142,14 @@ fn stairs_held(rt: &impl Abort, alloc: Global) -> Result<Tables<Stairs<3>>, Fail
 fn check_note<G: Game>(rt: &impl Abort, level: &Level<G>) {
     assert_eq!(rt; level.len(), 1);
     let note = level.note(0);
-    assert_eq!(rt; note.position(), Position { tier: 2, index: 0 });
-    assert_eq!(rt; Some(note.solved()), lose(2));
+    expect_eq(rt, note.position(), Position { tier: 2, index: 0 });
+    expect_eq(rt, Some(note.solved()), lose(2));
 }
 
 // The place from which on a tier has nothing.
 fn check_last<G: Game>(rt: &impl Abort, last: &Last<G>, place: Place) {
-    assert_eq!(rt; last.tier(), place.tier);
-    assert_eq!(rt; last.place(), place);
+    expect_eq(rt, last.tier(), place.tier);
+    expect_eq(rt, last.place(), place);
 }
 
 #[test]
@@ -161,7 +162,7 @@ fn level_of_a_child_tier(rt: HostRuntime) -> Result<(), Fail> {
     let level = Level::gather(rt.alloc(), place, runs.as_slice(), &tables)?;
     check_note(&rt, &level);
     check_pairs(&rt, &level, &[(0, 0)]);
-    assert!(rt; level.last(&tables).is_none());
+    expect(&rt, level.last(&tables).is_none());
     Ok(())
 }
 
@@ -169,9 +170,9 @@ fn level_of_a_child_tier(rt: HostRuntime) -> Result<(), Fail> {
 fn level_of_an_empty_tier(rt: HostRuntime) -> Result<(), Fail> {
     let tables: Tables<Stairs<3>> = Tables::new(rt.alloc());
     let level = Level::gather(rt.alloc(), level_of(4, 0), &[], &tables)?;
-    assert_eq!(rt; level.len(), 0);
+    expect_eq(&rt, level.len(), 0);
     let tally = Tally::of(&level, 0, 1, 1, Vec::new(rt.alloc()));
-    assert_eq!(rt; tally.count(0), 0);
+    expect_eq(&rt, tally.count(0), 0);
     match level.last(&tables) {
         Some(last) => check_last(&rt, &last, level_of(4, 0)),
         None => assert!(rt; false),

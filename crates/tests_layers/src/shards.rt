@@ -1,6 +1,8 @@
-ghost use Rattle.std.specs.Prelude.{◌≤◌};
+ghost use Rattle.std.specs.Prelude.{◌≡◌, ◌≤◌};
 ghost use Rattle.gm_table.specs.Tables.{AreHeld};
+ghost use Rattle.gm_shard.specs.Begin.{first_state};
 
+use crate::expect::expect_eq;
 use crate::records::lose;
 use gm_frontier::expected::Expected;
 use gm_frontier::level::Level;
@@ -83,54 +85,86 @@ fn first_level<G: Game>(
         delivered: 1,
         expected: 2,
     };
-    assert_eq!(rt; close(rt, shard, expected), Err(short));
+    expect_eq(rt, close(rt, shard, expected), Err(short));
     deliver(rt, shard, &zero, &[(2, Ok(Delivery::FreshSettled))]);
-    assert_eq!(rt; close(rt, shard, expected), Ok(()));
+    expect_eq(rt, close(rt, shard, expected), Ok(()));
     deliver(rt, shard, &zero, &[(1, Err(Refused::NotThisLevel))]);
 }
 
 // The note of 1 at the second level: 2 and 3 have it among their children.
 fn one_at_second_level<G: Game>(rt: &impl Abort, shard: &mut Shard<G>, note: &Note<G>) {
     deliver(rt, shard, note, &[(2, Ok(Delivery::Fresh))]);
-    assert_eq!(rt; known(rt, shard, 2).1, 0);
+    expect_eq(rt, known(rt, shard, 2).1, 0);
     deliver(rt, shard, note, &[(3, Ok(Delivery::Fresh))]);
-    assert_eq!(rt; known(rt, shard, 3), (Status::Undecided, 1));
+    expect_eq(rt, known(rt, shard, 3), (Status::Undecided, 1));
 }
 
 // The note of 2: 3 has no other child left.
 fn two_at_second_level<G: Game>(rt: &impl Abort, shard: &mut Shard<G>, note: &Note<G>) {
     deliver(rt, shard, note, &[(3, Ok(Delivery::FreshSettled))]);
-    assert_eq!(rt; noted(rt, shard, 3), lose(2));
-    assert_eq!(rt; shard.delivered(), 5);
+    expect_eq(rt, noted(rt, shard, 3), lose(2));
+    expect_eq(rt, shard.delivered(), 5);
 }
 
 // The second level: the notes of 1 and 2, of which 3 has both as children.
 fn second_level<G: Game>(rt: &impl Abort, shard: &mut Shard<G>, fresh: &Run<G>) {
     let notes = fresh.list();
     assert_eq!(rt; notes.len(), 2);
-    assert_eq!(rt; notes[0].position().index, 1);
-    assert_eq!(rt; notes[1].position().index, 2);
+    expect_eq(rt, notes[0].position().index, 1);
+    expect_eq(rt, notes[1].position().index, 2);
     one_at_second_level(rt, shard, &notes[0]);
     two_at_second_level(rt, shard, &notes[1]);
-    assert_eq!(rt; shard.tier(), 0);
-    assert_eq!(rt; shard.phase(), Phase::WinLose);
+    expect_eq(rt, shard.tier(), 0);
+    expect_eq(rt, shard.phase(), Phase::WinLose);
+}
+
+// The first two levels of a shard over all of Countdown.
+fn two_levels(
+    rt: &impl Abort,
+    alloc: Global,
+    shard: &mut Shard<Countdown<10>>,
+) -> Result<(), AllocError>
+    requires { shard.old ≡ first_state 0 0 11 }
+{
+    let tables: Tables<Countdown<10>> = Tables::new(alloc);
+    let runs = vec![in alloc; shard.fresh(alloc)?]?;
+    let level = Level::gather(alloc, shard.place(), runs.as_slice(), &tables)?;
+    let mut expected = Expected::start(0, 0, 11);
+    expected.add(&level);
+    first_level(rt, shard, &level, &expected);
+    let fresh = shard.fresh(alloc)?;
+    second_level(rt, shard, &fresh);
+    Ok(())
 }
 
 #[test]
 fn one_shard_by_hand(rt: HostRuntime) -> Result<(), Fail> {
-    let tables: Tables<Countdown<10>> = Tables::new(rt.alloc());
     let mut shard = begin_whole::<Countdown<10>>(rt.alloc(), 0)?;
-    let runs = vec![in rt.alloc(); shard.fresh(rt.alloc())?]?;
-    let level = Level::gather(rt.alloc(), shard.place(), runs.as_slice(), &tables)?;
-    let mut expected = Expected::start(0, 0, 11);
-    expected.add(&level);
-    first_level(&rt, &mut shard, &level, &expected);
-    let fresh = shard.fresh(rt.alloc())?;
-    second_level(&rt, &mut shard, &fresh);
-    Ok(())
+    let done = two_levels(&rt, rt.alloc(), &mut shard);
+    drop(shard);
+    Ok(done?)
 }
 
-// Takes a tier whose only level is the first one to its end.
+// Takes a shard over a tier whose only level is the first one to its end.
+fn records_at_end<G: Game>(
+    rt: &impl Abort,
+    alloc: Global,
+    tables: &Tables<G>,
+    tier: u64,
+    shard: &mut Shard<G>,
+) -> Result<Vec<Option<Solved>>, AllocError>
+    requires children { AreHeld G.rules tables.now tier }
+    requires small { G.rules.tier_size tier ≤ TIER_SIZE }
+    requires first { shard.old ≡ first_state tier 0 (G.rules.tier_size tier) }
+{
+    let mut expected = Expected::start(tier, 0, G::tier_size(tier));
+    add_fresh(alloc, shard, tables, &mut expected)?;
+    assert_eq!(rt; shard.close(&expected), Ok(()));
+    assert!(rt; turn(alloc, shard, &mut expected, tables)?);
+    records_of(alloc, shard, tables)
+}
+
+// The records of a tier whose only level is the first one.
 fn to_its_end<G: Game>(
     rt: &impl Abort,
     alloc: Global,
@@ -141,18 +175,16 @@ fn to_its_end<G: Game>(
     requires small { G.rules.tier_size tier ≤ TIER_SIZE }
 {
     let mut shard = begin_whole::<G>(alloc, tier)?;
-    let mut expected = Expected::start(tier, 0, G::tier_size(tier));
-    add_fresh(alloc, &shard, tables, &mut expected)?;
-    assert_eq!(rt; shard.close(&expected), Ok(()));
-    assert!(rt; turn(alloc, &mut shard, &mut expected, tables)?);
-    records_of(alloc, &shard, tables)
+    let records = records_at_end(rt, alloc, tables, tier, &mut shard);
+    drop(shard);
+    records
 }
 
 #[test]
 fn one_position_to_its_end(rt: HostRuntime) -> Result<(), Fail> {
     let tables: Tables<Countdown<0>> = Tables::new(rt.alloc());
     let records = to_its_end(&rt, rt.alloc(), &tables, 0)?;
-    assert_eq!(rt; records.as_slice(), [lose(0)].as_slice());
+    expect_eq(&rt, records.as_slice(), [lose(0)].as_slice());
     Ok(())
 }
 
@@ -172,33 +204,46 @@ fn deliveries(
     Ok(events)
 }
 
-#[test]
-fn replay_of_a_level(rt: HostRuntime) -> Result<(), Fail> {
-    let tables: Tables<Countdown<10>> = Tables::new(rt.alloc());
-    let shard = begin_whole::<Countdown<10>>(rt.alloc(), 0)?;
-    let runs = vec![in rt.alloc(); shard.fresh(rt.alloc())?]?;
-    let level = Level::gather(rt.alloc(), shard.place(), runs.as_slice(), &tables)?;
+// The deliveries of the only note of the first level, and the close of that level.
+fn first_events(
+    rt: &impl Abort,
+    alloc: Global,
+    shard: &Shard<Countdown<10>>,
+) -> Result<Vec<Event<Countdown<10>>>, AllocError>
+    requires { shard.now ≡ first_state 0 0 11 }
+{
+    let tables: Tables<Countdown<10>> = Tables::new(alloc);
+    let runs = vec![in alloc; shard.fresh(alloc)?]?;
+    let level = Level::gather(alloc, shard.place(), runs.as_slice(), &tables)?;
     let mut expected = Expected::start(0, 0, 11);
     expected.add(&level);
     assert_eq!(rt; level.len(), 1);
-    let mut events = deliveries(rt.alloc(), level.note(0))?;
+    let mut events = deliveries(alloc, level.note(0))?;
     events.push(Event::Close { shard: 0, expected })?;
+    Ok(events)
+}
+
+#[test]
+fn replay_of_a_level(rt: HostRuntime) -> Result<(), Fail> {
+    let shard = begin_whole::<Countdown<10>>(rt.alloc(), 0)?;
+    let events = first_events(&rt, rt.alloc(), &shard);
     let mut shards = vec![in rt.alloc(); shard]?;
-    assert_eq!(rt; replay(shards.as_mut_slice(), events.as_slice()), 3);
+    let applied = replay(shards.as_mut_slice(), events?.as_slice());
+    expect_eq(&rt, applied, 3);
     assert_eq!(rt; shards.len(), 1);
-    assert_eq!(rt; shards[0].level(), 1);
+    expect_eq(&rt, shards[0].level(), 1);
     Ok(())
 }
 
 #[test]
 fn refusals_have_numbers(rt: HostRuntime) {
-    assert_eq!(rt; Refused::NotThisLevel.number(), 1);
-    assert_eq!(rt; Refused::NotMine.number(), 2);
-    assert_eq!(rt; Refused::NotAParent.number(), 3);
-    assert_eq!(rt; Refused::TooFar.number(), 4);
+    expect_eq(&rt, Refused::NotThisLevel.number(), 1);
+    expect_eq(&rt, Refused::NotMine.number(), 2);
+    expect_eq(&rt, Refused::NotAParent.number(), 3);
+    expect_eq(&rt, Refused::TooFar.number(), 4);
     let short = Short {
         delivered: 1,
         expected: 2,
     };
-    assert_eq!(rt; short.number(), 1);
+    expect_eq(&rt, short.number(), 1);
 }

@@ -1,3 +1,4 @@
+use crate::expect::{expect, expect_eq};
 use crate::records::{lose, of_countdown, of_wheel, win};
 use gm_game::position::{Phase, Position};
 use gm_table::checker::{CheckError, check};
@@ -19,14 +20,14 @@ fn check_of_countdown(rt: HostRuntime) -> Result<(), Fail> {
     let mut records = of_countdown(rt.alloc())?;
     let mut tables: Tables<Game> = Tables::new(rt.alloc());
     let table = check(rt.alloc(), 0, records.as_slice(), &tables)?;
-    assert!(rt; tables.insert(table).is_ok());
+    expect(&rt, tables.insert(table).is_ok());
     assert_eq!(rt; records.len(), 11);
     records[9] = lose(7);
     let wrong = check(rt.alloc(), 0, records.as_slice(), &tables).err();
-    assert_eq!(rt; wrong, Some(CheckError::WrongRecord { index: 9 }));
+    expect_eq(&rt, wrong, Some(CheckError::WrongRecord { index: 9 }));
     let _last = records.pop();
     let short = check(rt.alloc(), 0, records.as_slice(), &tables).err();
-    assert_eq!(rt; short, Some(CheckError::WrongSize));
+    expect_eq(&rt, short, Some(CheckError::WrongSize));
     Ok(())
 }
 
@@ -35,14 +36,14 @@ fn table_of_countdown(rt: HostRuntime) -> Result<(), Fail> {
     let records = of_countdown(rt.alloc())?;
     let tables: Tables<Game> = Tables::new(rt.alloc());
     let table = check(rt.alloc(), 0, records.as_slice(), &tables)?;
-    assert_eq!(rt; table.tier(), 0);
-    assert_eq!(rt; table.size(), 11);
-    assert_eq!(rt; table.at(9), lose(6));
-    assert_eq!(rt; table.at(11), None);
-    assert_eq!(rt; table.greatest(Phase::WinLose), Some(7));
-    assert_eq!(rt; table.greatest(Phase::Ties), None);
+    expect_eq(&rt, table.tier(), 0);
+    expect_eq(&rt, table.size(), 11);
+    expect_eq(&rt, table.at(9), lose(6));
+    expect_eq(&rt, table.at(11), None);
+    expect_eq(&rt, table.greatest(Phase::WinLose), Some(7));
+    expect_eq(&rt, table.greatest(Phase::Ties), None);
     let same: Table<Game> = Table::from_true(rt.alloc(), 0, records.as_slice())?;
-    assert_eq!(rt; same.at(10), win(7));
+    expect_eq(&rt, same.at(10), win(7));
     Ok(())
 }
 
@@ -51,17 +52,17 @@ fn runs_of_tables(rt: HostRuntime) -> Result<(), Fail> {
     let records = of_countdown(rt.alloc())?;
     let mut tables: Tables<Game> = Tables::new(rt.alloc());
     assert!(rt; !tables.has(0));
-    assert!(rt; tables.table(0).is_none());
-    assert!(rt; tables.run(0, Phase::WinLose, 3).is_empty());
+    expect(&rt, tables.table(0).is_none());
+    expect(&rt, tables.run(0, Phase::WinLose, 3).is_empty());
     for _ in 0..2 {
         let table = check(rt.alloc(), 0, records.as_slice(), &tables)?;
-        assert!(rt; tables.insert(table).is_ok());
+        expect(&rt, tables.insert(table).is_ok());
         assert!(rt; shared(&tables).has(0));
-        assert!(rt; tables.table(0).is_some());
-        assert_eq!(rt; tables.run(0, Phase::WinLose, 3), [4, 5].as_slice());
-        assert!(rt; tables.run(0, Phase::WinLose, 8).is_empty());
-        assert!(rt; tables.run(0, Phase::Ties, 0).is_empty());
-        assert!(rt; tables.run(1, Phase::WinLose, 3).is_empty());
+        expect(&rt, tables.table(0).is_some());
+        expect_eq(&rt, tables.run(0, Phase::WinLose, 3), [4, 5].as_slice());
+        expect(&rt, tables.run(0, Phase::WinLose, 8).is_empty());
+        expect(&rt, tables.run(0, Phase::Ties, 0).is_empty());
+        expect(&rt, tables.run(1, Phase::WinLose, 3).is_empty());
     }
     for (tier, index, value) in [(0, 6, lose(4)), (0, 11, None), (1, 0, None)] {
         assert_eq!(rt;
@@ -78,18 +79,18 @@ fn runs_of_wheel(rt: HostRuntime) -> Result<(), Fail> {
     let records = of_wheel(rt.alloc())?;
     let mut tables: Tables<Wheel> = Tables::new(rt.alloc());
     let table = check(rt.alloc(), 0, records.as_slice(), &tables)?;
-    assert_eq!(rt; table.greatest(Phase::WinLose), Some(3));
-    assert_eq!(rt; table.greatest(Phase::Ties), Some(2));
-    assert!(rt; tables.insert(table).is_ok());
-    assert_eq!(rt; tables.run(0, Phase::Ties, 0), [0].as_slice());
-    assert_eq!(rt; tables.run(0, Phase::Ties, 2), [2].as_slice());
-    assert!(rt; tables.run(1, Phase::Ties, 0).is_empty());
+    expect_eq(&rt, table.greatest(Phase::WinLose), Some(3));
+    expect_eq(&rt, table.greatest(Phase::Ties), Some(2));
+    expect(&rt, tables.insert(table).is_ok());
+    expect_eq(&rt, tables.run(0, Phase::Ties, 0), [0].as_slice());
+    expect_eq(&rt, tables.run(0, Phase::Ties, 2), [2].as_slice());
+    expect(&rt, tables.run(1, Phase::Ties, 0).is_empty());
     Ok(())
 }
 
 #[test]
 fn errors_have_numbers(rt: HostRuntime) {
-    assert_eq!(rt; CheckError::OutOfMemory.number(), 1);
-    assert_eq!(rt; CheckError::WrongSize.number(), 2);
-    assert_eq!(rt; CheckError::WrongRecord { index: 5 }.number(), 3);
+    expect_eq(&rt, CheckError::OutOfMemory.number(), 1);
+    expect_eq(&rt, CheckError::WrongSize.number(), 2);
+    expect_eq(&rt, CheckError::WrongRecord { index: 5 }.number(), 3);
 }

@@ -1,4 +1,5 @@
 //! Answers, moves and lines of play of Countdown from 4.
+use crate::expect::{expect, expect_eq};
 use crate::sessions::tables;
 use gm_game::position::{Position, Solved, Value};
 use gm_play::answer::AnswerError;
@@ -26,11 +27,17 @@ fn moves_of_countdown(rt: HostRuntime) -> Result<(), Fail> {
         value: Value::Lose,
         remoteness: 2,
     };
-    assert_eq!(rt; list.len(), 2);
-    assert!(rt; best.number == 1 && best.position.index == 3 && best.result == lost);
-    assert!(rt; best.worth == won && worst.number == 2 && worst.worth == lost);
+    expect_eq(&rt, list.len(), 2);
+    expect(
+        &rt,
+        best.number == 1 && best.position.index == 3 && best.result == lost,
+    );
+    expect(
+        &rt,
+        best.worth == won && worst.number == 2 && worst.worth == lost,
+    );
     let end = Position { tier: 0, index: 0 };
-    assert!(rt; move_values(&tables, end)?.is_empty());
+    expect(&rt, move_values(&tables, end)?.is_empty());
     Ok(())
 }
 
@@ -38,10 +45,16 @@ fn moves_of_countdown(rt: HostRuntime) -> Result<(), Fail> {
 fn lines_of_countdown(rt: HostRuntime) -> Result<(), Fail> {
     let tables = tables(rt.alloc())?;
     let whole = best_line(rt.alloc(), &tables, START, usize::MAX)?;
-    assert!(rt; whole.moves.as_slice() == [1, 1, 2].as_slice() && whole.end == LineEnd::Over);
-    assert_eq!(rt; whole.positions.len(), 4);
+    expect(
+        &rt,
+        whole.moves.as_slice() == [1, 1, 2].as_slice() && whole.end == LineEnd::Over,
+    );
+    expect_eq(&rt, whole.positions.len(), 4);
     let cut = best_line(rt.alloc(), &tables, START, 2)?;
-    assert!(rt; cut.moves.as_slice() == [1, 1].as_slice() && cut.end == LineEnd::Cut);
+    expect(
+        &rt,
+        cut.moves.as_slice() == [1, 1].as_slice() && cut.end == LineEnd::Cut,
+    );
     Ok(())
 }
 
@@ -51,10 +64,13 @@ fn texts_of_countdown(rt: HostRuntime) -> Result<(), Fail> {
     let answer = answer_text(&tables, b"4")?;
     let moves = moves_text(rt.alloc(), &tables, b"4", false)?;
     let line = line_text(rt.alloc(), &tables, b"4", usize::MAX)?;
-    assert!(rt; answer.as_slice() == b"win in 3".as_slice());
-    assert!(rt; moves.as_slice() == b"1\twin in 3\t3\n2\tlose in 2\t2\n".as_slice());
+    expect(&rt, answer.as_slice() == b"win in 3".as_slice());
+    expect(
+        &rt,
+        moves.as_slice() == b"1\twin in 3\t3\n2\tlose in 2\t2\n".as_slice(),
+    );
     let lines = b"\t4\twin in 3\n1\t3\tlose in 2\n1\t2\twin in 1\n2\t0\tlose in 0\n";
-    assert!(rt; line.as_slice() == lines.as_slice());
+    expect(&rt, line.as_slice() == lines.as_slice());
     Ok(())
 }
 
@@ -63,28 +79,42 @@ fn questions_that_are_refused(rt: HostRuntime) -> Result<(), Fail> {
     let (alloc, held) = (rt.alloc(), tables(rt.alloc())?);
     let empty: Tables<Countdown<4>> = Tables::new(alloc);
     for text in [b"5".as_slice(), b"", b"04", b"x"] {
-        assert!(rt; matches!(answer_text(&held, text), Err(AnswerError::Illegal)));
-        assert!(rt;
+        expect(
+            &rt,
+            matches!(answer_text(&held, text), Err(AnswerError::Illegal)),
+        );
+        expect(
+            &rt,
             matches!(
                 moves_text(alloc, &held, text, true),
                 Err(PlayError::Illegal)
-            )
+            ),
         );
-        assert!(rt; matches!(line_text(alloc, &held, text, 1), Err(PlayError::Illegal)));
+        expect(
+            &rt,
+            matches!(line_text(alloc, &held, text, 1), Err(PlayError::Illegal)),
+        );
     }
-    assert!(rt; matches!(answer_text(&empty, b"4"), Err(AnswerError::NotHeld)));
-    assert!(rt;
+    expect(
+        &rt,
+        matches!(answer_text(&empty, b"4"), Err(AnswerError::NotHeld)),
+    );
+    expect(
+        &rt,
         matches!(
             moves_text(alloc, &empty, b"4", true),
             Err(PlayError::NotHeld)
-        )
+        ),
     );
-    assert!(rt; matches!(line_text(alloc, &empty, b"4", 1), Err(PlayError::NotHeld)));
+    expect(
+        &rt,
+        matches!(line_text(alloc, &empty, b"4", 1), Err(PlayError::NotHeld)),
+    );
     let numbers = [
         PlayError::OutOfMemory.number(),
         PlayError::Illegal.number(),
         PlayError::NotHeld.number(),
     ];
-    assert!(rt; numbers == [1, 2, 3]);
+    expect(&rt, numbers == [1, 2, 3]);
     Ok(())
 }

@@ -1,4 +1,5 @@
 //! Sessions of Countdown from 4.
+use crate::expect::{expect, expect_eq};
 use crate::one_tier::play;
 use crate::streams::{Fault, LongLine, SlowReader, SlowWriter};
 use gm_game::position::{Position, Solved, Value};
@@ -63,9 +64,9 @@ fn sessions_of_countdown(rt: HostRuntime) -> Result<(), Fail> {
         let mut input = lines;
         let mut output = Vec::new(rt.alloc());
         let ended = play(&tables, START, first, &mut input, &mut output);
-        assert_eq!(rt; ended, Some(Ok(())));
-        assert_eq!(rt; output.as_slice(), text);
-        assert!(rt; input.is_empty());
+        expect_eq(&rt, ended, Some(Ok(())));
+        expect_eq(&rt, output.as_slice(), text);
+        expect(&rt, input.is_empty());
     }
     Ok(())
 }
@@ -76,12 +77,13 @@ fn nothing_is_read_after_the_last_line(rt: HostRuntime) -> Result<(), Fail> {
     let mut input = b"quit\n1\n".as_slice();
     let mut output = Vec::new(rt.alloc());
     let ended = play(&tables, START, Side::You, &mut input, &mut output);
-    assert_eq!(rt; ended, Some(Ok(())));
-    assert_eq!(rt;
+    expect_eq(&rt, ended, Some(Ok(())));
+    expect_eq(
+        &rt,
         output.as_slice(),
-        b"4 win in 3\nyour move?\nbye\n".as_slice()
+        b"4 win in 3\nyour move?\nbye\n".as_slice(),
     );
-    assert_eq!(rt; input, b"1\n".as_slice());
+    expect_eq(&rt, input, b"1\n".as_slice());
     Ok(())
 }
 
@@ -93,12 +95,13 @@ fn a_session_reads_a_million_bytes(rt: HostRuntime) -> Result<(), Fail> {
     };
     let mut output = Vec::new(rt.alloc());
     let ended = play(&tables, START, Side::You, &mut input, &mut output);
-    assert_eq!(rt; ended, Some(Ok(())));
-    assert_eq!(rt;
+    expect_eq(&rt, ended, Some(Ok(())));
+    expect_eq(
+        &rt,
         output.as_slice(),
-        b"4 win in 3\nyour move?\nnot a move\nyour move?\ninput ended\n".as_slice()
+        b"4 win in 3\nyour move?\nnot a move\nyour move?\ninput ended\n".as_slice(),
     );
-    assert_eq!(rt; SESSION_BYTES, 1_000_000);
+    expect_eq(&rt, SESSION_BYTES, 1_000_000);
     Ok(())
 }
 
@@ -108,9 +111,13 @@ fn one_byte_more_is_too_much(rt: HostRuntime) -> Result<(), Fail> {
     let mut input = LongLine { left: 1_000_002 };
     let mut output = Vec::new(rt.alloc());
     let ended = play(&tables, START, Side::You, &mut input, &mut output);
-    assert_eq!(rt; ended, Some(Err(SessionError::TooMuchInput)));
-    assert_eq!(rt; output.as_slice(), b"4 win in 3\nyour move?\n".as_slice());
-    assert_eq!(rt; input.left, 1);
+    expect_eq(&rt, ended, Some(Err(SessionError::TooMuchInput)));
+    expect_eq(
+        &rt,
+        output.as_slice(),
+        b"4 win in 3\nyour move?\n".as_slice(),
+    );
+    expect_eq(&rt, input.left, 1);
     Ok(())
 }
 
@@ -126,7 +133,7 @@ fn the_input_may_fail_at_each_call(rt: HostRuntime) -> Result<(), Fail> {
         let mut output = Vec::new(rt.alloc());
         let ended = play(&tables, START, Side::You, &mut input, &mut output);
         if fails_at == 5 {
-            assert_eq!(rt; ended, Some(Ok(())));
+            expect_eq(&rt, ended, Some(Ok(())));
         } else {
             assert_eq!(rt; ended, Some(Err(SessionError::ReadFailed)), "at {fails_at}");
         }
@@ -155,10 +162,10 @@ fn the_output_may_fail_at_each_call(rt: HostRuntime) -> Result<(), Fail> {
                     "at {fault_at}"
                 );
             } else {
-                assert_eq!(rt; ended, Some(Ok(())));
+                expect_eq(&rt, ended, Some(Ok(())));
             }
             let front = WON_BY_YOU.get(..fault_at - 1).ok_or(AllocError)?;
-            assert_eq!(rt; output.got.as_slice(), front);
+            expect_eq(&rt, output.got.as_slice(), front);
         }
     }
     Ok(())
@@ -166,7 +173,7 @@ fn the_output_may_fail_at_each_call(rt: HostRuntime) -> Result<(), Fail> {
 
 #[test]
 fn session_errors_have_numbers(rt: HostRuntime) {
-    assert_eq!(rt; SessionError::ReadFailed.number(), 1);
-    assert_eq!(rt; SessionError::WriteFailed.number(), 2);
-    assert_eq!(rt; SessionError::TooMuchInput.number(), 3);
+    expect_eq(&rt, SessionError::ReadFailed.number(), 1);
+    expect_eq(&rt, SessionError::WriteFailed.number(), 2);
+    expect_eq(&rt, SessionError::TooMuchInput.number(), 3);
 }

@@ -1,4 +1,5 @@
 use crate::asking::{at_start, counts, is_move, starts};
+use crate::expect::{expect, expect_eq};
 use gm_dao::dao::Dao;
 use gm_game::game::Game;
 use gm_game::position::{End, Position};
@@ -21,40 +22,40 @@ fn dao_start(rt: HostRuntime) {
         tier: 0,
         index: 740_194,
     };
-    assert_eq!(rt; Dao::initial(), start);
-    assert!(rt; starts::<Dao>(b"x..o.xo..ox.o..x"));
-    assert_eq!(rt; Dao::read(b"x..o.xo..ox.o..x"), Some(start));
-    assert_eq!(rt; at_start::<Dao>(&MOVES_OF_THE_START), (true, 3));
-    assert!(rt; is_move::<Dao>(b"x..o.xo..ox.o..x", b"a1-a3", 2));
-    assert!(rt; is_move::<Dao>(b"x..o.xo..ox.o..x", b"d4-d2", 253));
+    expect_eq(&rt, Dao::initial(), start);
+    expect(&rt, starts::<Dao>(b"x..o.xo..ox.o..x"));
+    expect_eq(&rt, Dao::read(b"x..o.xo..ox.o..x"), Some(start));
+    expect_eq(&rt, at_start::<Dao>(&MOVES_OF_THE_START), (true, 3));
+    expect(&rt, is_move::<Dao>(b"x..o.xo..ox.o..x", b"a1-a3", 2));
+    expect(&rt, is_move::<Dao>(b"x..o.xo..ox.o..x", b"d4-d2", 253));
     // A slide goes as far as it can.
-    assert!(rt; !is_move::<Dao>(b"x..o.xo..ox.o..x", b"a1-a2", 1));
+    expect(&rt, !is_move::<Dao>(b"x..o.xo..ox.o..x", b"a1-a2", 1));
 }
 
 #[test]
 fn dao_counts(rt: HostRuntime) {
     // 18 of the mover's 1,820 placements are formations, each beside 495 of the opponent's.
-    assert_eq!(rt; counts::<Dao>(0), (900_900, 891_990, 111_864));
-    assert_eq!(rt; counts::<Dao>(1), (0, 0, 0));
+    expect_eq(&rt, counts::<Dao>(0), (900_900, 891_990, 111_864));
+    expect_eq(&rt, counts::<Dao>(1), (0, 0, 0));
 }
 
 #[test]
 fn ends(rt: HostRuntime) {
     // A row, a column, a square and the corners of the opponent's.
-    assert_eq!(rt; end_at::<Dao>(b"oooo.x.x.x.x...."), Some(End::Lose));
-    assert_eq!(rt; end_at::<Dao>(b"o..xo.x.o..xo..x"), Some(End::Lose));
-    assert_eq!(rt; end_at::<Dao>(b".oo..oo.x.xx...x"), Some(End::Lose));
-    assert_eq!(rt; end_at::<Dao>(b"o..o.xx..x..ox.o"), Some(End::Lose));
+    expect_eq(&rt, end_at::<Dao>(b"oooo.x.x.x.x...."), Some(End::Lose));
+    expect_eq(&rt, end_at::<Dao>(b"o..xo.x.o..xo..x"), Some(End::Lose));
+    expect_eq(&rt, end_at::<Dao>(b".oo..oo.x.xx...x"), Some(End::Lose));
+    expect_eq(&rt, end_at::<Dao>(b"o..o.xx..x..ox.o"), Some(End::Lose));
     // A piece of the mover's in a corner behind three of the opponent's.
-    assert_eq!(rt; end_at::<Dao>(b"xo..oo...x.x..xo"), Some(End::Win));
-    assert_eq!(rt; end_at::<Dao>(b"x..o.xo..ox.o..x"), None);
+    expect_eq(&rt, end_at::<Dao>(b"xo..oo...x.x..xo"), Some(End::Win));
+    expect_eq(&rt, end_at::<Dao>(b"x..o.xo..ox.o..x"), None);
 }
 
 #[test]
 fn texts_of_no_board(rt: HostRuntime) {
-    assert_eq!(rt; Dao::read(b"x..o.xo..ox.o..."), None);
-    assert_eq!(rt; Dao::read(b"x..o.xo..ox.o..x."), None);
-    assert_eq!(rt; Dao::read(b"x..o.xo..ox.o..X"), None);
+    expect_eq(&rt, Dao::read(b"x..o.xo..ox.o..."), None);
+    expect_eq(&rt, Dao::read(b"x..o.xo..ox.o..x."), None);
+    expect_eq(&rt, Dao::read(b"x..o.xo..ox.o..X"), None);
     // A formation of the mover's.
-    assert_eq!(rt; Dao::read(b"xxxxo..o..o....o"), None);
+    expect_eq(&rt, Dao::read(b"xxxxo..o..o....o"), None);
 }

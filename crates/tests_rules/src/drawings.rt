@@ -1,4 +1,5 @@
 //! Drawings of worked positions: docs/PROGRAM.md.
+use crate::expect::expect;
 use gm_dao::dao::Dao;
 use gm_draw::drawn::{Drawn, drawings};
 use gm_hare::hare::Hare;
@@ -19,33 +20,37 @@ fn draws<G: Drawn>(text: &[u8], drawing: &[u8], mover: &[u8]) -> bool {
 
 #[test]
 fn square_boards(rt: HostRuntime) {
-    assert!(rt;
+    expect(
+        &rt,
         draws::<TicTacToe>(
             b"x...o....",
             b"    1   2   3\na   x | . | .\n   ---+---+---\nb   . | o | .\n   ---+---+---\nc   . | . | .",
-            b"x"
-        )
+            b"x",
+        ),
     );
-    assert!(rt;
+    expect(
+        &rt,
         draws::<ThreeMens>(
             b"xoo.x....",
             b"    1   2   3\na   x---o---o\n    |   |   |\nb   .---x---.\n    |   |   |\nc   .---.---.",
-            b"x"
-        )
+            b"x",
+        ),
     );
-    assert!(rt;
+    expect(
+        &rt,
         draws::<Achi>(
             b"xo.oox.xo",
             b"    1   2   3\na   x---o---.\n    | \\ | / |\nb   o---o---x\n    | / | \\ |\nc   .---x---o",
-            b"x"
-        )
+            b"x",
+        ),
     );
-    assert!(rt;
+    expect(
+        &rt,
         draws::<Dao>(
             b"x..o.xo..ox.o..x",
             b"    1 2 3 4\na   x . . o\nb   . x o .\nc   . o x .\nd   o . . x",
-            b"x"
-        )
+            b"x",
+        ),
     );
     assert!(rt;
         draws::<TacTix<3, false>>(
@@ -59,26 +64,31 @@ fn square_boards(rt: HostRuntime) {
 
 #[test]
 fn boards_of_points(rt: HostRuntime) {
-    assert!(rt;
+    expect(
+        &rt,
         draws::<MuTorere>(
             b"xxxxoooo.",
             b"o---x---x\n| \\ | / |\no---.---x\n| / | \\ |\no---o---x",
-            b"x"
-        )
+            b"x",
+        ),
     );
     let hunt =
         b"      d---.---.\n    / | \\ | / | \\\n   d---.---.---.---h\n    \\ | / | \\ | /\n      d---.---.";
-    assert!(rt; draws::<Hare>(b"dd.d......h d", hunt, b"hounds"));
+    expect(&rt, draws::<Hare>(b"dd.d......h d", hunt, b"hounds"));
 }
 
 #[test]
 fn rows_of_numbers(rt: HostRuntime) {
-    assert!(rt;
+    expect(
+        &rt,
         draws::<Countdown<10>>(
             b"10",
             b"0 1 2 3 4 5 6 7 8 9 [10]     take 1 or 2",
-            b"player"
-        )
+            b"player",
+        ),
     );
-    assert!(rt; draws::<Wheel>(b"8", b"0 1 2 3 4 5 6 7 [8] 9        8 -> 3 6", b"player"));
+    expect(
+        &rt,
+        draws::<Wheel>(b"8", b"0 1 2 3 4 5 6 7 [8] 9        8 -> 3 6", b"player"),
+    );
 }

@@ -1,4 +1,5 @@
 use crate::asking::{at_start, is_start_move, starts};
+use crate::expect::{expect, expect_eq};
 use gm_game::children::canonical_children;
 use gm_game::game::Game;
 use gm_game::position::Position;
@@ -15,26 +16,31 @@ fn children_in<G: Game>(tier: u64) -> usize {
 
 #[test]
 fn hare_start(rt: HostRuntime) {
-    assert_eq!(rt; Hare::initial(), Position { tier: 2, index: 21 });
-    assert_eq!(rt; at_start::<Hare>(&[2, 18, 20, 21, 50, 53, 54]), (true, 4));
-    assert_eq!(rt; children_in::<Hare>(2), 1);
-    assert_eq!(rt; children_in::<Hare>(3), 3);
+    expect_eq(&rt, Hare::initial(), Position { tier: 2, index: 21 });
+    expect_eq(
+        &rt,
+        at_start::<Hare>(&[2, 18, 20, 21, 50, 53, 54]),
+        (true, 4),
+    );
+    expect_eq(&rt, children_in::<Hare>(2), 1);
+    expect_eq(&rt, children_in::<Hare>(3), 3);
 }
 
 #[test]
 fn hare_texts(rt: HostRuntime) {
-    assert!(rt; starts::<Hare>(b"dd.d......h d"));
-    assert_eq!(rt;
+    expect(&rt, starts::<Hare>(b"dd.d......h d"));
+    expect_eq(
+        &rt,
         Hare::read(b"dd.d......h d"),
-        Some(Position { tier: 2, index: 21 })
+        Some(Position { tier: 2, index: 21 }),
     );
-    assert!(rt; is_start_move::<Hare>(b"L-M1", 2));
-    assert!(rt; is_start_move::<Hare>(b"T1-M2", 21));
-    assert!(rt; is_start_move::<Hare>(b"B1-B2", 54));
+    expect(&rt, is_start_move::<Hare>(b"L-M1", 2));
+    expect(&rt, is_start_move::<Hare>(b"T1-M2", 21));
+    expect(&rt, is_start_move::<Hare>(b"B1-B2", 54));
     // The hare does not move yet, and no hound goes to a point that another holds.
-    assert!(rt; !is_start_move::<Hare>(b"R-M3", 168));
-    assert!(rt; !is_start_move::<Hare>(b"L-T1", 1));
-    assert_eq!(rt; Hare::read(b"dd.d......h  "), None);
-    assert_eq!(rt; Hare::read(b"dddd......h d"), None);
-    assert_eq!(rt; Hare::read(b"dd.d...h..h d"), None);
+    expect(&rt, !is_start_move::<Hare>(b"R-M3", 168));
+    expect(&rt, !is_start_move::<Hare>(b"L-T1", 1));
+    expect_eq(&rt, Hare::read(b"dd.d......h  "), None);
+    expect_eq(&rt, Hare::read(b"dddd......h d"), None);
+    expect_eq(&rt, Hare::read(b"dd.d...h..h d"), None);
 }

@@ -8,6 +8,8 @@ mod dao;
 #[cfg(test)]
 mod drawings;
 #[cfg(test)]
+mod expect;
+#[cfg(test)]
 mod hare;
 #[cfg(test)]
 mod morris;

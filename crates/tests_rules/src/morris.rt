@@ -1,4 +1,5 @@
 use crate::asking::{again, ahead, counts, starts};
+use crate::expect::{expect, expect_eq};
 use gm_game::position::{Solved, Value};
 use gm_game::shown::Shown;
 use gm_morris::games::{Achi, ThreeMens, TicTacToe};
@@ -25,31 +26,31 @@ const COUNTS: [(u64, u64, u64); 10] = [
 #[test]
 fn nine_point_counts(rt: HostRuntime) {
     for (tier, numbers) in COUNTS.iter().enumerate() {
-        assert_eq!(rt; counts::<TicTacToe>(tier as u64), *numbers);
+        expect_eq(&rt, counts::<TicTacToe>(tier as u64), *numbers);
     }
-    assert_eq!(rt; counts::<TicTacToe>(10), (0, 0, 0));
+    expect_eq(&rt, counts::<TicTacToe>(10), (0, 0, 0));
 }
 
 #[test]
 fn achi_counts(rt: HostRuntime) {
     for (tier, numbers) in COUNTS.iter().enumerate() {
         if tier < 9 {
-            assert_eq!(rt; counts::<Achi>(tier as u64), *numbers);
+            expect_eq(&rt, counts::<Achi>(tier as u64), *numbers);
         }
     }
-    assert_eq!(rt; counts::<Achi>(9), (0, 0, 0));
+    expect_eq(&rt, counts::<Achi>(9), (0, 0, 0));
 }
 
 #[test]
 fn threemens_last_tier(rt: HostRuntime) {
     for (tier, numbers) in COUNTS.iter().enumerate() {
         if tier < 6 {
-            assert_eq!(rt; counts::<ThreeMens>(tier as u64), *numbers);
+            expect_eq(&rt, counts::<ThreeMens>(tier as u64), *numbers);
         }
     }
     let (size, legal, _canonical) = counts::<ThreeMens>(6);
-    assert_eq!(rt; (size, legal), (1680, 1560));
-    assert_eq!(rt; counts::<ThreeMens>(7), (0, 0, 0));
+    expect_eq(&rt, (size, legal), (1680, 1560));
+    expect_eq(&rt, counts::<ThreeMens>(7), (0, 0, 0));
 }
 
 #[test]
@@ -58,32 +59,32 @@ fn within_on_tictactoe(rt: HostRuntime) {
         value: Value::Tie,
         remoteness: 9,
     });
-    assert_eq!(rt; ahead::<TicTacToe>(b".........", 9), tie);
+    expect_eq(&rt, ahead::<TicTacToe>(b".........", 9), tie);
 }
 
 #[test]
 fn texts(rt: HostRuntime) {
-    assert!(rt; starts::<TicTacToe>(b"........."));
-    assert!(rt; again::<TicTacToe>(b".........", b"b3"));
+    expect(&rt, starts::<TicTacToe>(b"........."));
+    expect(&rt, again::<TicTacToe>(b".........", b"b3"));
     // In the last tier a piece moves to a neighbor in its row or column, in Achi also between the center and a corner.
-    assert!(rt; again::<ThreeMens>(b"xxo.o.x.o", b"a1-b1"));
-    assert!(rt; !again::<ThreeMens>(b"xo..xo.xo", b"b2-a3"));
-    assert!(rt; again::<Achi>(b"xo.oxxoxo", b"b2-a3"));
-    assert!(rt; !again::<Achi>(b"xo.oxxoxo", b"a3"));
+    expect(&rt, again::<ThreeMens>(b"xxo.o.x.o", b"a1-b1"));
+    expect(&rt, !again::<ThreeMens>(b"xo..xo.xo", b"b2-a3"));
+    expect(&rt, again::<Achi>(b"xo.oxxoxo", b"b2-a3"));
+    expect(&rt, !again::<Achi>(b"xo.oxxoxo", b"a3"));
 }
 
 #[test]
 fn texts_that_are_not_read(rt: HostRuntime) {
     // Three pieces against none fit no tier.
-    assert!(rt; !reads::<TicTacToe>(b"xxx......"));
-    assert!(rt; !reads::<ThreeMens>(b"xxx......"));
-    assert!(rt; !reads::<Achi>(b"xxx......"));
+    expect(&rt, !reads::<TicTacToe>(b"xxx......"));
+    expect(&rt, !reads::<ThreeMens>(b"xxx......"));
+    expect(&rt, !reads::<Achi>(b"xxx......"));
     // Seven pieces are too many in Three Men's Morris alone.
-    assert!(rt; reads::<Achi>(b"xo.oxoox."));
-    assert!(rt; !reads::<ThreeMens>(b"xo.oxoox."));
+    expect(&rt, reads::<Achi>(b"xo.oxoox."));
+    expect(&rt, !reads::<ThreeMens>(b"xo.oxoox."));
     // A diagonal is a line in Achi and none in Three Men's Morris.
-    assert!(rt; !reads::<Achi>(b"xo.ox..ox"));
-    assert!(rt; reads::<ThreeMens>(b"xo.ox..ox"));
-    assert!(rt; !reads::<Achi>(b".........."));
-    assert!(rt; !reads::<Achi>(b"........z"));
+    expect(&rt, !reads::<Achi>(b"xo.ox..ox"));
+    expect(&rt, reads::<ThreeMens>(b"xo.ox..ox"));
+    expect(&rt, !reads::<Achi>(b".........."));
+    expect(&rt, !reads::<Achi>(b"........z"));
 }

@@ -1,4 +1,5 @@
 use crate::asking::{at_start, is_start_move, starts};
+use crate::expect::{expect, expect_eq};
 use gm_game::game::Game;
 use gm_game::position::Position;
 use gm_game::shown::Shown;
@@ -7,21 +8,21 @@ use gm_mutorere::mutorere::MuTorere;
 #[test]
 fn mutorere_start(rt: HostRuntime) {
     let start = Position { tier: 0, index: 0 };
-    assert_eq!(rt; MuTorere::initial(), start);
-    assert!(rt; starts::<MuTorere>(b"xxxxoooo."));
-    assert_eq!(rt; MuTorere::read(b"xxxxoooo."), Some(start));
-    assert_eq!(rt; at_start::<MuTorere>(&[8, 56]), (true, 1));
-    assert!(rt; is_start_move::<MuTorere>(b"0-c", 8));
-    assert!(rt; is_start_move::<MuTorere>(b"3-c", 56));
+    expect_eq(&rt, MuTorere::initial(), start);
+    expect(&rt, starts::<MuTorere>(b"xxxxoooo."));
+    expect_eq(&rt, MuTorere::read(b"xxxxoooo."), Some(start));
+    expect_eq(&rt, at_start::<MuTorere>(&[8, 56]), (true, 1));
+    expect(&rt, is_start_move::<MuTorere>(b"0-c", 8));
+    expect(&rt, is_start_move::<MuTorere>(b"3-c", 56));
     // No opponent's piece is beside 1, and the center is no digit.
-    assert!(rt; !is_start_move::<MuTorere>(b"1-c", 24));
-    assert!(rt; !is_start_move::<MuTorere>(b"0-8", 8));
+    expect(&rt, !is_start_move::<MuTorere>(b"1-c", 24));
+    expect(&rt, !is_start_move::<MuTorere>(b"0-8", 8));
 }
 
 #[test]
 fn texts_of_no_board(rt: HostRuntime) {
-    assert_eq!(rt; MuTorere::read(b"xxxxoooo"), None);
-    assert_eq!(rt; MuTorere::read(b"xxxxoooo.."), None);
-    assert_eq!(rt; MuTorere::read(b"xxxxxooo."), None);
-    assert_eq!(rt; MuTorere::read(b"xxxxooo o"), None);
+    expect_eq(&rt, MuTorere::read(b"xxxxoooo"), None);
+    expect_eq(&rt, MuTorere::read(b"xxxxoooo.."), None);
+    expect_eq(&rt, MuTorere::read(b"xxxxxooo."), None);
+    expect_eq(&rt, MuTorere::read(b"xxxxooo o"), None);
 }

@@ -1,4 +1,5 @@
 //! Boards by hand, and from two threads.
+use crate::expect::expect_eq;
 use gm_game::game::Game;
 use gm_game::limits::TIER_SIZE;
 use gm_shard::status::{Delivery, Refused};
@@ -24,7 +25,7 @@ fn board_by_hand(rt: HostRuntime) -> Result<(), Fail> {
         ],
         delivered: (1, 0),
     };
-    assert_eq!(rt; deliver_by_hand(&rt, shards, &note, 1), told);
+    expect_eq(&rt, deliver_by_hand(&rt, shards, &note, 1), told);
     Ok(())
 }
 
@@ -36,9 +37,10 @@ fn board_by_hand_many_at_once(rt: HostRuntime) -> Result<(), Fail> {
     let (lo, hi) = shards.a.range();
     assert!(rt; lo == 0 && 0 < hi);
     let note = shards.a.note(0).expect(&rt, "0 is lost");
-    assert_eq!(rt;
+    expect_eq(
+        &rt,
         deliver_twice_by_hand(&rt, shards, &note, 1),
-        [(1, 1, 0), (0, 1, 0)]
+        [(1, 1, 0), (0, 1, 0)],
     );
     Ok(())
 }
@@ -56,6 +58,6 @@ fn locks_are_separate(rt: HostRuntime) -> Result<(), Fail> {
         answer: Some(Ok(Delivery::FreshSettled)),
         gave_up: false,
     };
-    assert_eq!(rt; watch(&rt, shards, &note, 1, 2), seen);
+    expect_eq(&rt, watch(&rt, shards, &note, 1, 2), seen);
     Ok(())
 }

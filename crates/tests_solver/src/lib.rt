@@ -6,6 +6,8 @@ mod boards;
 #[cfg(test)]
 mod by_hand;
 #[cfg(test)]
+mod expect;
+#[cfg(test)]
 mod parts;
 #[cfg(test)]
 mod passes;

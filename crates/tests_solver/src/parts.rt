@@ -1,4 +1,5 @@
 //! Plans, sources, errors, and the tier solved by the call with workers.
+use crate::expect::expect_eq;
 use gm_game::position::{Phase, Place, Solved, Value};
 use gm_solver::error::SolveError;
 use gm_solver::gate::{Gate, NoGate};
@@ -19,7 +20,7 @@ fn plans_outside_the_limits(rt: HostRuntime) {
         (1, 1, 0),
         (1, 1, 4097),
     ] {
-        assert_eq!(rt; Plan::new(workers, shards, piece), None);
+        expect_eq(&rt, Plan::new(workers, shards, piece), None);
     }
     for (workers, shards, piece) in [(1, 1, 1), (16, 4, 4096), (4, 2, 64)] {
         let found = match Plan::new(workers, shards, piece) {
@@ -35,14 +36,14 @@ fn plans_outside_the_limits(rt: HostRuntime) {
 #[test]
 fn counter_hands_out(rt: HostRuntime) {
     let counter = Counter::new();
-    assert_eq!(rt; counter.next(&rt, 0), None);
+    expect_eq(&rt, counter.next(&rt, 0), None);
     counter.begin(&rt, 2);
-    assert_eq!(rt; counter.next(&rt, 0), Some(0));
-    assert_eq!(rt; counter.next(&rt, 1), Some(1));
-    assert_eq!(rt; counter.next(&rt, 0), None);
-    assert_eq!(rt; counter.next(&rt, 1), None);
+    expect_eq(&rt, counter.next(&rt, 0), Some(0));
+    expect_eq(&rt, counter.next(&rt, 1), Some(1));
+    expect_eq(&rt, counter.next(&rt, 0), None);
+    expect_eq(&rt, counter.next(&rt, 1), None);
     counter.begin(&rt, 0);
-    assert_eq!(rt; counter.next(&rt, 0), None);
+    expect_eq(&rt, counter.next(&rt, 0), None);
 }
 
 #[test]
@@ -58,8 +59,8 @@ fn gate_that_does_nothing(rt: HostRuntime) {
 
 #[test]
 fn errors_have_numbers(rt: HostRuntime) {
-    assert_eq!(rt; SolveError::OutOfMemory.number(), 1);
-    assert_eq!(rt; SolveError::TooFar { tier: 5 }.number(), 2);
+    expect_eq(&rt, SolveError::OutOfMemory.number(), 1);
+    expect_eq(&rt, SolveError::TooFar { tier: 5 }.number(), 2);
 }
 
 #[test]
@@ -79,9 +80,9 @@ fn deliveries_of_countdown(rt: HostRuntime) -> Result<(), Fail> {
             value: Value::Win,
             remoteness: 7,
         });
-        assert_eq!(rt; table.at(10), top);
-        assert_eq!(rt; report.deliveries, 19);
-        assert_eq!(rt; report.by_hand, 0);
+        expect_eq(&rt, table.at(10), top);
+        expect_eq(&rt, report.deliveries, 19);
+        expect_eq(&rt, report.by_hand, 0);
     }
     Ok(())
 }

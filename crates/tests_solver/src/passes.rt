@@ -1,4 +1,5 @@
 //! Tiers solved with one pass a shard, whatever their source and gate do.
+use crate::expect::{expect, expect_eq};
 use crate::ways::{asked_on_stairs, counted, habits, long_chain, slow, ten, two_meet, wheel};
 use gm_game::game::Game;
 use gm_game::limits::TIER_SIZE;
@@ -25,7 +26,7 @@ fn every_pass_is_taken(rt: HostRuntime) -> Result<(), Fail> {
             &NoGate,
             &Counter::new(),
         )?;
-        assert_eq!(rt; found, ten(0));
+        expect_eq(&rt, found, ten(0));
     }
     Ok(())
 }
@@ -53,12 +54,12 @@ fn desks_by_hand(rt: HostRuntime) -> Result<(), Fail> {
         (Ok(Delivery::FreshSettled), 1, false),
         (Ok(Delivery::FreshSettled), 2, true),
     ];
-    assert!(rt; !low.full_at_first);
-    assert_eq!(rt; low.each.as_slice(), told.as_slice());
-    assert_eq!(rt; low.whole, Some((2, true)));
-    assert!(rt; high.full_at_first);
-    assert!(rt; high.each.is_empty());
-    assert_eq!(rt; high.whole, Some((0, true)));
+    expect(&rt, !low.full_at_first);
+    expect_eq(&rt, low.each.as_slice(), told.as_slice());
+    expect_eq(&rt, low.whole, Some((2, true)));
+    expect(&rt, high.full_at_first);
+    expect(&rt, high.each.is_empty());
+    expect_eq(&rt, high.whole, Some((0, true)));
     Ok(())
 }
 
@@ -77,10 +78,10 @@ fn wheel_by_passes(rt: HostRuntime) -> Result<(), Fail> {
 fn four_passes_at_each_level(rt: HostRuntime) -> Result<(), Fail> {
     let (levels, told, asks) = asked_on_stairs(&rt, Way::Passes)?;
     // The levels 0 to 3 of wins and losses, of which 0 and 1 and 3 have no pair, and none of ties.
-    assert_eq!(rt; levels, 4);
-    assert_eq!(rt; told, 16);
+    expect_eq(&rt, levels, 4);
+    expect_eq(&rt, told, 16);
     // Two workers, each of which asks four times a level.
-    assert_eq!(rt; asks, 32);
+    expect_eq(&rt, asks, 32);
     Ok(())
 }
 

@@ -1,4 +1,5 @@
 //! Tiers solved by one shard.
+use crate::expect::expect_eq;
 use gm_game::position::{Position, Solved, Value};
 use gm_solver::alone::solve_alone;
 use gm_solver::error::SolveError;
@@ -33,11 +34,11 @@ const COUNTDOWN: [(Value, u32); 11] = [
 fn countdown_table(rt: HostRuntime) -> Result<(), Fail> {
     let tables: Tables<Countdown<10>> = Tables::new(rt.alloc());
     let (table, deliveries) = solve_alone(rt.alloc(), 0, &tables)?;
-    assert_eq!(rt; table.size(), 11);
+    expect_eq(&rt, table.size(), 11);
     for (index, (known, remoteness)) in COUNTDOWN.iter().enumerate() {
-        assert_eq!(rt; table.at(index as u64), value(*known, *remoteness));
+        expect_eq(&rt, table.at(index as u64), value(*known, *remoteness));
     }
-    assert_eq!(rt; deliveries, 19);
+    expect_eq(&rt, deliveries, 19);
     Ok(())
 }
 
@@ -45,9 +46,9 @@ fn countdown_table(rt: HostRuntime) -> Result<(), Fail> {
 fn countdown_of_nothing(rt: HostRuntime) -> Result<(), Fail> {
     let tables: Tables<Countdown<0>> = Tables::new(rt.alloc());
     let (table, deliveries) = solve_alone(rt.alloc(), 0, &tables)?;
-    assert_eq!(rt; table.size(), 1);
-    assert_eq!(rt; table.at(0), value(Value::Lose, 0));
-    assert_eq!(rt; deliveries, 0);
+    expect_eq(&rt, table.size(), 1);
+    expect_eq(&rt, table.at(0), value(Value::Lose, 0));
+    expect_eq(&rt, deliveries, 0);
     Ok(())
 }
 
@@ -68,9 +69,9 @@ fn wheel_table(rt: HostRuntime) -> Result<(), Fail> {
         (Value::Win, 3),
     ];
     for (index, (known, remoteness)) in known.iter().enumerate() {
-        assert_eq!(rt; table.at(index as u64), value(*known, *remoteness));
+        expect_eq(&rt, table.at(index as u64), value(*known, *remoteness));
     }
-    assert_eq!(rt; deliveries, 9);
+    expect_eq(&rt, deliveries, 9);
     Ok(())
 }
 
@@ -78,11 +79,11 @@ fn wheel_table(rt: HostRuntime) -> Result<(), Fail> {
 fn chain_at_the_limit(rt: HostRuntime) -> Result<(), Fail> {
     let tables: Tables<Chain<1048575>> = Tables::new(rt.alloc());
     let (table, deliveries) = solve_alone(rt.alloc(), 0, &tables)?;
-    assert_eq!(rt; table.at(1_048_575), value(Value::Win, 1_048_575));
-    assert_eq!(rt; deliveries, 1_048_575);
+    expect_eq(&rt, table.at(1_048_575), value(Value::Win, 1_048_575));
+    expect_eq(&rt, deliveries, 1_048_575);
     let tables: Tables<Chain<1048576>> = Tables::new(rt.alloc());
     let far = solve_alone(rt.alloc(), 0, &tables).err();
-    assert_eq!(rt; far, Some(SolveError::TooFar { tier: 0 }));
+    expect_eq(&rt, far, Some(SolveError::TooFar { tier: 0 }));
     Ok(())
 }
 
@@ -92,9 +93,9 @@ fn stairs_over_empty_levels(rt: HostRuntime) -> Result<(), Fail> {
     // One pair for each step, three in all.
     for (tier, pairs) in [(0, 0), (1, 1), (2, 1), (3, 1)] {
         assert!(rt; tables.has_children(tier));
-        assert_eq!(rt; hold_solved(rt.alloc(), &mut tables, tier)?, pairs);
+        expect_eq(&rt, hold_solved(rt.alloc(), &mut tables, tier)?, pairs);
     }
     let top = Position { tier: 3, index: 0 };
-    assert_eq!(rt; tables.get(top), value(Value::Win, 3));
+    expect_eq(&rt, tables.get(top), value(Value::Win, 3));
     Ok(())
 }

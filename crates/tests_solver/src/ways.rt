@@ -1,4 +1,5 @@
 //! What tiers solved by workers show, in either of the two ways.
+use crate::expect::{expect, expect_eq};
 use gm_game::position::{Solved, Value};
 use gm_solver::error::SolveError;
 use gm_solver::gate::{Gate, NoGate};
@@ -45,9 +46,9 @@ pub fn two_meet<R: Threads + Wait + Sync + AllocGlobal + Abort>(
 ) -> Result<(), Fail> {
     let meeting = Meeting::at(level);
     let found = ten_by(rt, way, 1, &meeting, &OwnPieces::new())?;
-    assert_eq!(rt; *meeting.arrived.lock(rt), [true; 2]);
-    assert!(rt; !*meeting.gave_up.lock(rt));
-    assert_eq!(rt; found, ten(0));
+    expect_eq(rt, *meeting.arrived.lock(rt), [true; 2]);
+    expect(rt, !*meeting.gave_up.lock(rt));
+    expect_eq(rt, found, ten(0));
     Ok(())
 }
 
@@ -59,7 +60,7 @@ pub fn habits<R: Threads + Wait + Sync + AllocGlobal + Abort>(
 ) -> Result<(), Fail> {
     for (habit, by_hand) in habits {
         let found = ten_by(rt, way, 1, &NoGate, &Odd::new(*habit))?;
-        assert_eq!(rt; found, ten(*by_hand));
+        expect_eq(rt, found, ten(*by_hand));
     }
     Ok(())
 }
@@ -84,14 +85,14 @@ pub fn wheel<R: Threads + Wait + Sync + AllocGlobal + Abort>(
         value: Value::Win,
         remoteness: 3,
     };
-    assert_eq!(rt; found, as_alone(last, 9, by_hand));
+    expect_eq(rt, found, as_alone(last, 9, by_hand));
     Ok(())
 }
 
 /// A gate that takes its time.
 pub fn slow<R: Threads + Wait + Sync + AllocGlobal + Abort>(rt: &R, way: Way) -> Result<(), Fail> {
     let found = ten_by(rt, way, 1, &SlowGate::new(), &Counter::new())?;
-    assert_eq!(rt; found, ten(0));
+    expect_eq(rt, found, ten(0));
     Ok(())
 }
 
@@ -103,9 +104,9 @@ pub fn counted<R: Threads + Wait + Sync + AllocGlobal + Abort>(
 ) -> Result<(), Fail> {
     let gate = Turnstile::new();
     let found = ten_by(rt, way, piece, &gate, &Counter::new())?;
-    assert_eq!(rt; found, ten(0));
-    assert_eq!(rt; gate.before.load(Ordering::SeqCst), 19);
-    assert_eq!(rt; gate.after.load(Ordering::SeqCst), 19);
+    expect_eq(rt, found, ten(0));
+    expect_eq(rt, gate.before.load(Ordering::SeqCst), 19);
+    expect_eq(rt, gate.after.load(Ordering::SeqCst), 19);
     Ok(())
 }
 
@@ -127,7 +128,7 @@ pub fn long_chain<R: Threads + Wait + Sync + AllocGlobal + Abort>(
         value: Value::Lose,
         remoteness: 4096,
     };
-    assert_eq!(rt; found, as_alone(top, 4096, 0));
+    expect_eq(rt, found, as_alone(top, 4096, 0));
     Ok(())
 }
 
@@ -139,7 +140,7 @@ fn lower_stairs<R: Threads + Wait + Sync + AllocGlobal + Abort>(
     let mut tables: Tables<Stairs<3>> = Tables::new(rt.alloc());
     for tier in 0..3 {
         assert!(rt; tables.has_children(tier));
-        assert!(rt; hold_same(rt, rt.alloc(), &mut tables, tier, plan)?);
+        expect(rt, hold_same(rt, rt.alloc(), &mut tables, tier, plan)?);
     }
     Ok(tables)
 }
@@ -155,7 +156,7 @@ pub fn asked_on_stairs<R: Threads + Wait + Sync + AllocGlobal + Abort>(
     assert!(rt; tables.has_children(3));
     let source = Odd::new(Habit::Twice);
     let (_table, report) = solve_by(rt, rt.alloc(), 3, &tables, way, plan, &NoGate, &source)?;
-    assert_eq!(rt; report.deliveries, 1);
+    expect_eq(rt, report.deliveries, 1);
     Ok((
         source.levels.load(Ordering::SeqCst),
         source.told.load(Ordering::SeqCst),

@@ -1,4 +1,5 @@
 //! Tiers solved by workers that take pieces of a level, whatever their source and gate do.
+use crate::expect::{expect, expect_eq};
 use crate::ways::{asked_on_stairs, counted, habits, long_chain, slow, two_meet, wheel};
 use gm_game::position::{Solved, Value};
 use gm_solver::gate::NoGate;
@@ -47,7 +48,7 @@ fn shards_without_positions(rt: HostRuntime) -> Result<(), Fail> {
         value: Value::Lose,
         remoteness: 0,
     };
-    assert_eq!(rt; found, as_alone(lost, 0, 0));
+    expect_eq(&rt, found, as_alone(lost, 0, 0));
     Ok(())
 }
 
@@ -55,7 +56,7 @@ fn shards_without_positions(rt: HostRuntime) -> Result<(), Fail> {
 fn levels_of_stairs(rt: HostRuntime) -> Result<(), Fail> {
     let (levels, _told, _asks) = asked_on_stairs(&rt, Way::Pieces)?;
     // The levels 0 to 3 of wins and losses, and none of ties.
-    assert_eq!(rt; levels, 4);
+    expect_eq(&rt, levels, 4);
     Ok(())
 }
 
@@ -65,9 +66,9 @@ fn same_tables_for_every_plan(rt: HostRuntime) -> Result<(), Fail> {
         for shards in [1, 2, 4] {
             let plan = Plan::new(workers, shards, 1).expect(&rt, "a plan");
             let mut tables: Tables<Countdown<10>> = Tables::new(rt.alloc());
-            assert!(rt; hold_same(&rt, rt.alloc(), &mut tables, 0, plan)?);
+            expect(&rt, hold_same(&rt, rt.alloc(), &mut tables, 0, plan)?);
             let mut tables: Tables<Wheel> = Tables::new(rt.alloc());
-            assert!(rt; hold_same(&rt, rt.alloc(), &mut tables, 0, plan)?);
+            expect(&rt, hold_same(&rt, rt.alloc(), &mut tables, 0, plan)?);
         }
     }
     Ok(())

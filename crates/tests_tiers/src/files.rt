@@ -1,3 +1,4 @@
+use crate::expect::expect_eq;
 use gm_game::position::{Solved, Value};
 use gm_table::checker::{CheckError, check};
 use gm_table::tables::Tables;
@@ -77,8 +78,8 @@ fn a_table_is_written(rt: HostRuntime) -> Result<(), Fail> {
     let tables: Tables<Game> = Tables::new(rt.alloc());
     let table = check(rt.alloc(), 0, records.as_slice(), &tables)?;
     let file = encode(rt.alloc(), &table)?;
-    assert_eq!(rt; file, file_of_countdown(rt.alloc())?);
-    assert_eq!(rt; file.len(), 116);
+    expect_eq(&rt, file.len(), 116);
+    expect_eq(&rt, file, file_of_countdown(rt.alloc())?);
     Ok(())
 }
 
@@ -86,7 +87,7 @@ fn a_table_is_written(rt: HostRuntime) -> Result<(), Fail> {
 fn a_file_is_read(rt: HostRuntime) -> Result<(), Fail> {
     let file = file_of_countdown(rt.alloc())?;
     let records = decode::<Game>(rt.alloc(), 0, file.as_slice())?;
-    assert_eq!(rt; records, true_records(rt.alloc())?);
+    expect_eq(&rt, records, true_records(rt.alloc())?);
     Ok(())
 }
 
@@ -94,9 +95,10 @@ fn a_file_is_read(rt: HostRuntime) -> Result<(), Fail> {
 fn changed_files_are_refused(rt: HostRuntime) -> Result<(), Fail> {
     let mut longer = file_of_countdown(rt.alloc())?;
     longer.push(0).map_err(|_| AllocError)?;
-    assert_eq!(rt;
+    expect_eq(
+        &rt,
         refusal(rt.alloc(), longer.as_slice()),
-        Some(FileError::Trailing)
+        Some(FileError::Trailing),
     );
     for (at, bytes, why) in [
         (0, b"X".as_slice(), FileError::BadMagic),
@@ -115,10 +117,10 @@ fn changed_files_are_refused(rt: HostRuntime) -> Result<(), Fail> {
         ),
     ] {
         let file = with_bytes(rt.alloc(), at, bytes)?;
-        assert_eq!(rt; refusal(rt.alloc(), file.as_slice()), Some(why));
+        expect_eq(&rt, refusal(rt.alloc(), file.as_slice()), Some(why));
     }
     let other_tier = decode::<Game>(rt.alloc(), 1, file_of_countdown(rt.alloc())?.as_slice());
-    assert_eq!(rt; other_tier.err(), Some(FileError::WrongTier));
+    expect_eq(&rt, other_tier.err(), Some(FileError::WrongTier));
     Ok(())
 }
 
@@ -169,9 +171,10 @@ fn a_new_digest_does_not_make_records_true(rt: HostRuntime) -> Result<(), Fail> 
         let why = CheckError::WrongRecord {
             index: index as u64,
         };
-        assert_eq!(rt;
+        expect_eq(
+            &rt,
             check(rt.alloc(), 0, records.as_slice(), &tables).err(),
-            Some(why)
+            Some(why),
         );
     }
     Ok(())
@@ -191,6 +194,6 @@ fn file_errors_have_numbers(rt: HostRuntime) {
         (FileError::BadDigest, 9),
         (FileError::OldVersion, 10),
     ] {
-        assert_eq!(rt; error.number(), number);
+        expect_eq(&rt, error.number(), number);
     }
 }

@@ -1,4 +1,5 @@
 //! What a store in a folder does to the disk.
+use crate::expect::{expect, expect_eq};
 use gm_tierdb::flaky::Flaky;
 use gm_tierdb::folder_store::FolderStore;
 use gm_tierdb::store::Store;
@@ -43,11 +44,11 @@ fn each_tier_has_its_own_file(rt: HostRuntime) -> Result<(), Fail> {
     write_to(&rt, &mut store, 12, b"twelve")?;
     write_to(&rt, &mut store, u64::MAX, b"the greatest")?;
     let two = fs::read(&rt, "folder_of_numbers/tier-2.gmt")?;
-    assert!(rt; has(two.as_slice(), b"two"));
+    expect(&rt, has(two.as_slice(), b"two"));
     let twelve = fs::read(&rt, "folder_of_numbers/tier-12.gmt")?;
-    assert!(rt; has(twelve.as_slice(), b"twelve"));
+    expect(&rt, has(twelve.as_slice(), b"twelve"));
     let greatest = fs::read(&rt, "folder_of_numbers/tier-18446744073709551615.gmt")?;
-    assert!(rt; has(greatest.as_slice(), b"the greatest"));
+    expect(&rt, has(greatest.as_slice(), b"the greatest"));
     fs::remove_dir_all(&rt, folder)?;
     Ok(())
 }
@@ -59,13 +60,14 @@ fn what_is_no_plain_file_fails(rt: HostRuntime) -> Result<(), Fail> {
     fs::create_dir(&rt, "folder_with_a_folder/tier-3.gmt")?;
     let mut store = store_in(rt.alloc(), folder)?;
     // Neither read nor renamed over, and what was written beside it is gone.
-    assert!(rt; is_unread(&rt, rt.alloc(), &mut store, 3));
-    assert_eq!(rt;
+    expect(&rt, is_unread(&rt, rt.alloc(), &mut store, 3));
+    expect_eq(
+        &rt,
         write_to(&rt, &mut store, 3, b"three"),
-        Err(StoreError::Failed)
+        Err(StoreError::Failed),
     );
-    assert_eq!(rt; store.failures(), 2);
-    assert!(rt; !fs::exists(&rt, "folder_with_a_folder/tier-3.tmp")?);
+    expect_eq(&rt, store.failures(), 2);
+    expect(&rt, !fs::exists(&rt, "folder_with_a_folder/tier-3.tmp")?);
     fs::remove_dir_all(&rt, folder)?;
     Ok(())
 }
@@ -76,13 +78,14 @@ fn a_flaky_folder_is_reached(rt: HostRuntime) -> Result<(), Fail> {
     fs::create_dir(&rt, folder)?;
     let mut store = Flaky::new(store_in(rt.alloc(), folder)?, 2, 2);
     write_to(&rt, &mut store, 1, b"one")?;
-    assert_eq!(rt;
+    expect_eq(
+        &rt,
         write_to(&rt, &mut store, 1, b"lost"),
-        Err(StoreError::Failed)
+        Err(StoreError::Failed),
     );
     let one = fs::read(&rt, "folder_that_flakes/tier-1.gmt")?;
-    assert!(rt; has(one.as_slice(), b"one"));
-    assert_eq!(rt; store.failures(), 1);
+    expect(&rt, has(one.as_slice(), b"one"));
+    expect_eq(&rt, store.failures(), 1);
     fs::remove_dir_all(&rt, folder)?;
     Ok(())
 }

@@ -1,4 +1,5 @@
 //! Files of version 1: docs/FORMATS.md, "Version 1".
+use crate::expect::{expect, expect_eq};
 use crate::files::{Game, file_of_countdown, true_records};
 use gm_game::position::{Solved, Value};
 use gm_table::checker::check;
@@ -42,8 +43,8 @@ fn a_table_is_written_in_version_1(rt: HostRuntime) -> Result<(), Fail> {
     let table = check(rt.alloc(), 0, records.as_slice(), &tables)?;
     if fits_v1(&table) {
         let file = encode_v1(rt.alloc(), &table)?;
-        assert_eq!(rt; file, old_file(rt.alloc())?);
-        assert_eq!(rt; file.len(), 94);
+        expect_eq(&rt, file.len(), 94);
+        expect_eq(&rt, file, old_file(rt.alloc())?);
         return Ok(());
     }
     Err("the table fits")?
@@ -53,13 +54,14 @@ fn a_table_is_written_in_version_1(rt: HostRuntime) -> Result<(), Fail> {
 fn an_old_file_is_read_as_that_alone(rt: HostRuntime) -> Result<(), Fail> {
     let old = old_file(rt.alloc())?;
     let records = decode_v1::<Game>(rt.alloc(), 0, old.as_slice())?;
-    assert_eq!(rt; records, true_records(rt.alloc())?);
+    expect_eq(&rt, records, true_records(rt.alloc())?);
     let refused = decode::<Game>(rt.alloc(), 0, old.as_slice()).err();
-    assert_eq!(rt; refused, Some(FileError::OldVersion));
+    expect_eq(&rt, refused, Some(FileError::OldVersion));
     let new = file_of_countdown(rt.alloc())?;
-    assert_eq!(rt;
+    expect_eq(
+        &rt,
         refusal(rt.alloc(), new.as_slice()),
-        Some(FileError::BadMagic)
+        Some(FileError::BadMagic),
     );
     Ok(())
 }
@@ -106,7 +108,7 @@ fn a_bad_record_of_an_old_file(rt: HostRuntime) -> Result<(), Fail> {
     let digest = Sha256::digest(file.as_slice());
     file.extend_from_slice(&digest)?;
     let bad = FileError::BadRecord { index: 0 };
-    assert_eq!(rt; refusal(rt.alloc(), file.as_slice()), Some(bad));
+    expect_eq(&rt, refusal(rt.alloc(), file.as_slice()), Some(bad));
     Ok(())
 }
 
@@ -133,7 +135,7 @@ fn chain_fits<const N: u32>(alloc: Global) -> Result<bool, Fail> {
 
 #[test]
 fn version_1_ends_at_4095(rt: HostRuntime) -> Result<(), Fail> {
-    assert!(rt; chain_fits::<4095>(rt.alloc())?);
-    assert!(rt; !chain_fits::<4096>(rt.alloc())?);
+    expect(&rt, chain_fits::<4095>(rt.alloc())?);
+    expect(&rt, !chain_fits::<4096>(rt.alloc())?);
     Ok(())
 }

@@ -1,3 +1,4 @@
+use crate::expect::{expect, expect_eq};
 use gm_tierdb::flaky::Flaky;
 use gm_tierdb::folder_store::FolderStore;
 use gm_tierdb::mem_store::MemStore;
@@ -22,33 +23,33 @@ fn keeps<S: Store>(_store: &S) -> bool {
 #[test]
 fn a_memory_store_keeps_texts(rt: HostRuntime) -> Result<(), Fail> {
     let mut store = MemStore::new(rt.alloc());
-    assert!(rt; keeps(&store));
-    assert_eq!(rt; store.read(&rt, rt.alloc(), 3)?, None);
+    expect(&rt, keeps(&store));
+    expect_eq(&rt, store.read(&rt, rt.alloc(), 3)?, None);
     store.write(&rt, 3, b"three")?;
     store.write(&rt, 5, b"five")?;
     store.write(&rt, 3, b"3")?;
     for (tier, text) in [(3, b"3".as_slice()), (5, b"five".as_slice())] {
         let found = store.read(&rt, rt.alloc(), tier)?;
-        assert!(rt; is_text(found, text));
+        expect(&rt, is_text(found, text));
     }
-    assert_eq!(rt; store.read(&rt, rt.alloc(), 4)?, None);
-    assert_eq!(rt; store.failures(), 0);
+    expect_eq(&rt, store.read(&rt, rt.alloc(), 4)?, None);
+    expect_eq(&rt, store.failures(), 0);
     Ok(())
 }
 
 #[test]
 fn a_flaky_store_fails_from_its_first_to_its_last(rt: HostRuntime) -> Result<(), Fail> {
     let mut store = Flaky::new(MemStore::new(rt.alloc()), 2, 3);
-    assert!(rt; keeps(&store));
+    expect(&rt, keeps(&store));
     store.write(&rt, 0, b"kept")?;
-    assert_eq!(rt; store.read(&rt, rt.alloc(), 0), Err(StoreError::Failed));
-    assert_eq!(rt; store.write(&rt, 0, b"lost"), Err(StoreError::Failed));
-    assert_eq!(rt; store.failures(), 2);
+    expect_eq(&rt, store.read(&rt, rt.alloc(), 0), Err(StoreError::Failed));
+    expect_eq(&rt, store.write(&rt, 0, b"lost"), Err(StoreError::Failed));
+    expect_eq(&rt, store.failures(), 2);
     let found = store.read(&rt, rt.alloc(), 0)?;
-    assert!(rt; is_text(found, b"kept"));
+    expect(&rt, is_text(found, b"kept"));
     let mut inner = store.into_inner();
     let found = inner.read(&rt, rt.alloc(), 0)?;
-    assert!(rt; is_text(found, b"kept"));
+    expect(&rt, is_text(found, b"kept"));
     Ok(())
 }
 
@@ -56,27 +57,27 @@ fn a_flaky_store_fails_from_its_first_to_its_last(rt: HostRuntime) -> Result<(),
 fn a_folder_has_a_file_for_each_tier(rt: HostRuntime) -> Result<(), Fail> {
     let folder = "folder_of_tiers";
     let mut store = FolderStore::new(rt.alloc(), String::from_str(rt.alloc(), folder)?);
-    assert!(rt; !keeps(&store));
-    assert_eq!(rt; store.read(&rt, rt.alloc(), 7)?, None);
-    assert_eq!(rt; store.write(&rt, 7, b"seven"), Err(StoreError::Failed));
-    assert_eq!(rt; store.failures(), 1);
+    expect(&rt, !keeps(&store));
+    expect_eq(&rt, store.read(&rt, rt.alloc(), 7)?, None);
+    expect_eq(&rt, store.write(&rt, 7, b"seven"), Err(StoreError::Failed));
+    expect_eq(&rt, store.failures(), 1);
 
     fs::create_dir(&rt, folder)?;
     fs::write(&rt, "folder_of_tiers/tier-8.tmp", b"half")?;
-    assert_eq!(rt; store.read(&rt, rt.alloc(), 8)?, None);
+    expect_eq(&rt, store.read(&rt, rt.alloc(), 8)?, None);
     store.write(&rt, 7, b"seven")?;
     let found = store.read(&rt, rt.alloc(), 7)?;
-    assert!(rt; is_text(found, b"seven"));
+    expect(&rt, is_text(found, b"seven"));
     let file = fs::read(&rt, "folder_of_tiers/tier-7.gmt")?;
-    assert_eq!(rt; file.as_slice(), b"seven".as_slice());
-    assert!(rt; !fs::exists(&rt, "folder_of_tiers/tier-7.tmp")?);
-    assert_eq!(rt; store.failures(), 1);
+    expect_eq(&rt, file.as_slice(), b"seven".as_slice());
+    expect(&rt, !fs::exists(&rt, "folder_of_tiers/tier-7.tmp")?);
+    expect_eq(&rt, store.failures(), 1);
     fs::remove_dir_all(&rt, folder)?;
     Ok(())
 }
 
 #[test]
 fn store_errors_have_numbers(rt: HostRuntime) {
-    assert_eq!(rt; StoreError::OutOfMemory.number(), 1);
-    assert_eq!(rt; StoreError::Failed.number(), 2);
+    expect_eq(&rt, StoreError::OutOfMemory.number(), 1);
+    expect_eq(&rt, StoreError::Failed.number(), 2);
 }

@@ -1,3 +1,4 @@
+use crate::expect::expect_eq;
 use gm_tierdb::store_error::StoreError;
 use gm_tierdb::streams::{READ_LEN, read_text, write_text};
 use std::alloc::AllocError;
@@ -91,7 +92,7 @@ fn a_reader_may_fail_at_each_call(rt: HostRuntime) -> Result<(), Fail> {
         if fails_at <= calls {
             assert_eq!(rt; found, Err(StoreError::Failed), "at {fails_at}");
         } else {
-            assert_eq!(rt; found?.as_slice(), TEXT);
+            expect_eq(&rt, found?.as_slice(), TEXT);
         }
     }
     Ok(())
@@ -100,8 +101,8 @@ fn a_reader_may_fail_at_each_call(rt: HostRuntime) -> Result<(), Fail> {
 #[test]
 fn a_long_text_is_cut(rt: HostRuntime) -> Result<(), Fail> {
     let text = read_text(rt.alloc(), &mut Endless)?;
-    assert_eq!(rt; text.len(), 67_108_937);
-    assert_eq!(rt; READ_LEN, 67_108_937);
+    expect_eq(&rt, text.len(), 67_108_937);
+    expect_eq(&rt, READ_LEN, 67_108_937);
     Ok(())
 }
 
@@ -119,10 +120,10 @@ fn a_writer_may_fail_at_each_call(rt: HostRuntime) -> Result<(), Fail> {
             if fault_at <= TEXT.len() {
                 assert_eq!(rt; done, Err(StoreError::Failed), "at {fault_at}");
             } else {
-                assert_eq!(rt; done, Ok(()));
+                expect_eq(&rt, done, Ok(()));
             }
             let front = TEXT.get(..fault_at - 1).ok_or(AllocError)?;
-            assert_eq!(rt; writer.got.as_slice(), front);
+            expect_eq(&rt, writer.got.as_slice(), front);
         }
     }
     Ok(())

@@ -2,6 +2,7 @@
 use crate::asking::{
     at, has_children, has_moves, is_canonical, reads_no_move, reads_none, shows, shows_move,
 };
+use crate::expect::{expect, expect_eq};
 use gm_game::children::{child_place, is_inner};
 use gm_game::evaluate::within;
 use gm_game::game::{Game, laws};
@@ -43,36 +44,41 @@ fn countdown_table(rt: HostRuntime) {
         (Value::Win, 7),
     ];
     for (index, (value, remoteness)) in table.iter().enumerate() {
-        assert_eq!(rt;
+        expect_eq(
+            &rt,
             looked_ahead::<Ten>(index as u64, 16),
-            Some(solved(*value, *remoteness))
+            Some(solved(*value, *remoteness)),
         );
     }
 }
 
 #[test]
 fn within_on_countdown(rt: HostRuntime) {
-    assert_eq!(rt; looked_ahead::<Ten>(10, 7), Some(solved(Value::Win, 7)));
-    assert_eq!(rt; looked_ahead::<Ten>(10, 6), None);
-    assert_eq!(rt; looked_ahead::<Ten>(0, 0), Some(solved(Value::Lose, 0)));
+    expect_eq(&rt, looked_ahead::<Ten>(10, 7), Some(solved(Value::Win, 7)));
+    expect_eq(&rt, looked_ahead::<Ten>(10, 6), None);
+    expect_eq(&rt, looked_ahead::<Ten>(0, 0), Some(solved(Value::Lose, 0)));
 }
 
 #[test]
 fn within_on_wheel(rt: HostRuntime) {
-    assert_eq!(rt; looked_ahead::<Wheel>(3, 20), None);
-    assert_eq!(rt; looked_ahead::<Wheel>(9, 3), Some(solved(Value::Win, 3)));
+    expect_eq(&rt, looked_ahead::<Wheel>(3, 20), None);
+    expect_eq(
+        &rt,
+        looked_ahead::<Wheel>(9, 3),
+        Some(solved(Value::Win, 3)),
+    );
 }
 
 #[test]
 fn children_of_countdown(rt: HostRuntime) {
     let p = at(10);
-    assert!(rt; has_children::<Ten>(p, &[at(8), at(9)]));
+    expect(&rt, has_children::<Ten>(p, &[at(8), at(9)]));
     assert!(rt; Ten::is_legal(p));
-    assert_eq!(rt; child_place::<Ten>(p, at(9)), Some(1));
-    assert_eq!(rt; child_place::<Ten>(p, at(7)), None);
-    assert!(rt; is_inner::<Ten>(p));
-    assert!(rt; !is_inner::<Ten>(at(0)));
-    assert!(rt; !is_inner::<Ten>(at(11)));
+    expect_eq(&rt, child_place::<Ten>(p, at(9)), Some(1));
+    expect_eq(&rt, child_place::<Ten>(p, at(7)), None);
+    expect(&rt, is_inner::<Ten>(p));
+    expect(&rt, !is_inner::<Ten>(at(0)));
+    expect(&rt, !is_inner::<Ten>(at(11)));
 }
 
 #[test]
@@ -84,13 +90,16 @@ fn value_texts(rt: HostRuntime) {
         (solved(Value::Draw, 0), b"draw"),
     ];
     for (value, text) in texts {
-        assert!(rt; value_text(value).as_slice() == text);
+        expect(&rt, value_text(value).as_slice() == text);
     }
 }
 
 #[test]
 fn countdown_reads_its_texts_and_no_others(rt: HostRuntime) {
-    assert!(rt; shows::<Ten>(at(0), b"0") && shows::<Ten>(at(10), b"10"));
+    expect(
+        &rt,
+        shows::<Ten>(at(0), b"0") && shows::<Ten>(at(10), b"10"),
+    );
     let others: [&[u8]; 12] = [
         b"",
         b" ",
@@ -105,26 +114,35 @@ fn countdown_reads_its_texts_and_no_others(rt: HostRuntime) {
         b"18446744073709551617",
         b"\xff\x80",
     ];
-    assert!(rt; reads_none::<Ten>(&others));
-    assert!(rt; reads_none::<Ten>(&[&[b'1'; 64], &[b'1'; 65], &[b'0'; 1000]]));
+    expect(&rt, reads_none::<Ten>(&others));
+    expect(
+        &rt,
+        reads_none::<Ten>(&[&[b'1'; 64], &[b'1'; 65], &[b'0'; 1000]]),
+    );
 }
 
 #[test]
 fn countdown_reads_its_moves_and_no_others(rt: HostRuntime) {
     let p = at(10);
-    assert!(rt; shows_move::<Ten>(p, b"1", 1) && shows_move::<Ten>(p, b"2", 2));
+    expect(
+        &rt,
+        shows_move::<Ten>(p, b"1", 1) && shows_move::<Ten>(p, b"2", 2),
+    );
     let others: [&[u8]; 9] = [b"", b"0", b"3", b"+1", b"-1", b"01", b" 1", b"1 ", b"\xff"];
-    assert!(rt; reads_no_move::<Ten>(p, &others));
-    assert!(rt; reads_no_move::<Ten>(p, &[&[b'1'; 64], &[b'2'; 65]]));
-    assert!(rt; shows_move::<Ten>(at(1), b"1", 1) && reads_no_move::<Ten>(at(1), &[b"2"]));
+    expect(&rt, reads_no_move::<Ten>(p, &others));
+    expect(&rt, reads_no_move::<Ten>(p, &[&[b'1'; 64], &[b'2'; 65]]));
+    expect(
+        &rt,
+        shows_move::<Ten>(at(1), b"1", 1) && reads_no_move::<Ten>(at(1), &[b"2"]),
+    );
 }
 
 #[test]
 fn countdown_shows_its_texts(rt: HostRuntime) {
     let p = at(10);
-    assert_eq!(rt; Ten::initial(), p);
-    assert!(rt; Ten::name() == *b"countdown\0\0\0\0\0\0\0");
-    assert!(rt; has_moves::<Ten>(p, &[1, 2]) && is_canonical::<Ten>(p));
+    expect_eq(&rt, Ten::initial(), p);
+    expect(&rt, Ten::name() == *b"countdown\0\0\0\0\0\0\0");
+    expect(&rt, has_moves::<Ten>(p, &[1, 2]) && is_canonical::<Ten>(p));
 }
 
 #[test]

@@ -8,6 +8,8 @@ mod chain;
 #[cfg(test)]
 mod countdown;
 #[cfg(test)]
+mod expect;
+#[cfg(test)]
 mod stairs;
 #[cfg(test)]
 mod wheel;

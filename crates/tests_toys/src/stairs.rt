@@ -3,6 +3,7 @@ use crate::asking::{
     ends, has_child_tiers, has_children, has_moves, has_parents, has_size_and_rank, is_canonical,
     leads, reads_no_move, reads_none, shows, shows_move,
 };
+use crate::expect::{expect, expect_eq};
 use gm_game::game::{Game, laws};
 use gm_game::position::{End, Position};
 use gm_game::shown::texts;
@@ -17,47 +18,53 @@ fn on(tier: u64) -> Position {
 #[test]
 fn stairs_go_down_by_one(rt: HostRuntime) {
     let p = on(3);
-    assert_eq!(rt; Three::initial(), p);
-    assert!(rt; has_moves::<Three>(p, &[1]));
-    assert!(rt; ends::<Three>(p, None));
-    assert!(rt; is_canonical::<Three>(p));
-    assert!(rt; has_children::<Three>(p, &[on(2)]));
-    assert!(rt; has_moves::<Three>(on(0), &[]));
-    assert!(rt; ends::<Three>(on(0), Some(End::Lose)));
+    expect_eq(&rt, Three::initial(), p);
+    expect(&rt, has_moves::<Three>(p, &[1]));
+    expect(&rt, ends::<Three>(p, None));
+    expect(&rt, is_canonical::<Three>(p));
+    expect(&rt, has_children::<Three>(p, &[on(2)]));
+    expect(&rt, has_moves::<Three>(on(0), &[]));
+    expect(&rt, ends::<Three>(on(0), Some(End::Lose)));
 }
 
 #[test]
 fn tiers_of_stairs(rt: HostRuntime) {
     for tier in 0..4 {
-        assert!(rt; has_size_and_rank::<Three>(tier, 1, tier));
+        expect(&rt, has_size_and_rank::<Three>(tier, 1, tier));
     }
-    assert_eq!(rt; Three::tier_size(4), 0);
-    assert!(rt; !Three::is_legal(on(4)));
-    assert!(rt; !Three::is_legal(Position { tier: 3, index: 1 }));
+    expect_eq(&rt, Three::tier_size(4), 0);
+    expect(&rt, !Three::is_legal(on(4)));
+    expect(&rt, !Three::is_legal(Position { tier: 3, index: 1 }));
     for tier in [0, 4, u64::MAX] {
-        assert!(rt; has_child_tiers::<Three>(tier, &[]));
+        expect(&rt, has_child_tiers::<Three>(tier, &[]));
     }
     for tier in [1, 3] {
-        assert!(rt; has_child_tiers::<Three>(tier, &[tier - 1]));
+        expect(&rt, has_child_tiers::<Three>(tier, &[tier - 1]));
     }
 }
 
 #[test]
 fn parents_in_stairs(rt: HostRuntime) {
-    assert!(rt; has_parents::<Three>(on(0), 1, &[0]));
-    assert!(rt; has_parents::<Three>(on(0), 0, &[]));
-    assert!(rt; has_parents::<Three>(on(0), 2, &[]));
-    assert!(rt; has_parents::<Three>(on(3), 4, &[]));
+    expect(&rt, has_parents::<Three>(on(0), 1, &[0]));
+    expect(&rt, has_parents::<Three>(on(0), 0, &[]));
+    expect(&rt, has_parents::<Three>(on(0), 2, &[]));
+    expect(&rt, has_parents::<Three>(on(3), 4, &[]));
 }
 
 #[test]
 fn texts_of_stairs(rt: HostRuntime) {
     let p = on(3);
-    assert!(rt; Three::name() == *b"stairs\0\0\0\0\0\0\0\0\0\0");
-    assert!(rt; shows::<Three>(p, b"3") && shows::<Three>(on(0), b"0"));
-    assert!(rt; reads_none::<Three>(&[b"", b"4", b"01", b"+1", b" 1", b"1\n", b"\xff"]));
-    assert!(rt; reads_no_move::<Three>(p, &[b"", b"0", b"2", b"01"]));
-    assert!(rt; shows_move::<Three>(p, b"1", 1) && leads::<Three>(p, b"1", on(2)));
+    expect(&rt, Three::name() == *b"stairs\0\0\0\0\0\0\0\0\0\0");
+    expect(&rt, shows::<Three>(p, b"3") && shows::<Three>(on(0), b"0"));
+    expect(
+        &rt,
+        reads_none::<Three>(&[b"", b"4", b"01", b"+1", b" 1", b"1\n", b"\xff"]),
+    );
+    expect(&rt, reads_no_move::<Three>(p, &[b"", b"0", b"2", b"01"]));
+    expect(
+        &rt,
+        shows_move::<Three>(p, b"1", 1) && leads::<Three>(p, b"1", on(2)),
+    );
 }
 
 #[test]

@@ -3,6 +3,7 @@ use crate::asking::{
     at, ends, has_child_tiers, has_children, has_moves, has_parents, has_size_and_rank,
     is_canonical, reads_no_move, reads_none, shows, shows_move,
 };
+use crate::expect::{expect, expect_eq};
 use gm_game::game::{Game, laws};
 use gm_game::position::{End, Position};
 use gm_game::shown::texts;
@@ -24,10 +25,13 @@ fn wheel_goes_round(rt: HostRuntime) {
     ];
     for (index, targets) in table.iter().enumerate() {
         let p = at(index as u64);
-        assert!(rt; has_moves::<Wheel>(p, targets) && is_canonical::<Wheel>(p));
+        expect(
+            &rt,
+            has_moves::<Wheel>(p, targets) && is_canonical::<Wheel>(p),
+        );
     }
-    assert_eq!(rt; Wheel::initial(), at(9));
-    assert!(rt; has_children::<Wheel>(at(9), &[at(1), at(7)]));
+    expect_eq(&rt, Wheel::initial(), at(9));
+    expect(&rt, has_children::<Wheel>(at(9), &[at(1), at(7)]));
 }
 
 #[test]
@@ -38,17 +42,17 @@ fn ends_of_wheel(rt: HostRuntime) {
             5 => Some(End::Lose),
             _ => None,
         };
-        assert!(rt; ends::<Wheel>(at(index), end));
+        expect(&rt, ends::<Wheel>(at(index), end));
     }
 }
 
 #[test]
 fn wheel_has_one_tier(rt: HostRuntime) {
-    assert!(rt; has_size_and_rank::<Wheel>(0, 10, 0));
-    assert_eq!(rt; Wheel::tier_size(1), 0);
-    assert!(rt; !Wheel::is_legal(at(10)));
-    assert!(rt; !Wheel::is_legal(Position { tier: 1, index: 0 }));
-    assert!(rt; has_child_tiers::<Wheel>(0, &[]));
+    expect(&rt, has_size_and_rank::<Wheel>(0, 10, 0));
+    expect_eq(&rt, Wheel::tier_size(1), 0);
+    expect(&rt, !Wheel::is_legal(at(10)));
+    expect(&rt, !Wheel::is_legal(Position { tier: 1, index: 0 }));
+    expect(&rt, has_child_tiers::<Wheel>(0, &[]));
 }
 
 #[test]
@@ -67,20 +71,32 @@ fn parents_in_wheel(rt: HostRuntime) {
     ];
     for (index, sources) in table.iter().enumerate() {
         let c = at(index as u64);
-        assert!(rt; has_parents::<Wheel>(c, 0, sources) && has_parents::<Wheel>(c, 1, &[]));
+        expect(
+            &rt,
+            has_parents::<Wheel>(c, 0, sources) && has_parents::<Wheel>(c, 1, &[]),
+        );
     }
 }
 
 #[test]
 fn texts_of_wheel(rt: HostRuntime) {
     let p = at(8);
-    assert!(rt; Wheel::name() == *b"wheel\0\0\0\0\0\0\0\0\0\0\0");
+    expect(&rt, Wheel::name() == *b"wheel\0\0\0\0\0\0\0\0\0\0\0");
     for (index, text) in [(8, b"8"), (0, b"0"), (9, b"9")] {
-        assert!(rt; shows::<Wheel>(at(index), text));
+        expect(&rt, shows::<Wheel>(at(index), text));
     }
-    assert!(rt; reads_none::<Wheel>(&[b"", b"10", b"01", b"+1", b" 1", b"1\n", b"\xff"]));
-    assert!(rt; shows_move::<Wheel>(p, b"3", 3) && shows_move::<Wheel>(p, b"6", 6));
-    assert!(rt; reads_no_move::<Wheel>(p, &[b"", b"0", b"8", b"03", b"10", b"4294967299"]));
+    expect(
+        &rt,
+        reads_none::<Wheel>(&[b"", b"10", b"01", b"+1", b" 1", b"1\n", b"\xff"]),
+    );
+    expect(
+        &rt,
+        shows_move::<Wheel>(p, b"3", 3) && shows_move::<Wheel>(p, b"6", 6),
+    );
+    expect(
+        &rt,
+        reads_no_move::<Wheel>(p, &[b"", b"0", b"8", b"03", b"10", b"4294967299"]),
+    );
 }
 
 #[test]

@@ -1,4 +1,4 @@
-use Rattle.std.proofs.Common.{◌≡◌, take, map, replicate}
+use Rattle.std.proofs.Common.{◌≡◌, take, map}
 use Rattle.gm_shard.specs.Begin.{first_status, first_left}
 use Rattle.gm_shard.proofs.deliveries.Deliveries.begin.Given as goal
 

@@ -1,0 +1,31 @@
+use Rattle.std.proofs.Common.{◌≡◌, ap, sym, ◌∙◌}
+use Rattle.gm_game.specs.declared.position.Phase.TheVariants.{Ties}
+use Rattle.gm_shard.specs.State.{ShardState}
+use Rattle.gm_solver.proofs.Final.{final_table, final_deliveries, not_too_far}
+use Rattle.gm_solver.proofs.alone.finish_tier.Goals as goal
+
+pub from_packed-requires-clause-is_true : goal.from_packed-requires-clause-is_true
+from_packed-requires-clause-is_true g c =
+    let t = c.finish_phase-2.new.shard in
+    let tier : t.tier ≡ c.tier-tier.result = c.in_ok-last-2.ensures.later.tier ∙ ap (λ (s : ShardState). s.tier) c.next_phase.ensures ∙ c.in_ok-last.ensures.later.tier ∙ sym c.tier-tier.ensures in
+    final_table g.G.Game.rules c.tier-tier.result t c.finish_phase-2.new.expected c.in_ok-last-2.ensures.over tier c.in_ok-records.records c.finish.new.records c.in_ok-records.ensures c.in_ok-finish.ensures.ok
+
+pub returns-clause-deliveries : goal.returns-clause-deliveries
+returns-clause-deliveries g c =
+    let r = g.G.Game.rules in
+    let t = c.finish_phase-2.new.shard in
+    let e = c.finish_phase-2.new.expected in
+    let over = c.in_ok-last-2.ensures.over in
+    let tier : t.tier ≡ c.args.shard.now.tier = c.in_ok-last-2.ensures.later.tier ∙ ap (λ (s : ShardState). s.tier) c.next_phase.ensures ∙ c.in_ok-last.ensures.later.tier in
+    let phase : t.phase ≡ Ties = c.in_ok-last-2.ensures.later.phase ∙ ap (λ (s : ShardState). s.phase) c.next_phase.ensures in
+    let is_true = final_table r c.args.shard.now.tier t e over tier c.in_ok-records.records c.finish.new.records c.in_ok-records.ensures c.in_ok-finish.ensures.ok in
+    final_deliveries r g.met.G.Game.lawful c.args.tables.now c.has-held.ensures.tables c.args.shard.now.tier c.requires.held c.finish.new.records is_true t e over phase tier c.in_ok-last-2.last c.in_ok-last-2.ensures.last c.place-end.ensures.last
+    c.number.ensures.exact c.number.result c.number.ensures.value
+
+pub returns-clause-near : goal.returns-clause-near
+returns-clause-near g c =
+    let r = g.G.Game.rules in
+    let t = c.finish_phase-2.new.shard in
+    let tier : t.tier ≡ c.args.shard.now.tier = c.in_ok-last-2.ensures.later.tier ∙ ap (λ (s : ShardState). s.tier) c.next_phase.ensures ∙ c.in_ok-last.ensures.later.tier in
+    let is_true = final_table r c.args.shard.now.tier t c.finish_phase-2.new.expected c.in_ok-last-2.ensures.over tier c.in_ok-records.records c.finish.new.records c.in_ok-records.ensures c.in_ok-finish.ensures.ok in
+    not_too_far r g.met.G.Game.lawful c.args.shard.now.tier c.finish.new.records is_true
