@@ -23,7 +23,8 @@ fn slots_of<G: Game, A: Desk, B: Desk, C: Desk, D: Desk>(
     rest: &mut Shares<A, B, C, D>,
 ) -> Result<Vec<Mutex<Slot<G, A, B, C, D>>>, AllocError>
     requires { workers < rest.old.parts }
-    ensures { IfOk result (λ slots. rest.new.parts + vec_len slots ≡ rest.old.parts) }
+    ensures parts { IfOk result (λ slots. rest.new.parts + vec_len slots ≡ rest.old.parts) }
+    ensures each { IfOk result (λ slots. vec_len slots ≡ workers) }
 {
     let mut slots = Vec::new(alloc);
     for _ in 0..workers {
