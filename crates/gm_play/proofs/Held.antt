@@ -1,9 +1,25 @@
 -- Held tiers.
-use Rattle.std.proofs.Common.{ℕ, zero, suc, inl, inr, List, refl, sym, subst}
+use Rattle.std.proofs.Common.{◌≡◌, ℕ, zero, suc, inl, inr, Bool, true, false, List, Option, None, Some, IsSome, Result, Ok, Err, refl, sym, subst}
 use Rattle.std.specs.List.{Contains}
 use Rattle.gm_game.specs.Rules.{Rules, IsTierOrChild}
-use Rattle.gm_table.specs.Tables.{TableData, IsHeld, AreHeld}
+use Rattle.gm_table.specs.Tables.{TableData, IsHeld, AreHeld, table_of}
 use Rattle.gm_play.specs.Reached.{IsBelow, AreAllHeld}
+
+-- an answer is no error
+pub ok_apart : {T E : Type 0} (x : T) (e : E) → ◌≡◌ {A = Result T E} (Ok x) (Err e) → ⊥
+ok_apart x e f = let z : ⊥ = cc in z
+
+-- what is refused where a position isn't legal, or its tier isn't held
+pub legal_unless : {T E : Type 0} (x : T) (e : E) (b : Bool) → (b ≡ false → ◌≡◌ {A = Result T E} (Ok x) (Err e)) → b ≡ true
+legal_unless x e true h = refl
+legal_unless x e false h = absurd (ok_apart x e (h refl))
+
+some_unless : {A : Type 0} (o : Option A) → ((IsSome o → ⊥) → ⊥) → IsSome o
+some_unless None h = absurd (h (λ e. let z : ⊥ = cc in z))
+some_unless (Some x) h = refl
+
+pub held_unless : {T E : Type 0} (x : T) (e : E) (entries : List TableData) (tier : ℕ) → ((IsHeld entries tier → ⊥) → ◌≡◌ {A = Result T E} (Ok x) (Err e)) → IsHeld entries tier
+held_unless x e entries tier h = some_unless (table_of entries tier) (λ none. ok_apart x e (h none))
 
 module _ (r : Rules) (entries : List TableData) where
   pub held_own : (tier : ℕ) → AreAllHeld r entries tier → IsHeld entries tier

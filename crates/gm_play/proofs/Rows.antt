@@ -1,7 +1,7 @@
 -- The rows of moves and of lines of play.
 use Rattle.std.proofs.Common.{◌≡◌, ℕ, ◌+◌, ◌-◌, true, List, [], ◌∷◌, ◌++◌, map, get_or, Option, Some, refl, sym, ap, subst, ◌∙◌, arith}
 use Rattle.std.specs.List.{All, Contains}
-use Rattle.std.proofs.lemmas.List.{append_assoc}
+use Rattle.std.proofs.lemmas.List.{append_assoc, append-nil}
 use Rattle.std.proofs.lemmas.List.Elements.{All-contains_itself}
 use Rattle.std.proofs.lemmas.List.Sorted.{Contains-permutation, IsPermutation-sym}
 use Rattle.gm_game.specs.declared.position.Position.{Position}
@@ -65,3 +65,10 @@ module _ (r : Rules) (shown : Position → List ℕ) (move_shown : Position → 
       let here : line ++ rest ≡ rows_from r shown move_shown p s (m ∷ ms) = ap (λ (x : Position). row (move_shown p m) (shown x) (text_of t) ++ rows_from r shown move_shown x t ms) e
       ∙ ap (λ (u : Solved). row (move_shown p m) (shown (r.play p m)) (text_of u) ++ rows_from r shown move_shown (r.play p m) u ms) f in
       ap (λ (x : List ℕ). x ++ rest) w ∙ append_assoc done line rest ∙ ap (λ (x : List ℕ). done ++ x) here ∙ h
+
+-- the last row after the others
+pub rows_end : (done first steps ends more : List ℕ) → done ++ [] ≡ first ++ steps → more ≡ done ++ ends → more ≡ first ++ steps ++ ends
+rows_end done first steps ends more h e = e ∙ ap (λ (x : List ℕ). x ++ ends) (sym (append-nil done) ∙ h)
+
+pub same_row : (done a b d x y z : List ℕ) → a ≡ x → b ≡ y → d ≡ z → done ++ row a b d ≡ done ++ row x y z
+same_row done a b d x y z e f g = rw (e, f, g) refl

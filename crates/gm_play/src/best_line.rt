@@ -1,5 +1,5 @@
 //! Best play of both sides.
-ghost use Rattle.std.specs.Prelude.{◌≡◌, ◌↔◌, ◌<◌, true, false, MatchOption, IfOk, IfErr, IsErrOf, Some, slice_get};
+ghost use Rattle.std.specs.Prelude.{◌≡◌, ◌↔◌, ◌++◌, ◌∷◌, [], ◌<◌, true, false, MatchOption, IfOk, IfErr, OnOk, IsErrOf, Some, slice_get};
 ghost use Rattle.std.specs.List.{Contains};
 ghost use Rattle.gm_play.specs.BestLines.{IsBestLine, IsWhole, ComesToNotHeld};
 ghost use Rattle.gm_play.specs.BestMoves.{IsBestMove};
@@ -25,13 +25,24 @@ pub enum LineEnd {
 }
 
 /// Best play of both sides from a position.
-#[derive(Debug, Drop)]
+#[derive(Debug)]
 pub struct BestLine {
     /// The numbers of the moves.
     pub moves: Vec<u32>,
     /// The position that the line starts from, and the result of each move.
     pub positions: Vec<Position>,
     pub end: LineEnd,
+}
+
+// Let go by one call, so that a proof follows one value and not each field.
+impl Drop for BestLine {
+    fn drop(self) {
+        let BestLine {
+            moves: _,
+            positions: _,
+            end: _,
+        } = self;
+    }
 }
 
 /// The line of play in which both sides make their best moves, up to the end of the game, to a position that has come before, or to `limit` moves.
@@ -56,7 +67,7 @@ pub fn best_line<G: Game>(
     walk(alloc, tables, start, limit)
 }
 
-// The line, move by move.
+// The line of a legal position.
 fn walk<G: Game>(
     alloc: Global,
     tables: &Tables<G>,
@@ -70,39 +81,67 @@ fn walk<G: Game>(
 {
     let mut moves = Vec::new(alloc);
     let mut positions = Vec::new(alloc);
-    let mut p = start;
-    positions.push(p).map_err(|_| PlayError::OutOfMemory)?;
-    while moves.len() < limit {
-        let Some(number) = next_move(tables, p)? else {
-            let end = LineEnd::Over;
-            return Ok(BestLine {
-                moves,
-                positions,
-                end,
-            });
-        };
-        p = G::play(p, number);
-        let before = place_of(positions.as_slice(), p);
-        moves.push(number).map_err(|_| PlayError::OutOfMemory)?;
-        positions.push(p).map_err(|_| PlayError::OutOfMemory)?;
-        if let Some(first) = before {
-            let end = LineEnd::Again { first };
-            return Ok(BestLine {
-                moves,
-                positions,
-                end,
-            });
-        }
-    }
-    let end = match G::primitive(p) {
-        Some(_) => LineEnd::Over,
-        None => LineEnd::Cut,
-    };
+    let end = follow(tables, &mut moves, &mut positions, start, limit)?;
     Ok(BestLine {
         moves,
         positions,
         end,
     })
+}
+
+// Writes the moves and the positions of a line into empty lists: how it ends.
+fn follow<G: Game>(
+    tables: &Tables<G>,
+    moves: &mut Vec<u32>,
+    positions: &mut Vec<Position>,
+    start: Position,
+    limit: usize,
+) -> Result<LineEnd, PlayError>
+    requires legal { G.rules.is_legal start ≡ true }
+    requires empty { (moves.old.items ≡ []) × (positions.old.items ≡ []) }
+    ensures line { IfOk result (λ end. (line : BestLine) → line.moves.items ≡ moves.new.items → line.positions.items ≡ positions.new.items → line.end ≡ end
+        → IsBestLine G.rules start limit line) }
+    ensures legal { IfErr result (λ e. e ≡ PlayError.Illegal → ⊥) }
+    ensures not_held { IsErrOf result PlayError.NotHeld → ComesToNotHeld G.rules tables.now start }
+{
+    let mut p = start;
+    push_position(positions, p)?;
+    while moves.len() < limit {
+        let Some(number) = next_move(tables, p)? else {
+            return Ok(LineEnd::Over);
+        };
+        p = G::play(p, number);
+        let before = place_of(positions.as_slice(), p);
+        push_move(moves, number)?;
+        push_position(positions, p)?;
+        if let Some(first) = before {
+            return Ok(LineEnd::Again { first });
+        }
+    }
+    match G::primitive(p) {
+        Some(_) => Ok(LineEnd::Over),
+        None => Ok(LineEnd::Cut),
+    }
+}
+
+fn push_move(moves: &mut Vec<u32>, number: u32) -> Result<(), PlayError>
+    ensures ok { OnOk result (moves.new.items ≡ moves.old.items ++ number ∷ []) }
+    ensures err { IfErr result (λ e. e ≡ PlayError.OutOfMemory) }
+{
+    match moves.push(number) {
+        Ok(()) => Ok(()),
+        Err(_) => Err(PlayError::OutOfMemory),
+    }
+}
+
+fn push_position(positions: &mut Vec<Position>, p: Position) -> Result<(), PlayError>
+    ensures ok { OnOk result (positions.new.items ≡ positions.old.items ++ p ∷ []) }
+    ensures err { IfErr result (λ e. e ≡ PlayError.OutOfMemory) }
+{
+    match positions.push(p) {
+        Ok(()) => Ok(()),
+        Err(_) => Err(PlayError::OutOfMemory),
+    }
 }
 
 // The best move of a legal position.

@@ -1,5 +1,5 @@
 //! The best move of a position.
-ghost use Rattle.std.specs.Prelude.{◌≡◌, ◌↔◌, ◌≤◌, ℕ, true, false, None, IsTrue, IfOk, IsErrOf};
+ghost use Rattle.std.specs.Prelude.{◌≡◌, ◌↔◌, ◌≤◌, ℕ, true, false, None, IsTrue, IfOk, IsErrOf, option_map};
 ghost use Rattle.std.specs.List.{Contains};
 ghost use Rattle.gm_game.specs.Rules.{IsChild};
 ghost use Rattle.gm_game.specs.Values.{HasValue};
@@ -32,10 +32,19 @@ pub fn best_move<G: Game>(tables: &Tables<G>, p: Position) -> Result<Option<u32>
     if !tables.has_children(p.tier) {
         return Err(AnswerError::NotHeld);
     }
-    if G::primitive(p).is_some() {
-        return Ok(None);
+    match G::primitive(p) {
+        Some(_) => Ok(None),
+        None => Ok(number_of(choose(tables, p, solved.value))),
     }
-    Ok(choose(tables, p, solved.value).map(|choice| choice.number))
+}
+
+fn number_of(choice: Option<Choice>) -> Option<u32>
+    ensures { result ≡ option_map (λ (x : Choice). x.number) choice }
+{
+    match choice {
+        Some(choice) => Some(choice.number),
+        None => None,
+    }
 }
 
 // The best move towards a wanted value, if one goes to it.

@@ -1,4 +1,4 @@
-use Rattle.std.proofs.Common.{◌≡◌, true, sym, subst, rules}
+use Rattle.std.proofs.Common.{◌≡◌, true, sym, subst}
 use Rattle.std.specs.List.{All}
 use Rattle.gm_play.specs.PlayTexts.{IsMoveOf}
 use Rattle.gm_play.specs.Refusals.{AreNotHeld}
@@ -9,13 +9,13 @@ use Rattle.gm_play.proofs.by_text.moves_at.Goals as goal
 pub chosen-requires : goal.chosen-requires
 chosen-requires g c =
     let r = g.G.Game.rules in
-    let legal : r.is_legal c.in-Some.p ≡ true = search rules in
+    let legal : r.is_legal c.in-Some.p ≡ true = ((c.read.ensures c.in-Some.p).0 c.in-Some.is).0 in
     λ k d inside. (are_moves r g.met.G.Game.lawful c.in-Some.p legal c.in-Ok.list.items c.in-Ok.ensures.values k d inside).1
 
 pub returns-in-Ok-clause-each : goal.returns-in-Ok-clause-each
 returns-in-Ok-clause-each g c =
     let r = g.G.Game.rules in
-    let legal : r.is_legal c.in-Some.p ≡ true = search rules in
+    let legal : r.is_legal c.in-Some.p ≡ true = ((c.read.ensures c.in-Some.p).0 c.in-Some.is).0 in
     let these = all_chosen r (IsMoveOf r c.in-Some.p) c.args.distinct c.in-Ok.list.items (are_moves r g.met.G.Game.lawful c.in-Some.p legal c.in-Ok.list.items c.in-Ok.ensures.values) in
     subst (All (IsMoveOf r c.in-Some.p)) (sym c.chosen.ensures) these
 
@@ -27,3 +27,12 @@ returns-in-Ok-clause-not_held g c = (
       let refused = c.in-Ok.ensures.not_held.1 (subst (AreNotHeld g.G.Game.rules c.args.tables.now) (sym same) none) in
       absurd (cc)),
 )
+
+pub returns-in-Ok-clause-moves : goal.returns-in-Ok-clause-moves
+returns-in-Ok-clause-moves g c = record {
+  read = (c.read.ensures c.in-Some.p).0 c.in-Some.is;
+  list = c.in-Ok.list.items;
+  values = c.in-Ok.ensures.values;
+  best = c.in-Ok.ensures.best;
+  are = c.chosen.ensures;
+}

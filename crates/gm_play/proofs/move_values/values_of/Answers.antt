@@ -1,10 +1,18 @@
-use Rattle.std.proofs.Common.{◌≡◌, ◌+◌, ℕ, List, ◌∷◌, [], ◌++◌, map, take, sym, ap, ◌∙◌, subst}
-use Rattle.std.specs.List.{All}
-use Rattle.std.proofs.lemmas.List.{take_more, map-append}
-use Rattle.std.proofs.lemmas.List.Elements.{All-push}
+use Rattle.std.proofs.Common.{◌≡◌, ◌+◌, ◌<◌, ◌≤◌, ℕ, List, ◌∷◌, [], ◌++◌, length, map, take, get_or, sym, ap, ◌∙◌, subst, arith}
+use Rattle.std.specs.List.{All, Contains}
+use Rattle.std.proofs.lemmas.List.{take_more, take_all, map-append, length-map, length-take-le}
+use Rattle.std.proofs.lemmas.List.Elements.{All-push, Contains-get_or}
 use Rattle.gm_play.specs.declared.move_values.MoveValue.{MoveValue}
 use Rattle.gm_play.specs.MoveValues.{IsMoveValue}
 use Rattle.gm_play.proofs.move_values.values_of.Goals as goal
+
+-- there is room for one more
+room : (list : List MoveValue) (items moves : List ℕ) (k : ℕ) → map (λ (x : MoveValue). x.number) list ≡ take k items → k < length items → items ≡ moves → length moves ≤ 128 → length list < 128
+room list items moves k listed less same few =
+    let long : length list ≡ length (take k items) = sym (length-map list (λ (x : MoveValue). x.number)) ∙ ap length listed in
+    let cut : length (take k items) ≡ k = length-take-le k items (omega arith) in
+    let all : length items ≡ length moves = ap length same in
+    omega arith
 
 pub loop-number-preserved : goal.loop-number-preserved
 loop-number-preserved g c =
@@ -20,3 +28,27 @@ loop-number-preserved g c =
       listed = ap (map number) pushed ∙ first ∙ last;
       each = subst (All (IsMoveValue g.G.Game.rules c.args.p)) (sym pushed) (All-push (IsMoveValue g.G.Game.rules c.args.p) list x c.loop-number.invariant.each c.value_of.ensures.value);
     }
+
+pub value_of-requires : goal.value_of-requires
+value_of-requires g c =
+    let items = c.as_slice-number-items.result.now in
+    let k = c.loop-number.number-index in
+    let same : items ≡ g.G.Game.rules.moves c.args.p = c.as_slice-number-items.ensures.value ∙ c.moves-moves.ensures in
+    record {
+      legal = c.requires.legal;
+      listed = subst (λ (l : List ℕ). Contains l (get_or items k 0)) same (Contains-get_or items k 0 c.loop-number-test.true);
+      own = c.requires.own;
+      children = c.requires.children;
+    }
+
+pub push-requires : goal.push-requires
+push-requires g c =
+    let few = g.met.G.Game.lawful.moves_few c.args.p c.requires.legal in
+    let same = c.as_slice-number-items.ensures.value ∙ c.moves-moves.ensures in
+    (omega arith, room c.loop-number.list.items _ _ c.loop-number.number-index c.loop-number.invariant.listed c.loop-number-test.true same few)
+
+pub returns : goal.returns
+returns g c = record {
+  listed = c.loop-number.invariant.listed ∙ take_all c.loop-number.number-index c.as_slice-number-items.result.now c.loop-number-test.false ∙ c.as_slice-number-items.ensures.value ∙ c.moves-moves.ensures;
+  each = c.loop-number.invariant.each;
+}

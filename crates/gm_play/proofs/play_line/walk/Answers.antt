@@ -1,8 +1,34 @@
-use Rattle.std.proofs.Common.{◌≡◌, ◌≢◌, ◌+◌, ℕ, List, ◌∷◌, drop, get_or, Option, None, Some, MatchOption, refl, sym, subst, rules, arith}
+use Rattle.std.proofs.Common.{◌≡◌, ◌≢◌, ◌+◌, ℕ, List, ◌∷◌, drop, get_or, true, false, Option, None, Some, is_some, MatchOption, refl, sym, subst, rules, arith}
+use Rattle.gm_game.specs.declared.position.End.{End}
 use Rattle.gm_play.specs.Lines.{IsLine, IsPlayed, IsReplied}
 use Rattle.gm_play.specs.declared.play_line.PlayLine.{PlayLine}
 use Rattle.gm_play.proofs.Playing.{reply_is_next, no_reply_is_left, step_on, step_stuck, step_end, step_last, answered_on, held_answered, held_replied, moves_answered, moves_replied}
 use Rattle.gm_play.proofs.play_line.walk.Goals as goal
+
+-- whether the game has ended
+ended_if : (o p : Option End) → o ≡ p → true ≡ is_some o → p ≢ None
+ended_if None p e f none = let z : ⊥ = cc in z
+ended_if (Some x) p e f none = let z : ⊥ = cc in z
+
+open_if : (o p : Option End) → o ≡ p → false ≡ is_some o → p ≡ None
+open_if None p e f = sym e
+open_if (Some x) p e f = absurd (let z : ⊥ = cc in z)
+
+pub answered-line-requires-clause-legal : goal.answered-line-requires-clause-legal
+answered-line-requires-clause-legal g c = c.loop-reply.invariant.on.legal
+
+pub answered-line-requires-clause-held : goal.answered-line-requires-clause-held
+answered-line-requires-clause-held g c = c.loop-reply.invariant.held
+
+pub replied-requires-clause-legal : goal.replied-requires-clause-legal
+replied-requires-clause-legal g c =
+    let r = g.G.Game.rules in
+    let a = c.args in
+    let xs = a.replies.now in
+    let i = c.loop-reply.reply-index in
+    let line = c.loop-reply.line in
+    let on = reply_is_next r a.start a.first xs i line c.loop-reply-test.true c.loop-reply.invariant.on in
+    (answered_on r g.met.G.Game.lawful a.start a.first xs (get_or xs i 0 ∷ drop (i + 1) xs) line on line.side c.answered-line.result refl c.answered-line.ensures).legal
 
 pub returns-then-is_some : goal.returns-then-is_some
 returns-then-is_some g c =
@@ -11,7 +37,7 @@ returns-then-is_some g c =
     let xs = a.replies.now in
     let i = c.loop-reply.reply-index in
     let on = reply_is_next r a.start a.first xs i c.loop-reply.line c.loop-reply-test.true c.loop-reply.invariant.on in
-    let ended : r.primitive c.answered-line.result.position ≢ None = search rules in
+    let ended : r.primitive c.answered-line.result.position ≢ None = ended_if _ _ c.primitive.ensures c.if-is_some.ensures in
     step_end r g.met.G.Game.lawful a.start a.first xs (drop (i + 1) xs) (get_or xs i 0) c.loop-reply.line c.answered-line.result on c.answered-line.ensures ended
 
 pub returns-in_err-line : goal.returns-in_err-line
@@ -21,8 +47,8 @@ returns-in_err-line g c =
     let xs = a.replies.now in
     let i = c.loop-reply.reply-index in
     let on = reply_is_next r a.start a.first xs i c.loop-reply.line c.loop-reply-test.true c.loop-reply.invariant.on in
-    let open_ : r.primitive c.answered-line.result.position ≡ None = search rules in
-    let none : c.replied.result ≡ None = search rules in
+    let open_ : r.primitive c.answered-line.result.position ≡ None = open_if _ _ c.primitive.ensures c.if-is_some.ensures in
+    let none : c.replied.result ≡ None = c.in_err-line.was in
     let given : c.from_residual.result ≡ None = search rules in
     let is : IsReplied r c.answered-line.result (get_or xs i 0) None = subst (IsReplied r c.answered-line.result (get_or xs i 0)) none c.replied.ensures in
     subst (λ (o : Option PlayLine). MatchOption o ((moves : List ℕ) → IsLine r a.start a.first xs moves → ⊥) (IsPlayed r a.start a.first xs)) (sym given)
@@ -38,8 +64,8 @@ loop-reply-preserved g c =
     let line = c.loop-reply.line in
     let new = c.answered-line.result in
     let on = reply_is_next r a.start a.first xs i line c.loop-reply-test.true c.loop-reply.invariant.on in
-    let open_ : r.primitive new.position ≡ None = search rules in
-    let some : c.replied.result ≡ Some c.in_ok-line.line = search rules in
+    let open_ : r.primitive new.position ≡ None = open_if _ _ c.primitive.ensures c.if-is_some.ensures in
+    let some : c.replied.result ≡ Some c.in_ok-line.line = c.in_ok-line.was in
     let is : IsReplied r new (get_or xs i 0) (Some c.in_ok-line.line) = subst (IsReplied r new (get_or xs i 0)) some c.replied.ensures in
     let here = answered_on r laws a.start a.first xs (get_or xs i 0 ∷ drop (i + 1) xs) line on line.side new refl c.answered-line.ensures in
     let few = c.loop-reply.invariant.few in

@@ -1,5 +1,6 @@
-use Rattle.std.proofs.Common.{◌≡◌, ◌∙◌, ◌+◌, ◌≤◌, ◌<◌, ◌++◌, ◌∷◌, [], length, List, ℕ, Option, Some, None, IfSome, ap, subst, arith, rules}
+use Rattle.std.proofs.Common.{◌≡◌, ◌∙◌, ◌+◌, ◌≤◌, ◌<◌, ◌++◌, ◌∷◌, [], length, List, ℕ, Option, Some, None, IfSome, ap, subst, eq-eqb, arith, rules}
 use Rattle.std.specs.Io.KnownBytes.{Appends}
+use Rattle.std.proofs.lemmas.Bool.{ne_eqb}
 use Rattle.gm_game.specs.declared.position.Position.{Position}
 use Rattle.gm_play.specs.declared.session.TheConstants.{SESSION_BYTES, KEPT}
 use Rattle.gm_play.specs.Reached.{IsReached}
@@ -7,9 +8,22 @@ use Rattle.gm_play.specs.Dialogue.{Advice, Said, turn, reply, closing}
 use Rattle.gm_play.specs.Sessions.{ReadsByte, AppendsPart, Says}
 use Rattle.gm_play.proofs.Reaching.{known_from, held_from, reached_reached}
 use Rattle.gm_play.proofs.Kept.{kept_push, kept_full, heard, closed}
-use Rattle.gm_play.proofs.Talk.{begins, cut_at_once, goes_on, next_line, last_line, input_ends, read_fails, close_fails, reply_fails, too_long}
+use Rattle.gm_play.proofs.Talk.{begins, over_at_once, cut_at_once, goes_on, next_line, last_line, input_ends, read_fails, close_fails, reply_fails, too_long}
 use Rattle.gm_play.proofs.session.converse.Goals as goal
 use Rattle.gm_play.proofs.session.converse.Goals.{then-byte-eq10+in-Ok-Some-reply, else-byte-eq10+then-not-is_full, else-byte-eq10+else-not-is_full}
+
+one_below : (a b : ℕ) → a ≤ b → (a ≡ b → ⊥) → a + 1 ≤ b
+one_below a b le ne = omega arith
+
+pub returns-in-Ok-None-clause-ok : goal.returns-in-Ok-None-clause-ok
+returns-in-Ok-None-clause-ok g c k known =
+    let r = g.G.Game.rules in
+    let s = g.G.Shown.shown in
+    let m = g.G.Shown.move_shown in
+    let v = g.V.View.seen in
+    let w0 = g.W.Write.contents c.args.output.now in
+    let w1 = g.W.Write.contents c.turn.new.output in
+    over_at_once r s m k v c.args.start c.args.first _ w0 w1 (subst (Says w0 w1 (turn r s m k v c.args.start c.args.first)) c.in-Ok-None.field-0-is (c.in-Ok-None.ensures.ok k known))
 
 pub returns-in-Err-clause-err : goal.returns-in-Err-clause-err
 returns-in-Err-clause-err g c k known = cut_at_once g.G.Game.rules g.G.Shown.shown g.G.Shown.move_shown k g.V.View.seen c.args.start c.args.first _ _ _ (c.in-Err.ensures.err k known)
@@ -84,7 +98,7 @@ pub returns-then-count-eq-SESSION_BYTES-clause-err : goal.returns-then-count-eq-
 returns-then-count-eq-SESSION_BYTES-clause-err g c k known =
     let reads : ReadsByte (g.R.Read.remaining c.loop-count.input) (g.R.Read.remaining c.read_byte.new.input) (Some c.in-Ok-Some-read_byte.byte) =
     subst (ReadsByte _ _) c.in-Ok-Some-read_byte.field-0-is c.in-Ok-Some-read_byte.ensures.ok in
-    too_long g.G.Game.rules g.G.Shown.shown g.G.Shown.move_shown k g.V.View.seen c.args.start c.args.first (c.loop-count.invariant.talk k known) _ c.in-Ok-Some-read_byte.byte reads (search rules)
+    too_long g.G.Game.rules g.G.Shown.shown g.G.Shown.move_shown k g.V.View.seen c.args.start c.args.first (c.loop-count.invariant.talk k known) _ c.in-Ok-Some-read_byte.byte reads c.if-count-eq-SESSION_BYTES.true
 
 pub reply-requires-clause-legal : goal.reply-requires-clause-legal
 reply-requires-clause-legal g c = c.loop-count.invariant.reached.0
@@ -110,7 +124,7 @@ returns-in-Ok-None-reply-clause-ok g c k known =
     let w1 = g.W.Write.contents c.loop-count.output in
     let w2 = g.W.Write.contents c.reply.new.output in
     let before : Says w1 w2 (reply r s m k v asked c.deref-then-byte-eq10.result.now) None = subst (Says w1 w2 (reply r s m k v asked c.deref-then-byte-eq10.result.now)) c.in-Ok-None-reply.field-0-is (c.in-Ok-None-reply.ensures.ok k there) in
-    last_line r s m k v start first talk _ w2 c.in-Ok-Some-read_byte.byte reads (search rules) (omega (arith, c.loop-count.invariant.few, c.if-count-eq-SESSION_BYTES.false))
+    last_line r s m k v start first talk _ w2 c.in-Ok-Some-read_byte.byte reads (eq-eqb _ _ c.if-byte-eq10.true) (one_below _ _ c.loop-count.invariant.few c.if-count-eq-SESSION_BYTES.false)
     (subst (λ (t : Said). Says w1 w2 t None) same before)
 
 pub returns-in-Err-reply-clause-err : goal.returns-in-Err-reply-clause-err
@@ -130,7 +144,7 @@ returns-in-Err-reply-clause-err g c k known =
     ap (reply r s m k v asked) (c.deref-then-byte-eq10.ensures.0 ∙ talk.keeps) ∙ heard r s m g.met.G.Shown.readable k v asked c.loop-count.invariant.reached.0 talk.line in
     let w1 = g.W.Write.contents c.loop-count.output in
     let w2 = g.W.Write.contents c.reply.new.output in
-    reply_fails r s m k v start first talk _ w2 c.in-Ok-Some-read_byte.byte reads (search rules) (omega (arith, c.loop-count.invariant.few, c.if-count-eq-SESSION_BYTES.false))
+    reply_fails r s m k v start first talk _ w2 c.in-Ok-Some-read_byte.byte reads (eq-eqb _ _ c.if-byte-eq10.true) (one_below _ _ c.loop-count.invariant.few c.if-count-eq-SESSION_BYTES.false)
     (subst (λ (t : Said). AppendsPart w1 w2 t.text) same (c.in-Err-reply.ensures.err k there))
 
 pub loop-count-preserved : goal.loop-count-preserved
@@ -144,7 +158,7 @@ loop-count-preserved g c =
     let asked = c.loop-count.asked in
     let reached = c.loop-count.invariant.reached in
     let w1 = g.W.Write.contents c.loop-count.output in
-    let few : c.loop-count.count + 1 ≤ SESSION_BYTES = omega (arith, c.loop-count.invariant.few, c.if-count-eq-SESSION_BYTES.false) in
+    let few : c.loop-count.count + 1 ≤ SESSION_BYTES = one_below _ _ c.loop-count.invariant.few c.if-count-eq-SESSION_BYTES.false in
     let reads : ReadsByte (g.R.Read.remaining c.loop-count.input) (g.R.Read.remaining c.read_byte.new.input) (Some c.in-Ok-Some-read_byte.byte) =
     subst (ReadsByte _ _) c.in-Ok-Some-read_byte.field-0-is c.in-Ok-Some-read_byte.ensures.ok in
     elim c.if-byte-eq10.branch [
@@ -162,10 +176,10 @@ loop-count-preserved g c =
                 let before : Says w1 w2 (reply r s m k v asked w.deref-then-byte-eq10.result.now) (Some next) =
                 subst (Says w1 w2 (reply r s m k v asked w.deref-then-byte-eq10.result.now)) w.in-Ok-Some-reply.field-0-is (w.in-Ok-Some-reply.ensures.ok k (known_from r start.tier k asked known reached)) in
                 rw (w.output-is, w.asked-is, w.line-is, w.clear.ensures)
-                (next_line r s m k v start first talk _ w2 c.in-Ok-Some-read_byte.byte next reads (search rules) (subst (λ (t : Said). Says w1 w2 t (Some next)) same before)));
+                (next_line r s m k v start first talk _ w2 c.in-Ok-Some-read_byte.byte next reads (eq-eqb _ _ w.if-byte-eq10.true) (subst (λ (t : Said). Says w1 w2 t (Some next)) same before)));
           })
       | else-byte-eq10+then-not-is_full w ↦ (
-          let grown : w.push.new.self.items ≡ c.loop-count.line.items ++ c.in-Ok-Some-read_byte.byte ∷ [] = search rules in
+          let grown : w.push.new.self.items ≡ c.loop-count.line.items ++ c.in-Ok-Some-read_byte.byte ∷ [] = w.push.ensures.items in
           let short : length c.loop-count.line.items < KEPT = grind (arith, w.is_full.ensures.value, w.is_full.ensures.fits, w.if-not-is_full.true) in
           record {
             few = few;
@@ -173,7 +187,7 @@ loop-count-preserved g c =
             talk = λ (k : Advice) known. (
                 let talk = c.loop-count.invariant.talk k known in
                 rw (w.output-is, w.asked-is, w.line-is)
-                (goes_on r s m k v start first talk _ c.in-Ok-Some-read_byte.byte w.push.new.self.items reads (search rules)
+                (goes_on r s m k v start first talk _ c.in-Ok-Some-read_byte.byte w.push.new.self.items reads (ne_eqb _ _ w.if-byte-eq10.false)
                 (grown ∙ kept_push c.loop-count.line.items talk.line c.in-Ok-Some-read_byte.byte talk.keeps short)));
           })
       | else-byte-eq10+else-not-is_full w ↦ (
@@ -184,7 +198,7 @@ loop-count-preserved g c =
             talk = λ (k : Advice) known. (
                 let talk = c.loop-count.invariant.talk k known in
                 rw (w.output-is, w.asked-is, w.line-is)
-                (goes_on r s m k v start first talk _ c.in-Ok-Some-read_byte.byte c.loop-count.line.items reads (search rules)
+                (goes_on r s m k v start first talk _ c.in-Ok-Some-read_byte.byte c.loop-count.line.items reads (ne_eqb _ _ w.if-byte-eq10.false)
                 (kept_full c.loop-count.line.items talk.line c.in-Ok-Some-read_byte.byte talk.keeps full)));
           })
     ]

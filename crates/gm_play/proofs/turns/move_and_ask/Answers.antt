@@ -1,7 +1,8 @@
-use Rattle.std.proofs.Common.{◌≡◌, List, ℕ, ◌++◌, codes, sym, ap, ◌∙◌, subst, refl, Some, None, IfSome, true, IfOk, OnErr, rules}
+use Rattle.std.proofs.Common.{◌≡◌, List, ℕ, ◌++◌, codes, sym, ap, ◌∙◌, subst, refl, Some, None, Option, Result, IfSome, true, IfOk, OnErr}
 use Rattle.std.proofs.KnownBytes.{Appends-trans}
 use Rattle.std.proofs.lemmas.Result.{on_err_weaker, IfOk-weaker}
 use Rattle.gm_game.specs.declared.position.Position.{Position}
+use Rattle.gm_play.specs.declared.answer.AnswerError.{AnswerError}
 use Rattle.gm_play.specs.declared.side.Side.TheVariants.{Computer}
 use Rattle.gm_play.specs.BestMoves.{IsBestMove}
 use Rattle.gm_play.specs.Reached.{IsReached}
@@ -66,9 +67,9 @@ returns-in_err-write_line-in-Some-unwrap-clause-err g c k known =
     let v = g.V.View.seen in
     let p = c.args.p in
     let n = c.in-Some-unwrap.m in
-    let best : IsBestMove r p (Some n) = search rules in
+    let best : IsBestMove r p (Some n) = subst (λ (o : Result (Option ℕ) AnswerError). IfOk o (IsBestMove r p)) c.in-Some-unwrap.ensures c.best_move.ensures.best in
     let said = computer_moves r s m k v p n c.requires.legal known best in
-    let line : codes "computer" ++ codes ": " ++ c.as_slice.result.now ++ codes "\n" ≡ move_line r s m k v p n = ap (λ (t : List ℕ). codes "computer" ++ codes ": " ++ t ++ codes "\n") (search rules) in
+    let line : codes "computer" ++ codes ": " ++ c.as_slice.result.now ++ codes "\n" ≡ move_line r s m k v p n = ap (λ (t : List ℕ). codes "computer" ++ codes ": " ++ t ++ codes "\n") (c.as_slice.ensures.value ∙ c.move_text.ensures) in
     let next = persons_turn r s m k v (r.play p n) in
     on_err c.from_residual-in_err-write_line-in-Some-unwrap.result _
     (stops_after _ _ _ (place r s m k v p) (moves_or_ends r s m k v p (r.primitive p) (k.best p)) (after_move (before (move_line r s m k v p n) next)) (move_line r s m k v p n ++ next.text) (c.in_ok-write_place.ensures.ok k known) said refl
@@ -84,9 +85,9 @@ returns-in_ok-write_line-in-Some-unwrap-clause-ok g c k known =
     let n = c.in-Some-unwrap.m in
     let w2 = g.W.Write.contents c.write_line.new.output in
     let w3 = g.W.Write.contents c.ask.new.output in
-    let best : IsBestMove r p (Some n) = search rules in
+    let best : IsBestMove r p (Some n) = subst (λ (o : Result (Option ℕ) AnswerError). IfOk o (IsBestMove r p)) c.in-Some-unwrap.ensures c.best_move.ensures.best in
     let said = computer_moves r s m k v p n c.requires.legal known best in
-    let line : codes "computer" ++ codes ": " ++ c.as_slice.result.now ++ codes "\n" ≡ move_line r s m k v p n = ap (λ (t : List ℕ). codes "computer" ++ codes ": " ++ t ++ codes "\n") (search rules) in
+    let line : codes "computer" ++ codes ": " ++ c.as_slice.result.now ++ codes "\n" ≡ move_line r s m k v p n = ap (λ (t : List ℕ). codes "computer" ++ codes ": " ++ t ++ codes "\n") (c.as_slice.ensures.value ∙ c.move_text.ensures) in
     let next = persons_turn r s m k v (r.play p n) in
     let there : IsKnown r (r.play p n).tier k = known_from r p.tier k (r.play p n) known (played_reached r g.met.G.Game.lawful p n c.requires.legal best.1.best.there) in
     let asks : IfOk c.ask.result (Says w2 w3 next) =
@@ -105,9 +106,9 @@ returns-in_ok-write_line-in-Some-unwrap-clause-err g c k known =
     let n = c.in-Some-unwrap.m in
     let w2 = g.W.Write.contents c.write_line.new.output in
     let w3 = g.W.Write.contents c.ask.new.output in
-    let best : IsBestMove r p (Some n) = search rules in
+    let best : IsBestMove r p (Some n) = subst (λ (o : Result (Option ℕ) AnswerError). IfOk o (IsBestMove r p)) c.in-Some-unwrap.ensures c.best_move.ensures.best in
     let said = computer_moves r s m k v p n c.requires.legal known best in
-    let line : codes "computer" ++ codes ": " ++ c.as_slice.result.now ++ codes "\n" ≡ move_line r s m k v p n = ap (λ (t : List ℕ). codes "computer" ++ codes ": " ++ t ++ codes "\n") (search rules) in
+    let line : codes "computer" ++ codes ": " ++ c.as_slice.result.now ++ codes "\n" ≡ move_line r s m k v p n = ap (λ (t : List ℕ). codes "computer" ++ codes ": " ++ t ++ codes "\n") (c.as_slice.ensures.value ∙ c.move_text.ensures) in
     let next = persons_turn r s m k v (r.play p n) in
     let there : IsKnown r (r.play p n).tier k = known_from r p.tier k (r.play p n) known (played_reached r g.met.G.Game.lawful p n c.requires.legal best.1.best.there) in
     let asks : OnErr c.ask.result (AppendsPart w2 w3 next.text) =
@@ -121,6 +122,6 @@ returns-in_ok-write_line-in-Some-unwrap-clause-asked g c =
     let r = g.G.Game.rules in
     let p = c.args.p in
     let n = c.in-Some-unwrap.m in
-    let best : IsBestMove r p (Some n) = search rules in
+    let best : IsBestMove r p (Some n) = subst (λ (o : Result (Option ℕ) AnswerError). IfOk o (IsBestMove r p)) c.in-Some-unwrap.ensures c.best_move.ensures.best in
     let there : IsReached r p.tier c.play.result = subst (IsReached r p.tier) (sym c.play.ensures) (played_reached r g.met.G.Game.lawful p n c.requires.legal best.1.best.there) in
     IfOk-weaker c.ask.result (λ o. IfSome o (IsReached r c.play.result.tier)) (λ o. IfSome o (IsReached r p.tier)) (λ o h. reached_option r p.tier c.play.result o there h) c.ask.ensures.asked

@@ -1,4 +1,4 @@
-use Rattle.std.proofs.Common.{◌≡◌, List, ℕ, codes, ◌++◌, sym, ap, ◌∙◌, subst, refl, Some, None, IfSome, true, false, IfOk, OnErr, rules}
+use Rattle.std.proofs.Common.{◌≡◌, List, ℕ, codes, ◌++◌, sym, ap, ap₂, ◌∙◌, subst, refl, Some, None, IfSome, true, false, IfOk, OnErr, rules}
 use Rattle.std.proofs.lemmas.Result.{IfOk-weaker}
 use Rattle.std.specs.Str.{bytes_eq}
 use Rattle.std.proofs.KnownBytes.{Appends-trans}
@@ -13,7 +13,7 @@ use Rattle.gm_play.proofs.turns.reply.Goals as goal
 
 pub returns-in_err-write_text-clause-err : goal.returns-in_err-write_text-clause-err
 returns-in_err-write_text-clause-err g c k known =
-    let quits : bytes_eq (without_return c.args.line.now) (codes "quit") ≡ true = search rules in
+    let quits : bytes_eq (without_return c.args.line.now) (codes "quit") ≡ true = ap₂ bytes_eq (sym c.without_return-text.ensures) (sym c.as_slice.ensures) ∙ sym c.eq.ensures ∙ c.if-eq.true in
     let said = reply_quits g.G.Game.rules g.G.Shown.shown g.G.Shown.move_shown k g.V.View.seen c.args.p c.args.line.now quits in
     on_err c.from_residual.result _ (part_is _ _ (codes "bye\n") _ (ap (λ (s : Said). s.text) said) c.in_err-write_text.ensures.err)
 
@@ -41,7 +41,7 @@ returns-in_err-write_text-in-None-clause-err g c k known =
     let v = g.V.View.seen in
     let p = c.args.p in
     let line = c.args.line.now in
-    let goes_on : bytes_eq (without_return line) (codes "quit") ≡ false = search rules in
+    let goes_on : bytes_eq (without_return line) (codes "quit") ≡ false = ap₂ bytes_eq (sym c.without_return-text.ensures) (sym c.as_slice.ensures) ∙ sym c.eq.ensures ∙ c.if-eq.false in
     let is_read : IsReadAs r s m p (without_return line) c.read_move.result = subst (λ (t : List ℕ). IsReadAs r s m p t c.read_move.result) c.without_return-text.ensures c.read_move.ensures in
     let said = reply_is r s m k v p line None goes_on (read_is r s m p (without_return line) c.read_move.result is_read ∙ c.in-None.is) in
     on_err c.from_residual-in_err-write_text-in-None.result _
@@ -57,7 +57,7 @@ returns-in-Some-clause-ok g c k known =
     let p = c.args.p in
     let n = c.in-Some.m in
     let line = c.args.line.now in
-    let goes_on : bytes_eq (without_return line) (codes "quit") ≡ false = search rules in
+    let goes_on : bytes_eq (without_return line) (codes "quit") ≡ false = ap₂ bytes_eq (sym c.without_return-text.ensures) (sym c.as_slice.ensures) ∙ sym c.eq.ensures ∙ c.if-eq.false in
     let is_read : IsReadAs r s m p (without_return line) c.read_move.result = subst (λ (t : List ℕ). IsReadAs r s m p t c.read_move.result) c.without_return-text.ensures c.read_move.ensures in
     let said = ap (λ (q : Position). after_move (computers_turn r s m k v q)) c.play.ensures ∙ reply_is r s m k v p line (Some n) goes_on (read_is r s m p (without_return line) c.read_move.result is_read ∙ c.in-Some.is) in
     let there = played_reached r g.met.G.Game.lawful p n c.requires.legal ((c.read_move.ensures n).0 c.in-Some.is).0 in
@@ -75,7 +75,7 @@ returns-in-Some-clause-err g c k known =
     let p = c.args.p in
     let n = c.in-Some.m in
     let line = c.args.line.now in
-    let goes_on : bytes_eq (without_return line) (codes "quit") ≡ false = search rules in
+    let goes_on : bytes_eq (without_return line) (codes "quit") ≡ false = ap₂ bytes_eq (sym c.without_return-text.ensures) (sym c.as_slice.ensures) ∙ sym c.eq.ensures ∙ c.if-eq.false in
     let is_read : IsReadAs r s m p (without_return line) c.read_move.result = subst (λ (t : List ℕ). IsReadAs r s m p t c.read_move.result) c.without_return-text.ensures c.read_move.ensures in
     let said = ap (λ (q : Position). after_move (computers_turn r s m k v q)) c.play.ensures ∙ reply_is r s m k v p line (Some n) goes_on (read_is r s m p (without_return line) c.read_move.result is_read ∙ c.in-Some.is) in
     let there = played_reached r g.met.G.Game.lawful p n c.requires.legal ((c.read_move.ensures n).0 c.in-Some.is).0 in
@@ -100,7 +100,7 @@ returns-in_err-write_question-in-None-clause-err g c k known =
     let v = g.V.View.seen in
     let p = c.args.p in
     let line = c.args.line.now in
-    let goes_on : bytes_eq (without_return line) (codes "quit") ≡ false = search rules in
+    let goes_on : bytes_eq (without_return line) (codes "quit") ≡ false = ap₂ bytes_eq (sym c.without_return-text.ensures) (sym c.as_slice.ensures) ∙ sym c.eq.ensures ∙ c.if-eq.false in
     let is_read : IsReadAs r s m p (without_return line) c.read_move.result = subst (λ (t : List ℕ). IsReadAs r s m p t c.read_move.result) c.without_return-text.ensures c.read_move.ensures in
     let said = reply_is r s m k v p line None goes_on (read_is r s m p (without_return line) c.read_move.result is_read ∙ c.in-None.is) in
     on_err c.from_residual-in_err-write_question-in-None.result _
@@ -115,7 +115,7 @@ returns-in_ok-write_question-in-None-clause-ok g c k known =
     let v = g.V.View.seen in
     let p = c.args.p in
     let line = c.args.line.now in
-    let goes_on : bytes_eq (without_return line) (codes "quit") ≡ false = search rules in
+    let goes_on : bytes_eq (without_return line) (codes "quit") ≡ false = ap₂ bytes_eq (sym c.without_return-text.ensures) (sym c.as_slice.ensures) ∙ sym c.eq.ensures ∙ c.if-eq.false in
     let is_read : IsReadAs r s m p (without_return line) c.read_move.result = subst (λ (t : List ℕ). IsReadAs r s m p t c.read_move.result) c.without_return-text.ensures c.read_move.ensures in
     let said = reply_is r s m k v p line None goes_on (read_is r s m p (without_return line) c.read_move.result is_read ∙ c.in-None.is) in
     let w0 = g.W.Write.contents c.args.output.now in

@@ -1,6 +1,6 @@
 use Rattle.std.proofs.Common.{◌-◌, length}
 use Rattle.gm_play.proofs.Walking.{IsOnWay}
-use Rattle.gm_play.proofs.best_line.walk.Given as goal
+use Rattle.gm_play.proofs.best_line.follow.Given as goal
 
 abbrev pub invariant-loop-p : goal.invariant-loop-p
 invariant-loop-p g l = IsOnWay g.G.Game.rules l.fn.start l.limit l.moves.items l.positions.items l.p

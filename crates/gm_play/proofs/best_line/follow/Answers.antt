@@ -1,0 +1,37 @@
+use Rattle.std.proofs.Common.{◌≡◌, ◌<◌, true, List, ℕ, [], ◌∷◌, ◌++◌, length, Some, slice_get, refl, sym, ap, subst, ◌∙◌}
+use Rattle.std.specs.List.{Contains}
+use Rattle.gm_game.specs.declared.position.Position.{Position}
+use Rattle.gm_play.specs.BestMoves.{IsBestMove}
+use Rattle.gm_play.proofs.Walking.{IsOnWay, goes_on, line_again}
+use Rattle.gm_play.proofs.best_line.follow.Goals as goal
+
+pub returns-in-Some-before-clause-line : goal.returns-in-Some-before-clause-line
+returns-in-Some-before-clause-line g c line e d w =
+    let r = g.G.Game.rules in
+    let p = c.loop-p.p in
+    let ms = c.loop-p.moves.items in
+    let ps = c.loop-p.positions.items in
+    let m = c.in-Some.number in
+    let k = c.in-Some-before.first in
+    let best : IsBestMove r p (Some m) = subst (IsBestMove r p) c.in-Some.is c.in_ok-number.ensures.best in
+    let low : length ms < c.args.limit = subst (λ (n : ℕ). n < c.args.limit) (c.len.ensures ∙ c.loop-p.moves.ok.0) c.loop-p-test.true in
+    let there : slice_get ps k ≡ Some c.play-p.result = ap (λ (qs : List Position). slice_get qs k) (sym c.as_slice.ensures.value) ∙ c.in-Some-before.ensures in
+    line_again r c.args.start c.args.limit ms ps p c.loop-p.invariant line m k (e ∙ c.in_ok-push_move.ensures.ok)
+    (d ∙ c.in_ok-push_position-2.ensures.ok ∙ ap (λ (q : Position). ps ++ q ∷ []) c.play-p.ensures) w best low (there ∙ ap Some c.play-p.ensures)
+
+pub loop-p-preserved : goal.loop-p-preserved
+loop-p-preserved g c =
+    let r = g.G.Game.rules in
+    let p = c.loop-p.p in
+    let ms = c.loop-p.moves.items in
+    let ps = c.loop-p.positions.items in
+    let m = c.in-Some.number in
+    let best : IsBestMove r p (Some m) = subst (IsBestMove r p) c.in-Some.is c.in_ok-number.ensures.best in
+    let low : length ms < c.args.limit = subst (λ (n : ℕ). n < c.args.limit) (c.len.ensures ∙ c.loop-p.moves.ok.0) c.loop-p-test.true in
+    let legal : r.is_legal (r.play p m) ≡ true = g.met.G.Game.lawful.play_legal p m c.loop-p.invariant.legal best.1.best.there in
+    let fresh : Contains ps c.play-p.result → ⊥ = subst (λ (qs : List Position). Contains qs c.play-p.result → ⊥) c.as_slice.ensures.value c.in_default-before.ensures in
+    let new : Contains ps (r.play p m) → ⊥ = subst (λ (q : Position). Contains ps q → ⊥) c.play-p.ensures fresh in
+    let on = goes_on r c.args.start c.args.limit ms ps p c.loop-p.invariant m best legal low new in
+    subst (λ (l : List ℕ). IsOnWay r c.args.start c.args.limit l c.push_position-in-loop-p.new.positions.items c.play-p.result) (sym c.in_ok-push_move.ensures.ok)
+    (subst (λ (qs : List Position). IsOnWay r c.args.start c.args.limit (ms ++ m ∷ []) qs c.play-p.result) (sym c.in_ok-push_position-2.ensures.ok)
+    (subst (λ (q : Position). IsOnWay r c.args.start c.args.limit (ms ++ m ∷ []) (ps ++ q ∷ []) q) (sym c.play-p.ensures) on))
