@@ -1,17 +1,18 @@
 //! The text of an analysis in JSON.
-ghost use Rattle.std.specs.Prelude.{◌≡◌, ◌==◌, ◌<◌, ℕ, length, IfOk, IfSome, string_bytes};
+ghost use Rattle.std.specs.Prelude.{◌≡◌, ◌==◌, ◌<◌, ◌++◌, ◌∷◌, [], ℕ, length, map, IfOk, OnOk, IfSome, string_bytes};
 ghost use Rattle.std.specs.List.{position};
 ghost use Rattle.serde_json.specs.Written.{compact_text};
-ghost use Rattle.serde_json.specs.View.{view};
+ghost use Rattle.serde_json.specs.Data.{object};
+ghost use Rattle.serde_json.specs.View.{view, members_view};
 ghost use Rattle.gm_game.specs.Texts.{IsPaddedText};
-ghost use Rattle.gm_analyse.specs.Tree.{name_text, value_word, counts_tree, longest_tree, analysis_tree};
+ghost use Rattle.gm_analyse.specs.Tree.{name_text, value_word, count_tree, counts_tree, longest_tree, analysis_tree};
 
 use crate::analysis::Analysis;
 use crate::counts::Count;
 use gm_game::game::{Game, laws};
 use gm_game::limits::NAME;
 use gm_game::position::Value;
-use serde_json::{Value as Json, json};
+use serde_json::{Map, Value as Json, json, push, put};
 use std::alloc::{AllocError, Global};
 use std::str;
 
@@ -22,7 +23,10 @@ pub fn to_json<G: Game>(alloc: Global, analysis: &Analysis) -> Result<String, Al
 {
     laws::<G>();
     let name = G::name();
-    tree(alloc, text_of(&name), analysis)?.to_string(alloc)
+    let tree = tree(alloc, text_of(&name), analysis)?;
+    let text = tree.to_string(alloc);
+    drop(tree);
+    text
 }
 
 // The text of a padded name.
@@ -46,17 +50,39 @@ fn first_zero(name: &[u8]) -> Option<usize>
 fn tree(alloc: Global, game: &str, analysis: &Analysis) -> Result<Json, AllocError>
     ensures { IfOk result (λ v. view v ≡ analysis_tree game.now analysis.now) }
 {
+    let mut members = Map::new(alloc);
+    put_members(alloc, &mut members, game, analysis)?;
+    Ok(Json::Object(members))
+}
+
+// Puts the members of an analysis into an empty object.
+fn put_members(
+    alloc: Global,
+    members: &mut Map<String, Json>,
+    game: &str,
+    analysis: &Analysis,
+) -> Result<(), AllocError>
+    requires { members.old.entries ≡ [] }
+    ensures { OnOk result (object (members_view members.new.entries) ≡ analysis_tree game.now analysis.now) }
+{
+    put(members, alloc, "canonical", Json::from(analysis.canonical))?;
     let counts = counts_value(alloc, analysis.counts.list())?;
-    let longest = longest_value(alloc, analysis.longest_win)?;
-    json!(in alloc; {
-        "canonical": analysis.canonical,
-        "counts": counts,
-        "game": game,
-        "legal": analysis.legal,
-        "longest_win": longest,
-        "size": analysis.size,
-        "tier": analysis.tier
-    })
+    put(members, alloc, "counts", counts)?;
+    put(
+        members,
+        alloc,
+        "game",
+        Json::String(String::from_str(alloc, game)?),
+    )?;
+    put(members, alloc, "legal", Json::from(analysis.legal))?;
+    put(
+        members,
+        alloc,
+        "longest_win",
+        longest_value(alloc, analysis.longest_win)?,
+    )?;
+    put(members, alloc, "size", Json::from(analysis.size))?;
+    put(members, alloc, "tier", Json::from(analysis.tier))
 }
 
 fn counts_value(alloc: Global, counts: &[Count]) -> Result<Json, AllocError>
@@ -64,10 +90,22 @@ fn counts_value(alloc: Global, counts: &[Count]) -> Result<Json, AllocError>
 {
     let mut list = Vec::new(alloc);
     for count in counts {
-        let item = json!(in alloc; [word_of(count.value), count.remoteness, count.number])?;
-        list.push(item)?;
+        push_count(alloc, &mut list, count)?;
     }
     Ok(Json::Array(list))
+}
+
+// Appends one count.
+fn push_count(alloc: Global, list: &mut Vec<Json>, count: &Count) -> Result<(), AllocError>
+    ensures { OnOk result (map view list.new.items ≡ map view list.old.items ++ count_tree count.now ∷ []) }
+{
+    push(list, count_value(alloc, count)?)
+}
+
+fn count_value(alloc: Global, count: &Count) -> Result<Json, AllocError>
+    ensures { IfOk result (λ v. view v ≡ count_tree count.now) }
+{
+    json!(in alloc; [word_of(count.value), count.remoteness, count.number])
 }
 
 fn longest_value(alloc: Global, longest: Option<(u32, u64)>) -> Result<Json, AllocError>

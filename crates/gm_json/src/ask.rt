@@ -116,7 +116,10 @@ pub fn ask_line<G: Shown>(
 fn no_position(alloc: Global, number: u64) -> Result<String, AllocError>
     ensures { IfOk result (λ s. string_bytes s ≡ compact_text (error_tree number)) }
 {
-    no_position_value(alloc, number)?.to_string(alloc)
+    let tree = no_position_value(alloc, number)?;
+    let text = tree.to_string(alloc);
+    drop(tree);
+    text
 }
 
 fn no_position_value(alloc: Global, number: u64) -> Result<Json, AllocError>

@@ -1,14 +1,15 @@
 //! Found positions, in JSON.
-ghost use Rattle.std.specs.Prelude.{◌≡◌, ◌↔◌, true, IfOk, IsErrOf, is_some};
+ghost use Rattle.std.specs.Prelude.{◌≡◌, ◌↔◌, [], true, IfOk, OnOk, IsErrOf, is_some};
 ghost use Rattle.std.specs.List.{All, flat_map};
-ghost use Rattle.serde_json.specs.View.{view};
+ghost use Rattle.serde_json.specs.Data.{object};
+ghost use Rattle.serde_json.specs.View.{view, members_view};
 ghost use Rattle.gm_play.specs.BestMoves.{IsBestMove};
 ghost use Rattle.gm_find.specs.Finding.{AreTiersHeld};
 ghost use Rattle.gm_find.specs.Founds.{IsFound};
 ghost use Rattle.gm_json.specs.Words.{move_or_null};
 ghost use Rattle.gm_json.specs.Founds.{found_tree, found_line, IsFoundJson};
 
-use crate::words::{push_line, text_value, word_of};
+use crate::words::{push_line, put_text, put_word, text_value, word_of};
 use gm_find::find_error::FindError;
 use gm_find::found::{Found, find};
 use gm_find::reached::Reached;
@@ -16,7 +17,7 @@ use gm_find::sought::Sought;
 use gm_game::position::Position;
 use gm_game::shown::Shown;
 use gm_table::tables::Tables;
-use serde_json::{Value as Json, json};
+use serde_json::{Map, Value as Json, put};
 use std::alloc::{AllocError, Global};
 
 /// The canonical positions that are sought as lines of compact JSON, each with its end: the best move (`null` where the game has ended), the number of the
@@ -50,7 +51,7 @@ fn found_lines<G: Shown>(alloc: Global, found: &[Found]) -> Result<Vec<u8>, Allo
     let mut lines = Vec::new(alloc);
     for x in found {
         let tree = found_value::<G>(alloc, x)?;
-        push_line(alloc, &mut lines, &tree)?;
+        push_line(alloc, &mut lines, tree)?;
     }
     Ok(lines)
 }
@@ -59,16 +60,27 @@ fn found_value<G: Shown>(alloc: Global, x: &Found) -> Result<Json, AllocError>
     requires { IsFound G.Game.rules x.now }
     ensures { IfOk result (λ v. view v ≡ found_tree G.shown G.move_shown x.now) }
 {
-    let x = *x;
+    let mut members = Map::new(alloc);
+    put_found::<G>(alloc, &mut members, *x)?;
+    Ok(Json::Object(members))
+}
+
+// Puts the members of a found position into an empty object.
+fn put_found<G: Shown>(
+    alloc: Global,
+    members: &mut Map<String, Json>,
+    x: Found,
+) -> Result<(), AllocError>
+    requires empty { members.old.entries ≡ [] }
+    requires found { IsFound G.Game.rules x }
+    ensures { OnOk result (object (members_view members.new.entries) ≡ found_tree G.shown G.move_shown x) }
+{
     let best = best_value::<G>(alloc, x.position, x.best)?;
-    let position = text_value(alloc, G::show(x.position).as_slice())?;
-    json!(in alloc; {
-        "bestMove": best,
-        "moves": x.moves as u64,
-        "position": position,
-        "remoteness": x.value.remoteness,
-        "value": word_of(x.value.value)
-    })
+    put(members, alloc, "bestMove", best)?;
+    put(members, alloc, "moves", Json::from(x.moves as u64))?;
+    put_text(alloc, members, "position", G::show(x.position).as_slice())?;
+    put(members, alloc, "remoteness", Json::from(x.value.remoteness))?;
+    put_word(alloc, members, "value", word_of(x.value.value))
 }
 
 // A best move; null where the game has ended.

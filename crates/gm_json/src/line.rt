@@ -1,7 +1,7 @@
 //! Lines of best play, in JSON.
-ghost use Rattle.std.specs.Prelude.{◌≡◌, ◌↔◌, ◌++◌, true, false, IfOk, OnOk, IsErrOf};
-ghost use Rattle.serde_json.specs.Data.{null};
-ghost use Rattle.serde_json.specs.View.{view};
+ghost use Rattle.std.specs.Prelude.{◌≡◌, ◌↔◌, ◌++◌, [], true, false, IfOk, OnOk, IsErrOf};
+ghost use Rattle.serde_json.specs.Data.{null, object};
+ghost use Rattle.serde_json.specs.View.{view, members_view};
 ghost use Rattle.serde_json.specs.Written.{has_float};
 ghost use Rattle.gm_game.specs.declared.position.Position.{Position};
 ghost use Rattle.gm_game.specs.Values.{IsTrueValue};
@@ -10,14 +10,14 @@ ghost use Rattle.gm_play.specs.PlayTexts.{IsNoPosition, IsReadAs};
 ghost use Rattle.gm_json.specs.Words.{line_of};
 ghost use Rattle.gm_json.specs.Lines.{again_tree, end_line, step_tree, steps_from, IsLineJson};
 
-use crate::words::{push_line, text_value, word_of};
+use crate::words::{push_line, put_text, put_word, text_value, word_of};
 use gm_game::position::{Position, Solved};
 use gm_game::shown::Shown;
 use gm_play::best_line::LineEnd;
 use gm_play::by_text::{best_play, value_after};
 use gm_play::play_error::PlayError;
 use gm_table::tables::Tables;
-use serde_json::{Value as Json, json};
+use serde_json::{Map, Value as Json, json, put};
 use std::alloc::{AllocError, Global};
 
 /// The line of best play from the position with this text as lines of compact JSON, each with its end: the move (`null` at first), the position, its remoteness
@@ -87,7 +87,7 @@ fn push_step<G: Shown>(
     ensures { OnOk result (lines.new.items ≡ lines.old.items ++ line_of (step_tree G.shown (view name) p value)) }
 {
     let tree = step_value::<G>(alloc, name, p, value)?;
-    push_line(alloc, lines, &tree)
+    push_line(alloc, lines, tree)
 }
 
 fn step_value<G: Shown>(
@@ -99,13 +99,27 @@ fn step_value<G: Shown>(
     requires { G.Game.rules.is_legal p ≡ true }
     ensures { IfOk result (λ v. view v ≡ step_tree G.shown (view name) p value) }
 {
-    let position = text_value(alloc, G::show(p).as_slice())?;
-    json!(in alloc; {
-        "move": name,
-        "position": position,
-        "remoteness": value.remoteness,
-        "value": word_of(value.value)
-    })
+    let mut members = Map::new(alloc);
+    put_step::<G>(alloc, &mut members, name, p, value)?;
+    Ok(Json::Object(members))
+}
+
+// Puts the members of a position and what leads to it into an empty object.
+fn put_step<G: Shown>(
+    alloc: Global,
+    members: &mut Map<String, Json>,
+    name: Json,
+    p: Position,
+    value: Solved,
+) -> Result<(), AllocError>
+    requires empty { members.old.entries ≡ [] }
+    requires legal { G.Game.rules.is_legal p ≡ true }
+    ensures { OnOk result (object (members_view members.new.entries) ≡ step_tree G.shown (view name) p value) }
+{
+    put(members, alloc, "move", name)?;
+    put_text(alloc, members, "position", G::show(p).as_slice())?;
+    put(members, alloc, "remoteness", Json::from(value.remoteness))?;
+    put_word(alloc, members, "value", word_of(value.value))
 }
 
 // Appends where the last position of a line has come before.
@@ -114,7 +128,7 @@ fn push_end(alloc: Global, lines: &mut Vec<u8>, end: LineEnd) -> Result<(), Allo
 {
     if let LineEnd::Again { first } = end {
         let tree = again_value(alloc, first)?;
-        push_line(alloc, lines, &tree)?;
+        push_line(alloc, lines, tree)?;
     }
     Ok(())
 }

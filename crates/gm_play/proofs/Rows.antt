@@ -1,7 +1,8 @@
 -- The rows of moves and of lines of play.
-use Rattle.std.proofs.Common.{◌≡◌, ℕ, ◌+◌, ◌-◌, true, List, [], ◌∷◌, ◌++◌, map, get_or, Option, Some, refl, sym, ap, subst, ◌∙◌, arith}
-use Rattle.std.specs.List.{All, Contains}
-use Rattle.std.proofs.lemmas.List.{append_assoc, append-nil}
+use Rattle.std.proofs.Common.{◌≡◌, ℕ, ◌+◌, ◌-◌, ◌<◌, ◌≤◌, true, List, [], ◌∷◌, ◌++◌, length, map, take, get_or, Option, Some, refl, sym, ap, ap₂, subst, ◌∙◌, arith}
+use Rattle.std.specs.List.{All, Contains, flat_map}
+use Rattle.std.proofs.lemmas.List.{append_assoc, append-nil, take_more, take_all}
+use Rattle.std.proofs.lemmas.Grind.{flat_map-append}
 use Rattle.std.proofs.lemmas.List.Elements.{All-contains_itself}
 use Rattle.std.proofs.lemmas.List.Sorted.{Contains-permutation, IsPermutation-sym}
 use Rattle.gm_game.specs.declared.position.Position.{Position}
@@ -72,3 +73,14 @@ rows_end done first steps ends more h e = e ∙ ap (λ (x : List ℕ). x ++ ends
 
 pub same_row : (done a b d x y z : List ℕ) → a ≡ x → b ≡ y → d ≡ z → done ++ row a b d ≡ done ++ row x y z
 same_row done a b d x y z e f g = rw (e, f, g) refl
+
+-- what is written for each of some things, and for one thing more
+pub flat_more : {X : Type 0} (f : X → List ℕ) (xs : List X) (i : ℕ) (d : X) (old new piece : List ℕ) → i < length xs → old ≡ flat_map f (take i xs) → new ≡ old ++ piece → piece ≡ f (get_or xs i d)
+    → new ≡ flat_map f (take (i + 1) xs)
+flat_more f xs i d old new piece less o n p =
+    let x = get_or xs i d in
+    n ∙ ap₂ (λ (a b : List ℕ). a ++ b) o p ∙ ap (λ (a : List ℕ). flat_map f (take i xs) ++ a) (sym (append-nil (f x))) ∙ sym (flat_map-append f (take i xs) (x ∷ []))
+    ∙ ap (flat_map f) (sym (take_more xs i d less))
+
+pub flat_all : {X : Type 0} (f : X → List ℕ) (xs : List X) (i : ℕ) (all : List ℕ) → length xs ≤ i → all ≡ flat_map f (take i xs) → all ≡ flat_map f xs
+flat_all f xs i all less e = e ∙ ap (flat_map f) (take_all i xs less)

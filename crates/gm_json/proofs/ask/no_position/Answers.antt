@@ -5,5 +5,5 @@ use Rattle.gm_json.proofs.ask.no_position.Goals as goal
 
 pub returns : goal.returns
 returns c =
-    let same = c.in_ok-no_position_value.ensures in
-    IfOk-weaker c.to_string.result _ _ (λ s h. h (rw same refl) ∙ ap compact_text same) c.to_string.ensures.text
+    let same = c.in_ok-tree.ensures in
+    IfOk-weaker c.to_string-text.result _ _ (λ s h. h (rw same refl) ∙ ap compact_text same) c.to_string-text.ensures.text

@@ -1,4 +1,4 @@
-use Rattle.std.proofs.Common.{◌≡◌, ◌+◌, ◌≤◌, ◌∷◌, ◌++◌, true, length, ℕ, List, [], drop, get_or, sym, subst, rules}
+use Rattle.std.proofs.Common.{◌≡◌, ◌+◌, ◌≤◌, ◌∷◌, ◌++◌, true, length, ℕ, List, [], drop, get_or, sym, ap, subst, ◌∙◌}
 use Rattle.std.proofs.lemmas.List.{drop_more, drop_all}
 use Rattle.serde_json.specs.Data.{Data, null}
 use Rattle.serde_json.specs.View.{view}
@@ -38,7 +38,7 @@ loop-number-preserved g c =
     let best : AreBest r p (m ∷ drop (k + 1) ms) = subst (AreBest r p) cut c.loop-number.invariant.best in
     let done = c.loop-number.lines.items in
     let all : List ℕ = line_of (step_tree shown null c.args.start c.args.value) ++ steps_from r shown move_shown c.args.start c.args.value ms in
-    let name : view c.in_ok-name.name ≡ text (move_shown p m) = search rules in
+    let name : view c.in_ok-name.name ≡ text (move_shown p m) = c.in_ok-name.ensures ∙ ap text (c.as_slice.ensures.value ∙ c.move_text.ensures) in
     let more : c.push_step-in-loop-number.new.lines.items ≡ done ++ line_of (step_tree shown (text (move_shown p m)) q c.value_after-value.result)
     = subst (λ (d : Data). c.push_step-in-loop-number.new.lines.items ≡ done ++ line_of (step_tree shown d q c.value_after-value.result)) name c.in_ok-push_step-2.ensures in
     record {
@@ -59,7 +59,7 @@ returns g c =
     let done = c.loop-number.lines.items in
     let first = line_of (step_tree shown null c.args.start c.args.value) in
     let steps = steps_from r shown move_shown c.args.start c.args.value ms in
-    let past : length ms ≤ k = search rules in
+    let past : length ms ≤ k = c.loop-number-test.false in
     let none = drop_all k ms past in
     let all : done ++ [] ≡ first ++ steps = subst (λ (xs : List ℕ). done ++ steps_from r shown move_shown p c.loop-number.value xs ≡ first ++ steps) none c.loop-number.invariant.lines in
     steps_end done first steps (end_line c.args.end) c.push_end.new.lines.items all c.in_ok-push_end.ensures
