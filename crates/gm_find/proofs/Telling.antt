@@ -1,12 +1,12 @@
 -- What is told of found positions.
-use Rattle.std.proofs.Common.{◌≡◌, ℕ, zero, suc, ◌<◌, ◌≤◌, ◌+◌, inl, inr, Bool, true, List, [], ◌∷◌, map, length, get_or, Option, refl, sym, ap, ◌∙◌, subst, arith, Result, Ok, Err}
-use Rattle.std.specs.List.{All, Contains, flat_map, range_with_len}
+use Rattle.std.proofs.Common.{◌≡◌, ℕ, zero, suc, inl, inr, Bool, true, List, [], ◌∷◌, get_or, Option, refl, ap, subst, Result, Ok, Err}
+use Rattle.std.specs.List.{All, Contains, range_with_len}
 use Rattle.std.specs.Result.{is_ok}
 use Rattle.std.proofs.lemmas.List.Elements.{Contains-get_or, Contains-append_cases}
 use Rattle.gm_game.specs.declared.position.Position.{Position}
 use Rattle.gm_game.specs.Rules.{Rules, at}
 use Rattle.gm_game.proofs.Lists.{contains_none, contains_first, contains_later, contains_cases, map_in}
-use Rattle.gm_table.specs.Tables.{TableData, IsHeld, AreHeld}
+use Rattle.gm_table.specs.Tables.{TableData}
 use Rattle.gm_play.specs.declared.answer.AnswerError.{AnswerError}
 use Rattle.gm_play.specs.declared.answer.AnswerError.TheVariants.{Illegal, NotHeld}
 use Rattle.gm_find.specs.declared.sought.Sought.{Sought}

@@ -10,10 +10,16 @@ use std::alloc::{AllocError, Global};
 use std::marker::{Model, PhantomData};
 
 /// The canonical positions that play from the start reaches: 16 bytes and a place in a hash table for each.
-#[derive(Drop)]
 pub struct Reached<G: Game> {
     keys: IndexSet<(u64, u64)>,
     game: PhantomData<G>,
+}
+
+// Let go by one call, so that a proof follows one value and not each field.
+impl<G: Game> Drop for Reached<G> {
+    fn drop(self) {
+        let Reached { keys: _, game: _ } = self;
+    }
 }
 
 impl<G: Game> Model for Reached<G> {

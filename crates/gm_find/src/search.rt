@@ -1,5 +1,5 @@
 //! The search for the positions that play from the start reaches.
-ghost use Rattle.std.specs.Prelude.{◌≡◌, ◌≤◌, ◌⊎◌, ℕ, true, length, slice_get, MatchOption, IfOk, OnOk};
+ghost use Rattle.std.specs.Prelude.{◌≡◌, ◌≤◌, ◌⊎◌, ℕ, [], true, length, slice_get, MatchOption, IfOk, OnOk};
 ghost use Rattle.std.specs.List.{Contains};
 ghost use Rattle.gm_game.specs.declared.position.Position.{Position};
 ghost use Rattle.gm_game.specs.Rules.{IsCanonicalChild};
@@ -15,13 +15,27 @@ use std::alloc::{AllocError, Global};
 pub(crate) fn search<G: Game>(alloc: Global) -> Result<IndexSet<(u64, u64)>, AllocError>
     ensures { IfOk result (λ s. AreReached G.rules s.keys) }
 {
-    laws::<G>();
     let mut found = IndexSet::new(alloc);
-    find(&mut found, G::canonical(G::initial()))?;
+    match fill::<G>(&mut found) {
+        Ok(()) => Ok(found),
+        Err(error) => {
+            drop(found);
+            Err(error)
+        }
+    }
+}
+
+// Finds them all, from an empty set.
+fn fill<G: Game>(found: &mut IndexSet<(u64, u64)>) -> Result<(), AllocError>
+    requires { found.old.keys ≡ [] }
+    ensures { OnOk result (AreReached G.rules found.new.keys) }
+{
+    laws::<G>();
+    find(found, G::canonical(G::initial()))?;
     for next in 0..usize::MAX {
-        match position_at(&found, next) {
-            None => return Ok(found),
-            Some(p) => find_children::<G>(&mut found, p)?,
+        match position_at(found, next) {
+            None => return Ok(()),
+            Some(p) => find_children::<G>(found, p)?,
         }
     }
     Err(AllocError)

@@ -3,6 +3,7 @@ ghost use Rattle.std.specs.Prelude.{◌≡◌, ◌<◌, ◌+◌, ◌++◌, codes
 ghost use Rattle.std.specs.Io.KnownBytes.{Keeps, Appends};
 ghost use Rattle.gm_play.specs.Sessions.{ReadsByte, AppendsPart};
 
+use crate::session_error::SessionError;
 use arrayvec::ArrayVec;
 use gm_game::limits::LINE;
 use std::io::{self, ErrorKind, Read, Write};
@@ -36,6 +37,17 @@ pub fn write_text<W: Write>(output: &mut W, text: &[u8]) -> io::Result<()>
     Ok(())
 }
 
+/// Writes all of a text of a session. After an error a prefix of it is written.
+pub(crate) fn say<W: Write>(output: &mut W, text: &[u8]) -> Result<(), SessionError>
+    ensures ok { OnOk result (Appends (W.contents output.old) (W.contents output.new) text.now) }
+    ensures err { OnErr result (AppendsPart (W.contents output.old) (W.contents output.new) text.now) }
+{
+    match write_text(output, text) {
+        Ok(()) => Ok(()),
+        Err(_) => Err(SessionError::WriteFailed),
+    }
+}
+
 /// The bytes of the longest line: two texts, what stands between them, and the line end.
 const WIDTH: usize = 2 * LINE + 16;
 
@@ -45,12 +57,12 @@ pub(crate) fn write_line<W: Write>(
     front: &[u8],
     between: &[u8],
     back: &[u8],
-) -> io::Result<()>
+) -> Result<(), SessionError>
     requires { length front.now + length between.now + length back.now < WIDTH }
     ensures ok { OnOk result (Appends (W.contents output.old) (W.contents output.new) (front.now ++ between.now ++ back.now ++ codes "\n")) }
     ensures err { OnErr result (AppendsPart (W.contents output.old) (W.contents output.new) (front.now ++ between.now ++ back.now ++ codes "\n")) }
 {
-    write_text(output, whole_line(front, between, back).as_slice())
+    say(output, whole_line(front, between, back).as_slice())
 }
 
 // The line of three texts.

@@ -7,14 +7,15 @@ ghost use Rattle.gm_play.specs.Dialogue.{Advice, IsKnown, over as over_spec, wit
 ghost use Rattle.gm_play.specs.Sessions.{AppendsPart, Says};
 
 use crate::best_move::best_move;
+use crate::session_error::SessionError;
 use crate::side::Side;
-use crate::streams::{write_line, write_text};
+use crate::streams::{say, write_line};
 use crate::view::View;
 use gm_game::position::{End, Position};
 use gm_game::shown::Shown;
 use gm_game::text::value_text;
 use gm_table::tables::Tables;
-use std::io::{self, Write};
+use std::io::Write;
 
 // The line on the end of a game, with this side to move.
 fn over(side: Side, end: End) -> &'static [u8]
@@ -32,7 +33,7 @@ fn write_place<G: Shown, V: View<G>, W: Write>(
     tables: &Tables<G>,
     p: Position,
     output: &mut W,
-) -> io::Result<()>
+) -> Result<(), SessionError>
     requires legal { G.Game.rules.is_legal p ≡ true }
     requires held { IsHeld tables.now p.tier }
     ensures ok { (k : Advice) → IsKnown G.Game.rules p.tier k
@@ -50,13 +51,16 @@ fn write_place<G: Shown, V: View<G>, W: Write>(
 }
 
 // Writes what the person sees, and the question.
-fn write_question<G: Shown, V: View<G>, W: Write>(p: Position, output: &mut W) -> io::Result<()>
+fn write_question<G: Shown, V: View<G>, W: Write>(
+    p: Position,
+    output: &mut W,
+) -> Result<(), SessionError>
     requires { G.Game.rules.is_legal p ≡ true }
     ensures ok { OnOk result (Appends (W.contents output.old) (W.contents output.new) (V.seen p ++ codes "your move?\n")) }
     ensures err { OnErr result (AppendsPart (W.contents output.old) (W.contents output.new) (V.seen p ++ codes "your move?\n")) }
 {
-    write_text(output, V::see(p).as_slice())?;
-    write_text(output, b"your move?\n")
+    say(output, V::see(p).as_slice())?;
+    say(output, b"your move?\n")
 }
 
 // The person's turn: where they are asked, or `None` where the game has ended.
@@ -64,7 +68,7 @@ fn ask<G: Shown, V: View<G>, W: Write>(
     tables: &Tables<G>,
     p: Position,
     output: &mut W,
-) -> io::Result<Option<Position>>
+) -> Result<Option<Position>, SessionError>
     requires legal { G.Game.rules.is_legal p ≡ true }
     requires held { IsHeld tables.now p.tier }
     ensures ok { (k : Advice) → IsKnown G.Game.rules p.tier k
@@ -76,7 +80,7 @@ fn ask<G: Shown, V: View<G>, W: Write>(
     write_place::<G, V, W>(tables, p, output)?;
     match G::primitive(p) {
         Some(end) => {
-            write_text(output, over(Side::You, end))?;
+            say(output, over(Side::You, end))?;
             Ok(None)
         }
         None => {
@@ -91,7 +95,7 @@ fn move_and_ask<G: Shown, V: View<G>, W: Write>(
     tables: &Tables<G>,
     p: Position,
     output: &mut W,
-) -> io::Result<Option<Position>>
+) -> Result<Option<Position>, SessionError>
     requires legal { G.Game.rules.is_legal p ≡ true }
     requires held { AreAllHeld G.Game.rules tables.now p.tier }
     ensures ok { (k : Advice) → IsKnown G.Game.rules p.tier k
@@ -102,7 +106,7 @@ fn move_and_ask<G: Shown, V: View<G>, W: Write>(
 {
     write_place::<G, V, W>(tables, p, output)?;
     if let Some(end) = G::primitive(p) {
-        write_text(output, over(Side::Computer, end))?;
+        say(output, over(Side::Computer, end))?;
         return Ok(None);
     }
     match best_move(tables, p).unwrap() {
@@ -120,7 +124,7 @@ pub(crate) fn turn<G: Shown, V: View<G>, W: Write>(
     p: Position,
     side: Side,
     output: &mut W,
-) -> io::Result<Option<Position>>
+) -> Result<Option<Position>, SessionError>
     requires legal { G.Game.rules.is_legal p ≡ true }
     requires held { AreAllHeld G.Game.rules tables.now p.tier }
     ensures ok { (k : Advice) → IsKnown G.Game.rules p.tier k
@@ -151,7 +155,7 @@ pub(crate) fn reply<G: Shown, V: View<G>, W: Write>(
     p: Position,
     line: &[u8],
     output: &mut W,
-) -> io::Result<Option<Position>>
+) -> Result<Option<Position>, SessionError>
     requires legal { G.Game.rules.is_legal p ≡ true }
     requires held { AreAllHeld G.Game.rules tables.now p.tier }
     ensures ok { (k : Advice) → IsKnown G.Game.rules p.tier k
@@ -162,13 +166,13 @@ pub(crate) fn reply<G: Shown, V: View<G>, W: Write>(
 {
     let text = without_return(line);
     if text == b"quit".as_slice() {
-        write_text(output, b"bye\n")?;
+        say(output, b"bye\n")?;
         return Ok(None);
     }
     match G::read_move(p, text) {
         Some(m) => move_and_ask::<G, V, W>(tables, G::play(p, m), output),
         None => {
-            write_text(output, b"not a move\n")?;
+            say(output, b"not a move\n")?;
             write_question::<G, V, W>(p, output)?;
             Ok(Some(p))
         }
@@ -181,7 +185,7 @@ pub(crate) fn close<G: Shown, V: View<G>, W: Write>(
     p: Position,
     line: &[u8],
     output: &mut W,
-) -> io::Result<()>
+) -> Result<(), SessionError>
     requires legal { G.Game.rules.is_legal p ≡ true }
     requires held { AreAllHeld G.Game.rules tables.now p.tier }
     ensures ok { (k : Advice) → IsKnown G.Game.rules p.tier k
@@ -190,10 +194,10 @@ pub(crate) fn close<G: Shown, V: View<G>, W: Write>(
         → OnErr result (AppendsPart (W.contents output.old) (W.contents output.new) (closing G.Game.rules G.shown G.move_shown k V.seen p line.now)) }
 {
     if line.is_empty() {
-        return write_text(output, b"input ended\n");
+        return say(output, b"input ended\n");
     }
     match reply::<G, V, W>(tables, p, line, output)? {
-        Some(_) => write_text(output, b"input ended\n"),
+        Some(_) => say(output, b"input ended\n"),
         None => Ok(()),
     }
 }

@@ -1,10 +1,9 @@
-use Rattle.std.proofs.Common.{◌≡◌, ◌+◌, List, ◌∷◌, [], ◌++◌, map, take, get_or, sym, ap, ◌∙◌, subst}
+use Rattle.std.proofs.Common.{◌≡◌, ◌+◌, List, ◌∷◌, [], ◌++◌, map, take, sym, ap, ◌∙◌, subst}
 use Rattle.std.specs.List.{All}
-use Rattle.std.proofs.lemmas.List.{take_more, map-append}
+use Rattle.std.proofs.lemmas.List.{take_more, take_all, map-append}
 use Rattle.std.proofs.lemmas.List.Elements.{All-push}
 use Rattle.gm_game.specs.declared.position.Position.{Position}
 use Rattle.gm_game.specs.Rules.{at}
-use Rattle.gm_find.specs.declared.found.Found.{Found}
 use Rattle.gm_find.specs.Founds.{IsFound, position_of}
 use Rattle.gm_find.proofs.found.look_up.Goals as goal
 
@@ -21,3 +20,12 @@ loop-p-preserved g c =
       positions = ap (map position_of) pushed ∙ first ∙ last;
       each = subst (All (IsFound g.G.Game.rules)) (sym pushed) (All-push (IsFound g.G.Game.rules) list x c.loop-p.invariant.each c.found_at.ensures.found);
     }
+
+pub found_at-requires : goal.found_at-requires
+found_at-requires g c = c.requires c.loop-p.p-index _ c.loop-p-test.true
+
+pub returns : goal.returns
+returns g c = record {
+  positions = c.loop-p.invariant.positions ∙ take_all c.loop-p.p-index c.args.positions.now c.loop-p-test.false;
+  each = c.loop-p.invariant.each;
+}

@@ -1,4 +1,4 @@
-use Rattle.std.proofs.Common.{◌≡◌, ◌∙◌, sym, eq-eqb, eqb-true}
+use Rattle.std.proofs.Common.{◌∙◌, sym, eq-eqb, eqb-true}
 use Rattle.gm_find.proofs.Matching.{only_is, is_only}
 use Rattle.gm_find.proofs.only.has_only_move.Goals as goal
 

@@ -1,6 +1,5 @@
-use Rattle.std.proofs.Common.{◌≡◌, ◌≤◌, ◌+◌, ◌++◌, ◌∷◌, [], ℕ, List, take, length, get_or, ap, sym, subst, ◌∙◌, arith, length-append, length-take}
+use Rattle.std.proofs.Common.{◌++◌, ◌∷◌, [], ℕ, List, take, get_or, sym, subst, arith, length-append, length-take}
 use Rattle.std.proofs.lemmas.List.{take_more}
-use Rattle.gm_game.specs.declared.limits.TheConstants.{MOVES}
 use Rattle.gm_find.specs.Lists.{AreThose}
 use Rattle.gm_find.specs.Finding.{KeepsValue}
 use Rattle.gm_find.proofs.ListLemmas.{those_push, those_skip, those_few}

@@ -1,8 +1,8 @@
-use Rattle.std.proofs.Common.{◌≡◌, ◌≤◌, ◌-◌, [], length, sym, arith}
+use Rattle.std.proofs.Common.{◌-◌, [], length, sym, arith}
 use Rattle.std.proofs.lemmas.List.{append-nil}
 use Rattle.std.specs.Option.{is_some}
 use Rattle.gm_find.specs.Finding.{IsMatch}
-use Rattle.gm_find.proofs.ListLemmas.{first_not, first_full, first_is}
+use Rattle.gm_find.proofs.ListLemmas.{first_not, first_full}
 use Rattle.gm_find.proofs.positions.add_position.Goals as goal
 use Rattle.gm_find.proofs.positions.add_position.Goals.{else-len-limit-via-then-len-limit+else-is_sought, else-len-limit-via-else-len-limit}
 

@@ -1,6 +1,6 @@
-use Rattle.std.proofs.Common.{◌≡◌, ◌-◌, ◌+◌, ◌++◌, ◌∷◌, [], ℕ, List, map, take, length, get_or, ap, sym, subst, ◌∙◌, arith}
+use Rattle.std.proofs.Common.{◌≡◌, ◌-◌, ◌+◌, ◌++◌, ◌∷◌, [], ℕ, List, map, take, length, get_or, ap, sym, subst, ◌∙◌}
 use Rattle.std.specs.Option.{is_some}
-use Rattle.std.proofs.lemmas.List.{take_more, map-append}
+use Rattle.std.proofs.lemmas.List.{take_more, take_all, map-append}
 use Rattle.gm_game.specs.declared.position.Position.{Position}
 use Rattle.gm_game.specs.Rules.{at}
 use Rattle.gm_find.specs.Lists.{IsFirst}
@@ -24,3 +24,12 @@ loop-i-preserved g c =
     let (all, same, those) = first_more P c.args.limit old c.loop-i.found.items new more add seen (f i ∷ []) is adds first here in
     let longer : map f (take (k + 1) run) ≡ seen ++ f i ∷ [] = ap (map f) (take_more run k 0 c.loop-i-test.true) ∙ map-append f (take k run) (i ∷ []) in
     (all, same, subst (λ (xs : List Position). IsFirst P (c.args.limit - length old) xs all) (sym longer) those)
+
+pub returns : goal.returns
+returns g c =
+    let (more, is, first) = c.loop-i.invariant in (
+      more,
+      is,
+      subst (λ (run : List ℕ). IsFirst (IsMatch g.G.Game.rules c.args.sought (is_some c.args.reached)) (c.args.limit - length c.args.found.now.items) (map (at c.args.tier) run) more)
+          (take_all c.loop-i.i-index c.args.run.now c.loop-i-test.false) first,
+    )

@@ -1,8 +1,6 @@
-use Rattle.std.proofs.Common.{◌≡◌, ℕ, List, take, true, IsTrue, sym, subst, arith, ⊎_elim, rules}
+use Rattle.std.proofs.Common.{ℕ, List, sym, subst, arith, rules}
 use Rattle.std.specs.List.{Contains}
-use Rattle.std.proofs.lemmas.List.{take_all, take_more}
-use Rattle.std.proofs.lemmas.List.Elements.{Contains-push_cases}
-use Rattle.gm_table.specs.Tables.{IsHeld, AreHeld}
+use Rattle.std.proofs.lemmas.List.{take_all}
 use Rattle.gm_find.proofs.Matching.{more_held}
 use Rattle.gm_find.proofs.positions.are_held.Goals as goal
 

@@ -1,7 +1,6 @@
-use Rattle.std.proofs.Common.{◌≡◌, ◌-◌, ◌+◌, ◌++◌, ◌∷◌, [], ℕ, List, take, length, get_or, ap, sym, subst, ◌∙◌, arith}
-use Rattle.std.specs.List.{flat_map}
+use Rattle.std.proofs.Common.{◌≡◌, ◌+◌, ◌++◌, ◌∷◌, [], ℕ, List, take, get_or, ap, sym, subst, ◌∙◌}
 use Rattle.std.specs.Option.{is_some}
-use Rattle.std.proofs.lemmas.List.{take_more, append-nil}
+use Rattle.std.proofs.lemmas.List.{take_more, take_all, append-nil}
 use Rattle.std.proofs.lemmas.List.Elements.{Contains-get_or}
 use Rattle.std.proofs.lemmas.Grind.{flat_map-append}
 use Rattle.gm_game.specs.declared.position.Position.{Position}
@@ -30,3 +29,9 @@ loop-tier-preserved g c =
     ap (all_positions r) (take_more tiers k 0 c.loop-tier-test.true) ∙ flat_map-append (positions_in r) (take k tiers) (t ∷ []) ∙ ap (λ (xs : List Position). all_positions r (take k tiers) ++ xs) (append-nil (positions_in r t)) in
     subst (λ (ys : List Position). IsFirst P c.args.limit (all_positions r (take (k + 1) tiers)) ys) (sym is)
     (subst (λ (xs : List Position). IsFirst P c.args.limit xs (cur ++ more)) (sym longer) both)
+
+pub returns : goal.returns
+returns g c =
+    let r = g.G.Game.rules in
+    subst (λ (ts : List ℕ). IsFirst (IsMatch r c.args.sought (is_some c.args.reached)) c.args.limit (all_positions r ts) c.loop-tier.found.items)
+    (take_all c.loop-tier.tier-index c.args.tiers.now c.loop-tier-test.false) c.loop-tier.invariant

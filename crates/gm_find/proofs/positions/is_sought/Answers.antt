@@ -1,4 +1,4 @@
-use Rattle.std.proofs.Common.{true, IsTrue, rules}
+use Rattle.std.proofs.Common.{IsTrue}
 use Rattle.std.specs.Option.{is_some}
 use Rattle.gm_find.proofs.Matching.{match_value}
 use Rattle.gm_find.proofs.positions.is_sought.Goals as goal

@@ -1,4 +1,4 @@
-use Rattle.std.proofs.Common.{ℕ, take, ◌⊎◌}
+use Rattle.std.proofs.Common.{take, ◌⊎◌}
 use Rattle.std.specs.List.{Contains}
 use Rattle.gm_game.specs.declared.position.Position.{Position}
 use Rattle.gm_find.specs.Reaching.{IsGrown, key_of}

@@ -1,9 +1,7 @@
-use Rattle.std.proofs.Common.{◌≡◌, Bool, true, false, Option, None, Some, Ok, Err, IsSome, refl, sym, ap, subst, ◌∙◌}
-use Rattle.std.specs.Option.{option_map}
+use Rattle.std.proofs.Common.{◌≡◌, true, None, refl, sym, subst, ◌∙◌}
 use Rattle.gm_game.specs.Values.{IsTrueValue}
-use Rattle.gm_table.specs.Tables.{IsHeld, AreHeld, table_of}
+use Rattle.gm_table.specs.Tables.{IsHeld, AreHeld}
 use Rattle.gm_play.specs.BestMoves.{IsBestMove}
-use Rattle.gm_play.specs.declared.best_move.Choice.{Choice}
 use Rattle.gm_play.proofs.Held.{legal_unless, held_unless}
 use Rattle.gm_play.proofs.Wanted.{best_is, children_known}
 use Rattle.gm_play.proofs.best_move.best_move.Goals as goal

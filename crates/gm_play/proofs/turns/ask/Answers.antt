@@ -14,8 +14,8 @@ returns-in_err-write_place-clause-err g c k known =
     let p = c.args.p in
     on_err c.from_residual.result _ (part_longer _ _ (place r s m k v p) (asks_or_ends r s m k v p (r.primitive p)).text (c.in_err-write_place.ensures.err k known))
 
-pub returns-in_err-write_text-in-Some-clause-err : goal.returns-in_err-write_text-in-Some-clause-err
-returns-in_err-write_text-in-Some-clause-err g c k known =
+pub returns-in_err-say-in-Some-clause-err : goal.returns-in_err-say-in-Some-clause-err
+returns-in_err-say-in-Some-clause-err g c k known =
     let r = g.G.Game.rules in
     let s = g.G.Shown.shown in
     let m = g.G.Shown.move_shown in
@@ -23,8 +23,8 @@ returns-in_err-write_text-in-Some-clause-err g c k known =
     let p = c.args.p in
     let e = c.in-Some.end in
     let said = person_ends r s m k v p e (sym c.primitive.ensures ∙ c.in-Some.is) in
-    on_err c.from_residual-in_err-write_text-in-Some.result _
-    (stops_after _ _ _ (place r s m k v p) (asks_or_ends r s m k v p (r.primitive p)) (game_over You e) c.over.result.now (c.in_ok-write_place.ensures.ok k known) said c.over.ensures c.in_err-write_text-in-Some.ensures.err)
+    on_err c.from_residual-in_err-say-in-Some.result _
+    (stops_after _ _ _ (place r s m k v p) (asks_or_ends r s m k v p (r.primitive p)) (game_over You e) c.over.result.now (c.in_ok-write_place.ensures.ok k known) said c.over.ensures c.in_err-say-in-Some.ensures.err)
 
 pub returns-in_err-write_question-in-None-clause-err : goal.returns-in_err-write_question-in-None-clause-err
 returns-in_err-write_question-in-None-clause-err g c k known =
@@ -37,8 +37,8 @@ returns-in_err-write_question-in-None-clause-err g c k known =
     on_err c.from_residual-in_err-write_question-in-None.result _
     (stops_after _ _ _ (place r s m k v p) (asks_or_ends r s m k v p (r.primitive p)) (asks (v p ++ codes "your move?\n") p) (v p ++ codes "your move?\n") (c.in_ok-write_place.ensures.ok k known) said refl c.in_err-write_question-in-None.ensures.err)
 
-pub returns-in_ok-write_text-in-Some-clause-ok : goal.returns-in_ok-write_text-in-Some-clause-ok
-returns-in_ok-write_text-in-Some-clause-ok g c k known =
+pub returns-in_ok-say-in-Some-clause-ok : goal.returns-in_ok-say-in-Some-clause-ok
+returns-in_ok-say-in-Some-clause-ok g c k known =
     let r = g.G.Game.rules in
     let s = g.G.Shown.shown in
     let m = g.G.Shown.move_shown in
@@ -46,7 +46,7 @@ returns-in_ok-write_text-in-Some-clause-ok g c k known =
     let p = c.args.p in
     let e = c.in-Some.end in
     let said = person_ends r s m k v p e (sym c.primitive.ensures ∙ c.in-Some.is) in
-    done_after _ _ _ (place r s m k v p) (asks_or_ends r s m k v p (r.primitive p)) (game_over You e) None c.over.result.now (c.in_ok-write_place.ensures.ok k known) said c.over.ensures refl c.in_ok-write_text-in-Some.ensures.ok
+    done_after _ _ _ (place r s m k v p) (asks_or_ends r s m k v p (r.primitive p)) (game_over You e) None c.over.result.now (c.in_ok-write_place.ensures.ok k known) said c.over.ensures refl c.in_ok-say-in-Some.ensures.ok
 
 pub returns-in_ok-write_question-in-None-clause-ok : goal.returns-in_ok-write_question-in-None-clause-ok
 returns-in_ok-write_question-in-None-clause-ok g c k known =

@@ -1,4 +1,4 @@
-use Rattle.std.proofs.Common.{◌≡◌, codes, ◌++◌, sym, ap, ◌∙◌, false, length, rules}
+use Rattle.std.proofs.Common.{◌≡◌, codes, ◌++◌, sym, ap, ◌∙◌, false, length}
 use Rattle.std.specs.Prelude.{◌==◌}
 use Rattle.std.proofs.KnownBytes.{Appends-trans}
 use Rattle.std.proofs.lemmas.Result.{on_ok_weaker, on_err_weaker}
@@ -15,7 +15,7 @@ returns-in_err-reply-clause-err g c k known =
     let v = g.V.View.seen in
     let p = c.args.p in
     let line = c.args.line.now in
-    let some : (length line == 0) ≡ false = search rules in
+    let some : (length line == 0) ≡ false = sym c.is_empty.ensures ∙ c.if-is_empty.false in
     let said = reply r s m k v p line in
     on_err c.from_residual.result _ (part_is _ _ (said.text ++ after_reply r s m k v p line said.asked) (closing r s m k v p line) (closing_is r s m k v p line some)
     (part_longer _ _ said.text (after_reply r s m k v p line said.asked) (c.in_err-reply.ensures.err k known)))
@@ -28,13 +28,13 @@ returns-in-Some-clause-ok g c k known =
     let v = g.V.View.seen in
     let p = c.args.p in
     let line = c.args.line.now in
-    let some : (length line == 0) ≡ false = search rules in
+    let some : (length line == 0) ≡ false = sym c.is_empty.ensures ∙ c.if-is_empty.false in
     let said = reply r s m k v p line in
     let replied = c.in_ok-reply.ensures.ok k known in
     let rest : codes "input ended\n" ≡ after_reply r s m k v p line said.asked = ap (after_reply r s m k v p line) (sym c.in-Some.is ∙ replied.0) in
-    on_ok_weaker c.write_text-in-Some.result
+    on_ok_weaker c.say-in-Some.result
     (λ h. text_is _ _ (said.text ++ after_reply r s m k v p line said.asked) (closing r s m k v p line) (closing_is r s m k v p line some)
-    (Appends-trans _ _ _ said.text (after_reply r s m k v p line said.asked) replied.1 (text_is _ _ (codes "input ended\n") _ rest h))) c.write_text-in-Some.ensures.ok
+    (Appends-trans _ _ _ said.text (after_reply r s m k v p line said.asked) replied.1 (text_is _ _ (codes "input ended\n") _ rest h))) c.say-in-Some.ensures.ok
 
 pub returns-in-Some-clause-err : goal.returns-in-Some-clause-err
 returns-in-Some-clause-err g c k known =
@@ -44,10 +44,10 @@ returns-in-Some-clause-err g c k known =
     let v = g.V.View.seen in
     let p = c.args.p in
     let line = c.args.line.now in
-    let some : (length line == 0) ≡ false = search rules in
+    let some : (length line == 0) ≡ false = sym c.is_empty.ensures ∙ c.if-is_empty.false in
     let said = reply r s m k v p line in
     let replied = c.in_ok-reply.ensures.ok k known in
     let rest : codes "input ended\n" ≡ after_reply r s m k v p line said.asked = ap (after_reply r s m k v p line) (sym c.in-Some.is ∙ replied.0) in
-    on_err_weaker c.write_text-in-Some.result
+    on_err_weaker c.say-in-Some.result
     (λ h. part_is _ _ (said.text ++ after_reply r s m k v p line said.asked) (closing r s m k v p line) (closing_is r s m k v p line some)
-    (part_after _ _ _ said.text (after_reply r s m k v p line said.asked) replied.1 (part_is _ _ (codes "input ended\n") _ rest h))) c.write_text-in-Some.ensures.err
+    (part_after _ _ _ said.text (after_reply r s m k v p line said.asked) replied.1 (part_is _ _ (codes "input ended\n") _ rest h))) c.say-in-Some.ensures.err

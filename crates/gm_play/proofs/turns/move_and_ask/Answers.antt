@@ -26,8 +26,8 @@ returns-in_err-write_place-clause-err g c k known =
     let p = c.args.p in
     on_err c.from_residual.result _ (part_longer _ _ (place r s m k v p) (moves_or_ends r s m k v p (r.primitive p) (k.best p)).text (c.in_err-write_place.ensures.err k known))
 
-pub returns-in_err-write_text-clause-err : goal.returns-in_err-write_text-clause-err
-returns-in_err-write_text-clause-err g c k known =
+pub returns-in_err-say-clause-err : goal.returns-in_err-say-clause-err
+returns-in_err-say-clause-err g c k known =
     let r = g.G.Game.rules in
     let s = g.G.Shown.shown in
     let m = g.G.Shown.move_shown in
@@ -35,8 +35,8 @@ returns-in_err-write_text-clause-err g c k known =
     let p = c.args.p in
     let e = c.in-Some.end in
     let said = computer_ends r s m k v p e (sym c.primitive.ensures ∙ c.in-Some.is) in
-    on_err c.from_residual-in_err-write_text.result _
-    (stops_after _ _ _ (place r s m k v p) (moves_or_ends r s m k v p (r.primitive p) (k.best p)) (game_over Computer e) c.over.result.now (c.in_ok-write_place.ensures.ok k known) said c.over.ensures c.in_err-write_text.ensures.err)
+    on_err c.from_residual-in_err-say.result _
+    (stops_after _ _ _ (place r s m k v p) (moves_or_ends r s m k v p (r.primitive p) (k.best p)) (game_over Computer e) c.over.result.now (c.in_ok-write_place.ensures.ok k known) said c.over.ensures c.in_err-say.ensures.err)
 
 pub returns-in-Some-clause-ok : goal.returns-in-Some-clause-ok
 returns-in-Some-clause-ok g c k known =
@@ -47,7 +47,7 @@ returns-in-Some-clause-ok g c k known =
     let p = c.args.p in
     let e = c.in-Some.end in
     let said = computer_ends r s m k v p e (sym c.primitive.ensures ∙ c.in-Some.is) in
-    done_after _ _ _ (place r s m k v p) (moves_or_ends r s m k v p (r.primitive p) (k.best p)) (game_over Computer e) None c.over.result.now (c.in_ok-write_place.ensures.ok k known) said c.over.ensures refl c.in_ok-write_text.ensures.ok
+    done_after _ _ _ (place r s m k v p) (moves_or_ends r s m k v p (r.primitive p) (k.best p)) (game_over Computer e) None c.over.result.now (c.in_ok-write_place.ensures.ok k known) said c.over.ensures refl c.in_ok-say.ensures.ok
 
 pub unwrap-requires : goal.unwrap-requires
 unwrap-requires g c =

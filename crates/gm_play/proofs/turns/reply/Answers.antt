@@ -1,4 +1,4 @@
-use Rattle.std.proofs.Common.{◌≡◌, List, ℕ, codes, ◌++◌, sym, ap, ap₂, ◌∙◌, subst, refl, Some, None, IfSome, true, false, IfOk, OnErr, rules}
+use Rattle.std.proofs.Common.{◌≡◌, List, ℕ, codes, ◌++◌, sym, ap, ap₂, ◌∙◌, subst, refl, Some, None, IfSome, true, false, IfOk, OnErr}
 use Rattle.std.proofs.lemmas.Result.{IfOk-weaker}
 use Rattle.std.specs.Str.{bytes_eq}
 use Rattle.std.proofs.KnownBytes.{Appends-trans}
@@ -11,11 +11,11 @@ use Rattle.gm_play.proofs.Reaching.{played_reached, known_from, held_from, reach
 use Rattle.gm_play.proofs.Reading.{IsReadAs, read_is, reply_quits, reply_is}
 use Rattle.gm_play.proofs.turns.reply.Goals as goal
 
-pub returns-in_err-write_text-clause-err : goal.returns-in_err-write_text-clause-err
-returns-in_err-write_text-clause-err g c k known =
+pub returns-in_err-say-clause-err : goal.returns-in_err-say-clause-err
+returns-in_err-say-clause-err g c k known =
     let quits : bytes_eq (without_return c.args.line.now) (codes "quit") ≡ true = ap₂ bytes_eq (sym c.without_return-text.ensures) (sym c.as_slice.ensures) ∙ sym c.eq.ensures ∙ c.if-eq.true in
     let said = reply_quits g.G.Game.rules g.G.Shown.shown g.G.Shown.move_shown k g.V.View.seen c.args.p c.args.line.now quits in
-    on_err c.from_residual.result _ (part_is _ _ (codes "bye\n") _ (ap (λ (s : Said). s.text) said) c.in_err-write_text.ensures.err)
+    on_err c.from_residual.result _ (part_is _ _ (codes "bye\n") _ (ap (λ (s : Said). s.text) said) c.in_err-say.ensures.err)
 
 pub play-requires-clause-listed : goal.play-requires-clause-listed
 play-requires-clause-listed g c = ((c.read_move.ensures c.in-Some.m).0 c.in-Some.is).0
@@ -33,8 +33,8 @@ move_and_ask-requires-clause-held g c =
     let there = played_reached r g.met.G.Game.lawful c.args.p c.in-Some.m c.requires.legal has in
     subst (λ (q : Position). AreAllHeld r c.args.tables.now q.tier) (sym c.play.ensures) (held_from r c.args.tables.now c.args.p.tier (r.play c.args.p c.in-Some.m) c.requires.held there)
 
-pub returns-in_err-write_text-in-None-clause-err : goal.returns-in_err-write_text-in-None-clause-err
-returns-in_err-write_text-in-None-clause-err g c k known =
+pub returns-in_err-say-in-None-clause-err : goal.returns-in_err-say-in-None-clause-err
+returns-in_err-say-in-None-clause-err g c k known =
     let r = g.G.Game.rules in
     let s = g.G.Shown.shown in
     let m = g.G.Shown.move_shown in
@@ -44,9 +44,9 @@ returns-in_err-write_text-in-None-clause-err g c k known =
     let goes_on : bytes_eq (without_return line) (codes "quit") ≡ false = ap₂ bytes_eq (sym c.without_return-text.ensures) (sym c.as_slice.ensures) ∙ sym c.eq.ensures ∙ c.if-eq.false in
     let is_read : IsReadAs r s m p (without_return line) c.read_move.result = subst (λ (t : List ℕ). IsReadAs r s m p t c.read_move.result) c.without_return-text.ensures c.read_move.ensures in
     let said = reply_is r s m k v p line None goes_on (read_is r s m p (without_return line) c.read_move.result is_read ∙ c.in-None.is) in
-    on_err c.from_residual-in_err-write_text-in-None.result _
+    on_err c.from_residual-in_err-say-in-None.result _
     (part_is _ _ (codes "not a move\n" ++ v p ++ codes "your move?\n") _ (ap (λ (t : Said). t.text) said)
-    (part_longer _ _ (codes "not a move\n") (v p ++ codes "your move?\n") c.in_err-write_text-in-None.ensures.err))
+    (part_longer _ _ (codes "not a move\n") (v p ++ codes "your move?\n") c.in_err-say-in-None.ensures.err))
 
 pub returns-in-Some-clause-ok : goal.returns-in-Some-clause-ok
 returns-in-Some-clause-ok g c k known =
@@ -105,7 +105,7 @@ returns-in_err-write_question-in-None-clause-err g c k known =
     let said = reply_is r s m k v p line None goes_on (read_is r s m p (without_return line) c.read_move.result is_read ∙ c.in-None.is) in
     on_err c.from_residual-in_err-write_question-in-None.result _
     (part_is _ _ (codes "not a move\n" ++ v p ++ codes "your move?\n") _ (ap (λ (t : Said). t.text) said)
-    (part_after _ _ _ (codes "not a move\n") (v p ++ codes "your move?\n") c.in_ok-write_text-in-None.ensures.ok c.in_err-write_question-in-None.ensures.err))
+    (part_after _ _ _ (codes "not a move\n") (v p ++ codes "your move?\n") c.in_ok-say-in-None.ensures.ok c.in_err-write_question-in-None.ensures.err))
 
 pub returns-in_ok-write_question-in-None-clause-ok : goal.returns-in_ok-write_question-in-None-clause-ok
 returns-in_ok-write_question-in-None-clause-ok g c k known =
@@ -121,4 +121,4 @@ returns-in_ok-write_question-in-None-clause-ok g c k known =
     let w0 = g.W.Write.contents c.args.output.now in
     let w2 = g.W.Write.contents c.write_question.new.output in
     subst (λ (t : Said). Says w0 w2 t (Some p)) said
-    (refl, Appends-trans _ _ _ (codes "not a move\n") (v p ++ codes "your move?\n") c.in_ok-write_text-in-None.ensures.ok c.in_ok-write_question-in-None.ensures.ok)
+    (refl, Appends-trans _ _ _ (codes "not a move\n") (v p ++ codes "your move?\n") c.in_ok-say-in-None.ensures.ok c.in_ok-write_question-in-None.ensures.ok)

@@ -1,18 +1,18 @@
-use Rattle.std.proofs.Common.{◌≡◌, ◌⊎◌, List, ℕ, [], sym, subst, ◌∙◌, rules}
+use Rattle.std.proofs.Common.{◌≡◌, ◌⊎◌, ap, subst, ◌∙◌}
 use Rattle.std.specs.List.{Contains}
 use Rattle.gm_game.specs.declared.position.Position.{Position}
 use Rattle.gm_find.specs.Reaching.{key_of}
 use Rattle.gm_find.proofs.Searching.{searched_none, searched_more, all_searched, reached_legal, at_key}
-use Rattle.gm_find.proofs.search.search.Goals as goal
+use Rattle.gm_find.proofs.search.fill.Goals as goal
 
 pub loop-next-init : goal.loop-next-init
 loop-next-init g c =
     let r = g.G.Game.rules in
-    let start : c.canonical.result ≡ r.canonical r.initial = search rules in
+    let start : c.canonical.result ≡ r.canonical r.initial = c.canonical.ensures ∙ ap r.canonical c.initial.ensures in
     let new = c.find.new.found.keys in
-    searched_none r c.laws.ensures c.new-found.result.keys new (search rules)
+    searched_none r c.laws.ensures c.args.found.now.keys new c.requires
     (subst (λ (p : Position). Contains new (key_of p)) start c.in_ok-find.ensures.there)
-    (subst (λ (p : Position). (d : Position) → Contains new (key_of d) → Contains c.new-found.result.keys (key_of d) ⊎ (p ≡ d)) start c.in_ok-find.ensures.only)
+    (subst (λ (p : Position). (d : Position) → Contains new (key_of d) → Contains c.args.found.now.keys (key_of d) ⊎ (p ≡ d)) start c.in_ok-find.ensures.only)
 
 pub returns-in-None : goal.returns-in-None
 returns-in-None g c = all_searched g.G.Game.rules c.laws.ensures c.loop-next.next c.loop-next.found.keys c.loop-next.invariant c.in-None.ensures
