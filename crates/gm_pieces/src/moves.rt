@@ -33,7 +33,6 @@ pub fn list_moves<T: MoveRules>(board: T::Board) -> ArrayVec<u32, MOVES>
 }
 
 /// Whether no move could be made if the game were not over.
-#[tactic(auto, using(gm_board::specs::laws::Filters::filter_out, crate::specs::laws::MoveLaws::step_listed, crate::specs::laws::MoveLaws::all_steps))]
 pub fn has_no_move<T: MoveRules>(board: T::Board) -> bool
     requires { T.game.legal (T.cells board) ≡ true }
     ensures { result ≡ (length (steps T.game (T.cells board)) == 0) }
@@ -47,7 +46,6 @@ pub fn has_no_move<T: MoveRules>(board: T::Board) -> bool
 }
 
 /// The board of the tier from which a move with this number led to this board, if there is one.
-#[tactic(auto, using(crate::specs::laws::MoveLaws::before_some, crate::specs::laws::MoveLaws::before_none, gm_board::specs::laws::Lists::and_left))]
 pub fn before<T: MoveRules>(tier: u64, board: T::Board, number: u32) -> Option<T::Board>
     requires legal { T.game.legal (T.cells board) ≡ true }
     requires below { number < T.game.numbers_end tier }
@@ -67,7 +65,6 @@ pub fn before<T: MoveRules>(tier: u64, board: T::Board, number: u32) -> Option<T
 }
 
 /// The least indexes of the boards of the tier from which a move leads to this one, ascending and once each.
-#[tactic(auto, using(gm_game::proofs::PuttingSteps::put_more_some, gm_game::proofs::PuttingSteps::put_more_none, crate::specs::laws::MoveLaws::all_befores))]
 pub fn put_befores<T: MoveRules>(tier: u64, board: T::Board) -> ArrayVec<u64, PARENTS>
     requires { T.game.legal (T.cells board) ≡ true }
     ensures { result.items ≡ put_all [] (map (least_index_of (board_game T.game)) (befores T.game tier (T.cells board))) }
