@@ -1,4 +1,4 @@
-use Rattle.std.proofs.Common.{◌≡◌, List, ℕ, map, true, subst, rules}
+use Rattle.std.proofs.Common.{◌≡◌, List, ℕ, map, true, subst, rules, refl, sym, ◌∙◌}
 use Rattle.gm_table.specs.Tables.{IsHeld, AreHeld}
 use Rattle.std.specs.Prelude.{IsPermutation}
 use Rattle.std.proofs.lemmas.List.Sorted.{All-permutation, IsPermutation-map}
@@ -26,9 +26,16 @@ returns-clause-best g c =
     let laws = g.met.G.Game.lawful in
     let tables = c.args.tables.now in
     let p = c.args.p in
-    let legal : r.is_legal p ≡ true = search rules in
-    let own : IsHeld tables p.tier = search rules in
-    let held : AreHeld r tables p.tier = c.has_children.ensures.value.0 (search rules) in
+    let legal : r.is_legal p ≡ true = sym c.is_legal.ensures ∙ c.if-not-is_legal.false in
+    let own : IsHeld tables p.tier = c.if-not-has.ensures.value.0 refl in
+    let held : AreHeld r tables p.tier = c.if-not-has_children.ensures.value.0 refl in
     let (s, is_true) = own_known r laws tables c.has.ensures.tables p legal own in
     begins_best r laws p legal (children_known r laws tables c.has.ensures.tables p legal own held) s is_true
     c.put_in_order.new.list.items (returns-clause-values g c)
+
+pub values_of-list-requires : goal.values_of-list-requires
+values_of-list-requires g c = record {
+  legal = sym c.is_legal.ensures ∙ c.if-not-is_legal.false;
+  own = c.if-not-has.ensures.value.0 refl;
+  children = c.if-not-has_children.ensures.value.0 refl;
+}

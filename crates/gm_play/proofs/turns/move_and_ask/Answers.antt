@@ -1,4 +1,4 @@
-use Rattle.std.proofs.Common.{◌≡◌, List, ℕ, ◌++◌, codes, sym, ap, ◌∙◌, subst, refl, Some, None, Option, Result, IfSome, true, IfOk, OnErr}
+use Rattle.std.proofs.Common.{◌≡◌, List, ℕ, ◌++◌, codes, sym, ap, ◌∙◌, subst, refl, Some, None, Option, Result, IfSome, true, IfOk, OnErr, ◌+◌, ◌<◌, ◌≤◌, arith}
 use Rattle.std.proofs.KnownBytes.{Appends-trans}
 use Rattle.std.proofs.lemmas.Result.{on_err_weaker, IfOk-weaker}
 use Rattle.gm_game.specs.declared.position.Position.{Position}
@@ -13,6 +13,12 @@ use Rattle.gm_play.proofs.Held.{held_own, held_children}
 use Rattle.gm_play.proofs.Reaching.{played_reached, known_from, reached_option}
 use Rattle.gm_play.proofs.Saying.{computer_ends, computer_moves, move_line, ok_unless}
 use Rattle.gm_play.proofs.turns.move_and_ask.Goals as goal
+
+short : (n : ℕ) → n ≤ 64 → 10 + n < 144
+short n few = omega arith
+
+pub write_line-requires : goal.write_line-requires
+write_line-requires g c = short _ c.as_slice.ensures.fits
 
 pub write_place-requires-clause-held : goal.write_place-requires-clause-held
 write_place-requires-clause-held g c = held_own g.G.Game.rules c.args.tables.now c.args.p.tier c.requires.held
