@@ -1,6 +1,5 @@
 use Rattle.std.proofs.Common.{◌≡◌, ◌<◌, length, sym, ap, ◌∙◌, eq-eqb, arith}
 use Rattle.gm_board.specs.laws.Filters.{filter_out}
-use Rattle.gm_pieces.specs.MoveGames.{steps}
 use Rattle.gm_pieces.specs.laws.MoveLaws.{step_listed, all_steps}
 use Rattle.gm_pieces.proofs.moves.has_no_move.Goals as goal
 
