@@ -42,7 +42,15 @@ pub struct Built<G: Game> {
 // Let go by one call, so that a proof follows one value and not each field.
 impl<G: Game> Drop for Built<G> {
     fn drop(self) {
-        let Built { tables: _, order: _, solved: _, reused: _, migrated: _, deliveries: _, by_hand: _ } = self;
+        let Built {
+            tables: _,
+            order: _,
+            solved: _,
+            reused: _,
+            migrated: _,
+            deliveries: _,
+            by_hand: _,
+        } = self;
     }
 }
 
