@@ -42,7 +42,7 @@ pub returns-then-len-ge-TIERS-clause-refusal : goal.returns-then-len-ge-TIERS-cl
 returns-then-len-ge-TIERS-clause-refusal g c e is =
     let r = g.G.Game.rules in
     let keys = c.args.found.now.keys in
-    let small : r.tier_size c.args.tier ≤ TIER_SIZE = omega (arith, c.tier_size.ensures) in
+    let small : r.tier_size c.args.tier ≤ TIER_SIZE = omega arith in
     let full : TIERS ≤ length keys = omega arith in
     step_ends r keys c.args.tier TooManyTiers e (comes_too_many r keys c.args.tier (sym c.contains.ensures ∙ c.if-contains.false) small full) is
 
@@ -50,7 +50,7 @@ pub returns-then-len-ge-TIERS-clause-too_many : goal.returns-then-len-ge-TIERS-c
 returns-then-len-ge-TIERS-clause-too_many g c is =
     let r = g.G.Game.rules in
     let keys = c.args.found.now.keys in
-    let small : r.tier_size c.args.tier ≤ TIER_SIZE = omega (arith, c.tier_size.ensures) in
+    let small : r.tier_size c.args.tier ≤ TIER_SIZE = omega arith in
     let few = c.requires.within.few in
     let full : length keys ≡ TIERS = omega (arith, few) in
     let next : IsFoundNext r c.args.first keys c.args.tier =

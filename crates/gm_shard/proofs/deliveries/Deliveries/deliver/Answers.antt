@@ -1,4 +1,4 @@
-use Rattle.std.proofs.Common.{rules, ◌≡◌, ◌≢◌, ℕ, List, ◌+◌, ◌-◌, ◌<◌, ◌≤◌, ◌⊎◌, inl, inr, Some, length, arith, subst, sym, ◌∙◌, false, true, true≢false, ap, get_or, ◌==◌, Result}
+use Rattle.std.proofs.Common.{rules, ◌≡◌, ◌≢◌, ℕ, List, ◌+◌, ◌-◌, ◌<◌, ◌≤◌, ◌⊎◌, inl, inr, Some, length, arith, subst, sym, ◌∙◌, false, true, ap, get_or, ◌==◌, Result}
 use Rattle.std.specs.List.{slice_get}
 use Rattle.std.specs.Int.{bit_at}
 use Rattle.std.proofs.Math.ListN.{set}
@@ -63,7 +63,7 @@ returns-then-has_bit g c =
     let place : slice_get (canonical_children_of r (at f.tier parent)) c.in-Some.place ≡ Some note.position = is_place.1 in
     let mask' : c.index-mask.result.now ≡ get_or f.masks.items (parent - f.lo) c.index-mask.result.now = c.index-mask.ensures in
     let mask : c.index-mask.result.now ≡ get_or f.masks.items (parent - f.lo) 0 = get_or_read f.masks.items (parent - f.lo) c.index-mask.result.now high mask' 0 in
-    let bit : bit_at c.index-mask.result.now c.in-Some.place ≡ 1 = c.has_bit.ensures.0 c.if-has_bit.true in
+    let bit : bit_at c.index-mask.result.now c.in-Some.place ≡ 1 = search rules in
     out_repeat seen c.args.self.now c.self.view_is c.in-Some.place place (subst (λ (m : ℕ). bit_at m c.in-Some.place ≡ 1) mask bit)
 
 pub index-left-requires : goal.index-left-requires
@@ -116,7 +116,7 @@ returns-then-self-ge-REMOTENESS g c =
     let place : slice_get (canonical_children_of r (at f.tier parent)) c.in-Some.place ≡ Some note.position = is_place.1 in
     let mask' : c.index-mask.result.now ≡ get_or f.masks.items (parent - f.lo) c.index-mask.result.now = c.index-mask.ensures in
     let mask : c.index-mask.result.now ≡ get_or f.masks.items (parent - f.lo) 0 = get_or_read f.masks.items (parent - f.lo) c.index-mask.result.now high mask' 0 in
-    let clear : bit_at c.index-mask.result.now c.in-Some.place ≡ 1 → ⊥ = λ e. true≢false (sym (c.has_bit.ensures.1 e) ∙ c.if-has_bit.false) in
+    let clear : bit_at c.index-mask.result.now c.in-Some.place ≡ 1 → ⊥ = search rules in
     let unset : Unset r f.tier f.masks.items f.lo note parent c.in-Some.place =
     record { place = place; unset = λ e. clear (subst (λ (m : ℕ). bit_at m c.in-Some.place ≡ 1) (sym mask) e) } in
     let left' : c.index-left.result.now ≡ get_or f.left.items (parent - f.lo) c.index-left.result.now = c.index-left.ensures in
@@ -144,7 +144,7 @@ overflow_sub-left g c =
     let place : slice_get (canonical_children_of r (at f.tier parent)) c.in-Some.place ≡ Some note.position = is_place.1 in
     let mask' : c.index-mask.result.now ≡ get_or f.masks.items (parent - f.lo) c.index-mask.result.now = c.index-mask.ensures in
     let mask : c.index-mask.result.now ≡ get_or f.masks.items (parent - f.lo) 0 = get_or_read f.masks.items (parent - f.lo) c.index-mask.result.now high mask' 0 in
-    let clear : bit_at c.index-mask.result.now c.in-Some.place ≡ 1 → ⊥ = λ e. true≢false (sym (c.has_bit.ensures.1 e) ∙ c.if-has_bit.false) in
+    let clear : bit_at c.index-mask.result.now c.in-Some.place ≡ 1 → ⊥ = search rules in
     let unset : Unset r f.tier f.masks.items f.lo note parent c.in-Some.place =
     record { place = place; unset = λ e. clear (subst (λ (m : ℕ). bit_at m c.in-Some.place ≡ 1) (sym mask) e) } in
     let left' : c.index-left.result.now ≡ get_or f.left.items (parent - f.lo) c.index-left.result.now = c.index-left.ensures in
@@ -219,7 +219,7 @@ set-requires-clause-near g c =
     let place : slice_get (canonical_children_of r (at f.tier parent)) c.in-Some.place ≡ Some note.position = is_place.1 in
     let mask' : c.index-mask.result.now ≡ get_or f.masks.items (parent - f.lo) c.index-mask.result.now = c.index-mask.ensures in
     let mask : c.index-mask.result.now ≡ get_or f.masks.items (parent - f.lo) 0 = get_or_read f.masks.items (parent - f.lo) c.index-mask.result.now high mask' 0 in
-    let clear : bit_at c.index-mask.result.now c.in-Some.place ≡ 1 → ⊥ = λ e. true≢false (sym (c.has_bit.ensures.1 e) ∙ c.if-has_bit.false) in
+    let clear : bit_at c.index-mask.result.now c.in-Some.place ≡ 1 → ⊥ = search rules in
     let unset : Unset r f.tier f.masks.items f.lo note parent c.in-Some.place =
     record { place = place; unset = λ e. clear (subst (λ (m : ℕ). bit_at m c.in-Some.place ≡ 1) (sym mask) e) } in
     let left' : c.index-left.result.now ≡ get_or f.left.items (parent - f.lo) c.index-left.result.now = c.index-left.ensures in
@@ -253,7 +253,7 @@ invariant_of-self g c =
     let place : slice_get (canonical_children_of r (at f.tier parent)) c.in-Some.place ≡ Some note.position = is_place.1 in
     let mask' : c.index-mask.result.now ≡ get_or f.masks.items (parent - f.lo) c.index-mask.result.now = c.index-mask.ensures in
     let mask : c.index-mask.result.now ≡ get_or f.masks.items (parent - f.lo) 0 = get_or_read f.masks.items (parent - f.lo) c.index-mask.result.now high mask' 0 in
-    let clear : bit_at c.index-mask.result.now c.in-Some.place ≡ 1 → ⊥ = λ e. true≢false (sym (c.has_bit.ensures.1 e) ∙ c.if-has_bit.false) in
+    let clear : bit_at c.index-mask.result.now c.in-Some.place ≡ 1 → ⊥ = search rules in
     let unset : Unset r f.tier f.masks.items f.lo note parent c.in-Some.place =
     record { place = place; unset = λ e. clear (subst (λ (m : ℕ). bit_at m c.in-Some.place ≡ 1) (sym mask) e) } in
     let left' : c.index-left.result.now ≡ get_or f.left.items (parent - f.lo) c.index-left.result.now = c.index-left.ensures in
@@ -292,7 +292,7 @@ returns g c =
     let place : slice_get (canonical_children_of r (at f.tier parent)) c.in-Some.place ≡ Some note.position = is_place.1 in
     let mask' : c.index-mask.result.now ≡ get_or f.masks.items (parent - f.lo) c.index-mask.result.now = c.index-mask.ensures in
     let mask : c.index-mask.result.now ≡ get_or f.masks.items (parent - f.lo) 0 = get_or_read f.masks.items (parent - f.lo) c.index-mask.result.now high mask' 0 in
-    let clear : bit_at c.index-mask.result.now c.in-Some.place ≡ 1 → ⊥ = λ e. true≢false (sym (c.has_bit.ensures.1 e) ∙ c.if-has_bit.false) in
+    let clear : bit_at c.index-mask.result.now c.in-Some.place ≡ 1 → ⊥ = search rules in
     let unset : Unset r f.tier f.masks.items f.lo note parent c.in-Some.place =
     record { place = place; unset = λ e. clear (subst (λ (m : ℕ). bit_at m c.in-Some.place ≡ 1) (sym mask) e) } in
     let left' : c.index-left.result.now ≡ get_or f.left.items (parent - f.lo) c.index-left.result.now = c.index-left.ensures in
