@@ -16,3 +16,4 @@ pub mod SumLemmas
 pub mod TalliedLemmas
 pub mod TallyLemmas
 pub mod TileLemmas
+pub mod ReadLemmas

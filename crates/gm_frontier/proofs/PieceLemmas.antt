@@ -2,7 +2,7 @@
 use Rattle.std.proofs.Common.{◌≡◌, ℕ, suc, ◌+◌, ◌-◌, ◌<◌, ◌≤◌, inl, inr, min, List, [], ◌∷◌, ◌++◌, length, get_or, take, drop, sym, ap, subst, ◌∙◌, arith, Some}
 use Rattle.std.specs.List.{Contains, flat_map, slice_get}
 use Rattle.std.proofs.Math.Seq.{drop-cons, take-nil}
-use Rattle.std.proofs.lemmas.List.{get_or_append_left, drop_all, take_min, take_more, take_all, flat_map_more, length-drop}
+use Rattle.std.proofs.lemmas.List.{get_or_append_left, drop_all, take_min, take_more, take_all, flat_map_more, length-drop, length-append, get_or-append_right, get_or_read}
 use Rattle.std.proofs.lemmas.List.Elements.{Contains-append_cases}
 use Rattle.std.proofs.lemmas.Option.{get_or_from_slice_get, slice_get_within, slice_get-get_or}
 use Rattle.std.proofs.lemmas.Bool.{cases_lt}
@@ -28,6 +28,40 @@ parts_left {A} xss i j l = elim (cases_lt i (length xss)) [
   | inl h ↦ h
   | inr h ↦ (let e : length (flat_map (λ part. part) (drop i xss)) ≡ 0 = ap (λ (yss : List (List A)). length (flat_map (λ part. part) yss)) (drop_all i xss h) in absurd (omega arith))
 ]
+
+-- what stands in a list
+pub listed_at : {A : Type 0} (xs : List A) (k : ℕ) (x y : A) → k < length xs → x ≡ get_or xs k x → y ≡ x → slice_get xs k ≡ Some y
+listed_at xs k x y l e s = slice_get-get_or xs k x l ∙ ap Some (sym e ∙ sym s)
+
+-- one place of a list holds one thing
+pub same_at : {A : Type 0} (xs : List A) (i : ℕ) (x y : A) → i < length xs → x ≡ get_or xs i x → y ≡ get_or xs i y → x ≡ y
+same_at xs i x y l e s = get_or_read xs i x l e y ∙ sym s
+
+-- so its length is read twice
+pub same_length : {A : Type 0} (xss : List (List A)) (i m n j : ℕ) (xs ys : List A) → i < length xss → xs ≡ get_or xss i xs → ys ≡ get_or xss i ys → m ≡ length xs → n ≡ length ys → m ≤ j → n ≤ j
+same_length xss i m n j xs ys l e s a b h = let same : length xs ≡ length ys = ap length (same_at xss i xs ys l e s) in omega arith
+
+pub same_within : {A : Type 0} (xss : List (List A)) (i m j : ℕ) (xs ys : List A) → i < length xss → xs ≡ get_or xss i xs → ys ≡ get_or xss i ys → m ≡ length xs → j < m → j < length ys
+same_within xss i m j xs ys l e s a h = let same : length xs ≡ length ys = ap length (same_at xss i xs ys l e s) in omega arith
+
+-- past one part, what is looked for stands that much earlier in the parts after it
+module _ {A : Type 0} (xss : List (List A)) (i j n : ℕ) (xs : List A) (here : i < length xss) (is : xs ≡ get_or xss i xs) (count : n ≡ length xs) (past : n ≤ j) where
+  part_first : drop i xss ≡ xs ∷ drop (i + 1) xss
+  part_first = let next : suc i ≡ i + 1 = omega arith in drop-cons xss i xs here ∙ ap (λ (ys : List A). ys ∷ drop (suc i) xss) (sym is) ∙ ap (λ (m : ℕ). xs ∷ drop m xss) next
+
+  whole_first : flat_map (λ part. part) (drop i xss) ≡ xs ++ flat_map (λ part. part) (drop (i + 1) xss)
+  whole_first = ap (λ (yss : List (List A)). flat_map (λ part. part) yss) part_first
+
+  pub passed_left : j < length (flat_map (λ part. part) (drop i xss)) → j - n < length (flat_map (λ part. part) (drop (i + 1) xss))
+  passed_left l =
+      let rest = flat_map (λ part. part) (drop (i + 1) xss) in
+      let whole : length (flat_map (λ part. part) (drop i xss)) ≡ length xs + length rest = ap length whole_first ∙ length-append xs rest in
+      omega arith
+
+  pub passed_same : (d : A) → get_or (flat_map (λ part. part) (drop i xss)) j d ≡ get_or (flat_map (λ part. part) (drop (i + 1) xss)) (j - n) d
+  passed_same d =
+      let rest = flat_map (λ part. part) (drop (i + 1) xss) in
+      ap (λ (ys : List A). get_or ys j d) whole_first ∙ get_or-append_right xs rest n j d (sym count) past
 
 -- the piece from one number up to another, both cut at the length
 pub stretch_piece : {A : Type 0} (xs : List A) (p n most from to : ℕ) → length xs ≤ most → from ≡ min (min p most) (length xs) → to ≡ min (min (from + n) most) (length xs) → take (to - from) (drop from xs) ≡ take n (drop p xs)

@@ -1,7 +1,7 @@
 -- A shard with no pair.
-use Rattle.std.proofs.Common.{◌≡◌, ℕ, ◌+◌, ◌-◌, ◌<◌, ◌≤◌, inl, List, [], length, get_or, map, refl, ap, sym, subst, ◌∙◌, arith, Some, None, replicate, ◌*◌}
+use Rattle.std.proofs.Common.{◌≡◌, ℕ, ◌+◌, ◌-◌, ◌<◌, ◌≤◌, inl, List, [], length, get_or, map, refl, ap, sym, subst, ◌∙◌, arith, Some, None, replicate, ◌*◌, take, ◌++◌, ◌∷◌}
 use Rattle.std.specs.List.{Contains, slice_get}
-use Rattle.std.proofs.lemmas.List.{length-map, get_or-map, get_or-replicate, length-replicate}
+use Rattle.std.proofs.lemmas.List.{length-map, get_or-map, get_or-replicate, length-replicate, map_more}
 use Rattle.std.proofs.lemmas.List.Folds.{sum_by-replicate}
 use Rattle.std.proofs.lemmas.Option.{slice_get-get_or, get_or_from_slice_get}
 use Rattle.gm_game.specs.declared.limits.TheConstants.{MOVES, TIER_SIZE}
@@ -128,3 +128,8 @@ first_fields r tier lo starts are few' ms ls ss m l s =
     (subst (λ (ys : List ℕ). IsKept r (state_of r tier lo WinLose 0 ms) (map first_status starts) ys 0) (sym l)
     (subst (λ (t : ShardState). IsKept r t (map first_status starts) (map first_left starts) 0) (sym (first_masks r tier lo (length starts) ms m))
     (first_kept r tier lo starts are few')))
+
+-- one more turn of a loop that maps a list
+pub mapped_more : {X A : Type 0} (f : X → A) (xs : List X) (i : ℕ) (d : X) (old new : List A) (y : A) → i < length xs → old ≡ map f (take i xs) → new ≡ old ++ y ∷ [] → y ≡ f (get_or xs i d) → new ≡ map f (take (i + 1) xs)
+mapped_more {X} {A} f xs i d old new y inside before pushed is =
+    pushed ∙ ap (λ (ys : List A). ys ++ y ∷ []) before ∙ ap (λ (z : A). map f (take i xs) ++ z ∷ []) is ∙ sym (map_more f xs i d inside)

@@ -1,5 +1,5 @@
 -- What a checked position's canonical children say, and the records that fit.
-use Rattle.std.proofs.Common.{◌≡◌, ℕ, ◌<◌, ◌≤◌, ◌+◌, true, MatchOption, List, map, take, length, get_or, refl, sym, ap, ◌∙◌, subst, arith, inl, inr, Option, None, Some}
+use Rattle.std.proofs.Common.{◌≡◌, ◌≢◌, ◌==◌, ℕ, ◌<◌, ◌+◌, true, false, slice_get, Bool, ne_eqb, MatchOption, List, map, take, length, get_or, refl, sym, ap, ◌∙◌, subst, arith, inl, inr, Option, None, Some}
 use Rattle.std.proofs.lemmas.List.{map_more}
 use Rattle.std.proofs.lemmas.Bool.{cases_eq}
 use Rattle.std.proofs.lemmas.Option.{same_Some, slice_get-get_or, slice_get_within}
@@ -15,8 +15,8 @@ use Rattle.gm_game.proofs.Symmetry.{near_child}
 use Rattle.gm_game.proofs.Folding.{least_push, all_won_push}
 use Rattle.gm_game.proofs.Sets.{settled_by_list}
 use Rattle.gm_game.proofs.ChildrenLemmas.{canonical_children_listed}
-use Rattle.gm_table.specs.Tables.{TableData}
-use Rattle.gm_table.specs.Checks.{RecordFits, FitsAt, IsFirstWrong, IsFirstWrongIn, FitBetween}
+use Rattle.gm_table.specs.Tables.{TableData, record_in, value_in}
+use Rattle.gm_table.specs.Checks.{look_up, RecordFits, FitsAt, IsFirstWrong, IsFirstWrongIn, FitBetween}
 
 -- one child's record more
 pub least_more : (f : Option Solved → Option ℕ) (look : Position → Option Solved) (cs : List Position) (i : ℕ) (d : Position) → i < length cs → least_of f (map look (take (i + 1) cs)) ≡ lesser (least_of f (map look (take i cs))) (f (look (get_or cs i d)))
@@ -39,6 +39,10 @@ settled_from r look p lost won tied o a b c =
 pub settled_at_end : (r : Rules) (look : Position → Option Solved) (p : Position) (e : End) → r.primitive p ≡ Some e → from_end e ≡ settled_by r look p
 settled_at_end r look p e o = rw (o, settled_by) refl
 
+-- the value of a canonical position is the record of its tier's table
+value_canonical : (r : Rules) (entries : List TableData) (c : Position) → IsCanonical r c → value_in r entries c ≡ record_in entries c
+value_canonical r entries c (legal, same) = rw (legal, same) refl
+
 -- what is said of one record, for the record at an index
 module _ (r : Rules) (entries : List TableData) (tier : ℕ) (records : List (Option Solved)) where
   pub fits_at : (i : ℕ) (d : Option Solved) → i < length records → RecordFits r entries tier records (at tier i) (get_or records i d) → FitsAt r entries tier records i
@@ -55,3 +59,11 @@ module _ (r : Rules) (entries : List TableData) (tier : ℕ) (records : List (Op
   pub first_of_all : (first : Option ℕ) → IsFirstWrongIn r entries tier records 0 (length records) first → MatchOption first ((i : ℕ) → FitsAt r entries tier records i) (IsFirstWrong r entries tier records)
   first_of_all None h = λ i o e. (let inside = slice_get_within records i o e in h i (omega arith) inside o e)
   first_of_all (Some w) h = record { there = h.1; wrong = h.2; before = λ i l. h.3 i (omega arith) l }
+
+  -- what is looked up in another tier
+  pub look_up_else : (c : Position) (o : Option Solved) → IsCanonical r c → c.tier ≢ tier → o ≡ record_in entries c → o ≡ look_up r entries tier records c
+  look_up_else c o is other e =
+      let apart : (c.tier == tier) ≡ false = ne_eqb c.tier tier other in
+      let known : value_in r entries c ≡ record_in entries c = value_canonical r entries c is in
+      e ∙ sym known
+      ∙ sym (ap (λ (b : Bool). elim b [ true ↦ elim (slice_get records c.index) [ None ↦ None | Some x ↦ x ] | false ↦ value_in r entries c ]) apart)

@@ -5,3 +5,4 @@ pub mod PlaceLemmas
 pub mod RunLemmas
 pub mod TableLemmas
 pub mod ValueLemmas
+pub mod PackedLemmas

@@ -7,7 +7,7 @@ use Rattle.gm_game.specs.declared.limits.TheConstants.{REMOTENESS}
 use Rattle.gm_game.specs.Rules.{Rules, at, IsCanonical}
 use Rattle.gm_game.specs.Laws.{IsGame}
 use Rattle.gm_game.specs.Values.{IsTrueValue}
-use Rattle.gm_game.specs.Records.{IsTrueTable, HoldsChildren, IsKnown, Fits}
+use Rattle.gm_game.specs.Records.{IsTrueTable, IsRecord, HoldsChildren, IsKnown, Fits}
 use Rattle.gm_game.proofs.Symmetry.{IsTrueValue-canonical}
 use Rattle.gm_game.proofs.Settled.{known_since}
 use Rattle.gm_game.proofs.Checker.{true_iff_fits}
@@ -93,3 +93,11 @@ module _ (r : Rules) (g : IsGame r) (entries : List TableData) (tables : AreTabl
   -- records fit exactly where they are the true ones
   pub true_iff_fit : (tier : ℕ) (records : List (Option Solved)) → AreHeld r entries tier → IsTrueTable r REMOTENESS tier records ↔ Fits r REMOTENESS tier (value_in r entries) records
   true_iff_fit tier records h = true_iff_fits r g tier (value_in r entries) records REMOTENESS (holds_children tier h)
+
+-- the record at an index of a table, also past its end
+pub record_is : (r : Rules) (g : IsGame r) (t : TableData) (i : ℕ) → IsTable r t → IsRecord r REMOTENESS (IsTrueValue r) (at t.tier i) (record_at t.records i)
+record_is r g t i is = record_cases (slice_get t.records i) refl
+  where
+    record_cases : (o : Option (Option Solved)) → slice_get t.records i ≡ o → IsRecord r REMOTENESS (IsTrueValue r) (at t.tier i) (elim o [ None ↦ None | Some x ↦ x ])
+    record_cases None e = λ k. (let inside : i < length t.records = subst (λ n. i < n) (sym is.is_true.whole) (g.index_below (at t.tier i) k.0) in let there = slice_get-get_or t.records i None inside in absurd (cc))
+    record_cases (Some x) e = is.is_true.each i x e

@@ -1,5 +1,5 @@
 -- What a search answers, step by step.
-use Rattle.std.proofs.Common.{◌≡◌, ℕ, zero, suc, ◌+◌, ◌-◌, ◌<◌, ◌≤◌, inl, inr, List, [], ◌∷◌, ◌++◌, length, take, drop, get_or, slice_get, None, Some, Ok, Err, refl, ap, sym, ◌∙◌, arith}
+use Rattle.std.proofs.Common.{◌≡◌, ℕ, zero, suc, ◌+◌, ◌-◌, ◌<◌, ◌≤◌, inl, inr, List, [], ◌∷◌, ◌++◌, length, take, drop, get_or, slice_get, None, Some, Ok, Err, refl, ap, sym, subst, ◌∙◌, arith}
 use Rattle.std.proofs.lemmas.List.{take_more, take-append-drop}
 use Rattle.std.proofs.lemmas.Option.{slice_get_past}
 use Rattle.gm_game.specs.declared.limits.TheConstants.{TIERS}
@@ -69,3 +69,6 @@ place_ends r first n k t found e h before at (inr s) =
 pub first_ends : (r : Rules) (first : ℕ) (e : TierError) → EndsWith (comes_to r (Ok []) first) e → EndsWith (search_of r first) e
 first_ends r first e (inl o) = inl o
 first_ends r first e (inr s) = inr (ap (goes_through r TIERS 0) s ∙ ended_through r e TIERS 0)
+
+pub first_ends_at : (r : Rules) (first : ℕ) (keys : List ℕ) (e : TierError) → keys ≡ [] → EndsWith (comes_to r (Ok keys) first) e → EndsWith (search_of r first) e
+first_ends_at r first keys e none ends = first_ends r first e (subst (λ ks. EndsWith (comes_to r (Ok ks) first) e) none ends)

@@ -1,3 +1,4 @@
 pub mod SearchLemmas
 pub mod AnswerLemmas
+pub mod StepLemmas
 pub mod OrderLemmas

@@ -1,7 +1,9 @@
 use Rattle.std.proofs.Common.{rules, ◌<◌, ◌≤◌, ◌-◌, ◌∙◌, length, arith, ⊎_elim, sym, true≢false}
 use Rattle.std.proofs.lemmas.Bool.{cases_lt}
 use Rattle.gm_game.specs.declared.limits.TheConstants.{TIERS}
-use Rattle.gm_tiers.proofs.AnswerLemmas.{place_more, place_ends, past_all}
+use Rattle.gm_tiers.specs.Search.{search_of, EndsWith}
+use Rattle.gm_tiers.proofs.AnswerLemmas.{place_more, place_ends, past_all, first_ends_at}
+use Rattle.gm_tiers.proofs.StepLemmas.{no_error, within_none, next_first, closed_none, first_goes}
 use Rattle.gm_tiers.proofs.SearchLemmas.{at_there, grown_has, closed_more, found_all}
 use Rattle.gm_tiers.proofs.search.search.Goals as goal
 
@@ -47,3 +49,26 @@ pub returns-clause-answer : goal.returns-clause-answer
 returns-clause-answer g c =
     let keys = c.loop-next.found.keys in
     c.loop-next.invariant.3 ∙ past_all g.G.Game.rules keys (TIERS - c.loop-next.next) c.loop-next.next (omega (arith, c.loop-next.invariant.0.few))
+
+pub find-requires-clause-within : goal.find-requires-clause-within
+find-requires-clause-within g c = within_none g.G.Game.rules c.args.first c.new-found.result.keys c.new-found.ensures.empty
+
+pub find-requires-clause-next : goal.find-requires-clause-next
+find-requires-clause-next g c = next_first g.G.Game.rules c.args.first c.new-found.result.keys c.new-found.ensures.empty
+
+pub returns-in_err-find-clause-refusal : goal.returns-in_err-find-clause-refusal
+returns-in_err-find-clause-refusal g c e is = first_ends_at g.G.Game.rules c.args.first c.new-found.result.keys e c.new-found.ensures.empty (c.find.ensures.refusal e (search rules))
+
+pub loop-next-init : goal.loop-next-init
+loop-next-init g c =
+    let e = c.in_ok-find.ensures in
+    (e.within, e.there, closed_none g.G.Game.rules c.find.new.found.keys, first_goes g.G.Game.rules c.args.first c.new-found.result.keys c.find.new.found.keys c.new-found.ensures.empty e.answer)
+
+pub returns-in-None-clause-refusal : goal.returns-in-None-clause-refusal
+returns-in-None-clause-refusal g c e is = no_error (EndsWith (search_of g.G.Game.rules c.args.first) e) c.loop-next.found e is
+
+pub returns-clause-refusal : goal.returns-clause-refusal
+returns-clause-refusal g c e is = no_error (EndsWith (search_of g.G.Game.rules c.args.first) e) c.loop-next.found e is
+
+pub find_children-requires-clause-within : goal.find_children-requires-clause-within
+find_children-requires-clause-within g c = c.loop-next.invariant.0

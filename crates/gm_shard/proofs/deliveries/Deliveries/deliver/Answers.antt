@@ -5,6 +5,7 @@ use Rattle.std.proofs.Math.ListN.{set}
 use Rattle.std.proofs.lemmas.List.{get_or_read}
 use Rattle.std.proofs.lemmas.Option.{get_or_from_slice_get}
 use Rattle.gm_game.specs.declared.limits.TheConstants.{REMOTENESS}
+use Rattle.gm_game.specs.declared.position.Solved.{Solved}
 use Rattle.gm_game.specs.Rules.{IsInner, at}
 use Rattle.gm_game.specs.Children.{canonical_children_of}
 use Rattle.gm_frontier.specs.Notes.{phase_of}
@@ -25,7 +26,7 @@ returns-then-parent-self g c =
     let parent = c.args.parent in
     let f = c.self.inside in
     let level : phase_of note.solved.value ≡ f.phase = search rules in
-    let level' : note.solved.remoteness ≡ f.level = search rules in
+    let level' : note.solved.remoteness ≡ f.level = ap (λ (x : Solved). x.remoteness) (sym c.solved-solved.ensures.value) ∙ c.if-solved-self.false in
     let outside : (parent < f.lo) ⊎ (length f.masks.items ≤ parent - f.lo) = elim c.then-parent-self.branch [
       | then-parent-self-via-then-parent-self w ↦ inl (omega arith)
       | then-parent-self-via-else-parent-self+then-parent-self-2 w ↦ inr (omega arith)
@@ -39,9 +40,9 @@ returns-in_default g c =
     let parent = c.args.parent in
     let f = c.self.inside in
     let level : phase_of note.solved.value ≡ f.phase = search rules in
-    let level' : note.solved.remoteness ≡ f.level = search rules in
-    let low : f.lo ≤ parent = omega arith in
-    let high : parent - f.lo < length f.masks.items = omega arith in
+    let level' : note.solved.remoteness ≡ f.level = ap (λ (x : Solved). x.remoteness) (sym c.solved-solved.ensures.value) ∙ c.if-solved-self.false in
+    let low : f.lo ≤ parent = c.if-parent-self.false in
+    let high : parent - f.lo < length f.masks.items = subst (λ (n : ℕ). parent - f.lo < n) (c.len.ensures ∙ f.masks.ok.0) c.if-parent-self-2.false in
     out_no_parent r f.tier f.lo f.phase f.level f.masks.items note parent c.args.self.now c.self.view_is (level, level') low high
     (no_place r f.tier f.lo f.phase f.level f.masks.items note.position parent c.args.self.now c.args.place c.self.view_is c.in_default.is c.requires)
 
@@ -52,15 +53,15 @@ returns-then-has_bit g c =
     let parent = c.args.parent in
     let f = c.self.inside in
     let level : phase_of note.solved.value ≡ f.phase = search rules in
-    let level' : note.solved.remoteness ≡ f.level = search rules in
-    let low : f.lo ≤ parent = omega arith in
-    let high : parent - f.lo < length f.masks.items = omega arith in
+    let level' : note.solved.remoteness ≡ f.level = ap (λ (x : Solved). x.remoteness) (sym c.solved-solved.ensures.value) ∙ c.if-solved-self.false in
+    let low : f.lo ≤ parent = c.if-parent-self.false in
+    let high : parent - f.lo < length f.masks.items = subst (λ (n : ℕ). parent - f.lo < n) (c.len.ensures ∙ f.masks.ok.0) c.if-parent-self-2.false in
     let is_place = place_of r f.tier f.lo f.phase f.level f.masks.items note.position parent c.args.self.now c.args.place c.in-Some.place c.self.view_is c.in-Some.is c.requires in
     let inner : IsInner r (at f.tier parent) = is_place.0 in
     let seen : Seen r f.tier f.lo f.phase f.level f.masks.items f.left.items f.statuses f.delivered note parent =
     record { kept = c.self.invariant; is_note = c.solved-solved.ensures.note; is_level = (level, level'); low = low; high = high; inner = inner } in
     let place : slice_get (canonical_children_of r (at f.tier parent)) c.in-Some.place ≡ Some note.position = is_place.1 in
-    let mask' : c.index-mask.result.now ≡ get_or f.masks.items (parent - f.lo) c.index-mask.result.now = search rules in
+    let mask' : c.index-mask.result.now ≡ get_or f.masks.items (parent - f.lo) c.index-mask.result.now = c.index-mask.ensures in
     let mask : c.index-mask.result.now ≡ get_or f.masks.items (parent - f.lo) 0 = get_or_read f.masks.items (parent - f.lo) c.index-mask.result.now high mask' 0 in
     let bit : bit_at c.index-mask.result.now c.in-Some.place ≡ 1 = search rules in
     out_repeat seen c.args.self.now c.self.view_is c.in-Some.place place (subst (λ (m : ℕ). bit_at m c.in-Some.place ≡ 1) mask bit)
@@ -72,16 +73,14 @@ index-left-requires g c =
     let parent = c.args.parent in
     let f = c.self.inside in
     let level : phase_of note.solved.value ≡ f.phase = search rules in
-    let level' : note.solved.remoteness ≡ f.level = search rules in
-    let low : f.lo ≤ parent = omega arith in
-    let high : parent - f.lo < length f.masks.items = omega arith in
+    let level' : note.solved.remoteness ≡ f.level = ap (λ (x : Solved). x.remoteness) (sym c.solved-solved.ensures.value) ∙ c.if-solved-self.false in
+    let low : f.lo ≤ parent = c.if-parent-self.false in
+    let high : parent - f.lo < length f.masks.items = subst (λ (n : ℕ). parent - f.lo < n) (c.len.ensures ∙ f.masks.ok.0) c.if-parent-self-2.false in
     let is_place = place_of r f.tier f.lo f.phase f.level f.masks.items note.position parent c.args.self.now c.args.place c.in-Some.place c.self.view_is c.in-Some.is c.requires in
     let inner : IsInner r (at f.tier parent) = is_place.0 in
     let seen : Seen r f.tier f.lo f.phase f.level f.masks.items f.left.items f.statuses f.delivered note parent =
     record { kept = c.self.invariant; is_note = c.solved-solved.ensures.note; is_level = (level, level'); low = low; high = high; inner = inner } in
-    let l = in_left seen in
-    let e : Rattle.std.specs.Vec.vec_len f.left ≡ length f.left.items = search rules in
-    omega arith
+    subst (λ (n : ℕ). parent - f.lo < n) (sym f.left.ok.0) (in_left seen)
 
 pub get-old-requires : goal.get-old-requires
 get-old-requires g c =
@@ -90,9 +89,9 @@ get-old-requires g c =
     let parent = c.args.parent in
     let f = c.self.inside in
     let level : phase_of note.solved.value ≡ f.phase = search rules in
-    let level' : note.solved.remoteness ≡ f.level = search rules in
-    let low : f.lo ≤ parent = omega arith in
-    let high : parent - f.lo < length f.masks.items = omega arith in
+    let level' : note.solved.remoteness ≡ f.level = ap (λ (x : Solved). x.remoteness) (sym c.solved-solved.ensures.value) ∙ c.if-solved-self.false in
+    let low : f.lo ≤ parent = c.if-parent-self.false in
+    let high : parent - f.lo < length f.masks.items = subst (λ (n : ℕ). parent - f.lo < n) (c.len.ensures ∙ f.masks.ok.0) c.if-parent-self-2.false in
     let is_place = place_of r f.tier f.lo f.phase f.level f.masks.items note.position parent c.args.self.now c.args.place c.in-Some.place c.self.view_is c.in-Some.is c.requires in
     let inner : IsInner r (at f.tier parent) = is_place.0 in
     let seen : Seen r f.tier f.lo f.phase f.level f.masks.items f.left.items f.statuses f.delivered note parent =
@@ -107,20 +106,20 @@ returns-then-self-ge-REMOTENESS g c =
     let parent = c.args.parent in
     let f = c.self.inside in
     let level : phase_of note.solved.value ≡ f.phase = search rules in
-    let level' : note.solved.remoteness ≡ f.level = search rules in
-    let low : f.lo ≤ parent = omega arith in
-    let high : parent - f.lo < length f.masks.items = omega arith in
+    let level' : note.solved.remoteness ≡ f.level = ap (λ (x : Solved). x.remoteness) (sym c.solved-solved.ensures.value) ∙ c.if-solved-self.false in
+    let low : f.lo ≤ parent = c.if-parent-self.false in
+    let high : parent - f.lo < length f.masks.items = subst (λ (n : ℕ). parent - f.lo < n) (c.len.ensures ∙ f.masks.ok.0) c.if-parent-self-2.false in
     let is_place = place_of r f.tier f.lo f.phase f.level f.masks.items note.position parent c.args.self.now c.args.place c.in-Some.place c.self.view_is c.in-Some.is c.requires in
     let inner : IsInner r (at f.tier parent) = is_place.0 in
     let seen : Seen r f.tier f.lo f.phase f.level f.masks.items f.left.items f.statuses f.delivered note parent =
     record { kept = c.self.invariant; is_note = c.solved-solved.ensures.note; is_level = (level, level'); low = low; high = high; inner = inner } in
     let place : slice_get (canonical_children_of r (at f.tier parent)) c.in-Some.place ≡ Some note.position = is_place.1 in
-    let mask' : c.index-mask.result.now ≡ get_or f.masks.items (parent - f.lo) c.index-mask.result.now = search rules in
+    let mask' : c.index-mask.result.now ≡ get_or f.masks.items (parent - f.lo) c.index-mask.result.now = c.index-mask.ensures in
     let mask : c.index-mask.result.now ≡ get_or f.masks.items (parent - f.lo) 0 = get_or_read f.masks.items (parent - f.lo) c.index-mask.result.now high mask' 0 in
     let clear : bit_at c.index-mask.result.now c.in-Some.place ≡ 1 → ⊥ = search rules in
     let unset : Unset r f.tier f.masks.items f.lo note parent c.in-Some.place =
     record { place = place; unset = λ e. clear (subst (λ (m : ℕ). bit_at m c.in-Some.place ≡ 1) (sym mask) e) } in
-    let left' : c.index-left.result.now ≡ get_or f.left.items (parent - f.lo) c.index-left.result.now = search rules in
+    let left' : c.index-left.result.now ≡ get_or f.left.items (parent - f.lo) c.index-left.result.now = c.index-left.ensures in
     let left : c.index-left.result.now ≡ get_or f.left.items (parent - f.lo) 0 = get_or_read f.left.items (parent - f.lo) c.index-left.result.now (in_left seen) left' 0 in
     let was : c.get-old.result ≡ get_or f.statuses (parent - f.lo) c.get-old.result = sym (get_or_from_slice_get f.statuses (parent - f.lo) c.get-old.result c.get-old.result c.get-old.ensures) in
     let last = c.index-left.result.now == 1 in
@@ -135,20 +134,20 @@ overflow_sub-left g c =
     let parent = c.args.parent in
     let f = c.self.inside in
     let level : phase_of note.solved.value ≡ f.phase = search rules in
-    let level' : note.solved.remoteness ≡ f.level = search rules in
-    let low : f.lo ≤ parent = omega arith in
-    let high : parent - f.lo < length f.masks.items = omega arith in
+    let level' : note.solved.remoteness ≡ f.level = ap (λ (x : Solved). x.remoteness) (sym c.solved-solved.ensures.value) ∙ c.if-solved-self.false in
+    let low : f.lo ≤ parent = c.if-parent-self.false in
+    let high : parent - f.lo < length f.masks.items = subst (λ (n : ℕ). parent - f.lo < n) (c.len.ensures ∙ f.masks.ok.0) c.if-parent-self-2.false in
     let is_place = place_of r f.tier f.lo f.phase f.level f.masks.items note.position parent c.args.self.now c.args.place c.in-Some.place c.self.view_is c.in-Some.is c.requires in
     let inner : IsInner r (at f.tier parent) = is_place.0 in
     let seen : Seen r f.tier f.lo f.phase f.level f.masks.items f.left.items f.statuses f.delivered note parent =
     record { kept = c.self.invariant; is_note = c.solved-solved.ensures.note; is_level = (level, level'); low = low; high = high; inner = inner } in
     let place : slice_get (canonical_children_of r (at f.tier parent)) c.in-Some.place ≡ Some note.position = is_place.1 in
-    let mask' : c.index-mask.result.now ≡ get_or f.masks.items (parent - f.lo) c.index-mask.result.now = search rules in
+    let mask' : c.index-mask.result.now ≡ get_or f.masks.items (parent - f.lo) c.index-mask.result.now = c.index-mask.ensures in
     let mask : c.index-mask.result.now ≡ get_or f.masks.items (parent - f.lo) 0 = get_or_read f.masks.items (parent - f.lo) c.index-mask.result.now high mask' 0 in
     let clear : bit_at c.index-mask.result.now c.in-Some.place ≡ 1 → ⊥ = search rules in
     let unset : Unset r f.tier f.masks.items f.lo note parent c.in-Some.place =
     record { place = place; unset = λ e. clear (subst (λ (m : ℕ). bit_at m c.in-Some.place ≡ 1) (sym mask) e) } in
-    let left' : c.index-left.result.now ≡ get_or f.left.items (parent - f.lo) c.index-left.result.now = search rules in
+    let left' : c.index-left.result.now ≡ get_or f.left.items (parent - f.lo) c.index-left.result.now = c.index-left.ensures in
     let left : c.index-left.result.now ≡ get_or f.left.items (parent - f.lo) 0 = get_or_read f.left.items (parent - f.lo) c.index-left.result.now (in_left seen) left' 0 in
     let was : c.get-old.result ≡ get_or f.statuses (parent - f.lo) c.get-old.result = sym (get_or_from_slice_get f.statuses (parent - f.lo) c.get-old.result c.get-old.result c.get-old.ensures) in
     left_above seen c.in-Some.place unset c.get-old.result was c.index-left.result.now left
@@ -160,16 +159,14 @@ index_mut-requires-2 g c =
     let parent = c.args.parent in
     let f = c.self.inside in
     let level : phase_of note.solved.value ≡ f.phase = search rules in
-    let level' : note.solved.remoteness ≡ f.level = search rules in
-    let low : f.lo ≤ parent = omega arith in
-    let high : parent - f.lo < length f.masks.items = omega arith in
+    let level' : note.solved.remoteness ≡ f.level = ap (λ (x : Solved). x.remoteness) (sym c.solved-solved.ensures.value) ∙ c.if-solved-self.false in
+    let low : f.lo ≤ parent = c.if-parent-self.false in
+    let high : parent - f.lo < length f.masks.items = subst (λ (n : ℕ). parent - f.lo < n) (c.len.ensures ∙ f.masks.ok.0) c.if-parent-self-2.false in
     let is_place = place_of r f.tier f.lo f.phase f.level f.masks.items note.position parent c.args.self.now c.args.place c.in-Some.place c.self.view_is c.in-Some.is c.requires in
     let inner : IsInner r (at f.tier parent) = is_place.0 in
     let seen : Seen r f.tier f.lo f.phase f.level f.masks.items f.left.items f.statuses f.delivered note parent =
     record { kept = c.self.invariant; is_note = c.solved-solved.ensures.note; is_level = (level, level'); low = low; high = high; inner = inner } in
-    let l = in_left seen in
-    let e : Rattle.std.specs.Vec.vec_len f.left ≡ length f.left.items = search rules in
-    omega arith
+    subst (λ (n : ℕ). parent - f.lo < n) (sym f.left.ok.0) (in_left seen)
 
 pub set-requires-clause-place : goal.set-requires-clause-place
 set-requires-clause-place g c =
@@ -178,9 +175,9 @@ set-requires-clause-place g c =
     let parent = c.args.parent in
     let f = c.self.inside in
     let level : phase_of note.solved.value ≡ f.phase = search rules in
-    let level' : note.solved.remoteness ≡ f.level = search rules in
-    let low : f.lo ≤ parent = omega arith in
-    let high : parent - f.lo < length f.masks.items = omega arith in
+    let level' : note.solved.remoteness ≡ f.level = ap (λ (x : Solved). x.remoteness) (sym c.solved-solved.ensures.value) ∙ c.if-solved-self.false in
+    let low : f.lo ≤ parent = c.if-parent-self.false in
+    let high : parent - f.lo < length f.masks.items = subst (λ (n : ℕ). parent - f.lo < n) (c.len.ensures ∙ f.masks.ok.0) c.if-parent-self-2.false in
     let is_place = place_of r f.tier f.lo f.phase f.level f.masks.items note.position parent c.args.self.now c.args.place c.in-Some.place c.self.view_is c.in-Some.is c.requires in
     let inner : IsInner r (at f.tier parent) = is_place.0 in
     let seen : Seen r f.tier f.lo f.phase f.level f.masks.items f.left.items f.statuses f.delivered note parent =
@@ -195,9 +192,9 @@ overflow_add-self g c =
     let parent = c.args.parent in
     let f = c.self.inside in
     let level : phase_of note.solved.value ≡ f.phase = search rules in
-    let level' : note.solved.remoteness ≡ f.level = search rules in
-    let low : f.lo ≤ parent = omega arith in
-    let high : parent - f.lo < length f.masks.items = omega arith in
+    let level' : note.solved.remoteness ≡ f.level = ap (λ (x : Solved). x.remoteness) (sym c.solved-solved.ensures.value) ∙ c.if-solved-self.false in
+    let low : f.lo ≤ parent = c.if-parent-self.false in
+    let high : parent - f.lo < length f.masks.items = subst (λ (n : ℕ). parent - f.lo < n) (c.len.ensures ∙ f.masks.ok.0) c.if-parent-self-2.false in
     let is_place = place_of r f.tier f.lo f.phase f.level f.masks.items note.position parent c.args.self.now c.args.place c.in-Some.place c.self.view_is c.in-Some.is c.requires in
     let inner : IsInner r (at f.tier parent) = is_place.0 in
     let seen : Seen r f.tier f.lo f.phase f.level f.masks.items f.left.items f.statuses f.delivered note parent =
@@ -212,25 +209,26 @@ set-requires-clause-near g c =
     let parent = c.args.parent in
     let f = c.self.inside in
     let level : phase_of note.solved.value ≡ f.phase = search rules in
-    let level' : note.solved.remoteness ≡ f.level = search rules in
-    let low : f.lo ≤ parent = omega arith in
-    let high : parent - f.lo < length f.masks.items = omega arith in
+    let level' : note.solved.remoteness ≡ f.level = ap (λ (x : Solved). x.remoteness) (sym c.solved-solved.ensures.value) ∙ c.if-solved-self.false in
+    let low : f.lo ≤ parent = c.if-parent-self.false in
+    let high : parent - f.lo < length f.masks.items = subst (λ (n : ℕ). parent - f.lo < n) (c.len.ensures ∙ f.masks.ok.0) c.if-parent-self-2.false in
     let is_place = place_of r f.tier f.lo f.phase f.level f.masks.items note.position parent c.args.self.now c.args.place c.in-Some.place c.self.view_is c.in-Some.is c.requires in
     let inner : IsInner r (at f.tier parent) = is_place.0 in
     let seen : Seen r f.tier f.lo f.phase f.level f.masks.items f.left.items f.statuses f.delivered note parent =
     record { kept = c.self.invariant; is_note = c.solved-solved.ensures.note; is_level = (level, level'); low = low; high = high; inner = inner } in
     let place : slice_get (canonical_children_of r (at f.tier parent)) c.in-Some.place ≡ Some note.position = is_place.1 in
-    let mask' : c.index-mask.result.now ≡ get_or f.masks.items (parent - f.lo) c.index-mask.result.now = search rules in
+    let mask' : c.index-mask.result.now ≡ get_or f.masks.items (parent - f.lo) c.index-mask.result.now = c.index-mask.ensures in
     let mask : c.index-mask.result.now ≡ get_or f.masks.items (parent - f.lo) 0 = get_or_read f.masks.items (parent - f.lo) c.index-mask.result.now high mask' 0 in
     let clear : bit_at c.index-mask.result.now c.in-Some.place ≡ 1 → ⊥ = search rules in
     let unset : Unset r f.tier f.masks.items f.lo note parent c.in-Some.place =
     record { place = place; unset = λ e. clear (subst (λ (m : ℕ). bit_at m c.in-Some.place ≡ 1) (sym mask) e) } in
-    let left' : c.index-left.result.now ≡ get_or f.left.items (parent - f.lo) c.index-left.result.now = search rules in
+    let left' : c.index-left.result.now ≡ get_or f.left.items (parent - f.lo) c.index-left.result.now = c.index-left.ensures in
     let left : c.index-left.result.now ≡ get_or f.left.items (parent - f.lo) 0 = get_or_read f.left.items (parent - f.lo) c.index-left.result.now (in_left seen) left' 0 in
     let was : c.get-old.result ≡ get_or f.statuses (parent - f.lo) c.get-old.result = sym (get_or_from_slice_get f.statuses (parent - f.lo) c.get-old.result c.get-old.result c.get-old.ensures) in
     let last = c.index-left.result.now == 1 in
     let step = step_of seen c.in-Some.place unset c.get-old.result was c.index-left.result.now left in
-    let next : c.next_status-next.result ≡ next_status c.get-old.result note.solved (c.index-left.result.now == 1) = search rules in
+    let next : c.next_status-next.result ≡ next_status c.get-old.result note.solved (c.index-left.result.now == 1) =
+    c.next_status-next.ensures ∙ ap (λ (x : Solved). next_status c.get-old.result x (c.index-left.result.now == 1)) c.solved-solved.ensures.value in
     let near : IsWithinLimit (next_status c.get-old.result note.solved (c.index-left.result.now == 1)) =
     elim c.else-settles.branch [
       | else-settles-via-then-settles+else-self-ge-REMOTENESS w ↦ near_settling step (search rules) (search rules)
@@ -245,20 +243,20 @@ invariant_of-self g c =
     let parent = c.args.parent in
     let f = c.self.inside in
     let level : phase_of note.solved.value ≡ f.phase = search rules in
-    let level' : note.solved.remoteness ≡ f.level = search rules in
-    let low : f.lo ≤ parent = omega arith in
-    let high : parent - f.lo < length f.masks.items = omega arith in
+    let level' : note.solved.remoteness ≡ f.level = ap (λ (x : Solved). x.remoteness) (sym c.solved-solved.ensures.value) ∙ c.if-solved-self.false in
+    let low : f.lo ≤ parent = c.if-parent-self.false in
+    let high : parent - f.lo < length f.masks.items = subst (λ (n : ℕ). parent - f.lo < n) (c.len.ensures ∙ f.masks.ok.0) c.if-parent-self-2.false in
     let is_place = place_of r f.tier f.lo f.phase f.level f.masks.items note.position parent c.args.self.now c.args.place c.in-Some.place c.self.view_is c.in-Some.is c.requires in
     let inner : IsInner r (at f.tier parent) = is_place.0 in
     let seen : Seen r f.tier f.lo f.phase f.level f.masks.items f.left.items f.statuses f.delivered note parent =
     record { kept = c.self.invariant; is_note = c.solved-solved.ensures.note; is_level = (level, level'); low = low; high = high; inner = inner } in
     let place : slice_get (canonical_children_of r (at f.tier parent)) c.in-Some.place ≡ Some note.position = is_place.1 in
-    let mask' : c.index-mask.result.now ≡ get_or f.masks.items (parent - f.lo) c.index-mask.result.now = search rules in
+    let mask' : c.index-mask.result.now ≡ get_or f.masks.items (parent - f.lo) c.index-mask.result.now = c.index-mask.ensures in
     let mask : c.index-mask.result.now ≡ get_or f.masks.items (parent - f.lo) 0 = get_or_read f.masks.items (parent - f.lo) c.index-mask.result.now high mask' 0 in
     let clear : bit_at c.index-mask.result.now c.in-Some.place ≡ 1 → ⊥ = search rules in
     let unset : Unset r f.tier f.masks.items f.lo note parent c.in-Some.place =
     record { place = place; unset = λ e. clear (subst (λ (m : ℕ). bit_at m c.in-Some.place ≡ 1) (sym mask) e) } in
-    let left' : c.index-left.result.now ≡ get_or f.left.items (parent - f.lo) c.index-left.result.now = search rules in
+    let left' : c.index-left.result.now ≡ get_or f.left.items (parent - f.lo) c.index-left.result.now = c.index-left.ensures in
     let left : c.index-left.result.now ≡ get_or f.left.items (parent - f.lo) 0 = get_or_read f.left.items (parent - f.lo) c.index-left.result.now (in_left seen) left' 0 in
     let was : c.get-old.result ≡ get_or f.statuses (parent - f.lo) c.get-old.result = sym (get_or_from_slice_get f.statuses (parent - f.lo) c.get-old.result c.get-old.result c.get-old.ensures) in
     let last = c.index-left.result.now == 1 in
@@ -266,7 +264,8 @@ invariant_of-self g c =
     let same : bit_at c.with_bit.result c.in-Some.place ≡ 1 = c.with_bit.ensures.same in
     let other : (j : ℕ) → j ≢ c.in-Some.place → bit_at c.with_bit.result j ≡ bit_at (get_or f.masks.items (parent - f.lo) 0) j =
     λ j ne. c.with_bit.ensures.other j ne ∙ ap (λ (m : ℕ). bit_at m j) mask in
-    let next : c.next_status-next.result ≡ next_status c.get-old.result note.solved (c.index-left.result.now == 1) = search rules in
+    let next : c.next_status-next.result ≡ next_status c.get-old.result note.solved (c.index-left.result.now == 1) =
+    c.next_status-next.ensures ∙ ap (λ (x : Solved). next_status c.get-old.result x (c.index-left.result.now == 1)) c.solved-solved.ensures.value in
     let near : IsWithinLimit (next_status c.get-old.result note.solved (c.index-left.result.now == 1)) =
     elim c.else-settles.branch [
       | else-settles-via-then-settles+else-self-ge-REMOTENESS w ↦ near_settling step (search rules) (search rules)
@@ -283,20 +282,20 @@ returns g c =
     let parent = c.args.parent in
     let f = c.self.inside in
     let level : phase_of note.solved.value ≡ f.phase = search rules in
-    let level' : note.solved.remoteness ≡ f.level = search rules in
-    let low : f.lo ≤ parent = omega arith in
-    let high : parent - f.lo < length f.masks.items = omega arith in
+    let level' : note.solved.remoteness ≡ f.level = ap (λ (x : Solved). x.remoteness) (sym c.solved-solved.ensures.value) ∙ c.if-solved-self.false in
+    let low : f.lo ≤ parent = c.if-parent-self.false in
+    let high : parent - f.lo < length f.masks.items = subst (λ (n : ℕ). parent - f.lo < n) (c.len.ensures ∙ f.masks.ok.0) c.if-parent-self-2.false in
     let is_place = place_of r f.tier f.lo f.phase f.level f.masks.items note.position parent c.args.self.now c.args.place c.in-Some.place c.self.view_is c.in-Some.is c.requires in
     let inner : IsInner r (at f.tier parent) = is_place.0 in
     let seen : Seen r f.tier f.lo f.phase f.level f.masks.items f.left.items f.statuses f.delivered note parent =
     record { kept = c.self.invariant; is_note = c.solved-solved.ensures.note; is_level = (level, level'); low = low; high = high; inner = inner } in
     let place : slice_get (canonical_children_of r (at f.tier parent)) c.in-Some.place ≡ Some note.position = is_place.1 in
-    let mask' : c.index-mask.result.now ≡ get_or f.masks.items (parent - f.lo) c.index-mask.result.now = search rules in
+    let mask' : c.index-mask.result.now ≡ get_or f.masks.items (parent - f.lo) c.index-mask.result.now = c.index-mask.ensures in
     let mask : c.index-mask.result.now ≡ get_or f.masks.items (parent - f.lo) 0 = get_or_read f.masks.items (parent - f.lo) c.index-mask.result.now high mask' 0 in
     let clear : bit_at c.index-mask.result.now c.in-Some.place ≡ 1 → ⊥ = search rules in
     let unset : Unset r f.tier f.masks.items f.lo note parent c.in-Some.place =
     record { place = place; unset = λ e. clear (subst (λ (m : ℕ). bit_at m c.in-Some.place ≡ 1) (sym mask) e) } in
-    let left' : c.index-left.result.now ≡ get_or f.left.items (parent - f.lo) c.index-left.result.now = search rules in
+    let left' : c.index-left.result.now ≡ get_or f.left.items (parent - f.lo) c.index-left.result.now = c.index-left.ensures in
     let left : c.index-left.result.now ≡ get_or f.left.items (parent - f.lo) 0 = get_or_read f.left.items (parent - f.lo) c.index-left.result.now (in_left seen) left' 0 in
     let was : c.get-old.result ≡ get_or f.statuses (parent - f.lo) c.get-old.result = sym (get_or_from_slice_get f.statuses (parent - f.lo) c.get-old.result c.get-old.result c.get-old.ensures) in
     let last = c.index-left.result.now == 1 in

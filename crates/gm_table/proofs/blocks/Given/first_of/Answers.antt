@@ -1,4 +1,4 @@
-use Rattle.std.proofs.Common.{◌≡◌, ◌*◌, ◌≤◌, length, arith}
+use Rattle.std.proofs.Common.{◌*◌, ◌≤◌, length, arith}
 use Rattle.std.proofs.lemmas.Grind.{div_ceil_times}
 use Rattle.gm_table.proofs.BlockLemmas.{class_more, class_first, class_fits}
 use Rattle.gm_table.proofs.blocks.Given.first_of.Goals as goal
