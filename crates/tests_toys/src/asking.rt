@@ -51,7 +51,12 @@ pub fn shows<G: Shown>(p: Position, text: &[u8]) -> bool {
 
 /// Whether none of these texts is that of a position.
 pub fn reads_none<G: Shown>(texts: &[&[u8]]) -> bool {
-    texts.iter().all(|text| G::read(text).is_none())
+    for text in texts {
+        if G::read(text).is_some() {
+            return false;
+        }
+    }
+    true
 }
 
 /// Whether this text is read as this move of a legal position, and is the move's text.
@@ -78,5 +83,13 @@ pub fn leads<G: Shown>(p: Position, text: &[u8], child: Position) -> bool {
 
 /// Whether none of these texts is that of a move of a legal position.
 pub fn reads_no_move<G: Shown>(p: Position, texts: &[&[u8]]) -> bool {
-    G::is_legal(p) && texts.iter().all(|text| G::read_move(p, text).is_none())
+    if !G::is_legal(p) {
+        return false;
+    }
+    for text in texts {
+        if G::read_move(p, text).is_some() {
+            return false;
+        }
+    }
+    true
 }

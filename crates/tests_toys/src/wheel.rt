@@ -82,9 +82,9 @@ fn parents_in_wheel(rt: HostRuntime) {
 fn texts_of_wheel(rt: HostRuntime) {
     let p = at(8);
     expect(&rt, Wheel::name() == *b"wheel\0\0\0\0\0\0\0\0\0\0\0");
-    for (index, text) in [(8, b"8"), (0, b"0"), (9, b"9")] {
-        expect(&rt, shows::<Wheel>(at(index), text));
-    }
+    expect(&rt, shows::<Wheel>(p, b"8"));
+    expect(&rt, shows::<Wheel>(at(0), b"0"));
+    expect(&rt, shows::<Wheel>(at(9), b"9"));
     expect(
         &rt,
         reads_none::<Wheel>(&[b"", b"10", b"01", b"+1", b" 1", b"1\n", b"\xff"]),
