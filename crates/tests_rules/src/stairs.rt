@@ -1,7 +1,7 @@
 //! Stairs' moves, tiers, parents and texts.
 use crate::asking::{
     ends, has_child_tiers, has_children, has_moves, has_parents, has_size_and_rank, is_canonical,
-    leads, reads_no_move, reads_none, shows, shows_move,
+    leads, move_at, reads_no_move, reads_none, shows,
 };
 use crate::expect::{expect, expect_eq};
 use gm_game::game::{Game, laws};
@@ -63,7 +63,7 @@ fn texts_of_stairs(rt: HostRuntime) {
     expect(&rt, reads_no_move::<Three>(p, &[b"", b"0", b"2", b"01"]));
     expect(
         &rt,
-        shows_move::<Three>(p, b"1", 1) && leads::<Three>(p, b"1", on(2)),
+        move_at::<Three>(p, b"1") == Some(1) && leads::<Three>(p, b"1", on(2)),
     );
 }
 

@@ -1,7 +1,7 @@
 //! Wheel's moves, ends, parents and texts.
 use crate::asking::{
     at, ends, has_child_tiers, has_children, has_moves, has_parents, has_size_and_rank,
-    is_canonical, reads_no_move, reads_none, shows, shows_move,
+    is_canonical, move_at, reads_no_move, reads_none, shows,
 };
 use crate::expect::{expect, expect_eq};
 use gm_game::game::{Game, laws};
@@ -91,7 +91,7 @@ fn texts_of_wheel(rt: HostRuntime) {
     );
     expect(
         &rt,
-        shows_move::<Wheel>(p, b"3", 3) && shows_move::<Wheel>(p, b"6", 6),
+        move_at::<Wheel>(p, b"3") == Some(3) && move_at::<Wheel>(p, b"6") == Some(6),
     );
     expect(
         &rt,
