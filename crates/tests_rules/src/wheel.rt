@@ -1,0 +1,107 @@
+//! Wheel's moves, ends, parents and texts.
+use crate::asking::{
+    at, ends, has_child_tiers, has_children, has_moves, has_parents, has_size_and_rank,
+    is_canonical, move_at, reads_no_move, reads_none, shows,
+};
+use crate::expect::{expect, expect_eq};
+use gm_game::game::{Game, laws};
+use gm_game::position::{End, Position};
+use gm_game::shown::texts;
+use gm_toys::wheel::{Wheel, wheel_is};
+
+#[test]
+fn wheel_goes_round(rt: HostRuntime) {
+    let table: [&[u32]; 10] = [
+        &[],
+        &[0, 2],
+        &[1, 3],
+        &[4],
+        &[3],
+        &[],
+        &[0, 5],
+        &[6],
+        &[3, 6],
+        &[1, 7],
+    ];
+    for (index, targets) in table.iter().enumerate() {
+        let p = at(index as u64);
+        expect(
+            &rt,
+            has_moves::<Wheel>(p, targets) && is_canonical::<Wheel>(p),
+        );
+    }
+    expect_eq(&rt, Wheel::initial(), at(9));
+    expect(&rt, has_children::<Wheel>(at(9), &[at(1), at(7)]));
+}
+
+#[test]
+fn ends_of_wheel(rt: HostRuntime) {
+    for index in 0..10 {
+        let end = match index {
+            0 => Some(End::Tie),
+            5 => Some(End::Lose),
+            _ => None,
+        };
+        expect(&rt, ends::<Wheel>(at(index), end));
+    }
+}
+
+#[test]
+fn wheel_has_one_tier(rt: HostRuntime) {
+    expect(&rt, has_size_and_rank::<Wheel>(0, 10, 0));
+    expect_eq(&rt, Wheel::tier_size(1), 0);
+    expect(&rt, !Wheel::is_legal(at(10)));
+    expect(&rt, !Wheel::is_legal(Position { tier: 1, index: 0 }));
+    expect(&rt, has_child_tiers::<Wheel>(0, &[]));
+}
+
+#[test]
+fn parents_in_wheel(rt: HostRuntime) {
+    let table: [&[u64]; 10] = [
+        &[1, 6],
+        &[2, 9],
+        &[1],
+        &[2, 4, 8],
+        &[3],
+        &[6],
+        &[7, 8],
+        &[9],
+        &[],
+        &[],
+    ];
+    for (index, sources) in table.iter().enumerate() {
+        let c = at(index as u64);
+        expect(
+            &rt,
+            has_parents::<Wheel>(c, 0, sources) && has_parents::<Wheel>(c, 1, &[]),
+        );
+    }
+}
+
+#[test]
+fn texts_of_wheel(rt: HostRuntime) {
+    let p = at(8);
+    expect(&rt, Wheel::name() == *b"wheel\0\0\0\0\0\0\0\0\0\0\0");
+    expect(&rt, shows::<Wheel>(p, b"8"));
+    expect(&rt, shows::<Wheel>(at(0), b"0"));
+    expect(&rt, shows::<Wheel>(at(9), b"9"));
+    expect(
+        &rt,
+        reads_none::<Wheel>(&[b"", b"10", b"01", b"+1", b" 1", b"1\n", b"\xff"]),
+    );
+    expect(
+        &rt,
+        move_at::<Wheel>(p, b"3") == Some(3) && move_at::<Wheel>(p, b"6") == Some(6),
+    );
+    expect(
+        &rt,
+        reads_no_move::<Wheel>(p, &[b"", b"0", b"8", b"03", b"10", b"4294967299"]),
+    );
+}
+
+#[test]
+fn wheel_keeps_the_laws(_rt: HostRuntime) {
+    laws::<Wheel>();
+    texts::<Wheel>();
+    wheel_is();
+}

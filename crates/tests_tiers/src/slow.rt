@@ -1,0 +1,91 @@
+//! Readers and writers that fail, and readers that give many bytes.
+use std::io::{self, ErrorKind, Read, Write};
+
+/// A reader that gives a byte at a time, and fails at one of its calls.
+#[derive(Drop)]
+pub(crate) struct SlowReader<'a> {
+    pub(crate) rest: &'a [u8],
+    pub(crate) calls: usize,
+    pub(crate) fails_at: usize,
+}
+
+impl<'a> Read for SlowReader<'a> {
+    fn read(&mut self, buf: &mut [u8]) -> io::Result<usize> {
+        self.calls = self.calls.saturating_add(1);
+        if self.calls == self.fails_at {
+            return Err(io::Error::from(ErrorKind::Other));
+        }
+        match self.rest.split_first() {
+            Some((byte, more)) if !buf.is_empty() => {
+                buf[0] = *byte;
+                self.rest = more;
+                Ok(1)
+            }
+            _ => Ok(0),
+        }
+    }
+}
+
+/// A reader of this many bytes `a`.
+#[derive(Drop)]
+pub(crate) struct LongLine {
+    pub(crate) left: u32,
+}
+
+impl Read for LongLine {
+    fn read(&mut self, buf: &mut [u8]) -> io::Result<usize> {
+        if self.left == 0 || buf.is_empty() {
+            return Ok(0);
+        }
+        self.left -= 1;
+        buf[0] = b'a';
+        Ok(1)
+    }
+}
+
+/// A reader that never ends.
+#[derive(Drop)]
+pub(crate) struct Endless;
+
+impl Read for Endless {
+    fn read(&mut self, buf: &mut [u8]) -> io::Result<usize> {
+        buf.fill(7);
+        Ok(buf.len())
+    }
+}
+
+/// What a writer does at one of its calls.
+#[derive(Clone, Copy)]
+pub(crate) enum Fault {
+    Fails,
+    TakesNothing,
+}
+
+/// A writer that takes a byte at a time, up to one of its calls.
+#[derive(Drop)]
+pub(crate) struct SlowWriter {
+    pub(crate) got: Vec<u8>,
+    pub(crate) calls: usize,
+    pub(crate) fault_at: usize,
+    pub(crate) fault: Fault,
+}
+
+impl Write for SlowWriter {
+    fn write(&mut self, buf: &[u8]) -> io::Result<usize> {
+        self.calls = self.calls.saturating_add(1);
+        if self.calls == self.fault_at {
+            return match self.fault {
+                Fault::Fails => Err(io::Error::from(ErrorKind::Other)),
+                Fault::TakesNothing => Ok(0),
+            };
+        }
+        match buf.first() {
+            Some(byte) if self.got.push(*byte).is_ok() => Ok(1),
+            _ => Ok(0),
+        }
+    }
+
+    fn flush(&mut self) -> io::Result<()> {
+        Ok(())
+    }
+}
