@@ -1,7 +1,7 @@
 use Rattle.std.proofs.Common.{ap}
 use Rattle.gm_solver.specs.Spots.{Spot}
 use Rattle.gm_solver.proofs.TilingLemmas.{all_tallies}
-use Rattle.gm_solver.proofs.passes.close_all.Goals as goal
+use Rattle.gm_solver.proofs.closing.close_all.Goals as goal
 
 pub close_two-requires-clause-low_tallies : goal.close_two-requires-clause-low_tallies
 close_two-requires-clause-low_tallies g c =
