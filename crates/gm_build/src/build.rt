@@ -22,7 +22,6 @@ use std::sync::Wait;
 use std::thread::Threads;
 
 /// A game that is built, and what it took.
-#[derive(Drop)]
 pub struct Built<G: Game> {
     /// The true table of each tier of the order.
     pub tables: Tables<G>,
@@ -38,6 +37,13 @@ pub struct Built<G: Game> {
     pub deliveries: u64,
     /// How many of them the coordinator did itself.
     pub by_hand: u64,
+}
+
+// Let go by one call, so that a proof follows one value and not each field.
+impl<G: Game> Drop for Built<G> {
+    fn drop(self) {
+        let Built { tables: _, order: _, solved: _, reused: _, migrated: _, deliveries: _, by_hand: _ } = self;
+    }
 }
 
 /// Builds a game: the true table of each tier that it reaches, child tiers first. The order of tiers is made before the first read. Then each tier is read

@@ -10,10 +10,16 @@ use std::alloc::{AllocFailed, Global};
 use std::marker::Model;
 
 /// A table with its indexes laid out by place. Contracts see the table.
-#[derive(Drop)]
 pub(crate) struct Entry<G: Game> {
     table: Table<G>,
     runs: Runs,
+}
+
+// Let go by one call, so that a proof follows one value and not each field.
+impl<G: Game> Drop for Entry<G> {
+    fn drop(self) {
+        let Entry { table: _, runs: _ } = self;
+    }
 }
 
 impl<G: Game> Model for Entry<G> {

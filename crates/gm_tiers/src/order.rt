@@ -16,10 +16,16 @@ use std::alloc::{AllocError, Global};
 use std::marker::{Model, PhantomData};
 
 /// All tiers that a game reaches from one of its tiers, each once and child tiers first. Contracts see their list.
-#[derive(Drop)]
 pub struct TierOrder<G: Game> {
     tiers: IndexSet<u64>,
     game: PhantomData<G>,
+}
+
+// Let go by one call, so that a proof follows one value and not each field.
+impl<G: Game> Drop for TierOrder<G> {
+    fn drop(self) {
+        let TierOrder { tiers: _, game: _ } = self;
+    }
 }
 
 impl<G: Game> Model for TierOrder<G> {
