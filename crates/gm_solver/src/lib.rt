@@ -6,7 +6,6 @@
 pub mod alone;
 mod batch;
 pub mod board;
-mod closing;
 mod crew;
 pub mod error;
 mod found;

@@ -3,21 +3,22 @@ ghost use Rattle.std.specs.Prelude.{◌≡◌, ◌<◌, ◌≤◌, length, IfOk,
 ghost use Rattle.gm_shard.specs.State.{pairs_in};
 ghost use Rattle.gm_solver.specs.Solving.{IsError};
 ghost use Rattle.gm_solver.specs.Spots.{spot_of};
-ghost use Rattle.gm_solver.specs.Tiling.{AreShardsAt, AreCountsAt, HaveNoneHere, tile_at, next_place};
+ghost use Rattle.gm_solver.specs.Tiling.{AreShardsAt, AreCountsAt, AreAllTallies, HaveNoneHere, AreNumbers, tile_at, next_place};
 
 use crate::board::Four;
-use crate::closing::{Ends, close_ends};
 use crate::error::SolveError;
 use crate::gate::Gate;
 use crate::pass::Round;
 use crate::pieces::Pieces;
 use crate::post::Post;
+use crate::round::close_tiles;
 use crate::source::Source;
 use gm_frontier::expected::Expected;
+use gm_frontier::tally::Tally;
 use gm_game::game::Game;
 use gm_game::limits::REMOTENESS;
 use gm_shard::shard::Shard;
-use std::alloc::Global;
+use std::alloc::{AllocError, Global};
 use std::marker::Brand;
 use std::sync::Wait;
 use std::sync::ledger::Blank;
@@ -76,7 +77,37 @@ fn run_workers<
     });
 }
 
-// Serves and closes a level at desks of these names.
+// The tally of a level as one piece, by the number of its pairs into each tile: none for a level without notes.
+fn tally_of<G: Game>(
+    alloc: Global,
+    pieces: &Pieces<G>,
+    numbers: Four<u64>,
+) -> Result<Vec<Tally<G>>, AllocError>
+    requires whole { length pieces.now.level.now.notes ≤ pieces.now.notes }
+    requires numbers { AreNumbers G.rules pieces.now.level.now pieces.now.width numbers }
+    ensures { IfOk result (λ tallies. AreAllTallies pieces.now.level.now pieces.now.notes pieces.now.width tallies.items) }
+{
+    let level = pieces.level;
+    let mut tallies = Vec::new(alloc);
+    if level.len() == 0 {
+        return Ok(tallies);
+    }
+    let size = G::tier_size(level.place().tier);
+    let mut counts = Vec::from_array(alloc, [numbers.a, numbers.b, numbers.c, numbers.d])?;
+    counts.truncate(size.div_ceil(pieces.width) as usize);
+    tallies.push(Tally::of(level, 0, pieces.notes, pieces.width, counts))?;
+    Ok(tallies)
+}
+
+// A level after its workers have ended.
+#[derive(Drop)]
+struct Walked<G: Game> {
+    shards: Four<Shard<G>>,
+    // How many of the level's pairs there are into each shard.
+    numbers: Four<u64>,
+}
+
+// Serves a level at desks of these names.
 fn serve_named<
     G: Game + Send + Sync,
     A: Round + Send + Sync,
@@ -88,15 +119,13 @@ fn serve_named<
     S: Source,
 >(
     rt: &R,
-    alloc: Global,
     pieces: &Pieces<G>,
     gate: &T,
     source: &S,
     workers: usize,
     blanks: Four<Blank>,
     shards: Four<Shard<G>>,
-    counts: &mut Four<Expected<G>>,
-) -> Result<(Four<Shard<G>>, u64), SolveError>
+) -> Walked<G>
     requires names { (blanks.a.name ≡ A.name) × (blanks.b.name ≡ B.name) × (blanks.c.name ≡ C.name) × (blanks.d.name ≡ D.name) }
     requires parts { (blanks.a.parts ≡ A.parts) × (blanks.b.parts ≡ B.parts) × (blanks.c.parts ≡ C.parts) × (blanks.d.parts ≡ D.parts) }
     requires some { (0 < A.parts) × (0 < B.parts) × (0 < C.parts) × (0 < D.parts) }
@@ -107,13 +136,8 @@ fn serve_named<
     requires c { (C.spot ≡ tile_at G.rules pieces.now.level.now.place pieces.now.width 2) × (C.notes ≡ pieces.now.level.now.notes) }
     requires d { (D.spot ≡ tile_at G.rules pieces.now.level.now.place pieces.now.width 3) × (D.notes ≡ pieces.now.level.now.notes) }
     requires none { HaveNoneHere G.rules shards }
-    requires counts { AreCountsAt G.rules pieces.now.level.now.place pieces.now.width counts.old }
-    requires whole { length pieces.now.level.now.notes ≤ pieces.now.notes }
-    requires near { pieces.now.level.now.place.level ≤ REMOTENESS }
-    ensures shards { IfOk result (λ done. AreShardsAt G.rules (next_place pieces.now.level.now.place) pieces.now.width done.0) }
-    ensures none { IfOk result (λ done. HaveNoneHere G.rules done.0) }
-    ensures counts { OnOk result (AreCountsAt G.rules (next_place pieces.now.level.now.place) pieces.now.width counts.new) }
-    ensures error { IfErr result (IsError G.rules pieces.now.level.now.place.tier) }
+    ensures here { AreShardsAt G.rules pieces.now.level.now.place pieces.now.width result.shards }
+    ensures numbers { AreNumbers G.rules pieces.now.level.now pieces.now.width result.numbers }
 {
     let Pieces { level, lists, .. } = *pieces;
     let posts = Posts::<G, A, B, C, D> {
@@ -124,35 +148,34 @@ fn serve_named<
     };
     run_workers(rt, &posts, gate, source, workers);
     let Posts { a, b, c, d } = posts;
-    let ends = Ends {
-        a: a.end(),
-        b: b.end(),
-        c: c.end(),
-        d: d.end(),
-    };
-    close_ends(alloc, pieces, ends, counts)
+    let (a, in_a) = a.end();
+    let (b, in_b) = b.end();
+    let (c, in_c) = c.end();
+    let (d, in_d) = d.end();
+    Walked {
+        shards: Four { a, b, c, d },
+        numbers: Four {
+            a: in_a,
+            b: in_b,
+            c: in_c,
+            d: in_d,
+        },
+    }
 }
 
-// Serves and closes a level, with one pass for each shard.
+// Serves a level, with one pass for each shard.
 fn serve_passes<G: Game + Send + Sync, R: Threads + Wait + Sync, T: Gate, S: Source>(
     rt: &R,
-    alloc: Global,
     pieces: &Pieces<G>,
     gate: &T,
     source: &S,
     workers: usize,
     shards: Four<Shard<G>>,
-    counts: &mut Four<Expected<G>>,
-) -> Result<(Four<Shard<G>>, u64), SolveError>
+) -> Walked<G>
     requires here { AreShardsAt G.rules pieces.now.level.now.place pieces.now.width shards }
     requires none { HaveNoneHere G.rules shards }
-    requires counts { AreCountsAt G.rules pieces.now.level.now.place pieces.now.width counts.old }
-    requires whole { length pieces.now.level.now.notes ≤ pieces.now.notes }
-    requires near { pieces.now.level.now.place.level ≤ REMOTENESS }
-    ensures shards { IfOk result (λ done. AreShardsAt G.rules (next_place pieces.now.level.now.place) pieces.now.width done.0) }
-    ensures none { IfOk result (λ done. HaveNoneHere G.rules done.0) }
-    ensures counts { OnOk result (AreCountsAt G.rules (next_place pieces.now.level.now.place) pieces.now.width counts.new) }
-    ensures error { IfErr result (IsError G.rules pieces.now.level.now.place.tier) }
+    ensures here { AreShardsAt G.rules pieces.now.level.now.place pieces.now.width result.shards }
+    ensures numbers { AreNumbers G.rules pieces.now.level.now pieces.now.width result.numbers }
 {
     source.begin(rt, 4);
     let blanks = Four {
@@ -162,7 +185,7 @@ fn serve_passes<G: Game + Send + Sync, R: Threads + Wait + Sync, T: Gate, S: Sou
         d: Blank::new(1),
     };
     serve_named::<G, Brand, Brand, Brand, Brand, R, T, S>(
-        rt, alloc, pieces, gate, source, workers, blanks, shards, counts,
+        rt, pieces, gate, source, workers, blanks, shards,
     )
 }
 
@@ -174,6 +197,28 @@ fn delivered_to<G: Game>(shards: &Four<Shard<G>>) -> u64 {
         .saturating_add(shards.b.delivered())
         .saturating_add(shards.c.delivered())
         .saturating_add(shards.d.delivered())
+}
+
+// Counts a level's pairs and closes it in all four shards: the coordinator delivers what no pass delivered.
+fn close_passes<G: Game>(
+    alloc: Global,
+    pieces: &Pieces<G>,
+    numbers: Four<u64>,
+    shards: &mut Four<Shard<G>>,
+    counts: &mut Four<Expected<G>>,
+) -> Result<(), SolveError>
+    requires shards { AreShardsAt G.rules pieces.now.level.now.place pieces.now.width shards.old }
+    requires counts { AreCountsAt G.rules pieces.now.level.now.place pieces.now.width counts.old }
+    requires numbers { AreNumbers G.rules pieces.now.level.now pieces.now.width numbers }
+    requires whole { length pieces.now.level.now.notes ≤ pieces.now.notes }
+    requires near { pieces.now.level.now.place.level ≤ REMOTENESS }
+    ensures shards { OnOk result (AreShardsAt G.rules (next_place pieces.now.level.now.place) pieces.now.width shards.new) }
+    ensures none { OnOk result (HaveNoneHere G.rules shards.new) }
+    ensures counts { OnOk result (AreCountsAt G.rules (next_place pieces.now.level.now.place) pieces.now.width counts.new) }
+    ensures error { IfErr result (IsError G.rules pieces.now.level.now.place.tier) }
+{
+    let tallies = tally_of(alloc, pieces, numbers)?;
+    close_tiles(shards, counts, pieces, tallies.as_slice())
 }
 
 /// Serves and closes a level: workers deliver its pairs, one pass for each shard, and the coordinator the rest. The number is that of the workers' deliveries.
@@ -210,17 +255,16 @@ pub(crate) fn run_passes<G: Game + Send + Sync, R: Threads + Wait + Sync, T: Gat
         notes,
         width,
     };
-    match serve_passes(
-        rt,
-        alloc,
-        &whole,
-        gate,
-        source,
-        workers.min(4),
-        shards,
-        counts,
-    ) {
-        Ok((shards, delivered)) => Ok((shards, delivered.saturating_sub(before))),
-        Err(error) => Err(error),
+    let Walked {
+        mut shards,
+        numbers,
+    } = serve_passes(rt, &whole, gate, source, workers.min(4), shards);
+    let by_workers = delivered_to(&shards).saturating_sub(before);
+    match close_passes(alloc, &whole, numbers, &mut shards, counts) {
+        Ok(()) => Ok((shards, by_workers)),
+        Err(error) => {
+            drop(shards);
+            Err(error)
+        }
     }
 }

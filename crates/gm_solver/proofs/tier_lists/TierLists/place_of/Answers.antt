@@ -4,6 +4,7 @@ use Rattle.std.proofs.lemmas.Option.{slice_get-get_or}
 use Rattle.gm_shard.specs.Lists.{ListsData}
 use Rattle.gm_shard.specs.Delivery.{IsPlaceOf}
 use Rattle.gm_solver.specs.Blocks.{block_in, block_at}
+use Rattle.gm_solver.proofs.BlockLemmas.{from_block, within_block}
 use Rattle.gm_solver.proofs.tier_lists.TierLists.place_of.Goals as goal
 
 pub place_in-place-requires-clause-within : goal.place_in-place-requires-clause-within
