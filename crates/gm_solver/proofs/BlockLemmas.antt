@@ -1,14 +1,16 @@
 -- Blocks of a tier, one after another.
-use Rattle.std.proofs.Common.{◌≡◌, ℕ, zero, suc, ◌+◌, ◌-◌, ◌*◌, ◌/◌, ◌%◌, ◌<◌, ◌⊎◌, inl, inr, List, [], ◌∷◌, ◌++◌, length, take, drop, slice_get, Some, refl, sym, ap, subst, ◌∙◌, arith}
+use Rattle.std.proofs.Common.{◌≡◌, ℕ, zero, suc, ◌+◌, ◌-◌, ◌*◌, ◌/◌, ◌%◌, ◌<◌, ◌≤◌, min, ◌⊎◌, inl, inr, List, [], ◌∷◌, ◌++◌, length, take, drop, slice_get, get_or, Some, refl, sym, ap, subst, ◌∙◌, arith}
 use Rattle.std.specs.List.{AllZip, range_with_len}
-use Rattle.std.proofs.Math.Nat.{div-lt_iff_lt-mul, mod-lt}
+use Rattle.std.proofs.Math.Nat.{div-lt_iff_lt-mul, mod-lt, min-le_left, le-min}
 use Rattle.std.proofs.lemmas.Nat.{mul-add-lt, mod-mul-add, div-mul-add, div-add-mod'}
 use Rattle.std.proofs.lemmas.Slice.Zip.{AllZip-long}
 use Rattle.std.proofs.lemmas.List.FromFn.{length-range_with_len}
 use Rattle.gm_game.specs.Rules.{Rules, at}
 use Rattle.gm_shard.specs.declared.status.Start.{Start}
 use Rattle.gm_shard.specs.Begin.{IsStart, AreStarts}
-use Rattle.gm_solver.specs.Blocks.{block_in}
+use Rattle.gm_shard.specs.Lists.{ListsData}
+use Rattle.std.proofs.lemmas.Option.{slice_get-get_or}
+use Rattle.gm_solver.specs.Blocks.{block_in, block_at, AreBlocks}
 
 -- an item of two lists, one after the other, stands in one of them
 pub append_cases : {X : Type 0} (xs ys : List X) (k : ℕ) (x : X) → slice_get (xs ++ ys) k ≡ Some x → (slice_get xs k ≡ Some x) ⊎ ((j : ℕ) × (k ≡ length xs + j) × (slice_get ys j ≡ Some x))
@@ -43,6 +45,24 @@ dealt rows block within =
     let low : place % rows ≡ block / 32 = mod-mul-add (block % 32) rows (block / 32) row in
     let high : place / rows ≡ block % 32 = div-mul-add (block % 32) rows (block / 32) row in
     (inside, ap (λ (a : ℕ). a * 32 + place / rows) low ∙ ap (λ (b : ℕ). block / 32 * 32 + b) high ∙ div-add-mod' block 32)
+
+-- an index of a tier stands in the block of its number
+pub from_block : (size parent k : ℕ) → k ≡ parent / 512 → min (k * 512) size ≤ parent
+from_block size parent k is =
+    let low = min-le_left (k * 512) size in
+    omega arith
+
+pub within_block : (size parent k : ℕ) → k ≡ parent / 512 → parent < size → parent < min (suc k * 512) size
+within_block size parent k is inside =
+    let high : suc parent ≤ suc k * 512 = omega arith in
+    le-min high inside
+
+-- what stands at a place of a tier's blocks
+pub found_block : (r : Rules) (tier rows : ℕ) (blocks : List ListsData) (place : ℕ) (block : ListsData) → AreBlocks r tier rows blocks → place < rows * 32 → block ≡ get_or blocks place block → block ≡ block_at r tier (block_in rows place)
+found_block r tier rows blocks place block are below is =
+    let many = are.many in
+    let inside : place < length blocks = omega arith in
+    are.each place block (slice_get-get_or blocks place block inside ∙ ap Some (sym is))
 
 -- the starts of a range, and those of the range that goes on where it ends
 pub starts_more : (r : Rules) (tier lo : ℕ) (xs ys : List Start) → length xs ≡ lo → AreStarts r tier 0 xs → AreStarts r tier lo ys → AreStarts r tier 0 (xs ++ ys)

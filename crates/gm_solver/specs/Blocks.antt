@@ -1,5 +1,5 @@
 -- The canonical children of a tier, in blocks of 512 indexes that are dealt out to 32 classes in turn.
-use Rattle.std.specs.Prelude.{◌≡◌, ℕ, ◌+◌, ◌*◌, ◌/◌, ◌%◌, ◌<◌, ◌≤◌, suc, min, List, Some, Vec, length, slice_get}
+use Rattle.std.specs.Prelude.{◌≡◌, ℕ, ◌+◌, ◌*◌, ◌/◌, ◌%◌, ◌≤◌, suc, min, List, Some, Vec, length, slice_get}
 use Rattle.std.specs.declared.alloc.Global.{Global}
 use Rattle.gm_game.specs.Rules.{Rules}
 use Rattle.gm_shard.specs.declared.status.Start.{Start}

@@ -78,15 +78,6 @@ pub(crate) struct Post<'a, G: Game, L: Round> {
     ghost lists_are: { lists.now ≡ L.spot.tier },
 }
 
-/// A post after its workers have ended: the desk, the pass unless it is lost, and the number of the level's pairs into the range.
-#[derive(Drop)]
-pub(crate) struct Ended<G: Game, L: Round> {
-    pub desk: PassDesk<G, L>,
-    pub pass: Option<Pass<L>>,
-    pub number: u64,
-    ghost number_is: { number ≡ length (pairs_into G.rules L.spot L.notes) },
-}
-
 impl<'a, G: Game, L: Round> Post<'a, G, L> {
     /// Puts a shard under the lock of a desk, and its pass into the slot.
     pub(crate) fn around(
@@ -147,19 +138,22 @@ impl<'a, G: Game, L: Round> Post<'a, G, L> {
         }
     }
 
-    /// The post after its workers have ended. Where no worker found the number, it is found by a walk.
-    pub(crate) fn end(self) -> Ended<G, L> {
+    /// The shard after the post's workers have ended, and the number of the level's pairs into it. Where no worker found the number, it is found by a walk.
+    pub(crate) fn end(self) -> (Shard<G>, u64)
+        ensures shard { spot_of result.0 ≡ L.spot }
+        ensures number { result.1 ≡ length (pairs_into G.rules L.spot L.notes) }
+    {
         let Post {
             desk,
             slot,
             level,
             ..
         } = self;
-        let Slot { pass, found } = slot.into_inner();
+        let Slot { pass: _, found } = slot.into_inner();
         let number = match &found {
             Some(found) => found.number(),
             None => counted(&desk, level),
         };
-        Ended { desk, pass, number }
+        (desk.into_shard(), number)
     }
 }

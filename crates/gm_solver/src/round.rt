@@ -188,8 +188,8 @@ pub(crate) fn run_pieces<G: Game + Send + Sync, R: Threads + Wait + Sync, T: Gat
     }
 }
 
-// Closes a level in all four shards.
-fn close_tiles<G: Game>(
+/// Closes a level in all four shards: the coordinator delivers what is missing.
+pub(crate) fn close_tiles<G: Game>(
     shards: &mut Four<Shard<G>>,
     counts: &mut Four<Expected<G>>,
     pieces: &Pieces<G>,

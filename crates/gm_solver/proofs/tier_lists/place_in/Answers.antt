@@ -1,4 +1,3 @@
-use Rattle.std.proofs.Common.{arith}
 use Rattle.gm_solver.proofs.BlockLemmas.{dealt}
 use Rattle.gm_solver.proofs.tier_lists.place_in.Goals as goal
 
