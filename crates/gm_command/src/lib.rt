@@ -4,6 +4,7 @@
 pub mod asked;
 pub mod commands;
 mod explore_commands;
+mod lines;
 pub mod names;
 pub mod pages;
 pub mod requests;

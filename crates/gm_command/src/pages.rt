@@ -1,8 +1,8 @@
 //! Texts about the program, made from its command line: completions for shells, and a man page.
 
-use crate::commands::{command, gamesman};
+use crate::commands::gamesman;
 use crate::names::NAMES;
-use clap::{Arg, ArgAction, ArgMatches, Command};
+use clap::{Arg, ArgMatches, Command};
 use std::alloc::{AllocError, Global};
 
 /// A text about the program.
@@ -12,31 +12,6 @@ pub enum Page {
     Zsh,
     Fish,
     Man,
-}
-
-/// The command `completions`.
-pub fn completions<'a>(alloc: Global) -> Result<Command<'a>, AllocError> {
-    let shell = Arg::new(alloc, "SHELL")
-        .required(true)
-        .action(ArgAction::Set)
-        .help("The shell: bash, zsh or fish");
-    command(
-        alloc,
-        "completions",
-        "Prints the completions of a shell, for it to read at its start",
-        "Examples:\n  gamesman completions bash > ~/.local/share/bash-completion/completions/gamesman\n  gamesman completions fish > ~/.config/fish/completions/gamesman.fish",
-    )
-    .arg(shell)
-}
-
-/// The command `man`.
-pub fn man<'a>(alloc: Global) -> Command<'a> {
-    command(
-        alloc,
-        "man",
-        "Prints the manual page",
-        "Examples:\n  gamesman man > gamesman.1\n  gamesman man | man -l -",
-    )
 }
 
 /// The shell of a line of `completions`.
@@ -53,7 +28,9 @@ pub fn page_of(inner: &ArgMatches<'_>) -> Option<Page> {
 pub fn page_text(alloc: Global, page: Page) -> Result<Vec<u8>, AllocError> {
     let command = gamesman(alloc)?;
     let mut text = String::new(alloc);
-    write_page(&command, page, &mut text)?;
+    let written = write_page(&command, page, &mut text);
+    drop(command);
+    written?;
     Ok(text.into_bytes())
 }
 
