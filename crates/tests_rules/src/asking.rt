@@ -1,62 +1,48 @@
-//! What a game is asked about its start and about boards with these texts.
+//! What a game says of its positions, tiers and texts.
 use gm_game::children::canonical_children;
 use gm_game::evaluate::within;
 use gm_game::game::Game;
-use gm_game::position::{Position, Solved};
+use gm_game::position::{End, Position, Solved};
 use gm_game::shown::Shown;
 
-/// Whether this is the text of the start.
-pub fn starts<G: Shown>(text: &[u8]) -> bool {
-    G::show(G::initial()).as_slice() == text
+/// A position of tier 0.
+pub fn at(index: u64) -> Position {
+    Position { tier: 0, index }
 }
 
-/// Whether these are the numbers of the moves of the start, and how many canonical children it has.
-pub fn at_start<G: Game>(numbers: &[u32]) -> (bool, usize) {
-    let p = G::initial();
-    (
-        G::moves(p).as_slice() == numbers,
-        canonical_children::<G>(p).len(),
-    )
+/// Whether a position is legal and has these moves.
+pub fn has_moves<G: Game>(p: Position, moves: &[u32]) -> bool {
+    G::is_legal(p) && G::moves(p).as_slice() == moves
 }
 
-/// Whether the move with this text, at the position with that one, is the move with this number, and has this text again.
-pub fn is_move<G: Shown>(position: &[u8], text: &[u8], number: u32) -> bool {
-    match G::read(position) {
-        Some(p) => match G::read_move(p, text) {
-            Some(m) => m == number && G::move_text(p, m).as_slice() == text,
-            None => false,
-        },
-        None => false,
-    }
+/// Whether a position is legal, and ends the game in this way or not at all.
+pub fn ends<G: Game>(p: Position, end: Option<End>) -> bool {
+    G::is_legal(p) && G::primitive(p) == end
 }
 
-/// Whether the move with this text at the start has this number, and again this text.
-pub fn is_start_move<G: Shown>(text: &[u8], number: u32) -> bool {
-    let p = G::initial();
-    match G::read_move(p, text) {
-        Some(m) => m == number && G::move_text(p, m).as_slice() == text,
-        None => false,
-    }
+/// Whether a position is legal and canonical.
+pub fn is_canonical<G: Game>(p: Position) -> bool {
+    G::is_legal(p) && G::canonical(p) == p
 }
 
-/// The text of the move with this text, from the board with that one, read and written again.
-pub fn again<G: Shown>(board: &[u8], text: &[u8]) -> bool {
-    match G::read(board) {
-        Some(p) => match G::read_move(p, text) {
-            Some(m) => G::move_text(p, m).as_slice() == text,
-            None => false,
-        },
-        None => false,
-    }
+/// Whether a position is legal and has these canonical children.
+pub fn has_children<G: Game>(p: Position, children: &[Position]) -> bool {
+    G::is_legal(p) && canonical_children::<G>(p).as_slice() == children
 }
 
-/// The text of the move with this text at the start, read and written again.
-pub fn again_at_start<G: Shown>(text: &[u8]) -> bool {
-    let p = G::initial();
-    match G::read_move(p, text) {
-        Some(m) => G::move_text(p, m).as_slice() == text,
-        None => false,
-    }
+/// Whether a position is canonical and legal, and has these canonical parents in a tier.
+pub fn has_parents<G: Game>(c: Position, tier: u64, parents: &[u64]) -> bool {
+    G::is_legal(c) && G::canonical(c) == c && G::parents(c, tier).as_slice() == parents
+}
+
+/// Whether a tier has these child tiers.
+pub fn has_child_tiers<G: Game>(tier: u64, tiers: &[u64]) -> bool {
+    G::child_tiers(tier).as_slice() == tiers
+}
+
+/// Whether a tier has this size and this rank.
+pub fn has_size_and_rank<G: Game>(tier: u64, size: u64, rank: u64) -> bool {
+    G::tier_size(tier) == size && G::tier_rank(tier) == rank
 }
 
 /// How many indexes a tier has, how many of them are legal, and how many of those canonical.
@@ -76,10 +62,102 @@ pub fn counts<G: Game>(tier: u64) -> (u64, u64, u64) {
     (size, legal, canonical)
 }
 
-/// What looking this many moves ahead finds for a board.
+/// What looking this many moves ahead finds for a position; none where it is not legal.
+pub fn looked_ahead<G: Game>(p: Position, moves: u32) -> Option<Solved> {
+    if G::is_legal(p) {
+        within::<G>(p, moves)
+    } else {
+        None
+    }
+}
+
+/// What looking this many moves ahead finds for the board with this text.
 pub fn ahead<G: Shown>(text: &[u8], moves: u32) -> Option<Solved> {
     match G::read(text) {
-        Some(p) => within::<G>(p, moves),
+        Some(p) => looked_ahead::<G>(p, moves),
         None => None,
     }
+}
+
+/// Whether this is the text of the start.
+pub fn starts<G: Shown>(text: &[u8]) -> bool {
+    G::show(G::initial()).as_slice() == text
+}
+
+/// Whether these are the numbers of the moves of the start, and how many canonical children it has.
+pub fn at_start<G: Game>(numbers: &[u32]) -> (bool, usize) {
+    let p = G::initial();
+    (
+        G::moves(p).as_slice() == numbers,
+        canonical_children::<G>(p).len(),
+    )
+}
+
+/// Whether this is the text of a legal position, and is read as that position.
+pub fn shows<G: Shown>(p: Position, text: &[u8]) -> bool {
+    G::is_legal(p) && G::show(p).as_slice() == text && G::read(text) == Some(p)
+}
+
+/// Whether none of these texts is that of a position.
+pub fn reads_none<G: Shown>(texts: &[&[u8]]) -> bool {
+    for text in texts {
+        if G::read(text).is_some() {
+            return false;
+        }
+    }
+    true
+}
+
+/// The move that this text is read as at a position, and whose text it is; none where there is none, and where the position is not legal.
+pub fn move_at<G: Shown>(p: Position, text: &[u8]) -> Option<u32> {
+    if !G::is_legal(p) {
+        return None;
+    }
+    match G::read_move(p, text) {
+        Some(m) => {
+            if G::move_text(p, m).as_slice() == text {
+                Some(m)
+            } else {
+                None
+            }
+        }
+        None => None,
+    }
+}
+
+/// The same at the start.
+pub fn move_at_start<G: Shown>(text: &[u8]) -> Option<u32> {
+    move_at::<G>(G::initial(), text)
+}
+
+/// The same at the position with that text.
+pub fn move_from<G: Shown>(position: &[u8], text: &[u8]) -> Option<u32> {
+    match G::read(position) {
+        Some(p) => move_at::<G>(p, text),
+        None => None,
+    }
+}
+
+/// Whether this text is read as a move of a legal position that leads there.
+pub fn leads<G: Shown>(p: Position, text: &[u8], child: Position) -> bool {
+    if !G::is_legal(p) {
+        return false;
+    }
+    match G::read_move(p, text) {
+        Some(read) => G::play(p, read) == child,
+        None => false,
+    }
+}
+
+/// Whether none of these texts is that of a move of a legal position.
+pub fn reads_no_move<G: Shown>(p: Position, texts: &[&[u8]]) -> bool {
+    if !G::is_legal(p) {
+        return false;
+    }
+    for text in texts {
+        if G::read_move(p, text).is_some() {
+            return false;
+        }
+    }
+    true
 }

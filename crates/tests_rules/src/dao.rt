@@ -1,4 +1,4 @@
-use crate::asking::{at_start, counts, is_move, starts};
+use crate::asking::{at_start, counts, move_from, starts};
 use crate::expect::{expect, expect_eq};
 use gm_dao::dao::Dao;
 use gm_game::game::Game;
@@ -26,10 +26,21 @@ fn dao_start(rt: HostRuntime) {
     expect(&rt, starts::<Dao>(b"x..o.xo..ox.o..x"));
     expect_eq(&rt, Dao::read(b"x..o.xo..ox.o..x"), Some(start));
     expect_eq(&rt, at_start::<Dao>(&MOVES_OF_THE_START), (true, 3));
-    expect(&rt, is_move::<Dao>(b"x..o.xo..ox.o..x", b"a1-a3", 2));
-    expect(&rt, is_move::<Dao>(b"x..o.xo..ox.o..x", b"d4-d2", 253));
+    expect_eq(
+        &rt,
+        move_from::<Dao>(b"x..o.xo..ox.o..x", b"a1-a3"),
+        Some(2),
+    );
+    expect_eq(
+        &rt,
+        move_from::<Dao>(b"x..o.xo..ox.o..x", b"d4-d2"),
+        Some(253),
+    );
     // A slide goes as far as it can.
-    expect(&rt, !is_move::<Dao>(b"x..o.xo..ox.o..x", b"a1-a2", 1));
+    expect(
+        &rt,
+        move_from::<Dao>(b"x..o.xo..ox.o..x", b"a1-a2") != Some(1),
+    );
 }
 
 #[test]

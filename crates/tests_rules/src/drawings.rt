@@ -52,14 +52,18 @@ fn square_boards(rt: HostRuntime) {
             b"x",
         ),
     );
-    assert!(rt;
+    expect(
+        &rt,
         draws::<TacTix<3, false>>(
             b"x.xx.xx.x",
             b"    1 2 3\na   x . x\nb   x . x\nc   x . x",
-            b"player"
-        )
+            b"player",
+        ),
     );
-    assert!(rt; draws::<TacTix<1, true>>(b"x", b"    1\na   x", b"player"));
+    expect(
+        &rt,
+        draws::<TacTix<1, true>>(b"x", b"    1\na   x", b"player"),
+    );
 }
 
 #[test]

@@ -1,4 +1,4 @@
-use crate::asking::{at_start, is_start_move, starts};
+use crate::asking::{at_start, move_at_start, starts};
 use crate::expect::{expect, expect_eq};
 use gm_game::children::canonical_children;
 use gm_game::game::Game;
@@ -34,12 +34,12 @@ fn hare_texts(rt: HostRuntime) {
         Hare::read(b"dd.d......h d"),
         Some(Position { tier: 2, index: 21 }),
     );
-    expect(&rt, is_start_move::<Hare>(b"L-M1", 2));
-    expect(&rt, is_start_move::<Hare>(b"T1-M2", 21));
-    expect(&rt, is_start_move::<Hare>(b"B1-B2", 54));
+    expect_eq(&rt, move_at_start::<Hare>(b"L-M1"), Some(2));
+    expect_eq(&rt, move_at_start::<Hare>(b"T1-M2"), Some(21));
+    expect_eq(&rt, move_at_start::<Hare>(b"B1-B2"), Some(54));
     // The hare does not move yet, and no hound goes to a point that another holds.
-    expect(&rt, !is_start_move::<Hare>(b"R-M3", 168));
-    expect(&rt, !is_start_move::<Hare>(b"L-T1", 1));
+    expect(&rt, move_at_start::<Hare>(b"R-M3") != Some(168));
+    expect(&rt, move_at_start::<Hare>(b"L-T1") != Some(1));
     expect_eq(&rt, Hare::read(b"dd.d......h  "), None);
     expect_eq(&rt, Hare::read(b"dddd......h d"), None);
     expect_eq(&rt, Hare::read(b"dd.d...h..h d"), None);

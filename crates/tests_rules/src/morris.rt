@@ -1,4 +1,4 @@
-use crate::asking::{again, ahead, counts, starts};
+use crate::asking::{ahead, counts, move_from, starts};
 use crate::expect::{expect, expect_eq};
 use gm_game::position::{Solved, Value};
 use gm_game::shown::Shown;
@@ -65,12 +65,18 @@ fn within_on_tictactoe(rt: HostRuntime) {
 #[test]
 fn texts(rt: HostRuntime) {
     expect(&rt, starts::<TicTacToe>(b"........."));
-    expect(&rt, again::<TicTacToe>(b".........", b"b3"));
+    expect(&rt, move_from::<TicTacToe>(b".........", b"b3").is_some());
     // In the last tier a piece moves to a neighbor in its row or column, in Achi also between the center and a corner.
-    expect(&rt, again::<ThreeMens>(b"xxo.o.x.o", b"a1-b1"));
-    expect(&rt, !again::<ThreeMens>(b"xo..xo.xo", b"b2-a3"));
-    expect(&rt, again::<Achi>(b"xo.oxxoxo", b"b2-a3"));
-    expect(&rt, !again::<Achi>(b"xo.oxxoxo", b"a3"));
+    expect(
+        &rt,
+        move_from::<ThreeMens>(b"xxo.o.x.o", b"a1-b1").is_some(),
+    );
+    expect(
+        &rt,
+        move_from::<ThreeMens>(b"xo..xo.xo", b"b2-a3").is_none(),
+    );
+    expect(&rt, move_from::<Achi>(b"xo.oxxoxo", b"b2-a3").is_some());
+    expect(&rt, move_from::<Achi>(b"xo.oxxoxo", b"a3").is_none());
 }
 
 #[test]

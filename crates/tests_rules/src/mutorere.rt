@@ -1,4 +1,4 @@
-use crate::asking::{at_start, is_start_move, starts};
+use crate::asking::{at_start, move_at_start, starts};
 use crate::expect::{expect, expect_eq};
 use gm_game::game::Game;
 use gm_game::position::Position;
@@ -12,11 +12,11 @@ fn mutorere_start(rt: HostRuntime) {
     expect(&rt, starts::<MuTorere>(b"xxxxoooo."));
     expect_eq(&rt, MuTorere::read(b"xxxxoooo."), Some(start));
     expect_eq(&rt, at_start::<MuTorere>(&[8, 56]), (true, 1));
-    expect(&rt, is_start_move::<MuTorere>(b"0-c", 8));
-    expect(&rt, is_start_move::<MuTorere>(b"3-c", 56));
+    expect_eq(&rt, move_at_start::<MuTorere>(b"0-c"), Some(8));
+    expect_eq(&rt, move_at_start::<MuTorere>(b"3-c"), Some(56));
     // No opponent's piece is beside 1, and the center is no digit.
-    expect(&rt, !is_start_move::<MuTorere>(b"1-c", 24));
-    expect(&rt, !is_start_move::<MuTorere>(b"0-8", 8));
+    expect(&rt, move_at_start::<MuTorere>(b"1-c") != Some(24));
+    expect(&rt, move_at_start::<MuTorere>(b"0-8") != Some(8));
 }
 
 #[test]

@@ -1,4 +1,4 @@
-use Rattle.tests_rules.proofs.asking.again_at_start.Goals as goal
+use Rattle.tests_rules.proofs.asking.move_at.Goals as goal
 
 pub move_text-requires-clause-listed : goal.move_text-requires-clause-listed
 move_text-requires-clause-listed g c = ((c.read_move.ensures c.in-Some.m).0 c.in-Some.is).0

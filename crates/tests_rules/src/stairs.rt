@@ -1,7 +1,7 @@
 //! Stairs' moves, tiers, parents and texts.
 use crate::asking::{
     ends, has_child_tiers, has_children, has_moves, has_parents, has_size_and_rank, is_canonical,
-    leads, reads_no_move, reads_none, shows, shows_move,
+    leads, move_at, reads_no_move, reads_none, shows,
 };
 use crate::expect::{expect, expect_eq};
 use gm_game::game::{Game, laws};
@@ -29,18 +29,18 @@ fn stairs_go_down_by_one(rt: HostRuntime) {
 
 #[test]
 fn tiers_of_stairs(rt: HostRuntime) {
-    for tier in 0..4 {
-        expect(&rt, has_size_and_rank::<Three>(tier, 1, tier));
-    }
+    expect(&rt, has_size_and_rank::<Three>(0, 1, 0));
+    expect(&rt, has_size_and_rank::<Three>(1, 1, 1));
+    expect(&rt, has_size_and_rank::<Three>(2, 1, 2));
+    expect(&rt, has_size_and_rank::<Three>(3, 1, 3));
     expect_eq(&rt, Three::tier_size(4), 0);
     expect(&rt, !Three::is_legal(on(4)));
     expect(&rt, !Three::is_legal(Position { tier: 3, index: 1 }));
-    for tier in [0, 4, u64::MAX] {
-        expect(&rt, has_child_tiers::<Three>(tier, &[]));
-    }
-    for tier in [1, 3] {
-        expect(&rt, has_child_tiers::<Three>(tier, &[tier - 1]));
-    }
+    expect(&rt, has_child_tiers::<Three>(0, &[]));
+    expect(&rt, has_child_tiers::<Three>(1, &[0]));
+    expect(&rt, has_child_tiers::<Three>(3, &[2]));
+    expect(&rt, has_child_tiers::<Three>(4, &[]));
+    expect(&rt, has_child_tiers::<Three>(u64::MAX, &[]));
 }
 
 #[test]
@@ -63,7 +63,7 @@ fn texts_of_stairs(rt: HostRuntime) {
     expect(&rt, reads_no_move::<Three>(p, &[b"", b"0", b"2", b"01"]));
     expect(
         &rt,
-        shows_move::<Three>(p, b"1", 1) && leads::<Three>(p, b"1", on(2)),
+        move_at::<Three>(p, b"1") == Some(1) && leads::<Three>(p, b"1", on(2)),
     );
 }
 

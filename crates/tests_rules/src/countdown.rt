@@ -1,10 +1,10 @@
 //! Countdown's values, moves and texts.
 use crate::asking::{
-    at, has_children, has_moves, is_canonical, reads_no_move, reads_none, shows, shows_move,
+    at, has_children, has_moves, is_canonical, looked_ahead, move_at, reads_no_move, reads_none,
+    shows,
 };
 use crate::expect::{expect, expect_eq};
 use gm_game::children::{child_place, is_inner};
-use gm_game::evaluate::within;
 use gm_game::game::{Game, laws};
 use gm_game::position::{Position, Solved, Value};
 use gm_game::shown::texts;
@@ -13,16 +13,6 @@ use gm_toys::countdown::{Countdown, countdown_is};
 use gm_toys::wheel::Wheel;
 
 type Ten = Countdown<10>;
-
-// What looking n moves ahead from a number says.
-fn looked_ahead<G: Game>(index: u64, n: u32) -> Option<Solved> {
-    let p = at(index);
-    if G::is_legal(p) {
-        within::<G>(p, n)
-    } else {
-        None
-    }
-}
 
 fn solved(value: Value, remoteness: u32) -> Solved {
     Solved { value, remoteness }
@@ -46,7 +36,7 @@ fn countdown_table(rt: HostRuntime) {
     for (index, (value, remoteness)) in table.iter().enumerate() {
         expect_eq(
             &rt,
-            looked_ahead::<Ten>(index as u64, 16),
+            looked_ahead::<Ten>(at(index as u64), 16),
             Some(solved(*value, *remoteness)),
         );
     }
@@ -54,17 +44,25 @@ fn countdown_table(rt: HostRuntime) {
 
 #[test]
 fn within_on_countdown(rt: HostRuntime) {
-    expect_eq(&rt, looked_ahead::<Ten>(10, 7), Some(solved(Value::Win, 7)));
-    expect_eq(&rt, looked_ahead::<Ten>(10, 6), None);
-    expect_eq(&rt, looked_ahead::<Ten>(0, 0), Some(solved(Value::Lose, 0)));
+    expect_eq(
+        &rt,
+        looked_ahead::<Ten>(at(10), 7),
+        Some(solved(Value::Win, 7)),
+    );
+    expect_eq(&rt, looked_ahead::<Ten>(at(10), 6), None);
+    expect_eq(
+        &rt,
+        looked_ahead::<Ten>(at(0), 0),
+        Some(solved(Value::Lose, 0)),
+    );
 }
 
 #[test]
 fn within_on_wheel(rt: HostRuntime) {
-    expect_eq(&rt, looked_ahead::<Wheel>(3, 20), None);
+    expect_eq(&rt, looked_ahead::<Wheel>(at(3), 20), None);
     expect_eq(
         &rt,
-        looked_ahead::<Wheel>(9, 3),
+        looked_ahead::<Wheel>(at(9), 3),
         Some(solved(Value::Win, 3)),
     );
 }
@@ -126,14 +124,14 @@ fn countdown_reads_its_moves_and_no_others(rt: HostRuntime) {
     let p = at(10);
     expect(
         &rt,
-        shows_move::<Ten>(p, b"1", 1) && shows_move::<Ten>(p, b"2", 2),
+        move_at::<Ten>(p, b"1") == Some(1) && move_at::<Ten>(p, b"2") == Some(2),
     );
     let others: [&[u8]; 9] = [b"", b"0", b"3", b"+1", b"-1", b"01", b" 1", b"1 ", b"\xff"];
     expect(&rt, reads_no_move::<Ten>(p, &others));
     expect(&rt, reads_no_move::<Ten>(p, &[&[b'1'; 64], &[b'2'; 65]]));
     expect(
         &rt,
-        shows_move::<Ten>(at(1), b"1", 1) && reads_no_move::<Ten>(at(1), &[b"2"]),
+        move_at::<Ten>(at(1), b"1") == Some(1) && reads_no_move::<Ten>(at(1), &[b"2"]),
     );
 }
 

@@ -1,7 +1,7 @@
 //! Wheel's moves, ends, parents and texts.
 use crate::asking::{
     at, ends, has_child_tiers, has_children, has_moves, has_parents, has_size_and_rank,
-    is_canonical, reads_no_move, reads_none, shows, shows_move,
+    is_canonical, move_at, reads_no_move, reads_none, shows,
 };
 use crate::expect::{expect, expect_eq};
 use gm_game::game::{Game, laws};
@@ -82,16 +82,16 @@ fn parents_in_wheel(rt: HostRuntime) {
 fn texts_of_wheel(rt: HostRuntime) {
     let p = at(8);
     expect(&rt, Wheel::name() == *b"wheel\0\0\0\0\0\0\0\0\0\0\0");
-    for (index, text) in [(8, b"8"), (0, b"0"), (9, b"9")] {
-        expect(&rt, shows::<Wheel>(at(index), text));
-    }
+    expect(&rt, shows::<Wheel>(p, b"8"));
+    expect(&rt, shows::<Wheel>(at(0), b"0"));
+    expect(&rt, shows::<Wheel>(at(9), b"9"));
     expect(
         &rt,
         reads_none::<Wheel>(&[b"", b"10", b"01", b"+1", b" 1", b"1\n", b"\xff"]),
     );
     expect(
         &rt,
-        shows_move::<Wheel>(p, b"3", 3) && shows_move::<Wheel>(p, b"6", 6),
+        move_at::<Wheel>(p, b"3") == Some(3) && move_at::<Wheel>(p, b"6") == Some(6),
     );
     expect(
         &rt,

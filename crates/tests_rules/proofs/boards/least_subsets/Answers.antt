@@ -1,6 +1,6 @@
 use Rattle.std.proofs.Common.{refl, arith}
 use Rattle.gm_board.specs.Groups.{group_from_table}
-use Rattle.tests_boards.proofs.boards.least_subsets.Goals as goal
+use Rattle.tests_rules.proofs.boards.least_subsets.Goals as goal
 
 pub least_subset-requires : goal.least_subset-requires
 least_subset-requires g c = (omega arith, (omega arith, (omega arith, (group_from_table 16 _ refl, omega arith))))

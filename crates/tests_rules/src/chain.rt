@@ -1,7 +1,7 @@
 //! Chain's moves, ends, parents and texts.
 use crate::asking::{
     at, ends, has_child_tiers, has_children, has_moves, has_parents, has_size_and_rank,
-    is_canonical, leads, reads_no_move, reads_none, shows, shows_move,
+    is_canonical, leads, move_at, reads_no_move, reads_none, shows,
 };
 use crate::expect::{expect, expect_eq};
 use gm_game::game::{Game, laws};
@@ -52,7 +52,7 @@ fn texts_of_chain(rt: HostRuntime) {
     expect(&rt, reads_no_move::<Ten>(p, &[b"", b"0", b"2", b"01"]));
     expect(
         &rt,
-        shows_move::<Ten>(p, b"1", 1) && leads::<Ten>(p, b"1", at(9)),
+        move_at::<Ten>(p, b"1") == Some(1) && leads::<Ten>(p, b"1", at(9)),
     );
 }
 

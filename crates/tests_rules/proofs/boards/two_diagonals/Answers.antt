@@ -1,6 +1,6 @@
 use Rattle.std.proofs.Common.{refl, arith}
 use Rattle.std.specs.Int.Count.{ones}
-use Rattle.tests_boards.proofs.boards.two_diagonals.Goals as goal
+use Rattle.tests_rules.proofs.boards.two_diagonals.Goals as goal
 
 pub index-index-requires : goal.index-index-requires
 unfolding ones

@@ -1,6 +1,6 @@
 use Rattle.std.proofs.Common.{refl, arith}
 use Rattle.std.specs.Int.Count.{ones}
-use Rattle.tests_boards.proofs.boards.two_halves_of_a_ring.Goals as goal
+use Rattle.tests_rules.proofs.boards.two_halves_of_a_ring.Goals as goal
 
 pub index-requires : goal.index-requires
 unfolding ones
