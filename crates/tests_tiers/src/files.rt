@@ -1,6 +1,7 @@
-use crate::expect::expect_eq;
+use crate::expect::{expect_eq, expect_eq_at};
 use gm_game::position::{Solved, Value};
 use gm_table::checker::{CheckError, check};
+use gm_table::table::Table;
 use gm_table::tables::Tables;
 use gm_tierdb::decode::decode;
 use gm_tierdb::encode::encode;
@@ -55,6 +56,13 @@ pub(crate) fn true_records(alloc: Global) -> Result<Vec<Option<Solved>>, AllocEr
     Ok(records)
 }
 
+/// The table with these values.
+pub(crate) fn true_table(alloc: Global) -> Result<Table<Game>, Fail> {
+    let records = true_records(alloc)?;
+    let tables: Tables<Game> = Tables::new(alloc);
+    Ok(check(alloc, 0, records.as_slice(), &tables)?)
+}
+
 // Why these bytes are refused.
 fn refusal(alloc: Global, bytes: &[u8]) -> Option<FileError> {
     decode::<Game>(alloc, 0, bytes).err()
@@ -74,9 +82,7 @@ fn with_bytes(alloc: Global, at: usize, bytes: &[u8]) -> Result<Vec<u8>, AllocEr
 
 #[test]
 fn a_table_is_written(rt: HostRuntime) -> Result<(), Fail> {
-    let records = true_records(rt.alloc())?;
-    let tables: Tables<Game> = Tables::new(rt.alloc());
-    let table = check(rt.alloc(), 0, records.as_slice(), &tables)?;
+    let table = true_table(rt.alloc())?;
     let file = encode(rt.alloc(), &table)?;
     expect_eq(&rt, file.len(), 116);
     expect_eq(&rt, file, file_of_countdown(rt.alloc())?);
@@ -129,10 +135,11 @@ fn cut_files_are_truncated(rt: HostRuntime) -> Result<(), Fail> {
     let file = file_of_countdown(rt.alloc())?;
     for len in 0..116usize {
         let cut = file.as_slice().get(..len).unwrap_or(&[]);
-        assert_eq!(rt;
+        expect_eq_at(
+            &rt,
             refusal(rt.alloc(), cut),
             Some(FileError::Truncated),
-            "at {len}"
+            len,
         );
     }
     Ok(())
@@ -156,7 +163,7 @@ fn each_changed_byte_is_found(rt: HostRuntime) -> Result<(), Fail> {
             },
             _ => FileError::BadDigest,
         };
-        assert_eq!(rt; refusal(rt.alloc(), file.as_slice()), Some(why), "at {at}");
+        expect_eq_at(&rt, refusal(rt.alloc(), file.as_slice()), Some(why), at);
     }
     Ok(())
 }
@@ -182,18 +189,14 @@ fn a_new_digest_does_not_make_records_true(rt: HostRuntime) -> Result<(), Fail> 
 
 #[test]
 fn file_errors_have_numbers(rt: HostRuntime) {
-    for (error, number) in [
-        (FileError::OutOfMemory, 1),
-        (FileError::Truncated, 2),
-        (FileError::BadMagic, 3),
-        (FileError::WrongGame, 4),
-        (FileError::WrongTier, 5),
-        (FileError::WrongSize, 6),
-        (FileError::BadRecord { index: 5 }, 7),
-        (FileError::Trailing, 8),
-        (FileError::BadDigest, 9),
-        (FileError::OldVersion, 10),
-    ] {
-        expect_eq(&rt, error.number(), number);
-    }
+    expect_eq(&rt, FileError::OutOfMemory.number(), 1);
+    expect_eq(&rt, FileError::Truncated.number(), 2);
+    expect_eq(&rt, FileError::BadMagic.number(), 3);
+    expect_eq(&rt, FileError::WrongGame.number(), 4);
+    expect_eq(&rt, FileError::WrongTier.number(), 5);
+    expect_eq(&rt, FileError::WrongSize.number(), 6);
+    expect_eq(&rt, FileError::BadRecord { index: 5 }.number(), 7);
+    expect_eq(&rt, FileError::Trailing.number(), 8);
+    expect_eq(&rt, FileError::BadDigest.number(), 9);
+    expect_eq(&rt, FileError::OldVersion.number(), 10);
 }

@@ -6,6 +6,7 @@ use gm_tierdb::store::Store;
 use gm_tierdb::store_error::StoreError;
 use std::alloc::{AllocError, Global};
 use std::fs::{self, Files};
+use std::io;
 use std::test::Fail;
 
 fn store_in(alloc: Global, folder: &str) -> Result<FolderStore, AllocError> {
@@ -30,9 +31,16 @@ fn is_unread<S: Store, R: Files>(rt: &R, alloc: Global, store: &mut S, tier: u64
     store.failures() < u64::MAX && store.read(rt, alloc, tier) == Err(StoreError::Failed)
 }
 
-// Whether a file has this text.
-fn has(file: &[u8], text: &[u8]) -> bool {
-    file == text
+/// Whether a file has this text.
+pub(crate) fn file_has<R: Files + AllocGlobal>(
+    rt: &R,
+    path: &str,
+    text: &[u8],
+) -> io::Result<bool> {
+    let file = fs::read(rt, path)?;
+    let same = file.as_slice() == text;
+    drop(file);
+    Ok(same)
 }
 
 #[test]
@@ -43,12 +51,13 @@ fn each_tier_has_its_own_file(rt: HostRuntime) -> Result<(), Fail> {
     write_to(&rt, &mut store, 2, b"two")?;
     write_to(&rt, &mut store, 12, b"twelve")?;
     write_to(&rt, &mut store, u64::MAX, b"the greatest")?;
-    let two = fs::read(&rt, "folder_of_numbers/tier-2.gmt")?;
-    expect(&rt, has(two.as_slice(), b"two"));
-    let twelve = fs::read(&rt, "folder_of_numbers/tier-12.gmt")?;
-    expect(&rt, has(twelve.as_slice(), b"twelve"));
-    let greatest = fs::read(&rt, "folder_of_numbers/tier-18446744073709551615.gmt")?;
-    expect(&rt, has(greatest.as_slice(), b"the greatest"));
+    drop(store);
+    let two = "folder_of_numbers/tier-2.gmt";
+    expect(&rt, file_has(&rt, two, b"two")?);
+    let twelve = "folder_of_numbers/tier-12.gmt";
+    expect(&rt, file_has(&rt, twelve, b"twelve")?);
+    let greatest = "folder_of_numbers/tier-18446744073709551615.gmt";
+    expect(&rt, file_has(&rt, greatest, b"the greatest")?);
     fs::remove_dir_all(&rt, folder)?;
     Ok(())
 }
@@ -67,6 +76,7 @@ fn what_is_no_plain_file_fails(rt: HostRuntime) -> Result<(), Fail> {
         Err(StoreError::Failed),
     );
     expect_eq(&rt, store.failures(), 2);
+    drop(store);
     expect(&rt, !fs::exists(&rt, "folder_with_a_folder/tier-3.tmp")?);
     fs::remove_dir_all(&rt, folder)?;
     Ok(())
@@ -83,9 +93,10 @@ fn a_flaky_folder_is_reached(rt: HostRuntime) -> Result<(), Fail> {
         write_to(&rt, &mut store, 1, b"lost"),
         Err(StoreError::Failed),
     );
-    let one = fs::read(&rt, "folder_that_flakes/tier-1.gmt")?;
-    expect(&rt, has(one.as_slice(), b"one"));
     expect_eq(&rt, store.failures(), 1);
+    drop(store);
+    let one = "folder_that_flakes/tier-1.gmt";
+    expect(&rt, file_has(&rt, one, b"one")?);
     fs::remove_dir_all(&rt, folder)?;
     Ok(())
 }

@@ -1,4 +1,4 @@
-//! The worked values of tier orders and tier files, on the toys.
+//! The worked values of tier orders and tier files, and of sessions of play, on the toys.
 #![tactic(auto)]
 
 #[cfg(test)]
@@ -10,7 +10,15 @@ mod folders;
 #[cfg(test)]
 mod old_files;
 #[cfg(test)]
+mod one_tier;
+#[cfg(test)]
 mod orders;
+#[cfg(test)]
+mod questions;
+#[cfg(test)]
+mod sessions;
+#[cfg(test)]
+mod slow;
 #[cfg(test)]
 mod stores;
 #[cfg(test)]

@@ -1,6 +1,6 @@
 //! Files of version 1: docs/FORMATS.md, "Version 1".
-use crate::expect::{expect, expect_eq};
-use crate::files::{Game, file_of_countdown, true_records};
+use crate::expect::{expect, expect_eq, expect_eq_at};
+use crate::files::{Game, file_of_countdown, true_records, true_table};
 use gm_game::position::{Solved, Value};
 use gm_table::checker::check;
 use gm_table::tables::Tables;
@@ -38,9 +38,7 @@ fn refusal(alloc: Global, bytes: &[u8]) -> Option<FileError> {
 
 #[test]
 fn a_table_is_written_in_version_1(rt: HostRuntime) -> Result<(), Fail> {
-    let records = true_records(rt.alloc())?;
-    let tables: Tables<Game> = Tables::new(rt.alloc());
-    let table = check(rt.alloc(), 0, records.as_slice(), &tables)?;
+    let table = true_table(rt.alloc())?;
     if fits_v1(&table) {
         let file = encode_v1(rt.alloc(), &table)?;
         expect_eq(&rt, file.len(), 94);
@@ -71,10 +69,11 @@ fn old_files_that_are_cut_or_changed(rt: HostRuntime) -> Result<(), Fail> {
     for at in 0..94usize {
         let mut file = old_file(rt.alloc())?;
         let cut = file.as_slice().get(..at).unwrap_or(&[]);
-        assert_eq!(rt;
+        expect_eq_at(
+            &rt,
             refusal(rt.alloc(), cut),
             Some(FileError::Truncated),
-            "at {at}"
+            at,
         );
         if let Some(byte) = file.get_mut(at) {
             *byte ^= 1;
@@ -86,7 +85,7 @@ fn old_files_that_are_cut_or_changed(rt: HostRuntime) -> Result<(), Fail> {
             32..=39 => FileError::WrongSize,
             _ => FileError::BadDigest,
         };
-        assert_eq!(rt; refusal(rt.alloc(), file.as_slice()), Some(why), "at {at}");
+        expect_eq_at(&rt, refusal(rt.alloc(), file.as_slice()), Some(why), at);
         // Read as a file of version 2, it is refused as old, whatever follows its first bytes.
         let today = decode::<Game>(rt.alloc(), 0, file.as_slice()).err();
         let why = if at < 8 {
@@ -94,7 +93,7 @@ fn old_files_that_are_cut_or_changed(rt: HostRuntime) -> Result<(), Fail> {
         } else {
             FileError::OldVersion
         };
-        assert_eq!(rt; today, Some(why), "at {at}");
+        expect_eq_at(&rt, today, Some(why), at);
     }
     Ok(())
 }

@@ -1,4 +1,6 @@
-use crate::expect::expect_eq;
+//! Orders of tiers.
+use crate::expect::{expect, expect_eq};
+use gm_game::game::Game;
 use gm_hare::hare::Hare;
 use gm_tactix::tactix::TacTix;
 use gm_tiers::order::TierOrder;
@@ -7,49 +9,78 @@ use gm_toys::chain::Chain;
 use gm_toys::countdown::Countdown;
 use gm_toys::stairs::Stairs;
 use gm_toys::wheel::Wheel;
+use std::alloc::Global;
 use std::test::Fail;
+
+// Whether a game's tiers come in this order.
+fn is_order<G: Game>(alloc: Global, tiers: &[u64]) -> Result<bool, TierError> {
+    let order = TierOrder::<G>::from_initial(alloc)?;
+    let same = order.tiers() == tiers;
+    drop(order);
+    Ok(same)
+}
+
+// Whether the tiers that one tier reaches come in this order.
+fn is_order_from<G: Game>(alloc: Global, first: u64, tiers: &[u64]) -> Result<bool, TierError> {
+    let order = TierOrder::<G>::from_tier(alloc, first)?;
+    let same = order.tiers() == tiers;
+    drop(order);
+    Ok(same)
+}
+
+// Whether these are the numbers from 0 on, and this many.
+fn count_up(tiers: &[u64], number: usize) -> bool {
+    for (index, tier) in tiers.iter().enumerate() {
+        if *tier != index as u64 {
+            return false;
+        }
+    }
+    tiers.len() == number
+}
+
+// Whether this many tiers, with the numbers from 0 on, are those that one tier reaches.
+fn are_counted_up<G: Game>(alloc: Global, first: u64, number: usize) -> Result<bool, TierError> {
+    let order = TierOrder::<G>::from_tier(alloc, first)?;
+    let counted = count_up(order.tiers(), number);
+    drop(order);
+    Ok(counted)
+}
 
 #[test]
 fn one_tier_is_its_own_order(rt: HostRuntime) -> Result<(), Fail> {
-    let countdown = TierOrder::<Countdown<10>>::from_initial(rt.alloc())?;
-    expect_eq(&rt, countdown.tiers(), [0].as_slice());
-    let chain = TierOrder::<Chain<4095>>::from_initial(rt.alloc())?;
-    expect_eq(&rt, chain.tiers(), [0].as_slice());
-    let wheel = TierOrder::<Wheel>::from_initial(rt.alloc())?;
-    expect_eq(&rt, wheel.tiers(), [0].as_slice());
+    expect(&rt, is_order::<Countdown<10>>(rt.alloc(), &[0])?);
+    expect(&rt, is_order::<Chain<4095>>(rt.alloc(), &[0])?);
+    expect(&rt, is_order::<Wheel>(rt.alloc(), &[0])?);
     Ok(())
 }
 
 #[test]
 fn stairs_come_from_below(rt: HostRuntime) -> Result<(), Fail> {
-    let few = TierOrder::<Stairs<3>>::from_initial(rt.alloc())?;
-    expect_eq(&rt, few.tiers(), [0, 1, 2, 3].as_slice());
+    expect(&rt, is_order::<Stairs<3>>(rt.alloc(), &[0, 1, 2, 3])?);
     let many = TierOrder::<Stairs<1023>>::from_initial(rt.alloc())?;
-    expect_eq(&rt, many.tiers().len(), 1024);
-    for (index, tier) in many.tiers().iter().enumerate() {
-        expect_eq(&rt, *tier, index as u64);
-    }
+    expect(&rt, count_up(many.tiers(), 1024));
     Ok(())
 }
 
 #[test]
 fn games_on_boards_come_from_their_ends(rt: HostRuntime) -> Result<(), Fail> {
-    let tactix = TierOrder::<TacTix<2, false>>::from_initial(rt.alloc())?;
-    expect_eq(&rt, tactix.tiers(), [0, 1, 2, 3, 4].as_slice());
-    let hare = TierOrder::<Hare>::from_initial(rt.alloc())?;
-    expect_eq(&rt, hare.tiers(), [10, 9, 8, 7, 6, 5, 4, 3, 2].as_slice());
+    let tactix = [0, 1, 2, 3, 4];
+    expect(&rt, is_order::<TacTix<2, false>>(rt.alloc(), &tactix)?);
+    let hare = [10, 9, 8, 7, 6, 5, 4, 3, 2];
+    expect(&rt, is_order::<Hare>(rt.alloc(), &hare)?);
     Ok(())
 }
 
 #[test]
 fn tiers_below_a_tier(rt: HostRuntime) -> Result<(), Fail> {
-    let tactix = TierOrder::<TacTix<2, false>>::from_tier(rt.alloc(), 2)?;
-    expect_eq(&rt, tactix.tiers(), [0, 1, 2].as_slice());
-    let hare = TierOrder::<Hare>::from_tier(rt.alloc(), 8)?;
-    expect_eq(&rt, hare.tiers(), [10, 9, 8].as_slice());
+    let tactix = [0, 1, 2];
+    expect(
+        &rt,
+        is_order_from::<TacTix<2, false>>(rt.alloc(), 2, &tactix)?,
+    );
+    expect(&rt, is_order_from::<Hare>(rt.alloc(), 8, &[10, 9, 8])?);
     // All but the first of a game with one tier too many.
-    let stairs = TierOrder::<Stairs<1024>>::from_tier(rt.alloc(), 1023)?;
-    expect_eq(&rt, stairs.tiers().len(), 1024);
+    expect(&rt, are_counted_up::<Stairs<1024>>(rt.alloc(), 1023, 1024)?);
     Ok(())
 }
 

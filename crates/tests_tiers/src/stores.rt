@@ -1,10 +1,15 @@
+//! Stores in memory, in a folder, and those that fail.
+ghost use Rattle.std.specs.Prelude.{◌≡◌};
+
 use crate::expect::{expect, expect_eq};
+use crate::folders::file_has;
 use gm_tierdb::flaky::Flaky;
 use gm_tierdb::folder_store::FolderStore;
 use gm_tierdb::mem_store::MemStore;
 use gm_tierdb::store::Store;
 use gm_tierdb::store_error::StoreError;
-use std::fs;
+use std::fs::{self, Files};
+use std::process::Abort;
 use std::test::Fail;
 
 // Whether a tier has this text.
@@ -28,10 +33,10 @@ fn a_memory_store_keeps_texts(rt: HostRuntime) -> Result<(), Fail> {
     store.write(&rt, 3, b"three")?;
     store.write(&rt, 5, b"five")?;
     store.write(&rt, 3, b"3")?;
-    for (tier, text) in [(3, b"3".as_slice()), (5, b"five".as_slice())] {
-        let found = store.read(&rt, rt.alloc(), tier)?;
-        expect(&rt, is_text(found, text));
-    }
+    let found = store.read(&rt, rt.alloc(), 3)?;
+    expect(&rt, is_text(found, b"3"));
+    let found = store.read(&rt, rt.alloc(), 5)?;
+    expect(&rt, is_text(found, b"five"));
     expect_eq(&rt, store.read(&rt, rt.alloc(), 4)?, None);
     expect_eq(&rt, store.failures(), 0);
     Ok(())
@@ -53,25 +58,38 @@ fn a_flaky_store_fails_from_its_first_to_its_last(rt: HostRuntime) -> Result<(),
     Ok(())
 }
 
+// What a new store does on the disk, where its folder is made after its first calls.
+fn check_on_disk<S: Store, R: Files + AllocGlobal + Abort>(
+    rt: &R,
+    store: &mut S,
+    folder: &str,
+) -> Result<(), Fail>
+    requires { S.failed store.old ≡ 0 }
+{
+    expect_eq(rt, store.read(rt, rt.alloc(), 7)?, None);
+    expect_eq(rt, store.write(rt, 7, b"seven"), Err(StoreError::Failed));
+    expect_eq(rt, store.failures(), 1);
+
+    fs::create_dir(rt, folder)?;
+    fs::write(rt, "folder_of_tiers/tier-8.tmp", b"half")?;
+    expect_eq(rt, store.read(rt, rt.alloc(), 8)?, None);
+    store.write(rt, 7, b"seven")?;
+    let found = store.read(rt, rt.alloc(), 7)?;
+    expect(rt, is_text(found, b"seven"));
+    expect(rt, file_has(rt, "folder_of_tiers/tier-7.gmt", b"seven")?);
+    expect(rt, !fs::exists(rt, "folder_of_tiers/tier-7.tmp")?);
+    expect_eq(rt, store.failures(), 1);
+    Ok(())
+}
+
 #[test]
 fn a_folder_has_a_file_for_each_tier(rt: HostRuntime) -> Result<(), Fail> {
     let folder = "folder_of_tiers";
     let mut store = FolderStore::new(rt.alloc(), String::from_str(rt.alloc(), folder)?);
     expect(&rt, !keeps(&store));
-    expect_eq(&rt, store.read(&rt, rt.alloc(), 7)?, None);
-    expect_eq(&rt, store.write(&rt, 7, b"seven"), Err(StoreError::Failed));
-    expect_eq(&rt, store.failures(), 1);
-
-    fs::create_dir(&rt, folder)?;
-    fs::write(&rt, "folder_of_tiers/tier-8.tmp", b"half")?;
-    expect_eq(&rt, store.read(&rt, rt.alloc(), 8)?, None);
-    store.write(&rt, 7, b"seven")?;
-    let found = store.read(&rt, rt.alloc(), 7)?;
-    expect(&rt, is_text(found, b"seven"));
-    let file = fs::read(&rt, "folder_of_tiers/tier-7.gmt")?;
-    expect_eq(&rt, file.as_slice(), b"seven".as_slice());
-    expect(&rt, !fs::exists(&rt, "folder_of_tiers/tier-7.tmp")?);
-    expect_eq(&rt, store.failures(), 1);
+    let checked = check_on_disk(&rt, &mut store, folder);
+    drop(store);
+    checked?;
     fs::remove_dir_all(&rt, folder)?;
     Ok(())
 }

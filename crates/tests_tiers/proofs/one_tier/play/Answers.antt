@@ -1,7 +1,7 @@
 use Rattle.std.proofs.Common.{◌≡◌, [], rules}
 use Rattle.gm_table.specs.Tables.{IsHeld}
-use Rattle.tests_play.proofs.OneTier.{all_held}
-use Rattle.tests_play.proofs.one_tier.play.Goals as goal
+use Rattle.tests_tiers.proofs.OneTier.{all_held}
+use Rattle.tests_tiers.proofs.one_tier.play.Goals as goal
 
 pub session-requires-clause-held : goal.session-requires-clause-held
 session-requires-clause-held g c =

@@ -1,4 +1,4 @@
-//! Readers and writers that fail.
+//! Readers and writers that fail, and readers that give many bytes.
 use std::io::{self, ErrorKind, Read, Write};
 
 /// A reader that gives a byte at a time, and fails at one of its calls.
@@ -40,6 +40,17 @@ impl Read for LongLine {
         self.left -= 1;
         buf[0] = b'a';
         Ok(1)
+    }
+}
+
+/// A reader that never ends.
+#[derive(Drop)]
+pub(crate) struct Endless;
+
+impl Read for Endless {
+    fn read(&mut self, buf: &mut [u8]) -> io::Result<usize> {
+        buf.fill(7);
+        Ok(buf.len())
     }
 }
 

@@ -1,7 +1,7 @@
 //! Sessions of Countdown from 4.
-use crate::expect::{expect, expect_eq};
+use crate::expect::{expect, expect_eq, expect_eq_at};
 use crate::one_tier::play;
-use crate::streams::{Fault, LongLine, SlowReader, SlowWriter};
+use crate::slow::{Fault, LongLine, SlowReader, SlowWriter};
 use gm_game::position::{Position, Solved, Value};
 use gm_play::session::SESSION_BYTES;
 use gm_play::session_error::SessionError;
@@ -10,6 +10,7 @@ use gm_table::checker::check;
 use gm_table::tables::Tables;
 use gm_toys::countdown::Countdown;
 use std::alloc::{AllocError, Global};
+use std::process::Abort;
 use std::test::Fail;
 
 type Game = Countdown<4>;
@@ -38,36 +39,40 @@ pub(crate) fn tables(alloc: Global) -> Result<Tables<Game>, Fail> {
     Ok(tables)
 }
 
+// A session that reads all of these lines, ends well, and writes this text.
+fn check_session(
+    rt: &impl Abort,
+    alloc: Global,
+    tables: &Tables<Game>,
+    first: Side,
+    lines: &[u8],
+    text: &[u8],
+) {
+    let mut input = lines;
+    let mut output = Vec::new(alloc);
+    let ended = play(tables, START, first, &mut input, &mut output);
+    expect_eq(rt, ended, Some(Ok(())));
+    expect_eq(rt, output.as_slice(), text);
+    expect(rt, input.is_empty());
+}
+
+const NOT_A_MOVE: &[u8] = b"4 win in 3\nyour move?\nnot a move\nyour move?\nbye\n";
+
+const ENDED: &[u8] = b"4 win in 3\nyour move?\ninput ended\n";
+
+const WON_BY_COMPUTER: &[u8] =
+    b"4 win in 3\ncomputer: 1\n3 lose in 2\nyour move?\n1 win in 1\ncomputer: 1\n0 lose in 0\nover: computer wins\n";
+
 #[test]
 fn sessions_of_countdown(rt: HostRuntime) -> Result<(), Fail> {
-    let tables = tables(rt.alloc())?;
-    for (first, lines, text) in [
-        (Side::You, b"1\n2\n".as_slice(), WON_BY_YOU),
-        (Side::You, b"1\r\n2\r\n".as_slice(), WON_BY_YOU),
-        (Side::You, b"1\n2".as_slice(), WON_BY_YOU),
-        (
-            Side::You,
-            b"3\nquit\n".as_slice(),
-            b"4 win in 3\nyour move?\nnot a move\nyour move?\nbye\n".as_slice(),
-        ),
-        (
-            Side::You,
-            b"".as_slice(),
-            b"4 win in 3\nyour move?\ninput ended\n".as_slice(),
-        ),
-        (
-            Side::Computer,
-            b"2\n".as_slice(),
-            b"4 win in 3\ncomputer: 1\n3 lose in 2\nyour move?\n1 win in 1\ncomputer: 1\n0 lose in 0\nover: computer wins\n".as_slice(),
-        ),
-    ] {
-        let mut input = lines;
-        let mut output = Vec::new(rt.alloc());
-        let ended = play(&tables, START, first, &mut input, &mut output);
-        expect_eq(&rt, ended, Some(Ok(())));
-        expect_eq(&rt, output.as_slice(), text);
-        expect(&rt, input.is_empty());
-    }
+    let alloc = rt.alloc();
+    let tables = tables(alloc)?;
+    check_session(&rt, alloc, &tables, Side::You, b"1\n2\n", WON_BY_YOU);
+    check_session(&rt, alloc, &tables, Side::You, b"1\r\n2\r\n", WON_BY_YOU);
+    check_session(&rt, alloc, &tables, Side::You, b"1\n2", WON_BY_YOU);
+    check_session(&rt, alloc, &tables, Side::You, b"3\nquit\n", NOT_A_MOVE);
+    check_session(&rt, alloc, &tables, Side::You, b"", ENDED);
+    check_session(&rt, alloc, &tables, Side::Computer, b"2\n", WON_BY_COMPUTER);
     Ok(())
 }
 
@@ -135,9 +140,14 @@ fn the_input_may_fail_at_each_call(rt: HostRuntime) -> Result<(), Fail> {
         if fails_at == 5 {
             expect_eq(&rt, ended, Some(Ok(())));
         } else {
-            assert_eq!(rt; ended, Some(Err(SessionError::ReadFailed)), "at {fails_at}");
+            expect_eq_at(&rt, ended, Some(Err(SessionError::ReadFailed)), fails_at);
         }
-        assert!(rt; WON_BY_YOU.starts_with(output.as_slice()), "at {fails_at}");
+        expect_eq_at(
+            &rt,
+            WON_BY_YOU.starts_with(output.as_slice()),
+            true,
+            fails_at,
+        );
     }
     Ok(())
 }
@@ -156,11 +166,7 @@ fn the_output_may_fail_at_each_call(rt: HostRuntime) -> Result<(), Fail> {
             };
             let ended = play(&tables, START, Side::You, &mut input, &mut output);
             if fault_at <= WON_BY_YOU.len() {
-                assert_eq!(rt;
-                    ended,
-                    Some(Err(SessionError::WriteFailed)),
-                    "at {fault_at}"
-                );
+                expect_eq_at(&rt, ended, Some(Err(SessionError::WriteFailed)), fault_at);
             } else {
                 expect_eq(&rt, ended, Some(Ok(())));
             }

@@ -1,0 +1,141 @@
+//! Answers, moves and lines of play of Countdown from 4.
+use crate::expect::{expect, expect_eq};
+use crate::sessions::tables;
+use gm_game::position::{Position, Solved, Value};
+use gm_play::answer::AnswerError;
+use gm_play::best_line::{LineEnd, best_line};
+use gm_play::move_values::{MoveValue, move_values};
+use gm_play::play_error::PlayError;
+use gm_play::texts::{answer_text, line_text, moves_text};
+use gm_table::tables::Tables;
+use gm_toys::countdown::Countdown;
+use std::alloc::Global;
+use std::process::Abort;
+use std::test::Fail;
+
+const START: Position = Position { tier: 0, index: 4 };
+
+// The two moves of the start, the better one first.
+fn check_moves(rt: &impl Abort, moves: &[MoveValue]) {
+    let won = Solved {
+        value: Value::Win,
+        remoteness: 3,
+    };
+    let lost = Solved {
+        value: Value::Lose,
+        remoteness: 2,
+    };
+    assert_eq!(rt; moves.len(), 2);
+    let (best, worst) = (moves[0], moves[1]);
+    expect(
+        rt,
+        best.number == 1 && best.position.index == 3 && best.result == lost,
+    );
+    expect(
+        rt,
+        best.worth == won && worst.number == 2 && worst.worth == lost,
+    );
+}
+
+#[test]
+fn moves_of_countdown(rt: HostRuntime) -> Result<(), Fail> {
+    let tables = tables(rt.alloc())?;
+    let moves = move_values(&tables, START);
+    let none = move_values(&tables, Position { tier: 0, index: 0 });
+    drop(tables);
+    check_moves(&rt, moves?.as_slice());
+    expect(&rt, none?.is_empty());
+    Ok(())
+}
+
+// The line of at most so many moves from the start.
+fn check_line(
+    rt: &impl Abort,
+    alloc: Global,
+    tables: &Tables<Countdown<4>>,
+    limit: usize,
+    moves: &[u32],
+    end: LineEnd,
+) -> Result<(), PlayError> {
+    let line = best_line(alloc, tables, START, limit)?;
+    expect(rt, line.moves.as_slice() == moves && line.end == end);
+    expect_eq(rt, line.positions.len(), moves.len().saturating_add(1));
+    drop(line);
+    Ok(())
+}
+
+#[test]
+fn lines_of_countdown(rt: HostRuntime) -> Result<(), Fail> {
+    let alloc = rt.alloc();
+    let tables = tables(alloc)?;
+    let whole = check_line(&rt, alloc, &tables, usize::MAX, &[1, 1, 2], LineEnd::Over);
+    let cut = check_line(&rt, alloc, &tables, 2, &[1, 1], LineEnd::Cut);
+    drop(tables);
+    whole?;
+    cut?;
+    Ok(())
+}
+
+// The texts of the start's moves, and of the line from it.
+fn check_texts(
+    rt: &impl Abort,
+    alloc: Global,
+    tables: &Tables<Countdown<4>>,
+) -> Result<(), PlayError> {
+    let moves = moves_text(alloc, tables, b"4", false)?;
+    expect(
+        rt,
+        moves.as_slice() == b"1\twin in 3\t3\n2\tlose in 2\t2\n".as_slice(),
+    );
+    drop(moves);
+    let line = line_text(alloc, tables, b"4", usize::MAX)?;
+    let lines = b"\t4\twin in 3\n1\t3\tlose in 2\n1\t2\twin in 1\n2\t0\tlose in 0\n";
+    expect(rt, line.as_slice() == lines.as_slice());
+    Ok(())
+}
+
+#[test]
+fn texts_of_countdown(rt: HostRuntime) -> Result<(), Fail> {
+    let tables = tables(rt.alloc())?;
+    let answer = answer_text(&tables, b"4");
+    let checked = check_texts(&rt, rt.alloc(), &tables);
+    drop(tables);
+    expect(&rt, answer?.as_slice() == b"win in 3".as_slice());
+    checked?;
+    Ok(())
+}
+
+// A text that no position has.
+fn check_illegal(rt: &impl Abort, alloc: Global, tables: &Tables<Countdown<4>>, text: &[u8]) {
+    let answer = answer_text(tables, text).err();
+    expect_eq(rt, answer, Some(AnswerError::Illegal));
+    let moves = moves_text(alloc, tables, text, true).err();
+    expect_eq(rt, moves, Some(PlayError::Illegal));
+    let line = line_text(alloc, tables, text, 1).err();
+    expect_eq(rt, line, Some(PlayError::Illegal));
+}
+
+// Questions about the start where its table is missing.
+fn check_not_held(rt: &impl Abort, alloc: Global, tables: &Tables<Countdown<4>>) {
+    let answer = answer_text(tables, b"4").err();
+    expect_eq(rt, answer, Some(AnswerError::NotHeld));
+    let moves = moves_text(alloc, tables, b"4", true).err();
+    expect_eq(rt, moves, Some(PlayError::NotHeld));
+    let line = line_text(alloc, tables, b"4", 1).err();
+    expect_eq(rt, line, Some(PlayError::NotHeld));
+}
+
+#[test]
+fn questions_that_are_refused(rt: HostRuntime) -> Result<(), Fail> {
+    let alloc = rt.alloc();
+    let held = tables(alloc)?;
+    check_illegal(&rt, alloc, &held, b"5");
+    check_illegal(&rt, alloc, &held, b"");
+    check_illegal(&rt, alloc, &held, b"04");
+    check_illegal(&rt, alloc, &held, b"x");
+    check_not_held(&rt, alloc, &Tables::new(alloc));
+    expect_eq(&rt, PlayError::OutOfMemory.number(), 1);
+    expect_eq(&rt, PlayError::Illegal.number(), 2);
+    expect_eq(&rt, PlayError::NotHeld.number(), 3);
+    Ok(())
+}
