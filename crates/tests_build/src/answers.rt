@@ -2,7 +2,6 @@
 use crate::expect::expect_eq;
 use crate::work::built;
 use gm_build::build::Built;
-use gm_game::game::Game;
 use gm_game::position::{Position, Solved, Value};
 use gm_play::answer::{AnswerError, answer};
 use gm_play::best_move::best_move;
@@ -10,37 +9,26 @@ use gm_table::tables::Tables;
 use gm_tierdb::mem_store::MemStore;
 use gm_toys::countdown::Countdown;
 use gm_toys::wheel::Wheel;
-use std::process::Abort;
 use std::test::Fail;
 
 fn at(index: u64) -> Position {
     Position { tier: 0, index }
 }
 
-// The value and the best move of a position of tier 0.
-fn check_answer<G: Game>(
-    rt: &impl Abort,
-    tables: &Tables<G>,
-    index: u64,
-    known: Solved,
-    best: Option<u32>,
-) {
-    expect_eq(rt, answer(tables, at(index)), Ok(known));
-    expect_eq(rt, best_move(tables, at(index)), Ok(best));
-}
-
-fn solved(value: Value, remoteness: u32) -> Solved {
-    Solved { value, remoteness }
-}
-
 #[test]
 fn answers_on_countdown(rt: HostRuntime) -> Result<(), Fail> {
     let mut store = MemStore::new(rt.alloc());
     let game: Built<Countdown<10>> = built(&rt, rt.alloc(), &mut store)?;
-    check_answer(&rt, &game.tables, 10, solved(Value::Win, 7), Some(1));
-    check_answer(&rt, &game.tables, 8, solved(Value::Win, 5), Some(2));
-    check_answer(&rt, &game.tables, 3, solved(Value::Lose, 2), Some(1));
-    check_answer(&rt, &game.tables, 0, solved(Value::Lose, 0), None);
+    for (index, value, remoteness, best) in [
+        (10, Value::Win, 7, Some(1)),
+        (8, Value::Win, 5, Some(2)),
+        (3, Value::Lose, 2, Some(1)),
+        (0, Value::Lose, 0, None),
+    ] {
+        let known = Solved { value, remoteness };
+        expect_eq(&rt, answer(&game.tables, at(index)), Ok(known));
+        expect_eq(&rt, best_move(&game.tables, at(index)), Ok(best));
+    }
     Ok(())
 }
 
@@ -48,8 +36,11 @@ fn answers_on_countdown(rt: HostRuntime) -> Result<(), Fail> {
 fn answers_on_wheel(rt: HostRuntime) -> Result<(), Fail> {
     let mut store = MemStore::new(rt.alloc());
     let game: Built<Wheel> = built(&rt, rt.alloc(), &mut store)?;
-    check_answer(&rt, &game.tables, 8, solved(Value::Draw, 0), Some(3));
-    check_answer(&rt, &game.tables, 2, solved(Value::Tie, 2), Some(1));
+    for (index, value, remoteness, best) in [(8, Value::Draw, 0, 3), (2, Value::Tie, 2, 1)] {
+        let known = Solved { value, remoteness };
+        expect_eq(&rt, answer(&game.tables, at(index)), Ok(known));
+        expect_eq(&rt, best_move(&game.tables, at(index)), Ok(Some(best)));
+    }
     Ok(())
 }
 

@@ -7,16 +7,6 @@ pub(crate) fn expect_eq<T: Debug + PartialEq + Drop>(rt: &impl Abort, found: T, 
     assert_eq!(rt; found, wanted);
 }
 
-/// The same, of many values: also says which one it is.
-pub(crate) fn expect_eq_at<T: Debug + PartialEq + Drop>(
-    rt: &impl Abort,
-    found: T,
-    wanted: T,
-    at: usize,
-) {
-    assert_eq!(rt; found, wanted, "at {at}");
-}
-
 /// Fails where what a test says is not so.
 pub(crate) fn expect(rt: &impl Abort, is_so: bool) {
     assert!(rt; is_so);

@@ -1,6 +1,6 @@
 use crate::expect::expect_eq;
 use crate::files::file_of_countdown;
-use crate::work::{built, built_from, spent, work};
+use crate::work::{Took, built, built_from, work};
 use gm_build::build::Built;
 use gm_build::build_error::BuildError;
 use gm_game::game::Game;
@@ -16,10 +16,22 @@ use std::test::Fail;
 fn countdown_is_built_and_reused(rt: HostRuntime) -> Result<(), Fail> {
     let mut store = MemStore::new(rt.alloc());
     let first = work::<Countdown<10>, _, _>(&rt, rt.alloc(), &mut store)?;
-    let solved = spent(1, 0, 19);
+    let solved = Took {
+        solved: 1,
+        reused: 0,
+        migrated: 0,
+        deliveries: 19,
+        by_hand: 0,
+    };
     expect_eq(&rt, first, solved);
     let again = work::<Countdown<10>, _, _>(&rt, rt.alloc(), &mut store)?;
-    let reused = spent(0, 1, 0);
+    let reused = Took {
+        solved: 0,
+        reused: 1,
+        migrated: 0,
+        deliveries: 0,
+        by_hand: 0,
+    };
     expect_eq(&rt, again, reused);
     let file = store.read(&rt, rt.alloc(), 0)?;
     expect_eq(&rt, file, Some(file_of_countdown(rt.alloc())?));
@@ -74,9 +86,13 @@ fn games_without_an_order_are_not_built(rt: HostRuntime) {
 
 #[test]
 fn build_errors_have_numbers(rt: HostRuntime) {
-    expect_eq(&rt, BuildError::OutOfMemory.number(), 1);
-    expect_eq(&rt, BuildError::TooFar { tier: 5 }.number(), 2);
-    expect_eq(&rt, BuildError::StoreFailed { tier: 5 }.number(), 3);
-    expect_eq(&rt, BuildError::TooManyTiers.number(), 4);
-    expect_eq(&rt, BuildError::TierTooLarge { tier: 5 }.number(), 5);
+    for (error, number) in [
+        (BuildError::OutOfMemory, 1),
+        (BuildError::TooFar { tier: 5 }, 2),
+        (BuildError::StoreFailed { tier: 5 }, 3),
+        (BuildError::TooManyTiers, 4),
+        (BuildError::TierTooLarge { tier: 5 }, 5),
+    ] {
+        expect_eq(&rt, error.number(), number);
+    }
 }

@@ -26,17 +26,6 @@ pub(crate) struct Took {
     pub(crate) by_hand: u64,
 }
 
-/// That so many tiers were solved and so many reused, with this number of deliveries, none of which was by hand.
-pub(crate) fn spent(solved: usize, reused: usize, deliveries: u64) -> Took {
-    Took {
-        solved,
-        reused,
-        migrated: 0,
-        deliveries,
-        by_hand: 0,
-    }
-}
-
 /// Builds a game over a store.
 pub(crate) fn built<G: Game + Send + Sync, R: Threads + Wait + Files + Sync, S: Store>(
     rt: &R,
