@@ -1,22 +1,42 @@
 //! Boards by hand, and from two threads.
+ghost use Rattle.std.specs.Prelude.{IfOk};
+ghost use Rattle.gm_solver.specs.Spots.{spot_of, AreFourTiles};
+
 use crate::expect::expect_eq;
+use gm_frontier::note::Note;
 use gm_game::game::Game;
 use gm_game::limits::TIER_SIZE;
+use gm_shard::shard::Shard;
 use gm_shard::status::{Delivery, Refused};
+use gm_solver::board::Four;
 use gm_testing::desks::{Answers, Seen, cut_at, deliver_by_hand, deliver_twice_by_hand, watch};
 use gm_toys::countdown::Countdown;
+use std::alloc::{AllocError, Global};
+use std::process::Abort;
 use std::test::Fail;
 
 type Ten = Countdown<10>;
 
-#[test]
-fn board_by_hand(rt: HostRuntime) -> Result<(), Fail> {
-    let size = Ten::tier_size(0);
-    assert!(rt; 6 <= size && size <= TIER_SIZE);
-    let shards = cut_at::<Ten>(rt.alloc(), 0, 6)?;
+// The shards of tier 0 that is cut at this index.
+fn cut<G: Game>(rt: &impl Abort, alloc: Global, at: u64) -> Result<Four<Shard<G>>, AllocError>
+    ensures { IfOk result (λ shards. AreFourTiles G.rules (spot_of shards.a) (spot_of shards.b) (spot_of shards.c) (spot_of shards.d)) }
+{
+    let size = G::tier_size(0);
+    assert!(rt; at <= size && size <= TIER_SIZE);
+    cut_at(alloc, 0, at)
+}
+
+// The note of index 0, which is lost.
+fn first_note<G: Game>(rt: &impl Abort, shards: &Four<Shard<G>>) -> Note<G> {
     let (lo, hi) = shards.a.range();
     assert!(rt; lo == 0 && 0 < hi);
-    let note = shards.a.note(0).expect(&rt, "0 is lost");
+    shards.a.note(0).expect(rt, "0 is lost")
+}
+
+#[test]
+fn board_by_hand(rt: HostRuntime) -> Result<(), Fail> {
+    let shards = cut::<Ten>(&rt, rt.alloc(), 6)?;
+    let note = first_note(&rt, &shards);
     let told = Answers {
         each: [
             (Ok(Delivery::FreshSettled), 1, 0),
@@ -31,12 +51,8 @@ fn board_by_hand(rt: HostRuntime) -> Result<(), Fail> {
 
 #[test]
 fn board_by_hand_many_at_once(rt: HostRuntime) -> Result<(), Fail> {
-    let size = Ten::tier_size(0);
-    assert!(rt; 6 <= size && size <= TIER_SIZE);
-    let shards = cut_at::<Ten>(rt.alloc(), 0, 6)?;
-    let (lo, hi) = shards.a.range();
-    assert!(rt; lo == 0 && 0 < hi);
-    let note = shards.a.note(0).expect(&rt, "0 is lost");
+    let shards = cut::<Ten>(&rt, rt.alloc(), 6)?;
+    let note = first_note(&rt, &shards);
     expect_eq(
         &rt,
         deliver_twice_by_hand(&rt, shards, &note, 1),
@@ -47,12 +63,8 @@ fn board_by_hand_many_at_once(rt: HostRuntime) -> Result<(), Fail> {
 
 #[test]
 fn locks_are_separate(rt: HostRuntime) -> Result<(), Fail> {
-    let size = Ten::tier_size(0);
-    assert!(rt; 2 <= size && size <= TIER_SIZE);
-    let shards = cut_at::<Ten>(rt.alloc(), 0, 2)?;
-    let (lo, hi) = shards.a.range();
-    assert!(rt; lo == 0 && 0 < hi);
-    let note = shards.a.note(0).expect(&rt, "0 is lost");
+    let shards = cut::<Ten>(&rt, rt.alloc(), 2)?;
+    let note = first_note(&rt, &shards);
     let seen = Seen {
         counter: Some(1),
         answer: Some(Ok(Delivery::FreshSettled)),

@@ -1,6 +1,7 @@
 //! Plans, sources, errors, and the tier solved by the call with workers.
-use crate::expect::expect_eq;
-use gm_game::position::{Phase, Place, Solved, Value};
+use crate::expect::{expect, expect_eq};
+use crate::records::win;
+use gm_game::position::{Phase, Place};
 use gm_solver::error::SolveError;
 use gm_solver::gate::{Gate, NoGate};
 use gm_solver::plan::Plan;
@@ -10,27 +11,27 @@ use gm_table::tables::Tables;
 use gm_toys::countdown::Countdown;
 use std::test::Fail;
 
+// Whether there is a plan of these numbers, and it has them.
+fn has_plan(workers: usize, shards: usize, piece: usize) -> bool {
+    match Plan::new(workers, shards, piece) {
+        Some(plan) => {
+            plan.workers() == workers && plan.shards() == shards && plan.piece() == piece
+        }
+        None => false,
+    }
+}
+
 #[test]
 fn plans_outside_the_limits(rt: HostRuntime) {
-    for (workers, shards, piece) in [
-        (0, 1, 1),
-        (17, 1, 1),
-        (1, 0, 1),
-        (1, 5, 1),
-        (1, 1, 0),
-        (1, 1, 4097),
-    ] {
-        expect_eq(&rt, Plan::new(workers, shards, piece), None);
-    }
-    for (workers, shards, piece) in [(1, 1, 1), (16, 4, 4096), (4, 2, 64)] {
-        let found = match Plan::new(workers, shards, piece) {
-            Some(plan) => {
-                plan.workers() == workers && plan.shards() == shards && plan.piece() == piece
-            }
-            None => false,
-        };
-        assert!(rt; found);
-    }
+    expect_eq(&rt, Plan::new(0, 1, 1), None);
+    expect_eq(&rt, Plan::new(17, 1, 1), None);
+    expect_eq(&rt, Plan::new(1, 0, 1), None);
+    expect_eq(&rt, Plan::new(1, 5, 1), None);
+    expect_eq(&rt, Plan::new(1, 1, 0), None);
+    expect_eq(&rt, Plan::new(1, 1, 4097), None);
+    expect(&rt, has_plan(1, 1, 1));
+    expect(&rt, has_plan(16, 4, 4096));
+    expect(&rt, has_plan(4, 2, 64));
 }
 
 #[test]
@@ -76,11 +77,7 @@ fn deliveries_of_countdown(rt: HostRuntime) -> Result<(), Fail> {
             &NoGate,
             &Counter::new(),
         )?;
-        let top = Some(Solved {
-            value: Value::Win,
-            remoteness: 7,
-        });
-        expect_eq(&rt, table.at(10), top);
+        expect_eq(&rt, table.at(10), win(7));
         expect_eq(&rt, report.deliveries, 19);
         expect_eq(&rt, report.by_hand, 0);
     }

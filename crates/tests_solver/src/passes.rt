@@ -1,13 +1,13 @@
 //! Tiers solved with one pass a shard, whatever their source and gate do.
 use crate::expect::{expect, expect_eq};
-use crate::ways::{asked_on_stairs, counted, habits, long_chain, slow, ten, two_meet, wheel};
+use crate::ways::{
+    asked_on_stairs, counted, habits, long_chain, slow, ten, ten_with, two_meet, wheel,
+};
 use gm_game::game::Game;
 use gm_game::limits::TIER_SIZE;
 use gm_shard::status::Delivery;
-use gm_solver::gate::NoGate;
-use gm_solver::source::Counter;
 use gm_table::tables::Tables;
-use gm_testing::crews::{Way, show_first};
+use gm_testing::crews::Way;
 use gm_testing::pass_desks::{Told, pass_by_hand};
 use gm_testing::sources::Habit;
 use gm_toys::countdown::Countdown;
@@ -17,17 +17,9 @@ type Ten = Countdown<10>;
 
 #[test]
 fn every_pass_is_taken(rt: HostRuntime) -> Result<(), Fail> {
-    for (workers, shards) in [(1, 1), (2, 2), (16, 4)] {
-        let found = show_first::<Ten, HostRuntime, NoGate, Counter>(
-            &rt,
-            rt.alloc(),
-            Way::Passes,
-            (workers, shards, 1),
-            &NoGate,
-            &Counter::new(),
-        )?;
-        expect_eq(&rt, found, ten(0));
-    }
+    expect_eq(&rt, ten_with(&rt, Way::Passes, 1, 1)?, ten(0));
+    expect_eq(&rt, ten_with(&rt, Way::Passes, 2, 2)?, ten(0));
+    expect_eq(&rt, ten_with(&rt, Way::Passes, 16, 4)?, ten(0));
     Ok(())
 }
 

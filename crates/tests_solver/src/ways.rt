@@ -27,6 +27,23 @@ pub fn ten(by_hand: u64) -> Option<Shown> {
     as_alone(top, 19, by_hand)
 }
 
+/// Countdown from 10 by this many workers and shards, with one note in a piece.
+pub fn ten_with<R: Threads + Wait + Sync + AllocGlobal>(
+    rt: &R,
+    way: Way,
+    workers: usize,
+    shards: usize,
+) -> Result<Option<Shown>, SolveError> {
+    show_first::<Countdown<10>, R, NoGate, Counter>(
+        rt,
+        rt.alloc(),
+        way,
+        (workers, shards, 1),
+        &NoGate,
+        &Counter::new(),
+    )
+}
+
 // Countdown from 10 by two workers and two shards, with this many notes in a piece.
 fn ten_by<R: Threads + Wait + Sync + AllocGlobal, T: Gate, S: Source>(
     rt: &R,

@@ -1,3 +1,4 @@
+//! Records that are checked, and the tables that are made of them.
 use crate::expect::{expect, expect_eq};
 use crate::records::{lose, of_countdown, of_wheel, win};
 use gm_game::position::{Phase, Position};
@@ -64,13 +65,9 @@ fn runs_of_tables(rt: HostRuntime) -> Result<(), Fail> {
         expect(&rt, tables.run(0, Phase::Ties, 0).is_empty());
         expect(&rt, tables.run(1, Phase::WinLose, 3).is_empty());
     }
-    for (tier, index, value) in [(0, 6, lose(4)), (0, 11, None), (1, 0, None)] {
-        assert_eq!(rt;
-            tables.get(Position { tier, index }),
-            value,
-            "at {tier}, {index}"
-        );
-    }
+    expect_eq(&rt, tables.get(Position { tier: 0, index: 6 }), lose(4));
+    expect_eq(&rt, tables.get(Position { tier: 0, index: 11 }), None);
+    expect_eq(&rt, tables.get(Position { tier: 1, index: 0 }), None);
     Ok(())
 }
 
