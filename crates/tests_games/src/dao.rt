@@ -1,5 +1,5 @@
 //! Dao: solved by one thread, compared with looking ahead, and written as a file.
-use crate::expect::expect;
+use crate::expect::{expect, expect_eq};
 use crate::solving::{agrees_at_some, solve_tiers};
 use gm_dao::dao::Dao;
 use gm_game::game::Game;
@@ -12,6 +12,7 @@ use gm_solver::tier::solve_passes;
 use gm_table::table::Table;
 use gm_table::tables::Tables;
 use gm_tierdb::encode::encode;
+use std::alloc::Global;
 use std::test::Fail;
 
 /// How many moves are looked ahead: a position has up to some twenty moves.
@@ -42,18 +43,25 @@ fn mixed<G: Game>(table: &Table<G>) -> u64 {
     mix
 }
 
+// How many bytes the file of tier 0 has.
+fn length_of_file<G: Game>(alloc: Global, tables: &Tables<G>) -> Result<usize, Fail> {
+    let table = tables.table(0).ok_or("the tier is missing")?;
+    Ok(encode(alloc, table)?.len())
+}
+
 #[test]
 fn dao_agrees_with_looking_ahead(rt: HostRuntime) -> Result<(), Fail> {
-    let tables = solve_tiers::<Dao>(rt.alloc(), &[0])?.ok_or("a child tier is missing")?;
+    let tables = solve_tiers::<Dao>(rt.alloc(), &[0])?;
     expect(&rt, agrees_at_some(&tables, 0, AHEAD));
     Ok(())
 }
 
 #[test]
 fn file_of_dao(rt: HostRuntime) -> Result<(), Fail> {
-    let tables = solve_tiers::<Dao>(rt.alloc(), &[0])?.ok_or("a child tier is missing")?;
-    let table = tables.table(0).ok_or("the tier is missing")?;
-    assert_eq!(rt; encode(rt.alloc(), table)?.len(), 3_603_672);
+    let tables = solve_tiers::<Dao>(rt.alloc(), &[0])?;
+    let length = length_of_file(rt.alloc(), &tables);
+    drop(tables);
+    expect_eq(&rt, length?, 3_603_672);
     Ok(())
 }
 
@@ -64,8 +72,8 @@ fn records_of_dao_by_passes(rt: HostRuntime) -> Result<(), Fail> {
     let plan = Plan::new(4, 4, 64).ok_or("no plan")?;
     let counter = Counter::new();
     let (table, report) = solve_passes(&rt, rt.alloc(), 0, &tables, plan, &NoGate, &counter)?;
-    assert_eq!(rt; report.deliveries, 256_358);
-    assert_eq!(rt; report.by_hand, 0);
-    assert_eq!(rt; mixed(&table), 0xe0b5_6edc_bb0e_3a0c);
+    expect_eq(&rt, report.deliveries, 256_358);
+    expect_eq(&rt, report.by_hand, 0);
+    expect_eq(&rt, mixed(&table), 0xe0b5_6edc_bb0e_3a0c);
     Ok(())
 }

@@ -1,5 +1,11 @@
-//! What tests expect. A call is far cheaper to prove than `assert!` written out.
+//! What tests expect. A call is far cheaper to prove than `assert!` or `assert_eq!` written out.
+use std::fmt::Debug;
 use std::process::Abort;
+
+/// Fails where a value is not the wanted one.
+pub(crate) fn expect_eq<T: Debug + PartialEq + Drop>(rt: &impl Abort, found: T, wanted: T) {
+    assert_eq!(rt; found, wanted);
+}
 
 /// Fails where what a test says is not so.
 pub(crate) fn expect(rt: &impl Abort, is_so: bool) {

@@ -1,6 +1,6 @@
 //! Games of nine points, solved from their last tier to their first.
-use crate::expect::expect;
-use crate::solving::{agrees, solve_tiers};
+use crate::expect::{expect, expect_eq};
+use crate::solving::{solve_tiers, solved_agree};
 use gm_game::game::Game;
 use gm_game::position::{Position, Solved, Value};
 use gm_morris::games::{Achi, ThreeMens, TicTacToe};
@@ -60,45 +60,44 @@ fn is_recorded<G: Game>(tables: &Tables<G>, p: Position) -> bool {
     }
 }
 
+// What these tiers have together.
+fn of_tiers<G: Game>(tables: &Tables<G>, tiers: &[u64]) -> Counts {
+    let mut counts = Counts::NONE;
+    for tier in tiers {
+        counts = with_tier(tables, *tier, counts);
+    }
+    counts
+}
+
 #[test]
 fn tictactoe_table(rt: HostRuntime) -> Result<(), Fail> {
     let tiers = [9, 8, 7, 6, 5, 4, 3, 2, 1, 0];
-    let tables = solve_tiers::<TicTacToe>(rt.alloc(), &tiers)?.ok_or("a child tier is missing")?;
+    let tables = solve_tiers::<TicTacToe>(rt.alloc(), &tiers)?;
     let start = Some(Solved {
         value: Value::Tie,
         remoteness: 9,
     });
-    assert_eq!(rt; tables.get(TicTacToe::initial()), start);
-    let mut counts = Counts::NONE;
-    for tier in tiers {
-        counts = with_tier(&tables, tier, counts);
-    }
+    expect_eq(&rt, tables.get(TicTacToe::initial()), start);
     let expected = Counts {
         legal: 5478,
         canonical: 765,
         lost: 135,
         tied: 3,
     };
-    assert_eq!(rt; counts, expected);
+    expect_eq(&rt, of_tiers(&tables, &tiers), expected);
     Ok(())
 }
 
 #[test]
 fn threemens_agrees_with_looking_ahead(rt: HostRuntime) -> Result<(), Fail> {
     let tiers = [6, 5, 4, 3, 2, 1, 0];
-    let tables = solve_tiers::<ThreeMens>(rt.alloc(), &tiers)?.ok_or("a child tier is missing")?;
-    for tier in tiers {
-        expect(&rt, agrees(&tables, tier));
-    }
+    expect(&rt, solved_agree::<ThreeMens>(rt.alloc(), &tiers, &tiers)?);
     Ok(())
 }
 
 #[test]
 fn achi_agrees_with_looking_ahead(rt: HostRuntime) -> Result<(), Fail> {
     let tiers = [8, 7, 6, 5, 4, 3, 2, 1, 0];
-    let tables = solve_tiers::<Achi>(rt.alloc(), &tiers)?.ok_or("a child tier is missing")?;
-    for tier in tiers {
-        expect(&rt, agrees(&tables, tier));
-    }
+    expect(&rt, solved_agree::<Achi>(rt.alloc(), &tiers, &tiers)?);
     Ok(())
 }

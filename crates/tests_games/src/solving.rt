@@ -3,27 +3,44 @@ use gm_game::evaluate::within;
 use gm_game::game::Game;
 use gm_game::limits::TIER_SIZE;
 use gm_game::position::{Position, Solved, Value};
-use gm_solver::alone::solve_alone;
 use gm_solver::error::SolveError;
 use gm_table::tables::Tables;
+use gm_testing::holding::hold_solved;
 use std::alloc::Global;
+use std::test::Fail;
 
 /// How many moves are looked ahead.
 const AHEAD: u32 = 4;
 
-/// The tables of these tiers, solved in this order, or `None` where the child tiers of one are not held by then.
-pub fn solve_tiers<G: Game>(alloc: Global, tiers: &[u64]) -> Result<Option<Tables<G>>, SolveError> {
-    let mut tables: Tables<G> = Tables::new(alloc);
+// Solves these tiers in this order into the tables: whether the child tiers of each were held by then.
+fn solve_into<G: Game>(
+    alloc: Global,
+    tiers: &[u64],
+    tables: &mut Tables<G>,
+) -> Result<bool, SolveError> {
     for tier in tiers {
         if !tables.has_children(*tier) || G::tier_size(*tier) > TIER_SIZE {
-            return Ok(None);
+            return Ok(false);
         }
-        let (table, _deliveries) = solve_alone(alloc, *tier, &tables)?;
-        if tables.insert(table).is_err() {
-            return Err(SolveError::OutOfMemory);
+        let _deliveries = hold_solved(alloc, tables, *tier)?;
+    }
+    Ok(true)
+}
+
+/// The tables of these tiers, solved in this order; a refusal where the child tiers of one are not held by then.
+pub fn solve_tiers<G: Game>(alloc: Global, tiers: &[u64]) -> Result<Tables<G>, Fail> {
+    let mut tables: Tables<G> = Tables::new(alloc);
+    match solve_into(alloc, tiers, &mut tables) {
+        Ok(true) => Ok(tables),
+        Ok(false) => {
+            drop(tables);
+            Err("a child tier is missing".into())
+        }
+        Err(error) => {
+            drop(tables);
+            Err(error.into())
         }
     }
-    Ok(Some(tables))
 }
 
 // Whether a solved value is what looking this many moves ahead finds; where that finds nothing, the position must be no win or loss within this many moves.
@@ -53,8 +70,8 @@ fn is_held_right<G: Game>(tables: &Tables<G>, p: Position, moves: u32) -> bool {
     }
 }
 
-/// Whether each canonical legal position of a tier is held with a value that agrees with looking ahead.
-pub fn agrees<G: Game>(tables: &Tables<G>, tier: u64) -> bool {
+// Whether each canonical legal position of a tier is held with a value that agrees with looking ahead.
+fn agrees<G: Game>(tables: &Tables<G>, tier: u64) -> bool {
     for index in 0..G::tier_size(tier) {
         let p = Position { tier, index };
         if is_canonical::<G>(p) && !is_held_right(tables, p, AHEAD) {
@@ -62,6 +79,24 @@ pub fn agrees<G: Game>(tables: &Tables<G>, tier: u64) -> bool {
         }
     }
     true
+}
+
+// The same of these tiers.
+fn all_agree<G: Game>(tables: &Tables<G>, tiers: &[u64]) -> bool {
+    for tier in tiers {
+        if !agrees(tables, *tier) {
+            return false;
+        }
+    }
+    true
+}
+
+/// Whether the first tiers, solved in this order, let those that are asked about agree with looking ahead.
+pub fn solved_agree<G: Game>(alloc: Global, first: &[u64], asked: &[u64]) -> Result<bool, Fail> {
+    let tables = solve_tiers::<G>(alloc, first)?;
+    let agree = all_agree(&tables, asked);
+    drop(tables);
+    Ok(agree)
 }
 
 /// The distance between the indexes at which a large tier is sampled.

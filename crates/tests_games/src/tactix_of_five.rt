@@ -1,5 +1,5 @@
 //! The lower tiers of Tac Tix on 5 by 5, by two workers.
-use crate::expect::expect;
+use crate::expect::{expect, expect_eq};
 use gm_game::evaluate::within;
 use gm_game::game::Game;
 use gm_game::limits::TIER_SIZE;
@@ -9,6 +9,7 @@ use gm_solver::plan::Plan;
 use gm_table::tables::Tables;
 use gm_tactix::tactix::TacTix;
 use gm_testing::crews::hold_same;
+use std::alloc::Global;
 use std::sync::Wait;
 use std::test::Fail;
 use std::thread::Threads;
@@ -19,22 +20,35 @@ const LAST: u64 = 5;
 /// Five counters in a row.
 const ROW: &[u8] = b"xxxxx....................";
 
-// The tables of the tiers up to the last, which are the same by one shard.
-fn lower_tiers<G: Game + Send + Sync, R: Threads + Wait + Sync + AllocGlobal>(
+// Solves the tiers up to the last into the tables, which are the same by one shard.
+fn solve_lower<G: Game + Send + Sync, R: Threads + Wait + Sync>(
     rt: &R,
-) -> Result<Tables<G>, Fail> {
-    let alloc = rt.alloc();
+    alloc: Global,
+    tables: &mut Tables<G>,
+) -> Result<(), Fail> {
     let plan = Plan::new(2, 2, 64).ok_or("no plan")?;
-    let mut tables: Tables<G> = Tables::new(alloc);
     for tier in 0..=LAST {
         if !tables.has_children(tier) || G::tier_size(tier) > TIER_SIZE {
             return Err("a child tier is missing".into());
         }
-        if !hold_same(rt, alloc, &mut tables, tier, plan)? {
+        if !hold_same(rt, alloc, tables, tier, plan)? {
             return Err("one shard finds another table".into());
         }
     }
-    Ok(tables)
+    Ok(())
+}
+
+// What the lower tiers say: the value of the row, and whether all positions up to tier 4 have the values that looking ahead finds.
+fn lower_tiers<G: Shown + Send + Sync, R: Threads + Wait + Sync + AllocGlobal>(
+    rt: &R,
+) -> Result<(Option<Solved>, bool), Fail> {
+    let row = G::read(ROW).ok_or("a position")?;
+    let mut tables: Tables<G> = Tables::new(rt.alloc());
+    let done = solve_lower(rt, rt.alloc(), &mut tables);
+    let told = (tables.get(row), are_known(&tables, 4));
+    drop(tables);
+    done?;
+    Ok(told)
 }
 
 // Whether each canonical position of these low tiers has the value that looking that many moves ahead finds.
@@ -55,27 +69,25 @@ fn are_known<G: Game>(tables: &Tables<G>, counters: u32) -> bool {
 
 #[test]
 fn tactix_of_five(rt: HostRuntime) -> Result<(), Fail> {
-    let tables = lower_tiers::<TacTix<5, false>, _>(&rt)?;
-    let row = <TacTix<5, false> as Shown>::read(ROW).ok_or("a position")?;
+    let (row, known) = lower_tiers::<TacTix<5, false>, _>(&rt)?;
     let win_in_1 = Solved {
         value: Value::Win,
         remoteness: 1,
     };
-    assert_eq!(rt; tables.get(row), Some(win_in_1));
-    expect(&rt, are_known(&tables, 4));
+    expect_eq(&rt, row, Some(win_in_1));
+    expect(&rt, known);
     Ok(())
 }
 
 #[test]
 fn misere_tactix_of_five(rt: HostRuntime) -> Result<(), Fail> {
-    let tables = lower_tiers::<TacTix<5, true>, _>(&rt)?;
     // Four are taken, and the other side has to take the last.
-    let row = <TacTix<5, true> as Shown>::read(ROW).ok_or("a position")?;
+    let (row, known) = lower_tiers::<TacTix<5, true>, _>(&rt)?;
     let win_in_2 = Solved {
         value: Value::Win,
         remoteness: 2,
     };
-    assert_eq!(rt; tables.get(row), Some(win_in_2));
-    expect(&rt, are_known(&tables, 4));
+    expect_eq(&rt, row, Some(win_in_2));
+    expect(&rt, known);
     Ok(())
 }
