@@ -1,14 +1,10 @@
-pub mod Places
 pub mod Far
 pub mod Whole
 pub mod Final
-pub mod Gains
 pub mod Scans
 pub mod FoundLemmas
 pub mod TilingLemmas
 pub mod RoundLemmas
 pub mod OneTally
-pub mod FullLemmas
 pub mod SmallTiers
 pub mod BlockLemmas
-pub mod AnswerLemmas

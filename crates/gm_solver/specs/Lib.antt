@@ -1,12 +1,7 @@
 pub mod Solving
 pub mod Over
 pub mod Plans
-pub mod Spots
-pub mod Amounts
 pub mod Tiling
 pub mod Found
 pub mod Covered
-pub mod Rounds
-pub mod Begun
 pub mod Blocks
-pub mod Batches

@@ -1,9 +1,9 @@
 //! Pairs that wait for the lock of one shard, so that many are delivered each time that it is taken.
 ghost use Rattle.std.specs.Prelude.{◌≡◌, ◌≤◌, List, length, IsTrue};
 ghost use Rattle.gm_shard.specs.Delivery.{IsPlaceOf};
-ghost use Rattle.gm_solver.specs.Batches.{ArePlaced};
+ghost use Rattle.gm_desk.specs.Batches.{ArePlaced};
 
-use crate::share::Desk;
+use gm_desk::share::Desk;
 use gm_frontier::note::Note;
 use gm_game::game::Game;
 use std::alloc::{AllocError, Global};
@@ -22,7 +22,7 @@ pub(crate) struct Batch<G: Game, L: Desk> {
 impl<G: Game, L: Desk> Model for Batch<G, L> {
     ghost use Rattle.std.specs.Prelude.{ℕ, List, Option};
     ghost use Rattle.gm_frontier.specs.Notes.{NoteData};
-    ghost use Rattle.gm_solver.specs.Batches.{ArePlaced};
+    ghost use Rattle.gm_desk.specs.Batches.{ArePlaced};
 
     ghost Value = { List (NoteData × ℕ × Option ℕ) };
 

@@ -2,13 +2,13 @@
 ghost use Rattle.std.specs.Prelude.{◌≡◌, ◌+◌, ◌<◌, OnOk, IfOk, vec_len};
 ghost use Rattle.gm_solver.specs.Found.{AreFound};
 
-use crate::board::{Board, Shares};
 use crate::found::{keep_all, none_found};
 use crate::gate::Gate;
 use crate::pieces::Pieces;
-use crate::share::Desk;
 use crate::source::Source;
 use crate::work::{Slot, work};
+use gm_desk::board::{Board, Shares};
+use gm_desk::share::Desk;
 use gm_frontier::tally::Tally;
 use gm_game::game::Game;
 use std::alloc::{AllocError, Global};

@@ -3,11 +3,11 @@ ghost use Rattle.std.specs.Prelude.{◌≡◌, IfOk, IfSome, IsTrue};
 ghost use Rattle.gm_solver.specs.Tiling.{AreAllTallies};
 ghost use Rattle.gm_solver.specs.Found.{AreFound, IsTallyAt};
 
-use crate::board::{Board, Shares};
 use crate::gate::NoGate;
 use crate::pieces::Pieces;
-use crate::share::Desk;
 use crate::work::walk;
+use gm_desk::board::{Board, Shares};
+use gm_desk::share::Desk;
 use gm_frontier::tally::Tally;
 use gm_game::game::Game;
 use std::alloc::{AllocError, Global};

@@ -5,22 +5,18 @@
 
 pub mod alone;
 mod batch;
-pub mod board;
 mod crew;
 pub mod error;
 mod found;
 pub mod gate;
-pub mod held;
 mod levels;
 mod listed;
-pub mod pass;
 mod passes;
 pub mod phase;
 mod pieces;
 pub mod plan;
 mod post;
 mod round;
-pub mod share;
 pub mod source;
 pub mod starts;
 pub mod tier;

@@ -2,17 +2,17 @@
 ghost use Rattle.std.specs.Prelude.{◌≡◌, ◌<◌, ◌≤◌, length, IfOk, IfErr, OnOk};
 ghost use Rattle.gm_shard.specs.State.{pairs_in};
 ghost use Rattle.gm_solver.specs.Solving.{IsError};
-ghost use Rattle.gm_solver.specs.Spots.{spot_of};
+ghost use Rattle.gm_desk.specs.Spots.{spot_of};
 ghost use Rattle.gm_solver.specs.Tiling.{AreShardsAt, AreCountsAt, AreAllTallies, HaveNoneHere, AreNumbers, tile_at, next_place};
 
-use crate::board::Four;
 use crate::error::SolveError;
 use crate::gate::Gate;
-use crate::pass::Round;
 use crate::pieces::Pieces;
 use crate::post::Post;
 use crate::round::close_tiles;
 use crate::source::Source;
+use gm_desk::board::Four;
+use gm_desk::pass::Round;
 use gm_frontier::expected::Expected;
 use gm_frontier::tally::Tally;
 use gm_game::game::Game;

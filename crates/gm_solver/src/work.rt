@@ -3,11 +3,11 @@ ghost use Rattle.std.specs.Prelude.{◌≡◌, ◌<◌, ◌≤◌, IfOk};
 ghost use Rattle.gm_frontier.specs.Tallies.{IsTallyOf};
 
 use crate::batch::{BATCH, Batch};
-use crate::board::{Board, Shares};
 use crate::gate::Gate;
 use crate::pieces::Pieces;
-use crate::share::Desk;
 use crate::source::Source;
+use gm_desk::board::{Board, Shares};
+use gm_desk::share::Desk;
 use gm_frontier::tally::Tally;
 use gm_game::game::Game;
 use gm_game::position::Place;

@@ -1,6 +1,6 @@
 use Rattle.std.proofs.Common.{sym, subst}
-use Rattle.gm_solver.specs.Batches.{ArePlaced}
-use Rattle.gm_solver.proofs.AnswerLemmas.{placed_push}
+use Rattle.gm_desk.specs.Batches.{ArePlaced}
+use Rattle.gm_desk.proofs.AnswerLemmas.{placed_push}
 use Rattle.gm_solver.proofs.batch.Batch.push.Goals as goal
 
 pub invariant_of-self-2 : goal.invariant_of-self-2

@@ -1,0 +1,37 @@
+use Rattle.std.proofs.Common.{rules, ap, ◌∙◌}
+use Rattle.gm_desk.specs.Spots.{gain}
+use Rattle.gm_desk.specs.Amounts.{Amounts, Part, raised}
+use Rattle.gm_desk.proofs.Raises.{raised_a, raised_b, raised_c, raised_d}
+use Rattle.gm_desk.proofs.board.Board.deliver_at.Goals as goal
+
+pub returns-in-0-clause-shares : goal.returns-in-0-clause-shares
+returns-in-0-clause-shares g c =
+    let before = c.shares.inside in
+    let n = gain c.deliver_under.result in
+    let amount = ap (λ (p : Part). p.amount) c.deliver_under.ensures.share in
+    raised_a (record { parts = before.parts; a = before.a.amount; b = before.b.amount; c = before.c.amount; d = before.d.amount }) c.args.shard n c.deliver_under.new.share.amount c.in-0.is amount
+    ∙ ap (λ (s : Amounts). raised s c.args.shard n) c.shares.view_is
+
+pub returns-in-1-clause-shares : goal.returns-in-1-clause-shares
+returns-in-1-clause-shares g c =
+    let before = c.shares.inside in
+    let n = gain c.deliver_under-in-1.result in
+    let amount = ap (λ (p : Part). p.amount) c.deliver_under-in-1.ensures.share in
+    raised_b (record { parts = before.parts; a = before.a.amount; b = before.b.amount; c = before.c.amount; d = before.d.amount }) c.args.shard n c.deliver_under-in-1.new.share.amount c.in-1.is amount
+    ∙ ap (λ (s : Amounts). raised s c.args.shard n) c.shares.view_is
+
+pub returns-in-2-clause-shares : goal.returns-in-2-clause-shares
+returns-in-2-clause-shares g c =
+    let before = c.shares.inside in
+    let n = gain c.deliver_under-in-2.result in
+    let amount = ap (λ (p : Part). p.amount) c.deliver_under-in-2.ensures.share in
+    raised_c (record { parts = before.parts; a = before.a.amount; b = before.b.amount; c = before.c.amount; d = before.d.amount }) c.args.shard n c.deliver_under-in-2.new.share.amount c.in-2.is amount
+    ∙ ap (λ (s : Amounts). raised s c.args.shard n) c.shares.view_is
+
+pub returns-in_default-clause-shares : goal.returns-in_default-clause-shares
+returns-in_default-clause-shares g c =
+    let before = c.shares.inside in
+    let n = gain c.deliver_under-in_default.result in
+    let amount = ap (λ (p : Part). p.amount) c.deliver_under-in_default.ensures.share in
+    raised_d (record { parts = before.parts; a = before.a.amount; b = before.b.amount; c = before.c.amount; d = before.d.amount }) c.args.shard n c.deliver_under-in_default.new.share.amount (search rules) amount
+    ∙ ap (λ (s : Amounts). raised s c.args.shard n) c.shares.view_is

@@ -1,0 +1,24 @@
+-- Pairs that are delivered to one shard one after another, under one lock.
+use Rattle.std.specs.Prelude.{◌≡◌, ℕ, List, Option, Result}
+use Rattle.std.specs.List.{Contains, AllZip, sum_by}
+use Rattle.gm_game.specs.Rules.{Rules}
+use Rattle.gm_frontier.specs.Notes.{NoteData}
+use Rattle.gm_shard.specs.declared.status.Delivery.{Delivery}
+use Rattle.gm_shard.specs.declared.status.Refused.{Refused}
+use Rattle.gm_shard.specs.Delivery.{IsPlaceOf}
+use Rattle.gm_desk.specs.Spots.{Spot, gain, IsAnswer, IsDeliveryAt}
+
+-- each pair of a note and a parent has with it the place of the note's position among the parent's children
+pub record ArePlaced (r : Rules) (tier : ℕ) (pairs : List (NoteData × ℕ × Option ℕ)) : Type 0 where
+  pub each : (pair : NoteData × ℕ × Option ℕ) → Contains pairs pair → IsPlaceOf r pair.0.position tier pair.1 pair.2
+
+-- the answer to the delivery of a pair at the spot
+pub record IsAnswerAt (r : Rules) (s : Spot) (pair : NoteData × ℕ × Option ℕ) (answer : Result Delivery Refused) : Type 0 where
+  pub refusals : IsAnswer r s pair.0 pair.1 answer
+  pub event : IsDeliveryAt r s pair.0 pair.1 answer
+
+-- an answer to each pair, in order; together they raised the number of pairs by this much
+pub record AreAnswers (r : Rules) (s : Spot) (pairs : List (NoteData × ℕ × Option ℕ)) (gained : ℕ) : Type 0 where
+  pub answers : List (Result Delivery Refused)
+  pub each : AllZip (IsAnswerAt r s) pairs answers
+  pub gains : gained ≡ sum_by gain answers

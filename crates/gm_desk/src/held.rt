@@ -1,0 +1,152 @@
+//! What one lock keeps.
+ghost use Rattle.std.specs.Prelude.{◌≡◌, ◌+◌, ◌<◌, ◌≤◌};
+ghost use Rattle.gm_shard.specs.State.{pairs_in};
+ghost use Rattle.gm_shard.specs.Good.{IsGood};
+ghost use Rattle.gm_shard.specs.Delivery.{IsPlaceOf, Delivers};
+ghost use Rattle.gm_desk.specs.Spots.{spot_of, gain, IsAnswer, IsDeliveryAt};
+ghost use Rattle.gm_desk.specs.Batches.{ArePlaced, AreAnswers};
+
+use crate::share::{Desk, Share};
+use gm_frontier::note::Note;
+use gm_game::game::Game;
+use gm_shard::place::place_of;
+use gm_shard::shard::Shard;
+use gm_shard::status::{Delivery, Refused};
+use std::marker::Model;
+use std::sync::ledger::Book;
+
+/// What one lock keeps: a shard, which stands where its name says, and its book, whose total is the number of pairs delivered to it.
+#[derive(Drop)]
+pub struct Held<G: Game, L: Desk> {
+    shard: Shard<G>,
+    book: Book<L>,
+}
+
+impl<G: Game, L: Desk> Model for Held<G, L> {
+    ghost use Rattle.std.specs.Prelude.{◌≡◌};
+    ghost use Rattle.gm_shard.specs.State.{pairs_in};
+    ghost use Rattle.gm_desk.specs.Spots.{spot_of};
+    ghost use Rattle.gm_desk.specs.Amounts.{HeldData};
+
+    ghost Value = { HeldData };
+
+    ghost view = { λ h. record { shard = h.shard; book = h.book.total } };
+
+    ghost invariant = { λ h. (h.book.total ≡ pairs_in h.shard) × (spot_of h.shard ≡ L.spot) };
+}
+
+// By how much a delivery raises the number of pairs.
+pub(crate) fn gained(answer: &Result<Delivery, Refused>) -> u64
+    ensures { result ≡ gain answer.now }
+{
+    match answer {
+        Ok(Delivery::Fresh | Delivery::FreshSettled) => 1,
+        Ok(Delivery::Repeat) | Err(_) => 0,
+    }
+}
+
+impl<G: Game, L: Desk> Held<G, L> {
+    pub(crate) fn new(shard: Shard<G>, book: Book<L>) -> Held<G, L>
+        requires book { book.total ≡ pairs_in shard }
+        requires spot { spot_of shard ≡ L.spot }
+        ensures shard { result.shard ≡ shard }
+        ensures book { result.book ≡ book.total }
+    {
+        Held { shard, book }
+    }
+
+    /// The shard: it is good, it stands where its name says, and the total of its book is the number of its pairs.
+    pub fn shard(&self) -> &Shard<G>
+        ensures shard { result.now ≡ self.now.shard }
+        ensures good { IsGood G.rules self.now.shard }
+        ensures spot { spot_of self.now.shard ≡ L.spot }
+        ensures book { self.now.book ≡ pairs_in self.now.shard }
+    {
+        let _good = self.shard.range();
+        &self.shard
+    }
+
+    /// Delivers a note to a parent, as the shard does. The book and the share rise by one exactly where the pair is new.
+    pub fn deliver(
+        &mut self,
+        note: &Note<G>,
+        parent: u64,
+        share: &mut Share<L>,
+    ) -> Result<Delivery, Refused>
+        requires { 0 < share.old.parts }
+        ensures answer { Delivers G.rules note.now parent self.old.shard self.new.shard result }
+        ensures refusals { IsAnswer G.rules L.spot note.now parent result }
+        ensures spot { spot_of self.new.shard ≡ L.spot }
+        ensures book { self.new.book ≡ self.old.book + gain result }
+        ensures share { share.new ≡ record { parts = share.old.parts; amount = share.old.amount + gain result } }
+        ensures bound { share.new.amount ≤ self.new.book }
+    {
+        let place = place_of(note, self.shard.tier(), parent);
+        self.deliver_at(note, parent, place, share)
+    }
+
+    /// As `deliver`, where the place of the note's position among the children of the parent is known: so the costliest part of a delivery is done before the
+    /// lock is taken.
+    pub fn deliver_at(
+        &mut self,
+        note: &Note<G>,
+        parent: u64,
+        place: Option<u32>,
+        share: &mut Share<L>,
+    ) -> Result<Delivery, Refused>
+        requires place { IsPlaceOf G.rules note.now.position L.spot.tier parent place }
+        requires parts { 0 < share.old.parts }
+        ensures answer { Delivers G.rules note.now parent self.old.shard self.new.shard result }
+        ensures event { IsDeliveryAt G.rules L.spot note.now parent result }
+        ensures refusals { IsAnswer G.rules L.spot note.now parent result }
+        ensures spot { spot_of self.new.shard ≡ L.spot }
+        ensures book { self.new.book ≡ self.old.book + gain result }
+        ensures share { share.new ≡ record { parts = share.old.parts; amount = share.old.amount + gain result } }
+        ensures bound { share.new.amount ≤ self.new.book }
+    {
+        let Held { shard, book } = self;
+        let _before = shard.range();
+        let answer = shard.deliver_at(note, parent, place);
+        share.raise(book, gained(&answer));
+        share.audit(book);
+        let _after = shard.range();
+        answer
+    }
+
+    /// Delivers pairs one after another, and counts those that are new: the book and the share rise by this count.
+    pub fn deliver_all(
+        &mut self,
+        pairs: &[(Note<G>, u64, Option<u32>)],
+        share: &mut Share<L>,
+    ) -> u64
+        requires places { ArePlaced G.rules L.spot.tier pairs.now }
+        requires parts { 0 < share.old.parts }
+        ensures answers { AreAnswers G.rules L.spot pairs.now result }
+        ensures spot { spot_of self.new.shard ≡ L.spot }
+        ensures book { self.new.book ≡ self.old.book + result }
+        ensures share { share.new ≡ record { parts = share.old.parts; amount = share.old.amount + result } }
+        ensures bound { share.new.amount ≤ self.new.book }
+    {
+        let mut fresh = 0u64;
+        for pair in pairs {
+            let answer = self.deliver_at(&pair.0, pair.1, pair.2, share);
+            fresh += gained(&answer);
+        }
+        let Held { shard: _, book } = self;
+        share.audit(book);
+        fresh
+    }
+
+    // The shard without its lock: as many pairs are delivered to it as the whole share says.
+    pub(crate) fn into_shard(self, whole: Share<L>) -> Shard<G>
+        requires { whole.parts ≡ L.parts }
+        ensures shard { result ≡ self.shard }
+        ensures spot { spot_of result ≡ L.spot }
+        ensures amount { pairs_in result ≡ whole.amount }
+    {
+        let Held { shard, mut book } = self;
+        let mut whole = whole;
+        whole.audit(&mut book);
+        shard
+    }
+}
