@@ -1,5 +1,7 @@
 -- Held tiers.
-use Rattle.std.proofs.Common.{◌≡◌, ℕ, zero, suc, inl, inr, Bool, true, false, List, Option, None, Some, IsSome, Result, Ok, Err, refl, sym, subst}
+use Rattle.std.proofs.Common.{◌≡◌, ℕ, zero, suc, inl, inr, Bool, true, false, List, Option, None, Some, IsSome, Result, Ok, Err, refl, sym, subst, ap, ◌∙◌}
+use Rattle.std.specs.Result.{IsErrAnd, IsErrOf}
+use Rattle.std.proofs.lemmas.Result.{err_from_is_err_and}
 use Rattle.std.specs.List.{Contains}
 use Rattle.gm_game.specs.Rules.{Rules, IsTierOrChild}
 use Rattle.gm_table.specs.Tables.{TableData, IsHeld, AreHeld, table_of}
@@ -8,6 +10,20 @@ use Rattle.gm_play.specs.Reached.{IsBelow, AreAllHeld}
 -- an answer is no error
 pub ok_apart : {T E : Type 0} (x : T) (e : E) → ◌≡◌ {A = Result T E} (Ok x) (Err e) → ⊥
 ok_apart x e f = let z : ⊥ = cc in z
+
+-- nothing is no answer
+pub none_apart : {A : Type 0} (x : A) → ◌≡◌ {A = Option A} None (Some x) → ⊥
+none_apart x f = let z : ⊥ = cc in z
+
+same_error : {T E : Type 0} (e f : E) → ◌≡◌ {A = Result T E} (Err e) (Err f) → e ≡ f
+same_error e f h = cc
+
+-- what the exit of a `?` returns is refused as what it had
+pub passed_on : {T U E : Type 0} (r : Result T E) (m : Result U E) (e why : E) → IsErrAnd r (λ y. y ≡ e) → m ≡ Err e → (IsErrOf r why → IsErrOf m why) × (IsErrOf m why → IsErrOf r why)
+passed_on r m e why h is =
+    let p = err_from_is_err_and r h in
+    let same = p.1 ∙ ap (λ y. Err y) p.2 in
+    (λ k. is ∙ ap (λ y. Err y) (same_error e why (sym same ∙ k)), λ k. same ∙ ap (λ y. Err y) (same_error e why (sym is ∙ k)))
 
 -- what is refused where a position isn't legal, or its tier isn't held
 pub legal_unless : {T E : Type 0} (x : T) (e : E) (b : Bool) → (b ≡ false → ◌≡◌ {A = Result T E} (Ok x) (Err e)) → b ≡ true

@@ -156,9 +156,11 @@ fn read_records(
                     index: index as u64,
                 });
             }
-            Some(found) => records.push(found).map_err(|_| FileError::OutOfMemory)?,
+            Some(found) => match records.push(found) {
+                Ok(()) => rest = more,
+                Err(_) => return Err(FileError::OutOfMemory),
+            },
         }
-        rest = more;
     }
     Ok(records)
 }

@@ -1,3 +1,6 @@
+use Rattle.std.proofs.Common.{[], refl}
+use Rattle.gm_play.specs.declared.play_error.PlayError.TheVariants.{Illegal, NotHeld}
+use Rattle.gm_play.proofs.Held.{ok_apart, none_apart, passed_on}
 use Rattle.gm_play.proofs.by_text.best_play.Goals as goal
 
 pub returns-clause-play : goal.returns-clause-play
@@ -7,3 +10,38 @@ returns-clause-play g c = record {
   is_best = c.in_ok-line.ensures.line;
   whole = c.in_ok-line.ensures.whole;
 }
+
+pub returns-clause-illegal : goal.returns-clause-illegal
+returns-clause-illegal g c = (λ e. absurd (ok_apart _ _ e), λ none. absurd (none c.in-Some.p ((c.read.ensures c.in-Some.p).0 c.in-Some.is)))
+
+pub returns-clause-not_held : goal.returns-clause-not_held
+returns-clause-not_held g c = λ e. absurd (ok_apart _ _ e)
+
+pub returns-in-None-clause-illegal : goal.returns-in-None-clause-illegal
+returns-in-None-clause-illegal g c = (λ e p read. none_apart p ((c.in-None.ensures p).1 read), λ none. refl)
+
+pub returns-in-None-clause-not_held : goal.returns-in-None-clause-not_held
+returns-in-None-clause-not_held g c = λ e. (let z : ⊥ = cc in absurd z)
+
+pub returns-in_err-line-clause-illegal : goal.returns-in_err-line-clause-illegal
+returns-in_err-line-clause-illegal g c =
+    let read = (c.read.ensures c.in-Some.p).0 c.in-Some.is in
+    let p = passed_on c.from_residual.result c.best_line.result c.in_err-line.field-0.0 Illegal c.from_residual.ensures.1 c.in_err-line.was in
+    (λ e. (let legal = read.0 in let not = c.best_line.ensures.illegal.0 (p.0 e) in let z : ⊥ = cc in absurd z), λ none. absurd (none c.in-Some.p read))
+
+pub returns-in_err-line-clause-not_held : goal.returns-in_err-line-clause-not_held
+returns-in_err-line-clause-not_held g c =
+    let p = passed_on c.from_residual.result c.best_line.result c.in_err-line.field-0.0 NotHeld c.from_residual.ensures.1 c.in_err-line.was in
+    λ e. (c.in-Some.p, (c.read.ensures c.in-Some.p).0 c.in-Some.is, c.best_line.ensures.not_held (p.0 e))
+
+pub returns-in_err-value-clause-illegal : goal.returns-in_err-value-clause-illegal
+returns-in_err-value-clause-illegal g c =
+    let p = passed_on c.from_residual-in_err-value.result c.known_value.result c.in_err-value.field-0.0 Illegal c.from_residual-in_err-value.ensures.1 c.in_err-value.was in (
+      λ e. (let other = p.0 e in let is = c.in_err-value.was in let held = c.in_err-value.ensures.err in let z : ⊥ = cc in absurd z),
+      λ none. absurd (none c.in-Some.p ((c.read.ensures c.in-Some.p).0 c.in-Some.is)),
+    )
+
+pub returns-in_err-value-clause-not_held : goal.returns-in_err-value-clause-not_held
+returns-in_err-value-clause-not_held g c =
+    let p = passed_on c.from_residual-in_err-value.result c.known_value.result c.in_err-value.field-0.0 NotHeld c.from_residual-in_err-value.ensures.1 c.in_err-value.was in
+    λ e. (let not = c.known_value.ensures.not_held.0 (p.0 e) in (c.in-Some.p, (c.read.ensures c.in-Some.p).0 c.in-Some.is, ([], tt, (not.0, λ own children. not.1 own))))

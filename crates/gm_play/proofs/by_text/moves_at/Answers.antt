@@ -1,8 +1,9 @@
-use Rattle.std.proofs.Common.{◌≡◌, true, sym, subst}
+use Rattle.std.proofs.Common.{◌≡◌, true, sym, subst, refl}
 use Rattle.std.specs.List.{All}
 use Rattle.gm_play.specs.PlayTexts.{IsMoveOf}
 use Rattle.gm_play.specs.Refusals.{AreNotHeld}
 use Rattle.gm_play.proofs.Choices.{all_chosen}
+use Rattle.gm_play.proofs.Held.{ok_apart, none_apart}
 use Rattle.gm_play.proofs.Rows.{same_read, are_moves}
 use Rattle.gm_play.proofs.by_text.moves_at.Goals as goal
 
@@ -36,3 +37,15 @@ returns-in-Ok-clause-moves g c = record {
   best = c.in-Ok.ensures.best;
   are = c.chosen.ensures;
 }
+
+pub returns-in-Ok-clause-illegal : goal.returns-in-Ok-clause-illegal
+returns-in-Ok-clause-illegal g c = (λ e. absurd (ok_apart _ _ e), λ none. absurd (none c.in-Some.p ((c.read.ensures c.in-Some.p).0 c.in-Some.is)))
+
+pub returns-in-Err-clause-illegal : goal.returns-in-Err-clause-illegal
+returns-in-Err-clause-illegal g c = (λ e. (let z : ⊥ = cc in absurd z), λ none. absurd (none c.in-Some.p ((c.read.ensures c.in-Some.p).0 c.in-Some.is)))
+
+pub returns-in-None-clause-illegal : goal.returns-in-None-clause-illegal
+returns-in-None-clause-illegal g c = (λ e p read. none_apart p ((c.in-None.ensures p).1 read), λ none. refl)
+
+pub returns-in-None-clause-not_held : goal.returns-in-None-clause-not_held
+returns-in-None-clause-not_held g c = (λ e. (let z : ⊥ = cc in absurd z), λ (p, read, not). absurd (none_apart p ((c.in-None.ensures p).1 read)))

@@ -1,7 +1,9 @@
 use Rattle.std.proofs.Common.{ap, ◌∙◌}
 use Rattle.std.specs.List.{flat_map}
+use Rattle.std.proofs.lemmas.Result.{IfOk-from_err}
+use Rattle.gm_play.specs.declared.play_error.PlayError.TheVariants.{Illegal, NotHeld}
 use Rattle.gm_play.specs.PlayTexts.{move_row}
-use Rattle.gm_play.proofs.Held.{ok_apart}
+use Rattle.gm_play.proofs.Held.{ok_apart, passed_on}
 use Rattle.gm_play.proofs.texts.moves_text.Goals as goal
 
 pub returns-in-Ok-clause-text : goal.returns-in-Ok-clause-text
@@ -15,3 +17,22 @@ returns-in-Ok-clause-not_held g c = (λ e. absurd (ok_apart _ _ e), λ h. absurd
 
 pub returns-in-Err-clause-not_held : goal.returns-in-Err-clause-not_held
 returns-in-Err-clause-not_held g c = (λ e. (let z : ⊥ = cc in absurd z), λ h. absurd (ok_apart _ _ (c.in_ok-p.ensures.not_held.1 h)))
+
+pub returns-in-Ok-clause-illegal : goal.returns-in-Ok-clause-illegal
+returns-in-Ok-clause-illegal g c = (λ e. absurd (ok_apart _ _ e), λ h. absurd (ok_apart _ _ (c.in_ok-p.ensures.illegal.1 h)))
+
+pub returns-in-Err-clause-illegal : goal.returns-in-Err-clause-illegal
+returns-in-Err-clause-illegal g c = (λ e. (let z : ⊥ = cc in absurd z), λ h. absurd (ok_apart _ _ (c.in_ok-p.ensures.illegal.1 h)))
+
+pub returns-in_err-p-clause-text : goal.returns-in_err-p-clause-text
+returns-in_err-p-clause-text g c = IfOk-from_err c.from_residual.result _ c.from_residual.ensures.0
+
+pub returns-in_err-p-clause-illegal : goal.returns-in_err-p-clause-illegal
+returns-in_err-p-clause-illegal g c =
+    let p = passed_on c.from_residual.result c.moves_at.result c.in_err-p.field-0.0 Illegal c.from_residual.ensures.1 c.in_err-p.was in
+    (λ e. c.moves_at.ensures.illegal.0 (p.0 e), λ none. p.1 (c.moves_at.ensures.illegal.1 none))
+
+pub returns-in_err-p-clause-not_held : goal.returns-in_err-p-clause-not_held
+returns-in_err-p-clause-not_held g c =
+    let p = passed_on c.from_residual.result c.moves_at.result c.in_err-p.field-0.0 NotHeld c.from_residual.ensures.1 c.in_err-p.was in
+    (λ e. c.moves_at.ensures.not_held.0 (p.0 e), λ h. p.1 (c.moves_at.ensures.not_held.1 h))

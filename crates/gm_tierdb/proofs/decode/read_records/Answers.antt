@@ -1,6 +1,10 @@
-use Rattle.std.proofs.Common.{rules, ◌≡◌, ◌∙◌, sym, take}
-use Rattle.gm_tierdb.specs.TierText.{width}
+use Rattle.std.proofs.Common.{rules, ◌≡◌, ◌++◌, ◌∷◌, [], arith, ap, ◌∙◌, sym, take}
+use Rattle.std.specs.Int.{to_le_bytes}
+use Rattle.std.proofs.lemmas.List.{length-append}
+use Rattle.std.proofs.lemmas.List.Elements.{All-push}
+use Rattle.gm_tierdb.specs.TierText.{word, width, IsStorable}
 use Rattle.gm_tierdb.proofs.NumberLemmas.{none_here}
+use Rattle.gm_tierdb.proofs.RecordLemmas.{grown, one_less}
 use Rattle.gm_tierdb.proofs.decode.read_records.Goals as goal
 
 pub returns-in-None-clause-refused : goal.returns-in-None-clause-refused
@@ -17,3 +21,22 @@ returns-in-None-clause-refused c =
       split = are;
       bad = λ o ok e. none_here v c.number_at.result c.split_at.result.0.now c.number_at.ensures.fits c.number_at.ensures.bytes c.in-None.ensures.none o ok (sym first ∙ e);
     }
+
+pub loop-index-preserved : goal.loop-index-preserved
+loop-index-preserved c =
+    let v = c.args.version in
+    let (are, fit, len, left) = c.loop-index.invariant in
+    let front = c.loop-index.records.items in
+    let found = c.in-Some.found in
+    let rest = c.loop-index.rest.now in
+    let one = c.split_at.result.0.now in
+    let more = c.split_at.result.1.now in
+    let split : rest ≡ one ++ more = search rules in
+    let (storable, number) = c.in-Some.ensures.some in
+    let items : c.push.new.self.items ≡ front ++ found ∷ [] = c.in-Ok.ensures.items in
+    rw items (
+      grown v c.args.bytes.now rest one more front found are split (ap (to_le_bytes (word v)) number ∙ c.number_at.ensures.bytes),
+      All-push (IsStorable v) front found fit storable,
+      omega (arith, len, length-append front (found ∷ [])),
+      one_less v c.loop-index.index c.args.size rest more c.loop-index-test.true left (omega (arith, c.split_at.ensures.back_len, c.record_len.ensures.value)),
+    )

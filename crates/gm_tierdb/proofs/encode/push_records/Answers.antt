@@ -1,4 +1,7 @@
-use Rattle.std.proofs.Common.{◌++◌, ◌∙◌, arith}
+use Rattle.std.proofs.Common.{◌++◌, ◌∙◌, ap, sym, append-nil, arith}
+use Rattle.std.specs.List.{flat_map}
+use Rattle.std.proofs.lemmas.List.{take_all}
+use Rattle.std.proofs.lemmas.Result.{IfOk-from_err}
 use Rattle.gm_tierdb.specs.TierText.{record_bytes}
 use Rattle.gm_tierdb.proofs.RecordLemmas.{one_more}
 use Rattle.gm_tierdb.proofs.encode.push_records.Goals as goal
@@ -8,3 +11,14 @@ loop-index-preserved g c =
     let v = c.args.version in
     c.in_ok-push_record.ensures ∙ (λ i. c.loop-index.invariant i ++ record_bytes v (c.at.ensures.value i))
     ∙ one_more v c.args.file.now.items c.args.table.now.records c.loop-index.index (omega (arith, c.size-index-end.ensures.value))
+
+pub loop-index-init : goal.loop-index-init
+loop-index-init g c = sym (append-nil c.args.file.now.items)
+
+pub returns : goal.returns
+returns g c =
+    let records = c.args.table.now.records in
+    c.loop-index.invariant ∙ ap (λ l. c.args.file.now.items ++ flat_map (record_bytes c.args.version) l) (take_all c.loop-index.index records (omega (arith, c.loop-index-test.false, c.size-index-end.ensures.value)))
+
+pub returns-in_err-push_record : goal.returns-in_err-push_record
+returns-in_err-push_record g c = IfOk-from_err c.from_residual.result _ c.from_residual.ensures.0

@@ -1,5 +1,5 @@
-use Rattle.std.proofs.Common.{◌++◌, take, arith}
-use Rattle.std.proofs.lemmas.List.{length-take}
+use Rattle.std.proofs.Common.{◌≡◌, ◌++◌, ◌∙◌, ap, take, arith, inl}
+use Rattle.std.proofs.lemmas.List.{length-take, take-append-le}
 use Rattle.std.proofs.KnownBytes.{Consumes-trans}
 use Rattle.gm_tierdb.specs.declared.streams.TheConstants.{READ_LEN}
 use Rattle.gm_tierdb.proofs.StreamLemmas.{joined_small}
@@ -13,3 +13,23 @@ returns-in-Err-extend_from_slice-clause-err g c =
       Consumes-trans _ _ _ _ _ c.loop-chunk.invariant.1 c.in-Ok.ensures.bytes.0,
       joined_small before given READ_LEN (omega (arith, c.in-Ok.ensures.bound, c.read.auto.buf, length-take c.min-room.result c.loop-chunk.chunk)),
     )
+
+pub loop-chunk-preserved : goal.loop-chunk-preserved
+loop-chunk-preserved g c =
+    let before = c.loop-chunk.text.items in
+    let given = take c.in-Ok.count c.read.new.buf in
+    let items : c.extend_from_slice.new.self.items ≡ before ++ given =
+    c.in-Ok-extend_from_slice.ensures.items ∙ ap (λ l. before ++ l) (take-append-le c.in-Ok.count c.read.new.buf _ (omega (arith, c.in-Ok.ensures.bound, c.read.auto.buf, length-take c.min-room.result c.loop-chunk.chunk))) in
+    rw items (
+      joined_small before given READ_LEN (omega (arith, c.in-Ok.ensures.bound, c.read.auto.buf, length-take c.min-room.result c.loop-chunk.chunk)),
+      Consumes-trans _ _ _ _ _ c.loop-chunk.invariant.1 c.in-Ok.ensures.bytes.0,
+    )
+
+pub returns-clause-text : goal.returns-clause-text
+returns-clause-text g c = c.loop-chunk.invariant.1
+
+pub returns-clause-all : goal.returns-clause-all
+returns-clause-all g c = inl (omega (arith, c.loop-chunk.invariant.0, c.loop-chunk-test.false, c.len.ensures))
+
+pub returns-in-Ok-eq0-clause-most : goal.returns-in-Ok-eq0-clause-most
+returns-in-Ok-eq0-clause-most g c = c.loop-chunk.invariant.0
