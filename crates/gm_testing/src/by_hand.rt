@@ -274,6 +274,59 @@ pub fn turn<G: Game>(
     }
 }
 
+// Closes the level without wins and losses of a shard of a whole tier and turns the shard to ties: whether it has ties.
+fn turn_first<G: Game>(
+    alloc: Global,
+    shard: &mut Shard<G>,
+    expected: &mut Expected<G>,
+    tables: &Tables<G>,
+) -> Result<bool, AllocError>
+    requires first { shard.old ≡ first_state expected.old.tier 0 (G.rules.tier_size expected.old.tier) }
+    requires next { place_of shard.old ≡ place_at expected.old.tier expected.old.phase expected.old.level }
+    requires lo { expected.old.lo ≡ 0 }
+    requires hi { expected.old.hi ≡ G.rules.tier_size expected.old.tier }
+    requires children { AreHeld G.rules tables.now expected.old.tier }
+    requires small { G.rules.tier_size expected.old.tier ≤ TIER_SIZE }
+    ensures whole { IfOk result (λ turned. IsTrue turned → IsOfTier G.rules shard.new) }
+    ensures tier { IfOk result (λ turned. IsTrue turned → shard.new.tier ≡ expected.old.tier) }
+    ensures ties { IfOk result (λ turned. IsTrue turned → shard.new.phase ≡ Ties) }
+{
+    add_fresh(alloc, shard, tables, expected)?;
+    if shard.close(expected).is_err() {
+        return Ok(false);
+    }
+    turn(alloc, shard, expected, tables)
+}
+
+/// The shard of a tier whose level without wins and losses is closed, at its first level of ties; none where it has no ties.
+pub fn at_ties<G: Game>(
+    alloc: Global,
+    tier: u64,
+    tables: &Tables<G>,
+) -> Result<Option<Shard<G>>, AllocError>
+    requires children { AreHeld G.rules tables.now tier }
+    requires small { G.rules.tier_size tier ≤ TIER_SIZE }
+    ensures whole { IfOk result (λ shard. IfSome shard (λ s. IsOfTier G.rules s)) }
+    ensures tier { IfOk result (λ shard. IfSome shard (λ s. s.tier ≡ tier)) }
+    ensures ties { IfOk result (λ shard. IfSome shard (λ s. s.phase ≡ Ties)) }
+{
+    let mut shard = begin_whole::<G>(alloc, tier)?;
+    let mut expected = Expected::start(tier, 0, G::tier_size(tier));
+    let turned = turn_first(alloc, &mut shard, &mut expected, tables);
+    drop(expected);
+    match turned {
+        Ok(true) => Ok(Some(shard)),
+        Ok(false) => {
+            drop(shard);
+            Ok(None)
+        }
+        Err(error) => {
+            drop(shard);
+            Err(error)
+        }
+    }
+}
+
 /// The records of a shard of a whole tier, where its level is the end of ties.
 pub fn records_of<G: Game>(
     alloc: Global,

@@ -22,64 +22,66 @@ pub fn are_same<G: Game>(one: &Table<G>, other: &Table<G>) -> bool {
     one.size() == other.size() && (0..one.size()).all(|index| one.at(index) == other.at(index))
 }
 
-// Whether workers find this table of a tier in one of the two ways, and report this.
-fn finds<G: Game + Send + Sync, R: Threads + Wait + Sync>(
+// What workers show of a tier in one of the two ways, beside its table.
+fn show<G: Game + Send + Sync, R: Threads + Wait + Sync, T: Gate, S: Source>(
     rt: &R,
     alloc: Global,
     tables: &Tables<G>,
-    tier: u64,
     way: Way,
     plan: Plan,
-    counter: &Counter,
-    table: &Table<G>,
-    wanted: Report,
-) -> Result<bool, SolveError>
-    requires held { AreHeld G.rules tables.now tier }
-    requires small { G.rules.tier_size tier ≤ TIER_SIZE }
+    gate: &T,
+    source: &S,
+    alone: &Table<G>,
+) -> Result<Shown, SolveError>
+    requires held { AreHeld G.rules tables.now alone.now.tier }
+    requires small { G.rules.tier_size alone.now.tier ≤ TIER_SIZE }
 {
-    let (found, report) = solve_by(rt, alloc, tier, tables, way, plan, &NoGate, counter)?;
-    let same = are_same(table, &found) && report == wanted;
-    drop(found);
-    Ok(same)
+    let (table, report) = solve_by(rt, alloc, alone.tier(), tables, way, plan, gate, source)?;
+    let shown = Shown {
+        same: are_same(alone, &table),
+        last: table.at(table.size().saturating_sub(1)),
+        deliveries: report.deliveries,
+        by_hand: report.by_hand,
+    };
+    drop(table);
+    Ok(shown)
 }
 
-// The same in both ways, one after the other.
+// Whether workers find a table in both ways, one after the other, with this number of deliveries and none by hand.
 fn finds_both<G: Game + Send + Sync, R: Threads + Wait + Sync>(
     rt: &R,
     alloc: Global,
     tables: &Tables<G>,
-    tier: u64,
     plan: Plan,
-    table: &Table<G>,
-    wanted: Report,
+    alone: &Table<G>,
+    deliveries: u64,
 ) -> Result<bool, SolveError>
-    requires held { AreHeld G.rules tables.now tier }
-    requires small { G.rules.tier_size tier ≤ TIER_SIZE }
+    requires held { AreHeld G.rules tables.now alone.now.tier }
+    requires small { G.rules.tier_size alone.now.tier ≤ TIER_SIZE }
 {
     let counter = Counter::new();
-    let by_pieces = finds(
+    let by_pieces = show(
         rt,
         alloc,
         tables,
-        tier,
         Way::Pieces,
         plan,
+        &NoGate,
         &counter,
-        table,
-        wanted,
+        alone,
     )?;
-    let by_passes = finds(
+    let by_passes = show(
         rt,
         alloc,
         tables,
-        tier,
         Way::Passes,
         plan,
+        &NoGate,
         &counter,
-        table,
-        wanted,
+        alone,
     )?;
-    Ok(by_pieces && by_passes)
+    let same = by_pieces.same && by_pieces.deliveries == deliveries && by_pieces.by_hand == 0;
+    Ok(same && by_passes == by_pieces)
 }
 
 /// Solves a tier by one shard, and by workers in both ways, and inserts its table: whether all found the same records and the same number of deliveries, and
@@ -95,21 +97,12 @@ pub fn hold_same<G: Game + Send + Sync, R: Threads + Wait + Sync>(
     requires small { G.rules.tier_size tier ≤ TIER_SIZE }
 {
     let (alone, deliveries) = solve_alone(alloc, tier, tables)?;
-    let wanted = Report {
-        deliveries,
-        by_hand: 0,
-    };
-    match finds_both(rt, alloc, tables, tier, plan, &alone, wanted) {
-        Ok(same) => match tables.insert(alone) {
-            Ok(()) => Ok(same),
-            Err(failed) => {
-                drop(failed);
-                Err(SolveError::OutOfMemory)
-            }
-        },
-        Err(error) => {
-            drop(alone);
-            Err(error)
+    let same = finds_both(rt, alloc, tables, plan, &alone, deliveries);
+    match tables.insert(alone) {
+        Ok(()) => same,
+        Err(failed) => {
+            drop(failed);
+            Err(SolveError::OutOfMemory)
         }
     }
 }
@@ -142,7 +135,7 @@ pub fn solve_by<G: Game + Send + Sync, R: Threads + Wait + Sync, T: Gate, S: Sou
 }
 
 /// What solving a tier by workers showed: whether its records are those that one shard finds, the last of them, the number of deliveries, and how many of these the coordinator did.
-#[derive(Debug, Drop, PartialEq)]
+#[derive(Clone, Copy, Debug, PartialEq)]
 pub struct Shown {
     pub same: bool,
     pub last: Option<Solved>,
@@ -150,8 +143,8 @@ pub struct Shown {
     pub by_hand: u64,
 }
 
-// Solves a tier by one shard and by workers.
-fn show<G: Game + Send + Sync, R: Threads + Wait + Sync, T: Gate, S: Source>(
+// Tier 0 solved by one shard and by workers: none where it has child tiers that aren't held or is too large.
+fn show_held<G: Game + Send + Sync, R: Threads + Wait + Sync, T: Gate, S: Source>(
     rt: &R,
     alloc: Global,
     tables: &Tables<G>,
@@ -159,18 +152,14 @@ fn show<G: Game + Send + Sync, R: Threads + Wait + Sync, T: Gate, S: Source>(
     plan: Plan,
     gate: &T,
     source: &S,
-) -> Result<Shown, SolveError>
-    requires held { AreHeld G.rules tables.now 0 }
-    requires small { G.rules.tier_size 0 ≤ TIER_SIZE }
-{
+) -> Result<Option<Shown>, SolveError> {
+    if !tables.has_children(0) || G::tier_size(0) > TIER_SIZE {
+        return Ok(None);
+    }
     let (alone, _deliveries) = solve_alone(alloc, 0, tables)?;
-    let (table, report) = solve_by(rt, alloc, 0, tables, way, plan, gate, source)?;
-    Ok(Shown {
-        same: are_same(&alone, &table),
-        last: table.at(table.size().saturating_sub(1)),
-        deliveries: report.deliveries,
-        by_hand: report.by_hand,
-    })
+    let shown = show(rt, alloc, tables, way, plan, gate, source, &alone);
+    drop(alone);
+    Ok(Some(shown?))
 }
 
 /// Tier 0 solved by this many workers and shards, with this many notes in a piece: none where the tier has child tiers or is too large, or there is no such
@@ -183,14 +172,13 @@ pub fn show_first<G: Game + Send + Sync, R: Threads + Wait + Sync, T: Gate, S: S
     gate: &T,
     source: &S,
 ) -> Result<Option<Shown>, SolveError> {
-    let tables: Tables<G> = Tables::new(alloc);
     let Some(plan) = Plan::new(workers, shards, piece) else {
         return Ok(None);
     };
-    if !tables.has_children(0) || G::tier_size(0) > TIER_SIZE {
-        return Ok(None);
-    }
-    Ok(Some(show(rt, alloc, &tables, way, plan, gate, source)?))
+    let tables: Tables<G> = Tables::new(alloc);
+    let shown = show_held(rt, alloc, &tables, way, plan, gate, source);
+    drop(tables);
+    shown
 }
 
 /// The expected outcome: the records that one shard finds, the last of which is given, with these numbers of deliveries, in all and by the coordinator.

@@ -2,6 +2,7 @@
 ghost use Rattle.std.specs.Prelude.{◌≡◌, ◌-◌, ◌<◌, ◌≤◌, IfOk};
 ghost use Rattle.gm_shard.specs.Begin.{first_state};
 ghost use Rattle.gm_desk.specs.Spots.{spot_of, AreFourTiles};
+ghost use Rattle.gm_desk.specs.Batches.{ArePlaced};
 
 use gm_frontier::note::Note;
 use gm_game::game::Game;
@@ -136,6 +137,22 @@ pub fn deliver_by_hand<G: Game, R: Wait>(
     deliver_named::<G, Brand, Brand, Brand, Brand, R>(rt, blanks, shards, note, parent)
 }
 
+// Delivers notes under the lock of a shard, and answers how many were new, and the amounts of the first two shards.
+fn told_all<G: Game, A: Desk, B: Desk, C: Desk, D: Desk, R: Wait>(
+    rt: &R,
+    board: &Board<G, A, B, C, D>,
+    shard: usize,
+    pairs: &[(Note<G>, u64, Option<u32>)],
+    shares: &mut Shares<A, B, C, D>,
+) -> (u64, u64, u64)
+    requires shard { shard < 4 }
+    requires places { ArePlaced G.rules A.spot.tier pairs.now }
+    ensures { shares.new.parts ≡ shares.old.parts }
+{
+    let new = board.deliver_all(rt, shard, pairs, shares);
+    (new, shares.amount(0), shares.amount(1))
+}
+
 // On a board of these names: the same pair twice under the lock of shard 0, and then under that of shard 1.
 fn deliver_twice_named<G: Game, A: Desk, B: Desk, C: Desk, D: Desk, R: Wait>(
     rt: &R,
@@ -151,15 +168,13 @@ fn deliver_twice_named<G: Game, A: Desk, B: Desk, C: Desk, D: Desk, R: Wait>(
     requires tiles { AreFourTiles G.rules A.spot B.spot C.spot D.spot }
 {
     let place = place_of(note, shards.a.tier(), parent);
+    let (board, mut shares) = Board::<G, A, B, C, D>::around(1, blanks, shards);
     let first = Note::of(note.position(), note.solved());
     let again = Note::of(note.position(), note.solved());
     let pairs = [(first, parent, place), (again, parent, place)];
-    let (board, mut shares) = Board::<G, A, B, C, D>::around(1, blanks, shards);
-    let mine = board.deliver_all(rt, 0, &pairs, &mut shares);
-    let after = (mine, shares.amount(0), shares.amount(1));
-    let others = board.deliver_all(rt, 1, &pairs, &mut shares);
-    let at_end = (others, shares.amount(0), shares.amount(1));
-    drop((board, shares));
+    let after = told_all(rt, &board, 0, &pairs, &mut shares);
+    let at_end = told_all(rt, &board, 1, &pairs, &mut shares);
+    drop(board.into_shards(shares));
     [after, at_end]
 }
 
@@ -199,7 +214,21 @@ fn deliver_meanwhile<G: Game, A: Desk, B: Desk, C: Desk, D: Desk, R: Wait>(
     seen.lock(rt).answer = Some(answer);
 }
 
-// Holds the lock of shard 0: reads a counter, and waits for the other thread's answer, at most a million turns.
+// Tells the counter of an index, where the shard has it.
+fn tell_counter<G: Game, R: Wait>(rt: &R, shard: &Shard<G>, seen: &Mutex<Seen>, index: u64) {
+    let (lo, hi) = shard.range();
+    if lo <= index && index < hi {
+        seen.lock(rt).counter = Some(shard.counter(index));
+    }
+}
+
+// Waits for the other thread's answer, at most a million turns.
+fn await_answer<R: Wait>(rt: &R, seen: &Mutex<Seen>) {
+    let answered = (0..1_000_000).any(|_| seen.lock(rt).answer.is_some());
+    seen.lock(rt).gave_up = !answered;
+}
+
+// Holds the lock of shard 0: reads a counter, and waits for the other thread's answer.
 fn hold<G: Game, A: Desk, B: Desk, C: Desk, D: Desk, R: Wait>(
     rt: &R,
     board: &Board<G, A, B, C, D>,
@@ -207,13 +236,9 @@ fn hold<G: Game, A: Desk, B: Desk, C: Desk, D: Desk, R: Wait>(
     index: u64,
 ) {
     let held = board.a().lock(rt);
-    let shard = held.shard();
-    let (lo, hi) = shard.range();
-    if lo <= index && index < hi {
-        seen.lock(rt).counter = Some(shard.counter(index));
-    }
-    let answered = (0..1_000_000).any(|_| seen.lock(rt).answer.is_some());
-    seen.lock(rt).gave_up = !answered;
+    tell_counter(rt, held.shard(), seen, index);
+    await_answer(rt, seen);
+    drop(held);
 }
 
 // Runs both, each in a thread of its own, and waits for them.

@@ -24,6 +24,9 @@ pub fn hold_solved<G: Game>(
     let (table, deliveries) = solve_alone(alloc, tier, tables)?;
     match tables.insert(table) {
         Ok(()) => Ok(deliveries),
-        Err(_) => Err(SolveError::OutOfMemory),
+        Err(failed) => {
+            drop(failed);
+            Err(SolveError::OutOfMemory)
+        }
     }
 }
