@@ -1,10 +1,10 @@
 //! Damaged files: each line of the input is `tier hex`, the bytes that are said to be the file of a tier; the output is one sign for each line.
+use crate::solving::solve_next;
 use gm_game::game::Game;
 use gm_game::limits::TIER_SIZE;
-use gm_solver::alone::solve_alone;
 use gm_table::checker::{CheckError, check};
 use gm_table::tables::Tables;
-use gm_tierdb::decode::decode;
+use gm_tierdb::decode::{decode, decode_v1};
 use gm_tierdb::file_error::FileError;
 use gm_tiers::order::TierOrder;
 use std::alloc::Global;
@@ -18,15 +18,6 @@ const REFUSED: char = '-';
 const UNREAD: char = '?';
 
 const OUT_OF_MEMORY: char = '!';
-
-// Solves a tier into the tables; none where memory was refused.
-fn solve_next<G: Game>(alloc: Global, tier: u64, tables: &mut Tables<G>) -> Option<()> {
-    if !tables.has_children(tier) || G::tier_size(tier) > TIER_SIZE {
-        return None;
-    }
-    let (table, _) = solve_alone(alloc, tier, tables).ok()?;
-    tables.insert(table).ok()
-}
 
 // Solves tiers one after another into the tables; none where memory was refused.
 fn solve_all<G: Game>(alloc: Global, tiers: &[u64], tables: &mut Tables<G>) -> Option<()> {
@@ -49,12 +40,23 @@ fn solved<G: Game>(alloc: Global) -> Option<Tables<G>> {
     Some(tables)
 }
 
-// Whether bytes are accepted as the file of a tier.
-fn judged<G: Game>(alloc: Global, tables: &Tables<G>, tier: u64, file: &[u8]) -> char {
+/// Whether bytes are accepted as the file of a tier, of version 1 or of the present one.
+pub fn judged<G: Game>(
+    alloc: Global,
+    tables: &Tables<G>,
+    tier: u64,
+    is_old: bool,
+    file: &[u8],
+) -> char {
     if !tables.has_children(tier) || G::tier_size(tier) > TIER_SIZE {
         return UNREAD;
     }
-    let records = match decode::<G>(alloc, tier, file) {
+    let decoded = if is_old {
+        decode_v1::<G>(alloc, tier, file)
+    } else {
+        decode::<G>(alloc, tier, file)
+    };
+    let records = match decoded {
         Ok(records) => records,
         Err(FileError::OutOfMemory) => return OUT_OF_MEMORY,
         Err(_) => return REFUSED,
@@ -73,7 +75,7 @@ fn judged_line<G: Game>(alloc: Global, tables: &Tables<G>, line: &str) -> char {
         return UNREAD;
     };
     match (tier.parse::<u64>(), hex::decode(alloc, digits)) {
-        (Ok(tier), Ok(file)) => judged(alloc, tables, tier, file.as_slice()),
+        (Ok(tier), Ok(file)) => judged(alloc, tables, tier, false, file.as_slice()),
         _ => UNREAD,
     }
 }

@@ -1,15 +1,14 @@
 //! Orders of tiers, shards and levels.
-ghost use Rattle.std.specs.Prelude.{◌≡◌, ◌≤◌, length, IsTrue, IfOk, IfSome};
+ghost use Rattle.std.specs.Prelude.{◌≡◌, ◌≤◌, length};
 ghost use Rattle.gm_game.specs.declared.position.Phase.TheVariants.{Ties};
-ghost use Rattle.gm_frontier.specs.Levels.{AreTiles, place_at};
+ghost use Rattle.gm_frontier.specs.Levels.{AreTiles};
 ghost use Rattle.gm_table.specs.Tables.{AreHeld};
-ghost use Rattle.gm_shard.specs.Begin.{AreStarts, first_state};
+ghost use Rattle.gm_shard.specs.Begin.{AreStarts};
 ghost use Rattle.gm_shard.specs.Steps.{place_of};
 ghost use Rattle.gm_testing.specs.ByHand.{IsOfTier};
 
 use crate::marks::marked;
 use crate::said::say;
-use gm_frontier::expected::Expected;
 use gm_frontier::last::Last;
 use gm_frontier::level::Level;
 use gm_frontier::run::Run;
@@ -21,7 +20,7 @@ use gm_shard::status::Start;
 use gm_table::packed::Packed;
 use gm_table::tables::Tables;
 use gm_tactix::tactix::TacTix;
-use gm_testing::by_hand::{add_fresh, begin_whole, fresh_run, last_of, starts_of, turn};
+use gm_testing::by_hand::{at_ties, begin_whole, fresh_run, last_of, starts_of};
 use gm_tiers::order::TierOrder;
 use gm_toys::countdown::Countdown;
 use std::alloc::{AllocError, Global};
@@ -200,59 +199,6 @@ fn first_level<R: Print>(rt: &R, alloc: Global, call: Call) -> io::Result<()> {
     let said = call_on_first(rt, alloc, call, 0, &tables);
     drop(tables);
     said
-}
-
-// Closes the level without wins and losses of a shard of a whole tier and turns the shard to ties: whether it has ties.
-fn turn_first<G: Game>(
-    alloc: Global,
-    shard: &mut Shard<G>,
-    expected: &mut Expected<G>,
-    tables: &Tables<G>,
-) -> Result<bool, AllocError>
-    requires first { shard.old ≡ first_state expected.old.tier 0 (G.rules.tier_size expected.old.tier) }
-    requires next { place_of shard.old ≡ place_at expected.old.tier expected.old.phase expected.old.level }
-    requires lo { expected.old.lo ≡ 0 }
-    requires hi { expected.old.hi ≡ G.rules.tier_size expected.old.tier }
-    requires children { AreHeld G.rules tables.now expected.old.tier }
-    requires small { G.rules.tier_size expected.old.tier ≤ TIER_SIZE }
-    ensures whole { IfOk result (λ turned. IsTrue turned → IsOfTier G.rules shard.new) }
-    ensures tier { IfOk result (λ turned. IsTrue turned → shard.new.tier ≡ expected.old.tier) }
-    ensures ties { IfOk result (λ turned. IsTrue turned → shard.new.phase ≡ Ties) }
-{
-    add_fresh(alloc, shard, tables, expected)?;
-    if shard.close(expected).is_err() {
-        return Ok(false);
-    }
-    turn(alloc, shard, expected, tables)
-}
-
-// The shard of a tier whose level without wins and losses is closed, at its first level of ties; none where it has no ties.
-fn at_ties<G: Game>(
-    alloc: Global,
-    tier: u64,
-    tables: &Tables<G>,
-) -> Result<Option<Shard<G>>, AllocError>
-    requires children { AreHeld G.rules tables.now tier }
-    requires small { G.rules.tier_size tier ≤ TIER_SIZE }
-    ensures whole { IfOk result (λ shard. IfSome shard (λ s. IsOfTier G.rules s)) }
-    ensures tier { IfOk result (λ shard. IfSome shard (λ s. s.tier ≡ tier)) }
-    ensures ties { IfOk result (λ shard. IfSome shard (λ s. s.phase ≡ Ties)) }
-{
-    let mut shard = begin_whole::<G>(alloc, tier)?;
-    let mut expected = Expected::start(tier, 0, G::tier_size(tier));
-    let turned = turn_first(alloc, &mut shard, &mut expected, tables);
-    drop(expected);
-    match turned {
-        Ok(true) => Ok(Some(shard)),
-        Ok(false) => {
-            drop(shard);
-            Ok(None)
-        }
-        Err(error) => {
-            drop(shard);
-            Err(error)
-        }
-    }
 }
 
 // Records with one of no position.

@@ -1,19 +1,26 @@
-//! Drills: each word makes one call that may want memory and says what it answered and what it left, for tools/hostile, which refuses its allocations one after another.
+//! Drills: each word makes one call that may want memory and says what it answered and what it left, for tools/hostile, which refuses its allocations one after
+//! another. The words `time-boards`, `time-tiers` and `time-dao` print how long calls take (docs/BENCHMARKS.md).
 #![tactic(auto)]
 
+mod board_times;
 mod damage;
 mod levels;
 mod marks;
 mod said;
+mod solver_times;
 mod solving;
 mod stores;
 mod tables;
 
+use crate::board_times::time_boards;
 use crate::damage::damage;
+use crate::solver_times::{time_dao, time_tiers};
 use gm_tactix::tactix::TacTix;
+use gm_testing::crews::Way;
 use gm_toys::countdown::Countdown;
 use std::fs::Files;
 use std::process::ExitCode;
+use std::rt::Clock;
 use std::sync::Wait;
 use std::thread::Threads;
 use std::{env, io};
@@ -84,16 +91,49 @@ fn judge<R: Print + AllocGlobal, I: io::Read + Drop>(
     Ok(true)
 }
 
+// How workers are to share a level: the third word after the program's name.
+fn way(words: &[String]) -> Way {
+    match words.get(3) {
+        Some(word) if word.as_str() == "--passes" => Way::Passes,
+        _ => Way::Pieces,
+    }
+}
+
+// Times what the first word says, up to the tier or by the workers that the second one says: whether it could be done.
+fn time<R: Print + Clock + AllocGlobal + Threads + Wait + Sync>(
+    rt: &R,
+    first: &str,
+    words: &[String],
+) -> io::Result<bool> {
+    let number = match words.get(2) {
+        Some(word) => word.as_str().parse::<u8>().ok(),
+        None => None,
+    };
+    match (first, number) {
+        ("time-boards", _) => {
+            time_boards(rt)?;
+            Ok(true)
+        }
+        ("time-tiers", Some(tier)) => time_tiers(rt, u64::from(tier)),
+        ("time-dao", Some(workers)) => time_dao(rt, Some(way(words)), usize::from(workers)),
+        ("time-dao", None) => time_dao(rt, None, 1),
+        _ => Ok(false),
+    }
+}
+
 fn main(rt: HostRuntime) -> io::Result<ExitCode> {
     let mut words = Vec::new(rt.alloc());
     for word in env::args(&rt)? {
         words.push(word)?;
     }
-    let Some(word) = words.get(1) else {
+    let Some(first) = words.get(1) else {
         return Ok(ExitCode::FAILURE);
     };
-    let word = word.as_str();
-    Ok(if drill(&rt, word)? || judge(&rt, word, rt.reader())? {
+    let first = first.as_str();
+    let is_done = drill(&rt, first)?
+        || judge(&rt, first, rt.reader())?
+        || time(&rt, first, words.as_slice())?;
+    Ok(if is_done {
         ExitCode::SUCCESS
     } else {
         ExitCode::FAILURE

@@ -10,10 +10,11 @@ use gm_solver::alone::solve_alone;
 use gm_solver::gate::NoGate;
 use gm_solver::plan::Plan;
 use gm_solver::source::Counter;
-use gm_solver::tier::{solve_passes, solve_tier};
 use gm_table::table::Table;
 use gm_table::tables::Tables;
 use gm_tactix::tactix::TacTix;
+use gm_testing::crews::{Way, solve_by};
+use gm_testing::holding::hold_solved;
 use gm_tierdb::encode::encode;
 use gm_tierdb::mem_store::MemStore;
 use gm_tierdb::store::Store;
@@ -25,14 +26,6 @@ use std::fs::Files;
 use std::io;
 use std::sync::Wait;
 use std::thread::Threads;
-
-// What solves a tier.
-#[derive(Clone, Copy, Debug)]
-enum Way {
-    Alone,
-    Pieces,
-    Passes,
-}
 
 // The records of a table and the number of deliveries, as a line; none where memory was refused.
 fn line<G: Game>(alloc: Global, table: &Table<G>, deliveries: u64) -> Result<String, AllocError> {
@@ -54,30 +47,33 @@ fn line<G: Game>(alloc: Global, table: &Table<G>, deliveries: u64) -> Result<Str
     Ok(line)
 }
 
-// Solves the first tier of a game in a way.
-fn solved<G: Game + Send + Sync, R: Threads + Wait + Sync>(
+/// Solves the first tier of a game by this many workers and shards, with this many notes in a piece, in a way, or by one thread without locks where there is
+/// no way: none where memory was refused or there is no such plan.
+pub fn solved<G: Game + Send + Sync, R: Threads + Wait + Sync>(
     rt: &R,
     alloc: Global,
-    way: Way,
+    way: Option<Way>,
+    (workers, shards, piece): (usize, usize, usize),
     tables: &Tables<G>,
 ) -> Option<(Table<G>, u64)> {
     if !tables.has_children(0) || G::tier_size(0) > TIER_SIZE {
         return None;
     }
-    let plan = Plan::new(2, 2, 1)?;
-    match way {
-        Way::Alone => solve_alone(alloc, 0, tables).ok(),
-        Way::Pieces => {
-            let solved = solve_tier(rt, alloc, 0, tables, plan, &NoGate, &Counter::new());
-            let (table, report) = solved.ok()?;
-            Some((table, report.deliveries))
-        }
-        Way::Passes => {
-            let solved = solve_passes(rt, alloc, 0, tables, plan, &NoGate, &Counter::new());
-            let (table, report) = solved.ok()?;
-            Some((table, report.deliveries))
-        }
+    let Some(way) = way else {
+        return solve_alone(alloc, 0, tables).ok();
+    };
+    let plan = Plan::new(workers, shards, piece)?;
+    let counter = Counter::new();
+    let (table, report) = solve_by(rt, alloc, 0, tables, way, plan, &NoGate, &counter).ok()?;
+    Some((table, report.deliveries))
+}
+
+/// Solves a tier by one thread and inserts its table: the number of deliveries, or none where memory was refused.
+pub fn solve_next<G: Game>(alloc: Global, tier: u64, tables: &mut Tables<G>) -> Option<u64> {
+    if !tables.has_children(tier) || G::tier_size(tier) > TIER_SIZE {
+        return None;
     }
+    hold_solved(alloc, tables, tier).ok()
 }
 
 // Prints a solved tier.
@@ -97,19 +93,19 @@ fn say_solved<G: Game, R: Print>(
 fn say_solves<G: Game + Send + Sync, R: Print + Threads + Wait + Sync>(
     rt: &R,
     alloc: Global,
-    way: Way,
+    way: Option<Way>,
     tables: &Tables<G>,
 ) -> io::Result<()> {
-    let first = marked!(alloc, solved(rt, alloc, way, tables));
+    let first = marked!(alloc, solved(rt, alloc, way, (2, 2, 1), tables));
     say_solved(rt, alloc, "answer", first)?;
-    let again = solved(rt, alloc, way, tables);
+    let again = solved(rt, alloc, way, (2, 2, 1), tables);
     say_solved(rt, alloc, "again", again)
 }
 
 // Solves the first tier of a game.
 fn solve<G: Game + Send + Sync, R: Print + AllocGlobal + Threads + Wait + Sync>(
     rt: &R,
-    way: Way,
+    way: Option<Way>,
 ) -> io::Result<()> {
     let alloc = rt.alloc();
     let tables: Tables<G> = Tables::new(alloc);
@@ -215,12 +211,12 @@ pub fn make_call<R: Print + AllocGlobal + Threads + Wait + Files + Sync>(
     word: &str,
 ) -> io::Result<bool> {
     let said = match word {
-        "alone-countdown" => solve::<Countdown<10>, R>(rt, Way::Alone),
-        "alone-wheel" => solve::<Wheel, R>(rt, Way::Alone),
-        "pieces-countdown" => solve::<Countdown<10>, R>(rt, Way::Pieces),
-        "pieces-wheel" => solve::<Wheel, R>(rt, Way::Pieces),
-        "passes-countdown" => solve::<Countdown<10>, R>(rt, Way::Passes),
-        "passes-wheel" => solve::<Wheel, R>(rt, Way::Passes),
+        "alone-countdown" => solve::<Countdown<10>, R>(rt, None),
+        "alone-wheel" => solve::<Wheel, R>(rt, None),
+        "pieces-countdown" => solve::<Countdown<10>, R>(rt, Some(Way::Pieces)),
+        "pieces-wheel" => solve::<Wheel, R>(rt, Some(Way::Pieces)),
+        "passes-countdown" => solve::<Countdown<10>, R>(rt, Some(Way::Passes)),
+        "passes-wheel" => solve::<Wheel, R>(rt, Some(Way::Passes)),
         "build" => build(rt),
         _ => return Ok(false),
     };

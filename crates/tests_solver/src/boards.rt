@@ -3,8 +3,8 @@ ghost use Rattle.std.specs.Prelude.{IfOk};
 ghost use Rattle.gm_desk.specs.Spots.{spot_of, AreFourTiles};
 
 use crate::expect::expect_eq;
+use crate::shards::first_note;
 use gm_desk::board::Four;
-use gm_frontier::note::Note;
 use gm_game::game::Game;
 use gm_game::limits::TIER_SIZE;
 use gm_shard::shard::Shard;
@@ -26,17 +26,10 @@ fn cut<G: Game>(rt: &impl Abort, alloc: Global, at: u64) -> Result<Four<Shard<G>
     cut_at(alloc, 0, at)
 }
 
-// The note of index 0, which is lost.
-fn first_note<G: Game>(rt: &impl Abort, shards: &Four<Shard<G>>) -> Note<G> {
-    let (lo, hi) = shards.a.range();
-    assert!(rt; lo == 0 && 0 < hi);
-    shards.a.note(0).expect(rt, "0 is lost")
-}
-
 #[test]
 fn board_by_hand(rt: HostRuntime) -> Result<(), Fail> {
     let shards = cut::<Ten>(&rt, rt.alloc(), 6)?;
-    let note = first_note(&rt, &shards);
+    let note = first_note(&rt, &shards.a);
     let told = Answers {
         each: [
             (Ok(Delivery::FreshSettled), 1, 0),
@@ -52,7 +45,7 @@ fn board_by_hand(rt: HostRuntime) -> Result<(), Fail> {
 #[test]
 fn board_by_hand_many_at_once(rt: HostRuntime) -> Result<(), Fail> {
     let shards = cut::<Ten>(&rt, rt.alloc(), 6)?;
-    let note = first_note(&rt, &shards);
+    let note = first_note(&rt, &shards.a);
     expect_eq(
         &rt,
         deliver_twice_by_hand(&rt, shards, &note, 1),
@@ -64,7 +57,7 @@ fn board_by_hand_many_at_once(rt: HostRuntime) -> Result<(), Fail> {
 #[test]
 fn locks_are_separate(rt: HostRuntime) -> Result<(), Fail> {
     let shards = cut::<Ten>(&rt, rt.alloc(), 2)?;
-    let note = first_note(&rt, &shards);
+    let note = first_note(&rt, &shards.a);
     let seen = Seen {
         counter: Some(1),
         answer: Some(Ok(Delivery::FreshSettled)),

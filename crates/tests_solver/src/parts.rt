@@ -68,16 +68,11 @@ fn errors_have_numbers(rt: HostRuntime) {
 fn deliveries_of_countdown(rt: HostRuntime) -> Result<(), Fail> {
     let tables: Tables<Countdown<10>> = Tables::new(rt.alloc());
     if let Some(plan) = Plan::new(2, 2, 1) {
-        let (table, report) = solve_tier(
-            &rt,
-            rt.alloc(),
-            0,
-            &tables,
-            plan,
-            &NoGate,
-            &Counter::new(),
-        )?;
+        let solved = solve_tier(&rt, rt.alloc(), 0, &tables, plan, &NoGate, &Counter::new());
+        drop(tables);
+        let (table, report) = solved?;
         expect_eq(&rt, table.at(10), win(7));
+        drop(table);
         expect_eq(&rt, report.deliveries, 19);
         expect_eq(&rt, report.by_hand, 0);
     }

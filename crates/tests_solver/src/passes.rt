@@ -8,9 +8,10 @@ use gm_game::limits::TIER_SIZE;
 use gm_shard::status::Delivery;
 use gm_table::tables::Tables;
 use gm_testing::crews::Way;
-use gm_testing::pass_desks::{Told, pass_by_hand};
+use gm_testing::pass_desks::{Passed, Told, pass_by_hand};
 use gm_testing::sources::Habit;
 use gm_toys::countdown::Countdown;
+use std::process::Abort;
 use std::test::Fail;
 
 type Ten = Countdown<10>;
@@ -35,23 +36,31 @@ fn sources_of_every_habit_by_passes(rt: HostRuntime) -> Result<(), Fail> {
     habits(&rt, Way::Passes, &by_hand)
 }
 
-#[test]
-fn desks_by_hand(rt: HostRuntime) -> Result<(), Fail> {
-    let tables: Tables<Ten> = Tables::new(rt.alloc());
-    let size = Ten::tier_size(0);
-    assert!(rt; tables.has_children(0) && 6 <= size && size <= TIER_SIZE);
-    let (low, high) = pass_by_hand(&rt, rt.alloc(), 0, 6, &tables)?;
+// What the desks below and from 6 on answered at the first level.
+fn check_desks(rt: &impl Abort, low: &Passed, high: &Passed) {
     // The note of 0 to its parents 1 and 2.
     let told: [Told; 2] = [
         (Ok(Delivery::FreshSettled), 1, false),
         (Ok(Delivery::FreshSettled), 2, true),
     ];
-    expect(&rt, !low.full_at_first);
-    expect_eq(&rt, low.each.as_slice(), told.as_slice());
-    expect_eq(&rt, low.whole, Some((2, true)));
-    expect(&rt, high.full_at_first);
-    expect(&rt, high.each.is_empty());
-    expect_eq(&rt, high.whole, Some((0, true)));
+    expect(rt, !low.full_at_first);
+    expect_eq(rt, low.each.as_slice(), told.as_slice());
+    expect_eq(rt, low.whole, Some((2, true)));
+    expect(rt, high.full_at_first);
+    expect(rt, high.each.is_empty());
+    expect_eq(rt, high.whole, Some((0, true)));
+}
+
+#[test]
+fn desks_by_hand(rt: HostRuntime) -> Result<(), Fail> {
+    let tables: Tables<Ten> = Tables::new(rt.alloc());
+    let size = Ten::tier_size(0);
+    assert!(rt; tables.has_children(0) && 6 <= size && size <= TIER_SIZE);
+    let passed = pass_by_hand(&rt, rt.alloc(), 0, 6, &tables);
+    drop(tables);
+    let (low, high) = passed?;
+    check_desks(&rt, &low, &high);
+    drop((low, high));
     Ok(())
 }
 

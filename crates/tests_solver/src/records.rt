@@ -1,7 +1,14 @@
-//! The true records of the toys.
+//! The true records of the toys, and tables that are held.
 
+use crate::expect::expect;
+use gm_game::game::Game;
+use gm_game::limits::TIER_SIZE;
 use gm_game::position::{Solved, Value};
+use gm_table::checker::check;
+use gm_table::tables::Tables;
 use std::alloc::{AllocError, Global};
+use std::process::Abort;
+use std::test::Fail;
 
 pub(crate) fn win(remoteness: u32) -> Option<Solved> {
     Some(Solved {
@@ -64,4 +71,18 @@ pub(crate) fn of_wheel(alloc: Global) -> Result<Vec<Option<Solved>>, AllocError>
         win(3),
     ]?;
     Ok(records)
+}
+
+/// Checks the records of a tier, and inserts the table that they make.
+pub(crate) fn hold<G: Game>(
+    rt: &impl Abort,
+    alloc: Global,
+    tables: &mut Tables<G>,
+    tier: u64,
+    records: &[Option<Solved>],
+) -> Result<(), Fail> {
+    assert!(rt; tables.has_children(tier) && G::tier_size(tier) <= TIER_SIZE);
+    let table = check(alloc, tier, records, tables)?;
+    expect(rt, tables.insert(table).is_ok());
+    Ok(())
 }

@@ -5,9 +5,7 @@ ghost use Rattle.gm_shard.specs.Begin.{first_state};
 use crate::expect::expect_eq;
 use crate::records::lose;
 use gm_frontier::expected::Expected;
-use gm_frontier::level::Level;
 use gm_frontier::note::Note;
-use gm_frontier::run::Run;
 use gm_game::game::Game;
 use gm_game::limits::{REMOTENESS, TIER_SIZE};
 use gm_game::position::{Phase, Solved};
@@ -16,22 +14,17 @@ use gm_shard::replay::replay;
 use gm_shard::shard::Shard;
 use gm_shard::status::{Delivery, Refused, Short, Status};
 use gm_table::tables::Tables;
-use gm_testing::by_hand::{add_fresh, begin_whole, records_of, turn};
+use gm_testing::by_hand::{add_fresh, at_ties, begin_whole, records_of};
 use gm_toys::countdown::Countdown;
 use std::alloc::{AllocError, Global};
 use std::process::Abort;
 use std::test::Fail;
 
-// Delivers a note to some parents in turn, and compares the answers.
-fn deliver<G: Game>(
-    rt: &impl Abort,
-    shard: &mut Shard<G>,
-    note: &Note<G>,
-    answers: &[(u64, Result<Delivery, Refused>)],
-) {
-    for (parent, answer) in answers {
-        assert_eq!(rt; shard.deliver(note, *parent), *answer, "to {parent}");
-    }
+/// The note of index 0, which is lost.
+pub(crate) fn first_note<G: Game>(rt: &impl Abort, shard: &Shard<G>) -> Note<G> {
+    let (lo, hi) = shard.range();
+    assert!(rt; lo == 0 && 0 < hi);
+    shard.note(0).expect(rt, "0 is lost")
 }
 
 // Closes a level with a count that is for the shard.
@@ -65,50 +58,42 @@ fn noted<G: Game>(rt: &impl Abort, shard: &Shard<G>, index: u64) -> Option<Solve
 fn first_level<G: Game>(
     rt: &impl Abort,
     shard: &mut Shard<G>,
-    level: &Level<G>,
+    notes: &[Note<G>],
     expected: &Expected<G>,
 ) {
-    assert_eq!(rt; level.len(), 1);
-    let zero = level.note(0);
-    deliver(
-        rt,
-        shard,
-        &zero,
-        &[
-            (1, Ok(Delivery::FreshSettled)),
-            (1, Ok(Delivery::Repeat)),
-            (5, Err(Refused::NotAParent)),
-            (11, Err(Refused::NotMine)),
-        ],
-    );
+    assert_eq!(rt; notes.len(), 1);
+    let zero = &notes[0];
+    expect_eq(rt, shard.deliver(zero, 1), Ok(Delivery::FreshSettled));
+    expect_eq(rt, shard.deliver(zero, 1), Ok(Delivery::Repeat));
+    expect_eq(rt, shard.deliver(zero, 5), Err(Refused::NotAParent));
+    expect_eq(rt, shard.deliver(zero, 11), Err(Refused::NotMine));
     let short = Short {
         delivered: 1,
         expected: 2,
     };
     expect_eq(rt, close(rt, shard, expected), Err(short));
-    deliver(rt, shard, &zero, &[(2, Ok(Delivery::FreshSettled))]);
+    expect_eq(rt, shard.deliver(zero, 2), Ok(Delivery::FreshSettled));
     expect_eq(rt, close(rt, shard, expected), Ok(()));
-    deliver(rt, shard, &zero, &[(1, Err(Refused::NotThisLevel))]);
+    expect_eq(rt, shard.deliver(zero, 1), Err(Refused::NotThisLevel));
 }
 
 // The note of 1 at the second level: 2 and 3 have it among their children.
 fn one_at_second_level<G: Game>(rt: &impl Abort, shard: &mut Shard<G>, note: &Note<G>) {
-    deliver(rt, shard, note, &[(2, Ok(Delivery::Fresh))]);
+    expect_eq(rt, shard.deliver(note, 2), Ok(Delivery::Fresh));
     expect_eq(rt, known(rt, shard, 2).1, 0);
-    deliver(rt, shard, note, &[(3, Ok(Delivery::Fresh))]);
+    expect_eq(rt, shard.deliver(note, 3), Ok(Delivery::Fresh));
     expect_eq(rt, known(rt, shard, 3), (Status::Undecided, 1));
 }
 
 // The note of 2: 3 has no other child left.
 fn two_at_second_level<G: Game>(rt: &impl Abort, shard: &mut Shard<G>, note: &Note<G>) {
-    deliver(rt, shard, note, &[(3, Ok(Delivery::FreshSettled))]);
+    expect_eq(rt, shard.deliver(note, 3), Ok(Delivery::FreshSettled));
     expect_eq(rt, noted(rt, shard, 3), lose(2));
     expect_eq(rt, shard.delivered(), 5);
 }
 
 // The second level: the notes of 1 and 2, of which 3 has both as children.
-fn second_level<G: Game>(rt: &impl Abort, shard: &mut Shard<G>, fresh: &Run<G>) {
-    let notes = fresh.list();
+fn second_level<G: Game>(rt: &impl Abort, shard: &mut Shard<G>, notes: &[Note<G>]) {
     assert_eq!(rt; notes.len(), 2);
     expect_eq(rt, notes[0].position().index, 1);
     expect_eq(rt, notes[1].position().index, 2);
@@ -116,6 +101,21 @@ fn second_level<G: Game>(rt: &impl Abort, shard: &mut Shard<G>, fresh: &Run<G>) 
     two_at_second_level(rt, shard, &notes[1]);
     expect_eq(rt, shard.tier(), 0);
     expect_eq(rt, shard.phase(), Phase::WinLose);
+}
+
+// The count of the first level of a shard over all of Countdown.
+fn first_expected(
+    alloc: Global,
+    shard: &Shard<Countdown<10>>,
+) -> Result<Expected<Countdown<10>>, AllocError>
+    requires { shard.now ≡ first_state 0 0 11 }
+{
+    let mut expected = Expected::start(0, 0, 11);
+    let tables: Tables<Countdown<10>> = Tables::new(alloc);
+    let added = add_fresh(alloc, shard, &tables, &mut expected);
+    drop(tables);
+    added?;
+    Ok(expected)
 }
 
 // The first two levels of a shard over all of Countdown.
@@ -126,14 +126,13 @@ fn two_levels(
 ) -> Result<(), AllocError>
     requires { shard.old ≡ first_state 0 0 11 }
 {
-    let tables: Tables<Countdown<10>> = Tables::new(alloc);
-    let runs = vec![in alloc; shard.fresh(alloc)?]?;
-    let level = Level::gather(alloc, shard.place(), runs.as_slice(), &tables)?;
-    let mut expected = Expected::start(0, 0, 11);
-    expected.add(&level);
-    first_level(rt, shard, &level, &expected);
+    let expected = first_expected(alloc, shard)?;
     let fresh = shard.fresh(alloc)?;
-    second_level(rt, shard, &fresh);
+    first_level(rt, shard, fresh.list(), &expected);
+    drop((fresh, expected));
+    let fresh = shard.fresh(alloc)?;
+    second_level(rt, shard, fresh.list());
+    drop(fresh);
     Ok(())
 }
 
@@ -145,28 +144,8 @@ fn one_shard_by_hand(rt: HostRuntime) -> Result<(), Fail> {
     Ok(done?)
 }
 
-// Takes a shard over a tier whose only level is the first one to its end.
-fn records_at_end<G: Game>(
-    rt: &impl Abort,
-    alloc: Global,
-    tables: &Tables<G>,
-    tier: u64,
-    shard: &mut Shard<G>,
-) -> Result<Vec<Option<Solved>>, AllocError>
-    requires children { AreHeld G.rules tables.now tier }
-    requires small { G.rules.tier_size tier ≤ TIER_SIZE }
-    requires first { shard.old ≡ first_state tier 0 (G.rules.tier_size tier) }
-{
-    let mut expected = Expected::start(tier, 0, G::tier_size(tier));
-    add_fresh(alloc, shard, tables, &mut expected)?;
-    assert_eq!(rt; shard.close(&expected), Ok(()));
-    assert!(rt; turn(alloc, shard, &mut expected, tables)?);
-    records_of(alloc, shard, tables)
-}
-
-// The records of a tier whose only level is the first one.
+// The records of a tier whose only level is the first one, or none where it has another.
 fn to_its_end<G: Game>(
-    rt: &impl Abort,
     alloc: Global,
     tables: &Tables<G>,
     tier: u64,
@@ -174,8 +153,10 @@ fn to_its_end<G: Game>(
     requires children { AreHeld G.rules tables.now tier }
     requires small { G.rules.tier_size tier ≤ TIER_SIZE }
 {
-    let mut shard = begin_whole::<G>(alloc, tier)?;
-    let records = records_at_end(rt, alloc, tables, tier, &mut shard);
+    let Some(shard) = at_ties(alloc, tier, tables)? else {
+        return Ok(Vec::new(alloc));
+    };
+    let records = records_of(alloc, &shard, tables);
     drop(shard);
     records
 }
@@ -183,8 +164,9 @@ fn to_its_end<G: Game>(
 #[test]
 fn one_position_to_its_end(rt: HostRuntime) -> Result<(), Fail> {
     let tables: Tables<Countdown<0>> = Tables::new(rt.alloc());
-    let records = to_its_end(&rt, rt.alloc(), &tables, 0)?;
-    expect_eq(&rt, records.as_slice(), [lose(0)].as_slice());
+    let records = to_its_end(rt.alloc(), &tables, 0);
+    drop(tables);
+    expect_eq(&rt, records?.as_slice(), [lose(0)].as_slice());
     Ok(())
 }
 
@@ -206,19 +188,11 @@ fn deliveries(
 
 // The deliveries of the only note of the first level, and the close of that level.
 fn first_events(
-    rt: &impl Abort,
     alloc: Global,
-    shard: &Shard<Countdown<10>>,
-) -> Result<Vec<Event<Countdown<10>>>, AllocError>
-    requires { shard.now ≡ first_state 0 0 11 }
-{
-    let tables: Tables<Countdown<10>> = Tables::new(alloc);
-    let runs = vec![in alloc; shard.fresh(alloc)?]?;
-    let level = Level::gather(alloc, shard.place(), runs.as_slice(), &tables)?;
-    let mut expected = Expected::start(0, 0, 11);
-    expected.add(&level);
-    assert_eq!(rt; level.len(), 1);
-    let mut events = deliveries(alloc, level.note(0))?;
+    note: Note<Countdown<10>>,
+    expected: Expected<Countdown<10>>,
+) -> Result<Vec<Event<Countdown<10>>>, AllocError> {
+    let mut events = deliveries(alloc, note)?;
     events.push(Event::Close { shard: 0, expected })?;
     Ok(events)
 }
@@ -226,12 +200,19 @@ fn first_events(
 #[test]
 fn replay_of_a_level(rt: HostRuntime) -> Result<(), Fail> {
     let shard = begin_whole::<Countdown<10>>(rt.alloc(), 0)?;
-    let events = first_events(&rt, rt.alloc(), &shard);
-    let mut shards = vec![in rt.alloc(); shard]?;
-    let applied = replay(shards.as_mut_slice(), events?.as_slice());
-    expect_eq(&rt, applied, 3);
-    assert_eq!(rt; shards.len(), 1);
-    expect_eq(&rt, shards[0].level(), 1);
+    let note = first_note(&rt, &shard);
+    let expected = first_expected(rt.alloc(), &shard);
+    let mut shards = [shard];
+    let events = match expected {
+        Ok(expected) => first_events(rt.alloc(), note, expected),
+        Err(error) => Err(error),
+    };
+    if let Ok(events) = &events {
+        expect_eq(&rt, replay(&mut shards, events.as_slice()), 3);
+        expect_eq(&rt, shards[0].level(), 1);
+    }
+    drop(shards);
+    let _events = events?;
     Ok(())
 }
 

@@ -2,6 +2,7 @@
 use crate::expect::expect_eq;
 use crate::records::{lose, of_countdown, of_wheel, win};
 use gm_game::game::Game;
+use gm_game::limits::TIER_SIZE;
 use gm_game::position::{Position, Solved};
 use gm_solver::alone::solve_alone;
 use gm_solver::error::SolveError;
@@ -12,6 +13,7 @@ use gm_toys::chain::Chain;
 use gm_toys::countdown::Countdown;
 use gm_toys::stairs::Stairs;
 use gm_toys::wheel::Wheel;
+use std::alloc::Global;
 use std::process::Abort;
 use std::test::Fail;
 
@@ -23,58 +25,89 @@ fn check_table<G: Game>(rt: &impl Abort, table: &Table<G>, records: &[Option<Sol
     }
 }
 
-#[test]
-fn countdown_table(rt: HostRuntime) -> Result<(), Fail> {
-    let records = of_countdown(rt.alloc())?;
-    let tables: Tables<Countdown<10>> = Tables::new(rt.alloc());
-    let (table, deliveries) = solve_alone(rt.alloc(), 0, &tables)?;
-    check_table(&rt, &table, records.as_slice());
-    expect_eq(&rt, deliveries, 19);
+// A game of one tier that is solved by one thread: its records and the number of deliveries.
+fn solves<G: Game>(
+    rt: &impl Abort,
+    alloc: Global,
+    records: &[Option<Solved>],
+    wanted: u64,
+) -> Result<(), Fail> {
+    let tables: Tables<G> = Tables::new(alloc);
+    assert!(rt; tables.has_children(0) && G::tier_size(0) <= TIER_SIZE);
+    let solved = solve_alone(alloc, 0, &tables);
+    drop(tables);
+    let (table, deliveries) = solved?;
+    check_table(rt, &table, records);
+    drop(table);
+    expect_eq(rt, deliveries, wanted);
     Ok(())
 }
 
 #[test]
+fn countdown_table(rt: HostRuntime) -> Result<(), Fail> {
+    let records = of_countdown(rt.alloc())?;
+    let solved = solves::<Countdown<10>>(&rt, rt.alloc(), records.as_slice(), 19);
+    drop(records);
+    solved
+}
+
+#[test]
 fn countdown_of_nothing(rt: HostRuntime) -> Result<(), Fail> {
-    let tables: Tables<Countdown<0>> = Tables::new(rt.alloc());
-    let (table, deliveries) = solve_alone(rt.alloc(), 0, &tables)?;
-    expect_eq(&rt, table.size(), 1);
-    expect_eq(&rt, table.at(0), lose(0));
-    expect_eq(&rt, deliveries, 0);
-    Ok(())
+    solves::<Countdown<0>>(&rt, rt.alloc(), &[lose(0)], 0)
 }
 
 #[test]
 fn wheel_table(rt: HostRuntime) -> Result<(), Fail> {
     let records = of_wheel(rt.alloc())?;
-    let tables: Tables<Wheel> = Tables::new(rt.alloc());
-    let (table, deliveries) = solve_alone(rt.alloc(), 0, &tables)?;
-    check_table(&rt, &table, records.as_slice());
-    expect_eq(&rt, deliveries, 9);
-    Ok(())
+    let solved = solves::<Wheel>(&rt, rt.alloc(), records.as_slice(), 9);
+    drop(records);
+    solved
 }
 
 #[test]
 fn chain_at_the_limit(rt: HostRuntime) -> Result<(), Fail> {
     let far: Tables<Chain<1048576>> = Tables::new(rt.alloc());
     let refused = solve_alone(rt.alloc(), 0, &far).err();
-    expect_eq(&rt, refused, Some(SolveError::TooFar { tier: 0 }));
     drop(far);
+    expect_eq(&rt, refused, Some(SolveError::TooFar { tier: 0 }));
     let tables: Tables<Chain<1048575>> = Tables::new(rt.alloc());
-    let (table, deliveries) = solve_alone(rt.alloc(), 0, &tables)?;
+    let solved = solve_alone(rt.alloc(), 0, &tables);
+    drop(tables);
+    let (table, deliveries) = solved?;
     expect_eq(&rt, table.at(1_048_575), win(1_048_575));
+    drop(table);
     expect_eq(&rt, deliveries, 1_048_575);
     Ok(())
+}
+
+// The next step of the stairs, solved with this many pairs.
+fn step<G: Game>(
+    rt: &impl Abort,
+    alloc: Global,
+    tables: &mut Tables<G>,
+    tier: u64,
+    pairs: u64,
+) -> Result<(), Fail> {
+    assert!(rt; tables.has_children(tier) && G::tier_size(tier) <= TIER_SIZE);
+    expect_eq(rt, hold_solved(alloc, tables, tier)?, pairs);
+    Ok(())
+}
+
+// One pair for each step, three in all.
+fn steps<G: Game>(rt: &impl Abort, alloc: Global, tables: &mut Tables<G>) -> Result<(), Fail> {
+    step(rt, alloc, tables, 0, 0)?;
+    step(rt, alloc, tables, 1, 1)?;
+    step(rt, alloc, tables, 2, 1)?;
+    step(rt, alloc, tables, 3, 1)
 }
 
 #[test]
 fn stairs_over_empty_levels(rt: HostRuntime) -> Result<(), Fail> {
     let mut tables: Tables<Stairs<3>> = Tables::new(rt.alloc());
-    // One pair for each step, three in all.
-    for (tier, pairs) in [(0, 0), (1, 1), (2, 1), (3, 1)] {
-        assert!(rt; tables.has_children(tier));
-        expect_eq(&rt, hold_solved(rt.alloc(), &mut tables, tier)?, pairs);
-    }
-    let top = Position { tier: 3, index: 0 };
-    expect_eq(&rt, tables.get(top), win(3));
+    let solved = steps(&rt, rt.alloc(), &mut tables);
+    let top = tables.get(Position { tier: 3, index: 0 });
+    drop(tables);
+    solved?;
+    expect_eq(&rt, top, win(3));
     Ok(())
 }

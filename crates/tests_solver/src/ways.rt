@@ -62,10 +62,11 @@ pub fn two_meet<R: Threads + Wait + Sync + AllocGlobal + Abort>(
     level: u32,
 ) -> Result<(), Fail> {
     let meeting = Meeting::at(level);
-    let found = ten_by(rt, way, 1, &meeting, &OwnPieces::new())?;
+    let found = ten_by(rt, way, 1, &meeting, &OwnPieces::new());
     expect_eq(rt, *meeting.arrived.lock(rt), [true; 2]);
     expect(rt, !*meeting.gave_up.lock(rt));
-    expect_eq(rt, found, ten(0));
+    drop(meeting);
+    expect_eq(rt, found?, ten(0));
     Ok(())
 }
 
@@ -76,8 +77,8 @@ pub fn habits<R: Threads + Wait + Sync + AllocGlobal + Abort>(
     habits: &[(Habit, u64)],
 ) -> Result<(), Fail> {
     for (habit, by_hand) in habits {
-        let found = ten_by(rt, way, 1, &NoGate, &Odd::new(*habit))?;
-        expect_eq(rt, found, ten(*by_hand));
+        let found = ten_by(rt, way, 1, &NoGate, &Odd::new(*habit));
+        expect_eq(rt, found?, ten(*by_hand));
     }
     Ok(())
 }
@@ -97,19 +98,20 @@ pub fn wheel<R: Threads + Wait + Sync + AllocGlobal + Abort>(
         (2, 2, 1),
         &NoGate,
         &source,
-    )?;
+    );
+    drop(source);
     let last = Solved {
         value: Value::Win,
         remoteness: 3,
     };
-    expect_eq(rt, found, as_alone(last, 9, by_hand));
+    expect_eq(rt, found?, as_alone(last, 9, by_hand));
     Ok(())
 }
 
 /// A gate that takes its time.
 pub fn slow<R: Threads + Wait + Sync + AllocGlobal + Abort>(rt: &R, way: Way) -> Result<(), Fail> {
-    let found = ten_by(rt, way, 1, &SlowGate::new(), &Counter::new())?;
-    expect_eq(rt, found, ten(0));
+    let found = ten_by(rt, way, 1, &SlowGate::new(), &Counter::new());
+    expect_eq(rt, found?, ten(0));
     Ok(())
 }
 
@@ -120,10 +122,11 @@ pub fn counted<R: Threads + Wait + Sync + AllocGlobal + Abort>(
     piece: usize,
 ) -> Result<(), Fail> {
     let gate = Turnstile::new();
-    let found = ten_by(rt, way, piece, &gate, &Counter::new())?;
-    expect_eq(rt, found, ten(0));
+    let found = ten_by(rt, way, piece, &gate, &Counter::new());
     expect_eq(rt, gate.before.load(Ordering::SeqCst), 19);
     expect_eq(rt, gate.after.load(Ordering::SeqCst), 19);
+    drop(gate);
+    expect_eq(rt, found?, ten(0));
     Ok(())
 }
 
@@ -149,17 +152,33 @@ pub fn long_chain<R: Threads + Wait + Sync + AllocGlobal + Abort>(
     Ok(())
 }
 
-// The tables of the tiers 0 to 2 of Stairs from 3, which are the same by one shard.
-fn lower_stairs<R: Threads + Wait + Sync + AllocGlobal + Abort>(
+// One tier of Stairs, which is the same by one shard.
+fn same_step<R: Threads + Wait + Sync + AllocGlobal + Abort>(
     rt: &R,
+    tables: &mut Tables<Stairs<3>>,
+    tier: u64,
     plan: Plan,
-) -> Result<Tables<Stairs<3>>, Fail> {
-    let mut tables: Tables<Stairs<3>> = Tables::new(rt.alloc());
-    for tier in 0..3 {
-        assert!(rt; tables.has_children(tier));
-        expect(rt, hold_same(rt, rt.alloc(), &mut tables, tier, plan)?);
-    }
-    Ok(tables)
+) -> Result<(), Fail> {
+    assert!(rt; tables.has_children(tier));
+    expect(rt, hold_same(rt, rt.alloc(), tables, tier, plan)?);
+    Ok(())
+}
+
+// The last tier of Stairs over the others, by a source: the number of its deliveries.
+fn last_step<R: Threads + Wait + Sync + AllocGlobal + Abort>(
+    rt: &R,
+    tables: &mut Tables<Stairs<3>>,
+    way: Way,
+    source: &Odd,
+) -> Result<u64, Fail> {
+    let plan = Plan::new(2, 2, 1).expect(rt, "a plan");
+    same_step(rt, tables, 0, plan)?;
+    same_step(rt, tables, 1, plan)?;
+    same_step(rt, tables, 2, plan)?;
+    assert!(rt; tables.has_children(3));
+    let (table, report) = solve_by(rt, rt.alloc(), 3, tables, way, plan, &NoGate, source)?;
+    drop(table);
+    Ok(report.deliveries)
 }
 
 /// The last tier of Stairs from 3, of one delivery, by a source that hands out each piece twice: how many levels are begun, how many pieces the source is told
@@ -168,15 +187,16 @@ pub fn asked_on_stairs<R: Threads + Wait + Sync + AllocGlobal + Abort>(
     rt: &R,
     way: Way,
 ) -> Result<(usize, usize, usize), Fail> {
-    let plan = Plan::new(2, 2, 1).expect(rt, "a plan");
-    let tables = lower_stairs(rt, plan)?;
-    assert!(rt; tables.has_children(3));
+    let mut tables: Tables<Stairs<3>> = Tables::new(rt.alloc());
     let source = Odd::new(Habit::Twice);
-    let (_table, report) = solve_by(rt, rt.alloc(), 3, &tables, way, plan, &NoGate, &source)?;
-    expect_eq(rt, report.deliveries, 1);
-    Ok((
+    let deliveries = last_step(rt, &mut tables, way, &source);
+    drop(tables);
+    let counts = (
         source.levels.load(Ordering::SeqCst),
         source.told.load(Ordering::SeqCst),
         source.asks.load(Ordering::SeqCst),
-    ))
+    );
+    drop(source);
+    expect_eq(rt, deliveries?, 1);
+    Ok(counts)
 }

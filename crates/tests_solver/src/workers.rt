@@ -1,6 +1,8 @@
 //! Tiers solved by workers that take pieces of a level, whatever their source and gate do.
 use crate::expect::{expect, expect_eq};
 use crate::ways::{asked_on_stairs, counted, habits, long_chain, slow, two_meet, wheel};
+use gm_game::game::Game;
+use gm_game::limits::TIER_SIZE;
 use gm_game::position::{Solved, Value};
 use gm_solver::gate::NoGate;
 use gm_solver::plan::Plan;
@@ -63,19 +65,28 @@ fn levels_of_stairs(rt: HostRuntime) -> Result<(), Fail> {
     Ok(())
 }
 
-// Countdown and Wheel by this many workers and shards, the same as by one shard.
+// The first tier of a game by this plan, the same as by one shard.
+fn same_first<G: Game + Send + Sync, R: Threads + Wait + Sync + AllocGlobal + Abort>(
+    rt: &R,
+    plan: Plan,
+) -> Result<(), Fail> {
+    let mut tables: Tables<G> = Tables::new(rt.alloc());
+    assert!(rt; tables.has_children(0) && G::tier_size(0) <= TIER_SIZE);
+    let same = hold_same(rt, rt.alloc(), &mut tables, 0, plan);
+    drop(tables);
+    expect(rt, same?);
+    Ok(())
+}
+
+// Countdown and Wheel by this many workers and shards.
 fn same_by<R: Threads + Wait + Sync + AllocGlobal + Abort>(
     rt: &R,
     workers: usize,
     shards: usize,
 ) -> Result<(), Fail> {
     let plan = Plan::new(workers, shards, 1).expect(rt, "a plan");
-    let mut tables: Tables<Countdown<10>> = Tables::new(rt.alloc());
-    expect(rt, hold_same(rt, rt.alloc(), &mut tables, 0, plan)?);
-    drop(tables);
-    let mut tables: Tables<Wheel> = Tables::new(rt.alloc());
-    expect(rt, hold_same(rt, rt.alloc(), &mut tables, 0, plan)?);
-    Ok(())
+    same_first::<Countdown<10>, R>(rt, plan)?;
+    same_first::<Wheel, R>(rt, plan)
 }
 
 #[test]
