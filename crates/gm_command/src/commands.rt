@@ -1,6 +1,6 @@
 //! The program's command line, by clap.
 
-use crate::lines::{Kind, LINES, Line, Word};
+use crate::lines::{Kind, Line, Word, lines};
 use clap::{Arg, ArgAction, Command, value_parser};
 use std::alloc::{AllocError, Global};
 
@@ -70,8 +70,8 @@ fn command_of<'a>(alloc: Global, line: &'static Line) -> Result<Command<'a>, All
 
 // Adds all commands.
 fn add_commands<'a>(alloc: Global, all: &mut Vec<Command<'a>>) -> Result<(), AllocError> {
-    for line in &LINES {
-        all.push(command_of(alloc, line)?)?;
+    for line in &lines() {
+        all.push(command_of(alloc, *line)?)?;
     }
     Ok(())
 }

@@ -85,259 +85,289 @@ const REACHED: Word = Word {
     help: "Those alone that play from the start can reach",
 };
 
-/// All commands, in the order of the help.
-pub(crate) static LINES: [Line; 14] = [
-    Line {
-        name: "list",
-        alias: None,
-        about: "Lists the games",
-        examples: "Examples:\n  gamesman list\n  gamesman list | grep tactix",
-        words: &[],
-    },
-    Line {
-        name: "solve",
-        alias: None,
-        about: "Solves a game into a folder, which has to be there; tables that are there and true are kept",
-        examples: "Examples:\n  gamesman solve countdown tables\n  gamesman solve dao tables --workers 8 --progress",
-        words: &[
-            GAME,
-            Word {
-                name: "FOLDER",
-                kind: Kind::Word,
-                help: "The folder for the tables",
-            },
-            Word {
-                name: "workers",
-                kind: Kind::Number {
-                    shown: Some("N"),
-                    least: 1,
-                    most: 16,
-                    default: Some("4"),
-                },
-                help: "How many threads deliver, 1 to 16",
-            },
-            Word {
-                name: "shards",
-                kind: Kind::Number {
-                    shown: Some("N"),
-                    least: 1,
-                    most: 4,
-                    default: Some("4"),
-                },
-                help: "Into how many parts a tier is split, 1 to 4",
-            },
-            Word {
-                name: "piece",
-                kind: Kind::Number {
-                    shown: Some("N"),
-                    least: 1,
-                    most: 4096,
-                    default: Some("512"),
-                },
-                help: "How many notes a thread takes at a time, 1 to 4096",
-            },
-            Word {
-                name: "progress",
-                kind: Kind::Flag,
-                help: "Tells on standard error, a few times a second, how far it is",
-            },
-        ],
-    },
-    Line {
-        name: "query",
-        alias: None,
-        about: "Answers the value of a position and the number of moves to the end",
-        examples: "Examples:\n  gamesman query countdown 10\n  gamesman query hare 'dd.d......h d' --folder tables",
-        words: &[
-            GAME,
-            Word {
-                name: "POSITION",
-                kind: Kind::Word,
-                help: "The position, as `10` in countdown, `x...o....` in tictactoe or `dd.d......h d` in hare",
-            },
-            FOLDER,
-            READ_ONLY,
-        ],
-    },
-    Line {
-        name: "moves",
-        alias: None,
-        about: "Lists the moves of a position, the best first: what each is worth, and its result",
-        examples: "Examples:\n  gamesman moves tictactoe xo.......\n  gamesman moves dao --distinct --folder tables",
-        words: &[
-            GAME,
-            START,
-            Word {
-                name: "distinct",
-                kind: Kind::Flag,
-                help: "Of moves that lead to positions that are the same but for symmetry, the first alone",
-            },
-            JSON,
-            FOLDER,
-            READ_ONLY,
-        ],
-    },
-    Line {
-        name: "line",
-        alias: None,
-        about: "Plays the best moves of both sides from a position to the end",
-        examples: "Examples:\n  gamesman line tactix-3\n  gamesman line wheel 3 --limit 4",
-        words: &[
-            GAME,
-            START,
-            Word {
-                name: "limit",
-                kind: Kind::Number {
-                    shown: Some("N"),
-                    least: 1,
-                    most: MOST,
-                    default: None,
-                },
-                help: "The most moves that are made, from 1 on",
-            },
-            JSON,
-            FOLDER,
-            READ_ONLY,
-        ],
-    },
-    Line {
-        name: "show",
-        alias: None,
-        about: "Draws the board of a position, with who is to move and the value; of the start also how cells, positions and moves are written",
-        examples: "Examples:\n  gamesman show tictactoe\n  gamesman show dao x..o.xo..ox.o..x",
-        words: &[GAME, START, FOLDER, READ_ONLY],
-    },
-    Line {
-        name: "find",
-        alias: None,
-        about: "Lists the positions of a value, of those that are the same but for symmetry one: its value, its best move and the number of its moves",
-        examples: "Examples:\n  gamesman find countdown --value win --limit 3\n  gamesman find dao --value win --remoteness 11 --only-move --limit 1",
-        words: &[
-            GAME,
-            Word {
-                name: "value",
-                kind: Kind::Text {
-                    shown: None,
-                    required: true,
-                },
-                help: "The value: win, tie, draw or lose",
-            },
-            Word {
-                name: "remoteness",
-                kind: Kind::Number {
-                    shown: None,
-                    least: 0,
-                    most: MOST,
-                    default: None,
-                },
-                help: "The number of moves to the end: none with draw",
-            },
-            Word {
-                name: "tier",
-                kind: Kind::Tier,
-                help: "Of this tier alone",
-            },
-            Word {
-                name: "only-move",
-                kind: Kind::Flag,
-                help: "Those alone from which exactly one move keeps the win or the tie",
-            },
-            REACHED,
-            Word {
-                name: "limit",
-                kind: Kind::Number {
-                    shown: None,
-                    least: 1,
-                    most: MOST,
-                    default: None,
-                },
-                help: "The most positions that are listed, from 1 on",
-            },
-            JSON,
-            FOLDER,
-            READ_ONLY,
-        ],
-    },
-    Line {
-        name: "counts",
-        alias: None,
-        about: "Counts the positions of a game by value and remoteness, with bars",
-        examples: "Examples:\n  gamesman counts countdown\n  gamesman counts tactix-3 --reached",
-        words: &[GAME, REACHED, FOLDER, READ_ONLY],
-    },
-    Line {
-        name: "ask",
-        alias: None,
-        about: "Reads positions, a line each, and answers each with a line of JSON: its value and what its moves are worth",
-        examples: "Examples:\n  echo 10 | gamesman ask countdown\n  gamesman ask dao --folder tables --read-only < positions",
-        words: &[GAME, FOLDER, READ_ONLY],
-    },
-    Line {
-        name: "analyse",
-        alias: Some("analyze"),
-        about: "Counts the positions of a game by value and remoteness, one line of JSON for each tier",
-        examples: "Examples:\n  gamesman analyse countdown\n  gamesman analyse dao --folder tables",
-        words: &[GAME, FOLDER, READ_ONLY],
-    },
-    Line {
-        name: "check",
-        alias: None,
-        about: "Checks the tables of a game in a folder, tier by tier",
-        examples: "Examples:\n  gamesman check countdown tables\n  gamesman check dao tables",
-        words: &[
-            GAME,
-            Word {
-                name: "FOLDER",
-                kind: Kind::Word,
-                help: "The folder of the tables",
-            },
-        ],
-    },
-    Line {
-        name: "play",
-        alias: None,
-        about: "Plays a game with you from its start: type a move, as `1` in countdown or `a1` in tictactoe, or `quit`",
-        examples: "Examples:\n  gamesman play tictactoe --show\n  gamesman play countdown --from 7 --second",
-        words: &[
-            GAME,
-            FOLDER,
-            READ_ONLY,
-            Word {
-                name: "second",
-                kind: Kind::Flag,
-                help: "Lets the computer move first",
-            },
-            Word {
-                name: "from",
-                kind: Kind::Text {
-                    shown: Some("POSITION"),
-                    required: false,
-                },
-                help: "Begins at this position; you are the side to move, or with `--second` the other one",
-            },
-            Word {
-                name: "show",
-                kind: Kind::Flag,
-                help: "Draws the board before each question, with you as `x` where a game has `x` and `o`",
-            },
-        ],
-    },
-    Line {
-        name: "completions",
-        alias: None,
-        about: "Prints the completions of a shell, for it to read at its start",
-        examples: "Examples:\n  gamesman completions bash > ~/.local/share/bash-completion/completions/gamesman\n  gamesman completions fish > ~/.config/fish/completions/gamesman.fish",
-        words: &[Word {
-            name: "SHELL",
+static LIST: Line = Line {
+    name: "list",
+    alias: None,
+    about: "Lists the games",
+    examples: "Examples:\n  gamesman list\n  gamesman list | grep tactix",
+    words: &[],
+};
+
+static SOLVE: Line = Line {
+    name: "solve",
+    alias: None,
+    about: "Solves a game into a folder, which has to be there; tables that are there and true are kept",
+    examples: "Examples:\n  gamesman solve countdown tables\n  gamesman solve dao tables --workers 8 --progress",
+    words: &[
+        GAME,
+        Word {
+            name: "FOLDER",
             kind: Kind::Word,
-            help: "The shell: bash, zsh or fish",
-        }],
-    },
-    Line {
-        name: "man",
-        alias: None,
-        about: "Prints the manual page",
-        examples: "Examples:\n  gamesman man > gamesman.1\n  gamesman man | man -l -",
-        words: &[],
-    },
-];
+            help: "The folder for the tables",
+        },
+        Word {
+            name: "workers",
+            kind: Kind::Number {
+                shown: Some("N"),
+                least: 1,
+                most: 16,
+                default: Some("4"),
+            },
+            help: "How many threads deliver, 1 to 16",
+        },
+        Word {
+            name: "shards",
+            kind: Kind::Number {
+                shown: Some("N"),
+                least: 1,
+                most: 4,
+                default: Some("4"),
+            },
+            help: "Into how many parts a tier is split, 1 to 4",
+        },
+        Word {
+            name: "piece",
+            kind: Kind::Number {
+                shown: Some("N"),
+                least: 1,
+                most: 4096,
+                default: Some("512"),
+            },
+            help: "How many notes a thread takes at a time, 1 to 4096",
+        },
+        Word {
+            name: "progress",
+            kind: Kind::Flag,
+            help: "Tells on standard error, a few times a second, how far it is",
+        },
+    ],
+};
+
+static QUERY: Line = Line {
+    name: "query",
+    alias: None,
+    about: "Answers the value of a position and the number of moves to the end",
+    examples: "Examples:\n  gamesman query countdown 10\n  gamesman query hare 'dd.d......h d' --folder tables",
+    words: &[
+        GAME,
+        Word {
+            name: "POSITION",
+            kind: Kind::Word,
+            help: "The position, as `10` in countdown, `x...o....` in tictactoe or `dd.d......h d` in hare",
+        },
+        FOLDER,
+        READ_ONLY,
+    ],
+};
+
+static MOVES: Line = Line {
+    name: "moves",
+    alias: None,
+    about: "Lists the moves of a position, the best first: what each is worth, and its result",
+    examples: "Examples:\n  gamesman moves tictactoe xo.......\n  gamesman moves dao --distinct --folder tables",
+    words: &[
+        GAME,
+        START,
+        Word {
+            name: "distinct",
+            kind: Kind::Flag,
+            help: "Of moves that lead to positions that are the same but for symmetry, the first alone",
+        },
+        JSON,
+        FOLDER,
+        READ_ONLY,
+    ],
+};
+
+static LINE: Line = Line {
+    name: "line",
+    alias: None,
+    about: "Plays the best moves of both sides from a position to the end",
+    examples: "Examples:\n  gamesman line tactix-3\n  gamesman line wheel 3 --limit 4",
+    words: &[
+        GAME,
+        START,
+        Word {
+            name: "limit",
+            kind: Kind::Number {
+                shown: Some("N"),
+                least: 1,
+                most: MOST,
+                default: None,
+            },
+            help: "The most moves that are made, from 1 on",
+        },
+        JSON,
+        FOLDER,
+        READ_ONLY,
+    ],
+};
+
+static SHOW: Line = Line {
+    name: "show",
+    alias: None,
+    about: "Draws the board of a position, with who is to move and the value; of the start also how cells, positions and moves are written",
+    examples: "Examples:\n  gamesman show tictactoe\n  gamesman show dao x..o.xo..ox.o..x",
+    words: &[GAME, START, FOLDER, READ_ONLY],
+};
+
+static FIND: Line = Line {
+    name: "find",
+    alias: None,
+    about: "Lists the positions of a value, of those that are the same but for symmetry one: its value, its best move and the number of its moves",
+    examples: "Examples:\n  gamesman find countdown --value win --limit 3\n  gamesman find dao --value win --remoteness 11 --only-move --limit 1",
+    words: &[
+        GAME,
+        Word {
+            name: "value",
+            kind: Kind::Text {
+                shown: None,
+                required: true,
+            },
+            help: "The value: win, tie, draw or lose",
+        },
+        Word {
+            name: "remoteness",
+            kind: Kind::Number {
+                shown: None,
+                least: 0,
+                most: MOST,
+                default: None,
+            },
+            help: "The number of moves to the end: none with draw",
+        },
+        Word {
+            name: "tier",
+            kind: Kind::Tier,
+            help: "Of this tier alone",
+        },
+        Word {
+            name: "only-move",
+            kind: Kind::Flag,
+            help: "Those alone from which exactly one move keeps the win or the tie",
+        },
+        REACHED,
+        Word {
+            name: "limit",
+            kind: Kind::Number {
+                shown: None,
+                least: 1,
+                most: MOST,
+                default: None,
+            },
+            help: "The most positions that are listed, from 1 on",
+        },
+        JSON,
+        FOLDER,
+        READ_ONLY,
+    ],
+};
+
+static COUNTS: Line = Line {
+    name: "counts",
+    alias: None,
+    about: "Counts the positions of a game by value and remoteness, with bars",
+    examples: "Examples:\n  gamesman counts countdown\n  gamesman counts tactix-3 --reached",
+    words: &[GAME, REACHED, FOLDER, READ_ONLY],
+};
+
+static ASK: Line = Line {
+    name: "ask",
+    alias: None,
+    about: "Reads positions, a line each, and answers each with a line of JSON: its value and what its moves are worth",
+    examples: "Examples:\n  echo 10 | gamesman ask countdown\n  gamesman ask dao --folder tables --read-only < positions",
+    words: &[GAME, FOLDER, READ_ONLY],
+};
+
+static ANALYSE: Line = Line {
+    name: "analyse",
+    alias: Some("analyze"),
+    about: "Counts the positions of a game by value and remoteness, one line of JSON for each tier",
+    examples: "Examples:\n  gamesman analyse countdown\n  gamesman analyse dao --folder tables",
+    words: &[GAME, FOLDER, READ_ONLY],
+};
+
+static CHECK: Line = Line {
+    name: "check",
+    alias: None,
+    about: "Checks the tables of a game in a folder, tier by tier",
+    examples: "Examples:\n  gamesman check countdown tables\n  gamesman check dao tables",
+    words: &[
+        GAME,
+        Word {
+            name: "FOLDER",
+            kind: Kind::Word,
+            help: "The folder of the tables",
+        },
+    ],
+};
+
+static PLAY: Line = Line {
+    name: "play",
+    alias: None,
+    about: "Plays a game with you from its start: type a move, as `1` in countdown or `a1` in tictactoe, or `quit`",
+    examples: "Examples:\n  gamesman play tictactoe --show\n  gamesman play countdown --from 7 --second",
+    words: &[
+        GAME,
+        FOLDER,
+        READ_ONLY,
+        Word {
+            name: "second",
+            kind: Kind::Flag,
+            help: "Lets the computer move first",
+        },
+        Word {
+            name: "from",
+            kind: Kind::Text {
+                shown: Some("POSITION"),
+                required: false,
+            },
+            help: "Begins at this position; you are the side to move, or with `--second` the other one",
+        },
+        Word {
+            name: "show",
+            kind: Kind::Flag,
+            help: "Draws the board before each question, with you as `x` where a game has `x` and `o`",
+        },
+    ],
+};
+
+static COMPLETIONS: Line = Line {
+    name: "completions",
+    alias: None,
+    about: "Prints the completions of a shell, for it to read at its start",
+    examples: "Examples:\n  gamesman completions bash > ~/.local/share/bash-completion/completions/gamesman\n  gamesman completions fish > ~/.config/fish/completions/gamesman.fish",
+    words: &[Word {
+        name: "SHELL",
+        kind: Kind::Word,
+        help: "The shell: bash, zsh or fish",
+    }],
+};
+
+static MAN: Line = Line {
+    name: "man",
+    alias: None,
+    about: "Prints the manual page",
+    examples: "Examples:\n  gamesman man > gamesman.1\n  gamesman man | man -l -",
+    words: &[],
+};
+
+/// All commands, in the order of the help.
+pub(crate) fn lines() -> [&'static Line; 14] {
+    [
+        &LIST,
+        &SOLVE,
+        &QUERY,
+        &MOVES,
+        &LINE,
+        &SHOW,
+        &FIND,
+        &COUNTS,
+        &ASK,
+        &ANALYSE,
+        &CHECK,
+        &PLAY,
+        &COMPLETIONS,
+        &MAN,
+    ]
+}

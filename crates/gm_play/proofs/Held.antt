@@ -5,11 +5,20 @@ use Rattle.std.proofs.lemmas.Result.{err_from_is_err_and}
 use Rattle.std.specs.List.{Contains}
 use Rattle.gm_game.specs.Rules.{Rules, IsTierOrChild}
 use Rattle.gm_table.specs.Tables.{TableData, IsHeld, AreHeld, table_of}
+use Rattle.gm_play.specs.declared.play_error.PlayError.{PlayError}
+use Rattle.gm_play.specs.declared.play_error.PlayError.TheVariants.{Illegal, NotHeld}
 use Rattle.gm_play.specs.Reached.{IsBelow, AreAllHeld}
 
 -- an answer is no error
 pub ok_apart : {T E : Type 0} (x : T) (e : E) → ◌≡◌ {A = Result T E} (Ok x) (Err e) → ⊥
 ok_apart x e f = let z : ⊥ = cc in z
+
+-- the two refusals are two
+pub not_held_apart : {T : Type 0} → ◌≡◌ {A = Result T PlayError} (Err NotHeld) (Err Illegal) → ⊥
+not_held_apart f = let z : ⊥ = cc in z
+
+pub illegal_apart : {T : Type 0} → ◌≡◌ {A = Result T PlayError} (Err Illegal) (Err NotHeld) → ⊥
+illegal_apart f = let z : ⊥ = cc in z
 
 -- nothing is no answer
 pub none_apart : {A : Type 0} (x : A) → ◌≡◌ {A = Option A} None (Some x) → ⊥

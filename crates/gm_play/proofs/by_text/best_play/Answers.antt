@@ -1,6 +1,6 @@
 use Rattle.std.proofs.Common.{[], refl}
 use Rattle.gm_play.specs.declared.play_error.PlayError.TheVariants.{Illegal, NotHeld}
-use Rattle.gm_play.proofs.Held.{ok_apart, none_apart, passed_on}
+use Rattle.gm_play.proofs.Held.{ok_apart, none_apart, illegal_apart, passed_on}
 use Rattle.gm_play.proofs.by_text.best_play.Goals as goal
 
 pub returns-clause-play : goal.returns-clause-play
@@ -21,7 +21,7 @@ pub returns-in-None-clause-illegal : goal.returns-in-None-clause-illegal
 returns-in-None-clause-illegal g c = (λ e p read. none_apart p ((c.in-None.ensures p).1 read), λ none. refl)
 
 pub returns-in-None-clause-not_held : goal.returns-in-None-clause-not_held
-returns-in-None-clause-not_held g c = λ e. (let z : ⊥ = cc in absurd z)
+returns-in-None-clause-not_held g c = λ e. absurd (illegal_apart e)
 
 pub returns-in_err-line-clause-illegal : goal.returns-in_err-line-clause-illegal
 returns-in_err-line-clause-illegal g c =

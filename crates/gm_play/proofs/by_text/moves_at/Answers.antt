@@ -3,7 +3,7 @@ use Rattle.std.specs.List.{All}
 use Rattle.gm_play.specs.PlayTexts.{IsMoveOf}
 use Rattle.gm_play.specs.Refusals.{AreNotHeld}
 use Rattle.gm_play.proofs.Choices.{all_chosen}
-use Rattle.gm_play.proofs.Held.{ok_apart, none_apart}
+use Rattle.gm_play.proofs.Held.{ok_apart, none_apart, not_held_apart, illegal_apart}
 use Rattle.gm_play.proofs.Rows.{same_read, are_moves}
 use Rattle.gm_play.proofs.by_text.moves_at.Goals as goal
 
@@ -22,11 +22,11 @@ returns-in-Ok-clause-each g c =
 
 pub returns-in-Ok-clause-not_held : goal.returns-in-Ok-clause-not_held
 returns-in-Ok-clause-not_held g c = (
-  λ e. absurd (cc),
+  λ e. absurd (ok_apart _ _ e),
   λ (q, read, none). (
       let same : c.in-Some.p ≡ q = same_read c.in-Some.p q c.read.result c.in-Some.is ((c.read.ensures q).1 read) in
       let refused = c.in-Ok.ensures.not_held.1 (subst (AreNotHeld g.G.Game.rules c.args.tables.now) (sym same) none) in
-      absurd (cc)),
+      absurd (ok_apart _ _ refused)),
 )
 
 pub returns-in-Ok-clause-moves : goal.returns-in-Ok-clause-moves
@@ -42,10 +42,10 @@ pub returns-in-Ok-clause-illegal : goal.returns-in-Ok-clause-illegal
 returns-in-Ok-clause-illegal g c = (λ e. absurd (ok_apart _ _ e), λ none. absurd (none c.in-Some.p ((c.read.ensures c.in-Some.p).0 c.in-Some.is)))
 
 pub returns-in-Err-clause-illegal : goal.returns-in-Err-clause-illegal
-returns-in-Err-clause-illegal g c = (λ e. (let z : ⊥ = cc in absurd z), λ none. absurd (none c.in-Some.p ((c.read.ensures c.in-Some.p).0 c.in-Some.is)))
+returns-in-Err-clause-illegal g c = (λ e. absurd (not_held_apart e), λ none. absurd (none c.in-Some.p ((c.read.ensures c.in-Some.p).0 c.in-Some.is)))
 
 pub returns-in-None-clause-illegal : goal.returns-in-None-clause-illegal
 returns-in-None-clause-illegal g c = (λ e p read. none_apart p ((c.in-None.ensures p).1 read), λ none. refl)
 
 pub returns-in-None-clause-not_held : goal.returns-in-None-clause-not_held
-returns-in-None-clause-not_held g c = (λ e. (let z : ⊥ = cc in absurd z), λ (p, read, not). absurd (none_apart p ((c.in-None.ensures p).1 read)))
+returns-in-None-clause-not_held g c = (λ e. absurd (illegal_apart e), λ (p, read, not). absurd (none_apart p ((c.in-None.ensures p).1 read)))
