@@ -1,8 +1,8 @@
-use Rattle.std.proofs.Common.{ap, ◌∙◌}
-use Rattle.std.specs.List.{flat_map}
+use Rattle.std.proofs.Common.{ap, sym, subst, ◌∙◌}
+use Rattle.std.specs.List.{All, flat_map}
 use Rattle.std.proofs.lemmas.Result.{IfOk-from_err}
 use Rattle.gm_play.specs.declared.play_error.PlayError.TheVariants.{Illegal, NotHeld}
-use Rattle.gm_play.specs.PlayTexts.{move_row}
+use Rattle.gm_play.specs.PlayTexts.{move_row, IsMoveOf}
 use Rattle.gm_play.proofs.Held.{ok_apart, passed_on}
 use Rattle.gm_play.proofs.texts.moves_text.Goals as goal
 
@@ -36,3 +36,9 @@ pub returns-in_err-p-clause-not_held : goal.returns-in_err-p-clause-not_held
 returns-in_err-p-clause-not_held g c =
     let p = passed_on c.from_residual.result c.moves_at.result c.in_err-p.field-0.0 NotHeld c.from_residual.ensures.1 c.in_err-p.was in
     (λ e. c.moves_at.ensures.not_held.0 (p.0 e), λ h. p.1 (c.moves_at.ensures.not_held.1 h))
+
+pub move_rows-requires-clause-legal : goal.move_rows-requires-clause-legal
+move_rows-requires-clause-legal g c = c.in_ok-p.ensures.moves.read.0
+
+pub move_rows-requires-clause-each : goal.move_rows-requires-clause-each
+move_rows-requires-clause-each g c = subst (All (IsMoveOf g.G.Game.rules c.in_ok-p.p)) (sym c.as_slice.ensures.value) c.in_ok-p.ensures.each
