@@ -1,46 +1,54 @@
 //! Answers and best moves over what is built.
 use crate::expect::expect_eq;
-use crate::work::built;
+use crate::work::built_alone;
 use gm_build::build::Built;
+use gm_game::game::Game;
 use gm_game::position::{Position, Solved, Value};
 use gm_play::answer::{AnswerError, answer};
 use gm_play::best_move::best_move;
 use gm_table::tables::Tables;
-use gm_tierdb::mem_store::MemStore;
 use gm_toys::countdown::Countdown;
 use gm_toys::wheel::Wheel;
+use std::process::Abort;
 use std::test::Fail;
 
 fn at(index: u64) -> Position {
     Position { tier: 0, index }
 }
 
+// The answer at an index, and its best move.
+fn check_answer<G: Game>(
+    rt: &impl Abort,
+    tables: &Tables<G>,
+    index: u64,
+    known: Solved,
+    best: Option<u32>,
+) {
+    expect_eq(rt, answer(tables, at(index)), Ok(known));
+    expect_eq(rt, best_move(tables, at(index)), Ok(best));
+}
+
+fn worth(value: Value, remoteness: u32) -> Solved {
+    Solved { value, remoteness }
+}
+
 #[test]
 fn answers_on_countdown(rt: HostRuntime) -> Result<(), Fail> {
-    let mut store = MemStore::new(rt.alloc());
-    let game: Built<Countdown<10>> = built(&rt, rt.alloc(), &mut store)?;
-    for (index, value, remoteness, best) in [
-        (10, Value::Win, 7, Some(1)),
-        (8, Value::Win, 5, Some(2)),
-        (3, Value::Lose, 2, Some(1)),
-        (0, Value::Lose, 0, None),
-    ] {
-        let known = Solved { value, remoteness };
-        expect_eq(&rt, answer(&game.tables, at(index)), Ok(known));
-        expect_eq(&rt, best_move(&game.tables, at(index)), Ok(best));
-    }
+    let game: Built<Countdown<10>> = built_alone(&rt, rt.alloc())?;
+    check_answer(&rt, &game.tables, 10, worth(Value::Win, 7), Some(1));
+    check_answer(&rt, &game.tables, 8, worth(Value::Win, 5), Some(2));
+    check_answer(&rt, &game.tables, 3, worth(Value::Lose, 2), Some(1));
+    check_answer(&rt, &game.tables, 0, worth(Value::Lose, 0), None);
+    drop(game);
     Ok(())
 }
 
 #[test]
 fn answers_on_wheel(rt: HostRuntime) -> Result<(), Fail> {
-    let mut store = MemStore::new(rt.alloc());
-    let game: Built<Wheel> = built(&rt, rt.alloc(), &mut store)?;
-    for (index, value, remoteness, best) in [(8, Value::Draw, 0, 3), (2, Value::Tie, 2, 1)] {
-        let known = Solved { value, remoteness };
-        expect_eq(&rt, answer(&game.tables, at(index)), Ok(known));
-        expect_eq(&rt, best_move(&game.tables, at(index)), Ok(Some(best)));
-    }
+    let game: Built<Wheel> = built_alone(&rt, rt.alloc())?;
+    check_answer(&rt, &game.tables, 8, worth(Value::Draw, 0), Some(3));
+    check_answer(&rt, &game.tables, 2, worth(Value::Tie, 2), Some(1));
+    drop(game);
     Ok(())
 }
 

@@ -6,6 +6,7 @@ use gm_progress::progress::Progress;
 use gm_solver::gate::Gate;
 use gm_solver::source::Source;
 use std::io::{self, ErrorKind, Write};
+use std::process::Abort;
 use std::sync::Wait;
 use std::sync::atomic::{AtomicU64, Ordering};
 use std::test::Fail;
@@ -115,25 +116,31 @@ fn nothing_is_told_without_a_clock(rt: HostRuntime) -> Result<(), Fail> {
     Ok(())
 }
 
+// An output that accepts this many calls is told no more than five lines, and nothing after a failure.
+fn tells<R: Wait + Abort>(rt: &R, takes: u64) {
+    let clock = Tenths {
+        read: AtomicU64::new(0),
+    };
+    let mut errors = Counting {
+        calls: 0,
+        lines: 0,
+        takes,
+    };
+    {
+        let progress = Progress::new(&clock, &mut errors);
+        deliver(rt, &progress, 12);
+    }
+    expect(
+        rt,
+        errors.lines == takes.min(5) && errors.calls == takes.saturating_add(1).min(5),
+    );
+}
+
 #[test]
 fn a_line_is_one_call_and_none_follows_a_failure(rt: HostRuntime) -> Result<(), Fail> {
-    for takes in [0, 1, 2, 100] {
-        let clock = Tenths {
-            read: AtomicU64::new(0),
-        };
-        let mut errors = Counting {
-            calls: 0,
-            lines: 0,
-            takes,
-        };
-        {
-            let progress = Progress::new(&clock, &mut errors);
-            deliver(&rt, &progress, 12);
-        }
-        expect(
-            &rt,
-            errors.lines == takes.min(5) && errors.calls == takes.saturating_add(1).min(5),
-        );
-    }
+    tells(&rt, 0);
+    tells(&rt, 1);
+    tells(&rt, 2);
+    tells(&rt, 100);
     Ok(())
 }

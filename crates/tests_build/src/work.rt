@@ -10,7 +10,10 @@ use gm_game::game::Game;
 use gm_solver::gate::NoGate;
 use gm_solver::plan::Plan;
 use gm_solver::source::Counter;
+use gm_tierdb::flaky::Flaky;
+use gm_tierdb::mem_store::MemStore;
 use gm_tierdb::store::Store;
+use gm_tierdb::store_error::StoreError;
 use std::alloc::Global;
 use std::fs::Files;
 use std::sync::Wait;
@@ -36,6 +39,20 @@ pub(crate) fn built<G: Game + Send + Sync, R: Threads + Wait + Files + Sync, S: 
     ensures held { IfOk result (λ built. HoldsExactly built.tables built.order) }
 {
     built_from(rt, alloc, G::initial().tier, store)
+}
+
+/// Builds a game over a store in memory, which is let go.
+pub(crate) fn built_alone<G: Game + Send + Sync, R: Threads + Wait + Files + Sync>(
+    rt: &R,
+    alloc: Global,
+) -> Result<Built<G>, BuildError>
+    ensures order { IfOk result (λ built. IsTierOrder G.rules built.order) }
+    ensures held { IfOk result (λ built. HoldsExactly built.tables built.order) }
+{
+    let mut store = MemStore::new(alloc);
+    let built = built(rt, alloc, &mut store);
+    drop(store);
+    built
 }
 
 /// Builds the tiers of a game that one tier reaches over a store.
@@ -72,11 +89,42 @@ pub(crate) fn work<G: Game + Send + Sync, R: Threads + Wait + Files + Sync, S: S
     store: &mut S,
 ) -> Result<Took, BuildError> {
     let built: Built<G> = built(rt, alloc, store)?;
-    Ok(Took {
+    let took = Took {
         solved: built.solved,
         reused: built.reused,
         migrated: built.migrated,
         deliveries: built.deliveries,
         by_hand: built.by_hand,
-    })
+    };
+    drop(built);
+    Ok(took)
+}
+
+/// What it takes to build a game over a store in memory that fails at one of its calls; and the store, which fails no more.
+pub(crate) fn work_with_failure<G: Game + Send + Sync, R: Threads + Wait + Files + Sync>(
+    rt: &R,
+    alloc: Global,
+    store: MemStore,
+    call: u64,
+) -> (MemStore, Result<Took, BuildError>) {
+    let mut store = Flaky::new(store, call, call);
+    let took = work::<G, R, _>(rt, alloc, &mut store);
+    (store.into_inner(), took)
+}
+
+/// Whether a store in memory has this text of a tier.
+pub(crate) fn has_text<R: Files>(
+    rt: &R,
+    alloc: Global,
+    store: &mut MemStore,
+    tier: u64,
+    text: &[u8],
+) -> Result<bool, StoreError> {
+    let found = store.read(rt, alloc, tier)?;
+    let same = match &found {
+        Some(found) => found.as_slice() == text,
+        None => false,
+    };
+    drop(found);
+    Ok(same)
 }
