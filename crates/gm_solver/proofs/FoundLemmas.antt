@@ -1,14 +1,31 @@
 -- Tallies at the numbers of their pieces.
-use Rattle.std.proofs.Common.{◌≡◌, ◌≢◌, ℕ, zero, suc, ◌+◌, List, [], ◌∷◌, ◌++◌, length, map, Option, Some, slice_get, set, refl, sym, ap, subst, ◌∙◌, inl, inr, arith, length-set}
+use Rattle.std.proofs.Common.{◌≡◌, ◌≢◌, ℕ, zero, suc, ◌+◌, List, [], ◌∷◌, ◌++◌, length, map, replicate, Option, None, Some, slice_get, set, refl, sym, ap, subst, ◌∙◌, inl, inr, arith, length-set}
 use Rattle.std.specs.List.{Contains}
 use Rattle.std.specs.Int.{div_ceil}
 use Rattle.std.proofs.lemmas.Bool.{cases_eq}
-use Rattle.std.proofs.lemmas.List.{map_push, length-append}
+use Rattle.std.proofs.lemmas.List.{map_push, length-append, length-replicate}
 use Rattle.std.proofs.lemmas.List.Elements.{Contains-push_cases}
 use Rattle.gm_frontier.specs.Levels.{LevelData}
 use Rattle.gm_frontier.specs.Tallies.{TallyData, numbers_from}
 use Rattle.gm_frontier.proofs.TalliedLemmas.{numbers_push}
 use Rattle.gm_solver.specs.Found.{AreFound, IsTallyAt}
+
+-- an entry more without a tally
+pub none_more : (n : ℕ) → replicate {A = Option TallyData} n None ++ None ∷ [] ≡ replicate (n + 1) None
+none_more zero = refl
+none_more (suc n) = ap (λ (xs : List (Option TallyData)). None ∷ xs) (none_more n) ∙ ap (λ (m : ℕ). replicate {A = Option TallyData} m None) (let e : suc (n + 1) ≡ suc n + 1 = omega arith in e)
+
+no_tally : (n k : ℕ) (t : TallyData) → slice_get (replicate {A = Option TallyData} n None) k ≡ Some (Some t) → ⊥
+no_tally zero k t e = absurd (cc)
+no_tally (suc n) zero t e = absurd (cc)
+no_tally (suc n) (suc k) t e = no_tally n k t e
+
+-- entries without a tally, as many as there are pieces
+pub none_are_found : (level : LevelData) (n width k : ℕ) (found : List (Option TallyData)) → found ≡ replicate k None → k ≡ div_ceil (length level.notes) n → AreFound level n width found
+none_are_found level n width k found e many = subst (AreFound level n width) (sym e) (record {
+  whole = length-replicate k None ∙ many;
+  each = λ i t q. absurd (no_tally k i t q);
+})
 
 set_same : (xs : List (Option TallyData)) (i : ℕ) (x y : Option TallyData) → slice_get (set xs i x) i ≡ Some y → x ≡ y
 set_same [] i x y e = absurd (cc)
