@@ -69,7 +69,10 @@ fn check_on_disk<S: Store, R: Files + AllocGlobal + Abort>(rt: &R, store: &mut S
     must(rt, store.write(rt, 7, b"seven"));
     let found = must(rt, store.read(rt, rt.alloc(), 7));
     expect(rt, is_text(found, b"seven"));
-    expect(rt, must(rt, file_has(rt, "folder_of_tiers/tier-7.gmt", b"seven")));
+    expect(
+        rt,
+        must(rt, file_has(rt, "folder_of_tiers/tier-7.gmt", b"seven")),
+    );
     expect(rt, !must(rt, fs::exists(rt, "folder_of_tiers/tier-7.tmp")));
     expect_eq(rt, store.failures(), 1);
 }
