@@ -2,22 +2,31 @@
 ghost use Rattle.std.specs.Prelude.{◌≡◌};
 ghost use Rattle.gm_tierdb.specs.Refusals.{number_of};
 
-use std::error::Error;
-use std::fmt;
+use thiserror::Error;
 
 /// Why bytes are not the file of a tier. docs/FORMATS.md has the order in which they are tested.
-#[derive(Clone, Copy, Debug, PartialEq, Eq)]
+#[derive(Clone, Copy, Debug, PartialEq, Eq, Error)]
 pub enum FileError {
+    #[error("out of memory")]
     OutOfMemory,
+    #[error("truncated")]
     Truncated,
+    #[error("bad magic")]
     BadMagic,
+    #[error("wrong game")]
     WrongGame,
+    #[error("wrong tier")]
     WrongTier,
+    #[error("wrong size")]
     WrongSize,
+    #[error("bad record {index}")]
     BadRecord { index: u64 },
+    #[error("trailing bytes")]
     Trailing,
+    #[error("bad digest")]
     BadDigest,
     /// The file is of version 1, which `decode_v1` reads.
+    #[error("old version")]
     OldVersion,
 }
 
@@ -40,23 +49,3 @@ impl FileError {
         }
     }
 }
-
-impl fmt::Display for FileError {
-    fn fmt<W: fmt::Write>(&self, f: &mut fmt::Formatter<W>) -> fmt::Result {
-        let words = match self {
-            FileError::OutOfMemory => "out of memory",
-            FileError::Truncated => "truncated",
-            FileError::BadMagic => "bad magic",
-            FileError::WrongGame => "wrong game",
-            FileError::WrongTier => "wrong tier",
-            FileError::WrongSize => "wrong size",
-            FileError::BadRecord { index } => return write!(f, "bad record {index}"),
-            FileError::Trailing => "trailing bytes",
-            FileError::BadDigest => "bad digest",
-            FileError::OldVersion => "old version",
-        };
-        f.write_str(words)
-    }
-}
-
-impl Error for FileError {}
