@@ -1,4 +1,6 @@
-use Rattle.std.proofs.Common.{rules, ap, ◌∙◌}
+use Rattle.std.proofs.Common.{rules, ◌≡◌, ℕ, sym, subst, ap, ◌∙◌}
+use Rattle.gm_desk.specs.Spots.{choose}
+use Rattle.gm_desk.specs.Batches.{AreAnswers}
 use Rattle.gm_desk.specs.Amounts.{Amounts, Part, raised}
 use Rattle.gm_desk.proofs.Raises.{raised_a, raised_b, raised_c, raised_d}
 use Rattle.gm_desk.proofs.board.Board.deliver_all.Goals as goal
@@ -34,3 +36,17 @@ returns-in_default-clause-shares g c =
     let amount = ap (λ (p : Part). p.amount) c.deliver_all_under-in_default.ensures.share in
     raised_d (record { parts = before.parts; a = before.a.amount; b = before.b.amount; c = before.c.amount; d = before.d.amount }) c.args.shard n c.deliver_all_under-in_default.new.share.amount (search rules) amount
     ∙ ap (λ (s : Amounts). raised s c.args.shard n) c.shares.view_is
+
+pub returns-in-0-clause-answers : goal.returns-in-0-clause-answers
+returns-in-0-clause-answers g c = subst (λ (k : ℕ). AreAnswers g.G.Game.rules (choose k g.A.Desk.spot g.B.Desk.spot g.C.Desk.spot g.D.Desk.spot) c.args.pairs.now c.deliver_all_under.result) (sym c.in-0.is) c.deliver_all_under.ensures.answers
+
+pub returns-in-1-clause-answers : goal.returns-in-1-clause-answers
+returns-in-1-clause-answers g c = subst (λ (k : ℕ). AreAnswers g.G.Game.rules (choose k g.A.Desk.spot g.B.Desk.spot g.C.Desk.spot g.D.Desk.spot) c.args.pairs.now c.deliver_all_under-in-1.result) (sym c.in-1.is) c.deliver_all_under-in-1.ensures.answers
+
+pub returns-in-2-clause-answers : goal.returns-in-2-clause-answers
+returns-in-2-clause-answers g c = subst (λ (k : ℕ). AreAnswers g.G.Game.rules (choose k g.A.Desk.spot g.B.Desk.spot g.C.Desk.spot g.D.Desk.spot) c.args.pairs.now c.deliver_all_under-in-2.result) (sym c.in-2.is) c.deliver_all_under-in-2.ensures.answers
+
+pub returns-in_default-clause-answers : goal.returns-in_default-clause-answers
+returns-in_default-clause-answers g c =
+    let last : c.args.shard ≡ 3 = search rules in
+    subst (λ (k : ℕ). AreAnswers g.G.Game.rules (choose k g.A.Desk.spot g.B.Desk.spot g.C.Desk.spot g.D.Desk.spot) c.args.pairs.now c.deliver_all_under-in_default.result) (sym last) c.deliver_all_under-in_default.ensures.answers
