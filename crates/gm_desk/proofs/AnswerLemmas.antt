@@ -6,10 +6,10 @@ use Rattle.std.proofs.lemmas.List.Elements.{Contains-get_or, Contains-push_cases
 use Rattle.std.proofs.lemmas.List.Sums.{sum_by_push}
 use Rattle.gm_game.specs.Rules.{Rules}
 use Rattle.gm_frontier.specs.Notes.{NoteData}
-use Rattle.gm_shard.specs.declared.status.Delivery.{Delivery}
-use Rattle.gm_shard.specs.declared.status.Delivery.TheVariants.{Fresh, FreshSettled, Repeat}
-use Rattle.gm_shard.specs.declared.status.Refused.{Refused}
-use Rattle.gm_shard.specs.Delivery.{IsPlaceOf}
+use Rattle.gm_deliveries.specs.declared.status.Delivery.{Delivery}
+use Rattle.gm_deliveries.specs.declared.status.Delivery.TheVariants.{Fresh, FreshSettled, Repeat}
+use Rattle.gm_deliveries.specs.declared.status.Refused.{Refused}
+use Rattle.gm_deliveries.specs.Delivery.{IsPlaceOf}
 use Rattle.gm_desk.specs.Spots.{Spot, gain, IsAnswer, IsDeliveryAt}
 use Rattle.gm_desk.specs.Amounts.{Part}
 use Rattle.gm_desk.specs.Batches.{ArePlaced, IsAnswerAt, AreAnswers}

@@ -8,12 +8,12 @@ use Rattle.gm_game.specs.Rules.{Rules}
 use Rattle.gm_game.specs.Children.{with_position}
 use Rattle.gm_game.proofs.SetLemmas.{length_with}
 use Rattle.gm_frontier.specs.Notes.{NoteData}
-use Rattle.gm_shard.specs.declared.status.Delivery.{Delivery}
-use Rattle.gm_shard.specs.declared.status.Delivery.TheVariants.{Fresh, FreshSettled, Repeat}
-use Rattle.gm_shard.specs.declared.status.Refused.{Refused}
-use Rattle.gm_shard.specs.declared.status.Refused.TheVariants.{NotThisLevel, NotMine, NotAParent, TooFar}
-use Rattle.gm_shard.specs.State.{ShardState, IsInRange, delivered_to, with_pair, pairs_in}
-use Rattle.gm_shard.specs.Delivery.{IsPairHere, Delivers}
+use Rattle.gm_deliveries.specs.declared.status.Delivery.{Delivery}
+use Rattle.gm_deliveries.specs.declared.status.Delivery.TheVariants.{Fresh, FreshSettled, Repeat}
+use Rattle.gm_deliveries.specs.declared.status.Refused.{Refused}
+use Rattle.gm_deliveries.specs.declared.status.Refused.TheVariants.{NotThisLevel, NotMine, NotAParent, TooFar}
+use Rattle.gm_deliveries.specs.State.{ShardState, IsInRange, delivered_to, with_pair, pairs_in}
+use Rattle.gm_deliveries.specs.Delivery.{IsPairHere, Delivers}
 use Rattle.gm_desk.specs.Amounts.{Part}
 use Rattle.gm_desk.specs.Spots.{IsSameSpot, Spot, spot_of, gain, IsAnswer}
 use Rattle.gm_desk.proofs.Kept.{spot_kept}

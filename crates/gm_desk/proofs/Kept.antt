@@ -7,12 +7,12 @@ use Rattle.gm_game.specs.Rules.{Rules}
 use Rattle.gm_game.specs.Children.{with_position}
 use Rattle.gm_game.proofs.SetLemmas.{has_new, has_old}
 use Rattle.gm_frontier.specs.Notes.{NoteData}
-use Rattle.gm_shard.specs.State.{ShardState, IsInRange, delivered_to, with_pair}
-use Rattle.gm_shard.specs.declared.status.Delivery.{Delivery}
-use Rattle.gm_shard.specs.declared.status.Delivery.TheVariants.{Fresh, FreshSettled, Repeat}
-use Rattle.gm_shard.specs.declared.status.Refused.{Refused}
-use Rattle.gm_shard.specs.declared.status.Refused.TheVariants.{NotThisLevel, NotMine, NotAParent, TooFar}
-use Rattle.gm_shard.specs.Delivery.{Delivers}
+use Rattle.gm_deliveries.specs.State.{ShardState, IsInRange, delivered_to, with_pair}
+use Rattle.gm_deliveries.specs.declared.status.Delivery.{Delivery}
+use Rattle.gm_deliveries.specs.declared.status.Delivery.TheVariants.{Fresh, FreshSettled, Repeat}
+use Rattle.gm_deliveries.specs.declared.status.Refused.{Refused}
+use Rattle.gm_deliveries.specs.declared.status.Refused.TheVariants.{NotThisLevel, NotMine, NotAParent, TooFar}
+use Rattle.gm_deliveries.specs.Delivery.{Delivers}
 use Rattle.gm_desk.specs.Spots.{IsSameSpot}
 
 -- with a pair more, what was delivered stays so

@@ -19,15 +19,15 @@ use Rattle.gm_frontier.proofs.PairLemmas.{pairs_once, in_pairs, positions_once, 
 use Rattle.gm_frontier.specs.Counts.{ExpectedData, IsExpected}
 use Rattle.gm_frontier.proofs.Distinct.{same_image}
 use Rattle.gm_frontier.proofs.ForGame.{now_stands}
-use Rattle.gm_shard.specs.declared.status.Delivery.{Delivery}
-use Rattle.gm_shard.specs.declared.status.Delivery.TheVariants.{Fresh, FreshSettled, Repeat}
-use Rattle.gm_shard.specs.declared.status.Refused.{Refused}
-use Rattle.gm_shard.specs.declared.status.Refused.TheVariants.{NotThisLevel, NotMine, NotAParent, TooFar}
-use Rattle.gm_shard.specs.State.{ShardState, IsInRange, delivered_to, with_pair, pairs_in}
-use Rattle.gm_shard.specs.Good.{IsGood}
-use Rattle.gm_shard.specs.Delivery.{Delivers}
-use Rattle.gm_shard.specs.Steps.{IsFor, IsWhole}
-use Rattle.gm_shard.proofs.CloseLemmas.{whole_from}
+use Rattle.gm_deliveries.specs.declared.status.Delivery.{Delivery}
+use Rattle.gm_deliveries.specs.declared.status.Delivery.TheVariants.{Fresh, FreshSettled, Repeat}
+use Rattle.gm_deliveries.specs.declared.status.Refused.{Refused}
+use Rattle.gm_deliveries.specs.declared.status.Refused.TheVariants.{NotThisLevel, NotMine, NotAParent, TooFar}
+use Rattle.gm_deliveries.specs.State.{ShardState, IsInRange, delivered_to, with_pair, pairs_in}
+use Rattle.gm_deliveries.specs.Good.{IsGood}
+use Rattle.gm_deliveries.specs.Delivery.{Delivers}
+use Rattle.gm_deliveries.specs.Steps.{IsFor, IsWhole}
+use Rattle.gm_deliveries.proofs.CloseLemmas.{whole_from}
 use Rattle.gm_desk.specs.Spots.{Spot, spot_of, gain, IsDeliverable}
 use Rattle.gm_desk.specs.Rounds.{pairs_into, place_of_spot, IsRound, HasNoneHere, IsForSpot, IsLevelAt, IsNextAnswer}
 use Rattle.gm_desk.proofs.Places.{value_stands}

@@ -1,6 +1,6 @@
 -- Parts of ledgers, and their amounts.
 use Rattle.std.specs.Prelude.{ℕ, ◌+◌, ◌-◌, ◌==◌, if◌then◌else◌}
-use Rattle.gm_shard.specs.State.{ShardState}
+use Rattle.gm_deliveries.specs.State.{ShardState}
 use Rattle.gm_desk.specs.Spots.{choose}
 
 -- some parts of a ledger and an amount

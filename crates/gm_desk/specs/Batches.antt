@@ -3,9 +3,9 @@ use Rattle.std.specs.Prelude.{◌≡◌, ℕ, List, Option, Result}
 use Rattle.std.specs.List.{Contains, AllZip, sum_by}
 use Rattle.gm_game.specs.Rules.{Rules}
 use Rattle.gm_frontier.specs.Notes.{NoteData}
-use Rattle.gm_shard.specs.declared.status.Delivery.{Delivery}
-use Rattle.gm_shard.specs.declared.status.Refused.{Refused}
-use Rattle.gm_shard.specs.Delivery.{IsPlaceOf}
+use Rattle.gm_deliveries.specs.declared.status.Delivery.{Delivery}
+use Rattle.gm_deliveries.specs.declared.status.Refused.{Refused}
+use Rattle.gm_deliveries.specs.Delivery.{IsPlaceOf}
 use Rattle.gm_desk.specs.Spots.{Spot, gain, IsAnswer, IsDeliveryAt}
 
 -- each pair of a note and a parent has with it the place of the note's position among the parent's children

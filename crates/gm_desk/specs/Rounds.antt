@@ -11,14 +11,14 @@ use Rattle.gm_frontier.specs.Notes.{NoteData}
 use Rattle.gm_frontier.specs.Levels.{LevelData, place_at}
 use Rattle.gm_frontier.specs.Pairs.{pairs_of}
 use Rattle.gm_frontier.specs.Counts.{ExpectedData}
-use Rattle.gm_shard.specs.declared.status.Delivery.{Delivery}
-use Rattle.gm_shard.specs.declared.status.Delivery.TheVariants.{Fresh, FreshSettled, Repeat}
-use Rattle.gm_shard.specs.declared.status.Refused.{Refused}
-use Rattle.gm_shard.specs.declared.status.Refused.TheVariants.{NotThisLevel, NotMine, NotAParent, TooFar}
-use Rattle.gm_shard.specs.declared.status.Short.{Short}
-use Rattle.gm_shard.specs.Closing.{Closes}
-use Rattle.gm_shard.specs.State.{ShardState, IsInRange, delivered_to, pairs_in}
-use Rattle.gm_shard.specs.Delivery.{Delivers}
+use Rattle.gm_deliveries.specs.declared.status.Delivery.{Delivery}
+use Rattle.gm_deliveries.specs.declared.status.Delivery.TheVariants.{Fresh, FreshSettled, Repeat}
+use Rattle.gm_deliveries.specs.declared.status.Refused.{Refused}
+use Rattle.gm_deliveries.specs.declared.status.Refused.TheVariants.{NotThisLevel, NotMine, NotAParent, TooFar}
+use Rattle.gm_deliveries.specs.declared.status.Short.{Short}
+use Rattle.gm_deliveries.specs.Closing.{Closes}
+use Rattle.gm_deliveries.specs.State.{ShardState, IsInRange, delivered_to, pairs_in}
+use Rattle.gm_deliveries.specs.Delivery.{Delivers}
 use Rattle.gm_desk.specs.Spots.{Spot, spot_of}
 
 -- the pairs of a level's notes into the range of a spot, in the order of a walk

@@ -5,13 +5,13 @@ use Rattle.gm_game.specs.declared.position.Phase.{Phase}
 use Rattle.gm_game.specs.declared.position.Phase.TheVariants.{WinLose}
 use Rattle.gm_game.specs.Rules.{Rules, IsParent}
 use Rattle.gm_frontier.specs.Notes.{NoteData, IsNote, phase_of}
-use Rattle.gm_shard.specs.declared.status.Delivery.{Delivery}
-use Rattle.gm_shard.specs.declared.status.Delivery.TheVariants.{Fresh, FreshSettled, Repeat}
-use Rattle.gm_shard.specs.declared.status.Refused.{Refused}
-use Rattle.gm_shard.specs.declared.status.Refused.TheVariants.{NotThisLevel, NotMine, NotAParent, TooFar}
-use Rattle.gm_shard.specs.State.{ShardState}
-use Rattle.gm_shard.specs.Delivery.{IsPairHere, Delivers}
-use Rattle.gm_shard.specs.Good.{IsGood}
+use Rattle.gm_deliveries.specs.declared.status.Delivery.{Delivery}
+use Rattle.gm_deliveries.specs.declared.status.Delivery.TheVariants.{Fresh, FreshSettled, Repeat}
+use Rattle.gm_deliveries.specs.declared.status.Refused.{Refused}
+use Rattle.gm_deliveries.specs.declared.status.Refused.TheVariants.{NotThisLevel, NotMine, NotAParent, TooFar}
+use Rattle.gm_deliveries.specs.State.{ShardState}
+use Rattle.gm_deliveries.specs.Delivery.{IsPairHere, Delivers}
+use Rattle.gm_deliveries.specs.Good.{IsGood}
 
 -- a range of a tier at a place
 pub record Spot : Type 0 where

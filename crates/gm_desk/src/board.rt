@@ -1,7 +1,7 @@
 //! Four shards of a tier, each under a lock of its own, and shares of their ledgers.
 ghost use Rattle.std.specs.Prelude.{◌≡◌, ◌+◌, ◌^◌, ◌-◌, ◌<◌, ◌≤◌, min};
-ghost use Rattle.gm_shard.specs.State.{pairs_in};
-ghost use Rattle.gm_shard.specs.Delivery.{IsPlaceOf};
+ghost use Rattle.gm_deliveries.specs.State.{pairs_in};
+ghost use Rattle.gm_deliveries.specs.Delivery.{IsPlaceOf};
 ghost use Rattle.gm_desk.specs.Spots.{spot_of, choose, gain, AreFourTiles, IsWithin, IsAnswer, IsDeliveryAt};
 ghost use Rattle.gm_desk.specs.Amounts.{Amounts, one_part, amount_of, raised, joined, split_of};
 ghost use Rattle.gm_desk.specs.Batches.{ArePlaced, AreAnswers};
@@ -10,9 +10,9 @@ use crate::held::Held;
 use crate::share::{Desk, Share};
 use gm_frontier::note::Note;
 use gm_game::game::Game;
-use gm_shard::place::place_of;
+use gm_deliveries::place::place_of;
 use gm_shard::shard::Shard;
-use gm_shard::status::{Delivery, Refused};
+use gm_deliveries::status::{Delivery, Refused};
 use std::marker::Model;
 use std::sync::ledger::Blank;
 use std::sync::{Mutex, Wait};

@@ -1,17 +1,17 @@
 //! What one lock keeps.
 ghost use Rattle.std.specs.Prelude.{◌≡◌, ◌+◌, ◌<◌, ◌≤◌};
-ghost use Rattle.gm_shard.specs.State.{pairs_in};
-ghost use Rattle.gm_shard.specs.Good.{IsGood};
-ghost use Rattle.gm_shard.specs.Delivery.{IsPlaceOf, Delivers};
+ghost use Rattle.gm_deliveries.specs.State.{pairs_in};
+ghost use Rattle.gm_deliveries.specs.Good.{IsGood};
+ghost use Rattle.gm_deliveries.specs.Delivery.{IsPlaceOf, Delivers};
 ghost use Rattle.gm_desk.specs.Spots.{spot_of, gain, IsAnswer, IsDeliveryAt};
 ghost use Rattle.gm_desk.specs.Batches.{ArePlaced, AreAnswers};
 
 use crate::share::{Desk, Share};
 use gm_frontier::note::Note;
 use gm_game::game::Game;
-use gm_shard::place::place_of;
+use gm_deliveries::place::place_of;
 use gm_shard::shard::Shard;
-use gm_shard::status::{Delivery, Refused};
+use gm_deliveries::status::{Delivery, Refused};
 use std::marker::Model;
 use std::sync::ledger::Book;
 
@@ -24,7 +24,7 @@ pub struct Held<G: Game, L: Desk> {
 
 impl<G: Game, L: Desk> Model for Held<G, L> {
     ghost use Rattle.std.specs.Prelude.{◌≡◌};
-    ghost use Rattle.gm_shard.specs.State.{pairs_in};
+    ghost use Rattle.gm_deliveries.specs.State.{pairs_in};
     ghost use Rattle.gm_desk.specs.Spots.{spot_of};
     ghost use Rattle.gm_desk.specs.Amounts.{HeldData};
 

@@ -13,14 +13,14 @@ use Rattle.gm_game.specs.Rules.{Rules, at}
 use Rattle.gm_game.specs.Records.{from_end}
 use Rattle.gm_game.specs.Settling.{IsSettled}
 use Rattle.gm_game.proofs.Lists.{contains_none, contains_first, contains_cases}
-use Rattle.gm_shard.specs.declared.status.Status.{Status}
-use Rattle.gm_shard.specs.declared.status.Status.TheVariants.{Hole, Undecided, Settled}
-use Rattle.gm_shard.specs.State.{ShardState, IsInRange, delivered_to}
-use Rattle.gm_shard.specs.Status.{In, StatusIs}
-use Rattle.gm_shard.specs.Good.{IsGood}
+use Rattle.gm_deliveries.specs.declared.status.Status.{Status}
+use Rattle.gm_deliveries.specs.declared.status.Status.TheVariants.{Hole, Undecided, Settled}
+use Rattle.gm_deliveries.specs.State.{ShardState, IsInRange, delivered_to}
+use Rattle.gm_deliveries.specs.Status.{In, StatusIs}
+use Rattle.gm_deliveries.specs.Good.{IsGood}
 use Rattle.gm_shard.specs.Queues.{QueueData, IsSettledIn, IsQueue, AreDistinct, HasPhase, IsEmptied}
-use Rattle.gm_shard.proofs.NoteLemmas.{none_of}
-use Rattle.gm_shard.proofs.BeginLemmas.{nothing_settled}
+use Rattle.gm_deliveries.proofs.NoteLemmas.{none_of}
+use Rattle.gm_deliveries.proofs.BeginLemmas.{nothing_settled}
 use Rattle.gm_shard.proofs.DistinctLemmas.{distinct_none, distinct_push, distinct_few}
 use Rattle.gm_shard.proofs.QueueLemmas.{settled_once}
 

@@ -16,13 +16,13 @@ use Rattle.gm_game.specs.Places.{IsLastLevel}
 use Rattle.gm_game.specs.Settling.{AreReached}
 use Rattle.gm_game.proofs.Levels.{undecided_draw}
 use Rattle.gm_table.specs.Packed.{IsNear}
-use Rattle.gm_shard.specs.declared.status.Status.{Status}
-use Rattle.gm_shard.specs.declared.status.Status.TheVariants.{Hole, Undecided, Settled}
-use Rattle.gm_shard.specs.State.{ShardState, IsInRange, delivered_to}
-use Rattle.gm_shard.specs.Status.{In, StatusIs}
-use Rattle.gm_shard.specs.Good.{IsGood}
-use Rattle.gm_shard.specs.Closing.{record_of, ArePart}
-use Rattle.gm_shard.proofs.NoteLemmas.{settled_canonical}
+use Rattle.gm_deliveries.specs.declared.status.Status.{Status}
+use Rattle.gm_deliveries.specs.declared.status.Status.TheVariants.{Hole, Undecided, Settled}
+use Rattle.gm_deliveries.specs.State.{ShardState, IsInRange, delivered_to}
+use Rattle.gm_deliveries.specs.Status.{In, StatusIs}
+use Rattle.gm_deliveries.specs.Good.{IsGood}
+use Rattle.gm_deliveries.specs.Closing.{record_of, ArePart}
+use Rattle.gm_deliveries.proofs.NoteLemmas.{settled_canonical}
 
 -- the children delivered to an inner position of a good shard
 reached_good : (r : Rules) (s : ShardState) → IsGood r s → (i : ℕ) → IsInRange s i → IsInner r (at s.tier i) → AreReached r (at s.tier i) s.phase s.level (In (delivered_to s i))

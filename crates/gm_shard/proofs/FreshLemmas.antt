@@ -24,12 +24,12 @@ use Rattle.gm_game.proofs.SetLemmas.{same_position}
 use Rattle.gm_game.proofs.Lists.{contains_none, contains_first, contains_later, contains_cases, map_in, map_from}
 use Rattle.gm_frontier.specs.Notes.{NoteData, IsNote, IsNoteAt, phase_of}
 use Rattle.gm_frontier.specs.Levels.{IsInRun, IsRun, AreInOrder, positions}
-use Rattle.gm_shard.specs.Steps.{place_of}
-use Rattle.gm_shard.proofs.NoteLemmas.{settled_canonical, settled_decided}
-use Rattle.gm_shard.specs.declared.status.Status.TheVariants.{Settled}
-use Rattle.gm_shard.specs.State.{ShardState, IsInRange, delivered_to}
-use Rattle.gm_shard.specs.Status.{StatusIs}
-use Rattle.gm_shard.specs.Good.{IsGood}
+use Rattle.gm_deliveries.specs.Steps.{place_of}
+use Rattle.gm_deliveries.proofs.NoteLemmas.{settled_canonical, settled_decided}
+use Rattle.gm_deliveries.specs.declared.status.Status.TheVariants.{Settled}
+use Rattle.gm_deliveries.specs.State.{ShardState, IsInRange, delivered_to}
+use Rattle.gm_deliveries.specs.Status.{StatusIs}
+use Rattle.gm_deliveries.specs.Good.{IsGood}
 use Rattle.gm_shard.specs.Queues.{QueueData, IsSettledAt, AreSettledAt, IsQueue, AreQueues, IsNoteAtIndex, AreNotesAt}
 use Rattle.gm_shard.proofs.QueueLemmas.{settled_once}
 use Rattle.gm_shard.proofs.DistinctLemmas.{distinct_permuted, distinct_ascending}

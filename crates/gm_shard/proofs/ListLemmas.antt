@@ -13,12 +13,12 @@ use Rattle.gm_game.specs.Children.{canonical_children_of}
 use Rattle.gm_game.proofs.ChildrenLemmas.{canonical_children_few}
 use Rattle.gm_game.proofs.Lists.{contains_first, contains_later, map_from}
 use Rattle.gm_game.proofs.Symmetry.{near_child}
-use Rattle.gm_shard.specs.declared.status.Start.{Start}
-use Rattle.gm_shard.specs.Begin.{IsStart, AreStarts}
+use Rattle.gm_deliveries.specs.declared.status.Start.{Start}
+use Rattle.gm_deliveries.specs.Begin.{IsStart, AreStarts}
 use Rattle.gm_shard.specs.Lists.{tiers_of, AreSmall, code_of, HasCode, IsListOf, IsListAt, AreListed, ListsData, AreKept}
-use Rattle.gm_shard.specs.Delivery.{IsPlaceOf}
+use Rattle.gm_deliveries.specs.Delivery.{IsPlaceOf}
 use Rattle.gm_shard.proofs.CodeLemmas.{code_once}
-use Rattle.gm_shard.proofs.StepLemmas.{in_children, from_children_of}
+use Rattle.gm_deliveries.proofs.StepLemmas.{in_children, from_children_of}
 
 -- each canonical child has a number
 pub child_has_code : (r : Rules) → IsGame r → (p : Position) → IsInner r p → AreSmall r p.tier → (c : Position) → Contains (canonical_children_of r p) c → HasCode (tiers_of r p.tier) c

@@ -4,10 +4,10 @@ use Rattle.std.proofs.lemmas.List.{take_more}
 use Rattle.gm_game.specs.Rules.{Rules}
 use Rattle.gm_frontier.specs.Notes.{NoteData}
 use Rattle.gm_game.specs.declared.position.Solved.{Solved}
-use Rattle.gm_shard.specs.declared.status.Status.TheVariants.{Settled}
-use Rattle.gm_shard.specs.State.{ShardState}
-use Rattle.gm_shard.specs.Status.{StatusIs}
-use Rattle.gm_shard.specs.Closing.{IsNoteOf}
+use Rattle.gm_deliveries.specs.declared.status.Status.TheVariants.{Settled}
+use Rattle.gm_deliveries.specs.State.{ShardState}
+use Rattle.gm_deliveries.specs.Status.{StatusIs}
+use Rattle.gm_deliveries.specs.Closing.{IsNoteOf}
 use Rattle.gm_shard.specs.Queues.{IsNoteAtIndex, AreNotesAt}
 
 pub notes_push : (r : Rules) (s : ShardState) (ks : List ℕ) (ns : List NoteData) (k : ℕ) (n : NoteData) → AreNotesAt r s ks ns → IsNoteAtIndex r s k n → AreNotesAt r s (ks ++ k ∷ []) (ns ++ n ∷ [])

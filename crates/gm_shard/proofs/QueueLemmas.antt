@@ -14,15 +14,15 @@ use Rattle.gm_game.specs.Children.{with_position}
 use Rattle.gm_game.proofs.Checker.{IsTrueValue_once}
 use Rattle.gm_game.proofs.Lists.{contains_none, contains_first, contains_cases}
 use Rattle.gm_frontier.specs.Notes.{phase_of}
-use Rattle.gm_shard.specs.declared.status.Status.{Status}
-use Rattle.gm_shard.specs.declared.status.Status.TheVariants.{Hole, Undecided, Settled}
-use Rattle.gm_shard.specs.State.{ShardState, IsInRange, delivered_to, with_pair}
-use Rattle.gm_shard.specs.Status.{HasStatus, StatusIs}
-use Rattle.gm_shard.specs.Good.{IsGood}
-use Rattle.gm_shard.specs.Delivery.{IsSettledNow, KeepsStatus}
-use Rattle.gm_shard.specs.Steps.{next_level, first_ties}
+use Rattle.gm_deliveries.specs.declared.status.Status.{Status}
+use Rattle.gm_deliveries.specs.declared.status.Status.TheVariants.{Hole, Undecided, Settled}
+use Rattle.gm_deliveries.specs.State.{ShardState, IsInRange, delivered_to, with_pair}
+use Rattle.gm_deliveries.specs.Status.{HasStatus, StatusIs}
+use Rattle.gm_deliveries.specs.Good.{IsGood}
+use Rattle.gm_deliveries.specs.Delivery.{IsSettledNow, KeepsStatus}
+use Rattle.gm_deliveries.specs.Steps.{next_level, first_ties}
 use Rattle.gm_shard.specs.Queues.{QueueData, IsSettledIn, IsPlaced, AreDistinct, IsQueue}
-use Rattle.gm_shard.proofs.NoteLemmas.{none_of}
+use Rattle.gm_deliveries.proofs.NoteLemmas.{none_of}
 use Rattle.gm_shard.proofs.DistinctLemmas.{distinct_push, fewer_than}
 
 -- a settled status is one record

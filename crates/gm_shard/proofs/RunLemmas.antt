@@ -12,16 +12,16 @@ use Rattle.gm_game.specs.Places.{StandsAt}
 use Rattle.gm_game.specs.Children.{with_position}
 use Rattle.gm_frontier.specs.Notes.{NoteData, IsNote, phase_of}
 use Rattle.gm_shard.specs.declared.event.Event.{Event}
-use Rattle.gm_shard.specs.declared.status.Status.TheVariants.{Settled}
-use Rattle.gm_shard.specs.declared.status.Delivery.{Delivery}
-use Rattle.gm_shard.specs.declared.status.Delivery.TheVariants.{Fresh, FreshSettled, Repeat}
-use Rattle.gm_shard.specs.declared.status.Refused.{Refused}
-use Rattle.gm_shard.specs.declared.status.Refused.TheVariants.{NotThisLevel, NotMine, NotAParent, TooFar}
-use Rattle.gm_shard.specs.State.{ShardState, IsInRange, delivered_to, with_pair}
-use Rattle.gm_shard.specs.Status.{StatusIs}
-use Rattle.gm_shard.specs.Good.{IsGood}
-use Rattle.gm_shard.specs.Delivery.{IsPairHere, IsAdded, Delivers}
-use Rattle.gm_shard.specs.Steps.{CanDeliver}
+use Rattle.gm_deliveries.specs.declared.status.Status.TheVariants.{Settled}
+use Rattle.gm_deliveries.specs.declared.status.Delivery.{Delivery}
+use Rattle.gm_deliveries.specs.declared.status.Delivery.TheVariants.{Fresh, FreshSettled, Repeat}
+use Rattle.gm_deliveries.specs.declared.status.Refused.{Refused}
+use Rattle.gm_deliveries.specs.declared.status.Refused.TheVariants.{NotThisLevel, NotMine, NotAParent, TooFar}
+use Rattle.gm_deliveries.specs.State.{ShardState, IsInRange, delivered_to, with_pair}
+use Rattle.gm_deliveries.specs.Status.{StatusIs}
+use Rattle.gm_deliveries.specs.Good.{IsGood}
+use Rattle.gm_deliveries.specs.Delivery.{IsPairHere, IsAdded, Delivers}
+use Rattle.gm_deliveries.specs.Steps.{CanDeliver}
 use Rattle.gm_shard.specs.Runs.{shard_of, Takes, Changes, Runs}
 use Rattle.gm_shard.proofs.FreshLemmas.{stands_of, place_is}
 

@@ -4,14 +4,14 @@ use Rattle.gm_game.specs.declared.position.Phase.{Phase}
 use Rattle.gm_game.specs.declared.position.Phase.TheVariants.{WinLose, Ties}
 use Rattle.gm_game.specs.Rules.{Rules}
 use Rattle.gm_frontier.specs.Notes.{NoteData}
-use Rattle.gm_shard.specs.declared.status.Delivery.{Delivery}
-use Rattle.gm_shard.specs.declared.status.Delivery.TheVariants.{Fresh, FreshSettled, Repeat}
-use Rattle.gm_shard.specs.declared.status.Refused.{Refused}
-use Rattle.gm_shard.specs.declared.status.Refused.TheVariants.{NotThisLevel, NotMine, NotAParent, TooFar}
-use Rattle.gm_shard.specs.State.{ShardState, with_pair}
-use Rattle.gm_shard.specs.Good.{IsGood}
-use Rattle.gm_shard.specs.Delivery.{Delivers, IsPairHere, IsSettledNow, KeepsStatus}
-use Rattle.gm_shard.specs.Steps.{next_level, first_ties}
+use Rattle.gm_deliveries.specs.declared.status.Delivery.{Delivery}
+use Rattle.gm_deliveries.specs.declared.status.Delivery.TheVariants.{Fresh, FreshSettled, Repeat}
+use Rattle.gm_deliveries.specs.declared.status.Refused.{Refused}
+use Rattle.gm_deliveries.specs.declared.status.Refused.TheVariants.{NotThisLevel, NotMine, NotAParent, TooFar}
+use Rattle.gm_deliveries.specs.State.{ShardState, with_pair}
+use Rattle.gm_deliveries.specs.Good.{IsGood}
+use Rattle.gm_deliveries.specs.Delivery.{Delivers, IsPairHere, IsSettledNow, KeepsStatus}
+use Rattle.gm_deliveries.specs.Steps.{next_level, first_ties}
 use Rattle.gm_shard.specs.Queues.{QueueData, IsQueue, AreQueues}
 use Rattle.gm_shard.proofs.QueueLemmas.{queue_kept, queue_other, queue_room, queue_pushed, queue_closed, queue_turned, queue_kept_level}
 

@@ -6,10 +6,10 @@ use Rattle.gm_game.specs.declared.position.Phase.TheVariants.{WinLose, Ties}
 use Rattle.gm_game.specs.declared.position.Solved.{Solved}
 use Rattle.gm_game.specs.Rules.{Rules, at}
 use Rattle.gm_frontier.specs.Notes.{NoteData, phase_of}
-use Rattle.gm_shard.specs.declared.status.Status.{Status}
-use Rattle.gm_shard.specs.declared.status.Status.TheVariants.{Hole, Undecided, Settled}
-use Rattle.gm_shard.specs.State.{ShardState, IsInRange, delivered_to}
-use Rattle.gm_shard.specs.Status.{StatusIs}
+use Rattle.gm_deliveries.specs.declared.status.Status.{Status}
+use Rattle.gm_deliveries.specs.declared.status.Status.TheVariants.{Hole, Undecided, Settled}
+use Rattle.gm_deliveries.specs.State.{ShardState, IsInRange, delivered_to}
+use Rattle.gm_deliveries.specs.Status.{StatusIs}
 
 -- what a queue shows: its indexes, the part of the present level, and how many indexes it has room for
 pub record QueueData : Type 0 where

@@ -1,14 +1,14 @@
 //! Runs of events over shards.
 ghost use Rattle.std.specs.Prelude.{◌≡◌, List, MatchBool, All};
-ghost use Rattle.gm_shard.specs.State.{ShardState, with_pair};
-ghost use Rattle.gm_shard.specs.Good.{IsGood};
-ghost use Rattle.gm_shard.specs.Delivery.{IsAdded};
-ghost use Rattle.gm_shard.specs.Steps.{CanDeliver};
+ghost use Rattle.gm_deliveries.specs.State.{ShardState, with_pair};
+ghost use Rattle.gm_deliveries.specs.Good.{IsGood};
+ghost use Rattle.gm_deliveries.specs.Delivery.{IsAdded};
+ghost use Rattle.gm_deliveries.specs.Steps.{CanDeliver};
 ghost use Rattle.gm_shard.specs.Runs.{shard_of, Takes, Changes, Runs};
 
 use crate::event::Event;
 use crate::shard::Shard;
-use crate::status::{Delivery, Refused};
+use gm_deliveries::status::{Delivery, Refused};
 use gm_frontier::note::Note;
 use gm_game::game::Game;
 use gm_game::limits::REMOTENESS;

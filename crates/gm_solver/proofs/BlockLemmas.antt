@@ -6,8 +6,8 @@ use Rattle.std.proofs.lemmas.Nat.{mul-add-lt, mod-mul-add, div-mul-add, div-add-
 use Rattle.std.proofs.lemmas.Slice.Zip.{AllZip-long}
 use Rattle.std.proofs.lemmas.List.FromFn.{length-range_with_len}
 use Rattle.gm_game.specs.Rules.{Rules, at}
-use Rattle.gm_shard.specs.declared.status.Start.{Start}
-use Rattle.gm_shard.specs.Begin.{IsStart, AreStarts}
+use Rattle.gm_deliveries.specs.declared.status.Start.{Start}
+use Rattle.gm_deliveries.specs.Begin.{IsStart, AreStarts}
 use Rattle.gm_shard.specs.Lists.{ListsData}
 use Rattle.std.proofs.lemmas.Option.{slice_get-get_or}
 use Rattle.gm_solver.specs.Blocks.{block_in, block_at, AreBlocks}

@@ -22,15 +22,15 @@ use Rattle.gm_game.proofs.Reached.{reached_true}
 use Rattle.gm_game.proofs.Frontier.{none_from_last}
 use Rattle.gm_table.specs.Tables.{TableData, table_of, AreHeld, AreTables}
 use Rattle.gm_frontier.specs.Notes.{NoteData, IsNote, phase_of}
-use Rattle.gm_shard.specs.declared.status.Status.TheVariants.{Settled}
-use Rattle.gm_shard.specs.State.{ShardState, IsInRange, delivered_to, with_pair}
-use Rattle.gm_shard.specs.Status.{In, StatusIs}
-use Rattle.gm_shard.specs.Good.{IsGood}
-use Rattle.gm_shard.specs.declared.status.Refused.{Refused}
-use Rattle.gm_shard.specs.declared.status.Refused.TheVariants.{NotThisLevel, NotMine, NotAParent, TooFar}
-use Rattle.gm_shard.specs.Delivery.{IsPairHere, IsSettledNow, Delivers}
-use Rattle.gm_shard.proofs.StatusLemmas.{settled_same}
-use Rattle.gm_shard.specs.Steps.{place_of}
+use Rattle.gm_deliveries.specs.declared.status.Status.TheVariants.{Settled}
+use Rattle.gm_deliveries.specs.State.{ShardState, IsInRange, delivered_to, with_pair}
+use Rattle.gm_deliveries.specs.Status.{In, StatusIs}
+use Rattle.gm_deliveries.specs.Good.{IsGood}
+use Rattle.gm_deliveries.specs.declared.status.Refused.{Refused}
+use Rattle.gm_deliveries.specs.declared.status.Refused.TheVariants.{NotThisLevel, NotMine, NotAParent, TooFar}
+use Rattle.gm_deliveries.specs.Delivery.{IsPairHere, IsSettledNow, Delivers}
+use Rattle.gm_deliveries.proofs.StatusLemmas.{settled_same}
+use Rattle.gm_deliveries.specs.Steps.{place_of}
 use Rattle.gm_solver.specs.Solving.{IsTooFar}
 use Rattle.gm_desk.specs.Spots.{IsDeliverable}
 use Rattle.gm_solver.specs.Covered.{IsCovered}

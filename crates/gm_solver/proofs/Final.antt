@@ -15,9 +15,9 @@ use Rattle.gm_game.proofs.Basic.{HasValue_once}
 use Rattle.gm_table.specs.Tables.{TableData, AreHeld, AreTables}
 use Rattle.gm_frontier.specs.Counts.{ExpectedData, IsExpected, IsPairInto, IsNumberBefore}
 use Rattle.gm_frontier.proofs.PairLemmas.{near_of_pair}
-use Rattle.gm_shard.specs.State.{ShardState}
-use Rattle.gm_shard.specs.Steps.{place_of}
-use Rattle.gm_shard.specs.Closing.{ArePart}
+use Rattle.gm_deliveries.specs.State.{ShardState}
+use Rattle.gm_deliveries.specs.Steps.{place_of}
+use Rattle.gm_deliveries.specs.Closing.{ArePart}
 use Rattle.gm_solver.specs.Solving.{IsDelivery, AreDeliveries, IsTooFar}
 use Rattle.gm_solver.specs.Over.{IsOver}
 use Rattle.gm_desk.proofs.Places.{stands_no_draw, value_place}

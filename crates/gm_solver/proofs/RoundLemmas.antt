@@ -18,13 +18,13 @@ use Rattle.gm_frontier.specs.Counts.{ExpectedData}
 use Rattle.gm_frontier.specs.Pairs.{pairs_of}
 use Rattle.gm_frontier.proofs.CountLemmas.{notes_few}
 use Rattle.gm_frontier.proofs.ForGame.{not_before_and_at, ties_after}
-use Rattle.gm_shard.specs.declared.status.Short.{Short}
-use Rattle.gm_shard.specs.Closing.{Closes}
+use Rattle.gm_deliveries.specs.declared.status.Short.{Short}
+use Rattle.gm_deliveries.specs.Closing.{Closes}
 use Rattle.gm_solver.specs.Tiling.{tile_at}
-use Rattle.gm_shard.specs.State.{ShardState}
-use Rattle.gm_shard.specs.Begin.{first_state}
-use Rattle.gm_shard.specs.Good.{IsGood}
-use Rattle.gm_shard.specs.Steps.{next_level, first_ties}
+use Rattle.gm_deliveries.specs.State.{ShardState}
+use Rattle.gm_deliveries.specs.Begin.{first_state}
+use Rattle.gm_deliveries.specs.Good.{IsGood}
+use Rattle.gm_deliveries.specs.Steps.{next_level, first_ties}
 use Rattle.gm_desk.specs.Spots.{Spot, spot_of}
 use Rattle.gm_desk.specs.Rounds.{pairs_into, place_of_spot, HasNoneHere, IsLevelAt}
 use Rattle.gm_desk.proofs.RoundLemmas.{item_in}

@@ -2,8 +2,8 @@
 use Rattle.std.proofs.Common.{◌≡◌, ℕ, zero, suc, ◌+◌, List, [], ◌∷◌, length, refl, subst, arith}
 use Rattle.std.specs.List.{AllZip, range_with_len}
 use Rattle.gm_game.specs.Rules.{Rules, at}
-use Rattle.gm_shard.specs.declared.status.Start.{Start}
-use Rattle.gm_shard.specs.Begin.{IsStart, AreStarts}
+use Rattle.gm_deliveries.specs.declared.status.Start.{Start}
+use Rattle.gm_deliveries.specs.Begin.{IsStart, AreStarts}
 
 none_started : (r : Rules) (tier lo : ℕ) → AreStarts r tier lo []
 none_started r tier lo k x e = absurd (cc)

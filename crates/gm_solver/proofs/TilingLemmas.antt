@@ -20,10 +20,10 @@ use Rattle.gm_frontier.specs.Tallies.{TallyData, AreTallies, IsTile}
 use Rattle.gm_frontier.proofs.Distinct.{no_repeats_from, no_repeats_to, no_repeats_append}
 use Rattle.gm_frontier.proofs.CountLemmas.{number_few}
 use Rattle.gm_frontier.proofs.TalliedLemmas.{tallies_in_order}
-use Rattle.gm_shard.specs.State.{ShardState}
-use Rattle.gm_shard.specs.Good.{IsGood}
-use Rattle.gm_shard.specs.Steps.{place_of}
-use Rattle.gm_shard.specs.Closing.{ArePart}
+use Rattle.gm_deliveries.specs.State.{ShardState}
+use Rattle.gm_deliveries.specs.Good.{IsGood}
+use Rattle.gm_deliveries.specs.Steps.{place_of}
+use Rattle.gm_deliveries.specs.Closing.{ArePart}
 use Rattle.gm_desk.specs.declared.board.Four.{Four}
 use Rattle.gm_desk.specs.Spots.{Spot, spot_of, AreFourTiles}
 use Rattle.gm_solver.specs.Covered.{IsCovered}

@@ -16,16 +16,16 @@ use Rattle.gm_frontier.specs.Counts.{ExpectedData}
 use Rattle.gm_frontier.specs.Pairs.{pairs_of, piece_of}
 use Rattle.gm_frontier.proofs.PairLemmas.{in_pairs, pairs_have, near_of_pair, in_piece, piece_positions_once, piece_canonical, canonical_notes}
 use Rattle.gm_frontier.proofs.CountLemmas.{notes_few}
-use Rattle.gm_shard.specs.State.{ShardState, IsInRange, delivered_to}
-use Rattle.gm_shard.specs.Good.{IsGood}
-use Rattle.gm_shard.specs.declared.status.Delivery.{Delivery}
-use Rattle.gm_shard.specs.declared.status.Delivery.TheVariants.{Fresh, FreshSettled, Repeat}
-use Rattle.gm_shard.specs.declared.status.Refused.{Refused}
-use Rattle.gm_shard.specs.declared.status.Refused.TheVariants.{NotThisLevel, NotMine, NotAParent, TooFar}
-use Rattle.gm_shard.specs.Delivery.{IsPairHere, Delivers}
-use Rattle.gm_shard.specs.Steps.{place_of, IsWhole}
-use Rattle.gm_shard.specs.declared.status.Short.{Short}
-use Rattle.gm_shard.specs.Closing.{Closes}
+use Rattle.gm_deliveries.specs.State.{ShardState, IsInRange, delivered_to}
+use Rattle.gm_deliveries.specs.Good.{IsGood}
+use Rattle.gm_deliveries.specs.declared.status.Delivery.{Delivery}
+use Rattle.gm_deliveries.specs.declared.status.Delivery.TheVariants.{Fresh, FreshSettled, Repeat}
+use Rattle.gm_deliveries.specs.declared.status.Refused.{Refused}
+use Rattle.gm_deliveries.specs.declared.status.Refused.TheVariants.{NotThisLevel, NotMine, NotAParent, TooFar}
+use Rattle.gm_deliveries.specs.Delivery.{IsPairHere, Delivers}
+use Rattle.gm_deliveries.specs.Steps.{place_of, IsWhole}
+use Rattle.gm_deliveries.specs.declared.status.Short.{Short}
+use Rattle.gm_deliveries.specs.Closing.{Closes}
 use Rattle.gm_desk.specs.Spots.{IsSameSpot, IsDeliverable}
 use Rattle.gm_desk.proofs.Places.{split_level}
 use Rattle.gm_desk.proofs.Kept.{stays_delivered, new_delivered}

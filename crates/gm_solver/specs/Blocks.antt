@@ -2,8 +2,8 @@
 use Rattle.std.specs.Prelude.{◌≡◌, ℕ, ◌+◌, ◌*◌, ◌/◌, ◌%◌, ◌≤◌, suc, min, List, Some, Vec, length, slice_get}
 use Rattle.std.specs.declared.alloc.Global.{Global}
 use Rattle.gm_game.specs.Rules.{Rules}
-use Rattle.gm_shard.specs.declared.status.Start.{Start}
-use Rattle.gm_shard.specs.Begin.{AreStarts}
+use Rattle.gm_deliveries.specs.declared.status.Start.{Start}
+use Rattle.gm_deliveries.specs.Begin.{AreStarts}
 use Rattle.gm_shard.specs.Lists.{ListsData}
 
 -- the number of the block that is scanned at a place, where blocks are scanned class after class and each class has this many

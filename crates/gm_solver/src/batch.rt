@@ -1,6 +1,6 @@
 //! Pairs that wait for the lock of one shard, so that many are delivered each time that it is taken.
 ghost use Rattle.std.specs.Prelude.{◌≡◌, ◌≤◌, List, length, IsTrue};
-ghost use Rattle.gm_shard.specs.Delivery.{IsPlaceOf};
+ghost use Rattle.gm_deliveries.specs.Delivery.{IsPlaceOf};
 ghost use Rattle.gm_desk.specs.Batches.{ArePlaced};
 
 use gm_desk::share::Desk;

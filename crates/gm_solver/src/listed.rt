@@ -2,9 +2,9 @@
 ghost use Rattle.std.specs.Prelude.{◌≡◌, ℕ, ◌<◌, ◌≤◌, ◌^◌, length, IfOk, IfErr, OnOk};
 ghost use Rattle.std.specs.List.{Contains};
 ghost use Rattle.gm_frontier.specs.Notes.{NoteData};
-ghost use Rattle.gm_shard.specs.State.{delivered_to};
+ghost use Rattle.gm_deliveries.specs.State.{delivered_to};
 ghost use Rattle.gm_solver.specs.Solving.{IsError};
-ghost use Rattle.gm_shard.specs.Steps.{place_of, IsWhole};
+ghost use Rattle.gm_deliveries.specs.Steps.{place_of, IsWhole};
 ghost use Rattle.gm_desk.specs.Spots.{IsSameSpot, IsDeliverable};
 
 use crate::error::SolveError;

@@ -1,6 +1,6 @@
 //! One level by passes: each shard has one pass, which delivers the level's pairs to it in their order.
 ghost use Rattle.std.specs.Prelude.{◌≡◌, ◌<◌, ◌≤◌, length, IfOk, IfErr, OnOk};
-ghost use Rattle.gm_shard.specs.State.{pairs_in};
+ghost use Rattle.gm_deliveries.specs.State.{pairs_in};
 ghost use Rattle.gm_solver.specs.Solving.{IsError};
 ghost use Rattle.gm_desk.specs.Spots.{spot_of};
 ghost use Rattle.gm_solver.specs.Tiling.{AreShardsAt, AreCountsAt, AreAllTallies, HaveNoneHere, AreNumbers, tile_at, next_place};

@@ -2,7 +2,7 @@
 ghost use Rattle.std.specs.Prelude.{◌≡◌, ◌+◌, ◌≤◌, IfOk, IfErr, OnOk};
 ghost use Rattle.gm_frontier.specs.Levels.{place_at};
 ghost use Rattle.gm_table.specs.Tables.{AreHeld};
-ghost use Rattle.gm_shard.specs.Steps.{place_of};
+ghost use Rattle.gm_deliveries.specs.Steps.{place_of};
 ghost use Rattle.gm_solver.specs.Solving.{IsError};
 ghost use Rattle.gm_solver.specs.Over.{IsOver, IsLater, IsNext};
 

@@ -1,6 +1,6 @@
 //! A desk with its pass in a slot, and what a worker does with it.
 ghost use Rattle.std.specs.Prelude.{◌≡◌, ◌<◌, ◌≤◌, ◌^◌, length};
-ghost use Rattle.gm_shard.specs.State.{pairs_in};
+ghost use Rattle.gm_deliveries.specs.State.{pairs_in};
 ghost use Rattle.gm_desk.specs.Spots.{spot_of};
 ghost use Rattle.gm_desk.specs.Rounds.{pairs_into, HasNoneHere, IsLevelAt};
 

@@ -3,7 +3,7 @@ ghost use Rattle.std.specs.Prelude.{◌≡◌, ◌+◌, ◌≤◌, IfOk, IfErr, 
 ghost use Rattle.gm_game.specs.declared.position.Place.{Place};
 ghost use Rattle.gm_frontier.specs.Levels.{place_at};
 ghost use Rattle.gm_frontier.specs.Tallies.{AreTallies};
-ghost use Rattle.gm_shard.specs.Steps.{place_of};
+ghost use Rattle.gm_deliveries.specs.Steps.{place_of};
 ghost use Rattle.gm_solver.specs.Solving.{IsError};
 ghost use Rattle.gm_desk.specs.Spots.{spot_of, AreFourTiles};
 ghost use Rattle.gm_solver.specs.Tiling.{AreShardsAt, AreCountsAt, AreAllTallies, HaveNoneHere, spot_counted, next_spot, next_place};

@@ -2,7 +2,7 @@
 ghost use Rattle.std.specs.Prelude.{◌≡◌, ◌-◌, ◌≤◌, length, IfOk};
 ghost use Rattle.gm_game.specs.declared.position.Phase.TheVariants.{WinLose};
 ghost use Rattle.gm_table.specs.Tables.{AreHeld};
-ghost use Rattle.gm_shard.specs.Begin.{AreStarts, first_state};
+ghost use Rattle.gm_deliveries.specs.Begin.{AreStarts, first_state};
 ghost use Rattle.gm_solver.specs.Over.{IsOver};
 
 use crate::tier_lists::{TierLists, scan_alone};
@@ -10,9 +10,9 @@ use gm_frontier::expected::Expected;
 use gm_game::game::Game;
 use gm_game::limits::TIER_SIZE;
 use gm_game::position::Position;
-use gm_shard::begin::start;
+use gm_deliveries::begin::start;
 use gm_shard::shard::Shard;
-use gm_shard::status::Start;
+use gm_deliveries::status::Start;
 use gm_table::tables::Tables;
 use std::alloc::{AllocError, Global};
 

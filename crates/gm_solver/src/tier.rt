@@ -3,7 +3,7 @@ ghost use Rattle.std.specs.Prelude.{◌≡◌, ◌≤◌, ℕ, IfOk, IfErr, OnOk
 ghost use Rattle.gm_game.specs.declared.position.Phase.TheVariants.{WinLose, Ties};
 ghost use Rattle.gm_table.specs.Tables.{AreHeld, IsTable};
 ghost use Rattle.gm_frontier.specs.Levels.{place_at};
-ghost use Rattle.gm_shard.specs.Steps.{place_of};
+ghost use Rattle.gm_deliveries.specs.Steps.{place_of};
 ghost use Rattle.gm_solver.specs.Solving.{IsError, IsTooFar, AreDeliveries};
 
 use crate::error::SolveError;

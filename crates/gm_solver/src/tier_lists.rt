@@ -1,7 +1,7 @@
 //! The canonical children of a whole tier, found block by block: for several workers by as many threads as there are processors.
 ghost use Rattle.std.specs.Prelude.{◌≡◌, ℕ, ◌*◌, ◌-◌, ◌<◌, ◌≤◌, ◌^◌, length, IfOk, OnOk};
 ghost use Rattle.std.specs.List.{AllZip, range_with_len};
-ghost use Rattle.gm_shard.specs.Begin.{AreStarts};
+ghost use Rattle.gm_deliveries.specs.Begin.{AreStarts};
 ghost use Rattle.gm_shard.specs.Lists.{AreSmall};
 ghost use Rattle.gm_solver.specs.Blocks.{block_in, IsBlock, AreInPlace, AreParts};
 ghost use Rattle.gm_game.specs.declared.limits.TheConstants.{TIER_SIZE};
@@ -9,7 +9,7 @@ ghost use Rattle.gm_game.specs.declared.limits.TheConstants.{TIER_SIZE};
 use gm_game::game::Game;
 use gm_game::position::Position;
 use gm_shard::lists::{Lists, scan};
-use gm_shard::status::Start;
+use gm_deliveries::status::Start;
 use rayon::prelude::*;
 use std::alloc::{AllocError, Global};
 use std::marker::{Model, PhantomData};
@@ -48,7 +48,7 @@ impl<G: Game> Model for TierLists<G> {
 }
 
 impl<G: Game> TierLists<G> {
-    ghost use Rattle.gm_shard.specs.Delivery.{IsPlaceOf};
+    ghost use Rattle.gm_deliveries.specs.Delivery.{IsPlaceOf};
 
     /// The place of c among the canonical children of a parent, or `None` where c is none of them or the parent is no canonical legal position in which the
     /// game goes on. Nothing of the game is called.

@@ -20,8 +20,8 @@ use Rattle.gm_frontier.specs.Tallies.{TallyData, IsTile, AreTallies, numbers_fro
 use Rattle.gm_frontier.proofs.CountLemmas.{numbers_have}
 use Rattle.gm_frontier.proofs.SumLemmas.{numbers_in, numbers_once}
 use Rattle.gm_frontier.proofs.Distinct.{no_repeats_to}
-use Rattle.gm_shard.specs.declared.status.Start.{Start}
-use Rattle.gm_shard.specs.Begin.{IsStart, AreStarts}
+use Rattle.gm_deliveries.specs.declared.status.Start.{Start}
+use Rattle.gm_deliveries.specs.Begin.{IsStart, AreStarts}
 
 pub starts_none : (r : Rules) (tier lo : ℕ) → AreStarts r tier lo []
 starts_none r tier lo k x e = absurd (cc)

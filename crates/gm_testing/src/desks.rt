@@ -1,6 +1,6 @@
 //! Boards of four shards, as callers with workers of their own use them.
 ghost use Rattle.std.specs.Prelude.{◌≡◌, ◌-◌, ◌<◌, ◌≤◌, IfOk};
-ghost use Rattle.gm_shard.specs.Begin.{first_state};
+ghost use Rattle.gm_deliveries.specs.Begin.{first_state};
 ghost use Rattle.gm_desk.specs.Spots.{spot_of, AreFourTiles};
 ghost use Rattle.gm_desk.specs.Batches.{ArePlaced};
 
@@ -9,9 +9,9 @@ use gm_desk::share::Desk;
 use gm_frontier::note::Note;
 use gm_game::game::Game;
 use gm_game::limits::TIER_SIZE;
-use gm_shard::place::place_of;
+use gm_deliveries::place::place_of;
 use gm_shard::shard::Shard;
-use gm_shard::status::{Delivery, Refused};
+use gm_deliveries::status::{Delivery, Refused};
 use gm_solver::starts::begin_range;
 use std::alloc::{AllocError, Global};
 use std::marker::Brand;

@@ -1,8 +1,8 @@
 //! Desks that are delivered to in order, as callers with workers of their own use them.
 ghost use Rattle.std.specs.Prelude.{◌≡◌, ◌+◌, ◌<◌, ◌≤◌};
 ghost use Rattle.gm_table.specs.Tables.{AreHeld};
-ghost use Rattle.gm_shard.specs.State.{pairs_in};
-ghost use Rattle.gm_shard.specs.Begin.{first_state};
+ghost use Rattle.gm_deliveries.specs.State.{pairs_in};
+ghost use Rattle.gm_deliveries.specs.Begin.{first_state};
 ghost use Rattle.gm_desk.specs.Spots.{spot_of};
 ghost use Rattle.gm_desk.specs.Rounds.{place_of_spot, HasNoneHere, IsForSpot, IsLevelAt};
 
@@ -13,7 +13,7 @@ use gm_frontier::level::Level;
 use gm_game::game::Game;
 use gm_game::limits::{REMOTENESS, TIER_SIZE};
 use gm_shard::shard::Shard;
-use gm_shard::status::{Delivery, Refused};
+use gm_deliveries::status::{Delivery, Refused};
 use gm_solver::starts::begin_range;
 use gm_table::tables::Tables;
 use std::alloc::{AllocError, Global};

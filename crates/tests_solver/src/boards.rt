@@ -8,7 +8,7 @@ use gm_desk::board::Four;
 use gm_game::game::Game;
 use gm_game::limits::TIER_SIZE;
 use gm_shard::shard::Shard;
-use gm_shard::status::{Delivery, Refused};
+use gm_deliveries::status::{Delivery, Refused};
 use gm_testing::desks::{Answers, Seen, cut_at, deliver_by_hand, deliver_twice_by_hand, watch};
 use gm_toys::countdown::Countdown;
 use std::alloc::{AllocError, Global};

@@ -5,7 +5,7 @@ use crate::ways::{
 };
 use gm_game::game::Game;
 use gm_game::limits::TIER_SIZE;
-use gm_shard::status::Delivery;
+use gm_deliveries::status::Delivery;
 use gm_table::tables::Tables;
 use gm_testing::crews::Way;
 use gm_testing::pass_desks::{Passed, Told, pass_by_hand};

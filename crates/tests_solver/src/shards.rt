@@ -1,6 +1,6 @@
 ghost use Rattle.std.specs.Prelude.{◌≡◌, ◌≤◌};
 ghost use Rattle.gm_table.specs.Tables.{AreHeld};
-ghost use Rattle.gm_shard.specs.Begin.{first_state};
+ghost use Rattle.gm_deliveries.specs.Begin.{first_state};
 
 use crate::expect::expect_eq;
 use crate::records::lose;
@@ -12,7 +12,7 @@ use gm_game::position::{Phase, Solved};
 use gm_shard::event::Event;
 use gm_shard::replay::replay;
 use gm_shard::shard::Shard;
-use gm_shard::status::{Delivery, Refused, Short, Status};
+use gm_deliveries::status::{Delivery, Refused, Short, Status};
 use gm_table::tables::Tables;
 use gm_testing::by_hand::{add_fresh, at_ties, begin_whole, records_of};
 use gm_toys::countdown::Countdown;

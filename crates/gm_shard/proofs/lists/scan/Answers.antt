@@ -1,7 +1,7 @@
 use Rattle.std.proofs.lemmas.Result.{IfOk-from_err}
 use Rattle.std.proofs.Common.{◌≡◌, ℕ, ◌+◌, ◌++◌, ◌∷◌, [], List, length, sym, ap, subst, ◌∙◌, arith, length-append}
 use Rattle.gm_game.specs.Rules.{at}
-use Rattle.gm_shard.specs.Begin.{IsStart}
+use Rattle.gm_deliveries.specs.Begin.{IsStart}
 use Rattle.gm_shard.specs.Lists.{tiers_of, IsListOf, AreListed}
 use Rattle.gm_shard.proofs.ListLemmas.{list_few, one_listed, one_start}
 use Rattle.gm_shard.proofs.lists.scan.Goals as goal

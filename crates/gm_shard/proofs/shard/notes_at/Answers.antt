@@ -2,8 +2,8 @@ use Rattle.std.proofs.Common.{rules, [], ◌∷◌, ◌++◌, ◌≡◌, ℕ, �
 use Rattle.std.proofs.lemmas.List.Elements.{Contains-get_or}
 use Rattle.gm_shard.specs.Queues.{IsSettledAt}
 use Rattle.gm_shard.proofs.NotesAtLemmas.{notes_more, some_note, note_is}
-use Rattle.gm_shard.specs.Status.{StatusIs}
-use Rattle.gm_shard.specs.declared.status.Status.TheVariants.{Settled}
+use Rattle.gm_deliveries.specs.Status.{StatusIs}
+use Rattle.gm_deliveries.specs.declared.status.Status.TheVariants.{Settled}
 use Rattle.gm_shard.proofs.shard.notes_at.Goals as goal
 
 pub note-requires : goal.note-requires

@@ -1,6 +1,6 @@
 use Rattle.std.proofs.Common.{◌≡◌, ap, sym, ◌∙◌}
 use Rattle.gm_game.specs.declared.position.Phase.TheVariants.{Ties}
-use Rattle.gm_shard.specs.State.{ShardState}
+use Rattle.gm_deliveries.specs.State.{ShardState}
 use Rattle.gm_solver.proofs.Final.{final_table, final_deliveries, not_too_far}
 use Rattle.gm_solver.proofs.alone.finish_tier.Goals as goal
 

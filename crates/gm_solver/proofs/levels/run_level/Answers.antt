@@ -2,7 +2,7 @@ use Rattle.std.proofs.Common.{◌≡◌, sym, subst, ◌∙◌}
 use Rattle.std.proofs.lemmas.Bool.{false≢true}
 use Rattle.gm_game.specs.declared.position.Place.{Place}
 use Rattle.gm_game.specs.Places.{IsLastLevel}
-use Rattle.gm_shard.specs.Steps.{place_of}
+use Rattle.gm_deliveries.specs.Steps.{place_of}
 use Rattle.gm_solver.proofs.levels.run_level.Goals as goal
 
 pub show_near-requires-clause-left : goal.show_near-requires-clause-left

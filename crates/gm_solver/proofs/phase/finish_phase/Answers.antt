@@ -4,7 +4,7 @@ use Rattle.gm_game.specs.declared.limits.TheConstants.{REMOTENESS}
 use Rattle.gm_game.specs.declared.position.Place.{Place}
 use Rattle.gm_game.specs.Places.{IsLastLevel}
 use Rattle.gm_table.specs.Tables.{AreHeld}
-use Rattle.gm_shard.specs.Steps.{place_of}
+use Rattle.gm_deliveries.specs.Steps.{place_of}
 use Rattle.gm_solver.proofs.Far.{level_near, whole_covered}
 use Rattle.gm_solver.proofs.phase.finish_phase.Goals as goal
 

@@ -1,5 +1,5 @@
 use Rattle.std.proofs.Common.{◌≡◌, ◌++◌, [], ◌∷◌, length, sym, ap, subst, arith, length-append}
-use Rattle.gm_shard.specs.Begin.{AreStarts}
+use Rattle.gm_deliveries.specs.Begin.{AreStarts}
 use Rattle.gm_testing.proofs.ByHand.{starts_none, starts_more}
 use Rattle.gm_testing.proofs.by_hand.starts_of.Goals as goal
 

@@ -1,4 +1,4 @@
-use Rattle.gm_shard.specs.State.{pairs_in}
+use Rattle.gm_deliveries.specs.State.{pairs_in}
 use Rattle.gm_desk.specs.Spots.{spot_of}
 use Rattle.gm_testing.proofs.pass_desks.pass_range.Given as goal
 

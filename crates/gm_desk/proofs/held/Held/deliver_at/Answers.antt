@@ -1,6 +1,6 @@
 use Rattle.std.proofs.Common.{◌≡◌, ℕ, ◌+◌, ap, subst, ◌∙◌, arith}
-use Rattle.gm_shard.specs.State.{pairs_in}
-use Rattle.gm_shard.specs.Delivery.{Delivers}
+use Rattle.gm_deliveries.specs.State.{pairs_in}
+use Rattle.gm_deliveries.specs.Delivery.{Delivers}
 use Rattle.gm_desk.specs.Amounts.{Part, HeldData}
 use Rattle.gm_desk.proofs.Gains.{gained, stays, answered}
 use Rattle.gm_desk.proofs.held.Held.deliver_at.Goals as goal

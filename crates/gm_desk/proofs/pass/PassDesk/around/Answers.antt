@@ -1,7 +1,7 @@
 use Rattle.std.proofs.Common.{ℕ, sym, subst}
 use Rattle.gm_frontier.specs.Counts.{IsNumberBefore}
-use Rattle.gm_shard.specs.State.{pairs_in}
-use Rattle.gm_shard.proofs.CloseLemmas.{number_before}
+use Rattle.gm_deliveries.specs.State.{pairs_in}
+use Rattle.gm_deliveries.proofs.CloseLemmas.{number_before}
 use Rattle.gm_desk.specs.Spots.{Spot}
 use Rattle.gm_desk.specs.Rounds.{pairs_into, IsRound}
 use Rattle.gm_desk.proofs.RoundLemmas.{round_first, level_into}

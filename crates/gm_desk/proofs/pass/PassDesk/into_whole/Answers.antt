@@ -1,6 +1,6 @@
 use Rattle.std.proofs.Common.{◌≡◌, ◌≤◌, arith}
-use Rattle.gm_shard.specs.State.{pairs_in}
-use Rattle.gm_shard.proofs.CloseLemmas.{closes_reached}
+use Rattle.gm_deliveries.specs.State.{pairs_in}
+use Rattle.gm_deliveries.proofs.CloseLemmas.{closes_reached}
 use Rattle.gm_desk.proofs.RoundLemmas.{round_whole, round_all}
 use Rattle.gm_desk.proofs.pass.PassDesk.into_whole.Goals as goal
 

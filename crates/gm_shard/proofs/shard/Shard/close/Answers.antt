@@ -1,7 +1,7 @@
 use Rattle.std.proofs.Common.{Ok, sym, ap, subst, ◌∙◌}
 use Rattle.gm_game.specs.declared.position.Place.{Place}
-use Rattle.gm_shard.specs.State.{ShardState}
-use Rattle.gm_shard.specs.Closing.{Closes}
+use Rattle.gm_deliveries.specs.State.{ShardState}
+use Rattle.gm_deliveries.specs.Closing.{Closes}
 use Rattle.gm_shard.proofs.ShardLemmas.{closed_wins, closed_ties}
 use Rattle.gm_shard.proofs.shard.Shard.close.Goals as goal
 

@@ -1,9 +1,9 @@
 use Rattle.std.proofs.Common.{◌≡◌, ◌-◌, ◌++◌, ◌∷◌, [], Result, Ok, sym, ap, subst, ◌∙◌, true≢false}
 use Rattle.gm_game.specs.declared.position.Place.{Place}
-use Rattle.gm_shard.specs.declared.status.Delivery.{Delivery}
-use Rattle.gm_shard.specs.declared.status.Delivery.TheVariants.{FreshSettled}
-use Rattle.gm_shard.specs.declared.status.Refused.{Refused}
-use Rattle.gm_shard.specs.Delivery.{Delivers}
+use Rattle.gm_deliveries.specs.declared.status.Delivery.{Delivery}
+use Rattle.gm_deliveries.specs.declared.status.Delivery.TheVariants.{FreshSettled}
+use Rattle.gm_deliveries.specs.declared.status.Refused.{Refused}
+use Rattle.gm_deliveries.specs.Delivery.{Delivers}
 use Rattle.gm_shard.proofs.ShardLemmas.{quiet, room_wins, room_ties, pushed_wins, pushed_ties}
 use Rattle.gm_shard.proofs.shard.Shard.deliver_at.Goals as goal
 

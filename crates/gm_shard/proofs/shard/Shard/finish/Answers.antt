@@ -5,7 +5,7 @@ use Rattle.gm_game.specs.declared.position.Phase.{Phase}
 use Rattle.gm_game.specs.declared.position.Phase.TheVariants.{Ties}
 use Rattle.gm_game.specs.declared.position.Solved.{Solved}
 use Rattle.gm_game.specs.Places.{IsLastLevel}
-use Rattle.gm_shard.specs.Closing.{record_of}
+use Rattle.gm_deliveries.specs.Closing.{record_of}
 use Rattle.gm_table.specs.Packed.{IsNear}
 use Rattle.gm_shard.proofs.FinishLemmas.{part_more, record_near}
 use Rattle.gm_shard.proofs.shard.Shard.finish.Goals as goal

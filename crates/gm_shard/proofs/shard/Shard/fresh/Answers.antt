@@ -5,9 +5,9 @@ use Rattle.std.proofs.lemmas.List.Sorted.{IsNonDecreasingBy-from_sort}
 use Rattle.gm_game.specs.declared.position.Place.{Place}
 use Rattle.gm_frontier.specs.Notes.{NoteData}
 use Rattle.gm_frontier.specs.Levels.{IsRun}
-use Rattle.gm_shard.specs.State.{ShardState}
+use Rattle.gm_deliveries.specs.State.{ShardState}
 use Rattle.gm_shard.specs.Queues.{IsSettledAt, AreSettledAt, AreNotesAt}
-use Rattle.gm_shard.specs.Steps.{place_of}
+use Rattle.gm_deliveries.specs.Steps.{place_of}
 use Rattle.gm_shard.proofs.FreshLemmas.{settled_permuted, run_of}
 use Rattle.gm_shard.proofs.shard.Shard.fresh.Goals as goal
 

@@ -1,6 +1,6 @@
 use Rattle.std.proofs.Common.{sym, ap, subst, ◌∙◌}
 use Rattle.gm_game.specs.declared.position.Place.{Place}
-use Rattle.gm_shard.specs.State.{ShardState}
+use Rattle.gm_deliveries.specs.State.{ShardState}
 use Rattle.gm_shard.specs.Queues.{AreSettledAt}
 use Rattle.gm_shard.proofs.FreshLemmas.{present_wins, present_ties}
 use Rattle.gm_shard.proofs.shard.Shard.present.Goals as goal

@@ -1,7 +1,7 @@
 use Rattle.std.proofs.Common.{◌≡◌, ℕ, ◌+◌, ◌*◌, ◌<◌, min, List, Some, ◌++◌, length, length-append, slice_get, sym, ap, subst, ◌∙◌, arith}
 use Rattle.std.proofs.lemmas.Option.{slice_get-get_or}
-use Rattle.gm_shard.specs.declared.status.Start.{Start}
-use Rattle.gm_shard.specs.Begin.{AreStarts}
+use Rattle.gm_deliveries.specs.declared.status.Start.{Start}
+use Rattle.gm_deliveries.specs.Begin.{AreStarts}
 use Rattle.gm_solver.specs.Blocks.{IsPart}
 use Rattle.gm_solver.proofs.BlockLemmas.{starts_more}
 use Rattle.gm_solver.proofs.tier_lists.Frame.in_order.Goals as goal

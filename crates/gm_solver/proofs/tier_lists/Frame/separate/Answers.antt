@@ -1,6 +1,6 @@
 use Rattle.std.proofs.Common.{rules, ◌≡◌, ℕ, suc, IfOk, Vec, [], ◌∷◌, ◌++◌, length, length-append, sym, ap, subst, arith}
 use Rattle.std.specs.declared.alloc.Global.{Global}
-use Rattle.gm_shard.specs.declared.status.Start.{Start}
+use Rattle.gm_deliveries.specs.declared.status.Start.{Start}
 use Rattle.gm_solver.specs.Blocks.{block_in, block_at, IsPart, IsBlock, AreInPlace, AreParts}
 use Rattle.gm_solver.proofs.BlockLemmas.{none_at, one_at, zip_first, zip_step}
 use Rattle.gm_solver.proofs.tier_lists.Frame.separate.Goals as goal

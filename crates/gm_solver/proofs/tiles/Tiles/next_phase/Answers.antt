@@ -1,6 +1,6 @@
 use Rattle.std.proofs.Common.{rules, sym, ap, ◌∙◌}
-use Rattle.gm_shard.specs.State.{ShardState}
-use Rattle.gm_shard.specs.Steps.{place_of}
+use Rattle.gm_deliveries.specs.State.{ShardState}
+use Rattle.gm_deliveries.specs.Steps.{place_of}
 use Rattle.gm_solver.proofs.RoundLemmas.{turned_none}
 use Rattle.gm_solver.proofs.tiles.Tiles.next_phase.Goals as goal
 

@@ -1,6 +1,6 @@
 use Rattle.std.proofs.Common.{◌≡◌, ℕ, ◌+◌, subst, arith}
 use Rattle.gm_frontier.specs.Counts.{IsNumberBefore}
-use Rattle.gm_shard.specs.Steps.{place_of}
+use Rattle.gm_deliveries.specs.Steps.{place_of}
 use Rattle.gm_solver.proofs.TilingLemmas.{number_all, number_small}
 use Rattle.gm_solver.proofs.tiles.Tiles.number.Goals as goal
 

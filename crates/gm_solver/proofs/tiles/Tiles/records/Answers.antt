@@ -1,4 +1,4 @@
-use Rattle.gm_shard.specs.Steps.{place_of}
+use Rattle.gm_deliveries.specs.Steps.{place_of}
 use Rattle.gm_solver.proofs.TilingLemmas.{four_parts}
 use Rattle.gm_solver.proofs.tiles.Tiles.records.Goals as goal
 

@@ -1,7 +1,7 @@
 use Rattle.std.proofs.Common.{subst, refl}
 use Rattle.gm_game.specs.declared.position.Place.{Place}
 use Rattle.gm_game.specs.Places.{IsLastLevel}
-use Rattle.gm_shard.specs.Steps.{place_of}
+use Rattle.gm_deliveries.specs.Steps.{place_of}
 use Rattle.gm_solver.proofs.Final.{end_deliveries, not_too_far}
 use Rattle.gm_solver.proofs.tiles.Tiles.table.Goals as goal
 

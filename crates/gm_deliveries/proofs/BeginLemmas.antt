@@ -1,0 +1,135 @@
+-- A shard with no pair.
+use Rattle.std.proofs.Common.{◌≡◌, ℕ, ◌+◌, ◌-◌, ◌<◌, ◌≤◌, inl, List, [], length, get_or, map, refl, ap, sym, subst, ◌∙◌, arith, Some, None, replicate, ◌*◌, take, ◌++◌, ◌∷◌}
+use Rattle.std.specs.List.{Contains, slice_get}
+use Rattle.std.proofs.lemmas.List.{length-map, get_or-map, get_or-replicate, length-replicate, map_more}
+use Rattle.std.proofs.lemmas.List.Folds.{sum_by-replicate}
+use Rattle.std.proofs.lemmas.Option.{slice_get-get_or, get_or_from_slice_get}
+use Rattle.gm_game.specs.declared.limits.TheConstants.{MOVES, TIER_SIZE}
+use Rattle.gm_game.specs.declared.position.Position.{Position}
+use Rattle.gm_game.specs.declared.position.End.{End}
+use Rattle.gm_game.specs.declared.position.End.TheVariants.{Lose as EndLose, Tie as EndTie, Win as EndWin}
+use Rattle.gm_game.specs.declared.position.Phase.{Phase}
+use Rattle.gm_game.specs.declared.position.Phase.TheVariants.{WinLose, Ties}
+use Rattle.gm_game.specs.declared.position.Value.TheVariants.{Lose, Draw, Tie, Win}
+use Rattle.gm_game.specs.Laws.{IsGame}
+use Rattle.gm_game.specs.Settling.{IsUndecided}
+use Rattle.gm_game.proofs.ChildrenLemmas.{canonical_children_few}
+use Rattle.gm_game.specs.Rules.{Rules, at}
+use Rattle.gm_game.specs.Places.{StandsBefore, IsPlaceBefore}
+use Rattle.gm_game.specs.Children.{AreAscending, canonical_children_of}
+use Rattle.gm_game.specs.Records.{from_end}
+use Rattle.gm_deliveries.specs.declared.status.Start.{Start}
+use Rattle.gm_deliveries.specs.declared.status.Start.TheVariants.{Hole as NoStart, Ended, Inner}
+use Rattle.gm_deliveries.specs.declared.status.Status.{Status}
+use Rattle.gm_deliveries.specs.declared.status.Status.TheVariants.{Hole, Settled}
+use Rattle.gm_deliveries.specs.State.{ShardState, IsInRange, delivered_to, state_of, children_of_masks}
+use Rattle.gm_deliveries.specs.Status.{In, HasStatus, StatusIs}
+use Rattle.gm_deliveries.specs.Good.{IsShard, IsWithinLimit, IsKept, IsCounter}
+use Rattle.gm_deliveries.specs.Begin.{IsStart, AreStarts, first_status, first_left, first_state}
+use Rattle.gm_game.proofs.SetLemmas.{has_none}
+use Rattle.gm_deliveries.proofs.MaskList.{masks_none}
+
+near_end : (e : End) → IsWithinLimit (Settled (from_end e))
+near_end EndLose = omega arith
+near_end EndTie = omega arith
+near_end EndWin = omega arith
+
+-- no child settles nothing
+pub nothing_settled : (r : Rules) (p : Position) → IsUndecided r p (In [])
+nothing_settled r p Lose n (m, e, all, x) = let (c, i, h) = x.longest in has_none c i
+nothing_settled r p Draw n x = x
+nothing_settled r p Tie n (m, e, none, x) = let (c, i, h) = x.one in has_none c i
+nothing_settled r p Win n (m, e, x) = let (c, i, h) = x.one in has_none c i
+
+first_is : (r : Rules) (p : Position) (x : Start) → IsStart r p x → HasStatus r p [] (first_status x) × IsWithinLimit (first_status x)
+first_is r p NoStart s = (s, tt)
+first_is r p (Ended e) s = (inl (record { canonical = s.0; ended = e; primitive = s.1; value = refl }), near_end e)
+first_is r p (Inner n) s =
+    ((s.0, nothing_settled r p), tt)
+
+nothing_before : (r : Rules) (p : Position) (ph : Phase) (n : ℕ) → IsPlaceBefore ph n WinLose 0 → ⊥
+nothing_before r p WinLose n b = absurd (omega arith)
+nothing_before r p Ties n b = b
+
+none_at : (n k : ℕ) → k < n → get_or (replicate n []) k [] ≡ (let e : List Position = [] in e)
+none_at n k l = get_or-replicate n k [] [] l
+
+pub first_good : (r : Rules) (tier lo : ℕ) (starts : List Start) → AreStarts r tier lo starts → IsShard r (first_state tier lo (length starts)) (map first_status starts)
+first_good r tier lo starts are = record {
+  once = λ (i : ℕ) (m : IsInRange (first_state tier lo (length starts)) i). subst AreAscending (sym (empty i m)) tt;
+  pairs = λ (i : ℕ) (c : Position) (m : IsInRange (first_state tier lo (length starts)) i) (h : Contains (delivered_to (first_state tier lo (length starts)) i) c).
+      absurd (has_none c (subst (λ (d : List Position). Contains d c) (empty i m) h));
+  whole = λ (i : ℕ) (c : Position) m p (b : StandsBefore r WinLose 0 c). absurd (nothing_before r c b.own_phase b.own_level b.before);
+  fits = omega arith;
+  many = length-map starts first_status ∙ sym (length-replicate (length starts) []);
+  known = λ (i : ℕ) (x : Status) (m : IsInRange (first_state tier lo (length starts)) i) (got : slice_get (map first_status starts) (i - lo) ≡ Some x).
+      let l : i - lo < length starts = short i m in
+      let s : Start = get_or starts (i - lo) NoStart in
+      let is : slice_get starts (i - lo) ≡ Some s = slice_get-get_or starts (i - lo) NoStart l in
+      let at' : lo + (i - lo) ≡ i = (let q : lo ≤ i = m.0 in omega arith) in
+      let k : HasStatus r (at tier (lo + (i - lo))) [] (first_status s) × IsWithinLimit (first_status s) = first_is r (at tier (lo + (i - lo))) s (are (i - lo) s is) in
+      let same : first_status s ≡ x = sym (get_or-map first_status starts (i - lo) NoStart Hole l) ∙ get_or_from_slice_get (map first_status starts) (i - lo) x Hole got in
+      subst (λ (y : Status). StatusIs r (first_state tier lo (length starts)) i y × IsWithinLimit y) same
+      (subst (λ (d : List Position). HasStatus r (at tier i) d (first_status s)) (sym (empty i m)) (subst (λ (j : ℕ). HasStatus r (at tier j) [] (first_status s)) at' k.0), k.1);
+}
+  where
+    short : (i : ℕ) → IsInRange (first_state tier lo (length starts)) i → i - lo < length starts
+    short i m = let e : length (replicate (length starts) (let e : List Position = [] in e)) ≡ length starts = length-replicate (length starts) [] in let a = m.0 in let b = m.1 in omega arith
+
+    empty : (i : ℕ) → IsInRange (first_state tier lo (length starts)) i → delivered_to (first_state tier lo (length starts)) i ≡ []
+    empty i m = none_at (length starts) (i - lo) (short i m)
+
+-- and of the other fields
+pub first_kept : (r : Rules) (tier lo : ℕ) (starts : List Start) → AreStarts r tier lo starts → lo + length starts ≤ TIER_SIZE → IsKept r (first_state tier lo (length starts)) (map first_status starts) (map first_left starts) 0
+first_kept r tier lo starts are few' = record {
+  shard = first_good r tier lo starts are;
+  as_many = length-map starts first_left ∙ sym (length-replicate (length starts) []);
+  counted = λ (i n : ℕ) (m : IsInRange (first_state tier lo (length starts)) i) (got : slice_get (map first_left starts) (i - lo) ≡ Some n).
+      let l : i - lo < length starts = (let e : length (replicate (length starts) (let e : List Position = [] in e)) ≡ length starts = length-replicate (length starts) [] in let a = m.0 in let b = m.1 in omega arith) in
+      let s : Start = get_or starts (i - lo) NoStart in
+      let is : slice_get starts (i - lo) ≡ Some s = slice_get-get_or starts (i - lo) NoStart l in
+      let at' : lo + (i - lo) ≡ i = (let q : lo ≤ i = m.0 in omega arith) in
+      let k : IsStart r (at tier i) s = subst (λ (j : ℕ). IsStart r (at tier j) s) at' (are (i - lo) s is) in
+      let same : first_left s ≡ n = sym (get_or-map first_left starts (i - lo) NoStart 0 l) ∙ get_or_from_slice_get (map first_left starts) (i - lo) n 0 got in
+      subst (λ (y : ℕ). IsCounter r (first_state tier lo (length starts)) i y) same (first_counter r tier lo (length starts) i s (none_at (length starts) (i - lo) l) k);
+  number = sym (sum_by-replicate (length {A = Position}) (length starts) [] ∙ (let z : length starts * 0 ≡ 0 = omega arith in z));
+  short = λ (i : ℕ) (m : IsInRange (first_state tier lo (length starts)) i).
+      let e : length (replicate (length starts) (let e : List Position = [] in e)) ≡ length starts = length-replicate (length starts) [] in
+      let l : i - lo < length starts = (let a = m.0 in let b = m.1 in omega arith) in
+      let z = ap (λ (xs : List Position). length xs) (none_at (length starts) (i - lo) l) in omega arith;
+  few = (let e : length (replicate (length starts) (let e : List Position = [] in e)) ≡ length starts = length-replicate (length starts) [] in omega arith);
+}
+  where
+    first_counter : (r : Rules) (tier lo n i : ℕ) (s : Start) → delivered_to (first_state tier lo n) i ≡ [] → IsStart r (at tier i) s → IsCounter r (first_state tier lo n) i (first_left s)
+    first_counter r tier lo n i NoStart e k = record { inner = λ x. absurd (k (x.legal, x.canonical)); other = λ _. refl }
+    first_counter r tier lo n i (Ended x) e k = record { inner = λ h. absurd (let z : None ≡ Some x = sym h.unended ∙ k.1 in cc); other = λ _. refl }
+    first_counter r tier lo n i (Inner c) e k = record {
+      inner = λ _. (let z = ap (λ (xs : List Position). length xs) e in let f : c ≡ length (canonical_children_of r (at tier i)) = k.1 in omega arith);
+      other = λ none. absurd (none k.0);
+    }
+
+-- a counter begins small
+pub small_start : (r : Rules) → IsGame r → (p : Position) (s : Start) → IsStart r p s → first_left s ≤ MOVES
+small_start r g p NoStart k = omega arith
+small_start r g p (Ended e) k = omega arith
+small_start r g p (Inner c) k = let few = canonical_children_few r g p k.0.legal in omega (arith, k.1)
+
+-- the state of masks with no bit
+pub first_masks : (r : Rules) (tier lo n : ℕ) (ms : List ℕ) → ms ≡ replicate n 0 → state_of r tier lo WinLose 0 ms ≡ first_state tier lo n
+first_masks r tier lo n ms e =
+    ap (λ (ds : List (List Position)). let s : ShardState = record { tier = tier; lo = lo; phase = WinLose; level = 0; delivered = ds } in s)
+    (ap (λ (xs : List ℕ). children_of_masks r tier lo xs) e ∙ masks_none r tier lo n)
+
+-- what the fields keep at the start
+pub first_fields : (r : Rules) (tier lo : ℕ) (starts : List Start) → AreStarts r tier lo starts → lo + length starts ≤ TIER_SIZE
+    → (ms ls : List ℕ) (ss : List Status) → ms ≡ replicate (length starts) 0 → ls ≡ map first_left starts → ss ≡ map first_status starts → IsKept r (state_of r tier lo WinLose 0 ms) ss ls 0
+first_fields r tier lo starts are few' ms ls ss m l s =
+    subst (λ (xs : List Status). IsKept r (state_of r tier lo WinLose 0 ms) xs ls 0) (sym s)
+    (subst (λ (ys : List ℕ). IsKept r (state_of r tier lo WinLose 0 ms) (map first_status starts) ys 0) (sym l)
+    (subst (λ (t : ShardState). IsKept r t (map first_status starts) (map first_left starts) 0) (sym (first_masks r tier lo (length starts) ms m))
+    (first_kept r tier lo starts are few')))
+
+-- one more turn of a loop that maps a list
+pub mapped_more : {X A : Type 0} (f : X → A) (xs : List X) (i : ℕ) (d : X) (old new : List A) (y : A) → i < length xs → old ≡ map f (take i xs) → new ≡ old ++ y ∷ [] → y ≡ f (get_or xs i d) → new ≡ map f (take (i + 1) xs)
+mapped_more {X} {A} f xs i d old new y inside before pushed is =
+    pushed ∙ ap (λ (ys : List A). ys ++ y ∷ []) before ∙ ap (λ (z : A). map f (take i xs) ++ z ∷ []) is ∙ sym (map_more f xs i d inside)

@@ -1,0 +1,8 @@
+pub mod MaskList
+pub mod StatusLemmas
+pub mod StepLemmas
+pub mod BeginLemmas
+pub mod GoodLemmas
+pub mod CloseLemmas
+pub mod NoteLemmas
+pub mod CounterLemmas

@@ -1,0 +1,11 @@
+use Rattle.std.proofs.Common.{◌≤◌, ◌*◌, subst}
+use Rattle.gm_game.specs.declared.limits.TheConstants.{MOVES, TIER_SIZE}
+use Rattle.gm_deliveries.specs.State.{ShardState, pairs_in, state_of}
+use Rattle.gm_deliveries.proofs.CloseLemmas.{few_there}
+use Rattle.gm_deliveries.proofs.deliveries.Deliveries.delivered.Goals as goal
+
+pub returns-clause-small : goal.returns-clause-small
+returns-clause-small g c =
+    let r = g.G.Game.rules in
+    let f = c.self.inside in
+    subst (λ (s : ShardState). pairs_in s ≤ MOVES * TIER_SIZE) c.self.view_is (few_there r (state_of r f.tier f.lo f.phase f.level f.masks.items) f.statuses f.left.items f.delivered c.self.invariant)

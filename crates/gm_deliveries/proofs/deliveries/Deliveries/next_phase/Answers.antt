@@ -1,0 +1,15 @@
+use Rattle.std.proofs.Common.{ap, subst, sym}
+use Rattle.gm_deliveries.specs.State.{ShardState, state_of}
+use Rattle.gm_deliveries.specs.Steps.{CanTurn, first_ties}
+use Rattle.gm_deliveries.proofs.CloseLemmas.{kept_ties}
+use Rattle.gm_deliveries.proofs.deliveries.Deliveries.next_phase.Goals as goal
+
+pub invariant_of-self : goal.invariant_of-self
+invariant_of-self g c =
+    let r = g.G.Game.rules in
+    let f = c.self.inside in
+    let s : ShardState = state_of r f.tier f.lo f.phase f.level f.masks.items in
+    kept_ties r g.met.G.Game.lawful s f.statuses f.left.items f.delivered c.self.invariant c.args.last.now c.place-place.ensures.last (subst (λ (u : ShardState). CanTurn u c.args.last.now) (sym c.self.view_is) c.requires)
+
+pub returns : goal.returns
+returns g c = ap first_ties c.self.view_is

@@ -1,0 +1,11 @@
+use Rattle.std.proofs.Common.{◌≡◌, List, set, ap, ◌∙◌}
+use Rattle.std.proofs.lemmas.List.{map-set}
+use Rattle.gm_deliveries.specs.declared.status.Status.{Status}
+use Rattle.gm_deliveries.specs.Statuses.{status_of}
+use Rattle.gm_deliveries.proofs.statuses.Statuses.set.Goals as goal
+
+pub returns : goal.returns
+returns c =
+    map-set status_of c.self.inside.numbers.items c.args.k c.number_of_status.result
+    ∙ ap (set (Rattle.std.proofs.Common.map status_of c.self.inside.numbers.items) c.args.k) c.number_of_status.ensures
+    ∙ ap (λ (xs : List Status). set xs c.args.k c.args.status) c.self.view_is

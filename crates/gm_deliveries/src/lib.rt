@@ -1,0 +1,9 @@
+//! The children delivered to a range of positions, and what they settle.
+#![tactic(auto)]
+
+pub mod begin;
+mod bits;
+pub mod deliveries;
+pub mod place;
+pub mod status;
+mod statuses;

@@ -1,0 +1,149 @@
+//! What is known of an index, and what a delivery makes of it.
+ghost use Rattle.std.specs.Prelude.{◌≡◌, ◌+◌, ◌<◌, ◌≤◌, ◌^◌};
+ghost use Rattle.gm_frontier.specs.Notes.{phase_of};
+ghost use Rattle.gm_deliveries.specs.Delivery.{next_status, is_settling, number_of};
+ghost use Rattle.gm_deliveries.specs.Begin.{first_status, first_left};
+
+use gm_game::evaluate::of_end;
+use gm_game::limits::MOVES;
+use gm_game::position::{End, Phase, Solved, Value};
+
+/// What an index is at the start.
+#[derive(Clone, Copy, Debug, PartialEq, Eq)]
+pub enum Start {
+    Hole,
+    Ended(End),
+    Inner { children: u8 },
+}
+
+/// What is known of an index.
+#[derive(Clone, Copy, Debug, PartialEq, Eq)]
+pub enum Status {
+    Hole,
+    Undecided,
+    Settled(Solved),
+}
+
+/// What a delivery did.
+#[derive(Clone, Copy, Debug, PartialEq, Eq)]
+pub enum Delivery {
+    Fresh,
+    FreshSettled,
+    Repeat,
+}
+
+/// Why a delivery was refused.
+#[derive(Clone, Copy, Debug, PartialEq, Eq)]
+pub enum Refused {
+    NotThisLevel,
+    NotMine,
+    NotAParent,
+    TooFar,
+}
+
+impl Refused {
+    /// The number of the refusal.
+    pub fn number(&self) -> u8
+        ensures { result ≡ number_of self.now }
+    {
+        match self {
+            Refused::NotThisLevel => 1,
+            Refused::NotMine => 2,
+            Refused::NotAParent => 3,
+            Refused::TooFar => 4,
+        }
+    }
+}
+
+/// Fewer pairs were delivered than expected.
+#[derive(Clone, Copy, Debug, PartialEq, Eq)]
+pub struct Short {
+    pub delivered: u64,
+    pub expected: u64,
+}
+
+impl Short {
+    /// The number of the error.
+    pub fn number(&self) -> u8
+        ensures { result ≡ 1 }
+    {
+        1
+    }
+}
+
+/// What a note makes of a status, where `last` says whether it is the last child.
+pub(crate) fn next_status(old: Status, note: Solved, last: bool) -> Status
+    requires { note.remoteness + 1 < 2 ^ 32 }
+    ensures { result ≡ next_status old note last }
+{
+    match old {
+        Status::Undecided => match note.value {
+            Value::Lose => Status::Settled(Solved {
+                value: Value::Win,
+                remoteness: note.remoteness + 1,
+            }),
+            Value::Draw => Status::Undecided,
+            Value::Tie => Status::Settled(Solved {
+                value: Value::Tie,
+                remoteness: note.remoteness + 1,
+            }),
+            Value::Win => {
+                if last {
+                    Status::Settled(Solved {
+                        value: Value::Lose,
+                        remoteness: note.remoteness + 1,
+                    })
+                } else {
+                    Status::Undecided
+                }
+            }
+        },
+        Status::Hole => Status::Hole,
+        Status::Settled(x) => Status::Settled(x),
+    }
+}
+
+pub(crate) fn first_status(start: Start) -> Status
+    ensures { result ≡ first_status start }
+{
+    match start {
+        Start::Hole => Status::Hole,
+        Start::Ended(e) => Status::Settled(of_end(e)),
+        Start::Inner { children: _ } => Status::Undecided,
+    }
+}
+
+/// The counter that an index begins with.
+pub(crate) fn first_left(start: Start) -> u8
+    requires { first_left start ≤ MOVES }
+    ensures { result ≡ first_left start }
+{
+    match start {
+        Start::Hole => 0,
+        Start::Ended(_) => 0,
+        Start::Inner { children } => children,
+    }
+}
+
+/// The phase in which a value is settled.
+pub fn phase_of(value: Value) -> Phase
+    ensures { result ≡ phase_of value }
+{
+    match value {
+        Value::Lose | Value::Draw | Value::Win => Phase::WinLose,
+        Value::Tie => Phase::Ties,
+    }
+}
+
+/// Whether a status is settled in the step from `old` to `next`.
+pub(crate) fn is_settling(old: Status, next: Status) -> bool
+    ensures { result ≡ is_settling old next }
+{
+    match old {
+        Status::Undecided => match next {
+            Status::Settled(_) => true,
+            _ => false,
+        },
+        _ => false,
+    }
+}

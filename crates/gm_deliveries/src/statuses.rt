@@ -1,0 +1,89 @@
+//! Statuses of four bytes each.
+ghost use Rattle.std.specs.Prelude.{◌≡◌, ◌<◌, ◌++◌, [], ◌∷◌, Some, length, slice_get, set, map, IfOk, OnOk};
+ghost use Rattle.gm_deliveries.specs.Good.{IsWithinLimit};
+ghost use Rattle.gm_deliveries.specs.Statuses.{status_of};
+
+use crate::status::Status;
+use gm_table::packed::{number_of, unpacked};
+use std::alloc::{AllocError, Global};
+use std::marker::Model;
+
+/// The number of an undecided index: no record has it.
+const UNDECIDED: u32 = 1;
+
+/// Statuses of four bytes each. Contracts see the statuses.
+#[derive(Drop)]
+pub(crate) struct Statuses {
+    numbers: Vec<u32>,
+}
+
+impl Model for Statuses {
+    ghost use Rattle.std.specs.Prelude.{List, map};
+    ghost use Rattle.gm_deliveries.specs.declared.status.Status.{Status};
+    ghost use Rattle.gm_deliveries.specs.Statuses.{status_of};
+
+    ghost Value = { List Status };
+
+    ghost view = { λ s. map status_of s.numbers.items };
+}
+
+impl Statuses {
+    /// An empty list, with room for this many statuses.
+    pub(crate) fn with_capacity(alloc: Global, room: usize) -> Result<Statuses, AllocError>
+        ensures { IfOk result (λ statuses. statuses ≡ []) }
+    {
+        let numbers = Vec::with_capacity(alloc, room)?;
+        Ok(Statuses { numbers })
+    }
+
+    /// Adds a status at the end.
+    pub(crate) fn push(&mut self, status: Status) -> Result<(), AllocError>
+        requires { IsWithinLimit status }
+        ensures { OnOk result (self.new ≡ self.old ++ status ∷ []) }
+    {
+        self.numbers.push(number_of_status(status))?;
+        Ok(())
+    }
+
+    /// The status at a place.
+    pub(crate) fn get(&self, k: usize) -> Status
+        requires { k < length self.now }
+        ensures { slice_get self.now k ≡ Some result }
+    {
+        status_of(self.numbers[k])
+    }
+
+    /// Puts a status in the place of another.
+    pub(crate) fn set(&mut self, k: usize, status: Status)
+        requires place { k < length self.old }
+        requires near { IsWithinLimit status }
+        ensures { self.new ≡ set self.old k status }
+    {
+        self.numbers[k] = number_of_status(status);
+    }
+}
+
+// The number of a status.
+fn number_of_status(status: Status) -> u32
+    requires { IsWithinLimit status }
+    ensures { status_of result ≡ status }
+{
+    match status {
+        Status::Hole => number_of(None),
+        Status::Undecided => UNDECIDED,
+        Status::Settled(solved) => number_of(Some(solved)),
+    }
+}
+
+// The status with this number.
+fn status_of(number: u32) -> Status
+    ensures { result ≡ status_of number }
+{
+    if number == UNDECIDED {
+        return Status::Undecided;
+    }
+    match unpacked(number) {
+        None => Status::Hole,
+        Some(solved) => Status::Settled(solved),
+    }
+}
