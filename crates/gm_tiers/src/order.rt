@@ -16,16 +16,10 @@ use std::alloc::{AllocError, Global};
 use std::marker::{Model, PhantomData};
 
 /// All tiers that a game reaches from one of its tiers, each once and child tiers first. Contracts see their list.
+#[derive(Drop)]
 pub struct TierOrder<G: Game> {
-    tiers: IndexSet<u64>,
+    tiers: Vec<u64>,
     game: PhantomData<G>,
-}
-
-// Let go by one call, so that a proof follows one value and not each field.
-impl<G: Game> Drop for TierOrder<G> {
-    fn drop(self) {
-        let TierOrder { tiers: _, game: _ } = self;
-    }
 }
 
 impl<G: Game> Model for TierOrder<G> {
@@ -34,9 +28,9 @@ impl<G: Game> Model for TierOrder<G> {
 
     ghost Value = { List ℕ };
 
-    ghost view = { λ o. o.tiers.keys };
+    ghost view = { λ o. o.tiers.items };
 
-    ghost invariant = { λ o. IsSomeOrder G.rules o.tiers.keys };
+    ghost invariant = { λ o. IsSomeOrder G.rules o.tiers.items };
 }
 
 impl<G: Game> TierOrder<G> {
@@ -68,9 +62,9 @@ impl<G: Game> TierOrder<G> {
         ensures too_large { (tier : ℕ) → IsErrOf result (TierError.TierTooLarge tier) → IsTooLarge G.rules first tier }
         ensures reached { (tier : ℕ) → IsErrOf result (TierError.TierTooLarge tier) → IsReachedFrom G.rules first tier }
     {
-        let mut tiers = search::<G>(alloc, first)?;
-        match put_in_order::<G>(&mut tiers) {
-            Ok(()) => Ok(TierOrder {
+        let mut found = search::<G>(alloc, first)?;
+        match put_in_order::<G>(alloc, &mut found) {
+            Ok(tiers) => Ok(TierOrder {
                 tiers,
                 game: PhantomData,
             }),
@@ -88,14 +82,15 @@ impl<G: Game> TierOrder<G> {
     }
 }
 
-// Sorts tiers by rank and then by number.
-fn put_in_order<G: Game>(tiers: &mut IndexSet<u64>) -> Result<(), AllocError>
-    ensures same { IsPermutation tiers.old.keys tiers.new.keys }
-    ensures ordered { OnOk result (AllPairs (IsBefore G.rules) tiers.new.keys) }
+// Sorts the tiers that were found by rank and then by number, and lists them.
+fn put_in_order<G: Game>(alloc: Global, found: &mut IndexSet<u64>) -> Result<Vec<u64>, AllocError>
+    ensures same { IfOk result (λ tiers. IsPermutation found.old.keys tiers.items) }
+    ensures ordered { IfOk result (λ tiers. AllPairs (IsBefore G.rules) tiers.items) }
 {
-    tiers.sort_unstable_by_key(
+    found.sort_unstable_by_key(
         |tier: &u64| -> (u64, u64)
             ensures { result ≡ (G.rules.tier_rank tier.now, tier.now) }
         { (G::tier_rank(*tier), *tier) },
-    )
+    )?;
+    Vec::from_slice(alloc, found.as_slice())
 }
