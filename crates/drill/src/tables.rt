@@ -17,7 +17,7 @@ use gm_table::tables::Tables;
 use gm_tierdb::decode::{decode as decode_file, decode_v1};
 use gm_tierdb::encode::{encode as encode_table, encode_v1, fits_v1};
 use gm_tierdb::streams::read_text as read_stream;
-use gm_tierdb::version::REMOTENESS_1;
+use gm_record::version::REMOTENESS_1;
 use gm_toys::countdown::Countdown;
 use std::alloc::{AllocError, Global};
 use std::io;

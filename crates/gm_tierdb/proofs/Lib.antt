@@ -1,4 +1,4 @@
-pub mod NumberLemmas
+pub mod LimitLemmas
 pub mod RecordLemmas
 pub mod TextLemmas
 pub mod RefusalLemmas

@@ -7,8 +7,8 @@ use Rattle.gm_game.specs.declared.position.Solved.{Solved}
 use Rattle.gm_game.specs.Rules.{Rules}
 use Rattle.gm_tierdb.specs.declared.file_error.FileError.{FileError}
 use Rattle.gm_tierdb.specs.declared.file_error.FileError.TheVariants.{OutOfMemory, Truncated, BadMagic, WrongGame, WrongTier, WrongSize, BadRecord, Trailing, BadDigest, OldVersion}
-use Rattle.gm_tierdb.specs.declared.version.Version.{Version}
-use Rattle.gm_tierdb.specs.declared.version.Version.TheVariants.{One, Two}
+use Rattle.gm_record.specs.declared.version.Version.{Version}
+use Rattle.gm_record.specs.declared.version.Version.TheVariants.{One, Two}
 use Rattle.gm_tierdb.specs.TierText.{magic, AreRecords, IsVersionText}
 use Rattle.gm_tierdb.specs.Refusals.{HasHeader, HasRecords, RefusesRecords, RefusesIn, IsOld, records_part, body_len, file_len}
 use Rattle.gm_tierdb.proofs.RecordLemmas.{none_bad}

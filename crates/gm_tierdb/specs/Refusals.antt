@@ -7,9 +7,10 @@ use Rattle.gm_game.specs.declared.position.Solved.{Solved}
 use Rattle.gm_game.specs.Rules.{Rules}
 use Rattle.gm_tierdb.specs.declared.file_error.FileError.{FileError}
 use Rattle.gm_tierdb.specs.declared.file_error.FileError.TheVariants.{OutOfMemory, Truncated, BadMagic, WrongGame, WrongTier, WrongSize, BadRecord, Trailing, BadDigest, OldVersion}
-use Rattle.gm_tierdb.specs.declared.version.Version.{Version}
-use Rattle.gm_tierdb.specs.declared.version.Version.TheVariants.{One, Two}
-use Rattle.gm_tierdb.specs.TierText.{magic, width, record_bytes, IsStorable, AreRecords, IsVersionText}
+use Rattle.gm_record.specs.declared.version.Version.{Version}
+use Rattle.gm_record.specs.declared.version.Version.TheVariants.{One, Two}
+use Rattle.gm_record.specs.Numbers.{width, record_bytes, IsStorable}
+use Rattle.gm_tierdb.specs.TierText.{magic, AreRecords, IsVersionText}
 
 -- the first bytes are those of an older version
 abbrev pub IsOld : Version → List ℕ → Type 0

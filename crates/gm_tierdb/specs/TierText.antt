@@ -1,71 +1,21 @@
 -- The bytes of a tier file, in each version of its form.
-use Rattle.std.specs.Prelude.{◌≡◌, ℕ, ◌≤◌, ◌+◌, ◌*◌, List, ◌++◌, length, codes, All, Option, None, Some}
+use Rattle.std.specs.Prelude.{◌≡◌, ℕ, ◌≤◌, List, ◌++◌, length, codes, All, Option}
 use Rattle.std.specs.List.{flat_map}
-use Rattle.std.specs.Int.{Width, to_le_bytes, w16, w32, w64}
+use Rattle.std.specs.Int.{to_le_bytes, w64}
 use Rattle.sha2.specs.Sha256.{sha256}
-use Rattle.gm_game.specs.declared.limits.TheConstants.{REMOTENESS}
-use Rattle.gm_game.specs.declared.position.Value.{Value}
-use Rattle.gm_game.specs.declared.position.Value.TheVariants.{Lose, Draw, Tie, Win}
 use Rattle.gm_game.specs.declared.position.Solved.{Solved}
 use Rattle.gm_game.specs.declared.position.Phase.{Phase}
 use Rattle.gm_game.specs.Rules.{Rules}
 use Rattle.gm_table.specs.Levels.{HasLevel}
-use Rattle.gm_tierdb.specs.declared.version.TheConstants.{REMOTENESS_1}
-use Rattle.gm_tierdb.specs.declared.version.Version.{Version}
-use Rattle.gm_tierdb.specs.declared.version.Version.TheVariants.{One, Two}
+use Rattle.gm_record.specs.declared.version.TheConstants.{REMOTENESS_1}
+use Rattle.gm_record.specs.declared.version.Version.{Version}
+use Rattle.gm_record.specs.declared.version.Version.TheVariants.{One, Two}
+use Rattle.gm_record.specs.Numbers.{record_bytes, IsStorable}
 
 -- what a file of this version begins with
 abbrev pub magic : Version → List ℕ
 magic One = codes "GMTIER01"
 magic Two = codes "GMTIER02"
-
--- the word of a record
-abbrev pub word : Version → Width
-word One = w16
-word Two = w32
-
--- how many bytes that word has
-abbrev pub width : Version → ℕ
-width One = 2
-width Two = 4
-
--- how many numbers there are for each code
-abbrev pub step : Version → ℕ
-step One = 4096
-step Two = 1048576
-
--- the greatest remoteness of a record
-abbrev pub most : Version → ℕ
-most One = REMOTENESS_1
-most Two = REMOTENESS
-
--- the code of a value
-abbrev pub code : Value → ℕ
-code Lose = 1
-code Draw = 2
-code Tie = 3
-code Win = 4
-
--- a draw has remoteness 0, and any other value one within the limit
-abbrev pub IsStorableSolved : Version → Value → ℕ → Type 0
-IsStorableSolved v Lose n = n ≤ most v
-IsStorableSolved v Draw n = n ≡ 0
-IsStorableSolved v Tie n = n ≤ most v
-IsStorableSolved v Win n = n ≤ most v
-
--- a record that a file can have
-abbrev pub IsStorable : Version → Option Solved → Type 0
-IsStorable v None = Unit {0}
-IsStorable v (Some s) = IsStorableSolved v s.value s.remoteness
-
--- the number of a record: 0 where there is none
-abbrev pub record_number : Version → Option Solved → ℕ
-record_number v None = 0
-record_number v (Some s) = code s.value * step v + s.remoteness
-
--- the bytes of a record, the lowest one first
-abbrev pub record_bytes : Version → Option Solved → List ℕ
-record_bytes v o = to_le_bytes (word v) (record_number v o)
 
 -- these bytes are this many records that a file can have
 pub record AreRecords (v : Version) (size : ℕ) (records : List (Option Solved)) (bytes : List ℕ) : Type 0 where

@@ -2,15 +2,17 @@
 ghost use Rattle.std.specs.Prelude.{◌≡◌, ◌+◌, ◌*◌, ◌^◌, ◌<◌, ◌≤◌, IfOk, OnOk, IfErr, IsErrOf, IfSome, IfNone, length, Option, List, MatchResult};
 ghost use Rattle.std.specs.Int.{to_le_bytes, w64};
 ghost use Rattle.gm_game.specs.declared.position.Solved.{Solved};
-ghost use Rattle.gm_tierdb.specs.TierText.{word, width, AreRecords, IsTierText, IsTierText1, IsVersionText};
+ghost use Rattle.gm_record.specs.Numbers.{word, width};
+ghost use Rattle.gm_tierdb.specs.TierText.{AreRecords, IsTierText, IsTierText1, IsVersionText};
 ghost use Rattle.gm_tierdb.specs.Refusals.{IsFirstBad, RefusesRecords, HasRecords, HasHeader, Refuses, Refuses1, RefusesIn};
 
 use crate::file_error::FileError;
 use crate::layout::{DIGEST_LEN, HEADER_LEN, MAGIC_LEN, NAME_END, TIER_END};
-use crate::number::record_of;
-use crate::version::Version;
+use crate::magic::{is_older, magic};
 use gm_game::game::Game;
 use gm_game::position::Solved;
+use gm_record::number::record_of;
+use gm_record::version::Version;
 use sha2::{Digest, Sha256};
 use std::alloc::Global;
 
@@ -89,11 +91,11 @@ fn check_header<G: Game>(
     if bytes.len() < HEADER_LEN {
         return Err(FileError::Truncated);
     }
-    let magic = &bytes[..MAGIC_LEN];
-    if version.is_newer_than(magic) {
+    let first = &bytes[..MAGIC_LEN];
+    if is_older(version, first) {
         return Err(FileError::OldVersion);
     }
-    if magic != version.magic() {
+    if first != magic(version) {
         return Err(FileError::BadMagic);
     }
     if &bytes[MAGIC_LEN..NAME_END] != G::name().as_slice() {

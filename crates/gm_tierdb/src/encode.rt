@@ -2,14 +2,16 @@
 ghost use Rattle.std.specs.Prelude.{◌≡◌, ◌↔◌, ◌≤◌, ◌++◌, IsTrue, IfOk, OnOk, MatchOption, All};
 ghost use Rattle.std.specs.List.{flat_map};
 ghost use Rattle.std.specs.Int.{to_le_bytes, w64};
-ghost use Rattle.gm_tierdb.specs.TierText.{record_bytes, IsStorable, IsTierText, IsTierText1, IsVersionText, AreUpTo, IsFor};
+ghost use Rattle.gm_record.specs.Numbers.{record_bytes, IsStorable};
+ghost use Rattle.gm_tierdb.specs.TierText.{IsTierText, IsTierText1, IsVersionText, AreUpTo, IsFor};
 
 use crate::layout::{DIGEST_LEN, HEADER_LEN, RECORD_LEN};
-use crate::number::number_of;
-use crate::version::{REMOTENESS_1, Version};
+use crate::magic::magic;
 use byteorder::{ByteOrder, LittleEndian};
 use gm_game::game::Game;
 use gm_game::position::{Phase, Solved};
+use gm_record::number::number_of;
+use gm_record::version::{REMOTENESS_1, Version};
 use gm_table::table::Table;
 use sha2::{Digest, Sha256};
 use std::alloc::{AllocError, Global};
@@ -59,7 +61,7 @@ fn write_file<G: Game>(
     let size = table.size();
     let room = HEADER_LEN + version.record_len() * size as usize + DIGEST_LEN;
     let mut file = Vec::with_capacity(alloc, room)?;
-    file.extend_from_slice(version.magic())?;
+    file.extend_from_slice(magic(version))?;
     file.extend_from_slice(&G::name())?;
     push_u64(&mut file, table.tier())?;
     push_u64(&mut file, size)?;

@@ -1,7 +1,7 @@
 use Rattle.std.proofs.Common.{rules, ◌≡◌, ◌+◌, ◌*◌, take, drop, length, arith}
 use Rattle.std.proofs.lemmas.Result.{IfOk-weaker, IfErr-weaker}
 use Rattle.sha2.specs.Sha256.{sha256}
-use Rattle.gm_tierdb.specs.TierText.{width}
+use Rattle.gm_record.specs.Numbers.{width}
 use Rattle.gm_tierdb.specs.Refusals.{records_part}
 use Rattle.gm_tierdb.proofs.RefusalLemmas.{found_text, refused_text}
 use Rattle.gm_tierdb.proofs.decode.read_file.Goals as goal

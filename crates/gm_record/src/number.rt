@@ -1,13 +1,13 @@
 //! The number that stands for a record.
 ghost use Rattle.std.specs.Prelude.{◌≡◌, ◌≢◌, ◌+◌, ◌*◌, ◌<◌, ◌≤◌, IfSome, IfNone, Option};
 ghost use Rattle.gm_game.specs.declared.position.Solved.{Solved};
-ghost use Rattle.gm_tierdb.specs.TierText.{code, record_number, IsStorable};
+ghost use Rattle.gm_record.specs.Numbers.{code, record_number, IsStorable};
 
 use crate::version::Version;
 use gm_game::position::{Solved, Value};
 
 /// The number of a record.
-pub(crate) fn number_of(version: Version, entry: Option<Solved>) -> u32
+pub fn number_of(version: Version, entry: Option<Solved>) -> u32
     requires { IsStorable version entry }
     ensures { result ≡ record_number version entry }
 {
@@ -18,7 +18,7 @@ pub(crate) fn number_of(version: Version, entry: Option<Solved>) -> u32
 }
 
 /// The record with this number; `None` where no record has it.
-pub(crate) fn record_of(version: Version, number: u32) -> Option<Option<Solved>>
+pub fn record_of(version: Version, number: u32) -> Option<Option<Solved>>
     ensures some { IfSome result (λ r. IsStorable version r × (record_number version r ≡ number)) }
     ensures none { IfNone result ((r : Option Solved) → IsStorable version r → record_number version r ≢ number) }
 {

@@ -1,22 +1,18 @@
 -- The number of a record tells it apart from each other record.
-use Rattle.std.proofs.Common.{◌≡◌, ◌≢◌, ℕ, suc, ◌+◌, ◌*◌, ◌<◌, ◌≤◌, ◌^◌, List, take, slice_get, MatchOption, Option, None, Some, refl, ap, sym, ◌∙◌, arith}
+use Rattle.std.proofs.Common.{◌≡◌, ◌≢◌, ℕ, suc, ◌+◌, ◌*◌, ◌<◌, ◌≤◌, ◌^◌, List, take, Option, None, Some, refl, ap, sym, ◌∙◌, arith}
 use Rattle.std.specs.Int.{from_le_bytes, to_le_bytes, w32}
 use Rattle.std.proofs.lemmas.Nat.{from_le_bytes-to_le_bytes_2, from_le_bytes-to_le_bytes_4}
 use Rattle.gm_game.specs.declared.limits.TheConstants.{REMOTENESS}
 use Rattle.gm_game.specs.declared.position.Value.{Value}
 use Rattle.gm_game.specs.declared.position.Value.TheVariants.{Lose, Draw, Tie, Win}
 use Rattle.gm_game.specs.declared.position.Solved.{Solved}
-use Rattle.gm_game.specs.declared.position.Phase.{Phase}
-use Rattle.gm_game.specs.declared.position.Phase.TheVariants.{WinLose, Ties}
 use Rattle.gm_game.specs.declared.position.Position.{Position}
 use Rattle.gm_game.specs.Rules.{Rules}
 use Rattle.gm_game.specs.Values.{IsTrueValue, HasValue}
 use Rattle.gm_game.specs.Records.{IsRecord, solved}
-use Rattle.gm_table.specs.Levels.{HasLevel, IsGreatest}
-use Rattle.gm_tierdb.specs.declared.version.TheConstants.{REMOTENESS_1}
-use Rattle.gm_tierdb.specs.declared.version.Version.{Version}
-use Rattle.gm_tierdb.specs.declared.version.Version.TheVariants.{One, Two}
-use Rattle.gm_tierdb.specs.TierText.{word, width, step, most, code, IsStorableSolved, IsStorable, record_number, record_bytes, AreUpTo}
+use Rattle.gm_record.specs.declared.version.Version.{Version}
+use Rattle.gm_record.specs.declared.version.Version.TheVariants.{One, Two}
+use Rattle.gm_record.specs.Numbers.{word, width, step, most, code, IsStorableSolved, IsStorable, record_number, record_bytes}
 
 -- the limits of the versions
 pub step_most : (v : Version) → step v ≡ suc (most v)
@@ -112,34 +108,3 @@ storable_value r p Win n h small = small
 pub storable_record : (r : Rules) (p : Position) (o : Option Solved) → IsRecord r REMOTENESS (IsTrueValue r) p o → IsStorable Two o
 storable_record r p None h = tt
 storable_record r p (Some s) h = storable_value r p s.value s.remoteness h.1 h.2
-
--- a record of a table without a level above that of version 1 can be in a file of it
-old_value : (records : List (Option Solved)) → AreUpTo REMOTENESS_1 records → (k : ℕ) (value : Value) (n : ℕ) → slice_get records k ≡ Some (Some (solved value n)) → IsStorableSolved Two value n → IsStorableSolved One value n
-old_value records up k Lose n e h = up.each WinLose n (k, Some (solved Lose n), e, refl)
-old_value records up k Draw n e h = h
-old_value records up k Tie n e h = up.each Ties n (k, Some (solved Tie n), e, refl)
-old_value records up k Win n e h = up.each WinLose n (k, Some (solved Win n), e, refl)
-
-pub old_record : (records : List (Option Solved)) → AreUpTo REMOTENESS_1 records → (k : ℕ) (o : Option Solved) → slice_get records k ≡ Some o → IsStorable Two o → IsStorable One o
-old_record records up k None e h = tt
-old_record records up k (Some s) e h = old_value records up k s.value s.remoteness e h
-
--- the levels of a table are within a limit where the greatest of each phase is
-pub within_all : (limit : ℕ) (phase : Phase) (records : List (Option Solved)) (greatest : Option ℕ) → IsGreatest phase records greatest → MatchOption greatest (Unit {0}) (λ n. n ≤ limit)
-    → (n : ℕ) → HasLevel phase records n → n ≤ limit
-within_all limit phase records None is small n h = absurd (is n h)
-within_all limit phase records (Some m) is small n h = let less = is.greatest n h in omega arith
-
-pub within_greatest : (limit : ℕ) (phase : Phase) (records : List (Option Solved)) (greatest : Option ℕ) → IsGreatest phase records greatest → AreUpTo limit records → MatchOption greatest (Unit {0}) (λ n. n ≤ limit)
-within_greatest limit phase records None is up = tt
-within_greatest limit phase records (Some m) is up = up.each phase m is.there
-
-both_phases : (limit : ℕ) (records : List (Option Solved)) → ((n : ℕ) → HasLevel WinLose records n → n ≤ limit) → ((n : ℕ) → HasLevel Ties records n → n ≤ limit) → (phase : Phase) (n : ℕ) → HasLevel phase records n → n ≤ limit
-both_phases limit records win_lose ties WinLose n h = win_lose n h
-both_phases limit records win_lose ties Ties n h = ties n h
-
-pub within_both : (limit : ℕ) (records : List (Option Solved)) (win_lose ties : Option ℕ) → IsGreatest WinLose records win_lose → IsGreatest Ties records ties
-    → MatchOption win_lose (Unit {0}) (λ n. n ≤ limit) → MatchOption ties (Unit {0}) (λ n. n ≤ limit) → AreUpTo limit records
-within_both limit records win_lose ties is also small tied = record {
-  each = both_phases limit records (λ n h. within_all limit WinLose records win_lose is small n h) (λ n h. within_all limit Ties records ties also tied n h);
-}

@@ -1,0 +1,28 @@
+//! What a tier file begins with, in each version.
+ghost use Rattle.std.specs.Prelude.{◌≡◌, ◌↔◌, IsTrue, length};
+ghost use Rattle.gm_tierdb.specs.TierText.{magic};
+ghost use Rattle.gm_tierdb.specs.Refusals.{IsOld};
+
+use crate::layout::MAGIC_LEN;
+use gm_record::version::Version;
+
+/// What a file of this version begins with.
+pub(crate) fn magic(version: Version) -> &'static [u8]
+    ensures { result.now ≡ magic version }
+{
+    match version {
+        Version::One => b"GMTIER01",
+        Version::Two => b"GMTIER02",
+    }
+}
+
+/// Whether these first bytes of a file are those of a version before this one.
+pub(crate) fn is_older(version: Version, first: &[u8]) -> bool
+    requires { length first.now ≡ MAGIC_LEN }
+    ensures { IsTrue result ↔ IsOld version first.now }
+{
+    match version {
+        Version::One => false,
+        Version::Two => first == magic(Version::One),
+    }
+}
