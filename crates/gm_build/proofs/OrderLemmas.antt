@@ -8,7 +8,7 @@ use Rattle.gm_game.specs.Rules.{Rules}
 use Rattle.gm_table.specs.Tables.{TableData, AreHeld}
 use Rattle.gm_tiers.specs.Orders.{IsBefore, IsOrderFrom, ComeChildrenFirst}
 use Rattle.gm_tierdb.specs.StoreTexts.{Texts, AreSameBut}
-use Rattle.gm_build.specs.TrueTexts.{HaveTexts, KeepsOthers}
+use Rattle.gm_entry.specs.TrueTexts.{HaveTexts, KeepsOthers}
 use Rattle.gm_build.specs.Work.{HoldsExactly}
 use Rattle.gm_build.specs.Outcomes.{MayHaveText, StopsAt}
 use Rattle.gm_build.proofs.StoreLemmas.{texts_kept, others_more}

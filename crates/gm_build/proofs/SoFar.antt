@@ -8,7 +8,7 @@ use Rattle.gm_game.proofs.Lists.{contains_none}
 use Rattle.gm_table.specs.Tables.{TableData}
 use Rattle.gm_tierdb.specs.StoreTexts.{Texts, AreSameBut}
 use Rattle.gm_solver.specs.Solving.{AreDeliveries}
-use Rattle.gm_build.specs.TrueTexts.{HasText, HasOldText, HaveTexts, KeepsOthers}
+use Rattle.gm_entry.specs.TrueTexts.{HasText, HasOldText, HaveTexts, KeepsOthers}
 use Rattle.gm_build.specs.Work.{IsWorkOn, IsSomeWork, HoldsExactly, HoldsToo}
 use Rattle.gm_build.proofs.StoreLemmas.{text_as_before, old_as_before, texts_more, others_more, holds_more}
 use Rattle.gm_build.proofs.WorkLemmas.{work_none, work_reused, work_migrated, work_solved, some_none, some_reused, some_migrated, some_solved, deliveries_few}

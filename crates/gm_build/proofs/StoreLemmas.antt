@@ -6,13 +6,13 @@ use Rattle.gm_game.specs.Rules.{Rules}
 use Rattle.gm_table.specs.Tables.{TableData, IsTable, table_of, Inserts, IsHeld}
 use Rattle.gm_tierdb.specs.TierText.{IsTierText}
 use Rattle.gm_tierdb.specs.StoreTexts.{Texts, AreSameBut}
-use Rattle.gm_build.specs.TrueTexts.{IsTrueText, IsOldText, HasText, HasOldText, HaveTexts, KeepsOthers}
-use Rattle.gm_build.specs.declared.found.Found.{Found}
-use Rattle.gm_build.specs.declared.found.Found.TheVariants.{Current, Old, Nothing}
-use Rattle.gm_build.specs.Steps.{IsFound, IsFoundIn}
-use Rattle.gm_build.specs.declared.inspect.Inspected.{Inspected}
-use Rattle.gm_build.specs.declared.inspect.Inspected.TheVariants.{Right, Missing, NoFile, NoTable}
-use Rattle.gm_build.specs.Inspections.{IsInspected, IsInspectedIn}
+use Rattle.gm_entry.specs.TrueTexts.{IsTrueText, IsOldText, HasText, HasOldText, HaveTexts, KeepsOthers}
+use Rattle.gm_entry.specs.declared.found.Found.{Found}
+use Rattle.gm_entry.specs.declared.found.Found.TheVariants.{Current, Old, Nothing}
+use Rattle.gm_entry.specs.Findings.{IsFound, IsFoundIn}
+use Rattle.gm_entry.specs.declared.inspect.Inspected.{Inspected}
+use Rattle.gm_entry.specs.declared.inspect.Inspected.TheVariants.{Right, Missing, NoFile, NoTable}
+use Rattle.gm_entry.specs.Inspections.{IsInspected, IsInspectedIn}
 use Rattle.gm_build.specs.Work.{HoldsExactly, HoldsToo}
 
 -- an entry that stays the same stays the text of the true table

@@ -2,35 +2,19 @@
 ghost use Rattle.std.specs.Prelude.{◌≡◌, ◌+◌, ◌<◌, ◌≤◌, IsTrue, IfOk, IfErr, option_map};
 ghost use Rattle.gm_table.specs.Tables.{AreHeld};
 ghost use Rattle.gm_tierdb.specs.StoreTexts.{Texts, AreSame};
-ghost use Rattle.gm_build.specs.Inspections.{IsInspected, IsInspectedIn};
+ghost use Rattle.gm_entry.specs.Inspections.{IsInspectedIn};
 ghost use Rattle.gm_build.specs.Outcomes.{failures_in, IsTierError, IsReadError};
 
 use crate::build_error::BuildError;
+use gm_entry::inspect::{Inspected, inspect_text};
 use gm_game::game::Game;
 use gm_game::limits::TIER_SIZE;
-use gm_table::checker::{CheckError, check_by};
-use gm_table::table::Table;
 use gm_table::tables::Tables;
-use gm_tierdb::decode::decode;
-use gm_tierdb::file_error::FileError;
 use gm_tierdb::store::Store;
 use gm_tierdb::store_error::StoreError;
-use std::alloc::{AllocError, Global};
+use std::alloc::Global;
 use std::fs::Files;
 use std::thread::Threads;
-
-/// What a tier's entry is found to be.
-#[derive(Drop)]
-pub enum Inspected<G: Game> {
-    /// The text of the tier's true table, which is this one.
-    Right(Table<G>),
-    /// There is none.
-    Missing,
-    /// The bytes are no text of a tier file of the present version.
-    NoFile(FileError),
-    /// They are the text of records that are not the tier's.
-    NoTable(CheckError),
-}
 
 /// Reads the entry of a tier once, and answers what it is; nothing is written. The tables of the child tiers are given. Unless memory runs out, the entry
 /// determines the answer.
@@ -80,32 +64,5 @@ pub(crate) fn read_entry<R: Files, S: Store>(
         Ok(text) => Ok(text),
         Err(StoreError::OutOfMemory) => Err(BuildError::OutOfMemory),
         Err(StoreError::Failed) => Err(BuildError::StoreFailed { tier }),
-    }
-}
-
-/// What a text is.
-pub(crate) fn inspect_text<G: Game + Send + Sync, R: Threads + Sync>(
-    rt: &R,
-    alloc: Global,
-    tier: u64,
-    bytes: &[u8],
-    tables: &Tables<G>,
-) -> Result<Inspected<G>, AllocError>
-    requires held { AreHeld G.rules tables.now tier }
-    requires small { G.rules.tier_size tier ≤ TIER_SIZE }
-    ensures exact { IfOk result (IsInspected G.rules tables.now tier bytes.now) }
-{
-    let records = match decode::<G>(alloc, tier, bytes) {
-        Ok(records) => records,
-        Err(FileError::OutOfMemory) => return Err(AllocError),
-        Err(why) => return Ok(Inspected::NoFile(why)),
-    };
-    match check_by(rt, alloc, tier, records.as_slice(), tables) {
-        Ok(table) => Ok(Inspected::Right(table)),
-        Err(CheckError::OutOfMemory) => Err(AllocError),
-        Err(CheckError::WrongSize) => Ok(Inspected::NoTable(CheckError::WrongSize)),
-        Err(CheckError::WrongRecord { index }) => {
-            Ok(Inspected::NoTable(CheckError::WrongRecord { index }))
-        }
     }
 }

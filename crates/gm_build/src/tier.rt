@@ -3,14 +3,15 @@ ghost use Rattle.std.specs.Prelude.{◌≡◌, ◌+◌, ◌<◌, ◌≤◌, IsTr
 ghost use Rattle.gm_table.specs.Tables.{AreHeld};
 ghost use Rattle.gm_tierdb.specs.StoreTexts.{AreSameBut};
 ghost use Rattle.gm_solver.specs.Solving.{AreDeliveries};
-ghost use Rattle.gm_build.specs.TrueTexts.{HasText};
+ghost use Rattle.gm_entry.specs.TrueTexts.{HasText};
 ghost use Rattle.gm_build.specs.Work.{HoldsToo};
 ghost use Rattle.gm_build.specs.Steps.{IsStep, IsStepWork};
 ghost use Rattle.gm_build.specs.Outcomes.{failures_in, IsTierError, MayHaveText};
 
 use crate::build_error::BuildError;
-use crate::found::{Found, find};
+use crate::found::find;
 use crate::watch::Watch;
+use gm_entry::found::Found;
 use gm_game::game::Game;
 use gm_game::limits::TIER_SIZE;
 use gm_solver::error::SolveError;
@@ -78,15 +79,13 @@ pub(crate) fn build_tier<
             Ok(Step::Reused)
         }
         Found::Old(table) => {
-            write(rt, alloc, &table, store)?;
-            hold(table, tables)?;
+            keep(rt, alloc, table, tables, store)?;
             Ok(Step::Migrated)
         }
         Found::Nothing => {
             watch.solve(rt, tier);
             let (table, report) = solve(rt, alloc, tier, tables, plan, gate, source)?;
-            write(rt, alloc, &table, store)?;
-            hold(table, tables)?;
+            keep(rt, alloc, table, tables, store)?;
             Ok(Step::Solved(report))
         }
     }
@@ -114,6 +113,31 @@ fn solve<G: Game + Send + Sync, R: Threads + Wait + Files + Sync, T: Gate, P: So
         Ok(solved) => Ok(solved),
         Err(SolveError::OutOfMemory) => Err(BuildError::OutOfMemory),
         Err(SolveError::TooFar { tier }) => Err(BuildError::TooFar { tier }),
+    }
+}
+
+// Writes the text of a tier once, and holds its table.
+fn keep<G: Game, R: Files, S: Store>(
+    rt: &R,
+    alloc: Global,
+    table: Table<G>,
+    tables: &mut Tables<G>,
+    store: &mut S,
+) -> Result<(), BuildError>
+    requires { S.failed store.old < u64.MAX }
+    ensures held { OnOk result (HoldsToo table.tier tables.old tables.new) }
+    ensures text { IsTrue S.KEEPS → OnOk result (HasText G.rules (S.texts store.new) table.tier) }
+    ensures here { IsTrue S.KEEPS → OnErr result (MayHaveText G.rules (S.texts store.old) (S.texts store.new) table.tier) }
+    ensures others { IsTrue S.KEEPS → AreSameBut table.tier (S.texts store.old) (S.texts store.new) }
+    ensures error { IfErr result (IsTierError G.rules table.tier) }
+    ensures count { S.failed store.new ≡ S.failed store.old + failures_in result }
+{
+    match write(rt, alloc, &table, store) {
+        Ok(()) => hold(table, tables),
+        Err(error) => {
+            drop(table);
+            Err(error)
+        }
     }
 }
 

@@ -2,7 +2,8 @@
 
 use crate::fault::Fault;
 use crate::run::{DONE, REFUSED};
-use gm_build::inspect::{Inspected, inspect_tier};
+use gm_build::inspect::inspect_tier;
+use gm_entry::inspect::Inspected;
 use gm_game::game::Game;
 use gm_game::limits::TIER_SIZE;
 use gm_progress::whole_line::write_line;

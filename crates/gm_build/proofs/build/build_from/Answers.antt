@@ -6,7 +6,7 @@ use Rattle.gm_game.specs.declared.limits.TheConstants.{TIERS}
 use Rattle.gm_table.specs.Tables.{TableData}
 use Rattle.gm_tiers.specs.Orders.{IsOrderFrom, ComeChildrenFirst}
 use Rattle.gm_tiers.specs.Reach.{IsReachedFrom}
-use Rattle.gm_build.specs.TrueTexts.{HasText, HasOldText, HaveTexts, KeepsOthers}
+use Rattle.gm_entry.specs.TrueTexts.{HasText, HasOldText, HaveTexts, KeepsOthers}
 use Rattle.gm_build.specs.Work.{IsWorkOn, IsSomeWork, HoldsExactly}
 use Rattle.gm_build.specs.Steps.{IsStep, IsStepWork}
 use Rattle.gm_build.proofs.WorkLemmas.{deliveries_few}

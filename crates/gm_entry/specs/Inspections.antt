@@ -10,9 +10,9 @@ use Rattle.gm_tierdb.specs.declared.file_error.FileError.TheVariants.{OldVersion
 use Rattle.gm_tierdb.specs.TierText.{IsTierText}
 use Rattle.gm_tierdb.specs.Refusals.{Refuses}
 use Rattle.gm_tierdb.specs.StoreTexts.{Texts}
-use Rattle.gm_build.specs.declared.inspect.Inspected.{Inspected}
-use Rattle.gm_build.specs.declared.inspect.Inspected.TheVariants.{Right, Missing, NoFile, NoTable}
-use Rattle.gm_build.specs.TrueTexts.{IsTrueText, IsOldText}
+use Rattle.gm_entry.specs.declared.inspect.Inspected.{Inspected}
+use Rattle.gm_entry.specs.declared.inspect.Inspected.TheVariants.{Right, Missing, NoFile, NoTable}
+use Rattle.gm_entry.specs.TrueTexts.{IsTrueText, IsOldText}
 
 -- these records are not the tier's, for this reason
 abbrev pub AreWrong : Rules → List TableData → ℕ → List (Option Solved) → CheckError → Type 0

@@ -1,5 +1,5 @@
 use Rattle.std.proofs.Common.{rules}
-use Rattle.gm_build.proofs.inspect.inspect_text.Goals as goal
+use Rattle.gm_entry.proofs.inspect.inspect_text.Goals as goal
 
 pub returns : goal.returns
 returns g c =

@@ -1,0 +1,3 @@
+pub mod TrueTexts
+pub mod Findings
+pub mod Inspections
