@@ -7,7 +7,7 @@ use crate::requests::{Asked, GameAsked, Kept, PlayAsked, SolveAsked};
 use crate::search_commands::search_of;
 use clap::error::ErrorKind;
 use clap::{ArgMatches, Error};
-use gm_play::side::Side;
+use gm_best::side::Side;
 use gm_solver::plan::Plan;
 use std::alloc::Global;
 use std::fmt;

@@ -3,7 +3,7 @@
 use crate::asked::Help;
 use crate::pages::Page;
 use gm_find::sought::Sought;
-use gm_play::side::Side;
+use gm_best::side::Side;
 use gm_solver::plan::Plan;
 
 /// Where the tables of a game are kept.

@@ -7,8 +7,8 @@ use Rattle.gm_game.specs.declared.position.Position.{Position}
 use Rattle.gm_game.specs.Rules.{Rules, at}
 use Rattle.gm_game.proofs.Lists.{contains_none, contains_first, contains_later, contains_cases, map_in}
 use Rattle.gm_table.specs.Tables.{TableData}
-use Rattle.gm_play.specs.declared.answer.AnswerError.{AnswerError}
-use Rattle.gm_play.specs.declared.answer.AnswerError.TheVariants.{Illegal, NotHeld}
+use Rattle.gm_best.specs.declared.answer.AnswerError.{AnswerError}
+use Rattle.gm_best.specs.declared.answer.AnswerError.TheVariants.{Illegal, NotHeld}
 use Rattle.gm_find.specs.declared.sought.Sought.{Sought}
 use Rattle.gm_find.specs.Lists.{IsFirst}
 use Rattle.gm_find.specs.Finding.{IsMatch, positions_in, all_positions, AreTiersHeld}

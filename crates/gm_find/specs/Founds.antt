@@ -5,7 +5,7 @@ use Rattle.gm_game.specs.declared.position.Position.{Position}
 use Rattle.gm_game.specs.Rules.{Rules}
 use Rattle.gm_game.specs.Values.{IsTrueValue}
 use Rattle.gm_table.specs.Tables.{TableData, IsHeld, AreHeld}
-use Rattle.gm_play.specs.BestMoves.{IsBestMove}
+use Rattle.gm_best.specs.BestMoves.{IsBestMove}
 use Rattle.gm_find.specs.declared.found.Found.{Found}
 use Rattle.gm_find.specs.declared.sought.Sought.{Sought}
 use Rattle.gm_find.specs.Lists.{IsFirst}

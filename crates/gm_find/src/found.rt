@@ -11,7 +11,7 @@ use crate::reached::Reached;
 use crate::sought::Sought;
 use gm_game::game::Game;
 use gm_game::position::{Position, Solved};
-use gm_play::best_move::best_move;
+use gm_best::best_move::best_move;
 use gm_table::tables::Tables;
 use std::alloc::{AllocError, Global};
 

@@ -1,7 +1,7 @@
 //! Found positions as rows of text.
 ghost use Rattle.std.specs.Prelude.{◌≡◌, ◌↔◌, ◌++◌, true, IfOk, OnOk, IsErrOf, is_some};
 ghost use Rattle.std.specs.List.{All, flat_map};
-ghost use Rattle.gm_play.specs.BestMoves.{IsBestMove};
+ghost use Rattle.gm_best.specs.BestMoves.{IsBestMove};
 ghost use Rattle.gm_find.specs.Finding.{AreTiersHeld};
 ghost use Rattle.gm_find.specs.Founds.{IsFound};
 ghost use Rattle.gm_find.specs.Rows.{best_text as best_text_spec, found_row, row, IsFoundText};

@@ -6,7 +6,7 @@ ghost use Rattle.serde_json.specs.View.{view};
 ghost use Rattle.serde_json.specs.Written.{compact_text};
 ghost use Rattle.gm_play.specs.Dialogue.{without_return as without_return_spec};
 ghost use Rattle.gm_play.specs.PlayTexts.{IsReadAs};
-ghost use Rattle.gm_play.specs.Refusals.{AreNotHeld};
+ghost use Rattle.gm_best.specs.Refusals.{AreNotHeld};
 ghost use Rattle.gm_json.specs.Asking.{IsAnswer, IsServed, IsCutShort, IsHalfSaid, error_tree};
 
 use crate::ask_error::AskError;
@@ -14,7 +14,7 @@ use crate::moves::moves_json;
 use arrayvec::ArrayVec;
 use gm_game::limits::LINE;
 use gm_game::shown::Shown;
-use gm_play::play_error::PlayError;
+use gm_best::play_error::PlayError;
 use gm_play::streams::{read_byte, write_text};
 use gm_table::tables::Tables;
 use serde_json::{Value as Json, json};

@@ -15,7 +15,7 @@ use gm_game::position::{Position, Solved};
 use gm_game::shown::Shown;
 use gm_play::best_line::LineEnd;
 use gm_play::by_text::{best_play, value_after};
-use gm_play::play_error::PlayError;
+use gm_best::play_error::PlayError;
 use gm_table::tables::Tables;
 use serde_json::{Map, Value as Json, json, put};
 use std::alloc::{AllocError, Global};

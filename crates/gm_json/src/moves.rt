@@ -6,7 +6,7 @@ ghost use Rattle.serde_json.specs.Data.{object};
 ghost use Rattle.serde_json.specs.View.{view, members_view};
 ghost use Rattle.serde_json.specs.Written.{compact_text};
 ghost use Rattle.gm_play.specs.PlayTexts.{IsMoveOf, IsNoPosition, IsReadAs};
-ghost use Rattle.gm_play.specs.Refusals.{AreNotHeld};
+ghost use Rattle.gm_best.specs.Refusals.{AreNotHeld};
 ghost use Rattle.gm_json.specs.Moves.{move_tree, move_trees, moves_tree, IsMovesJson};
 
 use crate::words::{put_text, put_word, word_of};
@@ -14,7 +14,7 @@ use gm_game::position::{Position, Solved};
 use gm_game::shown::Shown;
 use gm_play::by_text::{known_value, moves_at};
 use gm_play::move_values::MoveValue;
-use gm_play::play_error::PlayError;
+use gm_best::play_error::PlayError;
 use gm_table::tables::Tables;
 use serde_json::{Map, Value as Json, push, put};
 use std::alloc::{AllocError, Global};

@@ -10,10 +10,10 @@ use Rattle.gm_game.specs.declared.position.Value.TheVariants.{Lose, Win}
 use Rattle.gm_game.specs.Rules.{Rules}
 use Rattle.gm_game.specs.Laws.{IsGame}
 use Rattle.gm_game.specs.Values.{HasValue}
-use Rattle.gm_play.specs.declared.side.Side.{Side}
-use Rattle.gm_play.specs.declared.side.Side.TheVariants.{You, Computer}
-use Rattle.gm_play.specs.BestMoves.{IsBestMove}
-use Rattle.gm_play.specs.Sides.{IsWonIn, IsEven}
+use Rattle.gm_best.specs.declared.side.Side.{Side}
+use Rattle.gm_best.specs.declared.side.Side.TheVariants.{You, Computer}
+use Rattle.gm_best.specs.BestMoves.{IsBestMove}
+use Rattle.gm_best.specs.Sides.{IsWonIn, IsEven}
 use Rattle.gm_play.specs.Reached.{IsReached}
 use Rattle.gm_play.specs.Dialogue.{Advice, IsKnown, Said, Course, before, after_move, ends, place, asks_or_ends, persons_turn, moves_or_ends, computers_turn, turn, without_return, answer_to, reply, unmoved, course_with, course_after, course_from, course}
 use Rattle.gm_play.specs.Courses.{IsWonCourse, IsUnlostCourse}

@@ -8,11 +8,12 @@ use Rattle.gm_game.specs.declared.position.End.{End}
 use Rattle.gm_game.specs.Rules.{Rules}
 use Rattle.gm_game.specs.Laws.{IsGame}
 use Rattle.gm_game.specs.Texts.{text_of}
-use Rattle.gm_play.specs.declared.side.Side.{Side}
-use Rattle.gm_play.specs.declared.side.Side.TheVariants.{You, Computer}
-use Rattle.gm_play.specs.BestMoves.{IsBestMove}
+use Rattle.gm_best.specs.declared.side.Side.{Side}
+use Rattle.gm_best.specs.declared.side.Side.TheVariants.{You, Computer}
+use Rattle.gm_best.specs.BestMoves.{IsBestMove}
 use Rattle.gm_play.specs.Reached.{IsReached}
-use Rattle.gm_play.specs.Dialogue.{Advice, IsKnown, Said, Course, before, ends, over_line, text_after, place, asks_or_ends, persons_turn, moves_or_ends, computers_turn, turn, without_return, answer_to, reply, closing, talk, dialogue, unmoved, course_with, course_after, course_from, course}
+use Rattle.gm_best.specs.Endings.{over_line}
+use Rattle.gm_play.specs.Dialogue.{Advice, IsKnown, Said, Course, before, ends, text_after, place, asks_or_ends, persons_turn, moves_or_ends, computers_turn, turn, without_return, answer_to, reply, closing, talk, dialogue, unmoved, course_with, course_after, course_from, course}
 use Rattle.gm_play.specs.LastLines.{IsLastLine, EndsWon, EndsUnlost}
 use Rattle.gm_play.proofs.Reaching.{reached_reached, played_reached}
 use Rattle.gm_play.proofs.Reading.{find_is}

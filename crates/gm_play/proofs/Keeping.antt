@@ -13,10 +13,10 @@ use Rattle.gm_game.proofs.Lists.{contains_none, map_from, map_in}
 use Rattle.gm_game.proofs.Steps.{loses_zero, wins_zero, loses_suc, wins_suc, loses_at_end, wins_at_end, ties_at_end, wins_from}
 use Rattle.gm_game.proofs.Basic.{HasValue_once, never_both, no_win_of_tie, no_loss_of_tie}
 use Rattle.gm_game.proofs.Frontier.{win_within, loss_within}
-use Rattle.gm_play.specs.declared.side.Side.{Side}
-use Rattle.gm_play.specs.declared.side.Side.TheVariants.{You, Computer}
-use Rattle.gm_play.specs.BestMoves.{wanted_from, IsNoFarther, IsBestOf, IsBest, IsBestMove}
-use Rattle.gm_play.specs.Sides.{IsWonIn, IsEven, HasWon, HasLost}
+use Rattle.gm_best.specs.declared.side.Side.{Side}
+use Rattle.gm_best.specs.declared.side.Side.TheVariants.{You, Computer}
+use Rattle.gm_best.specs.BestMoves.{wanted_from, IsNoFarther, IsBestOf, IsBest, IsBestMove}
+use Rattle.gm_best.specs.Sides.{IsWonIn, IsEven, HasWon, HasLost}
 
 false_unless : (b : Bool) → (b ≡ true → ⊥) → b ≡ false
 false_unless true h = absurd (h refl)

@@ -1,5 +1,3 @@
-pub mod Choosing
-pub mod Wanted
 pub mod Keeping
 pub mod Held
 pub mod Lowering

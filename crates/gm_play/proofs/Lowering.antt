@@ -12,7 +12,7 @@ use Rattle.gm_game.proofs.Basic.{wins_later}
 use Rattle.gm_game.proofs.Frontier.{win_within, loss_within}
 use Rattle.gm_game.proofs.Lists.{map_from, map_in}
 use Rattle.gm_game.proofs.Steps.{loses_zero, wins_zero, loses_suc, wins_suc, ties_suc, loses_from, wins_from, ties_from, ties_at_end}
-use Rattle.gm_play.specs.BestMoves.{wanted_from, IsBestOf}
+use Rattle.gm_best.specs.BestMoves.{wanted_from, IsBestOf}
 use Rattle.gm_play.specs.MoveValues.{worth_from}
 
 -- a best move of a position lowers its remoteness by one

@@ -7,11 +7,11 @@ use Rattle.gm_game.specs.declared.position.Position.{Position}
 use Rattle.gm_game.specs.Rules.{Rules}
 use Rattle.gm_game.specs.Laws.{IsGame}
 use Rattle.gm_table.specs.Tables.{TableData}
-use Rattle.gm_play.specs.declared.side.Side.{Side}
-use Rattle.gm_play.specs.declared.side.Side.TheVariants.{You, Computer}
+use Rattle.gm_best.specs.declared.side.Side.{Side}
+use Rattle.gm_best.specs.declared.side.Side.TheVariants.{You, Computer}
 use Rattle.gm_play.specs.declared.play_line.PlayLine.{PlayLine}
-use Rattle.gm_play.specs.BestMoves.{IsBestMove}
-use Rattle.gm_play.specs.Sides.{other}
+use Rattle.gm_best.specs.BestMoves.{IsBestMove}
+use Rattle.gm_best.specs.Sides.{other}
 use Rattle.gm_play.specs.Reached.{AreAllHeld}
 use Rattle.gm_play.specs.Lines.{position_after, side_after, IsLine, LeadsTo, IsPlayed, one_more, IsAnswered, IsReplied}
 use Rattle.gm_play.proofs.Keeping.{best_once}

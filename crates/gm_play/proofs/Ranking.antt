@@ -20,10 +20,10 @@ use Rattle.gm_game.proofs.Lists.{contains_none, contains_first, map_from, map_in
 use Rattle.gm_game.proofs.Steps.{wins_from, ties_from}
 use Rattle.gm_table.specs.Tables.{TableData, AreTables, record_at, table_of, record_in, value_in}
 use Rattle.gm_play.specs.declared.move_values.MoveValue.{MoveValue}
-use Rattle.gm_play.specs.BestMoves.{wanted_from, IsNoFarther, IsBestOf}
+use Rattle.gm_best.specs.BestMoves.{wanted_from, IsNoFarther, IsBestOf}
 use Rattle.gm_play.specs.MoveValues.{worth_from, rank, place, IsMoveValue, AreMoveValues, BeginsBest}
 use Rattle.gm_play.proofs.Lowering.{best_worth}
-use Rattle.gm_play.proofs.Wanted.{leads}
+use Rattle.gm_best.proofs.Wanted.{leads}
 use Rattle.gm_play.proofs.Keeping.{goes_on, reply_won}
 
 -- an order by place

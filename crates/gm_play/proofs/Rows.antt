@@ -17,7 +17,7 @@ use Rattle.gm_game.specs.Values.{HasValue, IsTrueValue}
 use Rattle.gm_game.proofs.Lists.{map_from}
 use Rattle.gm_play.specs.declared.move_values.MoveValue.{MoveValue}
 use Rattle.gm_play.specs.BestLines.{AreBest}
-use Rattle.gm_play.specs.BestMoves.{wanted_from, IsBestMove}
+use Rattle.gm_best.specs.BestMoves.{wanted_from, IsBestMove}
 use Rattle.gm_play.specs.MoveValues.{worth_from, AreMoveValues}
 use Rattle.gm_play.specs.PlayTexts.{row, after_best, IsMoveOf, AreLineRows, rows_from}
 use Rattle.gm_play.proofs.Walking.{step_value}

@@ -2,8 +2,8 @@
 use Rattle.std.proofs.Common.{◌≡◌, ℕ, true, List, ◌++◌, codes, Option, None, Some, refl, sym, ap, ◌∙◌}
 use Rattle.std.specs.Result.{is_ok}
 use Rattle.std.specs.Prelude.{Result, Ok, Err}
-use Rattle.gm_play.specs.declared.answer.AnswerError.{AnswerError}
-use Rattle.gm_play.specs.declared.answer.AnswerError.TheVariants.{Illegal, NotHeld}
+use Rattle.gm_best.specs.declared.answer.AnswerError.{AnswerError}
+use Rattle.gm_best.specs.declared.answer.AnswerError.TheVariants.{Illegal, NotHeld}
 use Rattle.gm_game.specs.declared.position.Position.{Position}
 use Rattle.gm_game.specs.declared.position.Solved.{Solved}
 use Rattle.gm_game.specs.declared.position.End.{End}
@@ -11,9 +11,9 @@ use Rattle.gm_game.specs.Rules.{Rules}
 use Rattle.gm_game.specs.Texts.{text_of}
 use Rattle.gm_game.specs.Values.{IsTrueValue}
 use Rattle.gm_game.proofs.Checker.{IsTrueValue_once}
-use Rattle.gm_play.specs.declared.side.Side.TheVariants.{You, Computer}
+use Rattle.gm_best.specs.declared.side.Side.TheVariants.{You, Computer}
 use Rattle.gm_play.specs.Dialogue.{Advice, IsKnown, before, after_move, game_over, asks, place, asks_or_ends, persons_turn, moves_or_ends}
-use Rattle.gm_play.specs.BestMoves.{IsBestMove}
+use Rattle.gm_best.specs.BestMoves.{IsBestMove}
 use Rattle.gm_play.proofs.Keeping.{best_once}
 use Rattle.gm_play.proofs.Reaching.{own_reached}
 

@@ -6,7 +6,7 @@ use Rattle.std.specs.Io.KnownBytes.{Consumes, Appends, Keeps, IsAtEnd}
 use Rattle.std.proofs.KnownBytes.{Consumes-trans, Consumes-kept, Consumes-nil, Appends-trans}
 use Rattle.gm_game.specs.declared.position.Position.{Position}
 use Rattle.gm_game.specs.Rules.{Rules}
-use Rattle.gm_play.specs.declared.side.Side.{Side}
+use Rattle.gm_best.specs.declared.side.Side.{Side}
 use Rattle.gm_play.specs.declared.session.TheConstants.{SESSION_BYTES, KEPT}
 use Rattle.gm_play.specs.Dialogue.{Advice, Said, text_after, count_after, waiting, turn, reply, closing, talk, count, spoken, used}
 use Rattle.gm_play.specs.Sessions.{AppendsPart, Says, IsRead, IsSession, IsUnread, IsUnwritten, IsTooLong}

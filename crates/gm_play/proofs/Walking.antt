@@ -19,7 +19,7 @@ use Rattle.gm_play.specs.declared.best_line.BestLine.{BestLine}
 use Rattle.gm_play.specs.declared.best_line.LineEnd.{LineEnd}
 use Rattle.gm_play.specs.declared.best_line.LineEnd.TheVariants.{Over, Again, Cut}
 use Rattle.gm_play.specs.BestLines.{AreBest, positions_along, AreFresh, EndsSo, IsBestLine, IsWhole}
-use Rattle.gm_play.specs.BestMoves.{wanted_from, IsBestMove}
+use Rattle.gm_best.specs.BestMoves.{wanted_from, IsBestMove}
 use Rattle.gm_play.specs.Lines.{position_after}
 use Rattle.gm_play.specs.MoveValues.{worth_from}
 use Rattle.gm_play.proofs.Lowering.{best_worth}

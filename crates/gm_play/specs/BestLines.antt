@@ -9,9 +9,9 @@ use Rattle.gm_table.specs.Tables.{TableData}
 use Rattle.gm_play.specs.declared.best_line.BestLine.{BestLine}
 use Rattle.gm_play.specs.declared.best_line.LineEnd.{LineEnd}
 use Rattle.gm_play.specs.declared.best_line.LineEnd.TheVariants.{Over, Again, Cut}
-use Rattle.gm_play.specs.BestMoves.{IsBestMove}
+use Rattle.gm_best.specs.BestMoves.{IsBestMove}
 use Rattle.gm_play.specs.Lines.{position_after}
-use Rattle.gm_play.specs.Refusals.{AreNotHeld}
+use Rattle.gm_best.specs.Refusals.{AreNotHeld}
 
 -- each of these moves is the best one of its position
 abbrev pub AreBest : Rules → Position → List ℕ → Type 0

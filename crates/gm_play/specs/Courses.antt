@@ -1,6 +1,6 @@
 -- What holds for the course of a game on the computer's side.
 use Rattle.std.specs.Prelude.{◌≡◌, ◌≢◌, ℕ, ◌≤◌, Some, IfSome}
-use Rattle.gm_play.specs.declared.side.Side.TheVariants.{You, Computer}
+use Rattle.gm_best.specs.declared.side.Side.TheVariants.{You, Computer}
 use Rattle.gm_play.specs.Dialogue.{Course}
 
 -- at most n moves are played, and where the game ends, the computer wins

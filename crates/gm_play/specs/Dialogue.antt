@@ -5,14 +5,13 @@ use Rattle.std.specs.Str.{bytes_eq}
 use Rattle.gm_game.specs.declared.position.Position.{Position}
 use Rattle.gm_game.specs.declared.position.Solved.{Solved}
 use Rattle.gm_game.specs.declared.position.End.{End}
-use Rattle.gm_game.specs.declared.position.End.TheVariants.{Lose as EndLose, Tie as EndTie, Win as EndWin}
 use Rattle.gm_game.specs.Rules.{Rules}
 use Rattle.gm_game.specs.Texts.{text_of}
 use Rattle.gm_game.specs.Values.{IsTrueValue}
-use Rattle.gm_play.specs.declared.side.Side.{Side}
-use Rattle.gm_play.specs.declared.side.Side.TheVariants.{You, Computer}
-use Rattle.gm_play.specs.BestMoves.{IsBestMove}
-use Rattle.gm_play.specs.Sides.{other}
+use Rattle.gm_best.specs.declared.side.Side.{Side}
+use Rattle.gm_best.specs.declared.side.Side.TheVariants.{You, Computer}
+use Rattle.gm_best.specs.BestMoves.{IsBestMove}
+use Rattle.gm_best.specs.Endings.{winner, over}
 use Rattle.gm_play.specs.Reached.{IsReached}
 
 -- a look-up of values and best moves
@@ -47,21 +46,6 @@ ends text = record { text = text; asked = None; moves = 0; ending = None }
 -- a question
 abbrev pub asks : List ℕ → Position → Said
 asks text p = record { text = text; asked = Some p; moves = 0; ending = None }
-
--- who wins, by how the game has ended for the side to move: nobody in a tie
-abbrev pub winner : Side → End → Option Side
-winner s EndTie = None
-winner s EndLose = Some (other s)
-winner s EndWin = Some s
-
-abbrev pub over_line : Option Side → List ℕ
-over_line None = codes "over: tie\n"
-over_line (Some You) = codes "over: you win\n"
-over_line (Some Computer) = codes "over: computer wins\n"
-
--- the line about the end of a game, with this side to move
-abbrev pub over : Side → End → List ℕ
-over s e = over_line (winner s e)
 
 abbrev pub game_over : Side → End → Said
 game_over s e = record { text = over s e; asked = None; moves = 0; ending = Some (winner s e) }

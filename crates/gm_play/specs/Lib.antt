@@ -1,7 +1,4 @@
-pub mod Refusals
-pub mod BestMoves
 pub mod MoveValues
-pub mod Sides
 pub mod Reached
 pub mod Lines
 pub mod Firsts

@@ -10,7 +10,7 @@ use Rattle.gm_game.specs.declared.position.Value.TheVariants.{Lose, Draw, Tie, W
 use Rattle.gm_game.specs.Records.{solved}
 use Rattle.gm_game.specs.Rules.{Rules}
 use Rattle.gm_game.specs.Values.{IsTrueValue}
-use Rattle.gm_play.specs.BestMoves.{IsBestMove}
+use Rattle.gm_best.specs.BestMoves.{IsBestMove}
 use Rattle.gm_play.specs.declared.move_values.MoveValue.{MoveValue}
 
 -- what a move to a position of this value and remoteness is worth to the side that makes it, with the remoteness counted from before the move

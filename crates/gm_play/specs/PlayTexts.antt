@@ -12,7 +12,7 @@ use Rattle.gm_play.specs.declared.best_line.BestLine.{BestLine}
 use Rattle.gm_play.specs.declared.best_line.LineEnd.{LineEnd}
 use Rattle.gm_play.specs.declared.best_line.LineEnd.TheVariants.{Over, Again, Cut}
 use Rattle.gm_play.specs.declared.move_values.MoveValue.{MoveValue}
-use Rattle.gm_play.specs.BestMoves.{wanted_from}
+use Rattle.gm_best.specs.BestMoves.{wanted_from}
 use Rattle.gm_play.specs.BestLines.{IsBestLine, IsWhole}
 use Rattle.gm_play.specs.Firsts.{chosen}
 use Rattle.gm_play.specs.MoveValues.{AreMoveValues, BeginsBest}

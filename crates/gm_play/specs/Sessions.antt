@@ -3,7 +3,7 @@ use Rattle.std.specs.Prelude.{◌≡◌, ℕ, ◌+◌, ◌≤◌, ◌⊎◌, Lis
 use Rattle.std.specs.Io.KnownBytes.{Keeps, Appends, Consumes, IsAtEnd}
 use Rattle.gm_game.specs.declared.position.Position.{Position}
 use Rattle.gm_game.specs.Rules.{Rules}
-use Rattle.gm_play.specs.declared.side.Side.{Side}
+use Rattle.gm_best.specs.declared.side.Side.{Side}
 use Rattle.gm_play.specs.declared.session_error.SessionError.{SessionError}
 use Rattle.gm_play.specs.declared.session_error.SessionError.TheVariants.{ReadFailed, WriteFailed, TooMuchInput}
 use Rattle.gm_play.specs.Dialogue.{Advice, Said, dialogue, dialogue_so_far, used}

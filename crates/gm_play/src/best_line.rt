@@ -2,12 +2,12 @@
 ghost use Rattle.std.specs.Prelude.{◌≡◌, ◌↔◌, ◌++◌, ◌∷◌, [], ◌<◌, true, false, MatchOption, IfOk, IfErr, OnOk, IsErrOf, Some, slice_get};
 ghost use Rattle.std.specs.List.{Contains};
 ghost use Rattle.gm_play.specs.BestLines.{IsBestLine, IsWhole, ComesToNotHeld};
-ghost use Rattle.gm_play.specs.BestMoves.{IsBestMove};
-ghost use Rattle.gm_play.specs.Refusals.{AreNotHeld};
+ghost use Rattle.gm_best.specs.BestMoves.{IsBestMove};
+ghost use Rattle.gm_best.specs.Refusals.{AreNotHeld};
 
-use crate::answer::AnswerError;
-use crate::best_move::best_move;
-use crate::play_error::PlayError;
+use gm_best::answer::AnswerError;
+use gm_best::best_move::best_move;
+use gm_best::play_error::PlayError;
 use gm_game::game::Game;
 use gm_game::position::Position;
 use gm_table::tables::Tables;

@@ -5,9 +5,9 @@ ghost use Rattle.std.specs.List.Sorted.{IsNonDecreasingBy};
 ghost use Rattle.gm_game.specs.Values.{IsTrueValue};
 ghost use Rattle.gm_table.specs.Tables.{IsHeld, AreHeld};
 ghost use Rattle.gm_play.specs.MoveValues.{rank as rank_spec, place as place_spec, worth_of, IsMoveValue, AreMoveValues, BeginsBest};
-ghost use Rattle.gm_play.specs.Refusals.{AreNotHeld};
+ghost use Rattle.gm_best.specs.Refusals.{AreNotHeld};
 
-use crate::answer::AnswerError;
+use gm_best::answer::AnswerError;
 use arrayvec::ArrayVec;
 use gm_game::game::Game;
 use gm_game::limits::MOVES;

@@ -4,11 +4,11 @@ ghost use Rattle.gm_play.specs.Reached.{AreAllHeld};
 ghost use Rattle.gm_play.specs.Dialogue.{Advice, IsKnown, course, unseen};
 ghost use Rattle.gm_play.specs.Courses.{IsWonCourse, IsUnlostCourse};
 ghost use Rattle.gm_play.specs.LastLines.{EndsWon, EndsUnlost, WritesOne};
-ghost use Rattle.gm_play.specs.Sides.{IsWonIn, IsEven};
+ghost use Rattle.gm_best.specs.Sides.{IsWonIn, IsEven};
 ghost use Rattle.gm_play.specs.Sessions.{IsSession, IsBroken};
 
 use crate::session_error::SessionError;
-use crate::side::Side;
+use gm_best::side::Side;
 use crate::streams::read_byte;
 use crate::turns::{close, reply, turn};
 use crate::view::{Plain, View};

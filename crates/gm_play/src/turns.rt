@@ -3,12 +3,13 @@ ghost use Rattle.std.specs.Prelude.{◌≡◌, ◌++◌, codes, true, OnOk, OnEr
 ghost use Rattle.std.specs.Io.KnownBytes.{Appends};
 ghost use Rattle.gm_table.specs.Tables.{IsHeld};
 ghost use Rattle.gm_play.specs.Reached.{AreAllHeld, IsReached};
-ghost use Rattle.gm_play.specs.Dialogue.{Advice, IsKnown, over as over_spec, without_return as without_return_spec, place, persons_turn, computers_turn, turn as turn_spec, reply as reply_spec, closing};
+ghost use Rattle.gm_play.specs.Dialogue.{Advice, IsKnown, without_return as without_return_spec, place, persons_turn, computers_turn, turn as turn_spec, reply as reply_spec, closing};
 ghost use Rattle.gm_play.specs.Sessions.{AppendsPart, Says};
 
-use crate::best_move::best_move;
+use gm_best::best_move::best_move;
+use gm_best::ending::over;
 use crate::session_error::SessionError;
-use crate::side::Side;
+use gm_best::side::Side;
 use crate::streams::{say, write_line};
 use crate::view::View;
 use gm_game::position::{End, Position};
@@ -16,17 +17,6 @@ use gm_game::shown::Shown;
 use gm_game::text::value_text;
 use gm_table::tables::Tables;
 use std::io::Write;
-
-// The line on the end of a game, with this side to move.
-fn over(side: Side, end: End) -> &'static [u8]
-    ensures { result.now ≡ over_spec side end }
-{
-    match (side, end) {
-        (_, End::Tie) => b"over: tie\n",
-        (Side::You, End::Win) | (Side::Computer, End::Lose) => b"over: you win\n",
-        (Side::You, End::Lose) | (Side::Computer, End::Win) => b"over: computer wins\n",
-    }
-}
 
 // Writes the line on a position.
 fn write_place<G: Shown, V: View<G>, W: Write>(

@@ -13,7 +13,7 @@ use gm_game::position::Position;
 use gm_game::shown::Shown;
 use gm_json::line::line_json;
 use gm_json::moves::moves_json;
-use gm_play::play_error::PlayError;
+use gm_best::play_error::PlayError;
 use gm_play::texts::{line_text, moves_text};
 use gm_table::tables::Tables;
 use std::alloc::{AllocError, Global};

@@ -4,7 +4,7 @@ use gm_game::position::Position;
 use gm_game::shown::Shown;
 use gm_play::session::session;
 use gm_play::session_error::SessionError;
-use gm_play::side::Side;
+use gm_best::side::Side;
 use gm_table::tables::Tables;
 use std::io::{Read, Write};
 

@@ -1,4 +1,4 @@
-use Rattle.std.proofs.Common.{◌≡◌, ℕ, IfOk, IfErr, IsTrue, ap, subst}
+use Rattle.std.proofs.Common.{ℕ, IfOk, IfErr, IsTrue, ap, subst}
 use Rattle.gm_game.specs.declared.position.Position.{Position}
 use Rattle.gm_tiers.specs.Orders.{IsOrderFrom}
 use Rattle.gm_build.specs.Outcomes.{IsBuildError, IsStopped}

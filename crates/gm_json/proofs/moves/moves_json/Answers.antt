@@ -2,8 +2,8 @@ use Rattle.std.proofs.Common.{List, Err, ap, ◌∙◌}
 use Rattle.std.proofs.lemmas.Result.{IfOk-from_err}
 use Rattle.serde_json.specs.Written.{compact_text}
 use Rattle.gm_play.specs.declared.move_values.MoveValue.{MoveValue}
-use Rattle.gm_play.specs.declared.play_error.PlayError.{PlayError}
-use Rattle.gm_play.proofs.Held.{ok_apart}
+use Rattle.gm_best.specs.declared.play_error.PlayError.{PlayError}
+use Rattle.gm_best.proofs.Refusing.{ok_apart}
 use Rattle.gm_json.specs.Moves.{moves_tree}
 use Rattle.gm_json.proofs.moves.moves_json.Goals as goal
 

@@ -1,7 +1,7 @@
 use Rattle.std.proofs.Common.{◌≡◌, ◌<◌, true, List, ℕ, [], ◌∷◌, ◌++◌, length, Some, slice_get, sym, ap, subst, ◌∙◌}
 use Rattle.std.specs.List.{Contains}
 use Rattle.gm_game.specs.declared.position.Position.{Position}
-use Rattle.gm_play.specs.BestMoves.{IsBestMove}
+use Rattle.gm_best.specs.BestMoves.{IsBestMove}
 use Rattle.gm_play.proofs.Walking.{IsOnWay, goes_on, line_again}
 use Rattle.gm_play.proofs.best_line.follow.Goals as goal
 

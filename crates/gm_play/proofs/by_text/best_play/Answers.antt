@@ -1,6 +1,6 @@
 use Rattle.std.proofs.Common.{[], refl}
-use Rattle.gm_play.specs.declared.play_error.PlayError.TheVariants.{Illegal, NotHeld}
-use Rattle.gm_play.proofs.Held.{ok_apart, none_apart, illegal_apart, passed_on}
+use Rattle.gm_best.specs.declared.play_error.PlayError.TheVariants.{Illegal, NotHeld}
+use Rattle.gm_best.proofs.Refusing.{ok_apart, none_apart, illegal_apart, passed_on}
 use Rattle.gm_play.proofs.by_text.best_play.Goals as goal
 
 pub returns-clause-play : goal.returns-clause-play

@@ -1,9 +1,9 @@
 use Rattle.std.proofs.Common.{◌≡◌, true, sym, subst, refl}
 use Rattle.std.specs.List.{All}
 use Rattle.gm_play.specs.PlayTexts.{IsMoveOf}
-use Rattle.gm_play.specs.Refusals.{AreNotHeld}
+use Rattle.gm_best.specs.Refusals.{AreNotHeld}
 use Rattle.gm_play.proofs.Choices.{all_chosen}
-use Rattle.gm_play.proofs.Held.{ok_apart, none_apart, not_held_apart, illegal_apart}
+use Rattle.gm_best.proofs.Refusing.{ok_apart, none_apart, not_held_apart, illegal_apart}
 use Rattle.gm_play.proofs.Rows.{same_read, are_moves}
 use Rattle.gm_play.proofs.by_text.moves_at.Goals as goal
 

@@ -5,7 +5,7 @@ use Rattle.std.proofs.lemmas.List.Sorted.{All-permutation, IsPermutation-map}
 use Rattle.gm_play.specs.declared.move_values.MoveValue.{MoveValue}
 use Rattle.gm_play.specs.MoveValues.{IsMoveValue}
 use Rattle.gm_play.proofs.Ranking.{begins_best}
-use Rattle.gm_play.proofs.Wanted.{children_known, own_known}
+use Rattle.gm_best.proofs.Wanted.{children_known, own_known}
 use Rattle.gm_play.proofs.move_values.move_values.Goals as goal
 
 pub returns-clause-values : goal.returns-clause-values

@@ -5,7 +5,7 @@ use Rattle.gm_game.specs.declared.position.Solved.{Solved}
 use Rattle.gm_game.specs.Values.{IsTrueValue}
 use Rattle.gm_table.specs.Tables.{IsHeld}
 use Rattle.gm_play.proofs.Ranking.{value_small}
-use Rattle.gm_play.proofs.Wanted.{result_held}
+use Rattle.gm_best.proofs.Wanted.{result_held}
 use Rattle.gm_play.proofs.move_values.value_of.Goals as goal
 
 pub unwrap-result-requires : goal.unwrap-result-requires

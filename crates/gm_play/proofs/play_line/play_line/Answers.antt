@@ -1,4 +1,4 @@
-use Rattle.gm_play.specs.Sides.{HasLost}
+use Rattle.gm_best.specs.Sides.{HasLost}
 use Rattle.gm_play.specs.Lines.{LeadsTo, IsPlayed, WinsWithin}
 use Rattle.gm_play.specs.declared.play_line.PlayLine.{PlayLine}
 use Rattle.gm_play.proofs.Promise.{played_every, played_won, played_even}

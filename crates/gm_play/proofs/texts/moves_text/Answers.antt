@@ -1,9 +1,9 @@
 use Rattle.std.proofs.Common.{ap, sym, subst, ◌∙◌}
 use Rattle.std.specs.List.{All, flat_map}
 use Rattle.std.proofs.lemmas.Result.{IfOk-from_err}
-use Rattle.gm_play.specs.declared.play_error.PlayError.TheVariants.{Illegal, NotHeld}
+use Rattle.gm_best.specs.declared.play_error.PlayError.TheVariants.{Illegal, NotHeld}
 use Rattle.gm_play.specs.PlayTexts.{move_row, IsMoveOf}
-use Rattle.gm_play.proofs.Held.{ok_apart, passed_on}
+use Rattle.gm_best.proofs.Refusing.{ok_apart, passed_on}
 use Rattle.gm_play.proofs.texts.moves_text.Goals as goal
 
 pub returns-in-Ok-clause-text : goal.returns-in-Ok-clause-text

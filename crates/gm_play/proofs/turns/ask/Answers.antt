@@ -1,5 +1,5 @@
 use Rattle.std.proofs.Common.{codes, ◌++◌, sym, ◌∙◌, refl, Some, None}
-use Rattle.gm_play.specs.declared.side.Side.TheVariants.{You}
+use Rattle.gm_best.specs.declared.side.Side.TheVariants.{You}
 use Rattle.gm_play.specs.Dialogue.{game_over, asks, place, asks_or_ends}
 use Rattle.gm_play.proofs.Parts.{on_err, part_longer, done_after, stops_after}
 use Rattle.gm_play.proofs.Saying.{person_ends, person_is_asked}

@@ -2,9 +2,9 @@ use Rattle.std.proofs.Common.{◌≡◌, List, ℕ, ◌++◌, codes, sym, ap, �
 use Rattle.std.proofs.KnownBytes.{Appends-trans}
 use Rattle.std.proofs.lemmas.Result.{on_err_weaker, IfOk-weaker}
 use Rattle.gm_game.specs.declared.position.Position.{Position}
-use Rattle.gm_play.specs.declared.answer.AnswerError.{AnswerError}
-use Rattle.gm_play.specs.declared.side.Side.TheVariants.{Computer}
-use Rattle.gm_play.specs.BestMoves.{IsBestMove}
+use Rattle.gm_best.specs.declared.answer.AnswerError.{AnswerError}
+use Rattle.gm_best.specs.declared.side.Side.TheVariants.{Computer}
+use Rattle.gm_best.specs.BestMoves.{IsBestMove}
 use Rattle.gm_play.specs.Reached.{IsReached}
 use Rattle.gm_play.specs.Dialogue.{IsKnown, before, after_move, game_over, place, persons_turn, moves_or_ends, computers_turn}
 use Rattle.gm_play.specs.Sessions.{AppendsPart, Says}

@@ -1,5 +1,5 @@
 use Rattle.std.proofs.Common.{sym, subst, OnErr}
-use Rattle.gm_play.specs.declared.side.Side.{Side}
+use Rattle.gm_best.specs.declared.side.Side.{Side}
 use Rattle.gm_play.specs.Dialogue.{turn}
 use Rattle.gm_play.specs.Sessions.{AppendsPart}
 use Rattle.gm_play.proofs.Held.{held_own}

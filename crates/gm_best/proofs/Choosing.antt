@@ -9,8 +9,8 @@ use Rattle.gm_game.specs.declared.position.Value.TheVariants.{Lose, Draw, Tie, W
 use Rattle.gm_game.specs.Rules.{Rules}
 use Rattle.gm_game.specs.Values.{HasValue}
 use Rattle.gm_game.proofs.Basic.{HasValue_once}
-use Rattle.gm_play.specs.declared.best_move.Choice.{Choice}
-use Rattle.gm_play.specs.BestMoves.{wanted_from, IsNearer, IsNoFarther, IsBestOf, IsChoice, Chooses, Considers}
+use Rattle.gm_best.specs.declared.best_move.Choice.{Choice}
+use Rattle.gm_best.specs.BestMoves.{wanted_from, IsNearer, IsNoFarther, IsBestOf, IsChoice, Chooses, Considers}
 
 -- the order of remotenesses
 farther_unless : (value : Value) (k than : ℕ) → (IsNearer value k than → ⊥) → IsNoFarther value than k

@@ -17,8 +17,8 @@ use Rattle.gm_game.proofs.Basic.{never_both, no_win_of_tie, no_loss_of_tie}
 use Rattle.gm_game.proofs.Player.{draw_child}
 use Rattle.gm_table.specs.Tables.{TableData, IsHeld, AreHeld, AreTables, value_in}
 use Rattle.gm_table.proofs.ValueLemmas.{value_known, value_true}
-use Rattle.gm_play.specs.declared.best_move.Choice.{Choice}
-use Rattle.gm_play.specs.BestMoves.{wanted_from, IsChoice, IsBestMove}
+use Rattle.gm_best.specs.declared.best_move.Choice.{Choice}
+use Rattle.gm_best.specs.BestMoves.{wanted_from, IsChoice, IsBestMove}
 
 -- a position that has a value and loses, wins or ties has that value
 lost_value : (r : Rules) (d : Position) (n : ℕ) → loses r n d ≡ true → (v : Value) (k : ℕ) → HasValue r d v k → (l : ℕ) × HasValue r d Lose l

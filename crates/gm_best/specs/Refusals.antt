@@ -3,10 +3,10 @@ use Rattle.std.specs.Prelude.{◌≡◌, ℕ, true, List}
 use Rattle.gm_game.specs.declared.position.Position.{Position}
 use Rattle.gm_game.specs.Rules.{Rules}
 use Rattle.gm_table.specs.Tables.{TableData, IsHeld, AreHeld}
-use Rattle.gm_play.specs.declared.play_error.PlayError.{PlayError}
-use Rattle.gm_play.specs.declared.play_error.PlayError.TheVariants.{OutOfMemory, Illegal as PlayIllegal, NotHeld as PlayNotHeld}
-use Rattle.gm_play.specs.declared.answer.AnswerError.{AnswerError}
-use Rattle.gm_play.specs.declared.answer.AnswerError.TheVariants.{Illegal, NotHeld}
+use Rattle.gm_best.specs.declared.play_error.PlayError.{PlayError}
+use Rattle.gm_best.specs.declared.play_error.PlayError.TheVariants.{OutOfMemory, Illegal as PlayIllegal, NotHeld as PlayNotHeld}
+use Rattle.gm_best.specs.declared.answer.AnswerError.{AnswerError}
+use Rattle.gm_best.specs.declared.answer.AnswerError.TheVariants.{Illegal, NotHeld}
 
 -- the position is legal, and its tier has no table
 abbrev pub IsNotHeld : Rules → List TableData → Position → Type 0

@@ -1,6 +1,6 @@
 //! Who moves.
 ghost use Rattle.std.specs.Prelude.{◌≡◌};
-ghost use Rattle.gm_play.specs.Sides.{other as other_spec};
+ghost use Rattle.gm_best.specs.Sides.{other as other_spec};
 
 /// A side of a game that is played.
 #[derive(Clone, Copy, Debug, PartialEq, Eq)]

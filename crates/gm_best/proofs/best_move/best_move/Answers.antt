@@ -1,10 +1,10 @@
 use Rattle.std.proofs.Common.{◌≡◌, true, None, refl, sym, subst, ◌∙◌}
 use Rattle.gm_game.specs.Values.{IsTrueValue}
 use Rattle.gm_table.specs.Tables.{IsHeld, AreHeld}
-use Rattle.gm_play.specs.BestMoves.{IsBestMove}
-use Rattle.gm_play.proofs.Held.{legal_unless, held_unless}
-use Rattle.gm_play.proofs.Wanted.{best_is, children_known}
-use Rattle.gm_play.proofs.best_move.best_move.Goals as goal
+use Rattle.gm_best.specs.BestMoves.{IsBestMove}
+use Rattle.gm_best.proofs.Refusing.{legal_unless, held_unless}
+use Rattle.gm_best.proofs.Wanted.{best_is, children_known}
+use Rattle.gm_best.proofs.best_move.best_move.Goals as goal
 
 pub choose-requires : goal.choose-requires
 choose-requires g c =

@@ -1,6 +1,6 @@
 //! Why a question that takes memory has no answer.
 ghost use Rattle.std.specs.Prelude.{◌≡◌};
-ghost use Rattle.gm_play.specs.Refusals.{play_number_of};
+ghost use Rattle.gm_best.specs.Refusals.{play_number_of};
 
 use thiserror::Error;
 

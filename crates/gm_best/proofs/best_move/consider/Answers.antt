@@ -4,10 +4,10 @@ use Rattle.gm_game.specs.declared.position.Solved.{Solved}
 use Rattle.gm_game.specs.Values.{IsTrueValue}
 use Rattle.gm_game.proofs.Basic.{HasValue_once}
 use Rattle.gm_table.specs.Tables.{IsHeld}
-use Rattle.gm_play.specs.BestMoves.{wanted_from}
-use Rattle.gm_play.proofs.Choosing.{goes_elsewhere}
-use Rattle.gm_play.proofs.Wanted.{result_held}
-use Rattle.gm_play.proofs.best_move.consider.Goals as goal
+use Rattle.gm_best.specs.BestMoves.{wanted_from}
+use Rattle.gm_best.proofs.Choosing.{goes_elsewhere}
+use Rattle.gm_best.proofs.Wanted.{result_held}
+use Rattle.gm_best.proofs.best_move.consider.Goals as goal
 
 pub unwrap-child-requires : goal.unwrap-child-requires
 unwrap-child-requires g c =

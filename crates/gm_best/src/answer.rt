@@ -1,7 +1,7 @@
 //! The value of a position.
 ghost use Rattle.std.specs.Prelude.{◌≡◌, ◌↔◌, false, IfOk, IsErrOf};
 ghost use Rattle.gm_game.specs.Values.{IsTrueValue};
-ghost use Rattle.gm_play.specs.Refusals.{IsNotHeld, number_of};
+ghost use Rattle.gm_best.specs.Refusals.{IsNotHeld, number_of};
 
 use gm_game::game::Game;
 use gm_game::position::{Position, Solved};

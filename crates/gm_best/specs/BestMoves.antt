@@ -6,7 +6,7 @@ use Rattle.gm_game.specs.declared.position.Value.{Value}
 use Rattle.gm_game.specs.declared.position.Value.TheVariants.{Lose, Draw, Tie, Win}
 use Rattle.gm_game.specs.Rules.{Rules}
 use Rattle.gm_game.specs.Values.{HasValue}
-use Rattle.gm_play.specs.declared.best_move.Choice.{Choice}
+use Rattle.gm_best.specs.declared.best_move.Choice.{Choice}
 
 -- the value of the result of the best move, for a position of this value
 abbrev pub wanted_from : Value → Value

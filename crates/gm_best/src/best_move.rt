@@ -4,8 +4,8 @@ ghost use Rattle.std.specs.List.{Contains};
 ghost use Rattle.gm_game.specs.Rules.{IsChild};
 ghost use Rattle.gm_game.specs.Values.{HasValue};
 ghost use Rattle.gm_table.specs.Tables.{IsHeld, AreHeld};
-ghost use Rattle.gm_play.specs.Refusals.{AreNotHeld};
-ghost use Rattle.gm_play.specs.BestMoves.{wanted_from, IsNearer, IsChoice, Chooses, Considers, IsBestMove};
+ghost use Rattle.gm_best.specs.Refusals.{AreNotHeld};
+ghost use Rattle.gm_best.specs.BestMoves.{wanted_from, IsNearer, IsChoice, Chooses, Considers, IsBestMove};
 
 use crate::answer::{AnswerError, answer};
 use gm_game::game::Game;
@@ -84,7 +84,7 @@ fn consider<G: Game>(
 }
 
 /// The value of the result of a best move from a position with this value.
-pub(crate) fn wanted(value: Value) -> Value
+pub fn wanted(value: Value) -> Value
     ensures { result ≡ wanted_from value }
 {
     match value {

@@ -1,10 +1,10 @@
 use Rattle.std.proofs.Common.{◌≡◌, List, ℕ, take, get_or, sym, subst, ◌∙◌, arith}
 use Rattle.std.proofs.lemmas.List.{take_more, take_all}
 use Rattle.gm_game.specs.Rules.{IsAscending}
-use Rattle.gm_play.specs.BestMoves.{IsChoice}
-use Rattle.gm_play.proofs.Choosing.{considered}
-use Rattle.gm_play.proofs.Wanted.{all_below}
-use Rattle.gm_play.proofs.best_move.choose.Goals as goal
+use Rattle.gm_best.specs.BestMoves.{IsChoice}
+use Rattle.gm_best.proofs.Choosing.{considered}
+use Rattle.gm_best.proofs.Wanted.{all_below}
+use Rattle.gm_best.proofs.best_move.choose.Goals as goal
 
 pub loop-number-preserved : goal.loop-number-preserved
 loop-number-preserved g c =

@@ -1,0 +1,4 @@
+pub mod Refusing
+pub mod Wanted
+pub mod Choosing
+pub mod Existing

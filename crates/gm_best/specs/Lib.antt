@@ -1,0 +1,4 @@
+pub mod Refusals
+pub mod BestMoves
+pub mod Sides
+pub mod Endings

@@ -1,0 +1,17 @@
+//! The line on the end of a game.
+ghost use Rattle.std.specs.Prelude.{◌≡◌};
+ghost use Rattle.gm_best.specs.Endings.{over as over_spec};
+
+use crate::side::Side;
+use gm_game::position::End;
+
+/// The line on the end of a game, with this side to move.
+pub fn over(side: Side, end: End) -> &'static [u8]
+    ensures { result.now ≡ over_spec side end }
+{
+    match (side, end) {
+        (_, End::Tie) => b"over: tie\n",
+        (Side::You, End::Win) | (Side::Computer, End::Lose) => b"over: you win\n",
+        (Side::You, End::Lose) | (Side::Computer, End::Win) => b"over: computer wins\n",
+    }
+}
