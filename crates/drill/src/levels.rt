@@ -9,6 +9,7 @@ ghost use Rattle.gm_testing.specs.ByHand.{IsOfTier};
 
 use crate::marks::marked;
 use crate::said::say;
+use gm_deliveries::status::Start;
 use gm_frontier::last::Last;
 use gm_frontier::level::Level;
 use gm_frontier::run::Run;
@@ -16,7 +17,6 @@ use gm_game::game::Game;
 use gm_game::limits::TIER_SIZE;
 use gm_game::position::Place;
 use gm_shard::shard::Shard;
-use gm_deliveries::status::Start;
 use gm_table::packed::Packed;
 use gm_table::tables::Tables;
 use gm_tactix::tactix::TacTix;

@@ -2,8 +2,8 @@
 
 use crate::asked::Help;
 use crate::pages::Page;
-use gm_find::sought::Sought;
 use gm_best::side::Side;
+use gm_find::sought::Sought;
 use gm_solver::plan::Plan;
 
 /// Where the tables of a game are kept.

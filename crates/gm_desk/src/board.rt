@@ -8,11 +8,11 @@ ghost use Rattle.gm_desk.specs.Batches.{ArePlaced, AreAnswers};
 
 use crate::held::Held;
 use crate::share::{Desk, Share};
+use gm_deliveries::place::place_of;
+use gm_deliveries::status::{Delivery, Refused};
 use gm_frontier::note::Note;
 use gm_game::game::Game;
-use gm_deliveries::place::place_of;
 use gm_shard::shard::Shard;
-use gm_deliveries::status::{Delivery, Refused};
 use std::marker::Model;
 use std::sync::ledger::Blank;
 use std::sync::{Mutex, Wait};

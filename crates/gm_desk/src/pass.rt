@@ -12,13 +12,13 @@ ghost use Rattle.gm_desk.specs.Begun.{IsBegun};
 
 use crate::held::gained;
 use crate::share::{Desk, Share};
+use gm_deliveries::place::place_of;
+use gm_deliveries::status::{Delivery, Refused};
 use gm_frontier::expected::Expected;
 use gm_frontier::level::Level;
 use gm_frontier::note::Note;
 use gm_game::game::Game;
-use gm_deliveries::place::place_of;
 use gm_shard::shard::Shard;
-use gm_deliveries::status::{Delivery, Refused};
 use std::marker::{Brand, Model};
 use std::sync::ledger::{Blank, Book};
 use std::sync::{Mutex, Wait};

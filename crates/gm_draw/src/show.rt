@@ -6,10 +6,10 @@ ghost use Rattle.gm_best.specs.Refusals.{IsNotHeld};
 ghost use Rattle.gm_draw.specs.ShowTexts.{board_text, naming_text, first_move, explained_text, IsShowText};
 
 use crate::drawn::Drawn;
-use gm_game::position::{Position, Solved};
-use gm_game::text::value_text;
 use gm_best::answer::answer;
 use gm_best::play_error::PlayError;
+use gm_game::position::{Position, Solved};
+use gm_game::text::value_text;
 use gm_table::tables::Tables;
 use std::alloc::{AllocError, Global};
 

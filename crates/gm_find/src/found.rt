@@ -9,9 +9,9 @@ use crate::find_error::FindError;
 use crate::positions::find_positions;
 use crate::reached::Reached;
 use crate::sought::Sought;
+use gm_best::best_move::best_move;
 use gm_game::game::Game;
 use gm_game::position::{Position, Solved};
-use gm_best::best_move::best_move;
 use gm_table::tables::Tables;
 use std::alloc::{AllocError, Global};
 

@@ -12,9 +12,9 @@ ghost use Rattle.gm_json.specs.Asking.{IsAnswer, IsServed, IsCutShort, IsHalfSai
 use crate::ask_error::AskError;
 use crate::moves::moves_json;
 use arrayvec::ArrayVec;
+use gm_best::play_error::PlayError;
 use gm_game::limits::LINE;
 use gm_game::shown::Shown;
-use gm_best::play_error::PlayError;
 use gm_play::streams::{read_byte, write_text};
 use gm_table::tables::Tables;
 use serde_json::{Value as Json, json};

@@ -10,11 +10,11 @@ ghost use Rattle.gm_best.specs.Refusals.{AreNotHeld};
 ghost use Rattle.gm_json.specs.Moves.{move_tree, move_trees, moves_tree, IsMovesJson};
 
 use crate::words::{put_text, put_word, word_of};
+use gm_best::play_error::PlayError;
 use gm_game::position::{Position, Solved};
 use gm_game::shown::Shown;
 use gm_play::by_text::{known_value, moves_at};
 use gm_play::move_values::MoveValue;
-use gm_best::play_error::PlayError;
 use gm_table::tables::Tables;
 use serde_json::{Map, Value as Json, push, put};
 use std::alloc::{AllocError, Global};

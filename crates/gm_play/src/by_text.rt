@@ -8,13 +8,13 @@ ghost use Rattle.gm_play.specs.ByText.{IsBestPlay, AreMovesAt};
 ghost use Rattle.gm_play.specs.PlayTexts.{after_best, IsMoveOf, IsReadAs, IsNoPosition};
 ghost use Rattle.gm_best.specs.Refusals.{IsNotHeld, AreNotHeld};
 
-use gm_best::answer::answer;
 use crate::best_line::{BestLine, best_line};
-use gm_best::best_move::wanted;
 use crate::firsts::chosen;
 use crate::move_values::{MoveValue, move_values};
-use gm_best::play_error::PlayError;
 use arrayvec::ArrayVec;
+use gm_best::answer::answer;
+use gm_best::best_move::wanted;
+use gm_best::play_error::PlayError;
 use gm_game::game::Game;
 use gm_game::limits::MOVES;
 use gm_game::position::{Position, Solved};

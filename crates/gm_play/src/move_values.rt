@@ -7,8 +7,8 @@ ghost use Rattle.gm_table.specs.Tables.{IsHeld, AreHeld};
 ghost use Rattle.gm_play.specs.MoveValues.{rank as rank_spec, place as place_spec, worth_of, IsMoveValue, AreMoveValues, BeginsBest};
 ghost use Rattle.gm_best.specs.Refusals.{AreNotHeld};
 
-use gm_best::answer::AnswerError;
 use arrayvec::ArrayVec;
+use gm_best::answer::AnswerError;
 use gm_game::game::Game;
 use gm_game::limits::MOVES;
 use gm_game::position::{Position, Solved, Value};

@@ -8,11 +8,11 @@ ghost use Rattle.gm_best.specs.Sides.{IsWonIn, IsEven};
 ghost use Rattle.gm_play.specs.Sessions.{IsSession, IsBroken};
 
 use crate::session_error::SessionError;
-use gm_best::side::Side;
 use crate::streams::read_byte;
 use crate::turns::{close, reply, turn};
 use crate::view::{Plain, View};
 use arrayvec::ArrayVec;
+use gm_best::side::Side;
 use gm_game::game::Game;
 use gm_game::limits::LINE;
 use gm_game::position::Position;

@@ -8,10 +8,10 @@ ghost use Rattle.gm_play.specs.BestLines.{AreBest, ComesToNotHeld};
 ghost use Rattle.gm_play.specs.PlayTexts.{row, end_row, after_best, IsMoveOf, IsReadAs, IsNoPosition, IsAnswerText, move_row, AreMoveRows, rows_from, IsLineText};
 ghost use Rattle.gm_best.specs.Refusals.{IsNotHeld, AreNotHeld};
 
-use gm_best::answer::{AnswerError, answer};
 use crate::best_line::LineEnd;
 use crate::by_text::{best_play, moves_at, value_after};
 use crate::move_values::MoveValue;
+use gm_best::answer::{AnswerError, answer};
 use gm_best::play_error::PlayError;
 use gm_game::position::{Position, Solved};
 use gm_game::shown::{Line, Shown};

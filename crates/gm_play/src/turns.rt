@@ -6,12 +6,12 @@ ghost use Rattle.gm_play.specs.Reached.{AreAllHeld, IsReached};
 ghost use Rattle.gm_play.specs.Dialogue.{Advice, IsKnown, without_return as without_return_spec, place, persons_turn, computers_turn, turn as turn_spec, reply as reply_spec, closing};
 ghost use Rattle.gm_play.specs.Sessions.{AppendsPart, Says};
 
-use gm_best::best_move::best_move;
-use gm_best::ending::over;
 use crate::session_error::SessionError;
-use gm_best::side::Side;
 use crate::streams::{say, write_line};
 use crate::view::View;
+use gm_best::best_move::best_move;
+use gm_best::ending::over;
+use gm_best::side::Side;
 use gm_game::position::{End, Position};
 use gm_game::shown::Shown;
 use gm_game::text::value_text;

@@ -6,13 +6,13 @@ ghost use Rattle.gm_deliveries.specs.Begin.{AreStarts, first_state};
 ghost use Rattle.gm_solver.specs.Over.{IsOver};
 
 use crate::tier_lists::{TierLists, scan_alone};
+use gm_deliveries::begin::start;
+use gm_deliveries::status::Start;
 use gm_frontier::expected::Expected;
 use gm_game::game::Game;
 use gm_game::limits::TIER_SIZE;
 use gm_game::position::Position;
-use gm_deliveries::begin::start;
 use gm_shard::shard::Shard;
-use gm_deliveries::status::Start;
 use gm_table::tables::Tables;
 use std::alloc::{AllocError, Global};
 

@@ -6,10 +6,10 @@ ghost use Rattle.gm_shard.specs.Lists.{AreSmall};
 ghost use Rattle.gm_solver.specs.Blocks.{block_in, IsBlock, AreInPlace, AreParts};
 ghost use Rattle.gm_game.specs.declared.limits.TheConstants.{TIER_SIZE};
 
+use gm_deliveries::status::Start;
 use gm_game::game::Game;
 use gm_game::position::Position;
 use gm_shard::lists::{Lists, scan};
-use gm_deliveries::status::Start;
 use rayon::prelude::*;
 use std::alloc::{AllocError, Global};
 use std::marker::{Model, PhantomData};

@@ -16,13 +16,13 @@ ghost use Rattle.gm_solver.specs.Tiling.{IsWide, AreShardsAt, AreCountsAt, HaveN
 ghost use Rattle.gm_desk.specs.Rounds.{HasNoneHere};
 
 use crate::tier_lists::{FEW, TierLists, scan_tier};
+use gm_deliveries::status::Start;
 use gm_desk::board::Four;
 use gm_frontier::expected::Expected;
 use gm_frontier::last::Last;
 use gm_game::game::Game;
 use gm_game::limits::{REMOTENESS, TIER_SIZE};
 use gm_shard::shard::Shard;
-use gm_deliveries::status::Start;
 use gm_table::packed::Packed;
 use gm_table::table::Table;
 use gm_table::tables::Tables;

@@ -1,7 +1,7 @@
 //! The checker: how records from anywhere become a table.
 ghost use Rattle.std.specs.Prelude.{◌≡◌, ◌≢◌, ◌↔◌, ◌+◌, ◌≤◌, ℕ, true, length, IsTrue, IfOk, IsErrOf, IsOkUnless, MatchOption};
 ghost use Rattle.gm_game.specs.Rules.{IsCanonical, IsInner};
-ghost use Rattle.gm_game.specs.Records.{IsTrueTable, settle, solved as solved_spec, lost_in, won_in, tied_in, lesser, greater, least_of, all_won};
+ghost use Rattle.gm_game.specs.Records.{IsTrueTable, lost_in, won_in, tied_in, least_of, all_won};
 ghost use Rattle.gm_table.specs.Tables.{IsTable, AreHeld};
 ghost use Rattle.gm_table.specs.Checks.{FitTables, look_up, child_records, value_from, RecordFits, FitsAt, IsFirstWrong, number_of};
 
@@ -13,7 +13,8 @@ use gm_game::children::fill_children;
 use gm_game::evaluate::of_end;
 use gm_game::game::Game;
 use gm_game::limits::{MOVES, REMOTENESS, TIER_SIZE};
-use gm_game::position::{Kind, Position, Solved, Value};
+use gm_game::position::{Kind, Position, Solved};
+use gm_settle::summary::Summary;
 use std::alloc::Global;
 use std::thread::Threads;
 use thiserror::Error;
@@ -229,80 +230,4 @@ fn look_up<G: Game>(
     } else {
         tables.record(c)
     }
-}
-
-// What some children's records say: the least remoteness of a loss, the greatest of a win where all are wins, and the least of a tie.
-#[derive(Clone, Copy)]
-struct Summary {
-    lost: Option<u32>,
-    won: Option<u32>,
-    tied: Option<u32>,
-}
-
-impl Summary {
-    // The same with one more child's record.
-    fn with(self, known: Option<Solved>) -> Summary
-        ensures lost { result.lost ≡ lesser self.lost (lost_in known) }
-        ensures won { result.won ≡ greater self.won (won_in known) }
-        ensures tied { result.tied ≡ lesser self.tied (tied_in known) }
-    {
-        match known {
-            Some(
-                Solved {
-                    value: Value::Lose,
-                    remoteness,
-                },
-            ) => Summary {
-                lost: least(self.lost, remoteness),
-                won: None,
-                ..self
-            },
-            Some(
-                Solved {
-                    value: Value::Win,
-                    remoteness,
-                },
-            ) => Summary {
-                won: self.won.map(|n| n.max(remoteness)),
-                ..self
-            },
-            Some(
-                Solved {
-                    value: Value::Tie,
-                    remoteness,
-                },
-            ) => Summary {
-                won: None,
-                tied: least(self.tied, remoteness),
-                ..self
-            },
-            _ => Summary { won: None, ..self },
-        }
-    }
-
-    // Whether a position with these children has this value.
-    fn settles(self, solved: Solved) -> bool
-        ensures { IsTrue result ↔ (solved ≡ settle self.lost self.won self.tied) }
-    {
-        match (self.lost, self.won, self.tied) {
-            (Some(n), _, _) => is_next(solved, Value::Win, n),
-            (None, Some(n), _) => is_next(solved, Value::Lose, n),
-            (None, None, Some(n)) => is_next(solved, Value::Tie, n),
-            (None, None, None) => solved.value == Value::Draw && solved.remoteness == 0,
-        }
-    }
-}
-
-// The lesser of a remoteness, if there is one, and n.
-fn least(lost: Option<u32>, n: u32) -> Option<u32>
-    ensures { result ≡ lesser lost (Some n) }
-{
-    Some(lost.map_or(n, |m| m.min(n)))
-}
-
-// Whether a value is this one, with a remoteness of one more.
-fn is_next(solved: Solved, value: Value, n: u32) -> bool
-    ensures { IsTrue result ↔ (solved ≡ solved_spec value (n + 1)) }
-{
-    solved.value == value && u64::from(solved.remoteness) == u64::from(n) + 1
 }

@@ -10,6 +10,8 @@ ghost use Rattle.gm_deliveries.specs.Begin.{AreStarts, first_state};
 ghost use Rattle.gm_deliveries.specs.Steps.{place_of, first_ties};
 ghost use Rattle.gm_testing.specs.ByHand.{IsOfTier};
 
+use gm_deliveries::begin::start;
+use gm_deliveries::status::Start;
 use gm_frontier::expected::Expected;
 use gm_frontier::last::Last;
 use gm_frontier::level::Level;
@@ -19,9 +21,7 @@ use gm_frontier::tally::Tally;
 use gm_game::game::Game;
 use gm_game::limits::TIER_SIZE;
 use gm_game::position::{Phase, Place, Position, Solved};
-use gm_deliveries::begin::start;
 use gm_shard::shard::Shard;
-use gm_deliveries::status::Start;
 use gm_table::packed::Packed;
 use gm_table::table::Table;
 use gm_table::tables::Tables;

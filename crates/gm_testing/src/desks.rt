@@ -4,14 +4,14 @@ ghost use Rattle.gm_deliveries.specs.Begin.{first_state};
 ghost use Rattle.gm_desk.specs.Spots.{spot_of, AreFourTiles};
 ghost use Rattle.gm_desk.specs.Batches.{ArePlaced};
 
+use gm_deliveries::place::place_of;
+use gm_deliveries::status::{Delivery, Refused};
 use gm_desk::board::{Board, Four, Shares};
 use gm_desk::share::Desk;
 use gm_frontier::note::Note;
 use gm_game::game::Game;
 use gm_game::limits::TIER_SIZE;
-use gm_deliveries::place::place_of;
 use gm_shard::shard::Shard;
-use gm_deliveries::status::{Delivery, Refused};
 use gm_solver::starts::begin_range;
 use std::alloc::{AllocError, Global};
 use std::marker::Brand;

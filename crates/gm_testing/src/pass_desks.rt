@@ -7,13 +7,13 @@ ghost use Rattle.gm_desk.specs.Spots.{spot_of};
 ghost use Rattle.gm_desk.specs.Rounds.{place_of_spot, HasNoneHere, IsForSpot, IsLevelAt};
 
 use crate::by_hand::fresh_run;
+use gm_deliveries::status::{Delivery, Refused};
 use gm_desk::pass::{Pass, PassDesk, Round};
 use gm_frontier::expected::Expected;
 use gm_frontier::level::Level;
 use gm_game::game::Game;
 use gm_game::limits::{REMOTENESS, TIER_SIZE};
 use gm_shard::shard::Shard;
-use gm_deliveries::status::{Delivery, Refused};
 use gm_solver::starts::begin_range;
 use gm_table::tables::Tables;
 use std::alloc::{AllocError, Global};

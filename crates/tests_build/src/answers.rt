@@ -1,11 +1,11 @@
 //! Answers and best moves over what is built.
 use crate::expect::expect_eq;
 use crate::work::built_alone;
+use gm_best::answer::{AnswerError, answer};
+use gm_best::best_move::best_move;
 use gm_build::build::Built;
 use gm_game::game::Game;
 use gm_game::position::{Position, Solved, Value};
-use gm_best::answer::{AnswerError, answer};
-use gm_best::best_move::best_move;
 use gm_table::tables::Tables;
 use gm_toys::countdown::Countdown;
 use gm_toys::wheel::Wheel;

@@ -4,11 +4,11 @@ ghost use Rattle.gm_tiers.specs.Orders.{IsTierOrder};
 
 use crate::expect::expect_eq;
 use crate::work::built_alone;
+use gm_best::side::Side;
 use gm_build::build::Built;
 use gm_game::game::Game;
 use gm_game::position::Position;
 use gm_play::play_line::{PlayLine, play_line};
-use gm_best::side::Side;
 use gm_toys::countdown::Countdown;
 use gm_toys::stairs::Stairs;
 use gm_toys::wheel::Wheel;

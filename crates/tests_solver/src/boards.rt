@@ -4,11 +4,11 @@ ghost use Rattle.gm_desk.specs.Spots.{spot_of, AreFourTiles};
 
 use crate::expect::expect_eq;
 use crate::shards::first_note;
+use gm_deliveries::status::{Delivery, Refused};
 use gm_desk::board::Four;
 use gm_game::game::Game;
 use gm_game::limits::TIER_SIZE;
 use gm_shard::shard::Shard;
-use gm_deliveries::status::{Delivery, Refused};
 use gm_testing::desks::{Answers, Seen, cut_at, deliver_by_hand, deliver_twice_by_hand, watch};
 use gm_toys::countdown::Countdown;
 use std::alloc::{AllocError, Global};

@@ -3,9 +3,9 @@ use crate::expect::{expect, expect_eq};
 use crate::ways::{
     asked_on_stairs, counted, habits, long_chain, slow, ten, ten_with, two_meet, wheel,
 };
+use gm_deliveries::status::Delivery;
 use gm_game::game::Game;
 use gm_game::limits::TIER_SIZE;
-use gm_deliveries::status::Delivery;
 use gm_table::tables::Tables;
 use gm_testing::crews::Way;
 use gm_testing::pass_desks::{Passed, Told, pass_by_hand};

@@ -4,6 +4,7 @@ ghost use Rattle.gm_deliveries.specs.Begin.{first_state};
 
 use crate::expect::expect_eq;
 use crate::records::lose;
+use gm_deliveries::status::{Delivery, Refused, Short, Status};
 use gm_frontier::expected::Expected;
 use gm_frontier::note::Note;
 use gm_game::game::Game;
@@ -12,7 +13,6 @@ use gm_game::position::{Phase, Solved};
 use gm_shard::event::Event;
 use gm_shard::replay::replay;
 use gm_shard::shard::Shard;
-use gm_deliveries::status::{Delivery, Refused, Short, Status};
 use gm_table::tables::Tables;
 use gm_testing::by_hand::{add_fresh, at_ties, begin_whole, records_of};
 use gm_toys::countdown::Countdown;

@@ -1,10 +1,10 @@
 //! Sessions of games that stay in one tier.
 
+use gm_best::side::Side;
 use gm_game::position::Position;
 use gm_game::shown::Shown;
 use gm_play::session::session;
 use gm_play::session_error::SessionError;
-use gm_best::side::Side;
 use gm_table::tables::Tables;
 use std::io::{Read, Write};
 

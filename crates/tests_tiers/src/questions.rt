@@ -1,11 +1,11 @@
 //! Answers, moves and lines of play of Countdown from 4.
 use crate::expect::{expect, expect_eq};
 use crate::sessions::tables;
-use gm_game::position::{Position, Solved, Value};
 use gm_best::answer::AnswerError;
+use gm_best::play_error::PlayError;
+use gm_game::position::{Position, Solved, Value};
 use gm_play::best_line::{LineEnd, best_line};
 use gm_play::move_values::{MoveValue, move_values};
-use gm_best::play_error::PlayError;
 use gm_play::texts::{answer_text, line_text, moves_text};
 use gm_table::tables::Tables;
 use gm_toys::countdown::Countdown;

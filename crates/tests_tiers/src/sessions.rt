@@ -2,10 +2,10 @@
 use crate::expect::{expect, expect_eq, expect_eq_at};
 use crate::one_tier::play;
 use crate::slow::{Fault, LongLine, SlowReader, SlowWriter};
+use gm_best::side::Side;
 use gm_game::position::{Position, Solved, Value};
 use gm_play::session::SESSION_BYTES;
 use gm_play::session_error::SessionError;
-use gm_best::side::Side;
 use gm_table::checker::check;
 use gm_table::tables::Tables;
 use gm_toys::countdown::Countdown;
