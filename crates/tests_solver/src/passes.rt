@@ -1,6 +1,6 @@
 //! Tiers solved with one pass a shard, whatever their source and gate do.
 use crate::expect::{expect, expect_eq, must};
-use crate::ways::{asked_on_stairs, counted, habits, long_chain, ten, two_meet, wheel};
+use crate::ways::{asked_on_stairs, by_habit, counted, long_chain, ten, two_meet, wheel};
 use gm_frontier::level::Level;
 use gm_game::game::Game;
 use gm_game::limits::TIER_SIZE;
@@ -26,14 +26,11 @@ fn every_pass_is_taken(rt: HostRuntime) {
 
 #[test]
 fn sources_of_every_habit_by_passes(rt: HostRuntime) {
-    let by_hand = [
-        (Habit::Silent, 19),
-        (Habit::Always(0), 10),
-        (Habit::Twice, 0),
-        (Habit::Odd, 9),
-        (Habit::Always(usize::MAX), 19),
-    ];
-    habits(&rt, Way::Passes, &by_hand);
+    by_habit(&rt, Way::Passes, Habit::Silent, 19);
+    by_habit(&rt, Way::Passes, Habit::Always(0), 10);
+    by_habit(&rt, Way::Passes, Habit::Twice, 0);
+    by_habit(&rt, Way::Passes, Habit::Odd, 9);
+    by_habit(&rt, Way::Passes, Habit::Always(usize::MAX), 19);
 }
 
 // The first level of Countdown, at desks round the indexes below 6 and from 6 on.

@@ -37,25 +37,33 @@ fn close<G: Game>(
     shard: &mut Shard<G>,
     expected: &Expected<G>,
 ) -> Result<(), Short> {
-    assert!(rt; shard.is_for(expected));
-    assert!(rt; shard.level() <= REMOTENESS);
+    assert!(rt; shard.is_for(expected) && shard.level() <= REMOTENESS);
     shard.close(expected)
 }
 
-// What is known of an index in the range, and its counter.
-fn known<G: Game>(rt: &impl Abort, shard: &Shard<G>, index: u64) -> (Status, u32) {
+/// What is known of an index in the range, and its counter.
+pub(crate) fn known<G: Game>(rt: &impl Abort, shard: &Shard<G>, index: u64) -> (Status, u32) {
     let (lo, hi) = shard.range();
-    assert!(rt; lo <= index);
-    assert!(rt; index < hi);
+    assert!(rt; lo <= index && index < hi);
     (shard.status(index), shard.counter(index))
 }
 
 // The value of the note of an index in the range.
 fn noted<G: Game>(rt: &impl Abort, shard: &Shard<G>, index: u64) -> Option<Solved> {
     let (lo, hi) = shard.range();
-    assert!(rt; lo <= index);
-    assert!(rt; index < hi);
+    assert!(rt; lo <= index && index < hi);
     Some(shard.note(index)?.solved())
+}
+
+// Delivers a note to a parent, which is answered so.
+fn delivers<G: Game>(
+    rt: &impl Abort,
+    shard: &mut Shard<G>,
+    note: &Note<G>,
+    parent: u64,
+    answer: Result<Delivery, Refused>,
+) {
+    expect_eq(rt, shard.deliver(note, parent), answer);
 }
 
 // The first level of Countdown: the note of 0, which has two parents.
@@ -67,31 +75,31 @@ fn first_level<G: Game>(
 ) {
     assert_eq!(rt; notes.len(), 1);
     let zero = &notes[0];
-    expect_eq(rt, shard.deliver(zero, 1), Ok(Delivery::FreshSettled));
-    expect_eq(rt, shard.deliver(zero, 1), Ok(Delivery::Repeat));
-    expect_eq(rt, shard.deliver(zero, 5), Err(Refused::NotAParent));
-    expect_eq(rt, shard.deliver(zero, 11), Err(Refused::NotMine));
+    delivers(rt, shard, zero, 1, Ok(Delivery::FreshSettled));
+    delivers(rt, shard, zero, 1, Ok(Delivery::Repeat));
+    delivers(rt, shard, zero, 5, Err(Refused::NotAParent));
+    delivers(rt, shard, zero, 11, Err(Refused::NotMine));
     let short = Short {
         delivered: 1,
         expected: 2,
     };
     expect_eq(rt, close(rt, shard, expected), Err(short));
-    expect_eq(rt, shard.deliver(zero, 2), Ok(Delivery::FreshSettled));
+    delivers(rt, shard, zero, 2, Ok(Delivery::FreshSettled));
     expect_eq(rt, close(rt, shard, expected), Ok(()));
-    expect_eq(rt, shard.deliver(zero, 1), Err(Refused::NotThisLevel));
+    delivers(rt, shard, zero, 1, Err(Refused::NotThisLevel));
 }
 
 // The note of 1 at the second level: 2 and 3 have it among their children.
 fn one_at_second_level<G: Game>(rt: &impl Abort, shard: &mut Shard<G>, note: &Note<G>) {
-    expect_eq(rt, shard.deliver(note, 2), Ok(Delivery::Fresh));
+    delivers(rt, shard, note, 2, Ok(Delivery::Fresh));
     expect_eq(rt, known(rt, shard, 2).1, 0);
-    expect_eq(rt, shard.deliver(note, 3), Ok(Delivery::Fresh));
+    delivers(rt, shard, note, 3, Ok(Delivery::Fresh));
     expect_eq(rt, known(rt, shard, 3), (Status::Undecided, 1));
 }
 
 // The note of 2: 3 has no other child left.
 fn two_at_second_level<G: Game>(rt: &impl Abort, shard: &mut Shard<G>, note: &Note<G>) {
-    expect_eq(rt, shard.deliver(note, 3), Ok(Delivery::FreshSettled));
+    delivers(rt, shard, note, 3, Ok(Delivery::FreshSettled));
     expect_eq(rt, noted(rt, shard, 3), lose(2));
     expect_eq(rt, shard.delivered(), 5);
 }

@@ -77,15 +77,14 @@ pub fn two_meet<R: Threads + Wait + Sync + AllocGlobal + Abort>(rt: &R, way: Way
     expect(rt, !*meeting.gave_up.lock(rt));
 }
 
-/// A source of each habit, with how many deliveries then are by hand.
-pub fn habits<R: Threads + Wait + Sync + AllocGlobal + Abort>(
+/// A source of this habit, with how many deliveries then are by hand.
+pub fn by_habit<R: Threads + Wait + Sync + AllocGlobal + Abort>(
     rt: &R,
     way: Way,
-    habits: &[(Habit, u64)],
+    habit: Habit,
+    by_hand: u64,
 ) {
-    for (habit, by_hand) in habits {
-        ten(rt, way, (2, 2, 1), &NoGate, &Odd::new(*habit), *by_hand);
-    }
+    ten(rt, way, (2, 2, 1), &NoGate, &Odd::new(habit), by_hand);
 }
 
 /// Wheel by a source of this habit, with how many deliveries then are by hand.

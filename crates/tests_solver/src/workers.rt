@@ -1,7 +1,9 @@
 //! Tiers solved by workers that take pieces of a level, whatever their source and gate do.
 use crate::expect::{expect, expect_eq, must};
 use crate::records::lose;
-use crate::ways::{as_alone, asked_on_stairs, counted, habits, long_chain, shown, two_meet, wheel};
+use crate::ways::{
+    as_alone, asked_on_stairs, by_habit, counted, long_chain, shown, two_meet, wheel,
+};
 use gm_game::game::Game;
 use gm_game::limits::TIER_SIZE;
 use gm_solver::gate::NoGate;
@@ -23,14 +25,11 @@ fn two_workers_meet(rt: HostRuntime) {
 
 #[test]
 fn sources_of_every_habit(rt: HostRuntime) {
-    let by_hand = [
-        (Habit::Silent, 19),
-        (Habit::Always(0), 6),
-        (Habit::Twice, 0),
-        (Habit::Odd, 13),
-        (Habit::Always(usize::MAX), 19),
-    ];
-    habits(&rt, Way::Pieces, &by_hand);
+    by_habit(&rt, Way::Pieces, Habit::Silent, 19);
+    by_habit(&rt, Way::Pieces, Habit::Always(0), 6);
+    by_habit(&rt, Way::Pieces, Habit::Twice, 0);
+    by_habit(&rt, Way::Pieces, Habit::Odd, 13);
+    by_habit(&rt, Way::Pieces, Habit::Always(usize::MAX), 19);
 }
 
 #[test]
