@@ -1,5 +1,5 @@
 //! The steps that the tests of several layers share: the starts of a range, the run and the level of a held tier, and the tallies of a level.
-ghost use Rattle.std.specs.Prelude.{◌≡◌, ℕ, ◌+◌, ◌-◌, ◌<◌, ◌≤◌, ◌↔◌, length, IsTrue, IfOk, IfSome, OnOk, MatchBool};
+ghost use Rattle.std.specs.Prelude.{◌≡◌, ℕ, ◌+◌, ◌-◌, ◌<◌, ◌≤◌, length, IfOk, IfSome, OnOk};
 ghost use Rattle.gm_game.specs.declared.position.Phase.TheVariants.{Ties};
 ghost use Rattle.gm_table.specs.Tables.{IsHeld, AreHeld};
 ghost use Rattle.gm_frontier.specs.Records.{note_of, IsRecorded};
@@ -7,8 +7,8 @@ ghost use Rattle.gm_frontier.specs.Levels.{AreTiles, place_at};
 ghost use Rattle.gm_frontier.specs.Counts.{with_level};
 ghost use Rattle.gm_frontier.specs.Tallies.{IsTile, AreTallies};
 ghost use Rattle.gm_deliveries.specs.Begin.{AreStarts, first_state};
-ghost use Rattle.gm_deliveries.specs.Steps.{place_of, first_ties};
-ghost use Rattle.gm_testing.specs.ByHand.{IsOfTier};
+ghost use Rattle.gm_deliveries.specs.Steps.{place_of};
+ghost use Rattle.gm_testing.specs.ByHand.{IsOfTier, HaveTile};
 
 use gm_deliveries::begin::start;
 use gm_deliveries::status::Start;
@@ -20,9 +20,11 @@ use gm_frontier::run::Run;
 use gm_frontier::tally::Tally;
 use gm_game::game::Game;
 use gm_game::limits::TIER_SIZE;
-use gm_game::position::{Phase, Place, Position, Solved};
+use gm_game::position::{Phase, Place, Position};
 use gm_shard::shard::Shard;
-use gm_table::packed::Packed;
+use gm_solver::error::SolveError;
+use gm_solver::phase::finish_phase;
+use gm_solver::starts::{begin_range, begin_tier};
 use gm_table::table::Table;
 use gm_table::tables::Tables;
 use std::alloc::{AllocError, Global};
@@ -50,8 +52,7 @@ pub fn begin_whole<G: Game>(alloc: Global, tier: u64) -> Result<Shard<G>, AllocE
     requires { G.rules.tier_size tier ≤ TIER_SIZE }
     ensures { IfOk result (λ shard. shard ≡ first_state tier 0 (G.rules.tier_size tier)) }
 {
-    let starts = starts_of::<G>(alloc, tier, 0, G::tier_size(tier))?;
-    Shard::begin(alloc, tier, 0, starts.as_slice())
+    begin_range(alloc, tier, 0, G::tier_size(tier))
 }
 
 // The note of an index that has a record of a decided position.
@@ -101,94 +102,48 @@ pub fn tallies_of<G: Game>(
     Ok(tallies)
 }
 
-/// Adds the next level of a held tier, which stands at this place: it walks the pairs.
+/// Adds the next level of a held tier, which stands at this place: by the tallies of pieces of so many notes, for a range that is a tile of this width, or by
+/// a walk of the pairs where there are no such numbers.
 pub fn add_level<G: Game>(
     alloc: Global,
     place: Place,
     tables: &Tables<G>,
+    tallied: Option<(usize, u64)>,
     expected: &mut Expected<G>,
 ) -> Result<(), AllocError>
     requires next { place ≡ place_at expected.old.tier expected.old.phase expected.old.level }
     requires held { IsHeld tables.now place.tier }
     requires children { AreHeld G.rules tables.now place.tier }
     requires small { G.rules.tier_size place.tier ≤ TIER_SIZE }
+    requires tallied { IfSome tallied (HaveTile (G.rules.tier_size place.tier) expected.old.lo expected.old.hi) }
     ensures { OnOk result (expected.new ≡ with_level expected.old place (expected.new.number - expected.old.number)) }
 {
-    let runs = vec![in alloc; run_of(alloc, place, tables)?]?;
-    let level = Level::gather(alloc, place, runs.as_slice(), tables)?;
-    expected.add(&level);
-    Ok(())
-}
-
-/// The same as the function before, by the tallies of pieces of `n` notes, for a range that is a tile of this width.
-pub fn add_level_counted<G: Game>(
-    alloc: Global,
-    place: Place,
-    tables: &Tables<G>,
-    n: usize,
-    width: u64,
-    expected: &mut Expected<G>,
-) -> Result<(), AllocError>
-    requires next { place ≡ place_at expected.old.tier expected.old.phase expected.old.level }
-    requires held { IsHeld tables.now place.tier }
-    requires children { AreHeld G.rules tables.now place.tier }
-    requires small { G.rules.tier_size place.tier ≤ TIER_SIZE }
-    requires piece_size { 0 < n }
-    requires width { 0 < width }
-    requires tile { IsTile (G.rules.tier_size place.tier) width expected.old.lo expected.old.hi }
-    ensures { OnOk result (expected.new ≡ with_level expected.old place (expected.new.number - expected.old.number)) }
-{
-    let runs = vec![in alloc; run_of(alloc, place, tables)?]?;
-    let level = Level::gather(alloc, place, runs.as_slice(), tables)?;
-    let tallies = tallies_of(alloc, &level, n, width)?;
-    expected.add_counted(&level, tallies.as_slice());
-    Ok(())
-}
-
-/// The count into a range from the first levels of wins and losses of a held tier: it walks the pairs.
-pub fn expected_by_walks<G: Game>(
-    alloc: Global,
-    tier: u64,
-    levels: u32,
-    lo: u64,
-    hi: u64,
-    tables: &Tables<G>,
-) -> Result<Expected<G>, AllocError>
-    requires held { IsHeld tables.now tier }
-    requires children { AreHeld G.rules tables.now tier }
-    requires small { G.rules.tier_size tier ≤ TIER_SIZE }
-    ensures tier { IfOk result (λ expected. expected.tier ≡ tier) }
-    ensures level { IfOk result (λ expected. expected.level ≡ levels) }
-{
-    let mut expected = Expected::start(tier, lo, hi);
-    for level in 0..levels {
-        let place = Place {
-            tier,
-            phase: Phase::WinLose,
-            level,
-        };
-        add_level(alloc, place, tables, &mut expected)?;
+    let runs = [run_of(alloc, place, tables)?];
+    let level = Level::gather(alloc, place, &runs, tables)?;
+    match tallied {
+        Some((n, width)) => {
+            let tallies = tallies_of(alloc, &level, n, width)?;
+            expected.add_counted(&level, tallies.as_slice());
+        }
+        None => expected.add(&level),
     }
-    Ok(expected)
+    Ok(())
 }
 
-/// The same as the function before, by the tallies of pieces of `n` notes, for a range that is a tile of this width.
-pub fn expected_by_tallies<G: Game>(
+/// The count into a range from the first levels of wins and losses of a held tier, each of which is added by `add_level`.
+pub fn expected_of<G: Game>(
     alloc: Global,
     tier: u64,
     levels: u32,
-    n: usize,
-    width: u64,
     lo: u64,
     hi: u64,
+    tallied: Option<(usize, u64)>,
     tables: &Tables<G>,
 ) -> Result<Expected<G>, AllocError>
     requires held { IsHeld tables.now tier }
     requires children { AreHeld G.rules tables.now tier }
     requires small { G.rules.tier_size tier ≤ TIER_SIZE }
-    requires piece_size { 0 < n }
-    requires width { 0 < width }
-    requires tile { IsTile (G.rules.tier_size tier) width lo hi }
+    requires tallied { IfSome tallied (HaveTile (G.rules.tier_size tier) lo hi) }
     ensures tier { IfOk result (λ expected. expected.tier ≡ tier) }
     ensures level { IfOk result (λ expected. expected.level ≡ levels) }
 {
@@ -199,7 +154,7 @@ pub fn expected_by_tallies<G: Game>(
             phase: Phase::WinLose,
             level,
         };
-        add_level_counted(alloc, place, tables, n, width, &mut expected)?;
+        add_level(alloc, place, tables, tallied, &mut expected)?;
     }
     Ok(expected)
 }
@@ -208,9 +163,7 @@ pub fn expected_by_tallies<G: Game>(
 pub fn fresh_run<G: Game>(alloc: Global, shard: &Shard<G>) -> Result<Vec<Run<G>>, AllocError>
     ensures { IfOk result (λ runs. AreTiles (place_of shard.now) shard.now.lo (shard.now.lo + length shard.now.delivered) runs.items) }
 {
-    let mut runs = Vec::new(alloc);
-    runs.push(shard.fresh(alloc)?)?;
-    Ok(runs)
+    Ok(vec![in alloc; shard.fresh(alloc)?]?)
 }
 
 /// Adds the level of a shard of a whole tier, as far as the shard has settled it.
@@ -226,8 +179,8 @@ pub fn add_fresh<G: Game>(
     requires small { G.rules.tier_size shard.now.tier ≤ TIER_SIZE }
     ensures { OnOk result (expected.new ≡ with_level expected.old (place_of shard.now) (expected.new.number - expected.old.number)) }
 {
-    let runs = fresh_run(alloc, shard)?;
-    let level = Level::gather(alloc, shard.place(), runs.as_slice(), tables)?;
+    let runs = [shard.fresh(alloc)?];
+    let level = Level::gather(alloc, shard.place(), &runs, tables)?;
     expected.add(&level);
     Ok(())
 }
@@ -243,62 +196,12 @@ pub fn last_of<G: Game>(
     requires small { G.rules.tier_size shard.now.tier ≤ TIER_SIZE }
     ensures { IfOk result (λ last. IfSome last (λ l. l ≡ place_of shard.now)) }
 {
-    let runs = fresh_run(alloc, shard)?;
-    let level = Level::gather(alloc, shard.place(), runs.as_slice(), tables)?;
+    let runs = [shard.fresh(alloc)?];
+    let level = Level::gather(alloc, shard.place(), &runs, tables)?;
     Ok(level.last(tables))
 }
 
-/// Turns a shard of a whole tier, and its count, to ties where no win or loss is left; answers whether it did.
-pub fn turn<G: Game>(
-    alloc: Global,
-    shard: &mut Shard<G>,
-    expected: &mut Expected<G>,
-    tables: &Tables<G>,
-) -> Result<bool, AllocError>
-    requires next { place_of shard.old ≡ place_at expected.old.tier expected.old.phase expected.old.level }
-    requires whole { IsOfTier G.rules shard.old }
-    requires children { AreHeld G.rules tables.now shard.old.tier }
-    requires small { G.rules.tier_size shard.old.tier ≤ TIER_SIZE }
-    ensures { IfOk result (λ turned. MatchBool turned (shard.new ≡ first_ties shard.old) (shard.new ≡ shard.old)) }
-{
-    match last_of(alloc, shard, tables)? {
-        Some(last) => {
-            let can_turn = shard.can_turn(&last);
-            if can_turn {
-                shard.next_phase(&last);
-                expected.next_phase(&last);
-            }
-            Ok(can_turn)
-        }
-        None => Ok(false),
-    }
-}
-
-// Closes the level without wins and losses of a shard of a whole tier and turns the shard to ties: whether it has ties.
-fn turn_first<G: Game>(
-    alloc: Global,
-    shard: &mut Shard<G>,
-    expected: &mut Expected<G>,
-    tables: &Tables<G>,
-) -> Result<bool, AllocError>
-    requires first { shard.old ≡ first_state expected.old.tier 0 (G.rules.tier_size expected.old.tier) }
-    requires next { place_of shard.old ≡ place_at expected.old.tier expected.old.phase expected.old.level }
-    requires lo { expected.old.lo ≡ 0 }
-    requires hi { expected.old.hi ≡ G.rules.tier_size expected.old.tier }
-    requires children { AreHeld G.rules tables.now expected.old.tier }
-    requires small { G.rules.tier_size expected.old.tier ≤ TIER_SIZE }
-    ensures whole { IfOk result (λ turned. IsTrue turned → IsOfTier G.rules shard.new) }
-    ensures tier { IfOk result (λ turned. IsTrue turned → shard.new.tier ≡ expected.old.tier) }
-    ensures ties { IfOk result (λ turned. IsTrue turned → shard.new.phase ≡ Ties) }
-{
-    add_fresh(alloc, shard, tables, expected)?;
-    if shard.close(expected).is_err() {
-        return Ok(false);
-    }
-    turn(alloc, shard, expected, tables)
-}
-
-/// The shard of a tier whose level without wins and losses is closed, at its first level of ties; none where it has no ties.
+/// The shard of a tier at its first level of ties, after its wins and losses; none where one of these is too far.
 pub fn at_ties<G: Game>(
     alloc: Global,
     tier: u64,
@@ -310,41 +213,20 @@ pub fn at_ties<G: Game>(
     ensures tier { IfOk result (λ shard. IfSome shard (λ s. s.tier ≡ tier)) }
     ensures ties { IfOk result (λ shard. IfSome shard (λ s. s.phase ≡ Ties)) }
 {
-    let mut shard = begin_whole::<G>(alloc, tier)?;
-    let mut expected = Expected::start(tier, 0, G::tier_size(tier));
-    let turned = turn_first(alloc, &mut shard, &mut expected, tables);
-    drop(expected);
-    match turned {
-        Ok(true) => Ok(Some(shard)),
-        Ok(false) => {
-            drop(shard);
-            Ok(None)
+    let (mut shard, lists, mut expected) = begin_tier::<G>(alloc, tier, tables)?;
+    let last = finish_phase(alloc, &mut shard, &lists, &mut expected, tables);
+    drop((lists, expected));
+    match last {
+        Ok(last) => {
+            shard.next_phase(&last);
+            Ok(Some(shard))
         }
         Err(error) => {
             drop(shard);
-            Err(error)
+            match error {
+                SolveError::TooFar { .. } => Ok(None),
+                SolveError::OutOfMemory => Err(AllocError),
+            }
         }
     }
-}
-
-/// The records of a shard of a whole tier, where its level is the end of ties.
-pub fn records_of<G: Game>(
-    alloc: Global,
-    shard: &Shard<G>,
-    tables: &Tables<G>,
-) -> Result<Vec<Option<Solved>>, AllocError>
-    requires phase { shard.now.phase ≡ Ties }
-    requires whole { IsOfTier G.rules shard.now }
-    requires children { AreHeld G.rules tables.now shard.now.tier }
-    requires small { G.rules.tier_size shard.now.tier ≤ TIER_SIZE }
-{
-    let mut packed = Packed::with_capacity(alloc, 0)?;
-    if let Some(last) = last_of(alloc, shard, tables)? {
-        shard.finish(&last, &mut packed)?;
-    }
-    let mut records = Vec::new(alloc);
-    for index in 0..packed.len() {
-        records.push(packed.get(index))?;
-    }
-    Ok(records)
 }

@@ -1,12 +1,10 @@
 //! Desks that are delivered to in order, as callers with workers of their own use them.
 ghost use Rattle.std.specs.Prelude.{◌≡◌, ◌+◌, ◌<◌, ◌≤◌};
-ghost use Rattle.gm_table.specs.Tables.{AreHeld};
 ghost use Rattle.gm_deliveries.specs.State.{pairs_in};
 ghost use Rattle.gm_deliveries.specs.Begin.{first_state};
 ghost use Rattle.gm_desk.specs.Spots.{spot_of};
 ghost use Rattle.gm_desk.specs.Rounds.{place_of_spot, HasNoneHere, IsForSpot, IsLevelAt};
 
-use crate::by_hand::fresh_run;
 use gm_deliveries::status::{Delivery, Refused};
 use gm_desk::pass::{Pass, PassDesk, Round};
 use gm_frontier::expected::Expected;
@@ -15,7 +13,6 @@ use gm_game::game::Game;
 use gm_game::limits::{REMOTENESS, TIER_SIZE};
 use gm_shard::shard::Shard;
 use gm_solver::starts::begin_range;
-use gm_table::tables::Tables;
 use std::alloc::{AllocError, Global};
 use std::marker::Brand;
 use std::sync::Wait;
@@ -24,40 +21,42 @@ use std::sync::ledger::Blank;
 /// What a desk answered to one delivery, with the amount of the pass after it, and whether that was full.
 pub type Told = (Result<Delivery, Refused>, u64, bool);
 
-/// What one desk answered to the deliveries of a level, one after another.
-#[derive(Debug, Drop)]
+/// What one desk did at the deliveries of a level, one after another.
+#[derive(Drop)]
 pub struct Passed {
     /// Whether the pass was full before any delivery.
     pub full_at_first: bool,
-    pub each: Vec<Told>,
+    /// Whether the desk answered to the deliveries as was expected, and to no more of them.
+    pub as_expected: bool,
     /// Where the pass was full at the end: how many pairs the shard had, and whether its level could be closed.
     pub whole: Option<(u64, bool)>,
 }
 
-// Delivers each of the level's pairs into the desk's range that is the pass's next one.
-fn deliver_all<G: Game, L: Round, R: Wait>(
+// Delivers each of the level's pairs into the desk's range that is the pass's next one: whether these are the answers.
+fn answers<G: Game, L: Round, R: Wait>(
     rt: &R,
-    alloc: Global,
     desk: &PassDesk<G, L>,
     level: &Level<G>,
     pass: &mut Pass<L>,
     expected: &Expected<G>,
-) -> Result<Vec<Told>, AllocError>
+    told: &[Told],
+) -> bool
     requires level { IsLevelAt level.now L.spot L.notes }
     requires is_for { IsForSpot expected.now L.spot }
 {
     let _place = level.place();
     let (lo, hi) = desk.range();
-    let mut each = Vec::new(alloc);
+    let mut same = true;
     let mut number = 0u64;
     for (note, parent) in level.pairs(0, level.len().max(1), lo, hi) {
         if number == pass.amount() {
             let answer = desk.deliver_next(rt, &note, parent, pass);
-            each.push((answer, pass.amount(), pass.full(expected)))?;
+            let found = (answer, pass.amount(), pass.full(expected));
+            same = same && told.get(number as usize) == Some(&found);
         }
         number += 1;
     }
-    Ok(each)
+    same && number == told.len() as u64
 }
 
 // Takes the shard out of a desk whose pass is full: how many pairs it had, and whether its level could be closed.
@@ -80,12 +79,12 @@ fn close_whole<G: Game, L: Round>(
 // The same at a desk of this name round a shard, which it takes out at the end where its pass is full.
 fn pass_named<G: Game, L: Round, R: Wait>(
     rt: &R,
-    alloc: Global,
     blank: Blank,
     shard: Shard<G>,
     level: &Level<G>,
     expected: &Expected<G>,
-) -> Result<Passed, AllocError>
+    told: &[Told],
+) -> Passed
     requires name { blank.name ≡ L.name }
     requires parts { (blank.parts ≡ L.parts) × (0 < L.parts) }
     requires spot { spot_of shard ≡ L.spot }
@@ -97,33 +96,28 @@ fn pass_named<G: Game, L: Round, R: Wait>(
 {
     let (desk, mut pass) = PassDesk::<G, L>::around(blank, shard, level);
     let full_at_first = pass.full(expected);
-    let each = match deliver_all(rt, alloc, &desk, level, &mut pass, expected) {
-        Ok(each) => each,
-        Err(error) => {
-            drop((desk, pass));
-            return Err(error);
-        }
-    };
+    let as_expected = answers(rt, &desk, level, &mut pass, expected, told);
     let whole = if pass.full(expected) {
         Some(close_whole(desk, pass, expected))
     } else {
         drop((desk, pass));
         None
     };
-    Ok(Passed {
+    Passed {
         full_at_first,
-        each,
+        as_expected,
         whole,
-    })
+    }
 }
 
-// The same for the indexes of a tier from `lo` up to `hi`, at the tier's first level.
-fn pass_range<G: Game, R: Wait>(
+/// Delivers the first level of a tier at a desk round the indexes from `lo` up to `hi`, which is expected to answer so.
+pub fn pass_by_hand<G: Game, R: Wait>(
     rt: &R,
     alloc: Global,
     level: &Level<G>,
     lo: u64,
     hi: u64,
+    told: &[Told],
 ) -> Result<Passed, AllocError>
     requires first { level.now.place ≡ place_of_spot (spot_of (first_state level.now.place.tier 0 0)) }
     requires order { lo ≤ hi }
@@ -134,68 +128,5 @@ fn pass_range<G: Game, R: Wait>(
     let mut expected = Expected::start(tier, lo, hi);
     expected.add(level);
     let blank = Blank::new(1);
-    pass_named::<G, Brand, R>(rt, alloc, blank, shard, level, &expected)
-}
-
-// The same for the indexes before a cut and for those from it up to `hi`.
-fn pass_both<G: Game, R: Wait>(
-    rt: &R,
-    alloc: Global,
-    level: &Level<G>,
-    cut: u64,
-    hi: u64,
-) -> Result<(Passed, Passed), AllocError>
-    requires first { level.now.place ≡ place_of_spot (spot_of (first_state level.now.place.tier 0 0)) }
-    requires order { cut ≤ hi }
-    requires within { hi ≤ TIER_SIZE }
-{
-    let low = pass_range(rt, alloc, level, 0, cut)?;
-    let high = pass_range(rt, alloc, level, cut, hi)?;
-    Ok((low, high))
-}
-
-// The same for the level of a whole tier before its first level.
-fn pass_first<G: Game, R: Wait>(
-    rt: &R,
-    alloc: Global,
-    whole: &Shard<G>,
-    tier: u64,
-    cut: u64,
-    tables: &Tables<G>,
-) -> Result<(Passed, Passed), AllocError>
-    requires first { whole.now ≡ first_state tier 0 (G.rules.tier_size tier) }
-    requires held { AreHeld G.rules tables.now tier }
-    requires small { G.rules.tier_size tier ≤ TIER_SIZE }
-    requires within { cut ≤ G.rules.tier_size tier }
-{
-    let runs = fresh_run(alloc, whole)?;
-    let passed = match Level::gather(alloc, whole.place(), runs.as_slice(), tables) {
-        Ok(level) => {
-            let passed = pass_both(rt, alloc, &level, cut, G::tier_size(tier));
-            drop(level);
-            passed
-        }
-        Err(error) => Err(error),
-    };
-    drop(runs);
-    passed
-}
-
-/// The first level of a tier at two desks, round the indexes before a cut and from it on.
-pub fn pass_by_hand<G: Game, R: Wait>(
-    rt: &R,
-    alloc: Global,
-    tier: u64,
-    cut: u64,
-    tables: &Tables<G>,
-) -> Result<(Passed, Passed), AllocError>
-    requires held { AreHeld G.rules tables.now tier }
-    requires small { G.rules.tier_size tier ≤ TIER_SIZE }
-    requires within { cut ≤ G.rules.tier_size tier }
-{
-    let size = G::tier_size(tier);
-    let whole = begin_range::<G>(alloc, tier, 0, size)?;
-    let passed = pass_first(rt, alloc, &whole, tier, cut, tables);
-    drop(whole);
-    passed
+    Ok(pass_named::<G, Brand, R>(rt, blank, shard, level, &expected, told))
 }

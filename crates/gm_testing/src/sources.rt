@@ -6,7 +6,7 @@ use std::sync::atomic::{AtomicUsize, Ordering};
 use std::sync::{Mutex, Wait};
 
 /// What a source answers when it is asked during a level, one answer after another.
-#[derive(Clone, Copy, Debug, Drop)]
+#[derive(Clone, Copy)]
 pub enum Habit {
     /// Nothing.
     Silent,
@@ -16,10 +16,12 @@ pub enum Habit {
     Twice,
     /// The odd numbers below that of the pieces, and then nothing.
     Odd,
+    /// To each worker its own number, once.
+    Own,
 }
 
 /// A source with a habit. It counts the levels that are begun, the pieces that it was told of at their beginning, and how often it was asked.
-#[derive(Debug, Drop)]
+#[derive(Drop)]
 pub struct Odd {
     pub habit: Habit,
     pub levels: AtomicUsize,
@@ -27,6 +29,7 @@ pub struct Odd {
     pub asks: AtomicUsize,
     pieces: AtomicUsize,
     asked: AtomicUsize,
+    asked_by: Mutex<[bool; 2]>,
 }
 
 impl Odd {
@@ -39,19 +42,21 @@ impl Odd {
             asks: AtomicUsize::new(0),
             pieces: AtomicUsize::new(0),
             asked: AtomicUsize::new(0),
+            asked_by: Mutex::new([true; 2]),
         }
     }
 }
 
 impl Source for Odd {
-    fn begin<R: Wait>(&self, _rt: &R, pieces: usize) {
+    fn begin<R: Wait>(&self, rt: &R, pieces: usize) {
         self.levels.fetch_add(1, Ordering::SeqCst);
         self.told.fetch_add(pieces, Ordering::SeqCst);
         self.pieces.store(pieces, Ordering::SeqCst);
         self.asked.store(0, Ordering::SeqCst);
+        *self.asked_by.lock(rt) = [false; 2];
     }
 
-    fn next<R: Wait>(&self, _rt: &R, _worker: usize) -> Option<usize> {
+    fn next<R: Wait>(&self, rt: &R, worker: usize) -> Option<usize> {
         self.asks.fetch_add(1, Ordering::SeqCst);
         let asked = self.asked.fetch_add(1, Ordering::SeqCst);
         match self.habit {
@@ -62,38 +67,19 @@ impl Source for Odd {
                 let piece = asked.saturating_mul(2).saturating_add(1);
                 (piece < self.pieces.load(Ordering::SeqCst)).then_some(piece)
             }
+            Habit::Own => is_first(rt, &self.asked_by, worker).then_some(worker),
         }
     }
 }
 
-/// Gives worker 0 piece 0 and worker 1 piece 1, once for each level.
-#[derive(Drop)]
-pub struct OwnPieces {
-    taken: Mutex<[bool; 2]>,
-}
-
-impl OwnPieces {
-    pub fn new() -> Self {
-        OwnPieces {
-            taken: Mutex::new([true; 2]),
-        }
+// Marks one of two workers, and answers whether it was not marked before.
+fn is_first<R: Wait>(rt: &R, marks: &Mutex<[bool; 2]>, worker: usize) -> bool {
+    let mut marks = marks.lock(rt);
+    if worker >= 2 || marks[worker] {
+        return false;
     }
-}
-
-impl Source for OwnPieces {
-    fn begin<R: Wait>(&self, rt: &R, _pieces: usize) {
-        *self.taken.lock(rt) = [false; 2];
-    }
-
-    fn next<R: Wait>(&self, rt: &R, worker: usize) -> Option<usize> {
-        if worker >= 2 {
-            return None;
-        }
-        let mut taken = self.taken.lock(rt);
-        let first = !taken[worker];
-        taken[worker] = true;
-        first.then_some(worker)
-    }
+    marks[worker] = true;
+    true
 }
 
 /// Holds each of two workers at its first delivery of one level of wins and losses, until the other has arrived there too, for at most a million turns.
@@ -114,78 +100,55 @@ impl Meeting {
         }
     }
 
-    // Marks that the worker has arrived, and answers whether it is its first time.
-    fn arrive<R: Wait>(&self, rt: &R, worker: usize) -> bool {
-        let mut arrived = self.arrived.lock(rt);
-        if worker >= 2 || arrived[worker] {
-            return false;
-        }
-        arrived[worker] = true;
-        true
-    }
-
     // Waits for both workers, and answers whether they arrived.
     fn wait<R: Wait>(&self, rt: &R) -> bool {
-        (0..1_000_000).any(|_| *self.arrived.lock(rt) == [true; 2])
+        for _ in 0..1_000_000 {
+            if *self.arrived.lock(rt) == [true; 2] {
+                return true;
+            }
+        }
+        false
     }
 }
 
 impl Gate for Meeting {
     fn before<R: Wait>(&self, rt: &R, worker: usize, place: Place) {
-        if place.phase == Phase::WinLose && place.level == self.level && self.arrive(rt, worker) {
-            if !self.wait(rt) {
-                *self.gave_up.lock(rt) = true;
-            }
+        let is_here = place.phase == Phase::WinLose && place.level == self.level;
+        if is_here && is_first(rt, &self.arrived, worker) && !self.wait(rt) {
+            *self.gave_up.lock(rt) = true;
         }
     }
 
     fn after<R: Wait>(&self, _rt: &R, _worker: usize, _place: Place) {}
 }
 
-/// Takes and frees a mutex a thousand times before each delivery.
+/// Counts the calls before and after deliveries, and takes and frees a mutex so many times before each.
 #[derive(Drop)]
-pub struct SlowGate {
+pub struct Turnstile {
+    pub before: AtomicUsize,
+    pub after: AtomicUsize,
+    turns: u32,
     lock: Mutex<u32>,
 }
 
-impl SlowGate {
-    pub fn new() -> Self {
-        SlowGate {
+impl Turnstile {
+    /// A gate that takes its mutex this many times before a delivery.
+    pub fn new(turns: u32) -> Self {
+        Turnstile {
+            before: AtomicUsize::new(0),
+            after: AtomicUsize::new(0),
+            turns,
             lock: Mutex::new(0),
         }
     }
 }
 
-impl Gate for SlowGate {
-    fn before<R: Wait>(&self, rt: &R, _worker: usize, _place: Place) {
-        for _ in 0..1000 {
-            let mut turns = self.lock.lock(rt);
-            *turns = turns.wrapping_add(1);
-        }
-    }
-
-    fn after<R: Wait>(&self, _rt: &R, _worker: usize, _place: Place) {}
-}
-
-/// Counts the calls before and after deliveries.
-#[derive(Debug, Drop)]
-pub struct Turnstile {
-    pub before: AtomicUsize,
-    pub after: AtomicUsize,
-}
-
-impl Turnstile {
-    pub fn new() -> Self {
-        Turnstile {
-            before: AtomicUsize::new(0),
-            after: AtomicUsize::new(0),
-        }
-    }
-}
-
 impl Gate for Turnstile {
-    fn before<R: Wait>(&self, _rt: &R, _worker: usize, _place: Place) {
+    fn before<R: Wait>(&self, rt: &R, _worker: usize, _place: Place) {
         self.before.fetch_add(1, Ordering::SeqCst);
+        for turn in 0..self.turns {
+            *self.lock.lock(rt) = turn;
+        }
     }
 
     fn after<R: Wait>(&self, _rt: &R, _worker: usize, _place: Place) {

@@ -1,5 +1,5 @@
 //! Records that are checked, and the tables that are made of them.
-use crate::expect::{expect, expect_eq};
+use crate::expect::{expect, expect_eq, must};
 use crate::records::{hold, lose, of_countdown, of_wheel, win};
 use gm_game::game::Game;
 use gm_game::position::{Phase, Position, Solved};
@@ -10,7 +10,6 @@ use gm_toys::countdown::Countdown;
 use gm_toys::wheel::Wheel;
 use std::alloc::Global;
 use std::process::Abort;
-use std::test::Fail;
 
 type Ten = Countdown<10>;
 
@@ -19,30 +18,23 @@ fn shared<T: Send + Sync>(tables: &T) -> &T {
     tables
 }
 
-// Records of Countdown that are false, and too few of them.
-fn check_false(
-    rt: &impl Abort,
-    alloc: Global,
-    tables: &Tables<Ten>,
-    records: &mut Vec<Option<Solved>>,
-) {
-    assert_eq!(rt; records.len(), 11);
-    records[9] = lose(7);
-    let wrong = check(alloc, 0, records.as_slice(), tables).err();
-    expect_eq(rt, wrong, Some(CheckError::WrongRecord { index: 9 }));
-    let _last = records.pop();
-    let short = check(alloc, 0, records.as_slice(), tables).err();
-    expect_eq(rt, short, Some(CheckError::WrongSize));
+// Why records of Countdown are refused.
+fn refusal(alloc: Global, tables: &Tables<Ten>, records: &[Option<Solved>]) -> Option<CheckError> {
+    check(alloc, 0, records, tables).err()
 }
 
 #[test]
-fn check_of_countdown(rt: HostRuntime) -> Result<(), Fail> {
-    let mut records = of_countdown(rt.alloc())?;
-    let mut tables: Tables<Ten> = Tables::new(rt.alloc());
-    let held = hold(&rt, rt.alloc(), &mut tables, 0, records.as_slice());
-    check_false(&rt, rt.alloc(), &tables, &mut records);
-    drop((records, tables));
-    held
+fn check_of_countdown(rt: HostRuntime) {
+    let alloc = rt.alloc();
+    let mut records = of_countdown();
+    let mut tables: Tables<Ten> = Tables::new(alloc);
+    hold(&rt, alloc, &mut tables, 0, &records);
+    records[9] = lose(7);
+    let wrong = refusal(alloc, &tables, &records);
+    expect_eq(&rt, wrong, Some(CheckError::WrongRecord { index: 9 }));
+    let short = refusal(alloc, &tables, &records[..10]);
+    expect_eq(&rt, short, Some(CheckError::WrongSize));
+    drop(tables);
 }
 
 // What the table of Countdown says of itself.
@@ -55,93 +47,60 @@ fn check_table<G: Game>(rt: &impl Abort, table: &Table<G>) {
     expect_eq(rt, table.greatest(Phase::Ties), None);
 }
 
-// The table of true records, checked and then made without a check.
-fn check_tables(
-    rt: &impl Abort,
-    alloc: Global,
-    tables: &Tables<Ten>,
-    records: &[Option<Solved>],
-) -> Result<(), Fail> {
-    let table = check(alloc, 0, records, tables)?;
-    check_table(rt, &table);
-    drop(table);
-    let same: Table<Ten> = Table::from_true(alloc, 0, records)?;
-    expect_eq(rt, same.at(10), win(7));
-    Ok(())
-}
-
 #[test]
-fn table_of_countdown(rt: HostRuntime) -> Result<(), Fail> {
-    let records = of_countdown(rt.alloc())?;
-    let tables: Tables<Ten> = Tables::new(rt.alloc());
-    let checked = check_tables(&rt, rt.alloc(), &tables, records.as_slice());
-    drop((records, tables));
-    checked
+fn table_of_countdown(rt: HostRuntime) {
+    let alloc = rt.alloc();
+    let records = of_countdown();
+    let tables: Tables<Ten> = Tables::new(alloc);
+    let table = must(&rt, check(alloc, 0, &records, &tables));
+    check_table(&rt, &table);
+    // The same without a check.
+    let same: Table<Ten> = must(&rt, Table::from_true(alloc, 0, &records));
+    expect_eq(&rt, same.at(10), win(7));
+    drop((tables, table, same));
 }
 
-// The runs of Countdown, of whose tier the table is held.
+// The runs and records of Countdown, of whose tier the table is held.
 fn check_runs(rt: &impl Abort, tables: &Tables<Ten>) {
-    assert!(rt; shared(tables).has(0));
+    expect(rt, shared(tables).has(0));
     expect(rt, tables.table(0).is_some());
     expect_eq(rt, tables.run(0, Phase::WinLose, 3), [4, 5].as_slice());
     expect(rt, tables.run(0, Phase::WinLose, 8).is_empty());
     expect(rt, tables.run(0, Phase::Ties, 0).is_empty());
     expect(rt, tables.run(1, Phase::WinLose, 3).is_empty());
-}
-
-// The same before the table is held, and after it was inserted once and twice.
-fn check_insertions(
-    rt: &impl Abort,
-    alloc: Global,
-    tables: &mut Tables<Ten>,
-    records: &[Option<Solved>],
-) -> Result<(), Fail> {
-    assert!(rt; !tables.has(0));
-    expect(rt, tables.table(0).is_none());
-    expect(rt, tables.run(0, Phase::WinLose, 3).is_empty());
-    hold(rt, alloc, tables, 0, records)?;
-    check_runs(rt, tables);
-    hold(rt, alloc, tables, 0, records)?;
-    check_runs(rt, tables);
     expect_eq(rt, tables.get(Position { tier: 0, index: 6 }), lose(4));
     expect_eq(rt, tables.get(Position { tier: 0, index: 11 }), None);
     expect_eq(rt, tables.get(Position { tier: 1, index: 0 }), None);
-    Ok(())
 }
 
 #[test]
-fn runs_of_tables(rt: HostRuntime) -> Result<(), Fail> {
-    let records = of_countdown(rt.alloc())?;
-    let mut tables: Tables<Ten> = Tables::new(rt.alloc());
-    let checked = check_insertions(&rt, rt.alloc(), &mut tables, records.as_slice());
-    drop((records, tables));
-    checked
-}
-
-// The runs of Wheel, whose table is inserted.
-fn check_wheel(
-    rt: &impl Abort,
-    alloc: Global,
-    tables: &mut Tables<Wheel>,
-    records: &[Option<Solved>],
-) -> Result<(), Fail> {
-    let table = check(alloc, 0, records, tables)?;
-    expect_eq(rt, table.greatest(Phase::WinLose), Some(3));
-    expect_eq(rt, table.greatest(Phase::Ties), Some(2));
-    expect(rt, tables.insert(table).is_ok());
-    expect_eq(rt, tables.run(0, Phase::Ties, 0), [0].as_slice());
-    expect_eq(rt, tables.run(0, Phase::Ties, 2), [2].as_slice());
-    expect(rt, tables.run(1, Phase::Ties, 0).is_empty());
-    Ok(())
+fn runs_of_tables(rt: HostRuntime) {
+    let alloc = rt.alloc();
+    let records = of_countdown();
+    let mut tables: Tables<Ten> = Tables::new(alloc);
+    expect(&rt, !tables.has(0));
+    expect(&rt, tables.table(0).is_none());
+    expect(&rt, tables.run(0, Phase::WinLose, 3).is_empty());
+    // The same after it was inserted once and twice.
+    hold(&rt, alloc, &mut tables, 0, &records);
+    check_runs(&rt, &tables);
+    hold(&rt, alloc, &mut tables, 0, &records);
+    check_runs(&rt, &tables);
+    drop(tables);
 }
 
 #[test]
-fn runs_of_wheel(rt: HostRuntime) -> Result<(), Fail> {
-    let records = of_wheel(rt.alloc())?;
-    let mut tables: Tables<Wheel> = Tables::new(rt.alloc());
-    let checked = check_wheel(&rt, rt.alloc(), &mut tables, records.as_slice());
-    drop((records, tables));
-    checked
+fn runs_of_wheel(rt: HostRuntime) {
+    let alloc = rt.alloc();
+    let mut tables: Tables<Wheel> = Tables::new(alloc);
+    let table = must(&rt, check(alloc, 0, &of_wheel(), &tables));
+    expect_eq(&rt, table.greatest(Phase::WinLose), Some(3));
+    expect_eq(&rt, table.greatest(Phase::Ties), Some(2));
+    must(&rt, tables.insert(table));
+    expect_eq(&rt, tables.run(0, Phase::Ties, 0), [0].as_slice());
+    expect_eq(&rt, tables.run(0, Phase::Ties, 2), [2].as_slice());
+    expect(&rt, tables.run(1, Phase::Ties, 0).is_empty());
+    drop(tables);
 }
 
 #[test]

@@ -1,12 +1,11 @@
-ghost use Rattle.std.specs.Prelude.{◌≡◌, ◌≤◌, OnOk};
+ghost use Rattle.std.specs.Prelude.{◌≡◌, ◌≤◌, IfSome};
 ghost use Rattle.gm_game.specs.declared.position.Phase.TheVariants.{WinLose};
-ghost use Rattle.gm_frontier.specs.Levels.{AreTiles, place_at};
+ghost use Rattle.gm_frontier.specs.Levels.{place_at};
 ghost use Rattle.gm_table.specs.Tables.{IsHeld, AreHeld};
+ghost use Rattle.gm_testing.specs.ByHand.{HaveTile};
 
-use crate::expect::{expect, expect_eq};
+use crate::expect::{expect, expect_eq, must};
 use crate::records::{hold, lose, of_countdown, win};
-use gm_frontier::expected::Expected;
-use gm_frontier::last::Last;
 use gm_frontier::level::Level;
 use gm_frontier::run::Run;
 use gm_frontier::tally::Tally;
@@ -14,12 +13,13 @@ use gm_game::game::Game;
 use gm_game::limits::TIER_SIZE;
 use gm_game::position::{Phase, Place, Position, Solved};
 use gm_table::tables::Tables;
-use gm_testing::by_hand::{expected_by_tallies, expected_by_walks, run_of};
+use gm_testing::by_hand::{expected_of, run_of};
 use gm_toys::countdown::Countdown;
 use gm_toys::stairs::Stairs;
-use std::alloc::{AllocError, Global};
+use std::alloc::Global;
 use std::process::Abort;
-use std::test::Fail;
+
+type Ten = Countdown<10>;
 
 // A place among the wins and losses.
 fn level_of(tier: u64, level: u32) -> Place
@@ -92,38 +92,15 @@ fn check_gathered<G: Game>(
     level: &Level<G>,
     tables: &Tables<G>,
     wanted: &Wanted<'_>,
-) -> Result<(), AllocError>
+)
     requires { AreHeld G.rules tables.now level.now.place.tier }
 {
     check_note(rt, level, wanted.position, wanted.solved);
     check_pairs(rt, level, wanted.pairs);
     expect(rt, level.last(tables).is_none());
-    let tally = level.tally(alloc, 0, 1, 6)?;
+    let tally = must(rt, level.tally(alloc, 0, 1, 6));
     check_tally(rt, &tally, level.place(), wanted.counts);
     drop(tally);
-    Ok(())
-}
-
-// The level of these runs.
-fn check_runs<G: Game>(
-    rt: &impl Abort,
-    alloc: Global,
-    place: Place,
-    runs: &[Run<G>],
-    tables: &Tables<G>,
-    wanted: &Wanted<'_>,
-) -> Result<(), AllocError>
-    requires tiles { AreTiles place 0 (G.rules.tier_size place.tier) runs.now }
-    requires held { AreHeld G.rules tables.now place.tier }
-    requires small { G.rules.tier_size place.tier ≤ TIER_SIZE }
-{
-    assert_eq!(rt; runs.len(), 1);
-    check_run(rt, &runs[0], place, wanted.hi);
-    let level = Level::gather(alloc, place, runs, tables)?;
-    check_level(rt, &level, place);
-    let checked = check_gathered(rt, alloc, &level, tables, wanted);
-    drop(level);
-    checked
 }
 
 // The level at a place of a held tier.
@@ -133,24 +110,33 @@ fn check_level_at<G: Game>(
     place: Place,
     tables: &Tables<G>,
     wanted: &Wanted<'_>,
-) -> Result<(), AllocError>
+)
     requires held { IsHeld tables.now place.tier }
     requires children { AreHeld G.rules tables.now place.tier }
     requires small { G.rules.tier_size place.tier ≤ TIER_SIZE }
 {
-    let runs = vec![in alloc; run_of(alloc, place, tables)?]?;
-    let checked = check_runs(rt, alloc, place, runs.as_slice(), tables, wanted);
+    let runs = [must(rt, run_of(alloc, place, tables))];
+    check_run(rt, &runs[0], place, wanted.hi);
+    let level = must(rt, Level::gather(alloc, place, &runs, tables));
+    check_level(rt, &level, place);
+    check_gathered(rt, alloc, &level, tables, wanted);
+    drop(level);
     drop(runs);
-    checked
 }
 
-// The table of Countdown is inserted, and the level of 0 is looked at.
-fn check_first_level(
-    rt: &impl Abort,
-    alloc: Global,
-    tables: &mut Tables<Countdown<10>>,
-) -> Result<(), Fail> {
-    hold_countdown(rt, alloc, tables)?;
+// Countdown, whose table is held.
+fn countdown(rt: &impl Abort, alloc: Global) -> Tables<Ten>
+    ensures { IsHeld result 0 }
+{
+    let mut tables = Tables::new(alloc);
+    hold(rt, alloc, &mut tables, 0, &of_countdown());
+    assert!(rt; tables.has(0));
+    tables
+}
+
+#[test]
+fn tally_of_a_piece(rt: HostRuntime) {
+    let tables = countdown(&rt, rt.alloc());
     let wanted = Wanted {
         hi: 11,
         position: Position { tier: 0, index: 0 },
@@ -158,117 +144,60 @@ fn check_first_level(
         pairs: &[(0, 1), (0, 2)],
         counts: &[2, 0, 0],
     };
-    Ok(check_level_at(rt, alloc, level_of(0, 0), tables, &wanted)?)
-}
-
-#[test]
-fn tally_of_a_piece(rt: HostRuntime) -> Result<(), Fail> {
-    let mut tables: Tables<Countdown<10>> = Tables::new(rt.alloc());
-    let checked = check_first_level(&rt, rt.alloc(), &mut tables);
+    check_level_at(&rt, rt.alloc(), level_of(0, 0), &tables, &wanted);
     drop(tables);
-    checked
 }
 
-// Inserts the table of Countdown.
-fn hold_countdown(
+// The count of the first eight levels of tier 0 into a range: by the tallies of pieces of so many notes into tiles of this width, or by a walk.
+fn check_count<G: Game>(
     rt: &impl Abort,
     alloc: Global,
-    tables: &mut Tables<Countdown<10>>,
-) -> Result<(), Fail>
-    ensures { OnOk result (IsHeld tables.new 0) }
-{
-    let records = of_countdown(alloc)?;
-    let held = hold(rt, alloc, tables, 0, records.as_slice());
-    drop(records);
-    held?;
-    assert!(rt; tables.has(0));
-    Ok(())
-}
-
-// What a count of the first eight levels says of itself.
-fn check_expected<G: Game>(
-    rt: &impl Abort,
-    expected: &Expected<G>,
+    tables: &Tables<G>,
     range: (u64, u64),
+    tallied: Option<(usize, u64)>,
     number: u64,
-) {
+)
+    requires held { IsHeld tables.now 0 }
+    requires children { AreHeld G.rules tables.now 0 }
+    requires small { G.rules.tier_size 0 ≤ TIER_SIZE }
+    requires tallied { IfSome tallied (HaveTile (G.rules.tier_size 0) range.0 range.1) }
+{
+    let (lo, hi) = range;
+    let counted = expected_of(alloc, 0, 8, lo, hi, tallied, tables);
+    let expected = must(rt, counted);
     expect_eq(rt, expected.number(), number);
     expect_eq(rt, expected.tier(), 0);
     expect_eq(rt, expected.range(), range);
     expect_eq(rt, expected.last(), Some(level_of(0, 7)));
-}
-
-// The count of the first eight levels into a range: each pair is walked.
-fn check_walks(
-    rt: &impl Abort,
-    alloc: Global,
-    tables: &Tables<Countdown<10>>,
-    range: (u64, u64),
-    number: u64,
-) -> Result<(), AllocError>
-    requires { IsHeld tables.now 0 }
-{
-    let expected = expected_by_walks(alloc, 0, 8, range.0, range.1, tables)?;
-    check_expected(rt, &expected, range, number);
     drop(expected);
-    Ok(())
-}
-
-// The counts of the whole tier and of two ranges.
-fn check_counts(
-    rt: &impl Abort,
-    alloc: Global,
-    tables: &mut Tables<Countdown<10>>,
-) -> Result<(), Fail> {
-    hold_countdown(rt, alloc, tables)?;
-    check_walks(rt, alloc, tables, (0, 11), 19)?;
-    check_walks(rt, alloc, tables, (0, 6), 9)?;
-    check_walks(rt, alloc, tables, (6, 11), 10)?;
-    Ok(())
 }
 
 #[test]
-fn counts_of_countdown(rt: HostRuntime) -> Result<(), Fail> {
-    let mut tables: Tables<Countdown<10>> = Tables::new(rt.alloc());
-    let checked = check_counts(&rt, rt.alloc(), &mut tables);
+fn counts_of_countdown(rt: HostRuntime) {
+    let tables = countdown(&rt, rt.alloc());
+    check_count(&rt, rt.alloc(), &tables, (0, 11), None, 19);
+    check_count(&rt, rt.alloc(), &tables, (0, 6), None, 9);
+    check_count(&rt, rt.alloc(), &tables, (6, 11), None, 10);
     drop(tables);
-    checked
-}
-
-// The same counts of the two ranges, by the tallies of pieces.
-fn check_tallies(
-    rt: &impl Abort,
-    alloc: Global,
-    tables: &mut Tables<Countdown<10>>,
-) -> Result<(), Fail> {
-    hold_countdown(rt, alloc, tables)?;
-    let low = expected_by_tallies(alloc, 0, 8, 1, 6, 0, 6, tables)?;
-    check_expected(rt, &low, (0, 6), 9);
-    drop(low);
-    let high = expected_by_tallies(alloc, 0, 8, 1, 6, 6, 11, tables)?;
-    check_expected(rt, &high, (6, 11), 10);
-    drop(high);
-    Ok(())
 }
 
 #[test]
-fn counts_by_tallies(rt: HostRuntime) -> Result<(), Fail> {
-    let mut tables: Tables<Countdown<10>> = Tables::new(rt.alloc());
-    let checked = check_tallies(&rt, rt.alloc(), &mut tables);
+fn counts_by_tallies(rt: HostRuntime) {
+    let tables = countdown(&rt, rt.alloc());
+    check_count(&rt, rt.alloc(), &tables, (0, 6), Some((1, 6)), 9);
+    check_count(&rt, rt.alloc(), &tables, (6, 11), Some((1, 6)), 10);
     drop(tables);
-    checked
 }
 
-// The tables of Stairs from 3 are inserted, whose tiers 0 to 3 are lost, won, lost and won, and the level of tier 2 is looked at from tier 3.
-fn check_child_tier(
-    rt: &impl Abort,
-    alloc: Global,
-    tables: &mut Tables<Stairs<3>>,
-) -> Result<(), Fail> {
-    hold(rt, alloc, tables, 0, &[lose(0)])?;
-    hold(rt, alloc, tables, 1, &[win(1)])?;
-    hold(rt, alloc, tables, 2, &[lose(2)])?;
-    hold(rt, alloc, tables, 3, &[win(3)])?;
+// The tables of Stairs from 3 are held, whose tiers 0 to 3 are lost, won, lost and won, and the level of tier 2 is looked at from tier 3.
+#[test]
+fn level_of_a_child_tier(rt: HostRuntime) {
+    let alloc = rt.alloc();
+    let mut tables: Tables<Stairs<3>> = Tables::new(alloc);
+    hold(&rt, alloc, &mut tables, 0, &[lose(0)]);
+    hold(&rt, alloc, &mut tables, 1, &[win(1)]);
+    hold(&rt, alloc, &mut tables, 2, &[lose(2)]);
+    hold(&rt, alloc, &mut tables, 3, &[win(3)]);
     assert!(rt; tables.has(3) && tables.has_children(3));
     let wanted = Wanted {
         hi: 1,
@@ -277,45 +206,23 @@ fn check_child_tier(
         pairs: &[(0, 0)],
         counts: &[1],
     };
-    Ok(check_level_at(rt, alloc, level_of(3, 2), tables, &wanted)?)
-}
-
-#[test]
-fn level_of_a_child_tier(rt: HostRuntime) -> Result<(), Fail> {
-    let mut tables: Tables<Stairs<3>> = Tables::new(rt.alloc());
-    let checked = check_child_tier(&rt, rt.alloc(), &mut tables);
+    check_level_at(&rt, alloc, level_of(3, 2), &tables, &wanted);
     drop(tables);
-    checked
-}
-
-// The place from which on a tier has nothing.
-fn check_last<G: Game>(rt: &impl Abort, last: &Last<G>, place: Place) {
-    expect_eq(rt, last.tier(), place.tier);
-    expect_eq(rt, last.place(), place);
 }
 
 // The level of a tier without positions.
-fn check_empty(
-    rt: &impl Abort,
-    alloc: Global,
-    tables: &Tables<Stairs<3>>,
-) -> Result<(), AllocError> {
-    let level = Level::gather(alloc, level_of(4, 0), &[], tables)?;
-    expect_eq(rt, level.len(), 0);
-    let tally = Tally::of(&level, 0, 1, 1, Vec::new(alloc));
-    expect_eq(rt, tally.count(0), 0);
-    drop(tally);
-    match level.last(tables) {
-        Some(last) => check_last(rt, &last, level_of(4, 0)),
-        None => expect(rt, false),
-    }
-    Ok(())
-}
-
 #[test]
-fn level_of_an_empty_tier(rt: HostRuntime) -> Result<(), Fail> {
-    let tables: Tables<Stairs<3>> = Tables::new(rt.alloc());
-    let checked = check_empty(&rt, rt.alloc(), &tables);
+fn level_of_an_empty_tier(rt: HostRuntime) {
+    let alloc = rt.alloc();
+    let tables: Tables<Stairs<3>> = Tables::new(alloc);
+    let level = must(&rt, Level::gather(alloc, level_of(4, 0), &[], &tables));
+    expect_eq(&rt, level.len(), 0);
+    let tally = Tally::of(&level, 0, 1, 1, Vec::new(alloc));
+    expect_eq(&rt, tally.count(0), 0);
+    drop(tally);
+    let last = level.last(&tables).expect(&rt, "the end");
+    expect_eq(&rt, last.tier(), 4);
+    expect_eq(&rt, last.place(), level_of(4, 0));
+    drop(level);
     drop(tables);
-    Ok(checked?)
 }

@@ -1,5 +1,5 @@
 //! Plans, sources, errors, and the tier solved by the call with workers.
-use crate::expect::{expect, expect_eq};
+use crate::expect::{expect, expect_eq, must};
 use crate::records::win;
 use gm_game::position::{Phase, Place};
 use gm_solver::error::SolveError;
@@ -9,7 +9,6 @@ use gm_solver::source::{Counter, Source};
 use gm_solver::tier::solve_tier;
 use gm_table::tables::Tables;
 use gm_toys::countdown::Countdown;
-use std::test::Fail;
 
 // Whether there is a plan of these numbers, and it has them.
 fn has_plan(workers: usize, shards: usize, piece: usize) -> bool {
@@ -65,16 +64,13 @@ fn errors_have_numbers(rt: HostRuntime) {
 }
 
 #[test]
-fn deliveries_of_countdown(rt: HostRuntime) -> Result<(), Fail> {
+fn deliveries_of_countdown(rt: HostRuntime) {
     let tables: Tables<Countdown<10>> = Tables::new(rt.alloc());
-    if let Some(plan) = Plan::new(2, 2, 1) {
-        let solved = solve_tier(&rt, rt.alloc(), 0, &tables, plan, &NoGate, &Counter::new());
-        drop(tables);
-        let (table, report) = solved?;
-        expect_eq(&rt, table.at(10), win(7));
-        drop(table);
-        expect_eq(&rt, report.deliveries, 19);
-        expect_eq(&rt, report.by_hand, 0);
-    }
-    Ok(())
+    let plan = Plan::new(2, 2, 1).expect(&rt, "a plan");
+    let solved = solve_tier(&rt, rt.alloc(), 0, &tables, plan, &NoGate, &Counter::new());
+    let (table, report) = must(&rt, solved);
+    expect_eq(&rt, table.at(10), win(7));
+    expect_eq(&rt, report.deliveries, 19);
+    expect_eq(&rt, report.by_hand, 0);
+    drop((tables, table));
 }

@@ -1,14 +1,13 @@
 //! The true records of the toys, and tables that are held.
 
-use crate::expect::expect;
+use crate::expect::must;
 use gm_game::game::Game;
 use gm_game::limits::TIER_SIZE;
 use gm_game::position::{Solved, Value};
 use gm_table::checker::check;
 use gm_table::tables::Tables;
-use std::alloc::{AllocError, Global};
+use std::alloc::Global;
 use std::process::Abort;
-use std::test::Fail;
 
 pub(crate) fn win(remoteness: u32) -> Option<Solved> {
     Some(Solved {
@@ -39,8 +38,8 @@ pub(crate) fn draw() -> Option<Solved> {
 }
 
 /// Those of Countdown<10>, from 0 to 10.
-pub(crate) fn of_countdown(alloc: Global) -> Result<Vec<Option<Solved>>, AllocError> {
-    let records = vec![in alloc;
+pub(crate) fn of_countdown() -> [Option<Solved>; 11] {
+    [
         lose(0),
         win(1),
         win(1),
@@ -52,13 +51,12 @@ pub(crate) fn of_countdown(alloc: Global) -> Result<Vec<Option<Solved>>, AllocEr
         win(5),
         lose(6),
         win(7),
-    ]?;
-    Ok(records)
+    ]
 }
 
 /// Those of Wheel, from 0 to 9.
-pub(crate) fn of_wheel(alloc: Global) -> Result<Vec<Option<Solved>>, AllocError> {
-    let records = vec![in alloc;
+pub(crate) fn of_wheel() -> [Option<Solved>; 10] {
+    [
         tie(0),
         tie(1),
         tie(2),
@@ -69,8 +67,7 @@ pub(crate) fn of_wheel(alloc: Global) -> Result<Vec<Option<Solved>>, AllocError>
         lose(2),
         draw(),
         win(3),
-    ]?;
-    Ok(records)
+    ]
 }
 
 /// Checks the records of a tier, and inserts the table that they make.
@@ -80,9 +77,8 @@ pub(crate) fn hold<G: Game>(
     tables: &mut Tables<G>,
     tier: u64,
     records: &[Option<Solved>],
-) -> Result<(), Fail> {
+) {
     assert!(rt; tables.has_children(tier) && G::tier_size(tier) <= TIER_SIZE);
-    let table = check(alloc, tier, records, tables)?;
-    expect(rt, tables.insert(table).is_ok());
-    Ok(())
+    let table = must(rt, check(alloc, tier, records, tables));
+    must(rt, tables.insert(table));
 }

@@ -1,8 +1,10 @@
 ghost use Rattle.std.specs.Prelude.{◌≡◌, ◌≤◌};
+ghost use Rattle.gm_game.specs.declared.position.Phase.TheVariants.{Ties};
 ghost use Rattle.gm_table.specs.Tables.{AreHeld};
 ghost use Rattle.gm_deliveries.specs.Begin.{first_state};
+ghost use Rattle.gm_testing.specs.ByHand.{IsOfTier};
 
-use crate::expect::expect_eq;
+use crate::expect::{expect_eq, must};
 use crate::records::lose;
 use gm_deliveries::status::{Delivery, Refused, Short, Status};
 use gm_frontier::expected::Expected;
@@ -13,12 +15,14 @@ use gm_game::position::{Phase, Solved};
 use gm_shard::event::Event;
 use gm_shard::replay::replay;
 use gm_shard::shard::Shard;
+use gm_table::packed::Packed;
 use gm_table::tables::Tables;
-use gm_testing::by_hand::{add_fresh, at_ties, begin_whole, records_of};
+use gm_testing::by_hand::{add_fresh, at_ties, begin_whole, last_of};
 use gm_toys::countdown::Countdown;
-use std::alloc::{AllocError, Global};
+use std::alloc::Global;
 use std::process::Abort;
-use std::test::Fail;
+
+type Ten = Countdown<10>;
 
 /// The note of index 0, which is lost.
 pub(crate) fn first_note<G: Game>(rt: &impl Abort, shard: &Shard<G>) -> Note<G> {
@@ -33,25 +37,33 @@ fn close<G: Game>(
     shard: &mut Shard<G>,
     expected: &Expected<G>,
 ) -> Result<(), Short> {
-    assert!(rt; shard.is_for(expected));
-    assert!(rt; shard.level() <= REMOTENESS);
+    assert!(rt; shard.is_for(expected) && shard.level() <= REMOTENESS);
     shard.close(expected)
 }
 
-// What is known of an index in the range, and its counter.
-fn known<G: Game>(rt: &impl Abort, shard: &Shard<G>, index: u64) -> (Status, u32) {
+/// What is known of an index in the range, and its counter.
+pub(crate) fn known<G: Game>(rt: &impl Abort, shard: &Shard<G>, index: u64) -> (Status, u32) {
     let (lo, hi) = shard.range();
-    assert!(rt; lo <= index);
-    assert!(rt; index < hi);
+    assert!(rt; lo <= index && index < hi);
     (shard.status(index), shard.counter(index))
 }
 
 // The value of the note of an index in the range.
 fn noted<G: Game>(rt: &impl Abort, shard: &Shard<G>, index: u64) -> Option<Solved> {
     let (lo, hi) = shard.range();
-    assert!(rt; lo <= index);
-    assert!(rt; index < hi);
+    assert!(rt; lo <= index && index < hi);
     Some(shard.note(index)?.solved())
+}
+
+// Delivers a note to a parent, which is answered so.
+fn delivers<G: Game>(
+    rt: &impl Abort,
+    shard: &mut Shard<G>,
+    note: &Note<G>,
+    parent: u64,
+    answer: Result<Delivery, Refused>,
+) {
+    expect_eq(rt, shard.deliver(note, parent), answer);
 }
 
 // The first level of Countdown: the note of 0, which has two parents.
@@ -63,31 +75,31 @@ fn first_level<G: Game>(
 ) {
     assert_eq!(rt; notes.len(), 1);
     let zero = &notes[0];
-    expect_eq(rt, shard.deliver(zero, 1), Ok(Delivery::FreshSettled));
-    expect_eq(rt, shard.deliver(zero, 1), Ok(Delivery::Repeat));
-    expect_eq(rt, shard.deliver(zero, 5), Err(Refused::NotAParent));
-    expect_eq(rt, shard.deliver(zero, 11), Err(Refused::NotMine));
+    delivers(rt, shard, zero, 1, Ok(Delivery::FreshSettled));
+    delivers(rt, shard, zero, 1, Ok(Delivery::Repeat));
+    delivers(rt, shard, zero, 5, Err(Refused::NotAParent));
+    delivers(rt, shard, zero, 11, Err(Refused::NotMine));
     let short = Short {
         delivered: 1,
         expected: 2,
     };
     expect_eq(rt, close(rt, shard, expected), Err(short));
-    expect_eq(rt, shard.deliver(zero, 2), Ok(Delivery::FreshSettled));
+    delivers(rt, shard, zero, 2, Ok(Delivery::FreshSettled));
     expect_eq(rt, close(rt, shard, expected), Ok(()));
-    expect_eq(rt, shard.deliver(zero, 1), Err(Refused::NotThisLevel));
+    delivers(rt, shard, zero, 1, Err(Refused::NotThisLevel));
 }
 
 // The note of 1 at the second level: 2 and 3 have it among their children.
 fn one_at_second_level<G: Game>(rt: &impl Abort, shard: &mut Shard<G>, note: &Note<G>) {
-    expect_eq(rt, shard.deliver(note, 2), Ok(Delivery::Fresh));
+    delivers(rt, shard, note, 2, Ok(Delivery::Fresh));
     expect_eq(rt, known(rt, shard, 2).1, 0);
-    expect_eq(rt, shard.deliver(note, 3), Ok(Delivery::Fresh));
+    delivers(rt, shard, note, 3, Ok(Delivery::Fresh));
     expect_eq(rt, known(rt, shard, 3), (Status::Undecided, 1));
 }
 
 // The note of 2: 3 has no other child left.
 fn two_at_second_level<G: Game>(rt: &impl Abort, shard: &mut Shard<G>, note: &Note<G>) {
-    expect_eq(rt, shard.deliver(note, 3), Ok(Delivery::FreshSettled));
+    delivers(rt, shard, note, 3, Ok(Delivery::FreshSettled));
     expect_eq(rt, noted(rt, shard, 3), lose(2));
     expect_eq(rt, shard.delivered(), 5);
 }
@@ -104,116 +116,81 @@ fn second_level<G: Game>(rt: &impl Abort, shard: &mut Shard<G>, notes: &[Note<G>
 }
 
 // The count of the first level of a shard over all of Countdown.
-fn first_expected(
-    alloc: Global,
-    shard: &Shard<Countdown<10>>,
-) -> Result<Expected<Countdown<10>>, AllocError>
+fn first_expected(rt: &impl Abort, alloc: Global, shard: &Shard<Ten>) -> Expected<Ten>
     requires { shard.now ≡ first_state 0 0 11 }
 {
     let mut expected = Expected::start(0, 0, 11);
-    let tables: Tables<Countdown<10>> = Tables::new(alloc);
-    let added = add_fresh(alloc, shard, &tables, &mut expected);
+    let tables: Tables<Ten> = Tables::new(alloc);
+    must(rt, add_fresh(alloc, shard, &tables, &mut expected));
     drop(tables);
-    added?;
-    Ok(expected)
-}
-
-// The first two levels of a shard over all of Countdown.
-fn two_levels(
-    rt: &impl Abort,
-    alloc: Global,
-    shard: &mut Shard<Countdown<10>>,
-) -> Result<(), AllocError>
-    requires { shard.old ≡ first_state 0 0 11 }
-{
-    let expected = first_expected(alloc, shard)?;
-    let fresh = shard.fresh(alloc)?;
-    first_level(rt, shard, fresh.list(), &expected);
-    drop((fresh, expected));
-    let fresh = shard.fresh(alloc)?;
-    second_level(rt, shard, fresh.list());
-    drop(fresh);
-    Ok(())
+    expected
 }
 
 #[test]
-fn one_shard_by_hand(rt: HostRuntime) -> Result<(), Fail> {
-    let mut shard = begin_whole::<Countdown<10>>(rt.alloc(), 0)?;
-    let done = two_levels(&rt, rt.alloc(), &mut shard);
-    drop(shard);
-    Ok(done?)
+fn one_shard_by_hand(rt: HostRuntime) {
+    let alloc = rt.alloc();
+    let mut shard = must(&rt, begin_whole::<Ten>(alloc, 0));
+    let expected = first_expected(&rt, alloc, &shard);
+    let first = must(&rt, shard.fresh(alloc));
+    first_level(&rt, &mut shard, first.list(), &expected);
+    let second = must(&rt, shard.fresh(alloc));
+    second_level(&rt, &mut shard, second.list());
+    drop((shard, expected, first, second));
 }
 
-// The records of a tier whose only level is the first one, or none where it has another.
-fn to_its_end<G: Game>(
-    alloc: Global,
-    tables: &Tables<G>,
-    tier: u64,
-) -> Result<Vec<Option<Solved>>, AllocError>
-    requires children { AreHeld G.rules tables.now tier }
-    requires small { G.rules.tier_size tier ≤ TIER_SIZE }
+// The records of a shard of one position, which is lost, at the end of ties.
+fn check_end<G: Game>(rt: &impl Abort, alloc: Global, shard: &Shard<G>, tables: &Tables<G>)
+    requires ties { shard.now.phase ≡ Ties }
+    requires whole { IsOfTier G.rules shard.now }
+    requires children { AreHeld G.rules tables.now shard.now.tier }
+    requires small { G.rules.tier_size shard.now.tier ≤ TIER_SIZE }
 {
-    let Some(shard) = at_ties(alloc, tier, tables)? else {
-        return Ok(Vec::new(alloc));
-    };
-    let records = records_of(alloc, &shard, tables);
-    drop(shard);
-    records
+    let end = must(rt, last_of(alloc, shard, tables));
+    let last = end.expect(rt, "the end");
+    let mut records = must(rt, Packed::with_capacity(alloc, 0));
+    must(rt, shard.finish(&last, &mut records));
+    expect_eq(rt, records.len(), 1);
+    expect_eq(rt, records.get(0), lose(0));
+    drop(records);
 }
 
 #[test]
-fn one_position_to_its_end(rt: HostRuntime) -> Result<(), Fail> {
-    let tables: Tables<Countdown<0>> = Tables::new(rt.alloc());
-    let records = to_its_end(rt.alloc(), &tables, 0);
-    drop(tables);
-    expect_eq(&rt, records?.as_slice(), [lose(0)].as_slice());
-    Ok(())
+fn one_position_to_its_end(rt: HostRuntime) {
+    let alloc = rt.alloc();
+    let tables: Tables<Countdown<0>> = Tables::new(alloc);
+    let shard = must(&rt, at_ties(alloc, 0, &tables)).expect(&rt, "ties");
+    check_end(&rt, alloc, &shard, &tables);
+    drop((shard, tables));
 }
 
-// Deliveries of a note: to a parent twice, to an index that is no parent, to a shard that isn't there, and to another parent.
-fn deliveries(
-    alloc: Global,
-    note: Note<Countdown<10>>,
-) -> Result<Vec<Event<Countdown<10>>>, AllocError> {
-    let mut events = Vec::new(alloc);
-    for (shard, parent) in [(0, 2), (0, 2), (0, 5), (1, 1), (0, 1)] {
-        events.push(Event::Deliver {
-            shard,
-            note,
-            parent,
-        })?;
+// The delivery of a note to a parent in a shard.
+fn delivery(note: Note<Ten>, shard: usize, parent: u64) -> Event<Ten> {
+    Event::Deliver {
+        shard,
+        note,
+        parent,
     }
-    Ok(events)
 }
 
-// The deliveries of the only note of the first level, and the close of that level.
-fn first_events(
-    alloc: Global,
-    note: Note<Countdown<10>>,
-    expected: Expected<Countdown<10>>,
-) -> Result<Vec<Event<Countdown<10>>>, AllocError> {
-    let mut events = deliveries(alloc, note)?;
-    events.push(Event::Close { shard: 0, expected })?;
-    Ok(events)
-}
-
+// Deliveries of the only note of the first level: to a parent twice, to an index that is no parent, to a shard that isn't there, and to another parent. Then
+// the close of that level.
 #[test]
-fn replay_of_a_level(rt: HostRuntime) -> Result<(), Fail> {
-    let shard = begin_whole::<Countdown<10>>(rt.alloc(), 0)?;
+fn replay_of_a_level(rt: HostRuntime) {
+    let shard = must(&rt, begin_whole::<Ten>(rt.alloc(), 0));
     let note = first_note(&rt, &shard);
-    let expected = first_expected(rt.alloc(), &shard);
+    let expected = first_expected(&rt, rt.alloc(), &shard);
+    let events = [
+        delivery(note, 0, 2),
+        delivery(note, 0, 2),
+        delivery(note, 0, 5),
+        delivery(note, 1, 1),
+        delivery(note, 0, 1),
+        Event::Close { shard: 0, expected },
+    ];
     let mut shards = [shard];
-    let events = match expected {
-        Ok(expected) => first_events(rt.alloc(), note, expected),
-        Err(error) => Err(error),
-    };
-    if let Ok(events) = &events {
-        expect_eq(&rt, replay(&mut shards, events.as_slice()), 3);
-        expect_eq(&rt, shards[0].level(), 1);
-    }
-    drop(shards);
-    let _events = events?;
-    Ok(())
+    expect_eq(&rt, replay(&mut shards, &events), 3);
+    expect_eq(&rt, shards[0].level(), 1);
+    drop((events, shards));
 }
 
 #[test]

@@ -1,5 +1,5 @@
 //! Tiers solved by one shard.
-use crate::expect::expect_eq;
+use crate::expect::{expect_eq, must};
 use crate::records::{lose, of_countdown, of_wheel, win};
 use gm_game::game::Game;
 use gm_game::limits::TIER_SIZE;
@@ -15,7 +15,6 @@ use gm_toys::stairs::Stairs;
 use gm_toys::wheel::Wheel;
 use std::alloc::Global;
 use std::process::Abort;
-use std::test::Fail;
 
 // A table with these records and no more.
 fn check_table<G: Game>(rt: &impl Abort, table: &Table<G>, records: &[Option<Solved>]) {
@@ -26,88 +25,56 @@ fn check_table<G: Game>(rt: &impl Abort, table: &Table<G>, records: &[Option<Sol
 }
 
 // A game of one tier that is solved by one thread: its records and the number of deliveries.
-fn solves<G: Game>(
-    rt: &impl Abort,
-    alloc: Global,
-    records: &[Option<Solved>],
-    wanted: u64,
-) -> Result<(), Fail> {
+fn solves<G: Game>(rt: &impl Abort, alloc: Global, records: &[Option<Solved>], wanted: u64) {
     let tables: Tables<G> = Tables::new(alloc);
     assert!(rt; tables.has_children(0) && G::tier_size(0) <= TIER_SIZE);
-    let solved = solve_alone(alloc, 0, &tables);
-    drop(tables);
-    let (table, deliveries) = solved?;
+    let (table, deliveries) = must(rt, solve_alone(alloc, 0, &tables));
     check_table(rt, &table, records);
-    drop(table);
     expect_eq(rt, deliveries, wanted);
-    Ok(())
+    drop((tables, table));
 }
 
 #[test]
-fn countdown_table(rt: HostRuntime) -> Result<(), Fail> {
-    let records = of_countdown(rt.alloc())?;
-    let solved = solves::<Countdown<10>>(&rt, rt.alloc(), records.as_slice(), 19);
-    drop(records);
-    solved
+fn countdown_table(rt: HostRuntime) {
+    solves::<Countdown<10>>(&rt, rt.alloc(), &of_countdown(), 19);
 }
 
 #[test]
-fn countdown_of_nothing(rt: HostRuntime) -> Result<(), Fail> {
-    solves::<Countdown<0>>(&rt, rt.alloc(), &[lose(0)], 0)
+fn countdown_of_nothing(rt: HostRuntime) {
+    solves::<Countdown<0>>(&rt, rt.alloc(), &[lose(0)], 0);
 }
 
 #[test]
-fn wheel_table(rt: HostRuntime) -> Result<(), Fail> {
-    let records = of_wheel(rt.alloc())?;
-    let solved = solves::<Wheel>(&rt, rt.alloc(), records.as_slice(), 9);
-    drop(records);
-    solved
+fn wheel_table(rt: HostRuntime) {
+    solves::<Wheel>(&rt, rt.alloc(), &of_wheel(), 9);
 }
 
 #[test]
-fn chain_at_the_limit(rt: HostRuntime) -> Result<(), Fail> {
+fn chain_at_the_limit(rt: HostRuntime) {
     let far: Tables<Chain<1048576>> = Tables::new(rt.alloc());
     let refused = solve_alone(rt.alloc(), 0, &far).err();
-    drop(far);
     expect_eq(&rt, refused, Some(SolveError::TooFar { tier: 0 }));
     let tables: Tables<Chain<1048575>> = Tables::new(rt.alloc());
-    let solved = solve_alone(rt.alloc(), 0, &tables);
-    drop(tables);
-    let (table, deliveries) = solved?;
+    let (table, deliveries) = must(&rt, solve_alone(rt.alloc(), 0, &tables));
     expect_eq(&rt, table.at(1_048_575), win(1_048_575));
-    drop(table);
     expect_eq(&rt, deliveries, 1_048_575);
-    Ok(())
+    drop((far, tables, table));
 }
 
 // The next step of the stairs, solved with this many pairs.
-fn step<G: Game>(
-    rt: &impl Abort,
-    alloc: Global,
-    tables: &mut Tables<G>,
-    tier: u64,
-    pairs: u64,
-) -> Result<(), Fail> {
+fn step<G: Game>(rt: &impl Abort, alloc: Global, tables: &mut Tables<G>, tier: u64, pairs: u64) {
     assert!(rt; tables.has_children(tier) && G::tier_size(tier) <= TIER_SIZE);
-    expect_eq(rt, hold_solved(alloc, tables, tier)?, pairs);
-    Ok(())
-}
-
-// One pair for each step, three in all.
-fn steps<G: Game>(rt: &impl Abort, alloc: Global, tables: &mut Tables<G>) -> Result<(), Fail> {
-    step(rt, alloc, tables, 0, 0)?;
-    step(rt, alloc, tables, 1, 1)?;
-    step(rt, alloc, tables, 2, 1)?;
-    step(rt, alloc, tables, 3, 1)
+    expect_eq(rt, must(rt, hold_solved(alloc, tables, tier)), pairs);
 }
 
 #[test]
-fn stairs_over_empty_levels(rt: HostRuntime) -> Result<(), Fail> {
+fn stairs_over_empty_levels(rt: HostRuntime) {
     let mut tables: Tables<Stairs<3>> = Tables::new(rt.alloc());
-    let solved = steps(&rt, rt.alloc(), &mut tables);
-    let top = tables.get(Position { tier: 3, index: 0 });
+    // One pair for each step, three in all.
+    step(&rt, rt.alloc(), &mut tables, 0, 0);
+    step(&rt, rt.alloc(), &mut tables, 1, 1);
+    step(&rt, rt.alloc(), &mut tables, 2, 1);
+    step(&rt, rt.alloc(), &mut tables, 3, 1);
+    expect_eq(&rt, tables.get(Position { tier: 3, index: 0 }), win(3));
     drop(tables);
-    solved?;
-    expect_eq(&rt, top, win(3));
-    Ok(())
 }

@@ -1,6 +1,6 @@
 use Rattle.std.proofs.Common.{◌≡◌, ◌≤◌, length, drop}
 use Rattle.gm_desk.specs.Rounds.{pairs_into}
-use Rattle.gm_testing.proofs.pass_desks.deliver_all.Given as goal
+use Rattle.gm_testing.proofs.pass_desks.answers.Given as goal
 
 abbrev pub invariant-loop-note : goal.invariant-loop-note
 invariant-loop-note g l = record {

@@ -6,7 +6,7 @@ use Rattle.gm_frontier.specs.Notes.{NoteData}
 use Rattle.gm_desk.specs.Rounds.{pairs_into}
 use Rattle.gm_solver.proofs.RoundLemmas.{into_fit, pairs_are_into, item_next}
 use Rattle.gm_desk.proofs.RoundLemmas.{level_into}
-use Rattle.gm_testing.proofs.pass_desks.deliver_all.Goals as goal
+use Rattle.gm_testing.proofs.pass_desks.answers.Goals as goal
 
 pub loop-note-init : goal.loop-note-init
 loop-note-init g c =
