@@ -1,5 +1,5 @@
 //! What tests expect. A call is far cheaper to prove than `assert!` or `assert_eq!` written out.
-ghost use Rattle.std.specs.Prelude.{◌≡◌, Ok};
+ghost use Rattle.std.specs.Prelude.{◌≡◌, Ok, IsTrue};
 
 use std::fmt::Debug;
 use std::process::Abort;
@@ -20,7 +20,9 @@ pub(crate) fn expect_eq_at<T: Debug + PartialEq + Drop>(
 }
 
 /// Fails where what a test says is not so.
-pub(crate) fn expect(rt: &impl Abort, is_so: bool) {
+pub(crate) fn expect(rt: &impl Abort, is_so: bool)
+    ensures { IsTrue is_so }
+{
     assert!(rt; is_so);
 }
 

@@ -1,5 +1,5 @@
 //! Orders of tiers.
-use crate::expect::{expect, expect_eq};
+use crate::expect::{expect_eq, must};
 use gm_game::game::Game;
 use gm_hare::hare::Hare;
 use gm_tactix::tactix::TacTix;
@@ -10,87 +10,76 @@ use gm_toys::countdown::Countdown;
 use gm_toys::stairs::Stairs;
 use gm_toys::wheel::Wheel;
 use std::alloc::Global;
-use std::test::Fail;
+use std::process::Abort;
 
-// Whether a game's tiers come in this order.
-fn is_order<G: Game>(alloc: Global, tiers: &[u64]) -> Result<bool, TierError> {
-    let order = TierOrder::<G>::from_initial(alloc)?;
-    let same = order.tiers() == tiers;
-    drop(order);
-    Ok(same)
+// A game's tiers come in this order.
+fn check_order<G: Game>(rt: &impl Abort, alloc: Global, tiers: &[u64]) {
+    let order = must(rt, TierOrder::<G>::from_initial(alloc));
+    expect_eq(rt, order.tiers(), tiers);
 }
 
-// Whether the tiers that one tier reaches come in this order.
-fn is_order_from<G: Game>(alloc: Global, first: u64, tiers: &[u64]) -> Result<bool, TierError> {
-    let order = TierOrder::<G>::from_tier(alloc, first)?;
-    let same = order.tiers() == tiers;
-    drop(order);
-    Ok(same)
+// The tiers that one tier reaches come in this order.
+fn check_order_from<G: Game>(rt: &impl Abort, alloc: Global, first: u64, tiers: &[u64]) {
+    let order = must(rt, TierOrder::<G>::from_tier(alloc, first));
+    expect_eq(rt, order.tiers(), tiers);
 }
 
-// Whether these are the numbers from 0 on, and this many.
-fn count_up(tiers: &[u64], number: usize) -> bool {
-    for (index, tier) in tiers.iter().enumerate() {
-        if *tier != index as u64 {
-            return false;
-        }
+// An order has this many tiers, the numbers from 0 on.
+fn check_counted_up<G: Game>(
+    rt: &impl Abort,
+    order: Result<TierOrder<G>, TierError>,
+    number: usize,
+) {
+    let order = must(rt, order);
+    let mut next = 0;
+    for tier in order.tiers() {
+        expect_eq(rt, *tier, next);
+        next = tier.saturating_add(1);
     }
-    tiers.len() == number
+    expect_eq(rt, order.tiers().len(), number);
 }
 
-// Whether this many tiers, with the numbers from 0 on, are those that one tier reaches.
-fn are_counted_up<G: Game>(alloc: Global, first: u64, number: usize) -> Result<bool, TierError> {
-    let order = TierOrder::<G>::from_tier(alloc, first)?;
-    let counted = count_up(order.tiers(), number);
-    drop(order);
-    Ok(counted)
+// Why a game has no order.
+fn refusal<G: Game>(alloc: Global) -> Option<TierError> {
+    TierOrder::<G>::from_initial(alloc).err()
 }
 
 #[test]
-fn one_tier_is_its_own_order(rt: HostRuntime) -> Result<(), Fail> {
-    expect(&rt, is_order::<Countdown<10>>(rt.alloc(), &[0])?);
-    expect(&rt, is_order::<Chain<4095>>(rt.alloc(), &[0])?);
-    expect(&rt, is_order::<Wheel>(rt.alloc(), &[0])?);
-    Ok(())
+fn one_tier_is_its_own_order(rt: HostRuntime) {
+    check_order::<Countdown<10>>(&rt, rt.alloc(), &[0]);
+    check_order::<Chain<4095>>(&rt, rt.alloc(), &[0]);
+    check_order::<Wheel>(&rt, rt.alloc(), &[0]);
 }
 
 #[test]
-fn stairs_come_from_below(rt: HostRuntime) -> Result<(), Fail> {
-    expect(&rt, is_order::<Stairs<3>>(rt.alloc(), &[0, 1, 2, 3])?);
-    let many = TierOrder::<Stairs<1023>>::from_initial(rt.alloc())?;
-    expect(&rt, count_up(many.tiers(), 1024));
-    Ok(())
+fn stairs_come_from_below(rt: HostRuntime) {
+    check_order::<Stairs<3>>(&rt, rt.alloc(), &[0, 1, 2, 3]);
+    let many = TierOrder::<Stairs<1023>>::from_initial(rt.alloc());
+    check_counted_up(&rt, many, 1024);
 }
 
 #[test]
-fn games_on_boards_come_from_their_ends(rt: HostRuntime) -> Result<(), Fail> {
-    let tactix = [0, 1, 2, 3, 4];
-    expect(&rt, is_order::<TacTix<2, false>>(rt.alloc(), &tactix)?);
-    let hare = [10, 9, 8, 7, 6, 5, 4, 3, 2];
-    expect(&rt, is_order::<Hare>(rt.alloc(), &hare)?);
-    Ok(())
+fn games_on_boards_come_from_their_ends(rt: HostRuntime) {
+    check_order::<TacTix<2, false>>(&rt, rt.alloc(), &[0, 1, 2, 3, 4]);
+    check_order::<Hare>(&rt, rt.alloc(), &[10, 9, 8, 7, 6, 5, 4, 3, 2]);
 }
 
 #[test]
-fn tiers_below_a_tier(rt: HostRuntime) -> Result<(), Fail> {
-    let tactix = [0, 1, 2];
-    expect(
-        &rt,
-        is_order_from::<TacTix<2, false>>(rt.alloc(), 2, &tactix)?,
-    );
-    expect(&rt, is_order_from::<Hare>(rt.alloc(), 8, &[10, 9, 8])?);
+fn tiers_below_a_tier(rt: HostRuntime) {
+    check_order_from::<TacTix<2, false>>(&rt, rt.alloc(), 2, &[0, 1, 2]);
+    check_order_from::<Hare>(&rt, rt.alloc(), 8, &[10, 9, 8]);
     // All but the first of a game with one tier too many.
-    expect(&rt, are_counted_up::<Stairs<1024>>(rt.alloc(), 1023, 1024)?);
-    Ok(())
+    let many = TierOrder::<Stairs<1024>>::from_tier(rt.alloc(), 1023);
+    check_counted_up(&rt, many, 1024);
 }
 
 #[test]
 fn games_past_the_limits_have_no_order(rt: HostRuntime) {
-    let many = TierOrder::<Stairs<1024>>::from_initial(rt.alloc()).err();
+    let many = refusal::<Stairs<1024>>(rt.alloc());
     expect_eq(&rt, many, Some(TierError::TooManyTiers));
-    let large = TierOrder::<Countdown<16777216>>::from_initial(rt.alloc()).err();
+    let large = refusal::<Countdown<16777216>>(rt.alloc());
     expect_eq(&rt, large, Some(TierError::TierTooLarge { tier: 0 }));
-    let largest = TierOrder::<Countdown<16777215>>::from_initial(rt.alloc()).err();
+    let largest = refusal::<Countdown<16777215>>(rt.alloc());
     expect_eq(&rt, largest, None);
 }
 
