@@ -16,7 +16,7 @@ pub(crate) fn expect_eq_at<T: Debug + PartialEq + Drop>(
     wanted: T,
     at: usize,
 ) {
-    assert_eq!(rt; found, wanted, "at {at}");
+    expect_eq(rt, (at, found), (at, wanted));
 }
 
 /// Fails where what a test says is not so.
