@@ -1,4 +1,4 @@
-//! The worked values of the games that are solved tier by tier.
+//! The worked values of orders of tiers, and of the games that are solved tier by tier.
 #![tactic(auto)]
 
 #[cfg(test)]
@@ -7,6 +7,8 @@ mod dao;
 mod expect;
 #[cfg(test)]
 mod nine_points;
+#[cfg(test)]
+mod orders;
 #[cfg(test)]
 mod plans;
 #[cfg(test)]

@@ -1,11 +1,10 @@
 //! Games of nine points, solved from their last tier to their first.
-use crate::expect::{expect, expect_eq};
-use crate::solving::{solve_tiers, solved_agree};
+use crate::expect::expect_eq;
+use crate::solving::{check_agree, solve_tiers};
 use gm_game::game::Game;
 use gm_game::position::{Position, Solved, Value};
 use gm_morris::games::{Achi, ThreeMens, TicTacToe};
 use gm_table::tables::Tables;
-use std::test::Fail;
 
 // Positions of a tier: those with a value, those with a record, and of these the lost and the tied ones of remoteness 0.
 #[derive(Clone, Copy, Debug, PartialEq, Eq)]
@@ -69,10 +68,11 @@ fn of_tiers<G: Game>(tables: &Tables<G>, tiers: &[u64]) -> Counts {
     counts
 }
 
+const TIERS: &[u64] = &[9, 8, 7, 6, 5, 4, 3, 2, 1, 0];
+
 #[test]
-fn tictactoe_table(rt: HostRuntime) -> Result<(), Fail> {
-    let tiers = [9, 8, 7, 6, 5, 4, 3, 2, 1, 0];
-    let tables = solve_tiers::<TicTacToe>(rt.alloc(), &tiers)?;
+fn tictactoe_table(rt: HostRuntime) {
+    let tables = solve_tiers::<TicTacToe>(&rt, rt.alloc(), TIERS);
     let start = Some(Solved {
         value: Value::Tie,
         remoteness: 9,
@@ -84,20 +84,17 @@ fn tictactoe_table(rt: HostRuntime) -> Result<(), Fail> {
         lost: 135,
         tied: 3,
     };
-    expect_eq(&rt, of_tiers(&tables, &tiers), expected);
-    Ok(())
+    expect_eq(&rt, of_tiers(&tables, TIERS), expected);
 }
 
 #[test]
-fn threemens_agrees_with_looking_ahead(rt: HostRuntime) -> Result<(), Fail> {
+fn threemens_agrees_with_looking_ahead(rt: HostRuntime) {
     let tiers = [6, 5, 4, 3, 2, 1, 0];
-    expect(&rt, solved_agree::<ThreeMens>(rt.alloc(), &tiers, &tiers)?);
-    Ok(())
+    check_agree::<ThreeMens>(&rt, rt.alloc(), &tiers, &tiers);
 }
 
 #[test]
-fn achi_agrees_with_looking_ahead(rt: HostRuntime) -> Result<(), Fail> {
+fn achi_agrees_with_looking_ahead(rt: HostRuntime) {
     let tiers = [8, 7, 6, 5, 4, 3, 2, 1, 0];
-    expect(&rt, solved_agree::<Achi>(rt.alloc(), &tiers, &tiers)?);
-    Ok(())
+    check_agree::<Achi>(&rt, rt.alloc(), &tiers, &tiers);
 }

@@ -1,46 +1,31 @@
 //! Games that are solved tier by tier, and compared with looking ahead.
+use crate::expect::{expect, must};
 use gm_game::evaluate::within;
 use gm_game::game::Game;
 use gm_game::limits::TIER_SIZE;
 use gm_game::position::{Position, Solved, Value};
-use gm_solver::error::SolveError;
 use gm_table::tables::Tables;
 use gm_testing::holding::hold_solved;
 use std::alloc::Global;
-use std::test::Fail;
+use std::process::Abort;
 
 /// How many moves are looked ahead.
 const AHEAD: u32 = 4;
 
-// Solves these tiers in this order into the tables: whether the child tiers of each were held by then.
-fn solve_into<G: Game>(
-    alloc: Global,
-    tiers: &[u64],
-    tables: &mut Tables<G>,
-) -> Result<bool, SolveError> {
+// Solves these tiers in this order into the tables. The child tiers of each have to be held by then.
+fn solve_into<G: Game>(rt: &impl Abort, alloc: Global, tiers: &[u64], tables: &mut Tables<G>) {
     for tier in tiers {
-        if !tables.has_children(*tier) || G::tier_size(*tier) > TIER_SIZE {
-            return Ok(false);
-        }
-        let _deliveries = hold_solved(alloc, tables, *tier)?;
+        expect(rt, tables.has_children(*tier));
+        expect(rt, G::tier_size(*tier) <= TIER_SIZE);
+        let _deliveries = must(rt, hold_solved(alloc, tables, *tier));
     }
-    Ok(true)
 }
 
-/// The tables of these tiers, solved in this order; a refusal where the child tiers of one are not held by then.
-pub fn solve_tiers<G: Game>(alloc: Global, tiers: &[u64]) -> Result<Tables<G>, Fail> {
+/// The tables of these tiers, solved in this order.
+pub fn solve_tiers<G: Game>(rt: &impl Abort, alloc: Global, tiers: &[u64]) -> Tables<G> {
     let mut tables: Tables<G> = Tables::new(alloc);
-    match solve_into(alloc, tiers, &mut tables) {
-        Ok(true) => Ok(tables),
-        Ok(false) => {
-            drop(tables);
-            Err("a child tier is missing".into())
-        }
-        Err(error) => {
-            drop(tables);
-            Err(error.into())
-        }
-    }
+    solve_into(rt, alloc, tiers, &mut tables);
+    tables
 }
 
 // Whether a solved value is what looking this many moves ahead finds; where that finds nothing, the position must be no win or loss within this many moves.
@@ -91,12 +76,10 @@ fn all_agree<G: Game>(tables: &Tables<G>, tiers: &[u64]) -> bool {
     true
 }
 
-/// Whether the first tiers, solved in this order, let those that are asked about agree with looking ahead.
-pub fn solved_agree<G: Game>(alloc: Global, first: &[u64], asked: &[u64]) -> Result<bool, Fail> {
-    let tables = solve_tiers::<G>(alloc, first)?;
-    let agree = all_agree(&tables, asked);
-    drop(tables);
-    Ok(agree)
+/// The first tiers, solved in this order, let those that are asked about agree with looking ahead.
+pub fn check_agree<G: Game>(rt: &impl Abort, alloc: Global, first: &[u64], asked: &[u64]) {
+    let tables = solve_tiers::<G>(rt, alloc, first);
+    expect(rt, all_agree(&tables, asked));
 }
 
 /// The distance between the indexes at which a large tier is sampled.

@@ -1,5 +1,5 @@
 //! What tests expect. A call is far cheaper to prove than `assert!` or `assert_eq!` written out.
-ghost use Rattle.std.specs.Prelude.{◌≡◌, Ok};
+ghost use Rattle.std.specs.Prelude.{◌≡◌, Ok, IsTrue};
 
 use std::fmt::Debug;
 use std::process::Abort;
@@ -16,11 +16,13 @@ pub(crate) fn expect_eq_at<T: Debug + PartialEq + Drop>(
     wanted: T,
     at: usize,
 ) {
-    assert_eq!(rt; found, wanted, "at {at}");
+    expect_eq(rt, (at, found), (at, wanted));
 }
 
 /// Fails where what a test says is not so.
-pub(crate) fn expect(rt: &impl Abort, is_so: bool) {
+pub(crate) fn expect(rt: &impl Abort, is_so: bool)
+    ensures { IsTrue is_so }
+{
     assert!(rt; is_so);
 }
 

@@ -1,4 +1,4 @@
-//! The worked values of tier orders and tier files, and of sessions of play, on the toys.
+//! The worked values of tier files and stores, and of sessions of play, on the toys.
 #![tactic(auto)]
 
 #[cfg(test)]
@@ -11,8 +11,6 @@ mod folders;
 mod old_files;
 #[cfg(test)]
 mod one_tier;
-#[cfg(test)]
-mod orders;
 #[cfg(test)]
 mod questions;
 #[cfg(test)]

@@ -1,5 +1,5 @@
 //! Answers, moves and lines of play of Countdown from 4.
-use crate::expect::{expect, expect_eq};
+use crate::expect::{expect, expect_eq, must};
 use crate::sessions::tables;
 use gm_best::answer::AnswerError;
 use gm_best::play_error::PlayError;
@@ -11,7 +11,6 @@ use gm_table::tables::Tables;
 use gm_toys::countdown::Countdown;
 use std::alloc::Global;
 use std::process::Abort;
-use std::test::Fail;
 
 const START: Position = Position { tier: 0, index: 4 };
 
@@ -25,27 +24,27 @@ fn check_moves(rt: &impl Abort, moves: &[MoveValue]) {
         value: Value::Lose,
         remoteness: 2,
     };
-    assert_eq!(rt; moves.len(), 2);
-    let (best, worst) = (moves[0], moves[1]);
-    expect(
-        rt,
-        best.number == 1 && best.position.index == 3 && best.result == lost,
-    );
-    expect(
-        rt,
-        best.worth == won && worst.number == 2 && worst.worth == lost,
-    );
+    let right = match moves {
+        [best, worst] => {
+            best.number == 1
+                && best.position.index == 3
+                && best.result == lost
+                && best.worth == won
+                && worst.number == 2
+                && worst.worth == lost
+        }
+        _ => false,
+    };
+    expect(rt, right);
 }
 
 #[test]
-fn moves_of_countdown(rt: HostRuntime) -> Result<(), Fail> {
-    let tables = tables(rt.alloc())?;
-    let moves = move_values(&tables, START);
-    let none = move_values(&tables, Position { tier: 0, index: 0 });
-    drop(tables);
-    check_moves(&rt, moves?.as_slice());
-    expect(&rt, none?.is_empty());
-    Ok(())
+fn moves_of_countdown(rt: HostRuntime) {
+    let tables = tables(&rt, rt.alloc());
+    let moves = must(&rt, move_values(&tables, START));
+    check_moves(&rt, moves.as_slice());
+    let none = must(&rt, move_values(&tables, Position { tier: 0, index: 0 }));
+    expect(&rt, none.is_empty());
 }
 
 // The line of at most so many moves from the start.
@@ -56,53 +55,34 @@ fn check_line(
     limit: usize,
     moves: &[u32],
     end: LineEnd,
-) -> Result<(), PlayError> {
-    let line = best_line(alloc, tables, START, limit)?;
+) {
+    let line = must(rt, best_line(alloc, tables, START, limit));
     expect(rt, line.moves.as_slice() == moves && line.end == end);
     expect_eq(rt, line.positions.len(), moves.len().saturating_add(1));
-    drop(line);
-    Ok(())
 }
 
 #[test]
-fn lines_of_countdown(rt: HostRuntime) -> Result<(), Fail> {
+fn lines_of_countdown(rt: HostRuntime) {
     let alloc = rt.alloc();
-    let tables = tables(alloc)?;
-    let whole = check_line(&rt, alloc, &tables, usize::MAX, &[1, 1, 2], LineEnd::Over);
-    let cut = check_line(&rt, alloc, &tables, 2, &[1, 1], LineEnd::Cut);
-    drop(tables);
-    whole?;
-    cut?;
-    Ok(())
+    let tables = tables(&rt, alloc);
+    check_line(&rt, alloc, &tables, usize::MAX, &[1, 1, 2], LineEnd::Over);
+    check_line(&rt, alloc, &tables, 2, &[1, 1], LineEnd::Cut);
 }
 
-// The texts of the start's moves, and of the line from it.
-fn check_texts(
-    rt: &impl Abort,
-    alloc: Global,
-    tables: &Tables<Countdown<4>>,
-) -> Result<(), PlayError> {
-    let moves = moves_text(alloc, tables, b"4", false)?;
-    expect(
-        rt,
-        moves.as_slice() == b"1\twin in 3\t3\n2\tlose in 2\t2\n".as_slice(),
-    );
-    drop(moves);
-    let line = line_text(alloc, tables, b"4", usize::MAX)?;
-    let lines = b"\t4\twin in 3\n1\t3\tlose in 2\n1\t2\twin in 1\n2\t0\tlose in 0\n";
-    expect(rt, line.as_slice() == lines.as_slice());
-    Ok(())
-}
+const MOVES: &[u8] = b"1\twin in 3\t3\n2\tlose in 2\t2\n";
+
+const LINE: &[u8] = b"\t4\twin in 3\n1\t3\tlose in 2\n1\t2\twin in 1\n2\t0\tlose in 0\n";
 
 #[test]
-fn texts_of_countdown(rt: HostRuntime) -> Result<(), Fail> {
-    let tables = tables(rt.alloc())?;
-    let answer = answer_text(&tables, b"4");
-    let checked = check_texts(&rt, rt.alloc(), &tables);
-    drop(tables);
-    expect(&rt, answer?.as_slice() == b"win in 3".as_slice());
-    checked?;
-    Ok(())
+fn texts_of_countdown(rt: HostRuntime) {
+    let alloc = rt.alloc();
+    let tables = tables(&rt, alloc);
+    let answer = must(&rt, answer_text(&tables, b"4"));
+    expect(&rt, answer.as_slice() == b"win in 3".as_slice());
+    let moves = must(&rt, moves_text(alloc, &tables, b"4", false));
+    expect_eq(&rt, moves.as_slice(), MOVES);
+    let line = must(&rt, line_text(alloc, &tables, b"4", usize::MAX));
+    expect_eq(&rt, line.as_slice(), LINE);
 }
 
 // A text that no position has.
@@ -126,9 +106,9 @@ fn check_not_held(rt: &impl Abort, alloc: Global, tables: &Tables<Countdown<4>>)
 }
 
 #[test]
-fn questions_that_are_refused(rt: HostRuntime) -> Result<(), Fail> {
+fn questions_that_are_refused(rt: HostRuntime) {
     let alloc = rt.alloc();
-    let held = tables(alloc)?;
+    let held = tables(&rt, alloc);
     check_illegal(&rt, alloc, &held, b"5");
     check_illegal(&rt, alloc, &held, b"");
     check_illegal(&rt, alloc, &held, b"04");
@@ -137,5 +117,4 @@ fn questions_that_are_refused(rt: HostRuntime) -> Result<(), Fail> {
     expect_eq(&rt, PlayError::OutOfMemory.number(), 1);
     expect_eq(&rt, PlayError::Illegal.number(), 2);
     expect_eq(&rt, PlayError::NotHeld.number(), 3);
-    Ok(())
 }

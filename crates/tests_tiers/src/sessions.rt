@@ -1,5 +1,5 @@
 //! Sessions of Countdown from 4.
-use crate::expect::{expect, expect_eq, expect_eq_at};
+use crate::expect::{expect, expect_eq, expect_eq_at, must};
 use crate::one_tier::play;
 use crate::slow::{Fault, LongLine, SlowReader, SlowWriter};
 use gm_best::side::Side;
@@ -9,9 +9,9 @@ use gm_play::session_error::SessionError;
 use gm_table::checker::check;
 use gm_table::tables::Tables;
 use gm_toys::countdown::Countdown;
-use std::alloc::{AllocError, Global};
+use std::alloc::Global;
+use std::io::Read;
 use std::process::Abort;
-use std::test::Fail;
 
 type Game = Countdown<4>;
 
@@ -20,39 +20,54 @@ const START: Position = Position { tier: 0, index: 4 };
 const WON_BY_YOU: &[u8] =
     b"4 win in 3\nyour move?\n3 lose in 2\ncomputer: 1\n2 win in 1\nyour move?\n0 lose in 0\nover: you win\n";
 
-fn known(value: Value, remoteness: u32) -> Option<Solved> {
-    Some(Solved { value, remoteness })
+const VALUES: [(Value, u32); 5] = [
+    (Value::Lose, 0),
+    (Value::Win, 1),
+    (Value::Win, 1),
+    (Value::Lose, 2),
+    (Value::Win, 3),
+];
+
+// The records of the game.
+fn records(rt: &impl Abort, alloc: Global) -> Vec<Option<Solved>> {
+    let mut records = Vec::new(alloc);
+    for (value, remoteness) in VALUES {
+        must(rt, records.push(Some(Solved { value, remoteness })));
+    }
+    records
 }
 
-// The table of the game.
-pub(crate) fn tables(alloc: Global) -> Result<Tables<Game>, Fail> {
-    let records = vec![in alloc;
-        known(Value::Lose, 0),
-        known(Value::Win, 1),
-        known(Value::Win, 1),
-        known(Value::Lose, 2),
-        known(Value::Win, 3),
-    ]?;
+/// The table of the game.
+pub(crate) fn tables(rt: &impl Abort, alloc: Global) -> Tables<Game> {
+    let records = records(rt, alloc);
     let mut tables: Tables<Game> = Tables::new(alloc);
-    let table = check(alloc, 0, records.as_slice(), &tables)?;
-    let _held = tables.insert(table);
-    Ok(tables)
+    let table = check(alloc, 0, records.as_slice(), &tables);
+    drop(records);
+    let _held = tables.insert(must(rt, table));
+    tables
+}
+
+// A session with this reader ends so, and writes this text.
+fn check_play<R: Read>(
+    rt: &impl Abort,
+    alloc: Global,
+    first: Side,
+    input: &mut R,
+    ended: Result<(), SessionError>,
+    text: &[u8],
+) {
+    let tables = tables(rt, alloc);
+    let mut output = Vec::new(alloc);
+    let found = play(&tables, START, first, input, &mut output);
+    drop(tables);
+    expect_eq(rt, found, Some(ended));
+    expect_eq(rt, output.as_slice(), text);
 }
 
 // A session that reads all of these lines, ends well, and writes this text.
-fn check_session(
-    rt: &impl Abort,
-    alloc: Global,
-    tables: &Tables<Game>,
-    first: Side,
-    lines: &[u8],
-    text: &[u8],
-) {
+fn check_session(rt: &impl Abort, alloc: Global, first: Side, lines: &[u8], text: &[u8]) {
     let mut input = lines;
-    let mut output = Vec::new(alloc);
-    let ended = play(tables, START, first, &mut input, &mut output);
-    expect_eq(rt, ended, Some(Ok(())));
-    expect_eq(rt, output.as_slice(), text);
+    check_play(rt, alloc, first, &mut input, Ok(()), text);
     expect(rt, input.is_empty());
 }
 
@@ -64,117 +79,103 @@ const WON_BY_COMPUTER: &[u8] =
     b"4 win in 3\ncomputer: 1\n3 lose in 2\nyour move?\n1 win in 1\ncomputer: 1\n0 lose in 0\nover: computer wins\n";
 
 #[test]
-fn sessions_of_countdown(rt: HostRuntime) -> Result<(), Fail> {
+fn sessions_of_countdown(rt: HostRuntime) {
     let alloc = rt.alloc();
-    let tables = tables(alloc)?;
-    check_session(&rt, alloc, &tables, Side::You, b"1\n2\n", WON_BY_YOU);
-    check_session(&rt, alloc, &tables, Side::You, b"1\r\n2\r\n", WON_BY_YOU);
-    check_session(&rt, alloc, &tables, Side::You, b"1\n2", WON_BY_YOU);
-    check_session(&rt, alloc, &tables, Side::You, b"3\nquit\n", NOT_A_MOVE);
-    check_session(&rt, alloc, &tables, Side::You, b"", ENDED);
-    check_session(&rt, alloc, &tables, Side::Computer, b"2\n", WON_BY_COMPUTER);
-    Ok(())
+    check_session(&rt, alloc, Side::You, b"1\n2\n", WON_BY_YOU);
+    check_session(&rt, alloc, Side::You, b"1\r\n2\r\n", WON_BY_YOU);
+    check_session(&rt, alloc, Side::You, b"1\n2", WON_BY_YOU);
+    check_session(&rt, alloc, Side::You, b"3\nquit\n", NOT_A_MOVE);
+    check_session(&rt, alloc, Side::You, b"", ENDED);
+    check_session(&rt, alloc, Side::Computer, b"2\n", WON_BY_COMPUTER);
 }
 
 #[test]
-fn nothing_is_read_after_the_last_line(rt: HostRuntime) -> Result<(), Fail> {
-    let tables = tables(rt.alloc())?;
+fn nothing_is_read_after_the_last_line(rt: HostRuntime) {
     let mut input = b"quit\n1\n".as_slice();
-    let mut output = Vec::new(rt.alloc());
-    let ended = play(&tables, START, Side::You, &mut input, &mut output);
-    expect_eq(&rt, ended, Some(Ok(())));
-    expect_eq(
-        &rt,
-        output.as_slice(),
-        b"4 win in 3\nyour move?\nbye\n".as_slice(),
-    );
+    let text = b"4 win in 3\nyour move?\nbye\n";
+    check_play(&rt, rt.alloc(), Side::You, &mut input, Ok(()), text);
     expect_eq(&rt, input, b"1\n".as_slice());
-    Ok(())
 }
 
 #[test]
-fn a_session_reads_a_million_bytes(rt: HostRuntime) -> Result<(), Fail> {
-    let tables = tables(rt.alloc())?;
+fn a_session_reads_a_million_bytes(rt: HostRuntime) {
     let mut input = LongLine {
         left: SESSION_BYTES,
     };
-    let mut output = Vec::new(rt.alloc());
-    let ended = play(&tables, START, Side::You, &mut input, &mut output);
-    expect_eq(&rt, ended, Some(Ok(())));
-    expect_eq(
-        &rt,
-        output.as_slice(),
-        b"4 win in 3\nyour move?\nnot a move\nyour move?\ninput ended\n".as_slice(),
-    );
+    let text = b"4 win in 3\nyour move?\nnot a move\nyour move?\ninput ended\n";
+    check_play(&rt, rt.alloc(), Side::You, &mut input, Ok(()), text);
     expect_eq(&rt, SESSION_BYTES, 1_000_000);
-    Ok(())
 }
 
 #[test]
-fn one_byte_more_is_too_much(rt: HostRuntime) -> Result<(), Fail> {
-    let tables = tables(rt.alloc())?;
+fn one_byte_more_is_too_much(rt: HostRuntime) {
     let mut input = LongLine { left: 1_000_002 };
-    let mut output = Vec::new(rt.alloc());
-    let ended = play(&tables, START, Side::You, &mut input, &mut output);
-    expect_eq(&rt, ended, Some(Err(SessionError::TooMuchInput)));
-    expect_eq(
-        &rt,
-        output.as_slice(),
-        b"4 win in 3\nyour move?\n".as_slice(),
-    );
+    let ended = Err(SessionError::TooMuchInput);
+    let text = b"4 win in 3\nyour move?\n";
+    check_play(&rt, rt.alloc(), Side::You, &mut input, ended, text);
     expect_eq(&rt, input.left, 1);
-    Ok(())
+}
+
+// A session whose input fails at one of its calls writes a front of what it writes otherwise.
+fn check_failing_input(rt: &impl Abort, alloc: Global, fails_at: usize) {
+    let tables = tables(rt, alloc);
+    let mut input = SlowReader {
+        rest: b"1\n2\n",
+        calls: 0,
+        fails_at,
+    };
+    let mut output = Vec::new(alloc);
+    let ended = play(&tables, START, Side::You, &mut input, &mut output);
+    drop(tables);
+    let wanted = if fails_at == 5 {
+        Ok(())
+    } else {
+        Err(SessionError::ReadFailed)
+    };
+    expect_eq_at(rt, ended, Some(wanted), fails_at);
+    expect(rt, WON_BY_YOU.starts_with(output.as_slice()));
 }
 
 #[test]
-fn the_input_may_fail_at_each_call(rt: HostRuntime) -> Result<(), Fail> {
-    let tables = tables(rt.alloc())?;
+fn the_input_may_fail_at_each_call(rt: HostRuntime) {
     for fails_at in 1..6 {
-        let mut input = SlowReader {
-            rest: b"1\n2\n",
-            calls: 0,
-            fails_at,
-        };
-        let mut output = Vec::new(rt.alloc());
-        let ended = play(&tables, START, Side::You, &mut input, &mut output);
-        if fails_at == 5 {
-            expect_eq(&rt, ended, Some(Ok(())));
-        } else {
-            expect_eq_at(&rt, ended, Some(Err(SessionError::ReadFailed)), fails_at);
-        }
-        expect_eq_at(
-            &rt,
-            WON_BY_YOU.starts_with(output.as_slice()),
-            true,
-            fails_at,
-        );
+        check_failing_input(&rt, rt.alloc(), fails_at);
     }
-    Ok(())
+}
+
+// A session whose output goes wrong at one of its calls has written all before that.
+fn check_failing_output(
+    rt: &impl Abort,
+    alloc: Global,
+    tables: &Tables<Game>,
+    fault: Fault,
+    fault_at: usize,
+) {
+    let mut input = b"1\n2\n".as_slice();
+    let mut output = SlowWriter {
+        got: Vec::new(alloc),
+        calls: 0,
+        fault_at,
+        fault,
+    };
+    let ended = play(tables, START, Side::You, &mut input, &mut output);
+    let wanted = if fault_at <= WON_BY_YOU.len() {
+        Err(SessionError::WriteFailed)
+    } else {
+        Ok(())
+    };
+    expect_eq_at(rt, ended, Some(wanted), fault_at);
+    let front = WON_BY_YOU.get(..fault_at.saturating_sub(1)).unwrap_or(&[]);
+    expect_eq(rt, output.got.as_slice(), front);
 }
 
 #[test]
-fn the_output_may_fail_at_each_call(rt: HostRuntime) -> Result<(), Fail> {
-    let tables = tables(rt.alloc())?;
-    for fault in [Fault::Fails, Fault::TakesNothing] {
-        for fault_at in 1..WON_BY_YOU.len() + 2 {
-            let mut input = b"1\n2\n".as_slice();
-            let mut output = SlowWriter {
-                got: Vec::new(rt.alloc()),
-                calls: 0,
-                fault_at,
-                fault,
-            };
-            let ended = play(&tables, START, Side::You, &mut input, &mut output);
-            if fault_at <= WON_BY_YOU.len() {
-                expect_eq_at(&rt, ended, Some(Err(SessionError::WriteFailed)), fault_at);
-            } else {
-                expect_eq(&rt, ended, Some(Ok(())));
-            }
-            let front = WON_BY_YOU.get(..fault_at - 1).ok_or(AllocError)?;
-            expect_eq(&rt, output.got.as_slice(), front);
-        }
+fn the_output_may_fail_at_each_call(rt: HostRuntime) {
+    let tables = tables(&rt, rt.alloc());
+    for fault_at in 1..WON_BY_YOU.len() + 2 {
+        check_failing_output(&rt, rt.alloc(), &tables, Fault::Fails, fault_at);
+        check_failing_output(&rt, rt.alloc(), &tables, Fault::TakesNothing, fault_at);
     }
-    Ok(())
 }
 
 #[test]
