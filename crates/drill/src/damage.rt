@@ -19,25 +19,13 @@ const UNREAD: char = '?';
 
 const OUT_OF_MEMORY: char = '!';
 
-// Solves tiers one after another into the tables; none where memory was refused.
-fn solve_all<G: Game>(alloc: Global, tiers: &[u64], tables: &mut Tables<G>) -> Option<()> {
-    for tier in tiers {
+// Solves all tiers of a game into the tables; none where memory was refused.
+fn solve_all<G: Game>(alloc: Global, tables: &mut Tables<G>) -> Option<()> {
+    let order = TierOrder::<G>::from_initial(alloc).ok()?;
+    for tier in order.tiers() {
         solve_next(alloc, *tier, tables)?;
     }
     Some(())
-}
-
-// All true tables of a game; none where memory was refused.
-fn solved<G: Game>(alloc: Global) -> Option<Tables<G>> {
-    let order = TierOrder::<G>::from_initial(alloc).ok()?;
-    let mut tables: Tables<G> = Tables::new(alloc);
-    let done = solve_all(alloc, order.tiers(), &mut tables);
-    drop(order);
-    if done.is_none() {
-        drop(tables);
-        return None;
-    }
-    Some(tables)
 }
 
 /// Whether bytes are accepted as the file of a tier, of version 1 or of the present one.
@@ -98,8 +86,11 @@ fn judge_lines<G: Game, R: Print, I: Read + Drop>(
 /// Judges each line of the input as the file of a tier of this game.
 pub fn damage<G: Game, R: Print + AllocGlobal, I: Read + Drop>(rt: &R, input: I) -> io::Result<()> {
     let alloc = rt.alloc();
-    match solved::<G>(alloc) {
-        Some(tables) => judge_lines(rt, alloc, &tables, input),
+    let mut tables: Tables<G> = Tables::new(alloc);
+    let said = match solve_all(alloc, &mut tables) {
+        Some(()) => judge_lines(rt, alloc, &tables, input),
         None => println!(rt; "not solved"),
-    }
+    };
+    drop(tables);
+    said
 }

@@ -121,18 +121,25 @@ fn time<R: Print + Clock + AllocGlobal + Threads + Wait + Sync>(
     }
 }
 
+// Does what the words say of which the first is the program's name: whether it could be done.
+fn run<R: Print + Clock + AllocGlobal + Threads + Wait + Files + Sync, I: io::Read + Drop>(
+    rt: &R,
+    words: &[String],
+    input: I,
+) -> io::Result<bool> {
+    let Some(first) = words.get(1) else {
+        return Ok(false);
+    };
+    let first = first.as_str();
+    Ok(judge(rt, first, input)? || drill(rt, first)? || time(rt, first, words)?)
+}
+
 fn main(rt: HostRuntime) -> io::Result<ExitCode> {
     let mut words = Vec::new(rt.alloc());
     for word in env::args(&rt)? {
         words.push(word)?;
     }
-    let Some(first) = words.get(1) else {
-        return Ok(ExitCode::FAILURE);
-    };
-    let first = first.as_str();
-    let is_done = drill(&rt, first)?
-        || judge(&rt, first, rt.reader())?
-        || time(&rt, first, words.as_slice())?;
+    let is_done = run(&rt, words.as_slice(), rt.reader())?;
     Ok(if is_done {
         ExitCode::SUCCESS
     } else {

@@ -1,29 +1,22 @@
 //! The marks round a call, by which the preloaded library (tools/hostile/refuse.c) knows what is allocated inside it.
-use std::alloc::{AllocError, Global};
+use std::alloc::Global;
 
-// The sizes of the two marks in bytes, which no other allocation has.
-const START: usize = 1_048_583;
+/// The sizes in bytes of the marks at the start and at the end, which no other allocation has.
+pub const START: usize = 1_048_583;
 
-const END: usize = 1_048_589;
+pub const END: usize = 1_048_589;
 
-/// Marks the start of a call: allocations are counted and may be refused from here on.
-pub fn start(alloc: Global) -> Result<(), AllocError> {
-    let _mark: Vec<u8> = Vec::with_capacity(alloc, START)?;
-    Ok(())
-}
-
-/// Marks the end of a call.
-pub fn end(alloc: Global) -> Result<(), AllocError> {
-    let _mark: Vec<u8> = Vec::with_capacity(alloc, END)?;
-    Ok(())
+/// Asks for memory of the size of a mark, whether there is any or not: allocations are counted and may be refused from the start to the end.
+pub fn mark(alloc: Global, size: usize) {
+    drop(Vec::<u8>::with_capacity(alloc, size));
 }
 
 /// Makes a call between the marks.
 macro_rules! marked {
     ($alloc:expr, $call:expr) => {{
-        $crate::marks::start($alloc)?;
+        $crate::marks::mark($alloc, $crate::marks::START);
         let answer = $call;
-        $crate::marks::end($alloc)?;
+        $crate::marks::mark($alloc, $crate::marks::END);
         answer
     }};
 }

@@ -9,3 +9,13 @@ pub fn say<R: Print, T: Display + Drop>(rt: &R, what: &str, answer: Option<T>) -
         None => println!(rt; "{what}: out of memory"),
     }
 }
+
+/// Prints what a call and a second one answered.
+pub fn say_both<R: Print, T: Display + Drop>(
+    rt: &R,
+    first: Option<T>,
+    again: Option<T>,
+) -> io::Result<()> {
+    say(rt, "answer", first)?;
+    say(rt, "again", again)
+}

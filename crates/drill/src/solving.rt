@@ -27,26 +27,6 @@ use std::io;
 use std::sync::Wait;
 use std::thread::Threads;
 
-// The records of a table and the number of deliveries, as a line; none where memory was refused.
-fn line<G: Game>(alloc: Global, table: &Table<G>, deliveries: u64) -> Result<String, AllocError> {
-    let mut line = format!(in alloc; "{deliveries} deliveries:")?;
-    for index in 0..table.size() {
-        let Some(Solved { value, remoteness }) = table.at(index) else {
-            line.push_str(" -")?;
-            continue;
-        };
-        let letter = match value {
-            Value::Lose => 'L',
-            Value::Win => 'W',
-            Value::Tie => 'T',
-            Value::Draw => 'D',
-        };
-        let word = format!(in alloc; " {letter}{remoteness}")?;
-        line.push_str(word.as_str())?;
-    }
-    Ok(line)
-}
-
 /// Solves the first tier of a game by this many workers and shards, with this many notes in a piece, in a way, or by one thread without locks where there is
 /// no way: none where memory was refused or there is no such plan.
 pub fn solved<G: Game + Send + Sync, R: Threads + Wait + Sync>(
@@ -76,17 +56,43 @@ pub fn solve_next<G: Game>(alloc: Global, tier: u64, tables: &mut Tables<G>) -> 
     hold_solved(alloc, tables, tier).ok()
 }
 
+// Prints the number of deliveries and the records of a table, as a line.
+fn say_table<G: Game, R: Print>(
+    rt: &R,
+    what: &str,
+    table: &Table<G>,
+    deliveries: u64,
+) -> io::Result<()> {
+    print!(rt; "{what}: {deliveries} deliveries:")?;
+    for index in 0..table.size() {
+        match table.at(index) {
+            Some(Solved { value, remoteness }) => {
+                let letter = match value {
+                    Value::Lose => 'L',
+                    Value::Win => 'W',
+                    Value::Tie => 'T',
+                    Value::Draw => 'D',
+                };
+                print!(rt; " {letter}{remoteness}")?;
+            }
+            None => print!(rt; " -")?,
+        }
+    }
+    println!(rt; "")
+}
+
 // Prints a solved tier.
 fn say_solved<G: Game, R: Print>(
     rt: &R,
-    alloc: Global,
     what: &str,
     answer: Option<(Table<G>, u64)>,
 ) -> io::Result<()> {
-    match answer {
-        Some((table, deliveries)) => say(rt, what, Some(line(alloc, &table, deliveries)?)),
+    let said = match &answer {
+        Some((table, deliveries)) => say_table(rt, what, table, *deliveries),
         None => say(rt, what, None::<u64>),
-    }
+    };
+    drop(answer);
+    said
 }
 
 // Solves the first tier of a game in a way, twice.
@@ -97,9 +103,9 @@ fn say_solves<G: Game + Send + Sync, R: Print + Threads + Wait + Sync>(
     tables: &Tables<G>,
 ) -> io::Result<()> {
     let first = marked!(alloc, solved(rt, alloc, way, (2, 2, 1), tables));
-    say_solved(rt, alloc, "answer", first)?;
+    say_solved(rt, "answer", first)?;
     let again = solved(rt, alloc, way, (2, 2, 1), tables);
-    say_solved(rt, alloc, "again", again)
+    say_solved(rt, "again", again)
 }
 
 // Solves the first tier of a game.
@@ -125,24 +131,21 @@ fn sign(found: Result<Option<Vec<u8>>, StoreError>, right: &[u8]) -> char {
     }
 }
 
-// A sign for each tier of the order.
-fn texts<R: Files>(
+// The sign of a tier whose true table is given.
+fn sign_of<R: Files>(
     rt: &R,
     alloc: Global,
     store: &mut MemStore,
-    built: &Built<Four>,
-) -> Result<String, AllocError> {
-    let mut signs = String::new(alloc);
-    for tier in built.order.tiers() {
-        let right = match built.tables.table(*tier) {
-            Some(table) => encode(alloc, table)?,
-            None => Vec::new(alloc),
-        };
-        if store.failures() < u64::MAX {
-            signs.push(sign(store.read(rt, alloc, *tier), right.as_slice()))?;
-        }
-    }
-    Ok(signs)
+    table: &Table<Four>,
+) -> Result<char, AllocError> {
+    let right = encode(alloc, table)?;
+    let sign = if store.failures() < u64::MAX {
+        sign(store.read(rt, alloc, table.tier()), right.as_slice())
+    } else {
+        'x'
+    };
+    drop(right);
+    Ok(sign)
 }
 
 fn built<R: Threads + Wait + Files + Sync>(
@@ -167,7 +170,7 @@ fn tiers_built<R: Threads + Wait + Files + Sync>(
     Some(built(rt, alloc, store).ok()?.order.tiers().len())
 }
 
-// Prints which tiers of a store have the texts of a build.
+// Prints a sign for each tier of a build that is right.
 fn say_texts<R: Print + Files>(
     rt: &R,
     alloc: Global,
@@ -175,7 +178,14 @@ fn say_texts<R: Print + Files>(
     store: &mut MemStore,
     right: &Built<Four>,
 ) -> io::Result<()> {
-    say(rt, what, Some(texts(rt, alloc, store, right)?))
+    print!(rt; "{what}: ")?;
+    for tier in right.order.tiers() {
+        if let Some(table) = right.tables.table(*tier) {
+            let sign = sign_of(rt, alloc, store, table)?;
+            print!(rt; "{sign}")?;
+        }
+    }
+    println!(rt; "")
 }
 
 // Builds twice into an empty store, which then has the texts of a build that is right.
@@ -210,16 +220,23 @@ pub fn make_call<R: Print + AllocGlobal + Threads + Wait + Files + Sync>(
     rt: &R,
     word: &str,
 ) -> io::Result<bool> {
-    let said = match word {
-        "alone-countdown" => solve::<Countdown<10>, R>(rt, None),
-        "alone-wheel" => solve::<Wheel, R>(rt, None),
-        "pieces-countdown" => solve::<Countdown<10>, R>(rt, Some(Way::Pieces)),
-        "pieces-wheel" => solve::<Wheel, R>(rt, Some(Way::Pieces)),
-        "passes-countdown" => solve::<Countdown<10>, R>(rt, Some(Way::Passes)),
-        "passes-wheel" => solve::<Wheel, R>(rt, Some(Way::Passes)),
-        "build" => build(rt),
+    if word == "build" {
+        build(rt)?;
+        return Ok(true);
+    }
+    let Some((how, game)) = word.split_once('-') else {
+        return Ok(false);
+    };
+    let way = match how {
+        "alone" => None,
+        "pieces" => Some(Way::Pieces),
+        "passes" => Some(Way::Passes),
         _ => return Ok(false),
     };
-    said?;
+    match game {
+        "countdown" => solve::<Countdown<10>, R>(rt, way)?,
+        "wheel" => solve::<Wheel, R>(rt, way)?,
+        _ => return Ok(false),
+    }
     Ok(true)
 }

@@ -4,8 +4,8 @@ ghost use Rattle.gm_table.specs.Tables.{AreHeld};
 ghost use Rattle.gm_tierdb.specs.TierText.{AreUpTo};
 
 use crate::marks::marked;
-use crate::said::say;
-use gm_analyse::analysis::{Analysis, analyse as analyse_table};
+use crate::said::{say, say_both};
+use gm_analyse::analysis::analyse;
 use gm_analyse::json::to_json;
 use gm_game::game::Game;
 use gm_game::limits::TIER_SIZE;
@@ -15,25 +15,31 @@ use gm_solver::alone::solve_alone;
 use gm_table::checker::check as check_records;
 use gm_table::table::Table;
 use gm_table::tables::Tables;
-use gm_tierdb::decode::{decode as decode_file, decode_v1};
-use gm_tierdb::encode::{encode as encode_table, encode_v1, fits_v1};
-use gm_tierdb::streams::read_text as read_stream;
+use gm_tierdb::decode::{decode, decode_v1};
+use gm_tierdb::encode::{encode, encode_v1, fits_v1};
+use gm_tierdb::streams::read_text;
 use gm_toys::countdown::Countdown;
 use std::alloc::{AllocError, Global};
 use std::io;
 
 type Ten = Countdown<10>;
 
-// A call on the true table.
+// A call that counts: the bytes of a file, its records or its text read from a stream, or the remotenesses of a table.
 #[derive(Clone, Copy)]
-enum Call {
-    Check,
+enum Count {
     Encode,
     Decode,
     EncodeOld,
     DecodeOld,
     ReadText,
     Analyse,
+}
+
+// A call on the true table.
+#[derive(Clone, Copy)]
+enum Call {
+    Check,
+    Count(Count),
     Json,
 }
 
@@ -41,12 +47,12 @@ enum Call {
 fn named(word: &str) -> Option<Call> {
     match word {
         "check" => Some(Call::Check),
-        "encode" => Some(Call::Encode),
-        "decode" => Some(Call::Decode),
-        "encode-old" => Some(Call::EncodeOld),
-        "decode-old" => Some(Call::DecodeOld),
-        "read-text" => Some(Call::ReadText),
-        "analyse" => Some(Call::Analyse),
+        "encode" => Some(Call::Count(Count::Encode)),
+        "decode" => Some(Call::Count(Count::Decode)),
+        "encode-old" => Some(Call::Count(Count::EncodeOld)),
+        "decode-old" => Some(Call::Count(Count::DecodeOld)),
+        "read-text" => Some(Call::Count(Count::ReadText)),
+        "analyse" => Some(Call::Count(Count::Analyse)),
         "json" => Some(Call::Json),
         _ => None,
     }
@@ -80,28 +86,14 @@ fn size_checked<G: Game>(
     Some(check_records(alloc, 0, records, tables).ok()?.size())
 }
 
-// Checks records, twice.
-fn say_check<G: Game, R: Print>(
-    rt: &R,
-    alloc: Global,
-    records: &[Option<Solved>],
-    tables: &Tables<G>,
-) -> io::Result<()>
-    requires held { AreHeld G.rules tables.now 0 }
-    requires small { G.rules.tier_size 0 ≤ TIER_SIZE }
-{
-    let first = marked!(alloc, size_checked(alloc, records, tables));
-    say(rt, "answer", first)?;
-    say(rt, "again", size_checked(alloc, records, tables))
-}
-
 // `check` of the right records.
 fn check<R: Print>(rt: &R, alloc: Global, table: &Table<Ten>) -> io::Result<()> {
     let records = records(alloc, table)?;
     let tables: Tables<Ten> = Tables::new(alloc);
-    let said = say_check(rt, alloc, records.as_slice(), &tables);
+    let first = marked!(alloc, size_checked(alloc, records.as_slice(), &tables));
+    let again = size_checked(alloc, records.as_slice(), &tables);
     drop((records, tables));
-    said
+    say_both(rt, first, again)
 }
 
 // The value of the start in the tables, or none where its tier isn't held.
@@ -152,134 +144,58 @@ fn insert<R: Print>(rt: &R, alloc: Global) -> io::Result<()> {
     said
 }
 
-// The length of the file of a table.
-fn length_encoded<G: Game>(alloc: Global, table: &Table<G>) -> Option<usize> {
-    Some(encode_table(alloc, table).ok()?.len())
+// The length of the list that a call answered; none where memory was refused.
+fn length<T: Drop, E: Drop>(answer: Result<Vec<T>, E>) -> Option<u64> {
+    Some(answer.ok()?.len() as u64)
 }
 
-// `encode` of the table.
-fn encode<G: Game, R: Print>(rt: &R, alloc: Global, table: &Table<G>) -> io::Result<()> {
-    let first = marked!(alloc, length_encoded(alloc, table));
-    say(rt, "answer", first)?;
-    say(rt, "again", length_encoded(alloc, table))
+// How many remotenesses are counted of a table.
+fn remotenesses<G: Game>(alloc: Global, table: &Table<G>) -> Option<u64> {
+    Some(analyse(alloc, table).ok()?.counts.list().len() as u64)
 }
 
-// The number of records of a file.
-fn count_decoded<G: Game>(alloc: Global, file: &[u8]) -> Option<usize> {
-    Some(decode_file::<G>(alloc, 0, file).ok()?.len())
-}
-
-fn say_decode<G: Game, R: Print>(rt: &R, alloc: Global, file: &[u8]) -> io::Result<()> {
-    let first = marked!(alloc, count_decoded::<G>(alloc, file));
-    say(rt, "answer", first)?;
-    say(rt, "again", count_decoded::<G>(alloc, file))
-}
-
-// `decode` of the file of the table.
-fn decode<G: Game, R: Print>(rt: &R, alloc: Global, table: &Table<G>) -> io::Result<()> {
-    let file = encode_table(alloc, table)?;
-    let said = say_decode::<G, R>(rt, alloc, file.as_slice());
-    drop(file);
-    said
-}
-
-// The length of the file of version 1 of a table.
-fn length_encoded_old<G: Game>(alloc: Global, table: &Table<G>) -> Option<usize>
+// What a call on a table and its file counts; none where memory was refused.
+fn counted<G: Game>(alloc: Global, count: Count, table: &Table<G>, file: &[u8]) -> Option<u64>
     requires { AreUpTo REMOTENESS_1 table.now.records }
 {
-    Some(encode_v1(alloc, table).ok()?.len())
-}
-
-// `encode_v1` of the table.
-fn encode_old<G: Game, R: Print>(rt: &R, alloc: Global, table: &Table<G>) -> io::Result<()> {
-    if !fits_v1(table) {
-        return say(rt, "answer", Some("too long"));
-    }
-    let first = marked!(alloc, length_encoded_old(alloc, table));
-    say(rt, "answer", first)?;
-    say(rt, "again", length_encoded_old(alloc, table))
-}
-
-// The number of records of a file of version 1.
-fn count_decoded_old<G: Game>(alloc: Global, file: &[u8]) -> Option<usize> {
-    Some(decode_v1::<G>(alloc, 0, file).ok()?.len())
-}
-
-fn say_decode_old<G: Game, R: Print>(rt: &R, alloc: Global, file: &[u8]) -> io::Result<()> {
-    let first = marked!(alloc, count_decoded_old::<G>(alloc, file));
-    say(rt, "answer", first)?;
-    say(rt, "again", count_decoded_old::<G>(alloc, file))
-}
-
-// `decode_v1` of the file of version 1.
-fn decode_old<G: Game, R: Print>(rt: &R, alloc: Global, table: &Table<G>) -> io::Result<()> {
-    if !fits_v1(table) {
-        return say(rt, "answer", Some("too long"));
-    }
-    let file = encode_v1(alloc, table)?;
-    let said = say_decode_old::<G, R>(rt, alloc, file.as_slice());
-    drop(file);
-    said
-}
-
-// The length of the text of a file, read from a stream.
-fn read_length(alloc: Global, file: &[u8]) -> Option<usize> {
     let mut reader = file;
-    Some(read_stream(alloc, &mut reader).ok()?.len())
+    match count {
+        Count::Encode => length(encode(alloc, table)),
+        Count::Decode => length(decode::<G>(alloc, 0, file)),
+        Count::EncodeOld => length(encode_v1(alloc, table)),
+        Count::DecodeOld => length(decode_v1::<G>(alloc, 0, file)),
+        Count::ReadText => length(read_text(alloc, &mut reader)),
+        Count::Analyse => remotenesses(alloc, table),
+    }
 }
 
-fn say_read<R: Print>(rt: &R, alloc: Global, file: &[u8]) -> io::Result<()> {
-    let first = marked!(alloc, read_length(alloc, file));
-    say(rt, "answer", first)?;
-    say(rt, "again", read_length(alloc, file))
-}
-
-// `read_text` of the file of the table.
-fn read_text<G: Game, R: Print>(rt: &R, alloc: Global, table: &Table<G>) -> io::Result<()> {
-    let file = encode_table(alloc, table)?;
-    let said = say_read(rt, alloc, file.as_slice());
+// A call that counts.
+fn say_count<G: Game, R: Print>(
+    rt: &R,
+    alloc: Global,
+    count: Count,
+    table: &Table<G>,
+) -> io::Result<()> {
+    if !fits_v1(table) {
+        return say(rt, "answer", Some("too long"));
+    }
+    let file = match count {
+        Count::DecodeOld => encode_v1(alloc, table)?,
+        _ => encode(alloc, table)?,
+    };
+    let first = marked!(alloc, counted(alloc, count, table, file.as_slice()));
+    let again = counted(alloc, count, table, file.as_slice());
     drop(file);
-    said
-}
-
-// The number of remotenesses that a table's counts list.
-fn count_analysed<G: Game>(alloc: Global, table: &Table<G>) -> Option<usize> {
-    Some(analyse_table(alloc, table).ok()?.counts.list().len())
-}
-
-// `analyse` of the table.
-fn analyse<G: Game, R: Print>(rt: &R, alloc: Global, table: &Table<G>) -> io::Result<()> {
-    let first = marked!(alloc, count_analysed(alloc, table));
-    say(rt, "answer", first)?;
-    say(rt, "again", count_analysed(alloc, table))
-}
-
-fn say_json<G: Game, R: Print>(rt: &R, alloc: Global, analysis: &Analysis) -> io::Result<()> {
-    let first = marked!(alloc, to_json::<G>(alloc, analysis));
-    say(rt, "answer", first.ok())?;
-    say(rt, "again", to_json::<G>(alloc, analysis).ok())
+    say_both(rt, first, again)
 }
 
 // `to_json` of what was counted.
 fn json<G: Game, R: Print>(rt: &R, alloc: Global, table: &Table<G>) -> io::Result<()> {
-    let analysis = analyse_table(alloc, table)?;
-    let said = say_json::<G, R>(rt, alloc, &analysis);
+    let analysis = analyse(alloc, table)?;
+    let first = marked!(alloc, to_json::<G>(alloc, &analysis).ok());
+    let again = to_json::<G>(alloc, &analysis).ok();
     drop(analysis);
-    said
-}
-
-// Makes a call on the true table.
-fn call_on<R: Print>(rt: &R, alloc: Global, call: Call, table: &Table<Ten>) -> io::Result<()> {
-    match call {
-        Call::Check => check(rt, alloc, table),
-        Call::Encode => encode(rt, alloc, table),
-        Call::Decode => decode(rt, alloc, table),
-        Call::EncodeOld => encode_old(rt, alloc, table),
-        Call::DecodeOld => decode_old(rt, alloc, table),
-        Call::ReadText => read_text(rt, alloc, table),
-        Call::Analyse => analyse(rt, alloc, table),
-        Call::Json => json(rt, alloc, table),
-    }
+    say_both(rt, first, again)
 }
 
 // Makes a call on the true table, where there was memory for it.
@@ -287,7 +203,11 @@ fn call_on_true<R: Print>(rt: &R, alloc: Global, call: Call) -> io::Result<()> {
     let Some(table) = table(alloc) else {
         return Ok(());
     };
-    let said = call_on(rt, alloc, call, &table);
+    let said = match call {
+        Call::Check => check(rt, alloc, &table),
+        Call::Json => json(rt, alloc, &table),
+        Call::Count(what) => say_count(rt, alloc, what, &table),
+    };
     drop(table);
     said
 }
