@@ -1,9 +1,11 @@
 //! What a game says of its positions, tiers and texts.
+use crate::expect::{expect, expect_eq};
 use gm_game::children::canonical_children;
 use gm_game::evaluate::within;
 use gm_game::game::Game;
-use gm_game::position::{End, Position, Solved};
+use gm_game::position::{End, Position, Solved, Value};
 use gm_game::shown::Shown;
+use std::process::Abort;
 
 /// A position of tier 0.
 pub fn at(index: u64) -> Position {
@@ -71,11 +73,62 @@ pub fn looked_ahead<G: Game>(p: Position, moves: u32) -> Option<Solved> {
     }
 }
 
-/// What looking this many moves ahead finds for the board with this text.
-pub fn ahead<G: Shown>(text: &[u8], moves: u32) -> Option<Solved> {
+/// A text, how many moves are looked ahead, and the value and remoteness that this finds.
+pub type Ahead = (&'static [u8], u32, Option<(Value, u32)>);
+
+/// What looking ahead finds for the boards with these texts.
+pub fn check_ahead<G: Shown>(rt: &impl Abort, rows: &[Ahead]) {
+    for (text, moves, found) in rows {
+        let solved = match found {
+            Some((value, remoteness)) => Some(Solved {
+                value: *value,
+                remoteness: *remoteness,
+            }),
+            None => None,
+        };
+        expect_eq(rt, ahead::<G>(text, *moves), solved);
+    }
+}
+
+// What looking this many moves ahead finds for the board with this text.
+fn ahead<G: Shown>(text: &[u8], moves: u32) -> Option<Solved> {
     match G::read(text) {
         Some(p) => looked_ahead::<G>(p, moves),
         None => None,
+    }
+}
+
+/// The indexes of tier 0 with these moves, and the way in which each ends the game.
+pub fn check_indexes<G: Game>(rt: &impl Abort, rows: &[(u64, &[u32], Option<End>)]) {
+    for (index, moves, end) in rows {
+        let p = at(*index);
+        expect(rt, has_moves::<G>(p, moves) && ends::<G>(p, *end));
+        expect(rt, is_canonical::<G>(p));
+    }
+}
+
+/// The child tiers of these tiers.
+pub fn check_child_tiers<G: Game>(rt: &impl Abort, rows: &[(u64, &[u64])]) {
+    for (tier, tiers) in rows {
+        expect(rt, has_child_tiers::<G>(*tier, tiers));
+    }
+}
+
+/// The tiers, indexes, and the canonical parents of each in one more tier.
+pub fn check_parents<G: Game>(rt: &impl Abort, rows: &[(u64, u64, u64, &[u64])]) {
+    for (tier, index, above, parents) in rows {
+        let c = Position {
+            tier: *tier,
+            index: *index,
+        };
+        expect(rt, has_parents::<G>(c, *above, parents));
+    }
+}
+
+/// These are texts of moves of the position with this text, with their numbers.
+pub fn check_moves<G: Shown>(rt: &impl Abort, position: &[u8], rows: &[(&[u8], u32)]) {
+    for (text, number) in rows {
+        expect_eq(rt, move_from::<G>(position, text), Some(*number));
     }
 }
 
@@ -123,11 +176,6 @@ pub fn move_at<G: Shown>(p: Position, text: &[u8]) -> Option<u32> {
         }
         None => None,
     }
-}
-
-/// The same at the start.
-pub fn move_at_start<G: Shown>(text: &[u8]) -> Option<u32> {
-    move_at::<G>(G::initial(), text)
 }
 
 /// The same at the position with that text.

@@ -25,32 +25,45 @@ const DIAGONAL: u32 = 0b1000_0100_0010_0001;
 
 const OTHER_DIAGONAL: u32 = 0b0001_0010_0100_1000;
 
+const BINOMIALS: &[(u32, u32, u64)] = &[
+    (16, 8, 12_870),
+    (25, 12, 5_200_300),
+    (32, 16, 601_080_390),
+    (0, 0, 1),
+    (3, 4, 0),
+    (32, 1_000_000, 0),
+];
+
 #[test]
 fn binomials(rt: HostRuntime) {
-    expect_eq(&rt, binomial(16, 8), 12_870);
-    expect_eq(&rt, binomial(25, 12), 5_200_300);
-    expect_eq(&rt, binomial(32, 16), 601_080_390);
-    expect_eq(&rt, binomial(0, 0), 1);
-    expect_eq(&rt, binomial(3, 4), 0);
-    expect_eq(&rt, binomial(32, 1_000_000), 0);
+    for (n, k, number) in BINOMIALS {
+        expect(&rt, *n <= 32);
+        expect_eq(&rt, binomial(*n, *k), *number);
+    }
 }
+
+const RANKS: &[(u32, u64)] = &[
+    (0, 0),
+    (0b1011, 1),
+    (DIAGONAL, 1495),
+    (0b10_1001_0100, 169),
+    (u32::MAX, 0),
+];
 
 #[test]
 fn ranks_of_subsets(rt: HostRuntime) {
-    expect_eq(&rt, rank_subset(0), 0);
-    expect_eq(&rt, rank_subset(0b1011), 1);
-    expect_eq(&rt, rank_subset(DIAGONAL), 1495);
-    expect_eq(&rt, rank_subset(0b10_1001_0100), 169);
-    expect_eq(&rt, rank_subset(u32::MAX), 0);
+    for (subset, rank) in RANKS {
+        expect_eq(&rt, rank_subset(*subset), *rank);
+    }
 }
 
 #[test]
 fn subsets_of_ranks(rt: HostRuntime) {
-    assert!(rt; 1495 < binomial(16, 4));
+    expect(&rt, 1495 < binomial(16, 4));
     expect_eq(&rt, unrank_subset(16, 4, 1495), DIAGONAL);
-    assert!(rt; 1 < binomial(4, 3));
+    expect(&rt, 1 < binomial(4, 3));
     expect_eq(&rt, unrank_subset(4, 3, 1), 0b1011);
-    assert!(rt; 0 < binomial(32, 32));
+    expect(&rt, 0 < binomial(32, 32));
     expect_eq(&rt, unrank_subset(32, 32, 0), u32::MAX);
 }
 

@@ -1,7 +1,7 @@
 //! Chain's moves, ends, parents and texts.
 use crate::asking::{
-    at, ends, has_child_tiers, has_children, has_moves, has_parents, has_size_and_rank,
-    is_canonical, leads, move_at, reads_no_move, reads_none, shows,
+    at, check_indexes, check_parents, has_child_tiers, has_children, has_size_and_rank, leads,
+    move_at, reads_no_move, reads_none, shows,
 };
 use crate::expect::{expect, expect_eq};
 use gm_game::game::{Game, laws};
@@ -13,14 +13,9 @@ type Ten = Chain<10>;
 
 #[test]
 fn chain_goes_down_by_one(rt: HostRuntime) {
-    let p = at(10);
-    expect_eq(&rt, Ten::initial(), p);
-    expect(&rt, has_moves::<Ten>(p, &[1]));
-    expect(&rt, ends::<Ten>(p, None));
-    expect(&rt, is_canonical::<Ten>(p));
-    expect(&rt, has_children::<Ten>(p, &[at(9)]));
-    expect(&rt, has_moves::<Ten>(at(0), &[]));
-    expect(&rt, ends::<Ten>(at(0), Some(End::Lose)));
+    expect_eq(&rt, Ten::initial(), at(10));
+    check_indexes::<Ten>(&rt, &[(10, &[1], None), (0, &[], Some(End::Lose))]);
+    expect(&rt, has_children::<Ten>(at(10), &[at(9)]));
 }
 
 #[test]
@@ -35,9 +30,7 @@ fn chain_has_one_tier(rt: HostRuntime) {
 
 #[test]
 fn parents_in_chain(rt: HostRuntime) {
-    expect(&rt, has_parents::<Ten>(at(0), 0, &[1]));
-    expect(&rt, has_parents::<Ten>(at(0), 1, &[]));
-    expect(&rt, has_parents::<Ten>(at(10), 0, &[]));
+    check_parents::<Ten>(&rt, &[(0, 0, 0, &[1]), (0, 0, 1, &[]), (0, 10, 0, &[])]);
 }
 
 #[test]

@@ -1,7 +1,7 @@
 //! Countdown's values, moves and texts.
 use crate::asking::{
-    at, has_children, has_moves, is_canonical, looked_ahead, move_at, reads_no_move, reads_none,
-    shows,
+    at, check_moves, has_children, has_moves, is_canonical, looked_ahead, reads_no_move,
+    reads_none, shows,
 };
 use crate::expect::{expect, expect_eq};
 use gm_game::children::{child_place, is_inner};
@@ -18,27 +18,25 @@ fn solved(value: Value, remoteness: u32) -> Solved {
     Solved { value, remoteness }
 }
 
+const TABLE: &[(Value, u32)] = &[
+    (Value::Lose, 0),
+    (Value::Win, 1),
+    (Value::Win, 1),
+    (Value::Lose, 2),
+    (Value::Win, 3),
+    (Value::Win, 3),
+    (Value::Lose, 4),
+    (Value::Win, 5),
+    (Value::Win, 5),
+    (Value::Lose, 6),
+    (Value::Win, 7),
+];
+
 #[test]
 fn countdown_table(rt: HostRuntime) {
-    let table = [
-        (Value::Lose, 0),
-        (Value::Win, 1),
-        (Value::Win, 1),
-        (Value::Lose, 2),
-        (Value::Win, 3),
-        (Value::Win, 3),
-        (Value::Lose, 4),
-        (Value::Win, 5),
-        (Value::Win, 5),
-        (Value::Lose, 6),
-        (Value::Win, 7),
-    ];
-    for (index, (value, remoteness)) in table.iter().enumerate() {
-        expect_eq(
-            &rt,
-            looked_ahead::<Ten>(at(index as u64), 16),
-            Some(solved(*value, *remoteness)),
-        );
+    for (index, (value, remoteness)) in TABLE.iter().enumerate() {
+        let found = looked_ahead::<Ten>(at(index as u64), 16);
+        expect_eq(&rt, found, Some(solved(*value, *remoteness)));
     }
 }
 
@@ -71,7 +69,7 @@ fn within_on_wheel(rt: HostRuntime) {
 fn children_of_countdown(rt: HostRuntime) {
     let p = at(10);
     expect(&rt, has_children::<Ten>(p, &[at(8), at(9)]));
-    assert!(rt; Ten::is_legal(p));
+    expect(&rt, Ten::is_legal(p));
     expect_eq(&rt, child_place::<Ten>(p, at(9)), Some(1));
     expect_eq(&rt, child_place::<Ten>(p, at(7)), None);
     expect(&rt, is_inner::<Ten>(p));
@@ -79,60 +77,66 @@ fn children_of_countdown(rt: HostRuntime) {
     expect(&rt, !is_inner::<Ten>(at(11)));
 }
 
+const TEXTS: &[(Value, u32, &[u8])] = &[
+    (Value::Win, 7, b"win in 7"),
+    (Value::Lose, 4, b"lose in 4"),
+    (Value::Tie, 9, b"tie in 9"),
+    (Value::Draw, 0, b"draw"),
+];
+
 #[test]
 fn value_texts(rt: HostRuntime) {
-    let texts: [(Solved, &[u8]); 4] = [
-        (solved(Value::Win, 7), b"win in 7"),
-        (solved(Value::Lose, 4), b"lose in 4"),
-        (solved(Value::Tie, 9), b"tie in 9"),
-        (solved(Value::Draw, 0), b"draw"),
-    ];
-    for (value, text) in texts {
-        expect(&rt, value_text(value).as_slice() == text);
+    for (value, remoteness, text) in TEXTS {
+        let found = value_text(solved(*value, *remoteness));
+        expect(&rt, found.as_slice() == *text);
     }
 }
 
+const NO_TEXTS: &[&[u8]] = &[
+    b"",
+    b" ",
+    b" 1",
+    b"1 ",
+    b"+1",
+    b"-1",
+    b"01",
+    b"00",
+    b"11",
+    b"1\n",
+    b"18446744073709551617",
+    b"\xff\x80",
+    &[b'1'; 64],
+    &[b'1'; 65],
+    &[b'0'; 1000],
+];
+
 #[test]
 fn countdown_reads_its_texts_and_no_others(rt: HostRuntime) {
-    expect(
-        &rt,
-        shows::<Ten>(at(0), b"0") && shows::<Ten>(at(10), b"10"),
-    );
-    let others: [&[u8]; 12] = [
-        b"",
-        b" ",
-        b" 1",
-        b"1 ",
-        b"+1",
-        b"-1",
-        b"01",
-        b"00",
-        b"11",
-        b"1\n",
-        b"18446744073709551617",
-        b"\xff\x80",
-    ];
-    expect(&rt, reads_none::<Ten>(&others));
-    expect(
-        &rt,
-        reads_none::<Ten>(&[&[b'1'; 64], &[b'1'; 65], &[b'0'; 1000]]),
-    );
+    expect(&rt, shows::<Ten>(at(0), b"0"));
+    expect(&rt, shows::<Ten>(at(10), b"10"));
+    expect(&rt, reads_none::<Ten>(NO_TEXTS));
 }
+
+const NO_MOVES: &[&[u8]] = &[
+    b"",
+    b"0",
+    b"3",
+    b"+1",
+    b"-1",
+    b"01",
+    b" 1",
+    b"1 ",
+    b"\xff",
+    &[b'1'; 64],
+    &[b'2'; 65],
+];
 
 #[test]
 fn countdown_reads_its_moves_and_no_others(rt: HostRuntime) {
-    let p = at(10);
-    expect(
-        &rt,
-        move_at::<Ten>(p, b"1") == Some(1) && move_at::<Ten>(p, b"2") == Some(2),
-    );
-    let others: [&[u8]; 9] = [b"", b"0", b"3", b"+1", b"-1", b"01", b" 1", b"1 ", b"\xff"];
-    expect(&rt, reads_no_move::<Ten>(p, &others));
-    expect(&rt, reads_no_move::<Ten>(p, &[&[b'1'; 64], &[b'2'; 65]]));
-    expect(
-        &rt,
-        move_at::<Ten>(at(1), b"1") == Some(1) && reads_no_move::<Ten>(at(1), &[b"2"]),
-    );
+    check_moves::<Ten>(&rt, b"10", &[(b"1", 1), (b"2", 2)]);
+    expect(&rt, reads_no_move::<Ten>(at(10), NO_MOVES));
+    check_moves::<Ten>(&rt, b"1", &[(b"1", 1)]);
+    expect(&rt, reads_no_move::<Ten>(at(1), &[b"2"]));
 }
 
 #[test]

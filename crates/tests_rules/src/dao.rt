@@ -1,20 +1,26 @@
-use crate::asking::{at_start, counts, move_from, starts};
+use crate::asking::{at_start, check_moves, counts, move_from, reads_none, starts};
 use crate::expect::{expect, expect_eq};
 use gm_dao::dao::Dao;
 use gm_game::game::Game;
 use gm_game::position::{End, Position};
 use gm_game::shown::Shown;
+use std::process::Abort;
 
-// The end at the position with this text.
-fn end_at<G: Shown>(text: &[u8]) -> Option<End> {
-    match G::read(text) {
-        Some(p) => G::primitive(p),
-        None => None,
+// The ends at the positions with these texts.
+fn check_ends<G: Shown>(rt: &impl Abort, rows: &[(&[u8], Option<End>)]) {
+    for (text, end) in rows {
+        let found = match G::read(text) {
+            Some(p) => G::primitive(p),
+            None => Some(End::Tie),
+        };
+        expect_eq(rt, found, *end);
     }
 }
 
 // a1-a3 a1-c1 b2-a2 b2-a3 b2-b1 b2-c1 c3-b4 c3-c4 c3-d2 c3-d3 d4-b4 d4-d2
 const MOVES_OF_THE_START: [u32; 12] = [2, 8, 81, 82, 84, 88, 167, 171, 173, 174, 247, 253];
+
+const START: &[u8] = b"x..o.xo..ox.o..x";
 
 #[test]
 fn dao_start(rt: HostRuntime) {
@@ -23,24 +29,12 @@ fn dao_start(rt: HostRuntime) {
         index: 740_194,
     };
     expect_eq(&rt, Dao::initial(), start);
-    expect(&rt, starts::<Dao>(b"x..o.xo..ox.o..x"));
-    expect_eq(&rt, Dao::read(b"x..o.xo..ox.o..x"), Some(start));
+    expect(&rt, starts::<Dao>(START));
+    expect_eq(&rt, Dao::read(START), Some(start));
     expect_eq(&rt, at_start::<Dao>(&MOVES_OF_THE_START), (true, 3));
-    expect_eq(
-        &rt,
-        move_from::<Dao>(b"x..o.xo..ox.o..x", b"a1-a3"),
-        Some(2),
-    );
-    expect_eq(
-        &rt,
-        move_from::<Dao>(b"x..o.xo..ox.o..x", b"d4-d2"),
-        Some(253),
-    );
+    check_moves::<Dao>(&rt, START, &[(b"a1-a3", 2), (b"d4-d2", 253)]);
     // A slide goes as far as it can.
-    expect(
-        &rt,
-        move_from::<Dao>(b"x..o.xo..ox.o..x", b"a1-a2") != Some(1),
-    );
+    expect(&rt, move_from::<Dao>(START, b"a1-a2") != Some(1));
 }
 
 #[test]
@@ -50,23 +44,31 @@ fn dao_counts(rt: HostRuntime) {
     expect_eq(&rt, counts::<Dao>(1), (0, 0, 0));
 }
 
+const ENDS: &[(&[u8], Option<End>)] = &[
+    // A row, a column, a square and the corners of the opponent's.
+    (b"oooo.x.x.x.x....", Some(End::Lose)),
+    (b"o..xo.x.o..xo..x", Some(End::Lose)),
+    (b".oo..oo.x.xx...x", Some(End::Lose)),
+    (b"o..o.xx..x..ox.o", Some(End::Lose)),
+    // A piece of the mover's in a corner behind three of the opponent's.
+    (b"xo..oo...x.x..xo", Some(End::Win)),
+    (START, None),
+];
+
 #[test]
 fn ends(rt: HostRuntime) {
-    // A row, a column, a square and the corners of the opponent's.
-    expect_eq(&rt, end_at::<Dao>(b"oooo.x.x.x.x...."), Some(End::Lose));
-    expect_eq(&rt, end_at::<Dao>(b"o..xo.x.o..xo..x"), Some(End::Lose));
-    expect_eq(&rt, end_at::<Dao>(b".oo..oo.x.xx...x"), Some(End::Lose));
-    expect_eq(&rt, end_at::<Dao>(b"o..o.xx..x..ox.o"), Some(End::Lose));
-    // A piece of the mover's in a corner behind three of the opponent's.
-    expect_eq(&rt, end_at::<Dao>(b"xo..oo...x.x..xo"), Some(End::Win));
-    expect_eq(&rt, end_at::<Dao>(b"x..o.xo..ox.o..x"), None);
+    check_ends::<Dao>(&rt, ENDS);
 }
+
+const NO_BOARDS: &[&[u8]] = &[
+    b"x..o.xo..ox.o...",
+    b"x..o.xo..ox.o..x.",
+    b"x..o.xo..ox.o..X",
+    // A formation of the mover's.
+    b"xxxxo..o..o....o",
+];
 
 #[test]
 fn texts_of_no_board(rt: HostRuntime) {
-    expect_eq(&rt, Dao::read(b"x..o.xo..ox.o..."), None);
-    expect_eq(&rt, Dao::read(b"x..o.xo..ox.o..x."), None);
-    expect_eq(&rt, Dao::read(b"x..o.xo..ox.o..X"), None);
-    // A formation of the mover's.
-    expect_eq(&rt, Dao::read(b"xxxxo..o..o....o"), None);
+    expect(&rt, reads_none::<Dao>(NO_BOARDS));
 }

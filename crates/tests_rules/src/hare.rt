@@ -1,4 +1,4 @@
-use crate::asking::{at_start, move_at_start, starts};
+use crate::asking::{at_start, check_moves, move_from, reads_none, starts};
 use crate::expect::{expect, expect_eq};
 use gm_game::children::canonical_children;
 use gm_game::game::Game;
@@ -26,21 +26,17 @@ fn hare_start(rt: HostRuntime) {
     expect_eq(&rt, children_in::<Hare>(3), 3);
 }
 
+const START: &[u8] = b"dd.d......h d";
+
 #[test]
 fn hare_texts(rt: HostRuntime) {
-    expect(&rt, starts::<Hare>(b"dd.d......h d"));
-    expect_eq(
-        &rt,
-        Hare::read(b"dd.d......h d"),
-        Some(Position { tier: 2, index: 21 }),
-    );
-    expect_eq(&rt, move_at_start::<Hare>(b"L-M1"), Some(2));
-    expect_eq(&rt, move_at_start::<Hare>(b"T1-M2"), Some(21));
-    expect_eq(&rt, move_at_start::<Hare>(b"B1-B2"), Some(54));
+    expect(&rt, starts::<Hare>(START));
+    let start = Position { tier: 2, index: 21 };
+    expect_eq(&rt, Hare::read(START), Some(start));
+    check_moves::<Hare>(&rt, START, &[(b"L-M1", 2), (b"T1-M2", 21), (b"B1-B2", 54)]);
     // The hare does not move yet, and no hound goes to a point that another holds.
-    expect(&rt, move_at_start::<Hare>(b"R-M3") != Some(168));
-    expect(&rt, move_at_start::<Hare>(b"L-T1") != Some(1));
-    expect_eq(&rt, Hare::read(b"dd.d......h  "), None);
-    expect_eq(&rt, Hare::read(b"dddd......h d"), None);
-    expect_eq(&rt, Hare::read(b"dd.d...h..h d"), None);
+    expect(&rt, move_from::<Hare>(START, b"R-M3") != Some(168));
+    expect(&rt, move_from::<Hare>(START, b"L-T1") != Some(1));
+    let others: &[&[u8]] = &[b"dd.d......h  ", b"dddd......h d", b"dd.d...h..h d"];
+    expect(&rt, reads_none::<Hare>(others));
 }

@@ -1,12 +1,16 @@
-use crate::asking::{ahead, counts, move_from, starts};
+use crate::asking::{check_ahead, counts, move_from, reads_none, starts};
 use crate::expect::{expect, expect_eq};
-use gm_game::position::{Solved, Value};
+use gm_game::game::Game;
+use gm_game::position::Value;
 use gm_game::shown::Shown;
 use gm_morris::games::{Achi, ThreeMens, TicTacToe};
+use std::process::Abort;
 
-// Whether this is the text of a position.
-fn reads<G: Shown>(text: &[u8]) -> bool {
-    G::read(text).is_some()
+// These are texts of positions.
+fn check_read<G: Shown>(rt: &impl Abort, texts: &[&[u8]]) {
+    for text in texts {
+        expect(rt, G::read(text).is_some());
+    }
 }
 
 // The size of each tier, and how many indexes are legal and canonical, in Tic-tac-toe and to tier 8 in Achi.
@@ -23,31 +27,30 @@ const COUNTS: [(u64, u64, u64); 10] = [
     (126, 78, 15),
 ];
 
+// The first tiers have these numbers.
+fn check_counts<G: Game>(rt: &impl Abort, tiers: usize) {
+    for (tier, numbers) in COUNTS.iter().enumerate() {
+        if tier < tiers {
+            expect_eq(rt, counts::<G>(tier as u64), *numbers);
+        }
+    }
+}
+
 #[test]
 fn nine_point_counts(rt: HostRuntime) {
-    for (tier, numbers) in COUNTS.iter().enumerate() {
-        expect_eq(&rt, counts::<TicTacToe>(tier as u64), *numbers);
-    }
+    check_counts::<TicTacToe>(&rt, 10);
     expect_eq(&rt, counts::<TicTacToe>(10), (0, 0, 0));
 }
 
 #[test]
 fn achi_counts(rt: HostRuntime) {
-    for (tier, numbers) in COUNTS.iter().enumerate() {
-        if tier < 9 {
-            expect_eq(&rt, counts::<Achi>(tier as u64), *numbers);
-        }
-    }
+    check_counts::<Achi>(&rt, 9);
     expect_eq(&rt, counts::<Achi>(9), (0, 0, 0));
 }
 
 #[test]
 fn threemens_last_tier(rt: HostRuntime) {
-    for (tier, numbers) in COUNTS.iter().enumerate() {
-        if tier < 6 {
-            expect_eq(&rt, counts::<ThreeMens>(tier as u64), *numbers);
-        }
-    }
+    check_counts::<ThreeMens>(&rt, 6);
     let (size, legal, _canonical) = counts::<ThreeMens>(6);
     expect_eq(&rt, (size, legal), (1680, 1560));
     expect_eq(&rt, counts::<ThreeMens>(7), (0, 0, 0));
@@ -55,11 +58,7 @@ fn threemens_last_tier(rt: HostRuntime) {
 
 #[test]
 fn within_on_tictactoe(rt: HostRuntime) {
-    let tie = Some(Solved {
-        value: Value::Tie,
-        remoteness: 9,
-    });
-    expect_eq(&rt, ahead::<TicTacToe>(b".........", 9), tie);
+    check_ahead::<TicTacToe>(&rt, &[(b".........", 9, Some((Value::Tie, 9)))]);
 }
 
 #[test]
@@ -82,15 +81,12 @@ fn texts(rt: HostRuntime) {
 #[test]
 fn texts_that_are_not_read(rt: HostRuntime) {
     // Three pieces against none fit no tier.
-    expect(&rt, !reads::<TicTacToe>(b"xxx......"));
-    expect(&rt, !reads::<ThreeMens>(b"xxx......"));
-    expect(&rt, !reads::<Achi>(b"xxx......"));
+    expect(&rt, reads_none::<TicTacToe>(&[b"xxx......"]));
     // Seven pieces are too many in Three Men's Morris alone.
-    expect(&rt, reads::<Achi>(b"xo.oxoox."));
-    expect(&rt, !reads::<ThreeMens>(b"xo.oxoox."));
+    expect(&rt, reads_none::<ThreeMens>(&[b"xxx......", b"xo.oxoox."]));
+    check_read::<Achi>(&rt, &[b"xo.oxoox."]);
     // A diagonal is a line in Achi and none in Three Men's Morris.
-    expect(&rt, !reads::<Achi>(b"xo.ox..ox"));
-    expect(&rt, reads::<ThreeMens>(b"xo.ox..ox"));
-    expect(&rt, !reads::<Achi>(b".........."));
-    expect(&rt, !reads::<Achi>(b"........z"));
+    check_read::<ThreeMens>(&rt, &[b"xo.ox..ox"]);
+    let others: &[&[u8]] = &[b"xxx......", b"xo.ox..ox", b"..........", b"........z"];
+    expect(&rt, reads_none::<Achi>(others));
 }

@@ -1,7 +1,7 @@
 //! Stairs' moves, tiers, parents and texts.
 use crate::asking::{
-    ends, has_child_tiers, has_children, has_moves, has_parents, has_size_and_rank, is_canonical,
-    leads, move_at, reads_no_move, reads_none, shows,
+    check_child_tiers, check_parents, ends, has_children, has_moves, has_size_and_rank,
+    is_canonical, leads, move_at, reads_no_move, reads_none, shows,
 };
 use crate::expect::{expect, expect_eq};
 use gm_game::game::{Game, laws};
@@ -29,26 +29,27 @@ fn stairs_go_down_by_one(rt: HostRuntime) {
 
 #[test]
 fn tiers_of_stairs(rt: HostRuntime) {
-    expect(&rt, has_size_and_rank::<Three>(0, 1, 0));
-    expect(&rt, has_size_and_rank::<Three>(1, 1, 1));
-    expect(&rt, has_size_and_rank::<Three>(2, 1, 2));
-    expect(&rt, has_size_and_rank::<Three>(3, 1, 3));
+    for tier in 0..4 {
+        expect(&rt, has_size_and_rank::<Three>(tier, 1, tier));
+    }
     expect_eq(&rt, Three::tier_size(4), 0);
     expect(&rt, !Three::is_legal(on(4)));
     expect(&rt, !Three::is_legal(Position { tier: 3, index: 1 }));
-    expect(&rt, has_child_tiers::<Three>(0, &[]));
-    expect(&rt, has_child_tiers::<Three>(1, &[0]));
-    expect(&rt, has_child_tiers::<Three>(3, &[2]));
-    expect(&rt, has_child_tiers::<Three>(4, &[]));
-    expect(&rt, has_child_tiers::<Three>(u64::MAX, &[]));
+    let below: &[(u64, &[u64])] = &[(0, &[]), (1, &[0]), (3, &[2]), (4, &[]), (u64::MAX, &[])];
+    check_child_tiers::<Three>(&rt, below);
 }
 
 #[test]
 fn parents_in_stairs(rt: HostRuntime) {
-    expect(&rt, has_parents::<Three>(on(0), 1, &[0]));
-    expect(&rt, has_parents::<Three>(on(0), 0, &[]));
-    expect(&rt, has_parents::<Three>(on(0), 2, &[]));
-    expect(&rt, has_parents::<Three>(on(3), 4, &[]));
+    check_parents::<Three>(
+        &rt,
+        &[
+            (0, 0, 1, &[0]),
+            (0, 0, 0, &[]),
+            (0, 0, 2, &[]),
+            (3, 0, 4, &[]),
+        ],
+    );
 }
 
 #[test]

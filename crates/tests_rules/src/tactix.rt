@@ -1,13 +1,10 @@
-use crate::asking::{ahead, move_at_start, starts};
+use crate::asking::{check_ahead, move_from, reads_none, starts};
 use crate::expect::{expect, expect_eq};
 use gm_game::children::canonical_children;
-use gm_game::position::{Solved, Value};
+use gm_game::position::Value;
 use gm_game::shown::Shown;
 use gm_tactix::tactix::TacTix;
-
-fn solved(value: Value, remoteness: u32) -> Option<Solved> {
-    Some(Solved { value, remoteness })
-}
+use std::process::Abort;
 
 // How many moves the start has, and how many canonical children.
 fn at_start<G: Shown>() -> (usize, usize) {
@@ -17,25 +14,14 @@ fn at_start<G: Shown>() -> (usize, usize) {
 
 #[test]
 fn tactix_of_two(rt: HostRuntime) {
-    expect_eq(
+    check_ahead::<TacTix<2, false>>(
         &rt,
-        ahead::<TacTix<2, false>>(b"xxxx", 4),
-        solved(Value::Lose, 4),
-    );
-    expect_eq(
-        &rt,
-        ahead::<TacTix<2, false>>(b"xxx.", 4),
-        solved(Value::Win, 3),
-    );
-    expect_eq(
-        &rt,
-        ahead::<TacTix<2, false>>(b"x..x", 4),
-        solved(Value::Lose, 2),
-    );
-    expect_eq(
-        &rt,
-        ahead::<TacTix<2, false>>(b"xx..", 4),
-        solved(Value::Win, 1),
+        &[
+            (b"xxxx", 4, Some((Value::Lose, 4))),
+            (b"xxx.", 4, Some((Value::Win, 3))),
+            (b"x..x", 4, Some((Value::Lose, 2))),
+            (b"xx..", 4, Some((Value::Win, 1))),
+        ],
     );
     expect_eq(&rt, at_start::<TacTix<2, false>>(), (8, 2));
     expect(&rt, starts::<TacTix<2, false>>(b"xxxx"));
@@ -43,15 +29,12 @@ fn tactix_of_two(rt: HostRuntime) {
 
 #[test]
 fn tactix_of_two_misere(rt: HostRuntime) {
-    expect_eq(
+    check_ahead::<TacTix<2, true>>(
         &rt,
-        ahead::<TacTix<2, true>>(b"xxxx", 4),
-        solved(Value::Lose, 3),
-    );
-    expect_eq(
-        &rt,
-        ahead::<TacTix<2, true>>(b"....", 4),
-        solved(Value::Win, 0),
+        &[
+            (b"xxxx", 4, Some((Value::Lose, 3))),
+            (b"....", 4, Some((Value::Win, 0))),
+        ],
     );
 }
 
@@ -65,14 +48,18 @@ fn tactix_starts(rt: HostRuntime) {
     expect_eq(&rt, at_start::<TacTix<6, true>>(), (1, 1));
 }
 
+// Whether each of these is the text of a move of the full square of side 3, or is not.
+fn check_texts(rt: &impl Abort, texts: &[&[u8]], are_moves: bool) {
+    for text in texts {
+        let found = move_from::<TacTix<3, false>>(b"xxxxxxxxx", text);
+        expect_eq(rt, found.is_some(), are_moves);
+    }
+}
+
 #[test]
 fn texts(rt: HostRuntime) {
-    expect(&rt, move_at_start::<TacTix<3, false>>(b"a1").is_some());
-    expect(&rt, move_at_start::<TacTix<3, false>>(b"a1-a3").is_some());
-    expect(&rt, move_at_start::<TacTix<3, false>>(b"a1-c1").is_some());
+    check_texts(&rt, &[b"a1", b"a1-a3", b"a1-c1"], true);
     // One counter is no range, and a range goes up.
-    expect(&rt, move_at_start::<TacTix<3, false>>(b"a1-a1").is_none());
-    expect(&rt, move_at_start::<TacTix<3, false>>(b"a3-a1").is_none());
-    expect_eq(&rt, ahead::<TacTix<2, false>>(b"xxxxx", 4), None);
-    expect_eq(&rt, ahead::<TacTix<2, false>>(b"xxox", 4), None);
+    check_texts(&rt, &[b"a1-a1", b"a3-a1"], false);
+    expect(&rt, reads_none::<TacTix<2, false>>(&[b"xxxxx", b"xxox"]));
 }

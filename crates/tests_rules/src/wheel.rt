@@ -1,7 +1,7 @@
 //! Wheel's moves, ends, parents and texts.
 use crate::asking::{
-    at, ends, has_child_tiers, has_children, has_moves, has_parents, has_size_and_rank,
-    is_canonical, move_at, reads_no_move, reads_none, shows,
+    at, check_indexes, check_moves, check_parents, ends, has_child_tiers, has_children,
+    has_parents, has_size_and_rank, reads_no_move, reads_none, shows,
 };
 use crate::expect::{expect, expect_eq};
 use gm_game::game::{Game, laws};
@@ -11,25 +11,21 @@ use gm_toys::wheel::{Wheel, wheel_is};
 
 #[test]
 fn wheel_goes_round(rt: HostRuntime) {
-    let table: [&[u32]; 10] = [
-        &[],
-        &[0, 2],
-        &[1, 3],
-        &[4],
-        &[3],
-        &[],
-        &[0, 5],
-        &[6],
-        &[3, 6],
-        &[1, 7],
-    ];
-    for (index, targets) in table.iter().enumerate() {
-        let p = at(index as u64);
-        expect(
-            &rt,
-            has_moves::<Wheel>(p, targets) && is_canonical::<Wheel>(p),
-        );
-    }
+    check_indexes::<Wheel>(
+        &rt,
+        &[
+            (0, &[], Some(End::Tie)),
+            (1, &[0, 2], None),
+            (2, &[1, 3], None),
+            (3, &[4], None),
+            (4, &[3], None),
+            (5, &[], Some(End::Lose)),
+            (6, &[0, 5], None),
+            (7, &[6], None),
+            (8, &[3, 6], None),
+            (9, &[1, 7], None),
+        ],
+    );
     expect_eq(&rt, Wheel::initial(), at(9));
     expect(&rt, has_children::<Wheel>(at(9), &[at(1), at(7)]));
 }
@@ -57,24 +53,23 @@ fn wheel_has_one_tier(rt: HostRuntime) {
 
 #[test]
 fn parents_in_wheel(rt: HostRuntime) {
-    let table: [&[u64]; 10] = [
-        &[1, 6],
-        &[2, 9],
-        &[1],
-        &[2, 4, 8],
-        &[3],
-        &[6],
-        &[7, 8],
-        &[9],
-        &[],
-        &[],
-    ];
-    for (index, sources) in table.iter().enumerate() {
-        let c = at(index as u64);
-        expect(
-            &rt,
-            has_parents::<Wheel>(c, 0, sources) && has_parents::<Wheel>(c, 1, &[]),
-        );
+    check_parents::<Wheel>(
+        &rt,
+        &[
+            (0, 0, 0, &[1, 6]),
+            (0, 1, 0, &[2, 9]),
+            (0, 2, 0, &[1]),
+            (0, 3, 0, &[2, 4, 8]),
+            (0, 4, 0, &[3]),
+            (0, 5, 0, &[6]),
+            (0, 6, 0, &[7, 8]),
+            (0, 7, 0, &[9]),
+            (0, 8, 0, &[]),
+            (0, 9, 0, &[]),
+        ],
+    );
+    for index in 0..10 {
+        expect(&rt, has_parents::<Wheel>(at(index), 1, &[]));
     }
 }
 
@@ -89,10 +84,7 @@ fn texts_of_wheel(rt: HostRuntime) {
         &rt,
         reads_none::<Wheel>(&[b"", b"10", b"01", b"+1", b" 1", b"1\n", b"\xff"]),
     );
-    expect(
-        &rt,
-        move_at::<Wheel>(p, b"3") == Some(3) && move_at::<Wheel>(p, b"6") == Some(6),
-    );
+    check_moves::<Wheel>(&rt, b"8", &[(b"3", 3), (b"6", 6)]);
     expect(
         &rt,
         reads_no_move::<Wheel>(p, &[b"", b"0", b"8", b"03", b"10", b"4294967299"]),
