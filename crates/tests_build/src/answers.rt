@@ -9,47 +9,51 @@ use gm_game::position::{Position, Solved, Value};
 use gm_table::tables::Tables;
 use gm_toys::countdown::Countdown;
 use gm_toys::wheel::Wheel;
+use std::fs::Files;
 use std::process::Abort;
-use std::test::Fail;
+use std::sync::Wait;
+use std::thread::Threads;
 
 fn at(index: u64) -> Position {
     Position { tier: 0, index }
 }
 
-// The answer at an index, and its best move.
-fn check_answer<G: Game>(
-    rt: &impl Abort,
-    tables: &Tables<G>,
-    index: u64,
-    known: Solved,
-    best: Option<u32>,
+// An index, its value and remoteness, and its best move.
+type Answered = (u64, Value, u32, Option<u32>);
+
+// The answers at these indexes of a game, and their best moves.
+fn check_answers<G: Game + Send + Sync, R: Threads + Wait + Files + Sync + AllocGlobal + Abort>(
+    rt: &R,
+    answers: &[Answered],
 ) {
-    expect_eq(rt, answer(tables, at(index)), Ok(known));
-    expect_eq(rt, best_move(tables, at(index)), Ok(best));
+    let game: Built<G> = built_alone(rt, rt.alloc());
+    for (index, value, remoteness, best) in answers {
+        let known = Solved {
+            value: *value,
+            remoteness: *remoteness,
+        };
+        expect_eq(rt, answer(&game.tables, at(*index)), Ok(known));
+        expect_eq(rt, best_move(&game.tables, at(*index)), Ok(*best));
+    }
 }
 
-fn worth(value: Value, remoteness: u32) -> Solved {
-    Solved { value, remoteness }
-}
+const COUNTDOWN: &[Answered] = &[
+    (10, Value::Win, 7, Some(1)),
+    (8, Value::Win, 5, Some(2)),
+    (3, Value::Lose, 2, Some(1)),
+    (0, Value::Lose, 0, None),
+];
 
 #[test]
-fn answers_on_countdown(rt: HostRuntime) -> Result<(), Fail> {
-    let game: Built<Countdown<10>> = built_alone(&rt, rt.alloc())?;
-    check_answer(&rt, &game.tables, 10, worth(Value::Win, 7), Some(1));
-    check_answer(&rt, &game.tables, 8, worth(Value::Win, 5), Some(2));
-    check_answer(&rt, &game.tables, 3, worth(Value::Lose, 2), Some(1));
-    check_answer(&rt, &game.tables, 0, worth(Value::Lose, 0), None);
-    drop(game);
-    Ok(())
+fn answers_on_countdown(rt: HostRuntime) {
+    check_answers::<Countdown<10>, _>(&rt, COUNTDOWN);
 }
 
+const WHEEL: &[Answered] = &[(8, Value::Draw, 0, Some(3)), (2, Value::Tie, 2, Some(1))];
+
 #[test]
-fn answers_on_wheel(rt: HostRuntime) -> Result<(), Fail> {
-    let game: Built<Wheel> = built_alone(&rt, rt.alloc())?;
-    check_answer(&rt, &game.tables, 8, worth(Value::Draw, 0), Some(3));
-    check_answer(&rt, &game.tables, 2, worth(Value::Tie, 2), Some(1));
-    drop(game);
-    Ok(())
+fn answers_on_wheel(rt: HostRuntime) {
+    check_answers::<Wheel, _>(&rt, WHEEL);
 }
 
 #[test]

@@ -1,6 +1,8 @@
 //! The files of Countdown from 10: docs/FORMATS.md, `file_of_countdown` and `old_file_of_countdown`.
+use crate::expect::must;
 use sha2::{Digest, Sha256};
-use std::alloc::{AllocError, Global};
+use std::alloc::Global;
+use std::process::Abort;
 
 const FRONT: [u8; 84] = [
     0x47, 0x4d, 0x54, 0x49, 0x45, 0x52, 0x30, 0x32, 0x63, 0x6f, 0x75, 0x6e, 0x74, 0x64, 0x6f, 0x77,
@@ -19,32 +21,26 @@ const OLD_FRONT: [u8; 62] = [
 ];
 
 // What stands before the digest, and the digest of it.
-fn whole(alloc: Global, front: &[u8]) -> Result<Vec<u8>, AllocError> {
-    let mut file = Vec::from_slice(alloc, front)?;
-    let digest = Sha256::digest(front);
-    file.extend_from_slice(&digest)?;
-    Ok(file)
-}
-
-// What stands before the digest, with other bytes at its end.
-fn ending(alloc: Global, front: &[u8], end: &[u8]) -> Result<Vec<u8>, AllocError> {
-    let mut changed = Vec::from_slice(alloc, front)?;
-    changed.truncate(front.len().saturating_sub(end.len()));
-    changed.extend_from_slice(end)?;
-    whole(alloc, changed.as_slice())
+fn whole(rt: &impl Abort, alloc: Global, front: &[u8]) -> Vec<u8> {
+    let mut file = must(rt, Vec::from_slice(alloc, front));
+    must(rt, file.extend_from_slice(&Sha256::digest(front)));
+    file
 }
 
 /// The right file.
-pub(crate) fn file_of_countdown(alloc: Global) -> Result<Vec<u8>, AllocError> {
-    whole(alloc, &FRONT)
+pub(crate) fn file_of_countdown(rt: &impl Abort, alloc: Global) -> Vec<u8> {
+    whole(rt, alloc, &FRONT)
 }
 
 /// The right file of version 1.
-pub(crate) fn old_file_of_countdown(alloc: Global) -> Result<Vec<u8>, AllocError> {
-    whole(alloc, &OLD_FRONT)
+pub(crate) fn old_file_of_countdown(rt: &impl Abort, alloc: Global) -> Vec<u8> {
+    whole(rt, alloc, &OLD_FRONT)
 }
 
 /// The file of version 1 with a win in 8 for its last record, and with a fresh digest.
-pub(crate) fn old_file_of_a_longer_win(alloc: Global) -> Result<Vec<u8>, AllocError> {
-    ending(alloc, &OLD_FRONT, b"\x08\x40")
+pub(crate) fn old_file_of_a_longer_win(rt: &impl Abort, alloc: Global) -> Vec<u8> {
+    let mut front = must(rt, Vec::from_slice(alloc, &OLD_FRONT));
+    front.truncate(60);
+    must(rt, front.extend_from_slice(b"\x08\x40"));
+    whole(rt, alloc, front.as_slice())
 }

@@ -9,7 +9,6 @@ use std::io::{self, ErrorKind, Write};
 use std::process::Abort;
 use std::sync::Wait;
 use std::sync::atomic::{AtomicU64, Ordering};
-use std::test::Fail;
 use std::time::{Clock, Duration};
 
 // A clock that goes on by a tenth of a second at each reading.
@@ -90,7 +89,7 @@ fn deliver<R: Wait, C: Clock + Sync, E: Write + Send>(
 }
 
 #[test]
-fn lines_are_told_a_quarter_of_a_second_apart(rt: HostRuntime) -> Result<(), Fail> {
+fn lines_are_told_a_quarter_of_a_second_apart(rt: HostRuntime) {
     let clock = Tenths {
         read: AtomicU64::new(0),
     };
@@ -102,18 +101,16 @@ fn lines_are_told_a_quarter_of_a_second_apart(rt: HostRuntime) -> Result<(), Fai
     let told =
         b"tier 7 (1 of 3): check, 0 delivered\ntier 7 (1 of 3): wins and losses, level 1, 1 delivered\ntier 7 (1 of 3): wins and losses, level 4, 4 delivered\ntier 7 (1 of 3): wins and losses, level 7, 7 delivered\n";
     expect(&rt, errors.as_slice() == told.as_slice());
-    Ok(())
 }
 
 #[test]
-fn nothing_is_told_without_a_clock(rt: HostRuntime) -> Result<(), Fail> {
+fn nothing_is_told_without_a_clock(rt: HostRuntime) {
     let mut errors = Vec::new(rt.alloc());
     {
         let progress = Progress::new(&NoClock, &mut errors);
         deliver(&rt, &progress, 8);
     }
     expect(&rt, errors.is_empty());
-    Ok(())
 }
 
 // An output that accepts this many calls is told no more than five lines, and nothing after a failure.
@@ -137,10 +134,9 @@ fn tells<R: Wait + Abort>(rt: &R, takes: u64) {
 }
 
 #[test]
-fn a_line_is_one_call_and_none_follows_a_failure(rt: HostRuntime) -> Result<(), Fail> {
+fn a_line_is_one_call_and_none_follows_a_failure(rt: HostRuntime) {
     tells(&rt, 0);
     tells(&rt, 1);
     tells(&rt, 2);
     tells(&rt, 100);
-    Ok(())
 }

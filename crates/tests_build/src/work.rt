@@ -3,6 +3,8 @@ ghost use Rattle.std.specs.Prelude.{IfOk};
 ghost use Rattle.gm_build.specs.Work.{HoldsExactly};
 ghost use Rattle.gm_tiers.specs.Orders.{IsTierOrder, IsOrderFrom};
 
+use crate::expect::{expect_eq, must};
+use crate::files::file_of_countdown;
 use gm_build::build::{Built, build_from};
 use gm_build::build_error::BuildError;
 use gm_build::watch::NoWatch;
@@ -13,9 +15,10 @@ use gm_solver::source::Counter;
 use gm_tierdb::flaky::Flaky;
 use gm_tierdb::mem_store::MemStore;
 use gm_tierdb::store::Store;
-use gm_tierdb::store_error::StoreError;
+use gm_toys::countdown::Countdown;
 use std::alloc::Global;
 use std::fs::Files;
+use std::process::Abort;
 use std::sync::Wait;
 use std::thread::Threads;
 
@@ -42,17 +45,17 @@ pub(crate) fn built<G: Game + Send + Sync, R: Threads + Wait + Files + Sync, S: 
 }
 
 /// Builds a game over a store in memory, which is let go.
-pub(crate) fn built_alone<G: Game + Send + Sync, R: Threads + Wait + Files + Sync>(
+pub(crate) fn built_alone<G: Game + Send + Sync, R: Threads + Wait + Files + Sync + Abort>(
     rt: &R,
     alloc: Global,
-) -> Result<Built<G>, BuildError>
-    ensures order { IfOk result (λ built. IsTierOrder G.rules built.order) }
-    ensures held { IfOk result (λ built. HoldsExactly built.tables built.order) }
+) -> Built<G>
+    ensures order { IsTierOrder G.rules result.order }
+    ensures held { HoldsExactly result.tables result.order }
 {
     let mut store = MemStore::new(alloc);
-    let built = built(rt, alloc, &mut store);
+    let found = built(rt, alloc, &mut store);
     drop(store);
-    built
+    must(rt, found)
 }
 
 /// Builds the tiers of a game that one tier reaches over a store.
@@ -112,19 +115,36 @@ pub(crate) fn work_with_failure<G: Game + Send + Sync, R: Threads + Wait + Files
     (store.into_inner(), took)
 }
 
-/// Whether a store in memory has this text of a tier.
-pub(crate) fn has_text<R: Files>(
+// A store in memory has this text of a tier.
+fn check_text<R: Files + Abort>(
     rt: &R,
     alloc: Global,
     store: &mut MemStore,
     tier: u64,
     text: &[u8],
-) -> Result<bool, StoreError> {
-    let found = store.read(rt, alloc, tier)?;
-    let same = match &found {
-        Some(found) => found.as_slice() == text,
-        None => false,
-    };
-    drop(found);
-    Ok(same)
+) {
+    let found = must(rt, store.read(rt, alloc, tier)).expect(rt, "the tier has a text");
+    expect_eq(rt, found.as_slice(), text);
+}
+
+/// What it takes to solve Countdown from 10.
+pub(crate) const SOLVED: Took = Took {
+    solved: 1,
+    reused: 0,
+    migrated: 0,
+    deliveries: 19,
+    by_hand: 0,
+};
+
+/// What it takes to build Countdown from 10 over a store in memory, which then has the right file.
+pub(crate) fn check_build<R: Threads + Wait + Files + Sync + Abort>(
+    rt: &R,
+    alloc: Global,
+    store: &mut MemStore,
+    wanted: Took,
+) {
+    let took = work::<Countdown<10>, R, _>(rt, alloc, store);
+    expect_eq(rt, took, Ok(wanted));
+    let file = file_of_countdown(rt, alloc);
+    check_text(rt, alloc, store, 0, file.as_slice());
 }
