@@ -1,6 +1,8 @@
 //! What a worker does: it takes pieces of a level, and delivers their pairs.
-ghost use Rattle.std.specs.Prelude.{◌≡◌, ◌<◌, ◌≤◌, IfOk};
-ghost use Rattle.gm_frontier.specs.Tallies.{IsTallyOf};
+ghost use Rattle.std.specs.Prelude.{◌≡◌, ◌<◌, ◌≤◌, IfOk, OnOk, replicate};
+ghost use Rattle.std.specs.Int.{div_ceil};
+ghost use Rattle.gm_frontier.specs.Pairs.{piece_of};
+ghost use Rattle.gm_frontier.specs.Tallies.{AreCounts, IsTallyOf};
 
 use crate::batch::{BATCH, Batch};
 use crate::gate::Gate;
@@ -89,7 +91,39 @@ fn deliver_rest<G: Game, A: Desk, B: Desk, C: Desk, D: Desk, R: Wait, T: Gate>(
     }
 }
 
-// Walks a piece's pairs once: counts each in its tile, and delivers it to its shard, many pairs each time that a lock is taken.
+// Walks a piece's pairs once: counts each in its tile, and delivers it to its shard, many pairs each time that a lock is taken. The batches are empty at first.
+fn walk_pairs<G: Game, A: Desk, B: Desk, C: Desk, D: Desk, R: Wait, T: Gate>(
+    rt: &R,
+    board: &Board<G, A, B, C, D>,
+    pieces: &Pieces<G>,
+    gate: &T,
+    worker: usize,
+    piece: usize,
+    counts: &mut Vec<u64>,
+    batches: &mut [Batch<G, A>; 4],
+    shares: &mut Shares<A, B, C, D>,
+) -> Result<(), AllocError>
+    requires tier { A.spot.tier ≡ pieces.now.level.now.place.tier }
+    requires zeros { counts.old.items ≡ replicate (div_ceil (G.rules.tier_size pieces.now.level.now.place.tier) pieces.now.width) 0 }
+    ensures parts { shares.new.parts ≡ shares.old.parts }
+    ensures counts { OnOk result (AreCounts G.rules pieces.now.level.now.place.tier pieces.now.width (piece_of piece pieces.now.notes pieces.now.level.now.notes) counts.new.items) }
+{
+    let level = pieces.level;
+    let place = level.place();
+    let size = G::tier_size(place.tier);
+    for (note, parent) in level.pairs(piece, pieces.notes, 0, size) {
+        counts[(parent / pieces.width) as usize] += 1;
+        let stands = pieces.lists.place_of(note.position(), parent);
+        let shard = board.shard_of(parent);
+        let batch = &mut batches[shard];
+        deliver_from(rt, board, gate, worker, place, BATCH, shard, batch, shares);
+        batch.push(note, parent, stands)?;
+    }
+    deliver_rest(rt, board, gate, worker, place, batches, shares);
+    Ok(())
+}
+
+// The tally of a piece, whose pairs are delivered.
 pub(crate) fn walk<G: Game, A: Desk, B: Desk, C: Desk, D: Desk, R: Wait, T: Gate>(
     rt: &R,
     alloc: Global,
@@ -104,21 +138,26 @@ pub(crate) fn walk<G: Game, A: Desk, B: Desk, C: Desk, D: Desk, R: Wait, T: Gate
     ensures parts { shares.new.parts ≡ shares.old.parts }
     ensures tally { IfOk result (IsTallyOf G.rules pieces.now.level.now piece pieces.now.notes pieces.now.width) }
 {
-    let level = pieces.level;
-    let place = level.place();
-    let size = G::tier_size(place.tier);
-    let mut counts = vec![in alloc; 0u64; size.div_ceil(pieces.width) as usize]?;
+    let size = G::tier_size(pieces.level.place().tier);
     let mut batches = empty_batches::<G, A>(alloc)?;
-    for (note, parent) in level.pairs(piece, pieces.notes, 0, size) {
-        counts[(parent / pieces.width) as usize] += 1;
-        let stands = pieces.lists.place_of(note.position(), parent);
-        let shard = board.shard_of(parent);
-        let batch = &mut batches[shard];
-        deliver_from(rt, board, gate, worker, place, BATCH, shard, batch, shares);
-        batch.push(note, parent, stands)?;
+    let mut counts = vec![in alloc; 0u64; size.div_ceil(pieces.width) as usize]?;
+    match walk_pairs(
+        rt,
+        board,
+        pieces,
+        gate,
+        worker,
+        piece,
+        &mut counts,
+        &mut batches,
+        shares,
+    ) {
+        Ok(()) => Ok(Tally::of(pieces.level, piece, pieces.notes, pieces.width, counts)),
+        Err(error) => {
+            drop((batches, counts));
+            Err(error)
+        }
     }
-    deliver_rest(rt, board, gate, worker, place, &mut batches, shares);
-    Ok(Tally::of(level, piece, pieces.notes, pieces.width, counts))
 }
 
 // Walks a piece, and keeps its tally. Where memory is refused there is no tally, and the coordinator walks the piece.

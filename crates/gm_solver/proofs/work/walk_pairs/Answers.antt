@@ -1,5 +1,5 @@
-use Rattle.std.proofs.Common.{rules, ◌≡◌, ℕ, ◌+◌, ◌<◌, ◌≤◌, ◌/◌, List, [], length, get_or, subst, sym, refl, ap, ◌∙◌, arith, set}
-use Rattle.std.proofs.lemmas.List.{get_or-replicate}
+use Rattle.std.proofs.Common.{rules, ◌≡◌, ℕ, ◌+◌, ◌<◌, ◌≤◌, ◌/◌, List, [], length, vec_len, get_or, replicate, subst, sym, refl, ap, ◌∙◌, arith, set}
+use Rattle.std.proofs.lemmas.List.{get_or-replicate, length-replicate}
 use Rattle.gm_game.specs.declared.position.Place.{Place}
 use Rattle.std.specs.List.{Contains}
 use Rattle.std.specs.Int.{div_ceil}
@@ -9,12 +9,12 @@ use Rattle.gm_game.specs.declared.limits.TheConstants.{TIER_SIZE}
 use Rattle.gm_game.specs.Rules.{Rules}
 use Rattle.gm_game.specs.Laws.{IsGame}
 use Rattle.gm_frontier.specs.Levels.{LevelData, IsLevel}
-use Rattle.gm_frontier.specs.Tallies.{AreCounts, IsTallyOf, tile_count}
+use Rattle.gm_frontier.specs.Tallies.{AreCounts, tile_count}
 use Rattle.gm_frontier.specs.Pairs.{pairs_of, piece_of}
 use Rattle.gm_frontier.proofs.PairLemmas.{in_pairs}
 use Rattle.gm_frontier.proofs.TallyLemmas.{counted_more, room_left, value_there}
 use Rattle.gm_frontier.proofs.TileLemmas.{tile_below, tally_right, pairs_fit}
-use Rattle.gm_solver.proofs.work.walk.Goals as goal
+use Rattle.gm_solver.proofs.work.walk_pairs.Goals as goal
 
 -- what the invariant says of the pair in hand and those after it
 Within : ℕ → List (NoteData × ℕ) → Type 0
@@ -33,7 +33,7 @@ shard_of-shard-requires g c =
     let within = subst (Within size) c.in-Some.ensures.steps c.loop-note.invariant.within in
     let below = within pair (contains_first pair c.next.new.self) in
     let e : size ≡ r.tier_size l.place.tier = c.tier_size-size.ensures ∙ ap (λ (p : Place). r.tier_size p.tier) c.place-place.ensures.value in
-    let same = ap r.tier_size c.requires in
+    let same = ap r.tier_size c.requires.tier in
     omega arith
 
 pub place_of-stands-requires : goal.place_of-stands-requires
@@ -90,12 +90,14 @@ loop-note-init g c =
     let width = c.args.pieces.now.width in
     let all = pairs_of r l.place.tier 0 size (piece_of c.args.piece c.args.pieces.now.notes l.notes) in
     let is : c.into_iter-note-iterator.result ≡ all = c.into_iter-note-iterator.ensures.into_iter_gives ∙ c.pairs-note-items.ensures.value in
-    let zeros = c.in_ok-counts.ensures.items_if_clones_equal (λ y h. h) in
+    let e : size ≡ r.tier_size l.place.tier = c.tier_size-size.ensures ∙ ap (λ (p : Place). r.tier_size p.tier) c.place-place.ensures.value in
+    let zeros : c.args.counts.now.items ≡ replicate (div_ceil size width) 0 = c.requires.zeros ∙ ap (λ (m : ℕ). replicate (div_ceil m width) 0) (sym e) in
+    let long : vec_len c.args.counts.now ≡ length c.args.counts.now.items = search rules in
     record {
       parts = refl;
-      tiles = (let a = c.in_ok-counts.ensures.len in let b = c.div_ceil.ensures in omega arith);
+      tiles = long ∙ ap (λ (xs : List ℕ). length xs) zeros ∙ length-replicate (div_ceil size width) 0;
       within = λ pair h. (in_pairs r l.place.tier 0 size (piece_of c.args.piece c.args.pieces.now.notes l.notes) pair (subst (λ (ps : List (NoteData × ℕ)). Contains ps pair) is h)).3;
-      counted = λ k b. (let f = ap (tile_count width k) is in let a = c.div_ceil.ensures in let inside : k < c.div_ceil.result = omega arith in let z : get_or c.in_ok-counts.counts.items k 0 ≡ 0 = rw zeros (get_or-replicate c.div_ceil.result k 0 0 inside) in omega arith);
+      counted = λ k b. (let f = ap (tile_count width k) is in let z : get_or c.args.counts.now.items k 0 ≡ 0 = rw zeros (get_or-replicate (div_ceil size width) k 0 0 b) in omega arith);
     }
 
 pub loop-note-preserved : goal.loop-note-preserved
@@ -133,19 +135,10 @@ counted_all r g l level small piece n width size some e counts rest none same do
     tally_right r g l level small piece n width size (div_ceil size width) some e refl all refl counts same
     (λ k b. (let h = done k b in let z = ap (tile_count width k) none in omega arith))
 
-pub of-requires-clause-exact : goal.of-requires-clause-exact
-of-requires-clause-exact g c =
+pub returns-clause-counts : goal.returns-clause-counts
+returns-clause-counts g c =
     let r = g.G.Game.rules in
     let l = c.args.pieces.now.level.now in
     let size = c.tier_size-size.result in
     let e : size ≡ r.tier_size l.place.tier = c.tier_size-size.ensures ∙ ap (λ (p : Place). r.tier_size p.tier) c.place-place.ensures.value in
     counted_all r g.met.G.Game.lawful l c.place-place.ensures.level c.place-place.ensures.small c.args.piece c.args.pieces.now.notes c.args.pieces.now.width size c.args.pieces.now.wide.some e c.loop-note.counts.items c.loop-note.note-iterator c.in-None.ensures.steps.0 (search rules) c.loop-note.invariant.counted
-
-pub returns-clause-tally : goal.returns-clause-tally
-returns-clause-tally g c =
-    let r = g.G.Game.rules in
-    let l = c.args.pieces.now.level.now in
-    let size = c.tier_size-size.result in
-    let e : size ≡ r.tier_size l.place.tier = c.tier_size-size.ensures ∙ ap (λ (p : Place). r.tier_size p.tier) c.place-place.ensures.value in
-    let exact = counted_all r g.met.G.Game.lawful l c.place-place.ensures.level c.place-place.ensures.small c.args.piece c.args.pieces.now.notes c.args.pieces.now.width size c.args.pieces.now.wide.some e c.loop-note.counts.items c.loop-note.note-iterator c.in-None.ensures.steps.0 (search rules) c.loop-note.invariant.counted in
-    subst (IsTallyOf r l c.args.piece c.args.pieces.now.notes c.args.pieces.now.width) (sym c.of.ensures) (record { place = refl; piece = refl; n = refl; width = refl; counts = exact })

@@ -4,7 +4,7 @@ use Rattle.std.specs.Int.{div_ceil}
 use Rattle.gm_frontier.specs.Notes.{NoteData}
 use Rattle.gm_frontier.specs.Tallies.{tile_count}
 use Rattle.gm_frontier.specs.Pairs.{pairs_of, piece_of}
-use Rattle.gm_solver.proofs.work.walk.Given as goal
+use Rattle.gm_solver.proofs.work.walk_pairs.Given as goal
 
 abbrev pub invariant-loop-note : goal.invariant-loop-note
 invariant-loop-note g l = record {
