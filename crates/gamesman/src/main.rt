@@ -1,8 +1,20 @@
 //! The program: it lists games, solves them, answers positions, counts, checks folders, and plays. Its lines are in docs/PROGRAM.md.
 #![tactic(auto)]
 
-use gm_program::fault::Fault;
-use gm_program::run::{BAD_LINE, bad_line, explain, refused, run_words};
+mod analyse;
+mod check;
+mod explore;
+mod fault;
+mod games;
+mod play;
+mod query;
+mod run;
+mod search;
+mod solve;
+mod tables;
+
+use crate::fault::Fault;
+use crate::run::{BAD_LINE, bad_line, explain, refused, run_words};
 use std::alloc::AllocError;
 use std::env::{self, Args};
 use std::fs::Files;

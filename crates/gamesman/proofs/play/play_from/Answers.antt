@@ -1,5 +1,5 @@
-use Rattle.gm_program.proofs.Reached.{reached_held}
-use Rattle.gm_program.proofs.play.play_from.Goals as goal
+use Rattle.gamesman.proofs.Reached.{reached_held}
+use Rattle.gamesman.proofs.play.play_from.Goals as goal
 
 pub session_with-ended-requires-clause-held : goal.session_with-ended-requires-clause-held
 session_with-ended-requires-clause-held g c = reached_held g.G.Game.rules c.args.built.now.tables c.args.built.now.order c.args.start.tier c.requires.order c.requires.held
