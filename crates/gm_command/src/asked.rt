@@ -135,14 +135,25 @@ pub fn what_is_wrong(alloc: Global, words: &[&str]) -> Option<Help> {
     }
 }
 
+// What a line asks for that the command line did not take as a command: its own texts, where it asks for them.
+fn asked_otherwise<'a>(error: Error) -> Result<Asked<'a>, Unread> {
+    let why = match error.kind() {
+        ErrorKind::DisplayHelp | ErrorKind::DisplayVersion => return Ok(Asked::Help(Help(error))),
+        ErrorKind::OutOfMemory => Unread::OutOfMemory,
+        _ => Unread::BadLine,
+    };
+    drop(error);
+    Err(why)
+}
+
 /// Reads a line of words, of which the first is the program's name.
 pub fn read_words<'a>(alloc: Global, words: &'a [&'a str]) -> Result<Asked<'a>, Unread> {
     match matched(alloc, words) {
-        Ok(matches) => asked_of(&matches).ok_or(Unread::BadLine),
-        Err(error) => match error.kind() {
-            ErrorKind::DisplayHelp | ErrorKind::DisplayVersion => Ok(Asked::Help(Help(error))),
-            ErrorKind::OutOfMemory => Err(Unread::OutOfMemory),
-            _ => Err(Unread::BadLine),
-        },
+        Ok(matches) => {
+            let asked = asked_of(&matches).ok_or(Unread::BadLine);
+            drop(matches);
+            asked
+        }
+        Err(error) => asked_otherwise(error),
     }
 }

@@ -6,28 +6,14 @@ use std::alloc::{AllocError, Global};
 
 const VERSION: &str = "0.1.0";
 
-// An option with a text.
-fn with_text<'a>(option: Arg<'a>, shown: Option<&'static str>, required: bool) -> Arg<'a> {
-    let option = option.required(required);
-    match shown {
-        Some(shown) => option.value_name(shown),
-        None => option,
-    }
-}
-
 // An option with a number of a range.
 fn with_number<'a>(
     option: Arg<'a>,
-    shown: Option<&'static str>,
     least: i64,
     most: i64,
     default: Option<&'static str>,
 ) -> Arg<'a> {
     let option = option.value_parser(value_parser!(u32).range(least..=most));
-    let option = match shown {
-        Some(shown) => option.value_name(shown),
-        None => option,
-    };
     match default {
         Some(default) => option.default_value(default),
         None => option,
@@ -41,23 +27,33 @@ fn arg_of<'a>(alloc: Global, word: &'static Word) -> Arg<'a> {
         Kind::Word => arg.required(true).action(ArgAction::Set),
         Kind::Optional => arg,
         Kind::Flag => arg.long(word.name).action(ArgAction::SetTrue),
-        Kind::Text { shown, required } => with_text(arg.long(word.name), shown, required),
+        Kind::Text { shown, required } => arg.long(word.name).value_name(shown).required(required),
         Kind::Number {
             shown,
             least,
             most,
             default,
-        } => with_number(arg.long(word.name), shown, least, most, default),
+        } => with_number(arg.long(word.name).value_name(shown), least, most, default),
         Kind::Tier => arg.long(word.name).value_parser(value_parser!(u64)),
     }
+}
+
+// Adds the words of a command.
+fn add_words<'a>(
+    alloc: Global,
+    words: &'static [Word],
+    all: &mut Vec<Arg<'a>>,
+) -> Result<(), AllocError> {
+    for word in words {
+        all.push(arg_of(alloc, word))?;
+    }
+    Ok(())
 }
 
 // A command of the program.
 fn command_of<'a>(alloc: Global, line: &'static Line) -> Result<Command<'a>, AllocError> {
     let mut words = Vec::new(alloc);
-    for word in line.words {
-        words.push(arg_of(alloc, word))?;
-    }
+    add_words(alloc, line.words, &mut words)?;
     let command = Command::new(alloc, line.name)
         .about(line.about)
         .after_help(line.examples)

@@ -9,14 +9,14 @@ pub(crate) enum Kind {
     Optional,
     /// An option that is there or not.
     Flag,
-    /// An option with a text, which the help shows by a name where there is one.
+    /// An option with a text, which the help shows by a name.
     Text {
-        shown: Option<&'static str>,
+        shown: &'static str,
         required: bool,
     },
-    /// An option with a number of a range, which the help shows by a name where there is one.
+    /// An option with a number of a range, which the help shows by a name.
     Number {
-        shown: Option<&'static str>,
+        shown: &'static str,
         least: i64,
         most: i64,
         default: Option<&'static str>,
@@ -61,7 +61,7 @@ const START: Word = Word {
 const FOLDER: Word = Word {
     name: "folder",
     kind: Kind::Text {
-        shown: Some("FOLDER"),
+        shown: "FOLDER",
         required: false,
     },
     help: "A folder for the tables, which are then kept and used again",
@@ -108,7 +108,7 @@ static SOLVE: Line = Line {
         Word {
             name: "workers",
             kind: Kind::Number {
-                shown: Some("N"),
+                shown: "N",
                 least: 1,
                 most: 16,
                 default: Some("4"),
@@ -118,7 +118,7 @@ static SOLVE: Line = Line {
         Word {
             name: "shards",
             kind: Kind::Number {
-                shown: Some("N"),
+                shown: "N",
                 least: 1,
                 most: 4,
                 default: Some("4"),
@@ -128,7 +128,7 @@ static SOLVE: Line = Line {
         Word {
             name: "piece",
             kind: Kind::Number {
-                shown: Some("N"),
+                shown: "N",
                 least: 1,
                 most: 4096,
                 default: Some("512"),
@@ -190,7 +190,7 @@ static LINE: Line = Line {
         Word {
             name: "limit",
             kind: Kind::Number {
-                shown: Some("N"),
+                shown: "N",
                 least: 1,
                 most: MOST,
                 default: None,
@@ -221,7 +221,7 @@ static FIND: Line = Line {
         Word {
             name: "value",
             kind: Kind::Text {
-                shown: None,
+                shown: "value",
                 required: true,
             },
             help: "The value: win, tie, draw or lose",
@@ -229,7 +229,7 @@ static FIND: Line = Line {
         Word {
             name: "remoteness",
             kind: Kind::Number {
-                shown: None,
+                shown: "remoteness",
                 least: 0,
                 most: MOST,
                 default: None,
@@ -250,7 +250,7 @@ static FIND: Line = Line {
         Word {
             name: "limit",
             kind: Kind::Number {
-                shown: None,
+                shown: "limit",
                 least: 1,
                 most: MOST,
                 default: None,
@@ -319,7 +319,7 @@ static PLAY: Line = Line {
         Word {
             name: "from",
             kind: Kind::Text {
-                shown: Some("POSITION"),
+                shown: "POSITION",
                 required: false,
             },
             help: "Begins at this position; you are the side to move, or with `--second` the other one",
