@@ -7,8 +7,8 @@ use Rattle.gm_game.specs.Rules.{children}
 use Rattle.gm_game.specs.Evaluation.{evaluated}
 use Rattle.gm_game.specs.Records.{lost_in, tied_in, least_of, all_won}
 use Rattle.gm_game.proofs.Folding.{least_push, all_won_push, known_push, one_more, evaluated_small, fits_since, evaluated_open, when_known, when_unknown, evaluated_at_end}
-use Rattle.gm_game.proofs.evaluate.+look_ahead.Goals as goal
-use Rattle.gm_game.proofs.evaluate.+look_ahead.Goals.{then-known, else-known}
+use Rattle.gm_settle.proofs.ahead.+look_ahead.Goals as goal
+use Rattle.gm_settle.proofs.ahead.+look_ahead.Goals.{then-known, else-known}
 
 pub loop-m-preserved : goal.loop-m-preserved
 loop-m-preserved g t c =
@@ -36,8 +36,8 @@ choose-requires-clause-lost_fits g t c =
     let r = g.G.Game.rules in
     let n = c.args.n - 1 in
     let laws = g.met.G.Game in
-    let all = take_all c.loop-m.m-index c.as_slice-m-items.result.now c.loop-m-test.false in
-    let same : c.loop-m.lost ≡ least_of lost_in (map (evaluated r n) (children r c.args.p)) = cc in
+    let all = take_all c.loop-m.m-index c.as_slice-m-items.result.now c.loop-m-test.false ∙ c.loop-m.invariant.all_moves in
+    let same : c.loop-m.lost ≡ least_of lost_in (map (evaluated r n) (children r c.args.p)) = c.loop-m.invariant.lost_so_far ∙ ap (λ xs. least_of lost_in (map (evaluated r n) (map (r.play c.args.p) xs))) all in
     let small = evaluated_small r laws.lawful n c.args.p c.requires in
     fits_since c.loop-m.lost n (subst (λ a. IfSome a (λ x. x ≤ n)) (sym same) small.0) (omega arith)
 
@@ -46,8 +46,8 @@ choose-requires-clause-won_fits g t c =
     let r = g.G.Game.rules in
     let n = c.args.n - 1 in
     let laws = g.met.G.Game in
-    let all = take_all c.loop-m.m-index c.as_slice-m-items.result.now c.loop-m-test.false in
-    let same : c.loop-m.won ≡ all_won (map (evaluated r n) (children r c.args.p)) = cc in
+    let all = take_all c.loop-m.m-index c.as_slice-m-items.result.now c.loop-m-test.false ∙ c.loop-m.invariant.all_moves in
+    let same : c.loop-m.won ≡ all_won (map (evaluated r n) (children r c.args.p)) = c.loop-m.invariant.won_so_far ∙ ap (λ xs. all_won (map (evaluated r n) (map (r.play c.args.p) xs))) all in
     let small = evaluated_small r laws.lawful n c.args.p c.requires in
     fits_since c.loop-m.won n (subst (λ a. IfSome a (λ x. x ≤ n)) (sym same) small.1) (omega arith)
 
@@ -56,8 +56,8 @@ choose-requires-clause-tied_fits g t c =
     let r = g.G.Game.rules in
     let n = c.args.n - 1 in
     let laws = g.met.G.Game in
-    let all = take_all c.loop-m.m-index c.as_slice-m-items.result.now c.loop-m-test.false in
-    let same : c.loop-m.tied ≡ least_of tied_in (map (evaluated r n) (children r c.args.p)) = cc in
+    let all = take_all c.loop-m.m-index c.as_slice-m-items.result.now c.loop-m-test.false ∙ c.loop-m.invariant.all_moves in
+    let same : c.loop-m.tied ≡ least_of tied_in (map (evaluated r n) (children r c.args.p)) = c.loop-m.invariant.tied_so_far ∙ ap (λ xs. least_of tied_in (map (evaluated r n) (map (r.play c.args.p) xs))) all in
     let small = evaluated_small r laws.lawful n c.args.p c.requires in
     fits_since c.loop-m.tied n (subst (λ a. IfSome a (λ x. x ≤ n)) (sym same) small.2) (omega arith)
 
