@@ -2,10 +2,10 @@ use Rattle.std.proofs.Common.{ℕ, sym, subst}
 use Rattle.gm_frontier.specs.Counts.{IsNumberBefore}
 use Rattle.gm_deliveries.specs.State.{pairs_in}
 use Rattle.gm_deliveries.proofs.CloseLemmas.{number_before}
-use Rattle.gm_desk.specs.Spots.{Spot}
-use Rattle.gm_desk.specs.Rounds.{pairs_into, IsRound}
-use Rattle.gm_desk.proofs.RoundLemmas.{round_first, level_into}
-use Rattle.gm_desk.proofs.pass.PassDesk.around.Goals as goal
+use Rattle.gm_pass.specs.Spots.{Spot}
+use Rattle.gm_pass.specs.Rounds.{pairs_into, IsRound}
+use Rattle.gm_pass.proofs.RoundLemmas.{round_first, level_into}
+use Rattle.gm_pass.proofs.pass.PassDesk.around.Goals as goal
 
 pub invariant_of-new : goal.invariant_of-new
 invariant_of-new g c =

@@ -1,10 +1,10 @@
 use Rattle.std.proofs.Common.{◌≡◌, ℕ, ◌+◌, Some, slice_get, sym, subst, ◌∙◌, arith}
 use Rattle.gm_frontier.specs.Notes.{NoteData}
-use Rattle.gm_desk.specs.Spots.{gain}
-use Rattle.gm_desk.specs.Rounds.{pairs_into, IsRound}
-use Rattle.gm_desk.proofs.Gains.{stays, raised_share}
-use Rattle.gm_desk.proofs.RoundLemmas.{round_step}
-use Rattle.gm_desk.proofs.pass.InOrder.deliver_next.Goals as goal
+use Rattle.gm_pass.specs.Spots.{gain}
+use Rattle.gm_pass.specs.Rounds.{pairs_into, IsRound}
+use Rattle.gm_pass.proofs.Gains.{stays, raised_share}
+use Rattle.gm_pass.proofs.RoundLemmas.{round_step}
+use Rattle.gm_pass.proofs.pass.InOrder.deliver_next.Goals as goal
 
 pub invariant_of-self : goal.invariant_of-self
 invariant_of-self g c =

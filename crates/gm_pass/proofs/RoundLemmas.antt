@@ -28,11 +28,11 @@ use Rattle.gm_deliveries.specs.Good.{IsGood}
 use Rattle.gm_deliveries.specs.Delivery.{Delivers}
 use Rattle.gm_deliveries.specs.Steps.{IsFor, IsWhole}
 use Rattle.gm_deliveries.proofs.CloseLemmas.{whole_from}
-use Rattle.gm_desk.specs.Spots.{Spot, spot_of, gain, IsDeliverable}
-use Rattle.gm_desk.specs.Rounds.{pairs_into, place_of_spot, IsRound, HasNoneHere, IsForSpot, IsLevelAt, IsNextAnswer}
-use Rattle.gm_desk.proofs.Places.{value_stands}
-use Rattle.gm_desk.proofs.Kept.{stays_delivered, new_delivered}
-use Rattle.gm_desk.proofs.Gains.{gained}
+use Rattle.gm_pass.specs.Spots.{Spot, spot_of, gain, IsDeliverable}
+use Rattle.gm_pass.specs.Rounds.{pairs_into, place_of_spot, IsRound, HasNoneHere, IsForSpot, IsLevelAt, IsNextAnswer}
+use Rattle.gm_pass.proofs.Places.{value_stands}
+use Rattle.gm_pass.proofs.Kept.{stays_delivered, new_delivered}
+use Rattle.gm_pass.proofs.Gains.{gained}
 
 -- the item at a place of a list without repeats stands at no other place
 pub item_in : {X : Type 0} (xs : List X) (k : ℕ) (x : X) → slice_get xs k ≡ Some x → Contains xs x

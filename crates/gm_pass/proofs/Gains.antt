@@ -14,9 +14,9 @@ use Rattle.gm_deliveries.specs.declared.status.Refused.{Refused}
 use Rattle.gm_deliveries.specs.declared.status.Refused.TheVariants.{NotThisLevel, NotMine, NotAParent, TooFar}
 use Rattle.gm_deliveries.specs.State.{ShardState, IsInRange, delivered_to, with_pair, pairs_in}
 use Rattle.gm_deliveries.specs.Delivery.{IsPairHere, Delivers}
-use Rattle.gm_desk.specs.Amounts.{Part}
-use Rattle.gm_desk.specs.Spots.{IsSameSpot, Spot, spot_of, gain, IsAnswer}
-use Rattle.gm_desk.proofs.Kept.{spot_kept}
+use Rattle.gm_pass.specs.Parts.{Part}
+use Rattle.gm_pass.specs.Spots.{IsSameSpot, Spot, spot_of, gain, IsAnswer}
+use Rattle.gm_pass.proofs.Kept.{spot_kept}
 
 -- one pair more
 new_pair : (s : ShardState) (c : Position) (parent : ℕ) → IsInRange s parent → (Contains (delivered_to s parent) c → ⊥) → pairs_in (with_pair s c parent) ≡ pairs_in s + 1

@@ -4,8 +4,8 @@ use Rattle.gm_game.specs.Rules.{Rules}
 use Rattle.gm_frontier.specs.Notes.{NoteData}
 use Rattle.gm_frontier.specs.Levels.{IsLevel}
 use Rattle.gm_frontier.specs.Counts.{IsNumberBefore}
-use Rattle.gm_desk.specs.Spots.{Spot}
-use Rattle.gm_desk.specs.Rounds.{place_of_spot}
+use Rattle.gm_pass.specs.Spots.{Spot}
+use Rattle.gm_pass.specs.Rounds.{place_of_spot}
 
 -- the notes are those of the level at the spot's place, and `base` pairs of the range are of earlier levels
 pub record IsBegun (r : Rules) (s : Spot) (notes : List NoteData) (base : ℕ) : Type 0 where

@@ -19,7 +19,7 @@ use Rattle.gm_deliveries.specs.declared.status.Short.{Short}
 use Rattle.gm_deliveries.specs.Closing.{Closes}
 use Rattle.gm_deliveries.specs.State.{ShardState, IsInRange, delivered_to, pairs_in}
 use Rattle.gm_deliveries.specs.Delivery.{Delivers}
-use Rattle.gm_desk.specs.Spots.{Spot, spot_of}
+use Rattle.gm_pass.specs.Spots.{Spot, spot_of}
 
 -- the pairs of a level's notes into the range of a spot, in the order of a walk
 abbrev pub pairs_into : Rules → Spot → List NoteData → List (NoteData × ℕ)

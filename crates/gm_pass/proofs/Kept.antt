@@ -13,7 +13,7 @@ use Rattle.gm_deliveries.specs.declared.status.Delivery.TheVariants.{Fresh, Fres
 use Rattle.gm_deliveries.specs.declared.status.Refused.{Refused}
 use Rattle.gm_deliveries.specs.declared.status.Refused.TheVariants.{NotThisLevel, NotMine, NotAParent, TooFar}
 use Rattle.gm_deliveries.specs.Delivery.{Delivers}
-use Rattle.gm_desk.specs.Spots.{IsSameSpot}
+use Rattle.gm_pass.specs.Spots.{IsSameSpot}
 
 -- with a pair more, what was delivered stays so
 pub stays_delivered : (s : ShardState) (c : Position) (parent : ℕ) → IsInRange s parent → (index : ℕ) (d : Position) → IsInRange s index → Contains (delivered_to s index) d → Contains (delivered_to (with_pair s c parent) index) d

@@ -12,8 +12,8 @@ use Rattle.gm_frontier.specs.Levels.{IsLevel}
 use Rattle.gm_frontier.specs.Counts.{ExpectedData, IsExpected, IsNumberBefore, Follows}
 use Rattle.gm_frontier.proofs.Distinct.{no_repeats_from}
 use Rattle.gm_frontier.proofs.CountLemmas.{level_added, ties_begin}
-use Rattle.gm_desk.specs.Spots.{Spot}
-use Rattle.gm_desk.specs.Rounds.{pairs_into, place_of_spot, IsForSpot}
+use Rattle.gm_pass.specs.Spots.{Spot}
+use Rattle.gm_pass.specs.Rounds.{pairs_into, place_of_spot, IsForSpot}
 
 -- there is one number of things of a kind
 pub there_once : {A : Type 0} (Is : A → Type 0) (m n : ℕ) → AreThere m Is → AreThere n Is → m ≡ n

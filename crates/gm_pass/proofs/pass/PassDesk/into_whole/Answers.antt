@@ -1,8 +1,8 @@
 use Rattle.std.proofs.Common.{◌≡◌, ◌≤◌, arith}
 use Rattle.gm_deliveries.specs.State.{pairs_in}
 use Rattle.gm_deliveries.proofs.CloseLemmas.{closes_reached}
-use Rattle.gm_desk.proofs.RoundLemmas.{round_whole, round_all}
-use Rattle.gm_desk.proofs.pass.PassDesk.into_whole.Goals as goal
+use Rattle.gm_pass.proofs.RoundLemmas.{round_whole, round_all}
+use Rattle.gm_pass.proofs.pass.PassDesk.into_whole.Goals as goal
 
 pub returns-clause-spot : goal.returns-clause-spot
 returns-clause-spot g c = c.shard.invariant.0

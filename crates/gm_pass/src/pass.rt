@@ -6,12 +6,11 @@ ghost use Rattle.gm_frontier.specs.Levels.{IsLevel};
 ghost use Rattle.gm_deliveries.specs.State.{pairs_in};
 ghost use Rattle.gm_deliveries.specs.Delivery.{IsPlaceOf, Delivers};
 ghost use Rattle.gm_deliveries.specs.Steps.{IsWhole};
-ghost use Rattle.gm_desk.specs.Spots.{spot_of, gain};
-ghost use Rattle.gm_desk.specs.Rounds.{pairs_into, place_of_spot, IsRound, HasNoneHere, IsForSpot, IsLevelAt, ClosesSurely, IsNextAnswer, IsStep};
-ghost use Rattle.gm_desk.specs.Begun.{IsBegun};
+ghost use Rattle.gm_pass.specs.Spots.{spot_of, gain};
+ghost use Rattle.gm_pass.specs.Rounds.{pairs_into, place_of_spot, IsRound, HasNoneHere, IsForSpot, IsLevelAt, ClosesSurely, IsNextAnswer, IsStep};
+ghost use Rattle.gm_pass.specs.Begun.{IsBegun};
 
-use crate::held::gained;
-use crate::share::{Desk, Share};
+use crate::share::{Desk, Share, gained};
 use gm_deliveries::place::place_of;
 use gm_deliveries::status::{Delivery, Refused};
 use gm_frontier::expected::Expected;
@@ -85,9 +84,9 @@ struct InOrder<G: Game, L: Round> {
 impl<G: Game, L: Round> Model for InOrder<G, L> {
     ghost use Rattle.std.specs.Prelude.{◌≡◌};
     ghost use Rattle.gm_frontier.specs.Levels.{IsLevel};
-    ghost use Rattle.gm_desk.specs.Spots.{spot_of};
-    ghost use Rattle.gm_desk.specs.Amounts.{HeldData};
-    ghost use Rattle.gm_desk.specs.Rounds.{pairs_into, place_of_spot, IsRound};
+    ghost use Rattle.gm_pass.specs.Spots.{spot_of};
+    ghost use Rattle.gm_pass.specs.Parts.{HeldData};
+    ghost use Rattle.gm_pass.specs.Rounds.{pairs_into, place_of_spot, IsRound};
 
     ghost Value = { HeldData };
 

@@ -1,6 +1,6 @@
 use Rattle.std.proofs.Common.{rules, ◌≡◌, ◌+◌, ◌↔◌, IsTrue, ◌==◌}
-use Rattle.gm_desk.proofs.FullLemmas.{full_exactly}
-use Rattle.gm_desk.proofs.pass.Pass.full.Goals as goal
+use Rattle.gm_pass.proofs.FullLemmas.{full_exactly}
+use Rattle.gm_pass.proofs.pass.Pass.full.Goals as goal
 
 pub returns-clause-all : goal.returns-clause-all
 returns-clause-all g c begun =
