@@ -1,5 +1,2 @@
-pub mod Spots
 pub mod Amounts
 pub mod Batches
-pub mod Rounds
-pub mod Begun

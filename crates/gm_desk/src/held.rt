@@ -3,14 +3,14 @@ ghost use Rattle.std.specs.Prelude.{◌≡◌, ◌+◌, ◌<◌, ◌≤◌};
 ghost use Rattle.gm_deliveries.specs.State.{pairs_in};
 ghost use Rattle.gm_deliveries.specs.Good.{IsGood};
 ghost use Rattle.gm_deliveries.specs.Delivery.{IsPlaceOf, Delivers};
-ghost use Rattle.gm_desk.specs.Spots.{spot_of, gain, IsAnswer, IsDeliveryAt};
+ghost use Rattle.gm_pass.specs.Spots.{spot_of, gain, IsAnswer, IsDeliveryAt};
 ghost use Rattle.gm_desk.specs.Batches.{ArePlaced, AreAnswers};
 
-use crate::share::{Desk, Share};
 use gm_deliveries::place::place_of;
 use gm_deliveries::status::{Delivery, Refused};
 use gm_frontier::note::Note;
 use gm_game::game::Game;
+use gm_pass::share::{Desk, Share, gained};
 use gm_shard::shard::Shard;
 use std::marker::Model;
 use std::sync::ledger::Book;
@@ -25,24 +25,14 @@ pub struct Held<G: Game, L: Desk> {
 impl<G: Game, L: Desk> Model for Held<G, L> {
     ghost use Rattle.std.specs.Prelude.{◌≡◌};
     ghost use Rattle.gm_deliveries.specs.State.{pairs_in};
-    ghost use Rattle.gm_desk.specs.Spots.{spot_of};
-    ghost use Rattle.gm_desk.specs.Amounts.{HeldData};
+    ghost use Rattle.gm_pass.specs.Spots.{spot_of};
+    ghost use Rattle.gm_pass.specs.Parts.{HeldData};
 
     ghost Value = { HeldData };
 
     ghost view = { λ h. record { shard = h.shard; book = h.book.total } };
 
     ghost invariant = { λ h. (h.book.total ≡ pairs_in h.shard) × (spot_of h.shard ≡ L.spot) };
-}
-
-// By how much a delivery raises the number of pairs.
-pub(crate) fn gained(answer: &Result<Delivery, Refused>) -> u64
-    ensures { result ≡ gain answer.now }
-{
-    match answer {
-        Ok(Delivery::Fresh | Delivery::FreshSettled) => 1,
-        Ok(Delivery::Repeat) | Err(_) => 0,
-    }
 }
 
 impl<G: Game, L: Desk> Held<G, L> {

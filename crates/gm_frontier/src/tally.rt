@@ -9,6 +9,7 @@ use crate::level::Level;
 use crate::pairs::Pairs;
 use gm_game::game::Game;
 use gm_game::position::Place;
+use gm_tally::tile::count_index;
 use std::alloc::{AllocError, Global};
 use std::marker::{Model, PhantomData};
 
@@ -49,7 +50,7 @@ pub(crate) fn tile_counts<G: Game>(
 {
     let mut counts = vec![in alloc; 0u64; tiles]?;
     for (_, parent) in pairs {
-        counts[(parent / width) as usize] += 1;
+        count_index(&mut counts, width, parent);
     }
     Ok(counts)
 }

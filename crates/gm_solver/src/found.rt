@@ -7,9 +7,9 @@ use crate::gate::NoGate;
 use crate::pieces::Pieces;
 use crate::work::walk;
 use gm_desk::board::{Board, Shares};
-use gm_desk::share::Desk;
 use gm_frontier::tally::Tally;
 use gm_game::game::Game;
+use gm_pass::share::Desk;
 use std::alloc::{AllocError, Global};
 use std::sync::Wait;
 

@@ -2,7 +2,7 @@
 ghost use Rattle.std.specs.Prelude.{◌≡◌, ◌<◌, ◌≤◌, length, IfOk, IfErr, OnOk};
 ghost use Rattle.gm_deliveries.specs.State.{pairs_in};
 ghost use Rattle.gm_solver.specs.Solving.{IsError};
-ghost use Rattle.gm_desk.specs.Spots.{spot_of};
+ghost use Rattle.gm_pass.specs.Spots.{spot_of};
 ghost use Rattle.gm_solver.specs.Tiling.{AreShardsAt, AreCountsAt, AreAllTallies, HaveNoneHere, AreNumbers, tile_at, next_place};
 
 use crate::error::SolveError;
@@ -12,11 +12,11 @@ use crate::post::Post;
 use crate::round::close_tiles;
 use crate::source::Source;
 use gm_desk::board::Four;
-use gm_desk::pass::Round;
 use gm_frontier::expected::Expected;
 use gm_frontier::tally::Tally;
 use gm_game::game::Game;
 use gm_game::limits::REMOTENESS;
+use gm_pass::pass::Round;
 use gm_shard::shard::Shard;
 use std::alloc::{AllocError, Global};
 use std::marker::Brand;

@@ -11,9 +11,9 @@ ghost use Rattle.gm_game.specs.Places.{IsLastLevel};
 ghost use Rattle.gm_table.specs.Tables.{AreHeld, IsTable};
 ghost use Rattle.gm_solver.specs.Covered.{IsCovered};
 ghost use Rattle.gm_solver.specs.Solving.{IsTooFar, AreDeliveries};
-ghost use Rattle.gm_desk.specs.Spots.{spot_of};
+ghost use Rattle.gm_pass.specs.Spots.{spot_of};
 ghost use Rattle.gm_solver.specs.Tiling.{IsWide, AreShardsAt, AreCountsAt, HaveNoneHere, AreGood, AreTwo, tile_at, spot_counted};
-ghost use Rattle.gm_desk.specs.Rounds.{HasNoneHere};
+ghost use Rattle.gm_pass.specs.Rounds.{HasNoneHere};
 
 use crate::tier_lists::{FEW, TierLists, scan_tier};
 use gm_deliveries::status::Start;

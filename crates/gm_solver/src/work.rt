@@ -9,10 +9,10 @@ use crate::gate::Gate;
 use crate::pieces::Pieces;
 use crate::source::Source;
 use gm_desk::board::{Board, Shares};
-use gm_desk::share::Desk;
 use gm_frontier::tally::Tally;
 use gm_game::game::Game;
 use gm_game::position::Place;
+use gm_pass::share::Desk;
 use std::alloc::{AllocError, Global};
 use std::sync::Wait;
 

@@ -1,14 +1,14 @@
 //! Boards of four shards, as callers with workers of their own use them.
 ghost use Rattle.std.specs.Prelude.{◌≡◌, ◌<◌};
-ghost use Rattle.gm_desk.specs.Spots.{spot_of, AreFourTiles};
+ghost use Rattle.gm_pass.specs.Spots.{spot_of, AreFourTiles};
 ghost use Rattle.gm_desk.specs.Batches.{ArePlaced};
 
 use gm_deliveries::place::place_of;
 use gm_deliveries::status::{Delivery, Refused};
 use gm_desk::board::{Board, Four, Shares};
-use gm_desk::share::Desk;
 use gm_frontier::note::Note;
 use gm_game::game::Game;
+use gm_pass::share::Desk;
 use gm_shard::shard::Shard;
 use std::marker::Brand;
 use std::sync::ledger::Blank;

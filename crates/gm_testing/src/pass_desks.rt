@@ -2,15 +2,15 @@
 ghost use Rattle.std.specs.Prelude.{◌≡◌, ◌+◌, ◌<◌, ◌≤◌};
 ghost use Rattle.gm_deliveries.specs.State.{pairs_in};
 ghost use Rattle.gm_deliveries.specs.Begin.{first_state};
-ghost use Rattle.gm_desk.specs.Spots.{spot_of};
-ghost use Rattle.gm_desk.specs.Rounds.{place_of_spot, HasNoneHere, IsForSpot, IsLevelAt};
+ghost use Rattle.gm_pass.specs.Spots.{spot_of};
+ghost use Rattle.gm_pass.specs.Rounds.{place_of_spot, HasNoneHere, IsForSpot, IsLevelAt};
 
 use gm_deliveries::status::{Delivery, Refused};
-use gm_desk::pass::{Pass, PassDesk, Round};
 use gm_frontier::expected::Expected;
 use gm_frontier::level::Level;
 use gm_game::game::Game;
 use gm_game::limits::{REMOTENESS, TIER_SIZE};
+use gm_pass::pass::{Pass, PassDesk, Round};
 use gm_shard::shard::Shard;
 use gm_solver::starts::begin_range;
 use std::alloc::{AllocError, Global};

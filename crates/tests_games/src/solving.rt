@@ -1,9 +1,9 @@
 //! Games that are solved tier by tier, and compared with looking ahead.
 use crate::expect::{expect, must};
-use gm_game::evaluate::within;
 use gm_game::game::Game;
 use gm_game::limits::TIER_SIZE;
 use gm_game::position::{Position, Solved, Value};
+use gm_settle::ahead::within;
 use gm_table::tables::Tables;
 use gm_testing::holding::hold_solved;
 use std::alloc::Global;

@@ -1,10 +1,10 @@
 //! The lower tiers of Tac Tix on 5 by 5, by two workers.
 use crate::expect::{expect, expect_eq, must};
-use gm_game::evaluate::within;
 use gm_game::game::Game;
 use gm_game::limits::TIER_SIZE;
 use gm_game::position::{Position, Solved, Value};
 use gm_game::shown::Shown;
+use gm_settle::ahead::within;
 use gm_solver::plan::Plan;
 use gm_table::tables::Tables;
 use gm_tactix::tactix::TacTix;

@@ -1,7 +1,7 @@
 //! Boards by hand, and from two threads.
 ghost use Rattle.std.specs.Prelude.{◌≡◌, ◌-◌, ◌≤◌};
 ghost use Rattle.gm_deliveries.specs.Begin.{first_state};
-ghost use Rattle.gm_desk.specs.Spots.{spot_of, AreFourTiles};
+ghost use Rattle.gm_pass.specs.Spots.{spot_of, AreFourTiles};
 
 use crate::expect::{expect, expect_eq, must};
 use crate::shards::first_note;

@@ -1,9 +1,9 @@
-use Rattle.std.proofs.Common.{rules, ◌≡◌, ℕ, ◌+◌, ◌<◌, ◌/◌, List, length, get_or, subst, sym, ap, arith, set}
+use Rattle.std.proofs.Common.{rules, ◌≡◌, ◌∙◌, ℕ, ◌+◌, ◌<◌, ◌/◌, List, length, get_or, subst}
 use Rattle.std.specs.List.{Contains}
 use Rattle.gm_game.proofs.Lists.{contains_first, contains_later}
 use Rattle.gm_frontier.specs.Notes.{NoteData}
 use Rattle.gm_frontier.specs.Tallies.{tile_count}
-use Rattle.gm_frontier.proofs.TallyLemmas.{counted_more, room_left, value_there}
+use Rattle.gm_frontier.proofs.TallyLemmas.{counted_more, room_left}
 use Rattle.gm_frontier.proofs.tally.tile_counts.Goals as goal
 
 -- what the invariant says of the pair in hand and those after it
@@ -13,17 +13,14 @@ Within width n pairs = (pair : NoteData × ℕ) → Contains pairs pair → pair
 Counted : ℕ → ℕ → List ℕ → List (NoteData × ℕ) → List (NoteData × ℕ) → Type 0
 Counted width n counts all pairs = (k : ℕ) → k < n → get_or counts k 0 + tile_count width k pairs ≡ tile_count width k all
 
-pub overflow_add-index_mut : goal.overflow_add-index_mut
+pub count_index-requires-clause-room : goal.count_index-requires-clause-room
 unfolding Within Counted
-overflow_add-index_mut g c =
+count_index-requires-clause-room g c =
     let n = c.args.tiles in
     let pair : NoteData × ℕ = (c.in-Some.field-0-0, c.in-Some.parent) in
     let within = subst (Within c.args.width n) c.in-Some.ensures.steps c.loop-parent.invariant.within in
     let counted = subst (Counted c.args.width n c.loop-parent.counts.items c.args.pairs) c.in-Some.ensures.steps c.loop-parent.invariant.counted in
-    let room = room_left c.args.width c.loop-parent.counts.items pair c.next.new.self c.args.pairs n (within pair (contains_first pair c.next.new.self)) counted c.requires.few in
-    let length_is : length c.loop-parent.counts.items ≡ n = search rules in
-    let value : c.index_mut.result.now ≡ get_or c.loop-parent.counts.items (c.in-Some.parent / c.args.width) 0 = value_there c.loop-parent.counts.items (c.in-Some.parent / c.args.width) c.index_mut.result.now (subst (λ (m : ℕ). c.in-Some.parent / c.args.width < m) (sym length_is) (within pair (contains_first pair c.next.new.self))) c.index_mut.ensures.value in
-    omega arith
+    room_left c.args.width c.loop-parent.counts.items pair c.next.new.self c.args.pairs n (within pair (contains_first pair c.next.new.self)) counted c.requires.few
 
 pub loop-parent-preserved : goal.loop-parent-preserved
 unfolding Within Counted
@@ -33,10 +30,8 @@ loop-parent-preserved g c =
     let within = subst (Within c.args.width n) c.in-Some.ensures.steps c.loop-parent.invariant.within in
     let counted = subst (Counted c.args.width n c.loop-parent.counts.items c.args.pairs) c.in-Some.ensures.steps c.loop-parent.invariant.counted in
     let length_is : length c.loop-parent.counts.items ≡ n = search rules in
-    let value : c.index_mut.result.now ≡ get_or c.loop-parent.counts.items (c.in-Some.parent / c.args.width) 0 = value_there c.loop-parent.counts.items (c.in-Some.parent / c.args.width) c.index_mut.result.now (subst (λ (m : ℕ). c.in-Some.parent / c.args.width < m) (sym length_is) (within pair (contains_first pair c.next.new.self))) c.index_mut.ensures.value in
     record {
-      same = c.loop-parent.invariant.same;
+      same = c.count_index.ensures.length ∙ c.loop-parent.invariant.same;
       within = λ x l. within x (contains_later pair x c.next.new.self l);
-      counted = counted_more c.args.width c.loop-parent.counts.items (set c.loop-parent.counts.items (c.in-Some.parent / c.args.width) (c.index_mut.result.now + 1)) pair c.next.new.self c.args.pairs n length_is (within pair (contains_first pair c.next.new.self))
-          (ap (λ (v : ℕ). set c.loop-parent.counts.items (c.in-Some.parent / c.args.width) (v + 1)) value) counted;
+      counted = counted_more c.args.width c.loop-parent.counts.items c.count_index.new.counts.items pair c.next.new.self c.args.pairs n length_is (within pair (contains_first pair c.next.new.self)) c.count_index.ensures.counts counted;
     }

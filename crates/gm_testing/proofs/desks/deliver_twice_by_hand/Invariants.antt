@@ -1,4 +1,4 @@
-use Rattle.gm_desk.specs.Spots.{spot_of}
+use Rattle.gm_pass.specs.Spots.{spot_of}
 use Rattle.gm_testing.proofs.desks.deliver_twice_by_hand.Given as goal
 
 abbrev pub ghosts-deliver_twice_named-A-Ledger : goal.ghosts-deliver_twice_named-A-Ledger

@@ -1,4 +1,4 @@
-use Rattle.gm_desk.specs.Spots.{spot_of}
+use Rattle.gm_pass.specs.Spots.{spot_of}
 use Rattle.gm_testing.proofs.desks.watch.Given as goal
 
 abbrev pub ghosts-watch_named-A-Ledger : goal.ghosts-watch_named-A-Ledger

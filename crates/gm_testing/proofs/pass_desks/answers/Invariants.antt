@@ -1,5 +1,5 @@
 use Rattle.std.proofs.Common.{◌≡◌, ◌≤◌, length, drop}
-use Rattle.gm_desk.specs.Rounds.{pairs_into}
+use Rattle.gm_pass.specs.Rounds.{pairs_into}
 use Rattle.gm_testing.proofs.pass_desks.answers.Given as goal
 
 abbrev pub invariant-loop-note : goal.invariant-loop-note

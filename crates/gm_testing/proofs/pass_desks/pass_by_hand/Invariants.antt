@@ -1,5 +1,5 @@
 use Rattle.gm_deliveries.specs.State.{pairs_in}
-use Rattle.gm_desk.specs.Spots.{spot_of}
+use Rattle.gm_pass.specs.Spots.{spot_of}
 use Rattle.gm_testing.proofs.pass_desks.pass_by_hand.Given as goal
 
 abbrev pub ghosts-pass_named-L-Ledger : goal.ghosts-pass_named-L-Ledger

@@ -1,0 +1,5 @@
+pub mod Places
+pub mod Kept
+pub mod Gains
+pub mod RoundLemmas
+pub mod FullLemmas

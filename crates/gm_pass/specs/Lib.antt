@@ -1,0 +1,4 @@
+pub mod Spots
+pub mod Parts
+pub mod Rounds
+pub mod Begun
