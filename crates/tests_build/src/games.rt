@@ -1,7 +1,6 @@
-//! Orders of tiers, and the games that are solved tier by tier.
+//! The games that are solved tier by tier.
 mod dao;
 mod nine_points;
-mod orders;
 pub(crate) mod plans;
 mod rings;
 mod solving;

@@ -1,4 +1,4 @@
-//! What the boards, the toys and the games say of worked positions.
+//! What the boards, the toys and the games say of worked positions, and orders of tiers.
 mod asking;
 mod boards;
 mod chain;
@@ -8,6 +8,7 @@ mod drawings;
 mod hare;
 mod morris;
 mod mutorere;
+mod orders;
 mod squares;
 mod stairs;
 mod tactix;

@@ -32,16 +32,6 @@ pub fn has_children<G: Game>(p: Position, children: &[Position]) -> bool {
     G::is_legal(p) && canonical_children::<G>(p).as_slice() == children
 }
 
-/// Whether a position is canonical and legal, and has these canonical parents in a tier.
-pub fn has_parents<G: Game>(c: Position, tier: u64, parents: &[u64]) -> bool {
-    G::is_legal(c) && G::canonical(c) == c && G::parents(c, tier).as_slice() == parents
-}
-
-/// Whether a tier has these child tiers.
-pub fn has_child_tiers<G: Game>(tier: u64, tiers: &[u64]) -> bool {
-    G::child_tiers(tier).as_slice() == tiers
-}
-
 /// Whether a tier has this size and this rank.
 pub fn has_size_and_rank<G: Game>(tier: u64, size: u64, rank: u64) -> bool {
     G::tier_size(tier) == size && G::tier_rank(tier) == rank
@@ -110,7 +100,7 @@ pub fn check_indexes<G: Game>(rt: &impl Abort, rows: &[(u64, &[u32], Option<End>
 /// The child tiers of these tiers.
 pub fn check_child_tiers<G: Game>(rt: &impl Abort, rows: &[(u64, &[u64])]) {
     for (tier, tiers) in rows {
-        expect(rt, has_child_tiers::<G>(*tier, tiers));
+        expect(rt, G::child_tiers(*tier).as_slice() == *tiers);
     }
 }
 
@@ -121,14 +111,22 @@ pub fn check_parents<G: Game>(rt: &impl Abort, rows: &[(u64, u64, u64, &[u64])])
             tier: *tier,
             index: *index,
         };
-        expect(rt, has_parents::<G>(c, *above, parents));
+        expect(rt, G::is_legal(c) && G::canonical(c) == c);
+        expect(rt, G::parents(c, *above).as_slice() == *parents);
     }
 }
 
-/// These are texts of moves of the position with this text, with their numbers.
-pub fn check_moves<G: Shown>(rt: &impl Abort, position: &[u8], rows: &[(&[u8], u32)]) {
-    for (text, number) in rows {
-        expect_eq(rt, move_from::<G>(position, text), Some(*number));
+/// Whether each of these is the text of the move of this number of the position with that text.
+pub fn check_moves<G: Shown>(rt: &impl Abort, position: &[u8], rows: &[(&[u8], u32, bool)]) {
+    for (text, number, is_so) in rows {
+        expect_eq(rt, move_from::<G>(position, text) == Some(*number), *is_so);
+    }
+}
+
+/// Whether each of these, a position's text and one more, is that of a position and of one of its moves.
+pub fn check_are_moves<G: Shown>(rt: &impl Abort, rows: &[(&[u8], &[u8], bool)]) {
+    for (position, text, is_so) in rows {
+        expect_eq(rt, move_from::<G>(position, text).is_some(), *is_so);
     }
 }
 
@@ -137,13 +135,20 @@ pub fn starts<G: Shown>(text: &[u8]) -> bool {
     G::show(G::initial()).as_slice() == text
 }
 
-/// Whether these are the numbers of the moves of the start, and how many canonical children it has.
-pub fn at_start<G: Game>(numbers: &[u32]) -> (bool, usize) {
+/// The start is this position, has this text, moves of these numbers, and so many canonical children.
+pub fn check_start<G: Shown>(
+    rt: &impl Abort,
+    start: Position,
+    text: &[u8],
+    numbers: &[u32],
+    children: usize,
+) {
     let p = G::initial();
-    (
-        G::moves(p).as_slice() == numbers,
-        canonical_children::<G>(p).len(),
-    )
+    expect_eq(rt, p, start);
+    expect(rt, G::show(p).as_slice() == text);
+    expect_eq(rt, G::read(text), Some(p));
+    expect(rt, G::moves(p).as_slice() == numbers);
+    expect_eq(rt, canonical_children::<G>(p).len(), children);
 }
 
 /// Whether this is the text of a legal position, and is read as that position.
@@ -179,7 +184,7 @@ pub fn move_at<G: Shown>(p: Position, text: &[u8]) -> Option<u32> {
 }
 
 /// The same at the position with that text.
-pub fn move_from<G: Shown>(position: &[u8], text: &[u8]) -> Option<u32> {
+fn move_from<G: Shown>(position: &[u8], text: &[u8]) -> Option<u32> {
     match G::read(position) {
         Some(p) => move_at::<G>(p, text),
         None => None,

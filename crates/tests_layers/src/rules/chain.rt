@@ -1,7 +1,7 @@
 //! Chain's moves, ends, parents and texts.
 use crate::expect::{expect, expect_eq};
 use crate::rules::asking::{
-    at, check_indexes, check_parents, has_child_tiers, has_children, has_size_and_rank, leads,
+    at, check_child_tiers, check_indexes, check_parents, has_children, has_size_and_rank, leads,
     move_at, reads_no_move, reads_none, shows,
 };
 use gm_game::game::{Game, laws};
@@ -25,7 +25,7 @@ fn chain_has_one_tier(rt: HostRuntime) {
     expect_eq(&rt, Chain::<4294967295>::tier_size(0), 4_294_967_296);
     expect(&rt, !Ten::is_legal(at(11)));
     expect(&rt, !Ten::is_legal(Position { tier: 1, index: 0 }));
-    expect(&rt, has_child_tiers::<Ten>(0, &[]));
+    check_child_tiers::<Ten>(&rt, &[(0, &[])]);
 }
 
 #[test]

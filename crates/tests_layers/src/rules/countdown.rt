@@ -120,9 +120,9 @@ const NO_MOVES: &[&[u8]] = &[
 
 #[test]
 fn countdown_reads_its_moves_and_no_others(rt: HostRuntime) {
-    check_moves::<Ten>(&rt, b"10", &[(b"1", 1), (b"2", 2)]);
+    check_moves::<Ten>(&rt, b"10", &[(b"1", 1, true), (b"2", 2, true)]);
     expect(&rt, reads_no_move::<Ten>(at(10), NO_MOVES));
-    check_moves::<Ten>(&rt, b"1", &[(b"1", 1)]);
+    check_moves::<Ten>(&rt, b"1", &[(b"1", 1, true)]);
     expect(&rt, reads_no_move::<Ten>(at(1), &[b"2"]));
 }
 

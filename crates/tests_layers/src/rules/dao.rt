@@ -1,7 +1,6 @@
 use crate::expect::{expect, expect_eq};
-use crate::rules::asking::{at_start, check_moves, counts, move_from, reads_none, starts};
+use crate::rules::asking::{check_moves, check_start, counts, reads_none};
 use gm_dao::dao::Dao;
-use gm_game::game::Game;
 use gm_game::position::{End, Position};
 use gm_game::shown::Shown;
 use std::process::Abort;
@@ -28,13 +27,14 @@ fn dao_start(rt: HostRuntime) {
         tier: 0,
         index: 740_194,
     };
-    expect_eq(&rt, Dao::initial(), start);
-    expect(&rt, starts::<Dao>(START));
-    expect_eq(&rt, Dao::read(START), Some(start));
-    expect_eq(&rt, at_start::<Dao>(&MOVES_OF_THE_START), (true, 3));
-    check_moves::<Dao>(&rt, START, &[(b"a1-a3", 2), (b"d4-d2", 253)]);
+    check_start::<Dao>(&rt, start, START, &MOVES_OF_THE_START, 3);
     // A slide goes as far as it can.
-    expect(&rt, move_from::<Dao>(START, b"a1-a2") != Some(1));
+    let moves: &[(&[u8], u32, bool)] = &[
+        (b"a1-a3", 2, true),
+        (b"d4-d2", 253, true),
+        (b"a1-a2", 1, false),
+    ];
+    check_moves::<Dao>(&rt, START, moves);
 }
 
 #[test]

@@ -1,5 +1,5 @@
 use crate::expect::{expect, expect_eq};
-use crate::rules::asking::{check_ahead, counts, move_from, reads_none, starts};
+use crate::rules::asking::{check_ahead, check_are_moves, counts, reads_none, starts};
 use gm_game::game::Game;
 use gm_game::position::Value;
 use gm_game::shown::Shown;
@@ -64,18 +64,18 @@ fn within_on_tictactoe(rt: HostRuntime) {
 #[test]
 fn texts(rt: HostRuntime) {
     expect(&rt, starts::<TicTacToe>(b"........."));
-    expect(&rt, move_from::<TicTacToe>(b".........", b"b3").is_some());
+    check_are_moves::<TicTacToe>(&rt, &[(b".........", b"b3", true)]);
     // In the last tier a piece moves to a neighbor in its row or column, in Achi also between the center and a corner.
-    expect(
-        &rt,
-        move_from::<ThreeMens>(b"xxo.o.x.o", b"a1-b1").is_some(),
-    );
-    expect(
-        &rt,
-        move_from::<ThreeMens>(b"xo..xo.xo", b"b2-a3").is_none(),
-    );
-    expect(&rt, move_from::<Achi>(b"xo.oxxoxo", b"b2-a3").is_some());
-    expect(&rt, move_from::<Achi>(b"xo.oxxoxo", b"a3").is_none());
+    let neighbors: &[(&[u8], &[u8], bool)] = &[
+        (b"xxo.o.x.o", b"a1-b1", true),
+        (b"xo..xo.xo", b"b2-a3", false),
+    ];
+    check_are_moves::<ThreeMens>(&rt, neighbors);
+    let corners: &[(&[u8], &[u8], bool)] = &[
+        (b"xo.oxxoxo", b"b2-a3", true),
+        (b"xo.oxxoxo", b"a3", false),
+    ];
+    check_are_moves::<Achi>(&rt, corners);
 }
 
 #[test]

@@ -1,8 +1,6 @@
-use crate::expect::{expect, expect_eq};
-use crate::rules::asking::{at_start, check_moves, move_from, reads_none, starts};
-use gm_game::game::Game;
+use crate::expect::expect;
+use crate::rules::asking::{check_moves, check_start, reads_none};
 use gm_game::position::Position;
-use gm_game::shown::Shown;
 use gm_mutorere::mutorere::MuTorere;
 
 const START: &[u8] = b"xxxxoooo.";
@@ -10,14 +8,15 @@ const START: &[u8] = b"xxxxoooo.";
 #[test]
 fn mutorere_start(rt: HostRuntime) {
     let start = Position { tier: 0, index: 0 };
-    expect_eq(&rt, MuTorere::initial(), start);
-    expect(&rt, starts::<MuTorere>(START));
-    expect_eq(&rt, MuTorere::read(START), Some(start));
-    expect_eq(&rt, at_start::<MuTorere>(&[8, 56]), (true, 1));
-    check_moves::<MuTorere>(&rt, START, &[(b"0-c", 8), (b"3-c", 56)]);
+    check_start::<MuTorere>(&rt, start, START, &[8, 56], 1);
     // No opponent's piece is beside 1, and the center is no digit.
-    expect(&rt, move_from::<MuTorere>(START, b"1-c") != Some(24));
-    expect(&rt, move_from::<MuTorere>(START, b"0-8") != Some(8));
+    let moves: &[(&[u8], u32, bool)] = &[
+        (b"0-c", 8, true),
+        (b"3-c", 56, true),
+        (b"1-c", 24, false),
+        (b"0-8", 8, false),
+    ];
+    check_moves::<MuTorere>(&rt, START, moves);
 }
 
 #[test]

@@ -1,10 +1,9 @@
 use crate::expect::{expect, expect_eq};
-use crate::rules::asking::{check_ahead, move_from, reads_none, starts};
+use crate::rules::asking::{check_ahead, check_are_moves, reads_none, starts};
 use gm_game::children::canonical_children;
 use gm_game::position::Value;
 use gm_game::shown::Shown;
 use gm_tactix::tactix::TacTix;
-use std::process::Abort;
 
 // How many moves the start has, and how many canonical children.
 fn at_start<G: Shown>() -> (usize, usize) {
@@ -48,18 +47,17 @@ fn tactix_starts(rt: HostRuntime) {
     expect_eq(&rt, at_start::<TacTix<6, true>>(), (1, 1));
 }
 
-// Whether each of these is the text of a move of the full square of side 3, or is not.
-fn check_texts(rt: &impl Abort, texts: &[&[u8]], are_moves: bool) {
-    for text in texts {
-        let found = move_from::<TacTix<3, false>>(b"xxxxxxxxx", text);
-        expect_eq(rt, found.is_some(), are_moves);
-    }
-}
+const MOVES: &[(&[u8], &[u8], bool)] = &[
+    (b"xxxxxxxxx", b"a1", true),
+    (b"xxxxxxxxx", b"a1-a3", true),
+    (b"xxxxxxxxx", b"a1-c1", true),
+    // One counter is no range, and a range goes up.
+    (b"xxxxxxxxx", b"a1-a1", false),
+    (b"xxxxxxxxx", b"a3-a1", false),
+];
 
 #[test]
 fn texts(rt: HostRuntime) {
-    check_texts(&rt, &[b"a1", b"a1-a3", b"a1-c1"], true);
-    // One counter is no range, and a range goes up.
-    check_texts(&rt, &[b"a1-a1", b"a3-a1"], false);
+    check_are_moves::<TacTix<3, false>>(&rt, MOVES);
     expect(&rt, reads_none::<TacTix<2, false>>(&[b"xxxxx", b"xxox"]));
 }

@@ -1,8 +1,8 @@
 //! Wheel's moves, ends, parents and texts.
 use crate::expect::{expect, expect_eq};
 use crate::rules::asking::{
-    at, check_indexes, check_moves, check_parents, ends, has_child_tiers, has_children,
-    has_parents, has_size_and_rank, reads_no_move, reads_none, shows,
+    at, check_child_tiers, check_indexes, check_moves, check_parents, ends, has_children,
+    has_size_and_rank, reads_no_move, reads_none, shows,
 };
 use gm_game::game::{Game, laws};
 use gm_game::position::{End, Position};
@@ -48,7 +48,7 @@ fn wheel_has_one_tier(rt: HostRuntime) {
     expect_eq(&rt, Wheel::tier_size(1), 0);
     expect(&rt, !Wheel::is_legal(at(10)));
     expect(&rt, !Wheel::is_legal(Position { tier: 1, index: 0 }));
-    expect(&rt, has_child_tiers::<Wheel>(0, &[]));
+    check_child_tiers::<Wheel>(&rt, &[(0, &[])]);
 }
 
 #[test]
@@ -69,7 +69,7 @@ fn parents_in_wheel(rt: HostRuntime) {
         ],
     );
     for index in 0..10 {
-        expect(&rt, has_parents::<Wheel>(at(index), 1, &[]));
+        check_parents::<Wheel>(&rt, &[(0, index, 1, &[])]);
     }
 }
 
@@ -84,7 +84,7 @@ fn texts_of_wheel(rt: HostRuntime) {
         &rt,
         reads_none::<Wheel>(&[b"", b"10", b"01", b"+1", b" 1", b"1\n", b"\xff"]),
     );
-    check_moves::<Wheel>(&rt, b"8", &[(b"3", 3), (b"6", 6)]);
+    check_moves::<Wheel>(&rt, b"8", &[(b"3", 3, true), (b"6", 6, true)]);
     expect(
         &rt,
         reads_no_move::<Wheel>(p, &[b"", b"0", b"8", b"03", b"10", b"4294967299"]),
