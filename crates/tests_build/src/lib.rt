@@ -1,23 +1,12 @@
-//! The worked values of builds: whole games over stores that fail, and over files of version 1; and of answers and lines of play over what is built.
+//! The worked values of the solver and of what stands on it (docs/EXAMPLES.md): levels, shards, workers and tiers solved on the toys in `solver`, games
+//! that are solved tier by tier in `games`, and builds over stores, with answers, lines and analyses of what is built, in `builds`.
 #![tactic(auto)]
 
 #[cfg(test)]
-mod analyses;
-#[cfg(test)]
-mod answers;
+mod builds;
 #[cfg(test)]
 mod expect;
 #[cfg(test)]
-mod failing;
-#[cfg(test)]
-mod files;
-#[cfg(test)]
 mod games;
 #[cfg(test)]
-mod lines;
-#[cfg(test)]
-mod migrating;
-#[cfg(test)]
-mod progresses;
-#[cfg(test)]
-mod work;
+mod solver;

@@ -1,0 +1,12 @@
+//! Tables, levels, shards, tiers solved, boards and passes by hand, on the toys.
+mod boards;
+mod by_hand;
+mod checks;
+mod levels;
+mod parts;
+mod passes;
+mod records;
+mod shards;
+mod tables;
+pub(crate) mod ways;
+mod workers;

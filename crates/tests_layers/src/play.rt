@@ -1,0 +1,4 @@
+//! Moves, lines and sessions of play on the toys.
+mod one_tier;
+mod questions;
+mod sessions;

@@ -1,0 +1,216 @@
+//! What a game says of its positions, tiers and texts.
+use crate::expect::{expect, expect_eq};
+use gm_game::children::canonical_children;
+use gm_game::game::Game;
+use gm_game::position::{End, Position, Solved, Value};
+use gm_game::shown::Shown;
+use gm_settle::ahead::within;
+use std::process::Abort;
+
+/// A position of tier 0.
+pub fn at(index: u64) -> Position {
+    Position { tier: 0, index }
+}
+
+/// Whether a position is legal and has these moves.
+pub fn has_moves<G: Game>(p: Position, moves: &[u32]) -> bool {
+    G::is_legal(p) && G::moves(p).as_slice() == moves
+}
+
+/// Whether a position is legal, and ends the game in this way or not at all.
+pub fn ends<G: Game>(p: Position, end: Option<End>) -> bool {
+    G::is_legal(p) && G::primitive(p) == end
+}
+
+/// Whether a position is legal and canonical.
+pub fn is_canonical<G: Game>(p: Position) -> bool {
+    G::is_legal(p) && G::canonical(p) == p
+}
+
+/// Whether a position is legal and has these canonical children.
+pub fn has_children<G: Game>(p: Position, children: &[Position]) -> bool {
+    G::is_legal(p) && canonical_children::<G>(p).as_slice() == children
+}
+
+/// Whether a tier has this size and this rank.
+pub fn has_size_and_rank<G: Game>(tier: u64, size: u64, rank: u64) -> bool {
+    G::tier_size(tier) == size && G::tier_rank(tier) == rank
+}
+
+/// How many indexes a tier has, how many of them are legal, and how many of those canonical.
+pub fn counts<G: Game>(tier: u64) -> (u64, u64, u64) {
+    let size = G::tier_size(tier);
+    let mut legal = 0;
+    let mut canonical = 0;
+    for index in 0..size {
+        let p = Position { tier, index };
+        if G::is_legal(p) {
+            legal += 1;
+            if G::canonical(p) == p {
+                canonical += 1;
+            }
+        }
+    }
+    (size, legal, canonical)
+}
+
+/// What looking this many moves ahead finds for a position; none where it is not legal.
+pub fn looked_ahead<G: Game>(p: Position, moves: u32) -> Option<Solved> {
+    if G::is_legal(p) {
+        within::<G>(p, moves)
+    } else {
+        None
+    }
+}
+
+/// A text, how many moves are looked ahead, and the value and remoteness that this finds.
+pub type Ahead = (&'static [u8], u32, Option<(Value, u32)>);
+
+/// What looking ahead finds for the boards with these texts.
+pub fn check_ahead<G: Shown>(rt: &impl Abort, rows: &[Ahead]) {
+    for (text, moves, found) in rows {
+        let solved = match found {
+            Some((value, remoteness)) => Some(Solved {
+                value: *value,
+                remoteness: *remoteness,
+            }),
+            None => None,
+        };
+        expect_eq(rt, ahead::<G>(text, *moves), solved);
+    }
+}
+
+// What looking this many moves ahead finds for the board with this text.
+fn ahead<G: Shown>(text: &[u8], moves: u32) -> Option<Solved> {
+    match G::read(text) {
+        Some(p) => looked_ahead::<G>(p, moves),
+        None => None,
+    }
+}
+
+/// The indexes of tier 0 with these moves, and the way in which each ends the game.
+pub fn check_indexes<G: Game>(rt: &impl Abort, rows: &[(u64, &[u32], Option<End>)]) {
+    for (index, moves, end) in rows {
+        let p = at(*index);
+        expect(rt, has_moves::<G>(p, moves) && ends::<G>(p, *end));
+        expect(rt, is_canonical::<G>(p));
+    }
+}
+
+/// The child tiers of these tiers.
+pub fn check_child_tiers<G: Game>(rt: &impl Abort, rows: &[(u64, &[u64])]) {
+    for (tier, tiers) in rows {
+        expect(rt, G::child_tiers(*tier).as_slice() == *tiers);
+    }
+}
+
+/// The tiers, indexes, and the canonical parents of each in one more tier.
+pub fn check_parents<G: Game>(rt: &impl Abort, rows: &[(u64, u64, u64, &[u64])]) {
+    for (tier, index, above, parents) in rows {
+        let c = Position {
+            tier: *tier,
+            index: *index,
+        };
+        expect(rt, G::is_legal(c) && G::canonical(c) == c);
+        expect(rt, G::parents(c, *above).as_slice() == *parents);
+    }
+}
+
+/// Whether each of these is the text of the move of this number of the position with that text.
+pub fn check_moves<G: Shown>(rt: &impl Abort, position: &[u8], rows: &[(&[u8], u32, bool)]) {
+    for (text, number, is_so) in rows {
+        expect_eq(rt, move_from::<G>(position, text) == Some(*number), *is_so);
+    }
+}
+
+/// Whether each of these, a position's text and one more, is that of a position and of one of its moves.
+pub fn check_are_moves<G: Shown>(rt: &impl Abort, rows: &[(&[u8], &[u8], bool)]) {
+    for (position, text, is_so) in rows {
+        expect_eq(rt, move_from::<G>(position, text).is_some(), *is_so);
+    }
+}
+
+/// Whether this is the text of the start.
+pub fn starts<G: Shown>(text: &[u8]) -> bool {
+    G::show(G::initial()).as_slice() == text
+}
+
+/// The start is this position, has this text, moves of these numbers, and so many canonical children.
+pub fn check_start<G: Shown>(
+    rt: &impl Abort,
+    start: Position,
+    text: &[u8],
+    numbers: &[u32],
+    children: usize,
+) {
+    let p = G::initial();
+    expect_eq(rt, p, start);
+    expect(rt, G::show(p).as_slice() == text);
+    expect_eq(rt, G::read(text), Some(p));
+    expect(rt, G::moves(p).as_slice() == numbers);
+    expect_eq(rt, canonical_children::<G>(p).len(), children);
+}
+
+/// Whether this is the text of a legal position, and is read as that position.
+pub fn shows<G: Shown>(p: Position, text: &[u8]) -> bool {
+    G::is_legal(p) && G::show(p).as_slice() == text && G::read(text) == Some(p)
+}
+
+/// Whether none of these texts is that of a position.
+pub fn reads_none<G: Shown>(texts: &[&[u8]]) -> bool {
+    for text in texts {
+        if G::read(text).is_some() {
+            return false;
+        }
+    }
+    true
+}
+
+/// The move that this text is read as at a position, and whose text it is; none where there is none, and where the position is not legal.
+pub fn move_at<G: Shown>(p: Position, text: &[u8]) -> Option<u32> {
+    if !G::is_legal(p) {
+        return None;
+    }
+    match G::read_move(p, text) {
+        Some(m) => {
+            if G::move_text(p, m).as_slice() == text {
+                Some(m)
+            } else {
+                None
+            }
+        }
+        None => None,
+    }
+}
+
+/// The same at the position with that text.
+fn move_from<G: Shown>(position: &[u8], text: &[u8]) -> Option<u32> {
+    match G::read(position) {
+        Some(p) => move_at::<G>(p, text),
+        None => None,
+    }
+}
+
+/// Whether this text is read as a move of a legal position that leads there.
+pub fn leads<G: Shown>(p: Position, text: &[u8], child: Position) -> bool {
+    if !G::is_legal(p) {
+        return false;
+    }
+    match G::read_move(p, text) {
+        Some(read) => G::play(p, read) == child,
+        None => false,
+    }
+}
+
+/// Whether none of these texts is that of a move of a legal position.
+pub fn reads_no_move<G: Shown>(p: Position, texts: &[&[u8]]) -> bool {
+    if !G::is_legal(p) {
+        return false;
+    }
+    for text in texts {
+        if G::read_move(p, text).is_some() {
+            return false;
+        }
+    }
+    true
+}

@@ -1,0 +1,63 @@
+use crate::expect::{expect, expect_eq};
+use crate::rules::asking::{check_ahead, check_are_moves, reads_none, starts};
+use gm_game::children::canonical_children;
+use gm_game::position::Value;
+use gm_game::shown::Shown;
+use gm_tactix::tactix::TacTix;
+
+// How many moves the start has, and how many canonical children.
+fn at_start<G: Shown>() -> (usize, usize) {
+    let p = G::initial();
+    (G::moves(p).len(), canonical_children::<G>(p).len())
+}
+
+#[test]
+fn tactix_of_two(rt: HostRuntime) {
+    check_ahead::<TacTix<2, false>>(
+        &rt,
+        &[
+            (b"xxxx", 4, Some((Value::Lose, 4))),
+            (b"xxx.", 4, Some((Value::Win, 3))),
+            (b"x..x", 4, Some((Value::Lose, 2))),
+            (b"xx..", 4, Some((Value::Win, 1))),
+        ],
+    );
+    expect_eq(&rt, at_start::<TacTix<2, false>>(), (8, 2));
+    expect(&rt, starts::<TacTix<2, false>>(b"xxxx"));
+}
+
+#[test]
+fn tactix_of_two_misere(rt: HostRuntime) {
+    check_ahead::<TacTix<2, true>>(
+        &rt,
+        &[
+            (b"xxxx", 4, Some((Value::Lose, 3))),
+            (b"....", 4, Some((Value::Win, 0))),
+        ],
+    );
+}
+
+#[test]
+fn tactix_starts(rt: HostRuntime) {
+    expect_eq(&rt, at_start::<TacTix<3, false>>(), (27, 7));
+    expect_eq(&rt, at_start::<TacTix<4, false>>(), (64, 11));
+    expect_eq(&rt, at_start::<TacTix<5, false>>(), (125, 24));
+    // Any other side plays as 1.
+    expect_eq(&rt, at_start::<TacTix<0, false>>(), (1, 1));
+    expect_eq(&rt, at_start::<TacTix<6, true>>(), (1, 1));
+}
+
+const MOVES: &[(&[u8], &[u8], bool)] = &[
+    (b"xxxxxxxxx", b"a1", true),
+    (b"xxxxxxxxx", b"a1-a3", true),
+    (b"xxxxxxxxx", b"a1-c1", true),
+    // One counter is no range, and a range goes up.
+    (b"xxxxxxxxx", b"a1-a1", false),
+    (b"xxxxxxxxx", b"a3-a1", false),
+];
+
+#[test]
+fn texts(rt: HostRuntime) {
+    check_are_moves::<TacTix<3, false>>(&rt, MOVES);
+    expect(&rt, reads_none::<TacTix<2, false>>(&[b"xxxxx", b"xxox"]));
+}
