@@ -1,15 +1,14 @@
 -- What a search for reached positions keeps.
-use Rattle.std.proofs.Common.{◌≡◌, ℕ, ◌<◌, ◌≤◌, ◌+◌, ◌⊎◌, inl, inr, true, List, [], ◌∷◌, ◌++◌, length, take, get_or, slice_get, Some, refl, sym, ap, ◌∙◌, subst, arith, append_assoc}
+use Rattle.std.proofs.Common.{◌≡◌, ℕ, ◌<◌, ◌+◌, ◌⊎◌, inl, inr, true, List, [], ◌∷◌, ◌++◌, length, take, get_or, refl, sym, ap, ◌∙◌, subst, arith}
 use Rattle.std.specs.List.{Contains}
-use Rattle.std.proofs.lemmas.List.{take_all, take_more, take-append-le}
+use Rattle.std.proofs.lemmas.List.{take_more}
 use Rattle.std.proofs.lemmas.List.Elements.{Contains-append_left, Contains-push_cases, Contains-push}
-use Rattle.std.proofs.lemmas.Option.{get_or_from_slice_get, slice_get_within}
 use Rattle.gm_game.specs.declared.position.Position.{Position}
 use Rattle.gm_game.specs.Laws.{IsGame}
-use Rattle.gm_game.specs.Rules.{Rules, at, children, IsCanonicalChild}
-use Rattle.gm_game.proofs.Lists.{map_from, map_in}
+use Rattle.gm_game.specs.Rules.{Rules, children, IsCanonicalChild}
+use Rattle.gm_game.proofs.Lists.{map_from, map_in, contains_none}
 use Rattle.gm_play.specs.Lines.{position_after}
-use Rattle.gm_find.specs.Reaching.{IsPlay, IsReachedByPlay, AreReached, IsGrown, key_of}
+use Rattle.gm_find.specs.Reaching.{IsPlay, IsReachedByPlay, AreReached, IsGrown, AreWaiting, key_of}
 
 -- a line with one move more
 play_more : (r : Rules) (p : Position) (ms : List ℕ) (m : ℕ) → IsPlay r p ms → Contains (r.moves (position_after r p ms)) m → IsPlay r p (ms ++ m ∷ [])
@@ -58,57 +57,91 @@ module _ (r : Rules) (g : IsGame r) where
       let own = (g.canonical_children p (r.canonical (r.play p m)) l).1 child in
       reached_after ks (r.play p m) ms closed (g.play_legal p m l h.0) h.1 (closed (r.canonical p) (r.canonical (r.play p m)) has own)
 
--- what is found so far is reached, and the canonical children of the first n are found
-pub record IsSearched (r : Rules) (n : ℕ) (ks : List (ℕ × ℕ)) : Type 0 where
+-- what is found so far is reached, and the canonical children of all that isn't waiting are found
+pub record IsSearched (r : Rules) (ks : List (ℕ × ℕ)) (waiting : List Position) : Type 0 where
   pub start : Contains ks (key_of (r.canonical r.initial))
   pub sound : (c : Position) → Contains ks (key_of c) → IsReachedByPlay r c
-  pub closed : (c d : Position) → Contains (take n ks) (key_of c) → IsCanonicalChild r c d → Contains ks (key_of d)
+  pub inside : (c : Position) → Contains waiting c → Contains ks (key_of c)
+  pub closed : (c : Position) → Contains ks (key_of c) → Contains waiting c ⊎ ((d : Position) → IsCanonicalChild r c d → Contains ks (key_of d))
 
-grown_has : (old new : List (ℕ × ℕ)) (k : ℕ × ℕ) → IsGrown old new → Contains old k → Contains new k
-grown_has old new k (more, e) has = subst (λ (l : List (ℕ × ℕ)). Contains l k) (sym e) (Contains-append_left old more k has)
+-- the last position that waits is found, and is reached
+pub last_reached : (r : Rules) (ks : List (ℕ × ℕ)) (waiting rest : List Position) (p : Position) → IsSearched r ks waiting → waiting ≡ rest ++ p ∷ [] → IsReachedByPlay r p
+last_reached r ks waiting rest p h e = h.sound p (h.inside p (subst (λ (l : List Position). Contains l p) (sym e) (Contains-push rest p)))
 
-pub grown_again : (a b c : List (ℕ × ℕ)) → IsGrown a b → IsGrown b c → IsGrown a c
-grown_again a b c (x, e) (y, f) = (x ++ y, f ∙ ap (λ (l : List (ℕ × ℕ)). l ++ y) e ∙ append_assoc a x y)
-
-pub at_key : (ks : List (ℕ × ℕ)) (n : ℕ) (k : ℕ × ℕ) → slice_get ks n ≡ Some k → Contains ks k
-at_key ks n k e = (n, slice_get_within ks n k e, get_or_from_slice_get ks n k k e)
-
--- one position more with its canonical children
-pub searched_more : (r : Rules) → IsGame r → (n : ℕ) (old new : List (ℕ × ℕ)) (p : Position) → IsSearched r n old → slice_get old n ≡ Some (key_of p) → IsGrown old new → ((c : Position) → IsCanonicalChild r p c → Contains new (key_of c))
-    → ((c : Position) → Contains new (key_of c) → Contains old (key_of c) ⊎ IsCanonicalChild r p c) → IsSearched r (n + 1) new
-searched_more r g n old new p h here grown children only = record {
-  start = grown_has old new (key_of (r.canonical r.initial)) grown h.start;
-  sound = λ c has. elim (only c has) [ inl o ↦ h.sound c o | inr k ↦ child_reached r g p c (h.sound p (at_key old n (key_of p) here)) k ];
-  closed = λ c d has k. (
-      let (more, e) = grown in
-      let inside : n < length old = slice_get_within old n (key_of p) here in
-      let front : take (n + 1) new ≡ take (n + 1) old = ap (take (n + 1)) e ∙ take-append-le (n + 1) old more (omega arith) in
-      let one : take (n + 1) old ≡ take n old ++ key_of p ∷ [] = take_more old n (key_of p) inside ∙ ap (λ (x : ℕ × ℕ). take n old ++ x ∷ []) (get_or_from_slice_get old n (key_of p) (key_of p) here) in
-      elim (Contains-push_cases (take n old) (key_of p) (key_of c) (subst (λ (l : List (ℕ × ℕ)). Contains l (key_of c)) (front ∙ one) has)) [
-        | inl o ↦ grown_has old new (key_of d) grown (h.closed c d o k)
-        | inr f ↦ children d (subst (λ (x : Position). IsCanonicalChild r x d) (same_key p c f) k)
-      ]);
+-- a position that waited is closed, once its canonical children are found
+pub searched_more : (r : Rules) → IsGame r → (old new : List (ℕ × ℕ)) (waiting rest after : List Position) (p : Position) → IsSearched r old waiting → waiting ≡ rest ++ p ∷ [] → IsGrown old new
+    → ((c : Position) → IsCanonicalChild r p c → Contains new (key_of c)) → ((c : Position) → Contains new (key_of c) → Contains old (key_of c) ⊎ IsCanonicalChild r p c)
+    → AreWaiting old rest new after → IsSearched r new after
+searched_more r g old new waiting rest after p h e grown children only waits = record {
+  start = grown (key_of (r.canonical r.initial)) h.start;
+  sound = λ c has. elim (only c has) [ inl o ↦ h.sound c o | inr k ↦ child_reached r g p c (last_reached r old waiting rest p h e) k ];
+  inside = λ c has. elim (waits.only c has) [
+    | inl o ↦ grown (key_of c) (h.inside c (subst (λ (l : List Position). Contains l c) (sym e) (Contains-append_left rest (p ∷ []) c o)))
+    | inr k ↦ k
+  ];
+  closed = λ c has. elim (waits.fresh c has) [
+    | inr o ↦ inl o
+    | inl o ↦ elim (h.closed c o) [
+      | inr all ↦ inr (λ d k. grown (key_of d) (all d k))
+      | inl was ↦ elim (Contains-push_cases rest p c (subst (λ (l : List Position). Contains l c) e was)) [
+        | inl still ↦ inl (waits.kept c still)
+        | inr f ↦ inr (λ d k. children d (subst (λ (x : Position). IsCanonicalChild r x d) (sym f) k))
+      ]
+    ]
+  ];
 }
-  where
-    same_key : (p c : Position) → key_of p ≡ key_of c → c ≡ p
-    same_key p c f = ap (λ (k : ℕ × ℕ). at k.0 k.1) (sym f)
 
--- all is found once the canonical children of all that is found are
-pub all_searched : (r : Rules) → IsGame r → (n : ℕ) (ks : List (ℕ × ℕ)) → IsSearched r n ks → length ks ≤ n → AreReached r ks
-all_searched r g n ks h l c = (
+-- all is found once nothing waits
+pub all_searched : (r : Rules) → IsGame r → (ks : List (ℕ × ℕ)) (waiting : List Position) → IsSearched r ks waiting → length waiting ≡ 0 → AreReached r ks
+all_searched r g ks waiting h l c = (
   h.sound c,
-  λ (ms, play, e). subst (λ (q : Position). Contains ks (key_of q)) e (reached_after r g ks r.initial ms (λ a d has k. h.closed a d (subst (λ (l : List (ℕ × ℕ)). Contains l (key_of a)) (sym (take_all n ks l)) has) k) g.initial_legal play h.start),
+  λ (ms, play, e). subst (λ (q : Position). Contains ks (key_of q)) e (reached_after r g ks r.initial ms closed g.initial_legal play h.start),
 )
+  where
+    closed : (a d : Position) → Contains ks (key_of a) → IsCanonicalChild r a d → Contains ks (key_of d)
+    closed a d has k = elim (h.closed a has) [
+      | inl o ↦ absurd (none waiting a l o)
+      | inr all ↦ all d k
+    ]
+      where
+        none : (xs : List Position) (x : Position) → length xs ≡ 0 → Contains xs x → ⊥
+        none xs x e has = let b = has.1 in omega arith
 
 -- at first the start alone is found
-pub searched_none : (r : Rules) → IsGame r → (old new : List (ℕ × ℕ)) → old ≡ [] → Contains new (key_of (r.canonical r.initial)) → ((c : Position) → Contains new (key_of c) → Contains old (key_of c) ⊎ (r.canonical r.initial ≡ c)) → IsSearched r 0 new
-searched_none r g old new e there only = record {
+pub searched_none : (r : Rules) → IsGame r → (old new : List (ℕ × ℕ)) (old_waiting waiting : List Position) → old ≡ [] → old_waiting ≡ [] → Contains new (key_of (r.canonical r.initial))
+    → ((c : Position) → Contains new (key_of c) → Contains old (key_of c) ⊎ (r.canonical r.initial ≡ c)) → AreWaiting old old_waiting new waiting → IsSearched r new waiting
+searched_none r g old new old_waiting waiting e f there only waits = record {
   start = there;
   sound = λ c has. elim (only c has) [
-    | inl o ↦ (let none : Contains [] (key_of c) = subst (λ (l : List (ℕ × ℕ)). Contains l (key_of c)) e o in let b = none.1 in absurd (omega arith))
+    | inl o ↦ absurd (contains_none (key_of c) (subst (λ (l : List (ℕ × ℕ)). Contains l (key_of c)) e o))
     | inr f ↦ subst (IsReachedByPlay r) f (start_reached r g)
   ];
-  closed = λ c d has k. (let b = has.1 in absurd (omega arith));
+  inside = λ c has. elim (waits.only c has) [
+    | inl o ↦ absurd (contains_none c (subst (λ (l : List Position). Contains l c) f o))
+    | inr k ↦ k
+  ];
+  closed = λ c has. elim (waits.fresh c has) [
+    | inl o ↦ absurd (contains_none (key_of c) (subst (λ (l : List (ℕ × ℕ)). Contains l (key_of c)) e o))
+    | inr o ↦ inl o
+  ];
+}
+
+-- nothing more waits at first
+pub waiting_none : (ks : List (ℕ × ℕ)) (waiting : List Position) → AreWaiting ks waiting ks waiting
+waiting_none ks waiting = record { kept = λ c has. has; fresh = λ c has. inl has; only = λ c has. inl has }
+
+-- two steps as one
+pub waiting_again : (a b c : List (ℕ × ℕ)) (x y z : List Position) → IsGrown b c → AreWaiting a x b y → AreWaiting b y c z → AreWaiting a x c z
+waiting_again a b c x y z grown h k = record {
+  kept = λ p has. k.kept p (h.kept p has);
+  fresh = λ p has. elim (k.fresh p has) [
+    | inr o ↦ inr o
+    | inl o ↦ elim (h.fresh p o) [ inl u ↦ inl u | inr v ↦ inr (k.kept p v) ]
+  ];
+  only = λ p has. elim (k.only p has) [
+    | inr o ↦ inr o
+    | inl o ↦ elim (h.only p o) [ inl u ↦ inl u | inr v ↦ inr (grown (key_of p) v) ]
+  ];
 }
 
 -- a child more is found
@@ -117,9 +150,9 @@ pub children_more : (cs : List Position) (old cur new : List (ℕ × ℕ)) (k : 
     → IsGrown cur new → Contains new (key_of (get_or cs k d)) → ((c : Position) → Contains new (key_of c) → Contains cur (key_of c) ⊎ (get_or cs k d ≡ c))
     → IsGrown old new × ((c : Position) → Contains (take (k + 1) cs) c → Contains new (key_of c)) × ((c : Position) → Contains new (key_of c) → Contains old (key_of c) ⊎ Contains (take (k + 1) cs) c)
 children_more cs old cur new k d l (grown, there, only) more has one = (
-  grown_again old cur new grown more,
+  λ q has_old. more q (grown q has_old),
   λ c in_more. elim (Contains-push_cases (take k cs) (get_or cs k d) c (subst (λ (xs : List Position). Contains xs c) cut in_more)) [
-    | inl o ↦ grown_has cur new (key_of c) more (there c o)
+    | inl o ↦ more (key_of c) (there c o)
     | inr e ↦ subst (λ (x : Position). Contains new (key_of x)) e has
   ],
   λ c in_new. elim (one c in_new) [

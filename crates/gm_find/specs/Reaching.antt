@@ -1,5 +1,5 @@
 -- The positions that play from the start reaches.
-use Rattle.std.specs.Prelude.{◌≡◌, ℕ, ◌↔◌, List, [], ◌∷◌, ◌++◌}
+use Rattle.std.specs.Prelude.{◌≡◌, ℕ, ◌↔◌, ◌⊎◌, List, [], ◌∷◌}
 use Rattle.std.specs.List.{Contains}
 use Rattle.gm_game.specs.declared.position.Position.{Position}
 use Rattle.gm_game.specs.Rules.{Rules}
@@ -22,6 +22,12 @@ key_of p = (p.tier, p.index)
 abbrev pub AreReached : Rules → List (ℕ × ℕ) → Type 0
 AreReached r keys = (c : Position) → Contains keys (key_of c) ↔ IsReachedByPlay r c
 
--- the new list is the old one, possibly with more at its end
+-- the new list has each key of the old one
 abbrev pub IsGrown : List (ℕ × ℕ) → List (ℕ × ℕ) → Type 0
-IsGrown old new = (more : List (ℕ × ℕ)) × (new ≡ old ++ more)
+IsGrown old new = (k : ℕ × ℕ) → Contains old k → Contains new k
+
+-- what waited still does; what is found now waits; and nothing else does
+pub record AreWaiting (old : List (ℕ × ℕ)) (old_waiting : List Position) (new : List (ℕ × ℕ)) (new_waiting : List Position) : Type 0 where
+  pub kept : (c : Position) → Contains old_waiting c → Contains new_waiting c
+  pub fresh : (c : Position) → Contains new (key_of c) → Contains old (key_of c) ⊎ Contains new_waiting c
+  pub only : (c : Position) → Contains new_waiting c → Contains old_waiting c ⊎ Contains new (key_of c)

@@ -5,13 +5,13 @@ ghost use Rattle.gm_find.specs.Reaching.{IsReachedByPlay, AreReached};
 use crate::search::search;
 use gm_game::game::Game;
 use gm_game::position::Position;
-use indexmap::IndexSet;
 use std::alloc::{AllocError, Global};
+use std::collections::HashSet;
 use std::marker::{Model, PhantomData};
 
 /// The canonical positions that play from the start reaches: 16 bytes and a place in a hash table for each.
 pub struct Reached<G: Game> {
-    keys: IndexSet<(u64, u64)>,
+    keys: HashSet<(u64, u64)>,
     game: PhantomData<G>,
 }
 

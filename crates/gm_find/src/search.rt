@@ -1,22 +1,25 @@
 //! The search for the positions that play from the start reaches.
-ghost use Rattle.std.specs.Prelude.{◌≡◌, ◌≤◌, ◌⊎◌, ℕ, [], true, length, slice_get, MatchOption, IfOk, OnOk};
+ghost use Rattle.std.specs.Prelude.{◌≡◌, ◌⊎◌, [], true, IfOk, OnOk};
 ghost use Rattle.std.specs.List.{Contains};
 ghost use Rattle.gm_game.specs.declared.position.Position.{Position};
 ghost use Rattle.gm_game.specs.Rules.{IsCanonicalChild};
-ghost use Rattle.gm_find.specs.Reaching.{AreReached, IsGrown, key_of};
+ghost use Rattle.gm_find.specs.Reaching.{AreReached, IsGrown, AreWaiting, key_of};
 
 use gm_game::children::canonical_children;
 use gm_game::game::{Game, laws};
 use gm_game::position::Position;
-use indexmap::IndexSet;
 use std::alloc::{AllocError, Global};
+use std::collections::HashSet;
 
-/// All canonical positions that are reached, in the order in which they are found: that of the start, and then the canonical children of each in turn.
-pub(crate) fn search<G: Game>(alloc: Global) -> Result<IndexSet<(u64, u64)>, AllocError>
+/// All canonical positions that are reached: that of the start, and the canonical children of each.
+pub(crate) fn search<G: Game>(alloc: Global) -> Result<HashSet<(u64, u64)>, AllocError>
     ensures { IfOk result (λ s. AreReached G.rules s.keys) }
 {
-    let mut found = IndexSet::new(alloc);
-    match fill::<G>(&mut found) {
+    let mut found = HashSet::new(alloc);
+    let mut waiting = Vec::new(alloc);
+    let filled = fill::<G>(&mut found, &mut waiting);
+    drop(waiting);
+    match filled {
         Ok(()) => Ok(found),
         Err(error) => {
             drop(found);
@@ -25,55 +28,59 @@ pub(crate) fn search<G: Game>(alloc: Global) -> Result<IndexSet<(u64, u64)>, All
     }
 }
 
-// Finds them all, from an empty set.
-fn fill<G: Game>(found: &mut IndexSet<(u64, u64)>) -> Result<(), AllocError>
-    requires { found.old.keys ≡ [] }
+// Finds them all, from an empty set. A position waits from when it is found until its children are.
+fn fill<G: Game>(
+    found: &mut HashSet<(u64, u64)>,
+    waiting: &mut Vec<Position>,
+) -> Result<(), AllocError>
+    requires found { found.old.keys ≡ [] }
+    requires waiting { waiting.old.items ≡ [] }
     ensures { OnOk result (AreReached G.rules found.new.keys) }
 {
     laws::<G>();
-    find(found, G::canonical(G::initial()))?;
-    for next in 0..usize::MAX {
-        match position_at(found, next) {
+    find(found, waiting, G::canonical(G::initial()))?;
+    for _ in 0..usize::MAX {
+        match waiting.pop() {
             None => return Ok(()),
-            Some(p) => find_children::<G>(found, p)?,
+            Some(p) => find_children::<G>(found, waiting, p)?,
         }
     }
     Err(AllocError)
 }
 
-// The position that was found in this place.
-fn position_at(found: &IndexSet<(u64, u64)>, place: usize) -> Option<Position>
-    ensures { MatchOption result (length found.now.keys ≤ place) (λ p. slice_get found.now.keys place ≡ Some (key_of p)) }
-{
-    let key = found.get_index(place)?;
-    Some(Position {
-        tier: key.0,
-        index: key.1,
-    })
-}
-
 // Finds the canonical children of a position.
-fn find_children<G: Game>(found: &mut IndexSet<(u64, u64)>, p: Position) -> Result<(), AllocError>
+fn find_children<G: Game>(
+    found: &mut HashSet<(u64, u64)>,
+    waiting: &mut Vec<Position>,
+    p: Position,
+) -> Result<(), AllocError>
     requires { G.rules.is_legal p ≡ true }
     ensures grown { OnOk result (IsGrown found.old.keys found.new.keys) }
     ensures children { OnOk result ((c : Position) → IsCanonicalChild G.rules p c → Contains found.new.keys (key_of c)) }
     ensures only { OnOk result ((c : Position) → Contains found.new.keys (key_of c) → Contains found.old.keys (key_of c) ⊎ IsCanonicalChild G.rules p c) }
+    ensures waiting { OnOk result (AreWaiting found.old.keys waiting.old.items found.new.keys waiting.new.items) }
 {
     let children = canonical_children::<G>(p);
     for child in children.as_slice() {
-        find(found, *child)?;
+        find(found, waiting, *child)?;
     }
     Ok(())
 }
 
 // Finds a position.
-fn find(found: &mut IndexSet<(u64, u64)>, c: Position) -> Result<(), AllocError>
+fn find(
+    found: &mut HashSet<(u64, u64)>,
+    waiting: &mut Vec<Position>,
+    c: Position,
+) -> Result<(), AllocError>
     ensures grown { OnOk result (IsGrown found.old.keys found.new.keys) }
     ensures there { OnOk result (Contains found.new.keys (key_of c)) }
     ensures only { OnOk result ((d : Position) → Contains found.new.keys (key_of d) → Contains found.old.keys (key_of d) ⊎ (c ≡ d)) }
+    ensures waiting { OnOk result (AreWaiting found.old.keys waiting.old.items found.new.keys waiting.new.items) }
 {
     match found.insert((c.tier, c.index)) {
-        Ok(_) => Ok(()),
+        Ok(true) => Ok(waiting.push(c)?),
+        Ok(false) => Ok(()),
         Err(_) => Err(AllocError),
     }
 }

@@ -1,5 +1,5 @@
 -- What a checked position's canonical children say, and the records that fit.
-use Rattle.std.proofs.Common.{◌≡◌, ◌≢◌, ◌==◌, ℕ, ◌<◌, ◌+◌, true, false, slice_get, Bool, ne_eqb, MatchOption, List, map, take, length, get_or, refl, sym, ap, ◌∙◌, subst, arith, inl, inr, Option, None, Some}
+use Rattle.std.proofs.Common.{◌≡◌, ◌≢◌, ◌==◌, ℕ, ◌<◌, ◌+◌, true, false, slice_get, Bool, ne_eqb, eq-eqb, MatchOption, List, map, take, length, get_or, refl, sym, ap, ◌∙◌, subst, arith, inl, inr, Option, None, Some}
 use Rattle.std.proofs.lemmas.List.{map_more}
 use Rattle.std.proofs.lemmas.Bool.{cases_eq}
 use Rattle.std.proofs.lemmas.Option.{same_Some, slice_get-get_or, slice_get_within}
@@ -59,6 +59,19 @@ module _ (r : Rules) (entries : List TableData) (tier : ℕ) (records : List (Op
   pub first_of_all : (first : Option ℕ) → IsFirstWrongIn r entries tier records 0 (length records) first → MatchOption first ((i : ℕ) → FitsAt r entries tier records i) (IsFirstWrong r entries tier records)
   first_of_all None h = λ i o e. (let inside = slice_get_within records i o e in h i (omega arith) inside o e)
   first_of_all (Some w) h = record { there = h.1; wrong = h.2; before = λ i l. h.3 i (omega arith) l }
+
+  -- what is looked up in the tier itself
+  abbrev found : Position → Bool → Option (Option Solved) → Option Solved
+  found c own o = elim own [ true ↦ elim o [ None ↦ None | Some x ↦ x ] | false ↦ value_in r entries c ]
+
+  own_tier : (c : Position) (o : Option (Option Solved)) → c.tier ≡ tier → slice_get records c.index ≡ o → found c true o ≡ look_up r entries tier records c
+  own_tier c o same e = sym (ap (λ (b : Bool). found c b (slice_get records c.index)) (eq-eqb c.tier tier same) ∙ ap (found c true) e)
+
+  pub look_up_own : (c : Position) (o : Option Solved) → c.tier ≡ tier → slice_get records c.index ≡ Some o → o ≡ look_up r entries tier records c
+  look_up_own c o same e = own_tier c (Some o) same e
+
+  pub look_up_none : (c : Position) → c.tier ≡ tier → slice_get records c.index ≡ None → None ≡ look_up r entries tier records c
+  look_up_none c same e = own_tier c None same e
 
   -- what is looked up in another tier
   pub look_up_else : (c : Position) (o : Option Solved) → IsCanonical r c → c.tier ≢ tier → o ≡ record_in entries c → o ≡ look_up r entries tier records c

@@ -1,11 +1,12 @@
 use Rattle.std.proofs.Common.{take, ◌⊎◌}
 use Rattle.std.specs.List.{Contains}
 use Rattle.gm_game.specs.declared.position.Position.{Position}
-use Rattle.gm_find.specs.Reaching.{IsGrown, key_of}
+use Rattle.gm_find.specs.Reaching.{IsGrown, AreWaiting, key_of}
 use Rattle.gm_find.proofs.search.find_children.Given as goal
 
 abbrev pub invariant-loop-child : goal.invariant-loop-child
 invariant-loop-child g l =
-    IsGrown l.initial.found.keys l.found.keys
+    (IsGrown l.initial.found.keys l.found.keys
     × ((c : Position) → Contains (take l.child-index l.child-items) c → Contains l.found.keys (key_of c))
-    × ((c : Position) → Contains l.found.keys (key_of c) → Contains l.initial.found.keys (key_of c) ⊎ Contains (take l.child-index l.child-items) c)
+    × ((c : Position) → Contains l.found.keys (key_of c) → Contains l.initial.found.keys (key_of c) ⊎ Contains (take l.child-index l.child-items) c))
+    × AreWaiting l.initial.found.keys l.initial.waiting.items l.found.keys l.waiting.items
