@@ -34,7 +34,7 @@ class Line:
         elif mark == ">":
             self.out.append(text)
         elif mark == "~":
-            self.parts.append(text)
+            self.parts.append(text.replace("\\n", "\n"))
         elif mark == "!":
             self.err.append(text)
         elif mark == "!~":

@@ -14,13 +14,15 @@ use std::io::Write;
 use std::string::String;
 use std::sync::Wait;
 use std::thread::Threads;
+use std::time::Clock;
 
 /// Prints what is counted of each tier, in the order of tiers.
-pub fn analyse<G: Shown + Send + Sync, R: Threads + Wait + Files + Sync + AllocGlobal, O: Write>(
-    rt: &R,
-    place: Place<'_>,
-    output: &mut O,
-) -> Result<u8, Fault> {
+pub fn analyse<
+    G: Shown + Send + Sync,
+    R: Threads + Wait + Clock + Files + Sync + AllocGlobal,
+    O: Write,
+    E: Write + Send,
+>(rt: &R, place: Place<'_, E>, output: &mut O) -> Result<u8, Fault> {
     let built = place.build::<G, R>(rt)?;
     let written = write_counts(rt.alloc(), &built, output);
     drop(built);

@@ -21,12 +21,18 @@ use std::fs::Files;
 use std::io::{ErrorKind, Write};
 use std::sync::Wait;
 use std::thread::Threads;
+use std::time::Clock;
 
 /// Answers a question about a position.
-pub fn explore<G: Drawn + Send + Sync, R: Threads + Wait + Files + Sync + AllocGlobal, O: Write>(
+pub fn explore<
+    G: Drawn + Send + Sync,
+    R: Threads + Wait + Clock + Files + Sync + AllocGlobal,
+    O: Write,
+    E: Write + Send,
+>(
     rt: &R,
     asked: PositionAsked<'_>,
-    place: Place<'_>,
+    place: Place<'_, E>,
     output: &mut O,
 ) -> Result<u8, Fault> {
     let position = position_of::<G>(asked.position)?;

@@ -34,9 +34,13 @@ pub struct Streams<'a, I, O, E> {
 }
 
 // Where tables are kept and how they are made, for commands that have no options for a plan.
-fn place(kept: Kept<'_>) -> Place<'_> {
-    let plan = Plan::new(4, 4, 512).unwrap();
-    Place { kept, plan }
+fn place<'a, E>(kept: Kept<'a>, errors: &'a mut E) -> Place<'a, E> {
+    Place {
+        kept,
+        plan: Plan::new(4, 4, 512).unwrap(),
+        errors,
+        progress: false,
+    }
 }
 
 // Answers what is asked of a game.
@@ -54,15 +58,19 @@ fn answer<
     } = streams;
     match asked {
         GameAsked::Solve(asked) => solve::<G, R, O, E>(rt, asked, output, errors),
-        GameAsked::Query { position, kept } => query::<G, R, O>(rt, position, place(kept), output),
-        GameAsked::Explore { asked, kept } => explore::<G, R, O>(rt, asked, place(kept), output),
-        GameAsked::Search { asked, kept } => {
-            search::<G, R, I, O>(rt, asked, place(kept), input, output)
+        GameAsked::Query { position, kept } => {
+            query::<G, R, O, E>(rt, position, place(kept, errors), output)
         }
-        GameAsked::Analyse { kept } => analyse::<G, R, O>(rt, place(kept), output),
+        GameAsked::Explore { asked, kept } => {
+            explore::<G, R, O, E>(rt, asked, place(kept, errors), output)
+        }
+        GameAsked::Search { asked, kept } => {
+            search::<G, R, I, O, E>(rt, asked, place(kept, errors), input, output)
+        }
+        GameAsked::Analyse { kept } => analyse::<G, R, O, E>(rt, place(kept, errors), output),
         GameAsked::Check { folder } => check::<G, R, O>(rt, folder, output),
         GameAsked::Play { asked, kept } => {
-            play::<G, R, I, O>(rt, asked, place(kept), input, output)
+            play::<G, R, I, O, E>(rt, asked, place(kept, errors), input, output)
         }
     }
 }

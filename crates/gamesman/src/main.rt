@@ -10,6 +10,7 @@ mod play;
 mod query;
 mod run;
 mod search;
+mod shelf;
 mod solve;
 mod tables;
 

@@ -17,17 +17,19 @@ use std::fs::Files;
 use std::io::{Read, Write};
 use std::sync::Wait;
 use std::thread::Threads;
+use std::time::Clock;
 
 /// Plays with the person who reads the output and writes the input.
 pub fn play<
     G: Drawn + Send + Sync,
-    R: Threads + Wait + Files + Sync + AllocGlobal,
+    R: Threads + Wait + Clock + Files + Sync + AllocGlobal,
     I: Read,
     O: Write,
+    E: Write + Send,
 >(
     rt: &R,
     asked: PlayAsked<'_>,
-    place: Place<'_>,
+    place: Place<'_, E>,
     input: &mut I,
     output: &mut O,
 ) -> Result<u8, Fault> {

@@ -11,17 +11,18 @@ use std::fs::Files;
 use std::io::Write;
 use std::sync::Wait;
 use std::thread::Threads;
+use std::time::Clock;
 
 // The bytes of the longest value and a line end.
 const ROOM: usize = 65;
 
 /// Prints the value of a position.
-pub fn query<G: Shown + Send + Sync, R: Threads + Wait + Files + Sync + AllocGlobal, O: Write>(
-    rt: &R,
-    position: &str,
-    place: Place<'_>,
-    output: &mut O,
-) -> Result<u8, Fault> {
+pub fn query<
+    G: Shown + Send + Sync,
+    R: Threads + Wait + Clock + Files + Sync + AllocGlobal,
+    O: Write,
+    E: Write + Send,
+>(rt: &R, position: &str, place: Place<'_, E>, output: &mut O) -> Result<u8, Fault> {
     let tier = match G::read(position.as_bytes()) {
         Some(p) => p.tier,
         None => return Err(Fault::NoSuchPosition),

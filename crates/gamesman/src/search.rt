@@ -19,14 +19,16 @@ use std::fs::Files;
 use std::io::{Read, Write};
 use std::sync::Wait;
 use std::thread::Threads;
+use std::time::Clock;
 
 /// Answers a question about all tables of a game.
 pub fn search<
     G: Shown + Send + Sync,
-    R: Threads + Wait + Files + Sync + AllocGlobal,
+    R: Threads + Wait + Clock + Files + Sync + AllocGlobal,
     I: Read,
     O: Write,
->(rt: &R, asked: Search, place: Place<'_>, input: &mut I, output: &mut O) -> Result<u8, Fault> {
+    E: Write + Send,
+>(rt: &R, asked: Search, place: Place<'_, E>, input: &mut I, output: &mut O) -> Result<u8, Fault> {
     let alloc = rt.alloc();
     let first = first_tier::<G>(alloc, asked)?;
     let built = place.build_from::<G, R>(rt, first)?;

@@ -2,9 +2,9 @@
 
 use crate::fault::Fault;
 use crate::run::DONE;
-use crate::tables::{build_in, build_telling};
+use crate::tables::Place;
 use gm_build::build::Built;
-use gm_command::requests::SolveAsked;
+use gm_command::requests::{Kept, SolveAsked};
 use gm_game::game::Game;
 use gm_progress::whole_line::write_line;
 use std::fmt;
@@ -36,11 +36,16 @@ fn built_report<
         plan,
         progress,
     } = asked;
-    let built = if progress {
-        build_telling::<G, R, E>(rt, folder, plan, errors)?
-    } else {
-        build_in::<G, R>(rt, folder, G::initial().tier, plan)?
+    let place = Place {
+        kept: Kept {
+            folder: Some(folder),
+            read_only: false,
+        },
+        plan,
+        errors,
+        progress,
     };
+    let built = place.build::<G, R>(rt)?;
     let report = BuildReport::of(&built);
     drop(built);
     Ok(report)

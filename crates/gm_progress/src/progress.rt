@@ -93,10 +93,12 @@ struct Lines<'a, E: Write> {
     closed: bool,
 }
 
-/// Writes lines on the progress of a build, as its watch, its gate and its source. No worker waits for another one that is writing.
+/// Writes lines on the progress of a build, as its watch, its gate and its source, or is quiet. No worker waits for another one that is writing.
 #[derive(Drop)]
 pub struct Progress<'a, C, E: Write> {
     clock: &'a C,
+    // Whether nothing is written: then the clock isn't read either, and deliveries aren't counted.
+    quiet: bool,
     tiers: AtomicUsize,
     tier: AtomicU64,
     number: AtomicU64,
@@ -109,6 +111,15 @@ pub struct Progress<'a, C, E: Write> {
 impl<'a, C: Clock, E: Write> Progress<'a, C, E> {
     /// The progress of a build that is to begin.
     pub fn new(clock: &'a C, errors: &'a mut E) -> Self {
+        Progress::begun(clock, errors, false)
+    }
+
+    /// A progress that writes nothing, so that a build with lines and one without are the same code.
+    pub fn quiet(clock: &'a C, errors: &'a mut E) -> Self {
+        Progress::begun(clock, errors, true)
+    }
+
+    fn begun(clock: &'a C, errors: &'a mut E, quiet: bool) -> Self {
         let lines = Lines {
             errors,
             last: None,
@@ -116,6 +127,7 @@ impl<'a, C: Clock, E: Write> Progress<'a, C, E> {
         };
         Progress {
             clock,
+            quiet,
             tiers: AtomicUsize::new(0),
             tier: AtomicU64::new(0),
             number: AtomicU64::new(0),
@@ -128,6 +140,9 @@ impl<'a, C: Clock, E: Write> Progress<'a, C, E> {
 
     // Writes a line where one is due and the clock can be read.
     fn tell(&self, stage: Stage) {
+        if self.quiet {
+            return;
+        }
         let Some(mut lines) = self.lines.try_lock() else {
             return;
         };
@@ -176,6 +191,9 @@ impl<C: Clock, E: Write> Watch for Progress<'_, C, E> {
 
 impl<C: Clock + Sync, E: Write + Send> Gate for Progress<'_, C, E> {
     fn before<R: Wait>(&self, _rt: &R, _worker: usize, place: Place) {
+        if self.quiet {
+            return;
+        }
         if self.level_begins.load(Ordering::SeqCst) {
             self.level_begins.store(false, Ordering::SeqCst);
             self.tell_level(place);
@@ -183,6 +201,9 @@ impl<C: Clock + Sync, E: Write + Send> Gate for Progress<'_, C, E> {
     }
 
     fn after<R: Wait>(&self, _rt: &R, _worker: usize, place: Place) {
+        if self.quiet {
+            return;
+        }
         let before = self.delivered.fetch_add(1, Ordering::SeqCst);
         if before % OFTEN == OFTEN - 1 {
             self.tell_level(place);

@@ -4,7 +4,6 @@ mod boards;
 mod chain;
 mod countdown;
 mod dao;
-mod drawings;
 mod hare;
 mod morris;
 mod mutorere;

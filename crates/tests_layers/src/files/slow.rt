@@ -26,23 +26,6 @@ impl<'a> Read for SlowReader<'a> {
     }
 }
 
-/// A reader of this many bytes `a`.
-#[derive(Drop)]
-pub(crate) struct LongLine {
-    pub(crate) left: u32,
-}
-
-impl Read for LongLine {
-    fn read(&mut self, buf: &mut [u8]) -> io::Result<usize> {
-        if self.left == 0 || buf.is_empty() {
-            return Ok(0);
-        }
-        self.left -= 1;
-        buf[0] = b'a';
-        Ok(1)
-    }
-}
-
 /// A reader that never ends.
 #[derive(Drop)]
 pub(crate) struct Endless;

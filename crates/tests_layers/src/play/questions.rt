@@ -69,22 +69,6 @@ fn lines_of_countdown(rt: HostRuntime) {
     check_line(&rt, alloc, &tables, 2, &[1, 1], LineEnd::Cut);
 }
 
-const MOVES: &[u8] = b"1\twin in 3\t3\n2\tlose in 2\t2\n";
-
-const LINE: &[u8] = b"\t4\twin in 3\n1\t3\tlose in 2\n1\t2\twin in 1\n2\t0\tlose in 0\n";
-
-#[test]
-fn texts_of_countdown(rt: HostRuntime) {
-    let alloc = rt.alloc();
-    let tables = tables(&rt, alloc);
-    let answer = must(&rt, answer_text(&tables, b"4"));
-    expect(&rt, answer.as_slice() == b"win in 3".as_slice());
-    let moves = must(&rt, moves_text(alloc, &tables, b"4", false));
-    expect_eq(&rt, moves.as_slice(), MOVES);
-    let line = must(&rt, line_text(alloc, &tables, b"4", usize::MAX));
-    expect_eq(&rt, line.as_slice(), LINE);
-}
-
 // Questions about a text are refused so.
 fn check_refused(
     rt: &impl Abort,

@@ -1,3 +1,4 @@
+use Rattle.std.proofs.lemmas.Result.{IfOk-from_err}
 use Rattle.std.proofs.Common.{◌≡◌, ◌≤◌, ◌+◌, ◌++◌, ◌∷◌, ℕ, List, IsTrue, [], take, length, get_or, refl, sym, subst, ◌∙◌, arith, length-take}
 use Rattle.std.proofs.lemmas.List.{take_more, take_all}
 use Rattle.std.proofs.lemmas.List.Elements.{Contains-get_or}
@@ -164,3 +165,27 @@ returns-clause-work g c keeps =
 
 pub returns-clause-order : goal.returns-clause-order
 returns-clause-order g c = c.in_ok-order.ensures.order
+
+pub returns-in_err-order-clause-order : goal.returns-in_err-order-clause-order
+returns-in_err-order-clause-order g c = IfOk-from_err c.from_residual.result _ c.from_residual.ensures.0
+
+pub returns-in_err-order-clause-held : goal.returns-in_err-order-clause-held
+returns-in_err-order-clause-held g c = IfOk-from_err c.from_residual.result _ c.from_residual.ensures.0
+
+pub returns-in_err-order-clause-tables : goal.returns-in_err-order-clause-tables
+returns-in_err-order-clause-tables g c = IfOk-from_err c.from_residual.result _ c.from_residual.ensures.0
+
+pub returns-in_err-order-clause-some_work : goal.returns-in_err-order-clause-some_work
+returns-in_err-order-clause-some_work g c = IfOk-from_err c.from_residual.result _ c.from_residual.ensures.0
+
+pub returns-in_err-build_tier-clause-order : goal.returns-in_err-build_tier-clause-order
+returns-in_err-build_tier-clause-order g c = IfOk-from_err c.from_residual-in_err-build_tier.result _ c.from_residual-in_err-build_tier.ensures.0
+
+pub returns-in_err-build_tier-clause-held : goal.returns-in_err-build_tier-clause-held
+returns-in_err-build_tier-clause-held g c = IfOk-from_err c.from_residual-in_err-build_tier.result _ c.from_residual-in_err-build_tier.ensures.0
+
+pub returns-in_err-build_tier-clause-tables : goal.returns-in_err-build_tier-clause-tables
+returns-in_err-build_tier-clause-tables g c = IfOk-from_err c.from_residual-in_err-build_tier.result _ c.from_residual-in_err-build_tier.ensures.0
+
+pub returns-in_err-build_tier-clause-some_work : goal.returns-in_err-build_tier-clause-some_work
+returns-in_err-build_tier-clause-some_work g c = IfOk-from_err c.from_residual-in_err-build_tier.result _ c.from_residual-in_err-build_tier.ensures.0

@@ -1,3 +1,4 @@
+use Rattle.std.proofs.lemmas.Result.{IfOk-from_err}
 use Rattle.std.proofs.Common.{◌≡◌, ◌+◌, ℕ, subst, arith}
 use Rattle.std.specs.Option.{is_some}
 use Rattle.gm_find.specs.Finding.{all_positions}
@@ -17,3 +18,6 @@ returns g c =
     let tiers = c.args.tiers.now in
     let last : c.loop-value.value-index ≡ 4 = omega arith in
     all_counts r (is_some c.args.reached) tiers c.loop-value.counts.items (subst (λ n. AreCountsBefore r (is_some c.args.reached) (all_positions r tiers) n 0 c.loop-value.counts.items) last c.loop-value.invariant)
+
+pub returns-in_err-add_counts : goal.returns-in_err-add_counts
+returns-in_err-add_counts g c = IfOk-from_err c.from_residual.result _ c.from_residual.ensures.0

@@ -1,3 +1,4 @@
+use Rattle.std.proofs.lemmas.Result.{IfOk-from_err}
 use Rattle.std.proofs.Common.{◌≡◌, ◌-◌, ◌+◌, ◌++◌, ◌∷◌, [], List, map, length, sym, subst, arith}
 use Rattle.std.specs.List.{range_with_len}
 use Rattle.std.specs.Option.{is_some}
@@ -21,3 +22,6 @@ loop-index-preserved g c =
     let (all, same, those) = first_more P c.args.limit old c.loop-index.found.items new more add seen (at c.args.tier k ∷ []) is adds first next in
     let longer : map (at c.args.tier) (range_with_len 0 (k + 1)) ≡ seen ++ at c.args.tier k ∷ [] = map-range_with_len_more (at c.args.tier) 0 k k (omega arith) in
     (all, same, subst (λ (xs : List Position). IsFirst P (c.args.limit - length old) xs all) (sym longer) those)
+
+pub returns-in_err-add_position : goal.returns-in_err-add_position
+returns-in_err-add_position g c = IfOk-from_err c.from_residual.result _ c.from_residual.ensures.0

@@ -1,3 +1,4 @@
+use Rattle.std.proofs.lemmas.Result.{IfOk-from_err}
 use Rattle.std.proofs.Common.{◌≡◌, inl, inr, List, take, sym, subst, ◌∙◌, arith}
 use Rattle.std.specs.List.{Contains}
 use Rattle.std.proofs.lemmas.List.{take_all}
@@ -28,3 +29,15 @@ returns-clause-only g c d has =
       | inl o ↦ inl o
       | inr k ↦ inr ((c.canonical_children-children.ensures.exact.exact d).0 (subst (λ (l : List Position). Contains l d) all k))
     ]
+
+pub returns-in_err-find-clause-grown : goal.returns-in_err-find-clause-grown
+returns-in_err-find-clause-grown g c = IfOk-from_err c.from_residual.result _ c.from_residual.ensures.0
+
+pub returns-in_err-find-clause-children : goal.returns-in_err-find-clause-children
+returns-in_err-find-clause-children g c = IfOk-from_err c.from_residual.result _ c.from_residual.ensures.0
+
+pub returns-in_err-find-clause-only : goal.returns-in_err-find-clause-only
+returns-in_err-find-clause-only g c = IfOk-from_err c.from_residual.result _ c.from_residual.ensures.0
+
+pub returns-in_err-find-clause-waiting : goal.returns-in_err-find-clause-waiting
+returns-in_err-find-clause-waiting g c = IfOk-from_err c.from_residual.result _ c.from_residual.ensures.0

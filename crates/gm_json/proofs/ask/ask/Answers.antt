@@ -1,3 +1,4 @@
+use Rattle.std.proofs.lemmas.Result.{IfOk-from_err}
 use Rattle.std.proofs.Common.{◌≡◌, ◌≤◌, ◌<◌, ◌++◌, ◌∷◌, [], length, List, ℕ, Some, None, codes, refl, subst, arith, rules}
 use Rattle.std.specs.Io.KnownBytes.{Appends}
 use Rattle.std.proofs.lemmas.Result.{on_ok_weaker, on_err_weaker}
@@ -92,3 +93,6 @@ loop-count-preserved g c =
           let full : kept_bytes ≤ length kept = grind (arith, w.is_full.ensures.value, w.is_full.ensures.fits, w.if-not-is_full.false) in
           rw (w.output-is, w.line-is, w.number-is) (byte_past r s m c.loop-count.count n _ _ _ _ _ kept h b kept (search rules) reads full refl))
     ]
+
+pub returns-in_err-answer_line-clause-ok : goal.returns-in_err-answer_line-clause-ok
+returns-in_err-answer_line-clause-ok g c = IfOk-from_err c.from_residual.result _ c.from_residual.ensures.0

@@ -1,3 +1,4 @@
+use Rattle.std.proofs.lemmas.Result.{IfOk-from_err}
 use Rattle.std.proofs.Common.{◌≡◌, ℕ, List, ◌++◌, subst}
 use Rattle.serde_json.specs.Data.{null}
 use Rattle.gm_json.specs.Words.{line_of}
@@ -24,3 +25,6 @@ returns-in-Ok-clause-text g c =
       are_steps = steps_true r shown move_shown play.line.moves.items play.start play.value is.is_best.best is.is_true;
       out_is = subst (λ (ms : List ℕ). c.in-Ok.lines.items ≡ line_of (step_tree shown null play.start play.value) ++ steps_from r shown move_shown play.start play.value ms ++ end_line play.line.end) c.as_slice.ensures.value c.in-Ok.ensures;
     }
+
+pub returns-in_err-play-clause-text : goal.returns-in_err-play-clause-text
+returns-in_err-play-clause-text g c = IfOk-from_err c.from_residual.result _ c.from_residual.ensures.0

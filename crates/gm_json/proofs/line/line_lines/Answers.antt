@@ -1,3 +1,4 @@
+use Rattle.std.proofs.lemmas.Result.{IfOk-from_err}
 use Rattle.std.proofs.Common.{◌≡◌, ◌+◌, ◌≤◌, ◌∷◌, ◌++◌, true, length, ℕ, List, [], drop, get_or, sym, ap, subst, ◌∙◌}
 use Rattle.std.proofs.lemmas.List.{drop_more, drop_all}
 use Rattle.serde_json.specs.Data.{Data, null}
@@ -63,3 +64,15 @@ returns g c =
     let none = drop_all k ms past in
     let all : done ++ [] ≡ first ++ steps = subst (λ (xs : List ℕ). done ++ steps_from r shown move_shown p c.loop-number.value xs ≡ first ++ steps) none c.loop-number.invariant.lines in
     steps_end done first steps (end_line c.args.end) c.push_end.new.lines.items all c.in_ok-push_end.ensures
+
+pub returns-in_err-push_step : goal.returns-in_err-push_step
+returns-in_err-push_step g c = IfOk-from_err c.from_residual.result _ c.from_residual.ensures.0
+
+pub returns-in_err-name : goal.returns-in_err-name
+returns-in_err-name g c = IfOk-from_err c.from_residual-in_err-name.result _ c.from_residual-in_err-name.ensures.0
+
+pub returns-in_err-push_step-2 : goal.returns-in_err-push_step-2
+returns-in_err-push_step-2 g c = IfOk-from_err c.from_residual-in_err-push_step-2.result _ c.from_residual-in_err-push_step-2.ensures.0
+
+pub returns-in_err-push_end : goal.returns-in_err-push_end
+returns-in_err-push_end g c = IfOk-from_err c.from_residual-in_err-push_end.result _ c.from_residual-in_err-push_end.ensures.0

@@ -1,3 +1,4 @@
+use Rattle.std.proofs.lemmas.Result.{IfOk-from_err}
 use Rattle.std.proofs.Common.{List, map, ap, ◌∙◌}
 use Rattle.std.proofs.lemmas.List.{take_all}
 use Rattle.serde_json.specs.Data.{Data, array}
@@ -16,3 +17,9 @@ pub returns : goal.returns
 returns g c =
     let tree = move_tree g.G.Game.rules g.G.Shown.shown g.G.Shown.move_shown c.args.p in
     view-Array c.loop-x.moves ∙ ap (λ (ds : List Data). array (items_of ds)) (c.loop-x.invariant ∙ ap (map tree) (take_all c.loop-x.x-index c.args.list.now c.loop-x-test.false))
+
+pub returns-in_err-move_value : goal.returns-in_err-move_value
+returns-in_err-move_value g c = IfOk-from_err c.from_residual.result _ c.from_residual.ensures.0
+
+pub returns-in_err-push : goal.returns-in_err-push
+returns-in_err-push g c = IfOk-from_err c.from_residual-in_err-push.result _ c.from_residual-in_err-push.ensures.0

@@ -1,9 +1,12 @@
-use Rattle.std.proofs.Common.{List, Err, ap, ◌∙◌}
+use Rattle.std.proofs.Common.{List, Err, ap, sym, subst, ◌∙◌}
+use Rattle.std.specs.List.{All}
 use Rattle.std.proofs.lemmas.Result.{IfOk-from_err}
 use Rattle.serde_json.specs.Written.{compact_text}
 use Rattle.gm_play.specs.declared.move_values.MoveValue.{MoveValue}
+use Rattle.gm_play.specs.PlayTexts.{IsMoveOf}
 use Rattle.gm_best.specs.declared.play_error.PlayError.{PlayError}
-use Rattle.gm_best.proofs.Refusing.{ok_apart}
+use Rattle.gm_best.specs.declared.play_error.PlayError.TheVariants.{Illegal, NotHeld}
+use Rattle.gm_best.proofs.Refusing.{ok_apart, passed_on}
 use Rattle.gm_json.specs.Moves.{moves_tree}
 use Rattle.gm_json.proofs.moves.moves_json.Goals as goal
 
@@ -47,3 +50,26 @@ returns-in-Err-clause-illegal g c = (λ e. (let z : ⊥ = cc in absurd z), λ no
 
 pub returns-in-Err-clause-not_held : goal.returns-in-Err-clause-not_held
 returns-in-Err-clause-not_held g c = (λ e. (let z : ⊥ = cc in absurd z), λ h. absurd (ok_apart _ _ (c.in_ok-p.ensures.not_held.1 h)))
+
+pub returns-in_err-p-clause-illegal : goal.returns-in_err-p-clause-illegal
+returns-in_err-p-clause-illegal g c =
+    let p = passed_on c.from_residual.result c.moves_at.result c.in_err-p.field-0.0 Illegal c.from_residual.ensures.1 c.in_err-p.was in
+    (λ e. c.moves_at.ensures.illegal.0 (p.0 e), λ none. p.1 (c.moves_at.ensures.illegal.1 none))
+
+pub returns-in_err-p-clause-not_held : goal.returns-in_err-p-clause-not_held
+returns-in_err-p-clause-not_held g c =
+    let p = passed_on c.from_residual.result c.moves_at.result c.in_err-p.field-0.0 NotHeld c.from_residual.ensures.1 c.in_err-p.was in
+    (λ e. c.moves_at.ensures.not_held.0 (p.0 e), λ h. p.1 (c.moves_at.ensures.not_held.1 h))
+
+pub returns-in_err-value-clause-illegal : goal.returns-in_err-value-clause-illegal
+returns-in_err-value-clause-illegal g c =
+    let p = passed_on c.from_residual-in_err-value.result c.known_value.result c.in_err-value.field-0.0 Illegal c.from_residual-in_err-value.ensures.1 c.in_err-value.was in (
+      λ e. (let other = p.0 e in let is = c.in_err-value.was in let held = c.in_err-value.ensures.err in let z : ⊥ = cc in absurd z),
+      λ none. absurd (none c.in_ok-p.p c.in_ok-p.ensures.moves.read),
+    )
+
+pub moves_line-requires-clause-legal : goal.moves_line-requires-clause-legal
+moves_line-requires-clause-legal g c = c.in_ok-p.ensures.moves.read.0
+
+pub moves_line-requires-clause-each : goal.moves_line-requires-clause-each
+moves_line-requires-clause-each g c = subst (All (IsMoveOf g.G.Game.rules c.in_ok-p.p)) (sym c.as_slice.ensures.value) c.in_ok-p.ensures.each

@@ -1,3 +1,4 @@
+use Rattle.std.proofs.lemmas.Result.{IfOk-from_err}
 use Rattle.std.proofs.Common.{◌≡◌, ap, sym, ◌∙◌}
 use Rattle.gm_game.specs.declared.position.Phase.TheVariants.{Ties}
 use Rattle.gm_deliveries.specs.State.{ShardState}
@@ -29,3 +30,51 @@ returns-clause-near g c =
     let tier : t.tier ≡ c.args.shard.now.tier = c.in_ok-last-2.ensures.later.tier ∙ ap (λ (s : ShardState). s.tier) c.next_phase.ensures ∙ c.in_ok-last.ensures.later.tier in
     let is_true = final_table r c.args.shard.now.tier t c.finish_phase-2.new.expected c.in_ok-last-2.ensures.over tier c.in_ok-records.records c.finish.new.records c.in_ok-records.ensures c.in_ok-finish.ensures.ok in
     not_too_far r g.met.G.Game.lawful c.args.shard.now.tier c.finish.new.records is_true
+
+pub returns-in_err-last-clause-tier : goal.returns-in_err-last-clause-tier
+returns-in_err-last-clause-tier g c = IfOk-from_err c.from_residual.result _ c.from_residual.ensures.0
+
+pub returns-in_err-last-clause-table : goal.returns-in_err-last-clause-table
+returns-in_err-last-clause-table g c = IfOk-from_err c.from_residual.result _ c.from_residual.ensures.0
+
+pub returns-in_err-last-clause-deliveries : goal.returns-in_err-last-clause-deliveries
+returns-in_err-last-clause-deliveries g c = IfOk-from_err c.from_residual.result _ c.from_residual.ensures.0
+
+pub returns-in_err-last-clause-near : goal.returns-in_err-last-clause-near
+returns-in_err-last-clause-near g c = IfOk-from_err c.from_residual.result _ c.from_residual.ensures.0
+
+pub returns-in_err-last-2-clause-tier : goal.returns-in_err-last-2-clause-tier
+returns-in_err-last-2-clause-tier g c = IfOk-from_err c.from_residual-in_err-last-2.result _ c.from_residual-in_err-last-2.ensures.0
+
+pub returns-in_err-last-2-clause-table : goal.returns-in_err-last-2-clause-table
+returns-in_err-last-2-clause-table g c = IfOk-from_err c.from_residual-in_err-last-2.result _ c.from_residual-in_err-last-2.ensures.0
+
+pub returns-in_err-last-2-clause-deliveries : goal.returns-in_err-last-2-clause-deliveries
+returns-in_err-last-2-clause-deliveries g c = IfOk-from_err c.from_residual-in_err-last-2.result _ c.from_residual-in_err-last-2.ensures.0
+
+pub returns-in_err-last-2-clause-near : goal.returns-in_err-last-2-clause-near
+returns-in_err-last-2-clause-near g c = IfOk-from_err c.from_residual-in_err-last-2.result _ c.from_residual-in_err-last-2.ensures.0
+
+pub returns-in_err-records-clause-tier : goal.returns-in_err-records-clause-tier
+returns-in_err-records-clause-tier g c = IfOk-from_err c.from_residual-in_err-records.result _ c.from_residual-in_err-records.ensures.0
+
+pub returns-in_err-records-clause-table : goal.returns-in_err-records-clause-table
+returns-in_err-records-clause-table g c = IfOk-from_err c.from_residual-in_err-records.result _ c.from_residual-in_err-records.ensures.0
+
+pub returns-in_err-records-clause-deliveries : goal.returns-in_err-records-clause-deliveries
+returns-in_err-records-clause-deliveries g c = IfOk-from_err c.from_residual-in_err-records.result _ c.from_residual-in_err-records.ensures.0
+
+pub returns-in_err-records-clause-near : goal.returns-in_err-records-clause-near
+returns-in_err-records-clause-near g c = IfOk-from_err c.from_residual-in_err-records.result _ c.from_residual-in_err-records.ensures.0
+
+pub returns-in_err-finish-clause-tier : goal.returns-in_err-finish-clause-tier
+returns-in_err-finish-clause-tier g c = IfOk-from_err c.from_residual-in_err-finish.result _ c.from_residual-in_err-finish.ensures.0
+
+pub returns-in_err-finish-clause-table : goal.returns-in_err-finish-clause-table
+returns-in_err-finish-clause-table g c = IfOk-from_err c.from_residual-in_err-finish.result _ c.from_residual-in_err-finish.ensures.0
+
+pub returns-in_err-finish-clause-deliveries : goal.returns-in_err-finish-clause-deliveries
+returns-in_err-finish-clause-deliveries g c = IfOk-from_err c.from_residual-in_err-finish.result _ c.from_residual-in_err-finish.ensures.0
+
+pub returns-in_err-finish-clause-near : goal.returns-in_err-finish-clause-near
+returns-in_err-finish-clause-near g c = IfOk-from_err c.from_residual-in_err-finish.result _ c.from_residual-in_err-finish.ensures.0

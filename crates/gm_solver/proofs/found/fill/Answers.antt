@@ -1,3 +1,4 @@
+use Rattle.std.proofs.lemmas.Result.{IfOk-from_err}
 use Rattle.std.proofs.Common.{rules, ◌≡◌, ℕ, ◌+◌, ◌++◌, [], ◌∷◌, Option, None, Some, vec_len, length, sym, ap, subst, refl, ◌∙◌, arith}
 use Rattle.std.specs.Option.{IfSome}
 use Rattle.std.specs.Vec.Iter.{into_iter_items}
@@ -55,3 +56,9 @@ returns-clause-all g c =
     let whole = c.loop-entry.invariant.ahead.whole in
     let all : length c.loop-entry.tallies.items ≡ div_ceil (length c.args.pieces.now.level.now.notes) c.args.pieces.now.notes = omega arith in
     record { alike = c.loop-entry.invariant.so_far.alike; pieces = c.loop-entry.invariant.so_far.pieces ∙ ap (numbers_from 0) all }
+
+pub returns-in_err-found_or_walked-clause-all : goal.returns-in_err-found_or_walked-clause-all
+returns-in_err-found_or_walked-clause-all g c = IfOk-from_err c.from_residual.result _ c.from_residual.ensures.0
+
+pub returns-in_err-push-clause-all : goal.returns-in_err-push-clause-all
+returns-in_err-push-clause-all g c = IfOk-from_err c.from_residual-in_err-push.result _ c.from_residual-in_err-push.ensures.0

@@ -1,3 +1,4 @@
+use Rattle.std.proofs.lemmas.Result.{IfOk-from_err}
 use Rattle.std.proofs.Common.{◌≡◌, ◌≤◌, sym, subst, ◌∙◌, arith}
 use Rattle.std.proofs.lemmas.Bool.{false≢true}
 use Rattle.gm_game.specs.declared.limits.TheConstants.{REMOTENESS}
@@ -34,3 +35,12 @@ loop-runs-preserved g c =
       later = record { tier = next.tier ∙ later.tier; phase = next.phase ∙ later.phase };
       near = (let up = next.level in omega arith);
     }
+
+pub returns-in_err-level-clause-over : goal.returns-in_err-level-clause-over
+returns-in_err-level-clause-over g c = IfOk-from_err c.from_residual-in_err-level.result _ c.from_residual-in_err-level.ensures.0
+
+pub returns-in_err-level-clause-later : goal.returns-in_err-level-clause-later
+returns-in_err-level-clause-later g c = IfOk-from_err c.from_residual-in_err-level.result _ c.from_residual-in_err-level.ensures.0
+
+pub returns-in_err-level-clause-last : goal.returns-in_err-level-clause-last
+returns-in_err-level-clause-last g c = IfOk-from_err c.from_residual-in_err-level.result _ c.from_residual-in_err-level.ensures.0

@@ -1,3 +1,4 @@
+use Rattle.std.proofs.lemmas.Result.{IfOk-from_err}
 use Rattle.std.proofs.Common.{rules, ◌≡◌, ℕ, ◌+◌, ◌<◌, ◌≤◌, ◌/◌, List, [], length, vec_len, get_or, replicate, subst, sym, refl, ap, ◌∙◌, arith, set}
 use Rattle.std.proofs.lemmas.List.{get_or-replicate, length-replicate}
 use Rattle.gm_game.specs.declared.position.Place.{Place}
@@ -142,3 +143,6 @@ returns-clause-counts g c =
     let size = c.tier_size-size.result in
     let e : size ≡ r.tier_size l.place.tier = c.tier_size-size.ensures ∙ ap (λ (p : Place). r.tier_size p.tier) c.place-place.ensures.value in
     counted_all r g.met.G.Game.lawful l c.place-place.ensures.level c.place-place.ensures.small c.args.piece c.args.pieces.now.notes c.args.pieces.now.width size c.args.pieces.now.wide.some e c.loop-note.counts.items c.loop-note.note-iterator c.in-None.ensures.steps.0 (search rules) c.loop-note.invariant.counted
+
+pub returns-in_err-push-clause-counts : goal.returns-in_err-push-clause-counts
+returns-in_err-push-clause-counts g c = IfOk-from_err c.from_residual.result _ c.from_residual.ensures.0

@@ -1,3 +1,4 @@
+use Rattle.std.proofs.lemmas.Result.{IfOk-from_err}
 use Rattle.std.proofs.Common.{rules, ◌≡◌, ℕ, suc, IfOk, Vec, [], ◌∷◌, ◌++◌, length, length-append, sym, ap, subst, arith}
 use Rattle.std.specs.declared.alloc.Global.{Global}
 use Rattle.gm_deliveries.specs.declared.status.Start.{Start}
@@ -52,3 +53,48 @@ returns-clause-as_many g c =
     let same = c.loop-entry.invariant.as_many in
     let none : length c.loop-entry.entry-iterator.rest.items ≡ 0 = search rules in
     (omega arith, omega arith)
+
+pub returns-in_err-blocks-clause-as_many : goal.returns-in_err-blocks-clause-as_many
+returns-in_err-blocks-clause-as_many g c = IfOk-from_err c.from_residual.result _ c.from_residual.ensures.0
+
+pub returns-in_err-blocks-clause-lists : goal.returns-in_err-blocks-clause-lists
+returns-in_err-blocks-clause-lists g c = IfOk-from_err c.from_residual.result _ c.from_residual.ensures.0
+
+pub returns-in_err-blocks-clause-starts : goal.returns-in_err-blocks-clause-starts
+returns-in_err-blocks-clause-starts g c = IfOk-from_err c.from_residual.result _ c.from_residual.ensures.0
+
+pub returns-in_err-parts-clause-as_many : goal.returns-in_err-parts-clause-as_many
+returns-in_err-parts-clause-as_many g c = IfOk-from_err c.from_residual-in_err-parts.result _ c.from_residual-in_err-parts.ensures.0
+
+pub returns-in_err-parts-clause-lists : goal.returns-in_err-parts-clause-lists
+returns-in_err-parts-clause-lists g c = IfOk-from_err c.from_residual-in_err-parts.result _ c.from_residual-in_err-parts.ensures.0
+
+pub returns-in_err-parts-clause-starts : goal.returns-in_err-parts-clause-starts
+returns-in_err-parts-clause-starts g c = IfOk-from_err c.from_residual-in_err-parts.result _ c.from_residual-in_err-parts.ensures.0
+
+pub returns-in_err-lists-clause-as_many : goal.returns-in_err-lists-clause-as_many
+returns-in_err-lists-clause-as_many g c = IfOk-from_err c.from_residual-in_err-lists.result _ c.from_residual-in_err-lists.ensures.0
+
+pub returns-in_err-lists-clause-lists : goal.returns-in_err-lists-clause-lists
+returns-in_err-lists-clause-lists g c = IfOk-from_err c.from_residual-in_err-lists.result _ c.from_residual-in_err-lists.ensures.0
+
+pub returns-in_err-lists-clause-starts : goal.returns-in_err-lists-clause-starts
+returns-in_err-lists-clause-starts g c = IfOk-from_err c.from_residual-in_err-lists.result _ c.from_residual-in_err-lists.ensures.0
+
+pub returns-in_err-push-clause-as_many : goal.returns-in_err-push-clause-as_many
+returns-in_err-push-clause-as_many g c = IfOk-from_err c.from_residual-in_err-push.result _ c.from_residual-in_err-push.ensures.0
+
+pub returns-in_err-push-clause-lists : goal.returns-in_err-push-clause-lists
+returns-in_err-push-clause-lists g c = IfOk-from_err c.from_residual-in_err-push.result _ c.from_residual-in_err-push.ensures.0
+
+pub returns-in_err-push-clause-starts : goal.returns-in_err-push-clause-starts
+returns-in_err-push-clause-starts g c = IfOk-from_err c.from_residual-in_err-push.result _ c.from_residual-in_err-push.ensures.0
+
+pub returns-in_err-push-2-clause-as_many : goal.returns-in_err-push-2-clause-as_many
+returns-in_err-push-2-clause-as_many g c = IfOk-from_err c.from_residual-in_err-push-2.result _ c.from_residual-in_err-push-2.ensures.0
+
+pub returns-in_err-push-2-clause-lists : goal.returns-in_err-push-2-clause-lists
+returns-in_err-push-2-clause-lists g c = IfOk-from_err c.from_residual-in_err-push-2.result _ c.from_residual-in_err-push-2.ensures.0
+
+pub returns-in_err-push-2-clause-starts : goal.returns-in_err-push-2-clause-starts
+returns-in_err-push-2-clause-starts g c = IfOk-from_err c.from_residual-in_err-push-2.result _ c.from_residual-in_err-push-2.ensures.0

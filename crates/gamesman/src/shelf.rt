@@ -1,0 +1,85 @@
+//! The store that the program builds over.
+ghost use Rattle.std.specs.Prelude.{◌≡◌, false, None, IfOk};
+ghost use Rattle.gamesman.specs.Shelves.{failed_in};
+
+use gm_command::requests::Kept;
+use gm_tierdb::folder_store::FolderStore;
+use gm_tierdb::mem_store::MemStore;
+use gm_tierdb::read_only::ReadOnly;
+use gm_tierdb::store::Store;
+use gm_tierdb::store_error::StoreError;
+use std::alloc::{AllocError, Global};
+use std::fs::Files;
+
+/// Where the files of tiers are: in a folder, in one that is only read, or in memory. One type for all three, since a build is compiled once for each type of
+/// store. Like a folder it promises only its count of failures.
+#[derive(Drop)]
+pub enum Shelf {
+    Folder(FolderStore),
+    ReadOnly(ReadOnly<FolderStore>),
+    Memory(MemStore),
+}
+
+impl Shelf {
+    /// The store that a line asks for; no call of it has failed.
+    pub fn at(alloc: Global, kept: Kept<'_>) -> Result<Shelf, AllocError>
+        ensures { IfOk result (λ s. failed_in s ≡ 0) }
+    {
+        let Some(folder) = kept.folder else {
+            return Ok(Shelf::Memory(MemStore::new(alloc)));
+        };
+        let folder = FolderStore::new(alloc, String::from_str(alloc, folder)?);
+        if kept.read_only {
+            Ok(Shelf::ReadOnly(ReadOnly::new(folder)))
+        } else {
+            Ok(Shelf::Folder(folder))
+        }
+    }
+
+    /// Whether a write has failed because the file there is another game's.
+    pub fn met_another(&self) -> bool {
+        match self {
+            Shelf::Folder(store) => store.met_another(),
+            Shelf::ReadOnly(_) | Shelf::Memory(_) => false,
+        }
+    }
+}
+
+impl Store for Shelf {
+    ghost KEEPS = { false };
+
+    ghost texts = { λ _ _. None };
+
+    ghost failed = { failed_in };
+
+    const KEEPS: bool = false;
+
+    fn read<R: Files>(
+        &mut self,
+        rt: &R,
+        alloc: Global,
+        tier: u64,
+    ) -> Result<Option<Vec<u8>>, StoreError> {
+        match self {
+            Shelf::Folder(store) => store.read(rt, alloc, tier),
+            Shelf::ReadOnly(store) => store.read(rt, alloc, tier),
+            Shelf::Memory(store) => store.read(rt, alloc, tier),
+        }
+    }
+
+    fn write<R: Files>(&mut self, rt: &R, tier: u64, bytes: &[u8]) -> Result<(), StoreError> {
+        match self {
+            Shelf::Folder(store) => store.write(rt, tier, bytes),
+            Shelf::ReadOnly(store) => store.write(rt, tier, bytes),
+            Shelf::Memory(store) => store.write(rt, tier, bytes),
+        }
+    }
+
+    fn failures(&self) -> u64 {
+        match self {
+            Shelf::Folder(store) => store.failures(),
+            Shelf::ReadOnly(store) => store.failures(),
+            Shelf::Memory(store) => store.failures(),
+        }
+    }
+}
