@@ -1,3 +1,4 @@
+use Rattle.std.proofs.lemmas.Result.{IfOk-from_err}
 use Rattle.std.proofs.Common.{◌≡◌, subst, arith}
 use Rattle.gm_analyse.specs.Listing.{AreCountsBefore}
 use Rattle.gm_analyse.proofs.Lists.{all_counts}
@@ -8,3 +9,6 @@ returns g c =
     let records = c.args.table.now.records in
     let last : c.loop-value.value-index ≡ 4 = omega arith in
     all_counts records c.loop-value.counts.items (subst (λ n. AreCountsBefore records n 0 c.loop-value.counts.items) last c.loop-value.invariant)
+
+pub returns-in_err-add_counts : goal.returns-in_err-add_counts
+returns-in_err-add_counts g c = IfOk-from_err c.from_residual.result _ c.from_residual.ensures.0

@@ -1,3 +1,4 @@
+use Rattle.std.proofs.lemmas.Result.{IfOk-from_err}
 use Rattle.std.proofs.Common.{get_or, refl, subst}
 use Rattle.gm_frontier.specs.Notes.{joined}
 use Rattle.gm_frontier.specs.Levels.{IsChildPart}
@@ -16,3 +17,9 @@ loop-tier-preserved g c =
       whole = all_more (λ t. IsChildPart g.G.Game.rules c.args.place t (notes_in t)) tiers i (get_or tiers i 0) 0 c.loop-tier-test.true refl c.loop-tier.invariant.whole
           (subst (IsChildPart g.G.Game.rules c.args.place (get_or tiers i 0)) c.child_part.ensures.notes c.child_part.ensures.whole);
     }
+
+pub returns-in_err-push_part-clause-notes : goal.returns-in_err-push_part-clause-notes
+returns-in_err-push_part-clause-notes g c = IfOk-from_err c.from_residual.result _ c.from_residual.ensures.0
+
+pub returns-in_err-push_part-clause-whole : goal.returns-in_err-push_part-clause-whole
+returns-in_err-push_part-clause-whole g c = IfOk-from_err c.from_residual.result _ c.from_residual.ensures.0

@@ -1,3 +1,4 @@
+use Rattle.std.proofs.lemmas.Result.{IfOk-from_err}
 use Rattle.std.proofs.Common.{◌∙◌}
 use Rattle.gm_frontier.specs.Notes.{joined}
 use Rattle.gm_frontier.specs.Levels.{RunData, IsRun}
@@ -17,3 +18,9 @@ loop-run-preserved g c =
 
 pub returns-clause-whole : goal.returns-clause-whole
 returns-clause-whole g c = all_taken (λ (x : RunData). IsRun g.G.Game.rules x.place x.lo x.hi x.notes) c.args.runs.now c.loop-run.run-index c.loop-run-test.false c.loop-run.invariant.whole
+
+pub returns-in_err-push_part-clause-notes : goal.returns-in_err-push_part-clause-notes
+returns-in_err-push_part-clause-notes g c = IfOk-from_err c.from_residual.result _ c.from_residual.ensures.0
+
+pub returns-in_err-push_part-clause-whole : goal.returns-in_err-push_part-clause-whole
+returns-in_err-push_part-clause-whole g c = IfOk-from_err c.from_residual.result _ c.from_residual.ensures.0

@@ -1,3 +1,4 @@
+use Rattle.std.proofs.lemmas.Result.{IfOk-from_err}
 use Rattle.std.proofs.Common.{get_or}
 use Rattle.std.proofs.lemmas.List.Elements.{Contains-get_or}
 use Rattle.gm_game.specs.Rules.{at}
@@ -8,3 +9,6 @@ code_of-requires-clause-has c =
     let xs = c.args.children.now in
     let there = Contains-get_or xs c.loop-c.c-index (at 0 0) c.loop-c-test.true in
     c.requires.have (get_or xs c.loop-c.c-index (at 0 0)) there
+
+pub returns-in_err-push : goal.returns-in_err-push
+returns-in_err-push c = IfOk-from_err c.from_residual.result _ c.from_residual.ensures.0

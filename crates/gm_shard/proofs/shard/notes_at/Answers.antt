@@ -1,3 +1,4 @@
+use Rattle.std.proofs.lemmas.Result.{IfOk-from_err}
 use Rattle.std.proofs.Common.{rules, [], ◌∷◌, ◌++◌, ◌≡◌, ℕ, ◌+◌, ◌<◌, length, get_or, sym, subst, arith, Some}
 use Rattle.std.proofs.lemmas.List.Elements.{Contains-get_or}
 use Rattle.gm_shard.specs.Queues.{IsSettledAt}
@@ -36,3 +37,6 @@ loop-index-preserved g c =
     let is : c.note.result ≡ Some c.unwrap.result = search rules in
     notes_more r s c.args.indexes.now i c.loop-index.notes.items c.push.new.self.items c.unwrap.result c.loop-index-test.true c.loop-index.invariant pushed
     (note_is r s (c.range-lo.result.0 + c.from.result) k c.unwrap.result c.note.result is at' c.note.ensures)
+
+pub returns-in_err-push : goal.returns-in_err-push
+returns-in_err-push g c = IfOk-from_err c.from_residual.result _ c.from_residual.ensures.0

@@ -1,3 +1,4 @@
+use Rattle.std.proofs.lemmas.Result.{IfOk-from_err}
 use Rattle.std.proofs.Common.{ℕ, ◌+◌, List, length, sym, subst}
 use Rattle.std.specs.List.{Contains}
 use Rattle.std.specs.List.Sorted.{IsPermutation, IsNonDecreasing}
@@ -36,3 +37,21 @@ of-requires g c =
     subst (λ (p : Place). IsRun r p c.range-lo.result.0 c.range-lo.result.1 found) (sym c.place.ensures)
     (subst (λ (lo : ℕ). IsRun r (place_of s) lo c.range-lo.result.1 found) (sym c.range-lo.ensures.lo)
     (subst (λ (hi : ℕ). IsRun r (place_of s) s.lo hi found) (sym c.range-lo.ensures.hi) run))
+
+pub returns-in_err-indexes-clause-place : goal.returns-in_err-indexes-clause-place
+returns-in_err-indexes-clause-place g c = IfOk-from_err c.from_residual.result _ c.from_residual.ensures.0
+
+pub returns-in_err-indexes-clause-lo : goal.returns-in_err-indexes-clause-lo
+returns-in_err-indexes-clause-lo g c = IfOk-from_err c.from_residual.result _ c.from_residual.ensures.0
+
+pub returns-in_err-indexes-clause-hi : goal.returns-in_err-indexes-clause-hi
+returns-in_err-indexes-clause-hi g c = IfOk-from_err c.from_residual.result _ c.from_residual.ensures.0
+
+pub returns-in_err-notes-clause-place : goal.returns-in_err-notes-clause-place
+returns-in_err-notes-clause-place g c = IfOk-from_err c.from_residual-in_err-notes.result _ c.from_residual-in_err-notes.ensures.0
+
+pub returns-in_err-notes-clause-lo : goal.returns-in_err-notes-clause-lo
+returns-in_err-notes-clause-lo g c = IfOk-from_err c.from_residual-in_err-notes.result _ c.from_residual-in_err-notes.ensures.0
+
+pub returns-in_err-notes-clause-hi : goal.returns-in_err-notes-clause-hi
+returns-in_err-notes-clause-hi g c = IfOk-from_err c.from_residual-in_err-notes.result _ c.from_residual-in_err-notes.ensures.0
