@@ -8,10 +8,7 @@ use gm_game::game::Game;
 use gm_table::table::Table;
 use gm_toys::countdown::Countdown;
 use std::alloc::Global;
-use std::fs::Files;
 use std::process::Abort;
-use std::sync::Wait;
-use std::thread::Threads;
 
 // How many counts the analysis of a table has, and its JSON.
 fn check_table<G: Game>(
@@ -28,27 +25,11 @@ fn check_table<G: Game>(
     expect_eq(rt, must(rt, line).as_str(), json);
 }
 
-// The same of a game's only tier.
-fn check_analysis<G: Game + Send + Sync, R: Threads + Wait + Files + Sync + AllocGlobal + Abort>(
-    rt: &R,
-    counts: usize,
-    json: &str,
-) {
-    let game: Built<G> = built_alone(rt, rt.alloc());
-    let table = game.tables.table(0).expect(rt, "the tier is held");
-    check_table(rt, rt.alloc(), table, counts, json);
-}
-
-#[test]
-fn analysis_of_countdown(rt: HostRuntime) {
-    let json =
-        "{\"canonical\":11,\"counts\":[[\"lose\",0,1],[\"lose\",2,1],[\"lose\",4,1],[\"lose\",6,1],[\"win\",1,2],[\"win\",3,2],[\"win\",5,2],[\"win\",7,1]],\"game\":\"countdown\",\"legal\":11,\"longest_win\":[7,10],\"size\":11,\"tier\":0}";
-    check_analysis::<Countdown<10>, _>(&rt, 8, json);
-}
-
 #[test]
 fn analysis_of_one_position(rt: HostRuntime) {
     let json =
         "{\"canonical\":1,\"counts\":[[\"lose\",0,1]],\"game\":\"countdown\",\"legal\":1,\"longest_win\":null,\"size\":1,\"tier\":0}";
-    check_analysis::<Countdown<0>, _>(&rt, 1, json);
+    let game: Built<Countdown<0>> = built_alone(&rt, rt.alloc());
+    let table = game.tables.table(0).expect(&rt, "the tier is held");
+    check_table(&rt, rt.alloc(), table, 1, json);
 }
