@@ -2,8 +2,7 @@
 
 use crate::bits::{has_bit, with_bit};
 use crate::status::{
-    Delivery, Refused, Short, Start, Status, first_left, first_status, is_settling, next_status,
-    phase_of,
+    Delivery, Refused, Short, Start, Status, first_lefts, is_settling, next_status, phase_of,
 };
 use crate::statuses::Statuses;
 use gm_frontier::expected::Expected;
@@ -73,18 +72,15 @@ impl<G: Game> Deliveries<G> {
         requires within { lo + length starts.now ≤ TIER_SIZE }
         ensures { IfOk result (λ s. s ≡ first_state tier lo (length starts.now)) }
     {
-        let mut left = Vec::with_capacity(alloc, starts.len())?;
-        let mut statuses = Statuses::with_capacity(alloc, starts.len())?;
-        for start in starts {
-            left.push(first_left(*start))?;
-            statuses.push(first_status(*start))?;
-        }
+        let masks = vec![in alloc; 0u128; starts.len()]?;
+        let left = first_lefts(alloc, starts)?;
+        let statuses = Statuses::at_start(alloc, starts)?;
         Ok(Deliveries {
             tier,
             lo,
             phase: Phase::WinLose,
             level: 0,
-            masks: vec![in alloc; 0u128; starts.len()]?,
+            masks,
             left,
             statuses,
             delivered: 0,
