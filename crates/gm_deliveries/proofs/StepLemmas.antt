@@ -24,8 +24,8 @@ use Rattle.gm_game.specs.Records.{solved}
 use Rattle.gm_frontier.specs.Notes.{NoteData, IsNote, phase_of}
 use Rattle.gm_deliveries.specs.declared.status.Status.{Status}
 use Rattle.gm_deliveries.specs.declared.status.Status.TheVariants.{Hole, Undecided, Settled}
-use Rattle.gm_deliveries.specs.declared.status.Delivery.TheVariants.{Fresh, FreshSettled, Repeat}
-use Rattle.gm_deliveries.specs.declared.status.Refused.TheVariants.{NotMine, TooFar}
+use Rattle.gm_deliveries.specs.declared.status.Delivery.TheVariants.{Fresh, Repeat}
+use Rattle.gm_deliveries.specs.declared.status.Refused.TheVariants.{NotMine}
 use Rattle.gm_game.specs.Settling.{AreAll}
 use Rattle.gm_deliveries.specs.State.{ShardState, IsInRange, delivered_to, with_pair, state_of, children_of_masks}
 use Rattle.gm_deliveries.specs.Status.{In, HasStatus, StatusIs}
@@ -429,7 +429,7 @@ module _ {r : Rules} {tier lo : ℕ} {phase : Phase} {level : ℕ} {masks left :
       (kept_after next after' l is (subst (λ (xs : List Position). length xs ≤ MOVES) (picked_more m same other') few) (within_after r (state_of r tier lo phase level masks) c parent next t.can after')))
 
 module _ {r : Rules} {s : ShardState} {statuses : List Status} {note : NoteData} {parent : ℕ} {old : Status} {last : Bool} (t : Step r s statuses note parent old last) where
-  settled_now : is_settling old (next_status old note.solved last) ≡ true → IsSettledNow r s (with_pair s note.position parent) parent
+  pub settled_now : is_settling old (next_status old note.solved last) ≡ true → IsSettledNow r s (with_pair s note.position parent) parent
   settled_now e =
       let k = settles_one_above old note.solved last e in
       record {
@@ -468,12 +468,6 @@ module _ {r : Rules} {s : ShardState} {statuses : List Status} {note : NoteData}
 
   pub can_stay : IsGame r → is_settling old (next_status old note.solved last) ≡ false → CanDeliver r s note.position parent
   can_stay g e = can_deliver g (near_staying g e)
-
-  pub out_far : is_settling old (next_status old note.solved last) ≡ true → REMOTENESS ≤ s.level → Delivers r note parent s s (Err TooFar)
-  out_far settles far = (refl, t.here, t.new, settled_now settles, omega arith)
-
-  pub out_settled : (v : ShardState) → v ≡ with_pair s note.position parent → is_settling old (next_status old note.solved last) ≡ true → s.level < REMOTENESS → Delivers r note parent s v (Ok FreshSettled)
-  out_settled v w settles near = (w, t.here, t.new, subst (λ (v : ShardState). IsSettledNow r s v parent) (sym w) (settled_now settles), (omega arith))
 
   pub out_fresh : (v : ShardState) → v ≡ with_pair s note.position parent → is_settling old (next_status old note.solved last) ≡ false → Delivers r note parent s v (Ok Fresh)
   out_fresh v w settles = (w, t.here, t.new, subst (λ (v : ShardState). KeepsStatus r s v parent) (sym w) (keeps settles))

@@ -113,12 +113,13 @@ impl<G: Game> Deliveries<G> {
 }
 
 impl<G: Game> Deliveries<G> {
-    ghost use Rattle.std.specs.Prelude.{◌≡◌, ◌↔◌, Some, IsTrue};
+    ghost use Rattle.std.specs.Prelude.{◌≡◌, ◌<◌, ◌↔◌, Some, IsTrue};
+    ghost use Rattle.gm_game.specs.declared.limits.TheConstants.{REMOTENESS};
     ghost use Rattle.std.specs.List.{Contains};
     ghost use Rattle.gm_deliveries.specs.State.{IsInRange, delivered_to, with_pair};
     ghost use Rattle.gm_deliveries.specs.Status.{StatusIs};
     ghost use Rattle.gm_deliveries.specs.Steps.{CanDeliver};
-    ghost use Rattle.gm_deliveries.specs.Delivery.{IsPlaceOf, IsThisLevel, Delivers};
+    ghost use Rattle.gm_deliveries.specs.Delivery.{IsPlaceOf, IsThisLevel, IsPairHere, IsSettledNow, Delivers};
 
     // Delivers a note of the present level to a parent of the range.
     fn deliver_at(&mut self, note: &Note<G>, parent: u64, place: u32) -> Result<Delivery, Refused>
@@ -130,14 +131,35 @@ impl<G: Game> Deliveries<G> {
         if self.has_pair(note, parent, place) {
             return Ok(Delivery::Repeat);
         }
+        // No shard is above the limit by more than one level, so a remoteness greater by one fits.
+        let _level = self.level;
         let old = self.status(parent);
         let left = self.counter(parent);
         let solved = note.solved();
         let next = next_status(old, solved, left == 1);
-        if !is_settling(old, next) {
-            self.add_pair(note, parent, place, next);
-            return Ok(Delivery::Fresh);
+        if is_settling(old, next) {
+            return self.settle_pair(note, parent, place, next);
         }
+        self.add_pair(note, parent, place, next);
+        Ok(Delivery::Fresh)
+    }
+
+    // Adds a pair that settles its parent, unless that is above the limit.
+    fn settle_pair(
+        &mut self,
+        note: &Note<G>,
+        parent: u64,
+        place: u32,
+        next: Status,
+    ) -> Result<Delivery, Refused>
+        requires here { IsPairHere G.rules self.old note.now parent }
+        requires new { Contains (delivered_to self.old parent) note.now.position → ⊥ }
+        requires settles { IsSettledNow G.rules self.old (with_pair self.old note.now.position parent) parent }
+        requires can { self.old.level < REMOTENESS → CanDeliver G.rules self.old note.now.position parent }
+        requires place { IsPlaceOf G.rules note.now.position self.old.tier parent (Some place) }
+        requires next { StatusIs G.rules (with_pair self.old note.now.position parent) parent next }
+        ensures { Delivers G.rules note.now parent self.old self.new result }
+    {
         if self.level >= REMOTENESS {
             return Err(Refused::TooFar);
         }

@@ -1,8 +1,6 @@
-use Rattle.std.proofs.Common.{◌≡◌, ◌==◌, ◌∙◌, ℕ, ◌<◌, ◌≤◌, Bool, ap, subst, sym, true≢false}
-use Rattle.gm_game.specs.declared.limits.TheConstants.{REMOTENESS}
-use Rattle.gm_deliveries.specs.State.{ShardState}
+use Rattle.std.proofs.Common.{◌≡◌, ◌==◌, ◌∙◌, Bool, sym, true≢false}
 use Rattle.gm_deliveries.specs.Delivery.{next_status, is_settling}
-use Rattle.gm_deliveries.proofs.StepLemmas.{Step, step_of, next_is, settling_is, next_after, can_settle, can_stay, out_repeat, out_far, out_settled, out_fresh}
+use Rattle.gm_deliveries.proofs.StepLemmas.{Step, step_of, next_is, settling_is, next_after, can_settle, can_stay, settled_now, out_repeat, out_fresh}
 use Rattle.gm_deliveries.proofs.deliveries.Deliveries.deliver_at.Given.{Over}
 use Rattle.gm_deliveries.proofs.deliveries.Deliveries.deliver_at.Goals.{After-is_settling}
 use Rattle.gm_deliveries.proofs.deliveries.Deliveries.deliver_at.Goals as goal
@@ -24,23 +22,35 @@ pub returns-then-has_pair : goal.returns-then-has_pair
 returns-then-has_pair g c =
     out_repeat g.G.Game.rules c.args.self.now c.args.note.now c.args.parent c.args.place c.requires.level c.requires.range c.requires.place (c.has_pair.ensures.0 c.if-has_pair.true)
 
+pub settle_pair-requires-clause-here : goal.settle_pair-requires-clause-here
+settle_pair-requires-clause-here g c = (step g (goal.at.settle_pair-requires-clause-here g c).After-is_settling).here
+
+pub settle_pair-requires-clause-new : goal.settle_pair-requires-clause-new
+settle_pair-requires-clause-new g c = (step g (goal.at.settle_pair-requires-clause-new g c).After-is_settling).new
+
+pub settle_pair-requires-clause-settles : goal.settle_pair-requires-clause-settles
+settle_pair-requires-clause-settles g c = settled_now (step g (goal.at.settle_pair-requires-clause-settles g c).After-is_settling) (settles g (goal.at.settle_pair-requires-clause-settles g c).After-is_settling c.if-is_settling.true)
+
+pub settle_pair-requires-clause-can : goal.settle_pair-requires-clause-can
+settle_pair-requires-clause-can g c = can_settle (step g (goal.at.settle_pair-requires-clause-can g c).After-is_settling) g.met.G.Game.lawful (settles g (goal.at.settle_pair-requires-clause-can g c).After-is_settling c.if-is_settling.true)
+
+pub settle_pair-requires-clause-place : goal.settle_pair-requires-clause-place
+settle_pair-requires-clause-place g c = c.requires.place
+
+pub settle_pair-requires-clause-next : goal.settle_pair-requires-clause-next
+settle_pair-requires-clause-next g c = next_after (step g (goal.at.settle_pair-requires-clause-next g c).After-is_settling) c.next_status-next.result (next g (goal.at.settle_pair-requires-clause-next g c).After-is_settling)
+
+pub returns-then-is_settling : goal.returns-then-is_settling
+returns-then-is_settling g c = c.settle_pair.ensures
+
 pub add_pair-requires-clause-can : goal.add_pair-requires-clause-can
-add_pair-requires-clause-can g c = can_stay (step g (goal.at.add_pair-requires-clause-can g c).After-is_settling) g.met.G.Game.lawful (settles g (goal.at.add_pair-requires-clause-can g c).After-is_settling c.if-not-is_settling.true)
+add_pair-requires-clause-can g c = can_stay (step g (goal.at.add_pair-requires-clause-can g c).After-is_settling) g.met.G.Game.lawful (settles g (goal.at.add_pair-requires-clause-can g c).After-is_settling c.if-is_settling.false)
+
+pub add_pair-requires-clause-place : goal.add_pair-requires-clause-place
+add_pair-requires-clause-place g c = c.requires.place
 
 pub add_pair-requires-clause-next : goal.add_pair-requires-clause-next
 add_pair-requires-clause-next g c = next_after (step g (goal.at.add_pair-requires-clause-next g c).After-is_settling) c.next_status-next.result (next g (goal.at.add_pair-requires-clause-next g c).After-is_settling)
 
-pub returns-then-not-is_settling : goal.returns-then-not-is_settling
-returns-then-not-is_settling g c = out_fresh (step g (goal.at.returns-then-not-is_settling g c).After-is_settling) c.add_pair.new.self c.add_pair.ensures (settles g (goal.at.returns-then-not-is_settling g c).After-is_settling c.if-not-is_settling.true)
-
-pub returns-then-self-ge-REMOTENESS : goal.returns-then-self-ge-REMOTENESS
-returns-then-self-ge-REMOTENESS g c = out_far (step g (goal.at.returns-then-self-ge-REMOTENESS g c).After-is_settling) (settles g (goal.at.returns-then-self-ge-REMOTENESS g c).After-is_settling c.if-not-is_settling.false) (subst (λ (n : ℕ). REMOTENESS ≤ n) (ap (λ (s : ShardState). s.level) c.self.view_is) c.if-self-ge-REMOTENESS.true)
-
-pub add_pair-requires-2-clause-can : goal.add_pair-requires-2-clause-can
-add_pair-requires-2-clause-can g c = can_settle (step g (goal.at.add_pair-requires-2-clause-can g c).After-is_settling) g.met.G.Game.lawful (settles g (goal.at.add_pair-requires-2-clause-can g c).After-is_settling c.if-not-is_settling.false) (subst (λ (n : ℕ). n < REMOTENESS) (ap (λ (s : ShardState). s.level) c.self.view_is) c.if-self-ge-REMOTENESS.false)
-
-pub add_pair-requires-2-clause-next : goal.add_pair-requires-2-clause-next
-add_pair-requires-2-clause-next g c = next_after (step g (goal.at.add_pair-requires-2-clause-next g c).After-is_settling) c.next_status-next.result (next g (goal.at.add_pair-requires-2-clause-next g c).After-is_settling)
-
 pub returns : goal.returns
-returns g c = out_settled (step g (goal.at.returns g c).After-is_settling) c.add_pair-2.new.self c.add_pair-2.ensures (settles g (goal.at.returns g c).After-is_settling c.if-not-is_settling.false) (subst (λ (n : ℕ). n < REMOTENESS) (ap (λ (s : ShardState). s.level) c.self.view_is) c.if-self-ge-REMOTENESS.false)
+returns g c = out_fresh (step g (goal.at.returns g c).After-is_settling) c.add_pair.new.self c.add_pair.ensures (settles g (goal.at.returns g c).After-is_settling c.if-is_settling.false)
