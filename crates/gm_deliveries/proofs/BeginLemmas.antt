@@ -34,6 +34,12 @@ near_end EndLose = omega arith
 near_end EndTie = omega arith
 near_end EndWin = omega arith
 
+-- what a position begins with is within the limit
+pub near_start : (x : Start) → IsWithinLimit (first_status x)
+near_start NoStart = tt
+near_start (Ended e) = near_end e
+near_start (Inner n) = tt
+
 -- no child settles nothing
 pub nothing_settled : (r : Rules) (p : Position) → IsUndecided r p (In [])
 nothing_settled r p Lose n (m, e, all, x) = let (c, i, h) = x.longest in has_none c i
@@ -113,6 +119,9 @@ pub small_start : (r : Rules) → IsGame r → (p : Position) (s : Start) → Is
 small_start r g p NoStart k = omega arith
 small_start r g p (Ended e) k = omega arith
 small_start r g p (Inner c) k = let few = canonical_children_few r g p k.0.legal in omega (arith, k.1)
+
+pub small_starts : (r : Rules) → IsGame r → (tier lo : ℕ) (starts : List Start) → AreStarts r tier lo starts → (k : ℕ) (x : Start) → slice_get starts k ≡ Some x → first_left x ≤ MOVES
+small_starts r g tier lo starts are k x got = small_start r g (at tier (lo + k)) x (are k x got)
 
 -- the state of masks with no bit
 pub first_masks : (r : Rules) (tier lo n : ℕ) (ms : List ℕ) → ms ≡ replicate n 0 → state_of r tier lo WinLose 0 ms ≡ first_state tier lo n

@@ -32,7 +32,7 @@ module _ {r : Rules} (g : IsGame r) {s : ShardState} {statuses : List Status} (t
       (get_or statuses (i - s.lo) Hole, k.0, k.1)
 
   -- a settled status is the stored one, and so within the limit
-  near_of : (i : ℕ) (x : Solved) (m : IsInRange s i) → StatusIs r s i (Settled x) → (y : Status) → StatusIs r s i y → IsWithinLimit y → x.remoteness ≤ REMOTENESS
+  pub near_of : (i : ℕ) (x : Solved) (m : IsInRange s i) → StatusIs r s i (Settled x) → (y : Status) → StatusIs r s i y → IsWithinLimit y → x.remoteness ≤ REMOTENESS
   near_of i x m (inl e) Hole k n = absurd (k e.canonical)
   near_of i x m (inr q) Hole k n = absurd (k (q.0.legal, q.0.canonical))
   near_of i x m (inl e) Undecided k n = let none : None ≡ Some e.ended = sym k.0.unended ∙ e.primitive in absurd (cc)
@@ -56,3 +56,9 @@ module _ {r : Rules} (g : IsGame r) {s : ShardState} {statuses : List Status} (t
     settled_is_true = λ (i : ℕ) (x : Solved) (m : IsInRange s i) (h : StatusIs r s i (Settled x)). (settled_truth i x m h, near_of i x m h ((stored i m).0) ((stored i m).1) ((stored i m).2));
     true_is_settled = λ (i : ℕ) (m : IsInRange s i) (c : IsCanonical r (at s.tier i)) (b : StandsBefore r s.phase (s.level + 1) (at s.tier i)). settled_of i m c b ((stored i m).0) ((stored i m).1);
   }
+
+  -- each status that an index has is within the limit
+  pub within_limit : (i : ℕ) → IsInRange s i → (y : Status) → StatusIs r s i y → IsWithinLimit y
+  within_limit i m Hole h = tt
+  within_limit i m Undecided h = tt
+  within_limit i m (Settled x) h = near_of i x m h ((stored i m).0) ((stored i m).1) ((stored i m).2)

@@ -2,8 +2,7 @@
 
 use crate::bits::{has_bit, with_bit};
 use crate::status::{
-    Delivery, Refused, Short, Start, Status, first_left, first_status, is_settling, next_status,
-    phase_of,
+    Delivery, Refused, Short, Start, Status, first_lefts, is_settling, next_status, phase_of,
 };
 use crate::statuses::Statuses;
 use gm_frontier::expected::Expected;
@@ -73,18 +72,15 @@ impl<G: Game> Deliveries<G> {
         requires within { lo + length starts.now ≤ TIER_SIZE }
         ensures { IfOk result (λ s. s ≡ first_state tier lo (length starts.now)) }
     {
-        let mut left = Vec::with_capacity(alloc, starts.len())?;
-        let mut statuses = Statuses::with_capacity(alloc, starts.len())?;
-        for start in starts {
-            left.push(first_left(*start))?;
-            statuses.push(first_status(*start))?;
-        }
+        let masks = vec![in alloc; 0u128; starts.len()]?;
+        let left = first_lefts(alloc, starts)?;
+        let statuses = Statuses::at_start(alloc, starts)?;
         Ok(Deliveries {
             tier,
             lo,
             phase: Phase::WinLose,
             level: 0,
-            masks: vec![in alloc; 0u128; starts.len()]?,
+            masks,
             left,
             statuses,
             delivered: 0,
@@ -112,27 +108,86 @@ impl<G: Game> Deliveries<G> {
         let Some(place) = place else {
             return Err(Refused::NotAParent);
         };
-        let k = (parent - self.lo) as usize;
-        let mask = self.masks[k];
-        if has_bit(mask, place) {
+        self.deliver_at(note, parent, place)
+    }
+}
+
+impl<G: Game> Deliveries<G> {
+    ghost use Rattle.std.specs.Prelude.{◌≡◌, ◌<◌, ◌↔◌, Some, IsTrue};
+    ghost use Rattle.gm_game.specs.declared.limits.TheConstants.{REMOTENESS};
+    ghost use Rattle.std.specs.List.{Contains};
+    ghost use Rattle.gm_deliveries.specs.State.{IsInRange, delivered_to, with_pair};
+    ghost use Rattle.gm_deliveries.specs.Status.{StatusIs};
+    ghost use Rattle.gm_deliveries.specs.Steps.{CanDeliver};
+    ghost use Rattle.gm_deliveries.specs.Delivery.{IsPlaceOf, IsThisLevel, IsPairHere, IsSettledNow, Delivers};
+
+    // Delivers a note of the present level to a parent of the range.
+    fn deliver_at(&mut self, note: &Note<G>, parent: u64, place: u32) -> Result<Delivery, Refused>
+        requires level { IsThisLevel self.old note.now }
+        requires range { IsInRange self.old parent }
+        requires place { IsPlaceOf G.rules note.now.position self.old.tier parent (Some place) }
+        ensures { Delivers G.rules note.now parent self.old self.new result }
+    {
+        if self.has_pair(note, parent, place) {
             return Ok(Delivery::Repeat);
         }
-        let left = self.left[k];
-        let old = self.statuses.get(k);
+        // No shard is above the limit by more than one level, so a remoteness greater by one fits.
+        let _level = self.level;
+        let old = self.status(parent);
+        let left = self.counter(parent);
+        let solved = note.solved();
         let next = next_status(old, solved, left == 1);
-        let settles = is_settling(old, next);
-        if settles && self.level >= REMOTENESS {
+        if is_settling(old, next) {
+            return self.settle_pair(note, parent, place, next);
+        }
+        self.add_pair(note, parent, place, next);
+        Ok(Delivery::Fresh)
+    }
+
+    // Adds a pair that settles its parent, unless that is above the limit.
+    fn settle_pair(
+        &mut self,
+        note: &Note<G>,
+        parent: u64,
+        place: u32,
+        next: Status,
+    ) -> Result<Delivery, Refused>
+        requires here { IsPairHere G.rules self.old note.now parent }
+        requires new { Contains (delivered_to self.old parent) note.now.position → ⊥ }
+        requires settles { IsSettledNow G.rules self.old (with_pair self.old note.now.position parent) parent }
+        requires can { self.old.level < REMOTENESS → CanDeliver G.rules self.old note.now.position parent }
+        requires place { IsPlaceOf G.rules note.now.position self.old.tier parent (Some place) }
+        requires next { StatusIs G.rules (with_pair self.old note.now.position parent) parent next }
+        ensures { Delivers G.rules note.now parent self.old self.new result }
+    {
+        if self.level >= REMOTENESS {
             return Err(Refused::TooFar);
         }
-        self.masks[k] = with_bit(mask, place);
-        self.left[k] = left - 1;
+        self.add_pair(note, parent, place, next);
+        Ok(Delivery::FreshSettled)
+    }
+
+    // Whether a note's position, whose place is known, is delivered to a parent.
+    fn has_pair(&self, note: &Note<G>, parent: u64, place: u32) -> bool
+        requires range { IsInRange self.now parent }
+        requires place { IsPlaceOf G.rules note.now.position self.now.tier parent (Some place) }
+        ensures { IsTrue result ↔ Contains (delivered_to self.now parent) note.now.position }
+    {
+        has_bit(self.masks[(parent - self.lo) as usize], place)
+    }
+
+    // Adds a pair, which gives the parent its next status.
+    fn add_pair(&mut self, note: &Note<G>, parent: u64, place: u32, next: Status)
+        requires can { CanDeliver G.rules self.old note.now.position parent }
+        requires place { IsPlaceOf G.rules note.now.position self.old.tier parent (Some place) }
+        requires next { StatusIs G.rules (with_pair self.old note.now.position parent) parent next }
+        ensures { self.new ≡ with_pair self.old note.now.position parent }
+    {
+        let k = (parent - self.lo) as usize;
+        self.masks[k] = with_bit(self.masks[k], place);
+        self.left[k] -= 1;
         self.statuses.set(k, next);
         self.delivered += 1;
-        if settles {
-            Ok(Delivery::FreshSettled)
-        } else {
-            Ok(Delivery::Fresh)
-        }
     }
 }
 

@@ -1,9 +1,10 @@
 //! Statuses of four bytes each.
 ghost use Rattle.std.specs.Prelude.{◌≡◌, ◌<◌, ◌++◌, [], ◌∷◌, Some, length, slice_get, set, map, IfOk, OnOk};
+ghost use Rattle.gm_deliveries.specs.Begin.{first_status};
 ghost use Rattle.gm_deliveries.specs.Good.{IsWithinLimit};
 ghost use Rattle.gm_deliveries.specs.Statuses.{status_of};
 
-use crate::status::Status;
+use crate::status::{Start, Status, first_status};
 use gm_table::packed::{number_of, unpacked};
 use std::alloc::{AllocError, Global};
 use std::marker::Model;
@@ -34,6 +35,17 @@ impl Statuses {
     {
         let numbers = Vec::with_capacity(alloc, room)?;
         Ok(Statuses { numbers })
+    }
+
+    /// The statuses that these positions begin with.
+    pub(crate) fn at_start(alloc: Global, starts: &[Start]) -> Result<Statuses, AllocError>
+        ensures { IfOk result (λ statuses. statuses ≡ map first_status starts.now) }
+    {
+        let mut statuses = Statuses::with_capacity(alloc, starts.len())?;
+        for start in starts {
+            statuses.push(first_status(*start))?;
+        }
+        Ok(statuses)
     }
 
     /// Adds a status at the end.

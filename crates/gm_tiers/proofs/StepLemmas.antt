@@ -1,6 +1,8 @@
 -- What one step of a search answers.
 use Rattle.std.proofs.Common.{◌≡◌, ℕ, ◌-◌, ◌<◌, ◌≤◌, inl, inr, true, false, nat_eq, List, [], ◌∷◌, ◌++◌, length, Result, Ok, Err, refl, ap, sym, subst, ◌∙◌, arith}
 use Rattle.std.specs.List.{Contains, list_any}
+use Rattle.std.specs.Result.{IsErrAnd, IsErrOf}
+use Rattle.std.proofs.lemmas.Result.{err_from_is_err_and}
 use Rattle.std.proofs.lemmas.Bool.{lt-ltb, le-ltb, le-leb, lt-leb}
 use Rattle.std.proofs.lemmas.List.Elements.{Contains-append_right}
 use Rattle.gm_game.specs.declared.limits.TheConstants.{TIER_SIZE, TIERS}
@@ -18,6 +20,10 @@ no_error A x e h = absurd (cc)
 
 pub same_error : {X : Type 0} (d e : TierError) → ◌≡◌ {A = Result X TierError} (Err d) (Err e) → d ≡ e
 same_error d e h = cc
+
+-- what the exit of a `?` returns is refused as what it had
+pub passed_on : {T U : Type 0} (r : Result T TierError) (m : Result U TierError) (e why : TierError) → IsErrAnd r (λ y. y ≡ e) → m ≡ Err e → IsErrOf r why → IsErrOf m why
+passed_on r m e why h is k = let p = err_from_is_err_and r h in let same = p.1 ∙ ap (λ y. Err y) p.2 in is ∙ ap (λ y. Err y) (same_error e why (sym same ∙ k))
 
 -- a tier that is there already
 pub comes_there : (r : Rules) (found : List ℕ) (t : ℕ) → list_any (nat_eq t) found ≡ true → comes_to r (Ok found) t ≡ Ok found

@@ -1,9 +1,12 @@
-use Rattle.std.proofs.Common.{rules, ◌<◌, ◌≤◌, ◌-◌, ◌∙◌, length, arith, ⊎_elim, sym, true≢false}
+use Rattle.std.proofs.Common.{◌<◌, ◌≤◌, ◌-◌, ◌∙◌, length, arith, ⊎_elim, sym, true≢false}
 use Rattle.std.proofs.lemmas.Bool.{cases_lt}
 use Rattle.gm_game.specs.declared.limits.TheConstants.{TIERS}
+use Rattle.std.proofs.lemmas.Result.{IfOk-from_err}
+use Rattle.gm_tiers.specs.declared.tier_error.TierError.TheVariants.{TooManyTiers, TierTooLarge}
+use Rattle.gm_tiers.specs.Limits.{HasTooMany, IsTooLarge}
 use Rattle.gm_tiers.specs.Search.{search_of, EndsWith}
 use Rattle.gm_tiers.proofs.AnswerLemmas.{place_more, place_ends, past_all, first_ends_at}
-use Rattle.gm_tiers.proofs.StepLemmas.{no_error, within_none, next_first, closed_none, first_goes}
+use Rattle.gm_tiers.proofs.StepLemmas.{no_error, passed_on, within_none, next_first, closed_none, first_goes}
 use Rattle.gm_tiers.proofs.SearchLemmas.{at_there, grown_has, closed_more, found_all}
 use Rattle.gm_tiers.proofs.search.search.Goals as goal
 
@@ -43,7 +46,7 @@ returns-in-None-clause-answer g c =
 pub returns-in_err-find_children-in-Some-clause-refusal : goal.returns-in_err-find_children-in-Some-clause-refusal
 returns-in_err-find_children-in-Some-clause-refusal g c e is =
     place_ends g.G.Game.rules c.args.first TIERS c.loop-next.next c.in-Some.tier.now c.loop-next.found.keys e (omega arith) c.loop-next.invariant.3 (sym c.in-Some.ensures.key)
-    (c.find_children.ensures.refusal e (search rules))
+    (c.find_children.ensures.refusal e (passed_on c.from_residual-in_err-find_children-in-Some.result c.find_children.result c.in_err-find_children-in-Some.field-0.0 e c.from_residual-in_err-find_children-in-Some.ensures.1 c.in_err-find_children-in-Some.was is))
 
 pub returns-clause-answer : goal.returns-clause-answer
 returns-clause-answer g c =
@@ -57,7 +60,7 @@ pub find-requires-clause-next : goal.find-requires-clause-next
 find-requires-clause-next g c = next_first g.G.Game.rules c.args.first c.new-found.result.keys c.new-found.ensures.empty
 
 pub returns-in_err-find-clause-refusal : goal.returns-in_err-find-clause-refusal
-returns-in_err-find-clause-refusal g c e is = first_ends_at g.G.Game.rules c.args.first c.new-found.result.keys e c.new-found.ensures.empty (c.find.ensures.refusal e (search rules))
+returns-in_err-find-clause-refusal g c e is = first_ends_at g.G.Game.rules c.args.first c.new-found.result.keys e c.new-found.ensures.empty (c.find.ensures.refusal e (passed_on c.from_residual.result c.find.result c.in_err-find.field-0.0 e c.from_residual.ensures.1 c.in_err-find.was is))
 
 pub loop-next-init : goal.loop-next-init
 loop-next-init g c =
@@ -72,3 +75,39 @@ returns-clause-refusal g c e is = no_error (EndsWith (search_of g.G.Game.rules c
 
 pub find_children-requires-clause-within : goal.find_children-requires-clause-within
 find_children-requires-clause-within g c = c.loop-next.invariant.0
+
+pub returns-in_err-find-clause-found : goal.returns-in_err-find-clause-found
+returns-in_err-find-clause-found g c = IfOk-from_err c.from_residual.result _ c.from_residual.ensures.0
+
+pub returns-in_err-find-clause-answer : goal.returns-in_err-find-clause-answer
+returns-in_err-find-clause-answer g c = IfOk-from_err c.from_residual.result _ c.from_residual.ensures.0
+
+pub returns-in_err-find-clause-too_many : goal.returns-in_err-find-clause-too_many
+returns-in_err-find-clause-too_many g c is = c.find.ensures.too_many (passed_on c.from_residual.result c.find.result c.in_err-find.field-0.0 TooManyTiers c.from_residual.ensures.1 c.in_err-find.was is)
+
+pub returns-in_err-find-clause-too_large : goal.returns-in_err-find-clause-too_large
+returns-in_err-find-clause-too_large g c tier is = c.find.ensures.too_large tier (passed_on c.from_residual.result c.find.result c.in_err-find.field-0.0 (TierTooLarge tier) c.from_residual.ensures.1 c.in_err-find.was is)
+
+pub returns-in_err-find_children-in-Some-clause-found : goal.returns-in_err-find_children-in-Some-clause-found
+returns-in_err-find_children-in-Some-clause-found g c = IfOk-from_err c.from_residual-in_err-find_children-in-Some.result _ c.from_residual-in_err-find_children-in-Some.ensures.0
+
+pub returns-in_err-find_children-in-Some-clause-answer : goal.returns-in_err-find_children-in-Some-clause-answer
+returns-in_err-find_children-in-Some-clause-answer g c = IfOk-from_err c.from_residual-in_err-find_children-in-Some.result _ c.from_residual-in_err-find_children-in-Some.ensures.0
+
+pub returns-in_err-find_children-in-Some-clause-too_many : goal.returns-in_err-find_children-in-Some-clause-too_many
+returns-in_err-find_children-in-Some-clause-too_many g c is = c.find_children.ensures.too_many (passed_on c.from_residual-in_err-find_children-in-Some.result c.find_children.result c.in_err-find_children-in-Some.field-0.0 TooManyTiers c.from_residual-in_err-find_children-in-Some.ensures.1 c.in_err-find_children-in-Some.was is)
+
+pub returns-in_err-find_children-in-Some-clause-too_large : goal.returns-in_err-find_children-in-Some-clause-too_large
+returns-in_err-find_children-in-Some-clause-too_large g c tier is = c.find_children.ensures.too_large tier (passed_on c.from_residual-in_err-find_children-in-Some.result c.find_children.result c.in_err-find_children-in-Some.field-0.0 (TierTooLarge tier) c.from_residual-in_err-find_children-in-Some.ensures.1 c.in_err-find_children-in-Some.was is)
+
+pub returns-in-None-clause-too_many : goal.returns-in-None-clause-too_many
+returns-in-None-clause-too_many g c is = no_error (HasTooMany g.G.Game.rules c.args.first) c.loop-next.found TooManyTiers is
+
+pub returns-in-None-clause-too_large : goal.returns-in-None-clause-too_large
+returns-in-None-clause-too_large g c tier is = no_error (IsTooLarge g.G.Game.rules c.args.first tier) c.loop-next.found (TierTooLarge tier) is
+
+pub returns-clause-too_many : goal.returns-clause-too_many
+returns-clause-too_many g c is = no_error (HasTooMany g.G.Game.rules c.args.first) c.loop-next.found TooManyTiers is
+
+pub returns-clause-too_large : goal.returns-clause-too_large
+returns-clause-too_large g c tier is = no_error (IsTooLarge g.G.Game.rules c.args.first tier) c.loop-next.found (TierTooLarge tier) is
