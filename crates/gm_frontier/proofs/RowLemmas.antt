@@ -1,13 +1,13 @@
 -- The pairs that an iterator has left, when it takes the next note.
-use Rattle.std.proofs.Common.{◌≡◌, ℕ, suc, ◌+◌, ◌*◌, ◌-◌, ◌<◌, ◌≤◌, List, [], ◌∷◌, ◌++◌, length, take, drop, sym, ap, ◌∙◌, arith, Some, add-one}
+use Rattle.std.proofs.Common.{◌≡◌, ℕ, suc, ◌+◌, ◌*◌, ◌-◌, ◌<◌, ◌≤◌, List, [], ◌∷◌, ◌++◌, length, take, drop, get_or, refl, sym, ap, subst, ◌∙◌, arith, Option, None, Some, MatchOption, add-one}
 use Rattle.std.specs.List.{slice_get}
 use Rattle.std.proofs.Math.Seq.{drop-cons}
-use Rattle.std.proofs.lemmas.List.{take_all}
+use Rattle.std.proofs.lemmas.List.{take_all, drop_all, drop_more}
 use Rattle.std.proofs.lemmas.Option.{get_or_from_slice_get}
 use Rattle.gm_game.specs.Rules.{Rules}
 use Rattle.gm_frontier.specs.Notes.{NoteData}
 use Rattle.gm_frontier.specs.Pairs.{pairs_of, pairs_of_note, piece_of}
-use Rattle.gm_frontier.specs.Rows.{stretch}
+use Rattle.gm_frontier.specs.Rows.{row_pairs, stretch}
 
 -- the first of a stretch, and the others
 stretch_first : (from to : ℕ) (notes : List NoteData) (n : NoteData) → from < to → to ≤ length notes → slice_get notes from ≡ Some n → stretch from to notes ≡ n ∷ stretch (from + 1) to notes
@@ -31,3 +31,29 @@ stretch_all notes len e = let all : length notes ≤ len - 0 = omega arith in ta
 -- a piece that takes all notes
 pub whole_piece : (n : ℕ) (notes : List NoteData) → length notes ≤ n → piece_of 0 n notes ≡ notes
 whole_piece n notes l = let first : drop (0 * n) notes ≡ notes = ap (λ (k : ℕ). drop k notes) (let z : 0 * n ≡ 0 = grind arith in z) in ap (take n) first ∙ take_all n notes l
+
+-- a row with no note, or with no index left, has no pair
+pub row_none : (note : Option NoteData) (indexes : List ℕ) → None ≡ note → row_pairs note indexes ≡ []
+row_none None indexes e = refl
+row_none (Some n) indexes e = absurd (let z : ⊥ = cc in z)
+
+row_empty : (note : Option NoteData) → row_pairs note [] ≡ []
+row_empty None = refl
+row_empty (Some n) = refl
+
+pub row_over : (note : Option NoteData) (indexes read : List ℕ) (k : ℕ) → read ≡ indexes → length read ≤ k → row_pairs note (drop k indexes) ≡ []
+row_over note indexes read k s less = ap (row_pairs note) (drop_all k indexes (subst (λ (l : List ℕ). length l ≤ k) s less)) ∙ row_empty note
+
+-- the next pair of a row
+pub row_next : (held : Option NoteData) (n : NoteData) (indexes read : List ℕ) (k p : ℕ) → Some n ≡ held → read ≡ indexes → k < length read → p ≡ get_or read k p
+    → row_pairs held (drop k indexes) ≡ (n, p) ∷ row_pairs held (drop (k + 1) indexes)
+row_next held n indexes read k p e s less is =
+    let first : drop k indexes ≡ get_or indexes k p ∷ drop (k + 1) indexes = drop_more indexes k p (subst (λ (l : List ℕ). k < length l) s less) in
+    let same : get_or indexes k p ≡ p = ap (λ (l : List ℕ). get_or l k p) (sym s) ∙ sym is in
+    let front : drop k indexes ≡ p ∷ drop (k + 1) indexes = first ∙ ap (λ (i : ℕ). i ∷ drop (k + 1) indexes) same in
+    ap (λ (o : Option NoteData). row_pairs o (drop k indexes)) (sym e) ∙ ap (row_pairs (Some n)) front ∙ ap (λ (o : Option NoteData). (n, p) ∷ row_pairs o (drop (k + 1) indexes)) e
+
+-- where nothing is left, nothing is given
+pub none_left : {A : Type 0} (o : Option A) (left : List A) → o ≡ None → left ≡ [] → MatchOption o ((left ≡ []) × (left ≡ [])) (λ x. left ≡ x ∷ left)
+none_left None left e h = (h, h)
+none_left (Some x) left e h = absurd (let z : ⊥ = cc in z)

@@ -22,6 +22,9 @@ pub played_reached : (r : Rules) → IsGame r → (p : Position) (m : ℕ) → r
 played_reached r g p m l has =
     (g.play_legal p m l has, elim (g.play_tier p m l has) [ inl e ↦ (zero, sym e) | inr c ↦ (suc zero, ((r.play p m).tier, c, refl)) ])
 
+pub reached_by : (r : Rules) → IsGame r → (p : Position) (m : ℕ) → r.is_legal p ≡ true → Contains (r.moves p) m → (q : Position) → q ≡ r.play p m → IsReached r p.tier q
+reached_by r g p m l has q e = subst (IsReached r p.tier) (sym e) (played_reached r g p m l has)
+
 -- what is known, and what is held, from a position that is reached
 pub known_from : (r : Rules) (tier : ℕ) (k : Advice) (p : Position) → IsKnown r tier k → IsReached r tier p → IsKnown r p.tier k
 known_from r tier k p known h q t = known q (reached_reached r tier p q h t)

@@ -1,5 +1,5 @@
 -- The lines that a person writes.
-use Rattle.std.proofs.Common.{◌≡◌, ℕ, Bool, true, false, List, [], ◌∷◌, ◌++◌, codes, cond, length, Option, None, Some, refl, sym, ap, ◌∙◌, subst, inl, inr}
+use Rattle.std.proofs.Common.{◌≡◌, ℕ, Bool, true, false, List, [], ◌∷◌, ◌++◌, codes, cond, length, Option, None, Some, refl, sym, ap, ap₂, ◌∙◌, subst, inl, inr}
 use Rattle.std.specs.Prelude.{◌↔◌, ◌==◌, if◌then◌else◌}
 use Rattle.std.specs.List.{Contains, find}
 use Rattle.std.specs.Str.{bytes_eq}
@@ -7,7 +7,7 @@ use Rattle.std.proofs.lemmas.Slice.Eq.{bytes_eq-Decides}
 use Rattle.gm_game.specs.declared.position.Position.{Position}
 use Rattle.gm_game.specs.Rules.{Rules}
 use Rattle.gm_game.proofs.Lists.{contains_none, contains_first, contains_later, contains_cases}
-use Rattle.gm_play.specs.Dialogue.{Advice, Said, ends, without_return, move_read, answer_to, reply, text_after, closing}
+use Rattle.gm_play.specs.Dialogue.{Advice, Said, ends, after_move, computers_turn, without_return, move_read, answer_to, reply, text_after, closing}
 
 module _ {X : Type 0} (test : X → Bool) where
   find_first : (y x : X) (ys : List X) (b : Bool) → (find test ys ≡ Some x → Contains ys x × (test x ≡ true)) → test y ≡ b → cond b (Some y) (find test ys) ≡ Some x → Contains (y ∷ ys) x × (test x ≡ true)
@@ -59,6 +59,21 @@ module _ (r : Rules) (shown : Position → List ℕ) (move_shown : Position → 
   pub reply_is : (o : Option ℕ) → bytes_eq (without_return line) (codes "quit") ≡ false → move_read r shown move_shown p (without_return line) ≡ o
       → answer_to r shown move_shown k seen p o ≡ reply r shown move_shown k seen p line
   reply_is o h e = ap (answer_to r shown move_shown k seen p) (sym e) ∙ ap (λ (b : Bool). Reply b (move_read r shown move_shown p (without_return line))) (sym h)
+
+  -- the same, where the line has become this text, and it was compared
+  module _ (text quit : List ℕ) (t : text ≡ without_return line) (q : quit ≡ codes "quit") (b : Bool) (compared : b ≡ bytes_eq text quit) where
+    same : bytes_eq (without_return line) (codes "quit") ≡ b
+    same = ap₂ bytes_eq (sym t) (sym q) ∙ sym compared
+
+    pub says_bye : b ≡ true → ends (codes "bye\n") ≡ reply r shown move_shown k seen p line
+    says_bye e = reply_quits (same ∙ e)
+
+    pub answers : b ≡ false → (o is : Option ℕ) → IsReadAs r shown move_shown p text o → o ≡ is → answer_to r shown move_shown k seen p is ≡ reply r shown move_shown k seen p line
+    answers e o is read i = reply_is is (same ∙ e) (read_is r shown move_shown p (without_return line) o (subst (λ (l : List ℕ). IsReadAs r shown move_shown p l o) t read) ∙ i)
+
+    pub moves : b ≡ false → (o : Option ℕ) (m : ℕ) → IsReadAs r shown move_shown p text o → o ≡ Some m → (next : Position) → next ≡ r.play p m
+        → after_move (computers_turn r shown move_shown k seen next) ≡ reply r shown move_shown k seen p line
+    moves e o m read i next n = ap (λ (x : Position). after_move (computers_turn r shown move_shown k seen x)) n ∙ answers e o (Some m) read i
 
   -- the input ends after some bytes of a line
   abbrev pub after_reply : Option Position → List ℕ

@@ -1,7 +1,7 @@
 -- The rows of moves and of lines of play.
-use Rattle.std.proofs.Common.{◌≡◌, ℕ, ◌+◌, ◌-◌, ◌<◌, ◌≤◌, true, List, [], ◌∷◌, ◌++◌, length, map, take, get_or, Option, Some, refl, sym, ap, ap₂, subst, ◌∙◌, arith}
+use Rattle.std.proofs.Common.{◌≡◌, ℕ, ◌+◌, ◌-◌, ◌<◌, ◌≤◌, true, List, [], ◌∷◌, ◌++◌, length, map, take, drop, get_or, Option, Some, refl, sym, ap, ap₂, subst, ◌∙◌, arith}
 use Rattle.std.specs.List.{All, Contains, flat_map}
-use Rattle.std.proofs.lemmas.List.{append_assoc, append-nil, take_more, take_all}
+use Rattle.std.proofs.lemmas.List.{append_assoc, append-nil, take_more, take_all, drop_more}
 use Rattle.std.proofs.lemmas.Grind.{flat_map-append}
 use Rattle.std.proofs.lemmas.List.Elements.{All-contains_itself}
 use Rattle.std.proofs.lemmas.List.Sorted.{Contains-permutation, IsPermutation-sym}
@@ -50,6 +50,10 @@ after_true r p m s b h =
     let (k, here, e) = step_value r p m s.value s.remoteness b h in
     subst (λ (n : ℕ). HasValue r (r.play p m) (wanted_from s.value) n) (lowered s.value k s.remoteness (drawn_zero r p s.value s.remoteness h) e) here
 
+-- the next of some best moves is a move, and the others are best after it
+pub best_step : (r : Rules) (p : Position) (ms : List ℕ) (k : ℕ) → k < length ms → AreBest r p (drop k ms) → Contains (r.moves p) (get_or ms k 0) × AreBest r (r.play p (get_or ms k 0)) (drop (k + 1) ms)
+best_step r p ms k less h = let best : AreBest r p (get_or ms k 0 ∷ drop (k + 1) ms) = subst (AreBest r p) (drop_more ms k 0 less) h in (best.0.1.best.there, best.1)
+
 module _ (r : Rules) (shown : Position → List ℕ) (move_shown : Position → ℕ → List ℕ) where
   pub rows_true : (ms : List ℕ) (p : Position) (s : Solved) → AreBest r p ms → IsTrueValue r p s → AreLineRows r shown move_shown p ms (rows_from r shown move_shown p s ms)
   rows_true [] p s best h = refl
@@ -67,9 +71,13 @@ module _ (r : Rules) (shown : Position → List ℕ) (move_shown : Position → 
       ∙ ap (λ (u : Solved). row (move_shown p m) (shown (r.play p m)) (text_of u) ++ rows_from r shown move_shown (r.play p m) u ms) f in
       ap (λ (x : List ℕ). x ++ rest) w ∙ append_assoc done line rest ∙ ap (λ (x : List ℕ). done ++ x) here ∙ h
 
--- the last row after the others
-pub rows_end : (done first steps ends more : List ℕ) → done ++ [] ≡ first ++ steps → more ≡ done ++ ends → more ≡ first ++ steps ++ ends
-rows_end done first steps ends more h e = e ∙ ap (λ (x : List ℕ). x ++ ends) (sym (append-nil done) ∙ h)
+-- all rows are written where no move is left
+pub rows_all : (done all : List ℕ) → done ++ [] ≡ all → done ≡ all
+rows_all done all h = sym (append-nil done) ∙ h
+
+-- a row whose move has this text
+pub row_named : (done more a b d x : List ℕ) → more ≡ done ++ row a b d → a ≡ x → more ≡ done ++ row x b d
+row_named done more a b d x h e = h ∙ ap (λ (l : List ℕ). done ++ row l b d) e
 
 pub same_row : (done a b d x y z : List ℕ) → a ≡ x → b ≡ y → d ≡ z → done ++ row a b d ≡ done ++ row x y z
 same_row done a b d x y z e f g = rw (e, f, g) refl

@@ -1,7 +1,8 @@
 -- Turns, by how the game stands.
-use Rattle.std.proofs.Common.{◌≡◌, ℕ, true, List, ◌++◌, codes, Option, None, Some, refl, sym, ap, ◌∙◌}
+use Rattle.std.proofs.Common.{◌≡◌, ℕ, true, List, ◌++◌, codes, Option, None, Some, refl, sym, ap, ◌∙◌, subst}
 use Rattle.std.specs.Result.{is_ok}
-use Rattle.std.specs.Prelude.{Result, Ok, Err}
+use Rattle.std.specs.Prelude.{Result, Ok, Err, IfOk, OnErr}
+use Rattle.std.specs.Io.KnownBytes.{Appends}
 use Rattle.gm_best.specs.declared.answer.AnswerError.{AnswerError}
 use Rattle.gm_best.specs.declared.answer.AnswerError.TheVariants.{Illegal, NotHeld}
 use Rattle.gm_game.specs.declared.position.Position.{Position}
@@ -12,10 +13,15 @@ use Rattle.gm_game.specs.Texts.{text_of}
 use Rattle.gm_game.specs.Values.{IsTrueValue}
 use Rattle.gm_game.proofs.Checker.{IsTrueValue_once}
 use Rattle.gm_best.specs.declared.side.Side.TheVariants.{You, Computer}
-use Rattle.gm_play.specs.Dialogue.{Advice, IsKnown, before, after_move, game_over, asks, place, asks_or_ends, persons_turn, moves_or_ends}
+use Rattle.gm_game.specs.Laws.{IsGame}
+use Rattle.gm_play.specs.declared.session_error.SessionError.{SessionError}
+use Rattle.gm_play.specs.Sessions.{AppendsPart, Says}
+use Rattle.gm_play.proofs.Parts.{part_is, part_longer, text_is, done_by, stops_in}
+use Rattle.gm_play.specs.Dialogue.{Advice, Said, IsKnown, before, after_move, game_over, asks, place, asks_or_ends, persons_turn, moves_or_ends}
 use Rattle.gm_best.specs.BestMoves.{IsBestMove}
+use Rattle.gm_play.specs.Reached.{IsReached}
 use Rattle.gm_play.proofs.Keeping.{best_once}
-use Rattle.gm_play.proofs.Reaching.{own_reached}
+use Rattle.gm_play.proofs.Reaching.{own_reached, reached_by, known_from}
 
 -- the true value is the known one
 pub value_known : (r : Rules) (k : Advice) (p : Position) (s : Solved) → r.is_legal p ≡ true → IsKnown r p.tier k → IsTrueValue r p s → s ≡ k.value p
@@ -51,6 +57,48 @@ module _ (r : Rules) (shown : Position → List ℕ) (move_shown : Position → 
   computer_moves m l known h =
       ap (λ (o : Option End). moves_or_ends r shown move_shown k seen p o (Some m)) (sym h.0)
       ∙ ap (moves_or_ends r shown move_shown k seen p (r.primitive p)) (sym (best_known m l known h))
+
+-- where the best move leads is reached
+pub best_reached : (r : Rules) (p : Position) (m : ℕ) → r.is_legal p ≡ true → IsBestMove r p (Some m) → IsGame r → (q : Position) → q ≡ r.play p m → IsReached r p.tier q
+best_reached r p m legal best game q e = reached_by r game p m legal best.1.best.there q e
+
+-- the best move is made: its line, and then the person's turn
+module _ (r : Rules) (shown : Position → List ℕ) (move_shown : Position → ℕ → List ℕ) (k : Advice) (seen : Position → List ℕ) (p : Position) (m : ℕ)
+    (legal : r.is_legal p ≡ true) (known : IsKnown r p.tier k) (best : IsBestMove r p (Some m)) (text : List ℕ) (is : text ≡ move_shown p m) where
+  abbrev next : Position → Said
+  next q = persons_turn r shown move_shown k seen q
+
+  abbrev goes_on : Said
+  goes_on = moves_or_ends r shown move_shown k seen p (r.primitive p) (k.best p)
+
+  same : after_move (before (move_line r shown move_shown k seen p m) (next (r.play p m))) ≡ goes_on
+  same = computer_moves r shown move_shown k seen p m legal known best
+
+  line_is : codes "computer" ++ codes ": " ++ text ++ codes "\n" ≡ move_line r shown move_shown k seen p m
+  line_is = ap (λ (t : List ℕ). codes "computer" ++ codes ": " ++ t ++ codes "\n") is
+
+  known_next : (q : Position) → q ≡ r.play p m → IsGame r → IsKnown r q.tier k
+  known_next q e game = known_from r p.tier k q known (best_reached r p m legal best game q e)
+
+  pub move_cut : (a b : Option (List ℕ)) → AppendsPart a b (codes "computer" ++ codes ": " ++ text ++ codes "\n") → AppendsPart a b goes_on.text
+  move_cut a b h =
+      part_is a b (move_line r shown move_shown k seen p m ++ (next (r.play p m)).text) goes_on.text (ap (λ (s : Said). s.text) same)
+      (part_longer a b (move_line r shown move_shown k seen p m) (next (r.play p m)).text (part_is a b _ _ line_is h))
+
+  module _ (game : IsGame r) (a b c : Option (List ℕ)) (q : Position) (there : q ≡ r.play p m) (call : Result (Option Position) SessionError)
+      (written : Appends a b (codes "computer" ++ codes ": " ++ text ++ codes "\n")) where
+    line_written : Appends a b (move_line r shown move_shown k seen p m)
+    line_written = text_is a b _ _ line_is written
+
+    pub move_done : (IsKnown r q.tier k → IfOk call (Says b c (next q))) → IfOk call (Says a c goes_on)
+    move_done h =
+        subst (λ (s : Said). IfOk call (Says a c s)) same
+        (done_by a b c (move_line r shown move_shown k seen p m) (next (r.play p m)) (next q) line_written (ap next there) (next q).text refl call (h (known_next q there game)))
+
+    pub move_stops : (IsKnown r q.tier k → OnErr call (AppendsPart b c (next q).text)) → OnErr call (AppendsPart a c goes_on.text)
+    move_stops h =
+        subst (λ (s : Said). OnErr call (AppendsPart a c s.text)) same
+        (stops_in a b c (move_line r shown move_shown k seen p m) (next (r.play p m)) (next q) line_written (ap next there) (next q).text refl call (h (known_next q there game)))
 
 -- no other answer is left
 pub ok_unless : (r : Result (Option ℕ) AnswerError) → (r ≡ Err Illegal → ⊥) → (r ≡ Err NotHeld → ⊥) → is_ok r ≡ true

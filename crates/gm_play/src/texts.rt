@@ -3,13 +3,12 @@ ghost use Rattle.std.specs.Prelude.{◌≡◌, ◌↔◌, ◌∷◌, ◌++◌, �
 ghost use Rattle.gm_game.specs.declared.position.Position.{Position};
 ghost use Rattle.std.specs.List.{All, Contains, flat_map};
 ghost use Rattle.gm_game.specs.Texts.{text_of};
-ghost use Rattle.gm_game.specs.Values.{IsTrueValue};
 ghost use Rattle.gm_play.specs.BestLines.{AreBest, ComesToNotHeld};
 ghost use Rattle.gm_play.specs.PlayTexts.{row, end_row, after_best, IsMoveOf, IsReadAs, IsNoPosition, IsAnswerText, move_row, AreMoveRows, rows_from, IsLineText};
 ghost use Rattle.gm_best.specs.Refusals.{IsNotHeld, AreNotHeld};
 
 use crate::best_line::LineEnd;
-use crate::by_text::{best_play, moves_at, value_after};
+use crate::by_text::{BestPlay, best_play, moves_at, value_after};
 use crate::move_values::MoveValue;
 use gm_best::answer::{AnswerError, answer};
 use gm_best::play_error::PlayError;
@@ -85,12 +84,17 @@ fn push_move<G: Shown>(rows: &mut Vec<u8>, p: Position, x: &MoveValue) -> Result
 fn push_row(rows: &mut Vec<u8>, a: &[u8], b: &[u8], c: &[u8]) -> Result<(), AllocError>
     ensures { OnOk result (rows.new.items ≡ rows.old.items ++ row a.now b.now c.now) }
 {
-    rows.extend_from_slice(a)?;
-    rows.extend_from_slice(b"\t")?;
-    rows.extend_from_slice(b)?;
-    rows.extend_from_slice(b"\t")?;
-    rows.extend_from_slice(c)?;
-    rows.extend_from_slice(b"\n")
+    push_field(rows, a, b"\t")?;
+    push_field(rows, b, b"\t")?;
+    push_field(rows, c, b"\n")
+}
+
+// Appends a field and what ends it.
+fn push_field(rows: &mut Vec<u8>, field: &[u8], end: &[u8]) -> Result<(), AllocError>
+    ensures { OnOk result (rows.new.items ≡ rows.old.items ++ field.now ++ end.now) }
+{
+    rows.extend_from_slice(field)?;
+    rows.extend_from_slice(end)
 }
 
 /// The rows of the line of best play from the position with this text: the text of a move (none at first), the position and its value, with a tab between them,
@@ -106,66 +110,90 @@ pub fn line_text<G: Shown>(
     ensures not_held { IsErrOf result PlayError.NotHeld → ((p : Position) × IsReadAs G.Game.rules G.shown G.move_shown text.now p × ComesToNotHeld G.Game.rules tables.now p) }
 {
     let play = best_play(alloc, tables, text, limit)?;
-    let line = &play.line;
-    match line_rows::<G>(
-        alloc,
-        play.start,
-        play.value,
-        line.moves.as_slice(),
-        line.end,
-    ) {
-        Ok(rows) => Ok(rows),
-        Err(_) => Err(PlayError::OutOfMemory),
+    let rows = line_rows::<G>(alloc, &play);
+    drop(play);
+    rows
+}
+
+// The rows of best play from a legal position.
+fn line_rows<G: Shown>(alloc: Global, play: &BestPlay) -> Result<Vec<u8>, PlayError>
+    requires legal { G.Game.rules.is_legal play.now.start ≡ true }
+    requires best { AreBest G.Game.rules play.now.start play.now.line.moves.items }
+    ensures rows { IfOk result (λ v. v.items ≡ row [] (G.shown play.now.start) (text_of play.now.value)
+        ++ rows_from G.Game.rules G.shown G.move_shown play.now.start play.now.value play.now.line.moves.items ++ end_row play.now.line.end) }
+    ensures err { IfErr result (λ e. e ≡ PlayError.OutOfMemory) }
+{
+    let mut rows = Vec::new(alloc);
+    match push_line::<G>(&mut rows, play) {
+        Ok(()) => Ok(rows),
+        Err(_) => {
+            drop(rows);
+            Err(PlayError::OutOfMemory)
+        }
     }
 }
 
-// The rows of best moves from a position of this value.
-fn line_rows<G: Shown>(
-    alloc: Global,
+// Appends the rows of best play from a legal position.
+fn push_line<G: Shown>(rows: &mut Vec<u8>, play: &BestPlay) -> Result<(), AllocError>
+    requires legal { G.Game.rules.is_legal play.now.start ≡ true }
+    requires best { AreBest G.Game.rules play.now.start play.now.line.moves.items }
+    ensures { OnOk result (rows.new.items ≡ rows.old.items ++ row [] (G.shown play.now.start) (text_of play.now.value)
+        ++ rows_from G.Game.rules G.shown G.move_shown play.now.start play.now.value play.now.line.moves.items ++ end_row play.now.line.end) }
+{
+    push_place::<G>(rows, b"", play.start, play.value)?;
+    push_steps::<G>(rows, play.start, play.value, play.line.moves.as_slice())?;
+    push_end(rows, play.line.end)
+}
+
+// Appends the rows of best moves from a position of this value.
+fn push_steps<G: Shown>(
+    rows: &mut Vec<u8>,
     start: Position,
     value: Solved,
     moves: &[u32],
-    end: LineEnd,
-) -> Result<Vec<u8>, AllocError>
+) -> Result<(), AllocError>
     requires legal { G.Game.rules.is_legal start ≡ true }
-    requires value { IsTrueValue G.Game.rules start value }
     requires best { AreBest G.Game.rules start moves.now }
-    ensures { IfOk result (λ v. v.items ≡ row [] (G.shown start) (text_of value) ++ rows_from G.Game.rules G.shown G.move_shown start value moves.now ++ end_row end) }
+    ensures { OnOk result (rows.new.items ≡ rows.old.items ++ rows_from G.Game.rules G.shown G.move_shown start value moves.now) }
 {
-    let mut rows = Vec::new(alloc);
-    push_row(
-        &mut rows,
-        b"",
-        G::show(start).as_slice(),
-        value_text(value).as_slice(),
-    )?;
     let mut p = start;
     let mut value = value;
     for number in moves {
         let text = G::move_text(p, *number);
         p = G::play(p, *number);
         value = value_after(value);
-        push_row(
-            &mut rows,
-            text.as_slice(),
-            G::show(p).as_slice(),
-            value_text(value).as_slice(),
-        )?;
+        push_place::<G>(rows, text.as_slice(), p, value)?;
     }
-    push_end(&mut rows, end)?;
-    Ok(rows)
+    Ok(())
+}
+
+// Appends the row of a move, or of none, the position that it leads to, and its value.
+fn push_place<G: Shown>(
+    rows: &mut Vec<u8>,
+    text: &[u8],
+    p: Position,
+    value: Solved,
+) -> Result<(), AllocError>
+    requires { G.Game.rules.is_legal p ≡ true }
+    ensures { OnOk result (rows.new.items ≡ rows.old.items ++ row text.now (G.shown p) (text_of value)) }
+{
+    push_row(
+        rows,
+        text,
+        G::show(p).as_slice(),
+        value_text(value).as_slice(),
+    )
 }
 
 // Appends where the last position of a line has come before.
 fn push_end(rows: &mut Vec<u8>, end: LineEnd) -> Result<(), AllocError>
     ensures { OnOk result (rows.new.items ≡ rows.old.items ++ end_row end) }
 {
-    if let LineEnd::Again { first } = end {
-        let mut number = Line::new();
-        push_decimal(&mut number, first as u64);
-        rows.extend_from_slice(b"again ")?;
-        rows.extend_from_slice(number.as_slice())?;
-        rows.extend_from_slice(b"\n")?;
-    }
-    Ok(())
+    let LineEnd::Again { first } = end else {
+        return Ok(());
+    };
+    let mut number = Line::new();
+    push_decimal(&mut number, first as u64);
+    rows.extend_from_slice(b"again ")?;
+    push_field(rows, number.as_slice(), b"\n")
 }

@@ -1,9 +1,10 @@
 //! The turns of a session.
-ghost use Rattle.std.specs.Prelude.{◌≡◌, ◌++◌, codes, true, OnOk, OnErr, IfOk, IfSome};
+ghost use Rattle.std.specs.Prelude.{◌≡◌, ◌++◌, codes, true, None, Some, OnOk, OnErr, IfOk, IfSome};
 ghost use Rattle.std.specs.Io.KnownBytes.{Appends};
 ghost use Rattle.gm_table.specs.Tables.{IsHeld};
+ghost use Rattle.gm_best.specs.BestMoves.{IsBestMove};
 ghost use Rattle.gm_play.specs.Reached.{AreAllHeld, IsReached};
-ghost use Rattle.gm_play.specs.Dialogue.{Advice, IsKnown, without_return as without_return_spec, place, persons_turn, computers_turn, turn as turn_spec, reply as reply_spec, closing};
+ghost use Rattle.gm_play.specs.Dialogue.{Advice, IsKnown, without_return as without_return_spec, place, persons_turn, moves_or_ends, computers_turn, turn as turn_spec, reply as reply_spec, closing};
 ghost use Rattle.gm_play.specs.Sessions.{AppendsPart, Says};
 
 use crate::session_error::SessionError;
@@ -12,6 +13,7 @@ use crate::view::View;
 use gm_best::best_move::best_move;
 use gm_best::ending::over;
 use gm_best::side::Side;
+use gm_game::game::Game;
 use gm_game::position::{End, Position};
 use gm_game::shown::Shown;
 use gm_game::text::value_text;
@@ -40,17 +42,27 @@ fn write_place<G: Shown, V: View<G>, W: Write>(
     )
 }
 
-// Writes what the person sees, and the question.
-fn write_question<G: Shown, V: View<G>, W: Write>(
+// Writes what the person sees, and asks them for a move.
+fn ask_move<G: Shown, V: View<G>, W: Write>(
     p: Position,
     output: &mut W,
-) -> Result<(), SessionError>
+) -> Result<Option<Position>, SessionError>
     requires { G.Game.rules.is_legal p ≡ true }
-    ensures ok { OnOk result (Appends (W.contents output.old) (W.contents output.new) (V.seen p ++ codes "your move?\n")) }
+    ensures ok { IfOk result (λ o. (o ≡ Some p) × Appends (W.contents output.old) (W.contents output.new) (V.seen p ++ codes "your move?\n")) }
     ensures err { OnErr result (AppendsPart (W.contents output.old) (W.contents output.new) (V.seen p ++ codes "your move?\n")) }
 {
     say(output, V::see(p).as_slice())?;
-    say(output, b"your move?\n")
+    say(output, b"your move?\n")?;
+    Ok(Some(p))
+}
+
+// Writes the last text of a game or of a session.
+fn finish<W: Write>(output: &mut W, text: &[u8]) -> Result<Option<Position>, SessionError>
+    ensures ok { IfOk result (λ o. (o ≡ None) × Appends (W.contents output.old) (W.contents output.new) text.now) }
+    ensures err { OnErr result (AppendsPart (W.contents output.old) (W.contents output.new) text.now) }
+{
+    say(output, text)?;
+    Ok(None)
 }
 
 // The person's turn: where they are asked, or `None` where the game has ended.
@@ -69,15 +81,39 @@ fn ask<G: Shown, V: View<G>, W: Write>(
 {
     write_place::<G, V, W>(tables, p, output)?;
     match G::primitive(p) {
-        Some(end) => {
-            say(output, over(Side::You, end))?;
-            Ok(None)
-        }
-        None => {
-            write_question::<G, V, W>(p, output)?;
-            Ok(Some(p))
-        }
+        Some(end) => finish(output, over(Side::You, end)),
+        None => ask_move::<G, V, W>(p, output),
     }
+}
+
+// The computer's move, where the game goes on.
+fn best_number<G: Game>(tables: &Tables<G>, p: Position) -> u32
+    requires legal { G.rules.is_legal p ≡ true }
+    requires held { AreAllHeld G.rules tables.now p.tier }
+    requires goes_on { G.rules.primitive p ≡ None }
+    ensures { IsBestMove G.rules p (Some result) }
+{
+    best_move(tables, p).unwrap().unwrap()
+}
+
+// Makes the computer's move, where the game goes on, and then the person's turn.
+fn play_best<G: Shown, V: View<G>, W: Write>(
+    tables: &Tables<G>,
+    p: Position,
+    output: &mut W,
+) -> Result<Option<Position>, SessionError>
+    requires legal { G.Game.rules.is_legal p ≡ true }
+    requires held { AreAllHeld G.Game.rules tables.now p.tier }
+    requires goes_on { G.Game.rules.primitive p ≡ None }
+    ensures ok { (k : Advice) → IsKnown G.Game.rules p.tier k
+        → IfOk result (Says (W.contents output.old) (W.contents output.new) (moves_or_ends G.Game.rules G.shown G.move_shown k V.seen p (G.Game.rules.primitive p) (k.best p))) }
+    ensures err { (k : Advice) → IsKnown G.Game.rules p.tier k
+        → OnErr result (AppendsPart (W.contents output.old) (W.contents output.new) (moves_or_ends G.Game.rules G.shown G.move_shown k V.seen p (G.Game.rules.primitive p) (k.best p)).text) }
+    ensures asked { IfOk result (λ o. IfSome o (IsReached G.Game.rules p.tier)) }
+{
+    let m = best_number(tables, p);
+    write_line(output, b"computer", b": ", G::move_text(p, m).as_slice())?;
+    ask::<G, V, W>(tables, G::play(p, m), output)
 }
 
 // The computer's turn, and then the person's.
@@ -95,16 +131,9 @@ fn move_and_ask<G: Shown, V: View<G>, W: Write>(
     ensures asked { IfOk result (λ o. IfSome o (IsReached G.Game.rules p.tier)) }
 {
     write_place::<G, V, W>(tables, p, output)?;
-    if let Some(end) = G::primitive(p) {
-        say(output, over(Side::Computer, end))?;
-        return Ok(None);
-    }
-    match best_move(tables, p).unwrap() {
-        Some(m) => {
-            write_line(output, b"computer", b": ", G::move_text(p, m).as_slice())?;
-            ask::<G, V, W>(tables, G::play(p, m), output)
-        }
-        None => Ok(None),
+    match G::primitive(p) {
+        Some(end) => finish(output, over(Side::Computer, end)),
+        None => play_best::<G, V, W>(tables, p, output),
     }
 }
 
@@ -139,6 +168,19 @@ fn without_return(line: &[u8]) -> &[u8]
     }
 }
 
+// Says that a line is no move, and asks anew.
+fn ask_again<G: Shown, V: View<G>, W: Write>(
+    p: Position,
+    output: &mut W,
+) -> Result<Option<Position>, SessionError>
+    requires { G.Game.rules.is_legal p ≡ true }
+    ensures ok { IfOk result (λ o. (o ≡ Some p) × Appends (W.contents output.old) (W.contents output.new) (codes "not a move\n" ++ V.seen p ++ codes "your move?\n")) }
+    ensures err { OnErr result (AppendsPart (W.contents output.old) (W.contents output.new) (codes "not a move\n" ++ V.seen p ++ codes "your move?\n")) }
+{
+    say(output, b"not a move\n")?;
+    ask_move::<G, V, W>(p, output)
+}
+
 /// Answers a line: where the person is asked next, or `None` where the session ends.
 pub(crate) fn reply<G: Shown, V: View<G>, W: Write>(
     tables: &Tables<G>,
@@ -156,16 +198,11 @@ pub(crate) fn reply<G: Shown, V: View<G>, W: Write>(
 {
     let text = without_return(line);
     if text == b"quit".as_slice() {
-        say(output, b"bye\n")?;
-        return Ok(None);
+        return finish(output, b"bye\n");
     }
     match G::read_move(p, text) {
         Some(m) => move_and_ask::<G, V, W>(tables, G::play(p, m), output),
-        None => {
-            say(output, b"not a move\n")?;
-            write_question::<G, V, W>(p, output)?;
-            Ok(Some(p))
-        }
+        None => ask_again::<G, V, W>(p, output),
     }
 }
 

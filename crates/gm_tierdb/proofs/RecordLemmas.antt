@@ -1,5 +1,5 @@
 -- Lists of records and their bytes.
-use Rattle.std.proofs.Common.{◌≡◌, ◌≢◌, ℕ, zero, suc, ◌+◌, ◌*◌, ◌-◌, ◌<◌, List, [], ◌∷◌, ◌++◌, length, take, drop, get_or, All, Option, None, refl, sym, ap, ◌∙◌, append_assoc, length-append, arith}
+use Rattle.std.proofs.Common.{◌≡◌, ◌≢◌, ℕ, zero, suc, ◌+◌, ◌*◌, ◌-◌, ◌<◌, ◌≤◌, List, [], ◌∷◌, ◌++◌, length, take, drop, get_or, All, Option, None, refl, sym, ap, subst, ◌∙◌, append_assoc, length-append, arith}
 use Rattle.std.specs.List.{flat_map}
 use Rattle.std.specs.Int.{to_le_bytes}
 use Rattle.std.proofs.lemmas.List.{flat_map_more, take_more}
@@ -19,6 +19,11 @@ use Rattle.gm_tierdb.proofs.LimitLemmas.{old_record}
 length_bytes : (v : Version) (n : ℕ) → length (to_le_bytes (word v) n) ≡ width v
 length_bytes One n = refl
 length_bytes Two n = refl
+
+-- there is room for one more record
+pub room : (v : Version) (i n : ℕ) (rest : List ℕ) → i < n → length rest ≡ width v * (n - i) → width v ≤ length rest
+room One i n rest h e = omega arith
+room Two i n rest h e = omega arith
 
 -- what is left of some records after one more
 pub one_less : (v : Version) (i n : ℕ) (rest more : List ℕ) → i < n → length rest ≡ width v * (n - i) → length more ≡ length rest - width v → length more ≡ width v * (n - (i + 1))
@@ -102,6 +107,10 @@ record_is : (records : List (Option Solved)) (k : ℕ) → k < length records �
 record_is [] k h = absurd (omega arith)
 record_is (o ∷ os) zero h = refl
 record_is (o ∷ os) (suc k) h = record_is os k (omega arith)
+
+-- each of the records is storable
+pub storable_at : (v : Version) (records : List (Option Solved)) (k : ℕ) → k < length records → All (IsStorable v) records → IsStorable v (record_at records k)
+storable_at v records k less h = subst (IsStorable v) (sym (record_is records k less)) (h k None less)
 
 pub one_more : (v : Version) (out : List ℕ) (records : List (Option Solved)) (k : ℕ) → k < length records
     → (out ++ flat_map (record_bytes v) (take k records)) ++ record_bytes v (record_at records k) ≡ out ++ flat_map (record_bytes v) (take (k + 1) records)

@@ -1,5 +1,8 @@
 -- What is refused, and what isn't.
-use Rattle.std.proofs.Common.{◌≡◌, ℕ, ◌<◌, List, length, take, drop, get_or, Option, Vec, Result, Ok, Err, IfOk, IfErr, MatchResult, IsErrOf, ⊎_elim, refl, sym, ap, subst, ◌∙◌, arith}
+use Rattle.std.proofs.Common.{◌≡◌, ℕ, ◌+◌, ◌<◌, Bool, true, false, List, length, take, drop, get_or, Option, Vec, Result, Ok, Err, IfOk, IfErr, MatchResult, IsErrOf, ⊎_elim, refl, sym, ap, subst, ◌∙◌, arith}
+use Rattle.std.proofs.Math.Bool.{not}
+use Rattle.std.specs.Str.{bytes_eq}
+use Rattle.std.proofs.lemmas.Slice.Eq.{bytes_eq-Decides}
 use Rattle.std.specs.declared.alloc.Global.{Global}
 use Rattle.sha2.specs.Sha256.{sha256}
 use Rattle.gm_game.specs.declared.limits.TheConstants.{NAME}
@@ -99,3 +102,13 @@ refused_text v r tier bytes size part e p header len has digest why h =
     refused_records v r tier bytes header (len ∙ ap (file_len v) e) (subst (λ s. HasRecords v s (records_part v s bytes)) e (subst (HasRecords v size) p has))
     (subst (λ s. drop (body_len v s) bytes ≡ sha256 (take (body_len v s) bytes)) e digest) why
     (subst (λ s. RefusesRecords v s (records_part v s bytes) why) e (subst (λ l. RefusesRecords v size l why) p h))
+
+same_if : (a b : List ℕ) (equal : Bool) → bytes_eq a b ≡ equal → not equal ≡ false → a ≡ b
+same_if a b true e h = (bytes_eq-Decides a b).0 e
+same_if a b false e h = absurd (let z : ⊥ = cc in z)
+
+-- a digest that was compared is that of what stands before it
+pub digest_is : (bytes body digest sum : List ℕ) (len n : ℕ) (differs : Bool) → len ≡ n → body ≡ take (40 + len) bytes → digest ≡ drop (40 + len) bytes → sum ≡ sha256 body → differs ≡ not (bytes_eq sum digest) → differs ≡ false
+    → drop (40 + n) bytes ≡ sha256 (take (40 + n) bytes)
+digest_is bytes body digest sum len n differs e front back is compared same =
+    ap (λ (k : ℕ). drop (40 + k) bytes) (sym e) ∙ sym back ∙ sym (same_if sum digest (bytes_eq sum digest) refl (sym compared ∙ same)) ∙ is ∙ ap sha256 (front ∙ ap (λ (k : ℕ). take (40 + k) bytes) e)

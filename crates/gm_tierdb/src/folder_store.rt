@@ -54,6 +54,49 @@ impl FolderStore {
         }
     }
 
+    // The text of a tier, or none where there is no file.
+    fn get<R: Files>(
+        &self,
+        rt: &R,
+        alloc: Global,
+        tier: u64,
+    ) -> Result<Option<Vec<u8>>, StoreError> {
+        if self.folder.is_empty() {
+            return Err(StoreError::Failed);
+        }
+        let path = self.path(tier, "gmt")?;
+        read_file(rt, alloc, path.as_str())
+    }
+
+    // Writes the text of a tier.
+    fn put<R: Files>(&mut self, rt: &R, tier: u64, bytes: &[u8]) -> Result<(), StoreError>
+        ensures { self.new.broken ≡ self.old.broken }
+    {
+        if self.folder.is_empty() {
+            return Err(StoreError::Failed);
+        }
+        let path = self.path(tier, "gmt")?;
+        let beside = self.path(tier, "tmp")?;
+        self.replace(rt, path.as_str(), beside.as_str(), bytes)
+    }
+
+    // Writes a text in the place of a file, unless that is an intact one of another game.
+    fn replace<R: Files>(
+        &mut self,
+        rt: &R,
+        path: &str,
+        beside: &str,
+        bytes: &[u8],
+    ) -> Result<(), StoreError>
+        ensures { self.new.broken ≡ self.old.broken }
+    {
+        if holds_another(rt, self.alloc, path, bytes)? {
+            self.met_another = true;
+            return Err(StoreError::Failed);
+        }
+        write_file(rt, path, beside, bytes)
+    }
+
     // Counts an answer that is a failure.
     fn counted<T>(&mut self, answer: Result<T, StoreError>) -> Result<T, StoreError>
         requires { self.old.broken < u64.MAX }
@@ -82,28 +125,12 @@ impl Store for FolderStore {
         alloc: Global,
         tier: u64,
     ) -> Result<Option<Vec<u8>>, StoreError> {
-        if self.folder.is_empty() {
-            return self.counted(Err(StoreError::Failed));
-        }
-        let path = self.path(tier, "gmt")?;
-        let answer = read_file(rt, alloc, path.as_str());
+        let answer = self.get(rt, alloc, tier);
         self.counted(answer)
     }
 
     fn write<R: Files>(&mut self, rt: &R, tier: u64, bytes: &[u8]) -> Result<(), StoreError> {
-        if self.folder.is_empty() {
-            return self.counted(Err(StoreError::Failed));
-        }
-        let path = self.path(tier, "gmt")?;
-        let beside = self.path(tier, "tmp")?;
-        let answer = match read_file(rt, self.alloc, path.as_str()) {
-            Ok(Some(text)) if is_anothers(text.as_slice(), bytes) => {
-                self.met_another = true;
-                Err(StoreError::Failed)
-            }
-            Ok(_) => write_file(rt, path.as_str(), beside.as_str(), bytes),
-            Err(error) => Err(error),
-        };
+        let answer = self.put(rt, tier, bytes);
         self.counted(answer)
     }
 
@@ -122,6 +149,23 @@ fn read_file<R: Files>(rt: &R, alloc: Global, path: &str) -> Result<Option<Vec<u
     let mut file = fs::open(rt, path).map_err(|_| StoreError::Failed)?;
     let text = read_text(alloc, &mut file)?;
     Ok(Some(text))
+}
+
+// Whether an intact file of another game than the text's stands there.
+fn holds_another<R: Files>(
+    rt: &R,
+    alloc: Global,
+    path: &str,
+    bytes: &[u8],
+) -> Result<bool, StoreError> {
+    match read_file(rt, alloc, path)? {
+        Some(text) => {
+            let another = is_anothers(text.as_slice(), bytes);
+            drop(text);
+            Ok(another)
+        }
+        None => Ok(false),
+    }
 }
 
 // Writes a text beside a file, and puts it in its place. After a failure the temporary file is removed where possible.

@@ -1,10 +1,30 @@
 use Rattle.std.proofs.lemmas.Result.{IfOk-from_err}
-use Rattle.std.proofs.Common.{get_or, refl, subst}
+use Rattle.std.proofs.Common.{ℕ, List, ◌++◌, get_or, refl, sym, ap, subst, ◌∙◌, append-nil}
+use Rattle.std.specs.List.{Contains, flat_map}
+use Rattle.std.proofs.lemmas.List.{take_all}
+use Rattle.std.proofs.lemmas.List.Elements.{Contains-get_or}
+use Rattle.gm_game.proofs.Lists.{contains_none}
 use Rattle.gm_frontier.specs.Notes.{joined}
 use Rattle.gm_frontier.specs.Levels.{IsChildPart}
 use Rattle.gm_frontier.specs.Records.{notes_of_tier}
 use Rattle.gm_frontier.proofs.PieceLemmas.{joined_more, all_more}
 use Rattle.gm_frontier.proofs.part.push_children.Goals as goal
+
+pub child_part-requires : goal.child_part-requires
+child_part-requires g c = c.requires (get_or c.args.tiers.now c.loop-tier.tier-index 0) (Contains-get_or c.args.tiers.now c.loop-tier.tier-index 0 c.loop-tier-test.true)
+
+pub loop-tier-init : goal.loop-tier-init
+loop-tier-init g c = record { notes = sym (append-nil (joined c.args.parts.now.items)); whole = λ tier h. absurd (contains_none tier h) }
+
+pub returns-clause-notes : goal.returns-clause-notes
+returns-clause-notes g c =
+    c.loop-tier.invariant.notes
+    ∙ ap (λ (l : List ℕ). joined c.args.parts.now.items ++ flat_map (notes_of_tier c.args.tables.now c.args.place) l) (take_all c.loop-tier.tier-index c.args.tiers.now c.loop-tier-test.false)
+
+pub returns-clause-whole : goal.returns-clause-whole
+returns-clause-whole g c =
+    subst (λ (l : List ℕ). (tier : ℕ) → Contains l tier → IsChildPart g.G.Game.rules c.args.place tier (notes_of_tier c.args.tables.now c.args.place tier))
+    (take_all c.loop-tier.tier-index c.args.tiers.now c.loop-tier-test.false) c.loop-tier.invariant.whole
 
 pub loop-tier-preserved : goal.loop-tier-preserved
 loop-tier-preserved g c =

@@ -1,14 +1,52 @@
-use Rattle.std.proofs.Common.{rules}
-use Rattle.gm_play.specs.PlayTexts.{rows_from}
+use Rattle.std.proofs.Common.{◌≡◌, [], ◌++◌, Result, Ok, Err, IfErr, sym, ◌∙◌}
+use Rattle.std.proofs.lemmas.Result.{IfOk-weaker, IfOk-from_err}
+use Rattle.gm_game.specs.Texts.{text_of}
+use Rattle.gm_best.specs.declared.play_error.PlayError.{PlayError}
+use Rattle.gm_best.specs.declared.play_error.PlayError.TheVariants.{OutOfMemory, Illegal, NotHeld}
+use Rattle.gm_best.proofs.Refusing.{ok_apart, passed_on}
+use Rattle.gm_play.specs.PlayTexts.{row, rows_from, end_row, IsLineText}
 use Rattle.gm_play.proofs.Rows.{rows_true}
 use Rattle.gm_play.proofs.texts.line_text.Goals as goal
 
-pub returns-in-Ok-clause-text : goal.returns-in-Ok-clause-text
-returns-in-Ok-clause-text g c =
+-- a refusal for want of memory is no other
+memory_alone : {T : Type 0} (r : Result T PlayError) (why : PlayError) → (OutOfMemory ≡ why → ⊥) → IfErr r (λ e. e ≡ OutOfMemory) → r ≡ Err why → ⊥
+memory_alone (Ok x) why n h e = ok_apart x why e
+memory_alone (Err y) why n h e = (let same : y ≡ why = cc in n (sym h ∙ same))
+
+not_illegal : OutOfMemory ≡ Illegal → ⊥
+not_illegal e = let z : ⊥ = cc in z
+
+not_not_held : OutOfMemory ≡ NotHeld → ⊥
+not_not_held e = let z : ⊥ = cc in z
+
+pub returns-in_err-play-clause-text : goal.returns-in_err-play-clause-text
+returns-in_err-play-clause-text g c = IfOk-from_err c.from_residual.result _ c.from_residual.ensures.0
+
+pub returns-in_err-play-clause-illegal : goal.returns-in_err-play-clause-illegal
+returns-in_err-play-clause-illegal g c =
+    let p = passed_on c.from_residual.result c.best_play.result c.in_err-play.field-0.0 Illegal c.from_residual.ensures.1 c.in_err-play.was in
+    (λ e. c.best_play.ensures.illegal.0 (p.0 e), λ none. p.1 (c.best_play.ensures.illegal.1 none))
+
+pub returns-in_err-play-clause-not_held : goal.returns-in_err-play-clause-not_held
+returns-in_err-play-clause-not_held g c e =
+    c.best_play.ensures.not_held ((passed_on c.from_residual.result c.best_play.result c.in_err-play.field-0.0 NotHeld c.from_residual.ensures.1 c.in_err-play.was).0 e)
+
+pub line_rows-rows-requires-clause-legal : goal.line_rows-rows-requires-clause-legal
+line_rows-rows-requires-clause-legal g c = c.in_ok-play.ensures.play.read.0
+
+pub line_rows-rows-requires-clause-best : goal.line_rows-rows-requires-clause-best
+line_rows-rows-requires-clause-best g c = c.in_ok-play.ensures.play.is_best.best
+
+pub returns-clause-text : goal.returns-clause-text
+returns-clause-text g c =
     let r = g.G.Game.rules in
+    let s = g.G.Shown.shown in
+    let m = g.G.Shown.move_shown in
     let play = c.in_ok-play.play in
     let is = c.in_ok-play.ensures.play in
-    record {
+    let steps = rows_from r s m play.start play.value play.line.moves.items in
+    IfOk-weaker c.line_rows-rows.result (λ v. v.items ≡ row [] (s play.start) (text_of play.value) ++ steps ++ end_row play.line.end) (λ v. IsLineText r s m c.args.text.now c.args.limit v.items)
+    (λ v h. record {
       start = play.start;
       read = is.read;
       value = play.value;
@@ -16,7 +54,13 @@ returns-in-Ok-clause-text g c =
       line = play.line;
       is_best = is.is_best;
       whole = is.whole;
-      rows = rows_from r g.G.Shown.shown g.G.Shown.move_shown play.start play.value play.line.moves.items;
-      are_rows = rows_true r g.G.Shown.shown g.G.Shown.move_shown play.line.moves.items play.start play.value is.is_best.best is.is_true;
-      out_is = search rules;
-    }
+      rows = steps;
+      are_rows = rows_true r s m play.line.moves.items play.start play.value is.is_best.best is.is_true;
+      out_is = h;
+    }) c.line_rows-rows.ensures.rows
+
+pub returns-clause-illegal : goal.returns-clause-illegal
+returns-clause-illegal g c = (λ e. absurd (memory_alone c.line_rows-rows.result Illegal not_illegal c.line_rows-rows.ensures.err e), λ h. absurd (ok_apart _ _ (c.in_ok-play.ensures.illegal.1 h)))
+
+pub returns-clause-not_held : goal.returns-clause-not_held
+returns-clause-not_held g c e = absurd (memory_alone c.line_rows-rows.result NotHeld not_not_held c.line_rows-rows.ensures.err e)

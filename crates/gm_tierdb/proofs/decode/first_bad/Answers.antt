@@ -1,4 +1,4 @@
-use Rattle.std.proofs.Common.{rules, ◌≡◌, ◌++◌, ◌∷◌, [], arith, ap, ◌∙◌, sym, take}
+use Rattle.std.proofs.Common.{◌≡◌, ◌++◌, ◌∷◌, [], arith, ap, ◌∙◌, sym, take}
 use Rattle.std.specs.Int.{to_le_bytes}
 use Rattle.std.proofs.lemmas.List.{length-append}
 use Rattle.std.proofs.lemmas.List.Elements.{All-push}
@@ -15,7 +15,7 @@ loop-index-preserved c =
     let rest = c.loop-index.rest.now in
     let one = c.split_at.result.0.now in
     let more = c.split_at.result.1.now in
-    let split : rest ≡ one ++ more = search rules in
+    let split : rest ≡ one ++ more = c.split_at.ensures.by_index.0 in
     let (storable, number) = c.in-Some.ensures.some in (
       front ++ found ∷ [],
       grown v c.args.bytes.now rest one more front found are split (ap (to_le_bytes (word v)) number ∙ c.number_at.ensures.bytes),
@@ -28,7 +28,7 @@ pub returns-in-None-clause-some : goal.returns-in-None-clause-some
 returns-in-None-clause-some c =
     let v = c.args.version in
     let (front, are, fit, len, left) = c.loop-index.invariant in
-    let first : take (width v) c.loop-index.rest.now ≡ c.split_at.result.0.now = search rules in
+    let first : take (width v) c.loop-index.rest.now ≡ c.split_at.result.0.now = ap (λ n. take n c.loop-index.rest.now) (sym c.record_len.ensures.value) ∙ sym c.split_at.ensures.front in
     record {
       front = front;
       rest = c.loop-index.rest.now;

@@ -1,17 +1,25 @@
-use Rattle.std.proofs.Common.{rules, ◌≡◌, ◌++◌, ◌∷◌, [], arith, ap, ◌∙◌, sym, take}
+use Rattle.std.proofs.Common.{◌≡◌, ◌≤◌, length, subst, ◌++◌, ◌∷◌, [], arith, ap, ◌∙◌, sym, take}
 use Rattle.std.specs.Int.{to_le_bytes}
 use Rattle.std.proofs.lemmas.List.{length-append}
 use Rattle.std.proofs.lemmas.List.Elements.{All-push}
 use Rattle.gm_record.specs.Numbers.{word, width, IsStorable}
 use Rattle.gm_record.proofs.NumberLemmas.{none_here}
-use Rattle.gm_tierdb.proofs.RecordLemmas.{grown, one_less}
+use Rattle.gm_tierdb.proofs.RecordLemmas.{grown, one_less, room}
 use Rattle.gm_tierdb.proofs.decode.read_records.Goals as goal
+
+pub split_at-requires : goal.split_at-requires
+split_at-requires c =
+    let left = c.loop-index.invariant.3 in
+    subst (λ n. n ≤ length c.loop-index.rest.now) (sym c.record_len.ensures.value) (room c.args.version c.loop-index.index c.args.size c.loop-index.rest.now c.loop-index-test.true left)
+
+pub number_at-requires : goal.number_at-requires
+number_at-requires c = c.split_at.ensures.front_len ∙ c.record_len.ensures.value
 
 pub returns-in-None-clause-refused : goal.returns-in-None-clause-refused
 returns-in-None-clause-refused c =
     let v = c.args.version in
     let (are, fit, len, left) = c.loop-index.invariant in
-    let first : take (width v) c.loop-index.rest.now ≡ c.split_at.result.0.now = search rules in
+    let first : take (width v) c.loop-index.rest.now ≡ c.split_at.result.0.now = ap (λ n. take n c.loop-index.rest.now) (sym c.record_len.ensures.value) ∙ sym c.split_at.ensures.front in
     record {
       front = c.loop-index.records.items;
       rest = c.loop-index.rest.now;
@@ -31,7 +39,7 @@ loop-index-preserved c =
     let rest = c.loop-index.rest.now in
     let one = c.split_at.result.0.now in
     let more = c.split_at.result.1.now in
-    let split : rest ≡ one ++ more = search rules in
+    let split : rest ≡ one ++ more = c.split_at.ensures.by_index.0 in
     let (storable, number) = c.in-Some.ensures.some in
     let items : c.push.new.self.items ≡ front ++ found ∷ [] = c.in-Ok.ensures.items in
     rw items (

@@ -1,10 +1,16 @@
-use Rattle.std.proofs.Common.{◌++◌, ◌∙◌, ap, sym, append-nil, arith}
+use Rattle.std.proofs.Common.{◌++◌, ◌∙◌, ap, sym, subst, append-nil, arith}
 use Rattle.std.specs.List.{flat_map}
 use Rattle.std.proofs.lemmas.List.{take_all}
 use Rattle.std.proofs.lemmas.Result.{IfOk-from_err}
-use Rattle.gm_record.specs.Numbers.{record_bytes}
-use Rattle.gm_tierdb.proofs.RecordLemmas.{one_more}
+use Rattle.gm_record.specs.Numbers.{record_bytes, IsStorable}
+use Rattle.gm_tierdb.proofs.RecordLemmas.{one_more, storable_at}
 use Rattle.gm_tierdb.proofs.encode.push_records.Goals as goal
+
+pub push_record-requires : goal.push_record-requires
+push_record-requires g c =
+    let v = c.args.version in
+    let records = c.args.table.now.records in
+    subst (IsStorable v) (sym c.at.ensures.value) (storable_at v records c.loop-index.index (omega (arith, c.size-index-end.ensures.value)) c.requires)
 
 pub loop-index-preserved : goal.loop-index-preserved
 loop-index-preserved g c =

@@ -1,0 +1,10 @@
+use Rattle.gm_play.proofs.Held.{held_own, held_children}
+use Rattle.gm_play.proofs.Saying.{ok_unless}
+use Rattle.gm_play.proofs.turns.best_number.Goals as goal
+
+pub unwrap-requires : goal.unwrap-requires
+unwrap-requires g c =
+    let r = g.G.Game.rules in
+    let es = c.args.tables.now in
+    ok_unless c.best_move.result (λ e. (let f = c.best_move.ensures.illegal.0 e in absurd (cc)))
+    (λ e. (c.best_move.ensures.not_held.0 e).1 (held_own r es c.args.p.tier c.requires.held) (held_children r es c.args.p.tier c.requires.held))
