@@ -29,12 +29,7 @@ pub fn explore<
     R: Threads + Wait + Clock + Files + Sync + AllocGlobal,
     O: Write,
     E: Write + Send,
->(
-    rt: &R,
-    asked: PositionAsked<'_>,
-    place: Place<'_, E>,
-    output: &mut O,
-) -> Result<u8, Fault> {
+>(rt: &R, asked: PositionAsked<'_>, place: Place<'_, E>, output: &mut O) -> Result<u8, Fault> {
     let position = position_of::<G>(asked.position)?;
     let shown = G::show(position);
     let built = place.build_from::<G, R>(rt, position.tier)?;

@@ -31,10 +31,10 @@ pub struct Place<'a, E> {
 
 impl<E: Write + Send> Place<'_, E> {
     /// Builds a whole game there.
-    pub fn build<
-        G: Game + Send + Sync,
-        R: Threads + Wait + Clock + Files + Sync + AllocGlobal,
-    >(self, rt: &R) -> Result<Built<G>, Fault>
+    pub fn build<G: Game + Send + Sync, R: Threads + Wait + Clock + Files + Sync + AllocGlobal>(
+        self,
+        rt: &R,
+    ) -> Result<Built<G>, Fault>
         ensures order { IfOk result (λ built. IsTierOrder G.rules built.order) }
         ensures held { IfOk result (λ built. HoldsExactly built.tables built.order) }
     {

@@ -34,7 +34,11 @@ fn nothing_is_read_after_the_last_line(rt: HostRuntime) {
     let found = play(&tables, START, Side::You, &mut input, &mut output);
     drop(tables);
     expect_eq(&rt, found, Some(Ok(())));
-    expect_eq(&rt, output.as_slice(), b"4 win in 3\nyour move?\nbye\n".as_slice());
+    expect_eq(
+        &rt,
+        output.as_slice(),
+        b"4 win in 3\nyour move?\nbye\n".as_slice(),
+    );
     expect_eq(&rt, input, b"1\n".as_slice());
 }
 
