@@ -4,6 +4,7 @@ pub mod Lowering
 pub mod Ranking
 pub mod Walking
 pub mod Choices
+pub mod Refused
 pub mod Rows
 pub mod Promise
 pub mod Playing

@@ -1,8 +1,9 @@
-use Rattle.std.proofs.Common.{◌≡◌, ◌<◌, true, List, ℕ, [], ◌∷◌, ◌++◌, length, Some, slice_get, sym, ap, subst, ◌∙◌}
+use Rattle.std.proofs.Common.{◌≡◌, ◌<◌, ◌≤◌, true, List, ℕ, [], ◌∷◌, ◌++◌, length, Some, slice_get, sym, ap, subst, ◌∙◌}
 use Rattle.std.specs.List.{Contains}
 use Rattle.gm_game.specs.declared.position.Position.{Position}
 use Rattle.gm_best.specs.BestMoves.{IsBestMove}
-use Rattle.gm_play.proofs.Walking.{IsOnWay, goes_on, line_again}
+use Rattle.gm_best.proofs.Refusing.{none_apart}
+use Rattle.gm_play.proofs.Walking.{IsOnWay, begins, goes_on, line_over, line_cut, line_again}
 use Rattle.gm_play.proofs.best_line.follow.Goals as goal
 
 pub returns-in-Some-before-clause-line : goal.returns-in-Some-before-clause-line
@@ -35,3 +36,26 @@ loop-p-preserved g c =
     subst (λ (l : List ℕ). IsOnWay r c.args.start c.args.limit l c.push_position-in-loop-p.new.positions.items c.play-p.result) (sym c.in_ok-push_move.ensures.ok)
     (subst (λ (qs : List Position). IsOnWay r c.args.start c.args.limit (ms ++ m ∷ []) qs c.play-p.result) (sym c.in_ok-push_position-2.ensures.ok)
     (subst (λ (q : Position). IsOnWay r c.args.start c.args.limit (ms ++ m ∷ []) (ps ++ q ∷ []) q) (sym c.play-p.ensures) on))
+
+pub loop-p-init : goal.loop-p-init
+loop-p-init g c =
+    let r = g.G.Game.rules in
+    let start = c.args.start in
+    subst (λ (ms : List ℕ). IsOnWay r start c.args.limit ms c.push_position.new.positions.items start) (sym c.requires.empty.0)
+    (subst (λ (ps : List Position). IsOnWay r start c.args.limit [] ps start) (sym (c.in_ok-push_position.ensures.ok ∙ ap (λ (ps : List Position). ps ++ start ∷ []) c.requires.empty.1))
+    (begins r start c.args.limit c.requires.legal))
+
+pub returns-in_default-clause-line : goal.returns-in_default-clause-line
+returns-in_default-clause-line g c line e d w =
+    let r = g.G.Game.rules in
+    line_over r c.args.start c.args.limit c.loop-p.moves.items c.loop-p.positions.items c.loop-p.p c.loop-p.invariant line e d w (subst (IsBestMove r c.loop-p.p) c.in_default.is c.in_ok-number.ensures.best)
+
+pub returns-in-Some-primitive-clause-line : goal.returns-in-Some-primitive-clause-line
+returns-in-Some-primitive-clause-line g c line e d w =
+    line_over g.G.Game.rules c.args.start c.args.limit c.loop-p.moves.items c.loop-p.positions.items c.loop-p.p c.loop-p.invariant line e d w
+    (λ none. none_apart _ (sym none ∙ sym c.primitive.ensures ∙ c.in-Some-primitive.is))
+
+pub returns-in-None-clause-line : goal.returns-in-None-clause-line
+returns-in-None-clause-line g c line e d w =
+    line_cut g.G.Game.rules c.args.start c.args.limit c.loop-p.moves.items c.loop-p.positions.items c.loop-p.p c.loop-p.invariant line e d w (sym c.primitive.ensures ∙ c.in-None.is)
+    (subst (λ (n : ℕ). c.args.limit ≤ n) (c.len.ensures ∙ c.loop-p.moves.ok.0) c.loop-p-test.false)

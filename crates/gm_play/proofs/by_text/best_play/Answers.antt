@@ -1,6 +1,7 @@
-use Rattle.std.proofs.Common.{[], refl}
+use Rattle.std.proofs.Common.{[], Err, refl, sym, ap, ◌∙◌}
+use Rattle.std.proofs.lemmas.Bool.{false≢true}
 use Rattle.gm_best.specs.declared.play_error.PlayError.TheVariants.{Illegal, NotHeld}
-use Rattle.gm_best.proofs.Refusing.{ok_apart, none_apart, illegal_apart, passed_on}
+use Rattle.gm_best.proofs.Refusing.{ok_apart, none_apart, illegal_apart, not_held_apart, passed_on}
 use Rattle.gm_play.proofs.by_text.best_play.Goals as goal
 
 pub returns-clause-play : goal.returns-clause-play
@@ -27,7 +28,7 @@ pub returns-in_err-line-clause-illegal : goal.returns-in_err-line-clause-illegal
 returns-in_err-line-clause-illegal g c =
     let read = (c.read.ensures c.in-Some.p).0 c.in-Some.is in
     let p = passed_on c.from_residual.result c.best_line.result c.in_err-line.field-0.0 Illegal c.from_residual.ensures.1 c.in_err-line.was in
-    (λ e. (let legal = read.0 in let not = c.best_line.ensures.illegal.0 (p.0 e) in let z : ⊥ = cc in absurd z), λ none. absurd (none c.in-Some.p read))
+    (λ e. absurd (false≢true (sym (c.best_line.ensures.illegal.0 (p.0 e)) ∙ read.0)), λ none. absurd (none c.in-Some.p read))
 
 pub returns-in_err-line-clause-not_held : goal.returns-in_err-line-clause-not_held
 returns-in_err-line-clause-not_held g c =
@@ -37,7 +38,7 @@ returns-in_err-line-clause-not_held g c =
 pub returns-in_err-value-clause-illegal : goal.returns-in_err-value-clause-illegal
 returns-in_err-value-clause-illegal g c =
     let p = passed_on c.from_residual-in_err-value.result c.known_value.result c.in_err-value.field-0.0 Illegal c.from_residual-in_err-value.ensures.1 c.in_err-value.was in (
-      λ e. (let other = p.0 e in let is = c.in_err-value.was in let held = c.in_err-value.ensures.err in let z : ⊥ = cc in absurd z),
+      λ e. absurd (not_held_apart (ap Err (sym c.in_err-value.ensures.err) ∙ sym c.in_err-value.was ∙ p.0 e)),
       λ none. absurd (none c.in-Some.p ((c.read.ensures c.in-Some.p).0 c.in-Some.is)),
     )
 

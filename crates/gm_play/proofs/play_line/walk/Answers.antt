@@ -1,4 +1,4 @@
-use Rattle.std.proofs.Common.{◌≡◌, ◌≢◌, ◌+◌, ℕ, List, ◌∷◌, drop, get_or, true, false, Option, None, Some, is_some, MatchOption, refl, sym, subst, rules, arith}
+use Rattle.std.proofs.Common.{◌≡◌, ◌≢◌, ◌+◌, ℕ, List, ◌∷◌, drop, get_or, true, false, Option, None, Some, is_some, MatchOption, refl, sym, subst, arith}
 use Rattle.gm_game.specs.declared.position.End.{End}
 use Rattle.gm_play.specs.Lines.{IsLine, IsPlayed, IsReplied}
 use Rattle.gm_play.specs.declared.play_line.PlayLine.{PlayLine}
@@ -49,7 +49,7 @@ returns-in_err-line g c =
     let on = reply_is_next r a.start a.first xs i c.loop-reply.line c.loop-reply-test.true c.loop-reply.invariant.on in
     let open_ : r.primitive c.answered-line.result.position ≡ None = open_if _ _ c.primitive.ensures c.if-is_some.ensures in
     let none : c.replied.result ≡ None = c.in_err-line.was in
-    let given : c.from_residual.result ≡ None = search rules in
+    let given : c.from_residual.result ≡ None = c.from_residual.ensures in
     let is : IsReplied r c.answered-line.result (get_or xs i 0) None = subst (IsReplied r c.answered-line.result (get_or xs i 0)) none c.replied.ensures in
     subst (λ (o : Option PlayLine). MatchOption o ((moves : List ℕ) → IsLine r a.start a.first xs moves → ⊥) (IsPlayed r a.start a.first xs)) (sym given)
     (step_stuck r g.met.G.Game.lawful a.start a.first xs (drop (i + 1) xs) (get_or xs i 0) c.loop-reply.line c.answered-line.result on c.answered-line.ensures open_ is)

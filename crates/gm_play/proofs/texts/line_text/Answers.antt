@@ -1,23 +1,12 @@
-use Rattle.std.proofs.Common.{◌≡◌, [], ◌++◌, Result, Ok, Err, IfErr, sym, ◌∙◌}
+use Rattle.std.proofs.Common.{◌≡◌, [], ◌++◌}
 use Rattle.std.proofs.lemmas.Result.{IfOk-weaker, IfOk-from_err}
 use Rattle.gm_game.specs.Texts.{text_of}
-use Rattle.gm_best.specs.declared.play_error.PlayError.{PlayError}
-use Rattle.gm_best.specs.declared.play_error.PlayError.TheVariants.{OutOfMemory, Illegal, NotHeld}
+use Rattle.gm_best.specs.declared.play_error.PlayError.TheVariants.{Illegal, NotHeld}
 use Rattle.gm_best.proofs.Refusing.{ok_apart, passed_on}
 use Rattle.gm_play.specs.PlayTexts.{row, rows_from, end_row, IsLineText}
+use Rattle.gm_play.proofs.Refused.{memory_alone, not_illegal, not_not_held}
 use Rattle.gm_play.proofs.Rows.{rows_true}
 use Rattle.gm_play.proofs.texts.line_text.Goals as goal
-
--- a refusal for want of memory is no other
-memory_alone : {T : Type 0} (r : Result T PlayError) (why : PlayError) → (OutOfMemory ≡ why → ⊥) → IfErr r (λ e. e ≡ OutOfMemory) → r ≡ Err why → ⊥
-memory_alone (Ok x) why n h e = ok_apart x why e
-memory_alone (Err y) why n h e = (let same : y ≡ why = cc in n (sym h ∙ same))
-
-not_illegal : OutOfMemory ≡ Illegal → ⊥
-not_illegal e = let z : ⊥ = cc in z
-
-not_not_held : OutOfMemory ≡ NotHeld → ⊥
-not_not_held e = let z : ⊥ = cc in z
 
 pub returns-in_err-play-clause-text : goal.returns-in_err-play-clause-text
 returns-in_err-play-clause-text g c = IfOk-from_err c.from_residual.result _ c.from_residual.ensures.0

@@ -1,9 +1,10 @@
-use Rattle.std.proofs.Common.{ap, sym, subst, ◌∙◌}
+use Rattle.std.proofs.Common.{refl, ap, sym, subst, ◌∙◌}
 use Rattle.std.specs.List.{All, flat_map}
 use Rattle.std.proofs.lemmas.Result.{IfOk-from_err}
 use Rattle.gm_best.specs.declared.play_error.PlayError.TheVariants.{Illegal, NotHeld}
 use Rattle.gm_play.specs.PlayTexts.{move_row, IsMoveOf}
 use Rattle.gm_best.proofs.Refusing.{ok_apart, passed_on}
+use Rattle.gm_play.proofs.Refused.{memory_alone, not_illegal, not_not_held}
 use Rattle.gm_play.proofs.texts.moves_text.Goals as goal
 
 pub returns-in-Ok-clause-text : goal.returns-in-Ok-clause-text
@@ -16,13 +17,13 @@ pub returns-in-Ok-clause-not_held : goal.returns-in-Ok-clause-not_held
 returns-in-Ok-clause-not_held g c = (λ e. absurd (ok_apart _ _ e), λ h. absurd (ok_apart _ _ (c.in_ok-p.ensures.not_held.1 h)))
 
 pub returns-in-Err-clause-not_held : goal.returns-in-Err-clause-not_held
-returns-in-Err-clause-not_held g c = (λ e. (let z : ⊥ = cc in absurd z), λ h. absurd (ok_apart _ _ (c.in_ok-p.ensures.not_held.1 h)))
+returns-in-Err-clause-not_held g c = (λ e. absurd (memory_alone _ NotHeld not_not_held refl e), λ h. absurd (ok_apart _ _ (c.in_ok-p.ensures.not_held.1 h)))
 
 pub returns-in-Ok-clause-illegal : goal.returns-in-Ok-clause-illegal
 returns-in-Ok-clause-illegal g c = (λ e. absurd (ok_apart _ _ e), λ h. absurd (ok_apart _ _ (c.in_ok-p.ensures.illegal.1 h)))
 
 pub returns-in-Err-clause-illegal : goal.returns-in-Err-clause-illegal
-returns-in-Err-clause-illegal g c = (λ e. (let z : ⊥ = cc in absurd z), λ h. absurd (ok_apart _ _ (c.in_ok-p.ensures.illegal.1 h)))
+returns-in-Err-clause-illegal g c = (λ e. absurd (memory_alone _ Illegal not_illegal refl e), λ h. absurd (ok_apart _ _ (c.in_ok-p.ensures.illegal.1 h)))
 
 pub returns-in_err-p-clause-text : goal.returns-in_err-p-clause-text
 returns-in_err-p-clause-text g c = IfOk-from_err c.from_residual.result _ c.from_residual.ensures.0
