@@ -131,7 +131,7 @@ impl<G: Game> Deliveries<G> {
         if self.has_pair(note, parent, place) {
             return Ok(Delivery::Repeat);
         }
-        // No shard is above the limit by more than one level, so a remoteness greater by one fits.
+        // The level is at most one above the limit, so a remoteness greater by one fits.
         let _level = self.level;
         let old = self.status(parent);
         let left = self.counter(parent);

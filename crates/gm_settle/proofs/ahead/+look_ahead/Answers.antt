@@ -1,11 +1,11 @@
-use Rattle.std.proofs.Common.{◌≡◌, ◌+◌, ◌-◌, ◌≤◌, List, Option, map, take, get_or, is_some, ◌&&◌, IfSome, arith, sym, ap, true, Some, ℕ, ◌∙◌, subst}
+use Rattle.std.proofs.Common.{◌≡◌, [], ◌∷◌, ◌++◌, ◌+◌, ◌-◌, ◌≤◌, List, Option, map, take, get_or, is_some, ◌&&◌, IfSome, arith, sym, ap, true, Some, ℕ, ◌∙◌, subst}
 use Rattle.std.proofs.lemmas.List.{take_all}
 use Rattle.std.proofs.lemmas.List.Elements.{Contains-get_or}
-use Rattle.std.specs.List.{Contains}
+use Rattle.std.specs.List.{Contains, list_all}
 use Rattle.gm_game.specs.declared.position.Solved.{Solved}
 use Rattle.gm_game.specs.Rules.{children}
 use Rattle.gm_game.specs.Evaluation.{evaluated}
-use Rattle.gm_game.specs.Records.{lost_in, tied_in, least_of, all_won}
+use Rattle.gm_game.specs.Records.{lost_in, tied_in, least_of, all_won, lesser, greater}
 use Rattle.gm_game.proofs.Folding.{least_push, all_won_push, known_push, one_more, evaluated_small, fits_since, evaluated_open, when_known, when_unknown, evaluated_at_end}
 use Rattle.gm_settle.proofs.ahead.+look_ahead.Goals as goal
 use Rattle.gm_settle.proofs.ahead.+look_ahead.Goals.{then-known, else-known}
@@ -18,17 +18,17 @@ loop-m-preserved g t c =
     let i = c.loop-m.m-index in
     let os : List (Option Solved) = map (evaluated r n) (map (r.play c.args.p) (take i xs)) in
     let more = one_more (evaluated r n) (r.play c.args.p) xs i 0 c.loop-m-test.true in
-    let child : c.look_ahead-child.result ≡ evaluated r n (r.play c.args.p (get_or xs i 0)) = cc in
-    let lost = least_push lost_in os c.look_ahead-child.result in
-    let won = all_won_push os c.look_ahead-child.result in
-    let known = known_push os c.look_ahead-child.result in
-    let tied = least_push tied_in os c.look_ahead-child.result in
+    let played : c.play.result ≡ r.play c.args.p (get_or xs i 0) = cc in
+    let child : c.look_ahead-child.result ≡ evaluated r n (r.play c.args.p (get_or xs i 0)) = c.look_ahead-child.ensures ∙ ap (evaluated r n) played in
+    let grown : map (evaluated r n) (map (r.play c.args.p) (take (i + 1) xs)) ≡ os ++ c.look_ahead-child.result ∷ [] = more ∙ ap (λ (o : Option Solved). os ++ o ∷ []) (sym child) in
+    let inv = c.loop-m.invariant in
     record {
-      lost_so_far = cc;
-      won_so_far = cc;
-      known_so_far = (let k : c.if-known.known ≡ (c.loop-m.known && is_some c.look_ahead-child.result) = elim c.if-known.branch [ then-known w ↦ when_known _ _ _ w.if-known.true (w.known-is ∙ w.is_some-known.ensures) | else-known w ↦ when_unknown _ _ _ w.if-known.false (cc) ] in cc);
-      tied_so_far = cc;
-      all_moves = c.loop-m.invariant.all_moves;
+      lost_so_far = c.lesser-lost.ensures ∙ ap (λ a. lesser a c.lost_in.result) inv.lost_so_far ∙ ap (lesser (least_of lost_in os)) c.lost_in.ensures ∙ sym (least_push lost_in os c.look_ahead-child.result) ∙ ap (least_of lost_in) (sym grown);
+      won_so_far = c.greater-won.ensures ∙ ap (λ a. greater a c.won_in.result) inv.won_so_far ∙ ap (greater (all_won os)) c.won_in.ensures ∙ sym (all_won_push os c.look_ahead-child.result) ∙ ap all_won (sym grown);
+      known_so_far = (let k : c.if-known.known ≡ (c.loop-m.known && is_some c.look_ahead-child.result) = elim c.if-known.branch [ then-known w ↦ when_known _ _ _ w.if-known.true (w.known-is ∙ w.is_some-known.ensures) | else-known w ↦ when_unknown _ _ _ w.if-known.false (cc) ] in
+          k ∙ ap (λ a. a && is_some c.look_ahead-child.result) inv.known_so_far ∙ sym (known_push os c.look_ahead-child.result) ∙ ap (list_all is_some) (sym grown));
+      tied_so_far = c.lesser-tied.ensures ∙ ap (λ a. lesser a c.tied_in.result) inv.tied_so_far ∙ ap (lesser (least_of tied_in os)) c.tied_in.ensures ∙ sym (least_push tied_in os c.look_ahead-child.result) ∙ ap (least_of tied_in) (sym grown);
+      all_moves = inv.all_moves;
     }
 
 pub choose-requires-clause-lost_fits : goal.choose-requires-clause-lost_fits
