@@ -1,8 +1,8 @@
-//! Texts about the program, made from its command line: completions for shells, and a man page.
+//! Texts about the program, made from the table of its command lines: completions for shells, and a man page.
 
-use crate::commands::gamesman;
+use crate::lines::{Kind, Line, Word, lines};
 use crate::names::NAMES;
-use clap::{Arg, ArgMatches, Command};
+use clap::ArgMatches;
 use std::alloc::{AllocError, Global};
 
 /// A text about the program.
@@ -26,20 +26,25 @@ pub fn page_of(inner: &ArgMatches<'_>) -> Option<Page> {
 
 /// The text of a page.
 pub fn page_text(alloc: Global, page: Page) -> Result<Vec<u8>, AllocError> {
-    let command = gamesman(alloc)?;
     let mut text = String::new(alloc);
-    let written = write_page(&command, page, &mut text);
-    drop(command);
-    written?;
+    write_page(page, &mut text)?;
     Ok(text.into_bytes())
 }
 
-fn write_page(command: &Command<'_>, page: Page, text: &mut String) -> Result<(), AllocError> {
+fn write_page(page: Page, text: &mut String) -> Result<(), AllocError> {
     match page {
-        Page::Bash => write_bash(command, text),
-        Page::Zsh => write_zsh(command, text),
-        Page::Fish => write_fish(command, text),
-        Page::Man => write_man(command, text),
+        Page::Bash => write_bash(text),
+        Page::Zsh => write_zsh(text),
+        Page::Fish => write_fish(text),
+        Page::Man => write_man(text),
+    }
+}
+
+// The name of an option; none for a word by its place.
+fn option_of(word: &Word) -> Option<&'static str> {
+    match word.kind {
+        Kind::Word | Kind::Optional => None,
+        _ => Some(word.name),
     }
 }
 
@@ -52,19 +57,19 @@ fn add(text: &mut String, parts: &[&str]) -> Result<(), AllocError> {
 }
 
 // The names of the commands, a space before each.
-fn write_commands(command: &Command<'_>, text: &mut String) -> Result<(), AllocError> {
-    for inner in command.get_subcommands() {
-        add(text, &[" ", inner.get_name()])?;
+fn write_commands(text: &mut String) -> Result<(), AllocError> {
+    for line in &lines() {
+        add(text, &[" ", line.name])?;
     }
     Ok(())
 }
 
 // The words that can follow a command: its options, and the names of the games.
-fn write_words(command: &Command<'_>, text: &mut String) -> Result<(), AllocError> {
-    for arg in command.get_arguments() {
-        match arg.get_long() {
-            Some(long) => add(text, &[" --", long])?,
-            None => write_values(arg.get_id(), text)?,
+fn write_words(line: &Line, text: &mut String) -> Result<(), AllocError> {
+    for word in line.words {
+        match option_of(word) {
+            Some(option) => add(text, &[" --", option])?,
+            None => write_values(word.name, text)?,
         }
     }
     Ok(())
@@ -86,70 +91,67 @@ fn write_values(place: &str, text: &mut String) -> Result<(), AllocError> {
 
 // The words of each command, with strings before its name, before its words and after them.
 fn write_cases(
-    command: &Command<'_>,
-    start: &str,
-    before: &str,
-    after: &str,
+    start: &'static str,
+    before: &'static str,
+    after: &'static str,
     text: &mut String,
 ) -> Result<(), AllocError> {
-    for inner in command.get_subcommands() {
-        add(text, &[start, inner.get_name(), before])?;
-        write_words(inner, text)?;
+    for line in &lines() {
+        add(text, &[start, line.name, before])?;
+        write_words(line, text)?;
         text.push_str(after)?;
     }
     Ok(())
 }
 
-fn write_bash(command: &Command<'_>, text: &mut String) -> Result<(), AllocError> {
+fn write_bash(text: &mut String) -> Result<(), AllocError> {
     text.push_str(
         "_gamesman() {\n    local cur=${COMP_WORDS[COMP_CWORD]} words=\n    if [ \"$COMP_CWORD\" -eq 1 ]; then\n        words=\"",
     )?;
-    write_commands(command, text)?;
+    write_commands(text)?;
     text.push_str("\"\n    else\n        case \"${COMP_WORDS[1]}\" in\n")?;
-    write_cases(command, "        ", ") words=\"", "\" ;;\n", text)?;
+    write_cases("        ", ") words=\"", "\" ;;\n", text)?;
     text.push_str(
         "        esac\n    fi\n    COMPREPLY=($(compgen -W \"$words\" -- \"$cur\"))\n}\ncomplete -o default -F _gamesman gamesman\n",
     )
 }
 
-fn write_zsh(command: &Command<'_>, text: &mut String) -> Result<(), AllocError> {
+fn write_zsh(text: &mut String) -> Result<(), AllocError> {
     text.push_str(
         "#compdef gamesman\n_gamesman() {\n    if (( CURRENT == 2 )); then\n        compadd --",
     )?;
-    write_commands(command, text)?;
+    write_commands(text)?;
     text.push_str("\n        return\n    fi\n    case ${words[2]} in\n")?;
-    write_cases(command, "    ", ") compadd --", " ;;\n", text)?;
+    write_cases("    ", ") compadd --", " ;;\n", text)?;
     text.push_str("    esac\n    _files\n}\ncompdef _gamesman gamesman\n")
 }
 
-fn write_fish(command: &Command<'_>, text: &mut String) -> Result<(), AllocError> {
-    for inner in command.get_subcommands() {
-        write_fish_command(inner, text)?;
+fn write_fish(text: &mut String) -> Result<(), AllocError> {
+    for line in &lines() {
+        write_fish_command(line, text)?;
     }
     Ok(())
 }
 
-fn write_fish_command(command: &Command<'_>, text: &mut String) -> Result<(), AllocError> {
-    let name = command.get_name();
-    let about = command.get_about().unwrap_or("");
+fn write_fish_command(line: &Line, text: &mut String) -> Result<(), AllocError> {
     add(
         text,
         &[
             "complete -c gamesman -n __fish_use_subcommand -a ",
-            name,
+            line.name,
             " -d '",
-            about,
+            line.about,
             "'\n",
         ],
     )?;
-    for arg in command.get_arguments() {
-        write_fish_word(name, arg, text)?;
+    for word in line.words {
+        write_fish_word(line.name, word, text)?;
     }
     Ok(())
 }
 
 // An option, or the values that a word of the command line can have.
-fn write_fish_word(name: &str, arg: &Arg<'_>, text: &mut String) -> Result<(), AllocError> {
+fn write_fish_word(name: &'static str, word: &Word, text: &mut String) -> Result<(), AllocError> {
     add(
         text,
         &[
@@ -158,22 +160,22 @@ fn write_fish_word(name: &str, arg: &Arg<'_>, text: &mut String) -> Result<(), A
             "'",
         ],
     )?;
-    match arg.get_long() {
-        Some(long) => add(text, &[" -l ", long, "\n"]),
+    match option_of(word) {
+        Some(option) => add(text, &[" -l ", option, "\n"]),
         None => {
             text.push_str(" -a '")?;
-            write_values(arg.get_id(), text)?;
+            write_values(word.name, text)?;
             text.push_str("'\n")
         }
     }
 }
 
-fn write_man(command: &Command<'_>, text: &mut String) -> Result<(), AllocError> {
+fn write_man(text: &mut String) -> Result<(), AllocError> {
     text.push_str(
         ".TH GAMESMAN 1\n.SH NAME\ngamesman \\- solves two\\-player games\n.SH SYNOPSIS\n.B gamesman\n.I COMMAND\n[\\fIWORD\\fR ...]\n.SH COMMANDS\n",
     )?;
-    for inner in command.get_subcommands() {
-        write_man_command(inner, text)?;
+    for line in &lines() {
+        write_man_command(line, text)?;
     }
     text.push_str(".SH GAMES\n")?;
     for name in &NAMES {
@@ -184,19 +186,18 @@ fn write_man(command: &Command<'_>, text: &mut String) -> Result<(), AllocError>
     )
 }
 
-fn write_man_command(command: &Command<'_>, text: &mut String) -> Result<(), AllocError> {
-    let about = command.get_about().unwrap_or("");
-    add(text, &[".SS ", command.get_name(), "\n", about, ".\n"])?;
-    for arg in command.get_arguments() {
-        write_man_word(arg, text)?;
+fn write_man_command(line: &Line, text: &mut String) -> Result<(), AllocError> {
+    add(text, &[".SS ", line.name, "\n", line.about, ".\n"])?;
+    for word in line.words {
+        write_man_word(word, text)?;
     }
     Ok(())
 }
 
-fn write_man_word(arg: &Arg<'_>, text: &mut String) -> Result<(), AllocError> {
-    let help = arg.get_help().unwrap_or("");
-    match arg.get_long() {
-        Some(long) => add(text, &[".TP\n.B \\-\\-", long, "\n", help, ".\n"]),
-        None => add(text, &[".TP\n.I ", arg.get_id(), "\n", help, ".\n"]),
-    }
+fn write_man_word(word: &Word, text: &mut String) -> Result<(), AllocError> {
+    let (before, name) = match option_of(word) {
+        Some(option) => (".TP\n.B \\-\\-", option),
+        None => (".TP\n.I ", word.name),
+    };
+    add(text, &[before, name, "\n", word.help, ".\n"])
 }
