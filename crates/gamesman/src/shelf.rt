@@ -1,6 +1,6 @@
 //! The store that the program builds over.
-ghost use Rattle.std.specs.Prelude.{◌≡◌, false, None, IfOk};
-ghost use Rattle.gamesman.specs.Shelves.{failed_in};
+ghost use Rattle.std.specs.Prelude.{◌≡◌, false, None, IfOk, option_map};
+ghost use Rattle.gamesman.specs.Shelves.{failed_in, kept_in};
 
 use gm_command::requests::Kept;
 use gm_tierdb::folder_store::FolderStore;
@@ -21,9 +21,10 @@ pub enum Shelf {
 }
 
 impl Shelf {
-    /// The store that a line asks for; no call of it has failed.
+    /// The store that a line asks for: its folder, which is only read where the line says so, or memory where it names none. No call of it has failed.
     pub fn at(alloc: Global, kept: Kept<'_>) -> Result<Shelf, AllocError>
-        ensures { IfOk result (λ s. failed_in s ≡ 0) }
+        ensures failed { IfOk result (λ s. failed_in s ≡ 0) }
+        ensures kept { IfOk result (λ s. kept_in s ≡ option_map (λ folder. (folder.now, kept.entry.read_only)) kept.entry.folder) }
     {
         let Some(folder) = kept.folder else {
             return Ok(Shelf::Memory(MemStore::new(alloc)));
