@@ -4,16 +4,27 @@ import subprocess
 
 from common import DRILL
 
-# The positions of the tiers of Tac Tix on 5 by 5 (the sets of so many of 25 counters), and the deliveries that they take.
-LOWEST = ((1, 0), (25, 6), (300, 90), (2300, 1026))
+# Dao's positions and deliveries, and the lengths of its files.
+SOLVED = r"900900 positions, 256358 deliveries, 0 by hand, \d+ ms"
+FILES = {2: 3_603_672, 1: 1_801_872}
 
 
-def tiers_by_one_thread(_room):
-    """The lowest tiers of Tac Tix on 5 by 5, solved by one thread."""
-    ran = subprocess.run([DRILL, "time-tiers", str(len(LOWEST) - 1)], capture_output=True, text=True, timeout=120, check=False)
-    wanted = [f"tier {tier}: {positions} positions, {deliveries} deliveries" for tier, (positions, deliveries) in enumerate(LOWEST)]
-    found = [re.sub(r", \d+ ms$", "", line) for line in ran.stdout.splitlines()]
-    return None if ran.returncode == 0 and found == wanted else f"status {ran.returncode}, {found}"
+def by(*words):
+    """Why Dao, solved in a way, differs from what it must be, if it does: each of its files is read and found right."""
+    ran = subprocess.run([DRILL, "time-dao", *words], capture_output=True, text=True, timeout=120, check=False)
+    solved, *files = ran.stdout.splitlines() or [""]
+    right = [re.fullmatch(r"version (\d): (\d+) bytes, read and checked in \d+ ms \+", line) for line in files]
+    if ran.returncode or not re.fullmatch(SOLVED, solved) or not right or any(not it or FILES[int(it[1])] != int(it[2]) for it in right):
+        return f"status {ran.returncode}, {ran.stdout}"
+    return None
 
 
-DRILLED = (tiers_by_one_thread,)
+def records_of_dao_by_one_thread(room):
+    return by()
+
+
+def records_of_dao_by_passes(room):
+    return by("4", "--passes")
+
+
+DRILLED = (records_of_dao_by_one_thread, records_of_dao_by_passes)

@@ -1,20 +1,20 @@
 //! Drills: each word makes one call that may want memory and says what it answered and what it left, for tools/hostile, which refuses its allocations one after
-//! another. The words `time-boards`, `time-tiers` and `time-dao` print how long calls take (docs/BENCHMARKS.md).
+//! another. The word `ahead` compares a solved game with looking ahead, for tools/lines, and `time-dao` says how long Dao takes (docs/BENCHMARKS.md).
 #![tactic(auto)]
 
-mod board_times;
+mod ahead;
 mod damage;
+mod dao_times;
 mod levels;
 mod marks;
 mod said;
-mod solver_times;
 mod solving;
 mod stores;
 mod tables;
 
-use crate::board_times::time_boards;
+use crate::ahead::look_ahead;
 use crate::damage::damage;
-use crate::solver_times::{time_dao, time_tiers};
+use crate::dao_times::time_dao;
 use gm_tactix::tactix::TacTix;
 use gm_testing::crews::Way;
 use gm_toys::countdown::Countdown;
@@ -91,32 +91,38 @@ fn judge<R: Print + AllocGlobal, I: io::Read + Drop>(
     Ok(true)
 }
 
-// How workers are to share a level: the third word after the program's name.
-fn way(words: &[String]) -> Way {
-    match words.get(3) {
-        Some(word) if word.as_str() == "--passes" => Way::Passes,
-        _ => Way::Pieces,
+// A word of a line as text; an empty one where there is none.
+fn word(words: &[String], number: usize) -> &str {
+    match words.get(number) {
+        Some(word) => word.as_str(),
+        None => "",
     }
 }
 
-// Times what the first word says, up to the tier or by the workers that the second one says: whether it could be done.
-fn time<R: Print + Clock + AllocGlobal + Threads + Wait + Sync>(
+// Solves Dao, by as many workers as the second word says, by passes where the third one says so, or by one thread: whether it could be done.
+fn dao<R: Print + Clock + AllocGlobal + Threads + Wait + Sync>(
+    rt: &R,
+    words: &[String],
+) -> io::Result<bool> {
+    let way = match word(words, 3) {
+        "--passes" => Way::Passes,
+        _ => Way::Pieces,
+    };
+    match word(words, 2).parse::<u8>() {
+        Ok(workers) => time_dao(rt, Some(way), usize::from(workers)),
+        Err(_) => time_dao(rt, None, 1),
+    }
+}
+
+// Does what a line of several words says: whether it could be done.
+fn study<R: Print + Clock + AllocGlobal + Threads + Wait + Files + Sync>(
     rt: &R,
     first: &str,
     words: &[String],
 ) -> io::Result<bool> {
-    let number = match words.get(2) {
-        Some(word) => word.as_str().parse::<u8>().ok(),
-        None => None,
-    };
-    match (first, number) {
-        ("time-boards", _) => {
-            time_boards(rt)?;
-            Ok(true)
-        }
-        ("time-tiers", Some(tier)) => time_tiers(rt, u64::from(tier)),
-        ("time-dao", Some(workers)) => time_dao(rt, Some(way(words)), usize::from(workers)),
-        ("time-dao", None) => time_dao(rt, None, 1),
+    match (first, word(words, 3).parse::<u32>()) {
+        ("time-dao", _) => dao(rt, words),
+        ("ahead", Ok(moves)) => look_ahead(rt, word(words, 2), word(words, 4), moves),
         _ => Ok(false),
     }
 }
@@ -131,7 +137,7 @@ fn run<R: Print + Clock + AllocGlobal + Threads + Wait + Files + Sync, I: io::Re
         return Ok(false);
     };
     let first = first.as_str();
-    Ok(judge(rt, first, input)? || drill(rt, first)? || time(rt, first, words)?)
+    Ok(judge(rt, first, input)? || drill(rt, first)? || study(rt, first, words)?)
 }
 
 fn main(rt: HostRuntime) -> io::Result<ExitCode> {

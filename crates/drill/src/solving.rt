@@ -7,14 +7,14 @@ use gm_game::game::Game;
 use gm_game::limits::TIER_SIZE;
 use gm_game::position::{Solved, Value};
 use gm_solver::alone::solve_alone;
-use gm_solver::gate::NoGate;
 use gm_solver::plan::Plan;
-use gm_solver::source::Counter;
+use gm_solver::tier::Report;
 use gm_table::table::Table;
 use gm_table::tables::Tables;
 use gm_tactix::tactix::TacTix;
 use gm_testing::crews::{Way, solve_by};
 use gm_testing::holding::hold_solved;
+use gm_testing::sources::{TestGate, TestSource};
 use gm_tierdb::encode::encode;
 use gm_tierdb::mem_store::MemStore;
 use gm_tierdb::store::Store;
@@ -35,17 +35,21 @@ pub fn solved<G: Game + Send + Sync, R: Threads + Wait + Sync>(
     way: Option<Way>,
     (workers, shards, piece): (usize, usize, usize),
     tables: &Tables<G>,
-) -> Option<(Table<G>, u64)> {
+) -> Option<(Table<G>, Report)> {
     if !tables.has_children(0) || G::tier_size(0) > TIER_SIZE {
         return None;
     }
     let Some(way) = way else {
-        return solve_alone(alloc, 0, tables).ok();
+        let (table, deliveries) = solve_alone(alloc, 0, tables).ok()?;
+        let report = Report {
+            deliveries,
+            by_hand: 0,
+        };
+        return Some((table, report));
     };
     let plan = Plan::new(workers, shards, piece)?;
-    let counter = Counter::new();
-    let (table, report) = solve_by(rt, alloc, 0, tables, way, plan, &NoGate, &counter).ok()?;
-    Some((table, report.deliveries))
+    let (gate, source) = (TestGate::Open, TestSource::counter());
+    solve_by(rt, alloc, 0, tables, way, plan, &gate, &source).ok()
 }
 
 /// Solves a tier by one thread and inserts its table: the number of deliveries, or none where memory was refused.
@@ -85,10 +89,10 @@ fn say_table<G: Game, R: Print>(
 fn say_solved<G: Game, R: Print>(
     rt: &R,
     what: &str,
-    answer: Option<(Table<G>, u64)>,
+    answer: Option<(Table<G>, Report)>,
 ) -> io::Result<()> {
     let said = match &answer {
-        Some((table, deliveries)) => say_table(rt, what, table, *deliveries),
+        Some((table, report)) => say_table(rt, what, table, report.deliveries),
         None => say(rt, what, None::<u64>),
     };
     drop(answer);
@@ -155,7 +159,14 @@ fn built<R: Threads + Wait + Files + Sync>(
 ) -> Result<Built<Four>, BuildError> {
     match Plan::new(2, 2, 1) {
         Some(plan) if store.failures() < u64::MAX => {
-            build_game(rt, alloc, store, plan, &NoGate, &Counter::new())
+            build_game(
+                rt,
+                alloc,
+                store,
+                plan,
+                &TestGate::Open,
+                &TestSource::counter(),
+            )
         }
         _ => Err(BuildError::OutOfMemory),
     }

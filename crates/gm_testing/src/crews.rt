@@ -2,14 +2,13 @@
 ghost use Rattle.std.specs.Prelude.{◌≤◌};
 ghost use Rattle.gm_table.specs.Tables.{AreHeld};
 
+use crate::sources::{TestGate, TestSource};
 use gm_game::game::Game;
 use gm_game::limits::TIER_SIZE;
 use gm_game::position::Solved;
 use gm_solver::alone::solve_alone;
 use gm_solver::error::SolveError;
-use gm_solver::gate::{Gate, NoGate};
 use gm_solver::plan::Plan;
-use gm_solver::source::{Counter, Source};
 use gm_solver::tier::{Report, solve_passes, solve_tier};
 use gm_table::table::Table;
 use gm_table::tables::Tables;
@@ -36,14 +35,14 @@ fn last_of<G: Game>(table: &Table<G>) -> Option<Solved> {
 }
 
 /// What workers show of a tier in one of the two ways: none where their records are not those of the table that one shard found.
-pub fn show<G: Game + Send + Sync, R: Threads + Wait + Sync, T: Gate, S: Source>(
+pub fn show<G: Game + Send + Sync, R: Threads + Wait + Sync>(
     rt: &R,
     alloc: Global,
     tables: &Tables<G>,
     way: Way,
     plan: Plan,
-    gate: &T,
-    source: &S,
+    gate: &TestGate,
+    source: &TestSource,
     alone: &Table<G>,
 ) -> Result<Option<Shown>, SolveError>
     requires held { AreHeld G.rules tables.now alone.now.tier }
@@ -74,27 +73,9 @@ fn finds_both<G: Game + Send + Sync, R: Threads + Wait + Sync>(
             by_hand: 0,
         },
     ));
-    let counter = Counter::new();
-    let by_pieces = show(
-        rt,
-        alloc,
-        tables,
-        Way::Pieces,
-        plan,
-        &NoGate,
-        &counter,
-        alone,
-    )?;
-    let by_passes = show(
-        rt,
-        alloc,
-        tables,
-        Way::Passes,
-        plan,
-        &NoGate,
-        &counter,
-        alone,
-    )?;
+    let (gate, source) = (TestGate::Open, TestSource::counter());
+    let by_pieces = show(rt, alloc, tables, Way::Pieces, plan, &gate, &source, alone)?;
+    let by_passes = show(rt, alloc, tables, Way::Passes, plan, &gate, &source, alone)?;
     Ok(by_pieces == wanted && by_passes == wanted)
 }
 
@@ -129,15 +110,15 @@ pub enum Way {
 }
 
 /// Solves a tier by workers in one of the two ways.
-pub fn solve_by<G: Game + Send + Sync, R: Threads + Wait + Sync, T: Gate, S: Source>(
+pub fn solve_by<G: Game + Send + Sync, R: Threads + Wait + Sync>(
     rt: &R,
     alloc: Global,
     tier: u64,
     tables: &Tables<G>,
     way: Way,
     plan: Plan,
-    gate: &T,
-    source: &S,
+    gate: &TestGate,
+    source: &TestSource,
 ) -> Result<(Table<G>, Report), SolveError>
     requires held { AreHeld G.rules tables.now tier }
     requires small { G.rules.tier_size tier ≤ TIER_SIZE }

@@ -1,7 +1,8 @@
-//! Sources that lose pieces, or hand them out again, and a gate that waits.
+//! Sources that lose pieces, or hand them out again, and gates that wait or count. `TestSource` and `TestGate` are all of them, so that the tests of a game are
+//! one instance of the solver.
 use gm_game::position::{Phase, Place};
 use gm_solver::gate::Gate;
-use gm_solver::source::Source;
+use gm_solver::source::{Counter, Source};
 use std::sync::atomic::{AtomicUsize, Ordering};
 use std::sync::{Mutex, Wait};
 
@@ -23,18 +24,18 @@ pub enum Habit {
 /// A source with a habit. It counts the levels that are begun, the pieces that it was told of at their beginning, and how often it was asked.
 #[derive(Drop)]
 pub struct Odd {
-    pub habit: Habit,
-    pub levels: AtomicUsize,
-    pub told: AtomicUsize,
-    pub asks: AtomicUsize,
+    habit: Habit,
+    levels: AtomicUsize,
+    told: AtomicUsize,
+    asks: AtomicUsize,
     pieces: AtomicUsize,
     asked: AtomicUsize,
     asked_by: Mutex<[bool; 2]>,
 }
 
 impl Odd {
-    /// A source before its first level.
-    pub fn new(habit: Habit) -> Self {
+    // A source before its first level.
+    fn new(habit: Habit) -> Self {
         Odd {
             habit,
             levels: AtomicUsize::new(0),
@@ -72,6 +73,53 @@ impl Source for Odd {
     }
 }
 
+/// A source of the library, or one with a habit.
+#[derive(Drop)]
+pub enum TestSource {
+    Counter(Counter),
+    Odd(Odd),
+}
+
+impl TestSource {
+    /// The library's own, which hands out each piece once.
+    pub fn counter() -> Self {
+        TestSource::Counter(Counter::new())
+    }
+
+    /// A source of this habit.
+    pub fn of(habit: Habit) -> Self {
+        TestSource::Odd(Odd::new(habit))
+    }
+
+    /// How many levels were begun, how many pieces it was told of, and how often it was asked, where it has a habit.
+    pub fn asked(&self) -> (usize, usize, usize) {
+        match self {
+            TestSource::Counter(_) => (0, 0, 0),
+            TestSource::Odd(odd) => (
+                odd.levels.load(Ordering::SeqCst),
+                odd.told.load(Ordering::SeqCst),
+                odd.asks.load(Ordering::SeqCst),
+            ),
+        }
+    }
+}
+
+impl Source for TestSource {
+    fn begin<R: Wait>(&self, rt: &R, pieces: usize) {
+        match self {
+            TestSource::Counter(counter) => counter.begin(rt, pieces),
+            TestSource::Odd(odd) => odd.begin(rt, pieces),
+        }
+    }
+
+    fn next<R: Wait>(&self, rt: &R, worker: usize) -> Option<usize> {
+        match self {
+            TestSource::Counter(counter) => counter.next(rt, worker),
+            TestSource::Odd(odd) => odd.next(rt, worker),
+        }
+    }
+}
+
 // Marks one of two workers, and answers whether it was not marked before.
 fn is_first<R: Wait>(rt: &R, marks: &Mutex<[bool; 2]>, worker: usize) -> bool {
     let mut marks = marks.lock(rt);
@@ -85,8 +133,8 @@ fn is_first<R: Wait>(rt: &R, marks: &Mutex<[bool; 2]>, worker: usize) -> bool {
 /// Holds each of two workers at its first delivery of one level of wins and losses, until the other has arrived there too, for at most a million turns.
 #[derive(Drop)]
 pub struct Meeting {
-    pub arrived: Mutex<[bool; 2]>,
-    pub gave_up: Mutex<bool>,
+    arrived: Mutex<[bool; 2]>,
+    gave_up: Mutex<bool>,
     level: u32,
 }
 
@@ -125,8 +173,8 @@ impl Gate for Meeting {
 /// Counts the calls before and after deliveries, and takes and frees a mutex so many times before each.
 #[derive(Drop)]
 pub struct Turnstile {
-    pub before: AtomicUsize,
-    pub after: AtomicUsize,
+    before: AtomicUsize,
+    after: AtomicUsize,
     turns: u32,
     lock: Mutex<u32>,
 }
@@ -153,5 +201,54 @@ impl Gate for Turnstile {
 
     fn after<R: Wait>(&self, _rt: &R, _worker: usize, _place: Place) {
         self.after.fetch_add(1, Ordering::SeqCst);
+    }
+}
+
+/// A gate that does nothing, or one of those above.
+#[derive(Drop)]
+pub enum TestGate {
+    Open,
+    Meeting(Meeting),
+    Turnstile(Turnstile),
+}
+
+impl TestGate {
+    /// Whether both workers arrived at a meeting, and none gave up.
+    pub fn met<R: Wait>(&self, rt: &R) -> bool {
+        match self {
+            TestGate::Meeting(meeting) => {
+                *meeting.arrived.lock(rt) == [true; 2] && !*meeting.gave_up.lock(rt)
+            }
+            _ => false,
+        }
+    }
+
+    /// How often a turnstile was called before deliveries and after them.
+    pub fn passed(&self) -> (usize, usize) {
+        match self {
+            TestGate::Turnstile(turnstile) => (
+                turnstile.before.load(Ordering::SeqCst),
+                turnstile.after.load(Ordering::SeqCst),
+            ),
+            _ => (0, 0),
+        }
+    }
+}
+
+impl Gate for TestGate {
+    fn before<R: Wait>(&self, rt: &R, worker: usize, place: Place) {
+        match self {
+            TestGate::Open => {}
+            TestGate::Meeting(meeting) => meeting.before(rt, worker, place),
+            TestGate::Turnstile(turnstile) => turnstile.before(rt, worker, place),
+        }
+    }
+
+    fn after<R: Wait>(&self, rt: &R, worker: usize, place: Place) {
+        match self {
+            TestGate::Open => {}
+            TestGate::Meeting(meeting) => meeting.after(rt, worker, place),
+            TestGate::Turnstile(turnstile) => turnstile.after(rt, worker, place),
+        }
     }
 }

@@ -1,5 +1,4 @@
 //! Tier files, of today and of version 1, and the stores that keep them.
-mod folders;
 mod old_files;
 pub(crate) mod slow;
 mod stores;

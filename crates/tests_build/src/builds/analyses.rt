@@ -1,11 +1,12 @@
-//! Analyses of what is built.
-use crate::builds::work::built_alone;
+//! The analysis of a table.
 use crate::expect::{expect_eq, must};
 use gm_analyse::analysis::analyse;
 use gm_analyse::json::to_json;
-use gm_build::build::Built;
 use gm_game::game::Game;
+use gm_game::limits::TIER_SIZE;
+use gm_solver::alone::solve_alone;
 use gm_table::table::Table;
+use gm_table::tables::Tables;
 use gm_toys::countdown::Countdown;
 use std::alloc::Global;
 use std::process::Abort;
@@ -29,7 +30,9 @@ fn check_table<G: Game>(
 fn analysis_of_one_position(rt: HostRuntime) {
     let json =
         "{\"canonical\":1,\"counts\":[[\"lose\",0,1]],\"game\":\"countdown\",\"legal\":1,\"longest_win\":null,\"size\":1,\"tier\":0}";
-    let game: Built<Countdown<0>> = built_alone(&rt, rt.alloc());
-    let table = game.tables.table(0).expect(&rt, "the tier is held");
-    check_table(&rt, rt.alloc(), table, 1, json);
+    let tables: Tables<Countdown<0>> = Tables::new(rt.alloc());
+    assert!(rt; tables.has_children(0) && Countdown::<0>::tier_size(0) <= TIER_SIZE);
+    let (table, _deliveries) = must(&rt, solve_alone(rt.alloc(), 0, &tables));
+    check_table(&rt, rt.alloc(), &table, 1, json);
+    drop((tables, table));
 }

@@ -4,7 +4,6 @@ use gm_build::build::Built;
 use gm_build::build_error::BuildError;
 use gm_game::game::Game;
 use gm_game::position::{Position, Solved, Value};
-use gm_tactix::tactix::TacTix;
 use gm_tierdb::mem_store::MemStore;
 use gm_tierdb::store::Store;
 use gm_toys::countdown::Countdown;
@@ -66,14 +65,6 @@ fn check_low<R: Threads + Wait + Files + Sync + AllocGlobal + Abort>(rt: &R) {
 #[test]
 fn what_a_tier_rests_on_is_built(rt: HostRuntime) {
     check_low(&rt);
-}
-
-#[test]
-fn a_full_square_of_four_is_lost(rt: HostRuntime) {
-    let square: Built<TacTix<4, false>> = built_alone(&rt, rt.alloc());
-    let start = square.tables.get(<TacTix<4, false> as Game>::initial());
-    expect_eq(&rt, start.map(|solved| solved.value), Some(Value::Lose));
-    expect_eq(&rt, square.solved, 17);
 }
 
 // A game is not built, for this reason.

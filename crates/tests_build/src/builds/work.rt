@@ -9,9 +9,8 @@ use gm_build::build::{Built, build_from};
 use gm_build::build_error::BuildError;
 use gm_build::watch::NoWatch;
 use gm_game::game::Game;
-use gm_solver::gate::NoGate;
 use gm_solver::plan::Plan;
-use gm_solver::source::Counter;
+use gm_testing::sources::{TestGate, TestSource};
 use gm_tierdb::flaky::Flaky;
 use gm_tierdb::mem_store::MemStore;
 use gm_tierdb::store::Store;
@@ -76,8 +75,8 @@ pub(crate) fn built_from<G: Game + Send + Sync, R: Threads + Wait + Files + Sync
                 first,
                 store,
                 plan,
-                &NoGate,
-                &Counter::new(),
+                &TestGate::Open,
+                &TestSource::counter(),
                 &NoWatch,
             )
         }

@@ -5,23 +5,21 @@ use gm_deliveries::status::Delivery;
 use gm_frontier::level::Level;
 use gm_game::game::Game;
 use gm_game::limits::TIER_SIZE;
-use gm_solver::gate::NoGate;
-use gm_solver::source::Counter;
 use gm_table::tables::Tables;
 use gm_testing::by_hand::begin_whole;
 use gm_testing::crews::Way;
 use gm_testing::pass_desks::{Told, pass_by_hand};
-use gm_testing::sources::Habit;
+use gm_testing::sources::{Habit, TestGate, TestSource};
 use gm_toys::countdown::Countdown;
 
 type Ten = Countdown<10>;
 
 #[test]
 fn every_pass_is_taken(rt: HostRuntime) {
-    let counter = Counter::new();
-    ten(&rt, Way::Passes, (1, 1, 1), &NoGate, &counter, 0);
-    ten(&rt, Way::Passes, (2, 2, 1), &NoGate, &counter, 0);
-    ten(&rt, Way::Passes, (16, 4, 1), &NoGate, &counter, 0);
+    let source = TestSource::counter();
+    ten(&rt, Way::Passes, (1, 1, 1), &TestGate::Open, &source, 0);
+    ten(&rt, Way::Passes, (2, 2, 1), &TestGate::Open, &source, 0);
+    ten(&rt, Way::Passes, (16, 4, 1), &TestGate::Open, &source, 0);
 }
 
 #[test]

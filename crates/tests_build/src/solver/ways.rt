@@ -5,13 +5,11 @@ use gm_game::game::Game;
 use gm_game::limits::TIER_SIZE;
 use gm_game::position::Solved;
 use gm_solver::alone::solve_alone;
-use gm_solver::gate::{Gate, NoGate};
 use gm_solver::plan::Plan;
-use gm_solver::source::{Counter, Source};
 use gm_solver::tier::Report;
 use gm_table::tables::Tables;
 use gm_testing::crews::{Shown, Way, hold_same, show, solve_by};
-use gm_testing::sources::{Habit, Meeting, Odd, Turnstile};
+use gm_testing::sources::{Habit, Meeting, TestGate, TestSource, Turnstile};
 use gm_toys::chain::Chain;
 use gm_toys::countdown::Countdown;
 use gm_toys::stairs::Stairs;
@@ -19,7 +17,6 @@ use gm_toys::wheel::Wheel;
 use std::alloc::Global;
 use std::process::Abort;
 use std::sync::Wait;
-use std::sync::atomic::Ordering;
 use std::thread::Threads;
 
 /// The expected outcome: the records that one shard finds, the last of which is given, with these numbers of deliveries, in all and by the coordinator.
@@ -32,17 +29,12 @@ pub fn as_alone(last: Option<Solved>, deliveries: u64, by_hand: u64) -> Option<S
 }
 
 /// Tier 0 solved by this many workers and shards, with this many notes in a piece.
-pub fn shown<
-    G: Game + Send + Sync,
-    R: Threads + Wait + Sync + AllocGlobal + Abort,
-    T: Gate,
-    S: Source,
->(
+pub fn shown<G: Game + Send + Sync, R: Threads + Wait + Sync + AllocGlobal + Abort>(
     rt: &R,
     way: Way,
     (workers, shards, piece): (usize, usize, usize),
-    gate: &T,
-    source: &S,
+    gate: &TestGate,
+    source: &TestSource,
 ) -> Option<Shown> {
     let alloc = rt.alloc();
     let plan = Plan::new(workers, shards, piece).expect(rt, "a plan");
@@ -58,24 +50,24 @@ pub fn shown<
 }
 
 /// Countdown from 10 by this many workers and shards, with this many notes in a piece, of which the coordinator makes this many of the deliveries.
-pub fn ten<R: Threads + Wait + Sync + AllocGlobal + Abort, T: Gate, S: Source>(
+pub fn ten<R: Threads + Wait + Sync + AllocGlobal + Abort>(
     rt: &R,
     way: Way,
     plan: (usize, usize, usize),
-    gate: &T,
-    source: &S,
+    gate: &TestGate,
+    source: &TestSource,
     by_hand: u64,
 ) {
-    let found = shown::<Countdown<10>, R, T, S>(rt, way, plan, gate, source);
+    let found = shown::<Countdown<10>, R>(rt, way, plan, gate, source);
     expect_eq(rt, found, as_alone(win(7), 19, by_hand));
 }
 
 /// Two workers that wait for each other at this level.
 pub fn two_meet<R: Threads + Wait + Sync + AllocGlobal + Abort>(rt: &R, way: Way, level: u32) {
-    let meeting = Meeting::at(level);
-    ten(rt, way, (2, 2, 1), &meeting, &Odd::new(Habit::Own), 0);
-    expect_eq(rt, *meeting.arrived.lock(rt), [true; 2]);
-    expect(rt, !*meeting.gave_up.lock(rt));
+    let gate = TestGate::Meeting(Meeting::at(level));
+    let source = TestSource::of(Habit::Own);
+    ten(rt, way, (2, 2, 1), &gate, &source, 0);
+    expect(rt, gate.met(rt));
 }
 
 /// A source of this habit, with how many deliveries then are by hand.
@@ -85,7 +77,8 @@ pub fn by_habit<R: Threads + Wait + Sync + AllocGlobal + Abort>(
     habit: Habit,
     by_hand: u64,
 ) {
-    ten(rt, way, (2, 2, 1), &NoGate, &Odd::new(habit), by_hand);
+    let source = TestSource::of(habit);
+    ten(rt, way, (2, 2, 1), &TestGate::Open, &source, by_hand);
 }
 
 /// Wheel by a source of this habit, with how many deliveries then are by hand.
@@ -95,8 +88,8 @@ pub fn wheel<R: Threads + Wait + Sync + AllocGlobal + Abort>(
     habit: Habit,
     by_hand: u64,
 ) {
-    let source = Odd::new(habit);
-    let found = shown::<Wheel, R, NoGate, Odd>(rt, way, (2, 2, 1), &NoGate, &source);
+    let source = TestSource::of(habit);
+    let found = shown::<Wheel, R>(rt, way, (2, 2, 1), &TestGate::Open, &source);
     expect_eq(rt, found, as_alone(win(3), 9, by_hand));
 }
 
@@ -107,16 +100,15 @@ pub fn counted<R: Threads + Wait + Sync + AllocGlobal + Abort>(
     piece: usize,
     turns: u32,
 ) {
-    let gate = Turnstile::new(turns);
-    ten(rt, way, (2, 2, piece), &gate, &Counter::new(), 0);
-    expect_eq(rt, gate.before.load(Ordering::SeqCst), 19);
-    expect_eq(rt, gate.after.load(Ordering::SeqCst), 19);
+    let gate = TestGate::Turnstile(Turnstile::new(turns));
+    ten(rt, way, (2, 2, piece), &gate, &TestSource::counter(), 0);
+    expect_eq(rt, gate.passed(), (19, 19));
 }
 
 /// A chain of more positions than a piece has notes.
 pub fn long_chain<R: Threads + Wait + Sync + AllocGlobal + Abort>(rt: &R, way: Way) {
-    let counter = Counter::new();
-    let found = shown::<Chain<4096>, R, NoGate, Counter>(rt, way, (2, 2, 1), &NoGate, &counter);
+    let source = TestSource::counter();
+    let found = shown::<Chain<4096>, R>(rt, way, (2, 2, 1), &TestGate::Open, &source);
     expect_eq(rt, found, as_alone(lose(4096), 4096, 0));
 }
 
@@ -146,14 +138,19 @@ pub fn asked_on_stairs<R: Threads + Wait + Sync + AllocGlobal + Abort>(
     let mut tables: Tables<Stairs<3>> = Tables::new(rt.alloc());
     hold_all_same(rt, rt.alloc(), (2, 2, 1), &[0, 1, 2], &mut tables);
     assert!(rt; tables.has_children(3));
-    let source = Odd::new(Habit::Twice);
-    let solved = solve_by(rt, rt.alloc(), 3, &tables, way, plan, &NoGate, &source);
+    let source = TestSource::of(Habit::Twice);
+    let solved = solve_by(
+        rt,
+        rt.alloc(),
+        3,
+        &tables,
+        way,
+        plan,
+        &TestGate::Open,
+        &source,
+    );
     let (table, report) = must(rt, solved);
     expect_eq(rt, report.deliveries, 1);
     drop((tables, table));
-    (
-        source.levels.load(Ordering::SeqCst),
-        source.told.load(Ordering::SeqCst),
-        source.asks.load(Ordering::SeqCst),
-    )
+    source.asked()
 }

@@ -1,12 +1,10 @@
-//! Stores in memory, in a folder, and those that fail.
+//! Stores in memory, and those that fail. A store in a folder is tested on the built program.
 use crate::expect::{expect, expect_eq, must};
-use crate::files::folders::{check_file, check_no_file};
 use gm_tierdb::flaky::Flaky;
-use gm_tierdb::folder_store::FolderStore;
 use gm_tierdb::mem_store::MemStore;
 use gm_tierdb::store::Store;
 use gm_tierdb::store_error::StoreError;
-use std::fs::{self, Files};
+use std::fs::Files;
 use std::process::Abort;
 
 // Whether a store keeps its map.
@@ -39,28 +37,19 @@ fn write_to<S: Store, R: Files>(
     store.write(rt, tier, bytes)
 }
 
-/// A tier gets this text.
-pub(crate) fn put<S: Store, R: Files + Abort>(rt: &R, store: &mut S, tier: u64, bytes: &[u8]) {
+// A tier gets this text.
+fn put<S: Store, R: Files + Abort>(rt: &R, store: &mut S, tier: u64, bytes: &[u8]) {
     must(rt, write_to(rt, store, tier, bytes));
 }
 
-/// A tier does not get this text, since the store fails.
-pub(crate) fn check_unwritten<S: Store, R: Files + Abort>(
-    rt: &R,
-    store: &mut S,
-    tier: u64,
-    bytes: &[u8],
-) {
+// A tier does not get this text, since the store fails.
+fn check_unwritten<S: Store, R: Files + Abort>(rt: &R, store: &mut S, tier: u64, bytes: &[u8]) {
     let found = write_to(rt, store, tier, bytes);
     expect_eq(rt, found, Err(StoreError::Failed));
 }
 
-/// A tier is not read, since the store fails.
-pub(crate) fn check_unread<S: Store, R: Files + AllocGlobal + Abort>(
-    rt: &R,
-    store: &mut S,
-    tier: u64,
-) {
+// A tier is not read, since the store fails.
+fn check_unread<S: Store, R: Files + AllocGlobal + Abort>(rt: &R, store: &mut S, tier: u64) {
     let found = read_from(rt, store, tier).err();
     expect_eq(rt, found, Some(StoreError::Failed));
 }
@@ -117,33 +106,6 @@ fn check_flaky<R: Files + AllocGlobal + Abort>(rt: &R) {
 #[test]
 fn a_flaky_store_fails_from_its_first_to_its_last(rt: HostRuntime) {
     check_flaky(&rt);
-}
-
-// What a store does on the disk, where its folder is made after its first calls.
-fn check_on_disk<R: Files + AllocGlobal + Abort>(rt: &R) {
-    let folder = "folder_of_tiers";
-    let name = must(rt, String::from_str(rt.alloc(), folder));
-    let mut store = FolderStore::new(rt.alloc(), name);
-    expect(rt, !keeps(&store));
-    check_text(rt, &mut store, 7, None);
-    check_unwritten(rt, &mut store, 7, b"seven");
-    expect_eq(rt, store.failures(), 1);
-
-    must(rt, fs::create_dir(rt, folder));
-    must(rt, fs::write(rt, "folder_of_tiers/tier-8.tmp", b"half"));
-    check_text(rt, &mut store, 8, None);
-    put(rt, &mut store, 7, b"seven");
-    check_text(rt, &mut store, 7, Some(b"seven"));
-    check_file(rt, "folder_of_tiers/tier-7.gmt", b"seven");
-    check_no_file(rt, "folder_of_tiers/tier-7.tmp");
-    expect_eq(rt, store.failures(), 1);
-    drop(store);
-    must(rt, fs::remove_dir_all(rt, folder));
-}
-
-#[test]
-fn a_folder_has_a_file_for_each_tier(rt: HostRuntime) {
-    check_on_disk(&rt);
 }
 
 #[test]

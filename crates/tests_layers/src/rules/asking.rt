@@ -37,23 +37,6 @@ pub fn has_size_and_rank<G: Game>(tier: u64, size: u64, rank: u64) -> bool {
     G::tier_size(tier) == size && G::tier_rank(tier) == rank
 }
 
-/// How many indexes a tier has, how many of them are legal, and how many of those canonical.
-pub fn counts<G: Game>(tier: u64) -> (u64, u64, u64) {
-    let size = G::tier_size(tier);
-    let mut legal = 0;
-    let mut canonical = 0;
-    for index in 0..size {
-        let p = Position { tier, index };
-        if G::is_legal(p) {
-            legal += 1;
-            if G::canonical(p) == p {
-                canonical += 1;
-            }
-        }
-    }
-    (size, legal, canonical)
-}
-
 /// What looking this many moves ahead finds for a position; none where it is not legal.
 pub fn looked_ahead<G: Game>(p: Position, moves: u32) -> Option<Solved> {
     if G::is_legal(p) {
@@ -133,22 +116,6 @@ pub fn check_are_moves<G: Shown>(rt: &impl Abort, rows: &[(&[u8], &[u8], bool)])
 /// Whether this is the text of the start.
 pub fn starts<G: Shown>(text: &[u8]) -> bool {
     G::show(G::initial()).as_slice() == text
-}
-
-/// The start is this position, has this text, moves of these numbers, and so many canonical children.
-pub fn check_start<G: Shown>(
-    rt: &impl Abort,
-    start: Position,
-    text: &[u8],
-    numbers: &[u32],
-    children: usize,
-) {
-    let p = G::initial();
-    expect_eq(rt, p, start);
-    expect(rt, G::show(p).as_slice() == text);
-    expect_eq(rt, G::read(text), Some(p));
-    expect(rt, G::moves(p).as_slice() == numbers);
-    expect_eq(rt, canonical_children::<G>(p).len(), children);
 }
 
 /// Whether this is the text of a legal position, and is read as that position.

@@ -1,7 +1,6 @@
 //! Orders of tiers.
 use crate::expect::{expect_eq, must};
 use gm_game::game::Game;
-use gm_hare::hare::Hare;
 use gm_tactix::tactix::TacTix;
 use gm_tiers::order::TierOrder;
 use gm_tiers::tier_error::TierError;
@@ -61,13 +60,11 @@ fn stairs_come_from_below(rt: HostRuntime) {
 #[test]
 fn games_on_boards_come_from_their_ends(rt: HostRuntime) {
     check_order::<TacTix<2, false>>(&rt, rt.alloc(), &[0, 1, 2, 3, 4]);
-    check_order::<Hare>(&rt, rt.alloc(), &[10, 9, 8, 7, 6, 5, 4, 3, 2]);
 }
 
 #[test]
 fn tiers_below_a_tier(rt: HostRuntime) {
     check_order_from::<TacTix<2, false>>(&rt, rt.alloc(), 2, &[0, 1, 2]);
-    check_order_from::<Hare>(&rt, rt.alloc(), 8, &[10, 9, 8]);
     // All but the first of a game with one tier too many.
     let many = TierOrder::<Stairs<1024>>::from_tier(rt.alloc(), 1023);
     check_counted_up(&rt, many, 1024);

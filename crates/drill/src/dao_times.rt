@@ -1,11 +1,11 @@
-//! How long the solver takes alone: the lower tiers of Tac Tix on 5 by 5, Dao in each way, and Dao's file in both versions.
+//! Dao, solved in each way and written in both versions: what it takes, and whether the files are right.
 use crate::damage::judged;
-use crate::solving::{solve_next, solved};
+use crate::solving::solved;
 use gm_dao::dao::Dao;
 use gm_game::game::Game;
+use gm_solver::tier::Report;
 use gm_table::table::Table;
 use gm_table::tables::Tables;
-use gm_tactix::tactix::TacTix;
 use gm_testing::crews::Way;
 use gm_tierdb::encode::{encode, encode_v1, fits_v1};
 use std::io;
@@ -22,40 +22,21 @@ const PIECE: usize = 64;
 /// The number of times that each file is read.
 const ROUNDS: usize = 6;
 
-// Prints what was solved of a tier since the start.
+// Prints what was solved since the start.
 fn tell<R: Print + Clock>(
     rt: &R,
     start: Instant,
-    tier: u64,
     positions: u64,
-    deliveries: u64,
+    report: Report,
 ) -> io::Result<()> {
     let milliseconds = start.elapsed(rt)?.as_millis();
-    println!(rt; "tier {tier}: {positions} positions, {deliveries} deliveries, {milliseconds} ms")
-}
-
-// Solves the tiers from 0 up to the greatest into the tables: whether all were solved.
-fn time_each<G: Game, R: Print + Clock + AllocGlobal>(
-    rt: &R,
-    greatest: u64,
-    tables: &mut Tables<G>,
-) -> io::Result<bool> {
-    for tier in 0..=greatest {
-        let start = Instant::now(rt)?;
-        let Some(deliveries) = solve_next(rt.alloc(), tier, tables) else {
-            return Ok(false);
-        };
-        tell(rt, start, tier, G::tier_size(tier), deliveries)?;
-    }
-    Ok(true)
-}
-
-/// Times the tiers of Tac Tix on 5 by 5 from 0 up to the greatest, one after another by one thread: whether all were solved.
-pub fn time_tiers<R: Print + Clock + AllocGlobal>(rt: &R, greatest: u64) -> io::Result<bool> {
-    let mut tables: Tables<TacTix<5, false>> = Tables::new(rt.alloc());
-    let all = time_each(rt, greatest, &mut tables);
-    drop(tables);
-    all
+    let Report {
+        deliveries,
+        by_hand,
+    } = report;
+    println!(rt;
+        "{positions} positions, {deliveries} deliveries, {by_hand} by hand, {milliseconds} ms"
+    )
 }
 
 // Reads and checks a file of the first tier, and prints its bytes, how long that took, and the judgement.
@@ -120,12 +101,12 @@ fn tell_dao<G: Game, R: Print + Clock + AllocGlobal>(
     rt: &R,
     start: Instant,
     tables: &Tables<G>,
-    answer: &Option<(Table<G>, u64)>,
+    answer: &Option<(Table<G>, Report)>,
 ) -> io::Result<bool> {
-    let Some((table, deliveries)) = answer else {
+    let Some((table, report)) = answer else {
         return Ok(false);
     };
-    tell(rt, start, 0, table.size(), *deliveries)?;
+    tell(rt, start, table.size(), *report)?;
     time_files(rt, tables, table)?;
     Ok(true)
 }
