@@ -6,7 +6,7 @@ use crate::games::{Streams, answer_for};
 use gm_command::asked::{Help, Unread, read_words, what_is_wrong};
 use gm_command::names::NAMES;
 use gm_command::pages::{Page, page_text};
-use gm_command::requests::Asked;
+use gm_command::requests::{Asked, Reading};
 use gm_progress::whole_line::{FaultLine, write_line};
 use std::alloc::{AllocError, Global};
 use std::fs::Files;
@@ -53,7 +53,6 @@ fn answer<
         Asked::List => list(streams.output),
         Asked::Of { game, asked } => answer_for(rt, game, asked, streams),
         Asked::Page(page) => write_page(rt.alloc(), page, streams.output),
-        Asked::Help(text) => write_help(text, streams.output),
     }
 }
 
@@ -86,13 +85,17 @@ pub fn run_words<
     E: Write + Send,
 >(rt: &R, words: &[&str], input: &mut I, output: &mut O, errors: &mut E) -> u8 {
     match read_words(rt.alloc(), words) {
-        Ok(asked) => {
+        Ok(read) => {
             let streams = Streams {
                 input,
                 output,
                 errors: &mut *errors,
             };
-            match answer(rt, asked, streams) {
+            let done = match read {
+                Reading::Asked(asked) => answer(rt, asked, streams),
+                Reading::Help(text) => write_help(text, streams.output),
+            };
+            match done {
                 Ok(status) => status,
                 Err(fault) => refused(&fault, errors),
             }

@@ -3,7 +3,7 @@
 use crate::commands::gamesman;
 use crate::explore_commands::explore_of;
 use crate::pages::{Page, page_of};
-use crate::requests::{Asked, GameAsked, Kept, PlayAsked, SolveAsked};
+use crate::requests::{Asked, GameAsked, Kept, PlayAsked, Reading, SolveAsked};
 use crate::search_commands::search_of;
 use clap::error::ErrorKind;
 use clap::{ArgMatches, Error};
@@ -135,10 +135,10 @@ pub fn what_is_wrong(alloc: Global, words: &[&str]) -> Option<Help> {
     }
 }
 
-// What a line asks for that the command line did not take as a command: its own texts, where it asks for them.
-fn asked_otherwise<'a>(error: Error) -> Result<Asked<'a>, Unread> {
+// The text that the command line itself makes, where a line that it did not take as a command asks for one.
+fn help_of(error: Error) -> Result<Help, Unread> {
     let why = match error.kind() {
-        ErrorKind::DisplayHelp | ErrorKind::DisplayVersion => return Ok(Asked::Help(Help(error))),
+        ErrorKind::DisplayHelp | ErrorKind::DisplayVersion => return Ok(Help(error)),
         ErrorKind::OutOfMemory => Unread::OutOfMemory,
         _ => Unread::BadLine,
     };
@@ -147,13 +147,13 @@ fn asked_otherwise<'a>(error: Error) -> Result<Asked<'a>, Unread> {
 }
 
 /// Reads a line of words, of which the first is the program's name.
-pub fn read_words<'a>(alloc: Global, words: &'a [&'a str]) -> Result<Asked<'a>, Unread> {
+pub fn read_words<'a>(alloc: Global, words: &'a [&'a str]) -> Result<Reading<'a>, Unread> {
     match matched(alloc, words) {
         Ok(matches) => {
-            let asked = asked_of(&matches).ok_or(Unread::BadLine);
+            let asked = asked_of(&matches);
             drop(matches);
-            asked
+            Ok(Reading::Asked(asked.ok_or(Unread::BadLine)?))
         }
-        Err(error) => asked_otherwise(error),
+        Err(error) => Ok(Reading::Help(help_of(error)?)),
     }
 }

@@ -105,10 +105,16 @@ pub enum GameAsked<'a> {
 }
 
 /// What a line of words asks for.
-#[derive(Drop)]
+#[derive(Clone, Copy)]
 pub enum Asked<'a> {
     List,
     Of { game: &'a str, asked: GameAsked<'a> },
     Page(Page),
+}
+
+/// What a line of words is read as: something that it asks for, or a text that the command line itself makes.
+#[derive(Drop)]
+pub enum Reading<'a> {
+    Asked(Asked<'a>),
     Help(Help),
 }
