@@ -1,9 +1,8 @@
-"""Folders in which a file is damaged, cut short or half written: `solve` puts the right file in its place."""
-import hashlib
+"""Folders in which a file is damaged, cut short or half written, or of version 1: `solve` puts the right file in its place."""
 import os
 
-from common import GAMESMAN
-from lines import content, put
+from common import GAMESMAN, as_version_1, digested
+from lines import content, old, put, same
 
 # The file of Countdown from 10 up to its digest (docs/FORMATS.md, `file_of_countdown`): a front, and eleven records.
 FRONT = b"GMTIER02" + b"countdown".ljust(16, b"\0") + (0).to_bytes(8, "little") + (11).to_bytes(8, "little")
@@ -12,14 +11,18 @@ LONGER_WIN = RECORDS[:-1] + [0x400008]
 
 SOLVED = b"solved 1 reused 0 migrated 0 deliveries 19 by hand 0\n"
 REUSED = b"solved 0 reused 1 migrated 0 deliveries 0 by hand 0\n"
+MIGRATED = b"solved 0 reused 0 migrated 1 deliveries 0 by hand 0\n"
 
 
 def file_of(records):
-    body = FRONT + b"".join(record.to_bytes(4, "little") for record in records)
-    return body + hashlib.sha256(body).digest()
+    return digested(FRONT + b"".join(record.to_bytes(4, "little") for record in records))
 
 
 RIGHT = file_of(RECORDS)
+
+# The same of version 1 (`old_file_of_countdown`), and one whose last record is no true one.
+OLD = as_version_1(RIGHT)
+OLD_LONGER_WIN = as_version_1(file_of(LONGER_WIN))
 
 
 def solves(room, folder, told):
@@ -40,10 +43,10 @@ def a_folder_is_built_reused_and_mended(room):
     return why or solves(room, folder, SOLVED)
 
 
-def mends(room, name, text, at):
+def mends(room, name, text, at, told=SOLVED):
     folder = room.fresh()
     put(f"{folder}/{name}", text)
-    why = solves(room, folder, SOLVED)
+    why = solves(room, folder, told)
     return why and f"at {at}: {why}"
 
 
@@ -57,4 +60,28 @@ def a_half_written_file_is_no_file(room):
     return next(filter(None, wrong), None)
 
 
-MENDED = (a_folder_is_built_reused_and_mended, a_file_cut_to_any_length_is_mended, a_half_written_file_is_no_file)
+def an_old_file_is_migrated_where_it_is_true(room):
+    damaged = OLD[:-1] + bytes([OLD[-1] ^ 1])
+    files = (("true", OLD, MIGRATED), ("damaged", damaged, SOLVED), ("false", OLD_LONGER_WIN, SOLVED))
+    wrong = [mends(room, "tier-0.gmt", text, what, told) for what, text, told in files]
+    return next(filter(None, wrong), None) if len(OLD) == 94 else "an old file of another length"
+
+
+def one_tier_of_five_is_solved_anew(room):
+    """Of five files of version 1 one is cut short."""
+    new, folder = room.fresh(), room.fresh()
+    room.run([GAMESMAN, "solve", "tactix-2", new])
+    old(new, folder)
+    put(f"{folder}/tier-2.gmt", content(f"{folder}/tier-2.gmt")[:60])
+    ran = room.run([GAMESMAN, "solve", "tactix-2", folder])
+    right = (ran.status, ran.out, ran.err) == (0, b"solved 1 reused 0 migrated 4 deliveries 3 by hand 0\n", b"")
+    return same(new, folder) if right else str(ran)
+
+
+MENDED = (
+    a_folder_is_built_reused_and_mended,
+    a_file_cut_to_any_length_is_mended,
+    a_half_written_file_is_no_file,
+    an_old_file_is_migrated_where_it_is_true,
+    one_tier_of_five_is_solved_anew,
+)

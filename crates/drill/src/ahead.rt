@@ -78,16 +78,28 @@ fn right_table<G: Game + Send + Sync, R: AllocGlobal + Files + Threads + Sync>(
     folder: &str,
     tier: u64,
     tables: &Tables<G>,
-) -> io::Result<Option<Table<G>>> {
+) -> Option<Table<G>> {
     if !tables.has_children(tier) || G::tier_size(tier) > TIER_SIZE {
-        return Ok(None);
+        return None;
     }
     let alloc = rt.alloc();
-    let mut store = FolderStore::new(alloc, String::from_str(alloc, folder)?);
-    match inspect_tier(rt, alloc, tier, tables, &mut store) {
-        Ok(Inspected::Right(table)) => Ok(Some(table)),
-        _ => Ok(None),
+    let mut store = FolderStore::new(alloc, String::from_str(alloc, folder).ok()?);
+    let found = inspect_tier(rt, alloc, tier, tables, &mut store);
+    drop(store);
+    match found {
+        Ok(Inspected::Right(table)) => Some(table),
+        _ => None,
     }
+}
+
+// What is found of a table, which is held after that, if there is memory for it.
+fn held_and_compared<G: Game>(
+    table: Table<G>,
+    tables: &mut Tables<G>,
+    moves: u32,
+) -> (Found, bool) {
+    let found = compared(&table, moves);
+    (found, tables.insert(table).is_ok())
 }
 
 // Compares a tier, and prints what was found; false where its file isn't right.
@@ -98,11 +110,10 @@ fn compare_tier<G: Game + Send + Sync, R: Print + AllocGlobal + Files + Threads 
     tables: &mut Tables<G>,
     moves: u32,
 ) -> io::Result<bool> {
-    let Some(table) = right_table(rt, folder, tier, tables)? else {
+    let Some(table) = right_table(rt, folder, tier, tables) else {
         return Ok(false);
     };
-    let found = compared(&table, moves);
-    let is_held = tables.insert(table).is_ok();
+    let (found, is_held) = held_and_compared(table, tables, moves);
     let Found {
         positions,
         known,
@@ -151,16 +162,17 @@ pub fn look_ahead<R: Print + AllocGlobal + Files + Threads + Sync>(
     folder: &str,
     moves: u32,
 ) -> io::Result<bool> {
-    match game {
-        "tictactoe" => compare::<TicTacToe, R>(rt, folder, moves)?,
-        "threemens" => compare::<ThreeMens, R>(rt, folder, moves)?,
-        "achi" => compare::<Achi, R>(rt, folder, moves)?,
-        "mutorere" => compare::<MuTorere, R>(rt, folder, moves)?,
-        "hare" => compare::<Hare, R>(rt, folder, moves)?,
-        "dao" => compare::<Dao, R>(rt, folder, moves)?,
-        "tactix-5" => compare::<TacTix<5, false>, R>(rt, folder, moves)?,
-        "tactix-5-misere" => compare::<TacTix<5, true>, R>(rt, folder, moves)?,
+    let said = match game {
+        "tictactoe" => compare::<TicTacToe, R>(rt, folder, moves),
+        "threemens" => compare::<ThreeMens, R>(rt, folder, moves),
+        "achi" => compare::<Achi, R>(rt, folder, moves),
+        "mutorere" => compare::<MuTorere, R>(rt, folder, moves),
+        "hare" => compare::<Hare, R>(rt, folder, moves),
+        "dao" => compare::<Dao, R>(rt, folder, moves),
+        "tactix-5" => compare::<TacTix<5, false>, R>(rt, folder, moves),
+        "tactix-5-misere" => compare::<TacTix<5, true>, R>(rt, folder, moves),
         _ => return Ok(false),
-    }
+    };
+    said?;
     Ok(true)
 }

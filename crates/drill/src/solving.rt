@@ -244,10 +244,11 @@ pub fn make_call<R: Print + AllocGlobal + Threads + Wait + Files + Sync>(
         "passes" => Some(Way::Passes),
         _ => return Ok(false),
     };
-    match game {
-        "countdown" => solve::<Countdown<10>, R>(rt, way)?,
-        "wheel" => solve::<Wheel, R>(rt, way)?,
+    let said = match game {
+        "countdown" => solve::<Countdown<10>, R>(rt, way),
+        "wheel" => solve::<Wheel, R>(rt, way),
         _ => return Ok(false),
-    }
+    };
+    said?;
     Ok(true)
 }

@@ -1,4 +1,4 @@
-//! The files of Countdown from 10: docs/FORMATS.md, `file_of_countdown` and `old_file_of_countdown`.
+//! The file of Countdown from 10: docs/FORMATS.md, `file_of_countdown`.
 use crate::expect::must;
 use sha2::{Digest, Sha256};
 use std::alloc::Global;
@@ -13,34 +13,9 @@ const FRONT: [u8; 84] = [
     0x07, 0x00, 0x40, 0x00,
 ];
 
-const OLD_FRONT: [u8; 62] = [
-    0x47, 0x4d, 0x54, 0x49, 0x45, 0x52, 0x30, 0x31, 0x63, 0x6f, 0x75, 0x6e, 0x74, 0x64, 0x6f, 0x77,
-    0x6e, 0x00, 0x00, 0x00, 0x00, 0x00, 0x00, 0x00, 0x00, 0x00, 0x00, 0x00, 0x00, 0x00, 0x00, 0x00,
-    0x0b, 0x00, 0x00, 0x00, 0x00, 0x00, 0x00, 0x00, 0x00, 0x10, 0x01, 0x40, 0x01, 0x40, 0x02, 0x10,
-    0x03, 0x40, 0x03, 0x40, 0x04, 0x10, 0x05, 0x40, 0x05, 0x40, 0x06, 0x10, 0x07, 0x40,
-];
-
-// What stands before the digest, and the digest of it.
-fn whole(rt: &impl Abort, alloc: Global, front: &[u8]) -> Vec<u8> {
-    let mut file = must(rt, Vec::from_slice(alloc, front));
-    must(rt, file.extend_from_slice(&Sha256::digest(front)));
-    file
-}
-
-/// The right file.
+/// The right file: what stands before the digest, and the digest of it.
 pub(crate) fn file_of_countdown(rt: &impl Abort, alloc: Global) -> Vec<u8> {
-    whole(rt, alloc, &FRONT)
-}
-
-/// The right file of version 1.
-pub(crate) fn old_file_of_countdown(rt: &impl Abort, alloc: Global) -> Vec<u8> {
-    whole(rt, alloc, &OLD_FRONT)
-}
-
-/// The file of version 1 with a win in 8 for its last record, and with a fresh digest.
-pub(crate) fn old_file_of_a_longer_win(rt: &impl Abort, alloc: Global) -> Vec<u8> {
-    let mut front = must(rt, Vec::from_slice(alloc, &OLD_FRONT));
-    front.truncate(60);
-    must(rt, front.extend_from_slice(b"\x08\x40"));
-    whole(rt, alloc, front.as_slice())
+    let mut file = must(rt, Vec::from_slice(alloc, &FRONT));
+    must(rt, file.extend_from_slice(&Sha256::digest(&FRONT)));
+    file
 }
