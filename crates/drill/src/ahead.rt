@@ -1,24 +1,23 @@
 //! Looking ahead: each position of a solved game, as the files in a folder have it, beside what the definitions say within some moves.
 ghost use Rattle.std.specs.Prelude.{◌≡◌, true};
 
-use gm_build::inspect::inspect_tier;
+use crate::files::table_of;
+use crate::words::named;
 use gm_dao::dao::Dao;
-use gm_entry::inspect::Inspected;
 use gm_game::game::Game;
-use gm_game::limits::TIER_SIZE;
 use gm_game::position::{Position, Solved, Value};
 use gm_hare::hare::Hare;
 use gm_morris::games::{Achi, ThreeMens, TicTacToe};
 use gm_mutorere::mutorere::MuTorere;
-use gm_settle::ahead::within;
+use gm_record::ahead::within;
 use gm_table::table::Table;
 use gm_table::tables::Tables;
 use gm_tactix::tactix::TacTix;
 use gm_tierdb::folder_store::FolderStore;
+use gm_tierdb::store::Store;
 use gm_tiers::order::TierOrder;
+use std::alloc::Global;
 use std::fs::Files;
-use std::io;
-use std::thread::Threads;
 
 // What was found of a tier: its canonical positions, those whose value looking ahead finds too, and those for which it finds another one.
 #[derive(Clone, Copy)]
@@ -73,106 +72,150 @@ fn compared<G: Game>(table: &Table<G>, moves: u32) -> Found {
 }
 
 // The table of a tier's file in a folder, where it is right.
-fn right_table<G: Game + Send + Sync, R: AllocGlobal + Files + Threads + Sync>(
+fn right_table<G: Game, R: Files>(
     rt: &R,
-    folder: &str,
+    alloc: Global,
     tier: u64,
+    folder: &mut FolderStore,
     tables: &Tables<G>,
 ) -> Option<Table<G>> {
-    if !tables.has_children(tier) || G::tier_size(tier) > TIER_SIZE {
+    if folder.failures() == u64::MAX {
         return None;
     }
-    let alloc = rt.alloc();
-    let mut store = FolderStore::new(alloc, String::from_str(alloc, folder).ok()?);
-    let found = inspect_tier(rt, alloc, tier, tables, &mut store);
-    drop(store);
-    match found {
-        Ok(Inspected::Right(table)) => Some(table),
+    let text = folder.read(rt, alloc, tier);
+    let table = match &text {
+        Ok(Some(text)) => table_of(alloc, tables, tier, false, text.as_slice()).ok(),
         _ => None,
+    };
+    drop(text);
+    table
+}
+
+// What is found of a tier, whose table is held after that; none where its file isn't right.
+fn found_in<G: Game, R: Files>(
+    rt: &R,
+    alloc: Global,
+    tier: u64,
+    moves: u32,
+    folder: &mut FolderStore,
+    tables: &mut Tables<G>,
+) -> Option<Found> {
+    match right_table(rt, alloc, tier, folder, tables) {
+        Some(table) => {
+            let found = compared(&table, moves);
+            let is_held = tables.insert(table).is_ok();
+            is_held.then_some(found)
+        }
+        None => None,
     }
 }
 
-// What is found of a table, which is held after that, if there is memory for it.
-fn held_and_compared<G: Game>(
-    table: Table<G>,
-    tables: &mut Tables<G>,
-    moves: u32,
-) -> (Found, bool) {
-    let found = compared(&table, moves);
-    (found, tables.insert(table).is_ok())
-}
-
-// Compares a tier, and prints what was found; false where its file isn't right.
-fn compare_tier<G: Game + Send + Sync, R: Print + AllocGlobal + Files + Threads + Sync>(
-    rt: &R,
-    folder: &str,
-    tier: u64,
-    tables: &mut Tables<G>,
-    moves: u32,
-) -> io::Result<bool> {
-    let Some(table) = right_table(rt, folder, tier, tables) else {
-        return Ok(false);
-    };
-    let (found, is_held) = held_and_compared(table, tables, moves);
+// Prints what was found of a tier.
+fn say_found<R: Print>(rt: &R, tier: u64, found: Found) -> bool {
     let Found {
         positions,
         known,
         wrong,
     } = found;
-    println!(rt; "tier {tier}: {positions} positions, {known} known, {wrong} wrong")?;
-    Ok(is_held)
+    println!(rt; "tier {tier}: {positions} positions, {known} known, {wrong} wrong").is_ok()
 }
 
 // Compares these tiers, one after another, up to the first whose file isn't right.
-fn compare_tiers<G: Game + Send + Sync, R: Print + AllocGlobal + Files + Threads + Sync>(
+fn compare_tiers<G: Game, R: Print + Files>(
     rt: &R,
-    folder: &str,
+    alloc: Global,
     tiers: &[u64],
-    tables: &mut Tables<G>,
     moves: u32,
-) -> io::Result<()> {
+    folder: &mut FolderStore,
+    tables: &mut Tables<G>,
+) -> bool {
     for tier in tiers {
-        if !compare_tier(rt, folder, *tier, tables, moves)? {
-            break;
+        let is_said = match found_in(rt, alloc, *tier, moves, folder, tables) {
+            Some(found) => say_found(rt, *tier, found),
+            None => return true,
+        };
+        if !is_said {
+            return false;
         }
     }
-    Ok(())
+    true
 }
 
 // Compares a game.
-fn compare<G: Game + Send + Sync, R: Print + AllocGlobal + Files + Threads + Sync>(
+fn compare<G: Game, R: Print + Files>(
     rt: &R,
-    folder: &str,
+    alloc: Global,
     moves: u32,
-) -> io::Result<()> {
-    let Ok(order) = TierOrder::<G>::from_initial(rt.alloc()) else {
-        return println!(rt; "no order");
+    folder: &mut FolderStore,
+) -> bool {
+    let mut tables: Tables<G> = Tables::new(alloc);
+    let order = TierOrder::<G>::from_initial(alloc);
+    let said = match &order {
+        Ok(order) => compare_tiers(rt, alloc, order.tiers(), moves, folder, &mut tables),
+        Err(_) => false,
     };
-    let mut tables: Tables<G> = Tables::new(rt.alloc());
-    let said = compare_tiers(rt, folder, order.tiers(), &mut tables, moves);
     drop((order, tables));
     said
 }
 
+// A game whose files are compared.
+#[derive(Clone, Copy)]
+enum Solvable {
+    TicTacToe,
+    ThreeMens,
+    Achi,
+    MuTorere,
+    Hare,
+    Dao,
+    Five,
+    FiveMisere,
+}
+
+const GAMES: [(&str, Solvable); 8] = [
+    ("tictactoe", Solvable::TicTacToe),
+    ("threemens", Solvable::ThreeMens),
+    ("achi", Solvable::Achi),
+    ("mutorere", Solvable::MuTorere),
+    ("hare", Solvable::Hare),
+    ("dao", Solvable::Dao),
+    ("tactix-5", Solvable::Five),
+    ("tactix-5-misere", Solvable::FiveMisere),
+];
+
+// Compares one of the games.
+fn compare_one<R: Print + Files>(
+    rt: &R,
+    alloc: Global,
+    game: Solvable,
+    moves: u32,
+    folder: &mut FolderStore,
+) -> bool {
+    match game {
+        Solvable::TicTacToe => compare::<TicTacToe, R>(rt, alloc, moves, folder),
+        Solvable::ThreeMens => compare::<ThreeMens, R>(rt, alloc, moves, folder),
+        Solvable::Achi => compare::<Achi, R>(rt, alloc, moves, folder),
+        Solvable::MuTorere => compare::<MuTorere, R>(rt, alloc, moves, folder),
+        Solvable::Hare => compare::<Hare, R>(rt, alloc, moves, folder),
+        Solvable::Dao => compare::<Dao, R>(rt, alloc, moves, folder),
+        Solvable::Five => compare::<TacTix<5, false>, R>(rt, alloc, moves, folder),
+        Solvable::FiveMisere => compare::<TacTix<5, true>, R>(rt, alloc, moves, folder),
+    }
+}
+
 /// Compares the files of a game in a folder with looking this many moves ahead, tier by tier as far as they are right: a line for each tier. False where there
 /// is no such game.
-pub fn look_ahead<R: Print + AllocGlobal + Files + Threads + Sync>(
+pub fn look_ahead<R: Print + Files>(
     rt: &R,
+    alloc: Global,
     game: &str,
     folder: &str,
     moves: u32,
-) -> io::Result<bool> {
-    let said = match game {
-        "tictactoe" => compare::<TicTacToe, R>(rt, folder, moves),
-        "threemens" => compare::<ThreeMens, R>(rt, folder, moves),
-        "achi" => compare::<Achi, R>(rt, folder, moves),
-        "mutorere" => compare::<MuTorere, R>(rt, folder, moves),
-        "hare" => compare::<Hare, R>(rt, folder, moves),
-        "dao" => compare::<Dao, R>(rt, folder, moves),
-        "tactix-5" => compare::<TacTix<5, false>, R>(rt, folder, moves),
-        "tactix-5-misere" => compare::<TacTix<5, true>, R>(rt, folder, moves),
-        _ => return Ok(false),
-    };
-    said?;
-    Ok(true)
+) -> bool {
+    match (named(&GAMES, game), String::from_str(alloc, folder)) {
+        (Some(game), Ok(folder)) => {
+            let mut folder = FolderStore::new(alloc, folder);
+            compare_one(rt, alloc, game, moves, &mut folder)
+        }
+        _ => false,
+    }
 }

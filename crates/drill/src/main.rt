@@ -5,19 +5,26 @@
 mod ahead;
 mod damage;
 mod dao_times;
+mod files;
 mod levels;
 mod marks;
 mod said;
 mod solving;
 mod stores;
 mod tables;
+mod words;
 
 use crate::ahead::look_ahead;
 use crate::damage::damage;
 use crate::dao_times::time_dao;
+use crate::solving::Way;
+use crate::stores::Place;
+use crate::words::named;
+use gm_solver::plan::Plan;
 use gm_tactix::tactix::TacTix;
-use gm_testing::crews::Way;
 use gm_toys::countdown::Countdown;
+use gm_toys::wheel::Wheel;
+use std::alloc::Global;
 use std::fs::Files;
 use std::process::ExitCode;
 use std::rt::Clock;
@@ -25,70 +32,112 @@ use std::sync::Wait;
 use std::thread::Threads;
 use std::{env, io};
 
-// The words that make a call, one a line, in the order of the crates.
-const WORDS: &str = "order
-begin
-fresh
-gather
-tally
-finish
-check
-insert
-encode
-decode
-encode-old
-decode-old
-read-text
-analyse
-json
-write-to-memory
-read-from-memory
-write-through
-read-through
-write-to-folder
-read-from-folder
-alone-countdown
-alone-wheel
-pieces-countdown
-pieces-wheel
-passes-countdown
-passes-wheel
-build";
+// A call that wants memory.
+#[derive(Clone, Copy)]
+enum Call {
+    Order,
+    Level(levels::Call),
+    Finish,
+    Insert,
+    Table(tables::Call),
+    JsonOfOne,
+    Store(stores::Call, Place),
+    Countdown(Way),
+    Wheel(Way),
+    Build,
+}
 
-// Prints the words.
-fn list<R: Print>(rt: &R) -> io::Result<()> {
-    println!(rt; "{WORDS}")
+// The words that make a call, in the order of the crates.
+const CALLS: [(&str, Call); 29] = [
+    ("order", Call::Order),
+    ("begin", Call::Level(levels::Call::Begin)),
+    ("fresh", Call::Level(levels::Call::Fresh)),
+    ("gather", Call::Level(levels::Call::Gather)),
+    ("tally", Call::Level(levels::Call::Tally)),
+    ("finish", Call::Finish),
+    ("check", Call::Table(tables::Call::Check)),
+    ("insert", Call::Insert),
+    ("encode", Call::Table(tables::Call::Encode)),
+    ("decode", Call::Table(tables::Call::Decode)),
+    ("encode-old", Call::Table(tables::Call::EncodeOld)),
+    ("decode-old", Call::Table(tables::Call::DecodeOld)),
+    ("read-text", Call::Table(tables::Call::ReadText)),
+    ("analyse", Call::Table(tables::Call::Analyse)),
+    ("json", Call::Table(tables::Call::Json)),
+    ("json-of-one", Call::JsonOfOne),
+    (
+        "write-to-memory",
+        Call::Store(stores::Call::Write, Place::Memory),
+    ),
+    (
+        "read-from-memory",
+        Call::Store(stores::Call::Read, Place::Memory),
+    ),
+    (
+        "write-through",
+        Call::Store(stores::Call::Write, Place::Through),
+    ),
+    (
+        "read-through",
+        Call::Store(stores::Call::Read, Place::Through),
+    ),
+    (
+        "write-to-folder",
+        Call::Store(stores::Call::Write, Place::Folder),
+    ),
+    (
+        "read-from-folder",
+        Call::Store(stores::Call::Read, Place::Folder),
+    ),
+    ("alone-countdown", Call::Countdown(Way::Alone)),
+    ("alone-wheel", Call::Wheel(Way::Alone)),
+    ("pieces-countdown", Call::Countdown(Way::Pieces)),
+    ("pieces-wheel", Call::Wheel(Way::Pieces)),
+    ("passes-countdown", Call::Countdown(Way::Passes)),
+    ("passes-wheel", Call::Wheel(Way::Passes)),
+    ("build", Call::Build),
+];
+
+// The words with their calls.
+fn calls() -> &'static [(&'static str, Call)] {
+    &CALLS
+}
+
+// Prints the words that make a call.
+fn list<R: Print>(rt: &R) -> bool {
+    for (word, _) in calls() {
+        if println!(rt; "{word}").is_err() {
+            return false;
+        }
+    }
+    true
+}
+
+// Makes a call.
+fn make<R: Print + Threads + Wait + Files + Sync>(rt: &R, alloc: Global, call: Call) -> bool {
+    let Some(plan) = Plan::new(2, 2, 1) else {
+        return false;
+    };
+    match call {
+        Call::Order => levels::order(rt, alloc),
+        Call::Level(call) => levels::call_on_ten(rt, alloc, call),
+        Call::Finish => levels::finish_zero(rt, alloc),
+        Call::Insert => tables::insert_ten(rt, alloc),
+        Call::Table(call) => tables::call_on_ten(rt, alloc, call),
+        Call::JsonOfOne => tables::json_of_one(rt, alloc),
+        Call::Store(call, place) => stores::call_on(rt, alloc, call, place),
+        Call::Countdown(way) => solving::solve::<Countdown<10>, R>(rt, alloc, way, plan),
+        Call::Wheel(way) => solving::solve::<Wheel, R>(rt, alloc, way, plan),
+        Call::Build => solving::build(rt, alloc, plan),
+    }
 }
 
 // Makes the call that a word names: false where there is no such word.
-fn drill<R: Print + AllocGlobal + Threads + Wait + Files + Sync>(
-    rt: &R,
-    word: &str,
-) -> io::Result<bool> {
-    if word == "list" {
-        list(rt)?;
-        return Ok(true);
+fn drill<R: Print + Threads + Wait + Files + Sync>(rt: &R, alloc: Global, word: &str) -> bool {
+    match named(calls(), word) {
+        Some(call) => make(rt, alloc, call),
+        None => false,
     }
-    Ok(
-        levels::make_call(rt, word)?
-            || tables::make_call(rt, word)?
-            || stores::make_call(rt, word)?
-            || solving::make_call(rt, word)?,
-    )
-}
-
-// Judges the lines of standard input as the files of a game: false where there is no such word.
-fn judge<R: Print + AllocGlobal, I: io::Read + Drop>(
-    rt: &R,
-    word: &str,
-    input: I,
-) -> io::Result<bool> {
-    match word {
-        "damage-countdown" => damage::<Countdown<10>, R, I>(rt, input)?,
-        "damage-tactix-2" => damage::<TacTix<2, false>, R, I>(rt, input)?,
-        _ => return Ok(false),
-    }
-    Ok(true)
 }
 
 // A word of a line as text; an empty one where there is none.
@@ -99,53 +148,58 @@ fn word(words: &[String], number: usize) -> &str {
     }
 }
 
-// Solves Dao, by as many workers as the second word says, by passes where the third one says so, or by one thread: whether it could be done.
-fn dao<R: Print + Clock + AllocGlobal + Threads + Wait + Sync>(
-    rt: &R,
-    words: &[String],
-) -> io::Result<bool> {
-    let way = match word(words, 3) {
-        "--passes" => Way::Passes,
-        _ => Way::Pieces,
-    };
-    match word(words, 2).parse::<u8>() {
-        Ok(workers) => time_dao(rt, Some(way), usize::from(workers)),
-        Err(_) => time_dao(rt, None, 1),
+// Looks ahead by a line of a game, a number of moves and a folder: whether it could be done.
+fn compare<R: Print + Files>(rt: &R, alloc: Global, words: &[String]) -> bool {
+    match word(words, 3).parse::<u32>() {
+        Ok(moves) => look_ahead(rt, alloc, word(words, 2), word(words, 4), moves),
+        Err(_) => false,
     }
 }
 
-// Does what a line of several words says: whether it could be done.
-fn study<R: Print + Clock + AllocGlobal + Threads + Wait + Files + Sync>(
-    rt: &R,
-    first: &str,
-    words: &[String],
-) -> io::Result<bool> {
-    match (first, word(words, 3).parse::<u32>()) {
-        ("time-dao", _) => dao(rt, words),
-        ("ahead", Ok(moves)) => look_ahead(rt, word(words, 2), word(words, 4), moves),
-        _ => Ok(false),
-    }
+// What a line does that makes no such call.
+#[derive(Clone, Copy)]
+enum Line {
+    List,
+    Ahead,
+    TimeDao,
+    DamageCountdown,
+    DamageTacTix,
 }
+
+const LINES: [(&str, Line); 5] = [
+    ("list", Line::List),
+    ("ahead", Line::Ahead),
+    ("time-dao", Line::TimeDao),
+    ("damage-countdown", Line::DamageCountdown),
+    ("damage-tactix-2", Line::DamageTacTix),
+];
 
 // Does what the words say of which the first is the program's name: whether it could be done.
-fn run<R: Print + Clock + AllocGlobal + Threads + Wait + Files + Sync, I: io::Read + Drop>(
+fn run<R: Print + Clock + Threads + Wait + Files + Sync, I: io::Read + Drop>(
     rt: &R,
+    alloc: Global,
     words: &[String],
     input: I,
-) -> io::Result<bool> {
-    let Some(first) = words.get(1) else {
-        return Ok(false);
-    };
-    let first = first.as_str();
-    Ok(judge(rt, first, input)? || drill(rt, first)? || study(rt, first, words)?)
+) -> bool {
+    let first = word(words, 1);
+    match named(&LINES, first) {
+        Some(Line::List) => list(rt),
+        Some(Line::Ahead) => compare(rt, alloc, words),
+        Some(Line::TimeDao) => time_dao(rt, alloc, word(words, 2), word(words, 3)),
+        Some(Line::DamageCountdown) => damage::<Countdown<10>, R, I>(rt, alloc, input),
+        Some(Line::DamageTacTix) => damage::<TacTix<2, false>, R, I>(rt, alloc, input),
+        None => drill(rt, alloc, first),
+    }
 }
 
 fn main(rt: HostRuntime) -> io::Result<ExitCode> {
-    let mut words = Vec::new(rt.alloc());
+    let alloc = rt.alloc();
+    let mut words = Vec::new(alloc);
     for word in env::args(&rt)? {
         words.push(word)?;
     }
-    let is_done = run(&rt, words.as_slice(), rt.reader())?;
+    let is_done = run(&rt, alloc, words.as_slice(), rt.reader());
+    drop(words);
     Ok(if is_done {
         ExitCode::SUCCESS
     } else {

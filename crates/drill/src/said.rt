@@ -1,21 +1,89 @@
 //! What a drill prints: `answer`, what the call answered; `before` and `after`, what it is to leave; `again`, what a second call answers.
-use std::fmt::Display;
-use std::io;
+use gm_game::game::Game;
+use gm_tiers::order::TierOrder;
 
-/// Prints what a call answered: none stands for refused memory.
-pub fn say<R: Print, T: Display + Drop>(rt: &R, what: &str, answer: Option<T>) -> io::Result<()> {
+/// What a call answered; where there is none, memory was refused.
+#[derive(Clone, Copy)]
+pub enum Said<'a> {
+    Number(u64),
+    Text(&'a str),
+}
+
+/// What a call makes, of which a number is printed.
+pub trait Counted: Drop {
+    fn count(&self) -> u64;
+}
+
+/// What a call answered, as the number of what it made; none where memory was refused.
+pub fn number_of<T: Counted, E: Drop>(answer: Result<T, E>) -> Option<Said<'static>> {
     match answer {
-        Some(answer) => println!(rt; "{what}: {answer}"),
-        None => println!(rt; "{what}: out of memory"),
+        Ok(made) => Some(Said::Number(made.count())),
+        Err(_) => None,
     }
 }
 
-/// Prints what a call and a second one answered.
-pub fn say_both<R: Print, T: Display + Drop>(
-    rt: &R,
-    first: Option<T>,
-    again: Option<T>,
-) -> io::Result<()> {
-    say(rt, "answer", first)?;
-    say(rt, "again", again)
+impl<T: Drop> Counted for Vec<T> {
+    fn count(&self) -> u64 {
+        self.len() as u64
+    }
 }
+
+impl<G: Game> Counted for TierOrder<G> {
+    fn count(&self) -> u64 {
+        self.tiers().len() as u64
+    }
+}
+
+// Prints a line: whether that could be done, as in all that follows.
+fn say<R: Print>(rt: &R, what: &str, said: Option<Said<'_>>) -> bool {
+    match said {
+        Some(Said::Number(number)) => println!(rt; "{what}: {number}").is_ok(),
+        Some(Said::Text(text)) => println!(rt; "{what}: {text}").is_ok(),
+        None => println!(rt; "{what}: out of memory").is_ok(),
+    }
+}
+
+/// Prints these lines.
+pub fn say_all<R: Print>(rt: &R, lines: &[(&str, Option<Said<'_>>)]) -> bool {
+    for (what, said) in lines {
+        if !say(rt, what, *said) {
+            return false;
+        }
+    }
+    true
+}
+
+/// Prints what a call and a second one answered.
+pub fn say_both<R: Print>(rt: &R, first: Option<Said<'_>>, again: Option<Said<'_>>) -> bool {
+    say_all(rt, &[("answer", first), ("again", again)])
+}
+
+/// Prints what there was before a call, what it answered, what there was after it, and what a second one answered.
+pub fn say_four<R: Print>(
+    rt: &R,
+    before: Option<Said<'_>>,
+    first: Option<Said<'_>>,
+    after: Option<Said<'_>>,
+    again: Option<Said<'_>>,
+) -> bool {
+    say_all(
+        rt,
+        &[
+            ("before", before),
+            ("answer", first),
+            ("after", after),
+            ("again", again),
+        ],
+    )
+}
+
+/// Makes a call between the marks and then once more, and prints what both answered.
+macro_rules! say_twice {
+    ($rt:expr, $alloc:expr, $call:expr) => {{
+        let first = $crate::marks::marked!($alloc, $call);
+        let again = $call;
+        $crate::said::say_both($rt, first, again)
+    }};
+}
+
+pub(crate) use say_twice;

@@ -1,6 +1,6 @@
 //! Stores: after a refused write the entry is the old one.
 use crate::marks::marked;
-use crate::said::say;
+use crate::said::{Said, say_four};
 use gm_tierdb::flaky::Flaky;
 use gm_tierdb::folder_store::FolderStore;
 use gm_tierdb::mem_store::MemStore;
@@ -8,7 +8,6 @@ use gm_tierdb::store::Store;
 use gm_tierdb::store_error::StoreError;
 use std::alloc::Global;
 use std::fs::Files;
-use std::io;
 
 // The tier whose text is written, first the old one and then the new one.
 const TIER: u64 = 7;
@@ -17,135 +16,108 @@ const OLD: &[u8] = b"an old text";
 
 const NEW: &[u8] = b"a new text";
 
-// Which text a text is.
-fn which(text: &[u8]) -> &'static str {
-    if text == OLD {
-        "old"
-    } else if text == NEW {
-        "new"
-    } else {
-        "wrong"
-    }
-}
-
-// What a tier of a store is seen to hold.
-fn seen<S: Store, R: Files>(rt: &R, alloc: Global, store: &mut S) -> &'static str {
-    if store.failures() == u64::MAX {
-        return "failed";
-    }
-    match store.read(rt, alloc, TIER) {
-        Ok(Some(text)) => which(text.as_slice()),
-        Ok(None) => "none",
-        Err(_) => "failed",
-    }
-}
-
-fn say_seen<S: Store, R: Print + Files>(
-    rt: &R,
-    alloc: Global,
-    what: &str,
-    store: &mut S,
-) -> io::Result<()> {
-    say(rt, what, Some(seen(rt, alloc, store)))
-}
-
-// A call on a store.
+/// A call on a store.
 #[derive(Clone, Copy)]
-enum Call {
+pub enum Call {
     Write,
     Read,
 }
 
-// What a call answered: what it wrote, or how many bytes it read.
+/// Where the store of a call has its texts: in memory, there through a `Flaky` that doesn't fail, or in the folder in which the drill runs.
 #[derive(Clone, Copy)]
-enum Answer {
-    Written,
-    Read(usize),
-    Failed,
+pub enum Place {
+    Memory,
+    Through,
+    Folder,
 }
 
-// Writes the new text or reads the one that is there; none where memory was refused.
+// What a write answered; none where memory was refused.
+fn written(answer: Result<(), StoreError>) -> Option<Said<'static>> {
+    match answer {
+        Ok(()) => Some(Said::Text("written")),
+        Err(StoreError::Failed) => Some(Said::Text("failed")),
+        Err(StoreError::OutOfMemory) => None,
+    }
+}
+
+// What a read answered, as the number of bytes; none where memory was refused.
+fn number_of(answer: Result<Option<Vec<u8>>, StoreError>) -> Option<Said<'static>> {
+    match answer {
+        Ok(Some(text)) => Some(Said::Number(text.len() as u64)),
+        Ok(None) => Some(Said::Text("none")),
+        Err(StoreError::Failed) => Some(Said::Text("failed")),
+        Err(StoreError::OutOfMemory) => None,
+    }
+}
+
+// Which text was read.
+fn which(answer: Result<Option<Vec<u8>>, StoreError>) -> Option<Said<'static>> {
+    let word = match &answer {
+        Ok(Some(text)) if text.as_slice() == OLD => "old",
+        Ok(Some(text)) if text.as_slice() == NEW => "new",
+        Ok(Some(_)) => "wrong",
+        Ok(None) => "none",
+        Err(_) => "failed",
+    };
+    drop(answer);
+    Some(Said::Text(word))
+}
+
+// What is done with a store.
+#[derive(Clone, Copy)]
+enum Deed {
+    WriteOld,
+    Look,
+    Call(Call),
+}
+
+// Does something with a store, and says what it answered.
 fn answered<S: Store, R: Files>(
+    rt: &R,
+    alloc: Global,
+    deed: Deed,
+    store: &mut S,
+) -> Option<Said<'static>> {
+    if store.failures() == u64::MAX {
+        return Some(Said::Text("failed"));
+    }
+    match deed {
+        Deed::WriteOld => written(store.write(rt, TIER, OLD)),
+        Deed::Look => which(store.read(rt, alloc, TIER)),
+        Deed::Call(Call::Write) => written(store.write(rt, TIER, NEW)),
+        Deed::Call(Call::Read) => number_of(store.read(rt, alloc, TIER)),
+    }
+}
+
+// A call on a store where there is an old text.
+fn call_on_old<R: Print + Files, S: Store>(
     rt: &R,
     alloc: Global,
     call: Call,
     store: &mut S,
-) -> Option<Answer> {
-    if store.failures() == u64::MAX {
-        return Some(Answer::Failed);
+) -> bool {
+    let _written = answered(rt, alloc, Deed::WriteOld, store);
+    let before = answered(rt, alloc, Deed::Look, store);
+    let first = marked!(alloc, answered(rt, alloc, Deed::Call(call), store));
+    let after = answered(rt, alloc, Deed::Look, store);
+    let again = answered(rt, alloc, Deed::Call(call), store);
+    say_four(rt, before, first, after, again)
+}
+
+/// Makes a call on a store.
+pub fn call_on<R: Print + Files>(rt: &R, alloc: Global, call: Call, place: Place) -> bool {
+    match place {
+        Place::Memory => call_on_old(rt, alloc, call, &mut MemStore::new(alloc)),
+        Place::Through => {
+            let mut store = Flaky::new(MemStore::new(alloc), u64::MAX, u64::MAX);
+            call_on_old(rt, alloc, call, &mut store)
+        }
+        Place::Folder => {
+            let Ok(folder) = String::from_str(alloc, ".") else {
+                return false;
+            };
+            let mut store = FolderStore::new(alloc, folder);
+            call_on_old(rt, alloc, call, &mut store)
+        }
     }
-    match call {
-        Call::Write => match store.write(rt, TIER, NEW) {
-            Ok(()) => Some(Answer::Written),
-            Err(StoreError::Failed) => Some(Answer::Failed),
-            Err(StoreError::OutOfMemory) => None,
-        },
-        Call::Read => Some(Answer::Read(store.read(rt, alloc, TIER).ok()??.len())),
-    }
-}
-
-fn say_answer<R: Print>(rt: &R, what: &str, answer: Option<Answer>) -> io::Result<()> {
-    match answer {
-        Some(Answer::Written) => say(rt, what, Some("written")),
-        Some(Answer::Read(bytes)) => say(rt, what, Some(bytes)),
-        Some(Answer::Failed) => say(rt, what, Some("failed")),
-        None => say(rt, what, None::<usize>),
-    }
-}
-
-// A call where there is an old text.
-fn call_on_old<R: Print + AllocGlobal + Files, S: Store>(
-    rt: &R,
-    call: Call,
-    store: &mut S,
-) -> io::Result<()> {
-    let alloc = rt.alloc();
-    if store.failures() == u64::MAX || store.write(rt, TIER, OLD).is_err() {
-        return say(rt, "before", Some("failed"));
-    }
-    say_seen(rt, alloc, "before", store)?;
-    let first = marked!(alloc, answered(rt, alloc, call, store));
-    say_answer(rt, "answer", first)?;
-    say_seen(rt, alloc, "after", store)?;
-    say_answer(rt, "again", answered(rt, alloc, call, store))
-}
-
-// A call on a `MemStore`.
-fn call_on_memory<R: Print + AllocGlobal + Files>(rt: &R, call: Call) -> io::Result<()> {
-    let mut store = MemStore::new(rt.alloc());
-    let said = call_on_old(rt, call, &mut store);
-    drop(store);
-    said
-}
-
-// A call through a `Flaky` that doesn't fail.
-fn call_through<R: Print + AllocGlobal + Files>(rt: &R, call: Call) -> io::Result<()> {
-    let mut store = Flaky::new(MemStore::new(rt.alloc()), u64::MAX, u64::MAX);
-    let said = call_on_old(rt, call, &mut store);
-    drop(store);
-    said
-}
-
-// A call on the folder in which the drill runs.
-fn call_on_folder<R: Print + AllocGlobal + Files>(rt: &R, call: Call) -> io::Result<()> {
-    let alloc = rt.alloc();
-    let mut store = FolderStore::new(alloc, String::from_str(alloc, ".")?);
-    let said = call_on_old(rt, call, &mut store);
-    drop(store);
-    said
-}
-
-/// Makes the call on a store that a word names: false where there is no such word.
-pub fn make_call<R: Print + AllocGlobal + Files>(rt: &R, word: &str) -> io::Result<bool> {
-    let said = match word {
-        "write-to-memory" => call_on_memory(rt, Call::Write),
-        "read-from-memory" => call_on_memory(rt, Call::Read),
-        "write-through" => call_through(rt, Call::Write),
-        "read-through" => call_through(rt, Call::Read),
-        "write-to-folder" => call_on_folder(rt, Call::Write),
-        "read-from-folder" => call_on_folder(rt, Call::Read),
-        _ => return Ok(false),
-    };
-    said?;
-    Ok(true)
 }

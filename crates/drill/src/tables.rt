@@ -4,221 +4,232 @@ ghost use Rattle.gm_table.specs.Tables.{AreHeld};
 ghost use Rattle.gm_tierdb.specs.TierText.{AreUpTo};
 
 use crate::marks::marked;
-use crate::said::{say, say_both};
-use gm_analyse::analysis::analyse;
+use crate::said::{Counted, Said, number_of, say_all, say_both, say_twice};
+use gm_analyse::analysis::{Analysis, analyse};
 use gm_analyse::json::to_json;
 use gm_game::game::Game;
 use gm_game::limits::TIER_SIZE;
-use gm_game::position::{Position, Solved};
+use gm_game::position::Solved;
 use gm_record::version::REMOTENESS_1;
 use gm_solver::alone::solve_alone;
-use gm_table::checker::check as check_records;
+use gm_table::checker::check;
 use gm_table::table::Table;
 use gm_table::tables::Tables;
 use gm_tierdb::decode::{decode, decode_v1};
 use gm_tierdb::encode::{encode, encode_v1, fits_v1};
 use gm_tierdb::streams::read_text;
 use gm_toys::countdown::Countdown;
-use std::alloc::{AllocError, Global};
-use std::io;
+use std::alloc::Global;
 
-type Ten = Countdown<10>;
-
-// A call that counts: the bytes of a file, its records or its text read from a stream, or the remotenesses of a table.
+/// A call on the true table of a tier, on its records or on one of its files.
 #[derive(Clone, Copy)]
-enum Count {
+pub enum Call {
+    Check,
     Encode,
     Decode,
     EncodeOld,
     DecodeOld,
     ReadText,
     Analyse,
-}
-
-// A call on the true table.
-#[derive(Clone, Copy)]
-enum Call {
-    Check,
-    Count(Count),
     Json,
 }
 
-// The call on the true table that a word names.
-fn named(word: &str) -> Option<Call> {
-    match word {
-        "check" => Some(Call::Check),
-        "encode" => Some(Call::Count(Count::Encode)),
-        "decode" => Some(Call::Count(Count::Decode)),
-        "encode-old" => Some(Call::Count(Count::EncodeOld)),
-        "decode-old" => Some(Call::Count(Count::DecodeOld)),
-        "read-text" => Some(Call::Count(Count::ReadText)),
-        "analyse" => Some(Call::Count(Count::Analyse)),
-        "json" => Some(Call::Json),
-        _ => None,
+// The indexes of a table.
+impl<G: Game> Counted for Table<G> {
+    fn count(&self) -> u64 {
+        self.size()
     }
 }
 
-// The true table; none where memory was refused.
-fn table(alloc: Global) -> Option<Table<Ten>> {
-    let tables: Tables<Ten> = Tables::new(alloc);
-    let (table, _) = solve_alone(alloc, 0, &tables).ok()?;
-    Some(table)
-}
-
-// The records of a table, as `check` takes them.
-fn records<G: Game>(alloc: Global, table: &Table<G>) -> Result<Vec<Option<Solved>>, AllocError> {
-    let mut records = Vec::new(alloc);
-    for index in 0..table.size() {
-        records.push(table.at(index))?;
+// The values and remotenesses that were counted.
+impl Counted for Analysis {
+    fn count(&self) -> u64 {
+        self.counts.list().len() as u64
     }
-    Ok(records)
 }
 
-// The size of the table that records make; none where memory was refused.
-fn size_checked<G: Game>(
+// What a call on a tier answers: the number of what it makes (bytes of a file, records, or a text read from a stream); none where memory was refused.
+fn answered<G: Game>(
     alloc: Global,
-    records: &[Option<Solved>],
+    call: Call,
     tables: &Tables<G>,
-) -> Option<u64>
+    table: &Table<G>,
+    file: &[u8],
+    old_file: &[u8],
+    records: &[Option<Solved>],
+) -> Option<Said<'static>>
     requires held { AreHeld G.rules tables.now 0 }
     requires small { G.rules.tier_size 0 ≤ TIER_SIZE }
-{
-    Some(check_records(alloc, 0, records, tables).ok()?.size())
-}
-
-// `check` of the right records.
-fn check<R: Print>(rt: &R, alloc: Global, table: &Table<Ten>) -> io::Result<()> {
-    let records = records(alloc, table)?;
-    let tables: Tables<Ten> = Tables::new(alloc);
-    let first = marked!(alloc, size_checked(alloc, records.as_slice(), &tables));
-    let again = size_checked(alloc, records.as_slice(), &tables);
-    drop((records, tables));
-    say_both(rt, first, again)
-}
-
-// The value of the start in the tables, or none where its tier isn't held.
-fn held(tables: &Tables<Ten>) -> &'static str {
-    if tables.get(Position { tier: 0, index: 10 }).is_some() {
-        "held"
-    } else {
-        "not held"
-    }
-}
-
-// Inserts the table that is left: where memory is refused, it is left again.
-fn inserted(tables: &mut Tables<Ten>, left: &mut Option<Table<Ten>>) -> Option<&'static str> {
-    if let Some(table) = left.take() {
-        if let Err(failed) = tables.insert(table) {
-            *left = Some(failed.value);
-            return None;
-        }
-    }
-    Some("inserted")
-}
-
-// Inserts a table, and a second time where it came back.
-fn say_insert<R: Print>(
-    rt: &R,
-    alloc: Global,
-    tables: &mut Tables<Ten>,
-    left: &mut Option<Table<Ten>>,
-) -> io::Result<()> {
-    say(rt, "before", Some(held(tables)))?;
-    let first = marked!(alloc, inserted(tables, left));
-    say(rt, "answer", first)?;
-    say(rt, "after", Some(held(tables)))?;
-    say(rt, "again", inserted(tables, left))?;
-    say(rt, "end", Some(held(tables)))
-}
-
-// `Tables::insert`: where it is refused, the table comes back and the tables are as before.
-fn insert<R: Print>(rt: &R, alloc: Global) -> io::Result<()> {
-    let mut tables: Tables<Ten> = Tables::new(alloc);
-    let mut left = table(alloc);
-    let said = if left.is_some() {
-        say_insert(rt, alloc, &mut tables, &mut left)
-    } else {
-        Ok(())
-    };
-    drop((tables, left));
-    said
-}
-
-// The length of the list that a call answered; none where memory was refused.
-fn length<T: Drop, E: Drop>(answer: Result<Vec<T>, E>) -> Option<u64> {
-    Some(answer.ok()?.len() as u64)
-}
-
-// How many remotenesses are counted of a table.
-fn remotenesses<G: Game>(alloc: Global, table: &Table<G>) -> Option<u64> {
-    Some(analyse(alloc, table).ok()?.counts.list().len() as u64)
-}
-
-// What a call on a table and its file counts; none where memory was refused.
-fn counted<G: Game>(alloc: Global, count: Count, table: &Table<G>, file: &[u8]) -> Option<u64>
-    requires { AreUpTo REMOTENESS_1 table.now.records }
+    requires fits { AreUpTo REMOTENESS_1 table.now.records }
 {
     let mut reader = file;
-    match count {
-        Count::Encode => length(encode(alloc, table)),
-        Count::Decode => length(decode::<G>(alloc, 0, file)),
-        Count::EncodeOld => length(encode_v1(alloc, table)),
-        Count::DecodeOld => length(decode_v1::<G>(alloc, 0, file)),
-        Count::ReadText => length(read_text(alloc, &mut reader)),
-        Count::Analyse => remotenesses(alloc, table),
+    match call {
+        Call::Check => number_of(check(alloc, 0, records, tables)),
+        Call::Encode => number_of(encode(alloc, table)),
+        Call::Decode => number_of(decode::<G>(alloc, 0, file)),
+        Call::EncodeOld => number_of(encode_v1(alloc, table)),
+        Call::DecodeOld => number_of(decode_v1::<G>(alloc, 0, old_file)),
+        Call::ReadText => number_of(read_text(alloc, &mut reader)),
+        Call::Analyse => number_of(analyse(alloc, table)),
+        Call::Json => None,
     }
 }
 
-// A call that counts.
+// Makes a call over a file of a table, and over its old file and its records.
 fn say_count<G: Game, R: Print>(
     rt: &R,
     alloc: Global,
-    count: Count,
+    call: Call,
+    tables: &Tables<G>,
     table: &Table<G>,
-) -> io::Result<()> {
-    if !fits_v1(table) {
-        return say(rt, "answer", Some("too long"));
-    }
-    let file = match count {
-        Count::DecodeOld => encode_v1(alloc, table)?,
-        _ => encode(alloc, table)?,
+    file: &[u8],
+) -> bool
+    requires held { AreHeld G.rules tables.now 0 }
+    requires small { G.rules.tier_size 0 ≤ TIER_SIZE }
+    requires fits { AreUpTo REMOTENESS_1 table.now.records }
+{
+    let made = (encode_v1(alloc, table), decode::<G>(alloc, 0, file));
+    let said = match &made {
+        (Ok(old), Ok(records)) => {
+            let (old, records) = (old.as_slice(), records.as_slice());
+            say_twice!(
+                rt,
+                alloc,
+                answered(alloc, call, tables, table, file, old, records)
+            )
+        }
+        _ => false,
     };
-    let first = marked!(alloc, counted(alloc, count, table, file.as_slice()));
-    let again = counted(alloc, count, table, file.as_slice());
-    drop(file);
-    say_both(rt, first, again)
-}
-
-// `to_json` of what was counted.
-fn json<G: Game, R: Print>(rt: &R, alloc: Global, table: &Table<G>) -> io::Result<()> {
-    let analysis = analyse(alloc, table)?;
-    let first = marked!(alloc, to_json::<G>(alloc, &analysis).ok());
-    let again = to_json::<G>(alloc, &analysis).ok();
-    drop(analysis);
-    say_both(rt, first, again)
-}
-
-// Makes a call on the true table, where there was memory for it.
-fn call_on_true<R: Print>(rt: &R, alloc: Global, call: Call) -> io::Result<()> {
-    let Some(table) = table(alloc) else {
-        return Ok(());
-    };
-    let said = match call {
-        Call::Check => check(rt, alloc, &table),
-        Call::Json => json(rt, alloc, &table),
-        Call::Count(what) => say_count(rt, alloc, what, &table),
-    };
-    drop(table);
+    drop(made);
     said
 }
 
-/// Makes the call on tables that a word names: false where there is no such word.
-pub fn make_call<R: Print + AllocGlobal>(rt: &R, word: &str) -> io::Result<bool> {
-    let said = match named(word) {
-        Some(call) => call_on_true(rt, rt.alloc(), call),
-        None if word == "insert" => insert(rt, rt.alloc()),
-        None => return Ok(false),
+// Makes a call on a true table and what is made of it.
+fn call_on_table<G: Game, R: Print>(
+    rt: &R,
+    alloc: Global,
+    call: Call,
+    tables: &Tables<G>,
+    table: &Table<G>,
+) -> bool
+    requires held { AreHeld G.rules tables.now 0 }
+    requires small { G.rules.tier_size 0 ≤ TIER_SIZE }
+{
+    if !fits_v1(table) {
+        return false;
+    }
+    let Ok(file) = encode(alloc, table) else {
+        return false;
     };
-    said?;
-    Ok(true)
+    let said = say_count(rt, alloc, call, tables, table, file.as_slice());
+    drop(file);
+    said
+}
+
+// `to_json` of what was counted.
+fn json<G: Game, R: Print>(rt: &R, alloc: Global, table: &Table<G>) -> bool {
+    let Ok(analysis) = analyse(alloc, table) else {
+        return false;
+    };
+    let first = marked!(alloc, to_json::<G>(alloc, &analysis).ok());
+    let again = to_json::<G>(alloc, &analysis).ok();
+    let said = say_both(rt, text_of(&first), text_of(&again));
+    drop((first, again, analysis));
+    said
+}
+
+// A text as an answer.
+fn text_of(text: &Option<String>) -> Option<Said<'_>> {
+    match text {
+        Some(text) => Some(Said::Text(text.as_str())),
+        None => None,
+    }
+}
+
+// Whether the first tier is held.
+fn held<G: Game>(tables: &Tables<G>) -> Option<Said<'static>> {
+    let text = if tables.has(0) { "held" } else { "not held" };
+    Some(Said::Text(text))
+}
+
+// Inserts the table that is left: where memory is refused, it is left again.
+fn inserted<G: Game>(
+    tables: &mut Tables<G>,
+    left: &mut Option<(Table<G>, u64)>,
+) -> Option<Said<'static>> {
+    if let Some((table, deliveries)) = left.take() {
+        if let Err(failed) = tables.insert(table) {
+            *left = Some((failed.value, deliveries));
+            return None;
+        }
+    }
+    Some(Said::Text("inserted"))
+}
+
+// `Tables::insert`, and a second time where the table came back: where it is refused, the tables are as before.
+fn insert<G: Game, R: Print>(
+    rt: &R,
+    alloc: Global,
+    tables: &mut Tables<G>,
+    left: &mut Option<(Table<G>, u64)>,
+) -> bool {
+    let before = held(tables);
+    let first = marked!(alloc, inserted(tables, left));
+    let after = held(tables);
+    let again = inserted(tables, left);
+    let end = held(tables);
+    say_all(
+        rt,
+        &[
+            ("before", before),
+            ("answer", first),
+            ("after", after),
+            ("again", again),
+            ("end", end),
+        ],
+    )
+}
+
+// Makes a call on the true table of a tier.
+fn call_on_first<G: Game, R: Print>(rt: &R, alloc: Global, call: Call, tables: &Tables<G>) -> bool
+    requires held { AreHeld G.rules tables.now 0 }
+    requires small { G.rules.tier_size 0 ≤ TIER_SIZE }
+{
+    let solved = solve_alone(alloc, 0, tables);
+    let said = match (&solved, call) {
+        (Err(_), _) => false,
+        (Ok((table, _)), Call::Json) => json(rt, alloc, table),
+        (Ok((table, _)), _) => call_on_table(rt, alloc, call, tables, table),
+    };
+    drop(solved);
+    said
+}
+
+/// Makes a call on the true table of Countdown from 10.
+pub fn call_on_ten<R: Print>(rt: &R, alloc: Global, call: Call) -> bool {
+    let tables: Tables<Countdown<10>> = Tables::new(alloc);
+    let said = call_on_first(rt, alloc, call, &tables);
+    drop(tables);
+    said
+}
+
+/// `to_json` of what is counted of Countdown from 0, which has one position.
+pub fn json_of_one<R: Print>(rt: &R, alloc: Global) -> bool {
+    let tables: Tables<Countdown<0>> = Tables::new(alloc);
+    let solved = solve_alone(alloc, 0, &tables);
+    let said = match &solved {
+        Ok((table, _)) => json(rt, alloc, table),
+        Err(_) => false,
+    };
+    drop((solved, tables));
+    said
+}
+
+/// Inserts the true table of Countdown from 10.
+pub fn insert_ten<R: Print>(rt: &R, alloc: Global) -> bool {
+    let mut tables: Tables<Countdown<10>> = Tables::new(alloc);
+    let mut solved = solve_alone(alloc, 0, &tables).ok();
+    let said = insert(rt, alloc, &mut tables, &mut solved);
+    drop((tables, solved));
+    said
 }

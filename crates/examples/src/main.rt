@@ -7,6 +7,7 @@ use crate::workers::{Backwards, Tachometer};
 use gm_best::answer::answer;
 use gm_best::best_move::best_move;
 use gm_build::build::{Built, build};
+use gm_game::game::Game;
 use gm_game::shown::Shown;
 use gm_game::text::value_text;
 use gm_morris::games::TicTacToe;
@@ -14,60 +15,70 @@ use gm_solver::plan::Plan;
 use gm_table::tables::Tables;
 use gm_tierdb::mem_store::MemStore;
 use gm_tierdb::store::Store;
+use std::alloc::Global;
 use std::fs::Files;
-use std::io::{self, Write};
 use std::process::ExitCode;
 use std::sync::Wait;
 use std::thread::Threads;
+use std::{io, str};
 
 // Prints a position with its value and, where the game goes on, the best move from it.
-fn say<G: Shown, O: Write>(output: &mut O, tables: &Tables<G>, text: &str) -> io::Result<()> {
+fn say<G: Shown, R: Print>(rt: &R, tables: &Tables<G>, text: &str) -> io::Result<()> {
     let Some(p) = G::read(text.as_bytes()) else {
-        return writeln!(output, "{text}: no such position");
+        return println!(rt; "{text}: no such position");
     };
     let (Ok(solved), Ok(best)) = (answer(tables, p), best_move(tables, p)) else {
-        return writeln!(output, "{text}: its tier is not held");
+        return println!(rt; "{text}: its tier is not held");
     };
-    write!(output, "{text}: ")?;
-    output.write_all(value_text(solved).as_slice())?;
-    if let Some(m) = best {
-        output.write_all(b", by ")?;
-        output.write_all(G::move_text(p, m).as_slice())?;
+    let value = value_text(solved);
+    let value = str::from_utf8(value.as_slice()).unwrap_or("?");
+    match best {
+        Some(m) => {
+            let best = G::move_text(p, m);
+            let best = str::from_utf8(best.as_slice()).unwrap_or("?");
+            println!(rt; "{text}: {value}, by {best}")
+        }
+        None => println!(rt; "{text}: {value}"),
     }
-    output.write_all(b"\n")
 }
 
-// Builds the game by three workers over three shards, in pieces of eight notes.
-fn built<R: Threads + Wait + Files + Sync + AllocGlobal>(
+// The positions that are asked about.
+const TEXTS: &[&str] = &[".........", "x...o....", "xo.......", "xxx......"];
+
+// Prints what a build took and what its gate saw, and then the answers.
+fn tell<G: Shown, R: Print>(rt: &R, game: &Built<G>, seen: u64) -> io::Result<ExitCode> {
+    let (tiers, deliveries) = (game.solved, game.deliveries);
+    // What the coordinator did itself went through no gate.
+    let counted = seen >= deliveries.saturating_sub(game.by_hand);
+    println!(rt;
+        "{tiers} tiers, {deliveries} deliveries\nthe gate saw each delivery of a worker: {counted}"
+    )?;
+    for text in TEXTS {
+        say(rt, &game.tables, text)?;
+    }
+    Ok(ExitCode::SUCCESS)
+}
+
+// Builds a game by three workers over three shards, in pieces of eight notes.
+fn built<G: Game + Send + Sync, R: Threads + Wait + Files + Sync>(
     rt: &R,
+    alloc: Global,
     store: &mut MemStore,
     gate: &Tachometer,
-) -> Option<Built<TicTacToe>> {
+) -> Option<Built<G>> {
     let plan = Plan::new(3, 3, 8)?;
     if store.failures() == u64::MAX {
         return None;
     }
-    build(rt, rt.alloc(), store, plan, gate, &Backwards::new()).ok()
+    build(rt, alloc, store, plan, gate, &Backwards::new()).ok()
 }
 
 fn main(rt: HostRuntime) -> io::Result<ExitCode> {
-    let mut store = MemStore::new(rt.alloc());
+    let alloc = rt.alloc();
+    let mut store = MemStore::new(alloc);
     let gate = Tachometer::new();
-    let mut output = rt.stdout();
-    let Some(game) = built(&rt, &mut store, &gate) else {
-        writeln!(output, "not built")?;
-        return Ok(ExitCode::FAILURE);
-    };
-    writeln!(
-        output,
-        "{} tiers, {} deliveries",
-        game.solved, game.deliveries
-    )?;
-    // What the coordinator did itself went through no gate.
-    let counted = gate.deliveries() >= game.deliveries.saturating_sub(game.by_hand);
-    writeln!(output, "the gate saw each delivery of a worker: {counted}")?;
-    for text in [".........", "x...o....", "xo.......", "xxx......"] {
-        say(&mut output, &game.tables, text)?;
+    match built::<TicTacToe, HostRuntime>(&rt, alloc, &mut store, &gate) {
+        Some(game) => tell(&rt, &game, gate.deliveries()),
+        None => Ok(ExitCode::FAILURE),
     }
-    Ok(ExitCode::SUCCESS)
 }

@@ -6,7 +6,7 @@ use std::sync::Wait;
 use std::sync::atomic::{AtomicU64, AtomicUsize, Ordering};
 
 /// Hands out the pieces of a level from the last to the first.
-#[derive(Debug, Drop)]
+#[derive(Drop)]
 pub struct Backwards {
     left: AtomicUsize,
 }
@@ -32,7 +32,7 @@ impl Source for Backwards {
 }
 
 /// Counts the deliveries of the workers.
-#[derive(Debug, Drop)]
+#[derive(Drop)]
 pub struct Tachometer {
     deliveries: AtomicU64,
 }

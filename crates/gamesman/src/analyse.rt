@@ -26,22 +26,21 @@ pub fn analyse<
     let built = place.build::<G, R>(rt)?;
     let written = write_counts(rt.alloc(), &built, output);
     drop(built);
-    written?;
-    Ok(DONE)
+    written
 }
 
 fn write_counts<G: Shown, O: Write>(
     alloc: Global,
     built: &Built<G>,
     output: &mut O,
-) -> Result<(), Fault> {
+) -> Result<u8, Fault> {
     for tier in built.order.tiers() {
         if let Some(table) = built.tables.table(*tier) {
             let line = counts_line(alloc, table)?;
             output.write_all(line.as_bytes())?;
         }
     }
-    Ok(())
+    Ok(DONE)
 }
 
 // What is counted of a tier, as a line of JSON.

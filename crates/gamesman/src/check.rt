@@ -3,10 +3,10 @@
 use crate::fault::Fault;
 use crate::run::{DONE, REFUSED};
 use gm_build::inspect::inspect_tier;
+use gm_build::whole_line::write_line;
 use gm_entry::inspect::Inspected;
 use gm_game::game::Game;
 use gm_game::limits::TIER_SIZE;
-use gm_progress::whole_line::write_line;
 use gm_table::checker::CheckError;
 use gm_table::tables::Tables;
 use gm_tierdb::folder_store::FolderStore;

@@ -37,8 +37,7 @@ pub fn play<
     let built = place.build_from::<G, R>(rt, start.tier)?;
     let played = play_from(&built, start, asked, input, output);
     drop(built);
-    played?;
-    Ok(DONE)
+    played
 }
 
 // A session over the tables of all tiers that play from its start can come to.
@@ -48,7 +47,7 @@ fn play_from<G: Drawn, I: Read, O: Write>(
     asked: PlayAsked<'_>,
     input: &mut I,
     output: &mut O,
-) -> Result<(), Fault>
+) -> Result<u8, Fault>
     requires order { IsOrderFrom G.Game.rules start.tier built.now.order }
     requires held { HoldsExactly built.now.tables built.now.order }
     requires legal { G.Game.rules.is_legal start ≡ true }
@@ -58,5 +57,8 @@ fn play_from<G: Drawn, I: Read, O: Write>(
     } else {
         session(&built.tables, start, asked.first, input, output)
     };
-    Ok(ended?)
+    match ended {
+        Ok(()) => Ok(DONE),
+        Err(error) => Err(Fault::from(error)),
+    }
 }

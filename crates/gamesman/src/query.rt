@@ -30,20 +30,19 @@ pub fn query<
     let built = place.build_from::<G, R>(rt, tier)?;
     let written = write_value(&built.tables, position.as_bytes(), output);
     drop(built);
-    written?;
-    Ok(DONE)
+    written
 }
 
 fn write_value<G: Shown, O: Write>(
     tables: &Tables<G>,
     position: &[u8],
     output: &mut O,
-) -> Result<(), Fault> {
+) -> Result<u8, Fault> {
     // The position's own tier is among those that are built.
     let text = answer_text(tables, position).map_err(|_| Fault::NoSuchPosition)?;
     let mut line: ArrayVec<u8, ROOM> = ArrayVec::new();
     let _fits = line.try_extend_from_slice(text.as_slice());
     let _fits = line.try_extend_from_slice(b"\n");
     output.write_all(line.as_slice())?;
-    Ok(())
+    Ok(DONE)
 }

@@ -3,11 +3,11 @@
 use crate::explore::put;
 use crate::fault::Fault;
 use crate::games::{Streams, answer_for};
+use gm_build::whole_line::{FaultLine, write_line};
 use gm_command::asked::{Help, Unread, read_words, what_is_wrong};
 use gm_command::names::NAMES;
 use gm_command::pages::{Page, page_text};
 use gm_command::requests::{Asked, Reading};
-use gm_progress::whole_line::{FaultLine, write_line};
 use std::alloc::{AllocError, Global};
 use std::fs::Files;
 use std::io::{Read, Write};

@@ -4,9 +4,9 @@ use crate::explore::put;
 use crate::fault::Fault;
 use crate::run::DONE;
 use crate::tables::Place;
+use gm_analyse::bars::counts_text;
 use gm_build::build::Built;
 use gm_command::requests::{PositionsSought, Search};
-use gm_count::bars::counts_text;
 use gm_find::find_error::FindError;
 use gm_find::reached::Reached;
 use gm_find::rows::find_text;
@@ -34,8 +34,7 @@ pub fn search<
     let built = place.build_from::<G, R>(rt, first)?;
     let answered = answer(alloc, &built, asked, input, output);
     drop(built);
-    answered?;
-    Ok(DONE)
+    answered
 }
 
 fn answer<G: Shown, I: Read, O: Write>(
@@ -44,13 +43,21 @@ fn answer<G: Shown, I: Read, O: Write>(
     asked: Search,
     input: &mut I,
     output: &mut O,
-) -> Result<(), Fault> {
-    let text = match asked {
-        Search::Find(positions) => found(alloc, built, positions)?,
-        Search::Counts { reached } => counted(alloc, built, reached)?,
-        Search::Ask => return Ok(ask(alloc, &built.tables, input, output)?),
-    };
-    put(output, text.as_slice())
+) -> Result<u8, Fault> {
+    match asked {
+        Search::Find(positions) => written(found(alloc, built, positions), output),
+        Search::Counts { reached } => written(counted(alloc, built, reached), output),
+        Search::Ask => {
+            ask(alloc, &built.tables, input, output)?;
+            Ok(DONE)
+        }
+    }
+}
+
+// Writes a text, where there is one.
+fn written<O: Write>(text: Result<Vec<u8>, Fault>, output: &mut O) -> Result<u8, Fault> {
+    put(output, text?.as_slice())?;
+    Ok(DONE)
 }
 
 // The one tier that is asked about, which is one of the game; the initial one where all are.

@@ -1,3 +1,4 @@
+pub mod Listed
 pub mod Counting
 pub mod CountLists
 pub mod Lists

@@ -1,3 +1,5 @@
+pub mod Totals
+pub mod Bars
 pub mod Numbers
 pub mod Listing
 pub mod LongestWins

@@ -1,9 +1,13 @@
-//! The analysis of a tier: how many of its positions have each value and remoteness, and the longest win, with their text in JSON.
+//! How many positions have each value and remoteness: the analysis of a tier with its longest win, and its text in JSON, and the counts over all tiers of a
+//! game, of all canonical positions or of those that play from the start reaches.
 //!
 //! `specs/` has the definitions that contracts cite, and `proofs/` what follows from them.
 #![tactic(auto)]
 
 pub mod analysis;
+pub mod bars;
 pub mod counts;
 pub mod json;
 mod longest;
+mod numbers;
+pub mod totals;

@@ -1,4 +1,5 @@
-//! Builds a game: the true table of each tier that it reaches, child tiers first, over a store that keeps the tiers' files.
+//! Builds a game: the true table of each tier that it reaches, child tiers first, over a store that keeps the tiers' files; and what a build tells while it
+//! runs, with lines that are written whole (docs/PROGRAM.md).
 //!
 //! `specs/` has the definitions that contracts cite, and `proofs/` what follows from them.
 #![tactic(auto)]
@@ -7,5 +8,7 @@ pub mod build;
 pub mod build_error;
 mod found;
 pub mod inspect;
+pub mod progress;
 mod tier;
 pub mod watch;
+pub mod whole_line;

@@ -8,12 +8,12 @@ use Rattle.gm_board.specs.BoardMasks.{turned}
 use Rattle.gm_board.specs.Cells.{is_mine, is_theirs, cell_at, number_of}
 use Rattle.gm_board.specs.laws.CellCounts.{mine_turned, theirs_turned}
 use Rattle.gm_board.specs.laws.Lists.{and_left, and_right, and_both}
-use Rattle.gm_steps.specs.Steps.{from_point, to_point}
-use Rattle.gm_steps.specs.laws.StepFacts.{from_back, to_back}
+use Rattle.gm_pieces.specs.Steps.{from_point, to_point}
+use Rattle.gm_pieces.specs.laws.StepFacts.{from_back, to_back}
 use Rattle.gm_pieces.specs.MoveGames.{plays_on, goes_on, before_at}
 use Rattle.gm_pieces.specs.laws.MoveLaws.{before_some, before_none}
-use Rattle.gm_sides.specs.Sides.{WasStep, gone, brought_back}
-use Rattle.gm_sides.specs.laws.MoveFacts.{step_left, gone_again}
+use Rattle.gm_pieces.specs.Sides.{WasStep, gone, brought_back}
+use Rattle.gm_pieces.specs.laws.MoveFacts.{step_left, gone_again}
 use Rattle.gm_dao.specs.DaoRules.{has_formation, has_trapped, legal, over, in_line, slides, can_move, was_moved, taken_back, dao}
 use Rattle.gm_dao.specs.MaskSlides.{is_open}
 use Rattle.gm_dao.specs.laws.BoardFacts.{formation_turned, formation_left, legal_in, legal_from}

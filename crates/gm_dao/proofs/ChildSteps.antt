@@ -14,12 +14,12 @@ use Rattle.gm_board.specs.laws.CellCounts.{mine_turned, theirs_turned}
 use Rattle.gm_board.specs.Masks.{has_cell}
 use Rattle.gm_board.specs.NextCells.{none_left}
 use Rattle.gm_board.specs.Images.{board_of}
-use Rattle.gm_steps.specs.laws.StepFacts.{from_back, to_back}
+use Rattle.gm_pieces.specs.laws.StepFacts.{from_back, to_back}
 use Rattle.gm_pieces.specs.MoveGames.{board_game, steps, moves_by}
 use Rattle.gm_pieces.specs.MoveChildren.{position_after, AreChildrenBelow}
 use Rattle.gm_pieces.specs.laws.ChildFacts.{children_skip, child_more, all_children, all_are_moves}
-use Rattle.gm_sides.specs.Sides.{IsStep, gone}
-use Rattle.gm_sides.specs.laws.MoveFacts.{step_left}
+use Rattle.gm_pieces.specs.Sides.{IsStep, gone}
+use Rattle.gm_pieces.specs.laws.MoveFacts.{step_left}
 use Rattle.gm_dao.specs.DaoRules.{can_move, over, play, legal, dao}
 use Rattle.gm_dao.specs.laws.BoardFacts.{legal_in}
 use Rattle.gm_dao.specs.laws.MoveFacts.{slide_step}

@@ -15,9 +15,9 @@ use Rattle.gm_board.specs.declared.cell.Cell.{Cell}
 use Rattle.gm_board.specs.Masks.{has_cell, weight}
 use Rattle.gm_board.specs.NextCells.{rest_all, next_cell, cell_below, none_left}
 use Rattle.gm_board.specs.Images.{board_of}
-use Rattle.gm_steps.specs.Steps.{from_point, to_point}
-use Rattle.gm_steps.specs.laws.StepFacts.{from_back, to_back}
-use Rattle.gm_steps.specs.laws.Skipped.{filter_skip, puts_skip}
+use Rattle.gm_pieces.specs.Steps.{from_point, to_point}
+use Rattle.gm_pieces.specs.laws.StepFacts.{from_back, to_back}
+use Rattle.gm_pieces.specs.laws.Skipped.{filter_skip, puts_skip}
 use Rattle.gm_board.specs.laws.Filters.{filter_in}
 use Rattle.gm_board.specs.laws.Lists.{contains_range}
 use Rattle.gm_board.specs.laws.MaskChanges.{has_and}
@@ -29,7 +29,7 @@ use Rattle.gm_dao.specs.DaoRules.{in_line, path, beyond, can_move, was_moved, le
 use Rattle.gm_dao.specs.MaskSlides.{slides_by_masks, AreMovesBelow, AreBeforesBelow}
 use Rattle.gm_dao.specs.laws.MoveFacts.{move_slide, line_below}
 use Rattle.gm_dao.specs.laws.BeforeFacts.{was_in}
-use Rattle.gm_sides.specs.laws.MaskFacts.{own_cells, their_cells}
+use Rattle.gm_pieces.specs.laws.MaskFacts.{own_cells, their_cells}
 use Rattle.gm_dao.proofs.MoveSteps.{and_one, slides_by, move_by}
 
 -- ---- moves

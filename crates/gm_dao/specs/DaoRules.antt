@@ -10,9 +10,9 @@ use Rattle.gm_board.specs.Arrangements.{arrangements}
 use Rattle.gm_board.specs.Patterns.{fills, has_filled}
 use Rattle.gm_board.specs.Permutations.{permute}
 use Rattle.gm_board.specs.Squares.{cell_in, square_symmetries}
-use Rattle.gm_steps.specs.Steps.{from_point, to_point}
+use Rattle.gm_pieces.specs.Steps.{from_point, to_point}
 use Rattle.gm_board.specs.Cells.{is_mine, is_theirs, is_empty, is_taken, cell_at, number_of}
-use Rattle.gm_sides.specs.Sides.{gone, brought_back, board_index, board_numbered, least_index_under}
+use Rattle.gm_pieces.specs.Sides.{gone, brought_back, board_index, board_numbered, least_index_under}
 use Rattle.gm_pieces.specs.MoveGames.{MoveGame, move_rules}
 
 -- ---- rows and columns

@@ -2,8 +2,8 @@
 use Rattle.std.specs.Prelude.{ℕ, List, ◌∷◌, ◌++◌}
 use Rattle.gm_game.specs.declared.position.Position.{Position}
 use Rattle.gm_board.specs.Squares.{cell_text}
-use Rattle.gm_sides.specs.SideTexts.{board_text}
-use Rattle.gm_steps.specs.Steps.{from_point, to_point}
+use Rattle.gm_pieces.specs.SideTexts.{board_text}
+use Rattle.gm_pieces.specs.Steps.{from_point, to_point}
 use Rattle.gm_dao.specs.DaoRules.{board_at}
 
 -- the text of a move: the cell that a piece leaves, `-` and the cell to which it goes

@@ -13,7 +13,7 @@ use crate::slides::{can_slide, goals};
 use arrayvec::ArrayVec;
 use gm_game::limits::MOVES;
 use gm_game::position::End;
-use gm_steps::step::Step;
+use gm_pieces::step::Step;
 
 /// The number of pieces of each side.
 pub const PIECES: u32 = 4;

@@ -6,7 +6,7 @@ ghost use Rattle.std.specs.Prelude.{◌≡◌, ◌<◌, ◌≤◌, ◌+◌, ◌*
 ghost use Rattle.gm_game.specs.Ascending.{put_all};
 ghost use Rattle.gm_board.specs.Images.{board_of};
 ghost use Rattle.gm_board.specs.Cells.{is_empty, cell_at};
-ghost use Rattle.gm_sides.specs.Sides.{WasStep};
+ghost use Rattle.gm_pieces.specs.Sides.{WasStep};
 ghost use Rattle.gm_pieces.specs.MoveGames.{goes_on as goes_on_of, before_at, befores};
 ghost use Rattle.gm_dao.specs.DaoRules.{was_moved as was_moved_of, taken_back as taken_back_of, legal, slides as slides_of, least_index_of, dao};
 ghost use Rattle.gm_dao.specs.MaskSlides.{is_open as is_open_of, AreBeforesBelow};
@@ -16,8 +16,8 @@ use crate::moves::{can_move, has_own_formation, is_legal_board, is_trapped, over
 use crate::slides::{are_in_line, can_slide, in_line_with};
 use arrayvec::ArrayVec;
 use gm_game::limits::PARENTS;
-use gm_steps::ascending::put;
-use gm_steps::step::Step;
+use gm_pieces::ascending::put;
+use gm_pieces::step::Step;
 
 /// The mask of the sixteen cells.
 const CELLS: u32 = 0xffff;

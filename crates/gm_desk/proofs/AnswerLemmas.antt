@@ -10,8 +10,8 @@ use Rattle.gm_deliveries.specs.declared.status.Delivery.{Delivery}
 use Rattle.gm_deliveries.specs.declared.status.Delivery.TheVariants.{Fresh, FreshSettled, Repeat}
 use Rattle.gm_deliveries.specs.declared.status.Refused.{Refused}
 use Rattle.gm_deliveries.specs.Delivery.{IsPlaceOf}
-use Rattle.gm_pass.specs.Spots.{Spot, gain, IsAnswer, IsDeliveryAt}
-use Rattle.gm_pass.specs.Parts.{Part}
+use Rattle.gm_desk.specs.Spots.{Spot, gain, IsAnswer, IsDeliveryAt}
+use Rattle.gm_desk.specs.Parts.{Part}
 use Rattle.gm_desk.specs.Batches.{ArePlaced, IsAnswerAt, AreAnswers}
 
 -- one pair more

@@ -1,6 +1,6 @@
 -- Parts of four ledgers, and their amounts.
 use Rattle.std.specs.Prelude.{ℕ, ◌+◌, ◌-◌, ◌==◌, if◌then◌else◌}
-use Rattle.gm_pass.specs.Spots.{choose}
+use Rattle.gm_desk.specs.Spots.{choose}
 
 -- the same number of parts of each of four ledgers, and the amount of each
 pub record Amounts : Type 0 where

@@ -6,7 +6,7 @@ use Rattle.gm_frontier.specs.Notes.{NoteData}
 use Rattle.gm_deliveries.specs.declared.status.Delivery.{Delivery}
 use Rattle.gm_deliveries.specs.declared.status.Refused.{Refused}
 use Rattle.gm_deliveries.specs.Delivery.{IsPlaceOf}
-use Rattle.gm_pass.specs.Spots.{Spot, gain, IsAnswer, IsDeliveryAt}
+use Rattle.gm_desk.specs.Spots.{Spot, gain, IsAnswer, IsDeliveryAt}
 
 -- each pair of a note and a parent has with it the place of the note's position among the parent's children
 pub record ArePlaced (r : Rules) (tier : ℕ) (pairs : List (NoteData × ℕ × Option ℕ)) : Type 0 where

@@ -1,2 +1,6 @@
+pub mod Spots
+pub mod Parts
+pub mod Rounds
+pub mod Begun
 pub mod Amounts
 pub mod Batches

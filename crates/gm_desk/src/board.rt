@@ -2,16 +2,16 @@
 ghost use Rattle.std.specs.Prelude.{◌≡◌, ◌+◌, ◌^◌, ◌-◌, ◌<◌, ◌≤◌, min};
 ghost use Rattle.gm_deliveries.specs.State.{pairs_in};
 ghost use Rattle.gm_deliveries.specs.Delivery.{IsPlaceOf};
-ghost use Rattle.gm_pass.specs.Spots.{spot_of, choose, gain, AreFourTiles, IsWithin, IsAnswer, IsDeliveryAt};
+ghost use Rattle.gm_desk.specs.Spots.{spot_of, choose, gain, AreFourTiles, IsWithin, IsAnswer, IsDeliveryAt};
 ghost use Rattle.gm_desk.specs.Amounts.{Amounts, one_part, amount_of, raised, joined, split_of};
 ghost use Rattle.gm_desk.specs.Batches.{ArePlaced, AreAnswers};
 
 use crate::held::Held;
+use crate::share::{Desk, Share};
 use gm_deliveries::place::place_of;
 use gm_deliveries::status::{Delivery, Refused};
 use gm_frontier::note::Note;
 use gm_game::game::Game;
-use gm_pass::share::{Desk, Share};
 use gm_shard::shard::Shard;
 use std::marker::Model;
 use std::sync::ledger::Blank;

@@ -3,14 +3,14 @@ ghost use Rattle.std.specs.Prelude.{◌≡◌, ◌+◌, ◌<◌, ◌≤◌};
 ghost use Rattle.gm_deliveries.specs.State.{pairs_in};
 ghost use Rattle.gm_deliveries.specs.Good.{IsGood};
 ghost use Rattle.gm_deliveries.specs.Delivery.{IsPlaceOf, Delivers};
-ghost use Rattle.gm_pass.specs.Spots.{spot_of, gain, IsAnswer, IsDeliveryAt};
+ghost use Rattle.gm_desk.specs.Spots.{spot_of, gain, IsAnswer, IsDeliveryAt};
 ghost use Rattle.gm_desk.specs.Batches.{ArePlaced, AreAnswers};
 
+use crate::share::{Desk, Share, gained};
 use gm_deliveries::place::place_of;
 use gm_deliveries::status::{Delivery, Refused};
 use gm_frontier::note::Note;
 use gm_game::game::Game;
-use gm_pass::share::{Desk, Share, gained};
 use gm_shard::shard::Shard;
 use std::marker::Model;
 use std::sync::ledger::Book;
@@ -25,8 +25,8 @@ pub struct Held<G: Game, L: Desk> {
 impl<G: Game, L: Desk> Model for Held<G, L> {
     ghost use Rattle.std.specs.Prelude.{◌≡◌};
     ghost use Rattle.gm_deliveries.specs.State.{pairs_in};
-    ghost use Rattle.gm_pass.specs.Spots.{spot_of};
-    ghost use Rattle.gm_pass.specs.Parts.{HeldData};
+    ghost use Rattle.gm_desk.specs.Spots.{spot_of};
+    ghost use Rattle.gm_desk.specs.Parts.{HeldData};
 
     ghost Value = { HeldData };
 

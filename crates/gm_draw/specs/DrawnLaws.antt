@@ -11,7 +11,7 @@ use Rattle.gm_game.specs.Shown.{IsShown}
 use Rattle.gm_game.proofs.BoardLaws.{legal_board}
 use Rattle.gm_board.specs.laws.Lists.{contains_range}
 use Rattle.gm_board.specs.Permutations.{all_at}
-use Rattle.gm_sides.specs.laws.TextFacts.{text_length}
+use Rattle.gm_pieces.specs.laws.SideTextFacts.{text_length}
 use Rattle.gm_pieces.specs.MoveGames.{board_game}
 use Rattle.gm_morris.specs.declared.variant.Variant.{Variant}
 use Rattle.gm_morris.specs.declared.variant.Variant.TheVariants.{TicTacToe, ThreeMens, Achi}

@@ -9,7 +9,7 @@ use crate::level::Level;
 use crate::pairs::Pairs;
 use gm_game::game::Game;
 use gm_game::position::Place;
-use gm_tally::tile::count_index;
+use gm_record::tile::count_index;
 use std::alloc::{AllocError, Global};
 use std::marker::{Model, PhantomData};
 

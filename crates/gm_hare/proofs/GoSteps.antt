@@ -1,7 +1,7 @@
 -- The tests of a move, one after the other, and the boards after and before it.
 use Rattle.std.proofs.Common.{◌≡◌, ℕ, Bool, true, false, ◌&&◌, if◌then◌else◌, eqb, sym, ap, ap₂, ◌∙◌}
 use Rattle.std.proofs.lemmas.Bool.{cond-true, cond-false}
-use Rattle.gm_steps.specs.Steps.{from_point, to_point}
+use Rattle.gm_pieces.specs.Steps.{from_point, to_point}
 use Rattle.gm_hare.specs.declared.hunt.Hunt.{Hunt}
 use Rattle.gm_hare.specs.Board.{are_joined, is_ahead, is_free, has_hound, can_go, can_move, hound_gone, hare_gone, play, can_have_gone, was_moved, hound_back, hare_back, taken_back}
 

@@ -6,7 +6,7 @@ use Rattle.gm_game.specs.declared.position.End.TheVariants.{Lose, Win}
 use Rattle.gm_game.specs.Rules.{Rules}
 use Rattle.gm_board.specs.Ranks.{members, rank, unrank}
 use Rattle.gm_board.specs.Permutations.{permute}
-use Rattle.gm_steps.specs.Steps.{from_point, to_point}
+use Rattle.gm_pieces.specs.Steps.{from_point, to_point}
 use Rattle.gm_pieces.specs.MoveGames.{MoveGame, move_rules}
 use Rattle.gm_hare.specs.declared.hunt.Hunt.{Hunt}
 

@@ -5,7 +5,7 @@ ghost use Rattle.gm_hare.specs.Board.{is_free as is_free_of, can_go as can_go_of
 
 use crate::hunt::Hunt;
 use crate::points::{are_joined, is_ahead};
-use gm_steps::step::Step;
+use gm_pieces::step::Step;
 
 /// All numbers of moves are below this.
 pub const NUMBERS: u32 = 176;

@@ -8,7 +8,7 @@ use crate::hunt::Hunt;
 use arrayvec::ArrayVec;
 use gm_game::shown::Line;
 use gm_game::text::push_text;
-use gm_steps::step::Step;
+use gm_pieces::step::Step;
 
 // The byte at a place of a board's text: for each point what is there, then a space, then who moves.
 fn hunt_byte(board: &Hunt, place: usize) -> u8

@@ -18,8 +18,8 @@ use Rattle.gm_morris.specs.Points.{last_tier, lines, joins}
 use Rattle.gm_board.specs.Cells.{cell_at, is_mine, is_theirs}
 use Rattle.gm_morris.specs.Morris.{mine, theirs, has_line, legal, numbers_end, was_moved, size_of, board_at, morris}
 use Rattle.gm_board.specs.laws.Turned.{turned_cell}
-use Rattle.gm_sides.specs.laws.NumberFacts.{board_numbers}
-use Rattle.gm_sides.specs.laws.MaskFacts.{own_patterns, their_patterns}
+use Rattle.gm_pieces.specs.laws.NumberFacts.{board_numbers}
+use Rattle.gm_pieces.specs.laws.MaskFacts.{own_patterns, their_patterns}
 use Rattle.gm_morris.specs.laws.PointFacts.{joined_within}
 use Rattle.gm_morris.specs.laws.MoveFacts.{IsSlide, IsPlacement, step_cases, last_end, other_end}
 use Rattle.gm_morris.specs.laws.BeforeFacts.{WasSlide, WasPlacement, was_cases}

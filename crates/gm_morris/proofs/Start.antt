@@ -7,7 +7,7 @@ use Rattle.gm_board.specs.Arrangements.{arrangement_index}
 use Rattle.gm_board.specs.Binomials.{binomial}
 use Rattle.gm_pieces.specs.MoveGames.{board_game}
 use Rattle.gm_morris.specs.declared.variant.Variant.{Variant}
-use Rattle.gm_sides.specs.Sides.{board_index}
+use Rattle.gm_pieces.specs.Sides.{board_index}
 use Rattle.gm_morris.specs.Morris.{morris}
 use Rattle.gm_morris.specs.laws.MorrisLaws.{no_pieces}
 

@@ -11,7 +11,7 @@ use Rattle.gm_board.specs.Patterns.{has_filled}
 use Rattle.gm_board.specs.Permutations.{permute}
 use Rattle.gm_board.specs.Squares.{square_symmetries}
 use Rattle.gm_board.specs.Cells.{is_mine, is_theirs, is_empty, cell_at, number_of}
-use Rattle.gm_sides.specs.Sides.{brought_back, board_index, board_numbered, least_index_under}
+use Rattle.gm_pieces.specs.Sides.{brought_back, board_index, board_numbered, least_index_under}
 use Rattle.gm_pieces.specs.MoveGames.{MoveGame, move_rules}
 use Rattle.gm_morris.specs.declared.variant.Variant.{Variant}
 use Rattle.gm_morris.specs.Points.{variant_of, name_of, last_tier, stuck, lines, joins}

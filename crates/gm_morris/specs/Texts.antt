@@ -2,7 +2,7 @@
 use Rattle.std.specs.Prelude.{ℕ, ◌==◌, List, ◌∷◌, ◌++◌, if◌then◌else◌}
 use Rattle.gm_game.specs.declared.position.Position.{Position}
 use Rattle.gm_board.specs.Squares.{cell_text}
-use Rattle.gm_sides.specs.SideTexts.{board_text}
+use Rattle.gm_pieces.specs.SideTexts.{board_text}
 use Rattle.gm_morris.specs.declared.variant.Variant.{Variant}
 use Rattle.gm_morris.specs.Points.{variant_of, last_tier}
 use Rattle.gm_morris.specs.Morris.{from_point, to_point, board_at}

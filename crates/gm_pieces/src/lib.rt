@@ -1,9 +1,14 @@
-//! Games with numbered moves: what such a game must give, and the calls of `Game` that follow from it.
+//! Games with pieces: boards on which two sides have some, with their texts, steps from point to point, and what a game with numbered moves must give for the
+//! calls of `Game` to follow from it (docs/GAMES.md, Common forms).
 #![tactic(auto)]
 
+pub mod ascending;
+pub mod board;
 pub mod boards;
 pub mod lists;
 pub mod moves;
 pub mod on_boards;
 pub mod rules;
+pub mod step;
+pub mod text;
 pub mod texts;

@@ -4,10 +4,10 @@ ghost use Rattle.gm_game.specs.Ascending.{put_all};
 ghost use Rattle.gm_game.specs.Boards.{least_index as least_index_of};
 ghost use Rattle.gm_pieces.specs.MoveGames.{board_game, plays_on as plays_on_of, steps, goes_on as goes_on_of, before_at, befores};
 
+use crate::ascending::put;
 use crate::rules::MoveRules;
 use arrayvec::ArrayVec;
 use gm_game::limits::{MOVES, PARENTS};
-use gm_steps::ascending::put;
 
 /// Whether the last move has not ended the game.
 pub fn plays_on<T: MoveRules>(board: T::Board) -> bool

@@ -32,9 +32,9 @@ use Rattle.gm_deliveries.specs.Delivery.{IsPairHere, IsSettledNow, Delivers}
 use Rattle.gm_deliveries.proofs.StatusLemmas.{settled_same}
 use Rattle.gm_deliveries.specs.Steps.{place_of}
 use Rattle.gm_solver.specs.Solving.{IsTooFar}
-use Rattle.gm_pass.specs.Spots.{IsDeliverable}
+use Rattle.gm_desk.specs.Spots.{IsDeliverable}
 use Rattle.gm_solver.specs.Covered.{IsCovered}
-use Rattle.gm_pass.proofs.Places.{value_stands, stands_remoteness}
+use Rattle.gm_desk.proofs.Places.{value_stands, stands_remoteness}
 
 -- the children delivered to an inner position of a good shard, at its place
 reached_good : (r : Rules) (s : ShardState) → IsGood r s → (i : ℕ) → IsInRange s i → IsInner r (at s.tier i) → AreReached r (at s.tier i) s.phase s.level (In (delivered_to s i))

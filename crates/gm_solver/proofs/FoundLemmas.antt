@@ -1,5 +1,5 @@
 -- Tallies at the numbers of their pieces.
-use Rattle.std.proofs.Common.{◌≡◌, ◌≢◌, ℕ, zero, suc, ◌+◌, List, [], ◌∷◌, ◌++◌, length, map, replicate, Option, None, Some, slice_get, set, refl, sym, ap, subst, ◌∙◌, inl, inr, arith, length-set}
+use Rattle.std.proofs.Common.{◌≡◌, ◌≢◌, ℕ, zero, suc, ◌+◌, List, [], ◌∷◌, ◌++◌, length, replicate, Option, None, Some, slice_get, set, refl, sym, ap, subst, ◌∙◌, inl, inr, arith, length-set}
 use Rattle.std.specs.List.{Contains}
 use Rattle.std.specs.Int.{div_ceil}
 use Rattle.std.proofs.lemmas.Bool.{cases_eq}
@@ -8,7 +8,8 @@ use Rattle.std.proofs.lemmas.List.Elements.{Contains-push_cases}
 use Rattle.gm_frontier.specs.Levels.{LevelData}
 use Rattle.gm_frontier.specs.Tallies.{TallyData, numbers_from}
 use Rattle.gm_frontier.proofs.TalliedLemmas.{numbers_push}
-use Rattle.gm_solver.specs.Found.{AreFound, IsTallyAt}
+use Rattle.gm_solver.specs.Tiling.{AreAllTallies}
+use Rattle.gm_solver.specs.Found.{AreFound, AreSoFar, AreFilled, IsTallyAt}
 
 -- an entry more without a tally
 pub none_more : (n : ℕ) → replicate {A = Option TallyData} n None ++ None ∷ [] ≡ replicate (n + 1) None
@@ -52,31 +53,17 @@ found_more level n width found t h is = record {
   ];
 }
 
--- the entries of the pieces from a number on
-pub record AreFoundFrom (level : LevelData) (n width from : ℕ) (found : List (Option TallyData)) : Type 0 where
-  pub whole : from + length found ≡ div_ceil (length level.notes) n
-  pub each : (k : ℕ) (t : TallyData) → slice_get found k ≡ Some (Some t) → IsTallyAt level n width (from + k) t
-
-pub found_from : (level : LevelData) (n width : ℕ) (found : List (Option TallyData)) → AreFound level n width found → AreFoundFrom level n width 0 found
-found_from level n width found h = record {
-  whole = (let e = h.whole in omega arith);
-  each = λ k t e. (let (a, b, c, d) = h.each k t e in (a, b, c, omega arith));
+-- one fewer
+pub found_less : (level : LevelData) (n width : ℕ) (found : List (Option TallyData)) (i : ℕ) (o : Option TallyData) → o ≡ None → AreFound level n width found → AreFound level n width (set found i o)
+found_less level n width found i o none h = record {
+  whole = length-set found i o ∙ h.whole;
+  each = λ k t e. elim (cases_eq k i) [
+    | inl q ↦ absurd (let same : o ≡ Some t = set_same found i o (Some t) (subst (λ (j : ℕ). slice_get (set found i o) j ≡ Some (Some t)) q e) in let no : None ≡ Some t = sym none ∙ same in cc)
+    | inr d ↦ h.each k t (set_other found i k o (Some t) d e)
+  ];
 }
 
-pub from_first : (level : LevelData) (n width from : ℕ) (o : Option TallyData) (rest : List (Option TallyData)) → AreFoundFrom level n width from (o ∷ rest) → (t : TallyData) → o ≡ Some t → IsTallyAt level n width from t
-from_first level n width from o rest h t e = (let (a, b, c, d) = h.each 0 t (ap Some e) in (a, b, c, omega arith))
-
-pub from_next : (level : LevelData) (n width from : ℕ) (o : Option TallyData) (rest : List (Option TallyData)) → AreFoundFrom level n width from (o ∷ rest) → AreFoundFrom level n width (from + 1) rest
-from_next level n width from o rest h = record {
-  whole = (let e = h.whole in omega arith);
-  each = λ k t e. (let (a, b, c, d) = h.each (suc k) t e in (a, b, c, omega arith));
-}
-
--- the tallies so far, in order
-pub record AreSoFar (level : LevelData) (n width : ℕ) (tallies : List TallyData) : Type 0 where
-  pub alike : (t : TallyData) → Contains tallies t → (t.place ≡ level.place) × (t.n ≡ n) × (t.width ≡ width)
-  pub pieces : map (λ t. t.piece) tallies ≡ numbers_from 0 (length tallies)
-
+-- no tally, and one more
 pub none_so_far : (level : LevelData) (n width : ℕ) (tallies : List TallyData) → tallies ≡ [] → AreSoFar level n width tallies
 none_so_far level n width tallies e = subst (AreSoFar level n width) (sym e) (record { alike = λ t h. absurd (no_item t h); pieces = refl })
   where
@@ -94,3 +81,20 @@ one_so_far level n width tallies t h is = record {
   where
     last : numbers_from 0 (length tallies) ++ t.piece ∷ [] ≡ numbers_from 0 (length tallies + 1)
     last = (let here : t.piece ≡ 0 + length tallies = (let e = is.3 in omega arith) in ap (λ (m : ℕ). numbers_from 0 (length tallies) ++ m ∷ []) here ∙ sym (numbers_push 0 (length tallies)))
+
+-- one more piece has its tally, whether it was found or not
+pub filled_more : (level : LevelData) (n width k : ℕ) (found : List (Option TallyData)) (tallies more : List TallyData) (t : TallyData) (o : Option TallyData) → AreFilled level n width k found tallies → o ≡ None → IsTallyAt level n width k t → more ≡ tallies ++ t ∷ []
+    → AreFilled level n width (k + 1) (set found k o) more
+filled_more level n width k found tallies more t o h none is e = record {
+  found_are = found_less level n width found k o none h.found_are;
+  so_far = subst (AreSoFar level n width) (sym e) (one_so_far level n width tallies t h.so_far (subst (λ (j : ℕ). IsTallyAt level n width j t) (sym h.count) is));
+  count = (let a = ap length e in let b = length-append tallies (t ∷ []) in let c = h.count in omega arith);
+}
+
+-- when all pieces have theirs
+pub filled_all : (level : LevelData) (n width k : ℕ) (found : List (Option TallyData)) (tallies : List TallyData) → AreFilled level n width k found tallies → k ≡ length found → AreAllTallies level n width tallies
+filled_all level n width k found tallies h e =
+    let whole = h.found_are.whole in
+    let count = h.count in
+    let all : length tallies ≡ div_ceil (length level.notes) n = omega arith in
+    record { alike = h.so_far.alike; pieces = h.so_far.pieces ∙ ap (numbers_from 0) all }

@@ -25,9 +25,9 @@ use Rattle.gm_deliveries.specs.State.{ShardState}
 use Rattle.gm_deliveries.specs.Begin.{first_state}
 use Rattle.gm_deliveries.specs.Good.{IsGood}
 use Rattle.gm_deliveries.specs.Steps.{next_level, first_ties}
-use Rattle.gm_pass.specs.Spots.{Spot, spot_of}
-use Rattle.gm_pass.specs.Rounds.{pairs_into, place_of_spot, HasNoneHere, IsLevelAt}
-use Rattle.gm_pass.proofs.RoundLemmas.{item_in}
+use Rattle.gm_desk.specs.Spots.{Spot, spot_of}
+use Rattle.gm_desk.specs.Rounds.{pairs_into, place_of_spot, HasNoneHere, IsLevelAt}
+use Rattle.gm_desk.proofs.RoundLemmas.{item_in}
 
 -- the pairs of a level into a spot's range
 module _ (r : Rules) (g : IsGame r) (spot : Spot) (notes : List NoteData) (level : IsLevel r (place_of_spot spot) notes) where

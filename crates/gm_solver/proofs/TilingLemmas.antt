@@ -25,7 +25,7 @@ use Rattle.gm_deliveries.specs.Good.{IsGood}
 use Rattle.gm_deliveries.specs.Steps.{place_of}
 use Rattle.gm_deliveries.specs.Closing.{ArePart}
 use Rattle.gm_desk.specs.declared.board.Four.{Four}
-use Rattle.gm_pass.specs.Spots.{Spot, spot_of, AreFourTiles}
+use Rattle.gm_desk.specs.Spots.{Spot, spot_of, AreFourTiles}
 use Rattle.gm_solver.specs.Covered.{IsCovered}
 use Rattle.gm_solver.specs.Tiling.{IsWide, tile_at, spot_counted, AreShardsAt, AreCountsAt, AreAllTallies, IsFreshRun}
 use Rattle.gm_solver.proofs.Final.{whole_part}

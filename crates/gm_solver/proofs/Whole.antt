@@ -26,9 +26,9 @@ use Rattle.gm_deliveries.specs.Delivery.{IsPairHere, Delivers}
 use Rattle.gm_deliveries.specs.Steps.{place_of, IsWhole}
 use Rattle.gm_deliveries.specs.declared.status.Short.{Short}
 use Rattle.gm_deliveries.specs.Closing.{Closes}
-use Rattle.gm_pass.specs.Spots.{IsSameSpot, IsDeliverable}
-use Rattle.gm_pass.proofs.Places.{split_level}
-use Rattle.gm_pass.proofs.Kept.{stays_delivered, new_delivered}
+use Rattle.gm_desk.specs.Spots.{IsSameSpot, IsDeliverable}
+use Rattle.gm_desk.proofs.Places.{split_level}
+use Rattle.gm_desk.proofs.Kept.{stays_delivered, new_delivered}
 
 -- the whole list is the first piece, where a piece is as long
 pub whole_piece : (notes : List NoteData) (n : ℕ) → length notes ≤ n → piece_of 0 n notes ≡ notes

@@ -3,9 +3,9 @@ ghost use Rattle.std.specs.Prelude.{◌≡◌, ◌≤◌, List, length, IsTrue};
 ghost use Rattle.gm_deliveries.specs.Delivery.{IsPlaceOf};
 ghost use Rattle.gm_desk.specs.Batches.{ArePlaced};
 
+use gm_desk::share::Desk;
 use gm_frontier::note::Note;
 use gm_game::game::Game;
-use gm_pass::share::Desk;
 use std::alloc::{AllocError, Global};
 use std::marker::{Model, PhantomData};
 

@@ -1,15 +1,15 @@
 //! The tallies of a level's pieces: those that workers hand back, and the others, which the coordinator finds by its own walk.
-ghost use Rattle.std.specs.Prelude.{◌≡◌, IfOk, IfSome, IsTrue};
+ghost use Rattle.std.specs.Prelude.{◌≡◌, ◌+◌, ◌<◌, [], length, IfOk, OnOk, IsTrue};
 ghost use Rattle.gm_solver.specs.Tiling.{AreAllTallies};
-ghost use Rattle.gm_solver.specs.Found.{AreFound, IsTallyAt};
+ghost use Rattle.gm_solver.specs.Found.{AreFound, AreFilled};
 
 use crate::gate::NoGate;
 use crate::pieces::Pieces;
-use crate::work::walk;
-use gm_desk::board::{Board, Shares};
+use crate::work::Walker;
+use gm_desk::board::Shares;
+use gm_desk::share::Desk;
 use gm_frontier::tally::Tally;
 use gm_game::game::Game;
-use gm_pass::share::Desk;
 use std::alloc::{AllocError, Global};
 use std::sync::Wait;
 
@@ -53,45 +53,41 @@ pub(crate) fn keep_all<G: Game>(
     }
 }
 
-// The tally of a piece: the one that a worker found, or else the one that the coordinator finds by its own walk.
-fn found_or_walked<G: Game, A: Desk, B: Desk, C: Desk, D: Desk, R: Wait>(
-    rt: &R,
-    alloc: Global,
-    board: &Board<G, A, B, C, D>,
-    pieces: &Pieces<G>,
-    found: Option<Tally<G>>,
+// Puts the tally of a piece behind those of the pieces before it: the one that a worker found, or else the one that the coordinator finds by its own walk.
+fn fill_one<G: Game, A: Desk, B: Desk, C: Desk, D: Desk, R: Wait>(
+    walker: &Walker<G, A, B, C, D, R, NoGate>,
     piece: usize,
+    found: &mut Vec<Option<Tally<G>>>,
     rest: &mut Shares<A, B, C, D>,
-) -> Result<Tally<G>, AllocError>
-    requires tier { A.spot.tier ≡ pieces.now.level.now.place.tier }
-    requires found { IfSome found (IsTallyAt pieces.now.level.now pieces.now.notes pieces.now.width piece) }
+    tallies: &mut Vec<Tally<G>>,
+) -> Result<(), AllocError>
+    requires piece { piece < length found.old.items }
+    requires filled { AreFilled walker.now.pieces.now.level.now walker.now.pieces.now.notes walker.now.pieces.now.width piece found.old.items tallies.old.items }
     ensures parts { rest.new.parts ≡ rest.old.parts }
-    ensures tally { IfOk result (IsTallyAt pieces.now.level.now pieces.now.notes pieces.now.width piece) }
+    ensures filled { OnOk result (AreFilled walker.now.pieces.now.level.now walker.now.pieces.now.notes walker.now.pieces.now.width (piece + 1) found.new.items tallies.new.items) }
 {
-    match found {
-        Some(tally) => Ok(tally),
-        None => walk(rt, alloc, board, pieces, &NoGate, 0, piece, rest),
+    if let Some(tally) = found[piece].take() {
+        tallies.push(tally)?;
+        return Ok(());
     }
+    tallies.push(walker.walk(piece, rest)?)?;
+    Ok(())
 }
 
-/// The tallies of all pieces, in order: the coordinator walks those that have none.
+/// Puts the tallies of all pieces into an empty list, in order: the coordinator walks those that have none. What was found is taken.
 pub(crate) fn fill<G: Game, A: Desk, B: Desk, C: Desk, D: Desk, R: Wait>(
-    rt: &R,
-    alloc: Global,
-    board: &Board<G, A, B, C, D>,
-    pieces: &Pieces<G>,
-    found: Vec<Option<Tally<G>>>,
+    walker: &Walker<G, A, B, C, D, R, NoGate>,
+    found: &mut Vec<Option<Tally<G>>>,
     rest: &mut Shares<A, B, C, D>,
-) -> Result<Vec<Tally<G>>, AllocError>
-    requires tier { A.spot.tier ≡ pieces.now.level.now.place.tier }
-    requires found { AreFound pieces.now.level.now pieces.now.notes pieces.now.width found.items }
+    tallies: &mut Vec<Tally<G>>,
+) -> Result<(), AllocError>
+    requires found { AreFound walker.now.pieces.now.level.now walker.now.pieces.now.notes walker.now.pieces.now.width found.old.items }
+    requires none { tallies.old.items ≡ [] }
     ensures parts { rest.new.parts ≡ rest.old.parts }
-    ensures all { IfOk result (λ tallies. AreAllTallies pieces.now.level.now pieces.now.notes pieces.now.width tallies.items) }
+    ensures all { OnOk result (AreAllTallies walker.now.pieces.now.level.now walker.now.pieces.now.notes walker.now.pieces.now.width tallies.new.items) }
 {
-    let mut tallies = Vec::new(alloc);
-    for entry in found {
-        let piece = tallies.len();
-        tallies.push(found_or_walked(rt, alloc, board, pieces, entry, piece, rest)?)?;
+    for piece in 0..found.len() {
+        fill_one(walker, piece, found, rest, tallies)?;
     }
-    Ok(tallies)
+    Ok(())
 }

@@ -11,6 +11,7 @@ mod found;
 pub mod gate;
 mod levels;
 mod listed;
+mod means;
 mod passes;
 pub mod phase;
 mod pieces;

@@ -5,7 +5,7 @@ ghost use Rattle.gm_frontier.specs.Notes.{NoteData};
 ghost use Rattle.gm_deliveries.specs.State.{delivered_to};
 ghost use Rattle.gm_solver.specs.Solving.{IsError};
 ghost use Rattle.gm_deliveries.specs.Steps.{place_of, IsWhole};
-ghost use Rattle.gm_pass.specs.Spots.{IsSameSpot, IsDeliverable};
+ghost use Rattle.gm_desk.specs.Spots.{IsSameSpot, IsDeliverable};
 
 use crate::error::SolveError;
 use crate::tier_lists::TierLists;

@@ -2,21 +2,22 @@
 ghost use Rattle.std.specs.Prelude.{◌≡◌, ◌<◌, ◌≤◌, length, IfOk, IfErr, OnOk};
 ghost use Rattle.gm_deliveries.specs.State.{pairs_in};
 ghost use Rattle.gm_solver.specs.Solving.{IsError};
-ghost use Rattle.gm_pass.specs.Spots.{spot_of};
+ghost use Rattle.gm_desk.specs.Spots.{spot_of};
 ghost use Rattle.gm_solver.specs.Tiling.{AreShardsAt, AreCountsAt, AreAllTallies, HaveNoneHere, AreNumbers, tile_at, next_place};
 
 use crate::error::SolveError;
 use crate::gate::Gate;
+use crate::means::Means;
 use crate::pieces::Pieces;
 use crate::post::Post;
 use crate::round::close_tiles;
 use crate::source::Source;
 use gm_desk::board::Four;
+use gm_desk::pass::Round;
 use gm_frontier::expected::Expected;
 use gm_frontier::tally::Tally;
 use gm_game::game::Game;
 use gm_game::limits::REMOTENESS;
-use gm_pass::pass::Round;
 use gm_shard::shard::Shard;
 use std::alloc::{AllocError, Global};
 use std::marker::Brand;
@@ -25,34 +26,40 @@ use std::sync::ledger::Blank;
 use std::thread;
 use std::thread::Threads;
 
-// The posts of the four shards.
+// The posts of the four shards, and what their workers call.
 #[derive(Drop)]
-struct Posts<'a, G: Game, A: Round, B: Round, C: Round, D: Round> {
+struct Posts<'a, G: Game, A: Round, B: Round, C: Round, D: Round, T: Gate, S: Source> {
     a: Post<'a, G, A>,
     b: Post<'a, G, B>,
     c: Post<'a, G, C>,
     d: Post<'a, G, D>,
+    gate: &'a T,
+    source: &'a S,
 }
 
-impl<'a, G: Game, A: Round, B: Round, C: Round, D: Round> Posts<'a, G, A, B, C, D> {
-    // Serves the shard with this number, where there is one.
-    fn serve<R: Wait, T: Gate>(&self, rt: &R, gate: &T, worker: usize, shard: usize) {
-        match shard {
-            0 => self.a.serve(rt, gate, worker),
-            1 => self.b.serve(rt, gate, worker),
-            2 => self.c.serve(rt, gate, worker),
-            3 => self.d.serve(rt, gate, worker),
-            _ => {}
-        }
-    }
-
+impl<'a, G: Game, A: Round, B: Round, C: Round, D: Round, T: Gate, S: Source> Posts<
+    'a,
+    G,
+    A,
+    B,
+    C,
+    D,
+    T,
+    S,
+> {
     // Serves the shards that the source names. It asks at most four times.
-    fn work<R: Wait, T: Gate, S: Source>(&self, rt: &R, gate: &T, source: &S, worker: usize) {
+    fn work<R: Wait>(&self, rt: &R, worker: usize) {
         for _ in 0..4 {
-            let Some(shard) = source.next(rt, worker) else {
+            let Some(shard) = self.source.next(rt, worker) else {
                 return;
             };
-            self.serve(rt, gate, worker, shard);
+            match shard {
+                0 => self.a.serve(rt, self.gate, worker),
+                1 => self.b.serve(rt, self.gate, worker),
+                2 => self.c.serve(rt, self.gate, worker),
+                3 => self.d.serve(rt, self.gate, worker),
+                _ => {}
+            }
         }
     }
 }
@@ -68,12 +75,12 @@ fn run_workers<
     R: Threads + Wait + Sync,
     T: Gate,
     S: Source,
->(rt: &R, posts: &Posts<'a, G, A, B, C, D>, gate: &T, source: &S, workers: usize) {
+>(rt: &R, posts: &Posts<'a, G, A, B, C, D, T, S>, workers: usize) {
     thread::scope(thread::scope_env(), rt, |scope| {
         for worker in 1..workers {
-            let _started = scope.spawn(move || posts.work(rt, gate, source, worker));
+            let _started = scope.spawn(move || posts.work(rt, worker));
         }
-        posts.work(rt, gate, source, 0);
+        posts.work(rt, 0);
     });
 }
 
@@ -99,14 +106,6 @@ fn tally_of<G: Game>(
     Ok(tallies)
 }
 
-// A level after its workers have ended.
-#[derive(Drop)]
-struct Walked<G: Game> {
-    shards: Four<Shard<G>>,
-    // How many of the level's pairs there are into each shard.
-    numbers: Four<u64>,
-}
-
 // Serves a level at desks of these names.
 fn serve_named<
     G: Game + Send + Sync,
@@ -118,14 +117,12 @@ fn serve_named<
     T: Gate,
     S: Source,
 >(
-    rt: &R,
+    means: &Means<G, R, T, S>,
     pieces: &Pieces<G>,
-    gate: &T,
-    source: &S,
     workers: usize,
     blanks: Four<Blank>,
     shards: Four<Shard<G>>,
-) -> Walked<G>
+) -> (Four<Shard<G>>, Four<u64>)
     requires names { (blanks.a.name ≡ A.name) × (blanks.b.name ≡ B.name) × (blanks.c.name ≡ C.name) × (blanks.d.name ≡ D.name) }
     requires parts { (blanks.a.parts ≡ A.parts) × (blanks.b.parts ≡ B.parts) × (blanks.c.parts ≡ C.parts) × (blanks.d.parts ≡ D.parts) }
     requires some { (0 < A.parts) × (0 < B.parts) × (0 < C.parts) × (0 < D.parts) }
@@ -136,57 +133,53 @@ fn serve_named<
     requires c { (C.spot ≡ tile_at G.rules pieces.now.level.now.place pieces.now.width 2) × (C.notes ≡ pieces.now.level.now.notes) }
     requires d { (D.spot ≡ tile_at G.rules pieces.now.level.now.place pieces.now.width 3) × (D.notes ≡ pieces.now.level.now.notes) }
     requires none { HaveNoneHere G.rules shards }
-    ensures here { AreShardsAt G.rules pieces.now.level.now.place pieces.now.width result.shards }
-    ensures numbers { AreNumbers G.rules pieces.now.level.now pieces.now.width result.numbers }
+    ensures here { AreShardsAt G.rules pieces.now.level.now.place pieces.now.width result.0 }
+    ensures numbers { AreNumbers G.rules pieces.now.level.now pieces.now.width result.1 }
 {
     let Pieces { level, lists, .. } = *pieces;
-    let posts = Posts::<G, A, B, C, D> {
+    let posts = Posts::<G, A, B, C, D, T, S> {
         a: Post::around(blanks.a, shards.a, level, lists),
         b: Post::around(blanks.b, shards.b, level, lists),
         c: Post::around(blanks.c, shards.c, level, lists),
         d: Post::around(blanks.d, shards.d, level, lists),
+        gate: means.gate,
+        source: means.source,
     };
-    run_workers(rt, &posts, gate, source, workers);
-    let Posts { a, b, c, d } = posts;
+    run_workers(means.rt, &posts, workers);
+    let Posts { a, b, c, d, .. } = posts;
     let (a, in_a) = a.end();
     let (b, in_b) = b.end();
     let (c, in_c) = c.end();
     let (d, in_d) = d.end();
-    Walked {
-        shards: Four { a, b, c, d },
-        numbers: Four {
-            a: in_a,
-            b: in_b,
-            c: in_c,
-            d: in_d,
-        },
-    }
+    let numbers = Four {
+        a: in_a,
+        b: in_b,
+        c: in_c,
+        d: in_d,
+    };
+    (Four { a, b, c, d }, numbers)
 }
 
 // Serves a level, with one pass for each shard.
 fn serve_passes<G: Game + Send + Sync, R: Threads + Wait + Sync, T: Gate, S: Source>(
-    rt: &R,
+    means: &Means<G, R, T, S>,
     pieces: &Pieces<G>,
-    gate: &T,
-    source: &S,
-    workers: usize,
     shards: Four<Shard<G>>,
-) -> Walked<G>
+) -> (Four<Shard<G>>, Four<u64>)
     requires here { AreShardsAt G.rules pieces.now.level.now.place pieces.now.width shards }
     requires none { HaveNoneHere G.rules shards }
-    ensures here { AreShardsAt G.rules pieces.now.level.now.place pieces.now.width result.shards }
-    ensures numbers { AreNumbers G.rules pieces.now.level.now pieces.now.width result.numbers }
+    ensures here { AreShardsAt G.rules pieces.now.level.now.place pieces.now.width result.0 }
+    ensures numbers { AreNumbers G.rules pieces.now.level.now pieces.now.width result.1 }
 {
-    source.begin(rt, 4);
+    means.source.begin(means.rt, 4);
     let blanks = Four {
         a: Blank::new(1),
         b: Blank::new(1),
         c: Blank::new(1),
         d: Blank::new(1),
     };
-    serve_named::<G, Brand, Brand, Brand, Brand, R, T, S>(
-        rt, pieces, gate, source, workers, blanks, shards,
-    )
+    let workers = means.plan.workers().min(4);
+    serve_named::<G, Brand, Brand, Brand, Brand, R, T, S>(means, pieces, workers, blanks, shards)
 }
 
 // The number of pairs in four shards.
@@ -223,12 +216,8 @@ fn close_passes<G: Game>(
 
 /// Serves and closes a level: workers deliver its pairs, one pass for each shard, and the coordinator the rest. The number is that of the workers' deliveries.
 pub(crate) fn run_passes<G: Game + Send + Sync, R: Threads + Wait + Sync, T: Gate, S: Source>(
-    rt: &R,
-    alloc: Global,
+    means: &Means<G, R, T, S>,
     pieces: &Pieces<G>,
-    gate: &T,
-    source: &S,
-    workers: usize,
     shards: Four<Shard<G>>,
     counts: &mut Four<Expected<G>>,
 ) -> Result<(Four<Shard<G>>, u64), SolveError>
@@ -255,12 +244,9 @@ pub(crate) fn run_passes<G: Game + Send + Sync, R: Threads + Wait + Sync, T: Gat
         notes,
         width,
     };
-    let Walked {
-        mut shards,
-        numbers,
-    } = serve_passes(rt, &whole, gate, source, workers.min(4), shards);
+    let (mut shards, numbers) = serve_passes(means, &whole, shards);
     let by_workers = delivered_to(&shards).saturating_sub(before);
-    match close_passes(alloc, &whole, numbers, &mut shards, counts) {
+    match close_passes(means.alloc, &whole, numbers, &mut shards, counts) {
         Ok(()) => Ok((shards, by_workers)),
         Err(error) => {
             drop(shards);

@@ -1,14 +1,14 @@
 //! A desk with its pass in a slot, and what a worker does with it.
 ghost use Rattle.std.specs.Prelude.{◌≡◌, ◌<◌, ◌≤◌, ◌^◌, length};
 ghost use Rattle.gm_deliveries.specs.State.{pairs_in};
-ghost use Rattle.gm_pass.specs.Spots.{spot_of};
-ghost use Rattle.gm_pass.specs.Rounds.{pairs_into, HasNoneHere, IsLevelAt};
+ghost use Rattle.gm_desk.specs.Spots.{spot_of};
+ghost use Rattle.gm_desk.specs.Rounds.{pairs_into, HasNoneHere, IsLevelAt};
 
 use crate::gate::Gate;
 use crate::tier_lists::TierLists;
+use gm_desk::pass::{Pass, PassDesk, Round};
 use gm_frontier::level::Level;
 use gm_game::game::Game;
-use gm_pass::pass::{Pass, PassDesk, Round};
 use gm_shard::shard::Shard;
 use std::marker::{Model, PhantomData};
 use std::sync::ledger::Blank;
@@ -23,7 +23,7 @@ pub(crate) struct Found<G: Game, L: Round> {
 
 impl<G: Game, L: Round> Model for Found<G, L> {
     ghost use Rattle.std.specs.Prelude.{◌≡◌, ℕ, length};
-    ghost use Rattle.gm_pass.specs.Rounds.{pairs_into};
+    ghost use Rattle.gm_desk.specs.Rounds.{pairs_into};
 
     ghost Value = { ℕ };
 

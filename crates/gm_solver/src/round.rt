@@ -1,49 +1,39 @@
 //! One level by workers: their deliveries, and those that the coordinator makes up for.
-ghost use Rattle.std.specs.Prelude.{◌≡◌, ◌+◌, ◌≤◌, IfOk, IfErr, OnOk};
+ghost use Rattle.std.specs.Prelude.{◌≡◌, ◌+◌, ◌≤◌, [], IfOk, IfErr, OnOk};
 ghost use Rattle.gm_game.specs.declared.position.Place.{Place};
 ghost use Rattle.gm_frontier.specs.Levels.{place_at};
 ghost use Rattle.gm_frontier.specs.Tallies.{AreTallies};
 ghost use Rattle.gm_deliveries.specs.Steps.{place_of};
 ghost use Rattle.gm_solver.specs.Solving.{IsError};
-ghost use Rattle.gm_pass.specs.Spots.{spot_of, AreFourTiles};
+ghost use Rattle.gm_desk.specs.Spots.{spot_of, AreFourTiles};
 ghost use Rattle.gm_solver.specs.Tiling.{AreShardsAt, AreCountsAt, AreAllTallies, HaveNoneHere, spot_counted, next_spot, next_place};
-ghost use Rattle.gm_pass.specs.Rounds.{HasNoneHere};
+ghost use Rattle.gm_solver.specs.Found.{AreFound};
+ghost use Rattle.gm_desk.specs.Rounds.{HasNoneHere};
 
 use crate::crew::serve_level;
 use crate::error::SolveError;
-use crate::found::fill;
+use crate::found::none_found;
 use crate::gate::Gate;
 use crate::listed::deliver_listed;
+use crate::means::Means;
 use crate::pieces::Pieces;
 use crate::source::Source;
-use gm_desk::board::{Board, Four, Shares};
+use gm_desk::board::{Board, Four};
+use gm_desk::share::Desk;
 use gm_frontier::expected::Expected;
 use gm_frontier::level::Level;
 use gm_frontier::tally::Tally;
 use gm_game::game::Game;
 use gm_game::limits::REMOTENESS;
-use gm_pass::share::Desk;
 use gm_shard::shard::Shard;
-use std::alloc::{AllocError, Global};
+use std::alloc::AllocError;
 use std::marker::Brand;
 use std::sync::Wait;
 use std::sync::ledger::Blank;
 use std::thread::Threads;
 
-/// A level after its workers have ended.
-#[derive(Drop)]
-pub(crate) struct Served<G: Game> {
-    pub shards: Four<Shard<G>>,
-    /// The tallies of all pieces.
-    pub tallies: Vec<Tally<G>>,
-    /// How many pairs the workers delivered.
-    pub by_workers: u64,
-}
-
-// The number of pairs that were delivered by these shares.
-fn sum_of<A: Desk, B: Desk, C: Desk, D: Desk>(shares: &Shares<A, B, C, D>) -> u64 {
-    (0..4).fold(0u64, |sum, shard| sum.saturating_add(shares.amount(shard)))
-}
+// What is left of a level after its workers have ended: its shards, and how many pairs the workers delivered.
+type Served<G> = Result<(Four<Shard<G>>, u64), AllocError>;
 
 // Serves a level on a board of these names.
 fn serve_named<
@@ -56,40 +46,28 @@ fn serve_named<
     T: Gate,
     S: Source,
 >(
-    rt: &R,
-    alloc: Global,
+    means: &Means<G, R, T, S>,
     pieces: &Pieces<G>,
-    gate: &T,
-    source: &S,
     workers: usize,
     blanks: Four<Blank>,
     shards: Four<Shard<G>>,
-) -> Result<Served<G>, AllocError>
+    found: &mut Vec<Option<Tally<G>>>,
+    tallies: &mut Vec<Tally<G>>,
+) -> Served<G>
     requires few { workers ≤ 16 }
     requires names { (blanks.a.name ≡ A.name) × (blanks.b.name ≡ B.name) × (blanks.c.name ≡ C.name) × (blanks.d.name ≡ D.name) }
     requires parts { (blanks.a.parts ≡ A.parts) × (blanks.b.parts ≡ B.parts) × (blanks.c.parts ≡ C.parts) × (blanks.d.parts ≡ D.parts) }
     requires equal { (A.parts ≡ workers + 1) × (B.parts ≡ workers + 1) × (C.parts ≡ workers + 1) × (D.parts ≡ workers + 1) }
     requires spots { (spot_of shards.a ≡ A.spot) × (spot_of shards.b ≡ B.spot) × (spot_of shards.c ≡ C.spot) × (spot_of shards.d ≡ D.spot) }
     requires here { AreShardsAt G.rules pieces.now.level.now.place pieces.now.width shards }
-    ensures here { IfOk result (λ served. AreShardsAt G.rules pieces.now.level.now.place pieces.now.width served.shards) }
-    ensures tallies { IfOk result (λ served. AreAllTallies pieces.now.level.now pieces.now.notes pieces.now.width served.tallies.items) }
+    requires found { AreFound pieces.now.level.now pieces.now.notes pieces.now.width found.old.items }
+    requires none { tallies.old.items ≡ [] }
+    ensures here { IfOk result (λ served. AreShardsAt G.rules pieces.now.level.now.place pieces.now.width served.0) }
+    ensures tallies { OnOk result (AreAllTallies pieces.now.level.now pieces.now.notes pieces.now.width tallies.new.items) }
 {
     let (board, mut rest) = Board::<G, A, B, C, D>::around(workers as u64 + 1, blanks, shards);
-    let before = sum_of(&rest);
-    let found = match serve_level(rt, alloc, &board, pieces, gate, source, workers, &mut rest) {
-        Ok(found) => found,
-        Err(error) => {
-            drop((board, rest));
-            return Err(error);
-        }
-    };
-    let by_workers = sum_of(&rest).saturating_sub(before);
-    match fill(rt, alloc, &board, pieces, found, &mut rest) {
-        Ok(tallies) => Ok(Served {
-            shards: board.into_shards(rest),
-            tallies,
-            by_workers,
-        }),
+    match serve_level(means, &board, pieces, workers, &mut rest, found, tallies) {
+        Ok(by_workers) => Ok((board.into_shards(rest), by_workers)),
         Err(error) => {
             drop((board, rest));
             Err(error)
@@ -97,22 +75,29 @@ fn serve_named<
     }
 }
 
-/// Serves a level: workers walk its pieces, and the coordinator those that they left. Pairs that were refused are still missing.
-pub(crate) fn serve<G: Game + Send + Sync, R: Threads + Wait + Sync, T: Gate, S: Source>(
-    rt: &R,
-    alloc: Global,
+// Serves a level: workers walk its pieces, and the coordinator those that they left. Pairs that were refused are still missing. The tallies of all pieces are
+// put into an empty list.
+fn serve<G: Game + Send + Sync, R: Threads + Wait + Sync, T: Gate, S: Source>(
+    means: &Means<G, R, T, S>,
     pieces: &Pieces<G>,
-    gate: &T,
-    source: &S,
-    workers: usize,
     shards: Four<Shard<G>>,
-) -> Result<Served<G>, AllocError>
-    requires few { workers ≤ 16 }
+    tallies: &mut Vec<Tally<G>>,
+) -> Served<G>
     requires here { AreShardsAt G.rules pieces.now.level.now.place pieces.now.width shards }
-    ensures here { IfOk result (λ served. AreShardsAt G.rules pieces.now.level.now.place pieces.now.width served.shards) }
-    ensures tallies { IfOk result (λ served. AreAllTallies pieces.now.level.now pieces.now.notes pieces.now.width served.tallies.items) }
+    requires none { tallies.old.items ≡ [] }
+    ensures here { IfOk result (λ served. AreShardsAt G.rules pieces.now.level.now.place pieces.now.width served.0) }
+    ensures tallies { OnOk result (AreAllTallies pieces.now.level.now pieces.now.notes pieces.now.width tallies.new.items) }
 {
-    source.begin(rt, pieces.level.pieces(pieces.notes));
+    let mut found = match none_found(means.alloc, pieces) {
+        Ok(found) => found,
+        Err(error) => {
+            drop(shards);
+            return Err(error);
+        }
+    };
+    let count = found.len();
+    means.source.begin(means.rt, count);
+    let workers = means.plan.workers().min(count);
     let parts = workers as u64 + 1;
     let blanks = Four {
         a: Blank::new(parts),
@@ -120,9 +105,11 @@ pub(crate) fn serve<G: Game + Send + Sync, R: Threads + Wait + Sync, T: Gate, S:
         c: Blank::new(parts),
         d: Blank::new(parts),
     };
-    serve_named::<G, Brand, Brand, Brand, Brand, R, T, S>(
-        rt, alloc, pieces, gate, source, workers, blanks, shards,
-    )
+    let served = serve_named::<G, Brand, Brand, Brand, Brand, R, T, S>(
+        means, pieces, workers, blanks, shards, &mut found, tallies,
+    );
+    drop(found);
+    served
 }
 
 // Counts a level's pairs into a shard by the tallies of all pieces, delivers those that are missing, and turns to the next level.
@@ -155,16 +142,11 @@ fn close_tile<G: Game>(
 
 /// Serves a level and closes it: workers deliver its pairs, and the coordinator those that they left. The number is that of the workers' deliveries.
 pub(crate) fn run_pieces<G: Game + Send + Sync, R: Threads + Wait + Sync, T: Gate, S: Source>(
-    rt: &R,
-    alloc: Global,
+    means: &Means<G, R, T, S>,
     pieces: &Pieces<G>,
-    gate: &T,
-    source: &S,
-    workers: usize,
     shards: Four<Shard<G>>,
     counts: &mut Four<Expected<G>>,
 ) -> Result<(Four<Shard<G>>, u64), SolveError>
-    requires few { workers ≤ 16 }
     requires here { AreShardsAt G.rules pieces.now.level.now.place pieces.now.width shards }
     requires counts { AreCountsAt G.rules pieces.now.level.now.place pieces.now.width counts.old }
     requires near { pieces.now.level.now.place.level ≤ REMOTENESS }
@@ -173,13 +155,17 @@ pub(crate) fn run_pieces<G: Game + Send + Sync, R: Threads + Wait + Sync, T: Gat
     ensures counts { OnOk result (AreCountsAt G.rules (next_place pieces.now.level.now.place) pieces.now.width counts.new) }
     ensures error { IfErr result (IsError G.rules pieces.now.level.now.place.tier) }
 {
-    let workers = workers.min(pieces.level.pieces(pieces.notes));
-    let Served {
-        mut shards,
-        tallies,
-        by_workers,
-    } = serve(rt, alloc, pieces, gate, source, workers, shards)?;
-    match close_tiles(&mut shards, counts, pieces, tallies.as_slice()) {
+    let mut tallies = Vec::new(means.alloc);
+    let (mut shards, by_workers) = match serve(means, pieces, shards, &mut tallies) {
+        Ok(served) => served,
+        Err(error) => {
+            drop(tallies);
+            return Err(SolveError::from(error));
+        }
+    };
+    let closed = close_tiles(&mut shards, counts, pieces, tallies.as_slice());
+    drop(tallies);
+    match closed {
         Ok(()) => Ok((shards, by_workers)),
         Err(error) => {
             drop(shards);

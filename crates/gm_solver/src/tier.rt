@@ -8,7 +8,7 @@ ghost use Rattle.gm_solver.specs.Solving.{IsError, IsTooFar, AreDeliveries};
 
 use crate::error::SolveError;
 use crate::gate::Gate;
-use crate::levels::{Way, finish_levels};
+use crate::means::{Means, Way};
 use crate::plan::Plan;
 use crate::source::Source;
 use crate::tiles::{Tiles, begin_tiles, tile_width};
@@ -58,7 +58,16 @@ pub fn solve_tier<G: Game + Send + Sync, R: Threads + Wait + Sync, T: Gate, S: S
     ensures near { OnOk result (IsTooFar G.rules tier → ⊥) }
     ensures error { IfErr result (IsError G.rules tier) }
 {
-    solve_by(rt, alloc, tier, tables, Way::Pieces, plan, gate, source)
+    let means = Means {
+        rt,
+        alloc,
+        tables,
+        way: Way::Pieces,
+        plan,
+        gate,
+        source,
+    };
+    means.solve(tier)
 }
 
 /// Solves a tier as `solve_tier` does, but with one pass for each shard: at each level a worker takes the pass of a shard that the source names, and delivers
@@ -82,67 +91,65 @@ pub fn solve_passes<G: Game + Send + Sync, R: Threads + Wait + Sync, T: Gate, S:
     ensures near { OnOk result (IsTooFar G.rules tier → ⊥) }
     ensures error { IfErr result (IsError G.rules tier) }
 {
-    solve_by(rt, alloc, tier, tables, Way::Passes, plan, gate, source)
-}
-
-// Takes a tier from its first level through both phases, in one of the two ways. The number is that of the workers' deliveries.
-fn finish_phases<G: Game + Send + Sync, R: Threads + Wait + Sync, T: Gate, S: Source>(
-    rt: &R,
-    alloc: Global,
-    tables: &Tables<G>,
-    way: Way,
-    plan: Plan,
-    gate: &T,
-    source: &S,
-    tiles: Tiles<G>,
-) -> Result<(Tiles<G>, Last<G>, u64), SolveError>
-    requires held { AreHeld G.rules tables.now tiles.shards.a.tier }
-    requires small { G.rules.tier_size tiles.shards.a.tier ≤ TIER_SIZE }
-    requires first { place_of tiles.shards.a ≡ place_at tiles.shards.a.tier WinLose 0 }
-    ensures tier { IfOk result (λ done. done.0.shards.a.tier ≡ tiles.shards.a.tier) }
-    ensures ties { IfOk result (λ done. done.0.shards.a.phase ≡ Ties) }
-    ensures last { IfOk result (λ done. done.1 ≡ place_of done.0.shards.a) }
-    ensures error { IfErr result (IsError G.rules tiles.shards.a.tier) }
-{
-    let (mut tiles, last, wins) = finish_levels(rt, alloc, tables, way, plan, gate, source, tiles)?;
-    tiles.next_phase(&last);
-    let (tiles, last, ties) = finish_levels(rt, alloc, tables, way, plan, gate, source, tiles)?;
-    Ok((tiles, last, wins.saturating_add(ties)))
-}
-
-// Solves a tier in one of the two ways.
-fn solve_by<G: Game + Send + Sync, R: Threads + Wait + Sync, T: Gate, S: Source>(
-    rt: &R,
-    alloc: Global,
-    tier: u64,
-    tables: &Tables<G>,
-    way: Way,
-    plan: Plan,
-    gate: &T,
-    source: &S,
-) -> Result<(Table<G>, Report), SolveError>
-    requires held { AreHeld G.rules tables.now tier }
-    requires small { G.rules.tier_size tier ≤ TIER_SIZE }
-    ensures tier { IfOk result (λ answer. answer.0.tier ≡ tier) }
-    ensures table { IfOk result (λ answer. IsTable G.rules answer.0) }
-    ensures deliveries { IfOk result (λ answer. AreDeliveries G.rules tier answer.1.deliveries) }
-    ensures by_hand { IfOk result (λ answer. answer.1.by_hand ≤ answer.1.deliveries) }
-    ensures near { OnOk result (IsTooFar G.rules tier → ⊥) }
-    ensures error { IfErr result (IsError G.rules tier) }
-{
-    let width = tile_width::<G>(tier, plan.shards());
-    let tiles = begin_tiles::<G, R>(rt, alloc, tier, tables, width, plan.workers())?;
-    let (tiles, last, by_workers) = finish_phases(
-        rt, alloc, tables, way, plan, gate, source, tiles,
-    )?;
-    let solved = tiles.table(alloc, tables, &last);
-    drop(tiles);
-    let (table, deliveries) = solved?;
-    let report = Report {
-        deliveries,
-        by_hand: deliveries.saturating_sub(by_workers),
+    let means = Means {
+        rt,
+        alloc,
+        tables,
+        way: Way::Passes,
+        plan,
+        gate,
+        source,
     };
-    Ok((table, report))
+    means.solve(tier)
+}
+
+impl<'a, G: Game + Send + Sync, R: Threads + Wait + Sync, T: Gate, S: Source> Means<
+    'a,
+    G,
+    R,
+    T,
+    S,
+> {
+    // Takes a tier from its first level through both phases. The number is that of the workers' deliveries.
+    fn finish_phases(&self, tiles: Tiles<G>) -> Result<(Tiles<G>, Last<G>, u64), SolveError>
+        requires held { AreHeld G.rules self.now.tables.now tiles.shards.a.tier }
+        requires small { G.rules.tier_size tiles.shards.a.tier ≤ TIER_SIZE }
+        requires first { place_of tiles.shards.a ≡ place_at tiles.shards.a.tier WinLose 0 }
+        ensures tier { IfOk result (λ done. done.0.shards.a.tier ≡ tiles.shards.a.tier) }
+        ensures ties { IfOk result (λ done. done.0.shards.a.phase ≡ Ties) }
+        ensures last { IfOk result (λ done. done.1 ≡ place_of done.0.shards.a) }
+        ensures error { IfErr result (IsError G.rules tiles.shards.a.tier) }
+    {
+        let (mut tiles, last, wins) = self.finish_levels(tiles)?;
+        tiles.next_phase(&last);
+        let (tiles, last, ties) = self.finish_levels(tiles)?;
+        Ok((tiles, last, wins.saturating_add(ties)))
+    }
+
+    // Solves a tier.
+    fn solve(&self, tier: u64) -> Result<(Table<G>, Report), SolveError>
+        requires held { AreHeld G.rules self.now.tables.now tier }
+        requires small { G.rules.tier_size tier ≤ TIER_SIZE }
+        ensures tier { IfOk result (λ answer. answer.0.tier ≡ tier) }
+        ensures table { IfOk result (λ answer. IsTable G.rules answer.0) }
+        ensures deliveries { IfOk result (λ answer. AreDeliveries G.rules tier answer.1.deliveries) }
+        ensures by_hand { IfOk result (λ answer. answer.1.by_hand ≤ answer.1.deliveries) }
+        ensures near { OnOk result (IsTooFar G.rules tier → ⊥) }
+        ensures error { IfErr result (IsError G.rules tier) }
+    {
+        let workers = self.plan.workers();
+        let width = tile_width::<G>(tier, self.plan.shards());
+        let tiles = begin_tiles(self.rt, self.alloc, tier, self.tables, width, workers)?;
+        let (tiles, last, by_workers) = self.finish_phases(tiles)?;
+        let solved = tiles.table(self.alloc, self.tables, &last);
+        drop(tiles);
+        let (table, deliveries) = solved?;
+        let report = Report {
+            deliveries,
+            by_hand: deliveries.saturating_sub(by_workers),
+        };
+        Ok((table, report))
+    }
 }
 
 /// The number of deliveries of a tier depends on the game alone: there is only one such number.

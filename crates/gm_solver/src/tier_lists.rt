@@ -118,8 +118,8 @@ impl<G: Game> Frame<G> {
         &self,
         alloc: Global,
     ) -> Result<Vec<Result<(Lists<G>, Vec<Start>), AllocError>>, AllocError>
-        ensures length { IfOk result (λ found. length found.items ≡ self.now.rows * CLASSES) }
-        ensures each { IfOk result (λ found. AllZip (λ place r. IfOk r (λ block. IsBlock G.rules self.now.tier (block_in self.now.rows place) block.0 block.1.items)) (range_with_len 0 (length found.items)) found.items) }
+        ensures { IfOk result (λ found. (length found.items ≡ self.now.rows * CLASSES)
+            × AllZip (λ place r. IfOk r (λ block. IsBlock G.rules self.now.tier (block_in self.now.rows place) block.0 block.1.items)) (range_with_len 0 (length found.items)) found.items) }
     {
         let mut found = Vec::new(alloc);
         for place in 0..(self.rows * CLASSES) as u32 {
@@ -195,8 +195,8 @@ impl<G: Game + Send + Sync> Frame<G> {
         alloc: Global,
         workers: usize,
     ) -> Result<Vec<Result<(Lists<G>, Vec<Start>), AllocError>>, AllocError>
-        ensures length { IfOk result (λ found. length found.items ≡ self.now.rows * CLASSES) }
-        ensures each { IfOk result (λ found. AllZip (λ place r. IfOk r (λ block. IsBlock G.rules self.now.tier (block_in self.now.rows place) block.0 block.1.items)) (range_with_len 0 (length found.items)) found.items) }
+        ensures { IfOk result (λ found. (length found.items ≡ self.now.rows * CLASSES)
+            × AllZip (λ place r. IfOk r (λ block. IsBlock G.rules self.now.tier (block_in self.now.rows place) block.0 block.1.items)) (range_with_len 0 (length found.items)) found.items) }
     {
         if workers == 1 || self.size <= FEW {
             return self.scan_in_turn(alloc);

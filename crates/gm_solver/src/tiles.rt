@@ -1,5 +1,5 @@
 //! The tiles of a tier before its first level: a shard of each, and the count of the pairs into it.
-ghost use Rattle.std.specs.Prelude.{ℕ, ◌≡◌, ◌+◌, ◌-◌, ◌<◌, ◌≤◌, length, max, IfOk, OnOk};
+ghost use Rattle.std.specs.Prelude.{ℕ, ◌≡◌, ◌+◌, ◌-◌, ◌<◌, ◌≤◌, length, max, IfOk, IfErr, OnOk};
 ghost use Rattle.std.specs.Int.{div_ceil};
 ghost use Rattle.gm_game.specs.declared.position.Phase.TheVariants.{WinLose, Ties};
 ghost use Rattle.gm_game.specs.Records.{IsTrueTable};
@@ -9,17 +9,22 @@ ghost use Rattle.gm_frontier.specs.Counts.{IsNumberBefore};
 ghost use Rattle.gm_deliveries.specs.Steps.{place_of, CanTurn};
 ghost use Rattle.gm_game.specs.Places.{IsLastLevel};
 ghost use Rattle.gm_table.specs.Tables.{AreHeld, IsTable};
-ghost use Rattle.gm_solver.specs.Covered.{IsCovered};
-ghost use Rattle.gm_solver.specs.Solving.{IsTooFar, AreDeliveries};
-ghost use Rattle.gm_pass.specs.Spots.{spot_of};
-ghost use Rattle.gm_solver.specs.Tiling.{IsWide, AreShardsAt, AreCountsAt, HaveNoneHere, AreGood, AreTwo, tile_at, spot_counted};
-ghost use Rattle.gm_pass.specs.Rounds.{HasNoneHere};
+ghost use Rattle.gm_solver.specs.Solving.{IsError, IsTooFar, AreDeliveries};
+ghost use Rattle.gm_desk.specs.Spots.{spot_of};
+ghost use Rattle.gm_solver.specs.Tiling.{IsWide, AreShardsAt, AreCountsAt, HaveNoneHere, AreGood, AreTwo, tile_at, spot_counted, next_place};
+ghost use Rattle.gm_desk.specs.Rounds.{HasNoneHere};
 
+use crate::error::SolveError;
+use crate::gate::Gate;
+use crate::means::Means;
+use crate::pieces::Pieces;
+use crate::source::Source;
 use crate::tier_lists::{FEW, TierLists, scan_tier};
 use gm_deliveries::status::Start;
 use gm_desk::board::Four;
 use gm_frontier::expected::Expected;
 use gm_frontier::last::Last;
+use gm_frontier::level::Level;
 use gm_game::game::Game;
 use gm_game::limits::{REMOTENESS, TIER_SIZE};
 use gm_shard::shard::Shard;
@@ -27,10 +32,10 @@ use gm_table::packed::Packed;
 use gm_table::table::Table;
 use gm_table::tables::Tables;
 use std::alloc::{AllocError, Global};
+use std::sync::Wait;
 use std::thread::{Threads, join};
 
 /// Four shards that tile a tier at one place, each with the count of the pairs into it, and the canonical children of the tier.
-#[derive(Drop)]
 pub(crate) struct Tiles<G: Game> {
     pub shards: Four<Shard<G>>,
     pub counts: Four<Expected<G>>,
@@ -41,6 +46,18 @@ pub(crate) struct Tiles<G: Game> {
     ghost shards_are: { AreShardsAt G.rules (place_of shards.a) width shards },
     ghost counts_are: { AreCountsAt G.rules (place_of shards.a) width counts },
     ghost none_are: { HaveNoneHere G.rules shards },
+}
+
+// Let go by one call, so that a proof follows one value and not each field.
+impl<G: Game> Drop for Tiles<G> {
+    fn drop(self) {
+        let Tiles {
+            shards: _,
+            counts: _,
+            lists: _,
+            width: _,
+        } = self;
+    }
 }
 
 /// How many indexes a tile has: the size of the tier divided by the number of shards, rounded up, and at least 1.
@@ -170,18 +187,8 @@ pub(crate) fn begin_tiles<G: Game + Send + Sync, R: Threads + Sync>(
 
 impl<G: Game> Tiles<G> {
     // Shows that the shards are good.
-    fn show_good_shards(&self)
-        ensures { AreGood G.rules self.now.shards }
-    {
-        let _a = self.shards.a.range();
-        let _b = self.shards.b.range();
-        let _c = self.shards.c.range();
-        let _d = self.shards.d.range();
-    }
-
-    // Shows that each index of the tier is in the range of a good shard.
     fn show_good(&self)
-        ensures { (i : ℕ) → i < G.rules.tier_size self.now.shards.a.tier → IsCovered G.rules (place_of self.now.shards.a) i }
+        ensures { AreGood G.rules self.now.shards }
     {
         let _a = self.shards.a.range();
         let _b = self.shards.b.range();
@@ -204,7 +211,7 @@ impl<G: Game> Tiles<G> {
         requires { CanTurn self.old.shards.a last.now }
         ensures { place_of self.new.shards.a ≡ place_at self.old.shards.a.tier Ties 0 }
     {
-        self.show_good_shards();
+        self.show_good();
         self.shards.a.next_phase(last);
         self.shards.b.next_phase(last);
         self.shards.c.next_phase(last);
@@ -261,5 +268,46 @@ impl<G: Game> Tiles<G> {
         let _held = tables.has(tier);
         let records = self.records(alloc, last)?;
         Ok((Table::from_packed(tier, records), self.number()))
+    }
+}
+
+impl<G: Game + Send + Sync> Tiles<G> {
+    /// Runs one level of a tier: workers deliver its pairs, and the coordinator those that they left. The number is that of the workers' deliveries.
+    pub(crate) fn run<R: Threads + Wait + Sync, T: Gate, S: Source>(
+        self,
+        means: &Means<G, R, T, S>,
+        level: &Level<G>,
+    ) -> Result<(Tiles<G>, u64), SolveError>
+        requires place { level.now.place ≡ place_of self.shards.a }
+        requires near { self.shards.a.level ≤ REMOTENESS }
+        ensures next { IfOk result (λ next. place_of next.0.shards.a ≡ next_place (place_of self.shards.a)) }
+        ensures error { IfErr result (IsError G.rules self.shards.a.tier) }
+    {
+        let Tiles {
+            shards,
+            mut counts,
+            lists,
+            width,
+        } = self;
+        let pieces = Pieces {
+            level,
+            lists: &lists,
+            notes: means.plan.piece(),
+            width,
+        };
+        let (shards, by_workers) = match means.serve(&pieces, shards, &mut counts) {
+            Ok(served) => served,
+            Err(error) => {
+                drop((counts, lists));
+                return Err(error);
+            }
+        };
+        let tiles = Tiles {
+            shards,
+            counts,
+            lists,
+            width,
+        };
+        Ok((tiles, by_workers))
     }
 }

@@ -9,10 +9,9 @@ use crate::gate::Gate;
 use crate::pieces::Pieces;
 use crate::source::Source;
 use gm_desk::board::{Board, Shares};
+use gm_desk::share::Desk;
 use gm_frontier::tally::Tally;
 use gm_game::game::Game;
-use gm_game::position::Place;
-use gm_pass::share::Desk;
 use std::alloc::{AllocError, Global};
 use std::sync::Wait;
 
@@ -24,37 +23,6 @@ pub(crate) struct Slot<G: Game, A: Desk, B: Desk, C: Desk, D: Desk> {
     ghost one_part: { shares.parts ≡ 1 },
 }
 
-// Delivers a shard's batch while its lock is held once, where the batch has at least `least` pairs, and empties it. The gate is called for each pair before and
-// after, while no lock is held.
-fn deliver_from<G: Game, A: Desk, B: Desk, C: Desk, D: Desk, R: Wait, T: Gate>(
-    rt: &R,
-    board: &Board<G, A, B, C, D>,
-    gate: &T,
-    worker: usize,
-    place: Place,
-    least: usize,
-    shard: usize,
-    batch: &mut Batch<G, A>,
-    shares: &mut Shares<A, B, C, D>,
-)
-    requires { shard < 4 }
-    ensures { shares.new.parts ≡ shares.old.parts }
-{
-    let pairs = batch.pairs();
-    if pairs.len() < least {
-        return;
-    }
-    for _ in 0..pairs.len() {
-        gate.before(rt, worker, place);
-    }
-    // A pair that is refused as too far is missing at the end of the level, where the coordinator finds it.
-    let _fresh = board.deliver_all(rt, shard, pairs, shares);
-    for _ in 0..pairs.len() {
-        gate.after(rt, worker, place);
-    }
-    batch.clear();
-}
-
 // An empty batch for each shard.
 fn empty_batches<G: Game, A: Desk>(alloc: Global) -> Result<[Batch<G, A>; 4], AllocError> {
     let a = Batch::new(alloc)?;
@@ -64,141 +32,126 @@ fn empty_batches<G: Game, A: Desk>(alloc: Global) -> Result<[Batch<G, A>; 4], Al
     Ok([a, b, c, d])
 }
 
-// Delivers what is left in the batches of all shards.
-fn deliver_rest<G: Game, A: Desk, B: Desk, C: Desk, D: Desk, R: Wait, T: Gate>(
-    rt: &R,
-    board: &Board<G, A, B, C, D>,
-    gate: &T,
-    worker: usize,
-    place: Place,
-    batches: &mut [Batch<G, A>; 4],
-    shares: &mut Shares<A, B, C, D>,
-)
-    ensures { shares.new.parts ≡ shares.old.parts }
-{
-    for shard in 0..4 {
-        deliver_from(
-            rt,
-            board,
-            gate,
-            worker,
-            place,
-            1,
-            shard,
-            &mut batches[shard],
-            shares,
-        );
-    }
+/// A worker at a level: the board to which it delivers, the pieces that it walks, the gate that it calls, and its number.
+#[derive(Drop)]
+pub(crate) struct Walker<'a, 'b, G: Game, A: Desk, B: Desk, C: Desk, D: Desk, R: Wait, T: Gate> {
+    pub rt: &'a R,
+    pub alloc: Global,
+    pub board: &'a Board<G, A, B, C, D>,
+    pub pieces: &'a Pieces<'b, G>,
+    pub gate: &'a T,
+    pub worker: usize,
+    ghost here: { A.spot.tier ≡ pieces.now.level.now.place.tier },
 }
 
-// Walks a piece's pairs once: counts each in its tile, and delivers it to its shard, many pairs each time that a lock is taken. The batches are empty at first.
-fn walk_pairs<G: Game, A: Desk, B: Desk, C: Desk, D: Desk, R: Wait, T: Gate>(
-    rt: &R,
-    board: &Board<G, A, B, C, D>,
-    pieces: &Pieces<G>,
-    gate: &T,
-    worker: usize,
-    piece: usize,
-    counts: &mut Vec<u64>,
-    batches: &mut [Batch<G, A>; 4],
-    shares: &mut Shares<A, B, C, D>,
-) -> Result<(), AllocError>
-    requires tier { A.spot.tier ≡ pieces.now.level.now.place.tier }
-    requires zeros { counts.old.items ≡ replicate (div_ceil (G.rules.tier_size pieces.now.level.now.place.tier) pieces.now.width) 0 }
-    ensures parts { shares.new.parts ≡ shares.old.parts }
-    ensures counts { OnOk result (AreCounts G.rules pieces.now.level.now.place.tier pieces.now.width (piece_of piece pieces.now.notes pieces.now.level.now.notes) counts.new.items) }
-{
-    let level = pieces.level;
-    let place = level.place();
-    let size = G::tier_size(place.tier);
-    for (note, parent) in level.pairs(piece, pieces.notes, 0, size) {
-        counts[(parent / pieces.width) as usize] += 1;
-        let stands = pieces.lists.place_of(note.position(), parent);
-        let shard = board.shard_of(parent);
-        let batch = &mut batches[shard];
-        deliver_from(rt, board, gate, worker, place, BATCH, shard, batch, shares);
-        batch.push(note, parent, stands)?;
+impl<'a, 'b, G: Game, A: Desk, B: Desk, C: Desk, D: Desk, R: Wait, T: Gate> Walker<
+    'a,
+    'b,
+    G,
+    A,
+    B,
+    C,
+    D,
+    R,
+    T,
+> {
+    // Delivers a shard's batch while its lock is held once, where the batch has at least `least` pairs, and empties it. The gate is called for each pair before
+    // and after, while no lock is held.
+    fn deliver_from(
+        &self,
+        least: usize,
+        shard: usize,
+        batch: &mut Batch<G, A>,
+        shares: &mut Shares<A, B, C, D>,
+    )
+        requires { shard < 4 }
+        ensures { shares.new.parts ≡ shares.old.parts }
+    {
+        let pairs = batch.pairs();
+        if pairs.len() < least {
+            return;
+        }
+        let place = self.pieces.level.place();
+        for _ in 0..pairs.len() {
+            self.gate.before(self.rt, self.worker, place);
+        }
+        // A pair that is refused as too far is missing at the end of the level, where the coordinator finds it.
+        let _fresh = self.board.deliver_all(self.rt, shard, pairs, shares);
+        for _ in 0..pairs.len() {
+            self.gate.after(self.rt, self.worker, place);
+        }
+        batch.clear();
     }
-    deliver_rest(rt, board, gate, worker, place, batches, shares);
-    Ok(())
-}
 
-// The tally of a piece, whose pairs are delivered.
-pub(crate) fn walk<G: Game, A: Desk, B: Desk, C: Desk, D: Desk, R: Wait, T: Gate>(
-    rt: &R,
-    alloc: Global,
-    board: &Board<G, A, B, C, D>,
-    pieces: &Pieces<G>,
-    gate: &T,
-    worker: usize,
-    piece: usize,
-    shares: &mut Shares<A, B, C, D>,
-) -> Result<Tally<G>, AllocError>
-    requires { A.spot.tier ≡ pieces.now.level.now.place.tier }
-    ensures parts { shares.new.parts ≡ shares.old.parts }
-    ensures tally { IfOk result (IsTallyOf G.rules pieces.now.level.now piece pieces.now.notes pieces.now.width) }
-{
-    let size = G::tier_size(pieces.level.place().tier);
-    let mut batches = empty_batches::<G, A>(alloc)?;
-    let mut counts = vec![in alloc; 0u64; size.div_ceil(pieces.width) as usize]?;
-    match walk_pairs(
-        rt,
-        board,
-        pieces,
-        gate,
-        worker,
-        piece,
-        &mut counts,
-        &mut batches,
-        shares,
-    ) {
-        Ok(()) => Ok(Tally::of(pieces.level, piece, pieces.notes, pieces.width, counts)),
-        Err(error) => {
-            drop((batches, counts));
-            Err(error)
+    // Delivers what is left in the batches of all shards.
+    fn deliver_rest(&self, batches: &mut [Batch<G, A>; 4], shares: &mut Shares<A, B, C, D>)
+        ensures { shares.new.parts ≡ shares.old.parts }
+    {
+        for shard in 0..4 {
+            self.deliver_from(1, shard, &mut batches[shard], shares);
         }
     }
-}
 
-// Walks a piece, and keeps its tally. Where memory is refused there is no tally, and the coordinator walks the piece.
-fn serve<G: Game, A: Desk, B: Desk, C: Desk, D: Desk, R: Wait, T: Gate>(
-    rt: &R,
-    alloc: Global,
-    board: &Board<G, A, B, C, D>,
-    pieces: &Pieces<G>,
-    gate: &T,
-    worker: usize,
-    piece: usize,
-    slot: &mut Slot<G, A, B, C, D>,
-)
-    requires { A.spot.tier ≡ pieces.now.level.now.place.tier }
-{
-    let Slot { shares, walked } = slot;
-    if let Ok(tally) = walk(rt, alloc, board, pieces, gate, worker, piece, shares) {
-        let _kept = walked.push(tally);
+    // Walks a piece's pairs once: counts each in its tile, and delivers it to its shard, many pairs each time that a lock is taken. The batches are empty at
+    // first.
+    fn walk_pairs(
+        &self,
+        piece: usize,
+        counts: &mut Vec<u64>,
+        batches: &mut [Batch<G, A>; 4],
+        shares: &mut Shares<A, B, C, D>,
+    ) -> Result<(), AllocError>
+        requires { counts.old.items ≡ replicate (div_ceil (G.rules.tier_size self.now.pieces.now.level.now.place.tier) self.now.pieces.now.width) 0 }
+        ensures parts { shares.new.parts ≡ shares.old.parts }
+        ensures counts { OnOk result (AreCounts G.rules self.now.pieces.now.level.now.place.tier self.now.pieces.now.width (piece_of piece self.now.pieces.now.notes self.now.pieces.now.level.now.notes) counts.new.items) }
+    {
+        let pieces = self.pieces;
+        let size = G::tier_size(pieces.level.place().tier);
+        for (note, parent) in pieces.level.pairs(piece, pieces.notes, 0, size) {
+            counts[(parent / pieces.width) as usize] += 1;
+            let stands = pieces.lists.place_of(note.position(), parent);
+            let shard = self.board.shard_of(parent);
+            let batch = &mut batches[shard];
+            self.deliver_from(BATCH, shard, batch, shares);
+            batch.push(note, parent, stands)?;
+        }
+        self.deliver_rest(batches, shares);
+        Ok(())
     }
-}
 
-/// Takes pieces of a level until there are no more for this worker. It asks at most as many times as there are pieces, and skips numbers that name none.
-pub(crate) fn work<G: Game, A: Desk, B: Desk, C: Desk, D: Desk, R: Wait, T: Gate, S: Source>(
-    rt: &R,
-    alloc: Global,
-    board: &Board<G, A, B, C, D>,
-    pieces: &Pieces<G>,
-    gate: &T,
-    source: &S,
-    worker: usize,
-    slot: &mut Slot<G, A, B, C, D>,
-)
-    requires { A.spot.tier ≡ pieces.now.level.now.place.tier }
-{
-    let count = pieces.level.pieces(pieces.notes);
-    for _ in 0..count {
-        let Some(piece) = source.next(rt, worker) else {
-            return;
-        };
-        if piece < count {
-            serve(rt, alloc, board, pieces, gate, worker, piece, slot);
+    /// The tally of a piece, whose pairs are delivered.
+    pub(crate) fn walk(
+        &self,
+        piece: usize,
+        shares: &mut Shares<A, B, C, D>,
+    ) -> Result<Tally<G>, AllocError>
+        ensures parts { shares.new.parts ≡ shares.old.parts }
+        ensures tally { IfOk result (IsTallyOf G.rules self.now.pieces.now.level.now piece self.now.pieces.now.notes self.now.pieces.now.width) }
+    {
+        let pieces = self.pieces;
+        let size = G::tier_size(pieces.level.place().tier);
+        let mut counts = vec![in self.alloc; 0u64; size.div_ceil(pieces.width) as usize]?;
+        let mut batches = empty_batches::<G, A>(self.alloc)?;
+        let walked = self.walk_pairs(piece, &mut counts, &mut batches, shares);
+        drop(batches);
+        walked?;
+        Ok(Tally::of(pieces.level, piece, pieces.notes, pieces.width, counts))
+    }
+
+    /// Takes pieces of the level until there are no more for this worker, and keeps their tallies. It asks at most as many times as there are pieces, and skips
+    /// numbers that name none. Where memory is refused a piece has no tally, and the coordinator walks it.
+    pub(crate) fn work<S: Source>(&self, source: &S, slot: &mut Slot<G, A, B, C, D>) {
+        let Slot { shares, walked } = slot;
+        let count = self.pieces.level.pieces(self.pieces.notes);
+        for _ in 0..count {
+            let Some(piece) = source.next(self.rt, self.worker) else {
+                return;
+            };
+            if piece < count
+                && let Ok(tally) = self.walk(piece, shares)
+            {
+                let _kept = walked.push(tally);
+            }
         }
     }
 }

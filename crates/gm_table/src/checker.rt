@@ -14,7 +14,7 @@ use gm_game::evaluate::of_end;
 use gm_game::game::Game;
 use gm_game::limits::{MOVES, REMOTENESS, TIER_SIZE};
 use gm_game::position::{Kind, Position, Solved};
-use gm_settle::summary::Summary;
+use gm_record::summary::Summary;
 use std::alloc::Global;
 use std::thread::Threads;
 use thiserror::Error;

@@ -6,7 +6,7 @@ use Rattle.gm_game.specs.Boards.{least_index}
 use Rattle.gm_game.proofs.PuttingSteps.{put_more_none, put_more_some}
 use Rattle.gm_board.specs.laws.Lists.{and_both}
 use Rattle.gm_board.specs.Ranks.{members}
-use Rattle.gm_steps.specs.laws.Skipped.{puts_skip}
+use Rattle.gm_pieces.specs.laws.Skipped.{puts_skip}
 use Rattle.gm_pieces.specs.MoveGames.{board_game, plays_on, before_at, befores}
 use Rattle.gm_pieces.specs.laws.MoveLaws.{before_some, before_none, before_room, all_befores}
 use Rattle.gm_tactix.specs.Segments.{segment_length, segment_cells}

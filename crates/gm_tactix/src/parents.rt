@@ -11,7 +11,7 @@ use crate::counters::least_index;
 use crate::moves::{given_back, was_taken};
 use arrayvec::ArrayVec;
 use gm_game::limits::PARENTS;
-use gm_steps::ascending::put;
+use gm_pieces::ascending::put;
 
 // Puts into the list the least index of the board before the segment with this number was taken, if it can have been.
 fn put_before(list: &mut ArrayVec<u64, PARENTS>, side: u32, tier: u64, counters: u32, number: u32)

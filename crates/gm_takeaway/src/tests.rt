@@ -3,7 +3,7 @@ use crate::takeaway::{Takeaway, takeaway_is};
 use gm_game::game::Game;
 use gm_game::position::{Position, Solved, Value};
 use gm_game::shown::Shown;
-use gm_settle::ahead::within;
+use gm_record::ahead::within;
 
 // The value with this many counters left, looking twelve moves ahead.
 fn value(counters: u64) -> Option<Solved> {

@@ -1,5 +1,4 @@
-//! Sources that lose pieces, or hand them out again, and gates that wait or count. `TestSource` and `TestGate` are all of them, so that the tests of a game are
-//! one instance of the solver.
+//! One source with every habit and one gate that waits or counts, so that the tests of a game are one instance of the solver.
 use gm_game::position::{Phase, Place};
 use gm_solver::gate::Gate;
 use gm_solver::source::{Counter, Source};
@@ -9,6 +8,8 @@ use std::sync::{Mutex, Wait};
 /// What a source answers when it is asked during a level, one answer after another.
 #[derive(Clone, Copy)]
 pub enum Habit {
+    /// Each number once, as the library's own source does.
+    Once,
     /// Nothing.
     Silent,
     /// Always this number.
@@ -23,8 +24,9 @@ pub enum Habit {
 
 /// A source with a habit. It counts the levels that are begun, the pieces that it was told of at their beginning, and how often it was asked.
 #[derive(Drop)]
-pub struct Odd {
+pub struct TestSource {
     habit: Habit,
+    counter: Counter,
     levels: AtomicUsize,
     told: AtomicUsize,
     asks: AtomicUsize,
@@ -33,11 +35,17 @@ pub struct Odd {
     asked_by: Mutex<[bool; 2]>,
 }
 
-impl Odd {
-    // A source before its first level.
-    fn new(habit: Habit) -> Self {
-        Odd {
+impl TestSource {
+    /// One that hands out each piece once.
+    pub fn counter() -> Self {
+        TestSource::of(Habit::Once)
+    }
+
+    /// A source of this habit, before its first level.
+    pub fn of(habit: Habit) -> Self {
+        TestSource {
             habit,
+            counter: Counter::new(),
             levels: AtomicUsize::new(0),
             told: AtomicUsize::new(0),
             asks: AtomicUsize::new(0),
@@ -46,10 +54,20 @@ impl Odd {
             asked_by: Mutex::new([true; 2]),
         }
     }
+
+    /// How many levels were begun, how many pieces it was told of, and how often it was asked.
+    pub fn asked(&self) -> (usize, usize, usize) {
+        (
+            self.levels.load(Ordering::SeqCst),
+            self.told.load(Ordering::SeqCst),
+            self.asks.load(Ordering::SeqCst),
+        )
+    }
 }
 
-impl Source for Odd {
+impl Source for TestSource {
     fn begin<R: Wait>(&self, rt: &R, pieces: usize) {
+        self.counter.begin(rt, pieces);
         self.levels.fetch_add(1, Ordering::SeqCst);
         self.told.fetch_add(pieces, Ordering::SeqCst);
         self.pieces.store(pieces, Ordering::SeqCst);
@@ -61,6 +79,7 @@ impl Source for Odd {
         self.asks.fetch_add(1, Ordering::SeqCst);
         let asked = self.asked.fetch_add(1, Ordering::SeqCst);
         match self.habit {
+            Habit::Once => self.counter.next(rt, worker),
             Habit::Silent => None,
             Habit::Always(piece) => Some(piece),
             Habit::Twice => Some(asked / 2),
@@ -69,53 +88,6 @@ impl Source for Odd {
                 (piece < self.pieces.load(Ordering::SeqCst)).then_some(piece)
             }
             Habit::Own => is_first(rt, &self.asked_by, worker).then_some(worker),
-        }
-    }
-}
-
-/// A source of the library, or one with a habit.
-#[derive(Drop)]
-pub enum TestSource {
-    Counter(Counter),
-    Odd(Odd),
-}
-
-impl TestSource {
-    /// The library's own, which hands out each piece once.
-    pub fn counter() -> Self {
-        TestSource::Counter(Counter::new())
-    }
-
-    /// A source of this habit.
-    pub fn of(habit: Habit) -> Self {
-        TestSource::Odd(Odd::new(habit))
-    }
-
-    /// How many levels were begun, how many pieces it was told of, and how often it was asked, where it has a habit.
-    pub fn asked(&self) -> (usize, usize, usize) {
-        match self {
-            TestSource::Counter(_) => (0, 0, 0),
-            TestSource::Odd(odd) => (
-                odd.levels.load(Ordering::SeqCst),
-                odd.told.load(Ordering::SeqCst),
-                odd.asks.load(Ordering::SeqCst),
-            ),
-        }
-    }
-}
-
-impl Source for TestSource {
-    fn begin<R: Wait>(&self, rt: &R, pieces: usize) {
-        match self {
-            TestSource::Counter(counter) => counter.begin(rt, pieces),
-            TestSource::Odd(odd) => odd.begin(rt, pieces),
-        }
-    }
-
-    fn next<R: Wait>(&self, rt: &R, worker: usize) -> Option<usize> {
-        match self {
-            TestSource::Counter(counter) => counter.next(rt, worker),
-            TestSource::Odd(odd) => odd.next(rt, worker),
         }
     }
 }
@@ -139,15 +111,6 @@ pub struct Meeting {
 }
 
 impl Meeting {
-    /// A meeting at this level.
-    pub fn at(level: u32) -> Self {
-        Meeting {
-            level,
-            arrived: Mutex::new([false; 2]),
-            gave_up: Mutex::new(false),
-        }
-    }
-
     // Waits for both workers, and answers whether they arrived.
     fn wait<R: Wait>(&self, rt: &R) -> bool {
         for _ in 0..1_000_000 {
@@ -157,17 +120,14 @@ impl Meeting {
         }
         false
     }
-}
 
-impl Gate for Meeting {
-    fn before<R: Wait>(&self, rt: &R, worker: usize, place: Place) {
+    // A worker comes to a delivery at this place.
+    fn come<R: Wait>(&self, rt: &R, worker: usize, place: Place) {
         let is_here = place.phase == Phase::WinLose && place.level == self.level;
         if is_here && is_first(rt, &self.arrived, worker) && !self.wait(rt) {
             *self.gave_up.lock(rt) = true;
         }
     }
-
-    fn after<R: Wait>(&self, _rt: &R, _worker: usize, _place: Place) {}
 }
 
 /// Counts the calls before and after deliveries, and takes and frees a mutex so many times before each.
@@ -179,31 +139,6 @@ pub struct Turnstile {
     lock: Mutex<u32>,
 }
 
-impl Turnstile {
-    /// A gate that takes its mutex this many times before a delivery.
-    pub fn new(turns: u32) -> Self {
-        Turnstile {
-            before: AtomicUsize::new(0),
-            after: AtomicUsize::new(0),
-            turns,
-            lock: Mutex::new(0),
-        }
-    }
-}
-
-impl Gate for Turnstile {
-    fn before<R: Wait>(&self, rt: &R, _worker: usize, _place: Place) {
-        self.before.fetch_add(1, Ordering::SeqCst);
-        for turn in 0..self.turns {
-            *self.lock.lock(rt) = turn;
-        }
-    }
-
-    fn after<R: Wait>(&self, _rt: &R, _worker: usize, _place: Place) {
-        self.after.fetch_add(1, Ordering::SeqCst);
-    }
-}
-
 /// A gate that does nothing, or one of those above.
 #[derive(Drop)]
 pub enum TestGate {
@@ -213,6 +148,25 @@ pub enum TestGate {
 }
 
 impl TestGate {
+    /// A meeting at this level.
+    pub fn meeting(level: u32) -> Self {
+        TestGate::Meeting(Meeting {
+            level,
+            arrived: Mutex::new([false; 2]),
+            gave_up: Mutex::new(false),
+        })
+    }
+
+    /// A turnstile that takes its mutex this many times before a delivery.
+    pub fn turnstile(turns: u32) -> Self {
+        TestGate::Turnstile(Turnstile {
+            before: AtomicUsize::new(0),
+            after: AtomicUsize::new(0),
+            turns,
+            lock: Mutex::new(0),
+        })
+    }
+
     /// Whether both workers arrived at a meeting, and none gave up.
     pub fn met<R: Wait>(&self, rt: &R) -> bool {
         match self {
@@ -239,16 +193,19 @@ impl Gate for TestGate {
     fn before<R: Wait>(&self, rt: &R, worker: usize, place: Place) {
         match self {
             TestGate::Open => {}
-            TestGate::Meeting(meeting) => meeting.before(rt, worker, place),
-            TestGate::Turnstile(turnstile) => turnstile.before(rt, worker, place),
+            TestGate::Meeting(meeting) => meeting.come(rt, worker, place),
+            TestGate::Turnstile(turnstile) => {
+                turnstile.before.fetch_add(1, Ordering::SeqCst);
+                for turn in 0..turnstile.turns {
+                    *turnstile.lock.lock(rt) = turn;
+                }
+            }
         }
     }
 
-    fn after<R: Wait>(&self, rt: &R, worker: usize, place: Place) {
-        match self {
-            TestGate::Open => {}
-            TestGate::Meeting(meeting) => meeting.after(rt, worker, place),
-            TestGate::Turnstile(turnstile) => turnstile.after(rt, worker, place),
+    fn after<R: Wait>(&self, _rt: &R, _worker: usize, _place: Place) {
+        if let TestGate::Turnstile(turnstile) = self {
+            turnstile.after.fetch_add(1, Ordering::SeqCst);
         }
     }
 }

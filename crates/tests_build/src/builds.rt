@@ -1,9 +1,4 @@
-//! Builds: whole games over stores, also stores that fail; answers, analyses and lines of play over what is built; progress.
-mod analyses;
-mod answers;
-mod failing;
-mod files;
-mod lines;
+//! Builds of whole games over stores, also stores that fail; progress; questions about what is not built.
 mod progresses;
-mod whole_games;
-mod work;
+mod questions;
+mod stores;

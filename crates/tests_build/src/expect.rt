@@ -6,7 +6,7 @@ use std::process::Abort;
 
 /// Fails where a value is not the wanted one.
 pub(crate) fn expect_eq<T: Debug + PartialEq + Drop>(rt: &impl Abort, found: T, wanted: T) {
-    assert_eq!(rt; found, wanted);
+    assert!(rt; found == wanted, "found {found:?}, wanted {wanted:?}");
 }
 
 /// Fails where what a test says is not so.

@@ -1,5 +1,5 @@
 //! The worked values of the solver and of what stands on it (docs/EXAMPLES.md): levels, shards, workers and tiers solved on the toys in `solver`, and builds
-//! over stores, with answers, lines and analyses of what is built, in `builds`. Whole games are solved by the built program (tools/lines).
+//! over stores and their progress in `builds`. Whole games, answers and lines of play are looked at on the built program (tools/lines).
 #![tactic(auto)]
 
 #[cfg(test)]

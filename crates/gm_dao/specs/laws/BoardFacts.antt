@@ -11,9 +11,9 @@ use Rattle.gm_board.specs.Patterns.{filled_image}
 use Rattle.gm_board.specs.Permutations.{permute}
 use Rattle.gm_board.specs.Squares.{square_symmetries}
 use Rattle.gm_board.specs.Cells.{is_mine, is_theirs, number_of}
-use Rattle.gm_sides.specs.laws.CellFacts.{filled_turned, image_number}
-use Rattle.gm_sides.specs.laws.MoveFacts.{IsLeft}
-use Rattle.gm_sides.specs.laws.NumberFacts.{HasNumbers}
+use Rattle.gm_pieces.specs.laws.CellFacts.{filled_turned, image_number}
+use Rattle.gm_pieces.specs.laws.MoveFacts.{IsLeft}
+use Rattle.gm_pieces.specs.laws.NumberFacts.{HasNumbers}
 use Rattle.gm_dao.specs.DaoRules.{formations, has_formation, legal}
 use Rattle.gm_dao.specs.laws.SlideFacts.{group, formations_kept}
 

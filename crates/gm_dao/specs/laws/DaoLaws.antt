@@ -10,10 +10,10 @@ use Rattle.gm_board.specs.Squares.{square_symmetries}
 use Rattle.gm_pieces.specs.MoveGames.{board_game, IsMoveGame, IsMoveSymmetric}
 use Rattle.gm_pieces.specs.laws.Images.{permuted_group}
 use Rattle.gm_board.specs.Cells.{is_mine, is_theirs, number_of}
-use Rattle.gm_sides.specs.Sides.{board_index}
+use Rattle.gm_pieces.specs.Sides.{board_index}
 use Rattle.gm_dao.specs.DaoRules.{formations, has_formation, legal, board_at, dao_name, start_board, play, dao}
 use Rattle.gm_dao.specs.laws.SlideFacts.{group}
-use Rattle.gm_sides.specs.laws.NumberFacts.{board_numbers, index_below, board_back, index_back}
+use Rattle.gm_pieces.specs.laws.NumberFacts.{board_numbers, index_below, board_back, index_back}
 use Rattle.gm_dao.specs.laws.BoardFacts.{legal_in, legal_from, legal_numbers, image_legal}
 use Rattle.gm_dao.specs.laws.MoveFacts.{move_slide, steps_few}
 use Rattle.gm_dao.specs.laws.PlayFacts.{play_legal, image_over, image_move}

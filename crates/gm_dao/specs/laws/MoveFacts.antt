@@ -9,13 +9,13 @@ use Rattle.gm_board.specs.declared.cell.Cell.TheVariants.{Empty, Mine}
 use Rattle.gm_board.specs.laws.Lists.{and_left, and_right, and_both}
 use Rattle.gm_board.specs.Patterns.{fills}
 use Rattle.gm_board.specs.Permutations.{all_at}
-use Rattle.gm_steps.specs.Steps.{from_point, to_point}
-use Rattle.gm_steps.specs.laws.StepFacts.{number_below}
+use Rattle.gm_pieces.specs.Steps.{from_point, to_point}
+use Rattle.gm_pieces.specs.laws.StepFacts.{number_below}
 use Rattle.gm_board.specs.laws.Filters.{filter_in, filter_out}
 use Rattle.gm_pieces.specs.MoveGames.{steps}
 use Rattle.gm_board.specs.Cells.{is_mine, is_theirs, is_empty, is_taken, cell_at, number_of}
 use Rattle.gm_dao.specs.DaoRules.{has_formation, in_line, path, beyond, can_go, can_move, numbers_end, over, dao}
-use Rattle.gm_sides.specs.Sides.{IsStep}
+use Rattle.gm_pieces.specs.Sides.{IsStep}
 use Rattle.gm_dao.specs.laws.SlideFacts.{line_within, way}
 use Rattle.gm_board.specs.laws.CellCounts.{mine_cell, empty_cell, cells_counted}
 

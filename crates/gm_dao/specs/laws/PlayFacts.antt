@@ -11,17 +11,17 @@ use Rattle.gm_board.specs.Groups.{image_back, image_slide, any_at}
 use Rattle.gm_board.specs.Patterns.{fills, same_tests, any_from}
 use Rattle.gm_board.specs.Permutations.{permute, all_at}
 use Rattle.gm_board.specs.Squares.{square_symmetries}
-use Rattle.gm_steps.specs.Steps.{step_number, from_point, to_point}
-use Rattle.gm_steps.specs.laws.StepFacts.{from_back, to_back}
+use Rattle.gm_pieces.specs.Steps.{step_number, from_point, to_point}
+use Rattle.gm_pieces.specs.laws.StepFacts.{from_back, to_back}
 use Rattle.gm_pieces.specs.MoveGames.{IsMove}
 use Rattle.gm_board.specs.Cells.{is_mine, is_theirs, is_empty, is_taken, cell_at}
-use Rattle.gm_sides.specs.Sides.{gone}
+use Rattle.gm_pieces.specs.Sides.{gone}
 use Rattle.gm_dao.specs.DaoRules.{corners, around, is_trapped, has_trapped, path, beyond, can_move, over, play, legal, dao}
-use Rattle.gm_sides.specs.laws.MoveFacts.{step_left}
+use Rattle.gm_pieces.specs.laws.MoveFacts.{step_left}
 use Rattle.gm_dao.specs.laws.SlideFacts.{group, corner_kept, line_within, way, line_kept}
 use Rattle.gm_board.specs.laws.Turned.{permute_turned}
 use Rattle.gm_board.specs.laws.CellCounts.{mine_turned, theirs_turned}
-use Rattle.gm_sides.specs.laws.CellFacts.{image_cell, image_fills}
+use Rattle.gm_pieces.specs.laws.CellFacts.{image_cell, image_fills}
 use Rattle.gm_dao.specs.laws.BoardFacts.{formation_turned, formation_left, image_formation, legal_in, legal_from}
 use Rattle.gm_dao.specs.laws.MoveFacts.{IsSlide, slide_step, move_slide, slide_move, line_below, no_formation}
 

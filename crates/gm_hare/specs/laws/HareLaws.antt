@@ -15,8 +15,8 @@ use Rattle.gm_board.specs.Ranks.{members, rank, unrank, rank_below, rank_unrank,
 use Rattle.gm_board.specs.Patterns.{same_tests}
 use Rattle.gm_board.specs.Permutations.{permute, permute_get, permute_length, all_at}
 use Rattle.gm_board.specs.Groups.{image_slide}
-use Rattle.gm_steps.specs.Steps.{step_number, from_point, to_point}
-use Rattle.gm_steps.specs.laws.StepFacts.{from_back, to_back}
+use Rattle.gm_pieces.specs.Steps.{step_number, from_point, to_point}
+use Rattle.gm_pieces.specs.laws.StepFacts.{from_back, to_back}
 use Rattle.gm_pieces.specs.MoveGames.{board_game, IsMove, IsMoveGame, IsMoveSymmetric}
 use Rattle.gm_hare.specs.declared.hunt.Hunt.{Hunt}
 use Rattle.gm_hare.specs.Board.{column, has_hound, hunt_tier, has_escaped, legal, over, can_move, hound_gone, hare_gone, gone, play, mirror, mirror_point, mirrored, turn_of, hunt_index, hunt_board, hare_name, hare_and_hounds}

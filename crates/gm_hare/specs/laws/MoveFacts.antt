@@ -4,8 +4,8 @@ use Rattle.std.specs.List.{filter, range_with_len}
 use Rattle.std.proofs.lemmas.Bool.{cases_Bool, cond-true, cond-false, true≢false, not-true, ne_eqb}
 use Rattle.gm_board.specs.laws.Lists.{and_left, and_right, and_both}
 use Rattle.gm_board.specs.Ranks.{members}
-use Rattle.gm_steps.specs.Steps.{from_point, to_point}
-use Rattle.gm_steps.specs.laws.StepFacts.{number_below}
+use Rattle.gm_pieces.specs.Steps.{from_point, to_point}
+use Rattle.gm_pieces.specs.laws.StepFacts.{number_below}
 use Rattle.gm_board.specs.laws.Filters.{filter_few}
 use Rattle.gm_pieces.specs.MoveGames.{steps}
 use Rattle.gm_hare.specs.declared.hunt.Hunt.{Hunt}

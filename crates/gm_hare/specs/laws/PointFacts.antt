@@ -7,7 +7,7 @@ use Rattle.std.proofs.lemmas.List.{get_or_past}
 use Rattle.gm_board.specs.laws.Lists.{and_left, and_right, contains_range}
 use Rattle.gm_board.specs.Permutations.{all_at}
 use Rattle.gm_board.specs.Groups.{IsGroup, is_group_table, group_from_table, any_at}
-use Rattle.gm_steps.specs.Steps.{from_point, to_point}
+use Rattle.gm_pieces.specs.Steps.{from_point, to_point}
 use Rattle.gm_hare.specs.Board.{column, edges, are_joined, is_ahead, numbers_end, mirror, mirror_point}
 
 -- ---- edges

@@ -9,7 +9,7 @@ use Rattle.gm_game.specs.Shown.{is_plain, IsPlain, IsShown}
 use Rattle.gm_game.proofs.PlainTexts.{plain_map}
 use Rattle.gm_board.specs.laws.Lists.{and_left, and_right, contains_range, filter_to}
 use Rattle.gm_board.specs.Permutations.{all_at, same_list}
-use Rattle.gm_steps.specs.Steps.{from_point, to_point}
+use Rattle.gm_pieces.specs.Steps.{from_point, to_point}
 use Rattle.gm_pieces.specs.MoveTexts.{AreTexts}
 use Rattle.gm_pieces.specs.laws.TextFacts.{texts_are_shown}
 use Rattle.gm_hare.specs.declared.hunt.Hunt.{Hunt}

@@ -11,11 +11,11 @@ use Rattle.gm_pieces.specs.MoveGames.{IsMove}
 use Rattle.gm_morris.specs.declared.variant.Variant.{Variant}
 use Rattle.gm_morris.specs.Points.{last_tier, joins}
 use Rattle.gm_board.specs.Cells.{cell_at, is_theirs, is_empty}
-use Rattle.gm_sides.specs.Sides.{gone, brought_back, WasStep}
+use Rattle.gm_pieces.specs.Sides.{gone, brought_back, WasStep}
 use Rattle.gm_morris.specs.Morris.{mine, theirs, numbers_end, play, was_moved, taken_back, morris}
 use Rattle.gm_board.specs.laws.Turned.{turned_cell, turned_twice}
 use Rattle.gm_board.specs.laws.CellCounts.{their_cell, empty_cell}
-use Rattle.gm_sides.specs.laws.MoveFacts.{set_and_back, gone_again, back_again}
+use Rattle.gm_pieces.specs.laws.MoveFacts.{set_and_back, gone_again, back_again}
 use Rattle.gm_morris.specs.laws.MoveFacts.{IsSlide, IsPlacement, step_cases, slide_is_step, is_number, numbers_few}
 use Rattle.gm_morris.specs.laws.PlayFacts.{slide_played, placement_played}
 

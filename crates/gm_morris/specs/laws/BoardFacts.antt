@@ -12,9 +12,9 @@ use Rattle.gm_board.specs.Permutations.{permute}
 use Rattle.gm_board.specs.Squares.{square_symmetries, square_group}
 use Rattle.gm_board.specs.Cells.{is_mine, is_theirs}
 use Rattle.gm_board.specs.laws.CellCounts.{all_cells}
-use Rattle.gm_sides.specs.laws.CellFacts.{filled_turned, image_number}
-use Rattle.gm_sides.specs.laws.MoveFacts.{IsLeft}
-use Rattle.gm_sides.specs.laws.NumberFacts.{HasNumbers}
+use Rattle.gm_pieces.specs.laws.CellFacts.{filled_turned, image_number}
+use Rattle.gm_pieces.specs.laws.MoveFacts.{IsLeft}
+use Rattle.gm_pieces.specs.laws.NumberFacts.{HasNumbers}
 use Rattle.gm_morris.specs.declared.variant.Variant.{Variant}
 use Rattle.gm_morris.specs.Points.{last_tier, lines}
 use Rattle.gm_morris.specs.Morris.{mine, theirs, has_line, legal}

@@ -15,10 +15,10 @@ use Rattle.gm_morris.specs.declared.variant.Variant.{Variant}
 use Rattle.gm_morris.specs.declared.variant.Variant.TheVariants.{TicTacToe, ThreeMens, Achi}
 use Rattle.gm_morris.specs.Points.{last_tier, lines}
 use Rattle.gm_board.specs.Cells.{number_of, is_mine}
-use Rattle.gm_sides.specs.Sides.{board_index}
+use Rattle.gm_pieces.specs.Sides.{board_index}
 use Rattle.gm_morris.specs.Morris.{mine, theirs, has_line, legal, size_of, child_tiers_of, morris}
 use Rattle.gm_morris.specs.laws.PointFacts.{name_text}
-use Rattle.gm_sides.specs.laws.NumberFacts.{index_below, board_back, index_back}
+use Rattle.gm_pieces.specs.laws.NumberFacts.{index_below, board_back, index_back}
 use Rattle.gm_morris.specs.laws.BoardFacts.{pieces_few, group, image_pieces, IsLegal, legal_in, legal_from, legal_numbers, image_legal}
 use Rattle.gm_morris.specs.laws.MoveFacts.{end_fits, steps_few}
 use Rattle.gm_morris.specs.laws.PlayFacts.{play_legal, play_tier, image_over, image_move}

@@ -12,7 +12,7 @@ use Rattle.gm_morris.specs.declared.variant.Variant.{Variant}
 use Rattle.gm_morris.specs.Points.{last_tier, joins}
 use Rattle.gm_board.specs.laws.CellCounts.{mine_cell, empty_cell}
 use Rattle.gm_board.specs.Cells.{is_mine, is_theirs, is_empty}
-use Rattle.gm_sides.specs.Sides.{IsStep}
+use Rattle.gm_pieces.specs.Sides.{IsStep}
 use Rattle.gm_morris.specs.Morris.{mine, theirs, has_line, over, can_move, numbers_end, morris}
 use Rattle.gm_morris.specs.laws.PointFacts.{joined_within, joined_few}
 

@@ -15,13 +15,13 @@ use Rattle.gm_pieces.specs.MoveGames.{IsMove}
 use Rattle.gm_morris.specs.declared.variant.Variant.{Variant}
 use Rattle.gm_morris.specs.Points.{last_tier, joins}
 use Rattle.gm_board.specs.Cells.{is_theirs}
-use Rattle.gm_sides.specs.Sides.{gone}
+use Rattle.gm_pieces.specs.Sides.{gone}
 use Rattle.gm_morris.specs.Morris.{mine, theirs, has_line, legal, over, moved, play, child_tiers_of, morris}
 use Rattle.gm_morris.specs.laws.PointFacts.{last_tier_even, joined_image}
 use Rattle.gm_board.specs.laws.Turned.{permute_turned}
 use Rattle.gm_board.specs.laws.CellCounts.{mine_turned, theirs_turned}
-use Rattle.gm_sides.specs.laws.CellFacts.{image_cell}
-use Rattle.gm_sides.specs.laws.MoveFacts.{IsLeft, step_left, placed_left}
+use Rattle.gm_pieces.specs.laws.CellFacts.{image_cell}
+use Rattle.gm_pieces.specs.laws.MoveFacts.{IsLeft, step_left, placed_left}
 use Rattle.gm_morris.specs.laws.BoardFacts.{line_turned, line_left, group, image_pieces, image_line, IsLegal, legal_in, legal_from}
 use Rattle.gm_morris.specs.laws.MoveFacts.{IsSlide, IsPlacement, step_cases, slide_points, slide_step, slide_is_step, placement_step, no_line}
 

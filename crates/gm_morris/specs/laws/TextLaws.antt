@@ -4,9 +4,9 @@ use Rattle.std.proofs.lemmas.Bool.{cases_Bool, cond_both, cond-true, cond-false}
 use Rattle.gm_game.specs.Shown.{IsPlain, IsShown}
 use Rattle.gm_game.proofs.PlainTexts.{plain_append}
 use Rattle.gm_board.specs.Squares.{cell_text}
-use Rattle.gm_sides.specs.SideTexts.{board_text}
+use Rattle.gm_pieces.specs.SideTexts.{board_text}
 use Rattle.gm_board.specs.laws.CellTexts.{cell_text_once, step_text_once}
-use Rattle.gm_sides.specs.laws.TextFacts.{text_length, text_once, text_plain, cell_plain}
+use Rattle.gm_pieces.specs.laws.SideTextFacts.{text_length, text_once, text_plain, cell_plain}
 use Rattle.gm_pieces.specs.MoveTexts.{AreTexts}
 use Rattle.gm_pieces.specs.laws.TextFacts.{texts_are_shown}
 use Rattle.gm_morris.specs.declared.variant.Variant.{Variant}

@@ -9,7 +9,7 @@ use Rattle.gm_game.specs.Children.{IsSetOf, with_position}
 use Rattle.gm_game.proofs.SetLemmas.{length_with_le}
 use Rattle.gm_game.proofs.ChildrenSteps.{set_none, set_more}
 use Rattle.gm_board.specs.laws.Filters.{filter_in}
-use Rattle.gm_steps.specs.laws.Skipped.{filter_skip}
+use Rattle.gm_pieces.specs.laws.Skipped.{filter_skip}
 use Rattle.gm_pieces.specs.MoveGames.{MoveGame, board_game, steps, moves_by, IsMoveGame}
 use Rattle.gm_pieces.specs.MoveChildren.{position_after, AreChildrenBelow}
 use Rattle.gm_pieces.specs.laws.MoveLaws.{all_steps, step_room}

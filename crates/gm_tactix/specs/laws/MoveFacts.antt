@@ -8,7 +8,7 @@ use Rattle.gm_game.specs.Rules.{IsAscending}
 use Rattle.gm_board.specs.laws.Lists.{contains_head, and_left, and_right, and_both}
 use Rattle.gm_board.specs.Ranks.{members}
 use Rattle.gm_board.specs.laws.Filters.{filter_few, nil_or}
-use Rattle.gm_steps.specs.laws.Listed.{filter_ascending}
+use Rattle.gm_pieces.specs.laws.Listed.{filter_ascending}
 use Rattle.gm_pieces.specs.MoveGames.{steps}
 use Rattle.gm_pieces.specs.laws.MoveLaws.{step_in, step_listed}
 use Rattle.gm_tactix.specs.Segments.{first_cell, segment_length, goes_down, stride, cells_from, segment_cells, is_segment, numbers_end}

@@ -1,9 +1,6 @@
 //! Boards by hand, and from two threads.
-ghost use Rattle.std.specs.Prelude.{◌≡◌, ◌-◌, ◌≤◌};
-ghost use Rattle.gm_deliveries.specs.Begin.{first_state};
-ghost use Rattle.gm_pass.specs.Spots.{spot_of, AreFourTiles};
-
-use crate::expect::{expect, expect_eq, must};
+use crate::expect::must;
+use crate::solver::desks::{Deed, Step, by_hand};
 use crate::solver::shards::first_note;
 use gm_deliveries::status::{Delivery, Refused};
 use gm_desk::board::Four;
@@ -11,64 +8,58 @@ use gm_game::game::Game;
 use gm_game::limits::TIER_SIZE;
 use gm_shard::shard::Shard;
 use gm_solver::starts::begin_range;
-use gm_testing::desks::{deliver_by_hand, deliver_twice_by_hand, watch};
 use gm_toys::countdown::Countdown;
-use std::alloc::Global;
 use std::process::Abort;
+use std::sync::Wait;
+use std::thread::Threads;
 
-type Ten = Countdown<10>;
-
-// The shard of the indexes of tier 0 from `lo` up to `hi`.
-fn range<G: Game>(rt: &impl Abort, alloc: Global, lo: u64, hi: u64) -> Shard<G>
-    requires order { lo ≤ hi }
-    requires within { hi ≤ TIER_SIZE }
-    ensures { result ≡ first_state 0 lo (hi - lo) }
-{
-    must(rt, begin_range(alloc, 0, lo, hi))
-}
-
-// The shards of tier 0 that is cut at this index, and two without positions.
-fn cut<G: Game>(rt: &impl Abort, alloc: Global, at: u64) -> Four<Shard<G>>
-    ensures { AreFourTiles G.rules (spot_of result.a) (spot_of result.b) (spot_of result.c) (spot_of result.d) }
-{
+// Takes these steps with the note of index 0 and a parent, on a board round tier 0 that is cut at this index, and two shards without positions.
+fn take_steps<G: Game + Send + Sync, R: Threads + Wait + Sync + AllocGlobal + Abort>(
+    rt: &R,
+    at: u64,
+    parent: u64,
+    steps: &[Step],
+    delivered: (u64, u64),
+) {
+    let alloc = rt.alloc();
     let size = G::tier_size(0);
     assert!(rt; at <= size && size <= TIER_SIZE);
-    Four {
-        a: range(rt, alloc, 0, at),
-        b: range(rt, alloc, at, size),
-        c: range(rt, alloc, size, size),
-        d: range(rt, alloc, size, size),
-    }
+    let shards: Four<Shard<G>> = Four {
+        a: must(rt, begin_range(alloc, 0, 0, at)),
+        b: must(rt, begin_range(alloc, 0, at, size)),
+        c: must(rt, begin_range(alloc, 0, size, size)),
+        d: must(rt, begin_range(alloc, 0, size, size)),
+    };
+    let note = first_note(rt, &shards.a);
+    by_hand(rt, shards, &note, parent, steps, delivered);
 }
+
+const ONE_BY_ONE: [Step; 3] = [
+    (Deed::Once(Ok(Delivery::FreshSettled)), 0, (1, 0)),
+    (Deed::Once(Ok(Delivery::Repeat)), 0, (1, 0)),
+    (Deed::Once(Err(Refused::NotMine)), 1, (1, 0)),
+];
 
 #[test]
 fn board_by_hand(rt: HostRuntime) {
-    let shards = cut::<Ten>(&rt, rt.alloc(), 6);
-    let note = first_note(&rt, &shards.a);
-    let (told, delivered) = deliver_by_hand(&rt, shards, &note, 1);
-    let wanted = [
-        (Ok(Delivery::FreshSettled), 1, 0),
-        (Ok(Delivery::Repeat), 1, 0),
-        (Err(Refused::NotMine), 1, 0),
-    ];
-    expect_eq(&rt, told, wanted);
-    expect_eq(&rt, delivered, (1, 0));
+    take_steps::<Countdown<10>, _>(&rt, 6, 1, &ONE_BY_ONE, (1, 0));
 }
+
+const TWO_AT_ONCE: [Step; 2] = [(Deed::Twice(1), 0, (1, 0)), (Deed::Twice(0), 1, (1, 0))];
 
 #[test]
 fn board_by_hand_many_at_once(rt: HostRuntime) {
-    let shards = cut::<Ten>(&rt, rt.alloc(), 6);
-    let note = first_note(&rt, &shards.a);
-    let told = deliver_twice_by_hand(&rt, shards, &note, 1);
-    expect_eq(&rt, told, [(1, 1, 0), (0, 1, 0)]);
+    take_steps::<Countdown<10>, _>(&rt, 6, 1, &TWO_AT_ONCE, (1, 0));
 }
+
+// Index 1 has the one move to 0.
+const MEANWHILE: [Step; 1] = [(
+    Deed::Meanwhile(1, Some(1), Ok(Delivery::FreshSettled)),
+    1,
+    (0, 1),
+)];
 
 #[test]
 fn locks_are_separate(rt: HostRuntime) {
-    let shards = cut::<Ten>(&rt, rt.alloc(), 2);
-    let note = first_note(&rt, &shards.a);
-    let seen = watch(&rt, shards, &note, 1, 2);
-    expect_eq(&rt, seen.counter, Some(1));
-    expect_eq(&rt, seen.answer, Ok(Delivery::FreshSettled));
-    expect(&rt, !seen.gave_up);
+    take_steps::<Countdown<10>, _>(&rt, 2, 2, &MEANWHILE, (0, 1));
 }

@@ -1,10 +1,9 @@
 //! Records that are checked, and the tables that are made of them.
 use crate::expect::{expect, expect_eq, must};
-use crate::solver::records::{hold, lose, of_countdown, of_wheel, win};
+use crate::solver::records::{COUNTDOWN, Known, WHEEL, check_table, held, hold, record};
 use gm_game::game::Game;
-use gm_game::position::{Phase, Position, Solved};
+use gm_game::position::{Phase, Position, Solved, Value};
 use gm_table::checker::{CheckError, check};
-use gm_table::table::Table;
 use gm_table::tables::Tables;
 use gm_toys::countdown::Countdown;
 use gm_toys::wheel::Wheel;
@@ -13,11 +12,6 @@ use std::process::Abort;
 
 type Ten = Countdown<10>;
 
-// Threads may share tables.
-fn shared<T: Send + Sync>(tables: &T) -> &T {
-    tables
-}
-
 // Why records of Countdown are refused.
 fn refusal(alloc: Global, tables: &Tables<Ten>, records: &[Option<Solved>]) -> Option<CheckError> {
     check(alloc, 0, records, tables).err()
@@ -25,87 +19,68 @@ fn refusal(alloc: Global, tables: &Tables<Ten>, records: &[Option<Solved>]) -> O
 
 #[test]
 fn check_of_countdown(rt: HostRuntime) {
-    let alloc = rt.alloc();
-    let mut records = of_countdown();
-    let mut tables: Tables<Ten> = Tables::new(alloc);
-    hold(&rt, alloc, &mut tables, 0, &records);
-    records[9] = lose(7);
-    let wrong = refusal(alloc, &tables, &records);
-    expect_eq(&rt, wrong, Some(CheckError::WrongRecord { index: 9 }));
-    let short = refusal(alloc, &tables, &records[..10]);
+    let tables: Tables<Ten> = Tables::new(rt.alloc());
+    let mut records = COUNTDOWN.map(record);
+    let short = refusal(rt.alloc(), &tables, &records[..10]);
     expect_eq(&rt, short, Some(CheckError::WrongSize));
-    drop(tables);
+    let table = must(&rt, check(rt.alloc(), 0, &records, &tables));
+    check_table(&rt, &table, 0, &COUNTDOWN);
+    records[9] = record((Value::Lose, 7));
+    let wrong = refusal(rt.alloc(), &tables, &records);
+    expect_eq(&rt, wrong, Some(CheckError::WrongRecord { index: 9 }));
+    drop((tables, table));
 }
 
-// What the table of Countdown says of itself.
-fn check_table<G: Game>(rt: &impl Abort, table: &Table<G>) {
-    expect_eq(rt, table.tier(), 0);
-    expect_eq(rt, table.size(), 11);
-    expect_eq(rt, table.at(9), lose(6));
-    expect_eq(rt, table.at(11), None);
-    expect_eq(rt, table.greatest(Phase::WinLose), Some(7));
-    expect_eq(rt, table.greatest(Phase::Ties), None);
+// A place, and the indexes that a table has there.
+type Run = (u64, Phase, u32, &'static [u32]);
+
+// What the tables of a game say whose tier 0 is held: the greatest remotenesses, the runs, and that there is nothing past the last index or in another tier.
+fn check_held<G: Game>(
+    rt: &impl Abort,
+    tables: &Tables<G>,
+    greatest: (Option<u32>, Option<u32>),
+    runs: &[Run],
+) {
+    let table = tables.table(0).expect(rt, "it is held");
+    let found = (table.greatest(Phase::WinLose), table.greatest(Phase::Ties));
+    expect_eq(rt, found, greatest);
+    for (tier, phase, level, run) in runs {
+        expect_eq(rt, tables.run(*tier, *phase, *level), *run);
+    }
+    let past = Position {
+        tier: 0,
+        index: table.size(),
+    };
+    expect_eq(rt, tables.get(past), None);
+    expect(rt, tables.table(1).is_none());
 }
 
-#[test]
-fn table_of_countdown(rt: HostRuntime) {
-    let alloc = rt.alloc();
-    let records = of_countdown();
-    let tables: Tables<Ten> = Tables::new(alloc);
-    let table = must(&rt, check(alloc, 0, &records, &tables));
-    check_table(&rt, &table);
-    // The same without a check.
-    let same: Table<Ten> = must(&rt, Table::from_true(alloc, 0, &records));
-    expect_eq(&rt, same.at(10), win(7));
-    drop((tables, table, same));
-}
-
-// The runs and records of Countdown, of whose tier the table is held.
-fn check_runs(rt: &impl Abort, tables: &Tables<Ten>) {
-    expect(rt, shared(tables).has(0));
-    expect(rt, tables.table(0).is_some());
-    expect_eq(rt, tables.run(0, Phase::WinLose, 3), [4, 5].as_slice());
-    expect(rt, tables.run(0, Phase::WinLose, 8).is_empty());
-    expect(rt, tables.run(0, Phase::Ties, 0).is_empty());
-    expect(rt, tables.run(1, Phase::WinLose, 3).is_empty());
-    expect_eq(rt, tables.get(Position { tier: 0, index: 6 }), lose(4));
-    expect_eq(rt, tables.get(Position { tier: 0, index: 11 }), None);
-    expect_eq(rt, tables.get(Position { tier: 1, index: 0 }), None);
-}
+const RUNS: &[Run] = &[
+    (0, Phase::WinLose, 3, &[4, 5]),
+    (0, Phase::WinLose, 8, &[]),
+    (0, Phase::Ties, 0, &[]),
+    (1, Phase::WinLose, 3, &[]),
+];
 
 #[test]
 fn runs_of_tables(rt: HostRuntime) {
-    let alloc = rt.alloc();
-    let records = of_countdown();
-    let mut tables: Tables<Ten> = Tables::new(alloc);
-    expect(&rt, !tables.has(0));
-    expect(&rt, tables.table(0).is_none());
-    expect(&rt, tables.run(0, Phase::WinLose, 3).is_empty());
-    // The same after it was inserted once and twice.
-    hold(&rt, alloc, &mut tables, 0, &records);
-    check_runs(&rt, &tables);
-    hold(&rt, alloc, &mut tables, 0, &records);
-    check_runs(&rt, &tables);
+    let mut tables = held::<Ten>(&rt, rt.alloc(), &COUNTDOWN);
+    check_held(&rt, &tables, (Some(7), None), RUNS);
+    // The same after it was inserted again.
+    hold(&rt, rt.alloc(), &mut tables, 0, &COUNTDOWN);
+    check_held(&rt, &tables, (Some(7), None), RUNS);
     drop(tables);
 }
+
+const RUNS_OF_WHEEL: &[Run] = &[
+    (0, Phase::Ties, 0, &[0]),
+    (0, Phase::Ties, 2, &[2]),
+    (1, Phase::Ties, 0, &[]),
+];
 
 #[test]
 fn runs_of_wheel(rt: HostRuntime) {
-    let alloc = rt.alloc();
-    let mut tables: Tables<Wheel> = Tables::new(alloc);
-    let table = must(&rt, check(alloc, 0, &of_wheel(), &tables));
-    expect_eq(&rt, table.greatest(Phase::WinLose), Some(3));
-    expect_eq(&rt, table.greatest(Phase::Ties), Some(2));
-    must(&rt, tables.insert(table));
-    expect_eq(&rt, tables.run(0, Phase::Ties, 0), [0].as_slice());
-    expect_eq(&rt, tables.run(0, Phase::Ties, 2), [2].as_slice());
-    expect(&rt, tables.run(1, Phase::Ties, 0).is_empty());
+    let tables = held::<Wheel>(&rt, rt.alloc(), &WHEEL);
+    check_held(&rt, &tables, (Some(3), Some(2)), RUNS_OF_WHEEL);
     drop(tables);
-}
-
-#[test]
-fn errors_have_numbers(rt: HostRuntime) {
-    expect_eq(&rt, CheckError::OutOfMemory.number(), 1);
-    expect_eq(&rt, CheckError::WrongSize.number(), 2);
-    expect_eq(&rt, CheckError::WrongRecord { index: 5 }.number(), 3);
 }

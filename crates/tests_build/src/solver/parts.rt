@@ -1,36 +1,41 @@
-//! Plans, sources, errors, and the tier solved by the call with workers.
-use crate::expect::{expect, expect_eq, must};
-use crate::solver::records::win;
-use gm_game::position::{Phase, Place};
+//! Plans, sources, the numbers of errors, and the limit on remoteness.
+use crate::expect::{expect_eq, must};
+use crate::solver::records::record;
+use gm_best::answer::AnswerError;
+use gm_build::build_error::BuildError;
+use gm_deliveries::status::{Refused, Short};
+use gm_game::position::Value;
+use gm_solver::alone::solve_alone;
 use gm_solver::error::SolveError;
-use gm_solver::gate::{Gate, NoGate};
 use gm_solver::plan::Plan;
 use gm_solver::source::{Counter, Source};
-use gm_solver::tier::solve_tier;
+use gm_table::checker::CheckError;
 use gm_table::tables::Tables;
-use gm_toys::countdown::Countdown;
+use gm_toys::chain::Chain;
 
-// Whether there is a plan of these numbers, and it has them.
-fn has_plan(workers: usize, shards: usize, piece: usize) -> bool {
-    match Plan::new(workers, shards, piece) {
-        Some(plan) => {
-            plan.workers() == workers && plan.shards() == shards && plan.piece() == piece
-        }
-        None => false,
-    }
-}
+// Numbers of workers, of shards, and of notes in a piece, and whether there is a plan of them.
+const PLANS: [(usize, usize, usize, bool); 9] = [
+    (0, 1, 1, false),
+    (17, 1, 1, false),
+    (1, 0, 1, false),
+    (1, 5, 1, false),
+    (1, 1, 0, false),
+    (1, 1, 4097, false),
+    (1, 1, 1, true),
+    (16, 4, 4096, true),
+    (4, 2, 64, true),
+];
 
 #[test]
 fn plans_outside_the_limits(rt: HostRuntime) {
-    expect_eq(&rt, Plan::new(0, 1, 1), None);
-    expect_eq(&rt, Plan::new(17, 1, 1), None);
-    expect_eq(&rt, Plan::new(1, 0, 1), None);
-    expect_eq(&rt, Plan::new(1, 5, 1), None);
-    expect_eq(&rt, Plan::new(1, 1, 0), None);
-    expect_eq(&rt, Plan::new(1, 1, 4097), None);
-    expect(&rt, has_plan(1, 1, 1));
-    expect(&rt, has_plan(16, 4, 4096));
-    expect(&rt, has_plan(4, 2, 64));
+    for (workers, shards, piece, is_plan) in PLANS {
+        let found = match Plan::new(workers, shards, piece) {
+            Some(plan) => Some((plan.workers(), plan.shards(), plan.piece())),
+            None => None,
+        };
+        let wanted = is_plan.then_some((workers, shards, piece));
+        expect_eq(&rt, found, wanted);
+    }
 }
 
 #[test]
@@ -38,39 +43,51 @@ fn counter_hands_out(rt: HostRuntime) {
     let counter = Counter::new();
     expect_eq(&rt, counter.next(&rt, 0), None);
     counter.begin(&rt, 2);
-    expect_eq(&rt, counter.next(&rt, 0), Some(0));
-    expect_eq(&rt, counter.next(&rt, 1), Some(1));
-    expect_eq(&rt, counter.next(&rt, 0), None);
-    expect_eq(&rt, counter.next(&rt, 1), None);
+    let two = (counter.next(&rt, 0), counter.next(&rt, 1));
+    expect_eq(&rt, two, (Some(0), Some(1)));
+    let none = (counter.next(&rt, 0), counter.next(&rt, 1));
+    expect_eq(&rt, none, (None, None));
     counter.begin(&rt, 0);
     expect_eq(&rt, counter.next(&rt, 0), None);
 }
 
 #[test]
-fn gate_that_does_nothing(rt: HostRuntime) {
-    let place = Place {
-        tier: 0,
-        phase: Phase::WinLose,
-        level: 0,
-    };
-    NoGate.before(&rt, 0, place);
-    NoGate.after(&rt, 0, place);
+fn chain_at_the_limit(rt: HostRuntime) {
+    let far: Tables<Chain<1048576>> = Tables::new(rt.alloc());
+    let refused = solve_alone(rt.alloc(), 0, &far).err();
+    expect_eq(&rt, refused, Some(SolveError::TooFar { tier: 0 }));
+    let tables: Tables<Chain<1048575>> = Tables::new(rt.alloc());
+    let (table, deliveries) = must(&rt, solve_alone(rt.alloc(), 0, &tables));
+    let found = (table.at(1_048_575), deliveries);
+    expect_eq(&rt, found, (record((Value::Win, 1_048_575)), 1_048_575));
+    drop((far, tables, table));
 }
 
 #[test]
 fn errors_have_numbers(rt: HostRuntime) {
-    expect_eq(&rt, SolveError::OutOfMemory.number(), 1);
-    expect_eq(&rt, SolveError::TooFar { tier: 5 }.number(), 2);
-}
-
-#[test]
-fn deliveries_of_countdown(rt: HostRuntime) {
-    let tables: Tables<Countdown<10>> = Tables::new(rt.alloc());
-    let plan = Plan::new(2, 2, 1).expect(&rt, "a plan");
-    let solved = solve_tier(&rt, rt.alloc(), 0, &tables, plan, &NoGate, &Counter::new());
-    let (table, report) = must(&rt, solved);
-    expect_eq(&rt, table.at(10), win(7));
-    expect_eq(&rt, report.deliveries, 19);
-    expect_eq(&rt, report.by_hand, 0);
-    drop((tables, table));
+    let short = Short {
+        delivered: 1,
+        expected: 2,
+    };
+    let numbers = [
+        AnswerError::Illegal.number(),
+        AnswerError::NotHeld.number(),
+        CheckError::OutOfMemory.number(),
+        CheckError::WrongSize.number(),
+        CheckError::WrongRecord { index: 5 }.number(),
+        SolveError::OutOfMemory.number(),
+        SolveError::TooFar { tier: 5 }.number(),
+        BuildError::OutOfMemory.number(),
+        BuildError::TooFar { tier: 5 }.number(),
+        BuildError::StoreFailed { tier: 5 }.number(),
+        BuildError::TooManyTiers.number(),
+        BuildError::TierTooLarge { tier: 5 }.number(),
+        Refused::NotThisLevel.number(),
+        Refused::NotMine.number(),
+        Refused::NotAParent.number(),
+        Refused::TooFar.number(),
+        short.number(),
+    ];
+    let wanted = [1, 2, 1, 2, 3, 1, 2, 1, 2, 3, 4, 5, 1, 2, 3, 4, 1];
+    expect_eq(&rt, numbers, wanted);
 }

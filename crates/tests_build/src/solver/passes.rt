@@ -1,93 +1,126 @@
-//! Tiers solved with one pass a shard, whatever their source and gate do.
+//! Desks that are delivered to in order, as callers with workers of their own use them.
+ghost use Rattle.std.specs.Prelude.{◌≡◌, ◌<◌, ◌≤◌};
+ghost use Rattle.gm_deliveries.specs.State.{pairs_in};
+ghost use Rattle.gm_deliveries.specs.Begin.{first_state};
+ghost use Rattle.gm_desk.specs.Spots.{spot_of};
+ghost use Rattle.gm_desk.specs.Rounds.{place_of_spot, HasNoneHere, IsForSpot, IsLevelAt};
+
 use crate::expect::{expect, expect_eq, must};
-use crate::solver::ways::{asked_on_stairs, by_habit, counted, long_chain, ten, two_meet, wheel};
-use gm_deliveries::status::Delivery;
+use crate::solver::shards::closes;
+use gm_deliveries::status::{Delivery, Refused};
+use gm_desk::pass::{Pass, PassDesk, Round};
+use gm_frontier::expected::Expected;
 use gm_frontier::level::Level;
 use gm_game::game::Game;
 use gm_game::limits::TIER_SIZE;
+use gm_shard::shard::Shard;
+use gm_solver::starts::begin_range;
 use gm_table::tables::Tables;
 use gm_testing::by_hand::begin_whole;
-use gm_testing::crews::Way;
-use gm_testing::pass_desks::{Told, pass_by_hand};
-use gm_testing::sources::{Habit, TestGate, TestSource};
 use gm_toys::countdown::Countdown;
+use std::alloc::Global;
+use std::marker::Brand;
+use std::process::Abort;
+use std::sync::Wait;
+use std::sync::ledger::Blank;
 
-type Ten = Countdown<10>;
+// What a desk answers to one delivery, with the amount of the pass after it, and whether that is full.
+type Told = (Result<Delivery, Refused>, u64, bool);
 
-#[test]
-fn every_pass_is_taken(rt: HostRuntime) {
-    let source = TestSource::counter();
-    ten(&rt, Way::Passes, (1, 1, 1), &TestGate::Open, &source, 0);
-    ten(&rt, Way::Passes, (2, 2, 1), &TestGate::Open, &source, 0);
-    ten(&rt, Way::Passes, (16, 4, 1), &TestGate::Open, &source, 0);
+// Delivers each of the level's pairs into the desk's range that is the pass's next one: whether these are the answers.
+fn answers<G: Game, L: Round, R: Wait>(
+    rt: &R,
+    desk: &PassDesk<G, L>,
+    level: &Level<G>,
+    pass: &mut Pass<L>,
+    expected: &Expected<G>,
+    told: &[Told],
+) -> bool
+    requires level { IsLevelAt level.now L.spot L.notes }
+    requires is_for { IsForSpot expected.now L.spot }
+{
+    let _place = level.place();
+    let (lo, hi) = desk.range();
+    let mut same = true;
+    let mut number = 0u64;
+    for (note, parent) in level.pairs(0, level.len().max(1), lo, hi) {
+        if number == pass.amount() {
+            let answer = desk.deliver_next(rt, &note, parent, pass);
+            let found = (answer, pass.amount(), pass.full(expected));
+            same = same && told.get(number as usize) == Some(&found);
+        }
+        number += 1;
+    }
+    same && number == told.len() as u64
 }
 
-#[test]
-fn sources_of_every_habit_by_passes(rt: HostRuntime) {
-    by_habit(&rt, Way::Passes, Habit::Silent, 19);
-    by_habit(&rt, Way::Passes, Habit::Always(0), 10);
-    by_habit(&rt, Way::Passes, Habit::Twice, 0);
-    by_habit(&rt, Way::Passes, Habit::Odd, 9);
-    by_habit(&rt, Way::Passes, Habit::Always(usize::MAX), 19);
+// At a desk of this name round a shard, whose pass is full at once where nothing is to be told, and at the end. Then the shard has so many pairs, and closes.
+fn pass_named<G: Game, L: Round, R: Wait + Abort>(
+    rt: &R,
+    blank: Blank,
+    shard: Shard<G>,
+    level: &Level<G>,
+    expected: &Expected<G>,
+    told: &[Told],
+    delivered: u64,
+)
+    requires name { blank.name ≡ L.name }
+    requires parts { (blank.parts ≡ L.parts) × (0 < L.parts) }
+    requires spot { spot_of shard ≡ L.spot }
+    requires level { IsLevelAt level.now L.spot L.notes }
+    requires base { pairs_in shard ≡ L.base }
+    requires none { HasNoneHere G.rules shard }
+    requires is_for { IsForSpot expected.now L.spot }
+{
+    let (desk, mut pass) = PassDesk::<G, L>::around(blank, shard, level);
+    expect_eq(rt, pass.full(expected), told.is_empty());
+    expect(rt, answers(rt, &desk, level, &mut pass, expected, told));
+    assert!(rt; pass.full(expected));
+    let mut shard = desk.into_whole(pass, expected);
+    expect_eq(rt, shard.delivered(), delivered);
+    closes(rt, &mut shard, expected, Ok(()));
+    drop(shard);
 }
+
+// Delivers the first level of a tier at a desk round the indexes from `lo` up to `hi`, which answers so.
+fn pass_by_hand<G: Game, R: Wait + Abort>(
+    rt: &R,
+    alloc: Global,
+    level: &Level<G>,
+    lo: u64,
+    hi: u64,
+    told: &[Told],
+    delivered: u64,
+)
+    requires first { level.now.place ≡ place_of_spot (spot_of (first_state level.now.place.tier 0 0)) }
+    requires order { lo ≤ hi }
+    requires within { hi ≤ TIER_SIZE }
+{
+    let tier = level.tier();
+    let shard = must(rt, begin_range::<G>(alloc, tier, lo, hi));
+    let mut expected = Expected::start(tier, lo, hi);
+    expected.add(level);
+    let blank = Blank::new(1);
+    pass_named::<G, Brand, R>(rt, blank, shard, level, &expected, told, delivered);
+    drop(expected);
+}
+
+// The note of 0 to its parents 1 and 2.
+const TOLD: [Told; 2] = [
+    (Ok(Delivery::FreshSettled), 1, false),
+    (Ok(Delivery::FreshSettled), 2, true),
+];
 
 // The first level of Countdown, at desks round the indexes below 6 and from 6 on.
 #[test]
 fn desks_by_hand(rt: HostRuntime) {
-    // The note of 0 to its parents 1 and 2.
-    let told: [Told; 2] = [
-        (Ok(Delivery::FreshSettled), 1, false),
-        (Ok(Delivery::FreshSettled), 2, true),
-    ];
     let alloc = rt.alloc();
-    let tables: Tables<Ten> = Tables::new(alloc);
-    let size = Ten::tier_size(0);
-    assert!(rt; tables.has_children(0) && 6 <= size && size <= TIER_SIZE);
-    let whole = must(&rt, begin_whole::<Ten>(alloc, 0));
+    let tables: Tables<Countdown<10>> = Tables::new(alloc);
+    let whole = must(&rt, begin_whole::<Countdown<10>>(alloc, 0));
     let runs = [must(&rt, whole.fresh(alloc))];
     let level = must(&rt, Level::gather(alloc, whole.place(), &runs, &tables));
-    let low = must(&rt, pass_by_hand(&rt, alloc, &level, 0, 6, &told));
-    expect(&rt, !low.full_at_first && low.as_expected);
-    expect_eq(&rt, low.whole, Some((2, true)));
-    let high = must(&rt, pass_by_hand(&rt, alloc, &level, 6, size, &[]));
-    expect(&rt, high.full_at_first && high.as_expected);
-    expect_eq(&rt, high.whole, Some((0, true)));
+    pass_by_hand(&rt, alloc, &level, 0, 6, &TOLD, 2);
+    pass_by_hand(&rt, alloc, &level, 6, 11, &[], 0);
     drop(level);
     drop((runs, whole, tables));
-}
-
-#[test]
-fn two_workers_meet_with_passes(rt: HostRuntime) {
-    two_meet(&rt, Way::Passes, 3);
-}
-
-#[test]
-fn wheel_by_passes(rt: HostRuntime) {
-    wheel(&rt, Way::Passes, Habit::Twice, 0);
-    wheel(&rt, Way::Passes, Habit::Silent, 9);
-}
-
-#[test]
-fn four_passes_at_each_level(rt: HostRuntime) {
-    let (levels, told, asks) = asked_on_stairs(&rt, Way::Passes);
-    // The levels 0 to 3 of wins and losses, of which 0 and 1 and 3 have no pair, and none of ties.
-    expect_eq(&rt, levels, 4);
-    expect_eq(&rt, told, 16);
-    // Two workers, each of which asks four times a level.
-    expect_eq(&rt, asks, 32);
-}
-
-#[test]
-fn slow_gate_by_passes(rt: HostRuntime) {
-    counted(&rt, Way::Passes, 1, 1000);
-}
-
-#[test]
-fn gate_is_called_for_each_delivery_by_passes(rt: HostRuntime) {
-    counted(&rt, Way::Passes, 1, 0);
-}
-
-#[test]
-fn a_long_chain_by_passes(rt: HostRuntime) {
-    long_chain(&rt, Way::Passes);
 }

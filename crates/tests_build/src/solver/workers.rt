@@ -1,58 +1,169 @@
-//! Tiers solved by workers that take pieces of a level, whatever their source and gate do.
-use crate::expect::expect_eq;
-use crate::solver::records::lose;
-use crate::solver::ways::{
-    as_alone, asked_on_stairs, by_habit, counted, long_chain, shown, two_meet, wheel,
-};
+//! Tiers solved by workers, whatever their plan, source and gate are.
+use crate::expect::{expect, expect_eq};
+use crate::solver::records::hold;
+use crate::solver::ways::{LONG, NOTHING, ROUND, TEN, TOP, Truth, solves, solves_tier};
+use gm_game::game::Game;
+use gm_game::position::Value;
+use gm_table::tables::Tables;
 use gm_testing::crews::Way;
 use gm_testing::sources::{Habit, TestGate, TestSource};
+use gm_toys::chain::Chain;
 use gm_toys::countdown::Countdown;
+use gm_toys::stairs::Stairs;
+use gm_toys::wheel::Wheel;
+use std::process::Abort;
+use std::sync::Wait;
+use std::thread::Threads;
+
+type Ten = Countdown<10>;
+
+const WAYS: [Way; 2] = [Way::Pieces, Way::Passes];
+
+const WORKERS: [usize; 3] = [1, 2, 16];
+
+const SHARDS: [usize; 3] = [1, 2, 4];
+
+// A game by this many workers in a way, for each number of shards and for pieces of one and of 64 notes.
+fn check_workers<G: Game + Send + Sync, R: Threads + Wait + Sync + AllocGlobal + Abort>(
+    rt: &R,
+    way: Way,
+    workers: usize,
+    truth: Truth,
+) {
+    let source = TestSource::counter();
+    for shards in SHARDS {
+        for piece in [1, 64] {
+            let how = (way, workers, shards, piece);
+            solves::<G, R>(rt, how, &TestGate::Open, &source, truth, 0);
+        }
+    }
+}
+
+// The same in both ways, and for each number of workers.
+fn check_plans<G: Game + Send + Sync, R: Threads + Wait + Sync + AllocGlobal + Abort>(
+    rt: &R,
+    truth: Truth,
+) {
+    for way in WAYS {
+        for workers in WORKERS {
+            check_workers::<G, R>(rt, way, workers, truth);
+        }
+    }
+}
 
 #[test]
-fn two_workers_meet(rt: HostRuntime) {
-    two_meet(&rt, Way::Pieces, 1);
+fn toys_under_nine_plans(rt: HostRuntime) {
+    check_plans::<Ten, _>(&rt, TEN);
+    check_plans::<Wheel, _>(&rt, ROUND);
 }
+
+// A game by sources of these habits, each with how many deliveries then are by hand.
+fn by_habit<G: Game + Send + Sync, R: Threads + Wait + Sync + AllocGlobal + Abort>(
+    rt: &R,
+    truth: Truth,
+    cases: &[(Way, Habit, u64)],
+) {
+    for (way, habit, by_hand) in cases {
+        let source = TestSource::of(*habit);
+        let how = (*way, 2, 2, 1);
+        solves::<G, R>(rt, how, &TestGate::Open, &source, truth, *by_hand);
+    }
+}
+
+const HABITS: &[(Way, Habit, u64)] = &[
+    (Way::Pieces, Habit::Silent, 19),
+    (Way::Pieces, Habit::Always(0), 6),
+    (Way::Pieces, Habit::Twice, 0),
+    (Way::Pieces, Habit::Odd, 13),
+    (Way::Pieces, Habit::Always(usize::MAX), 19),
+    (Way::Passes, Habit::Silent, 19),
+    (Way::Passes, Habit::Always(0), 10),
+    (Way::Passes, Habit::Twice, 0),
+    (Way::Passes, Habit::Odd, 9),
+    (Way::Passes, Habit::Always(usize::MAX), 19),
+];
+
+const HABITS_OF_WHEEL: &[(Way, Habit, u64)] = &[
+    (Way::Pieces, Habit::Silent, 9),
+    (Way::Passes, Habit::Twice, 0),
+    (Way::Passes, Habit::Silent, 9),
+];
 
 #[test]
 fn sources_of_every_habit(rt: HostRuntime) {
-    by_habit(&rt, Way::Pieces, Habit::Silent, 19);
-    by_habit(&rt, Way::Pieces, Habit::Always(0), 6);
-    by_habit(&rt, Way::Pieces, Habit::Twice, 0);
-    by_habit(&rt, Way::Pieces, Habit::Odd, 13);
-    by_habit(&rt, Way::Pieces, Habit::Always(usize::MAX), 19);
+    by_habit::<Ten, _>(&rt, TEN, HABITS);
+    by_habit::<Wheel, _>(&rt, ROUND, HABITS_OF_WHEEL);
+}
+
+// Each way with the level at which two workers wait for each other: by passes both have pairs at level 3.
+#[test]
+fn two_workers_meet(rt: HostRuntime) {
+    for (way, level) in [(Way::Pieces, 1), (Way::Passes, 3)] {
+        let gate = TestGate::meeting(level);
+        let source = TestSource::of(Habit::Own);
+        solves::<Ten, _>(&rt, (way, 2, 2, 1), &gate, &source, TEN, 0);
+        expect(&rt, gate.met(&rt));
+    }
+}
+
+// Each way with the number of notes in a piece, and the turns that the gate takes.
+const TURNS: [(Way, usize, u32); 5] = [
+    (Way::Pieces, 1, 0),
+    (Way::Pieces, 64, 0),
+    (Way::Pieces, 1, 1000),
+    (Way::Passes, 1, 0),
+    (Way::Passes, 1, 1000),
+];
+
+#[test]
+fn gate_is_called_for_each_delivery(rt: HostRuntime) {
+    for (way, piece, turns) in TURNS {
+        let gate = TestGate::turnstile(turns);
+        let source = TestSource::counter();
+        solves::<Ten, _>(&rt, (way, 2, 2, piece), &gate, &source, TEN, 0);
+        expect_eq(&rt, gate.passed(), (19, 19));
+    }
 }
 
 #[test]
-fn wheel_without_workers(rt: HostRuntime) {
-    wheel(&rt, Way::Pieces, Habit::Silent, 9);
+fn a_long_chain(rt: HostRuntime) {
+    let source = TestSource::counter();
+    for way in WAYS {
+        solves::<Chain<4096>, _>(&rt, (way, 2, 2, 1), &TestGate::Open, &source, LONG, 0);
+    }
 }
 
 #[test]
 fn shards_without_positions(rt: HostRuntime) {
     let source = TestSource::counter();
-    let found = shown::<Countdown<0>, _>(&rt, Way::Pieces, (2, 4, 1), &TestGate::Open, &source);
-    expect_eq(&rt, found, as_alone(lose(0), 0, 0));
+    for way in WAYS {
+        let how = (way, 2, 4, 1);
+        solves::<Countdown<0>, _>(&rt, how, &TestGate::Open, &source, NOTHING, 0);
+    }
+}
+
+// The last of the stairs by a source that hands out each number twice: how many levels are begun, how many pieces it is told of, and how often it is asked.
+fn asked_on_stairs<R: Threads + Wait + Sync + AllocGlobal + Abort>(
+    rt: &R,
+    tables: &Tables<Stairs<3>>,
+    way: Way,
+) -> (usize, usize, usize) {
+    let source = TestSource::of(Habit::Twice);
+    let how = (way, 2, 2, 1);
+    solves_tier(rt, tables, 3, how, &TestGate::Open, &source, TOP, 0);
+    source.asked()
 }
 
 #[test]
 fn levels_of_stairs(rt: HostRuntime) {
-    let (levels, _told, _asks) = asked_on_stairs(&rt, Way::Pieces);
+    let mut tables: Tables<Stairs<3>> = Tables::new(rt.alloc());
+    hold(&rt, rt.alloc(), &mut tables, 0, &[(Value::Lose, 0)]);
+    hold(&rt, rt.alloc(), &mut tables, 1, &[(Value::Win, 1)]);
+    hold(&rt, rt.alloc(), &mut tables, 2, &[(Value::Lose, 2)]);
     // The levels 0 to 3 of wins and losses, and none of ties.
-    expect_eq(&rt, levels, 4);
-}
-
-#[test]
-fn slow_gate(rt: HostRuntime) {
-    counted(&rt, Way::Pieces, 1, 1000);
-}
-
-#[test]
-fn gate_is_called_for_each_delivery(rt: HostRuntime) {
-    counted(&rt, Way::Pieces, 1, 0);
-    counted(&rt, Way::Pieces, 64, 0);
-}
-
-#[test]
-fn a_long_chain(rt: HostRuntime) {
-    long_chain(&rt, Way::Pieces);
+    expect_eq(&rt, asked_on_stairs(&rt, &tables, Way::Pieces).0, 4);
+    // By passes the levels 0 and 1 and 3 have no pair. Two workers ask four times a level.
+    let by_passes = asked_on_stairs(&rt, &tables, Way::Passes);
+    expect_eq(&rt, by_passes, (4, 16, 32));
+    drop(tables);
 }

@@ -4,7 +4,7 @@ use gm_game::children::canonical_children;
 use gm_game::game::Game;
 use gm_game::position::{End, Position, Solved, Value};
 use gm_game::shown::Shown;
-use gm_settle::ahead::within;
+use gm_record::ahead::within;
 use std::process::Abort;
 
 /// A position of tier 0.

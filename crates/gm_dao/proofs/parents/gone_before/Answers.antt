@@ -2,7 +2,7 @@ use Rattle.std.proofs.Common.{◌<◌, sym, ◌∙◌, eqb-true, List}
 use Rattle.std.proofs.lemmas.Bool.{true≢false}
 use Rattle.gm_board.specs.declared.cell.Cell.{Cell}
 use Rattle.gm_board.specs.Images.{board_of, board_length}
-use Rattle.gm_sides.specs.laws.MaskFacts.{was_within}
+use Rattle.gm_pieces.specs.laws.MaskFacts.{was_within}
 use Rattle.gm_dao.proofs.BeforeSteps.{no_before, earlier_legal, one_before}
 use Rattle.gm_dao.proofs.parents.gone_before.Goals as goal
 use Rattle.gm_dao.proofs.parents.gone_before.Goals.{After-brought_back-earlier, else-tier-eq0-via-then-tier-eq0+else-is_open, else-tier-eq0-via-else-tier-eq0}

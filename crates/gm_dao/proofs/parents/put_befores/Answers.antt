@@ -4,8 +4,8 @@ use Rattle.gm_board.specs.laws.Lists.{and_left}
 use Rattle.gm_board.specs.Images.{board_of}
 use Rattle.gm_board.specs.laws.CellCounts.{their_cell, empty_cell}
 use Rattle.gm_board.specs.NextCells.{next_cell, cell_below}
-use Rattle.gm_steps.specs.laws.Listed.{put_room}
-use Rattle.gm_sides.specs.laws.MaskFacts.{their_cells}
+use Rattle.gm_pieces.specs.laws.Listed.{put_room}
+use Rattle.gm_pieces.specs.laws.MaskFacts.{their_cells}
 use Rattle.gm_pieces.specs.MoveGames.{before_at, befores}
 use Rattle.gm_dao.specs.DaoRules.{numbers_end, least_index_of, dao}
 use Rattle.gm_dao.specs.laws.BoardFacts.{legal_in}

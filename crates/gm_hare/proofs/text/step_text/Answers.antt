@@ -1,5 +1,5 @@
 use Rattle.std.proofs.Common.{◌≡◌, ℕ, List, [], ◌∷◌, ◌++◌, get_or, ap, ap₂, ◌∙◌, append_assoc}
-use Rattle.gm_steps.specs.Steps.{from_point, to_point}
+use Rattle.gm_pieces.specs.Steps.{from_point, to_point}
 use Rattle.gm_hare.specs.Texts.{names, point_name, step_text}
 use Rattle.gm_hare.proofs.text.step_text.Goals as goal
 

@@ -1,5 +1,7 @@
-use Rattle.std.proofs.lemmas.Result.{IfOk-from_err}
-use Rattle.std.proofs.Common.{◌≡◌, ap, sym, ◌∙◌}
+use Rattle.std.proofs.lemmas.Result.{IfOk-from_err, err_from_is_err_and}
+use Rattle.std.proofs.Common.{◌≡◌, ◌≤◌, ℕ, ap, sym, subst, ◌∙◌, arith}
+use Rattle.gm_game.specs.declared.limits.TheConstants.{TIER_SIZE}
+use Rattle.gm_table.specs.Tables.{AreHeld}
 use Rattle.gm_game.specs.declared.position.Phase.TheVariants.{Ties}
 use Rattle.gm_deliveries.specs.State.{ShardState}
 use Rattle.gm_solver.proofs.Final.{final_table, final_deliveries, not_too_far}
@@ -78,3 +80,31 @@ returns-in_err-finish-clause-deliveries g c = IfOk-from_err c.from_residual-in_e
 
 pub returns-in_err-finish-clause-near : goal.returns-in_err-finish-clause-near
 returns-in_err-finish-clause-near g c = IfOk-from_err c.from_residual-in_err-finish.result _ c.from_residual-in_err-finish.ensures.0
+
+pub finish_phase-requires-clause-near : goal.finish_phase-requires-clause-near
+finish_phase-requires-clause-near g c = (let first = c.requires.first.1 in omega arith)
+
+pub finish_phase-requires-2-clause-held : goal.finish_phase-requires-2-clause-held
+finish_phase-requires-2-clause-held g c =
+    let tier : c.next_phase.new.self.tier ≡ c.args.shard.now.tier = ap (λ (s : ShardState). s.tier) c.next_phase.ensures ∙ c.in_ok-last.ensures.later.tier in
+    subst (AreHeld g.G.Game.rules c.args.tables.now) (sym tier) c.requires.held
+
+pub finish_phase-requires-2-clause-small : goal.finish_phase-requires-2-clause-small
+finish_phase-requires-2-clause-small g c =
+    let tier : c.next_phase.new.self.tier ≡ c.args.shard.now.tier = ap (λ (s : ShardState). s.tier) c.next_phase.ensures ∙ c.in_ok-last.ensures.later.tier in
+    subst (λ (t : ℕ). g.G.Game.rules.tier_size t ≤ TIER_SIZE) (sym tier) c.requires.small
+
+pub finish_phase-requires-2-clause-lists : goal.finish_phase-requires-2-clause-lists
+finish_phase-requires-2-clause-lists g c =
+    let tier : c.next_phase.new.self.tier ≡ c.args.shard.now.tier = ap (λ (s : ShardState). s.tier) c.next_phase.ensures ∙ c.in_ok-last.ensures.later.tier in
+    c.requires.lists ∙ sym tier
+
+pub returns-in_err-records-clause-error : goal.returns-in_err-records-clause-error
+returns-in_err-records-clause-error g c =
+    let p = err_from_is_err_and c.from_residual-in_err-records.result c.from_residual-in_err-records.ensures.1 in
+    rw (p.1, p.2) tt
+
+pub returns-in_err-finish-clause-error : goal.returns-in_err-finish-clause-error
+returns-in_err-finish-clause-error g c =
+    let p = err_from_is_err_and c.from_residual-in_err-finish.result c.from_residual-in_err-finish.ensures.1 in
+    rw (p.1, p.2) tt

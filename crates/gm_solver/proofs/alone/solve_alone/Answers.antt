@@ -1,5 +1,30 @@
 use Rattle.std.proofs.lemmas.Result.{IfOk-from_err}
+use Rattle.std.proofs.Common.{ℕ, ◌≡◌, ◌≤◌, ◌∙◌, sym, subst, IfOk, IfErr, OnOk}
+use Rattle.gm_game.specs.declared.limits.TheConstants.{TIER_SIZE}
+use Rattle.gm_table.specs.Tables.{AreHeld}
+use Rattle.gm_solver.specs.Solving.{IsError, IsTooFar, AreDeliveries}
 use Rattle.gm_solver.proofs.alone.solve_alone.Goals as goal
+
+pub finish_tier-solved-requires-clause-held : goal.finish_tier-solved-requires-clause-held
+finish_tier-solved-requires-clause-held g c = subst (AreHeld g.G.Game.rules c.args.tables.now) (sym c.in_ok-shard.ensures.tier) c.requires.held
+
+pub finish_tier-solved-requires-clause-small : goal.finish_tier-solved-requires-clause-small
+finish_tier-solved-requires-clause-small g c = subst (λ (t : ℕ). g.G.Game.rules.tier_size t ≤ TIER_SIZE) (sym c.in_ok-shard.ensures.tier) c.requires.small
+
+pub finish_tier-solved-requires-clause-lists : goal.finish_tier-solved-requires-clause-lists
+finish_tier-solved-requires-clause-lists g c = c.in_ok-shard.ensures.lists ∙ sym c.in_ok-shard.ensures.tier
+
+pub returns-clause-tier : goal.returns-clause-tier
+returns-clause-tier g c = subst (λ (t : ℕ). IfOk c.finish_tier-solved.result (λ answer. answer.0.tier ≡ t)) c.in_ok-shard.ensures.tier c.finish_tier-solved.ensures.tier
+
+pub returns-clause-deliveries : goal.returns-clause-deliveries
+returns-clause-deliveries g c = subst (λ (t : ℕ). IfOk c.finish_tier-solved.result (λ answer. AreDeliveries g.G.Game.rules t answer.1)) c.in_ok-shard.ensures.tier c.finish_tier-solved.ensures.deliveries
+
+pub returns-clause-near : goal.returns-clause-near
+returns-clause-near g c = subst (λ (t : ℕ). OnOk c.finish_tier-solved.result (IsTooFar g.G.Game.rules t → ⊥)) c.in_ok-shard.ensures.tier c.finish_tier-solved.ensures.near
+
+pub returns-clause-error : goal.returns-clause-error
+returns-clause-error g c = subst (λ (t : ℕ). IfErr c.finish_tier-solved.result (IsError g.G.Game.rules t)) c.in_ok-shard.ensures.tier c.finish_tier-solved.ensures.error
 
 pub returns-in_err-shard-clause-tier : goal.returns-in_err-shard-clause-tier
 returns-in_err-shard-clause-tier g c = IfOk-from_err c.from_residual.result _ c.from_residual.ensures.0

@@ -4,11 +4,11 @@ use Rattle.gm_solver.proofs.crew.serve_level.Goals as goal
 pub returns-in_err-slots-clause-parts : goal.returns-in_err-slots-clause-parts
 returns-in_err-slots-clause-parts g c = IfOk-from_err c.from_residual.result _ c.from_residual.ensures.0
 
-pub returns-in_err-slots-clause-found : goal.returns-in_err-slots-clause-found
-returns-in_err-slots-clause-found g c = IfOk-from_err c.from_residual.result _ c.from_residual.ensures.0
+pub returns-in_err-slots-clause-tallies : goal.returns-in_err-slots-clause-tallies
+returns-in_err-slots-clause-tallies g c = IfOk-from_err c.from_residual.result _ c.from_residual.ensures.0
 
-pub returns-in_err-found-clause-parts : goal.returns-in_err-found-clause-parts
-returns-in_err-found-clause-parts g c = IfOk-from_err c.from_residual-in_err-found.result _ c.from_residual-in_err-found.ensures.0
+pub returns-in_err-fill-clause-parts : goal.returns-in_err-fill-clause-parts
+returns-in_err-fill-clause-parts g c = IfOk-from_err c.from_residual-in_err-fill.result _ c.from_residual-in_err-fill.ensures.0
 
-pub returns-in_err-found-clause-found : goal.returns-in_err-found-clause-found
-returns-in_err-found-clause-found g c = IfOk-from_err c.from_residual-in_err-found.result _ c.from_residual-in_err-found.ensures.0
+pub returns-in_err-fill-clause-tallies : goal.returns-in_err-fill-clause-tallies
+returns-in_err-fill-clause-tallies g c = IfOk-from_err c.from_residual-in_err-fill.result _ c.from_residual-in_err-fill.ensures.0

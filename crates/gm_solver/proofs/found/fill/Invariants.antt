@@ -1,11 +1,10 @@
 use Rattle.std.proofs.Common.{◌≡◌, vec_len}
-use Rattle.std.specs.Vec.Iter.{into_iter_items}
-use Rattle.gm_solver.proofs.FoundLemmas.{AreFoundFrom, AreSoFar}
+use Rattle.gm_solver.specs.Found.{AreFilled}
 use Rattle.gm_solver.proofs.found.fill.Given as goal
 
-abbrev pub invariant-loop-entry : goal.invariant-loop-entry
-invariant-loop-entry g l = record {
+abbrev pub invariant-loop-piece : goal.invariant-loop-piece
+invariant-loop-piece g l = record {
   parts : l.rest.parts ≡ l.fn.rest.parts;
-  so_far : AreSoFar l.pieces.level.now l.pieces.notes l.pieces.width l.tallies.items;
-  ahead : AreFoundFrom l.pieces.level.now l.pieces.notes l.pieces.width (vec_len l.tallies) (into_iter_items l.entry-iterator);
+  filled : AreFilled l.walker.pieces.now.level.now l.walker.pieces.now.notes l.walker.pieces.now.width l.piece l.found.items l.tallies.items;
+  same : vec_len l.found ≡ vec_len l.fn.found;
 }

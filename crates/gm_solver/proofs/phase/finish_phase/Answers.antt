@@ -1,4 +1,4 @@
-use Rattle.std.proofs.lemmas.Result.{IfOk-from_err}
+use Rattle.std.proofs.lemmas.Result.{IfOk-from_err, err_from_is_err_and}
 use Rattle.std.proofs.Common.{◌≡◌, ◌≤◌, sym, subst, ◌∙◌, arith}
 use Rattle.std.proofs.lemmas.Bool.{false≢true}
 use Rattle.gm_game.specs.declared.limits.TheConstants.{REMOTENESS}
@@ -44,3 +44,8 @@ returns-in_err-level-clause-later g c = IfOk-from_err c.from_residual-in_err-lev
 
 pub returns-in_err-level-clause-last : goal.returns-in_err-level-clause-last
 returns-in_err-level-clause-last g c = IfOk-from_err c.from_residual-in_err-level.result _ c.from_residual-in_err-level.ensures.0
+
+pub returns-in_err-level-clause-error : goal.returns-in_err-level-clause-error
+returns-in_err-level-clause-error g c =
+    let p = err_from_is_err_and c.from_residual-in_err-level.result c.from_residual-in_err-level.ensures.1 in
+    rw (p.1, p.2) tt

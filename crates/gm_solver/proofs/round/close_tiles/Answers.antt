@@ -1,6 +1,6 @@
 use Rattle.std.proofs.lemmas.Result.{IfOk-from_err}
 use Rattle.std.proofs.Common.{ap}
-use Rattle.gm_pass.specs.Spots.{Spot}
+use Rattle.gm_desk.specs.Spots.{Spot}
 use Rattle.gm_solver.proofs.TilingLemmas.{all_tallies}
 use Rattle.gm_solver.proofs.round.close_tiles.Goals as goal
 

@@ -1,4 +1,4 @@
-use Rattle.gm_pass.specs.Spots.{spot_of}
+use Rattle.gm_desk.specs.Spots.{spot_of}
 use Rattle.gm_solver.proofs.round.serve.Given as goal
 
 abbrev pub ghosts-serve_named-A-Ledger : goal.ghosts-serve_named-A-Ledger

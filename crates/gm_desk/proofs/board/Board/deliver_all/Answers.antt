@@ -1,7 +1,7 @@
 use Rattle.std.proofs.Common.{rules, ◌≡◌, ℕ, sym, subst, ap, ◌∙◌}
-use Rattle.gm_pass.specs.Spots.{choose}
+use Rattle.gm_desk.specs.Spots.{choose}
 use Rattle.gm_desk.specs.Batches.{AreAnswers}
-use Rattle.gm_pass.specs.Parts.{Part}
+use Rattle.gm_desk.specs.Parts.{Part}
 use Rattle.gm_desk.specs.Amounts.{Amounts, raised}
 use Rattle.gm_desk.proofs.Raises.{raised_a, raised_b, raised_c, raised_d}
 use Rattle.gm_desk.proofs.board.Board.deliver_all.Goals as goal

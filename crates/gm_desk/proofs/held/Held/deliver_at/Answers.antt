@@ -1,8 +1,8 @@
 use Rattle.std.proofs.Common.{◌≡◌, ℕ, ◌+◌, ap, subst, ◌∙◌, arith}
 use Rattle.gm_deliveries.specs.State.{pairs_in}
 use Rattle.gm_deliveries.specs.Delivery.{Delivers}
-use Rattle.gm_pass.specs.Parts.{Part, HeldData}
-use Rattle.gm_pass.proofs.Gains.{gained, stays, answered}
+use Rattle.gm_desk.specs.Parts.{Part, HeldData}
+use Rattle.gm_desk.proofs.Gains.{gained, stays, answered}
 use Rattle.gm_desk.proofs.held.Held.deliver_at.Goals as goal
 
 pub invariant_of-self : goal.invariant_of-self

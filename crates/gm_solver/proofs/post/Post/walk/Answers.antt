@@ -3,9 +3,9 @@ use Rattle.std.proofs.lemmas.Option.{slice_get_within}
 use Rattle.gm_game.specs.declared.position.Place.{Place}
 use Rattle.gm_game.specs.declared.limits.TheConstants.{TIER_SIZE}
 use Rattle.gm_frontier.specs.Notes.{NoteData}
-use Rattle.gm_pass.specs.Rounds.{pairs_into}
+use Rattle.gm_desk.specs.Rounds.{pairs_into}
 use Rattle.gm_solver.proofs.RoundLemmas.{next_below, into_fit, pairs_are_into, item_next, item_last}
-use Rattle.gm_pass.proofs.RoundLemmas.{level_into}
+use Rattle.gm_desk.proofs.RoundLemmas.{level_into}
 use Rattle.gm_solver.proofs.post.Post.walk.Goals as goal
 
 pub loop-note-init : goal.loop-note-init

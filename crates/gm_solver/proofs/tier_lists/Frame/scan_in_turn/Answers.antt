@@ -1,4 +1,4 @@
-use Rattle.std.proofs.Common.{◌≡◌, ℕ, IfOk, [], ◌∷◌, ◌++◌, length, length-append, sym, ap, subst, arith}
+use Rattle.std.proofs.Common.{rules, ◌≡◌, ℕ, IfOk, [], ◌∷◌, ◌++◌, length, length-append, sym, ap, subst, arith}
 use Rattle.gm_solver.specs.Blocks.{block_in, IsBlock}
 use Rattle.gm_solver.proofs.BlockLemmas.{EachAt, one_at, each_whole}
 use Rattle.gm_solver.proofs.tier_lists.Frame.scan_in_turn.Goals as goal
@@ -19,5 +19,5 @@ loop-place-preserved g c =
           (one_at _ before c.scan.result (subst (λ (k : ℕ). IfOk c.scan.result (λ block. IsBlock r self.tier (block_in self.rows k) block.0 block.1.items)) (sym long) c.scan.ensures) old.each);
     }
 
-pub returns-clause-each : goal.returns-clause-each
-returns-clause-each g c = each_whole _ c.loop-place.found.items c.loop-place.invariant.each
+pub returns : goal.returns
+returns g c = (search rules, each_whole _ c.loop-place.found.items c.loop-place.invariant.each)

@@ -9,7 +9,7 @@ invariant_of-self g c =
     let r = g.G.Game.rules in
     let s = c.args.self.now in
     let place = place_of s.shards.a in
-    let good = c.show_good_shards.ensures in
+    let good = c.show_good.ensures in
     record {
       lists_are = s.lists_are ∙ sym (ap (λ (t : ShardState). t.tier) c.next_phase.ensures);
       wide = search rules;

@@ -1,0 +1,78 @@
+//! The tables that files have.
+ghost use Rattle.std.specs.Prelude.{◌≤◌};
+ghost use Rattle.gm_table.specs.Tables.{AreHeld};
+
+use gm_game::game::Game;
+use gm_game::limits::TIER_SIZE;
+use gm_game::position::Solved;
+use gm_table::checker::{CheckError, check};
+use gm_table::table::Table;
+use gm_table::tables::Tables;
+use gm_tierdb::decode::{decode, decode_v1};
+use gm_tierdb::file_error::FileError;
+use std::alloc::Global;
+
+/// The judgement on a file: it has the true table of its tier, it has not, or nothing can be said of its tier.
+pub const ACCEPTED: char = '+';
+
+pub const REFUSED: char = '-';
+
+pub const UNREAD: char = '?';
+
+const OUT_OF_MEMORY: char = '!';
+
+// The table that records make, or the judgement on them.
+fn checked<G: Game>(
+    alloc: Global,
+    tables: &Tables<G>,
+    tier: u64,
+    records: &[Option<Solved>],
+) -> Result<Table<G>, char>
+    requires held { AreHeld G.rules tables.now tier }
+    requires small { G.rules.tier_size tier ≤ TIER_SIZE }
+{
+    match check(alloc, tier, records, tables) {
+        Ok(table) => Ok(table),
+        Err(CheckError::OutOfMemory) => Err(OUT_OF_MEMORY),
+        Err(_) => Err(REFUSED),
+    }
+}
+
+/// The true table of a tier, by its file of version 1 or of the present one, or the judgement on the file.
+pub fn table_of<G: Game>(
+    alloc: Global,
+    tables: &Tables<G>,
+    tier: u64,
+    is_old: bool,
+    file: &[u8],
+) -> Result<Table<G>, char> {
+    if !tables.has_children(tier) || G::tier_size(tier) > TIER_SIZE {
+        return Err(UNREAD);
+    }
+    let decoded = if is_old {
+        decode_v1::<G>(alloc, tier, file)
+    } else {
+        decode::<G>(alloc, tier, file)
+    };
+    let table = match &decoded {
+        Ok(records) => checked(alloc, tables, tier, records.as_slice()),
+        Err(FileError::OutOfMemory) => Err(OUT_OF_MEMORY),
+        Err(_) => Err(REFUSED),
+    };
+    drop(decoded);
+    table
+}
+
+/// The judgement on the file of a tier.
+pub fn judged<G: Game>(
+    alloc: Global,
+    tables: &Tables<G>,
+    tier: u64,
+    is_old: bool,
+    file: &[u8],
+) -> char {
+    match table_of(alloc, tables, tier, is_old, file) {
+        Ok(_) => ACCEPTED,
+        Err(sign) => sign,
+    }
+}

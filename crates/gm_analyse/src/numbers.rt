@@ -1,0 +1,122 @@
+//! How many positions of a value there are, by remoteness.
+ghost use Rattle.std.specs.Prelude.{◌≡◌, ◌<◌, ◌≤◌, ◌+◌, ◌++◌, ◌∷◌, [], ◌↔◌, ℕ, List, max, vec_len, slice_index_or, IfOk, OnOk, IfSome, IsTrue, is_some};
+ghost use Rattle.gm_game.specs.declared.limits.TheConstants.{REMOTENESS};
+ghost use Rattle.gm_game.specs.declared.position.Position.{Position};
+ghost use Rattle.gm_table.specs.Tables.{IsHeld};
+ghost use Rattle.gm_find.specs.Finding.{all_positions, positions_in, AreTiersHeld};
+ghost use Rattle.gm_find.specs.Reaching.{IsReachedByPlay};
+ghost use Rattle.gm_analyse.specs.Totals.{AreNumbers, IsLevel};
+
+use gm_find::positions::record;
+use gm_find::reached::Reached;
+use gm_game::game::Game;
+use gm_game::limits::REMOTENESS;
+use gm_game::position::{Position, Value};
+use gm_table::tables::Tables;
+use std::alloc::{AllocError, Global};
+
+/// How many positions of some tiers have this value, for each remoteness up to the greatest.
+pub(crate) fn numbers_of<G: Game>(
+    alloc: Global,
+    tables: &Tables<G>,
+    tiers: &[u64],
+    value: Value,
+    reached: Option<&Reached<G>>,
+) -> Result<Vec<u64>, AllocError>
+    requires { AreTiersHeld G.rules tables.now tiers.now }
+    ensures few { IfOk result (λ v. vec_len v ≤ REMOTENESS + 1) }
+    ensures numbers { IfOk result (λ v. AreNumbers G.rules (is_some reached.entry) value (all_positions G.rules tiers.now) v.items) }
+{
+    let mut numbers = Vec::new(alloc);
+    for tier in tiers {
+        add_tier(&mut numbers, tables, *tier, value, reached)?;
+    }
+    Ok(numbers)
+}
+
+// Counts the positions of one tier more.
+fn add_tier<G: Game>(
+    numbers: &mut Vec<u64>,
+    tables: &Tables<G>,
+    tier: u64,
+    value: Value,
+    reached: Option<&Reached<G>>,
+) -> Result<(), AllocError>
+    requires held { IsHeld tables.now tier }
+    requires few { vec_len numbers.old ≤ REMOTENESS + 1 }
+    ensures few { OnOk result (vec_len numbers.new ≤ REMOTENESS + 1) }
+    ensures numbers { OnOk result ((seen : List Position) → AreNumbers G.rules (is_some reached.entry) value seen numbers.old.items
+        → AreNumbers G.rules (is_some reached.entry) value (seen ++ positions_in G.rules tier) numbers.new.items) }
+{
+    let size = G::tier_size(tier);
+    for index in 0..size {
+        add_position(numbers, tables, Position { tier, index }, value, reached)?;
+    }
+    Ok(())
+}
+
+// Counts one position more, if it is counted.
+fn add_position<G: Game>(
+    numbers: &mut Vec<u64>,
+    tables: &Tables<G>,
+    p: Position,
+    value: Value,
+    reached: Option<&Reached<G>>,
+) -> Result<(), AllocError>
+    requires held { IsHeld tables.now p.tier }
+    requires few { vec_len numbers.old ≤ REMOTENESS + 1 }
+    ensures few { OnOk result (vec_len numbers.new ≤ REMOTENESS + 1) }
+    ensures numbers { OnOk result ((seen : List Position) → AreNumbers G.rules (is_some reached.entry) value seen numbers.old.items
+        → AreNumbers G.rules (is_some reached.entry) value (seen ++ p ∷ []) numbers.new.items) }
+{
+    match level(tables, p, value, reached) {
+        Some(remoteness) => count(numbers, remoteness as usize),
+        None => Ok(()),
+    }
+}
+
+// Counts one more at a level. Numbers of positions stay far below 2^64; one that doesn't fit would be answered as refused memory.
+fn count(numbers: &mut Vec<u64>, level: usize) -> Result<(), AllocError>
+    ensures few { OnOk result (vec_len numbers.new ≤ max (vec_len numbers.old) (level + 1)) }
+    ensures here { OnOk result (slice_index_or numbers.new.items level 0 ≡ slice_index_or numbers.old.items level 0 + 1) }
+    ensures elsewhere { OnOk result ((n : ℕ) → (n ≡ level → ⊥) → slice_index_or numbers.new.items n 0 ≡ slice_index_or numbers.old.items n 0) }
+{
+    while numbers.len() <= level {
+        numbers.push(0)?;
+    }
+    match numbers[level].checked_add(1) {
+        Some(number) => {
+            numbers[level] = number;
+            Ok(())
+        }
+        None => Err(AllocError),
+    }
+}
+
+// The remoteness with which a position is counted, if it is.
+fn level<G: Game>(
+    tables: &Tables<G>,
+    p: Position,
+    value: Value,
+    reached: Option<&Reached<G>>,
+) -> Option<u32>
+    requires { IsHeld tables.now p.tier }
+    ensures level { IsLevel G.rules (is_some reached.entry) value p result }
+    ensures few { IfSome result (λ n. n ≤ REMOTENESS) }
+{
+    let solved = record(tables, p)?;
+    if solved.value != value || !is_in(reached, p) {
+        return None;
+    }
+    Some(solved.remoteness)
+}
+
+// Whether a position is reached, where that is asked.
+fn is_in<G: Game>(reached: Option<&Reached<G>>, p: Position) -> bool
+    ensures { IsTrue result ↔ (IsTrue (is_some reached.entry) → IsReachedByPlay G.rules p) }
+{
+    match reached {
+        None => true,
+        Some(reached) => reached.has(p),
+    }
+}

@@ -1,0 +1,223 @@
+//! What is written on the progress of a build while it runs.
+ghost use Rattle.std.specs.Prelude.{◌≡◌, ◌+◌, ◌*◌, ◌≤◌, ◌↔◌, true, None, IfSome};
+ghost use Rattle.std.specs.Duration.{as_nanos};
+
+use crate::watch::Watch;
+use crate::whole_line::write_line;
+use gm_game::position::{Phase, Place};
+use gm_solver::gate::Gate;
+use gm_solver::source::{Counter, Source};
+use std::fmt;
+use std::io::Write;
+use std::sync::atomic::{AtomicBool, AtomicU64, AtomicUsize, Ordering};
+use std::sync::{Mutex, Wait};
+use std::time::{Clock, Duration};
+
+/// The least time between two lines, in milliseconds.
+pub const PAUSE: u64 = 250;
+
+// How many deliveries of all workers together lie between two readings of the clock within a level; it is also read at the first delivery of each level.
+const OFTEN: u64 = 4096;
+
+/// What is done with a tier.
+#[derive(Clone, Copy, Debug, PartialEq, Eq)]
+pub enum Stage {
+    /// Its file is read and checked, where there is one.
+    Check,
+    /// Its positions are scanned.
+    Scan,
+    /// The pairs of a level are delivered.
+    Level { phase: Phase, remoteness: u32 },
+}
+
+impl fmt::Display for Stage {
+    fn fmt<W: fmt::Write>(&self, f: &mut fmt::Formatter<W>) -> fmt::Result {
+        match self {
+            Stage::Check => f.write_str("check"),
+            Stage::Scan => f.write_str("scan"),
+            Stage::Level {
+                phase: Phase::WinLose,
+                remoteness,
+            } => write!(f, "wins and losses, level {remoteness}"),
+            Stage::Level {
+                phase: Phase::Ties,
+                remoteness,
+            } => write!(f, "ties, level {remoteness}"),
+        }
+    }
+}
+
+// What one line says: where a build is. `number` is the place of the tier, from 1, in the order of all `tiers`.
+#[derive(Clone, Copy, Debug, Drop)]
+struct Step {
+    tier: u64,
+    number: u64,
+    tiers: usize,
+    stage: Stage,
+    delivered: u64,
+}
+
+impl fmt::Display for Step {
+    fn fmt<W: fmt::Write>(&self, f: &mut fmt::Formatter<W>) -> fmt::Result {
+        let Step {
+            tier,
+            number,
+            tiers,
+            stage,
+            delivered,
+        } = self;
+        write!(
+            f,
+            "tier {tier} ({number} of {tiers}): {stage}, {delivered} delivered"
+        )
+    }
+}
+
+/// Whether a line is due: the first at once, and each further one a quarter of a second after the last, by readings of one clock.
+pub fn is_due(last: Option<Duration>, now: Duration) -> bool
+    ensures first { last ≡ None → result ≡ true }
+    ensures later { IfSome last (λ told. (result ≡ true) ↔ (as_nanos told + PAUSE * 1_000_000 ≤ as_nanos now)) }
+{
+    match last {
+        Some(told) => now.saturating_sub(told) >= Duration::from_millis(PAUSE),
+        None => true,
+    }
+}
+
+// Where lines go, and when the last one was written.
+#[derive(Drop)]
+struct Lines<'a, E: Write> {
+    errors: &'a mut E,
+    last: Option<Duration>,
+    // Whether a line could not be written: then no more are.
+    closed: bool,
+}
+
+/// Writes lines on the progress of a build, as its watch, its gate and its source, or is quiet. No worker waits for another one that is writing.
+#[derive(Drop)]
+pub struct Progress<'a, C, E: Write> {
+    clock: &'a C,
+    // Whether nothing is written: then the clock isn't read either, and deliveries aren't counted.
+    quiet: bool,
+    tiers: AtomicUsize,
+    tier: AtomicU64,
+    number: AtomicU64,
+    delivered: AtomicU64,
+    level_begins: AtomicBool,
+    pieces: Counter,
+    lines: Mutex<Lines<'a, E>>,
+}
+
+impl<'a, C: Clock, E: Write> Progress<'a, C, E> {
+    /// The progress of a build that is to begin.
+    pub fn new(clock: &'a C, errors: &'a mut E) -> Self {
+        Progress::begun(clock, errors, false)
+    }
+
+    /// A progress that writes nothing, so that a build with lines and one without are the same code.
+    pub fn quiet(clock: &'a C, errors: &'a mut E) -> Self {
+        Progress::begun(clock, errors, true)
+    }
+
+    fn begun(clock: &'a C, errors: &'a mut E, quiet: bool) -> Self {
+        let lines = Lines {
+            errors,
+            last: None,
+            closed: false,
+        };
+        Progress {
+            clock,
+            quiet,
+            tiers: AtomicUsize::new(0),
+            tier: AtomicU64::new(0),
+            number: AtomicU64::new(0),
+            delivered: AtomicU64::new(0),
+            level_begins: AtomicBool::new(false),
+            pieces: Counter::new(),
+            lines: Mutex::new(lines),
+        }
+    }
+
+    // Writes a line where one is due and the clock can be read.
+    fn tell(&self, stage: Stage) {
+        if self.quiet {
+            return;
+        }
+        let Some(mut lines) = self.lines.try_lock() else {
+            return;
+        };
+        if lines.closed {
+            return;
+        }
+        let Ok(now) = self.clock.monotonic() else {
+            return;
+        };
+        if is_due(lines.last, now) {
+            let step = Step {
+                tier: self.tier.load(Ordering::SeqCst),
+                number: self.number.load(Ordering::SeqCst),
+                tiers: self.tiers.load(Ordering::SeqCst),
+                stage,
+                delivered: self.delivered.load(Ordering::SeqCst),
+            };
+            lines.last = Some(now);
+            lines.closed = write_line(lines.errors, &step).is_err();
+        }
+    }
+
+    fn tell_level(&self, place: Place) {
+        self.tell(Stage::Level {
+            phase: place.phase,
+            remoteness: place.level,
+        });
+    }
+}
+
+impl<C: Clock, E: Write> Watch for Progress<'_, C, E> {
+    fn begin<R: Wait>(&self, _rt: &R, tiers: usize) {
+        self.tiers.store(tiers, Ordering::SeqCst);
+    }
+
+    fn read<R: Wait>(&self, _rt: &R, tier: u64) {
+        self.tier.store(tier, Ordering::SeqCst);
+        self.number.fetch_add(1, Ordering::SeqCst);
+        self.tell(Stage::Check);
+    }
+
+    fn solve<R: Wait>(&self, _rt: &R, _tier: u64) {
+        self.tell(Stage::Scan);
+    }
+}
+
+impl<C: Clock + Sync, E: Write + Send> Gate for Progress<'_, C, E> {
+    fn before<R: Wait>(&self, _rt: &R, _worker: usize, place: Place) {
+        if self.quiet {
+            return;
+        }
+        if self.level_begins.load(Ordering::SeqCst) {
+            self.level_begins.store(false, Ordering::SeqCst);
+            self.tell_level(place);
+        }
+    }
+
+    fn after<R: Wait>(&self, _rt: &R, _worker: usize, place: Place) {
+        if self.quiet {
+            return;
+        }
+        let before = self.delivered.fetch_add(1, Ordering::SeqCst);
+        if before % OFTEN == OFTEN - 1 {
+            self.tell_level(place);
+        }
+    }
+}
+
+impl<C: Clock + Sync, E: Write + Send> Source for Progress<'_, C, E> {
+    fn begin<R: Wait>(&self, rt: &R, pieces: usize) {
+        self.level_begins.store(true, Ordering::SeqCst);
+        self.pieces.begin(rt, pieces);
+    }
+
+    fn next<R: Wait>(&self, rt: &R, worker: usize) -> Option<usize> {
+        self.pieces.next(rt, worker)
+    }
+}

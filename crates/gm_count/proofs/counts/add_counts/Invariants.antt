@@ -1,8 +1,0 @@
-use Rattle.std.specs.Option.{is_some}
-use Rattle.gm_analyse.specs.Numbers.{rank}
-use Rattle.gm_find.specs.Finding.{all_positions}
-use Rattle.gm_count.specs.Counting.{AreCountsBefore}
-use Rattle.gm_count.proofs.counts.add_counts.Given as goal
-
-abbrev pub invariant-loop-remoteness : goal.invariant-loop-remoteness
-invariant-loop-remoteness g l = AreCountsBefore g.G.Game.rules (is_some l.reached) (all_positions g.G.Game.rules l.tiers) (rank l.value) l.remoteness l.counts.items

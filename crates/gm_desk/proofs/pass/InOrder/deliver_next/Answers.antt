@@ -1,0 +1,70 @@
+use Rattle.std.proofs.Common.{◌≡◌, ℕ, ◌+◌, Some, slice_get, sym, subst, ◌∙◌, arith}
+use Rattle.gm_frontier.specs.Notes.{NoteData}
+use Rattle.gm_desk.specs.Spots.{gain}
+use Rattle.gm_desk.specs.Rounds.{pairs_into, IsRound}
+use Rattle.gm_desk.proofs.Gains.{stays, raised_share}
+use Rattle.gm_desk.proofs.RoundLemmas.{round_step}
+use Rattle.gm_desk.proofs.pass.InOrder.deliver_next.Goals as goal
+
+pub invariant_of-self : goal.invariant_of-self
+invariant_of-self g c =
+    let r = g.G.Game.rules in
+    let pairs = pairs_into r g.L.Desk.spot g.L.Round.notes in
+    let pair : NoteData × ℕ = (c.args.note.now, c.args.parent) in
+    let n = c.self.inside.book.total in
+    let same : c.args.pass.now ≡ n = sym c.pass.view_is ∙ c.audit.ensures.whole c.pass.invariant.0 in
+    let next = subst (λ (m : ℕ). slice_get pairs m ≡ Some pair) same c.requires.next in
+    let d = c.deliver_at-answer.ensures in
+    let step = round_step r g.met.G.Game.lawful g.L.Desk.spot g.L.Round.notes c.self.invariant.1 g.L.Round.base c.self.inside.shard c.deliver_at-answer.new.self n pair c.deliver_at-answer.result c.self.invariant.0 next d c.self.invariant.2 in
+    let up : n + gain c.deliver_at-answer.result ≡ c.raise.new.book.total = (let a = c.raise.ensures.book in let b = c.gained.ensures in let e = c.audit.ensures.same.1 in omega arith) in
+    (stays r c.args.note.now c.args.parent c.self.inside.shard c.deliver_at-answer.new.self c.deliver_at-answer.result d ∙ c.self.invariant.0, c.self.invariant.1, subst (IsRound pairs g.L.Round.base c.deliver_at-answer.new.self) up step.1)
+
+pub invariant_of-pass : goal.invariant_of-pass
+invariant_of-pass g c =
+    let r = g.G.Game.rules in
+    let pairs = pairs_into r g.L.Desk.spot g.L.Round.notes in
+    let pair : NoteData × ℕ = (c.args.note.now, c.args.parent) in
+    let n = c.self.inside.book.total in
+    let same : c.args.pass.now ≡ n = sym c.pass.view_is ∙ c.audit.ensures.whole c.pass.invariant.0 in
+    let next = subst (λ (m : ℕ). slice_get pairs m ≡ Some pair) same c.requires.next in
+    let d = c.deliver_at-answer.ensures in
+    let step = round_step r g.met.G.Game.lawful g.L.Desk.spot g.L.Round.notes c.self.invariant.1 g.L.Round.base c.self.inside.shard c.deliver_at-answer.new.self n pair c.deliver_at-answer.result c.self.invariant.0 next d c.self.invariant.2 in
+    let inv = c.pass.invariant in
+    let share = raised_share c.pass.inside.share c.audit.new.self c.raise.new.self c.gained.result c.audit.ensures.same.0 c.raise.ensures.share in
+    let amount = share.1 in
+    let count = step.1.count in
+    let few = c.delivered-few.ensures.small in
+    let gain_is = c.gained.ensures in
+    let whole = c.audit.ensures.whole inv.0 in
+    (share.0 ∙ inv.0, inv.1, inv.2, omega arith)
+
+pub returns-clause-answer : goal.returns-clause-answer
+returns-clause-answer g c =
+    let r = g.G.Game.rules in
+    let pairs = pairs_into r g.L.Desk.spot g.L.Round.notes in
+    let pair : NoteData × ℕ = (c.args.note.now, c.args.parent) in
+    let n = c.self.inside.book.total in
+    let same : c.args.pass.now ≡ n = sym c.pass.view_is ∙ c.audit.ensures.whole c.pass.invariant.0 in
+    let next = subst (λ (m : ℕ). slice_get pairs m ≡ Some pair) same c.requires.next in
+    (round_step r g.met.G.Game.lawful g.L.Desk.spot g.L.Round.notes c.self.invariant.1 g.L.Round.base c.self.inside.shard c.deliver_at-answer.new.self n pair c.deliver_at-answer.result c.self.invariant.0 next c.deliver_at-answer.ensures c.self.invariant.2).0
+
+pub returns-clause-step : goal.returns-clause-step
+returns-clause-step g c =
+    let r = g.G.Game.rules in
+    let pairs = pairs_into r g.L.Desk.spot g.L.Round.notes in
+    let pair : NoteData × ℕ = (c.args.note.now, c.args.parent) in
+    let n = c.self.inside.book.total in
+    let same : c.args.pass.now ≡ n = sym c.pass.view_is ∙ c.audit.ensures.whole c.pass.invariant.0 in
+    let next = subst (λ (m : ℕ). slice_get pairs m ≡ Some pair) same c.requires.next in
+    let d = c.deliver_at-answer.ensures in
+    let step = round_step r g.met.G.Game.lawful g.L.Desk.spot g.L.Round.notes c.self.invariant.1 g.L.Round.base c.self.inside.shard c.deliver_at-answer.new.self n pair c.deliver_at-answer.result c.self.invariant.0 next d c.self.invariant.2 in
+    let up : n + gain c.deliver_at-answer.result ≡ c.raise.new.self.amount = (let amount = (raised_share c.pass.inside.share c.audit.new.self c.raise.new.self c.gained.result c.audit.ensures.same.0 c.raise.ensures.share).1 in let whole = c.audit.ensures.whole c.pass.invariant.0 in let gain_is = c.gained.ensures in omega arith) in
+    record {
+      old = c.self.inside.shard;
+      new = c.deliver_at-answer.new.self;
+      old_spot = c.self.invariant.0;
+      new_spot = stays r c.args.note.now c.args.parent c.self.inside.shard c.deliver_at-answer.new.self c.deliver_at-answer.result d ∙ c.self.invariant.0;
+      old_round = subst (IsRound pairs g.L.Round.base c.self.inside.shard) (sym same) c.self.invariant.2;
+      new_round = subst (IsRound pairs g.L.Round.base c.deliver_at-answer.new.self) up step.1;
+      event = d;
+    }

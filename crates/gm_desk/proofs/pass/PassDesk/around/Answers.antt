@@ -1,0 +1,29 @@
+use Rattle.std.proofs.Common.{ℕ, sym, subst}
+use Rattle.gm_frontier.specs.Counts.{IsNumberBefore}
+use Rattle.gm_deliveries.specs.State.{pairs_in}
+use Rattle.gm_deliveries.proofs.CloseLemmas.{number_before}
+use Rattle.gm_desk.specs.Spots.{Spot}
+use Rattle.gm_desk.specs.Rounds.{pairs_into, IsRound}
+use Rattle.gm_desk.proofs.RoundLemmas.{round_first, level_into}
+use Rattle.gm_desk.proofs.pass.PassDesk.around.Goals as goal
+
+pub invariant_of-new : goal.invariant_of-new
+invariant_of-new g c =
+    let r = g.G.Game.rules in
+    let spot = g.L.Desk.spot in
+    let notes = g.L.Round.notes in
+    let level = level_into r c.args.level.now spot notes c.requires.level c.place-level.ensures.level in
+    let first = round_first r g.met.G.Game.lawful spot notes level c.args.shard c.requires.spot c.requires.none in
+    let from = subst (λ (base : ℕ). IsRound (pairs_into r spot notes) base c.args.shard 0) c.requires.base first in
+    (c.requires.spot, level, subst (IsRound (pairs_into r spot notes) g.L.Round.base c.args.shard) (sym c.open-book.ensures.total) from)
+
+pub returns-clause-begun : goal.returns-clause-begun
+returns-clause-begun g c =
+    let r = g.G.Game.rules in
+    let spot = g.L.Desk.spot in
+    let s = c.args.shard in
+    let before = number_before c.range-range.ensures.good c.requires.none in
+    record {
+      level = level_into r c.args.level.now spot g.L.Round.notes c.requires.level c.place-level.ensures.level;
+      before = subst (λ (base : ℕ). IsNumberBefore r spot.tier spot.lo spot.hi spot.phase spot.level base) c.requires.base (subst (λ (x : Spot). IsNumberBefore r x.tier x.lo x.hi x.phase x.level (pairs_in s)) c.requires.spot before);
+    }

@@ -1,5 +1,0 @@
-pub mod Places
-pub mod Kept
-pub mod Gains
-pub mod RoundLemmas
-pub mod FullLemmas

@@ -1,4 +1,0 @@
-pub mod Spots
-pub mod Parts
-pub mod Rounds
-pub mod Begun

@@ -1,5 +1,0 @@
-//! Boards on which two sides have pieces, and their texts.
-#![tactic(auto)]
-
-pub mod board;
-pub mod text;

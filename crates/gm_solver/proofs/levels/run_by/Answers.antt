@@ -1,7 +1,0 @@
-use Rattle.std.proofs.Common.{subst}
-use Rattle.gm_game.specs.declared.position.Place.{Place}
-use Rattle.gm_solver.specs.Solving.{IsError}
-use Rattle.gm_solver.proofs.levels.run_by.Goals as goal
-
-pub returns-in-Err-clause-error : goal.returns-in-Err-clause-error
-returns-in-Err-clause-error g c = subst (λ (p : Place). IsError g.G.Game.rules p.tier c.in-Err.error) c.requires.place c.in-Err.ensures.error

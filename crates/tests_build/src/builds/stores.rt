@@ -1,0 +1,158 @@
+//! Builds with two workers, two shards and pieces of one note, over a store in memory that may fail at one of its calls.
+use crate::expect::{expect_eq, must};
+use gm_build::build::{Built, build_from};
+use gm_build::build_error::BuildError;
+use gm_build::watch::NoWatch;
+use gm_game::game::Game;
+use gm_solver::plan::Plan;
+use gm_tactix::tactix::TacTix;
+use gm_testing::sources::{TestGate, TestSource};
+use gm_tierdb::flaky::Flaky;
+use gm_tierdb::mem_store::MemStore;
+use gm_tierdb::store::Store;
+use gm_toys::countdown::Countdown;
+use gm_toys::stairs::Stairs;
+use std::fs::Files;
+use std::process::Abort;
+use std::sync::Wait;
+use std::thread::Threads;
+
+// How many tiers a build solved and reused, the number of deliveries, and how many of them were by hand.
+type Took = Result<(usize, usize, u64, u64), BuildError>;
+
+// What a build took, none of whose tiers was migrated.
+fn took<G: Game>(rt: &impl Abort, built: Built<G>) -> (usize, usize, u64, u64) {
+    expect_eq(rt, built.migrated, 0);
+    let took = (built.solved, built.reused, built.deliveries, built.by_hand);
+    drop(built);
+    took
+}
+
+// Builds the tiers of a game that one tier reaches, with this gate and source.
+fn built_by<G: Game + Send + Sync, R: Threads + Wait + Files + Sync + AllocGlobal + Abort>(
+    rt: &R,
+    first: u64,
+    store: &mut Flaky<MemStore>,
+    gate: &TestGate,
+    source: &TestSource,
+) -> Took {
+    let plan = Plan::new(2, 2, 1).expect(rt, "a plan");
+    assert!(rt; store.failures() < u64::MAX);
+    match build_from::<G, R, _, _, _, _>(
+        rt,
+        rt.alloc(),
+        first,
+        store,
+        plan,
+        gate,
+        source,
+        &NoWatch,
+    ) {
+        Ok(built) => Ok(took(rt, built)),
+        Err(error) => Err(error),
+    }
+}
+
+// The same with a gate that does nothing and a source that hands out each piece once.
+fn built<G: Game + Send + Sync, R: Threads + Wait + Files + Sync + AllocGlobal + Abort>(
+    rt: &R,
+    first: u64,
+    store: &mut Flaky<MemStore>,
+) -> Took {
+    let source = TestSource::counter();
+    built_by::<G, R>(rt, first, store, &TestGate::Open, &source)
+}
+
+// Builds a game once for each of these answers, over an empty store of which one call fails.
+fn builds<G: Game + Send + Sync, R: Threads + Wait + Files + Sync + AllocGlobal + Abort>(
+    rt: &R,
+    call: u64,
+    answers: &[Took],
+) -> Flaky<MemStore> {
+    let mut store = Flaky::new(MemStore::new(rt.alloc()), call, call);
+    for answer in answers {
+        let took = built::<G, R>(rt, G::initial().tier, &mut store);
+        expect_eq(rt, took, *answer);
+    }
+    store
+}
+
+// No call has this number.
+const NEVER: u64 = 0;
+
+const FAILED: Took = Err(BuildError::StoreFailed { tier: 0 });
+
+// The file of Countdown from 10 (docs/FORMATS.md, `file_of_countdown`).
+const FILE: [u8; 116] = [
+    0x47, 0x4d, 0x54, 0x49, 0x45, 0x52, 0x30, 0x32, 0x63, 0x6f, 0x75, 0x6e, 0x74, 0x64, 0x6f, 0x77,
+    0x6e, 0x00, 0x00, 0x00, 0x00, 0x00, 0x00, 0x00, 0x00, 0x00, 0x00, 0x00, 0x00, 0x00, 0x00, 0x00,
+    0x0b, 0x00, 0x00, 0x00, 0x00, 0x00, 0x00, 0x00, 0x00, 0x00, 0x10, 0x00, 0x01, 0x00, 0x40, 0x00,
+    0x01, 0x00, 0x40, 0x00, 0x02, 0x00, 0x10, 0x00, 0x03, 0x00, 0x40, 0x00, 0x03, 0x00, 0x40, 0x00,
+    0x04, 0x00, 0x10, 0x00, 0x05, 0x00, 0x40, 0x00, 0x05, 0x00, 0x40, 0x00, 0x06, 0x00, 0x10, 0x00,
+    0x07, 0x00, 0x40, 0x00, 0x2e, 0xf8, 0x81, 0x3d, 0x47, 0x8f, 0xdc, 0xe4, 0xab, 0xd4, 0x0b, 0xf6,
+    0x24, 0x82, 0x9f, 0x9a, 0x01, 0xbd, 0x2c, 0x77, 0x00, 0xa0, 0xac, 0x79, 0x69, 0x57, 0x2a, 0x95,
+    0x4a, 0xe3, 0x9b, 0xd4,
+];
+
+// The store fails to read or to write, and then Countdown is built.
+#[test]
+fn a_failing_store_is_built_later(rt: HostRuntime) {
+    for call in [1, 2] {
+        let mut store = builds::<Countdown<10>, _>(&rt, call, &[FAILED, Ok((1, 0, 19, 0))]);
+        assert!(rt; store.failures() < u64::MAX);
+        let text = must(&rt, store.read(&rt, rt.alloc(), 0)).expect(&rt, "it has a text");
+        expect_eq(&rt, text.as_slice(), FILE.as_slice());
+        drop((store, text));
+    }
+}
+
+// Tac Tix of four counters: one tier for each number of counters that are left.
+type Square = TacTix<2, false>;
+
+// The deliveries that are left to a build after so many tiers: these take 0, 1, 3, 3 and 2, as many as their canonical positions have canonical children.
+const LEFT: [u64; 5] = [9, 9, 8, 5, 2];
+
+const SOLVED: Took = Ok((5, 0, 9, 0));
+
+const REUSED: Took = Ok((0, 5, 0, 0));
+
+// Each of the five tiers is read and then written, ten calls in all. A build that fails at one of them goes on later after the tiers that were done, and
+// then all texts are right.
+#[test]
+fn a_build_goes_on_where_the_store_failed(rt: HostRuntime) {
+    for call in 1..11 {
+        let done = (call - 1) / 2;
+        let tier = done as u64;
+        let failed = Err(BuildError::StoreFailed { tier });
+        let later = Ok((5 - done, done, LEFT[done], 0));
+        drop(builds::<Square, _>(&rt, call as u64, &[failed, later, REUSED]));
+    }
+}
+
+// A build makes ten calls, and one over what it left makes five, since what is reused is read and not written.
+#[test]
+fn a_build_reads_and_writes_each_tier_once(rt: HostRuntime) {
+    drop(builds::<Square, _>(&rt, 11, &[SOLVED, FAILED, REUSED]));
+    drop(builds::<Square, _>(&rt, 16, &[SOLVED, REUSED, FAILED]));
+}
+
+// The stairs are built from tier 1, and then the whole: each step but the first takes one delivery.
+#[test]
+fn what_a_tier_rests_on_is_built(rt: HostRuntime) {
+    let mut store = Flaky::new(MemStore::new(rt.alloc()), NEVER, NEVER);
+    let low = built::<Stairs<3>, _>(&rt, 1, &mut store);
+    expect_eq(&rt, low, Ok((2, 0, 1, 0)));
+    assert!(rt; store.failures() < u64::MAX);
+    expect_eq(&rt, store.read(&rt, rt.alloc(), 2), Ok(None));
+    let all = built::<Stairs<3>, _>(&rt, 3, &mut store);
+    expect_eq(&rt, all, Ok((2, 2, 2, 0)));
+    drop(store);
+}
+
+#[test]
+fn games_without_an_order_are_not_built(rt: HostRuntime) {
+    let many = Err(BuildError::TooManyTiers);
+    drop(builds::<Stairs<1024>, _>(&rt, NEVER, &[many]));
+    let large = Err(BuildError::TierTooLarge { tier: 0 });
+    drop(builds::<Countdown<16777216>, _>(&rt, NEVER, &[large]));
+}

@@ -1,0 +1,203 @@
+//! A board of four shards, as callers with workers of their own use it.
+ghost use Rattle.std.specs.Prelude.{◌≡◌, ◌<◌};
+ghost use Rattle.gm_desk.specs.Spots.{spot_of, AreFourTiles};
+ghost use Rattle.gm_desk.specs.Batches.{ArePlaced};
+
+use crate::expect::expect_eq;
+use gm_deliveries::place::place_of;
+use gm_deliveries::status::{Delivery, Refused};
+use gm_desk::board::{Board, Four, Shares};
+use gm_desk::share::Desk;
+use gm_frontier::note::Note;
+use gm_game::game::Game;
+use gm_shard::shard::Shard;
+use std::marker::Brand;
+use std::process::Abort;
+use std::sync::ledger::Blank;
+use std::sync::{Mutex, Wait};
+use std::thread::{Threads, join};
+
+/// What is done with the pair of a note and a parent on a board, and what must come of it.
+#[derive(Clone, Copy)]
+pub enum Deed {
+    /// It is delivered to a shard, which answers so.
+    Once(Result<Delivery, Refused>),
+    /// It is delivered to a shard twice under one lock, which is new so often.
+    Twice(u64),
+    /// It is delivered while another thread holds the lock of shard 0, reads this counter of an index, and waits for the answer.
+    Meanwhile(u64, Option<u32>, Result<Delivery, Refused>),
+}
+
+/// A deed with its shard, and the amounts of the first two shards after it.
+pub type Step = (Deed, usize, (u64, u64));
+
+// Waits for the other thread's mark, at most a million turns: whether it came.
+fn comes<R: Wait>(rt: &R, mark: &Mutex<bool>) -> bool {
+    for _ in 0..1_000_000 {
+        if *mark.lock(rt) {
+            return true;
+        }
+    }
+    false
+}
+
+// The counter of an index, where the shard has it.
+fn counter_of<G: Game>(shard: &Shard<G>, index: u64) -> Option<u32> {
+    let (lo, hi) = shard.range();
+    if lo <= index && index < hi {
+        Some(shard.counter(index))
+    } else {
+        None
+    }
+}
+
+// Holds the lock of shard 0: reads a counter, marks that it has, and waits until the other thread has its answer: the counter, and whether the answer came.
+fn hold<G: Game, A: Desk, B: Desk, C: Desk, D: Desk, R: Wait>(
+    rt: &R,
+    board: &Board<G, A, B, C, D>,
+    read: &Mutex<bool>,
+    answered: &Mutex<bool>,
+    index: u64,
+) -> (Option<u32>, bool) {
+    let held = board.a().lock(rt);
+    let counter = counter_of(held.shard(), index);
+    *read.lock(rt) = true;
+    let came = comes(rt, answered);
+    drop(held);
+    (counter, came)
+}
+
+// Waits until the other thread has read its counter, delivers to a shard, and marks that it has the answer.
+fn deliver_meanwhile<G: Game, A: Desk, B: Desk, C: Desk, D: Desk, R: Wait>(
+    rt: &R,
+    board: &Board<G, A, B, C, D>,
+    shares: &mut Shares<A, B, C, D>,
+    marks: (&Mutex<bool>, &Mutex<bool>),
+    shard: usize,
+    pair: (&Note<G>, u64),
+) -> Result<Delivery, Refused>
+    requires { shard < 4 }
+{
+    let _read = comes(rt, marks.0);
+    let answer = board.deliver(rt, shard, pair.0, pair.1, shares);
+    *marks.1.lock(rt) = true;
+    answer
+}
+
+// Runs both, each in a thread of its own, and waits for them.
+fn run_both<
+    G: Game + Send + Sync,
+    A: Desk + Send + Sync,
+    B: Desk + Send + Sync,
+    C: Desk + Send + Sync,
+    D: Desk + Send + Sync,
+    R: Threads + Wait + Sync,
+>(
+    rt: &R,
+    board: &Board<G, A, B, C, D>,
+    shares: &mut Shares<A, B, C, D>,
+    index: u64,
+    shard: usize,
+    pair: (&Note<G>, u64),
+) -> ((Option<u32>, bool), Result<Delivery, Refused>)
+    requires { shard < 4 }
+{
+    let read = Mutex::new(false);
+    let answered = Mutex::new(false);
+    join(
+        rt,
+        || hold(rt, board, &read, &answered, index),
+        || deliver_meanwhile(rt, board, shares, (&read, &answered), shard, pair),
+    )
+}
+
+// Takes these steps, each with the same pair, of which there are two.
+fn take_steps<
+    G: Game + Send + Sync,
+    A: Desk + Send + Sync,
+    B: Desk + Send + Sync,
+    C: Desk + Send + Sync,
+    D: Desk + Send + Sync,
+    R: Threads + Wait + Sync + Abort,
+>(
+    rt: &R,
+    board: &Board<G, A, B, C, D>,
+    shares: &mut Shares<A, B, C, D>,
+    pairs: &[(Note<G>, u64, Option<u32>)],
+    steps: &[Step],
+)
+    requires { ArePlaced G.rules A.spot.tier pairs.now }
+{
+    for (deed, shard, amounts) in steps {
+        assert!(rt; *shard < 4 && !pairs.is_empty());
+        let (note, parent, _) = &pairs[0];
+        match *deed {
+            Deed::Once(answer) => {
+                expect_eq(rt, board.deliver(rt, *shard, note, *parent, shares), answer);
+            }
+            Deed::Twice(new) => {
+                expect_eq(rt, board.deliver_all(rt, *shard, pairs, shares), new);
+            }
+            Deed::Meanwhile(index, counter, answer) => {
+                let found = run_both(rt, board, shares, index, *shard, (note, *parent));
+                expect_eq(rt, found, ((counter, true), answer));
+            }
+        }
+        expect_eq(rt, (shares.amount(0), shares.amount(1)), *amounts);
+    }
+}
+
+// The same on a board of these names, whose first two shards then have so many pairs.
+fn named<
+    G: Game + Send + Sync,
+    A: Desk + Send + Sync,
+    B: Desk + Send + Sync,
+    C: Desk + Send + Sync,
+    D: Desk + Send + Sync,
+    R: Threads + Wait + Sync + Abort,
+>(
+    rt: &R,
+    blanks: Four<Blank>,
+    shards: Four<Shard<G>>,
+    note: &Note<G>,
+    parent: u64,
+    steps: &[Step],
+    delivered: (u64, u64),
+)
+    requires names { (blanks.a.name ≡ A.name) × (blanks.b.name ≡ B.name) × (blanks.c.name ≡ C.name) × (blanks.d.name ≡ D.name) }
+    requires parts { (blanks.a.parts ≡ A.parts) × (blanks.b.parts ≡ B.parts) × (blanks.c.parts ≡ C.parts) × (blanks.d.parts ≡ D.parts) }
+    requires equal { (A.parts ≡ 1) × (B.parts ≡ 1) × (C.parts ≡ 1) × (D.parts ≡ 1) }
+    requires spots { (spot_of shards.a ≡ A.spot) × (spot_of shards.b ≡ B.spot) × (spot_of shards.c ≡ C.spot) × (spot_of shards.d ≡ D.spot) }
+    requires tiles { AreFourTiles G.rules A.spot B.spot C.spot D.spot }
+{
+    let place = place_of(note, shards.a.tier(), parent);
+    let (board, mut shares) = Board::<G, A, B, C, D>::around(1, blanks, shards);
+    let one = Note::of(note.position(), note.solved());
+    let other = Note::of(note.position(), note.solved());
+    let pairs = [(one, parent, place), (other, parent, place)];
+    take_steps(rt, &board, &mut shares, &pairs, steps);
+    assert!(rt; shares.parts() == 1);
+    let shards = board.into_shards(shares);
+    expect_eq(rt, (shards.a.delivered(), shards.b.delivered()), delivered);
+    drop(shards);
+}
+
+/// Takes these steps on a board round these shards, of which the first two then have so many pairs.
+pub fn by_hand<G: Game + Send + Sync, R: Threads + Wait + Sync + Abort>(
+    rt: &R,
+    shards: Four<Shard<G>>,
+    note: &Note<G>,
+    parent: u64,
+    steps: &[Step],
+    delivered: (u64, u64),
+)
+    requires { AreFourTiles G.rules (spot_of shards.a) (spot_of shards.b) (spot_of shards.c) (spot_of shards.d) }
+{
+    let blanks = Four {
+        a: Blank::new(1),
+        b: Blank::new(1),
+        c: Blank::new(1),
+        d: Blank::new(1),
+    };
+    named::<G, Brand, Brand, Brand, Brand, R>(rt, blanks, shards, note, parent, steps, delivered)
+}
