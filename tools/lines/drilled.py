@@ -1,30 +1,31 @@
 """What the built drill says of the solver alone."""
-import re
+import os
 import subprocess
 
-from common import DRILL
-
-# Dao's positions and deliveries, and the lengths of its files.
-SOLVED = r"900900 positions, 256358 deliveries, 0 by hand, \d+ ms"
-FILES = {2: 3_603_672, 1: 1_801_872}
+from common import DRILL, GAMESMAN
 
 
-def by(*words):
-    """Why Dao, solved in a way, differs from what it must be, if it does: each of its files is read and found right."""
-    ran = subprocess.run([DRILL, "time-dao", *words], capture_output=True, text=True, timeout=120, check=False)
-    solved, *files = ran.stdout.splitlines() or [""]
-    right = [re.fullmatch(r"version (\d): (\d+) bytes, read and checked in \d+ ms \+", line) for line in files]
-    if ran.returncode or not re.fullmatch(SOLVED, solved) or not right or any(not it or FILES[int(it[1])] != int(it[2]) for it in right):
-        return f"status {ran.returncode}, {ran.stdout}"
-    return None
+def by(room, way):
+    """Why Dao, solved in a way, differs from what the program writes, if it does: the digest that ends its file, and the number of deliveries."""
+    folder = room.fresh()
+    subprocess.run([GAMESMAN, "solve", "dao", folder], stdout=subprocess.DEVNULL, timeout=120, check=True)
+    with open(os.path.join(folder, "tier-0.gmt"), "rb") as file:
+        digest = file.read()[-32:].hex()
+    ran = subprocess.run([DRILL, "dao", way], capture_output=True, text=True, timeout=120, check=False)
+    right = (ran.returncode, ran.stdout) == (0, f"256358 deliveries, 0 by hand, digest {digest}\n")
+    return None if right else f"status {ran.returncode}, {ran.stdout}"
 
 
 def records_of_dao_by_one_thread(room):
-    return by()
+    return by(room, "alone")
+
+
+def records_of_dao_by_pieces(room):
+    return by(room, "pieces")
 
 
 def records_of_dao_by_passes(room):
-    return by("4", "--passes")
+    return by(room, "passes")
 
 
 def tables(game, deliveries, records):
@@ -54,4 +55,4 @@ def analysis_of_one_position(room):
     return None if not ran.returncode and ran.stdout.splitlines() == [f"answer: {text}", f"again: {text}"] else f"status {ran.returncode}, {ran.stdout}"
 
 
-DRILLED = (records_of_dao_by_one_thread, records_of_dao_by_passes, countdown_table, wheel_table, analysis_of_one_position)
+DRILLED = (records_of_dao_by_one_thread, records_of_dao_by_pieces, records_of_dao_by_passes, countdown_table, wheel_table, analysis_of_one_position)

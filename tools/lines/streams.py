@@ -1,5 +1,6 @@
 """Sessions and progress over streams that fail, by the library that refuses calls (tools/hostile)."""
 import os
+import subprocess
 
 from common import GAMESMAN
 
@@ -26,6 +27,18 @@ def a_writer_that_fails(room):
     return fails(room, "output", len(OUTPUT), b"gamesman: output failed\n")
 
 
+def what_follows_the_last_line(room):
+    """A session reads nothing after the line that ends it."""
+    read_end, write_end = os.pipe()
+    os.write(write_end, b"quit\n3\n")
+    os.close(write_end)
+    ran = subprocess.run(SESSION, stdin=read_end, capture_output=True, timeout=60)
+    rest = os.read(read_end, 100)
+    os.close(read_end)
+    right = (ran.returncode, ran.stdout, rest) == (0, b"10 win in 7\ncomputer: 1\n9 lose in 6\nyour move?\nbye\n", b"3\n")
+    return None if right else f"{ran}, {rest} left"
+
+
 def progress_that_nobody_reads(room):
     """No line follows the first one that could not be written, and nothing else changes."""
     read_end, closed = os.pipe()
@@ -36,4 +49,4 @@ def progress_that_nobody_reads(room):
     return None if right else f"{ran}, {ran.calls} writes of errors"
 
 
-STREAMS = (a_reader_that_fails, a_writer_that_fails, progress_that_nobody_reads)
+STREAMS = (a_reader_that_fails, a_writer_that_fails, what_follows_the_last_line, progress_that_nobody_reads)

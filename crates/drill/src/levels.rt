@@ -17,10 +17,11 @@ use gm_frontier::tally::Tally;
 use gm_game::game::Game;
 use gm_game::limits::TIER_SIZE;
 use gm_shard::shard::Shard;
+use gm_solver::starts::starts;
 use gm_table::packed::Packed;
 use gm_table::tables::Tables;
 use gm_tactix::tactix::TacTix;
-use gm_testing::by_hand::{at_ties, begin_whole, fresh_run, last_of, starts_of};
+use gm_testing::by_hand::{at_ties, begin_whole, fresh_run, last_of};
 use gm_tiers::order::TierOrder;
 use gm_toys::countdown::Countdown;
 use std::alloc::Global;
@@ -143,7 +144,7 @@ fn call_on_first<G: Game, R: Print>(rt: &R, alloc: Global, call: Call, tables: &
     requires small { G.rules.tier_size 0 ≤ TIER_SIZE }
 {
     let made = (
-        starts_of::<G>(alloc, 0, 0, G::tier_size(0)),
+        starts::<G>(alloc, 0, 0, G::tier_size(0)),
         begin_whole::<G>(alloc, 0),
     );
     let said = match &made {

@@ -1,10 +1,9 @@
 //! Drills: each word makes one call that may want memory and says what it answered and what it left, for tools/hostile, which refuses its allocations one after
-//! another. The word `ahead` compares a solved game with looking ahead, for tools/lines, and `time-dao` says how long Dao takes (docs/BENCHMARKS.md).
+//! another. For tools/lines, `ahead` compares a solved game with looking ahead, and `dao` solves Dao in a way and says what its file ends with.
 #![tactic(auto)]
 
 mod ahead;
 mod damage;
-mod dao_times;
 mod files;
 mod levels;
 mod marks;
@@ -16,10 +15,10 @@ mod words;
 
 use crate::ahead::look_ahead;
 use crate::damage::damage;
-use crate::dao_times::time_dao;
 use crate::solving::Way;
 use crate::stores::Place;
 use crate::words::named;
+use gm_dao::dao::Dao;
 use gm_solver::plan::Plan;
 use gm_tactix::tactix::TacTix;
 use gm_toys::countdown::Countdown;
@@ -27,7 +26,6 @@ use gm_toys::wheel::Wheel;
 use std::alloc::Global;
 use std::fs::Files;
 use std::process::ExitCode;
-use std::rt::Clock;
 use std::sync::Wait;
 use std::thread::Threads;
 use std::{env, io};
@@ -161,7 +159,7 @@ fn compare<R: Print + Files>(rt: &R, alloc: Global, words: &[String]) -> bool {
 enum Line {
     List,
     Ahead,
-    TimeDao,
+    Dao,
     DamageCountdown,
     DamageTacTix,
 }
@@ -169,13 +167,13 @@ enum Line {
 const LINES: [(&str, Line); 5] = [
     ("list", Line::List),
     ("ahead", Line::Ahead),
-    ("time-dao", Line::TimeDao),
+    ("dao", Line::Dao),
     ("damage-countdown", Line::DamageCountdown),
     ("damage-tactix-2", Line::DamageTacTix),
 ];
 
 // Does what the words say of which the first is the program's name: whether it could be done.
-fn run<R: Print + Clock + Threads + Wait + Files + Sync, I: io::Read + Drop>(
+fn run<R: Print + Threads + Wait + Files + Sync, I: io::Read + Drop>(
     rt: &R,
     alloc: Global,
     words: &[String],
@@ -185,7 +183,7 @@ fn run<R: Print + Clock + Threads + Wait + Files + Sync, I: io::Read + Drop>(
     match named(&LINES, first) {
         Some(Line::List) => list(rt),
         Some(Line::Ahead) => compare(rt, alloc, words),
-        Some(Line::TimeDao) => time_dao(rt, alloc, word(words, 2), word(words, 3)),
+        Some(Line::Dao) => solving::digest::<Dao, R>(rt, alloc, word(words, 2)),
         Some(Line::DamageCountdown) => damage::<Countdown<10>, R, I>(rt, alloc, input),
         Some(Line::DamageTacTix) => damage::<TacTix<2, false>, R, I>(rt, alloc, input),
         None => drill(rt, alloc, first),

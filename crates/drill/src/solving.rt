@@ -4,6 +4,7 @@ ghost use Rattle.gm_table.specs.Tables.{AreHeld};
 
 use crate::marks::marked;
 use crate::said::{Counted, Said, number_of, say_all};
+use crate::words::named;
 use gm_build::build::{Built, build as build_game};
 use gm_build::build_error::BuildError;
 use gm_game::game::Game;
@@ -17,6 +18,7 @@ use gm_solver::tier::{Report, solve_passes, solve_tier};
 use gm_table::table::Table;
 use gm_table::tables::Tables;
 use gm_tactix::tactix::TacTix;
+use gm_tierdb::encode::encode;
 use gm_tierdb::mem_store::MemStore;
 use gm_tierdb::store::Store;
 use std::alloc::Global;
@@ -31,6 +33,13 @@ pub enum Way {
     Pieces,
     Passes,
 }
+
+// The names of the ways.
+const WAYS: [(&str, Way); 3] = [
+    ("alone", Way::Alone),
+    ("pieces", Way::Pieces),
+    ("passes", Way::Passes),
+];
 
 // Solves the first tier of a game by one thread.
 fn solved_alone<G: Game>(alloc: Global, tables: &Tables<G>) -> Option<(Table<G>, Report)>
@@ -49,8 +58,8 @@ fn solved_alone<G: Game>(alloc: Global, tables: &Tables<G>) -> Option<(Table<G>,
     }
 }
 
-/// Solves the first tier of a game in a way: none where memory was refused.
-pub fn solved<G: Game + Send + Sync, R: Threads + Wait + Sync>(
+// Solves the first tier of a game in a way: none where memory was refused.
+fn solved<G: Game + Send + Sync, R: Threads + Wait + Sync>(
     rt: &R,
     alloc: Global,
     way: Way,
@@ -124,6 +133,44 @@ pub fn solve<G: Game + Send + Sync, R: Print + Threads + Wait + Sync>(
     let again = solved(rt, alloc, way, plan, &tables);
     let said = say_solves(rt, &first, &again);
     drop((first, again, tables));
+    said
+}
+
+// Prints how many deliveries solved a tier, how many of them the coordinator made, and the digest that ends its file.
+fn say_digest<G: Game, R: Print>(
+    rt: &R,
+    alloc: Global,
+    answer: &Option<(Table<G>, Report)>,
+) -> bool {
+    let Some((table, report)) = answer else {
+        return false;
+    };
+    let Ok(file) = encode(alloc, table) else {
+        return false;
+    };
+    let Ok(digest) = hex::encode(alloc, file.last_chunk::<32>().unwrap_or(&[0; 32])) else {
+        return false;
+    };
+    let Report {
+        deliveries,
+        by_hand,
+    } = *report;
+    println!(rt; "{deliveries} deliveries, {by_hand} by hand, digest {digest}").is_ok()
+}
+
+/// Solves the first tier of a game in the way of this name, with four workers and four shards, and says what its file ends with.
+pub fn digest<G: Game + Send + Sync, R: Print + Threads + Wait + Sync>(
+    rt: &R,
+    alloc: Global,
+    way: &str,
+) -> bool {
+    let (Some(way), Some(plan)) = (named(&WAYS, way), Plan::new(4, 4, 64)) else {
+        return false;
+    };
+    let tables: Tables<G> = Tables::new(alloc);
+    let answer = solved(rt, alloc, way, plan, &tables);
+    let said = say_digest(rt, alloc, &answer);
+    drop((answer, tables));
     said
 }
 

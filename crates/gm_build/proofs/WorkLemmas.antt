@@ -1,9 +1,10 @@
 -- How the numbers of a build grow, tier by tier.
-use Rattle.std.proofs.Common.{◌≡◌, ℕ, ◌+◌, ◌*◌, ◌≤◌, ◌⊎◌, ◌↔◌, inl, inr, List, [], ◌∷◌, ◌++◌, map, refl, ap, sym, subst, ◌∙◌, arith, length-append}
+use Rattle.std.proofs.Common.{◌≡◌, ℕ, ◌+◌, ◌*◌, ◌≤◌, ◌⊎◌, ◌↔◌, inl, inr, List, [], ◌∷◌, ◌++◌, length, take, map, Fits, refl, ap, sym, subst, ◌∙◌, arith, length-append, length-take}
+use Rattle.std.specs.Int.{w64}
 use Rattle.std.specs.List.{Contains}
 use Rattle.std.proofs.lemmas.List.{length-map}
 use Rattle.std.proofs.lemmas.List.Elements.{Contains-append_left, Contains-append_right, Contains-append_cases, Contains-push, Contains-push_cases}
-use Rattle.gm_game.specs.declared.limits.TheConstants.{MOVES, TIER_SIZE}
+use Rattle.gm_game.specs.declared.limits.TheConstants.{MOVES, TIERS, TIER_SIZE}
 use Rattle.gm_game.specs.declared.position.Position.{Position}
 use Rattle.gm_game.specs.Rules.{Rules}
 use Rattle.gm_game.specs.Laws.{IsGame}
@@ -250,3 +251,7 @@ module _ (r : Rules) (front : List ℕ) (tier : ℕ) (fresh : Contains front tie
     work = work_solved r front tier fresh (Contains w.reused_tiers) (Contains w.reused_tiers) (Contains w.migrated_tiers) (Contains w.migrated_tiers)
         (λ t i. (λ h. h, λ h. h)) (λ t i. (λ h. h, λ h. h)) solved reused migrated deliveries by_hand w.work (λ h. fresh (w.among tier h), λ h. fresh (w.among_too tier h)) more hand are few;
   }
+
+-- one more than a number of tiers that are done
+pub one_fits : (n index : ℕ) (tiers : List ℕ) → n ≤ length (take index tiers) → length tiers ≤ TIERS → Fits w64 (n + 1)
+one_fits n index tiers few most = let long = length-take index tiers in omega arith

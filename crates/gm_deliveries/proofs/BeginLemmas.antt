@@ -1,19 +1,17 @@
 -- A shard with no pair.
-use Rattle.std.proofs.Common.{◌≡◌, ℕ, ◌+◌, ◌-◌, ◌<◌, ◌≤◌, inl, List, [], length, get_or, map, refl, ap, sym, subst, ◌∙◌, arith, Some, None, replicate, ◌*◌, take, ◌++◌, ◌∷◌}
+use Rattle.std.proofs.Common.{◌≡◌, ℕ, ◌+◌, ◌-◌, ◌<◌, ◌≤◌, inl, List, [], length, get_or, map, refl, ap, sym, subst, ◌∙◌, arith, Some, None, replicate, ◌*◌, take, ◌++◌, ◌∷◌, set, length-set}
 use Rattle.std.specs.List.{Contains, slice_get}
-use Rattle.std.proofs.lemmas.List.{length-map, get_or-map, get_or-replicate, length-replicate, map_more}
+use Rattle.std.proofs.lemmas.List.{length-map, get_or-map, get_or-replicate, length-replicate, map_more, take_all, take_more_set}
 use Rattle.std.proofs.lemmas.List.Folds.{sum_by-replicate}
 use Rattle.std.proofs.lemmas.Option.{slice_get-get_or, get_or_from_slice_get}
-use Rattle.gm_game.specs.declared.limits.TheConstants.{MOVES, TIER_SIZE}
+use Rattle.gm_game.specs.declared.limits.TheConstants.{TIER_SIZE}
 use Rattle.gm_game.specs.declared.position.Position.{Position}
 use Rattle.gm_game.specs.declared.position.End.{End}
 use Rattle.gm_game.specs.declared.position.End.TheVariants.{Lose as EndLose, Tie as EndTie, Win as EndWin}
 use Rattle.gm_game.specs.declared.position.Phase.{Phase}
 use Rattle.gm_game.specs.declared.position.Phase.TheVariants.{WinLose, Ties}
 use Rattle.gm_game.specs.declared.position.Value.TheVariants.{Lose, Draw, Tie, Win}
-use Rattle.gm_game.specs.Laws.{IsGame}
 use Rattle.gm_game.specs.Settling.{IsUndecided}
-use Rattle.gm_game.proofs.ChildrenLemmas.{canonical_children_few}
 use Rattle.gm_game.specs.Rules.{Rules, at}
 use Rattle.gm_game.specs.Places.{StandsBefore, IsPlaceBefore}
 use Rattle.gm_game.specs.Children.{AreAscending, canonical_children_of}
@@ -114,15 +112,6 @@ first_kept r tier lo starts are few' = record {
       other = λ none. absurd (none k.0);
     }
 
--- a counter begins small
-pub small_start : (r : Rules) → IsGame r → (p : Position) (s : Start) → IsStart r p s → first_left s ≤ MOVES
-small_start r g p NoStart k = omega arith
-small_start r g p (Ended e) k = omega arith
-small_start r g p (Inner c) k = let few = canonical_children_few r g p k.0.legal in omega (arith, k.1)
-
-pub small_starts : (r : Rules) → IsGame r → (tier lo : ℕ) (starts : List Start) → AreStarts r tier lo starts → (k : ℕ) (x : Start) → slice_get starts k ≡ Some x → first_left x ≤ MOVES
-small_starts r g tier lo starts are k x got = small_start r g (at tier (lo + k)) x (are k x got)
-
 -- the state of masks with no bit
 pub first_masks : (r : Rules) (tier lo n : ℕ) (ms : List ℕ) → ms ≡ replicate n 0 → state_of r tier lo WinLose 0 ms ≡ first_state tier lo n
 first_masks r tier lo n ms e =
@@ -138,7 +127,18 @@ first_fields r tier lo starts are few' ms ls ss m l s =
     (subst (λ (t : ShardState). IsKept r t (map first_status starts) (map first_left starts) 0) (sym (first_masks r tier lo (length starts) ms m))
     (first_kept r tier lo starts are few')))
 
--- one more turn of a loop that maps a list
-pub mapped_more : {X A : Type 0} (f : X → A) (xs : List X) (i : ℕ) (d : X) (old new : List A) (y : A) → i < length xs → old ≡ map f (take i xs) → new ≡ old ++ y ∷ [] → y ≡ f (get_or xs i d) → new ≡ map f (take (i + 1) xs)
-mapped_more {X} {A} f xs i d old new y inside before pushed is =
-    pushed ∙ ap (λ (ys : List A). ys ++ y ∷ []) before ∙ ap (λ (z : A). map f (take i xs) ++ z ∷ []) is ∙ sym (map_more f xs i d inside)
+-- the first k items of ys are those of xs under f
+pub record IsFilled {X A : Type 0} (f : X → A) (xs : List X) (k : ℕ) (ys : List A) : Type 0 where
+  pub many : length ys ≡ length xs
+  pub first : take k ys ≡ map f (take k xs)
+
+-- one more item
+pub filled_more : {X A : Type 0} (f : X → A) (xs : List X) (k : ℕ) (d : X) (old new : List A) (y : A) → k < length xs → IsFilled f xs k old → y ≡ f (get_or xs k d) → new ≡ set old k y → IsFilled f xs (k + 1) new
+filled_more {X} {A} f xs k d old new y inside t is put = subst (λ (ys : List A). IsFilled f xs (k + 1) ys) (sym put) (record {
+  many = length-set old k y ∙ t.many;
+  first = take_more_set old k y (subst (λ (n : ℕ). k < n) (sym t.many) inside) ∙ ap (λ (ys : List A). ys ++ y ∷ []) t.first ∙ ap (λ (z : A). map f (take k xs) ++ z ∷ []) is ∙ sym (map_more f xs k d inside);
+})
+
+-- all of them
+pub filled_all : {X A : Type 0} (f : X → A) (xs : List X) (k : ℕ) (ys : List A) → length xs ≤ k → IsFilled f xs k ys → ys ≡ map f xs
+filled_all f xs k ys l t = sym (take_all k ys (let m = t.many in omega arith)) ∙ t.first ∙ ap (map f) (take_all k xs l)

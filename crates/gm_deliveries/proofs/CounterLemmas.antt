@@ -1,9 +1,11 @@
--- The counter of an index of a shard.
-use Rattle.std.proofs.Common.{◌≡◌, ℕ, ◌-◌, ◌<◌, List, length, get_or, refl, subst, arith}
+-- The counter and the status of an index of a shard.
+use Rattle.std.proofs.Common.{◌≡◌, ℕ, ◌-◌, ◌<◌, List, Some, length, get_or, refl, subst, arith}
+use Rattle.std.specs.List.{slice_get}
 use Rattle.std.proofs.lemmas.Option.{slice_get_read}
 use Rattle.gm_game.specs.Rules.{Rules}
 use Rattle.gm_deliveries.specs.declared.status.Status.{Status}
 use Rattle.gm_deliveries.specs.State.{ShardState, IsInRange}
+use Rattle.gm_deliveries.specs.Status.{StatusIs}
 use Rattle.gm_deliveries.specs.Good.{IsKept, IsCounter}
 
 -- the stored counter is the counter
@@ -15,3 +17,14 @@ counter_read r s t statuses left count index n kept same range read = subst (λ 
         let many : length left ≡ length s.delivered = kept.as_many in
         let inside : index - s.lo < length left = omega arith in
         kept.counted index n within (slice_get_read left (length left) (index - s.lo) n refl inside read)
+
+-- there are as many counters and statuses as indexes
+pub in_left : (r : Rules) (s t : ShardState) (statuses : List Status) (left : List ℕ) (count index : ℕ) → IsKept r s statuses left count → s ≡ t → IsInRange t index → index - s.lo < length left
+in_left r s t statuses left count index kept same range = subst (λ (u : ShardState). IsInRange u index → index - s.lo < length left) same (λ m. let many = kept.as_many in omega (arith, m.0, m.1)) range
+
+pub in_statuses : (r : Rules) (s t : ShardState) (statuses : List Status) (left : List ℕ) (count index : ℕ) → IsKept r s statuses left count → s ≡ t → IsInRange t index → index - s.lo < length statuses
+in_statuses r s t statuses left count index kept same range = subst (λ (u : ShardState). IsInRange u index → index - s.lo < length statuses) same (λ m. let many = kept.shard.many in omega (arith, m.0, m.1)) range
+
+-- the stored status is the status
+pub status_read : (r : Rules) (s t : ShardState) (statuses : List Status) (left : List ℕ) (count index : ℕ) (x : Status) → IsKept r s statuses left count → s ≡ t → IsInRange t index → slice_get statuses (index - s.lo) ≡ Some x → StatusIs r t index x
+status_read r s t statuses left count index x kept same range read = subst (λ (u : ShardState). IsInRange u index → StatusIs r u index x) same (λ m. (kept.shard.known index x m read).0) range

@@ -6,3 +6,4 @@ pub mod GoodLemmas
 pub mod CloseLemmas
 pub mod NoteLemmas
 pub mod CounterLemmas
+pub mod NumberLemmas

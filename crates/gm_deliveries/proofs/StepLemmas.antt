@@ -15,6 +15,9 @@ use Rattle.gm_game.specs.declared.position.Value.{Value}
 use Rattle.gm_game.specs.declared.position.Value.TheVariants.{Lose, Draw, Tie, Win}
 use Rattle.gm_game.specs.declared.position.Phase.{Phase}
 use Rattle.gm_game.specs.declared.position.Phase.TheVariants.{WinLose, Ties}
+use Rattle.gm_game.specs.contracts.position.Phase.{the_type}
+use denote.Enum.Bare.{sameb}
+use mathlib.Core.Bool.{not}
 use Rattle.gm_game.specs.Rules.{Rules, at, children, IsCanonicalChild, IsParent}
 use Rattle.gm_game.specs.Laws.{IsGame}
 use Rattle.gm_game.specs.Values.{HasValue}
@@ -503,6 +506,25 @@ step_of {r} {u} {s} {statuses} {left} {count} {note} {parent} k {old} l kept e i
   before = before;
   last_is = same_test l (length (delivered_to s parent)) (length (canonical_children_of r (at s.tier parent))) (counter.inner place.0);
 }
+
+-- a remoteness one above that of a note of the present level fits
+pub room_above : {r : Rules} {u s : ShardState} {statuses : List Status} {left : List ℕ} {count : ℕ} {x y : Solved} → IsKept r u statuses left count → u ≡ s → x ≡ y → y.remoteness ≡ s.level → x.remoteness + 1 < 2 ^ 32
+room_above kept e same level =
+    let fits = kept.shard.fits in
+    let here = ap (λ (s : ShardState). s.level) e in
+    let known = ap (λ (z : Solved). z.remoteness) same in
+    omega arith
+
+-- the test of two phases says whether they are the same
+pub same_phase : (a b : Phase) → false ≡ not (sameb the_type a b) → a ≡ b
+same_phase WinLose WinLose e = refl
+same_phase WinLose Ties e = absurd (true≢false (sym e))
+same_phase Ties WinLose e = absurd (true≢false (sym e))
+same_phase Ties Ties e = refl
+
+pub other_phase : (a b : Phase) → a ≡ b → not (sameb the_type a b) ≡ true → ⊥
+other_phase WinLose b e = subst (λ (y : Phase). not (sameb the_type WinLose y) ≡ true → ⊥) e (λ d. true≢false (sym d))
+other_phase Ties b e = subst (λ (y : Phase). not (sameb the_type Ties y) ≡ true → ⊥) e (λ d. true≢false (sym d))
 
 -- a pair that is there
 pub out_repeat : (r : Rules) (s : ShardState) (note : NoteData) (parent k : ℕ) → IsThisLevel s note → IsInRange s parent → IsPlaceOf r note.position s.tier parent (Some k) → Contains (delivered_to s parent) note.position

@@ -1,7 +1,9 @@
 //! What the positions of a shard are at the start.
-ghost use Rattle.gm_deliveries.specs.Begin.{IsStart};
+ghost use Rattle.std.specs.Prelude.{◌≡◌, length, map};
+ghost use Rattle.gm_deliveries.specs.Begin.{IsStart, first_left, first_status};
 
-use crate::status::Start;
+use crate::status::{Start, first_left, first_status};
+use crate::statuses::Statuses;
 use gm_game::children::canonical_children;
 use gm_game::game::Game;
 use gm_game::position::{Kind, Position};
@@ -16,5 +18,19 @@ pub fn start<G: Game>(p: Position) -> Start
         Kind::Inner => Start::Inner {
             children: canonical_children::<G>(p).len() as u8,
         },
+    }
+}
+
+/// Puts in the counter and the status that each of these positions begins with.
+pub(crate) fn fill(starts: &[Start], left: &mut Vec<u8>, statuses: &mut Statuses)
+    requires counters { length left.old.items ≡ length starts.now }
+    requires statuses { length statuses.old ≡ length starts.now }
+    ensures counters { left.new.items ≡ map first_left starts.now }
+    ensures statuses { statuses.new ≡ map first_status starts.now }
+{
+    for k in 0..starts.len() {
+        let start = starts[k];
+        left[k] = first_left(start);
+        statuses.set(k, first_status(start));
     }
 }

@@ -1,9 +1,8 @@
 //! The children delivered to each position of a range, and what they settle.
 
+use crate::begin::fill;
 use crate::bits::{has_bit, with_bit};
-use crate::status::{
-    Delivery, Refused, Short, Start, Status, first_lefts, is_settling, next_status, phase_of,
-};
+use crate::status::{Delivery, Refused, Short, Start, Status, is_settling, next_status, phase_of};
 use crate::statuses::Statuses;
 use gm_frontier::expected::Expected;
 use gm_frontier::last::Last;
@@ -73,8 +72,9 @@ impl<G: Game> Deliveries<G> {
         ensures { IfOk result (λ s. s ≡ first_state tier lo (length starts.now)) }
     {
         let masks = vec![in alloc; 0u128; starts.len()]?;
-        let left = first_lefts(alloc, starts)?;
-        let statuses = Statuses::at_start(alloc, starts)?;
+        let mut left = vec![in alloc; 0u8; starts.len()]?;
+        let mut statuses = Statuses::undecided(alloc, starts.len())?;
+        fill(starts, &mut left, &mut statuses);
         Ok(Deliveries {
             tier,
             lo,

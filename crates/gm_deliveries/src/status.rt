@@ -1,13 +1,11 @@
 //! What is known of an index, and what a delivery makes of it.
-ghost use Rattle.std.specs.Prelude.{◌≡◌, ◌+◌, ◌<◌, ◌≤◌, ◌^◌, ℕ, Some, map, slice_get, IfOk};
+ghost use Rattle.std.specs.Prelude.{◌≡◌, ◌+◌, ◌<◌, ◌^◌};
 ghost use Rattle.gm_frontier.specs.Notes.{phase_of};
 ghost use Rattle.gm_deliveries.specs.Delivery.{next_status, is_settling, number_of};
 ghost use Rattle.gm_deliveries.specs.Begin.{first_status, first_left};
 
 use gm_game::evaluate::of_end;
-use gm_game::limits::MOVES;
 use gm_game::position::{End, Phase, Solved, Value};
-use std::alloc::{AllocError, Global};
 
 /// What an index is at the start.
 #[derive(Clone, Copy, Debug, PartialEq, Eq)]
@@ -116,7 +114,6 @@ pub(crate) fn first_status(start: Start) -> Status
 
 /// The counter that an index begins with.
 pub(crate) fn first_left(start: Start) -> u8
-    requires { first_left start ≤ MOVES }
     ensures { result ≡ first_left start }
 {
     match start {
@@ -124,18 +121,6 @@ pub(crate) fn first_left(start: Start) -> u8
         Start::Ended(_) => 0,
         Start::Inner { children } => children,
     }
-}
-
-/// The counters that these positions begin with.
-pub(crate) fn first_lefts(alloc: Global, starts: &[Start]) -> Result<Vec<u8>, AllocError>
-    requires { (k : ℕ) (x : Start) → slice_get starts.now k ≡ Some x → first_left x ≤ MOVES }
-    ensures { IfOk result (λ left. left.items ≡ map first_left starts.now) }
-{
-    let mut left = Vec::with_capacity(alloc, starts.len())?;
-    for start in starts {
-        left.push(first_left(*start))?;
-    }
-    Ok(left)
 }
 
 /// The phase in which a value is settled.

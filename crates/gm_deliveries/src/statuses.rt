@@ -1,10 +1,9 @@
 //! Statuses of four bytes each.
-ghost use Rattle.std.specs.Prelude.{◌≡◌, ◌<◌, ◌++◌, [], ◌∷◌, Some, length, slice_get, set, map, IfOk, OnOk};
-ghost use Rattle.gm_deliveries.specs.Begin.{first_status};
+ghost use Rattle.std.specs.Prelude.{◌≡◌, ◌<◌, Some, length, slice_get, set, IfOk};
 ghost use Rattle.gm_deliveries.specs.Good.{IsWithinLimit};
 ghost use Rattle.gm_deliveries.specs.Statuses.{status_of};
 
-use crate::status::{Start, Status, first_status};
+use crate::status::Status;
 use gm_table::packed::{number_of, unpacked};
 use std::alloc::{AllocError, Global};
 use std::marker::Model;
@@ -29,32 +28,12 @@ impl Model for Statuses {
 }
 
 impl Statuses {
-    /// An empty list, with room for this many statuses.
-    pub(crate) fn with_capacity(alloc: Global, room: usize) -> Result<Statuses, AllocError>
-        ensures { IfOk result (λ statuses. statuses ≡ []) }
+    /// This many statuses, each undecided.
+    pub(crate) fn undecided(alloc: Global, count: usize) -> Result<Statuses, AllocError>
+        ensures { IfOk result (λ statuses. length statuses ≡ count) }
     {
-        let numbers = Vec::with_capacity(alloc, room)?;
+        let numbers = vec![in alloc; UNDECIDED; count]?;
         Ok(Statuses { numbers })
-    }
-
-    /// The statuses that these positions begin with.
-    pub(crate) fn at_start(alloc: Global, starts: &[Start]) -> Result<Statuses, AllocError>
-        ensures { IfOk result (λ statuses. statuses ≡ map first_status starts.now) }
-    {
-        let mut statuses = Statuses::with_capacity(alloc, starts.len())?;
-        for start in starts {
-            statuses.push(first_status(*start))?;
-        }
-        Ok(statuses)
-    }
-
-    /// Adds a status at the end.
-    pub(crate) fn push(&mut self, status: Status) -> Result<(), AllocError>
-        requires { IsWithinLimit status }
-        ensures { OnOk result (self.new ≡ self.old ++ status ∷ []) }
-    {
-        self.numbers.push(number_of_status(status))?;
-        Ok(())
     }
 
     /// The status at a place.

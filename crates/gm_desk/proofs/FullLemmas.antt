@@ -1,5 +1,6 @@
 -- A pass is full exactly where it has delivered all pairs of the level.
-use Rattle.std.proofs.Common.{◌≡◌, ℕ, ◌+◌, ◌↔◌, inl, inr, length, List, sym, subst, arith, Some, Option}
+use Rattle.std.proofs.Common.{◌≡◌, ℕ, ◌+◌, ◌↔◌, inl, inr, length, List, sym, subst, arith, Some, Option, IsTrue, ◌==◌}
+use Rattle.std.proofs.lemmas.Bool.Decides.{Decides-eqb}
 use Rattle.gm_game.specs.declared.position.Phase.{Phase}
 use Rattle.gm_game.specs.declared.position.Phase.TheVariants.{Ties}
 use Rattle.gm_game.specs.declared.position.Place.{Place}
@@ -47,3 +48,9 @@ pub full_exactly : (r : Rules) → IsGame r → (spot : Spot) (notes : List Note
 full_exactly r g spot notes level base before e exact f n =
     let c = counted_exactly r g spot notes level base before e exact f in
     ((λ h. omega arith), (λ h. omega arith))
+
+-- the test that a pass makes
+pub full_says : {before amount number base now e : ℕ} → before ≡ base → amount ≡ now → number ≡ e → IsTrue (before + amount == number) ↔ (base + now ≡ e)
+full_says {before} {amount} {number} same count is =
+    let test = Decides-eqb (before + amount) number in
+    ((λ h. let sum = test.0 h in omega arith), (λ h. test.1 (omega arith)))

@@ -1,6 +1,8 @@
 -- A shard to which the pairs of a level are delivered in their order.
-use Rattle.std.proofs.Common.{◌≡◌, ℕ, zero, suc, ◌+◌, ◌-◌, ◌<◌, ◌⊎◌, inl, inr, List, [], ◌∷◌, length, slice_get, refl, sym, ap, ap₂, subst, ◌∙◌, arith, Some, Result, Ok, Err, get_or-set_same, get_or-set_other}
+use Rattle.std.proofs.Common.{◌≡◌, ℕ, zero, suc, ◌+◌, ◌-◌, ◌<◌, ◌⊎◌, inl, inr, List, [], ◌∷◌, length, slice_get, refl, sym, ap, ap₂, subst, ◌∙◌, arith, Some, Result, Ok, Err, get_or-set_same, get_or-set_other, Option, None, option_map}
 use Rattle.std.specs.List.{Contains}
+use Rattle.std.specs.Iterator.{SkipsThenYields, YieldsFirst}
+use Rattle.std.proofs.lemmas.Iterator.Consumers.{nth_from_yields_List, YieldsList-from_first}
 use Rattle.std.proofs.lemmas.Bool.{cases_eq, cases_lt}
 use Rattle.std.proofs.lemmas.Option.{slice_get_within, get_or_from_slice_get}
 use Rattle.std.proofs.lemmas.List.Elements.{Contains-get_or}
@@ -16,6 +18,7 @@ use Rattle.gm_game.proofs.SetLemmas.{with_cases}
 use Rattle.gm_frontier.specs.Notes.{NoteData, phase_of}
 use Rattle.gm_frontier.specs.Levels.{LevelData, IsLevel}
 use Rattle.gm_frontier.proofs.PairLemmas.{pairs_once, in_pairs, positions_once, canonical_notes}
+use Rattle.gm_frontier.specs.Pairs.{pairs_of}
 use Rattle.gm_frontier.specs.Counts.{ExpectedData, IsExpected}
 use Rattle.gm_frontier.proofs.Distinct.{same_image}
 use Rattle.gm_frontier.proofs.ForGame.{now_stands}
@@ -181,3 +184,18 @@ for_shard e spot s at f =
 -- as many pairs as the count says: the level is whole
 pub round_whole : (r : Rules) → IsGame r → (spot : Spot) (s : ShardState) → spot_of s ≡ spot → IsGood r s → (e : ExpectedData) → IsExpected r e → IsForSpot e spot → e.number ≡ pairs_in s → IsWhole r s
 round_whole r g spot s at good e exact f n = whole_from g good exact (for_shard e spot s at f) (omega arith)
+
+-- the pairs of all notes of a level at the spot into its range
+pub pairs_are_into : (r : Rules) (l : LevelData) (spot : Spot) (notes : List NoteData) → IsLevelAt l spot notes → (lo hi : ℕ) → lo ≡ spot.lo → hi ≡ spot.hi
+    → (pairs : List (NoteData × ℕ)) → pairs ≡ pairs_of r l.place.tier lo hi l.notes → pairs ≡ pairs_into r spot notes
+pairs_are_into r l spot notes at lo hi from to pairs is =
+    let tier : l.place.tier ≡ spot.tier = ap (λ (p : Place). p.tier) at.place in
+    is ∙ rw (tier, from, to, at.notes_are) refl
+
+-- the item that a walk of n calls comes to
+pub nth_is : {X : Type 0} (xs : List X) (found : Option X) (n : ℕ) (left : List X) → SkipsThenYields (YieldsFirst (λ (ys : List X). ys)) xs n found left → slice_get xs n ≡ found
+nth_is {X} xs found n left ran = sym (nth_from_yields_List {v = λ (x : X). x} found left n ran (YieldsList-from_first (λ (x : X). x) (λ (ys : List X). ys) xs refl)) ∙ same found
+  where
+    same : (o : Option X) → option_map (λ (x : X). x) o ≡ o
+    same None = refl
+    same (Some x) = refl

@@ -164,6 +164,18 @@ impl<G: Game, L: Round> PassDesk<G, L> {
         self.range
     }
 
+    /// The pass's next pair, as `deliver_next` wants it: the one with number `amount()`, from 0, of the level's pairs into the range; `None` where there are no
+    /// more. It walks the pairs up to that one.
+    pub fn next_pair(&self, level: &Level<G>, pass: &Pass<L>) -> Option<(Note<G>, u64)>
+        requires { IsLevelAt level.now L.spot L.notes }
+        ensures { slice_get (pairs_into G.rules L.spot L.notes) pass.now ≡ result }
+    {
+        let _place = level.place();
+        let (lo, hi) = self.range();
+        let mut pairs = level.pairs(0, level.len().max(1), lo, hi);
+        pairs.nth(pass.amount() as usize)
+    }
+
     /// Delivers the pass's next pair: the one with number `amount()`, from 0, of the level's pairs into the range. Either it is new and the amount rises by
     /// one, or it is too far, which happens only
     /// where the level is at the limit, and the amount stays. Either way it is one delivery to the shard.

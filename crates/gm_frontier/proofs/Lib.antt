@@ -1,3 +1,4 @@
+pub mod AllTallies
 pub mod CountLemmas
 pub mod CoverLemmas
 pub mod Distinct

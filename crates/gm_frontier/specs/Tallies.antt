@@ -69,6 +69,11 @@ pub record IsTallyOf (r : Rules) (level : LevelData) (number size_of tile_width 
 abbrev pub IsTile : ℕ → ℕ → ℕ → ℕ → Type 0
 IsTile size width lo hi = (hi ≤ lo) ⊎ ((k : ℕ) × (lo ≡ tile_start width k) × (hi ≡ tile_end size width k))
 
+-- the tallies of a level's pieces, in order
+pub record AreAllTallies (level : LevelData) (n width : ℕ) (tallies : List TallyData) : Type 0 where
+  pub alike : (t : TallyData) → Contains tallies t → (t.place ≡ level.place) × (t.n ≡ n) × (t.width ≡ width)
+  pub pieces : map (λ t. t.piece) tallies ≡ numbers_from 0 (div_ceil (length level.notes) n)
+
 -- the tallies are those of the level, one for each of its pieces, all for the same size of pieces and width of tiles, and the range is one of the tiles; a
 -- level without notes has no tallies, and any range will do
 pub record AreTallies (r : Rules) (level : LevelData) (lo hi : ℕ) (tallies : List TallyData) : Type 0 where

@@ -1,5 +1,5 @@
 //! Exact counts of the pairs into a range, level by level.
-ghost use Rattle.std.specs.Prelude.{◌≡◌, ◌+◌, ◌≤◌, None, Some};
+ghost use Rattle.std.specs.Prelude.{◌≡◌, ◌↔◌, ◌+◌, ◌≤◌, IsTrue, None, Some};
 
 use crate::last::Last;
 use crate::level::Level;
@@ -51,6 +51,18 @@ impl<G: Game> Expected<G> {
             number: 0,
             game: PhantomData,
         }
+    }
+
+    /// Whether the level is the next one, as `add` and `add_counted` want it.
+    pub fn takes(&self, level: &Level<G>) -> bool
+        ensures { IsTrue result ↔ (level.now.place ≡ place_at self.now.tier self.now.phase self.now.level) }
+    {
+        let place = level.place();
+        let before = match self.last {
+            Some(last) if last.phase == self.phase => Some(last.level),
+            _ => None,
+        };
+        place.tier == self.tier && place.phase == self.phase && place.level.checked_sub(1) == before
     }
 
     /// Adds the pairs of the next level: it walks them.

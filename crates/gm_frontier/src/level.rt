@@ -40,7 +40,7 @@ impl<'a, G: Game> Level<'a, G> {
     ghost use Rattle.gm_game.specs.Places.{IsLastLevel};
     ghost use Rattle.gm_frontier.specs.Levels.{IsLevel, AreTiles, AreBelow};
     ghost use Rattle.gm_frontier.specs.Pairs.{pairs_of, piece_of, IsPairAt};
-    ghost use Rattle.gm_frontier.specs.Tallies.{number_into, tiled_pairs, IsTallyOf};
+    ghost use Rattle.gm_frontier.specs.Tallies.{number_into, tiled_pairs, IsTallyOf, IsTile, AreTallies, AreAllTallies};
 
     /// Gathers the notes of a place: those of the tier from runs that tile it, in order, and those of its child tiers from their tables.
     pub fn gather(
@@ -154,6 +154,20 @@ impl<'a, G: Game> Level<'a, G> {
         let pairs = self.pairs(piece, n, 0, size);
         let counts = tile_counts(alloc, pairs, width, size.div_ceil(width) as usize)?;
         Ok(Tally::of(self, piece, n, width, counts))
+    }
+
+    /// The tallies of all pieces of `n` notes, in order, as `Expected::add_counted` wants them: it walks each piece once.
+    pub fn tallies(&self, alloc: Global, n: usize, width: u64) -> Result<Vec<Tally<G>>, AllocError>
+        requires piece_size { 0 < n }
+        requires width { 0 < width }
+        ensures all { IfOk result (λ tallies. AreAllTallies self.now n width tallies.items) }
+        ensures tiles { IfOk result (λ tallies. (lo hi : ℕ) → IsTile (G.rules.tier_size self.now.place.tier) width lo hi → AreTallies G.rules self.now lo hi tallies.items) }
+    {
+        let mut tallies = Vec::new(alloc);
+        for piece in 0..self.pieces(n) {
+            tallies.push(self.tally(alloc, piece, n, width)?)?;
+        }
+        Ok(tallies)
     }
 
     /// How many pairs there are from `lo` up to `hi`: it walks them.

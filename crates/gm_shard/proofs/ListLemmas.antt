@@ -162,3 +162,12 @@ one_start r tier lo xs ys y e h s k x i =
           let same : y ≡ x = sym (get_or-append-add xs (y ∷ []) 0 y) ∙ ap (λ (j : ℕ). get_or (xs ++ y ∷ []) j y) plus ∙ read in
           subst (λ (z : Start). IsStart r (at tier (lo + k)) z) same (subst (λ (j : ℕ). IsStart r (at tier (lo + j)) y) is s))
     ]
+
+-- both bounds of the list of an index of the range are there
+pub bounds_there : (r : Rules) (s : ListsData) (tiers bounds codes : List ℕ) → AreKept r s tiers bounds codes → (parent k : ℕ) → s.lo ≤ parent → parent < s.hi → k ≡ parent - s.lo → (k < length bounds) × (k + 1 < length bounds)
+bounds_there r s tiers bounds codes h parent k l m j =
+    let up = h.up_to in
+    let many = h.listed.many in
+    let is : s.lo + k ≡ parent = omega (arith, l, j) in
+    let less : k < h.count = omega (arith, up, is, m) in
+    (omega (arith, less, many), omega (arith, less, many))

@@ -1,5 +1,6 @@
 -- Blocks of a tier, one after another.
-use Rattle.std.proofs.Common.{◌≡◌, ℕ, zero, suc, ◌+◌, ◌-◌, ◌*◌, ◌/◌, ◌%◌, ◌<◌, ◌≤◌, min, ◌⊎◌, inl, inr, List, [], ◌∷◌, ◌++◌, length, take, drop, slice_get, get_or, Some, refl, sym, ap, subst, ◌∙◌, arith}
+use Rattle.std.proofs.Common.{◌≡◌, ℕ, zero, suc, ◌+◌, ◌-◌, ◌*◌, ◌/◌, ◌%◌, ◌<◌, ◌≤◌, min, ◌⊎◌, inl, inr, List, [], ◌∷◌, ◌++◌, length, length-append, take, drop, slice_get, get_or, Some, Result, IfOk, Vec, refl, sym, ap, subst, ◌∙◌, arith}
+use Rattle.std.specs.declared.alloc.Global.{Global}
 use Rattle.std.specs.List.{AllZip, range_with_len}
 use Rattle.std.proofs.Math.Nat.{div-lt_iff_lt-mul, mod-lt, min-le_left, le-min}
 use Rattle.std.proofs.lemmas.Nat.{mul-add-lt, mod-mul-add, div-mul-add, div-add-mod'}
@@ -10,7 +11,7 @@ use Rattle.gm_deliveries.specs.declared.status.Start.{Start}
 use Rattle.gm_deliveries.specs.Begin.{IsStart, AreStarts}
 use Rattle.gm_shard.specs.Lists.{ListsData}
 use Rattle.std.proofs.lemmas.Option.{slice_get-get_or}
-use Rattle.gm_solver.specs.Blocks.{block_in, block_at, AreBlocks}
+use Rattle.gm_solver.specs.Blocks.{block_in, block_at, IsPart, IsBlock, IsPut, AreInPlace, AreParts, AreApart, AreBlocks}
 
 -- an item of two lists, one after the other, stands in one of them
 pub append_cases : {X : Type 0} (xs ys : List X) (k : ℕ) (x : X) → slice_get (xs ++ ys) k ≡ Some x → (slice_get xs k ≡ Some x) ⊎ ((j : ℕ) × (k ≡ length xs + j) × (slice_get ys j ≡ Some x))
@@ -118,3 +119,52 @@ each_zip {X} P n (x ∷ xs) each =
 
 pub each_whole : {X : Type 0} (P : ℕ → X → Type 0) (xs : List X) → EachAt P xs → AllZip P (range_with_len 0 (length xs)) xs
 each_whole {X} P xs each = each_zip P 0 xs (λ k x e. let same : k ≡ 0 + k = omega arith in subst (λ (m : ℕ). P m x) same (each k x e))
+
+-- of n blocks these are set apart, and what the scan found of the others is left
+pub record AreLeft {E : Type 0} (r : Rules) (tier rows n : ℕ) (blocks : List ListsData) (parts : List (Vec Start Global)) (rest : List (Result (ListsData × Vec Start Global) E)) : Type 0 where
+  pub blocks_are : AreInPlace r tier rows blocks
+  pub parts_are : AreParts r tier rows parts
+  pub as_many : length parts ≡ length blocks
+  pub count : length blocks + length rest ≡ n
+  pub left : AllZip (λ place entry. IfOk entry (λ block. IsBlock r tier (block_in rows place) block.0 block.1.items)) (range_with_len (length blocks) (length rest)) rest
+
+pub left_first : {E : Type 0} (r : Rules) (tier rows : ℕ) (blocks : List ListsData) (parts : List (Vec Start Global)) (found rest : List (Result (ListsData × Vec Start Global) E)) → blocks ≡ [] → parts ≡ [] → rest ≡ found
+    → AllZip (λ place entry. IfOk entry (λ block. IsBlock r tier (block_in rows place) block.0 block.1.items)) (range_with_len 0 (length found)) found → AreLeft r tier rows (length found) blocks parts rest
+left_first {E} r tier rows blocks parts found rest none empty given each =
+    let a = ap length none in
+    let b = ap length empty in
+    let d = ap length given in
+    record {
+      blocks_are = subst (AreInPlace r tier rows) (sym none) (none_at (λ place b'. b' ≡ block_at r tier (block_in rows place)));
+      parts_are = subst (AreParts r tier rows) (sym empty) (none_at (λ place (p : Vec Start Global). IsPart r tier (block_in rows place) p.items));
+      as_many = omega arith;
+      count = omega arith;
+      left = zip_first _ blocks found rest none given each;
+    }
+
+pub left_next : {E : Type 0} (r : Rules) (tier rows n : ℕ) (blocks more_blocks : List ListsData) (parts more_parts : List (Vec Start Global)) (left : List (Result (ListsData × Vec Start Global) E)) (entry : Result (ListsData × Vec Start Global) E)
+    (rest : List (Result (ListsData × Vec Start Global) E)) → AreLeft r tier rows n blocks parts left → left ≡ entry ∷ rest → IsPut entry blocks more_blocks parts more_parts → AreLeft r tier rows n more_blocks more_parts rest
+left_next {E} r tier rows n blocks more_blocks parts more_parts left entry rest old e put =
+    let step = zip_step _ (length blocks) left entry rest e old.left in
+    let here : IsBlock r tier (block_in rows (length blocks)) put.lists put.starts.items = subst (λ x. IfOk x (λ block. IsBlock r tier (block_in rows (length blocks)) block.0 block.1.items)) put.entry_is step.0 in
+    let more : length more_blocks ≡ suc (length blocks) = (let a = ap length put.blocks_are in let b = length-append blocks (put.lists ∷ []) in omega arith) in
+    let longer : length more_parts ≡ suc (length parts) = (let a = ap length put.parts_are in let b = length-append parts (put.starts ∷ []) in omega arith) in
+    let same = old.as_many in
+    let before = old.count in
+    let one = ap length e in
+    record {
+      blocks_are = subst (AreInPlace r tier rows) (sym put.blocks_are) (one_at (λ place b. b ≡ block_at r tier (block_in rows place)) blocks put.lists here.lists_are old.blocks_are);
+      parts_are = subst (AreParts r tier rows) (sym put.parts_are) (one_at (λ place (p : Vec Start Global). IsPart r tier (block_in rows place) p.items) parts put.starts
+          (subst (λ (k : ℕ). IsPart r tier (block_in rows k) put.starts.items) (sym same) here.part) old.parts_are);
+      as_many = omega arith;
+      count = omega arith;
+      left = rw more step.1;
+    }
+
+pub left_none : {E : Type 0} (r : Rules) (tier rows n : ℕ) (blocks : List ListsData) (parts : List (Vec Start Global)) (rest : List (Result (ListsData × Vec Start Global) E)) → AreLeft r tier rows n blocks parts rest → rest ≡ []
+    → AreApart r tier rows n blocks parts
+left_none {E} r tier rows n blocks parts rest done none =
+    let count = done.count in
+    let same = done.as_many in
+    let no = ap length none in
+    record { many_blocks = omega arith; many_parts = omega arith; blocks_are = done.blocks_are; parts_are = done.parts_are }

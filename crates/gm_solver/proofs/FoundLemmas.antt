@@ -6,9 +6,8 @@ use Rattle.std.proofs.lemmas.Bool.{cases_eq}
 use Rattle.std.proofs.lemmas.List.{map_push, length-append, length-replicate}
 use Rattle.std.proofs.lemmas.List.Elements.{Contains-push_cases}
 use Rattle.gm_frontier.specs.Levels.{LevelData}
-use Rattle.gm_frontier.specs.Tallies.{TallyData, numbers_from}
+use Rattle.gm_frontier.specs.Tallies.{TallyData, numbers_from, AreAllTallies}
 use Rattle.gm_frontier.proofs.TalliedLemmas.{numbers_push}
-use Rattle.gm_solver.specs.Tiling.{AreAllTallies}
 use Rattle.gm_solver.specs.Found.{AreFound, AreSoFar, AreFilled, IsTallyAt}
 
 -- an entry more without a tally

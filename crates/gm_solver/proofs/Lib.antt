@@ -8,3 +8,4 @@ pub mod RoundLemmas
 pub mod OneTally
 pub mod SmallTiers
 pub mod BlockLemmas
+pub mod WalkLemmas

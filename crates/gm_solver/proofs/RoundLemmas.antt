@@ -15,7 +15,6 @@ use Rattle.gm_frontier.specs.Notes.{NoteData}
 use Rattle.gm_frontier.specs.Levels.{LevelData, IsLevel}
 use Rattle.gm_frontier.proofs.PairLemmas.{in_pairs, positions_once, canonical_notes}
 use Rattle.gm_frontier.specs.Counts.{ExpectedData}
-use Rattle.gm_frontier.specs.Pairs.{pairs_of}
 use Rattle.gm_frontier.proofs.CountLemmas.{notes_few}
 use Rattle.gm_frontier.proofs.ForGame.{not_before_and_at, ties_after}
 use Rattle.gm_deliveries.specs.declared.status.Short.{Short}
@@ -26,7 +25,7 @@ use Rattle.gm_deliveries.specs.Begin.{first_state}
 use Rattle.gm_deliveries.specs.Good.{IsGood}
 use Rattle.gm_deliveries.specs.Steps.{next_level, first_ties}
 use Rattle.gm_desk.specs.Spots.{Spot, spot_of}
-use Rattle.gm_desk.specs.Rounds.{pairs_into, place_of_spot, HasNoneHere, IsLevelAt}
+use Rattle.gm_desk.specs.Rounds.{pairs_into, place_of_spot, HasNoneHere}
 use Rattle.gm_desk.proofs.RoundLemmas.{item_in}
 
 -- the pairs of a level into a spot's range
@@ -42,13 +41,6 @@ module _ (r : Rules) (g : IsGame r) (spot : Spot) (notes : List NoteData) (level
   -- they are few
   pub into_fit : r.tier_size spot.tier ≤ TIER_SIZE → length (pairs_into r spot notes) < 2 ^ 64
   into_fit small = (let few = notes_few r g spot.tier spot.lo spot.hi notes (positions_once r g (place_of_spot spot) notes level) (canonical_notes r g (place_of_spot spot) notes level) in omega arith)
-
--- they are the pairs of all notes of a level at the spot
-pub pairs_are_into : (r : Rules) (l : LevelData) (spot : Spot) (notes : List NoteData) → IsLevelAt l spot notes → (lo hi : ℕ) → lo ≡ spot.lo → hi ≡ spot.hi
-    → (pairs : List (NoteData × ℕ)) → pairs ≡ pairs_of r l.place.tier lo hi l.notes → pairs ≡ pairs_into r spot notes
-pairs_are_into r l spot notes at lo hi from to pairs is =
-    let tier : l.place.tier ≡ spot.tier = ap (λ (p : Place). p.tier) at.place in
-    is ∙ rw (tier, from, to, at.notes_are) refl
 
 -- a walk through a list: what is left after k items
 pub item_next : {X : Type 0} (xs : List X) (k : ℕ) (x : X) (rest : List X) → drop k xs ≡ x ∷ rest → (slice_get xs k ≡ Some x) × (drop (suc k) xs ≡ rest)

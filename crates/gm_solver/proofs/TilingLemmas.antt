@@ -1,13 +1,13 @@
 -- Four tiles of a tier: every index is in one, and what is known of each is known of the tier.
-use Rattle.std.proofs.Common.{◌≡◌, ℕ, zero, suc, ◌+◌, ◌*◌, ◌^◌, ◌<◌, ◌≤◌, ◌⊎◌, inl, inr, min, List, [], ◌∷◌, ◌++◌, length, Option, Some, slice_get, refl, sym, ap, subst, ◌∙◌, arith}
+use Rattle.std.proofs.Common.{◌≡◌, ℕ, zero, suc, ◌+◌, ◌*◌, ◌^◌, ◌<◌, ◌≤◌, ◌⊎◌, inl, inr, min, List, [], ◌∷◌, ◌++◌, length, replicate, Option, Some, slice_get, refl, sym, ap, subst, ◌∙◌, arith}
 use Rattle.std.specs.List.{Contains}
-use Rattle.std.specs.Int.{div_ceil}
 use Rattle.std.proofs.lemmas.Bool.{cases_lt}
-use Rattle.std.proofs.lemmas.List.{length-append}
+use Rattle.std.proofs.lemmas.List.{length-append, length-replicate}
 use Rattle.std.proofs.lemmas.List.Elements.{Contains-append_cases, Contains-append_left, Contains-append_right}
 use Rattle.gm_game.specs.declared.limits.TheConstants.{REMOTENESS}
 use Rattle.gm_game.specs.declared.position.Position.{Position}
 use Rattle.gm_game.specs.declared.position.Phase.{Phase}
+use Rattle.gm_game.specs.declared.position.Phase.TheVariants.{WinLose}
 use Rattle.gm_game.specs.declared.position.Place.{Place}
 use Rattle.gm_game.specs.declared.position.Solved.{Solved}
 use Rattle.gm_game.specs.Rules.{Rules, at}
@@ -16,18 +16,19 @@ use Rattle.gm_game.specs.Records.{IsRecord, IsTrueTable}
 use Rattle.gm_game.specs.Values.{IsTrueValue}
 use Rattle.gm_frontier.specs.Counts.{ExpectedData, IsExpected, IsNumberBefore}
 use Rattle.gm_frontier.specs.Levels.{LevelData, RunData, AreTiles, place_at}
-use Rattle.gm_frontier.specs.Tallies.{TallyData, AreTallies, IsTile}
+use Rattle.gm_frontier.specs.Tallies.{TallyData, AreTallies, IsTile, AreAllTallies}
 use Rattle.gm_frontier.proofs.Distinct.{no_repeats_from, no_repeats_to, no_repeats_append}
 use Rattle.gm_frontier.proofs.CountLemmas.{number_few}
-use Rattle.gm_frontier.proofs.TalliedLemmas.{tallies_in_order}
+use Rattle.gm_frontier.proofs.AllTallies.{all_count}
 use Rattle.gm_deliveries.specs.State.{ShardState}
+use Rattle.gm_deliveries.specs.Begin.{first_state}
 use Rattle.gm_deliveries.specs.Good.{IsGood}
 use Rattle.gm_deliveries.specs.Steps.{place_of}
 use Rattle.gm_deliveries.specs.Closing.{ArePart}
 use Rattle.gm_desk.specs.declared.board.Four.{Four}
 use Rattle.gm_desk.specs.Spots.{Spot, spot_of, AreFourTiles}
 use Rattle.gm_solver.specs.Covered.{IsCovered}
-use Rattle.gm_solver.specs.Tiling.{IsWide, tile_at, spot_counted, AreShardsAt, AreCountsAt, AreAllTallies, IsFreshRun}
+use Rattle.gm_solver.specs.Tiling.{IsWide, tile_at, spot_counted, AreShardsAt, AreCountsAt, IsFreshRun}
 use Rattle.gm_solver.proofs.Final.{whole_part}
 
 -- the tiles follow one another
@@ -117,14 +118,7 @@ tile_is_one size width k lo hi e f = elim (cases_lt (k * width) size) [ inl l �
 -- the tallies of all pieces count into each tile
 pub all_tallies : (r : Rules) (level : LevelData) (n width k lo hi : ℕ) (tallies : List TallyData) → 0 < n → AreAllTallies level n width tallies → lo ≡ min (k * width) (r.tier_size level.place.tier) → hi ≡ min (suc k * width) (r.tier_size level.place.tier)
     → AreTallies r level lo hi tallies
-all_tallies r level n width k lo hi tallies some all e f = record {
-  n = n;
-  width = width;
-  some_notes = some;
-  alike = all.alike;
-  pieces = tallies_in_order (div_ceil (length level.notes) n) tallies all.pieces;
-  range = inr (tile_is_one (r.tier_size level.place.tier) width k lo hi e f);
-}
+all_tallies r level n width k lo hi tallies some all e f = all_count r level n width lo hi tallies some all (tile_is_one (r.tier_size level.place.tier) width k lo hi e f)
 
 -- the true records of the indexes below n
 pub record AreFirst (r : Rules) (tier n : ℕ) (records : List (Option Solved)) : Type 0 where
@@ -239,3 +233,12 @@ four_parts r place width wide shards are none one two three four empty a b c d =
   where
     no_item : (k : ℕ) (o : Option Solved) → slice_get {X = Option Solved} [] k ≡ Some o → ⊥
     no_item k o e = absurd (cc)
+
+-- a shard of a tile before the first level
+pub begun_at : (r : Rules) (tier width k lo n : ℕ) (s : ShardState) → s ≡ first_state tier lo n → lo ≡ min (k * width) (r.tier_size tier) → lo + n ≡ min (suc k * width) (r.tier_size tier)
+    → spot_of s ≡ tile_at r (place_at tier WinLose 0) width k
+begun_at r tier width k lo n s is from to =
+    let spot : ℕ → ℕ → Spot = λ l h. record { tier = tier; lo = l; hi = h; phase = WinLose; level = 0 } in
+    let none : List Position = [] in
+    let end : lo + length (replicate n none) ≡ min (suc k * width) (r.tier_size tier) = ap (λ (m : ℕ). lo + m) (length-replicate n none) ∙ to in
+    ap spot_of is ∙ ap (spot lo) end ∙ ap (λ (l : ℕ). spot l (min (suc k * width) (r.tier_size tier))) from

@@ -1,5 +1,5 @@
 -- The canonical children of a tier, in blocks of 512 indexes that are dealt out to 32 classes in turn.
-use Rattle.std.specs.Prelude.{◌≡◌, ℕ, ◌+◌, ◌*◌, ◌/◌, ◌%◌, ◌≤◌, suc, min, List, Some, Vec, length, slice_get}
+use Rattle.std.specs.Prelude.{◌≡◌, ℕ, ◌+◌, ◌*◌, ◌/◌, ◌%◌, ◌≤◌, suc, min, List, [], ◌∷◌, ◌++◌, Some, Result, Ok, Vec, length, slice_get}
 use Rattle.std.specs.declared.alloc.Global.{Global}
 use Rattle.gm_game.specs.Rules.{Rules}
 use Rattle.gm_deliveries.specs.declared.status.Start.{Start}
@@ -31,6 +31,21 @@ AreInPlace r tier rows blocks = (place : ℕ) (b : ListsData) → slice_get bloc
 -- each of these lists has the starts of the block that is scanned at its place
 abbrev pub AreParts : Rules → ℕ → ℕ → List (Vec Start Global) → Type 0
 AreParts r tier rows parts = (place : ℕ) (p : Vec Start Global) → slice_get parts place ≡ Some p → IsPart r tier (block_in rows place) p.items
+
+-- what a scan found of one block, its lists and what its indexes are at the start, stands behind what was found of the blocks before it
+pub record IsPut {E : Type 0} (entry : Result (ListsData × Vec Start Global) E) (blocks more_blocks : List ListsData) (parts more_parts : List (Vec Start Global)) : Type 0 where
+  pub lists : ListsData
+  pub starts : Vec Start Global
+  pub entry_is : entry ≡ Ok (lists, starts)
+  pub blocks_are : more_blocks ≡ blocks ++ lists ∷ []
+  pub parts_are : more_parts ≡ parts ++ starts ∷ []
+
+-- of as many blocks, the lists of each and what its indexes are at the start, both at the place at which the block is scanned
+pub record AreApart (r : Rules) (tier rows n : ℕ) (blocks : List ListsData) (parts : List (Vec Start Global)) : Type 0 where
+  pub many_blocks : length blocks ≡ n
+  pub many_parts : length parts ≡ n
+  pub blocks_are : AreInPlace r tier rows blocks
+  pub parts_are : AreParts r tier rows parts
 
 -- the blocks have every index of the tier
 pub record AreBlocks (r : Rules) (tier rows : ℕ) (blocks : List ListsData) : Type 0 where

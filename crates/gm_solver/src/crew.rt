@@ -1,7 +1,7 @@
 //! The workers of one level, and the coordinator after them.
 ghost use Rattle.std.specs.Prelude.{◌≡◌, ◌+◌, ◌<◌, [], OnOk, IfOk, vec_len};
+ghost use Rattle.gm_frontier.specs.Tallies.{AreAllTallies};
 ghost use Rattle.gm_solver.specs.Found.{AreFound};
-ghost use Rattle.gm_solver.specs.Tiling.{AreAllTallies};
 
 use crate::found::{fill, keep_all};
 use crate::gate::{Gate, NoGate};
@@ -85,10 +85,10 @@ fn run_workers<
     'a,
     'b,
     G: Game + Send + Sync,
-    A: Desk + Send + Sync,
-    B: Desk + Send + Sync,
-    C: Desk + Send + Sync,
-    D: Desk + Send + Sync,
+    A: Desk + Send,
+    B: Desk + Send,
+    C: Desk + Send,
+    D: Desk + Send,
     R: Threads + Wait + Sync,
     T: Gate,
     S: Source,
@@ -133,10 +133,10 @@ fn sum_of<A: Desk, B: Desk, C: Desk, D: Desk>(shares: &Shares<A, B, C, D>) -> u6
 /// first, and the list of tallies is empty; at the end it has those of all pieces. The result is the number of the workers' deliveries.
 pub(crate) fn serve_level<
     G: Game + Send + Sync,
-    A: Desk + Send + Sync,
-    B: Desk + Send + Sync,
-    C: Desk + Send + Sync,
-    D: Desk + Send + Sync,
+    A: Desk + Send,
+    B: Desk + Send,
+    C: Desk + Send,
+    D: Desk + Send,
     R: Threads + Wait + Sync,
     T: Gate,
     S: Source,

@@ -1,6 +1,6 @@
 //! The tallies of a level's pieces: those that workers hand back, and the others, which the coordinator finds by its own walk.
 ghost use Rattle.std.specs.Prelude.{◌≡◌, ◌+◌, ◌<◌, [], length, IfOk, OnOk, IsTrue};
-ghost use Rattle.gm_solver.specs.Tiling.{AreAllTallies};
+ghost use Rattle.gm_frontier.specs.Tallies.{AreAllTallies};
 ghost use Rattle.gm_solver.specs.Found.{AreFound, AreFilled};
 
 use crate::gate::NoGate;

@@ -1,9 +1,10 @@
 //! One level by passes: each shard has one pass, which delivers the level's pairs to it in their order.
 ghost use Rattle.std.specs.Prelude.{◌≡◌, ◌<◌, ◌≤◌, length, IfOk, IfErr, OnOk};
+ghost use Rattle.gm_frontier.specs.Tallies.{AreAllTallies};
 ghost use Rattle.gm_deliveries.specs.State.{pairs_in};
 ghost use Rattle.gm_solver.specs.Solving.{IsError};
 ghost use Rattle.gm_desk.specs.Spots.{spot_of};
-ghost use Rattle.gm_solver.specs.Tiling.{AreShardsAt, AreCountsAt, AreAllTallies, HaveNoneHere, AreNumbers, tile_at, next_place};
+ghost use Rattle.gm_solver.specs.Tiling.{AreShardsAt, AreCountsAt, HaveNoneHere, AreNumbers, tile_at, next_place};
 
 use crate::error::SolveError;
 use crate::gate::Gate;
@@ -68,10 +69,10 @@ impl<'a, G: Game, A: Round, B: Round, C: Round, D: Round, T: Gate, S: Source> Po
 fn run_workers<
     'a,
     G: Game + Send + Sync,
-    A: Round + Send + Sync,
-    B: Round + Send + Sync,
-    C: Round + Send + Sync,
-    D: Round + Send + Sync,
+    A: Round + Send,
+    B: Round + Send,
+    C: Round + Send,
+    D: Round + Send,
     R: Threads + Wait + Sync,
     T: Gate,
     S: Source,
@@ -109,10 +110,10 @@ fn tally_of<G: Game>(
 // Serves a level at desks of these names.
 fn serve_named<
     G: Game + Send + Sync,
-    A: Round + Send + Sync,
-    B: Round + Send + Sync,
-    C: Round + Send + Sync,
-    D: Round + Send + Sync,
+    A: Round + Send,
+    B: Round + Send,
+    C: Round + Send,
+    D: Round + Send,
     R: Threads + Wait + Sync,
     T: Gate,
     S: Source,

@@ -2,11 +2,11 @@
 ghost use Rattle.std.specs.Prelude.{◌≡◌, ◌+◌, ◌≤◌, [], IfOk, IfErr, OnOk};
 ghost use Rattle.gm_game.specs.declared.position.Place.{Place};
 ghost use Rattle.gm_frontier.specs.Levels.{place_at};
-ghost use Rattle.gm_frontier.specs.Tallies.{AreTallies};
+ghost use Rattle.gm_frontier.specs.Tallies.{AreTallies, AreAllTallies};
 ghost use Rattle.gm_deliveries.specs.Steps.{place_of};
 ghost use Rattle.gm_solver.specs.Solving.{IsError};
 ghost use Rattle.gm_desk.specs.Spots.{spot_of, AreFourTiles};
-ghost use Rattle.gm_solver.specs.Tiling.{AreShardsAt, AreCountsAt, AreAllTallies, HaveNoneHere, spot_counted, next_spot, next_place};
+ghost use Rattle.gm_solver.specs.Tiling.{AreShardsAt, AreCountsAt, HaveNoneHere, spot_counted, next_spot, next_place};
 ghost use Rattle.gm_solver.specs.Found.{AreFound};
 ghost use Rattle.gm_desk.specs.Rounds.{HasNoneHere};
 
@@ -38,10 +38,10 @@ type Served<G> = Result<(Four<Shard<G>>, u64), AllocError>;
 // Serves a level on a board of these names.
 fn serve_named<
     G: Game + Send + Sync,
-    A: Desk + Send + Sync,
-    B: Desk + Send + Sync,
-    C: Desk + Send + Sync,
-    D: Desk + Send + Sync,
+    A: Desk + Send,
+    B: Desk + Send,
+    C: Desk + Send,
+    D: Desk + Send,
     R: Threads + Wait + Sync,
     T: Gate,
     S: Source,

@@ -16,8 +16,8 @@ use gm_shard::shard::Shard;
 use gm_table::tables::Tables;
 use std::alloc::{AllocError, Global};
 
-// What each index of a tier from `lo` up to `hi` is at the start.
-fn starts<G: Game>(alloc: Global, tier: u64, lo: u64, hi: u64) -> Result<Vec<Start>, AllocError>
+/// What each index of a tier from `lo` up to `hi` is at the start, in order.
+pub fn starts<G: Game>(alloc: Global, tier: u64, lo: u64, hi: u64) -> Result<Vec<Start>, AllocError>
     requires { lo ≤ hi }
     ensures length { IfOk result (λ list. length list.items ≡ hi - lo) }
     ensures starts { IfOk result (λ list. AreStarts G.rules tier lo list.items) }

@@ -3,7 +3,7 @@ ghost use Rattle.std.specs.Prelude.{◌≡◌, ℕ, ◌*◌, ◌-◌, ◌<◌, �
 ghost use Rattle.std.specs.List.{AllZip, range_with_len};
 ghost use Rattle.gm_deliveries.specs.Begin.{AreStarts};
 ghost use Rattle.gm_shard.specs.Lists.{AreSmall};
-ghost use Rattle.gm_solver.specs.Blocks.{block_in, IsBlock, AreInPlace, AreParts};
+ghost use Rattle.gm_solver.specs.Blocks.{block_in, IsBlock, IsPut, AreApart, AreParts};
 ghost use Rattle.gm_game.specs.declared.limits.TheConstants.{TIER_SIZE};
 
 use gm_deliveries::status::Start;
@@ -71,6 +71,20 @@ fn place_in(rows: u64, block: u64) -> u64
     block % CLASSES * rows + block / CLASSES
 }
 
+// Puts the lists of a block, and what its indexes are at the start, behind those of the blocks before it.
+fn put_block<G: Game>(
+    entry: Result<(Lists<G>, Vec<Start>), AllocError>,
+    blocks: &mut Vec<Lists<G>>,
+    parts: &mut Vec<Vec<Start>>,
+) -> Result<(), AllocError>
+    ensures { OnOk result (IsPut entry blocks.old.items blocks.new.items parts.old.items parts.new.items) }
+{
+    let (lists, starts) = entry?;
+    blocks.push(lists)?;
+    parts.push(starts)?;
+    Ok(())
+}
+
 // A tier within the limits that is to be scanned in blocks.
 #[derive(Drop)]
 struct Frame<G: Game> {
@@ -135,16 +149,12 @@ impl<G: Game> Frame<G> {
         found: Vec<Result<(Lists<G>, Vec<Start>), AllocError>>,
     ) -> Result<(Vec<Lists<G>>, Vec<Vec<Start>>), AllocError>
         requires { AllZip (λ place r. IfOk r (λ block. IsBlock G.rules self.now.tier (block_in self.now.rows place) block.0 block.1.items)) (range_with_len 0 (length found.items)) found.items }
-        ensures as_many { IfOk result (λ apart. (length apart.0.items ≡ length found.items) × (length apart.1.items ≡ length found.items)) }
-        ensures lists { IfOk result (λ apart. AreInPlace G.rules self.now.tier self.now.rows apart.0.items) }
-        ensures starts { IfOk result (λ apart. AreParts G.rules self.now.tier self.now.rows apart.1.items) }
+        ensures { IfOk result (λ apart. AreApart G.rules self.now.tier self.now.rows (length found.items) apart.0.items apart.1.items) }
     {
         let mut blocks = Vec::with_capacity(alloc, found.len())?;
         let mut parts = Vec::with_capacity(alloc, found.len())?;
         for entry in found {
-            let (lists, starts) = entry?;
-            blocks.push(lists)?;
-            parts.push(starts)?;
+            put_block(entry, &mut blocks, &mut parts)?;
         }
         Ok((blocks, parts))
     }

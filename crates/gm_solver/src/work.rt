@@ -1,5 +1,5 @@
 //! What a worker does: it takes pieces of a level, and delivers their pairs.
-ghost use Rattle.std.specs.Prelude.{◌≡◌, ◌<◌, ◌≤◌, IfOk, OnOk, replicate};
+ghost use Rattle.std.specs.Prelude.{◌≡◌, ◌+◌, ◌<◌, ◌≤◌, ◌^◌, IfOk, OnOk, length, get_or, set, replicate};
 ghost use Rattle.std.specs.Int.{div_ceil};
 ghost use Rattle.gm_frontier.specs.Pairs.{piece_of};
 ghost use Rattle.gm_frontier.specs.Tallies.{AreCounts, IsTallyOf};
@@ -10,6 +10,7 @@ use crate::pieces::Pieces;
 use crate::source::Source;
 use gm_desk::board::{Board, Shares};
 use gm_desk::share::Desk;
+use gm_frontier::note::Note;
 use gm_frontier::tally::Tally;
 use gm_game::game::Game;
 use std::alloc::{AllocError, Global};
@@ -30,6 +31,15 @@ fn empty_batches<G: Game, A: Desk>(alloc: Global) -> Result<[Batch<G, A>; 4], Al
     let c = Batch::new(alloc)?;
     let d = Batch::new(alloc)?;
     Ok([a, b, c, d])
+}
+
+// Counts one pair more in a tile.
+fn count_in(counts: &mut Vec<u64>, tile: u64)
+    requires tile { tile < length counts.old.items }
+    requires room { get_or counts.old.items tile 0 + 1 < 2 ^ 64 }
+    ensures { counts.new.items ≡ set counts.old.items tile (get_or counts.old.items tile 0 + 1) }
+{
+    counts[tile as usize] += 1;
 }
 
 /// A worker at a level: the board to which it delivers, the pieces that it walks, the gate that it calls, and its number.
@@ -92,6 +102,24 @@ impl<'a, 'b, G: Game, A: Desk, B: Desk, C: Desk, D: Desk, R: Wait, T: Gate> Walk
         }
     }
 
+    // Puts a pair into the batch of its shard, which is delivered before where it is full.
+    fn take_pair(
+        &self,
+        note: Note<G>,
+        parent: u64,
+        batches: &mut [Batch<G, A>; 4],
+        shares: &mut Shares<A, B, C, D>,
+    ) -> Result<(), AllocError>
+        requires within { parent < G.rules.tier_size A.spot.tier }
+        ensures { shares.new.parts ≡ shares.old.parts }
+    {
+        let stands = self.pieces.lists.place_of(note.position(), parent);
+        let shard = self.board.shard_of(parent);
+        let batch = &mut batches[shard];
+        self.deliver_from(BATCH, shard, batch, shares);
+        batch.push(note, parent, stands)
+    }
+
     // Walks a piece's pairs once: counts each in its tile, and delivers it to its shard, many pairs each time that a lock is taken. The batches are empty at
     // first.
     fn walk_pairs(
@@ -108,12 +136,8 @@ impl<'a, 'b, G: Game, A: Desk, B: Desk, C: Desk, D: Desk, R: Wait, T: Gate> Walk
         let pieces = self.pieces;
         let size = G::tier_size(pieces.level.place().tier);
         for (note, parent) in pieces.level.pairs(piece, pieces.notes, 0, size) {
-            counts[(parent / pieces.width) as usize] += 1;
-            let stands = pieces.lists.place_of(note.position(), parent);
-            let shard = self.board.shard_of(parent);
-            let batch = &mut batches[shard];
-            self.deliver_from(BATCH, shard, batch, shares);
-            batch.push(note, parent, stands)?;
+            count_in(counts, parent / pieces.width);
+            self.take_pair(note, parent, batches, shares)?;
         }
         self.deliver_rest(batches, shares);
         Ok(())

@@ -1,44 +1,24 @@
-//! Steps of a shard of a whole tier from outside: its starts, its fresh notes, its ends.
-ghost use Rattle.std.specs.Prelude.{◌≡◌, ◌+◌, ◌-◌, ◌≤◌, length, IfOk, IfSome};
+//! Steps of a shard of a whole tier from outside: its fresh notes, its ends.
+ghost use Rattle.std.specs.Prelude.{◌≡◌, ◌+◌, ◌≤◌, length, IfOk, IfSome};
 ghost use Rattle.gm_game.specs.declared.position.Phase.TheVariants.{Ties};
 ghost use Rattle.gm_table.specs.Tables.{AreHeld};
 ghost use Rattle.gm_frontier.specs.Levels.{AreTiles};
-ghost use Rattle.gm_deliveries.specs.Begin.{AreStarts, first_state};
+ghost use Rattle.gm_deliveries.specs.Begin.{first_state};
 ghost use Rattle.gm_deliveries.specs.Steps.{place_of};
 ghost use Rattle.gm_testing.specs.ByHand.{IsOfTier};
 
-use gm_deliveries::begin::start;
-use gm_deliveries::status::Start;
 use gm_frontier::last::Last;
 use gm_frontier::level::Level;
 use gm_frontier::run::Run;
 use gm_game::game::Game;
 use gm_game::limits::TIER_SIZE;
-use gm_game::position::{Place, Position};
+use gm_game::position::Place;
 use gm_shard::shard::Shard;
 use gm_solver::error::SolveError;
 use gm_solver::phase::finish_phase;
 use gm_solver::starts::{begin_range, begin_tier};
 use gm_table::tables::Tables;
 use std::alloc::{AllocError, Global};
-
-/// What the indexes of a tier from `lo` up to `hi` are at the start.
-pub fn starts_of<G: Game>(
-    alloc: Global,
-    tier: u64,
-    lo: u64,
-    hi: u64,
-) -> Result<Vec<Start>, AllocError>
-    requires { lo ≤ hi }
-    ensures starts { IfOk result (λ starts. AreStarts G.rules tier lo starts.items) }
-    ensures count { IfOk result (λ starts. length starts.items ≡ hi - lo) }
-{
-    let mut starts = Vec::new(alloc);
-    for index in lo..hi {
-        starts.push(start::<G>(Position { tier, index }))?;
-    }
-    Ok(starts)
-}
 
 /// The shard of a whole tier, at its first place.
 pub fn begin_whole<G: Game>(alloc: Global, tier: u64) -> Result<Shard<G>, AllocError>

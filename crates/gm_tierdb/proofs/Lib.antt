@@ -2,4 +2,5 @@ pub mod LimitLemmas
 pub mod RecordLemmas
 pub mod TextLemmas
 pub mod RefusalLemmas
+pub mod ReasonLemmas
 pub mod StreamLemmas

@@ -1,9 +1,9 @@
 -- Lists of records and their bytes.
-use Rattle.std.proofs.Common.{◌≡◌, ◌≢◌, ℕ, zero, suc, ◌+◌, ◌*◌, ◌-◌, ◌<◌, ◌≤◌, List, [], ◌∷◌, ◌++◌, length, take, drop, get_or, All, Option, None, refl, sym, ap, subst, ◌∙◌, append_assoc, length-append, arith}
+use Rattle.std.proofs.Common.{◌≡◌, ◌≢◌, ℕ, zero, suc, ◌+◌, ◌*◌, ◌-◌, ◌<◌, ◌≤◌, List, [], ◌∷◌, ◌++◌, length, take, drop, get_or, All, Option, None, refl, sym, ap, subst, ◌∙◌, append_assoc, append-nil, length-append, arith}
 use Rattle.std.specs.List.{flat_map}
 use Rattle.std.specs.Int.{to_le_bytes}
-use Rattle.std.proofs.lemmas.List.{flat_map_more, take_more}
-use Rattle.std.proofs.lemmas.List.Elements.{All-head, All-tail}
+use Rattle.std.proofs.lemmas.List.{flat_map_more, take_more, nil_from_length}
+use Rattle.std.proofs.lemmas.List.Elements.{All-head, All-nil, All-tail}
 use Rattle.std.proofs.lemmas.Option.{slice_get-get_or}
 use Rattle.gm_game.specs.declared.position.Solved.{Solved}
 use Rattle.gm_game.specs.Rules.{Rules, at}
@@ -11,7 +11,7 @@ use Rattle.gm_table.specs.Tables.{TableData, IsTable, record_at}
 use Rattle.gm_record.specs.declared.version.Version.{Version}
 use Rattle.gm_record.specs.declared.version.Version.TheVariants.{One, Two}
 use Rattle.gm_record.specs.Numbers.{word, width, IsStorable, record_number, record_bytes}
-use Rattle.gm_tierdb.specs.TierText.{IsFor}
+use Rattle.gm_tierdb.specs.TierText.{AreRecords, IsFor}
 use Rattle.gm_record.proofs.NumberLemmas.{same_bytes, storable_record}
 use Rattle.gm_tierdb.proofs.LimitLemmas.{old_record}
 
@@ -118,3 +118,22 @@ one_more v out records k h =
     ap (λ o. (out ++ flat_map (record_bytes v) (take k records)) ++ record_bytes v o) (record_is records k h)
     ∙ flat_map_more (record_bytes v) out (take k records) (get_or records k None)
     ∙ ap (λ os. out ++ flat_map (record_bytes v) os) (sym (take_more records k None h))
+
+-- what a reader of records knows before the first one, and after the last one
+pub none_read : (v : Version) (bytes : List ℕ) (records : List (Option Solved)) (size : ℕ) → records ≡ [] → length bytes ≡ width v * size
+    → (bytes ≡ flat_map (record_bytes v) records ++ bytes) × All (IsStorable v) records × (length records ≡ 0) × (length bytes ≡ width v * (size - 0))
+none_read v bytes records size none len =
+    let same : size ≡ size - 0 = omega arith in
+    rw none (refl, All-nil (IsStorable v), refl, len ∙ ap (λ (n : ℕ). width v * n) same)
+
+pub all_read : (v : Version) (bytes rest : List ℕ) (records : List (Option Solved)) (index size : ℕ)
+    → (bytes ≡ flat_map (record_bytes v) records ++ rest) × All (IsStorable v) records × (length records ≡ index) × (length rest ≡ width v * (size - index))
+    → index ≤ size → size ≤ index → AreRecords v size records bytes
+all_read v bytes rest records index size (split, fit, len, left) within over =
+    let last : index ≡ size = omega arith in
+    let none : rest ≡ [] = nil_from_length rest (left ∙ ap (λ (n : ℕ). width v * (size - n)) last ∙ none_less v size) in
+    record {
+      whole = len ∙ last;
+      storable = fit;
+      text = split ∙ ap (λ (l : List ℕ). flat_map (record_bytes v) records ++ l) none ∙ append-nil (flat_map (record_bytes v) records);
+    }

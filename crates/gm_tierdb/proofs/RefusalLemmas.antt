@@ -1,7 +1,9 @@
 -- What is refused, and what isn't.
-use Rattle.std.proofs.Common.{◌≡◌, ℕ, ◌+◌, ◌<◌, Bool, true, false, List, length, take, drop, get_or, Option, Vec, Result, Ok, Err, IfOk, IfErr, MatchResult, IsErrOf, ⊎_elim, refl, sym, ap, subst, ◌∙◌, arith}
+use Rattle.std.proofs.Common.{◌≡◌, ℕ, ◌+◌, ◌^◌, ◌<◌, Bool, true, false, List, length, take, drop, get_or, Option, Vec, Result, Ok, Err, IfOk, IfErr, MatchResult, IsErrOf, IsTrue, ⊎_elim, refl, sym, ap, subst, ◌∙◌, arith}
 use Rattle.std.proofs.Math.Bool.{not}
+use Rattle.std.specs.Int.{to_le_bytes, from_le_bytes, w64}
 use Rattle.std.specs.Str.{bytes_eq}
+use Rattle.std.proofs.lemmas.Nat.{from_le_bytes-to_le_bytes_8}
 use Rattle.std.proofs.lemmas.Slice.Eq.{bytes_eq-Decides}
 use Rattle.std.specs.declared.alloc.Global.{Global}
 use Rattle.sha2.specs.Sha256.{sha256}
@@ -112,3 +114,23 @@ pub digest_is : (bytes body digest sum : List ℕ) (len n : ℕ) (differs : Bool
     → drop (40 + n) bytes ≡ sha256 (take (40 + n) bytes)
 digest_is bytes body digest sum len n differs e front back is compared same =
     ap (λ (k : ℕ). drop (40 + k) bytes) (sym e) ∙ sym back ∙ sym (same_if sum digest (bytes_eq sum digest) refl (sym compared ∙ same)) ∙ is ∙ ap sha256 (front ∙ ap (λ (k : ℕ). take (40 + k) bytes) e)
+
+-- lists that were compared are the same, or not
+pub alike : (a b : List ℕ) (differs : Bool) → differs ≡ not (bytes_eq a b) → differs ≡ false → a ≡ b
+alike a b differs is e = same_if a b (bytes_eq a b) refl (sym is ∙ e)
+
+unlike_if : (a b : List ℕ) (equal : Bool) → bytes_eq a b ≡ equal → not equal ≡ true → a ≡ b → ⊥
+unlike_if a b true e h same = let z : ⊥ = cc in z
+unlike_if a b false e h same = let is : bytes_eq a b ≡ true = (bytes_eq-Decides a b).1 same in let z : ⊥ = cc in z
+
+pub unlike : (a b : List ℕ) (differs : Bool) → differs ≡ not (bytes_eq a b) → differs ≡ true → a ≡ b → ⊥
+unlike a b differs is e = unlike_if a b (bytes_eq a b) refl (sym is ∙ e)
+
+-- eight bytes are those of one number alone
+pub same_number : (n k : ℕ) → n < 2 ^ 64 → k < 2 ^ 64 → to_le_bytes w64 n ≡ to_le_bytes w64 k → n ≡ k
+same_number n k less small e = sym (from_le_bytes-to_le_bytes_8 n less) ∙ ap (from_le_bytes w64) e ∙ from_le_bytes-to_le_bytes_8 k small
+
+-- no Bool is both
+pub not_both : (b : Bool) → b ≡ false → IsTrue b → ⊥
+not_both true e h = let z : ⊥ = cc in z
+not_both false e h = let z : ⊥ = cc in z

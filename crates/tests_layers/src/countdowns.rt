@@ -1,7 +1,5 @@
 //! The true records of Countdown, and the tables that they make.
-use crate::expect::{expect, must};
-use gm_game::game::Game;
-use gm_game::limits::TIER_SIZE;
+use crate::expect::must;
 use gm_game::position::{Solved, Value};
 use gm_table::checker::check;
 use gm_table::table::Table;
@@ -38,12 +36,10 @@ pub(crate) fn records(rt: &impl Abort, alloc: Global, number: usize) -> Vec<Opti
     records
 }
 
-/// The table of Countdown from `N`, which is 10 at most.
-pub(crate) fn countdown<const N: u32>(rt: &impl Abort, alloc: Global) -> Table<Countdown<N>> {
-    let records = records(rt, alloc, (N as usize).saturating_add(1));
-    let tables: Tables<Countdown<N>> = Tables::new(alloc);
-    expect(rt, tables.has_children(0));
-    expect(rt, <Countdown<N> as Game>::tier_size(0) <= TIER_SIZE);
+/// The table of Countdown from 10.
+pub(crate) fn countdown(rt: &impl Abort, alloc: Global) -> Table<Countdown<10>> {
+    let records = records(rt, alloc, 11);
+    let tables: Tables<Countdown<10>> = Tables::new(alloc);
     let table = check(alloc, 0, records.as_slice(), &tables);
     drop((records, tables));
     must(rt, table)

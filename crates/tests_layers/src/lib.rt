@@ -1,5 +1,5 @@
-//! What the layers below the solver say of worked positions, tables and lines (docs/EXAMPLES.md): boards, toys, Tac Tix and orders of tiers in `rules`,
-//! tier files and the stores that keep them in `files`, moves, lines and sessions of play in `play`.
+//! What the layers below the solver say of worked positions and tables (docs/EXAMPLES.md): boards, toys, Tac Tix and orders of tiers in `rules`, tier files and
+//! the stores that keep them in `files`.
 #![tactic(auto)]
 
 #[cfg(test)]
@@ -8,7 +8,5 @@ mod countdowns;
 mod expect;
 #[cfg(test)]
 mod files;
-#[cfg(test)]
-mod play;
 #[cfg(test)]
 mod rules;

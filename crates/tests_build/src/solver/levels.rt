@@ -1,27 +1,26 @@
 //! Levels of held tiers: their notes, their pairs, and the counts of these.
-ghost use Rattle.std.specs.Prelude.{◌≡◌, ◌<◌, ◌≤◌, IfOk};
+ghost use Rattle.std.specs.Prelude.{◌≡◌, ◌+◌, ◌<◌, length};
 ghost use Rattle.gm_game.specs.declared.position.Phase.TheVariants.{WinLose};
-ghost use Rattle.gm_table.specs.Tables.{IsHeld, AreHeld};
-ghost use Rattle.gm_frontier.specs.Records.{note_of, IsRecorded};
-ghost use Rattle.gm_frontier.specs.Levels.{place_at};
-ghost use Rattle.gm_frontier.specs.Tallies.{IsTile, AreTallies};
-ghost use Rattle.tests_build.specs.Levels.{IsNext};
+ghost use Rattle.gm_table.specs.Tables.{AreHeld};
+ghost use Rattle.gm_frontier.specs.Levels.{place_at, AreTiles};
+ghost use Rattle.gm_frontier.specs.Tallies.{IsTile};
+ghost use Rattle.gm_deliveries.specs.Steps.{place_of};
 
 use crate::expect::{expect, expect_eq, must};
-use crate::solver::records::{COUNTDOWN, Known, held, hold, record};
+use crate::solver::records::{Known, hold, record};
+use crate::solver::shards::closes;
 use gm_frontier::expected::Expected;
 use gm_frontier::level::Level;
-use gm_frontier::note::Note;
 use gm_frontier::run::Run;
-use gm_frontier::tally::Tally;
 use gm_game::game::Game;
 use gm_game::limits::TIER_SIZE;
 use gm_game::position::{Phase, Place, Position, Value};
-use gm_table::table::Table;
+use gm_shard::shard::Shard;
 use gm_table::tables::Tables;
+use gm_testing::by_hand::{begin_whole, fresh_run};
 use gm_toys::countdown::Countdown;
 use gm_toys::stairs::Stairs;
-use std::alloc::{AllocError, Global};
+use std::alloc::Global;
 use std::process::Abort;
 
 type Ten = Countdown<10>;
@@ -35,31 +34,6 @@ fn level_of(tier: u64, level: u32) -> Place
         phase: Phase::WinLose,
         level,
     }
-}
-
-// The note of an index that has a record of a decided position.
-fn recorded<G: Game>(table: &Table<G>, index: u64) -> Note<G>
-    requires { IsRecorded G.rules table.now index }
-    ensures { result ≡ note_of table.now index }
-{
-    let tier = table.tier();
-    Note::of(Position { tier, index }, table.at(index).unwrap())
-}
-
-// The run of a whole held tier at a place, by its table.
-fn run_of<G: Game>(rt: &impl Abort, alloc: Global, place: Place, tables: &Tables<G>) -> Run<G>
-    requires { IsHeld tables.now place.tier }
-    ensures place { result.place ≡ place }
-    ensures lo { result.lo ≡ 0 }
-    ensures hi { result.hi ≡ G.rules.tier_size place.tier }
-{
-    let table = tables.table(place.tier).unwrap();
-    let indexes = tables.run(place.tier, place.phase, place.level);
-    let mut notes = Vec::new(alloc);
-    for index in indexes {
-        must(rt, notes.push(recorded(table, u64::from(*index))));
-    }
-    Run::of(place, 0, table.size(), notes)
 }
 
 // What is wanted of a level of one note: the note, its pairs, and their counts into the first tiles of six.
@@ -103,20 +77,33 @@ fn check_level<G: Game>(
     drop(tally);
 }
 
-// The level at a place of a held tier.
-fn check_level_at<G: Game>(
+// The level at the place of a shard of a whole tier, by the run of its fresh notes.
+fn level_here<'a, G: Game>(
     rt: &impl Abort,
     alloc: Global,
-    place: Place,
+    shard: &Shard<G>,
+    runs: &'a [Run<G>],
+    tables: &'a Tables<G>,
+) -> Level<'a, G>
+    requires { AreTiles (place_of shard.now) shard.now.lo (shard.now.lo + length shard.now.delivered) runs.now }
+    ensures { AreHeld G.rules tables.now result.place.tier }
+{
+    let tier = shard.tier();
+    let size = G::tier_size(tier);
+    assert!(rt; shard.range() == (0, size) && size <= TIER_SIZE && tables.has_children(tier));
+    must(rt, Level::gather(alloc, shard.place(), runs, tables))
+}
+
+// Checks the present level of a shard of a whole tier.
+fn check_here<G: Game>(
+    rt: &impl Abort,
+    alloc: Global,
+    shard: &Shard<G>,
     tables: &Tables<G>,
     wanted: &Wanted<'_>,
-)
-    requires held { IsHeld tables.now place.tier }
-    requires children { AreHeld G.rules tables.now place.tier }
-    requires small { G.rules.tier_size place.tier ≤ TIER_SIZE }
-{
-    let runs = [run_of(rt, alloc, place, tables)];
-    let level = must(rt, Level::gather(alloc, place, &runs, tables));
+) {
+    let runs = must(rt, fresh_run(alloc, shard));
+    let level = level_here(rt, alloc, shard, runs.as_slice(), tables);
     check_level(rt, alloc, &level, tables, wanted);
     drop(level);
     drop(runs);
@@ -124,15 +111,32 @@ fn check_level_at<G: Game>(
 
 #[test]
 fn tally_of_a_piece(rt: HostRuntime) {
-    let tables = held::<Ten>(&rt, rt.alloc(), &COUNTDOWN);
+    let tables: Tables<Ten> = Tables::new(rt.alloc());
+    let shard = must(&rt, begin_whole::<Ten>(rt.alloc(), 0));
     let wanted = Wanted {
         position: Position { tier: 0, index: 0 },
         known: (Value::Lose, 0),
         pairs: &[(0, 1), (0, 2)],
         counts: (2, 0),
     };
-    check_level_at(&rt, rt.alloc(), level_of(0, 0), &tables, &wanted);
-    drop(tables);
+    check_here(&rt, rt.alloc(), &shard, &tables, &wanted);
+    drop((shard, tables));
+}
+
+// Delivers the pairs of a shard's present level, adds them to its count, and closes it.
+fn close_level<G: Game>(
+    rt: &impl Abort,
+    shard: &mut Shard<G>,
+    level: &Level<G>,
+    expected: &mut Expected<G>,
+) {
+    let (lo, hi) = shard.range();
+    for (note, parent) in level.pairs(0, level.len().max(1), lo, hi) {
+        expect(rt, shard.deliver(&note, parent).is_ok());
+    }
+    assert!(rt; expected.takes(level));
+    expected.add(level);
+    closes(rt, shard, expected, Ok(()));
 }
 
 // The tables of Stairs from 3 are held, whose tiers 0 to 3 are lost, won, lost and won, and the level of tier 2 is looked at from tier 3.
@@ -142,16 +146,23 @@ fn level_of_a_child_tier(rt: HostRuntime) {
     hold(&rt, rt.alloc(), &mut tables, 0, &[(Value::Lose, 0)]);
     hold(&rt, rt.alloc(), &mut tables, 1, &[(Value::Win, 1)]);
     hold(&rt, rt.alloc(), &mut tables, 2, &[(Value::Lose, 2)]);
-    hold(&rt, rt.alloc(), &mut tables, 3, &[(Value::Win, 3)]);
-    assert!(rt; tables.has(3) && tables.has_children(3));
     let wanted = Wanted {
         position: Position { tier: 2, index: 0 },
         known: (Value::Lose, 2),
         pairs: &[(0, 0)],
         counts: (1, 0),
     };
-    check_level_at(&rt, rt.alloc(), level_of(3, 2), &tables, &wanted);
-    drop(tables);
+    let mut shard = must(&rt, begin_whole::<Stairs<3>>(rt.alloc(), 3));
+    let mut expected = Expected::start(3, 0, 1);
+    for _ in 0..2 {
+        let runs = must(&rt, fresh_run(rt.alloc(), &shard));
+        let level = level_here(&rt, rt.alloc(), &shard, runs.as_slice(), &tables);
+        close_level(&rt, &mut shard, &level, &mut expected);
+        drop(level);
+        drop(runs);
+    }
+    check_here(&rt, rt.alloc(), &shard, &tables, &wanted);
+    drop((shard, expected, tables));
 }
 
 // The level of a tier without positions.
@@ -165,88 +176,58 @@ fn level_of_an_empty_tier(rt: HostRuntime) {
     drop(tables);
 }
 
-// The tallies of a level for one tile: one for each piece of one note.
-fn tallies_of<G: Game>(
-    alloc: Global,
-    level: &Level<G>,
-    lo: u64,
-    hi: u64,
-    width: u64,
-) -> Result<Vec<Tally<G>>, AllocError>
-    requires width { 0 < width }
-    requires tile { IsTile (G.rules.tier_size level.now.place.tier) width lo hi }
-    ensures { IfOk result (λ tallies. AreTallies G.rules level.now lo hi tallies.items) }
-{
-    let mut tallies = Vec::new(alloc);
-    for piece in 0..level.pieces(1) {
-        tallies.push(level.tally(alloc, piece, 1, width)?)?;
-    }
-    Ok(tallies)
-}
-
-// Adds the next level of a held tier, which stands at this place, to two counts into a tile of this width: by a walk of its pairs, and by tallies.
+// Adds a level of tier 0 to two counts into a tile of this width: by a walk of its pairs, and by the tallies of pieces of one note.
 fn add_level<G: Game>(
     rt: &impl Abort,
     alloc: Global,
-    place: Place,
-    tables: &Tables<G>,
+    level: &Level<G>,
+    tile: (u64, u64),
     width: u64,
     walked: &mut Expected<G>,
     tallied: &mut Expected<G>,
 )
-    requires walked { place ≡ place_at walked.old.tier walked.old.phase walked.old.level }
-    requires tallied { place ≡ place_at tallied.old.tier tallied.old.phase tallied.old.level }
-    requires held { IsHeld tables.now place.tier }
-    requires children { AreHeld G.rules tables.now place.tier }
-    requires small { G.rules.tier_size place.tier ≤ TIER_SIZE }
     requires width { 0 < width }
-    requires tile { IsTile (G.rules.tier_size place.tier) width tallied.old.lo tallied.old.hi }
-    ensures walk { IsNext walked.old walked.new }
-    ensures tally { IsNext tallied.old tallied.new }
+    requires tile { IsTile (G.rules.tier_size 0) width tile.0 tile.1 }
 {
-    let runs = [run_of(rt, alloc, place, tables)];
-    let level = must(rt, Level::gather(alloc, place, &runs, tables));
-    walked.add(&level);
     let (lo, hi) = tallied.range();
-    let tallies = must(rt, tallies_of(alloc, &level, lo, hi, width));
-    tallied.add_counted(&level, tallies.as_slice());
+    expect(rt, walked.takes(level));
+    expect(rt, tallied.takes(level));
+    expect(rt, level.tier() == 0);
+    expect(rt, lo == tile.0);
+    expect(rt, hi == tile.1);
+    walked.add(level);
+    let tallies = must(rt, level.tallies(alloc, 1, width));
+    tallied.add_counted(level, tallies.as_slice());
     drop(tallies);
-    drop(level);
-    drop(runs);
 }
 
-// The pairs of the first eight levels of tier 0 into a tile of this width are so many, by a walk and by the tallies of pieces of one note.
-fn check_count<G: Game>(
-    rt: &impl Abort,
-    alloc: Global,
-    tables: &Tables<G>,
-    lo: u64,
-    hi: u64,
-    width: u64,
-    number: u64,
-)
-    requires held { IsHeld tables.now 0 }
-    requires children { AreHeld G.rules tables.now 0 }
-    requires small { G.rules.tier_size 0 ≤ TIER_SIZE }
+// The pairs of all levels of Countdown into a tile of this width are so many, by a walk and by tallies.
+fn check_count(rt: &impl Abort, alloc: Global, lo: u64, hi: u64, width: u64, number: u64)
     requires width { 0 < width }
-    requires tile { IsTile (G.rules.tier_size 0) width lo hi }
+    requires tile { IsTile 11 width lo hi }
 {
+    let tile = (lo, hi);
+    let tables: Tables<Ten> = Tables::new(alloc);
+    let mut shard = must(rt, begin_whole::<Ten>(alloc, 0));
+    let mut whole = Expected::start(0, 0, 11);
     let mut walked = Expected::start(0, lo, hi);
     let mut tallied = Expected::start(0, lo, hi);
-    for level in 0..8 {
-        let place = level_of(0, level);
-        add_level(rt, alloc, place, tables, width, &mut walked, &mut tallied);
+    for _ in 0..8 {
+        let runs = must(rt, fresh_run(alloc, &shard));
+        let level = level_here(rt, alloc, &shard, runs.as_slice(), &tables);
+        add_level(rt, alloc, &level, tile, width, &mut walked, &mut tallied);
+        close_level(rt, &mut shard, &level, &mut whole);
+        drop(level);
+        drop(runs);
     }
     expect_eq(rt, (walked.number(), tallied.number()), (number, number));
     expect_eq(rt, walked.last(), Some(level_of(0, 7)));
-    drop((walked, tallied));
+    drop((shard, whole, walked, tallied, tables));
 }
 
 #[test]
 fn counts_of_countdown(rt: HostRuntime) {
-    let tables = held::<Ten>(&rt, rt.alloc(), &COUNTDOWN);
-    check_count(&rt, rt.alloc(), &tables, 0, 11, 11, 19);
-    check_count(&rt, rt.alloc(), &tables, 0, 6, 6, 9);
-    check_count(&rt, rt.alloc(), &tables, 6, 11, 6, 10);
-    drop(tables);
+    check_count(&rt, rt.alloc(), 0, 11, 11, 19);
+    check_count(&rt, rt.alloc(), 0, 6, 6, 9);
+    check_count(&rt, rt.alloc(), 6, 11, 6, 10);
 }

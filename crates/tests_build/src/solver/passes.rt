@@ -27,7 +27,7 @@ use std::sync::ledger::Blank;
 // What a desk answers to one delivery, with the amount of the pass after it, and whether that is full.
 type Told = (Result<Delivery, Refused>, u64, bool);
 
-// Delivers each of the level's pairs into the desk's range that is the pass's next one: whether these are the answers.
+// Delivers the level's pairs into the desk's range, each as the pass's next one: whether these are the answers, and there are no more pairs.
 fn answers<G: Game, L: Round, R: Wait>(
     rt: &R,
     desk: &PassDesk<G, L>,
@@ -39,19 +39,16 @@ fn answers<G: Game, L: Round, R: Wait>(
     requires level { IsLevelAt level.now L.spot L.notes }
     requires is_for { IsForSpot expected.now L.spot }
 {
-    let _place = level.place();
-    let (lo, hi) = desk.range();
-    let mut same = true;
-    let mut number = 0u64;
-    for (note, parent) in level.pairs(0, level.len().max(1), lo, hi) {
-        if number == pass.amount() {
-            let answer = desk.deliver_next(rt, &note, parent, pass);
-            let found = (answer, pass.amount(), pass.full(expected));
-            same = same && told.get(number as usize) == Some(&found);
+    for wanted in told {
+        let Some((note, parent)) = desk.next_pair(level, pass) else {
+            return false;
+        };
+        let answer = desk.deliver_next(rt, &note, parent, pass);
+        if (answer, pass.amount(), pass.full(expected)) != *wanted {
+            return false;
         }
-        number += 1;
     }
-    same && number == told.len() as u64
+    desk.next_pair(level, pass).is_none()
 }
 
 // At a desk of this name round a shard, whose pass is full at once where nothing is to be told, and at the end. Then the shard has so many pairs, and closes.

@@ -34,7 +34,7 @@ fn old_refusal(alloc: Global, bytes: &[u8]) -> Option<FileError> {
 
 #[test]
 fn a_table_is_written_in_version_1(rt: HostRuntime) {
-    let table = countdown::<10>(&rt, rt.alloc());
+    let table = countdown(&rt, rt.alloc());
     expect(&rt, fits_v1(&table));
     let file = encode_v1(rt.alloc(), &table);
     drop(table);

@@ -65,7 +65,7 @@ pub(crate) fn refusal(alloc: Global, bytes: &[u8]) -> Option<FileError> {
 
 #[test]
 fn a_table_is_written(rt: HostRuntime) {
-    let table = countdown::<10>(&rt, rt.alloc());
+    let table = countdown(&rt, rt.alloc());
     let file = encode(rt.alloc(), &table);
     drop(table);
     expect_eq(&rt, must(&rt, file).as_slice(), file_of_countdown());

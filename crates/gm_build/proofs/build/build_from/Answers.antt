@@ -8,11 +8,12 @@ use Rattle.gm_table.specs.Tables.{TableData}
 use Rattle.gm_tiers.specs.Orders.{IsOrderFrom, ComeChildrenFirst}
 use Rattle.gm_tiers.specs.Reach.{IsReachedFrom}
 use Rattle.gm_entry.specs.TrueTexts.{HasText, HasOldText, HaveTexts, KeepsOthers}
+use Rattle.gm_build.specs.Outcomes.{of_tier_error, IsBuildError, IsStopped}
 use Rattle.gm_build.specs.Work.{IsWorkOn, IsSomeWork, HoldsExactly}
 use Rattle.gm_build.specs.Steps.{IsStep, IsStepWork}
-use Rattle.gm_build.proofs.WorkLemmas.{deliveries_few}
+use Rattle.gm_build.proofs.WorkLemmas.{deliveries_few, one_fits}
 use Rattle.gm_build.proofs.OrderLemmas.{fresh_tier, children_held, stops_here}
-use Rattle.gm_build.proofs.ErrorLemmas.{build_error, stopped_by}
+use Rattle.gm_build.proofs.ErrorLemmas.{build_error, order_count, order_error, order_stopped, passed, stopped_by, tier_count}
 use Rattle.gm_build.proofs.SoFar.{IsSoFar, so_far_none, so_far_reused, so_far_migrated, so_far_solved, so_far_at}
 use Rattle.gm_build.proofs.build.build_from.Goals as goal
 use Rattle.gm_build.proofs.build.build_from.Goals.{in-Reused, in-Migrated, in-Solved}
@@ -189,3 +190,58 @@ returns-in_err-build_tier-clause-tables g c = IfOk-from_err c.from_residual-in_e
 
 pub returns-in_err-build_tier-clause-some_work : goal.returns-in_err-build_tier-clause-some_work
 returns-in_err-build_tier-clause-some_work g c = IfOk-from_err c.from_residual-in_err-build_tier.result _ c.from_residual-in_err-build_tier.ensures.0
+
+pub returns-in_err-order-clause-texts : goal.returns-in_err-order-clause-texts
+returns-in_err-order-clause-texts g c keeps = IfOk-from_err c.from_residual.result _ c.from_residual.ensures.0
+
+pub returns-in_err-order-clause-others : goal.returns-in_err-order-clause-others
+returns-in_err-order-clause-others g c keeps = IfOk-from_err c.from_residual.result _ c.from_residual.ensures.0
+
+pub returns-in_err-order-clause-work : goal.returns-in_err-order-clause-work
+returns-in_err-order-clause-work g c keeps = IfOk-from_err c.from_residual.result _ c.from_residual.ensures.0
+
+pub returns-in_err-build_tier-clause-texts : goal.returns-in_err-build_tier-clause-texts
+returns-in_err-build_tier-clause-texts g c keeps = IfOk-from_err c.from_residual-in_err-build_tier.result _ c.from_residual-in_err-build_tier.ensures.0
+
+pub returns-in_err-build_tier-clause-others : goal.returns-in_err-build_tier-clause-others
+returns-in_err-build_tier-clause-others g c keeps = IfOk-from_err c.from_residual-in_err-build_tier.result _ c.from_residual-in_err-build_tier.ensures.0
+
+pub returns-in_err-build_tier-clause-work : goal.returns-in_err-build_tier-clause-work
+returns-in_err-build_tier-clause-work g c keeps = IfOk-from_err c.from_residual-in_err-build_tier.result _ c.from_residual-in_err-build_tier.ensures.0
+
+pub overflow_add-reused : goal.overflow_add-reused
+overflow_add-reused g c =
+    one_fits c.loop-tier.reused c.loop-tier.tier-index c.tiers-tier-items.result.now c.loop-tier.invariant.so_far.few_reused (subst (λ (tiers : List ℕ). length tiers ≤ TIERS) (sym c.tiers-tier-items.ensures.value) c.in_ok-order.ensures.order.few)
+
+pub overflow_add-migrated : goal.overflow_add-migrated
+overflow_add-migrated g c =
+    one_fits c.loop-tier.migrated c.loop-tier.tier-index c.tiers-tier-items.result.now c.loop-tier.invariant.so_far.few_migrated (subst (λ (tiers : List ℕ). length tiers ≤ TIERS) (sym c.tiers-tier-items.ensures.value) c.in_ok-order.ensures.order.few)
+
+pub overflow_add-solved : goal.overflow_add-solved
+overflow_add-solved g c =
+    one_fits c.loop-tier.solved c.loop-tier.tier-index c.tiers-tier-items.result.now c.loop-tier.invariant.so_far.few_solved (subst (λ (tiers : List ℕ). length tiers ≤ TIERS) (sym c.tiers-tier-items.ensures.value) c.in_ok-order.ensures.order.few)
+
+pub bounds-tier-items-tier-index : goal.bounds-tier-items-tier-index
+bounds-tier-items-tier-index g c = c.loop-tier-test.true
+
+pub returns-clause-tables : goal.returns-clause-tables
+returns-clause-tables g c = c.has-held.ensures.tables
+
+pub returns-in_err-order-clause-error : goal.returns-in_err-order-clause-error
+returns-in_err-order-clause-error g c =
+    let e = c.from_tier.ensures in
+    passed c.from_residual.result (IsBuildError g.G.Game.rules c.args.first) (of_tier_error c.in_err-order.field-0.0) c.from_residual.ensures.1
+    (order_error g.G.Game.rules c.args.first c.from_tier.result e.too_many e.more e.too_large e.reached c.in_err-order.field-0.0 c.in_err-order.was)
+
+pub returns-in_err-order-clause-stopped : goal.returns-in_err-order-clause-stopped
+returns-in_err-order-clause-stopped g c keeps =
+    passed c.from_residual.result (IsStopped g.G.Game.rules c.args.first (g.S.Store.texts c.args.store.now) (g.S.Store.texts c.args.store.now)) (of_tier_error c.in_err-order.field-0.0) c.from_residual.ensures.1
+    (order_stopped g.G.Game.rules c.args.first (g.S.Store.texts c.args.store.now) c.in_err-order.field-0.0)
+
+pub returns-in_err-order-clause-count : goal.returns-in_err-order-clause-count
+returns-in_err-order-clause-count g c = order_count _ (g.S.Store.failed c.args.store.now) c.from_residual.result c.in_err-order.field-0.0 c.from_residual.ensures.1
+
+pub returns-in_err-build_tier-clause-count : goal.returns-in_err-build_tier-clause-count
+returns-in_err-build_tier-clause-count g c =
+    tier_count _ (g.S.Store.failed c.args.store.now) (g.S.Store.failed c.loop-tier.store) (g.S.Store.failed c.build_tier.new.store) c.from_residual-in_err-build_tier.result c.in_err-build_tier.field-0.0
+    c.from_residual-in_err-build_tier.ensures.1 c.in_err-build_tier.ensures.count c.loop-tier.invariant.count

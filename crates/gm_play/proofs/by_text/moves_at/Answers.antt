@@ -4,6 +4,7 @@ use Rattle.gm_play.specs.PlayTexts.{IsMoveOf}
 use Rattle.gm_best.specs.Refusals.{AreNotHeld}
 use Rattle.gm_play.proofs.Choices.{all_chosen}
 use Rattle.gm_best.proofs.Refusing.{ok_apart, none_apart, not_held_apart, illegal_apart}
+use Rattle.gm_play.proofs.Exits.{held_no_memory, illegal_no_memory, is_not_held}
 use Rattle.gm_play.proofs.Rows.{same_read, are_moves}
 use Rattle.gm_play.proofs.by_text.moves_at.Goals as goal
 
@@ -49,3 +50,17 @@ returns-in-None-clause-illegal g c = (λ e p read. none_apart p ((c.in-None.ensu
 
 pub returns-in-None-clause-not_held : goal.returns-in-None-clause-not_held
 returns-in-None-clause-not_held g c = (λ e. absurd (illegal_apart e), λ (p, read, not). absurd (none_apart p ((c.in-None.ensures p).1 read)))
+
+pub returns-in-Ok-clause-memory : goal.returns-in-Ok-clause-memory
+returns-in-Ok-clause-memory g c e = ok_apart _ _ e
+
+pub returns-in-Err-clause-memory : goal.returns-in-Err-clause-memory
+returns-in-Err-clause-memory g c e = held_no_memory e
+
+pub returns-in-None-clause-memory : goal.returns-in-None-clause-memory
+returns-in-None-clause-memory g c e = illegal_no_memory e
+
+pub returns-in-Err-clause-not_held : goal.returns-in-Err-clause-not_held
+returns-in-Err-clause-not_held g c =
+    let read = (c.read.ensures c.in-Some.p).0 c.in-Some.is in
+    (λ e. (c.in-Some.p, read, is_not_held c.move_values.result c.in-Err.field-0 (g.G.Game.rules.is_legal c.in-Some.p) c.in-Err.is c.move_values.ensures.illegal read.0 c.move_values.ensures.not_held), λ h. refl)

@@ -205,3 +205,36 @@ loop-count-preserved g c =
 
 pub returns-clause-err : goal.returns-clause-err
 returns-clause-err g c k known = absurd (omega (arith, c.loop-count.invariant.few, c.loop-count-test.false))
+
+pub returns-in-Ok-None-clause-err : goal.returns-in-Ok-None-clause-err
+returns-in-Ok-None-clause-err g c k known = tt
+
+pub returns-in-Err-clause-ok : goal.returns-in-Err-clause-ok
+returns-in-Err-clause-ok g c k known = tt
+
+pub returns-in-Ok-clause-err : goal.returns-in-Ok-clause-err
+returns-in-Ok-clause-err g c k known = tt
+
+pub returns-in-Err-close-clause-ok : goal.returns-in-Err-close-clause-ok
+returns-in-Err-close-clause-ok g c k known = tt
+
+pub returns-in-Err-read_byte-clause-ok : goal.returns-in-Err-read_byte-clause-ok
+returns-in-Err-read_byte-clause-ok g c k known = tt
+
+pub returns-then-count-eq-SESSION_BYTES-clause-ok : goal.returns-then-count-eq-SESSION_BYTES-clause-ok
+returns-then-count-eq-SESSION_BYTES-clause-ok g c k known = tt
+
+pub returns-in-Ok-None-reply-clause-err : goal.returns-in-Ok-None-reply-clause-err
+returns-in-Ok-None-reply-clause-err g c k known = tt
+
+pub returns-in-Err-reply-clause-ok : goal.returns-in-Err-reply-clause-ok
+returns-in-Err-reply-clause-ok g c k known = tt
+
+pub returns-clause-ok : goal.returns-clause-ok
+returns-clause-ok g c k known = tt
+
+pub turn-requires-clause-legal : goal.turn-requires-clause-legal
+turn-requires-clause-legal g c = c.requires.legal
+
+pub turn-requires-clause-held : goal.turn-requires-clause-held
+turn-requires-clause-held g c = c.requires.held

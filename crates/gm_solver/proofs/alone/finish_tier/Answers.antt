@@ -108,3 +108,15 @@ pub returns-in_err-finish-clause-error : goal.returns-in_err-finish-clause-error
 returns-in_err-finish-clause-error g c =
     let p = err_from_is_err_and c.from_residual-in_err-finish.result c.from_residual-in_err-finish.ensures.1 in
     rw (p.1, p.2) tt
+
+pub from_packed-requires-clause-is_small : goal.from_packed-requires-clause-is_small
+from_packed-requires-clause-is_small g c = subst (λ (t : ℕ). g.G.Game.rules.tier_size t ≤ TIER_SIZE) (sym c.tier-tier.ensures) c.requires.small
+
+pub finish-requires-clause-last : goal.finish-requires-clause-last
+finish-requires-clause-last g c = c.in_ok-last-2.ensures.last
+
+pub finish-requires-clause-ties : goal.finish-requires-clause-ties
+finish-requires-clause-ties g c = c.in_ok-last-2.ensures.later.phase ∙ ap (λ (s : ShardState). s.phase) c.next_phase.ensures
+
+pub returns-clause-tier : goal.returns-clause-tier
+returns-clause-tier g c = c.from_packed.ensures.tier ∙ c.tier-tier.ensures

@@ -12,3 +12,12 @@ returns-in_err-fill-clause-parts g c = IfOk-from_err c.from_residual-in_err-fill
 
 pub returns-in_err-fill-clause-tallies : goal.returns-in_err-fill-clause-tallies
 returns-in_err-fill-clause-tallies g c = IfOk-from_err c.from_residual-in_err-fill.result _ c.from_residual-in_err-fill.ensures.0
+
+pub fill-requires-clause-found : goal.fill-requires-clause-found
+fill-requires-clause-found g c = c.take_back.ensures.found
+
+pub fill-requires-clause-none : goal.fill-requires-clause-none
+fill-requires-clause-none g c = c.requires.none
+
+pub returns-clause-tallies : goal.returns-clause-tallies
+returns-clause-tallies g c = c.in_ok-fill.ensures.all

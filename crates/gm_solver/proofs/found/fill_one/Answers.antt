@@ -1,5 +1,5 @@
 use Rattle.std.proofs.lemmas.Result.{IfOk-from_err}
-use Rattle.std.proofs.Common.{◌≡◌, Some, slice_get, sym, ap, ◌∙◌}
+use Rattle.std.proofs.Common.{◌≡◌, Some, slice_get, sym, ap, ◌∙◌, refl}
 use Rattle.std.proofs.lemmas.Option.{slice_get-get_or}
 use Rattle.gm_solver.proofs.FoundLemmas.{filled_more}
 use Rattle.gm_solver.proofs.found.fill_one.Goals as goal
@@ -26,3 +26,18 @@ returns-in_err-walk-clause-filled g c = IfOk-from_err c.from_residual-in_err-wal
 
 pub returns-in_err-push-2-clause-filled : goal.returns-in_err-push-2-clause-filled
 returns-in_err-push-2-clause-filled g c = IfOk-from_err c.from_residual-in_err-push-2.result _ c.from_residual-in_err-push-2.ensures.0
+
+pub returns-in-Some-clause-parts : goal.returns-in-Some-clause-parts
+returns-in-Some-clause-parts g c = refl
+
+pub returns-in_err-push-clause-parts : goal.returns-in_err-push-clause-parts
+returns-in_err-push-clause-parts g c = refl
+
+pub returns-in_err-walk-clause-parts : goal.returns-in_err-walk-clause-parts
+returns-in_err-walk-clause-parts g c = c.walk.ensures.parts
+
+pub returns-in_err-push-2-clause-parts : goal.returns-in_err-push-2-clause-parts
+returns-in_err-push-2-clause-parts g c = c.walk.ensures.parts
+
+pub returns-clause-parts : goal.returns-clause-parts
+returns-clause-parts g c = c.walk.ensures.parts

@@ -1,7 +1,7 @@
 use Rattle.std.proofs.lemmas.Result.{IfOk-from_err, err_from_is_err_and}
-use Rattle.std.proofs.Common.{◌≡◌, ◌≤◌, sym, subst, ◌∙◌, arith}
+use Rattle.std.proofs.Common.{◌≡◌, ◌≤◌, ℕ, ap, sym, subst, ◌∙◌, arith}
 use Rattle.std.proofs.lemmas.Bool.{false≢true}
-use Rattle.gm_game.specs.declared.limits.TheConstants.{REMOTENESS}
+use Rattle.gm_game.specs.declared.limits.TheConstants.{REMOTENESS, TIER_SIZE}
 use Rattle.gm_game.specs.declared.position.Place.{Place}
 use Rattle.gm_game.specs.Places.{IsLastLevel}
 use Rattle.gm_table.specs.Tables.{AreHeld}
@@ -49,3 +49,55 @@ pub returns-in_err-level-clause-error : goal.returns-in_err-level-clause-error
 returns-in_err-level-clause-error g c =
     let p = err_from_is_err_and c.from_residual-in_err-level.result c.from_residual-in_err-level.ensures.1 in
     rw (p.1, p.2) tt
+
+pub gather-requires-clause-held : goal.gather-requires-clause-held
+gather-requires-clause-held g c =
+    let tier = ap (λ (p : Place). p.tier) c.place.ensures ∙ c.loop-runs.invariant.later.tier in
+    subst (AreHeld g.G.Game.rules c.args.tables.now) (sym tier) c.requires.held
+
+pub gather-requires-clause-small : goal.gather-requires-clause-small
+gather-requires-clause-small g c =
+    let tier = ap (λ (p : Place). p.tier) c.place.ensures ∙ c.loop-runs.invariant.later.tier in
+    subst (λ (t : ℕ). g.G.Game.rules.tier_size t ≤ TIER_SIZE) (sym tier) c.requires.small
+
+pub finish_level-requires-clause-over : goal.finish_level-requires-clause-over
+finish_level-requires-clause-over g c = c.loop-runs.invariant.over
+
+pub finish_level-requires-clause-place : goal.finish_level-requires-clause-place
+finish_level-requires-clause-place g c = c.in_ok-level.ensures.0 ∙ c.place.ensures
+
+pub finish_level-requires-clause-lists : goal.finish_level-requires-clause-lists
+finish_level-requires-clause-lists g c = c.requires.lists ∙ sym c.loop-runs.invariant.later.tier
+
+pub returns-in-Some-clause-over : goal.returns-in-Some-clause-over
+returns-in-Some-clause-over g c = c.loop-runs.invariant.over
+
+pub returns-in-Some-clause-later : goal.returns-in-Some-clause-later
+returns-in-Some-clause-later g c = c.loop-runs.invariant.later
+
+pub returns-in-Some-clause-last : goal.returns-in-Some-clause-last
+returns-in-Some-clause-last g c = c.in-Some.ensures.place ∙ c.in_ok-level.ensures.0 ∙ c.place.ensures
+
+pub returns-in-Some-clause-error : goal.returns-in-Some-clause-error
+returns-in-Some-clause-error g c = tt
+
+pub returns-in_err-fresh-clause-over : goal.returns-in_err-fresh-clause-over
+returns-in_err-fresh-clause-over g c = IfOk-from_err c.from_residual.result _ c.from_residual.ensures.0
+
+pub returns-in_err-finish_level-clause-over : goal.returns-in_err-finish_level-clause-over
+returns-in_err-finish_level-clause-over g c = IfOk-from_err c.from_residual-in_err-finish_level.result _ c.from_residual-in_err-finish_level.ensures.0
+
+pub returns-in_err-fresh-clause-later : goal.returns-in_err-fresh-clause-later
+returns-in_err-fresh-clause-later g c = IfOk-from_err c.from_residual.result _ c.from_residual.ensures.0
+
+pub returns-in_err-finish_level-clause-later : goal.returns-in_err-finish_level-clause-later
+returns-in_err-finish_level-clause-later g c = IfOk-from_err c.from_residual-in_err-finish_level.result _ c.from_residual-in_err-finish_level.ensures.0
+
+pub returns-in_err-fresh-clause-last : goal.returns-in_err-fresh-clause-last
+returns-in_err-fresh-clause-last g c = IfOk-from_err c.from_residual.result _ c.from_residual.ensures.0
+
+pub returns-in_err-finish_level-clause-last : goal.returns-in_err-finish_level-clause-last
+returns-in_err-finish_level-clause-last g c = IfOk-from_err c.from_residual-in_err-finish_level.result _ c.from_residual-in_err-finish_level.ensures.0
+
+pub last-requires : goal.last-requires
+last-requires g c = subst (AreHeld g.G.Game.rules c.args.tables.now) (sym (ap (λ (p : Place). p.tier) (c.in_ok-level.ensures.0 ∙ c.place.ensures) ∙ c.loop-runs.invariant.later.tier)) c.requires.held

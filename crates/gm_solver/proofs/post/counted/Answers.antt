@@ -4,8 +4,8 @@ use Rattle.gm_game.specs.declared.position.Place.{Place}
 use Rattle.gm_game.specs.declared.limits.TheConstants.{TIER_SIZE}
 use Rattle.gm_frontier.specs.Notes.{NoteData}
 use Rattle.gm_desk.specs.Rounds.{pairs_into}
-use Rattle.gm_solver.proofs.RoundLemmas.{into_fit, pairs_are_into}
-use Rattle.gm_desk.proofs.RoundLemmas.{level_into}
+use Rattle.gm_solver.proofs.RoundLemmas.{into_fit}
+use Rattle.gm_desk.proofs.RoundLemmas.{level_into, pairs_are_into}
 use Rattle.gm_solver.proofs.post.counted.Goals as goal
 
 pub count-requires-clause-fits : goal.count-requires-clause-fits

@@ -1,7 +1,12 @@
 use Rattle.std.proofs.lemmas.Result.{IfOk-from_err}
-use Rattle.std.proofs.Common.{◌+◌, ◌-◌, ◌*◌, ◌≤◌, arith}
+use Rattle.std.proofs.Common.{◌+◌, ◌-◌, ◌*◌, ◌≤◌, arith, ◌≡◌, ℕ, List, length, take, drop, min, suc, sym, ap, subst}
 use Rattle.gm_solver.proofs.BlockLemmas.{starts_part}
 use Rattle.std.proofs.Math.Nat.{mul-le-mul_right}
+use Rattle.std.proofs.lemmas.List.{length-take-le, length-drop}
+use Rattle.gm_deliveries.specs.declared.status.Start.{Start}
+use Rattle.gm_desk.specs.Rounds.{HasNoneHere}
+use Rattle.gm_solver.proofs.TilingLemmas.{begun_at}
+use Rattle.gm_solver.proofs.RoundLemmas.{none_first}
 use Rattle.gm_solver.proofs.tiles.begin_tile.Goals as goal
 
 pub overflow_mul-k : goal.overflow_mul-k
@@ -29,3 +34,20 @@ returns-in_err-shard-clause-count g c = IfOk-from_err c.from_residual.result _ c
 
 pub returns-in_err-shard-clause-none : goal.returns-in_err-shard-clause-none
 returns-in_err-shard-clause-none g c = IfOk-from_err c.from_residual.result _ c.from_residual.ensures.0
+
+pub returns-clause-shard : goal.returns-clause-shard
+returns-clause-shard g c =
+    let r = g.G.Game.rules in
+    let lo = c.min-lo.result in
+    let hi = c.min-hi.result in
+    let part : List Start = take (hi - lo) (drop lo c.args.starts.now) in
+    let next : (c.args.k + 1) * c.args.width ≡ suc c.args.k * c.args.width = ap (λ (m : ℕ). m * c.args.width) (let one : c.args.k + 1 ≡ suc c.args.k = omega arith in one) in
+    let whole = c.requires.whole in
+    let from : lo ≡ min (c.args.k * c.args.width) (r.tier_size c.args.tier) = omega arith in
+    let end : hi ≡ min (suc c.args.k * c.args.width) (r.tier_size c.args.tier) = omega arith in
+    let rest = length-drop lo c.args.starts.now in
+    let long : length part ≡ hi - lo = length-take-le (hi - lo) (drop lo c.args.starts.now) (omega arith) in
+    begun_at r c.args.tier c.args.width c.args.k lo (length part) c.in_ok-shard.shard c.in_ok-shard.ensures from (omega arith)
+
+pub returns-clause-none : goal.returns-clause-none
+returns-clause-none g c = subst (HasNoneHere g.G.Game.rules) (sym c.in_ok-shard.ensures) (none_first g.G.Game.rules c.args.tier c.min-lo.result _)

@@ -4,8 +4,15 @@ use Rattle.std.proofs.lemmas.List.{length-append}
 use Rattle.std.proofs.lemmas.List.Elements.{All-push}
 use Rattle.gm_record.specs.Numbers.{word, width, IsStorable}
 use Rattle.gm_record.proofs.NumberLemmas.{none_here}
-use Rattle.gm_tierdb.proofs.RecordLemmas.{grown, one_less, room}
+use Rattle.gm_tierdb.proofs.RecordLemmas.{all_read, grown, none_read, one_less, room}
 use Rattle.gm_tierdb.proofs.decode.read_records.Goals as goal
+
+pub loop-index-init : goal.loop-index-init
+loop-index-init c = none_read c.args.version c.args.bytes.now c.new-records.result.items c.args.size c.new-records.ensures.items c.requires
+
+pub returns-clause-found : goal.returns-clause-found
+returns-clause-found c =
+    all_read c.args.version c.args.bytes.now c.loop-index.rest.now c.loop-index.records.items c.loop-index.index c.args.size c.loop-index.invariant c.loop-index.auto.index-end c.loop-index-test.false
 
 pub split_at-requires : goal.split_at-requires
 split_at-requires c =

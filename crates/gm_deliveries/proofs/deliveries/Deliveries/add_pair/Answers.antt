@@ -1,4 +1,5 @@
-use Rattle.std.proofs.Common.{ℕ, ◌-◌, ◌<◌, sym, subst, arith}
+use Rattle.std.proofs.Common.{ℕ, ◌-◌, ◌<◌, ◌≤◌, sym, subst, arith}
+use Rattle.gm_deliveries.specs.State.{ShardState}
 use Rattle.gm_deliveries.proofs.StepLemmas.{seen_from, in_masks, in_left, in_statuses, left_above, count_room, within_after, added, fields_after}
 use Rattle.gm_deliveries.proofs.deliveries.Deliveries.add_pair.Goals as goal
 
@@ -45,3 +46,9 @@ pub returns : goal.returns
 returns g c =
     let seen = seen_from c.args.self.now c.self.invariant c.self.view_is c.requires.can c.requires.place in
     added seen c.with_bit.result c.index.result.now c.index.ensures c.with_bit.ensures.same c.with_bit.ensures.other c.args.self.now c.self.view_is
+
+pub overflow_sub-k : goal.overflow_sub-k
+overflow_sub-k g c = subst (λ (s : ShardState). s.lo ≤ c.args.parent) (sym c.self.view_is) c.requires.can.is_mine.0
+
+pub with_bit-requires : goal.with_bit-requires
+with_bit-requires g c = c.requires.place.2

@@ -1,15 +1,18 @@
 use Rattle.std.proofs.lemmas.Result.{IfOk-from_err}
-use Rattle.std.proofs.Common.{length}
-use Rattle.gm_deliveries.proofs.BeginLemmas.{first_fields, small_starts, first_masks}
+use Rattle.std.proofs.Common.{length, ◌∙◌, sym}
+use Rattle.gm_deliveries.proofs.BeginLemmas.{first_fields, first_masks}
 use Rattle.gm_deliveries.proofs.deliveries.Deliveries.begin.Goals as goal
 
-pub first_lefts-requires : goal.first_lefts-requires
-first_lefts-requires g c = small_starts g.G.Game.rules g.met.G.Game.lawful c.args.tier c.args.lo c.args.starts.now c.requires.starts
+pub fill-requires-clause-counters : goal.fill-requires-clause-counters
+fill-requires-clause-counters g c = sym c.in_ok-left.left.ok.0 ∙ c.in_ok-left.ensures.len
+
+pub fill-requires-clause-statuses : goal.fill-requires-clause-statuses
+fill-requires-clause-statuses g c = c.in_ok-statuses.ensures
 
 pub invariant_of-result : goal.invariant_of-result
 invariant_of-result g c =
-    first_fields g.G.Game.rules c.args.tier c.args.lo c.args.starts.now c.requires.starts c.requires.within c.in_ok-masks.masks.items c.in_ok-left.left.items c.in_ok-statuses.statuses
-    (c.in_ok-masks.ensures.items_if_clones_equal (λ y e. e)) c.in_ok-left.ensures c.in_ok-statuses.ensures
+    first_fields g.G.Game.rules c.args.tier c.args.lo c.args.starts.now c.requires.starts c.requires.within c.in_ok-masks.masks.items c.fill.new.left.items c.fill.new.statuses
+    (c.in_ok-masks.ensures.items_if_clones_equal (λ y e. e)) c.fill.ensures.counters c.fill.ensures.statuses
 
 pub returns : goal.returns
 returns g c = first_masks g.G.Game.rules c.args.tier c.args.lo (length c.args.starts.now) c.in_ok-masks.masks.items (c.in_ok-masks.ensures.items_if_clones_equal (λ y e. e))

@@ -1,5 +1,6 @@
-use Rattle.gm_deliveries.specs.State.{state_of}
-use Rattle.gm_deliveries.proofs.CounterLemmas.{counter_read}
+use Rattle.std.proofs.Common.{ℕ, ◌-◌, ◌<◌, ◌≤◌, subst, sym}
+use Rattle.gm_deliveries.specs.State.{ShardState, state_of}
+use Rattle.gm_deliveries.proofs.CounterLemmas.{in_left, counter_read}
 use Rattle.gm_deliveries.proofs.deliveries.Deliveries.counter.Goals as goal
 
 pub returns : goal.returns
@@ -7,3 +8,13 @@ returns g c =
     let r = g.G.Game.rules in
     let f = c.self.inside in
     counter_read r (state_of r f.tier f.lo f.phase f.level f.masks.items) c.args.self.now f.statuses f.left.items f.delivered c.args.index c.index.result.now c.self.invariant c.self.view_is c.requires c.index.ensures
+
+pub overflow_sub-index : goal.overflow_sub-index
+overflow_sub-index g c = subst (λ (s : ShardState). s.lo ≤ c.args.index) (sym c.self.view_is) c.requires.0
+
+pub index-requires : goal.index-requires
+index-requires g c =
+    let r = g.G.Game.rules in
+    let f = c.self.inside in
+    subst (λ (n : ℕ). c.args.index - f.lo < n) (sym f.left.ok.0)
+    (in_left r (state_of r f.tier f.lo f.phase f.level f.masks.items) c.args.self.now f.statuses f.left.items f.delivered c.args.index c.self.invariant c.self.view_is c.requires)

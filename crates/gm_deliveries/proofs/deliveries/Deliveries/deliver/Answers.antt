@@ -1,19 +1,30 @@
-use Rattle.std.proofs.Common.{rules, ◌≡◌, ◌∙◌, ℕ, ◌⊎◌, ◌<◌, ◌≤◌, ◌-◌, inl, inr, length, Option, ap, subst, sym, refl}
+use Rattle.std.proofs.Common.{◌≡◌, ◌∙◌, ℕ, ◌⊎◌, ◌<◌, ◌≤◌, ◌-◌, inl, inr, length, Option, ap, subst, sym, refl}
 use Rattle.gm_game.specs.declared.position.Solved.{Solved}
 use Rattle.gm_frontier.specs.Notes.{phase_of}
-use Rattle.gm_deliveries.specs.State.{ShardState}
+use Rattle.gm_deliveries.specs.State.{ShardState, state_of}
 use Rattle.gm_deliveries.specs.Delivery.{IsPlaceOf, IsThisLevel}
-use Rattle.gm_deliveries.proofs.StepLemmas.{out_not_mine, in_range}
+use Rattle.gm_deliveries.proofs.StepLemmas.{out_not_mine, in_range, same_phase, other_phase}
 use Rattle.gm_deliveries.proofs.deliveries.Deliveries.deliver.Given.{Over}
-use Rattle.gm_deliveries.proofs.deliveries.Deliveries.deliver.Goals.{Else-solved-self, In_default, In-Some, then-parent-self-via-then-parent-self, then-parent-self-via-else-parent-self+then-parent-self-2}
+use Rattle.gm_deliveries.proofs.deliveries.Deliveries.deliver.Goals.{Else-solved-self, then-ne-via-then-ne, then-ne-via-else-ne+then-solved-self, then-parent-self-via-then-parent-self, then-parent-self-via-else-parent-self+then-parent-self-2}
 use Rattle.gm_deliveries.proofs.deliveries.Deliveries.deliver.Goals as goal
 
 -- the note is of the present level
 level : (g : Over) (c : Else-solved-self g) → IsThisLevel c.args.self.now c.args.note.now
 level g c =
-    let phase : phase_of c.args.note.now.solved.value ≡ c.self.inside.phase = search rules in
+    let phase : phase_of c.args.note.now.solved.value ≡ c.self.inside.phase = ap (λ (x : Solved). phase_of x.value) (sym c.solved-solved.ensures.value) ∙ sym c.phase_of.ensures ∙ same_phase _ _ c.if-ne.ensures in
     let remoteness : c.args.note.now.solved.remoteness ≡ c.self.inside.level = ap (λ (x : Solved). x.remoteness) (sym c.solved-solved.ensures.value) ∙ c.if-solved-self.false in
     subst (λ (s : ShardState). IsThisLevel s c.args.note.now) c.self.view_is (phase, remoteness)
+
+pub returns-then-ne : goal.returns-then-ne
+returns-then-ne g c = (
+  refl,
+  λ (h : IsThisLevel c.args.self.now c.args.note.now).
+      let here : IsThisLevel (state_of g.G.Game.rules c.self.inside.tier c.self.inside.lo c.self.inside.phase c.self.inside.level c.self.inside.masks.items) c.args.note.now = subst (λ (s : ShardState). IsThisLevel s c.args.note.now) (sym c.self.view_is) h in
+      elim c.then-ne.branch [
+        | then-ne-via-then-ne w ↦ other_phase _ _ (c.phase_of.ensures ∙ ap (λ (x : Solved). phase_of x.value) c.solved-solved.ensures.value ∙ here.0) (sym c.ne.ensures ∙ w.if-ne.true)
+        | then-ne-via-else-ne+then-solved-self w ↦ w.if-solved-self.true (ap (λ (x : Solved). x.remoteness) c.solved-solved.ensures.value ∙ here.1)
+      ],
+)
 
 pub returns-then-parent-self : goal.returns-then-parent-self
 returns-then-parent-self g c =
@@ -45,3 +56,6 @@ deliver_at-requires-clause-place g c = subst (λ (o : Option ℕ). IsPlaceOf g.G
 
 pub returns : goal.returns
 returns g c = c.deliver_at.ensures
+
+pub overflow_sub-parent : goal.overflow_sub-parent
+overflow_sub-parent g c = c.if-parent-self.false

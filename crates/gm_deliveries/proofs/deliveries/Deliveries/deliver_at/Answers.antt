@@ -1,6 +1,6 @@
 use Rattle.std.proofs.Common.{◌≡◌, ◌==◌, ◌∙◌, Bool, sym, true≢false}
 use Rattle.gm_deliveries.specs.Delivery.{next_status, is_settling}
-use Rattle.gm_deliveries.proofs.StepLemmas.{Step, step_of, next_is, settling_is, next_after, can_settle, can_stay, settled_now, out_repeat, out_fresh}
+use Rattle.gm_deliveries.proofs.StepLemmas.{Step, step_of, room_above, next_is, settling_is, next_after, can_settle, can_stay, settled_now, out_repeat, out_fresh}
 use Rattle.gm_deliveries.proofs.deliveries.Deliveries.deliver_at.Given.{Over}
 use Rattle.gm_deliveries.proofs.deliveries.Deliveries.deliver_at.Goals.{After-is_settling}
 use Rattle.gm_deliveries.proofs.deliveries.Deliveries.deliver_at.Goals as goal
@@ -54,3 +54,18 @@ add_pair-requires-clause-next g c = next_after (step g (goal.at.add_pair-require
 
 pub returns : goal.returns
 returns g c = out_fresh (step g (goal.at.returns g c).After-is_settling) c.add_pair.new.self c.add_pair.ensures (settles g (goal.at.returns g c).After-is_settling c.if-is_settling.false)
+
+pub has_pair-requires-clause-range : goal.has_pair-requires-clause-range
+has_pair-requires-clause-range g c = c.requires.range
+
+pub has_pair-requires-clause-place : goal.has_pair-requires-clause-place
+has_pair-requires-clause-place g c = c.requires.place
+
+pub status-old-requires : goal.status-old-requires
+status-old-requires g c = c.requires.range
+
+pub counter-left-requires : goal.counter-left-requires
+counter-left-requires g c = c.requires.range
+
+pub next_status-next-requires : goal.next_status-next-requires
+next_status-next-requires g c = room_above c.self.invariant c.self.view_is c.solved-solved.ensures.value c.requires.level.1

@@ -1,4 +1,5 @@
-use Rattle.std.proofs.Common.{subst, sym}
+use Rattle.std.proofs.Common.{ap, subst, sym, ◌∙◌}
+use Rattle.gm_game.specs.declared.position.Solved.{Solved}
 use Rattle.gm_game.specs.Rules.{at}
 use Rattle.gm_deliveries.specs.declared.status.Status.{Status}
 use Rattle.gm_deliveries.specs.declared.status.Status.TheVariants.{Settled}
@@ -19,3 +20,12 @@ of-requires g c =
 
 pub returns-in_default : goal.returns-in_default
 returns-in_default g c = none_of g.G.Game.rules (at c.args.self.now.tier c.args.index) (delivered_to c.args.self.now c.args.index) c.status.result c.status.ensures (λ y e. c.in_default.not-Settled y e)
+
+pub status-requires : goal.status-requires
+status-requires g c = c.requires
+
+pub returns-in-Settled : goal.returns-in-Settled
+returns-in-Settled g c = (
+  c.of.ensures.position ∙ ap (λ (s : ShardState). at s.tier c.args.index) c.self.view_is,
+  subst (λ (x : Solved). StatusIs g.G.Game.rules c.args.self.now c.args.index (Settled x)) (sym c.of.ensures.solved) c.in-Settled.ensures,
+)

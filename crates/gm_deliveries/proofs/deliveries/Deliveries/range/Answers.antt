@@ -1,4 +1,5 @@
-use Rattle.std.proofs.Common.{rules, ◌≡◌, ◌∙◌, length, ap, sym, subst}
+use Rattle.std.proofs.Common.{◌∙◌, ◌+◌, ◌≤◌, length, ap, sym, subst}
+use Rattle.gm_game.specs.declared.limits.TheConstants.{TIER_SIZE}
 use Rattle.gm_deliveries.specs.State.{ShardState}
 use Rattle.gm_deliveries.specs.Good.{IsGood}
 use Rattle.gm_deliveries.proofs.GoodLemmas.{good_from}
@@ -12,5 +13,10 @@ pub returns-clause-count : goal.returns-clause-count
 returns-clause-count g c =
     let r = g.G.Game.rules in
     let f = c.self.inside in
-    let n : c.len.result ≡ length f.masks.items = search rules in
-    n ∙ sym (length-masks r f.tier f.lo f.masks.items) ∙ ap (λ (s : ShardState). length s.delivered) c.self.view_is
+    c.len.ensures ∙ f.masks.ok.0 ∙ sym (length-masks r f.tier f.lo f.masks.items) ∙ ap (λ (s : ShardState). length s.delivered) c.self.view_is
+
+pub returns-clause-lo : goal.returns-clause-lo
+returns-clause-lo g c = ap (λ (s : ShardState). s.lo) c.self.view_is
+
+pub returns-clause-small : goal.returns-clause-small
+returns-clause-small g c = subst (λ (s : ShardState). s.lo + length s.delivered ≤ TIER_SIZE) c.self.view_is c.self.invariant.few

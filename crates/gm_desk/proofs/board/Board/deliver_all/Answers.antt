@@ -1,6 +1,6 @@
-use Rattle.std.proofs.Common.{rules, ◌≡◌, ℕ, sym, subst, ap, ◌∙◌}
+use Rattle.std.proofs.Common.{rules, ◌≡◌, ℕ, ◌<◌, sym, subst, ap, ◌∙◌}
 use Rattle.gm_desk.specs.Spots.{choose}
-use Rattle.gm_desk.specs.Batches.{AreAnswers}
+use Rattle.gm_desk.specs.Batches.{ArePlaced, AreAnswers}
 use Rattle.gm_desk.specs.Parts.{Part}
 use Rattle.gm_desk.specs.Amounts.{Amounts, raised}
 use Rattle.gm_desk.proofs.Raises.{raised_a, raised_b, raised_c, raised_d}
@@ -51,3 +51,51 @@ pub returns-in_default-clause-answers : goal.returns-in_default-clause-answers
 returns-in_default-clause-answers g c =
     let last : c.args.shard ≡ 3 = search rules in
     subst (λ (k : ℕ). AreAnswers g.G.Game.rules (choose k g.A.Desk.spot g.B.Desk.spot g.C.Desk.spot g.D.Desk.spot) c.args.pairs.now c.deliver_all_under-in_default.result) (sym last) c.deliver_all_under-in_default.ensures.answers
+
+pub deliver_all_under-requires-clause-places : goal.deliver_all_under-requires-clause-places
+deliver_all_under-requires-clause-places g c = c.requires.places
+
+pub deliver_all_under-requires-clause-parts : goal.deliver_all_under-requires-clause-parts
+deliver_all_under-requires-clause-parts g c = subst (λ (n : ℕ). 0 < n) (sym c.shares.invariant.1) c.shares.invariant.0
+
+pub invariant_of-shares : goal.invariant_of-shares
+invariant_of-shares g c =
+    let kept = c.shares.invariant in
+    let parts = ap (λ (p : Part). p.parts) c.deliver_all_under.ensures.share ∙ kept.1 in
+    (kept.0, parts, kept.2, kept.3, kept.4, kept.5, kept.6, kept.7, kept.8)
+
+pub deliver_all_under-requires-in-1-clause-places : goal.deliver_all_under-requires-in-1-clause-places
+deliver_all_under-requires-in-1-clause-places g c = subst (λ (tier : ℕ). ArePlaced g.G.Game.rules tier c.args.pairs.now) (sym (c.args.self.now.tiled.second.tier)) c.requires.places
+
+pub deliver_all_under-requires-in-1-clause-parts : goal.deliver_all_under-requires-in-1-clause-parts
+deliver_all_under-requires-in-1-clause-parts g c = subst (λ (n : ℕ). 0 < n) (sym c.shares.invariant.2) c.shares.invariant.0
+
+pub invariant_of-shares-in-1 : goal.invariant_of-shares-in-1
+invariant_of-shares-in-1 g c =
+    let kept = c.shares.invariant in
+    let parts = ap (λ (p : Part). p.parts) c.deliver_all_under-in-1.ensures.share ∙ kept.2 in
+    (kept.0, kept.1, parts, kept.3, kept.4, kept.5, kept.6, kept.7, kept.8)
+
+pub deliver_all_under-requires-in-2-clause-places : goal.deliver_all_under-requires-in-2-clause-places
+deliver_all_under-requires-in-2-clause-places g c = subst (λ (tier : ℕ). ArePlaced g.G.Game.rules tier c.args.pairs.now) (sym (c.args.self.now.tiled.third.tier ∙ c.args.self.now.tiled.second.tier)) c.requires.places
+
+pub deliver_all_under-requires-in-2-clause-parts : goal.deliver_all_under-requires-in-2-clause-parts
+deliver_all_under-requires-in-2-clause-parts g c = subst (λ (n : ℕ). 0 < n) (sym c.shares.invariant.3) c.shares.invariant.0
+
+pub invariant_of-shares-in-2 : goal.invariant_of-shares-in-2
+invariant_of-shares-in-2 g c =
+    let kept = c.shares.invariant in
+    let parts = ap (λ (p : Part). p.parts) c.deliver_all_under-in-2.ensures.share ∙ kept.3 in
+    (kept.0, kept.1, kept.2, parts, kept.4, kept.5, kept.6, kept.7, kept.8)
+
+pub deliver_all_under-requires-in_default-clause-places : goal.deliver_all_under-requires-in_default-clause-places
+deliver_all_under-requires-in_default-clause-places g c = subst (λ (tier : ℕ). ArePlaced g.G.Game.rules tier c.args.pairs.now) (sym (c.args.self.now.tiled.fourth.tier ∙ c.args.self.now.tiled.third.tier ∙ c.args.self.now.tiled.second.tier)) c.requires.places
+
+pub deliver_all_under-requires-in_default-clause-parts : goal.deliver_all_under-requires-in_default-clause-parts
+deliver_all_under-requires-in_default-clause-parts g c = subst (λ (n : ℕ). 0 < n) (sym c.shares.invariant.4) c.shares.invariant.0
+
+pub invariant_of-shares-in_default : goal.invariant_of-shares-in_default
+invariant_of-shares-in_default g c =
+    let kept = c.shares.invariant in
+    let parts = ap (λ (p : Part). p.parts) c.deliver_all_under-in_default.ensures.share ∙ kept.4 in
+    (kept.0, kept.1, kept.2, kept.3, parts, kept.5, kept.6, kept.7, kept.8)

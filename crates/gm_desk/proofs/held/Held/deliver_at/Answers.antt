@@ -1,8 +1,10 @@
-use Rattle.std.proofs.Common.{◌≡◌, ℕ, ◌+◌, ap, subst, ◌∙◌, arith}
+use Rattle.std.proofs.Common.{◌≡◌, ℕ, ◌+◌, ap, subst, sym, ◌∙◌, arith}
 use Rattle.gm_deliveries.specs.State.{pairs_in}
-use Rattle.gm_deliveries.specs.Delivery.{Delivers}
+use Rattle.gm_deliveries.specs.Delivery.{IsPlaceOf, Delivers}
+use Rattle.gm_desk.specs.Spots.{Spot}
 use Rattle.gm_desk.specs.Parts.{Part, HeldData}
 use Rattle.gm_desk.proofs.Gains.{gained, stays, answered}
+use Rattle.gm_desk.proofs.Raises.{below}
 use Rattle.gm_desk.proofs.held.Held.deliver_at.Goals as goal
 
 pub invariant_of-self : goal.invariant_of-self
@@ -56,7 +58,11 @@ returns-clause-share g c =
 
 pub returns-clause-bound : goal.returns-clause-bound
 returns-clause-bound g c =
-    let a = ap (λ (p : Part). p.amount) c.audit.ensures.same.0 in
-    let b = c.audit.ensures.same.1 in
-    let most = c.audit.ensures.bound in
-    omega arith
+    below (ap (λ (p : Part). p.amount) c.audit.ensures.same.0) c.audit.ensures.same.1 c.audit.ensures.bound
+
+pub deliver_at-answer-requires : goal.deliver_at-answer-requires
+deliver_at-answer-requires g c =
+    subst (λ (tier : ℕ). IsPlaceOf g.G.Game.rules c.args.note.now.position tier c.args.parent c.args.place) (sym (ap (λ (s : Spot). s.tier) c.self.invariant.1)) c.requires.place
+
+pub raise-requires : goal.raise-requires
+raise-requires g c = c.requires.parts

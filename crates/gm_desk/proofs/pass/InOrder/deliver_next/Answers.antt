@@ -1,6 +1,8 @@
-use Rattle.std.proofs.Common.{◌≡◌, ℕ, ◌+◌, Some, slice_get, sym, subst, ◌∙◌, arith}
+use Rattle.std.proofs.Common.{◌≡◌, ℕ, ◌+◌, ◌<◌, Some, slice_get, ap, sym, subst, ◌∙◌, arith}
 use Rattle.gm_frontier.specs.Notes.{NoteData}
-use Rattle.gm_desk.specs.Spots.{gain}
+use Rattle.gm_deliveries.specs.Delivery.{IsPlaceOf}
+use Rattle.gm_desk.specs.Spots.{Spot, gain}
+use Rattle.gm_desk.specs.Parts.{Part}
 use Rattle.gm_desk.specs.Rounds.{pairs_into, IsRound}
 use Rattle.gm_desk.proofs.Gains.{stays, raised_share}
 use Rattle.gm_desk.proofs.RoundLemmas.{round_step}
@@ -68,3 +70,10 @@ returns-clause-step g c =
       new_round = subst (IsRound pairs g.L.Round.base c.deliver_at-answer.new.self) up step.1;
       event = d;
     }
+
+pub deliver_at-answer-requires : goal.deliver_at-answer-requires
+deliver_at-answer-requires g c =
+    subst (λ (tier : ℕ). IsPlaceOf g.G.Game.rules c.args.note.now.position tier c.args.parent c.args.place) (sym (ap (λ (s : Spot). s.tier) c.self.invariant.0)) c.requires.place
+
+pub raise-requires : goal.raise-requires
+raise-requires g c = subst (λ (p : Part). 0 < p.parts) (sym c.audit.ensures.same.0) (subst (λ (n : ℕ). 0 < n) (sym c.pass.invariant.0) c.pass.invariant.1)

@@ -4,8 +4,10 @@ use Rattle.gm_game.specs.declared.position.Place.{Place}
 use Rattle.gm_game.specs.declared.limits.TheConstants.{TIER_SIZE}
 use Rattle.gm_frontier.specs.Notes.{NoteData}
 use Rattle.gm_desk.specs.Rounds.{pairs_into}
-use Rattle.gm_solver.proofs.RoundLemmas.{next_below, into_fit, pairs_are_into, item_next, item_last}
-use Rattle.gm_desk.proofs.RoundLemmas.{level_into}
+use Rattle.gm_solver.proofs.RoundLemmas.{next_below, into_fit, item_next, item_last}
+use Rattle.gm_desk.proofs.RoundLemmas.{level_into, pairs_are_into}
+use Rattle.gm_game.specs.declared.position.Position.{Position}
+use Rattle.gm_deliveries.specs.Delivery.{IsPlaceOf}
 use Rattle.gm_solver.proofs.post.Post.walk.Goals as goal
 
 pub loop-note-init : goal.loop-note-init
@@ -72,3 +74,9 @@ returns g c =
     let most = item_last pairs c.loop-note.number (c.loop-note.invariant.left ∙ c.in-None.ensures.steps.0) in
     let within = c.loop-note.invariant.within in
     omega arith
+
+pub deliver_next_at-answer-requires-clause-place : goal.deliver_next_at-answer-requires-clause-place
+deliver_next_at-answer-requires-clause-place g c =
+    let r = g.G.Game.rules in
+    let tier = subst (λ (t : ℕ). IsPlaceOf r c.position.result t c.in-Some.parent c.place_of-stands.result) c.args.self.now.lists_are c.place_of-stands.ensures in
+    subst (λ (q : Position). IsPlaceOf r q g.L.Desk.spot.tier c.in-Some.parent c.place_of-stands.result) c.position.ensures.value tier

@@ -1,8 +1,10 @@
-use Rattle.std.proofs.Common.{subst, refl}
+use Rattle.std.proofs.Common.{subst, refl, ℕ, ◌≤◌, sym, ◌∙◌}
 use Rattle.gm_game.specs.declared.position.Place.{Place}
 use Rattle.gm_game.specs.Places.{IsLastLevel}
 use Rattle.gm_deliveries.specs.Steps.{place_of}
 use Rattle.gm_solver.proofs.Final.{end_deliveries, not_too_far}
+use Rattle.gm_game.specs.declared.limits.TheConstants.{REMOTENESS, TIER_SIZE}
+use Rattle.gm_game.specs.Records.{IsTrueTable}
 use Rattle.gm_solver.proofs.tiles.Tiles.table.Goals as goal
 
 pub returns-clause-deliveries : goal.returns-clause-deliveries
@@ -14,3 +16,12 @@ returns-clause-deliveries g c =
 
 pub returns-clause-near : goal.returns-clause-near
 returns-clause-near g c = not_too_far g.G.Game.rules g.met.G.Game.lawful c.args.self.now.shards.a.tier c.in_ok-records.records c.in_ok-records.ensures
+
+pub from_packed-requires-clause-is_true : goal.from_packed-requires-clause-is_true
+from_packed-requires-clause-is_true g c = subst (λ (t : ℕ). IsTrueTable g.G.Game.rules REMOTENESS t c.in_ok-records.records) (sym c.tier-tier.ensures) c.in_ok-records.ensures
+
+pub from_packed-requires-clause-is_small : goal.from_packed-requires-clause-is_small
+from_packed-requires-clause-is_small g c = subst (λ (t : ℕ). g.G.Game.rules.tier_size t ≤ TIER_SIZE) (sym c.tier-tier.ensures) c.requires.small
+
+pub returns-clause-tier : goal.returns-clause-tier
+returns-clause-tier g c = c.from_packed.ensures.tier ∙ c.tier-tier.ensures
