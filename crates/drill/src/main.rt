@@ -183,7 +183,7 @@ fn run<R: Print + Threads + Wait + Files + Sync, I: io::Read + Drop>(
     match named(&LINES, first) {
         Some(Line::List) => list(rt),
         Some(Line::Ahead) => compare(rt, alloc, words),
-        Some(Line::Dao) => solving::digest::<Dao, R>(rt, alloc, word(words, 2)),
+        Some(Line::Dao) => solving::solve_and_say::<Dao, R>(rt, alloc, word(words, 2)),
         Some(Line::DamageCountdown) => damage::<Countdown<10>, R, I>(rt, alloc, input),
         Some(Line::DamageTacTix) => damage::<TacTix<2, false>, R, I>(rt, alloc, input),
         None => drill(rt, alloc, first),

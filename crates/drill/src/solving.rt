@@ -159,7 +159,7 @@ fn say_digest<G: Game, R: Print>(
 }
 
 /// Solves the first tier of a game in the way of this name, with four workers and four shards, and says what its file ends with.
-pub fn digest<G: Game + Send + Sync, R: Print + Threads + Wait + Sync>(
+pub fn solve_and_say<G: Game + Send + Sync, R: Print + Threads + Wait + Sync>(
     rt: &R,
     alloc: Global,
     way: &str,

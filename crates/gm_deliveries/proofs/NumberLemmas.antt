@@ -1,11 +1,16 @@
 -- Statuses as numbers.
-use Rattle.std.proofs.Common.{◌≡◌, ℕ, ◌<◌, List, Some, length, map, get_or, ap, sym, subst, ◌∙◌, arith}
+use Rattle.std.proofs.Common.{◌≡◌, ℕ, zero, suc, ◌<◌, List, ◌∷◌, Some, length, map, replicate, get_or, refl, ap, sym, subst, ◌∙◌, arith}
 use Rattle.std.specs.List.{slice_get}
 use Rattle.std.proofs.lemmas.List.{length-map, get_or-map, get_or_read}
 use Rattle.std.proofs.lemmas.Option.{slice_get-get_or}
 use Rattle.gm_deliveries.specs.declared.status.Status.{Status}
-use Rattle.gm_deliveries.specs.declared.status.Status.TheVariants.{Hole}
+use Rattle.gm_deliveries.specs.declared.status.Status.TheVariants.{Hole, Undecided}
 use Rattle.gm_deliveries.specs.Statuses.{status_of}
+
+-- so many numbers of an undecided index are so many undecided statuses
+pub all_undecided : (n : ℕ) → map status_of (replicate n 1) ≡ replicate n Undecided
+all_undecided zero = refl
+all_undecided (suc n) = ap (λ (statuses : List Status). Undecided ∷ statuses) (all_undecided n)
 
 -- there are as many numbers as statuses
 pub in_numbers : (numbers : List ℕ) (statuses : List Status) (n k : ℕ) → map status_of numbers ≡ statuses → n ≡ length numbers → k < length statuses → k < n

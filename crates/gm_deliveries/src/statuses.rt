@@ -1,6 +1,7 @@
 //! Statuses of four bytes each.
-ghost use Rattle.std.specs.Prelude.{◌≡◌, ◌<◌, Some, length, slice_get, set, IfOk};
+ghost use Rattle.std.specs.Prelude.{◌≡◌, ◌<◌, Some, length, slice_get, set, replicate, IfOk};
 ghost use Rattle.gm_deliveries.specs.Good.{IsWithinLimit};
+ghost use Rattle.gm_deliveries.specs.declared.status.Status.TheVariants.{Undecided};
 ghost use Rattle.gm_deliveries.specs.Statuses.{status_of};
 
 use crate::status::Status;
@@ -30,7 +31,7 @@ impl Model for Statuses {
 impl Statuses {
     /// This many statuses, each undecided.
     pub(crate) fn undecided(alloc: Global, count: usize) -> Result<Statuses, AllocError>
-        ensures { IfOk result (λ statuses. length statuses ≡ count) }
+        ensures { IfOk result (λ statuses. statuses ≡ replicate count Undecided) }
     {
         let numbers = vec![in alloc; UNDECIDED; count]?;
         Ok(Statuses { numbers })

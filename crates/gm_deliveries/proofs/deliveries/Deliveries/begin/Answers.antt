@@ -1,5 +1,7 @@
 use Rattle.std.proofs.lemmas.Result.{IfOk-from_err}
-use Rattle.std.proofs.Common.{length, ◌∙◌, sym}
+use Rattle.std.proofs.Common.{length, ◌∙◌, ap, sym}
+use Rattle.std.proofs.lemmas.List.{length-replicate}
+use Rattle.gm_deliveries.specs.declared.status.Status.TheVariants.{Undecided}
 use Rattle.gm_deliveries.proofs.BeginLemmas.{first_fields, first_masks}
 use Rattle.gm_deliveries.proofs.deliveries.Deliveries.begin.Goals as goal
 
@@ -7,7 +9,7 @@ pub fill-requires-clause-counters : goal.fill-requires-clause-counters
 fill-requires-clause-counters g c = sym c.in_ok-left.left.ok.0 ∙ c.in_ok-left.ensures.len
 
 pub fill-requires-clause-statuses : goal.fill-requires-clause-statuses
-fill-requires-clause-statuses g c = c.in_ok-statuses.ensures
+fill-requires-clause-statuses g c = ap length c.in_ok-statuses.ensures ∙ length-replicate (length c.args.starts.now) Undecided
 
 pub invariant_of-result : goal.invariant_of-result
 invariant_of-result g c =
