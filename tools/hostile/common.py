@@ -51,8 +51,9 @@ class Room:
         """A new empty folder."""
         return tempfile.mkdtemp(dir=self.folder)
 
-    def run(self, words, kind=None, at=0, on=False, marks=False, short=False, given=b"", errors=subprocess.PIPE, cwd=None, seconds=SECONDS):
-        """Runs a program, with its call number `at` of a kind refused (0: none), and every later one too where `on`; with one byte a call where `short`."""
+    def run(self, words, kind=None, at=0, on=False, marks=False, short=False, lies=False, given=b"", errors=subprocess.PIPE, cwd=None, seconds=SECONDS):
+        """Runs a program, with its call number `at` of a kind refused (0: none), and every later one too where `on`; with one byte a call where `short`.
+        With `lies` a refused call that changes a file says that it was made."""
         place = self.fresh()
         seen = os.path.join(place, "seen")
         env = {"PATH": "/usr/bin:/bin", "LANG": "C.UTF-8"}
@@ -61,6 +62,7 @@ class Room:
             env |= {"REFUSE_ON": "1"} if on else {}
             env |= {"REFUSE_MARKS": "1"} if marks else {}
             env |= {"REFUSE_SHORT": "1"} if short else {}
+            env |= {"REFUSE_LIES": "1"} if lies else {}
         try:
             how = {"stdout": subprocess.PIPE, "stderr": errors, "env": env, "cwd": cwd or place, "timeout": seconds}
             ran = subprocess.run(words, input=given, **how)

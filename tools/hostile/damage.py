@@ -1,4 +1,4 @@
-"""Damaged tier files: nothing is taken that differs from the text of the true table."""
+"""Damaged tier files, of both versions: nothing is taken that differs from the text of the true table."""
 import random
 import re
 import struct
@@ -48,36 +48,39 @@ def header(chance, text, _all):
 
 def record(chance, text, _all):
     """Other records, with the digest made anew."""
-    front = bytearray(text[:-32])
+    front, (form, shift) = bytearray(text[:-32]), ("<H", 12) if text.startswith(OLD) else ("<I", 20)
+    width = struct.calcsize(form)
     for _ in range(chance.randint(1, 2)):
-        at = 40 + 4 * chance.randrange((len(front) - 40) // 4)
-        front[at : at + 4] = chance.choice([struct.pack("<I", chance.randint(0, 4) << 20 | chance.randint(0, 9)), chance.randbytes(4)])
+        at = 40 + width * chance.randrange((len(front) - 40) // width)
+        front[at : at + width] = chance.choice([struct.pack(form, chance.randint(0, 4) << shift | chance.randint(0, 9)), chance.randbytes(width)])
     return digested(bytes(front))
 
 
-def old(_chance, text, _all):
-    return as_version_1(text)
+def other_version(_chance, text, _all):
+    """The first bytes of the other version, with the digest made anew."""
+    return digested((NEW if text.startswith(OLD) else OLD) + text[8:-32])
 
 
 def same(_chance, text, _all):
     return text
 
 
-WAYS = (bits, bits, cut, longer, swapped, sized, header, record, record, old, same)
+NEW, OLD = b"GMTIER02", b"GMTIER01"
+WAYS = (bits, bits, cut, longer, swapped, sized, header, record, record, other_version, same)
 
 
 def damage(room, options):
-    """Seeded mutations of the files of two games, through one drill each."""
+    """Seeded mutations of the files of two games, half of them of version 1, through one drill each."""
     figures = Figures(f"damage (seed {options.seed})")
     right = {game: right_files(room, game) for game in (*GAMES, *OTHERS)}
-    everything = [text for files in right.values() for text in files.values()]
+    everything = [text for files in right.values() for file in files.values() for text in (file, as_version_1(file))]
     for game in GAMES:
         chance = random.Random(f"{options.seed} {game}")
         cases = []
         for _ in range(100_000 if options.all else 10_000):
-            name, text = chance.choice(sorted(right[game].items()))
-            tier = tier_of(name)
-            cases.append((tier, chance.choice(WAYS)(chance, text, everything), text))
+            name, true = chance.choice(sorted(right[game].items()))
+            text = chance.choice(WAYS)(chance, chance.choice([true, as_version_1(true)]), everything)
+            cases.append((tier_of(name), text, true))
         given = "".join(f"{tier} {text.hex()}\n" for tier, text, _ in cases)
         ran = subprocess.run([DRILL, f"damage-{game}"], input=given.encode(), capture_output=True, timeout=600)
         signs = ran.stdout.decode().split()
@@ -85,6 +88,6 @@ def damage(room, options):
             figures.add(0, f"{game}: status {ran.returncode}, {len(signs)} answers to {len(cases)} files")
             continue
         for (tier, text, true), sign in zip(cases, signs):
-            wanted = "+" if text == true else "-"
+            wanted = "+" if text == true else "1" if text == as_version_1(true) else "-"
             figures.add(sign == "-", None if sign == wanted else f"{game}, tier {tier}, {sign} for {text.hex()}")
     return figures

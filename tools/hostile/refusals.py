@@ -1,8 +1,9 @@
 """Calls refused one after another: inside each library call that may want memory (by the drill), and in whole runs of the program."""
 import os
 import re
+import shutil
 
-from common import DRILL, FAULT, GAMESMAN, Figures, as_version_1, files_of, right_files, wrong_file
+from common import DRILL, GAMESMAN, Figures, as_version_1, files_of, right_files, wrong_file
 
 # Calls that go on without a worker that could not be started, so that they may answer although something was refused.
 WITH_THREADS = ("pieces-", "passes-", "build")
@@ -61,25 +62,32 @@ def calls(room, _options):
     return figures
 
 
+# The fault that a refusal of each kind leads to. A thread that could not be started is done without, so of that kind nothing is told.
+FAULTS = {
+    "malloc": rb"out of memory",
+    "input": rb"input failed",
+    "output": rb"output failed",
+    **dict.fromkeys(("open", "stat", "read", "write", "sync", "rename", "unlink"), rb"store failed at tier (\d+)"),
+}
+
+
 def plain(out):
     """What was printed, but for the number of deliveries by hand, which depends on the workers that could be started."""
     return re.sub(rb"by hand \d+", b"by hand H", out)
 
 
-def judge_line(free, ran):
-    """Why a run of the program is wrong, if it is: it answers as an undisturbed one, or says one documented fault."""
-    if ran.status == free.status and plain(ran.out) == plain(free.out) and ran.err == free.err:
-        return None
-    if ran.status != 1 or not FAULT.fullmatch(ran.err):
-        return str(ran)
-    return None if free.out.startswith(ran.out) else f"printed {ran.out!r}, which no undisturbed run begins with"
+def is_unhindered(free, ran):
+    return ran.status == free.status and plain(ran.out) == plain(free.out) and ran.err == free.err
 
 
 class Line:
     """A line of the program, with the files that its folder (the word @) holds before and the right ones."""
 
     def __init__(self, words, before=None, right=None, given=b""):
-        self.words, self.before, self.right, self.given = words, before or {}, right or {}, given
+        self.words, self.before, self.right, self.given = words.split(), before or {}, right or {}, given
+
+    def __str__(self):
+        return " ".join(self.words)
 
     def once(self, room, **how):
         """Runs the line over a new folder. Gives the run and the folder."""
@@ -90,25 +98,65 @@ class Line:
         words = [GAMESMAN] + [folder if word == "@" else word for word in self.words]
         return room.run(words, given=self.given, **how), folder
 
+    def told(self, free, ran, kind, folder):
+        """Why what a disturbed run says is wrong, if it is: the undisturbed answer where nothing was refused or only threads were, and else the one fault."""
+        if is_unhindered(free, ran):
+            return self.unhindered(ran, kind, folder)
+        if not ran.refused or kind not in FAULTS:
+            return str(ran)
+        fault = re.fullmatch(rb"gamesman: " + FAULTS[kind] + rb"\n", ran.err)
+        if ran.status != 1 or not fault:
+            return str(ran)
+        if not free.out.startswith(ran.out):
+            return f"printed {ran.out!r}, which no undisturbed run begins with"
+        return self.stopped_at(int(fault[1]), folder) if fault.groups() else None
+
+    def unhindered(self, ran, kind, folder):
+        """Why an undisturbed answer is wrong, if it is: a refusal went unnoticed, or a line that builds does not leave all files right."""
+        if ran.refused and kind in FAULTS and not self.may_miss(kind):
+            return f"a refusal went unnoticed: {ran}"
+        if "@" in self.words and ran.status == 0 and files_of(folder) != self.right:
+            return f"it ends well, and the folder holds {sorted(files_of(folder))}, not all of them right"
+        return None
+
+    def may_miss(self, kind):
+        """Whether a refusal may go unnoticed: where levels are solved by workers, one that gets no memory is done without, as one that could not be started."""
+        return kind == "malloc" and self.words[1] in BY_LEVELS
+
+    def stopped_at(self, tier, folder):
+        """Why a fault of the store names the wrong tier, if it does: those before it are right, and it and those after it are as they were."""
+        found, is_before = files_of(folder), True
+        for name in self.order():
+            is_before = is_before and name != f"tier-{tier}.gmt"
+            wanted = self.right if is_before else self.before
+            if found.get(name) != wanted.get(name):
+                return f"it names tier {tier}, and {name} is {'not yet right' if is_before else 'another one'}"
+        return f"there is no tier {tier}" if is_before else None
+
+    def order(self):
+        """The names of the files in the order in which their tiers are built."""
+        return sorted(self.right, key=lambda name: int(re.search(r"\d+", name)[0]), reverse=self.words[1] == "hare")
+
     def disturbed(self, room, free, **how):
         """Runs the line with a call refused. Gives the run and why it is wrong, if it is."""
         ran, folder = self.once(room, **how)
-        why = judge_line(free, ran)
+        why = self.told(free, ran, how["kind"], folder)
         if not why and "@" in self.words:
             why = wrong_file(folder, self.right, self.before)
             if not why and self.words[0] == "solve":
                 room.run([GAMESMAN, "solve", self.words[1], folder])
                 after = {name: text for name, text in files_of(folder).items() if name.endswith(".gmt")}
                 why = None if after == self.right else "the next run does not make all right"
-        return ran, f"{' '.join(self.words)}, {how['kind']} {how['at']}{' on' if how['on'] else ''}: {why}" if why else None
+        shutil.rmtree(folder)
+        return ran, f"{self}, {how['kind']} {how['at']}{' on' if how['on'] else ''}: {why}" if why else None
 
 
 def refuse_in_line(room, line, kind, on):
     """Each call of a kind in a line refused in turn, or from there on."""
     figures = Figures(kind)
     free, _ = line.once(room, kind=kind)
-    if free.status not in (0, 1):
-        figures.add(0, f"{' '.join(line.words)} undisturbed: {free}")
+    if free.status not in (0, 1, 2):
+        figures.add(0, f"{line} undisturbed: {free}")
         return figures
     at = 1
     while True:
@@ -125,7 +173,7 @@ def torn_lines(room, line):
     for kind, stream in (("output", "out"), ("errors", "err")):
         ran, _ = line.once(room, kind=kind)
         written = getattr(ran, stream).count(b"\n")
-        figures.add(0, f"{' '.join(line.words)}: {written} lines by {ran.calls} writes" if ran.calls > written else None)
+        figures.add(0, f"{line}: {written} lines by {ran.calls} writes" if ran.calls > written else None)
     return figures
 
 
@@ -133,43 +181,98 @@ def without(files, *names):
     return {name: text for name, text in files.items() if name not in names}
 
 
-def program(room, options):
-    """Each allocation of six lines, and each thread, read, write, sync, rename and write of output of lines with a folder."""
+# Games whose positions are settled level by level; those of Tac Tix, of which no move stays in its tier, are settled in one pass, and without workers.
+BY_LEVELS = ("countdown", "wheel")
+
+# Lines of every command, over tables in memory.
+IN_MEMORY = (
+    "list",
+    "query countdown 10",
+    "query wheel 3",
+    "query tactix-2 xxxx",
+    "query wheel x",
+    "query chess 1",
+    "query",
+    "moves tactix-2",
+    "moves tactix-2 --distinct",
+    "moves tactix-2 --json",
+    "line tactix-2",
+    "line tactix-2 --json",
+    "show tactix-2",
+    "find tactix-2 --value win",
+    "find tactix-2 --value lose --reached --json",
+    "counts tactix-2",
+    "counts tactix-2 --reached",
+    "analyse tactix-2",
+    "completions bash",
+    "man",
+    "--version",
+    "--help",
+    "query --help",
+)
+
+# Lines that read, with what they are given.
+READING = (
+    ("play countdown", b"1\n2\n1\n"),
+    ("play tactix-2", b"a1\nb1\na2\nb2\n"),
+    ("play tactix-2 --second", b""),
+    ("play tactix-2 --show", b"a1\nquit\n"),
+    ("ask tactix-2", b"x..x\nx\n"),
+)
+
+# Lines over the files of a game.
+OVER_FILES = (
+    "query tactix-2 xxxx --folder @",
+    "moves tactix-2 --folder @",
+    "moves tactix-2 --json --folder @",
+    "line tactix-2 --folder @",
+    "show tactix-2 --folder @",
+    "find tactix-2 --value win --folder @",
+    "counts tactix-2 --folder @",
+    "analyse tactix-2 --folder @",
+    "query tactix-2 xxxx --read-only --folder @",
+)
+
+ON_FILES = ("open", "stat", "read", "write", "sync", "rename", "unlink")
+
+
+def lines_of_the_program(room):
+    """Every line with the kinds of calls that are refused in it. What follows on files that are read is the same as in memory, so there allocations are refused
+    in some lines only."""
     small, hare = right_files(room, "tactix-2"), right_files(room, "hare")
-    old = {name: as_version_1(text) for name, text in small.items()}
-    checked = Line(["check", "tactix-2", "@"], before=small, right=small)
+    old, left = {name: as_version_1(text) for name, text in small.items()}, {"tier-3.tmp": b"left"}
+    yield from ((Line(words), ("malloc", "output")) for words in IN_MEMORY)
+    yield from ((Line(words, given=given), ("malloc", "input", "output")) for words, given in READING)
+    yield from ((Line(words, before=small, right=small), ("output", *ON_FILES)) for words in OVER_FILES)
+    yield Line("ask tactix-2 --folder @", before=small, right=small, given=b"xxxx\n"), ("input", "output", *ON_FILES)
+    yield Line("play tactix-2 --folder @", before=small, right=small, given=b"quit\n"), ("input", "output", *ON_FILES)
+    for line in (
+        Line("query tactix-2 xxxx --folder @", right=small),
+        Line("solve tactix-2 @", right=small),
+        Line("solve tactix-2 @", before=small, right=small),
+        Line("solve tactix-2 @", before=without(small, "tier-3.gmt") | left, right=small),
+        Line("solve tactix-2 @", before=old, right=small),
+        Line("check tactix-2 @", before=small, right=small),
+        Line("check tactix-2 @", before=without(small, "tier-2.gmt"), right=small),
+    ):
+        yield line, ("malloc", "output", *ON_FILES)
+    yield Line("solve hare @", right=hare), ("rename",)
+    # A game whose tiers are settled, and one that is solved level by level.
+    for game in ("tactix-4", "dao"):
+        yield Line(f"solve {game} @", right=right_files(room, game)), ("thread",)
+
+
+def program(room, options):
+    """Each allocation, thread, read, write, output and call about files of lines of every command."""
+    lines = list(lines_of_the_program(room))
     work = [
-        (line, "malloc", on)
-        for on in ((False, True) if options.all else (False,))
-        for line in (
-            Line(["query", "countdown", "10"]),
-            Line(["query", "wheel", "3"]),
-            Line(["solve", "tactix-2", "@"], right=small),
-            checked,
-            Line(["analyse", "countdown"]),
-            Line(["play", "countdown", "--second"]),
-        )
-    ]
-    work += [
         (line, kind, on)
-        for kind in ("thread", "read", "write", "output", "sync", "rename")
-        for on in (False, True)
-        for line in (
-            Line(["solve", "tactix-2", "@"], right=small),
-            Line(["solve", "tactix-2", "@"], before=without(small, "tier-3.gmt"), right=small),
-            Line(["solve", "tactix-2", "@"], before=old, right=small),
-            Line(["solve", "hare", "@"], right=hare),
-            checked,
-            Line(["check", "tactix-2", "@"], before=without(small, "tier-2.gmt"), right=small),
-        )
+        for line, kinds in lines
+        for kind in kinds
+        for on in ((False,) if kind == "malloc" and not options.all else (False, True))
     ]
-    work += [(Line(["play", "countdown"], given=b"1\n2\n1\n"), kind, on) for kind in ("read", "output") for on in (False, True)]
     figures = Figures("program")
-    whole = [["list"], ["solve", "tactix-2", "@"], ["query", "wheel", "3"], ["moves", "wheel"], ["line", "wheel"], ["analyse", "tactix-2"]]
-    whole += [["query", "wheel", "x"], ["query", "chess", "1"], ["query"], ["check", "tactix-2", "@"]]
-    whole += [["show", "wheel"], ["find", "wheel", "--value", "win"], ["counts", "wheel"], ["moves", "wheel", "--json"]]
-    said = [Line(["play", "countdown"], given=b"1\n2\n1\n"), Line(["play", "wheel", "--show"], given=b"1\nquit\n"), Line(["ask", "countdown"], given=b"3\nx\n")]
-    done = [torn_lines(room, line) for line in [checked, *said, *(Line(words) for words in whole)]]
+    done = [torn_lines(room, line) for line, _ in lines]
     for each in done + room.in_lanes(lambda it: refuse_in_line(room, *it), work):
         figures.runs += each.runs
         figures.refused += each.refused

@@ -1,4 +1,4 @@
-"""Folders in which a file is damaged, cut short or half written, or of version 1: `solve` puts the right file in its place."""
+"""Folders in which a file is damaged, cut short or half written, or of version 1: `check` says why, and `solve` puts the right file in its place."""
 import os
 
 from common import GAMESMAN, as_version_1, digested
@@ -78,7 +78,49 @@ def one_tier_of_five_is_solved_anew(room):
     return same(new, folder) if right else str(ran)
 
 
+def fresh(text):
+    """A file with its digest made anew."""
+    return digested(text[:-32])
+
+
+def changed(at, bytes_):
+    """The right file with other bytes at a place, and a fresh digest."""
+    return fresh(RIGHT[:at] + bytes_ + RIGHT[at + len(bytes_) :])
+
+
+# Each word of `check` on a file that is there (docs/PROGRAM.md), with files of Countdown from 10 that earn it.
+WORDS = (
+    ("truncated", (b"", RIGHT[:39], RIGHT[:40], RIGHT[:115])),
+    ("old version", (OLD, OLD[:40])),
+    ("bad magic", (b"X" + RIGHT[1:], changed(0, b"GMTIER03"), changed(0, b"GMTIER00"))),
+    ("wrong game", (changed(8, b"countdowm"), changed(8, b"wheel".ljust(16, b"\0")))),
+    ("wrong tier", (changed(24, b"\1"),)),
+    ("wrong size", (changed(32, b"\x0c"), changed(32, b"\x0a"))),
+    ("bad record 0", (changed(40, bytes.fromhex("03002000")), changed(40, bytes.fromhex("01000000")))),
+    ("bad record 10", (changed(80, bytes.fromhex("00005000")),)),
+    ("trailing bytes", (RIGHT + b"\0", digested(RIGHT))),
+    ("bad digest", (RIGHT[:-1] + bytes([RIGHT[-1] ^ 1]), RIGHT[:80] + b"\x08" + RIGHT[81:])),
+    ("wrong record 0", (changed(40, bytes.fromhex("01001000")), changed(40, bytes(4)))),
+    ("wrong record 10", (file_of(LONGER_WIN), changed(80, bytes.fromhex("00002000")))),
+)
+
+
+def every_word_of_check(room):
+    """What `check` says of each file that is bad, and that it leaves the file as it is."""
+    for word, texts in WORDS:
+        for text in texts:
+            folder = room.fresh()
+            put(f"{folder}/tier-0.gmt", text)
+            ran = room.run([GAMESMAN, "check", "countdown", folder])
+            if (ran.status, ran.out, ran.err) != (1, f"tier 0 bad: {word}\n".encode(), b""):
+                return f"{word}: {ran}"
+            if os.listdir(folder) != ["tier-0.gmt"] or content(f"{folder}/tier-0.gmt") != text:
+                return f"{word}: the file is another one after the check"
+    return None
+
+
 MENDED = (
+    every_word_of_check,
     a_folder_is_built_reused_and_mended,
     a_file_cut_to_any_length_is_mended,
     a_half_written_file_is_no_file,

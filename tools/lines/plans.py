@@ -1,10 +1,10 @@
-"""Whole games by every plan: the same files, byte for byte, and the same deliveries."""
+"""Whole games by the program's own plan and by workers under nine plans: the same files, byte for byte, and the same deliveries."""
 import json
 import os
 import re
 import subprocess
 
-from common import GAMESMAN
+from common import DRILL, GAMESMAN
 from lines import same
 
 SECONDS = 120
@@ -13,25 +13,29 @@ WORKERS = (1, 2, 16)
 SHARDS = (1, 2, 4)
 
 
-def solved(game, folder, *words):
-    """The deliveries of a game that was solved into an empty folder, none of them by hand."""
-    ran = subprocess.run([GAMESMAN, "solve", game, folder, *words], capture_output=True, text=True, timeout=SECONDS, check=False)
+def deliveries_of(folder, *words):
+    """The deliveries of a game that a line solves into an empty folder, none of them by hand."""
+    ran = subprocess.run(words, capture_output=True, text=True, timeout=SECONDS, check=False)
     found = re.fullmatch(r"solved (\d+) reused 0 migrated 0 deliveries (\d+) by hand 0\n", ran.stdout)
     if ran.returncode or not found or int(found[1]) != len(os.listdir(folder)):
-        raise ValueError(f"{game} {' '.join(words)}: status {ran.returncode}: {ran.stdout}{ran.stderr}")
+        raise ValueError(f"{' '.join(words)}: status {ran.returncode}: {ran.stdout}{ran.stderr}")
     return int(found[2])
 
 
+def solved(game, folder, *words):
+    return deliveries_of(folder, GAMESMAN, "solve", game, folder, *words)
+
+
 def under_nine_plans(room, games):
-    """Why a game's files or deliveries depend on the plan, if they do."""
+    """Why a game's files or deliveries depend on who solves it, if they do: the program's own plan, or workers in every tier."""
     for game in games:
         right = room.fresh()
         deliveries = solved(game, right)
         for workers in WORKERS:
             for shards in SHARDS:
                 folder = room.fresh()
-                plan = ["--workers", str(workers), "--shards", str(shards), "--piece", "64"]
-                if solved(game, folder, *plan) != deliveries:
+                plan = [str(workers), str(shards), "64"]
+                if deliveries_of(folder, DRILL, "workers", game, folder, *plan) != deliveries:
                     return f"{game} {plan}: other deliveries"
                 why = same(right, folder)
                 if why:
@@ -39,20 +43,27 @@ def under_nine_plans(room, games):
     return None
 
 
-def toys_of_the_program_under_nine_plans(room):
-    return under_nine_plans(room, ("countdown", "wheel"))
+def by_each_number_of_threads(room):
+    """The program's own plan by one thread and by sixteen, over games whose tiers are settled, solved by one walker, or both."""
+    for game in ("countdown", "wheel", "tactix-1", "tactix-4-misere", "threemens", "mutorere", "hare"):
+        right = room.fresh()
+        deliveries = solved(game, right)
+        for workers in "1", "16":
+            folder = room.fresh()
+            if solved(game, folder, "--workers", workers) != deliveries:
+                return f"{game} by {workers}: other deliveries"
+            why = same(right, folder)
+            if why:
+                return f"{game} by {workers}: {why}"
+    return None
+
+
+def wheel_under_nine_plans(room):
+    return under_nine_plans(room, ["wheel"])
 
 
 def tactix_under_nine_plans(room):
-    return under_nine_plans(room, [f"tactix-{side}{rule}" for side in (1, 2, 3) for rule in ("", "-misere")])
-
-
-def tactix_of_four_under_nine_plans(room):
-    return under_nine_plans(room, ("tactix-4",))
-
-
-def misere_tactix_of_four_under_nine_plans(room):
-    return under_nine_plans(room, ("tactix-4-misere",))
+    return under_nine_plans(room, ("tactix-3-misere", "tactix-4"))
 
 
 def nine_point_games_under_nine_plans(room):
@@ -81,10 +92,9 @@ def file_of_dao(room):
 
 
 PLANS = (
-    toys_of_the_program_under_nine_plans,
+    by_each_number_of_threads,
+    wheel_under_nine_plans,
     tactix_under_nine_plans,
-    tactix_of_four_under_nine_plans,
-    misere_tactix_of_four_under_nine_plans,
     nine_point_games_under_nine_plans,
     tictactoe_table,
     file_of_dao,

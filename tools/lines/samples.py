@@ -2,11 +2,15 @@
 import os
 import re
 import subprocess
+import sys
 
 from common import GAMESMAN, ROOT, SECONDS
 
 # What takes long: tools/measure --large runs it.
 LONG = "tactix-5"
+
+# A comment that is what the program writes.
+WRITTEN = r"solved \d.*|(win|lose|tie) in \d+|draw|tier \d+ .*"
 
 
 def blocks(page):
@@ -15,13 +19,27 @@ def blocks(page):
         return re.findall(r"(?ms)^```(\w*)\n(.*?)^```$", it.read())
 
 
+def run_line(line, folder):
+    """Runs a line of the shell in a folder, which is its user's home too. Its program is the built one."""
+    env = {"PATH": f"{os.path.dirname(GAMESMAN)}:{os.path.dirname(sys.executable)}:/usr/bin:/bin", "LANG": "C.UTF-8", "HOME": folder}
+    return subprocess.run(["bash", "-c", line], cwd=folder, env=env, capture_output=True, stdin=subprocess.DEVNULL, timeout=SECONDS, check=False)
+
+
 def told(line, folder):
-    """What a line of the shell writes: its lines, or why it failed. Its program is the built one."""
-    env = {"PATH": f"{os.path.dirname(GAMESMAN)}:/usr/bin:/bin", "LANG": "C.UTF-8"}
-    ran = subprocess.run(["bash", "-c", line], cwd=folder, env=env, capture_output=True, stdin=subprocess.DEVNULL, timeout=SECONDS, check=False)
+    """What a line of the shell writes: its lines, or why it failed."""
+    ran = run_line(line, folder)
     if ran.returncode or ran.stderr:
         return [], f"'{line}': status {ran.returncode}, {ran.stderr!r}"
     return ran.stdout.decode().splitlines(), None
+
+
+def wrong_typed(line, folder):
+    """Why a line that says what a user types fails, or writes something else than its comment, where that is what the program writes."""
+    written, why = told(line, folder)
+    comment = re.search(r"\s# (.*)$", line)
+    if why or not comment or not re.fullmatch(WRITTEN, comment[1]) or written == [comment[1]]:
+        return why
+    return f"'{line}' writes {written!r}"
 
 
 def plain(line):
@@ -60,7 +78,7 @@ def wrong_of(page, room):
         lines = [it for it in block.splitlines() if it.startswith("$ ")]
         typed = [it for it in block.splitlines() if language == "sh" and re.match(r"mkdir|gamesman", it)]
         folder = room.fresh()
-        whys = [wrong_in(block, folder)] if lines else [told(it, folder)[1] for it in typed if not it.startswith("gamesman play ")]
+        whys = [wrong_in(block, folder)] if lines else [wrong_typed(it, folder) for it in typed]
         found += len(lines) + len(typed)
         for why in whys:
             if why:

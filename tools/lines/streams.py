@@ -8,23 +8,37 @@ SESSION = [GAMESMAN, "play", "countdown", "--second"]
 INPUT = b"3\nquit\n"
 OUTPUT = b"10 win in 7\ncomputer: 1\n9 lose in 6\nyour move?\nnot a move\nyour move?\nbye\n"
 
+# The person first, who wins (docs/PROGRAM.md, "A session").
+FROM_FOUR = [GAMESMAN, "play", "countdown", "--from", "4"]
+WINNING = b"1\n2\n"
+WON = b"4 win in 3\nyour move?\n3 lose in 2\ncomputer: 1\n2 win in 1\nyour move?\n0 lose in 0\nover: you win\n"
 
-def fails(room, kind, count, told):
+
+def fails(room, words, given, output, kind, told):
     """Why a session by one byte a call, of which each in turn fails, ends otherwise than it must, if it does."""
+    count = len(given if kind == "input" else output)
     for at in range(1, count + 1):
-        ran = room.run(SESSION, kind=kind, at=at, short=True, given=INPUT)
-        if (ran.status, ran.err) != (1, told) or not OUTPUT.startswith(ran.out):
+        ran = room.run(words, kind=kind, at=at, short=True, given=given)
+        if (ran.status, ran.err) != (1, told) or not output.startswith(ran.out):
             return f"{kind} {at}: {ran}"
-    whole = room.run(SESSION, kind=kind, at=count + 1, short=True, given=INPUT)
-    return None if (whole.status, whole.out, whole.err) == (0, OUTPUT, b"") else f"{kind} {count + 1}: {whole}"
+    whole = room.run(words, kind=kind, at=count + 1, short=True, given=given)
+    return None if (whole.status, whole.out, whole.err) == (0, output, b"") else f"{kind} {count + 1}: {whole}"
 
 
 def a_reader_that_fails(room):
-    return fails(room, "read", len(INPUT), b"gamesman: input failed\n")
+    return fails(room, SESSION, INPUT, OUTPUT, "input", b"gamesman: input failed\n")
 
 
 def a_writer_that_fails(room):
-    return fails(room, "output", len(OUTPUT), b"gamesman: output failed\n")
+    return fails(room, SESSION, INPUT, OUTPUT, "output", b"gamesman: output failed\n")
+
+
+def a_reader_that_fails_the_first_player(room):
+    return fails(room, FROM_FOUR, WINNING, WON, "input", b"gamesman: input failed\n")
+
+
+def a_writer_that_fails_the_first_player(room):
+    return fails(room, FROM_FOUR, WINNING, WON, "output", b"gamesman: output failed\n")
 
 
 def what_follows_the_last_line(room):
@@ -49,4 +63,11 @@ def progress_that_nobody_reads(room):
     return None if right else f"{ran}, {ran.calls} writes of errors"
 
 
-STREAMS = (a_reader_that_fails, a_writer_that_fails, what_follows_the_last_line, progress_that_nobody_reads)
+STREAMS = (
+    a_reader_that_fails,
+    a_writer_that_fails,
+    a_reader_that_fails_the_first_player,
+    a_writer_that_fails_the_first_player,
+    what_follows_the_last_line,
+    progress_that_nobody_reads,
+)

@@ -84,7 +84,7 @@ fn right_table<G: Game, R: Files>(
     }
     let text = folder.read(rt, alloc, tier);
     let table = match &text {
-        Ok(Some(text)) => table_of(alloc, tables, tier, false, text.as_slice()).ok(),
+        Ok(Some(text)) => table_of(alloc, tables, tier, text.as_slice()).ok(),
         _ => None,
     };
     drop(text);

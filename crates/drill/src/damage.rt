@@ -33,7 +33,7 @@ fn judged_line<G: Game>(alloc: Global, tables: &Tables<G>, line: &str) -> char {
         return UNREAD;
     };
     match (tier.parse::<u64>(), hex::decode(alloc, digits)) {
-        (Ok(tier), Ok(file)) => judged(alloc, tables, tier, false, file.as_slice()),
+        (Ok(tier), Ok(file)) => judged(alloc, tables, tier, file.as_slice()),
         _ => UNREAD,
     }
 }

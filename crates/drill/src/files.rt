@@ -12,8 +12,10 @@ use gm_tierdb::decode::{decode, decode_v1};
 use gm_tierdb::file_error::FileError;
 use std::alloc::Global;
 
-/// The judgement on a file: it has the true table of its tier, it has not, or nothing can be said of its tier.
+/// The judgement on a file: it has the true table of its tier, in the present version or in version 1, it has not, or nothing can be said of its tier.
 pub const ACCEPTED: char = '+';
+
+pub const ACCEPTED_OLD: char = '1';
 
 pub const REFUSED: char = '-';
 
@@ -38,22 +40,16 @@ fn checked<G: Game>(
     }
 }
 
-/// The true table of a tier, by its file of version 1 or of the present one, or the judgement on the file.
-pub fn table_of<G: Game>(
+// The table of what a file of a tier was decoded to, or the judgement on it.
+fn table_from<G: Game>(
     alloc: Global,
     tables: &Tables<G>,
     tier: u64,
-    is_old: bool,
-    file: &[u8],
-) -> Result<Table<G>, char> {
-    if !tables.has_children(tier) || G::tier_size(tier) > TIER_SIZE {
-        return Err(UNREAD);
-    }
-    let decoded = if is_old {
-        decode_v1::<G>(alloc, tier, file)
-    } else {
-        decode::<G>(alloc, tier, file)
-    };
+    decoded: Result<Vec<Option<Solved>>, FileError>,
+) -> Result<Table<G>, char>
+    requires held { AreHeld G.rules tables.now tier }
+    requires small { G.rules.tier_size tier ≤ TIER_SIZE }
+{
     let table = match &decoded {
         Ok(records) => checked(alloc, tables, tier, records.as_slice()),
         Err(FileError::OutOfMemory) => Err(OUT_OF_MEMORY),
@@ -63,16 +59,40 @@ pub fn table_of<G: Game>(
     table
 }
 
-/// The judgement on the file of a tier.
-pub fn judged<G: Game>(
+/// The true table of a tier, by its file of the present version, or the judgement on the file.
+pub fn table_of<G: Game>(
     alloc: Global,
     tables: &Tables<G>,
     tier: u64,
-    is_old: bool,
     file: &[u8],
-) -> char {
-    match table_of(alloc, tables, tier, is_old, file) {
+) -> Result<Table<G>, char> {
+    if !tables.has_children(tier) || G::tier_size(tier) > TIER_SIZE {
+        return Err(UNREAD);
+    }
+    table_from(alloc, tables, tier, decode::<G>(alloc, tier, file))
+}
+
+// The same by its file of version 1.
+fn old_table_of<G: Game>(
+    alloc: Global,
+    tables: &Tables<G>,
+    tier: u64,
+    file: &[u8],
+) -> Result<Table<G>, char> {
+    if !tables.has_children(tier) || G::tier_size(tier) > TIER_SIZE {
+        return Err(UNREAD);
+    }
+    table_from(alloc, tables, tier, decode_v1::<G>(alloc, tier, file))
+}
+
+/// The judgement on the file of a tier: each version is tried, whatever the file begins with.
+pub fn judged<G: Game>(alloc: Global, tables: &Tables<G>, tier: u64, file: &[u8]) -> char {
+    match table_of(alloc, tables, tier, file) {
         Ok(_) => ACCEPTED,
+        Err(REFUSED) => match old_table_of(alloc, tables, tier, file) {
+            Ok(_) => ACCEPTED_OLD,
+            Err(sign) => sign,
+        },
         Err(sign) => sign,
     }
 }

@@ -1,12 +1,16 @@
 //! Drills: each word makes one call that may want memory and says what it answered and what it left, for tools/hostile, which refuses its allocations one after
-//! another. For tools/lines, `ahead` compares a solved game with looking ahead, and `dao` solves Dao in a way and says what its file ends with.
+//! another. For tools/lines, `ahead` compares a solved game with looking ahead, `workers` builds a game by workers, and `dao` solves Dao in a way and says what
+//! its file ends with.
 #![tactic(auto)]
+
+ghost use Rattle.std.specs.Prelude.{◌<◌};
 
 mod ahead;
 mod damage;
 mod files;
 mod levels;
 mod marks;
+mod plans;
 mod said;
 mod solving;
 mod stores;
@@ -15,6 +19,7 @@ mod words;
 
 use crate::ahead::look_ahead;
 use crate::damage::damage;
+use crate::plans::build_by_workers;
 use crate::solving::Way;
 use crate::stores::Place;
 use crate::words::named;
@@ -154,20 +159,44 @@ fn compare<R: Print + Files>(rt: &R, alloc: Global, words: &[String]) -> bool {
     }
 }
 
+// The plan of three words from this one on, where they are numbers within the limits.
+fn plan_of(words: &[String], first: usize) -> Option<Plan>
+    requires { first < 100 }
+{
+    let workers = word(words, first).parse::<usize>().ok()?;
+    let shards = word(words, first + 1).parse::<usize>().ok()?;
+    let piece = word(words, first + 2).parse::<usize>().ok()?;
+    Plan::new(workers, shards, piece)
+}
+
+// Builds a game by a line of its name, a folder and the three numbers of a plan: whether it could be done.
+fn build_planned<R: Print + Threads + Wait + Files + Sync>(
+    rt: &R,
+    alloc: Global,
+    words: &[String],
+) -> bool {
+    match plan_of(words, 4) {
+        Some(plan) => build_by_workers(rt, alloc, word(words, 2), word(words, 3), plan),
+        None => false,
+    }
+}
+
 // What a line does that makes no such call.
 #[derive(Clone, Copy)]
 enum Line {
     List,
     Ahead,
     Dao,
+    Workers,
     DamageCountdown,
     DamageTacTix,
 }
 
-const LINES: [(&str, Line); 5] = [
+const LINES: [(&str, Line); 6] = [
     ("list", Line::List),
     ("ahead", Line::Ahead),
     ("dao", Line::Dao),
+    ("workers", Line::Workers),
     ("damage-countdown", Line::DamageCountdown),
     ("damage-tactix-2", Line::DamageTacTix),
 ];
@@ -184,6 +213,7 @@ fn run<R: Print + Threads + Wait + Files + Sync, I: io::Read + Drop>(
         Some(Line::List) => list(rt),
         Some(Line::Ahead) => compare(rt, alloc, words),
         Some(Line::Dao) => solving::solve_and_say::<Dao, R>(rt, alloc, word(words, 2)),
+        Some(Line::Workers) => build_planned(rt, alloc, words),
         Some(Line::DamageCountdown) => damage::<Countdown<10>, R, I>(rt, alloc, input),
         Some(Line::DamageTacTix) => damage::<TacTix<2, false>, R, I>(rt, alloc, input),
         None => drill(rt, alloc, first),

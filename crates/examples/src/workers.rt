@@ -50,6 +50,9 @@ impl Tachometer {
 }
 
 impl Gate for Tachometer {
+    // It only counts, so a worker may deliver many pairs at a time.
+    const EACH: bool = false;
+
     fn before<R: Wait>(&self, _rt: &R, _worker: usize, _place: Place) {}
 
     fn after<R: Wait>(&self, _rt: &R, _worker: usize, _place: Place) {

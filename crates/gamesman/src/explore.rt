@@ -7,7 +7,8 @@ use crate::run::DONE;
 use crate::tables::Place;
 use gm_best::play_error::PlayError;
 use gm_command::requests::{PositionAsked, Question};
-use gm_draw::drawn::Drawn;
+use gm_draw::diagram::diagram_text;
+use gm_draw::pictured::Pictured;
 use gm_draw::show::show_text;
 use gm_game::game::laws;
 use gm_game::position::Position;
@@ -25,7 +26,7 @@ use std::time::Clock;
 
 /// Answers a question about a position.
 pub fn explore<
-    G: Drawn + Send + Sync,
+    G: Pictured + Send + Sync,
     R: Threads + Wait + Clock + Files + Sync + AllocGlobal,
     O: Write,
     E: Write + Send,
@@ -45,7 +46,7 @@ pub fn explore<
 }
 
 // Writes what is asked about the position with this text.
-fn write_answer<G: Drawn, O: Write>(
+fn write_answer<G: Pictured, O: Write>(
     alloc: Global,
     tables: &Tables<G>,
     position: &[u8],
@@ -89,7 +90,7 @@ fn read_position<G: Shown>(text: &str) -> Result<Position, Fault>
     }
 }
 
-fn text_for<G: Drawn>(
+fn text_for<G: Pictured>(
     alloc: Global,
     tables: &Tables<G>,
     position: &[u8],
@@ -104,6 +105,7 @@ fn text_for<G: Drawn>(
         Question::Line { limit, json: true } => line_json(alloc, tables, position, limit),
         Question::Line { limit, .. } => line_text(alloc, tables, position, limit),
         Question::Show { explained } => show_text(alloc, tables, position, explained),
+        Question::Diagram { valued } => diagram_text(alloc, tables, position, valued),
     }
 }
 

@@ -11,10 +11,12 @@ use crate::solve::solve;
 use crate::tables::Place;
 use gm_command::requests::{GameAsked, Kept};
 pub use gm_dao::dao::Dao;
-use gm_draw::drawn::Drawn;
+use gm_draw::pictured::Pictured;
 pub use gm_hare::hare::Hare;
 pub use gm_morris::games::{Achi, ThreeMens, TicTacToe};
 pub use gm_mutorere::mutorere::MuTorere;
+pub use gm_pong::pong::Pong;
+pub use gm_shisima::shisima::Shisima;
 use gm_solver::plan::Plan;
 pub use gm_tactix::tactix::TacTix;
 pub use gm_toys::countdown::Countdown;
@@ -37,7 +39,7 @@ pub struct Streams<'a, I, O, E> {
 fn place<'a, E>(kept: Kept<'a>, errors: &'a mut E) -> Place<'a, E> {
     Place {
         kept,
-        plan: Plan::new(4, 4, 512).unwrap(),
+        plan: Plan::fastest(4, 4, 64).unwrap(),
         errors,
         progress: false,
     }
@@ -45,7 +47,7 @@ fn place<'a, E>(kept: Kept<'a>, errors: &'a mut E) -> Place<'a, E> {
 
 // Answers what is asked of a game.
 fn answer<
-    G: Drawn + Send + Sync,
+    G: Pictured + Send + Sync,
     R: Threads + Wait + Clock + Files + Sync + AllocGlobal,
     I: Read,
     O: Write,
@@ -111,7 +113,7 @@ fn answer_tactix<
     }
 }
 
-// Answers what is asked of Mu Torere, Dao, or Hare and Hounds, or of Tac Tix.
+// Answers what is asked of Mu Torere, Dao, Hare and Hounds, Pong Hau K'i, or Shisima, or of Tac Tix.
 fn answer_moving<
     R: Threads + Wait + Clock + Files + Sync + AllocGlobal,
     I: Read,
@@ -122,6 +124,8 @@ fn answer_moving<
         "mutorere" => answer::<MuTorere, R, I, O, E>(rt, asked, streams),
         "dao" => answer::<Dao, R, I, O, E>(rt, asked, streams),
         "hare" => answer::<Hare, R, I, O, E>(rt, asked, streams),
+        "ponghauki" => answer::<Pong, R, I, O, E>(rt, asked, streams),
+        "shisima" => answer::<Shisima, R, I, O, E>(rt, asked, streams),
         _ => answer_tactix(rt, game, asked, streams),
     }
 }

@@ -5,7 +5,7 @@ use crate::fault::Fault;
 use crate::games::{Streams, answer_for};
 use gm_build::whole_line::{FaultLine, write_line};
 use gm_command::asked::{Help, Unread, read_words, what_is_wrong};
-use gm_command::names::NAMES;
+use gm_command::names::{LATER_NAMES, NAMES};
 use gm_command::pages::{Page, page_text};
 use gm_command::requests::{Asked, Reading};
 use std::alloc::{AllocError, Global};
@@ -24,9 +24,14 @@ pub const REFUSED: u8 = 1;
 /// The status of a line that the program doesn't know.
 pub const BAD_LINE: u8 = 2;
 
-fn list<O: Write>(output: &mut O) -> Result<u8, Fault> {
+fn list<O: Write>(all: bool, output: &mut O) -> Result<u8, Fault> {
     for name in &NAMES {
         write_line(output, name)?;
+    }
+    if all {
+        for name in &LATER_NAMES {
+            write_line(output, name)?;
+        }
     }
     Ok(DONE)
 }
@@ -50,7 +55,7 @@ fn answer<
     E: Write + Send,
 >(rt: &R, asked: Asked<'_>, streams: Streams<'_, I, O, E>) -> Result<u8, Fault> {
     match asked {
-        Asked::List => list(streams.output),
+        Asked::List { all } => list(all, streams.output),
         Asked::Of { game, asked } => answer_for(rt, game, asked, streams),
         Asked::Page(page) => write_page(rt.alloc(), page, streams.output),
     }

@@ -17,23 +17,23 @@ pub record IsCounted (mask rest count sum : ℕ) : Type 0 where
   pub is_count : count ≡ members (tests_of next mask)
   pub is_sum : sum ≡ rank (tests_of next mask)
 
--- the lowest sixteen cells are counted together
-pub counted_low : (mask : ℕ) → IsCounted mask (mask - mask % 2 ^ 16) (count_ones (mask % 2 ^ 16)) (mask_rank (mask % 2 ^ 16))
+-- the lowest 25 cells are counted together
+pub counted_low : (mask : ℕ) → IsCounted mask (mask - mask % 2 ^ 25) (count_ones (mask % 2 ^ 25)) (mask_rank (mask % 2 ^ 25))
 counted_low mask =
-    let low = mask % 2 ^ 16 in
-    let high = mask / 2 ^ 16 in
-    let below : low < 2 ^ 16 = mod_below mask (2 ^ 16) (omega arith) in
-    let whole : mask ≡ high * 2 ^ 16 + low = omega (arith, shr_split mask 16) in
-    let rest : mask - low ≡ high * 2 ^ 16 + 0 = omega (arith, whole) in
+    let low = mask % 2 ^ 25 in
+    let high = mask / 2 ^ 25 in
+    let below : low < 2 ^ 25 = mod_below mask (2 ^ 25) (omega arith) in
+    let whole : mask ≡ high * 2 ^ 25 + low = omega (arith, shr_split mask 25) in
+    let rest : mask - low ≡ high * 2 ^ 25 + 0 = omega (arith, whole) in
     record {
-      next = 16;
+      next = 25;
       within = omega arith;
       is_rest = record {
-        none = λ i l. ap (λ (v : ℕ). bit_at v i) rest ∙ bit_at_cat_low high 16 0 i l ∙ bit_at-zero i;
-        same = λ i l. ap (λ (v : ℕ). bit_at v i) rest ∙ bit_at_cat_high high 16 0 i (omega arith) l ∙ sym (ap (λ (v : ℕ). bit_at v i) whole ∙ bit_at_cat_high high 16 low i below l);
+        none = λ i l. ap (λ (v : ℕ). bit_at v i) rest ∙ bit_at_cat_low high 25 0 i l ∙ bit_at-zero i;
+        same = λ i l. ap (λ (v : ℕ). bit_at v i) rest ∙ bit_at_cat_high high 25 0 i (omega arith) l ∙ sym (ap (λ (v : ℕ). bit_at v i) whole ∙ bit_at_cat_high high 25 low i below l);
       };
-      is_count = sym (members_ones 16 mask);
-      is_sum = mask_rank_at 16 low (omega arith) below ∙ ap rank (tests_same 16 low mask (λ i l. sym (ap (λ (v : ℕ). bit_at v i) whole ∙ bit_at_cat_low high 16 low i l)));
+      is_count = sym (members_ones 25 mask);
+      is_sum = mask_rank_at 25 low (omega arith) below ∙ ap rank (tests_same 25 low mask (λ i l. sym (ap (λ (v : ℕ). bit_at v i) whole ∙ bit_at_cat_low high 25 low i l)));
     }
 
 -- bounds on what is counted

@@ -8,7 +8,7 @@ use Rattle.gm_tiers.specs.declared.tier_error.TierError.TheVariants.{OutOfMemory
 use Rattle.gm_tiers.specs.Reach.{IsReachedFrom}
 use Rattle.gm_tiers.specs.Limits.{HasTooMany, AreMoreThan, IsTooLarge}
 use Rattle.gm_tierdb.specs.StoreTexts.{Texts}
-use Rattle.gm_solver.specs.Solving.{IsTooFar}
+use Rattle.gm_table.specs.Solving.{IsTooFar}
 use Rattle.gm_build.specs.declared.build_error.BuildError.{BuildError}
 use Rattle.gm_build.specs.declared.build_error.BuildError.TheVariants.{OutOfMemory, TooFar, StoreFailed, TooManyTiers, TierTooLarge}
 use Rattle.gm_build.specs.Outcomes.{of_tier_error, failures_in, IsTierError, IsBuildError, StopsAt, IsStopped}

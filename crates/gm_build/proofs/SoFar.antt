@@ -7,7 +7,7 @@ use Rattle.gm_game.specs.Laws.{IsGame}
 use Rattle.gm_game.proofs.Lists.{contains_none}
 use Rattle.gm_table.specs.Tables.{TableData}
 use Rattle.gm_tierdb.specs.StoreTexts.{Texts, AreSameBut}
-use Rattle.gm_solver.specs.Solving.{AreDeliveries}
+use Rattle.gm_table.specs.Solving.{AreDeliveries}
 use Rattle.gm_entry.specs.TrueTexts.{HasText, HasOldText, HaveTexts, KeepsOthers}
 use Rattle.gm_build.specs.Work.{IsWorkOn, IsSomeWork, HoldsExactly, HoldsToo}
 use Rattle.gm_build.proofs.StoreLemmas.{text_as_before, old_as_before, texts_more, others_more, holds_more}

@@ -12,7 +12,7 @@ use Rattle.gm_game.specs.Numbers.{AreThere}
 use Rattle.gm_game.proofs.Lists.{contains_none, contains_first, contains_cases, map_from, map_in}
 use Rattle.gm_frontier.proofs.Distinct.{no_repeats_from, no_repeats_to, no_repeats_append, no_repeats_map}
 use Rattle.gm_frontier.proofs.CountLemmas.{pairs_few}
-use Rattle.gm_solver.specs.Solving.{IsDelivery, AreDeliveries}
+use Rattle.gm_table.specs.Solving.{IsDelivery, AreDeliveries}
 use Rattle.gm_build.specs.Work.{IsSolvedTier, IsSolvedDelivery, IsWorkOn, IsSomeWork}
 
 -- things of one of two kinds that have nothing in common

@@ -8,7 +8,7 @@ use Rattle.gm_tiers.specs.Reach.{IsReachedFrom}
 use Rattle.gm_tiers.specs.Orders.{IsOrderFrom}
 use Rattle.gm_tiers.specs.Limits.{HasTooMany, AreMoreThan, IsTooLarge}
 use Rattle.gm_tierdb.specs.StoreTexts.{Texts, AreSame}
-use Rattle.gm_solver.specs.Solving.{IsTooFar}
+use Rattle.gm_table.specs.Solving.{IsTooFar}
 use Rattle.gm_build.specs.declared.build_error.BuildError.{BuildError}
 use Rattle.gm_build.specs.declared.build_error.BuildError.TheVariants.{OutOfMemory, TooFar, StoreFailed, TooManyTiers, TierTooLarge}
 use Rattle.gm_entry.specs.TrueTexts.{HasText, HaveTexts, KeepsOthers}

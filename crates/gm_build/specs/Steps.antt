@@ -2,7 +2,7 @@
 use Rattle.std.specs.Prelude.{ℕ, ◌≤◌}
 use Rattle.gm_game.specs.Rules.{Rules}
 use Rattle.gm_tierdb.specs.StoreTexts.{Texts}
-use Rattle.gm_solver.specs.Solving.{AreDeliveries}
+use Rattle.gm_table.specs.Solving.{AreDeliveries}
 use Rattle.gm_entry.specs.TrueTexts.{HasText, HasOldText}
 use Rattle.gm_build.specs.declared.tier.Step.{Step}
 use Rattle.gm_build.specs.declared.tier.Step.TheVariants.{Reused, Migrated, Solved}

@@ -5,7 +5,7 @@ use Rattle.gm_game.specs.declared.position.Position.{Position}
 use Rattle.gm_game.specs.Rules.{Rules}
 use Rattle.gm_game.specs.Numbers.{AreThere}
 use Rattle.gm_table.specs.Tables.{TableData, IsHeld}
-use Rattle.gm_solver.specs.Solving.{IsDelivery}
+use Rattle.gm_table.specs.Solving.{IsDelivery}
 
 -- a tier that is neither reused nor migrated is solved
 abbrev pub IsSolvedTier : (ℕ → Type 0) → (ℕ → Type 0) → ℕ → Type 0

@@ -5,6 +5,7 @@ ghost use Rattle.std.specs.Duration.{as_nanos};
 use crate::watch::Watch;
 use crate::whole_line::write_line;
 use gm_game::position::{Phase, Place};
+use gm_settle::meter::Meter;
 use gm_solver::gate::Gate;
 use gm_solver::source::{Counter, Source};
 use std::fmt;
@@ -24,6 +25,8 @@ const OFTEN: u64 = 4096;
 pub enum Stage {
     /// Its file is read and checked, where there is one.
     Check,
+    /// The values of its positions follow from the tables of its child tiers: so many of a hundred of its indexes are done.
+    Settle { share: u64 },
     /// Its positions are scanned.
     Scan,
     /// The pairs of a level are delivered.
@@ -34,6 +37,7 @@ impl fmt::Display for Stage {
     fn fmt<W: fmt::Write>(&self, f: &mut fmt::Formatter<W>) -> fmt::Result {
         match self {
             Stage::Check => f.write_str("check"),
+            Stage::Settle { share } => write!(f, "settle, {share} %"),
             Stage::Scan => f.write_str("scan"),
             Stage::Level {
                 phase: Phase::WinLose,
@@ -93,7 +97,7 @@ struct Lines<'a, E: Write> {
     closed: bool,
 }
 
-/// Writes lines on the progress of a build, as its watch, its gate and its source, or is quiet. No worker waits for another one that is writing.
+/// Writes lines on the progress of a build, as its watch, its meter, its gate and its source, or is quiet. No worker waits for another one that is writing.
 #[derive(Drop)]
 pub struct Progress<'a, C, E: Write> {
     clock: &'a C,
@@ -102,6 +106,8 @@ pub struct Progress<'a, C, E: Write> {
     tiers: AtomicUsize,
     tier: AtomicU64,
     number: AtomicU64,
+    size: AtomicU64,
+    settled: AtomicU64,
     delivered: AtomicU64,
     level_begins: AtomicBool,
     pieces: Counter,
@@ -131,6 +137,8 @@ impl<'a, C: Clock, E: Write> Progress<'a, C, E> {
             tiers: AtomicUsize::new(0),
             tier: AtomicU64::new(0),
             number: AtomicU64::new(0),
+            size: AtomicU64::new(0),
+            settled: AtomicU64::new(0),
             delivered: AtomicU64::new(0),
             level_begins: AtomicBool::new(false),
             pieces: Counter::new(),
@@ -173,7 +181,7 @@ impl<'a, C: Clock, E: Write> Progress<'a, C, E> {
     }
 }
 
-impl<C: Clock, E: Write> Watch for Progress<'_, C, E> {
+impl<C: Clock + Sync, E: Write + Send> Watch for Progress<'_, C, E> {
     fn begin<R: Wait>(&self, _rt: &R, tiers: usize) {
         self.tiers.store(tiers, Ordering::SeqCst);
     }
@@ -184,12 +192,31 @@ impl<C: Clock, E: Write> Watch for Progress<'_, C, E> {
         self.tell(Stage::Check);
     }
 
+    fn settle<R: Wait>(&self, _rt: &R, _tier: u64, size: u64) {
+        self.size.store(size, Ordering::SeqCst);
+        self.settled.store(0, Ordering::SeqCst);
+    }
+
     fn solve<R: Wait>(&self, _rt: &R, _tier: u64) {
         self.tell(Stage::Scan);
     }
 }
 
+impl<C: Clock + Sync, E: Write + Send> Meter for Progress<'_, C, E> {
+    fn settled(&self, indexes: u64) {
+        if self.quiet {
+            return;
+        }
+        let before = self.settled.fetch_add(indexes, Ordering::SeqCst);
+        let done = before.saturating_add(indexes).saturating_mul(100);
+        let size = self.size.load(Ordering::SeqCst).max(1);
+        self.tell(Stage::Settle { share: done / size });
+    }
+}
+
 impl<C: Clock + Sync, E: Write + Send> Gate for Progress<'_, C, E> {
+    const EACH: bool = false;
+
     fn before<R: Wait>(&self, _rt: &R, _worker: usize, place: Place) {
         if self.quiet {
             return;

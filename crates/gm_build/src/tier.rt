@@ -2,7 +2,7 @@
 ghost use Rattle.std.specs.Prelude.{◌≡◌, ◌+◌, ◌<◌, ◌≤◌, IsTrue, IfOk, OnOk, OnErr, IfErr};
 ghost use Rattle.gm_table.specs.Tables.{AreHeld};
 ghost use Rattle.gm_tierdb.specs.StoreTexts.{AreSameBut};
-ghost use Rattle.gm_solver.specs.Solving.{AreDeliveries};
+ghost use Rattle.gm_table.specs.Solving.{AreDeliveries};
 ghost use Rattle.gm_entry.specs.TrueTexts.{HasText};
 ghost use Rattle.gm_build.specs.Work.{HoldsToo};
 ghost use Rattle.gm_build.specs.Steps.{IsStep, IsStepWork};
@@ -14,6 +14,9 @@ use crate::watch::Watch;
 use gm_entry::found::Found;
 use gm_game::game::Game;
 use gm_game::limits::TIER_SIZE;
+use gm_settle::settle::settle_tier;
+use gm_settle::stop::Stop;
+use gm_solver::alone::{solve_alone, solve_by_one};
 use gm_solver::error::SolveError;
 use gm_solver::gate::Gate;
 use gm_solver::plan::Plan;
@@ -28,6 +31,12 @@ use std::alloc::Global;
 use std::fs::Files;
 use std::sync::Wait;
 use std::thread::Threads;
+
+/// A tier of at most this many indexes is solved by the calling thread alone: to start threads would take longer.
+const FEW: u64 = 16_384;
+
+/// A tier of more indexes than this is solved by workers: below it, one walker is as fast as four workers.
+const LARGE: u64 = 4_194_304;
 
 /// What was done with a tier.
 #[derive(Clone, Copy, Debug, PartialEq, Eq)]
@@ -83,16 +92,100 @@ pub(crate) fn build_tier<
             Ok(Step::Migrated)
         }
         Found::Nothing => {
-            watch.solve(rt, tier);
-            let (table, report) = solve(rt, alloc, tier, tables, plan, gate, source)?;
+            let (table, report) = solve(rt, alloc, tier, tables, plan, gate, source, watch)?;
             keep(rt, alloc, table, tables, store)?;
             Ok(Step::Solved(report))
         }
     }
 }
 
-// Solves a tier.
-fn solve<G: Game + Send + Sync, R: Threads + Wait + Files + Sync, T: Gate, P: Source>(
+// Solves a tier: by workers, or in the way that is fastest where the plan leaves that free.
+fn solve<G: Game + Send + Sync, R: Threads + Wait + Files + Sync, T: Gate, P: Source, H: Watch>(
+    rt: &R,
+    alloc: Global,
+    tier: u64,
+    tables: &Tables<G>,
+    plan: Plan,
+    gate: &T,
+    source: &P,
+    watch: &H,
+) -> Result<(Table<G>, Report), BuildError>
+    requires held { AreHeld G.rules tables.now tier }
+    requires small { G.rules.tier_size tier ≤ TIER_SIZE }
+    ensures tier { IfOk result (λ solved. solved.0.tier ≡ tier) }
+    ensures deliveries { IfOk result (λ solved. AreDeliveries G.rules tier solved.1.deliveries) }
+    ensures by_hand { IfOk result (λ solved. solved.1.by_hand ≤ solved.1.deliveries) }
+    ensures error { IfErr result (IsTierError G.rules tier) }
+    ensures count { failures_in result ≡ 0 }
+{
+    if !plan.is_fastest() {
+        watch.solve(rt, tier);
+        return solve_by_workers(rt, alloc, tier, tables, plan, gate, source);
+    }
+    watch.settle(rt, tier, G::tier_size(tier));
+    match settle_tier(rt, alloc, tier, tables, plan.workers(), watch) {
+        Ok((table, deliveries)) => Ok((table, by_none(deliveries))),
+        Err(Stop::Stays) => solve_levels(rt, alloc, tier, tables, plan, gate, source, watch),
+        Err(Stop::OutOfMemory) => Err(BuildError::OutOfMemory),
+        Err(Stop::TooFar) => Err(BuildError::TooFar { tier }),
+    }
+}
+
+// Solves a tier level by level: a large one by workers, any other by one walker.
+fn solve_levels<
+    G: Game + Send + Sync,
+    R: Threads + Wait + Files + Sync,
+    T: Gate,
+    P: Source,
+    H: Watch,
+>(
+    rt: &R,
+    alloc: Global,
+    tier: u64,
+    tables: &Tables<G>,
+    plan: Plan,
+    gate: &T,
+    source: &P,
+    watch: &H,
+) -> Result<(Table<G>, Report), BuildError>
+    requires held { AreHeld G.rules tables.now tier }
+    requires small { G.rules.tier_size tier ≤ TIER_SIZE }
+    ensures tier { IfOk result (λ solved. solved.0.tier ≡ tier) }
+    ensures deliveries { IfOk result (λ solved. AreDeliveries G.rules tier solved.1.deliveries) }
+    ensures by_hand { IfOk result (λ solved. solved.1.by_hand ≤ solved.1.deliveries) }
+    ensures error { IfErr result (IsTierError G.rules tier) }
+    ensures count { failures_in result ≡ 0 }
+{
+    watch.solve(rt, tier);
+    let size = G::tier_size(tier);
+    if plan.workers() > 1 && size > LARGE {
+        return solve_by_workers(rt, alloc, tier, tables, plan, gate, source);
+    }
+    let solved = if plan.workers() > 1 && size > FEW {
+        solve_by_one(rt, alloc, tier, tables, plan.workers())
+    } else {
+        solve_alone(alloc, tier, tables)
+    };
+    match solved {
+        Ok((table, deliveries)) => Ok((table, by_none(deliveries))),
+        Err(SolveError::OutOfMemory) => Err(BuildError::OutOfMemory),
+        Err(SolveError::TooFar { tier }) => Err(BuildError::TooFar { tier }),
+    }
+}
+
+// What a tier took that no workers solved.
+fn by_none(deliveries: u64) -> Report
+    ensures deliveries { result.deliveries ≡ deliveries }
+    ensures by_hand { result.by_hand ≡ 0 }
+{
+    Report {
+        deliveries,
+        by_hand: 0,
+    }
+}
+
+// Solves a tier by workers.
+fn solve_by_workers<G: Game + Send + Sync, R: Threads + Wait + Files + Sync, T: Gate, P: Source>(
     rt: &R,
     alloc: Global,
     tier: u64,

@@ -43,7 +43,7 @@ fn plan_of(matches: &ArgMatches<'_>) -> Option<Plan> {
     let workers = matches.get_one::<u32>("workers")?;
     let shards = matches.get_one::<u32>("shards")?;
     let piece = matches.get_one::<u32>("piece")?;
-    Plan::new(workers as usize, shards as usize, piece as usize)
+    Plan::fastest(workers as usize, shards as usize, piece as usize)
 }
 
 fn solve_of<'a>(inner: &ArgMatches<'a>) -> Option<GameAsked<'a>> {
@@ -112,7 +112,9 @@ fn game_asked_of<'a>(name: &str, inner: &ArgMatches<'a>) -> Option<GameAsked<'a>
 
 fn asked_of<'a>(matches: &ArgMatches<'a>) -> Option<Asked<'a>> {
     match matches.subcommand() {
-        Some(("list", _)) => Some(Asked::List),
+        Some(("list", inner)) => Some(Asked::List {
+            all: inner.get_flag("all"),
+        }),
         Some(("completions", inner)) => Some(Asked::Page(page_of(inner)?)),
         Some(("man", _)) => Some(Asked::Page(Page::Man)),
         Some((name, inner)) => Some(Asked::Of {

@@ -10,6 +10,20 @@ fn limit_of(inner: &ArgMatches<'_>) -> usize {
     }
 }
 
+// How a board is shown. The value can be left out of a diagram alone.
+fn show_of(inner: &ArgMatches<'_>) -> Option<Question> {
+    let valued = !inner.get_flag("no-value");
+    if inner.get_flag("svg") {
+        Some(Question::Diagram { valued })
+    } else if valued {
+        Some(Question::Show {
+            explained: inner.get_str("POSITION").is_none(),
+        })
+    } else {
+        None
+    }
+}
+
 /// Reads a line with one of these commands.
 pub fn explore_of<'a>(name: &str, inner: &ArgMatches<'a>) -> Option<PositionAsked<'a>> {
     let question = match name {
@@ -21,9 +35,7 @@ pub fn explore_of<'a>(name: &str, inner: &ArgMatches<'a>) -> Option<PositionAske
             limit: limit_of(inner),
             json: inner.get_flag("json"),
         },
-        "show" => Question::Show {
-            explained: inner.get_str("POSITION").is_none(),
-        },
+        "show" => show_of(inner)?,
         _ => return None,
     };
     Some(PositionAsked {

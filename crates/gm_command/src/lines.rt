@@ -89,8 +89,12 @@ static LIST: Line = Line {
     name: "list",
     alias: None,
     about: "Lists the games",
-    examples: "Examples:\n  gamesman list\n  gamesman list | grep tactix",
-    words: &[],
+    examples: "Examples:\n  gamesman list\n  gamesman list --all | grep tactix",
+    words: &[Word {
+        name: "all",
+        kind: Kind::Flag,
+        help: "Those that came later too",
+    }],
 };
 
 static SOLVE: Line = Line {
@@ -131,7 +135,7 @@ static SOLVE: Line = Line {
                 shown: "N",
                 least: 1,
                 most: 4096,
-                default: Some("512"),
+                default: Some("64"),
             },
             help: "How many notes a thread takes at a time, 1 to 4096",
         },
@@ -207,8 +211,23 @@ static SHOW: Line = Line {
     name: "show",
     alias: None,
     about: "Draws the board of a position, with who is to move and the value; of the start also how cells, positions and moves are written",
-    examples: "Examples:\n  gamesman show tictactoe\n  gamesman show dao x..o.xo..ox.o..x",
-    words: &[GAME, START, FOLDER, READ_ONLY],
+    examples: "Examples:\n  gamesman show tictactoe\n  gamesman show dao x..o.xo..ox.o..x\n  gamesman show dao x...x..x.x.o.ooo --svg --no-value > puzzle.svg",
+    words: &[
+        GAME,
+        START,
+        Word {
+            name: "svg",
+            kind: Kind::Flag,
+            help: "Draws a diagram for print, an SVG document",
+        },
+        Word {
+            name: "no-value",
+            kind: Kind::Flag,
+            help: "Leaves the value out of a diagram, as for a puzzle",
+        },
+        FOLDER,
+        READ_ONLY,
+    ],
 };
 
 static FIND: Line = Line {

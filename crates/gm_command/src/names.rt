@@ -1,6 +1,6 @@
 //! The names of the games.
 
-/// The names, in the order in which they are listed.
+/// The names that `list` says, in this order: scripts read them, so the list stays as it is.
 pub const NAMES: [&str; 18] = [
     "countdown",
     "wheel",
@@ -21,3 +21,6 @@ pub const NAMES: [&str; 18] = [
     "dao",
     "hare",
 ];
+
+/// The names of the games that came later, which `list --all` says after those.
+pub const LATER_NAMES: [&str; 2] = ["ponghauki", "shisima"];

@@ -1,7 +1,7 @@
 //! Texts about the program, made from the table of its command lines: completions for shells, and a man page.
 
 use crate::lines::{Kind, Line, Word, lines};
-use crate::names::NAMES;
+use crate::names::{LATER_NAMES, NAMES};
 use clap::ArgMatches;
 use std::alloc::{AllocError, Global};
 
@@ -80,6 +80,9 @@ fn write_values(place: &str, text: &mut String) -> Result<(), AllocError> {
     match place {
         "GAME" => {
             for name in &NAMES {
+                add(text, &[" ", name])?;
+            }
+            for name in &LATER_NAMES {
                 add(text, &[" ", name])?;
             }
             Ok(())
@@ -179,6 +182,9 @@ fn write_man(text: &mut String) -> Result<(), AllocError> {
     }
     text.push_str(".SH GAMES\n")?;
     for name in &NAMES {
+        add(text, &[name, "\n"])?;
+    }
+    for name in &LATER_NAMES {
         add(text, &[name, "\n"])?;
     }
     text.push_str(

@@ -24,6 +24,8 @@ pub enum Question {
     Line { limit: usize, json: bool },
     /// The board and the value; where an explanation is asked for, also how cells, positions and moves are written.
     Show { explained: bool },
+    /// The board as a diagram for print, with the value under it where that is asked for.
+    Diagram { valued: bool },
 }
 
 /// A question about a position of a game, or about its start.
@@ -107,7 +109,8 @@ pub enum GameAsked<'a> {
 /// What a line of words asks for.
 #[derive(Clone, Copy)]
 pub enum Asked<'a> {
-    List,
+    /// The names of the games, with those that came later if all are asked for.
+    List { all: bool },
     Of { game: &'a str, asked: GameAsked<'a> },
     Page(Page),
 }

@@ -7,3 +7,5 @@ pub mod CloseLemmas
 pub mod NoteLemmas
 pub mod CounterLemmas
 pub mod NumberLemmas
+mod LogWalks
+pub mod OrderedLemmas

@@ -254,7 +254,7 @@ pub in_range : (r : Rules) (tier lo : ℕ) (phase : Phase) (level : ℕ) (masks 
 in_range r tier lo phase level masks parent n s e low high is =
     subst (λ (u : ShardState). IsInRange u parent) e (low, (let f = length-masks r tier lo masks in omega arith))
 
-same_test : (a b c : ℕ) → a + b ≡ c → (a == 1) ≡ (b + 1 == c)
+pub same_test : (a b c : ℕ) → a + b ≡ c → (a == 1) ≡ (b + 1 == c)
 same_test a b c e =
     elim (a == 1) as (λ t. (a == 1) ≡ t → t ≡ (b + 1 == c)) [
       | true ↦ λ h. let f : a ≡ 1 = (Decides-eqb a 1).0 h in sym ((Decides-eqb (b + 1) c).1 (omega arith))

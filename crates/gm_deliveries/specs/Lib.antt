@@ -6,3 +6,4 @@ pub mod Begin
 pub mod Steps
 pub mod Closing
 pub mod Statuses
+pub mod Ordered

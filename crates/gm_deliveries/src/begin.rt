@@ -4,7 +4,6 @@ ghost use Rattle.gm_deliveries.specs.Begin.{IsStart, first_left, first_status};
 
 use crate::status::{Start, first_left, first_status};
 use crate::statuses::Statuses;
-use gm_game::children::canonical_children;
 use gm_game::game::Game;
 use gm_game::position::{Kind, Position};
 
@@ -16,7 +15,7 @@ pub fn start<G: Game>(p: Position) -> Start
         Kind::Hole => Start::Hole,
         Kind::Ended(end) => Start::Ended(end),
         Kind::Inner => Start::Inner {
-            children: canonical_children::<G>(p).len() as u8,
+            children: G::count_children(p) as u8,
         },
     }
 }

@@ -4,6 +4,8 @@
 pub mod begin;
 mod bits;
 pub mod deliveries;
+pub mod log;
+pub mod ordered;
 pub mod place;
 pub mod status;
 mod statuses;

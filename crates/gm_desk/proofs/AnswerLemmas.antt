@@ -1,5 +1,5 @@
 -- Pairs with places, and the answers to them, one more at the end.
-use Rattle.std.proofs.Common.{◌≡◌, ℕ, ◌+◌, ◌<◌, ◌≤◌, inl, inr, List, [], ◌∷◌, ◌++◌, Option, Result, Ok, Err, length, get_or, take, sym, ap, subst, ◌∙◌, arith}
+use Rattle.std.proofs.Common.{◌≡◌, ℕ, ◌+◌, ◌<◌, ◌≤◌, inl, inr, List, [], ◌∷◌, ◌++◌, Option, Result, Ok, Err, length, get_or, take, refl, sym, ap, subst, ◌∙◌, arith}
 use Rattle.std.specs.List.{Contains, AllZip}
 use Rattle.std.proofs.lemmas.List.{take_more}
 use Rattle.std.proofs.lemmas.List.Elements.{Contains-get_or, Contains-push_cases}
@@ -9,10 +9,11 @@ use Rattle.gm_frontier.specs.Notes.{NoteData}
 use Rattle.gm_deliveries.specs.declared.status.Delivery.{Delivery}
 use Rattle.gm_deliveries.specs.declared.status.Delivery.TheVariants.{Fresh, FreshSettled, Repeat}
 use Rattle.gm_deliveries.specs.declared.status.Refused.{Refused}
-use Rattle.gm_deliveries.specs.Delivery.{IsPlaceOf}
 use Rattle.gm_desk.specs.Spots.{Spot, gain, IsAnswer, IsDeliveryAt}
 use Rattle.gm_desk.specs.Parts.{Part}
-use Rattle.gm_desk.specs.Batches.{ArePlaced, IsAnswerAt, AreAnswers}
+use Rattle.gm_deliveries.specs.State.{ShardState}
+use Rattle.gm_deliveries.specs.Delivery.{IsPlaceOf, Delivers}
+use Rattle.gm_desk.specs.Batches.{ArePlaced, IsAnswerAt, AreAnswers, AreDelivered, IsBatch}
 
 -- one pair more
 pub placed_push : (r : Rules) (tier : ℕ) (pairs : List (NoteData × ℕ × Option ℕ)) (pair : NoteData × ℕ × Option ℕ) → ArePlaced r tier pairs → IsPlaceOf r pair.0.position tier pair.1 pair.2 → ArePlaced r tier (pairs ++ pair ∷ [])
@@ -50,6 +51,19 @@ answers_more r s pairs i pair answer n m b e up old refusals event =
       each = zip_push (IsAnswerAt r s) (take i pairs) old.answers pair answer old.each (record { refusals = refusals; event = event });
       gains = (let f = sum_by_push gain old.answers answer in let g = old.gains in omega arith);
     })
+
+-- one delivery more at the end
+delivered_push : (r : Rules) (pairs : List (NoteData × ℕ × Option ℕ)) (s t u : ShardState) (answers : List (Result Delivery Refused)) (pair : NoteData × ℕ × Option ℕ) (answer : Result Delivery Refused) → AreDelivered r pairs s t answers → Delivers r pair.0 pair.1 t u answer → AreDelivered r (pairs ++ pair ∷ []) s u (answers ++ answer ∷ [])
+delivered_push r [] s t u [] pair answer old last = (u, subst (λ (x : ShardState). Delivers r pair.0 pair.1 x u answer) old last, refl)
+delivered_push r [] s t u (b ∷ answers) pair answer old last = absurd old
+delivered_push r (p ∷ pairs) s t u [] pair answer old last = absurd old
+delivered_push r (p ∷ pairs) s t u (b ∷ answers) pair answer old last = (old.0, old.1, delivered_push r pairs old.0 t u answers pair answer old.2 last)
+
+pub batch_more : (r : Rules) (pairs : List (NoteData × ℕ × Option ℕ)) (s t u : ShardState) (i : ℕ) (pair : NoteData × ℕ × Option ℕ) (answer : Result Delivery Refused) (n m : ℕ) → i < length pairs → pair ≡ get_or pairs i pair → m ≡ n + gain answer → IsBatch r (take i pairs) s t n → Delivers r pair.0 pair.1 t u answer → IsBatch r (take (i + 1) pairs) s u m
+batch_more r pairs s t u i pair answer n m b e up old now =
+    let next : take (i + 1) pairs ≡ take i pairs ++ pair ∷ [] = rw e (take_more pairs i pair b) in
+    subst (λ (ps : List (NoteData × ℕ × Option ℕ)). IsBatch r ps s u m) (sym next)
+    (old.0 ++ answer ∷ [], delivered_push r (take i pairs) s t u old.0 pair answer old.1 now, (let f = sum_by_push gain old.0 answer in let g = old.2 in omega arith))
 
 unfoldable part_of : ℕ → ℕ → Part
 part_of p n = record { parts = p; amount = n }

@@ -1,11 +1,12 @@
 -- Pairs that are delivered to one shard one after another, under one lock.
-use Rattle.std.specs.Prelude.{◌≡◌, ℕ, List, Option, Result}
+use Rattle.std.specs.Prelude.{◌≡◌, ℕ, List, [], ◌∷◌, Option, Result}
 use Rattle.std.specs.List.{Contains, AllZip, sum_by}
 use Rattle.gm_game.specs.Rules.{Rules}
 use Rattle.gm_frontier.specs.Notes.{NoteData}
 use Rattle.gm_deliveries.specs.declared.status.Delivery.{Delivery}
 use Rattle.gm_deliveries.specs.declared.status.Refused.{Refused}
-use Rattle.gm_deliveries.specs.Delivery.{IsPlaceOf}
+use Rattle.gm_deliveries.specs.State.{ShardState}
+use Rattle.gm_deliveries.specs.Delivery.{IsPlaceOf, Delivers}
 use Rattle.gm_desk.specs.Spots.{Spot, gain, IsAnswer, IsDeliveryAt}
 
 -- each pair of a note and a parent has with it the place of the note's position among the parent's children
@@ -22,3 +23,14 @@ pub record AreAnswers (r : Rules) (s : Spot) (pairs : List (NoteData × ℕ × O
   pub answers : List (Result Delivery Refused)
   pub each : AllZip (IsAnswerAt r s) pairs answers
   pub gains : gained ≡ sum_by gain answers
+
+-- the pairs are delivered one after another, each in the state that the one before it left: from s to t, with these answers
+abbrev pub AreDelivered : Rules → List (NoteData × ℕ × Option ℕ) → ShardState → ShardState → List (Result Delivery Refused) → Type 0
+AreDelivered r [] s t [] = t ≡ s
+AreDelivered r [] s t (a ∷ answers) = ⊥
+AreDelivered r (p ∷ pairs) s t [] = ⊥
+AreDelivered r (p ∷ pairs) s t (a ∷ answers) = (mid : ShardState) × Delivers r p.0 p.1 s mid a × AreDelivered r pairs mid t answers
+
+-- the pairs are delivered one after another, from s to t, and raise the number of pairs by this much
+abbrev pub IsBatch : Rules → List (NoteData × ℕ × Option ℕ) → ShardState → ShardState → ℕ → Type 0
+IsBatch r pairs s t gained = (answers : List (Result Delivery Refused)) × AreDelivered r pairs s t answers × (gained ≡ sum_by gain answers)

@@ -4,7 +4,7 @@ ghost use Rattle.gm_deliveries.specs.State.{pairs_in};
 ghost use Rattle.gm_deliveries.specs.Good.{IsGood};
 ghost use Rattle.gm_deliveries.specs.Delivery.{IsPlaceOf, Delivers};
 ghost use Rattle.gm_desk.specs.Spots.{spot_of, gain, IsAnswer, IsDeliveryAt};
-ghost use Rattle.gm_desk.specs.Batches.{ArePlaced, AreAnswers};
+ghost use Rattle.gm_desk.specs.Batches.{ArePlaced, AreAnswers, IsBatch};
 
 use crate::share::{Desk, Share, gained};
 use gm_deliveries::place::place_of;
@@ -111,6 +111,7 @@ impl<G: Game, L: Desk> Held<G, L> {
     ) -> u64
         requires places { ArePlaced G.rules L.spot.tier pairs.now }
         requires parts { 0 < share.old.parts }
+        ensures run { IsBatch G.rules pairs.now self.old.shard self.new.shard result }
         ensures answers { AreAnswers G.rules L.spot pairs.now result }
         ensures spot { spot_of self.new.shard ≡ L.spot }
         ensures book { self.new.book ≡ self.old.book + result }

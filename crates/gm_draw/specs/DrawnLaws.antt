@@ -13,6 +13,7 @@ use Rattle.gm_board.specs.laws.Lists.{contains_range}
 use Rattle.gm_board.specs.Permutations.{all_at}
 use Rattle.gm_pieces.specs.laws.SideTextFacts.{text_length}
 use Rattle.gm_pieces.specs.MoveGames.{board_game}
+use Rattle.gm_pieces.specs.Sides.{board_numbered}
 use Rattle.gm_morris.specs.declared.variant.Variant.{Variant}
 use Rattle.gm_morris.specs.declared.variant.Variant.TheVariants.{TicTacToe, ThreeMens, Achi}
 use Rattle.gm_morris.specs.Points.{variant_of}
@@ -29,10 +30,19 @@ use Rattle.gm_tactix.specs.laws.SegmentFacts.{for_sides}
 use Rattle.gm_tactix.specs.laws.TactixLaws.{board_length, side_low, side_high}
 use Rattle.gm_tactix.specs.Texts.{position_text as tactix_text}
 use Rattle.gm_tactix.specs.laws.TextLaws.{text_length as tactix_length, texts_readable as tactix_readable}
-use Rattle.gm_mutorere.specs.Board.{ring_board as ring_at, mutorere, mutorere_rules}
-use Rattle.gm_mutorere.specs.laws.MutorereLaws.{legal_length}
 use Rattle.gm_mutorere.specs.Texts.{position_text as ring_text}
-use Rattle.gm_mutorere.specs.laws.TextLaws.{text_length as ring_length, texts_readable as ring_readable}
+use Rattle.gm_mutorere.specs.laws.RingTables.{ring_game}
+use Rattle.gm_mutorere.specs.laws.RingFacts.{tables as ring_tables}
+use Rattle.gm_mutorere.specs.laws.RingLaws.{ring_texts}
+use Rattle.gm_ways.specs.Ways.{WayGame, way_game, way_rules}
+use Rattle.gm_ways.specs.WayTables.{IsWayGame}
+use Rattle.gm_ways.specs.WayTexts.{way_text, way_move_text}
+use Rattle.gm_ways.specs.laws.WayBoards.{legal_in as legal_way}
+use Rattle.gm_ways.specs.laws.WayTextLaws.{way_shown}
+use Rattle.gm_pong.specs.PongRules.{pong, pong_rules}
+use Rattle.gm_pong.specs.laws.PongTables.{tables as pong_tables}
+use Rattle.gm_shisima.specs.ShisimaRules.{shisima, shisima_rules}
+use Rattle.gm_shisima.specs.laws.ShisimaTables.{tables as shisima_tables}
 use Rattle.gm_hare.specs.declared.hunt.Hunt.{Hunt}
 use Rattle.gm_hare.specs.Board.{hunt_board, hare_rules}
 use Rattle.gm_hare.specs.Texts.{hunt_text, position_text as hare_text}
@@ -40,7 +50,7 @@ use Rattle.gm_hare.specs.laws.TextLaws.{text_at, text_length as hunt_length, tex
 use Rattle.gm_draw.specs.declared.drawn.TheConstants.{DRAWING}
 use Rattle.gm_draw.specs.Templates.{is_slot, drawn_byte, filled, has_slot, has_slots}
 use Rattle.gm_draw.specs.Drawn.{IsDrawn}
-use Rattle.gm_draw.specs.Pictures.{nine_points, dao_board, tactix_board, ring_board, hare_board}
+use Rattle.gm_draw.specs.Pictures.{nine_points, dao_board, tactix_board, ring_board, pong_board, hare_board}
 use Rattle.gm_draw.specs.Names.{hunt_mover, hare_mover, x_moves, player_moves}
 
 -- ---- templates
@@ -133,6 +143,10 @@ pub ring_template : IsTemplate 9 ring_board
 unfolding ring_board has_slots
 ring_template = record { few = omega arith; slots = refl; fits = omega arith }
 
+pub pong_template : IsTemplate 5 pong_board
+unfolding pong_board has_slots
+pong_template = record { few = omega arith; slots = refl; fits = omega arith }
+
 pub hare_template : IsTemplate 11 hare_board
 unfolding hare_board has_slots
 hare_template = record { few = omega arith; slots = refl; fits = omega arith }
@@ -160,11 +174,29 @@ tactix_drawn n misere =
     (λ p l. (let a = tactix_length (counters_at s p.tier p.index) in let b = board_length s low high p.tier p.index in a ∙ b))
     (tactix_template s low high)
 
-pub ring_drawn : IsDrawn mutorere_rules (λ p. filled ring_board (ring_text p)) x_moves
-ring_drawn =
-    drawn_by mutorere_rules ring_text _ x_moves ring_board 9 ring_readable
-    (λ p l. (let a = ring_length (ring_at p.index) in let b = legal_length (ring_at p.index) (legal_board (board_game mutorere) p l) in a ∙ b))
-    ring_template
+-- a game on points that ways join, by a template with a slot for each point
+pub way_drawn : (n : ℕ) (g : WayGame) (t : List ℕ) → IsWayGame n g → IsTemplate n t → IsDrawn (way_rules n g) (λ p. filled t (way_text n g p)) x_moves
+way_drawn n g t h s =
+    drawn_by (way_rules n g) (way_text n g) (way_move_text g) x_moves t n (way_shown n g h)
+    (λ p l. (let b = board_numbered n g.pieces g.pieces p.index in text_length b ∙ (legal_way n g b (legal_board (board_game (way_game n g)) p l)).numbers.cells))
+    s
+
+pub ring_drawn : IsDrawn (way_rules 9 ring_game) (λ p. filled ring_board (way_text 9 ring_game p)) x_moves
+ring_drawn = way_drawn 9 ring_game ring_board ring_tables ring_template
+
+-- the board of a ring with the texts of its positions
+abbrev ring_drawing : (Position → List ℕ) → Position → List ℕ
+ring_drawing shown p = filled ring_board (shown p)
+
+-- the drawing of Mu Torere has the texts of its rules
+pub ring_is : ring_drawing (way_text 9 ring_game) ≡ ring_drawing ring_text
+ring_is = ap ring_drawing ring_texts
+
+pub pong_drawn : IsDrawn pong_rules (λ p. filled pong_board (way_text 5 pong p)) x_moves
+pong_drawn = way_drawn 5 pong pong_board pong_tables pong_template
+
+pub shisima_drawn : IsDrawn shisima_rules (λ p. filled ring_board (way_text 9 shisima p)) x_moves
+shisima_drawn = way_drawn 9 shisima ring_board shisima_tables ring_template
 
 -- ---- Hare and Hounds: who moves is no part of the board
 name_once : (a b : Bool) → hunt_mover a ≡ hunt_mover b → a ≡ b

@@ -3,6 +3,10 @@ pub mod Drawn
 pub mod Pictures
 pub mod Rows
 pub mod Names
+pub mod Points
+pub mod Pictured
 pub mod DrawnLaws
 pub mod RowLaws
+pub mod PictureLaws
 pub mod ShowTexts
+pub mod Diagrams

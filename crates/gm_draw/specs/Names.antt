@@ -39,6 +39,10 @@ abbrev pub ring_naming : List ℕ
 ring_naming =
     codes "Points are named so:\n7---0---1\n| \\ | / |\n6---c---2\n| / | \\ |\n5---4---3\nA position is points 0 to 7 and c: x for the side\nto move, o for the other, . where it is empty.\nA move is from one point to another.\n"
 
+abbrev pub pong_naming : List ℕ
+pong_naming =
+    codes "Points are named so:\n0       1\n| \\   / |\n|   2   |\n| /   \\ |\n3-------4\nA position is points 0 to 4: x for the side to\nmove, o for the other, . where it is empty.\nA move is from one point to another.\n"
+
 abbrev pub hare_naming : List ℕ
 hare_naming =
     codes "Points are named so:\n     T1--T2--T3\n   / | \\ | / | \\\n  L--M1--M2--M3--R\n   \\ | / | \\ | /\n     B1--B2--B3\nA position is L T1 M1 B1 T2 M2 B2 T3 M3 B3 R:\nd for a hound, h for the hare, . where it is\nempty; then a space, and d or h for who moves.\nA move is from one point to another.\n"

@@ -4,8 +4,11 @@
 #![tactic(auto)]
 
 pub mod boards;
+pub mod diagram;
 pub mod drawn;
+pub mod pictured;
 pub mod points;
 pub mod rows;
 pub mod show;
 pub mod squares;
+mod svg;

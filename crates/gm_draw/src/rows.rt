@@ -1,13 +1,20 @@
 //! The games on a row of numbers: Countdown from 10, and Wheel.
-ghost use Rattle.std.specs.Prelude.{◌≡◌, ◌≤◌, ◌<◌, length, true};
+ghost use Rattle.std.specs.Prelude.{◌≡◌, ◌≤◌, ◌<◌, [], length, codes, slice_index_or, true};
+ghost use Rattle.std.specs.Fmt.{decimal};
 ghost use Rattle.gm_game.specs.declared.position.Position.{Position};
 ghost use Rattle.gm_draw.specs.Rows.{countdown_row as countdown_row_of, wheel_row as wheel_row_of};
 ghost use Rattle.gm_draw.specs.Names.{player_moves, countdown_naming, wheel_naming};
 ghost use Rattle.gm_draw.specs.RowLaws.{countdown_drawn, wheel_drawn};
+ghost use Rattle.gm_draw.specs.declared.pictured.Style.TheVariants.{Row};
+ghost use Rattle.gm_draw.specs.Points.{number_points, countdown_board, wheel_board};
+ghost use Rattle.gm_draw.specs.PictureLaws.{countdown_pictured, wheel_pictured};
 
 use crate::drawn::{DRAWING, Drawing, Drawn};
+use crate::pictured::{Pictured, Style, line_of};
 use arrayvec::ArrayVec;
 use gm_game::position::Position;
+use gm_game::shown::Line;
+use gm_game::text::push_decimal;
 use gm_toys::countdown::Countdown;
 use gm_toys::wheel::Wheel;
 
@@ -105,6 +112,85 @@ impl Drawn for Wheel {
 
     fn naming() -> &'static [u8] {
         b"A position is a number. A move is the number that\nit leads to.\n"
+    }
+}
+
+// The name of a number.
+fn number_name(number: usize) -> Line
+    ensures { result.items ≡ decimal number }
+{
+    let mut line = Line::new();
+    push_decimal(&mut line, number as u64);
+    line
+}
+
+impl Pictured for Countdown<10> {
+    ghost board = { countdown_board };
+
+    ghost points = { number_points 11 };
+
+    ghost style = { Row };
+
+    ghost title = { codes "Countdown" };
+
+    ghost pictured = { countdown_pictured (λ p. countdown_row_of p.index) };
+
+    #[tactic(auto, unfolding(crate::specs::Points::countdown_board))]
+    fn board() -> &'static [u8] {
+        b"0 1 2 3 4 5 6 7 8 9 10"
+    }
+
+    #[tactic(auto, using(crate::specs::PictureLaws::number_many))]
+    fn points() -> usize {
+        11
+    }
+
+    #[tactic(auto, using(crate::specs::PictureLaws::number_many, crate::specs::PictureLaws::number_named))]
+    fn point(k: usize) -> Line {
+        number_name(k)
+    }
+
+    fn style() -> Style {
+        Style::Row
+    }
+
+    fn title() -> Line {
+        line_of(b"Countdown")
+    }
+}
+
+impl Pictured for Wheel {
+    ghost board = { wheel_board };
+
+    ghost points = { number_points 10 };
+
+    ghost style = { Row };
+
+    ghost title = { codes "Wheel" };
+
+    ghost pictured = { wheel_pictured (λ p. wheel_row_of p.index) };
+
+    #[tactic(auto, unfolding(crate::specs::Points::wheel_board))]
+    fn board() -> &'static [u8] {
+        b"0 1 2 3 4 5 6 7 8 9"
+    }
+
+    #[tactic(auto, using(crate::specs::PictureLaws::number_many))]
+    fn points() -> usize {
+        10
+    }
+
+    #[tactic(auto, using(crate::specs::PictureLaws::number_many, crate::specs::PictureLaws::number_named))]
+    fn point(k: usize) -> Line {
+        number_name(k)
+    }
+
+    fn style() -> Style {
+        Style::Row
+    }
+
+    fn title() -> Line {
+        line_of(b"Wheel")
     }
 }
 

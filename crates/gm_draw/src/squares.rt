@@ -1,5 +1,5 @@
 //! The square boards: the games of nine points, Dao and Tac Tix.
-ghost use Rattle.std.specs.Prelude.{◌≡◌, ◌≤◌, length, true};
+ghost use Rattle.std.specs.Prelude.{◌≡◌, ◌≤◌, ◌<◌, ◌*◌, [], length, slice_index_or, codes, true};
 ghost use Rattle.gm_game.specs.declared.position.Position.{Position};
 ghost use Rattle.gm_morris.specs.Points.{variant_of};
 ghost use Rattle.gm_morris.specs.Texts.{position_text as nine_text};
@@ -10,11 +10,17 @@ ghost use Rattle.gm_draw.specs.Templates.{filled};
 ghost use Rattle.gm_draw.specs.Pictures.{nine_points, dao_board, tactix_board as tactix_board_of};
 ghost use Rattle.gm_draw.specs.Names.{x_moves, player_moves, nine_naming as nine_naming_of, dao_naming, tactix_naming};
 ghost use Rattle.gm_draw.specs.DrawnLaws.{nine_drawn, dao_drawn, tactix_drawn};
+ghost use Rattle.gm_draw.specs.declared.pictured.Style.TheVariants.{Counters, Stones};
+ghost use Rattle.gm_draw.specs.Points.{square_points, nine_title as nine_title_of, nine_style as nine_style_of, tactix_title as tactix_title_of};
+ghost use Rattle.gm_draw.specs.PictureLaws.{nine_pictured, dao_pictured, tactix_pictured};
 
 use crate::drawn::{DRAWING, Drawing, Drawn, fill};
+use crate::pictured::{Pictured, Style, line_of};
+use gm_board::square::square_cell_text;
 use gm_dao::dao::Dao;
 use gm_game::position::Position;
-use gm_game::shown::Shown;
+use gm_game::shown::{Line, Shown};
+use gm_game::text::push_text;
 use gm_morris::games::NinePoints;
 use gm_morris::variant::Variant;
 use gm_tactix::side::side_for;
@@ -80,6 +86,9 @@ impl<const LAST: u64> Drawn for NinePoints<LAST> {
     }
 }
 
+/// The board of Dao.
+const DAO: &[u8] = b"    1 2 3 4\na   A B C D\nb   E F G H\nc   I J K L\nd   M N O P";
+
 impl Drawn for Dao {
     ghost drawn = { λ p. filled dao_board (dao_text p) };
 
@@ -91,10 +100,7 @@ impl Drawn for Dao {
 
     #[tactic(auto, unfolding(crate::specs::Pictures::dao_board))]
     fn draw(p: Position) -> Drawing {
-        fill(
-            b"    1 2 3 4\na   A B C D\nb   E F G H\nc   I J K L\nd   M N O P",
-            Self::show(p).as_slice(),
-        )
+        fill(DAO, Self::show(p).as_slice())
     }
 
     fn mover(_p: Position) -> &'static [u8] {
@@ -142,6 +148,161 @@ impl<const N: u32, const MISERE: bool> Drawn for TacTix<N, MISERE> {
 
     fn naming() -> &'static [u8] {
         b"A cell is its row and its column, as a1.\nA position is its cells, row by row: x for a\ncounter, . where there is none.\nA move is the counter that is taken, or the first\nand the last of neighbors in a row or a column.\n"
+    }
+}
+
+// The name of a cell of a square.
+#[tactic(auto, using(crate::specs::PictureLaws::square_named))]
+fn cell_name(side: u32, k: usize) -> Line
+    requires low { 1 ≤ side }
+    requires high { side ≤ 5 }
+    requires within { k < side * side }
+    ensures { result.items ≡ slice_index_or (square_points side) k [] }
+{
+    line_of(&square_cell_text(side, k as u32))
+}
+
+// The heading of a game of nine points.
+#[tactic(auto, unfolding(crate::specs::Points::nine_title))]
+fn nine_title(variant: Variant) -> Line
+    ensures { result.items ≡ nine_title_of variant }
+{
+    match variant {
+        Variant::TicTacToe => line_of(b"Tic-Tac-Toe"),
+        Variant::ThreeMens => line_of(b"Three Men's Morris"),
+        Variant::Achi => line_of(b"Achi"),
+    }
+}
+
+// How its men look.
+#[tactic(auto, unfolding(crate::specs::Points::nine_style))]
+fn nine_style(variant: Variant) -> Style
+    ensures { result ≡ nine_style_of variant }
+{
+    match variant {
+        Variant::TicTacToe => Style::Crosses,
+        Variant::ThreeMens | Variant::Achi => Style::Discs,
+    }
+}
+
+impl<const LAST: u64> Pictured for NinePoints<LAST> {
+    ghost board = { nine_points (variant_of LAST) };
+
+    ghost points = { square_points 3 };
+
+    ghost style = { nine_style_of (variant_of LAST) };
+
+    ghost title = { nine_title_of (variant_of LAST) };
+
+    ghost pictured = { nine_pictured LAST };
+
+    fn board() -> &'static [u8] {
+        nine_board(Variant::with_last_tier(LAST))
+    }
+
+    #[tactic(auto, using(crate::specs::PictureLaws::square_many))]
+    fn points() -> usize {
+        9
+    }
+
+    #[tactic(auto, using(crate::specs::PictureLaws::square_many))]
+    fn point(k: usize) -> Line {
+        cell_name(3, k)
+    }
+
+    fn style() -> Style {
+        nine_style(Variant::with_last_tier(LAST))
+    }
+
+    fn title() -> Line {
+        nine_title(Variant::with_last_tier(LAST))
+    }
+}
+
+impl Pictured for Dao {
+    ghost board = { dao_board };
+
+    ghost points = { square_points 4 };
+
+    ghost style = { Stones };
+
+    ghost title = { codes "Dao" };
+
+    ghost pictured = { dao_pictured };
+
+    #[tactic(auto, unfolding(crate::specs::Pictures::dao_board))]
+    fn board() -> &'static [u8] {
+        DAO
+    }
+
+    #[tactic(auto, using(crate::specs::PictureLaws::square_many))]
+    fn points() -> usize {
+        16
+    }
+
+    #[tactic(auto, using(crate::specs::PictureLaws::square_many))]
+    fn point(k: usize) -> Line {
+        cell_name(4, k)
+    }
+
+    fn style() -> Style {
+        Style::Stones
+    }
+
+    fn title() -> Line {
+        line_of(b"Dao")
+    }
+}
+
+// The heading of Tac Tix with this side.
+#[tactic(auto, unfolding(crate::specs::Points::tactix_title))]
+fn tactix_title(side: u32, misere: bool) -> Line
+    requires { side ≤ 5 }
+    ensures { result.items ≡ tactix_title_of side misere }
+{
+    let digit = [b'0' + side as u8];
+    let mut line = line_of(b"Tac Tix ");
+    push_text(&mut line, &digit);
+    push_text(&mut line, b" by ");
+    push_text(&mut line, &digit);
+    if misere {
+        push_text(&mut line, b", misere");
+    }
+    line
+}
+
+impl<const N: u32, const MISERE: bool> Pictured for TacTix<N, MISERE> {
+    ghost board = { tactix_board_of (side_of N) };
+
+    ghost points = { square_points (side_of N) };
+
+    ghost style = { Counters };
+
+    ghost title = { tactix_title_of (side_of N) MISERE };
+
+    ghost pictured = { tactix_pictured N MISERE };
+
+    fn board() -> &'static [u8] {
+        tactix_board(side_for(N))
+    }
+
+    #[tactic(auto, using(crate::specs::PictureLaws::square_many))]
+    fn points() -> usize {
+        let side = side_for(N) as usize;
+        side * side
+    }
+
+    #[tactic(auto, using(crate::specs::PictureLaws::square_many))]
+    fn point(k: usize) -> Line {
+        cell_name(side_for(N), k)
+    }
+
+    fn style() -> Style {
+        Style::Counters
+    }
+
+    fn title() -> Line {
+        tactix_title(side_for(N), MISERE)
     }
 }
 

@@ -1,5 +1,6 @@
 //! The limits that every game and every crate keeps to.
 ghost use Rattle.std.specs.Prelude.{◌≡◌};
+ghost use Rattle.gm_game.specs.declared.limits.TheConstants.{MOVES, PARENTS, CHILD_TIERS, TIER_SIZE, TIERS, REMOTENESS, NAME, LINE};
 
 /// The greatest number of moves of a position, and so of its canonical children.
 pub const MOVES: usize = 128;
@@ -39,7 +40,7 @@ pub struct Limits {
 }
 
 impl Limits {
-    /// The limits, stated as numbers by the contract: those of docs/DEFINITIONS.md.
+    /// The limits, stated by the contract as numbers, those of docs/DEFINITIONS.md, and as the constants above.
     pub fn all() -> Limits
         ensures moves { result.moves ≡ 128 }
         ensures parents { result.parents ≡ 128 }
@@ -49,6 +50,8 @@ impl Limits {
         ensures remoteness { result.remoteness ≡ 1048575 }
         ensures name { result.name ≡ 16 }
         ensures line { result.line ≡ 64 }
+        ensures constants { (result.moves ≡ MOVES) × (result.parents ≡ PARENTS) × (result.child_tiers ≡ CHILD_TIERS) × (result.tier_size ≡ TIER_SIZE)
+            × (result.tiers ≡ TIERS) × (result.remoteness ≡ REMOTENESS) × (result.name ≡ NAME) × (result.line ≡ LINE) }
     {
         Limits {
             moves: MOVES,

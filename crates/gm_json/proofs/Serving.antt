@@ -1,13 +1,15 @@
 -- A service in its midst.
-use Rattle.std.proofs.Common.{◌≡◌, ℕ, ◌+◌, ◌≤◌, ◌<◌, Bool, true, false, List, [], ◌∷◌, ◌++◌, length, take, codes, inl, inr, Option, refl, sym, ap, subst, ◌∙◌, append_assoc, append-nil, arith}
+use Rattle.std.proofs.Common.{◌≡◌, ℕ, ◌+◌, ◌≤◌, ◌<◌, Bool, true, false, List, [], ◌∷◌, ◌++◌, length, take, codes, Option, Result, Ok, Err, IfErr, refl, sym, ap, subst, ◌∙◌, append_assoc, append-nil, arith}
 use Rattle.std.specs.Prelude.{◌==◌, if◌then◌else◌}
+use Rattle.std.specs.Result.{IsErrAnd}
 use Rattle.std.proofs.lemmas.List.{take_all, take-append-le, length-take, length-append}
 use Rattle.std.specs.Io.KnownBytes.{Appends, Consumes, Keeps, IsAtEnd}
 use Rattle.std.proofs.KnownBytes.{Consumes-trans, Consumes-kept, Consumes-nil, Appends-trans, Appends-nil, Appends-kept}
 use Rattle.gm_game.specs.declared.position.Position.{Position}
 use Rattle.gm_game.specs.Rules.{Rules}
-use Rattle.gm_play.proofs.Parts.{part_after}
-use Rattle.gm_json.specs.Asking.{kept_bytes, lines_from, lines_of, IsAnswer, AreAnswers, IsServed, IsCutShort, IsHalfSaid}
+use Rattle.gm_json.specs.declared.ask_error.AskError.{AskError}
+use Rattle.gm_json.specs.declared.ask_error.AskError.TheVariants.{OutOfMemory, NotHeld, ReadFailed, WriteFailed, OutputClosed}
+use Rattle.gm_json.specs.Asking.{kept_bytes, lines_from, lines_of, IsAnswer, AreAnswers, IsServed, IsUnread, IsUnanswered, IsUnwritten, IsBroken, IsHalfSaid, IsLineBroken}
 
 -- a byte of a line, the byte that ends it, and the end of all
 lines_more : (line : List ℕ) (b : ℕ) (bs : List ℕ) → (b == 10) ≡ false → lines_from line (b ∷ bs) ≡ lines_from (line ++ b ∷ []) bs
@@ -126,39 +128,53 @@ module _ (r : Rules) (shown : Position → List ℕ) (move_shown : Position → 
         writes = Appends-trans w0 w1 w2 h.text (out ++ codes "\n") h.writes written;
       }
 
-      -- a line is cut short
-      cut : (bytes : List ℕ) (more : List (List ℕ)) → Consumes r0 r2 bytes → lines_of bytes ≡ (h.lines ++ h.line ∷ []) ++ more → IsHalfSaid r shown move_shown kept number w1 w2 → IsCutShort r shown move_shown r0 r2 w0 w2
-      cut bytes more reads parts (inl same) = record {
+      -- the answer to a line is cut short
+      half_said : (bytes : List ℕ) → Consumes r0 r2 bytes → lines_of bytes ≡ h.lines ++ h.line ∷ [] → IsHalfSaid r shown move_shown kept number w1 w2 → IsUnwritten r shown move_shown r0 r2 w0 w2
+      half_said bytes reads parts (out, is, (done, rest, e, part)) = record {
         bytes = bytes;
         lines = h.lines;
-        more = h.line ∷ more;
+        last = h.line;
         text = h.text;
-        reads = reads;
-        parts = parts ∙ append_assoc h.lines (h.line ∷ []) more;
-        answers = h.answers;
-        writes = (h.text, [], sym (append-nil h.text), Appends-kept w0 w1 w2 h.text h.writes same);
-      }
-      cut bytes more reads parts (inr (out, is, part)) = record {
-        bytes = bytes;
-        lines = h.lines ++ h.line ∷ [];
-        more = more;
-        text = h.text ++ (out ++ codes "\n");
+        out = out;
         reads = reads;
         parts = parts;
-        answers = answered out is;
-        writes = part_after w0 w1 w2 h.text (out ++ codes "\n") h.writes part;
+        answers = h.answers;
+        is_answer = subst (λ (k : ℕ). IsAnswer r shown move_shown (take kept_bytes h.line) k out) h.numbered (subst (λ (l : List ℕ). IsAnswer r shown move_shown l number out) h.keeps is);
+        done = done;
+        rest = rest;
+        front = e;
+        writes = Appends-trans w0 w1 w2 h.text done h.writes part;
       }
 
-      pub last_cut : 0 < length kept → Keeps r1 r2 → IsHalfSaid r shown move_shown kept number w1 w2 → IsCutShort r shown move_shown r0 r2 w0 w2
-      last_cut some same half = cut h.bytes [] (Consumes-kept r0 r1 r2 h.bytes h.reads same) (last_lines some ∙ sym (append-nil (h.lines ++ h.line ∷ []))) half
+      unsaid : (bytes : List ℕ) → Consumes r0 r2 bytes → lines_of bytes ≡ h.lines ++ h.line ∷ [] → Keeps w1 w2 → IsUnanswered r shown move_shown r0 r2 w0 w2
+      unsaid bytes reads parts same = record {
+        bytes = bytes;
+        lines = h.lines;
+        last = h.line;
+        text = h.text;
+        reads = reads;
+        parts = parts;
+        answers = h.answers;
+        writes = Appends-kept w0 w1 w2 h.text h.writes same;
+      }
+
+      cut : (e : AskError) (bytes : List ℕ) → Consumes r0 r2 bytes → lines_of bytes ≡ h.lines ++ h.line ∷ [] → IsLineBroken r shown move_shown e kept number w1 w2 → IsBroken r shown move_shown e r0 r2 w0 w2
+      cut OutOfMemory bytes reads parts same = unsaid bytes reads parts same
+      cut NotHeld bytes reads parts same = unsaid bytes reads parts same
+      cut ReadFailed bytes reads parts never = absurd never
+      cut WriteFailed bytes reads parts half = half_said bytes reads parts half
+      cut OutputClosed bytes reads parts half = half_said bytes reads parts half
+
+      pub last_cut : (e : AskError) → 0 < length kept → Keeps r1 r2 → IsLineBroken r shown move_shown e kept number w1 w2 → IsBroken r shown move_shown e r0 r2 w0 w2
+      last_cut e some same broken = cut e h.bytes (Consumes-kept r0 r1 r2 h.bytes h.reads same) (last_lines some) broken
 
       -- a line ends here
       one_line : (b : ℕ) (more : List ℕ) → (b == 10) ≡ true → lines_of ((h.bytes ++ b ∷ []) ++ more) ≡ (h.lines ++ h.line ∷ []) ++ lines_from [] more
       one_line b more e = ap lines_of (append_assoc h.bytes (b ∷ []) more) ∙ h.goes (b ∷ more) ∙ ap (λ (ls : List (List ℕ)). h.lines ++ ls) (lines_next h.line b more e) ∙ sym (append_assoc h.lines (h.line ∷ []) (lines_from [] more))
 
-      pub line_cut : (b : ℕ) → (b == 10) ≡ true → Consumes r1 r2 (b ∷ []) → IsHalfSaid r shown move_shown kept number w1 w2 → IsCutShort r shown move_shown r0 r2 w0 w2
-      line_cut b e reads half = cut (h.bytes ++ b ∷ []) [] (Consumes-trans r0 r1 r2 h.bytes (b ∷ []) h.reads reads)
-          (ap lines_of (sym (append-nil (h.bytes ++ b ∷ []))) ∙ one_line b [] e ∙ ap (λ (ls : List (List ℕ)). (h.lines ++ h.line ∷ []) ++ ls) lines_none) half
+      pub line_cut : (e : AskError) (b : ℕ) → (b == 10) ≡ true → Consumes r1 r2 (b ∷ []) → IsLineBroken r shown move_shown e kept number w1 w2 → IsBroken r shown move_shown e r0 r2 w0 w2
+      line_cut e b is reads broken = cut e (h.bytes ++ b ∷ []) (Consumes-trans r0 r1 r2 h.bytes (b ∷ []) h.reads reads)
+          (ap lines_of (sym (append-nil (h.bytes ++ b ∷ []))) ∙ one_line b [] is ∙ ap (λ (ls : List (List ℕ)). (h.lines ++ h.line ∷ []) ++ ls) lines_none ∙ append-nil (h.lines ++ h.line ∷ [])) broken
 
       pub next_line : (b : ℕ) (new : List ℕ) → (b == 10) ≡ true → new ≡ [] → Consumes r1 r2 (b ∷ []) → (out : List ℕ) × IsAnswer r shown move_shown kept number out × Appends w1 w2 (out ++ codes "\n") → GoesOn (count + 1) (number + 1) r0 r2 w0 w2 new
       next_line b new e empty reads (out, is, written) = record {
@@ -198,14 +214,23 @@ module _ (r : Rules) (shown : Position → List ℕ) (move_shown : Position → 
     byte_past b new e reads full is = same_line b new e reads (is ∙ kept_full kept h.line b h.keeps full)
 
     -- the input fails
-    pub read_fails : Keeps r1 r2 → IsCutShort r shown move_shown r0 r2 w0 w1
+    pub read_fails : Keeps r1 r2 → IsUnread r shown move_shown r0 r2 w0 w1
     read_fails same = record {
       bytes = h.bytes;
       lines = h.lines;
-      more = lines_from h.line [];
+      begun = h.line;
       text = h.text;
       reads = Consumes-kept r0 r1 r2 h.bytes h.reads same;
-      parts = whole;
+      parts = h.goes;
       answers = h.answers;
-      writes = (h.text, [], sym (append-nil h.text), h.writes);
+      writes = h.writes;
     }
+
+-- an error that is passed on broke what it broke
+pub passed : {T E : Type 0} → (r : Result T E) (Q : E → Type 0) (e : E) → IsErrAnd r (λ y. y ≡ e) → Q e → IfErr r Q
+passed (Ok x) Q e h q = tt
+passed (Err y) Q e h q = subst Q (sym h) q
+
+pub err_map : {T E : Type 0} → (r : Result T E) (P Q : E → Type 0) → ((e : E) → P e → Q e) → IfErr r P → IfErr r Q
+err_map (Ok x) P Q f h = tt
+err_map (Err e) P Q f h = f e h

@@ -49,20 +49,63 @@ module _ (r : Rules) (shown : Position → List ℕ) (move_shown : Position → 
     pub answers : AreAnswers 1 (lines_of bytes) text
     pub writes : Appends before after text
 
-  -- the service ended early: the first of the lines that were read were answered, and a first part of the answers was written
-  pub record IsCutShort (old new before after : Option (List ℕ)) : Type 0 where
+  -- the input failed: each line that ended in the bytes before was answered, and the one that had begun was not
+  pub record IsUnread (old new before after : Option (List ℕ)) : Type 0 where
     pub bytes : List ℕ
     pub lines : List (List ℕ)
-    pub more : List (List ℕ)
+    pub begun : List ℕ
     pub text : List ℕ
     pub reads : Consumes old new bytes
-    pub parts : lines_of bytes ≡ lines ++ more
+    pub parts : (more : List ℕ) → lines_of (bytes ++ more) ≡ lines ++ lines_from begun more
     pub answers : AreAnswers 1 lines text
-    pub writes : AppendsPart before after text
+    pub writes : Appends before after text
 
-  -- nothing of an answer was written, or a first part of it
+  -- nothing was said of the last of the lines that were read, and each line before it was answered
+  pub record IsUnanswered (old new before after : Option (List ℕ)) : Type 0 where
+    pub bytes : List ℕ
+    pub lines : List (List ℕ)
+    pub last : List ℕ
+    pub text : List ℕ
+    pub reads : Consumes old new bytes
+    pub parts : lines_of bytes ≡ lines ++ last ∷ []
+    pub answers : AreAnswers 1 lines text
+    pub writes : Appends before after text
+
+  -- the output failed: a first part of the answer to the last of the lines that were read was written, and each line before it was answered
+  pub record IsUnwritten (old new before after : Option (List ℕ)) : Type 0 where
+    pub bytes : List ℕ
+    pub lines : List (List ℕ)
+    pub last : List ℕ
+    pub text : List ℕ
+    pub out : List ℕ
+    pub reads : Consumes old new bytes
+    pub parts : lines_of bytes ≡ lines ++ last ∷ []
+    pub answers : AreAnswers 1 lines text
+    pub is_answer : IsAnswer (take kept_bytes last) (1 + length lines) out
+    pub done : List ℕ
+    pub rest : List ℕ
+    pub front : out ++ codes "\n" ≡ done ++ rest
+    pub writes : Appends before after (text ++ done)
+
+  -- the service ended before its input did
+  abbrev pub IsBroken : AskError → Option (List ℕ) → Option (List ℕ) → Option (List ℕ) → Option (List ℕ) → Type 0
+  IsBroken OutOfMemory old new before after = IsUnanswered old new before after
+  IsBroken NotHeld old new before after = IsUnanswered old new before after
+  IsBroken ReadFailed old new before after = IsUnread old new before after
+  IsBroken WriteFailed old new before after = IsUnwritten old new before after
+  IsBroken OutputClosed old new before after = IsUnwritten old new before after
+
+  -- a first part of the answer to a line was written
   abbrev pub IsHalfSaid : List ℕ → ℕ → Option (List ℕ) → Option (List ℕ) → Type 0
-  IsHalfSaid line n before after = Keeps before after ⊎ ((out : List ℕ) × IsAnswer line n out × AppendsPart before after (out ++ codes "\n"))
+  IsHalfSaid line n before after = (out : List ℕ) × IsAnswer line n out × AppendsPart before after (out ++ codes "\n")
+
+  -- the answer to a line failed: nothing of it was written, or a first part
+  abbrev pub IsLineBroken : AskError → List ℕ → ℕ → Option (List ℕ) → Option (List ℕ) → Type 0
+  IsLineBroken OutOfMemory line n before after = Keeps before after
+  IsLineBroken NotHeld line n before after = Keeps before after
+  IsLineBroken ReadFailed line n before after = ⊥
+  IsLineBroken WriteFailed line n before after = IsHalfSaid line n before after
+  IsLineBroken OutputClosed line n before after = IsHalfSaid line n before after
 
 -- the numbers of the errors
 abbrev pub number_of : AskError → ℕ

@@ -1,5 +1,5 @@
 //! A service that reads positions, a line each, and answers each with a line of JSON.
-ghost use Rattle.std.specs.Prelude.{◌≡◌, ◌++◌, ◌↔◌, ℕ, List, codes, IfOk, OnOk, OnErr, IsErrOf, string_bytes, take};
+ghost use Rattle.std.specs.Prelude.{◌≡◌, ◌++◌, ◌↔◌, ℕ, List, codes, IfOk, OnOk, IfErr, IsErrOf, string_bytes, take};
 ghost use Rattle.std.specs.Io.KnownBytes.{Appends};
 ghost use Rattle.gm_game.specs.declared.position.Position.{Position};
 ghost use Rattle.serde_json.specs.View.{view};
@@ -7,7 +7,7 @@ ghost use Rattle.serde_json.specs.Written.{compact_text};
 ghost use Rattle.gm_play.specs.Dialogue.{without_return as without_return_spec};
 ghost use Rattle.gm_play.specs.PlayTexts.{IsReadAs};
 ghost use Rattle.gm_best.specs.Refusals.{AreNotHeld};
-ghost use Rattle.gm_json.specs.Asking.{IsAnswer, IsServed, IsCutShort, IsHalfSaid, error_tree};
+ghost use Rattle.gm_json.specs.Asking.{IsAnswer, IsServed, IsBroken, IsLineBroken, error_tree};
 
 use crate::ask_error::AskError;
 use crate::moves::moves_json;
@@ -28,7 +28,8 @@ const KEPT: usize = LINE + 2;
 /// `{"error":"no such position","line":N}` with the number of the line, from 1. A carriage return before the end of a line is no part of it; the last line
 /// needs no line end.
 ///
-/// It reads to the end of the input, a byte at a time. `NotHeld` comes only where a position's tier, or one of its child tiers, has no table.
+/// It reads to the end of the input, a byte at a time. `NotHeld` comes only where a position's tier, or one of its child tiers, has no table. After an error each
+/// line before the one in question is answered whole; of that one a first part of the answer is written after `WriteFailed` and `OutputClosed`, and else nothing.
 pub fn ask<G: Shown, R: Read, W: Write>(
     alloc: Global,
     tables: &Tables<G>,
@@ -36,7 +37,7 @@ pub fn ask<G: Shown, R: Read, W: Write>(
     output: &mut W,
 ) -> Result<(), AskError>
     ensures ok { OnOk result (IsServed G.Game.rules G.shown G.move_shown (R.remaining input.old) (R.remaining input.new) (W.contents output.old) (W.contents output.new)) }
-    ensures err { OnErr result (IsCutShort G.Game.rules G.shown G.move_shown (R.remaining input.old) (R.remaining input.new) (W.contents output.old) (W.contents output.new)) }
+    ensures err { IfErr result (λ e. IsBroken G.Game.rules G.shown G.move_shown e (R.remaining input.old) (R.remaining input.new) (W.contents output.old) (W.contents output.new)) }
     ensures not_held { IsErrOf result AskError.NotHeld → ((p : Position) × AreNotHeld G.Game.rules tables.now p) }
 {
     let mut line = ArrayVec::<u8, KEPT>::new();
@@ -72,7 +73,7 @@ fn answer_line<G: Shown, W: Write>(
     output: &mut W,
 ) -> Result<(), AskError>
     ensures ok { OnOk result ((out : List ℕ) × IsAnswer G.Game.rules G.shown G.move_shown line.now number out × Appends (W.contents output.old) (W.contents output.new) (out ++ codes "\n")) }
-    ensures err { OnErr result (IsHalfSaid G.Game.rules G.shown G.move_shown line.now number (W.contents output.old) (W.contents output.new)) }
+    ensures err { IfErr result (λ e. IsLineBroken G.Game.rules G.shown G.move_shown e line.now number (W.contents output.old) (W.contents output.new)) }
     ensures not_held { IsErrOf result AskError.NotHeld → ((p : Position) × AreNotHeld G.Game.rules tables.now p) }
 {
     let mut text = match ask_line(alloc, tables, line, number) {

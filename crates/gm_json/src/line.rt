@@ -3,10 +3,10 @@ ghost use Rattle.std.specs.Prelude.{◌≡◌, ◌↔◌, ◌++◌, [], true, fa
 ghost use Rattle.serde_json.specs.Data.{null, object};
 ghost use Rattle.serde_json.specs.View.{view, members_view};
 ghost use Rattle.serde_json.specs.Written.{has_float};
-ghost use Rattle.gm_game.specs.declared.position.Position.{Position};
 ghost use Rattle.gm_game.specs.Values.{IsTrueValue};
-ghost use Rattle.gm_play.specs.BestLines.{AreBest, ComesToNotHeld};
-ghost use Rattle.gm_play.specs.PlayTexts.{IsNoPosition, IsReadAs};
+ghost use Rattle.gm_play.specs.BestLines.{AreBest};
+ghost use Rattle.gm_play.specs.ByText.{PlaysNotHeld};
+ghost use Rattle.gm_play.specs.PlayTexts.{IsNoPosition};
 ghost use Rattle.gm_json.specs.Words.{line_of};
 ghost use Rattle.gm_json.specs.Lines.{again_tree, end_line, step_tree, steps_from, IsLineJson};
 
@@ -31,7 +31,8 @@ pub fn line_json<G: Shown>(
 ) -> Result<Vec<u8>, PlayError>
     ensures text { IfOk result (λ v. IsLineJson G.Game.rules G.shown G.move_shown text.now limit v.items) }
     ensures illegal { IsErrOf result PlayError.Illegal ↔ IsNoPosition G.Game.rules G.shown G.move_shown text.now }
-    ensures not_held { IsErrOf result PlayError.NotHeld → ((p : Position) × IsReadAs G.Game.rules G.shown G.move_shown text.now p × ComesToNotHeld G.Game.rules tables.now p) }
+    ensures not_held { IsErrOf result PlayError.NotHeld → PlaysNotHeld G.Game.rules G.shown G.move_shown tables.now text.now limit }
+    ensures held { IfOk result (λ _. PlaysNotHeld G.Game.rules G.shown G.move_shown tables.now text.now limit → ⊥) }
 {
     let play = best_play(alloc, tables, text, limit)?;
     let line = &play.line;

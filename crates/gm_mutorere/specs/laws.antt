@@ -1,6 +1,4 @@
 -- What follows from the definitions.
-pub mod CellFacts
-pub mod MoveFacts
-pub mod MutorereLaws
+pub mod RingTables
 pub mod RingFacts
-pub mod TextLaws
+pub mod RingLaws

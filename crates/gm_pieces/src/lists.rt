@@ -2,8 +2,8 @@
 ghost use Rattle.std.specs.Prelude.{◌≡◌, ◌==◌, true, [], map, length};
 ghost use Rattle.gm_game.specs.Ascending.{put_all};
 ghost use Rattle.gm_game.specs.Boards.{least_index as least_index_of, next_images};
-ghost use Rattle.gm_game.specs.Children.{IsSetOf};
-ghost use Rattle.gm_game.specs.Rules.{IsKind};
+ghost use Rattle.gm_game.specs.Children.{IsSetOf, HasSame, set_of};
+ghost use Rattle.gm_game.specs.Rules.{IsKind, IsFirstCanonical};
 ghost use Rattle.gm_pieces.specs.MoveGames.{board_game, move_rules, steps, befores};
 
 use crate::boards::least_position;
@@ -73,6 +73,24 @@ pub trait MoveLists: MoveRules {
         }
     }
 
+    /// Writes the positions of the least images of the boards that a move leads to over what the list holds, in any order and as often as moves lead to them.
+    fn fill_results(board: Self::Board, list: &mut ArrayVec<Position, MOVES>)
+        requires { Self.game.legal (Self.cells board) ≡ true }
+        ensures { HasSame (next_images (board_game Self.game) (Self.cells board)) list.new.items }
+    {
+        Self::fill_children(board, list);
+    }
+
+    /// How many positions `fill_children` writes.
+    fn count_children(board: Self::Board) -> usize
+        requires { Self.game.legal (Self.cells board) ≡ true }
+        ensures { result ≡ length (set_of (next_images (board_game Self.game) (Self.cells board))) }
+    {
+        let mut set = ArrayVec::new();
+        Self::fill_children(board, &mut set);
+        set.len()
+    }
+
     /// The kind of p, for a solver.
     fn kind(p: Position) -> Kind
         ensures { IsKind (move_rules Self.game) p result }
@@ -88,6 +106,18 @@ pub trait MoveLists: MoveRules {
             Some(end) => Kind::Ended(end),
             None => Kind::Inner,
         }
+    }
+
+    /// The first index of the tier from `lo` up to `hi` that is that of a canonical legal position; `None` where there is none.
+    fn first_canonical(tier: u64, lo: u64, hi: u64) -> Option<u64>
+        ensures { IsFirstCanonical (move_rules Self.game) tier lo hi result }
+    {
+        for index in lo..hi.min(Self::tier_size(tier)) {
+            if Self::is_canonical(Position { tier, index }, Self::board(tier, index)) {
+                return Some(index);
+            }
+        }
+        None
     }
 
     /// The least indexes of the boards of the tier from which a move leads to this one, ascending and once each.

@@ -57,8 +57,20 @@ impl<T: MoveLists> Game for OnBoards<T> {
         T::fill_children(board::<T>(p), set);
     }
 
+    fn fill_results(p: Position, list: &mut ArrayVec<Position, MOVES>) {
+        T::fill_results(board::<T>(p), list);
+    }
+
+    fn count_children(p: Position) -> usize {
+        T::count_children(board::<T>(p))
+    }
+
     fn kind(p: Position) -> Kind {
         T::kind(p)
+    }
+
+    fn first_canonical(tier: u64, lo: u64, hi: u64) -> Option<u64> {
+        T::first_canonical(tier, lo, hi)
     }
 
     fn parents(c: Position, tier: u64) -> ArrayVec<u64, PARENTS> {

@@ -12,7 +12,7 @@ use Rattle.gm_best.specs.declared.play_error.PlayError.TheVariants.{Illegal, Not
 use Rattle.gm_best.specs.BestMoves.{IsBestMove}
 use Rattle.gm_best.specs.Refusals.{AreNotHeld}
 use Rattle.gm_best.proofs.Refusing.{ok_apart}
-use Rattle.gm_play.specs.BestLines.{ComesToNotHeld}
+use Rattle.gm_play.specs.BestLines.{AreFresh, ComesToNotHeld}
 use Rattle.gm_play.proofs.Walking.{IsOnWay}
 
 -- an error that is passed on is what it was
@@ -43,8 +43,9 @@ pub no_refusal : {T P : Type 0} → (x : T) → IsErrOf {T = T} {E = PlayError} 
 no_refusal x h = absurd (ok_apart x NotHeld h)
 
 -- where the place that a line has come to isn't held, the line comes to such a place
-pub comes : (r : Rules) (entries : List TableData) (start : Position) (limit : ℕ) (ms : List ℕ) (ps : List Position) (p : Position) → IsOnWay r start limit ms ps p → AreNotHeld r entries p → ComesToNotHeld r entries start
-comes r entries start limit ms ps p on not = (ms, on.best, subst (AreNotHeld r entries) on.here not)
+pub comes : (r : Rules) (entries : List TableData) (start : Position) (limit : ℕ) (ms : List ℕ) (ps : List Position) (p : Position) → IsOnWay r start limit ms ps p → length ms < limit → AreNotHeld r entries p
+    → ComesToNotHeld r entries start limit
+comes r entries start limit ms ps p on low not = (ms, low, on.best, subst AreFresh on.along on.fresh, subst (AreNotHeld r entries) on.here not)
 
 -- one move more leaves one fewer to the limit
 pub fewer : (ms new : List ℕ) (m limit : ℕ) → new ≡ ms ++ m ∷ [] → length ms < limit → limit - length new < limit - length ms
@@ -76,3 +77,8 @@ best_in r p m o e h = subst (λ (x : Result (Option ℕ) AnswerError). IfOk x (I
 pub best_there : (r : Rules) (p : Position) (o : Option ℕ) → r.primitive p ≡ None → IsBestMove r p o → IsSome o
 best_there r p None e h = absurd (h e)
 best_there r p (Some m) e h = refl
+
+-- what holds whatever is answered holds of an answer
+pub whatever : {T E P : Type 0} → (r : Result T E) → P → IfOk r (λ x. P)
+whatever (Ok x) p = p
+whatever (Err e) p = tt

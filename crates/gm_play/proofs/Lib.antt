@@ -3,6 +3,7 @@ pub mod Held
 pub mod Lowering
 pub mod Ranking
 pub mod Walking
+pub mod Unheld
 pub mod Exits
 pub mod Choices
 pub mod Refused

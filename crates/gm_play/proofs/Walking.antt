@@ -73,7 +73,7 @@ pub begins : (r : Rules) (start : Position) (limit : ℕ) → r.is_legal start �
 begins r start limit legal = record { best = tt; along = refl; here = refl; legal = legal; few = omega arith; fresh = fresh_one start }
 
 module _ (r : Rules) (start : Position) (limit : ℕ) (moves : List ℕ) (positions : List Position) (p : Position) (h : IsOnWay r start limit moves positions p) where
-  best_next : (m : ℕ) → IsBestMove r p (Some m) → AreBest r start (moves ++ m ∷ [])
+  pub best_next : (m : ℕ) → IsBestMove r p (Some m) → AreBest r start (moves ++ m ∷ [])
   best_next m b = best_push r start moves m h.best (subst (λ (q : Position). IsBestMove r q (Some m)) h.here b)
 
   after_next : (m : ℕ) → r.play p m ≡ position_after r start (moves ++ m ∷ [])
@@ -112,7 +112,7 @@ module _ (r : Rules) (start : Position) (limit : ℕ) (moves : List ℕ) (positi
     end = subst (EndsSo r start limit line.moves.items) (sym w) (subst (λ (ms : List ℕ). EndsSo r start limit ms Cut) (sym e) (ap r.primitive (sym h.here) ∙ open_, (let few = h.few in omega arith), subst AreFresh h.along h.fresh));
   }
 
-  came_before : (m k : ℕ) → slice_get positions k ≡ Some (r.play p m) → EndsSo r start limit (moves ++ m ∷ []) (Again k)
+  pub came_before : (m k : ℕ) → slice_get positions k ≡ Some (r.play p m) → EndsSo r start limit (moves ++ m ∷ []) (Again k)
   came_before m k there =
       let q = r.play p m in
       let long : length positions ≡ length moves + 1 = ap length h.along ∙ along_length r start moves in

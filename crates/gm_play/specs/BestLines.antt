@@ -46,6 +46,6 @@ pub record IsWhole (r : Rules) (p : Position) (limit : ℕ) (line : BestLine) : 
   pub cut : (v : Value) (n : ℕ) → HasValue r p v n → v ≢ Draw → limit < n → line.end ≡ Cut
   pub drawn : (n : ℕ) → HasValue r p Draw n → line.end ≢ Over
 
--- the line comes to a position whose tier, or one of its child tiers, has no table
-abbrev pub ComesToNotHeld : Rules → List TableData → Position → Type 0
-ComesToNotHeld r entries p = (ms : List ℕ) × AreBest r p ms × AreNotHeld r entries (position_after r p ms)
+-- fewer best moves than the limit, through positions that come once, lead to a position whose tier, or one of its child tiers, has no table
+abbrev pub ComesToNotHeld : Rules → List TableData → Position → ℕ → Type 0
+ComesToNotHeld r entries p limit = (ms : List ℕ) × (length ms < limit) × AreBest r p ms × AreFresh (positions_along r p ms) × AreNotHeld r entries (position_after r p ms)

@@ -48,7 +48,8 @@ impl Drop for BestLine {
 /// The line of play in which both sides make their best moves, up to the end of the game, to a position that has come before, or to `limit` moves.
 ///
 /// Each best move lowers the remoteness by one: from a win, a loss or a tie the line has as many moves as the remoteness says, unless it is cut. Play from a
-/// draw does not end. `Illegal` is tested first; `NotHeld` is answered where the line comes to a position whose tier, or one of its child tiers, has no table.
+/// draw does not end. `Illegal` is tested first; `NotHeld` is answered exactly where the line comes, before it ends, to a position whose tier, or one of its child
+/// tiers, has no table.
 /// Each position is looked for among those before it.
 pub fn best_line<G: Game>(
     alloc: Global,
@@ -59,7 +60,8 @@ pub fn best_line<G: Game>(
     ensures line { IfOk result (IsBestLine G.rules start limit) }
     ensures whole { IfOk result (IsWhole G.rules start limit) }
     ensures illegal { IsErrOf result PlayError.Illegal ↔ (G.rules.is_legal start ≡ false) }
-    ensures not_held { IsErrOf result PlayError.NotHeld → ComesToNotHeld G.rules tables.now start }
+    ensures not_held { IsErrOf result PlayError.NotHeld → ComesToNotHeld G.rules tables.now start limit }
+    ensures held { IfOk result (λ _. ComesToNotHeld G.rules tables.now start limit → ⊥) }
 {
     if !G::is_legal(start) {
         return Err(PlayError::Illegal);
@@ -77,7 +79,8 @@ fn walk<G: Game>(
     requires { G.rules.is_legal start ≡ true }
     ensures line { IfOk result (IsBestLine G.rules start limit) }
     ensures legal { IfErr result (λ e. e ≡ PlayError.Illegal → ⊥) }
-    ensures not_held { IsErrOf result PlayError.NotHeld → ComesToNotHeld G.rules tables.now start }
+    ensures not_held { IsErrOf result PlayError.NotHeld → ComesToNotHeld G.rules tables.now start limit }
+    ensures held { IfOk result (λ _. ComesToNotHeld G.rules tables.now start limit → ⊥) }
 {
     let mut moves = Vec::new(alloc);
     let mut positions = Vec::new(alloc);
@@ -102,7 +105,8 @@ fn follow<G: Game>(
     ensures line { IfOk result (λ end. (line : BestLine) → line.moves.items ≡ moves.new.items → line.positions.items ≡ positions.new.items → line.end ≡ end
         → IsBestLine G.rules start limit line) }
     ensures legal { IfErr result (λ e. e ≡ PlayError.Illegal → ⊥) }
-    ensures not_held { IsErrOf result PlayError.NotHeld → ComesToNotHeld G.rules tables.now start }
+    ensures not_held { IsErrOf result PlayError.NotHeld → ComesToNotHeld G.rules tables.now start limit }
+    ensures held { IfOk result (λ _. ComesToNotHeld G.rules tables.now start limit → ⊥) }
 {
     let mut p = start;
     push_position(positions, p)?;
@@ -150,6 +154,7 @@ fn next_move<G: Game>(tables: &Tables<G>, p: Position) -> Result<Option<u32>, Pl
     ensures best { IfOk result (IsBestMove G.rules p) }
     ensures err { IfErr result (λ e. e ≡ PlayError.NotHeld) }
     ensures not_held { IsErrOf result PlayError.NotHeld → AreNotHeld G.rules tables.now p }
+    ensures held { IfOk result (λ _. AreNotHeld G.rules tables.now p → ⊥) }
 {
     match best_move(tables, p) {
         Ok(best) => Ok(best),

@@ -3,8 +3,7 @@ ghost use Rattle.std.specs.Prelude.{◌≡◌, ◌↔◌, true, IfOk, IfErr, IsE
 ghost use Rattle.std.specs.List.{All};
 ghost use Rattle.gm_game.specs.declared.position.Position.{Position};
 ghost use Rattle.gm_game.specs.Values.{IsTrueValue};
-ghost use Rattle.gm_play.specs.BestLines.{ComesToNotHeld};
-ghost use Rattle.gm_play.specs.ByText.{IsBestPlay, AreMovesAt};
+ghost use Rattle.gm_play.specs.ByText.{IsBestPlay, AreMovesAt, PlaysNotHeld};
 ghost use Rattle.gm_play.specs.PlayTexts.{after_best, IsMoveOf, IsReadAs, IsNoPosition};
 ghost use Rattle.gm_best.specs.Refusals.{IsNotHeld, AreNotHeld};
 
@@ -40,7 +39,8 @@ pub fn best_play<G: Shown>(
 ) -> Result<BestPlay, PlayError>
     ensures play { IfOk result (IsBestPlay G.Game.rules G.shown G.move_shown text.now limit) }
     ensures illegal { IsErrOf result PlayError.Illegal ↔ IsNoPosition G.Game.rules G.shown G.move_shown text.now }
-    ensures not_held { IsErrOf result PlayError.NotHeld → ((p : Position) × IsReadAs G.Game.rules G.shown G.move_shown text.now p × ComesToNotHeld G.Game.rules tables.now p) }
+    ensures not_held { IsErrOf result PlayError.NotHeld → PlaysNotHeld G.Game.rules G.shown G.move_shown tables.now text.now limit }
+    ensures held { IfOk result (λ _. PlaysNotHeld G.Game.rules G.shown G.move_shown tables.now text.now limit → ⊥) }
 {
     let start = match G::read(text) {
         Some(p) => p,

@@ -14,3 +14,7 @@ pub mod streams;
 pub mod texts;
 pub(crate) mod turns;
 pub mod view;
+
+pub use gm_best::answer::{AnswerError, answer};
+pub use gm_best::best_move::best_move;
+pub use gm_best::side::Side;

@@ -3,7 +3,8 @@ ghost use Rattle.std.specs.Prelude.{◌≡◌, ◌↔◌, ◌∷◌, ◌++◌, �
 ghost use Rattle.gm_game.specs.declared.position.Position.{Position};
 ghost use Rattle.std.specs.List.{All, Contains, flat_map};
 ghost use Rattle.gm_game.specs.Texts.{text_of};
-ghost use Rattle.gm_play.specs.BestLines.{AreBest, ComesToNotHeld};
+ghost use Rattle.gm_play.specs.BestLines.{AreBest};
+ghost use Rattle.gm_play.specs.ByText.{PlaysNotHeld};
 ghost use Rattle.gm_play.specs.PlayTexts.{row, end_row, after_best, IsMoveOf, IsReadAs, IsNoPosition, IsAnswerText, move_row, AreMoveRows, rows_from, IsLineText};
 ghost use Rattle.gm_best.specs.Refusals.{IsNotHeld, AreNotHeld};
 
@@ -107,7 +108,8 @@ pub fn line_text<G: Shown>(
 ) -> Result<Vec<u8>, PlayError>
     ensures text { IfOk result (λ v. IsLineText G.Game.rules G.shown G.move_shown text.now limit v.items) }
     ensures illegal { IsErrOf result PlayError.Illegal ↔ IsNoPosition G.Game.rules G.shown G.move_shown text.now }
-    ensures not_held { IsErrOf result PlayError.NotHeld → ((p : Position) × IsReadAs G.Game.rules G.shown G.move_shown text.now p × ComesToNotHeld G.Game.rules tables.now p) }
+    ensures not_held { IsErrOf result PlayError.NotHeld → PlaysNotHeld G.Game.rules G.shown G.move_shown tables.now text.now limit }
+    ensures held { IfOk result (λ _. PlaysNotHeld G.Game.rules G.shown G.move_shown tables.now text.now limit → ⊥) }
 {
     let play = best_play(alloc, tables, text, limit)?;
     let rows = line_rows::<G>(alloc, &play);

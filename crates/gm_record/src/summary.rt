@@ -1,5 +1,5 @@
 //! What the records of a position's children say of its value.
-ghost use Rattle.std.specs.Prelude.{◌≡◌, ◌↔◌, ◌+◌, IsTrue, Some};
+ghost use Rattle.std.specs.Prelude.{◌≡◌, ◌↔◌, ◌+◌, IsTrue, None, Some};
 ghost use Rattle.gm_game.specs.Records.{settle, solved as solved_spec, lost_in, won_in, tied_in, lesser, greater};
 
 use gm_game::position::{Solved, Value};
@@ -13,6 +13,19 @@ pub struct Summary {
 }
 
 impl Summary {
+    /// What the records of no children say: none is a loss or a tie, and as all of none are wins, the greatest remoteness of a win is 0.
+    pub fn of_none() -> Summary
+        ensures lost { result.lost ≡ None }
+        ensures won { result.won ≡ Some 0 }
+        ensures tied { result.tied ≡ None }
+    {
+        Summary {
+            lost: None,
+            won: Some(0),
+            tied: None,
+        }
+    }
+
     /// The same with one more child's record.
     pub fn with(self, known: Option<Solved>) -> Summary
         ensures lost { result.lost ≡ lesser self.lost (lost_in known) }

@@ -31,7 +31,7 @@ use Rattle.gm_deliveries.specs.declared.status.Refused.TheVariants.{NotThisLevel
 use Rattle.gm_deliveries.specs.Delivery.{IsPairHere, IsSettledNow, Delivers}
 use Rattle.gm_deliveries.proofs.StatusLemmas.{settled_same}
 use Rattle.gm_deliveries.specs.Steps.{place_of}
-use Rattle.gm_solver.specs.Solving.{IsTooFar}
+use Rattle.gm_table.specs.Solving.{IsTooFar}
 use Rattle.gm_desk.specs.Spots.{IsDeliverable}
 use Rattle.gm_solver.specs.Covered.{IsCovered}
 use Rattle.gm_desk.proofs.Places.{value_stands, stands_remoteness}

@@ -18,7 +18,7 @@ use Rattle.gm_frontier.proofs.PairLemmas.{near_of_pair}
 use Rattle.gm_deliveries.specs.State.{ShardState}
 use Rattle.gm_deliveries.specs.Steps.{place_of}
 use Rattle.gm_deliveries.specs.Closing.{ArePart}
-use Rattle.gm_solver.specs.Solving.{IsDelivery, AreDeliveries, IsTooFar}
+use Rattle.gm_table.specs.Solving.{IsDelivery, AreDeliveries, IsTooFar}
 use Rattle.gm_solver.specs.Over.{IsOver}
 use Rattle.gm_desk.proofs.Places.{stands_no_draw, value_place}
 use Rattle.gm_solver.proofs.Far.{table_knows, child_known}

@@ -9,3 +9,4 @@ pub mod OneTally
 pub mod SmallTiers
 pub mod BlockLemmas
 pub mod WalkLemmas
+pub mod InOrderLemmas

@@ -1,14 +1,11 @@
 -- The canonical children of a tier, in blocks of 512 indexes that are dealt out to 32 classes in turn.
-use Rattle.std.specs.Prelude.{◌≡◌, ℕ, ◌+◌, ◌*◌, ◌/◌, ◌%◌, ◌≤◌, suc, min, List, [], ◌∷◌, ◌++◌, Some, Result, Ok, Vec, length, slice_get}
+use Rattle.std.specs.Prelude.{◌≡◌, ℕ, ◌+◌, ◌*◌, ◌≤◌, suc, min, List, [], ◌∷◌, ◌++◌, Some, Result, Ok, Vec, length, slice_get}
 use Rattle.std.specs.declared.alloc.Global.{Global}
 use Rattle.gm_game.specs.Rules.{Rules}
+use Rattle.gm_table.specs.Dealing.{block_in}
 use Rattle.gm_deliveries.specs.declared.status.Start.{Start}
 use Rattle.gm_deliveries.specs.Begin.{AreStarts}
 use Rattle.gm_shard.specs.Lists.{ListsData}
-
--- the number of the block that is scanned at a place, where blocks are scanned class after class and each class has this many
-abbrev pub block_in : ℕ → ℕ → ℕ
-block_in rows place = place % rows * 32 + place / rows
 
 -- block k of a tier: the indexes from k times the width on, as many as the width, cut at the tier's size
 abbrev pub block_at : Rules → ℕ → ℕ → ListsData

@@ -1,7 +1,9 @@
 pub mod Solving
 pub mod Over
+pub mod Ready
 pub mod Plans
 pub mod Tiling
 pub mod Found
 pub mod Covered
 pub mod Blocks
+pub mod Batches

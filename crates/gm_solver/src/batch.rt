@@ -1,5 +1,5 @@
 //! Pairs that wait for the lock of one shard, so that many are delivered each time that it is taken.
-ghost use Rattle.std.specs.Prelude.{◌≡◌, ◌≤◌, List, length, IsTrue};
+ghost use Rattle.std.specs.Prelude.{◌≡◌, ◌++◌, ◌∷◌, [], IfOk, OnOk};
 ghost use Rattle.gm_deliveries.specs.Delivery.{IsPlaceOf};
 ghost use Rattle.gm_desk.specs.Batches.{ArePlaced};
 
@@ -33,7 +33,9 @@ impl<G: Game, L: Desk> Model for Batch<G, L> {
 
 impl<G: Game, L: Desk> Batch<G, L> {
     // An empty batch, with memory for as many pairs as it can have.
-    pub(crate) fn new(alloc: Global) -> Result<Self, AllocError> {
+    pub(crate) fn new(alloc: Global) -> Result<Self, AllocError>
+        ensures { IfOk result (λ batch. batch ≡ []) }
+    {
         Ok(Batch {
             pairs: Vec::with_capacity(alloc, BATCH)?,
             desk: PhantomData,
@@ -56,13 +58,16 @@ impl<G: Game, L: Desk> Batch<G, L> {
         place: Option<u32>,
     ) -> Result<(), AllocError>
         requires { IsPlaceOf G.rules note.position L.spot.tier parent place }
+        ensures { OnOk result (self.new ≡ self.old ++ (note, parent, place) ∷ []) }
     {
         self.pairs.push((note, parent, place))?;
         Ok(())
     }
 
     // Removes all pairs.
-    pub(crate) fn clear(&mut self) {
+    pub(crate) fn clear(&mut self)
+        ensures { self.new ≡ [] }
+    {
         self.pairs.clear();
     }
 }

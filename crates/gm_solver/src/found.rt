@@ -3,9 +3,10 @@ ghost use Rattle.std.specs.Prelude.{◌≡◌, ◌+◌, ◌<◌, [], length, IfO
 ghost use Rattle.gm_frontier.specs.Tallies.{AreAllTallies};
 ghost use Rattle.gm_solver.specs.Found.{AreFound, AreFilled};
 
+use crate::batch::Batch;
 use crate::gate::NoGate;
 use crate::pieces::Pieces;
-use crate::work::Walker;
+use crate::work::{Walker, empty_batches};
 use gm_desk::board::Shares;
 use gm_desk::share::Desk;
 use gm_frontier::tally::Tally;
@@ -58,6 +59,7 @@ fn fill_one<G: Game, A: Desk, B: Desk, C: Desk, D: Desk, R: Wait>(
     walker: &Walker<G, A, B, C, D, R, NoGate>,
     piece: usize,
     found: &mut Vec<Option<Tally<G>>>,
+    batches: &mut [Batch<G, A>; 4],
     rest: &mut Shares<A, B, C, D>,
     tallies: &mut Vec<Tally<G>>,
 ) -> Result<(), AllocError>
@@ -70,7 +72,26 @@ fn fill_one<G: Game, A: Desk, B: Desk, C: Desk, D: Desk, R: Wait>(
         tallies.push(tally)?;
         return Ok(());
     }
-    tallies.push(walker.walk(piece, rest)?)?;
+    tallies.push(walker.walk(piece, batches, rest)?)?;
+    Ok(())
+}
+
+// Puts the tallies of all pieces into an empty list, in order.
+fn fill_all<G: Game, A: Desk, B: Desk, C: Desk, D: Desk, R: Wait>(
+    walker: &Walker<G, A, B, C, D, R, NoGate>,
+    found: &mut Vec<Option<Tally<G>>>,
+    batches: &mut [Batch<G, A>; 4],
+    rest: &mut Shares<A, B, C, D>,
+    tallies: &mut Vec<Tally<G>>,
+) -> Result<(), AllocError>
+    requires found { AreFound walker.now.pieces.now.level.now walker.now.pieces.now.notes walker.now.pieces.now.width found.old.items }
+    requires none { tallies.old.items ≡ [] }
+    ensures parts { rest.new.parts ≡ rest.old.parts }
+    ensures all { OnOk result (AreAllTallies walker.now.pieces.now.level.now walker.now.pieces.now.notes walker.now.pieces.now.width tallies.new.items) }
+{
+    for piece in 0..found.len() {
+        fill_one(walker, piece, found, batches, rest, tallies)?;
+    }
     Ok(())
 }
 
@@ -86,8 +107,8 @@ pub(crate) fn fill<G: Game, A: Desk, B: Desk, C: Desk, D: Desk, R: Wait>(
     ensures parts { rest.new.parts ≡ rest.old.parts }
     ensures all { OnOk result (AreAllTallies walker.now.pieces.now.level.now walker.now.pieces.now.notes walker.now.pieces.now.width tallies.new.items) }
 {
-    for piece in 0..found.len() {
-        fill_one(walker, piece, found, rest, tallies)?;
-    }
-    Ok(())
+    let mut batches = empty_batches::<G, A>(walker.alloc)?;
+    let filled = fill_all(walker, found, &mut batches, rest, tallies);
+    walker.deliver_rest(&mut batches, rest);
+    filled
 }

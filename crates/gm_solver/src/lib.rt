@@ -9,6 +9,7 @@ mod crew;
 pub mod error;
 mod found;
 pub mod gate;
+mod in_order;
 mod levels;
 mod listed;
 mod means;
@@ -24,3 +25,8 @@ pub mod tier;
 pub mod tier_lists;
 mod tiles;
 mod work;
+
+pub use gm_desk::board::{Board, Four, Shares};
+pub use gm_desk::held::Held;
+pub use gm_desk::pass::{Pass, PassDesk};
+pub use gm_desk::share::Share;

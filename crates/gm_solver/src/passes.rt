@@ -85,6 +85,17 @@ fn run_workers<
     });
 }
 
+// Runs workers one after another in this thread.
+fn run_in_turn<'a, G: Game, A: Round, B: Round, C: Round, D: Round, R: Wait, T: Gate, S: Source>(
+    rt: &R,
+    posts: &Posts<'a, G, A, B, C, D, T, S>,
+    workers: usize,
+) {
+    for worker in 0..workers {
+        posts.work(rt, worker);
+    }
+}
+
 // The tally of a level as one piece, by the number of its pairs into each tile: none for a level without notes.
 fn tally_of<G: Game>(
     alloc: Global,
@@ -120,7 +131,7 @@ fn serve_named<
 >(
     means: &Means<G, R, T, S>,
     pieces: &Pieces<G>,
-    workers: usize,
+    in_turn: bool,
     blanks: Four<Blank>,
     shards: Four<Shard<G>>,
 ) -> (Four<Shard<G>>, Four<u64>)
@@ -146,7 +157,12 @@ fn serve_named<
         gate: means.gate,
         source: means.source,
     };
-    run_workers(means.rt, &posts, workers);
+    let workers = means.plan.workers().min(4);
+    if in_turn {
+        run_in_turn(means.rt, &posts, workers);
+    } else {
+        run_workers(means.rt, &posts, workers);
+    }
     let Posts { a, b, c, d, .. } = posts;
     let (a, in_a) = a.end();
     let (b, in_b) = b.end();
@@ -161,10 +177,11 @@ fn serve_named<
     (Four { a, b, c, d }, numbers)
 }
 
-// Serves a level, with one pass for each shard.
+// Serves a level, with one pass for each shard: by threads, or by one worker after another.
 fn serve_passes<G: Game + Send + Sync, R: Threads + Wait + Sync, T: Gate, S: Source>(
     means: &Means<G, R, T, S>,
     pieces: &Pieces<G>,
+    in_turn: bool,
     shards: Four<Shard<G>>,
 ) -> (Four<Shard<G>>, Four<u64>)
     requires here { AreShardsAt G.rules pieces.now.level.now.place pieces.now.width shards }
@@ -179,8 +196,7 @@ fn serve_passes<G: Game + Send + Sync, R: Threads + Wait + Sync, T: Gate, S: Sou
         c: Blank::new(1),
         d: Blank::new(1),
     };
-    let workers = means.plan.workers().min(4);
-    serve_named::<G, Brand, Brand, Brand, Brand, R, T, S>(means, pieces, workers, blanks, shards)
+    serve_named::<G, Brand, Brand, Brand, Brand, R, T, S>(means, pieces, in_turn, blanks, shards)
 }
 
 // The number of pairs in four shards.
@@ -238,6 +254,8 @@ pub(crate) fn run_passes<G: Game + Send + Sync, R: Threads + Wait + Sync, T: Gat
         ..
     } = *pieces;
     let before = delivered_to(&shards);
+    // To start a thread for an empty level, or for one of a single piece, would take longer than to serve it.
+    let in_turn = level.pieces(means.plan.piece()) <= 1;
     let notes = level.len().max(1);
     let whole = Pieces {
         level,
@@ -245,7 +263,7 @@ pub(crate) fn run_passes<G: Game + Send + Sync, R: Threads + Wait + Sync, T: Gat
         notes,
         width,
     };
-    let (mut shards, numbers) = serve_passes(means, &whole, shards);
+    let (mut shards, numbers) = serve_passes(means, &whole, in_turn, shards);
     let by_workers = delivered_to(&shards).saturating_sub(before);
     match close_passes(means.alloc, &whole, numbers, &mut shards, counts) {
         Ok(()) => Ok((shards, by_workers)),

@@ -4,7 +4,8 @@ ghost use Rattle.gm_game.specs.declared.position.Phase.TheVariants.{WinLose, Tie
 ghost use Rattle.gm_table.specs.Tables.{AreHeld, IsTable};
 ghost use Rattle.gm_frontier.specs.Levels.{place_at};
 ghost use Rattle.gm_deliveries.specs.Steps.{place_of};
-ghost use Rattle.gm_solver.specs.Solving.{IsError, IsTooFar, AreDeliveries};
+ghost use Rattle.gm_table.specs.Solving.{IsTooFar, AreDeliveries};
+ghost use Rattle.gm_solver.specs.Solving.{IsError};
 
 use crate::error::SolveError;
 use crate::gate::Gate;

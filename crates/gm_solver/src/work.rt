@@ -3,6 +3,8 @@ ghost use Rattle.std.specs.Prelude.{◌≡◌, ◌+◌, ◌<◌, ◌≤◌, ◌^
 ghost use Rattle.std.specs.Int.{div_ceil};
 ghost use Rattle.gm_frontier.specs.Pairs.{piece_of};
 ghost use Rattle.gm_frontier.specs.Tallies.{AreCounts, IsTallyOf};
+ghost use Rattle.gm_desk.specs.Batches.{ArePlaced};
+ghost use Rattle.gm_solver.specs.Batches.{left_below};
 
 use crate::batch::{BATCH, Batch};
 use crate::gate::Gate;
@@ -24,8 +26,10 @@ pub(crate) struct Slot<G: Game, A: Desk, B: Desk, C: Desk, D: Desk> {
     ghost one_part: { shares.parts ≡ 1 },
 }
 
-// An empty batch for each shard.
-fn empty_batches<G: Game, A: Desk>(alloc: Global) -> Result<[Batch<G, A>; 4], AllocError> {
+/// An empty batch for each shard.
+pub(crate) fn empty_batches<G: Game, A: Desk>(
+    alloc: Global,
+) -> Result<[Batch<G, A>; 4], AllocError> {
     let a = Batch::new(alloc)?;
     let b = Batch::new(alloc)?;
     let c = Batch::new(alloc)?;
@@ -65,8 +69,49 @@ impl<'a, 'b, G: Game, A: Desk, B: Desk, C: Desk, D: Desk, R: Wait, T: Gate> Walk
     R,
     T,
 > {
-    // Delivers a shard's batch while its lock is held once, where the batch has at least `least` pairs, and empties it. The gate is called for each pair before
-    // and after, while no lock is held.
+    // Delivers pairs to a shard, each between its own two calls of the gate: its lock is taken for each of them.
+    fn deliver_each(
+        &self,
+        shard: usize,
+        pairs: &[(Note<G>, u64, Option<u32>)],
+        shares: &mut Shares<A, B, C, D>,
+    )
+        requires shard { shard < 4 }
+        requires places { ArePlaced G.rules A.spot.tier pairs.now }
+        ensures { shares.new.parts ≡ shares.old.parts }
+    {
+        let place = self.pieces.level.place();
+        for (note, parent, stands) in pairs {
+            self.gate.before(self.rt, self.worker, place);
+            let _answer = self
+                .board
+                .deliver_at(self.rt, shard, note, *parent, *stands, shares);
+            self.gate.after(self.rt, self.worker, place);
+        }
+    }
+
+    // Delivers pairs to a shard while its lock is held once. The gate is called for each of them before and after, while no lock is held.
+    fn deliver_together(
+        &self,
+        shard: usize,
+        pairs: &[(Note<G>, u64, Option<u32>)],
+        shares: &mut Shares<A, B, C, D>,
+    )
+        requires shard { shard < 4 }
+        requires places { ArePlaced G.rules A.spot.tier pairs.now }
+        ensures { shares.new.parts ≡ shares.old.parts }
+    {
+        let place = self.pieces.level.place();
+        for _ in 0..pairs.len() {
+            self.gate.before(self.rt, self.worker, place);
+        }
+        let _fresh = self.board.deliver_all(self.rt, shard, pairs, shares);
+        for _ in 0..pairs.len() {
+            self.gate.after(self.rt, self.worker, place);
+        }
+    }
+
+    // Delivers a shard's batch where it has at least `least` pairs, and empties it.
     fn deliver_from(
         &self,
         least: usize,
@@ -75,26 +120,28 @@ impl<'a, 'b, G: Game, A: Desk, B: Desk, C: Desk, D: Desk, R: Wait, T: Gate> Walk
         shares: &mut Shares<A, B, C, D>,
     )
         requires { shard < 4 }
-        ensures { shares.new.parts ≡ shares.old.parts }
+        ensures parts { shares.new.parts ≡ shares.old.parts }
+        ensures batch { batch.new ≡ left_below least batch.old }
     {
         let pairs = batch.pairs();
         if pairs.len() < least {
             return;
         }
-        let place = self.pieces.level.place();
-        for _ in 0..pairs.len() {
-            self.gate.before(self.rt, self.worker, place);
-        }
         // A pair that is refused as too far is missing at the end of the level, where the coordinator finds it.
-        let _fresh = self.board.deliver_all(self.rt, shard, pairs, shares);
-        for _ in 0..pairs.len() {
-            self.gate.after(self.rt, self.worker, place);
+        if T::EACH {
+            self.deliver_each(shard, pairs, shares);
+        } else {
+            self.deliver_together(shard, pairs, shares);
         }
         batch.clear();
     }
 
-    // Delivers what is left in the batches of all shards.
-    fn deliver_rest(&self, batches: &mut [Batch<G, A>; 4], shares: &mut Shares<A, B, C, D>)
+    /// Delivers what is left in the batches of all shards.
+    pub(crate) fn deliver_rest(
+        &self,
+        batches: &mut [Batch<G, A>; 4],
+        shares: &mut Shares<A, B, C, D>,
+    )
         ensures { shares.new.parts ≡ shares.old.parts }
     {
         for shard in 0..4 {
@@ -120,8 +167,7 @@ impl<'a, 'b, G: Game, A: Desk, B: Desk, C: Desk, D: Desk, R: Wait, T: Gate> Walk
         batch.push(note, parent, stands)
     }
 
-    // Walks a piece's pairs once: counts each in its tile, and delivers it to its shard, many pairs each time that a lock is taken. The batches are empty at
-    // first.
+    // Walks a piece's pairs once: counts each in its tile, and puts it into the batch of its shard. Full batches are delivered.
     fn walk_pairs(
         &self,
         piece: usize,
@@ -139,14 +185,14 @@ impl<'a, 'b, G: Game, A: Desk, B: Desk, C: Desk, D: Desk, R: Wait, T: Gate> Walk
             count_in(counts, parent / pieces.width);
             self.take_pair(note, parent, batches, shares)?;
         }
-        self.deliver_rest(batches, shares);
         Ok(())
     }
 
-    /// The tally of a piece, whose pairs are delivered.
+    /// The tally of a piece, whose pairs are delivered but for those that are left in the batches.
     pub(crate) fn walk(
         &self,
         piece: usize,
+        batches: &mut [Batch<G, A>; 4],
         shares: &mut Shares<A, B, C, D>,
     ) -> Result<Tally<G>, AllocError>
         ensures parts { shares.new.parts ≡ shares.old.parts }
@@ -155,27 +201,42 @@ impl<'a, 'b, G: Game, A: Desk, B: Desk, C: Desk, D: Desk, R: Wait, T: Gate> Walk
         let pieces = self.pieces;
         let size = G::tier_size(pieces.level.place().tier);
         let mut counts = vec![in self.alloc; 0u64; size.div_ceil(pieces.width) as usize]?;
-        let mut batches = empty_batches::<G, A>(self.alloc)?;
-        let walked = self.walk_pairs(piece, &mut counts, &mut batches, shares);
-        drop(batches);
-        walked?;
+        self.walk_pairs(piece, &mut counts, batches, shares)?;
         Ok(Tally::of(pieces.level, piece, pieces.notes, pieces.width, counts))
     }
 
-    /// Takes pieces of the level until there are no more for this worker, and keeps their tallies. It asks at most as many times as there are pieces, and skips
-    /// numbers that name none. Where memory is refused a piece has no tally, and the coordinator walks it.
-    pub(crate) fn work<S: Source>(&self, source: &S, slot: &mut Slot<G, A, B, C, D>) {
-        let Slot { shares, walked } = slot;
+    // Takes pieces of the level until there are no more for this worker, and keeps their tallies. It asks at most as many times as there are pieces, and skips
+    // numbers that name none. Where memory is refused a piece has no tally, and the coordinator walks it.
+    fn walk_pieces<S: Source>(
+        &self,
+        source: &S,
+        walked: &mut Vec<Tally<G>>,
+        batches: &mut [Batch<G, A>; 4],
+        shares: &mut Shares<A, B, C, D>,
+    )
+        ensures { shares.new.parts ≡ shares.old.parts }
+    {
         let count = self.pieces.level.pieces(self.pieces.notes);
         for _ in 0..count {
             let Some(piece) = source.next(self.rt, self.worker) else {
                 return;
             };
             if piece < count
-                && let Ok(tally) = self.walk(piece, shares)
+                && let Ok(tally) = self.walk(piece, batches, shares)
             {
                 let _kept = walked.push(tally);
             }
         }
+    }
+
+    /// Does the work of a worker: it takes pieces, and delivers their pairs. What waits in its batches is kept from piece to piece. Where there is no memory for
+    /// batches it takes none.
+    pub(crate) fn work<S: Source>(&self, source: &S, slot: &mut Slot<G, A, B, C, D>) {
+        let Ok(mut batches) = empty_batches::<G, A>(self.alloc) else {
+            return;
+        };
+        let Slot { shares, walked } = slot;
+        self.walk_pieces(source, walked, &mut batches, shares);
+        self.deliver_rest(&mut batches, shares);
     }
 }

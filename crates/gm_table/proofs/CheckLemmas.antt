@@ -1,6 +1,7 @@
 -- What a checked position's canonical children say, and the records that fit.
-use Rattle.std.proofs.Common.{◌≡◌, ◌≢◌, ◌==◌, ℕ, ◌<◌, ◌+◌, true, false, slice_get, Bool, ne_eqb, eq-eqb, MatchOption, List, map, take, length, get_or, refl, sym, ap, ◌∙◌, subst, arith, inl, inr, Option, None, Some}
-use Rattle.std.proofs.lemmas.List.{map_more}
+use Rattle.std.proofs.Common.{◌≡◌, ◌≢◌, ◌==◌, ℕ, ◌<◌, ◌≤◌, ◌+◌, true, false, Bool, ne_eqb, eq-eqb, eqb-true, if◌then◌else◌, MatchOption, List, [], ◌∷◌, map, take, length, get_or, refl, sym, ap, ◌∙◌, subst, arith, inl, inr, Option, None, Some}
+use Rattle.std.specs.Option.{is_some}
+use Rattle.std.proofs.lemmas.List.{map_more, take_all}
 use Rattle.std.proofs.lemmas.Bool.{cases_eq}
 use Rattle.std.proofs.lemmas.Option.{same_Some, slice_get-get_or, slice_get_within}
 use Rattle.std.proofs.lemmas.List.Elements.{Contains-get_or}
@@ -9,13 +10,12 @@ use Rattle.gm_game.specs.declared.position.End.{End}
 use Rattle.gm_game.specs.declared.position.Solved.{Solved}
 use Rattle.gm_game.specs.Rules.{Rules, at, IsCanonical}
 use Rattle.gm_game.specs.Laws.{IsGame}
-use Rattle.gm_game.specs.Children.{AreCanonicalChildren, canonical_children_of}
+use Rattle.gm_game.specs.Children.{AreResults}
 use Rattle.gm_game.specs.Records.{lost_in, won_in, tied_in, lesser, greater, least_of, all_won, settle, settled_by, from_end}
 use Rattle.gm_game.proofs.Symmetry.{near_child}
 use Rattle.gm_game.proofs.Folding.{least_push, all_won_push}
 use Rattle.gm_game.proofs.Sets.{settled_by_list}
-use Rattle.gm_game.proofs.ChildrenLemmas.{canonical_children_listed}
-use Rattle.gm_table.specs.Tables.{TableData, record_in, value_in}
+use Rattle.gm_table.specs.Tables.{TableData, table_of, record_at, record_of, record_in, value_in, IsAtHand}
 use Rattle.gm_table.specs.Checks.{look_up, RecordFits, FitsAt, IsFirstWrong, IsFirstWrongIn, FitBetween}
 
 -- one child's record more
@@ -26,14 +26,18 @@ pub all_won_more : (look : Position → Option Solved) (cs : List Position) (i :
 all_won_more look cs i d l = ap all_won (map_more look cs i d l) ∙ all_won_push (map look (take i cs)) (look (get_or cs i d))
 
 -- a canonical child is canonical
-pub child_canonical : (r : Rules) (g : IsGame r) (p : Position) (cs : List Position) (i : ℕ) (d : Position) → r.is_legal p ≡ true → AreCanonicalChildren r p cs → i < length cs → IsCanonical r (get_or cs i d)
-child_canonical r g p cs i d l h n = (near_child r g p.tier p (get_or cs i d) refl l ((h.exact (get_or cs i d)).0 (Contains-get_or cs i d n))).0
+pub child_canonical : (r : Rules) (g : IsGame r) (p : Position) (cs : List Position) (i : ℕ) (d : Position) → r.is_legal p ≡ true → AreResults r p cs → i < length cs → IsCanonical r (get_or cs i d)
+child_canonical r g p cs i d l h n = (near_child r g p.tier p (get_or cs i d) refl l ((h (get_or cs i d)).0 (Contains-get_or cs i d n))).0
 
 -- what the canonical children say is what the rules give
-pub settled_from : (r : Rules) (look : Position → Option Solved) (p : Position) (lost won tied : Option ℕ) → r.primitive p ≡ None → lost ≡ least_of lost_in (map look (canonical_children_of r p)) → won ≡ all_won (map look (canonical_children_of r p))
-    → tied ≡ least_of tied_in (map look (canonical_children_of r p)) → settle lost won tied ≡ settled_by r look p
-settled_from r look p lost won tied o a b c =
-    let same = settled_by_list r look p (canonical_children_of r p) o (canonical_children_listed r p).exact in
+pub settled_results : (r : Rules) (look : Position → Option Solved) (p : Position) (cs : List Position) (i : ℕ) (lost won tied : Option ℕ) → r.primitive p ≡ None → AreResults r p cs → length cs ≤ i → lost ≡ least_of lost_in (map look (take i cs))
+    → won ≡ all_won (map look (take i cs)) → tied ≡ least_of tied_in (map look (take i cs)) → settle lost won tied ≡ settled_by r look p
+settled_results r look p cs i lost won tied o are past a b c =
+    let all = take_all i cs past in
+    let la : lost ≡ least_of lost_in (map look cs) = a ∙ ap (λ (ds : List Position). least_of lost_in (map look ds)) all in
+    let lb : won ≡ all_won (map look cs) = b ∙ ap (λ (ds : List Position). all_won (map look ds)) all in
+    let lc : tied ≡ least_of tied_in (map look cs) = c ∙ ap (λ (ds : List Position). least_of tied_in (map look ds)) all in
+    let same = settled_by_list r look p cs o are in
     cc
 
 pub settled_at_end : (r : Rules) (look : Position → Option Solved) (p : Position) (e : End) → r.primitive p ≡ Some e → from_end e ≡ settled_by r look p
@@ -51,6 +55,15 @@ module _ (r : Rules) (entries : List TableData) (tier : ℕ) (records : List (Op
   pub wrong_at : (i : ℕ) (d : Option Solved) → i < length records → (RecordFits r entries tier records (at tier i) (get_or records i d) → ⊥) → FitsAt r entries tier records i → ⊥
   wrong_at i d l h f = h (f (get_or records i d) (slice_get-get_or records i d l))
 
+  -- at an index that is none of a canonical position no record fits but none
+  pub hole_fits : (i : ℕ) (o : Option Solved) → (IsCanonical r (at tier i) → ⊥) → is_some o ≡ false → RecordFits r entries tier records (at tier i) o
+  hole_fits i None hole e = hole
+  hole_fits i (Some s) hole e = absurd (cc)
+
+  pub hole_filled : (i : ℕ) (o : Option Solved) → (IsCanonical r (at tier i) → ⊥) → is_some o ≡ true → RecordFits r entries tier records (at tier i) o → ⊥
+  hole_filled i None hole e = absurd (cc)
+  hole_filled i (Some s) hole e = λ h. hole h.0
+
   -- one record more fits
   pub fit_more : (lo i : ℕ) → FitBetween r entries tier records lo i → FitsAt r entries tier records i → FitBetween r entries tier records lo (i + 1)
   fit_more lo i h f k l u = elim (cases_eq k i) [ inl e ↦ subst (FitsAt r entries tier records) (sym e) f | inr o ↦ h k l (omega arith) ]
@@ -61,22 +74,34 @@ module _ (r : Rules) (entries : List TableData) (tier : ℕ) (records : List (Op
   first_of_all (Some w) h = record { there = h.1; wrong = h.2; before = λ i l. h.3 i (omega arith) l }
 
   -- what is looked up in the tier itself
-  abbrev found : Position → Bool → Option (Option Solved) → Option Solved
-  found c own o = elim own [ true ↦ elim o [ None ↦ None | Some x ↦ x ] | false ↦ value_in r entries c ]
-
-  own_tier : (c : Position) (o : Option (Option Solved)) → c.tier ≡ tier → slice_get records c.index ≡ o → found c true o ≡ look_up r entries tier records c
-  own_tier c o same e = sym (ap (λ (b : Bool). found c b (slice_get records c.index)) (eq-eqb c.tier tier same) ∙ ap (found c true) e)
-
-  pub look_up_own : (c : Position) (o : Option Solved) → c.tier ≡ tier → slice_get records c.index ≡ Some o → o ≡ look_up r entries tier records c
-  look_up_own c o same e = own_tier c (Some o) same e
-
-  pub look_up_none : (c : Position) → c.tier ≡ tier → slice_get records c.index ≡ None → None ≡ look_up r entries tier records c
-  look_up_none c same e = own_tier c None same e
+  pub look_up_own : (c : Position) (o : Option Solved) → c.tier ≡ tier → o ≡ record_at records c.index → o ≡ look_up r entries tier records c
+  look_up_own c o same e =
+      e ∙ sym (ap (λ (b : Bool). elim b [ true ↦ record_at records c.index | false ↦ value_in r entries c ]) (eq-eqb c.tier tier same))
 
   -- what is looked up in another tier
-  pub look_up_else : (c : Position) (o : Option Solved) → IsCanonical r c → c.tier ≢ tier → o ≡ record_in entries c → o ≡ look_up r entries tier records c
-  look_up_else c o is other e =
+  pub look_up_else : (c : Position) (o : Option Solved) (t : Option TableData) → IsCanonical r c → c.tier ≢ tier → t ≡ table_of entries c.tier → o ≡ record_of t c.index → o ≡ look_up r entries tier records c
+  look_up_else c o t is other held e =
       let apart : (c.tier == tier) ≡ false = ne_eqb c.tier tier other in
       let known : value_in r entries c ≡ record_in entries c = value_canonical r entries c is in
-      e ∙ sym known
-      ∙ sym (ap (λ (b : Bool). elim b [ true ↦ elim (slice_get records c.index) [ None ↦ None | Some x ↦ x ] | false ↦ value_in r entries c ]) apart)
+      e ∙ ap (λ (x : Option TableData). record_of x c.index) held ∙ read (table_of entries c.tier) refl
+      ∙ sym known
+      ∙ sym (ap (λ (b : Bool). elim b [ true ↦ record_at records c.index | false ↦ value_in r entries c ]) apart)
+    where
+      read : (x : Option TableData) → table_of entries c.tier ≡ x → record_of x c.index ≡ record_in entries c
+      read None q = sym (ap (λ (y : Option TableData). elim y [ None ↦ None | Some u ↦ record_at u.records c.index ]) q)
+      read (Some u) q = sym (ap (λ (y : Option TableData). elim y [ None ↦ None | Some v ↦ record_at v.records c.index ]) q)
+
+-- the table that is found for a tier is the tier's
+found_tier : (entries : List TableData) (tier : ℕ) (t : TableData) → table_of entries tier ≡ Some t → t.tier ≡ tier
+found_tier [] tier t e = absurd (cc)
+found_tier (x ∷ xs) tier t e = go (x.tier == tier) refl e (found_tier xs tier t)
+  where
+    go : (b : Bool) → (x.tier == tier) ≡ b → (if b then Some x else table_of xs tier) ≡ Some t → (table_of xs tier ≡ Some t → t.tier ≡ tier) → t.tier ≡ tier
+    go true q s rest = let same = same_Some x t s in subst (λ (u : TableData). u.tier ≡ tier) same (eqb-true x.tier tier q)
+    go false q s rest = rest s
+
+-- so it can be at hand
+pub at_hand_found : (entries : List TableData) (tier : ℕ) (o : Option TableData) → o ≡ table_of entries tier → IsAtHand entries o
+at_hand_found entries tier o e t s =
+    let there : table_of entries tier ≡ Some t = sym e ∙ s in
+    ap (table_of entries) (found_tier entries tier t there) ∙ there

@@ -1,5 +1,6 @@
 pub mod BlockLemmas
 pub mod CheckLemmas
+pub mod Dealt
 pub mod LevelLemmas
 pub mod PlaceLemmas
 pub mod RunLemmas

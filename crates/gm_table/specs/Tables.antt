@@ -47,6 +47,15 @@ IsHeld entries tier = IsSome (table_of entries tier)
 abbrev pub AreHeld : Rules → List TableData → ℕ → Type 0
 AreHeld r entries tier = (child : ℕ) → Contains (r.child_tiers tier) child → IsHeld entries child
 
+-- a table that is at hand is the one of its tier
+abbrev pub IsAtHand : List TableData → Option TableData → Type 0
+IsAtHand entries o = (t : TableData) → o ≡ Some t → table_of entries t.tier ≡ Some t
+
+-- the record at an index of a table, where there is one
+abbrev pub record_of : Option TableData → ℕ → Option Solved
+record_of None index = None
+record_of (Some t) index = record_at t.records index
+
 -- the record of a position in the table of its tier
 abbrev pub record_in : List TableData → Position → Option Solved
 record_in entries p = elim (table_of entries p.tier) [ None ↦ None | Some t ↦ record_at t.records p.index ]

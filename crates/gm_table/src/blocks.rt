@@ -1,5 +1,6 @@
 //! Records checked by as many threads as there are processors.
-ghost use Rattle.std.specs.Prelude.{◌≡◌, ◌<◌, ◌≤◌, ℕ, length, MatchOption};
+ghost use Rattle.std.specs.Prelude.{◌≡◌, ◌↔◌, ◌<◌, ◌≤◌, ℕ, length, IsTrue, MatchOption};
+ghost use Rattle.gm_game.specs.Rules.{AreHoles};
 ghost use Rattle.gm_game.specs.declared.limits.TheConstants.{TIER_SIZE};
 ghost use Rattle.gm_table.specs.Checks.{FitsAt, IsFirstWrong, IsFirstWrongIn, IsFirstOfClass};
 
@@ -35,6 +36,39 @@ struct Given<'a, G: Game> {
 }
 
 impl<'a, G: Game> Given<'a, G> {
+    // The least index from `lo` up to `hi` that has a record, where no index is that of a canonical legal position.
+    fn first_filled(&self, lo: usize, hi: usize) -> Option<u64>
+        requires within { hi ≤ length self.now.records.now }
+        requires holes { AreHoles G.rules self.now.tier lo hi }
+        ensures { IsFirstWrongIn G.rules self.now.tables.now self.now.tier self.now.records.now lo hi result }
+    {
+        for index in lo..hi {
+            if self.records[index].is_some() {
+                return Some(index as u64);
+            }
+        }
+        None
+    }
+
+    // Whether the record at an index fits. Children are written over what `children` holds.
+    fn fits_at(&self, children: &mut ArrayVec<Position, MOVES>, index: usize) -> bool
+        requires { index < length self.now.records.now }
+        ensures { IsTrue result ↔ FitsAt G.rules self.now.tables.now self.now.tier self.now.records.now index }
+    {
+        let p = Position {
+            tier: self.tier,
+            index: index as u64,
+        };
+        fits::<G>(
+            self.tier,
+            self.records,
+            self.tables,
+            children,
+            p,
+            self.records[index],
+        )
+    }
+
     // The least index from `lo` up to `hi` whose record doesn't fit. Children are written over what `children` holds.
     fn first_between(
         &self,
@@ -42,20 +76,23 @@ impl<'a, G: Game> Given<'a, G> {
         lo: usize,
         hi: usize,
     ) -> Option<u64>
-        requires { hi ≤ length self.now.records.now }
+        requires order { lo ≤ hi }
+        requires within { hi ≤ length self.now.records.now }
         ensures { IsFirstWrongIn G.rules self.now.tables.now self.now.tier self.now.records.now lo hi result }
     {
-        for index in lo..hi {
-            let p = Position {
-                tier: self.tier,
-                index: index as u64,
-            };
-            let known = self.records[index];
-            if !fits::<G>(self.tier, self.records, self.tables, children, p, known) {
-                return Some(index as u64);
+        let mut next = lo;
+        while let Some(canonical) = G::first_canonical(self.tier, next as u64, hi as u64) {
+            let index = canonical as usize;
+            let filled = self.first_filled(next, index);
+            if filled.is_some() {
+                return filled;
             }
+            if !self.fits_at(children, index) {
+                return Some(canonical);
+            }
+            next = index + 1;
         }
-        None
+        self.first_filled(next, hi)
     }
 
     // The least index of a class whose record doesn't fit, or how many records there are.

@@ -1,15 +1,14 @@
 //! The checker: how records from anywhere become a table.
-ghost use Rattle.std.specs.Prelude.{◌≡◌, ◌≢◌, ◌↔◌, ◌+◌, ◌≤◌, ℕ, true, length, IsTrue, IfOk, IsErrOf, IsOkUnless, MatchOption};
+ghost use Rattle.std.specs.Prelude.{◌≡◌, ◌≢◌, ◌↔◌, ◌+◌, ◌≤◌, ℕ, true, length, IsTrue, IfOk, IsErrOf, IsOkUnless, MatchOption, option_copied};
 ghost use Rattle.gm_game.specs.Rules.{IsCanonical, IsInner};
-ghost use Rattle.gm_game.specs.Records.{IsTrueTable, lost_in, won_in, tied_in, least_of, all_won};
-ghost use Rattle.gm_table.specs.Tables.{IsTable, AreHeld};
-ghost use Rattle.gm_table.specs.Checks.{FitTables, look_up, child_records, value_from, RecordFits, FitsAt, IsFirstWrong, number_of};
+ghost use Rattle.gm_game.specs.Records.{IsTrueTable, settle};
+ghost use Rattle.gm_table.specs.Tables.{IsTable, AreHeld, record_at, record_of, table_of, IsAtHand};
+ghost use Rattle.gm_table.specs.Checks.{FitTables, look_up, value_from, RecordFits, FitsAt, IsFirstWrong, number_of};
 
 use crate::blocks::{first_wrong, first_wrong_by};
 use crate::table::Table;
 use crate::tables::Tables;
 use arrayvec::ArrayVec;
-use gm_game::children::fill_children;
 use gm_game::evaluate::of_end;
 use gm_game::game::Game;
 use gm_game::limits::{MOVES, REMOTENESS, TIER_SIZE};
@@ -198,36 +197,66 @@ fn gather<G: Game>(
     children: &mut ArrayVec<Position, MOVES>,
     p: Position,
 ) -> Summary
-    requires { G.rules.is_legal p ≡ true }
-    ensures lost { result.lost ≡ least_of lost_in (child_records G.rules tables.now tier records.now p) }
-    ensures won { result.won ≡ all_won (child_records G.rules tables.now tier records.now p) }
-    ensures tied { result.tied ≡ least_of tied_in (child_records G.rules tables.now tier records.now p) }
+    requires { IsInner G.rules p }
+    ensures { settle result.lost result.won result.tied ≡ value_from G.rules tables.now tier records.now p }
 {
-    fill_children::<G>(p, children);
-    let mut seen = Summary {
-        lost: None,
-        won: Some(0),
-        tied: None,
-    };
+    G::fill_results(p, children);
+    let mut seen = Summary::of_none();
+    let mut at_hand = None;
     for c in children.as_slice() {
-        seen = seen.with(look_up::<G>(tier, records, tables, *c));
+        let (known, table) = look_up::<G>(tier, records, tables, at_hand, *c);
+        seen = seen.with(known);
+        at_hand = table;
     }
     seen
 }
 
-// The record of a canonical position: a given one in the tier, and elsewhere that of a table.
-fn look_up<G: Game>(
+// The record of a canonical position: a given one in the tier, and elsewhere that of a table. The table that was read last is at hand for the next position:
+// children ascend, so a table serves many of them.
+fn look_up<'a, G: Game>(
     tier: u64,
     records: &[Option<Solved>],
-    tables: &Tables<G>,
+    tables: &'a Tables<G>,
+    at_hand: Option<&'a Table<G>>,
     c: Position,
-) -> Option<Solved>
-    requires { IsCanonical G.rules c }
-    ensures { result ≡ look_up G.rules tables.now tier records.now c }
+) -> (Option<Solved>, Option<&'a Table<G>>)
+    requires canonical { IsCanonical G.rules c }
+    requires at_hand { IsAtHand tables.now (option_copied at_hand) }
+    ensures record { result.0 ≡ look_up G.rules tables.now tier records.now c }
+    ensures at_hand { IsAtHand tables.now (option_copied result.1) }
 {
     if c.tier == tier {
-        *records.get(c.index as usize)?
-    } else {
-        tables.record(c)
+        return (own_record(records, c.index), at_hand);
+    }
+    let table = table_for(tables, at_hand, c.tier);
+    (record_of(table, c.index), table)
+}
+
+// The record at an index; `None` past the end.
+fn own_record(records: &[Option<Solved>], index: u64) -> Option<Solved>
+    ensures { result ≡ record_at records.now index }
+{
+    *records.get(index as usize)?
+}
+
+// The record at an index of a table, where there is one.
+fn record_of<G: Game>(table: Option<&Table<G>>, index: u64) -> Option<Solved>
+    ensures { result ≡ record_of (option_copied table.entry) index }
+{
+    table?.at(index)
+}
+
+// The table of a tier: the one at hand, where it is that tier's.
+fn table_for<'a, G: Game>(
+    tables: &'a Tables<G>,
+    at_hand: Option<&'a Table<G>>,
+    tier: u64,
+) -> Option<&'a Table<G>>
+    requires { IsAtHand tables.now (option_copied at_hand) }
+    ensures { option_copied result ≡ table_of tables.now tier }
+{
+    match at_hand {
+        Some(table) if table.tier() == tier => Some(table),
+        _ => tables.table(tier),
     }
 }

@@ -5,6 +5,7 @@
 
 mod blocks;
 pub mod checker;
+pub mod dealing;
 mod entry;
 mod levels;
 pub mod packed;

@@ -1,6 +1,8 @@
 //! Records of four bytes each.
-ghost use Rattle.std.specs.Prelude.{◌≡◌, ◌≢◌, ◌*◌, ◌≤◌, ◌<◌, ◌++◌, [], ◌∷◌, map, take, IfSome, IfOk, length, OnOk, OnErr};
+ghost use Rattle.std.specs.Prelude.{◌≡◌, ◌≢◌, ◌*◌, ◌≤◌, ◌<◌, ◌++◌, [], ◌∷◌, None, map, replicate, take, IfSome, IfOk, length, OnOk, OnErr};
 ghost use Rattle.gm_game.specs.declared.limits.TheConstants.{REMOTENESS};
+ghost use Rattle.gm_record.specs.declared.version.Version.TheVariants.{Two};
+ghost use Rattle.gm_record.specs.Numbers.{code, record_number};
 ghost use Rattle.gm_table.specs.Packed.{code_of, unpacked, IsNear, AreNear};
 ghost use Rattle.gm_table.specs.Tables.{record_at};
 
@@ -46,6 +48,25 @@ impl Packed {
         Ok(())
     }
 
+    /// Adds other records at the end. Where memory is refused the records are as before.
+    pub fn append(&mut self, more: &Packed) -> Result<(), AllocError>
+        ensures ok { OnOk result (self.new ≡ self.old ++ more.now) }
+        ensures err { OnErr result (self.new ≡ self.old) }
+    {
+        self.numbers.extend_from_slice(more.numbers.as_slice())?;
+        Ok(())
+    }
+
+    /// Adds so many times no record at the end. Where memory is refused some of them may have been added.
+    pub fn push_none(&mut self, count: usize) -> Result<(), AllocError>
+        ensures { OnOk result (self.new ≡ self.old ++ replicate count None) }
+    {
+        for _ in 0..count {
+            self.push(None)?;
+        }
+        Ok(())
+    }
+
     /// Keeps this many of the first records.
     pub fn truncate(&mut self, count: usize)
         ensures { self.new ≡ take count self.old }
@@ -83,6 +104,7 @@ impl Packed {
 // The code of a value.
 fn code_of(value: Value) -> u32
     ensures value { result ≡ code_of value }
+    ensures stored { result ≡ code value }
     ensures few { result ≤ 4 }
 {
     match value {
@@ -93,9 +115,10 @@ fn code_of(value: Value) -> u32
     }
 }
 
-/// The number of a record within the greatest remoteness. It is never 1.
+/// The number of a record within the greatest remoteness: that of a tier file of version 2 (docs/FORMATS.md, "Tier file"). It is never 1.
 pub fn number_of(known: Option<Solved>) -> u32
     requires { IsNear known }
+    ensures stored { result ≡ record_number Two known }
     ensures number { unpacked result ≡ known }
     ensures apart { result ≢ 1 }
 {

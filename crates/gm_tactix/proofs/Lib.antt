@@ -3,6 +3,10 @@ pub mod MaskSteps
 pub mod MaskMoves
 pub mod StartPosition
 pub mod TextSteps
+pub mod ImageTable
+pub mod LeftSteps
 pub mod MaskTable
 pub mod BeforeSteps
 pub mod ChildSteps
+pub mod FirstSteps
+pub mod SegmentList

@@ -3,6 +3,7 @@
 
 pub mod children;
 pub mod counters;
+mod images;
 pub mod masks;
 pub mod moves;
 pub mod parents;

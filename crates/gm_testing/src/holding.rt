@@ -1,7 +1,7 @@
 //! Tiers that are solved one after another.
 ghost use Rattle.std.specs.Prelude.{◌≡◌, ◌≤◌, IfOk, OnOk};
 ghost use Rattle.gm_table.specs.Tables.{TableData, AreHeld, IsTable, Inserts};
-ghost use Rattle.gm_solver.specs.Solving.{AreDeliveries};
+ghost use Rattle.gm_table.specs.Solving.{AreDeliveries};
 
 use gm_game::game::Game;
 use gm_game::limits::TIER_SIZE;

@@ -139,12 +139,42 @@ pub struct Turnstile {
     lock: Mutex<u32>,
 }
 
+/// One seat: it is taken before a delivery and freed after it, so that a worker waits while another one delivers, for at most a million turns.
+#[derive(Drop)]
+pub struct Seat {
+    taken: Mutex<bool>,
+    seated: AtomicUsize,
+    gave_up: AtomicUsize,
+}
+
+impl Seat {
+    // Takes the seat where it is free, and answers whether it was.
+    fn try_take<R: Wait>(&self, rt: &R) -> bool {
+        let mut taken = self.taken.lock(rt);
+        let is_free = !*taken;
+        *taken = true;
+        is_free
+    }
+
+    // Waits for the seat, and takes it.
+    fn take<R: Wait>(&self, rt: &R) {
+        for _ in 0..1_000_000 {
+            if self.try_take(rt) {
+                self.seated.fetch_add(1, Ordering::SeqCst);
+                return;
+            }
+        }
+        self.gave_up.fetch_add(1, Ordering::SeqCst);
+    }
+}
+
 /// A gate that does nothing, or one of those above.
 #[derive(Drop)]
 pub enum TestGate {
     Open,
     Meeting(Meeting),
     Turnstile(Turnstile),
+    Seat(Seat),
 }
 
 impl TestGate {
@@ -165,6 +195,26 @@ impl TestGate {
             turns,
             lock: Mutex::new(0),
         })
+    }
+
+    /// A free seat.
+    pub fn seat() -> Self {
+        TestGate::Seat(Seat {
+            taken: Mutex::new(false),
+            seated: AtomicUsize::new(0),
+            gave_up: AtomicUsize::new(0),
+        })
+    }
+
+    /// How often a seat was taken, and how often a worker gave up waiting for it.
+    pub fn seated(&self) -> (usize, usize) {
+        match self {
+            TestGate::Seat(seat) => (
+                seat.seated.load(Ordering::SeqCst),
+                seat.gave_up.load(Ordering::SeqCst),
+            ),
+            _ => (0, 0),
+        }
     }
 
     /// Whether both workers arrived at a meeting, and none gave up.
@@ -190,9 +240,12 @@ impl TestGate {
 }
 
 impl Gate for TestGate {
+    const EACH: bool = true;
+
     fn before<R: Wait>(&self, rt: &R, worker: usize, place: Place) {
         match self {
             TestGate::Open => {}
+            TestGate::Seat(seat) => seat.take(rt),
             TestGate::Meeting(meeting) => meeting.come(rt, worker, place),
             TestGate::Turnstile(turnstile) => {
                 turnstile.before.fetch_add(1, Ordering::SeqCst);
@@ -203,9 +256,13 @@ impl Gate for TestGate {
         }
     }
 
-    fn after<R: Wait>(&self, _rt: &R, _worker: usize, _place: Place) {
-        if let TestGate::Turnstile(turnstile) = self {
-            turnstile.after.fetch_add(1, Ordering::SeqCst);
+    fn after<R: Wait>(&self, rt: &R, _worker: usize, _place: Place) {
+        match self {
+            TestGate::Turnstile(turnstile) => {
+                turnstile.after.fetch_add(1, Ordering::SeqCst);
+            }
+            TestGate::Seat(seat) => *seat.taken.lock(rt) = false,
+            TestGate::Open | TestGate::Meeting(_) => {}
         }
     }
 }

@@ -3,6 +3,7 @@ use crate::expect::expect_eq;
 use gm_build::progress::Progress;
 use gm_build::watch::Watch;
 use gm_game::position::{Phase, Place};
+use gm_settle::meter::Meter;
 use gm_solver::gate::Gate;
 use gm_solver::source::Source;
 use std::io::{self, ErrorKind, Write};
@@ -118,4 +119,35 @@ fn lines_are_told_a_quarter_of_a_second_apart(rt: HostRuntime) {
     check_told(&rt, true, 1, 2, CHECK);
     check_told(&rt, true, 2, 3, TWO);
     check_told(&rt, false, 100, 0, b"");
+}
+
+// A tier of 2,000 indexes is settled in four blocks.
+fn settle<R: Wait>(rt: &R, clock: &Tenths, errors: &mut Lines) {
+    let progress = Progress::new(clock, errors);
+    Watch::begin(&progress, rt, 3);
+    progress.read(rt, 7);
+    progress.settle(rt, 7, 2000);
+    for _ in 0..4 {
+        progress.settled(500);
+    }
+    drop(progress);
+}
+
+const SETTLED: &[u8] = b"tier 7 (1 of 3): check, 0 delivered\n\
+    tier 7 (1 of 3): settle, 75 %, 0 delivered\n";
+
+#[test]
+fn a_settled_tier_tells_its_share(rt: HostRuntime) {
+    let clock = Tenths {
+        works: true,
+        read: AtomicU64::new(0),
+    };
+    let mut errors = Lines {
+        text: Vec::new(rt.alloc()),
+        calls: 0,
+        takes: 100,
+    };
+    settle(&rt, &clock, &mut errors);
+    expect_eq(&rt, (errors.calls, errors.text.as_slice()), (2, SETTLED));
+    drop(errors);
 }

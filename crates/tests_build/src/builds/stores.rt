@@ -10,6 +10,7 @@ use gm_testing::sources::{TestGate, TestSource};
 use gm_tierdb::flaky::Flaky;
 use gm_tierdb::mem_store::MemStore;
 use gm_tierdb::store::Store;
+use gm_toys::chain::Chain;
 use gm_toys::countdown::Countdown;
 use gm_toys::stairs::Stairs;
 use std::fs::Files;
@@ -33,10 +34,10 @@ fn built_by<G: Game + Send + Sync, R: Threads + Wait + Files + Sync + AllocGloba
     rt: &R,
     first: u64,
     store: &mut Flaky<MemStore>,
+    plan: Plan,
     gate: &TestGate,
     source: &TestSource,
 ) -> Took {
-    let plan = Plan::new(2, 2, 1).expect(rt, "a plan");
     assert!(rt; store.failures() < u64::MAX);
     match build_from::<G, R, _, _, _, _>(
         rt,
@@ -59,8 +60,9 @@ fn built<G: Game + Send + Sync, R: Threads + Wait + Files + Sync + AllocGlobal +
     first: u64,
     store: &mut Flaky<MemStore>,
 ) -> Took {
+    let plan = Plan::new(2, 2, 1).expect(rt, "a plan");
     let source = TestSource::counter();
-    built_by::<G, R>(rt, first, store, &TestGate::Open, &source)
+    built_by::<G, R>(rt, first, store, plan, &TestGate::Open, &source)
 }
 
 // Builds a game once for each of these answers, over an empty store of which one call fails.
@@ -155,4 +157,41 @@ fn games_without_an_order_are_not_built(rt: HostRuntime) {
     drop(builds::<Stairs<1024>, _>(&rt, NEVER, &[many]));
     let large = Err(BuildError::TierTooLarge { tier: 0 });
     drop(builds::<Countdown<16777216>, _>(&rt, NEVER, &[large]));
+}
+
+// A chain whose top has a remoteness one above the limit is not built, and the store is left empty.
+#[test]
+fn a_game_that_is_too_far_is_not_built(rt: HostRuntime) {
+    let far = Err(BuildError::TooFar { tier: 0 });
+    let mut store = builds::<Chain<1048576>, _>(&rt, NEVER, &[far]);
+    assert!(rt; store.failures() < u64::MAX);
+    expect_eq(&rt, store.read(&rt, rt.alloc(), 0), Ok(None));
+    drop(store);
+}
+
+// Builds a game by a plan over an empty store: what that took, for how many levels the source was asked, and how often the gate was passed.
+fn asked<G: Game + Send + Sync, R: Threads + Wait + Files + Sync + AllocGlobal + Abort>(
+    rt: &R,
+    plan: Option<Plan>,
+) -> (Took, usize, usize) {
+    let mut store = Flaky::new(MemStore::new(rt.alloc()), NEVER, NEVER);
+    let (gate, source) = (TestGate::turnstile(0), TestSource::counter());
+    let plan = plan.expect(rt, "a plan");
+    let took = built_by::<G, R>(rt, G::initial().tier, &mut store, plan, &gate, &source);
+    drop(store);
+    (took, source.asked().0, gate.passed().0)
+}
+
+// By a plan of numbers workers solve each tier: the levels of Tac Tix are those of wins and losses up to the greatest remoteness below. By the fastest plan no
+// tier of Tac Tix or Countdown is solved by workers, and so nothing is asked.
+#[test]
+fn gate_and_source_are_asked_where_workers_deliver(rt: HostRuntime) {
+    let (took, levels, passed) = asked::<Square, _>(&rt, Plan::new(2, 2, 1));
+    expect_eq(&rt, (took, levels > 0, passed), (SOLVED, true, 9));
+    let fastest = asked::<Square, _>(&rt, Plan::fastest(2, 2, 1));
+    expect_eq(&rt, fastest, (SOLVED, 0, 0));
+    let (took, _levels, passed) = asked::<Countdown<10>, _>(&rt, Plan::new(1, 1, 64));
+    expect_eq(&rt, (took, passed), (Ok((1, 0, 19, 0)), 19));
+    let fastest = asked::<Countdown<10>, _>(&rt, Plan::fastest(2, 2, 1));
+    expect_eq(&rt, fastest, (Ok((1, 0, 19, 0)), 0, 0));
 }

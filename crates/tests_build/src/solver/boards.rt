@@ -1,6 +1,6 @@
 //! Boards by hand, and from two threads.
 use crate::expect::must;
-use crate::solver::desks::{Deed, Step, by_hand};
+use crate::solver::desks::{Call, Deed, Step, by_hand};
 use crate::solver::shards::first_note;
 use gm_deliveries::status::{Delivery, Refused};
 use gm_desk::board::Four;
@@ -52,14 +52,13 @@ fn board_by_hand_many_at_once(rt: HostRuntime) {
     take_steps::<Countdown<10>, _>(&rt, 6, 1, &TWO_AT_ONCE, (1, 0));
 }
 
-// Index 1 has the one move to 0.
-const MEANWHILE: [Step; 1] = [(
-    Deed::Meanwhile(1, Some(1), Ok(Delivery::FreshSettled)),
-    1,
-    (0, 1),
-)];
+const CALLS: [Call; 3] = [Call::Deliver, Call::DeliverAt, Call::DeliverAll];
 
+// Index 1 has the one move to 0.
 #[test]
 fn locks_are_separate(rt: HostRuntime) {
-    take_steps::<Countdown<10>, _>(&rt, 2, 2, &MEANWHILE, (0, 1));
+    for call in CALLS {
+        let meanwhile = [(Deed::Meanwhile(call, 1, Some(1), 1), 1, (0, 1))];
+        take_steps::<Countdown<10>, _>(&rt, 2, 2, &meanwhile, (0, 1));
+    }
 }

@@ -7,7 +7,7 @@ use crate::expect::expect_eq;
 use gm_deliveries::place::place_of;
 use gm_deliveries::status::{Delivery, Refused};
 use gm_desk::board::{Board, Four, Shares};
-use gm_desk::share::Desk;
+use gm_desk::share::{Desk, gained};
 use gm_frontier::note::Note;
 use gm_game::game::Game;
 use gm_shard::shard::Shard;
@@ -17,6 +17,14 @@ use std::sync::ledger::Blank;
 use std::sync::{Mutex, Wait};
 use std::thread::{Threads, join};
 
+/// A call by which a worker delivers.
+#[derive(Clone, Copy)]
+pub enum Call {
+    Deliver,
+    DeliverAt,
+    DeliverAll,
+}
+
 /// What is done with the pair of a note and a parent on a board, and what must come of it.
 #[derive(Clone, Copy)]
 pub enum Deed {
@@ -24,8 +32,8 @@ pub enum Deed {
     Once(Result<Delivery, Refused>),
     /// It is delivered to a shard twice under one lock, which is new so often.
     Twice(u64),
-    /// It is delivered while another thread holds the lock of shard 0, reads this counter of an index, and waits for the answer.
-    Meanwhile(u64, Option<u32>, Result<Delivery, Refused>),
+    /// It is delivered by a call while another thread holds the lock of shard 0, reads this counter of an index, and waits for the answer: so many pairs are new.
+    Meanwhile(Call, u64, Option<u32>, u64),
 }
 
 /// A deed with its shard, and the amounts of the first two shards after it.
@@ -67,21 +75,65 @@ fn hold<G: Game, A: Desk, B: Desk, C: Desk, D: Desk, R: Wait>(
     (counter, came)
 }
 
+// Delivers pairs to a shard one after another, each with the place that stands with it: how many are new.
+fn deliver_each<G: Game, A: Desk, B: Desk, C: Desk, D: Desk, R: Wait>(
+    rt: &R,
+    board: &Board<G, A, B, C, D>,
+    shares: &mut Shares<A, B, C, D>,
+    shard: usize,
+    pairs: &[(Note<G>, u64, Option<u32>)],
+) -> u64
+    requires shard { shard < 4 }
+    requires places { ArePlaced G.rules A.spot.tier pairs.now }
+{
+    let mut new = 0u64;
+    for (note, parent, place) in pairs {
+        let answer = board.deliver_at(rt, shard, note, *parent, *place, shares);
+        new = new.saturating_add(gained(&answer));
+    }
+    new
+}
+
+// Delivers pairs to a shard by a call, which takes the first of them or all: how many are new.
+fn deliver_by<G: Game, A: Desk, B: Desk, C: Desk, D: Desk, R: Wait>(
+    rt: &R,
+    board: &Board<G, A, B, C, D>,
+    shares: &mut Shares<A, B, C, D>,
+    call: Call,
+    shard: usize,
+    pairs: &[(Note<G>, u64, Option<u32>)],
+) -> u64
+    requires shard { shard < 4 }
+    requires places { ArePlaced G.rules A.spot.tier pairs.now }
+{
+    if pairs.is_empty() {
+        return 0;
+    }
+    let (note, parent, _) = &pairs[0];
+    match call {
+        Call::Deliver => gained(&board.deliver(rt, shard, note, *parent, shares)),
+        Call::DeliverAt => deliver_each(rt, board, shares, shard, pairs),
+        Call::DeliverAll => board.deliver_all(rt, shard, pairs, shares),
+    }
+}
+
 // Waits until the other thread has read its counter, delivers to a shard, and marks that it has the answer.
 fn deliver_meanwhile<G: Game, A: Desk, B: Desk, C: Desk, D: Desk, R: Wait>(
     rt: &R,
     board: &Board<G, A, B, C, D>,
     shares: &mut Shares<A, B, C, D>,
     marks: (&Mutex<bool>, &Mutex<bool>),
+    call: Call,
     shard: usize,
-    pair: (&Note<G>, u64),
-) -> Result<Delivery, Refused>
-    requires { shard < 4 }
+    pairs: &[(Note<G>, u64, Option<u32>)],
+) -> u64
+    requires shard { shard < 4 }
+    requires places { ArePlaced G.rules A.spot.tier pairs.now }
 {
     let _read = comes(rt, marks.0);
-    let answer = board.deliver(rt, shard, pair.0, pair.1, shares);
+    let new = deliver_by(rt, board, shares, call, shard, pairs);
     *marks.1.lock(rt) = true;
-    answer
+    new
 }
 
 // Runs both, each in a thread of its own, and waits for them.
@@ -97,17 +149,19 @@ fn run_both<
     board: &Board<G, A, B, C, D>,
     shares: &mut Shares<A, B, C, D>,
     index: u64,
+    call: Call,
     shard: usize,
-    pair: (&Note<G>, u64),
-) -> ((Option<u32>, bool), Result<Delivery, Refused>)
-    requires { shard < 4 }
+    pairs: &[(Note<G>, u64, Option<u32>)],
+) -> ((Option<u32>, bool), u64)
+    requires shard { shard < 4 }
+    requires places { ArePlaced G.rules A.spot.tier pairs.now }
 {
     let read = Mutex::new(false);
     let answered = Mutex::new(false);
     join(
         rt,
         || hold(rt, board, &read, &answered, index),
-        || deliver_meanwhile(rt, board, shares, (&read, &answered), shard, pair),
+        || deliver_meanwhile(rt, board, shares, (&read, &answered), call, shard, pairs),
     )
 }
 
@@ -138,9 +192,9 @@ fn take_steps<
             Deed::Twice(new) => {
                 expect_eq(rt, board.deliver_all(rt, *shard, pairs, shares), new);
             }
-            Deed::Meanwhile(index, counter, answer) => {
-                let found = run_both(rt, board, shares, index, *shard, (note, *parent));
-                expect_eq(rt, found, ((counter, true), answer));
+            Deed::Meanwhile(call, index, counter, new) => {
+                let found = run_both(rt, board, shares, index, call, *shard, pairs);
+                expect_eq(rt, found, ((counter, true), new));
             }
         }
         expect_eq(rt, (shares.amount(0), shares.amount(1)), *amounts);

@@ -1,11 +1,16 @@
 //! Tiers solved by workers, whatever their plan, source and gate are.
-use crate::expect::{expect, expect_eq};
+use crate::expect::{expect, expect_eq, must};
 use crate::solver::records::hold;
 use crate::solver::ways::{LONG, NOTHING, ROUND, TEN, TOP, Truth, solves, solves_tier};
 use gm_game::game::Game;
+use gm_game::limits::TIER_SIZE;
 use gm_game::position::Value;
+use gm_solver::alone::solve_alone;
+use gm_solver::error::SolveError;
+use gm_solver::plan::Plan;
 use gm_table::tables::Tables;
-use gm_testing::crews::Way;
+use gm_tactix::tactix::TacTix;
+use gm_testing::crews::{Way, solve_by};
 use gm_testing::sources::{Habit, TestGate, TestSource};
 use gm_toys::chain::Chain;
 use gm_toys::countdown::Countdown;
@@ -125,6 +130,36 @@ fn gate_is_called_for_each_delivery(rt: HostRuntime) {
     }
 }
 
+// The tables of the first tiers of a game, each solved by one thread.
+fn hold_first<G: Game, R: AllocGlobal + Abort>(rt: &R, tables: &mut Tables<G>, count: u64) {
+    for tier in 0..count {
+        assert!(rt; tables.has_children(tier) && G::tier_size(tier) <= TIER_SIZE);
+        let (table, _deliveries) = must(rt, solve_alone(rt.alloc(), tier, tables));
+        must(rt, tables.insert(table));
+    }
+}
+
+// The pairs of tier 8 of Tac Tix on 4 by 4, counted by a plain program: so many that batches are full.
+const MANY: u64 = 25_069;
+
+// A worker that called the gate for a second delivery before it has left the seat of the first one would wait for itself.
+#[test]
+fn one_seat_serves_all_workers(rt: HostRuntime) {
+    let mut tables: Tables<TacTix<4, false>> = Tables::new(rt.alloc());
+    hold_first(&rt, &mut tables, 8);
+    let plan = Plan::new(2, 2, 64).expect(&rt, "a plan");
+    assert!(&rt; tables.has_children(8) && TacTix::<4, false>::tier_size(8) <= TIER_SIZE);
+    for way in WAYS {
+        let (gate, source) = (TestGate::seat(), TestSource::counter());
+        let solved = solve_by(&rt, rt.alloc(), 8, &tables, way, plan, &gate, &source);
+        let (table, report) = must(&rt, solved);
+        drop(table);
+        expect_eq(&rt, (report.deliveries, report.by_hand), (MANY, 0));
+        expect_eq(&rt, gate.seated(), (MANY as usize, 0));
+    }
+    drop(tables);
+}
+
 #[test]
 fn a_long_chain(rt: HostRuntime) {
     let source = TestSource::counter();
@@ -140,6 +175,41 @@ fn shards_without_positions(rt: HostRuntime) {
         let how = (way, 2, 4, 1);
         solves::<Countdown<0>, _>(&rt, how, &TestGate::Open, &source, NOTHING, 0);
     }
+}
+
+// The top of a chain has a remoteness one above the limit. Each of its levels has one note, so no level starts a thread.
+fn check_too_far<R: Threads + Wait + Sync + AllocGlobal + Abort>(rt: &R, way: Way) {
+    let source = TestSource::counter();
+    let tables: Tables<Chain<1048576>> = Tables::new(rt.alloc());
+    let plan = Plan::new(2, 2, 1).expect(rt, "a plan");
+    assert!(rt; tables.has_children(0) && Chain::<1048576>::tier_size(0) <= TIER_SIZE);
+    match solve_by(
+        rt,
+        rt.alloc(),
+        0,
+        &tables,
+        way,
+        plan,
+        &TestGate::Open,
+        &source,
+    ) {
+        Err(error) => expect_eq(rt, error, SolveError::TooFar { tier: 0 }),
+        Ok((table, _report)) => {
+            drop(table);
+            expect(rt, false);
+        }
+    }
+    drop(tables);
+}
+
+#[test]
+fn a_chain_above_the_limit_by_pieces(rt: HostRuntime) {
+    check_too_far(&rt, Way::Pieces);
+}
+
+#[test]
+fn a_chain_above_the_limit_by_passes(rt: HostRuntime) {
+    check_too_far(&rt, Way::Passes);
 }
 
 // The last of the stairs by a source that hands out each number twice: how many levels are begun, how many pieces it is told of, and how often it is asked.

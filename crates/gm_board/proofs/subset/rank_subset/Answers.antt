@@ -6,7 +6,7 @@ use Rattle.gm_board.proofs.RankSteps.{counted_low, counted_small, lowest_below, 
 use Rattle.gm_board.proofs.subset.rank_subset.Goals as goal
 
 pub loop-rest-init : goal.loop-rest-init
-loop-rest-init c = rw c.short_rank-rank.ensures (counted_low c.args.mask)
+loop-rest-init c = rw c.long_rank-rank.ensures (counted_low c.args.mask)
 
 pub overflow_add-members : goal.overflow_add-members
 overflow_add-members c = let s = counted_small _ _ _ _ c.loop-rest.invariant in omega arith

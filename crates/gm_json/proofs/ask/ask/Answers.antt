@@ -1,12 +1,12 @@
 use Rattle.std.proofs.lemmas.Result.{IfOk-from_err}
 use Rattle.std.proofs.Common.{◌≡◌, ◌≤◌, ◌<◌, ◌++◌, ◌∷◌, [], length, List, ℕ, Some, None, codes, refl, subst, arith, rules}
 use Rattle.std.specs.Io.KnownBytes.{Appends}
-use Rattle.std.proofs.lemmas.Result.{on_ok_weaker, on_err_weaker}
+use Rattle.std.proofs.lemmas.Result.{on_ok_weaker}
 use Rattle.std.proofs.KnownBytes.{Keeps-refl}
 use Rattle.gm_play.specs.Sessions.{ReadsByte}
-use Rattle.gm_play.proofs.Parts.{on_err}
-use Rattle.gm_json.specs.Asking.{kept_bytes, IsAnswer, IsHalfSaid}
-use Rattle.gm_json.proofs.Serving.{begins, all_served, last_served, last_cut, line_cut, next_line, byte_kept, byte_past, read_fails}
+use Rattle.gm_json.specs.Asking.{kept_bytes, IsAnswer, IsLineBroken}
+use Rattle.gm_json.specs.declared.ask_error.AskError.{AskError}
+use Rattle.gm_json.proofs.Serving.{begins, all_served, last_served, last_cut, line_cut, next_line, byte_kept, byte_past, read_fails, passed, err_map}
 use Rattle.gm_json.proofs.ask.ask.Goals as goal
 use Rattle.gm_json.proofs.ask.ask.Goals.{then-byte-eq10+in_ok-answer_line, else-byte-eq10+then-not-is_full, else-byte-eq10+else-not-is_full}
 
@@ -43,10 +43,10 @@ returns-in-Ok-None-clause-err g c =
     let w2 = g.W.Write.contents c.answer_line.new.output in
     let reads : ReadsByte (g.R.Read.remaining c.loop-count.input) (g.R.Read.remaining c.read_byte.new.input) None = subst (ReadsByte _ _) c.in-Ok-None.field-0-is c.in-Ok-None.ensures.ok in
     let some : 0 < length c.loop-count.line.items = grind (arith, c.is_empty.ensures, c.if-is_empty.false) in
-    on_err_weaker c.answer_line.result
-    (λ (half : IsHalfSaid r s m c.deref.result.now c.loop-count.number w1 w2).
-    last_cut r s m c.loop-count.count c.loop-count.number _ _ _ _ w1 c.loop-count.line.items c.loop-count.invariant w2 some reads.0
-    (subst (λ (l : List ℕ). IsHalfSaid r s m l c.loop-count.number w1 w2) c.deref.ensures.0 half))
+    err_map c.answer_line.result _ _
+    (λ (e : AskError) (broken : IsLineBroken r s m e c.deref.result.now c.loop-count.number w1 w2).
+    last_cut r s m c.loop-count.count c.loop-count.number _ _ _ _ w1 c.loop-count.line.items c.loop-count.invariant w2 e some reads.0
+    (subst (λ (l : List ℕ). IsLineBroken r s m e l c.loop-count.number w1 w2) c.deref.ensures.0 broken))
     c.answer_line.ensures.err
 
 pub returns-clause-err : goal.returns-clause-err
@@ -63,8 +63,9 @@ returns-in_err-answer_line-clause-err g c =
     let w1 = g.W.Write.contents c.loop-count.output in
     let w2 = g.W.Write.contents c.answer_line-then-byte-eq10.new.output in
     let reads : ReadsByte (g.R.Read.remaining c.loop-count.input) (g.R.Read.remaining c.read_byte.new.input) (Some c.in-Ok-Some.byte) = subst (ReadsByte _ _) c.in-Ok-Some.field-0-is c.in-Ok-Some.ensures.ok in
-    let half : IsHalfSaid r s m c.loop-count.line.items c.loop-count.number w1 w2 = subst (λ (l : List ℕ). IsHalfSaid r s m l c.loop-count.number w1 w2) c.deref-then-byte-eq10.ensures.0 c.in_err-answer_line.ensures.err in
-    on_err c.from_residual.result _ (line_cut r s m c.loop-count.count c.loop-count.number _ _ _ _ w1 c.loop-count.line.items c.loop-count.invariant w2 c.in-Ok-Some.byte (search rules) reads half)
+    let e = c.in_err-answer_line.field-0.0 in
+    let broken : IsLineBroken r s m e c.loop-count.line.items c.loop-count.number w1 w2 = subst (λ (l : List ℕ). IsLineBroken r s m e l c.loop-count.number w1 w2) c.deref-then-byte-eq10.ensures.0 c.in_err-answer_line.ensures.err in
+    passed c.from_residual.result _ e c.from_residual.ensures.1 (line_cut r s m c.loop-count.count c.loop-count.number _ _ _ _ w1 c.loop-count.line.items c.loop-count.invariant w2 e c.in-Ok-Some.byte (search rules) reads broken)
 
 pub overflow_add-number : goal.overflow_add-number
 overflow_add-number g c = let few = c.loop-count.invariant.few in omega arith

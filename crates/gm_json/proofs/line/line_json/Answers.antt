@@ -28,3 +28,9 @@ returns-in-Ok-clause-text g c =
 
 pub returns-in_err-play-clause-text : goal.returns-in_err-play-clause-text
 returns-in_err-play-clause-text g c = IfOk-from_err c.from_residual.result _ c.from_residual.ensures.0
+
+pub returns-in_err-play-clause-held : goal.returns-in_err-play-clause-held
+returns-in_err-play-clause-held g c = IfOk-from_err c.from_residual.result _ c.from_residual.ensures.0
+
+pub returns-in-Ok-clause-held : goal.returns-in-Ok-clause-held
+returns-in-Ok-clause-held g c = c.in_ok-play.ensures.held

@@ -5,6 +5,7 @@ use Rattle.gm_best.specs.declared.play_error.PlayError.TheVariants.{Illegal, Not
 use Rattle.gm_best.proofs.Refusing.{ok_apart, passed_on}
 use Rattle.gm_play.specs.PlayTexts.{row, rows_from, end_row, IsLineText}
 use Rattle.gm_play.proofs.Refused.{memory_alone, not_illegal, not_not_held}
+use Rattle.gm_play.proofs.Exits.{whatever}
 use Rattle.gm_play.proofs.Rows.{rows_true}
 use Rattle.gm_play.proofs.texts.line_text.Goals as goal
 
@@ -53,3 +54,9 @@ returns-clause-illegal g c = (λ e. absurd (memory_alone c.line_rows-rows.result
 
 pub returns-clause-not_held : goal.returns-clause-not_held
 returns-clause-not_held g c e = absurd (memory_alone c.line_rows-rows.result NotHeld not_not_held c.line_rows-rows.ensures.err e)
+
+pub returns-in_err-play-clause-held : goal.returns-in_err-play-clause-held
+returns-in_err-play-clause-held g c = IfOk-from_err c.from_residual.result _ c.from_residual.ensures.0
+
+pub returns-clause-held : goal.returns-clause-held
+returns-clause-held g c = whatever c.line_rows-rows.result c.in_ok-play.ensures.held

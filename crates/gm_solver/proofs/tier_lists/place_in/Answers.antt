@@ -1,4 +1,4 @@
-use Rattle.gm_solver.proofs.BlockLemmas.{dealt}
+use Rattle.gm_table.proofs.Dealt.{dealt}
 use Rattle.gm_solver.proofs.tier_lists.place_in.Goals as goal
 
 pub returns-clause-within : goal.returns-clause-within

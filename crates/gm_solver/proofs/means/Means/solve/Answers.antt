@@ -4,7 +4,7 @@ use Rattle.gm_game.specs.declared.limits.TheConstants.{TIER_SIZE}
 use Rattle.std.proofs.lemmas.Result.{err_from_is_err_and}
 use Rattle.gm_game.specs.declared.position.Place.{Place}
 use Rattle.gm_table.specs.Tables.{AreHeld}
-use Rattle.gm_solver.specs.Solving.{IsTooFar, AreDeliveries}
+use Rattle.gm_table.specs.Solving.{IsTooFar, AreDeliveries}
 use Rattle.gm_game.specs.declared.position.Phase.TheVariants.{WinLose}
 use Rattle.gm_frontier.specs.Levels.{place_at}
 use Rattle.gm_solver.proofs.means.Means.solve.Goals as goal

@@ -1,7 +1,7 @@
 use Rattle.std.proofs.Common.{◌∙◌, ◌*◌}
 use Rattle.rayon.specs.Numbers.{nat_range}
 use Rattle.rayon.proofs.ListFacts.{IfOk-then}
-use Rattle.gm_solver.proofs.BlockLemmas.{zip_whole}
+use Rattle.gm_table.proofs.Dealt.{zip_whole}
 use Rattle.gm_solver.proofs.tier_lists.Frame.scan_all.Goals as goal
 
 pub returns : goal.returns

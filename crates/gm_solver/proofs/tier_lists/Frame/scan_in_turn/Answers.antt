@@ -1,6 +1,8 @@
 use Rattle.std.proofs.Common.{rules, ◌≡◌, ℕ, IfOk, [], ◌∷◌, ◌++◌, length, length-append, sym, ap, subst, arith}
-use Rattle.gm_solver.specs.Blocks.{block_in, IsBlock}
-use Rattle.gm_solver.proofs.BlockLemmas.{EachAt, one_at, each_whole}
+use Rattle.gm_table.specs.Dealing.{block_in}
+use Rattle.gm_solver.specs.Blocks.{IsBlock}
+use Rattle.gm_table.proofs.Dealt.{EachAt, one_at}
+use Rattle.gm_solver.proofs.BlockLemmas.{each_whole}
 use Rattle.gm_solver.proofs.tier_lists.Frame.scan_in_turn.Goals as goal
 
 pub loop-place-preserved : goal.loop-place-preserved

@@ -1,6 +1,7 @@
 use Rattle.std.proofs.Common.{◌≡◌, length, IfOk}
-use Rattle.gm_solver.specs.Blocks.{block_in, IsBlock}
-use Rattle.gm_solver.proofs.BlockLemmas.{EachAt}
+use Rattle.gm_table.specs.Dealing.{block_in}
+use Rattle.gm_solver.specs.Blocks.{IsBlock}
+use Rattle.gm_table.proofs.Dealt.{EachAt}
 use Rattle.gm_solver.proofs.tier_lists.Frame.scan_in_turn.Given as goal
 
 abbrev pub invariant-loop-place : goal.invariant-loop-place

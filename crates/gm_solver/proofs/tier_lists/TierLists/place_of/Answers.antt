@@ -1,7 +1,7 @@
 use Rattle.std.proofs.Common.{◌≡◌, ℕ, ◌<◌, ◌≤◌, sym, ap, subst, ◌∙◌, arith}
 use Rattle.gm_shard.specs.Lists.{ListsData}
 use Rattle.gm_deliveries.specs.Delivery.{IsPlaceOf}
-use Rattle.gm_solver.specs.Blocks.{block_in}
+use Rattle.gm_table.specs.Dealing.{block_in}
 use Rattle.gm_solver.proofs.BlockLemmas.{from_block, within_block, found_block}
 use Rattle.gm_solver.proofs.tier_lists.TierLists.place_of.Goals as goal
 

@@ -53,7 +53,7 @@ pub nonzero_div-parent : goal.nonzero_div-parent
 nonzero_div-parent g c = c.args.self.now.pieces.now.wide.some
 
 pub returns-clause-parts : goal.returns-clause-parts
-returns-clause-parts g c = c.deliver_rest.ensures ∙ c.loop-note.invariant.parts
+returns-clause-parts g c = c.loop-note.invariant.parts
 
 pub returns-in_err-take_pair-clause-parts : goal.returns-in_err-take_pair-clause-parts
 returns-in_err-take_pair-clause-parts g c = c.take_pair.ensures ∙ c.loop-note.invariant.parts

@@ -1,5 +1,13 @@
+use Rattle.std.proofs.Common.{ℕ, ◌≤◌, ◌-◌}
 use Rattle.gm_table.specs.Checks.{FitBetween}
 use Rattle.gm_table.proofs.blocks.Given.first_between.Given as goal
 
-abbrev pub invariant-loop-index : goal.invariant-loop-index
-invariant-loop-index g l = FitBetween g.G.Game.rules l.self.tables.now l.self.tier l.self.records.now l.fn.lo l.index
+abbrev pub invariant-loop-canonical : goal.invariant-loop-canonical
+invariant-loop-canonical g l = record {
+  low : l.fn.lo ≤ l.next;
+  high : l.next ≤ l.hi;
+  fit : FitBetween g.G.Game.rules l.self.tables.now l.self.tier l.self.records.now l.fn.lo l.next;
+}
+
+abbrev pub decreases-loop-canonical : goal.decreases-loop-canonical
+decreases-loop-canonical g l = l.hi - l.next

@@ -1,0 +1,266 @@
+-- The subset with the next rank: its lowest run of members goes up by a cell at its end, and its other members to the bottom.
+use Rattle.std.proofs.Common.{◌≡◌, ℕ, zero, suc, ◌+◌, ◌-◌, ◌*◌, ◌/◌, ◌%◌, ◌^◌, ◌<◌, ◌≤◌, Bool, true, false, eqb, List, [], ◌∷◌, ◌++◌, length, refl, sym, ap, ap₂, ◌∙◌, subst, arith, pow-suc, w32, inl, inr}
+use Rattle.std.specs.Prelude.{count_ones}
+use Rattle.std.specs.Int.{bit_at, trailing_zeros, trailing_ones}
+use Rattle.std.proofs.lemmas.Bool.{cases_lt}
+use Rattle.std.proofs.lemmas.Nat.{shr-shr, shr_le, one_shl, pow_pos}
+use Rattle.std.proofs.lemmas.Nat.Bits.{bit_at-trailing_zeros, bit_at-trailing_ones, bit_at_above}
+use Rattle.std.proofs.Math.Pow.{pow_mono}
+use Rattle.gm_board.specs.Binomials.{binomial, binomial_zero, binomial_past, pascal}
+use Rattle.gm_board.specs.Ranks.{members, rank}
+use Rattle.gm_board.specs.Masks.{has_cell, tests_of, mask_of, mask_rank, mask_unrank, tests_none, tests_more, tests_length, mask_below, mask_tests_small, tests_mask, members_small, mask_unrank_below, mask_unrank_ones, mask_rank_unrank, mask_unrank_rank}
+
+-- n members, and n cells that are none, above others
+abbrev ones : ℕ → List Bool → List Bool
+ones zero bs = bs
+ones (suc n) bs = true ∷ ones n bs
+
+abbrev zeros : ℕ → List Bool → List Bool
+zeros zero bs = bs
+zeros (suc n) bs = false ∷ zeros n bs
+
+length_ones : (n : ℕ) (bs : List Bool) → length (ones n bs) ≡ n + length bs
+length_ones zero bs = omega arith
+length_ones (suc n) bs = omega (arith, length_ones n bs)
+
+length_zeros : (n : ℕ) (bs : List Bool) → length (zeros n bs) ≡ n + length bs
+length_zeros zero bs = omega arith
+length_zeros (suc n) bs = omega (arith, length_zeros n bs)
+
+members_ones : (n : ℕ) (bs : List Bool) → members (ones n bs) ≡ n + members bs
+members_ones zero bs = omega arith
+members_ones (suc n) bs = omega (arith, members_ones n bs)
+
+members_zeros : (n : ℕ) (bs : List Bool) → members (zeros n bs) ≡ members bs
+members_zeros zero bs = refl
+members_zeros (suc n) bs = members_zeros n bs
+
+rank_zeros : (n : ℕ) (bs : List Bool) → rank (zeros n bs) ≡ rank bs
+rank_zeros zero bs = refl
+rank_zeros (suc n) bs = rank_zeros n bs
+
+mask_zeros : (n : ℕ) (bs : List Bool) → mask_of (zeros n bs) ≡ mask_of bs
+mask_zeros zero bs = refl
+mask_zeros (suc n) bs = mask_zeros n bs
+
+mask_ones : (n : ℕ) (bs : List Bool) → mask_of (ones n bs) + 2 ^ length bs ≡ 2 ^ (n + length bs) + mask_of bs
+mask_ones zero bs =
+    let e : 2 ^ (0 + length bs) ≡ 2 ^ length bs = ap (λ (k : ℕ). 2 ^ k) (let z : 0 + length bs ≡ length bs = omega arith in z) in
+    omega (arith, e)
+mask_ones (suc n) bs =
+    let h = mask_ones n bs in
+    let l : 2 ^ length (ones n bs) ≡ 2 ^ (n + length bs) = ap (λ (k : ℕ). 2 ^ k) (length_ones n bs) in
+    let e : 2 ^ (suc n + length bs) ≡ 2 ^ suc (n + length bs) = ap (λ (k : ℕ). 2 ^ k) (let z : suc n + length bs ≡ suc (n + length bs) = omega arith in z) in
+    let p = pow-suc 2 (n + length bs) in
+    omega (arith, h, l, e, p)
+
+-- the rank of members just above cells that are none
+climbs : (a b : ℕ) → suc (rank (ones b (zeros a []))) ≡ binomial (a + b) b
+climbs a zero = ap suc (rank_zeros a []) ∙ sym (binomial_zero (a + 0))
+climbs a (suc b) =
+    let h = climbs a b in
+    let l : length (ones b (zeros a [])) ≡ a + b = (let x = length_ones b (zeros a []) in let y = length_zeros a [] in omega (arith, x, y)) in
+    let m : members (ones b (zeros a [])) ≡ b = (let x = members_ones b (zeros a []) in let y = members_zeros a [] in omega (arith, x, y)) in
+    let here : binomial (length (ones b (zeros a []))) (suc (members (ones b (zeros a [])))) ≡ binomial (a + b) (suc b) = ap₂ (λ (n k : ℕ). binomial n (suc k)) l m in
+    let p = pascal (a + b) b in
+    let top : binomial (a + suc b) (suc b) ≡ binomial (suc (a + b)) (suc b) = ap (λ (n : ℕ). binomial n (suc b)) (let z : a + suc b ≡ suc (a + b) = omega arith in z) in
+    omega (arith, h, here, p, top)
+
+-- members at the bottom have rank 0
+rank_bottom : (n : ℕ) → rank (ones n []) ≡ 0
+rank_bottom zero = refl
+rank_bottom (suc n) =
+    let l : length (ones n []) ≡ n = (let x = length_ones n [] in omega (arith, x)) in
+    let m : members (ones n []) ≡ n = (let x = members_ones n [] in omega (arith, x)) in
+    let here : binomial (length (ones n [])) (suc (members (ones n []))) ≡ binomial n (suc n) = ap₂ (λ (i k : ℕ). binomial i (suc k)) l m in
+    let none = binomial_past n (suc n) (omega arith) in
+    omega (arith, here, none, rank_bottom n)
+
+-- the lowest part of a subset, and of the next one: a cells that are none, then c + 1 members and a cell that is none
+abbrev low_part : ℕ → ℕ → List Bool
+low_part a c = false ∷ ones (suc c) (zeros a [])
+
+abbrev next_part : ℕ → ℕ → List Bool
+next_part a c = true ∷ zeros (suc a) (ones c [])
+
+part_length : (a c : ℕ) → length (next_part a c) ≡ length (low_part a c)
+part_length a c =
+    let x = length_ones (suc c) (zeros a []) in
+    let y = length_zeros a [] in
+    let z = length_zeros (suc a) (ones c []) in
+    let w = length_ones c [] in
+    omega (arith, x, y, z, w)
+
+low_length : (a c : ℕ) → length (low_part a c) ≡ suc (suc c + a)
+low_length a c = (let x = length_ones (suc c) (zeros a []) in let y = length_zeros a [] in omega (arith, x, y))
+
+part_members : (a c : ℕ) → members (next_part a c) ≡ members (low_part a c)
+part_members a c =
+    let x = members_ones (suc c) (zeros a []) in
+    let y = members_zeros a [] in
+    let z = members_zeros (suc a) (ones c []) in
+    let w = members_ones c [] in
+    omega (arith, x, y, z, w)
+
+part_rank : (a c : ℕ) → rank (next_part a c) ≡ suc (rank (low_part a c))
+part_rank a c =
+    let l : length (zeros (suc a) (ones c [])) ≡ a + suc c = (let z = length_zeros (suc a) (ones c []) in let w = length_ones c [] in omega (arith, z, w)) in
+    let m : members (zeros (suc a) (ones c [])) ≡ c = (let z = members_zeros (suc a) (ones c []) in let w = members_ones c [] in omega (arith, z, w)) in
+    let here : binomial (length (zeros (suc a) (ones c []))) (suc (members (zeros (suc a) (ones c [])))) ≡ binomial (a + suc c) (suc c) = ap₂ (λ (n k : ℕ). binomial n (suc k)) l m in
+    let none : rank (zeros (suc a) (ones c [])) ≡ 0 = rank_zeros (suc a) (ones c []) ∙ rank_bottom c in
+    let h = climbs a (suc c) in
+    omega (arith, here, none, h)
+
+part_mask : (a c : ℕ) → mask_of (next_part a c) + 1 ≡ mask_of (low_part a c) + (2 ^ a + 2 ^ c)
+part_mask a c =
+    let low = mask_ones (suc c) (zeros a []) in
+    let none : mask_of (zeros a []) ≡ 0 = mask_zeros a [] in
+    let la : 2 ^ length (zeros a []) ≡ 2 ^ a = ap (λ (k : ℕ). 2 ^ k) (let y = length_zeros a [] in let z : length (zeros a []) ≡ a = omega (arith, y) in z) in
+    let lb : 2 ^ (suc c + length (zeros a [])) ≡ 2 ^ (suc c + a) = ap (λ (k : ℕ). 2 ^ (suc c + k)) (let y = length_zeros a [] in let z : length (zeros a []) ≡ a = omega (arith, y) in z) in
+    let up : mask_of (zeros (suc a) (ones c [])) ≡ mask_of (ones c []) = mask_zeros (suc a) (ones c []) in
+    let bottom = mask_ones c [] in
+    let lc : 2 ^ (c + 0) ≡ 2 ^ c = ap (λ (k : ℕ). 2 ^ k) (let z : c + 0 ≡ c = omega arith in z) in
+    let ld : 2 ^ length (zeros (suc a) (ones c [])) ≡ 2 ^ (suc c + a) = ap (λ (k : ℕ). 2 ^ k) (let z = length_zeros (suc a) (ones c []) in let w = length_ones c [] in let q : length (zeros (suc a) (ones c [])) ≡ suc c + a = omega (arith, z, w) in q) in
+    omega (arith, low, none, la, lb, up, bottom, lc, ld)
+
+-- below other cells
+same_length : (us xs ys : List Bool) → length ys ≡ length xs → length (us ++ ys) ≡ length (us ++ xs)
+same_length [] xs ys e = e
+same_length (u ∷ us) xs ys e = ap suc (same_length us xs ys e)
+
+same_members : (us xs ys : List Bool) → members ys ≡ members xs → members (us ++ ys) ≡ members (us ++ xs)
+same_members [] xs ys e = e
+same_members (true ∷ us) xs ys e = ap suc (same_members us xs ys e)
+same_members (false ∷ us) xs ys e = same_members us xs ys e
+
+next_rank : (us xs ys : List Bool) → length ys ≡ length xs → members ys ≡ members xs → rank ys ≡ suc (rank xs) → rank (us ++ ys) ≡ suc (rank (us ++ xs))
+next_rank [] xs ys l m e = e
+next_rank (true ∷ us) xs ys l m e =
+    let here = ap₂ (λ (n k : ℕ). binomial n (suc k)) (same_length us xs ys l) (same_members us xs ys m) in
+    let rest = next_rank us xs ys l m e in
+    omega (arith, here, rest)
+next_rank (false ∷ us) xs ys l m e = next_rank us xs ys l m e
+
+next_mask : (us xs ys : List Bool) (x y : ℕ) → length ys ≡ length xs → mask_of ys + x ≡ mask_of xs + y → mask_of (us ++ ys) + x ≡ mask_of (us ++ xs) + y
+next_mask [] xs ys x y l e = e
+next_mask (true ∷ us) xs ys x y l e =
+    let here : 2 ^ length (us ++ ys) ≡ 2 ^ length (us ++ xs) = ap (λ (k : ℕ). 2 ^ k) (same_length us xs ys l) in
+    let rest = next_mask us xs ys x y l e in
+    omega (arith, here, rest)
+next_mask (false ∷ us) xs ys x y l e = next_mask us xs ys x y l e
+
+-- the tests of a mask, in parts
+tests_zeros : (a m : ℕ) → ((i : ℕ) → i < a → bit_at m i ≡ 0) → tests_of a m ≡ zeros a []
+tests_zeros zero m h = tests_none m
+tests_zeros (suc a) m h =
+    tests_more a m
+    ∙ ap₂ (λ (b : Bool) (bs : List Bool). b ∷ bs) (ap (λ (v : ℕ). eqb v 1) (h a (omega arith))) (tests_zeros a m (λ i l. h i (omega arith)))
+
+tests_ones : (b a m : ℕ) → ((i : ℕ) → i < b → bit_at m (i + a) ≡ 1) → tests_of (b + a) m ≡ ones b (tests_of a m)
+tests_ones zero a m h = ap (λ (k : ℕ). tests_of k m) (let z : 0 + a ≡ a = omega arith in z)
+tests_ones (suc b) a m h =
+    ap (λ (k : ℕ). tests_of k m) (let z : suc b + a ≡ suc (b + a) = omega arith in z)
+    ∙ tests_more (b + a) m
+    ∙ ap₂ (λ (t : Bool) (ts : List Bool). t ∷ ts) (ap (λ (v : ℕ). eqb v 1) (h b (omega arith))) (tests_ones b a m (λ i l. h i (omega arith)))
+
+tests_split : (k w m : ℕ) → (us : List Bool) × (length us ≡ k) × (tests_of (k + w) m ≡ us ++ tests_of w m)
+tests_split zero w m = ([], refl, ap (λ (k : ℕ). tests_of k m) (let z : 0 + w ≡ w = omega arith in z))
+tests_split (suc k) w m =
+    let (us, l, e) = tests_split k w m in (
+      has_cell m (k + w) ∷ us,
+      ap suc l,
+      ap (λ (j : ℕ). tests_of j m) (let z : suc k + w ≡ suc (k + w) = omega arith in z) ∙ tests_more (k + w) m ∙ ap (λ (ts : List Bool). has_cell m (k + w) ∷ ts) e,
+    )
+
+-- the cells of a mask whose lowest members stand from a to a + c, with none behind them
+low_tests : (a c m : ℕ) → ((i : ℕ) → i < a → bit_at m i ≡ 0) → ((i : ℕ) → i < suc c → bit_at m (i + a) ≡ 1) → bit_at m (suc c + a) ≡ 0 → tests_of (suc (suc c + a)) m ≡ low_part a c
+low_tests a c m low run none =
+    tests_more (suc c + a) m
+    ∙ ap₂ (λ (t : Bool) (ts : List Bool). t ∷ ts) (ap (λ (v : ℕ). eqb v 1) none) (tests_ones (suc c) a m run ∙ ap (ones (suc c)) (tests_zeros a m low))
+
+-- what the next mask is
+pub record IsNextMask (m r : ℕ) : Type 0 where
+  pub rank_is : mask_rank r ≡ mask_rank m + 1
+  pub ones_are : count_ones r ≡ count_ones m
+  pub fits : r < 2 ^ 32
+
+pub next_is : (a c m r : ℕ) → m < 2 ^ 32 → suc c + a < 32 → ((i : ℕ) → i < a → bit_at m i ≡ 0) → ((i : ℕ) → i < suc c → bit_at m (i + a) ≡ 1) → bit_at m (suc c + a) ≡ 0 → r + 1 ≡ m + (2 ^ a + 2 ^ c) → IsNextMask m r
+unfolding mask_rank
+next_is a c m r fits small low run none is =
+    let w = suc (suc c + a) in
+    let (us, long, split) = tests_split (32 - w) w m in
+    let whole : 32 - w + w ≡ 32 = omega arith in
+    let old : tests_of 32 m ≡ us ++ low_part a c = ap (λ (k : ℕ). tests_of k m) (sym whole) ∙ split ∙ ap (λ (ts : List Bool). us ++ ts) (low_tests a c m low run none) in
+    let number : mask_of (us ++ low_part a c) ≡ m = ap mask_of (sym old) ∙ mask_tests_small 32 m fits in
+    let step = next_mask us (low_part a c) (next_part a c) 1 (2 ^ a + 2 ^ c) (part_length a c) (part_mask a c) in
+    let new : mask_of (us ++ next_part a c) ≡ r = omega (arith, step, number, is) in
+    let size : length (us ++ next_part a c) ≡ 32 = same_length us (low_part a c) (next_part a c) (part_length a c) ∙ ap length (sym old) ∙ tests_length 32 m in
+    let tests : tests_of 32 r ≡ us ++ next_part a c =
+    ap₂ tests_of (sym size) (sym new) ∙ tests_mask (us ++ next_part a c) in
+    let below : r < 2 ^ 32 = subst (λ (k : ℕ). k < 2 ^ 32) new (subst (λ (k : ℕ). mask_of (us ++ next_part a c) < 2 ^ k) size (mask_below (us ++ next_part a c))) in
+    let rank_here : rank (tests_of 32 r) ≡ suc (rank (tests_of 32 m)) = ap rank tests ∙ next_rank us (low_part a c) (next_part a c) (part_length a c) (part_members a c) (part_rank a c) ∙ ap (λ (ts : List Bool). suc (rank ts)) (sym old) in
+    let members_here : members (tests_of 32 r) ≡ members (tests_of 32 m) = ap members tests ∙ same_members us (low_part a c) (next_part a c) (part_members a c) ∙ ap members (sym old) in
+    record {
+      rank_is = omega (arith, rank_here);
+      ones_are = sym (members_small 32 r below) ∙ members_here ∙ members_small 32 m fits;
+      fits = below;
+    }
+
+-- it has no further cells where there is a subset with its rank
+pub next_within : (m r n : ℕ) → IsNextMask m r → n ≤ 32 → mask_rank m + 1 < binomial n (count_ones m) → r < 2 ^ n
+next_within m r n h few below =
+    let k = count_ones m in
+    let j = mask_rank m + 1 in
+    let u = mask_unrank n k j in
+    let u_fits : u < 2 ^ n = mask_unrank_below n k j in
+    let wide : 2 ^ n ≤ 2 ^ 32 = pow_mono few in
+    let u_wide : u < 2 ^ 32 = omega (arith, u_fits, wide) in
+    let u_rank : mask_rank u ≡ j = mask_rank_unrank n k j few below in
+    let u_ones : count_ones u ≡ k = mask_unrank_ones n k j below in
+    let back_u : mask_unrank 32 (count_ones u) (mask_rank u) ≡ u = mask_unrank_rank 32 u (omega arith) u_wide in
+    let back_r : mask_unrank 32 (count_ones r) (mask_rank r) ≡ r = mask_unrank_rank 32 r (omega arith) h.fits in
+    let same : r ≡ u = sym back_r ∙ ap₂ (mask_unrank 32) (h.ones_are ∙ sym u_ones) (h.rank_is ∙ sym u_rank) ∙ back_u in
+    subst (λ (v : ℕ). v < 2 ^ n) (sym same) u_fits
+
+-- ---- the code
+-- the subset that the code makes, from the number of cells below the lowest run of members, and the length of the run
+pub record IsStep (m run r : ℕ) : Type 0 where
+  pub some : 1 ≤ run
+  pub is_next : IsNextMask m r
+
+pub next_of : (m run : ℕ) → 0 < m → m < 2 ^ 31 → run ≡ trailing_ones w32 (m / 2 ^ trailing_zeros w32 m)
+    → IsStep m run (m + 1 * 2 ^ trailing_zeros w32 m % 2 ^ 32 + (1 * 2 ^ (run - 1) % 2 ^ 32 - 1))
+next_of m run some fits is =
+    let a = trailing_zeros w32 m in
+    let wide : m < 2 ^ 32 = omega (arith, fits) in
+    let z = bit_at-trailing_zeros w32 m some wide in
+    let n = m / 2 ^ a in
+    let small : n ≤ m = shr_le m a in
+    let o = bit_at-trailing_ones w32 n (omega (arith, small, fits)) in
+    let at : (i : ℕ) → bit_at n i ≡ bit_at m (i + a) = λ i. ap (λ (v : ℕ). v % 2) (shr-shr m a i) ∙ ap (bit_at m) (let e : a + i ≡ i + a = omega arith in e) in
+    let first : bit_at n 0 ≡ 1 = at 0 ∙ ap (bit_at m) (let e : 0 + a ≡ a = omega arith in e) ∙ z.1 in
+    let one : 1 ≤ run = elim (cases_lt 0 run) [
+      | inl l ↦ l
+      | inr l ↦ absurd (
+          let e : 0 ≡ trailing_ones w32 n = omega (arith, l, is) in
+          let q : bit_at n 0 ≡ 0 = ap (bit_at n) e ∙ o.1 in
+          omega (arith, q, first))
+    ] in
+    let c = run - 1 in
+    let length : suc c ≡ trailing_ones w32 n = omega (arith, one, is) in
+    let ones_here : (i : ℕ) → i < suc c → bit_at m (i + a) ≡ 1 = λ i l. sym (at i) ∙ o.2 i (omega (arith, length, l)) in
+    let none_here : bit_at m (suc c + a) ≡ 0 = sym (at (suc c)) ∙ ap (bit_at n) length ∙ o.1 in
+    let last : c + a < 31 = elim (cases_lt (c + a) 31) [
+      | inl l ↦ l
+      | inr l ↦ absurd (
+          let q = bit_at_above m 31 (c + a) fits l in
+          let r = ones_here c (omega arith) in
+          omega (arith, q, r))
+    ] in
+    let low : 1 * 2 ^ a % 2 ^ 32 ≡ 2 ^ a = one_shl a 32 z.0 in
+    let up : 1 * 2 ^ c % 2 ^ 32 ≡ 2 ^ c = one_shl c 32 (omega (arith, last)) in
+    let p = pow_pos c in
+    record {
+      some = one;
+      is_next = next_is a c m _ wide (omega (arith, last)) z.2 ones_here none_here (omega (arith, low, up, p));
+    }

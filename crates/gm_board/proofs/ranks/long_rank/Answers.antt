@@ -1,0 +1,16 @@
+use Rattle.std.proofs.Common.{◌≡◌, ℕ, ◌+◌, ◌/◌, ◌%◌, ◌^◌, refl, ap, ◌∙◌, arith}
+use Rattle.std.specs.Prelude.{count_ones}
+use Rattle.gm_board.specs.Binomials.{binomial_small}
+use Rattle.gm_board.specs.Masks.{mask_rank, mask_rank_below}
+use Rattle.gm_board.proofs.RankTables.{long_rank_is}
+use Rattle.gm_board.proofs.ranks.long_rank.Goals as goal
+
+pub overflow_add-result : goal.overflow_add-result
+overflow_add-result c =
+    let m = c.args.mask in
+    let e : c.short_rank.result + c.from.result ≡ mask_rank m =
+    ap (λ (b : ℕ). c.short_rank.result + b) c.from.ensures ∙ long_rank_is m (m % 2 ^ 16) (m / 2 ^ 16) c.short_rank.result c.requires refl refl c.short_rank.ensures in
+    omega (arith, e, mask_rank_below 25 m (omega arith) c.requires, binomial_small 25 (count_ones m) (omega arith))
+
+pub returns : goal.returns
+returns c = ap (λ (b : ℕ). c.short_rank.result + b) c.from.ensures ∙ long_rank_is c.args.mask (c.args.mask % 2 ^ 16) (c.args.mask / 2 ^ 16) c.short_rank.result c.requires refl refl c.short_rank.ensures

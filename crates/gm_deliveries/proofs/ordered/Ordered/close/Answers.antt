@@ -1,0 +1,18 @@
+use Rattle.std.proofs.Common.{ℕ, ◌≤◌, length, ap, subst, sym}
+use Rattle.gm_game.specs.declared.limits.TheConstants.{REMOTENESS}
+use Rattle.gm_deliveries.specs.State.{ShardState}
+use Rattle.gm_deliveries.specs.Ordered.{state_by}
+use Rattle.gm_deliveries.specs.Steps.{IsWhole, next_level}
+use Rattle.gm_deliveries.proofs.CloseLemmas.{kept_next}
+use Rattle.gm_deliveries.proofs.ordered.Ordered.close.Goals as goal
+
+pub invariant_of-self : goal.invariant_of-self
+invariant_of-self g c =
+    let r = g.G.Game.rules in
+    let f = c.self.inside in
+    kept_next r (state_by f.tier f.lo f.phase f.level (length f.left.items) f.pairs.items) f.statuses f.left.items f.delivered c.self.invariant
+    (subst (IsWhole r) (sym c.self.view_is) c.requires.whole)
+    (subst (λ (s : ShardState). s.level ≤ REMOTENESS) (sym c.self.view_is) c.requires.fits)
+
+pub returns : goal.returns
+returns g c = ap next_level c.self.view_is

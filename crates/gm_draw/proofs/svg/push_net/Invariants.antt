@@ -1,0 +1,12 @@
+use Rattle.std.proofs.Common.{◌≡◌, ◌+◌, ◌*◌, ◌≤◌, ◌++◌, drop}
+use Rattle.gm_draw.specs.Diagrams.{under_at, spread}
+use Rattle.gm_draw.proofs.svg.push_net.Given as goal
+
+abbrev pub invariant-loop-byte : goal.invariant-loop-byte
+invariant-loop-byte l = record {
+  done : l.text.items ++ spread (under_at l.style) l.x l.y (drop l.byte-index l.board) ≡ l.initial.text.items ++ spread (under_at l.style) 40 40 l.board;
+  right : 40 ≤ l.x;
+  near : l.x ≤ 40 + 20 * l.byte-index;
+  down : 40 ≤ l.y;
+  close : l.y ≤ 40 + 40 * l.byte-index;
+}

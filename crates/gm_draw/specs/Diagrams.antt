@@ -1,0 +1,236 @@
+-- Diagrams: SVG documents of positions, byte by byte.
+use Rattle.std.specs.Prelude.{◌≡◌, ℕ, ◌+◌, ◌-◌, ◌*◌, ◌/◌, max, Bool, true, false, ◌||◌, ◌==◌, List, [], ◌∷◌, ◌++◌, count_by, slice_index, codes, if◌then◌else◌}
+use Rattle.std.specs.Fmt.{decimal}
+use Rattle.std.specs.List.{flat_map}
+use Rattle.gm_game.specs.declared.position.Position.{Position}
+use Rattle.gm_game.specs.declared.position.Solved.{Solved}
+use Rattle.gm_game.specs.Rules.{Rules}
+use Rattle.gm_game.specs.Texts.{text_of}
+use Rattle.gm_game.specs.Values.{IsTrueValue}
+use Rattle.gm_play.specs.PlayTexts.{IsReadAs}
+use Rattle.gm_draw.specs.declared.pictured.Style.{Style}
+use Rattle.gm_draw.specs.declared.pictured.Style.TheVariants.{Row, Crosses, Counters, Stones, Discs, Letters}
+use Rattle.gm_draw.specs.Templates.{is_slot}
+
+-- ---- texts in XML
+-- a byte of a text: `<` and `&` have names
+abbrev pub escaped_byte : ℕ → List ℕ
+escaped_byte b = if b == 60 then codes "&lt;" else if b == 38 then codes "&amp;" else b ∷ []
+
+unfoldable pub escaped : List ℕ → List ℕ
+escaped text = flat_map escaped_byte text
+
+-- ---- elements at a point
+-- what stands before, between and after two coordinates
+abbrev pub at_point : List ℕ → ℕ → List ℕ → ℕ → List ℕ → List ℕ
+at_point front x middle y back = front ++ decimal x ++ middle ++ decimal y ++ back
+
+abbrev pub path : ℕ → ℕ → List ℕ → List ℕ
+path x y back = at_point (codes "<path d=\"M") x (codes " ") y back
+
+abbrev pub circle : ℕ → ℕ → List ℕ → List ℕ
+circle x y back = at_point (codes "<circle cx=\"") x (codes "\" cy=\"") y back
+
+-- words at a point, after what tells how they look
+abbrev pub words_at : ℕ → ℕ → List ℕ → List ℕ → List ℕ
+words_at x y look plain = at_point (codes "<text x=\"") x (codes "\" y=\"") y look ++ escaped plain ++ codes "</text>\n"
+
+-- ---- what a byte of the board is drawn as, at its point
+-- the strokes of the net; none for any other byte
+unfoldable pub stroke_of : ℕ → ℕ → ℕ → List ℕ
+stroke_of x y b =
+    if b == 45 then path (x - 20) y (codes "h40\"/>\n") else
+    if b == 124 then path x (y - 40) (codes "v80\"/>\n") else
+    if b == 47 then path (x - 40) (y + 40) (codes "l80-80\"/>\n") else
+    if b == 92 then path (x - 40) (y - 40) (codes "l80 80\"/>\n") else
+    if b == 43 then path (x - 20) y (codes "h40\"/>\n") ++ path x (y - 40) (codes "v80\"/>\n") else
+    []
+
+-- whether a byte is a stroke of the net, a space or the end of a line
+abbrev pub is_stroke : ℕ → Bool
+is_stroke b = b == 45 || b == 124 || b == 47 || b == 92 || b == 43 || b == 32 || b == 10
+
+-- whether men stand in cells of their own, which are drawn as squares
+abbrev pub has_cells : Style → Bool
+has_cells Row = false
+has_cells Crosses = false
+has_cells Counters = true
+has_cells Stones = true
+has_cells Discs = false
+has_cells Letters = false
+
+-- whether men stand on points
+abbrev pub has_points : Style → Bool
+has_points Row = false
+has_points Crosses = false
+has_points Counters = false
+has_points Stones = false
+has_points Discs = true
+has_points Letters = true
+
+-- what lies under the men: strokes and squares
+unfoldable pub under_at : Style → ℕ → ℕ → ℕ → List ℕ
+under_at style x y b = if is_slot b then (if has_cells style then path (x - 20) (y - 20) (codes "h40v40h-40z\"/>\n") else []) else stroke_of x y b
+
+-- a cross or a nought; nothing for any other byte
+unfoldable pub cross_of : ℕ → ℕ → ℕ → List ℕ
+cross_of x y b =
+    if b == 120 then path (x - 21) (y - 21) (codes "l42 42m-42 0l42-42\" stroke-width=\"6\"/>\n") else
+    if b == 111 then circle x y (codes "\" r=\"21\" fill=\"none\" stroke-width=\"6\"/>\n") else
+    []
+
+-- a counter
+unfoldable pub counter_of : ℕ → ℕ → ℕ → List ℕ
+counter_of x y b = if b == 120 then circle x y (codes "\" r=\"14\" fill=\"#999\"/>\n") else []
+
+-- a black or a white man on a cell
+unfoldable pub stone_of : ℕ → ℕ → ℕ → List ℕ
+stone_of x y b =
+    if b == 120 then circle x y (codes "\" r=\"14\" fill=\"#000\"/>\n") else
+    if b == 111 then circle x y (codes "\" r=\"14\" fill=\"#fff\"/>\n") ++ circle x y (codes "\" r=\"7\" fill=\"none\" stroke-width=\"1\"/>\n") else
+    []
+
+-- a black or a white man on a point
+unfoldable pub disc_of : ℕ → ℕ → ℕ → List ℕ
+disc_of x y b =
+    if b == 120 then circle x y (codes "\" r=\"27\" fill=\"#000\"/>\n") else
+    if b == 111 then circle x y (codes "\" r=\"27\" fill=\"#fff\"/>\n") ++ circle x y (codes "\" r=\"13\" fill=\"none\" stroke-width=\"1\"/>\n") else
+    []
+
+-- a man with a letter
+unfoldable pub letter_of : ℕ → ℕ → ℕ → List ℕ
+letter_of x y b =
+    if b == 104 then circle x y (codes "\" r=\"27\" fill=\"#000\"/>\n") ++ words_at x (y + 7) (codes "\" font-size=\"20\" stroke=\"none\" fill=\"#fff\">") (codes "h") else
+    if b == 100 then circle x y (codes "\" r=\"27\" fill=\"#fff\"/>\n") ++ words_at x (y + 7) (codes "\" font-size=\"20\" stroke=\"none\" fill=\"#000\">") (codes "d") else
+    []
+
+-- the man of a byte of the position's text; nothing where there is none
+abbrev pub man_of : Style → ℕ → ℕ → ℕ → List ℕ
+man_of Row x y b = []
+man_of Crosses x y b = cross_of x y b
+man_of Counters x y b = counter_of x y b
+man_of Stones x y b = stone_of x y b
+man_of Discs x y b = disc_of x y b
+man_of Letters x y b = letter_of x y b
+
+-- a point of the net, under its man
+abbrev pub point_of : Style → ℕ → ℕ → List ℕ
+point_of style x y = if has_points style then circle x y (codes "\" r=\"5\" fill=\"#fff\"/>\n") else []
+
+-- the name of a row or a column; beside cells the names of rows stand nearer
+abbrev pub label_of : Style → ℕ → ℕ → ℕ → List ℕ
+label_of style x y b = words_at (if has_cells style then (if x == 40 then 70 else x) else x) (y + 6) (codes "\" stroke=\"none\">") (b ∷ [])
+
+-- what stands over that: the men in their places, and the names of rows and columns
+unfoldable pub over_at : Style → List ℕ → ℕ → ℕ → ℕ → List ℕ
+over_at style text x y b = if is_slot b then point_of style x y ++ man_of style x y (slice_index text (b - 65)) else if is_stroke b then [] else label_of style x y b
+
+-- ---- a board
+-- where the byte after this one stands: beside it, or where it ends its line, below
+abbrev pub next_x : ℕ → ℕ → ℕ
+next_x x b = if b == 10 then 40 else x + 20
+
+abbrev pub next_y : ℕ → ℕ → ℕ
+next_y y b = if b == 10 then y + 40 else y
+
+-- what the bytes of a board are drawn as: the one in row r and column c at 20c + 40 and 40r + 40
+unfoldable pub spread : (ℕ → ℕ → ℕ → List ℕ) → ℕ → ℕ → List ℕ → List ℕ
+spread f x y [] = []
+spread f x y (b ∷ bs) = f x y b ++ spread f (next_x x b) (next_y y b) bs
+
+-- how many bytes of its line have come with this byte
+abbrev pub next_length : ℕ → ℕ → ℕ
+next_length n b = if b == 10 then 0 else n + 1
+
+-- the length of the longest line, where n bytes of a line have come, and the longest so far has this length
+unfoldable pub widest : ℕ → ℕ → List ℕ → ℕ
+widest n longest [] = longest
+widest n longest (b ∷ bs) = widest (next_length n b) (max longest (next_length n b)) bs
+
+-- the size of a diagram, wide enough for its caption, and where it begins
+abbrev pub width_by : Style → ℕ → ℕ
+width_by Row longest = max (10 * longest + 30) 300
+width_by style longest = max (20 * longest + 60) 300
+
+abbrev pub width_of : Style → List ℕ → ℕ
+width_of style drawing = width_by style (widest 0 0 drawing)
+
+abbrev pub height_of : List ℕ → ℕ
+height_of drawing = 40 * count_by (λ b. b == 10) drawing + 130
+
+abbrev pub left_of : Style → ℕ
+left_of style = if has_cells style then 40 else 0
+
+-- ---- documents
+-- the beginning of the whole, with its box
+unfoldable pub svg_box : ℕ → ℕ → ℕ → List ℕ
+svg_box left width height = at_point (codes "<svg xmlns=\"http://www.w3.org/2000/svg\" viewBox=\"") left (codes " 0 ") width (codes " ") ++ decimal height
+
+-- its size, and how its lines and letters look
+unfoldable pub svg_size : ℕ → ℕ → List ℕ
+svg_size width height =
+    at_point (codes "\" width=\"") width (codes "\" height=\"") height
+    (codes "\" role=\"img\" font-family=\"sans-serif\" font-size=\"18\" text-anchor=\"middle\" stroke-linecap=\"round\">\n")
+
+-- the element of the whole, up to its title
+abbrev pub svg_open : ℕ → ℕ → ℕ → List ℕ
+svg_open left width height = svg_box left width height ++ svg_size width height
+
+-- the title: the game, the position's text and the caption
+unfoldable pub svg_title : List ℕ → List ℕ → List ℕ → List ℕ
+svg_title title text caption = codes "<title>" ++ escaped title ++ codes " " ++ escaped text ++ codes " " ++ escaped caption ++ codes "</title>\n"
+
+-- the paper
+unfoldable pub svg_paper : ℕ → ℕ → ℕ → List ℕ
+svg_paper left width height = codes "<rect x=\"" ++ decimal left ++ codes "\" width=\"" ++ decimal width ++ codes "\" height=\"" ++ decimal height ++ codes "\" fill=\"#fff\"/>\n"
+
+-- the row of numbers, in the middle
+abbrev pub row_words : ℕ → List ℕ → List ℕ
+row_words middle drawing = words_at middle 45 (codes "\" font-family=\"monospace\" stroke=\"none\" xml:space=\"preserve\">") drawing
+
+abbrev pub over_all : Style → List ℕ → List ℕ → List ℕ → ℕ → List ℕ
+over_all Row board text drawing middle = row_words middle drawing
+over_all style board text drawing middle = spread (over_at style text) 40 40 board
+
+abbrev pub under_all : Style → List ℕ → List ℕ
+under_all Row board = []
+under_all style board = spread (under_at style) 40 40 board
+
+abbrev pub caption_words : ℕ → ℕ → List ℕ → List ℕ
+caption_words middle height caption = words_at middle (height - 14) (codes "\" stroke=\"none\">") caption
+
+-- the middle of a diagram, from left to right
+abbrev pub middle_of : Style → List ℕ → ℕ
+middle_of style drawing = (width_of style drawing + left_of style) / 2
+
+-- the parts of a document: up to the paper, what lies under the men, and the men with the caption
+unfoldable pub svg_front : ℕ → ℕ → ℕ → List ℕ → List ℕ → List ℕ → List ℕ
+svg_front left width height title text caption = svg_open left width height ++ svg_title title text caption ++ svg_paper left width height
+
+unfoldable pub svg_net : Style → List ℕ → List ℕ
+svg_net style board = codes "<g fill=\"none\" stroke=\"#777\" stroke-width=\"2\">\n" ++ under_all style board ++ codes "</g>\n"
+
+unfoldable pub svg_men : Style → List ℕ → List ℕ → List ℕ → ℕ → List ℕ
+svg_men style board text drawing middle = codes "<g stroke=\"#000\" stroke-width=\"2\">\n" ++ over_all style board text drawing middle
+
+unfoldable pub svg_back : ℕ → ℕ → List ℕ → List ℕ
+svg_back middle height caption = caption_words middle height caption ++ codes "</g>\n</svg>\n"
+
+-- the SVG document of a position with this text and this drawing
+unfoldable pub svg_of : Style → List ℕ → List ℕ → List ℕ → List ℕ → List ℕ → List ℕ
+svg_of style title board text drawing caption =
+    svg_front (left_of style) (width_of style drawing - left_of style) (height_of drawing) title text caption
+    ++ svg_net style board ++ svg_men style board text drawing (middle_of style drawing) ++ svg_back (middle_of style drawing) (height_of drawing) caption
+
+-- what stands under a board: the side to move, and its value where that is to be said
+abbrev pub caption_of : List ℕ → Solved → Bool → List ℕ
+caption_of mover s valued = mover ++ codes " to move" ++ (if valued then codes ": " ++ text_of s else [])
+
+module _ (r : Rules) (shown : Position → List ℕ) (move_shown : Position → ℕ → List ℕ) (drawn mover : Position → List ℕ) (style : Style) (title board : List ℕ) where
+  -- the diagram of a position with this value
+  abbrev pub diagram_of : Bool → Position → Solved → List ℕ
+  diagram_of valued p s = svg_of style title board (shown p) (drawn p) (caption_of (mover p) s valued)
+
+  -- the diagram of the position with this text
+  abbrev pub IsDiagram : Bool → List ℕ → List ℕ → Type 0
+  IsDiagram valued text out = (p : Position) × IsReadAs r shown move_shown text p × (s : Solved) × IsTrueValue r p s × (out ≡ diagram_of valued p s)

@@ -1,0 +1,74 @@
+-- The points of the boards: their names, by the byte of a position's text that tells what stands there.
+use Rattle.std.specs.Prelude.{◌≡◌, ℕ, ◌+◌, ◌*◌, ◌⊎◌, Bool, true, not, ◌&&◌, ◌==◌, List, [], ◌∷◌, ◌++◌, map, length, codes, if◌then◌else◌}
+use Rattle.std.specs.Fmt.{decimal}
+use Rattle.std.specs.List.{Contains, list_all, list_any, range_with_len}
+use Rattle.std.specs.Str.{bytes_eq}
+use Rattle.gm_board.specs.Squares.{cell_text}
+use Rattle.gm_hare.specs.Texts.{point_name}
+use Rattle.gm_morris.specs.declared.variant.Variant.{Variant}
+use Rattle.gm_morris.specs.declared.variant.Variant.TheVariants.{TicTacToe, ThreeMens, Achi}
+use Rattle.gm_mutorere.specs.Texts.{point_text}
+use Rattle.gm_draw.specs.declared.pictured.Style.{Style}
+use Rattle.gm_draw.specs.declared.pictured.Style.TheVariants.{Crosses, Discs}
+
+-- ---- the points of the games
+-- the cells of a square of side s, row by row
+unfoldable pub square_points : ℕ → List (List ℕ)
+square_points s = map (cell_text s) (range_with_len 0 (s * s))
+
+-- the points of the ring, and its center
+abbrev pub ring_name : ℕ → List ℕ
+ring_name k = point_text k ∷ []
+
+unfoldable pub ring_points : List (List ℕ)
+ring_points = map ring_name (range_with_len 0 9)
+
+-- the points of Pong Hau K'i, by their digits
+abbrev pub pong_name : ℕ → List ℕ
+pong_name k = (48 + k) ∷ []
+
+unfoldable pub pong_points : List (List ℕ)
+pong_points = map pong_name (range_with_len 0 5)
+
+-- the points of Hare and Hounds
+unfoldable pub hare_points : List (List ℕ)
+hare_points = map point_name (range_with_len 0 11)
+
+-- the numbers below n
+unfoldable pub number_points : ℕ → List (List ℕ)
+number_points n = map decimal (range_with_len 0 n)
+
+-- ---- rows of numbers, in which no place is marked
+unfoldable pub countdown_board : List ℕ
+countdown_board = codes "0 1 2 3 4 5 6 7 8 9 10"
+
+unfoldable pub wheel_board : List ℕ
+wheel_board = codes "0 1 2 3 4 5 6 7 8 9"
+
+-- ---- titles and styles
+unfoldable pub nine_title : Variant → List ℕ
+nine_title TicTacToe = codes "Tic-Tac-Toe"
+nine_title ThreeMens = codes "Three Men's Morris"
+nine_title Achi = codes "Achi"
+
+unfoldable pub nine_style : Variant → Style
+nine_style TicTacToe = Crosses
+nine_style ThreeMens = Discs
+nine_style Achi = Discs
+
+unfoldable pub tactix_title : ℕ → Bool → List ℕ
+tactix_title s misere = codes "Tac Tix " ++ (48 + s) ∷ codes " by " ++ (48 + s) ∷ (if misere then codes ", misere" else [])
+
+-- ---- names and moves
+-- a name has bytes, and none of them is `-`
+abbrev pub is_name : List ℕ → Bool
+is_name text = not (length text == 0) && list_all (λ b. not (b == 45)) text
+
+-- whether no name comes again
+abbrev pub are_apart : List (List ℕ) → Bool
+are_apart [] = true
+are_apart (n ∷ ns) = not (list_any (bytes_eq n) ns) && are_apart ns
+
+-- the text is the name of a point, or those of two with `-` between them
+abbrev pub IsPointWord : List (List ℕ) → List ℕ → Type 0
+IsPointWord points text = Contains points text ⊎ ((a : List ℕ) × (b : List ℕ) × Contains points a × Contains points b × (text ≡ a ++ 45 ∷ b))

@@ -1,0 +1,393 @@
+//! Diagrams of positions for print: SVG documents.
+ghost use Rattle.std.specs.Prelude.{◌≡◌, ◌<◌, ◌≤◌, ◌==◌, ◌↔◌, ◌++◌, ◌+◌, ◌*◌, ◌-◌, [], count_by, length, max, true, OnOk, IfOk, IsErrOf};
+ghost use Rattle.gm_game.specs.declared.position.Position.{Position};
+ghost use Rattle.gm_play.specs.PlayTexts.{IsReadAs, IsNoPosition};
+ghost use Rattle.gm_best.specs.Refusals.{IsNotHeld};
+ghost use Rattle.gm_draw.specs.Diagrams.{next_length as next_length_spec, widest as widest_spec, width_of, height_of, left_of, middle_of as middle_spec, width_by, svg_box, svg_size, svg_open, svg_title, svg_paper, svg_front, svg_net, svg_men, svg_back, svg_of, row_words, over_all, under_all, caption_words, caption_of, diagram_of, IsDiagram};
+
+use crate::drawn::DRAWING;
+use crate::pictured::{Pictured, Style};
+use crate::svg::{has_cells, push_at, push_escaped, push_men, push_net, push_number, push_words};
+use gm_best::answer::answer;
+use gm_best::play_error::PlayError;
+use gm_game::position::{Position, Solved};
+use gm_game::text::value_text;
+use gm_table::tables::Tables;
+use std::alloc::{AllocError, Global};
+
+/// The SVG document of the position with this text: its board with the men in their places, and under it the side to move, with the true value where that is to
+/// be said. Any bytes may be given.
+pub fn diagram_text<G: Pictured>(
+    alloc: Global,
+    tables: &Tables<G>,
+    text: &[u8],
+    valued: bool,
+) -> Result<Vec<u8>, PlayError>
+    ensures text { IfOk result (λ v. IsDiagram G.Game.rules G.shown G.move_shown G.drawn G.mover G.style G.title G.board valued text.now v.items) }
+    ensures illegal { IsErrOf result PlayError.Illegal ↔ IsNoPosition G.Game.rules G.shown G.move_shown text.now }
+    ensures not_held { IsErrOf result PlayError.NotHeld ↔ ((p : Position) × IsReadAs G.Game.rules G.shown G.move_shown text.now p × IsNotHeld G.Game.rules tables.now p) }
+{
+    let p = match G::read(text) {
+        Some(p) => p,
+        None => return Err(PlayError::Illegal),
+    };
+    let value = match answer(tables, p) {
+        Ok(value) => value,
+        Err(_) => return Err(PlayError::NotHeld),
+    };
+    match diagram::<G>(alloc, p, value, valued) {
+        Ok(drawn) => Ok(drawn),
+        Err(_) => Err(PlayError::OutOfMemory),
+    }
+}
+
+// The diagram of a legal position of this value.
+fn diagram<G: Pictured>(
+    alloc: Global,
+    p: Position,
+    value: Solved,
+    valued: bool,
+) -> Result<Vec<u8>, AllocError>
+    requires { G.Game.rules.is_legal p ≡ true }
+    ensures { IfOk result (λ v. v.items ≡ diagram_of G.Game.rules G.shown G.move_shown G.drawn G.mover G.style G.title G.board valued p value) }
+{
+    let mut caption = Vec::new(alloc);
+    let mut text = Vec::new(alloc);
+    let pushed = push_diagram::<G>(&mut text, &mut caption, p, value, valued);
+    drop(caption);
+    match pushed {
+        Ok(()) => Ok(text),
+        Err(error) => {
+            drop(text);
+            Err(error)
+        }
+    }
+}
+
+// Writes the diagram of a legal position of this value, and its caption beside it, into empty texts.
+fn push_diagram<G: Pictured>(
+    text: &mut Vec<u8>,
+    caption: &mut Vec<u8>,
+    p: Position,
+    value: Solved,
+    valued: bool,
+) -> Result<(), AllocError>
+    requires legal { G.Game.rules.is_legal p ≡ true }
+    requires empty { text.old.items ≡ [] }
+    requires none { caption.old.items ≡ [] }
+    ensures { OnOk result (text.new.items ≡ diagram_of G.Game.rules G.shown G.move_shown G.drawn G.mover G.style G.title G.board valued p value) }
+{
+    push_caption(caption, G::mover(p), value, valued)?;
+    push_svg::<G>(text, p, caption.as_slice())
+}
+
+// Appends what stands under a board.
+fn push_caption(
+    caption: &mut Vec<u8>,
+    mover: &[u8],
+    value: Solved,
+    valued: bool,
+) -> Result<(), AllocError>
+    ensures { OnOk result (caption.new.items ≡ caption.old.items ++ caption_of mover.now value valued) }
+{
+    caption.extend_from_slice(mover)?;
+    caption.extend_from_slice(b" to move")?;
+    if !valued {
+        return Ok(());
+    }
+    caption.extend_from_slice(b": ")?;
+    caption.extend_from_slice(value_text(value).as_slice())
+}
+
+// The size of a diagram, where it begins, and its middle from left to right.
+#[derive(Clone, Copy)]
+struct Frame {
+    left: u64,
+    width: u64,
+    height: u64,
+    middle: u64,
+}
+
+// The length of the longest line.
+fn widest(drawing: &[u8]) -> u64
+    requires { length drawing.now ≤ DRAWING }
+    ensures value { result ≡ widest_spec 0 0 drawing.now }
+    ensures fits { result ≤ DRAWING }
+{
+    let mut longest = 0;
+    let mut n = 0;
+    for byte in drawing {
+        n = next_length(n, *byte);
+        longest = greater(longest, n);
+    }
+    longest
+}
+
+// The greater of two numbers.
+fn greater(a: u64, b: u64) -> u64
+    ensures { result ≡ max a b }
+{
+    if a < b { b } else { a }
+}
+
+// How many bytes of its line have come with this byte.
+fn next_length(n: u64, byte: u8) -> u64
+    requires { n < DRAWING }
+    ensures value { result ≡ next_length_spec n byte }
+    ensures near { result ≤ n + 1 }
+{
+    if byte == b'\n' { 0 } else { n + 1 }
+}
+
+// How many lines end in a drawing.
+fn line_ends(drawing: &[u8]) -> usize
+    ensures value { result ≡ count_by (λ b. b == 10) drawing.now }
+    ensures few { result ≤ length drawing.now }
+{
+    drawing.iter().filter(|b| **b == b'\n').count()
+}
+
+// The frame of a drawing.
+fn frame_of(style: Style, drawing: &[u8]) -> Frame
+    requires { length drawing.now ≤ DRAWING }
+    ensures left { result.left ≡ left_of style }
+    ensures width { result.width ≡ width_of style drawing.now - left_of style }
+    ensures height { result.height ≡ height_of drawing.now }
+    ensures middle { result.middle ≡ middle_spec style drawing.now }
+{
+    let left = if has_cells(style) { 40 } else { 0 };
+    let wide = width(style, widest(drawing));
+    Frame {
+        left,
+        width: wide - left,
+        height: 40 * line_ends(drawing) as u64 + 130,
+        middle: (wide + left) / 2,
+    }
+}
+
+// The width of a diagram whose longest line has this length: its caption has room.
+fn width(style: Style, longest: u64) -> u64
+    requires { longest ≤ DRAWING }
+    ensures value { result ≡ width_by style longest }
+    ensures some { 60 ≤ result }
+    ensures fits { result ≤ 20 * DRAWING + 300 }
+{
+    match style {
+        Style::Row => (10 * longest + 30).max(300),
+        _ => (20 * longest + 60).max(300),
+    }
+}
+
+// Appends the SVG document of a legal position with this caption.
+#[tactic(auto, unfolding(crate::specs::Diagrams::svg_of))]
+fn push_svg<G: Pictured>(text: &mut Vec<u8>, p: Position, caption: &[u8]) -> Result<(), AllocError>
+    requires { G.Game.rules.is_legal p ≡ true }
+    ensures { OnOk result (text.new.items ≡ text.old.items ++ svg_of G.style G.title G.board (G.shown p) (G.drawn p) caption.now) }
+{
+    let style = G::style();
+    let bytes = G::show(p);
+    let drawing = G::draw(p);
+    let frame = frame_of(style, drawing.as_slice());
+    push_front(
+        text,
+        frame,
+        G::title().as_slice(),
+        bytes.as_slice(),
+        caption,
+    )?;
+    push_net_group(text, style, G::board())?;
+    push_men_group(
+        text,
+        style,
+        G::board(),
+        bytes.as_slice(),
+        drawing.as_slice(),
+        frame.middle,
+    )?;
+    push_back(text, frame, caption)
+}
+
+// Appends the first part, up to the paper.
+#[tactic(auto, unfolding(crate::specs::Diagrams::svg_front))]
+fn push_front(
+    text: &mut Vec<u8>,
+    frame: Frame,
+    title: &[u8],
+    bytes: &[u8],
+    caption: &[u8],
+) -> Result<(), AllocError>
+    ensures { OnOk result (text.new.items ≡ text.old.items ++ svg_front frame.left frame.width frame.height title.now bytes.now caption.now) }
+{
+    push_open(text, frame)?;
+    push_title(text, title, bytes, caption)?;
+    push_paper(text, frame)
+}
+
+// Appends the group of what lies under the men.
+#[tactic(auto, unfolding(crate::specs::Diagrams::svg_net))]
+fn push_net_group(text: &mut Vec<u8>, style: Style, board: &[u8]) -> Result<(), AllocError>
+    requires { length board.now ≤ DRAWING }
+    ensures { OnOk result (text.new.items ≡ text.old.items ++ svg_net style board.now) }
+{
+    text.extend_from_slice(b"<g fill=\"none\" stroke=\"#777\" stroke-width=\"2\">\n")?;
+    push_under_all(text, style, board)?;
+    text.extend_from_slice(b"</g>\n")
+}
+
+// Appends the group of the men, which the last part closes.
+#[tactic(auto, unfolding(crate::specs::Diagrams::svg_men))]
+fn push_men_group(
+    text: &mut Vec<u8>,
+    style: Style,
+    board: &[u8],
+    bytes: &[u8],
+    drawing: &[u8],
+    middle: u64,
+) -> Result<(), AllocError>
+    requires { length board.now ≤ DRAWING }
+    ensures { OnOk result (text.new.items ≡ text.old.items ++ svg_men style board.now bytes.now drawing.now middle) }
+{
+    text.extend_from_slice(b"<g stroke=\"#000\" stroke-width=\"2\">\n")?;
+    push_over_all(text, style, board, bytes, drawing, middle)
+}
+
+// Appends the last part, with the caption.
+#[tactic(auto, unfolding(crate::specs::Diagrams::svg_back))]
+fn push_back(text: &mut Vec<u8>, frame: Frame, caption: &[u8]) -> Result<(), AllocError>
+    requires { 14 ≤ frame.height }
+    ensures { OnOk result (text.new.items ≡ text.old.items ++ svg_back frame.middle frame.height caption.now) }
+{
+    push_caption_words(text, frame, caption)?;
+    text.extend_from_slice(b"</g>\n</svg>\n")
+}
+
+// Appends the beginning of the whole, with its box.
+#[tactic(auto, unfolding(crate::specs::Diagrams::svg_box))]
+fn push_box(text: &mut Vec<u8>, frame: Frame) -> Result<(), AllocError>
+    ensures { OnOk result (text.new.items ≡ text.old.items ++ svg_box frame.left frame.width frame.height) }
+{
+    push_at(
+        text,
+        b"<svg xmlns=\"http://www.w3.org/2000/svg\" viewBox=\"",
+        frame.left,
+        b" 0 ",
+        frame.width,
+        b" ",
+    )?;
+    push_number(text, frame.height)
+}
+
+// Appends its size, and how its lines and letters look.
+#[tactic(auto, unfolding(crate::specs::Diagrams::svg_size))]
+fn push_size(text: &mut Vec<u8>, frame: Frame) -> Result<(), AllocError>
+    ensures { OnOk result (text.new.items ≡ text.old.items ++ svg_size frame.width frame.height) }
+{
+    push_at(
+        text,
+        b"\" width=\"",
+        frame.width,
+        b"\" height=\"",
+        frame.height,
+        b"\" role=\"img\" font-family=\"sans-serif\" font-size=\"18\" text-anchor=\"middle\" stroke-linecap=\"round\">\n",
+    )
+}
+
+// Appends the element of the whole, up to its title.
+fn push_open(text: &mut Vec<u8>, frame: Frame) -> Result<(), AllocError>
+    ensures { OnOk result (text.new.items ≡ text.old.items ++ svg_open frame.left frame.width frame.height) }
+{
+    push_box(text, frame)?;
+    push_size(text, frame)
+}
+
+// Appends the title: the game, the position's text and the caption.
+#[tactic(auto, unfolding(crate::specs::Diagrams::svg_title))]
+fn push_title(
+    text: &mut Vec<u8>,
+    title: &[u8],
+    bytes: &[u8],
+    caption: &[u8],
+) -> Result<(), AllocError>
+    ensures { OnOk result (text.new.items ≡ text.old.items ++ svg_title title.now bytes.now caption.now) }
+{
+    text.extend_from_slice(b"<title>")?;
+    push_escaped(text, title)?;
+    text.extend_from_slice(b" ")?;
+    push_escaped(text, bytes)?;
+    text.extend_from_slice(b" ")?;
+    push_escaped(text, caption)?;
+    text.extend_from_slice(b"</title>\n")
+}
+
+// Appends the paper.
+#[tactic(auto, unfolding(crate::specs::Diagrams::svg_paper))]
+fn push_paper(text: &mut Vec<u8>, frame: Frame) -> Result<(), AllocError>
+    ensures { OnOk result (text.new.items ≡ text.old.items ++ svg_paper frame.left frame.width frame.height) }
+{
+    push_at(
+        text,
+        b"<rect x=\"",
+        frame.left,
+        b"\" width=\"",
+        frame.width,
+        b"\" height=\"",
+    )?;
+    push_number(text, frame.height)?;
+    text.extend_from_slice(b"\" fill=\"#fff\"/>\n")
+}
+
+// Appends what lies under the men.
+fn push_under_all(text: &mut Vec<u8>, style: Style, board: &[u8]) -> Result<(), AllocError>
+    requires { length board.now ≤ DRAWING }
+    ensures { OnOk result (text.new.items ≡ text.old.items ++ under_all style board.now) }
+{
+    match style {
+        Style::Row => Ok(()),
+        _ => push_net(text, style, board),
+    }
+}
+
+// Appends the men and the names of rows and columns, or a row of numbers in the middle.
+fn push_over_all(
+    text: &mut Vec<u8>,
+    style: Style,
+    board: &[u8],
+    bytes: &[u8],
+    drawing: &[u8],
+    middle: u64,
+) -> Result<(), AllocError>
+    requires { length board.now ≤ DRAWING }
+    ensures { OnOk result (text.new.items ≡ text.old.items ++ over_all style board.now bytes.now drawing.now middle) }
+{
+    match style {
+        Style::Row => push_row(text, drawing, middle),
+        _ => push_men(text, style, board, bytes),
+    }
+}
+
+// Appends a row of numbers.
+fn push_row(text: &mut Vec<u8>, drawing: &[u8], middle: u64) -> Result<(), AllocError>
+    ensures { OnOk result (text.new.items ≡ text.old.items ++ row_words middle drawing.now) }
+{
+    push_words(
+        text,
+        middle,
+        45,
+        b"\" font-family=\"monospace\" stroke=\"none\" xml:space=\"preserve\">",
+        drawing,
+    )
+}
+
+// Appends the caption in the middle under a board.
+fn push_caption_words(text: &mut Vec<u8>, frame: Frame, caption: &[u8]) -> Result<(), AllocError>
+    requires { 14 ≤ frame.height }
+    ensures { OnOk result (text.new.items ≡ text.old.items ++ caption_words frame.middle frame.height caption.now) }
+{
+    push_words(
+        text,
+        frame.middle,
+        frame.height - 14,
+        b"\" stroke=\"none\">",
+        caption,
+    )
+}

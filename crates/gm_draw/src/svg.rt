@@ -1,0 +1,425 @@
+//! The elements of a diagram.
+ghost use Rattle.std.specs.Prelude.{◌≡◌, ◌≤◌, ◌==◌, ◌++◌, ◌+◌, ◌-◌, if◌then◌else◌, slice_index, length, OnOk};
+ghost use Rattle.std.specs.Fmt.{decimal};
+ghost use Rattle.gm_draw.specs.Diagrams.{escaped, escaped_byte, at_point, path, circle, words_at, stroke_of, has_cells as has_cells_spec, has_points as has_points_spec, is_stroke as is_stroke_spec};
+ghost use Rattle.gm_draw.specs.Diagrams.{under_at, over_at, cross_of, counter_of, stone_of, disc_of, letter_of, man_of, point_of, label_of, next_x as next_x_spec, next_y as next_y_spec, spread};
+
+use crate::drawn::DRAWING;
+use crate::pictured::Style;
+use gm_game::shown::Line;
+use gm_game::text::push_decimal;
+use std::alloc::AllocError;
+
+/// Appends a number in decimal.
+pub(crate) fn push_number(text: &mut Vec<u8>, number: u64) -> Result<(), AllocError>
+    ensures { OnOk result (text.new.items ≡ text.old.items ++ decimal number) }
+{
+    let mut line = Line::new();
+    push_decimal(&mut line, number);
+    text.extend_from_slice(line.as_slice())
+}
+
+// Appends a byte of a text.
+fn push_escaped_byte(text: &mut Vec<u8>, byte: u8) -> Result<(), AllocError>
+    ensures { OnOk result (text.new.items ≡ text.old.items ++ escaped_byte byte) }
+{
+    match byte {
+        b'<' => text.extend_from_slice(b"&lt;"),
+        b'&' => text.extend_from_slice(b"&amp;"),
+        _ => text.extend_from_slice(&[byte]),
+    }
+}
+
+/// Appends a text, in which `<` and `&` have names.
+pub(crate) fn push_escaped(text: &mut Vec<u8>, plain: &[u8]) -> Result<(), AllocError>
+    ensures { OnOk result (text.new.items ≡ text.old.items ++ escaped plain.now) }
+{
+    for byte in plain {
+        push_escaped_byte(text, *byte)?;
+    }
+    Ok(())
+}
+
+/// Appends two numbers, with what stands before, between and after them.
+pub(crate) fn push_at(
+    text: &mut Vec<u8>,
+    front: &[u8],
+    x: u64,
+    middle: &[u8],
+    y: u64,
+    back: &[u8],
+) -> Result<(), AllocError>
+    ensures { OnOk result (text.new.items ≡ text.old.items ++ at_point front.now x middle.now y back.now) }
+{
+    text.extend_from_slice(front)?;
+    push_number(text, x)?;
+    text.extend_from_slice(middle)?;
+    push_number(text, y)?;
+    text.extend_from_slice(back)
+}
+
+// Appends a path that begins at a point.
+fn push_path(text: &mut Vec<u8>, x: u64, y: u64, back: &[u8]) -> Result<(), AllocError>
+    ensures { OnOk result (text.new.items ≡ text.old.items ++ path x y back.now) }
+{
+    push_at(text, b"<path d=\"M", x, b" ", y, back)
+}
+
+// Appends a circle around a point.
+fn push_circle(text: &mut Vec<u8>, x: u64, y: u64, back: &[u8]) -> Result<(), AllocError>
+    ensures { OnOk result (text.new.items ≡ text.old.items ++ circle x y back.now) }
+{
+    push_at(text, b"<circle cx=\"", x, b"\" cy=\"", y, back)
+}
+
+// Appends two circles around a point.
+fn push_ringed(
+    text: &mut Vec<u8>,
+    x: u64,
+    y: u64,
+    disc: &[u8],
+    ring: &[u8],
+) -> Result<(), AllocError>
+    ensures { OnOk result (text.new.items ≡ text.old.items ++ (circle x y disc.now ++ circle x y ring.now)) }
+{
+    push_circle(text, x, y, disc)?;
+    push_circle(text, x, y, ring)
+}
+
+/// Appends words at a point, after what tells how they look.
+pub(crate) fn push_words(
+    text: &mut Vec<u8>,
+    x: u64,
+    y: u64,
+    look: &[u8],
+    plain: &[u8],
+) -> Result<(), AllocError>
+    ensures { OnOk result (text.new.items ≡ text.old.items ++ words_at x y look.now plain.now) }
+{
+    push_at(text, b"<text x=\"", x, b"\" y=\"", y, look)?;
+    push_escaped(text, plain)?;
+    text.extend_from_slice(b"</text>\n")
+}
+
+// Appends a circle around a point, and a letter below it.
+fn push_lettered(
+    text: &mut Vec<u8>,
+    x: u64,
+    y: u64,
+    disc: &[u8],
+    look: &[u8],
+    letter: &[u8],
+) -> Result<(), AllocError>
+    requires { y ≤ 16000 }
+    ensures { OnOk result (text.new.items ≡ text.old.items ++ (circle x y disc.now ++ words_at x (y + 7) look.now letter.now)) }
+{
+    push_circle(text, x, y, disc)?;
+    push_words(text, x, y + 7, look, letter)
+}
+
+// Appends the stroke of a byte of the board, if it is one.
+#[tactic(auto, unfolding(crate::specs::Diagrams::stroke_of))]
+fn push_stroke(text: &mut Vec<u8>, x: u64, y: u64, byte: u8) -> Result<(), AllocError>
+    requires right { 40 ≤ x }
+    requires down { 40 ≤ y }
+    requires near { x + y ≤ 16000 }
+    ensures { OnOk result (text.new.items ≡ text.old.items ++ stroke_of x y byte) }
+{
+    match byte {
+        b'-' => push_path(text, x - 20, y, b"h40\"/>\n"),
+        b'|' => push_path(text, x, y - 40, b"v80\"/>\n"),
+        b'/' => push_path(text, x - 40, y + 40, b"l80-80\"/>\n"),
+        b'\\' => push_path(text, x - 40, y - 40, b"l80 80\"/>\n"),
+        b'+' => {
+            push_path(text, x - 20, y, b"h40\"/>\n")?;
+            push_path(text, x, y - 40, b"v80\"/>\n")
+        }
+        _ => Ok(()),
+    }
+}
+
+/// Whether men stand in cells of their own, which are drawn as squares.
+pub(crate) fn has_cells(style: Style) -> bool
+    ensures { result ≡ has_cells_spec style }
+{
+    matches!(style, Style::Counters | Style::Stones)
+}
+
+// Whether men stand on points.
+fn has_points(style: Style) -> bool
+    ensures { result ≡ has_points_spec style }
+{
+    matches!(style, Style::Discs | Style::Letters)
+}
+
+// Appends what lies under the men.
+#[tactic(auto, unfolding(crate::specs::Diagrams::under_at))]
+fn push_under(text: &mut Vec<u8>, style: Style, x: u64, y: u64, byte: u8) -> Result<(), AllocError>
+    requires right { 40 ≤ x }
+    requires down { 40 ≤ y }
+    requires near { x + y ≤ 16000 }
+    ensures { OnOk result (text.new.items ≡ text.old.items ++ under_at style x y byte) }
+{
+    if !byte.is_ascii_uppercase() {
+        return push_stroke(text, x, y, byte);
+    }
+    if has_cells(style) {
+        push_path(text, x - 20, y - 20, b"h40v40h-40z\"/>\n")
+    } else {
+        Ok(())
+    }
+}
+
+// Appends a cross or a nought.
+#[tactic(auto, unfolding(crate::specs::Diagrams::cross_of))]
+fn push_cross(text: &mut Vec<u8>, x: u64, y: u64, byte: u8) -> Result<(), AllocError>
+    requires right { 40 ≤ x }
+    requires down { 40 ≤ y }
+    ensures { OnOk result (text.new.items ≡ text.old.items ++ cross_of x y byte) }
+{
+    match byte {
+        b'x' => push_path(
+            text,
+            x - 21,
+            y - 21,
+            b"l42 42m-42 0l42-42\" stroke-width=\"6\"/>\n",
+        ),
+        b'o' => push_circle(
+            text,
+            x,
+            y,
+            b"\" r=\"21\" fill=\"none\" stroke-width=\"6\"/>\n",
+        ),
+        _ => Ok(()),
+    }
+}
+
+// Appends a counter.
+#[tactic(auto, unfolding(crate::specs::Diagrams::counter_of))]
+fn push_counter(text: &mut Vec<u8>, x: u64, y: u64, byte: u8) -> Result<(), AllocError>
+    ensures { OnOk result (text.new.items ≡ text.old.items ++ counter_of x y byte) }
+{
+    match byte {
+        b'x' => push_circle(text, x, y, b"\" r=\"14\" fill=\"#999\"/>\n"),
+        _ => Ok(()),
+    }
+}
+
+// Appends a black or a white man on a cell.
+#[tactic(auto, unfolding(crate::specs::Diagrams::stone_of))]
+fn push_stone(text: &mut Vec<u8>, x: u64, y: u64, byte: u8) -> Result<(), AllocError>
+    ensures { OnOk result (text.new.items ≡ text.old.items ++ stone_of x y byte) }
+{
+    match byte {
+        b'x' => push_circle(text, x, y, b"\" r=\"14\" fill=\"#000\"/>\n"),
+        b'o' => {
+            push_ringed(
+                text,
+                x,
+                y,
+                b"\" r=\"14\" fill=\"#fff\"/>\n",
+                b"\" r=\"7\" fill=\"none\" stroke-width=\"1\"/>\n",
+            )
+        }
+        _ => Ok(()),
+    }
+}
+
+// Appends a black or a white man on a point.
+#[tactic(auto, unfolding(crate::specs::Diagrams::disc_of))]
+fn push_disc(text: &mut Vec<u8>, x: u64, y: u64, byte: u8) -> Result<(), AllocError>
+    ensures { OnOk result (text.new.items ≡ text.old.items ++ disc_of x y byte) }
+{
+    match byte {
+        b'x' => push_circle(text, x, y, b"\" r=\"27\" fill=\"#000\"/>\n"),
+        b'o' => {
+            push_ringed(
+                text,
+                x,
+                y,
+                b"\" r=\"27\" fill=\"#fff\"/>\n",
+                b"\" r=\"13\" fill=\"none\" stroke-width=\"1\"/>\n",
+            )
+        }
+        _ => Ok(()),
+    }
+}
+
+// Appends a man with a letter.
+#[tactic(auto, unfolding(crate::specs::Diagrams::letter_of))]
+fn push_letter(text: &mut Vec<u8>, x: u64, y: u64, byte: u8) -> Result<(), AllocError>
+    requires { y ≤ 16000 }
+    ensures { OnOk result (text.new.items ≡ text.old.items ++ letter_of x y byte) }
+{
+    match byte {
+        b'h' => {
+            push_lettered(
+                text,
+                x,
+                y,
+                b"\" r=\"27\" fill=\"#000\"/>\n",
+                b"\" font-size=\"20\" stroke=\"none\" fill=\"#fff\">",
+                b"h",
+            )
+        }
+        b'd' => {
+            push_lettered(
+                text,
+                x,
+                y,
+                b"\" r=\"27\" fill=\"#fff\"/>\n",
+                b"\" font-size=\"20\" stroke=\"none\" fill=\"#000\">",
+                b"d",
+            )
+        }
+        _ => Ok(()),
+    }
+}
+
+// Appends the man of a byte of the position's text, if there is one.
+fn push_man(text: &mut Vec<u8>, style: Style, x: u64, y: u64, byte: u8) -> Result<(), AllocError>
+    requires right { 40 ≤ x }
+    requires down { 40 ≤ y }
+    requires near { x + y ≤ 16000 }
+    ensures { OnOk result (text.new.items ≡ text.old.items ++ man_of style x y byte) }
+{
+    match style {
+        Style::Row => Ok(()),
+        Style::Crosses => push_cross(text, x, y, byte),
+        Style::Counters => push_counter(text, x, y, byte),
+        Style::Stones => push_stone(text, x, y, byte),
+        Style::Discs => push_disc(text, x, y, byte),
+        Style::Letters => push_letter(text, x, y, byte),
+    }
+}
+
+// Appends a point of the net.
+fn push_point(text: &mut Vec<u8>, style: Style, x: u64, y: u64) -> Result<(), AllocError>
+    ensures { OnOk result (text.new.items ≡ text.old.items ++ point_of style x y) }
+{
+    if has_points(style) {
+        push_circle(text, x, y, b"\" r=\"5\" fill=\"#fff\"/>\n")
+    } else {
+        Ok(())
+    }
+}
+
+// Where the name of a row or a column stands.
+fn label_column(style: Style, x: u64) -> u64
+    ensures { result ≡ (if has_cells_spec style then (if x == 40 then 70 else x) else x) }
+{
+    if has_cells(style) && x == 40 { 70 } else { x }
+}
+
+// Appends the name of a row or a column.
+fn push_label(text: &mut Vec<u8>, style: Style, x: u64, y: u64, byte: u8) -> Result<(), AllocError>
+    requires { y ≤ 16000 }
+    ensures { OnOk result (text.new.items ≡ text.old.items ++ label_of style x y byte) }
+{
+    push_words(
+        text,
+        label_column(style, x),
+        y + 6,
+        b"\" stroke=\"none\">",
+        &[byte],
+    )
+}
+
+// Whether a byte is a stroke of the net, a space or the end of a line.
+fn is_stroke(byte: u8) -> bool
+    ensures { result ≡ is_stroke_spec byte }
+{
+    matches!(byte, b'-' | b'|' | b'/' | b'\\' | b'+' | b' ' | b'\n')
+}
+
+// Appends what stands over strokes and squares: a man in its place, or the name of a row or a column.
+#[tactic(auto, unfolding(crate::specs::Diagrams::over_at))]
+fn push_over(
+    text: &mut Vec<u8>,
+    style: Style,
+    bytes: &[u8],
+    x: u64,
+    y: u64,
+    byte: u8,
+) -> Result<(), AllocError>
+    requires right { 40 ≤ x }
+    requires down { 40 ≤ y }
+    requires near { x + y ≤ 16000 }
+    ensures { OnOk result (text.new.items ≡ text.old.items ++ over_at style bytes.now x y byte) }
+{
+    if byte.is_ascii_uppercase() {
+        push_point(text, style, x, y)?;
+        push_man(text, style, x, y, byte_at(bytes, byte))
+    } else if is_stroke(byte) {
+        Ok(())
+    } else {
+        push_label(text, style, x, y, byte)
+    }
+}
+
+// The byte of a text that a capital letter stands for: 0 past its end.
+fn byte_at(bytes: &[u8], letter: u8) -> u8
+    requires { 65 ≤ letter }
+    ensures { result ≡ slice_index bytes.now (letter - 65) }
+{
+    match bytes.get(usize::from(letter - b'A')) {
+        Some(found) => *found,
+        None => 0,
+    }
+}
+
+// The column of the byte after this one.
+fn next_x(x: u64, byte: u8) -> u64
+    requires right { 40 ≤ x }
+    requires near { x ≤ 16000 }
+    ensures value { result ≡ next_x_spec x byte }
+    ensures right { 40 ≤ result }
+    ensures near { result ≤ x + 20 }
+{
+    if byte == b'\n' { 40 } else { x + 20 }
+}
+
+// Its row.
+fn next_y(y: u64, byte: u8) -> u64
+    requires { y ≤ 16000 }
+    ensures value { result ≡ next_y_spec y byte }
+    ensures down { y ≤ result }
+    ensures near { result ≤ y + 40 }
+{
+    if byte == b'\n' { y + 40 } else { y }
+}
+
+/// Appends what lies under the men of a board.
+pub(crate) fn push_net(text: &mut Vec<u8>, style: Style, board: &[u8]) -> Result<(), AllocError>
+    requires { length board.now ≤ DRAWING }
+    ensures { OnOk result (text.new.items ≡ text.old.items ++ spread (under_at style) 40 40 board.now) }
+{
+    let mut x = 40;
+    let mut y = 40;
+    for byte in board {
+        push_under(text, style, x, y, *byte)?;
+        x = next_x(x, *byte);
+        y = next_y(y, *byte);
+    }
+    Ok(())
+}
+
+/// Appends the men of a position in the places of a board, and the names of its rows and columns.
+pub(crate) fn push_men(
+    text: &mut Vec<u8>,
+    style: Style,
+    board: &[u8],
+    bytes: &[u8],
+) -> Result<(), AllocError>
+    requires { length board.now ≤ DRAWING }
+    ensures { OnOk result (text.new.items ≡ text.old.items ++ spread (over_at style bytes.now) 40 40 board.now) }
+{
+    let mut x = 40;
+    let mut y = 40;
+    for byte in board {
+        push_over(text, style, bytes, x, y, *byte)?;
+        x = next_x(x, *byte);
+        y = next_y(y, *byte);
+    }
+    Ok(())
+}

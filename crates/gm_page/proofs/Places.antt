@@ -1,0 +1,137 @@
+-- Places of positions in a list.
+use Rattle.std.proofs.Common.{◌≡◌, ℕ, ◌+◌, ◌<◌, ◌≤◌, Bool, true, false, cond, nat_eq, eqb-true, eq-eqb, leb, leb-true, le-leb, ◌↔◌, List, [], ◌∷◌, ◌++◌, length, Option, None, Some, is_some, refl, sym, ap, ◌∙◌, subst, ◌⊎◌, inl, inr, arith}
+use Rattle.std.specs.HashMap.{get, HashMap}
+use Rattle.std.specs.List.{Contains}
+use Rattle.std.proofs.lemmas.Bool.{cases_Bool, cond-true, cond-false, and_parts, and_from, false≢true}
+use Rattle.std.proofs.lemmas.Bool.Decides.{nat_tests}
+use Rattle.gm_game.specs.declared.position.Position.{Position}
+use Rattle.gm_game.specs.Rules.{at}
+use Rattle.gm_game.proofs.Lists.{contains_none, contains_first, contains_later, contains_cases}
+use Rattle.gm_game.proofs.SetLemmas.{same_position}
+use Rattle.gm_page.specs.Listings.{is_same, place_from, place_of, is_key, Tells, with_new}
+
+-- the test of two positions
+same_is : (p q : Position) → is_same p q ≡ true → p ≡ q
+same_is p q e = let (a, b) = and_parts (nat_eq p.tier q.tier) (nat_eq p.index q.index) e in same_position p q (eqb-true _ _ a) (eqb-true _ _ b)
+
+same_self : (p : Position) → is_same p p ≡ true
+same_self p = and_from _ _ (eq-eqb p.tier p.tier refl) (eq-eqb p.index p.index refl)
+
+-- a position with a place is listed
+place_in : (n k : ℕ) (ps : List Position) (p : Position) → place_from n ps p ≡ Some k → Contains ps p
+place_in n k [] p e = absurd (let z : ⊥ = cc in z)
+place_in n k (q ∷ qs) p e = elim (cases_Bool (is_same p q)) [
+  | inl f ↦ subst (Contains (q ∷ qs)) (sym (same_is p q f)) (contains_first q qs)
+  | inr f ↦ contains_later q p qs (place_in (n + 1) k qs p (sym (cond-false _ _ _ f) ∙ e))
+]
+
+-- and a position without one is not
+place_out : (n : ℕ) (ps : List Position) (p : Position) → place_from n ps p ≡ None → Contains ps p → ⊥
+place_out n [] p e c = contains_none p c
+place_out n (q ∷ qs) p e c = elim (cases_Bool (is_same p q)) [
+  | inl f ↦ (let g : Some n ≡ None = sym (cond-true _ _ _ f) ∙ e in let z : ⊥ = cc in z)
+  | inr f ↦ elim (contains_cases q p qs c) [
+    | inl g ↦ (let h : is_same p q ≡ true = subst (λ (x : Position). is_same p x ≡ true) (sym g) (same_self p) in let z : ⊥ = cc in z)
+    | inr d ↦ place_out (n + 1) qs p (sym (cond-false _ _ _ f) ∙ e) d
+  ]
+]
+
+pub no_place : (ps : List Position) (p : Position) → place_of ps p ≡ None → Contains ps p → ⊥
+no_place ps p e c = place_out 0 ps p e c
+
+option_cases : (o : Option ℕ) → ((k : ℕ) × (o ≡ Some k)) ⊎ (o ≡ None)
+option_cases None = inr refl
+option_cases (Some k) = inl (k, refl)
+
+-- listed or not
+pub place_cases : (ps : List Position) (p : Position) → ((k : ℕ) × (place_of ps p ≡ Some k) × Contains ps p) ⊎ ((place_of ps p ≡ None) × (Contains ps p → ⊥))
+place_cases ps p = elim (option_cases (place_of ps p)) [
+  | inl s ↦ inl (s.0, s.1, place_in 0 s.0 ps p s.1)
+  | inr e ↦ inr (e, place_out 0 ps p e)
+]
+
+-- the place of a position that is added
+place_added : (n : ℕ) (ps : List Position) (p : Position) → place_from n ps p ≡ None → place_from n (ps ++ p ∷ []) p ≡ Some (n + length ps)
+place_added n [] p e = cond-true _ _ _ (same_self p) ∙ ap Some (let z : n ≡ n + 0 = omega arith in z)
+place_added n (q ∷ qs) p e = elim (cases_Bool (is_same p q)) [
+  | inl f ↦ (let g : Some n ≡ None = sym (cond-true _ _ _ f) ∙ e in let z : ⊥ = cc in absurd z)
+  | inr f ↦ cond-false _ _ _ f ∙ place_added (n + 1) qs p (sym (cond-false _ _ _ f) ∙ e) ∙ ap Some (let z : n + 1 + length qs ≡ n + length (q ∷ qs) = omega arith in z)
+]
+
+-- the place of any other stays
+place_kept : (n : ℕ) (ps : List Position) (p q : Position) → is_same q p ≡ false → place_from n (ps ++ p ∷ []) q ≡ place_from n ps q
+place_kept n [] p q e = cond-false _ _ _ e
+place_kept n (x ∷ xs) p q e = ap (λ (o : Option ℕ). cond (is_same q x) (Some n) o) (place_kept (n + 1) xs p q e)
+
+-- ---- the map
+-- the test of a key after one is inserted
+key_apart : (p : Position) (k : ℕ × ℕ) → is_key (p.tier, p.index) k ≡ false → is_same (at k.0 k.1) p ≡ false
+key_apart p k e = elim (cases_Bool (is_same (at k.0 k.1) p)) [
+  | inl f ↦ (
+      let g : at k.0 k.1 ≡ p = same_is (at k.0 k.1) p f in
+      let t : p.tier ≡ k.0 = ap (λ (q : Position). q.tier) (sym g) in
+      let i : p.index ≡ k.1 = ap (λ (q : Position). q.index) (sym g) in
+      let h : is_key (p.tier, p.index) k ≡ true = and_from _ _ (eq-eqb p.tier k.0 t) (eq-eqb p.index k.1 i) in
+      absurd (let z : ⊥ = cc in z))
+  | inr f ↦ f
+]
+
+key_same : (p : Position) (k : ℕ × ℕ) → is_key (p.tier, p.index) k ≡ true → at k.0 k.1 ≡ p
+key_same p k e = let (a, b) = and_parts (nat_eq p.tier k.0) (nat_eq p.index k.1) e in same_position (at k.0 k.1) p (sym (eqb-true _ _ a)) (sym (eqb-true _ _ b))
+
+module _ {S : Type 0} where
+  -- a map without entries tells of no position
+  pub tells_none : (places : HashMap (ℕ × ℕ) ℕ S) (ps : List Position) → places.entries ≡ [] → ps ≡ [] → Tells places ps
+  tells_none places ps e f k = rw (e, f) refl
+
+  -- a map with one position more
+  pub tells_more : (old new : HashMap (ℕ × ℕ) ℕ S) (ps : List Position) (p : Position) → Tells old ps → place_of ps p ≡ None
+      → ((k : ℕ × ℕ) → get is_key new k ≡ cond (is_key (p.tier, p.index) k) (Some (length ps)) (get is_key old k)) → Tells new (ps ++ p ∷ [])
+  tells_more old new ps p tells none updates k = elim (cases_Bool (is_key (p.tier, p.index) k)) [
+    | inl f ↦ updates k ∙ cond-true _ _ _ f ∙ sym (place_added 0 ps p none ∙ ap Some (let z : 0 + length ps ≡ length ps = omega arith in z)) ∙ ap (place_from 0 (ps ++ p ∷ [])) (sym (key_same p k f))
+    | inr f ↦ updates k ∙ cond-false _ _ _ f ∙ tells k ∙ sym (place_kept 0 ps p (at k.0 k.1) (key_apart p k f))
+  ]
+
+-- ---- one position more, or none
+-- what is added, by the place of the position
+abbrev added : ℕ → List Position → Position → Option ℕ → List Position
+added limit old p o = cond (is_some o) old (cond (leb limit (length old)) old (old ++ p ∷ []))
+
+not_le : (a b : ℕ) → leb a b ≡ false → b < a
+not_le a b e = grind (arith, nat_tests)
+
+pub new_listed : (limit : ℕ) (old : List Position) (p : Position) (k : ℕ) → place_of old p ≡ Some k → with_new limit old p ≡ old
+new_listed limit old p k e = ap (added limit old p) e
+
+new_missing : (limit : ℕ) (old : List Position) (p : Position) → place_of old p ≡ None → with_new limit old p ≡ cond (leb limit (length old)) old (old ++ p ∷ [])
+new_missing limit old p e = ap (added limit old p) e
+
+pub new_full : (limit : ℕ) (old : List Position) (p : Position) → place_of old p ≡ None → limit ≤ length old → with_new limit old p ≡ old
+new_full limit old p e l = new_missing limit old p e ∙ cond-true _ _ _ (le-leb _ _ l)
+
+pub new_room : (limit : ℕ) (old : List Position) (p : Position) → place_of old p ≡ None → length old < limit → with_new limit old p ≡ old ++ p ∷ []
+new_room limit old p e l = elim (cases_Bool (leb limit (length old))) [
+  | inl f ↦ (let h = leb-true _ _ f in absurd (omega arith))
+  | inr f ↦ new_missing limit old p e ∙ cond-false _ _ _ f
+]
+
+pub new_cases : (limit : ℕ) (old : List Position) (p : Position)
+    → ((with_new limit old p ≡ old) × (Contains old p ⊎ (limit ≤ length old))) ⊎ ((with_new limit old p ≡ old ++ p ∷ []) × (Contains old p → ⊥) × (length old < limit))
+new_cases limit old p = elim (place_cases old p) [
+  | inl h ↦ inl (new_listed limit old p h.0 h.1, inl h.2)
+  | inr h ↦ elim (cases_Bool (leb limit (length old))) [
+    | inl f ↦ inl (new_full limit old p h.0 (leb-true _ _ f), inr (leb-true _ _ f))
+    | inr f ↦ (let room = not_le limit (length old) f in inr (new_room limit old p h.0 room, h.1, room))
+  ]
+]
+
+-- whether a position has a place tells whether it is listed
+pub has_place : (ps : List Position) (p : Position) (b : Bool) → b ≡ is_some (place_of ps p) → (b ≡ true) ↔ Contains ps p
+has_place ps p b e = elim (place_cases ps p) [
+  | inl h ↦ (λ t. h.2, λ c. e ∙ ap is_some h.1)
+  | inr h ↦ (λ t. absurd (let z : false ≡ true = sym (e ∙ ap is_some h.0) ∙ t in false≢true z), λ c. absurd (h.1 c))
+]
+
+-- a position is made of its tier and its index
+pub made_of : (p : Position) → at p.tier p.index ≡ p
+made_of p = same_position (at p.tier p.index) p refl refl

@@ -1,0 +1,37 @@
+-- Texts that open no tag.
+use Rattle.std.proofs.Common.{◌≡◌, ℕ, ◌+◌, ◌<◌, ◌≤◌, true, eqb, not, List, [], ◌∷◌, ◌++◌, length, take, get_or, refl, ap, sym, ◌∙◌, inl, inr}
+use Rattle.std.specs.List.{flat_map, list_all}
+use Rattle.std.proofs.lemmas.Bool.{cases_Bool, cond-true, cond-false, and_from}
+use Rattle.std.proofs.lemmas.Grind.{flat_map-append}
+use Rattle.std.proofs.lemmas.List.{append_assoc, append-nil, take_more, take_all}
+use Rattle.std.proofs.lemmas.List.Folds.{list_all-append}
+use Rattle.gm_page.specs.Scripts.{opens_none, script_byte, script_text}
+
+byte_opens_none : (b : ℕ) → list_all opens_none (script_byte b) ≡ true
+byte_opens_none b = elim (cases_Bool (eqb b 60)) [
+  | inl e ↦ ap (list_all opens_none) (cond-true _ _ _ e)
+  | inr e ↦ ap (list_all opens_none) (cond-false _ _ _ e) ∙ and_from _ _ (ap not e) refl
+]
+
+bytes_open_none : (xs : List ℕ) → list_all opens_none (flat_map script_byte xs) ≡ true
+bytes_open_none [] = refl
+bytes_open_none (x ∷ xs) = list_all-append opens_none (script_byte x) (flat_map script_byte xs) ∙ and_from _ _ (byte_opens_none x) (bytes_open_none xs)
+
+-- no byte of a text opens a tag
+pub text_opens_none : (xs : List ℕ) → list_all opens_none (script_text xs) ≡ true
+unfolding script_text
+text_opens_none xs = bytes_open_none xs
+
+-- one byte more of a text, and all of them
+pub script_next : (xs : List ℕ) (i : ℕ) (base cur new : List ℕ) → i < length xs → cur ≡ base ++ flat_map script_byte (take i xs) → new ≡ cur ++ script_byte (get_or xs i 0)
+    → new ≡ base ++ flat_map script_byte (take (i + 1) xs)
+script_next xs i base cur new l e n =
+    let x = get_or xs i 0 in
+    let f : ℕ → List ℕ = script_byte in
+    let one : flat_map f (x ∷ []) ≡ f x = append-nil (f x) in
+    let more : flat_map f (take (i + 1) xs) ≡ flat_map f (take i xs) ++ f x = ap (flat_map f) (take_more xs i 0 l) ∙ flat_map-append f (take i xs) (x ∷ []) ∙ ap (λ (t : List ℕ). flat_map f (take i xs) ++ t) one in
+    n ∙ ap (λ (t : List ℕ). t ++ f x) e ∙ append_assoc base (flat_map f (take i xs)) (f x) ∙ ap (λ (t : List ℕ). base ++ t) (sym more)
+
+pub script_all : (xs : List ℕ) (i : ℕ) (base cur : List ℕ) → length xs ≤ i → cur ≡ base ++ flat_map script_byte (take i xs) → cur ≡ base ++ script_text xs
+unfolding script_text
+script_all xs i base cur l e = e ∙ ap (λ (t : List ℕ). base ++ flat_map script_byte t) (take_all i xs l)

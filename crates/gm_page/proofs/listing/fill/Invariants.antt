@@ -1,0 +1,13 @@
+use Rattle.std.proofs.Common.{◌-◌}
+use Rattle.gm_page.specs.Listings.{Tells}
+use Rattle.gm_page.proofs.Reaching.{IsGoneThrough}
+use Rattle.gm_page.proofs.listing.fill.Given as goal
+
+abbrev pub invariant-loop-next : goal.invariant-loop-next
+invariant-loop-next g l = record {
+  through : IsGoneThrough g.G.Game.rules l.fn.start l.limit l.next l.positions.items;
+  places : Tells l.places l.positions.items;
+}
+
+abbrev pub decreases-loop-next : goal.decreases-loop-next
+decreases-loop-next g l = l.limit - l.next

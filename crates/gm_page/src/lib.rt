@@ -1,0 +1,7 @@
+//! Pages that anybody can open: the positions of a page, what each line of it says, and the viewer around them.
+//!
+//! `specs/` has the definitions that contracts cite, and `proofs/` what follows from them.
+#![tactic(auto)]
+
+pub mod listing;
+pub mod script;

@@ -1,0 +1,328 @@
+//! The positions of a page.
+ghost use Rattle.std.specs.Prelude.{◌≡◌, ◌≤◌, ◌-◌, ◌↔◌, ◌++◌, ◌∷◌, ℕ, [], List, true, length, map, IsTrue, IfOk, OnOk, IfErr, slice_get, Some, None};
+ghost use Rattle.std.specs.HashMap.{get};
+ghost use Rattle.std.specs.List.{All, Contains};
+ghost use Rattle.gm_game.specs.declared.position.Position.{Position};
+ghost use Rattle.gm_play.specs.declared.best_line.BestLine.{BestLine};
+ghost use Rattle.gm_play.specs.declared.move_values.MoveValue.{MoveValue};
+ghost use Rattle.gm_play.specs.BestLines.{AreFresh, IsBestLine};
+ghost use Rattle.gm_play.specs.MoveValues.{AreMoveValues};
+ghost use Rattle.gm_page.specs.Listings.{place_of, with_new, with_all, result_of, Tells, IsListing, IsReachedFrom, ComesFromEarlier, IsClosed, MayRefuse, MayRefuseAt, is_key};
+
+use gm_best::play_error::PlayError;
+use gm_game::game::{Game, laws};
+use gm_game::position::Position;
+use gm_play::best_line::best_line;
+use gm_play::move_values::{MoveValue, move_values};
+use gm_table::tables::Tables;
+use std::alloc::{AllocError, Global};
+use std::collections::HashMap;
+use std::marker::Model;
+
+/// The positions of a page, each with its place: 16 bytes each, and a place in a hash table.
+pub struct Listing {
+    positions: Vec<Position>,
+    places: HashMap<(u64, u64), usize>,
+}
+
+// Let go by one call, so that a proof follows one value and not each field.
+impl Drop for Listing {
+    fn drop(self) {
+        let Listing {
+            positions: _,
+            places: _,
+        } = self;
+    }
+}
+
+impl Model for Listing {
+    ghost use Rattle.std.specs.Prelude.{List};
+    ghost use Rattle.gm_game.specs.declared.position.Position.{Position};
+    ghost use Rattle.gm_page.specs.Listings.{Tells};
+
+    ghost Value = { List Position };
+
+    ghost view = { λ s. s.positions.items };
+
+    ghost invariant = { λ s. Tells s.places s.positions.items };
+}
+
+impl Listing {
+    /// The positions, in their order.
+    pub fn positions(&self) -> &[Position]
+        ensures { result.now ≡ self.now }
+    {
+        self.positions.as_slice()
+    }
+
+    /// The place of a position, from 0, if it is listed. It takes no memory.
+    pub fn place(&self, p: Position) -> Option<usize>
+        ensures { result ≡ place_of self.now p }
+    {
+        place_in(&self.places, p)
+    }
+
+    /// Whether a position is listed. It takes no memory.
+    pub fn has(&self, p: Position) -> bool
+        ensures { IsTrue result ↔ Contains self.now p }
+    {
+        self.place(p).is_some()
+    }
+}
+
+/// The listing of a legal position: the positions of the line of best play from it, each once; and then, going through this very list from its first position
+/// on, the results of the moves of each, the best first, each where it isn't listed yet; at most `limit`. Positions are as played, and not canonical.
+///
+/// `Illegal` never comes; `NotHeld` comes only where the tier of some position that play from the start reaches, or one of its child tiers, has no table.
+pub fn listing_of<G: Game>(
+    alloc: Global,
+    tables: &Tables<G>,
+    start: Position,
+    limit: usize,
+) -> Result<Listing, PlayError>
+    requires legal { G.rules.is_legal start ≡ true }
+    requires some { 1 ≤ limit }
+    ensures listing { IfOk result (IsListing G.rules start limit) }
+    ensures refused { IfErr result (MayRefuse G.rules tables.now start) }
+{
+    let mut positions = Vec::new(alloc);
+    let mut places = HashMap::new(alloc);
+    match fill(alloc, tables, start, limit, &mut positions, &mut places) {
+        Ok(()) => Ok(Listing { positions, places }),
+        Err(error) => {
+            drop(positions);
+            drop(places);
+            Err(error)
+        }
+    }
+}
+
+// Lists them all, from empty lists.
+fn fill<G: Game>(
+    alloc: Global,
+    tables: &Tables<G>,
+    start: Position,
+    limit: usize,
+    positions: &mut Vec<Position>,
+    places: &mut HashMap<(u64, u64), usize>,
+) -> Result<(), PlayError>
+    requires legal { G.rules.is_legal start ≡ true }
+    requires some { 1 ≤ limit }
+    requires empty { positions.old.items ≡ [] }
+    requires places { Tells places.old positions.old.items }
+    ensures listing { OnOk result (IsListing G.rules start limit positions.new.items) }
+    ensures places { OnOk result (Tells places.new positions.new.items) }
+    ensures refused { IfErr result (MayRefuse G.rules tables.now start) }
+{
+    laws::<G>();
+    list_line(alloc, tables, start, limit, positions, places)?;
+    let mut next = 0;
+    while next < positions.len() {
+        let p = positions[next];
+        list_results(tables, p, limit, positions, places)?;
+        next += 1;
+    }
+    Ok(())
+}
+
+// Lists the positions of the line of best play, in empty lists.
+fn list_line<G: Game>(
+    alloc: Global,
+    tables: &Tables<G>,
+    start: Position,
+    limit: usize,
+    positions: &mut Vec<Position>,
+    places: &mut HashMap<(u64, u64), usize>,
+) -> Result<(), PlayError>
+    requires legal { G.rules.is_legal start ≡ true }
+    requires some { 1 ≤ limit }
+    requires empty { positions.old.items ≡ [] }
+    requires places { Tells places.old positions.old.items }
+    ensures line { OnOk result ((line : BestLine) × IsBestLine G.rules start (limit - 1) line × (positions.new.items ≡ with_all limit [] line.positions.items)) }
+    ensures places { OnOk result (Tells places.new positions.new.items) }
+    ensures refused { IfErr result (MayRefuse G.rules tables.now start) }
+{
+    let line = match best_line(alloc, tables, start, limit - 1) {
+        Ok(line) => line,
+        Err(error) => return Err(error),
+    };
+    let listed = list_all(line.positions.as_slice(), limit, positions, places);
+    drop(line);
+    match listed {
+        Ok(()) => Ok(()),
+        Err(_) => Err(PlayError::OutOfMemory),
+    }
+}
+
+// Lists each of some positions that isn't listed yet, up to the limit.
+fn list_all(
+    these: &[Position],
+    limit: usize,
+    positions: &mut Vec<Position>,
+    places: &mut HashMap<(u64, u64), usize>,
+) -> Result<(), AllocError>
+    requires { Tells places.old positions.old.items }
+    ensures listed { OnOk result (positions.new.items ≡ with_all limit positions.old.items these.now) }
+    ensures places { OnOk result (Tells places.new positions.new.items) }
+{
+    for p in these {
+        list_new(*p, limit, positions, places)?;
+    }
+    Ok(())
+}
+
+// Lists the results of the moves of a position.
+fn list_results<G: Game>(
+    tables: &Tables<G>,
+    p: Position,
+    limit: usize,
+    positions: &mut Vec<Position>,
+    places: &mut HashMap<(u64, u64), usize>,
+) -> Result<(), PlayError>
+    requires legal { G.rules.is_legal p ≡ true }
+    requires places { Tells places.old positions.old.items }
+    ensures listed { OnOk result ((xs : List MoveValue) × AreMoveValues G.rules p xs × (positions.new.items ≡ with_all limit positions.old.items (map result_of xs))) }
+    ensures places { OnOk result (Tells places.new positions.new.items) }
+    ensures refused { IfErr result (MayRefuseAt G.rules tables.now p) }
+{
+    let list = match move_values(tables, p) {
+        Ok(list) => list,
+        Err(_) => return Err(PlayError::NotHeld),
+    };
+    match list_moves(list.as_slice(), limit, positions, places) {
+        Ok(()) => Ok(()),
+        Err(_) => Err(PlayError::OutOfMemory),
+    }
+}
+
+// Lists each result of some moves that isn't listed yet, up to the limit.
+fn list_moves(
+    list: &[MoveValue],
+    limit: usize,
+    positions: &mut Vec<Position>,
+    places: &mut HashMap<(u64, u64), usize>,
+) -> Result<(), AllocError>
+    requires { Tells places.old positions.old.items }
+    ensures listed { OnOk result (positions.new.items ≡ with_all limit positions.old.items (map result_of list.now)) }
+    ensures places { OnOk result (Tells places.new positions.new.items) }
+{
+    for x in list {
+        list_new(x.position, limit, positions, places)?;
+    }
+    Ok(())
+}
+
+// Lists a position that isn't listed yet, up to the limit.
+fn list_new(
+    p: Position,
+    limit: usize,
+    positions: &mut Vec<Position>,
+    places: &mut HashMap<(u64, u64), usize>,
+) -> Result<(), AllocError>
+    requires { Tells places.old positions.old.items }
+    ensures listed { OnOk result (positions.new.items ≡ with_new limit positions.old.items p) }
+    ensures places { OnOk result (Tells places.new positions.new.items) }
+{
+    match place_in(places, p) {
+        Some(_) => Ok(()),
+        None => list_missing(p, limit, positions, places),
+    }
+}
+
+// What a map tells of a position.
+fn place_in(places: &HashMap<(u64, u64), usize>, p: Position) -> Option<usize>
+    ensures { result ≡ get is_key places.now (p.tier, p.index) }
+{
+    places.get(&(p.tier, p.index)).copied()
+}
+
+// Lists a position that isn't listed, up to the limit.
+fn list_missing(
+    p: Position,
+    limit: usize,
+    positions: &mut Vec<Position>,
+    places: &mut HashMap<(u64, u64), usize>,
+) -> Result<(), AllocError>
+    requires places { Tells places.old positions.old.items }
+    requires new { place_of positions.old.items p ≡ None }
+    ensures listed { OnOk result (positions.new.items ≡ with_new limit positions.old.items p) }
+    ensures places { OnOk result (Tells places.new positions.new.items) }
+{
+    if positions.len() < limit {
+        add(p, positions, places)
+    } else {
+        Ok(())
+    }
+}
+
+// Adds a position that isn't listed.
+fn add(
+    p: Position,
+    positions: &mut Vec<Position>,
+    places: &mut HashMap<(u64, u64), usize>,
+) -> Result<(), AllocError>
+    requires places { Tells places.old positions.old.items }
+    requires new { place_of positions.old.items p ≡ None }
+    ensures added { OnOk result (positions.new.items ≡ positions.old.items ++ p ∷ []) }
+    ensures places { OnOk result (Tells places.new positions.new.items) }
+{
+    let place = positions.len();
+    positions.push(p)?;
+    match places.insert((p.tier, p.index), place) {
+        Ok(_) => Ok(()),
+        Err(_) => Err(AllocError),
+    }
+}
+
+/// Whether each result of a move of a listed position is listed. It takes no memory.
+pub fn is_whole<G: Game>(list: &Listing) -> bool
+    requires { All (λ p. G.rules.is_legal p ≡ true) list.now }
+    ensures { IsTrue result ↔ IsClosed G.rules list.now }
+{
+    for p in list.positions() {
+        if !has_results::<G>(list, *p) {
+            return false;
+        }
+    }
+    true
+}
+
+// Whether each result of a move of a position is listed.
+fn has_results<G: Game>(list: &Listing, p: Position) -> bool
+    requires { G.rules.is_legal p ≡ true }
+    ensures { IsTrue result ↔ ((m : ℕ) → Contains (G.rules.moves p) m → Contains list.now (G.rules.play p m)) }
+{
+    let moves = G::moves(p);
+    for m in moves.as_slice() {
+        if !list.has(G::play(p, *m)) {
+            return false;
+        }
+    }
+    true
+}
+
+/// Has no effect; its contract states that a listing has no position twice, and at most as many as the limit says.
+pub fn each_once<G: Game>(start: Position, limit: usize, list: &[Position])
+    requires { IsListing G.rules start limit list.now }
+    ensures once { AreFresh list.now }
+    ensures few { length list.now ≤ limit }
+{}
+
+/// Has no effect; its contract states that play from the start reaches each position of a listing, and that each but the first, which is the start, is the result
+/// of a move of an earlier one.
+pub fn each_reached<G: Game>(start: Position, limit: usize, list: &[Position])
+    requires some { 1 ≤ limit }
+    requires listing { IsListing G.rules start limit list.now }
+    ensures first { slice_get list.now 0 ≡ Some start }
+    ensures reached { (p : Position) → Contains list.now p → IsReachedFrom G.rules start p }
+    ensures earlier { ComesFromEarlier G.rules list.now }
+{}
+
+/// Has no effect; its contract states that a listing to which no result is missing has every position that play from the start reaches, and that any other has
+/// as many as the limit says.
+pub fn all_or_full<G: Game>(start: Position, limit: usize, list: &[Position])
+    requires some { 1 ≤ limit }
+    requires listing { IsListing G.rules start limit list.now }
+    ensures whole { IsClosed G.rules list.now → (p : Position) → IsReachedFrom G.rules start p → Contains list.now p }
+    ensures full { (IsClosed G.rules list.now → ⊥) → length list.now ≡ limit }
+{}

@@ -1,0 +1,2 @@
+pub mod PongRules
+pub mod laws

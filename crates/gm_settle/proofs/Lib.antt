@@ -1,0 +1,5 @@
+pub mod Deliveries
+pub mod Distinct
+pub mod Values
+pub mod Parts
+pub mod OnceLemmas

@@ -1,0 +1,127 @@
+//! One position of a tier.
+ghost use Rattle.std.specs.Prelude.{◌≡◌, ◌≤◌, ◌+◌, true, IfOk, IfErr, IfSome};
+ghost use Rattle.gm_game.specs.declared.limits.TheConstants.{MOVES, REMOTENESS};
+ghost use Rattle.gm_game.specs.Numbers.{AreThere};
+ghost use Rattle.gm_game.specs.Records.{settle, IsRecord};
+ghost use Rattle.gm_game.specs.Rules.{IsInner};
+ghost use Rattle.gm_game.specs.Values.{IsTrueValue};
+ghost use Rattle.gm_table.specs.Tables.{AreHeld};
+ghost use Rattle.gm_settle.specs.Gathered.{AreOnce};
+ghost use Rattle.gm_settle.specs.Passes.{IsDeliveryIn, IsStop};
+
+use crate::gather::gather;
+use crate::once::list_once;
+use crate::stop::Stop;
+use arrayvec::ArrayVec;
+use gm_game::evaluate::of_end;
+use gm_game::game::Game;
+use gm_game::limits::{MOVES, REMOTENESS};
+use gm_game::position::{Kind, Position, Solved, Value};
+use gm_record::summary::Summary;
+use gm_table::tables::Tables;
+
+/// Lists that serve many positions: of one its results, in any order and as often as moves lead to them, and each of them once.
+#[derive(Drop)]
+pub(crate) struct Lists {
+    results: ArrayVec<Position, MOVES>,
+    children: ArrayVec<Position, MOVES>,
+}
+
+impl Lists {
+    /// Empty lists.
+    pub(crate) fn new() -> Self {
+        Lists {
+            results: ArrayVec::new(),
+            children: ArrayVec::new(),
+        }
+    }
+
+    // Writes the canonical children of p, once each and in any order.
+    fn fill<G: Game>(&mut self, p: Position)
+        requires { G.rules.is_legal p ≡ true }
+        ensures { AreOnce G.rules p self.new.children.items }
+    {
+        let Lists { results, children } = self;
+        G::fill_results(p, results);
+        list_once(results.as_slice(), children);
+    }
+}
+
+/// The record of an index of a tier, and how many of its canonical children are no draws. Children are written over what the lists hold.
+pub(crate) fn settle_index<G: Game>(
+    tables: &Tables<G>,
+    lists: &mut Lists,
+    p: Position,
+) -> Result<(Option<Solved>, u64), Stop>
+    requires held { AreHeld G.rules tables.now p.tier }
+    ensures record { IfOk result (λ found. IsRecord G.rules REMOTENESS (IsTrueValue G.rules) p found.0) }
+    ensures number { IfOk result (λ found. AreThere found.1 (IsDeliveryIn G.rules p.tier p.index (p.index + 1))) }
+    ensures few { IfOk result (λ found. found.1 ≤ MOVES) }
+    ensures stop { IfErr result (IsStop G.rules p.tier) }
+{
+    match G::kind(p) {
+        Kind::Hole => Ok((None, 0)),
+        Kind::Ended(end) => Ok((Some(of_end(end)), 0)),
+        Kind::Inner => {
+            let (solved, number) = settle_inner::<G>(tables, lists, p)?;
+            Ok((Some(solved), number))
+        }
+    }
+}
+
+// The value of a position at which the game goes on, and how many of its canonical children are no draws.
+fn settle_inner<G: Game>(
+    tables: &Tables<G>,
+    lists: &mut Lists,
+    p: Position,
+) -> Result<(Solved, u64), Stop>
+    requires inner { IsInner G.rules p }
+    requires held { AreHeld G.rules tables.now p.tier }
+    ensures value { IfOk result (λ found. IsTrueValue G.rules p found.0) }
+    ensures near { IfOk result (λ found. found.0.remoteness ≤ REMOTENESS) }
+    ensures number { IfOk result (λ found. AreThere found.1 (IsDeliveryIn G.rules p.tier p.index (p.index + 1))) }
+    ensures few { IfOk result (λ found. found.1 ≤ MOVES) }
+    ensures stop { IfErr result (IsStop G.rules p.tier) }
+{
+    lists.fill::<G>(p);
+    let (seen, number) = match gather::<G>(tables, p, lists.children.as_slice()) {
+        Some(found) => found,
+        None => return Err(Stop::Stays),
+    };
+    let solved = value_of(seen);
+    if solved.remoteness > REMOTENESS {
+        return Err(Stop::TooFar);
+    }
+    Ok((solved, number))
+}
+
+// The value of a position with these children.
+fn value_of(seen: Summary) -> Solved
+    requires lost { IfSome seen.lost (λ n. n ≤ REMOTENESS) }
+    requires won { IfSome seen.won (λ n. n ≤ REMOTENESS) }
+    requires tied { IfSome seen.tied (λ n. n ≤ REMOTENESS) }
+    ensures value { result ≡ settle seen.lost seen.won seen.tied }
+    ensures near { result.remoteness ≤ REMOTENESS + 1 }
+{
+    match (seen.lost, seen.won, seen.tied) {
+        (Some(n), _, _) => one_more(Value::Win, n),
+        (None, Some(n), _) => one_more(Value::Lose, n),
+        (None, None, Some(n)) => one_more(Value::Tie, n),
+        (None, None, None) => Solved {
+            value: Value::Draw,
+            remoteness: 0,
+        },
+    }
+}
+
+// This value, with a remoteness of one more.
+fn one_more(value: Value, n: u32) -> Solved
+    requires { n ≤ REMOTENESS }
+    ensures value { result.value ≡ value }
+    ensures remoteness { result.remoteness ≡ n + 1 }
+{
+    Solved {
+        value,
+        remoteness: n + 1,
+    }
+}

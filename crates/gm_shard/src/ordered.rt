@@ -1,0 +1,248 @@
+//! A shard to which no pair is delivered twice: the children delivered to it are known to proofs alone, and the order in which its positions were settled is
+//! kept.
+
+ghost use Rattle.std.specs.Prelude.{◌≡◌, ℕ, IfOk};
+ghost use Rattle.std.specs.List.{Contains};
+ghost use Rattle.gm_shard.specs.Queues.{IsEmptied, IsQueue, IsSettledAt, AreNotesAt};
+
+use crate::queue::Queue;
+use crate::shard::{has_phase, has_settled, record_of};
+use gm_deliveries::ordered::Ordered;
+use gm_deliveries::status::{Delivery, Refused, Start, Status};
+use gm_frontier::last::Last;
+use gm_frontier::note::Note;
+use gm_frontier::run::Run;
+use gm_game::game::Game;
+use gm_game::limits::{REMOTENESS, TIER_SIZE};
+use gm_game::position::{Phase, Place};
+use gm_table::packed::Packed;
+use std::alloc::{AllocError, Global};
+use std::marker::Model;
+
+// The queue of the positions that have ended in a phase, where no child is delivered yet.
+fn ended<G: Game>(alloc: Global, children: &Ordered<G>, phase: Phase) -> Result<Queue, AllocError>
+    requires { IsEmptied children.now }
+    ensures { IfOk result (IsQueue G.rules children.now phase 0) }
+{
+    let (lo, count) = children.range();
+    let mut queue = Queue::new(alloc, count as usize)?;
+    for index in 0..count {
+        if has_phase(children.status(lo + index), phase) {
+            queue.push(index as u32);
+        }
+    }
+    queue.advance();
+    Ok(queue)
+}
+
+// The notes of settled indexes of the range, in order.
+fn notes_at<G: Game>(
+    alloc: Global,
+    children: &Ordered<G>,
+    indexes: &[u32],
+) -> Result<Vec<Note<G>>, AllocError>
+    requires { (k : ℕ) → Contains indexes.now k → IsSettledAt G.rules children.now children.now.phase children.now.level k }
+    ensures { IfOk result (λ notes. AreNotesAt G.rules children.now indexes.now notes.items) }
+{
+    let (lo, _count) = children.range();
+    let mut notes = Vec::new(alloc);
+    for index in indexes {
+        notes.push(children.note(lo + u64::from(*index)).unwrap())?;
+    }
+    Ok(notes)
+}
+
+/// A range of a tier at a place, with the children delivered to each of its positions. It is good after any calls, as the contract of `range` says.
+pub struct OrderedShard<G: Game> {
+    children: Ordered<G>,
+    wins: Queue,
+    ties: Queue,
+}
+
+// Let go by one call, so that a proof follows one value and not each field.
+impl<G: Game> Drop for OrderedShard<G> {
+    fn drop(self) {
+        let OrderedShard {
+            children: _,
+            wins: _,
+            ties: _,
+        } = self;
+    }
+}
+
+impl<G: Game> Model for OrderedShard<G> {
+    ghost use Rattle.gm_deliveries.specs.State.{ShardState};
+    ghost use Rattle.gm_shard.specs.Queues.{AreQueues};
+
+    ghost Value = { ShardState };
+
+    ghost view = { λ s. s.children };
+
+    ghost invariant = { λ s. AreQueues G.rules s.children s.children.phase s.wins s.ties };
+}
+
+impl<G: Game> OrderedShard<G> {
+    ghost use Rattle.std.specs.Prelude.{◌≡◌, ◌+◌, ◌*◌, ◌≤◌, ◌++◌, List, Option, length, IfOk, OnOk, OnErr};
+    ghost use Rattle.gm_game.specs.declared.limits.TheConstants.{MOVES};
+    ghost use Rattle.gm_game.specs.declared.position.Solved.{Solved};
+    ghost use Rattle.gm_game.specs.declared.position.Phase.TheVariants.{Ties};
+    ghost use Rattle.std.specs.List.{Contains};
+    ghost use Rattle.gm_deliveries.specs.Begin.{AreStarts, first_state};
+    ghost use Rattle.gm_shard.specs.Queues.{AreSettledAt};
+    ghost use Rattle.gm_deliveries.specs.State.{IsInRange, delivered_to, pairs_in};
+    ghost use Rattle.gm_deliveries.specs.Status.{StatusIs};
+    ghost use Rattle.gm_deliveries.specs.Good.{IsGood, IsCounter};
+    ghost use Rattle.gm_deliveries.specs.Delivery.{IsPairHere, Delivers};
+    ghost use Rattle.gm_deliveries.specs.Steps.{IsWhole, CanTurn, place_of, next_level, first_ties};
+    ghost use Rattle.gm_deliveries.specs.Closing.{ArePart};
+
+    /// The shard of the indexes from `lo` on, whose starts these are, at the first place and with no pair.
+    pub fn begin(alloc: Global, tier: u64, lo: u64, starts: &[Start]) -> Result<Self, AllocError>
+        requires starts { AreStarts G.rules tier lo starts.now }
+        requires within { lo + length starts.now ≤ TIER_SIZE }
+        ensures { IfOk result (λ s. s ≡ first_state tier lo (length starts.now)) }
+    {
+        let children = Ordered::begin(alloc, tier, lo, starts)?;
+        let wins = ended(alloc, &children, Phase::WinLose)?;
+        let ties = ended(alloc, &children, Phase::Ties)?;
+        Ok(OrderedShard {
+            children,
+            wins,
+            ties,
+        })
+    }
+
+    /// The tier.
+    pub fn tier(&self) -> u64
+        ensures { result ≡ self.now.tier }
+    {
+        self.children.tier()
+    }
+
+    /// The index range: the first index, and the one past the last.
+    pub fn range(&self) -> (u64, u64)
+        ensures lo { result.0 ≡ self.now.lo }
+        ensures hi { result.1 ≡ self.now.lo + length self.now.delivered }
+        ensures small { self.now.lo + length self.now.delivered ≤ TIER_SIZE }
+        ensures good { IsGood G.rules self.now }
+    {
+        let (lo, count) = self.children.range();
+        (lo, lo + count)
+    }
+
+    /// The present place.
+    pub fn place(&self) -> Place
+        ensures { result ≡ place_of self.now }
+    {
+        self.children.place()
+    }
+
+    /// How many pairs are delivered.
+    pub fn delivered(&self) -> u64
+        ensures value { result ≡ pairs_in self.now }
+        ensures small { pairs_in self.now ≤ MOVES * TIER_SIZE }
+    {
+        self.children.delivered()
+    }
+
+    /// What is known of an index.
+    pub fn status(&self, index: u64) -> Status
+        requires { IsInRange self.now index }
+        ensures { StatusIs G.rules self.now index result }
+    {
+        self.children.status(index)
+    }
+
+    /// How many distinct canonical children of an index are not delivered: 0 at a hole and where the game has ended.
+    pub fn counter(&self, index: u64) -> u32
+        requires { IsInRange self.now index }
+        ensures { IsCounter G.rules self.now index result }
+    {
+        self.children.counter(index)
+    }
+
+    /// Delivers a note of the present level to a parent of the range to which it is not delivered yet: adds the pair, and settles an undecided parent where it
+    /// decides.
+    pub fn deliver_new(&mut self, note: &Note<G>, parent: u64) -> Result<Delivery, Refused>
+        requires here { IsPairHere G.rules self.old note.now parent }
+        requires new { Contains (delivered_to self.old parent) note.now.position → ⊥ }
+        ensures { Delivers G.rules note.now parent self.old self.new result }
+    {
+        let (lo, _count) = self.children.range();
+        let answer = self.children.deliver_new(note, parent);
+        let _good = self.children.range();
+        if has_settled(&answer) {
+            let index = (parent - lo) as u32;
+            match self.children.place().phase {
+                Phase::WinLose => self.wins.push(index),
+                Phase::Ties => self.ties.push(index),
+            }
+        }
+        answer
+    }
+
+    /// Turns to the next level, where every pair up to the present place is delivered.
+    pub fn close(&mut self)
+        requires whole { IsWhole G.rules self.old }
+        requires fits { self.old.level ≤ REMOTENESS }
+        ensures { self.new ≡ next_level self.old }
+    {
+        self.children.close();
+        match self.children.place().phase {
+            Phase::WinLose => self.wins.advance(),
+            Phase::Ties => self.ties.advance(),
+        }
+    }
+
+    // The indexes of the range that are settled at the present place, in the order in which they were settled.
+    fn present(&self) -> &[u32]
+        ensures { AreSettledAt G.rules self.now self.now.phase self.now.level result.now }
+    {
+        match self.children.place().phase {
+            Phase::WinLose => self.wins.present(),
+            Phase::Ties => self.ties.present(),
+        }
+    }
+
+    /// The notes of the present place, ascending. Its cost is that of the level.
+    pub fn fresh(&self, alloc: Global) -> Result<Run<G>, AllocError>
+        ensures place { IfOk result (λ run. run.place ≡ place_of self.now) }
+        ensures lo { IfOk result (λ run. run.lo ≡ self.now.lo) }
+        ensures hi { IfOk result (λ run. run.hi ≡ self.now.lo + length self.now.delivered) }
+    {
+        let mut indexes = Vec::from_slice(alloc, self.present())?;
+        indexes.sort_unstable();
+        let notes = notes_at(alloc, &self.children, indexes.as_slice())?;
+        let (lo, hi) = self.range();
+        Ok(Run::of(self.place(), lo, hi, notes))
+    }
+
+    /// Appends the true records of the range, where nothing is left to settle: undecided positions are draws. Where memory is refused the records are as
+    /// before.
+    pub fn finish(&self, last: &Last<G>, records: &mut Packed) -> Result<(), AllocError>
+        requires last { last.now ≡ place_of self.now }
+        requires ties { self.now.phase ≡ Ties }
+        ensures ok { OnOk result ((part : List (Option Solved)) × (records.new ≡ records.old ++ part)
+            × (length part ≡ length self.now.delivered) × ArePart G.rules self.now.tier self.now.lo part) }
+        ensures err { OnErr result (records.new ≡ records.old) }
+    {
+        let _place = last.place();
+        let before = records.len();
+        let (lo, hi) = self.range();
+        for index in lo..hi {
+            if let Err(error) = records.push(record_of(self.status(index))) {
+                records.truncate(before);
+                return Err(error);
+            }
+        }
+        Ok(())
+    }
+
+    /// Turns from wins and losses to ties.
+    pub fn next_phase(&mut self, last: &Last<G>)
+        requires { CanTurn self.old last.now }
+        ensures { self.new ≡ first_ties self.old }
+    {
+        self.children.next_phase(last);
+    }
+}

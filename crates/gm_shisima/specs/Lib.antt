@@ -1,0 +1,2 @@
+pub mod ShisimaRules
+pub mod laws

@@ -1,0 +1,203 @@
+//! A tier solved by one shard, to which the pairs of each level are delivered in their order. None comes twice, so neither the children delivered to a position
+//! nor the places of its children are kept.
+ghost use Rattle.std.specs.Prelude.{◌≡◌, ◌+◌, ◌≤◌, IfOk, IfErr, OnOk};
+ghost use Rattle.gm_game.specs.declared.position.Phase.TheVariants.{WinLose};
+ghost use Rattle.gm_table.specs.Tables.{AreHeld, IsTable};
+ghost use Rattle.gm_deliveries.specs.Steps.{place_of, IsWhole};
+ghost use Rattle.gm_desk.specs.Spots.{IsSameSpot};
+ghost use Rattle.gm_desk.specs.Rounds.{HasNoneHere};
+ghost use Rattle.gm_solver.specs.Ready.{IsReady};
+ghost use Rattle.gm_solver.specs.Over.{IsLater, IsNext};
+ghost use Rattle.gm_table.specs.Solving.{IsTooFar, AreDeliveries};
+ghost use Rattle.gm_solver.specs.Solving.{IsError};
+
+use crate::error::SolveError;
+use crate::starts::starts;
+use crate::tier_lists::starts_by_threads;
+use gm_frontier::last::Last;
+use gm_frontier::level::Level;
+use gm_game::game::Game;
+use gm_game::limits::{REMOTENESS, TIER_SIZE};
+use gm_shard::ordered::OrderedShard;
+use gm_table::packed::Packed;
+use gm_table::table::Table;
+use gm_table::tables::Tables;
+use std::alloc::{AllocError, Global};
+use std::thread::Threads;
+
+// Delivers a level's pairs to a shard that has none of them. After that the shard has each pair of its range whose child stands at or before its place.
+fn deliver_in_order<G: Game>(
+    shard: &mut OrderedShard<G>,
+    level: &Level<G>,
+) -> Result<(), SolveError>
+    requires place { level.now.place ≡ place_of shard.old }
+    requires none { HasNoneHere G.rules shard.old }
+    requires near { shard.old.level ≤ REMOTENESS }
+    ensures same { IsSameSpot shard.old shard.new }
+    ensures whole { OnOk result (IsWhole G.rules shard.new) }
+    ensures error { IfErr result (IsError G.rules shard.old.tier) }
+{
+    let tier = shard.tier();
+    let (lo, hi) = shard.range();
+    let _level = level.place();
+    for (note, parent) in level.pairs(0, level.len().max(1), lo, hi) {
+        match shard.deliver_new(&note, parent) {
+            Ok(_) => {}
+            // A new pair of the present level into the shard's range is refused only where it is too far.
+            Err(_refused) => {
+                let _good = shard.range();
+                return Err(SolveError::TooFar { tier });
+            }
+        }
+    }
+    let _end = shard.range();
+    Ok(())
+}
+
+// Delivers a level's pairs, and turns to the next level.
+fn pass_level<G: Game>(shard: &mut OrderedShard<G>, level: &Level<G>) -> Result<(), SolveError>
+    requires ready { IsReady G.rules shard.old }
+    requires place { level.now.place ≡ place_of shard.old }
+    requires near { shard.old.level ≤ REMOTENESS }
+    ensures ready { OnOk result (IsReady G.rules shard.new) }
+    ensures next { OnOk result (IsNext shard.old shard.new) }
+    ensures error { IfErr result (IsError G.rules shard.old.tier) }
+{
+    deliver_in_order(shard, level)?;
+    let _good = shard.range();
+    shard.close();
+    Ok(())
+}
+
+// Takes a shard over a whole tier through the levels of the present phase, until nothing of the phase is left in the tier or its child tiers.
+fn pass_levels<G: Game>(
+    alloc: Global,
+    shard: &mut OrderedShard<G>,
+    tables: &Tables<G>,
+) -> Result<Last<G>, SolveError>
+    requires ready { IsReady G.rules shard.old }
+    requires held { AreHeld G.rules tables.now shard.old.tier }
+    requires small { G.rules.tier_size shard.old.tier ≤ TIER_SIZE }
+    requires near { shard.old.level ≤ REMOTENESS + 1 }
+    ensures ready { OnOk result (IsReady G.rules shard.new) }
+    ensures later { OnOk result (IsLater shard.old shard.new) }
+    ensures last { IfOk result (λ last. last ≡ place_of shard.new) }
+    ensures error { IfErr result (IsError G.rules shard.old.tier) }
+{
+    loop {
+        // The shard is good and the tables are true, so only the last level can lie above the limit.
+        let _good = shard.range();
+        let _held = tables.has(shard.tier());
+        let runs = [shard.fresh(alloc)?];
+        let level = Level::gather(alloc, shard.place(), &runs, tables)?;
+        if let Some(last) = level.last(tables) {
+            return Ok(last);
+        }
+        pass_level(shard, &level)?;
+    }
+}
+
+// Takes a shard over a whole tier from the first level through both phases: the tier's true table, and the number of deliveries.
+fn pass_tier<G: Game>(
+    alloc: Global,
+    shard: &mut OrderedShard<G>,
+    tables: &Tables<G>,
+) -> Result<(Table<G>, u64), SolveError>
+    requires ready { IsReady G.rules shard.old }
+    requires held { AreHeld G.rules tables.now shard.old.tier }
+    requires small { G.rules.tier_size shard.old.tier ≤ TIER_SIZE }
+    requires first { (shard.old.phase ≡ WinLose) × (shard.old.level ≡ 0) }
+    ensures tier { IfOk result (λ answer. answer.0.tier ≡ shard.old.tier) }
+    ensures table { IfOk result (λ answer. IsTable G.rules answer.0) }
+    ensures deliveries { IfOk result (λ answer. AreDeliveries G.rules shard.old.tier answer.1) }
+    ensures near { OnOk result (IsTooFar G.rules shard.old.tier → ⊥) }
+    ensures error { IfErr result (IsError G.rules shard.old.tier) }
+{
+    let tier = shard.tier();
+    let last = pass_levels(alloc, shard, tables)?;
+    let _wins = shard.range();
+    shard.next_phase(&last);
+    let last = pass_levels(alloc, shard, tables)?;
+    let _end = last.place();
+    let _held = tables.has(tier);
+    let _ties = shard.range();
+    let mut records = Packed::with_capacity(alloc, G::tier_size(tier) as usize)?;
+    shard.finish(&last, &mut records)?;
+    Ok((Table::from_packed(tier, records), shard.delivered()))
+}
+
+// The shard of a whole tier before the first level.
+fn begin_in_order<G: Game>(alloc: Global, tier: u64) -> Result<OrderedShard<G>, AllocError>
+    requires { G.rules.tier_size tier ≤ TIER_SIZE }
+    ensures tier { IfOk result (λ shard. shard.tier ≡ tier) }
+    ensures phase { IfOk result (λ shard. shard.phase ≡ WinLose) }
+    ensures level { IfOk result (λ shard. shard.level ≡ 0) }
+    ensures ready { IfOk result (IsReady G.rules) }
+{
+    let list = starts::<G>(alloc, tier, 0, G::tier_size(tier))?;
+    let shard = OrderedShard::begin(alloc, tier, 0, list.as_slice())?;
+    Ok(shard)
+}
+
+/// Solves a tier by one shard, as `solve_alone` does.
+pub(crate) fn solve_in_order<G: Game>(
+    alloc: Global,
+    tier: u64,
+    tables: &Tables<G>,
+) -> Result<(Table<G>, u64), SolveError>
+    requires held { AreHeld G.rules tables.now tier }
+    requires small { G.rules.tier_size tier ≤ TIER_SIZE }
+    ensures tier { IfOk result (λ answer. answer.0.tier ≡ tier) }
+    ensures table { IfOk result (λ answer. IsTable G.rules answer.0) }
+    ensures deliveries { IfOk result (λ answer. AreDeliveries G.rules tier answer.1) }
+    ensures near { OnOk result (IsTooFar G.rules tier → ⊥) }
+    ensures error { IfErr result (IsError G.rules tier) }
+{
+    let mut shard = begin_in_order::<G>(alloc, tier)?;
+    let solved = pass_tier(alloc, &mut shard, tables);
+    drop(shard);
+    solved
+}
+
+// The shard of a whole tier before the first level; what its indexes are is found by threads.
+fn begin_by_threads<G: Game + Send + Sync, R: Threads + Sync>(
+    rt: &R,
+    alloc: Global,
+    tier: u64,
+    tables: &Tables<G>,
+    workers: usize,
+) -> Result<OrderedShard<G>, AllocError>
+    requires held { AreHeld G.rules tables.now tier }
+    requires small { G.rules.tier_size tier ≤ TIER_SIZE }
+    ensures tier { IfOk result (λ shard. shard.tier ≡ tier) }
+    ensures phase { IfOk result (λ shard. shard.phase ≡ WinLose) }
+    ensures level { IfOk result (λ shard. shard.level ≡ 0) }
+    ensures ready { IfOk result (IsReady G.rules) }
+{
+    let _held = tables.has(tier);
+    let list = starts_by_threads::<G, R>(rt, alloc, tier, workers)?;
+    let shard = OrderedShard::begin(alloc, tier, 0, list.as_slice())?;
+    Ok(shard)
+}
+
+/// Solves a tier as `solve_in_order` does, where threads find what its indexes are at the start.
+pub(crate) fn solve_after_scan<G: Game + Send + Sync, R: Threads + Sync>(
+    rt: &R,
+    alloc: Global,
+    tier: u64,
+    tables: &Tables<G>,
+    workers: usize,
+) -> Result<(Table<G>, u64), SolveError>
+    requires held { AreHeld G.rules tables.now tier }
+    requires small { G.rules.tier_size tier ≤ TIER_SIZE }
+    ensures tier { IfOk result (λ answer. answer.0.tier ≡ tier) }
+    ensures table { IfOk result (λ answer. IsTable G.rules answer.0) }
+    ensures deliveries { IfOk result (λ answer. AreDeliveries G.rules tier answer.1) }
+    ensures near { OnOk result (IsTooFar G.rules tier → ⊥) }
+    ensures error { IfErr result (IsError G.rules tier) }
+{
+    let mut shard = begin_by_threads::<G, R>(rt, alloc, tier, tables, workers)?;
+    let solved = pass_tier(alloc, &mut shard, tables);
+    drop(shard);
+    solved
+}

@@ -1,0 +1,27 @@
+use Rattle.std.proofs.Common.{◌<◌, ◌≤◌, length, None, sym, ◌∙◌, arith}
+use Rattle.gm_table.proofs.CheckLemmas.{fits_at, wrong_at, fit_more, hole_fits, hole_filled}
+use Rattle.gm_table.proofs.blocks.Given.first_filled.Goals as goal
+
+pub returns-then-is_some : goal.returns-then-is_some
+returns-then-is_some g c =
+    let self = c.args.self.now in
+    let r = g.G.Game.rules in
+    let i = c.loop-index.index in
+    let below = c.loop-index-test.true in
+    let end = c.requires.within in
+    let inside : i < length self.records.now = omega arith in
+    let hole = c.requires.holes i c.loop-index.auto.index below in
+    let wrong = wrong_at r self.tables.now self.tier self.records.now i None inside (hole_filled r self.tables.now self.tier self.records.now i _ hole (sym c.is_some.ensures ∙ c.if-is_some.true)) in
+    (c.loop-index.auto.index, below, wrong, c.loop-index.invariant)
+
+pub loop-index-preserved : goal.loop-index-preserved
+loop-index-preserved g c =
+    let self = c.args.self.now in
+    let r = g.G.Game.rules in
+    let i = c.loop-index.index in
+    let below = c.loop-index-test.true in
+    let end = c.requires.within in
+    let inside : i < length self.records.now = omega arith in
+    let hole = c.requires.holes i c.loop-index.auto.index below in
+    fit_more r self.tables.now self.tier self.records.now c.args.lo i c.loop-index.invariant
+    (fits_at r self.tables.now self.tier self.records.now i None inside (hole_fits r self.tables.now self.tier self.records.now i _ hole (sym c.is_some.ensures ∙ c.if-is_some.false)))

@@ -1,0 +1,4 @@
+pub mod Ways
+pub mod WayTables
+pub mod WayTexts
+pub mod laws

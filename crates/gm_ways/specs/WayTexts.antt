@@ -1,0 +1,19 @@
+-- The texts of positions and of moves from point to point.
+use Rattle.std.specs.Prelude.{ℕ, List, [], ◌∷◌}
+use Rattle.gm_game.specs.declared.position.Position.{Position}
+use Rattle.gm_pieces.specs.SideTexts.{board_text}
+use Rattle.gm_pieces.specs.Sides.{board_numbered}
+use Rattle.gm_pieces.specs.Steps.{from_point, to_point}
+use Rattle.gm_ways.specs.Ways.{WayGame}
+
+-- the text of a move: the names of the two points with `-` between them
+unfoldable pub step_text : (ℕ → ℕ) → ℕ → List ℕ
+step_text char m = char (from_point m) ∷ 45 ∷ char (to_point m) ∷ []
+
+-- the text of a position: its points in order
+abbrev pub way_text : ℕ → WayGame → Position → List ℕ
+way_text n g p = board_text (board_numbered n g.pieces g.pieces p.index)
+
+-- the text of a position's move
+abbrev pub way_move_text : WayGame → Position → ℕ → List ℕ
+way_move_text g p m = step_text g.point_char m

@@ -1,0 +1,82 @@
+-- Boards of points: numbers of pieces, lines, and what images keep of them.
+use Rattle.std.proofs.Common.{◌≡◌, ℕ, Bool, true, false, cond, eqb-true, eq-eqb, List, length, None, Some, refl, sym, ap, ◌∙◌}
+use Rattle.std.specs.List.{Contains}
+use Rattle.std.proofs.lemmas.Bool.{cond-false, true≢false}
+use Rattle.gm_game.specs.declared.position.End.TheVariants.{Lose}
+use Rattle.gm_board.specs.declared.cell.Cell.{Cell}
+use Rattle.gm_board.specs.declared.cell.Cell.TheVariants.{Empty}
+use Rattle.gm_board.specs.laws.Lists.{and_left, and_right, and_both}
+use Rattle.gm_board.specs.Cells.{is_mine, is_theirs}
+use Rattle.gm_board.specs.Groups.{image_length}
+use Rattle.gm_board.specs.Patterns.{has_filled, filled_image}
+use Rattle.gm_board.specs.Permutations.{permute}
+use Rattle.gm_pieces.specs.laws.CellFacts.{image_number}
+use Rattle.gm_pieces.specs.laws.NumberFacts.{HasNumbers}
+use Rattle.gm_ways.specs.Ways.{WayGame, has_numbers, legal, over}
+use Rattle.gm_ways.specs.WayTables.{IsWayGame}
+use Rattle.gm_ways.specs.laws.WayFacts.{group}
+
+-- ---- numbers of pieces
+-- what holds where the test is passed
+pub numbers_in : (n m t : ℕ) (b : List Cell) → has_numbers n m t b ≡ true → HasNumbers n m t b
+unfolding has_numbers
+numbers_in n m t b l =
+    let r = and_right _ _ l in
+    record { cells = eqb-true _ _ (and_left _ _ l); own = eqb-true _ _ (and_left _ _ r); other = eqb-true _ _ (and_right _ _ r) }
+
+-- where that holds, the test is passed
+pub numbers_from : (n m t : ℕ) (b : List Cell) → HasNumbers n m t b → has_numbers n m t b ≡ true
+unfolding has_numbers
+numbers_from n m t b h = and_both _ _ (eq-eqb _ _ h.cells) (and_both _ _ (eq-eqb _ _ h.own) (eq-eqb _ _ h.other))
+
+-- ---- legal boards
+pub record IsLegal (n : ℕ) (g : WayGame) (b : List Cell) : Type 0 where
+  pub numbers : HasNumbers n g.pieces g.pieces b
+  pub no_line : has_filled Empty g.lines is_mine b ≡ false
+
+unless : (x y : Bool) → cond x false y ≡ true → (x ≡ false) × (y ≡ true)
+unless true y e = absurd (true≢false (sym e))
+unless false y e = (refl, e)
+
+-- what holds where the test is passed
+pub legal_in : (n : ℕ) (g : WayGame) (b : List Cell) → legal n g b ≡ true → IsLegal n g b
+unfolding legal
+legal_in n g b l = let u = unless _ _ l in record { numbers = numbers_in n g.pieces g.pieces b u.1; no_line = u.0 }
+
+-- where that holds, the test is passed
+pub legal_from : (n : ℕ) (g : WayGame) (b : List Cell) → IsLegal n g b → legal n g b ≡ true
+unfolding legal
+legal_from n g b h = cond-false _ _ _ h.no_line ∙ numbers_from n g.pieces g.pieces b h.numbers
+
+line_none : (x : Bool) → cond x (Some Lose) None ≡ None → x ≡ false
+line_none true e = absurd (let z : ⊥ = cc in z)
+line_none false e = refl
+
+-- where the last move has not ended the game the opponent has no line
+pub not_over : (g : WayGame) (b : List Cell) → over g b ≡ None → has_filled Empty g.lines is_theirs b ≡ false
+unfolding over
+not_over g b e = line_none _ e
+
+-- ---- images
+module _ (n : ℕ) (g : WayGame) (h : IsWayGame n g) (p : List ℕ) (b : List Cell) (c : Contains g.symmetries p) where
+  image_line : (q : Cell → Bool) → length b ≡ n → has_filled Empty g.lines q (permute Empty p b) ≡ has_filled Empty g.lines q b
+  image_line q e = filled_image Empty q n g.symmetries g.lines (group n g h) h.lines p c b e
+
+  -- an image of a legal board is legal
+  pub image_legal : legal n g b ≡ true → legal n g (permute Empty p b) ≡ true
+  image_legal l =
+      let k = legal_in n g b l in
+      let long = k.numbers.cells in
+      legal_from n g (permute Empty p b) (record {
+        numbers = record {
+          cells = image_length Empty n g.symmetries (group n g h) p c b;
+          own = image_number n g.symmetries (group n g h) p b c is_mine long ∙ k.numbers.own;
+          other = image_number n g.symmetries (group n g h) p b c is_theirs long ∙ k.numbers.other;
+        };
+        no_line = image_line is_mine long ∙ k.no_line;
+      })
+
+  -- the game is over on an image where it is on the board
+  pub image_over : length b ≡ n → over g (permute Empty p b) ≡ over g b
+  unfolding over
+  image_over e = ap (λ (x : Bool). cond x (Some Lose) None) (image_line is_theirs e)

@@ -1,0 +1,83 @@
+-- What the tables of a game on points say.
+use Rattle.std.proofs.Common.{◌≡◌, ℕ, zero, suc, ◌*◌, ◌<◌, ◌≤◌, Bool, true, false, eqb, ltb, eqb-true, eq-eqb, ltb-true, leb-true, if◌then◌else◌, List, [], ◌∷◌, length, get_or, sym, ap, ◌∙◌, subst, arith, inl, inr}
+use Rattle.std.specs.List.{Contains, filter, list_all, list_any, range_with_len}
+use Rattle.std.proofs.lemmas.Bool.{cases_lt, true≢false}
+use Rattle.std.proofs.lemmas.List.{get_or_past}
+use Rattle.gm_game.specs.Shown.{is_plain}
+use Rattle.gm_board.specs.laws.Lists.{and_left, and_right, contains_range}
+use Rattle.gm_board.specs.Permutations.{all_at}
+use Rattle.gm_board.specs.Groups.{IsGroup, group_from_table, any_at}
+use Rattle.gm_pieces.specs.Steps.{from_point, to_point}
+use Rattle.gm_pieces.specs.laws.StepFacts.{number_below}
+use Rattle.gm_ways.specs.Ways.{WayGame, are_joined}
+use Rattle.gm_ways.specs.WayTables.{IsWayGame, is_step, keeps_way}
+
+-- ---- lists that a table holds
+-- what all rows of a table pass, the row of an index passes
+row_all : (p : List ℕ → Bool) (xss : List (List ℕ)) (a : ℕ) → list_all p xss ≡ true → a < length xss → p (get_or xss a []) ≡ true
+row_all p [] a e l = absurd (omega arith)
+row_all p (xs ∷ xss) zero e l = and_left _ _ e
+row_all p (xs ∷ xss) (suc a) e l = row_all p xss a (and_right _ _ e) (omega arith)
+
+chosen : (x y : Bool) → (if x then y else true) ≡ true → x ≡ true → y ≡ true
+chosen true y e f = e
+chosen false y e f = absurd (true≢false (sym f))
+
+past_none : (ways : List (List ℕ)) (a c : ℕ) → length ways ≤ a → are_joined ways a c ≡ false
+unfolding are_joined
+past_none ways a c l = ap (λ (ks : List ℕ). list_any (λ (k : ℕ). eqb k c) ks) (get_or_past ways a [] l)
+
+-- a way leads from a point that the table has
+from_row : (ways : List (List ℕ)) (a c : ℕ) → are_joined ways a c ≡ true → a < length ways
+from_row ways a c e = elim (cases_lt a (length ways)) [
+  | inl l ↦ l
+  | inr l ↦ absurd (true≢false (sym e ∙ past_none ways a c l))
+]
+
+module _ (n : ℕ) (g : WayGame) (h : IsWayGame n g) where
+  -- ---- ways
+  -- a way leads from one of the points
+  pub joined_from : (a c : ℕ) → are_joined g.ways a c ≡ true → a < n
+  joined_from a c e = let l = from_row g.ways a c e in let m = leb-true (length g.ways) n (and_left _ _ h.ways) in omega (arith, l, m)
+
+  -- a way leads to one of the points
+  pub joined_to : (a c : ℕ) → are_joined g.ways a c ≡ true → c < n
+  unfolding are_joined
+  joined_to a c e =
+      let x = any_at (λ (k : ℕ). eqb k c) (get_or g.ways a []) e in
+      let row = row_all (list_all (λ (c : ℕ). ltb c n)) g.ways a (and_right _ _ h.ways) (from_row g.ways a c e) in
+      subst (λ (k : ℕ). k < n) (eqb-true x.0 c x.2) (ltb-true x.0 n (all_at (λ (c : ℕ). ltb c n) (get_or g.ways a []) x.0 row x.1))
+
+  -- the number of a move along a way is below 16 times the number of points
+  pub step_below : (m : ℕ) → is_step g.ways m ≡ true → m < 16 * n
+  step_below m e = number_below m n (joined_from (from_point m) (to_point m) e)
+
+  -- there are at most 128 moves along ways
+  pub steps_few : length (filter (is_step g.ways) (range_with_len 0 (16 * n))) ≤ 128
+  steps_few = leb-true _ _ h.moves
+
+  -- ---- symmetries
+  -- the symmetries are a group
+  pub group : IsGroup n g.symmetries
+  group = group_from_table n g.symmetries h.group
+
+  -- points whose images are joined are joined
+  pub kept : (p : List ℕ) (i j : ℕ) → Contains g.symmetries p → i < n → j < n → are_joined g.ways (get_or p i 0) (get_or p j 0) ≡ true → are_joined g.ways i j ≡ true
+  kept p i j c l m e =
+      let t = all_at (λ (p : List ℕ). list_all (λ (i : ℕ). list_all (keeps_way g.ways p i) (range_with_len 0 n)) (range_with_len 0 n)) g.symmetries p h.kept c in
+      let u = all_at (λ (i : ℕ). list_all (keeps_way g.ways p i) (range_with_len 0 n)) (range_with_len 0 n) i t (contains_range n i l) in
+      let v = all_at (keeps_way g.ways p i) (range_with_len 0 n) j u (contains_range n j m) in
+      chosen _ _ v e
+
+  -- ---- names
+  -- the name of a point is plain
+  pub name_plain : (k : ℕ) → k < n → is_plain (g.point_char k) ≡ true
+  name_plain k l = all_at (λ (i : ℕ). is_plain (g.point_char i)) (range_with_len 0 n) k (and_left _ _ h.names) (contains_range n k l)
+
+  -- different points have different names
+  pub name_once : (i j : ℕ) → i < n → j < n → g.point_char i ≡ g.point_char j → i ≡ j
+  name_once i j l m e =
+      let pair : ℕ → ℕ → Bool = λ i j. if eqb (g.point_char i) (g.point_char j) then eqb i j else true in
+      let u = all_at (λ (i : ℕ). list_all (pair i) (range_with_len 0 n)) (range_with_len 0 n) i (and_right _ _ h.names) (contains_range n i l) in
+      let v = all_at (pair i) (range_with_len 0 n) j u (contains_range n j m) in
+      eqb-true i j (chosen _ _ v (eq-eqb _ _ e))

@@ -1,0 +1,57 @@
+//! Which boards are legal, and on which the game is over.
+ghost use Rattle.std.specs.Prelude.{◌≡◌};
+ghost use Rattle.gm_board.specs.Cells.{is_mine, is_theirs};
+ghost use Rattle.gm_board.specs.declared.cell.Cell.TheVariants.{Empty};
+ghost use Rattle.gm_board.specs.Images.{board_of};
+ghost use Rattle.gm_board.specs.Patterns.{has_filled};
+ghost use Rattle.gm_ways.specs.Ways.{has_numbers as has_numbers_of, legal, over as over_of};
+
+use crate::rules::WayRules;
+use gm_board::pattern::has_some;
+use gm_game::position::End;
+use gm_pieces::board::Board;
+
+/// Whether the mover and the opponent have these numbers of pieces.
+pub fn has_numbers<const CELLS: u32>(board: Board<CELLS>, mine: u32, theirs: u32) -> bool
+    ensures { result ≡ has_numbers_of CELLS mine theirs (board_of CELLS board.entry.mine board.entry.theirs) }
+{
+    board.own_pieces() == mine && board.their_pieces() == theirs
+}
+
+// Whether the mover has a line.
+fn has_own_line<const POINTS: u32, T: WayRules<POINTS>>(board: Board<POINTS>) -> bool
+    ensures { result ≡ has_filled Empty T.game.lines is_mine (board_of POINTS board.entry.mine board.entry.theirs) }
+{
+    has_some(board.mine, T::lines())
+}
+
+// Whether the opponent has a line.
+fn has_their_line<const POINTS: u32, T: WayRules<POINTS>>(board: Board<POINTS>) -> bool
+    ensures { result ≡ has_filled Empty T.game.lines is_theirs (board_of POINTS board.entry.mine board.entry.theirs) }
+{
+    has_some(board.theirs, T::lines())
+}
+
+/// Whether each side has the game's number of pieces, and the mover has no line.
+#[tactic(auto, unfolding(crate::specs::Ways::legal))]
+pub fn is_legal_board<const POINTS: u32, T: WayRules<POINTS>>(board: Board<POINTS>) -> bool
+    ensures { result ≡ legal POINTS T.game (board_of POINTS board.entry.mine board.entry.theirs) }
+{
+    if has_own_line::<POINTS, T>(board) {
+        false
+    } else {
+        has_numbers(board, T::pieces(), T::pieces())
+    }
+}
+
+/// How the last move has ended the game, if it has: the mover has lost where the opponent has a line.
+#[tactic(auto, unfolding(crate::specs::Ways::over))]
+pub fn over<const POINTS: u32, T: WayRules<POINTS>>(board: Board<POINTS>) -> Option<End>
+    ensures { result ≡ over_of T.game (board_of POINTS board.entry.mine board.entry.theirs) }
+{
+    if has_their_line::<POINTS, T>(board) {
+        Some(End::Lose)
+    } else {
+        None
+    }
+}

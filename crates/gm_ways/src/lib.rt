@@ -1,0 +1,9 @@
+//! Games on points that ways join: a game gives its tables, its start and the names of its points, and the rest follows (docs/GAMES.md, Points and ways).
+#![tactic(auto)]
+
+pub mod boards;
+pub mod least;
+pub mod moves;
+pub mod on_ways;
+pub mod rules;
+pub mod text;

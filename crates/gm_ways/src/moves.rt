@@ -1,0 +1,91 @@
+//! Moves along ways.
+ghost use Rattle.std.specs.Prelude.{◌≡◌, ◌↔◌, ◌&&◌, IsTrue, true, slice_index_or, []};
+ghost use Rattle.std.specs.List.{Contains};
+ghost use Rattle.gm_board.specs.Cells.{is_mine, is_theirs, is_empty, cell_at};
+ghost use Rattle.gm_board.specs.Images.{board_of};
+ghost use Rattle.gm_ways.specs.Ways.{are_joined as are_joined_of, can_move as can_move_of, moved as moved_of, was_moved as was_moved_of, taken_back as taken_back_of};
+
+use crate::rules::WayRules;
+use gm_pieces::board::Board;
+use gm_pieces::step::Step;
+
+// Whether the second point is one of those to which a way leads from the first.
+fn is_neighbor<const POINTS: u32, T: WayRules<POINTS>>(a: u32, c: u32) -> bool
+    ensures { IsTrue result ↔ Contains (slice_index_or T.game.ways a []) c }
+{
+    T::neighbors(a).contains(&c)
+}
+
+/// Whether a way leads from one point to another. Any numbers may be given.
+pub fn are_joined<const POINTS: u32, T: WayRules<POINTS>>(a: u32, c: u32) -> bool
+    ensures { result ≡ are_joined_of T.game.ways a c }
+{
+    is_neighbor::<POINTS, T>(a, c)
+}
+
+// Whether a piece of the mover's stands on the first point, and none on the second.
+fn is_open<const POINTS: u32, T: WayRules<POINTS>>(board: Board<POINTS>, from: u32, to: u32) -> bool
+    requires { are_joined_of T.game.ways from to ≡ true }
+    ensures { result ≡ (is_mine (cell_at (board_of POINTS board.entry.mine board.entry.theirs) from) && is_empty (cell_at (board_of POINTS board.entry.mine board.entry.theirs) to)) }
+{
+    board.has_mine(from) && board.is_free(to)
+}
+
+// Whether a piece of the opponent's stands on the second point, and none on the first.
+fn is_left<const POINTS: u32, T: WayRules<POINTS>>(board: Board<POINTS>, from: u32, to: u32) -> bool
+    requires { are_joined_of T.game.ways from to ≡ true }
+    ensures { result ≡ (is_theirs (cell_at (board_of POINTS board.entry.mine board.entry.theirs) to) && is_empty (cell_at (board_of POINTS board.entry.mine board.entry.theirs) from)) }
+{
+    board.has_theirs(to) && board.is_free(from)
+}
+
+/// Whether the move with this number can be made if the game is not over.
+pub fn can_move<const POINTS: u32, T: WayRules<POINTS>>(board: Board<POINTS>, number: u32) -> bool
+    ensures { result ≡ can_move_of T.game (board_of POINTS board.entry.mine board.entry.theirs) number }
+{
+    let step = Step::numbered(number);
+    if !are_joined::<POINTS, T>(step.from, step.to) {
+        return false;
+    }
+    if !is_open::<POINTS, T>(board, step.from, step.to) {
+        return false;
+    }
+    T::may_go(&board, step.from, step.to)
+}
+
+/// The board after a move, as the other side sees it.
+#[tactic(auto, unfolding(crate::specs::Ways::moved))]
+pub fn moved<const POINTS: u32, T: WayRules<POINTS>>(
+    board: Board<POINTS>,
+    number: u32,
+) -> Board<POINTS>
+    requires { can_move_of T.game (board_of POINTS board.mine board.theirs) number ≡ true }
+    ensures { board_of POINTS result.mine result.theirs ≡ moved_of (board_of POINTS board.entry.mine board.entry.theirs) number }
+{
+    let step = Step::numbered(number);
+    board.gone(step.from, step.to)
+}
+
+/// Whether the move with this number can have led to the board.
+pub fn was_moved<const POINTS: u32, T: WayRules<POINTS>>(board: Board<POINTS>, number: u32) -> bool
+    ensures { result ≡ was_moved_of T.game (board_of POINTS board.entry.mine board.entry.theirs) number }
+{
+    let step = Step::numbered(number);
+    if !are_joined::<POINTS, T>(step.from, step.to) {
+        return false;
+    }
+    is_left::<POINTS, T>(board, step.from, step.to)
+}
+
+/// The board before the move with this number, as the side that made it saw it.
+#[tactic(auto, unfolding(crate::specs::Ways::taken_back))]
+pub fn taken_back<const POINTS: u32, T: WayRules<POINTS>>(
+    board: Board<POINTS>,
+    number: u32,
+) -> Board<POINTS>
+    requires { was_moved_of T.game (board_of POINTS board.mine board.theirs) number ≡ true }
+    ensures { board_of POINTS result.mine result.theirs ≡ taken_back_of (board_of POINTS board.entry.mine board.entry.theirs) number }
+{
+    let step = Step::numbered(number);
+    board.brought_back(step.from, step.to)
+}
