@@ -56,6 +56,10 @@ def cases():
         if "<GAME>" in places:
             yield ["gamesman", name, "dao", "--"], flags
     yield ["gamesman", "chess", ""], []
+    yield ["gamesman", "analyze", "tactix-3"], ["tactix-3", "tactix-3-misere"]
+    yield ["gamesman", "solve", "dao", "tables", "--workers", ""], []
+    yield ["gamesman", "query", "dao", "--folder", "d"], []
+    yield ["gamesman", "find", "dao", "--value", ""], ["win", "tie", "draw", "lose"]
 
 
 def completions_of_bash(room):

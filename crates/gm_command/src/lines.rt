@@ -101,7 +101,7 @@ static SOLVE: Line = Line {
     name: "solve",
     alias: None,
     about: "Solves a game into a folder, which has to be there; tables that are there and true are kept",
-    examples: "Examples:\n  gamesman solve countdown tables\n  gamesman solve dao tables --workers 8 --progress",
+    examples: "Examples:\n  gamesman solve countdown tables\n  gamesman solve dao dao-tables --workers 8 --progress",
     words: &[
         GAME,
         Word {
@@ -168,7 +168,7 @@ static MOVES: Line = Line {
     name: "moves",
     alias: None,
     about: "Lists the moves of a position, the best first: what each is worth, and its result",
-    examples: "Examples:\n  gamesman moves tictactoe xo.......\n  gamesman moves dao --distinct --folder tables",
+    examples: "Examples:\n  gamesman moves tictactoe xo.......\n  gamesman moves dao --distinct --folder dao-tables",
     words: &[
         GAME,
         START,
@@ -294,7 +294,7 @@ static ASK: Line = Line {
     name: "ask",
     alias: None,
     about: "Reads positions, a line each, and answers each with a line of JSON: its value and what its moves are worth",
-    examples: "Examples:\n  echo 10 | gamesman ask countdown\n  gamesman ask dao --folder tables --read-only < positions",
+    examples: "Examples:\n  echo 10 | gamesman ask countdown\n  echo x..o.xo..ox.o..x | gamesman ask dao --folder dao-tables --read-only",
     words: &[GAME, FOLDER, READ_ONLY],
 };
 
@@ -302,7 +302,7 @@ static ANALYSE: Line = Line {
     name: "analyse",
     alias: Some("analyze"),
     about: "Counts the positions of a game by value and remoteness, one line of JSON for each tier",
-    examples: "Examples:\n  gamesman analyse countdown\n  gamesman analyse dao --folder tables",
+    examples: "Examples:\n  gamesman analyse countdown\n  gamesman analyse dao --folder dao-tables",
     words: &[GAME, FOLDER, READ_ONLY],
 };
 
@@ -310,7 +310,7 @@ static CHECK: Line = Line {
     name: "check",
     alias: None,
     about: "Checks the tables of a game in a folder, tier by tier",
-    examples: "Examples:\n  gamesman check countdown tables\n  gamesman check dao tables",
+    examples: "Examples:\n  gamesman check countdown tables\n  gamesman check dao dao-tables",
     words: &[
         GAME,
         Word {

@@ -48,6 +48,14 @@ fn option_of(word: &Word) -> Option<&'static str> {
     }
 }
 
+// Whether a word is an option with a value.
+fn has_value(word: &Word) -> bool {
+    match word.kind {
+        Kind::Text { .. } | Kind::Number { .. } | Kind::Tier => true,
+        Kind::Word | Kind::Optional | Kind::Flag => false,
+    }
+}
+
 // Adds some strings, one after another.
 fn add(text: &mut String, parts: &[&str]) -> Result<(), AllocError> {
     for part in parts {
@@ -92,6 +100,27 @@ fn write_values(place: &str, text: &mut String) -> Result<(), AllocError> {
     }
 }
 
+// The options that have a value, with `|` before each.
+fn write_valued(text: &mut String) -> Result<(), AllocError> {
+    for line in &lines() {
+        for word in line.words {
+            if has_value(word) {
+                add(text, &["|--", word.name])?;
+            }
+        }
+    }
+    Ok(())
+}
+
+// The name of a command, and its other one, with `|` between them.
+fn write_names(line: &Line, text: &mut String) -> Result<(), AllocError> {
+    text.push_str(line.name)?;
+    match line.alias {
+        Some(alias) => add(text, &["|", alias]),
+        None => Ok(()),
+    }
+}
+
 // The words of each command, with strings before its name, before its words and after them.
 fn write_cases(
     start: &'static str,
@@ -100,7 +129,9 @@ fn write_cases(
     text: &mut String,
 ) -> Result<(), AllocError> {
     for line in &lines() {
-        add(text, &[start, line.name, before])?;
+        text.push_str(start)?;
+        write_names(line, text)?;
+        text.push_str(before)?;
         write_words(line, text)?;
         text.push_str(after)?;
     }
@@ -109,7 +140,15 @@ fn write_cases(
 
 fn write_bash(text: &mut String) -> Result<(), AllocError> {
     text.push_str(
-        "_gamesman() {\n    local cur=${COMP_WORDS[COMP_CWORD]} words=\n    if [ \"$COMP_CWORD\" -eq 1 ]; then\n        words=\"",
+        "_gamesman() {\n    local cur=${COMP_WORDS[COMP_CWORD]} words=\n    case \"${COMP_WORDS[COMP_CWORD-1]}\" in\n",
+    )?;
+    text.push_str(
+        "        --value)\n            COMPREPLY=($(compgen -W \"win tie draw lose\" -- \"$cur\"))\n            return\n            ;;\n",
+    )?;
+    text.push_str("        --folder")?;
+    write_valued(text)?;
+    text.push_str(
+        ")\n            COMPREPLY=()\n            return\n            ;;\n    esac\n    if [ \"$COMP_CWORD\" -eq 1 ]; then\n        words=\"",
     )?;
     write_commands(text)?;
     text.push_str("\"\n    else\n        case \"${COMP_WORDS[1]}\" in\n")?;
@@ -121,12 +160,18 @@ fn write_bash(text: &mut String) -> Result<(), AllocError> {
 
 fn write_zsh(text: &mut String) -> Result<(), AllocError> {
     text.push_str(
-        "#compdef gamesman\n_gamesman() {\n    if (( CURRENT == 2 )); then\n        compadd --",
+        "#compdef gamesman\n_gamesman() {\n    case ${words[CURRENT-1]} in\n    --value) compadd -- win tie draw lose; return ;;\n    --folder",
+    )?;
+    write_valued(text)?;
+    text.push_str(
+        ") _files; return ;;\n    esac\n    if (( CURRENT == 2 )); then\n        compadd --",
     )?;
     write_commands(text)?;
     text.push_str("\n        return\n    fi\n    case ${words[2]} in\n")?;
     write_cases("    ", ") compadd --", " ;;\n", text)?;
-    text.push_str("    esac\n    _files\n}\ncompdef _gamesman gamesman\n")
+    text.push_str(
+        "    esac\n    _files\n}\nif [[ ${funcstack[1]} == _gamesman ]]; then\n    _gamesman \"$@\"\nelse\n    compdef _gamesman gamesman\nfi\n",
+    )
 }
 
 fn write_fish(text: &mut String) -> Result<(), AllocError> {
@@ -164,7 +209,14 @@ fn write_fish_word(name: &'static str, word: &Word, text: &mut String) -> Result
         ],
     )?;
     match option_of(word) {
-        Some(option) => add(text, &[" -l ", option, "\n"]),
+        Some("value") => add(
+            text,
+            &[" -l value -x -a 'win tie draw lose' -d '", word.help, "'\n"],
+        ),
+        Some(option) if has_value(word) => {
+            add(text, &[" -l ", option, " -r -d '", word.help, "'\n"])
+        }
+        Some(option) => add(text, &[" -l ", option, " -d '", word.help, "'\n"]),
         None => {
             text.push_str(" -a '")?;
             write_values(word.name, text)?;
