@@ -3,9 +3,8 @@ use Rattle.std.specs.Prelude.{◌≡◌, ◌≢◌, ℕ, List, Option, None, Som
 use Rattle.gm_game.specs.declared.position.Solved.{Solved}
 use Rattle.gm_game.specs.Rules.{Rules}
 use Rattle.gm_table.specs.declared.checker.CheckError.{CheckError}
-use Rattle.gm_table.specs.declared.checker.CheckError.TheVariants.{OutOfMemory, WrongSize, WrongRecord}
 use Rattle.gm_table.specs.Tables.{TableData}
-use Rattle.gm_table.specs.Checks.{IsFirstWrong}
+use Rattle.gm_table.specs.Checks.{AreWrong}
 use Rattle.gm_tierdb.specs.declared.file_error.FileError.TheVariants.{OldVersion}
 use Rattle.gm_tierdb.specs.TierText.{IsTierText}
 use Rattle.gm_tierdb.specs.Refusals.{Refuses}
@@ -13,12 +12,6 @@ use Rattle.gm_tierdb.specs.StoreTexts.{Texts}
 use Rattle.gm_entry.specs.declared.inspect.Inspected.{Inspected}
 use Rattle.gm_entry.specs.declared.inspect.Inspected.TheVariants.{Right, Missing, NoFile, NoTable}
 use Rattle.gm_entry.specs.TrueTexts.{IsTrueText, IsOldText}
-
--- these records are not the tier's, for this reason
-abbrev pub AreWrong : Rules → List TableData → ℕ → List (Option Solved) → CheckError → Type 0
-AreWrong r entries tier records OutOfMemory = ⊥
-AreWrong r entries tier records WrongSize = length records ≢ r.tier_size tier
-AreWrong r entries tier records (WrongRecord index) = (length records ≡ r.tier_size tier) × IsFirstWrong r entries tier records index
 
 -- the bytes are the text of records that are not the tier's
 abbrev pub IsUntrueText : Rules → List TableData → ℕ → List ℕ → CheckError → Type 0

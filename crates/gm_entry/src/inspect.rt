@@ -5,10 +5,10 @@ ghost use Rattle.gm_entry.specs.Inspections.{IsInspected};
 
 use gm_game::game::Game;
 use gm_game::limits::TIER_SIZE;
-use gm_table::checker::{CheckError, check_by};
+use gm_table::checker::{CheckError, check_packed_by};
 use gm_table::table::Table;
 use gm_table::tables::Tables;
-use gm_tierdb::decode::decode;
+use gm_tierdb::decode::decode_packed;
 use gm_tierdb::file_error::FileError;
 use std::alloc::{AllocError, Global};
 use std::thread::Threads;
@@ -39,17 +39,13 @@ pub fn inspect_text<G: Game + Send + Sync, R: Threads + Sync>(
     requires small { G.rules.tier_size tier ≤ TIER_SIZE }
     ensures exact { IfOk result (IsInspected G.rules tables.now tier bytes.now) }
 {
-    let records = match decode::<G>(alloc, tier, bytes) {
+    let records = match decode_packed::<G>(alloc, tier, bytes) {
         Ok(records) => records,
         Err(FileError::OutOfMemory) => return Err(AllocError),
         Err(why) => return Ok(Inspected::NoFile(why)),
     };
-    match check_by(rt, alloc, tier, records.as_slice(), tables) {
+    match check_packed_by(rt, tier, records, tables) {
         Ok(table) => Ok(Inspected::Right(table)),
-        Err(CheckError::OutOfMemory) => Err(AllocError),
-        Err(CheckError::WrongSize) => Ok(Inspected::NoTable(CheckError::WrongSize)),
-        Err(CheckError::WrongRecord { index }) => {
-            Ok(Inspected::NoTable(CheckError::WrongRecord { index }))
-        }
+        Err(why) => Ok(Inspected::NoTable(why)),
     }
 }

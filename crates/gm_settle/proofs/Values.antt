@@ -1,9 +1,9 @@
 -- The value of a position whose canonical children the tables know.
-use Rattle.std.proofs.Common.{◌≡◌, ◌≢◌, ℕ, ◌+◌, ◌<◌, ◌≤◌, ◌==◌, ◌↔◌, ◌⊎◌, inl, inr, min, max, eqb-true, if◌then◌else◌, Bool, true, false, not, cond, List, [], ◌∷◌, length, map, take, get_or, filter, Option, None, Some, IfSome, IsSome, refl, sym, ap, subst, ◌∙◌, arith}
+use Rattle.std.proofs.Common.{◌≡◌, ◌≢◌, ℕ, ◌+◌, ◌<◌, ◌≤◌, suc, ◌==◌, ◌↔◌, ◌⊎◌, inl, inr, min, max, eqb-true, if◌then◌else◌, Bool, true, false, not, List, [], ◌∷◌, ◌++◌, length, map, take, get_or, filter, Option, None, Some, IfSome, IsSome, refl, sym, ap, subst, ◌∙◌, arith}
 use Rattle.std.specs.List.{Contains}
 use Rattle.std.proofs.lemmas.Option.{same_Some, slice_get-get_or}
-use Rattle.std.proofs.lemmas.List.{map_more, take_more, take_all, length-take}
-use Rattle.std.proofs.lemmas.List.Filters.{length-filter_more, length-filter_both}
+use Rattle.std.proofs.lemmas.List.{map-append, map_more, take_more, take_all, length-map, length-take}
+use Rattle.std.proofs.lemmas.List.Filters.{length-filter_both}
 use Rattle.std.proofs.lemmas.List.Elements.{Contains-get_or, Contains-push_cases}
 use Rattle.gm_game.specs.declared.limits.TheConstants.{REMOTENESS, MOVES}
 use Rattle.gm_game.specs.declared.position.Position.{Position}
@@ -16,15 +16,15 @@ use Rattle.gm_game.specs.Values.{HasValue, IsTrueValue}
 use Rattle.gm_game.specs.Children.{AreResults}
 use Rattle.gm_game.specs.Records.{lost_in, won_in, tied_in, lesser, greater, least_of, all_won, settle, settled_by, IsKnown, IsRecord, IsTrueTable}
 use Rattle.gm_game.proofs.Basic.{HasValue_once}
-use Rattle.gm_game.proofs.Folding.{least_push, all_won_push}
-use Rattle.gm_game.proofs.Lists.{contains_none}
+use Rattle.gm_game.proofs.Lists.{contains_none, contains_first, contains_later}
 use Rattle.gm_game.proofs.Sets.{settled_by_list}
 use Rattle.gm_game.proofs.Settled.{known_since, known_record, value_from_children}
 use Rattle.gm_game.proofs.Symmetry.{near_child}
 use Rattle.gm_record.specs.declared.summary.Summary.{Summary}
 use Rattle.gm_table.specs.Tables.{TableData, IsTable, table_of, AreHeld, IsAtHand, record_at, record_in, value_in}
 use Rattle.gm_table.specs.Solving.{IsTooFar}
-use Rattle.gm_settle.specs.Gathered.{is_decided, IsGathered}
+use Rattle.gm_table.specs.Words.{record_of_word, is_decided}
+use Rattle.gm_settle.specs.Gathered.{IsGathered}
 
 -- bounds on what children say
 lesser_near : (a b : Option ℕ) → IfSome a (λ n. n ≤ REMOTENESS) → IfSome b (λ n. n ≤ REMOTENESS) → IfSome (lesser a b) (λ n. n ≤ REMOTENESS)
@@ -56,18 +56,15 @@ tied_by Draw n l = tt
 tied_by Tie n l = l
 tied_by Win n l = tt
 
+-- the tables know these positions, and their records have these words
+pub record AreRead (r : Rules) (entries : List TableData) (cs : List Position) (ws : List ℕ) : Type 0 where
+  pub known : (c : Position) → Contains cs c → IsKnown r (value_in r entries) c
+  pub near : (c : Position) → Contains cs c → IfSome (value_in r entries c) (λ s. s.remoteness ≤ REMOTENESS)
+  pub words : map record_of_word ws ≡ map (value_in r entries) cs
+
 -- before the first child
-pub gathered_none : (r : Rules) (entries : List TableData) (cs : List Position) (seen : Summary) → seen.lost ≡ None → seen.won ≡ Some 0 → seen.tied ≡ None → IsGathered r entries (take 0 cs) seen 0
-gathered_none r entries cs seen a b c = record {
-  known = λ d h. absurd (contains_none d h);
-  lost = a;
-  won = b;
-  tied = c;
-  near_lost = subst (λ (o : Option ℕ). IfSome o (λ n. n ≤ REMOTENESS)) (sym a) tt;
-  near_won = subst (λ (o : Option ℕ). IfSome o (λ n. n ≤ REMOTENESS)) (sym b) (omega arith);
-  near_tied = subst (λ (o : Option ℕ). IfSome o (λ n. n ≤ REMOTENESS)) (sym c) tt;
-  decided = refl;
-}
+pub read_none : (r : Rules) (entries : List TableData) (cs : List Position) (ws : List ℕ) → ws ≡ [] → AreRead r entries (take 0 cs) ws
+read_none r entries cs ws e = record { known = λ d h. absurd (contains_none d h); near = λ d h. absurd (contains_none d h); words = ap (map record_of_word) e }
 
 -- the table that is found for a tier is the tier's
 pub found_tier : (entries : List TableData) (tier : ℕ) (t : TableData) → table_of entries tier ≡ Some t → t.tier ≡ tier
@@ -110,31 +107,72 @@ module _ (r : Rules) (entries : List TableData) (c : Position) (canonical : IsCa
   child_known = let (s, e, is, near) = child_some in known_since r (value_in r entries) c s (child_value ∙ e) is
 
 -- one child more
-module _ (r : Rules) (entries : List TableData) (cs : List Position) (i : ℕ) (d : Position) (inside : i < length cs) (seen next : Summary) (number more : ℕ) (o : Option Solved) (s : Solved) (some : o ≡ Some s) (near : s.remoteness ≤ REMOTENESS)
-    (value : value_in r entries (get_or cs i d) ≡ o) (known : IsKnown r (value_in r entries) (get_or cs i d)) (old : IsGathered r entries (take i cs) seen number) where
-  least_next : (f : Option Solved → Option ℕ) → least_of f (map (value_in r entries) (take (i + 1) cs)) ≡ lesser (least_of f (map (value_in r entries) (take i cs))) (f o)
-  least_next f = ap (least_of f) (map_more (value_in r entries) cs i d inside) ∙ least_push f (map (value_in r entries) (take i cs)) (value_in r entries (get_or cs i d)) ∙ ap (λ (x : Option Solved). lesser (least_of f (map (value_in r entries) (take i cs))) (f x)) value
+module _ (r : Rules) (entries : List TableData) (cs : List Position) (i : ℕ) (d : Position) (inside : i < length cs) (ws new : List ℕ) (w : ℕ) (s : Solved) (some : record_of_word w ≡ Some s) (near : s.remoteness ≤ REMOTENESS)
+    (value : value_in r entries (get_or cs i d) ≡ record_of_word w) (known : IsKnown r (value_in r entries) (get_or cs i d)) (old : AreRead r entries (take i cs) ws) where
+  near_here : IfSome (value_in r entries (get_or cs i d)) (λ x. x.remoteness ≤ REMOTENESS)
+  near_here = subst (λ (o : Option Solved). IfSome o (λ x. x.remoteness ≤ REMOTENESS)) (sym (value ∙ some)) near
 
-  won_next : all_won (map (value_in r entries) (take (i + 1) cs)) ≡ greater (all_won (map (value_in r entries) (take i cs))) (won_in o)
-  won_next = ap all_won (map_more (value_in r entries) cs i d inside) ∙ all_won_push (map (value_in r entries) (take i cs)) (value_in r entries (get_or cs i d)) ∙ ap (λ (x : Option Solved). greater (all_won (map (value_in r entries) (take i cs))) (won_in x)) value
+  among : (q : Position) → Contains (take (i + 1) cs) q → Contains (take i cs) q ⊎ (get_or cs i d ≡ q)
+  among q h = Contains-push_cases (take i cs) (get_or cs i d) q (subst (λ (ps : List Position). Contains ps q) (take_more cs i d inside) h)
 
-  decided_next : length (filter (λ c. is_decided (value_in r entries c)) (take (i + 1) cs)) ≡ length (filter (λ c. is_decided (value_in r entries c)) (take i cs)) + cond (is_decided o) 1 0
-  decided_next = length-filter_more (λ c. is_decided (value_in r entries c)) cs i d inside ∙ ap (λ (x : Option Solved). length (filter (λ c. is_decided (value_in r entries c)) (take i cs)) + cond (is_decided x) 1 0) value
-
-  pub gathered_more : next.lost ≡ lesser seen.lost (lost_in o) → next.won ≡ greater seen.won (won_in o) → next.tied ≡ lesser seen.tied (tied_in o) → more ≡ number + cond (is_decided o) 1 0 → IsGathered r entries (take (i + 1) cs) next more
-  gathered_more a b c e = record {
-    known = λ q h. elim (Contains-push_cases (take i cs) (get_or cs i d) q (subst (λ (ps : List Position). Contains ps q) (take_more cs i d inside) h)) [
-      | inl k ↦ old.known q k
-      | inr k ↦ subst (λ (p : Position). IsKnown r (value_in r entries) p) k known
-    ];
-    lost = a ∙ ap (λ (x : Option ℕ). lesser x (lost_in o)) old.lost ∙ sym (least_next lost_in);
-    won = b ∙ ap (λ (x : Option ℕ). greater x (won_in o)) old.won ∙ sym won_next;
-    tied = c ∙ ap (λ (x : Option ℕ). lesser x (tied_in o)) old.tied ∙ sym (least_next tied_in);
-    near_lost = subst (λ (x : Option ℕ). IfSome x (λ n. n ≤ REMOTENESS)) (sym a) (lesser_near seen.lost (lost_in o) old.near_lost (subst (λ (x : Option Solved). IfSome (lost_in x) (λ n. n ≤ REMOTENESS)) (sym some) (lost_by s.value s.remoteness near)));
-    near_won = subst (λ (x : Option ℕ). IfSome x (λ n. n ≤ REMOTENESS)) (sym b) (greater_near seen.won (won_in o) old.near_won (subst (λ (x : Option Solved). IfSome (won_in x) (λ n. n ≤ REMOTENESS)) (sym some) (won_by s.value s.remoteness near)));
-    near_tied = subst (λ (x : Option ℕ). IfSome x (λ n. n ≤ REMOTENESS)) (sym c) (lesser_near seen.tied (tied_in o) old.near_tied (subst (λ (x : Option Solved). IfSome (tied_in x) (λ n. n ≤ REMOTENESS)) (sym some) (tied_by s.value s.remoteness near)));
-    decided = e ∙ ap (λ (n : ℕ). n + cond (is_decided o) 1 0) old.decided ∙ sym decided_next;
+  pub read_more : new ≡ ws ++ w ∷ [] → AreRead r entries (take (i + 1) cs) new
+  read_more is = record {
+    known = λ q h. elim (among q h) [ inl k ↦ old.known q k | inr k ↦ subst (λ (p : Position). IsKnown r (value_in r entries) p) k known ];
+    near = λ q h. elim (among q h) [ inl k ↦ old.near q k | inr k ↦ subst (λ (p : Position). IfSome (value_in r entries p) (λ x. x.remoteness ≤ REMOTENESS)) k near_here ];
+    words = ap (map record_of_word) is ∙ map-append record_of_word ws (w ∷ []) ∙ ap (λ (os : List (Option Solved)). os ++ record_of_word w ∷ []) old.words
+        ∙ ap (λ (o : Option Solved). map (value_in r entries) (take i cs) ++ o ∷ []) (sym value) ∙ sym (map_more (value_in r entries) cs i d inside);
   }
+
+-- what near records say is near
+lost_near : (o : Option Solved) → IfSome o (λ s. s.remoteness ≤ REMOTENESS) → IfSome (lost_in o) (λ n. n ≤ REMOTENESS)
+lost_near None h = tt
+lost_near (Some s) h = lost_by s.value s.remoteness h
+
+won_near : (o : Option Solved) → IfSome o (λ s. s.remoteness ≤ REMOTENESS) → IfSome (won_in o) (λ n. n ≤ REMOTENESS)
+won_near None h = tt
+won_near (Some s) h = won_by s.value s.remoteness h
+
+tied_near : (o : Option Solved) → IfSome o (λ s. s.remoteness ≤ REMOTENESS) → IfSome (tied_in o) (λ n. n ≤ REMOTENESS)
+tied_near None h = tt
+tied_near (Some s) h = tied_by s.value s.remoteness h
+
+module _ (look : Position → Option Solved) where
+  least_near : (f : Option Solved → Option ℕ) → ((o : Option Solved) → IfSome o (λ s. s.remoteness ≤ REMOTENESS) → IfSome (f o) (λ n. n ≤ REMOTENESS)) → (cs : List Position)
+      → ((c : Position) → Contains cs c → IfSome (look c) (λ s. s.remoteness ≤ REMOTENESS)) → IfSome (least_of f (map look cs)) (λ n. n ≤ REMOTENESS)
+  least_near f each [] near = tt
+  least_near f each (c ∷ cs) near = lesser_near (f (look c)) (least_of f (map look cs)) (each (look c) (near c (contains_first c cs))) (least_near f each cs (λ d h. near d (contains_later c d cs h)))
+
+  all_won_near : (cs : List Position) → ((c : Position) → Contains cs c → IfSome (look c) (λ s. s.remoteness ≤ REMOTENESS)) → IfSome (all_won (map look cs)) (λ n. n ≤ REMOTENESS)
+  all_won_near [] near = omega arith
+  all_won_near (c ∷ cs) near = greater_near (won_in (look c)) (all_won (map look cs)) (won_near (look c) (near c (contains_first c cs))) (all_won_near cs (λ d h. near d (contains_later c d cs h)))
+
+  -- as many of the records are no draws as of the positions
+  filter_mapped : (p : Option Solved → Bool) (cs : List Position) → length (filter p (map look cs)) ≡ length (filter (λ c. p (look c)) cs)
+  filter_mapped p [] = refl
+  filter_mapped p (c ∷ cs) = go (p (look c)) refl (filter_mapped p cs)
+    where
+      go : (b : Bool) → p (look c) ≡ b → length (filter p (map look cs)) ≡ length (filter (λ d. p (look d)) cs) → length (filter p (map look (c ∷ cs))) ≡ length (filter (λ d. p (look d)) (c ∷ cs))
+      go true e same = rw (e, filter) (ap suc same)
+      go false e same = rw (e, filter) same
+
+-- what the words of all children say
+pub gathered_read : (r : Rules) (entries : List TableData) (cs : List Position) (ws : List ℕ) (seen : Summary) (number : ℕ) → AreRead r entries cs ws → seen.lost ≡ least_of lost_in (map record_of_word ws) → seen.won ≡ all_won (map record_of_word ws)
+    → seen.tied ≡ least_of tied_in (map record_of_word ws) → number ≡ length (filter is_decided (map record_of_word ws)) → IsGathered r entries cs seen number
+gathered_read r entries cs ws seen number read a b c e =
+    let look = value_in r entries in
+    let lost : seen.lost ≡ least_of lost_in (map look cs) = a ∙ ap (least_of lost_in) read.words in
+    let won : seen.won ≡ all_won (map look cs) = b ∙ ap all_won read.words in
+    let tied : seen.tied ≡ least_of tied_in (map look cs) = c ∙ ap (least_of tied_in) read.words in
+    record {
+      known = read.known;
+      lost = lost;
+      won = won;
+      tied = tied;
+      near_lost = subst (λ (x : Option ℕ). IfSome x (λ n. n ≤ REMOTENESS)) (sym lost) (least_near look lost_in lost_near cs read.near);
+      near_won = subst (λ (x : Option ℕ). IfSome x (λ n. n ≤ REMOTENESS)) (sym won) (all_won_near look cs read.near);
+      near_tied = subst (λ (x : Option ℕ). IfSome x (λ n. n ≤ REMOTENESS)) (sym tied) (least_near look tied_in tied_near cs read.near);
+      decided = e ∙ ap (λ (os : List (Option Solved)). length (filter is_decided os)) read.words ∙ filter_mapped look is_decided cs;
+    }
 
 -- whether a known position is no draw
 decides_by : (r : Rules) (c : Position) (v : Value) (n : ℕ) → HasValue r c v n → (is_decided (Some (record { value = v; remoteness = n })) ≡ true) ↔ (HasValue r c Draw 0 → ⊥)
@@ -178,21 +216,14 @@ module _ (r : Rules) (g : IsGame r) (entries : List TableData) (p : Position) (c
   pub listed_child : IsCanonicalChild r p (get_or cs i d)
   listed_child = (are (get_or cs i d)).0 (Contains-get_or cs i d inside)
 
-  pub gathered_step : (seen next : Summary) (number more : ℕ) (t : TableData) (o : Option Solved) → Some t ≡ table_of entries (get_or cs i d).tier → o ≡ record_at t.records (get_or cs i d).index
-      → IsRecord r REMOTENESS (IsTrueValue r) (at t.tier (get_or cs i d).index) o → next.lost ≡ lesser seen.lost (lost_in o) → next.won ≡ greater seen.won (won_in o) → next.tied ≡ lesser seen.tied (tied_in o)
-      → more ≡ number + cond (is_decided o) 1 0 → IsGathered r entries (take i cs) seen number → IsGathered r entries (take (i + 1) cs) next more
-  gathered_step seen next number more t o held record_is true_here lost won tied count old =
+  pub read_step : (ws new : List ℕ) (w : ℕ) (t : TableData) → Some t ≡ table_of entries (get_or cs i d).tier → record_of_word w ≡ record_at t.records (get_or cs i d).index
+      → IsRecord r REMOTENESS (IsTrueValue r) (at t.tier (get_or cs i d).index) (record_of_word w) → new ≡ ws ++ w ∷ [] → AreRead r entries (take i cs) ws → AreRead r entries (take (i + 1) cs) new
+  read_step ws new w t held record_is true_here is old =
       let c = get_or cs i d in
       let canonical = (near_child r g p.tier p c refl legal listed_child).0 in
-      let (s, some, value, near) = child_some r entries c canonical t (sym held) o record_is true_here in
-      gathered_more r entries cs i d inside seen next number more o s some near (child_value r entries c canonical t (sym held) o record_is true_here) (child_known r entries c canonical t (sym held) o record_is true_here) old lost won tied count
-
--- whether it is counted
-pub counted_in : (o : Option Solved) (b : Bool) (n m : ℕ) → b ≡ is_decided o → b ≡ true → m ≡ n + 1 → m ≡ n + cond (is_decided o) 1 0
-counted_in o b n m e t q = q ∙ ap (λ (x : Bool). n + cond x 1 0) (sym t ∙ e)
-
-pub counted_out : (o : Option Solved) (b : Bool) (n m : ℕ) → b ≡ is_decided o → b ≡ false → m ≡ n → m ≡ n + cond (is_decided o) 1 0
-counted_out o b n m e f q = q ∙ (let z : n ≡ n + 0 = omega arith in z) ∙ ap (λ (x : Bool). n + cond x 1 0) (sym f ∙ e)
+      let (s, some, value, near) = child_some r entries c canonical t (sym held) (record_of_word w) record_is true_here in
+      read_more r entries cs i d inside ws new w s some near (child_value r entries c canonical t (sym held) (record_of_word w) record_is true_here)
+      (child_known r entries c canonical t (sym held) (record_of_word w) record_is true_here) old is
 
 -- those that are no draws are no more than there are
 pub number_few : (r : Rules) (entries : List TableData) (ds : List Position) (seen : Summary) (number : ℕ) → IsGathered r entries ds seen number → number ≤ length ds
@@ -201,15 +232,16 @@ number_few r entries ds seen number h =
     let count = h.decided in
     omega arith
 
-pub taken_few : (r : Rules) (entries : List TableData) (cs : List Position) (i : ℕ) (seen : Summary) (number : ℕ) → length cs ≤ MOVES → IsGathered r entries (take i cs) seen number → number ≤ MOVES
-taken_few r entries cs i seen number few h =
-    let a = number_few r entries (take i cs) seen number h in
-    let b = length-take i cs in
+-- there are as many words as children that were read
+pub words_few : (r : Rules) (entries : List TableData) (cs : List Position) (i : ℕ) (ws : List ℕ) → AreRead r entries (take i cs) ws → length ws ≤ i
+words_few r entries cs i ws h =
+    let many : length ws ≡ length (take i cs) = sym (length-map ws record_of_word) ∙ ap length h.words ∙ length-map (take i cs) (value_in r entries) in
+    let taken = length-take i cs in
     omega arith
 
 -- the whole list is its part up to its length
-pub gathered_all : (r : Rules) (entries : List TableData) (cs : List Position) (i : ℕ) (seen : Summary) (number : ℕ) → length cs ≤ i → IsGathered r entries (take i cs) seen number → IsGathered r entries cs seen number
-gathered_all r entries cs i seen number past h = subst (λ (ds : List Position). IsGathered r entries ds seen number) (take_all i cs past) h
+pub read_all : (r : Rules) (entries : List TableData) (cs : List Position) (i : ℕ) (ws : List ℕ) → length cs ≤ i → AreRead r entries (take i cs) ws → AreRead r entries cs ws
+read_all r entries cs i ws past h = subst (λ (ds : List Position). AreRead r entries ds ws) (take_all i cs past) h
 
 -- a true table has no position that is too far
 table_knows : (r : Rules) → IsGame r → (limit tier : ℕ) (records : List (Option Solved)) → IsTrueTable r limit tier records → (c : Position) → IsCanonical r c → c.tier ≡ tier → (x : Solved) × IsTrueValue r c x × (x.remoteness ≤ limit)

@@ -1,15 +1,14 @@
 -- The canonical children of a position, once each, and what the tables of the child tiers say of them.
-use Rattle.std.specs.Prelude.{◌≡◌, ◌≢◌, ℕ, ◌≤◌, Bool, true, false, List, length, map, Option, None, Some, IfSome, AllPairs, ◌%◌, slice_index_or}
+use Rattle.std.specs.Prelude.{◌≡◌, ◌≢◌, ℕ, ◌≤◌, Bool, true, false, List, length, map, IfSome, AllPairs, ◌%◌, slice_index_or}
 use Rattle.std.specs.List.{Contains, filter}
 use Rattle.gm_game.specs.declared.limits.TheConstants.{REMOTENESS}
 use Rattle.gm_game.specs.declared.position.Position.{Position}
-use Rattle.gm_game.specs.declared.position.Solved.{Solved}
-use Rattle.gm_game.specs.declared.position.Value.TheVariants.{Lose, Draw, Tie, Win}
 use Rattle.gm_game.specs.Rules.{Rules}
 use Rattle.gm_game.specs.Children.{AreResults}
 use Rattle.gm_game.specs.Records.{lost_in, won_in, tied_in, least_of, all_won, IsKnown}
 use Rattle.gm_record.specs.declared.summary.Summary.{Summary}
 use Rattle.gm_table.specs.Tables.{TableData, value_in}
+use Rattle.gm_table.specs.Words.{is_decided}
 
 -- no position twice
 abbrev pub IsOnce : List Position → Type 0
@@ -23,11 +22,6 @@ AreMarked marks ps = (p : Position) → Contains ps p → slice_index_or marks (
 pub record AreOnce (r : Rules) (p : Position) (cs : List Position) : Type 0 where
   pub exact : AreResults r p cs
   pub once : IsOnce cs
-
--- whether a record is there and no draw
-abbrev pub is_decided : Option Solved → Bool
-is_decided None = false
-is_decided (Some s) = elim s.value [ Lose ↦ true | Draw ↦ false | Tie ↦ true | Win ↦ true ]
 
 -- the tables know these positions, this is what they say of them, and so many of them are no draws
 pub record IsGathered (r : Rules) (entries : List TableData) (cs : List Position) (seen : Summary) (number : ℕ) : Type 0 where

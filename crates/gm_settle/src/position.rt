@@ -20,11 +20,13 @@ use gm_game::position::{Kind, Position, Solved, Value};
 use gm_record::summary::Summary;
 use gm_table::tables::Tables;
 
-/// Lists that serve many positions: of one its results, in any order and as often as moves lead to them, and each of them once.
+/// Lists that serve many positions: of one its results, in any order and as often as moves lead to them, each of them once, and the words
+/// of their records.
 #[derive(Drop)]
 pub(crate) struct Lists {
     results: ArrayVec<Position, MOVES>,
     children: ArrayVec<Position, MOVES>,
+    words: ArrayVec<u64, MOVES>,
 }
 
 impl Lists {
@@ -33,6 +35,7 @@ impl Lists {
         Lists {
             results: ArrayVec::new(),
             children: ArrayVec::new(),
+            words: ArrayVec::new(),
         }
     }
 
@@ -41,7 +44,11 @@ impl Lists {
         requires { G.rules.is_legal p ≡ true }
         ensures { AreOnce G.rules p self.new.children.items }
     {
-        let Lists { results, children } = self;
+        let Lists {
+            results,
+            children,
+            words: _,
+        } = self;
         G::fill_results(p, results);
         list_once(results.as_slice(), children);
     }
@@ -84,7 +91,12 @@ fn settle_inner<G: Game>(
     ensures stop { IfErr result (IsStop G.rules p.tier) }
 {
     lists.fill::<G>(p);
-    let (seen, number) = match gather::<G>(tables, p, lists.children.as_slice()) {
+    let Lists {
+        results: _,
+        children,
+        words,
+    } = lists;
+    let (seen, number) = match gather::<G>(tables, p, children.as_slice(), words) {
         Some(found) => found,
         None => return Err(Stop::Stays),
     };

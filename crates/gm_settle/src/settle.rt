@@ -19,10 +19,10 @@ use std::thread::Threads;
 /// tier's true table and the number of deliveries that a solver by levels makes, which is the number of pairs of a canonical child that is no draw and a
 /// canonical legal position of the tier at which the game goes on.
 ///
-/// The tables of the child tiers are given, and the tier has at most `TIER_SIZE` indexes. For one worker or none no thread is started, and for several at most as
-/// many, and as there are processors. `Stays` is the answer only where a move from a canonical legal position of the tier leads to the tier itself, and `TooFar` only where a
-/// canonical legal position has a remoteness one above the limit; where there is such a move or such a position the answer is never `Ok`. The meter is told of
-/// each index once, block by block.
+/// The tables of the child tiers are given, and the tier has at most `TIER_SIZE` indexes. For one worker or none no thread is started, and for several at most
+/// as many, and as there are processors. `Stays` is the answer only where a move from a canonical legal position of the tier leads to the tier itself, and
+/// `TooFar` only where a canonical legal position has a remoteness one above the limit; where there is such a move or such a position the answer is never `Ok`.
+/// The meter is told of each index once, block by block.
 pub fn settle_tier<G: Game + Send + Sync, R: Threads + Sync, M: Meter>(
     rt: &R,
     alloc: Global,

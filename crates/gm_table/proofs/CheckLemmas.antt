@@ -1,7 +1,7 @@
 -- What a checked position's canonical children say, and the records that fit.
-use Rattle.std.proofs.Common.{◌≡◌, ◌≢◌, ◌==◌, ℕ, ◌<◌, ◌≤◌, ◌+◌, true, false, Bool, ne_eqb, eq-eqb, eqb-true, if◌then◌else◌, MatchOption, List, [], ◌∷◌, map, take, length, get_or, refl, sym, ap, ◌∙◌, subst, arith, inl, inr, Option, None, Some}
+use Rattle.std.proofs.Common.{◌≡◌, ◌≢◌, ◌==◌, ℕ, ◌<◌, ◌≤◌, ◌+◌, true, false, Bool, ne_eqb, eq-eqb, eqb-true, if◌then◌else◌, MatchOption, List, [], ◌∷◌, ◌++◌, map, take, length, get_or, refl, sym, ap, ◌∙◌, subst, arith, inl, inr, Option, None, Some}
 use Rattle.std.specs.Option.{is_some}
-use Rattle.std.proofs.lemmas.List.{map_more, take_all}
+use Rattle.std.proofs.lemmas.List.{map-append, map_more, take_all, length-map, length-take}
 use Rattle.std.proofs.lemmas.Bool.{cases_eq}
 use Rattle.std.proofs.lemmas.Option.{same_Some, slice_get-get_or, slice_get_within}
 use Rattle.std.proofs.lemmas.List.Elements.{Contains-get_or}
@@ -11,32 +11,40 @@ use Rattle.gm_game.specs.declared.position.Solved.{Solved}
 use Rattle.gm_game.specs.Rules.{Rules, at, IsCanonical}
 use Rattle.gm_game.specs.Laws.{IsGame}
 use Rattle.gm_game.specs.Children.{AreResults}
-use Rattle.gm_game.specs.Records.{lost_in, won_in, tied_in, lesser, greater, least_of, all_won, settle, settled_by, from_end}
+use Rattle.gm_game.specs.Records.{lost_in, tied_in, least_of, all_won, settle, settled_by, from_end}
 use Rattle.gm_game.proofs.Symmetry.{near_child}
-use Rattle.gm_game.proofs.Folding.{least_push, all_won_push}
 use Rattle.gm_game.proofs.Sets.{settled_by_list}
 use Rattle.gm_table.specs.Tables.{TableData, table_of, record_at, record_of, record_in, value_in, IsAtHand}
+use Rattle.gm_table.specs.Words.{record_of_word}
 use Rattle.gm_table.specs.Checks.{look_up, RecordFits, FitsAt, IsFirstWrong, IsFirstWrongIn, FitBetween}
 
--- one child's record more
-pub least_more : (f : Option Solved → Option ℕ) (look : Position → Option Solved) (cs : List Position) (i : ℕ) (d : Position) → i < length cs → least_of f (map look (take (i + 1) cs)) ≡ lesser (least_of f (map look (take i cs))) (f (look (get_or cs i d)))
-least_more f look cs i d l = ap (least_of f) (map_more look cs i d l) ∙ least_push f (map look (take i cs)) (look (get_or cs i d))
+-- one child's word more
+pub words_more : (look : Position → Option Solved) (cs : List Position) (ws new : List ℕ) (i w : ℕ) (d : Position) → i < length cs → map record_of_word ws ≡ map look (take i cs) → new ≡ ws ++ w ∷ [] → record_of_word w ≡ look (get_or cs i d)
+    → map record_of_word new ≡ map look (take (i + 1) cs)
+words_more look cs ws new i w d l before is e =
+    ap (map record_of_word) is ∙ map-append record_of_word ws (w ∷ []) ∙ ap (λ (os : List (Option Solved)). os ++ record_of_word w ∷ []) before
+    ∙ ap (λ (o : Option Solved). map look (take i cs) ++ o ∷ []) e ∙ sym (map_more look cs i d l)
 
-pub all_won_more : (look : Position → Option Solved) (cs : List Position) (i : ℕ) (d : Position) → i < length cs → all_won (map look (take (i + 1) cs)) ≡ greater (all_won (map look (take i cs))) (won_in (look (get_or cs i d)))
-all_won_more look cs i d l = ap all_won (map_more look cs i d l) ∙ all_won_push (map look (take i cs)) (look (get_or cs i d))
+-- there are as many words as children that were read
+pub words_few : (look : Position → Option Solved) (cs : List Position) (ws : List ℕ) (i : ℕ) → map record_of_word ws ≡ map look (take i cs) → length ws ≤ i
+words_few look cs ws i e =
+    let many : length ws ≡ length (take i cs) = sym (length-map ws record_of_word) ∙ ap length e ∙ length-map (take i cs) look in
+    let taken = length-take i cs in
+    omega arith
 
 -- a canonical child is canonical
 pub child_canonical : (r : Rules) (g : IsGame r) (p : Position) (cs : List Position) (i : ℕ) (d : Position) → r.is_legal p ≡ true → AreResults r p cs → i < length cs → IsCanonical r (get_or cs i d)
 child_canonical r g p cs i d l h n = (near_child r g p.tier p (get_or cs i d) refl l ((h (get_or cs i d)).0 (Contains-get_or cs i d n))).0
 
 -- what the canonical children say is what the rules give
-pub settled_results : (r : Rules) (look : Position → Option Solved) (p : Position) (cs : List Position) (i : ℕ) (lost won tied : Option ℕ) → r.primitive p ≡ None → AreResults r p cs → length cs ≤ i → lost ≡ least_of lost_in (map look (take i cs))
-    → won ≡ all_won (map look (take i cs)) → tied ≡ least_of tied_in (map look (take i cs)) → settle lost won tied ≡ settled_by r look p
-settled_results r look p cs i lost won tied o are past a b c =
-    let all = take_all i cs past in
-    let la : lost ≡ least_of lost_in (map look cs) = a ∙ ap (λ (ds : List Position). least_of lost_in (map look ds)) all in
-    let lb : won ≡ all_won (map look cs) = b ∙ ap (λ (ds : List Position). all_won (map look ds)) all in
-    let lc : tied ≡ least_of tied_in (map look cs) = c ∙ ap (λ (ds : List Position). least_of tied_in (map look ds)) all in
+pub settled_results : (r : Rules) (look : Position → Option Solved) (p : Position) (cs : List Position) (ws : List ℕ) (i : ℕ) (lost won tied : Option ℕ) → r.primitive p ≡ None → AreResults r p cs → length cs ≤ i
+    → map record_of_word ws ≡ map look (take i cs) → lost ≡ least_of lost_in (map record_of_word ws) → won ≡ all_won (map record_of_word ws) → tied ≡ least_of tied_in (map record_of_word ws)
+    → settle lost won tied ≡ settled_by r look p
+settled_results r look p cs ws i lost won tied o are past all a b c =
+    let whole : map record_of_word ws ≡ map look cs = all ∙ ap (map look) (take_all i cs past) in
+    let la : lost ≡ least_of lost_in (map look cs) = a ∙ ap (least_of lost_in) whole in
+    let lb : won ≡ all_won (map look cs) = b ∙ ap all_won whole in
+    let lc : tied ≡ least_of tied_in (map look cs) = c ∙ ap (least_of tied_in) whole in
     let same = settled_by_list r look p cs o are in
     cc
 

@@ -7,3 +7,5 @@ pub mod RunLemmas
 pub mod TableLemmas
 pub mod ValueLemmas
 pub mod PackedLemmas
+pub mod WordLemmas
+pub mod VerdictLemmas

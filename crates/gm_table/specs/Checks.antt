@@ -1,5 +1,5 @@
 -- Records that are checked one by one.
-use Rattle.std.specs.Prelude.{◌≡◌, ℕ, ◌<◌, ◌≤◌, ◌/◌, ◌%◌, List, Option, Some, MatchOption, length, map, slice_get}
+use Rattle.std.specs.Prelude.{◌≡◌, ◌≢◌, ℕ, ◌<◌, ◌≤◌, ◌/◌, ◌%◌, List, Option, Some, MatchOption, length, map, slice_get}
 use Rattle.gm_game.specs.declared.position.Position.{Position}
 use Rattle.gm_game.specs.declared.position.Solved.{Solved}
 use Rattle.gm_game.specs.declared.limits.TheConstants.{REMOTENESS}
@@ -59,6 +59,12 @@ class_of i = i / 8 % 8192
 pub record IsFirstOfClass (r : Rules) (entries : List TableData) (tier : ℕ) (records : List (Option Solved)) (class first : ℕ) : Type 0 where
   pub before : (i : ℕ) → class_of i ≡ class → i < first → FitsAt r entries tier records i
   pub wrong : first < length records → FitsAt r entries tier records first → ⊥
+
+-- these records are not the tier's, for this reason
+abbrev pub AreWrong : Rules → List TableData → ℕ → List (Option Solved) → CheckError → Type 0
+AreWrong r entries tier records OutOfMemory = ⊥
+AreWrong r entries tier records WrongSize = length records ≢ r.tier_size tier
+AreWrong r entries tier records (WrongRecord index) = (length records ≡ r.tier_size tier) × IsFirstWrong r entries tier records index
 
 -- the numbers of the errors
 abbrev pub number_of : CheckError → ℕ

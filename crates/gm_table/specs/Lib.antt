@@ -5,3 +5,4 @@ pub mod Packed
 pub mod Runs
 pub mod Solving
 pub mod Tables
+pub mod Words

@@ -4,12 +4,12 @@ ghost use Rattle.gm_game.specs.Rules.{AreHoles};
 ghost use Rattle.gm_game.specs.declared.limits.TheConstants.{TIER_SIZE};
 ghost use Rattle.gm_table.specs.Checks.{FitsAt, IsFirstWrong, IsFirstWrongIn, IsFirstOfClass};
 
-use crate::checker::fits;
+use crate::fits::{Lists, fits};
+use crate::records::Records;
 use crate::tables::Tables;
-use arrayvec::ArrayVec;
 use gm_game::game::Game;
-use gm_game::limits::{MOVES, TIER_SIZE};
-use gm_game::position::{Position, Solved};
+use gm_game::limits::TIER_SIZE;
+use gm_game::position::Position;
 use rayon::prelude::*;
 use std::thread::Threads;
 
@@ -28,57 +28,52 @@ const ROUND: usize = 65_536;
 
 // Records of a tier that are to be checked, with the tables that they are checked against.
 #[derive(Drop)]
-struct Given<'a, G: Game> {
+struct Given<'a, G: Game, C: Records> {
     tier: u64,
-    records: &'a [Option<Solved>],
+    records: &'a C,
     tables: &'a Tables<G>,
-    ghost small: { length records.now ≤ TIER_SIZE },
+    ghost small: { length (C.listed records.now) ≤ TIER_SIZE },
 }
 
-impl<'a, G: Game> Given<'a, G> {
+impl<'a, G: Game, C: Records> Given<'a, G, C> {
     // The least index from `lo` up to `hi` that has a record, where no index is that of a canonical legal position.
     fn first_filled(&self, lo: usize, hi: usize) -> Option<u64>
-        requires within { hi ≤ length self.now.records.now }
+        requires within { hi ≤ length (C.listed self.now.records.now) }
         requires holes { AreHoles G.rules self.now.tier lo hi }
-        ensures { IsFirstWrongIn G.rules self.now.tables.now self.now.tier self.now.records.now lo hi result }
+        ensures { IsFirstWrongIn G.rules self.now.tables.now self.now.tier (C.listed self.now.records.now) lo hi result }
     {
         for index in lo..hi {
-            if self.records[index].is_some() {
+            if self.records.record(index).is_some() {
                 return Some(index as u64);
             }
         }
         None
     }
 
-    // Whether the record at an index fits. Children are written over what `children` holds.
-    fn fits_at(&self, children: &mut ArrayVec<Position, MOVES>, index: usize) -> bool
-        requires { index < length self.now.records.now }
-        ensures { IsTrue result ↔ FitsAt G.rules self.now.tables.now self.now.tier self.now.records.now index }
+    // Whether the record at an index fits. Results are written over what the lists hold.
+    fn fits_at(&self, lists: &mut Lists, index: usize) -> bool
+        requires { index < length (C.listed self.now.records.now) }
+        ensures { IsTrue result ↔ FitsAt G.rules self.now.tables.now self.now.tier (C.listed self.now.records.now) index }
     {
         let p = Position {
             tier: self.tier,
             index: index as u64,
         };
-        fits::<G>(
+        fits::<G, C>(
             self.tier,
             self.records,
             self.tables,
-            children,
+            lists,
             p,
-            self.records[index],
+            self.records.record(index),
         )
     }
 
-    // The least index from `lo` up to `hi` whose record doesn't fit. Children are written over what `children` holds.
-    fn first_between(
-        &self,
-        children: &mut ArrayVec<Position, MOVES>,
-        lo: usize,
-        hi: usize,
-    ) -> Option<u64>
+    // The least index from `lo` up to `hi` whose record doesn't fit. Results are written over what the lists hold.
+    fn first_between(&self, lists: &mut Lists, lo: usize, hi: usize) -> Option<u64>
         requires order { lo ≤ hi }
-        requires within { hi ≤ length self.now.records.now }
-        ensures { IsFirstWrongIn G.rules self.now.tables.now self.now.tier self.now.records.now lo hi result }
+        requires within { hi ≤ length (C.listed self.now.records.now) }
+        ensures { IsFirstWrongIn G.rules self.now.tables.now self.now.tier (C.listed self.now.records.now) lo hi result }
     {
         let mut next = lo;
         while let Some(canonical) = G::first_canonical(self.tier, next as u64, hi as u64) {
@@ -87,7 +82,7 @@ impl<'a, G: Game> Given<'a, G> {
             if filled.is_some() {
                 return filled;
             }
-            if !self.fits_at(children, index) {
+            if !self.fits_at(lists, index) {
                 return Some(canonical);
             }
             next = index + 1;
@@ -97,15 +92,15 @@ impl<'a, G: Game> Given<'a, G> {
 
     // The least index of a class whose record doesn't fit, or how many records there are.
     fn first_of(&self, class: u32) -> u64
-        ensures { IsFirstOfClass G.rules self.now.tables.now self.now.tier self.now.records.now class result }
+        ensures { IsFirstOfClass G.rules self.now.tables.now self.now.tier (C.listed self.now.records.now) class result }
     {
-        let size = self.records.len();
-        let mut children = ArrayVec::new();
+        let size = self.records.count();
+        let mut lists = Lists::new();
         for round in 0..size.div_ceil(ROUND) {
             let start = round * ROUND + (class as usize % CLASSES) * BLOCK;
             let lo = start.min(size);
             let hi = (start + BLOCK).min(size);
-            if let Some(index) = self.first_between(&mut children, lo, hi) {
+            if let Some(index) = self.first_between(&mut lists, lo, hi) {
                 return index;
             }
         }
@@ -113,18 +108,18 @@ impl<'a, G: Game> Given<'a, G> {
     }
 }
 
-impl<'a, G: Game + Send + Sync> Given<'a, G> {
+impl<'a, G: Game + Send + Sync, C: Records + Sync> Given<'a, G, C> {
     // The least index whose record doesn't fit, or how many records there are.
     fn first_of_all<R: Threads + Sync>(&self, rt: &R) -> Option<u64>
-        ensures { MatchOption result ((i : ℕ) → FitsAt G.rules self.now.tables.now self.now.tier self.now.records.now i)
-            (λ w. (w < length self.now.records.now → IsFirstWrong G.rules self.now.tables.now self.now.tier self.now.records.now w)
-            × (length self.now.records.now ≤ w → (i : ℕ) → FitsAt G.rules self.now.tables.now self.now.tier self.now.records.now i)) }
+        ensures { MatchOption result ((i : ℕ) → FitsAt G.rules self.now.tables.now self.now.tier (C.listed self.now.records.now) i)
+            (λ w. (w < length (C.listed self.now.records.now) → IsFirstWrong G.rules self.now.tables.now self.now.tier (C.listed self.now.records.now) w)
+            × (length (C.listed self.now.records.now) ≤ w → (i : ℕ) → FitsAt G.rules self.now.tables.now self.now.tier (C.listed self.now.records.now) i)) }
     {
         (0..CLASSES as u32)
             .into_par_iter()
             .map(
                 |class: u32| -> u64
-                    ensures { IsFirstOfClass G.rules self.entry.now.tables.now self.entry.now.tier self.entry.now.records.now class result }
+                    ensures { IsFirstOfClass G.rules self.entry.now.tables.now self.entry.now.tier (C.listed self.entry.now.records.now) class result }
                 { self.first_of(class) },
             )
             .min(rt)
@@ -132,36 +127,36 @@ impl<'a, G: Game + Send + Sync> Given<'a, G> {
 }
 
 /// The least index whose record doesn't fit.
-pub(crate) fn first_wrong<G: Game>(
+pub(crate) fn first_wrong<G: Game, C: Records>(
     tier: u64,
-    records: &[Option<Solved>],
+    records: &C,
     tables: &Tables<G>,
 ) -> Option<u64>
-    requires { length records.now ≤ TIER_SIZE }
-    ensures { MatchOption result ((i : ℕ) → FitsAt G.rules tables.now tier records.now i)
-        (IsFirstWrong G.rules tables.now tier records.now) }
+    requires { length (C.listed records.now) ≤ TIER_SIZE }
+    ensures { MatchOption result ((i : ℕ) → FitsAt G.rules tables.now tier (C.listed records.now) i)
+        (IsFirstWrong G.rules tables.now tier (C.listed records.now)) }
 {
     let given = Given {
         tier,
         records,
         tables,
     };
-    given.first_between(&mut ArrayVec::new(), 0, records.len())
+    given.first_between(&mut Lists::new(), 0, records.count())
 }
 
 /// The least index whose record doesn't fit, found by as many threads as there are processors.
-pub(crate) fn first_wrong_by<G: Game + Send + Sync, R: Threads + Sync>(
+pub(crate) fn first_wrong_by<G: Game + Send + Sync, C: Records + Sync, R: Threads + Sync>(
     rt: &R,
     tier: u64,
-    records: &[Option<Solved>],
+    records: &C,
     tables: &Tables<G>,
 ) -> Option<u64>
-    requires { length records.now ≤ TIER_SIZE }
-    ensures { MatchOption result ((i : ℕ) → FitsAt G.rules tables.now tier records.now i)
-        (IsFirstWrong G.rules tables.now tier records.now) }
+    requires { length (C.listed records.now) ≤ TIER_SIZE }
+    ensures { MatchOption result ((i : ℕ) → FitsAt G.rules tables.now tier (C.listed records.now) i)
+        (IsFirstWrong G.rules tables.now tier (C.listed records.now)) }
 {
-    if records.len() <= FEW {
-        return first_wrong::<G>(tier, records, tables);
+    if records.count() <= FEW {
+        return first_wrong::<G, C>(tier, records, tables);
     }
     let given = Given {
         tier,
@@ -169,7 +164,7 @@ pub(crate) fn first_wrong_by<G: Game + Send + Sync, R: Threads + Sync>(
         tables,
     };
     let first = given.first_of_all(rt)?;
-    if first < records.len() as u64 {
+    if first < records.count() as u64 {
         Some(first)
     } else {
         None

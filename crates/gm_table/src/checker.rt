@@ -1,19 +1,17 @@
 //! The checker: how records from anywhere become a table.
-ghost use Rattle.std.specs.Prelude.{◌≡◌, ◌≢◌, ◌↔◌, ◌+◌, ◌≤◌, ℕ, true, length, IsTrue, IfOk, IsErrOf, IsOkUnless, MatchOption, option_copied};
-ghost use Rattle.gm_game.specs.Rules.{IsCanonical, IsInner};
-ghost use Rattle.gm_game.specs.Records.{IsTrueTable, settle};
-ghost use Rattle.gm_table.specs.Tables.{IsTable, AreHeld, record_at, record_of, table_of, IsAtHand};
-ghost use Rattle.gm_table.specs.Checks.{FitTables, look_up, value_from, RecordFits, FitsAt, IsFirstWrong, number_of};
+ghost use Rattle.std.specs.Prelude.{◌≡◌, ◌≢◌, ◌↔◌, ◌≤◌, ℕ, length, None, IfSome, IsOk, IfOk, IfErr, IsErrOf, IsOkUnless, MatchOption};
+ghost use Rattle.gm_game.specs.Records.{IsTrueTable};
+ghost use Rattle.gm_table.specs.Tables.{IsTable, AreHeld};
+ghost use Rattle.gm_table.specs.Checks.{FitTables, FitsAt, IsFirstWrong, AreWrong, number_of};
 
 use crate::blocks::{first_wrong, first_wrong_by};
+use crate::packed::Packed;
+use crate::records::{Listed, Records};
 use crate::table::Table;
 use crate::tables::Tables;
-use arrayvec::ArrayVec;
-use gm_game::evaluate::of_end;
 use gm_game::game::Game;
-use gm_game::limits::{MOVES, REMOTENESS, TIER_SIZE};
-use gm_game::position::{Kind, Position, Solved};
-use gm_record::summary::Summary;
+use gm_game::limits::{REMOTENESS, TIER_SIZE};
+use gm_game::position::Solved;
 use std::alloc::Global;
 use std::thread::Threads;
 use thiserror::Error;
@@ -71,12 +69,8 @@ pub fn check<G: Game>(
     ensures wrong_record { (i : ℕ) → IsErrOf result (CheckError.WrongRecord i)
         ↔ ((length records.now ≡ G.rules.tier_size tier) × IsFirstWrong G.rules tables.now tier records.now i) }
 {
-    let first = if records.len() as u64 == G::tier_size(tier) {
-        first_wrong::<G>(tier, records, tables)
-    } else {
-        None
-    };
-    table_unless(alloc, tier, records, tables, first)
+    let fault = fault(tier, &Listed { records }, tables);
+    table_unless(alloc, tier, records, tables, fault)
 }
 
 /// As `check`, by as many threads as there are processors.
@@ -104,26 +98,43 @@ pub fn check_by<G: Game + Send + Sync, R: Threads + Sync>(
     ensures wrong_record { (i : ℕ) → IsErrOf result (CheckError.WrongRecord i)
         ↔ ((length records.now ≡ G.rules.tier_size tier) × IsFirstWrong G.rules tables.now tier records.now i) }
 {
-    let first = if records.len() as u64 == G::tier_size(tier) {
-        first_wrong_by(rt, tier, records, tables)
-    } else {
-        None
-    };
-    table_unless(alloc, tier, records, tables, first)
+    let fault = fault_by(rt, tier, &Listed { records }, tables);
+    table_unless(alloc, tier, records, tables, fault)
 }
 
-// The table of these records, where their number is right and this is the first wrong one among them.
+/// As `check_by`, of records that are packed already, which become the table's. It takes no memory: `OutOfMemory` never comes.
+pub fn check_packed_by<G: Game + Send + Sync, R: Threads + Sync>(
+    rt: &R,
+    tier: u64,
+    records: Packed,
+    tables: &Tables<G>,
+) -> Result<Table<G>, CheckError>
+    requires children { AreHeld G.rules tables.now tier }
+    requires is_small { G.rules.tier_size tier ≤ TIER_SIZE }
+    ensures tier { IfOk result (λ t. t.tier ≡ tier) }
+    ensures records { IfOk result (λ t. t.records ≡ records) }
+    ensures table { IfOk result (IsTable G.rules) }
+    ensures are_true { IsOk result ↔ IsTrueTable G.rules REMOTENESS tier records }
+    ensures wrong { IfErr result (AreWrong G.rules tables.now tier records) }
+{
+    match fault_by(rt, tier, &records, tables) {
+        Some(why) => Err(why),
+        None => Ok(Table::from_packed(tier, records)),
+    }
+}
+
+// The table of these records, or the reason for which they aren't those of the tier.
 fn table_unless<G: Game>(
     alloc: Global,
     tier: u64,
     records: &[Option<Solved>],
     tables: &Tables<G>,
-    first: Option<u64>,
+    fault: Option<CheckError>,
 ) -> Result<Table<G>, CheckError>
     requires children { AreHeld G.rules tables.now tier }
     requires is_small { G.rules.tier_size tier ≤ TIER_SIZE }
-    requires first { length records.now ≡ G.rules.tier_size tier
-        → MatchOption first ((i : ℕ) → FitsAt G.rules tables.now tier records.now i) (IsFirstWrong G.rules tables.now tier records.now) }
+    requires none { fault ≡ None ↔ IsTrueTable G.rules REMOTENESS tier records.now }
+    requires wrong { IfSome fault (AreWrong G.rules tables.now tier records.now) }
 
     // The table has the given records.
     ensures tier { IfOk result (λ t. t.tier ≡ tier) }
@@ -140,11 +151,8 @@ fn table_unless<G: Game>(
         ↔ ((length records.now ≡ G.rules.tier_size tier) × IsFirstWrong G.rules tables.now tier records.now i) }
 {
     tables.truth();
-    if records.len() as u64 != G::tier_size(tier) {
-        return Err(CheckError::WrongSize);
-    }
-    if let Some(index) = first {
-        return Err(CheckError::WrongRecord { index });
+    if let Some(why) = fault {
+        return Err(why);
     }
     match Table::from_true(alloc, tier, records) {
         Ok(table) => Ok(table),
@@ -152,111 +160,60 @@ fn table_unless<G: Game>(
     }
 }
 
-/// Whether this record of a position fits. The position's children are written over what `children` holds.
-pub(crate) fn fits<G: Game>(
+// Why records aren't those of a tier, if they aren't.
+fn fault<G: Game, C: Records>(tier: u64, records: &C, tables: &Tables<G>) -> Option<CheckError>
+    requires children { AreHeld G.rules tables.now tier }
+    requires is_small { G.rules.tier_size tier ≤ TIER_SIZE }
+    ensures none { result ≡ None ↔ IsTrueTable G.rules REMOTENESS tier (C.listed records.now) }
+    ensures wrong { IfSome result (AreWrong G.rules tables.now tier (C.listed records.now)) }
+{
+    let first = if records.count() as u64 == G::tier_size(tier) {
+        first_wrong::<G, C>(tier, records, tables)
+    } else {
+        None
+    };
+    fault_of(tier, records, tables, first)
+}
+
+// As `fault`, by as many threads as there are processors.
+fn fault_by<G: Game + Send + Sync, C: Records + Sync, R: Threads + Sync>(
+    rt: &R,
     tier: u64,
-    records: &[Option<Solved>],
+    records: &C,
     tables: &Tables<G>,
-    children: &mut ArrayVec<Position, MOVES>,
-    p: Position,
-    known: Option<Solved>,
-) -> bool
-    ensures { IsTrue result ↔ RecordFits G.rules tables.now tier records.now p known }
+) -> Option<CheckError>
+    requires children { AreHeld G.rules tables.now tier }
+    requires is_small { G.rules.tier_size tier ≤ TIER_SIZE }
+    ensures none { result ≡ None ↔ IsTrueTable G.rules REMOTENESS tier (C.listed records.now) }
+    ensures wrong { IfSome result (AreWrong G.rules tables.now tier (C.listed records.now)) }
 {
-    match (G::kind(p), known) {
-        (Kind::Hole, None) => true,
-        (Kind::Hole, Some(_)) | (_, None) => false,
-        (Kind::Ended(end), Some(solved)) => solved == of_end(end),
-        (Kind::Inner, Some(solved)) => {
-            solved.remoteness <= REMOTENESS
-                && follows::<G>(tier, records, tables, children, p, solved)
-        }
-    }
+    let first = if records.count() as u64 == G::tier_size(tier) {
+        first_wrong_by::<G, C, R>(rt, tier, records, tables)
+    } else {
+        None
+    };
+    fault_of(tier, records, tables, first)
 }
 
-// Whether a value is the one that follows, by the rules, for a position in which the game goes on.
-fn follows<G: Game>(
+// Why records aren't those of a tier, where this is the first wrong one if there are as many as the tier has indexes.
+fn fault_of<G: Game, C: Records>(
     tier: u64,
-    records: &[Option<Solved>],
+    records: &C,
     tables: &Tables<G>,
-    children: &mut ArrayVec<Position, MOVES>,
-    p: Position,
-    solved: Solved,
-) -> bool
-    requires { IsInner G.rules p }
-    ensures { IsTrue result ↔ (solved ≡ value_from G.rules tables.now tier records.now p) }
+    first: Option<u64>,
+) -> Option<CheckError>
+    requires children { AreHeld G.rules tables.now tier }
+    requires first { length (C.listed records.now) ≡ G.rules.tier_size tier
+        → MatchOption first ((i : ℕ) → FitsAt G.rules tables.now tier (C.listed records.now) i) (IsFirstWrong G.rules tables.now tier (C.listed records.now)) }
+    ensures none { result ≡ None ↔ IsTrueTable G.rules REMOTENESS tier (C.listed records.now) }
+    ensures wrong { IfSome result (AreWrong G.rules tables.now tier (C.listed records.now)) }
 {
-    gather::<G>(tier, records, tables, children, p).settles(solved)
-}
-
-// What the canonical children of a position say.
-fn gather<G: Game>(
-    tier: u64,
-    records: &[Option<Solved>],
-    tables: &Tables<G>,
-    children: &mut ArrayVec<Position, MOVES>,
-    p: Position,
-) -> Summary
-    requires { IsInner G.rules p }
-    ensures { settle result.lost result.won result.tied ≡ value_from G.rules tables.now tier records.now p }
-{
-    G::fill_results(p, children);
-    let mut seen = Summary::of_none();
-    let mut at_hand = None;
-    for c in children.as_slice() {
-        let (known, table) = look_up::<G>(tier, records, tables, at_hand, *c);
-        seen = seen.with(known);
-        at_hand = table;
+    tables.truth();
+    if records.count() as u64 != G::tier_size(tier) {
+        return Some(CheckError::WrongSize);
     }
-    seen
-}
-
-// The record of a canonical position: a given one in the tier, and elsewhere that of a table. The table that was read last is at hand for the next position:
-// children ascend, so a table serves many of them.
-fn look_up<'a, G: Game>(
-    tier: u64,
-    records: &[Option<Solved>],
-    tables: &'a Tables<G>,
-    at_hand: Option<&'a Table<G>>,
-    c: Position,
-) -> (Option<Solved>, Option<&'a Table<G>>)
-    requires canonical { IsCanonical G.rules c }
-    requires at_hand { IsAtHand tables.now (option_copied at_hand) }
-    ensures record { result.0 ≡ look_up G.rules tables.now tier records.now c }
-    ensures at_hand { IsAtHand tables.now (option_copied result.1) }
-{
-    if c.tier == tier {
-        return (own_record(records, c.index), at_hand);
-    }
-    let table = table_for(tables, at_hand, c.tier);
-    (record_of(table, c.index), table)
-}
-
-// The record at an index; `None` past the end.
-fn own_record(records: &[Option<Solved>], index: u64) -> Option<Solved>
-    ensures { result ≡ record_at records.now index }
-{
-    *records.get(index as usize)?
-}
-
-// The record at an index of a table, where there is one.
-fn record_of<G: Game>(table: Option<&Table<G>>, index: u64) -> Option<Solved>
-    ensures { result ≡ record_of (option_copied table.entry) index }
-{
-    table?.at(index)
-}
-
-// The table of a tier: the one at hand, where it is that tier's.
-fn table_for<'a, G: Game>(
-    tables: &'a Tables<G>,
-    at_hand: Option<&'a Table<G>>,
-    tier: u64,
-) -> Option<&'a Table<G>>
-    requires { IsAtHand tables.now (option_copied at_hand) }
-    ensures { option_copied result ≡ table_of tables.now tier }
-{
-    match at_hand {
-        Some(table) if table.tier() == tier => Some(table),
-        _ => tables.table(tier),
+    match first {
+        Some(index) => Some(CheckError::WrongRecord { index }),
+        None => None,
     }
 }

@@ -5,13 +5,15 @@ ghost use Rattle.gm_record.specs.declared.version.Version.TheVariants.{Two};
 ghost use Rattle.gm_record.specs.Numbers.{code, record_number};
 ghost use Rattle.gm_table.specs.Packed.{code_of, unpacked, IsNear, AreNear};
 ghost use Rattle.gm_table.specs.Tables.{record_at};
+ghost use Rattle.gm_table.specs.Words.{record_of_word};
 
+use crate::words::word_with;
 use gm_game::position::{Solved, Value};
 use std::alloc::{AllocError, Global};
 use std::marker::Model;
 
 /// One more than the greatest remoteness: a record's number is the code of its value times this, plus its remoteness.
-const STEP: u32 = 1_048_576;
+pub(crate) const STEP: u32 = 1_048_576;
 
 /// Records of four bytes each. Contracts see the records.
 #[derive(Drop)]
@@ -86,6 +88,17 @@ impl Packed {
         Ok(Packed { numbers })
     }
 
+    /// The records in a list, of 12 bytes each.
+    pub fn to_vec(&self, alloc: Global) -> Result<Vec<Option<Solved>>, AllocError>
+        ensures { IfOk result (λ v. v.items ≡ self.now) }
+    {
+        let mut records = Vec::with_capacity(alloc, self.len())?;
+        for index in 0..self.len() {
+            records.push(self.get(index))?;
+        }
+        Ok(records)
+    }
+
     /// How many records there are.
     pub fn len(&self) -> usize
         ensures { result ≡ length self.now }
@@ -99,10 +112,20 @@ impl Packed {
     {
         unpacked(*self.numbers.get(index)?)
     }
+
+    /// The word of the record at an index; 0 past the end.
+    pub(crate) fn word(&self, index: usize) -> u64
+        ensures { record_of_word result ≡ record_at self.now index }
+    {
+        match self.numbers.get(index) {
+            Some(number) => word_with(*number),
+            None => 0,
+        }
+    }
 }
 
-// The code of a value.
-fn code_of(value: Value) -> u32
+/// The code of a value.
+pub(crate) fn code_of(value: Value) -> u32
     ensures value { result ≡ code_of value }
     ensures stored { result ≡ code value }
     ensures few { result ≤ 4 }

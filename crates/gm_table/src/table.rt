@@ -4,6 +4,7 @@ ghost use Rattle.gm_game.specs.Rules.{at};
 ghost use Rattle.gm_game.specs.Values.{IsTrueValue};
 ghost use Rattle.gm_game.specs.Records.{IsTrueTable, IsRecord};
 ghost use Rattle.gm_table.specs.Levels.{IsGreatest};
+ghost use Rattle.gm_table.specs.Words.{record_of_word};
 
 use crate::levels::greatest_in;
 use crate::packed::Packed;
@@ -99,6 +100,15 @@ impl<G: Game> Table<G> {
         ensures table { IsTable G.rules self.now }
     {
         self.records.get(index as usize)
+    }
+
+    /// The word of the record at an index, which tells it without a branch; 0 where there is none.
+    pub fn word(&self, index: u64) -> u64
+        ensures value { record_of_word result ≡ record_at self.now.records index }
+        ensures is_true { IsRecord G.rules REMOTENESS (IsTrueValue G.rules) (at self.now.tier index) (record_of_word result) }
+        ensures table { IsTable G.rules self.now }
+    {
+        self.records.word(index as usize)
     }
 
     /// The greatest remoteness among wins and losses, or among ties; `None` where there is none.

@@ -43,11 +43,11 @@ only_memory v r named tier records bytes is BadDigest h = absurd (h.3 (parts_of_
 only_memory v r named tier records bytes is OldVersion h = absurd (not_old v (take 8 bytes) (parts_of_text v r named tier records bytes is).header.0.0.0.1 h.1)
 
 -- where the bytes are the text of some records, these are the answer, or there is no memory
-pub exact_answer : (v : Version) (r : Rules) → length r.name ≡ NAME → (tier : ℕ) (bytes : List ℕ) (result : Result (Vec (Option Solved) Global) FileError)
-    → IfOk result (λ x. IsVersionText v r tier x.items bytes) → IfErr result (RefusesIn v r tier bytes) → (records : List (Option Solved)) → IsVersionText v r tier records bytes
-    → MatchResult result (λ x. x.items ≡ records) (λ e. e ≡ OutOfMemory)
-exact_answer v r named tier bytes (Ok x) found refused records is = same_text v r named tier x.items records bytes found is
-exact_answer v r named tier bytes (Err e) found refused records is = only_memory v r named tier records bytes is e refused
+pub exact_answer : {X : Type 0} (listed : X → List (Option Solved)) (v : Version) (r : Rules) → length r.name ≡ NAME → (tier : ℕ) (bytes : List ℕ) (result : Result X FileError)
+    → IfOk result (λ x. IsVersionText v r tier (listed x) bytes) → IfErr result (RefusesIn v r tier bytes) → (records : List (Option Solved)) → IsVersionText v r tier records bytes
+    → MatchResult result (λ x. listed x ≡ records) (λ e. e ≡ OutOfMemory)
+exact_answer listed v r named tier bytes (Ok x) found refused records is = same_text v r named tier (listed x) records bytes found is
+exact_answer listed v r named tier bytes (Err e) found refused records is = only_memory v r named tier records bytes is e refused
 
 -- a text of version 1 is refused as that
 old_version : (r : Rules) → length r.name ≡ NAME → (tier : ℕ) (records : List (Option Solved)) (bytes : List ℕ) → IsVersionText One r tier records bytes → (e : FileError) → RefusesIn Two r tier bytes e → e ≡ OldVersion
@@ -68,12 +68,12 @@ old_version r named tier records bytes is e h =
       | OldVersion ↦ λ k. refl
     ] h
 
-pub old_answer : (r : Rules) → length r.name ≡ NAME → (tier : ℕ) (bytes : List ℕ) (result : Result (Vec (Option Solved) Global) FileError)
-    → IfOk result (λ x. IsVersionText Two r tier x.items bytes) → IfErr result (RefusesIn Two r tier bytes) → (records : List (Option Solved)) → IsVersionText One r tier records bytes
+pub old_answer : {X : Type 0} (listed : X → List (Option Solved)) (r : Rules) → length r.name ≡ NAME → (tier : ℕ) (bytes : List ℕ) (result : Result X FileError)
+    → IfOk result (λ x. IsVersionText Two r tier (listed x) bytes) → IfErr result (RefusesIn Two r tier bytes) → (records : List (Option Solved)) → IsVersionText One r tier records bytes
     → IsErrOf result OldVersion
-old_answer r named tier bytes (Ok x) found refused records is =
-    absurd (not_old Two (take 8 bytes) (parts_of_text Two r named tier x.items bytes found).header.0.0.0.1 (parts_of_text One r named tier records bytes is).header.0.0.0.1)
-old_answer r named tier bytes (Err e) found refused records is = ap (λ x. Err x) (old_version r named tier records bytes is e refused)
+old_answer listed r named tier bytes (Ok x) found refused records is =
+    absurd (not_old Two (take 8 bytes) (parts_of_text Two r named tier (listed x) bytes found).header.0.0.0.1 (parts_of_text One r named tier records bytes is).header.0.0.0.1)
+old_answer listed r named tier bytes (Err e) found refused records is = ap (λ x. Err x) (old_version r named tier records bytes is e refused)
 
 -- why the records are refused is why the bytes are
 pub refused_records : (v : Version) (r : Rules) (tier : ℕ) (bytes : List ℕ) → HasHeader v r tier bytes → length bytes ≡ file_len v (r.tier_size tier) → HasRecords v (r.tier_size tier) (records_part v (r.tier_size tier) bytes)

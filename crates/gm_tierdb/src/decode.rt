@@ -1,5 +1,5 @@
 //! Reading the file of a tier.
-ghost use Rattle.std.specs.Prelude.{◌≡◌, ◌+◌, ◌*◌, ◌^◌, ◌<◌, ◌≤◌, IfOk, OnOk, IfErr, IsErrOf, IfSome, IfNone, length, Option, List, MatchResult};
+ghost use Rattle.std.specs.Prelude.{◌≡◌, ◌+◌, ◌*◌, ◌^◌, ◌<◌, ◌≤◌, [], IfOk, OnOk, IfErr, IsErrOf, IfSome, IfNone, length, Option, List, MatchResult};
 ghost use Rattle.std.specs.Int.{to_le_bytes, w64};
 ghost use Rattle.gm_game.specs.declared.position.Solved.{Solved};
 ghost use Rattle.gm_record.specs.Numbers.{word, width};
@@ -13,12 +13,24 @@ use gm_game::game::Game;
 use gm_game::position::Solved;
 use gm_record::number::record_of;
 use gm_record::version::Version;
+use gm_table::packed::Packed;
 use sha2::{Digest, Sha256};
 use std::alloc::Global;
 
-/// The records of a tier, from its file: docs/FORMATS.md, "Tier file". Any bytes may be given; memory is asked for last.
+/// The records of a tier, from its file: docs/FORMATS.md, "Tier file". Any bytes may be given; memory is asked for last. The records take four bytes each.
 ///
-/// Only `check` of gm_table tells whether the records are the true ones. A file of version 1 is refused as `OldVersion`; `decode_v1` reads it.
+/// Only the checker of gm_table tells whether the records are the true ones. A file of version 1 is refused as `OldVersion`; `decode_v1` reads it.
+pub fn decode_packed<G: Game>(alloc: Global, tier: u64, bytes: &[u8]) -> Result<Packed, FileError>
+    ensures found { IfOk result (λ records. IsTierText G.rules tier records bytes.now) }
+    ensures exact { (records : List (Option Solved)) → IsTierText G.rules tier records bytes.now
+        → MatchResult result (λ found. found ≡ records) (λ e. e ≡ FileError.OutOfMemory) }
+    ensures old { (records : List (Option Solved)) → IsTierText1 G.rules tier records bytes.now → IsErrOf result FileError.OldVersion }
+    ensures refused { IfErr result (Refuses G.rules tier bytes.now) }
+{
+    read_file::<G>(alloc, Version::Two, tier, bytes)
+}
+
+/// As `decode_packed`, in a list.
 pub fn decode<G: Game>(
     alloc: Global,
     tier: u64,
@@ -30,7 +42,7 @@ pub fn decode<G: Game>(
     ensures old { (records : List (Option Solved)) → IsTierText1 G.rules tier records bytes.now → IsErrOf result FileError.OldVersion }
     ensures refused { IfErr result (Refuses G.rules tier bytes.now) }
 {
-    read_file::<G>(alloc, Version::Two, tier, bytes)
+    read_list::<G>(alloc, Version::Two, tier, bytes)
 }
 
 /// The records of a tier, from its file of version 1: docs/FORMATS.md, "Version 1". It answers as `decode` does, but never `OldVersion`.
@@ -44,7 +56,27 @@ pub fn decode_v1<G: Game>(
         → MatchResult result (λ v. v.items ≡ records) (λ e. e ≡ FileError.OutOfMemory) }
     ensures refused { IfErr result (Refuses1 G.rules tier bytes.now) }
 {
-    read_file::<G>(alloc, Version::One, tier, bytes)
+    read_list::<G>(alloc, Version::One, tier, bytes)
+}
+
+// The records in a list, or why the bytes are refused.
+fn read_list<G: Game>(
+    alloc: Global,
+    version: Version,
+    tier: u64,
+    bytes: &[u8],
+) -> Result<Vec<Option<Solved>>, FileError>
+    ensures found { IfOk result (λ v. IsVersionText version G.rules tier v.items bytes.now) }
+    ensures refused { IfErr result (RefusesIn version G.rules tier bytes.now) }
+{
+    let records = match read_file::<G>(alloc, version, tier, bytes) {
+        Ok(records) => records,
+        Err(why) => return Err(why),
+    };
+    match records.to_vec(alloc) {
+        Ok(list) => Ok(list),
+        Err(_) => Err(FileError::OutOfMemory),
+    }
 }
 
 // The records, or why the bytes are refused.
@@ -53,8 +85,8 @@ fn read_file<G: Game>(
     version: Version,
     tier: u64,
     bytes: &[u8],
-) -> Result<Vec<Option<Solved>>, FileError>
-    ensures found { IfOk result (λ v. IsVersionText version G.rules tier v.items bytes.now) }
+) -> Result<Packed, FileError>
+    ensures found { IfOk result (λ records. IsVersionText version G.rules tier records bytes.now) }
     ensures refused { IfErr result (RefusesIn version G.rules tier bytes.now) }
 {
     let size = G::tier_size(tier);
@@ -143,12 +175,12 @@ fn read_records(
     version: Version,
     bytes: &[u8],
     size: usize,
-) -> Result<Vec<Option<Solved>>, FileError>
+) -> Result<Packed, FileError>
     requires { length bytes.now ≡ width version * size }
-    ensures found { IfOk result (λ v. AreRecords version size v.items bytes.now) }
+    ensures found { IfOk result (λ records. AreRecords version size records bytes.now) }
     ensures refused { IfErr result (RefusesRecords version size bytes.now) }
 {
-    let mut records = Vec::new(alloc);
+    let mut records = with_room(alloc, size)?;
     let mut rest = bytes;
     for index in 0..size {
         let (record, more) = rest.split_at(version.record_len());
@@ -165,6 +197,17 @@ fn read_records(
         }
     }
     Ok(records)
+}
+
+// No record, with room for so many.
+fn with_room(alloc: Global, size: usize) -> Result<Packed, FileError>
+    ensures ok { IfOk result (λ records. records ≡ []) }
+    ensures err { IfErr result (λ e. e ≡ FileError.OutOfMemory) }
+{
+    match Packed::with_capacity(alloc, size) {
+        Ok(records) => Ok(records),
+        Err(_) => Err(FileError::OutOfMemory),
+    }
 }
 
 // The number that eight bytes stand for.

@@ -1,26 +1,26 @@
-use Rattle.std.proofs.Common.{◌≡◌, ℕ, Option, IfNone, sym, subst, arith}
+use Rattle.std.proofs.Common.{◌≡◌, ℕ, Option, IfNone, take, sym, subst, arith}
 use Rattle.gm_game.specs.declared.position.Position.{Position}
 use Rattle.gm_record.specs.declared.summary.Summary.{Summary}
 use Rattle.gm_game.specs.Rules.{at, IsCanonicalChild}
-use Rattle.gm_settle.proofs.Values.{gathered_step, listed_child, own_tier, taken_few, counted_in, counted_out, at_hand_some}
+use Rattle.gm_settle.proofs.Values.{AreRead, read_none, read_step, read_all, gathered_read, listed_child, own_tier, words_few, at_hand_some}
 use Rattle.gm_settle.proofs.gather.gather.Goals as goal
-use Rattle.gm_settle.proofs.gather.gather.Goals.{then-is_decided, else-is_decided}
 
-pub overflow_add-number : goal.overflow_add-number
-overflow_add-number g c =
-    let few = taken_few g.G.Game.rules c.args.tables.now c.args.children.now c.loop-c.c-index c.loop-c.seen c.loop-c.number c.requires.few c.loop-c.invariant.gathered in
+pub push-requires : goal.push-requires
+push-requires g c =
+    let few = words_few g.G.Game.rules c.args.tables.now c.args.children.now c.loop-c.c-index c.loop-c.words.items c.loop-c.invariant.read in
+    let more = c.loop-c-test.true in
+    let room = c.requires.few in
     omega arith
+
+pub loop-c-init : goal.loop-c-init
+loop-c-init g c = record { read = read_none g.G.Game.rules c.args.tables.now c.args.children.now _ c.clear.ensures; at_hand = λ t e. absurd (cc) }
 
 pub loop-c-preserved : goal.loop-c-preserved
 loop-c-preserved g c =
     let held = c.in_ok-table.ensures in
-    let step = gathered_step g.G.Game.rules g.met.G.Game.lawful c.args.tables.now c.args.p c.args.children.now c.loop-c.c-index (at 0 0) c.requires.legal c.requires.all c.loop-c-test.true c.loop-c.seen c.with-seen.result c.loop-c.number c.if-is_decided.number
-    c.in_ok-table.table.now c.at-known.result held c.at-known.ensures.value c.at-known.ensures.is_true c.with-seen.ensures.lost c.with-seen.ensures.won c.with-seen.ensures.tied in
     record {
-      gathered = elim c.if-is_decided.branch [
-        | then-is_decided w ↦ step (counted_in c.at-known.result c.is_decided.result c.loop-c.number c.if-is_decided.number c.is_decided.ensures w.if-is_decided.true w.number-is) c.loop-c.invariant.gathered
-        | else-is_decided w ↦ step (counted_out c.at-known.result c.is_decided.result c.loop-c.number c.if-is_decided.number c.is_decided.ensures w.if-is_decided.false w.number-is) c.loop-c.invariant.gathered
-      ];
+      read = read_step g.G.Game.rules g.met.G.Game.lawful c.args.tables.now c.args.p c.args.children.now c.loop-c.c-index (at 0 0) c.requires.legal c.requires.all c.loop-c-test.true c.loop-c.words.items _ c.word.result
+          c.in_ok-table.table.now held c.word.ensures.value c.word.ensures.is_true c.push.ensures.items c.loop-c.invariant.read;
       at_hand = at_hand_some c.args.tables.now _ c.in_ok-table.table.now held;
     }
 
@@ -33,3 +33,10 @@ returns-in_err-table-clause-stays g c =
     let child = listed_child g.G.Game.rules g.met.G.Game.lawful c.args.tables.now c.args.p c.args.children.now c.loop-c.c-index (at 0 0) c.requires.legal c.requires.all c.loop-c-test.true in
     subst (λ (o : Option (Summary × ℕ)). IfNone o ((d : Position) × IsCanonicalChild g.G.Game.rules c.args.p d × (d.tier ≡ c.args.p.tier))) (sym c.from_residual.ensures)
     (_, child, own_tier g.G.Game.rules g.met.G.Game.lawful c.args.tables.now c.args.p _ c.requires.legal c.requires.held child (sym c.in_err-table.ensures))
+
+pub returns-clause-gathered : goal.returns-clause-gathered
+returns-clause-gathered g c =
+    let read = read_all g.G.Game.rules c.args.tables.now c.args.children.now c.loop-c.c-index _ c.loop-c-test.false
+    (subst (AreRead g.G.Game.rules c.args.tables.now (take c.loop-c.c-index c.args.children.now)) (sym c.as_slice.ensures.value) c.loop-c.invariant.read) in
+    let sum = c.sum_of.ensures in
+    gathered_read g.G.Game.rules c.args.tables.now c.args.children.now c.as_slice.result.now c.sum_of.result.0 c.sum_of.result.1 read sum.lost sum.won sum.tied sum.decided

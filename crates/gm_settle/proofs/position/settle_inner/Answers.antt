@@ -2,7 +2,8 @@ use Rattle.std.proofs.Common.{◌≡◌, ℕ, ◌≤◌, ◌+◌, sym, subst, ar
 use Rattle.gm_game.specs.Numbers.{AreThere}
 use Rattle.gm_game.specs.Values.{IsTrueValue}
 use Rattle.gm_table.specs.Tables.{value_in}
-use Rattle.gm_settle.specs.Gathered.{is_decided, AreOnce}
+use Rattle.gm_table.specs.Words.{is_decided}
+use Rattle.gm_settle.specs.Gathered.{AreOnce}
 use Rattle.gm_settle.specs.Passes.{IsDeliveryIn}
 use Rattle.gm_settle.proofs.Deliveries.{deliveries_inner}
 use Rattle.gm_settle.proofs.Values.{value_true, decides, too_far, number_few}

@@ -69,7 +69,7 @@ returns-clause-found g c =
     (c.as_slice.ensures ∙ c.digest.ensures) c.ne.ensures c.if-ne.false in
     let part : c.split_at-2.result.1.now ≡ records_part v size bytes =
     c.split_at-2.ensures.back ∙ ap (drop 40) (c.split_at.ensures.front ∙ ap (λ (n : ℕ). take (40 + n) bytes) c.in-Some.ensures.some.0) in
-    IfOk-weaker c.read_records.result _ _ (λ x h. found_text v g.G.Game.rules c.args.tier bytes size c.split_at-2.result.1.now c.tier_size-size.ensures part c.in_ok-check_header.ensures.ok digest x.items h) c.read_records.ensures.found
+    IfOk-weaker c.read_records.result _ _ (λ x h. found_text v g.G.Game.rules c.args.tier bytes size c.split_at-2.result.1.now c.tier_size-size.ensures part c.in_ok-check_header.ensures.ok digest x h) c.read_records.ensures.found
 
 pub returns-clause-refused : goal.returns-clause-refused
 returns-clause-refused g c =

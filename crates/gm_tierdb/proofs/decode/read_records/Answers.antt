@@ -8,11 +8,11 @@ use Rattle.gm_tierdb.proofs.RecordLemmas.{all_read, grown, none_read, one_less, 
 use Rattle.gm_tierdb.proofs.decode.read_records.Goals as goal
 
 pub loop-index-init : goal.loop-index-init
-loop-index-init c = none_read c.args.version c.args.bytes.now c.new-records.result.items c.args.size c.new-records.ensures.items c.requires
+loop-index-init c = none_read c.args.version c.args.bytes.now c.in_ok-records.records c.args.size c.in_ok-records.ensures.ok c.requires
 
 pub returns-clause-found : goal.returns-clause-found
 returns-clause-found c =
-    all_read c.args.version c.args.bytes.now c.loop-index.rest.now c.loop-index.records.items c.loop-index.index c.args.size c.loop-index.invariant c.loop-index.auto.index-end c.loop-index-test.false
+    all_read c.args.version c.args.bytes.now c.loop-index.rest.now c.loop-index.records c.loop-index.index c.args.size c.loop-index.invariant c.loop-index.auto.index-end c.loop-index-test.false
 
 pub split_at-requires : goal.split_at-requires
 split_at-requires c =
@@ -28,7 +28,7 @@ returns-in-None-clause-refused c =
     let (are, fit, len, left) = c.loop-index.invariant in
     let first : take (width v) c.loop-index.rest.now ≡ c.split_at.result.0.now = ap (λ n. take n c.loop-index.rest.now) (sym c.record_len.ensures.value) ∙ sym c.split_at.ensures.front in
     record {
-      front = c.loop-index.records.items;
+      front = c.loop-index.records;
       rest = c.loop-index.rest.now;
       storable = fit;
       count = len;
@@ -41,14 +41,14 @@ pub loop-index-preserved : goal.loop-index-preserved
 loop-index-preserved c =
     let v = c.args.version in
     let (are, fit, len, left) = c.loop-index.invariant in
-    let front = c.loop-index.records.items in
+    let front = c.loop-index.records in
     let found = c.in-Some.found in
     let rest = c.loop-index.rest.now in
     let one = c.split_at.result.0.now in
     let more = c.split_at.result.1.now in
     let split : rest ≡ one ++ more = c.split_at.ensures.by_index.0 in
     let (storable, number) = c.in-Some.ensures.some in
-    let items : c.push.new.self.items ≡ front ++ found ∷ [] = c.in-Ok.ensures.items in
+    let items : c.push.new.self ≡ front ++ found ∷ [] = c.in-Ok.ensures.ok in
     rw items (
       grown v c.args.bytes.now rest one more front found are split (ap (to_le_bytes (word v)) number ∙ c.number_at.ensures.bytes),
       All-push (IsStorable v) front found fit storable,

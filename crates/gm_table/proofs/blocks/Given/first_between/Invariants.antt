@@ -1,4 +1,4 @@
-use Rattle.std.proofs.Common.{ℕ, ◌≤◌, ◌-◌}
+use Rattle.std.proofs.Common.{◌≤◌, ◌-◌}
 use Rattle.gm_table.specs.Checks.{FitBetween}
 use Rattle.gm_table.proofs.blocks.Given.first_between.Given as goal
 
@@ -6,7 +6,7 @@ abbrev pub invariant-loop-canonical : goal.invariant-loop-canonical
 invariant-loop-canonical g l = record {
   low : l.fn.lo ≤ l.next;
   high : l.next ≤ l.hi;
-  fit : FitBetween g.G.Game.rules l.self.tables.now l.self.tier l.self.records.now l.fn.lo l.next;
+  fit : FitBetween g.G.Game.rules l.self.tables.now l.self.tier (g.C.Records.listed l.self.records.now) l.fn.lo l.next;
 }
 
 abbrev pub decreases-loop-canonical : goal.decreases-loop-canonical

@@ -1,0 +1,15 @@
+use Rattle.std.proofs.Common.{◌≡◌, map, take, option_copied}
+use Rattle.gm_game.specs.Children.{AreResults}
+use Rattle.gm_table.specs.Checks.{look_up}
+use Rattle.gm_table.specs.Tables.{IsAtHand}
+use Rattle.gm_table.specs.Words.{record_of_word}
+use Rattle.gm_table.proofs.fits.gather.Given as goal
+
+abbrev pub invariant-loop-c : goal.invariant-loop-c
+invariant-loop-c g l =
+    let look = look_up g.G.Game.rules l.tables l.tier (g.C.Records.listed l.records) in
+    record {
+      words_so_far : map record_of_word l.words.items ≡ map look (take l.c-index l.c-items);
+      all_children : AreResults g.G.Game.rules l.fn.p l.c-items;
+      at_hand : IsAtHand l.tables (option_copied l.at_hand);
+    }

@@ -1,0 +1,142 @@
+//! Whether one record follows from the records of its position's canonical children.
+ghost use Rattle.std.specs.Prelude.{◌≡◌, ◌↔◌, IsTrue, option_copied};
+ghost use Rattle.gm_game.specs.Rules.{IsCanonical, IsInner};
+ghost use Rattle.gm_game.specs.Records.{settle};
+ghost use Rattle.gm_table.specs.Tables.{record_of, table_of, IsAtHand};
+ghost use Rattle.gm_table.specs.Words.{record_of_word};
+ghost use Rattle.gm_table.specs.Checks.{look_up, value_from, RecordFits};
+
+use crate::records::Records;
+use crate::table::Table;
+use crate::tables::Tables;
+use crate::words::sum_of;
+use arrayvec::ArrayVec;
+use gm_game::evaluate::of_end;
+use gm_game::game::Game;
+use gm_game::limits::{MOVES, REMOTENESS};
+use gm_game::position::{Kind, Position, Solved};
+use gm_record::summary::Summary;
+
+/// Lists that serve many positions: of one its results, and the words of their records.
+#[derive(Drop)]
+pub(crate) struct Lists {
+    results: ArrayVec<Position, MOVES>,
+    words: ArrayVec<u64, MOVES>,
+}
+
+impl Lists {
+    /// Empty lists.
+    pub(crate) fn new() -> Self {
+        Lists {
+            results: ArrayVec::new(),
+            words: ArrayVec::new(),
+        }
+    }
+}
+
+/// Whether this record of a position fits. The position's results are written over what the lists hold.
+pub(crate) fn fits<G: Game, C: Records>(
+    tier: u64,
+    records: &C,
+    tables: &Tables<G>,
+    lists: &mut Lists,
+    p: Position,
+    known: Option<Solved>,
+) -> bool
+    ensures { IsTrue result ↔ RecordFits G.rules tables.now tier (C.listed records.now) p known }
+{
+    match (G::kind(p), known) {
+        (Kind::Hole, None) => true,
+        (Kind::Hole, Some(_)) | (_, None) => false,
+        (Kind::Ended(end), Some(solved)) => solved == of_end(end),
+        (Kind::Inner, Some(solved)) => {
+            solved.remoteness <= REMOTENESS
+                && follows::<G, C>(tier, records, tables, lists, p, solved)
+        }
+    }
+}
+
+// Whether a value is the one that follows, by the rules, for a position in which the game goes on.
+fn follows<G: Game, C: Records>(
+    tier: u64,
+    records: &C,
+    tables: &Tables<G>,
+    lists: &mut Lists,
+    p: Position,
+    solved: Solved,
+) -> bool
+    requires { IsInner G.rules p }
+    ensures { IsTrue result ↔ (solved ≡ value_from G.rules tables.now tier (C.listed records.now) p) }
+{
+    gather::<G, C>(tier, records, tables, lists, p).settles(solved)
+}
+
+// What the canonical children of a position say: their words first, and then what the words say, so that no record is waited for before the next is asked for.
+fn gather<G: Game, C: Records>(
+    tier: u64,
+    records: &C,
+    tables: &Tables<G>,
+    lists: &mut Lists,
+    p: Position,
+) -> Summary
+    requires { IsInner G.rules p }
+    ensures { settle result.lost result.won result.tied ≡ value_from G.rules tables.now tier (C.listed records.now) p }
+{
+    let Lists { results, words } = lists;
+    G::fill_results(p, results);
+    words.clear();
+    let mut at_hand = None;
+    for c in results.as_slice() {
+        let (word, table) = look_up::<G, C>(tier, records, tables, at_hand, *c);
+        words.push(word);
+        at_hand = table;
+    }
+    let (summary, _decided) = sum_of(words.as_slice());
+    summary
+}
+
+// The word of a canonical position's record: a given one in the tier, and elsewhere that of a table. The table that was read last is at hand for the next
+// position: results of one tier mostly come together.
+fn look_up<'a, G: Game, C: Records>(
+    tier: u64,
+    records: &C,
+    tables: &'a Tables<G>,
+    at_hand: Option<&'a Table<G>>,
+    c: Position,
+) -> (u64, Option<&'a Table<G>>)
+    requires canonical { IsCanonical G.rules c }
+    requires at_hand { IsAtHand tables.now (option_copied at_hand) }
+    ensures record { record_of_word result.0 ≡ look_up G.rules tables.now tier (C.listed records.now) c }
+    ensures at_hand { IsAtHand tables.now (option_copied result.1) }
+{
+    if c.tier == tier {
+        return (records.word(c.index as usize), at_hand);
+    }
+    let table = table_for(tables, at_hand, c.tier);
+    (word_in(table, c.index), table)
+}
+
+// The word of the record at an index of a table; 0 where there is no table.
+fn word_in<G: Game>(table: Option<&Table<G>>, index: u64) -> u64
+    ensures { record_of_word result ≡ record_of (option_copied table.entry) index }
+{
+    match table {
+        Some(table) => table.word(index),
+        None => 0,
+    }
+}
+
+// The table of a tier: the one at hand, where it is that tier's.
+fn table_for<'a, G: Game>(
+    tables: &'a Tables<G>,
+    at_hand: Option<&'a Table<G>>,
+    tier: u64,
+) -> Option<&'a Table<G>>
+    requires { IsAtHand tables.now (option_copied at_hand) }
+    ensures { option_copied result ≡ table_of tables.now tier }
+{
+    match at_hand {
+        Some(table) if table.tier() == tier => Some(table),
+        _ => tables.table(tier),
+    }
+}

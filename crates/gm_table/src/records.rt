@@ -1,0 +1,65 @@
+//! Records of a tier by index, in a list or packed.
+ghost use Rattle.std.specs.Prelude.{◌≡◌, List, Option, length};
+ghost use Rattle.gm_game.specs.declared.position.Solved.{Solved as SolvedSpec};
+ghost use Rattle.gm_table.specs.Tables.{record_at};
+ghost use Rattle.gm_table.specs.Words.{record_of_word};
+
+use crate::packed::Packed;
+use crate::words::word_of;
+use gm_game::position::Solved;
+
+/// Records of a tier by index.
+pub(crate) trait Records {
+    /// The records.
+    ghost listed: { Self → List (Option SolvedSpec) };
+
+    /// How many there are.
+    fn count(&self) -> usize
+        ensures { result ≡ length (listed self.now) };
+
+    /// The record at an index; `None` past the end.
+    fn record(&self, index: usize) -> Option<Solved>
+        ensures { result ≡ record_at (listed self.now) index };
+
+    /// The word of the record at an index; 0 past the end.
+    fn word(&self, index: usize) -> u64
+        ensures { record_of_word result ≡ record_at (listed self.now) index };
+}
+
+impl Records for Packed {
+    ghost listed = { λ p. p };
+
+    fn count(&self) -> usize {
+        self.len()
+    }
+
+    fn record(&self, index: usize) -> Option<Solved> {
+        self.get(index)
+    }
+
+    fn word(&self, index: usize) -> u64 {
+        Packed::word(self, index)
+    }
+}
+
+/// Records in a list.
+#[derive(Clone, Copy)]
+pub(crate) struct Listed<'a> {
+    pub(crate) records: &'a [Option<Solved>],
+}
+
+impl<'a> Records for Listed<'a> {
+    ghost listed = { λ s. s.records.now };
+
+    fn count(&self) -> usize {
+        self.records.len()
+    }
+
+    fn record(&self, index: usize) -> Option<Solved> {
+        *self.records.get(index)?
+    }
+
+    fn word(&self, index: usize) -> u64 {
+        word_of(self.record(index))
+    }
+}
