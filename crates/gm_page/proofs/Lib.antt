@@ -1,5 +1,10 @@
-pub mod Closing
-pub mod Places
 pub mod Growing
 pub mod Reaching
+pub mod Closing
 pub mod Scripting
+pub mod Places
+pub mod Rowing
+pub mod Quoting
+pub mod ReadingBack
+pub mod ReadingRows
+pub mod Paging

@@ -5,7 +5,10 @@ use Rattle.std.proofs.lemmas.Bool.{cases_Bool, cond-true, cond-false, and_from}
 use Rattle.std.proofs.lemmas.Grind.{flat_map-append}
 use Rattle.std.proofs.lemmas.List.{append_assoc, append-nil, take_more, take_all}
 use Rattle.std.proofs.lemmas.List.Folds.{list_all-append}
-use Rattle.gm_page.specs.Scripts.{opens_none, script_byte, script_text}
+use Rattle.serde_json.specs.Data.{Data}
+use Rattle.gm_json.specs.Words.{line_of}
+use Rattle.gm_page.specs.Pages.{script_lines}
+use Rattle.gm_page.specs.Scripts.{opens_none, script_byte, script_line, script_text}
 
 byte_opens_none : (b : ℕ) → list_all opens_none (script_byte b) ≡ true
 byte_opens_none b = elim (cases_Bool (eqb b 60)) [
@@ -35,3 +38,11 @@ script_next xs i base cur new l e n =
 pub script_all : (xs : List ℕ) (i : ℕ) (base cur : List ℕ) → length xs ≤ i → cur ≡ base ++ flat_map script_byte (take i xs) → cur ≡ base ++ script_text xs
 unfolding script_text
 script_all xs i base cur l e = e ∙ ap (λ (t : List ℕ). base ++ flat_map script_byte t) (take_all i xs l)
+
+-- no byte of some lines does
+pub lines_open_none : (head : Data) (rows : List Data) → list_all opens_none (script_lines head rows) ≡ true
+lines_open_none head rows = list_all-append opens_none (script_line head) (flat_map script_line rows) ∙ and_from _ _ (text_opens_none (line_of head)) (each_opens_none rows)
+  where
+    each_opens_none : (ds : List Data) → list_all opens_none (flat_map script_line ds) ≡ true
+    each_opens_none [] = refl
+    each_opens_none (d ∷ ds) = list_all-append opens_none (script_line d) (flat_map script_line ds) ∙ and_from _ _ (text_opens_none (line_of d)) (each_opens_none ds)

@@ -1,2 +1,5 @@
 pub mod Listings
 pub mod Scripts
+pub mod Heads
+pub mod Rows
+pub mod Pages

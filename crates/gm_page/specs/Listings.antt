@@ -89,3 +89,9 @@ abbrev pub MayRefuseAt : Rules → List TableData → Position → PlayError →
 MayRefuseAt r entries p OutOfMemory = Unit {0}
 MayRefuseAt r entries p Illegal = ⊥
 MayRefuseAt r entries p NotHeld = AreNotHeld r entries p
+
+-- why what is told of these positions may be refused
+abbrev pub MayRefuseAny : Rules → List TableData → List Position → PlayError → Type 0
+MayRefuseAny r entries all OutOfMemory = Unit {0}
+MayRefuseAny r entries all Illegal = ⊥
+MayRefuseAny r entries all NotHeld = (p : Position) × Contains all p × AreNotHeld r entries p

@@ -3,5 +3,11 @@
 //! `specs/` has the definitions that contracts cite, and `proofs/` what follows from them.
 #![tactic(auto)]
 
+pub mod back;
+pub mod front;
+mod head;
 pub mod listing;
+pub mod page;
+mod rows;
 pub mod script;
+mod words;

@@ -1,0 +1,16 @@
+use Rattle.std.proofs.Common.{length, map}
+use Rattle.std.specs.List.{All}
+use Rattle.serde_json.specs.View.{view}
+use Rattle.gm_play.specs.PlayTexts.{IsMoveOf}
+use Rattle.gm_page.specs.Rows.{group_tree}
+use Rattle.gm_page.proofs.Rowing.{IsGrouped}
+use Rattle.gm_page.proofs.rows.push_groups.Given as goal
+
+abbrev pub invariant-loop-x : goal.invariant-loop-x
+invariant-loop-x g l = record {
+  each : All (IsMoveOf g.G.Game.rules l.p) l.rest;
+  grouped : IsGrouped (group_tree g.G.Shown.shown g.G.Shown.move_shown l.list l.p) l.moves l.rest (map view l.initial.cells.items) (map view l.cells.items);
+}
+
+abbrev pub decreases-loop-x : goal.decreases-loop-x
+decreases-loop-x g l = length l.rest

@@ -1,0 +1,64 @@
+-- The first line of a page: what it tells of the game.
+use Rattle.std.specs.Prelude.{ℕ, Bool, true, false, List, [], ◌∷◌, ◌==◌, map, codes}
+use Rattle.std.specs.List.{before_first}
+use Rattle.serde_json.specs.Data.{Data, boolean, string, array, object, member, no_members}
+use Rattle.serde_json.specs.View.{items_of}
+use Rattle.gm_game.specs.Rules.{Rules}
+use Rattle.gm_json.specs.Words.{text}
+use Rattle.gm_draw.specs.declared.pictured.Style.{Style}
+use Rattle.gm_draw.specs.declared.pictured.Style.TheVariants.{Row, Crosses, Counters, Stones, Discs, Letters}
+
+-- the bytes of a position's text that are men
+abbrev pub men_of : Style → List ℕ
+men_of Row = []
+men_of Crosses = codes "xo"
+men_of Counters = codes "x"
+men_of Stones = codes "xo"
+men_of Discs = codes "xo"
+men_of Letters = codes "dh"
+
+-- what the side that begins is called, and the other one
+abbrev pub first_side : Style → List ℕ
+first_side Row = codes "First"
+first_side Crosses = codes "X"
+first_side Counters = codes "First"
+first_side Stones = codes "Black"
+first_side Discs = codes "Black"
+first_side Letters = codes "Hounds"
+
+abbrev pub second_side : Style → List ℕ
+second_side Row = codes "Second"
+second_side Crosses = codes "O"
+second_side Counters = codes "Second"
+second_side Stones = codes "White"
+second_side Discs = codes "White"
+second_side Letters = codes "Hare"
+
+-- whether the first of the men is always the side to move's, so that the sides change after each move
+abbrev pub swaps : Style → Bool
+swaps Row = false
+swaps Crosses = true
+swaps Counters = false
+swaps Stones = true
+swaps Discs = true
+swaps Letters = false
+
+abbrev pub sides_tree : Style → Data
+sides_tree style = array (items_of (string (first_side style) ∷ string (second_side style) ∷ []))
+
+-- the name of the game: the bytes before the first zero
+abbrev pub name_text : List ℕ → List ℕ
+name_text bs = before_first (λ b. b == 0) bs
+
+-- the board, the names of the points and what else a page shows, and whether it has every position that play reaches; the members in alphabetical order
+abbrev pub head_tree : List ℕ → Style → List ℕ → List ℕ → List (List ℕ) → List ℕ → Bool → Data
+head_tree name style title board points naming whole =
+    object (member (codes "board") (text board)
+    (member (codes "game") (text (name_text name))
+    (member (codes "men") (string (men_of style))
+    (member (codes "naming") (text naming)
+    (member (codes "points") (array (items_of (map text points)))
+    (member (codes "sides") (sides_tree style)
+    (member (codes "swap") (boolean (swaps style))
+    (member (codes "title") (text title)
+    (member (codes "whole") (boolean whole) no_members)))))))))

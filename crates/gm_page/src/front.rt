@@ -1,0 +1,209 @@
+//! The first part of a page: its head, its style, and its parts, up to the lines of its data.
+
+/// What stands before the lines of a page's data: one document of HTML up to the beginning of its data element. It names no other file and no address.
+pub const FRONT: &[u8] = br##"<!doctype html>
+<html lang="en">
+<head>
+<meta charset="utf-8">
+<meta name="viewport" content="width=device-width, initial-scale=1">
+<meta http-equiv="Content-Security-Policy"
+  content="default-src 'none'; style-src 'unsafe-inline'; script-src 'unsafe-inline'; img-src data:; base-uri 'none'; form-action 'none'">
+<link rel="icon" href="data:,">
+<title>gamesman</title>
+<style>
+/* ---- colours: by day, by night, on paper */
+:root {
+  color-scheme: light dark;
+  --back: #faf8f4; --card: #fff; --ink: #1d1b18; --soft: #625c52; --rule: #cfc7b8; --hot: #1d4fa8;
+  --board: #efe8da; --lines: #82776a; --black: #24211e; --white: #fffdf8; --edge: #24211e;
+  --win: #0b664c; --lose: #ad2f1a; --tie: #755700; --draw: #4a5568;
+}
+@media (prefers-color-scheme: dark) {
+  :root {
+    --back: #161513; --card: #211f1c; --ink: #eeeae2; --soft: #aea79b; --rule: #4c4740; --hot: #8db8ff;
+    --board: #2d2a26; --lines: #968c7d; --black: #14130f; --white: #f3eee3; --edge: #f3eee3;
+    --win: #62d3ab; --lose: #ff9f8a; --tie: #e5c35c; --draw: #b6c2d6;
+  }
+}
+@media print {
+  :root {
+    color-scheme: light;
+    --back: #fff; --card: #fff; --ink: #000; --soft: #333; --rule: #999; --hot: #000;
+    --board: #fff; --lines: #666; --black: #000; --white: #fff; --edge: #000;
+    --win: #000; --lose: #000; --tie: #000; --draw: #000;
+  }
+}
+.win { --shade: var(--win); }
+.lose { --shade: var(--lose); }
+.tie { --shade: var(--tie); }
+.draw { --shade: var(--draw); }
+
+/* ---- the page and its words */
+* { box-sizing: border-box; }
+body { margin: 0; padding: 1rem; background: var(--back); color: var(--ink); font: 1rem/1.4 system-ui, sans-serif; }
+header, main, footer { max-width: 78rem; margin: 0 auto 1rem; }
+main { display: grid; gap: 1rem; grid-template-columns: 7fr 5fr 6fr; align-items: start; }
+section { min-width: 0; padding: .9rem; background: var(--card); border: 1px solid var(--rule); border-radius: .6rem; }
+h1 { margin: 0; font: 600 1.7rem/1.2 Georgia, serif; color: var(--ink); }
+h2 { margin: 0; font-size: .8rem; letter-spacing: .08em; text-transform: uppercase; color: var(--soft); }
+p { margin: .2rem 0; }
+header, footer, #text { font-size: .9rem; color: var(--soft); }
+ul, ol { list-style: none; margin: 0; padding: 0; }
+a, code { font: .9em ui-monospace, monospace; overflow-wrap: anywhere; }
+a { color: var(--hot); }
+code { color: var(--ink); background: var(--board); }
+pre { overflow-x: auto; }
+dt { font-weight: 600; color: var(--ink); }
+dd { margin: 0 0 .4rem; }
+summary { cursor: pointer; padding: .3rem 0; }
+button {
+  min-height: 2.25rem; padding: .1rem .7rem; font: inherit; color: inherit; background: none;
+  border: 1px solid var(--rule); border-radius: .4rem; cursor: pointer;
+}
+button:hover { border-color: var(--hot); }
+button:disabled { opacity: .5; border-style: dashed; cursor: default; }
+:focus-visible { outline: 3px solid var(--hot); outline-offset: 1px; }
+.bar { display: flex; flex-wrap: wrap; gap: .4rem; margin-top: .5rem; }
+.top { justify-content: space-between; align-items: center; margin: -.4rem 0 .6rem; }
+.tall { max-height: 32rem; overflow-y: auto; margin: 0 -.3rem -.3rem; padding: 0 .3rem .3rem; }
+
+/* ---- the state and the moves */
+.value {
+  padding: 0 .5rem; border: 2px solid var(--shade); border-radius: 1rem;
+  color: var(--shade); font-size: .85rem; font-weight: 600; white-space: nowrap;
+}
+.value.win, .value.lose { background: var(--shade); color: var(--card); }
+#state {
+  display: flex; flex-wrap: wrap; align-items: center; gap: .2rem .6rem; min-height: 2rem; margin: 0;
+  font-size: 1.15rem; font-weight: 600;
+}
+#moves li { display: grid; grid-template-columns: 6.4rem 1fr; margin-top: .5rem; }
+#moves .value { place-self: start; margin-top: .4rem; }
+#moves .bar { margin: 0; }
+#moves .bar:only-child { grid-column: span 2; }
+#moves button { min-width: 2.75rem; font-weight: 600; }
+#moves .far { border-style: dotted; font-weight: 400; }
+#moves .far::after { content: " \2197"; color: var(--soft); }
+
+/* ---- the line, with the plot of its values beside it, a row of 28 pixels for each position */
+.history { display: grid; grid-template-columns: auto minmax(0, 1fr); column-gap: .3rem; margin-top: .4rem; }
+#sides { grid-column: 2; display: flex; justify-content: space-between; font-size: .75rem; white-space: nowrap; color: var(--soft); }
+#line li { height: 28px; }
+#line button {
+  display: flex; gap: .4rem; align-items: center; width: 100%; height: 26px; min-height: 0; padding: 0 .4rem;
+  border-color: transparent; font-size: .9rem; white-space: nowrap;
+}
+#line i { min-width: 1.3em; text-align: right; font-style: normal; }
+#line i, #line span { color: var(--soft); font-size: .8rem; }
+#line span { margin-left: auto; }
+#line .later { font-style: italic; color: var(--soft); }
+#line [aria-current] { background: var(--board); border-color: var(--lines); }
+#plot { overflow: visible; }
+#plot path { fill: none; stroke: var(--lines); stroke-width: 1.5; }
+#plot .rule { stroke: var(--rule); }
+#plot .later { stroke-dasharray: 3 3; }
+#plot .spot { fill: var(--card); stroke: var(--ink); stroke-width: 1.5; }
+#plot .spot.now { fill: var(--ink); }
+
+/* ---- the board */
+svg { display: block; width: 100%; user-select: none; font-family: system-ui, sans-serif; }
+svg text { text-anchor: middle; dominant-baseline: central; }
+.swatch { width: 1.1em; flex: none; }
+#board { max-height: 60vh; margin-top: .5rem; background: var(--board); border-radius: .4rem; }
+.net { fill: none; stroke: var(--lines); stroke-width: 2.5; stroke-linecap: round; }
+.name { font-size: 13px; fill: var(--soft); }
+.cell { fill: var(--card); stroke: var(--lines); }
+.point { fill: var(--board); stroke: var(--lines); stroke-width: 2; }
+.man { stroke: var(--edge); stroke-width: 2; }
+.plain { fill: var(--lines); }
+.black { fill: var(--black); }
+.white { fill: var(--white); }
+.stroke { fill: none; stroke: var(--ink); stroke-width: 6; stroke-linecap: round; }
+.swatch .stroke { stroke-width: 4; }
+.ring { fill: none; stroke: var(--black); stroke-width: 1.5; }
+.here { fill: none; stroke: var(--ink); stroke-width: 3; }
+.letter { font-weight: 700; fill: var(--white); }
+.white + .letter { fill: var(--black); }
+.hit { fill: transparent; stroke-width: 3; }
+.live { cursor: pointer; }
+.live:focus { outline: none; }
+.live:hover .hit, .live:focus-visible .hit, .picked .hit { stroke: var(--hot); }
+.picked .hit { stroke-width: 5; }
+.badge rect { fill: var(--card); stroke: var(--shade); stroke-width: 2; }
+.badge text { fill: var(--shade); font-weight: 700; }
+.badge.win rect, .badge.lose rect { fill: var(--shade); }
+.badge.win text, .badge.lose text { fill: var(--card); }
+.mark { fill: none; stroke: var(--hot); stroke-width: 4; stroke-linecap: round; stroke-dasharray: 1 8; }
+.hint { stroke-width: 9; stroke-dasharray: none; opacity: .55; }
+
+/* ---- narrow windows, and paper */
+@media (max-width: 62rem) {
+  main { grid-template-columns: 6fr 5fr; }
+  #here { grid-row: span 2; }
+}
+@media (max-width: 42rem) {
+  body { padding: .6rem; }
+  main { grid-template-columns: minmax(0, 1fr); }
+  #here { grid-row: auto; }
+  .tall { max-height: none; }
+}
+@media print {
+  * { print-color-adjust: exact; }
+  .bar:not(#moves .bar, .top), .top button, footer, #say { display: none; }
+  main { grid-template-columns: 1fr 1fr; }
+  section { border: 0; padding: 0; }
+  .tall { max-height: none; overflow: visible; }
+  #moves button { min-height: 0; }
+}
+</style>
+</head>
+<body>
+<header><h1 id="title">gamesman</h1><p id="about"></p></header>
+<noscript><p>The board is drawn by a script, and scripts are switched off here. The data stand in the source of this page.</p></noscript>
+<main>
+<section id="here" aria-label="Position">
+<p id="state" role="status"></p>
+<svg id="board" role="group" aria-label="Board"></svg>
+<div class="bar" role="group" aria-label="Line">
+<button id="first" aria-label="To the start">&#8676;</button>
+<button id="back" aria-label="Back">&#8592;</button>
+<button id="next" aria-label="Forward">&#8594;</button>
+<button id="end" aria-label="To the end of the line">&#8677;</button>
+<button id="best">Best move</button>
+<button id="lead">Best line</button>
+</div>
+<p id="say" role="status"></p>
+<p id="text"></p>
+</section>
+<section aria-labelledby="count">
+<div class="bar top"><h2 id="count">Moves</h2><button id="hide">Hide values</button></div>
+<div class="tall"><ul id="moves"></ul></div>
+</section>
+<section aria-labelledby="history">
+<h2 id="history">Line and value history</h2>
+<div class="tall"><div class="history"><p id="sides" aria-hidden="true"></p><ol id="line"></ol><svg id="plot" aria-hidden="true"></svg></div></div>
+</section>
+</main>
+<footer><details><summary>How to read this page</summary>
+<dl>
+<dt>win in 5, lose in 4, tie in 9, draw</dt>
+<dd>What a position is worth to the side to move, and a move to the side that makes it: with best play of both sides the game
+ends so after that many moves. A draw never ends. On the board: W5, L4, T9, D.</dd>
+<dt>To play</dt>
+<dd>Choose a move in the list. Or on the board: a cell; a piece and its target; the two ends of what is taken (for one
+counter, twice the same). With a mouse dragging does as well. A move with an arrow leads out of this page; larger pages are made with
+<code>--limit</code>.</dd>
+<dt>Keys</dt>
+<dd>Left and right go through the line, Home and End to its ends, up and down through a list. Within the page's parts b plays
+the best move, l shows the best line, v hides and shows the values. Escape lets go of a piece.</dd>
+<dt>Value history</dt>
+<dd>Each position of the line: on the side of the player who wins, nearer to the edge the fewer moves are left; a square in
+the middle where nobody wins.</dd>
+<dt>Links</dt>
+<dd>The address names the line. With a position's text after # it leads to that position; with ? before the text the values are hidden.</dd>
+</dl>
+<pre id="naming"></pre>
+<p>The values are those of gamesman's tables, which are proved. The script that shows them is not.</p>
+</details></footer>
+<script type="application/x-ndjson" id="data">
+"##;

@@ -1,0 +1,175 @@
+//! The rows of a page: each tells of one position.
+ghost use Rattle.std.specs.Prelude.{◌≡◌, ◌≤◌, ◌++◌, [], true, List, length, map, take, slice_get, IfOk, OnOk, IfErr, IfSome};
+ghost use Rattle.std.specs.List.{All, flat_map};
+ghost use Rattle.serde_json.specs.Data.{Data};
+ghost use Rattle.serde_json.specs.View.{view};
+ghost use Rattle.gm_play.specs.declared.move_values.MoveValue.{MoveValue};
+ghost use Rattle.gm_play.specs.PlayTexts.{IsMoveOf};
+ghost use Rattle.gm_page.specs.Listings.{MayRefuseAt, MayRefuseAny};
+ghost use Rattle.gm_page.specs.Rows.{Group, AreGroups, AreRows, IsRow, move_cells, group_tree, row_tree};
+ghost use Rattle.gm_page.specs.Scripts.{script_line};
+
+use crate::listing::Listing;
+use crate::words::{push_script_line, text_value};
+use gm_best::play_error::PlayError;
+use gm_game::position::{Position, Solved};
+use gm_game::shown::Shown;
+use gm_game::text::value_text;
+use gm_play::by_text::known_value;
+use gm_play::move_values::{MoveValue, move_values};
+use gm_table::tables::Tables;
+use serde_json::{Value as Json, push};
+use std::alloc::{AllocError, Global};
+
+/// Appends the rows of the listed positions, in their order.
+pub(crate) fn push_rows<G: Shown>(
+    alloc: Global,
+    tables: &Tables<G>,
+    list: &Listing,
+    page: &mut Vec<u8>,
+) -> Result<(), PlayError>
+    requires { All (λ p. G.Game.rules.is_legal p ≡ true) list.now }
+    ensures rows { OnOk result ((rows : List Data) × AreRows G.Game.rules G.shown G.move_shown list.now list.now rows × (page.new.items ≡ page.old.items ++ flat_map script_line rows)) }
+    ensures refused { IfErr result (MayRefuseAny G.Game.rules tables.now list.now) }
+{
+    for p in list.positions() {
+        push_row(alloc, tables, list, *p, page)?;
+    }
+    Ok(())
+}
+
+// Appends the row of a legal position.
+fn push_row<G: Shown>(
+    alloc: Global,
+    tables: &Tables<G>,
+    list: &Listing,
+    p: Position,
+    page: &mut Vec<u8>,
+) -> Result<(), PlayError>
+    requires { G.Game.rules.is_legal p ≡ true }
+    ensures row { OnOk result ((tree : Data) × IsRow G.Game.rules G.shown G.move_shown list.now p tree × (page.new.items ≡ page.old.items ++ script_line tree)) }
+    ensures refused { IfErr result (MayRefuseAt G.Game.rules tables.now p) }
+{
+    let value = known_value(tables, p)?;
+    let moves = match move_values(tables, p) {
+        Ok(moves) => moves,
+        Err(_) => return Err(PlayError::NotHeld),
+    };
+    match push_known::<G>(alloc, list, p, value, moves.as_slice(), page) {
+        Ok(()) => Ok(()),
+        Err(_) => Err(PlayError::OutOfMemory),
+    }
+}
+
+// Appends the row of a legal position of this value, with these moves.
+fn push_known<G: Shown>(
+    alloc: Global,
+    list: &Listing,
+    p: Position,
+    value: Solved,
+    moves: &[MoveValue],
+    page: &mut Vec<u8>,
+) -> Result<(), AllocError>
+    requires legal { G.Game.rules.is_legal p ≡ true }
+    requires each { All (IsMoveOf G.Game.rules p) moves.now }
+    ensures { OnOk result ((groups : List Group) × AreGroups moves.now groups × (page.new.items ≡ page.old.items ++ script_line (row_tree G.shown G.move_shown list.now p value groups))) }
+{
+    let tree = row_value::<G>(alloc, list, p, value, moves)?;
+    push_script_line(alloc, page, tree)
+}
+
+fn row_value<G: Shown>(
+    alloc: Global,
+    list: &Listing,
+    p: Position,
+    value: Solved,
+    moves: &[MoveValue],
+) -> Result<Json, AllocError>
+    requires legal { G.Game.rules.is_legal p ≡ true }
+    requires each { All (IsMoveOf G.Game.rules p) moves.now }
+    ensures { IfOk result (λ v. (groups : List Group) × AreGroups moves.now groups × (view v ≡ row_tree G.shown G.move_shown list.now p value groups)) }
+{
+    let mut cells = Vec::new(alloc);
+    push(&mut cells, text_value(alloc, G::show(p).as_slice())?)?;
+    push(&mut cells, text_value(alloc, value_text(value).as_slice())?)?;
+    push_groups::<G>(alloc, list, p, moves, &mut cells)?;
+    Ok(Json::Array(cells))
+}
+
+// Appends the moves in groups.
+fn push_groups<G: Shown>(
+    alloc: Global,
+    list: &Listing,
+    p: Position,
+    moves: &[MoveValue],
+    cells: &mut Vec<Json>,
+) -> Result<(), AllocError>
+    requires legal { G.Game.rules.is_legal p ≡ true }
+    requires each { All (IsMoveOf G.Game.rules p) moves.now }
+    ensures { OnOk result ((groups : List Group) × AreGroups moves.now groups
+        × (map view cells.new.items ≡ map view cells.old.items ++ map (group_tree G.shown G.move_shown list.now p) groups)) }
+{
+    let mut rest = moves;
+    while let Some(x) = rest.first() {
+        let worth = x.worth;
+        let (run, others) = rest.split_at(run_length(rest, worth));
+        push(cells, group_value::<G>(alloc, list, p, worth, run)?)?;
+        rest = others;
+    }
+    Ok(())
+}
+
+// How many of the first moves are worth this.
+fn run_length(moves: &[MoveValue], worth: Solved) -> usize
+    ensures within { result ≤ length moves.now }
+    ensures same { All (λ (x : MoveValue). x.worth ≡ worth) (take result moves.now) }
+    ensures ends { IfSome (slice_get moves.now result) (λ (x : MoveValue). x.worth ≡ worth → ⊥) }
+{
+    let mut count = 0;
+    while count < moves.len() && moves[count].worth == worth {
+        count += 1;
+    }
+    count
+}
+
+// A group of moves that are worth this.
+fn group_value<G: Shown>(
+    alloc: Global,
+    list: &Listing,
+    p: Position,
+    worth: Solved,
+    run: &[MoveValue],
+) -> Result<Json, AllocError>
+    requires legal { G.Game.rules.is_legal p ≡ true }
+    requires each { All (IsMoveOf G.Game.rules p) run.now }
+    ensures { IfOk result (λ v. view v ≡ group_tree G.shown G.move_shown list.now p (record { worth = worth; moves = run.now })) }
+{
+    let mut cells = Vec::new(alloc);
+    push(&mut cells, text_value(alloc, value_text(worth).as_slice())?)?;
+    for x in run {
+        push_move::<G>(alloc, list, p, x, &mut cells)?;
+    }
+    Ok(Json::Array(cells))
+}
+
+// Appends a move, and after it the number of its result's line, where there is one.
+fn push_move<G: Shown>(
+    alloc: Global,
+    list: &Listing,
+    p: Position,
+    x: &MoveValue,
+    cells: &mut Vec<Json>,
+) -> Result<(), AllocError>
+    requires legal { G.Game.rules.is_legal p ≡ true }
+    requires each { IsMoveOf G.Game.rules p x.now }
+    ensures { OnOk result (map view cells.new.items ≡ map view cells.old.items ++ move_cells G.shown G.move_shown list.now p x.now) }
+{
+    push(
+        cells,
+        text_value(alloc, G::move_text(p, x.number).as_slice())?,
+    )?;
+    if let Some(place) = list.place(x.position) {
+        push(cells, Json::from(place as u64))?;
+    }
+    Ok(())
+}
