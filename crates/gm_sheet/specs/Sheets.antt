@@ -1,0 +1,116 @@
+-- Sheets: diagrams of found positions, with their solutions.
+use Rattle.std.specs.Prelude.{◌≡◌, ◌⊎◌, ◌==◌, ℕ, Bool, true, List, [], ◌∷◌, ◌++◌, codes, if◌then◌else◌, Option, None, Some}
+use Rattle.std.specs.Fmt.{decimal}
+use Rattle.std.specs.List.{Contains, flat_map}
+use Rattle.gm_game.specs.declared.position.Position.{Position}
+use Rattle.gm_game.specs.Rules.{Rules}
+use Rattle.gm_table.specs.Tables.{TableData}
+use Rattle.gm_best.specs.declared.play_error.PlayError.{PlayError}
+use Rattle.gm_best.specs.declared.play_error.PlayError.TheVariants.{OutOfMemory, Illegal, NotHeld}
+use Rattle.gm_play.specs.declared.best_line.BestLine.{BestLine}
+use Rattle.gm_play.specs.declared.best_line.LineEnd.{LineEnd}
+use Rattle.gm_play.specs.declared.best_line.LineEnd.TheVariants.{Over, Again, Cut}
+use Rattle.gm_play.specs.BestLines.{IsBestLine, ComesToNotHeld}
+use Rattle.gm_find.specs.declared.found.Found.{Found}
+use Rattle.gm_find.specs.declared.sought.Sought.{Sought}
+use Rattle.gm_find.specs.Founds.{AreFound}
+use Rattle.gm_draw.specs.declared.pictured.Style.{Style}
+use Rattle.gm_draw.specs.Diagrams.{escaped, IsDiagram}
+use Rattle.gm_sheet.specs.declared.solution.TheConstants.{SOLUTION_MOVES}
+use Rattle.gm_sheet.specs.declared.parts.TheConstants.{SHEET_FRONT, SHEET_DIAGRAMS, SHEET_SOLUTIONS, SHEET_BACK}
+
+-- ---- solutions
+-- of how many moves the best one is chosen
+unfoldable pub choice_words : ℕ → List ℕ
+choice_words n = if n == 1 then codes ", the only move" else codes ", one of " ++ decimal n ++ codes " moves"
+
+-- how the line of best play ends
+abbrev pub end_words : LineEnd → List ℕ
+end_words Over = codes "."
+end_words (Again k) = codes " and so on."
+end_words Cut = codes " ..."
+
+module _ (r : Rules) (move_shown : Position → ℕ → List ℕ) where
+  -- moves one after the other
+  abbrev pub steps_text : Position → List ℕ → List ℕ
+  steps_text p [] = []
+  steps_text p (m ∷ ms) = codes " " ++ escaped (move_shown p m) ++ steps_text (r.play p m) ms
+
+  -- the best move, and of how many
+  unfoldable pub best_words : Position → ℕ → ℕ → List ℕ
+  best_words p m n = codes "<b>" ++ escaped (move_shown p m) ++ codes "</b>" ++ choice_words n
+
+  -- the line of best play
+  unfoldable pub line_words : Position → BestLine → List ℕ
+  line_words p line = codes ". Best play:" ++ steps_text p line.moves.items ++ end_words line.end
+
+  -- the best move, and best play
+  abbrev pub solution_of : Position → Option ℕ → ℕ → BestLine → List ℕ
+  solution_of p None n line = codes "The game has ended."
+  solution_of p (Some m) n line = best_words p m n ++ line_words p line
+
+  -- the solution of a found position, by the line of best play from it
+  abbrev pub IsSolution : Found → List ℕ → Type 0
+  IsSolution x out = (line : BestLine) × IsBestLine r x.position SOLUTION_MOVES line × (out ≡ solution_of x.position x.best x.moves line)
+
+-- ---- sheets
+-- what a sheet has of a position
+pub record Entry : Type 0 where
+  pub text : List ℕ
+  pub diagram : List ℕ
+  pub solution : List ℕ
+
+-- its diagram, with the solution and the text to unfold
+unfoldable pub entry_text : Entry → List ℕ
+entry_text e = codes "<li>" ++ e.diagram ++ codes "<details><summary>Solution</summary><p>" ++ e.solution ++ codes "</p>\n<p><code>" ++ escaped e.text ++ codes "</code></p></details></li>\n"
+
+-- its solution for paper
+unfoldable pub answer_text : Entry → List ℕ
+answer_text e = codes "<li>" ++ e.solution ++ codes "</li>\n"
+
+-- what stands before the diagrams: the title
+unfoldable pub heading : List ℕ → List ℕ
+heading title = SHEET_FRONT.now ++ escaped title ++ SHEET_DIAGRAMS.now
+
+-- the diagrams, and the solutions for paper
+unfoldable pub lists : List ℕ → List ℕ → List ℕ
+lists entries answers = entries ++ SHEET_SOLUTIONS.now ++ answers ++ SHEET_BACK.now
+
+-- the sheet of these entries, under this title
+abbrev pub sheet_of : List ℕ → List Entry → List ℕ
+sheet_of title es = heading title ++ lists (flat_map entry_text es) (flat_map answer_text es)
+
+module _ (r : Rules) (shown : Position → List ℕ) (move_shown : Position → ℕ → List ℕ) (drawn mover : Position → List ℕ) (style : Style) (title board : List ℕ) where
+  -- the entry of a found position: its text, the diagram of it with its value, and its solution
+  pub record IsEntry (x : Found) (e : Entry) : Type 0 where
+    pub text : e.text ≡ shown x.position
+    pub diagram : IsDiagram r shown move_shown drawn mover style title board true (shown x.position) e.diagram
+    pub solution : IsSolution r move_shown x e.solution
+
+  -- the entries of these, in their order
+  abbrev pub AreEntries : List Found → List Entry → Type 0
+  AreEntries [] [] = Unit {0}
+  AreEntries [] (e ∷ es) = ⊥
+  AreEntries (x ∷ xs) [] = ⊥
+  AreEntries (x ∷ xs) (e ∷ es) = IsEntry x e × AreEntries xs es
+
+  -- the sheet of the first positions that are sought, at most this many
+  pub record IsSheet (q : Sought) (reached : Bool) (limit : ℕ) (tiers out : List ℕ) : Type 0 where
+    pub found : List Found
+    pub are_found : AreFound r q reached limit tiers found
+    pub entries : List Entry
+    pub are_entries : AreEntries found entries
+    pub out_is : out ≡ sheet_of title entries
+
+-- ---- refusals
+-- why the entry of a position may be refused: memory, or a position to which best play from it comes, whose tier, or one of its child tiers, has no table
+abbrev pub MayRefuseLine : Rules → List TableData → Position → PlayError → Type 0
+MayRefuseLine r entries p OutOfMemory = Unit {0}
+MayRefuseLine r entries p Illegal = ⊥
+MayRefuseLine r entries p NotHeld = ComesToNotHeld r entries p SOLUTION_MOVES
+
+-- why those of some positions may be
+abbrev pub MayRefuseLines : Rules → List TableData → List Found → PlayError → Type 0
+MayRefuseLines r entries xs OutOfMemory = Unit {0}
+MayRefuseLines r entries xs Illegal = ⊥
+MayRefuseLines r entries xs NotHeld = (x : Found) × Contains xs x × ComesToNotHeld r entries x.position SOLUTION_MOVES

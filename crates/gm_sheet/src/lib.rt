@@ -1,0 +1,9 @@
+//! Sheets of diagrams for solvers: found positions, each with its solution.
+//!
+//! `specs/` has the definitions that contracts cite, and `proofs/` what follows from them.
+#![tactic(auto)]
+
+mod markup;
+pub mod parts;
+pub mod sheet;
+pub mod solution;

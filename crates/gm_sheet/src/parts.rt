@@ -1,0 +1,62 @@
+//! The constant parts of a sheet of diagrams.
+
+/// What stands before a sheet's heading.
+pub const SHEET_FRONT: &[u8] = br##"<!doctype html>
+<html lang="en">
+<head>
+<meta charset="utf-8">
+<meta name="viewport" content="width=device-width, initial-scale=1">
+<meta http-equiv="Content-Security-Policy"
+  content="default-src 'none'; style-src 'unsafe-inline'; img-src data:; base-uri 'none'; form-action 'none'">
+<link rel="icon" href="data:,">
+<title>gamesman: positions</title>
+<style>
+:root { color-scheme: light dark; --back: #faf8f4; --card: #fff; --ink: #1d1b18; --soft: #625c52; --rule: #cfc7b8; --hot: #1d4fa8; }
+@media (prefers-color-scheme: dark) {
+  :root { --back: #161513; --card: #211f1c; --ink: #eeeae2; --soft: #aea79b; --rule: #4c4740; --hot: #8db8ff; }
+}
+body { max-width: 70rem; margin: 0 auto; padding: 1rem; background: var(--back); color: var(--ink); font: 1rem/1.45 system-ui, sans-serif; }
+h1 { margin: 0; font: 600 1.7rem/1.2 Georgia, serif; }
+header p { margin: .2rem 0 1rem; color: var(--soft); }
+ol {
+  display: grid; gap: 1rem; grid-template-columns: repeat(auto-fill, minmax(min(19rem, 100%), 1fr));
+  margin: 0; padding: 0; list-style: none; counter-reset: n;
+}
+li { counter-increment: n; padding: .8rem; background: var(--card); border: 1px solid var(--rule); border-radius: .6rem; break-inside: avoid; }
+li::before { content: counter(n) ". "; font-weight: 700; }
+svg { display: block; width: 100%; height: auto; max-height: 20rem; margin: .5rem 0; border-radius: .4rem; }
+summary { padding: .3rem 0; color: var(--hot); cursor: pointer; }
+summary:focus-visible { outline: 3px solid var(--hot); }
+code { font: .9em ui-monospace, monospace; overflow-wrap: anywhere; }
+.solutions { display: none; }
+@media print {
+  :root { --back: #fff; --card: #fff; --ink: #000; --soft: #333; --rule: #fff; }
+  ol { grid-template-columns: 1fr 1fr; }
+  svg { max-height: 6.5cm; }
+  details { display: none; }
+  .solutions { display: block; break-before: page; }
+  .solutions ol { display: block; }
+  .solutions li { padding: .2rem 0; border: 0; }
+}
+</style>
+</head>
+<body>
+<header><h1>"##;
+
+/// What stands between a sheet's heading and its diagrams.
+pub const SHEET_DIAGRAMS: &[u8] = br##"</h1>
+<p>Each value and each solution is from gamesman's tables, which are proved.</p></header>
+<main><ol>
+"##;
+
+/// What stands between a sheet's diagrams and its solutions for paper.
+pub const SHEET_SOLUTIONS: &[u8] = br##"</ol></main>
+<section class="solutions"><h2>Solutions</h2>
+<ol>
+"##;
+
+/// What stands after a sheet's solutions.
+pub const SHEET_BACK: &[u8] = br##"</ol></section>
+</body>
+</html>
+"##;

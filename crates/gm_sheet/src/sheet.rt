@@ -1,0 +1,192 @@
+//! Sheets: diagrams of found positions, with their solutions.
+ghost use Rattle.std.specs.Prelude.{◌≡◌, ◌⊎◌, ◌++◌, ℕ, List, IfOk, OnOk, IfErr, IsErrOf, is_some};
+ghost use Rattle.std.specs.List.{All, flat_map};
+ghost use Rattle.gm_find.specs.declared.found.Found.{Found};
+ghost use Rattle.gm_find.specs.Finding.{AreTiersHeld};
+ghost use Rattle.gm_find.specs.Founds.{AreFound, IsFound};
+ghost use Rattle.gm_sheet.specs.Sheets.{Entry, entry_text, answer_text, heading, lists, sheet_of, IsEntry, AreEntries, IsSheet, MayRefuseLine, MayRefuseLines};
+
+use crate::markup::push_escaped;
+use crate::parts::{SHEET_BACK, SHEET_DIAGRAMS, SHEET_FRONT, SHEET_SOLUTIONS};
+use crate::solution::solution_text;
+use gm_best::play_error::PlayError;
+use gm_draw::diagram::diagram_text;
+use gm_draw::pictured::Pictured;
+use gm_find::find_error::FindError;
+use gm_find::found::{Found, find};
+use gm_find::reached::Reached;
+use gm_find::sought::Sought;
+use gm_table::tables::Tables;
+use std::alloc::{AllocError, Global};
+
+/// The canonical positions that are sought as a sheet, which is one HTML file: of each its diagram, and its solution to unfold; and the solutions once more for
+/// paper. A solution is the best move, how many moves there are, and the line of best play, of at most 40 moves. The positions stand in the order
+/// of `find`: the first of them, at most `limit`. Where a set of reached positions is given, only positions in it count.
+///
+/// `NotHeld` is tested first: it comes where one of the tiers, or one of its child tiers, has no table; and else only where the line of best play from a found
+/// position comes to one whose tier, or one of its child tiers, has none. The whole sheet is made in memory.
+pub fn sheet_text<G: Pictured>(
+    alloc: Global,
+    tables: &Tables<G>,
+    tiers: &[u64],
+    sought: Sought,
+    reached: Option<&Reached<G>>,
+    limit: usize,
+) -> Result<Vec<u8>, FindError>
+    ensures sheet { IfOk result (λ v. IsSheet G.Game.rules G.shown G.move_shown G.drawn G.mover G.style G.title G.board sought (is_some reached.entry) limit tiers.now v.items) }
+    ensures first { (AreTiersHeld G.Game.rules tables.now tiers.now → ⊥) → IsErrOf result FindError.NotHeld }
+    ensures not_held { IsErrOf result FindError.NotHeld → (AreTiersHeld G.Game.rules tables.now tiers.now → ⊥)
+        ⊎ ((xs : List Found) × AreFound G.Game.rules sought (is_some reached.entry) limit tiers.now xs × MayRefuseLines G.Game.rules tables.now xs PlayError.NotHeld) }
+{
+    let found = find(alloc, tables, tiers, sought, reached, limit)?;
+    match sheet_of_found(alloc, tables, found.as_slice()) {
+        Ok(sheet) => Ok(sheet),
+        Err(PlayError::OutOfMemory) => Err(FindError::OutOfMemory),
+        Err(_) => Err(FindError::NotHeld),
+    }
+}
+
+// The sheet of found positions.
+fn sheet_of_found<G: Pictured>(
+    alloc: Global,
+    tables: &Tables<G>,
+    found: &[Found],
+) -> Result<Vec<u8>, PlayError>
+    requires { All (IsFound G.Game.rules) found.now }
+    ensures sheet { IfOk result (λ v. (es : List Entry) × AreEntries G.Game.rules G.shown G.move_shown G.drawn G.mover G.style G.title G.board found.now es × (v.items ≡ sheet_of G.title es)) }
+    ensures refused { IfErr result (MayRefuseLines G.Game.rules tables.now found.now) }
+{
+    let mut entries = Vec::new(alloc);
+    let mut answers = Vec::new(alloc);
+    push_entries(alloc, tables, found, &mut entries, &mut answers)?;
+    match sheet_with::<G>(alloc, entries.as_slice(), answers.as_slice()) {
+        Ok(sheet) => Ok(sheet),
+        Err(_) => Err(PlayError::OutOfMemory),
+    }
+}
+
+// Appends the entries of found positions, and their solutions for paper.
+fn push_entries<G: Pictured>(
+    alloc: Global,
+    tables: &Tables<G>,
+    found: &[Found],
+    entries: &mut Vec<u8>,
+    answers: &mut Vec<u8>,
+) -> Result<(), PlayError>
+    requires { All (IsFound G.Game.rules) found.now }
+    ensures entries { OnOk result ((es : List Entry) × AreEntries G.Game.rules G.shown G.move_shown G.drawn G.mover G.style G.title G.board found.now es
+        × (entries.new.items ≡ entries.old.items ++ flat_map entry_text es) × (answers.new.items ≡ answers.old.items ++ flat_map answer_text es)) }
+    ensures refused { IfErr result (MayRefuseLines G.Game.rules tables.now found.now) }
+{
+    for x in found {
+        push_entry(alloc, tables, *x, entries, answers)?;
+    }
+    Ok(())
+}
+
+// Appends the entry of a found position, and its solution for paper.
+fn push_entry<G: Pictured>(
+    alloc: Global,
+    tables: &Tables<G>,
+    x: Found,
+    entries: &mut Vec<u8>,
+    answers: &mut Vec<u8>,
+) -> Result<(), PlayError>
+    requires { IsFound G.Game.rules x }
+    ensures entry { OnOk result ((e : Entry) × IsEntry G.Game.rules G.shown G.move_shown G.drawn G.mover G.style G.title G.board x e
+        × (entries.new.items ≡ entries.old.items ++ entry_text e) × (answers.new.items ≡ answers.old.items ++ answer_text e)) }
+    ensures refused { IfErr result (MayRefuseLine G.Game.rules tables.now x.position) }
+{
+    let text = G::show(x.position);
+    let diagram = diagram_text(alloc, tables, text.as_slice(), true)?;
+    let solution = solution_text(alloc, tables, x)?;
+    match push_parts(
+        entries,
+        answers,
+        text.as_slice(),
+        diagram.as_slice(),
+        solution.as_slice(),
+    ) {
+        Ok(()) => Ok(()),
+        Err(_) => Err(PlayError::OutOfMemory),
+    }
+}
+
+// Appends an entry of these parts, and its solution for paper.
+fn push_parts(
+    entries: &mut Vec<u8>,
+    answers: &mut Vec<u8>,
+    text: &[u8],
+    diagram: &[u8],
+    solution: &[u8],
+) -> Result<(), AllocError>
+    ensures entry { OnOk result (entries.new.items ≡ entries.old.items ++ entry_text (record { text = text.now; diagram = diagram.now; solution = solution.now })) }
+    ensures answer { OnOk result (answers.new.items ≡ answers.old.items ++ answer_text (record { text = text.now; diagram = diagram.now; solution = solution.now })) }
+{
+    push_unfolding(entries, text, diagram, solution)?;
+    push_answer(answers, solution)
+}
+
+// Appends a diagram, with the solution and the text to unfold.
+#[tactic(auto, unfolding(crate::specs::Sheets::entry_text))]
+fn push_unfolding(
+    entries: &mut Vec<u8>,
+    text: &[u8],
+    diagram: &[u8],
+    solution: &[u8],
+) -> Result<(), AllocError>
+    ensures { OnOk result (entries.new.items ≡ entries.old.items ++ entry_text (record { text = text.now; diagram = diagram.now; solution = solution.now })) }
+{
+    entries.extend_from_slice(b"<li>")?;
+    entries.extend_from_slice(diagram)?;
+    entries.extend_from_slice(b"<details><summary>Solution</summary><p>")?;
+    entries.extend_from_slice(solution)?;
+    entries.extend_from_slice(b"</p>\n<p><code>")?;
+    push_escaped(entries, text)?;
+    entries.extend_from_slice(b"</code></p></details></li>\n")
+}
+
+// Appends a solution for paper.
+#[tactic(auto, unfolding(crate::specs::Sheets::answer_text))]
+fn push_answer(answers: &mut Vec<u8>, solution: &[u8]) -> Result<(), AllocError>
+    ensures { OnOk result ((text : List ℕ) (diagram : List ℕ) → answers.new.items ≡ answers.old.items ++ answer_text (record { text = text; diagram = diagram; solution = solution.now })) }
+{
+    answers.extend_from_slice(b"<li>")?;
+    answers.extend_from_slice(solution)?;
+    answers.extend_from_slice(b"</li>\n")
+}
+
+// The sheet with these entries and these solutions for paper.
+fn sheet_with<G: Pictured>(
+    alloc: Global,
+    entries: &[u8],
+    answers: &[u8],
+) -> Result<Vec<u8>, AllocError>
+    ensures { IfOk result (λ v. v.items ≡ heading G.title ++ lists entries.now answers.now) }
+{
+    let mut sheet = Vec::new(alloc);
+    push_heading(&mut sheet, G::title().as_slice())?;
+    push_lists(&mut sheet, entries, answers)?;
+    Ok(sheet)
+}
+
+// Appends what stands before the diagrams.
+#[tactic(auto, unfolding(crate::specs::Sheets::heading))]
+fn push_heading(sheet: &mut Vec<u8>, title: &[u8]) -> Result<(), AllocError>
+    ensures { OnOk result (sheet.new.items ≡ sheet.old.items ++ heading title.now) }
+{
+    sheet.extend_from_slice(SHEET_FRONT)?;
+    push_escaped(sheet, title)?;
+    sheet.extend_from_slice(SHEET_DIAGRAMS)
+}
+
+// Appends the diagrams, and the solutions for paper.
+#[tactic(auto, unfolding(crate::specs::Sheets::lists))]
+fn push_lists(sheet: &mut Vec<u8>, entries: &[u8], answers: &[u8]) -> Result<(), AllocError>
+    ensures { OnOk result (sheet.new.items ≡ sheet.old.items ++ lists entries.now answers.now) }
+{
+    sheet.extend_from_slice(entries)?;
+    sheet.extend_from_slice(SHEET_SOLUTIONS)?;
+    sheet.extend_from_slice(answers)?;
+    sheet.extend_from_slice(SHEET_BACK)
+}
