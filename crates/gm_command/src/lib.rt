@@ -4,8 +4,10 @@
 pub mod asked;
 pub mod commands;
 mod explore_commands;
+mod find_line;
 mod lines;
 pub mod names;
+mod numbers;
 pub mod pages;
 pub mod requests;
 mod search_commands;

@@ -1,5 +1,7 @@
 //! The commands of the program and the words of each, with what `--help` says of them.
 
+use crate::find_line::FIND;
+
 /// What a word of a command line is.
 #[derive(Clone, Copy)]
 pub(crate) enum Kind {
@@ -44,9 +46,9 @@ pub(crate) struct Line {
 }
 
 /// The greatest number that a limit or a remoteness can be.
-const MOST: i64 = 4_294_967_295;
+pub(crate) const MOST: i64 = 4_294_967_295;
 
-const GAME: Word = Word {
+pub(crate) const GAME: Word = Word {
     name: "GAME",
     kind: Kind::Word,
     help: "The name of a game, one of those that `gamesman list` prints",
@@ -58,7 +60,7 @@ const START: Word = Word {
     help: "The position; the start where it is left out",
 };
 
-const FOLDER: Word = Word {
+pub(crate) const FOLDER: Word = Word {
     name: "folder",
     kind: Kind::Text {
         shown: "FOLDER",
@@ -67,19 +69,19 @@ const FOLDER: Word = Word {
     help: "A folder for the tables, which are then kept and used again",
 };
 
-const READ_ONLY: Word = Word {
+pub(crate) const READ_ONLY: Word = Word {
     name: "read-only",
     kind: Kind::Flag,
     help: "Reads the folder and writes nothing: each of its tables has to be there and right",
 };
 
-const JSON: Word = Word {
+pub(crate) const JSON: Word = Word {
     name: "json",
     kind: Kind::Flag,
     help: "Answers with lines of JSON",
 };
 
-const REACHED: Word = Word {
+pub(crate) const REACHED: Word = Word {
     name: "reached",
     kind: Kind::Flag,
     help: "Those alone that play from the start can reach",
@@ -225,58 +227,6 @@ static SHOW: Line = Line {
             kind: Kind::Flag,
             help: "Leaves the value out of a diagram, as for a puzzle",
         },
-        FOLDER,
-        READ_ONLY,
-    ],
-};
-
-static FIND: Line = Line {
-    name: "find",
-    alias: None,
-    about: "Lists the positions of a value, of those that are the same but for symmetry one: its value, its best move and the number of its moves",
-    examples: "Examples:\n  gamesman find countdown --value win --limit 3\n  gamesman find dao --value win --remoteness 11 --only-move --limit 1",
-    words: &[
-        GAME,
-        Word {
-            name: "value",
-            kind: Kind::Text {
-                shown: "value",
-                required: true,
-            },
-            help: "The value: win, tie, draw or lose",
-        },
-        Word {
-            name: "remoteness",
-            kind: Kind::Number {
-                shown: "remoteness",
-                least: 0,
-                most: MOST,
-                default: None,
-            },
-            help: "The number of moves to the end: none with draw",
-        },
-        Word {
-            name: "tier",
-            kind: Kind::Tier,
-            help: "Of this tier alone",
-        },
-        Word {
-            name: "only-move",
-            kind: Kind::Flag,
-            help: "Those alone from which exactly one move keeps the win or the tie",
-        },
-        REACHED,
-        Word {
-            name: "limit",
-            kind: Kind::Number {
-                shown: "limit",
-                least: 1,
-                most: MOST,
-                default: None,
-            },
-            help: "The most positions that are listed, from 1 on",
-        },
-        JSON,
         FOLDER,
         READ_ONLY,
     ],

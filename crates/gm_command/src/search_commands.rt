@@ -1,5 +1,6 @@
 //! What a line says that asks about all tables, or for the service that answers positions.
 
+use crate::numbers::span_of;
 use crate::requests::{PositionsSought, Search};
 use clap::ArgMatches;
 use gm_find::sought::Sought;
@@ -15,25 +16,34 @@ fn value_of(word: &str) -> Option<Value> {
     }
 }
 
-// What is sought. A remoteness can't be given with draw, and an only move can be asked for with win and tie alone.
-fn sought_of(inner: &ArgMatches<'_>) -> Option<Sought> {
-    let value = value_of(inner.get_str("value")?)?;
-    let remoteness = inner.get_one::<u32>("remoteness");
-    let only_move = inner.get_flag("only-move");
-    let fits = match value {
-        Value::Draw => remoteness.is_none() && !only_move,
-        Value::Lose => !only_move,
-        Value::Tie | Value::Win => true,
+// Whether these ask for what a position of the value can have: a remoteness and moves that keep it.
+fn fits(sought: Sought) -> bool {
+    let counted = sought.only_move || sought.whole_line;
+    let by_value = match sought.value {
+        Value::Draw => sought.remoteness.is_none() && !counted,
+        Value::Lose => !counted,
+        Value::Tie => !sought.whole_line,
+        Value::Win => true,
     };
-    if fits {
-        Some(Sought {
-            value,
-            remoteness,
-            only_move,
-        })
-    } else {
-        None
-    }
+    by_value && (!sought.distinct || counted || sought.min_moves > 0)
+}
+
+// What is sought: a remoteness can't be given with draw; an only move can be asked for with win and tie alone, and a whole line with win alone; moves can be
+// told apart by symmetry only where they are counted.
+fn sought_of(inner: &ArgMatches<'_>) -> Option<Sought> {
+    let remoteness = match inner.get_str("remoteness") {
+        Some(text) => Some(span_of(text)?),
+        None => None,
+    };
+    let sought = Sought {
+        value: value_of(inner.get_str("value")?)?,
+        remoteness,
+        only_move: inner.get_flag("only-move"),
+        whole_line: inner.get_flag("whole-line"),
+        distinct: inner.get_flag("distinct"),
+        min_moves: inner.get_one::<u32>("min-moves").unwrap_or(0) as usize,
+    };
+    if fits(sought) { Some(sought) } else { None }
 }
 
 fn positions_of(inner: &ArgMatches<'_>) -> Option<PositionsSought> {

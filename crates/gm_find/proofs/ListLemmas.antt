@@ -1,5 +1,5 @@
 -- The elements of a list that have a property, with one element or list more.
-use Rattle.std.proofs.Common.{◌≡◌, ℕ, zero, suc, ◌<◌, ◌≤◌, ◌+◌, ◌-◌, inl, inr, List, [], ◌∷◌, ◌++◌, map, length, refl, sym, ap, ◌∙◌, subst, arith, append_assoc, length-append}
+use Rattle.std.proofs.Common.{◌≡◌, ℕ, zero, suc, ◌<◌, ◌≤◌, ◌+◌, ◌-◌, inl, inr, List, [], ◌∷◌, ◌++◌, map, take, length, refl, sym, ap, ◌∙◌, subst, arith, append_assoc, length-append}
 use Rattle.std.specs.List.{Contains, range_with_len}
 use Rattle.std.proofs.lemmas.Bool.{cases_lt}
 use Rattle.gm_game.specs.Rules.{IsAscending}
@@ -38,12 +38,18 @@ module _ {A : Type 0} (P : A → Type 0) where
   first_not zero x h = refl
   first_not (suc n) x h = inr (h, refl)
 
-  pub first_full : (n : ℕ) (x : A) → n ≡ 0 → IsFirst P n (x ∷ []) []
-  first_full n x e = subst (λ (k : ℕ). IsFirst P k (x ∷ []) []) (sym e) refl
-
   pub first_is : (n : ℕ) (x : A) → 0 < n → P x → IsFirst P n (x ∷ []) (x ∷ [])
   first_is zero x l p = absurd (omega arith)
   first_is (suc n) x l p = inl ([], p, refl, refl)
+
+  -- of a list that has enough of them in its first elements these are the first of all
+  pub first_taken : (k n : ℕ) (xs ys : List A) → IsFirst P n (take k xs) ys → n ≤ length ys → IsFirst P n xs ys
+  first_taken zero zero xs ys h l = subst (IsFirst P 0 xs) (sym h) (zero_first xs)
+  first_taken zero (suc n) xs ys h l = let e = ap length h in absurd (omega arith)
+  first_taken (suc k) n [] ys h l = h
+  first_taken (suc k) zero (x ∷ xs) ys h l = h
+  first_taken (suc k) (suc n) (x ∷ xs) ys (inl (rest, p, e, t)) l = let f = ap length e in inl (rest, p, e, first_taken k n xs rest t (omega arith))
+  first_taken (suc k) (suc n) (x ∷ xs) ys (inr (p, t)) l = inr (p, first_taken k (suc n) xs ys t l)
 
   at_count : (m n : ℕ) (xs ys : List A) → m ≡ n → IsFirst P m xs ys → IsFirst P n xs ys
   at_count m n xs ys e h = subst (λ (k : ℕ). IsFirst P k xs ys) e h
@@ -74,6 +80,13 @@ module _ {A : Type 0} (P : A → Type 0) where
         f ∙ ap (λ (l : List A). l ++ add) e ∙ append_assoc old more add,
         first_append (limit - length old) xs zs more add h (at_count (limit - length cur) ((limit - length old) - length more) zs add same k),
       )
+
+  -- the limit is reached before the end of a list
+  pub first_full : (limit : ℕ) (old cur more : List A) (k : ℕ) (xs : List A) → cur ≡ old ++ more → IsFirst P (limit - length old) (take k xs) more → limit ≤ length cur
+      → (all : List A) × (cur ≡ old ++ all) × IsFirst P (limit - length old) xs all
+  first_full limit old cur more k xs e h l =
+      let long : length cur ≡ length old + length more = ap length e ∙ length-append old more in
+      (more, e, first_taken k (limit - length old) xs more h (omega arith))
 
   -- of an ascending list of numbers that has all those with the property, the first are those of all numbers
   ascending_above : (x : ℕ) (xs : List ℕ) → IsAscending (x ∷ xs) → (y : ℕ) → Contains xs y → x < y
@@ -136,3 +149,9 @@ module _ {A : Type 0} (P : A → Type 0) where
   those_few [] ys h = let e = ap length h in omega arith
   those_few (x ∷ xs) ys (inl (rest, p, e, t)) = let n = ap length e in let m = those_few xs rest t in omega arith
   those_few (x ∷ xs) ys (inr (p, t)) = let m = those_few xs ys t in omega arith
+
+-- the first elements of a list of results
+pub take_map : {A : Type 0} (f : ℕ → A) (k : ℕ) (xs : List ℕ) → take k (map f xs) ≡ map f (take k xs)
+take_map f zero xs = refl
+take_map f (suc k) [] = refl
+take_map {A = A} f (suc k) (x ∷ xs) = ap (λ (l : List A). f x ∷ l) (take_map f k xs)

@@ -1,5 +1,5 @@
 -- What is known of sought positions.
-use Rattle.std.proofs.Common.{◌≡◌, ℕ, ◌<◌, ◌+◌, ◌↔◌, inl, inr, Bool, true, List, ◌∷◌, [], length, take, get_or, refl, sym, ap, ◌∙◌, subst, arith, Option, None, Some}
+use Rattle.std.proofs.Common.{◌≡◌, ℕ, ◌<◌, ◌+◌, ◌↔◌, inl, inr, ◌==◌, if◌then◌else◌, eqb-true, Bool, true, false, List, ◌∷◌, [], length, take, get_or, refl, sym, ap, ◌∙◌, subst, arith, IsTrue, Option, None, Some, Result, Ok, Err, IfOk}
 use Rattle.std.specs.List.{Contains}
 use Rattle.std.proofs.lemmas.Option.{same_Some}
 use Rattle.std.proofs.lemmas.List.{take_more}
@@ -19,12 +19,26 @@ use Rattle.gm_game.specs.Values.{HasValue, IsTrueValue}
 use Rattle.gm_game.proofs.Basic.{HasValue_once}
 use Rattle.gm_table.specs.Tables.{TableData, IsHeld, AreHeld}
 use Rattle.gm_find.specs.declared.sought.Sought.{Sought}
+use Rattle.gm_find.specs.declared.sought.Span.{Span}
 use Rattle.gm_find.specs.Lists.{AreThose}
-use Rattle.gm_find.specs.Finding.{IsMatch, IsAskedFor, IsValueOf, place_for, kept_by, KeepsValue, HasOnlyMove, AreTiersHeld}
+use Rattle.gm_find.specs.Finding.{IsMatch, IsAskedFor, IsValueOf, IsFitting, IsOnlyLine, level_of, place_for, kept_by, KeepsValue, HasOnlyMove, AreTiersHeld}
 use Rattle.gm_find.proofs.ListLemmas.{those_once, IsRun}
 
+-- the one remoteness, where there is one
+abbrev IsLevel : Option ℕ → ℕ → Type 0
+IsLevel None n = Unit {0}
+IsLevel (Some k) n = k ≡ n
+
+asked_level : (o : Option Span) (n : ℕ) → IsAskedFor o n → IsLevel (level_of o) n
+asked_level None n h = tt
+asked_level (Some s) n h = pick (s.least == s.most) refl
+  where
+    pick : (b : Bool) → (s.least == s.most) ≡ b → IsLevel (if b then Some s.least else None) n
+    pick true e = let same = eqb-true s.least s.most e in let low = h.0 in let high = h.1 in omega arith
+    pick false e = tt
+
 -- a position that is sought stands at the place that is searched
-stands : (r : Rules) (p : Position) (v : Value) (o : Option ℕ) (place : Phase × ℕ) (s : Solved) → Some place ≡ place_for v o → IsTrueValue r p s → v ≡ s.value → IsAskedFor o s.remoteness → StandsAt r place.0 place.1 p
+stands : (r : Rules) (p : Position) (v : Value) (o : Option ℕ) (place : Phase × ℕ) (s : Solved) → Some place ≡ place_for v o → IsTrueValue r p s → v ≡ s.value → IsLevel o s.remoteness → StandsAt r place.0 place.1 p
 stands r p v None place s e h w n = absurd (cc)
 stands r p Lose (Some k) place s e h w n = let q = same_Some place (WinLose, k) e in subst (λ (x : Phase × ℕ). StandsAt r x.0 x.1 p) (sym q) (inr (subst (λ (x : Value). HasValue r p x k) (sym w) (subst (λ (x : ℕ). HasValue r p s.value x) (sym n) h)))
 stands r p Draw (Some k) place s e h w n = absurd (cc)
@@ -32,13 +46,13 @@ stands r p Tie (Some k) place s e h w n = let q = same_Some place (Ties, k) e in
 stands r p Win (Some k) place s e h w n = let q = same_Some place (WinLose, k) e in subst (λ (x : Phase × ℕ). StandsAt r x.0 x.1 p) (sym q) (inl (subst (λ (x : Value). HasValue r p x k) (sym w) (subst (λ (x : ℕ). HasValue r p s.value x) (sym n) h)))
 
 -- the run of a tier at that place has every index that is sought
-pub run_has : (r : Rules) → IsGame r → (entries : List TableData) (q : Sought) (reached : Bool) (tier level : ℕ) (phase : Phase) (is : List ℕ) → Some (phase, level) ≡ place_for q.value q.remoteness → IsHeld entries tier → IsAscending is
+pub run_has : (r : Rules) → IsGame r → (entries : List TableData) (q : Sought) (reached : Bool) (tier level : ℕ) (phase : Phase) (is : List ℕ) → Some (phase, level) ≡ place_for q.value (level_of q.remoteness) → IsHeld entries tier → IsAscending is
     → ((i : ℕ) → Contains is i ↔ (IsHeld entries tier × IsCanonical r (at tier i) × StandsAt r phase level (at tier i)))
     → IsRun (IsMatch r q reached) (at tier) 0 (r.tier_size tier) is
 run_has r g entries q reached tier level phase is e held up exact = record {
   ascending = up;
   within = λ i c. (omega arith, (let l = g.index_below (at tier i) ((exact i).0 c).1.0 in omega arith));
-  all = λ i a b m. (exact i).1 (held, m.canonical, stands r (at tier i) q.value q.remoteness (phase, level) m.value.0 e m.value.1 m.value.2.0 m.value.2.1);
+  all = λ i a b m. (exact i).1 (held, m.canonical, stands r (at tier i) q.value (level_of q.remoteness) (phase, level) m.value.0 e m.value.1 m.value.2.0 (asked_level q.remoteness m.value.0.remoteness m.value.2.1));
 }
 
 -- a record that is there, or not
@@ -50,6 +64,23 @@ match_value r q reached p s h m =
     let (t, is, of) = m.value in
     let same = HasValue_once r p t.value s.value t.remoteness s.remoteness is h in
     (of.0 ∙ same.0, subst (IsAskedFor q.remoteness) same.1 of.1)
+
+-- of what is fitting the whole line is left to ask
+pub line_left : (r : Rules) (q : Sought) (reached : Bool) (p : Position) (s : Solved) → IsCanonical r p → IsTrueValue r p s → IsFitting r q reached p s
+    → (IsTrue q.whole_line → IsOnlyLine r q.distinct p) ↔ IsMatch r q reached p
+line_left r q reached p s c h f = (
+  λ l. record { canonical = c; value = (s, h, f.0); choice = f.1.0; only = f.1.1; line = l; reaches = f.2 },
+  λ m. m.line,
+)
+
+-- what is sought is fitting
+pub fitting : (r : Rules) (q : Sought) (reached : Bool) (p : Position) (s : Solved) → IsTrueValue r p s → IsMatch r q reached p → IsFitting r q reached p s
+fitting r q reached p s h m = (match_value r q reached p s h m, (m.choice, m.only), m.reaches)
+
+-- an answer about a fact is one about another that comes to the same
+pub same_result : {E : Type 0} (o : Result Bool E) (A B : Type 0) → (A ↔ B) → IfOk o (λ (b : Bool). IsTrue b ↔ A) → IfOk o (λ (b : Bool). IsTrue b ↔ B)
+same_result (Err x) A B e h = h
+same_result (Ok b) A B e h = (λ t. e.0 (h.0 t), λ x. h.1 (e.1 x))
 
 -- a move keeps a value
 pub keeps_is : (r : Rules) (p c : Position) (m : ℕ) (v : Value) (s : Solved) → c ≡ r.play p m → IsTrueValue r c s → s.value ≡ kept_by v → KeepsValue r v p m
@@ -82,3 +113,8 @@ more_held r entries tiers k l before own held tier has =
       | inl c ↦ before tier c
       | inr e ↦ subst (λ (t : ℕ). IsHeld entries t × AreHeld r entries t) e (own, held)
     ]
+
+-- what is known anyway is known of each answer
+pub known_if_ok : {X Y : Type 0} (r : Result X Y) (P : Type 0) → P → IfOk r (λ (x : X). P)
+known_if_ok (Ok x) P p = p
+known_if_ok (Err y) P p = tt

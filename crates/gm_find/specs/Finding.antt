@@ -1,5 +1,5 @@
 -- Positions that are sought.
-use Rattle.std.specs.Prelude.{◌≡◌, ℕ, List, [], ◌∷◌, map, Bool, IsTrue, Option, None, Some}
+use Rattle.std.specs.Prelude.{◌≡◌, ◌≤◌, ◌⊎◌, ◌==◌, if◌then◌else◌, ℕ, zero, suc, List, [], ◌∷◌, map, length, Bool, true, false, IsTrue, Option, None, Some}
 use Rattle.std.specs.List.{Contains, flat_map, range_with_len}
 use Rattle.gm_game.specs.declared.position.Position.{Position}
 use Rattle.gm_game.specs.declared.position.Phase.{Phase}
@@ -10,7 +10,10 @@ use Rattle.gm_game.specs.declared.position.Value.TheVariants.{Lose, Draw, Tie, W
 use Rattle.gm_game.specs.Rules.{Rules, at, IsCanonical}
 use Rattle.gm_game.specs.Values.{HasValue, IsTrueValue}
 use Rattle.gm_table.specs.Tables.{TableData, IsHeld, AreHeld}
+use Rattle.gm_game.specs.Children.{canonical_children_of}
+use Rattle.gm_best.specs.Refusals.{AreNotHeld}
 use Rattle.gm_find.specs.declared.sought.Sought.{Sought}
+use Rattle.gm_find.specs.declared.sought.Span.{Span}
 use Rattle.gm_find.specs.declared.find_error.FindError.{FindError}
 use Rattle.gm_find.specs.declared.find_error.FindError.TheVariants.{OutOfMemory, NotHeld}
 use Rattle.gm_find.specs.Lists.{AreThose}
@@ -39,25 +42,95 @@ KeepsValue r v p m = (k : ℕ) × HasValue r (r.play p m) (kept_by v) k
 abbrev pub HasOnlyMove : Rules → Value → Position → Type 0
 HasOnlyMove r v p = (m : ℕ) × AreThose (KeepsValue r v p) (r.moves p) (m ∷ [])
 
--- whether a remoteness is asked for: any is, or only this one
-abbrev pub IsAskedFor : Option ℕ → ℕ → Type 0
+-- c is the canonical position of the result of a move that keeps the value
+abbrev pub IsKept : Rules → Value → Position → Position → Type 0
+IsKept r v p c = (m : ℕ) × Contains (r.moves p) m × KeepsValue r v p m × (r.canonical (r.play p m) ≡ c)
+
+-- the moves of p that keep the value lead to one position, up to symmetry, and there is such a move
+abbrev pub HasOnlyResult : Rules → Value → Position → Type 0
+HasOnlyResult r v p = (c : Position) × IsKept r v p c × ((d : Position) → IsKept r v p d → d ≡ c)
+
+-- there is no position yet, or it is this one
+abbrev pub AgreesWith : Option Position → Position → Type 0
+AgreesWith None c = Unit {0}
+AgreesWith (Some d) c = d ≡ c
+
+-- exactly one move keeps the value; where distinct moves are asked for, exactly one up to symmetry
+abbrev pub HasOnly : Rules → Bool → Value → Position → Type 0
+HasOnly r false v p = HasOnlyMove r v p
+HasOnly r true v p = HasOnlyResult r v p
+
+-- there are at least n moves; where distinct moves are asked for, at least n up to symmetry
+abbrev pub HasMoves : Rules → Bool → ℕ → Position → Type 0
+HasMoves r false n p = n ≤ length (r.moves p)
+HasMoves r true n p = n ≤ length (canonical_children_of r p)
+
+-- of the moves of q, each after which the other side wins in n leads to a position with this property: each longest defence
+abbrev pub AfterDefence : Rules → ℕ → (Position → Type 0) → Position → Type 0
+AfterDefence r n P q = (e : ℕ) → Contains (r.moves q) e → HasValue r (r.play q e) Win n → P (r.play q e)
+
+-- from p, a win in n, the winner has one move that keeps the win, and so on after it and each longest defence; at the last turn any move will do
+abbrev pub IsOnlyWin : Rules → Bool → ℕ → Position → Type 0
+IsOnlyWin r d zero p = Unit {0}
+IsOnlyWin r d (suc zero) p = Unit {0}
+IsOnlyWin r d (suc (suc zero)) p = Unit {0}
+IsOnlyWin r d (suc (suc (suc n))) p = HasOnly r d Win p
+    × ((m : ℕ) → Contains (r.moves p) m → KeepsValue r Win p m → AfterDefence r (suc n) (IsOnlyWin r d (suc n)) (r.play p m))
+
+-- the move e of the loser, if the winner wins in n after it, leads to a win as said above
+abbrev pub IsOnlyDefence : Rules → Bool → ℕ → Position → ℕ → Type 0
+IsOnlyDefence r d n q e = HasValue r (r.play q e) Win n → IsOnlyWin r d n (r.play q e)
+
+-- the move m of the winner, if it keeps the win, leads to a loss after each longest defence of which the winner wins in n as said above
+abbrev pub IsOnlyAfter : Rules → Bool → ℕ → Position → ℕ → Type 0
+IsOnlyAfter r d n p m = KeepsValue r Win p m → AfterDefence r n (IsOnlyWin r d n) (r.play p m)
+
+-- a win in which, against every longest defence, at each turn of the winner but the last exactly one move keeps the win
+abbrev pub IsOnlyLine : Rules → Bool → Position → Type 0
+IsOnlyLine r d p = (n : ℕ) × HasValue r p Win n × IsOnlyWin r d n p
+
+-- whether a remoteness is asked for: any is, or those of a span
+abbrev pub IsAskedFor : Option Span → ℕ → Type 0
 IsAskedFor None n = Unit {0}
-IsAskedFor (Some k) n = k ≡ n
+IsAskedFor (Some s) n = (s.least ≤ n) × (n ≤ s.most)
+
+-- the one remoteness that is asked for, where there is one
+abbrev pub level_of : Option Span → Option ℕ
+level_of None = None
+level_of (Some s) = if s.least == s.most then Some s.least else None
 
 -- the value, with a remoteness that is sought
 abbrev pub IsValueOf : Sought → Solved → Type 0
 IsValueOf q s = (q.value ≡ s.value) × IsAskedFor q.remoteness s.remoteness
 
+-- p has as many moves as are asked for, and where that is asked exactly one that keeps the value
+abbrev pub HasFittingMoves : Rules → Sought → Position → Type 0
+HasFittingMoves r q p = HasMoves r q.distinct q.min_moves p × (IsTrue q.only_move → HasOnly r q.distinct q.value p)
+
+-- p, which has this true value, is all that is asked for beside a whole line
+abbrev pub IsFitting : Rules → Sought → Bool → Position → Solved → Type 0
+IsFitting r q reached p s = IsValueOf q s × HasFittingMoves r q p × (IsTrue reached → IsReachedByPlay r p)
+
 -- a canonical position that is sought; where only reached positions are asked for, one that play reaches
 pub record IsMatch (r : Rules) (q : Sought) (reached : Bool) (p : Position) : Type 0 where
   pub canonical : IsCanonical r p
   pub value : (s : Solved) × IsTrueValue r p s × IsValueOf q s
-  pub only : IsTrue q.only_move → HasOnlyMove r q.value p
+  pub choice : HasMoves r q.distinct q.min_moves p
+  pub only : IsTrue q.only_move → HasOnly r q.distinct q.value p
+  pub line : IsTrue q.whole_line → IsOnlyLine r q.distinct p
   pub reaches : IsTrue reached → IsReachedByPlay r p
 
 -- each of these tiers has a table, and so has each of its child tiers
 abbrev pub AreTiersHeld : Rules → List TableData → List ℕ → Type 0
 AreTiersHeld r entries tiers = (tier : ℕ) → Contains tiers tier → IsHeld entries tier × AreHeld r entries tier
+
+-- a table that the whole line of some position rests on is missing
+abbrev pub MayMiss : Rules → List TableData → Sought → Type 0
+MayMiss r entries q = IsTrue q.whole_line × ((p : Position) × AreNotHeld r entries p)
+
+-- a table is missing: of one of the tiers, or of a child tier of one, or else one that a whole line rests on
+abbrev pub IsMissing : Rules → List TableData → Sought → List ℕ → Type 0
+IsMissing r entries q tiers = (AreTiersHeld r entries tiers → ⊥) ⊎ MayMiss r entries q
 
 -- the place at which positions of this value and remoteness stand
 abbrev pub place_for : Value → Option ℕ → Option (Phase × ℕ)

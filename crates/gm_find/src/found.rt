@@ -2,7 +2,7 @@
 ghost use Rattle.std.specs.Prelude.{◌≡◌, ◌↔◌, ℕ, List, true, map, length, IfOk, IsErrOf, is_some};
 ghost use Rattle.std.specs.List.{All};
 ghost use Rattle.gm_table.specs.Tables.{IsHeld, AreHeld};
-ghost use Rattle.gm_find.specs.Finding.{AreTiersHeld};
+ghost use Rattle.gm_find.specs.Finding.{AreTiersHeld, IsMissing};
 ghost use Rattle.gm_find.specs.Founds.{IsFound, AreFound, IsHeldAt, position_of};
 
 use crate::find_error::FindError;
@@ -29,7 +29,8 @@ pub struct Found {
 /// The canonical positions that are sought, each with its value, its best move and the number of its moves: tier by tier in the order given and by ascending
 /// index, the first of them, at most `limit`. Where a set of reached positions is given, only positions in it count.
 ///
-/// `NotHeld` is tested first, and comes exactly where one of the tiers, or one of its child tiers, has no table.
+/// `NotHeld` is tested first, where one of the tiers, or one of its child tiers, has no table; where a whole line is asked for it also comes at a table that
+/// one rests on, and else nowhere.
 pub fn find<G: Game>(
     alloc: Global,
     tables: &Tables<G>,
@@ -39,7 +40,8 @@ pub fn find<G: Game>(
     limit: usize,
 ) -> Result<Vec<Found>, FindError>
     ensures found { IfOk result (λ v. AreFound G.rules sought (is_some reached.entry) limit tiers.now v.items) }
-    ensures not_held { IsErrOf result FindError.NotHeld ↔ (AreTiersHeld G.rules tables.now tiers.now → ⊥) }
+    ensures not_held { (AreTiersHeld G.rules tables.now tiers.now → ⊥) → IsErrOf result FindError.NotHeld }
+    ensures missing { IsErrOf result FindError.NotHeld → IsMissing G.rules tables.now sought tiers.now }
 {
     let positions = find_positions(alloc, tables, tiers, sought, reached, limit)?;
     match look_up(alloc, tables, positions.as_slice()) {

@@ -6,6 +6,7 @@
 pub mod find_error;
 pub mod found;
 mod only;
+mod only_line;
 pub mod positions;
 pub mod reached;
 pub mod rows;

@@ -2,11 +2,25 @@
 
 use gm_game::position::Value;
 
-/// Canonical positions of a value; where a remoteness is given, only those of that remoteness; where `only_move` is set, only those from which exactly one move
-/// keeps the value.
+/// A span of remoteness: from the least to the most, both counted.
+#[derive(Clone, Copy, Debug, PartialEq, Eq)]
+pub struct Span {
+    pub least: u32,
+    pub most: u32,
+}
+
+/// Canonical positions of a value, and what else is asked of them.
 #[derive(Clone, Copy, Debug, PartialEq, Eq)]
 pub struct Sought {
     pub value: Value,
-    pub remoteness: Option<u32>,
+    /// Those of a remoteness in this span; of any where there is none.
+    pub remoteness: Option<Span>,
+    /// Those from which exactly one move keeps the value.
     pub only_move: bool,
+    /// Wins in which, against every longest defence, exactly one move keeps the win at each turn of the winner but the last.
+    pub whole_line: bool,
+    /// Whether moves whose results are the same but for symmetry count as one.
+    pub distinct: bool,
+    /// Those with at least so many moves.
+    pub min_moves: usize,
 }

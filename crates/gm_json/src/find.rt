@@ -1,10 +1,10 @@
 //! Found positions, in JSON.
-ghost use Rattle.std.specs.Prelude.{◌≡◌, ◌↔◌, [], true, IfOk, OnOk, IsErrOf, is_some};
+ghost use Rattle.std.specs.Prelude.{◌≡◌, [], true, IfOk, OnOk, IsErrOf, is_some};
 ghost use Rattle.std.specs.List.{All, flat_map};
 ghost use Rattle.serde_json.specs.Data.{object};
 ghost use Rattle.serde_json.specs.View.{view, members_view};
 ghost use Rattle.gm_best.specs.BestMoves.{IsBestMove};
-ghost use Rattle.gm_find.specs.Finding.{AreTiersHeld};
+ghost use Rattle.gm_find.specs.Finding.{AreTiersHeld, IsMissing};
 ghost use Rattle.gm_find.specs.Founds.{IsFound};
 ghost use Rattle.gm_json.specs.Words.{move_or_null};
 ghost use Rattle.gm_json.specs.Founds.{found_tree, found_line, IsFoundJson};
@@ -24,7 +24,8 @@ use std::alloc::{AllocError, Global};
 /// moves, the position, its remoteness and its value. The members stand in alphabetical order; the lines tier by tier in the order given and by ascending
 /// index: the first of them, at most `limit`. Where a set of reached positions is given, only positions in it count.
 ///
-/// `NotHeld` is tested first, and comes exactly where one of the tiers, or one of its child tiers, has no table.
+/// `NotHeld` is tested first, where one of the tiers, or one of its child tiers, has no table; where a whole line is asked for it also comes at a table that
+/// one rests on, and else nowhere.
 pub fn find_json<G: Shown>(
     alloc: Global,
     tables: &Tables<G>,
@@ -34,7 +35,8 @@ pub fn find_json<G: Shown>(
     limit: usize,
 ) -> Result<Vec<u8>, FindError>
     ensures text { IfOk result (λ v. IsFoundJson G.Game.rules G.shown G.move_shown sought (is_some reached.entry) limit tiers.now v.items) }
-    ensures not_held { IsErrOf result FindError.NotHeld ↔ (AreTiersHeld G.Game.rules tables.now tiers.now → ⊥) }
+    ensures not_held { (AreTiersHeld G.Game.rules tables.now tiers.now → ⊥) → IsErrOf result FindError.NotHeld }
+    ensures missing { IsErrOf result FindError.NotHeld → IsMissing G.Game.rules tables.now sought tiers.now }
 {
     let found = find(alloc, tables, tiers, sought, reached, limit)?;
     match found_lines::<G>(alloc, found.as_slice()) {

@@ -23,15 +23,15 @@ loop-tier-preserved g c =
     let k = c.loop-tier.tier-index in
     let t = get_or tiers k 0 in
     let cur = c.loop-tier.found.items in
-    let (more, is, first) = c.in_ok-add_tier.ensures in
+    let (more, is, first) = c.in_ok-add_tier.ensures.found in
     let both = first_append P c.args.limit (all_positions r (take k tiers)) (positions_in r t) cur more c.loop-tier.invariant first in
     let longer : all_positions r (take (k + 1) tiers) ≡ all_positions r (take k tiers) ++ positions_in r t =
     ap (all_positions r) (take_more tiers k 0 c.loop-tier-test.true) ∙ flat_map-append (positions_in r) (take k tiers) (t ∷ []) ∙ ap (λ (xs : List Position). all_positions r (take k tiers) ++ xs) (append-nil (positions_in r t)) in
     subst (λ (ys : List Position). IsFirst P c.args.limit (all_positions r (take (k + 1) tiers)) ys) (sym is)
     (subst (λ (xs : List Position). IsFirst P c.args.limit xs (cur ++ more)) (sym longer) both)
 
-pub returns : goal.returns
-returns g c =
+pub returns-clause-found : goal.returns-clause-found
+returns-clause-found g c =
     let r = g.G.Game.rules in
     subst (λ (ts : List ℕ). IsFirst (IsMatch r c.args.sought (is_some c.args.reached)) c.args.limit (all_positions r ts) c.loop-tier.found.items)
     (take_all c.loop-tier.tier-index c.args.tiers.now c.loop-tier-test.false) c.loop-tier.invariant

@@ -1,0 +1,126 @@
+-- Moves that keep a value, up to symmetry, and wins in which there is one at each turn.
+use Rattle.std.proofs.Common.{◌≡◌, ℕ, zero, suc, ◌<◌, ◌≤◌, ◌+◌, ◌-◌, ◌↔◌, ◌⊎◌, inl, inr, Bool, IsTrue, List, [], ◌∷◌, ◌++◌, take, get_or, length, refl, sym, ◌∙◌, subst, arith, Option, None, Some, IfSome}
+use Rattle.std.specs.List.{Contains}
+use Rattle.std.specs.Option.{is_some}
+use Rattle.std.proofs.lemmas.List.{take_more}
+use Rattle.std.proofs.lemmas.List.Elements.{Contains-push_cases, Contains-append_left, Contains-push}
+use Rattle.gm_game.specs.declared.position.Position.{Position}
+use Rattle.gm_game.specs.declared.position.Solved.{Solved}
+use Rattle.gm_game.specs.declared.position.Value.{Value}
+use Rattle.gm_game.specs.declared.position.Value.TheVariants.{Win}
+use Rattle.gm_game.specs.Rules.{Rules}
+use Rattle.gm_game.specs.Values.{HasValue, IsTrueValue}
+use Rattle.gm_game.proofs.Basic.{HasValue_once}
+use Rattle.gm_game.proofs.Lists.{contains_none, contains_first, contains_later, contains_cases}
+use Rattle.gm_find.specs.Finding.{KeepsValue, AgreesWith, HasOnly, HasOnlyResult, IsOnlyWin, IsOnlyAfter, IsOnlyLine}
+
+-- c is the canonical position of the result of one of these moves that keeps the value
+abbrev pub IsKeptBy : Rules → Value → Position → List ℕ → Position → Type 0
+IsKeptBy r v p ms c = (m : ℕ) × Contains ms m × KeepsValue r v p m × (r.canonical (r.play p m) ≡ c)
+
+-- these moves, if they keep the value, lead to one position
+abbrev pub IsOnlySoFar : Rules → Value → Position → List ℕ → Option Position → Type 0
+IsOnlySoFar r v p ms None = (c : Position) → IsKeptBy r v p ms c → ⊥
+IsOnlySoFar r v p ms (Some c) = IsKeptBy r v p ms c × ((d : Position) → IsKeptBy r v p ms d → d ≡ c)
+
+pub contains_taken : {X : Type 0} (k : ℕ) (xs : List X) (y : X) → Contains (take k xs) y → Contains xs y
+contains_taken zero xs y c = absurd (contains_none y c)
+contains_taken (suc k) [] y c = absurd (contains_none y c)
+contains_taken (suc k) (x ∷ xs) y c = elim (contains_cases x y (take k xs) c) [
+  | inl e ↦ subst (Contains (x ∷ xs)) e (contains_first x xs)
+  | inr d ↦ contains_later x y xs (contains_taken k xs y d)
+]
+
+module _ (r : Rules) (v : Value) (p : Position) where
+  pub only_none : IsOnlySoFar r v p [] None
+  only_none c (m, has, k, e) = absurd (contains_none m has)
+
+  -- what one of these moves or one more leads to
+  kept_cases : (ms : List ℕ) (m : ℕ) (d : Position) → IsKeptBy r v p (ms ++ m ∷ []) d
+      → IsKeptBy r v p ms d ⊎ (KeepsValue r v p m × (r.canonical (r.play p m) ≡ d))
+  kept_cases ms m d (n, has, k, e) = elim (Contains-push_cases ms m n has) [
+    | inl o ↦ inl (n, o, k, e)
+    | inr f ↦ inr (subst (λ (x : ℕ). KeepsValue r v p x × (r.canonical (r.play p x) ≡ d)) (sym f) (k, e))
+  ]
+
+  kept_still : (ms : List ℕ) (m : ℕ) (d : Position) → IsKeptBy r v p ms d → IsKeptBy r v p (ms ++ m ∷ []) d
+  kept_still ms m d (n, has, k, e) = (n, Contains-append_left ms (m ∷ []) n has, k, e)
+
+  kept_last : (ms : List ℕ) (m : ℕ) (d : Position) → KeepsValue r v p m → r.canonical (r.play p m) ≡ d → IsKeptBy r v p (ms ++ m ∷ []) d
+  kept_last ms m d k e = (m, Contains-push ms m, k, e)
+
+  -- one move more, which doesn't keep the value
+  pub only_skip : (ms : List ℕ) (m : ℕ) (o : Option Position) → IsOnlySoFar r v p ms o → (KeepsValue r v p m → ⊥) → IsOnlySoFar r v p (ms ++ m ∷ []) o
+  only_skip ms m None h n = λ c k. elim (kept_cases ms m c k) [ inl a ↦ h c a | inr b ↦ n b.0 ]
+  only_skip ms m (Some c) h n = (kept_still ms m c h.0, λ d k. elim (kept_cases ms m d k) [ inl a ↦ h.1 d a | inr b ↦ absurd (n b.0) ])
+
+  -- one move more, which keeps the value and leads to no other position
+  pub only_more : (ms : List ℕ) (m : ℕ) (o : Option Position) (c : Position) → IsOnlySoFar r v p ms o → KeepsValue r v p m → r.canonical (r.play p m) ≡ c → AgreesWith o c
+      → IsOnlySoFar r v p (ms ++ m ∷ []) (Some c)
+  only_more ms m None c h k e n = (kept_last ms m c k e, λ d q. elim (kept_cases ms m d q) [ inl a ↦ absurd (h d a) | inr b ↦ sym b.1 ∙ e ])
+  only_more ms m (Some b) c h k e n = (kept_last ms m c k e, λ d q. elim (kept_cases ms m d q) [ inl a ↦ h.1 d a ∙ n | inr f ↦ sym f.1 ∙ e ])
+
+  -- two moves that lead to different positions
+  pub only_two : (ms : List ℕ) (m : ℕ) (o : Option Position) (c : Position) → IsOnlySoFar r v p ms o → ((n : ℕ) → Contains ms n → Contains (r.moves p) n) → Contains (r.moves p) m → KeepsValue r v p m
+      → r.canonical (r.play p m) ≡ c → (AgreesWith o c → ⊥) → HasOnlyResult r v p → ⊥
+  only_two ms m None c h inside has k e n x = n tt
+  only_two ms m (Some b) c ((w, own, kw, ew), h) inside has k e n (d, kd, same) = n (same b (w, inside w own, kw, ew) ∙ sym (same c (m, has, k, e)))
+
+  -- after all moves
+  pub only_all : (o : Option Position) → IsOnlySoFar r v p (r.moves p) o → IsTrue (is_some o) ↔ HasOnlyResult r v p
+  only_all None h = (λ t. absurd (cc), λ (c, k, same). absurd (h c k))
+  only_all (Some c) h = (λ t. (c, h.0, h.1), λ x. refl)
+
+-- a win of so many moves
+pub win_is : (r : Rules) (p : Position) (s : Solved) (n : ℕ) → IsTrueValue r p s → s.value ≡ Win → s.remoteness ≡ n → HasValue r p Win n
+win_is r p s n h v e = subst (λ (k : ℕ). HasValue r p Win k) e (subst (λ (x : Value). HasValue r p x s.remoteness) v h)
+
+pub is_win : (r : Rules) (p : Position) (s : Solved) (n : ℕ) → IsTrueValue r p s → HasValue r p Win n → (s.value ≡ Win) × (s.remoteness ≡ n)
+is_win r p s n h w = HasValue_once r p s.value Win s.remoteness n h w
+
+-- the winner's last turn
+pub last_turn : (r : Rules) (d : Bool) (n : ℕ) (p : Position) → n ≤ 2 → IsOnlyWin r d n p
+last_turn r d zero p l = tt
+last_turn r d (suc zero) p l = tt
+last_turn r d (suc (suc zero)) p l = tt
+last_turn r d (suc (suc (suc n))) p l = absurd (omega arith)
+
+-- a turn before the last
+pub turn_parts : (r : Rules) (d : Bool) (n : ℕ) (p : Position) → 2 < n → IsOnlyWin r d n p → HasOnly r d Win p × ((m : ℕ) → Contains (r.moves p) m → IsOnlyAfter r d (n - 2) p m)
+turn_parts r d zero p l h = absurd (omega arith)
+turn_parts r d (suc zero) p l h = absurd (omega arith)
+turn_parts r d (suc (suc zero)) p l h = absurd (omega arith)
+turn_parts r d (suc (suc (suc n))) p l h =
+    let e : suc n ≡ suc (suc (suc n)) - 2 = omega arith in
+    (h.0, λ m has. subst (λ (k : ℕ). IsOnlyAfter r d k p m) e (h.1 m has))
+
+pub turn_from : (r : Rules) (d : Bool) (n : ℕ) (p : Position) → 2 < n → HasOnly r d Win p → ((m : ℕ) → Contains (r.moves p) m → IsOnlyAfter r d (n - 2) p m) → IsOnlyWin r d n p
+turn_from r d zero p l h k = absurd (omega arith)
+turn_from r d (suc zero) p l h k = absurd (omega arith)
+turn_from r d (suc (suc zero)) p l h k = absurd (omega arith)
+turn_from r d (suc (suc (suc n))) p l h k =
+    let e : suc (suc (suc n)) - 2 ≡ suc n = omega arith in
+    (h, λ m has. subst (λ (j : ℕ). IsOnlyAfter r d j p m) e (k m has))
+
+-- a property of all moves, after one move more
+pub each_more : (P : ℕ → Type 0) (ms : List ℕ) (k m : ℕ) → k < length ms → get_or ms k 0 ≡ m → ((n : ℕ) → Contains (take k ms) n → P n) → P m → (n : ℕ) → Contains (take (k + 1) ms) n → P n
+each_more P ms k m l e h p n has = elim (Contains-push_cases (take k ms) (get_or ms k 0) n (subst (λ (xs : List ℕ). Contains xs n) (take_more ms k 0 l) has)) [
+  | inl o ↦ h n o
+  | inr f ↦ subst P (sym e ∙ f) p
+]
+
+-- what is no win has no such line
+pub no_line : (r : Rules) (d : Bool) (p : Position) (s : Solved) → IsTrueValue r p s → (s.value ≡ Win → ⊥) → IsOnlyLine r d p → ⊥
+no_line r d p s h n (k, w, t) = n (is_win r p s k h w).0
+
+-- a win of this remoteness has such a line where it has one in so many moves
+pub line_is : (r : Rules) (d : Bool) (p : Position) (s : Solved) → IsTrueValue r p s → s.value ≡ Win → IsOnlyWin r d s.remoteness p ↔ IsOnlyLine r d p
+line_is r d p s h v = (
+  λ t. (s.remoteness, win_is r p s s.remoteness h v refl, t),
+  λ (k, w, t). subst (λ (n : ℕ). IsOnlyWin r d n p) (sym (is_win r p s k h w).1) t,
+)
+
+-- an answer about a fact is one about another that comes to the same
+pub same_answer : (o : Option Bool) (A B : Type 0) → (A ↔ B) → IfSome o (λ (b : Bool). IsTrue b ↔ A) → IfSome o (λ (b : Bool). IsTrue b ↔ B)
+same_answer None A B e h = h
+same_answer (Some b) A B e h = (λ t. e.0 (h.0 t), λ x. h.1 (e.1 x))

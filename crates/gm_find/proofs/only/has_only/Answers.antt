@@ -1,0 +1,15 @@
+use Rattle.std.proofs.Common.{◌↔◌, ◌∙◌, Bool, IsTrue, nat_eq, sym, subst, eq-eqb, eqb-true}
+use Rattle.gm_find.specs.Finding.{HasOnly}
+use Rattle.gm_find.proofs.Matching.{only_is, is_only}
+use Rattle.gm_find.proofs.only.has_only.Goals as goal
+
+pub returns-else-distinct : goal.returns-else-distinct
+returns-else-distinct g c =
+    let (kept, those, long) = c.keeping.ensures in
+    let r = g.G.Game.rules in
+    let p = c.args.p in
+    let v = c.args.value in
+    subst (λ (d : Bool). IsTrue (nat_eq c.keeping.result 1) ↔ HasOnly r d v p) (sym c.if-distinct.false) (
+      λ h. only_is r p v kept those (long ∙ eqb-true c.keeping.result 1 h),
+      λ h. eq-eqb c.keeping.result 1 (sym long ∙ is_only r p v kept those h),
+    )

@@ -1,0 +1,23 @@
+use Rattle.std.proofs.Common.{ℕ, ◌*◌, ◌+◌, ◌-◌, take}
+use Rattle.std.specs.List.{Contains}
+use Rattle.gm_find.specs.Finding.{IsOnlyAfter, IsOnlyDefence}
+use Rattle.gm_find.proofs.only_line.+turns.Given as goal
+
+abbrev pub decreases-is_only_win : goal.decreases-is_only_win
+decreases-is_only_win g l = 4 * l.remoteness
+
+abbrev pub decreases-is_only_after : goal.decreases-is_only_after
+decreases-is_only_after g l = 4 * l.remoteness + 3
+
+abbrev pub decreases-are_only_defences : goal.decreases-are_only_defences
+decreases-are_only_defences g l = 4 * l.remoteness + 2
+
+abbrev pub decreases-is_only_defence : goal.decreases-is_only_defence
+decreases-is_only_defence g l = 4 * l.remoteness + 1
+
+abbrev pub invariant-is_only_win-loop-m : goal.invariant-is_only_win-loop-m
+invariant-is_only_win-loop-m g l = (m : ℕ) → Contains (take l.m-index l.m-items) m → IsOnlyAfter g.G.Game.rules l.distinct (l.remoteness - 2) l.p m
+
+abbrev pub invariant-are_only_defences-loop-e : goal.invariant-are_only_defences-loop-e
+invariant-are_only_defences-loop-e g l =
+    (e : ℕ) → Contains (take l.e-index l.e-items) e → IsOnlyDefence g.G.Game.rules l.distinct l.remoteness l.q e
