@@ -1,11 +1,12 @@
-//! The program's command line: what a line of words asks for, and the pages that are made from it. The words are in docs/PROGRAM.md.
+//! The program's command line: what a line of words asks for, and the texts about the program that are made from it. The words are in docs/PROGRAM.md.
 #![tactic(auto)]
 
 pub mod asked;
 pub mod commands;
 mod explore_commands;
 mod lines;
+pub mod manual;
 pub mod names;
-pub mod pages;
 pub mod requests;
 mod search_commands;
+mod words;
