@@ -15,6 +15,7 @@ use gm_game::position::Position;
 use gm_game::shown::Shown;
 use gm_json::line::line_json;
 use gm_json::moves::moves_json;
+use gm_page::page::page_text;
 use gm_play::texts::{line_text, moves_text};
 use gm_table::tables::Tables;
 use std::alloc::{AllocError, Global};
@@ -106,6 +107,7 @@ fn text_for<G: Pictured>(
         Question::Line { limit, .. } => line_text(alloc, tables, position, limit),
         Question::Show { explained } => show_text(alloc, tables, position, explained),
         Question::Diagram { valued } => diagram_text(alloc, tables, position, valued),
+        Question::Page { limit } => page_text(alloc, tables, position, limit.max(1)),
     }
 }
 

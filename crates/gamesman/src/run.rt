@@ -5,8 +5,8 @@ use crate::fault::Fault;
 use crate::games::{Streams, answer_for};
 use gm_build::whole_line::{FaultLine, write_line};
 use gm_command::asked::{Help, Unread, read_words, what_is_wrong};
+use gm_command::manual::{Manual, manual_text};
 use gm_command::names::{LATER_NAMES, NAMES};
-use gm_command::pages::{Page, page_text};
 use gm_command::requests::{Asked, Reading};
 use std::alloc::{AllocError, Global};
 use std::fs::Files;
@@ -36,9 +36,9 @@ fn list<O: Write>(all: bool, output: &mut O) -> Result<u8, Fault> {
     Ok(DONE)
 }
 
-// Writes a page, by one call.
-fn write_page<O: Write>(alloc: Global, page: Page, output: &mut O) -> Result<u8, Fault> {
-    let text = page_text(alloc, page)?;
+// Writes a text about the program, by one call.
+fn write_manual<O: Write>(alloc: Global, asked: Manual, output: &mut O) -> Result<u8, Fault> {
+    let text = manual_text(alloc, asked)?;
     put(output, text.as_slice())?;
     Ok(DONE)
 }
@@ -57,7 +57,7 @@ fn answer<
     match asked {
         Asked::List { all } => list(all, streams.output),
         Asked::Of { game, asked } => answer_for(rt, game, asked, streams),
-        Asked::Page(page) => write_page(rt.alloc(), page, streams.output),
+        Asked::Manual(asked) => write_manual(rt.alloc(), asked, streams.output),
     }
 }
 

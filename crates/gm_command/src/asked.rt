@@ -2,7 +2,7 @@
 
 use crate::commands::gamesman;
 use crate::explore_commands::explore_of;
-use crate::pages::{Page, page_of};
+use crate::manual::{Manual, manual_of};
 use crate::requests::{Asked, GameAsked, Kept, PlayAsked, Reading, SolveAsked};
 use crate::search_commands::search_of;
 use clap::error::ErrorKind;
@@ -115,8 +115,8 @@ fn asked_of<'a>(matches: &ArgMatches<'a>) -> Option<Asked<'a>> {
         Some(("list", inner)) => Some(Asked::List {
             all: inner.get_flag("all"),
         }),
-        Some(("completions", inner)) => Some(Asked::Page(page_of(inner)?)),
-        Some(("man", _)) => Some(Asked::Page(Page::Man)),
+        Some(("completions", inner)) => Some(Asked::Manual(manual_of(inner)?)),
+        Some(("man", _)) => Some(Asked::Manual(Manual::Man)),
         Some((name, inner)) => Some(Asked::Of {
             game: inner.get_str("GAME")?,
             asked: game_asked_of(name, inner)?,

@@ -1,6 +1,7 @@
 //! The program's command line, by clap.
 
-use crate::lines::{Kind, Line, Word, lines};
+use crate::lines::lines;
+use crate::words::{Kind, Line, Word};
 use clap::{Arg, ArgAction, Command, value_parser};
 use std::alloc::{AllocError, Global};
 

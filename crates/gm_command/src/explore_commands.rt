@@ -36,6 +36,9 @@ pub fn explore_of<'a>(name: &str, inner: &ArgMatches<'a>) -> Option<PositionAske
             json: inner.get_flag("json"),
         },
         "show" => show_of(inner)?,
+        "page" => Question::Page {
+            limit: inner.get_one::<u32>("limit")? as usize,
+        },
         _ => return None,
     };
     Some(PositionAsked {

@@ -1,6 +1,6 @@
 //! The words of `find`, with what `--help` says of them.
 
-use crate::lines::{FOLDER, GAME, JSON, Kind, Line, MOST, REACHED, READ_ONLY, Word};
+use crate::words::{FOLDER, GAME, JSON, Kind, Line, MOST, REACHED, READ_ONLY, Word};
 
 const VALUE: Word = Word {
     name: "value",

@@ -1,91 +1,7 @@
 //! The commands of the program and the words of each, with what `--help` says of them.
 
 use crate::find_line::FIND;
-
-/// What a word of a command line is.
-#[derive(Clone, Copy)]
-pub(crate) enum Kind {
-    /// A word by its place, which has to be there.
-    Word,
-    /// A word by its place, which may be left out.
-    Optional,
-    /// An option that is there or not.
-    Flag,
-    /// An option with a text, which the help shows by a name.
-    Text {
-        shown: &'static str,
-        required: bool,
-    },
-    /// An option with a number of a range, which the help shows by a name.
-    Number {
-        shown: &'static str,
-        least: i64,
-        most: i64,
-        default: Option<&'static str>,
-    },
-    /// An option with the number of a tier.
-    Tier,
-}
-
-/// A word of a command line.
-#[derive(Clone, Copy)]
-pub(crate) struct Word {
-    pub name: &'static str,
-    pub kind: Kind,
-    pub help: &'static str,
-}
-
-/// A command: what it does, examples of it, and its words in their order.
-#[derive(Clone, Copy)]
-pub(crate) struct Line {
-    pub name: &'static str,
-    pub alias: Option<&'static str>,
-    pub about: &'static str,
-    pub examples: &'static str,
-    pub words: &'static [Word],
-}
-
-/// The greatest number that a limit or a remoteness can be.
-pub(crate) const MOST: i64 = 4_294_967_295;
-
-pub(crate) const GAME: Word = Word {
-    name: "GAME",
-    kind: Kind::Word,
-    help: "The name of a game, one of those that `gamesman list` prints",
-};
-
-const START: Word = Word {
-    name: "POSITION",
-    kind: Kind::Optional,
-    help: "The position; the start where it is left out",
-};
-
-pub(crate) const FOLDER: Word = Word {
-    name: "folder",
-    kind: Kind::Text {
-        shown: "FOLDER",
-        required: false,
-    },
-    help: "A folder for the tables, which are then kept and used again",
-};
-
-pub(crate) const READ_ONLY: Word = Word {
-    name: "read-only",
-    kind: Kind::Flag,
-    help: "Reads the folder and writes nothing: each of its tables has to be there and right",
-};
-
-pub(crate) const JSON: Word = Word {
-    name: "json",
-    kind: Kind::Flag,
-    help: "Answers with lines of JSON",
-};
-
-pub(crate) const REACHED: Word = Word {
-    name: "reached",
-    kind: Kind::Flag,
-    help: "Those alone that play from the start can reach",
-};
+use crate::words::{FOLDER, GAME, JSON, Kind, Line, MOST, REACHED, READ_ONLY, START, Word};
 
 static LIST: Line = Line {
     name: "list",
@@ -232,6 +148,29 @@ static SHOW: Line = Line {
     ],
 };
 
+static PAGE: Line = Line {
+    name: "page",
+    alias: None,
+    about: "Writes one page of HTML, for any browser, that explores the positions that play reaches from a position: boards, moves and values",
+    examples: "Examples:\n  gamesman page tictactoe > tictactoe.html\n  gamesman page dao x...x..x.x.o.ooo --limit 500 > puzzle.html",
+    words: &[
+        GAME,
+        START,
+        Word {
+            name: "limit",
+            kind: Kind::Number {
+                shown: "N",
+                least: 1,
+                most: 1_000_000,
+                default: Some("2000"),
+            },
+            help: "The most positions that the page has, 1 to 1000000",
+        },
+        FOLDER,
+        READ_ONLY,
+    ],
+};
+
 static COUNTS: Line = Line {
     name: "counts",
     alias: None,
@@ -322,7 +261,7 @@ static MAN: Line = Line {
 };
 
 /// All commands, in the order of the help.
-pub(crate) fn lines() -> [&'static Line; 14] {
+pub(crate) fn lines() -> [&'static Line; 15] {
     [
         &LIST,
         &SOLVE,
@@ -330,6 +269,7 @@ pub(crate) fn lines() -> [&'static Line; 14] {
         &MOVES,
         &LINE,
         &SHOW,
+        &PAGE,
         &FIND,
         &COUNTS,
         &ASK,

@@ -1,7 +1,7 @@
 //! What a line of words can ask for.
 
 use crate::asked::Help;
-use crate::pages::Page;
+use crate::manual::Manual;
 use gm_best::side::Side;
 use gm_find::sought::Sought;
 use gm_solver::plan::Plan;
@@ -26,6 +26,8 @@ pub enum Question {
     Show { explained: bool },
     /// The board as a diagram for print, with the value under it where that is asked for.
     Diagram { valued: bool },
+    /// A page that explores at most this many positions that play reaches.
+    Page { limit: usize },
 }
 
 /// A question about a position of a game, or about its start.
@@ -112,7 +114,8 @@ pub enum Asked<'a> {
     /// The names of the games, with those that came later if all are asked for.
     List { all: bool },
     Of { game: &'a str, asked: GameAsked<'a> },
-    Page(Page),
+    /// A text about the program.
+    Manual(Manual),
 }
 
 /// What a line of words is read as: something that it asks for, or a text that the command line itself makes.

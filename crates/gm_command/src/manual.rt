@@ -1,13 +1,14 @@
 //! Texts about the program, made from the table of its command lines: completions for shells, and a man page.
 
-use crate::lines::{Kind, Line, Word, lines};
+use crate::lines::lines;
 use crate::names::{LATER_NAMES, NAMES};
+use crate::words::{Kind, Line, Word};
 use clap::ArgMatches;
 use std::alloc::{AllocError, Global};
 
 /// A text about the program.
 #[derive(Clone, Copy, Debug, PartialEq, Eq)]
-pub enum Page {
+pub enum Manual {
     Bash,
     Zsh,
     Fish,
@@ -15,28 +16,28 @@ pub enum Page {
 }
 
 /// The shell of a line of `completions`.
-pub fn page_of(inner: &ArgMatches<'_>) -> Option<Page> {
+pub fn manual_of(inner: &ArgMatches<'_>) -> Option<Manual> {
     match inner.get_str("SHELL")? {
-        "bash" => Some(Page::Bash),
-        "zsh" => Some(Page::Zsh),
-        "fish" => Some(Page::Fish),
+        "bash" => Some(Manual::Bash),
+        "zsh" => Some(Manual::Zsh),
+        "fish" => Some(Manual::Fish),
         _ => None,
     }
 }
 
-/// The text of a page.
-pub fn page_text(alloc: Global, page: Page) -> Result<Vec<u8>, AllocError> {
+/// The text that is asked for.
+pub fn manual_text(alloc: Global, asked: Manual) -> Result<Vec<u8>, AllocError> {
     let mut text = String::new(alloc);
-    write_page(page, &mut text)?;
+    write_manual(asked, &mut text)?;
     Ok(text.into_bytes())
 }
 
-fn write_page(page: Page, text: &mut String) -> Result<(), AllocError> {
-    match page {
-        Page::Bash => write_bash(text),
-        Page::Zsh => write_zsh(text),
-        Page::Fish => write_fish(text),
-        Page::Man => write_man(text),
+fn write_manual(asked: Manual, text: &mut String) -> Result<(), AllocError> {
+    match asked {
+        Manual::Bash => write_bash(text),
+        Manual::Zsh => write_zsh(text),
+        Manual::Fish => write_fish(text),
+        Manual::Man => write_man(text),
     }
 }
 

@@ -1,0 +1,173 @@
+"""A page tried in a browser: how it looks, games by clicks, drags, keys and touch, hidden values, addresses, and what it shows beside `gamesman ask`."""
+import json
+import random
+
+from listing import value_text, worth
+from looks import CONTRAST, NAMED, NAMELESS
+
+# How a place's middle is found (above the badge that may stand there), and what a game in a page is at.
+MIDDLE = "k => { const r = places[k].g.querySelector('.hit').getBoundingClientRect(); return [r.x + r.width / 2, r.y + r.height / 3]; }"
+WIDTHS = ((360, 740), (1280, 800))
+SOME_MOVES = """for (let k = 0; k < 4; k++) {
+  const inside = moves.filter(m => m.to !== null);
+  if (inside.length) play(inside[k % 2 && inside.length - 1]);
+}
+lead()"""
+
+
+class Tried:
+    """One page in a browser, with what was found wrong."""
+
+    def __init__(self, browser, game, url, answers, places):
+        self.browser, self.game, self.url, self.answers, self.places = browser, game, url, answers, places
+        self.wrong, self.moves = [], 0
+        # (the same tries each time)
+        self.chance = random.Random(game)
+
+    def want(self, what, got, wanted=True):
+        if got != wanted:
+            self.wrong.append(f"{self.game}: {what}: {str(got)[:300]}, not {str(wanted)[:300]}")
+        return got == wanted
+
+    def js(self, text):
+        return self.browser.js(text)
+
+    def middle(self, k):
+        return self.js(f"({MIDDLE})({k})")
+
+    def looks(self, width, height, scheme):
+        """The page as it is opened, and some moves later: its places, its width, its colours, and the names of what can be pressed."""
+        self.browser.size(width, height, scheme)
+        self.browser.open(self.url)
+        self.want("places", self.js("document.querySelectorAll('#board .hit').length === game.points.length"))
+        for when in ("at first", "later"):
+            what = f"at {width}, {scheme}, {when}"
+            self.want(f"width {what}", self.js("document.documentElement.scrollWidth <= document.documentElement.clientWidth"))
+            self.want(f"contrast {what}", self.js(CONTRAST), [])
+            self.want(f"names {what}", self.js(NAMELESS), [])
+            self.want(f"names of places {what}", self.js(NAMED))
+            self.js(SOME_MOVES)
+
+    def press(self, ends, dragging):
+        """One move on the board: a drag, or a press on each end, the second time on the same for a move of one place, where it is asked for."""
+        self.js(f"places[{ends[0]}].g.scrollIntoView({{ block: 'center' }})")
+        if dragging and len(ends) == 2:
+            return self.browser.drag(self.middle(ends[0]), self.middle(ends[1]))
+        for k in ends:
+            self.browser.click(self.middle(k))
+        if len(ends) == 1 and self.js("picked") is not None:
+            self.browser.click(self.middle(ends[0]))
+
+    def by_clicks(self):
+        """A game on the board, to its end or to the page's."""
+        self.js("follow([]); go(0)")
+        for ply in range(40):
+            inside = self.js("moves.filter(m => m.to !== null).map(m => [m.name, m.to, m.ends])")
+            if not inside:
+                return
+            name, to, ends = self.chance.choice(inside)
+            self.press(ends, ply % 2)
+            self.moves += 1
+            if not self.want(f"{name} by clicks", self.js("[line[at].row, at]"), [to, ply + 1]):
+                return
+
+    def by_keys(self):
+        """The list, the line and a place by the keyboard."""
+        key, at = self.browser.key, "at"
+        self.js("follow([]); go(0); document.querySelector('#moves button').focus()")
+        for _ in range(self.js("[...document.querySelectorAll('#moves button')].findIndex(x => !x.classList.contains('far'))")):
+            key("ArrowDown")
+        key("Enter", "\r")
+        self.want("enter plays", self.js(at), 1)
+        self.want("focus stays", self.js("document.activeElement.closest('#moves') !== null || document.activeElement.id === 'back'"))
+        for name, wanted in (("ArrowLeft", 0), ("ArrowRight", 1), ("Home", 0), ("End", 1)):
+            key(name)
+            self.want(name, self.js(at), wanted)
+        key("Home")
+        self.js("document.querySelector('#board .live').focus()")
+        key("Enter", "\r")
+        self.want("a place by enter", self.js("at === 1 || picked !== null || $('say').textContent !== ''"))
+        key("Escape")
+        self.want("escape", self.js("picked"), None)
+
+    def hidden(self):
+        """Hidden values are told by nothing; shown again they are there."""
+        self.js("follow([]); go(0); $('hide').focus()")
+        self.browser.key("v", "v")
+        self.want("nothing is shown", self.js("document.querySelectorAll('.value, .badge').length"), 0)
+        self.want("no plot", self.js("getComputedStyle($('plot')).display"), "none")
+        told = "[...document.querySelectorAll('main *')].filter(e => /\\b(win|lose|tie|draw)\\b/.test(e.getAttribute('aria-label') || '')).length"
+        self.want("no name tells", self.js(told), 0)
+        sorted_names = "(() => { const x = [...document.querySelectorAll('#moves button')].map(b => b.textContent); return '' + x === '' + [...x].sort(); })()"
+        self.want("the order tells nothing", self.js(sorted_names))
+        self.browser.key("v", "v")
+        self.want("shown again", self.js("document.querySelectorAll('#moves .value').length > 0"))
+        self.browser.key("l", "l")
+        self.want("the best line", self.js("$('say').textContent.startsWith('The best line')"))
+
+    def beside_ask(self, count):
+        """What the page shows of positions, come to by their addresses, beside what `ask` says of them."""
+        chosen = self.chance.sample(range(len(self.answers)), min(count, len(self.answers)))
+        shown = self.js(SHOWN % json.dumps(chosen))
+        for k, (text, state, moves) in zip(chosen, shown):
+            answer = self.answers[k]
+            self.want(f"line {k}", text, answer["position"])
+            wanted = [[move["move"], worth(move), move["position"] not in self.places] for move in answer["moves"]]
+            self.want(f"moves of {text}", moves, wanted)
+            value = value_text(answer["positionValue"], answer["remoteness"])
+            over = "The game is over: " + ("a tie" if value == "tie in 0" else "")
+            self.want(f"state of {text}", state.endswith(f" to move{value}") if moves else over in state)
+
+    def addresses(self):
+        """Links to positions and lines; what is none; many steps at once."""
+        for k in self.chance.sample(range(len(self.answers)), 3):
+            self.js(f"location.hash = '#' + encodeURIComponent(rows[{k}][0])")
+            text = json.dumps(self.answers[k]["position"])
+            self.browser.until(f"textAt(at) === {text} && $('say').textContent === ''")
+            self.browser.until("decodeURIComponent(location.hash) === ['#', ...line.slice(1, at + 1).map(x => '/' + x.name)].join('').replace(/^#$/, '')")
+        for bad in ("#no such position", "#%E0%A4%A", "#/no/such/line"):
+            self.browser.open(self.url + bad)
+            self.want(bad, self.js("[at, $('say').textContent]"), [0, "What the address names is not in this page."])
+        self.js("lead(); for (let k = 0; k < 300; k++) go(k % 2); 0")
+        self.browser.until("location.hash === '' || location.hash.startsWith('#/')")
+
+    def by_touch(self):
+        """A move by a finger: a drag where the board doesn't scroll the page, else taps."""
+        self.browser.size(*WIDTHS[0], "light")
+        self.browser.call("Emulation.setTouchEmulationEnabled", enabled=True, maxTouchPoints=1)
+        self.browser.open(self.url)
+        name, ends, dragged = self.js("(m => [m.name, m.ends, game.men.length === 1])(moves.find(m => m.to !== null && m.ends.length === 2) || moves[0])")
+        self.js(f"places[{ends[0]}].g.scrollIntoView({{ block: 'center' }})")
+        start, end = self.middle(ends[0]), self.middle(ends[-1])
+        way = [[start, [(a + b) / 2 for a, b in zip(start, end)], end]] if dragged else [[point] for point in (start, end)[: len(ends)]]
+        for first, *further in way:
+            self.browser.touch("touchStart", first)
+            for point in further:
+                self.browser.touch("touchMove", point)
+            self.browser.touch("touchEnd")
+        if self.js("at === 0 && picked !== null && picked !== undefined") and len(ends) == 1:
+            self.browser.touch("touchStart", start)
+            self.browser.touch("touchEnd")
+        self.browser.until("at === 1")
+        self.want("a move by touch", self.js("line[1].name"), name)
+        self.browser.call("Emulation.setTouchEmulationEnabled", enabled=False)
+
+    def run(self):
+        """All of it; gives what is wrong."""
+        for width, height in WIDTHS:
+            for scheme in ("light", "dark"):
+                self.looks(width, height, scheme)
+                self.want(f"console and network at {width}, {scheme}", self.browser.faults(self.url), [])
+        for part in (self.by_clicks, self.by_clicks, self.by_keys, self.hidden, lambda: self.beside_ask(200), self.addresses, self.by_touch):
+            part()
+            self.want("console and network", [said for said in self.browser.faults(self.url) if not said.startswith(self.url)], [])
+        return self.wrong
+
+
+# The text, the state and the moves of lines of the data, each come to by its address.
+SHOWN = """%s.map(k => {
+  readAddress("#" + encodeURIComponent(rows[k][0]));
+  const moves = [...document.querySelectorAll("#moves li")].flatMap(li =>
+    [...li.querySelectorAll("button")].map(b => [b.textContent, li.querySelector(".value").textContent, b.classList.contains("far")]));
+  return [textAt(at), $("state").textContent, moves];
+})"""

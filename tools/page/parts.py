@@ -1,0 +1,69 @@
+"""What can be said of a page without a browser: its three parts, its bytes, and that it names no other file."""
+import html.parser
+import os
+import re
+
+from common import ROOT
+
+SOURCES = os.path.join(ROOT, "crates/gm_page/src")
+NAMESPACES = {"http://www.w3.org/1999/xhtml", "http://www.w3.org/2000/svg"}
+POLICY = b"default-src 'none'; style-src 'unsafe-inline'; script-src 'unsafe-inline'; img-src data:; base-uri 'none'; form-action 'none'"
+ASKS = rb"\bsrc\s*=|url\(|\bfetch\b|\bimport\b|@font-face|XMLHttp|WebSocket|EventSource|sendBeacon|\beval\b|innerHTML"
+
+
+def constant(name):
+    """The text of a raw string of the library."""
+    with open(os.path.join(SOURCES, f"{name}.rt"), "rb") as it:
+        return re.search(rb'(?s)br##"(.*?)"##;', it.read())[1]
+
+
+FRONT, BACK = constant("front"), constant("back")
+
+
+def data_in(page):
+    """The lines of a page's data."""
+    return page[len(FRONT) : len(page) - len(BACK)]
+
+
+class Balanced(html.parser.HTMLParser):
+    """Reads a page, and keeps the tags that don't pair and the names of its elements."""
+
+    VOID = {"meta", "link", "br"}
+
+    def __init__(self):
+        super().__init__()
+        self.open, self.bad, self.ids = [], [], []
+
+    def handle_starttag(self, tag, attributes):
+        self.ids += [value for key, value in attributes if key == "id"]
+        if tag not in self.VOID:
+            self.open.append(tag)
+
+    def handle_endtag(self, tag):
+        if not self.open or self.open.pop() != tag:
+            self.bad.append(tag)
+
+
+def wrong_tags(page):
+    reader = Balanced()
+    reader.feed(page.decode("ascii"))
+    reader.close()
+    if reader.bad or reader.open:
+        return f"tags don't pair: {reader.bad + reader.open}"
+    return None if len(reader.ids) == len(set(reader.ids)) else "two elements have one name"
+
+
+def wrong(page):
+    """Why a page is not made of its parts, or is no page that asks for nothing, if so."""
+    outside = set(re.findall(rb"\w+://[^\"'`\s]*", page)) - {name.encode() for name in NAMESPACES}
+    checks = {
+        "it does not begin and end as the library says": page.startswith(FRONT) and page.endswith(BACK),
+        "a byte is not ASCII": page.isascii(),
+        "its data open a tag": b"<" not in data_in(page),
+        "its data end in the middle of a line": data_in(page).endswith(b"\n"),
+        f"it names {sorted(outside)}": not outside,
+        "it has words of those that ask for a file": not re.search(ASKS, FRONT + BACK),
+        "its policy does not forbid to ask": POLICY in FRONT,
+    }
+    found = [why for why, well in checks.items() if not well]
+    return found[0] if found else wrong_tags(page)
