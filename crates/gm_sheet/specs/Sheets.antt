@@ -1,5 +1,5 @@
 -- Sheets: diagrams of found positions, with their solutions.
-use Rattle.std.specs.Prelude.{◌≡◌, ◌⊎◌, ◌==◌, ℕ, Bool, true, List, [], ◌∷◌, ◌++◌, codes, if◌then◌else◌, Option, None, Some}
+use Rattle.std.specs.Prelude.{◌≡◌, ◌==◌, ℕ, Bool, true, List, [], ◌∷◌, ◌++◌, codes, if◌then◌else◌, Option, None, Some}
 use Rattle.std.specs.Fmt.{decimal}
 use Rattle.std.specs.List.{Contains, flat_map}
 use Rattle.gm_game.specs.declared.position.Position.{Position}
@@ -62,7 +62,9 @@ pub record Entry : Type 0 where
 
 -- its diagram, with the solution and the text to unfold
 unfoldable pub entry_text : Entry → List ℕ
-entry_text e = codes "<li>" ++ e.diagram ++ codes "<details><summary>Solution</summary><p>" ++ e.solution ++ codes "</p>\n<p><code>" ++ escaped e.text ++ codes "</code></p></details></li>\n"
+entry_text e =
+    codes "<li>" ++ e.diagram ++ codes "<details><summary>Solution</summary><p>" ++ e.solution ++ codes "</p>\n<p><code>" ++ escaped e.text
+    ++ codes "</code></p></details></li>\n"
 
 -- its solution for paper
 unfoldable pub answer_text : Entry → List ℕ
@@ -80,7 +82,8 @@ lists entries answers = entries ++ SHEET_SOLUTIONS.now ++ answers ++ SHEET_BACK.
 abbrev pub sheet_of : List ℕ → List Entry → List ℕ
 sheet_of title es = heading title ++ lists (flat_map entry_text es) (flat_map answer_text es)
 
-module _ (r : Rules) (shown : Position → List ℕ) (move_shown : Position → ℕ → List ℕ) (drawn mover : Position → List ℕ) (style : Style) (title board : List ℕ) where
+module _ (r : Rules) (shown : Position → List ℕ) (move_shown : Position → ℕ → List ℕ) (drawn mover : Position → List ℕ) (style : Style)
+    (title board : List ℕ) where
   -- the entry of a found position: its text, the diagram of it with its value, and its solution
   pub record IsEntry (x : Found) (e : Entry) : Type 0 where
     pub text : e.text ≡ shown x.position

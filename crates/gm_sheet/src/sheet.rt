@@ -33,10 +33,12 @@ pub fn sheet_text<G: Pictured>(
     reached: Option<&Reached<G>>,
     limit: usize,
 ) -> Result<Vec<u8>, FindError>
-    ensures sheet { IfOk result (λ v. IsSheet G.Game.rules G.shown G.move_shown G.drawn G.mover G.style G.title G.board sought (is_some reached.entry) limit tiers.now v.items) }
+    ensures sheet { IfOk result (λ v. IsSheet G.Game.rules G.shown G.move_shown G.drawn G.mover G.style G.title G.board sought (is_some reached.entry) limit
+        tiers.now v.items) }
     ensures first { (AreTiersHeld G.Game.rules tables.now tiers.now → ⊥) → IsErrOf result FindError.NotHeld }
     ensures not_held { IsErrOf result FindError.NotHeld → (AreTiersHeld G.Game.rules tables.now tiers.now → ⊥)
-        ⊎ ((xs : List Found) × AreFound G.Game.rules sought (is_some reached.entry) limit tiers.now xs × MayRefuseLines G.Game.rules tables.now xs PlayError.NotHeld) }
+        ⊎ ((xs : List Found) × AreFound G.Game.rules sought (is_some reached.entry) limit tiers.now xs
+        × MayRefuseLines G.Game.rules tables.now xs PlayError.NotHeld) }
 {
     let found = find(alloc, tables, tiers, sought, reached, limit)?;
     match sheet_of_found(alloc, tables, found.as_slice()) {
@@ -53,7 +55,8 @@ fn sheet_of_found<G: Pictured>(
     found: &[Found],
 ) -> Result<Vec<u8>, PlayError>
     requires { All (IsFound G.Game.rules) found.now }
-    ensures sheet { IfOk result (λ v. (es : List Entry) × AreEntries G.Game.rules G.shown G.move_shown G.drawn G.mover G.style G.title G.board found.now es × (v.items ≡ sheet_of G.title es)) }
+    ensures sheet { IfOk result (λ v. (es : List Entry)
+        × AreEntries G.Game.rules G.shown G.move_shown G.drawn G.mover G.style G.title G.board found.now es × (v.items ≡ sheet_of G.title es)) }
     ensures refused { IfErr result (MayRefuseLines G.Game.rules tables.now found.now) }
 {
     let mut entries = Vec::new(alloc);
@@ -120,8 +123,10 @@ fn push_parts(
     diagram: &[u8],
     solution: &[u8],
 ) -> Result<(), AllocError>
-    ensures entry { OnOk result (entries.new.items ≡ entries.old.items ++ entry_text (record { text = text.now; diagram = diagram.now; solution = solution.now })) }
-    ensures answer { OnOk result (answers.new.items ≡ answers.old.items ++ answer_text (record { text = text.now; diagram = diagram.now; solution = solution.now })) }
+    ensures entry { OnOk result (entries.new.items
+        ≡ entries.old.items ++ entry_text (record { text = text.now; diagram = diagram.now; solution = solution.now })) }
+    ensures answer { OnOk result (answers.new.items
+        ≡ answers.old.items ++ answer_text (record { text = text.now; diagram = diagram.now; solution = solution.now })) }
 {
     push_unfolding(entries, text, diagram, solution)?;
     push_answer(answers, solution)
@@ -135,7 +140,8 @@ fn push_unfolding(
     diagram: &[u8],
     solution: &[u8],
 ) -> Result<(), AllocError>
-    ensures { OnOk result (entries.new.items ≡ entries.old.items ++ entry_text (record { text = text.now; diagram = diagram.now; solution = solution.now })) }
+    ensures { OnOk result (entries.new.items
+        ≡ entries.old.items ++ entry_text (record { text = text.now; diagram = diagram.now; solution = solution.now })) }
 {
     entries.extend_from_slice(b"<li>")?;
     entries.extend_from_slice(diagram)?;
@@ -149,7 +155,8 @@ fn push_unfolding(
 // Appends a solution for paper.
 #[tactic(auto, unfolding(crate::specs::Sheets::answer_text))]
 fn push_answer(answers: &mut Vec<u8>, solution: &[u8]) -> Result<(), AllocError>
-    ensures { OnOk result ((text : List ℕ) (diagram : List ℕ) → answers.new.items ≡ answers.old.items ++ answer_text (record { text = text; diagram = diagram; solution = solution.now })) }
+    ensures { OnOk result ((text : List ℕ) (diagram : List ℕ) → answers.new.items
+        ≡ answers.old.items ++ answer_text (record { text = text; diagram = diagram; solution = solution.now })) }
 {
     answers.extend_from_slice(b"<li>")?;
     answers.extend_from_slice(solution)?;

@@ -63,7 +63,8 @@ fn push_best<G: Shown>(
     requires legal { G.Game.rules.is_legal p ≡ true }
     requires listed { Contains (G.Game.rules.moves p) m }
     requires best { AreBest G.Game.rules p line.now.moves.items }
-    ensures { OnOk result (text.new.items ≡ text.old.items ++ (best_words G.Game.rules G.move_shown p m count ++ line_words G.Game.rules G.move_shown p line.now)) }
+    ensures { OnOk result (text.new.items
+        ≡ text.old.items ++ (best_words G.Game.rules G.move_shown p m count ++ line_words G.Game.rules G.move_shown p line.now)) }
 {
     push_move::<G>(text, p, m, count)?;
     push_line::<G>(text, p, line)
