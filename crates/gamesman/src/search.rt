@@ -6,13 +6,15 @@ use crate::run::DONE;
 use crate::tables::Place;
 use gm_analyse::bars::counts_text;
 use gm_build::build::Built;
-use gm_command::requests::{PositionsSought, Search};
+use gm_command::requests::{Form, PositionsSought, Search};
+use gm_draw::pictured::Pictured;
 use gm_find::find_error::FindError;
 use gm_find::reached::Reached;
 use gm_find::rows::find_text;
 use gm_game::shown::Shown;
 use gm_json::ask::ask;
 use gm_json::find::find_json;
+use gm_sheet::sheet::sheet_text;
 use gm_tiers::order::TierOrder;
 use std::alloc::Global;
 use std::fs::Files;
@@ -23,7 +25,7 @@ use std::time::Clock;
 
 /// Answers a question about all tables of a game.
 pub fn search<
-    G: Shown + Send + Sync,
+    G: Pictured + Send + Sync,
     R: Threads + Wait + Clock + Files + Sync + AllocGlobal,
     I: Read,
     O: Write,
@@ -37,7 +39,7 @@ pub fn search<
     answered
 }
 
-fn answer<G: Shown, I: Read, O: Write>(
+fn answer<G: Pictured, I: Read, O: Write>(
     alloc: Global,
     built: &Built<G>,
     asked: Search,
@@ -79,8 +81,8 @@ fn first_tier<G: Shown>(alloc: Global, asked: Search) -> Result<u64, Fault> {
     }
 }
 
-// The rows of the positions that are looked for, or their lines of JSON.
-fn found<G: Shown>(
+// The positions that are looked for: their rows, their lines of JSON, or a sheet of their diagrams.
+fn found<G: Pictured>(
     alloc: Global,
     built: &Built<G>,
     positions: PositionsSought,
@@ -92,7 +94,7 @@ fn found<G: Shown>(
 }
 
 // The same, where the positions that play reaches are known if they are asked for.
-fn found_among<G: Shown>(
+fn found_among<G: Pictured>(
     alloc: Global,
     built: &Built<G>,
     positions: PositionsSought,
@@ -105,10 +107,10 @@ fn found_among<G: Shown>(
     };
     let tables = &built.tables;
     let (sought, limit) = (positions.sought, positions.limit);
-    if positions.json {
-        find_json(alloc, tables, tiers, sought, reached, limit)
-    } else {
-        find_text(alloc, tables, tiers, sought, reached, limit)
+    match positions.form {
+        Form::Rows => find_text(alloc, tables, tiers, sought, reached, limit),
+        Form::Json => find_json(alloc, tables, tiers, sought, reached, limit),
+        Form::Sheet => sheet_text(alloc, tables, tiers, sought, reached, limit),
     }
 }
 

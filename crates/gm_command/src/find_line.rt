@@ -60,6 +60,12 @@ const LIMIT: Word = Word {
     help: "The most positions that are listed, from 1 on",
 };
 
+const PAGE: Word = Word {
+    name: "page",
+    kind: Kind::Flag,
+    help: "Writes one page of HTML, for any browser or for print: a diagram of each position, and its solution to unfold",
+};
+
 pub(crate) static FIND: Line = Line {
     name: "find",
     alias: None,
@@ -81,6 +87,7 @@ pub(crate) static FIND: Line = Line {
         REACHED,
         LIMIT,
         JSON,
+        PAGE,
         FOLDER,
         READ_ONLY,
     ],

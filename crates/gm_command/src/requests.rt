@@ -37,6 +37,17 @@ pub struct PositionAsked<'a> {
     pub question: Question,
 }
 
+/// How positions that are found are written.
+#[derive(Clone, Copy, Debug, PartialEq, Eq)]
+pub enum Form {
+    /// A row for each.
+    Rows,
+    /// A line of JSON for each.
+    Json,
+    /// A page of diagrams with their solutions.
+    Sheet,
+}
+
 /// Positions that are looked for.
 #[derive(Clone, Copy, Debug, PartialEq, Eq)]
 pub struct PositionsSought {
@@ -47,8 +58,8 @@ pub struct PositionsSought {
     pub reached: bool,
     /// The greatest number of positions to answer.
     pub limit: usize,
-    /// Whether they are printed as lines of JSON.
-    pub json: bool,
+    /// How they are written.
+    pub form: Form,
 }
 
 /// What is asked of all tables of a game.

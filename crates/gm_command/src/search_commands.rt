@@ -1,7 +1,7 @@
 //! What a line says that asks about all tables, or for the service that answers positions.
 
 use crate::numbers::span_of;
-use crate::requests::{PositionsSought, Search};
+use crate::requests::{Form, PositionsSought, Search};
 use clap::ArgMatches;
 use gm_find::sought::Sought;
 use gm_game::position::Value;
@@ -46,6 +46,16 @@ fn sought_of(inner: &ArgMatches<'_>) -> Option<Sought> {
     if fits(sought) { Some(sought) } else { None }
 }
 
+// How positions are written: not in two ways at once.
+fn form_of(inner: &ArgMatches<'_>) -> Option<Form> {
+    match (inner.get_flag("json"), inner.get_flag("page")) {
+        (false, false) => Some(Form::Rows),
+        (true, false) => Some(Form::Json),
+        (false, true) => Some(Form::Sheet),
+        (true, true) => None,
+    }
+}
+
 fn positions_of(inner: &ArgMatches<'_>) -> Option<PositionsSought> {
     let limit = match inner.get_one::<u32>("limit") {
         Some(limit) => limit as usize,
@@ -56,7 +66,7 @@ fn positions_of(inner: &ArgMatches<'_>) -> Option<PositionsSought> {
         tier: inner.get_one::<u64>("tier"),
         reached: inner.get_flag("reached"),
         limit,
-        json: inner.get_flag("json"),
+        form: form_of(inner)?,
     })
 }
 
