@@ -2,7 +2,7 @@
 ghost use Rattle.std.specs.Prelude.{◌≡◌, ◌⊎◌, ◌++◌, ℕ, List, IfOk, OnOk, IfErr, IsErrOf, is_some};
 ghost use Rattle.std.specs.List.{All, flat_map};
 ghost use Rattle.gm_find.specs.declared.found.Found.{Found};
-ghost use Rattle.gm_find.specs.Finding.{AreTiersHeld};
+ghost use Rattle.gm_find.specs.Finding.{AreTiersHeld, IsMissing};
 ghost use Rattle.gm_find.specs.Founds.{AreFound, IsFound};
 ghost use Rattle.gm_sheet.specs.Sheets.{Entry, entry_text, answer_text, heading, lists, sheet_of, IsEntry, AreEntries, IsSheet, MayRefuseLine, MayRefuseLines};
 
@@ -23,8 +23,8 @@ use std::alloc::{AllocError, Global};
 /// paper. A solution is the best move, how many moves there are, and the line of best play, of at most 40 moves. The positions stand in the order
 /// of `find`: the first of them, at most `limit`. Where a set of reached positions is given, only positions in it count.
 ///
-/// `NotHeld` is tested first: it comes where one of the tiers, or one of its child tiers, has no table; and else only where the line of best play from a found
-/// position comes to one whose tier, or one of its child tiers, has none. The whole sheet is made in memory.
+/// `NotHeld` is tested first: it comes where one of the tiers, or one of its child tiers, has no table; and else only where `find` says so of a whole line, or
+/// the line of best play from a found position comes to one whose tier, or one of its child tiers, has none. The whole sheet is made in memory.
 pub fn sheet_text<G: Pictured>(
     alloc: Global,
     tables: &Tables<G>,
@@ -36,7 +36,7 @@ pub fn sheet_text<G: Pictured>(
     ensures sheet { IfOk result (λ v. IsSheet G.Game.rules G.shown G.move_shown G.drawn G.mover G.style G.title G.board sought (is_some reached.entry) limit
         tiers.now v.items) }
     ensures first { (AreTiersHeld G.Game.rules tables.now tiers.now → ⊥) → IsErrOf result FindError.NotHeld }
-    ensures not_held { IsErrOf result FindError.NotHeld → (AreTiersHeld G.Game.rules tables.now tiers.now → ⊥)
+    ensures not_held { IsErrOf result FindError.NotHeld → IsMissing G.Game.rules tables.now sought tiers.now
         ⊎ ((xs : List Found) × AreFound G.Game.rules sought (is_some reached.entry) limit tiers.now xs
         × MayRefuseLines G.Game.rules tables.now xs PlayError.NotHeld) }
 {
