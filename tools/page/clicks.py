@@ -120,7 +120,7 @@ class Tried:
 
     def addresses(self):
         """Links to positions and lines; what is none; many steps at once."""
-        for k in self.chance.sample(range(len(self.answers)), 3):
+        for k in self.chance.sample(range(len(self.answers)), min(3, len(self.answers))):
             self.js(f"location.hash = '#' + encodeURIComponent(rows[{k}][0])")
             text = json.dumps(self.answers[k]["position"])
             self.browser.until(f"textAt(at) === {text} && $('say').textContent === ''")
