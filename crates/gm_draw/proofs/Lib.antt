@@ -1,1 +1,2 @@
 mod Spreading
+mod Spotting

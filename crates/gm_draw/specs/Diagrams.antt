@@ -1,5 +1,5 @@
 -- Diagrams: SVG documents of positions, byte by byte.
-use Rattle.std.specs.Prelude.{◌≡◌, ℕ, ◌+◌, ◌-◌, ◌*◌, ◌/◌, max, Bool, true, false, ◌||◌, ◌==◌, List, [], ◌∷◌, ◌++◌, count_by, slice_index, codes, if◌then◌else◌}
+use Rattle.std.specs.Prelude.{◌≡◌, ℕ, ◌+◌, ◌-◌, ◌*◌, ◌/◌, max, Bool, true, false, ◌||◌, ◌==◌, List, [], ◌∷◌, ◌++◌, count_by, nat_lt, slice_index, codes, if◌then◌else◌}
 use Rattle.std.specs.Fmt.{decimal}
 use Rattle.std.specs.List.{flat_map}
 use Rattle.gm_game.specs.declared.position.Position.{Position}
@@ -117,9 +117,16 @@ man_of Letters x y b = letter_of x y b
 abbrev pub point_of : Style → ℕ → ℕ → List ℕ
 point_of style x y = if has_points style then circle x y (codes "\" r=\"5\" fill=\"#fff\"/>\n") else []
 
--- the name of a row or a column; beside cells the names of rows stand nearer
+-- where the name of a row or a column stands: beside cells those of rows are nearer, over the men on points those of columns farther
+abbrev pub label_x : Style → ℕ → ℕ
+label_x style x = if has_cells style then (if x == 40 then 70 else x) else x
+
+abbrev pub label_y : Style → ℕ → ℕ
+label_y style y = if has_points style then (if y == 40 then 38 else y + 6) else y + 6
+
+-- the name of a row or a column
 abbrev pub label_of : Style → ℕ → ℕ → ℕ → List ℕ
-label_of style x y b = words_at (if has_cells style then (if x == 40 then 70 else x) else x) (y + 6) (codes "\" stroke=\"none\">") (b ∷ [])
+label_of style x y b = words_at (label_x style x) (label_y style y) (codes "\" stroke=\"none\">") (b ∷ [])
 
 -- what stands over that: the men in their places, and the names of rows and columns
 unfoldable pub over_at : Style → List ℕ → ℕ → ℕ → ℕ → List ℕ
@@ -147,24 +154,41 @@ unfoldable pub widest : ℕ → ℕ → List ℕ → ℕ
 widest n longest [] = longest
 widest n longest (b ∷ bs) = widest (next_length n b) (max longest (next_length n b)) bs
 
--- the size of a diagram, wide enough for its caption, and where it begins
-abbrev pub width_by : Style → ℕ → ℕ
-width_by Row longest = max (10 * longest + 30) 300
-width_by style longest = max (20 * longest + 60) 300
+-- where a board ends on the right, by the length of its longest line: a letter of a row is 11 wide
+abbrev pub end_by : Style → ℕ → ℕ
+end_by Row longest = 11 * longest + 30
+end_by style longest = 20 * longest + 60
 
+abbrev pub end_of : Style → List ℕ → ℕ
+end_of style drawing = end_by style (widest 0 0 drawing)
+
+-- where it begins on the left
+abbrev pub left_of : Style → ℕ
+left_of style = if has_cells style then 40 else 0
+
+-- its middle from left to right
+abbrev pub middle_of : Style → List ℕ → ℕ
+middle_of style drawing = (end_of style drawing + left_of style) / 2
+
+-- the width of a diagram, which has room for its caption, and how much of that is added before the board
 abbrev pub width_of : Style → List ℕ → ℕ
-width_of style drawing = width_by style (widest 0 0 drawing)
+width_of style drawing = max (end_of style drawing) 300 - left_of style
+
+abbrev pub margin_of : Style → List ℕ → ℕ
+margin_of style drawing = (max (end_of style drawing) 300 - end_of style drawing) / 2
 
 abbrev pub height_of : List ℕ → ℕ
 height_of drawing = 40 * count_by (λ b. b == 10) drawing + 130
 
-abbrev pub left_of : Style → ℕ
-left_of style = if has_cells style then 40 else 0
-
 -- ---- documents
+-- where the paper begins: so much before the left of the board, which may be left of 0
+abbrev pub start_of : ℕ → ℕ → List ℕ
+start_of left margin = if nat_lt left margin then 45 ∷ decimal (margin - left) else decimal (left - margin)
+
 -- the beginning of the whole, with its box
-unfoldable pub svg_box : ℕ → ℕ → ℕ → List ℕ
-svg_box left width height = at_point (codes "<svg xmlns=\"http://www.w3.org/2000/svg\" viewBox=\"") left (codes " 0 ") width (codes " ") ++ decimal height
+unfoldable pub svg_box : ℕ → ℕ → ℕ → ℕ → List ℕ
+svg_box left margin width height =
+    codes "<svg xmlns=\"http://www.w3.org/2000/svg\" viewBox=\"" ++ start_of left margin ++ at_point (codes " 0 ") width (codes " ") height []
 
 -- its size, and how its lines and letters look
 unfoldable pub svg_size : ℕ → ℕ → List ℕ
@@ -173,16 +197,17 @@ svg_size width height =
     (codes "\" role=\"img\" font-family=\"sans-serif\" font-size=\"18\" text-anchor=\"middle\" stroke-linecap=\"round\">\n")
 
 -- the element of the whole, up to its title
-abbrev pub svg_open : ℕ → ℕ → ℕ → List ℕ
-svg_open left width height = svg_box left width height ++ svg_size width height
+abbrev pub svg_open : ℕ → ℕ → ℕ → ℕ → List ℕ
+svg_open left margin width height = svg_box left margin width height ++ svg_size width height
 
 -- the title: the game, the position's text and the caption
 unfoldable pub svg_title : List ℕ → List ℕ → List ℕ → List ℕ
 svg_title title text caption = codes "<title>" ++ escaped title ++ codes " " ++ escaped text ++ codes " " ++ escaped caption ++ codes "</title>\n"
 
 -- the paper
-unfoldable pub svg_paper : ℕ → ℕ → ℕ → List ℕ
-svg_paper left width height = codes "<rect x=\"" ++ decimal left ++ codes "\" width=\"" ++ decimal width ++ codes "\" height=\"" ++ decimal height ++ codes "\" fill=\"#fff\"/>\n"
+unfoldable pub svg_paper : ℕ → ℕ → ℕ → ℕ → List ℕ
+svg_paper left margin width height =
+    codes "<rect x=\"" ++ start_of left margin ++ at_point (codes "\" width=\"") width (codes "\" height=\"") height (codes "\" fill=\"#fff\"/>\n")
 
 -- the row of numbers, in the middle
 abbrev pub row_words : ℕ → List ℕ → List ℕ
@@ -199,13 +224,9 @@ under_all style board = spread (under_at style) 40 40 board
 abbrev pub caption_words : ℕ → ℕ → List ℕ → List ℕ
 caption_words middle height caption = words_at middle (height - 14) (codes "\" stroke=\"none\">") caption
 
--- the middle of a diagram, from left to right
-abbrev pub middle_of : Style → List ℕ → ℕ
-middle_of style drawing = (width_of style drawing + left_of style) / 2
-
 -- the parts of a document: up to the paper, what lies under the men, and the men with the caption
-unfoldable pub svg_front : ℕ → ℕ → ℕ → List ℕ → List ℕ → List ℕ → List ℕ
-svg_front left width height title text caption = svg_open left width height ++ svg_title title text caption ++ svg_paper left width height
+unfoldable pub svg_front : ℕ → ℕ → ℕ → ℕ → List ℕ → List ℕ → List ℕ → List ℕ
+svg_front left margin width height title text caption = svg_open left margin width height ++ svg_title title text caption ++ svg_paper left margin width height
 
 unfoldable pub svg_net : Style → List ℕ → List ℕ
 svg_net style board = codes "<g fill=\"none\" stroke=\"#777\" stroke-width=\"2\">\n" ++ under_all style board ++ codes "</g>\n"
@@ -219,7 +240,7 @@ svg_back middle height caption = caption_words middle height caption ++ codes "<
 -- the SVG document of a position with this text and this drawing
 unfoldable pub svg_of : Style → List ℕ → List ℕ → List ℕ → List ℕ → List ℕ → List ℕ
 svg_of style title board text drawing caption =
-    svg_front (left_of style) (width_of style drawing - left_of style) (height_of drawing) title text caption
+    svg_front (left_of style) (margin_of style drawing) (width_of style drawing) (height_of drawing) title text caption
     ++ svg_net style board ++ svg_men style board text drawing (middle_of style drawing) ++ svg_back (middle_of style drawing) (height_of drawing) caption
 
 -- what stands under a board: the side to move, and its value where that is to be said

@@ -7,6 +7,8 @@ pub mod Points
 pub mod Pictured
 pub mod DrawnLaws
 pub mod RowLaws
+pub mod PointLaws
 pub mod PictureLaws
 pub mod ShowTexts
 pub mod Diagrams
+pub mod Spots

@@ -1,18 +1,15 @@
 -- The pictures of the games keep the laws of pictures.
-use Rattle.std.proofs.Common.{◌≡◌, ℕ, ◌+◌, ◌*◌, ◌/◌, ◌%◌, ◌<◌, ◌≤◌, min, Bool, true, ◌&&◌, eqb, ltb, eq-eqb, ltb-true, List, [], ◌∷◌, ◌++◌, map, length, get_or, refl, sym, subst, ◌∙◌, arith, zero-add, inl, inr}
-use Rattle.std.specs.Fmt.{decimal, digits}
-use Rattle.std.specs.Prelude.{count_by}
+use Rattle.std.proofs.Common.{◌≡◌, ℕ, ◌+◌, ◌*◌, ◌/◌, ◌%◌, ◌<◌, ◌≤◌, min, Bool, true, ◌&&◌, eqb, ltb, eq-eqb, ltb-true, List, [], ◌∷◌, map, length, refl, sym, subst, arith, inl, inr}
+use Rattle.std.specs.Fmt.{decimal}
 use Rattle.std.specs.List.{Contains, filter, list_all, range_with_len}
 use Rattle.std.proofs.lemmas.Bool.{cases_Bool, cond-true, cond-false, ne_eqb}
-use Rattle.std.proofs.lemmas.List.{length-map}
-use Rattle.std.proofs.lemmas.List.FromFn.{length-range_with_len, get_or-map-range_with_len}
 use Rattle.gm_game.specs.declared.position.Position.{Position}
 use Rattle.gm_game.specs.Rules.{Rules, at}
 use Rattle.gm_game.proofs.BoardLaws.{legal_board, own_tier}
 use Rattle.gm_board.specs.declared.cell.Cell.{Cell}
 use Rattle.gm_board.specs.Squares.{cell_text}
 use Rattle.gm_board.specs.Permutations.{all_at}
-use Rattle.gm_board.specs.laws.Lists.{and_left, and_right, contains_map, contains_unmap, contains_range, range_below, filter_to}
+use Rattle.gm_board.specs.laws.Lists.{and_left, and_right, contains_unmap, contains_range, range_below, filter_to}
 use Rattle.gm_pieces.specs.MoveGames.{board_game, IsMove}
 use Rattle.gm_pieces.specs.Sides.{board_numbered}
 use Rattle.gm_pieces.specs.Steps.{from_point, to_point}
@@ -62,124 +59,10 @@ use Rattle.gm_toys.specs.laws.SubtractionLaws.{legal_in as countdown_in, legal_f
 use Rattle.gm_toys.specs.laws.WheelLaws.{wheel_legal_in, wheel_legal_from, target_in}
 use Rattle.gm_draw.specs.declared.pictured.Style.TheVariants.{Row, Counters, Stones, Discs, Letters}
 use Rattle.gm_draw.specs.Pictures.{nine_points, dao_board, tactix_board, ring_board, pong_board, hare_board}
-use Rattle.gm_draw.specs.Pictured.{has_place_once, IsBoard, IsBoardOf, IsRow, IsPictured}
-use Rattle.gm_draw.specs.Points.{square_points, ring_name, ring_points, pong_name, pong_points, hare_points, number_points, countdown_board, wheel_board, nine_style, is_name, are_apart, IsPointWord}
-use Rattle.gm_draw.specs.Templates.{is_slot, filled}
-
--- ---- names by a function of the point
-named_point : (f : ℕ → List ℕ) (n k : ℕ) → k < n → Contains (map f (range_with_len 0 n)) (f k)
-named_point f n k l = contains_map f (range_with_len 0 n) k (contains_range n k l)
-
--- one point, and two with `-` between them
-one_point : (f : ℕ → List ℕ) (n k : ℕ) → k < n → IsPointWord (map f (range_with_len 0 n)) (f k)
-one_point f n k l = inl (named_point f n k l)
-
-two_points : (f : ℕ → List ℕ) (n a b : ℕ) → a < n → b < n → IsPointWord (map f (range_with_len 0 n)) (f a ++ 45 ∷ f b)
-two_points f n a b l h = inr (f a, f b, named_point f n a l, named_point f n b h, refl)
-
-how_many : (f : ℕ → List ℕ) (n : ℕ) → length (map f (range_with_len 0 n)) ≡ n
-how_many f n = length-map (range_with_len 0 n) f ∙ length-range_with_len 0 n
-
--- what computing shows of the names of points
-pub record AreNames (points : List (List ℕ)) (n : ℕ) : Type 0 where
-  pub many : length points ≡ n
-  pub small : n ≤ 26
-  pub named : list_all is_name points ≡ true
-  pub apart : are_apart points ≡ true
-
--- what computing shows of a board with n places
-pub record IsPlaced (board : List ℕ) (n : ℕ) : Type 0 where
-  pub places : list_all (has_place_once board) (range_with_len 0 n) ≡ true
-  pub no_more : count_by is_slot board ≡ n
-
-square_names_1 : AreNames (square_points 1) 1
-unfolding square_points
-square_names_1 = record { many = refl; small = omega arith; named = refl; apart = refl }
-
-square_names_2 : AreNames (square_points 2) 4
-unfolding square_points
-square_names_2 = record { many = refl; small = omega arith; named = refl; apart = refl }
-
-square_names_3 : AreNames (square_points 3) 9
-unfolding square_points
-square_names_3 = record { many = refl; small = omega arith; named = refl; apart = refl }
-
-square_names_4 : AreNames (square_points 4) 16
-unfolding square_points
-square_names_4 = record { many = refl; small = omega arith; named = refl; apart = refl }
-
-square_names_5 : AreNames (square_points 5) 25
-unfolding square_points
-square_names_5 = record { many = refl; small = omega arith; named = refl; apart = refl }
-
-pub square_names : (s : ℕ) → 1 ≤ s → s ≤ 5 → AreNames (square_points s) (s * s)
-square_names = for_sides (λ s. AreNames (square_points s) (s * s)) square_names_1 square_names_2 square_names_3 square_names_4 square_names_5
-
-ring_names : AreNames ring_points 9
-unfolding ring_points
-ring_names = record { many = refl; small = omega arith; named = refl; apart = refl }
-
-pong_names : AreNames pong_points 5
-unfolding pong_points
-pong_names = record { many = refl; small = omega arith; named = refl; apart = refl }
-
-hare_names : AreNames hare_points 11
-unfolding hare_points point_name
-hare_names = record { many = refl; small = omega arith; named = refl; apart = refl }
-
-countdown_names : AreNames (number_points 11) 11
-unfolding number_points digits
-countdown_names = record { many = refl; small = omega arith; named = refl; apart = refl }
-
-wheel_names : AreNames (number_points 10) 10
-unfolding number_points digits
-wheel_names = record { many = refl; small = omega arith; named = refl; apart = refl }
-
--- ---- boards with places
-nine_placed : (v : Variant) → IsPlaced (nine_points v) 9
-unfolding nine_points
-nine_placed TicTacToe = record { places = refl; no_more = refl }
-nine_placed ThreeMens = record { places = refl; no_more = refl }
-nine_placed Achi = record { places = refl; no_more = refl }
-
-dao_placed : IsPlaced dao_board 16
-unfolding dao_board
-dao_placed = record { places = refl; no_more = refl }
-
-tactix_placed_1 : IsPlaced (tactix_board 1) 1
-unfolding tactix_board
-tactix_placed_1 = record { places = refl; no_more = refl }
-
-tactix_placed_2 : IsPlaced (tactix_board 2) 4
-unfolding tactix_board
-tactix_placed_2 = record { places = refl; no_more = refl }
-
-tactix_placed_3 : IsPlaced (tactix_board 3) 9
-unfolding tactix_board
-tactix_placed_3 = record { places = refl; no_more = refl }
-
-tactix_placed_4 : IsPlaced (tactix_board 4) 16
-unfolding tactix_board
-tactix_placed_4 = record { places = refl; no_more = refl }
-
-tactix_placed_5 : IsPlaced (tactix_board 5) 25
-unfolding tactix_board
-tactix_placed_5 = record { places = refl; no_more = refl }
-
-tactix_placed : (s : ℕ) → 1 ≤ s → s ≤ 5 → IsPlaced (tactix_board s) (s * s)
-tactix_placed = for_sides (λ s. IsPlaced (tactix_board s) (s * s)) tactix_placed_1 tactix_placed_2 tactix_placed_3 tactix_placed_4 tactix_placed_5
-
-ring_placed : IsPlaced ring_board 9
-unfolding ring_board
-ring_placed = record { places = refl; no_more = refl }
-
-pong_placed : IsPlaced pong_board 5
-unfolding pong_board
-pong_placed = record { places = refl; no_more = refl }
-
-hare_placed : IsPlaced hare_board 11
-unfolding hare_board
-hare_placed = record { places = refl; no_more = refl }
+use Rattle.gm_draw.specs.Pictured.{IsBoard, IsBoardOf, IsRow, IsPictured}
+use Rattle.gm_draw.specs.Points.{square_points, ring_points, pong_points, hare_points, number_points, countdown_board, wheel_board, nine_style, IsPointWord}
+use Rattle.gm_draw.specs.Templates.{filled}
+use Rattle.gm_draw.specs.PointLaws.{named_point, one_point, two_points, AreNames, IsPlaced, square_names_3, square_names_4, square_names, ring_names, pong_names, hare_names, countdown_names, wheel_names, nine_placed, dao_placed, tactix_placed, ring_placed, pong_placed, hare_placed}
 
 -- a board with as many places as there are points
 board_with : (r : Rules) (shown : Position → List ℕ) (board : List ℕ) (points : List (List ℕ)) (n : ℕ) → length points ≡ n → IsPlaced board n
@@ -431,41 +314,3 @@ wheel_pictured drawn =
       words = wheel_words;
       board_is = wheel_is_row;
     }
-
--- ---- how many points there are, and their names
-pub square_many : (s : ℕ) → length (square_points s) ≡ s * s
-unfolding square_points
-square_many s = how_many (cell_text s) (s * s)
-
-pub square_named : (s k : ℕ) → k < s * s → get_or (square_points s) k [] ≡ cell_text s k
-unfolding square_points
-square_named s k l = get_or-map-range_with_len (cell_text s) 0 (s * s) k k [] l (zero-add k)
-
-pub ring_many : length ring_points ≡ 9
-ring_many = ring_names.many
-
-pub ring_named : (k : ℕ) → k < 9 → get_or ring_points k [] ≡ ring_name k
-unfolding ring_points
-ring_named k l = get_or-map-range_with_len ring_name 0 9 k k [] l (zero-add k)
-
-pub pong_many : length pong_points ≡ 5
-pong_many = pong_names.many
-
-pub pong_named : (k : ℕ) → k < 5 → get_or pong_points k [] ≡ pong_name k
-unfolding pong_points
-pong_named k l = get_or-map-range_with_len pong_name 0 5 k k [] l (zero-add k)
-
-pub hare_many : length hare_points ≡ 11
-hare_many = hare_names.many
-
-pub hare_named : (k : ℕ) → k < 11 → get_or hare_points k [] ≡ point_name k
-unfolding hare_points
-hare_named k l = get_or-map-range_with_len point_name 0 11 k k [] l (zero-add k)
-
-pub number_many : (n : ℕ) → length (number_points n) ≡ n
-unfolding number_points
-number_many n = how_many decimal n
-
-pub number_named : (n k : ℕ) → k < n → get_or (number_points n) k [] ≡ decimal k
-unfolding number_points
-number_named n k l = get_or-map-range_with_len decimal 0 n k k [] l (zero-add k)

@@ -1,13 +1,16 @@
 //! Diagrams of positions for print: SVG documents.
-ghost use Rattle.std.specs.Prelude.{◌≡◌, ◌<◌, ◌≤◌, ◌==◌, ◌↔◌, ◌++◌, ◌+◌, ◌*◌, ◌-◌, [], count_by, length, max, true, OnOk, IfOk, IsErrOf};
+ghost use Rattle.std.specs.Prelude.{◌≡◌, ◌≤◌, ◌↔◌, ◌++◌, [], length, true, OnOk, IfOk, IsErrOf};
 ghost use Rattle.gm_game.specs.declared.position.Position.{Position};
 ghost use Rattle.gm_play.specs.PlayTexts.{IsReadAs, IsNoPosition};
 ghost use Rattle.gm_best.specs.Refusals.{IsNotHeld};
-ghost use Rattle.gm_draw.specs.Diagrams.{next_length as next_length_spec, widest as widest_spec, width_of, height_of, left_of, middle_of as middle_spec, width_by, svg_box, svg_size, svg_open, svg_title, svg_paper, svg_front, svg_net, svg_men, svg_back, svg_of, row_words, over_all, under_all, caption_words, caption_of, diagram_of, IsDiagram};
+ghost use Rattle.gm_draw.specs.Diagrams.{start_of, svg_box, svg_size, svg_open, svg_title, svg_paper, svg_front, svg_net, svg_men, svg_back, svg_of, row_words, over_all, under_all, caption_words, caption_of, diagram_of, IsDiagram};
+ghost use Rattle.gm_draw.specs.Spots.{IsEachOnce};
 
 use crate::drawn::DRAWING;
+use crate::frame::{Frame, frame_of};
+use crate::markup::push_escaped;
 use crate::pictured::{Pictured, Style};
-use crate::svg::{has_cells, push_at, push_escaped, push_men, push_net, push_number, push_words};
+use crate::svg::{push_at, push_men, push_net, push_number, push_words};
 use gm_best::answer::answer;
 use gm_best::play_error::PlayError;
 use gm_game::position::{Position, Solved};
@@ -40,6 +43,11 @@ pub fn diagram_text<G: Pictured>(
         Err(_) => Err(PlayError::OutOfMemory),
     }
 }
+
+/// Has no effect; its contract states the law of diagrams: over the net of a board, the man of each byte of a position's text stands once, at a point of its own.
+pub fn each_once<G: Pictured>(bytes: &[u8])
+    ensures { IsEachOnce G.style bytes.now G.board }
+{}
 
 // The diagram of a legal position of this value.
 fn diagram<G: Pictured>(
@@ -99,85 +107,6 @@ fn push_caption(
     caption.extend_from_slice(value_text(value).as_slice())
 }
 
-// The size of a diagram, where it begins, and its middle from left to right.
-#[derive(Clone, Copy)]
-struct Frame {
-    left: u64,
-    width: u64,
-    height: u64,
-    middle: u64,
-}
-
-// The length of the longest line.
-fn widest(drawing: &[u8]) -> u64
-    requires { length drawing.now ≤ DRAWING }
-    ensures value { result ≡ widest_spec 0 0 drawing.now }
-    ensures fits { result ≤ DRAWING }
-{
-    let mut longest = 0;
-    let mut n = 0;
-    for byte in drawing {
-        n = next_length(n, *byte);
-        longest = greater(longest, n);
-    }
-    longest
-}
-
-// The greater of two numbers.
-fn greater(a: u64, b: u64) -> u64
-    ensures { result ≡ max a b }
-{
-    if a < b { b } else { a }
-}
-
-// How many bytes of its line have come with this byte.
-fn next_length(n: u64, byte: u8) -> u64
-    requires { n < DRAWING }
-    ensures value { result ≡ next_length_spec n byte }
-    ensures near { result ≤ n + 1 }
-{
-    if byte == b'\n' { 0 } else { n + 1 }
-}
-
-// How many lines end in a drawing.
-fn line_ends(drawing: &[u8]) -> usize
-    ensures value { result ≡ count_by (λ b. b == 10) drawing.now }
-    ensures few { result ≤ length drawing.now }
-{
-    drawing.iter().filter(|b| **b == b'\n').count()
-}
-
-// The frame of a drawing.
-fn frame_of(style: Style, drawing: &[u8]) -> Frame
-    requires { length drawing.now ≤ DRAWING }
-    ensures left { result.left ≡ left_of style }
-    ensures width { result.width ≡ width_of style drawing.now - left_of style }
-    ensures height { result.height ≡ height_of drawing.now }
-    ensures middle { result.middle ≡ middle_spec style drawing.now }
-{
-    let left = if has_cells(style) { 40 } else { 0 };
-    let wide = width(style, widest(drawing));
-    Frame {
-        left,
-        width: wide - left,
-        height: 40 * line_ends(drawing) as u64 + 130,
-        middle: (wide + left) / 2,
-    }
-}
-
-// The width of a diagram whose longest line has this length: its caption has room.
-fn width(style: Style, longest: u64) -> u64
-    requires { longest ≤ DRAWING }
-    ensures value { result ≡ width_by style longest }
-    ensures some { 60 ≤ result }
-    ensures fits { result ≤ 20 * DRAWING + 300 }
-{
-    match style {
-        Style::Row => (10 * longest + 30).max(300),
-        _ => (20 * longest + 60).max(300),
-    }
-}
-
 // Appends the SVG document of a legal position with this caption.
 #[tactic(auto, unfolding(crate::specs::Diagrams::svg_of))]
 fn push_svg<G: Pictured>(text: &mut Vec<u8>, p: Position, caption: &[u8]) -> Result<(), AllocError>
@@ -216,7 +145,7 @@ fn push_front(
     bytes: &[u8],
     caption: &[u8],
 ) -> Result<(), AllocError>
-    ensures { OnOk result (text.new.items ≡ text.old.items ++ svg_front frame.left frame.width frame.height title.now bytes.now caption.now) }
+    ensures { OnOk result (text.new.items ≡ text.old.items ++ svg_front frame.left frame.margin frame.width frame.height title.now bytes.now caption.now) }
 {
     push_open(text, frame)?;
     push_title(text, title, bytes, caption)?;
@@ -261,20 +190,26 @@ fn push_back(text: &mut Vec<u8>, frame: Frame, caption: &[u8]) -> Result<(), All
     text.extend_from_slice(b"</g>\n</svg>\n")
 }
 
+// Appends where the paper begins.
+fn push_start(text: &mut Vec<u8>, frame: Frame) -> Result<(), AllocError>
+    ensures { OnOk result (text.new.items ≡ text.old.items ++ start_of frame.left frame.margin) }
+{
+    if frame.left < frame.margin {
+        text.extend_from_slice(b"-")?;
+        push_number(text, frame.margin - frame.left)
+    } else {
+        push_number(text, frame.left - frame.margin)
+    }
+}
+
 // Appends the beginning of the whole, with its box.
 #[tactic(auto, unfolding(crate::specs::Diagrams::svg_box))]
 fn push_box(text: &mut Vec<u8>, frame: Frame) -> Result<(), AllocError>
-    ensures { OnOk result (text.new.items ≡ text.old.items ++ svg_box frame.left frame.width frame.height) }
+    ensures { OnOk result (text.new.items ≡ text.old.items ++ svg_box frame.left frame.margin frame.width frame.height) }
 {
-    push_at(
-        text,
-        b"<svg xmlns=\"http://www.w3.org/2000/svg\" viewBox=\"",
-        frame.left,
-        b" 0 ",
-        frame.width,
-        b" ",
-    )?;
-    push_number(text, frame.height)
+    text.extend_from_slice(b"<svg xmlns=\"http://www.w3.org/2000/svg\" viewBox=\"")?;
+    push_start(text, frame)?;
+    push_at(text, b" 0 ", frame.width, b" ", frame.height, b"")
 }
 
 // Appends its size, and how its lines and letters look.
@@ -294,7 +229,7 @@ fn push_size(text: &mut Vec<u8>, frame: Frame) -> Result<(), AllocError>
 
 // Appends the element of the whole, up to its title.
 fn push_open(text: &mut Vec<u8>, frame: Frame) -> Result<(), AllocError>
-    ensures { OnOk result (text.new.items ≡ text.old.items ++ svg_open frame.left frame.width frame.height) }
+    ensures { OnOk result (text.new.items ≡ text.old.items ++ svg_open frame.left frame.margin frame.width frame.height) }
 {
     push_box(text, frame)?;
     push_size(text, frame)
@@ -322,18 +257,18 @@ fn push_title(
 // Appends the paper.
 #[tactic(auto, unfolding(crate::specs::Diagrams::svg_paper))]
 fn push_paper(text: &mut Vec<u8>, frame: Frame) -> Result<(), AllocError>
-    ensures { OnOk result (text.new.items ≡ text.old.items ++ svg_paper frame.left frame.width frame.height) }
+    ensures { OnOk result (text.new.items ≡ text.old.items ++ svg_paper frame.left frame.margin frame.width frame.height) }
 {
+    text.extend_from_slice(b"<rect x=\"")?;
+    push_start(text, frame)?;
     push_at(
         text,
-        b"<rect x=\"",
-        frame.left,
         b"\" width=\"",
         frame.width,
         b"\" height=\"",
-    )?;
-    push_number(text, frame.height)?;
-    text.extend_from_slice(b"\" fill=\"#fff\"/>\n")
+        frame.height,
+        b"\" fill=\"#fff\"/>\n",
+    )
 }
 
 // Appends what lies under the men.

@@ -6,6 +6,9 @@
 pub mod boards;
 pub mod diagram;
 pub mod drawn;
+mod frame;
+pub mod markup;
+mod men;
 pub mod pictured;
 pub mod points;
 pub mod rows;

@@ -171,12 +171,12 @@ impl Pictured for MuTorere {
         RING
     }
 
-    #[tactic(auto, using(crate::specs::PictureLaws::ring_many))]
+    #[tactic(auto, using(crate::specs::PointLaws::ring_many))]
     fn points() -> usize {
         9
     }
 
-    #[tactic(auto, using(crate::specs::PictureLaws::ring_many))]
+    #[tactic(auto, using(crate::specs::PointLaws::ring_many))]
     fn point(k: usize) -> Line {
         line_of(ring_point(k))
     }
@@ -222,12 +222,12 @@ impl Pictured for Pong {
         PONG
     }
 
-    #[tactic(auto, using(crate::specs::PictureLaws::pong_many))]
+    #[tactic(auto, using(crate::specs::PointLaws::pong_many))]
     fn points() -> usize {
         5
     }
 
-    #[tactic(auto, using(crate::specs::PictureLaws::pong_many))]
+    #[tactic(auto, using(crate::specs::PointLaws::pong_many))]
     fn point(k: usize) -> Line {
         line_of(pong_point(k))
     }
@@ -257,12 +257,12 @@ impl Pictured for Shisima {
         RING
     }
 
-    #[tactic(auto, using(crate::specs::PictureLaws::ring_many))]
+    #[tactic(auto, using(crate::specs::PointLaws::ring_many))]
     fn points() -> usize {
         9
     }
 
-    #[tactic(auto, using(crate::specs::PictureLaws::ring_many))]
+    #[tactic(auto, using(crate::specs::PointLaws::ring_many))]
     fn point(k: usize) -> Line {
         line_of(ring_point(k))
     }
@@ -314,12 +314,12 @@ impl Pictured for Hare {
         HUNT
     }
 
-    #[tactic(auto, using(crate::specs::PictureLaws::hare_many))]
+    #[tactic(auto, using(crate::specs::PointLaws::hare_many))]
     fn points() -> usize {
         11
     }
 
-    #[tactic(auto, using(crate::specs::PictureLaws::hare_many))]
+    #[tactic(auto, using(crate::specs::PointLaws::hare_many))]
     fn point(k: usize) -> Line {
         line_of(hare_point(k))
     }

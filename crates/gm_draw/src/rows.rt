@@ -140,12 +140,12 @@ impl Pictured for Countdown<10> {
         b"0 1 2 3 4 5 6 7 8 9 10"
     }
 
-    #[tactic(auto, using(crate::specs::PictureLaws::number_many))]
+    #[tactic(auto, using(crate::specs::PointLaws::number_many))]
     fn points() -> usize {
         11
     }
 
-    #[tactic(auto, using(crate::specs::PictureLaws::number_many, crate::specs::PictureLaws::number_named))]
+    #[tactic(auto, using(crate::specs::PointLaws::number_many, crate::specs::PointLaws::number_named))]
     fn point(k: usize) -> Line {
         number_name(k)
     }
@@ -175,12 +175,12 @@ impl Pictured for Wheel {
         b"0 1 2 3 4 5 6 7 8 9"
     }
 
-    #[tactic(auto, using(crate::specs::PictureLaws::number_many))]
+    #[tactic(auto, using(crate::specs::PointLaws::number_many))]
     fn points() -> usize {
         10
     }
 
-    #[tactic(auto, using(crate::specs::PictureLaws::number_many, crate::specs::PictureLaws::number_named))]
+    #[tactic(auto, using(crate::specs::PointLaws::number_many, crate::specs::PointLaws::number_named))]
     fn point(k: usize) -> Line {
         number_name(k)
     }

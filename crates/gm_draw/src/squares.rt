@@ -152,7 +152,7 @@ impl<const N: u32, const MISERE: bool> Drawn for TacTix<N, MISERE> {
 }
 
 // The name of a cell of a square.
-#[tactic(auto, using(crate::specs::PictureLaws::square_named))]
+#[tactic(auto, using(crate::specs::PointLaws::square_named))]
 fn cell_name(side: u32, k: usize) -> Line
     requires low { 1 ≤ side }
     requires high { side ≤ 5 }
@@ -200,12 +200,12 @@ impl<const LAST: u64> Pictured for NinePoints<LAST> {
         nine_board(Variant::with_last_tier(LAST))
     }
 
-    #[tactic(auto, using(crate::specs::PictureLaws::square_many))]
+    #[tactic(auto, using(crate::specs::PointLaws::square_many))]
     fn points() -> usize {
         9
     }
 
-    #[tactic(auto, using(crate::specs::PictureLaws::square_many))]
+    #[tactic(auto, using(crate::specs::PointLaws::square_many))]
     fn point(k: usize) -> Line {
         cell_name(3, k)
     }
@@ -235,12 +235,12 @@ impl Pictured for Dao {
         DAO
     }
 
-    #[tactic(auto, using(crate::specs::PictureLaws::square_many))]
+    #[tactic(auto, using(crate::specs::PointLaws::square_many))]
     fn points() -> usize {
         16
     }
 
-    #[tactic(auto, using(crate::specs::PictureLaws::square_many))]
+    #[tactic(auto, using(crate::specs::PointLaws::square_many))]
     fn point(k: usize) -> Line {
         cell_name(4, k)
     }
@@ -286,13 +286,13 @@ impl<const N: u32, const MISERE: bool> Pictured for TacTix<N, MISERE> {
         tactix_board(side_for(N))
     }
 
-    #[tactic(auto, using(crate::specs::PictureLaws::square_many))]
+    #[tactic(auto, using(crate::specs::PointLaws::square_many))]
     fn points() -> usize {
         let side = side_for(N) as usize;
         side * side
     }
 
-    #[tactic(auto, using(crate::specs::PictureLaws::square_many))]
+    #[tactic(auto, using(crate::specs::PointLaws::square_many))]
     fn point(k: usize) -> Line {
         cell_name(side_for(N), k)
     }

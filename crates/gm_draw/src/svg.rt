@@ -1,10 +1,12 @@
 //! The elements of a diagram.
-ghost use Rattle.std.specs.Prelude.{◌≡◌, ◌≤◌, ◌==◌, ◌++◌, ◌+◌, ◌-◌, if◌then◌else◌, slice_index, length, OnOk};
+ghost use Rattle.std.specs.Prelude.{◌≡◌, ◌≤◌, ◌++◌, ◌+◌, ◌-◌, slice_index, length, OnOk};
 ghost use Rattle.std.specs.Fmt.{decimal};
-ghost use Rattle.gm_draw.specs.Diagrams.{escaped, escaped_byte, at_point, path, circle, words_at, stroke_of, has_cells as has_cells_spec, has_points as has_points_spec, is_stroke as is_stroke_spec};
-ghost use Rattle.gm_draw.specs.Diagrams.{under_at, over_at, cross_of, counter_of, stone_of, disc_of, letter_of, man_of, point_of, label_of, next_x as next_x_spec, next_y as next_y_spec, spread};
+ghost use Rattle.gm_draw.specs.Diagrams.{at_point, path, circle, words_at, stroke_of, has_cells as has_cells_spec, has_points as has_points_spec, is_stroke as is_stroke_spec};
+ghost use Rattle.gm_draw.specs.Diagrams.{under_at, over_at, point_of, label_x as label_x_spec, label_y as label_y_spec, label_of, next_x as next_x_spec, next_y as next_y_spec, spread};
 
 use crate::drawn::DRAWING;
+use crate::markup::push_escaped;
+use crate::men::push_man;
 use crate::pictured::Style;
 use gm_game::shown::Line;
 use gm_game::text::push_decimal;
@@ -17,27 +19,6 @@ pub(crate) fn push_number(text: &mut Vec<u8>, number: u64) -> Result<(), AllocEr
     let mut line = Line::new();
     push_decimal(&mut line, number);
     text.extend_from_slice(line.as_slice())
-}
-
-// Appends a byte of a text.
-fn push_escaped_byte(text: &mut Vec<u8>, byte: u8) -> Result<(), AllocError>
-    ensures { OnOk result (text.new.items ≡ text.old.items ++ escaped_byte byte) }
-{
-    match byte {
-        b'<' => text.extend_from_slice(b"&lt;"),
-        b'&' => text.extend_from_slice(b"&amp;"),
-        _ => text.extend_from_slice(&[byte]),
-    }
-}
-
-/// Appends a text, in which `<` and `&` have names.
-pub(crate) fn push_escaped(text: &mut Vec<u8>, plain: &[u8]) -> Result<(), AllocError>
-    ensures { OnOk result (text.new.items ≡ text.old.items ++ escaped plain.now) }
-{
-    for byte in plain {
-        push_escaped_byte(text, *byte)?;
-    }
-    Ok(())
 }
 
 /// Appends two numbers, with what stands before, between and after them.
@@ -58,32 +39,18 @@ pub(crate) fn push_at(
     text.extend_from_slice(back)
 }
 
-// Appends a path that begins at a point.
-fn push_path(text: &mut Vec<u8>, x: u64, y: u64, back: &[u8]) -> Result<(), AllocError>
+/// Appends a path that begins at a point.
+pub(crate) fn push_path(text: &mut Vec<u8>, x: u64, y: u64, back: &[u8]) -> Result<(), AllocError>
     ensures { OnOk result (text.new.items ≡ text.old.items ++ path x y back.now) }
 {
     push_at(text, b"<path d=\"M", x, b" ", y, back)
 }
 
-// Appends a circle around a point.
-fn push_circle(text: &mut Vec<u8>, x: u64, y: u64, back: &[u8]) -> Result<(), AllocError>
+/// Appends a circle around a point.
+pub(crate) fn push_circle(text: &mut Vec<u8>, x: u64, y: u64, back: &[u8]) -> Result<(), AllocError>
     ensures { OnOk result (text.new.items ≡ text.old.items ++ circle x y back.now) }
 {
     push_at(text, b"<circle cx=\"", x, b"\" cy=\"", y, back)
-}
-
-// Appends two circles around a point.
-fn push_ringed(
-    text: &mut Vec<u8>,
-    x: u64,
-    y: u64,
-    disc: &[u8],
-    ring: &[u8],
-) -> Result<(), AllocError>
-    ensures { OnOk result (text.new.items ≡ text.old.items ++ (circle x y disc.now ++ circle x y ring.now)) }
-{
-    push_circle(text, x, y, disc)?;
-    push_circle(text, x, y, ring)
 }
 
 /// Appends words at a point, after what tells how they look.
@@ -99,22 +66,6 @@ pub(crate) fn push_words(
     push_at(text, b"<text x=\"", x, b"\" y=\"", y, look)?;
     push_escaped(text, plain)?;
     text.extend_from_slice(b"</text>\n")
-}
-
-// Appends a circle around a point, and a letter below it.
-fn push_lettered(
-    text: &mut Vec<u8>,
-    x: u64,
-    y: u64,
-    disc: &[u8],
-    look: &[u8],
-    letter: &[u8],
-) -> Result<(), AllocError>
-    requires { y ≤ 16000 }
-    ensures { OnOk result (text.new.items ≡ text.old.items ++ (circle x y disc.now ++ words_at x (y + 7) look.now letter.now)) }
-{
-    push_circle(text, x, y, disc)?;
-    push_words(text, x, y + 7, look, letter)
 }
 
 // Appends the stroke of a byte of the board, if it is one.
@@ -170,129 +121,6 @@ fn push_under(text: &mut Vec<u8>, style: Style, x: u64, y: u64, byte: u8) -> Res
     }
 }
 
-// Appends a cross or a nought.
-#[tactic(auto, unfolding(crate::specs::Diagrams::cross_of))]
-fn push_cross(text: &mut Vec<u8>, x: u64, y: u64, byte: u8) -> Result<(), AllocError>
-    requires right { 40 ≤ x }
-    requires down { 40 ≤ y }
-    ensures { OnOk result (text.new.items ≡ text.old.items ++ cross_of x y byte) }
-{
-    match byte {
-        b'x' => push_path(
-            text,
-            x - 21,
-            y - 21,
-            b"l42 42m-42 0l42-42\" stroke-width=\"6\"/>\n",
-        ),
-        b'o' => push_circle(
-            text,
-            x,
-            y,
-            b"\" r=\"21\" fill=\"none\" stroke-width=\"6\"/>\n",
-        ),
-        _ => Ok(()),
-    }
-}
-
-// Appends a counter.
-#[tactic(auto, unfolding(crate::specs::Diagrams::counter_of))]
-fn push_counter(text: &mut Vec<u8>, x: u64, y: u64, byte: u8) -> Result<(), AllocError>
-    ensures { OnOk result (text.new.items ≡ text.old.items ++ counter_of x y byte) }
-{
-    match byte {
-        b'x' => push_circle(text, x, y, b"\" r=\"14\" fill=\"#999\"/>\n"),
-        _ => Ok(()),
-    }
-}
-
-// Appends a black or a white man on a cell.
-#[tactic(auto, unfolding(crate::specs::Diagrams::stone_of))]
-fn push_stone(text: &mut Vec<u8>, x: u64, y: u64, byte: u8) -> Result<(), AllocError>
-    ensures { OnOk result (text.new.items ≡ text.old.items ++ stone_of x y byte) }
-{
-    match byte {
-        b'x' => push_circle(text, x, y, b"\" r=\"14\" fill=\"#000\"/>\n"),
-        b'o' => {
-            push_ringed(
-                text,
-                x,
-                y,
-                b"\" r=\"14\" fill=\"#fff\"/>\n",
-                b"\" r=\"7\" fill=\"none\" stroke-width=\"1\"/>\n",
-            )
-        }
-        _ => Ok(()),
-    }
-}
-
-// Appends a black or a white man on a point.
-#[tactic(auto, unfolding(crate::specs::Diagrams::disc_of))]
-fn push_disc(text: &mut Vec<u8>, x: u64, y: u64, byte: u8) -> Result<(), AllocError>
-    ensures { OnOk result (text.new.items ≡ text.old.items ++ disc_of x y byte) }
-{
-    match byte {
-        b'x' => push_circle(text, x, y, b"\" r=\"27\" fill=\"#000\"/>\n"),
-        b'o' => {
-            push_ringed(
-                text,
-                x,
-                y,
-                b"\" r=\"27\" fill=\"#fff\"/>\n",
-                b"\" r=\"13\" fill=\"none\" stroke-width=\"1\"/>\n",
-            )
-        }
-        _ => Ok(()),
-    }
-}
-
-// Appends a man with a letter.
-#[tactic(auto, unfolding(crate::specs::Diagrams::letter_of))]
-fn push_letter(text: &mut Vec<u8>, x: u64, y: u64, byte: u8) -> Result<(), AllocError>
-    requires { y ≤ 16000 }
-    ensures { OnOk result (text.new.items ≡ text.old.items ++ letter_of x y byte) }
-{
-    match byte {
-        b'h' => {
-            push_lettered(
-                text,
-                x,
-                y,
-                b"\" r=\"27\" fill=\"#000\"/>\n",
-                b"\" font-size=\"20\" stroke=\"none\" fill=\"#fff\">",
-                b"h",
-            )
-        }
-        b'd' => {
-            push_lettered(
-                text,
-                x,
-                y,
-                b"\" r=\"27\" fill=\"#fff\"/>\n",
-                b"\" font-size=\"20\" stroke=\"none\" fill=\"#000\">",
-                b"d",
-            )
-        }
-        _ => Ok(()),
-    }
-}
-
-// Appends the man of a byte of the position's text, if there is one.
-fn push_man(text: &mut Vec<u8>, style: Style, x: u64, y: u64, byte: u8) -> Result<(), AllocError>
-    requires right { 40 ≤ x }
-    requires down { 40 ≤ y }
-    requires near { x + y ≤ 16000 }
-    ensures { OnOk result (text.new.items ≡ text.old.items ++ man_of style x y byte) }
-{
-    match style {
-        Style::Row => Ok(()),
-        Style::Crosses => push_cross(text, x, y, byte),
-        Style::Counters => push_counter(text, x, y, byte),
-        Style::Stones => push_stone(text, x, y, byte),
-        Style::Discs => push_disc(text, x, y, byte),
-        Style::Letters => push_letter(text, x, y, byte),
-    }
-}
-
 // Appends a point of the net.
 fn push_point(text: &mut Vec<u8>, style: Style, x: u64, y: u64) -> Result<(), AllocError>
     ensures { OnOk result (text.new.items ≡ text.old.items ++ point_of style x y) }
@@ -304,11 +132,23 @@ fn push_point(text: &mut Vec<u8>, style: Style, x: u64, y: u64) -> Result<(), Al
     }
 }
 
-// Where the name of a row or a column stands.
-fn label_column(style: Style, x: u64) -> u64
-    ensures { result ≡ (if has_cells_spec style then (if x == 40 then 70 else x) else x) }
+// Where the name of a row or a column stands, from the left.
+fn label_x(style: Style, x: u64) -> u64
+    ensures { result ≡ label_x_spec style x }
 {
     if has_cells(style) && x == 40 { 70 } else { x }
+}
+
+// Where it stands, from the top.
+fn label_y(style: Style, y: u64) -> u64
+    requires { y ≤ 16000 }
+    ensures { result ≡ label_y_spec style y }
+{
+    if has_points(style) && y == 40 {
+        38
+    } else {
+        y + 6
+    }
 }
 
 // Appends the name of a row or a column.
@@ -318,8 +158,8 @@ fn push_label(text: &mut Vec<u8>, style: Style, x: u64, y: u64, byte: u8) -> Res
 {
     push_words(
         text,
-        label_column(style, x),
-        y + 6,
+        label_x(style, x),
+        label_y(style, y),
         b"\" stroke=\"none\">",
         &[byte],
     )

@@ -19,7 +19,7 @@ use Rattle.gm_json.specs.Words.{text}
 use Rattle.gm_draw.specs.declared.pictured.Style.{Style}
 use Rattle.gm_page.specs.Heads.{head_tree}
 use Rattle.gm_page.specs.Listings.{place_of, IsReachedFrom, MayRefuse, MayRefuseAt, MayRefuseAny}
-use Rattle.gm_page.specs.Rows.{Group, IsRun, AreGroups, AreRows, IsRow, place_cells, move_cells, group_cells, group_tree, row_cells, row_tree}
+use Rattle.gm_page.specs.Rows.{Group, IsRun, AreGroups, AreRows, IsRow, place_cells, move_cells, group_tree, row_tree}
 
 -- ---- groups
 -- the moves before the rest are in groups, whose trees were added to what was there before

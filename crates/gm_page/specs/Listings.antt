@@ -54,7 +54,8 @@ result_of x = x.position
 -- the list after its first k positions were gone through, from these on: of each the results of its moves are added, the best first
 abbrev pub IsListedAfter : Rules → ℕ → List Position → ℕ → List Position → Type 0
 IsListedAfter r limit line zero all = all ≡ with_all limit [] line
-IsListedAfter r limit line (suc k) all = (old : List Position) × (p : Position) × (xs : List MoveValue) × IsListedAfter r limit line k old × (slice_get old k ≡ Some p)
+IsListedAfter r limit line (suc k) all =
+    (old : List Position) × (p : Position) × (xs : List MoveValue) × IsListedAfter r limit line k old × (slice_get old k ≡ Some p)
     × AreMoveValues r p xs × (all ≡ with_all limit old (map result_of xs))
 
 -- the listing of a position: the positions of the line of best play from it, each once, and then the results of the moves of each position of this very list,

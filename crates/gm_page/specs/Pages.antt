@@ -5,7 +5,6 @@ use Rattle.serde_json.specs.Data.{Data}
 use Rattle.gm_game.specs.declared.position.Position.{Position}
 use Rattle.gm_game.specs.Rules.{Rules}
 use Rattle.gm_table.specs.Tables.{TableData}
-use Rattle.gm_best.specs.declared.play_error.PlayError.{PlayError}
 use Rattle.gm_best.specs.Refusals.{AreNotHeld}
 use Rattle.gm_play.specs.PlayTexts.{IsReadAs}
 use Rattle.gm_draw.specs.declared.pictured.Style.{Style}
@@ -43,4 +42,5 @@ module _ (r : Rules) (shown : Position → List ℕ) (move_shown : Position → 
 
 -- a position that play from the one with this text reaches, whose tier, or one of its child tiers, has no table
 abbrev pub PageNotHeld : Rules → (Position → List ℕ) → (Position → ℕ → List ℕ) → List TableData → List ℕ → Type 0
-PageNotHeld r shown move_shown entries asked = (start : Position) × IsReadAs r shown move_shown asked start × (p : Position) × IsReachedFrom r start p × AreNotHeld r entries p
+PageNotHeld r shown move_shown entries asked =
+    (start : Position) × IsReadAs r shown move_shown asked start × (p : Position) × IsReachedFrom r start p × AreNotHeld r entries p

@@ -138,7 +138,8 @@ fn list_line<G: Game>(
     requires some { 1 ≤ limit }
     requires empty { positions.old.items ≡ [] }
     requires places { Tells places.old positions.old.items }
-    ensures line { OnOk result ((line : BestLine) × IsBestLine G.rules start (limit - 1) line × (positions.new.items ≡ with_all limit [] line.positions.items)) }
+    ensures line { OnOk result ((line : BestLine) × IsBestLine G.rules start (limit - 1) line
+        × (positions.new.items ≡ with_all limit [] line.positions.items)) }
     ensures places { OnOk result (Tells places.new positions.new.items) }
     ensures refused { IfErr result (MayRefuse G.rules tables.now start) }
 {
@@ -181,7 +182,8 @@ fn list_results<G: Game>(
 ) -> Result<(), PlayError>
     requires legal { G.rules.is_legal p ≡ true }
     requires places { Tells places.old positions.old.items }
-    ensures listed { OnOk result ((xs : List MoveValue) × AreMoveValues G.rules p xs × (positions.new.items ≡ with_all limit positions.old.items (map result_of xs))) }
+    ensures listed { OnOk result ((xs : List MoveValue) × AreMoveValues G.rules p xs
+        × (positions.new.items ≡ with_all limit positions.old.items (map result_of xs))) }
     ensures places { OnOk result (Tells places.new positions.new.items) }
     ensures refused { IfErr result (MayRefuseAt G.rules tables.now p) }
 {

@@ -92,7 +92,8 @@ fn push_page<G: Pictured>(
 
 // Appends the first part of the viewer, and the line that tells of the game.
 fn push_first<G: Pictured>(alloc: Global, whole: bool, page: &mut Vec<u8>) -> Result<(), AllocError>
-    ensures { OnOk result (page.new.items ≡ page.old.items ++ FRONT.now ++ script_line (head_tree G.Game.rules.name G.style G.title G.board G.points G.naming whole)) }
+    ensures { OnOk result (page.new.items
+        ≡ page.old.items ++ FRONT.now ++ script_line (head_tree G.Game.rules.name G.style G.title G.board G.points G.naming whole)) }
 {
     page.extend_from_slice(FRONT)?;
     push_head::<G>(alloc, page, whole)
@@ -121,5 +122,6 @@ fn push_rest<G: Pictured>(
 pub fn lines_are_read<G: Pictured>(list: &[Position], whole: bool)
     ensures closed { (head : Data) (rows : List Data) → list_all opens_none (script_lines head rows) ≡ true }
     ensures head { IsReadBack (head_tree G.Game.rules.name G.style G.title G.board G.points G.naming whole) }
-    ensures rows { length list.now < 2 ^ 64 → (p : Position) (s : Solved) (groups : List Group) → IsReadBack (row_tree G.shown G.move_shown list.now p s groups) }
+    ensures rows { length list.now < 2 ^ 64 → (p : Position) (s : Solved) (groups : List Group)
+        → IsReadBack (row_tree G.shown G.move_shown list.now p s groups) }
 {}

@@ -29,7 +29,8 @@ pub(crate) fn push_rows<G: Shown>(
     page: &mut Vec<u8>,
 ) -> Result<(), PlayError>
     requires { All (λ p. G.Game.rules.is_legal p ≡ true) list.now }
-    ensures rows { OnOk result ((rows : List Data) × AreRows G.Game.rules G.shown G.move_shown list.now list.now rows × (page.new.items ≡ page.old.items ++ flat_map script_line rows)) }
+    ensures rows { OnOk result ((rows : List Data) × AreRows G.Game.rules G.shown G.move_shown list.now list.now rows
+        × (page.new.items ≡ page.old.items ++ flat_map script_line rows)) }
     ensures refused { IfErr result (MayRefuseAny G.Game.rules tables.now list.now) }
 {
     for p in list.positions() {
@@ -47,7 +48,8 @@ fn push_row<G: Shown>(
     page: &mut Vec<u8>,
 ) -> Result<(), PlayError>
     requires { G.Game.rules.is_legal p ≡ true }
-    ensures row { OnOk result ((tree : Data) × IsRow G.Game.rules G.shown G.move_shown list.now p tree × (page.new.items ≡ page.old.items ++ script_line tree)) }
+    ensures row { OnOk result ((tree : Data) × IsRow G.Game.rules G.shown G.move_shown list.now p tree
+        × (page.new.items ≡ page.old.items ++ script_line tree)) }
     ensures refused { IfErr result (MayRefuseAt G.Game.rules tables.now p) }
 {
     let value = known_value(tables, p)?;
@@ -72,7 +74,8 @@ fn push_known<G: Shown>(
 ) -> Result<(), AllocError>
     requires legal { G.Game.rules.is_legal p ≡ true }
     requires each { All (IsMoveOf G.Game.rules p) moves.now }
-    ensures { OnOk result ((groups : List Group) × AreGroups moves.now groups × (page.new.items ≡ page.old.items ++ script_line (row_tree G.shown G.move_shown list.now p value groups))) }
+    ensures { OnOk result ((groups : List Group) × AreGroups moves.now groups
+        × (page.new.items ≡ page.old.items ++ script_line (row_tree G.shown G.move_shown list.now p value groups))) }
 {
     let tree = row_value::<G>(alloc, list, p, value, moves)?;
     push_script_line(alloc, page, tree)

@@ -17,10 +17,10 @@ pub record AreListed (list : List Position) (n : ℕ) (once : List Position) (ma
   pub same : HasSame (take n list) once
   pub once_each : HasNoRepeats once
   pub few : length once ≤ n
-  pub long : length marks ≡ 256
+  pub long : length marks ≡ 1024
   pub marked : AreMarked marks once
 
-pub listed_none : (list once : List Position) (marks : List Bool) → once ≡ [] → length marks ≡ 256 → AreListed list 0 once marks
+pub listed_none : (list once : List Position) (marks : List Bool) → once ≡ [] → length marks ≡ 1024 → AreListed list 0 once marks
 listed_none list once marks none long = subst (λ (ps : List Position). AreListed list 0 ps marks) (sym none) (record {
   same = λ c. (λ h. h, λ h. h);
   once_each = tt;
@@ -54,7 +54,7 @@ module _ (list once : List Position) (marks : List Bool) (n : ℕ) (d : Position
   }
 
   -- and one that is new
-  pub listed_new : (m : ℕ) → m ≡ (get_or list n d).index % 256 → m < 256 → (Contains once (get_or list n d) → ⊥) → AreListed list (n + 1) (once ++ get_or list n d ∷ []) (set marks m true)
+  pub listed_new : (m : ℕ) → m ≡ (get_or list n d).index % 1024 → m < 1024 → (Contains once (get_or list n d) → ⊥) → AreListed list (n + 1) (once ++ get_or list n d ∷ []) (set marks m true)
   listed_new m mark small new =
       let p = get_or list n d in
       let long = old.long in
@@ -77,7 +77,7 @@ module _ (list once : List Position) (marks : List Bool) (n : ℕ) (d : Position
         few = (let few = old.few in let sum = length-append once (p ∷ []) in omega arith);
         long = length-set marks m true ∙ old.long;
         marked = λ c h. elim (Contains-push_cases once p c h) [
-          | inl k ↦ still_marked marks m (c.index % 256) within (old.marked c k)
-          | inr e ↦ subst (λ (q : Position). get_or (set marks m true) (q.index % 256) false ≡ true) e (subst (λ (i : ℕ). get_or (set marks m true) i false ≡ true) mark (get_or-set_same marks m true false within))
+          | inl k ↦ still_marked marks m (c.index % 1024) within (old.marked c k)
+          | inr e ↦ subst (λ (q : Position). get_or (set marks m true) (q.index % 1024) false ≡ true) e (subst (λ (i : ℕ). get_or (set marks m true) i false ≡ true) mark (get_or-set_same marks m true false within))
         ];
       }

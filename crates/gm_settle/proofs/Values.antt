@@ -1,8 +1,8 @@
 -- The value of a position whose canonical children the tables know.
-use Rattle.std.proofs.Common.{◌≡◌, ◌≢◌, ℕ, ◌+◌, ◌<◌, ◌≤◌, suc, ◌==◌, ◌↔◌, ◌⊎◌, inl, inr, min, max, eqb-true, if◌then◌else◌, Bool, true, false, not, List, [], ◌∷◌, ◌++◌, length, map, take, get_or, filter, Option, None, Some, IfSome, IsSome, refl, sym, ap, subst, ◌∙◌, arith}
+use Rattle.std.proofs.Common.{◌≡◌, ◌≢◌, ℕ, ◌+◌, ◌<◌, ◌≤◌, suc, ◌==◌, ◌↔◌, ◌⊎◌, inl, inr, min, max, eqb-true, if◌then◌else◌, Bool, true, false, not, List, [], ◌∷◌, ◌++◌, length, map, take, get_or, filter, replicate, option_copied, Option, None, Some, IfSome, IsSome, refl, sym, ap, subst, ◌∙◌, arith}
 use Rattle.std.specs.List.{Contains}
 use Rattle.std.proofs.lemmas.Option.{same_Some, slice_get-get_or}
-use Rattle.std.proofs.lemmas.List.{map-append, map_more, take_more, take_all, length-map, length-take}
+use Rattle.std.proofs.lemmas.List.{map-append, map_more, take_more, take_all, length-map, length-take, get_or-replicate}
 use Rattle.std.proofs.lemmas.List.Filters.{length-filter_both}
 use Rattle.std.proofs.lemmas.List.Elements.{Contains-get_or, Contains-push_cases}
 use Rattle.gm_game.specs.declared.limits.TheConstants.{REMOTENESS, MOVES}
@@ -21,7 +21,8 @@ use Rattle.gm_game.proofs.Sets.{settled_by_list}
 use Rattle.gm_game.proofs.Settled.{known_since, known_record, value_from_children}
 use Rattle.gm_game.proofs.Symmetry.{near_child}
 use Rattle.gm_record.specs.declared.summary.Summary.{Summary}
-use Rattle.gm_table.specs.Tables.{TableData, IsTable, table_of, AreHeld, IsAtHand, record_at, record_in, value_in}
+use Rattle.gm_table.specs.Tables.{TableData, IsTable, table_of, AreHeld, record_at, record_in, value_in}
+use Rattle.gm_table.specs.Hands.{AreAtHand}
 use Rattle.gm_table.specs.Solving.{IsTooFar}
 use Rattle.gm_table.specs.Words.{record_of_word, is_decided}
 use Rattle.gm_settle.specs.Gathered.{IsGathered}
@@ -75,12 +76,11 @@ found_tier (x ∷ xs) tier t e = go (x.tier == tier) refl e (found_tier xs tier 
     go true q s rest = let same = same_Some x t s in subst (λ (u : TableData). u.tier ≡ tier) same (eqb-true x.tier tier q)
     go false q s rest = rest s
 
--- so it can be at hand
-pub at_hand_some : (entries : List TableData) (tier : ℕ) (t : TableData) → Some t ≡ table_of entries tier → IsAtHand entries (Some t)
-at_hand_some entries tier t e u s =
-    let same : t ≡ u = same_Some t u s in
-    let there : table_of entries tier ≡ Some u = sym e ∙ s in
-    ap (table_of entries) (found_tier entries tier u there) ∙ there
+-- at first no table is at hand
+pub none_at_hand : (entries : List TableData) → AreAtHand entries (replicate 8 None)
+none_at_hand entries k l t e =
+    let none : option_copied (get_or (replicate 8 None) k None) ≡ None = ap option_copied (get_or-replicate 8 k None None l) in
+    let same : None ≡ Some t = sym none ∙ e in absurd (cc)
 
 -- what the tables say of a canonical position, read in the table of its tier
 module _ (r : Rules) (entries : List TableData) (c : Position) (canonical : IsCanonical r c) (t : TableData) (held : table_of entries c.tier ≡ Some t) (o : Option Solved) (o_is : o ≡ record_at t.records c.index)

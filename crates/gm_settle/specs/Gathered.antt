@@ -16,7 +16,7 @@ IsOnce ps = AllPairs (λ p q. p ≢ q) ps
 
 -- each of these positions is marked, at the last byte of its index
 abbrev pub AreMarked : List Bool → List Position → Type 0
-AreMarked marks ps = (p : Position) → Contains ps p → slice_index_or marks (p.index % 256) false ≡ true
+AreMarked marks ps = (p : Position) → Contains ps p → slice_index_or marks (p.index % 1024) false ≡ true
 
 -- the list has exactly the canonical children of p, once each and in any order
 pub record AreOnce (r : Rules) (p : Position) (cs : List Position) : Type 0 where

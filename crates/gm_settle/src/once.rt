@@ -10,19 +10,19 @@ use gm_game::limits::MOVES;
 use gm_game::position::Position;
 
 /// How many marks there are.
-const MARKS: u64 = 256;
+const MARKS: u64 = 1024;
 
 // The mark of a position.
 fn mark_of(p: Position) -> usize
-    ensures value { result ≡ p.index % 256 }
-    ensures within { result < 256 }
+    ensures value { result ≡ p.index % 1024 }
+    ensures within { result < 1024 }
 {
     (p.index % MARKS) as usize
 }
 
 // Whether a position is one of these, all of which are marked. Most that are none are told by their marks alone.
 fn is_among(marks: &[bool], once: &[Position], p: Position) -> bool
-    requires long { length marks.now ≡ 256 }
+    requires long { length marks.now ≡ 1024 }
     requires marked { AreMarked marks.now once.now }
     ensures { IsTrue result ↔ Contains once.now p }
 {

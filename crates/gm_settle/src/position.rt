@@ -1,10 +1,11 @@
 //! One position of a tier.
-ghost use Rattle.std.specs.Prelude.{◌≡◌, ◌≤◌, ◌+◌, true, IfOk, IfErr, IfSome};
+ghost use Rattle.std.specs.Prelude.{◌≡◌, ◌≤◌, ◌+◌, true, length, IfOk, IfErr, IfSome};
 ghost use Rattle.gm_game.specs.declared.limits.TheConstants.{MOVES, REMOTENESS};
 ghost use Rattle.gm_game.specs.Numbers.{AreThere};
 ghost use Rattle.gm_game.specs.Records.{settle, IsRecord};
 ghost use Rattle.gm_game.specs.Rules.{IsInner};
 ghost use Rattle.gm_game.specs.Values.{IsTrueValue};
+ghost use Rattle.gm_table.specs.Hands.{AreAtHand};
 ghost use Rattle.gm_table.specs.Tables.{AreHeld};
 ghost use Rattle.gm_settle.specs.Gathered.{AreOnce};
 ghost use Rattle.gm_settle.specs.Passes.{IsDeliveryIn, IsStop};
@@ -18,6 +19,8 @@ use gm_game::game::Game;
 use gm_game::limits::{MOVES, REMOTENESS};
 use gm_game::position::{Kind, Position, Solved, Value};
 use gm_record::summary::Summary;
+use gm_table::hand::SLOTS;
+use gm_table::table::Table;
 use gm_table::tables::Tables;
 
 /// Lists that serve many positions: of one its results, in any order and as often as moves lead to them, each of them once, and the words
@@ -55,40 +58,50 @@ impl Lists {
 }
 
 /// The record of an index of a tier, and how many of its canonical children are no draws. Children are written over what the lists hold.
-pub(crate) fn settle_index<G: Game>(
-    tables: &Tables<G>,
+pub(crate) fn settle_index<'a, G: Game>(
+    tables: &'a Tables<G>,
+    hand: &mut [Option<&'a Table<G>>],
     lists: &mut Lists,
     p: Position,
 ) -> Result<(Option<Solved>, u64), Stop>
     requires held { AreHeld G.rules tables.now p.tier }
+    requires long { length hand.old ≡ SLOTS }
+    requires at_hand { AreAtHand tables.now hand.old }
     ensures record { IfOk result (λ found. IsRecord G.rules REMOTENESS (IsTrueValue G.rules) p found.0) }
     ensures number { IfOk result (λ found. AreThere found.1 (IsDeliveryIn G.rules p.tier p.index (p.index + 1))) }
     ensures few { IfOk result (λ found. found.1 ≤ MOVES) }
     ensures stop { IfErr result (IsStop G.rules p.tier) }
+    ensures long { length hand.new ≡ SLOTS }
+    ensures at_hand { AreAtHand tables.now hand.new }
 {
     match G::kind(p) {
         Kind::Hole => Ok((None, 0)),
         Kind::Ended(end) => Ok((Some(of_end(end)), 0)),
         Kind::Inner => {
-            let (solved, number) = settle_inner::<G>(tables, lists, p)?;
+            let (solved, number) = settle_inner::<G>(tables, hand, lists, p)?;
             Ok((Some(solved), number))
         }
     }
 }
 
 // The value of a position at which the game goes on, and how many of its canonical children are no draws.
-fn settle_inner<G: Game>(
-    tables: &Tables<G>,
+fn settle_inner<'a, G: Game>(
+    tables: &'a Tables<G>,
+    hand: &mut [Option<&'a Table<G>>],
     lists: &mut Lists,
     p: Position,
 ) -> Result<(Solved, u64), Stop>
     requires inner { IsInner G.rules p }
     requires held { AreHeld G.rules tables.now p.tier }
+    requires long { length hand.old ≡ SLOTS }
+    requires at_hand { AreAtHand tables.now hand.old }
     ensures value { IfOk result (λ found. IsTrueValue G.rules p found.0) }
     ensures near { IfOk result (λ found. found.0.remoteness ≤ REMOTENESS) }
     ensures number { IfOk result (λ found. AreThere found.1 (IsDeliveryIn G.rules p.tier p.index (p.index + 1))) }
     ensures few { IfOk result (λ found. found.1 ≤ MOVES) }
     ensures stop { IfErr result (IsStop G.rules p.tier) }
+    ensures long { length hand.new ≡ SLOTS }
+    ensures at_hand { AreAtHand tables.now hand.new }
 {
     lists.fill::<G>(p);
     let Lists {
@@ -96,7 +109,7 @@ fn settle_inner<G: Game>(
         children,
         words,
     } = lists;
-    let (seen, number) = match gather::<G>(tables, p, children.as_slice(), words) {
+    let (seen, number) = match gather::<G>(tables, hand, p, children.as_slice(), words) {
         Some(found) => found,
         None => return Err(Stop::Stays),
     };

@@ -10,6 +10,7 @@ use crate::stop::Stop;
 use gm_game::game::Game;
 use gm_game::limits::TIER_SIZE;
 use gm_game::position::Position;
+use gm_table::hand::SLOTS;
 use gm_table::packed::Packed;
 use gm_table::tables::Tables;
 use std::alloc::Global;
@@ -34,10 +35,16 @@ pub(crate) fn settle_range<G: Game>(
     let mut records = Packed::with_capacity(alloc, (hi - lo) as usize)?;
     let mut number = 0;
     let mut lists = Lists::new();
+    let mut hand = [None; SLOTS];
     let mut next = lo;
     while let Some(index) = G::first_canonical(tier, next, hi) {
         records.push_none((index - next) as usize)?;
-        let (known, more) = settle_index::<G>(tables, &mut lists, Position { tier, index })?;
+        let (known, more) = settle_index::<G>(
+            tables,
+            &mut hand,
+            &mut lists,
+            Position { tier, index },
+        )?;
         records.push(known)?;
         number += more;
         next = index + 1;

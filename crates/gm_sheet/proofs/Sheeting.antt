@@ -15,25 +15,9 @@ use Rattle.gm_play.specs.PlayTexts.{IsReadAs, IsNoPosition}
 use Rattle.gm_play.specs.BestLines.{ComesToNotHeld}
 use Rattle.gm_find.specs.declared.found.Found.{Found}
 use Rattle.gm_draw.specs.declared.pictured.Style.{Style}
-use Rattle.gm_draw.specs.Diagrams.{escaped, escaped_byte}
+use Rattle.gm_draw.specs.Diagrams.{escaped}
 use Rattle.gm_sheet.specs.declared.solution.TheConstants.{SOLUTION_MOVES}
 use Rattle.gm_sheet.specs.Sheets.{Entry, entry_text, answer_text, IsEntry, AreEntries, steps_text, MayRefuseLine, MayRefuseLines}
-
--- ---- texts in HTML
--- one byte more of a text, and all of them
-pub escaped_next : (xs : List ℕ) (i : ℕ) (base cur new : List ℕ) → i < length xs → cur ≡ base ++ flat_map escaped_byte (take i xs) → new ≡ cur ++ escaped_byte (get_or xs i 0)
-    → new ≡ base ++ flat_map escaped_byte (take (i + 1) xs)
-escaped_next xs i base cur new l e n =
-    let x = get_or xs i 0 in
-    let f : ℕ → List ℕ = escaped_byte in
-    let done = flat_map f (take i xs) in
-    let one : flat_map f (x ∷ []) ≡ f x = append-nil (f x) in
-    let more : flat_map f (take (i + 1) xs) ≡ done ++ f x = ap (flat_map f) (take_more xs i 0 l) ∙ flat_map-append f (take i xs) (x ∷ []) ∙ ap (λ (t : List ℕ). done ++ t) one in
-    n ∙ ap (λ (t : List ℕ). t ++ f x) e ∙ append_assoc base done (f x) ∙ ap (λ (t : List ℕ). base ++ t) (sym more)
-
-pub escaped_all : (xs : List ℕ) (i : ℕ) (base cur : List ℕ) → length xs ≤ i → cur ≡ base ++ flat_map escaped_byte (take i xs) → cur ≡ base ++ escaped xs
-unfolding escaped
-escaped_all xs i base cur l e = e ∙ ap (λ (t : List ℕ). base ++ flat_map escaped_byte t) (take_all i xs l)
 
 -- ---- moves
 -- one move more

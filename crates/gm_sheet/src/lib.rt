@@ -3,7 +3,6 @@
 //! `specs/` has the definitions that contracts cite, and `proofs/` what follows from them.
 #![tactic(auto)]
 
-mod markup;
 pub mod parts;
 pub mod sheet;
 pub mod solution;

@@ -6,11 +6,11 @@ ghost use Rattle.gm_find.specs.Finding.{AreTiersHeld, IsMissing};
 ghost use Rattle.gm_find.specs.Founds.{AreFound, IsFound};
 ghost use Rattle.gm_sheet.specs.Sheets.{Entry, entry_text, answer_text, heading, lists, sheet_of, IsEntry, AreEntries, IsSheet, MayRefuseLine, MayRefuseLines};
 
-use crate::markup::push_escaped;
 use crate::parts::{SHEET_BACK, SHEET_DIAGRAMS, SHEET_FRONT, SHEET_SOLUTIONS};
 use crate::solution::solution_text;
 use gm_best::play_error::PlayError;
 use gm_draw::diagram::diagram_text;
+use gm_draw::markup::push_escaped;
 use gm_draw::pictured::Pictured;
 use gm_find::find_error::FindError;
 use gm_find::found::{Found, find};

@@ -6,8 +6,8 @@ ghost use Rattle.gm_find.specs.Founds.{IsFound};
 ghost use Rattle.gm_draw.specs.Diagrams.{escaped};
 ghost use Rattle.gm_sheet.specs.Sheets.{choice_words, end_words, steps_text, best_words, line_words, solution_of, IsSolution, MayRefuseLine};
 
-use crate::markup::push_escaped;
 use gm_best::play_error::PlayError;
+use gm_draw::markup::push_escaped;
 use gm_find::found::Found;
 use gm_game::position::Position;
 use gm_game::shown::{Line, Shown};

@@ -9,3 +9,4 @@ pub mod ValueLemmas
 pub mod PackedLemmas
 pub mod WordLemmas
 pub mod VerdictLemmas
+mod HandLemmas

@@ -1,5 +1,6 @@
 pub mod Checks
 pub mod Dealing
+pub mod Hands
 pub mod Levels
 pub mod Packed
 pub mod Runs

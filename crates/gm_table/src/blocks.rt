@@ -2,10 +2,13 @@
 ghost use Rattle.std.specs.Prelude.{◌≡◌, ◌↔◌, ◌<◌, ◌≤◌, ℕ, length, IsTrue, MatchOption};
 ghost use Rattle.gm_game.specs.Rules.{AreHoles};
 ghost use Rattle.gm_game.specs.declared.limits.TheConstants.{TIER_SIZE};
+ghost use Rattle.gm_table.specs.Hands.{AreAtHand};
 ghost use Rattle.gm_table.specs.Checks.{FitsAt, IsFirstWrong, IsFirstWrongIn, IsFirstOfClass};
 
 use crate::fits::{Lists, fits};
+use crate::hand::SLOTS;
 use crate::records::Records;
+use crate::table::Table;
 use crate::tables::Tables;
 use gm_game::game::Game;
 use gm_game::limits::TIER_SIZE;
@@ -51,9 +54,13 @@ impl<'a, G: Game, C: Records> Given<'a, G, C> {
     }
 
     // Whether the record at an index fits. Results are written over what the lists hold.
-    fn fits_at(&self, lists: &mut Lists, index: usize) -> bool
-        requires { index < length (C.listed self.now.records.now) }
-        ensures { IsTrue result ↔ FitsAt G.rules self.now.tables.now self.now.tier (C.listed self.now.records.now) index }
+    fn fits_at(&self, hand: &mut [Option<&'a Table<G>>], lists: &mut Lists, index: usize) -> bool
+        requires within { index < length (C.listed self.now.records.now) }
+        requires long { length hand.old ≡ SLOTS }
+        requires at_hand { AreAtHand self.now.tables.now hand.old }
+        ensures value { IsTrue result ↔ FitsAt G.rules self.now.tables.now self.now.tier (C.listed self.now.records.now) index }
+        ensures long { length hand.new ≡ SLOTS }
+        ensures at_hand { AreAtHand self.now.tables.now hand.new }
     {
         let p = Position {
             tier: self.tier,
@@ -63,6 +70,7 @@ impl<'a, G: Game, C: Records> Given<'a, G, C> {
             self.tier,
             self.records,
             self.tables,
+            hand,
             lists,
             p,
             self.records.record(index),
@@ -70,10 +78,20 @@ impl<'a, G: Game, C: Records> Given<'a, G, C> {
     }
 
     // The least index from `lo` up to `hi` whose record doesn't fit. Results are written over what the lists hold.
-    fn first_between(&self, lists: &mut Lists, lo: usize, hi: usize) -> Option<u64>
+    fn first_between(
+        &self,
+        hand: &mut [Option<&'a Table<G>>],
+        lists: &mut Lists,
+        lo: usize,
+        hi: usize,
+    ) -> Option<u64>
         requires order { lo ≤ hi }
         requires within { hi ≤ length (C.listed self.now.records.now) }
-        ensures { IsFirstWrongIn G.rules self.now.tables.now self.now.tier (C.listed self.now.records.now) lo hi result }
+        requires long { length hand.old ≡ SLOTS }
+        requires at_hand { AreAtHand self.now.tables.now hand.old }
+        ensures value { IsFirstWrongIn G.rules self.now.tables.now self.now.tier (C.listed self.now.records.now) lo hi result }
+        ensures long { length hand.new ≡ SLOTS }
+        ensures at_hand { AreAtHand self.now.tables.now hand.new }
     {
         let mut next = lo;
         while let Some(canonical) = G::first_canonical(self.tier, next as u64, hi as u64) {
@@ -82,7 +100,7 @@ impl<'a, G: Game, C: Records> Given<'a, G, C> {
             if filled.is_some() {
                 return filled;
             }
-            if !self.fits_at(lists, index) {
+            if !self.fits_at(hand, lists, index) {
                 return Some(canonical);
             }
             next = index + 1;
@@ -96,11 +114,12 @@ impl<'a, G: Game, C: Records> Given<'a, G, C> {
     {
         let size = self.records.count();
         let mut lists = Lists::new();
+        let mut hand = [None; SLOTS];
         for round in 0..size.div_ceil(ROUND) {
             let start = round * ROUND + (class as usize % CLASSES) * BLOCK;
             let lo = start.min(size);
             let hi = (start + BLOCK).min(size);
-            if let Some(index) = self.first_between(&mut lists, lo, hi) {
+            if let Some(index) = self.first_between(&mut hand, &mut lists, lo, hi) {
                 return index;
             }
         }
@@ -141,7 +160,7 @@ pub(crate) fn first_wrong<G: Game, C: Records>(
         records,
         tables,
     };
-    given.first_between(&mut Lists::new(), 0, records.count())
+    given.first_between(&mut [None; SLOTS], &mut Lists::new(), 0, records.count())
 }
 
 /// The least index whose record doesn't fit, found by as many threads as there are processors.

@@ -1,11 +1,13 @@
 //! Whether one record follows from the records of its position's canonical children.
-ghost use Rattle.std.specs.Prelude.{◌≡◌, ◌↔◌, IsTrue, option_copied};
+ghost use Rattle.std.specs.Prelude.{◌≡◌, ◌↔◌, IsTrue, length, option_copied};
 ghost use Rattle.gm_game.specs.Rules.{IsCanonical, IsInner};
 ghost use Rattle.gm_game.specs.Records.{settle};
-ghost use Rattle.gm_table.specs.Tables.{record_of, table_of, IsAtHand};
+ghost use Rattle.gm_table.specs.Hands.{AreAtHand};
+ghost use Rattle.gm_table.specs.Tables.{record_of};
 ghost use Rattle.gm_table.specs.Words.{record_of_word};
 ghost use Rattle.gm_table.specs.Checks.{look_up, value_from, RecordFits};
 
+use crate::hand::{SLOTS, table_for};
 use crate::records::Records;
 use crate::table::Table;
 use crate::tables::Tables;
@@ -35,15 +37,20 @@ impl Lists {
 }
 
 /// Whether this record of a position fits. The position's results are written over what the lists hold.
-pub(crate) fn fits<G: Game, C: Records>(
+pub(crate) fn fits<'a, G: Game, C: Records>(
     tier: u64,
     records: &C,
-    tables: &Tables<G>,
+    tables: &'a Tables<G>,
+    hand: &mut [Option<&'a Table<G>>],
     lists: &mut Lists,
     p: Position,
     known: Option<Solved>,
 ) -> bool
-    ensures { IsTrue result ↔ RecordFits G.rules tables.now tier (C.listed records.now) p known }
+    requires long { length hand.old ≡ SLOTS }
+    requires at_hand { AreAtHand tables.now hand.old }
+    ensures value { IsTrue result ↔ RecordFits G.rules tables.now tier (C.listed records.now) p known }
+    ensures long { length hand.new ≡ SLOTS }
+    ensures at_hand { AreAtHand tables.now hand.new }
 {
     match (G::kind(p), known) {
         (Kind::Hole, None) => true,
@@ -51,69 +58,76 @@ pub(crate) fn fits<G: Game, C: Records>(
         (Kind::Ended(end), Some(solved)) => solved == of_end(end),
         (Kind::Inner, Some(solved)) => {
             solved.remoteness <= REMOTENESS
-                && follows::<G, C>(tier, records, tables, lists, p, solved)
+                && follows::<G, C>(tier, records, tables, hand, lists, p, solved)
         }
     }
 }
 
 // Whether a value is the one that follows, by the rules, for a position in which the game goes on.
-fn follows<G: Game, C: Records>(
+fn follows<'a, G: Game, C: Records>(
     tier: u64,
     records: &C,
-    tables: &Tables<G>,
+    tables: &'a Tables<G>,
+    hand: &mut [Option<&'a Table<G>>],
     lists: &mut Lists,
     p: Position,
     solved: Solved,
 ) -> bool
-    requires { IsInner G.rules p }
-    ensures { IsTrue result ↔ (solved ≡ value_from G.rules tables.now tier (C.listed records.now) p) }
+    requires inner { IsInner G.rules p }
+    requires long { length hand.old ≡ SLOTS }
+    requires at_hand { AreAtHand tables.now hand.old }
+    ensures value { IsTrue result ↔ (solved ≡ value_from G.rules tables.now tier (C.listed records.now) p) }
+    ensures long { length hand.new ≡ SLOTS }
+    ensures at_hand { AreAtHand tables.now hand.new }
 {
-    gather::<G, C>(tier, records, tables, lists, p).settles(solved)
+    gather::<G, C>(tier, records, tables, hand, lists, p).settles(solved)
 }
 
 // What the canonical children of a position say: their words first, and then what the words say, so that no record is waited for before the next is asked for.
-fn gather<G: Game, C: Records>(
+fn gather<'a, G: Game, C: Records>(
     tier: u64,
     records: &C,
-    tables: &Tables<G>,
+    tables: &'a Tables<G>,
+    hand: &mut [Option<&'a Table<G>>],
     lists: &mut Lists,
     p: Position,
 ) -> Summary
-    requires { IsInner G.rules p }
-    ensures { settle result.lost result.won result.tied ≡ value_from G.rules tables.now tier (C.listed records.now) p }
+    requires inner { IsInner G.rules p }
+    requires long { length hand.old ≡ SLOTS }
+    requires at_hand { AreAtHand tables.now hand.old }
+    ensures value { settle result.lost result.won result.tied ≡ value_from G.rules tables.now tier (C.listed records.now) p }
+    ensures long { length hand.new ≡ SLOTS }
+    ensures at_hand { AreAtHand tables.now hand.new }
 {
     let Lists { results, words } = lists;
     G::fill_results(p, results);
     words.clear();
-    let mut at_hand = None;
     for c in results.as_slice() {
-        let (word, table) = look_up::<G, C>(tier, records, tables, at_hand, *c);
-        words.push(word);
-        at_hand = table;
+        words.push(look_up::<G, C>(tier, records, tables, hand, *c));
     }
     let (summary, _decided) = sum_of(words.as_slice());
     summary
 }
 
-// The word of a canonical position's record: a given one in the tier, and elsewhere that of a table. The table that was read last is at hand for the next
-// position: results of one tier mostly come together.
+// The word of a canonical position's record: a given one in the tier, and elsewhere that of a table.
 fn look_up<'a, G: Game, C: Records>(
     tier: u64,
     records: &C,
     tables: &'a Tables<G>,
-    at_hand: Option<&'a Table<G>>,
+    hand: &mut [Option<&'a Table<G>>],
     c: Position,
-) -> (u64, Option<&'a Table<G>>)
+) -> u64
     requires canonical { IsCanonical G.rules c }
-    requires at_hand { IsAtHand tables.now (option_copied at_hand) }
-    ensures record { record_of_word result.0 ≡ look_up G.rules tables.now tier (C.listed records.now) c }
-    ensures at_hand { IsAtHand tables.now (option_copied result.1) }
+    requires long { length hand.old ≡ SLOTS }
+    requires at_hand { AreAtHand tables.now hand.old }
+    ensures record { record_of_word result ≡ look_up G.rules tables.now tier (C.listed records.now) c }
+    ensures long { length hand.new ≡ SLOTS }
+    ensures at_hand { AreAtHand tables.now hand.new }
 {
     if c.tier == tier {
-        return (records.word(c.index as usize), at_hand);
+        return records.word(c.index as usize);
     }
-    let table = table_for(tables, at_hand, c.tier);
-    (word_in(table, c.index), table)
+    word_in(table_for(tables, hand, c.tier), c.index)
 }
 
 // The word of the record at an index of a table; 0 where there is no table.
@@ -123,20 +137,5 @@ fn word_in<G: Game>(table: Option<&Table<G>>, index: u64) -> u64
     match table {
         Some(table) => table.word(index),
         None => 0,
-    }
-}
-
-// The table of a tier: the one at hand, where it is that tier's.
-fn table_for<'a, G: Game>(
-    tables: &'a Tables<G>,
-    at_hand: Option<&'a Table<G>>,
-    tier: u64,
-) -> Option<&'a Table<G>>
-    requires { IsAtHand tables.now (option_copied at_hand) }
-    ensures { option_copied result ≡ table_of tables.now tier }
-{
-    match at_hand {
-        Some(table) if table.tier() == tier => Some(table),
-        _ => tables.table(tier),
     }
 }

@@ -8,6 +8,7 @@ pub mod checker;
 pub mod dealing;
 mod entry;
 mod fits;
+pub mod hand;
 mod levels;
 pub mod packed;
 mod records;

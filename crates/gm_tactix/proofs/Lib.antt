@@ -10,3 +10,4 @@ pub mod BeforeSteps
 pub mod ChildSteps
 pub mod FirstSteps
 pub mod SegmentList
+pub mod SegmentCells

@@ -1,8 +1,6 @@
 use Rattle.std.proofs.Common.{◌≡◌, true, get_or}
-use Rattle.std.specs.List.{Contains}
 use Rattle.std.proofs.lemmas.List.Elements.{Contains-get_or}
 use Rattle.std.proofs.lemmas.Result.{IfOk-weaker}
-use Rattle.gm_game.specs.declared.position.Position.{Position}
 use Rattle.gm_best.specs.declared.play_error.PlayError.TheVariants.{Illegal, NotHeld}
 use Rattle.gm_page.specs.Listings.{MayRefuse, MayRefuseAny}
 use Rattle.gm_page.proofs.Reaching.{listing_reached, passed, reached_legal}

@@ -1,10 +1,9 @@
-use Rattle.std.proofs.Common.{◌≡◌, Some, None, List, [], ◌∷◌, ◌++◌, map, slice_get, sym, ap, subst, ◌∙◌}
+use Rattle.std.proofs.Common.{◌≡◌, [], ◌∷◌, ◌++◌, map, sym, ap, subst, ◌∙◌}
 use Rattle.std.specs.List.{All}
 use Rattle.std.proofs.lemmas.List.{map-append}
 use Rattle.std.proofs.lemmas.List.Elements.{All-drop}
 use Rattle.serde_json.specs.Data.{Data}
 use Rattle.serde_json.specs.View.{view}
-use Rattle.gm_play.specs.declared.move_values.MoveValue.{MoveValue}
 use Rattle.gm_play.specs.PlayTexts.{IsMoveOf}
 use Rattle.gm_page.specs.Rows.{group_tree}
 use Rattle.gm_page.proofs.Rowing.{all_grouped, next_grouped, none_first}

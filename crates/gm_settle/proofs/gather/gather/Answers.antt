@@ -2,7 +2,7 @@ use Rattle.std.proofs.Common.{◌≡◌, ℕ, Option, IfNone, take, sym, subst, 
 use Rattle.gm_game.specs.declared.position.Position.{Position}
 use Rattle.gm_record.specs.declared.summary.Summary.{Summary}
 use Rattle.gm_game.specs.Rules.{at, IsCanonicalChild}
-use Rattle.gm_settle.proofs.Values.{AreRead, read_none, read_step, read_all, gathered_read, listed_child, own_tier, words_few, at_hand_some}
+use Rattle.gm_settle.proofs.Values.{AreRead, read_none, read_step, read_all, gathered_read, listed_child, own_tier, words_few}
 use Rattle.gm_settle.proofs.gather.gather.Goals as goal
 
 pub push-requires : goal.push-requires
@@ -13,15 +13,16 @@ push-requires g c =
     omega arith
 
 pub loop-c-init : goal.loop-c-init
-loop-c-init g c = record { read = read_none g.G.Game.rules c.args.tables.now c.args.children.now _ c.clear.ensures; at_hand = λ t e. absurd (cc) }
+loop-c-init g c = record { read = read_none g.G.Game.rules c.args.tables.now c.args.children.now _ c.clear.ensures; hand_long = c.requires.long; at_hand = c.requires.at_hand }
 
 pub loop-c-preserved : goal.loop-c-preserved
 loop-c-preserved g c =
-    let held = c.in_ok-table.ensures in
+    let held = c.in_ok-table.ensures.table in
     record {
       read = read_step g.G.Game.rules g.met.G.Game.lawful c.args.tables.now c.args.p c.args.children.now c.loop-c.c-index (at 0 0) c.requires.legal c.requires.all c.loop-c-test.true c.loop-c.words.items _ c.word.result
           c.in_ok-table.table.now held c.word.ensures.value c.word.ensures.is_true c.push.ensures.items c.loop-c.invariant.read;
-      at_hand = at_hand_some c.args.tables.now _ c.in_ok-table.table.now held;
+      hand_long = c.in_ok-table.ensures.long;
+      at_hand = c.in_ok-table.ensures.at_hand;
     }
 
 pub returns-then-c-p-clause-stays : goal.returns-then-c-p-clause-stays
@@ -32,7 +33,7 @@ pub returns-in_err-table-clause-stays : goal.returns-in_err-table-clause-stays
 returns-in_err-table-clause-stays g c =
     let child = listed_child g.G.Game.rules g.met.G.Game.lawful c.args.tables.now c.args.p c.args.children.now c.loop-c.c-index (at 0 0) c.requires.legal c.requires.all c.loop-c-test.true in
     subst (λ (o : Option (Summary × ℕ)). IfNone o ((d : Position) × IsCanonicalChild g.G.Game.rules c.args.p d × (d.tier ≡ c.args.p.tier))) (sym c.from_residual.ensures)
-    (_, child, own_tier g.G.Game.rules g.met.G.Game.lawful c.args.tables.now c.args.p _ c.requires.legal c.requires.held child (sym c.in_err-table.ensures))
+    (_, child, own_tier g.G.Game.rules g.met.G.Game.lawful c.args.tables.now c.args.p _ c.requires.legal c.requires.held child (sym c.in_err-table.ensures.table))
 
 pub returns-clause-gathered : goal.returns-clause-gathered
 returns-clause-gathered g c =

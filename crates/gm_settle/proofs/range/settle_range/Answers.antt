@@ -1,9 +1,10 @@
-use Rattle.std.proofs.Common.{◌+◌, ◌≤◌, arith}
+use Rattle.std.proofs.Common.{◌+◌, ◌≤◌, refl, arith}
+use Rattle.gm_settle.proofs.Values.{none_at_hand}
 use Rattle.gm_settle.proofs.Parts.{passed_none, passed_more, passed_holes}
 use Rattle.gm_settle.proofs.range.settle_range.Goals as goal
 
 pub loop-index-init : goal.loop-index-init
-loop-index-init g c = record { high = c.requires.order; passed = passed_none g.G.Game.rules c.args.tier c.args.lo c.in_ok-records.records c.in_ok-records.ensures }
+loop-index-init g c = record { high = c.requires.order; hand_long = refl; at_hand = none_at_hand c.args.tables.now; passed = passed_none g.G.Game.rules c.args.tier c.args.lo c.in_ok-records.records c.in_ok-records.ensures }
 
 pub loop-index-preserved : goal.loop-index-preserved
 loop-index-preserved g c =
@@ -13,6 +14,8 @@ loop-index-preserved g c =
     let below = first.1 in
     record {
       high = omega arith;
+      hand_long = c.in_ok-known.ensures.long;
+      at_hand = c.in_ok-known.ensures.at_hand;
       passed = passed_more r c.args.tier c.args.lo c.in-Some.index c.push_none.new.self c.push.new.self c.loop-index.number c.in_ok-known.more c.in_ok-known.known holes c.in_ok-known.ensures.record
           c.in_ok-known.ensures.number c.in_ok-known.ensures.few c.in_ok-push.ensures.ok;
     }

@@ -1,10 +1,13 @@
-use Rattle.std.proofs.Common.{ℕ, ◌≤◌, ◌-◌}
+use Rattle.std.proofs.Common.{◌≡◌, ℕ, ◌≤◌, ◌-◌, length}
+use Rattle.gm_table.specs.Hands.{AreAtHand}
 use Rattle.gm_settle.proofs.Parts.{ArePassed}
 use Rattle.gm_settle.proofs.range.settle_range.Given as goal
 
 abbrev pub invariant-loop-index : goal.invariant-loop-index
 invariant-loop-index g l = record {
   high : l.next ≤ l.fn.hi;
+  hand_long : length l.hand ≡ 8;
+  at_hand : AreAtHand l.tables l.hand;
   passed : ArePassed g.G.Game.rules l.fn.tier l.fn.lo l.next l.records l.number;
 }
 

@@ -1,7 +1,7 @@
-use Rattle.std.proofs.Common.{◌≡◌, map, take, option_copied}
+use Rattle.std.proofs.Common.{◌≡◌, map, take, length}
 use Rattle.gm_game.specs.Children.{AreResults}
 use Rattle.gm_table.specs.Checks.{look_up}
-use Rattle.gm_table.specs.Tables.{IsAtHand}
+use Rattle.gm_table.specs.Hands.{AreAtHand}
 use Rattle.gm_table.specs.Words.{record_of_word}
 use Rattle.gm_table.proofs.fits.gather.Given as goal
 
@@ -11,5 +11,6 @@ invariant-loop-c g l =
     record {
       words_so_far : map record_of_word l.words.items ≡ map look (take l.c-index l.c-items);
       all_children : AreResults g.G.Game.rules l.fn.p l.c-items;
-      at_hand : IsAtHand l.tables (option_copied l.at_hand);
+      hand_long : length l.hand ≡ 8;
+      at_hand : AreAtHand l.tables l.hand;
     }

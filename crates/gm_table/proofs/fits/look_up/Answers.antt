@@ -1,4 +1,4 @@
-use Rattle.gm_table.proofs.CheckLemmas.{look_up_else, look_up_own, at_hand_found}
+use Rattle.gm_table.proofs.CheckLemmas.{look_up_else, look_up_own}
 use Rattle.gm_table.proofs.fits.look_up.Goals as goal
 
 pub returns-then-c-tier-clause-record : goal.returns-then-c-tier-clause-record
@@ -7,7 +7,4 @@ returns-then-c-tier-clause-record g c =
 
 pub returns-clause-record : goal.returns-clause-record
 returns-clause-record g c =
-    look_up_else g.G.Game.rules c.args.tables.now c.args.tier (g.C.Records.listed c.args.records.now) c.args.c _ _ c.requires.canonical c.if-c-tier.false c.table_for-table.ensures c.word_in.ensures
-
-pub returns-clause-at_hand : goal.returns-clause-at_hand
-returns-clause-at_hand g c = at_hand_found c.args.tables.now c.args.c.tier _ c.table_for-table.ensures
+    look_up_else g.G.Game.rules c.args.tables.now c.args.tier (g.C.Records.listed c.args.records.now) c.args.c _ _ c.requires.canonical c.if-c-tier.false c.table_for.ensures.table c.word_in.ensures

@@ -1,11 +1,14 @@
-use Rattle.std.proofs.Common.{◌≤◌, ◌-◌}
+use Rattle.std.proofs.Common.{◌≡◌, ◌≤◌, ◌-◌, length}
 use Rattle.gm_table.specs.Checks.{FitBetween}
+use Rattle.gm_table.specs.Hands.{AreAtHand}
 use Rattle.gm_table.proofs.blocks.Given.first_between.Given as goal
 
 abbrev pub invariant-loop-canonical : goal.invariant-loop-canonical
 invariant-loop-canonical g l = record {
   low : l.fn.lo ≤ l.next;
   high : l.next ≤ l.hi;
+  hand_long : length l.hand ≡ 8;
+  at_hand : AreAtHand l.self.tables.now l.hand;
   fit : FitBetween g.G.Game.rules l.self.tables.now l.self.tier (g.C.Records.listed l.self.records.now) l.fn.lo l.next;
 }
 

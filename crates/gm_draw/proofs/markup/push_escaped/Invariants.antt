@@ -1,7 +1,7 @@
 use Rattle.std.proofs.Common.{◌≡◌, ◌++◌, take}
 use Rattle.std.specs.List.{flat_map}
 use Rattle.gm_draw.specs.Diagrams.{escaped_byte}
-use Rattle.gm_draw.proofs.svg.push_escaped.Given as goal
+use Rattle.gm_draw.proofs.markup.push_escaped.Given as goal
 
 abbrev pub invariant-loop-byte : goal.invariant-loop-byte
 invariant-loop-byte l = l.text.items ≡ l.initial.text.items ++ flat_map escaped_byte (take l.byte-index l.plain)

@@ -1,7 +1,7 @@
 use Rattle.std.proofs.Common.{ap, ◌∙◌, arith, drop, ◌+◌}
 use Rattle.gm_draw.specs.Diagrams.{widest}
 use Rattle.gm_draw.proofs.Spreading.{widest_next, widest_all}
-use Rattle.gm_draw.proofs.diagram.widest.Goals as goal
+use Rattle.gm_draw.proofs.frame.widest.Goals as goal
 
 pub loop-byte-preserved : goal.loop-byte-preserved
 loop-byte-preserved c = record {

@@ -1,6 +1,6 @@
 use Rattle.std.proofs.Common.{◌≡◌, ◌≤◌, drop}
 use Rattle.gm_draw.specs.Diagrams.{widest}
-use Rattle.gm_draw.proofs.diagram.widest.Given as goal
+use Rattle.gm_draw.proofs.frame.widest.Given as goal
 
 abbrev pub invariant-loop-byte : goal.invariant-loop-byte
 invariant-loop-byte l = record {

@@ -1,6 +1,6 @@
 use Rattle.gm_draw.specs.Diagrams.{escaped_byte}
 use Rattle.gm_draw.proofs.Spreading.{flat_next, escaped_all}
-use Rattle.gm_draw.proofs.svg.push_escaped.Goals as goal
+use Rattle.gm_draw.proofs.markup.push_escaped.Goals as goal
 
 pub loop-byte-preserved : goal.loop-byte-preserved
 loop-byte-preserved c =

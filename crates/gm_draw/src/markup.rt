@@ -1,11 +1,11 @@
-//! Texts in HTML.
+//! Texts in XML and HTML.
 ghost use Rattle.std.specs.Prelude.{◌≡◌, ◌++◌, OnOk};
 ghost use Rattle.gm_draw.specs.Diagrams.{escaped, escaped_byte};
 
 use std::alloc::AllocError;
 
 /// Appends a text, in which `<` and `&` have names.
-pub(crate) fn push_escaped(text: &mut Vec<u8>, plain: &[u8]) -> Result<(), AllocError>
+pub fn push_escaped(text: &mut Vec<u8>, plain: &[u8]) -> Result<(), AllocError>
     ensures { OnOk result (text.new.items ≡ text.old.items ++ escaped plain.now) }
 {
     for byte in plain {

@@ -1,0 +1,66 @@
+-- Each byte of a board is drawn at a point of its own.
+use Rattle.std.proofs.Common.{◌≡◌, ℕ, ◌+◌, ◌<◌, ◌⊎◌, Bool, true, false, ◌==◌, cond, eqb, eqb-true, List, [], ◌∷◌, ◌++◌, count_by, refl, sym, ap, ◌∙◌, arith, inl, inr}
+use Rattle.std.specs.List.{All, flat_map}
+use Rattle.std.proofs.lemmas.Bool.{cases_Bool, cond-true, cond-false}
+use Rattle.std.proofs.lemmas.List.Elements.{All-nil, All-cons}
+use Rattle.std.proofs.lemmas.List.Sums.{sum_by-cons}
+use Rattle.gm_draw.specs.declared.pictured.Style.{Style}
+use Rattle.gm_draw.specs.Diagrams.{over_at, next_x, next_y, spread}
+use Rattle.gm_draw.specs.Spots.{Spot, spots, IsBefore, AreApart, IsEachOnce}
+
+spread_spots : (f : ℕ → ℕ → ℕ → List ℕ) (x y : ℕ) (bs : List ℕ) → spread f x y bs ≡ flat_map (λ s. f s.x s.y s.byte) (spots x y bs)
+unfolding spread spots
+spread_spots f x y [] = refl
+spread_spots f x y (b ∷ bs) = ap (λ (t : List ℕ). f x y b ++ t) (spread_spots f (next_x x b) (next_y y b) bs)
+
+count_spots : (test : ℕ → Bool) (x y : ℕ) (bs : List ℕ) → count_by (λ s. test s.byte) (spots x y bs) ≡ count_by test bs
+unfolding spots
+count_spots test x y [] = refl
+count_spots test x y (b ∷ bs) =
+    sum_by-cons (λ (s : Spot). cond (test s.byte) 1 0) (record { x = x; y = y; byte = b }) (spots (next_x x b) (next_y y b) bs)
+    ∙ ap (λ (n : ℕ). cond (test b) 1 0 + n) (count_spots test (next_x x b) (next_y y b) bs)
+    ∙ sym (sum_by-cons (λ (c : ℕ). cond (test c) 1 0) b bs)
+
+-- where the byte after a line's end stands, and after any other
+ends : (x y b : ℕ) → eqb b 10 ≡ true → (next_x x b ≡ 40) × (next_y y b ≡ y + 40)
+ends x y b e = (cond-true _ _ _ e, cond-true _ _ _ e)
+
+goes_on : (x y b : ℕ) → eqb b 10 ≡ false → (next_x x b ≡ x + 20) × (next_y y b ≡ y)
+goes_on x y b e = (cond-false _ _ _ e, cond-false _ _ _ e)
+
+-- the byte after one that stands past a point is past it too
+next_past : (x y u v b : ℕ) → (y < v) ⊎ ((y ≡ v) × (x < u)) → (y < next_y v b) ⊎ ((y ≡ next_y v b) × (x < next_x u b))
+next_past x y u v b (inl l) = elim (cases_Bool (eqb b 10)) [
+  | inl e ↦ (let (h, k) = ends u v b e in inl (omega (arith, l, k)))
+  | inr e ↦ (let (h, k) = goes_on u v b e in inl (omega (arith, l, k)))
+]
+next_past x y u v b (inr p) = let (same, l) = p in elim (cases_Bool (eqb b 10)) [
+  | inl e ↦ (let (h, k) = ends u v b e in inl (omega (arith, same, k)))
+  | inr e ↦ (let (h, k) = goes_on u v b e in inr (omega (arith, same, k), omega (arith, l, h)))
+]
+
+all_past : (x y c u v : ℕ) (bs : List ℕ) → (y < v) ⊎ ((y ≡ v) × (x < u)) → All (IsBefore (record { x = x; y = y; byte = c })) (spots u v bs)
+unfolding spots
+all_past x y c u v [] h = All-nil (IsBefore (record { x = x; y = y; byte = c }))
+all_past x y c u v (b ∷ bs) h =
+    All-cons (IsBefore (record { x = x; y = y; byte = c })) (record { x = u; y = v; byte = b }) (spots (next_x u b) (next_y v b) bs) h
+    (all_past x y c (next_x u b) (next_y v b) bs (next_past x y u v b h))
+
+-- the byte after one stands past it
+past_here : (x y b : ℕ) → (y < next_y y b) ⊎ ((y ≡ next_y y b) × (x < next_x x b))
+past_here x y b = elim (cases_Bool (eqb b 10)) [
+  | inl e ↦ (let (h, k) = ends x y b e in inl (omega (arith, k)))
+  | inr e ↦ (let (h, k) = goes_on x y b e in inr (omega (arith, k), omega (arith, h)))
+]
+
+apart : (x y : ℕ) (bs : List ℕ) → AreApart (spots x y bs)
+unfolding spots AreApart
+apart x y [] = tt
+apart x y (b ∷ bs) = (all_past x y b (next_x x b) (next_y y b) bs (past_here x y b), apart (next_x x b) (next_y y b) bs)
+
+pub each_once : (style : Style) (text board : List ℕ) → IsEachOnce style text board
+each_once style text board = record {
+  men = spread_spots (over_at style text) 40 40 board;
+  apart = apart 40 40 board;
+  once = λ k e. (count_spots (λ b. b == 65 + k) 40 40 board ∙ eqb-true _ _ e);
+}

@@ -1,0 +1,166 @@
+//! The men of a diagram, each at its point.
+ghost use Rattle.std.specs.Prelude.{◌≡◌, ◌≤◌, ◌++◌, ◌+◌, OnOk};
+ghost use Rattle.gm_draw.specs.Diagrams.{circle, words_at, cross_of, counter_of, stone_of, disc_of, letter_of, man_of};
+
+use crate::pictured::Style;
+use crate::svg::{push_circle, push_path, push_words};
+use std::alloc::AllocError;
+
+// Appends two circles around a point.
+fn push_ringed(
+    text: &mut Vec<u8>,
+    x: u64,
+    y: u64,
+    disc: &[u8],
+    ring: &[u8],
+) -> Result<(), AllocError>
+    ensures { OnOk result (text.new.items ≡ text.old.items ++ (circle x y disc.now ++ circle x y ring.now)) }
+{
+    push_circle(text, x, y, disc)?;
+    push_circle(text, x, y, ring)
+}
+
+// Appends a circle around a point, and a letter below it.
+fn push_lettered(
+    text: &mut Vec<u8>,
+    x: u64,
+    y: u64,
+    disc: &[u8],
+    look: &[u8],
+    letter: &[u8],
+) -> Result<(), AllocError>
+    requires { y ≤ 16000 }
+    ensures { OnOk result (text.new.items ≡ text.old.items ++ (circle x y disc.now ++ words_at x (y + 7) look.now letter.now)) }
+{
+    push_circle(text, x, y, disc)?;
+    push_words(text, x, y + 7, look, letter)
+}
+
+// Appends a cross or a nought.
+#[tactic(auto, unfolding(crate::specs::Diagrams::cross_of))]
+fn push_cross(text: &mut Vec<u8>, x: u64, y: u64, byte: u8) -> Result<(), AllocError>
+    requires right { 40 ≤ x }
+    requires down { 40 ≤ y }
+    ensures { OnOk result (text.new.items ≡ text.old.items ++ cross_of x y byte) }
+{
+    match byte {
+        b'x' => push_path(
+            text,
+            x - 21,
+            y - 21,
+            b"l42 42m-42 0l42-42\" stroke-width=\"6\"/>\n",
+        ),
+        b'o' => push_circle(
+            text,
+            x,
+            y,
+            b"\" r=\"21\" fill=\"none\" stroke-width=\"6\"/>\n",
+        ),
+        _ => Ok(()),
+    }
+}
+
+// Appends a counter.
+#[tactic(auto, unfolding(crate::specs::Diagrams::counter_of))]
+fn push_counter(text: &mut Vec<u8>, x: u64, y: u64, byte: u8) -> Result<(), AllocError>
+    ensures { OnOk result (text.new.items ≡ text.old.items ++ counter_of x y byte) }
+{
+    match byte {
+        b'x' => push_circle(text, x, y, b"\" r=\"14\" fill=\"#999\"/>\n"),
+        _ => Ok(()),
+    }
+}
+
+// Appends a black or a white man on a cell.
+#[tactic(auto, unfolding(crate::specs::Diagrams::stone_of))]
+fn push_stone(text: &mut Vec<u8>, x: u64, y: u64, byte: u8) -> Result<(), AllocError>
+    ensures { OnOk result (text.new.items ≡ text.old.items ++ stone_of x y byte) }
+{
+    match byte {
+        b'x' => push_circle(text, x, y, b"\" r=\"14\" fill=\"#000\"/>\n"),
+        b'o' => {
+            push_ringed(
+                text,
+                x,
+                y,
+                b"\" r=\"14\" fill=\"#fff\"/>\n",
+                b"\" r=\"7\" fill=\"none\" stroke-width=\"1\"/>\n",
+            )
+        }
+        _ => Ok(()),
+    }
+}
+
+// Appends a black or a white man on a point.
+#[tactic(auto, unfolding(crate::specs::Diagrams::disc_of))]
+fn push_disc(text: &mut Vec<u8>, x: u64, y: u64, byte: u8) -> Result<(), AllocError>
+    ensures { OnOk result (text.new.items ≡ text.old.items ++ disc_of x y byte) }
+{
+    match byte {
+        b'x' => push_circle(text, x, y, b"\" r=\"27\" fill=\"#000\"/>\n"),
+        b'o' => {
+            push_ringed(
+                text,
+                x,
+                y,
+                b"\" r=\"27\" fill=\"#fff\"/>\n",
+                b"\" r=\"13\" fill=\"none\" stroke-width=\"1\"/>\n",
+            )
+        }
+        _ => Ok(()),
+    }
+}
+
+// Appends a man with a letter.
+#[tactic(auto, unfolding(crate::specs::Diagrams::letter_of))]
+fn push_letter(text: &mut Vec<u8>, x: u64, y: u64, byte: u8) -> Result<(), AllocError>
+    requires { y ≤ 16000 }
+    ensures { OnOk result (text.new.items ≡ text.old.items ++ letter_of x y byte) }
+{
+    match byte {
+        b'h' => {
+            push_lettered(
+                text,
+                x,
+                y,
+                b"\" r=\"27\" fill=\"#000\"/>\n",
+                b"\" font-size=\"20\" stroke=\"none\" fill=\"#fff\">",
+                b"h",
+            )
+        }
+        b'd' => {
+            push_lettered(
+                text,
+                x,
+                y,
+                b"\" r=\"27\" fill=\"#fff\"/>\n",
+                b"\" font-size=\"20\" stroke=\"none\" fill=\"#000\">",
+                b"d",
+            )
+        }
+        _ => Ok(()),
+    }
+}
+
+/// Appends the man of a byte of the position's text, if there is one.
+pub(crate) fn push_man(
+    text: &mut Vec<u8>,
+    style: Style,
+    x: u64,
+    y: u64,
+    byte: u8,
+) -> Result<(), AllocError>
+    requires right { 40 ≤ x }
+    requires down { 40 ≤ y }
+    requires near { x + y ≤ 16000 }
+    ensures { OnOk result (text.new.items ≡ text.old.items ++ man_of style x y byte) }
+{
+    match style {
+        Style::Row => Ok(()),
+        Style::Crosses => push_cross(text, x, y, byte),
+        Style::Counters => push_counter(text, x, y, byte),
+        Style::Stones => push_stone(text, x, y, byte),
+        Style::Discs => push_disc(text, x, y, byte),
+        Style::Letters => push_letter(text, x, y, byte),
+    }
+}
