@@ -17,6 +17,7 @@ use gm_json::line::line_json;
 use gm_json::moves::moves_json;
 use gm_page::page::page_text;
 use gm_play::texts::{line_text, moves_text};
+use gm_play::why::why_text;
 use gm_table::tables::Tables;
 use std::alloc::{AllocError, Global};
 use std::fs::Files;
@@ -103,6 +104,7 @@ fn text_for<G: Pictured>(
             json: true,
         } => moves_line(alloc, tables, position, distinct),
         Question::Moves { distinct, .. } => moves_text(alloc, tables, position, distinct),
+        Question::Why => why_text(alloc, tables, position),
         Question::Line { limit, json: true } => line_json(alloc, tables, position, limit),
         Question::Line { limit, .. } => line_text(alloc, tables, position, limit),
         Question::Show { explained } => show_text(alloc, tables, position, explained),

@@ -18,6 +18,14 @@ pub enum Fault {
     NoSuchPosition,
     #[error("no such tier {tier}")]
     NoSuchTier { tier: u64 },
+    #[error("no such index {index} in tier {tier}")]
+    NoSuchIndex { tier: u64, index: u64 },
+    /// The index is that of no legal position.
+    #[error("index {index} of tier {tier} is no position")]
+    NotLegal { tier: u64, index: u64 },
+    /// Another position stands for the one with this index.
+    #[error("index {index} of tier {tier} is not canonical")]
+    NotCanonical { tier: u64, index: u64 },
     #[error("out of memory")]
     OutOfMemory(#[from(alloc)] AllocError),
     #[error("{0}")]

@@ -4,6 +4,7 @@ use crate::analyse::analyse;
 use crate::check::check;
 use crate::explore::explore;
 use crate::fault::Fault;
+use crate::located::{at_place, locate};
 use crate::play::play;
 use crate::query::query;
 use crate::search::search;
@@ -63,6 +64,10 @@ fn answer<
         GameAsked::Query { position, kept } => {
             query::<G, R, O, E>(rt, position, place(kept, errors), output)
         }
+        GameAsked::At { tier, index, kept } => {
+            at_place::<G, R, O, E>(rt, tier, index, place(kept, errors), output)
+        }
+        GameAsked::Locate { position } => locate::<G, O>(rt.alloc(), position, output),
         GameAsked::Explore { asked, kept } => {
             explore::<G, R, O, E>(rt, asked, place(kept, errors), output)
         }

@@ -6,6 +6,7 @@ mod check;
 mod explore;
 mod fault;
 mod games;
+mod located;
 mod play;
 mod query;
 mod run;

@@ -5,8 +5,9 @@ use crate::fault::Fault;
 use crate::run::DONE;
 use crate::tables::Place;
 use gm_analyse::bars::counts_text;
+use gm_analyse::longest_rows::longest_text;
 use gm_build::build::Built;
-use gm_command::requests::{Form, PositionsSought, Search};
+use gm_command::requests::{CountsAsked, Form, PositionsSought, Search};
 use gm_draw::pictured::Pictured;
 use gm_find::find_error::FindError;
 use gm_find::reached::Reached;
@@ -48,7 +49,11 @@ fn answer<G: Pictured, I: Read, O: Write>(
 ) -> Result<u8, Fault> {
     match asked {
         Search::Find(positions) => written(found(alloc, built, positions), output),
-        Search::Counts { reached } => written(counted(alloc, built, reached), output),
+        Search::Counts(asked) => written(counted(alloc, built, asked), output),
+        Search::Longest { reached, limit } => written(
+            longest(alloc, built, reached, limit),
+            output,
+        ),
         Search::Ask => {
             ask(alloc, &built.tables, input, output)?;
             Ok(DONE)
@@ -73,9 +78,15 @@ fn first_tier<G: Shown>(alloc: Global, asked: Search) -> Result<u64, Fault> {
     else {
         return Ok(G::initial().tier);
     };
+    known_tier::<G>(alloc, tier)?;
+    Ok(tier)
+}
+
+/// Refuses a tier that is none of the game.
+pub fn known_tier<G: Shown>(alloc: Global, tier: u64) -> Result<(), Fault> {
     let order = TierOrder::<G>::from_initial(alloc)?;
     if order.tiers().contains(&tier) {
-        Ok(tier)
+        Ok(())
     } else {
         Err(Fault::NoSuchTier { tier })
     }
@@ -114,10 +125,41 @@ fn found_among<G: Pictured>(
     }
 }
 
-// The rows of the counts over all tiers.
-fn counted<G: Shown>(alloc: Global, built: &Built<G>, reached: bool) -> Result<Vec<u8>, Fault> {
+// The counts of all tiers.
+fn counted<G: Shown>(
+    alloc: Global,
+    built: &Built<G>,
+    asked: CountsAsked,
+) -> Result<Vec<u8>, Fault> {
+    let reached = reached_from_start(alloc, asked.reached)?;
+    let text = counts_text(
+        alloc,
+        &built.tables,
+        built.order.tiers(),
+        asked.among,
+        asked.by_tier,
+        asked.form,
+        reached.as_ref(),
+    );
+    drop(reached);
+    Ok(text?)
+}
+
+// The rows of the longest wins and the longest losses.
+fn longest<G: Shown>(
+    alloc: Global,
+    built: &Built<G>,
+    reached: bool,
+    limit: usize,
+) -> Result<Vec<u8>, Fault> {
     let reached = reached_from_start(alloc, reached)?;
-    let text = counts_text(alloc, &built.tables, built.order.tiers(), reached.as_ref());
+    let text = longest_text(
+        alloc,
+        &built.tables,
+        built.order.tiers(),
+        reached.as_ref(),
+        limit,
+    );
     drop(reached);
     Ok(text?)
 }

@@ -5,3 +5,4 @@ pub mod Lists
 pub mod Longer
 pub mod Names
 pub mod NoFloat
+pub mod Reporting

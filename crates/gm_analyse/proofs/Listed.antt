@@ -6,6 +6,7 @@ use Rattle.gm_game.specs.declared.position.Position.{Position}
 use Rattle.gm_game.specs.declared.position.Value.{Value}
 use Rattle.gm_game.specs.Rules.{Rules}
 use Rattle.gm_game.proofs.Basic.{HasValue_once}
+use Rattle.gm_analyse.specs.declared.among.Among.{Among}
 use Rattle.gm_analyse.specs.declared.counts.Count.{Count}
 use Rattle.gm_analyse.specs.Numbers.{rank}
 use Rattle.gm_analyse.proofs.CountLists as lists
@@ -13,62 +14,62 @@ use Rattle.gm_find.specs.Finding.{all_positions}
 use Rattle.gm_find.proofs.ListLemmas.{those_once, those_push, those_skip}
 use Rattle.gm_analyse.specs.Totals.{IsCounted, IsNumber, AreCounts, AreCountsBefore, AreNumbers}
 
-module _ (r : Rules) (reached : Bool) (ps : List Position) where
+module _ (r : Rules) (among : Among) (reached : Bool) (ps : List Position) where
   abbrev Num : Value → ℕ → ℕ → Type 0
-  Num v k n = IsNumber r reached ps v k n
+  Num v k n = IsNumber r among reached ps v k n
 
   num_once : (v : Value) (k a b : ℕ) → Num v k a → Num v k b → a ≡ b
-  num_once v k a b (xs, t, e) (ys, u, f) = sym e ∙ ap length (those_once (IsCounted r reached v k) ps xs ys t u) ∙ f
+  num_once v k a b (xs, t, e) (ys, u, f) = sym e ∙ ap length (those_once (IsCounted r among reached v k) ps xs ys t u) ∙ f
 
-  there : (rank k : ℕ) (cs : List Count) → AreCountsBefore r reached ps rank k cs → lists.AreBefore Num num_once rank k cs
+  there : (rank k : ℕ) (cs : List Count) → AreCountsBefore r among reached ps rank k cs → lists.AreBefore Num num_once rank k cs
   there rank k cs h = record { ordered = h.ordered; exact = h.exact }
 
-  back : (rank k : ℕ) (cs : List Count) → lists.AreBefore Num num_once rank k cs → AreCountsBefore r reached ps rank k cs
+  back : (rank k : ℕ) (cs : List Count) → lists.AreBefore Num num_once rank k cs → AreCountsBefore r among reached ps rank k cs
   back rank k cs h = record { ordered = h.ordered; exact = h.exact }
 
-  pub no_counts : AreCountsBefore r reached ps 0 0 []
+  pub no_counts : AreCountsBefore r among reached ps 0 0 []
   no_counts = back 0 0 [] (lists.no_counts Num num_once)
 
-  module _ (v : Value) (k : ℕ) (cs : List Count) (old : AreCountsBefore r reached ps (rank v) k cs) where
+  module _ (v : Value) (k : ℕ) (cs : List Count) (old : AreCountsBefore r among reached ps (rank v) k cs) where
     -- the next remoteness has a count
-    pub with_count : (n : ℕ) → Num v k n → 0 < n → AreCountsBefore r reached ps (rank v) (k + 1) (cs ++ (record { value = v; remoteness = k; number = n }) ∷ [])
+    pub with_count : (n : ℕ) → Num v k n → 0 < n → AreCountsBefore r among reached ps (rank v) (k + 1) (cs ++ (record { value = v; remoteness = k; number = n }) ∷ [])
     with_count n is some = back (rank v) (k + 1) (cs ++ (record { value = v; remoteness = k; number = n }) ∷ []) (lists.with_count Num num_once v k cs (there (rank v) k cs old) n is some)
 
     -- it has none
-    pub without_count : Num v k 0 → AreCountsBefore r reached ps (rank v) (k + 1) cs
+    pub without_count : Num v k 0 → AreCountsBefore r among reached ps (rank v) (k + 1) cs
     without_count z = back (rank v) (k + 1) cs (lists.without_count Num num_once v k cs (there (rank v) k cs old) z)
 
     -- no later remoteness has one, so the next value follows
-    pub next_value : ((n : ℕ) → k ≤ n → Num v n 0) → AreCountsBefore r reached ps (rank v + 1) 0 cs
+    pub next_value : ((n : ℕ) → k ≤ n → Num v n 0) → AreCountsBefore r among reached ps (rank v + 1) 0 cs
     next_value z = back (rank v + 1) 0 cs (lists.next_value Num num_once v k cs (there (rank v) k cs old) z)
 
 -- all values are done
-pub all_counts : (r : Rules) (reached : Bool) (tiers : List ℕ) (cs : List Count) → AreCountsBefore r reached (all_positions r tiers) 4 0 cs → AreCounts r reached tiers cs
-all_counts r reached tiers cs h = record {
+pub all_counts : (r : Rules) (among : Among) (reached : Bool) (tiers : List ℕ) (cs : List Count) → AreCountsBefore r among reached (all_positions r tiers) 4 0 cs → AreCounts r among reached tiers cs
+all_counts r among reached tiers cs h = record {
   ordered = h.ordered;
-  exact = lists.all_counts (Num r reached (all_positions r tiers)) (num_once r reached (all_positions r tiers)) cs (there r reached (all_positions r tiers) 4 0 cs h);
+  exact = lists.all_counts (Num r among reached (all_positions r tiers)) (num_once r among reached (all_positions r tiers)) cs (there r among reached (all_positions r tiers) 4 0 cs h);
 }
 
 -- one position more, which is counted or not
-pub numbers_with : (r : Rules) (reached : Bool) (v : Value) (seen : List Position) (p : Position) (k : ℕ) (old new : List ℕ) → IsCounted r reached v k p → get_or new k 0 ≡ get_or old k 0 + 1 → ((n : ℕ) → (n ≡ k → ⊥) → get_or new n 0 ≡ get_or old n 0)
-    → AreNumbers r reached v seen old → AreNumbers r reached v (seen ++ p ∷ []) new
-numbers_with r reached v seen p k old new counted here elsewhere h n = elim (cases_eq n k) [
+pub numbers_with : (r : Rules) (among : Among) (reached : Bool) (v : Value) (seen : List Position) (p : Position) (k : ℕ) (old new : List ℕ) → IsCounted r among reached v k p → get_or new k 0 ≡ get_or old k 0 + 1 → ((n : ℕ) → (n ≡ k → ⊥) → get_or new n 0 ≡ get_or old n 0)
+    → AreNumbers r among reached v seen old → AreNumbers r among reached v (seen ++ p ∷ []) new
+numbers_with r among reached v seen p k old new counted here elsewhere h n = elim (cases_eq n k) [
   | inl e ↦ (
       let (those, t, l) = h n in
-      let is : IsCounted r reached v n p = subst (λ (j : ℕ). IsCounted r reached v j p) (sym e) counted in
+      let is : IsCounted r among reached v n p = subst (λ (j : ℕ). IsCounted r among reached v j p) (sym e) counted in
       let more : get_or new n 0 ≡ get_or old n 0 + 1 = subst (λ (j : ℕ). get_or new j 0 ≡ get_or old j 0 + 1) (sym e) here in
-      (those ++ p ∷ [], those_push (IsCounted r reached v n) seen those p t is, length-append those (p ∷ []) ∙ ap (λ (j : ℕ). j + 1) l ∙ sym more))
+      (those ++ p ∷ [], those_push (IsCounted r among reached v n) seen those p t is, length-append those (p ∷ []) ∙ ap (λ (j : ℕ). j + 1) l ∙ sym more))
   | inr d ↦ (
       let (those, t, l) = h n in
-      (those, those_skip (IsCounted r reached v n) seen those p t (λ c. d (HasValue_once r p v v n k c.value counted.value).1), l ∙ sym (elsewhere n d)))
+      (those, those_skip (IsCounted r among reached v n) seen those p t (λ c. d (HasValue_once r p v v n k c.value counted.value).1), l ∙ sym (elsewhere n d)))
 ]
 
-pub numbers_without : (r : Rules) (reached : Bool) (v : Value) (seen : List Position) (p : Position) (old : List ℕ) → ((n : ℕ) → IsCounted r reached v n p → ⊥) → AreNumbers r reached v seen old → AreNumbers r reached v (seen ++ p ∷ []) old
-numbers_without r reached v seen p old none h n = let (those, t, l) = h n in (those, those_skip (IsCounted r reached v n) seen those p t (none n), l)
+pub numbers_without : (r : Rules) (among : Among) (reached : Bool) (v : Value) (seen : List Position) (p : Position) (old : List ℕ) → ((n : ℕ) → IsCounted r among reached v n p → ⊥) → AreNumbers r among reached v seen old → AreNumbers r among reached v (seen ++ p ∷ []) old
+numbers_without r among reached v seen p old none h n = let (those, t, l) = h n in (those, those_skip (IsCounted r among reached v n) seen those p t (none n), l)
 
 -- no position is seen
-pub numbers_none : (r : Rules) (reached : Bool) (v : Value) → AreNumbers r reached v [] []
-numbers_none r reached v n = ([], refl, refl)
+pub numbers_none : (r : Rules) (among : Among) (reached : Bool) (v : Value) → AreNumbers r among reached v [] []
+numbers_none r among reached v n = ([], refl, refl)
 
 -- two facts of an Ok
 pub both_ok : {T E : Type 0} (x : Result T E) (P Q S : Type 0) → (P → Q → S) → OnOk x P → OnOk x Q → OnOk x S

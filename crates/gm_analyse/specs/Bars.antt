@@ -1,15 +1,22 @@
--- Counts as lines of text with bars.
-use Rattle.std.specs.Prelude.{◌≡◌, ℕ, ◌+◌, ◌-◌, ◌*◌, ◌/◌, max, min, Bool, List, ◌++◌, codes, take, fold}
+-- Counts as lines of text: with bars, as CSV, or as JSON.
+use Rattle.std.specs.Prelude.{◌≡◌, ℕ, ◌+◌, ◌-◌, ◌*◌, ◌/◌, max, min, Bool, true, false, List, [], ◌++◌, codes, take, fold, Option, None, Some}
 use Rattle.std.specs.Fmt.{decimal}
 use Rattle.std.specs.List.{flat_map}
+use Rattle.serde_json.specs.Data.{Data, string, object, member, no_members}
+use Rattle.serde_json.specs.Written.{compact_text}
 use Rattle.gm_game.specs.Rules.{Rules}
 use Rattle.gm_game.specs.Texts.{value_text_of}
+use Rattle.gm_analyse.specs.declared.among.Among.{Among}
+use Rattle.gm_analyse.specs.declared.bars.Form.{Form}
+use Rattle.gm_analyse.specs.declared.bars.Form.TheVariants.{Bars, Csv, Json}
+use Rattle.gm_analyse.specs.declared.by_tier.TierCount.{TierCount}
 use Rattle.gm_analyse.specs.declared.counts.Count.{Count}
-use Rattle.gm_analyse.specs.Totals.{AreCounts}
+use Rattle.gm_analyse.specs.ByTier.{AreRows}
+use Rattle.gm_analyse.specs.Tree.{value_word, whole}
 
 -- the greatest of the numbers
-abbrev pub most : List Count → ℕ
-most cs = fold (λ m (c : Count). max c.number m) 0 cs
+abbrev pub most : List TierCount → ℕ
+most xs = fold (λ m (x : TierCount). max x.count.number m) 0 xs
 
 -- the longest bar
 abbrev pub whole_bar : List ℕ
@@ -23,6 +30,43 @@ bar_length greatest n = min 40 ((n * 40 + (max greatest 1 - 1)) / max greatest 1
 abbrev pub count_row : ℕ → Count → List ℕ
 count_row greatest c = (value_text_of c.value c.remoteness ++ codes "\t") ++ (decimal c.number ++ codes "\t") ++ (take (bar_length greatest c.number) whole_bar ++ codes "\n")
 
+-- the number of a tier before its rows, with what stands after it; nothing where all tiers are counted together
+abbrev pub tier_field : List ℕ → Option ℕ → List ℕ
+tier_field after None = []
+tier_field after (Some t) = decimal t ++ after
+
+abbrev pub bar_row : ℕ → TierCount → List ℕ
+bar_row greatest x = tier_field (codes "\t") x.tier ++ count_row greatest x.count
+
+-- the names of the columns
+abbrev pub csv_head : Bool → List ℕ
+csv_head true = codes "tier,value,remoteness,positions\n"
+csv_head false = codes "value,remoteness,positions\n"
+
+abbrev pub csv_row : TierCount → List ℕ
+csv_row x = tier_field (codes ",") x.tier ++ ((value_word x.count.value ++ codes ",") ++ (decimal x.count.remoteness ++ codes ",") ++ (decimal x.count.number ++ codes "\n"))
+
+-- a count as a JSON tree, its members in alphabetical order
+abbrev pub row_tree : Option ℕ → Count → Data
+row_tree None c =
+    object (member (codes "positions") (whole c.number)
+    (member (codes "remoteness") (whole c.remoteness)
+    (member (codes "value") (string (value_word c.value)) no_members)))
+row_tree (Some t) c =
+    object (member (codes "positions") (whole c.number)
+    (member (codes "remoteness") (whole c.remoteness)
+    (member (codes "tier") (whole t)
+    (member (codes "value") (string (value_word c.value)) no_members))))
+
+abbrev pub json_row : TierCount → List ℕ
+json_row x = compact_text (row_tree x.tier x.count) ++ codes "\n"
+
+-- the rows in a form
+abbrev pub rows_text : Form → Bool → List TierCount → List ℕ
+rows_text Bars by_tier rows = flat_map (bar_row (most rows)) rows
+rows_text Csv by_tier rows = csv_head by_tier ++ flat_map csv_row rows
+rows_text Json by_tier rows = flat_map json_row rows
+
 -- the rows of the counts of some tiers
-abbrev pub IsCountsText : Rules → Bool → List ℕ → List ℕ → Type 0
-IsCountsText r reached tiers out = (counts : List Count) × AreCounts r reached tiers counts × (out ≡ flat_map (count_row (most counts)) counts)
+abbrev pub IsCountsText : Rules → Among → Bool → Bool → Form → List ℕ → List ℕ → Type 0
+IsCountsText r among reached by_tier form tiers out = (rows : List TierCount) × AreRows r among reached by_tier tiers rows × (out ≡ rows_text form by_tier rows)

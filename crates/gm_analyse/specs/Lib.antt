@@ -4,3 +4,5 @@ pub mod Numbers
 pub mod Listing
 pub mod LongestWins
 pub mod Tree
+pub mod ByTier
+pub mod Longest

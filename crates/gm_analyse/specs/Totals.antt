@@ -1,45 +1,65 @@
 -- How many positions of some tiers have each value and remoteness.
-use Rattle.std.specs.Prelude.{◌≡◌, ℕ, ◌<◌, ◌↔◌, List, Bool, IsTrue, Option, None, Some, length, slice_index_or}
+use Rattle.std.specs.Prelude.{◌≡◌, ℕ, ◌<◌, ◌≤◌, ◌↔◌, List, Bool, true, IsTrue, Option, None, Some, length, slice_index_or}
 use Rattle.std.specs.List.{Contains, AllPairs}
 use Rattle.gm_game.specs.declared.position.Position.{Position}
 use Rattle.gm_game.specs.declared.position.Value.{Value}
+use Rattle.gm_game.specs.declared.position.Solved.{Solved}
+use Rattle.gm_game.specs.declared.limits.TheConstants.{REMOTENESS}
 use Rattle.gm_game.specs.Rules.{Rules, IsCanonical}
-use Rattle.gm_game.specs.Values.{HasValue}
+use Rattle.gm_game.specs.Values.{HasValue, IsTrueValue}
+use Rattle.gm_analyse.specs.declared.among.Among.{Among}
+use Rattle.gm_analyse.specs.declared.among.Among.TheVariants.{Canonical, Legal}
 use Rattle.gm_analyse.specs.declared.counts.Count.{Count}
 use Rattle.gm_analyse.specs.Listing.{IsBefore, ComesBefore}
 use Rattle.gm_find.specs.Finding.{all_positions}
 use Rattle.gm_find.specs.Lists.{AreThose}
 use Rattle.gm_find.specs.Reaching.{IsReachedByPlay}
 
--- a canonical position with this value and remoteness; where only reached positions are asked for, one that play reaches
-pub record IsCounted (r : Rules) (reached : Bool) (v : Value) (n : ℕ) (p : Position) : Type 0 where
-  pub canonical : IsCanonical r p
+-- the positions that are counted: the canonical ones, or all legal ones
+abbrev pub IsAmong : Rules → Among → Position → Type 0
+IsAmong r Canonical p = IsCanonical r p
+IsAmong r Legal p = r.is_legal p ≡ true
+
+-- one of those with this value and remoteness; where only reached positions are asked for, one whose canonical position play reaches
+pub record IsCounted (r : Rules) (among : Among) (reached : Bool) (v : Value) (n : ℕ) (p : Position) : Type 0 where
+  pub stands : IsAmong r among p
   pub value : HasValue r p v n
-  pub reaches : IsTrue reached → IsReachedByPlay r p
+  pub reaches : IsTrue reached → IsReachedByPlay r (r.canonical p)
 
 -- this many of these positions are counted
-abbrev pub IsNumber : Rules → Bool → List Position → Value → ℕ → ℕ → Type 0
-IsNumber r reached ps v n k = (those : List Position) × AreThose (IsCounted r reached v n) ps those × (length those ≡ k)
+abbrev pub IsNumber : Rules → Among → Bool → List Position → Value → ℕ → ℕ → Type 0
+IsNumber r among reached ps v n k = (those : List Position) × AreThose (IsCounted r among reached v n) ps those × (length those ≡ k)
 
 -- some of these positions have the value and remoteness of the count, and its number is how many
-abbrev pub IsCount : Rules → Bool → List Position → Count → Type 0
-IsCount r reached ps c = IsNumber r reached ps c.value c.remoteness c.number × (0 < c.number)
+abbrev pub IsCount : Rules → Among → Bool → List Position → Count → Type 0
+IsCount r among reached ps c = IsNumber r among reached ps c.value c.remoteness c.number × (0 < c.number)
 
 -- the counts of each value and remoteness that some of the positions of these tiers have, in the order Lose, Draw, Tie, Win, then by remoteness
-pub record AreCounts (r : Rules) (reached : Bool) (tiers : List ℕ) (counts : List Count) : Type 0 where
+pub record AreCounts (r : Rules) (among : Among) (reached : Bool) (tiers : List ℕ) (counts : List Count) : Type 0 where
   pub ordered : AllPairs IsBefore counts
-  pub exact : (c : Count) → Contains counts c ↔ IsCount r reached (all_positions r tiers) c
+  pub exact : (c : Count) → Contains counts c ↔ IsCount r among reached (all_positions r tiers) c
 
 -- the counts of these positions that come before a value and remoteness
-pub record AreCountsBefore (r : Rules) (reached : Bool) (ps : List Position) (rank k : ℕ) (counts : List Count) : Type 0 where
+pub record AreCountsBefore (r : Rules) (among : Among) (reached : Bool) (ps : List Position) (rank k : ℕ) (counts : List Count) : Type 0 where
   pub ordered : AllPairs IsBefore counts
-  pub exact : (c : Count) → Contains counts c ↔ (IsCount r reached ps c × ComesBefore rank k c)
+  pub exact : (c : Count) → Contains counts c ↔ (IsCount r among reached ps c × ComesBefore rank k c)
 
 -- for each remoteness, how many of these positions are counted with this value: none past the end of the list
-abbrev pub AreNumbers : Rules → Bool → Value → List Position → List ℕ → Type 0
-AreNumbers r reached v ps numbers = (n : ℕ) → IsNumber r reached ps v n (slice_index_or numbers n 0)
+abbrev pub AreNumbers : Rules → Among → Bool → Value → List Position → List ℕ → Type 0
+AreNumbers r among reached v ps numbers = (n : ℕ) → IsNumber r among reached ps v n (slice_index_or numbers n 0)
 
 -- the remoteness with which a position is counted, if it is counted
-abbrev pub IsLevel : Rules → Bool → Value → Position → Option ℕ → Type 0
-IsLevel r reached v p None = (n : ℕ) → IsCounted r reached v n p → ⊥
-IsLevel r reached v p (Some n) = IsCounted r reached v n p
+abbrev pub IsLevel : Rules → Among → Bool → Value → Position → Option ℕ → Type 0
+IsLevel r among reached v p None = (n : ℕ) → IsCounted r among reached v n p → ⊥
+IsLevel r among reached v p (Some n) = IsCounted r among reached v n p
+
+-- the true value of one of those positions, within the limit; none for any other position
+abbrev pub IsRecordAmong : Rules → Among → Position → Option Solved → Type 0
+IsRecordAmong r among p None = IsAmong r among p → ⊥
+IsRecordAmong r among p (Some s) = IsAmong r among p × IsTrueValue r p s × (s.remoteness ≤ REMOTENESS)
+
+-- no position of the value is counted, or this is the greatest remoteness of one
+abbrev pub IsGreatest : Rules → Among → Bool → Value → List Position → Option ℕ → Type 0
+IsGreatest r among reached v ps None = (p : Position) (n : ℕ) → Contains ps p → IsCounted r among reached v n p → ⊥
+IsGreatest r among reached v ps (Some n) = ((p : Position) × Contains ps p × IsCounted r among reached v n p)
+    × ((p : Position) (m : ℕ) → Contains ps p → IsCounted r among reached v m p → m ≤ n)

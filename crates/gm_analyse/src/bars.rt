@@ -1,11 +1,15 @@
-//! Counts as lines of text with bars.
-ghost use Rattle.std.specs.Prelude.{◌≡◌, ◌≤◌, ◌<◌, ◌++◌, ◌↔◌, codes, take, IfOk, OnOk, IsErrOf, is_some};
+//! Counts as lines of text: with bars, as CSV, or as JSON.
+ghost use Rattle.std.specs.Prelude.{◌≡◌, ◌≤◌, ◌<◌, ◌++◌, ◌↔◌, take, IfOk, OnOk, IsErrOf, is_some};
+ghost use Rattle.std.specs.Fmt.{decimal};
 ghost use Rattle.std.specs.List.{flat_map};
 ghost use Rattle.gm_find.specs.Finding.{AreTiersHeld};
-ghost use Rattle.gm_analyse.specs.Bars.{most as most_spec, bar_length as bar_length_spec, whole_bar, count_row, IsCountsText};
+ghost use Rattle.gm_analyse.specs.Bars.{most as most_spec, bar_length as bar_length_spec, whole_bar, count_row, tier_field, bar_row, csv_head as csv_head_spec, csv_row, rows_text as rows_text_spec, IsCountsText};
 
+use crate::among::Among;
+use crate::by_tier::{TierCount, tier_counts};
 use crate::counts::Count;
-use crate::totals::counts;
+use crate::json::word_of;
+use crate::json_rows::json_rows;
 use gm_find::find_error::FindError;
 use gm_find::reached::Reached;
 use gm_game::game::Game;
@@ -15,64 +19,108 @@ use gm_game::text::{push_decimal, value_text};
 use gm_table::tables::Tables;
 use std::alloc::{AllocError, Global};
 
+/// How counts are written.
+#[derive(Clone, Copy, Debug, PartialEq, Eq)]
+pub enum Form {
+    /// A value with its remoteness, the number of its positions, and a bar of up to 40, with a tab between them.
+    Bars,
+    /// Comma-separated values: the names of the columns, then a value's word, the remoteness (0 for a draw) and the number.
+    Csv,
+    /// A line of compact JSON for each count: the number of positions, the remoteness and the value's word, in alphabetical order.
+    Json,
+}
+
 // The longest bar.
 const WHOLE: &[u8] = b"########################################";
 
-/// The rows of the counts of some tiers: a value with its remoteness, the number of its canonical positions, and a bar of up to 40, with a tab between them.
-/// Where a set of reached positions is given, only positions in it are counted.
+/// The counts of some tiers as lines of text, as `tier_counts` gives them. Where each tier is counted by itself its number is told: before each row, or as a
+/// member of the line of JSON.
 ///
 /// `NotHeld` is tested first, and comes exactly where one of the tiers, or one of its child tiers, has no table.
 pub fn counts_text<G: Game>(
     alloc: Global,
     tables: &Tables<G>,
     tiers: &[u64],
+    among: Among,
+    by_tier: bool,
+    form: Form,
     reached: Option<&Reached<G>>,
 ) -> Result<Vec<u8>, FindError>
-    ensures text { IfOk result (λ v. IsCountsText G.rules (is_some reached.entry) tiers.now v.items) }
+    ensures text { IfOk result (λ v. IsCountsText G.rules among (is_some reached.entry) by_tier form tiers.now v.items) }
     ensures not_held { IsErrOf result FindError.NotHeld ↔ (AreTiersHeld G.rules tables.now tiers.now → ⊥) }
 {
-    let counts = counts(alloc, tables, tiers, reached)?;
-    match count_rows(alloc, counts.as_slice()) {
+    let counts = tier_counts(alloc, tables, tiers, among, by_tier, reached)?;
+    match rows_text(alloc, form, by_tier, counts.as_slice()) {
         Ok(rows) => Ok(rows),
         Err(_) => Err(FindError::OutOfMemory),
     }
 }
 
-// The rows of some counts.
-fn count_rows(alloc: Global, counts: &[Count]) -> Result<Vec<u8>, AllocError>
-    ensures { IfOk result (λ v. v.items ≡ flat_map (count_row (most_spec counts.now)) counts.now) }
+// Counts in a form.
+fn rows_text(
+    alloc: Global,
+    form: Form,
+    by_tier: bool,
+    counts: &[TierCount],
+) -> Result<Vec<u8>, AllocError>
+    ensures { IfOk result (λ v. v.items ≡ rows_text_spec form by_tier counts.now) }
+{
+    match form {
+        Form::Bars => bar_rows(alloc, counts),
+        Form::Csv => csv_rows(alloc, by_tier, counts),
+        Form::Json => json_rows(alloc, counts),
+    }
+}
+
+// The rows of some counts, with bars.
+fn bar_rows(alloc: Global, counts: &[TierCount]) -> Result<Vec<u8>, AllocError>
+    ensures { IfOk result (λ v. v.items ≡ flat_map (bar_row (most_spec counts.now)) counts.now) }
 {
     let greatest = most(counts);
     let mut rows = Vec::new(alloc);
-    for count in counts {
-        push_count(&mut rows, greatest, count)?;
+    for x in counts {
+        push_bar(&mut rows, greatest, *x)?;
     }
     Ok(rows)
 }
 
 // The greatest of the numbers.
-fn most(counts: &[Count]) -> u64
+fn most(counts: &[TierCount]) -> u64
     ensures { result ≡ most_spec counts.now }
 {
     let mut greatest = 0;
-    for count in counts {
-        greatest = count.number.max(greatest);
+    for x in counts {
+        greatest = x.count.number.max(greatest);
     }
     greatest
 }
 
-fn push_count(rows: &mut Vec<u8>, greatest: u64, count: &Count) -> Result<(), AllocError>
-    ensures { OnOk result (rows.new.items ≡ rows.old.items ++ count_row greatest count.now) }
+fn push_bar(rows: &mut Vec<u8>, greatest: u64, x: TierCount) -> Result<(), AllocError>
+    ensures { OnOk result (rows.new.items ≡ rows.old.items ++ bar_row greatest x) }
 {
-    let count = *count;
+    push_tier(rows, x.tier, b"\t")?;
+    push_count(rows, greatest, x.count)
+}
+
+// Appends the number of a tier, where there is one, and what stands after it.
+fn push_tier(rows: &mut Vec<u8>, tier: Option<u64>, after: &[u8]) -> Result<(), AllocError>
+    ensures { OnOk result (rows.new.items ≡ rows.old.items ++ tier_field after.now tier) }
+{
+    match tier {
+        Some(tier) => push_number(rows, tier, after),
+        None => Ok(()),
+    }
+}
+
+fn push_count(rows: &mut Vec<u8>, greatest: u64, count: Count) -> Result<(), AllocError>
+    ensures { OnOk result (rows.new.items ≡ rows.old.items ++ count_row greatest count) }
+{
     let solved = Solved {
         value: count.value,
         remoteness: count.remoteness,
     };
-    let mut number = Line::new();
-    push_decimal(&mut number, count.number);
     push_field(rows, value_text(solved).as_slice(), b"\t")?;
-    push_field(rows, number.as_slice(), b"\t")?;
+    push_number(rows, count.number, b"\t")?;
     push_field(rows, bar(bar_length(greatest, count.number)), b"\n")
 }
 
@@ -92,6 +140,48 @@ fn bar(length: usize) -> &'static [u8]
     ensures { result.now ≡ take length whole_bar }
 {
     &WHOLE[..length]
+}
+
+// The rows of some counts, as comma-separated values.
+fn csv_rows(alloc: Global, by_tier: bool, counts: &[TierCount]) -> Result<Vec<u8>, AllocError>
+    ensures { IfOk result (λ v. v.items ≡ csv_head_spec by_tier ++ flat_map csv_row counts.now) }
+{
+    let mut rows = Vec::new(alloc);
+    rows.extend_from_slice(csv_head(by_tier))?;
+    for x in counts {
+        push_csv(&mut rows, *x)?;
+    }
+    Ok(rows)
+}
+
+// The names of the columns.
+fn csv_head(by_tier: bool) -> &'static [u8]
+    ensures { result.now ≡ csv_head_spec by_tier }
+{
+    if by_tier {
+        b"tier,value,remoteness,positions\n"
+    } else {
+        b"value,remoteness,positions\n"
+    }
+}
+
+fn push_csv(rows: &mut Vec<u8>, x: TierCount) -> Result<(), AllocError>
+    ensures { OnOk result (rows.new.items ≡ rows.old.items ++ csv_row x) }
+{
+    let count = x.count;
+    push_tier(rows, x.tier, b",")?;
+    push_field(rows, word_of(count.value).as_bytes(), b",")?;
+    push_number(rows, u64::from(count.remoteness), b",")?;
+    push_number(rows, count.number, b"\n")
+}
+
+// Appends a number and what stands after it.
+fn push_number(rows: &mut Vec<u8>, number: u64, after: &[u8]) -> Result<(), AllocError>
+    ensures { OnOk result (rows.new.items ≡ rows.old.items ++ (decimal number ++ after.now)) }
+{
+    let mut text = Line::new();
+    push_decimal(&mut text, number);
+    push_field(rows, text.as_slice(), after)
 }
 
 // Appends a field and what stands after it.

@@ -117,7 +117,7 @@ fn longest_value(alloc: Global, longest: Option<(u32, u64)>) -> Result<Json, All
     }
 }
 
-fn word_of(value: Value) -> &'static str
+pub(crate) fn word_of(value: Value) -> &'static str
     ensures { result.now ≡ value_word value }
 {
     match value {

@@ -4,10 +4,14 @@
 //! `specs/` has the definitions that contracts cite, and `proofs/` what follows from them.
 #![tactic(auto)]
 
+pub mod among;
 pub mod analysis;
 pub mod bars;
+pub mod by_tier;
 pub mod counts;
 pub mod json;
+mod json_rows;
 mod longest;
+pub mod longest_rows;
 mod numbers;
 pub mod totals;

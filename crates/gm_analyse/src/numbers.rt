@@ -1,17 +1,18 @@
 //! How many positions of a value there are, by remoteness.
-ghost use Rattle.std.specs.Prelude.{◌≡◌, ◌<◌, ◌≤◌, ◌+◌, ◌++◌, ◌∷◌, [], ◌↔◌, ℕ, List, max, vec_len, slice_index_or, IfOk, OnOk, IfSome, IsTrue, is_some};
+ghost use Rattle.std.specs.Prelude.{◌≡◌, ◌<◌, ◌≤◌, ◌+◌, ◌++◌, ◌∷◌, [], ◌↔◌, ℕ, List, true, max, vec_len, slice_index_or, IfOk, OnOk, IfSome, IsTrue, is_some};
 ghost use Rattle.gm_game.specs.declared.limits.TheConstants.{REMOTENESS};
 ghost use Rattle.gm_game.specs.declared.position.Position.{Position};
 ghost use Rattle.gm_table.specs.Tables.{IsHeld};
 ghost use Rattle.gm_find.specs.Finding.{all_positions, positions_in, AreTiersHeld};
 ghost use Rattle.gm_find.specs.Reaching.{IsReachedByPlay};
-ghost use Rattle.gm_analyse.specs.Totals.{AreNumbers, IsLevel};
+ghost use Rattle.gm_analyse.specs.Totals.{AreNumbers, IsLevel, IsRecordAmong};
 
+use crate::among::Among;
 use gm_find::positions::record;
 use gm_find::reached::Reached;
 use gm_game::game::Game;
 use gm_game::limits::REMOTENESS;
-use gm_game::position::{Position, Value};
+use gm_game::position::{Position, Solved, Value};
 use gm_table::tables::Tables;
 use std::alloc::{AllocError, Global};
 
@@ -20,16 +21,17 @@ pub(crate) fn numbers_of<G: Game>(
     alloc: Global,
     tables: &Tables<G>,
     tiers: &[u64],
+    among: Among,
     value: Value,
     reached: Option<&Reached<G>>,
 ) -> Result<Vec<u64>, AllocError>
     requires { AreTiersHeld G.rules tables.now tiers.now }
     ensures few { IfOk result (λ v. vec_len v ≤ REMOTENESS + 1) }
-    ensures numbers { IfOk result (λ v. AreNumbers G.rules (is_some reached.entry) value (all_positions G.rules tiers.now) v.items) }
+    ensures numbers { IfOk result (λ v. AreNumbers G.rules among (is_some reached.entry) value (all_positions G.rules tiers.now) v.items) }
 {
     let mut numbers = Vec::new(alloc);
     for tier in tiers {
-        add_tier(&mut numbers, tables, *tier, value, reached)?;
+        add_tier(&mut numbers, tables, *tier, among, value, reached)?;
     }
     Ok(numbers)
 }
@@ -39,18 +41,26 @@ fn add_tier<G: Game>(
     numbers: &mut Vec<u64>,
     tables: &Tables<G>,
     tier: u64,
+    among: Among,
     value: Value,
     reached: Option<&Reached<G>>,
 ) -> Result<(), AllocError>
     requires held { IsHeld tables.now tier }
     requires few { vec_len numbers.old ≤ REMOTENESS + 1 }
     ensures few { OnOk result (vec_len numbers.new ≤ REMOTENESS + 1) }
-    ensures numbers { OnOk result ((seen : List Position) → AreNumbers G.rules (is_some reached.entry) value seen numbers.old.items
-        → AreNumbers G.rules (is_some reached.entry) value (seen ++ positions_in G.rules tier) numbers.new.items) }
+    ensures numbers { OnOk result ((seen : List Position) → AreNumbers G.rules among (is_some reached.entry) value seen numbers.old.items
+        → AreNumbers G.rules among (is_some reached.entry) value (seen ++ positions_in G.rules tier) numbers.new.items) }
 {
     let size = G::tier_size(tier);
     for index in 0..size {
-        add_position(numbers, tables, Position { tier, index }, value, reached)?;
+        add_position(
+            numbers,
+            tables,
+            Position { tier, index },
+            among,
+            value,
+            reached,
+        )?;
     }
     Ok(())
 }
@@ -60,16 +70,17 @@ fn add_position<G: Game>(
     numbers: &mut Vec<u64>,
     tables: &Tables<G>,
     p: Position,
+    among: Among,
     value: Value,
     reached: Option<&Reached<G>>,
 ) -> Result<(), AllocError>
     requires held { IsHeld tables.now p.tier }
     requires few { vec_len numbers.old ≤ REMOTENESS + 1 }
     ensures few { OnOk result (vec_len numbers.new ≤ REMOTENESS + 1) }
-    ensures numbers { OnOk result ((seen : List Position) → AreNumbers G.rules (is_some reached.entry) value seen numbers.old.items
-        → AreNumbers G.rules (is_some reached.entry) value (seen ++ p ∷ []) numbers.new.items) }
+    ensures numbers { OnOk result ((seen : List Position) → AreNumbers G.rules among (is_some reached.entry) value seen numbers.old.items
+        → AreNumbers G.rules among (is_some reached.entry) value (seen ++ p ∷ []) numbers.new.items) }
 {
-    match level(tables, p, value, reached) {
+    match level(tables, p, among, value, reached) {
         Some(remoteness) => count(numbers, remoteness as usize),
         None => Ok(()),
     }
@@ -97,26 +108,40 @@ fn count(numbers: &mut Vec<u64>, level: usize) -> Result<(), AllocError>
 fn level<G: Game>(
     tables: &Tables<G>,
     p: Position,
+    among: Among,
     value: Value,
     reached: Option<&Reached<G>>,
 ) -> Option<u32>
     requires { IsHeld tables.now p.tier }
-    ensures level { IsLevel G.rules (is_some reached.entry) value p result }
+    ensures level { IsLevel G.rules among (is_some reached.entry) value p result }
     ensures few { IfSome result (λ n. n ≤ REMOTENESS) }
 {
-    let solved = record(tables, p)?;
+    let solved = record_among(tables, p, among)?;
     if solved.value != value || !is_in(reached, p) {
         return None;
     }
     Some(solved.remoteness)
 }
 
-// Whether a position is reached, where that is asked.
+// The true value of a position that is one of those; `None` for any other.
+fn record_among<G: Game>(tables: &Tables<G>, p: Position, among: Among) -> Option<Solved>
+    requires { IsHeld tables.now p.tier }
+    ensures among { IsRecordAmong G.rules among p result }
+    ensures legal { IfSome result (λ _. G.rules.is_legal p ≡ true) }
+{
+    match among {
+        Among::Canonical => record(tables, p),
+        Among::Legal => tables.get(p),
+    }
+}
+
+// Whether the canonical position of a legal one is reached, where that is asked.
 fn is_in<G: Game>(reached: Option<&Reached<G>>, p: Position) -> bool
-    ensures { IsTrue result ↔ (IsTrue (is_some reached.entry) → IsReachedByPlay G.rules p) }
+    requires { G.rules.is_legal p ≡ true }
+    ensures { IsTrue result ↔ (IsTrue (is_some reached.entry) → IsReachedByPlay G.rules (G.rules.canonical p)) }
 {
     match reached {
         None => true,
-        Some(reached) => reached.has(p),
+        Some(reached) => reached.has(G::canonical(p)),
     }
 }

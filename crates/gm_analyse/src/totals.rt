@@ -4,6 +4,7 @@ ghost use Rattle.gm_analyse.specs.Numbers.{rank};
 ghost use Rattle.gm_find.specs.Finding.{all_positions, AreTiersHeld};
 ghost use Rattle.gm_analyse.specs.Totals.{AreCounts, AreCountsBefore};
 
+use crate::among::Among;
 use crate::counts::Count;
 use crate::numbers::numbers_of;
 use gm_find::find_error::FindError;
@@ -14,41 +15,43 @@ use gm_game::position::Value;
 use gm_table::tables::Tables;
 use std::alloc::{AllocError, Global};
 
-/// Counts the canonical positions of some tiers by value and remoteness, in the order Lose, Draw, Tie, Win, then by remoteness. Where a set of reached
-/// positions is given, only positions in it are counted.
+/// Counts the positions of some tiers by value and remoteness, in the order Lose, Draw, Tie, Win, then by remoteness: the canonical ones, or all legal ones.
+/// Where a set of reached positions is given, only positions with a canonical position in it are counted. All positions of the tiers are gone through four times.
 ///
 /// `NotHeld` is tested first, and comes exactly where one of the tiers, or one of its child tiers, has no table.
 pub fn counts<G: Game>(
     alloc: Global,
     tables: &Tables<G>,
     tiers: &[u64],
+    among: Among,
     reached: Option<&Reached<G>>,
 ) -> Result<Vec<Count>, FindError>
-    ensures counts { IfOk result (λ v. AreCounts G.rules (is_some reached.entry) tiers.now v.items) }
+    ensures counts { IfOk result (λ v. AreCounts G.rules among (is_some reached.entry) tiers.now v.items) }
     ensures not_held { IsErrOf result FindError.NotHeld ↔ (AreTiersHeld G.rules tables.now tiers.now → ⊥) }
 {
     if !are_held(tables, tiers) {
         return Err(FindError::NotHeld);
     }
-    match counts_of(alloc, tables, tiers, reached) {
+    match counts_of(alloc, tables, tiers, among, reached) {
         Ok(counts) => Ok(counts),
         Err(_) => Err(FindError::OutOfMemory),
     }
 }
 
-// The counts of tiers that are held.
-fn counts_of<G: Game>(
+/// The counts of tiers that are held.
+pub(crate) fn counts_of<G: Game>(
     alloc: Global,
     tables: &Tables<G>,
     tiers: &[u64],
+    among: Among,
     reached: Option<&Reached<G>>,
 ) -> Result<Vec<Count>, AllocError>
     requires { AreTiersHeld G.rules tables.now tiers.now }
-    ensures { IfOk result (λ v. AreCounts G.rules (is_some reached.entry) tiers.now v.items) }
+    ensures { IfOk result (λ v. AreCounts G.rules among (is_some reached.entry) tiers.now v.items) }
 {
     let mut counts = Vec::new(alloc);
     for value in [Value::Lose, Value::Draw, Value::Tie, Value::Win] {
-        add_counts(&mut counts, tables, tiers, value, reached)?;
+        add_counts(&mut counts, tables, tiers, among, value, reached)?;
     }
     Ok(counts)
 }
@@ -58,14 +61,15 @@ fn add_counts<G: Game>(
     counts: &mut Vec<Count>,
     tables: &Tables<G>,
     tiers: &[u64],
+    among: Among,
     value: Value,
     reached: Option<&Reached<G>>,
 ) -> Result<(), AllocError>
     requires held { AreTiersHeld G.rules tables.now tiers.now }
-    requires before { AreCountsBefore G.rules (is_some reached) (all_positions G.rules tiers.now) (rank value) 0 counts.old.items }
-    ensures { OnOk result (AreCountsBefore G.rules (is_some reached.entry) (all_positions G.rules tiers.now) (rank value + 1) 0 counts.new.items) }
+    requires before { AreCountsBefore G.rules among (is_some reached) (all_positions G.rules tiers.now) (rank value) 0 counts.old.items }
+    ensures { OnOk result (AreCountsBefore G.rules among (is_some reached.entry) (all_positions G.rules tiers.now) (rank value + 1) 0 counts.new.items) }
 {
-    let numbers = numbers_of(*counts.allocator(), tables, tiers, value, reached)?;
+    let numbers = numbers_of(*counts.allocator(), tables, tiers, among, value, reached)?;
     for (remoteness, number) in numbers.iter().enumerate() {
         if *number > 0 {
             counts.push(Count {

@@ -2,3 +2,4 @@ pub mod Refusals
 pub mod BestMoves
 pub mod Sides
 pub mod Endings
+pub mod Places

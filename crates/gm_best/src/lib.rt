@@ -4,5 +4,6 @@
 pub mod answer;
 pub mod best_move;
 pub mod ending;
+pub mod place;
 pub mod play_error;
 pub mod side;

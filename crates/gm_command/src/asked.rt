@@ -8,6 +8,7 @@ use crate::search_commands::search_of;
 use clap::error::ErrorKind;
 use clap::{ArgMatches, Error};
 use gm_best::side::Side;
+use gm_game::text::read_decimal;
 use gm_solver::plan::Plan;
 use std::alloc::Global;
 use std::fmt;
@@ -61,6 +62,21 @@ fn query_of<'a>(inner: &ArgMatches<'a>) -> Option<GameAsked<'a>> {
     })
 }
 
+// A tier and an index are numbers without a sign and without zeros before them.
+fn at_of<'a>(inner: &ArgMatches<'a>) -> Option<GameAsked<'a>> {
+    Some(GameAsked::At {
+        tier: read_decimal(inner.get_str("TIER")?.as_bytes())?,
+        index: read_decimal(inner.get_str("INDEX")?.as_bytes())?,
+        kept: kept_of(inner),
+    })
+}
+
+fn locate_of<'a>(inner: &ArgMatches<'a>) -> Option<GameAsked<'a>> {
+    Some(GameAsked::Locate {
+        position: inner.get_str("POSITION")?,
+    })
+}
+
 fn check_of<'a>(inner: &ArgMatches<'a>) -> Option<GameAsked<'a>> {
     Some(GameAsked::Check {
         folder: inner.get_str("FOLDER")?,
@@ -101,6 +117,8 @@ fn game_asked_of<'a>(name: &str, inner: &ArgMatches<'a>) -> Option<GameAsked<'a>
     match name {
         "solve" => solve_of(inner),
         "query" => query_of(inner),
+        "at" => at_of(inner),
+        "locate" => locate_of(inner),
         "analyse" => Some(GameAsked::Analyse {
             kept: kept_of(inner),
         }),

@@ -31,6 +31,7 @@ pub fn explore_of<'a>(name: &str, inner: &ArgMatches<'a>) -> Option<PositionAske
             distinct: inner.get_flag("distinct"),
             json: inner.get_flag("json"),
         },
+        "why" => Question::Why,
         "line" => Question::Line {
             limit: limit_of(inner),
             json: inner.get_flag("json"),

@@ -3,12 +3,14 @@
 
 pub mod asked;
 pub mod commands;
+mod count_lines;
 mod explore_commands;
 mod find_line;
 mod lines;
 pub mod manual;
 pub mod names;
 mod numbers;
+mod place_lines;
 pub mod requests;
 mod search_commands;
 mod words;

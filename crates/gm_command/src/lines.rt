@@ -1,7 +1,9 @@
 //! The commands of the program and the words of each, with what `--help` says of them.
 
+use crate::count_lines::{COUNTS, LONGEST};
 use crate::find_line::FIND;
-use crate::words::{FOLDER, GAME, JSON, Kind, Line, MOST, REACHED, READ_ONLY, START, Word};
+use crate::place_lines::{AT, LOCATE, WHY};
+use crate::words::{FOLDER, GAME, JSON, Kind, Line, MOST, READ_ONLY, START, Word};
 
 static LIST: Line = Line {
     name: "list",
@@ -171,14 +173,6 @@ static PAGE: Line = Line {
     ],
 };
 
-static COUNTS: Line = Line {
-    name: "counts",
-    alias: None,
-    about: "Counts the positions of a game by value and remoteness, with bars",
-    examples: "Examples:\n  gamesman counts countdown\n  gamesman counts tactix-3 --reached",
-    words: &[GAME, REACHED, FOLDER, READ_ONLY],
-};
-
 static ASK: Line = Line {
     name: "ask",
     alias: None,
@@ -261,17 +255,21 @@ static MAN: Line = Line {
 };
 
 /// All commands, in the order of the help.
-pub(crate) fn lines() -> [&'static Line; 15] {
+pub(crate) fn lines() -> [&'static Line; 19] {
     [
         &LIST,
         &SOLVE,
         &QUERY,
         &MOVES,
+        &WHY,
         &LINE,
         &SHOW,
         &PAGE,
+        &AT,
+        &LOCATE,
         &FIND,
         &COUNTS,
+        &LONGEST,
         &ASK,
         &ANALYSE,
         &CHECK,

@@ -2,6 +2,8 @@
 
 use crate::asked::Help;
 use crate::manual::Manual;
+use gm_analyse::among::Among;
+use gm_analyse::bars::Form as CountsForm;
 use gm_best::side::Side;
 use gm_find::sought::Sought;
 use gm_solver::plan::Plan;
@@ -20,6 +22,8 @@ pub struct Kept<'a> {
 pub enum Question {
     /// What each move is worth; with `distinct`, of several moves that lead to one canonical position only the first.
     Moves { distinct: bool, json: bool },
+    /// What each move is worth, the best answer to it, and what is left.
+    Why,
     /// Best play of both sides, of at most this many moves.
     Line { limit: usize, json: bool },
     /// The board and the value; where an explanation is asked for, also how cells, positions and moves are written.
@@ -62,12 +66,26 @@ pub struct PositionsSought {
     pub form: Form,
 }
 
+/// Positions that are counted.
+#[derive(Clone, Copy, Debug, PartialEq, Eq)]
+pub struct CountsAsked {
+    pub among: Among,
+    /// Whether each tier is counted by itself.
+    pub by_tier: bool,
+    /// Whether only positions that play from the start reaches are counted.
+    pub reached: bool,
+    /// How the counts are written.
+    pub form: CountsForm,
+}
+
 /// What is asked of all tables of a game.
 #[derive(Clone, Copy, Debug, PartialEq, Eq)]
 pub enum Search {
     Find(PositionsSought),
-    /// How many positions there are of each value and remoteness; on request, only of those that play reaches.
-    Counts { reached: bool },
+    /// How many positions there are of each value and remoteness.
+    Counts(CountsAsked),
+    /// The longest wins and the longest losses, of each at most this many; on request, of those that play reaches.
+    Longest { reached: bool, limit: usize },
     /// An answer to each position that is read.
     Ask,
 }
@@ -98,6 +116,16 @@ pub enum GameAsked<'a> {
     Query {
         position: &'a str,
         kept: Kept<'a>,
+    },
+    /// What stands at a tier and index.
+    At {
+        tier: u64,
+        index: u64,
+        kept: Kept<'a>,
+    },
+    /// Where a position stands.
+    Locate {
+        position: &'a str,
     },
     Explore {
         asked: PositionAsked<'a>,

@@ -1,8 +1,10 @@
 //! What a line says that asks about all tables, or for the service that answers positions.
 
 use crate::numbers::span_of;
-use crate::requests::{Form, PositionsSought, Search};
+use crate::requests::{CountsAsked, Form, PositionsSought, Search};
 use clap::ArgMatches;
+use gm_analyse::among::Among;
+use gm_analyse::bars::Form as CountsForm;
 use gm_find::sought::Sought;
 use gm_game::position::Value;
 
@@ -57,16 +59,44 @@ fn form_of(inner: &ArgMatches<'_>) -> Option<Form> {
 }
 
 fn positions_of(inner: &ArgMatches<'_>) -> Option<PositionsSought> {
-    let limit = match inner.get_one::<u32>("limit") {
-        Some(limit) => limit as usize,
-        None => usize::MAX,
-    };
     Some(PositionsSought {
         sought: sought_of(inner)?,
         tier: inner.get_one::<u64>("tier"),
         reached: inner.get_flag("reached"),
-        limit,
+        limit: limit_of(inner),
         form: form_of(inner)?,
+    })
+}
+
+// The most positions that are listed.
+fn limit_of(inner: &ArgMatches<'_>) -> usize {
+    match inner.get_one::<u32>("limit") {
+        Some(limit) => limit as usize,
+        None => usize::MAX,
+    }
+}
+
+// How counts are written: not in two ways at once.
+fn counts_form_of(inner: &ArgMatches<'_>) -> Option<CountsForm> {
+    match (inner.get_flag("csv"), inner.get_flag("json")) {
+        (false, false) => Some(CountsForm::Bars),
+        (true, false) => Some(CountsForm::Csv),
+        (false, true) => Some(CountsForm::Json),
+        (true, true) => None,
+    }
+}
+
+fn counts_of(inner: &ArgMatches<'_>) -> Option<CountsAsked> {
+    let among = if inner.get_flag("legal") {
+        Among::Legal
+    } else {
+        Among::Canonical
+    };
+    Some(CountsAsked {
+        among,
+        by_tier: inner.get_flag("by-tier"),
+        reached: inner.get_flag("reached"),
+        form: counts_form_of(inner)?,
     })
 }
 
@@ -74,8 +104,10 @@ fn positions_of(inner: &ArgMatches<'_>) -> Option<PositionsSought> {
 pub fn search_of(name: &str, inner: &ArgMatches<'_>) -> Option<Search> {
     match name {
         "find" => Some(Search::Find(positions_of(inner)?)),
-        "counts" => Some(Search::Counts {
+        "counts" => Some(Search::Counts(counts_of(inner)?)),
+        "longest" => Some(Search::Longest {
             reached: inner.get_flag("reached"),
+            limit: limit_of(inner),
         }),
         "ask" => Some(Search::Ask),
         _ => None,

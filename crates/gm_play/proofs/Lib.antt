@@ -19,3 +19,4 @@ pub mod Talk
 pub mod Courses
 pub mod Advising
 pub mod Ending
+pub mod Exchanging

@@ -9,3 +9,5 @@ pub mod Sessions
 pub mod Courses
 pub mod LastLines
 pub mod ByText
+pub mod Why
+pub mod PlaceTexts

@@ -7,6 +7,7 @@ pub mod best_line;
 pub mod by_text;
 pub mod firsts;
 pub mod move_values;
+pub mod place_texts;
 pub mod play_line;
 pub mod session;
 pub mod session_error;
@@ -14,6 +15,7 @@ pub mod streams;
 pub mod texts;
 pub(crate) mod turns;
 pub mod view;
+pub mod why;
 
 pub use gm_best::answer::{AnswerError, answer};
 pub use gm_best::best_move::best_move;

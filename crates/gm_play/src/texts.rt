@@ -81,8 +81,8 @@ fn push_move<G: Shown>(rows: &mut Vec<u8>, p: Position, x: &MoveValue) -> Result
     )
 }
 
-// Appends three fields, with a tab between them.
-fn push_row(rows: &mut Vec<u8>, a: &[u8], b: &[u8], c: &[u8]) -> Result<(), AllocError>
+/// Appends three fields, with a tab between them.
+pub(crate) fn push_row(rows: &mut Vec<u8>, a: &[u8], b: &[u8], c: &[u8]) -> Result<(), AllocError>
     ensures { OnOk result (rows.new.items ≡ rows.old.items ++ row a.now b.now c.now) }
 {
     push_field(rows, a, b"\t")?;
@@ -90,8 +90,8 @@ fn push_row(rows: &mut Vec<u8>, a: &[u8], b: &[u8], c: &[u8]) -> Result<(), Allo
     push_field(rows, c, b"\n")
 }
 
-// Appends a field and what ends it.
-fn push_field(rows: &mut Vec<u8>, field: &[u8], end: &[u8]) -> Result<(), AllocError>
+/// Appends a field and what ends it.
+pub(crate) fn push_field(rows: &mut Vec<u8>, field: &[u8], end: &[u8]) -> Result<(), AllocError>
     ensures { OnOk result (rows.new.items ≡ rows.old.items ++ field.now ++ end.now) }
 {
     rows.extend_from_slice(field)?;

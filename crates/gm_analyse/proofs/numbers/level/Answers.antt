@@ -8,6 +8,6 @@ returns-then-ne-clause-level g c n counted = elim c.then-ne.branch [
   | then-ne-via-then-ne w ↦ (
       let s = c.in_ok-solved.solved in
       let differs : s.value ≡ c.args.value → ⊥ = search rules in
-      differs (HasValue_once g.G.Game.rules c.args.p s.value c.args.value s.remoteness n c.in_ok-solved.ensures.1 counted.value).0)
+      differs (HasValue_once g.G.Game.rules c.args.p s.value c.args.value s.remoteness n c.in_ok-solved.ensures.among.1 counted.value).0)
   | then-ne-via-else-ne+then-not-is_in w ↦ (let t = w.is_in.ensures.1 counted.reaches in let f = w.if-not-is_in.true in cc)
 ]

@@ -16,11 +16,11 @@ loop-tier-preserved g c =
     let longer : all_positions r (take k tiers) ++ positions_in r t ≡ all_positions r (take (k + 1) tiers) =
     ap (λ (xs : List Position). all_positions r (take k tiers) ++ xs) (sym (append-nil (positions_in r t))) ∙ sym (flat_map-append (positions_in r) (take k tiers) (t ∷ [])) ∙ ap (all_positions r) (sym (take_more tiers k 0 c.loop-tier-test.true)) in (
       c.in_ok-add_tier.ensures.few,
-      subst (λ (xs : List Position). AreNumbers r (is_some c.args.reached) c.args.value xs c.add_tier.new.numbers.items) longer (c.in_ok-add_tier.ensures.numbers (all_positions r (take k tiers)) c.loop-tier.invariant.1),
+      subst (λ (xs : List Position). AreNumbers r c.args.among (is_some c.args.reached) c.args.value xs c.add_tier.new.numbers.items) longer (c.in_ok-add_tier.ensures.numbers (all_positions r (take k tiers)) c.loop-tier.invariant.1),
     )
 
 pub returns-clause-numbers : goal.returns-clause-numbers
 returns-clause-numbers g c =
     let r = g.G.Game.rules in
     let tiers = c.args.tiers.now in
-    subst (λ (ts : List ℕ). AreNumbers r (is_some c.args.reached) c.args.value (all_positions r ts) c.loop-tier.numbers.items) (take_all c.loop-tier.tier-index tiers (omega arith)) c.loop-tier.invariant.1
+    subst (λ (ts : List ℕ). AreNumbers r c.args.among (is_some c.args.reached) c.args.value (all_positions r ts) c.loop-tier.numbers.items) (take_all c.loop-tier.tier-index tiers (omega arith)) c.loop-tier.invariant.1

@@ -4,4 +4,4 @@ use Rattle.gm_analyse.specs.Totals.{AreCountsBefore}
 use Rattle.gm_analyse.proofs.totals.counts_of.Given as goal
 
 abbrev pub invariant-loop-value : goal.invariant-loop-value
-invariant-loop-value g l = AreCountsBefore g.G.Game.rules (is_some l.reached) (all_positions g.G.Game.rules l.tiers) l.value-index 0 l.counts.items
+invariant-loop-value g l = AreCountsBefore g.G.Game.rules l.among (is_some l.reached) (all_positions g.G.Game.rules l.tiers) l.value-index 0 l.counts.items

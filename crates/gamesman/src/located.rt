@@ -1,0 +1,65 @@
+//! What stands at a tier and index, and where a position stands.
+
+use crate::explore::put;
+use crate::fault::Fault;
+use crate::run::DONE;
+use crate::search::known_tier;
+use crate::tables::Place;
+use gm_best::place::{PlaceError, at};
+use gm_best::play_error::PlayError;
+use gm_game::position::Position;
+use gm_game::shown::Shown;
+use gm_play::place_texts::{place_text, position_text};
+use std::alloc::{AllocError, Global};
+use std::fs::Files;
+use std::io::Write;
+use std::sync::Wait;
+use std::thread::Threads;
+use std::time::Clock;
+
+/// Prints the canonical position with this index of a tier, and its value. What is refused is refused before tables are built.
+pub fn at_place<
+    G: Shown + Send + Sync,
+    R: Threads + Wait + Clock + Files + Sync + AllocGlobal,
+    O: Write,
+    E: Write + Send,
+>(rt: &R, tier: u64, index: u64, place: Place<'_, E>, output: &mut O) -> Result<u8, Fault> {
+    known_tier::<G>(rt.alloc(), tier)?;
+    let p = position_at::<G>(tier, index)?;
+    let built = place.build_from::<G, R>(rt, tier)?;
+    let text = position_text(rt.alloc(), &built.tables, p);
+    drop(built);
+    write_row(text, output)
+}
+
+// The canonical position with this index of a tier.
+fn position_at<G: Shown>(tier: u64, index: u64) -> Result<Position, Fault> {
+    match at::<G>(tier, index) {
+        Ok(p) => Ok(p),
+        Err(PlaceError::NoSuchTier) => Err(Fault::NoSuchTier { tier }),
+        Err(PlaceError::NoSuchIndex) => Err(Fault::NoSuchIndex { tier, index }),
+        Err(PlaceError::NotLegal) => Err(Fault::NotLegal { tier, index }),
+        Err(PlaceError::NotCanonical) => Err(Fault::NotCanonical { tier, index }),
+    }
+}
+
+/// Prints where a position stands. It builds no table.
+pub fn locate<G: Shown, O: Write>(
+    alloc: Global,
+    position: &str,
+    output: &mut O,
+) -> Result<u8, Fault> {
+    write_row(place_text::<G>(alloc, position.as_bytes()), output)
+}
+
+fn write_row<O: Write>(text: Result<Vec<u8>, PlayError>, output: &mut O) -> Result<u8, Fault> {
+    match text {
+        Ok(row) => {
+            put(output, row.as_slice())?;
+            Ok(DONE)
+        }
+        Err(PlayError::OutOfMemory) => Err(Fault::OutOfMemory(AllocError)),
+        // The position's own tier is among those that are built.
+        Err(_) => Err(Fault::NoSuchPosition),
+    }
+}

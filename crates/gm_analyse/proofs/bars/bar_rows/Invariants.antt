@@ -1,0 +1,7 @@
+use Rattle.std.proofs.Common.{◌≡◌, take}
+use Rattle.std.specs.List.{flat_map}
+use Rattle.gm_analyse.specs.Bars.{bar_row}
+use Rattle.gm_analyse.proofs.bars.bar_rows.Given as goal
+
+abbrev pub invariant-loop-x : goal.invariant-loop-x
+invariant-loop-x l = l.rows.items ≡ flat_map (bar_row l.greatest) (take l.x-index l.counts)

@@ -1,0 +1,7 @@
+use Rattle.std.proofs.Common.{◌≡◌, ◌++◌, take}
+use Rattle.std.specs.List.{flat_map}
+use Rattle.gm_analyse.specs.Bars.{csv_head, csv_row}
+use Rattle.gm_analyse.proofs.bars.csv_rows.Given as goal
+
+abbrev pub invariant-loop-x : goal.invariant-loop-x
+invariant-loop-x l = l.rows.items ≡ csv_head l.by_tier ++ flat_map csv_row (take l.x-index l.counts)

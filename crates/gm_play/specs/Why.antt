@@ -1,0 +1,80 @@
+-- Why a position has its value: its moves, the best answer to each, and what is left.
+use Rattle.std.specs.Prelude.{◌≡◌, ℕ, ◌⊎◌, true, List, [], ◌++◌, codes, map, Option, None, Some}
+use Rattle.std.specs.List.{All, Contains, flat_map}
+use Rattle.gm_game.specs.declared.position.Position.{Position}
+use Rattle.gm_game.specs.declared.position.Solved.{Solved}
+use Rattle.gm_game.specs.Rules.{Rules}
+use Rattle.gm_game.specs.Texts.{text_of}
+use Rattle.gm_game.specs.Values.{IsTrueValue}
+use Rattle.gm_table.specs.Tables.{TableData, IsHeld, AreHeld}
+use Rattle.gm_best.specs.BestMoves.{IsBestMove}
+use Rattle.gm_best.specs.Refusals.{AreNotHeld}
+use Rattle.gm_play.specs.declared.move_values.MoveValue.{MoveValue}
+use Rattle.gm_play.specs.declared.why.Exchange.{Exchange}
+use Rattle.gm_play.specs.MoveValues.{AreMoveValues, BeginsBest}
+use Rattle.gm_play.specs.PlayTexts.{row, IsReadAs, after_best}
+
+abbrev pub made_of : Exchange → MoveValue
+made_of x = x.made
+
+-- what is left after an answer; after none, the position itself
+abbrev pub left_after : Rules → Position → Option ℕ → Position
+left_after r q None = q
+left_after r q (Some m) = r.play q m
+
+-- the value of what is left: after the best answer the opposite one, one move nearer the end
+abbrev pub value_left : Solved → Option ℕ → Solved
+value_left s None = s
+value_left s (Some m) = after_best s
+
+-- the best answer to the move, none where it has ended the game; what is left, and its true value
+pub record IsExchange (r : Rules) (x : Exchange) : Type 0 where
+  pub legal : r.is_legal x.made.position ≡ true
+  pub answer : IsBestMove r x.made.position x.answer
+  pub left : x.left ≡ left_after r x.made.position x.answer
+  pub left_legal : r.is_legal x.left ≡ true
+  pub value : IsTrueValue r x.left x.value
+  pub nearer : x.value ≡ value_left x.made.result x.answer
+
+-- the tier of the move's result has a table, and so has each of its child tiers
+abbrev pub IsAnswerable : Rules → List TableData → MoveValue → Type 0
+IsAnswerable r entries x = IsHeld entries x.position.tier × AreHeld r entries x.position.tier
+
+-- two fields that begin a line
+abbrev pub two : List ℕ → List ℕ → List ℕ
+two a b = (a ++ codes "\t") ++ (b ++ codes "\t")
+
+-- five fields of a line
+abbrev pub five : List ℕ → List ℕ → List ℕ → List ℕ → List ℕ → List ℕ
+five a b c d e = two a b ++ row c d e
+
+module _ (r : Rules) (shown : Position → List ℕ) (move_shown : Position → ℕ → List ℕ) where
+  -- the text of an answer, and none where the game has ended
+  abbrev pub answer_text : Position → Option ℕ → List ℕ
+  answer_text q None = []
+  answer_text q (Some m) = move_shown q m
+
+  -- a move of p: its text, what it is worth, the best answer, what is left and the value of that
+  abbrev pub exchange_row : Position → Exchange → List ℕ
+  exchange_row p x = five (move_shown p x.made.number) (text_of x.made.worth) (answer_text x.made.position x.answer) (shown x.left) (text_of x.value)
+
+  -- the rows of these moves of p, in their order
+  pub record AreExchangeRows (p : Position) (moves : List MoveValue) (out : List ℕ) : Type 0 where
+    pub exchanges : List Exchange
+    pub made : map made_of exchanges ≡ moves
+    pub each : All (IsExchange r) exchanges
+    pub out_is : out ≡ flat_map (exchange_row p) exchanges
+
+  -- the rows of the moves of the position with this text, the best first
+  pub record IsWhyText (text : List ℕ) (out : List ℕ) : Type 0 where
+    pub position : Position
+    pub read : IsReadAs r shown move_shown text position
+    pub moves : List MoveValue
+    pub values : AreMoveValues r position moves
+    pub best : BeginsBest r position moves
+    pub rows : AreExchangeRows position moves out
+
+  -- a table is missing: of the tier of the position with this text, or of that of the result of a move, or of a child tier of one of these
+  abbrev pub AreAnswersNotHeld : List TableData → List ℕ → Type 0
+  AreAnswersNotHeld entries text = (p : Position) × IsReadAs r shown move_shown text p
+      × (AreNotHeld r entries p ⊎ ((m : ℕ) × Contains (r.moves p) m × AreNotHeld r entries (r.play p m)))
