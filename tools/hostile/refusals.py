@@ -219,6 +219,9 @@ READING = (
     ("play tactix-2 --second", b""),
     ("play tactix-2 --show", b"a1\nquit\n"),
     ("ask tactix-2", b"x..x\nx\n"),
+    ("ask tactix-2 --distinct --with canonical,parents,symmetric,best --ready", b"x..x\nx\n"),
+    ("query tactix-2 -", b"x..x\nxxxx\n"),
+    ("moves tactix-2 - --json", b"x..x\n"),
 )
 
 # Lines over the files of a game.

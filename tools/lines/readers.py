@@ -76,6 +76,9 @@ def wrong_answer(asker, right):
             said = None
         if (said is None) == right.game.is_legal(text):
             return f"{text!r}: {said}"
+        for move in said["moves"] if said else ():
+            if move["moveRemoteness"] != (0 if move["moveValue"] == "draw" else move["remoteness"] + 1):
+                return f"{text!r}: {move}"
         if said and (text, right.values[text]) != (said["position"], (said["positionValue"], said["remoteness"])):
             return f"{text!r}: {said['positionValue']} in {said['remoteness']}"
         if said and [row[::2] for row in ASK.rows(said)] != [(name, child) for _, name, child in right.ranked(text)]:

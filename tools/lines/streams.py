@@ -1,8 +1,9 @@
-"""Sessions and progress over streams that fail, by the library that refuses calls (tools/hostile)."""
+"""Sessions and progress over streams that fail, by the library that refuses calls (tools/hostile); clients that wait for each answer."""
 import os
+import select
 import subprocess
 
-from common import GAMESMAN
+from common import GAMESMAN, SECONDS
 
 SESSION = [GAMESMAN, "play", "countdown", "--second"]
 INPUT = b"3\nquit\n"
@@ -63,6 +64,55 @@ def progress_that_nobody_reads(room):
     return None if right else f"{ran}, {ran.calls} writes of errors"
 
 
+ASK = [GAMESMAN, "ask", "countdown", "--values"]
+LINES = b"2\nx\n10\r\n3"
+ANSWERS = (
+    b'{"position":"2","positionValue":"win","remoteness":1}\n',
+    b'{"error":"no such position","line":2,"read":"x"}\n',
+    b'{"position":"10","positionValue":"win","remoteness":7}\n',
+    b'{"position":"3","positionValue":"lose","remoteness":2}\n',
+)
+
+
+def a_reader_that_fails_the_service(room):
+    """By one byte a call, of which each in turn fails: each line that has ended is answered, and nothing else is written."""
+    for at in range(1, len(LINES) + 2):
+        ran = room.run(ASK, kind="input", at=at, short=True, given=LINES)
+        ended = b"".join(ANSWERS[: LINES[: at - 1].count(b"\n")])
+        if (ran.status, ran.out, ran.err) != (1, ended, b"gamesman: input failed\n"):
+            return f"read {at}: {ran}"
+    return None
+
+
+def a_writer_that_fails_the_service(room):
+    return fails(room, ASK, LINES, b"".join(ANSWERS), "output", b"gamesman: output failed\n")
+
+
+ASKED = ("ask countdown --values", "ask countdown", "query countdown -", "moves countdown - --json")
+
+
+def unanswered(words):
+    """The first line that is written to a filter, in one write with the one before it, whose answer does not come before the next is written, if there is one."""
+    with subprocess.Popen([GAMESMAN, *words.split()], stdin=subprocess.PIPE, stdout=subprocess.PIPE, bufsize=0) as client:
+        for number in range(0, 10, 2):
+            client.stdin.write(b"%d\n%d\n" % (number, number + 1))
+            for line in (number, number + 1):
+                if not select.select([client.stdout], [], [], SECONDS)[0] or not client.stdout.readline().endswith(b"\n"):
+                    client.kill()
+                    return line
+        client.stdin.close()
+        return None if client.stdout.read() == b"" and client.wait(SECONDS) == 0 else "the end"
+
+
+def a_client_that_waits(room):
+    """What was read is answered before more is waited for."""
+    for words in ASKED:
+        line = unanswered(words)
+        if line is not None:
+            return f"{words}: {line} is not answered"
+    return None
+
+
 STREAMS = (
     a_reader_that_fails,
     a_writer_that_fails,
@@ -70,4 +120,7 @@ STREAMS = (
     a_writer_that_fails_the_first_player,
     what_follows_the_last_line,
     progress_that_nobody_reads,
+    a_client_that_waits,
+    a_reader_that_fails_the_service,
+    a_writer_that_fails_the_service,
 )

@@ -43,6 +43,7 @@ HARE = "      B---E---H\n    / | \\ | / | \\\n  A---C---F---I---K\n    \\ | / | 
 HEADS = {
     "countdown": of_numbers("Countdown", 11),
     "wheel": of_numbers("Wheel", 10),
+    "takeaway": of_numbers("Takeaway", 13),
     **{f"tactix-{side}": of_tactix(side, False) for side in range(1, 6)},
     **{f"tactix-{side}-misere": of_tactix(side, True) for side in range(1, 6)},
     "tictactoe": head("Tic-Tac-Toe", nine(["   ---+---+---"] * 2), cells(3), "xo", True, ["X", "O"]),

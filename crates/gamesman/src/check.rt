@@ -2,8 +2,11 @@
 
 use crate::fault::Fault;
 use crate::run::{DONE, REFUSED};
+use crate::teller::Teller;
 use gm_build::inspect::inspect_tier;
+use gm_build::watch::Watch;
 use gm_build::whole_line::write_line;
+use gm_command::requests::Telling;
 use gm_entry::inspect::Inspected;
 use gm_game::game::Game;
 use gm_game::limits::TIER_SIZE;
@@ -16,7 +19,9 @@ use std::fmt;
 use std::fs::Files;
 use std::io::Write;
 use std::string::String;
+use std::sync::Wait;
 use std::thread::Threads;
+use std::time::Clock;
 
 // A tier with what its file is found to be: `None` where a child tier isn't right and so the file isn't read.
 #[derive(Drop)]
@@ -57,14 +62,22 @@ fn inspect<G: Game + Send + Sync, R: Threads + Files + Sync>(
 }
 
 // Prints what a tier's file is, inserts its table where it is right, and answers whether it is.
-fn check_tier<G: Game + Send + Sync, R: Threads + Files + Sync + AllocGlobal, O: Write>(
+fn check_tier<
+    G: Game + Send + Sync,
+    R: Threads + Wait + Clock + Files + Sync + AllocGlobal,
+    O: Write,
+    E: Write + Send,
+>(
     rt: &R,
     folder: &str,
     tier: u64,
     tables: &mut Tables<G>,
     output: &mut O,
+    teller: &Teller<'_, G, R, E>,
 ) -> Result<bool, Fault> {
-    let found = inspect(rt, rt.alloc(), folder, tier, tables)?;
+    let found = inspect(rt, rt.alloc(), folder, tier, tables);
+    teller.clear();
+    let found = found?;
     let told = Checked {
         tier,
         found: found.as_ref(),
@@ -80,16 +93,24 @@ fn check_tier<G: Game + Send + Sync, R: Threads + Files + Sync + AllocGlobal, O:
 }
 
 // Prints for each of these tiers what its file is, and answers the status to end with.
-fn check_tiers<G: Game + Send + Sync, R: Threads + Files + Sync + AllocGlobal, O: Write>(
+fn check_tiers<
+    G: Game + Send + Sync,
+    R: Threads + Wait + Clock + Files + Sync + AllocGlobal,
+    O: Write,
+    E: Write + Send,
+>(
     rt: &R,
     folder: &str,
     tiers: &[u64],
     tables: &mut Tables<G>,
     output: &mut O,
+    teller: &Teller<'_, G, R, E>,
 ) -> Result<u8, Fault> {
     let mut status = DONE;
+    Watch::begin(teller, rt, tiers.len());
     for tier in tiers {
-        if !check_tier(rt, folder, *tier, tables, output)? {
+        teller.read(rt, *tier);
+        if !check_tier(rt, folder, *tier, tables, output, teller)? {
             status = REFUSED;
         }
     }
@@ -97,15 +118,17 @@ fn check_tiers<G: Game + Send + Sync, R: Threads + Files + Sync + AllocGlobal, O
 }
 
 /// Prints for each tier what its file in a folder is.
-pub fn check<G: Game + Send + Sync, R: Threads + Files + Sync + AllocGlobal, O: Write>(
-    rt: &R,
-    folder: &str,
-    output: &mut O,
-) -> Result<u8, Fault> {
+pub fn check<
+    G: Game + Send + Sync,
+    R: Threads + Wait + Clock + Files + Sync + AllocGlobal,
+    O: Write,
+    E: Write + Send,
+>(rt: &R, folder: &str, output: &mut O, errors: &mut E, telling: Telling) -> Result<u8, Fault> {
     let alloc = rt.alloc();
     let order = TierOrder::<G>::from_initial(alloc)?;
     let mut tables: Tables<G> = Tables::new(alloc);
-    let checked = check_tiers(rt, folder, order.tiers(), &mut tables, output);
-    drop((order, tables));
+    let teller: Teller<'_, G, R, E> = Teller::new(rt, errors, telling, order.tiers());
+    let checked = check_tiers(rt, folder, order.tiers(), &mut tables, output, &teller);
+    drop((order, tables, teller));
     checked
 }

@@ -6,7 +6,7 @@ use gm_json::ask_error::AskError;
 use gm_play::session_error::SessionError;
 use gm_tiers::tier_error::TierError;
 use std::alloc::AllocError;
-use std::io;
+use std::io::{self, ErrorKind};
 use thiserror::Error;
 
 /// A refusal, with the words that the program prints for it.
@@ -16,6 +16,9 @@ pub enum Fault {
     NoSuchGame,
     #[error("no such position")]
     NoSuchPosition,
+    /// This line of the input, from 1, is the text of no position.
+    #[error("no such position in line {line}")]
+    NoSuchPositionInLine { line: u64 },
     #[error("no such tier {tier}")]
     NoSuchTier { tier: u64 },
     #[error("no such index {index} in tier {tier}")]
@@ -27,7 +30,7 @@ pub enum Fault {
     #[error("index {index} of tier {tier} is not canonical")]
     NotCanonical { tier: u64, index: u64 },
     #[error("out of memory")]
-    OutOfMemory(#[from(alloc)] AllocError),
+    OutOfMemory(AllocError),
     #[error("{0}")]
     NotBuilt(#[from] BuildError),
     /// The file of a tier is an intact one of another game, and stays.
@@ -44,10 +47,28 @@ pub enum Fault {
     TooMuchInput,
 }
 
+impl From<AllocError> for Fault {
+    ghost use Rattle.std.specs.Prelude.{◌≡◌};
+    ghost use Rattle.gamesman.specs.declared.fault.Fault.TheVariants.{OutOfMemory};
+
+    ghost from_gives = { λ error fault. fault ≡ OutOfMemory error };
+
+    fn from(error: AllocError) -> Fault {
+        Fault::OutOfMemory(error)
+    }
+}
+
 // Only standard output is written there, so a write that fails is a failure of standard output.
 impl From<io::Error> for Fault {
-    fn from(_error: io::Error) -> Fault {
-        Fault::OutputFailed
+    ghost use Rattle.gamesman.specs.Outputs.{IsOutputFault};
+
+    ghost from_gives = { λ _ fault. IsOutputFault fault };
+
+    fn from(error: io::Error) -> Fault {
+        match error.kind() {
+            ErrorKind::BrokenPipe => Fault::OutputClosed,
+            _ => Fault::OutputFailed,
+        }
     }
 }
 
@@ -84,6 +105,12 @@ impl From<AskError> for Fault {
 }
 
 impl From<TierError> for Fault {
+    ghost use Rattle.std.specs.Prelude.{◌≡◌};
+    ghost use Rattle.gm_build.specs.Outcomes.{of_tier_error};
+    ghost use Rattle.gamesman.specs.declared.fault.Fault.TheVariants.{NotBuilt};
+
+    ghost from_gives = { λ error fault. fault ≡ NotBuilt (of_tier_error error) };
+
     fn from(error: TierError) -> Fault {
         Fault::NotBuilt(BuildError::from(error))
     }

@@ -1,16 +1,22 @@
 //! The games by their names.
+ghost use Rattle.std.specs.Prelude.{◌≡◌};
+ghost use Rattle.gamesman.specs.Games.{game_spec, game_named, lines_named, moving_named, tactix_named, misere_named};
+ghost use Rattle.gamesman.specs.Answers.{IsAnswered, IsAnsweredFor};
 
 use crate::analyse::analyse;
 use crate::check::check;
 use crate::explore::explore;
 use crate::fault::Fault;
+use crate::filter::filter;
 use crate::located::{at_place, locate};
+use crate::naming::write_naming;
 use crate::play::play;
 use crate::query::query;
 use crate::search::search;
 use crate::solve::solve;
 use crate::tables::Place;
-use gm_command::requests::{GameAsked, Kept};
+use gm_command::defaults::{PIECE, SHARDS, WORKERS};
+use gm_command::requests::{GameAsked, Kept, Telling};
 pub use gm_dao::dao::Dao;
 use gm_draw::pictured::Pictured;
 pub use gm_hare::hare::Hare;
@@ -20,6 +26,7 @@ pub use gm_pong::pong::Pong;
 pub use gm_shisima::shisima::Shisima;
 use gm_solver::plan::Plan;
 pub use gm_tactix::tactix::TacTix;
+pub use gm_takeaway::takeaway::Takeaway;
 pub use gm_toys::countdown::Countdown;
 pub use gm_toys::wheel::Wheel;
 use std::fs::Files;
@@ -34,15 +41,17 @@ pub struct Streams<'a, I, O, E> {
     pub input: &'a mut I,
     pub output: &'a mut O,
     pub errors: &'a mut E,
+    /// How standard error is told how far a build or a check is: `Terminal` is said of a terminal alone.
+    pub telling: Telling,
 }
 
 // Where tables are kept and how they are made, for commands that have no options for a plan.
-fn place<'a, E>(kept: Kept<'a>, errors: &'a mut E) -> Place<'a, E> {
+fn place<'a, E>(kept: Kept<'a>, errors: &'a mut E, telling: Telling) -> Place<'a, E> {
     Place {
         kept,
-        plan: Plan::fastest(4, 4, 64).unwrap(),
+        plan: Plan::fastest(WORKERS, SHARDS, PIECE).unwrap(),
         errors,
-        progress: false,
+        telling,
     }
 }
 
@@ -53,68 +62,85 @@ fn answer<
     I: Read,
     O: Write,
     E: Write + Send,
->(rt: &R, asked: GameAsked<'_>, streams: Streams<'_, I, O, E>) -> Result<u8, Fault> {
+>(rt: &R, asked: GameAsked<'_>, streams: Streams<'_, I, O, E>) -> Result<u8, Fault>
+    ensures answered { IsAnswered (game_spec G.Game.rules G.shown G.move_shown G.drawn G.mover G.naming G.style G.title G.board G.points)
+        asked.entry (O.contents streams.entry.output.now) (O.contents streams.exit.1.0.now) result }
+    ensures naming { asked.entry ≡ GameAsked.Naming → streams.exit.1.0.now ≡ streams.entry.output.now }
+{
     let Streams {
         input,
         output,
         errors,
+        telling,
     } = streams;
     match asked {
-        GameAsked::Solve(asked) => solve::<G, R, O, E>(rt, asked, output, errors),
+        GameAsked::Solve(asked) => solve::<G, R, O, E>(rt, asked, output, errors, telling),
         GameAsked::Query { position, kept } => {
-            query::<G, R, O, E>(rt, position, place(kept, errors), output)
+            query::<G, R, O, E>(rt, position, place(kept, errors, telling), output)
+        }
+        GameAsked::Filter { asked, kept } => {
+            filter::<G, R, I, O, E>(rt, asked, place(kept, errors, telling), input, output)
         }
         GameAsked::At { tier, index, kept } => {
-            at_place::<G, R, O, E>(rt, tier, index, place(kept, errors), output)
+            at_place::<G, R, O, E>(rt, tier, index, place(kept, errors, telling), output)
         }
         GameAsked::Locate { position } => locate::<G, O>(rt.alloc(), position, output),
         GameAsked::Explore { asked, kept } => {
-            explore::<G, R, O, E>(rt, asked, place(kept, errors), output)
+            explore::<G, R, O, E>(rt, asked, place(kept, errors, telling), output)
         }
         GameAsked::Search { asked, kept } => {
-            search::<G, R, I, O, E>(rt, asked, place(kept, errors), input, output)
+            search::<G, R, I, O, E>(rt, asked, place(kept, errors, telling), input, output)
         }
-        GameAsked::Analyse { kept } => analyse::<G, R, O, E>(rt, place(kept, errors), output),
-        GameAsked::Check { folder } => check::<G, R, O>(rt, folder, output),
+        GameAsked::Analyse { kept } => analyse::<G, R, O, E>(
+            rt,
+            place(kept, errors, telling),
+            output,
+        ),
+        GameAsked::Check { folder } => check::<G, R, O, E>(rt, folder, output, errors, telling),
         GameAsked::Play { asked, kept } => {
-            play::<G, R, I, O, E>(rt, asked, place(kept, errors), input, output)
+            play::<G, R, I, O, E>(rt, asked, place(kept, errors, telling), input, output)
         }
+        GameAsked::Naming => write_naming::<G, E>(errors),
     }
 }
 
-// Answers what is asked of Tac Tix on a square of side N, by the normal or by the misère rule.
-fn answer_square<
-    const N: u32,
+// Answers what is asked of Tac Tix by the misère rule.
+fn answer_misere<
     R: Threads + Wait + Clock + Files + Sync + AllocGlobal,
     I: Read,
     O: Write,
     E: Write + Send,
->(rt: &R, misere: bool, asked: GameAsked<'_>, streams: Streams<'_, I, O, E>) -> Result<u8, Fault> {
-    if misere {
-        answer::<TacTix<N, true>, R, I, O, E>(rt, asked, streams)
-    } else {
-        answer::<TacTix<N, false>, R, I, O, E>(rt, asked, streams)
+>(rt: &R, game: &str, asked: GameAsked<'_>, streams: Streams<'_, I, O, E>) -> Result<u8, Fault>
+    ensures answered { IsAnsweredFor (misere_named game.now) asked.entry (O.contents streams.entry.output.now) (O.contents streams.exit.1.0.now) result }
+    ensures naming { asked.entry ≡ GameAsked.Naming → streams.exit.1.0.now ≡ streams.entry.output.now }
+{
+    match game {
+        "tactix-1-misere" => answer::<TacTix<1, true>, R, I, O, E>(rt, asked, streams),
+        "tactix-2-misere" => answer::<TacTix<2, true>, R, I, O, E>(rt, asked, streams),
+        "tactix-3-misere" => answer::<TacTix<3, true>, R, I, O, E>(rt, asked, streams),
+        "tactix-4-misere" => answer::<TacTix<4, true>, R, I, O, E>(rt, asked, streams),
+        "tactix-5-misere" => answer::<TacTix<5, true>, R, I, O, E>(rt, asked, streams),
+        _ => Err(Fault::NoSuchGame),
     }
 }
 
-// Answers what is asked of Tac Tix on a square of this name.
+// Answers what is asked of Tac Tix.
 fn answer_tactix<
     R: Threads + Wait + Clock + Files + Sync + AllocGlobal,
     I: Read,
     O: Write,
     E: Write + Send,
->(rt: &R, game: &str, asked: GameAsked<'_>, streams: Streams<'_, I, O, E>) -> Result<u8, Fault> {
-    let (square, misere) = match game.strip_suffix("-misere") {
-        Some(square) => (square, true),
-        None => (game, false),
-    };
-    match square {
-        "tactix-1" => answer_square::<1, R, I, O, E>(rt, misere, asked, streams),
-        "tactix-2" => answer_square::<2, R, I, O, E>(rt, misere, asked, streams),
-        "tactix-3" => answer_square::<3, R, I, O, E>(rt, misere, asked, streams),
-        "tactix-4" => answer_square::<4, R, I, O, E>(rt, misere, asked, streams),
-        "tactix-5" => answer_square::<5, R, I, O, E>(rt, misere, asked, streams),
-        _ => Err(Fault::NoSuchGame),
+>(rt: &R, game: &str, asked: GameAsked<'_>, streams: Streams<'_, I, O, E>) -> Result<u8, Fault>
+    ensures answered { IsAnsweredFor (tactix_named game.now) asked.entry (O.contents streams.entry.output.now) (O.contents streams.exit.1.0.now) result }
+    ensures naming { asked.entry ≡ GameAsked.Naming → streams.exit.1.0.now ≡ streams.entry.output.now }
+{
+    match game {
+        "tactix-1" => answer::<TacTix<1, false>, R, I, O, E>(rt, asked, streams),
+        "tactix-2" => answer::<TacTix<2, false>, R, I, O, E>(rt, asked, streams),
+        "tactix-3" => answer::<TacTix<3, false>, R, I, O, E>(rt, asked, streams),
+        "tactix-4" => answer::<TacTix<4, false>, R, I, O, E>(rt, asked, streams),
+        "tactix-5" => answer::<TacTix<5, false>, R, I, O, E>(rt, asked, streams),
+        _ => answer_misere(rt, game, asked, streams),
     }
 }
 
@@ -124,7 +150,10 @@ fn answer_moving<
     I: Read,
     O: Write,
     E: Write + Send,
->(rt: &R, game: &str, asked: GameAsked<'_>, streams: Streams<'_, I, O, E>) -> Result<u8, Fault> {
+>(rt: &R, game: &str, asked: GameAsked<'_>, streams: Streams<'_, I, O, E>) -> Result<u8, Fault>
+    ensures answered { IsAnsweredFor (moving_named game.now) asked.entry (O.contents streams.entry.output.now) (O.contents streams.exit.1.0.now) result }
+    ensures naming { asked.entry ≡ GameAsked.Naming → streams.exit.1.0.now ≡ streams.entry.output.now }
+{
     match game {
         "mutorere" => answer::<MuTorere, R, I, O, E>(rt, asked, streams),
         "dao" => answer::<Dao, R, I, O, E>(rt, asked, streams),
@@ -141,7 +170,10 @@ fn answer_lines<
     I: Read,
     O: Write,
     E: Write + Send,
->(rt: &R, game: &str, asked: GameAsked<'_>, streams: Streams<'_, I, O, E>) -> Result<u8, Fault> {
+>(rt: &R, game: &str, asked: GameAsked<'_>, streams: Streams<'_, I, O, E>) -> Result<u8, Fault>
+    ensures answered { IsAnsweredFor (lines_named game.now) asked.entry (O.contents streams.entry.output.now) (O.contents streams.exit.1.0.now) result }
+    ensures naming { asked.entry ≡ GameAsked.Naming → streams.exit.1.0.now ≡ streams.entry.output.now }
+{
     match game {
         "tictactoe" => answer::<TicTacToe, R, I, O, E>(rt, asked, streams),
         "threemens" => answer::<ThreeMens, R, I, O, E>(rt, asked, streams),
@@ -156,10 +188,14 @@ pub fn answer_for<
     I: Read,
     O: Write,
     E: Write + Send,
->(rt: &R, game: &str, asked: GameAsked<'_>, streams: Streams<'_, I, O, E>) -> Result<u8, Fault> {
+>(rt: &R, game: &str, asked: GameAsked<'_>, streams: Streams<'_, I, O, E>) -> Result<u8, Fault>
+    ensures answered { IsAnsweredFor (game_named game.now) asked.entry (O.contents streams.entry.output.now) (O.contents streams.exit.1.0.now) result }
+    ensures naming { asked.entry ≡ GameAsked.Naming → streams.exit.1.0.now ≡ streams.entry.output.now }
+{
     match game {
         "countdown" => answer::<Countdown<10>, R, I, O, E>(rt, asked, streams),
         "wheel" => answer::<Wheel, R, I, O, E>(rt, asked, streams),
+        "takeaway" => answer::<Takeaway, R, I, O, E>(rt, asked, streams),
         _ => answer_lines(rt, game, asked, streams),
     }
 }

@@ -1,5 +1,7 @@
 //! What stands at a tier and index, and where a position stands.
 
+ghost use Rattle.gamesman.specs.Answers.{IsLocatedBy};
+
 use crate::explore::put;
 use crate::fault::Fault;
 use crate::run::DONE;
@@ -48,8 +50,17 @@ pub fn locate<G: Shown, O: Write>(
     alloc: Global,
     position: &str,
     output: &mut O,
-) -> Result<u8, Fault> {
-    write_row(place_text::<G>(alloc, position.as_bytes()), output)
+) -> Result<u8, Fault>
+    ensures { IsLocatedBy G.Game.rules G.shown position.now (O.contents output.old) (O.contents output.new) result }
+{
+    match place_text::<G>(alloc, position.as_bytes()) {
+        Ok(row) => {
+            put(output, row.as_slice())?;
+            Ok(DONE)
+        }
+        Err(PlayError::Illegal) => Err(Fault::NoSuchPosition),
+        Err(_) => Err(Fault::OutOfMemory(AllocError)),
+    }
 }
 
 fn write_row<O: Write>(text: Result<Vec<u8>, PlayError>, output: &mut O) -> Result<u8, Fault> {

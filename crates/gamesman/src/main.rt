@@ -5,15 +5,22 @@ mod analyse;
 mod check;
 mod explore;
 mod fault;
+mod filter;
+mod found;
 mod games;
+mod live;
 mod located;
+mod naming;
+mod output;
 mod play;
 mod query;
+mod reasons;
 mod run;
 mod search;
 mod shelf;
 mod solve;
 mod tables;
+mod teller;
 
 use crate::fault::Fault;
 use crate::run::{BAD_LINE, bad_line, explain, refused, run_words};
@@ -42,7 +49,7 @@ fn main(rt: HostRuntime) -> ExitCode {
     ExitCode::from(status)
 }
 
-// Runs the line of these words. At a terminal a bad line is also explained.
+// Runs the line of these words. Where standard error is a terminal a bad line is also explained.
 fn run_args<
     R: Threads + Wait + Clock + Files + Sync + AllocGlobal,
     I: Read,
@@ -57,8 +64,9 @@ fn run_args<
     for arg in &owned {
         words.push(arg.as_str())?;
     }
-    let status = run_words(rt, words.as_slice(), input, output, errors);
-    if status == BAD_LINE && errors.is_terminal() {
+    let terminal = errors.is_terminal();
+    let status = run_words(rt, words.as_slice(), terminal, input, output, errors);
+    if status == BAD_LINE && terminal {
         explain(rt.alloc(), words.as_slice(), errors);
     }
     Ok(status)

@@ -1,9 +1,13 @@
 //! The value of one position.
+ghost use Rattle.gm_game.specs.declared.position.Position.{Position};
+ghost use Rattle.gm_table.specs.Tables.{IsHeld};
+ghost use Rattle.gm_play.specs.PlayTexts.{IsReadAs};
+ghost use Rattle.gamesman.specs.Answers.{IsAnsweredBy, IsQueryLine};
 
 use crate::fault::Fault;
+use crate::output::put_line;
 use crate::run::DONE;
 use crate::tables::Place;
-use arrayvec::ArrayVec;
 use gm_game::shown::Shown;
 use gm_play::texts::answer_text;
 use gm_table::tables::Tables;
@@ -13,16 +17,16 @@ use std::sync::Wait;
 use std::thread::Threads;
 use std::time::Clock;
 
-// The bytes of the longest value and a line end.
-const ROOM: usize = 65;
-
 /// Prints the value of a position.
 pub fn query<
     G: Shown + Send + Sync,
     R: Threads + Wait + Clock + Files + Sync + AllocGlobal,
     O: Write,
     E: Write + Send,
->(rt: &R, position: &str, place: Place<'_, E>, output: &mut O) -> Result<u8, Fault> {
+>(rt: &R, position: &str, place: Place<'_, E>, output: &mut O) -> Result<u8, Fault>
+    ensures { IsAnsweredBy G.Game.rules G.shown G.move_shown position.now (IsQueryLine G.Game.rules G.shown G.move_shown position.now)
+        (O.contents output.old) (O.contents output.new) result }
+{
     let tier = match G::read(position.as_bytes()) {
         Some(p) => p.tier,
         None => return Err(Fault::NoSuchPosition),
@@ -33,16 +37,22 @@ pub fn query<
     written
 }
 
+// Writes the value of a position whose tier is held.
 fn write_value<G: Shown, O: Write>(
     tables: &Tables<G>,
     position: &[u8],
     output: &mut O,
-) -> Result<u8, Fault> {
-    // The position's own tier is among those that are built.
-    let text = answer_text(tables, position).map_err(|_| Fault::NoSuchPosition)?;
-    let mut line: ArrayVec<u8, ROOM> = ArrayVec::new();
-    let _fits = line.try_extend_from_slice(text.as_slice());
-    let _fits = line.try_extend_from_slice(b"\n");
-    output.write_all(line.as_slice())?;
-    Ok(DONE)
+) -> Result<u8, Fault>
+    requires { (p : Position) → IsReadAs G.Game.rules G.shown G.move_shown position.now p → IsHeld tables.now p.tier }
+    ensures { IsAnsweredBy G.Game.rules G.shown G.move_shown position.now (IsQueryLine G.Game.rules G.shown G.move_shown position.now)
+        (O.contents output.old) (O.contents output.new) result }
+{
+    match answer_text(tables, position) {
+        Ok(text) => {
+            put_line(output, text.as_slice())?;
+            Ok(DONE)
+        }
+        // The tier of the position is held.
+        Err(_) => Err(Fault::NoSuchPosition),
+    }
 }

@@ -1,13 +1,16 @@
 //! A line of words, from the program's name to the status that it ends with.
+ghost use Rattle.std.specs.Prelude.{◌≡◌};
+ghost use Rattle.gamesman.specs.Answers.{IsDone, IsRun};
 
 use crate::explore::put;
 use crate::fault::Fault;
 use crate::games::{Streams, answer_for};
+use crate::reasons::advise;
 use gm_build::whole_line::{FaultLine, write_line};
 use gm_command::asked::{Help, Unread, read_words, what_is_wrong};
 use gm_command::manual::{Manual, manual_text};
 use gm_command::names::{LATER_NAMES, NAMES};
-use gm_command::requests::{Asked, Reading};
+use gm_command::requests::{Asked, Reading, Telling};
 use std::alloc::{AllocError, Global};
 use std::fs::Files;
 use std::io::{Read, Write};
@@ -48,21 +51,26 @@ fn write_help<O: Write>(text: Help, output: &mut O) -> Result<u8, Fault> {
     Ok(DONE)
 }
 
+// Does what is asked for.
 fn answer<
     R: Threads + Wait + Clock + Files + Sync + AllocGlobal,
     I: Read,
     O: Write,
     E: Write + Send,
->(rt: &R, asked: Asked<'_>, streams: Streams<'_, I, O, E>) -> Result<u8, Fault> {
+>(rt: &R, asked: Asked<'_>, streams: Streams<'_, I, O, E>) -> Result<u8, Fault>
+    ensures { IsDone asked.entry (O.contents streams.entry.output.now) (O.contents streams.exit.1.0.now) result }
+{
     match asked {
         Asked::List { all } => list(all, streams.output),
-        Asked::Of { game, asked } => answer_for(rt, game, asked, streams),
+        Asked::Of { game, asked, .. } => answer_for(rt, game, asked, streams),
         Asked::Manual(asked) => write_manual(rt.alloc(), asked, streams.output),
     }
 }
 
 /// Says on standard error why a line was refused. Where this write fails nothing more is written, but the status still tells.
-pub fn refused<E: Write>(fault: &Fault, errors: &mut E) -> u8 {
+pub fn refused<E: Write>(fault: &Fault, errors: &mut E) -> u8
+    ensures { result ≡ REFUSED }
+{
     if !matches!(fault, Fault::OutputClosed) {
         let _ = write_line(errors, &FaultLine { fault });
     }
@@ -82,29 +90,59 @@ pub fn explain<E: Write>(alloc: Global, words: &[&str], errors: &mut E) {
     }
 }
 
-/// Runs a line of words, of which the first is the program's name, and answers the status to end with.
+// How it is told how far a build is: one line that is written over and over is for a terminal alone.
+fn telling_of(asked: Asked<'_>, terminal: bool) -> Telling {
+    match asked {
+        Asked::Of {
+            telling: Telling::Terminal,
+            ..
+        } if !terminal => Telling::Quiet,
+        Asked::Of { telling, .. } => telling,
+        Asked::List { .. } | Asked::Manual(_) => Telling::Quiet,
+    }
+}
+
+/// Does what is asked for, and says why where it is refused: at a terminal also what to do. Answers the status to end with.
+pub fn run_asked<
+    R: Threads + Wait + Clock + Files + Sync + AllocGlobal,
+    I: Read,
+    O: Write,
+    E: Write + Send,
+>(rt: &R, asked: Asked<'_>, terminal: bool, input: &mut I, output: &mut O, errors: &mut E) -> u8
+    ensures { IsRun asked.entry (O.contents output.old) (O.contents output.new) result }
+{
+    let streams = Streams {
+        input: &mut *input,
+        output: &mut *output,
+        errors: &mut *errors,
+        telling: telling_of(asked, terminal),
+    };
+    match answer(rt, asked, streams) {
+        Ok(status) => status,
+        Err(fault) => {
+            let status = refused(&fault, errors);
+            if terminal {
+                advise(rt, asked, &fault, input, output, errors);
+            }
+            status
+        }
+    }
+}
+
+/// Runs a line of words, of which the first is the program's name, and answers the status to end with. Where standard error is a terminal it is also told
+/// there how far a build is, and what to do after a refusal.
 pub fn run_words<
     R: Threads + Wait + Clock + Files + Sync + AllocGlobal,
     I: Read,
     O: Write,
     E: Write + Send,
->(rt: &R, words: &[&str], input: &mut I, output: &mut O, errors: &mut E) -> u8 {
+>(rt: &R, words: &[&str], terminal: bool, input: &mut I, output: &mut O, errors: &mut E) -> u8 {
     match read_words(rt.alloc(), words) {
-        Ok(read) => {
-            let streams = Streams {
-                input,
-                output,
-                errors: &mut *errors,
-            };
-            let done = match read {
-                Reading::Asked(asked) => answer(rt, asked, streams),
-                Reading::Help(text) => write_help(text, streams.output),
-            };
-            match done {
-                Ok(status) => status,
-                Err(fault) => refused(&fault, errors),
-            }
-        }
+        Ok(Reading::Asked(asked)) => run_asked(rt, asked, terminal, input, output, errors),
+        Ok(Reading::Help(text)) => match write_help(text, output) {
+            Ok(status) => status,
+            Err(fault) => refused(&fault, errors),
+        },
         Err(Unread::OutOfMemory) => refused(&Fault::OutOfMemory(AllocError), errors),
         Err(Unread::BadLine) => bad_line(errors),
     }

@@ -2,20 +2,17 @@
 
 use crate::explore::put;
 use crate::fault::Fault;
+use crate::found::write_found;
 use crate::run::DONE;
 use crate::tables::Place;
 use gm_analyse::bars::counts_text;
 use gm_analyse::longest_rows::longest_text;
 use gm_build::build::Built;
-use gm_command::requests::{CountsAsked, Form, PositionsSought, Search};
+use gm_command::requests::{AskAsked, CountsAsked, PositionsSought, Search};
 use gm_draw::pictured::Pictured;
-use gm_find::find_error::FindError;
 use gm_find::reached::Reached;
-use gm_find::rows::find_text;
 use gm_game::shown::Shown;
-use gm_json::ask::ask;
-use gm_json::find::find_json;
-use gm_sheet::sheet::sheet_text;
+use gm_json::ask::{READY, ask};
 use gm_tiers::order::TierOrder;
 use std::alloc::Global;
 use std::fs::Files;
@@ -48,17 +45,30 @@ fn answer<G: Pictured, I: Read, O: Write>(
     output: &mut O,
 ) -> Result<u8, Fault> {
     match asked {
-        Search::Find(positions) => written(found(alloc, built, positions), output),
+        Search::Find(positions) => write_found(alloc, built, positions, output),
         Search::Counts(asked) => written(counted(alloc, built, asked), output),
         Search::Longest { reached, limit } => written(
             longest(alloc, built, reached, limit),
             output,
         ),
-        Search::Ask => {
-            ask(alloc, &built.tables, input, output)?;
-            Ok(DONE)
-        }
+        Search::Ask(asked) => serve(alloc, built, asked, input, output),
     }
+}
+
+// Answers each position that is read.
+fn serve<G: Shown, I: Read, O: Write>(
+    alloc: Global,
+    built: &Built<G>,
+    asked: AskAsked,
+    input: &mut I,
+    output: &mut O,
+) -> Result<u8, Fault> {
+    if asked.ready {
+        put(output, READY)?;
+    }
+    let tiers = built.order.tiers();
+    ask(alloc, &built.tables, tiers, asked.asked, input, output)?;
+    Ok(DONE)
 }
 
 // Writes a text, where there is one.
@@ -89,39 +99,6 @@ pub fn known_tier<G: Shown>(alloc: Global, tier: u64) -> Result<(), Fault> {
         Ok(())
     } else {
         Err(Fault::NoSuchTier { tier })
-    }
-}
-
-// The positions that are looked for: their rows, their lines of JSON, or a sheet of their diagrams.
-fn found<G: Pictured>(
-    alloc: Global,
-    built: &Built<G>,
-    positions: PositionsSought,
-) -> Result<Vec<u8>, Fault> {
-    let reached = reached_from_start(alloc, positions.reached)?;
-    let text = found_among(alloc, built, positions, reached.as_ref());
-    drop(reached);
-    Ok(text?)
-}
-
-// The same, where the positions that play reaches are known if they are asked for.
-fn found_among<G: Pictured>(
-    alloc: Global,
-    built: &Built<G>,
-    positions: PositionsSought,
-    reached: Option<&Reached<G>>,
-) -> Result<Vec<u8>, FindError> {
-    let one = [positions.tier.unwrap_or(0)];
-    let tiers = match positions.tier {
-        Some(_) => one.as_slice(),
-        None => built.order.tiers(),
-    };
-    let tables = &built.tables;
-    let (sought, limit) = (positions.sought, positions.limit);
-    match positions.form {
-        Form::Rows => find_text(alloc, tables, tiers, sought, reached, limit),
-        Form::Json => find_json(alloc, tables, tiers, sought, reached, limit),
-        Form::Sheet => sheet_text(alloc, tables, tiers, sought, reached, limit),
     }
 }
 
@@ -164,8 +141,11 @@ fn longest<G: Shown>(
     Ok(text?)
 }
 
-// The positions that play reaches, where they are asked for.
-fn reached_from_start<G: Shown>(alloc: Global, asked: bool) -> Result<Option<Reached<G>>, Fault> {
+/// The positions that play reaches, where they are asked for.
+pub fn reached_from_start<G: Shown>(
+    alloc: Global,
+    asked: bool,
+) -> Result<Option<Reached<G>>, Fault> {
     if asked {
         Ok(Some(Reached::from_start(alloc)?))
     } else {

@@ -1,8 +1,10 @@
 //! The store that the program builds over.
-ghost use Rattle.std.specs.Prelude.{◌≡◌, false, None, IfOk, option_map};
-ghost use Rattle.gamesman.specs.Shelves.{failed_in, kept_in};
+ghost use Rattle.std.specs.Prelude.{◌≡◌, ◌+◌, ◌<◌, false, None, IfOk, option_map};
+ghost use Rattle.gm_tierdb.specs.StoreTexts.{failures_of};
+ghost use Rattle.gamesman.specs.Shelves.{failed_in, kept_in, IsShelfWrite};
 
 use gm_command::requests::Kept;
+use gm_game::limits::NAME;
 use gm_tierdb::folder_store::FolderStore;
 use gm_tierdb::mem_store::MemStore;
 use gm_tierdb::read_only::ReadOnly;
@@ -12,7 +14,7 @@ use std::alloc::{AllocError, Global};
 use std::fs::Files;
 
 /// Where the files of tiers are: in a folder, in one that is only read, or in memory. One type for all three, since a build is compiled once for each type of
-/// store. Like a folder it promises only its count of failures.
+/// store. As a store it promises only its count of failures, like a folder.
 #[derive(Drop)]
 pub enum Shelf {
     Folder(FolderStore),
@@ -34,6 +36,21 @@ impl Shelf {
             Ok(Shelf::ReadOnly(ReadOnly::new(folder)))
         } else {
             Ok(Shelf::Folder(folder))
+        }
+    }
+
+    /// Whether a tier can't be written, since its file is an intact one of another game than the one of this name. No failure is counted.
+    pub fn is_anothers<R: Files>(
+        &mut self,
+        rt: &R,
+        tier: u64,
+        name: &[u8; NAME],
+    ) -> Result<bool, AllocError>
+        ensures { failed_in self.new ≡ failed_in self.old }
+    {
+        match self {
+            Shelf::Folder(store) => store.is_anothers(rt, tier, name),
+            Shelf::ReadOnly(_) | Shelf::Memory(_) => Ok(false),
         }
     }
 
@@ -68,7 +85,11 @@ impl Store for Shelf {
         }
     }
 
-    fn write<R: Files>(&mut self, rt: &R, tier: u64, bytes: &[u8]) -> Result<(), StoreError> {
+    fn write<R: Files>(&mut self, rt: &R, tier: u64, bytes: &[u8]) -> Result<(), StoreError>
+        requires { failed_in self.old < u64.MAX }
+        ensures write { IsShelfWrite self.old self.new tier bytes.now result }
+        ensures count { failed_in self.new ≡ failed_in self.old + failures_of result }
+    {
         match self {
             Shelf::Folder(store) => store.write(rt, tier, bytes),
             Shelf::ReadOnly(store) => store.write(rt, tier, bytes),

@@ -5,7 +5,7 @@ use crate::run::DONE;
 use crate::tables::Place;
 use gm_build::build::Built;
 use gm_build::whole_line::write_line;
-use gm_command::requests::{Kept, SolveAsked};
+use gm_command::requests::{Kept, SolveAsked, Telling};
 use gm_game::game::Game;
 use std::fmt;
 use std::fs::Files;
@@ -20,8 +20,14 @@ pub fn solve<
     R: Threads + Wait + Clock + Files + Sync + AllocGlobal,
     O: Write,
     E: Write + Send,
->(rt: &R, asked: SolveAsked<'_>, output: &mut O, errors: &mut E) -> Result<u8, Fault> {
-    let report = built_report::<G, R, E>(rt, asked, errors)?;
+>(
+    rt: &R,
+    asked: SolveAsked<'_>,
+    output: &mut O,
+    errors: &mut E,
+    telling: Telling,
+) -> Result<u8, Fault> {
+    let report = built_report::<G, R, E>(rt, asked, errors, telling)?;
     write_line(output, &report)?;
     Ok(DONE)
 }
@@ -30,12 +36,8 @@ fn built_report<
     G: Game + Send + Sync,
     R: Threads + Wait + Clock + Files + Sync + AllocGlobal,
     E: Write + Send,
->(rt: &R, asked: SolveAsked<'_>, errors: &mut E) -> Result<BuildReport, Fault> {
-    let SolveAsked {
-        folder,
-        plan,
-        progress,
-    } = asked;
+>(rt: &R, asked: SolveAsked<'_>, errors: &mut E, telling: Telling) -> Result<BuildReport, Fault> {
+    let SolveAsked { folder, plan } = asked;
     let place = Place {
         kept: Kept {
             folder: Some(folder),
@@ -43,7 +45,7 @@ fn built_report<
         },
         plan,
         errors,
-        progress,
+        telling,
     };
     let built = place.build::<G, R>(rt)?;
     let report = BuildReport::of(&built);

@@ -1,17 +1,22 @@
 //! The tables of a game, in a folder or in memory.
-ghost use Rattle.std.specs.Prelude.{◌≡◌, ◌<◌, IfOk};
+ghost use Rattle.std.specs.Prelude.{◌≡◌, ◌<◌, IfOk, IfErr, IfSome};
+ghost use Rattle.std.specs.List.{Contains};
 ghost use Rattle.gm_tiers.specs.Orders.{IsTierOrder, IsOrderFrom};
 ghost use Rattle.gm_build.specs.Work.{HoldsExactly};
+ghost use Rattle.gm_build.specs.Outcomes.{IsBuildError};
 ghost use Rattle.gamesman.specs.Shelves.{failed_in};
+ghost use Rattle.gamesman.specs.Refusals.{IsUnbuilt, reason_of};
 
 use crate::fault::Fault;
 use crate::shelf::Shelf;
+use crate::teller::Teller;
 use gm_build::build::{Built, build_from};
 use gm_build::build_error::BuildError;
-use gm_build::progress::Progress;
-use gm_command::requests::Kept;
+use gm_command::requests::{Kept, Telling};
 use gm_game::game::Game;
 use gm_solver::plan::Plan;
+use gm_tiers::order::TierOrder;
+use std::alloc::AllocError;
 use std::fs::Files;
 use std::io::Write;
 use std::sync::Wait;
@@ -25,8 +30,8 @@ pub struct Place<'a, E> {
     pub plan: Plan,
     /// Standard error.
     pub errors: &'a mut E,
-    /// Whether lines there say how far a build is.
-    pub progress: bool,
+    /// How it is told how far a build is.
+    pub telling: Telling,
 }
 
 impl<E: Write + Send> Place<'_, E> {
@@ -37,6 +42,7 @@ impl<E: Write + Send> Place<'_, E> {
     ) -> Result<Built<G>, Fault>
         ensures order { IfOk result (λ built. IsTierOrder G.rules built.order) }
         ensures held { IfOk result (λ built. HoldsExactly built.tables built.order) }
+        ensures unbuilt { IfErr result (IsUnbuilt G.rules G.rules.initial.tier) }
     {
         self.build_from::<G, R>(rt, G::initial().tier)
     }
@@ -48,17 +54,24 @@ impl<E: Write + Send> Place<'_, E> {
     >(self, rt: &R, first: u64) -> Result<Built<G>, Fault>
         ensures order { IfOk result (λ built. IsOrderFrom G.rules first built.order) }
         ensures held { IfOk result (λ built. HoldsExactly built.tables built.order) }
+        ensures unbuilt { IfErr result (IsUnbuilt G.rules first) }
     {
         let Place {
             kept,
             plan,
             errors,
-            progress,
+            telling,
         } = self;
+        let order = TierOrder::<G>::from_tier(rt.alloc(), first)?;
         let mut shelf = Shelf::at(rt.alloc(), kept)?;
-        let built = build_over(rt, &mut shelf, first, plan, errors, progress);
+        let anothers = first_anothers::<G, R>(rt, &mut shelf, order.tiers())?;
+        if let Some(tier) = anothers {
+            return Err(Fault::AnotherGames { tier });
+        }
+        let tiers = order.tiers();
+        let built = build_over(rt, &mut shelf, first, tiers, plan, errors, telling);
         let met_another = shelf.met_another();
-        drop(shelf);
+        drop((order, shelf));
         match built {
             Ok(built) => Ok(built),
             Err(error) => Err(why_not(error, met_another)),
@@ -66,7 +79,25 @@ impl<E: Write + Send> Place<'_, E> {
     }
 }
 
-// Builds the tiers that one tier reaches over a store that has not failed yet; on request standard error is told how far the build is.
+// The first of these tiers that can't be written, since its file is an intact one of another game.
+fn first_anothers<G: Game, R: Files>(
+    rt: &R,
+    shelf: &mut Shelf,
+    tiers: &[u64],
+) -> Result<Option<u64>, AllocError>
+    ensures failed { failed_in shelf.new ≡ failed_in shelf.old }
+    ensures among { IfOk result (λ tier. IfSome tier (Contains tiers.now)) }
+{
+    let name = G::name();
+    for tier in tiers {
+        if shelf.is_anothers(rt, *tier, &name)? {
+            return Ok(Some(*tier));
+        }
+    }
+    Ok(None)
+}
+
+// Builds the tiers that one tier reaches over a store that has not failed yet.
 fn build_over<
     G: Game + Send + Sync,
     R: Threads + Wait + Clock + Files + Sync + AllocGlobal,
@@ -75,27 +106,28 @@ fn build_over<
     rt: &R,
     shelf: &mut Shelf,
     first: u64,
+    tiers: &[u64],
     plan: Plan,
     errors: &mut E,
-    progress: bool,
+    telling: Telling,
 ) -> Result<Built<G>, BuildError>
     requires { failed_in shelf.old ≡ 0 }
     ensures order { IfOk result (λ built. IsOrderFrom G.rules first built.order) }
     ensures held { IfOk result (λ built. HoldsExactly built.tables built.order) }
+    ensures error { IfErr result (IsBuildError G.rules first) }
 {
-    let told = if progress {
-        Progress::new(rt, errors)
-    } else {
-        Progress::quiet(rt, errors)
-    };
     let alloc = rt.alloc();
-    let built = build_from(rt, alloc, first, shelf, plan, &told, &told, &told);
-    drop(told);
+    let teller: Teller<'_, G, R, E> = Teller::new(rt, errors, telling, tiers);
+    let built = build_from(rt, alloc, first, shelf, plan, &teller, &teller, &teller);
+    teller.clear();
+    drop(teller);
     built
 }
 
 // Why a game is not built over a folder, for instance since the folder has another game's file.
-fn why_not(error: BuildError, met_another: bool) -> Fault {
+fn why_not(error: BuildError, met_another: bool) -> Fault
+    ensures { result ≡ reason_of error met_another }
+{
     match error {
         BuildError::StoreFailed { tier } if met_another => Fault::AnotherGames { tier },
         error => Fault::NotBuilt(error),

@@ -5,6 +5,7 @@ use Rattle.gm_game.specs.declared.position.Value.{Value}
 use Rattle.gm_game.specs.declared.position.Value.TheVariants.{Lose, Win}
 use Rattle.gm_game.specs.Rules.{Rules}
 use Rattle.gm_find.specs.declared.sought.Sought.{Sought}
+use Rattle.gm_find.specs.declared.sought.Choice.TheVariants.{First}
 use Rattle.gm_find.specs.Finding.{all_positions}
 use Rattle.gm_find.specs.Rows.{IsFoundText}
 use Rattle.gm_analyse.specs.declared.among.Among.TheVariants.{Canonical}
@@ -23,7 +24,7 @@ module _ (r : Rules) (shown : Position → List ℕ) (move_shown : Position → 
   -- the rows of the positions of the value with this remoteness; none where there is no greatest one
   abbrev pub AreRowsAt : Value → Option ℕ → List ℕ → Type 0
   AreRowsAt v None out = out ≡ []
-  AreRowsAt v (Some n) out = IsFoundText r shown move_shown (longest v n) reached limit tiers out
+  AreRowsAt v (Some n) out = IsFoundText r shown move_shown (longest v n) reached (First limit) tiers out
 
   -- the rows of the positions of the value with the greatest remoteness
   abbrev pub IsLongestRows : Value → List ℕ → Type 0

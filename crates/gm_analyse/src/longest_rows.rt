@@ -12,7 +12,7 @@ use gm_find::find_error::FindError;
 use gm_find::positions::are_held;
 use gm_find::reached::Reached;
 use gm_find::rows::find_text;
-use gm_find::sought::{Sought, Span};
+use gm_find::sought::{Choice, Sought, Span};
 use gm_game::game::Game;
 use gm_game::position::Value;
 use gm_game::shown::Shown;
@@ -57,7 +57,8 @@ fn rows_of_longest<G: Shown>(
     match greatest(alloc, tables, tiers, value, reached)? {
         Some(remoteness) => {
             let sought = longest(value, remoteness);
-            find_text(alloc, tables, tiers, sought, reached, limit)
+            let first = Choice::First(limit);
+            find_text(alloc, tables, tiers, sought, reached, first)
         }
         None => Ok(Vec::new(alloc)),
     }

@@ -3,8 +3,9 @@
 use crate::commands::gamesman;
 use crate::explore_commands::explore_of;
 use crate::manual::{Manual, manual_of};
-use crate::requests::{Asked, GameAsked, Kept, PlayAsked, Reading, SolveAsked};
-use crate::search_commands::search_of;
+use crate::numbers::are_plain;
+use crate::requests::{Asked, Filter, GameAsked, Kept, PlayAsked, Reading, SolveAsked, Telling};
+use crate::search_commands::{asked_of_each, search_of, sought_of};
 use clap::error::ErrorKind;
 use clap::{ArgMatches, Error};
 use gm_best::side::Side;
@@ -51,15 +52,19 @@ fn solve_of<'a>(inner: &ArgMatches<'a>) -> Option<GameAsked<'a>> {
     Some(GameAsked::Solve(SolveAsked {
         folder: inner.get_str("FOLDER")?,
         plan: plan_of(inner)?,
-        progress: inner.get_flag("progress"),
     }))
 }
 
+// For `-` the positions are read from standard input.
 fn query_of<'a>(inner: &ArgMatches<'a>) -> Option<GameAsked<'a>> {
-    Some(GameAsked::Query {
-        position: inner.get_str("POSITION")?,
-        kept: kept_of(inner),
-    })
+    let kept = kept_of(inner);
+    match inner.get_str("POSITION")? {
+        "-" => Some(GameAsked::Filter {
+            asked: Filter::Value,
+            kept,
+        }),
+        position => Some(GameAsked::Query { position, kept }),
+    }
 }
 
 // A tier and an index are numbers without a sign and without zeros before them.
@@ -100,6 +105,20 @@ fn play_of<'a>(inner: &ArgMatches<'a>) -> GameAsked<'a> {
     }
 }
 
+// A question about the moves of a position, or of each position that is read.
+fn moves_of<'a>(name: &str, inner: &ArgMatches<'a>) -> Option<GameAsked<'a>> {
+    if inner.get_str("POSITION") != Some("-") {
+        return question_of(name, inner);
+    }
+    Some(GameAsked::Filter {
+        asked: Filter::Moves {
+            distinct: inner.get_flag("distinct"),
+            json: inner.get_flag("json"),
+        },
+        kept: kept_of(inner),
+    })
+}
+
 // A question about a position, or a search over all tables.
 fn question_of<'a>(name: &str, inner: &ArgMatches<'a>) -> Option<GameAsked<'a>> {
     let kept = kept_of(inner);
@@ -117,6 +136,7 @@ fn game_asked_of<'a>(name: &str, inner: &ArgMatches<'a>) -> Option<GameAsked<'a>
     match name {
         "solve" => solve_of(inner),
         "query" => query_of(inner),
+        "moves" => moves_of(name, inner),
         "at" => at_of(inner),
         "locate" => locate_of(inner),
         "analyse" => Some(GameAsked::Analyse {
@@ -128,8 +148,20 @@ fn game_asked_of<'a>(name: &str, inner: &ArgMatches<'a>) -> Option<GameAsked<'a>
     }
 }
 
+// How standard error is told how far a build is.
+fn telling_of(inner: &ArgMatches<'_>) -> Telling {
+    if inner.get_flag("quiet") {
+        Telling::Quiet
+    } else if inner.get_flag("progress") {
+        Telling::Lines
+    } else {
+        Telling::Terminal
+    }
+}
+
 fn asked_of<'a>(matches: &ArgMatches<'a>) -> Option<Asked<'a>> {
     match matches.subcommand() {
+        Some((name, inner)) if !are_plain(name, inner) => None,
         Some(("list", inner)) => Some(Asked::List {
             all: inner.get_flag("all"),
         }),
@@ -138,6 +170,7 @@ fn asked_of<'a>(matches: &ArgMatches<'a>) -> Option<Asked<'a>> {
         Some((name, inner)) => Some(Asked::Of {
             game: inner.get_str("GAME")?,
             asked: game_asked_of(name, inner)?,
+            telling: telling_of(inner),
         }),
         None => None,
     }
@@ -147,10 +180,35 @@ fn matched<'a>(alloc: Global, words: &'a [&'a str]) -> Result<ArgMatches<'a>, Er
     gamesman(alloc)?.try_get_matches_from(words)
 }
 
-/// What the command line says of a bad line: `None` where something else refuses the line.
+// Why a line asks for nothing whose words are those of a command.
+fn misfit(matches: &ArgMatches<'_>) -> Option<&'static str> {
+    let (name, inner) = matches.subcommand()?;
+    if !are_plain(name, inner) {
+        return Some("a number has no sign and no zero before it");
+    }
+    match name {
+        "find" => sought_of(inner).err(),
+        "ask" => asked_of_each(inner).err(),
+        _ => None,
+    }
+}
+
+// What the command line says of such a line.
+fn told(alloc: Global, why: &'static str) -> Option<Help> {
+    let mut command = gamesman(alloc).ok()?;
+    let error = command.error(ErrorKind::ValueValidation, why).ok();
+    drop(command);
+    Some(Help(error?))
+}
+
+/// What the command line says of a bad line: `None` where nothing is wrong with it, or memory runs out.
 pub fn what_is_wrong(alloc: Global, words: &[&str]) -> Option<Help> {
     match matched(alloc, words) {
-        Ok(_) => None,
+        Ok(matches) => {
+            let why = misfit(&matches);
+            drop(matches);
+            told(alloc, why?)
+        }
         Err(error) => Some(Help(error)),
     }
 }

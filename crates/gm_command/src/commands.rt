@@ -1,6 +1,7 @@
 //! The program's command line, by clap.
 
 use crate::lines::lines;
+use crate::relations::{barred_by, needed_by, values_of};
 use crate::words::{Kind, Line, Word};
 use clap::{Arg, ArgAction, Command, value_parser};
 use std::alloc::{AllocError, Global};
@@ -21,7 +22,20 @@ fn with_number<'a>(
     }
 }
 
-// A word of a command.
+// An argument with what its words can be, and with which others it goes. The help says itself what they can be.
+fn related<'a>(arg: Arg<'a>, name: &str) -> Result<Arg<'a>, AllocError> {
+    let named = match values_of(name) {
+        Some(values) => arg.value_parser(values).hide_possible_values(true),
+        None => arg,
+    };
+    let needing = match needed_by(name) {
+        Some(needed) => named.requires_arg(needed)?,
+        None => named,
+    };
+    needing.conflicts_with_all(barred_by(name))
+}
+
+// A word of a command, by itself.
 fn arg_of<'a>(alloc: Global, word: &'static Word) -> Arg<'a> {
     let arg = Arg::new(alloc, word.name).help(word.help);
     match word.kind {
@@ -46,7 +60,7 @@ fn add_words<'a>(
     all: &mut Vec<Arg<'a>>,
 ) -> Result<(), AllocError> {
     for word in words {
-        all.push(arg_of(alloc, word))?;
+        all.push(related(arg_of(alloc, word), word.name)?)?;
     }
     Ok(())
 }

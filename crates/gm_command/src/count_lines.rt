@@ -1,6 +1,6 @@
 //! The words of `counts` and `longest`, with what `--help` says of them.
 
-use crate::words::{FOLDER, GAME, JSON, Kind, Line, MOST, REACHED, READ_ONLY, Word};
+use crate::words::{FOLDER, GAME, JSON, Kind, Line, MOST, QUIET, REACHED, READ_ONLY, Word};
 
 pub(crate) static COUNTS: Line = Line {
     name: "counts",
@@ -28,6 +28,7 @@ pub(crate) static COUNTS: Line = Line {
         JSON,
         FOLDER,
         READ_ONLY,
+        QUIET,
     ],
 };
 
@@ -51,5 +52,6 @@ pub(crate) static LONGEST: Line = Line {
         },
         FOLDER,
         READ_ONLY,
+        QUIET,
     ],
 };

@@ -3,7 +3,8 @@
 use crate::requests::{PositionAsked, Question};
 use clap::ArgMatches;
 
-fn limit_of(inner: &ArgMatches<'_>) -> usize {
+/// The limit that a line gives, or none.
+pub(crate) fn limit_of(inner: &ArgMatches<'_>) -> usize {
     match inner.get_one::<u32>("limit") {
         Some(limit) => limit as usize,
         None => usize::MAX,

@@ -1,6 +1,6 @@
 //! The words of `find`, with what `--help` says of them.
 
-use crate::words::{FOLDER, GAME, JSON, Kind, Line, MOST, REACHED, READ_ONLY, Word};
+use crate::words::{FOLDER, GAME, JSON, Kind, Line, MOST, QUIET, REACHED, READ_ONLY, Word};
 
 const VALUE: Word = Word {
     name: "value",
@@ -66,6 +66,34 @@ const PAGE: Word = Word {
     help: "Writes one page of HTML, for any browser or for print: a diagram of each position, and its solution to unfold",
 };
 
+const RANDOM: Word = Word {
+    name: "random",
+    kind: Kind::Number {
+        shown: "N",
+        least: 1,
+        most: MOST,
+        default: None,
+    },
+    help: "So many of them by chance, from 1 on, each choice as likely as any other: in place of a limit",
+};
+
+const SEED: Word = Word {
+    name: "seed",
+    kind: Kind::Number {
+        shown: "N",
+        least: 0,
+        most: MOST,
+        default: None,
+    },
+    help: "The number that chance goes by, 0 where it is not given: the same for the same number",
+};
+
+const SHOW: Word = Word {
+    name: "show",
+    kind: Kind::Flag,
+    help: "Draws the board of each above its line",
+};
+
 pub(crate) static FIND: Line = Line {
     name: "find",
     alias: None,
@@ -86,9 +114,13 @@ pub(crate) static FIND: Line = Line {
         MIN_MOVES,
         REACHED,
         LIMIT,
+        RANDOM,
+        SEED,
+        SHOW,
         JSON,
         PAGE,
         FOLDER,
         READ_ONLY,
+        QUIET,
     ],
 };

@@ -4,6 +4,7 @@
 pub mod asked;
 pub mod commands;
 mod count_lines;
+pub mod defaults;
 mod explore_commands;
 mod find_line;
 mod lines;
@@ -11,6 +12,7 @@ pub mod manual;
 pub mod names;
 mod numbers;
 mod place_lines;
+mod relations;
 pub mod requests;
 mod search_commands;
 mod words;

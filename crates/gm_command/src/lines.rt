@@ -1,9 +1,10 @@
 //! The commands of the program and the words of each, with what `--help` says of them.
 
 use crate::count_lines::{COUNTS, LONGEST};
+use crate::defaults::{PIECE_WORD, SHARDS_WORD, WORKERS_WORD};
 use crate::find_line::FIND;
 use crate::place_lines::{AT, LOCATE, WHY};
-use crate::words::{FOLDER, GAME, JSON, Kind, Line, MOST, READ_ONLY, START, Word};
+use crate::words::{DISTINCT, FOLDER, GAME, JSON, Kind, Line, MOST, QUIET, READ_ONLY, START, Word};
 
 static LIST: Line = Line {
     name: "list",
@@ -35,7 +36,7 @@ static SOLVE: Line = Line {
                 shown: "N",
                 least: 1,
                 most: 16,
-                default: Some("4"),
+                default: Some(WORKERS_WORD),
             },
             help: "How many threads deliver, 1 to 16",
         },
@@ -45,7 +46,7 @@ static SOLVE: Line = Line {
                 shown: "N",
                 least: 1,
                 most: 4,
-                default: Some("4"),
+                default: Some(SHARDS_WORD),
             },
             help: "Into how many parts a tier is split, 1 to 4",
         },
@@ -55,7 +56,7 @@ static SOLVE: Line = Line {
                 shown: "N",
                 least: 1,
                 most: 4096,
-                default: Some("64"),
+                default: Some(PIECE_WORD),
             },
             help: "How many notes a thread takes at a time, 1 to 4096",
         },
@@ -64,6 +65,7 @@ static SOLVE: Line = Line {
             kind: Kind::Flag,
             help: "Tells on standard error, a few times a second, how far it is",
         },
+        QUIET,
     ],
 };
 
@@ -81,6 +83,7 @@ static QUERY: Line = Line {
         },
         FOLDER,
         READ_ONLY,
+        QUIET,
     ],
 };
 
@@ -91,15 +94,16 @@ static MOVES: Line = Line {
     examples: "Examples:\n  gamesman moves tictactoe xo.......\n  gamesman moves dao --distinct --folder dao-tables",
     words: &[
         GAME,
-        START,
         Word {
-            name: "distinct",
-            kind: Kind::Flag,
-            help: "Of moves that lead to positions that are the same but for symmetry, the first alone",
+            name: "POSITION",
+            kind: Kind::Optional,
+            help: "The position; the start where it is left out; `-` reads positions, a line each",
         },
+        DISTINCT,
         JSON,
         FOLDER,
         READ_ONLY,
+        QUIET,
     ],
 };
 
@@ -124,6 +128,7 @@ static LINE: Line = Line {
         JSON,
         FOLDER,
         READ_ONLY,
+        QUIET,
     ],
 };
 
@@ -147,6 +152,7 @@ static SHOW: Line = Line {
         },
         FOLDER,
         READ_ONLY,
+        QUIET,
     ],
 };
 
@@ -170,6 +176,7 @@ static PAGE: Line = Line {
         },
         FOLDER,
         READ_ONLY,
+        QUIET,
     ],
 };
 
@@ -177,8 +184,32 @@ static ASK: Line = Line {
     name: "ask",
     alias: None,
     about: "Reads positions, a line each, and answers each with a line of JSON: its value and what its moves are worth",
-    examples: "Examples:\n  echo 10 | gamesman ask countdown\n  echo x..o.xo..ox.o..x | gamesman ask dao --folder dao-tables --read-only",
-    words: &[GAME, FOLDER, READ_ONLY],
+    examples: "Examples:\n  echo 10 | gamesman ask countdown\n  echo 10 | gamesman ask countdown --values --with canonical,best",
+    words: &[
+        GAME,
+        Word {
+            name: "values",
+            kind: Kind::Flag,
+            help: "Leaves out the moves",
+        },
+        DISTINCT,
+        Word {
+            name: "with",
+            kind: Kind::Text {
+                shown: "WORDS",
+                required: false,
+            },
+            help: "Tells more of each position: canonical, parents, symmetric and best, with commas between them",
+        },
+        Word {
+            name: "ready",
+            kind: Kind::Flag,
+            help: "Writes a first line once the tables are there",
+        },
+        FOLDER,
+        READ_ONLY,
+        QUIET,
+    ],
 };
 
 static ANALYSE: Line = Line {
@@ -186,7 +217,7 @@ static ANALYSE: Line = Line {
     alias: Some("analyze"),
     about: "Counts the positions of a game by value and remoteness, one line of JSON for each tier",
     examples: "Examples:\n  gamesman analyse countdown\n  gamesman analyse dao --folder dao-tables",
-    words: &[GAME, FOLDER, READ_ONLY],
+    words: &[GAME, FOLDER, READ_ONLY, QUIET],
 };
 
 static CHECK: Line = Line {
@@ -201,6 +232,7 @@ static CHECK: Line = Line {
             kind: Kind::Word,
             help: "The folder of the tables",
         },
+        QUIET,
     ],
 };
 
@@ -213,6 +245,7 @@ static PLAY: Line = Line {
         GAME,
         FOLDER,
         READ_ONLY,
+        QUIET,
         Word {
             name: "second",
             kind: Kind::Flag,

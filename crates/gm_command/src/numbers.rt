@@ -1,16 +1,42 @@
 //! Numbers of a command line, without a sign and without zeros before them.
 
+use crate::lines::lines;
+use crate::words::{Kind, Line};
+use clap::ArgMatches;
 use gm_find::sought::Span;
 
-/// A number of at most 4,294,967,295, in decimal digits.
-pub(crate) fn number_of(text: &str) -> Option<u32> {
+// Whether a text that may be a number has no sign and no zero before it.
+fn is_plain(text: &str) -> bool {
     let digits = text.as_bytes();
-    let plain = match digits.first() {
+    match digits.first() {
         Some(b'0') => digits.len() == 1,
         Some(first) => first.is_ascii_digit(),
         None => false,
-    };
-    if plain {
+    }
+}
+
+// Whether all numbers of a command are written so.
+fn are_plain_in(line: &Line, inner: &ArgMatches<'_>) -> bool {
+    line.words.iter().all(|word| match word.kind {
+        Kind::Number { .. } | Kind::Tier => match inner.get_str(word.name) {
+            Some(text) => is_plain(text),
+            None => true,
+        },
+        _ => true,
+    })
+}
+
+/// Whether all numbers of the command of this name are written without a sign and without zeros before them.
+pub(crate) fn are_plain(name: &str, inner: &ArgMatches<'_>) -> bool {
+    match lines().iter().find(|line| line.name == name) {
+        Some(line) => are_plain_in(line, inner),
+        None => true,
+    }
+}
+
+/// A number of at most 4,294,967,295, in decimal digits.
+pub(crate) fn number_of(text: &str) -> Option<u32> {
+    if is_plain(text) {
         text.parse::<u32>().ok()
     } else {
         None

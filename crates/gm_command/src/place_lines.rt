@@ -1,6 +1,6 @@
 //! The words of `at`, `locate` and `why`, with what `--help` says of them.
 
-use crate::words::{FOLDER, GAME, Kind, Line, READ_ONLY, START, Word};
+use crate::words::{FOLDER, GAME, Kind, Line, QUIET, READ_ONLY, START, Word};
 
 pub(crate) static AT: Line = Line {
     name: "at",
@@ -21,6 +21,7 @@ pub(crate) static AT: Line = Line {
         },
         FOLDER,
         READ_ONLY,
+        QUIET,
     ],
 };
 
@@ -44,5 +45,5 @@ pub(crate) static WHY: Line = Line {
     alias: None,
     about: "Lists the moves of a position, the best first: what each is worth, the best answer to it, and what is left, with its value",
     examples: "Examples:\n  gamesman why countdown 9\n  gamesman why tictactoe ox.o.....",
-    words: &[GAME, START, FOLDER, READ_ONLY],
+    words: &[GAME, START, FOLDER, READ_ONLY, QUIET],
 };

@@ -5,7 +5,8 @@ use crate::manual::Manual;
 use gm_analyse::among::Among;
 use gm_analyse::bars::Form as CountsForm;
 use gm_best::side::Side;
-use gm_find::sought::Sought;
+use gm_find::sought::{Choice, Sought};
+use gm_json::asked::Asked as PositionJson;
 use gm_solver::plan::Plan;
 
 /// Where the tables of a game are kept.
@@ -41,6 +42,15 @@ pub struct PositionAsked<'a> {
     pub question: Question,
 }
 
+/// What is asked of each position that is read.
+#[derive(Clone, Copy, Debug, PartialEq, Eq)]
+pub enum Filter {
+    /// Its value.
+    Value,
+    /// What each of its moves is worth, as `Question::Moves`.
+    Moves { distinct: bool, json: bool },
+}
+
 /// How positions that are found are written.
 #[derive(Clone, Copy, Debug, PartialEq, Eq)]
 pub enum Form {
@@ -50,6 +60,8 @@ pub enum Form {
     Json,
     /// A page of diagrams with their solutions.
     Sheet,
+    /// A row for each, below its board.
+    Boards,
 }
 
 /// Positions that are looked for.
@@ -60,8 +72,8 @@ pub struct PositionsSought {
     pub tier: Option<u64>,
     /// Whether only positions that play from the start reaches are looked for.
     pub reached: bool,
-    /// The greatest number of positions to answer.
-    pub limit: usize,
+    /// Which of them are answered.
+    pub choice: Choice,
     /// How they are written.
     pub form: Form,
 }
@@ -78,6 +90,15 @@ pub struct CountsAsked {
     pub form: CountsForm,
 }
 
+/// A service that is asked for.
+#[derive(Clone, Copy, Debug, PartialEq, Eq)]
+pub struct AskAsked {
+    /// What is asked of each position.
+    pub asked: PositionJson,
+    /// Whether a first line tells that the tables are there.
+    pub ready: bool,
+}
+
 /// What is asked of all tables of a game.
 #[derive(Clone, Copy, Debug, PartialEq, Eq)]
 pub enum Search {
@@ -87,7 +108,7 @@ pub enum Search {
     /// The longest wins and the longest losses, of each at most this many; on request, of those that play reaches.
     Longest { reached: bool, limit: usize },
     /// An answer to each position that is read.
-    Ask,
+    Ask(AskAsked),
 }
 
 /// A game that is to be solved into a folder.
@@ -95,8 +116,16 @@ pub enum Search {
 pub struct SolveAsked<'a> {
     pub folder: &'a str,
     pub plan: Plan,
-    /// Whether lines on standard error say how far the build is.
-    pub progress: bool,
+}
+
+/// How standard error is told, while a game is built or checked, how far that is.
+#[derive(Clone, Copy, Debug, PartialEq, Eq)]
+pub enum Telling {
+    /// By one line that is gone at the end, where standard error is a terminal.
+    Terminal,
+    /// By lines, wherever they go.
+    Lines,
+    Quiet,
 }
 
 /// A session that is asked for.
@@ -115,6 +144,11 @@ pub enum GameAsked<'a> {
     Solve(SolveAsked<'a>),
     Query {
         position: &'a str,
+        kept: Kept<'a>,
+    },
+    /// Questions about positions that are read, a line each.
+    Filter {
+        asked: Filter,
         kept: Kept<'a>,
     },
     /// What stands at a tier and index.
@@ -145,14 +179,22 @@ pub enum GameAsked<'a> {
         asked: PlayAsked<'a>,
         kept: Kept<'a>,
     },
+    /// How its positions and moves are written, for a person at a terminal. No line of words asks for this alone.
+    Naming,
 }
 
 /// What a line of words asks for.
 #[derive(Clone, Copy)]
 pub enum Asked<'a> {
     /// The names of the games, with those that came later if all are asked for.
-    List { all: bool },
-    Of { game: &'a str, asked: GameAsked<'a> },
+    List {
+        all: bool,
+    },
+    Of {
+        game: &'a str,
+        asked: GameAsked<'a>,
+        telling: Telling,
+    },
     /// A text about the program.
     Manual(Manual),
 }

@@ -1,12 +1,14 @@
 //! What a line says that asks about all tables, or for the service that answers positions.
 
+use crate::explore_commands::limit_of;
 use crate::numbers::span_of;
-use crate::requests::{CountsAsked, Form, PositionsSought, Search};
+use crate::requests::{AskAsked, CountsAsked, Form, PositionsSought, Search};
 use clap::ArgMatches;
 use gm_analyse::among::Among;
 use gm_analyse::bars::Form as CountsForm;
-use gm_find::sought::Sought;
+use gm_find::sought::{Choice, Sought, Span};
 use gm_game::position::Value;
+use gm_json::asked::{Asked, With};
 
 fn value_of(word: &str) -> Option<Value> {
     match word {
@@ -18,85 +20,163 @@ fn value_of(word: &str) -> Option<Value> {
     }
 }
 
-// Whether these ask for what a position of the value can have: a remoteness and moves that keep it.
-fn fits(sought: Sought) -> bool {
+// Why no position can have what these ask for, if none can.
+fn misfit(sought: Sought) -> Option<&'static str> {
     let counted = sought.only_move || sought.whole_line;
-    let by_value = match sought.value {
-        Value::Draw => sought.remoteness.is_none() && !counted,
-        Value::Lose => !counted,
-        Value::Tie => !sought.whole_line,
-        Value::Win => true,
-    };
-    by_value && (!sought.distinct || counted || sought.min_moves > 0)
+    if sought.value == Value::Draw && sought.remoteness.is_some() {
+        Some("a draw has no remoteness")
+    } else if sought.whole_line && sought.value != Value::Win {
+        Some("'--whole-line' goes with '--value win' alone")
+    } else if sought.only_move && !matches!(sought.value, Value::Win | Value::Tie) {
+        Some("'--only-move' goes with '--value win' and '--value tie' alone")
+    } else if sought.distinct && !counted && sought.min_moves == 0 {
+        Some("'--distinct' goes with '--only-move', '--whole-line' or '--min-moves'")
+    } else {
+        None
+    }
 }
 
-// What is sought: a remoteness can't be given with draw; an only move can be asked for with win and tie alone, and a whole line with win alone; moves can be
-// told apart by symmetry only where they are counted.
-fn sought_of(inner: &ArgMatches<'_>) -> Option<Sought> {
-    let remoteness = match inner.get_str("remoteness") {
-        Some(text) => Some(span_of(text)?),
-        None => None,
+// The span of remoteness that is asked for, if one is.
+fn remoteness_of(inner: &ArgMatches<'_>) -> Result<Option<Span>, &'static str> {
+    let Some(text) = inner.get_str("remoteness") else {
+        return Ok(None);
+    };
+    match span_of(text) {
+        Some(span) => Ok(Some(span)),
+        None => Err(
+            "a remoteness is N, or A..B with A not above B, without signs and without zeros before a number",
+        ),
+    }
+}
+
+/// What is sought, or why nothing can be: a draw has no remoteness; an only move can be asked for with win and tie alone, and a whole line with win alone;
+/// moves can be told apart by symmetry only where they are counted.
+pub(crate) fn sought_of(inner: &ArgMatches<'_>) -> Result<Sought, &'static str> {
+    let remoteness = remoteness_of(inner)?;
+    let Some(value) = inner.get_str("value").and_then(value_of) else {
+        return Err("a value is win, tie, draw or lose");
     };
     let sought = Sought {
-        value: value_of(inner.get_str("value")?)?,
+        value,
         remoteness,
         only_move: inner.get_flag("only-move"),
         whole_line: inner.get_flag("whole-line"),
         distinct: inner.get_flag("distinct"),
         min_moves: inner.get_one::<u32>("min-moves").unwrap_or(0) as usize,
     };
-    if fits(sought) { Some(sought) } else { None }
+    match misfit(sought) {
+        Some(why) => Err(why),
+        None => Ok(sought),
+    }
 }
 
-// How positions are written: not in two ways at once.
-fn form_of(inner: &ArgMatches<'_>) -> Option<Form> {
-    match (inner.get_flag("json"), inner.get_flag("page")) {
-        (false, false) => Some(Form::Rows),
-        (true, false) => Some(Form::Json),
-        (false, true) => Some(Form::Sheet),
-        (true, true) => None,
+// Which of the positions are answered: so many by chance, or the first up to a limit.
+fn choice_of(inner: &ArgMatches<'_>) -> Choice {
+    match inner.get_one::<u32>("random") {
+        Some(number) => Choice::Random {
+            number: number as usize,
+            seed: u64::from(inner.get_one::<u32>("seed").unwrap_or(0)),
+        },
+        None => Choice::First(limit_of(inner)),
+    }
+}
+
+// How positions are written: the command line lets no two of these words through.
+fn form_of(inner: &ArgMatches<'_>) -> Form {
+    if inner.get_flag("json") {
+        Form::Json
+    } else if inner.get_flag("page") {
+        Form::Sheet
+    } else if inner.get_flag("show") {
+        Form::Boards
+    } else {
+        Form::Rows
     }
 }
 
 fn positions_of(inner: &ArgMatches<'_>) -> Option<PositionsSought> {
     Some(PositionsSought {
-        sought: sought_of(inner)?,
+        sought: sought_of(inner).ok()?,
         tier: inner.get_one::<u64>("tier"),
         reached: inner.get_flag("reached"),
-        limit: limit_of(inner),
-        form: form_of(inner)?,
+        choice: choice_of(inner),
+        form: form_of(inner),
     })
 }
 
-// The most positions that are listed.
-fn limit_of(inner: &ArgMatches<'_>) -> usize {
-    match inner.get_one::<u32>("limit") {
-        Some(limit) => limit as usize,
-        None => usize::MAX,
+// How counts are written: the command line lets no two of these words through.
+fn counts_form_of(inner: &ArgMatches<'_>) -> CountsForm {
+    if inner.get_flag("csv") {
+        CountsForm::Csv
+    } else if inner.get_flag("json") {
+        CountsForm::Json
+    } else {
+        CountsForm::Bars
     }
 }
 
-// How counts are written: not in two ways at once.
-fn counts_form_of(inner: &ArgMatches<'_>) -> Option<CountsForm> {
-    match (inner.get_flag("csv"), inner.get_flag("json")) {
-        (false, false) => Some(CountsForm::Bars),
-        (true, false) => Some(CountsForm::Csv),
-        (false, true) => Some(CountsForm::Json),
-        (true, true) => None,
-    }
-}
-
-fn counts_of(inner: &ArgMatches<'_>) -> Option<CountsAsked> {
+fn counts_of(inner: &ArgMatches<'_>) -> CountsAsked {
     let among = if inner.get_flag("legal") {
         Among::Legal
     } else {
         Among::Canonical
     };
-    Some(CountsAsked {
+    CountsAsked {
         among,
         by_tier: inner.get_flag("by-tier"),
         reached: inner.get_flag("reached"),
-        form: counts_form_of(inner)?,
+        form: counts_form_of(inner),
+    }
+}
+
+// One word more of what is told beside a position's value and moves; none for an unknown word, and for one that has come before.
+fn with_word(with: With, word: &str) -> Option<With> {
+    match word {
+        "canonical" if !with.canonical => Some(With {
+            canonical: true,
+            ..with
+        }),
+        "parents" if !with.parents => Some(With {
+            parents: true,
+            ..with
+        }),
+        "symmetric" if !with.symmetric => Some(With {
+            symmetric: true,
+            ..with
+        }),
+        "best" if !with.best => Some(With { best: true, ..with }),
+        _ => None,
+    }
+}
+
+// What is told beside a position's value and moves: words with commas between them, each once.
+fn with_of(text: &str) -> Option<With> {
+    let mut with = Asked::PLAIN.with;
+    for word in text.split(',') {
+        with = with_word(with, word)?;
+    }
+    Some(with)
+}
+
+/// What is asked of each position, or why nothing can be: the words of `--with` are known ones, each once.
+pub(crate) fn asked_of_each(inner: &ArgMatches<'_>) -> Result<Asked, &'static str> {
+    let with = match inner.get_str("with") {
+        Some(text) => with_of(text).ok_or(
+            "the words of '--with' are canonical, parents, symmetric and best, each once, with commas between them",
+        )?,
+        None => Asked::PLAIN.with,
+    };
+    Ok(Asked {
+        values: inner.get_flag("values"),
+        distinct: inner.get_flag("distinct"),
+        with,
+    })
+}
+
+fn ask_of(inner: &ArgMatches<'_>) -> Option<AskAsked> {
+    Some(AskAsked {
+        asked: asked_of_each(inner).ok()?,
+        ready: inner.get_flag("ready"),
     })
 }
 
@@ -104,12 +184,12 @@ fn counts_of(inner: &ArgMatches<'_>) -> Option<CountsAsked> {
 pub fn search_of(name: &str, inner: &ArgMatches<'_>) -> Option<Search> {
     match name {
         "find" => Some(Search::Find(positions_of(inner)?)),
-        "counts" => Some(Search::Counts(counts_of(inner)?)),
+        "counts" => Some(Search::Counts(counts_of(inner))),
         "longest" => Some(Search::Longest {
             reached: inner.get_flag("reached"),
             limit: limit_of(inner),
         }),
-        "ask" => Some(Search::Ask),
+        "ask" => Some(Search::Ask(ask_of(inner)?)),
         _ => None,
     }
 }

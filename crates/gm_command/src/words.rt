@@ -73,6 +73,12 @@ pub(crate) const READ_ONLY: Word = Word {
     help: "Reads the folder and writes nothing: each of its tables has to be there and right",
 };
 
+pub(crate) const QUIET: Word = Word {
+    name: "quiet",
+    kind: Kind::Flag,
+    help: "Tells nothing of how far it is, as it else does where standard error is a terminal",
+};
+
 pub(crate) const JSON: Word = Word {
     name: "json",
     kind: Kind::Flag,
@@ -83,4 +89,10 @@ pub(crate) const REACHED: Word = Word {
     name: "reached",
     kind: Kind::Flag,
     help: "Those alone that play from the start can reach",
+};
+
+pub(crate) const DISTINCT: Word = Word {
+    name: "distinct",
+    kind: Kind::Flag,
+    help: "Of moves that lead to positions that are the same but for symmetry, the first alone",
 };

@@ -12,3 +12,4 @@ pub mod PictureLaws
 pub mod ShowTexts
 pub mod Diagrams
 pub mod Spots
+pub mod Sights

@@ -50,5 +50,8 @@ hare_naming =
 abbrev pub countdown_naming : List ℕ
 countdown_naming = codes "A position is a number. A move is how much is\ntaken from it.\n"
 
+abbrev pub takeaway_naming : List ℕ
+takeaway_naming = codes "A position is the number of counters that are\nleft. A move is how many are taken.\n"
+
 abbrev pub wheel_naming : List ℕ
 wheel_naming = codes "A position is a number. A move is the number that\nit leads to.\n"

@@ -1,5 +1,5 @@
 -- The pictures of the games keep the laws of pictures.
-use Rattle.std.proofs.Common.{◌≡◌, ℕ, ◌+◌, ◌*◌, ◌/◌, ◌%◌, ◌<◌, ◌≤◌, min, Bool, true, ◌&&◌, eqb, ltb, eq-eqb, ltb-true, List, [], ◌∷◌, map, length, refl, sym, subst, arith, inl, inr}
+use Rattle.std.proofs.Common.{◌≡◌, ◌↔◌, ℕ, ◌+◌, ◌*◌, ◌/◌, ◌%◌, ◌<◌, ◌≤◌, min, Bool, true, ◌&&◌, eqb, ltb, eq-eqb, ltb-true, List, [], ◌∷◌, map, length, refl, sym, subst, arith, inl, inr}
 use Rattle.std.specs.Fmt.{decimal}
 use Rattle.std.specs.List.{Contains, filter, list_all, range_with_len}
 use Rattle.std.proofs.lemmas.Bool.{cases_Bool, cond-true, cond-false, ne_eqb}
@@ -52,17 +52,18 @@ use Rattle.gm_hare.specs.Texts.{point_name, step_text as hare_step, position_tex
 use Rattle.gm_hare.specs.laws.MoveFacts.{move_in as hunt_in, step_below}
 use Rattle.gm_hare.specs.laws.PointFacts.{is_step}
 use Rattle.gm_hare.specs.laws.TextLaws.{text_length as hunt_length}
+use Rattle.gm_takeaway.specs.Takeaway.{takeaway, takeaway_name}
 use Rattle.gm_toys.specs.Countdown.{countdown, countdown_name}
-use Rattle.gm_toys.specs.Subtraction.{number_text, step_text as number_step}
+use Rattle.gm_toys.specs.Subtraction.{subtraction, number_text, step_text as number_step}
 use Rattle.gm_toys.specs.Wheel.{wheel, target_text}
-use Rattle.gm_toys.specs.laws.SubtractionLaws.{legal_in as countdown_in, legal_from as countdown_from, range_in}
+use Rattle.gm_toys.specs.laws.SubtractionLaws.{legal_in as number_in, legal_from as number_from, range_in}
 use Rattle.gm_toys.specs.laws.WheelLaws.{wheel_legal_in, wheel_legal_from, target_in}
 use Rattle.gm_draw.specs.declared.pictured.Style.TheVariants.{Row, Counters, Stones, Discs, Letters}
 use Rattle.gm_draw.specs.Pictures.{nine_points, dao_board, tactix_board, ring_board, pong_board, hare_board}
 use Rattle.gm_draw.specs.Pictured.{IsBoard, IsBoardOf, IsRow, IsPictured}
-use Rattle.gm_draw.specs.Points.{square_points, ring_points, pong_points, hare_points, number_points, countdown_board, wheel_board, nine_style, IsPointWord}
+use Rattle.gm_draw.specs.Points.{square_points, ring_points, pong_points, hare_points, number_points, countdown_board, takeaway_board, wheel_board, nine_style, IsPointWord}
 use Rattle.gm_draw.specs.Templates.{filled}
-use Rattle.gm_draw.specs.PointLaws.{named_point, one_point, two_points, AreNames, IsPlaced, square_names_3, square_names_4, square_names, ring_names, pong_names, hare_names, countdown_names, wheel_names, nine_placed, dao_placed, tactix_placed, ring_placed, pong_placed, hare_placed}
+use Rattle.gm_draw.specs.PointLaws.{named_point, one_point, two_points, AreNames, IsPlaced, square_names_3, square_names_4, square_names, ring_names, pong_names, hare_names, countdown_names, takeaway_names, wheel_names, nine_placed, dao_placed, tactix_placed, ring_placed, pong_placed, hare_placed}
 
 -- a board with as many places as there are points
 board_with : (r : Rules) (shown : Position → List ℕ) (board : List ℕ) (points : List (List ℕ)) (n : ℕ) → length points ≡ n → IsPlaced board n
@@ -267,19 +268,27 @@ hare_pictured =
     }
 
 -- ---- rows of numbers
+subtraction_positions : (name : List ℕ) (most n : ℕ) (text : List ℕ) → Contains (map decimal (range_with_len 0 (n + 1))) text ↔ ((p : Position) × ((subtraction name most n).is_legal p ≡ true) × (number_text p ≡ text))
+subtraction_positions name most n text = (
+  λ c. (let (k, has, e) = contains_unmap decimal (range_with_len 0 (n + 1)) text c in let low = range_below (n + 1) k has in (at 0 k, number_from name most n 0 k refl (omega arith), e)),
+  λ h. (let (p, l, e) = h in let (t, i) = number_in name most n p l in subst (Contains (map decimal (range_with_len 0 (n + 1)))) e (named_point decimal (n + 1) p.index (omega arith))),
+)
+
 countdown_is_row : IsRow (countdown 10) number_text countdown_board (number_points 11)
 unfolding countdown_board number_points
-countdown_is_row = record {
-  no_places = refl;
-  positions = λ text. (
-    λ c. (let (k, has, e) = contains_unmap decimal (range_with_len 0 11) text c in let low = range_below 11 k has in (at 0 k, countdown_from countdown_name 2 10 0 k refl (omega arith), e)),
-    λ h. (let (p, l, e) = h in let (t, i) = countdown_in countdown_name 2 10 p l in subst (Contains (map decimal (range_with_len 0 11))) e (named_point decimal 11 p.index (omega arith))),
-  );
-}
+countdown_is_row = record { no_places = refl; positions = subtraction_positions countdown_name 2 10 }
+
+takeaway_is_row : IsRow takeaway number_text takeaway_board (number_points 13)
+unfolding takeaway_board number_points
+takeaway_is_row = record { no_places = refl; positions = subtraction_positions takeaway_name 3 12 }
 
 countdown_words : (p : Position) (m : ℕ) → (countdown 10).is_legal p ≡ true → Contains ((countdown 10).moves p) m → IsPointWord (number_points 11) (number_step p m)
 unfolding number_points
 countdown_words p m l c = let (low, high) = range_in 1 (min 2 p.index) m c in one_point decimal 11 m (omega arith)
+
+takeaway_words : (p : Position) (m : ℕ) → takeaway.is_legal p ≡ true → Contains (takeaway.moves p) m → IsPointWord (number_points 13) (number_step p m)
+unfolding number_points
+takeaway_words p m l c = let (low, high) = range_in 1 (min 3 p.index) m c in one_point decimal 13 m (omega arith)
 
 pub countdown_pictured : (drawn : Position → List ℕ) → IsPictured (countdown 10) number_text number_step drawn Row countdown_board (number_points 11)
 countdown_pictured drawn =
@@ -289,6 +298,16 @@ countdown_pictured drawn =
       apart = names.apart;
       words = countdown_words;
       board_is = countdown_is_row;
+    }
+
+pub takeaway_pictured : (drawn : Position → List ℕ) → IsPictured takeaway number_text number_step drawn Row takeaway_board (number_points 13)
+takeaway_pictured drawn =
+    let names = takeaway_names in record {
+      few = omega (arith, names.many);
+      named = names.named;
+      apart = names.apart;
+      words = takeaway_words;
+      board_is = takeaway_is_row;
     }
 
 wheel_is_row : IsRow wheel number_text wheel_board (number_points 10)

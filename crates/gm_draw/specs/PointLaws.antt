@@ -81,6 +81,10 @@ pub countdown_names : AreNames (number_points 11) 11
 unfolding number_points digits
 countdown_names = record { many = refl; small = omega arith; named = refl; apart = refl }
 
+pub takeaway_names : AreNames (number_points 13) 13
+unfolding number_points digits
+takeaway_names = record { many = refl; small = omega arith; named = refl; apart = refl }
+
 pub wheel_names : AreNames (number_points 10) 10
 unfolding number_points digits
 wheel_names = record { many = refl; small = omega arith; named = refl; apart = refl }

@@ -42,6 +42,9 @@ number_points n = map decimal (range_with_len 0 n)
 unfoldable pub countdown_board : List ℕ
 countdown_board = codes "0 1 2 3 4 5 6 7 8 9 10"
 
+unfoldable pub takeaway_board : List ℕ
+takeaway_board = codes "0 1 2 3 4 5 6 7 8 9 10 11 12"
+
 unfoldable pub wheel_board : List ℕ
 wheel_board = codes "0 1 2 3 4 5 6 7 8 9"
 

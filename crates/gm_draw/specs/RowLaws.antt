@@ -6,14 +6,16 @@ use Rattle.std.proofs.lemmas.Bool.Decides.{nat_tests}
 use Rattle.gm_game.proofs.SetLemmas.{same_position}
 use Rattle.gm_board.specs.laws.Lists.{contains_range, and_left, and_right}
 use Rattle.gm_board.specs.Permutations.{all_at}
+use Rattle.gm_takeaway.specs.Takeaway.{takeaway, takeaway_name}
 use Rattle.gm_toys.specs.Countdown.{countdown, countdown_name}
+use Rattle.gm_toys.specs.Subtraction.{subtraction}
 use Rattle.gm_toys.specs.laws.SubtractionLaws.{legal_in}
 use Rattle.gm_toys.specs.Wheel.{wheel}
 use Rattle.gm_toys.specs.laws.WheelLaws.{wheel_legal_in}
 use Rattle.gm_draw.specs.declared.drawn.TheConstants.{DRAWING}
 use Rattle.gm_draw.specs.Drawn.{IsDrawn}
 use Rattle.gm_draw.specs.Names.{player_moves}
-use Rattle.gm_draw.specs.Rows.{countdown_row, wheel_row}
+use Rattle.gm_draw.specs.Rows.{countdown_row, takeaway_row, wheel_row}
 
 -- how many spaces stand before the bracket
 abbrev spaces : List ℕ → ℕ
@@ -26,6 +28,10 @@ row_test row i = eqb (spaces (row i)) i && leb (length (row i)) 256
 countdown_table : list_all (row_test countdown_row) (range_with_len 0 11) ≡ true
 unfolding countdown_row
 countdown_table = refl
+
+takeaway_table : list_all (row_test takeaway_row) (range_with_len 0 13) ≡ true
+unfolding takeaway_row
+takeaway_table = refl
 
 wheel_table : list_all (row_test wheel_row) (range_with_len 0 10) ≡ true
 unfolding wheel_row
@@ -44,14 +50,20 @@ module _ (row : ℕ → List ℕ) (n : ℕ) (table : list_all (row_test row) (ra
   row_once : (i j : ℕ) → i < n → j < n → row i ≡ row j → i ≡ j
   row_once i j l m e = sym (row_back i l) ∙ ap spaces e ∙ row_back j m
 
+  subtraction_drawn : (name : List ℕ) (most last : ℕ) → n ≡ last + 1 → IsDrawn (subtraction name most last) (λ p. row p.index) player_moves
+  subtraction_drawn name most last is = record {
+    drawn_fits = λ p l. let (t, i) = legal_in name most last p l in row_short p.index (omega arith);
+    drawn_once = λ p q l k e m.
+        let (t, i) = legal_in name most last p l in
+        let (u, j) = legal_in name most last q k in
+        same_position p q (t ∙ sym u) (row_once p.index q.index (omega arith) (omega arith) e);
+  }
+
 pub countdown_drawn : IsDrawn (countdown 10) (λ p. countdown_row p.index) player_moves
-countdown_drawn = record {
-  drawn_fits = λ p l. let (t, i) = legal_in countdown_name 2 10 p l in row_short countdown_row 11 countdown_table p.index (omega arith);
-  drawn_once = λ p q l k e m.
-      let (t, i) = legal_in countdown_name 2 10 p l in
-      let (u, j) = legal_in countdown_name 2 10 q k in
-      same_position p q (t ∙ sym u) (row_once countdown_row 11 countdown_table p.index q.index (omega arith) (omega arith) e);
-}
+countdown_drawn = subtraction_drawn countdown_row 11 countdown_table countdown_name 2 10 refl
+
+pub takeaway_drawn : IsDrawn takeaway (λ p. takeaway_row p.index) player_moves
+takeaway_drawn = subtraction_drawn takeaway_row 13 takeaway_table takeaway_name 3 12 refl
 
 pub wheel_drawn : IsDrawn wheel (λ p. wheel_row p.index) player_moves
 wheel_drawn = record {

@@ -17,6 +17,24 @@ countdown_rows =
     ∷ codes "0 1 2 3 4 5 6 7 8 9 [10]     take 1 or 2"
     ∷ []
 
+-- the rows of Takeaway, by the number of counters
+abbrev pub takeaway_rows : List (List ℕ)
+takeaway_rows =
+    codes "[0] 1 2 3 4 5 6 7 8 9 10 11 12"
+    ∷ codes "0 [1] 2 3 4 5 6 7 8 9 10 11 12     take 1"
+    ∷ codes "0 1 [2] 3 4 5 6 7 8 9 10 11 12     take 1 or 2"
+    ∷ codes "0 1 2 [3] 4 5 6 7 8 9 10 11 12     take 1 to 3"
+    ∷ codes "0 1 2 3 [4] 5 6 7 8 9 10 11 12     take 1 to 3"
+    ∷ codes "0 1 2 3 4 [5] 6 7 8 9 10 11 12     take 1 to 3"
+    ∷ codes "0 1 2 3 4 5 [6] 7 8 9 10 11 12     take 1 to 3"
+    ∷ codes "0 1 2 3 4 5 6 [7] 8 9 10 11 12     take 1 to 3"
+    ∷ codes "0 1 2 3 4 5 6 7 [8] 9 10 11 12     take 1 to 3"
+    ∷ codes "0 1 2 3 4 5 6 7 8 [9] 10 11 12     take 1 to 3"
+    ∷ codes "0 1 2 3 4 5 6 7 8 9 [10] 11 12     take 1 to 3"
+    ∷ codes "0 1 2 3 4 5 6 7 8 9 10 [11] 12     take 1 to 3"
+    ∷ codes "0 1 2 3 4 5 6 7 8 9 10 11 [12]     take 1 to 3"
+    ∷ []
+
 -- the rows of Wheel, by the number
 abbrev pub wheel_rows : List (List ℕ)
 wheel_rows =
@@ -35,6 +53,9 @@ wheel_rows =
 -- the row with this number in brackets
 unfoldable pub countdown_row : ℕ → List ℕ
 countdown_row i = slice_index_or countdown_rows i []
+
+unfoldable pub takeaway_row : ℕ → List ℕ
+takeaway_row i = slice_index_or takeaway_rows i []
 
 unfoldable pub wheel_row : ℕ → List ℕ
 wheel_row i = slice_index_or wheel_rows i []

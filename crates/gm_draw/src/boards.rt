@@ -1,23 +1,44 @@
 //! Boards before the questions of a session.
-ghost use Rattle.std.specs.Prelude.{◌≡◌, ◌++◌, codes, true};
-ghost use Rattle.gm_game.specs.declared.position.Position.{Position};
+ghost use Rattle.std.specs.Prelude.{◌≡◌, ◌≤◌, true, length};
+ghost use Rattle.gm_draw.specs.Sights.{sight, move_line};
 
 use crate::drawn::Drawn;
 use arrayvec::ArrayVec;
 use gm_game::position::Position;
-use gm_play::view::{Sight, View};
+use gm_game::shown::Shown;
+use gm_play::view::{Question, Sight, View};
 
-/// Shows the person the board before each question, always as seen from the person's side: in a game of `x` and `o`, `x` is the person and `o` the computer.
+/// Shows the person the board before each question, always as seen from the person's side: in a game of `x` and `o`, `x` is the person and `o` the computer. After
+/// what is no move, the moves that there are stand before it.
 #[derive(Drop)]
 pub struct Boards;
 
 impl<G: Drawn> View<G> for Boards {
-    ghost seen = { λ p. G.drawn p ++ codes "\n" };
+    ghost seen = { sight G.Game.rules G.Shown.move_shown G.drawn };
 
-    fn see(p: Position) -> Sight {
-        let mut sight = ArrayVec::new();
+    fn see(asked: Question, p: Position) -> Sight {
+        let mut sight = match asked {
+            Question::First => ArrayVec::new(),
+            Question::Again => move_line::<G>(p),
+        };
         let _fits = sight.try_extend_from_slice(G::draw(p).as_slice());
         sight.push(b'\n');
         sight
     }
+}
+
+// A line of the moves from a position.
+fn move_line<G: Shown>(p: Position) -> Sight
+    requires { G.Game.rules.is_legal p ≡ true }
+    ensures text { result.items ≡ move_line G.move_shown p (G.Game.rules.moves p) }
+    ensures few { length result.items ≤ 8327 }
+{
+    let mut line = ArrayVec::new();
+    let _fits = line.try_extend_from_slice(b"moves:");
+    for m in G::moves(p).as_slice() {
+        line.push(b' ');
+        let _fits = line.try_extend_from_slice(G::move_text(p, *m).as_slice());
+    }
+    line.push(b'\n');
+    line
 }

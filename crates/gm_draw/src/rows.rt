@@ -1,13 +1,13 @@
-//! The games on a row of numbers: Countdown from 10, and Wheel.
+//! The games on a row of numbers: Countdown from 10, Takeaway, and Wheel.
 ghost use Rattle.std.specs.Prelude.{◌≡◌, ◌≤◌, ◌<◌, [], length, codes, slice_index_or, true};
 ghost use Rattle.std.specs.Fmt.{decimal};
 ghost use Rattle.gm_game.specs.declared.position.Position.{Position};
-ghost use Rattle.gm_draw.specs.Rows.{countdown_row as countdown_row_of, wheel_row as wheel_row_of};
-ghost use Rattle.gm_draw.specs.Names.{player_moves, countdown_naming, wheel_naming};
-ghost use Rattle.gm_draw.specs.RowLaws.{countdown_drawn, wheel_drawn};
+ghost use Rattle.gm_draw.specs.Rows.{countdown_row as countdown_row_of, takeaway_row as takeaway_row_of, wheel_row as wheel_row_of};
+ghost use Rattle.gm_draw.specs.Names.{player_moves, countdown_naming, takeaway_naming, wheel_naming};
+ghost use Rattle.gm_draw.specs.RowLaws.{countdown_drawn, takeaway_drawn, wheel_drawn};
 ghost use Rattle.gm_draw.specs.declared.pictured.Style.TheVariants.{Row};
-ghost use Rattle.gm_draw.specs.Points.{number_points, countdown_board, wheel_board};
-ghost use Rattle.gm_draw.specs.PictureLaws.{countdown_pictured, wheel_pictured};
+ghost use Rattle.gm_draw.specs.Points.{number_points, countdown_board, takeaway_board, wheel_board};
+ghost use Rattle.gm_draw.specs.PictureLaws.{countdown_pictured, takeaway_pictured, wheel_pictured};
 
 use crate::drawn::{DRAWING, Drawing, Drawn};
 use crate::pictured::{Pictured, Style, line_of};
@@ -15,6 +15,7 @@ use arrayvec::ArrayVec;
 use gm_game::position::Position;
 use gm_game::shown::Line;
 use gm_game::text::push_decimal;
+use gm_takeaway::takeaway::Takeaway;
 use gm_toys::countdown::Countdown;
 use gm_toys::wheel::Wheel;
 
@@ -36,6 +37,30 @@ fn countdown_row(index: u64) -> &'static [u8]
         8 => b"0 1 2 3 4 5 6 7 [8] 9 10     take 1 or 2",
         9 => b"0 1 2 3 4 5 6 7 8 [9] 10     take 1 or 2",
         10 => b"0 1 2 3 4 5 6 7 8 9 [10]     take 1 or 2",
+        _ => b"",
+    }
+}
+
+// The numbers of Takeaway with the current one in brackets, and its moves.
+#[tactic(auto, unfolding(crate::specs::Rows::takeaway_row))]
+fn takeaway_row(index: u64) -> &'static [u8]
+    ensures value { result.now ≡ takeaway_row_of index }
+    ensures fits { length result.now ≤ DRAWING }
+{
+    match index {
+        0 => b"[0] 1 2 3 4 5 6 7 8 9 10 11 12",
+        1 => b"0 [1] 2 3 4 5 6 7 8 9 10 11 12     take 1",
+        2 => b"0 1 [2] 3 4 5 6 7 8 9 10 11 12     take 1 or 2",
+        3 => b"0 1 2 [3] 4 5 6 7 8 9 10 11 12     take 1 to 3",
+        4 => b"0 1 2 3 [4] 5 6 7 8 9 10 11 12     take 1 to 3",
+        5 => b"0 1 2 3 4 [5] 6 7 8 9 10 11 12     take 1 to 3",
+        6 => b"0 1 2 3 4 5 [6] 7 8 9 10 11 12     take 1 to 3",
+        7 => b"0 1 2 3 4 5 6 [7] 8 9 10 11 12     take 1 to 3",
+        8 => b"0 1 2 3 4 5 6 7 [8] 9 10 11 12     take 1 to 3",
+        9 => b"0 1 2 3 4 5 6 7 8 [9] 10 11 12     take 1 to 3",
+        10 => b"0 1 2 3 4 5 6 7 8 9 [10] 11 12     take 1 to 3",
+        11 => b"0 1 2 3 4 5 6 7 8 9 10 [11] 12     take 1 to 3",
+        12 => b"0 1 2 3 4 5 6 7 8 9 10 11 [12]     take 1 to 3",
         _ => b"",
     }
 }
@@ -90,6 +115,28 @@ impl Drawn for Countdown<10> {
 
     fn naming() -> &'static [u8] {
         b"A position is a number. A move is how much is\ntaken from it.\n"
+    }
+}
+
+impl Drawn for Takeaway {
+    ghost drawn = { λ p. takeaway_row_of p.index };
+
+    ghost mover = { player_moves };
+
+    ghost naming = { takeaway_naming };
+
+    ghost tells = { takeaway_drawn };
+
+    fn draw(p: Position) -> Drawing {
+        drawing_of(takeaway_row(p.index))
+    }
+
+    fn mover(_p: Position) -> &'static [u8] {
+        b"player"
+    }
+
+    fn naming() -> &'static [u8] {
+        b"A position is the number of counters that are\nleft. A move is how many are taken.\n"
     }
 }
 
@@ -159,6 +206,41 @@ impl Pictured for Countdown<10> {
     }
 }
 
+impl Pictured for Takeaway {
+    ghost board = { takeaway_board };
+
+    ghost points = { number_points 13 };
+
+    ghost style = { Row };
+
+    ghost title = { codes "Takeaway" };
+
+    ghost pictured = { takeaway_pictured (λ p. takeaway_row_of p.index) };
+
+    #[tactic(auto, unfolding(crate::specs::Points::takeaway_board))]
+    fn board() -> &'static [u8] {
+        b"0 1 2 3 4 5 6 7 8 9 10 11 12"
+    }
+
+    #[tactic(auto, using(crate::specs::PointLaws::number_many))]
+    fn points() -> usize {
+        13
+    }
+
+    #[tactic(auto, using(crate::specs::PointLaws::number_many, crate::specs::PointLaws::number_named))]
+    fn point(k: usize) -> Line {
+        number_name(k)
+    }
+
+    fn style() -> Style {
+        Style::Row
+    }
+
+    fn title() -> Line {
+        line_of(b"Takeaway")
+    }
+}
+
 impl Pictured for Wheel {
     ghost board = { wheel_board };
 
@@ -194,8 +276,9 @@ impl Pictured for Wheel {
     }
 }
 
-/// The drawings of Countdown and Wheel are their rows.
+/// The drawings of Countdown, Takeaway and Wheel are their rows.
 pub fn rows_are_drawn()
     ensures countdown { ⟦<Countdown<10> as Drawn>⟧.drawn ≡ (λ p. countdown_row_of p.index) }
+    ensures takeaway { ⟦<Takeaway as Drawn>⟧.drawn ≡ (λ p. takeaway_row_of p.index) }
     ensures wheel { ⟦<Wheel as Drawn>⟧.drawn ≡ (λ p. wheel_row_of p.index) }
 {}

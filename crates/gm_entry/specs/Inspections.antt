@@ -1,6 +1,8 @@
 -- What a tier's entry is found to be.
-use Rattle.std.specs.Prelude.{◌≡◌, ◌≢◌, ℕ, List, Option, None, Some, length}
+use Rattle.std.specs.Prelude.{◌≡◌, ℕ, List, Option, None, Some, Result, Ok, Err}
 use Rattle.gm_game.specs.declared.position.Solved.{Solved}
+use Rattle.gm_game.specs.declared.limits.TheConstants.{REMOTENESS}
+use Rattle.gm_game.specs.Records.{IsTrueTable}
 use Rattle.gm_game.specs.Rules.{Rules}
 use Rattle.gm_table.specs.declared.checker.CheckError.{CheckError}
 use Rattle.gm_table.specs.Tables.{TableData}
@@ -16,6 +18,11 @@ use Rattle.gm_entry.specs.TrueTexts.{IsTrueText, IsOldText}
 -- the bytes are the text of records that are not the tier's
 abbrev pub IsUntrueText : Rules → List TableData → ℕ → List ℕ → CheckError → Type 0
 IsUntrueText r entries tier bytes why = (records : List (Option Solved)) × IsTierText r tier records bytes × AreWrong r entries tier records why
+
+-- what a check of records answers: their table, or why they are not the tier's
+abbrev pub IsChecked : Rules → List TableData → ℕ → List (Option Solved) → Result TableData CheckError → Type 0
+IsChecked r entries tier records (Ok table) = (table.tier ≡ tier) × IsTrueTable r REMOTENESS tier records
+IsChecked r entries tier records (Err why) = (IsTrueTable r REMOTENESS tier records → ⊥) × AreWrong r entries tier records why
 
 -- what the bytes are found to be; no text of version 1 is one of version 2
 abbrev pub IsInspected : {G : Type 0} → Rules → List TableData → ℕ → List ℕ → Inspected G → Type 0

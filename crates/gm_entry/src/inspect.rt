@@ -1,17 +1,22 @@
 //! What a tier's entry in a store is found to be.
-ghost use Rattle.std.specs.Prelude.{◌≤◌, IfOk};
+ghost use Rattle.std.specs.Prelude.{◌≤◌, ◌↔◌, IfOk, IsTrue};
 ghost use Rattle.gm_table.specs.Tables.{AreHeld};
-ghost use Rattle.gm_entry.specs.Inspections.{IsInspected};
+ghost use Rattle.gm_tierdb.specs.Seals.{IsSealed};
+ghost use Rattle.gm_entry.specs.Inspections.{IsInspected, IsChecked};
 
 use gm_game::game::Game;
 use gm_game::limits::TIER_SIZE;
 use gm_table::checker::{CheckError, check_packed_by};
+use gm_table::packed::Packed;
 use gm_table::table::Table;
 use gm_table::tables::Tables;
-use gm_tierdb::decode::decode_packed;
+use gm_tierdb::decode::{decode_unsealed, is_sealed};
 use gm_tierdb::file_error::FileError;
 use std::alloc::{AllocError, Global};
-use std::thread::Threads;
+use std::thread::{Threads, join};
+
+// The digest of so few bytes is taken by the thread that checks their records: to start another takes longer.
+const FEW: usize = 65_536;
 
 /// What a tier's entry is found to be.
 #[derive(Drop)]
@@ -26,8 +31,8 @@ pub enum Inspected<G: Game> {
     NoTable(CheckError),
 }
 
-/// What the bytes of an entry are: they are decoded first, and then the records are checked in turn, by the tables of the child tiers. `NoFile` and `NoTable` have
-/// the first reason that applies; `Missing` is never the answer. Takes time and memory in proportion to the tier's size.
+/// What the bytes of an entry are: they are decoded first, and then the records are checked in turn, by the tables of the child tiers, while another thread takes the
+/// digest of a long one. `NoFile` and `NoTable` have the first reason that applies; `Missing` is never the answer. Takes time and memory in proportion to the tier's size.
 pub fn inspect_text<G: Game + Send + Sync, R: Threads + Sync>(
     rt: &R,
     alloc: Global,
@@ -39,13 +44,45 @@ pub fn inspect_text<G: Game + Send + Sync, R: Threads + Sync>(
     requires small { G.rules.tier_size tier ≤ TIER_SIZE }
     ensures exact { IfOk result (IsInspected G.rules tables.now tier bytes.now) }
 {
-    let records = match decode_packed::<G>(alloc, tier, bytes) {
+    let records = match decode_unsealed::<G>(alloc, tier, bytes) {
         Ok(records) => records,
         Err(FileError::OutOfMemory) => return Err(AllocError),
         Err(why) => return Ok(Inspected::NoFile(why)),
     };
-    match check_packed_by(rt, tier, records, tables) {
+    let (sealed, checked) = check_both(rt, tier, bytes, records, tables);
+    if !sealed {
+        return Ok(Inspected::NoFile(FileError::BadDigest));
+    }
+    match checked {
         Ok(table) => Ok(Inspected::Right(table)),
         Err(why) => Ok(Inspected::NoTable(why)),
     }
+}
+
+// Whether an entry ends with its digest, and what a check of its records answers: of a long one by a thread each.
+fn check_both<G: Game + Send + Sync, R: Threads + Sync>(
+    rt: &R,
+    tier: u64,
+    bytes: &[u8],
+    records: Packed,
+    tables: &Tables<G>,
+) -> (bool, Result<Table<G>, CheckError>)
+    requires held { AreHeld G.rules tables.now tier }
+    requires small { G.rules.tier_size tier ≤ TIER_SIZE }
+    ensures sealed { IsTrue result.0 ↔ IsSealed bytes.now }
+    ensures checked { IsChecked G.rules tables.now tier records result.1 }
+{
+    if bytes.len() <= FEW {
+        return (is_sealed(bytes), check_packed_by(rt, tier, records, tables));
+    }
+    join(
+        rt,
+        || -> bool
+            ensures { IsTrue result ↔ IsSealed bytes.entry.now }
+        { is_sealed(bytes) },
+        || -> Result<Table<G>, CheckError>
+            requires { AreHeld G.rules tables.now tier × (G.rules.tier_size tier ≤ TIER_SIZE) }
+            ensures { IsChecked G.rules tables.entry.now tier records result }
+        { check_packed_by(rt, tier, records, tables) },
+    )
 }

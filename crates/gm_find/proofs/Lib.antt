@@ -4,3 +4,4 @@ pub mod Onlies
 pub mod Keys
 pub mod Searching
 pub mod Telling
+pub mod Picking

@@ -1,5 +1,5 @@
 -- What is told of found positions.
-use Rattle.std.specs.Prelude.{◌≡◌, ℕ, Bool, true, List, map, length}
+use Rattle.std.specs.Prelude.{◌≡◌, ◌^◌, ◌-◌, ℕ, Bool, true, List, map, length}
 use Rattle.std.specs.List.{All}
 use Rattle.gm_game.specs.declared.position.Position.{Position}
 use Rattle.gm_game.specs.Rules.{Rules}
@@ -8,6 +8,9 @@ use Rattle.gm_table.specs.Tables.{TableData, IsHeld, AreHeld}
 use Rattle.gm_best.specs.BestMoves.{IsBestMove}
 use Rattle.gm_find.specs.declared.found.Found.{Found}
 use Rattle.gm_find.specs.declared.sought.Sought.{Sought}
+use Rattle.gm_find.specs.declared.sought.Choice.{Choice}
+use Rattle.gm_find.specs.declared.sought.Choice.TheVariants.{First, Random}
+use Rattle.gm_find.specs.Samples.{IsSample}
 use Rattle.gm_find.specs.Lists.{IsFirst}
 use Rattle.gm_find.specs.Finding.{IsMatch, all_positions}
 
@@ -25,6 +28,15 @@ position_of x = x.position
 pub record AreFound (r : Rules) (q : Sought) (reached : Bool) (limit : ℕ) (tiers : List ℕ) (xs : List Found) : Type 0 where
   pub positions : IsFirst (IsMatch r q reached) limit (all_positions r tiers) (map position_of xs)
   pub each : All (IsFound r) xs
+
+-- all positions that are sought, as far as a list can be long
+abbrev pub AreAllFound : Rules → Sought → Bool → List ℕ → List Found → Type 0
+AreAllFound r q reached tiers xs = AreFound r q reached (2 ^ 64 - 1) tiers xs
+
+-- those of the positions that are sought that a choice takes: the first, or so many of all of them, in their order
+abbrev pub AreChosen : Rules → Sought → Bool → Choice → List ℕ → List Found → Type 0
+AreChosen r q reached (First n) tiers xs = AreFound r q reached n tiers xs
+AreChosen r q reached (Random n seed) tiers xs = (all : List Found) × AreAllFound r q reached tiers all × IsSample n all xs
 
 -- a legal position whose tier has a table, as has each of its child tiers
 pub record IsHeldAt (r : Rules) (entries : List TableData) (p : Position) : Type 0 where

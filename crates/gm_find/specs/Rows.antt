@@ -7,7 +7,8 @@ use Rattle.gm_game.specs.Rules.{Rules}
 use Rattle.gm_game.specs.Texts.{text_of}
 use Rattle.gm_find.specs.declared.found.Found.{Found}
 use Rattle.gm_find.specs.declared.sought.Sought.{Sought}
-use Rattle.gm_find.specs.Founds.{AreFound}
+use Rattle.gm_find.specs.declared.sought.Choice.{Choice}
+use Rattle.gm_find.specs.Founds.{AreChosen}
 
 -- four fields of a line
 abbrev pub row : List ℕ → List ℕ → List ℕ → List ℕ → List ℕ
@@ -22,6 +23,7 @@ best_text move_shown p (Some m) = move_shown p m
 abbrev pub found_row : (Position → List ℕ) → (Position → ℕ → List ℕ) → Found → List ℕ
 found_row shown move_shown x = row (shown x.position) (text_of x.value) (best_text move_shown x.position x.best) (decimal x.moves)
 
--- the rows of the first positions that are sought, at most this many
-abbrev pub IsFoundText : Rules → (Position → List ℕ) → (Position → ℕ → List ℕ) → Sought → Bool → ℕ → List ℕ → List ℕ → Type 0
-IsFoundText r shown move_shown q reached limit tiers out = (xs : List Found) × AreFound r q reached limit tiers xs × (out ≡ flat_map (found_row shown move_shown) xs)
+-- the rows of those of the positions that are sought that a choice takes
+abbrev pub IsFoundText : Rules → (Position → List ℕ) → (Position → ℕ → List ℕ) → Sought → Bool → Choice → List ℕ → List ℕ → Type 0
+IsFoundText r shown move_shown q reached choice tiers out =
+    (xs : List Found) × AreChosen r q reached choice tiers xs × (out ≡ flat_map (found_row shown move_shown) xs)

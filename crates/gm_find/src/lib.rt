@@ -3,6 +3,7 @@
 //! `specs/` has the definitions that contracts cite, and `proofs/` what follows from them.
 #![tactic(auto)]
 
+pub mod choice;
 pub mod find_error;
 pub mod found;
 mod only;
@@ -10,5 +11,6 @@ mod only_line;
 pub mod positions;
 pub mod reached;
 pub mod rows;
+pub mod sample;
 mod search;
 pub mod sought;

@@ -6,10 +6,11 @@ ghost use Rattle.gm_find.specs.Finding.{AreTiersHeld, IsMissing};
 ghost use Rattle.gm_find.specs.Founds.{IsFound};
 ghost use Rattle.gm_find.specs.Rows.{best_text as best_text_spec, found_row, row, IsFoundText};
 
+use crate::choice::find_some;
 use crate::find_error::FindError;
-use crate::found::{Found, find};
+use crate::found::Found;
 use crate::reached::Reached;
-use crate::sought::Sought;
+use crate::sought::{Choice, Sought};
 use gm_game::position::Position;
 use gm_game::shown::{Line, Shown};
 use gm_game::text::{push_decimal, value_text};
@@ -17,7 +18,7 @@ use gm_table::tables::Tables;
 use std::alloc::{AllocError, Global};
 
 /// The rows of the canonical positions that are sought: the position, its value, its best move (none where the game has ended) and the number of its moves,
-/// with a tab between them. They stand tier by tier in the order given and by ascending index: the first of them, at most `limit`. Where a set of reached
+/// with a tab between them. They stand tier by tier in the order given and by ascending index: the first of them, or so many by chance. Where a set of reached
 /// positions is given, only positions in it count.
 ///
 /// `NotHeld` is tested first, where one of the tiers, or one of its child tiers, has no table; where a whole line is asked for it also comes at a table that
@@ -28,13 +29,13 @@ pub fn find_text<G: Shown>(
     tiers: &[u64],
     sought: Sought,
     reached: Option<&Reached<G>>,
-    limit: usize,
+    choice: Choice,
 ) -> Result<Vec<u8>, FindError>
-    ensures text { IfOk result (λ v. IsFoundText G.Game.rules G.shown G.move_shown sought (is_some reached.entry) limit tiers.now v.items) }
+    ensures text { IfOk result (λ v. IsFoundText G.Game.rules G.shown G.move_shown sought (is_some reached.entry) choice tiers.now v.items) }
     ensures not_held { (AreTiersHeld G.Game.rules tables.now tiers.now → ⊥) → IsErrOf result FindError.NotHeld }
     ensures missing { IsErrOf result FindError.NotHeld → IsMissing G.Game.rules tables.now sought tiers.now }
 {
-    let found = find(alloc, tables, tiers, sought, reached, limit)?;
+    let found = find_some(alloc, tables, tiers, sought, reached, choice)?;
     match found_rows::<G>(alloc, found.as_slice()) {
         Ok(rows) => Ok(rows),
         Err(_) => Err(FindError::OutOfMemory),
@@ -53,7 +54,8 @@ fn found_rows<G: Shown>(alloc: Global, found: &[Found]) -> Result<Vec<u8>, Alloc
     Ok(rows)
 }
 
-fn push_found<G: Shown>(rows: &mut Vec<u8>, x: &Found) -> Result<(), AllocError>
+/// Appends the row of a found position.
+pub fn push_found<G: Shown>(rows: &mut Vec<u8>, x: &Found) -> Result<(), AllocError>
     requires { IsFound G.Game.rules x.now }
     ensures { OnOk result (rows.new.items ≡ rows.old.items ++ found_row G.shown G.move_shown x.now) }
 {

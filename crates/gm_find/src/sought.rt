@@ -24,3 +24,12 @@ pub struct Sought {
     /// Those with at least so many moves.
     pub min_moves: usize,
 }
+
+/// Which of the positions that are sought are taken.
+#[derive(Clone, Copy, Debug, PartialEq, Eq)]
+pub enum Choice {
+    /// The first of them, at most so many.
+    First(usize),
+    /// So many of them by chance, or all where there are fewer: the same for the same seed.
+    Random { number: usize, seed: u64 },
+}

@@ -1,90 +1,36 @@
 -- A service in its midst.
-use Rattle.std.proofs.Common.{◌≡◌, ℕ, ◌+◌, ◌≤◌, ◌<◌, Bool, true, false, List, [], ◌∷◌, ◌++◌, length, take, codes, Option, Result, Ok, Err, IfErr, refl, sym, ap, subst, ◌∙◌, append_assoc, append-nil, arith}
-use Rattle.std.specs.Prelude.{◌==◌, if◌then◌else◌}
-use Rattle.std.specs.Result.{IsErrAnd}
-use Rattle.std.proofs.lemmas.List.{take_all, take-append-le, length-take, length-append}
+use Rattle.std.proofs.Common.{◌≡◌, ℕ, ◌+◌, ◌≤◌, ◌<◌, inl, inr, true, false, List, [], ◌∷◌, ◌++◌, length, take, codes, Option, refl, sym, ap, subst, ◌∙◌, append_assoc, append-nil, arith}
+use Rattle.std.specs.Prelude.{◌==◌}
+use Rattle.std.proofs.lemmas.List.{length-take, length-append}
 use Rattle.std.specs.Io.KnownBytes.{Appends, Consumes, Keeps, IsAtEnd}
 use Rattle.std.proofs.KnownBytes.{Consumes-trans, Consumes-kept, Consumes-nil, Appends-trans, Appends-nil, Appends-kept}
-use Rattle.gm_game.specs.declared.position.Position.{Position}
-use Rattle.gm_game.specs.Rules.{Rules}
 use Rattle.gm_json.specs.declared.ask_error.AskError.{AskError}
 use Rattle.gm_json.specs.declared.ask_error.AskError.TheVariants.{OutOfMemory, NotHeld, ReadFailed, WriteFailed, OutputClosed}
-use Rattle.gm_json.specs.Asking.{kept_bytes, lines_from, lines_of, IsAnswer, AreAnswers, IsServed, IsUnread, IsUnanswered, IsUnwritten, IsBroken, IsHalfSaid, IsLineBroken}
+use Rattle.gm_play.specs.Sessions.{AppendsPart}
+use Rattle.gm_json.proofs.Splitting.{lines_more, lines_next, lines_end, lines_none, none_kept, kept_push, kept_full, one_begun}
+use Rattle.gm_json.specs.Midst.{GoesOn, Midst}
+use Rattle.gm_json.specs.Asking.{kept_bytes, block_bytes, lines_from, lines_of, AreAnswers, IsServed, IsUnread, IsUnanswered, IsUnwritten, IsBroken, IsOfOutput, IsOfLine, IsLineDone, IsCut, IsLineBroken}
 
--- a byte of a line, the byte that ends it, and the end of all
-lines_more : (line : List ℕ) (b : ℕ) (bs : List ℕ) → (b == 10) ≡ false → lines_from line (b ∷ bs) ≡ lines_from (line ++ b ∷ []) bs
-unfolding lines_from
-lines_more line b bs e = ap (λ (c : Bool). if c then line ∷ lines_from [] bs else lines_from (line ++ b ∷ []) bs) e
-
-lines_next : (line : List ℕ) (b : ℕ) (bs : List ℕ) → (b == 10) ≡ true → lines_from line (b ∷ bs) ≡ line ∷ lines_from [] bs
-unfolding lines_from
-lines_next line b bs e = ap (λ (c : Bool). if c then line ∷ lines_from [] bs else lines_from (line ++ b ∷ []) bs) e
-
-some_bytes : (n : ℕ) → 0 < n → (n == 0) ≡ false
-some_bytes n h = grind arith
-
-lines_end : (line : List ℕ) → 0 < length line → lines_from line [] ≡ line ∷ []
-unfolding lines_from
-lines_end [] h = absurd (omega arith)
-lines_end (b ∷ bs) h = ap (λ (c : Bool). if c then [] else (b ∷ bs) ∷ []) (some_bytes (length (b ∷ bs)) (omega arith))
-
-lines_none : lines_from [] [] ≡ []
-unfolding lines_from
-lines_none = refl
-
-none_kept : (line : List ℕ) → length (take kept_bytes line) ≡ 0 → line ≡ []
-none_kept [] h = refl
-none_kept (b ∷ bs) h = absurd (omega (arith, h, length-take kept_bytes (b ∷ bs)))
-
--- one byte more is kept, or not
-kept_push : (kept line : List ℕ) (b : ℕ) → kept ≡ take kept_bytes line → length kept < kept_bytes → kept ++ b ∷ [] ≡ take kept_bytes (line ++ b ∷ [])
-kept_push kept line b e short =
-    let n : length kept ≡ length (take kept_bytes line) = ap length e in
-    let few : length line < kept_bytes = omega (arith, n, short, length-take kept_bytes line) in
-    ap (λ (l : List ℕ). l ++ b ∷ []) (e ∙ take_all kept_bytes line (omega (arith, few))) ∙ sym (take_all kept_bytes (line ++ b ∷ []) (omega (arith, few, length-append line (b ∷ []))))
-
-kept_full : (kept line : List ℕ) (b : ℕ) → kept ≡ take kept_bytes line → kept_bytes ≤ length kept → kept ≡ take kept_bytes (line ++ b ∷ [])
-kept_full kept line b e full =
-    let n : length kept ≡ length (take kept_bytes line) = ap length e in
-    e ∙ sym (take-append-le kept_bytes line (b ∷ []) (omega (arith, n, full, length-take kept_bytes line)))
-
-module _ (r : Rules) (shown : Position → List ℕ) (move_shown : Position → ℕ → List ℕ) where
-  -- one answer more
-  answers_more : (n : ℕ) (lines : List (List ℕ)) (line text out : List ℕ) → AreAnswers r shown move_shown n lines text → IsAnswer r shown move_shown (take kept_bytes line) (n + length lines) out → AreAnswers r shown move_shown n (lines ++ line ∷ []) (text ++ (out ++ codes "\n"))
-  answers_more n [] line text out h a =
+module _ (Says : List ℕ → ℕ → List ℕ → Type 0) where
+  -- the answers to some lines, and to those after them
+  answers_join : (n : ℕ) (xs ys : List (List ℕ)) (t u : List ℕ) → AreAnswers Says n xs t → AreAnswers Says (n + length xs) ys u → AreAnswers Says n (xs ++ ys) (t ++ u)
+  answers_join n [] ys t u e h =
       let same : n + 0 ≡ n = omega arith in
-      (out, [], subst (λ (k : ℕ). IsAnswer r shown move_shown (take kept_bytes line) k out) same a, ap (λ (t : List ℕ). t ++ (out ++ codes "\n")) h ∙ sym (append-nil (out ++ codes "\n")), refl)
-  answers_more n (x ∷ xs) line text out (first, rest, is, e, t) a =
-      let same : n + length (x ∷ xs) ≡ (n + 1) + length xs = omega arith in (
-        first,
-        rest ++ (out ++ codes "\n"),
-        is,
-        ap (λ (u : List ℕ). u ++ (out ++ codes "\n")) e ∙ append_assoc (first ++ codes "\n") rest (out ++ codes "\n"),
-        answers_more (n + 1) xs line rest out t (subst (λ (k : ℕ). IsAnswer r shown move_shown (take kept_bytes line) k out) same a),
-      )
+      subst (λ (v : List ℕ). AreAnswers Says n ys v) (ap (λ (l : List ℕ). l ++ u) (sym e)) (subst (λ (k : ℕ). AreAnswers Says k ys u) same h)
+  answers_join n (x ∷ xs) ys t u (out, rest, is, e, more) h =
+      let same : n + length (x ∷ xs) ≡ (n + 1) + length xs = omega arith in
+      (out, rest ++ u, is, ap (λ (l : List ℕ). l ++ u) e ∙ append_assoc (out ++ codes "\n") rest u, answers_join (n + 1) xs ys rest u more (subst (λ (k : ℕ). AreAnswers Says k ys u) same h))
 
-  -- these bytes are read, and these lines answered; the rest are lines that begin with this one, of which a front is kept
-  pub record GoesOn (count number : ℕ) (r0 r1 w0 w1 : Option (List ℕ)) (kept : List ℕ) : Type 0 where
-    pub bytes : List ℕ
-    pub lines : List (List ℕ)
-    pub line : List ℕ
-    pub text : List ℕ
-    pub few : number ≤ count + 1
-    pub numbered : number ≡ 1 + length lines
-    pub reads : Consumes r0 r1 bytes
-    pub writes : Appends w0 w1 text
-    pub keeps : kept ≡ take kept_bytes line
-    pub answers : AreAnswers r shown move_shown 1 lines text
-    pub goes : (more : List ℕ) → lines_of (bytes ++ more) ≡ lines ++ lines_from line more
+  one_answer : (n : ℕ) (line out : List ℕ) → Says (take kept_bytes line) n out → AreAnswers Says n (line ∷ []) (out ++ codes "\n")
+  one_answer n line out is = (out, [], is, sym (append-nil (out ++ codes "\n")), refl)
 
-  pub begins : (r0 w0 : Option (List ℕ)) (kept : List ℕ) → kept ≡ [] → GoesOn 0 1 r0 r0 w0 w0 kept
-  begins r0 w0 kept e = record {
+  pub begins : (r0 w0 : Option (List ℕ)) (number : ℕ) (kept : List ℕ) → number ≡ 1 → kept ≡ [] → GoesOn Says number kept r0 r0 w0 w0
+  begins r0 w0 number kept n e = record {
     bytes = [];
     lines = [];
     line = [];
     text = [];
-    few = omega arith;
-    numbered = refl;
+    numbered = n;
     reads = Consumes-nil r0;
     writes = Appends-nil w0;
     keeps = e;
@@ -92,145 +38,336 @@ module _ (r : Rules) (shown : Position → List ℕ) (move_shown : Position → 
     goes = λ more. refl;
   }
 
-  module _ (count number : ℕ) (r0 r1 r2 w0 w1 : Option (List ℕ)) (kept : List ℕ) (h : GoesOn count number r0 r1 w0 w1 kept) where
+  pub opens : (number : ℕ) (kept block pending : List ℕ) (r0 r1 r2 w0 w1 : Option (List ℕ)) → GoesOn Says number kept r0 r1 w0 w1 → pending ≡ [] → length block ≤ block_bytes → Consumes r1 r2 block → Midst Says number kept pending block r0 r2 w0 w1
+  opens number kept block pending r0 r1 r2 w0 w1 h none short reads = record {
+    bytes = h.bytes;
+    lines = h.lines;
+    begun = h.line;
+    text = h.text;
+    goes = h.goes;
+    answers = h.answers;
+    block = [];
+    later = [];
+    line = h.line;
+    done = [];
+    goes_on = λ more. ap (λ (l : List ℕ). lines_of (l ++ more)) (append-nil h.bytes) ∙ h.goes more ∙ ap (λ (ls : List (List ℕ)). ls ++ lines_from h.line more) (sym (append-nil h.lines));
+    later_answers = none;
+    numbered = h.numbered ∙ ap (λ (ls : List (List ℕ)). 1 + length ls) (sym (append-nil h.lines));
+    keeps = h.keeps;
+    few = omega (arith, short);
+    reads = Consumes-trans r0 r1 r2 h.bytes block h.reads reads;
+    writes = subst (Appends w0 w1) (sym (append-nil h.text)) h.writes;
+  }
+
+  module _ (number : ℕ) (kept pending : List ℕ) (r0 r1 w0 w1 w2 : Option (List ℕ)) (h : Midst Says number kept pending [] r0 r1 w0 w1) where
+    pub closes : Appends w1 w2 pending → GoesOn Says number kept r0 r1 w0 w2
+    closes written = record {
+      bytes = h.bytes ++ h.block;
+      lines = h.lines ++ h.later;
+      line = h.line;
+      text = h.text ++ (h.done ++ pending);
+      numbered = h.numbered;
+      reads = subst (Consumes r0 r1) (ap (λ (l : List ℕ). h.bytes ++ l) (append-nil h.block)) h.reads;
+      writes = subst (Appends w0 w2) (append_assoc h.text h.done pending) (Appends-trans w0 w1 w2 (h.text ++ h.done) pending h.writes written);
+      keeps = h.keeps;
+      answers = answers_join 1 h.lines h.later h.text (h.done ++ pending) h.answers h.later_answers;
+      goes = h.goes_on;
+    }
+
+  module _ (number : ℕ) (kept pending ahead : List ℕ) (r0 r1 w0 w1 : Option (List ℕ)) (h : Midst Says number kept pending ahead r0 r1 w0 w1) where
+    so_far : lines_of (h.bytes ++ h.block) ≡ h.lines ++ (h.later ++ lines_from h.line [])
+    so_far = ap lines_of (sym (append-nil (h.bytes ++ h.block))) ∙ h.goes_on [] ∙ append_assoc h.lines h.later (lines_from h.line [])
+
+    -- the output fails at the answers that are pending
+    pub unwritten : (w2 : Option (List ℕ)) → AppendsPart w1 w2 pending → IsUnwritten Says r0 r1 w0 w2
+    unwritten w2 (done, rest, e, written) = record {
+      bytes = h.bytes;
+      lines = h.lines;
+      begun = h.begun;
+      text = h.text;
+      parts = h.goes;
+      answers = h.answers;
+      block = h.block;
+      ahead = ahead;
+      few = h.few;
+      reads = h.reads;
+      later = h.later;
+      others = lines_from h.line [];
+      later_parts = so_far;
+      one = one_begun h.line;
+      done = h.done ++ done;
+      rest = rest;
+      later_answers = subst (AreAnswers Says (1 + length h.lines) h.later) (ap (λ (l : List ℕ). h.done ++ l) e ∙ sym (append_assoc h.done done rest)) h.later_answers;
+      writes = subst (Appends w0 w2) (append_assoc h.text h.done done) (Appends-trans w0 w1 w2 (h.text ++ h.done) done h.writes written);
+    }
+
+  -- ---- a byte more
+  module _ (number : ℕ) (kept pending ahead : List ℕ) (b : ℕ) (r0 r1 w0 w1 : Option (List ℕ)) (h : Midst Says number kept pending (b ∷ ahead) r0 r1 w0 w1) where
+    moved : h.bytes ++ (h.block ++ b ∷ ahead) ≡ h.bytes ++ ((h.block ++ b ∷ []) ++ ahead)
+    moved = ap (λ (l : List ℕ). h.bytes ++ l) (sym (append_assoc h.block (b ∷ []) ahead))
+
+    still_few : length (h.block ++ b ∷ []) + length ahead ≤ block_bytes
+    still_few = let f = h.few in omega (arith, length-append h.block (b ∷ []))
+
+    reached : (more : List ℕ) → lines_of ((h.bytes ++ (h.block ++ b ∷ [])) ++ more) ≡ (h.lines ++ h.later) ++ lines_from h.line (b ∷ more)
+    reached more =
+        ap lines_of (ap (λ (l : List ℕ). l ++ more) (sym (append_assoc h.bytes h.block (b ∷ []))) ∙ append_assoc (h.bytes ++ h.block) (b ∷ []) more) ∙ h.goes_on (b ∷ more)
+
+    same_line : (new : List ℕ) → (b == 10) ≡ false → new ≡ take kept_bytes (h.line ++ b ∷ []) → Midst Says number new pending ahead r0 r1 w0 w1
+    same_line new e keeps = record {
+      bytes = h.bytes;
+      lines = h.lines;
+      begun = h.begun;
+      text = h.text;
+      goes = h.goes;
+      answers = h.answers;
+      block = h.block ++ b ∷ [];
+      later = h.later;
+      line = h.line ++ b ∷ [];
+      done = h.done;
+      goes_on = λ more. reached more ∙ ap (λ (ls : List (List ℕ)). (h.lines ++ h.later) ++ ls) (lines_more h.line b more e);
+      later_answers = h.later_answers;
+      numbered = h.numbered;
+      keeps = keeps;
+      few = still_few;
+      reads = subst (Consumes r0 r1) moved h.reads;
+      writes = h.writes;
+    }
+
+    pub byte_kept : (new : List ℕ) → (b == 10) ≡ false → length kept < kept_bytes → new ≡ kept ++ b ∷ [] → Midst Says number new pending ahead r0 r1 w0 w1
+    byte_kept new e short is = same_line new e (is ∙ kept_push kept h.line b h.keeps short)
+
+    pub byte_past : (new : List ℕ) → (b == 10) ≡ false → kept_bytes ≤ length kept → new ≡ kept → Midst Says number new pending ahead r0 r1 w0 w1
+    byte_past new e full is = same_line new e (is ∙ kept_full kept h.line b h.keeps full)
+
+    -- a line ends here
+    one_line : (more : List ℕ) → (b == 10) ≡ true → lines_of ((h.bytes ++ (h.block ++ b ∷ [])) ++ more) ≡ (h.lines ++ (h.later ++ h.line ∷ [])) ++ lines_from [] more
+    one_line more e =
+        reached more ∙ ap (λ (ls : List (List ℕ)). (h.lines ++ h.later) ++ ls) (lines_next h.line b more e) ∙ sym (append_assoc (h.lines ++ h.later) (h.line ∷ []) (lines_from [] more))
+        ∙ ap (λ (ls : List (List ℕ)). ls ++ lines_from [] more) (append_assoc h.lines h.later (h.line ∷ []))
+
+    ended : (b == 10) ≡ true → lines_of (h.bytes ++ (h.block ++ b ∷ [])) ≡ h.lines ++ (h.later ++ h.line ∷ [])
+    ended e =
+        ap lines_of (sym (append-nil (h.bytes ++ (h.block ++ b ∷ [])))) ∙ one_line [] e ∙ ap (λ (ls : List (List ℕ)). (h.lines ++ (h.later ++ h.line ∷ [])) ++ ls) lines_none
+        ∙ append-nil (h.lines ++ (h.later ++ h.line ∷ []))
+
+    -- one answer more
+    answered : (out : List ℕ) → Says kept number out → AreAnswers Says (1 + length h.lines) (h.later ++ h.line ∷ []) ((h.done ++ pending) ++ (out ++ codes "\n"))
+    answered out is =
+        let n : number ≡ (1 + length h.lines) + length h.later = omega (arith, h.numbered, length-append h.lines h.later) in
+        answers_join (1 + length h.lines) h.later (h.line ∷ []) (h.done ++ pending) (out ++ codes "\n") h.later_answers
+        (one_answer ((1 + length h.lines) + length h.later) h.line out (subst (λ (k : ℕ). Says (take kept_bytes h.line) k out) n (subst (λ (l : List ℕ). Says l number out) h.keeps is)))
+
+    pub line_done : (w2 : Option (List ℕ)) (new left : List ℕ) (next : ℕ) → (b == 10) ≡ true → new ≡ [] → next ≡ number + 1 → IsLineDone Says kept number pending left w1 w2 → Midst Says next new left ahead r0 r1 w0 w2
+    line_done w2 new left next e empty n (out, done, is, all, written) = record {
+      bytes = h.bytes;
+      lines = h.lines;
+      begun = h.begun;
+      text = h.text;
+      goes = h.goes;
+      answers = h.answers;
+      block = h.block ++ b ∷ [];
+      later = h.later ++ h.line ∷ [];
+      line = [];
+      done = h.done ++ done;
+      goes_on = λ more. one_line more e;
+      later_answers = subst (AreAnswers Says (1 + length h.lines) (h.later ++ h.line ∷ []))
+          (append_assoc h.done pending (out ++ codes "\n") ∙ ap (λ (l : List ℕ). h.done ++ l) all ∙ sym (append_assoc h.done done left)) (answered out is);
+      numbered = omega (arith, n, h.numbered, length-append h.lines h.later, length-append h.lines (h.later ++ h.line ∷ []), length-append h.later (h.line ∷ []));
+      keeps = empty;
+      few = still_few;
+      reads = subst (Consumes r0 r1) moved h.reads;
+      writes = subst (Appends w0 w2) (append_assoc h.text h.done done) (Appends-trans w0 w1 w2 (h.text ++ h.done) done h.writes written);
+    }
+
+    unanswered : (w2 : Option (List ℕ)) → (b == 10) ≡ true → Appends w1 w2 pending → IsUnanswered Says r0 r1 w0 w2
+    unanswered w2 e written = record {
+      bytes = h.bytes ++ (h.block ++ b ∷ []);
+      lines = h.lines ++ h.later;
+      last = h.line;
+      ahead = ahead;
+      text = h.text ++ (h.done ++ pending);
+      reads = subst (Consumes r0 r1) (moved ∙ sym (append_assoc h.bytes (h.block ++ b ∷ []) ahead)) h.reads;
+      few = let f = still_few in omega arith;
+      parts = ended e ∙ sym (append_assoc h.lines h.later (h.line ∷ []));
+      answers = answers_join 1 h.lines h.later h.text (h.done ++ pending) h.answers h.later_answers;
+      writes = subst (Appends w0 w2) (append_assoc h.text h.done pending) (Appends-trans w0 w1 w2 (h.text ++ h.done) pending h.writes written);
+    }
+
+    cut_after : (w2 : Option (List ℕ)) → (b == 10) ≡ true → (out : List ℕ) × Says kept number out × AppendsPart w1 w2 (pending ++ (out ++ codes "\n")) → IsUnwritten Says r0 r1 w0 w2
+    cut_after w2 e (out, is, (done, rest, all, written)) = record {
+      bytes = h.bytes;
+      lines = h.lines;
+      begun = h.begun;
+      text = h.text;
+      parts = h.goes;
+      answers = h.answers;
+      block = h.block ++ b ∷ [];
+      ahead = ahead;
+      few = still_few;
+      reads = subst (Consumes r0 r1) moved h.reads;
+      later = h.later ++ h.line ∷ [];
+      others = [];
+      later_parts = ended e ∙ ap (λ (ls : List (List ℕ)). h.lines ++ ls) (sym (append-nil (h.later ++ h.line ∷ [])));
+      one = omega arith;
+      done = h.done ++ done;
+      rest = rest;
+      later_answers = subst (AreAnswers Says (1 + length h.lines) (h.later ++ h.line ∷ []))
+          (append_assoc h.done pending (out ++ codes "\n") ∙ ap (λ (l : List ℕ). h.done ++ l) all ∙ sym (append_assoc h.done done rest)) (answered out is);
+      writes = subst (Appends w0 w2) (append_assoc h.text h.done done) (Appends-trans w0 w1 w2 (h.text ++ h.done) done h.writes written);
+    }
+
+    cut : (w2 : Option (List ℕ)) → (b == 10) ≡ true → IsCut Says kept number pending w1 w2 → IsUnwritten Says r0 r1 w0 w2
+    cut w2 e (inl part) = unwritten number kept pending (b ∷ ahead) r0 r1 w0 w1 h w2 part
+    cut w2 e (inr after) = cut_after w2 e after
+
+    pub line_broken : (w2 : Option (List ℕ)) (e : AskError) → (b == 10) ≡ true → IsLineBroken Says e kept number pending w1 w2 → IsBroken Says e r0 r1 w0 w2
+    line_broken w2 OutOfMemory e written = inr (unanswered w2 e written)
+    line_broken w2 NotHeld e written = unanswered w2 e written
+    line_broken w2 ReadFailed e broken = absurd broken
+    line_broken w2 WriteFailed e broken = cut w2 e broken
+    line_broken w2 OutputClosed e broken = cut w2 e broken
+
+  -- ---- the end of the input
+  module _ (number : ℕ) (kept : List ℕ) (r0 r1 r2 w0 w1 : Option (List ℕ)) (h : GoesOn Says number kept r0 r1 w0 w1) (same : Keeps r1 r2) where
     whole : lines_of h.bytes ≡ h.lines ++ lines_from h.line []
     whole = ap lines_of (sym (append-nil h.bytes)) ∙ h.goes []
 
-    -- the rest is answered
-    pub all_served : length kept ≡ 0 → Keeps r1 r2 → IsAtEnd r2 → IsServed r shown move_shown r0 r2 w0 w1
-    all_served e same end =
+    all_read : Consumes r0 r2 h.bytes
+    all_read = Consumes-kept r0 r1 r2 h.bytes h.reads same
+
+    -- nothing is left to answer
+    pub all_served : length kept ≡ 0 → IsAtEnd r2 → IsServed Says r0 r2 w0 w1
+    all_served e end =
         let none : h.line ≡ [] = none_kept h.line (ap length (sym h.keeps) ∙ e) in
         let lines : lines_of h.bytes ≡ h.lines = whole ∙ ap (λ (l : List ℕ). h.lines ++ lines_from l []) none ∙ ap (λ (ls : List (List ℕ)). h.lines ++ ls) lines_none ∙ append-nil h.lines in
         record {
           bytes = h.bytes;
           text = h.text;
-          reads = Consumes-kept r0 r1 r2 h.bytes h.reads same;
+          reads = all_read;
           end = end;
-          answers = subst (λ (ls : List (List ℕ)). AreAnswers r shown move_shown 1 ls h.text) (sym lines) h.answers;
+          answers = subst (λ (ls : List (List ℕ)). AreAnswers Says 1 ls h.text) (sym lines) h.answers;
           writes = h.writes;
         }
 
-    module _ (w2 : Option (List ℕ)) where
-      -- the last line has no end
-      last_lines : 0 < length kept → lines_of h.bytes ≡ h.lines ++ h.line ∷ []
-      last_lines some = whole ∙ ap (λ (ls : List (List ℕ)). h.lines ++ ls) (lines_end h.line (omega (arith, ap length h.keeps, length-take kept_bytes h.line)))
-
-      answered : (out : List ℕ) → IsAnswer r shown move_shown kept number out → AreAnswers r shown move_shown 1 (h.lines ++ h.line ∷ []) (h.text ++ (out ++ codes "\n"))
-      answered out a = answers_more 1 h.lines h.line h.text out h.answers (subst (λ (k : ℕ). IsAnswer r shown move_shown (take kept_bytes h.line) k out) h.numbered (subst (λ (l : List ℕ). IsAnswer r shown move_shown l number out) h.keeps a))
-
-      pub last_served : 0 < length kept → Keeps r1 r2 → IsAtEnd r2 → (out : List ℕ) × IsAnswer r shown move_shown kept number out × Appends w1 w2 (out ++ codes "\n") → IsServed r shown move_shown r0 r2 w0 w2
-      last_served some same end (out, is, written) = record {
-        bytes = h.bytes;
-        text = h.text ++ (out ++ codes "\n");
-        reads = Consumes-kept r0 r1 r2 h.bytes h.reads same;
-        end = end;
-        answers = subst (λ (ls : List (List ℕ)). AreAnswers r shown move_shown 1 ls (h.text ++ (out ++ codes "\n"))) (sym (last_lines some)) (answered out is);
-        writes = Appends-trans w0 w1 w2 h.text (out ++ codes "\n") h.writes written;
-      }
-
-      -- the answer to a line is cut short
-      half_said : (bytes : List ℕ) → Consumes r0 r2 bytes → lines_of bytes ≡ h.lines ++ h.line ∷ [] → IsHalfSaid r shown move_shown kept number w1 w2 → IsUnwritten r shown move_shown r0 r2 w0 w2
-      half_said bytes reads parts (out, is, (done, rest, e, part)) = record {
-        bytes = bytes;
-        lines = h.lines;
-        last = h.line;
-        text = h.text;
-        out = out;
-        reads = reads;
-        parts = parts;
-        answers = h.answers;
-        is_answer = subst (λ (k : ℕ). IsAnswer r shown move_shown (take kept_bytes h.line) k out) h.numbered (subst (λ (l : List ℕ). IsAnswer r shown move_shown l number out) h.keeps is);
-        done = done;
-        rest = rest;
-        front = e;
-        writes = Appends-trans w0 w1 w2 h.text done h.writes part;
-      }
-
-      unsaid : (bytes : List ℕ) → Consumes r0 r2 bytes → lines_of bytes ≡ h.lines ++ h.line ∷ [] → Keeps w1 w2 → IsUnanswered r shown move_shown r0 r2 w0 w2
-      unsaid bytes reads parts same = record {
-        bytes = bytes;
-        lines = h.lines;
-        last = h.line;
-        text = h.text;
-        reads = reads;
-        parts = parts;
-        answers = h.answers;
-        writes = Appends-kept w0 w1 w2 h.text h.writes same;
-      }
-
-      cut : (e : AskError) (bytes : List ℕ) → Consumes r0 r2 bytes → lines_of bytes ≡ h.lines ++ h.line ∷ [] → IsLineBroken r shown move_shown e kept number w1 w2 → IsBroken r shown move_shown e r0 r2 w0 w2
-      cut OutOfMemory bytes reads parts same = unsaid bytes reads parts same
-      cut NotHeld bytes reads parts same = unsaid bytes reads parts same
-      cut ReadFailed bytes reads parts never = absurd never
-      cut WriteFailed bytes reads parts half = half_said bytes reads parts half
-      cut OutputClosed bytes reads parts half = half_said bytes reads parts half
-
-      pub last_cut : (e : AskError) → 0 < length kept → Keeps r1 r2 → IsLineBroken r shown move_shown e kept number w1 w2 → IsBroken r shown move_shown e r0 r2 w0 w2
-      last_cut e some same broken = cut e h.bytes (Consumes-kept r0 r1 r2 h.bytes h.reads same) (last_lines some) broken
-
-      -- a line ends here
-      one_line : (b : ℕ) (more : List ℕ) → (b == 10) ≡ true → lines_of ((h.bytes ++ b ∷ []) ++ more) ≡ (h.lines ++ h.line ∷ []) ++ lines_from [] more
-      one_line b more e = ap lines_of (append_assoc h.bytes (b ∷ []) more) ∙ h.goes (b ∷ more) ∙ ap (λ (ls : List (List ℕ)). h.lines ++ ls) (lines_next h.line b more e) ∙ sym (append_assoc h.lines (h.line ∷ []) (lines_from [] more))
-
-      pub line_cut : (e : AskError) (b : ℕ) → (b == 10) ≡ true → Consumes r1 r2 (b ∷ []) → IsLineBroken r shown move_shown e kept number w1 w2 → IsBroken r shown move_shown e r0 r2 w0 w2
-      line_cut e b is reads broken = cut e (h.bytes ++ b ∷ []) (Consumes-trans r0 r1 r2 h.bytes (b ∷ []) h.reads reads)
-          (ap lines_of (sym (append-nil (h.bytes ++ b ∷ []))) ∙ one_line b [] is ∙ ap (λ (ls : List (List ℕ)). (h.lines ++ h.line ∷ []) ++ ls) lines_none ∙ append-nil (h.lines ++ h.line ∷ [])) broken
-
-      pub next_line : (b : ℕ) (new : List ℕ) → (b == 10) ≡ true → new ≡ [] → Consumes r1 r2 (b ∷ []) → (out : List ℕ) × IsAnswer r shown move_shown kept number out × Appends w1 w2 (out ++ codes "\n") → GoesOn (count + 1) (number + 1) r0 r2 w0 w2 new
-      next_line b new e empty reads (out, is, written) = record {
-        bytes = h.bytes ++ b ∷ [];
-        lines = h.lines ++ h.line ∷ [];
-        line = [];
-        text = h.text ++ (out ++ codes "\n");
-        few = let f = h.few in omega arith;
-        numbered = let f = h.numbered in omega (arith, length-append h.lines (h.line ∷ []));
-        reads = Consumes-trans r0 r1 r2 h.bytes (b ∷ []) h.reads reads;
-        writes = Appends-trans w0 w1 w2 h.text (out ++ codes "\n") h.writes written;
-        keeps = empty;
-        answers = answered out is;
-        goes = λ more. one_line b more e;
-      }
-
-    -- a byte of a line
-    same_line : (b : ℕ) (new : List ℕ) → (b == 10) ≡ false → Consumes r1 r2 (b ∷ []) → new ≡ take kept_bytes (h.line ++ b ∷ []) → GoesOn (count + 1) number r0 r2 w0 w1 new
-    same_line b new e reads keeps = record {
-      bytes = h.bytes ++ b ∷ [];
-      lines = h.lines;
-      line = h.line ++ b ∷ [];
-      text = h.text;
-      few = let f = h.few in omega arith;
-      numbered = h.numbered;
-      reads = Consumes-trans r0 r1 r2 h.bytes (b ∷ []) h.reads reads;
-      writes = h.writes;
-      keeps = keeps;
-      answers = h.answers;
-      goes = λ more. ap lines_of (append_assoc h.bytes (b ∷ []) more) ∙ h.goes (b ∷ more) ∙ ap (λ (ls : List (List ℕ)). h.lines ++ ls) (lines_more h.line b more e);
-    }
-
-    pub byte_kept : (b : ℕ) (new : List ℕ) → (b == 10) ≡ false → Consumes r1 r2 (b ∷ []) → length kept < kept_bytes → new ≡ kept ++ b ∷ [] → GoesOn (count + 1) number r0 r2 w0 w1 new
-    byte_kept b new e reads short is = same_line b new e reads (is ∙ kept_push kept h.line b h.keeps short)
-
-    pub byte_past : (b : ℕ) (new : List ℕ) → (b == 10) ≡ false → Consumes r1 r2 (b ∷ []) → kept_bytes ≤ length kept → new ≡ kept → GoesOn (count + 1) number r0 r2 w0 w1 new
-    byte_past b new e reads full is = same_line b new e reads (is ∙ kept_full kept h.line b h.keeps full)
-
     -- the input fails
-    pub read_fails : Keeps r1 r2 → IsUnread r shown move_shown r0 r2 w0 w1
-    read_fails same = record {
+    pub read_fails : IsUnread Says r0 r2 w0 w1
+    read_fails = record {
       bytes = h.bytes;
       lines = h.lines;
       begun = h.line;
       text = h.text;
-      reads = Consumes-kept r0 r1 r2 h.bytes h.reads same;
+      reads = all_read;
       parts = h.goes;
       answers = h.answers;
       writes = h.writes;
     }
 
--- an error that is passed on broke what it broke
-pub passed : {T E : Type 0} → (r : Result T E) (Q : E → Type 0) (e : E) → IsErrAnd r (λ y. y ≡ e) → Q e → IfErr r Q
-passed (Ok x) Q e h q = tt
-passed (Err y) Q e h q = subst Q (sym h) q
+    -- the last line has no end
+    module _ (w2 : Option (List ℕ)) (some : 0 < length kept) where
+      last_lines : lines_of h.bytes ≡ h.lines ++ h.line ∷ []
+      last_lines = whole ∙ ap (λ (ls : List (List ℕ)). h.lines ++ ls) (lines_end h.line (omega (arith, ap length h.keeps, length-take kept_bytes h.line)))
 
-pub err_map : {T E : Type 0} → (r : Result T E) (P Q : E → Type 0) → ((e : E) → P e → Q e) → IfErr r P → IfErr r Q
-err_map (Ok x) P Q f h = tt
-err_map (Err e) P Q f h = f e h
+      last_answer : (out : List ℕ) → Says kept number out → AreAnswers Says (1 + length h.lines) (h.line ∷ []) (out ++ codes "\n")
+      last_answer out is = one_answer (1 + length h.lines) h.line out (subst (λ (k : ℕ). Says (take kept_bytes h.line) k out) h.numbered (subst (λ (l : List ℕ). Says l number out) h.keeps is))
+
+      pub last_served : (out : List ℕ) → Says kept number out → IsAtEnd r2 → Appends w1 w2 (out ++ codes "\n") → IsServed Says r0 r2 w0 w2
+      last_served out is end written = record {
+        bytes = h.bytes;
+        text = h.text ++ (out ++ codes "\n");
+        reads = all_read;
+        end = end;
+        answers = subst (λ (ls : List (List ℕ)). AreAnswers Says 1 ls (h.text ++ (out ++ codes "\n"))) (sym last_lines)
+            (answers_join 1 h.lines (h.line ∷ []) h.text (out ++ codes "\n") h.answers (last_answer out is));
+        writes = Appends-trans w0 w1 w2 h.text (out ++ codes "\n") h.writes written;
+      }
+
+      last_unanswered : Keeps w1 w2 → IsUnanswered Says r0 r2 w0 w2
+      last_unanswered kept_out = record {
+        bytes = h.bytes;
+        lines = h.lines;
+        last = h.line;
+        ahead = [];
+        text = h.text;
+        reads = subst (Consumes r0 r2) (sym (append-nil h.bytes)) all_read;
+        few = omega arith;
+        parts = last_lines;
+        answers = h.answers;
+        writes = Appends-kept w0 w1 w2 h.text h.writes kept_out;
+      }
+
+      last_unwritten : (out : List ℕ) → Says kept number out → AppendsPart w1 w2 (out ++ codes "\n") → IsUnwritten Says r0 r2 w0 w2
+      last_unwritten out is (done, rest, e, written) = record {
+        bytes = h.bytes;
+        lines = h.lines;
+        begun = h.line;
+        text = h.text;
+        parts = h.goes;
+        answers = h.answers;
+        block = [];
+        ahead = [];
+        few = omega arith;
+        reads = subst (Consumes r0 r2) (sym (append-nil h.bytes)) all_read;
+        later = h.line ∷ [];
+        others = [];
+        later_parts = ap lines_of (append-nil h.bytes) ∙ last_lines;
+        one = omega arith;
+        done = done;
+        rest = rest;
+        later_answers = subst (AreAnswers Says (1 + length h.lines) (h.line ∷ [])) e (last_answer out is);
+        writes = Appends-trans w0 w1 w2 h.text done h.writes written;
+      }
+
+      pub last_refused : (e : AskError) → IsOfLine e → Keeps w1 w2 → IsBroken Says e r0 r2 w0 w2
+      last_refused OutOfMemory k kept_out = inr (last_unanswered kept_out)
+      last_refused NotHeld k kept_out = last_unanswered kept_out
+      last_refused ReadFailed k kept_out = absurd k
+      last_refused WriteFailed k kept_out = absurd k
+      last_refused OutputClosed k kept_out = absurd k
+
+      pub last_cut : (e : AskError) → IsOfOutput e → (out : List ℕ) → Says kept number out → AppendsPart w1 w2 (out ++ codes "\n") → IsBroken Says e r0 r2 w0 w2
+      last_cut OutOfMemory k out is part = absurd k
+      last_cut NotHeld k out is part = absurd k
+      last_cut ReadFailed k out is part = absurd k
+      last_cut WriteFailed k out is part = last_unwritten out is part
+      last_cut OutputClosed k out is part = last_unwritten out is part
+
+      -- with what is answered and written in one
+      pub last_done : (none all : List ℕ) → none ≡ [] → (out : List ℕ) × Says kept number out × (all ≡ none ++ (out ++ codes "\n")) → IsAtEnd r2 → Appends w1 w2 all → IsServed Says r0 r2 w0 w2
+      last_done none all e (out, is, a) end written = last_served out is end (subst (Appends w1 w2) (a ∙ ap (λ (l : List ℕ). l ++ (out ++ codes "\n")) e) written)
+
+      pub last_failed : (e : AskError) (none all : List ℕ) → none ≡ [] → (out : List ℕ) × Says kept number out × (all ≡ none ++ (out ++ codes "\n")) → IsOfOutput e → AppendsPart w1 w2 all → IsBroken Says e r0 r2 w0 w2
+      last_failed e none all n (out, is, a) k part = last_cut e k out is (subst (AppendsPart w1 w2) (a ∙ ap (λ (l : List ℕ). l ++ (out ++ codes "\n")) n) part)
+
+  -- the answers to a line, of which a first part is written
+  pub line_said : (line : List ℕ) (n : ℕ) (answers all left : List ℕ) (w1 w2 : Option (List ℕ)) → (out : List ℕ) × Says line n out × (all ≡ answers ++ (out ++ codes "\n"))
+      → (done : List ℕ) × (all ≡ done ++ left) × Appends w1 w2 done → IsLineDone Says line n answers left w1 w2
+  line_said line n answers all left w1 w2 (out, is, a) (done, e, written) = (out, done, is, sym a ∙ e, written)
+
+  pub line_unsaid : (line : List ℕ) (n : ℕ) (answers all : List ℕ) (w1 w2 : Option (List ℕ)) → (out : List ℕ) × Says line n out × (all ≡ answers ++ (out ++ codes "\n"))
+      → AppendsPart w1 w2 all → IsCut Says line n answers w1 w2
+  line_unsaid line n answers all w1 w2 (out, is, a) part = inr (out, is, subst (AppendsPart w1 w2) a part)
+
+  -- the output fails, of whatever kind the failure is
+  pub broken_output : (e : AskError) (r0 r1 w0 w1 : Option (List ℕ)) → IsOfOutput e → IsUnwritten Says r0 r1 w0 w1 → IsBroken Says e r0 r1 w0 w1
+  broken_output OutOfMemory r0 r1 w0 w1 k h = absurd k
+  broken_output NotHeld r0 r1 w0 w1 k h = absurd k
+  broken_output ReadFailed r0 r1 w0 w1 k h = absurd k
+  broken_output WriteFailed r0 r1 w0 w1 k h = h
+  broken_output OutputClosed r0 r1 w0 w1 k h = h
+
+  -- the answers are cut, of whatever kind the failure is
+  pub line_cut : (e : AskError) (line : List ℕ) (n : ℕ) (answers : List ℕ) (w1 w2 : Option (List ℕ)) → IsOfOutput e → IsCut Says line n answers w1 w2 → IsLineBroken Says e line n answers w1 w2
+  line_cut OutOfMemory line n answers w1 w2 k h = absurd k
+  line_cut NotHeld line n answers w1 w2 k h = absurd k
+  line_cut ReadFailed line n answers w1 w2 k h = absurd k
+  line_cut WriteFailed line n answers w1 w2 k h = h
+  line_cut OutputClosed line n answers w1 w2 k h = h
+
+  -- a line is refused, and what was pending is written
+  pub line_refused : (e : AskError) (line : List ℕ) (n : ℕ) (answers : List ℕ) (w1 w2 : Option (List ℕ)) → IsOfLine e → Appends w1 w2 answers → IsLineBroken Says e line n answers w1 w2
+  line_refused OutOfMemory line n answers w1 w2 k h = h
+  line_refused NotHeld line n answers w1 w2 k h = h
+  line_refused ReadFailed line n answers w1 w2 k h = absurd k
+  line_refused WriteFailed line n answers w1 w2 k h = absurd k
+  line_refused OutputClosed line n answers w1 w2 k h = absurd k

@@ -6,7 +6,8 @@ use Rattle.gm_game.specs.declared.position.Position.{Position}
 use Rattle.gm_game.specs.Rules.{Rules}
 use Rattle.gm_find.specs.declared.found.Found.{Found}
 use Rattle.gm_find.specs.declared.sought.Sought.{Sought}
-use Rattle.gm_find.specs.Founds.{AreFound}
+use Rattle.gm_find.specs.declared.sought.Choice.{Choice}
+use Rattle.gm_find.specs.Founds.{AreChosen}
 use Rattle.gm_json.specs.Words.{value_word, whole, text, move_or_null, line_of}
 
 -- a found position: its best move, the number of its moves, its text and its value; the members in alphabetical order
@@ -21,6 +22,7 @@ found_tree shown move_shown x =
 abbrev pub found_line : (Position → List ℕ) → (Position → ℕ → List ℕ) → Found → List ℕ
 found_line shown move_shown x = line_of (found_tree shown move_shown x)
 
--- the lines of the first positions that are sought, at most this many
-abbrev pub IsFoundJson : Rules → (Position → List ℕ) → (Position → ℕ → List ℕ) → Sought → Bool → ℕ → List ℕ → List ℕ → Type 0
-IsFoundJson r shown move_shown q reached limit tiers out = (xs : List Found) × AreFound r q reached limit tiers xs × (out ≡ flat_map (found_line shown move_shown) xs)
+-- the lines of those of the positions that are sought that a choice takes
+abbrev pub IsFoundJson : Rules → (Position → List ℕ) → (Position → ℕ → List ℕ) → Sought → Bool → Choice → List ℕ → List ℕ → Type 0
+IsFoundJson r shown move_shown q reached choice tiers out =
+    (xs : List Found) × AreChosen r q reached choice tiers xs × (out ≡ flat_map (found_line shown move_shown) xs)

@@ -1,5 +1,9 @@
 pub mod Words
+pub mod Parts
 pub mod Moves
 pub mod Lines
 pub mod Founds
+pub mod Extras
+pub mod Answers
 pub mod Asking
+pub mod Midst

@@ -10,10 +10,11 @@ ghost use Rattle.gm_json.specs.Words.{move_or_null};
 ghost use Rattle.gm_json.specs.Founds.{found_tree, found_line, IsFoundJson};
 
 use crate::words::{push_line, put_text, put_word, text_value, word_of};
+use gm_find::choice::find_some;
 use gm_find::find_error::FindError;
-use gm_find::found::{Found, find};
+use gm_find::found::Found;
 use gm_find::reached::Reached;
-use gm_find::sought::Sought;
+use gm_find::sought::{Choice, Sought};
 use gm_game::position::Position;
 use gm_game::shown::Shown;
 use gm_table::tables::Tables;
@@ -22,7 +23,7 @@ use std::alloc::{AllocError, Global};
 
 /// The canonical positions that are sought as lines of compact JSON, each with its end: the best move (`null` where the game has ended), the number of the
 /// moves, the position, its remoteness and its value. The members stand in alphabetical order; the lines tier by tier in the order given and by ascending
-/// index: the first of them, at most `limit`. Where a set of reached positions is given, only positions in it count.
+/// index: the first of them, or so many by chance. Where a set of reached positions is given, only positions in it count.
 ///
 /// `NotHeld` is tested first, where one of the tiers, or one of its child tiers, has no table; where a whole line is asked for it also comes at a table that
 /// one rests on, and else nowhere.
@@ -32,13 +33,13 @@ pub fn find_json<G: Shown>(
     tiers: &[u64],
     sought: Sought,
     reached: Option<&Reached<G>>,
-    limit: usize,
+    choice: Choice,
 ) -> Result<Vec<u8>, FindError>
-    ensures text { IfOk result (λ v. IsFoundJson G.Game.rules G.shown G.move_shown sought (is_some reached.entry) limit tiers.now v.items) }
+    ensures text { IfOk result (λ v. IsFoundJson G.Game.rules G.shown G.move_shown sought (is_some reached.entry) choice tiers.now v.items) }
     ensures not_held { (AreTiersHeld G.Game.rules tables.now tiers.now → ⊥) → IsErrOf result FindError.NotHeld }
     ensures missing { IsErrOf result FindError.NotHeld → IsMissing G.Game.rules tables.now sought tiers.now }
 {
-    let found = find(alloc, tables, tiers, sought, reached, limit)?;
+    let found = find_some(alloc, tables, tiers, sought, reached, choice)?;
     match found_lines::<G>(alloc, found.as_slice()) {
         Ok(lines) => Ok(lines),
         Err(_) => Err(FindError::OutOfMemory),

@@ -3,9 +3,13 @@
 //! `specs/` has the definitions that contracts cite, and `proofs/` what follows from them.
 #![tactic(auto)]
 
+pub mod answer;
 pub mod ask;
 pub mod ask_error;
+pub mod asked;
+mod extras;
 pub mod find;
 pub mod line;
 pub mod moves;
+mod parts;
 mod words;

@@ -1,138 +1,153 @@
 //! What the moves of a position are worth, in JSON.
-ghost use Rattle.std.specs.Prelude.{◌≡◌, ◌↔◌, [], true, IfOk, OnOk, IsErrOf, string_bytes};
+ghost use Rattle.std.specs.Prelude.{◌≡◌, ◌↔◌, ◌++◌, true, false, codes, IfOk, OnOk, IsErrOf};
 ghost use Rattle.std.specs.List.{All};
 ghost use Rattle.gm_game.specs.declared.position.Position.{Position};
-ghost use Rattle.serde_json.specs.Data.{object};
-ghost use Rattle.serde_json.specs.View.{view, members_view};
-ghost use Rattle.serde_json.specs.Written.{compact_text};
+ghost use Rattle.serde_json.specs.Data.{Members};
+ghost use Rattle.serde_json.specs.Written.{compact_text, members_text};
 ghost use Rattle.gm_play.specs.PlayTexts.{IsMoveOf, IsNoPosition, IsReadAs};
 ghost use Rattle.gm_best.specs.Refusals.{AreNotHeld};
-ghost use Rattle.gm_json.specs.Moves.{move_tree, move_trees, moves_tree, IsMovesJson};
+ghost use Rattle.gm_json.specs.Parts.{item_text, member_text};
+ghost use Rattle.gm_json.specs.Moves.{move_tree, move_trees, moves_tree, position_members, IsMovesJson};
 
-use crate::words::{put_text, put_word, word_of};
+use crate::parts::{
+    push_bytes, push_comma, push_key, push_number_member, push_text_member, push_value_member,
+};
 use gm_best::play_error::PlayError;
 use gm_game::position::{Position, Solved};
 use gm_game::shown::Shown;
 use gm_play::by_text::{known_value, moves_at};
 use gm_play::move_values::MoveValue;
 use gm_table::tables::Tables;
-use serde_json::{Map, Value as Json, push, put};
 use std::alloc::{AllocError, Global};
 
 /// The position with this text as one line of compact JSON, without its end: its value and remoteness, and its moves, the best first, each with what it is
-/// worth, its result and the result's value and remoteness. The members stand in alphabetical order. Where `distinct` is set, of several moves that lead to one
-/// canonical position only the first is kept. Any bytes may be given.
+/// worth, its result, the result's value and remoteness, and the remoteness counted from before the move. Where `distinct` is set, of several moves that lead to
+/// one canonical position only the first is kept. Any bytes may be given.
 pub fn moves_json<G: Shown>(
     alloc: Global,
     tables: &Tables<G>,
     text: &[u8],
     distinct: bool,
-) -> Result<String, PlayError>
-    ensures text { IfOk result (λ s. IsMovesJson G.Game.rules G.shown G.move_shown distinct text.now (string_bytes s)) }
+) -> Result<Vec<u8>, PlayError>
+    ensures text { IfOk result (λ line. IsMovesJson G.Game.rules G.shown G.move_shown distinct text.now line.items) }
     ensures illegal { IsErrOf result PlayError.Illegal ↔ IsNoPosition G.Game.rules G.shown G.move_shown text.now }
     ensures not_held { IsErrOf result PlayError.NotHeld ↔ ((p : Position) × IsReadAs G.Game.rules G.shown G.move_shown text.now p × AreNotHeld G.Game.rules tables.now p) }
 {
     let (p, list) = moves_at(tables, text, distinct)?;
     let value = known_value(tables, p)?;
-    match moves_line::<G>(alloc, p, value, list.as_slice()) {
-        Ok(line) => Ok(line),
+    let mut line = Vec::new(alloc);
+    match push_position::<G>(alloc, &mut line, p, value, list.as_slice()) {
+        Ok(()) => Ok(line),
         Err(_) => Err(PlayError::OutOfMemory),
     }
 }
 
-// A legal position with some of its moves.
-fn moves_line<G: Shown>(
+// Appends a legal position with some of its moves.
+fn push_position<G: Shown>(
     alloc: Global,
-    p: Position,
-    value: Solved,
-    list: &[MoveValue],
-) -> Result<String, AllocError>
-    requires legal { G.Game.rules.is_legal p ≡ true }
-    requires each { All (IsMoveOf G.Game.rules p) list.now }
-    ensures { IfOk result (λ s. string_bytes s ≡ compact_text (moves_tree G.Game.rules G.shown G.move_shown p value list.now)) }
-{
-    let tree = moves_value::<G>(alloc, p, value, list)?;
-    let text = tree.to_string(alloc);
-    drop(tree);
-    text
-}
-
-fn moves_value<G: Shown>(
-    alloc: Global,
-    p: Position,
-    value: Solved,
-    list: &[MoveValue],
-) -> Result<Json, AllocError>
-    requires legal { G.Game.rules.is_legal p ≡ true }
-    requires each { All (IsMoveOf G.Game.rules p) list.now }
-    ensures { IfOk result (λ v. view v ≡ moves_tree G.Game.rules G.shown G.move_shown p value list.now) }
-{
-    let mut members = Map::new(alloc);
-    put_moves::<G>(alloc, &mut members, p, value, list)?;
-    Ok(Json::Object(members))
-}
-
-// Puts the members of a position into an empty object.
-fn put_moves<G: Shown>(
-    alloc: Global,
-    members: &mut Map<String, Json>,
+    out: &mut Vec<u8>,
     p: Position,
     value: Solved,
     list: &[MoveValue],
 ) -> Result<(), AllocError>
-    requires empty { members.old.entries ≡ [] }
     requires legal { G.Game.rules.is_legal p ≡ true }
     requires each { All (IsMoveOf G.Game.rules p) list.now }
-    ensures { OnOk result (object (members_view members.new.entries) ≡ moves_tree G.Game.rules G.shown G.move_shown p value list.now) }
+    ensures { OnOk result (out.new.items ≡ out.old.items ++ compact_text (moves_tree G.Game.rules G.shown G.move_shown p value list.now)) }
 {
-    put(members, alloc, "moves", move_list::<G>(alloc, p, list)?)?;
-    put_text(alloc, members, "position", G::show(p).as_slice())?;
-    put_word(alloc, members, "positionValue", word_of(value.value))?;
-    put(members, alloc, "remoteness", Json::from(value.remoteness))
+    push_bytes(out, b"{")?;
+    push_moves::<G>(alloc, out, p, list)?;
+    push_value::<G>(alloc, out, true, p, value)?;
+    push_bytes(out, b"}")
 }
 
-fn move_list<G: Shown>(alloc: Global, p: Position, list: &[MoveValue]) -> Result<Json, AllocError>
-    requires legal { G.Game.rules.is_legal p ≡ true }
-    requires each { All (IsMoveOf G.Game.rules p) list.now }
-    ensures { IfOk result (λ v. view v ≡ move_trees G.Game.rules G.shown G.move_shown p list.now) }
-{
-    let mut moves = Vec::new(alloc);
-    for x in list {
-        push(&mut moves, move_value::<G>(alloc, p, x)?)?;
-    }
-    Ok(Json::Array(moves))
-}
-
-fn move_value<G: Shown>(alloc: Global, p: Position, x: &MoveValue) -> Result<Json, AllocError>
-    requires legal { G.Game.rules.is_legal p ≡ true }
-    requires each { IsMoveOf G.Game.rules p x.now }
-    ensures { IfOk result (λ v. view v ≡ move_tree G.Game.rules G.shown G.move_shown p x.now) }
-{
-    let mut members = Map::new(alloc);
-    put_move::<G>(alloc, &mut members, p, *x)?;
-    Ok(Json::Object(members))
-}
-
-// Puts the members of a move into an empty object.
-fn put_move<G: Shown>(
+/// Appends the members that have a position, its value and its remoteness.
+pub(crate) fn push_value<G: Shown>(
     alloc: Global,
-    members: &mut Map<String, Json>,
+    out: &mut Vec<u8>,
+    later: bool,
+    p: Position,
+    value: Solved,
+) -> Result<(), AllocError>
+    requires { G.Game.rules.is_legal p ≡ true }
+    ensures { OnOk result ((more : Members) → out.new.items ++ members_text true more ≡ out.old.items ++ members_text later (position_members G.Game.rules G.shown G.move_shown p value more)) }
+{
+    push_text_member(alloc, out, later, "position", G::show(p).as_slice())?;
+    push_value_member(out, true, "positionValue", value.value)?;
+    push_number_member(out, true, "remoteness", u64::from(value.remoteness))
+}
+
+/// Appends the member that has the moves, which is the first.
+pub(crate) fn push_moves<G: Shown>(
+    alloc: Global,
+    out: &mut Vec<u8>,
+    p: Position,
+    list: &[MoveValue],
+) -> Result<(), AllocError>
+    requires legal { G.Game.rules.is_legal p ≡ true }
+    requires each { All (IsMoveOf G.Game.rules p) list.now }
+    ensures { OnOk result (out.new.items ≡ out.old.items ++ member_text false (codes "moves") (move_trees G.Game.rules G.shown G.move_shown p list.now)) }
+{
+    push_key(out, false, "moves")?;
+    push_list::<G>(alloc, out, p, list)
+}
+
+fn push_list<G: Shown>(
+    alloc: Global,
+    out: &mut Vec<u8>,
+    p: Position,
+    list: &[MoveValue],
+) -> Result<(), AllocError>
+    requires legal { G.Game.rules.is_legal p ≡ true }
+    requires each { All (IsMoveOf G.Game.rules p) list.now }
+    ensures { OnOk result (out.new.items ≡ out.old.items ++ compact_text (move_trees G.Game.rules G.shown G.move_shown p list.now)) }
+{
+    push_bytes(out, b"[")?;
+    let mut later = false;
+    for x in list {
+        push_item::<G>(alloc, out, later, p, *x)?;
+        later = true;
+    }
+    push_bytes(out, b"]")
+}
+
+fn push_item<G: Shown>(
+    alloc: Global,
+    out: &mut Vec<u8>,
+    later: bool,
     p: Position,
     x: MoveValue,
 ) -> Result<(), AllocError>
-    requires empty { members.old.entries ≡ [] }
     requires legal { G.Game.rules.is_legal p ≡ true }
     requires each { IsMoveOf G.Game.rules p x }
-    ensures { OnOk result (object (members_view members.new.entries) ≡ move_tree G.Game.rules G.shown G.move_shown p x) }
+    ensures { OnOk result (out.new.items ≡ out.old.items ++ item_text later (move_tree G.Game.rules G.shown G.move_shown p x)) }
 {
-    put_text(alloc, members, "move", G::move_text(p, x.number).as_slice())?;
-    put_word(alloc, members, "moveValue", word_of(x.worth.value))?;
-    put_text(alloc, members, "position", G::show(x.position).as_slice())?;
-    put_word(alloc, members, "positionValue", word_of(x.result.value))?;
-    put(
-        members,
+    push_comma(out, later)?;
+    push_move::<G>(alloc, out, p, x)
+}
+
+// Appends a move as an object.
+fn push_move<G: Shown>(
+    alloc: Global,
+    out: &mut Vec<u8>,
+    p: Position,
+    x: MoveValue,
+) -> Result<(), AllocError>
+    requires legal { G.Game.rules.is_legal p ≡ true }
+    requires each { IsMoveOf G.Game.rules p x }
+    ensures { OnOk result (out.new.items ≡ out.old.items ++ compact_text (move_tree G.Game.rules G.shown G.move_shown p x)) }
+{
+    push_bytes(out, b"{")?;
+    push_text_member(
         alloc,
-        "remoteness",
-        Json::from(x.result.remoteness),
-    )
+        out,
+        false,
+        "move",
+        G::move_text(p, x.number).as_slice(),
+    )?;
+    push_value_member(out, true, "moveValue", x.worth.value)?;
+    push_text_member(alloc, out, true, "position", G::show(x.position).as_slice())?;
+    push_value_member(out, true, "positionValue", x.result.value)?;
+    push_number_member(out, true, "remoteness", u64::from(x.result.remoteness))?;
+    push_number_member(out, true, "moveRemoteness", u64::from(x.worth.remoteness))?;
+    push_bytes(out, b"}")
 }

@@ -3,8 +3,9 @@ ghost use Rattle.std.specs.Prelude.{◌≡◌, ◌==◌, true, [], map, length};
 ghost use Rattle.gm_game.specs.Ascending.{put_all};
 ghost use Rattle.gm_game.specs.Boards.{least_index as least_index_of, next_images};
 ghost use Rattle.gm_game.specs.Children.{IsSetOf, HasSame, set_of};
-ghost use Rattle.gm_game.specs.Rules.{IsKind, IsFirstCanonical};
+ghost use Rattle.gm_game.specs.Rules.{IsKind};
 ghost use Rattle.gm_pieces.specs.MoveGames.{board_game, move_rules, steps, befores};
+ghost use Rattle.gm_pieces.specs.FirstBoards.{IsFirstBoard};
 
 use crate::boards::least_position;
 use crate::moves::{has_no_move, list_moves, plays_on, put_befores};
@@ -108,13 +109,14 @@ pub trait MoveLists: MoveRules {
         }
     }
 
-    /// The first index of the tier from `lo` up to `hi` that is that of a canonical legal position; `None` where there is none.
-    fn first_canonical(tier: u64, lo: u64, hi: u64) -> Option<u64>
-        ensures { IsFirstCanonical (move_rules Self.game) tier lo hi result }
+    /// The first canonical legal position of the tier with an index from `lo` up to `hi`: its index and its board; `None` where there is none.
+    fn first_board(tier: u64, lo: u64, hi: u64) -> Option<(u64, Self::Board)>
+        ensures { IsFirstBoard Self.cells Self.game tier lo hi result }
     {
         for index in lo..hi.min(Self::tier_size(tier)) {
-            if Self::is_canonical(Position { tier, index }, Self::board(tier, index)) {
-                return Some(index);
+            let board = Self::board(tier, index);
+            if Self::is_canonical(Position { tier, index }, board) {
+                return Some((index, board));
             }
         }
         None

@@ -70,7 +70,22 @@ impl<T: MoveLists> Game for OnBoards<T> {
     }
 
     fn first_canonical(tier: u64, lo: u64, hi: u64) -> Option<u64> {
-        T::first_canonical(tier, lo, hi)
+        let (index, _board) = T::first_board(tier, lo, hi)?;
+        Some(index)
+    }
+
+    fn first_results(
+        tier: u64,
+        lo: u64,
+        hi: u64,
+        list: &mut ArrayVec<Position, MOVES>,
+    ) -> Option<(u64, Option<End>)> {
+        let (index, board) = T::first_board(tier, lo, hi)?;
+        let end = T::end(board);
+        if end.is_none() {
+            T::fill_results(board, list);
+        }
+        Some((index, end))
     }
 
     fn parents(c: Position, tier: u64) -> ArrayVec<u64, PARENTS> {

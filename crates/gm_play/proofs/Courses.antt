@@ -20,8 +20,9 @@ use Rattle.gm_play.specs.Courses.{IsWonCourse, IsUnlostCourse}
 use Rattle.gm_play.proofs.Keeping.{reply_won, best_won, won_at, IsSafe, even_safe, reply_safe, best_safe, not_lost}
 use Rattle.gm_play.proofs.Reaching.{reached_reached, played_reached}
 use Rattle.gm_play.proofs.Reading.{find_is}
+use Rattle.gm_play.specs.declared.view.Question.{Question}
 
-module _ (r : Rules) (g : IsGame r) (shown : Position → List ℕ) (move_shown : Position → ℕ → List ℕ) (k : Advice) (seen : Position → List ℕ) (tier : ℕ) (known : IsKnown r tier k) where
+module _ (r : Rules) (g : IsGame r) (shown : Position → List ℕ) (move_shown : Position → ℕ → List ℕ) (k : Advice) (seen : Question → Position → List ℕ) (tier : ℕ) (known : IsKnown r tier k) where
   step : (p : Position) (m : ℕ) → IsReached r tier p → Contains (r.moves p) m → IsReached r tier (r.play p m)
   step p m h has = reached_reached r tier p (r.play p m) h (played_reached r g p m h.0 has)
 

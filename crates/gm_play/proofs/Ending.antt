@@ -17,6 +17,8 @@ use Rattle.gm_play.specs.Dialogue.{Advice, IsKnown, Said, Course, before, ends, 
 use Rattle.gm_play.specs.LastLines.{IsLastLine, EndsWon, EndsUnlost}
 use Rattle.gm_play.proofs.Reaching.{reached_reached, played_reached}
 use Rattle.gm_play.proofs.Reading.{find_is}
+use Rattle.gm_play.specs.declared.view.Question.TheVariants.{First, Again}
+use Rattle.gm_play.specs.declared.view.Question.{Question}
 
 abbrev newline : List ℕ
 newline = codes "\n"
@@ -55,7 +57,7 @@ unlost_line (Some None) t h c = inl c
 unlost_line (Some (Some You)) t h c = absurd (h refl)
 unlost_line (Some (Some Computer)) t h c = inr (inl c)
 
-module _ (r : Rules) (g : IsGame r) (shown : Position → List ℕ) (move_shown : Position → ℕ → List ℕ) (k : Advice) (seen : Position → List ℕ) (tier : ℕ) (known : IsKnown r tier k) where
+module _ (r : Rules) (g : IsGame r) (shown : Position → List ℕ) (move_shown : Position → ℕ → List ℕ) (k : Advice) (seen : Question → Position → List ℕ) (tier : ℕ) (known : IsKnown r tier k) where
   step : (p : Position) (m : ℕ) → IsReached r tier p → Contains (r.moves p) m → IsReached r tier (r.play p m)
   step p m h has = reached_reached r tier p (r.play p m) h (played_reached r g p m h.0 has)
 
@@ -78,7 +80,7 @@ module _ (r : Rules) (g : IsGame r) (shown : Position → List ℕ) (move_shown 
   place_ends p = (shown p ++ codes " " ++ text_of (k.value p), refl)
 
   person_case : (p : Position) (o : Option End) → IsReached r tier p → IsSaid (asks_or_ends r shown move_shown k seen p o)
-  person_case p None l = (l, ends_after (seen p) (codes "your move?\n") (codes "your move?", refl))
+  person_case p None l = (l, ends_after (seen First p) (codes "your move?\n") (codes "your move?", refl))
   person_case p (Some e) l = inl refl
 
   person_said : (p : Position) → IsReached r tier p → IsSaid (persons_turn r shown move_shown k seen p)
@@ -100,7 +102,7 @@ module _ (r : Rules) (g : IsGame r) (shown : Position → List ℕ) (move_shown 
       → IsSaid (if c then ends (codes "bye\n") else answer_to r shown move_shown k seen p o)
   reply_case p line true o l e = inl (inl refl)
   reply_case p line false None l e =
-      (l, ends_after (codes "not a move\n") (seen p ++ codes "your move?\n") (ends_after (seen p) (codes "your move?\n") (codes "your move?", refl)))
+      (l, ends_after (codes "not a move\n") (seen Again p ++ codes "your move?\n") (ends_after (seen Again p) (codes "your move?\n") (codes "your move?", refl)))
   reply_case p line false (Some m) l e =
       let has = (find_is (λ x. bytes_eq (move_shown p x) (without_return line)) (r.moves p) m e).0 in
       computer_said (r.play p m) (step p m l has)

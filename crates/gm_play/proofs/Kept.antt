@@ -12,6 +12,8 @@ use Rattle.gm_game.specs.Shown.{IsShown}
 use Rattle.gm_play.specs.declared.session.TheConstants.{KEPT}
 use Rattle.gm_play.specs.Dialogue.{Advice, Said, asks, without_return, reply, closing}
 use Rattle.gm_play.proofs.Reading.{none_found, reply_is, after_reply, closing_is}
+use Rattle.gm_play.specs.declared.view.Question.{Question}
+use Rattle.gm_play.specs.declared.view.Question.TheVariants.{Again}
 
 -- one byte more
 pub kept_push : (kept line : List ℕ) (b : ℕ) → kept ≡ take KEPT line → length kept < KEPT → kept ++ b ∷ [] ≡ take KEPT (line ++ b ∷ [])
@@ -32,8 +34,8 @@ text_of_length line false n h = omega (arith, h)
 text_long : (line : List ℕ) (n : ℕ) → n < length line → n ≤ length (without_return line)
 text_long line n h = text_of_length line (bytes_eq (drop (length line - 1) line) (13 ∷ [])) n h
 
-module _ (r : Rules) (shown : Position → List ℕ) (move_shown : Position → ℕ → List ℕ) (t : IsShown r shown move_shown) (k : Advice) (seen : Position → List ℕ) (p : Position) (legal : r.is_legal p ≡ true) where
-  no_move : (line : List ℕ) → LINE + 1 < length line → asks (codes "not a move\n" ++ seen p ++ codes "your move?\n") p ≡ reply r shown move_shown k seen p line
+module _ (r : Rules) (shown : Position → List ℕ) (move_shown : Position → ℕ → List ℕ) (t : IsShown r shown move_shown) (k : Advice) (seen : Question → Position → List ℕ) (p : Position) (legal : r.is_legal p ≡ true) where
+  no_move : (line : List ℕ) → LINE + 1 < length line → asks (codes "not a move\n" ++ seen Again p ++ codes "your move?\n") p ≡ reply r shown move_shown k seen p line
   no_move line long =
       let text = without_return line in
       let many : LINE + 1 ≤ length text = text_long line (LINE + 1) long in

@@ -8,6 +8,7 @@ use Rattle.gm_game.specs.declared.position.Position.{Position}
 use Rattle.gm_game.specs.Rules.{Rules}
 use Rattle.gm_game.proofs.Lists.{contains_none, contains_first, contains_later, contains_cases}
 use Rattle.gm_play.specs.Dialogue.{Advice, Said, ends, after_move, computers_turn, without_return, move_read, answer_to, reply, text_after, closing}
+use Rattle.gm_play.specs.declared.view.Question.{Question}
 
 module _ {X : Type 0} (test : X → Bool) where
   find_first : (y x : X) (ys : List X) (b : Bool) → (find test ys ≡ Some x → Contains ys x × (test x ≡ true)) → test y ≡ b → cond b (Some y) (find test ys) ≡ Some x → Contains (y ∷ ys) x × (test x ≡ true)
@@ -49,7 +50,7 @@ module _ (r : Rules) (shown : Position → List ℕ) (move_shown : Position → 
   pub read_is : (o : Option ℕ) → IsReadAs o → move_read r shown move_shown p text ≡ o
   read_is o h = found o (find test (r.moves p)) refl h
 
-module _ (r : Rules) (shown : Position → List ℕ) (move_shown : Position → ℕ → List ℕ) (k : Advice) (seen : Position → List ℕ) (p : Position) (line : List ℕ) where
+module _ (r : Rules) (shown : Position → List ℕ) (move_shown : Position → ℕ → List ℕ) (k : Advice) (seen : Question → Position → List ℕ) (p : Position) (line : List ℕ) where
   abbrev Reply : Bool → Option ℕ → Said
   Reply quits o = if quits then ends (codes "bye\n") else answer_to r shown move_shown k seen p o
 

@@ -22,19 +22,21 @@ use Rattle.gm_best.specs.BestMoves.{IsBestMove}
 use Rattle.gm_play.specs.Reached.{IsReached}
 use Rattle.gm_play.proofs.Keeping.{best_once}
 use Rattle.gm_play.proofs.Reaching.{own_reached, reached_by, known_from}
+use Rattle.gm_play.specs.declared.view.Question.TheVariants.{First}
+use Rattle.gm_play.specs.declared.view.Question.{Question}
 
 -- the true value is the known one
 pub value_known : (r : Rules) (k : Advice) (p : Position) (s : Solved) → r.is_legal p ≡ true → IsKnown r p.tier k → IsTrueValue r p s → s ≡ k.value p
 value_known r k p s l known h = IsTrueValue_once r p s (k.value p) h (known p (own_reached r p l)).0
 
-module _ (r : Rules) (shown : Position → List ℕ) (move_shown : Position → ℕ → List ℕ) (k : Advice) (seen : Position → List ℕ) (p : Position) where
+module _ (r : Rules) (shown : Position → List ℕ) (move_shown : Position → ℕ → List ℕ) (k : Advice) (seen : Question → Position → List ℕ) (p : Position) where
   pub place_is : (f b : List ℕ) → f ≡ shown p → b ≡ text_of (k.value p) → f ++ codes " " ++ b ++ codes "\n" ≡ place r shown move_shown k seen p
   place_is f b e d = ap (λ (x : List ℕ). x ++ codes " " ++ b ++ codes "\n") e ∙ ap (λ (x : List ℕ). shown p ++ codes " " ++ x ++ codes "\n") d
 
   pub person_ends : (e : End) → r.primitive p ≡ Some e → game_over You e ≡ asks_or_ends r shown move_shown k seen p (r.primitive p)
   person_ends e h = ap (asks_or_ends r shown move_shown k seen p) (sym h)
 
-  pub person_is_asked : r.primitive p ≡ None → asks (seen p ++ codes "your move?\n") p ≡ asks_or_ends r shown move_shown k seen p (r.primitive p)
+  pub person_is_asked : r.primitive p ≡ None → asks (seen First p ++ codes "your move?\n") p ≡ asks_or_ends r shown move_shown k seen p (r.primitive p)
   person_is_asked h = ap (asks_or_ends r shown move_shown k seen p) (sym h)
 
   pub computer_ends : (e : End) → r.primitive p ≡ Some e → game_over Computer e ≡ moves_or_ends r shown move_shown k seen p (r.primitive p) (k.best p)
@@ -63,7 +65,7 @@ pub best_reached : (r : Rules) (p : Position) (m : ℕ) → r.is_legal p ≡ tru
 best_reached r p m legal best game q e = reached_by r game p m legal best.1.best.there q e
 
 -- the best move is made: its line, and then the person's turn
-module _ (r : Rules) (shown : Position → List ℕ) (move_shown : Position → ℕ → List ℕ) (k : Advice) (seen : Position → List ℕ) (p : Position) (m : ℕ)
+module _ (r : Rules) (shown : Position → List ℕ) (move_shown : Position → ℕ → List ℕ) (k : Advice) (seen : Question → Position → List ℕ) (p : Position) (m : ℕ)
     (legal : r.is_legal p ≡ true) (known : IsKnown r p.tier k) (best : IsBestMove r p (Some m)) (text : List ℕ) (is : text ≡ move_shown p m) where
   abbrev next : Position → Said
   next q = persons_turn r shown move_shown k seen q

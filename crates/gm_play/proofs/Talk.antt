@@ -11,6 +11,7 @@ use Rattle.gm_play.specs.declared.session.TheConstants.{SESSION_BYTES, KEPT}
 use Rattle.gm_play.specs.Dialogue.{Advice, Said, text_after, count_after, waiting, turn, reply, closing, talk, count, spoken, used}
 use Rattle.gm_play.specs.Sessions.{AppendsPart, Says, IsRead, IsSession, IsUnread, IsUnwritten, IsTooLong}
 use Rattle.gm_play.proofs.Parts.{part_after, part_longer, part_is, text_is}
+use Rattle.gm_play.specs.declared.view.Question.{Question}
 
 -- what follows a question that was asked, and none that was not
 asked_text : (said : Said) (f : Position → List ℕ) (q : Position) → Some q ≡ said.asked → said.text ++ text_after f said.asked ≡ said.text ++ f q
@@ -19,7 +20,7 @@ asked_text said f q e = ap (λ (o : Option Position). said.text ++ text_after f 
 ended_text : (said : Said) (f : Position → List ℕ) → None ≡ said.asked → said.text ++ text_after f said.asked ≡ said.text
 ended_text said f e = ap (λ (o : Option Position). said.text ++ text_after f o) (sym e) ∙ append-nil said.text
 
-module _ (r : Rules) (shown : Position → List ℕ) (move_shown : Position → ℕ → List ℕ) (k : Advice) (seen : Position → List ℕ) where
+module _ (r : Rules) (shown : Position → List ℕ) (move_shown : Position → ℕ → List ℕ) (k : Advice) (seen : Question → Position → List ℕ) where
   abbrev Talk : (Position → List ℕ → List ℕ) → Position → List ℕ → List ℕ → List ℕ
   Talk = talk r shown move_shown k seen
 

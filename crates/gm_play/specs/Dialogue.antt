@@ -13,6 +13,8 @@ use Rattle.gm_best.specs.declared.side.Side.TheVariants.{You, Computer}
 use Rattle.gm_best.specs.BestMoves.{IsBestMove}
 use Rattle.gm_best.specs.Endings.{winner, over}
 use Rattle.gm_play.specs.Reached.{IsReached}
+use Rattle.gm_play.specs.declared.view.Question.{Question}
+use Rattle.gm_play.specs.declared.view.Question.TheVariants.{First, Again}
 
 -- a look-up of values and best moves
 pub record Advice : Type 0 where
@@ -80,8 +82,8 @@ abbrev pub course_after : Said → (Position → Course) → Course
 course_after said f = course_with said said.asked f
 
 -- nothing is seen beside the lines
-abbrev pub unseen : Position → List ℕ
-unseen p = []
+abbrev pub unseen : Question → Position → List ℕ
+unseen q p = []
 
 -- nothing is written yet
 abbrev pub waiting : Position → List ℕ → List ℕ
@@ -92,10 +94,10 @@ module _ (r : Rules) (shown : Position → List ℕ) (move_shown : Position → 
   abbrev pub move_read : Position → List ℕ → Option ℕ
   move_read p text = find (λ m. bytes_eq (move_shown p m) text) (r.moves p)
 
-  module _ (k : Advice) (seen : Position → List ℕ) where
-    -- what the person sees, and the question
-    abbrev pub question : Position → List ℕ
-    question p = seen p ++ codes "your move?\n"
+  module _ (k : Advice) (seen : Question → Position → List ℕ) where
+    -- what the person sees, and the question, which is asked again after what is no move
+    abbrev pub question : Question → Position → List ℕ
+    question q p = seen q p ++ codes "your move?\n"
 
     -- the line about a position
     abbrev pub place : Position → List ℕ
@@ -104,7 +106,7 @@ module _ (r : Rules) (shown : Position → List ℕ) (move_shown : Position → 
     -- what is said where the person is to move
     abbrev pub asks_or_ends : Position → Option End → Said
     asks_or_ends p (Some e) = game_over You e
-    asks_or_ends p None = asks (question p) p
+    asks_or_ends p None = asks (question First p) p
 
     abbrev pub persons_turn : Position → Said
     persons_turn p = before (place p) (asks_or_ends p (r.primitive p))
@@ -125,7 +127,7 @@ module _ (r : Rules) (shown : Position → List ℕ) (move_shown : Position → 
 
     -- what is said in answer to a line
     abbrev pub answer_to : Position → Option ℕ → Said
-    answer_to p None = asks (codes "not a move\n" ++ question p) p
+    answer_to p None = asks (codes "not a move\n" ++ question Again p) p
     answer_to p (Some m) = after_move (computers_turn (r.play p m))
 
     abbrev pub reply : Position → List ℕ → Said

@@ -7,6 +7,7 @@ use Rattle.gm_best.specs.declared.side.Side.{Side}
 use Rattle.gm_play.specs.declared.session_error.SessionError.{SessionError}
 use Rattle.gm_play.specs.declared.session_error.SessionError.TheVariants.{ReadFailed, WriteFailed, TooMuchInput}
 use Rattle.gm_play.specs.Dialogue.{Advice, Said, dialogue, dialogue_so_far, used}
+use Rattle.gm_play.specs.declared.view.Question.{Question}
 
 -- the most bytes that one session reads
 abbrev pub most_bytes : ℕ
@@ -25,7 +26,7 @@ AppendsPart old new text = (done rest : List ℕ) × (text ≡ done ++ rest) × 
 abbrev pub Says : Option (List ℕ) → Option (List ℕ) → Said → Option Position → Type 0
 Says old new said asked = (asked ≡ said.asked) × Appends old new said.text
 
-module _ (r : Rules) (shown : Position → List ℕ) (move_shown : Position → ℕ → List ℕ) (k : Advice) (seen : Position → List ℕ) (start : Position) (first : Side) where
+module _ (r : Rules) (shown : Position → List ℕ) (move_shown : Position → ℕ → List ℕ) (k : Advice) (seen : Question → Position → List ℕ) (start : Position) (first : Side) where
   -- these bytes were read, no more than one session reads, and none after the line that ends it
   pub record IsRead (old new : Option (List ℕ)) (bytes : List ℕ) : Type 0 where
     pub reads : Consumes old new bytes

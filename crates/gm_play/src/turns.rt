@@ -9,7 +9,7 @@ ghost use Rattle.gm_play.specs.Sessions.{AppendsPart, Says};
 
 use crate::session_error::SessionError;
 use crate::streams::{say, write_line};
-use crate::view::View;
+use crate::view::{Question, View};
 use gm_best::best_move::best_move;
 use gm_best::ending::over;
 use gm_best::side::Side;
@@ -44,14 +44,15 @@ fn write_place<G: Shown, V: View<G>, W: Write>(
 
 // Writes what the person sees, and asks them for a move.
 fn ask_move<G: Shown, V: View<G>, W: Write>(
+    asked: Question,
     p: Position,
     output: &mut W,
 ) -> Result<Option<Position>, SessionError>
     requires { G.Game.rules.is_legal p ≡ true }
-    ensures ok { IfOk result (λ o. (o ≡ Some p) × Appends (W.contents output.old) (W.contents output.new) (V.seen p ++ codes "your move?\n")) }
-    ensures err { OnErr result (AppendsPart (W.contents output.old) (W.contents output.new) (V.seen p ++ codes "your move?\n")) }
+    ensures ok { IfOk result (λ o. (o ≡ Some p) × Appends (W.contents output.old) (W.contents output.new) (V.seen asked p ++ codes "your move?\n")) }
+    ensures err { OnErr result (AppendsPart (W.contents output.old) (W.contents output.new) (V.seen asked p ++ codes "your move?\n")) }
 {
-    say(output, V::see(p).as_slice())?;
+    say(output, V::see(asked, p).as_slice())?;
     say(output, b"your move?\n")?;
     Ok(Some(p))
 }
@@ -82,7 +83,7 @@ fn ask<G: Shown, V: View<G>, W: Write>(
     write_place::<G, V, W>(tables, p, output)?;
     match G::primitive(p) {
         Some(end) => finish(output, over(Side::You, end)),
-        None => ask_move::<G, V, W>(p, output),
+        None => ask_move::<G, V, W>(Question::First, p, output),
     }
 }
 
@@ -174,11 +175,11 @@ fn ask_again<G: Shown, V: View<G>, W: Write>(
     output: &mut W,
 ) -> Result<Option<Position>, SessionError>
     requires { G.Game.rules.is_legal p ≡ true }
-    ensures ok { IfOk result (λ o. (o ≡ Some p) × Appends (W.contents output.old) (W.contents output.new) (codes "not a move\n" ++ V.seen p ++ codes "your move?\n")) }
-    ensures err { OnErr result (AppendsPart (W.contents output.old) (W.contents output.new) (codes "not a move\n" ++ V.seen p ++ codes "your move?\n")) }
+    ensures ok { IfOk result (λ o. (o ≡ Some p) × Appends (W.contents output.old) (W.contents output.new) (codes "not a move\n" ++ V.seen Question.Again p ++ codes "your move?\n")) }
+    ensures err { OnErr result (AppendsPart (W.contents output.old) (W.contents output.new) (codes "not a move\n" ++ V.seen Question.Again p ++ codes "your move?\n")) }
 {
     say(output, b"not a move\n")?;
-    ask_move::<G, V, W>(p, output)
+    ask_move::<G, V, W>(Question::Again, p, output)
 }
 
 /// Answers a line: where the person is asked next, or `None` where the session ends.

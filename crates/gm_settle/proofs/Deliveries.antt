@@ -1,5 +1,5 @@
 -- Deliveries into ranges of a tier.
-use Rattle.std.proofs.Common.{◌≡◌, ℕ, suc, ◌+◌, ◌<◌, ◌≤◌, ◌⊎◌, ◌↔◌, inl, inr, Bool, true, List, [], ◌∷◌, ◌++◌, length, map, filter, refl, ap, sym, subst, ◌∙◌, arith, length-append}
+use Rattle.std.proofs.Common.{◌≡◌, ℕ, ◌+◌, ◌<◌, ◌≤◌, ◌⊎◌, ◌↔◌, inl, inr, Bool, true, List, [], ◌++◌, length, map, filter, refl, ap, sym, subst, arith, length-append}
 use Rattle.std.specs.List.{Contains}
 use Rattle.std.proofs.lemmas.Bool.{cases_lt}
 use Rattle.std.proofs.lemmas.List.{length-map}
@@ -11,10 +11,9 @@ use Rattle.gm_game.specs.Laws.{IsGame}
 use Rattle.gm_game.specs.Values.{HasValue}
 use Rattle.gm_game.specs.Numbers.{AreThere}
 use Rattle.gm_settle.specs.Gathered.{AreOnce}
-use Rattle.gm_game.proofs.Lists.{contains_none, contains_first, contains_later, contains_cases, map_from, map_in}
-use Rattle.gm_game.proofs.Counts.{HasNoRepeats}
+use Rattle.gm_game.proofs.Lists.{contains_none, map_from, map_in}
 use Rattle.gm_settle.proofs.Distinct.{no_repeats_from, no_repeats_to, no_repeats_append, no_repeats_map, no_repeats_filter, in_filter, filter_has}
-use Rattle.gm_table.specs.Solving.{IsDelivery, AreDeliveries}
+use Rattle.gm_table.specs.Solving.{AreDeliveries}
 use Rattle.gm_settle.specs.Passes.{IsDeliveryIn}
 
 -- things of one of two kinds that have nothing in common

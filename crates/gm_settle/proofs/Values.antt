@@ -1,16 +1,16 @@
 -- The value of a position whose canonical children the tables know.
-use Rattle.std.proofs.Common.{◌≡◌, ◌≢◌, ℕ, ◌+◌, ◌<◌, ◌≤◌, suc, ◌==◌, ◌↔◌, ◌⊎◌, inl, inr, min, max, eqb-true, if◌then◌else◌, Bool, true, false, not, List, [], ◌∷◌, ◌++◌, length, map, take, get_or, filter, replicate, option_copied, Option, None, Some, IfSome, IsSome, refl, sym, ap, subst, ◌∙◌, arith}
+use Rattle.std.proofs.Common.{◌≡◌, ℕ, ◌+◌, ◌<◌, ◌≤◌, suc, ◌==◌, ◌↔◌, ◌⊎◌, inl, inr, eqb-true, if◌then◌else◌, Bool, true, false, not, List, [], ◌∷◌, ◌++◌, length, map, take, get_or, filter, replicate, option_copied, Option, None, Some, IfSome, refl, sym, ap, subst, ◌∙◌, arith}
 use Rattle.std.specs.List.{Contains}
 use Rattle.std.proofs.lemmas.Option.{same_Some, slice_get-get_or}
 use Rattle.std.proofs.lemmas.List.{map-append, map_more, take_more, take_all, length-map, length-take, get_or-replicate}
 use Rattle.std.proofs.lemmas.List.Filters.{length-filter_both}
 use Rattle.std.proofs.lemmas.List.Elements.{Contains-get_or, Contains-push_cases}
-use Rattle.gm_game.specs.declared.limits.TheConstants.{REMOTENESS, MOVES}
+use Rattle.gm_game.specs.declared.limits.TheConstants.{REMOTENESS}
 use Rattle.gm_game.specs.declared.position.Position.{Position}
 use Rattle.gm_game.specs.declared.position.Solved.{Solved}
 use Rattle.gm_game.specs.declared.position.Value.{Value}
 use Rattle.gm_game.specs.declared.position.Value.TheVariants.{Lose, Draw, Tie, Win}
-use Rattle.gm_game.specs.Rules.{Rules, at, IsCanonical, IsInner, IsCanonicalChild, IsTierOrChild}
+use Rattle.gm_game.specs.Rules.{Rules, at, IsCanonical, IsInner, IsCanonicalChild}
 use Rattle.gm_game.specs.Laws.{IsGame}
 use Rattle.gm_game.specs.Values.{HasValue, IsTrueValue}
 use Rattle.gm_game.specs.Children.{AreResults}
@@ -21,7 +21,7 @@ use Rattle.gm_game.proofs.Sets.{settled_by_list}
 use Rattle.gm_game.proofs.Settled.{known_since, known_record, value_from_children}
 use Rattle.gm_game.proofs.Symmetry.{near_child}
 use Rattle.gm_record.specs.declared.summary.Summary.{Summary}
-use Rattle.gm_table.specs.Tables.{TableData, IsTable, table_of, AreHeld, record_at, record_in, value_in}
+use Rattle.gm_table.specs.Tables.{TableData, table_of, AreHeld, record_at, record_in, value_in}
 use Rattle.gm_table.specs.Hands.{AreAtHand}
 use Rattle.gm_table.specs.Solving.{IsTooFar}
 use Rattle.gm_table.specs.Words.{record_of_word, is_decided}

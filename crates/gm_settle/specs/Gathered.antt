@@ -5,7 +5,7 @@ use Rattle.gm_game.specs.declared.limits.TheConstants.{REMOTENESS}
 use Rattle.gm_game.specs.declared.position.Position.{Position}
 use Rattle.gm_game.specs.Rules.{Rules}
 use Rattle.gm_game.specs.Children.{AreResults}
-use Rattle.gm_game.specs.Records.{lost_in, won_in, tied_in, least_of, all_won, IsKnown}
+use Rattle.gm_game.specs.Records.{lost_in, tied_in, least_of, all_won, IsKnown}
 use Rattle.gm_record.specs.declared.summary.Summary.{Summary}
 use Rattle.gm_table.specs.Tables.{TableData, value_in}
 use Rattle.gm_table.specs.Words.{is_decided}

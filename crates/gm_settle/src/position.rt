@@ -1,9 +1,10 @@
 //! One position of a tier.
-ghost use Rattle.std.specs.Prelude.{◌≡◌, ◌≤◌, ◌+◌, true, length, IfOk, IfErr, IfSome};
+ghost use Rattle.std.specs.Prelude.{◌≡◌, ◌≤◌, ◌+◌, length, None, Some, IfOk, IfErr, IfSome};
 ghost use Rattle.gm_game.specs.declared.limits.TheConstants.{MOVES, REMOTENESS};
 ghost use Rattle.gm_game.specs.Numbers.{AreThere};
 ghost use Rattle.gm_game.specs.Records.{settle, IsRecord};
-ghost use Rattle.gm_game.specs.Rules.{IsInner};
+ghost use Rattle.gm_game.specs.Children.{AreResults};
+ghost use Rattle.gm_game.specs.Rules.{IsCanonical, IsInner};
 ghost use Rattle.gm_game.specs.Values.{IsTrueValue};
 ghost use Rattle.gm_table.specs.Hands.{AreAtHand};
 ghost use Rattle.gm_table.specs.Tables.{AreHeld};
@@ -17,7 +18,7 @@ use arrayvec::ArrayVec;
 use gm_game::evaluate::of_end;
 use gm_game::game::Game;
 use gm_game::limits::{MOVES, REMOTENESS};
-use gm_game::position::{Kind, Position, Solved, Value};
+use gm_game::position::{End, Position, Solved, Value};
 use gm_record::summary::Summary;
 use gm_table::hand::SLOTS;
 use gm_table::table::Table;
@@ -27,7 +28,7 @@ use gm_table::tables::Tables;
 /// of their records.
 #[derive(Drop)]
 pub(crate) struct Lists {
-    results: ArrayVec<Position, MOVES>,
+    pub(crate) results: ArrayVec<Position, MOVES>,
     children: ArrayVec<Position, MOVES>,
     words: ArrayVec<u64, MOVES>,
 }
@@ -42,9 +43,9 @@ impl Lists {
         }
     }
 
-    // Writes the canonical children of p, once each and in any order.
-    fn fill<G: Game>(&mut self, p: Position)
-        requires { G.rules.is_legal p ≡ true }
+    // Writes each of the results that the lists hold once, in any order: the canonical children of p.
+    fn list_children<G: Game>(&mut self, p: Position)
+        requires { AreResults G.rules p self.old.results.items }
         ensures { AreOnce G.rules p self.new.children.items }
     {
         let Lists {
@@ -52,35 +53,35 @@ impl Lists {
             children,
             words: _,
         } = self;
-        G::fill_results(p, results);
         list_once(results.as_slice(), children);
     }
 }
 
-/// The record of an index of a tier, and how many of its canonical children are no draws. Children are written over what the lists hold.
-pub(crate) fn settle_index<'a, G: Game>(
+/// The record of a canonical legal position, and how many of its canonical children are no draws. The game has ended there so, or else goes on to the results that
+/// the lists hold. Children are written over what else they hold.
+pub(crate) fn settle_position<'a, G: Game>(
     tables: &'a Tables<G>,
     hand: &mut [Option<&'a Table<G>>],
     lists: &mut Lists,
     p: Position,
-) -> Result<(Option<Solved>, u64), Stop>
+    end: Option<End>,
+) -> Result<(Solved, u64), Stop>
+    requires canonical { IsCanonical G.rules p }
+    requires end { G.rules.primitive p ≡ end }
+    requires results { end ≡ None → AreResults G.rules p lists.old.results.items }
     requires held { AreHeld G.rules tables.now p.tier }
     requires long { length hand.old ≡ SLOTS }
     requires at_hand { AreAtHand tables.now hand.old }
-    ensures record { IfOk result (λ found. IsRecord G.rules REMOTENESS (IsTrueValue G.rules) p found.0) }
+    ensures record { IfOk result (λ found. IsRecord G.rules REMOTENESS (IsTrueValue G.rules) p (Some found.0)) }
     ensures number { IfOk result (λ found. AreThere found.1 (IsDeliveryIn G.rules p.tier p.index (p.index + 1))) }
     ensures few { IfOk result (λ found. found.1 ≤ MOVES) }
     ensures stop { IfErr result (IsStop G.rules p.tier) }
     ensures long { length hand.new ≡ SLOTS }
     ensures at_hand { AreAtHand tables.now hand.new }
 {
-    match G::kind(p) {
-        Kind::Hole => Ok((None, 0)),
-        Kind::Ended(end) => Ok((Some(of_end(end)), 0)),
-        Kind::Inner => {
-            let (solved, number) = settle_inner::<G>(tables, hand, lists, p)?;
-            Ok((Some(solved), number))
-        }
+    match end {
+        Some(end) => Ok((of_end(end), 0)),
+        None => settle_inner::<G>(tables, hand, lists, p),
     }
 }
 
@@ -92,6 +93,7 @@ fn settle_inner<'a, G: Game>(
     p: Position,
 ) -> Result<(Solved, u64), Stop>
     requires inner { IsInner G.rules p }
+    requires results { AreResults G.rules p lists.old.results.items }
     requires held { AreHeld G.rules tables.now p.tier }
     requires long { length hand.old ≡ SLOTS }
     requires at_hand { AreAtHand tables.now hand.old }
@@ -103,7 +105,7 @@ fn settle_inner<'a, G: Game>(
     ensures long { length hand.new ≡ SLOTS }
     ensures at_hand { AreAtHand tables.now hand.new }
 {
-    lists.fill::<G>(p);
+    lists.list_children::<G>(p);
     let Lists {
         results: _,
         children,

@@ -5,7 +5,7 @@ ghost use Rattle.gm_game.specs.Numbers.{AreThere};
 ghost use Rattle.gm_table.specs.Tables.{AreHeld};
 ghost use Rattle.gm_settle.specs.Passes.{IsPart, IsDeliveryIn, IsStop};
 
-use crate::position::{Lists, settle_index};
+use crate::position::{Lists, settle_position};
 use crate::stop::Stop;
 use gm_game::game::Game;
 use gm_game::limits::TIER_SIZE;
@@ -37,15 +37,16 @@ pub(crate) fn settle_range<G: Game>(
     let mut lists = Lists::new();
     let mut hand = [None; SLOTS];
     let mut next = lo;
-    while let Some(index) = G::first_canonical(tier, next, hi) {
+    while let Some((index, end)) = G::first_results(tier, next, hi, &mut lists.results) {
         records.push_none((index - next) as usize)?;
-        let (known, more) = settle_index::<G>(
+        let (solved, more) = settle_position::<G>(
             tables,
             &mut hand,
             &mut lists,
             Position { tier, index },
+            end,
         )?;
-        records.push(known)?;
+        records.push(Some(solved))?;
         number += more;
         next = index + 1;
     }

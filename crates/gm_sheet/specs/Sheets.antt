@@ -13,7 +13,8 @@ use Rattle.gm_play.specs.declared.best_line.LineEnd.TheVariants.{Over, Again, Cu
 use Rattle.gm_play.specs.BestLines.{IsBestLine, ComesToNotHeld}
 use Rattle.gm_find.specs.declared.found.Found.{Found}
 use Rattle.gm_find.specs.declared.sought.Sought.{Sought}
-use Rattle.gm_find.specs.Founds.{AreFound}
+use Rattle.gm_find.specs.declared.sought.Choice.{Choice}
+use Rattle.gm_find.specs.Founds.{AreChosen}
 use Rattle.gm_draw.specs.declared.pictured.Style.{Style}
 use Rattle.gm_draw.specs.Diagrams.{escaped, IsDiagram}
 use Rattle.gm_sheet.specs.declared.solution.TheConstants.{SOLUTION_MOVES}
@@ -97,10 +98,10 @@ module _ (r : Rules) (shown : Position → List ℕ) (move_shown : Position → 
   AreEntries (x ∷ xs) [] = ⊥
   AreEntries (x ∷ xs) (e ∷ es) = IsEntry x e × AreEntries xs es
 
-  -- the sheet of the first positions that are sought, at most this many
-  pub record IsSheet (q : Sought) (reached : Bool) (limit : ℕ) (tiers out : List ℕ) : Type 0 where
+  -- the sheet of those of the positions that are sought that a choice takes
+  pub record IsSheet (q : Sought) (reached : Bool) (choice : Choice) (tiers out : List ℕ) : Type 0 where
     pub found : List Found
-    pub are_found : AreFound r q reached limit tiers found
+    pub are_found : AreChosen r q reached choice tiers found
     pub entries : List Entry
     pub are_entries : AreEntries found entries
     pub out_is : out ≡ sheet_of title entries

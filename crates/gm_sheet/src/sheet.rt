@@ -3,7 +3,7 @@ ghost use Rattle.std.specs.Prelude.{◌≡◌, ◌⊎◌, ◌++◌, ℕ, List, I
 ghost use Rattle.std.specs.List.{All, flat_map};
 ghost use Rattle.gm_find.specs.declared.found.Found.{Found};
 ghost use Rattle.gm_find.specs.Finding.{AreTiersHeld, IsMissing};
-ghost use Rattle.gm_find.specs.Founds.{AreFound, IsFound};
+ghost use Rattle.gm_find.specs.Founds.{AreChosen, IsFound};
 ghost use Rattle.gm_sheet.specs.Sheets.{Entry, entry_text, answer_text, heading, lists, sheet_of, IsEntry, AreEntries, IsSheet, MayRefuseLine, MayRefuseLines};
 
 use crate::parts::{SHEET_BACK, SHEET_DIAGRAMS, SHEET_FRONT, SHEET_SOLUTIONS};
@@ -12,16 +12,17 @@ use gm_best::play_error::PlayError;
 use gm_draw::diagram::diagram_text;
 use gm_draw::markup::push_escaped;
 use gm_draw::pictured::Pictured;
+use gm_find::choice::find_some;
 use gm_find::find_error::FindError;
-use gm_find::found::{Found, find};
+use gm_find::found::Found;
 use gm_find::reached::Reached;
-use gm_find::sought::Sought;
+use gm_find::sought::{Choice, Sought};
 use gm_table::tables::Tables;
 use std::alloc::{AllocError, Global};
 
 /// The canonical positions that are sought as a sheet, which is one HTML file: of each its diagram, and its solution to unfold; and the solutions once more for
 /// paper. A solution is the best move, how many moves there are, and the line of best play, of at most 40 moves. The positions stand in the order
-/// of `find`: the first of them, at most `limit`. Where a set of reached positions is given, only positions in it count.
+/// of `find`: the first of them, or so many by chance. Where a set of reached positions is given, only positions in it count.
 ///
 /// `NotHeld` is tested first: it comes where one of the tiers, or one of its child tiers, has no table; and else only where `find` says so of a whole line, or
 /// the line of best play from a found position comes to one whose tier, or one of its child tiers, has none. The whole sheet is made in memory.
@@ -31,16 +32,16 @@ pub fn sheet_text<G: Pictured>(
     tiers: &[u64],
     sought: Sought,
     reached: Option<&Reached<G>>,
-    limit: usize,
+    choice: Choice,
 ) -> Result<Vec<u8>, FindError>
-    ensures sheet { IfOk result (λ v. IsSheet G.Game.rules G.shown G.move_shown G.drawn G.mover G.style G.title G.board sought (is_some reached.entry) limit
+    ensures sheet { IfOk result (λ v. IsSheet G.Game.rules G.shown G.move_shown G.drawn G.mover G.style G.title G.board sought (is_some reached.entry) choice
         tiers.now v.items) }
     ensures first { (AreTiersHeld G.Game.rules tables.now tiers.now → ⊥) → IsErrOf result FindError.NotHeld }
     ensures not_held { IsErrOf result FindError.NotHeld → IsMissing G.Game.rules tables.now sought tiers.now
-        ⊎ ((xs : List Found) × AreFound G.Game.rules sought (is_some reached.entry) limit tiers.now xs
+        ⊎ ((xs : List Found) × AreChosen G.Game.rules sought (is_some reached.entry) choice tiers.now xs
         × MayRefuseLines G.Game.rules tables.now xs PlayError.NotHeld) }
 {
-    let found = find(alloc, tables, tiers, sought, reached, limit)?;
+    let found = find_some(alloc, tables, tiers, sought, reached, choice)?;
     match sheet_of_found(alloc, tables, found.as_slice()) {
         Ok(sheet) => Ok(sheet),
         Err(PlayError::OutOfMemory) => Err(FindError::OutOfMemory),

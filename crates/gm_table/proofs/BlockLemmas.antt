@@ -16,14 +16,14 @@ use Rattle.gm_table.specs.Checks.{FitsAt, FitBetween, IsFirstWrong, IsFirstWrong
 
 -- where the index of a class lies in a round
 class_block : (i round class : ℕ) → class_of i ≡ class → round * 65536 ≤ i → i < (round + 1) * 65536
-    → (round * 65536 + class % 8192 * 8 ≤ i) × (i < round * 65536 + class % 8192 * 8 + 8)
+    → (round * 65536 + class % 1024 * 64 ≤ i) × (i < round * 65536 + class % 1024 * 64 + 64)
 class_block i round class e low high =
-    let a = div-add-mod i 8 in
-    let b = mod-lt i {m = 8} (omega arith) in
-    let c = div-add-mod (i / 8) 8192 in
-    let d = mod-lt (i / 8) {m = 8192} (omega arith) in
-    let f = div-add-mod class 8192 in
-    let g = mod-lt class {m = 8192} (omega arith) in
+    let a = div-add-mod i 64 in
+    let b = mod-lt i {m = 64} (omega arith) in
+    let c = div-add-mod (i / 64) 1024 in
+    let d = mod-lt (i / 64) {m = 1024} (omega arith) in
+    let f = div-add-mod class 1024 in
+    let g = mod-lt class {m = 1024} (omega arith) in
     (omega arith, omega arith)
 
 module _ (r : Rules) (entries : List TableData) (tier : ℕ) (records : List (Option Solved)) where
@@ -32,7 +32,7 @@ module _ (r : Rules) (entries : List TableData) (tier : ℕ) (records : List (Op
   ClassFits class end = (i : ℕ) → class_of i ≡ class → i < end → FitsAt r entries tier records i
 
   -- one round more fits
-  pub class_more : (round class lo hi : ℕ) → lo ≡ min (round * 65536 + class % 8192 * 8) (length records) → hi ≡ min (round * 65536 + class % 8192 * 8 + 8) (length records)
+  pub class_more : (round class lo hi : ℕ) → lo ≡ min (round * 65536 + class % 1024 * 64) (length records) → hi ≡ min (round * 65536 + class % 1024 * 64 + 64) (length records)
       → ClassFits class (round * 65536) → FitBetween r entries tier records lo hi → ClassFits class ((round + 1) * 65536)
   class_more round class lo hi from to before here i e l o q = elim (cases_order i (round * 65536)) [
     | inl at_start ↦ (let b = class_block i round class e (omega arith) l in let w = slice_get_within records i o q in here i (omega arith) (omega arith) o q)
@@ -41,13 +41,13 @@ module _ (r : Rules) (entries : List TableData) (tier : ℕ) (records : List (Op
   ]
 
   -- the first wrong one in a round is the first of the class
-  pub class_first : (round class lo hi w : ℕ) → lo ≡ min (round * 65536 + class % 8192 * 8) (length records) → hi ≡ min (round * 65536 + class % 8192 * 8 + 8) (length records)
+  pub class_first : (round class lo hi w : ℕ) → lo ≡ min (round * 65536 + class % 1024 * 64) (length records) → hi ≡ min (round * 65536 + class % 1024 * 64 + 64) (length records)
       → ClassFits class (round * 65536) → IsFirstWrongIn r entries tier records lo hi (Some w) → IsFirstOfClass r entries tier records class w
   class_first round class lo hi w from to before here = record {
     before = λ i e l o q. elim (cases_order i (round * 65536)) [
-      | inl at_start ↦ (let g = mod-lt class {m = 8192} (omega arith) in let h = here.1 in let b = class_block i round class e (omega arith) (omega arith) in let in_list = slice_get_within records i o q in here.3 i (omega arith) l o q)
+      | inl at_start ↦ (let g = mod-lt class {m = 1024} (omega arith) in let h = here.1 in let b = class_block i round class e (omega arith) (omega arith) in let in_list = slice_get_within records i o q in here.3 i (omega arith) l o q)
       | inr (inl below) ↦ before i e below o q
-      | inr (inr above) ↦ (let g = mod-lt class {m = 8192} (omega arith) in let h = here.1 in let b = class_block i round class e (omega arith) (omega arith) in let in_list = slice_get_within records i o q in here.3 i (omega arith) l o q)
+      | inr (inr above) ↦ (let g = mod-lt class {m = 1024} (omega arith) in let h = here.1 in let b = class_block i round class e (omega arith) (omega arith) in let in_list = slice_get_within records i o q in here.3 i (omega arith) l o q)
     ];
     wrong = λ l. here.2;
   }
@@ -60,22 +60,22 @@ module _ (r : Rules) (entries : List TableData) (tier : ℕ) (records : List (Op
   abbrev pub IsFirstOfAll : ℕ → Type 0
   IsFirstOfAll w = (w < length records → IsFirstWrong r entries tier records w) × (length records ≤ w → (i : ℕ) → FitsAt r entries tier records i)
 
-  module _ (firsts : List ℕ) (each : AllZip (λ class first. IsFirstOfClass r entries tier records class first) (range_with_len 0 8192) firsts) where
-    as_many : length firsts ≡ 8192
-    as_many = sym (length_all_zip (λ class first. IsFirstOfClass r entries tier records class first) (range_with_len 0 8192) firsts each) ∙ length-range_with_len 0 8192
+  module _ (firsts : List ℕ) (each : AllZip (λ class first. IsFirstOfClass r entries tier records class first) (range_with_len 0 1024) firsts) where
+    as_many : length firsts ≡ 1024
+    as_many = sym (length_all_zip (λ class first. IsFirstOfClass r entries tier records class first) (range_with_len 0 1024) firsts each) ∙ length-range_with_len 0 1024
 
-    first_at : (class d : ℕ) → class < 8192 → IsFirstOfClass r entries tier records class (get_or firsts class d)
+    first_at : (class d : ℕ) → class < 1024 → IsFirstOfClass r entries tier records class (get_or firsts class d)
     first_at class d l =
-        let long = length-range_with_len 0 8192 in
-        let here = AllZip-get_or (λ class first. IsFirstOfClass r entries tier records class first) (range_with_len 0 8192) firsts class 0 d each (omega arith) in
+        let long = length-range_with_len 0 1024 in
+        let here = AllZip-get_or (λ class first. IsFirstOfClass r entries tier records class first) (range_with_len 0 1024) firsts class 0 d each (omega arith) in
         let same : 0 + class ≡ class = omega arith in
-        let place : get_or (range_with_len 0 8192) class 0 ≡ class = get_or-range_with_len 0 8192 class 0 l ∙ same in
+        let place : get_or (range_with_len 0 1024) class 0 ≡ class = get_or-range_with_len 0 1024 class 0 l ∙ same in
         subst (λ (k : ℕ). IsFirstOfClass r entries tier records k (get_or firsts class d)) place here
 
     -- what is before the least of them fits
     before_all : (w : ℕ) → IsLeast nat_cmp firsts (Some w) → (i : ℕ) → i < w → FitsAt r entries tier records i
     before_all w h i l =
-        let few : class_of i < 8192 = mod-lt (i / 8) {m = 8192} (omega arith) in
+        let few : class_of i < 1024 = mod-lt (i / 64) {m = 1024} (omega arith) in
         let n = as_many in
         let low = IsLeast-All firsts (Some w) h (class_of i) w (omega arith) in
         (first_at (class_of i) w few).before i (λ k. class_of i) (omega arith)

@@ -6,6 +6,7 @@ pub mod PlaceLemmas
 pub mod RunLemmas
 pub mod TableLemmas
 pub mod ValueLemmas
+pub mod NumberLemmas
 pub mod PackedLemmas
 pub mod WordLemmas
 pub mod VerdictLemmas

@@ -51,9 +51,9 @@ abbrev pub IsFirstWrongIn : Rules → List TableData → ℕ → List (Option So
 IsFirstWrongIn r entries tier records lo hi first = MatchOption first (FitBetween r entries tier records lo hi)
     (λ w. (lo ≤ w) × (w < hi) × (FitsAt r entries tier records w → ⊥) × FitBetween r entries tier records lo w)
 
--- the class of an index: blocks of 8 indexes are dealt out to 8,192 classes in turn
+-- the class of an index: blocks of 64 indexes are dealt out to 1,024 classes in turn
 abbrev pub class_of : ℕ → ℕ
-class_of i = i / 8 % 8192
+class_of i = i / 64 % 1024
 
 -- the records of the class before this index fit, and the record at the index, where there is one, doesn't
 pub record IsFirstOfClass (r : Rules) (entries : List TableData) (tier : ℕ) (records : List (Option Solved)) (class first : ℕ) : Type 0 where

@@ -2,6 +2,7 @@ pub mod Checks
 pub mod Dealing
 pub mod Hands
 pub mod Levels
+pub mod Numbers
 pub mod Packed
 pub mod Runs
 pub mod Solving

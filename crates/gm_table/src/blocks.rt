@@ -1,6 +1,7 @@
 //! Records checked by as many threads as there are processors.
-ghost use Rattle.std.specs.Prelude.{◌≡◌, ◌↔◌, ◌<◌, ◌≤◌, ℕ, length, IsTrue, MatchOption};
-ghost use Rattle.gm_game.specs.Rules.{AreHoles};
+ghost use Rattle.std.specs.Prelude.{◌≡◌, ◌↔◌, ◌<◌, ◌≤◌, ℕ, length, IsTrue, None, MatchOption};
+ghost use Rattle.gm_game.specs.Children.{AreResults};
+ghost use Rattle.gm_game.specs.Rules.{AreHoles, IsCanonical, at};
 ghost use Rattle.gm_game.specs.declared.limits.TheConstants.{TIER_SIZE};
 ghost use Rattle.gm_table.specs.Hands.{AreAtHand};
 ghost use Rattle.gm_table.specs.Checks.{FitsAt, IsFirstWrong, IsFirstWrongIn, IsFirstOfClass};
@@ -12,7 +13,7 @@ use crate::table::Table;
 use crate::tables::Tables;
 use gm_game::game::Game;
 use gm_game::limits::TIER_SIZE;
-use gm_game::position::Position;
+use gm_game::position::{End, Position};
 use rayon::prelude::*;
 use std::thread::Threads;
 
@@ -21,10 +22,10 @@ const FEW: usize = 4096;
 
 /// The number of indexes of a block. Blocks are dealt out to the classes in turn: canonical positions have low indexes, so contiguous parts of the tier would
 /// mean unequal work.
-const BLOCK: usize = 8;
+const BLOCK: usize = 64;
 
 /// The number of classes: enough for as many threads as rayon starts.
-const CLASSES: usize = 8192;
+const CLASSES: usize = 1024;
 
 /// The indexes of one round of blocks, one for each class.
 const ROUND: usize = 65_536;
@@ -53,9 +54,18 @@ impl<'a, G: Game, C: Records> Given<'a, G, C> {
         None
     }
 
-    // Whether the record at an index fits. Results are written over what the lists hold.
-    fn fits_at(&self, hand: &mut [Option<&'a Table<G>>], lists: &mut Lists, index: usize) -> bool
+    // Whether the record at the index of a canonical legal position fits, at which the game has ended so, or else goes on to the results that the lists hold.
+    fn fits_at(
+        &self,
+        hand: &mut [Option<&'a Table<G>>],
+        lists: &mut Lists,
+        index: usize,
+        end: Option<End>,
+    ) -> bool
         requires within { index < length (C.listed self.now.records.now) }
+        requires canonical { IsCanonical G.rules (at self.now.tier index) }
+        requires end { G.rules.primitive (at self.now.tier index) ≡ end }
+        requires results { end ≡ None → AreResults G.rules (at self.now.tier index) lists.old.results.items }
         requires long { length hand.old ≡ SLOTS }
         requires at_hand { AreAtHand self.now.tables.now hand.old }
         ensures value { IsTrue result ↔ FitsAt G.rules self.now.tables.now self.now.tier (C.listed self.now.records.now) index }
@@ -73,6 +83,7 @@ impl<'a, G: Game, C: Records> Given<'a, G, C> {
             hand,
             lists,
             p,
+            end,
             self.records.record(index),
         )
     }
@@ -94,13 +105,18 @@ impl<'a, G: Game, C: Records> Given<'a, G, C> {
         ensures at_hand { AreAtHand self.now.tables.now hand.new }
     {
         let mut next = lo;
-        while let Some(canonical) = G::first_canonical(self.tier, next as u64, hi as u64) {
+        while let Some((canonical, end)) = G::first_results(
+            self.tier,
+            next as u64,
+            hi as u64,
+            &mut lists.results,
+        ) {
             let index = canonical as usize;
             let filled = self.first_filled(next, index);
             if filled.is_some() {
                 return filled;
             }
-            if !self.fits_at(hand, lists, index) {
+            if !self.fits_at(hand, lists, index, end) {
                 return Some(canonical);
             }
             next = index + 1;

@@ -1,6 +1,7 @@
 //! Whether one record follows from the records of its position's canonical children.
-ghost use Rattle.std.specs.Prelude.{◌≡◌, ◌↔◌, IsTrue, length, option_copied};
+ghost use Rattle.std.specs.Prelude.{◌≡◌, ◌↔◌, IsTrue, None, length, option_copied};
 ghost use Rattle.gm_game.specs.Rules.{IsCanonical, IsInner};
+ghost use Rattle.gm_game.specs.Children.{AreResults};
 ghost use Rattle.gm_game.specs.Records.{settle};
 ghost use Rattle.gm_table.specs.Hands.{AreAtHand};
 ghost use Rattle.gm_table.specs.Tables.{record_of};
@@ -16,13 +17,13 @@ use arrayvec::ArrayVec;
 use gm_game::evaluate::of_end;
 use gm_game::game::Game;
 use gm_game::limits::{MOVES, REMOTENESS};
-use gm_game::position::{Kind, Position, Solved};
+use gm_game::position::{End, Position, Solved};
 use gm_record::summary::Summary;
 
 /// Lists that serve many positions: of one its results, and the words of their records.
 #[derive(Drop)]
 pub(crate) struct Lists {
-    results: ArrayVec<Position, MOVES>,
+    pub(crate) results: ArrayVec<Position, MOVES>,
     words: ArrayVec<u64, MOVES>,
 }
 
@@ -36,7 +37,7 @@ impl Lists {
     }
 }
 
-/// Whether this record of a position fits. The position's results are written over what the lists hold.
+/// Whether this record of a canonical legal position fits, at which the game has ended so, or else goes on to the results that the lists hold.
 pub(crate) fn fits<'a, G: Game, C: Records>(
     tier: u64,
     records: &C,
@@ -44,19 +45,22 @@ pub(crate) fn fits<'a, G: Game, C: Records>(
     hand: &mut [Option<&'a Table<G>>],
     lists: &mut Lists,
     p: Position,
+    end: Option<End>,
     known: Option<Solved>,
 ) -> bool
+    requires canonical { IsCanonical G.rules p }
+    requires end { G.rules.primitive p ≡ end }
+    requires results { end ≡ None → AreResults G.rules p lists.old.results.items }
     requires long { length hand.old ≡ SLOTS }
     requires at_hand { AreAtHand tables.now hand.old }
     ensures value { IsTrue result ↔ RecordFits G.rules tables.now tier (C.listed records.now) p known }
     ensures long { length hand.new ≡ SLOTS }
     ensures at_hand { AreAtHand tables.now hand.new }
 {
-    match (G::kind(p), known) {
-        (Kind::Hole, None) => true,
-        (Kind::Hole, Some(_)) | (_, None) => false,
-        (Kind::Ended(end), Some(solved)) => solved == of_end(end),
-        (Kind::Inner, Some(solved)) => {
+    match (end, known) {
+        (_, None) => false,
+        (Some(end), Some(solved)) => solved == of_end(end),
+        (None, Some(solved)) => {
             solved.remoteness <= REMOTENESS
                 && follows::<G, C>(tier, records, tables, hand, lists, p, solved)
         }
@@ -74,6 +78,7 @@ fn follows<'a, G: Game, C: Records>(
     solved: Solved,
 ) -> bool
     requires inner { IsInner G.rules p }
+    requires results { AreResults G.rules p lists.old.results.items }
     requires long { length hand.old ≡ SLOTS }
     requires at_hand { AreAtHand tables.now hand.old }
     ensures value { IsTrue result ↔ (solved ≡ value_from G.rules tables.now tier (C.listed records.now) p) }
@@ -83,7 +88,7 @@ fn follows<'a, G: Game, C: Records>(
     gather::<G, C>(tier, records, tables, hand, lists, p).settles(solved)
 }
 
-// What the canonical children of a position say: their words first, and then what the words say, so that no record is waited for before the next is asked for.
+// What the results of a position say, which the lists hold: their words first, and then what the words say, so that no record is waited for before the next is asked for.
 fn gather<'a, G: Game, C: Records>(
     tier: u64,
     records: &C,
@@ -93,6 +98,7 @@ fn gather<'a, G: Game, C: Records>(
     p: Position,
 ) -> Summary
     requires inner { IsInner G.rules p }
+    requires results { AreResults G.rules p lists.old.results.items }
     requires long { length hand.old ≡ SLOTS }
     requires at_hand { AreAtHand tables.now hand.old }
     ensures value { settle result.lost result.won result.tied ≡ value_from G.rules tables.now tier (C.listed records.now) p }
@@ -100,7 +106,6 @@ fn gather<'a, G: Game, C: Records>(
     ensures at_hand { AreAtHand tables.now hand.new }
 {
     let Lists { results, words } = lists;
-    G::fill_results(p, results);
     words.clear();
     for c in results.as_slice() {
         words.push(look_up::<G, C>(tier, records, tables, hand, *c));

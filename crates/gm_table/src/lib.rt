@@ -10,6 +10,7 @@ mod entry;
 mod fits;
 pub mod hand;
 mod levels;
+mod numbers;
 pub mod packed;
 mod records;
 mod runs;

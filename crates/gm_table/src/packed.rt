@@ -1,4 +1,4 @@
-//! Records of four bytes each.
+//! Records of two or four bytes each.
 ghost use Rattle.std.specs.Prelude.{◌≡◌, ◌≢◌, ◌*◌, ◌≤◌, ◌<◌, ◌++◌, [], ◌∷◌, None, map, replicate, take, IfSome, IfOk, length, OnOk, OnErr};
 ghost use Rattle.gm_game.specs.declared.limits.TheConstants.{REMOTENESS};
 ghost use Rattle.gm_record.specs.declared.version.Version.TheVariants.{Two};
@@ -7,6 +7,7 @@ ghost use Rattle.gm_table.specs.Packed.{code_of, unpacked, IsNear, AreNear};
 ghost use Rattle.gm_table.specs.Tables.{record_at};
 ghost use Rattle.gm_table.specs.Words.{record_of_word};
 
+use crate::numbers::Numbers;
 use crate::words::word_with;
 use gm_game::position::{Solved, Value};
 use std::alloc::{AllocError, Global};
@@ -15,10 +16,10 @@ use std::marker::Model;
 /// One more than the greatest remoteness: a record's number is the code of its value times this, plus its remoteness.
 pub(crate) const STEP: u32 = 1_048_576;
 
-/// Records of four bytes each. Contracts see the records.
+/// Records of two bytes each, or of four where one has a remoteness above 8,191. Contracts see the records.
 #[derive(Drop)]
 pub struct Packed {
-    numbers: Vec<u32>,
+    numbers: Numbers,
 }
 
 impl Model for Packed {
@@ -28,7 +29,7 @@ impl Model for Packed {
 
     ghost Value = { List (Option Solved) };
 
-    ghost view = { λ p. map unpacked p.numbers.items };
+    ghost view = { λ p. map unpacked p.numbers };
 }
 
 impl Packed {
@@ -36,7 +37,7 @@ impl Packed {
     pub fn with_capacity(alloc: Global, room: usize) -> Result<Packed, AllocError>
         ensures { IfOk result (λ packed. packed ≡ []) }
     {
-        let numbers = Vec::with_capacity(alloc, room)?;
+        let numbers = Numbers::with_capacity(alloc, room)?;
         Ok(Packed { numbers })
     }
 
@@ -55,7 +56,7 @@ impl Packed {
         ensures ok { OnOk result (self.new ≡ self.old ++ more.now) }
         ensures err { OnErr result (self.new ≡ self.old) }
     {
-        self.numbers.extend_from_slice(more.numbers.as_slice())?;
+        self.numbers.append(&more.numbers)?;
         Ok(())
     }
 
@@ -81,7 +82,7 @@ impl Packed {
         requires { AreNear records.now }
         ensures { IfOk result (λ packed. packed ≡ records.now) }
     {
-        let mut numbers = Vec::with_capacity(alloc, records.len())?;
+        let mut numbers = Numbers::with_capacity(alloc, records.len())?;
         for known in records {
             numbers.push(number_of(*known))?;
         }
@@ -110,7 +111,7 @@ impl Packed {
     pub fn get(&self, index: usize) -> Option<Solved>
         ensures { result ≡ record_at self.now index }
     {
-        unpacked(*self.numbers.get(index)?)
+        unpacked(self.numbers.get(index)?)
     }
 
     /// The word of the record at an index; 0 past the end.
@@ -118,7 +119,7 @@ impl Packed {
         ensures { record_of_word result ≡ record_at self.now index }
     {
         match self.numbers.get(index) {
-            Some(number) => word_with(*number),
+            Some(number) => word_with(number),
             None => 0,
         }
     }

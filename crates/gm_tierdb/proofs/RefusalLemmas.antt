@@ -1,11 +1,10 @@
 -- What is refused, and what isn't.
-use Rattle.std.proofs.Common.{◌≡◌, ℕ, ◌+◌, ◌^◌, ◌<◌, Bool, true, false, List, length, take, drop, get_or, Option, Vec, Result, Ok, Err, IfOk, IfErr, MatchResult, IsErrOf, IsTrue, ⊎_elim, refl, sym, ap, subst, ◌∙◌, arith}
+use Rattle.std.proofs.Common.{◌≡◌, ℕ, ◌+◌, ◌^◌, ◌<◌, Bool, true, false, List, length, take, drop, get_or, Option, Result, Ok, Err, IfOk, IfErr, MatchResult, IsErrOf, IsTrue, ⊎_elim, refl, sym, ap, subst, ◌∙◌, arith}
 use Rattle.std.proofs.Math.Bool.{not}
 use Rattle.std.specs.Int.{to_le_bytes, from_le_bytes, w64}
 use Rattle.std.specs.Str.{bytes_eq}
 use Rattle.std.proofs.lemmas.Nat.{from_le_bytes-to_le_bytes_8}
 use Rattle.std.proofs.lemmas.Slice.Eq.{bytes_eq-Decides}
-use Rattle.std.specs.declared.alloc.Global.{Global}
 use Rattle.sha2.specs.Sha256.{sha256}
 use Rattle.gm_game.specs.declared.limits.TheConstants.{NAME}
 use Rattle.gm_game.specs.declared.position.Solved.{Solved}
@@ -50,7 +49,7 @@ exact_answer listed v r named tier bytes (Ok x) found refused records is = same_
 exact_answer listed v r named tier bytes (Err e) found refused records is = only_memory v r named tier records bytes is e refused
 
 -- a text of version 1 is refused as that
-old_version : (r : Rules) → length r.name ≡ NAME → (tier : ℕ) (records : List (Option Solved)) (bytes : List ℕ) → IsVersionText One r tier records bytes → (e : FileError) → RefusesIn Two r tier bytes e → e ≡ OldVersion
+pub old_version : (r : Rules) → length r.name ≡ NAME → (tier : ℕ) (records : List (Option Solved)) (bytes : List ℕ) → IsVersionText One r tier records bytes → (e : FileError) → RefusesIn Two r tier bytes e → e ≡ OldVersion
 old_version r named tier records bytes is e h =
     let p = parts_of_text One r named tier records bytes is in
     let old = p.header.0.0.0.1 in

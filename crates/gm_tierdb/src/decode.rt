@@ -1,10 +1,11 @@
 //! Reading the file of a tier.
-ghost use Rattle.std.specs.Prelude.{◌≡◌, ◌+◌, ◌*◌, ◌^◌, ◌<◌, ◌≤◌, [], IfOk, OnOk, IfErr, IsErrOf, IfSome, IfNone, length, Option, List, MatchResult};
+ghost use Rattle.std.specs.Prelude.{◌≡◌, ◌+◌, ◌*◌, ◌^◌, ◌<◌, ◌≤◌, ◌↔◌, [], IsTrue, IfOk, OnOk, IfErr, IsErrOf, IfSome, IfNone, length, Option, List, MatchResult};
 ghost use Rattle.std.specs.Int.{to_le_bytes, w64};
 ghost use Rattle.gm_game.specs.declared.position.Solved.{Solved};
 ghost use Rattle.gm_record.specs.Numbers.{word, width};
 ghost use Rattle.gm_tierdb.specs.TierText.{AreRecords, IsTierText, IsTierText1, IsVersionText};
-ghost use Rattle.gm_tierdb.specs.Refusals.{IsFirstBad, RefusesRecords, HasRecords, HasHeader, Refuses, Refuses1, RefusesIn};
+ghost use Rattle.gm_tierdb.specs.Refusals.{IsFirstBad, RefusesRecords, HasRecords, HasHeader, Refuses, Refuses1, RefusesIn, records_part};
+ghost use Rattle.gm_tierdb.specs.Seals.{IsSealed, IsUnsealed, IsWhole, RefusesWhole, RefusesUnsealed};
 
 use crate::file_error::FileError;
 use crate::layout::{DIGEST_LEN, HEADER_LEN, MAGIC_LEN, NAME_END, TIER_END};
@@ -17,20 +18,34 @@ use gm_table::packed::Packed;
 use sha2::{Digest, Sha256};
 use std::alloc::Global;
 
-/// The records of a tier, from its file: docs/FORMATS.md, "Tier file". Any bytes may be given; memory is asked for last. The records take four bytes each.
+/// The records of a tier, from its file: docs/FORMATS.md, "Tier file". Any bytes may be given. The records take four bytes each. All is tested but the digest,
+/// which `is_sealed` tests, so that another thread may do so; memory is asked for last of what is done here.
 ///
 /// Only the checker of gm_table tells whether the records are the true ones. A file of version 1 is refused as `OldVersion`; `decode_v1` reads it.
-pub fn decode_packed<G: Game>(alloc: Global, tier: u64, bytes: &[u8]) -> Result<Packed, FileError>
-    ensures found { IfOk result (λ records. IsTierText G.rules tier records bytes.now) }
+pub fn decode_unsealed<G: Game>(alloc: Global, tier: u64, bytes: &[u8]) -> Result<Packed, FileError>
+    ensures found { IfOk result (λ records. IsUnsealed G.rules tier records bytes.now) }
     ensures exact { (records : List (Option Solved)) → IsTierText G.rules tier records bytes.now
         → MatchResult result (λ found. found ≡ records) (λ e. e ≡ FileError.OutOfMemory) }
     ensures old { (records : List (Option Solved)) → IsTierText1 G.rules tier records bytes.now → IsErrOf result FileError.OldVersion }
-    ensures refused { IfErr result (Refuses G.rules tier bytes.now) }
+    ensures refused { IfErr result (RefusesUnsealed G.rules tier bytes.now) }
 {
-    read_file::<G>(alloc, Version::Two, tier, bytes)
+    let parts = parts_of::<G>(Version::Two, tier, bytes)?;
+    read_records(alloc, Version::Two, parts.records, parts.size)
 }
 
-/// As `decode_packed`, in a list.
+/// Whether bytes end with the digest of those before it, as the file of a tier does.
+pub fn is_sealed(bytes: &[u8]) -> bool
+    ensures { IsTrue result ↔ IsSealed bytes.now }
+{
+    let Some(len) = bytes.len().checked_sub(DIGEST_LEN) else {
+        return false;
+    };
+    let (body, digest) = bytes.split_at(len);
+    Sha256::digest(body).as_slice() == digest
+}
+
+/// The records of a tier, from its file: docs/FORMATS.md, "Tier file". Any bytes may be given; memory is asked for last. A file of version 1 is refused as
+/// `OldVersion`.
 pub fn decode<G: Game>(
     alloc: Global,
     tier: u64,
@@ -89,6 +104,26 @@ fn read_file<G: Game>(
     ensures found { IfOk result (λ records. IsVersionText version G.rules tier records bytes.now) }
     ensures refused { IfErr result (RefusesIn version G.rules tier bytes.now) }
 {
+    let parts = parts_of::<G>(version, tier, bytes)?;
+    if !is_sealed(bytes) {
+        return Err(FileError::BadDigest);
+    }
+    read_records(alloc, version, parts.records, parts.size)
+}
+
+// Where the records of a file stand, and how many there are.
+#[derive(Clone, Copy)]
+struct Parts<'a> {
+    records: &'a [u8],
+    size: usize,
+}
+
+// The parts of a file: all is tested but the digest.
+fn parts_of<G: Game>(version: Version, tier: u64, bytes: &[u8]) -> Result<Parts, FileError>
+    ensures ok { IfOk result (λ parts. (parts.size ≡ G.rules.tier_size tier) × (parts.records.now ≡ records_part version parts.size bytes.now) × (length parts.records.now ≡ width version * parts.size)
+        × IsWhole version G.rules tier bytes.now) }
+    ensures refused { IfErr result (RefusesWhole version G.rules tier bytes.now) }
+{
     let size = G::tier_size(tier);
     check_header::<G>(version, tier, size, bytes)?;
     let Some(len) = records_len(version, size, bytes.len()) else {
@@ -103,10 +138,7 @@ fn read_file<G: Game>(
     if digest.len() != DIGEST_LEN {
         return Err(FileError::Trailing);
     }
-    if Sha256::digest(body).as_slice() != digest {
-        return Err(FileError::BadDigest);
-    }
-    read_records(alloc, version, records, size)
+    Ok(Parts { records, size })
 }
 
 // Tests all that stands before the records.
@@ -118,7 +150,7 @@ fn check_header<G: Game>(
 ) -> Result<(), FileError>
     requires { size ≡ G.rules.tier_size tier }
     ensures ok { OnOk result (HasHeader version G.rules tier bytes.now) }
-    ensures refused { IfErr result (RefusesIn version G.rules tier bytes.now) }
+    ensures refused { IfErr result (RefusesWhole version G.rules tier bytes.now) }
 {
     if bytes.len() < HEADER_LEN {
         return Err(FileError::Truncated);

@@ -1,15 +1,18 @@
 //! A store in a folder of files.
-ghost use Rattle.std.specs.Prelude.{◌≡◌, ◌+◌, ◌<◌, false, None, IfOk, string_bytes};
+ghost use Rattle.std.specs.Prelude.{◌≡◌, ◌+◌, ◌<◌, ◌⊎◌, true, false, None, Some, Ok, IfOk, IsErrOf, string_bytes, string_len};
 ghost use Rattle.gm_tierdb.specs.Owners.{path_text};
+ghost use Rattle.std.specs.Option.{option_or};
 ghost use Rattle.gm_tierdb.specs.StoreTexts.{failures_of};
 
-use crate::owner::is_anothers;
+use crate::layout::{MAGIC_LEN, NAME_END};
+use crate::owner::{is_anothers, may_be_anothers};
 use crate::store::Store;
 use crate::store_error::StoreError;
 use crate::streams::{read_text, write_text};
-use std::alloc::Global;
+use gm_game::limits::NAME;
+use std::alloc::{AllocError, Global};
 use std::fs::{self, File, Files, OpenFile};
-use std::io::ErrorKind;
+use std::io::{ErrorKind, Read};
 
 /// A store in a folder: docs/FORMATS.md, "Files in a folder". Tier t is the file `tier-<t>.gmt`, which is written as `tier-<t>.tmp`, synced and renamed. Where
 /// there is no file, the tier has no text. The folder is not made, and an empty path is no folder. Only the count of failures is promised, and not what the
@@ -22,6 +25,8 @@ pub struct FolderStore {
     folder: String,
     broken: u64,
     met_another: bool,
+    // The first tier whose file could not be looked at ahead of its turn.
+    unseen: Option<u64>,
 }
 
 impl FolderStore {
@@ -29,18 +34,66 @@ impl FolderStore {
     pub fn new(alloc: Global, folder: String) -> Self
         ensures folder { result.folder ≡ folder }
         ensures failed { ⟦<FolderStore as Store>⟧.failed result ≡ 0 }
+        ensures met_another { result.met_another ≡ false }
+        ensures unseen { result.unseen ≡ None }
     {
         FolderStore {
             alloc,
             folder,
             broken: 0,
             met_another: false,
+            unseen: None,
         }
     }
 
     /// Whether a write has failed because the file there is another game's.
-    pub fn met_another(&self) -> bool {
+    pub fn met_another(&self) -> bool
+        ensures { result ≡ self.now.met_another }
+    {
         self.met_another
+    }
+
+    /// Whether the file of a tier is an intact one of another game than the one of this name, for a caller that looks ahead. Nothing is written, and no
+    /// failure is counted: where the file can't be read, the answer is no, and a later `read` of that tier fails. The whole file is read only where its
+    /// first bytes name another game.
+    pub fn is_anothers<R: Files>(
+        &mut self,
+        rt: &R,
+        tier: u64,
+        name: &[u8; NAME],
+    ) -> Result<bool, AllocError>
+        ensures broken { self.new.broken ≡ self.old.broken }
+        ensures folder { self.new.folder ≡ self.old.folder }
+        ensures met_another { self.new.met_another ≡ self.old.met_another }
+        ensures unseen { (self.new.unseen ≡ self.old.unseen) ⊎ ((result ≡ Ok false) × (self.new.unseen ≡ option_or self.old.unseen (Some tier))) }
+        ensures empty { string_len self.old.folder ≡ 0 → (result ≡ Ok false) × (self.new.unseen ≡ option_or self.old.unseen (Some tier)) }
+    {
+        match self.has_anothers(rt, tier, name) {
+            Ok(another) => Ok(another),
+            Err(StoreError::OutOfMemory) => Err(AllocError),
+            Err(StoreError::Failed) => {
+                self.unseen = self.unseen.or(Some(tier));
+                Ok(false)
+            }
+        }
+    }
+
+    // The same, where a file that can't be read is a failure.
+    fn has_anothers<R: Files>(
+        &self,
+        rt: &R,
+        tier: u64,
+        name: &[u8; NAME],
+    ) -> Result<bool, StoreError>
+        ensures { string_len self.now.folder ≡ 0 → IsErrOf result StoreError.Failed }
+    {
+        if self.folder.is_empty() {
+            return Err(StoreError::Failed);
+        }
+        let path = self.path(tier, "gmt")?;
+        let mut bytes = [0; NAME_END];
+        bytes[MAGIC_LEN..].copy_from_slice(name);
+        holds_another(rt, self.alloc, path.as_str(), &bytes)
     }
 
     // The path of a tier's file with this ending.
@@ -55,13 +108,11 @@ impl FolderStore {
     }
 
     // The text of a tier, or none where there is no file.
-    fn get<R: Files>(
-        &self,
-        rt: &R,
-        alloc: Global,
-        tier: u64,
-    ) -> Result<Option<Vec<u8>>, StoreError> {
-        if self.folder.is_empty() {
+    fn get<R: Files>(&self, rt: &R, alloc: Global, tier: u64) -> Result<Option<Vec<u8>>, StoreError>
+        ensures empty { string_len self.now.folder ≡ 0 → IsErrOf result StoreError.Failed }
+        ensures unseen { self.now.unseen ≡ Some tier → IsErrOf result StoreError.Failed }
+    {
+        if self.folder.is_empty() || self.unseen == Some(tier) {
             return Err(StoreError::Failed);
         }
         let path = self.path(tier, "gmt")?;
@@ -70,7 +121,11 @@ impl FolderStore {
 
     // Writes the text of a tier.
     fn put<R: Files>(&mut self, rt: &R, tier: u64, bytes: &[u8]) -> Result<(), StoreError>
-        ensures { self.new.broken ≡ self.old.broken }
+        ensures broken { self.new.broken ≡ self.old.broken }
+        ensures folder { self.new.folder ≡ self.old.folder }
+        ensures unseen { self.new.unseen ≡ self.old.unseen }
+        ensures met_another { (self.new.met_another ≡ self.old.met_another) ⊎ (IsErrOf result StoreError.Failed × (self.new.met_another ≡ true)) }
+        ensures empty { string_len self.old.folder ≡ 0 → IsErrOf result StoreError.Failed × (self.new.met_another ≡ self.old.met_another) }
     {
         if self.folder.is_empty() {
             return Err(StoreError::Failed);
@@ -88,7 +143,10 @@ impl FolderStore {
         beside: &str,
         bytes: &[u8],
     ) -> Result<(), StoreError>
-        ensures { self.new.broken ≡ self.old.broken }
+        ensures broken { self.new.broken ≡ self.old.broken }
+        ensures folder { self.new.folder ≡ self.old.folder }
+        ensures unseen { self.new.unseen ≡ self.old.unseen }
+        ensures met_another { (self.new.met_another ≡ self.old.met_another) ⊎ (IsErrOf result StoreError.Failed × (self.new.met_another ≡ true)) }
     {
         if holds_another(rt, self.alloc, path, bytes)? {
             self.met_another = true;
@@ -102,6 +160,9 @@ impl FolderStore {
         requires { self.old.broken < u64.MAX }
         ensures same { result ≡ answer }
         ensures count { self.new.broken ≡ self.old.broken + failures_of answer }
+        ensures folder { self.new.folder ≡ self.old.folder }
+        ensures unseen { self.new.unseen ≡ self.old.unseen }
+        ensures met_another { self.new.met_another ≡ self.old.met_another }
     {
         if matches!(answer, Err(StoreError::Failed)) {
             self.broken += 1;
@@ -124,12 +185,31 @@ impl Store for FolderStore {
         rt: &R,
         alloc: Global,
         tier: u64,
-    ) -> Result<Option<Vec<u8>>, StoreError> {
+    ) -> Result<Option<Vec<u8>>, StoreError>
+        requires { self.old.broken < u64.MAX }
+        ensures count { self.new.broken ≡ self.old.broken + failures_of result }
+
+        // An empty path is no folder, and a file that could not be looked at ahead of its turn stays unread.
+        ensures empty { string_len self.old.folder ≡ 0 → IsErrOf result StoreError.Failed }
+        ensures ahead { self.old.unseen ≡ Some tier → IsErrOf result StoreError.Failed }
+        ensures folder { self.new.folder ≡ self.old.folder }
+        ensures unseen { self.new.unseen ≡ self.old.unseen }
+        ensures met_another { self.new.met_another ≡ self.old.met_another }
+    {
         let answer = self.get(rt, alloc, tier);
         self.counted(answer)
     }
 
-    fn write<R: Files>(&mut self, rt: &R, tier: u64, bytes: &[u8]) -> Result<(), StoreError> {
+    fn write<R: Files>(&mut self, rt: &R, tier: u64, bytes: &[u8]) -> Result<(), StoreError>
+        requires { self.old.broken < u64.MAX }
+        ensures count { self.new.broken ≡ self.old.broken + failures_of result }
+
+        // Another game's file is met only by a write that fails, and never forgotten.
+        ensures empty { string_len self.old.folder ≡ 0 → IsErrOf result StoreError.Failed × (self.new.met_another ≡ self.old.met_another) }
+        ensures met_another { (self.new.met_another ≡ self.old.met_another) ⊎ (IsErrOf result StoreError.Failed × (self.new.met_another ≡ true)) }
+        ensures folder { self.new.folder ≡ self.old.folder }
+        ensures unseen { self.new.unseen ≡ self.old.unseen }
+    {
         let answer = self.put(rt, tier, bytes);
         self.counted(answer)
     }
@@ -139,20 +219,58 @@ impl Store for FolderStore {
     }
 }
 
+// Whether an ordinary file is there; what else is there is a failure.
+fn is_there<R: Files>(rt: &R, path: &str) -> Result<bool, StoreError> {
+    match fs::metadata(rt, path) {
+        Ok(metadata) if metadata.is_file() => Ok(true),
+        Err(error) if error.kind() == ErrorKind::NotFound => Ok(false),
+        _ => Err(StoreError::Failed),
+    }
+}
+
 // The text of a file, or none where it is not there.
 fn read_file<R: Files>(rt: &R, alloc: Global, path: &str) -> Result<Option<Vec<u8>>, StoreError> {
-    match fs::metadata(rt, path) {
-        Ok(metadata) if metadata.is_file() => {}
-        Err(error) if error.kind() == ErrorKind::NotFound => return Ok(None),
-        _ => return Err(StoreError::Failed),
+    if !is_there(rt, path)? {
+        return Ok(None);
     }
     let mut file = fs::open(rt, path).map_err(|_| StoreError::Failed)?;
     let text = read_text(alloc, &mut file)?;
     Ok(Some(text))
 }
 
-// Whether an intact file of another game than the text's stands there.
+// The first bytes of a file, up to the name of its game; none where it has not so many, or is not there.
+fn read_head<R: Files>(rt: &R, path: &str) -> Result<Option<[u8; NAME_END]>, StoreError> {
+    if !is_there(rt, path)? {
+        return Ok(None);
+    }
+    let mut file = fs::open(rt, path).map_err(|_| StoreError::Failed)?;
+    let mut head = [0; NAME_END];
+    let mut count = 0;
+    while count < NAME_END {
+        match file.read(&mut head[count..]) {
+            Ok(0) => return Ok(None),
+            Ok(more) => count += more,
+            Err(_) => return Err(StoreError::Failed),
+        }
+    }
+    Ok(Some(head))
+}
+
+// Whether an intact file of another game than the text's stands there. Mostly its first bytes tell.
 fn holds_another<R: Files>(
+    rt: &R,
+    alloc: Global,
+    path: &str,
+    bytes: &[u8],
+) -> Result<bool, StoreError> {
+    match read_head(rt, path)? {
+        Some(head) if may_be_anothers(&head, bytes) => is_whole_another(rt, alloc, path, bytes),
+        _ => Ok(false),
+    }
+}
+
+// The same, by all bytes of the file.
+fn is_whole_another<R: Files>(
     rt: &R,
     alloc: Global,
     path: &str,

@@ -1,5 +1,5 @@
 //! A store in memory.
-ghost use Rattle.std.specs.Prelude.{◌≡◌, ◌≢◌, ℕ, true, None, IfErr};
+ghost use Rattle.std.specs.Prelude.{◌≡◌, ◌≢◌, ℕ, true, Ok, None, IfOk, IfErr};
 ghost use Rattle.std.specs.Option.{option_map};
 ghost use Rattle.std.specs.Ordering.{nat_cmp};
 ghost use Rattle.std.specs.BTreeMap.{get};
@@ -43,7 +43,14 @@ impl Store for MemStore {
         _rt: &R,
         alloc: Global,
         tier: u64,
-    ) -> Result<Option<Vec<u8>>, StoreError> {
+    ) -> Result<Option<Vec<u8>>, StoreError>
+        ensures text { IfOk result (λ o. option_map (λ v. v.items) o ≡ option_map (λ v. v.items) (get nat_cmp self.old.entries tier)) }
+        ensures same { self.new ≡ self.old }
+        ensures failed { IfErr result (λ e. e ≡ StoreError.OutOfMemory) }
+
+        // Memory is asked for only where there is a text.
+        ensures absent { get nat_cmp self.old.entries tier ≡ None → result ≡ Ok None }
+    {
         match self.entries.get(&tier) {
             None => Ok(None),
             Some(text) => match Vec::from_slice(alloc, text.as_slice()) {

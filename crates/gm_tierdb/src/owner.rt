@@ -1,5 +1,5 @@
 //! Whose the text of a tier is.
-ghost use Rattle.std.specs.Prelude.{◌≡◌, ◌↔◌, ◌≤◌, IsTrue, length};
+ghost use Rattle.std.specs.Prelude.{◌≡◌, ◌↔◌, ◌≤◌, ℕ, List, IsTrue, length, take};
 ghost use Rattle.gm_tierdb.specs.Owners.{IsIntact, IsAnothers, owner_of};
 
 use crate::layout::{DIGEST_LEN, HEADER_LEN, MAGIC_LEN, NAME_END};
@@ -13,6 +13,15 @@ pub fn is_anothers(text: &[u8], bytes: &[u8]) -> bool
     ensures { IsTrue result ↔ IsAnothers text.now bytes.now }
 {
     is_intact(text) && (bytes.len() < NAME_END || owner(text) != owner(bytes))
+}
+
+/// Whether a text with these first bytes, at least 24 of them, can be an intact tier file of another game than the one whose file the other bytes are.
+/// Where it can't, the rest of it needn't be read.
+pub(crate) fn may_be_anothers(head: &[u8], bytes: &[u8]) -> bool
+    requires { 24 ≤ length head.now }
+    ensures { (text : List ℕ) → take (length head.now) text ≡ head.now → IsAnothers text bytes.now → IsTrue result }
+{
+    &head[..MARK.len()] == MARK && (bytes.len() < NAME_END || owner(head) != owner(bytes))
 }
 
 // Whether a text is the file of a tier: what it begins with, and its digest.

@@ -1,7 +1,7 @@
 //! Texts from readers and to writers.
-ghost use Rattle.std.specs.Prelude.{◌≡◌, ◌⊎◌, ◌≤◌, ℕ, List, IfOk, OnOk, OnErr, IfErr, length};
+ghost use Rattle.std.specs.Prelude.{◌≡◌, ◌⊎◌, ◌≤◌, [], IfOk, IsOk, OnOk, OnErr, IfErr, IsErrOf, length};
 ghost use Rattle.std.specs.Io.KnownBytes.{Appends, Consumes, IsAtEnd};
-ghost use Rattle.gm_tierdb.specs.Streams.{AppendsPart, ConsumesPart};
+ghost use Rattle.gm_tierdb.specs.Streams.{AppendsPart, ConsumesPart, ConsumesSome};
 
 use crate::layout::FILE_LEN;
 use crate::store_error::StoreError;
@@ -20,6 +20,7 @@ pub fn read_text<R: Read>(alloc: Global, reader: &mut R) -> Result<Vec<u8>, Stor
     ensures most { IfOk result (λ v. length v.items ≤ READ_LEN) }
     ensures all { IfOk result (λ v. (length v.items ≡ READ_LEN) ⊎ IsAtEnd (R.remaining reader.new)) }
     ensures err { OnErr result (ConsumesPart (R.remaining reader.old) (R.remaining reader.new) READ_LEN) }
+    ensures memory { IsErrOf result StoreError.OutOfMemory → ConsumesSome (R.remaining reader.old) (R.remaining reader.new) }
 {
     let mut text = Vec::new(alloc);
     let mut chunk = [0u8; CHUNK_LEN];
@@ -42,6 +43,7 @@ pub fn write_text<W: Write>(writer: &mut W, bytes: &[u8]) -> Result<(), StoreErr
     ensures text { OnOk result (Appends (W.contents writer.old) (W.contents writer.new) bytes.now) }
     ensures front { OnErr result (AppendsPart (W.contents writer.old) (W.contents writer.new) bytes.now) }
     ensures failed { IfErr result (λ e. e ≡ StoreError.Failed) }
+    ensures empty { bytes.now ≡ [] → IsOk result }
 {
     let mut done = 0;
     while done < bytes.len() {

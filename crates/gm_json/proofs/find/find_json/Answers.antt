@@ -9,4 +9,4 @@ returns-in_err-found-clause-text g c = IfOk-from_err c.from_residual.result _ c.
 
 pub returns-in-Ok-clause-text : goal.returns-in-Ok-clause-text
 returns-in-Ok-clause-text g c =
-    (c.in_ok-found.found.items, c.in_ok-found.ensures.found, c.in-Ok.ensures ∙ ap (flat_map (found_line g.G.Shown.shown g.G.Shown.move_shown)) c.as_slice.ensures.value)
+    (c.in_ok-found.found.items, c.in_ok-found.ensures.chosen, c.in-Ok.ensures ∙ ap (flat_map (found_line g.G.Shown.shown g.G.Shown.move_shown)) c.as_slice.ensures.value)

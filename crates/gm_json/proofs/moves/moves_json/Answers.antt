@@ -1,4 +1,4 @@
-use Rattle.std.proofs.Common.{List, Err, ap, sym, subst, ◌∙◌}
+use Rattle.std.proofs.Common.{List, ℕ, ◌++◌, Err, ap, sym, subst, ◌∙◌}
 use Rattle.std.specs.List.{All}
 use Rattle.std.proofs.lemmas.Result.{IfOk-from_err}
 use Rattle.serde_json.specs.Written.{compact_text}
@@ -21,7 +21,7 @@ returns-in-Ok-clause-text g c =
       list = found.list;
       values = found.values;
       best = found.best;
-      out_is = c.in-Ok.ensures
+      out_is = c.in-Ok.ensures ∙ ap (λ (front : List ℕ). front ++ compact_text (moves_tree g.G.Game.rules g.G.Shown.shown g.G.Shown.move_shown c.in_ok-p.p c.in_ok-value.value c.as_slice.result.now)) c.new-line.ensures.items
           ∙ ap (λ (list : List MoveValue). compact_text (moves_tree g.G.Game.rules g.G.Shown.shown g.G.Shown.move_shown c.in_ok-p.p c.in_ok-value.value list)) (c.as_slice.ensures.value ∙ found.are);
     }
 
@@ -68,8 +68,8 @@ returns-in_err-value-clause-illegal g c =
       λ none. absurd (none c.in_ok-p.p c.in_ok-p.ensures.moves.read),
     )
 
-pub moves_line-requires-clause-legal : goal.moves_line-requires-clause-legal
-moves_line-requires-clause-legal g c = c.in_ok-p.ensures.moves.read.0
+pub push_position-requires-clause-legal : goal.push_position-requires-clause-legal
+push_position-requires-clause-legal g c = c.in_ok-p.ensures.moves.read.0
 
-pub moves_line-requires-clause-each : goal.moves_line-requires-clause-each
-moves_line-requires-clause-each g c = subst (All (IsMoveOf g.G.Game.rules c.in_ok-p.p)) (sym c.as_slice.ensures.value) c.in_ok-p.ensures.each
+pub push_position-requires-clause-each : goal.push_position-requires-clause-each
+push_position-requires-clause-each g c = subst (All (IsMoveOf g.G.Game.rules c.in_ok-p.p)) (sym c.as_slice.ensures.value) c.in_ok-p.ensures.each

@@ -3,6 +3,7 @@ use Rattle.gm_best.specs.declared.side.Side.TheVariants.{You}
 use Rattle.gm_play.specs.Dialogue.{game_over, asks, place, asks_or_ends}
 use Rattle.gm_play.proofs.Parts.{on_err, part_longer, done_by, stops_in}
 use Rattle.gm_play.proofs.Saying.{person_ends, person_is_asked}
+use Rattle.gm_play.specs.declared.view.Question.TheVariants.{First}
 use Rattle.gm_play.proofs.turns.ask.Goals as goal
 
 pub returns-in_err-write_place-clause-err : goal.returns-in_err-write_place-clause-err
@@ -41,8 +42,8 @@ returns-in-None-clause-ok g c k known =
     let m = g.G.Shown.move_shown in
     let v = g.V.View.seen in
     let p = c.args.p in
-    done_by _ _ _ (place r s m k v p) (asks_or_ends r s m k v p (r.primitive p)) (asks (v p ++ codes "your move?\n") p) (c.in_ok-write_place.ensures.ok k known)
-    (person_is_asked r s m k v p (sym c.primitive.ensures ∙ c.in-None.is)) (v p ++ codes "your move?\n") refl c.ask_move.result c.ask_move.ensures.ok
+    done_by _ _ _ (place r s m k v p) (asks_or_ends r s m k v p (r.primitive p)) (asks (v First p ++ codes "your move?\n") p) (c.in_ok-write_place.ensures.ok k known)
+    (person_is_asked r s m k v p (sym c.primitive.ensures ∙ c.in-None.is)) (v First p ++ codes "your move?\n") refl c.ask_move.result c.ask_move.ensures.ok
 
 pub returns-in-None-clause-err : goal.returns-in-None-clause-err
 returns-in-None-clause-err g c k known =
@@ -51,5 +52,5 @@ returns-in-None-clause-err g c k known =
     let m = g.G.Shown.move_shown in
     let v = g.V.View.seen in
     let p = c.args.p in
-    stops_in _ _ _ (place r s m k v p) (asks_or_ends r s m k v p (r.primitive p)) (asks (v p ++ codes "your move?\n") p) (c.in_ok-write_place.ensures.ok k known)
-    (person_is_asked r s m k v p (sym c.primitive.ensures ∙ c.in-None.is)) (v p ++ codes "your move?\n") refl c.ask_move.result c.ask_move.ensures.err
+    stops_in _ _ _ (place r s m k v p) (asks_or_ends r s m k v p (r.primitive p)) (asks (v First p ++ codes "your move?\n") p) (c.in_ok-write_place.ensures.ok k known)
+    (person_is_asked r s m k v p (sym c.primitive.ensures ∙ c.in-None.is)) (v First p ++ codes "your move?\n") refl c.ask_move.result c.ask_move.ensures.err

@@ -5,6 +5,7 @@ use Rattle.gm_play.specs.Dialogue.{ends, asks, after_move, computers_turn}
 use Rattle.gm_play.proofs.Parts.{ok_is, err_is}
 use Rattle.gm_play.proofs.Reaching.{reached_by, known_from, held_from, reached_option}
 use Rattle.gm_play.proofs.Reading.{says_bye, answers, moves}
+use Rattle.gm_play.specs.declared.view.Question.TheVariants.{Again}
 use Rattle.gm_play.proofs.turns.reply.Goals as goal
 
 pub returns-then-eq-clause-ok : goal.returns-then-eq-clause-ok
@@ -59,12 +60,12 @@ returns-in-Some-clause-asked g c =
 
 pub returns-in-None-clause-ok : goal.returns-in-None-clause-ok
 returns-in-None-clause-ok g c k known =
-    ok_is _ _ c.ask_again.result (asks (codes "not a move\n" ++ g.V.View.seen c.args.p ++ codes "your move?\n") c.args.p) _
+    ok_is _ _ c.ask_again.result (asks (codes "not a move\n" ++ g.V.View.seen Again c.args.p ++ codes "your move?\n") c.args.p) _
     (answers g.G.Game.rules g.G.Shown.shown g.G.Shown.move_shown k g.V.View.seen c.args.p c.args.line.now _ _ c.without_return-text.ensures c.as_slice.ensures c.eq.result c.eq.ensures c.if-eq.false
     c.read_move.result None c.read_move.ensures c.in-None.is) c.ask_again.ensures.ok
 
 pub returns-in-None-clause-err : goal.returns-in-None-clause-err
 returns-in-None-clause-err g c k known =
-    err_is _ _ c.ask_again.result (asks (codes "not a move\n" ++ g.V.View.seen c.args.p ++ codes "your move?\n") c.args.p) _
+    err_is _ _ c.ask_again.result (asks (codes "not a move\n" ++ g.V.View.seen Again c.args.p ++ codes "your move?\n") c.args.p) _
     (answers g.G.Game.rules g.G.Shown.shown g.G.Shown.move_shown k g.V.View.seen c.args.p c.args.line.now _ _ c.without_return-text.ensures c.as_slice.ensures c.eq.result c.eq.ensures c.if-eq.false
     c.read_move.result None c.read_move.ensures c.in-None.is) c.ask_again.ensures.err

@@ -1,4 +1,4 @@
-use Rattle.std.proofs.Common.{◌≡◌, ℕ, List, get_or, sym, subst, arith}
+use Rattle.std.proofs.Common.{List, get_or, sym, subst, arith}
 use Rattle.std.specs.List.{Contains}
 use Rattle.std.proofs.lemmas.List.{take_all}
 use Rattle.gm_game.specs.declared.position.Position.{Position}

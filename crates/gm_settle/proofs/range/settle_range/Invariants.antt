@@ -1,4 +1,4 @@
-use Rattle.std.proofs.Common.{◌≡◌, ℕ, ◌≤◌, ◌-◌, length}
+use Rattle.std.proofs.Common.{◌≡◌, ◌≤◌, ◌-◌, length}
 use Rattle.gm_table.specs.Hands.{AreAtHand}
 use Rattle.gm_settle.proofs.Parts.{ArePassed}
 use Rattle.gm_settle.proofs.range.settle_range.Given as goal

@@ -1,7 +1,5 @@
-use Rattle.std.proofs.Common.{◌≡◌, ◌↔◌, ℕ, length, rules, refl, Option, MatchOption, subst}
-use Rattle.gm_game.specs.declared.limits.TheConstants.{REMOTENESS}
-use Rattle.gm_game.specs.Records.{IsTrueTable}
-use Rattle.gm_table.specs.Checks.{FitTables, FitsAt, IsFirstWrong}
+use Rattle.std.proofs.Common.{◌≡◌, ℕ, length, rules, refl, Option, MatchOption, subst}
+use Rattle.gm_table.specs.Checks.{FitsAt, IsFirstWrong}
 use Rattle.gm_table.proofs.ValueLemmas.{true_iff_fit}
 use Rattle.gm_table.proofs.VerdictLemmas.{true_no_first}
 use Rattle.gm_table.proofs.checker.fault_of.Goals as goal

@@ -21,7 +21,7 @@ push-requires g c =
 pub loop-c-init : goal.loop-c-init
 loop-c-init g c = record {
   words_so_far = ap (map record_of_word) c.clear.ensures;
-  all_children = subst (AreResults g.G.Game.rules c.args.p) (sym c.as_slice-c-items.ensures.value) c.fill_results.ensures;
+  all_children = subst (AreResults g.G.Game.rules c.args.p) (sym c.as_slice-c-items.ensures.value) c.requires.results;
   hand_long = c.requires.long;
   at_hand = c.requires.at_hand;
 }

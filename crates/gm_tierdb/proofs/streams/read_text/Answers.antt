@@ -1,4 +1,4 @@
-use Rattle.std.proofs.Common.{◌≡◌, ◌++◌, ◌∙◌, ap, take, arith, inl}
+use Rattle.std.proofs.Common.{◌≡◌, ◌++◌, ◌∙◌, ap, take, arith, inl, length-append}
 use Rattle.std.proofs.lemmas.List.{length-take, take-append-le}
 use Rattle.std.proofs.KnownBytes.{Consumes-trans}
 use Rattle.gm_tierdb.specs.declared.streams.TheConstants.{READ_LEN}
@@ -12,6 +12,18 @@ returns-in-Err-extend_from_slice-clause-err g c =
       before ++ given,
       Consumes-trans _ _ _ _ _ c.loop-chunk.invariant.1 c.in-Ok.ensures.bytes.0,
       joined_small before given READ_LEN (omega (arith, c.in-Ok.ensures.bound, c.read.auto.buf, length-take c.min-room.result c.loop-chunk.chunk)),
+    )
+
+pub returns-in-Err-extend_from_slice-clause-memory : goal.returns-in-Err-extend_from_slice-clause-memory
+returns-in-Err-extend_from_slice-clause-memory g c _ =
+    let before = c.loop-chunk.text.items in
+    let given = take c.in-Ok.count c.read.new.buf in
+    let both = length-append before given in
+    let some = length-take c.in-Ok.count c.read.new.buf in
+    let room = length-take c.min-room.result c.loop-chunk.chunk in (
+      before ++ given,
+      Consumes-trans _ _ _ _ _ c.loop-chunk.invariant.1 c.in-Ok.ensures.bytes.0,
+      omega (arith, c.in-Ok.count-test, c.in-Ok.ensures.bound, c.read.auto.buf, both, some, room),
     )
 
 pub loop-chunk-preserved : goal.loop-chunk-preserved

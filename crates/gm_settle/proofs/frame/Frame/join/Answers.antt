@@ -1,5 +1,5 @@
-use Rattle.std.proofs.Common.{◌≡◌, ℕ, ◌+◌, ◌*◌, ◌<◌, ◌≤◌, List, Option, Ok, Err, Result, length, sym, ap, subst, ◌∙◌, arith}
-use Rattle.gm_settle.specs.Passes.{IsBlock, IsFound, IsStop}
+use Rattle.std.proofs.Common.{subst, arith}
+use Rattle.gm_settle.specs.Passes.{IsFound}
 use Rattle.gm_settle.proofs.Parts.{joined_none, joined_more, joined_true, joined_deliveries, joined_few, found_at}
 use Rattle.gm_settle.proofs.Values.{not_too_far}
 use Rattle.gm_settle.proofs.frame.Frame.join.Goals as goal

@@ -1,5 +1,5 @@
-use Rattle.std.proofs.Common.{◌≡◌, ◌*◌, ℕ, List, ap, subst, ◌∙◌}
-use Rattle.std.specs.List.{AllZip, range_with_len}
+use Rattle.std.proofs.Common.{◌≡◌, ◌*◌, ap, subst, ◌∙◌}
+use Rattle.std.specs.List.{AllZip}
 use Rattle.rayon.specs.Lists.{range_start, range_end, min_len_base}
 use Rattle.rayon.specs.Numbers.{nat_range}
 use Rattle.rayon.proofs.ListFacts.{IfOk-then}

@@ -1,4 +1,4 @@
-use Rattle.std.proofs.Common.{rules, ◌≡◌, ℕ, [], ◌∷◌, ◌++◌, length, length-append, sym, ap, subst, ◌∙◌, arith}
+use Rattle.std.proofs.Common.{rules, ◌≡◌, ℕ, [], ◌∷◌, ◌++◌, length, length-append, sym, ap, subst, arith}
 use Rattle.gm_table.specs.Dealing.{block_in}
 use Rattle.gm_table.proofs.Dealt.{EachAt, one_at}
 use Rattle.gm_settle.specs.Passes.{IsFound}

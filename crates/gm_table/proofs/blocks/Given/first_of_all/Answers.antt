@@ -14,9 +14,9 @@ returns g c =
     let (firsts, given, least, reduced) = c.min.ensures in
     let (numbers, places, zip) = given in
     let base = c.map.ensures.base in
-    let classes : numbers ≡ nat_range 0 8192 = places ∙ (λ i. nat_range (range_start (base i)) (range_end (base i))) ∙ (λ i. nat_range (ends.0 i) (ends.1 i)) in
-    let zero : 8192 - 0 ≡ 8192 = omega arith in
+    let classes : numbers ≡ nat_range 0 1024 = places ∙ (λ i. nat_range (range_start (base i)) (range_end (base i))) ∙ (λ i. nat_range (ends.0 i) (ends.1 i)) in
+    let zero : 1024 - 0 ≡ 1024 = omega arith in
     let Is = λ (class first : ℕ). IsFirstOfClass r self.tables.now self.tier (g.C.Records.listed self.records.now) class first in
     let asked : AllZip Is numbers firsts = subst (λ f. AllZip (λ class first. IsFirstOfClass r f.0.now.tables.now f.0.now.tier (g.C.Records.listed f.0.now.records.now) class first) numbers firsts) c.map.ensures.f zip in
-    let each : AllZip Is (range_with_len 0 8192) firsts = subst (λ (ks : List ℕ). AllZip Is ks firsts) (classes ∙ ap (range_with_len 0) zero) asked in
+    let each : AllZip Is (range_with_len 0 1024) firsts = subst (λ (ks : List ℕ). AllZip Is ks firsts) (classes ∙ ap (range_with_len 0) zero) asked in
     first_of_classes r self.tables.now self.tier (g.C.Records.listed self.records.now) firsts each c.min.result least

@@ -3,4 +3,4 @@ use Rattle.gm_table.specs.Packed.{unpacked}
 use Rattle.gm_table.proofs.packed.Packed.of.Given as goal
 
 abbrev pub invariant-loop-known : goal.invariant-loop-known
-invariant-loop-known l = map unpacked l.numbers.items ≡ take l.known-index l.records
+invariant-loop-known l = map unpacked l.numbers ≡ take l.known-index l.records

@@ -4,4 +4,4 @@ use Rattle.gm_table.specs.Packed.{unpacked}
 use Rattle.gm_table.proofs.packed.Packed.truncate.Goals as goal
 
 pub returns : goal.returns
-returns c = ap (map unpacked) c.truncate.ensures.items ∙ sym (take-map unpacked c.args.count c.self.inside.numbers.items) ∙ ap (take c.args.count) c.self.view_is
+returns c = ap (map unpacked) c.truncate.ensures ∙ sym (take-map unpacked c.args.count c.self.inside.numbers) ∙ ap (take c.args.count) c.self.view_is

@@ -1,0 +1,23 @@
+-- Fronts of texts that are written.
+use Rattle.std.proofs.Common.{◌≡◌, ℕ, ◌+◌, ◌-◌, ◌≤◌, List, ◌++◌, length, take, drop, Option, sym, ap, subst, ◌∙◌, arith, take-add, length-take, take-append-drop}
+use Rattle.std.proofs.lemmas.List.{take-take}
+use Rattle.std.specs.Io.KnownBytes.{Appends, Keeps}
+use Rattle.std.proofs.KnownBytes.{Appends-trans, Appends-kept}
+use Rattle.gm_play.specs.Sessions.{AppendsPart}
+
+module _ (a b c : Option (List ℕ)) (done : ℕ) (xs : List ℕ) (within : done ≤ length xs) (before : Appends a b (take done xs)) where
+  -- a write took some more bytes
+  pub more_written : (n next : ℕ) → n ≤ length (take (length xs - done) (drop done xs)) → Appends b c (take n (take (length xs - done) (drop done xs))) → next ≡ done + n
+      → (next ≤ length xs) × Appends a c (take next xs)
+  more_written n next most more is =
+      let long = length-take (length xs - done) (drop done xs) in
+      let joined = ap (λ l. take done xs ++ l) (take-take n (length xs - done) (drop done xs) (omega arith)) ∙ sym (take-add done n xs) in
+      (omega arith, subst (λ (k : ℕ). Appends a c (take k xs)) (sym is) (subst (Appends a c) joined (Appends-trans _ _ _ _ _ before more)))
+
+  -- a write took none, and is tried again
+  pub same_written : (next : ℕ) → Keeps b c → next ≡ done → (next ≤ length xs) × Appends a c (take next xs)
+  same_written next keeps is = (omega arith, subst (λ (k : ℕ). Appends a c (take k xs)) (sym is) (Appends-kept a b c (take done xs) before keeps))
+
+-- so much of a text is a part of it
+pub part_of : (a b : Option (List ℕ)) (done : ℕ) (xs : List ℕ) → Appends a b (take done xs) → AppendsPart a b xs
+part_of a b done xs before = (take done xs, drop done xs, sym (take-append-drop done xs), before)

@@ -1,0 +1,6 @@
+use Rattle.std.proofs.Common.{length, ◌≤◌, take}
+use Rattle.std.specs.Io.KnownBytes.{Appends}
+use Rattle.gamesman.proofs.output.put.Given as goal
+
+abbrev pub invariant-loop : goal.invariant-loop
+invariant-loop g l = (l.done ≤ length l.text) × Appends (g.O.Write.contents l.initial.output) (g.O.Write.contents l.output) (take l.done l.text)

@@ -1,0 +1,101 @@
+-- What each command answers.
+use Rattle.std.specs.Prelude.{◌≡◌, ℕ, max, Bool, true, false, List, Option, None, Some, Result, Ok, Err, IfErr}
+use Rattle.std.specs.Io.KnownBytes.{Keeps}
+use Rattle.gm_game.specs.declared.position.Position.{Position}
+use Rattle.gm_game.specs.Rules.{Rules}
+use Rattle.gm_play.specs.PlayTexts.{IsNoPosition, IsAnswerText, AreMoveRows, IsLineText}
+use Rattle.gm_play.specs.PlaceTexts.{IsPlaceText}
+use Rattle.gm_play.specs.Why.{IsWhyText}
+use Rattle.gm_best.specs.Places.{IsUnlocated}
+use Rattle.gm_json.specs.Moves.{IsMovesJson}
+use Rattle.gm_json.specs.Lines.{IsLineJson}
+use Rattle.gm_draw.specs.ShowTexts.{IsShowText}
+use Rattle.gm_draw.specs.Diagrams.{IsDiagram}
+use Rattle.gm_page.specs.Pages.{IsPage}
+use Rattle.gm_command.specs.declared.requests.Question.{Question}
+use Rattle.gm_command.specs.declared.requests.Question.TheVariants.{Moves, Why, Line, Show, Diagram, Page}
+use Rattle.gm_command.specs.declared.requests.PositionAsked.{PositionAsked}
+use Rattle.gm_command.specs.declared.requests.Asked.{Asked}
+use Rattle.gm_command.specs.declared.requests.Asked.TheVariants.{Of}
+use Rattle.gm_command.specs.declared.requests.GameAsked.{GameAsked}
+use Rattle.gm_command.specs.declared.requests.GameAsked.TheVariants.{Query, Explore, Locate}
+use Rattle.gamesman.specs.declared.fault.Fault.{Fault}
+use Rattle.gamesman.specs.declared.fault.Fault.TheVariants.{NoSuchGame, NoSuchPosition, OutOfMemory, OutputFailed, OutputClosed}
+use Rattle.gamesman.specs.Games.{GameSpec, game_named}
+use Rattle.gamesman.specs.Outputs.{IsWritten, IsLine}
+use Rattle.gamesman.specs.Refusals.{IsRefused}
+
+module _ (r : Rules) (shown : Position → List ℕ) (move_shown : Position → ℕ → List ℕ) (position : List ℕ) where
+  -- a question about the position with this text is answered by such a text; where no position has the text, that is the fault
+  pub record IsAnsweredBy (IsText : List ℕ → Type 0) (before after : Option (List ℕ)) (result : Result ℕ Fault) : Type 0 where
+    pub written : IsWritten IsText before after result
+    pub refused : IfErr result (IsRefused r shown move_shown position)
+    pub unread : IsNoPosition r shown move_shown position → result ≡ Err NoSuchPosition
+
+  -- the line that `query` writes: the text of the true value of the position with this text
+  abbrev pub IsQueryLine : List ℕ → Type 0
+  IsQueryLine = IsLine (IsAnswerText r shown move_shown position)
+
+  -- its moves: as a line of JSON, or as rows
+  abbrev pub IsMovesText : Bool → Bool → List ℕ → Type 0
+  IsMovesText distinct true = IsLine (IsMovesJson r shown move_shown distinct position)
+  IsMovesText distinct false = AreMoveRows r shown move_shown distinct position
+
+-- what is written of the position with this text
+abbrev pub IsTextFor : GameSpec → Question → List ℕ → List ℕ → Type 0
+IsTextFor g (Moves distinct json) position out = IsMovesText g.rules g.shown g.move_shown position distinct json out
+IsTextFor g Why position out = IsWhyText g.rules g.shown g.move_shown position out
+IsTextFor g (Line limit true) position out = IsLineJson g.rules g.shown g.move_shown position limit out
+IsTextFor g (Line limit false) position out = IsLineText g.rules g.shown g.move_shown position limit out
+IsTextFor g (Show explained) position out = IsShowText g.rules g.shown g.move_shown g.drawn g.mover g.naming explained position out
+IsTextFor g (Diagram valued) position out = IsDiagram g.rules g.shown g.move_shown g.drawn g.mover g.style g.title g.board valued position out
+IsTextFor g (Page limit) position out = IsPage g.rules g.shown g.move_shown g.style g.title g.board g.points g.naming position (max limit 1) out
+
+-- the text of the position that is asked about: of the start where none is given
+abbrev pub text_asked : GameSpec → PositionAsked → List ℕ
+text_asked g asked = elim asked.position [ None ↦ g.shown g.rules.initial | Some text ↦ text.now ]
+
+-- a question about a position, or about the start, is answered
+abbrev pub IsExplored : GameSpec → PositionAsked → Option (List ℕ) → Option (List ℕ) → Result ℕ Fault → Type 0
+IsExplored g asked before after result = IsAnsweredBy g.rules g.shown g.move_shown (text_asked g asked) (IsTextFor g asked.question (text_asked g asked)) before after result
+
+-- why a position is not located: there is none with this text, or a write failed
+abbrev pub IsUnlocatedFor : Rules → (Position → List ℕ) → List ℕ → Fault → Type 0
+IsUnlocatedFor r shown text NoSuchPosition = IsUnlocated r shown text
+IsUnlocatedFor r shown text (OutOfMemory error) = Unit {0}
+IsUnlocatedFor r shown text OutputFailed = Unit {0}
+IsUnlocatedFor r shown text OutputClosed = Unit {0}
+IsUnlocatedFor r shown text _ = ⊥
+
+-- where the position with this text stands is written; where no position has the text, that is the fault
+pub record IsLocatedBy (r : Rules) (shown : Position → List ℕ) (text : List ℕ) (before after : Option (List ℕ)) (result : Result ℕ Fault) : Type 0 where
+  pub written : IsWritten (IsPlaceText r shown text) before after result
+  pub refused : IfErr result (IsUnlocatedFor r shown text)
+  pub unread : IsUnlocated r shown text → result ≡ Err NoSuchPosition
+
+-- what is asked of a game is answered
+abbrev pub IsAnswered : GameSpec → GameAsked → Option (List ℕ) → Option (List ℕ) → Result ℕ Fault → Type 0
+IsAnswered g (Query position kept) before after result =
+    IsAnsweredBy g.rules g.shown g.move_shown position.now (IsQueryLine g.rules g.shown g.move_shown position.now) before after result
+IsAnswered g (Explore asked kept) before after result = IsExplored g asked before after result
+IsAnswered g (Locate position) before after result = IsLocatedBy g.rules g.shown position.now before after result
+IsAnswered g _ before after result = Unit {0}
+
+-- what is asked of the game of a name is answered; where no game has the name, that is the fault
+abbrev pub IsAnsweredFor : Option GameSpec → GameAsked → Option (List ℕ) → Option (List ℕ) → Result ℕ Fault → Type 0
+IsAnsweredFor None asked before after result = (result ≡ Err NoSuchGame) × Keeps before after
+IsAnsweredFor (Some g) asked before after result = IsAnswered g asked before after result
+
+-- what a line asks for is answered
+abbrev pub IsDone : Asked → Option (List ℕ) → Option (List ℕ) → Result ℕ Fault → Type 0
+IsDone (Of game asked telling) before after result = IsAnsweredFor (game_named game.now) asked before after result
+IsDone _ before after result = Unit {0}
+
+-- the status that a line ends with: 1 after a fault
+abbrev pub status_of : Result ℕ Fault → ℕ
+status_of (Ok status) = status
+status_of (Err fault) = 1
+
+-- what a line asks for is answered, and the status tells of what
+abbrev pub IsRun : Asked → Option (List ℕ) → Option (List ℕ) → ℕ → Type 0
+IsRun asked before after status = (result : Result ℕ Fault) × IsDone asked before after result × (status ≡ status_of result)

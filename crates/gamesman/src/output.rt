@@ -1,0 +1,55 @@
+//! What is written to standard output.
+ghost use Rattle.std.specs.Prelude.{◌≡◌, ◌≤◌, ◌++◌, codes, length, IfErr, OnErr, OnOk};
+ghost use Rattle.std.specs.Io.KnownBytes.{Appends};
+ghost use Rattle.gm_play.specs.Sessions.{AppendsPart};
+ghost use Rattle.gamesman.specs.Outputs.{IsOutputFault};
+
+use crate::fault::Fault;
+use arrayvec::ArrayVec;
+use gm_game::limits::LINE;
+use std::io::{ErrorKind, Write};
+
+// The bytes of the longest line and its end.
+const ROOM: usize = LINE + 1;
+
+/// Writes a text, by one call where the stream takes it whole. After a fault a first part of it is written. The reader may have closed the stream.
+pub fn put<O: Write>(output: &mut O, text: &[u8]) -> Result<(), Fault>
+    ensures ok { OnOk result (Appends (O.contents output.old) (O.contents output.new) text.now) }
+    ensures err { OnErr result (AppendsPart (O.contents output.old) (O.contents output.new) text.now) }
+    ensures fault { IfErr result IsOutputFault }
+{
+    let mut done = 0;
+    for _ in 0..u64::MAX {
+        if done == text.len() {
+            return Ok(());
+        }
+        match output.write(&text[done..]) {
+            Ok(0) => return Err(Fault::OutputFailed),
+            Ok(count) => done += count,
+            Err(error) if error.kind() == ErrorKind::Interrupted => {}
+            Err(error) => return Err(Fault::from(error)),
+        }
+    }
+    Err(Fault::OutputFailed)
+}
+
+/// Writes a line of at most `LINE` bytes before its end, as `put` writes a text.
+pub fn put_line<O: Write>(output: &mut O, text: &[u8]) -> Result<(), Fault>
+    requires { length text.now ≤ LINE }
+    ensures ok { OnOk result (Appends (O.contents output.old) (O.contents output.new) (text.now ++ codes "\n")) }
+    ensures err { OnErr result (AppendsPart (O.contents output.old) (O.contents output.new) (text.now ++ codes "\n")) }
+    ensures fault { IfErr result IsOutputFault }
+{
+    put(output, line_of(text).as_slice())
+}
+
+// A text and its line end.
+fn line_of(text: &[u8]) -> ArrayVec<u8, ROOM>
+    requires { length text.now ≤ LINE }
+    ensures { result.items ≡ text.now ++ codes "\n" }
+{
+    let mut line = ArrayVec::new();
+    let _fits = line.try_extend_from_slice(text);
+    line.push(b'\n');
+    line
+}

@@ -1,0 +1,10 @@
+use Rattle.std.proofs.Common.{◌≡◌, ◌≤◌, ◌+◌, ◌-◌, take, length, min}
+use Rattle.gm_find.specs.Samples.{ArePicked}
+use Rattle.gm_find.proofs.sample.sample_of.Given as goal
+
+abbrev pub invariant-loop-place : goal.invariant-loop-place
+invariant-loop-place l = record {
+  picked : ArePicked (take l.place l.found) l.chosen.items;
+  many : length l.chosen.items + l.wanted ≡ min l.number (length l.found);
+  room : l.wanted ≤ length l.found - l.place;
+}

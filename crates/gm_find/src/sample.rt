@@ -1,0 +1,40 @@
+//! A random choice of found positions.
+ghost use Rattle.std.specs.Prelude.{◌<◌, IfOk};
+ghost use Rattle.gm_find.specs.Samples.{IsSample};
+
+use crate::found::Found;
+use rand::RngExt;
+use rand_core::SeedableRng;
+use rand_xoshiro::Xoshiro256PlusPlus;
+use std::alloc::{AllocError, Global};
+
+/// So many of the found positions in their order, or all of them where there are fewer: chosen by xoshiro256++ from this seed, so that each choice is as
+/// likely as any other, and the same seed makes the same choice.
+pub fn sample_of(
+    alloc: Global,
+    found: &[Found],
+    number: usize,
+    seed: u64,
+) -> Result<Vec<Found>, AllocError>
+    ensures { IfOk result (λ v. IsSample number found.now v.items) }
+{
+    let mut random = Xoshiro256PlusPlus::seed_from_u64(seed);
+    let mut chosen = Vec::new(alloc);
+    let mut wanted = number.min(found.len());
+    for place in 0..found.len() {
+        let left = found.len() - place;
+        if number_below(&mut random, left as u64) < wanted as u64 {
+            chosen.push(found[place])?;
+            wanted -= 1;
+        }
+    }
+    Ok(chosen)
+}
+
+// A random number below this one.
+fn number_below(random: &mut Xoshiro256PlusPlus, bound: u64) -> u64
+    requires { 0 < bound }
+    ensures { result < bound }
+{
+    random.random_range(0..bound)
+}

@@ -1,0 +1,28 @@
+use Rattle.std.proofs.Common.{◌≡◌, ◌++◌, ◌∷◌, List, ℕ, true, false, codes, ap, refl, ◌∙◌}
+use Rattle.std.proofs.lemmas.Result.{on_ok_weaker}
+use Rattle.serde_json.specs.Data.{Members, member, no_members, string}
+use Rattle.serde_json.specs.Written.{members_text}
+use Rattle.gm_json.specs.Words.{whole, text}
+use Rattle.gm_json.specs.Parts.{member_text}
+use Rattle.gm_json.proofs.Writing.{opened, member_next, clear_lossy}
+use Rattle.gm_json.proofs.answer.push_no_position.Goals as goal
+
+pub returns : goal.returns
+returns c =
+    let o0 = c.args.out.now.items in
+    let o1 = c.push_bytes.new.out.items in
+    let o2 = c.push_text_member.new.out.items in
+    let o3 = c.push_number_member.new.out.items in
+    let said = string (codes "no such position") in
+    let o4 = c.push_text_member-2.new.out.items in
+    let m3 : Members = member (codes "read") (text c.args.read.now) no_members in
+    let m2 : Members = member (codes "line") (whole c.args.number) m3 in
+    let m1 : Members = member (codes "error") said m2 in
+    let e2 : o2 ≡ o1 ++ member_text false (codes "error") said
+    = c.in_ok-push_text_member.ensures ∙ ap (λ (t : List ℕ). o1 ++ member_text false (codes "error") (string t)) (clear_lossy (codes "no such position") refl) in
+    let all : o4 ++ members_text true no_members ≡ o0 ++ 123 ∷ members_text false m1
+    = member_next o3 o4 true (codes "read") (text c.args.read.now) no_members c.in_ok-push_text_member-2.ensures
+    ∙ member_next o2 o3 true (codes "line") (whole c.args.number) m3 c.in_ok-push_number_member.ensures
+    ∙ member_next o1 o2 false (codes "error") said m2 e2
+    ∙ opened o0 o1 123 (members_text false m1) c.in_ok-push_bytes.ensures in
+    on_ok_weaker c.push_bytes-2.result (λ e. e ∙ all) c.push_bytes-2.ensures

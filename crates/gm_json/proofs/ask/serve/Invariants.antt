@@ -1,0 +1,13 @@
+use Rattle.std.proofs.Common.{◌≡◌, ◌+◌, ◌*◌, ◌≤◌, [], length}
+use Rattle.gm_json.specs.Asking.{block_bytes}
+use Rattle.gm_json.specs.Answers.{IsAnswer}
+use Rattle.gm_json.specs.Midst.{GoesOn}
+use Rattle.gm_json.proofs.ask.serve.Given as goal
+
+abbrev pub invariant-loop-turn : goal.invariant-loop-turn
+invariant-loop-turn g l = record {
+  block : length l.block ≡ block_bytes;
+  number : l.hand.number ≤ 1 + l.turn * block_bytes;
+  answers : l.hand.answers.items ≡ [];
+  goes : GoesOn (IsAnswer g.G.Game.rules g.G.Shown.shown g.G.Shown.move_shown l.asked l.tiers) l.hand.number l.hand.line.items (g.R.Read.remaining l.fn.input) (g.R.Read.remaining l.input) (g.W.Write.contents l.fn.output) (g.W.Write.contents l.output);
+}

@@ -1,0 +1,55 @@
+-- The answer to a line that should be the text of a position.
+use Rattle.std.specs.Prelude.{◌≡◌, ℕ, ◌⊎◌, true, false, List, take, codes, if◌then◌else◌}
+use Rattle.serde_json.specs.Data.{Data, string, object, Members, member, no_members}
+use Rattle.serde_json.specs.Written.{compact_text}
+use Rattle.gm_game.specs.declared.position.Position.{Position}
+use Rattle.gm_game.specs.declared.position.Solved.{Solved}
+use Rattle.gm_game.specs.Rules.{Rules}
+use Rattle.gm_game.specs.Values.{IsTrueValue}
+use Rattle.gm_play.specs.declared.move_values.MoveValue.{MoveValue}
+use Rattle.gm_play.specs.Dialogue.{without_return}
+use Rattle.gm_play.specs.Firsts.{chosen}
+use Rattle.gm_play.specs.MoveValues.{AreMoveValues, BeginsBest}
+use Rattle.gm_play.specs.PlayTexts.{IsNoPosition, IsReadAs}
+use Rattle.gm_json.specs.declared.asked.Asked.{Asked}
+use Rattle.gm_json.specs.Words.{whole, text}
+use Rattle.gm_json.specs.Moves.{move_trees, position_members}
+use Rattle.gm_json.specs.Extras.{extras, AreBestMoves}
+
+-- how much of a line that is the text of no position is told
+abbrev pub read_bytes : ℕ
+read_bytes = 64
+
+-- what is told of a line that is the text of no position: its number, and what was read
+abbrev pub unread_tree : ℕ → List ℕ → Data
+unread_tree n read =
+    object (member (codes "error") (string (codes "no such position"))
+    (member (codes "line") (whole n)
+    (member (codes "read") (text read) no_members)))
+
+abbrev pub error_tree : ℕ → List ℕ → Data
+error_tree n line = unread_tree n (take read_bytes line)
+
+module _ (r : Rules) (shown : Position → List ℕ) (move_shown : Position → ℕ → List ℕ) (asked : Asked) where
+  -- what is told of a position: its moves unless its value alone is asked for, its value and its remoteness, and then more
+  abbrev pub answer_members : Position → Solved → List MoveValue → Members → Members
+  answer_members p s xs more =
+      if asked.values then position_members r shown move_shown p s more else member (codes "moves") (move_trees r shown move_shown p xs) (position_members r shown move_shown p s more)
+
+  module _ (tiers : List ℕ) where
+    -- what is asked for of the position with this text: its true value, its moves, the best first, and more
+    pub record IsPositionJson (line out : List ℕ) : Type 0 where
+      pub position : Position
+      pub read : IsReadAs r shown move_shown line position
+      pub value : Solved
+      pub is_true : IsTrueValue r position value
+      pub list : List MoveValue
+      pub moves : asked.values ≡ false → AreMoveValues r position list × BeginsBest r position list
+      pub best : List ℕ
+      pub along : asked.with.best ≡ true → AreBestMoves r position best
+      pub out_is : out ≡ compact_text (object (answer_members position value (chosen r asked.distinct list) (extras r shown move_shown asked.with tiers position best)))
+
+    -- the answer to the line with this number: what is asked for of the position, or that there is no such position
+    abbrev pub IsAnswer : List ℕ → ℕ → List ℕ → Type 0
+    IsAnswer line n out = IsPositionJson (without_return line) out
+        ⊎ (IsNoPosition r shown move_shown (without_return line) × (out ≡ compact_text (error_tree n (without_return line))))

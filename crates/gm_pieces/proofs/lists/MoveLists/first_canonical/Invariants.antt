@@ -1,6 +1,0 @@
-use Rattle.gm_game.specs.Rules.{AreHoles}
-use Rattle.gm_pieces.specs.MoveGames.{move_rules}
-use Rattle.gm_pieces.proofs.lists.MoveLists.first_canonical.Given as goal
-
-abbrev pub invariant-loop-index : goal.invariant-loop-index
-invariant-loop-index g l = AreHoles (move_rules g.Self.MoveRules.game) l.fn.tier l.fn.lo l.index

@@ -1,0 +1,155 @@
+//! Numbers of records, which take two bytes each where all of them have short forms, and else four.
+ghost use Rattle.std.specs.Prelude.{◌≡◌, ◌++◌, [], ◌∷◌, ◌<◌, ◌/◌, ◌%◌, IsTrue, ◌↔◌, map, take, slice_get, length, IfOk, OnOk, OnErr};
+ghost use Rattle.gm_table.specs.Numbers.{wide, IsShort};
+
+use crate::packed::STEP;
+use std::alloc::{AllocError, Global};
+use std::marker::Model;
+
+/// One more than the greatest remoteness of a record whose number has a short form.
+const SHORT_STEP: u32 = 8192;
+
+/// Numbers of records, in their order. Contracts see the numbers.
+#[derive(Drop)]
+pub(crate) struct Numbers {
+    stored: Stored,
+}
+
+#[derive(Drop)]
+enum Stored {
+    // The short form of each number.
+    Short(Vec<u16>),
+    // The numbers, where one of them has no short form.
+    Long(Vec<u32>),
+}
+
+impl Model for Numbers {
+    ghost use Rattle.std.specs.Prelude.{ℕ, List};
+    ghost use Rattle.gm_table.specs.Numbers.{listed};
+
+    ghost Value = { List ℕ };
+
+    ghost view = { λ n. listed n.stored };
+}
+
+impl Numbers {
+    /// An empty list, with room for this many numbers in their short forms.
+    pub(crate) fn with_capacity(alloc: Global, room: usize) -> Result<Numbers, AllocError>
+        ensures { IfOk result (λ numbers. numbers ≡ []) }
+    {
+        let stored = Stored::Short(Vec::with_capacity(alloc, room)?);
+        Ok(Numbers { stored })
+    }
+
+    /// Adds a number at the end. Where memory is refused the numbers are as before.
+    pub(crate) fn push(&mut self, number: u32) -> Result<(), AllocError>
+        ensures ok { OnOk result (self.new ≡ self.old ++ number ∷ []) }
+        ensures err { OnErr result (self.new ≡ self.old) }
+    {
+        match &mut self.stored {
+            Stored::Short(numbers) => {
+                if is_short(number) {
+                    numbers.push(narrowed(number))?;
+                    return Ok(());
+                }
+                let mut long = widened(numbers)?;
+                long.push(number)?;
+                self.stored = Stored::Long(long);
+                Ok(())
+            }
+            Stored::Long(numbers) => {
+                numbers.push(number)?;
+                Ok(())
+            }
+        }
+    }
+
+    /// Adds other numbers at the end. Where memory is refused the numbers are as before.
+    pub(crate) fn append(&mut self, more: &Numbers) -> Result<(), AllocError>
+        ensures ok { OnOk result (self.new ≡ self.old ++ more.now) }
+        ensures err { OnErr result (self.new ≡ self.old) }
+    {
+        match (&mut self.stored, &more.stored) {
+            (Stored::Short(numbers), Stored::Short(others)) => {
+                numbers.extend_from_slice(others.as_slice())
+            }
+            (Stored::Short(numbers), Stored::Long(others)) => {
+                let mut long = widened(numbers)?;
+                long.extend_from_slice(others.as_slice())?;
+                self.stored = Stored::Long(long);
+                Ok(())
+            }
+            (Stored::Long(numbers), Stored::Short(others)) => {
+                numbers.extend_from_slice(widened(others)?.as_slice())
+            }
+            (Stored::Long(numbers), Stored::Long(others)) => {
+                numbers.extend_from_slice(others.as_slice())
+            }
+        }
+    }
+
+    /// Keeps this many of the first numbers.
+    #[tactic(auto, using(crate::proofs::NumberLemmas::take_wide))]
+    pub(crate) fn truncate(&mut self, count: usize)
+        ensures { self.new ≡ take count self.old }
+    {
+        match &mut self.stored {
+            Stored::Short(numbers) => numbers.truncate(count),
+            Stored::Long(numbers) => numbers.truncate(count),
+        }
+    }
+
+    /// How many numbers there are.
+    pub(crate) fn len(&self) -> usize
+        ensures { result ≡ length self.now }
+    {
+        match &self.stored {
+            Stored::Short(numbers) => numbers.len(),
+            Stored::Long(numbers) => numbers.len(),
+        }
+    }
+
+    /// The number at an index; `None` past the end.
+    #[inline]
+    pub(crate) fn get(&self, index: usize) -> Option<u32>
+        ensures { result ≡ slice_get self.now index }
+    {
+        match &self.stored {
+            Stored::Short(numbers) => Some(wide(*numbers.get(index)?)),
+            Stored::Long(numbers) => Some(*numbers.get(index)?),
+        }
+    }
+}
+
+// Whether a number has a short form.
+fn is_short(number: u32) -> bool
+    ensures { IsTrue result ↔ IsShort number }
+{
+    number / STEP < 8 && number % STEP < SHORT_STEP
+}
+
+// The short form of a number.
+fn narrowed(number: u32) -> u16
+    requires { IsShort number }
+    ensures { wide result ≡ number }
+{
+    (number / STEP * SHORT_STEP + number % STEP) as u16
+}
+
+// The number with this short form.
+fn wide(short: u16) -> u32
+    ensures { result ≡ wide short }
+{
+    u32::from(short) / SHORT_STEP * STEP + u32::from(short) % SHORT_STEP
+}
+
+// The numbers with these short forms.
+fn widened(numbers: &Vec<u16>) -> Result<Vec<u32>, AllocError>
+    ensures { IfOk result (λ long. long.items ≡ map wide numbers.now.items) }
+{
+    let mut long = Vec::with_capacity(*numbers.allocator(), numbers.len())?;
+    for short in numbers {
+        long.push(wide(*short))?;
+    }
+    Ok(long)
+}
