@@ -11,6 +11,10 @@ from common import GAMESMAN, as_version_1
 # A line that takes longer hangs.
 SECONDS = 120
 
+# The end of a pipe that nobody reads. It is made before there are threads, so that no child of another thread holds the other end for a while.
+NOBODY_READS, CLOSED = os.pipe()
+os.close(NOBODY_READS)
+
 
 class Line:
     """A command line: its words, what it reads, and what has to come of it. What is None is not looked at."""
@@ -46,11 +50,8 @@ class Line:
 
     def run(self, folder):
         """Why the program does something else, if it does."""
-        closed_read, closed = os.pipe()
-        os.close(closed_read)
-        out = closed if self.closed_out else subprocess.PIPE
+        out = CLOSED if self.closed_out else subprocess.PIPE
         ran = subprocess.run([GAMESMAN, *self.words], input=self.given, stdout=out, stderr=subprocess.PIPE, cwd=folder, timeout=SECONDS)
-        os.close(closed)
         return self.wrong(ran.returncode, (ran.stdout or b"").decode(), ran.stderr.decode())
 
     def wrong(self, status, out, err):

@@ -1,5 +1,5 @@
 -- The constant tables of the code against the lists of cells.
-use Rattle.std.proofs.Common.{◌≡◌, ℕ, ◌<◌, Bool, true, false, not, ◌&&◌, cond, eqb, eqb-true, [], ◌∷◌, map, get_or, refl, sym, ◌∙◌}
+use Rattle.std.proofs.Common.{◌≡◌, ℕ, ◌^◌, ◌<◌, Bool, true, false, not, ◌&&◌, cond, ltb, ltb-true, eqb, eqb-true, [], ◌∷◌, map, get_or, refl, sym, ◌∙◌}
 use Rattle.std.specs.List.{list_all, range_with_len}
 use Rattle.std.proofs.lemmas.Bool.{cond-true}
 use Rattle.gm_board.specs.laws.Lists.{and_left, and_right, contains_range}
@@ -72,6 +72,16 @@ lines_seen false false e = refl
 -- the cells in line with a cell
 pub cells_in_line : (a c : ℕ) → a < 16 → c < 16 → has_cell (get_or LINES a 0) c ≡ in_line a c
 cells_in_line a c l k = lines_seen (in_line a c) (has_cell (get_or LINES a 0) c) (at_each lines_agree lines_pass a c l k)
+
+abbrev lines_end : ℕ → ℕ → Bool
+lines_end a c = ltb (get_or LINES a 0) (2 ^ 16)
+
+lines_fit : at_all lines_end ≡ true
+lines_fit = refl
+
+-- the mask of the cells in line with a cell has no bits past the last cell
+pub lines_within : (a : ℕ) → a < 16 → get_or LINES a 0 < 2 ^ 16
+lines_within a l = ltb-true _ _ (at_each lines_end lines_fit a a l l)
 
 abbrev ways_show : ℕ → ℕ → Bool
 ways_show a c = cond (in_line a c) (not (eqb (way_mask a c) 0)) (eqb (way_mask a c) 0)

@@ -39,7 +39,7 @@ impl<L: Desk> Model for Share<L> {
 
 impl<L: Desk> Share<L> {
     /// A share by which nothing was delivered yet.
-    pub fn whole(mark: ledger::Share<L>) -> Share<L>
+    pub(crate) fn whole(mark: ledger::Share<L>) -> Share<L>
         requires { mark.amount ≡ 0 }
         ensures { result ≡ record { parts = mark.parts; amount = 0 } }
     {
@@ -54,7 +54,7 @@ impl<L: Desk> Share<L> {
     }
 
     /// Raises the total of the book and the amount of the share.
-    pub fn raise(&mut self, book: &mut Book<L>, by: u64)
+    pub(crate) fn raise(&mut self, book: &mut Book<L>, by: u64)
         requires { 0 < self.old.parts }
         ensures book { book.new.total ≡ book.old.total + by }
         ensures share { self.new ≡ record { parts = self.old.parts; amount = self.old.amount + by } }
@@ -64,7 +64,7 @@ impl<L: Desk> Share<L> {
     }
 
     /// Shows that the amount is at most the book's total, and equal to it where the share has all parts.
-    pub fn audit(&mut self, book: &mut Book<L>)
+    pub(crate) fn audit(&mut self, book: &mut Book<L>)
         ensures same { (self.new ≡ self.old) × (book.new.total ≡ book.old.total) }
         ensures bound { self.old.amount ≤ book.old.total }
         ensures whole { self.old.parts ≡ L.parts → self.old.amount ≡ book.old.total }
@@ -73,7 +73,7 @@ impl<L: Desk> Share<L> {
     }
 
     /// Takes one part off the share, with an amount of 0.
-    pub fn split(&mut self) -> Share<L>
+    pub(crate) fn split(&mut self) -> Share<L>
         requires { 1 < self.old.parts }
         ensures { (result ≡ record { parts = 1; amount = 0 }) × (self.new.parts + 1 ≡ self.old.parts) × (self.new.amount ≡ self.old.amount) }
     {
@@ -82,7 +82,7 @@ impl<L: Desk> Share<L> {
     }
 
     /// Adds the parts and the amount of another share to this one.
-    pub fn join(&mut self, other: Share<L>)
+    pub(crate) fn join(&mut self, other: Share<L>)
         ensures { (self.new.parts ≡ self.old.parts + other.parts) × (self.new.amount ≡ self.old.amount + other.amount) × (self.new.parts ≤ L.parts) }
     {
         let Share { mark, counted } = other;

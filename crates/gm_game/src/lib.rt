@@ -3,6 +3,7 @@
 //! Terms are used as in docs/DEFINITIONS.md. `specs/` has the definitions that contracts cite, and `proofs/` the theory over them.
 #![tactic(auto)]
 
+pub mod ahead;
 pub mod children;
 pub mod evaluate;
 pub mod game;

@@ -1,6 +1,5 @@
 //! A tier before its first level.
 ghost use Rattle.std.specs.Prelude.{◌≡◌, ◌-◌, ◌≤◌, length, IfOk};
-ghost use Rattle.gm_game.specs.declared.position.Phase.TheVariants.{WinLose};
 ghost use Rattle.gm_table.specs.Tables.{AreHeld};
 ghost use Rattle.gm_deliveries.specs.Begin.{AreStarts, first_state};
 ghost use Rattle.gm_solver.specs.Over.{IsOver};
@@ -52,9 +51,7 @@ pub fn begin_tier<G: Game>(
 ) -> Result<(Shard<G>, TierLists<G>, Expected<G>), AllocError>
     requires held { AreHeld G.rules tables.now tier }
     requires small { G.rules.tier_size tier ≤ TIER_SIZE }
-    ensures tier { IfOk result (λ begun. begun.0.tier ≡ tier) }
-    ensures phase { IfOk result (λ begun. begun.0.phase ≡ WinLose) }
-    ensures level { IfOk result (λ begun. begun.0.level ≡ 0) }
+    ensures shard { IfOk result (λ begun. begun.0 ≡ first_state tier 0 (G.rules.tier_size tier)) }
     ensures lists { IfOk result (λ begun. begun.1 ≡ tier) }
     ensures over { IfOk result (λ begun. IsOver G.rules begun.0 begun.2) }
 {

@@ -1,4 +1,4 @@
-//! The canonical children of a whole tier, found block by block: for several workers by as many threads as there are processors.
+//! The canonical children of a whole tier, found block by block: for several workers by at most as many threads as there are workers and processors.
 ghost use Rattle.std.specs.Prelude.{◌≡◌, ℕ, ◌*◌, ◌-◌, ◌<◌, ◌≤◌, ◌^◌, length, IfOk, OnOk};
 ghost use Rattle.std.specs.List.{AllZip, range_with_len};
 ghost use Rattle.gm_deliveries.specs.Begin.{AreStarts};
@@ -200,7 +200,7 @@ impl<G: Game> Frame<G> {
 }
 
 impl<G: Game + Send + Sync> Frame<G> {
-    // Scans all blocks: where there are many indexes and several workers, by as many threads as there are processors.
+    // Scans all blocks: where there are many indexes and several workers, by at most as many threads as there are workers and processors.
     fn scan_all<R: Threads + Sync>(
         &self,
         rt: &R,
@@ -213,9 +213,10 @@ impl<G: Game + Send + Sync> Frame<G> {
         if workers == 1 || self.size <= FEW {
             return self.scan_in_turn(alloc);
         }
-        (0..(self.rows * CLASSES) as u32)
+        let blocks = (self.rows * CLASSES) as u32;
+        (0..blocks)
             .into_par_iter()
-            .with_min_len(1)
+            .with_min_len((blocks as usize).div_ceil(workers.max(1)))
             .map(
                 |place: u32| -> Result<(Lists<G>, Vec<Start>), AllocError>
                     ensures { IfOk result (λ block. IsBlock G.rules self.entry.now.tier (block_in self.entry.now.rows place) block.0 block.1.items) }

@@ -27,6 +27,9 @@ const BLOCK: usize = 64;
 /// The number of classes: enough for as many threads as rayon starts.
 const CLASSES: usize = 1024;
 
+/// How few classes are worth a thread of their own.
+const PIECE: usize = 16;
+
 /// The indexes of one round of blocks, one for each class.
 const ROUND: usize = 65_536;
 
@@ -152,6 +155,7 @@ impl<'a, G: Game + Send + Sync, C: Records + Sync> Given<'a, G, C> {
     {
         (0..CLASSES as u32)
             .into_par_iter()
+            .with_min_len(PIECE)
             .map(
                 |class: u32| -> u64
                     ensures { IsFirstOfClass G.rules self.entry.now.tables.now self.entry.now.tier (C.listed self.entry.now.records.now) class result }

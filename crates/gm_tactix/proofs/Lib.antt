@@ -10,4 +10,6 @@ pub mod BeforeSteps
 pub mod ChildSteps
 pub mod FirstSteps
 pub mod SegmentList
-pub mod SegmentCells
+pub mod LineTable
+pub mod LineSegments
+pub mod LineContents

@@ -4,4 +4,5 @@ pub mod Board
 pub mod CounterMasks
 pub mod Befores
 pub mod Texts
+pub mod Lines
 pub mod laws

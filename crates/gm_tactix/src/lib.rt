@@ -8,6 +8,7 @@ pub mod masks;
 pub mod moves;
 pub mod parents;
 pub mod segment;
+mod segments;
 pub mod side;
 pub mod tactix;
 pub mod text;

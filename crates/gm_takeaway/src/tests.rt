@@ -1,9 +1,9 @@
 //! Values of Takeaway worked by hand: with 0, 4, 8 or 12 counters left, the player to move loses.
 use crate::takeaway::{Takeaway, takeaway_is};
+use gm_game::ahead::within;
 use gm_game::game::Game;
 use gm_game::position::{Position, Solved, Value};
 use gm_game::shown::Shown;
-use gm_record::ahead::within;
 
 // The value with this many counters left, looking twelve moves ahead.
 fn value(counters: u64) -> Option<Solved> {

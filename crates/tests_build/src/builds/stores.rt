@@ -108,6 +108,44 @@ fn a_failing_store_is_built_later(rt: HostRuntime) {
     }
 }
 
+// The file of Countdown from 10 in version 1 (docs/EXAMPLES.md, `old_file_of_countdown`).
+const OLD_FILE: [u8; 94] = [
+    0x47, 0x4d, 0x54, 0x49, 0x45, 0x52, 0x30, 0x31, 0x63, 0x6f, 0x75, 0x6e, 0x74, 0x64, 0x6f, 0x77,
+    0x6e, 0x00, 0x00, 0x00, 0x00, 0x00, 0x00, 0x00, 0x00, 0x00, 0x00, 0x00, 0x00, 0x00, 0x00, 0x00,
+    0x0b, 0x00, 0x00, 0x00, 0x00, 0x00, 0x00, 0x00, 0x00, 0x10, 0x01, 0x40, 0x01, 0x40, 0x02, 0x10,
+    0x03, 0x40, 0x03, 0x40, 0x04, 0x10, 0x05, 0x40, 0x05, 0x40, 0x06, 0x10, 0x07, 0x40, 0xb9, 0xdf,
+    0x1f, 0xd1, 0x0f, 0x8b, 0x71, 0x5f, 0xfd, 0xae, 0xaf, 0xac, 0xde, 0x68, 0x86, 0xf7, 0x91, 0xd7,
+    0x0c, 0xb2, 0xb7, 0xc0, 0x03, 0x1d, 0x4f, 0xcd, 0xeb, 0x40, 0xa4, 0x4c, 0xa2, 0xae,
+];
+
+// A store in memory has the file of version 1: it is migrated and nothing is solved, and then the store has the file of today.
+#[test]
+fn an_old_file_in_memory_is_migrated(rt: HostRuntime) {
+    let mut store = MemStore::new(rt.alloc());
+    assert!(rt; store.failures() < u64::MAX);
+    must(&rt, store.write(&rt, 0, OLD_FILE.as_slice()));
+    assert!(rt; store.failures() < u64::MAX);
+    let plan = Plan::new(2, 2, 1).expect(&rt, "a plan");
+    let built = build_from::<Countdown<10>, _, _, _, _, _>(
+        &rt,
+        rt.alloc(),
+        0,
+        &mut store,
+        plan,
+        &TestGate::Open,
+        &TestSource::counter(),
+        &NoWatch,
+    );
+    let built = must(&rt, built);
+    expect_eq(&rt, (built.solved, built.reused, built.migrated), (0, 0, 1));
+    expect_eq(&rt, (built.deliveries, built.by_hand), (0, 0));
+    drop(built);
+    assert!(rt; store.failures() < u64::MAX);
+    let text = must(&rt, store.read(&rt, rt.alloc(), 0)).expect(&rt, "it has a text");
+    expect_eq(&rt, text.as_slice(), FILE.as_slice());
+    drop((store, text));
+}
+
 // Tac Tix of four counters: one tier for each number of counters that are left.
 type Square = TacTix<2, false>;
 

@@ -127,11 +127,14 @@ fn one_shard_by_hand(rt: HostRuntime) {
     let alloc = rt.alloc();
     let mut shard = must(&rt, begin_whole::<Ten>(alloc, 0));
     let expected = first_expected(&rt, alloc, &shard);
+    let first = must(&rt, shard.fresh(alloc));
+    assert!(rt; first.list().len() == 1);
+    expect_eq(&rt, first.list()[0].position().index, 0);
     let zero = first_note(&rt, &shard);
     first_level(&rt, &mut shard, &zero, &expected);
     let second = must(&rt, shard.fresh(alloc));
     second_level(&rt, &mut shard, second.list());
-    drop((shard, expected, second));
+    drop((shard, expected, first, second));
 }
 
 // The records of a shard of one position, which is lost, at the end of ties.
@@ -150,6 +153,10 @@ fn check_end<G: Game>(rt: &impl Abort, alloc: Global, shard: &Shard<G>, tables: 
         (1, record((Value::Lose, 0))),
     );
     drop(records);
+    let mut list = Vec::new(alloc);
+    must(rt, shard.finish_into(&last, &mut list));
+    expect_eq(rt, list.as_slice(), &[record((Value::Lose, 0))]);
+    drop(list);
 }
 
 #[test]

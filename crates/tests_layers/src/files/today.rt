@@ -139,10 +139,10 @@ fn each_changed_byte_is_found(rt: HostRuntime) {
     }
 }
 
-// A file with one record changed, and with a fresh digest: it is read, and its records are not true.
-fn expect_false(rt: &impl Abort, alloc: Global, index: u8) {
+// A file with these bits of one record changed, and with a fresh digest: it is read, and its records are not true.
+fn expect_false(rt: &impl Abort, alloc: Global, index: u8, bits: u8) {
     let at = 40 + 4 * usize::from(index);
-    let low = file_of_countdown().get(at).map_or(0, |byte| byte ^ 1);
+    let low = file_of_countdown().get(at).map_or(0, |byte| byte ^ bits);
     let file = with_bytes(rt, alloc, at, &[low]);
     let records = must(rt, decode::<Game>(alloc, 0, file.as_slice()));
     let tables: Tables<Game> = Tables::new(alloc);
@@ -157,8 +157,10 @@ fn expect_false(rt: &impl Abort, alloc: Global, index: u8) {
 #[test]
 fn a_new_digest_does_not_make_records_true(rt: HostRuntime) {
     for index in 0..11u8 {
-        expect_false(&rt, rt.alloc(), index);
+        expect_false(&rt, rt.alloc(), index, 1);
     }
+    // The win in 7 of the last record becomes one in 8.
+    expect_false(&rt, rt.alloc(), 10, 15);
 }
 
 const NUMBERS: &[(FileError, u8)] = &[

@@ -1,10 +1,10 @@
 //! What a game says of its positions, tiers and texts.
 use crate::expect::{expect, expect_eq};
+use gm_game::ahead::within;
 use gm_game::children::canonical_children;
 use gm_game::game::Game;
 use gm_game::position::{End, Position, Solved, Value};
 use gm_game::shown::Shown;
-use gm_record::ahead::within;
 use std::process::Abort;
 
 /// A position of tier 0.

@@ -47,6 +47,35 @@ fn tactix_starts(rt: HostRuntime) {
     expect_eq(&rt, at_start::<TacTix<6, true>>(), (1, 1));
 }
 
+// How many results the board with this text has: one for each move.
+fn number_of_results<G: Shown>(text: &[u8]) -> Option<usize> {
+    let p = G::read(text)?;
+    if !G::is_legal(p) {
+        return None;
+    }
+    let mut list = canonical_children::<G>(p);
+    G::fill_results(p, &mut list);
+    Some(list.len())
+}
+
+#[test]
+fn results_of_five(rt: HostRuntime) {
+    let rows: &[(&[u8], usize)] = &[
+        (b"xxxxxxxxxxxxxxxxxxxxxxxxx", 125),
+        (b"xxxxx....................", 15),
+        (b"x....x....x....x....x....", 15),
+        (b"......xx.................", 3),
+        (b".........................", 0),
+    ];
+    for (text, number) in rows {
+        expect_eq(
+            &rt,
+            number_of_results::<TacTix<5, false>>(text),
+            Some(*number),
+        );
+    }
+}
+
 const MOVES: &[(&[u8], &[u8], bool)] = &[
     (b"xxxxxxxxx", b"a1", true),
     (b"xxxxxxxxx", b"a1-a3", true),

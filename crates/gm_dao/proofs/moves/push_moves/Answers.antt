@@ -10,7 +10,7 @@ use Rattle.gm_dao.proofs.moves.push_moves.Goals.{After-goals-reached}
 
 reached : (c : After-goals-reached) → AreGoals (board_of 16 c.args.board.mine c.args.board.theirs) c.args.from c.goals-reached.result
 reached c =
-    goals_are c.args.board.mine c.args.board.theirs c.free.result c.taken.result c.goals-reached.result c.args.from c.args.board.mine_within c.requires.cell c.requires.own c.free.ensures c.taken.ensures
+    goals_are c.args.board.mine c.args.board.theirs c.free.result c.taken.result c.goals-reached.result c.args.from c.args.board.mine_within c.requires.cell c.requires.own c.free.ensures.cells c.taken.ensures.cells
     c.goals-reached.ensures.cells
 
 pub push-requires : goal.push-requires

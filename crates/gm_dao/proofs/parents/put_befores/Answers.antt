@@ -22,7 +22,7 @@ gone_before-requires-clause-was c =
     let l = cell_below m 16 _ (moved_within b _ c.args.board.theirs_within) z.has in
     record {
       there = their_cell _ (sym (their_cells 16 a b c.args.board.theirs_within c.args.board.apart _)
-          ∙ and_left _ _ (sym (moved_cell b _ c.args.from _ l c.in_line_with.ensures) ∙ z.has));
+          ∙ and_left _ _ (sym (moved_cell b _ c.args.from _ l c.in_line_with.ensures.cells) ∙ z.has));
       left = empty_cell _ c.requires.free;
     }
 
@@ -43,7 +43,7 @@ put-requires c =
     let e = c.in-Some.earlier in
     put_room (before_at dao c.args.tier (board_of 16 c.args.board.mine b)) least_index_of numbers_end _ (board_of 16 e.mine e.theirs) c.loop-rest.list.items
     c.requires.few (omega (arith, l, c.requires.cell)) c.in-Some.ensures.0
-    (befores_skip c.args.tier c.args.board.mine b _ c.args.from c.loop-rest.next _ c.loop-rest.list.items c.args.board.theirs_within c.args.board.apart (omega (arith, l)) c.in_line_with.ensures z.none i.below)
+    (befores_skip c.args.tier c.args.board.mine b _ c.args.from c.loop-rest.next _ c.loop-rest.list.items c.args.board.theirs_within c.args.board.apart (omega (arith, l)) c.in_line_with.ensures.cells z.none i.below)
 
 pub loop-rest-preserved : goal.loop-rest-preserved
 loop-rest-preserved c =
@@ -54,7 +54,7 @@ loop-rest-preserved c =
     let i = c.loop-rest.invariant in
     let z = next_cell m c.loop-rest.next c.loop-rest.rest i.is_rest (omega arith) (omega arith) in
     let l = cell_below m 16 _ (moved_within b _ c.args.board.theirs_within) z.has in
-    let skipped = befores_skip t a b _ c.args.from c.loop-rest.next _ c.loop-rest.list.items c.args.board.theirs_within c.args.board.apart (omega (arith, l)) c.in_line_with.ensures z.none i.below in
+    let skipped = befores_skip t a b _ c.args.from c.loop-rest.next _ c.loop-rest.list.items c.args.board.theirs_within c.args.board.apart (omega (arith, l)) c.in_line_with.ensures.cells z.none i.below in
     record {
       within = omega (arith, l);
       is_rest = z.is_rest;
@@ -69,7 +69,7 @@ pub returns : goal.returns
 returns c =
     let i = c.loop-rest.invariant in
     befores_end c.args.tier c.args.board.mine c.args.board.theirs _ c.args.from c.loop-rest.next c.loop-rest.rest c.loop-rest.list.items c.args.board.theirs_within c.args.board.apart
-    i.within c.in_line_with.ensures i.is_rest c.loop-rest-test.false i.below
+    i.within c.in_line_with.ensures.cells i.is_rest c.loop-rest-test.false i.below
 
 pub loop-rest-smaller : goal.loop-rest-smaller
 loop-rest-smaller c =

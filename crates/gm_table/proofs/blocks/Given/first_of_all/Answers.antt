@@ -1,6 +1,6 @@
 use Rattle.std.proofs.Common.{◌≡◌, ◌-◌, ℕ, List, ap, subst, ◌∙◌, arith}
 use Rattle.std.specs.List.{AllZip, range_with_len}
-use Rattle.rayon.specs.Lists.{range_start, range_end}
+use Rattle.rayon.specs.Lists.{range_start, range_end, min_len_base}
 use Rattle.rayon.specs.Numbers.{nat_range}
 use Rattle.gm_table.specs.Checks.{IsFirstOfClass}
 use Rattle.gm_table.proofs.BlockLemmas.{first_of_classes}
@@ -14,7 +14,11 @@ returns g c =
     let (firsts, given, least, reduced) = c.min.ensures in
     let (numbers, places, zip) = given in
     let base = c.map.ensures.base in
-    let classes : numbers ≡ nat_range 0 1024 = places ∙ (λ i. nat_range (range_start (base i)) (range_end (base i))) ∙ (λ i. nat_range (ends.0 i) (ends.1 i)) in
+    let piece = c.with_min_len.ensures.base in
+    let classes : numbers ≡ nat_range 0 1024 = places
+    ∙ (λ i. nat_range (range_start (min_len_base (base i))) (range_end (min_len_base (base i))))
+    ∙ (λ i. nat_range (range_start (piece i)) (range_end (piece i)))
+    ∙ (λ i. nat_range (ends.0 i) (ends.1 i)) in
     let zero : 1024 - 0 ≡ 1024 = omega arith in
     let Is = λ (class first : ℕ). IsFirstOfClass r self.tables.now self.tier (g.C.Records.listed self.records.now) class first in
     let asked : AllZip Is numbers firsts = subst (λ f. AllZip (λ class first. IsFirstOfClass r f.0.now.tables.now f.0.now.tier (g.C.Records.listed f.0.now.records.now) class first) numbers firsts) c.map.ensures.f zip in

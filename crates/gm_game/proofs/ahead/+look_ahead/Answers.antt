@@ -7,8 +7,8 @@ use Rattle.gm_game.specs.Rules.{children}
 use Rattle.gm_game.specs.Evaluation.{evaluated}
 use Rattle.gm_game.specs.Records.{lost_in, tied_in, least_of, all_won, lesser, greater}
 use Rattle.gm_game.proofs.Folding.{least_push, all_won_push, known_push, one_more, evaluated_small, fits_since, evaluated_open, when_known, when_unknown, evaluated_at_end}
-use Rattle.gm_record.proofs.ahead.+look_ahead.Goals as goal
-use Rattle.gm_record.proofs.ahead.+look_ahead.Goals.{then-known, else-known}
+use Rattle.gm_game.proofs.ahead.+look_ahead.Goals as goal
+use Rattle.gm_game.proofs.ahead.+look_ahead.Goals.{then-known, else-known}
 
 pub loop-m-preserved : goal.loop-m-preserved
 loop-m-preserved g t c =

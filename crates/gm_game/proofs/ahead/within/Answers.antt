@@ -1,7 +1,7 @@
 use Rattle.std.proofs.Common.{sym, subst}
 use Rattle.gm_game.specs.Evaluation.{IsEvaluated}
 use Rattle.gm_game.proofs.Evaluated.{evaluated_true}
-use Rattle.gm_record.proofs.ahead.within.Goals as goal
+use Rattle.gm_game.proofs.ahead.within.Goals as goal
 
 pub returns-clause-truth : goal.returns-clause-truth
 returns-clause-truth g c =

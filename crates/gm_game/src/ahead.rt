@@ -3,9 +3,9 @@ ghost use Rattle.std.specs.Prelude.{◌≡◌, ℕ, true, ◌+◌, ◌<◌, ◌^
 ghost use Rattle.gm_game.specs.Evaluation.{evaluated, IsEvaluated, choose as choose_spec};
 ghost use Rattle.gm_game.specs.Records.{solved, lesser as lesser_spec, greater as greater_spec, lost_in as lost_in_spec, won_in as won_in_spec, tied_in as tied_in_spec};
 
-use gm_game::evaluate::of_end;
-use gm_game::game::Game;
-use gm_game::position::{Position, Solved, Value};
+use crate::evaluate::of_end;
+use crate::game::Game;
+use crate::position::{Position, Solved, Value};
 
 fn lost_in(known: Option<Solved>) -> Option<u32>
     ensures { result ≡ lost_in_spec known }

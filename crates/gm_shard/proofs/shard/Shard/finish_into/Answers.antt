@@ -1,0 +1,25 @@
+use Rattle.std.proofs.Common.{◌≡◌, ◌++◌, [], ◌∷◌, List, Option, ap, subst, ◌∙◌, arith, length-append}
+use Rattle.std.proofs.lemmas.List.{append_assoc}
+use Rattle.gm_game.specs.declared.position.Place.{Place}
+use Rattle.gm_game.specs.declared.position.Phase.{Phase}
+use Rattle.gm_game.specs.declared.position.Phase.TheVariants.{Ties}
+use Rattle.gm_game.specs.declared.position.Solved.{Solved}
+use Rattle.gm_game.specs.Places.{IsLastLevel}
+use Rattle.gm_deliveries.specs.Closing.{record_of}
+use Rattle.gm_shard.proofs.FinishLemmas.{part_more}
+use Rattle.gm_shard.proofs.shard.Shard.finish_into.Goals as goal
+
+pub loop-index-preserved : goal.loop-index-preserved
+loop-index-preserved g c =
+    let r = g.G.Game.rules in
+    let s = c.args.self.now in
+    let (part, is, at', old) = c.loop-index.invariant in
+    let lo = c.range-lo.ensures.lo in
+    let hi = c.range-lo.ensures.hi in
+    let last : IsLastLevel r s.tier Ties s.level =
+    subst (λ (ph : Phase). IsLastLevel r s.tier ph s.level) c.requires.ties
+    (subst (λ (p : Place). IsLastLevel r p.tier p.phase p.level) c.requires.last c.place-place.ensures.last) in
+    let more = part_more r g.met.G.Game.lawful s c.range-lo.ensures.good c.requires.ties last part c.loop-index.index (omega arith) (omega arith, omega arith) c.status.result c.status.ensures old in
+    let pushed : c.push.new.self.items ≡ c.loop-index.records.items ++ record_of c.status.result ∷ [] = c.in_default.ensures.items ∙ ap (λ (known : Option Solved). c.loop-index.records.items ++ known ∷ []) c.record_of.ensures in
+    let long = length-append part (record_of c.status.result ∷ []) in
+    (part ++ record_of c.status.result ∷ [], pushed ∙ ap (λ (l : List (Option Solved)). l ++ record_of c.status.result ∷ []) is ∙ append_assoc c.args.records.now.items part (record_of c.status.result ∷ []), omega arith, more)

@@ -1,0 +1,108 @@
+-- The cells of a line as a mask of five bits.
+use Rattle.std.proofs.Common.{◌≡◌, ℕ, zero, suc, ◌+◌, ◌-◌, ◌*◌, ◌/◌, ◌%◌, ◌^◌, ◌<◌, ◌≤◌, Bool, true, false, ◌&&◌, eqb, eqb-true, List, [], ◌∷◌, get_or, refl, sym, ap, ap₂, ◌∙◌, arith}
+use Rattle.std.specs.Prelude.{bit_and}
+use Rattle.std.specs.List.{list_all, range_with_len}
+use Rattle.std.proofs.Math.Nat.{div-div-eq-div-mul}
+use Rattle.std.proofs.lemmas.Bool.{cond_below, cond-false, le-ltb}
+use Rattle.std.proofs.lemmas.Nat.{pow-add, and_le_r}
+use Rattle.std.proofs.lemmas.Nat.Bits.{bit_at_ones}
+use Rattle.gm_board.specs.Masks.{has_cell, tests_of, mask_of, mask_below, mask_tests_small, tests_mask}
+use Rattle.gm_board.specs.laws.Lists.{contains_range}
+use Rattle.gm_board.specs.laws.MaskChanges.{has_and}
+use Rattle.gm_board.specs.Permutations.{all_at}
+use Rattle.gm_tactix.specs.Lines.{line_cell}
+
+-- a cell of a mask moved down
+moved_down : (m k i : ℕ) → has_cell (m / 2 ^ k) i ≡ has_cell m (k + i)
+moved_down m k i = ap (λ (n : ℕ). eqb (n % 2) 1) (div-div-eq-div-mul m (2 ^ k) (2 ^ i) ∙ ap (λ (n : ℕ). m / n) (sym (pow-add 2 k i)))
+
+and_true : (b : Bool) → (b && true) ≡ b
+and_true true = refl
+and_true false = refl
+
+and_swap : (a b : Bool) → (a && b) ≡ (b && a)
+and_swap true true = refl
+and_swap true false = refl
+and_swap false true = refl
+and_swap false false = refl
+
+-- a row's cells
+pub row_cell : (counters line place : ℕ) → line < 5 → place < 5
+    → has_cell (bit_and (counters / 2 ^ (5 * line)) 31) place ≡ has_cell counters (line_cell line place)
+row_cell counters line place l h =
+    has_and (counters / 2 ^ (5 * line)) 31 place
+    ∙ ap (λ (b : Bool). has_cell (counters / 2 ^ (5 * line)) place && b) (ap (λ (n : ℕ). eqb n 1) (bit_at_ones 5 place h))
+    ∙ and_true _
+    ∙ moved_down counters (5 * line) place
+    ∙ ap (has_cell counters) (cond_below line 5 (5 * line + place) (line - 5 + 5 * place) l)
+
+-- tests that pass in both lists
+abbrev both : List Bool → List Bool → List Bool
+both [] ys = []
+both (x ∷ xs) [] = []
+both (x ∷ xs) (y ∷ ys) = (x && y) ∷ both xs ys
+
+tests_both : (n a b : ℕ) → tests_of n (bit_and a b) ≡ both (tests_of n b) (tests_of n a)
+unfolding tests_of
+tests_both zero a b = refl
+tests_both (suc n) a b = ap₂ (λ (x : Bool) (xs : List Bool). x ∷ xs) (has_and a b n ∙ and_swap (has_cell a n) (has_cell b n)) (tests_both n a b)
+
+-- tests of cells five apart
+abbrev wide : List Bool → List Bool
+wide [] = []
+wide (b ∷ bs) = false ∷ false ∷ false ∷ false ∷ b ∷ wide bs
+
+abbrev gathered : ℕ → ℕ
+gathered mask = bit_and (mask * 1118480 / 1048576) 31
+
+abbrev is_gathered : ℕ → Bool
+is_gathered v = eqb (gathered (mask_of (wide (tests_of 5 v)))) v
+
+all_gathered : list_all is_gathered (range_with_len 0 32) ≡ true
+unfolding tests_of
+all_gathered = refl
+
+-- the cells of the first column
+abbrev column : ℕ → List Bool
+column m = has_cell m 20 ∷ has_cell m 15 ∷ has_cell m 10 ∷ has_cell m 5 ∷ has_cell m 0 ∷ []
+
+spread : (m : ℕ) → both (tests_of 25 1082401) (tests_of 25 m) ≡ wide (column m)
+unfolding tests_of
+spread m = refl
+
+gathers : (m : ℕ) → gathered (bit_and m 1082401) ≡ mask_of (column m)
+gathers m =
+    let bits = column m in
+    let v = mask_of bits in
+    let masked = bit_and m 1082401 in
+    let most = and_le_r m 1082401 in
+    let whole : masked ≡ mask_of (wide bits) = sym (mask_tests_small 25 masked (omega arith)) ∙ ap mask_of (tests_both 25 m 1082401 ∙ spread m) in
+    let known : gathered (mask_of (wide (tests_of 5 v))) ≡ v =
+    eqb-true _ _ (all_at is_gathered (range_with_len 0 32) v all_gathered (contains_range 32 v (mask_below bits))) in
+    ap gathered (whole ∙ ap (λ (bs : List Bool). mask_of (wide bs)) (sym (tests_mask bits))) ∙ known
+
+gathered_tests : (m : ℕ) → tests_of 5 (gathered (bit_and m 1082401)) ≡ column m
+gathered_tests m = ap (tests_of 5) (gathers m) ∙ tests_mask (column m)
+
+for_five : (P : ℕ → Type 0) → P 0 → P 1 → P 2 → P 3 → P 4 → (k : ℕ) → k < 5 → P k
+for_five P a b c d e zero l = a
+for_five P a b c d e (suc zero) l = b
+for_five P a b c d e (suc (suc zero)) l = c
+for_five P a b c d e (suc (suc (suc zero))) l = d
+for_five P a b c d e (suc (suc (suc (suc zero)))) l = e
+for_five P a b c d e (suc (suc (suc (suc (suc k))))) l = absurd (omega arith)
+
+gathered_cell : (m place : ℕ) → place < 5 → has_cell (gathered (bit_and m 1082401)) place ≡ has_cell m (5 * place)
+unfolding tests_of
+gathered_cell m =
+    let at = λ (k : ℕ). ap (λ (bs : List Bool). get_or bs k false) (gathered_tests m) in
+    for_five (λ place. has_cell (gathered (bit_and m 1082401)) place ≡ has_cell m (5 * place)) (at 4) (at 3) (at 2) (at 1) (at 0)
+
+-- a column's cells
+pub column_cell : (counters line place gather : ℕ) → 5 ≤ line → place < 5 → gather ≡ bit_and (counters / 2 ^ (line - 5)) 1082401
+    → has_cell (gathered gather) place ≡ has_cell counters (line_cell line place)
+column_cell counters line place gather l h is =
+    ap (λ (m : ℕ). has_cell (gathered m) place) is
+    ∙ gathered_cell (counters / 2 ^ (line - 5)) place h
+    ∙ moved_down counters (line - 5) (5 * place)
+    ∙ ap (has_cell counters) (sym (cond-false _ _ _ (le-ltb line 5 l)))

@@ -1,0 +1,14 @@
+use Rattle.std.proofs.Common.{◌≡◌, ◌≤◌, ◌+◌, ◌*◌, length, take}
+use Rattle.std.specs.List.{filter, flat_map, range_with_len}
+use Rattle.gm_tactix.specs.Board.{can_take}
+use Rattle.gm_tactix.specs.CounterMasks.{counters_of}
+use Rattle.gm_tactix.specs.Lines.{line_segments}
+use Rattle.gm_tactix.proofs.segments.list_takeable.Given as goal
+
+abbrev pub invariant-loop-line : goal.invariant-loop-line
+invariant-loop-line l = record {
+  long : length l.numbers ≡ 132;
+  rows : l.count ≤ 15 * l.line;
+  columns : l.count ≤ 25 + 10 * l.line;
+  kept : take l.count l.numbers ≡ filter (can_take 5 (counters_of 25 l.counters)) (flat_map line_segments (range_with_len 0 l.line));
+}
