@@ -109,7 +109,7 @@ class Line:
             return str(ran)
         if not free.out.startswith(ran.out):
             return f"printed {ran.out!r}, which no undisturbed run begins with"
-        return self.stopped_at(int(fault[1]), folder) if fault.groups() else None
+        return self.stopped_at(int(fault[1]), kind, folder) if fault.groups() else None
 
     def unhindered(self, ran, kind, folder):
         """Why an undisturbed answer is wrong, if it is: a refusal went unnoticed, or a line that builds does not leave all files right."""
@@ -123,13 +123,16 @@ class Line:
         """Whether a refusal may go unnoticed: where levels are solved by workers, one that gets no memory is done without, as one that could not be started."""
         return kind == "malloc" and self.words[1] in BY_LEVELS
 
-    def stopped_at(self, tier, folder):
-        """Why a fault of the store names the wrong tier, if it does: those before it are right, and it and those after it are as they were."""
+    def stopped_at(self, tier, kind, folder):
+        """Why a fault of the store names the wrong tier, if it does: those before it are right, and it and those after it are as they were. The folder is opened and
+        synced after the file has its name, so where such a call is refused the file of the tier may be right already."""
         found, is_before = files_of(folder), True
         for name in self.order():
-            is_before = is_before and name != f"tier-{tier}.gmt"
+            is_named = name == f"tier-{tier}.gmt"
+            is_before = is_before and not is_named
             wanted = self.right if is_before else self.before
-            if found.get(name) != wanted.get(name):
+            may_be_right = is_named and kind in ("open", "sync") and found.get(name) == self.right.get(name)
+            if found.get(name) != wanted.get(name) and not may_be_right:
                 return f"it names tier {tier}, and {name} is {'not yet right' if is_before else 'another one'}"
         return f"there is no tier {tier}" if is_before else None
 

@@ -1,9 +1,13 @@
 -- Fronts of texts that are written.
-use Rattle.std.proofs.Common.{◌≡◌, ℕ, ◌+◌, ◌-◌, ◌≤◌, List, ◌++◌, length, take, drop, Option, sym, ap, subst, ◌∙◌, arith, take-add, length-take, take-append-drop}
+use Rattle.std.proofs.Common.{◌≡◌, ℕ, ◌+◌, ◌-◌, ◌≤◌, Bool, true, false, List, ◌++◌, length, take, drop, Option, Result, Ok, Err, sym, ap, subst, ◌∙◌, arith, take-add, length-take, take-append-drop}
 use Rattle.std.proofs.lemmas.List.{take-take}
 use Rattle.std.specs.Io.KnownBytes.{Appends, Keeps}
 use Rattle.std.proofs.KnownBytes.{Appends-trans, Appends-kept}
 use Rattle.gm_play.specs.Sessions.{AppendsPart}
+use Rattle.gm_play.proofs.Parts.{part_after, part_longer}
+use Rattle.gamesman.specs.declared.fault.Fault.{Fault}
+use Rattle.gamesman.specs.Told.{IsPut}
+use Rattle.gamesman.specs.Listing.{listed, listed_later}
 
 module _ (a b c : Option (List ℕ)) (done : ℕ) (xs : List ℕ) (within : done ≤ length xs) (before : Appends a b (take done xs)) where
   -- a write took some more bytes
@@ -21,3 +25,13 @@ module _ (a b c : Option (List ℕ)) (done : ℕ) (xs : List ℕ) (within : done
 -- so much of a text is a part of it
 pub part_of : (a b : Option (List ℕ)) (done : ℕ) (xs : List ℕ) → Appends a b (take done xs) → AppendsPart a b xs
 part_of a b done xs before = (take done xs, drop done xs, sym (take-append-drop done xs), before)
+
+-- a text is written, and then the next one or a first part of it
+pub put_after : (a b c : Option (List ℕ)) (xs ys : List ℕ) (result : Result ℕ Fault) → Appends a b xs → IsPut ys b c result → IsPut (xs ++ ys) a c result
+put_after a b c xs ys (Ok status) before (done, put) = (done, Appends-trans a b c xs ys before put)
+put_after a b c xs ys (Err fault) before (failed, part) = (failed, part_after a b c xs ys before part)
+
+-- a first part of the names is one of all names
+pub part_listed : (all : Bool) (a b : Option (List ℕ)) → AppendsPart a b (listed false) → AppendsPart a b (listed all)
+part_listed false a b part = part
+part_listed true a b part = part_longer a b (listed false) listed_later part

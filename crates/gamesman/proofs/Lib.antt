@@ -3,3 +3,6 @@ pub mod Cut
 pub mod Held
 pub mod Fronts
 pub mod Ring
+pub mod Telling
+pub mod Checks
+pub mod Analyses

@@ -16,14 +16,20 @@ use Rattle.gm_command.specs.declared.requests.Question.{Question}
 use Rattle.gm_command.specs.declared.requests.Question.TheVariants.{Moves, Why, Line, Show, Diagram, Page}
 use Rattle.gm_command.specs.declared.requests.PositionAsked.{PositionAsked}
 use Rattle.gm_command.specs.declared.requests.Asked.{Asked}
-use Rattle.gm_command.specs.declared.requests.Asked.TheVariants.{Of}
+use Rattle.gm_command.specs.declared.requests.Asked.TheVariants.{List as Names, Of}
 use Rattle.gm_command.specs.declared.requests.GameAsked.{GameAsked}
-use Rattle.gm_command.specs.declared.requests.GameAsked.TheVariants.{Query, Explore, Locate}
+use Rattle.gm_command.specs.declared.requests.GameAsked.TheVariants.{Solve, Query, Explore, Locate, At, Search, Analyse, Check}
 use Rattle.gamesman.specs.declared.fault.Fault.{Fault}
 use Rattle.gamesman.specs.declared.fault.Fault.TheVariants.{NoSuchGame, NoSuchPosition, OutOfMemory, OutputFailed, OutputClosed}
 use Rattle.gamesman.specs.Games.{GameSpec, game_named}
 use Rattle.gamesman.specs.Outputs.{IsWritten, IsLine}
 use Rattle.gamesman.specs.Refusals.{IsRefused}
+use Rattle.gamesman.specs.Searches.{IsPlaced, IsSearched}
+use Rattle.gamesman.specs.Solving.{IsSolvedBy}
+use Rattle.gamesman.specs.Checking.{IsCheckedBy}
+use Rattle.gamesman.specs.Analysing.{IsAnalysedBy}
+use Rattle.gamesman.specs.Listing.{listed}
+use Rattle.gamesman.specs.Told.{IsPut}
 
 module _ (r : Rules) (shown : Position → List ℕ) (move_shown : Position → ℕ → List ℕ) (position : List ℕ) where
   -- a question about the position with this text is answered by such a text; where no position has the text, that is the fault
@@ -79,6 +85,11 @@ IsAnswered g (Query position kept) before after result =
     IsAnsweredBy g.rules g.shown g.move_shown position.now (IsQueryLine g.rules g.shown g.move_shown position.now) before after result
 IsAnswered g (Explore asked kept) before after result = IsExplored g asked before after result
 IsAnswered g (Locate position) before after result = IsLocatedBy g.rules g.shown position.now before after result
+IsAnswered g (Solve asked) before after result = IsSolvedBy g.rules before after result
+IsAnswered g (At tier index kept) before after result = IsPlaced g.rules g.shown tier index before after result
+IsAnswered g (Search asked kept) before after result = IsSearched g asked before after result
+IsAnswered g (Analyse kept) before after result = IsAnalysedBy g.rules before after result
+IsAnswered g (Check folder) before after result = IsCheckedBy g.rules before after result
 IsAnswered g _ before after result = Unit {0}
 
 -- what is asked of the game of a name is answered; where no game has the name, that is the fault
@@ -88,6 +99,7 @@ IsAnsweredFor (Some g) asked before after result = IsAnswered g asked before aft
 
 -- what a line asks for is answered
 abbrev pub IsDone : Asked → Option (List ℕ) → Option (List ℕ) → Result ℕ Fault → Type 0
+IsDone (Names all) before after result = IsPut (listed all) before after result
 IsDone (Of game asked telling) before after result = IsAnsweredFor (game_named game.now) asked before after result
 IsDone _ before after result = Unit {0}
 

@@ -2,4 +2,10 @@ pub mod Shelves
 pub mod Games
 pub mod Outputs
 pub mod Refusals
+pub mod Told
+pub mod Searches
+pub mod Solving
+pub mod Checking
+pub mod Analysing
+pub mod Listing
 pub mod Answers

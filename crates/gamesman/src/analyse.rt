@@ -1,13 +1,18 @@
 //! What is counted of a game, tier by tier.
+ghost use Rattle.std.specs.Prelude.{◌≡◌, ◌++◌, ℕ, List, IfOk, OnOk, string_bytes};
+ghost use Rattle.gm_table.specs.Tables.{IsHeld};
+ghost use Rattle.gm_build.specs.Work.{HoldsExactly};
+ghost use Rattle.gamesman.specs.Analysing.{IsAnalysisLine, AreAnalysisLines, IsAnalysedBy};
 
 use crate::fault::Fault;
-use crate::run::DONE;
+use crate::output::put_all;
 use crate::tables::Place;
 use gm_analyse::analysis::analyse as count;
 use gm_analyse::json::to_json;
 use gm_build::build::Built;
 use gm_game::shown::Shown;
 use gm_table::table::Table;
+use gm_table::tables::Tables;
 use std::alloc::{AllocError, Global};
 use std::fs::Files;
 use std::io::Write;
@@ -22,29 +27,52 @@ pub fn analyse<
     R: Threads + Wait + Clock + Files + Sync + AllocGlobal,
     O: Write,
     E: Write + Send,
->(rt: &R, place: Place<'_, E>, output: &mut O) -> Result<u8, Fault> {
+>(rt: &R, place: Place<'_, E>, output: &mut O) -> Result<u8, Fault>
+    ensures { IsAnalysedBy G.Game.rules (O.contents output.old) (O.contents output.new) result }
+{
     let built = place.build::<G, R>(rt)?;
-    let written = write_counts(rt.alloc(), &built, output);
+    let lines = lines_of(rt.alloc(), &built);
     drop(built);
-    written
+    let lines = lines?;
+    put_all(output, lines.as_slice())
 }
 
-fn write_counts<G: Shown, O: Write>(
-    alloc: Global,
-    built: &Built<G>,
-    output: &mut O,
-) -> Result<u8, Fault> {
+// What is counted of each tier, a line for each.
+fn lines_of<G: Shown>(alloc: Global, built: &Built<G>) -> Result<Vec<u8>, AllocError>
+    requires { HoldsExactly built.now.tables built.now.order }
+    ensures { IfOk result (λ v. AreAnalysisLines G.Game.rules built.now.order v.items) }
+{
+    let mut lines = Vec::new(alloc);
     for tier in built.order.tiers() {
-        if let Some(table) = built.tables.table(*tier) {
+        push_line(alloc, &built.tables, *tier, &mut lines)?;
+    }
+    Ok(lines)
+}
+
+// Appends the line of a tier that is held.
+fn push_line<G: Shown>(
+    alloc: Global,
+    tables: &Tables<G>,
+    tier: u64,
+    lines: &mut Vec<u8>,
+) -> Result<(), AllocError>
+    requires { IsHeld tables.now tier }
+    ensures { OnOk result ((line : List ℕ) × IsAnalysisLine G.Game.rules tier line × (lines.new.items ≡ lines.old.items ++ line)) }
+{
+    match tables.table(tier) {
+        None => Ok(()),
+        Some(table) => {
             let line = counts_line(alloc, table)?;
-            output.write_all(line.as_bytes())?;
+            lines.extend_from_slice(line.as_bytes())
         }
     }
-    Ok(DONE)
 }
 
 // What is counted of a tier, as a line of JSON.
-fn counts_line<G: Shown>(alloc: Global, table: &Table<G>) -> Result<String, AllocError> {
+fn counts_line<G: Shown>(alloc: Global, table: &Table<G>) -> Result<String, AllocError>
+    ensures { IfOk result (λ s. IsAnalysisLine G.Game.rules table.now.tier (string_bytes s)) }
+{
+    let _tier = table.tier();
     let analysis = count(alloc, table)?;
     let mut line = to_json::<G>(alloc, &analysis)?;
     line.push('\n')?;

@@ -1,67 +1,120 @@
 //! The check of a folder, tier by tier.
+ghost use Rattle.std.specs.Prelude.{◌≡◌, ◌≤◌, ℕ, List, [], IfOk, OnOk, IfErr};
+ghost use Rattle.std.specs.Option.{option_map};
+ghost use Rattle.std.specs.List.{Contains};
+ghost use Rattle.std.specs.Io.KnownBytes.{Appends};
+ghost use Rattle.gm_table.specs.Tables.{AreTables, AreHeld};
+ghost use Rattle.gm_build.specs.Work.{HoldsExactly};
+ghost use Rattle.gm_tiers.specs.Orders.{IsTierOrder};
+ghost use Rattle.gamesman.specs.Refusals.{IsUnbuilt};
+ghost use Rattle.gamesman.specs.Checking.{finding_line, IsFoundOf, IsFinding, IsTableFor, right_with, IsUnreadAt, IsTierCut, IsCheckOf, IsCheckedBy};
 
 use crate::fault::Fault;
-use crate::run::{DONE, REFUSED};
+use crate::finding::Finding;
+use crate::output::put;
+use crate::run::DONE;
 use crate::teller::Teller;
-use gm_build::inspect::inspect_tier;
+use gm_build::build_error::BuildError;
 use gm_build::watch::Watch;
-use gm_build::whole_line::write_line;
 use gm_command::requests::Telling;
-use gm_entry::inspect::Inspected;
+use gm_entry::inspect::{Inspected, inspect_text};
 use gm_game::game::Game;
 use gm_game::limits::TIER_SIZE;
-use gm_table::checker::CheckError;
+use gm_table::table::Table;
 use gm_table::tables::Tables;
 use gm_tierdb::folder_store::FolderStore;
+use gm_tierdb::store::Store;
+use gm_tierdb::store_error::StoreError;
 use gm_tiers::order::TierOrder;
 use std::alloc::{AllocError, Global};
-use std::fmt;
 use std::fs::Files;
 use std::io::Write;
-use std::string::String;
 use std::sync::Wait;
 use std::thread::Threads;
 use std::time::Clock;
 
-// A tier with what its file is found to be: `None` where a child tier isn't right and so the file isn't read.
-#[derive(Drop)]
-struct Checked<'a, G: Game> {
+// Reads a tier's file in a folder.
+fn read_file<R: Files>(
+    rt: &R,
+    alloc: Global,
+    folder: &str,
     tier: u64,
-    found: Option<&'a Inspected<G>>,
-}
-
-impl<G: Game> fmt::Display for Checked<'_, G> {
-    fn fmt<W: fmt::Write>(&self, f: &mut fmt::Formatter<W>) -> fmt::Result {
-        write!(f, "tier {} ", self.tier)?;
-        match self.found {
-            None => f.write_str("not checked"),
-            Some(Inspected::Right(_)) => f.write_str("ok"),
-            Some(Inspected::Missing) => f.write_str("missing"),
-            Some(Inspected::NoFile(why)) => write!(f, "bad: {why}"),
-            Some(Inspected::NoTable(CheckError::WrongRecord { index })) => {
-                write!(f, "bad: wrong record {index}")
-            }
-            Some(Inspected::NoTable(_)) => f.write_str("bad: wrong size"),
-        }
+) -> Result<Option<Vec<u8>>, Fault>
+    ensures { IfErr result (IsUnreadAt tier) }
+{
+    let mut store = FolderStore::new(alloc, String::from_str(alloc, folder)?);
+    match store.read(rt, alloc, tier) {
+        Ok(text) => Ok(text),
+        Err(StoreError::OutOfMemory) => Err(Fault::OutOfMemory(AllocError)),
+        Err(StoreError::Failed) => Err(Fault::NotBuilt(BuildError::StoreFailed { tier })),
     }
 }
 
-// What a tier's file is, with the tables of the tiers that are right.
-fn inspect<G: Game + Send + Sync, R: Threads + Files + Sync>(
+// What the text that was read of a tier is found to be, with the tier's table where that is right.
+fn inspect<G: Game + Send + Sync, R: Threads + Sync>(
+    rt: &R,
+    alloc: Global,
+    tier: u64,
+    text: Option<Vec<u8>>,
+    tables: &Tables<G>,
+) -> Result<(Finding, Option<Table<G>>), AllocError>
+    requires held { AreHeld G.rules tables.now tier }
+    requires small { G.rules.tier_size tier ≤ TIER_SIZE }
+    ensures found { IfOk result (λ f. IsFoundOf G.rules tables.now tier (option_map (λ v. v.items) text) f.0) }
+    ensures table { IfOk result (λ f. IsTableFor tier f.0 f.1) }
+{
+    let Some(text) = text else {
+        return Ok((Finding::Missing, None));
+    };
+    match inspect_text(rt, alloc, tier, text.as_slice(), tables)? {
+        Inspected::Right(table) => Ok((Finding::Right, Some(table))),
+        Inspected::Missing => Ok((Finding::Missing, None)),
+        Inspected::NoFile(why) => Ok((Finding::NoFile(why), None)),
+        Inspected::NoTable(why) => Ok((Finding::NoTable(why), None)),
+    }
+}
+
+// What a tier's file is found to be, with the tier's table where it is right. The tables of the tiers that are right are given.
+fn find<G: Game + Send + Sync, R: Threads + Files + Sync>(
     rt: &R,
     alloc: Global,
     folder: &str,
     tier: u64,
     tables: &Tables<G>,
-) -> Result<Option<Inspected<G>>, Fault> {
-    if !tables.has_children(tier) || G::tier_size(tier) > TIER_SIZE {
-        return Ok(None);
+) -> Result<(Finding, Option<Table<G>>), Fault>
+    requires small { G.rules.tier_size tier ≤ TIER_SIZE }
+    ensures found { IfOk result (λ f. IsFinding G.rules tables.now tier f.0) }
+    ensures table { IfOk result (λ f. IsTableFor tier f.0 f.1) }
+    ensures unread { IfErr result (IsUnreadAt tier) }
+    ensures tables { AreTables G.rules tables.now }
+{
+    if !tables.has_children(tier) {
+        return Ok((Finding::NotChecked, None));
     }
-    let mut store = FolderStore::new(alloc, String::from_str(alloc, folder)?);
-    Ok(Some(inspect_tier(rt, alloc, tier, tables, &mut store)?))
+    let text = read_file(rt, alloc, folder, tier)?;
+    Ok(inspect(rt, alloc, tier, text, tables)?)
 }
 
-// Prints what a tier's file is, inserts its table where it is right, and answers whether it is.
+// Holds the table of a tier that is right.
+fn hold<G: Game>(
+    tier: u64,
+    finding: Finding,
+    table: Option<Table<G>>,
+    tables: &mut Tables<G>,
+) -> Result<(), AllocError>
+    requires { IsTableFor tier finding table }
+    ensures { OnOk result ((right : List ℕ) → HoldsExactly tables.old right → HoldsExactly tables.new (right_with tier finding right)) }
+{
+    let Some(table) = table else {
+        return Ok(());
+    };
+    match tables.insert(table) {
+        Ok(()) => Ok(()),
+        Err(_) => Err(AllocError),
+    }
+}
+
+// Prints what a tier's file is found to be, and holds its table where it is right.
 fn check_tier<
     G: Game + Send + Sync,
     R: Threads + Wait + Clock + Files + Sync + AllocGlobal,
@@ -74,25 +127,23 @@ fn check_tier<
     tables: &mut Tables<G>,
     output: &mut O,
     teller: &Teller<'_, G, R, E>,
-) -> Result<bool, Fault> {
-    let found = inspect(rt, rt.alloc(), folder, tier, tables);
+) -> Result<Finding, Fault>
+    requires small { G.rules.tier_size tier ≤ TIER_SIZE }
+    ensures tables { AreTables G.rules tables.old }
+    ensures found { IfOk result (IsFinding G.rules tables.old tier) }
+    ensures told { IfOk result (λ f. Appends (O.contents output.old) (O.contents output.new) (finding_line tier f)) }
+    ensures held { IfOk result (λ f. (right : List ℕ) → HoldsExactly tables.old right → HoldsExactly tables.new (right_with tier f right)) }
+    ensures cut { IfErr result (IsTierCut G.rules tables.old tier (O.contents output.old) (O.contents output.new)) }
+{
+    let found = find(rt, rt.alloc(), folder, tier, tables);
     teller.clear();
-    let found = found?;
-    let told = Checked {
-        tier,
-        found: found.as_ref(),
-    };
-    write_line(output, &told)?;
-    let Some(Inspected::Right(table)) = found else {
-        return Ok(false);
-    };
-    match tables.insert(table) {
-        Ok(()) => Ok(true),
-        Err(_) => Err(Fault::OutOfMemory(AllocError)),
-    }
+    let (finding, table) = found?;
+    put(output, finding.line(tier).as_slice())?;
+    hold(tier, finding, table, tables)?;
+    Ok(finding)
 }
 
-// Prints for each of these tiers what its file is, and answers the status to end with.
+// Prints for each of these tiers what its file is found to be, and answers the status to end with.
 fn check_tiers<
     G: Game + Send + Sync,
     R: Threads + Wait + Clock + Files + Sync + AllocGlobal,
@@ -105,27 +156,40 @@ fn check_tiers<
     tables: &mut Tables<G>,
     output: &mut O,
     teller: &Teller<'_, G, R, E>,
-) -> Result<u8, Fault> {
+) -> Result<u8, Fault>
+    requires small { (tier : ℕ) → Contains tiers.now tier → G.rules.tier_size tier ≤ TIER_SIZE }
+    requires none { HoldsExactly tables.old [] }
+    ensures { IsCheckOf G.rules tiers.now (O.contents output.old) (O.contents output.new) result }
+{
     let mut status = DONE;
     Watch::begin(teller, rt, tiers.len());
     for tier in tiers {
         teller.read(rt, *tier);
-        if !check_tier(rt, folder, *tier, tables, output, teller)? {
-            status = REFUSED;
-        }
+        let finding = check_tier(rt, folder, *tier, tables, output, teller)?;
+        status = finding.status(status);
     }
     Ok(status)
 }
 
-/// Prints for each tier what its file in a folder is.
+// The order of the game's tiers.
+fn order_of<G: Game>(alloc: Global) -> Result<TierOrder<G>, Fault>
+    ensures order { IfOk result (IsTierOrder G.rules) }
+    ensures unbuilt { IfErr result (IsUnbuilt G.rules G.rules.initial.tier) }
+{
+    Ok(TierOrder::from_initial(alloc)?)
+}
+
+/// Prints for each tier what its file in a folder is found to be, in the order of tiers. The status is 0 where all are right, and else 1.
 pub fn check<
     G: Game + Send + Sync,
     R: Threads + Wait + Clock + Files + Sync + AllocGlobal,
     O: Write,
     E: Write + Send,
->(rt: &R, folder: &str, output: &mut O, errors: &mut E, telling: Telling) -> Result<u8, Fault> {
+>(rt: &R, folder: &str, output: &mut O, errors: &mut E, telling: Telling) -> Result<u8, Fault>
+    ensures { IsCheckedBy G.rules (O.contents output.old) (O.contents output.new) result }
+{
     let alloc = rt.alloc();
-    let order = TierOrder::<G>::from_initial(alloc)?;
+    let order = order_of::<G>(alloc)?;
     let mut tables: Tables<G> = Tables::new(alloc);
     let teller: Teller<'_, G, R, E> = Teller::new(rt, errors, telling, order.tiers());
     let checked = check_tiers(rt, folder, order.tiers(), &mut tables, output, &teller);

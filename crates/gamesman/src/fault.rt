@@ -84,6 +84,10 @@ impl From<SessionError> for Fault {
 
 // Each tier of a game of the program is held, and so are its child tiers.
 impl From<FindError> for Fault {
+    ghost use Rattle.gamesman.specs.Told.{IsFindFault};
+
+    ghost from_gives = { IsFindFault };
+
     fn from(error: FindError) -> Fault {
         match error {
             FindError::OutOfMemory => Fault::OutOfMemory(AllocError),

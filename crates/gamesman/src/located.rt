@@ -1,9 +1,15 @@
 //! What stands at a tier and index, and where a position stands.
 
+ghost use Rattle.std.specs.Prelude.{◌≡◌, true, IfOk, IfErr};
+ghost use Rattle.gm_table.specs.Tables.{IsHeld};
+ghost use Rattle.gm_best.specs.Places.{IsAt};
+ghost use Rattle.gm_play.specs.PlaceTexts.{IsPositionText};
+ghost use Rattle.gamesman.specs.Told.{IsMemoryFault, IsNoPlace};
+ghost use Rattle.gamesman.specs.Searches.{IsPlaced};
 ghost use Rattle.gamesman.specs.Answers.{IsLocatedBy};
 
-use crate::explore::put;
 use crate::fault::Fault;
+use crate::output::{put, put_all};
 use crate::run::DONE;
 use crate::search::known_tier;
 use crate::tables::Place;
@@ -12,6 +18,7 @@ use gm_best::play_error::PlayError;
 use gm_game::position::Position;
 use gm_game::shown::Shown;
 use gm_play::place_texts::{place_text, position_text};
+use gm_table::tables::Tables;
 use std::alloc::{AllocError, Global};
 use std::fs::Files;
 use std::io::Write;
@@ -25,17 +32,23 @@ pub fn at_place<
     R: Threads + Wait + Clock + Files + Sync + AllocGlobal,
     O: Write,
     E: Write + Send,
->(rt: &R, tier: u64, index: u64, place: Place<'_, E>, output: &mut O) -> Result<u8, Fault> {
+>(rt: &R, tier: u64, index: u64, place: Place<'_, E>, output: &mut O) -> Result<u8, Fault>
+    ensures { IsPlaced G.Game.rules G.shown tier index (O.contents output.old) (O.contents output.new) result }
+{
     known_tier::<G>(rt.alloc(), tier)?;
     let p = position_at::<G>(tier, index)?;
     let built = place.build_from::<G, R>(rt, tier)?;
-    let text = position_text(rt.alloc(), &built.tables, p);
+    let row = row_at(rt.alloc(), &built.tables, p);
     drop(built);
-    write_row(text, output)
+    let row = row?;
+    put_all(output, row.as_slice())
 }
 
 // The canonical position with this index of a tier.
-fn position_at<G: Shown>(tier: u64, index: u64) -> Result<Position, Fault> {
+fn position_at<G: Shown>(tier: u64, index: u64) -> Result<Position, Fault>
+    ensures position { IfOk result (IsAt G.Game.rules tier index) }
+    ensures refused { IfErr result (IsNoPlace G.Game.rules tier index) }
+{
     match at::<G>(tier, index) {
         Ok(p) => Ok(p),
         Err(PlaceError::NoSuchTier) => Err(Fault::NoSuchTier { tier }),
@@ -63,14 +76,16 @@ pub fn locate<G: Shown, O: Write>(
     }
 }
 
-fn write_row<O: Write>(text: Result<Vec<u8>, PlayError>, output: &mut O) -> Result<u8, Fault> {
-    match text {
-        Ok(row) => {
-            put(output, row.as_slice())?;
-            Ok(DONE)
-        }
+// The row of a legal position whose tier is held.
+fn row_at<G: Shown>(alloc: Global, tables: &Tables<G>, p: Position) -> Result<Vec<u8>, Fault>
+    requires legal { G.Game.rules.is_legal p ≡ true }
+    requires held { IsHeld tables.now p.tier }
+    ensures text { IfOk result (λ v. IsPositionText G.Game.rules G.shown p v.items) }
+    ensures fault { IfErr result IsMemoryFault }
+{
+    match position_text(alloc, tables, p) {
+        Ok(row) => Ok(row),
         Err(PlayError::OutOfMemory) => Err(Fault::OutOfMemory(AllocError)),
-        // The position's own tier is among those that are built.
-        Err(_) => Err(Fault::NoSuchPosition),
+        Err(PlayError::Illegal | PlayError::NotHeld) => Err(Fault::NoSuchPosition),
     }
 }

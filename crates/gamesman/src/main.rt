@@ -6,6 +6,7 @@ mod check;
 mod explore;
 mod fault;
 mod filter;
+mod finding;
 mod found;
 mod games;
 mod live;

@@ -3,8 +3,10 @@ ghost use Rattle.std.specs.Prelude.{◌≡◌, ◌≤◌, ◌++◌, codes, lengt
 ghost use Rattle.std.specs.Io.KnownBytes.{Appends};
 ghost use Rattle.gm_play.specs.Sessions.{AppendsPart};
 ghost use Rattle.gamesman.specs.Outputs.{IsOutputFault};
+ghost use Rattle.gamesman.specs.Told.{IsPut};
 
 use crate::fault::Fault;
+use crate::run::DONE;
 use arrayvec::ArrayVec;
 use gm_game::limits::LINE;
 use std::io::{ErrorKind, Write};
@@ -31,6 +33,14 @@ pub fn put<O: Write>(output: &mut O, text: &[u8]) -> Result<(), Fault>
         }
     }
     Err(Fault::OutputFailed)
+}
+
+/// Writes a text as `put` does, and answers the status of what is done.
+pub fn put_all<O: Write>(output: &mut O, text: &[u8]) -> Result<u8, Fault>
+    ensures { IsPut text.now (O.contents output.old) (O.contents output.new) result }
+{
+    put(output, text)?;
+    Ok(DONE)
 }
 
 /// Writes a line of at most `LINE` bytes before its end, as `put` writes a text.

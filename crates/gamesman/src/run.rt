@@ -1,15 +1,16 @@
 //! A line of words, from the program's name to the status that it ends with.
 ghost use Rattle.std.specs.Prelude.{◌≡◌};
+ghost use Rattle.gamesman.specs.Told.{IsPut};
+ghost use Rattle.gamesman.specs.Listing.{listed};
 ghost use Rattle.gamesman.specs.Answers.{IsDone, IsRun};
 
-use crate::explore::put;
 use crate::fault::Fault;
 use crate::games::{Streams, answer_for};
+use crate::output::{put, put_all};
 use crate::reasons::advise;
 use gm_build::whole_line::{FaultLine, write_line};
 use gm_command::asked::{Help, Unread, read_words, what_is_wrong};
 use gm_command::manual::{Manual, manual_text};
-use gm_command::names::{LATER_NAMES, NAMES};
 use gm_command::requests::{Asked, Reading, Telling};
 use std::alloc::{AllocError, Global};
 use std::fs::Files;
@@ -27,14 +28,19 @@ pub const REFUSED: u8 = 1;
 /// The status of a line that the program doesn't know.
 pub const BAD_LINE: u8 = 2;
 
-fn list<O: Write>(all: bool, output: &mut O) -> Result<u8, Fault> {
-    for name in &NAMES {
-        write_line(output, name)?;
-    }
+// The names of the games that `list` says, a line each, and the names that `list --all` says after them. The contract of `list` ties both to gm_command.
+const LISTED: &[u8] =
+    b"countdown\nwheel\ntactix-1\ntactix-2\ntactix-3\ntactix-4\ntactix-5\ntactix-1-misere\ntactix-2-misere\n\
+tactix-3-misere\ntactix-4-misere\ntactix-5-misere\ntictactoe\nthreemens\nachi\nmutorere\ndao\nhare\n";
+
+const LISTED_LATER: &[u8] = b"ponghauki\nshisima\ntakeaway\n";
+
+fn list<O: Write>(all: bool, output: &mut O) -> Result<u8, Fault>
+    ensures { IsPut (listed all) (O.contents output.old) (O.contents output.new) result }
+{
+    put(output, LISTED)?;
     if all {
-        for name in &LATER_NAMES {
-            write_line(output, name)?;
-        }
+        return put_all(output, LISTED_LATER);
     }
     Ok(DONE)
 }

@@ -1,14 +1,24 @@
 //! Searches over all tables of a game, and the service that answers positions.
+ghost use Rattle.std.specs.Prelude.{◌≡◌, None, IfOk, OnOk, IfErr, is_some};
+ghost use Rattle.gm_tiers.specs.Orders.{IsTierOrder, IsOrderFrom};
+ghost use Rattle.gm_tiers.specs.Reach.{IsReached};
+ghost use Rattle.gm_build.specs.Work.{HoldsExactly};
+ghost use Rattle.gm_find.specs.Finding.{AreTiersHeld};
+ghost use Rattle.gm_analyse.specs.Bars.{IsCountsText};
+ghost use Rattle.gm_analyse.specs.Longest.{IsLongestText};
+ghost use Rattle.gamesman.specs.Games.{game_spec};
+ghost use Rattle.gamesman.specs.Told.{IsMemoryFault, IsUnknown, IsTold};
+ghost use Rattle.gamesman.specs.Searches.{tier_asked, first_of, IsUnnamed, IsUnsearched, IsCountsOf, IsLongestOf, IsSearched};
 
-use crate::explore::put;
 use crate::fault::Fault;
 use crate::found::write_found;
+use crate::output::{put, put_all};
 use crate::run::DONE;
 use crate::tables::Place;
 use gm_analyse::bars::counts_text;
 use gm_analyse::longest_rows::longest_text;
 use gm_build::build::Built;
-use gm_command::requests::{AskAsked, CountsAsked, PositionsSought, Search};
+use gm_command::requests::{AskAsked, CountsAsked, Search};
 use gm_draw::pictured::Pictured;
 use gm_find::reached::Reached;
 use gm_game::shown::Shown;
@@ -28,7 +38,10 @@ pub fn search<
     I: Read,
     O: Write,
     E: Write + Send,
->(rt: &R, asked: Search, place: Place<'_, E>, input: &mut I, output: &mut O) -> Result<u8, Fault> {
+>(rt: &R, asked: Search, place: Place<'_, E>, input: &mut I, output: &mut O) -> Result<u8, Fault>
+    ensures { IsSearched (game_spec G.Game.rules G.shown G.move_shown G.drawn G.mover G.naming G.style G.title G.board G.points)
+        asked (O.contents output.old) (O.contents output.new) result }
+{
     let alloc = rt.alloc();
     let first = first_tier::<G>(alloc, asked)?;
     let built = place.build_from::<G, R>(rt, first)?;
@@ -43,14 +56,16 @@ fn answer<G: Pictured, I: Read, O: Write>(
     asked: Search,
     input: &mut I,
     output: &mut O,
-) -> Result<u8, Fault> {
+) -> Result<u8, Fault>
+    requires order { IsOrderFrom G.Game.rules (first_of G.Game.rules (tier_asked asked)) built.now.order }
+    requires held { HoldsExactly built.now.tables built.now.order }
+    ensures { IsSearched (game_spec G.Game.rules G.shown G.move_shown G.drawn G.mover G.naming G.style G.title G.board G.points)
+        asked (O.contents output.old) (O.contents output.new) result }
+{
     match asked {
         Search::Find(positions) => write_found(alloc, built, positions, output),
-        Search::Counts(asked) => written(counted(alloc, built, asked), output),
-        Search::Longest { reached, limit } => written(
-            longest(alloc, built, reached, limit),
-            output,
-        ),
+        Search::Counts(asked) => write_counts(alloc, built, asked, output),
+        Search::Longest { reached, limit } => write_longest(alloc, built, reached, limit, output),
         Search::Ask(asked) => serve(alloc, built, asked, input, output),
     }
 }
@@ -71,29 +86,36 @@ fn serve<G: Shown, I: Read, O: Write>(
     Ok(DONE)
 }
 
-// Writes a text, where there is one.
-fn written<O: Write>(text: Result<Vec<u8>, Fault>, output: &mut O) -> Result<u8, Fault> {
-    put(output, text?.as_slice())?;
-    Ok(DONE)
+// The one tier that is asked about; `None` where all are.
+fn tier_of(asked: Search) -> Option<u64>
+    ensures { result ≡ tier_asked asked }
+{
+    match asked {
+        Search::Find(positions) => positions.tier,
+        Search::Counts(_) | Search::Longest { .. } | Search::Ask(_) => None,
+    }
 }
 
-// The one tier that is asked about, which is one of the game; the initial one where all are.
-fn first_tier<G: Shown>(alloc: Global, asked: Search) -> Result<u64, Fault> {
-    let Search::Find(
-        PositionsSought {
-            tier: Some(tier),
-            ..
-        },
-    ) = asked
-    else {
-        return Ok(G::initial().tier);
-    };
-    known_tier::<G>(alloc, tier)?;
-    Ok(tier)
+// The tier whose tables are asked about: the one that is named, which is one of the game, or else the initial one.
+fn first_tier<G: Shown>(alloc: Global, asked: Search) -> Result<u64, Fault>
+    ensures first { IfOk result (λ tier. tier ≡ first_of G.Game.rules (tier_asked asked)) }
+    ensures reached { IfOk result (IsReached G.Game.rules) }
+    ensures refused { IfErr result (IsUnnamed G.Game.rules (tier_asked asked)) }
+{
+    match tier_of(asked) {
+        None => Ok(G::initial().tier),
+        Some(tier) => {
+            known_tier::<G>(alloc, tier)?;
+            Ok(tier)
+        }
+    }
 }
 
 /// Refuses a tier that is none of the game.
-pub fn known_tier<G: Shown>(alloc: Global, tier: u64) -> Result<(), Fault> {
+pub fn known_tier<G: Shown>(alloc: Global, tier: u64) -> Result<(), Fault>
+    ensures reached { OnOk result (IsReached G.Game.rules tier) }
+    ensures refused { IfErr result (IsUnknown G.Game.rules tier) }
+{
     let order = TierOrder::<G>::from_initial(alloc)?;
     if order.tiers().contains(&tier) {
         Ok(())
@@ -102,12 +124,27 @@ pub fn known_tier<G: Shown>(alloc: Global, tier: u64) -> Result<(), Fault> {
     }
 }
 
-// The counts of all tiers.
-fn counted<G: Shown>(
+// Writes the counts of all tiers.
+fn write_counts<G: Shown, O: Write>(
     alloc: Global,
     built: &Built<G>,
     asked: CountsAsked,
-) -> Result<Vec<u8>, Fault> {
+    output: &mut O,
+) -> Result<u8, Fault>
+    requires order { IsTierOrder G.Game.rules built.now.order }
+    requires held { HoldsExactly built.now.tables built.now.order }
+    ensures { IsTold (IsCountsOf G.Game.rules asked) (IsUnsearched G.Game.rules None) (O.contents output.old) (O.contents output.new) result }
+{
+    let text = counted(alloc, built, asked)?;
+    put_all(output, text.as_slice())
+}
+
+// The counts of all tiers.
+fn counted<G: Shown>(alloc: Global, built: &Built<G>, asked: CountsAsked) -> Result<Vec<u8>, Fault>
+    requires { AreTiersHeld G.Game.rules built.now.tables built.now.order }
+    ensures text { IfOk result (λ v. IsCountsText G.Game.rules asked.among asked.reached asked.by_tier asked.form built.now.order v.items) }
+    ensures fault { IfErr result IsMemoryFault }
+{
     let reached = reached_from_start(alloc, asked.reached)?;
     let text = counts_text(
         alloc,
@@ -122,13 +159,34 @@ fn counted<G: Shown>(
     Ok(text?)
 }
 
+// Writes the rows of the longest wins and the longest losses.
+fn write_longest<G: Shown, O: Write>(
+    alloc: Global,
+    built: &Built<G>,
+    reached: bool,
+    limit: usize,
+    output: &mut O,
+) -> Result<u8, Fault>
+    requires order { IsTierOrder G.Game.rules built.now.order }
+    requires held { HoldsExactly built.now.tables built.now.order }
+    ensures { IsTold (IsLongestOf G.Game.rules G.shown G.move_shown reached limit) (IsUnsearched G.Game.rules None)
+        (O.contents output.old) (O.contents output.new) result }
+{
+    let text = longest(alloc, built, reached, limit)?;
+    put_all(output, text.as_slice())
+}
+
 // The rows of the longest wins and the longest losses.
 fn longest<G: Shown>(
     alloc: Global,
     built: &Built<G>,
     reached: bool,
     limit: usize,
-) -> Result<Vec<u8>, Fault> {
+) -> Result<Vec<u8>, Fault>
+    requires { AreTiersHeld G.Game.rules built.now.tables built.now.order }
+    ensures text { IfOk result (λ v. IsLongestText G.Game.rules G.shown G.move_shown reached limit built.now.order v.items) }
+    ensures fault { IfErr result IsMemoryFault }
+{
     let reached = reached_from_start(alloc, reached)?;
     let text = longest_text(
         alloc,
@@ -142,10 +200,10 @@ fn longest<G: Shown>(
 }
 
 /// The positions that play reaches, where they are asked for.
-pub fn reached_from_start<G: Shown>(
-    alloc: Global,
-    asked: bool,
-) -> Result<Option<Reached<G>>, Fault> {
+pub fn reached_from_start<G: Shown>(alloc: Global, asked: bool) -> Result<Option<Reached<G>>, Fault>
+    ensures asked { IfOk result (λ reached. is_some reached ≡ asked) }
+    ensures fault { IfErr result IsMemoryFault }
+{
     if asked {
         Ok(Some(Reached::from_start(alloc)?))
     } else {

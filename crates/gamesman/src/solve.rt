@@ -1,13 +1,17 @@
 //! A game solved into a folder.
+ghost use Rattle.std.specs.Prelude.{◌≡◌, ◌++◌, IfOk, OnOk, IfErr};
+ghost use Rattle.gamesman.specs.Refusals.{IsUnbuilt};
+ghost use Rattle.gamesman.specs.Solving.{part, report_text, IsReport, IsSolvedBy};
 
 use crate::fault::Fault;
-use crate::run::DONE;
+use crate::output::put_all;
 use crate::tables::Place;
 use gm_build::build::Built;
-use gm_build::whole_line::write_line;
 use gm_command::requests::{Kept, SolveAsked, Telling};
 use gm_game::game::Game;
-use std::fmt;
+use gm_game::shown::Line;
+use gm_game::text::push_decimal;
+use std::alloc::{AllocError, Global};
 use std::fs::Files;
 use std::io::Write;
 use std::sync::Wait;
@@ -26,17 +30,22 @@ pub fn solve<
     output: &mut O,
     errors: &mut E,
     telling: Telling,
-) -> Result<u8, Fault> {
-    let report = built_report::<G, R, E>(rt, asked, errors, telling)?;
-    write_line(output, &report)?;
-    Ok(DONE)
+) -> Result<u8, Fault>
+    ensures { IsSolvedBy G.rules (O.contents output.old) (O.contents output.new) result }
+{
+    let line = report_of::<G, R, E>(rt, asked, errors, telling)?;
+    put_all(output, line.as_slice())
 }
 
-fn built_report<
+// Builds a game into a folder, and makes the line that tells what that took.
+fn report_of<
     G: Game + Send + Sync,
     R: Threads + Wait + Clock + Files + Sync + AllocGlobal,
     E: Write + Send,
->(rt: &R, asked: SolveAsked<'_>, errors: &mut E, telling: Telling) -> Result<BuildReport, Fault> {
+>(rt: &R, asked: SolveAsked<'_>, errors: &mut E, telling: Telling) -> Result<Vec<u8>, Fault>
+    ensures report { IfOk result (λ v. IsReport G.rules v.items) }
+    ensures unbuilt { IfErr result (IsUnbuilt G.rules G.rules.initial.tier) }
+{
     let SolveAsked { folder, plan } = asked;
     let place = Place {
         kept: Kept {
@@ -48,45 +57,31 @@ fn built_report<
         telling,
     };
     let built = place.build::<G, R>(rt)?;
-    let report = BuildReport::of(&built);
+    let line = line_of(rt.alloc(), &built);
     drop(built);
-    Ok(report)
+    Ok(line?)
 }
 
-// What a build took.
-#[derive(Drop)]
-struct BuildReport {
-    solved: usize,
-    reused: usize,
-    migrated: usize,
-    deliveries: u64,
-    by_hand: u64,
+// What a build took, as a line.
+fn line_of<G: Game>(alloc: Global, built: &Built<G>) -> Result<Vec<u8>, AllocError>
+    ensures { IfOk result (λ v. v.items ≡ report_text built.now.solved built.now.reused built.now.migrated built.now.deliveries built.now.by_hand) }
+{
+    let mut line = Vec::new(alloc);
+    push_part(&mut line, b"solved ", built.solved as u64)?;
+    push_part(&mut line, b" reused ", built.reused as u64)?;
+    push_part(&mut line, b" migrated ", built.migrated as u64)?;
+    push_part(&mut line, b" deliveries ", built.deliveries)?;
+    push_part(&mut line, b" by hand ", built.by_hand)?;
+    line.extend_from_slice(b"\n")?;
+    Ok(line)
 }
 
-impl BuildReport {
-    fn of<G: Game>(built: &Built<G>) -> Self {
-        BuildReport {
-            solved: built.solved,
-            reused: built.reused,
-            migrated: built.migrated,
-            deliveries: built.deliveries,
-            by_hand: built.by_hand,
-        }
-    }
-}
-
-impl fmt::Display for BuildReport {
-    fn fmt<W: fmt::Write>(&self, f: &mut fmt::Formatter<W>) -> fmt::Result {
-        let BuildReport {
-            solved,
-            reused,
-            migrated,
-            deliveries,
-            by_hand,
-        } = self;
-        write!(
-            f,
-            "solved {solved} reused {reused} migrated {migrated} deliveries {deliveries} by hand {by_hand}"
-        )
-    }
+// Appends some words and a number.
+fn push_part(line: &mut Vec<u8>, words: &[u8], number: u64) -> Result<(), AllocError>
+    ensures { OnOk result (line.new.items ≡ line.old.items ++ part words.now number) }
+{
+    let mut digits = Line::new();
+    push_decimal(&mut digits, number);
+    line.extend_from_slice(words)?;
+    line.extend_from_slice(digits.as_slice())
 }

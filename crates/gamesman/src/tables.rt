@@ -2,7 +2,7 @@
 ghost use Rattle.std.specs.Prelude.{◌≡◌, ◌<◌, IfOk, IfErr, IfSome};
 ghost use Rattle.std.specs.List.{Contains};
 ghost use Rattle.gm_tiers.specs.Orders.{IsTierOrder, IsOrderFrom};
-ghost use Rattle.gm_build.specs.Work.{HoldsExactly};
+ghost use Rattle.gm_build.specs.Work.{HoldsExactly, IsSomeWork};
 ghost use Rattle.gm_build.specs.Outcomes.{IsBuildError};
 ghost use Rattle.gamesman.specs.Shelves.{failed_in};
 ghost use Rattle.gamesman.specs.Refusals.{IsUnbuilt, reason_of};
@@ -42,6 +42,7 @@ impl<E: Write + Send> Place<'_, E> {
     ) -> Result<Built<G>, Fault>
         ensures order { IfOk result (λ built. IsTierOrder G.rules built.order) }
         ensures held { IfOk result (λ built. HoldsExactly built.tables built.order) }
+        ensures work { IfOk result (λ built. IsSomeWork G.rules built.order built.solved built.reused built.migrated built.deliveries built.by_hand) }
         ensures unbuilt { IfErr result (IsUnbuilt G.rules G.rules.initial.tier) }
     {
         self.build_from::<G, R>(rt, G::initial().tier)
@@ -54,6 +55,7 @@ impl<E: Write + Send> Place<'_, E> {
     >(self, rt: &R, first: u64) -> Result<Built<G>, Fault>
         ensures order { IfOk result (λ built. IsOrderFrom G.rules first built.order) }
         ensures held { IfOk result (λ built. HoldsExactly built.tables built.order) }
+        ensures work { IfOk result (λ built. IsSomeWork G.rules built.order built.solved built.reused built.migrated built.deliveries built.by_hand) }
         ensures unbuilt { IfErr result (IsUnbuilt G.rules first) }
     {
         let Place {
@@ -114,6 +116,7 @@ fn build_over<
     requires { failed_in shelf.old ≡ 0 }
     ensures order { IfOk result (λ built. IsOrderFrom G.rules first built.order) }
     ensures held { IfOk result (λ built. HoldsExactly built.tables built.order) }
+    ensures work { IfOk result (λ built. IsSomeWork G.rules built.order built.solved built.reused built.migrated built.deliveries built.by_hand) }
     ensures error { IfErr result (IsBuildError G.rules first) }
 {
     let alloc = rt.alloc();

@@ -12,7 +12,8 @@ use Rattle.gm_analyse.specs.declared.bars.Form.TheVariants.{Bars, Csv, Json}
 use Rattle.gm_analyse.specs.declared.by_tier.TierCount.{TierCount}
 use Rattle.gm_analyse.specs.declared.counts.Count.{Count}
 use Rattle.gm_analyse.specs.ByTier.{AreRows}
-use Rattle.gm_analyse.specs.Tree.{value_word, whole}
+use Rattle.gm_play.specs.PlayTexts.{value_word}
+use Rattle.gm_analyse.specs.Tree.{whole}
 
 -- the greatest of the numbers
 abbrev pub most : List TierCount → ℕ

@@ -3,20 +3,13 @@ use Rattle.std.specs.Prelude.{ℕ, ◌==◌, List, map, codes, Option, None, Som
 use Rattle.std.specs.List.{before_first}
 use Rattle.serde_json.specs.Data.{Data, null, number, unsigned, string, array, object, item, no_items, member, no_members}
 use Rattle.serde_json.specs.View.{items_of}
-use Rattle.gm_game.specs.declared.position.Value.{Value}
-use Rattle.gm_game.specs.declared.position.Value.TheVariants.{Lose, Draw, Tie, Win}
+use Rattle.gm_play.specs.PlayTexts.{value_word}
 use Rattle.gm_analyse.specs.declared.counts.Count.{Count}
 use Rattle.gm_analyse.specs.declared.analysis.Analysis.{Analysis}
 
 -- the text of a padded name: the bytes before the first zero
 abbrev pub name_text : List ℕ → List ℕ
 name_text bs = before_first (λ b. b == 0) bs
-
-abbrev pub value_word : Value → List ℕ
-value_word Lose = codes "lose"
-value_word Draw = codes "draw"
-value_word Tie = codes "tie"
-value_word Win = codes "win"
 
 abbrev pub whole : ℕ → Data
 whole n = number (unsigned n)

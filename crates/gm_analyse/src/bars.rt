@@ -8,7 +8,6 @@ ghost use Rattle.gm_analyse.specs.Bars.{most as most_spec, bar_length as bar_len
 use crate::among::Among;
 use crate::by_tier::{TierCount, tier_counts};
 use crate::counts::Count;
-use crate::json::word_of;
 use crate::json_rows::json_rows;
 use gm_find::find_error::FindError;
 use gm_find::reached::Reached;
@@ -16,6 +15,7 @@ use gm_game::game::Game;
 use gm_game::position::Solved;
 use gm_game::shown::Line;
 use gm_game::text::{push_decimal, value_text};
+use gm_play::texts::{push_field, word_of};
 use gm_table::tables::Tables;
 use std::alloc::{AllocError, Global};
 
@@ -182,12 +182,4 @@ fn push_number(rows: &mut Vec<u8>, number: u64, after: &[u8]) -> Result<(), Allo
     let mut text = Line::new();
     push_decimal(&mut text, number);
     push_field(rows, text.as_slice(), after)
-}
-
-// Appends a field and what stands after it.
-fn push_field(rows: &mut Vec<u8>, field: &[u8], after: &[u8]) -> Result<(), AllocError>
-    ensures { OnOk result (rows.new.items ≡ rows.old.items ++ (field.now ++ after.now)) }
-{
-    rows.extend_from_slice(field)?;
-    rows.extend_from_slice(after)
 }

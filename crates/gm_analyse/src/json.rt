@@ -5,13 +5,13 @@ ghost use Rattle.serde_json.specs.Written.{compact_text};
 ghost use Rattle.serde_json.specs.Data.{object};
 ghost use Rattle.serde_json.specs.View.{view, members_view};
 ghost use Rattle.gm_game.specs.Texts.{IsPaddedText};
-ghost use Rattle.gm_analyse.specs.Tree.{name_text, value_word, count_tree, counts_tree, longest_tree, analysis_tree};
+ghost use Rattle.gm_analyse.specs.Tree.{name_text, count_tree, counts_tree, longest_tree, analysis_tree};
 
 use crate::analysis::Analysis;
 use crate::counts::Count;
 use gm_game::game::{Game, laws};
 use gm_game::limits::NAME;
-use gm_game::position::Value;
+use gm_play::texts::word_of;
 use serde_json::{Map, Value as Json, json, push, put};
 use std::alloc::{AllocError, Global};
 use std::str;
@@ -114,16 +114,5 @@ fn longest_value(alloc: Global, longest: Option<(u32, u64)>) -> Result<Json, All
     match longest {
         None => Ok(Json::Null),
         Some((remoteness, index)) => json!(in alloc; [remoteness, index]),
-    }
-}
-
-pub(crate) fn word_of(value: Value) -> &'static str
-    ensures { result.now ≡ value_word value }
-{
-    match value {
-        Value::Lose => "lose",
-        Value::Draw => "draw",
-        Value::Tie => "tie",
-        Value::Win => "win",
     }
 }

@@ -7,7 +7,7 @@ ghost use Rattle.gm_analyse.specs.Bars.{row_tree, json_row};
 
 use crate::by_tier::TierCount;
 use crate::counts::Count;
-use crate::json::word_of;
+use gm_play::texts::word_of;
 use serde_json::{Value as Json, json};
 use std::alloc::{AllocError, Global};
 

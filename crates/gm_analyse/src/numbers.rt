@@ -9,7 +9,7 @@ ghost use Rattle.gm_analyse.specs.Totals.{AreNumbers, IsLevel, IsRecordAmong};
 
 use crate::among::Among;
 use gm_find::positions::record;
-use gm_find::reached::Reached;
+use gm_find::reached::{Reached, is_in};
 use gm_game::game::Game;
 use gm_game::limits::REMOTENESS;
 use gm_game::position::{Position, Solved, Value};
@@ -117,7 +117,7 @@ fn level<G: Game>(
     ensures few { IfSome result (λ n. n ≤ REMOTENESS) }
 {
     let solved = record_among(tables, p, among)?;
-    if solved.value != value || !is_in(reached, p) {
+    if solved.value != value || !is_in(reached, G::canonical(p)) {
         return None;
     }
     Some(solved.remoteness)
@@ -132,16 +132,5 @@ fn record_among<G: Game>(tables: &Tables<G>, p: Position, among: Among) -> Optio
     match among {
         Among::Canonical => record(tables, p),
         Among::Legal => tables.get(p),
-    }
-}
-
-// Whether the canonical position of a legal one is reached, where that is asked.
-fn is_in<G: Game>(reached: Option<&Reached<G>>, p: Position) -> bool
-    requires { G.rules.is_legal p ≡ true }
-    ensures { IsTrue result ↔ (IsTrue (is_some reached.entry) → IsReachedByPlay G.rules (G.rules.canonical p)) }
-{
-    match reached {
-        None => true,
-        Some(reached) => reached.has(G::canonical(p)),
     }
 }

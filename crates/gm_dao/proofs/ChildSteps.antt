@@ -1,12 +1,11 @@
 -- The boards after a board: what is skipped leads to no board.
-use Rattle.std.proofs.Common.{◌≡◌, ℕ, ◌+◌, ◌-◌, ◌*◌, ◌/◌, ◌^◌, ◌<◌, ◌≤◌, true, false, List, [], Option, None, Some, length, map, set, refl, sym, ap, ap₂, ◌∙◌, subst, arith}
+use Rattle.std.proofs.Common.{◌≡◌, ℕ, ◌+◌, ◌-◌, ◌*◌, ◌/◌, ◌^◌, ◌<◌, ◌≤◌, true, false, List, Option, None, Some, length, set, refl, sym, ap, ap₂, ◌∙◌, subst, arith}
 use Rattle.std.specs.Option.{is_some}
 use Rattle.std.proofs.lemmas.Bool.{true≢false}
 use Rattle.gm_game.specs.declared.position.Position.{Position}
 use Rattle.gm_game.specs.declared.position.End.{End}
 use Rattle.gm_game.specs.Boards.{least_image, next_images}
 use Rattle.gm_game.specs.Children.{IsSetOf, with_position}
-use Rattle.gm_game.proofs.ChildrenSteps.{set_none}
 use Rattle.gm_board.specs.declared.cell.Cell.{Cell}
 use Rattle.gm_board.specs.declared.cell.Cell.TheVariants.{Empty, Mine}
 use Rattle.gm_board.specs.Cells.{is_mine, is_theirs, number_of}
@@ -15,8 +14,8 @@ use Rattle.gm_board.specs.Masks.{has_cell}
 use Rattle.gm_board.specs.NextCells.{none_left}
 use Rattle.gm_board.specs.Images.{board_of}
 use Rattle.gm_pieces.specs.laws.StepFacts.{from_back, to_back}
-use Rattle.gm_pieces.specs.MoveGames.{board_game, steps, moves_by}
-use Rattle.gm_pieces.specs.MoveChildren.{position_after, AreChildrenBelow}
+use Rattle.gm_pieces.specs.MoveGames.{board_game, steps}
+use Rattle.gm_pieces.specs.MoveChildren.{AreChildrenBelow}
 use Rattle.gm_pieces.specs.laws.ChildFacts.{children_skip, child_more, all_children, all_are_moves}
 use Rattle.gm_pieces.specs.Sides.{IsStep, gone}
 use Rattle.gm_pieces.specs.laws.MoveFacts.{step_left}
@@ -40,10 +39,6 @@ cells_end a b n rest set o w l e z h =
     all_children dao d 256 set refl (all_are_moves (over d) (steps dao d) o)
     (subst (λ (k : ℕ). AreChildrenBelow dao d k set) (let q : 16 * (n + (16 - n)) ≡ 256 = omega (arith, l) in q)
     (cells_skip a b n (16 - n) set w (λ i k. none_left a n rest (n + i) e z (omega arith)) h))
-
--- where the game is over there is no child
-pub no_child : (b : List Cell) (o : Option End) (e : End) → o ≡ over b → o ≡ Some e → IsSetOf (next_images (board_game dao) b) []
-no_child b o e f h = subst (λ (x : Option End). IsSetOf (map (position_after dao b) (moves_by x (steps dao b))) []) (sym h ∙ f) set_none
 
 -- the board after a move, by the cells that the code has
 played : (b : List Cell) (from k : ℕ) → k < 16 → play b (16 * from + k) ≡ gone b from k

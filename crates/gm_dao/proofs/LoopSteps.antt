@@ -8,7 +8,7 @@ use Rattle.std.specs.Int.{trailing_zeros, w32}
 use Rattle.std.specs.Int.Bits.{or_zero_r}
 use Rattle.std.specs.List.{list_all, filter, filter_map, range_with_len}
 use Rattle.std.proofs.lemmas.Bool.{cases_Bool, cases_eq, true≢false}
-use Rattle.std.proofs.lemmas.Nat.Bits.{bit_at-zero, bit_at_above, bit_at_set_same, bit_at_set_other}
+use Rattle.std.proofs.lemmas.Nat.Bits.{bit_at_above, bit_at_set_same, bit_at_set_other}
 use Rattle.gm_game.specs.Ascending.{put, put_all}
 use Rattle.gm_game.proofs.PuttingSteps.{put_more_none, put_more_some}
 use Rattle.gm_board.specs.declared.cell.Cell.{Cell}
@@ -74,10 +74,6 @@ goals_skip b from g n s ms h l none e =
     ap (λ (m : ℕ). filter (can_move b) (range_with_len 0 m)) (let z : 16 * from + (n + s) ≡ 16 * from + n + s = omega arith in z)
     ∙ filter_skip (can_move b) (16 * from + n) s (λ i k.
     ap (can_move b) (let z : 16 * from + n + i ≡ 16 * from + (n + i) = omega arith in z) ∙ sym (h (n + i) (omega arith)) ∙ none i k))
-
--- a mask without a cell
-pub no_cell : (k : ℕ) → has_cell 0 k ≡ false
-no_cell k = rw (bit_at-zero k) refl
 
 -- ---- boards before
 -- no board before a move that cannot have led to d

@@ -53,7 +53,7 @@ fn has_all_pieces(board: Board) -> bool
 }
 
 /// Whether a board is legal: each side has four pieces, and the mover has no formation.
-#[tactic(auto, unfolding(crate::specs::DaoRules::legal))]
+#[tactic(auto, using(crate::proofs::MoveSteps::legal_by), unfolding(crate::specs::DaoRules::legal))]
 pub fn is_legal_board(board: Board) -> bool
     ensures { result ≡ legal (board_of 16 board.mine board.theirs) }
 {
@@ -61,6 +61,7 @@ pub fn is_legal_board(board: Board) -> bool
 }
 
 /// Whether the move with this number can be made.
+#[tactic(auto, using(gm_board::specs::Images::board_of, crate::proofs::MoveSteps::from_below, crate::proofs::MoveSteps::to_below, crate::proofs::MoveSteps::slides_by, crate::proofs::MoveSteps::move_by, crate::proofs::MoveSteps::no_move_by))]
 pub fn can_move(board: Board, number: u32) -> bool
     requires { number < 256 }
     ensures { result ≡ can_move_of (board_of 16 board.mine board.theirs) number }
@@ -125,6 +126,7 @@ fn push_moves(list: &mut ArrayVec<u32, MOVES>, board: Board, from: u32)
 }
 
 /// The numbers of the moves that could be made if the game were not over, ascending.
+#[tactic(auto, using(gm_board::specs::Images::board_of, crate::specs::laws::BoardFacts::legal_in, crate::specs::laws::MoveFacts::steps_few, crate::proofs::LoopSteps::moves_skip, crate::proofs::LoopSteps::moves_end))]
 pub fn open_moves(board: Board) -> ArrayVec<u32, MOVES>
     requires { legal (board_of 16 board.mine board.theirs) ≡ true }
     ensures { result.items ≡ steps dao (board_of 16 board.mine board.theirs) }

@@ -23,7 +23,7 @@ use gm_pieces::step::Step;
 const CELLS: u32 = 0xffff;
 
 /// Whether the move with this number can have led to the board.
-#[tactic(auto, unfolding(crate::specs::DaoRules::was_moved))]
+#[tactic(auto, using(crate::proofs::MoveSteps::from_below, crate::proofs::MoveSteps::to_below), unfolding(crate::specs::DaoRules::was_moved))]
 pub fn was_moved(board: Board, number: u32) -> bool
     requires { number < 256 }
     ensures { result ≡ was_moved_of (board_of 16 board.mine board.theirs) number }
@@ -54,6 +54,7 @@ pub fn goes_on(tier: u64, board: Board, number: u32) -> bool
 }
 
 // Whether a piece slides on the board from one cell to another.
+#[tactic(auto, using(gm_board::specs::Images::board_of, crate::proofs::MoveSteps::slides_by))]
 fn slides(board: Board, from: u32, to: u32) -> bool
     requires from { from < 16 }
     requires to { to < 16 }

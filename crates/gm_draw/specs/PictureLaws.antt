@@ -1,5 +1,5 @@
 -- The pictures of the games keep the laws of pictures.
-use Rattle.std.proofs.Common.{◌≡◌, ◌↔◌, ℕ, ◌+◌, ◌*◌, ◌/◌, ◌%◌, ◌<◌, ◌≤◌, min, Bool, true, ◌&&◌, eqb, ltb, eq-eqb, ltb-true, List, [], ◌∷◌, map, length, refl, sym, subst, arith, inl, inr}
+use Rattle.std.proofs.Common.{◌≡◌, ◌↔◌, ℕ, ◌+◌, ◌*◌, ◌/◌, ◌%◌, ◌<◌, ◌≤◌, min, Bool, true, false, ◌&&◌, if◌then◌else◌, eqb, ltb, eq-eqb, ltb-true, List, [], ◌∷◌, ◌++◌, map, length, refl, sym, subst, arith, inl, inr}
 use Rattle.std.specs.Fmt.{decimal}
 use Rattle.std.specs.List.{Contains, filter, list_all, range_with_len}
 use Rattle.std.proofs.lemmas.Bool.{cases_Bool, cond-true, cond-false, ne_eqb}
@@ -21,7 +21,7 @@ use Rattle.gm_morris.specs.Points.{variant_of}
 use Rattle.gm_morris.specs.Morris.{mine, theirs, board_at, morris, morris_rules}
 use Rattle.gm_morris.specs.Texts.{step_text as nine_step, position_text as nine_text, move_text as nine_move}
 use Rattle.gm_morris.specs.laws.BoardFacts.{legal_in as legal_nine}
-use Rattle.gm_morris.specs.laws.MoveFacts.{step_cases}
+use Rattle.gm_morris.specs.laws.MoveFacts.{is_last, CanStep, step_in}
 use Rattle.gm_morris.specs.laws.PointFacts.{joined_within}
 use Rattle.gm_dao.specs.DaoRules.{board_at as dao_at, dao, dao_rules}
 use Rattle.gm_dao.specs.Texts.{step_text as dao_step, position_text as dao_text, move_text as dao_move}
@@ -76,14 +76,14 @@ board_with r shown board points n many placed long = subst (IsBoard r shown (λ 
 })
 
 -- ---- the games of nine points
+nine_step_by : (v : Variant) (x : Bool) (b : List Cell) (m : ℕ) → CanStep v x b m → IsPointWord (square_points 3) (if x then cell_text 3 (m / 16) ++ 45 ∷ cell_text 3 (m % 16) else cell_text 3 m)
+unfolding square_points
+nine_step_by v true b m h = let w = joined_within v (m / 16) (m % 16) (and_left _ _ h.can) in two_points (cell_text 3) 9 (m / 16) (m % 16) w.0 w.1
+nine_step_by v false b m h = one_point (cell_text 3) 9 m h.below
+
 nine_step_words : (v : Variant) (b : List Cell) (m : ℕ) → IsMove (morris v) b m → IsPointWord (square_points 3) (nine_step v (mine b + theirs b) m)
-unfolding nine_step square_points
-nine_step_words v b m h = elim (step_cases v b m h) [
-  | inl s ↦ (
-      let w = joined_within v (m / 16) (m % 16) s.joined in
-      subst (IsPointWord (square_points 3)) (sym (cond-true _ _ _ (eq-eqb _ _ s.last))) (two_points (cell_text 3) 9 (m / 16) (m % 16) w.0 w.1))
-  | inr s ↦ subst (IsPointWord (square_points 3)) (sym (cond-false _ _ _ (ne_eqb _ _ s.before))) (one_point (cell_text 3) 9 m s.point)
-]
+unfolding nine_step
+nine_step_words v b m h = nine_step_by v (is_last v b) b m (step_in v b m h)
 
 nine_words : (n : ℕ) (p : Position) (m : ℕ) → (morris_rules n).is_legal p ≡ true → Contains ((morris_rules n).moves p) m → IsPointWord (square_points 3) (nine_move n p m)
 nine_words n p m l c =

@@ -2,12 +2,11 @@
 ghost use Rattle.std.specs.Prelude.{◌≤◌, ◌↔◌, IfOk, IsTrue};
 ghost use Rattle.gm_table.specs.Tables.{AreHeld};
 ghost use Rattle.gm_tierdb.specs.Seals.{IsSealed};
-ghost use Rattle.gm_entry.specs.Inspections.{IsInspected, IsChecked};
+ghost use Rattle.gm_entry.specs.Inspections.{IsInspected, IsRead};
 
 use gm_game::game::Game;
 use gm_game::limits::TIER_SIZE;
 use gm_table::checker::{CheckError, check_packed_by};
-use gm_table::packed::Packed;
 use gm_table::table::Table;
 use gm_table::tables::Tables;
 use gm_tierdb::decode::{decode_unsealed, is_sealed};
@@ -15,7 +14,7 @@ use gm_tierdb::file_error::FileError;
 use std::alloc::{AllocError, Global};
 use std::thread::{Threads, join};
 
-// The digest of so few bytes is taken by the thread that checks their records: to start another takes longer.
+// So few bytes are read by the thread that takes their digest: to start another takes longer.
 const FEW: usize = 65_536;
 
 /// What a tier's entry is found to be.
@@ -44,12 +43,12 @@ pub fn inspect_text<G: Game + Send + Sync, R: Threads + Sync>(
     requires small { G.rules.tier_size tier ≤ TIER_SIZE }
     ensures exact { IfOk result (IsInspected G.rules tables.now tier bytes.now) }
 {
-    let records = match decode_unsealed::<G>(alloc, tier, bytes) {
-        Ok(records) => records,
+    let (sealed, read) = read_both(rt, alloc, tier, bytes, tables);
+    let checked = match read {
+        Ok(checked) => checked,
         Err(FileError::OutOfMemory) => return Err(AllocError),
         Err(why) => return Ok(Inspected::NoFile(why)),
     };
-    let (sealed, checked) = check_both(rt, tier, bytes, records, tables);
     if !sealed {
         return Ok(Inspected::NoFile(FileError::BadDigest));
     }
@@ -59,30 +58,46 @@ pub fn inspect_text<G: Game + Send + Sync, R: Threads + Sync>(
     }
 }
 
-// Whether an entry ends with its digest, and what a check of its records answers: of a long one by a thread each.
-fn check_both<G: Game + Send + Sync, R: Threads + Sync>(
+// Whether an entry ends with its digest, and what its records are: of a long one by a thread each.
+fn read_both<G: Game + Send + Sync, R: Threads + Sync>(
     rt: &R,
+    alloc: Global,
     tier: u64,
     bytes: &[u8],
-    records: Packed,
     tables: &Tables<G>,
-) -> (bool, Result<Table<G>, CheckError>)
+) -> (bool, Result<Result<Table<G>, CheckError>, FileError>)
     requires held { AreHeld G.rules tables.now tier }
     requires small { G.rules.tier_size tier ≤ TIER_SIZE }
     ensures sealed { IsTrue result.0 ↔ IsSealed bytes.now }
-    ensures checked { IsChecked G.rules tables.now tier records result.1 }
+    ensures read { IsRead G.rules tables.now tier bytes.now result.1 }
 {
     if bytes.len() <= FEW {
-        return (is_sealed(bytes), check_packed_by(rt, tier, records, tables));
+        return (is_sealed(bytes), read_table(rt, alloc, tier, bytes, tables));
     }
     join(
         rt,
         || -> bool
             ensures { IsTrue result ↔ IsSealed bytes.entry.now }
         { is_sealed(bytes) },
-        || -> Result<Table<G>, CheckError>
+        || -> Result<Result<Table<G>, CheckError>, FileError>
             requires { AreHeld G.rules tables.now tier × (G.rules.tier_size tier ≤ TIER_SIZE) }
-            ensures { IsChecked G.rules tables.entry.now tier records result }
-        { check_packed_by(rt, tier, records, tables) },
+            ensures { IsRead G.rules tables.entry.now tier bytes.entry.now result }
+        { read_table(rt, alloc, tier, bytes, tables) },
     )
+}
+
+// The table of the records of an entry, or why they are not the tier's, whatever its digest.
+fn read_table<G: Game + Send + Sync, R: Threads + Sync>(
+    rt: &R,
+    alloc: Global,
+    tier: u64,
+    bytes: &[u8],
+    tables: &Tables<G>,
+) -> Result<Result<Table<G>, CheckError>, FileError>
+    requires held { AreHeld G.rules tables.now tier }
+    requires small { G.rules.tier_size tier ≤ TIER_SIZE }
+    ensures { IsRead G.rules tables.now tier bytes.now result }
+{
+    let records = decode_unsealed::<G, R>(rt, alloc, tier, bytes)?;
+    Ok(check_packed_by(rt, tier, records, tables))
 }

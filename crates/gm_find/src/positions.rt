@@ -15,7 +15,7 @@ ghost use Rattle.gm_find.specs.Finding.{IsValueOf, IsFitting, HasFittingMoves, I
 use crate::find_error::FindError;
 use crate::only::{has_moves, has_only};
 use crate::only_line::is_only_line;
-use crate::reached::Reached;
+use crate::reached::{Reached, is_in};
 use crate::sought::{Sought, Span};
 use gm_game::game::Game;
 use gm_game::position::{Phase, Position, Solved, Value};
@@ -313,14 +313,4 @@ fn is_value(sought: Sought, solved: Solved) -> bool
             None => true,
             Some(span) => span.least <= solved.remoteness && solved.remoteness <= span.most,
         }
-}
-
-// Whether a position is reached, where that is asked.
-fn is_in<G: Game>(reached: Option<&Reached<G>>, p: Position) -> bool
-    ensures { IsTrue result ↔ (IsTrue (is_some reached.entry) → IsReachedByPlay G.rules p) }
-{
-    match reached {
-        None => true,
-        Some(reached) => reached.has(p),
-    }
 }

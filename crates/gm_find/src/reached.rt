@@ -1,5 +1,5 @@
 //! The positions that play from the start reaches.
-ghost use Rattle.std.specs.Prelude.{◌↔◌, ◌≡◌, IsTrue, IfOk};
+ghost use Rattle.std.specs.Prelude.{◌↔◌, ◌≡◌, IsTrue, IfOk, is_some};
 ghost use Rattle.gm_find.specs.Reaching.{IsReachedByPlay, AreReached};
 
 use crate::search::search;
@@ -49,5 +49,15 @@ impl<G: Game> Reached<G> {
         ensures { IsTrue result ↔ IsReachedByPlay G.rules c }
     {
         self.keys.contains(&(c.tier, c.index))
+    }
+}
+
+/// Whether some line of play from the start ends in a position that has this one as its canonical position, where that is asked; where it isn't, yes.
+pub fn is_in<G: Game>(reached: Option<&Reached<G>>, c: Position) -> bool
+    ensures { IsTrue result ↔ (IsTrue (is_some reached.entry) → IsReachedByPlay G.rules c) }
+{
+    match reached {
+        None => true,
+        Some(reached) => reached.has(c),
     }
 }

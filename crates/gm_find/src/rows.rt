@@ -14,6 +14,7 @@ use crate::sought::{Choice, Sought};
 use gm_game::position::Position;
 use gm_game::shown::{Line, Shown};
 use gm_game::text::{push_decimal, value_text};
+use gm_play::texts::push_field;
 use gm_table::tables::Tables;
 use std::alloc::{AllocError, Global};
 
@@ -91,12 +92,4 @@ fn push_row(rows: &mut Vec<u8>, a: &[u8], b: &[u8], c: &[u8], d: &[u8]) -> Resul
     push_field(rows, b, b"\t")?;
     push_field(rows, c, b"\t")?;
     push_field(rows, d, b"\n")
-}
-
-// Appends a field and what stands after it.
-fn push_field(rows: &mut Vec<u8>, field: &[u8], after: &[u8]) -> Result<(), AllocError>
-    ensures { OnOk result (rows.new.items ≡ rows.old.items ++ (field.now ++ after.now)) }
-{
-    rows.extend_from_slice(field)?;
-    rows.extend_from_slice(after)
 }

@@ -1,12 +1,13 @@
 -- The hounds of a board, one point at a time.
-use Rattle.std.proofs.Common.{◌≡◌, ℕ, zero, suc, ◌+◌, ◌^◌, ◌<◌, ◌≤◌, Bool, true, false, if◌then◌else◌, List, [], ◌∷◌, ◌++◌, reverse, length, get_or, set, take, sym, ap, ◌∙◌, subst, arith, zero-add, map, inl, inr, length-set, get_or-set_same, get_or-set_other}
+use Rattle.std.proofs.Common.{◌≡◌, ℕ, zero, suc, ◌+◌, ◌^◌, ◌<◌, ◌≤◌, Bool, true, false, if◌then◌else◌, List, [], ◌∷◌, ◌++◌, reverse, length, get_or, take, sym, ap, ap₂, ◌∙◌, subst, arith, zero-add, map}
 use Rattle.std.specs.List.{range_with_len}
 use Rattle.std.proofs.Math.Seq.{take-length}
-use Rattle.std.proofs.lemmas.Bool.{cases_eq}
-use Rattle.std.proofs.lemmas.List.{ext_get_or, take_more, length-take-le, length-reverse, reverse-append, reverse-reverse}
-use Rattle.std.proofs.lemmas.List.FromFn.{map-range_with_len_more, get_or-map-range_with_len}
+use Rattle.std.proofs.lemmas.List.{take_more, length-take-le, length-reverse, reverse-append, reverse-reverse}
+use Rattle.std.proofs.lemmas.List.FromFn.{length-map-range_with_len, map-range_with_len_more, get_or-map-range_with_len}
 use Rattle.gm_board.specs.Masks.{mask_of, mask_below, has_cell, tests_of, tests_none, tests_more}
+use Rattle.gm_hare.specs.declared.hunt.Hunt.{Hunt}
 use Rattle.gm_hare.specs.Board.{column, columns_from}
+use Rattle.gm_hare.specs.Texts.{hunt_char}
 
 -- the first n points, the highest first
 abbrev pub points_down : List Bool → ℕ → List Bool
@@ -38,26 +39,6 @@ mask_out b n m l e h = h ∙ sym (ap mask_of (points_more b n l ∙ ap (λ (x : 
 pub mask_small : (b : List Bool) (n m : ℕ) → n ≤ length b → m ≡ mask_of (points_down b n) → m < 2 ^ n
 mask_small b n m l e = subst (λ (v : ℕ). v < 2 ^ n) (sym e) (subst (λ (k : ℕ). mask_of (points_down b n) < 2 ^ k) (points_length b n l) (mask_below (points_down b n)))
 
--- ---- tests that a loop writes
-pub record IsWritten (f : ℕ → Bool) (n : ℕ) (out : List Bool) : Type 0 where
-  pub eleven : length out ≡ 11
-  pub points : (j : ℕ) → j < n → get_or out j false ≡ f j
-
--- one more
-pub written_more : (f : ℕ → Bool) (n : ℕ) (v : Bool) (out : List Bool) → n < 11 → v ≡ f n → IsWritten f n out → IsWritten f (n + 1) (set out n v)
-written_more f n v out l e h = record {
-  eleven = length-set out n v ∙ h.eleven;
-  points = λ j k. elim (cases_eq j n) [
-    | inl q ↦ ap (λ (i : ℕ). get_or (set out n v) i false) q ∙ get_or-set_same out n v false (omega (arith, h.eleven)) ∙ e ∙ ap f (sym q)
-    | inr q ↦ get_or-set_other out n j v false q ∙ h.points j (omega arith)
-  ];
-}
-
--- all
-pub written_all : (f : ℕ → Bool) (n : ℕ) (out b : List Bool) → n ≡ 11 → length b ≡ 11 → IsWritten f n out → ((j : ℕ) → j < 11 → get_or b j false ≡ f j) → out ≡ b
-written_all f n out b q e h g =
-    ext_get_or false out b (h.eleven ∙ sym e) (λ j l. let k : j < 11 = omega (arith, h.eleven) in h.points j (omega arith) ∙ sym (g j k))
-
 -- ---- the sum of the columns
 columns_push : (n p : ℕ) (xs : List Bool) (x : Bool) → p ≡ n + length xs → columns_from n (xs ++ x ∷ []) ≡ columns_from n xs + (if x then column p else 0)
 columns_push n p [] x e = (let q : p ≡ n = omega arith in rw q (omega arith))
@@ -86,3 +67,12 @@ pub test_at : (n m j : ℕ) → j < n → get_or (reverse (tests_of n m)) j fals
 test_at n m j l =
     ap (λ (bs : List Bool). get_or bs j false) (ap reverse (sym (down_tests n m)) ∙ reverse-reverse (map (has_cell m) (range_with_len 0 n)))
     ∙ get_or-map-range_with_len (has_cell m) 0 n j j false l (zero-add j)
+
+-- ---- texts
+-- one more byte
+pub chars_more : (b : Hunt) (n x : ℕ) (xs : List ℕ) → xs ≡ map (hunt_char b) (range_with_len 0 n) → x ≡ hunt_char b n → xs ++ x ∷ [] ≡ map (hunt_char b) (range_with_len 0 (n + 1))
+chars_more b n x xs e f = ap₂ (λ (ys : List ℕ) (y : ℕ). ys ++ y ∷ []) e f ∙ sym (map-range_with_len_more (hunt_char b) 0 n n (zero-add n))
+
+-- there is room for it
+pub chars_few : (b : Hunt) (n : ℕ) (xs : List ℕ) → xs ≡ map (hunt_char b) (range_with_len 0 n) → length xs ≡ n
+chars_few b n xs e = ap (λ (ys : List ℕ). length ys) e ∙ length-map-range_with_len (hunt_char b) 0 n

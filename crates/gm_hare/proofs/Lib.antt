@@ -1,4 +1,3 @@
 pub mod PointSteps
 pub mod HoundSteps
 pub mod Boards
-pub mod GoSteps

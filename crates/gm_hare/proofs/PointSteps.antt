@@ -1,13 +1,11 @@
 -- Steps on points.
-use Rattle.std.proofs.Common.{◌≡◌, ℕ, ◌<◌, ◌≤◌, Bool, true, eqb, leb, List, refl, subst, arith, eqb-true, eq-eqb}
+use Rattle.std.proofs.Common.{◌≡◌, ℕ, ◌<◌, ◌≤◌, Bool, true, eqb, leb, leb-true, List, refl, subst, eqb-true, eq-eqb}
 use Rattle.std.specs.Prelude.{◌↔◌, IsTrue}
 use Rattle.std.specs.List.{Contains, list_all, list_any, range_with_len}
-use Rattle.std.proofs.lemmas.Bool.Decides.{nat_tests}
-use Rattle.gm_board.specs.laws.Lists.{contains_range}
 use Rattle.gm_board.specs.Patterns.{same_tests, any_from}
-use Rattle.gm_board.specs.Permutations.{all_at}
 use Rattle.gm_board.specs.Groups.{any_at}
 use Rattle.gm_hare.specs.Board.{column}
+use Rattle.gm_hare.specs.laws.PointFacts.{at_point}
 
 -- a number stands in a list where the test of some holds
 pub listed_test : (x : Bool) (xs : List ℕ) (c : ℕ) → (IsTrue x ↔ Contains xs c) → x ≡ list_any (λ k. eqb k c) xs
@@ -20,9 +18,6 @@ columns_table : list_all (λ k. leb (column k) 4) (range_with_len 0 11) ≡ true
 unfolding column
 columns_table = refl
 
-four : (n : ℕ) → leb n 4 ≡ true → n ≤ 4
-four n e = grind (arith, nat_tests)
-
 -- the last column is 4
 pub column_small : (k : ℕ) → k < 11 → column k ≤ 4
-column_small k l = four (column k) (all_at (λ (k : ℕ). leb (column k) 4) (range_with_len 0 11) k columns_table (contains_range 11 k l))
+column_small k l = leb-true (column k) 4 (at_point (λ (k : ℕ). leb (column k) 4) columns_table k l)

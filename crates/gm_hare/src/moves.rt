@@ -1,7 +1,8 @@
 //! Moves on boards.
 ghost use Rattle.std.specs.Prelude.{◌≡◌, ◌<◌, true};
 ghost use Rattle.gm_hare.specs.laws.PointFacts.{is_step};
-ghost use Rattle.gm_hare.specs.Board.{is_free as is_free_of, can_go as can_go_of, can_move as can_move_of, play as play_of, can_have_gone as can_have_gone_of, was_moved as was_moved_of, taken_back as taken_back_of, are_joined as are_joined_of};
+ghost use Rattle.gm_hare.specs.laws.MoveFacts.{back as back_of};
+ghost use Rattle.gm_hare.specs.Board.{is_free as is_free_of, can_go as can_go_of, can_move as can_move_of, gone as gone_of, play as play_of, can_have_gone as can_have_gone_of, was_moved as was_moved_of, taken_back as taken_back_of, are_joined as are_joined_of};
 
 use crate::hunt::Hunt;
 use crate::points::{are_joined, is_ahead};
@@ -18,104 +19,124 @@ fn is_free(board: &Hunt, point: u32) -> bool
     !board.hounds[point as usize] && point != board.hare
 }
 
-// Whether a piece of the side to move can go along an edge: a hound can't go back, and the hare can go either way.
+// Whether a piece of the side to move can go from one point to another: a hound can't go back, and the hare can go along any edge.
 #[tactic(auto, using(crate::specs::laws::PointFacts::joined_from, crate::specs::laws::PointFacts::joined_to))]
-fn can_go(board: &Hunt, step: Step) -> bool
-    requires { are_joined_of step.from step.to ≡ true }
-    ensures { result ≡ can_go_of board.now step.from step.to }
+fn can_go(board: &Hunt, from: u32, to: u32) -> bool
+    ensures { result ≡ can_go_of board.now from to }
 {
-    if !is_free(board, step.to) {
+    if !are_joined(from, to) {
+        return false;
+    }
+    if !is_free(board, to) {
         return false;
     }
     if board.hounds_move {
-        board.hounds[step.from as usize] && is_ahead(step.from, step.to)
+        board.hounds[from as usize] && is_ahead(from, to)
     } else {
-        step.from == board.hare
+        from == board.hare
     }
 }
 
 /// Whether the move with this number could be made if the game were not over.
+#[tactic(auto, unfolding(crate::specs::Board::can_move))]
 pub fn can_move(board: &Hunt, number: u32) -> bool
     ensures { result ≡ can_move_of board.now number }
 {
     let step = Step::numbered(number);
-    if !are_joined(step.from, step.to) {
-        return false;
+    can_go(board, step.from, step.to)
+}
+
+// The board after a piece of the side to move has gone from one point to another.
+#[tactic(auto, using(crate::specs::laws::PointFacts::joined_from, crate::specs::laws::PointFacts::joined_to))]
+fn gone(board: &Hunt, from: u32, to: u32) -> Hunt
+    requires { are_joined_of from to ≡ true }
+    ensures { result ≡ gone_of board.now from to }
+{
+    if board.hounds_move {
+        let mut hounds = board.hounds;
+        hounds[from as usize] = false;
+        hounds[to as usize] = true;
+        Hunt {
+            hounds_move: false,
+            hounds,
+            hare: board.hare,
+        }
+    } else {
+        Hunt {
+            hounds_move: true,
+            hounds: board.hounds,
+            hare: to,
+        }
     }
-    can_go(board, step)
 }
 
 /// The board after a move.
+#[tactic(auto, using(crate::specs::laws::MoveFacts::move_joined), unfolding(crate::specs::Board::play))]
 pub fn play(board: &Hunt, number: u32) -> Hunt
     requires { can_move_of board.now number ≡ true }
     ensures { result ≡ play_of board.now number }
 {
     let step = Step::numbered(number);
-    if board.hounds_move {
-        let mut hounds = board.hounds;
-        hounds[step.from as usize] = false;
-        hounds[step.to as usize] = true;
-        Hunt {
-            hounds_move: false,
-            hounds,
-            hare: board.hare,
-        }
-    } else {
-        Hunt {
-            hounds_move: true,
-            hounds: board.hounds,
-            hare: step.to,
-        }
-    }
+    gone(board, step.from, step.to)
 }
 
-// Whether a piece of the side that moved last can have gone along an edge.
+// Whether a piece of the side that moved last can have gone from one point to another.
 #[tactic(auto, using(crate::specs::laws::PointFacts::joined_from, crate::specs::laws::PointFacts::joined_to))]
-fn can_have_gone(board: &Hunt, step: Step) -> bool
-    requires { are_joined_of step.from step.to ≡ true }
-    ensures { result ≡ can_have_gone_of board.now step.from step.to }
+fn can_have_gone(board: &Hunt, from: u32, to: u32) -> bool
+    ensures { result ≡ can_have_gone_of board.now from to }
 {
-    if !is_free(board, step.from) {
+    if !are_joined(from, to) {
+        return false;
+    }
+    if !is_free(board, from) {
         return false;
     }
     if board.hounds_move {
-        step.to == board.hare
+        to == board.hare
     } else {
-        board.hounds[step.to as usize] && is_ahead(step.from, step.to)
+        board.hounds[to as usize] && is_ahead(from, to)
     }
 }
 
 /// Whether the move with this number can have led to the board.
+#[tactic(auto, unfolding(crate::specs::Board::was_moved))]
 pub fn was_moved(board: &Hunt, number: u32) -> bool
     ensures { result ≡ was_moved_of board.now number }
 {
     let step = Step::numbered(number);
-    if !are_joined(step.from, step.to) {
-        return false;
+    can_have_gone(board, step.from, step.to)
+}
+
+// The board before a piece of the side that moved last went from one point to another.
+#[tactic(auto, using(crate::specs::laws::PointFacts::joined_from, crate::specs::laws::PointFacts::joined_to))]
+fn back(board: &Hunt, from: u32, to: u32) -> Hunt
+    requires { are_joined_of from to ≡ true }
+    ensures { result ≡ back_of board.now from to }
+{
+    if board.hounds_move {
+        Hunt {
+            hounds_move: false,
+            hounds: board.hounds,
+            hare: from,
+        }
+    } else {
+        let mut hounds = board.hounds;
+        hounds[to as usize] = false;
+        hounds[from as usize] = true;
+        Hunt {
+            hounds_move: true,
+            hounds,
+            hare: board.hare,
+        }
     }
-    can_have_gone(board, step)
 }
 
 /// The board before a move with this number.
+#[tactic(auto, unfolding(crate::specs::Board::taken_back))]
 pub fn taken_back(board: &Hunt, number: u32) -> Hunt
     requires { is_step number ≡ true }
     ensures { result ≡ taken_back_of board.now number }
 {
     let step = Step::numbered(number);
-    if board.hounds_move {
-        Hunt {
-            hounds_move: false,
-            hounds: board.hounds,
-            hare: step.from,
-        }
-    } else {
-        let mut hounds = board.hounds;
-        hounds[step.to as usize] = false;
-        hounds[step.from as usize] = true;
-        Hunt {
-            hounds_move: true,
-            hounds,
-            hare: board.hare,
-        }
-    }
+    back(board, step.from, step.to)
 }

@@ -1,6 +1,5 @@
 //! The eleven points: their columns and the edges between them.
-ghost use Rattle.std.specs.Prelude.{◌≡◌, ◌↔◌, ◌<◌, IsTrue, slice_index_or, []};
-ghost use Rattle.std.specs.List.{Contains};
+ghost use Rattle.std.specs.Prelude.{◌≡◌, ◌<◌, slice_index_or, []};
 ghost use Rattle.gm_hare.specs.Board.{column as column_of, edges, are_joined as are_joined_of, is_ahead as is_ahead_of};
 
 /// The column of each point.
@@ -35,18 +34,12 @@ fn neighbors(point: u32) -> &'static [u32]
     }
 }
 
-// Whether the second point is one of those that an edge joins to the first.
-fn is_neighbor(a: u32, c: u32) -> bool
-    ensures { IsTrue result ↔ Contains (slice_index_or edges a []) c }
-{
-    neighbors(a).contains(&c)
-}
-
 /// Whether an edge joins the two points.
+#[tactic(auto, using(crate::proofs::PointSteps::listed_test), unfolding(crate::specs::Board::are_joined))]
 pub fn are_joined(a: u32, c: u32) -> bool
     ensures { result ≡ are_joined_of a c }
 {
-    is_neighbor(a, c)
+    neighbors(a).contains(&c)
 }
 
 /// Whether the second point is in the next column or in the column of the first.

@@ -1,5 +1,5 @@
 //! Texts of boards and of moves.
-ghost use Rattle.std.specs.Prelude.{◌≡◌, ◌<◌, ◌==◌, ◌≤◌, length, true, slice_index, slice_index_or, []};
+ghost use Rattle.std.specs.Prelude.{◌≡◌, ◌<◌, ◌==◌, ◌≤◌, ℕ, length, true, false, slice_index, slice_index_or, []};
 ghost use Rattle.gm_hare.specs.declared.hunt.Hunt.{Hunt};
 ghost use Rattle.gm_hare.specs.Board.{legal};
 ghost use Rattle.gm_hare.specs.Texts.{hunt_char, hunt_text as hunt_text_of, names, step_text as step_text_of};
@@ -30,6 +30,7 @@ fn hunt_byte(board: &Hunt, place: usize) -> u8
 
 /// The text of a board: its points in order, `d` for a hound, `h` for the hare and `.` for an empty point; a space; `d` or `h` for who moves (docs/GAMES.md,
 /// Hare and Hounds).
+#[tactic(auto, using(crate::proofs::HoundSteps::chars_more, crate::proofs::HoundSteps::chars_few), unfolding(crate::specs::Texts::hunt_text))]
 pub fn hunt_text(board: &Hunt) -> Line
     ensures { result.items ≡ hunt_text_of board.now }
 {
@@ -52,6 +53,7 @@ fn has_byte(text: &[u8], place: usize, byte: u8) -> bool
 }
 
 // The point at which a text has the hare: 0 where it has none.
+#[tactic(auto, using(crate::specs::laws::TextLaws::hare_found, crate::specs::laws::TextLaws::hare_somewhere))]
 fn hare_in(text: &[u8]) -> u32
     ensures { (b : Hunt) → legal b ≡ true → hunt_text_of b ≡ text.now → b.hare ≡ result }
 {
@@ -65,7 +67,7 @@ fn hare_in(text: &[u8]) -> u32
 
 // The points at which a text has a hound.
 fn hounds_in(text: &[u8]) -> [bool; 11]
-    ensures { (b : Hunt) → legal b ≡ true → hunt_text_of b ≡ text.now → b.hounds ≡ result }
+    ensures { (j : ℕ) → j < 11 → slice_index_or result j false ≡ (slice_index text.now j == 100) }
 {
     let mut hounds = [false; 11];
     for place in 0..11 {
@@ -107,6 +109,7 @@ fn point_name(point: u32) -> &'static [u8]
 }
 
 /// The text of a move: the names of the two points with `-` between them (docs/GAMES.md, Hare and Hounds).
+#[tactic(auto, unfolding(crate::specs::Texts::step_text, crate::specs::Texts::point_name))]
 pub fn step_text(number: u32) -> Line
     ensures { result.items ≡ step_text_of number }
 {

@@ -11,7 +11,7 @@ use Rattle.serde_json.specs.Data.{Data, Items, Members, member, item}
 use Rattle.serde_json.specs.Written.{comma_if, compact_text, items_text, members_text}
 use Rattle.gm_game.specs.declared.position.Value.{Value}
 use Rattle.gm_game.specs.declared.position.Value.TheVariants.{Lose, Draw, Tie, Win}
-use Rattle.gm_json.specs.Words.{value_word}
+use Rattle.gm_play.specs.PlayTexts.{value_word}
 use Rattle.gm_json.specs.Parts.{is_clear, key_text, member_text, item_text}
 
 -- ---- strings

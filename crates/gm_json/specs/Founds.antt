@@ -8,7 +8,8 @@ use Rattle.gm_find.specs.declared.found.Found.{Found}
 use Rattle.gm_find.specs.declared.sought.Sought.{Sought}
 use Rattle.gm_find.specs.declared.sought.Choice.{Choice}
 use Rattle.gm_find.specs.Founds.{AreChosen}
-use Rattle.gm_json.specs.Words.{value_word, whole, text, move_or_null, line_of}
+use Rattle.gm_play.specs.PlayTexts.{value_word}
+use Rattle.gm_json.specs.Words.{whole, text, move_or_null, line_of}
 
 -- a found position: its best move, the number of its moves, its text and its value; the members in alphabetical order
 abbrev pub found_tree : (Position → List ℕ) → (Position → ℕ → List ℕ) → Found → Data

@@ -9,8 +9,8 @@ use Rattle.gm_play.specs.declared.best_line.BestLine.{BestLine}
 use Rattle.gm_play.specs.declared.best_line.LineEnd.{LineEnd}
 use Rattle.gm_play.specs.declared.best_line.LineEnd.TheVariants.{Over, Again, Cut}
 use Rattle.gm_play.specs.BestLines.{IsBestLine, IsWhole}
-use Rattle.gm_play.specs.PlayTexts.{after_best, IsReadAs}
-use Rattle.gm_json.specs.Words.{value_word, whole, text, line_of}
+use Rattle.gm_play.specs.PlayTexts.{value_word, after_best, IsReadAs}
+use Rattle.gm_json.specs.Words.{whole, text, line_of}
 
 -- the tree that tells where the last position has come before
 abbrev pub again_tree : ℕ → Data

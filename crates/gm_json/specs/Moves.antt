@@ -10,8 +10,8 @@ use Rattle.gm_game.specs.Values.{IsTrueValue}
 use Rattle.gm_play.specs.declared.move_values.MoveValue.{MoveValue}
 use Rattle.gm_play.specs.Firsts.{chosen}
 use Rattle.gm_play.specs.MoveValues.{AreMoveValues, BeginsBest}
-use Rattle.gm_play.specs.PlayTexts.{IsReadAs}
-use Rattle.gm_json.specs.Words.{value_word, whole, text}
+use Rattle.gm_play.specs.PlayTexts.{value_word, IsReadAs}
+use Rattle.gm_json.specs.Words.{whole, text}
 
 module _ (r : Rules) (shown : Position → List ℕ) (move_shown : Position → ℕ → List ℕ) where
   -- a move, what it is worth to the side that makes it, its result, and the value and remoteness of that; last the remoteness counted from before the move

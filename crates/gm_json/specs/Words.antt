@@ -4,14 +4,6 @@ use Rattle.std.specs.Str.Lossy.{utf8_lossy}
 use Rattle.serde_json.specs.Data.{Data, null, number, unsigned, string}
 use Rattle.serde_json.specs.Written.{compact_text}
 use Rattle.gm_game.specs.declared.position.Position.{Position}
-use Rattle.gm_game.specs.declared.position.Value.{Value}
-use Rattle.gm_game.specs.declared.position.Value.TheVariants.{Lose, Draw, Tie, Win}
-
-abbrev pub value_word : Value → List ℕ
-value_word Lose = codes "lose"
-value_word Draw = codes "draw"
-value_word Tie = codes "tie"
-value_word Win = codes "win"
 
 abbrev pub whole : ℕ → Data
 whole n = number (unsigned n)

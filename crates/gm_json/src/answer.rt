@@ -19,6 +19,7 @@ use gm_game::position::{Position, Solved};
 use gm_game::shown::Shown;
 use gm_play::by_text::{known_value, moves_at};
 use gm_play::move_values::MoveValue;
+use gm_play::streams::without_return;
 use gm_table::tables::Tables;
 use std::alloc::{AllocError, Global};
 
@@ -181,14 +182,4 @@ fn push_no_position(
     push_number_member(out, true, "line", number)?;
     push_text_member(alloc, out, true, "read", read)?;
     push_bytes(out, b"}")
-}
-
-// A line without the return at its end.
-fn without_return(line: &[u8]) -> &[u8]
-    ensures { result.now ≡ without_return_spec line.now }
-{
-    match line.strip_suffix(b"\r") {
-        Some(text) => text,
-        None => line,
-    }
 }

@@ -9,7 +9,7 @@ ghost use Rattle.gm_find.specs.Founds.{IsFound};
 ghost use Rattle.gm_json.specs.Words.{move_or_null};
 ghost use Rattle.gm_json.specs.Founds.{found_tree, found_line, IsFoundJson};
 
-use crate::words::{push_line, put_text, put_word, text_value, word_of};
+use crate::words::{push_line, put_text, put_word, text_value};
 use gm_find::choice::find_some;
 use gm_find::find_error::FindError;
 use gm_find::found::Found;
@@ -17,6 +17,7 @@ use gm_find::reached::Reached;
 use gm_find::sought::{Choice, Sought};
 use gm_game::position::Position;
 use gm_game::shown::Shown;
+use gm_play::texts::word_of;
 use gm_table::tables::Tables;
 use serde_json::{Map, Value as Json, put};
 use std::alloc::{AllocError, Global};

@@ -10,12 +10,13 @@ ghost use Rattle.gm_play.specs.PlayTexts.{IsNoPosition};
 ghost use Rattle.gm_json.specs.Words.{line_of};
 ghost use Rattle.gm_json.specs.Lines.{again_tree, end_line, step_tree, steps_from, IsLineJson};
 
-use crate::words::{push_line, put_text, put_word, text_value, word_of};
+use crate::words::{push_line, put_text, put_word, text_value};
 use gm_best::play_error::PlayError;
 use gm_game::position::{Position, Solved};
 use gm_game::shown::Shown;
 use gm_play::best_line::LineEnd;
 use gm_play::by_text::{best_play, value_after};
+use gm_play::texts::word_of;
 use gm_table::tables::Tables;
 use serde_json::{Map, Value as Json, json, put};
 use std::alloc::{AllocError, Global};

@@ -6,11 +6,13 @@ ghost use Rattle.std.specs.Fmt.{decimal};
 ghost use Rattle.json.specs.Print.{quoted};
 ghost use Rattle.serde_json.specs.Data.{string};
 ghost use Rattle.serde_json.specs.Written.{comma_if};
+ghost use Rattle.gm_play.specs.PlayTexts.{value_word};
 ghost use Rattle.gm_json.specs.Parts.{is_clear as is_clear_spec, key_text, member_text};
-ghost use Rattle.gm_json.specs.Words.{value_word, whole, text as text_spec};
+ghost use Rattle.gm_json.specs.Words.{whole, text as text_spec};
 
-use crate::words::{text_value, word_of};
+use crate::words::text_value;
 use gm_game::position::Value;
+use gm_play::texts::word_of;
 use itoa::Buffer;
 use std::alloc::{AllocError, Global};
 

@@ -4,9 +4,8 @@ ghost use Rattle.std.specs.Str.Lossy.{utf8_lossy};
 ghost use Rattle.serde_json.specs.Data.{string, put as with_member};
 ghost use Rattle.serde_json.specs.View.{view, members_view};
 ghost use Rattle.serde_json.specs.Written.{has_float};
-ghost use Rattle.gm_json.specs.Words.{value_word, line_of};
+ghost use Rattle.gm_json.specs.Words.{line_of};
 
-use gm_game::position::Value;
 use serde_json::{Map, Value as Json, put};
 use std::alloc::{AllocError, Global};
 
@@ -15,18 +14,6 @@ pub(crate) fn text_value(alloc: Global, text: &[u8]) -> Result<Json, AllocError>
     ensures { IfOk result (λ v. view v ≡ string (utf8_lossy text.now)) }
 {
     Ok(Json::String(String::from_utf8_lossy(alloc, text)?))
-}
-
-/// The word of a value.
-pub(crate) fn word_of(value: Value) -> &'static str
-    ensures { result.now ≡ value_word value }
-{
-    match value {
-        Value::Lose => "lose",
-        Value::Draw => "draw",
-        Value::Tie => "tie",
-        Value::Win => "win",
-    }
 }
 
 /// Puts a text under a key of an object.

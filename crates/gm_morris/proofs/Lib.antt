@@ -1,3 +1,1 @@
 pub mod MoveSteps
-pub mod TextSteps
-pub mod Start

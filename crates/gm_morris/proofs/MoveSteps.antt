@@ -1,29 +1,29 @@
 -- What the code's tests say of a board and of a move.
-use Rattle.std.proofs.Common.{◌≡◌, ℕ, ◌+◌, ◌-◌, ◌/◌, ◌^◌, ◌<◌, ◌≤◌, Bool, true, false, ◌&&◌, not, eqb, leb, le-leb, ltb, lt-ltb, List, map, get_or, length, refl, sym, ap, ap₂, ◌∙◌, subst, arith, eqb-true, eq-eqb, inl, inr}
+use Rattle.std.proofs.Common.{◌≡◌, ℕ, ◌-◌, ◌/◌, ◌%◌, ◌^◌, ◌<◌, ◌≤◌, Bool, true, false, eqb, List, map, set, get_or, length, refl, sym, ap, ◌∙◌, subst, arith, eqb-true}
 use Rattle.std.specs.List.{list_any, list_all, range_with_len}
 use Rattle.std.specs.Prelude.{bit_and}
 use Rattle.gm_board.specs.declared.cell.Cell.{Cell}
-use Rattle.gm_board.specs.declared.cell.Cell.TheVariants.{Theirs}
-use Rattle.gm_board.specs.laws.Lists.{contains_range}
+use Rattle.gm_board.specs.declared.cell.Cell.TheVariants.{Empty, Mine, Theirs}
+use Rattle.gm_board.specs.laws.Lists.{and_left, contains_range}
 use Rattle.gm_board.specs.Binomials.{binomial}
 use Rattle.gm_board.specs.Arrangements.{arrangements}
 use Rattle.gm_board.specs.Masks.{has_cell}
 use Rattle.gm_board.specs.Permutations.{all_at}
 use Rattle.gm_board.specs.BoardMasks.{turned}
-use Rattle.gm_board.specs.Images.{board_of, board_length}
+use Rattle.gm_board.specs.Images.{board_of}
 use Rattle.gm_pieces.specs.MoveGames.{IsMove}
+use Rattle.gm_pieces.specs.Sides.{gone, brought_back, IsStep, WasStep}
 use Rattle.gm_morris.specs.declared.variant.Variant.{Variant}
 use Rattle.gm_morris.specs.declared.tiers.TheConstants.{SIZES}
-use Rattle.gm_morris.specs.Points.{last_tier, lines, joins}
-use Rattle.gm_board.specs.Cells.{cell_at, is_mine, is_theirs}
-use Rattle.gm_morris.specs.Morris.{mine, theirs, has_line, legal, numbers_end, was_moved, size_of, board_at, morris}
+use Rattle.gm_morris.specs.Points.{last_tier, lines}
+use Rattle.gm_board.specs.Cells.{cell_at, is_mine, is_theirs, is_empty}
+use Rattle.gm_morris.specs.Morris.{has_line, numbers_end, moved, play, was_moved, taken_back, size_of, morris}
 use Rattle.gm_board.specs.laws.Turned.{turned_cell}
-use Rattle.gm_pieces.specs.laws.NumberFacts.{board_numbers}
+use Rattle.gm_board.specs.laws.CellCounts.{their_cell}
 use Rattle.gm_pieces.specs.laws.MaskFacts.{own_patterns, their_patterns}
 use Rattle.gm_morris.specs.laws.PointFacts.{joined_within}
-use Rattle.gm_morris.specs.laws.MoveFacts.{IsSlide, IsPlacement, step_cases, last_end, other_end}
-use Rattle.gm_morris.specs.laws.BeforeFacts.{WasSlide, WasPlacement, was_cases}
-use Rattle.gm_morris.specs.laws.MorrisLaws.{size_at, tier_below, below_arrangements}
+use Rattle.gm_morris.specs.laws.MoveFacts.{is_last, end_by, left_by, was_by, back_by, CanStep, step_in, slide_step, slide_was}
+use Rattle.gm_morris.specs.laws.MorrisLaws.{size_at}
 
 -- ---- sizes
 sizes_pass : list_all (λ t. eqb (get_or SIZES t 0) (arrangements 9 (t / 2) (t - t / 2))) (range_with_len 0 10) ≡ true
@@ -47,86 +47,64 @@ pub their_line : (v : Variant) (a b : ℕ) → b < 2 ^ 9 → bit_and a b ≡ 0 �
 unfolding has_line
 their_line v a b l e = their_patterns 9 a b l e (lines v)
 
--- ---- legal boards
--- what a legal board is, by the tests of the code
-legal_tests : (v : Variant) (d : List Cell) (x : Bool) → length d ≡ 9 → mine d ≡ (mine d + theirs d) / 2 → mine d + theirs d ≤ last_tier v → x ≡ has_line v is_mine d → not x ≡ legal v d
-unfolding legal
-legal_tests v d x n e l f =
-    let cells : eqb (length d) 9 ≡ true = eq-eqb _ _ n in
-    let half : eqb (mine d) ((mine d + theirs d) / 2) ≡ true = eq-eqb _ _ e in
-    let few : leb (mine d + theirs d) (last_tier v) ≡ true = le-leb _ _ l in
-    ap not f ∙ sym (ap₂ (λ (y z : Bool). y && (z && (leb (mine d + theirs d) (last_tier v) && not (has_line v is_mine d)))) cells half ∙ ap (λ (y : Bool). y && not (has_line v is_mine d)) few)
+-- ---- single moves, by what the code finds of their tier
+module _ (v : Variant) (b : List Cell) (m : ℕ) (x : Bool) (is : x ≡ is_last v b) where
+  here : (y : Bool) → x ≡ y → IsMove (morris v) b m → CanStep v y b m
+  here y e c = subst (λ (z : Bool). CanStep v z b m) (sym is ∙ e) (step_in v b m c)
 
--- of a board by its masks
-pub legal_by : (v : Variant) (a b : ℕ) (x : Bool) → mine (board_of 9 a b) ≡ (mine (board_of 9 a b) + theirs (board_of 9 a b)) / 2 → mine (board_of 9 a b) + theirs (board_of 9 a b) ≤ last_tier v
-    → x ≡ has_line v is_mine (board_of 9 a b) → not x ≡ legal v (board_of 9 a b)
-legal_by v a b x e l f = legal_tests v (board_of 9 a b) x (board_length 9 a b) e l f
+  -- a move from point to point
+  pub slide_here : x ≡ true → length b ≡ 9 → IsMove (morris v) b m → IsStep b (m / 16) (m % 16)
+  slide_here e n c = slide_step v b m n (here true e c).can
 
--- of a position, by its index and the mover's lines
-pub legal_at : (v : Variant) (t i : ℕ) (x : Bool) → i < size_of v t → x ≡ has_line v is_mine (board_at t i)
-    → not x ≡ (ltb i (size_of v t) && (legal v (board_at t i) && eqb (mine (board_at t i) + theirs (board_at t i)) t))
-legal_at v t i x l e =
-    let d = board_at t i in
-    let h = board_numbers 9 (t / 2) (t - t / 2) i (below_arrangements v t i l) in
-    let all : mine d + theirs d ≡ t = omega (arith, h.own, h.other) in
-    let half : mine d ≡ (mine d + theirs d) / 2 = h.own ∙ ap (λ (n : ℕ). n / 2) (sym all) in
-    let top = tier_below v t i l in
-    let few : mine d + theirs d ≤ last_tier v = omega (arith, all, top) in
-    legal_tests v d x h.cells half few e
-    ∙ and_true (legal v d)
-    ∙ sym (ap₂ (λ (y z : Bool). y && (legal v d && z)) (lt-ltb _ _ l) (eq-eqb _ _ all))
-  where
-    and_true : (y : Bool) → y ≡ (y && true)
-    and_true true = refl
-    and_true false = refl
+  -- its points
+  pub slide_from : x ≡ true → IsMove (morris v) b m → m / 16 < 9
+  slide_from e c = (joined_within v (m / 16) (m % 16) (and_left _ _ (here true e c).can)).0
 
--- the same where the code has a number for the size and a board for the position
-pub legal_position : (v w : Variant) (t i n : ℕ) (x : Bool) (d : List Cell) → w ≡ v → n ≡ size_of w t → i < n → d ≡ board_at t i → x ≡ has_line w is_mine d
-    → not x ≡ (ltb i (size_of v t) && (legal v (board_at t i) && eqb (mine (board_at t i) + theirs (board_at t i)) t))
-legal_position v w t i n x d e f l g h =
-    legal_at v t i x (subst (λ (u : Variant). i < size_of u t) e (subst (λ (k : ℕ). i < k) f l))
-    (h ∙ ap₂ (λ (u : Variant) (b : List Cell). has_line u is_mine b) e g)
+  pub slide_to : x ≡ true → IsMove (morris v) b m → m % 16 < 9
+  slide_to e c = (joined_within v (m / 16) (m % 16) (and_left _ _ (here true e c).can)).1
 
--- ---- single moves
--- the points of a number of the last tier
-pub from_below : (v : Variant) (t m l p : ℕ) → m < numbers_end v t → p ≡ t → l ≡ last_tier v → p ≡ l → m / 16 < 9
-from_below v t m l p h e f g = let n = last_end v t (sym e ∙ g ∙ f) in omega (arith, h, n)
+  -- a placement
+  pub place_point : x ≡ false → IsMove (morris v) b m → m < 9
+  place_point e c = (here false e c).below
 
--- of a number of another
-pub point_below : (v : Variant) (t m l p : ℕ) → m < numbers_end v t → p ≡ t → l ≡ last_tier v → (p ≡ l → ⊥) → m < 9
-point_below v t m l p h e f g = let n = other_end v t (λ q. g (e ∙ q ∙ sym f)) in omega (arith, h, n)
+  pub place_free : x ≡ false → IsMove (morris v) b m → is_empty (cell_at b m) ≡ true
+  place_free e c = (here false e c).can
 
--- where a piece goes to
-pub to_below : (v : Variant) (a b : ℕ) (x : Bool) → x ≡ joins v a b → x ≡ true → b < 9
-to_below v a b x e f = (joined_within v a b (sym e ∙ f)).1
+  -- the board after a move
+  pub slide_played : x ≡ true → gone b (m / 16) (m % 16) ≡ play v b m
+  unfolding play moved
+  slide_played e = ap (λ (z : Bool). map turned (left_by z b m)) (sym e ∙ is)
 
--- a move of the last tier
-pub slide_here : (v : Variant) (b : List Cell) (m l p : ℕ) → IsMove (morris v) b m → p ≡ mine b + theirs b → l ≡ last_tier v → p ≡ l → IsSlide v b m
-slide_here v b m l p c e f g = elim (step_cases v b m c) [
-  | inl h ↦ h
-  | inr h ↦ absurd (h.before (sym e ∙ g ∙ f))
-]
-
--- of another
-pub placement_here : (v : Variant) (b : List Cell) (m l p : ℕ) → IsMove (morris v) b m → p ≡ mine b + theirs b → l ≡ last_tier v → (p ≡ l → ⊥) → IsPlacement v b m
-placement_here v b m l p c e f g = elim (step_cases v b m c) [
-  | inl h ↦ absurd (g (e ∙ h.last ∙ sym f))
-  | inr h ↦ h
-]
+  pub place_played : x ≡ false → map turned (set b m Mine) ≡ play v b m
+  unfolding play moved
+  place_played e = ap (λ (z : Bool). map turned (left_by z b m)) (sym e ∙ is)
 
 -- ---- single moves taken back
-pub slide_was : (v : Variant) (t : ℕ) (d : List Cell) (m l : ℕ) → was_moved v t d m ≡ true → l ≡ last_tier v → t ≡ l → WasSlide v t d m
-slide_was v t d m l e f g = elim (was_cases v t d m e) [
-  | inl h ↦ h
-  | inr h ↦ absurd (h.other (g ∙ f))
-]
+module _ (v : Variant) (t : ℕ) (d : List Cell) (m : ℕ) (x : Bool) (is : x ≡ eqb t (last_tier v)) where
+  was_here : (y : Bool) → x ≡ y → was_moved v t d m ≡ true → was_by v y d m ≡ true
+  unfolding was_moved
+  was_here y e w = ap (λ (z : Bool). was_by v z d m) (sym e ∙ is) ∙ w
 
-pub placement_was : (v : Variant) (t : ℕ) (d : List Cell) (m l : ℕ) → was_moved v t d m ≡ true → l ≡ last_tier v → (t ≡ l → ⊥) → WasPlacement v t d m
-placement_was v t d m l e f g = elim (was_cases v t d m e) [
-  | inl h ↦ absurd (g (h.last ∙ sym f))
-  | inr h ↦ h
-]
+  -- a piece went from point to point
+  pub slid_from : x ≡ true → was_moved v t d m ≡ true → m / 16 < 9
+  slid_from e w = (joined_within v (m / 16) (m % 16) (and_left _ _ (was_here true e w))).0
 
--- the piece that was placed, as who placed it sees it
-pub placed_mine : (v : Variant) (t : ℕ) (d e : List Cell) (m : ℕ) → WasPlacement v t d m → e ≡ map turned d → is_mine (cell_at e m) ≡ true
-placed_mine v t d e m h s = ap (λ (x : List Cell). is_mine (cell_at x m)) s ∙ ap is_mine (turned_cell d m Theirs h.there)
+  pub slid_step : x ≡ true → was_moved v t d m ≡ true → WasStep d (m / 16) (m % 16)
+  slid_step e w = slide_was v d m (was_here true e w)
+
+  -- a piece was placed
+  pub placed_point : x ≡ false → m < numbers_end v t → m < 9
+  unfolding numbers_end
+  placed_point e l = subst (λ (z : Bool). m < end_by z) (sym is ∙ e) l
+
+  pub placed_mine : (c : List Cell) → x ≡ false → was_moved v t d m ≡ true → c ≡ map turned d → is_mine (cell_at c m) ≡ true
+  placed_mine c e w s = ap (λ (y : List Cell). is_mine (cell_at y m)) s ∙ ap is_mine (turned_cell d m Theirs (their_cell _ (was_here false e w)))
+
+  -- the board before a move
+  pub slid_back : x ≡ true → brought_back d (m / 16) (m % 16) ≡ taken_back v t d m
+  unfolding taken_back
+  slid_back e = ap (λ (z : Bool). back_by z d m) (sym e ∙ is)
+
+  pub placed_back : x ≡ false → set (map turned d) m Empty ≡ taken_back v t d m
+  unfolding taken_back
+  placed_back e = ap (λ (z : Bool). back_by z d m) (sym e ∙ is)

@@ -3,6 +3,5 @@ pub mod PointFacts
 pub mod BoardFacts
 pub mod MoveFacts
 pub mod PlayFacts
-pub mod BeforeFacts
 pub mod MorrisLaws
 pub mod TextLaws

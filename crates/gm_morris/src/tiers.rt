@@ -1,5 +1,5 @@
 //! Tiers: a tier is the number of pieces.
-ghost use Rattle.std.specs.Prelude.{◌≡◌, ◌-◌, ◌≤◌};
+ghost use Rattle.std.specs.Prelude.{◌≡◌, ◌-◌, ◌≤◌, ◌==◌};
 ghost use Rattle.gm_morris.specs.Points.{last_tier};
 ghost use Rattle.gm_board.specs.Images.{board_of};
 ghost use Rattle.gm_morris.specs.Morris.{pieces as pieces_of, size_of, child_tiers_of, numbers_end as numbers_end_of};
@@ -18,6 +18,13 @@ pub fn pieces(board: Board) -> u64
     ensures small { result ≤ 9 }
 {
     u64::from(board.pieces())
+}
+
+/// Whether a tier is the last, from which no piece is placed.
+pub fn is_last_tier(variant: Variant, tier: u64) -> bool
+    ensures { result ≡ (tier == last_tier variant) }
+{
+    tier == variant.last_tier()
 }
 
 /// How many indexes a tier has: 0 past the last tier.
@@ -56,5 +63,5 @@ pub fn tier_rank(variant: Variant, tier: u64) -> u64
 pub fn numbers_end(variant: Variant, tier: u64) -> u32
     ensures { result ≡ numbers_end_of variant tier }
 {
-    if tier == variant.last_tier() { 144 } else { 9 }
+    if is_last_tier(variant, tier) { 144 } else { 9 }
 }

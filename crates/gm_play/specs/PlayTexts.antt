@@ -4,6 +4,8 @@ use Rattle.std.specs.Fmt.{decimal}
 use Rattle.std.specs.List.{Contains, flat_map}
 use Rattle.gm_game.specs.declared.position.Position.{Position}
 use Rattle.gm_game.specs.declared.position.Solved.{Solved}
+use Rattle.gm_game.specs.declared.position.Value.{Value}
+use Rattle.gm_game.specs.declared.position.Value.TheVariants.{Lose, Draw, Tie, Win}
 use Rattle.gm_game.specs.Records.{solved}
 use Rattle.gm_game.specs.Rules.{Rules}
 use Rattle.gm_game.specs.Texts.{text_of}
@@ -16,6 +18,13 @@ use Rattle.gm_best.specs.BestMoves.{wanted_from}
 use Rattle.gm_play.specs.BestLines.{IsBestLine, IsWhole}
 use Rattle.gm_play.specs.Firsts.{chosen}
 use Rattle.gm_play.specs.MoveValues.{AreMoveValues, BeginsBest}
+
+-- the word of a value
+abbrev pub value_word : Value → List ℕ
+value_word Lose = codes "lose"
+value_word Draw = codes "draw"
+value_word Tie = codes "tie"
+value_word Win = codes "win"
 
 -- three fields of a line
 abbrev pub row : List ℕ → List ℕ → List ℕ → List ℕ

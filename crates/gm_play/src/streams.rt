@@ -1,6 +1,7 @@
 //! Bytes from a reader, and texts to a writer.
 ghost use Rattle.std.specs.Prelude.{◌≡◌, ◌<◌, ◌+◌, ◌++◌, codes, length, OnOk, OnErr, IfOk};
 ghost use Rattle.std.specs.Io.KnownBytes.{Keeps, Appends};
+ghost use Rattle.gm_play.specs.Dialogue.{without_return as without_return_spec};
 ghost use Rattle.gm_play.specs.Sessions.{ReadsByte, AppendsPart};
 
 use crate::session_error::SessionError;
@@ -18,6 +19,16 @@ pub fn read_byte<R: Read>(input: &mut R) -> io::Result<Option<u8>>
         Ok(0) => Ok(None),
         Ok(_) => Ok(Some(buffer[0])),
         Err(error) => Err(error),
+    }
+}
+
+/// A line without the carriage return at its end, where it has one.
+pub fn without_return(line: &[u8]) -> &[u8]
+    ensures { result.now ≡ without_return_spec line.now }
+{
+    match line.strip_suffix(b"\r") {
+        Some(text) => text,
+        None => line,
     }
 }
 

@@ -5,7 +5,7 @@ ghost use Rattle.std.specs.List.{All, Contains, flat_map};
 ghost use Rattle.gm_game.specs.Texts.{text_of};
 ghost use Rattle.gm_play.specs.BestLines.{AreBest};
 ghost use Rattle.gm_play.specs.ByText.{PlaysNotHeld};
-ghost use Rattle.gm_play.specs.PlayTexts.{row, end_row, after_best, IsMoveOf, IsReadAs, IsNoPosition, IsAnswerText, move_row, AreMoveRows, rows_from, IsLineText};
+ghost use Rattle.gm_play.specs.PlayTexts.{row, value_word, end_row, after_best, IsMoveOf, IsReadAs, IsNoPosition, IsAnswerText, move_row, AreMoveRows, rows_from, IsLineText};
 ghost use Rattle.gm_best.specs.Refusals.{IsNotHeld, AreNotHeld};
 
 use crate::best_line::LineEnd;
@@ -13,7 +13,7 @@ use crate::by_text::{BestPlay, best_play, moves_at, value_after};
 use crate::move_values::MoveValue;
 use gm_best::answer::{AnswerError, answer};
 use gm_best::play_error::PlayError;
-use gm_game::position::{Position, Solved};
+use gm_game::position::{Position, Solved, Value};
 use gm_game::shown::{Line, Shown};
 use gm_game::text::{push_decimal, value_text};
 use gm_table::tables::Tables;
@@ -90,12 +90,24 @@ pub(crate) fn push_row(rows: &mut Vec<u8>, a: &[u8], b: &[u8], c: &[u8]) -> Resu
     push_field(rows, c, b"\n")
 }
 
-/// Appends a field and what ends it.
-pub(crate) fn push_field(rows: &mut Vec<u8>, field: &[u8], end: &[u8]) -> Result<(), AllocError>
-    ensures { OnOk result (rows.new.items ≡ rows.old.items ++ field.now ++ end.now) }
+/// Appends a field and what ends it. After an error the field may stand there without it.
+pub fn push_field(rows: &mut Vec<u8>, field: &[u8], end: &[u8]) -> Result<(), AllocError>
+    ensures { OnOk result (rows.new.items ≡ rows.old.items ++ (field.now ++ end.now)) }
 {
     rows.extend_from_slice(field)?;
     rows.extend_from_slice(end)
+}
+
+/// The word of a value: `win`, `tie`, `draw` or `lose`.
+pub fn word_of(value: Value) -> &'static str
+    ensures { result.now ≡ value_word value }
+{
+    match value {
+        Value::Lose => "lose",
+        Value::Draw => "draw",
+        Value::Tie => "tie",
+        Value::Win => "win",
+    }
 }
 
 /// The rows of the line of best play from the position with this text: the text of a move (none at first), the position and its value, with a tab between them,

@@ -4,11 +4,11 @@ ghost use Rattle.std.specs.Io.KnownBytes.{Appends};
 ghost use Rattle.gm_table.specs.Tables.{IsHeld};
 ghost use Rattle.gm_best.specs.BestMoves.{IsBestMove};
 ghost use Rattle.gm_play.specs.Reached.{AreAllHeld, IsReached};
-ghost use Rattle.gm_play.specs.Dialogue.{Advice, IsKnown, without_return as without_return_spec, place, persons_turn, moves_or_ends, computers_turn, turn as turn_spec, reply as reply_spec, closing};
+ghost use Rattle.gm_play.specs.Dialogue.{Advice, IsKnown, place, persons_turn, moves_or_ends, computers_turn, turn as turn_spec, reply as reply_spec, closing};
 ghost use Rattle.gm_play.specs.Sessions.{AppendsPart, Says};
 
 use crate::session_error::SessionError;
-use crate::streams::{say, write_line};
+use crate::streams::{say, without_return, write_line};
 use crate::view::{Question, View};
 use gm_best::best_move::best_move;
 use gm_best::ending::over;
@@ -156,16 +156,6 @@ pub(crate) fn turn<G: Shown, V: View<G>, W: Write>(
     match side {
         Side::You => ask::<G, V, W>(tables, p, output),
         Side::Computer => move_and_ask::<G, V, W>(tables, p, output),
-    }
-}
-
-// The line without the carriage return at its end.
-fn without_return(line: &[u8]) -> &[u8]
-    ensures { result.now ≡ without_return_spec line.now }
-{
-    match line.strip_suffix(b"\r") {
-        Some(text) => text,
-        None => line,
     }
 }
 

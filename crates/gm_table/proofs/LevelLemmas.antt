@@ -1,5 +1,5 @@
 -- The greatest level of the records, and the indexes of those at a place.
-use Rattle.std.proofs.Common.{◌≡◌, ℕ, zero, suc, ◌<◌, ◌+◌, max, List, [], ◌∷◌, ◌++◌, take, length, get_or, refl, sym, ap, ◌∙◌, subst, arith, Option, None, Some, ◌⊎◌, inl, inr}
+use Rattle.std.proofs.Common.{◌≡◌, ℕ, zero, suc, ◌<◌, ◌+◌, max, List, [], ◌∷◌, ◌++◌, take, length, get_or, refl, sym, ap, ◌∙◌, subst, arith, Bool, false, Option, None, Some, is_some, ◌⊎◌, inl, inr}
 use Rattle.std.proofs.lemmas.List.{take_more}
 use Rattle.std.proofs.lemmas.Option.{none-some, same_Some, slice_get-get_or}
 use Rattle.std.proofs.lemmas.Bool.{cases_lt}
@@ -27,9 +27,22 @@ greatest_push : (phase : Phase) (os : List (Option Solved)) (o : Option Solved) 
 greatest_push phase [] o = later_none (level_in phase o)
 greatest_push phase (x ∷ xs) o = ap (later (level_in phase x)) (greatest_push phase xs o) ∙ later_assoc (level_in phase x) (greatest_of phase xs) (level_in phase o)
 
--- the greatest level of one record more
-pub greatest_more : (phase : Phase) (os : List (Option Solved)) (i : ℕ) (d : Option Solved) → i < length os → greatest_of phase (take (i + 1) os) ≡ later (greatest_of phase (take i os)) (level_in phase (get_or os i d))
+greatest_more : (phase : Phase) (os : List (Option Solved)) (i : ℕ) (d : Option Solved) → i < length os → greatest_of phase (take (i + 1) os) ≡ later (greatest_of phase (take i os)) (level_in phase (get_or os i d))
 greatest_more phase os i d l = ap (greatest_of phase) (take_more os i d l) ∙ greatest_push phase (take i os) (get_or os i d)
+
+-- the greatest level of one record more
+pub greatest_with_one : (phase : Phase) (os : List (Option Solved)) (i : ℕ) (o : Option Solved) (was : Option ℕ) → i < length os → o ≡ record_at os i → was ≡ greatest_of phase (take i os)
+    → later was (level_in phase o) ≡ greatest_of phase (take (i + 1) os)
+greatest_with_one phase os i o was l known e =
+    ap (λ (n : Option ℕ). later n (level_in phase o)) e
+    ∙ ap (λ (x : Option Solved). later (greatest_of phase (take i os)) (level_in phase x)) (known ∙ record_read os i l)
+    ∙ sym (greatest_more phase os i None l)
+
+-- and of no record more
+pub greatest_without : (phase : Phase) (os : List (Option Solved)) (i : ℕ) (o : Option Solved) (was : Option ℕ) → i < length os → o ≡ record_at os i → is_some o ≡ false → was ≡ greatest_of phase (take i os)
+    → was ≡ greatest_of phase (take (i + 1) os)
+greatest_without phase os i None was l known none e = sym (later_none was) ∙ greatest_with_one phase os i None was l known e
+greatest_without phase os i (Some s) was l known none e = absurd (let z : ⊥ = cc in z)
 
 -- a level of one record and of the others
 level_first : (phase : Phase) (o : Option Solved) (os : List (Option Solved)) (n : ℕ) → level_in phase o ≡ Some n → HasLevel phase (o ∷ os) n

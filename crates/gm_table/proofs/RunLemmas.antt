@@ -7,6 +7,8 @@ use Rattle.gm_game.specs.declared.position.Solved.{Solved}
 use Rattle.gm_game.specs.declared.position.Phase.{Phase}
 use Rattle.gm_table.specs.Levels.{level_in, is_level, indexes_from, indexes_at}
 use Rattle.gm_table.specs.Runs.{run_at}
+use Rattle.gm_table.specs.Tables.{record_at}
+use Rattle.gm_table.proofs.LevelLemmas.{record_read}
 
 push_first : (c : Bool) (k : ℕ) → (if c then k ∷ [] else []) ≡ (if c then (k + 0) ∷ [] else [])
 push_first true k = let e : k ≡ k + 0 = omega arith in ap (λ i. i ∷ []) e
@@ -34,18 +36,12 @@ indexes_more phase n i os d l =
     ap (indexes_at phase n) (take_more os i d l) ∙ indexes_push 0 phase n (take i os) (get_or os i d) ∙ ap (λ j. if is_level n (level_in phase (get_or os i d)) then indexes_at phase n (take i os) ++ j ∷ [] else indexes_at phase n (take i os)) e
 
 -- a run that has the indexes of the first records has those with one record more
-pub indexes_with : (phase : Phase) (n i m : ℕ) (os : List (Option Solved)) (d : Option Solved) (was new : List ℕ) → i < length os → Some m ≡ level_in phase (get_or os i d) → was ≡ indexes_at phase n (take i os)
-    → new ≡ (if m == n then was ++ i ∷ [] else was) → new ≡ indexes_at phase n (take (i + 1) os)
-indexes_with phase n i m os d was new l e h k =
-    k ∙ ap (λ (ys : List ℕ). if m == n then ys ++ i ∷ [] else ys) h
-    ∙ ap (λ (o : Option ℕ). if is_level n o then indexes_at phase n (take i os) ++ i ∷ [] else indexes_at phase n (take i os)) e
-    ∙ sym (indexes_more phase n i os d l)
-
-pub indexes_without : (phase : Phase) (n i : ℕ) (os : List (Option Solved)) (d : Option Solved) (was : List ℕ) → i < length os → None ≡ level_in phase (get_or os i d) → was ≡ indexes_at phase n (take i os)
-    → was ≡ indexes_at phase n (take (i + 1) os)
-indexes_without phase n i os d was l e h =
-    h ∙ ap (λ (o : Option ℕ). if is_level n o then indexes_at phase n (take i os) ++ i ∷ [] else indexes_at phase n (take i os)) e
-    ∙ sym (indexes_more phase n i os d l)
+pub indexes_with : (phase : Phase) (n i : ℕ) (os : List (Option Solved)) (o : Option Solved) (was : List ℕ) → i < length os → o ≡ record_at os i → was ≡ indexes_at phase n (take i os)
+    → (if is_level n (level_in phase o) then was ++ i ∷ [] else was) ≡ indexes_at phase n (take (i + 1) os)
+indexes_with phase n i os o was l known h =
+    ap (λ (ys : List ℕ). if is_level n (level_in phase o) then ys ++ i ∷ [] else ys) h
+    ∙ ap (λ (x : Option Solved). if is_level n (level_in phase x) then indexes_at phase n (take i os) ++ i ∷ [] else indexes_at phase n (take i os)) (known ∙ record_read os i l)
+    ∙ sym (indexes_more phase n i os None l)
 
 -- a run with one index more
 pub run_push : (runs new_runs : Vec (Vec ℕ Global) Global) (i : ℕ) (old new : Vec ℕ Global) (x : ℕ) → i < length runs.items → old ≡ get_or runs.items i old → new.items ≡ old.items ++ x ∷ [] → new_runs.items ≡ set runs.items i new

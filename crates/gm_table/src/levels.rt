@@ -1,5 +1,6 @@
 //! The levels at which the records of a table stand.
 ghost use Rattle.std.specs.Prelude.{◌≡◌};
+ghost use Rattle.gm_game.specs.declared.position.Phase.TheVariants.{WinLose, Ties};
 ghost use Rattle.gm_table.specs.Levels.{level_in as level_in_spec, later as later_spec, greatest_of};
 
 use crate::packed::Packed;
@@ -28,13 +29,20 @@ fn later(a: Option<u32>, b: Option<u32>) -> Option<u32>
     }
 }
 
-/// The greatest level of the phase at which one of these records stands.
-pub(crate) fn greatest_in(phase: Phase, records: &Packed) -> Option<u32>
-    ensures { result ≡ greatest_of phase records.now }
+/// The greatest levels at which these records stand, of wins and losses and of ties, in one pass.
+pub(crate) fn greatest_levels(records: &Packed) -> (Option<u32>, Option<u32>)
+    ensures win_lose { result.0 ≡ greatest_of WinLose records.now }
+    ensures ties { result.1 ≡ greatest_of Ties records.now }
 {
-    let mut greatest = None;
+    let mut win_lose = None;
+    let mut ties = None;
     for index in 0..records.len() {
-        greatest = later(greatest, level_in(phase, records.get(index)));
+        let known = records.get(index);
+        // Most indexes have no record.
+        if known.is_some() {
+            win_lose = later(win_lose, level_in(Phase::WinLose, known));
+            ties = later(ties, level_in(Phase::Ties, known));
+        }
     }
-    greatest
+    (win_lose, ties)
 }

@@ -1,4 +1,4 @@
-//! Numbers of records, which take two bytes each where all of them have short forms, and else four.
+//! Numbers of records, which take a byte each where all of them have short forms, and else four.
 ghost use Rattle.std.specs.Prelude.{◌≡◌, ◌++◌, [], ◌∷◌, ◌<◌, ◌/◌, ◌%◌, IsTrue, ◌↔◌, map, take, slice_get, length, IfOk, OnOk, OnErr};
 ghost use Rattle.gm_table.specs.Numbers.{wide, IsShort};
 
@@ -7,7 +7,7 @@ use std::alloc::{AllocError, Global};
 use std::marker::Model;
 
 /// One more than the greatest remoteness of a record whose number has a short form.
-const SHORT_STEP: u32 = 8192;
+const SHORT_STEP: u32 = 32;
 
 /// Numbers of records, in their order. Contracts see the numbers.
 #[derive(Drop)]
@@ -18,7 +18,7 @@ pub(crate) struct Numbers {
 #[derive(Drop)]
 enum Stored {
     // The short form of each number.
-    Short(Vec<u16>),
+    Short(Vec<u8>),
     // The numbers, where one of them has no short form.
     Long(Vec<u32>),
 }
@@ -129,22 +129,22 @@ fn is_short(number: u32) -> bool
 }
 
 // The short form of a number.
-fn narrowed(number: u32) -> u16
+fn narrowed(number: u32) -> u8
     requires { IsShort number }
     ensures { wide result ≡ number }
 {
-    (number / STEP * SHORT_STEP + number % STEP) as u16
+    (number / STEP * SHORT_STEP + number % STEP) as u8
 }
 
 // The number with this short form.
-fn wide(short: u16) -> u32
+fn wide(short: u8) -> u32
     ensures { result ≡ wide short }
 {
     u32::from(short) / SHORT_STEP * STEP + u32::from(short) % SHORT_STEP
 }
 
 // The numbers with these short forms.
-fn widened(numbers: &Vec<u16>) -> Result<Vec<u32>, AllocError>
+fn widened(numbers: &Vec<u8>) -> Result<Vec<u32>, AllocError>
     ensures { IfOk result (λ long. long.items ≡ map wide numbers.now.items) }
 {
     let mut long = Vec::with_capacity(*numbers.allocator(), numbers.len())?;

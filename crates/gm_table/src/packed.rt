@@ -1,4 +1,4 @@
-//! Records of two or four bytes each.
+//! Records of one byte or four each.
 ghost use Rattle.std.specs.Prelude.{◌≡◌, ◌≢◌, ◌*◌, ◌≤◌, ◌<◌, ◌++◌, [], ◌∷◌, None, map, replicate, take, IfSome, IfOk, length, OnOk, OnErr};
 ghost use Rattle.gm_game.specs.declared.limits.TheConstants.{REMOTENESS};
 ghost use Rattle.gm_record.specs.declared.version.Version.TheVariants.{Two};
@@ -16,7 +16,7 @@ use std::marker::Model;
 /// One more than the greatest remoteness: a record's number is the code of its value times this, plus its remoteness.
 pub(crate) const STEP: u32 = 1_048_576;
 
-/// Records of two bytes each, or of four where one has a remoteness above 8,191. Contracts see the records.
+/// Records of a byte each, or of four where one has a remoteness above 31. Contracts see the records.
 #[derive(Drop)]
 pub struct Packed {
     numbers: Numbers,

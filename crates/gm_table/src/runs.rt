@@ -1,12 +1,12 @@
 //! The indexes of a table, laid out by place.
-ghost use Rattle.std.specs.Prelude.{◌≡◌, ◌==◌, ◌<◌, ◌≤◌, ℕ, [], ◌∷◌, ◌++◌, length, if◌then◌else◌, vec_len, OnOk, IfOk};
-ghost use Rattle.gm_table.specs.Levels.{indexes_at};
+ghost use Rattle.std.specs.Prelude.{◌≡◌, ◌==◌, ◌<◌, ◌≤◌, ℕ, Some, [], ◌∷◌, ◌++◌, length, if◌then◌else◌, vec_len, OnOk, IfOk};
+ghost use Rattle.gm_game.specs.declared.position.Phase.{Phase as PhaseSpec};
+ghost use Rattle.gm_table.specs.Levels.{is_level, level_in};
 ghost use Rattle.gm_table.specs.Runs.{run_at, run_in, AreRunsOf};
 
-use crate::levels::level_in;
 use crate::packed::Packed;
 use gm_game::limits::TIER_SIZE;
-use gm_game::position::Phase;
+use gm_game::position::{Phase, Solved, Value};
 use std::alloc::{AllocError, Global};
 
 /// The indexes of the records that stand at each place: for each phase a list for each level, ascending.
@@ -17,15 +17,34 @@ pub(crate) struct Runs {
 }
 
 impl Runs {
-    /// Lays out the indexes of these records, in one pass for each phase.
+    /// Lays out the indexes of these records, in one pass.
     pub(crate) fn of(alloc: Global, records: &Packed) -> Result<Runs, AllocError>
         requires { length records.now ≤ TIER_SIZE }
         ensures { IfOk result (AreRunsOf records.now) }
     {
-        Ok(Runs {
-            win_lose: lay_out(alloc, records, Phase::WinLose)?,
-            ties: lay_out(alloc, records, Phase::Ties)?,
-        })
+        let mut runs = Runs {
+            win_lose: Vec::new(alloc),
+            ties: Vec::new(alloc),
+        };
+        for index in 0..records.len() {
+            if let Some(solved) = records.get(index) {
+                runs.place(solved, index as u32)?;
+            }
+        }
+        Ok(runs)
+    }
+
+    // Adds the index of a record at its place, where it has one.
+    fn place(&mut self, solved: Solved, index: u32) -> Result<(), AllocError>
+        ensures { OnOk result ((phase : PhaseSpec) (n : ℕ) → run_in self.new phase n
+            ≡ (if is_level n (level_in phase (Some solved)) then run_in self.old phase n ++ index ∷ [] else run_in self.old phase n)) }
+    {
+        let level = solved.remoteness as usize;
+        match solved.value {
+            Value::Lose | Value::Win => add(&mut self.win_lose, level, index),
+            Value::Tie => add(&mut self.ties, level, index),
+            Value::Draw => Ok(()),
+        }
     }
 
     /// The indexes at a place.
@@ -41,20 +60,6 @@ impl Runs {
             None => &[],
         }
     }
-}
-
-// The indexes of the records of one phase: a list for each level up to the greatest.
-fn lay_out(alloc: Global, records: &Packed, phase: Phase) -> Result<Vec<Vec<u32>>, AllocError>
-    requires { length records.now ≤ TIER_SIZE }
-    ensures { IfOk result (λ runs. (n : ℕ) → run_at runs n ≡ indexes_at phase n records.now) }
-{
-    let mut runs = Vec::new(alloc);
-    for index in 0..records.len() {
-        if let Some(level) = level_in(phase, records.get(index)) {
-            add(&mut runs, level as usize, index as u32)?;
-        }
-    }
-    Ok(runs)
 }
 
 // Adds an index at the end of the run at a level.

@@ -6,7 +6,7 @@ ghost use Rattle.gm_game.specs.Records.{IsTrueTable, IsRecord};
 ghost use Rattle.gm_table.specs.Levels.{IsGreatest};
 ghost use Rattle.gm_table.specs.Words.{record_of_word};
 
-use crate::levels::greatest_in;
+use crate::levels::greatest_levels;
 use crate::packed::Packed;
 use gm_game::game::Game;
 use gm_game::limits::{REMOTENESS, TIER_SIZE};
@@ -37,7 +37,7 @@ impl<G: Game> Model for Table<G> {
 impl<G: Game> Table<G> {
     ghost use Rattle.gm_table.specs.Tables.{record_at, IsTable};
 
-    /// Makes a table of the true records of a tier within the limits. A table takes four bytes an index.
+    /// Makes a table of the true records of a tier within the limits. A table takes a byte an index, or four where a remoteness is above 31.
     pub fn from_true(
         alloc: Global,
         tier: u64,
@@ -58,8 +58,7 @@ impl<G: Game> Table<G> {
         ensures tier { result.tier ≡ tier }
         ensures records { result.records ≡ records }
     {
-        let greatest_win_lose = greatest_in(Phase::WinLose, &records);
-        let greatest_tie = greatest_in(Phase::Ties, &records);
+        let (greatest_win_lose, greatest_tie) = greatest_levels(&records);
         Table {
             tier,
             records,

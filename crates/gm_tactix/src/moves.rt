@@ -7,6 +7,7 @@ ghost use Rattle.gm_tactix.specs.CounterMasks.{counters_of};
 use crate::masks::segment_mask;
 
 /// Whether the segment with this number can be taken: false where there is no such segment.
+#[tactic(auto, using(crate::proofs::MaskMoves::take_of, crate::proofs::MaskMoves::no_segment, crate::proofs::MaskTable::mask_of_segment, crate::proofs::MaskTable::none_by_mask, crate::proofs::MaskTable::segment_by_mask))]
 pub fn can_take(side: u32, counters: u32, number: u32) -> bool
     requires low { 1 ≤ side }
     requires high { side ≤ 5 }
@@ -17,6 +18,7 @@ pub fn can_take(side: u32, counters: u32, number: u32) -> bool
 }
 
 /// The counters that are left when those of a segment are taken.
+#[tactic(auto, using(crate::specs::laws::MoveFacts::take_segment, crate::proofs::MaskMoves::play_of, crate::proofs::MaskTable::mask_of_segment))]
 pub fn play(side: u32, counters: u32, number: u32) -> u32
     requires low { 1 ≤ side }
     requires high { side ≤ 5 }
@@ -45,6 +47,7 @@ pub fn was_taken(side: u32, tier: u64, counters: u32, number: u32) -> bool
 }
 
 /// The counters before the segment with this number was taken.
+#[tactic(auto, using(crate::specs::laws::MoveFacts::taken_in, crate::proofs::MaskMoves::back_of, crate::proofs::MaskTable::mask_of_segment))]
 pub fn given_back(side: u32, tier: u64, counters: u32, number: u32) -> u32
     requires low { 1 ≤ side }
     requires high { side ≤ 5 }

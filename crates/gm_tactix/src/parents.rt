@@ -14,6 +14,7 @@ use gm_game::limits::PARENTS;
 use gm_pieces::ascending::put;
 
 // Puts into the list the least index of the board before the segment with this number was taken, if it can have been.
+#[tactic(auto, using(crate::specs::laws::CounterMaskFacts::counters_length, crate::proofs::BeforeSteps::taken_room, crate::proofs::BeforeSteps::taken_more, crate::proofs::BeforeSteps::taken_less))]
 fn put_before(list: &mut ArrayVec<u64, PARENTS>, side: u32, tier: u64, counters: u32, number: u32)
     requires low { 1 ≤ side }
     requires high { side ≤ 5 }

@@ -39,6 +39,7 @@ impl Segment {
     }
 
     /// The number of its cells.
+    #[tactic(auto, using(crate::specs::laws::SegmentFacts::length_bounds))]
     pub fn length(self) -> u32
         ensures value { result ≡ segment_length self.number }
         ensures low { 1 ≤ result }
@@ -56,6 +57,7 @@ impl Segment {
     }
 
     /// Its last cell.
+    #[tactic(auto, using(crate::proofs::MaskSteps::segment_cell))]
     pub fn last(self) -> u32
         ensures value { result ≡ last_cell self.side self.number }
         ensures within { result < self.side * self.side }

@@ -107,6 +107,7 @@ pub fn list_takeable(counters: u32, numbers: &mut [u16; 132]) -> usize
 }
 
 // Which cells of a line have counters: bit 0 for its least cell.
+#[tactic(auto, using(crate::proofs::LineContents::row_cell, crate::proofs::LineContents::column_cell))]
 fn content(counters: u32, line: usize) -> usize
     requires line { line < 10 }
     ensures within { result < 32 }
@@ -122,6 +123,7 @@ fn content(counters: u32, line: usize) -> usize
 
 // Puts the numbers of a line's segments that lie in its content behind the first `count` numbers. What stands behind them is of no use. The result is how many
 // numbers there are then.
+#[tactic(auto, using(crate::proofs::LineTable::block, crate::proofs::LineTable::shifted, crate::proofs::LineTable::few, crate::proofs::LineTable::small, crate::proofs::LineTable::most, crate::proofs::LineTable::long, crate::proofs::LineSegments::put_more, crate::proofs::LineSegments::put_all))]
 fn put_line(numbers: &mut [u16; 132], count: usize, line: usize, content: usize) -> usize
     requires line { line < 10 }
     requires content { content < 32 }

@@ -10,6 +10,7 @@ use gm_game::limits::{CHILD_TIERS, NAME};
 use gm_game::position::End;
 
 /// The name of a game: `tactix-N` or `tactix-N-misere`, padded with zeros (docs/GAMES.md, Tac Tix).
+#[tactic(auto, unfolding(crate::specs::Board::tactix_name))]
 pub fn name(side: u32, misere: bool) -> [u8; NAME]
     requires { side ≤ 5 }
     ensures { result ≡ tactix_name side misere }
@@ -55,6 +56,7 @@ pub fn end(misere: bool, tier: u64) -> Option<End>
 }
 
 /// The tiers that a move can lead to, ascending: those with 1 to `side` counters fewer.
+#[tactic(auto, using(crate::specs::laws::MoveFacts::range_push))]
 pub fn child_tiers(side: u32, tier: u64) -> ArrayVec<u64, CHILD_TIERS>
     requires { side ≤ 5 }
     ensures { result.items ≡ range_with_len (tier - side) (tier - (tier - side)) }

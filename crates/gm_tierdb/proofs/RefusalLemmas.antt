@@ -1,5 +1,5 @@
 -- What is refused, and what isn't.
-use Rattle.std.proofs.Common.{◌≡◌, ℕ, ◌+◌, ◌^◌, ◌<◌, Bool, true, false, List, length, take, drop, get_or, Option, Result, Ok, Err, IfOk, IfErr, MatchResult, IsErrOf, IsTrue, ⊎_elim, refl, sym, ap, subst, ◌∙◌, arith}
+use Rattle.std.proofs.Common.{◌≡◌, ℕ, ◌+◌, ◌^◌, ◌<◌, Bool, true, false, List, length, take, drop, get_or, Option, Result, Ok, Err, IfOk, IfErr, MatchResult, IsErrOf, IsTrue, ⊎_elim, refl, sym, ap, ◌∙◌, arith}
 use Rattle.std.proofs.Math.Bool.{not}
 use Rattle.std.specs.Int.{to_le_bytes, from_le_bytes, w64}
 use Rattle.std.specs.Str.{bytes_eq}
@@ -13,10 +13,10 @@ use Rattle.gm_tierdb.specs.declared.file_error.FileError.{FileError}
 use Rattle.gm_tierdb.specs.declared.file_error.FileError.TheVariants.{OutOfMemory, Truncated, BadMagic, WrongGame, WrongTier, WrongSize, BadRecord, Trailing, BadDigest, OldVersion}
 use Rattle.gm_record.specs.declared.version.Version.{Version}
 use Rattle.gm_record.specs.declared.version.Version.TheVariants.{One, Two}
-use Rattle.gm_tierdb.specs.TierText.{magic, AreRecords, IsVersionText}
-use Rattle.gm_tierdb.specs.Refusals.{HasHeader, HasRecords, RefusesRecords, RefusesIn, IsOld, records_part, body_len, file_len}
+use Rattle.gm_tierdb.specs.TierText.{magic, IsVersionText}
+use Rattle.gm_tierdb.specs.Refusals.{HasHeader, RefusesIn, IsOld, file_len}
 use Rattle.gm_tierdb.proofs.RecordLemmas.{none_bad}
-use Rattle.gm_tierdb.proofs.TextLemmas.{parts_of_text, text_of_parts, same_text}
+use Rattle.gm_tierdb.proofs.TextLemmas.{parts_of_text, same_text}
 
 -- no first bytes are those of two versions
 pub not_old : (v : Version) (first : List ℕ) → first ≡ magic v → IsOld v first → ⊥
@@ -73,36 +73,6 @@ pub old_answer : {X : Type 0} (listed : X → List (Option Solved)) (r : Rules) 
 old_answer listed r named tier bytes (Ok x) found refused records is =
     absurd (not_old Two (take 8 bytes) (parts_of_text Two r named tier (listed x) bytes found).header.0.0.0.1 (parts_of_text One r named tier records bytes is).header.0.0.0.1)
 old_answer listed r named tier bytes (Err e) found refused records is = ap (λ x. Err x) (old_version r named tier records bytes is e refused)
-
--- why the records are refused is why the bytes are
-pub refused_records : (v : Version) (r : Rules) (tier : ℕ) (bytes : List ℕ) → HasHeader v r tier bytes → length bytes ≡ file_len v (r.tier_size tier) → HasRecords v (r.tier_size tier) (records_part v (r.tier_size tier) bytes)
-    → drop (body_len v (r.tier_size tier)) bytes ≡ sha256 (take (body_len v (r.tier_size tier)) bytes)
-    → (e : FileError) → RefusesRecords v (r.tier_size tier) (records_part v (r.tier_size tier) bytes) e → RefusesIn v r tier bytes e
-refused_records v r tier bytes header len has digest OutOfMemory h = (has.0, text_of_parts v r tier bytes has.0 header has.1 digest)
-refused_records v r tier bytes header len has digest Truncated h = absurd h
-refused_records v r tier bytes header len has digest BadMagic h = absurd h
-refused_records v r tier bytes header len has digest WrongGame h = absurd h
-refused_records v r tier bytes header len has digest WrongTier h = absurd h
-refused_records v r tier bytes header len has digest WrongSize h = absurd h
-refused_records v r tier bytes header len has digest (BadRecord index) h = (header, omega arith, h)
-refused_records v r tier bytes header len has digest Trailing h = absurd h
-refused_records v r tier bytes header len has digest BadDigest h = absurd h
-refused_records v r tier bytes header len has digest OldVersion h = absurd h
-
--- the same, where the size and the part are known by other names
-pub found_text : (v : Version) (r : Rules) (tier : ℕ) (bytes : List ℕ) (size : ℕ) (part : List ℕ) → size ≡ r.tier_size tier → part ≡ records_part v size bytes → HasHeader v r tier bytes
-    → drop (body_len v size) bytes ≡ sha256 (take (body_len v size) bytes) → (records : List (Option Solved)) → AreRecords v size records part → IsVersionText v r tier records bytes
-found_text v r tier bytes size part e p header digest records are =
-    text_of_parts v r tier bytes records header (subst (λ s. AreRecords v s records (records_part v s bytes)) e (subst (AreRecords v size records) p are))
-    (subst (λ s. drop (body_len v s) bytes ≡ sha256 (take (body_len v s) bytes)) e digest)
-
-pub refused_text : (v : Version) (r : Rules) (tier : ℕ) (bytes : List ℕ) (size : ℕ) (part : List ℕ) → size ≡ r.tier_size tier → part ≡ records_part v size bytes → HasHeader v r tier bytes
-    → length bytes ≡ file_len v size → HasRecords v size part → drop (body_len v size) bytes ≡ sha256 (take (body_len v size) bytes)
-    → (e : FileError) → RefusesRecords v size part e → RefusesIn v r tier bytes e
-refused_text v r tier bytes size part e p header len has digest why h =
-    refused_records v r tier bytes header (len ∙ ap (file_len v) e) (subst (λ s. HasRecords v s (records_part v s bytes)) e (subst (HasRecords v size) p has))
-    (subst (λ s. drop (body_len v s) bytes ≡ sha256 (take (body_len v s) bytes)) e digest) why
-    (subst (λ s. RefusesRecords v s (records_part v s bytes) why) e (subst (λ l. RefusesRecords v size l why) p h))
 
 same_if : (a b : List ℕ) (equal : Bool) → bytes_eq a b ≡ equal → not equal ≡ false → a ≡ b
 same_if a b true e h = (bytes_eq-Decides a b).0 e

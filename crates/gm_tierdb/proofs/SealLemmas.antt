@@ -1,5 +1,5 @@
 -- Files whose digest is tested apart.
-use Rattle.std.proofs.Common.{◌≡◌, ℕ, ◌+◌, ◌*◌, ◌-◌, ◌⊎◌, inl, inr, List, length, take, drop, Option, Result, Ok, Err, IfOk, IfErr, MatchResult, IsErrAnd, IsErrOf, ⊎_elim, refl, sym, ap, subst, ◌∙◌, arith}
+use Rattle.std.proofs.Common.{◌≡◌, ◌≢◌, ℕ, ◌+◌, ◌*◌, ◌-◌, ◌<◌, ◌≤◌, ◌⊎◌, inl, inr, List, length, take, drop, Option, Result, Ok, Err, IfOk, IfErr, MatchResult, IsErrAnd, IsErrOf, ⊎_elim, refl, sym, ap, subst, ◌∙◌, arith}
 use Rattle.sha2.specs.Sha256.{sha256}
 use Rattle.gm_game.specs.declared.limits.TheConstants.{NAME}
 use Rattle.gm_game.specs.declared.position.Solved.{Solved}
@@ -10,10 +10,11 @@ use Rattle.gm_record.specs.Numbers.{width}
 use Rattle.gm_tierdb.specs.declared.file_error.FileError.{FileError}
 use Rattle.gm_tierdb.specs.declared.file_error.FileError.TheVariants.{OutOfMemory, Truncated, BadMagic, WrongGame, WrongTier, WrongSize, BadRecord, Trailing, BadDigest, OldVersion}
 use Rattle.gm_tierdb.specs.TierText.{AreRecords, IsVersionText, IsTierText}
-use Rattle.gm_tierdb.specs.Refusals.{HasHeader, RefusesIn, RefusesRecords, records_part, body_len, file_len}
+use Rattle.gm_tierdb.specs.Refusals.{HasHeader, AreRead, IsFirstBad, RefusesIn, records_part, body_len, file_len}
 use Rattle.gm_tierdb.specs.Seals.{IsSealed, IsUnsealed, IsWhole, RefusesWhole, RefusesUnsealed}
 use Rattle.gm_tierdb.proofs.TextLemmas.{parts_of_text, text_of_parts, same_text}
-use Rattle.gm_tierdb.proofs.RefusalLemmas.{not_old, only_memory, refused_records}
+use Rattle.gm_tierdb.proofs.HalfLemmas.{has_read}
+use Rattle.gm_tierdb.proofs.RefusalLemmas.{not_old, only_memory}
 
 digest_place : (all n : ℕ) → all ≡ 72 + n → all - 32 ≡ 40 + n
 digest_place all n e = omega arith
@@ -53,12 +54,6 @@ unsealed_text r named tier bytes whole records are =
       only = λ others is. (let seal = sealed_of_text Two r named tier others bytes is in (seal, same_text Two r named tier others records bytes is (text seal)));
     }
 
--- the same, where the size and the part are known by other names
-pub unsealed_part : (r : Rules) → length r.name ≡ NAME → (tier : ℕ) (bytes : List ℕ) (size : ℕ) (part : List ℕ) → size ≡ r.tier_size tier → part ≡ records_part Two size bytes → IsWhole Two r tier bytes
-    → (records : List (Option Solved)) → AreRecords Two size records part → IsUnsealed r tier records bytes
-unsealed_part r named tier bytes size part e p whole records are =
-    unsealed_text r named tier bytes whole records (subst (λ s. AreRecords Two s records (records_part Two s bytes)) e (subst (AreRecords Two size records) p are))
-
 -- what refuses a file but for its digest refuses it
 pub refuses_of_whole : (v : Version) (r : Rules) (tier : ℕ) (bytes : List ℕ) (e : FileError) → RefusesWhole v r tier bytes e → RefusesIn v r tier bytes e
 refuses_of_whole v r tier bytes OutOfMemory h = absurd h
@@ -84,39 +79,35 @@ refuses_of_unsealed r tier bytes Trailing h = inr h
 refuses_of_unsealed r tier bytes BadDigest h = absurd h
 refuses_of_unsealed r tier bytes OldVersion h = inr h
 
--- why the records are refused of a whole file
-pub refused_part : (r : Rules) (tier : ℕ) (bytes : List ℕ) → IsWhole Two r tier bytes → (e : FileError) → RefusesRecords Two (r.tier_size tier) (records_part Two (r.tier_size tier) bytes) e
-    → RefusesUnsealed r tier bytes e
-refused_part r tier bytes whole OutOfMemory h = whole
-refused_part r tier bytes whole Truncated h = absurd h
-refused_part r tier bytes whole BadMagic h = absurd h
-refused_part r tier bytes whole WrongGame h = absurd h
-refused_part r tier bytes whole WrongTier h = absurd h
-refused_part r tier bytes whole WrongSize h = absurd h
-refused_part r tier bytes whole (BadRecord index) h = let len = whole.1 in (whole.0, omega arith, h)
-refused_part r tier bytes whole Trailing h = absurd h
-refused_part r tier bytes whole BadDigest h = absurd h
-refused_part r tier bytes whole OldVersion h = absurd h
+read_at : (v : Version) (bytes part : List ℕ) (size n : ℕ) (read : Option (List (Option Solved))) → size ≡ n → part ≡ records_part v size bytes → AreRead v size part read → AreRead v n (records_part v n bytes) read
+read_at v bytes part size n read e p are = subst (λ s. AreRead v s (records_part v s bytes) read) e (subst (λ l. AreRead v size l read) p are)
 
-pub refused_part_of : (r : Rules) (tier : ℕ) (bytes : List ℕ) (size : ℕ) (part : List ℕ) → size ≡ r.tier_size tier → part ≡ records_part Two size bytes → IsWhole Two r tier bytes → (e : FileError)
-    → RefusesRecords Two size part e → RefusesUnsealed r tier bytes e
-refused_part_of r tier bytes size part e p whole why h =
-    refused_part r tier bytes whole why (subst (λ s. RefusesRecords Two s (records_part Two s bytes) why) e (subst (λ l. RefusesRecords Two size l why) p h))
+-- the records that were read are those of the file, where the size and the part are known by other names
+pub read_part : (v : Version) (bytes part : List ℕ) (size n : ℕ) (result : Result (Option (List (Option Solved))) ℕ) → size ≡ n → part ≡ records_part v size bytes
+    → IfOk result (AreRead v size part) → IfOk result (AreRead v n (records_part v n bytes))
+read_part v bytes part size n (Ok read) e p are = read_at v bytes part size n read e p are
+read_part v bytes part size n (Err index) e p are = tt
 
--- and of one that is sealed
-pub refused_sealed : (v : Version) (r : Rules) (tier : ℕ) (bytes : List ℕ) → IsWhole v r tier bytes → IsSealed bytes → (e : FileError)
-    → RefusesRecords v (r.tier_size tier) (records_part v (r.tier_size tier) bytes) e → RefusesIn v r tier bytes e
-refused_sealed v r tier bytes whole seal e h = refused_records v r tier bytes whole.0 whole.1 whole.2 (sealed_digest v r tier bytes whole.1 seal) e h
+-- a header, records that were read and a digest are a whole file
+pub whole_read : (v : Version) (r : Rules) (tier : ℕ) (bytes part : List ℕ) (size k : ℕ) (read : Option (List (Option Solved))) → size ≡ r.tier_size tier → part ≡ records_part v size bytes → HasHeader v r tier bytes
+    → 40 + width v * size + k ≡ length bytes → k ≡ 32 → AreRead v size part read → IsWhole v r tier bytes
+whole_read v r tier bytes part size k read e p header all digest are =
+    let long : length bytes ≡ file_len v size = omega (arith, all, digest) in
+    (header, long ∙ ap (file_len v) e, has_read v (r.tier_size tier) (records_part v (r.tier_size tier) bytes) read (read_at v bytes part size (r.tier_size tier) read e p are))
 
-pub found_sealed : (v : Version) (r : Rules) (tier : ℕ) (bytes : List ℕ) (size : ℕ) (part : List ℕ) → size ≡ r.tier_size tier → part ≡ records_part v size bytes → IsWhole v r tier bytes → IsSealed bytes
-    → (records : List (Option Solved)) → AreRecords v size records part → IsVersionText v r tier records bytes
-found_sealed v r tier bytes size part e p whole seal records are =
-    sealed_text v r tier bytes whole seal records (subst (λ s. AreRecords v s records (records_part v s bytes)) e (subst (AreRecords v size records) p are))
+-- with more than a digest after them they are refused
+pub trailing_read : (v : Version) (r : Rules) (tier : ℕ) (bytes part : List ℕ) (size k : ℕ) (read : Option (List (Option Solved))) → size ≡ r.tier_size tier → part ≡ records_part v size bytes → HasHeader v r tier bytes
+    → 40 + width v * size + k ≡ length bytes → 32 ≤ k → k ≢ 32 → AreRead v size part read → RefusesIn v r tier bytes Trailing
+trailing_read v r tier bytes part size k read e p header all some other are =
+    let long : file_len v size < length bytes = omega (arith, all, some, other) in
+    (header, subst (λ s. file_len v s < length bytes) e long, has_read v (r.tier_size tier) (records_part v (r.tier_size tier) bytes) read (read_at v bytes part size (r.tier_size tier) read e p are))
 
-pub refused_sealed_of : (v : Version) (r : Rules) (tier : ℕ) (bytes : List ℕ) (size : ℕ) (part : List ℕ) → size ≡ r.tier_size tier → part ≡ records_part v size bytes → IsWhole v r tier bytes → IsSealed bytes
-    → (e : FileError) → RefusesRecords v size part e → RefusesIn v r tier bytes e
-refused_sealed_of v r tier bytes size part e p whole seal why h =
-    refused_sealed v r tier bytes whole seal why (subst (λ s. RefusesRecords v s (records_part v s bytes) why) e (subst (λ l. RefusesRecords v size l why) p h))
+-- and so are bytes in which a record is bad
+pub bad_read : (v : Version) (r : Rules) (tier : ℕ) (bytes part : List ℕ) (size k index : ℕ) → size ≡ r.tier_size tier → part ≡ records_part v size bytes → HasHeader v r tier bytes
+    → 40 + width v * size + k ≡ length bytes → 32 ≤ k → IsFirstBad v size part index → RefusesIn v r tier bytes (BadRecord index)
+bad_read v r tier bytes part size k index e p header all some bad =
+    let long : file_len v size ≤ length bytes = omega (arith, all, some) in
+    (header, subst (λ s. file_len v s ≤ length bytes) e long, subst (λ s. IsFirstBad v s (records_part v s bytes) index) e (subst (λ l. IsFirstBad v size l index) p bad))
 
 no_refusal : (v : Version) (r : Rules) (tier : ℕ) (bytes : List ℕ) (e : FileError) → e ≡ OutOfMemory → RefusesWhole v r tier bytes e → ⊥
 no_refusal v r tier bytes e is h = subst (RefusesWhole v r tier bytes) is h

@@ -1,5 +1,5 @@
 -- Why bytes are refused: the first reason that applies, in the order of the tests.
-use Rattle.std.specs.Prelude.{◌≡◌, ◌≢◌, ℕ, ◌<◌, ◌≤◌, ◌+◌, ◌*◌, ◌⊎◌, List, ◌++◌, length, take, drop, Option, All}
+use Rattle.std.specs.Prelude.{◌≡◌, ◌≢◌, ℕ, ◌<◌, ◌≤◌, ◌+◌, ◌*◌, ◌⊎◌, List, ◌++◌, length, take, drop, Option, None, Some, All}
 use Rattle.std.specs.List.{flat_map}
 use Rattle.std.specs.Int.{to_le_bytes, w64}
 use Rattle.sha2.specs.Sha256.{sha256}
@@ -58,18 +58,10 @@ pub record IsFirstBad (v : Version) (size : ℕ) (bytes : List ℕ) (index : ℕ
   pub split : bytes ≡ flat_map (record_bytes v) front ++ rest
   pub bad : (o : Option Solved) → IsStorable v o → take (width v) rest ≢ record_bytes v o
 
--- why the records are refused
-abbrev pub RefusesRecords : Version → ℕ → List ℕ → FileError → Type 0
-RefusesRecords v size bytes OutOfMemory = Unit {0}
-RefusesRecords v size bytes Truncated = ⊥
-RefusesRecords v size bytes BadMagic = ⊥
-RefusesRecords v size bytes WrongGame = ⊥
-RefusesRecords v size bytes WrongTier = ⊥
-RefusesRecords v size bytes WrongSize = ⊥
-RefusesRecords v size bytes (BadRecord index) = IsFirstBad v size bytes index
-RefusesRecords v size bytes Trailing = ⊥
-RefusesRecords v size bytes BadDigest = ⊥
-RefusesRecords v size bytes OldVersion = ⊥
+-- these are the records that the bytes are, or there was no memory for them
+abbrev pub AreRead : Version → ℕ → List ℕ → Option (List (Option Solved)) → Type 0
+AreRead v size bytes None = HasRecords v size bytes
+AreRead v size bytes (Some records) = AreRecords v size records bytes
 
 -- why the bytes are refused; memory comes last, where they are the text of some records
 abbrev pub RefusesIn : Version → Rules → ℕ → List ℕ → FileError → Type 0

@@ -1,28 +1,35 @@
 //! Reading the file of a tier.
-ghost use Rattle.std.specs.Prelude.{◌≡◌, ◌+◌, ◌*◌, ◌^◌, ◌<◌, ◌≤◌, ◌↔◌, [], IsTrue, IfOk, OnOk, IfErr, IsErrOf, IfSome, IfNone, length, Option, List, MatchResult};
+ghost use Rattle.std.specs.Prelude.{◌≡◌, ◌+◌, ◌*◌, ◌^◌, ◌<◌, ◌≤◌, ◌↔◌, IsTrue, IfOk, OnOk, IfErr, IsErrOf, IfSome, IfNone, length, Option, List, MatchResult};
 ghost use Rattle.std.specs.Int.{to_le_bytes, w64};
 ghost use Rattle.gm_game.specs.declared.position.Solved.{Solved};
 ghost use Rattle.gm_record.specs.Numbers.{word, width};
-ghost use Rattle.gm_tierdb.specs.TierText.{AreRecords, IsTierText, IsTierText1, IsVersionText};
-ghost use Rattle.gm_tierdb.specs.Refusals.{IsFirstBad, RefusesRecords, HasRecords, HasHeader, Refuses, Refuses1, RefusesIn, records_part};
+ghost use Rattle.gm_tierdb.specs.TierText.{IsTierText, IsTierText1, IsVersionText};
+ghost use Rattle.gm_tierdb.specs.Refusals.{IsFirstBad, AreRead, HasRecords, HasHeader, Refuses, Refuses1, RefusesIn, records_part};
 ghost use Rattle.gm_tierdb.specs.Seals.{IsSealed, IsUnsealed, IsWhole, RefusesWhole, RefusesUnsealed};
 
 use crate::file_error::FileError;
 use crate::layout::{DIGEST_LEN, HEADER_LEN, MAGIC_LEN, NAME_END, TIER_END};
 use crate::magic::{is_older, magic};
+use crate::records::{read_records, read_records_by};
 use gm_game::game::Game;
 use gm_game::position::Solved;
-use gm_record::number::record_of;
 use gm_record::version::Version;
 use gm_table::packed::Packed;
 use sha2::{Digest, Sha256};
 use std::alloc::Global;
+use std::thread::Threads;
 
-/// The records of a tier, from its file: docs/FORMATS.md, "Tier file". Any bytes may be given. The records take four bytes each. All is tested but the digest,
-/// which `is_sealed` tests, so that another thread may do so; memory is asked for last of what is done here.
+/// The records of a tier, from its file: docs/FORMATS.md, "Tier file". Any bytes may be given. All is tested but the digest, which `is_sealed` tests, so that
+/// another thread may do so; the records of a large file are read by two threads. `OutOfMemory` is the last reason: it is told only of bytes that are those of a
+/// file. Takes memory as the records do.
 ///
 /// Only the checker of gm_table tells whether the records are the true ones. A file of version 1 is refused as `OldVersion`; `decode_v1` reads it.
-pub fn decode_unsealed<G: Game>(alloc: Global, tier: u64, bytes: &[u8]) -> Result<Packed, FileError>
+pub fn decode_unsealed<G: Game, R: Threads + Sync>(
+    rt: &R,
+    alloc: Global,
+    tier: u64,
+    bytes: &[u8],
+) -> Result<Packed, FileError>
     ensures found { IfOk result (λ records. IsUnsealed G.rules tier records bytes.now) }
     ensures exact { (records : List (Option Solved)) → IsTierText G.rules tier records bytes.now
         → MatchResult result (λ found. found ≡ records) (λ e. e ≡ FileError.OutOfMemory) }
@@ -30,7 +37,11 @@ pub fn decode_unsealed<G: Game>(alloc: Global, tier: u64, bytes: &[u8]) -> Resul
     ensures refused { IfErr result (RefusesUnsealed G.rules tier bytes.now) }
 {
     let parts = parts_of::<G>(Version::Two, tier, bytes)?;
-    read_records(alloc, Version::Two, parts.records, parts.size)
+    let read = read_records_by(rt, alloc, Version::Two, parts.records, parts.size);
+    match whole::<G>(Version::Two, tier, bytes, parts, read)? {
+        Some(records) => Ok(records),
+        None => Err(FileError::OutOfMemory),
+    }
 }
 
 /// Whether bytes end with the digest of those before it, as the file of a tier does.
@@ -44,8 +55,8 @@ pub fn is_sealed(bytes: &[u8]) -> bool
     Sha256::digest(body).as_slice() == digest
 }
 
-/// The records of a tier, from its file: docs/FORMATS.md, "Tier file". Any bytes may be given; memory is asked for last. A file of version 1 is refused as
-/// `OldVersion`.
+/// The records of a tier, from its file: docs/FORMATS.md, "Tier file". Any bytes may be given; `OutOfMemory` is the last reason. A file of version 1 is refused
+/// as `OldVersion`.
 pub fn decode<G: Game>(
     alloc: Global,
     tier: u64,
@@ -105,23 +116,59 @@ fn read_file<G: Game>(
     ensures refused { IfErr result (RefusesIn version G.rules tier bytes.now) }
 {
     let parts = parts_of::<G>(version, tier, bytes)?;
+    let read = read_records(alloc, version, parts.records, parts.size);
+    let read = whole::<G>(version, tier, bytes, parts, read)?;
     if !is_sealed(bytes) {
         return Err(FileError::BadDigest);
     }
-    read_records(alloc, version, parts.records, parts.size)
+    match read {
+        Some(records) => Ok(records),
+        None => Err(FileError::OutOfMemory),
+    }
 }
 
-// Where the records of a file stand, and how many there are.
+// The records that were read of these parts, where the bytes are those of a file but for the digest; `None` where memory was refused for them.
+fn whole<G: Game>(
+    version: Version,
+    tier: u64,
+    bytes: &[u8],
+    parts: Parts,
+    read: Result<Option<Packed>, u64>,
+) -> Result<Option<Packed>, FileError>
+    requires header { HasHeader version G.rules tier bytes.now }
+    requires size { parts.size ≡ G.rules.tier_size tier }
+    requires records { parts.records.now ≡ records_part version parts.size bytes.now }
+    requires room { 32 ≤ length parts.digest.now }
+    requires digest { 40 + width version * parts.size + length parts.digest.now ≡ length bytes.now }
+    requires found { IfOk read (AreRead version parts.size parts.records.now) }
+    requires bad { IfErr read (IsFirstBad version parts.size parts.records.now) }
+    ensures whole { IfOk result (λ _. IsWhole version G.rules tier bytes.now) }
+    ensures found { IfOk result (λ read. AreRead version (G.rules.tier_size tier) (records_part version (G.rules.tier_size tier) bytes.now) read) }
+    ensures refused { IfErr result (RefusesWhole version G.rules tier bytes.now) }
+{
+    let read = match read {
+        Ok(read) => read,
+        Err(index) => return Err(FileError::BadRecord { index }),
+    };
+    if parts.digest.len() != DIGEST_LEN {
+        return Err(FileError::Trailing);
+    }
+    Ok(read)
+}
+
+// Where the records of a file stand, how many there are, and what stands after them.
 #[derive(Clone, Copy)]
 struct Parts<'a> {
     records: &'a [u8],
     size: usize,
+    digest: &'a [u8],
 }
 
-// The parts of a file: all is tested but the digest.
+// The parts of a file that has a header and room for the records and the digest.
 fn parts_of<G: Game>(version: Version, tier: u64, bytes: &[u8]) -> Result<Parts, FileError>
-    ensures ok { IfOk result (λ parts. (parts.size ≡ G.rules.tier_size tier) × (parts.records.now ≡ records_part version parts.size bytes.now) × (length parts.records.now ≡ width version * parts.size)
-        × IsWhole version G.rules tier bytes.now) }
+    ensures header { IfOk result (λ _. HasHeader version G.rules tier bytes.now) }
+    ensures records { IfOk result (λ parts. (parts.size ≡ G.rules.tier_size tier) × (parts.records.now ≡ records_part version parts.size bytes.now) × (length parts.records.now ≡ width version * parts.size)) }
+    ensures digest { IfOk result (λ parts. (32 ≤ length parts.digest.now) × (40 + width version * parts.size + length parts.digest.now ≡ length bytes.now)) }
     ensures refused { IfErr result (RefusesWhole version G.rules tier bytes.now) }
 {
     let size = G::tier_size(tier);
@@ -132,13 +179,11 @@ fn parts_of<G: Game>(version: Version, tier: u64, bytes: &[u8]) -> Result<Parts,
     let size = size as usize;
     let (body, digest) = bytes.split_at(HEADER_LEN + len);
     let (_, records) = body.split_at(HEADER_LEN);
-    if let Some(index) = first_bad(version, records, size) {
-        return Err(FileError::BadRecord { index });
-    }
-    if digest.len() != DIGEST_LEN {
-        return Err(FileError::Trailing);
-    }
-    Ok(Parts { records, size })
+    Ok(Parts {
+        records,
+        size,
+        digest,
+    })
 }
 
 // Tests all that stands before the records.
@@ -184,64 +229,6 @@ fn records_len(version: Version, size: u64, file_len: usize) -> Option<usize>
     if len <= room { Some(len) } else { None }
 }
 
-// The first index at which no record stands.
-fn first_bad(version: Version, bytes: &[u8], size: usize) -> Option<u64>
-    requires { length bytes.now ≡ width version * size }
-    ensures none { IfNone result (HasRecords version size bytes.now) }
-    ensures some { IfSome result (IsFirstBad version size bytes.now) }
-{
-    let mut rest = bytes;
-    for index in 0..size {
-        let (record, more) = rest.split_at(version.record_len());
-        match record_of(version, number_at(version, record)) {
-            None => return Some(index as u64),
-            Some(_found) => rest = more,
-        }
-    }
-    None
-}
-
-// The records that stand in the bytes.
-fn read_records(
-    alloc: Global,
-    version: Version,
-    bytes: &[u8],
-    size: usize,
-) -> Result<Packed, FileError>
-    requires { length bytes.now ≡ width version * size }
-    ensures found { IfOk result (λ records. AreRecords version size records bytes.now) }
-    ensures refused { IfErr result (RefusesRecords version size bytes.now) }
-{
-    let mut records = with_room(alloc, size)?;
-    let mut rest = bytes;
-    for index in 0..size {
-        let (record, more) = rest.split_at(version.record_len());
-        match record_of(version, number_at(version, record)) {
-            None => {
-                return Err(FileError::BadRecord {
-                    index: index as u64,
-                });
-            }
-            Some(found) => match records.push(found) {
-                Ok(()) => rest = more,
-                Err(_) => return Err(FileError::OutOfMemory),
-            },
-        }
-    }
-    Ok(records)
-}
-
-// No record, with room for so many.
-fn with_room(alloc: Global, size: usize) -> Result<Packed, FileError>
-    ensures ok { IfOk result (λ records. records ≡ []) }
-    ensures err { IfErr result (λ e. e ≡ FileError.OutOfMemory) }
-{
-    match Packed::with_capacity(alloc, size) {
-        Ok(records) => Ok(records),
-        Err(_) => Err(FileError::OutOfMemory),
-    }
-}
-
 // The number that eight bytes stand for.
 fn u64_of(bytes: &[u8]) -> u64
     requires { length bytes.now ≡ 8 }
@@ -250,16 +237,4 @@ fn u64_of(bytes: &[u8]) -> u64
     u64::from_le_bytes([
         bytes[0], bytes[1], bytes[2], bytes[3], bytes[4], bytes[5], bytes[6], bytes[7],
     ])
-}
-
-// The number that the bytes of a record stand for.
-fn number_at(version: Version, bytes: &[u8]) -> u32
-    requires { length bytes.now ≡ width version }
-    ensures bytes { to_le_bytes (word version) result ≡ bytes.now }
-    ensures fits { result < 256 ^ width version }
-{
-    match version {
-        Version::One => u32::from(u16::from_le_bytes([bytes[0], bytes[1]])),
-        Version::Two => u32::from_le_bytes([bytes[0], bytes[1], bytes[2], bytes[3]]),
-    }
 }

@@ -14,9 +14,9 @@ use std::alloc::{AllocError, Global};
 use std::fs::{self, File, Files, OpenFile};
 use std::io::{ErrorKind, Read};
 
-/// A store in a folder: docs/FORMATS.md, "Files in a folder". Tier t is the file `tier-<t>.gmt`, which is written as `tier-<t>.tmp`, synced and renamed. Where
-/// there is no file, the tier has no text. The folder is not made, and an empty path is no folder. Only the count of failures is promised, and not what the
-/// folder holds between two calls.
+/// A store in a folder: docs/FORMATS.md, "Files in a folder". Tier t is the file `tier-<t>.gmt`, which is written as `tier-<t>.tmp`, synced and renamed, and
+/// then the folder is synced. Where there is no file, the tier has no text. The folder is not made, and an empty path is no folder. Only the count of
+/// failures is promised, and not what the folder holds between two calls.
 ///
 /// An intact file of another game is never overwritten: the write fails. What is no ordinary file is not opened.
 #[derive(Drop)]
@@ -152,7 +152,8 @@ impl FolderStore {
             self.met_another = true;
             return Err(StoreError::Failed);
         }
-        write_file(rt, path, beside, bytes)
+        write_file(rt, path, beside, bytes)?;
+        sync_folder(rt, self.folder.as_str())
     }
 
     // Counts an answer that is a failure.
@@ -302,6 +303,15 @@ fn write_file<R: Files>(rt: &R, path: &str, beside: &str, bytes: &[u8]) -> Resul
         let _ = fs::remove_file(rt, beside);
     }
     written
+}
+
+// Syncs a folder, so that the names in it last. Where the file system syncs no folders, nothing is done.
+fn sync_folder<R: Files>(rt: &R, folder: &str) -> Result<(), StoreError> {
+    let folder = fs::open(rt, folder).map_err(|_| StoreError::Failed)?;
+    match folder.sync_all() {
+        Err(error) if error.kind() != ErrorKind::InvalidInput => Err(StoreError::Failed),
+        _ => Ok(()),
+    }
 }
 
 // Removes what an earlier run has left, and follows no link there.

@@ -13,6 +13,7 @@ mod magic;
 pub mod mem_store;
 pub mod owner;
 pub mod read_only;
+mod records;
 pub mod store;
 pub mod store_error;
 pub mod streams;

@@ -12,7 +12,7 @@ use std::io::{Read, Write};
 pub const READ_LEN: usize = FILE_LEN + 1;
 
 /// How many bytes are read at a time.
-const CHUNK_LEN: usize = 4096;
+const CHUNK_LEN: usize = 65_536;
 
 /// The bytes of a reader up to its end, but at most 67,108,937 of them (`READ_LEN`). After an error the reader has lost some of its bytes.
 pub fn read_text<R: Read>(alloc: Global, reader: &mut R) -> Result<Vec<u8>, StoreError>

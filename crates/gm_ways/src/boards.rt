@@ -12,6 +12,7 @@ use gm_game::position::End;
 use gm_pieces::board::Board;
 
 /// Whether the mover and the opponent have these numbers of pieces.
+#[tactic(auto, using(gm_board::specs::Images::board_length), unfolding(crate::specs::Ways::has_numbers))]
 pub fn has_numbers<const CELLS: u32>(board: Board<CELLS>, mine: u32, theirs: u32) -> bool
     ensures { result ≡ has_numbers_of CELLS mine theirs (board_of CELLS board.entry.mine board.entry.theirs) }
 {
@@ -19,6 +20,7 @@ pub fn has_numbers<const CELLS: u32>(board: Board<CELLS>, mine: u32, theirs: u32
 }
 
 // Whether the mover has a line.
+#[tactic(auto, using(gm_pieces::specs::laws::MaskFacts::own_patterns))]
 fn has_own_line<const POINTS: u32, T: WayRules<POINTS>>(board: Board<POINTS>) -> bool
     ensures { result ≡ has_filled Empty T.game.lines is_mine (board_of POINTS board.entry.mine board.entry.theirs) }
 {
@@ -26,6 +28,7 @@ fn has_own_line<const POINTS: u32, T: WayRules<POINTS>>(board: Board<POINTS>) ->
 }
 
 // Whether the opponent has a line.
+#[tactic(auto, using(gm_pieces::specs::laws::MaskFacts::their_patterns))]
 fn has_their_line<const POINTS: u32, T: WayRules<POINTS>>(board: Board<POINTS>) -> bool
     ensures { result ≡ has_filled Empty T.game.lines is_theirs (board_of POINTS board.entry.mine board.entry.theirs) }
 {

@@ -1,6 +1,5 @@
 //! Moves along ways.
-ghost use Rattle.std.specs.Prelude.{◌≡◌, ◌↔◌, ◌&&◌, IsTrue, true, slice_index_or, []};
-ghost use Rattle.std.specs.List.{Contains};
+ghost use Rattle.std.specs.Prelude.{◌≡◌, ◌&&◌, true};
 ghost use Rattle.gm_board.specs.Cells.{is_mine, is_theirs, is_empty, cell_at};
 ghost use Rattle.gm_board.specs.Images.{board_of};
 ghost use Rattle.gm_ways.specs.Ways.{are_joined as are_joined_of, can_move as can_move_of, moved as moved_of, was_moved as was_moved_of, taken_back as taken_back_of};
@@ -9,21 +8,16 @@ use crate::rules::WayRules;
 use gm_pieces::board::Board;
 use gm_pieces::step::Step;
 
-// Whether the second point is one of those to which a way leads from the first.
-fn is_neighbor<const POINTS: u32, T: WayRules<POINTS>>(a: u32, c: u32) -> bool
-    ensures { IsTrue result ↔ Contains (slice_index_or T.game.ways a []) c }
+/// Whether a way leads from one point to another. Any numbers may be given.
+#[tactic(auto, using(crate::proofs::WaySteps::listed_test), unfolding(crate::specs::Ways::are_joined))]
+pub fn are_joined<const POINTS: u32, T: WayRules<POINTS>>(a: u32, c: u32) -> bool
+    ensures { result ≡ are_joined_of T.game.ways a c }
 {
     T::neighbors(a).contains(&c)
 }
 
-/// Whether a way leads from one point to another. Any numbers may be given.
-pub fn are_joined<const POINTS: u32, T: WayRules<POINTS>>(a: u32, c: u32) -> bool
-    ensures { result ≡ are_joined_of T.game.ways a c }
-{
-    is_neighbor::<POINTS, T>(a, c)
-}
-
 // Whether a piece of the mover's stands on the first point, and none on the second.
+#[tactic(auto, using(crate::specs::laws::WayFacts::joined_from, crate::specs::laws::WayFacts::joined_to))]
 fn is_open<const POINTS: u32, T: WayRules<POINTS>>(board: Board<POINTS>, from: u32, to: u32) -> bool
     requires { are_joined_of T.game.ways from to ≡ true }
     ensures { result ≡ (is_mine (cell_at (board_of POINTS board.entry.mine board.entry.theirs) from) && is_empty (cell_at (board_of POINTS board.entry.mine board.entry.theirs) to)) }
@@ -32,6 +26,7 @@ fn is_open<const POINTS: u32, T: WayRules<POINTS>>(board: Board<POINTS>, from: u
 }
 
 // Whether a piece of the opponent's stands on the second point, and none on the first.
+#[tactic(auto, using(crate::specs::laws::WayFacts::joined_from, crate::specs::laws::WayFacts::joined_to))]
 fn is_left<const POINTS: u32, T: WayRules<POINTS>>(board: Board<POINTS>, from: u32, to: u32) -> bool
     requires { are_joined_of T.game.ways from to ≡ true }
     ensures { result ≡ (is_theirs (cell_at (board_of POINTS board.entry.mine board.entry.theirs) to) && is_empty (cell_at (board_of POINTS board.entry.mine board.entry.theirs) from)) }
@@ -40,6 +35,7 @@ fn is_left<const POINTS: u32, T: WayRules<POINTS>>(board: Board<POINTS>, from: u
 }
 
 /// Whether the move with this number can be made if the game is not over.
+#[tactic(auto, unfolding(crate::specs::Ways::can_move))]
 pub fn can_move<const POINTS: u32, T: WayRules<POINTS>>(board: Board<POINTS>, number: u32) -> bool
     ensures { result ≡ can_move_of T.game (board_of POINTS board.entry.mine board.entry.theirs) number }
 {
@@ -67,6 +63,7 @@ pub fn moved<const POINTS: u32, T: WayRules<POINTS>>(
 }
 
 /// Whether the move with this number can have led to the board.
+#[tactic(auto, unfolding(crate::specs::Ways::was_moved))]
 pub fn was_moved<const POINTS: u32, T: WayRules<POINTS>>(board: Board<POINTS>, number: u32) -> bool
     ensures { result ≡ was_moved_of T.game (board_of POINTS board.entry.mine board.entry.theirs) number }
 {

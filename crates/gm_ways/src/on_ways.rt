@@ -131,6 +131,7 @@ impl<const POINTS: u32, T: WayRules<POINTS>> MoveRules for WayMoves<POINTS, T> {
         board.text()
     }
 
+    #[tactic(auto, using(crate::specs::laws::WayBoards::legal_in))]
     fn board_in(bytes: &[u8]) -> Board<POINTS> {
         Board::in_text(bytes)
     }

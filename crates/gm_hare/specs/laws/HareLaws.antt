@@ -1,7 +1,7 @@
 -- Hare and Hounds has the laws of a game.
-use Rattle.std.proofs.Common.{◌≡◌, ℕ, ◌+◌, ◌-◌, ◌*◌, ◌/◌, ◌%◌, ◌<◌, ◌≤◌, Bool, true, false, not, ◌&&◌, ◌||◌, if◌then◌else◌, eqb, leb, List, [], ◌∷◌, reverse, length, set, None, Some, refl, sym, ap, ap₂, ◌∙◌, subst, arith, inl, inr, ◌⊎◌}
-use Rattle.std.specs.List.{Contains, list_all, range_with_len}
-use Rattle.std.proofs.lemmas.Bool.{cases_Bool, cond-true, cond-false, cond_both}
+use Rattle.std.proofs.Common.{◌≡◌, ℕ, ◌+◌, ◌-◌, ◌*◌, ◌/◌, ◌%◌, ◌<◌, ◌≤◌, Bool, true, false, not, ◌&&◌, ◌||◌, if◌then◌else◌, eqb, eqb-true, eq-eqb, leb, List, [], ◌∷◌, reverse, length, set, None, Some, refl, sym, ap, ap₂, ◌∙◌, subst, arith, inl, inr, ◌⊎◌}
+use Rattle.std.specs.List.{Contains}
+use Rattle.std.proofs.lemmas.Bool.{cond-true, cond_both}
 use Rattle.std.proofs.lemmas.Bool.Decides.{nat_tests}
 use Rattle.std.proofs.lemmas.Nat.{div-mul-add, mod-mul-add}
 use Rattle.std.proofs.lemmas.List.{length-reverse, reverse-reverse}
@@ -9,20 +9,20 @@ use Rattle.gm_game.specs.declared.position.End.TheVariants.{Lose, Win}
 use Rattle.gm_game.specs.Texts.{IsPaddedText}
 use Rattle.gm_game.specs.Rules.{at, IsAscending}
 use Rattle.gm_game.specs.Boards.{position_of, IsNumbered}
-use Rattle.gm_board.specs.laws.Lists.{contains_head, contains_later, contains_cases, contains_range, range_below}
+use Rattle.gm_board.specs.laws.Lists.{and_both, contains_head, contains_cases}
 use Rattle.gm_board.specs.Binomials.{binomial}
 use Rattle.gm_board.specs.Ranks.{members, rank, unrank, rank_below, rank_unrank, unrank_rank}
 use Rattle.gm_board.specs.Patterns.{same_tests}
-use Rattle.gm_board.specs.Permutations.{permute, permute_get, permute_length, all_at}
+use Rattle.gm_board.specs.Permutations.{permute, permute_get, permute_length}
 use Rattle.gm_board.specs.Groups.{image_slide}
 use Rattle.gm_pieces.specs.Steps.{step_number, from_point, to_point}
 use Rattle.gm_pieces.specs.laws.StepFacts.{from_back, to_back}
 use Rattle.gm_pieces.specs.MoveGames.{board_game, IsMove, IsMoveGame, IsMoveSymmetric}
 use Rattle.gm_hare.specs.declared.hunt.Hunt.{Hunt}
-use Rattle.gm_hare.specs.Board.{column, has_hound, hunt_tier, has_escaped, legal, over, can_move, hound_gone, hare_gone, gone, play, mirror, mirror_point, mirrored, turn_of, hunt_index, hunt_board, hare_name, hare_and_hounds}
-use Rattle.gm_hare.specs.laws.PointFacts.{joined_from, joined_to, mirror_below, mirror_twice, mirror_column, mirror_joined, mirror_ahead, two, two_group, mirror_in}
+use Rattle.gm_hare.specs.Board.{column, has_hound, hunt_tier, has_escaped, legal, over, can_go, can_move, gone, play, mirror, mirror_point, mirrored, turn_of, hunt_index, hunt_board, hare_name, hare_and_hounds}
+use Rattle.gm_hare.specs.laws.PointFacts.{at_point, all_points, joined_from, joined_to, mirror_below, mirror_twice, mirror_column, mirror_joined, mirror_ahead, two, two_group, mirror_in}
 use Rattle.gm_hare.specs.laws.HoundFacts.{count, members_count, same_hunt, for_eleven, mirror_count, mirror_columns, mirror_hounds_twice, three_columns}
-use Rattle.gm_hare.specs.laws.MoveFacts.{IsLegal, legal_in, legal_from, CanGo, move_in, move_from, step_below, moves_few, gone_legal, gone_tier, undone, redone, befores_few}
+use Rattle.gm_hare.specs.laws.MoveFacts.{hunt, IsLegal, legal_in, legal_from, free_in, free_from, may_go, CanGo, move_in, step_below, moves_few, gone_legal, gone_tier, undone, redone, befores_few}
 
 -- ---- tiers
 abbrev pub tier_size_of : ℕ → ℕ
@@ -49,16 +49,16 @@ child_bounds t e = (grind (arith, nat_tests), grind (arith, nat_tests))
 rank_in : (t : ℕ) → 2 ≤ t → t ≤ 10 → tier_rank_of t ≡ 10 - t
 rank_in t l h = grind (arith, nat_tests)
 
+one_child : (x : Bool) (n u : ℕ) → Contains (if x then n ∷ [] else []) u → (x ≡ true) × (n ≡ u)
+one_child true n u c = elim (contains_cases n [] u c) [ inl e ↦ (refl, e) | inr d ↦ absurd (omega (arith, d.1)) ]
+one_child false n u c = absurd (omega (arith, c.1))
+
 child_rank : (t u : ℕ) → Contains (child_tiers_of t) u → tier_rank_of u < tier_rank_of t
-child_rank t u c = elim (cases_Bool (leb 2 t && leb t 9)) [
-  | inl e ↦ (
-      let b = child_bounds t e in
-      elim (contains_cases (t + 1) [] u (subst (λ (xs : List ℕ). Contains xs u) (cond-true _ ((t + 1) ∷ []) [] e) c)) [
-        | inl f ↦ (let x = rank_in t (omega (arith, b.0)) (omega (arith, b.1)) in let y = rank_in u (omega (arith, b.0, f)) (omega (arith, b.1, f)) in omega (arith, x, y, f, b.0, b.1))
-        | inr d ↦ absurd (omega (arith, d.1))
-      ])
-  | inr e ↦ (let d = subst (λ (xs : List ℕ). Contains xs u) (cond-false _ ((t + 1) ∷ []) [] e) c in absurd (omega (arith, d.1)))
-]
+child_rank t u c =
+    let h = one_child (leb 2 t && leb t 9) (t + 1) u c in
+    let b = child_bounds t h.0 in
+    let x = rank_in t (omega (arith, b.0)) (omega (arith, b.1)) in
+    let y = rank_in u (omega (arith, b.0, h.1)) (omega (arith, b.1, h.1)) in omega (arith, x, y, h.1, b.0, b.1)
 
 -- the tier of a legal board
 pub legal_tier : (b : Hunt) → IsLegal b → (2 ≤ hunt_tier b) × (hunt_tier b ≤ 10)
@@ -70,7 +70,7 @@ pub ways : binomial 11 3 ≡ 165
 unfolding binomial
 ways = refl
 
-count_reverse : (xs : List Bool) → length xs ≡ 11 → count (reverse xs) ≡ count xs
+pub count_reverse : (xs : List Bool) → length xs ≡ 11 → count (reverse xs) ≡ count xs
 count_reverse = for_eleven (λ xs. count (reverse xs) ≡ count xs) (λ a b c d e f g h i j k. omega arith)
 
 -- three hounds, the highest point first
@@ -203,23 +203,21 @@ mirrored_legal b l = record {
   apart = mirrored_at b b.hare l.below ∙ l.apart;
 }
 
+-- by the test of a legal board
+pub mirrored_is_legal : (b : Hunt) → legal b ≡ true → legal (mirrored b) ≡ true
+mirrored_is_legal b l = legal_from (mirrored b) (mirrored_legal b (legal_in b l))
+
 -- exchanging top and bottom twice gives the board back
 pub mirrored_twice : (b : Hunt) → IsLegal b → mirrored (mirrored b) ≡ b
 mirrored_twice b l = same_hunt (mirrored (mirrored b)) b refl (mirror_hounds_twice b.hounds l.eleven) (mirror_twice b.hare l.below)
-
-all_points : (p : ℕ → Bool) (ks : List ℕ) → ((k : ℕ) → Contains ks k → p k ≡ true) → list_all p ks ≡ true
-all_points p [] h = refl
-all_points p (k ∷ ks) h = (let first = h k (contains_head k ks) in let rest = all_points p ks (λ j c. h j (contains_later k ks j c)) in rw (first, rest) refl)
 
 -- an escape stays an escape
 mirrored_escape : (b : Hunt) → IsLegal b → has_escaped b ≡ true → has_escaped (mirrored b) ≡ true
 unfolding has_escaped
 mirrored_escape b l e =
-    all_points (λ (k : ℕ). not (has_hound (mirrored b) k) || leb (column (mirror_point b.hare)) (column k)) (range_with_len 0 11)
-    (λ k c.
-    let h : k < 11 = range_below 11 k c in
-    ap₂ (λ (x y : Bool). not x || y) (mirrored_on b k h) (ap₂ leb (mirror_column b.hare l.below) (sym (mirror_column k h)))
-    ∙ all_at (λ (k : ℕ). not (has_hound b k) || leb (column b.hare) (column k)) (range_with_len 0 11) (mirror_point k) e (contains_range 11 (mirror_point k) (mirror_below k h)))
+    all_points (λ (k : ℕ). not (has_hound (mirrored b) k) || leb (column (mirror_point b.hare)) (column k))
+    (λ k h. ap₂ (λ (x y : Bool). not x || y) (mirrored_on b k h) (ap₂ leb (mirror_column b.hare l.below) (sym (mirror_column k h)))
+    ∙ at_point (λ (k : ℕ). not (has_hound b k) || leb (column b.hare) (column k)) e (mirror_point k) (mirror_below k h))
 
 mirrored_escaped : (b : Hunt) → IsLegal b → has_escaped (mirrored b) ≡ has_escaped b
 mirrored_escaped b l =
@@ -227,53 +225,43 @@ mirrored_escaped b l =
     (λ e. sym (ap has_escaped (mirrored_twice b l)) ∙ mirrored_escape (mirrored b) (mirrored_legal b l) e)
     (λ e. mirrored_escape b l e)
 
-mirrored_move : (b : Hunt) (a c : ℕ) → IsLegal b → CanGo b a c → CanGo (mirrored b) (mirror_point a) (mirror_point c)
-mirrored_move b a c l h =
-    let la = joined_from a c h.joined in
-    let lc = joined_to a c h.joined in
-    record {
-      joined = mirror_joined a c la lc ∙ h.joined;
-      free = record {
-        hounds = mirrored_at b c lc ∙ h.free.hounds;
-        hare = λ e. h.free.hare (sym (mirror_twice c lc) ∙ ap mirror_point e ∙ mirror_twice b.hare l.below);
-      };
-      hound = λ t. (let w = h.hound t in (mirrored_at b a la ∙ w.0, mirror_ahead a c la lc ∙ w.1));
-      hare = λ t. ap mirror_point (h.hare t);
-    }
+mirrored_may : (x : Bool) (h : List Bool) (r a c : ℕ) → a < 11 → c < 11 → may_go (hunt x h r) a c ≡ true → may_go (mirrored (hunt x h r)) (mirror_point a) (mirror_point c) ≡ true
+mirrored_may true h r a c la lc e = ap₂ (λ (x y : Bool). x && y) (mirrored_at (hunt true h r) a la) (mirror_ahead a c la lc) ∙ e
+mirrored_may false h r a c la lc e = eq-eqb _ _ (ap mirror_point (eqb-true a r e))
 
-mirrored_gone : (b : Hunt) (a c : ℕ) → IsLegal b → CanGo b a c → gone (mirrored b) (mirror_point a) (mirror_point c) ≡ mirrored (gone b a c)
-mirrored_gone b a c l h = elim (cases_Bool b.hounds_move) [
-  | inl t ↦ (
-      let la = joined_from a c h.joined in
-      let lc = joined_to a c h.joined in
-      let x = image_slide false 11 two two_group mirror mirror_in b.hounds a c false true l.eleven la lc in
-      let i : x.0 ≡ mirror_point a = sym (mirror_twice x.0 x.2) ∙ ap mirror_point x.4 in
-      let j : x.1 ≡ mirror_point c = sym (mirror_twice x.1 x.3) ∙ ap mirror_point x.5 in
-      cond-true b.hounds_move (hound_gone (mirrored b) (mirror_point a) (mirror_point c)) (hare_gone (mirrored b) (mirror_point c)) t
-      ∙ same_hunt (hound_gone (mirrored b) (mirror_point a) (mirror_point c)) (mirrored (hound_gone b a c)) refl
-      (sym (x.6 ∙ ap₂ (λ (p q : ℕ). set (set (permute false mirror b.hounds) p false) q true) i j)) refl
-      ∙ sym (ap mirrored (cond-true b.hounds_move (hound_gone b a c) (hare_gone b c) t)))
-  | inr t ↦
-      cond-false b.hounds_move (hound_gone (mirrored b) (mirror_point a) (mirror_point c)) (hare_gone (mirrored b) (mirror_point c)) t
-      ∙ sym (ap mirrored (cond-false b.hounds_move (hound_gone b a c) (hare_gone b c) t))
-]
+mirrored_go : (b : Hunt) (a c : ℕ) → IsLegal b → CanGo b a c → can_go (mirrored b) (mirror_point a) (mirror_point c) ≡ true
+mirrored_go b a c l k =
+    let la = joined_from a c k.joined in
+    let lc = joined_to a c k.joined in
+    let free = free_in b c k.free in
+    and_both _ _ (mirror_joined a c k.joined)
+    (and_both _ _ (free_from (mirrored b) (mirror_point c) (mirrored_at b c lc ∙ free.0) (λ e. free.1 (sym (mirror_twice c lc) ∙ ap mirror_point e ∙ mirror_twice b.hare l.below)))
+    (mirrored_may b.hounds_move b.hounds b.hare a c la lc k.may))
+
+mirrored_gone : (x : Bool) (h : List Bool) (r a c : ℕ) → length h ≡ 11 → a < 11 → c < 11 → gone (mirrored (hunt x h r)) (mirror_point a) (mirror_point c) ≡ mirrored (gone (hunt x h r) a c)
+mirrored_gone true h r a c e la lc =
+    let x = image_slide false 11 two two_group mirror mirror_in h a c false true e la lc in
+    let i : x.0 ≡ mirror_point a = sym (mirror_twice x.0 x.2) ∙ ap mirror_point x.4 in
+    let j : x.1 ≡ mirror_point c = sym (mirror_twice x.1 x.3) ∙ ap mirror_point x.5 in
+    ap (λ (hs : List Bool). hunt false hs (mirror_point r)) (sym (x.6 ∙ ap₂ (λ (p q : ℕ). set (set (permute false mirror h) p false) q true) i j))
+mirrored_gone false h r a c e la lc = refl
 
 -- a move of a board has an image among the moves of the image
 mirrored_moves : (b : Hunt) (m : ℕ) → IsLegal b → can_move b m ≡ true → (n : ℕ) × (can_move (mirrored b) n ≡ true) × (play (mirrored b) n ≡ mirrored (play b m))
-unfolding play
+unfolding play can_move
 mirrored_moves b m l d =
     let a = from_point m in
     let c = to_point m in
-    let h = move_in b m d in
+    let k = move_in b m d in
+    let la = joined_from a c k.joined in
+    let lc = joined_to a c k.joined in
     let n = step_number (mirror_point a) (mirror_point c) in
-    let lc = mirror_below c (joined_to a c h.joined) in
-    let from : from_point n ≡ mirror_point a = from_back (mirror_point a) (mirror_point c) (omega (arith, lc)) in
-    let to : to_point n ≡ mirror_point c = to_back (mirror_point a) (mirror_point c) (omega (arith, lc)) in
-    let image = mirrored b in
-    let move = mirrored_move b a c l h in (
+    let small = mirror_below c lc in
+    let from : from_point n ≡ mirror_point a = from_back (mirror_point a) (mirror_point c) (omega (arith, small)) in
+    let to : to_point n ≡ mirror_point c = to_back (mirror_point a) (mirror_point c) (omega (arith, small)) in (
       n,
-      move_from image n (subst (λ (p : ℕ). CanGo image p (to_point n)) (sym from) (subst (λ (q : ℕ). CanGo image (mirror_point a) q) (sym to) move)),
-      ap₂ (gone image) from to ∙ mirrored_gone b a c l h,
+      ap₂ (can_go (mirrored b)) from to ∙ mirrored_go b a c l k,
+      ap₂ (gone (mirrored b)) from to ∙ mirrored_gone b.hounds_move b.hounds b.hare a c l.eleven la lc,
     )
 
 mirrored_over : (b : Hunt) → IsLegal b → over (mirrored b) ≡ over b
@@ -299,7 +287,7 @@ inverse true = (true, both true, λ b l. mirrored_twice b (legal_in b l))
 
 image_legal : (g : Bool) (b : Hunt) → legal b ≡ true → legal (image g b) ≡ true
 image_legal false b l = l
-image_legal true b l = legal_from (mirrored b) (mirrored_legal b (legal_in b l))
+image_legal true b l = mirrored_is_legal b l
 
 image_over : (g : Bool) (b : Hunt) → legal b ≡ true → over (image g b) ≡ over b
 image_over false b l = refl

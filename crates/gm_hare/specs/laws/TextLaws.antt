@@ -1,19 +1,19 @@
 -- The texts of Hare and Hounds are plain, fit a line, and tell positions and moves apart.
-use Rattle.std.proofs.Common.{◌≡◌, ℕ, ◌<◌, ◌≤◌, Bool, true, false, ◌&&◌, cond, if◌then◌else◌, eqb, leb, eqb-true, eq-eqb, List, [], ◌∷◌, length, get_or, refl, sym, ap, ◌∙◌, arith, zero-add, inl, inr}
+use Rattle.std.proofs.Common.{◌≡◌, ℕ, ◌<◌, ◌≤◌, Bool, true, false, ◌&&◌, cond, if◌then◌else◌, eqb, leb, leb-true, eqb-true, eq-eqb, List, [], ◌∷◌, length, get_or, refl, sym, ap, ◌∙◌, subst, arith, zero-add}
 use Rattle.std.specs.List.{Contains, filter, list_all, range_with_len}
-use Rattle.std.proofs.lemmas.Bool.{cond-true, true≢false, cases_Bool}
+use Rattle.std.proofs.lemmas.Bool.{true≢false, cond-true}
 use Rattle.std.proofs.lemmas.Bool.Decides.{nat_tests}
 use Rattle.std.proofs.lemmas.List.{ext_get_or}
 use Rattle.std.proofs.lemmas.List.FromFn.{length-map-range_with_len, get_or-map-range_with_len}
 use Rattle.gm_game.specs.Shown.{is_plain, IsPlain, IsShown}
 use Rattle.gm_game.proofs.PlainTexts.{plain_map}
-use Rattle.gm_board.specs.laws.Lists.{and_left, and_right, contains_range, filter_to}
+use Rattle.gm_board.specs.laws.Lists.{and_left, and_right, and_both, contains_range, filter_to}
 use Rattle.gm_board.specs.Permutations.{all_at, same_list}
 use Rattle.gm_pieces.specs.Steps.{from_point, to_point}
 use Rattle.gm_pieces.specs.MoveTexts.{AreTexts}
 use Rattle.gm_pieces.specs.laws.TextFacts.{texts_are_shown}
 use Rattle.gm_hare.specs.declared.hunt.Hunt.{Hunt}
-use Rattle.gm_hare.specs.Board.{has_hound, are_joined, numbers_end, hare_and_hounds, hare_rules}
+use Rattle.gm_hare.specs.Board.{legal, has_hound, are_joined, numbers_end, hare_and_hounds, hare_rules}
 use Rattle.gm_hare.specs.laws.PointFacts.{is_step}
 use Rattle.gm_hare.specs.laws.HoundFacts.{same_hunt}
 use Rattle.gm_hare.specs.laws.MoveFacts.{IsLegal, legal_in, move_in, step_below}
@@ -46,31 +46,33 @@ pub point_char : (b : Hunt) (k : ℕ) → k < 11 → get_or (hunt_text b) k 0 �
 point_char b k l = text_at b k (omega arith) ∙ point_at (has_hound b k) k b.hare (if b.hounds_move then 100 else 104) l
 
 hound_by : (x : Bool) (k h : ℕ) → eqb (if x then 100 else (if eqb k h then 104 else 46)) 100 ≡ x
-hound_by true k h = refl
-hound_by false k h = elim (cases_Bool (eqb k h)) [ inl e ↦ rw e refl | inr e ↦ rw e refl ]
+hound_by x k h = grind (arith, nat_tests)
 
 -- the byte of a hound
 pub hound_char : (b : Hunt) (k : ℕ) → k < 11 → eqb (get_or (hunt_text b) k 0) 100 ≡ has_hound b k
 hound_char b k l = ap (λ (n : ℕ). eqb n 100) (point_char b k l) ∙ hound_by (has_hound b k) k b.hare
 
 hare_by : (x : Bool) (k h : ℕ) → eqb (if x then 100 else (if eqb k h then 104 else 46)) 104 ≡ true → k ≡ h
-hare_by true k h e = absurd (true≢false (sym e))
-hare_by false k h e = elim (cases_Bool (eqb k h)) [
-  | inl f ↦ eqb-true k h f
-  | inr f ↦ absurd (true≢false (sym e ∙ ap (λ (x : Bool). eqb (if x then 104 else 46) 104) f))
-]
+hare_by x k h e = grind (arith, nat_tests)
 
 -- a point with the byte of the hare is the hare's
 pub hare_char : (b : Hunt) (k : ℕ) → k < 11 → eqb (get_or (hunt_text b) k 0) 104 ≡ true → k ≡ b.hare
 hare_char b k l e = hare_by (has_hound b k) k b.hare (sym (ap (λ (n : ℕ). eqb n 104) (point_char b k l)) ∙ e)
 
 hare_there : (x : Bool) (k h : ℕ) → x ≡ false → k ≡ h → eqb (if x then 100 else (if eqb k h then 104 else 46)) 104 ≡ true
-hare_there true k h e f = absurd (true≢false e)
-hare_there false k h e f = (let g = eq-eqb k h f in rw g refl)
+hare_there x k h e f = grind (arith, nat_tests)
 
 -- the hare's point has the byte of the hare
 pub hare_at : (b : Hunt) → IsLegal b → eqb (get_or (hunt_text b) b.hare 0) 104 ≡ true
 hare_at b l = ap (λ (n : ℕ). eqb n 104) (point_char b b.hare l.below) ∙ hare_there (has_hound b b.hare) b.hare b.hare l.apart refl
+
+-- the hare is where its text has it
+pub hare_found : (b : Hunt) (k : ℕ) (t : List ℕ) → hunt_text b ≡ t → k < 11 → eqb (get_or t k 0) 104 ≡ true → b.hare ≡ k
+hare_found b k t e l f = sym (hare_char b k l (ap (λ (t : List ℕ). eqb (get_or t k 0) 104) e ∙ f))
+
+-- and its text has it somewhere
+pub hare_somewhere : (b : Hunt) (t : List ℕ) → legal b ≡ true → hunt_text b ≡ t → ((k : ℕ) → k < 11 → eqb (get_or t k 0) 104 ≡ false) → ⊥
+hare_somewhere b t l e f = let h = legal_in b l in true≢false (sym (sym (ap (λ (t : List ℕ). eqb (get_or t b.hare 0) 104) e) ∙ hare_at b h) ∙ f b.hare h.below)
 
 turn_by : (x : Bool) → eqb (if x then 100 else 104) 100 ≡ x
 turn_by true = refl
@@ -101,22 +103,19 @@ texts_table : list_all (λ m. list_all (apart_test m) steps) steps ≡ true
 unfolding are_joined from_point to_point step_text point_name apart_test
 texts_table = refl
 
-same_lists : (xs ys : List ℕ) → xs ≡ ys → same_list xs ys ≡ true
-same_lists [] [] e = refl
-same_lists [] (y ∷ ys) e = absurd (let z : ⊥ = cc in z)
-same_lists (x ∷ xs) [] e = absurd (let z : ⊥ = cc in z)
-same_lists (x ∷ xs) (y ∷ ys) e =
-    let head : x ≡ y = cc in
-    let tail : xs ≡ ys = cc in
-    let first = eq-eqb x y head in let rest = same_lists xs ys tail in rw (first, rest) refl
+same_self : (xs : List ℕ) → same_list xs xs ≡ true
+same_self [] = refl
+same_self (x ∷ xs) = and_both _ _ (eq-eqb x x refl) (same_self xs)
+
+listed : (m : ℕ) → is_step m ≡ true → Contains steps m
+listed m e = filter_to is_step (range_with_len 0 numbers_end) m (contains_range numbers_end m (step_below m e)) e
 
 -- moves with the same text are the same
 pub step_once : (m n : ℕ) → is_step m ≡ true → is_step n ≡ true → step_text m ≡ step_text n → m ≡ n
 unfolding apart_test
 step_once m n e f g =
-    let there : (k : ℕ) → is_step k ≡ true → Contains steps k = λ k h. filter_to is_step (range_with_len 0 numbers_end) k (contains_range numbers_end k (step_below k h)) h in
-    let t = all_at (apart_test m) steps n (all_at (λ (m : ℕ). list_all (apart_test m) steps) steps m texts_table (there m e)) (there n f) in
-    eqb-true m n (sym (cond-true (same_list (step_text m) (step_text n)) (eqb m n) true (same_lists _ _ g)) ∙ t)
+    let t = all_at (apart_test m) steps n (all_at (λ (m : ℕ). list_all (apart_test m) steps) steps m texts_table (listed m e)) (listed n f) in
+    eqb-true m n (sym (cond-true (same_list (step_text m) (step_text n)) (eqb m n) true (subst (λ (t : List ℕ). same_list (step_text m) t ≡ true) g (same_self (step_text m)))) ∙ t)
 
 is_short : ℕ → Bool
 is_short m = leb (length (step_text m)) 5 && list_all is_plain (step_text m)
@@ -126,15 +125,12 @@ unfolding are_joined from_point to_point step_text point_name is_short
 short_table = refl
 
 short : (m : ℕ) → is_step m ≡ true → is_short m ≡ true
-short m e = all_at is_short steps m short_table (filter_to is_step (range_with_len 0 numbers_end) m (contains_range numbers_end m (step_below m e)) e)
-
-five : (n : ℕ) → leb n 5 ≡ true → n ≤ 5
-five n e = grind (arith, nat_tests)
+short m e = all_at is_short steps m short_table (listed m e)
 
 -- the text of a move has at most five bytes
 pub step_short : (m : ℕ) → is_step m ≡ true → length (step_text m) ≤ 5
 unfolding is_short
-step_short m e = five (length (step_text m)) (and_left _ _ (short m e))
+step_short m e = leb-true (length (step_text m)) 5 (and_left _ _ (short m e))
 
 -- the text of a move is plain
 pub step_plain : (m : ℕ) → is_step m ≡ true → IsPlain (step_text m)

@@ -1,28 +1,28 @@
 -- The games of nine points have the laws of a game.
-use Rattle.std.proofs.Common.{◌≡◌, ℕ, ◌+◌, ◌-◌, ◌/◌, ◌^◌, ◌<◌, ◌≤◌, true, false, List, [], ◌∷◌, replicate, length, refl, sym, subst, arith, ltb, ltb-true, leb, leb-true, le-leb, inl, inr}
+use Rattle.std.proofs.Common.{◌≡◌, ℕ, ◌+◌, ◌-◌, ◌/◌, ◌^◌, ◌<◌, ◌≤◌, Bool, true, false, if◌then◌else◌, eqb, List, [], ◌∷◌, replicate, length, refl, sym, subst, arith, ltb, ltb-true, leb, leb-true, le-leb, inl, inr}
 use Rattle.std.specs.List.{Contains}
 use Rattle.std.proofs.lemmas.Bool.{cases_Bool, cond-true, cond-false, cond_both}
-use Rattle.gm_game.specs.Rules.{IsAscending}
-use Rattle.gm_game.specs.Boards.{IsNumbered}
+use Rattle.gm_game.specs.Rules.{at, IsAscending}
+use Rattle.gm_game.specs.Boards.{position_of, IsNumbered}
 use Rattle.gm_board.specs.declared.cell.Cell.{Cell}
 use Rattle.gm_board.specs.declared.cell.Cell.TheVariants.{Empty}
 use Rattle.gm_board.specs.laws.Lists.{contains_cases}
-use Rattle.gm_board.specs.Arrangements.{arrangements, arrangements_fit}
+use Rattle.gm_board.specs.Arrangements.{arrangements, arrangement_index, arrangements_fit}
+use Rattle.gm_board.specs.Binomials.{binomial}
 use Rattle.gm_board.specs.Squares.{square_symmetries}
 use Rattle.gm_pieces.specs.MoveGames.{board_game, IsMoveGame, IsMoveSymmetric}
 use Rattle.gm_pieces.specs.laws.Images.{permuted_group}
 use Rattle.gm_morris.specs.declared.variant.Variant.{Variant}
 use Rattle.gm_morris.specs.declared.variant.Variant.TheVariants.{TicTacToe, ThreeMens, Achi}
 use Rattle.gm_morris.specs.Points.{last_tier, lines}
-use Rattle.gm_board.specs.Cells.{number_of, is_mine}
+use Rattle.gm_board.specs.Cells.{number_of}
 use Rattle.gm_pieces.specs.Sides.{board_index}
-use Rattle.gm_morris.specs.Morris.{mine, theirs, has_line, legal, size_of, child_tiers_of, morris}
+use Rattle.gm_morris.specs.Morris.{mine, theirs, has_line, legal, numbers_end, size_of, child_tiers_of, morris}
 use Rattle.gm_morris.specs.laws.PointFacts.{name_text}
 use Rattle.gm_pieces.specs.laws.NumberFacts.{index_below, board_back, index_back}
-use Rattle.gm_morris.specs.laws.BoardFacts.{pieces_few, group, image_pieces, IsLegal, legal_in, legal_from, legal_numbers, image_legal}
-use Rattle.gm_morris.specs.laws.MoveFacts.{end_fits, steps_few}
-use Rattle.gm_morris.specs.laws.PlayFacts.{play_legal, play_tier, image_over, image_move}
-use Rattle.gm_morris.specs.laws.BeforeFacts.{undone, redone, befores_few}
+use Rattle.gm_morris.specs.laws.BoardFacts.{pieces_few, group, image_pieces, IsLegal, legal_in, legal_numbers, image_legal}
+use Rattle.gm_morris.specs.laws.MoveFacts.{end_by, steps_few, befores_few}
+use Rattle.gm_morris.specs.laws.PlayFacts.{play_legal, play_tier, undone, redone, image_over, image_move}
 
 -- ---- the numbering
 pub size_at : (v : Variant) (t : ℕ) → t ≤ last_tier v → size_of v t ≡ arrangements 9 (t / 2) (t - t / 2)
@@ -63,42 +63,41 @@ numbered v = record {
 }
 
 -- ---- tiers
-child_in : (v : Variant) (t u : ℕ) → Contains (child_tiers_of v t) u → (t < last_tier v) × (t + 1 ≡ u)
+end_fits : (x : Bool) → end_by x ≤ 2 ^ 32
+end_fits true = omega arith
+end_fits false = omega arith
+
+numbers_fit : (v : Variant) (t : ℕ) → numbers_end v t ≤ 2 ^ 32
+unfolding numbers_end
+numbers_fit v t = end_fits (eqb t (last_tier v))
+
+one_child : (x : Bool) (n u : ℕ) → Contains (if x then n ∷ [] else []) u → (x ≡ true) × (n ≡ u)
+one_child true n u c = elim (contains_cases n [] u c) [ inl e ↦ (refl, e) | inr d ↦ absurd (omega (arith, d.1)) ]
+one_child false n u c = absurd (omega (arith, c.1))
+
+child_rank : (v : Variant) (t u : ℕ) → Contains (child_tiers_of v t) u → last_tier v - u < last_tier v - t
 unfolding child_tiers_of
-child_in v t u c = elim (cases_Bool (ltb t (last_tier v))) [
-  | inl e ↦ (
-      let d = subst (λ (xs : List ℕ). Contains xs u) (cond-true _ _ _ e) c in
-      elim (contains_cases (t + 1) [] u d) [
-        | inl f ↦ (ltb-true _ _ e, f)
-        | inr f ↦ absurd (omega (arith, f.1))
-      ])
-  | inr e ↦ absurd (let d = subst (λ (xs : List ℕ). Contains xs u) (cond-false _ _ _ e) c in omega (arith, d.1))
-]
+child_rank v t u c = let h = one_child _ (t + 1) u c in let l = ltb-true t (last_tier v) h.0 in omega (arith, l, h.1)
+
+short : (x : Bool) (n : ℕ) → IsAscending (if x then n ∷ [] else []) × (length (if x then n ∷ [] else []) ≤ 16)
+short true n = (tt, omega arith)
+short false n = (tt, omega arith)
 
 child_list : (v : Variant) (t : ℕ) → IsAscending (child_tiers_of v t) × (length (child_tiers_of v t) ≤ 16)
 unfolding child_tiers_of
-child_list v t = cond_both (ltb t (last_tier v)) ((t + 1) ∷ []) [] (λ (xs : List ℕ). IsAscending xs × (length xs ≤ 16)) (λ e. (tt, omega arith)) (λ e. (tt, omega arith))
+child_list v t = short (ltb t (last_tier v)) (t + 1)
 
 -- ---- the start
-pub no_pieces : (mine (replicate 9 Empty) ≡ 0) × (theirs (replicate 9 Empty) ≡ 0)
-unfolding number_of
-no_pieces = (refl, refl)
-
-no_lines : (v : Variant) → has_line v is_mine (replicate 9 Empty) ≡ false
-unfolding has_line lines
-no_lines TicTacToe = refl
-no_lines ThreeMens = refl
-no_lines Achi = refl
-
 start_legal : (v : Variant) → legal v (replicate 9 Empty) ≡ true
-start_legal v =
-    let n = no_pieces in
-    legal_from v (replicate 9 Empty) (record {
-      cells = refl;
-      half = (let m = n.0 in let t = n.1 in omega (arith, m, t));
-      few = (let m = n.0 in let t = n.1 in omega (arith, m, t));
-      no_line = no_lines v;
-    })
+unfolding legal has_line lines last_tier number_of
+start_legal TicTacToe = refl
+start_legal ThreeMens = refl
+start_legal Achi = refl
+
+-- the position of the empty board
+pub start_is : (v : Variant) → position_of (board_game (morris v)) (replicate 9 Empty) ≡ at 0 0
+unfolding number_of board_index arrangement_index binomial
+start_is v = refl
 
 -- each game's own laws
 pub lawful : (v : Variant) → IsMoveGame (morris v)
@@ -106,10 +105,10 @@ lawful v = record {
   name_length = (name_text v).0;
   name_text = (name_text v).1;
   start_legal = start_legal v;
-  numbers_fit = λ t. end_fits v t;
+  numbers_fit = numbers_fit v;
   moved_legal = λ b m l h. play_legal v b m l h;
   moved_tier = λ b m l h. play_tier v b m l h;
-  child_rank = λ t u c. let h = child_in v t u c in omega (arith, h.0, h.1);
+  child_rank = child_rank v;
   child_tiers_ascending = λ t. (child_list v t).0;
   undone = λ b m l h. undone v b m (legal_in v b l).cells h;
   redone = λ t d m l w k e h. redone v t d m w e;
@@ -125,5 +124,5 @@ symmetric v = record {
   keeps_legal = λ g b c l. image_legal v g b c l;
   keeps_over = λ g b c l. image_over v g b c (legal_in v b l).cells;
   keeps_tier = λ g b c l. image_pieces g b c (legal_in v b l).cells;
-  keeps_move = λ g b m c l h. image_move v g b m c (legal_in v b l).cells h;
+  keeps_move = λ g b m c l h. image_move v g b c (legal_in v b l).cells m h;
 }

@@ -1,138 +1,106 @@
--- Moves of the games of nine points: placements and moves from point to point, and the ends of games.
-use Rattle.std.proofs.Common.{◌≡◌, ◌≢◌, ℕ, ◌+◌, ◌/◌, ◌%◌, ◌^◌, ◌<◌, ◌≤◌, Bool, true, false, ◌&&◌, cond, List, length, get_or, None, Some, ◌⊎◌, inl, inr, refl, sym, ap, ◌∙◌, subst, arith, eqb, eq-eqb}
+-- Moves of the games of nine points: in the last tier a piece goes from point to point, and in any other a piece is placed.
+use Rattle.std.proofs.Common.{◌≡◌, ℕ, ◌+◌, ◌/◌, ◌%◌, ◌<◌, ◌≤◌, Bool, true, false, ◌&&◌, if◌then◌else◌, List, map, length, set, None, Some, refl, arith, eqb}
 use Rattle.std.specs.List.{filter, range_with_len}
-use Rattle.std.proofs.lemmas.Bool.{cases_eq, cases_Bool, cond-true, cond-false, cond_both, ne_eqb}
 use Rattle.gm_game.specs.declared.position.End.TheVariants.{Lose}
 use Rattle.gm_board.specs.declared.cell.Cell.{Cell}
 use Rattle.gm_board.specs.declared.cell.Cell.TheVariants.{Empty, Mine}
-use Rattle.gm_board.specs.laws.Lists.{and_left, and_right, and_both}
+use Rattle.gm_board.specs.laws.Lists.{and_left, and_right}
 use Rattle.gm_board.specs.laws.Filters.{filter_few}
+use Rattle.gm_board.specs.laws.CellCounts.{mine_cell, their_cell, empty_cell}
+use Rattle.gm_board.specs.BoardMasks.{turned}
+use Rattle.gm_board.specs.Cells.{cell_at, is_mine, is_theirs, is_empty}
 use Rattle.gm_pieces.specs.MoveGames.{steps, IsMove}
+use Rattle.gm_pieces.specs.Sides.{brought_back, IsStep, WasStep}
 use Rattle.gm_morris.specs.declared.variant.Variant.{Variant}
 use Rattle.gm_morris.specs.Points.{last_tier, joins}
-use Rattle.gm_board.specs.laws.CellCounts.{mine_cell, empty_cell}
-use Rattle.gm_board.specs.Cells.{is_mine, is_theirs, is_empty}
-use Rattle.gm_pieces.specs.Sides.{IsStep}
-use Rattle.gm_morris.specs.Morris.{mine, theirs, has_line, over, can_move, numbers_end, morris}
+use Rattle.gm_morris.specs.Morris.{mine, theirs, has_line, over, can_move, numbers_end, was_moved, morris}
 use Rattle.gm_morris.specs.laws.PointFacts.{joined_within, joined_few}
 
+-- ---- the rules of moves, by whether the tier is the last
+abbrev pub is_last : Variant → List Cell → Bool
+is_last v b = eqb (mine b + theirs b) (last_tier v)
+
+-- all numbers of moves are below this number
+abbrev pub end_by : Bool → ℕ
+end_by x = if x then 144 else 9
+
+abbrev pub can_by : Variant → Bool → List Cell → ℕ → Bool
+can_by v x b m = if x then (joins v (m / 16) (m % 16) && (is_mine (cell_at b (m / 16)) && is_empty (cell_at b (m % 16)))) else is_empty (cell_at b m)
+
+-- the board after a move, before the roles swap
+abbrev pub left_by : Bool → List Cell → ℕ → List Cell
+left_by x b m = if x then set (set b (m / 16) Empty) (m % 16) Mine else set b m Mine
+
+abbrev pub was_by : Variant → Bool → List Cell → ℕ → Bool
+was_by v x d m = if x then (joins v (m / 16) (m % 16) && (is_theirs (cell_at d (m % 16)) && is_empty (cell_at d (m / 16)))) else is_theirs (cell_at d m)
+
+abbrev pub back_by : Bool → List Cell → ℕ → List Cell
+back_by x d m = if x then brought_back d (m / 16) (m % 16) else set (map turned d) m Empty
+
 -- ---- what a move is
--- a piece moves from point to point in the last tier
-pub record IsSlide (v : Variant) (b : List Cell) (m : ℕ) : Type 0 where
-  pub last : mine b + theirs b ≡ last_tier v
-  pub joined : joins v (m / 16) (m % 16) ≡ true
-  pub here : get_or b (m / 16) Empty ≡ Mine
-  pub free : get_or b (m % 16) Empty ≡ Empty
+pub record CanStep (v : Variant) (x : Bool) (b : List Cell) (m : ℕ) : Type 0 where
+  pub below : m < end_by x
+  pub can : can_by v x b m ≡ true
 
--- a piece is placed in another tier
-pub record IsPlacement (v : Variant) (b : List Cell) (m : ℕ) : Type 0 where
-  pub before : mine b + theirs b ≢ last_tier v
-  pub point : m < 9
-  pub free : get_or b m Empty ≡ Empty
+-- what holds for a move
+pub step_in : (v : Variant) (b : List Cell) (m : ℕ) → IsMove (morris v) b m → CanStep v (is_last v b) b m
+unfolding can_move numbers_end
+step_in v b m h = record { below = h.below; can = h.can }
 
--- the end of the numbers, in the last tier and in any other
-pub last_end : (v : Variant) (t : ℕ) → t ≡ last_tier v → numbers_end v t ≡ 144
-unfolding numbers_end
-last_end v t e = cond-true _ _ _ (eq-eqb _ _ e)
-
-pub other_end : (v : Variant) (t : ℕ) → t ≢ last_tier v → numbers_end v t ≡ 9
-unfolding numbers_end
-other_end v t q = cond-false _ _ _ (ne_eqb _ _ q)
-
-slide_or_place : (v : Variant) (b : List Cell) (m : ℕ) → can_move v b m ≡ true → m < numbers_end v (mine b + theirs b) → IsSlide v b m ⊎ IsPlacement v b m
-unfolding can_move
-slide_or_place v b m e l = elim (cases_eq (mine b + theirs b) (last_tier v)) [
-  | inl q ↦ (
-      let t : eqb (mine b + theirs b) (last_tier v) ≡ true = eq-eqb _ _ q in
-      let f : (joins v (m / 16) (m % 16) && (is_mine (get_or b (m / 16) Empty) && is_empty (get_or b (m % 16) Empty))) ≡ true = sym (cond-true _ _ _ t) ∙ e in
-      let r = and_right _ _ f in
-      inl (record { last = q; joined = and_left _ _ f; here = mine_cell _ (and_left _ _ r); free = empty_cell _ (and_right _ _ r) }))
-  | inr q ↦ (
-      let t : eqb (mine b + theirs b) (last_tier v) ≡ false = ne_eqb _ _ q in
-      let f : is_empty (get_or b m Empty) ≡ true = sym (cond-false _ _ _ t) ∙ e in
-      let n = other_end v (mine b + theirs b) q in
-      inr (record { before = q; point = omega (arith, l, n); free = empty_cell _ f }))
-]
-
--- a move is either from point to point or a placement
-pub step_cases : (v : Variant) (b : List Cell) (m : ℕ) → IsMove (morris v) b m → IsSlide v b m ⊎ IsPlacement v b m
-step_cases v b m h = slide_or_place v b m h.can h.below
-
--- what holds for the two points of a move from point to point
-pub record ArePoints (v : Variant) (m : ℕ) : Type 0 where
-  pub start : m / 16 < 9
-  pub goal : m % 16 < 9
-
-pub slide_points : (v : Variant) (m : ℕ) → joins v (m / 16) (m % 16) ≡ true → ArePoints v m
-slide_points v m e = let w = joined_within v (m / 16) (m % 16) e in record { start = w.0; goal = w.1 }
+-- where the game is not over, that makes it one
+pub step_from : (v : Variant) (b : List Cell) (m : ℕ) → CanStep v (is_last v b) b m → over v b ≡ None → IsMove (morris v) b m
+unfolding can_move numbers_end
+step_from v b m h o = record { below = h.below; not_over = o; can = h.can }
 
 -- a move from point to point is the step of a piece
-pub slide_is_step : (v : Variant) (b : List Cell) (m : ℕ) → length b ≡ 9 → IsSlide v b m → IsStep b (m / 16) (m % 16)
-slide_is_step v b m n h =
-    let w = slide_points v m h.joined in
-    record { from_below = (let l = w.start in omega (arith, l, n)); to_below = (let l = w.goal in omega (arith, l, n)); mine = h.here; free = h.free }
+pub slide_step : (v : Variant) (b : List Cell) (m : ℕ) → length b ≡ 9 → can_by v true b m ≡ true → IsStep b (m / 16) (m % 16)
+slide_step v b m n e =
+    let w = joined_within v (m / 16) (m % 16) (and_left _ _ e) in
+    let r = and_right (joins v (m / 16) (m % 16)) (is_mine (cell_at b (m / 16)) && is_empty (cell_at b (m % 16))) e in
+    record { from_below = omega (arith, w.0, n); to_below = omega (arith, w.1, n); mine = mine_cell _ (and_left _ _ r); free = empty_cell _ (and_right _ _ r) }
 
--- where the game is not over, what holds for a move from point to point makes it one
-pub slide_step : (v : Variant) (b : List Cell) (m : ℕ) → IsSlide v b m → over v b ≡ None → IsMove (morris v) b m
-unfolding can_move
-slide_step v b m h o = record {
-  below = (let n = last_end v (mine b + theirs b) h.last in let w = slide_points v m h.joined in omega (arith, n, w.start));
-  not_over = o;
-  can = cond-true _ _ _ (eq-eqb _ _ h.last) ∙ and_both _ _ h.joined (and_both _ _ (ap is_mine h.here) (ap is_empty h.free));
-}
+-- and so is one that was made
+pub slide_was : (v : Variant) (d : List Cell) (m : ℕ) → was_by v true d m ≡ true → WasStep d (m / 16) (m % 16)
+slide_was v d m e =
+    let r = and_right (joins v (m / 16) (m % 16)) (is_theirs (cell_at d (m % 16)) && is_empty (cell_at d (m / 16))) e in
+    record { there = their_cell _ (and_left _ _ r); left = empty_cell _ (and_right _ _ r) }
 
--- where the game is not over, what holds for a placement makes it one
-pub placement_step : (v : Variant) (b : List Cell) (m : ℕ) → IsPlacement v b m → over v b ≡ None → IsMove (morris v) b m
-unfolding can_move
-placement_step v b m h o = record {
-  below = (let n = other_end v (mine b + theirs b) h.before in omega (arith, n, h.point));
-  not_over = o;
-  can = cond-false _ _ _ (ne_eqb _ _ h.before) ∙ ap is_empty h.free;
-}
-
--- a move fits its number
-pub end_fits : (v : Variant) (t : ℕ) → numbers_end v t ≤ 2 ^ 32
-unfolding numbers_end
-end_fits v t = cond_both (eqb t (last_tier v)) 144 9 (λ (n : ℕ). n ≤ 2 ^ 32) (λ e. omega arith) (λ e. omega arith)
+line_none : (x : Bool) → (if x then Some Lose else None) ≡ None → x ≡ false
+line_none true e = absurd (let z : ⊥ = cc in z)
+line_none false e = refl
 
 -- where the game goes on the opponent has no line
 pub no_line : (v : Variant) (b : List Cell) → over v b ≡ None → has_line v is_theirs b ≡ false
 unfolding over
-no_line v b e = elim (cases_Bool (has_line v is_theirs b)) [
-  | inl f ↦ absurd (let g : Some Lose ≡ None = sym (cond-true _ _ _ f) ∙ e in let z : ⊥ = cc in z)
-  | inr f ↦ f
-]
+no_line v b e = line_none _ e
 
 -- ---- lists of moves
--- whether a number is one of a move of tier t
-unfoldable pub is_number : Variant → ℕ → ℕ → Bool
-is_number v t m = cond (eqb t (last_tier v)) (joins v (m / 16) (m % 16)) true
+-- whether a number is one of a move
+abbrev is_number : Variant → Bool → ℕ → Bool
+is_number v x m = if x then joins v (m / 16) (m % 16) else true
 
--- there are at most 128 such numbers
-pub numbers_few : (v : Variant) (t : ℕ) → length (filter (is_number v t) (range_with_len 0 (numbers_end v t))) ≤ 128
-unfolding is_number
-numbers_few v t = elim (cases_eq t (last_tier v)) [
-  | inl e ↦ (
-      let less = filter_few (is_number v t) (λ m. joins v (m / 16) (m % 16)) (λ m f. sym (cond-true _ _ _ (eq-eqb _ _ e)) ∙ f) (range_with_len 0 144) in
-      let all = joined_few v in
-      subst (λ (n : ℕ). length (filter (is_number v t) (range_with_len 0 n)) ≤ 128) (sym (last_end v t e)) (omega (arith, less, all)))
-  | inr q ↦ (
-      let less = filter_few (is_number v t) (λ m. true) (λ m f. refl) (range_with_len 0 9) in
-      let all : length (filter (λ (m : ℕ). true) (range_with_len 0 9)) ≤ 128 = omega arith in
-      subst (λ (n : ℕ). length (filter (is_number v t) (range_with_len 0 n)) ≤ 128) (sym (other_end v t q)) (omega (arith, less, all)))
-]
+numbers_few : (v : Variant) (x : Bool) → length (filter (λ m. is_number v x m) (range_with_len 0 (end_by x))) ≤ 128
+numbers_few v true = joined_few v
+numbers_few v false = omega arith
 
-can_number : (v : Variant) (b : List Cell) (m : ℕ) → can_move v b m ≡ true → is_number v (mine b + theirs b) m ≡ true
-unfolding can_move is_number
-can_number v b m e = elim (cases_Bool (eqb (mine b + theirs b) (last_tier v))) [
-  | inl t ↦ cond-true _ _ _ t ∙ and_left _ _ (sym (cond-true _ _ _ t) ∙ e)
-  | inr t ↦ cond-false _ _ _ t
-]
+-- at most 128 numbers pass a test that only those of moves pass
+few : (v : Variant) (x : Bool) (p : ℕ → Bool) → ((m : ℕ) → p m ≡ true → is_number v x m ≡ true) → length (filter p (range_with_len 0 (end_by x))) ≤ 128
+few v x p h = let less = filter_few p (λ m. is_number v x m) h (range_with_len 0 (end_by x)) in let all = numbers_few v x in omega (arith, less, all)
 
--- so at most 128 moves can be made
+can_number : (v : Variant) (x : Bool) (b : List Cell) (m : ℕ) → can_by v x b m ≡ true → is_number v x m ≡ true
+can_number v true b m e = and_left _ _ e
+can_number v false b m e = refl
+
+was_number : (v : Variant) (x : Bool) (d : List Cell) (m : ℕ) → was_by v x d m ≡ true → is_number v x m ≡ true
+was_number v true d m e = and_left _ _ e
+was_number v false d m e = refl
+
+-- at most 128 moves can be made
 pub steps_few : (v : Variant) (b : List Cell) → length (steps (morris v) b) ≤ 128
-unfolding steps
-steps_few v b =
-    let t = mine b + theirs b in
-    let few = filter_few (can_move v b) (is_number v t) (can_number v b) (range_with_len 0 (numbers_end v t)) in
-    let all = numbers_few v t in omega (arith, few, all)
+unfolding steps can_move numbers_end
+steps_few v b = few v (is_last v b) (can_by v (is_last v b) b) (can_number v (is_last v b) b)
+
+-- there are at most 128 boards before
+pub befores_few : (v : Variant) (t : ℕ) (d : List Cell) → length (filter (was_moved v t d) (range_with_len 0 (numbers_end v t))) ≤ 128
+unfolding was_moved numbers_end
+befores_few v t d = let x = eqb t (last_tier v) in few v x (was_by v x d) (was_number v x d)

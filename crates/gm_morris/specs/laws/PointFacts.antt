@@ -55,6 +55,9 @@ joined_within TicTacToe a b e = absurd (let z : ⊥ = cc in z)
 joined_within ThreeMens a b e = (ltb-true a 9 (and_left _ _ e), ltb-true b 9 (and_left _ _ (and_right _ _ e)))
 joined_within Achi a b e = (ltb-true a 9 (and_left _ _ e), ltb-true b 9 (and_left _ _ (and_right _ _ e)))
 
+pub joined_to : (v : Variant) (a b : ℕ) → joins v a b ≡ true → b < 9
+joined_to v a b e = (joined_within v a b e).1
+
 -- a test of two points, at all of them below n and m
 abbrev pub at_all : ℕ → ℕ → (ℕ → ℕ → Bool) → Bool
 at_all n m p = list_all (λ a. list_all (p a) (range_with_len 0 m)) (range_with_len 0 n)

@@ -76,16 +76,6 @@ free_without b cs =
     and_false true = refl
     and_false false = refl
 
--- cells of the board that were filled are full
-pub full_with : (b : List Bool) (cs : List ℕ) → ((k : ℕ) → Contains cs k → k < length b) → is_full (with_counters b cs) cs ≡ true
-full_with b cs h =
-    all_cells (has_counter (with_counters b cs)) cs
-    (λ k c. with_at b cs k (h k c) ∙ ap (λ (x : Bool). has_counter b k || x) (among_from k cs c) ∙ or_true (has_counter b k))
-  where
-    or_true : (x : Bool) → (x || true) ≡ true
-    or_true true = refl
-    or_true false = refl
-
 -- free cells that are filled and emptied again leave the board as it was
 pub without_with : (b : List Bool) (cs : List ℕ) → is_free b cs ≡ true → without (with_counters b cs) cs ≡ b
 without_with b cs e =

@@ -1,6 +1,5 @@
-use Rattle.std.proofs.Common.{ℕ, eqb, get_or}
-use Rattle.gm_hare.proofs.HoundSteps.{IsWritten}
+use Rattle.std.proofs.Common.{◌≡◌, ◌<◌, ℕ, false, eqb, length, get_or}
 use Rattle.gm_hare.proofs.text.hounds_in.Given as goal
 
 abbrev pub invariant-loop-place : goal.invariant-loop-place
-invariant-loop-place l = IsWritten (λ (j : ℕ). eqb (get_or l.text j 0) 100) l.place l.hounds
+invariant-loop-place l = record { eleven : length l.hounds ≡ 11; points : (j : ℕ) → j < l.place → get_or l.hounds j false ≡ eqb (get_or l.text j 0) 100 }

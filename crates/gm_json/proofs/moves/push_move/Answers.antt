@@ -3,7 +3,8 @@ use Rattle.std.proofs.lemmas.Result.{on_ok_weaker}
 use Rattle.serde_json.specs.Data.{Members, member, no_members, string}
 use Rattle.serde_json.specs.Written.{members_text}
 use Rattle.gm_json.specs.Parts.{member_text}
-use Rattle.gm_json.specs.Words.{value_word, whole, text}
+use Rattle.gm_play.specs.PlayTexts.{value_word}
+use Rattle.gm_json.specs.Words.{whole, text}
 use Rattle.gm_json.proofs.Writing.{opened, member_next}
 use Rattle.gm_json.proofs.moves.push_move.Goals as goal
 

@@ -4,7 +4,7 @@ use Rattle.std.proofs.lemmas.Result.{on_ok_weaker}
 use Rattle.json.specs.Print.{quoted}
 use Rattle.serde_json.specs.Data.{string}
 use Rattle.gm_json.specs.Parts.{is_clear}
-use Rattle.gm_json.specs.Words.{value_word}
+use Rattle.gm_play.specs.PlayTexts.{value_word}
 use Rattle.gm_json.proofs.Writing.{value_after, word_clear}
 use Rattle.gm_json.proofs.parts.push_value_member.Goals as goal
 

@@ -1,17 +1,21 @@
-use Rattle.std.proofs.Common.{rules}
-use Rattle.std.proofs.lemmas.Result.{IfOk-weaker, IfErr-weaker}
+use Rattle.std.proofs.Common.{subst, rules}
+use Rattle.gm_tierdb.specs.Refusals.{AreRead, HasRecords, records_part}
 use Rattle.gm_tierdb.specs.Seals.{IsSealed}
-use Rattle.gm_tierdb.proofs.SealLemmas.{found_sealed, refused_sealed_of}
+use Rattle.gm_tierdb.proofs.SealLemmas.{sealed_text}
 use Rattle.gm_tierdb.proofs.decode.read_file.Goals as goal
 
-pub returns-clause-found : goal.returns-clause-found
-returns-clause-found g c =
-    let whole = c.in_ok-parts.ensures.ok in
+pub returns-in-Some-clause-found : goal.returns-in-Some-clause-found
+returns-in-Some-clause-found g c =
+    let v = c.args.version in
+    let size = g.G.Game.rules.tier_size c.args.tier in
     let seal : IsSealed c.args.bytes.now = search rules in
-    IfOk-weaker c.read_records.result _ _ (λ x h. found_sealed c.args.version g.G.Game.rules c.args.tier c.args.bytes.now _ _ whole.0 whole.1 whole.3 seal x h) c.read_records.ensures.found
+    sealed_text v g.G.Game.rules c.args.tier c.args.bytes.now c.in_ok-read.ensures.whole seal c.in-Some.records
+    (subst (AreRead v size (records_part v size c.args.bytes.now)) c.in-Some.is c.in_ok-read.ensures.found)
 
-pub returns-clause-refused : goal.returns-clause-refused
-returns-clause-refused g c =
-    let whole = c.in_ok-parts.ensures.ok in
+pub returns-in-None-clause-refused : goal.returns-in-None-clause-refused
+returns-in-None-clause-refused g c =
+    let v = c.args.version in
+    let size = g.G.Game.rules.tier_size c.args.tier in
     let seal : IsSealed c.args.bytes.now = search rules in
-    IfErr-weaker c.read_records.result _ _ (λ e h. refused_sealed_of c.args.version g.G.Game.rules c.args.tier c.args.bytes.now _ _ whole.0 whole.1 whole.3 seal e h) c.read_records.ensures.refused
+    let has : HasRecords v size (records_part v size c.args.bytes.now) = subst (AreRead v size (records_part v size c.args.bytes.now)) c.in-None.is c.in_ok-read.ensures.found in
+    (has.0, sealed_text v g.G.Game.rules c.args.tier c.args.bytes.now c.in_ok-read.ensures.whole seal has.0 has.1)

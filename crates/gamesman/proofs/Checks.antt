@@ -1,0 +1,136 @@
+-- What a check has told so far.
+use Rattle.std.proofs.Common.{◌≡◌, ℕ, suc, ◌<◌, ◌≤◌, ◌↔◌, inl, inr, List, [], ◌∷◌, ◌++◌, length, take, drop, get_or, Option, None, Some, Ok, Err, refl, sym, ap, subst, ◌∙◌, arith, append_assoc, append-nil, drop-cons, take-append-drop}
+use Rattle.std.specs.List.{Contains}
+use Rattle.std.specs.Io.KnownBytes.{Appends, Keeps}
+use Rattle.std.proofs.KnownBytes.{Appends-nil, Appends-trans, Appends-kept}
+use Rattle.gm_game.specs.Rules.{Rules}
+use Rattle.gm_game.proofs.Lists.{contains_none, contains_first, contains_later, contains_cases}
+use Rattle.gm_table.specs.Tables.{TableData, AreTables, Inserts}
+use Rattle.gm_build.specs.Work.{HoldsExactly, HoldsToo}
+use Rattle.gm_build.proofs.StoreLemmas.{holds_too}
+use Rattle.gm_play.specs.Sessions.{AppendsPart}
+use Rattle.gm_play.proofs.Parts.{part_after}
+use Rattle.gamesman.specs.declared.fault.Fault.{Fault}
+use Rattle.gamesman.specs.declared.finding.Finding.{Finding}
+use Rattle.gamesman.specs.declared.finding.Finding.TheVariants.{Right, Missing, NotChecked, NoFile, NoTable}
+use Rattle.gamesman.specs.Told.{IsMemoryFault}
+use Rattle.gamesman.specs.Checking.{finding_line, right_with, status_with, IsFinding, IsFoundAfter, IsTableFor, AreLines, IsUnread, IsUnreadAt, IsTierCut, IsCheckCut, IsCheckOf}
+
+-- no tier is right before the first
+pub none_held : HoldsExactly [] []
+none_held tier = (λ held. absurd (cc), λ has. absurd (contains_none tier has))
+
+-- a table that is inserted is held with those that were
+pub one_more_held : (old new : List TableData) (table : TableData) (tier : ℕ) (right : List ℕ) → table.tier ≡ tier → Inserts old new table → HoldsExactly old right → HoldsExactly new (tier ∷ right)
+one_more_held old new table tier right is inserts held t =
+    let too = holds_too old new table tier is inserts t in (
+      λ h. elim (too.0 h) [ inl before ↦ contains_later tier t right ((held t).0 before) | inr e ↦ subst (Contains (tier ∷ right)) e (contains_first tier right) ],
+      λ has. too.1 (elim (contains_cases tier t right has) [ inl e ↦ inr e | inr later ↦ inl ((held t).1 later) ]),
+    )
+
+-- the tables that are held, after one more tier whose table is at hand
+pub held_with : (old new : List TableData) (tier : ℕ) (finding : Finding) (table : TableData) (right : List ℕ) → IsTableFor tier finding (Some table) → Inserts old new table → HoldsExactly old right
+    → HoldsExactly new (right_with tier finding right)
+held_with old new tier Right table right is inserts held = one_more_held old new table tier right is inserts held
+held_with old new tier Missing table right is inserts held = absurd (cc)
+held_with old new tier NotChecked table right is inserts held = absurd (cc)
+held_with old new tier (NoFile why) table right is inserts held = absurd (cc)
+held_with old new tier (NoTable why) table right is inserts held = absurd (cc)
+
+-- the lines of these tiers are told, and those of more tiers go on from here
+abbrev pub Continues : Rules → List ℕ → List ℕ → List ℕ → ℕ → Type 0
+Continues r done out right status = (tiers rest : List ℕ) (ends : ℕ) → AreLines r right status tiers rest ends → AreLines r [] 0 (done ++ tiers) (out ++ rest) ends
+
+continues_next : (r : Rules) (done out right : List ℕ) (status tier : ℕ) (finding : Finding) → IsFoundAfter r right tier finding → Continues r done out right status
+    → Continues r (done ++ tier ∷ []) (out ++ finding_line tier finding) (right_with tier finding right) (status_with status finding)
+continues_next r done out right status tier finding found so_far tiers rest ends are =
+    let line = finding_line tier finding in
+    let h = so_far (tier ∷ tiers) (line ++ rest) ends (finding, rest, found, are, refl) in
+    subst (λ (ts : List ℕ). AreLines r [] 0 ts ((out ++ line) ++ rest) ends) (sym (append_assoc done (tier ∷ []) tiers))
+    (subst (λ (o : List ℕ). AreLines r [] 0 (done ++ tier ∷ tiers) o ends) (sym (append_assoc out line rest)) h)
+
+-- all lines of these tiers
+continues_none : (r : Rules) (done out right : List ℕ) (status : ℕ) → Continues r done out right status → AreLines r [] 0 done out status
+continues_none r done out right status so_far =
+    subst (λ (ts : List ℕ). AreLines r [] 0 ts out status) (append-nil done)
+    (subst (λ (o : List ℕ). AreLines r [] 0 (done ++ []) o status) (append-nil out) (so_far [] [] status (refl, refl)))
+
+-- the lines of these tiers are written, and the tables of those that are right are held
+pub record IsToldTo (r : Rules) (done : List ℕ) (before after : Option (List ℕ)) (entries : List TableData) (status : ℕ) : Type 0 where
+  pub out : List ℕ
+  pub right : List ℕ
+  pub written : Appends before after out
+  pub held : HoldsExactly entries right
+  pub continues : Continues r done out right status
+
+memory_unread : (left : List ℕ) (fault : Fault) → IsMemoryFault fault → IsUnread left fault
+memory_unread [] fault is = is
+memory_unread (tier ∷ tiers) fault is = inl is
+
+module _ (r : Rules) (entries : List TableData) (done : List ℕ) (tier status : ℕ) (a b c : Option (List ℕ)) (are : AreTables r entries) (so_far : IsToldTo r done a b entries status) where
+  found_after : (finding : Finding) → IsFinding r entries tier finding → IsFoundAfter r so_far.right tier finding
+  found_after finding is = (entries, are, so_far.held, is)
+
+  -- one more line
+  pub told_next : (new : List TableData) (finding : Finding) → IsFinding r entries tier finding → Appends b c (finding_line tier finding)
+      → ((right : List ℕ) → HoldsExactly entries right → HoldsExactly new (right_with tier finding right)) → IsToldTo r (done ++ tier ∷ []) a c new (status_with status finding)
+  told_next new finding is line held = record {
+    out = so_far.out ++ finding_line tier finding;
+    right = right_with tier finding so_far.right;
+    written = Appends-trans a b c so_far.out (finding_line tier finding) so_far.written line;
+    held = held so_far.right so_far.held;
+    continues = continues_next r done so_far.out so_far.right status tier finding (found_after finding is) so_far.continues;
+  }
+
+  lines_next : (finding : Finding) → IsFinding r entries tier finding → AreLines r [] 0 (done ++ tier ∷ []) (so_far.out ++ finding_line tier finding) (status_with status finding)
+  lines_next finding is =
+      continues_none r (done ++ tier ∷ []) (so_far.out ++ finding_line tier finding) (right_with tier finding so_far.right) (status_with status finding)
+      (continues_next r done so_far.out so_far.right status tier finding (found_after finding is) so_far.continues)
+
+  -- the check ends at a tier
+  pub cut_at : (tiers left : List ℕ) (fault : Fault) → tiers ≡ done ++ tier ∷ left → IsTierCut r entries tier b c fault → IsCheckCut r tiers a c fault
+  cut_at tiers left fault split (inl (unread, keeps)) = record {
+    done = done;
+    left = tier ∷ left;
+    split = split;
+    out = so_far.out;
+    status = status;
+    lines = continues_none r done so_far.out so_far.right status so_far.continues;
+    written = inr (unread, Appends-kept a b c so_far.out so_far.written keeps);
+  }
+  cut_at tiers left fault split (inr (finding, is, inl (failed, part))) = record {
+    done = done ++ tier ∷ [];
+    left = left;
+    split = split ∙ sym (append_assoc done (tier ∷ []) left);
+    out = so_far.out ++ finding_line tier finding;
+    status = status_with status finding;
+    lines = lines_next finding is;
+    written = inl (failed, part_after a b c so_far.out (finding_line tier finding) so_far.written part);
+  }
+  cut_at tiers left fault split (inr (finding, is, inr (memory, line))) = record {
+    done = done ++ tier ∷ [];
+    left = left;
+    split = split ∙ sym (append_assoc done (tier ∷ []) left);
+    out = so_far.out ++ finding_line tier finding;
+    status = status_with status finding;
+    lines = lines_next finding is;
+    written = inr (memory_unread left fault memory, Appends-trans a b c so_far.out (finding_line tier finding) so_far.written line);
+  }
+
+-- all lines are written
+pub told_all : (r : Rules) (tiers : List ℕ) (a b : Option (List ℕ)) (entries : List TableData) (status : ℕ) → IsToldTo r tiers a b entries status → IsCheckOf r tiers a b (Ok status)
+told_all r tiers a b entries status so_far = (so_far.out, continues_none r tiers so_far.out so_far.right status so_far.continues, so_far.written)
+
+-- none is
+pub told_none : (r : Rules) (a : Option (List ℕ)) (entries : List TableData) → HoldsExactly entries [] → IsToldTo r [] a a entries 0
+told_none r a entries held = record {
+  out = [];
+  right = [];
+  written = Appends-nil a;
+  held = held;
+  continues = λ tiers rest ends are. are;
+}
+
+-- a list up to a place, what stands there, and the rest
+pub split_at : (tiers : List ℕ) (k : ℕ) → k < length tiers → tiers ≡ take k tiers ++ get_or tiers k 0 ∷ drop (suc k) tiers
+split_at tiers k inside = sym (take-append-drop k tiers) ∙ ap (λ (l : List ℕ). take k tiers ++ l) (drop-cons tiers k 0 inside)

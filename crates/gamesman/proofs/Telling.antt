@@ -1,0 +1,151 @@
+-- What is left of an answer about all of a game after a fault, and the tables that it rests on.
+use Rattle.std.proofs.Common.{◌≡◌, ℕ, suc, true, false, nat_eq, inl, inr, List, Option, None, Some, Result, Ok, Err, IfErr, refl, sym, subst, ◌∙◌, eqb-true, eq-eqb}
+use Rattle.std.specs.Prelude.{IsErrOf}
+use Rattle.std.specs.Result.{IsErrAnd}
+use Rattle.std.specs.List.{Contains, list_any}
+use Rattle.gm_game.proofs.Lists.{any_in, any_from}
+use Rattle.gm_game.specs.Rules.{Rules}
+use Rattle.gm_table.specs.Tables.{TableData}
+use Rattle.gm_tiers.specs.Orders.{IsOrderFrom}
+use Rattle.gm_build.specs.Work.{HoldsExactly}
+use Rattle.gm_find.specs.declared.find_error.FindError.{FindError}
+use Rattle.gm_find.specs.declared.find_error.FindError.TheVariants.{OutOfMemory as NoRoom, NotHeld}
+use Rattle.gm_find.specs.Finding.{AreTiersHeld}
+use Rattle.gm_command.specs.declared.requests.Search.{Search}
+use Rattle.gm_command.specs.declared.requests.Search.TheVariants.{Find, Counts, Longest, Ask}
+use Rattle.gamesman.specs.declared.fault.Fault.{Fault}
+use Rattle.gamesman.specs.declared.fault.Fault.TheVariants.{NoSuchGame, NoSuchPosition, NoSuchPositionInLine, NoSuchTier, NoSuchIndex, NotLegal, NotCanonical, OutOfMemory, NotBuilt, AnotherGames, InputFailed, OutputFailed, OutputClosed, TooMuchInput}
+use Rattle.gamesman.specs.Outputs.{IsCutOff}
+use Rattle.gamesman.specs.Refusals.{IsUnbuilt}
+use Rattle.gamesman.specs.Told.{IsMemoryFault, IsFindFault, IsNoTier, IsNoPlace, IsUnknown, IsPut, IsTold}
+use Rattle.gamesman.specs.Games.{GameSpec}
+use Rattle.gamesman.specs.Searches.{IsUnsearched, first_of, tier_asked, IsCountsOf, IsLongestOf, IsSearched}
+use Rattle.gamesman.proofs.Cut.{kept, cut_off, unbuilt_cut}
+
+module _ (IsText : List ℕ → Type 0) (o : Option (List ℕ)) where
+  memory_cut : (fault : Fault) → IsMemoryFault fault → IsCutOff IsText o o fault
+  memory_cut NoSuchGame is = absurd is
+  memory_cut NoSuchPosition is = absurd is
+  memory_cut (NoSuchPositionInLine line) is = absurd is
+  memory_cut (NoSuchTier t) is = absurd is
+  memory_cut (NoSuchIndex t i) is = absurd is
+  memory_cut (NotLegal t i) is = absurd is
+  memory_cut (NotCanonical t i) is = absurd is
+  memory_cut (OutOfMemory error) is = kept o
+  memory_cut (NotBuilt error) is = absurd is
+  memory_cut (AnotherGames t) is = absurd is
+  memory_cut InputFailed is = absurd is
+  memory_cut OutputFailed is = absurd is
+  memory_cut OutputClosed is = absurd is
+  memory_cut TooMuchInput is = absurd is
+
+  no_tier_cut : (r : Rules) (tier : ℕ) (fault : Fault) → IsNoTier r tier fault → IsCutOff IsText o o fault
+  no_tier_cut r tier NoSuchGame is = absurd is
+  no_tier_cut r tier NoSuchPosition is = absurd is
+  no_tier_cut r tier (NoSuchPositionInLine line) is = absurd is
+  no_tier_cut r tier (NoSuchTier t) is = kept o
+  no_tier_cut r tier (NoSuchIndex t i) is = absurd is
+  no_tier_cut r tier (NotLegal t i) is = absurd is
+  no_tier_cut r tier (NotCanonical t i) is = absurd is
+  no_tier_cut r tier (OutOfMemory error) is = absurd is
+  no_tier_cut r tier (NotBuilt error) is = absurd is
+  no_tier_cut r tier (AnotherGames t) is = absurd is
+  no_tier_cut r tier InputFailed is = absurd is
+  no_tier_cut r tier OutputFailed is = absurd is
+  no_tier_cut r tier OutputClosed is = absurd is
+  no_tier_cut r tier TooMuchInput is = absurd is
+
+  no_place_cut : (r : Rules) (tier index : ℕ) (fault : Fault) → IsNoPlace r tier index fault → IsCutOff IsText o o fault
+  no_place_cut r tier index NoSuchGame is = absurd is
+  no_place_cut r tier index NoSuchPosition is = absurd is
+  no_place_cut r tier index (NoSuchPositionInLine line) is = absurd is
+  no_place_cut r tier index (NoSuchTier t) is = kept o
+  no_place_cut r tier index (NoSuchIndex t i) is = kept o
+  no_place_cut r tier index (NotLegal t i) is = kept o
+  no_place_cut r tier index (NotCanonical t i) is = kept o
+  no_place_cut r tier index (OutOfMemory error) is = absurd is
+  no_place_cut r tier index (NotBuilt error) is = absurd is
+  no_place_cut r tier index (AnotherGames t) is = absurd is
+  no_place_cut r tier index InputFailed is = absurd is
+  no_place_cut r tier index OutputFailed is = absurd is
+  no_place_cut r tier index OutputClosed is = absurd is
+  no_place_cut r tier index TooMuchInput is = absurd is
+
+  unknown_cut : (r : Rules) (tier : ℕ) (fault : Fault) → IsUnknown r tier fault → IsCutOff IsText o o fault
+  unknown_cut r tier fault (inl is) = unbuilt_cut IsText o r r.initial.tier fault is
+  unknown_cut r tier fault (inr is) = no_tier_cut r tier fault is
+
+  unsearched_cut : (r : Rules) (tier : Option ℕ) (fault : Fault) → IsUnsearched r tier fault → IsCutOff IsText o o fault
+  unsearched_cut r None fault (inl is) = absurd is
+  unsearched_cut r (Some tier) fault (inl is) = unknown_cut r tier fault is
+  unsearched_cut r tier fault (inr is) = unbuilt_cut IsText o r (first_of r tier) fault is
+
+  module _ (IsWhy : Fault → Type 0) (fault : Fault) (why : IsWhy fault) where
+    -- nothing is written where memory is refused
+    pub memory_told : IsMemoryFault fault → IsTold IsText IsWhy o o (Err fault)
+    memory_told is = record { written = memory_cut fault is; refused = inr why }
+
+    -- nor where no table is built
+    pub unbuilt_told : (r : Rules) (first : ℕ) → IsUnbuilt r first fault → IsTold IsText IsWhy o o (Err fault)
+    unbuilt_told r first is = record { written = unbuilt_cut IsText o r first fault is; refused = inr why }
+
+    -- nor where the tier is not known to be one of the game
+    pub unknown_told : (r : Rules) (tier : ℕ) → IsUnknown r tier fault → IsTold IsText IsWhy o o (Err fault)
+    unknown_told r tier is = record { written = unknown_cut r tier fault is; refused = inr why }
+
+    -- nor where nothing canonical stands at a place
+    pub no_place_told : (r : Rules) (tier index : ℕ) → IsNoPlace r tier index fault → IsTold IsText IsWhy o o (Err fault)
+    no_place_told r tier index is = record { written = no_place_cut r tier index fault is; refused = inr why }
+
+  -- nor where no table is had
+  pub unsearched_told : (r : Rules) (tier : Option ℕ) (fault : Fault) → IsUnsearched r tier fault → IsTold IsText (IsUnsearched r tier) o o (Err fault)
+  unsearched_told r tier fault is = record { written = unsearched_cut r tier fault is; refused = inr is }
+
+-- refused memory is a reason for which tables are not built
+pub memory_unbuilt : (r : Rules) (first : ℕ) (fault : Fault) → IsMemoryFault fault → IsUnbuilt r first fault
+memory_unbuilt r first NoSuchGame is = absurd is
+memory_unbuilt r first NoSuchPosition is = absurd is
+memory_unbuilt r first (NoSuchPositionInLine line) is = absurd is
+memory_unbuilt r first (NoSuchTier t) is = absurd is
+memory_unbuilt r first (NoSuchIndex t i) is = absurd is
+memory_unbuilt r first (NotLegal t i) is = absurd is
+memory_unbuilt r first (NotCanonical t i) is = absurd is
+memory_unbuilt r first (OutOfMemory error) is = tt
+memory_unbuilt r first (NotBuilt error) is = absurd is
+memory_unbuilt r first (AnotherGames t) is = absurd is
+memory_unbuilt r first InputFailed is = absurd is
+memory_unbuilt r first OutputFailed is = absurd is
+memory_unbuilt r first OutputClosed is = absurd is
+memory_unbuilt r first TooMuchInput is = absurd is
+
+-- a text that is written is what is to be told
+pub put_told : (IsText : List ℕ → Type 0) (IsWhy : Fault → Type 0) (text : List ℕ) (before after : Option (List ℕ)) (result : Result ℕ Fault) → IsText text → IsPut text before after result
+    → IsTold IsText IsWhy before after result
+put_told IsText IsWhy text before after (Ok status) is (done, put) = record { written = (done, (text, is, put)); refused = tt }
+put_told IsText IsWhy text before after (Err fault) is (failed, part) = record { written = cut_off IsText before after fault text failed is part; refused = inl failed }
+
+-- where all tables are held a search fails for want of memory alone
+pub find_passed : {T U : Type 0} → (m : Result T Fault) (f : Result U FindError) (error : FindError) → f ≡ Err error → (IsErrOf f NotHeld → ⊥) → IsErrAnd m (IsFindFault error) → IfErr m IsMemoryFault
+find_passed (Ok x) f error e held h = tt
+find_passed (Err y) f NoRoom e held h = h
+find_passed (Err y) f NotHeld e held h = absurd (held e)
+
+-- a tier that a test finds in a list is there, and one that it does not find is not
+pub listed : (tiers : List ℕ) (tier : ℕ) → list_any (λ y. nat_eq y tier) tiers ≡ true → Contains tiers tier
+listed tiers tier e = let (y, has, s) = any_in (λ (y : ℕ). nat_eq y tier) tiers e in subst (Contains tiers) (eqb-true y tier s) has
+
+pub unlisted : (tiers : List ℕ) (tier : ℕ) → list_any (λ y. nat_eq y tier) tiers ≡ false → Contains tiers tier → ⊥
+unlisted tiers tier e has = let f : true ≡ false = sym (any_from (λ (y : ℕ). nat_eq y tier) tiers tier has (eq-eqb tier tier refl)) ∙ e in absurd (cc)
+
+-- the tables of all tiers of an order are held, and so are those of their child tiers
+pub tiers_held : (r : Rules) (entries : List TableData) (order : List ℕ) (first : ℕ) → IsOrderFrom r first order → HoldsExactly entries order → AreTiersHeld r entries order
+tiers_held r entries order first is held tier has =
+    let (n, reached) = (is.each tier).0 has in
+    ((held tier).1 has, λ child below. (held child).1 ((is.each child).1 (suc n, (tier, reached, below))))
+
+-- a question about all tables of a game is answered where no table is had
+pub unsearched : (g : GameSpec) (asked : Search) (o : Option (List ℕ)) (fault : Fault) → IsUnsearched g.rules (tier_asked asked) fault → IsSearched g asked o o (Err fault)
+unsearched g (Find positions) o fault is = tt
+unsearched g (Counts asked) o fault is = unsearched_told (IsCountsOf g.rules asked) o g.rules None fault is
+unsearched g (Longest reached limit) o fault is = unsearched_told (IsLongestOf g.rules g.shown g.move_shown reached limit) o g.rules None fault is
+unsearched g (Ask asked) o fault is = tt

@@ -1,0 +1,9 @@
+use Rattle.std.proofs.Common.{inl}
+use Rattle.std.proofs.lemmas.Result.{err_from_is_err_and}
+use Rattle.gamesman.proofs.Cut.{kept}
+use Rattle.gamesman.proofs.check.check.Goals as goal
+
+pub returns-in_err-order : goal.returns-in_err-order
+returns-in_err-order g c =
+    let q = err_from_is_err_and c.from_residual.result c.from_residual.ensures.1 in
+    rw (q.1, q.2) (inl (c.in_err-order.ensures.unbuilt, kept (g.O.Write.contents c.args.output.now)))

@@ -1,0 +1,49 @@
+use Rattle.std.proofs.Common.{ℕ, suc, List, take, drop, get_or, sym, subst}
+use Rattle.std.proofs.lemmas.List.{take_more, take_all}
+use Rattle.std.proofs.lemmas.List.Elements.{Contains-get_or}
+use Rattle.std.proofs.lemmas.Result.{err_from_is_err_and}
+use Rattle.gamesman.proofs.Checks.{IsToldTo, told_none, told_next, told_all, cut_at, split_at}
+use Rattle.gamesman.proofs.check.check_tiers.Goals as goal
+
+pub loop-tier-init : goal.loop-tier-init
+loop-tier-init g c = told_none g.G.Game.rules (g.O.Write.contents c.args.output.now) c.args.tables.now c.requires.none
+
+pub check_tier-requires-clause-small : goal.check_tier-requires-clause-small
+check_tier-requires-clause-small g c = λ κs lives.
+    let tiers = c.args.tiers.now in
+    let k = c.loop-tier.tier-index in
+    c.requires.small (get_or tiers k 0) (Contains-get_or tiers k 0 c.loop-tier-test.true)
+
+pub loop-tier-preserved : goal.loop-tier-preserved
+loop-tier-preserved g c =
+    let r = g.G.Game.rules in
+    let tiers = c.args.tiers.now in
+    let k = c.loop-tier.tier-index in
+    let start = g.O.Write.contents c.args.output.now in
+    let old = g.O.Write.contents c.loop-tier.output in
+    let new = g.O.Write.contents c.check_tier.new.output in
+    let e = c.in_ok-finding.ensures in
+    subst (λ (ts : List ℕ). IsToldTo r ts start new c.check_tier.new.tables c.status-status.result) (sym (take_more tiers k 0 c.loop-tier-test.true))
+    (rw c.status-status.ensures (told_next r c.loop-tier.tables (take k tiers) (get_or tiers k 0) c.loop-tier.status start old new c.check_tier.ensures.tables c.loop-tier.invariant
+    c.check_tier.new.tables c.in_ok-finding.finding e.found e.told e.held))
+
+pub returns-in_err-finding : goal.returns-in_err-finding
+returns-in_err-finding g c =
+    let r = g.G.Game.rules in
+    let tiers = c.args.tiers.now in
+    let k = c.loop-tier.tier-index in
+    let start = g.O.Write.contents c.args.output.now in
+    let old = g.O.Write.contents c.loop-tier.output in
+    let new = g.O.Write.contents c.check_tier.new.output in
+    let q = err_from_is_err_and c.from_residual.result c.from_residual.ensures.1 in
+    rw (q.1, q.2) (cut_at r c.loop-tier.tables (take k tiers) (get_or tiers k 0) c.loop-tier.status start old new c.check_tier.ensures.tables c.loop-tier.invariant tiers (drop (suc k) tiers)
+    c.in_err-finding.field-0.0 (split_at tiers k c.loop-tier-test.true) c.in_err-finding.ensures.cut)
+
+pub returns : goal.returns
+returns g c =
+    let r = g.G.Game.rules in
+    let tiers = c.args.tiers.now in
+    let start = g.O.Write.contents c.args.output.now in
+    let end = g.O.Write.contents c.loop-tier.output in
+    told_all r tiers start end c.loop-tier.tables c.loop-tier.status
+    (subst (λ (ts : List ℕ). IsToldTo r ts start end c.loop-tier.tables c.loop-tier.status) (take_all c.loop-tier.tier-index tiers c.loop-tier-test.false) c.loop-tier.invariant)

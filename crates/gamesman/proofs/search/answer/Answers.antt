@@ -1,0 +1,7 @@
+use Rattle.gamesman.proofs.search.answer.Goals as goal
+
+pub write_counts-requires-clause-order : goal.write_counts-requires-clause-order
+write_counts-requires-clause-order g c = rw c.in-Counts.is at c.requires.order
+
+pub write_longest-requires-clause-order : goal.write_longest-requires-clause-order
+write_longest-requires-clause-order g c = rw c.in-Longest.is at c.requires.order

@@ -1,0 +1,142 @@
+-- What `check` tells of the files of a game.
+use Rattle.std.specs.Prelude.{◌≡◌, ℕ, ◌⊎◌, List, [], ◌∷◌, ◌++◌, codes, Option, None, Some, Result, Ok, Err}
+use Rattle.std.specs.Result.{IsErrAnd}
+use Rattle.std.specs.Fmt.{decimal}
+use Rattle.std.specs.Io.KnownBytes.{Keeps, Appends}
+use Rattle.gm_game.specs.Rules.{Rules}
+use Rattle.gm_table.specs.declared.checker.CheckError.TheVariants.{OutOfMemory as NoRoom, WrongSize, WrongRecord}
+use Rattle.gm_table.specs.Tables.{TableData, AreTables, AreHeld}
+use Rattle.gm_tiers.specs.Orders.{IsTierOrder}
+use Rattle.gm_tierdb.specs.declared.file_error.FileError.{FileError}
+use Rattle.gm_tierdb.specs.declared.file_error.FileError.TheVariants.{OutOfMemory, Truncated, BadMagic, WrongGame, WrongTier, WrongSize as OtherSize, BadRecord, Trailing, BadDigest, OldVersion}
+use Rattle.gm_tierdb.specs.Refusals.{Refuses}
+use Rattle.gm_entry.specs.TrueTexts.{IsTrueText}
+use Rattle.gm_entry.specs.Inspections.{IsUntrueText}
+use Rattle.gm_build.specs.declared.build_error.BuildError.TheVariants.{StoreFailed}
+use Rattle.gm_build.specs.Work.{HoldsExactly}
+use Rattle.gm_play.specs.Sessions.{AppendsPart}
+use Rattle.gamesman.specs.declared.fault.Fault.{Fault}
+use Rattle.gamesman.specs.declared.fault.Fault.TheVariants.{NotBuilt}
+use Rattle.gamesman.specs.declared.finding.Finding.{Finding}
+use Rattle.gamesman.specs.declared.finding.Finding.TheVariants.{Right, Missing, NotChecked, NoFile, NoTable}
+use Rattle.gamesman.specs.Outputs.{IsOutputFault}
+use Rattle.gamesman.specs.Refusals.{IsUnbuilt}
+use Rattle.gamesman.specs.Told.{IsMemoryFault}
+
+-- the words for why bytes are no file of a tier
+abbrev pub file_words : FileError → List ℕ
+file_words OutOfMemory = codes "out of memory"
+file_words Truncated = codes "truncated"
+file_words BadMagic = codes "bad magic"
+file_words WrongGame = codes "wrong game"
+file_words WrongTier = codes "wrong tier"
+file_words OtherSize = codes "wrong size"
+file_words (BadRecord index) = codes "bad record " ++ decimal index
+file_words Trailing = codes "trailing bytes"
+file_words BadDigest = codes "bad digest"
+file_words OldVersion = codes "old version"
+
+-- the words for what a tier's file is found to be
+abbrev pub finding_words : Finding → List ℕ
+finding_words Right = codes "ok"
+finding_words Missing = codes "missing"
+finding_words NotChecked = codes "not checked"
+finding_words (NoFile why) = codes "bad: " ++ file_words why
+finding_words (NoTable (WrongRecord index)) = codes "bad: wrong record " ++ decimal index
+finding_words (NoTable WrongSize) = codes "bad: wrong size"
+finding_words (NoTable NoRoom) = codes "bad: wrong size"
+
+-- the line for a tier
+abbrev pub finding_line : ℕ → Finding → List ℕ
+finding_line tier finding = ((codes "tier " ++ decimal tier) ++ codes " ") ++ finding_words finding ++ codes "\n"
+
+module _ (r : Rules) (entries : List TableData) (tier : ℕ) where
+  -- what these bytes are found to be, over the tables of the child tiers
+  abbrev pub IsFoundIn : List ℕ → Finding → Type 0
+  IsFoundIn bytes Right = IsTrueText r tier bytes
+  IsFoundIn bytes Missing = ⊥
+  IsFoundIn bytes NotChecked = ⊥
+  IsFoundIn bytes (NoFile why) = Refuses r tier bytes why × (IsTrueText r tier bytes → ⊥)
+  IsFoundIn bytes (NoTable why) = IsUntrueText r entries tier bytes why × (IsTrueText r tier bytes → ⊥)
+
+  -- what the bytes that were read are found to be, if any were
+  abbrev pub IsFoundOf : Option (List ℕ) → Finding → Type 0
+  IsFoundOf None finding = finding ≡ Missing
+  IsFoundOf (Some bytes) finding = IsFoundIn bytes finding
+
+  -- what a tier's file is found to be: it is read exactly where the tables of all child tiers are held
+  abbrev pub IsFinding : Finding → Type 0
+  IsFinding finding = ((finding ≡ NotChecked) × (AreHeld r entries tier → ⊥)) ⊎ (AreHeld r entries tier × ((read : Option (List ℕ)) × IsFoundOf read finding))
+
+-- the tier's table is at hand exactly where it is right
+abbrev pub IsTableFor : ℕ → Finding → Option TableData → Type 0
+IsTableFor tier Right None = ⊥
+IsTableFor tier Right (Some table) = table.tier ≡ tier
+IsTableFor tier Missing table = table ≡ None
+IsTableFor tier NotChecked table = table ≡ None
+IsTableFor tier (NoFile why) table = table ≡ None
+IsTableFor tier (NoTable why) table = table ≡ None
+
+-- the tiers that are right, after one more tier
+abbrev pub right_with : ℕ → Finding → List ℕ → List ℕ
+right_with tier Right right = tier ∷ right
+right_with tier Missing right = right
+right_with tier NotChecked right = right
+right_with tier (NoFile why) right = right
+right_with tier (NoTable why) right = right
+
+-- the status to end with, after one more tier: 1 unless all tiers are right
+abbrev pub status_with : ℕ → Finding → ℕ
+status_with status Right = status
+status_with status Missing = 1
+status_with status NotChecked = 1
+status_with status (NoFile why) = 1
+status_with status (NoTable why) = 1
+
+-- what a tier's file is found to be, where exactly these tiers are right among those before it
+abbrev pub IsFoundAfter : Rules → List ℕ → ℕ → Finding → Type 0
+IsFoundAfter r right tier finding = (entries : List TableData) × AreTables r entries × HoldsExactly entries right × IsFinding r entries tier finding
+
+-- the lines of some tiers, one after another, where these tiers are right and this is the status before them; and the status after them
+abbrev pub AreLines : Rules → List ℕ → ℕ → List ℕ → List ℕ → ℕ → Type 0
+AreLines r right status [] out ends = (out ≡ []) × (ends ≡ status)
+AreLines r right status (tier ∷ tiers) out ends = (finding : Finding) × (rest : List ℕ) × IsFoundAfter r right tier finding
+    × AreLines r (right_with tier finding right) (status_with status finding) tiers rest ends × (out ≡ finding_line tier finding ++ rest)
+
+-- a tier's file is not read to its end: memory is refused, or the read failed
+abbrev pub IsUnreadAt : ℕ → Fault → Type 0
+IsUnreadAt tier fault = IsMemoryFault fault ⊎ (fault ≡ NotBuilt (StoreFailed tier))
+
+-- the line of a tier is not written to its end, or memory is refused after it
+abbrev pub IsTierCut : Rules → List TableData → ℕ → Option (List ℕ) → Option (List ℕ) → Fault → Type 0
+IsTierCut r entries tier before after fault = (IsUnreadAt tier fault × Keeps before after)
+    ⊎ ((finding : Finding) × IsFinding r entries tier finding × ((IsOutputFault fault × AppendsPart before after (finding_line tier finding))
+    ⊎ (IsMemoryFault fault × Appends before after (finding_line tier finding))))
+
+-- why a check ends before the tiers that are left: memory is refused, or the next tier's file can't be read
+abbrev pub IsUnread : List ℕ → Fault → Type 0
+IsUnread [] fault = IsMemoryFault fault
+IsUnread (tier ∷ tiers) fault = IsUnreadAt tier fault
+
+-- a check ended early: the lines of the tiers before are written, or a first part of them where a write failed
+pub record IsCheckCut (r : Rules) (tiers : List ℕ) (before after : Option (List ℕ)) (fault : Fault) : Type 0 where
+  pub done : List ℕ
+  pub left : List ℕ
+  pub split : tiers ≡ done ++ left
+  pub out : List ℕ
+  pub status : ℕ
+  pub lines : AreLines r [] 0 done out status
+  pub written : (IsOutputFault fault × AppendsPart before after out) ⊎ (IsUnread left fault × Appends before after out)
+
+-- these tiers are checked in turn: a line for each is written, and the status tells whether all are right
+abbrev pub IsCheckOf : Rules → List ℕ → Option (List ℕ) → Option (List ℕ) → Result ℕ Fault → Type 0
+IsCheckOf r tiers before after (Ok status) = (out : List ℕ) × AreLines r [] 0 tiers out status × Appends before after out
+IsCheckOf r tiers before after (Err fault) = IsCheckCut r tiers before after fault
+
+-- the order of the game's tiers can't be had, and nothing is written
+abbrev pub IsUnchecked : Rules → Option (List ℕ) → Option (List ℕ) → Result ℕ Fault → Type 0
+IsUnchecked r before after result = IsErrAnd result (IsUnbuilt r r.initial.tier) × Keeps before after
+
+-- the files of a game are checked, in the order of its tiers
+abbrev pub IsCheckedBy : Rules → Option (List ℕ) → Option (List ℕ) → Result ℕ Fault → Type 0
+IsCheckedBy r before after result = IsUnchecked r before after result ⊎ ((tiers : List ℕ) × IsTierOrder r tiers × IsCheckOf r tiers before after result)

@@ -1,0 +1,65 @@
+-- What the commands answer that look at all tables of a game, or at one place in them.
+use Rattle.std.specs.Prelude.{ℕ, ◌⊎◌, Bool, List, Option, None, Some, Result}
+use Rattle.gm_game.specs.declared.position.Position.{Position}
+use Rattle.gm_game.specs.Rules.{Rules}
+use Rattle.gm_tiers.specs.Reach.{IsReached}
+use Rattle.gm_tiers.specs.Orders.{IsTierOrder}
+use Rattle.gm_best.specs.Places.{IsAt}
+use Rattle.gm_play.specs.PlaceTexts.{IsPositionText}
+use Rattle.gm_analyse.specs.Bars.{IsCountsText}
+use Rattle.gm_analyse.specs.Longest.{IsLongestText}
+use Rattle.gm_command.specs.declared.requests.CountsAsked.{CountsAsked}
+use Rattle.gm_command.specs.declared.requests.Search.{Search}
+use Rattle.gm_command.specs.declared.requests.Search.TheVariants.{Find, Counts, Longest, Ask}
+use Rattle.gamesman.specs.declared.fault.Fault.{Fault}
+use Rattle.gamesman.specs.Games.{GameSpec}
+use Rattle.gamesman.specs.Refusals.{IsUnbuilt}
+use Rattle.gamesman.specs.Told.{IsNoPlace, IsUnknown, IsTold}
+
+-- what stands at this index of a tier of the game: a canonical position, with its true value
+abbrev pub IsAtText : Rules → (Position → List ℕ) → ℕ → ℕ → List ℕ → Type 0
+IsAtText r shown tier index out = (p : Position) × IsAt r tier index p × IsReached r tier × IsPositionText r shown p out
+
+-- why it is not told: the tier is none of the game, nothing canonical stands at the index, or the tables are not built
+abbrev pub IsUnplaced : Rules → ℕ → ℕ → Fault → Type 0
+IsUnplaced r tier index fault = (IsUnknown r tier fault ⊎ IsNoPlace r tier index fault) ⊎ IsUnbuilt r tier fault
+
+-- what stands at a tier and index is told
+abbrev pub IsPlaced : Rules → (Position → List ℕ) → ℕ → ℕ → Option (List ℕ) → Option (List ℕ) → Result ℕ Fault → Type 0
+IsPlaced r shown tier index before after result = IsTold (IsAtText r shown tier index) (IsUnplaced r tier index) before after result
+
+-- the counts of all tiers of the game
+abbrev pub IsCountsOf : Rules → CountsAsked → List ℕ → Type 0
+IsCountsOf r asked out = (tiers : List ℕ) × IsTierOrder r tiers × IsCountsText r asked.among asked.reached asked.by_tier asked.form tiers out
+
+-- the longest wins and the longest losses of all tiers of the game
+abbrev pub IsLongestOf : Rules → (Position → List ℕ) → (Position → ℕ → List ℕ) → Bool → ℕ → List ℕ → Type 0
+IsLongestOf r shown move_shown reached limit out = (tiers : List ℕ) × IsTierOrder r tiers × IsLongestText r shown move_shown reached limit tiers out
+
+-- the one tier that is asked about; none where all are
+abbrev pub tier_asked : Search → Option ℕ
+tier_asked (Find positions) = positions.tier
+tier_asked (Counts asked) = None
+tier_asked (Longest reached limit) = None
+tier_asked (Ask asked) = None
+
+-- the tier whose tables are asked about, with all that it reaches: the initial one where none is named
+abbrev pub first_of : Rules → Option ℕ → ℕ
+first_of r None = r.initial.tier
+first_of r (Some tier) = tier
+
+-- the tier that is named is not known to be one of the game
+abbrev pub IsUnnamed : Rules → Option ℕ → Fault → Type 0
+IsUnnamed r None fault = ⊥
+IsUnnamed r (Some tier) fault = IsUnknown r tier fault
+
+-- no table is had, for this reason
+abbrev pub IsUnsearched : Rules → Option ℕ → Fault → Type 0
+IsUnsearched r tier fault = IsUnnamed r tier fault ⊎ IsUnbuilt r (first_of r tier) fault
+
+-- a question about all tables of a game is answered
+abbrev pub IsSearched : GameSpec → Search → Option (List ℕ) → Option (List ℕ) → Result ℕ Fault → Type 0
+IsSearched g (Counts asked) before after result = IsTold (IsCountsOf g.rules asked) (IsUnsearched g.rules None) before after result
+IsSearched g (Longest reached limit) before after result = IsTold (IsLongestOf g.rules g.shown g.move_shown reached limit) (IsUnsearched g.rules None) before after result
+IsSearched g (Find positions) before after result = Unit {0}
+IsSearched g (Ask asked) before after result = Unit {0}

@@ -1,0 +1,104 @@
+//! What a tier's file is found to be, and its line.
+ghost use Rattle.std.specs.Prelude.{◌≡◌, ◌+◌, ◌≤◌, ◌++◌};
+ghost use Rattle.arrayvec.specs.ArrayVec.{array_vec_len};
+ghost use Rattle.gamesman.specs.Checking.{file_words, finding_words, finding_line, status_with};
+
+use crate::run::REFUSED;
+use arrayvec::ArrayVec;
+use gm_game::limits::LINE;
+use gm_game::shown::Line;
+use gm_game::text::{push_decimal, push_text};
+use gm_table::checker::CheckError;
+use gm_tierdb::file_error::FileError;
+
+// The bytes of the longest line of a tier, and more.
+const ROOM: usize = 2 * LINE + 2;
+
+/// What a tier's file is found to be.
+#[derive(Clone, Copy, Debug)]
+pub enum Finding {
+    /// The text of the tier's true table.
+    Right,
+    /// There is none.
+    Missing,
+    /// A child tier isn't right, and so the file isn't read.
+    NotChecked,
+    /// No file of the tier.
+    NoFile(FileError),
+    /// The file of records that are not the tier's.
+    NoTable(CheckError),
+}
+
+impl Finding {
+    /// The line for a tier of which this is found.
+    pub fn line(self, tier: u64) -> ArrayVec<u8, ROOM>
+        ensures { result.items ≡ finding_line tier self }
+    {
+        let mut head = ArrayVec::new();
+        push_text(&mut head, b"tier ");
+        push_decimal(&mut head, tier);
+        let words = self.words();
+        let mut line = ArrayVec::new();
+        let _fits = line.try_extend_from_slice(head.as_slice());
+        line.push(b' ');
+        let _fits = line.try_extend_from_slice(words.as_slice());
+        line.push(b'\n');
+        line
+    }
+
+    /// The status to end with where this is found of one more tier.
+    pub fn status(self, before: u8) -> u8
+        ensures { result ≡ status_with before self }
+    {
+        match self {
+            Finding::Right => before,
+            Finding::Missing | Finding::NotChecked => REFUSED,
+            Finding::NoFile(_) | Finding::NoTable(_) => REFUSED,
+        }
+    }
+
+    fn words(self) -> Line
+        ensures { result.items ≡ finding_words self }
+    {
+        let mut line = ArrayVec::new();
+        match self {
+            Finding::Right => push_text(&mut line, b"ok"),
+            Finding::Missing => push_text(&mut line, b"missing"),
+            Finding::NotChecked => push_text(&mut line, b"not checked"),
+            Finding::NoFile(why) => {
+                push_text(&mut line, b"bad: ");
+                push_why(&mut line, why);
+            }
+            Finding::NoTable(CheckError::WrongRecord { index }) => {
+                push_text(&mut line, b"bad: wrong record ");
+                push_decimal(&mut line, index);
+            }
+            Finding::NoTable(CheckError::WrongSize | CheckError::OutOfMemory) => {
+                push_text(&mut line, b"bad: wrong size");
+            }
+        }
+        line
+    }
+}
+
+// Appends why bytes are no file of a tier.
+fn push_why(line: &mut Line, why: FileError)
+    requires { array_vec_len line.old + 32 ≤ LINE }
+    ensures { line.new.items ≡ line.old.items ++ file_words why }
+{
+    match why {
+        FileError::OutOfMemory => push_text(line, b"out of memory"),
+        FileError::Truncated => push_text(line, b"truncated"),
+        FileError::BadMagic => push_text(line, b"bad magic"),
+        FileError::WrongGame => push_text(line, b"wrong game"),
+        FileError::WrongTier => push_text(line, b"wrong tier"),
+        FileError::WrongSize => push_text(line, b"wrong size"),
+        FileError::BadRecord { index } => {
+            push_text(line, b"bad record ");
+            push_decimal(line, index);
+        }
+        FileError::Trailing => push_text(line, b"trailing bytes"),
+        FileError::BadDigest => push_text(line, b"bad digest"),
+        FileError::OldVersion => push_text(line, b"old version"),
+    }
+}

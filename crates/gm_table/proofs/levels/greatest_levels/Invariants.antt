@@ -1,0 +1,7 @@
+use Rattle.std.proofs.Common.{◌≡◌, take}
+use Rattle.gm_game.specs.declared.position.Phase.TheVariants.{WinLose, Ties}
+use Rattle.gm_table.specs.Levels.{greatest_of}
+use Rattle.gm_table.proofs.levels.greatest_levels.Given as goal
+
+abbrev pub invariant-loop-index : goal.invariant-loop-index
+invariant-loop-index l = (l.win_lose ≡ greatest_of WinLose (take l.index l.records)) × (l.ties ≡ greatest_of Ties (take l.index l.records))

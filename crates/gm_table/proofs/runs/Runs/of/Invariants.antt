@@ -1,0 +1,8 @@
+use Rattle.std.proofs.Common.{◌≡◌, ℕ, take}
+use Rattle.gm_game.specs.declared.position.Phase.{Phase}
+use Rattle.gm_table.specs.Levels.{indexes_at}
+use Rattle.gm_table.specs.Runs.{run_in}
+use Rattle.gm_table.proofs.runs.Runs.of.Given as goal
+
+abbrev pub invariant-loop-index : goal.invariant-loop-index
+invariant-loop-index l = (phase : Phase) (n : ℕ) → run_in l.runs phase n ≡ indexes_at phase n (take l.index l.records)

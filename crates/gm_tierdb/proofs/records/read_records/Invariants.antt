@@ -1,0 +1,8 @@
+use Rattle.std.proofs.Common.{◌≡◌, ◌++◌, ◌-◌, ◌*◌, All, length}
+use Rattle.std.specs.List.{flat_map}
+use Rattle.gm_record.specs.Numbers.{width, record_bytes, IsStorable}
+use Rattle.gm_tierdb.proofs.records.read_records.Given as goal
+
+abbrev pub invariant-loop-index : goal.invariant-loop-index
+invariant-loop-index l =
+    (l.bytes ≡ flat_map (record_bytes l.version) l.records ++ l.rest) × All (IsStorable l.version) l.records × (length l.records ≡ l.index) × (length l.rest ≡ width l.version * (l.size - l.index))

@@ -1,0 +1,134 @@
+//! The records of a file, from their bytes.
+ghost use Rattle.std.specs.Prelude.{◌≡◌, ◌*◌, ◌^◌, ◌<◌, ◌++◌, Some, List, Option, IfOk, IfErr, IfSome, IfNone, length};
+ghost use Rattle.gm_game.specs.declared.position.Solved.{Solved as SolvedSpec};
+ghost use Rattle.std.specs.Int.{to_le_bytes};
+ghost use Rattle.gm_record.specs.Numbers.{word, width};
+ghost use Rattle.gm_tierdb.specs.Refusals.{IsFirstBad, AreRead, HasRecords};
+
+use gm_record::number::record_of;
+use gm_record::version::Version;
+use gm_table::packed::Packed;
+use std::alloc::Global;
+use std::thread::{Threads, join};
+
+// So few records are read by one thread.
+const FEW: usize = 262_144;
+
+/// As `read_records`, by two threads where there are many.
+pub(crate) fn read_records_by<R: Threads + Sync>(
+    rt: &R,
+    alloc: Global,
+    version: Version,
+    bytes: &[u8],
+    size: usize,
+) -> Result<Option<Packed>, u64>
+    requires { length bytes.now ≡ width version * size }
+    ensures found { IfOk result (AreRead version size bytes.now) }
+    ensures bad { IfErr result (IsFirstBad version size bytes.now) }
+{
+    if size <= FEW {
+        return read_records(alloc, version, bytes, size);
+    }
+    let half = size / 2;
+    let more = size - half;
+    let (first, rest) = bytes.split_at(version.record_len() * half);
+    let (front, back) = join(
+        rt,
+        || -> Result<Option<Packed>, u64>
+            requires { length first.now ≡ width version * half }
+            ensures found { IfOk result (AreRead version half first.entry.now) }
+            ensures bad { IfErr result (IsFirstBad version half first.entry.now) }
+        { read_records(alloc, version, first, half) },
+        || -> Result<Option<Packed>, u64>
+            requires { length rest.now ≡ width version * more }
+            ensures found { IfOk result (AreRead version more rest.entry.now) }
+            ensures bad { IfErr result (IsFirstBad version more rest.entry.now) }
+        { read_records(alloc, version, rest, more) },
+    );
+    let front = front?;
+    match back {
+        Ok(back) => Ok(joined(front, back)),
+        Err(index) => Err(half as u64 + index),
+    }
+}
+
+// The records of both, where there are those of both and memory for them.
+fn joined(front: Option<Packed>, back: Option<Packed>) -> Option<Packed>
+    ensures { IfSome result (λ all. (a : List (Option SolvedSpec)) × (b : List (Option SolvedSpec)) × (front ≡ Some a) × (back ≡ Some b) × (all ≡ a ++ b)) }
+{
+    let mut all = front?;
+    match all.append(&back?) {
+        Ok(()) => Some(all),
+        Err(_) => None,
+    }
+}
+
+/// The records that stand in the bytes, or the first index at which none stands; `None` where memory is refused for them.
+pub(crate) fn read_records(
+    alloc: Global,
+    version: Version,
+    bytes: &[u8],
+    size: usize,
+) -> Result<Option<Packed>, u64>
+    requires { length bytes.now ≡ width version * size }
+    ensures found { IfOk result (AreRead version size bytes.now) }
+    ensures bad { IfErr result (IsFirstBad version size bytes.now) }
+{
+    let mut records = match Packed::with_capacity(alloc, size) {
+        Ok(records) => records,
+        Err(_) => return without_memory(version, bytes, size),
+    };
+    let mut rest = bytes;
+    for index in 0..size {
+        let (record, more) = rest.split_at(version.record_len());
+        match record_of(version, number_at(version, record)) {
+            None => return Err(index as u64),
+            Some(found) => match records.push(found) {
+                Ok(()) => rest = more,
+                Err(_) => return without_memory(version, bytes, size),
+            },
+        }
+    }
+    Ok(Some(records))
+}
+
+// No records, or the first index at which none stands.
+fn without_memory(version: Version, bytes: &[u8], size: usize) -> Result<Option<Packed>, u64>
+    requires { length bytes.now ≡ width version * size }
+    ensures found { IfOk result (AreRead version size bytes.now) }
+    ensures bad { IfErr result (IsFirstBad version size bytes.now) }
+{
+    match first_bad(version, bytes, size) {
+        Some(index) => Err(index),
+        None => Ok(None),
+    }
+}
+
+// The first index at which no record stands.
+fn first_bad(version: Version, bytes: &[u8], size: usize) -> Option<u64>
+    requires { length bytes.now ≡ width version * size }
+    ensures none { IfNone result (HasRecords version size bytes.now) }
+    ensures some { IfSome result (IsFirstBad version size bytes.now) }
+{
+    let mut rest = bytes;
+    for index in 0..size {
+        let (record, more) = rest.split_at(version.record_len());
+        match record_of(version, number_at(version, record)) {
+            None => return Some(index as u64),
+            Some(_found) => rest = more,
+        }
+    }
+    None
+}
+
+// The number that the bytes of a record stand for.
+fn number_at(version: Version, bytes: &[u8]) -> u32
+    requires { length bytes.now ≡ width version }
+    ensures bytes { to_le_bytes (word version) result ≡ bytes.now }
+    ensures fits { result < 256 ^ width version }
+{
+    match version {
+        Version::One => u32::from(u16::from_le_bytes([bytes[0], bytes[1]])),
+        Version::Two => u32::from_le_bytes([bytes[0], bytes[1], bytes[2], bytes[3]]),
+    }
+}

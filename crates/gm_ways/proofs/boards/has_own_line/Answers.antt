@@ -1,9 +1,0 @@
-use Rattle.std.proofs.Common.{◌∙◌}
-use Rattle.gm_pieces.specs.laws.MaskFacts.{own_patterns}
-use Rattle.gm_ways.proofs.boards.has_own_line.Goals as goal
-
-pub returns : goal.returns
-returns g c =
-    let lines = g.T.WayRules.game.lines in
-    let s = c.args.board in
-    c.has_some.ensures lines c.lines.ensures ∙ own_patterns g.row.POINTS s.mine s.theirs s.mine_within lines
