@@ -98,7 +98,7 @@ class Line:
         words = [GAMESMAN] + [folder if word == "@" else word for word in self.words]
         return room.run(words, given=self.given, **how), folder
 
-    def told(self, free, ran, kind, folder):
+    def told(self, free, ran, kind, at, folder):
         """Why what a disturbed run says is wrong, if it is: the undisturbed answer where nothing was refused or only threads were, and else the one fault."""
         if is_unhindered(free, ran):
             return self.unhindered(ran, kind, folder)
@@ -109,7 +109,7 @@ class Line:
             return str(ran)
         if not free.out.startswith(ran.out):
             return f"printed {ran.out!r}, which no undisturbed run begins with"
-        return self.stopped_at(int(fault[1]), kind, folder) if fault.groups() else None
+        return self.stopped_at(int(fault[1]), kind, at, folder) if fault.groups() else None
 
     def unhindered(self, ran, kind, folder):
         """Why an undisturbed answer is wrong, if it is: a refusal went unnoticed, or a line that builds does not leave all files right."""
@@ -123,15 +123,17 @@ class Line:
         """Whether a refusal may go unnoticed: where levels are solved by workers, one that gets no memory is done without, as one that could not be started."""
         return kind == "malloc" and self.words[1] in BY_LEVELS
 
-    def stopped_at(self, tier, kind, folder):
+    def stopped_at(self, tier, kind, at, folder):
         """Why a fault of the store names the wrong tier, if it does: those before it are right, and it and those after it are as they were. The folder is opened and
-        synced after the file has its name, so where such a call is refused the file of the tier may be right already."""
+        synced after the file has its name, so where such a call is refused the file of the tier may be right already. Each write syncs its file first and its folder
+        second, so a refused sync with an odd number is one of a file that has no name yet."""
         found, is_before = files_of(folder), True
         for name in self.order():
             is_named = name == f"tier-{tier}.gmt"
             is_before = is_before and not is_named
             wanted = self.right if is_before else self.before
-            may_be_right = is_named and kind in ("open", "sync") and found.get(name) == self.right.get(name)
+            is_named_already = kind == "open" or (kind == "sync" and at % 2 == 0)
+            may_be_right = is_named and is_named_already and found.get(name) == self.right.get(name)
             if found.get(name) != wanted.get(name) and not may_be_right:
                 return f"it names tier {tier}, and {name} is {'not yet right' if is_before else 'another one'}"
         return f"there is no tier {tier}" if is_before else None
@@ -143,7 +145,7 @@ class Line:
     def disturbed(self, room, free, **how):
         """Runs the line with a call refused. Gives the run and why it is wrong, if it is."""
         ran, folder = self.once(room, **how)
-        why = self.told(free, ran, how["kind"], folder)
+        why = self.told(free, ran, how["kind"], how["at"], folder)
         if not why and "@" in self.words:
             why = wrong_file(folder, self.right, self.before)
             if not why and self.words[0] == "solve":
