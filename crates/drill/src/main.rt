@@ -1,6 +1,6 @@
 //! Drills: each word makes one call that may want memory and says what it answered and what it left, for tools/hostile, which refuses its allocations one after
 //! another. For tools/lines, `ahead` compares a solved game with looking ahead, `workers` builds a game by workers, and `dao` solves Dao in a way and says what
-//! its file ends with.
+//! its file ends with. For tools/measure, `large` times a large tier that workers solve.
 #![tactic(auto)]
 
 ghost use Rattle.std.specs.Prelude.{◌<◌};
@@ -8,6 +8,7 @@ ghost use Rattle.std.specs.Prelude.{◌<◌};
 mod ahead;
 mod damage;
 mod files;
+mod large;
 mod levels;
 mod marks;
 mod plans;
@@ -19,6 +20,7 @@ mod words;
 
 use crate::ahead::look_ahead;
 use crate::damage::damage;
+use crate::large::solve_large;
 use crate::plans::build_by_workers;
 use crate::solving::Way;
 use crate::stores::Place;
@@ -33,6 +35,7 @@ use std::fs::Files;
 use std::process::ExitCode;
 use std::sync::Wait;
 use std::thread::Threads;
+use std::time::Clock;
 use std::{env, io};
 
 // A call that wants memory.
@@ -181,6 +184,18 @@ fn build_planned<R: Print + Threads + Wait + Files + Sync>(
     }
 }
 
+// Solves a tier of Tac Tix on 5 by 5 by a line of its number and the three numbers of a plan: whether it could be done.
+fn solve_planned<R: Print + Threads + Wait + Files + Clock + Sync>(
+    rt: &R,
+    alloc: Global,
+    words: &[String],
+) -> bool {
+    match (word(words, 2).parse::<u64>(), plan_of(words, 3)) {
+        (Ok(tier), Some(plan)) => solve_large(rt, alloc, tier, plan),
+        _ => false,
+    }
+}
+
 // What a line does that makes no such call.
 #[derive(Clone, Copy)]
 enum Line {
@@ -188,21 +203,23 @@ enum Line {
     Ahead,
     Dao,
     Workers,
+    Large,
     DamageCountdown,
     DamageTacTix,
 }
 
-const LINES: [(&str, Line); 6] = [
+const LINES: [(&str, Line); 7] = [
     ("list", Line::List),
     ("ahead", Line::Ahead),
     ("dao", Line::Dao),
     ("workers", Line::Workers),
+    ("large", Line::Large),
     ("damage-countdown", Line::DamageCountdown),
     ("damage-tactix-2", Line::DamageTacTix),
 ];
 
 // Does what the words say of which the first is the program's name: whether it could be done.
-fn run<R: Print + Threads + Wait + Files + Sync, I: io::Read + Drop>(
+fn run<R: Print + Threads + Wait + Files + Clock + Sync, I: io::Read + Drop>(
     rt: &R,
     alloc: Global,
     words: &[String],
@@ -214,6 +231,7 @@ fn run<R: Print + Threads + Wait + Files + Sync, I: io::Read + Drop>(
         Some(Line::Ahead) => compare(rt, alloc, words),
         Some(Line::Dao) => solving::solve_and_say::<Dao, R>(rt, alloc, word(words, 2)),
         Some(Line::Workers) => build_planned(rt, alloc, words),
+        Some(Line::Large) => solve_planned(rt, alloc, words),
         Some(Line::DamageCountdown) => damage::<Countdown<10>, R, I>(rt, alloc, input),
         Some(Line::DamageTacTix) => damage::<TacTix<2, false>, R, I>(rt, alloc, input),
         None => drill(rt, alloc, first),

@@ -136,8 +136,8 @@ pub fn solve<G: Game + Send + Sync, R: Print + Threads + Wait + Sync>(
     said
 }
 
-// Prints how many deliveries solved a tier, how many of them the coordinator made, and the digest that ends its file.
-fn say_digest<G: Game, R: Print>(
+/// Prints how many deliveries solved a tier, how many of them the coordinator made, and the digest that ends its file.
+pub(crate) fn say_digest<G: Game, R: Print>(
     rt: &R,
     alloc: Global,
     answer: &Option<(Table<G>, Report)>,

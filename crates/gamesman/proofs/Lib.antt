@@ -6,3 +6,4 @@ pub mod Ring
 pub mod Telling
 pub mod Checks
 pub mod Analyses
+pub mod Finds

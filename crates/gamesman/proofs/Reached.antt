@@ -1,5 +1,6 @@
 -- All tiers that a tier reaches are held: those below one of them too.
 use Rattle.std.proofs.Common.{ℕ, zero, suc, List, refl}
+use Rattle.std.specs.List.{Contains}
 use Rattle.gm_game.specs.Rules.{Rules}
 use Rattle.gm_table.specs.Tables.{TableData}
 use Rattle.gm_tiers.specs.Orders.{IsOrderFrom}
@@ -7,6 +8,11 @@ use Rattle.gm_tiers.specs.Reach.{IsReachedFrom}
 use Rattle.gm_build.specs.Work.{HoldsExactly}
 use Rattle.gm_play.specs.Reached.{AreAllHeld}
 use Rattle.gm_play.proofs.Held.{all_held}
+
+-- those that are reached from any of them
+pub order_held : (r : Rules) (entries : List TableData) (order : List ℕ) (first : ℕ) → IsOrderFrom r first order → HoldsExactly entries order → (tier : ℕ) → Contains order tier → AreAllHeld r entries tier
+order_held r entries order first is held tier has =
+    all_held r entries (IsReachedFrom r first) (λ t child (n, reached) below. (suc n, (t, reached, below))) (λ t reached. (held t).1 ((is.each t).1 reached)) tier ((is.each tier).0 has)
 
 pub reached_held : (r : Rules) (entries : List TableData) (order : List ℕ) (first : ℕ) → IsOrderFrom r first order → HoldsExactly entries order → AreAllHeld r entries first
 reached_held r entries order first is held =

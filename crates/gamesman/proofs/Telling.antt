@@ -11,6 +11,7 @@ use Rattle.gm_build.specs.Work.{HoldsExactly}
 use Rattle.gm_find.specs.declared.find_error.FindError.{FindError}
 use Rattle.gm_find.specs.declared.find_error.FindError.TheVariants.{OutOfMemory as NoRoom, NotHeld}
 use Rattle.gm_find.specs.Finding.{AreTiersHeld}
+use Rattle.gm_command.specs.declared.requests.PositionsSought.{PositionsSought}
 use Rattle.gm_command.specs.declared.requests.Search.{Search}
 use Rattle.gm_command.specs.declared.requests.Search.TheVariants.{Find, Counts, Longest, Ask}
 use Rattle.gamesman.specs.declared.fault.Fault.{Fault}
@@ -19,11 +20,12 @@ use Rattle.gamesman.specs.Outputs.{IsCutOff}
 use Rattle.gamesman.specs.Refusals.{IsUnbuilt}
 use Rattle.gamesman.specs.Told.{IsMemoryFault, IsFindFault, IsNoTier, IsNoPlace, IsUnknown, IsPut, IsTold}
 use Rattle.gamesman.specs.Games.{GameSpec}
+use Rattle.gamesman.specs.Finds.{IsFoundOf, IsFoundSoFar, IsLeft, limit_by_tier, AreFoundWith}
 use Rattle.gamesman.specs.Searches.{IsUnsearched, first_of, tier_asked, IsCountsOf, IsLongestOf, IsSearched}
 use Rattle.gamesman.proofs.Cut.{kept, cut_off, unbuilt_cut}
 
 module _ (IsText : List ℕ → Type 0) (o : Option (List ℕ)) where
-  memory_cut : (fault : Fault) → IsMemoryFault fault → IsCutOff IsText o o fault
+  pub memory_cut : (fault : Fault) → IsMemoryFault fault → IsCutOff IsText o o fault
   memory_cut NoSuchGame is = absurd is
   memory_cut NoSuchPosition is = absurd is
   memory_cut (NoSuchPositionInLine line) is = absurd is
@@ -143,9 +145,33 @@ tiers_held r entries order first is held tier has =
     let (n, reached) = (is.each tier).0 has in
     ((held tier).1 has, λ child below. (held child).1 ((is.each child).1 (suc n, (tier, reached, below))))
 
+-- nothing is written tier by tier where nothing is written at all
+left_from : (IsText : List ℕ → Type 0) (o : Option (List ℕ)) (fault : Fault) → IsCutOff (λ text. ⊥) o o fault → IsLeft IsText o o fault
+left_from IsText o OutputFailed is = absurd is.1
+left_from IsText o OutputClosed is = absurd is.1
+left_from IsText o (OutOfMemory error) is = inl is
+left_from IsText o NoSuchGame is = is
+left_from IsText o NoSuchPosition is = is
+left_from IsText o (NoSuchPositionInLine line) is = is
+left_from IsText o (NoSuchTier t) is = is
+left_from IsText o (NoSuchIndex t i) is = is
+left_from IsText o (NotLegal t i) is = is
+left_from IsText o (NotCanonical t i) is = is
+left_from IsText o (NotBuilt error) is = is
+left_from IsText o (AnotherGames t) is = is
+left_from IsText o InputFailed is = is
+left_from IsText o TooMuchInput is = is
+
+-- what `find` finds is told where no table is had
+pub find_unsearched : (limit : Option ℕ) (g : GameSpec) (asked : PositionsSought) (o : Option (List ℕ)) (fault : Fault) → IsUnsearched g.rules asked.tier fault
+    → AreFoundWith limit g asked (IsUnsearched g.rules asked.tier) o o (Err fault)
+find_unsearched (Some limit) g asked o fault is =
+    record { written = left_from (IsFoundSoFar g asked) o fault (unsearched_cut (λ text. ⊥) o g.rules asked.tier fault is); refused = inr is }
+find_unsearched None g asked o fault is = unsearched_told (IsFoundOf g asked) o g.rules asked.tier fault is
+
 -- a question about all tables of a game is answered where no table is had
 pub unsearched : (g : GameSpec) (asked : Search) (o : Option (List ℕ)) (fault : Fault) → IsUnsearched g.rules (tier_asked asked) fault → IsSearched g asked o o (Err fault)
-unsearched g (Find positions) o fault is = tt
+unsearched g (Find positions) o fault is = find_unsearched (limit_by_tier positions.form positions.choice) g positions o fault is
 unsearched g (Counts asked) o fault is = unsearched_told (IsCountsOf g.rules asked) o g.rules None fault is
 unsearched g (Longest reached limit) o fault is = unsearched_told (IsLongestOf g.rules g.shown g.move_shown reached limit) o g.rules None fault is
 unsearched g (Ask asked) o fault is = tt

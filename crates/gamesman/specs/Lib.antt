@@ -3,6 +3,7 @@ pub mod Games
 pub mod Outputs
 pub mod Refusals
 pub mod Told
+pub mod Finds
 pub mod Searches
 pub mod Solving
 pub mod Checking

@@ -13,6 +13,7 @@ use Rattle.gm_command.specs.declared.requests.Search.{Search}
 use Rattle.gm_command.specs.declared.requests.Search.TheVariants.{Find, Counts, Longest, Ask}
 use Rattle.gamesman.specs.declared.fault.Fault.{Fault}
 use Rattle.gamesman.specs.Games.{GameSpec}
+use Rattle.gamesman.specs.Finds.{AreFoundBy}
 use Rattle.gamesman.specs.Refusals.{IsUnbuilt}
 use Rattle.gamesman.specs.Told.{IsNoPlace, IsUnknown, IsTold}
 
@@ -61,5 +62,5 @@ IsUnsearched r tier fault = IsUnnamed r tier fault ⊎ IsUnbuilt r (first_of r t
 abbrev pub IsSearched : GameSpec → Search → Option (List ℕ) → Option (List ℕ) → Result ℕ Fault → Type 0
 IsSearched g (Counts asked) before after result = IsTold (IsCountsOf g.rules asked) (IsUnsearched g.rules None) before after result
 IsSearched g (Longest reached limit) before after result = IsTold (IsLongestOf g.rules g.shown g.move_shown reached limit) (IsUnsearched g.rules None) before after result
-IsSearched g (Find positions) before after result = Unit {0}
+IsSearched g (Find positions) before after result = AreFoundBy g positions (IsUnsearched g.rules positions.tier) before after result
 IsSearched g (Ask asked) before after result = Unit {0}

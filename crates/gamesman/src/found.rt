@@ -1,22 +1,33 @@
 //! The positions that a search finds, as they are printed.
-ghost use Rattle.std.specs.List.{All};
-ghost use Rattle.gm_find.specs.Founds.{IsFound};
+ghost use Rattle.std.specs.Prelude.{◌≡◌, ◌⊎◌, ◌++◌, ℕ, Some, [], ◌∷◌, IfOk, OnOk, IfErr, is_some};
+ghost use Rattle.std.specs.List.{All, Contains, flat_map};
+ghost use Rattle.gm_tiers.specs.Orders.{IsOrderFrom};
+ghost use Rattle.gm_build.specs.Work.{HoldsExactly};
+ghost use Rattle.gm_play.specs.Reached.{AreAllHeld};
+ghost use Rattle.gm_find.specs.Founds.{IsFound, AreFound};
+ghost use Rattle.gm_command.specs.declared.requests.Form.TheVariants.{Sheet};
+ghost use Rattle.gamesman.specs.Games.{game_spec};
+ghost use Rattle.gamesman.specs.Outputs.{IsOutputFault};
+ghost use Rattle.gamesman.specs.Told.{IsMemoryFault};
+ghost use Rattle.gamesman.specs.Searches.{first_of, IsUnsearched};
+ghost use Rattle.gamesman.specs.Finds.{board_row, IsTextOf, IsFoundIn, AreTiersFor, IsToldByTier, IsTierTold, first_limit, limit_by_tier, AreFoundBy};
 
-use crate::explore::put;
 use crate::fault::Fault;
+use crate::output::{put, put_all};
 use crate::run::DONE;
 use crate::search::reached_from_start;
 use gm_build::build::Built;
 use gm_command::requests::{Form, PositionsSought};
 use gm_draw::pictured::Pictured;
 use gm_find::choice::find_some;
-use gm_find::find_error::FindError;
-use gm_find::found::Found;
+use gm_find::found::{Found, find};
 use gm_find::reached::Reached;
-use gm_find::rows::{find_text, push_found};
+use gm_find::rows::{found_rows, push_found};
 use gm_find::sought::Choice;
-use gm_json::find::find_json;
+use gm_game::game::laws;
+use gm_json::find::found_lines;
 use gm_sheet::sheet::sheet_text;
+use gm_table::tables::Tables;
 use std::alloc::{AllocError, Global};
 use std::io::Write;
 
@@ -24,11 +35,16 @@ use std::io::Write;
 pub fn write_found<G: Pictured, O: Write>(
     alloc: Global,
     built: &Built<G>,
-    positions: PositionsSought,
+    asked: PositionsSought,
     output: &mut O,
-) -> Result<u8, Fault> {
-    let reached = reached_from_start(alloc, positions.reached)?;
-    let done = write_among(alloc, built, positions, reached.as_ref(), output);
+) -> Result<u8, Fault>
+    requires order { IsOrderFrom G.Game.rules (first_of G.Game.rules asked.tier) built.now.order }
+    requires held { HoldsExactly built.now.tables built.now.order }
+    ensures { AreFoundBy (game_spec G.Game.rules G.shown G.move_shown G.drawn G.mover G.naming G.style G.title G.board G.points)
+        asked (IsUnsearched G.Game.rules asked.tier) (O.contents output.old) (O.contents output.new) result }
+{
+    let reached = reached_from_start(alloc, asked.reached)?;
+    let done = write_among(alloc, built, asked, reached.as_ref(), output);
     drop(reached);
     done
 }
@@ -37,111 +53,236 @@ pub fn write_found<G: Pictured, O: Write>(
 fn write_among<G: Pictured, O: Write>(
     alloc: Global,
     built: &Built<G>,
-    positions: PositionsSought,
+    asked: PositionsSought,
     reached: Option<&Reached<G>>,
     output: &mut O,
-) -> Result<u8, Fault> {
-    let one = [positions.tier.unwrap_or(0)];
-    let tiers = match positions.tier {
-        Some(_) => one.as_slice(),
-        None => built.order.tiers(),
-    };
-    match positions.choice {
-        Choice::First(limit) if positions.form != Form::Sheet => {
-            write_first(alloc, built, tiers, positions, reached, limit, output)
-        }
-        _ => {
-            let all = tell_tiers(alloc, built, tiers, positions, reached)?;
-            put(output, all.text.as_slice())?;
-            Ok(DONE)
+) -> Result<u8, Fault>
+    requires order { IsOrderFrom G.Game.rules (first_of G.Game.rules asked.tier) built.now.order }
+    requires held { HoldsExactly built.now.tables built.now.order }
+    requires reached { is_some reached ≡ asked.reached }
+    ensures { AreFoundBy (game_spec G.Game.rules G.shown G.move_shown G.drawn G.mover G.naming G.style G.title G.board G.points)
+        asked (IsUnsearched G.Game.rules asked.tier) (O.contents output.old) (O.contents output.new) result }
+{
+    let tables = &built.tables;
+    match asked.tier {
+        Some(tier) => write_in(alloc, tables, &[tier], asked, reached, output),
+        None => write_in(alloc, tables, built.order.tiers(), asked, reached, output),
+    }
+}
+
+// Writes those of these tiers.
+fn write_in<G: Pictured, O: Write>(
+    alloc: Global,
+    tables: &Tables<G>,
+    tiers: &[u64],
+    asked: PositionsSought,
+    reached: Option<&Reached<G>>,
+    output: &mut O,
+) -> Result<u8, Fault>
+    requires tiers { AreTiersFor G.Game.rules asked.tier tiers.now }
+    requires held { (tier : ℕ) → Contains tiers.now tier → AreAllHeld G.Game.rules tables.now tier }
+    requires reached { is_some reached ≡ asked.reached }
+    ensures { AreFoundBy (game_spec G.Game.rules G.shown G.move_shown G.drawn G.mover G.naming G.style G.title G.board G.points)
+        asked (IsUnsearched G.Game.rules asked.tier) (O.contents output.old) (O.contents output.new) result }
+{
+    match limit_of(asked) {
+        Some(limit) => write_by_tier(alloc, tables, tiers, asked, reached, limit, output),
+        None => {
+            let text = text_at_once(alloc, tables, tiers, asked, reached)?;
+            put_all(output, text.as_slice())
         }
     }
 }
 
+// How many at most are written tier by tier; `None` where all are at once: a sheet, and those that chance takes.
+fn limit_of(asked: PositionsSought) -> Option<usize>
+    ensures { result ≡ limit_by_tier asked.form asked.choice }
+{
+    match asked.form {
+        Form::Rows | Form::Json | Form::Boards => limit_for(asked.choice),
+        Form::Sheet => None,
+    }
+}
+
+fn limit_for(choice: Choice) -> Option<usize>
+    ensures { result ≡ first_limit choice }
+{
+    match choice {
+        Choice::First(limit) => Some(limit),
+        Choice::Random { .. } => None,
+    }
+}
+
 // Writes those of one tier after another, up to the limit.
-fn write_first<G: Pictured, O: Write>(
+fn write_by_tier<G: Pictured, O: Write>(
     alloc: Global,
-    built: &Built<G>,
+    tables: &Tables<G>,
     tiers: &[u64],
-    positions: PositionsSought,
+    asked: PositionsSought,
     reached: Option<&Reached<G>>,
     limit: usize,
     output: &mut O,
-) -> Result<u8, Fault> {
+) -> Result<u8, Fault>
+    requires tiers { AreTiersFor G.Game.rules asked.tier tiers.now }
+    requires held { (tier : ℕ) → Contains tiers.now tier → AreAllHeld G.Game.rules tables.now tier }
+    requires reached { is_some reached ≡ asked.reached }
+    requires limit { limit_by_tier asked.form asked.choice ≡ Some limit }
+    ensures { IsToldByTier (game_spec G.Game.rules G.shown G.move_shown G.drawn G.mover G.naming G.style G.title G.board G.points)
+        asked (IsUnsearched G.Game.rules asked.tier) (O.contents output.old) (O.contents output.new) result }
+{
     let mut left = limit;
     for tier in tiers {
-        let asked = PositionsSought {
-            choice: Choice::First(left),
-            ..positions
-        };
-        let more = tell_tiers(alloc, built, &[*tier], asked, reached)?;
-        put(output, more.text.as_slice())?;
-        left = left.saturating_sub(more.positions);
+        let many = write_tier(alloc, tables, *tier, asked, reached, left, output)?;
+        left = left.saturating_sub(many);
         if left == 0 {
-            break;
+            return Ok(DONE);
         }
     }
     Ok(DONE)
 }
 
-// Positions as a text, and how many they are.
-#[derive(Drop)]
-struct Told {
-    text: Vec<u8>,
-    positions: usize,
-}
-
-impl Told {
-    // A text with a line for each position.
-    fn of_lines(text: Vec<u8>) -> Self {
-        let positions = text.iter().filter(|byte| **byte == b'\n').count();
-        Told { text, positions }
-    }
-}
-
-// The positions that are looked for in these tiers.
-fn tell_tiers<G: Pictured>(
+// Writes those of one tier, at most so many, and answers how many they are.
+fn write_tier<G: Pictured, O: Write>(
     alloc: Global,
-    built: &Built<G>,
+    tables: &Tables<G>,
+    tier: u64,
+    asked: PositionsSought,
+    reached: Option<&Reached<G>>,
+    left: usize,
+    output: &mut O,
+) -> Result<usize, Fault>
+    requires held { AreAllHeld G.Game.rules tables.now tier }
+    requires reached { is_some reached ≡ asked.reached }
+    requires lines { asked.form ≡ Sheet → ⊥ }
+    ensures told { IsTierTold (game_spec G.Game.rules G.shown G.move_shown G.drawn G.mover G.naming G.style G.title G.board G.points)
+        asked tier left (O.contents output.old) (O.contents output.new) result }
+    ensures fault { IfErr result (λ fault. IsOutputFault fault ⊎ IsMemoryFault fault) }
+{
+    let found = found_in(alloc, tables, tier, asked, reached, left)?;
+    let lines = lines_of::<G>(alloc, found.as_slice(), asked.form)?;
+    put(output, lines.as_slice())?;
+    Ok(found.len())
+}
+
+// The positions of one tier, at most so many.
+fn found_in<G: Pictured>(
+    alloc: Global,
+    tables: &Tables<G>,
+    tier: u64,
+    asked: PositionsSought,
+    reached: Option<&Reached<G>>,
+    left: usize,
+) -> Result<Vec<Found>, Fault>
+    requires held { AreAllHeld G.Game.rules tables.now tier }
+    requires reached { is_some reached ≡ asked.reached }
+    ensures found { IfOk result (λ v. AreFound G.Game.rules asked.sought asked.reached left (tier ∷ []) v.items) }
+    ensures fault { IfErr result IsMemoryFault }
+{
+    laws::<G>();
+    let found = find(alloc, tables, &[tier], asked.sought, reached, left)?;
+    Ok(found)
+}
+
+// All that the choice takes, as one text.
+fn text_at_once<G: Pictured>(
+    alloc: Global,
+    tables: &Tables<G>,
     tiers: &[u64],
     asked: PositionsSought,
     reached: Option<&Reached<G>>,
-) -> Result<Told, FindError> {
-    let (tables, sought, choice) = (&built.tables, asked.sought, asked.choice);
-    let lines = match asked.form {
-        Form::Rows => find_text(alloc, tables, tiers, sought, reached, choice)?,
-        Form::Json => find_json(alloc, tables, tiers, sought, reached, choice)?,
-        Form::Sheet => sheet_text(alloc, tables, tiers, sought, reached, choice)?,
-        Form::Boards => {
-            let found = find_some(alloc, tables, tiers, sought, reached, choice)?;
-            return told_boards::<G>(alloc, found.as_slice());
+) -> Result<Vec<u8>, Fault>
+    requires held { (tier : ℕ) → Contains tiers.now tier → AreAllHeld G.Game.rules tables.now tier }
+    requires reached { is_some reached ≡ asked.reached }
+    ensures text { IfOk result (λ v. IsFoundIn (game_spec G.Game.rules G.shown G.move_shown G.drawn G.mover G.naming G.style G.title G.board G.points)
+        asked tiers.now v.items) }
+    ensures fault { IfErr result IsMemoryFault }
+{
+    match asked.form {
+        Form::Sheet => sheet_at_once(alloc, tables, tiers, asked, reached),
+        Form::Rows | Form::Json | Form::Boards => {
+            lines_at_once(alloc, tables, tiers, asked, reached)
         }
-    };
-    Ok(Told::of_lines(lines))
+    }
 }
 
-// The rows of found positions, each below its board.
-fn told_boards<G: Pictured>(alloc: Global, found: &[Found]) -> Result<Told, FindError>
-    requires { All (IsFound G.Game.rules) found.now }
+// The sheet of them.
+fn sheet_at_once<G: Pictured>(
+    alloc: Global,
+    tables: &Tables<G>,
+    tiers: &[u64],
+    asked: PositionsSought,
+    reached: Option<&Reached<G>>,
+) -> Result<Vec<u8>, Fault>
+    requires held { (tier : ℕ) → Contains tiers.now tier → AreAllHeld G.Game.rules tables.now tier }
+    requires reached { is_some reached ≡ asked.reached }
+    requires sheet { asked.form ≡ Sheet }
+    ensures text { IfOk result (λ v. IsFoundIn (game_spec G.Game.rules G.shown G.move_shown G.drawn G.mover G.naming G.style G.title G.board G.points)
+        asked tiers.now v.items) }
+    ensures fault { IfErr result IsMemoryFault }
 {
-    match boards_text::<G>(alloc, found) {
-        Ok(text) => Ok(Told {
-            text,
-            positions: found.len(),
-        }),
-        Err(_) => Err(FindError::OutOfMemory),
+    laws::<G>();
+    let (sought, choice) = (asked.sought, asked.choice);
+    let sheet = sheet_text(alloc, tables, tiers, sought, reached, choice)?;
+    Ok(sheet)
+}
+
+// The lines of them.
+fn lines_at_once<G: Pictured>(
+    alloc: Global,
+    tables: &Tables<G>,
+    tiers: &[u64],
+    asked: PositionsSought,
+    reached: Option<&Reached<G>>,
+) -> Result<Vec<u8>, Fault>
+    requires held { (tier : ℕ) → Contains tiers.now tier → AreAllHeld G.Game.rules tables.now tier }
+    requires reached { is_some reached ≡ asked.reached }
+    requires lines { asked.form ≡ Sheet → ⊥ }
+    ensures text { IfOk result (λ v. IsFoundIn (game_spec G.Game.rules G.shown G.move_shown G.drawn G.mover G.naming G.style G.title G.board G.points)
+        asked tiers.now v.items) }
+    ensures fault { IfErr result IsMemoryFault }
+{
+    laws::<G>();
+    let (sought, choice) = (asked.sought, asked.choice);
+    let found = find_some(alloc, tables, tiers, sought, reached, choice)?;
+    let lines = lines_of::<G>(alloc, found.as_slice(), asked.form)?;
+    Ok(lines)
+}
+
+// Found positions as a text that is no sheet.
+fn lines_of<G: Pictured>(alloc: Global, found: &[Found], form: Form) -> Result<Vec<u8>, AllocError>
+    requires found { All (IsFound G.Game.rules) found.now }
+    requires lines { form ≡ Sheet → ⊥ }
+    ensures { IfOk result (λ v. IsTextOf (game_spec G.Game.rules G.shown G.move_shown G.drawn G.mover G.naming G.style G.title G.board G.points)
+        form found.now v.items) }
+{
+    match form {
+        Form::Rows => found_rows::<G>(alloc, found),
+        Form::Json => found_lines::<G>(alloc, found),
+        Form::Boards => board_rows::<G>(alloc, found),
+        Form::Sheet => unreachable!(),
     }
 }
 
 // A row for each found position, below its board.
-fn boards_text<G: Pictured>(alloc: Global, found: &[Found]) -> Result<Vec<u8>, AllocError>
+fn board_rows<G: Pictured>(alloc: Global, found: &[Found]) -> Result<Vec<u8>, AllocError>
     requires { All (IsFound G.Game.rules) found.now }
+    ensures { IfOk result (λ v. v.items
+        ≡ flat_map (board_row (game_spec G.Game.rules G.shown G.move_shown G.drawn G.mover G.naming G.style G.title G.board G.points)) found.now) }
 {
-    let mut text = Vec::new(alloc);
+    let mut rows = Vec::new(alloc);
     for x in found {
-        text.extend_from_slice(G::draw(x.position).as_slice())?;
-        text.extend_from_slice(b"\n")?;
-        push_found::<G>(&mut text, x)?;
+        push_below::<G>(&mut rows, x)?;
     }
-    Ok(text)
+    Ok(rows)
+}
+
+// Appends the row of a found position, below its board.
+fn push_below<G: Pictured>(rows: &mut Vec<u8>, x: &Found) -> Result<(), AllocError>
+    requires { IsFound G.Game.rules x.now }
+    ensures { OnOk result (rows.new.items ≡ rows.old.items
+        ++ board_row (game_spec G.Game.rules G.shown G.move_shown G.drawn G.mover G.naming G.style G.title G.board G.points) x.now) }
+{
+    rows.extend_from_slice(G::draw(x.position).as_slice())?;
+    rows.extend_from_slice(b"\n")?;
+    push_found::<G>(rows, x)
 }

@@ -91,9 +91,6 @@ part_length a c =
     let w = length_ones c [] in
     omega (arith, x, y, z, w)
 
-low_length : (a c : ℕ) → length (low_part a c) ≡ suc (suc c + a)
-low_length a c = (let x = length_ones (suc c) (zeros a []) in let y = length_zeros a [] in omega (arith, x, y))
-
 part_members : (a c : ℕ) → members (next_part a c) ≡ members (low_part a c)
 part_members a c =
     let x = members_ones (suc c) (zeros a []) in

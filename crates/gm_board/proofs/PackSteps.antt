@@ -9,9 +9,9 @@ use Rattle.std.proofs.lemmas.Nat.Bits.{shr_and_one, bit_at-lt}
 use Rattle.gm_board.specs.declared.cell.Cell.{Cell}
 use Rattle.gm_board.specs.Ranks.{members, members_le}
 use Rattle.gm_board.specs.Masks.{has_cell, tests_of, tests_none, tests_more, tests_length, mask_of, mask_cons, mask_below, weight, weight_bit, members_small}
-use Rattle.gm_board.specs.Arrangements.{their_bits, their_cell, merge, their_bits_length}
-use Rattle.gm_board.specs.Pieces.{cell_by, cells_of, cells_none, cells_more, cells_length, their_tests, spread_mask, apart_below}
-use Rattle.gm_board.specs.NextCells.{cell_below}
+use Rattle.gm_board.specs.Arrangements.{their_bits, their_cell, merge}
+use Rattle.gm_board.specs.Pieces.{cell_by, cells_of, cells_none, cells_more, their_tests, spread_mask, apart_below}
+use Rattle.gm_board.specs.NextCells.{cell_below, cell_one, cell_none}
 use Rattle.gm_board.proofs.LowestCells.{IsRest, rest_whole, lowest, nothing_left}
 
 -- the opponent's pieces below `cell` are packed
@@ -24,18 +24,6 @@ pub packed_none : (mine theirs : ℕ) → IsPacked mine theirs 0 0 0
 packed_none mine theirs = record {
   is_free = sym (ap (λ (cs : List Cell). length (their_bits cs)) (cells_none mine theirs));
   is_packed = sym (ap (λ (cs : List Cell). mask_of (their_bits cs)) (cells_none mine theirs));
-}
-
--- bounds on what is packed
-pub record IsPackedSmall (cell packed free : ℕ) : Type 0 where
-  pub free_le : free ≤ cell
-  pub packed_below : packed < 2 ^ free
-
--- the bounds hold
-pub packed_small : (mine theirs cell packed free : ℕ) → IsPacked mine theirs cell packed free → IsPackedSmall cell packed free
-packed_small mine theirs cell packed free h = record {
-  free_le = omega (arith, h.is_free, their_bits_length (cells_of cell mine theirs), cells_length cell mine theirs);
-  packed_below = subst (λ (k : ℕ). packed < 2 ^ k) (sym h.is_free) (subst (λ (v : ℕ). v < 2 ^ length (their_bits (cells_of cell mine theirs))) (sym h.is_packed) (mask_below (their_bits (cells_of cell mine theirs))));
 }
 
 their_bits_mine : (a b : Bool) (cs : List Cell) → a ≡ true → their_bits (cell_by a b ∷ cs) ≡ their_bits cs
@@ -302,13 +290,6 @@ pub record IsPackTurn (cells mine theirs rest passed packed cell : ℕ) : Type 0
 pub packing : (cells mine theirs : ℕ) → IsPacking cells mine theirs mine 0 theirs
 packing cells mine theirs = record { next = 0; within = omega arith; passed_le = omega arith; is_rest = rest_whole mine; is_to = packed_start mine theirs }
 
--- a bit that is set is a cell, and one that is not is none
-is_cell : (m c : ℕ) → bit_at m c ≡ 1 → has_cell m c ≡ true
-is_cell m c e = rw e refl
-
-is_none : (m c : ℕ) → bit_at m c ≡ 0 → has_cell m c ≡ false
-is_none m c e = rw e refl
-
 -- a turn
 pub pack_turn : (cells mine theirs rest passed packed : ℕ) → IsPacking cells mine theirs rest passed packed → mine < 2 ^ cells → bit_and mine theirs ≡ 0
     → packed < 2 ^ 32 → rest < 2 ^ 32 → 0 < rest → IsPackTurn cells mine theirs rest passed packed (trailing_zeros w32 rest)
@@ -316,12 +297,12 @@ pack_turn cells mine theirs rest passed packed h f a j g p =
     let c = trailing_zeros w32 rest in
     let n = h.next in
     let z = lowest mine n rest h.is_rest g p in
-    let own : has_cell mine c ≡ true = is_cell mine c z.has in
+    let own : has_cell mine c ≡ true = cell_one mine c z.has in
     let below : c < cells = cell_below mine cells c f own in
     let none : has_cell theirs c ≡ false = apart_below (c + 1) mine theirs a c (omega arith) own in
     let to = subst (λ (k : ℕ). IsPackedTo mine theirs c k packed) (let e : n - passed + (c - n) ≡ c - passed = omega (arith, z.from, h.passed_le) in e)
     (subst (λ (k : ℕ). IsPackedTo mine theirs k (n - passed + (c - n)) packed) (let e : n + (c - n) ≡ c = omega (arith, z.from) in e)
-    (packed_frees mine theirs n (c - n) (n - passed) packed h.is_to (λ i l. is_none mine (n + i) (z.none i l)))) in
+    (packed_frees mine theirs n (c - n) (n - passed) packed h.is_to (λ i l. cell_none mine (n + i) (z.none i l)))) in
     let d = step_down mine theirs c (c - passed) packed to none in
     record {
       shift = below;
@@ -344,7 +325,7 @@ pack_done cells mine theirs rest passed packed h l e =
     let n = h.next in
     packed_end cells mine theirs (n - passed + (cells - n)) packed
     (subst (λ (k : ℕ). IsPackedTo mine theirs k (n - passed + (cells - n)) packed) (let q : n + (cells - n) ≡ cells = omega (arith, h.within) in q)
-    (packed_frees mine theirs n (cells - n) (n - passed) packed h.is_to (λ i k. is_none mine (n + i) (nothing_left mine n rest (n + i) h.is_rest e (omega arith)))))
+    (packed_frees mine theirs n (cells - n) (n - passed) packed h.is_to (λ i k. cell_none mine (n + i) (nothing_left mine n rest (n + i) h.is_rest e (omega arith)))))
     l
 
 -- what holds before each of the mover's cells: those below some `next` are done
@@ -373,10 +354,10 @@ spread_turn cells mine packed rest theirs h w f g p =
     let c = trailing_zeros w32 rest in
     let n = h.next in
     let z = lowest mine n rest h.is_rest g p in
-    let own : has_cell mine c ≡ true = is_cell mine c z.has in
+    let own : has_cell mine c ≡ true = cell_one mine c z.has in
     let below : c < cells = cell_below mine cells c f own in
     let to = subst (λ (k : ℕ). IsSpreadTo mine packed k theirs) (let e : n + (c - n) ≡ c = omega (arith, z.from) in e)
-    (spread_frees mine packed n (c - n) theirs h.is_to (λ i l. is_none mine (n + i) (z.none i l))) in
+    (spread_frees mine packed n (c - n) theirs h.is_to (λ i l. cell_none mine (n + i) (z.none i l))) in
     let up = theirs / 2 ^ c * 2 ^ c in
     let part : up ≤ theirs = omega (arith, shr_split theirs c) in
     let e : 2 ^ (32 + (c + 1)) ≡ 2 ^ (32 + c) + 2 ^ (32 + c) = ap (λ (k : ℕ). 2 ^ k) (let q : 32 + (c + 1) ≡ suc (32 + c) = omega arith in q) ∙ two-pow-succ (32 + c) in
@@ -402,7 +383,7 @@ spread_done cells mine packed rest theirs h f g e =
     let n = h.next in
     spread_end cells mine packed theirs
     (subst (λ (k : ℕ). IsSpreadTo mine packed k theirs) (let q : n + (cells - n) ≡ cells = omega (arith, h.within) in q)
-    (spread_frees mine packed n (cells - n) theirs h.is_to (λ i k. is_none mine (n + i) (nothing_left mine n rest (n + i) h.is_rest e (omega arith)))))
+    (spread_frees mine packed n (cells - n) theirs h.is_to (λ i k. cell_none mine (n + i) (nothing_left mine n rest (n + i) h.is_rest e (omega arith)))))
     f g
 
 -- what is spread fits the cells

@@ -1,9 +1,8 @@
 -- The steps of making a number of digits, and of taking it apart again.
 use Rattle.std.proofs.Common.{◌≡◌, ℕ, zero, suc, ◌+◌, ◌*◌, ◌/◌, ◌%◌, ◌^◌, ◌<◌, ◌≤◌, List, [], ◌∷◌, ◌++◌, length, get_or, set, take, drop, sym, ap, ap₂, ◌∙◌, subst, arith, mod-lt, mul-le-mul_left, length-set, length-take, get_or-take, get_or-set_same, get_or-set_other, inl, inr, div-lt_iff_lt-mul}
 use Rattle.std.proofs.lemmas.Bool.{cases_eq}
-use Rattle.std.proofs.Math.Nat.{mod-eq_of_lt}
 use Rattle.std.proofs.lemmas.Nat.{div-add-mod', mul-mod_first}
-use Rattle.std.proofs.lemmas.List.{take_more, take_all, drop_more, drop_all, drop-set}
+use Rattle.std.proofs.lemmas.List.{take_more, take_all, drop_more, drop-set}
 use Rattle.gm_board.specs.Digits.{radix_size, digits_number, AreBelow, number_below, number_digits, digits_back}
 
 size_push : (rs : List ℕ) (r : ℕ) → radix_size (rs ++ r ∷ []) ≡ radix_size rs * r
@@ -35,14 +34,6 @@ size_more rs k j size q l h =
     (let z : radix_size (drop k rs) * r ≡ r * radix_size (drop k rs) = omega arith in z)
     ∙ ap (λ (i : ℕ). r * radix_size (drop i rs)) (sym q)
     ∙ ap radix_size (sym (drop_more rs j 0 (omega arith))))
-
--- the product of no radix
-pub size_none : (rs : List ℕ) (k : ℕ) → length rs ≤ k → 1 ≡ radix_size (drop k rs) % 2 ^ 64
-size_none rs k l = sym (ap (λ (xs : List ℕ). radix_size xs % 2 ^ 64) (drop_all k rs l))
-
--- the product of all radices
-pub size_all : (rs : List ℕ) (k size : ℕ) → k ≡ 0 → radix_size rs < 2 ^ 64 → size ≡ radix_size (drop k rs) % 2 ^ 64 → size ≡ radix_size rs
-size_all rs k size e l h = h ∙ ap (λ (i : ℕ). radix_size (drop i rs) % 2 ^ 64) e ∙ mod-eq_of_lt l
 
 -- positive radices
 one_digit : (q s k : ℕ) → 0 < q → s ≤ k → s ≤ q * k
@@ -80,17 +71,6 @@ pub record IsDecoded (rs : List ℕ) (number k rest : ℕ) (ds : List ℕ) : Typ
   pub below : rest < radix_size (take k rs)
   pub digits : (i : ℕ) → k ≤ i → i < length rs → get_or ds i 0 < get_or rs i 0
   pub is_number : number ≡ rest * radix_size (drop k rs) + digits_number (drop k rs) (drop k ds)
-
--- no digit is made yet
-pub decoded_none : (rs ds : List ℕ) (number k : ℕ) → length ds ≡ length rs → length rs ≡ k → number < radix_size rs → IsDecoded rs number k number ds
-decoded_none rs ds number k e f l =
-    let z : drop k rs ≡ [] = drop_all k rs (omega (arith, f)) in
-    record {
-      is_length = e;
-      below = subst (λ (xs : List ℕ). number < radix_size xs) (sym (take_all k rs (omega (arith, f)))) l;
-      digits = λ i a b. absurd (omega (arith, f));
-      is_number = sym (ap (λ (xs : List ℕ). number * radix_size xs + digits_number xs (drop k ds)) z ∙ (let q : number * 1 + 0 ≡ number = omega arith in q));
-    }
 
 -- the radix of the next digit is not 0
 pub radix_positive : (rs : List ℕ) (number k j rest : ℕ) (ds : List ℕ) → j + 1 ≡ k → k ≤ length rs → IsDecoded rs number k rest ds → 0 < get_or rs j 0

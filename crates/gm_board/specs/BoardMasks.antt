@@ -1,5 +1,5 @@
 -- Boards of cells as the masks of their pieces: one cell changed, the sides exchanged, patterns filled.
-use Rattle.std.proofs.Common.{◌≡◌, ◌≢◌, ℕ, ◌^◌, ◌<◌, min, max, Bool, true, false, ◌||◌, eqb, eqb-true, eq-eqb, List, [], ◌∷◌, map, get_or, set, refl, sym, ap, ap₂, ◌∙◌, subst, arith, ◌⊎◌, inl, inr, length-set, get_or-set_same, get_or-set_other}
+use Rattle.std.proofs.Common.{◌≡◌, ◌≢◌, ℕ, ◌^◌, ◌<◌, min, max, Bool, true, false, ◌||◌, eqb, eqb-true, eq-eqb, List, [], ◌∷◌, map, get_or, set, refl, sym, ap, ap₂, ◌∙◌, subst, arith, inl, inr, length-set, get_or-set_same, get_or-set_other}
 use Rattle.std.specs.Prelude.{bit_and, bit_or, ◌↔◌}
 use Rattle.std.specs.Int.{bit_at}
 use Rattle.std.specs.List.{Contains, list_all, list_any}
@@ -8,12 +8,13 @@ use Rattle.std.proofs.lemmas.List.{ext_get_or, get_or-map, length-map}
 use Rattle.std.proofs.lemmas.Nat.Bits.{bit_at-lt, bit_at-zero, bit_at_and, bit_at_or, bit_at-pow_same, bit_at-pow_other, same_from_bits}
 use Rattle.gm_board.specs.declared.cell.Cell.{Cell}
 use Rattle.gm_board.specs.declared.cell.Cell.TheVariants.{Empty, Mine, Theirs}
-use Rattle.gm_board.specs.laws.Lists.{contains_head, contains_later, contains_cases, and_both}
-use Rattle.gm_board.specs.Masks.{has_cell}
+use Rattle.gm_board.specs.laws.Lists.{contains_head, contains_later, contains_cases, all_from}
+use Rattle.gm_board.specs.Masks.{has_cell, bit_cases}
 use Rattle.gm_board.specs.Pieces.{cell_by, AreApart}
 use Rattle.gm_board.specs.Patterns.{same_tests}
 use Rattle.gm_board.specs.Permutations.{all_at}
 use Rattle.gm_board.specs.Images.{board_of, board_length, board_get}
+use Rattle.gm_board.specs.NextCells.{cell_one}
 
 -- masks that differ on one cell stand for boards that differ there
 pub board_change : (n a b c d k : ℕ) (v : Cell) → k < n → ((i : ℕ) → i ≢ k → bit_at c i ≡ bit_at a i) → ((i : ℕ) → i ≢ k → bit_at d i ≡ bit_at b i)
@@ -81,18 +82,8 @@ pattern_only (j ∷ l) k e = elim (cases_eq k j) [
       (let w = bit_at-pow_other j k q in let o = bit_at_or (2 ^ j) (pattern_mask l) k in let z : bit_at (pattern_mask l) k ≡ 1 = omega (arith, w, o, e) in z))
 ]
 
-one_or_zero : (v : ℕ) → v < 2 → (v ≡ 0) ⊎ (v ≡ 1)
-one_or_zero v l = grind arith
-
 test_one : (m k : ℕ) → has_cell m k ≡ true → bit_at m k ≡ 1
 test_one m k e = eqb-true (bit_at m k) 1 e
-
-one_test : (m k : ℕ) → bit_at m k ≡ 1 → has_cell m k ≡ true
-one_test m k e = rw e refl
-
-all_from : (p : ℕ → Bool) (l : List ℕ) → ((k : ℕ) → Contains l k → p k ≡ true) → list_all p l ≡ true
-all_from p [] h = refl
-all_from p (k ∷ l) h = and_both _ _ (h k (contains_head k l)) (all_from p l (λ j c. h j (contains_later k l j c)))
 
 -- a mask has all bits of a pattern's mask exactly where it has all cells of the pattern
 pub pattern_filled : (m : ℕ) (l : List ℕ) → (bit_and m (pattern_mask l) ≡ pattern_mask l) ↔ (list_all (has_cell m) l ≡ true)
@@ -102,10 +93,10 @@ pattern_filled m l = (
       let q = bit_at_and m (pattern_mask l) k in
       let r = ap (λ (v : ℕ). bit_at v k) e in
       let s = bit_at-lt m k in
-      one_test m k (let z : bit_at m k ≡ 1 = omega (arith, p, q, r, s) in z))),
+      cell_one m k (let z : bit_at m k ≡ 1 = omega (arith, p, q, r, s) in z))),
   (λ h. same_from_bits (bit_and m (pattern_mask l)) (pattern_mask l) (λ i.
       bit_at_and m (pattern_mask l) i ∙
-      elim (one_or_zero (bit_at (pattern_mask l) i) (bit_at-lt (pattern_mask l) i)) [
+      elim (bit_cases (bit_at (pattern_mask l) i) (bit_at-lt (pattern_mask l) i)) [
         | inl e ↦ (let z : min (bit_at m i) (bit_at (pattern_mask l) i) ≡ bit_at (pattern_mask l) i = omega (arith, e) in z)
         | inr e ↦ (let w = test_one m i (all_at (has_cell m) l i h (pattern_only l i e)) in
             let z : min (bit_at m i) (bit_at (pattern_mask l) i) ≡ bit_at (pattern_mask l) i = omega (arith, e, w) in z)

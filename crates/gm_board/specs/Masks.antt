@@ -64,7 +64,8 @@ pub mask_cons : (b : Bool) (bs : List Bool) → mask_of (b ∷ bs) ≡ weight b 
 mask_cons true bs = omega arith
 mask_cons false bs = omega arith
 
-bit_cases : (v : ℕ) → v < 2 → (v ≡ 0) ⊎ (v ≡ 1)
+-- a bit is 0 or 1
+pub bit_cases : (v : ℕ) → v < 2 → (v ≡ 0) ⊎ (v ≡ 1)
 bit_cases v l = grind arith
 
 -- the test of a bit, and its weight
@@ -152,12 +153,6 @@ pub rank_wide : (n w m : ℕ) → n ≤ w → m < 2 ^ n → rank (tests_of w m) 
 rank_wide n w m l f =
     ap (λ (k : ℕ). rank (tests_of k m)) (let e : w ≡ n + (w - n) = omega arith in e)
     ∙ rank_skips n (w - n) m (λ i h. bit_at_above m n (n + i) f (omega arith))
-
--- a mask that fits a narrower board has the same members on a wider one
-pub members_wide : (n w m : ℕ) → n ≤ w → m < 2 ^ n → members (tests_of w m) ≡ members (tests_of n m)
-members_wide n w m l f =
-    ap (λ (k : ℕ). members (tests_of k m)) (let e : w ≡ n + (w - n) = omega arith in e)
-    ∙ members_skips n (w - n) m (λ i h. bit_at_above m n (n + i) f (omega arith))
 
 -- the number of members is the number of set bits below n
 pub members_ones : (n m : ℕ) → members (tests_of n m) ≡ count_ones (m % 2 ^ n)

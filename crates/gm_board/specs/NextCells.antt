@@ -12,10 +12,11 @@ pub record IsNext (mask next s rest : ℕ) : Type 0 where
   pub none : (i : ℕ) → i < s → has_cell mask (next + i) ≡ false
   pub is_rest : rest ≡ mask / 2 ^ (next + s + 1)
 
-cell_one : (m c : ℕ) → bit_at m c ≡ 1 → has_cell m c ≡ true
+-- a bit that is set is a cell, and one that is not is none
+pub cell_one : (m c : ℕ) → bit_at m c ≡ 1 → has_cell m c ≡ true
 cell_one m c e = rw e refl
 
-cell_none : (m c : ℕ) → bit_at m c ≡ 0 → has_cell m c ≡ false
+pub cell_none : (m c : ℕ) → bit_at m c ≡ 0 → has_cell m c ≡ false
 cell_none m c e = rw e refl
 
 -- before the first cell, all of the mask is left

@@ -117,8 +117,3 @@ pub filled_same : {X Y : Type 0} (d : X) (e : Y) (L : List (List ℕ)) (p : X �
     → has_filled d L p xs ≡ has_filled e L q ys
 filled_same d e [] p q xs ys h = refl
 filled_same d e (l ∷ L) p q xs ys h = ap₂ (λ (x y : Bool). x || y) (fills_same d e p q xs ys h l) (filled_same d e L p q xs ys h)
-
--- a disjunction fails where neither of its tests is passed
-pub or_false : (a b : Bool) → a ≡ false → b ≡ false → (a || b) ≡ false
-or_false true b e f = e
-or_false false b e f = f

@@ -8,7 +8,7 @@ use Rattle.gm_board.specs.declared.cell.Cell.{Cell}
 use Rattle.gm_board.specs.declared.cell.Cell.TheVariants.{Empty, Mine, Theirs}
 use Rattle.gm_board.specs.Ranks.{members}
 use Rattle.gm_board.specs.Masks.{has_cell, tests_of, mask_of, mask_cons, weight, tests_none, tests_more, mask_below, mask_tests_small, tests_mask, members_small}
-use Rattle.gm_board.specs.Arrangements.{mine_bits, their_bits, merge, arrangement_index, arrangement, arrangements, arrangement_is, index_below_at, back_at}
+use Rattle.gm_board.specs.Arrangements.{mine_bits, their_bits, merge, arrangement_index, arrangement, arrangements, arrangement_is, index_below_at, back_at, mine_bits_length}
 
 -- what stands on a cell, by the tests of the mover's and of the opponent's pieces
 abbrev pub cell_by : Bool → Bool → Cell
@@ -132,12 +132,6 @@ by_tests_back (Mine ∷ cs) = ap (λ (ds : List Cell). Mine ∷ ds) (by_tests_ba
 by_tests_back (Theirs ∷ cs) = ap (λ (ds : List Cell). Theirs ∷ ds) (by_tests_back cs)
 by_tests_back (Empty ∷ cs) = ap (λ (ds : List Cell). Empty ∷ ds) (by_tests_back cs)
 
-mine_length : (cs : List Cell) → length (mine_bits cs) ≡ length cs
-mine_length [] = refl
-mine_length (Mine ∷ cs) = ap suc (mine_length cs)
-mine_length (Theirs ∷ cs) = ap suc (mine_length cs)
-mine_length (Empty ∷ cs) = ap suc (mine_length cs)
-
 theirs_length : (cs : List Cell) → length (their_tests cs) ≡ length cs
 theirs_length [] = refl
 theirs_length (Mine ∷ cs) = ap suc (theirs_length cs)
@@ -151,12 +145,8 @@ tests_at n bs e = ap (λ (k : ℕ). tests_of k (mask_of bs)) (sym e) ∙ tests_m
 pub cells_back : (n : ℕ) (cs : List Cell) → length cs ≡ n → cells_of n (mask_of (mine_bits cs)) (mask_of (their_tests cs)) ≡ cs
 cells_back n cs e =
     cells_by_tests n (mask_of (mine_bits cs)) (mask_of (their_tests cs))
-    ∙ ap₂ by_tests (tests_at n (mine_bits cs) (mine_length cs ∙ e)) (tests_at n (their_tests cs) (theirs_length cs ∙ e))
+    ∙ ap₂ by_tests (tests_at n (mine_bits cs) (mine_bits_length cs ∙ e)) (tests_at n (their_tests cs) (theirs_length cs ∙ e))
     ∙ by_tests_back cs
-
--- two masks with the same tests are the same
-pub same_mask : (n a b : ℕ) → a < 2 ^ n → b < 2 ^ n → tests_of n a ≡ tests_of n b → a ≡ b
-same_mask n a b f g e = sym (mask_tests_small n a f) ∙ ap mask_of e ∙ mask_tests_small n b g
 
 mask_within : (n : ℕ) (bs : List Bool) → length bs ≡ n → mask_of bs < 2 ^ n
 mask_within n bs e = subst (λ (k : ℕ). mask_of bs < 2 ^ k) e (mask_below bs)
@@ -172,21 +162,21 @@ apart_cons a b xs bs e f g =
 
 masks_apart : (cs : List Cell) → bit_and (mask_of (mine_bits cs)) (mask_of (their_tests cs)) ≡ 0
 masks_apart [] = refl
-masks_apart (Mine ∷ cs) = apart_cons true false (mine_bits cs) (their_tests cs) (mine_length cs ∙ sym (theirs_length cs)) refl (masks_apart cs)
-masks_apart (Theirs ∷ cs) = apart_cons false true (mine_bits cs) (their_tests cs) (mine_length cs ∙ sym (theirs_length cs)) refl (masks_apart cs)
-masks_apart (Empty ∷ cs) = apart_cons false false (mine_bits cs) (their_tests cs) (mine_length cs ∙ sym (theirs_length cs)) refl (masks_apart cs)
+masks_apart (Mine ∷ cs) = apart_cons true false (mine_bits cs) (their_tests cs) (mine_bits_length cs ∙ sym (theirs_length cs)) refl (masks_apart cs)
+masks_apart (Theirs ∷ cs) = apart_cons false true (mine_bits cs) (their_tests cs) (mine_bits_length cs ∙ sym (theirs_length cs)) refl (masks_apart cs)
+masks_apart (Empty ∷ cs) = apart_cons false false (mine_bits cs) (their_tests cs) (mine_bits_length cs ∙ sym (theirs_length cs)) refl (masks_apart cs)
 
 -- the masks of a board have the board's pieces
 pub has_pieces : (n m t : ℕ) (cs : List Cell) → length cs ≡ n → members (mine_bits cs) ≡ m → members (their_bits cs) ≡ t
     → HasPieces n m t (mask_of (mine_bits cs)) (mask_of (their_tests cs))
 has_pieces n m t cs e f h =
-    let a = mask_within n (mine_bits cs) (mine_length cs ∙ e) in
+    let a = mask_within n (mine_bits cs) (mine_bits_length cs ∙ e) in
     let b = mask_within n (their_tests cs) (theirs_length cs ∙ e) in
     record {
       mine_within = a;
       theirs_within = b;
       apart = masks_apart cs;
-      mine_number = sym (members_small n (mask_of (mine_bits cs)) a) ∙ ap members (tests_at n (mine_bits cs) (mine_length cs ∙ e)) ∙ f;
+      mine_number = sym (members_small n (mask_of (mine_bits cs)) a) ∙ ap members (tests_at n (mine_bits cs) (mine_bits_length cs ∙ e)) ∙ f;
       their_number = sym (members_small n (mask_of (their_tests cs)) b) ∙ ap members (tests_at n (their_tests cs) (theirs_length cs ∙ e)) ∙ sym (their_members cs) ∙ h;
     }
 

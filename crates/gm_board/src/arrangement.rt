@@ -28,6 +28,7 @@ impl Arrangement {
     }
 
     /// The index of the arrangement with these masks of pieces. Inlined, as `masks` is.
+    #[tactic(auto, using(crate::specs::Binomials::binomial_small, crate::proofs::IndexSteps::index_is))]
     #[inline(always)]
     pub fn index(self, mine: u32, theirs: u32) -> u64
         requires { HasPieces self.cells self.mine self.theirs mine theirs }
@@ -42,6 +43,7 @@ impl Arrangement {
 
     /// The masks of the mover's and of the opponent's pieces in the arrangement with this index. Inlined, so that a game with constant numbers of pieces
     /// divides by constants.
+    #[tactic(auto, using(crate::proofs::IndexSteps::digits_are, crate::proofs::IndexSteps::mine_mask_is, crate::proofs::IndexSteps::their_mask_is))]
     #[inline(always)]
     pub fn masks(self, index: u64) -> (u32, u32)
         requires { index < arrangements self.cells self.mine self.theirs }
@@ -68,6 +70,7 @@ impl Arrangement {
 }
 
 /// The mask of the opponent's pieces on the cells without the mover's pieces, where these cells are numbered from 0 in ascending order.
+#[tactic(auto, using(crate::proofs::PackSteps::packing, crate::proofs::PackSteps::pack_turn))]
 #[inline(always)]
 fn pack(cells: u32, mine: u32, theirs: u32) -> u32
     requires cells { cells ≤ 32 }
@@ -90,6 +93,7 @@ fn pack(cells: u32, mine: u32, theirs: u32) -> u32
 }
 
 /// The mask of the opponent's pieces on all cells, from their mask on the cells without the mover's pieces.
+#[tactic(auto, using(crate::proofs::PackSteps::spreading))]
 fn spread(cells: u32, mine: u32, packed: u32) -> u32
     requires cells { cells ≤ 32 }
     requires mine { mine < 2 ^ cells }

@@ -11,6 +11,7 @@ pub struct MixedRadix<const K: usize> {
 
 impl<const K: usize> MixedRadix<K> {
     /// How many numbers there are: the product of the radices.
+    #[tactic(auto, using(crate::proofs::RadixSteps::size_more))]
     pub fn size(&self) -> u64
         ensures { result ≡ radix_size self.now.radices }
     {
@@ -23,6 +24,7 @@ impl<const K: usize> MixedRadix<K> {
     }
 
     /// The number that has these digits.
+    #[tactic(auto, using(crate::specs::Digits::number_below, crate::specs::Digits::digits_back, crate::proofs::RadixSteps::number_more, crate::proofs::RadixSteps::prefix_below, crate::proofs::RadixSteps::number_all))]
     pub fn encode(&self, digits: &[u64; K]) -> u64
         requires { AreBelow self.now.radices digits.now }
         ensures value { result ≡ digits_number self.now.radices digits.now }
@@ -37,6 +39,7 @@ impl<const K: usize> MixedRadix<K> {
     }
 
     /// The digits of this number.
+    #[tactic(auto, using(crate::proofs::RadixSteps::decoded_all, crate::proofs::RadixSteps::radix_positive))]
     pub fn decode(&self, number: u64) -> [u64; K]
         requires { number < radix_size self.now.radices }
         ensures value { result ≡ number_digits self.now.radices number }

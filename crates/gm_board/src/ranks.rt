@@ -1008,6 +1008,7 @@ static UPPER: [[u32; 512]; 17] = [
 ];
 
 /// The rank of a subset of 25 cells among the subsets with equally many cells.
+#[tactic(auto, using(crate::proofs::RankTables::long_rank_is))]
 #[inline]
 pub fn long_rank(mask: u32) -> u64
     requires { mask < 2 ^ 25 }

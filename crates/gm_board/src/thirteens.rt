@@ -515,6 +515,7 @@ const STARTS: [u16; 14] = [
 ];
 
 /// The mask of the set of `members` of thirteen cells with this rank.
+#[tactic(auto, using(crate::proofs::ThirteenSteps::thirteen_at))]
 #[inline]
 pub fn subset_of_13(members: u32, rank: u64) -> u32
     requires { rank < binomial 13 members }

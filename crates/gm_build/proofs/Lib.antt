@@ -3,3 +3,4 @@ pub mod StoreLemmas
 pub mod OrderLemmas
 pub mod SoFar
 pub mod ErrorLemmas
+mod WholeLines

@@ -1,5 +1,5 @@
 //! What is written on the progress of a build while it runs.
-ghost use Rattle.std.specs.Prelude.{◌≡◌, ◌+◌, ◌*◌, ◌≤◌, ◌↔◌, true, None, IfSome};
+ghost use Rattle.std.specs.Prelude.{◌≡◌, ◌+◌, ◌*◌, ◌≤◌, ◌↔◌, true, false, None, IfSome};
 ghost use Rattle.std.specs.Duration.{as_nanos};
 
 use crate::watch::Watch;
@@ -116,16 +116,22 @@ pub struct Progress<'a, C, E: Write> {
 
 impl<'a, C: Clock, E: Write> Progress<'a, C, E> {
     /// The progress of a build that is to begin.
-    pub fn new(clock: &'a C, errors: &'a mut E) -> Self {
+    pub fn new(clock: &'a C, errors: &'a mut E) -> Self
+        ensures { result.quiet ≡ false }
+    {
         Progress::begun(clock, errors, false)
     }
 
     /// A progress that writes nothing, so that a build with lines and one without are the same code.
-    pub fn quiet(clock: &'a C, errors: &'a mut E) -> Self {
+    pub fn quiet(clock: &'a C, errors: &'a mut E) -> Self
+        ensures { result.quiet ≡ true }
+    {
         Progress::begun(clock, errors, true)
     }
 
-    fn begun(clock: &'a C, errors: &'a mut E, quiet: bool) -> Self {
+    fn begun(clock: &'a C, errors: &'a mut E, quiet: bool) -> Self
+        ensures { result.quiet ≡ quiet }
+    {
         let lines = Lines {
             errors,
             last: None,

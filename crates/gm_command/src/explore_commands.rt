@@ -1,4 +1,6 @@
 //! What a line that asks about a position says.
+ghost use Rattle.std.specs.Prelude.{◌≡◌, codes, IfSome, option_map};
+ghost use Rattle.clap.specs.Words.{first_value, found_of};
 
 use crate::requests::{PositionAsked, Question};
 use clap::ArgMatches;
@@ -26,7 +28,10 @@ fn show_of(inner: &ArgMatches<'_>) -> Option<Question> {
 }
 
 /// Reads a line with one of these commands.
-pub fn explore_of<'a>(name: &str, inner: &ArgMatches<'a>) -> Option<PositionAsked<'a>> {
+pub fn explore_of<'a>(name: &str, inner: &ArgMatches<'a>) -> Option<PositionAsked<'a>>
+    ensures position { IfSome result (λ asked. option_map (λ text. text.now) asked.position ≡ first_value (found_of inner.now) (codes "POSITION")) }
+    ensures why { name.now ≡ codes "why" → IfSome result (λ asked. asked.question ≡ Question.Why) }
+{
     let question = match name {
         "moves" => Question::Moves {
             distinct: inner.get_flag("distinct"),

@@ -1,4 +1,6 @@
 //! Texts about the program, made from the table of its command lines: completions for shells, and a man page.
+ghost use Rattle.std.specs.Prelude.{◌≡◌, ◌↔◌, codes, Some};
+ghost use Rattle.clap.specs.Words.{first_value, found_of};
 
 use crate::lines::lines;
 use crate::names::{LATER_NAMES, NAMES};
@@ -15,8 +17,13 @@ pub enum Manual {
     Man,
 }
 
-/// The shell of a line of `completions`.
-pub fn manual_of(inner: &ArgMatches<'_>) -> Option<Manual> {
+/// The completions for the shell that a line of `completions` names.
+pub fn manual_of(inner: &ArgMatches<'_>) -> Option<Manual>
+    ensures bash { (result ≡ Some Manual.Bash) ↔ (first_value (found_of inner.now) (codes "SHELL") ≡ Some (codes "bash")) }
+    ensures zsh { (result ≡ Some Manual.Zsh) ↔ (first_value (found_of inner.now) (codes "SHELL") ≡ Some (codes "zsh")) }
+    ensures fish { (result ≡ Some Manual.Fish) ↔ (first_value (found_of inner.now) (codes "SHELL") ≡ Some (codes "fish")) }
+    ensures man { result ≡ Some Manual.Man → ⊥ }
+{
     match inner.get_str("SHELL")? {
         "bash" => Some(Manual::Bash),
         "zsh" => Some(Manual::Zsh),

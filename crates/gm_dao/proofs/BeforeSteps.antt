@@ -1,19 +1,10 @@
 -- The board before a slide that led to a legal board.
-use Rattle.std.proofs.Common.{◌≡◌, ℕ, ◌+◌, ◌*◌, ◌<◌, true, false, not, eqb, eqb-true, eq-eqb, List, map, length, set, None, Some, subst, sym, ap, ap₂, ◌∙◌, arith, inl, inr}
-use Rattle.std.proofs.lemmas.List.{get_or-set_same, length-set, length-map}
-use Rattle.std.proofs.lemmas.Bool.{cases_Bool, cond-false, cond-true, true≢false, not-true}
-use Rattle.gm_board.specs.declared.cell.Cell.{Cell}
-use Rattle.gm_board.specs.declared.cell.Cell.TheVariants.{Empty, Mine}
-use Rattle.gm_board.specs.BoardMasks.{turned}
-use Rattle.gm_board.specs.Cells.{is_mine, is_theirs, cell_at, number_of}
-use Rattle.gm_board.specs.laws.CellCounts.{mine_turned, theirs_turned}
-use Rattle.gm_board.specs.laws.Lists.{and_left, and_right, and_both}
-use Rattle.gm_pieces.specs.Steps.{from_point, to_point}
-use Rattle.gm_pieces.specs.laws.StepFacts.{from_back, to_back}
-use Rattle.gm_pieces.specs.MoveGames.{plays_on, goes_on, before_at}
-use Rattle.gm_pieces.specs.laws.MoveLaws.{before_some, before_none}
-use Rattle.gm_pieces.specs.Sides.{WasStep, gone, brought_back}
-use Rattle.gm_pieces.specs.laws.MoveFacts.{step_left, gone_again}
+use Rattle.std.specs.Prelude.{◌≡◌, ◌+◌, ◌*◌, ◌<◌}
+use Rattle.gm_pieces.specs.Common.{ℕ, true, false, not, eqb, eqb-true, eq-eqb, List, map, length, set, None, Some, subst, sym, ap, ap₂}
+use Rattle.gm_pieces.specs.Common.{◌∙◌, arith, inl, inr, get_or-set_same, length-set, length-map, cases_Bool, cond-false, cond-true, true≢false, not-true}
+use Rattle.gm_pieces.specs.Common.{Cell, Empty, Mine, turned, is_mine, is_theirs, cell_at, number_of, mine_turned, theirs_turned, and_left, and_right}
+use Rattle.gm_pieces.specs.Common.{and_both, from_point, to_point, from_back, to_back, plays_on, goes_on, before_at, before_some, before_none, WasStep, gone}
+use Rattle.gm_pieces.specs.Common.{brought_back, step_left, gone_again}
 use Rattle.gm_dao.specs.DaoRules.{has_formation, has_trapped, legal, over, in_line, slides, can_move, was_moved, taken_back, dao}
 use Rattle.gm_dao.specs.MaskSlides.{is_open}
 use Rattle.gm_dao.specs.laws.BoardFacts.{formation_turned, formation_left, legal_in, legal_from}

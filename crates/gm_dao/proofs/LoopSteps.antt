@@ -1,36 +1,19 @@
 -- The steps of the loops over cells: what is skipped gives no move and no board.
-use Rattle.std.proofs.Common.{◌≡◌, ℕ, zero, suc, ◌+◌, ◌-◌, ◌*◌, ◌/◌, ◌%◌, ◌^◌, ◌<◌, ◌≤◌, Bool, true, false, ◌&&◌, eqb, eq-eqb, List, [], ◌∷◌, ◌++◌, length, map, None, Some, refl, sym, ap, ap₂, ◌∙◌, subst, arith, inl, inr}
-use Rattle.std.specs.Prelude.{bit_and, bit_or}
-use Rattle.std.proofs.Math.Nat.{mod-eq_of_lt}
-use Rattle.std.proofs.Math.Pow.{pow-lt, pow_mono}
-use Rattle.std.proofs.lemmas.Nat.{or_lt, and_le_l, and_le_r}
-use Rattle.std.specs.Int.{trailing_zeros, w32}
+use Rattle.std.specs.Prelude.{◌≡◌, ◌+◌, ◌-◌, ◌*◌, ◌/◌, ◌%◌, ◌^◌, ◌<◌, ◌≤◌, ◌&&◌, ◌∷◌, ◌++◌}
+use Rattle.gm_pieces.specs.Common.{ℕ, zero, suc, Bool, true, false, eqb, eq-eqb, List, []}
+use Rattle.gm_pieces.specs.Common.{length, map, None, Some, refl, sym, ap, ap₂, ◌∙◌, subst, arith, inl, inr, bit_and, bit_or, mod-eq_of_lt, pow-lt, pow_mono}
+use Rattle.gm_pieces.specs.Common.{or_lt, and_le_l, and_le_r, trailing_zeros, w32, list_all, filter, filter_map, range_with_len, cases_Bool, cases_eq}
+use Rattle.gm_pieces.specs.Common.{true≢false, bit_at_above, bit_at_set_same, bit_at_set_other, put, put_all, put_more_none, put_more_some, Cell, has_cell}
+use Rattle.gm_pieces.specs.Common.{weight, rest_all, next_cell, cell_below, none_left, board_of, from_point, to_point, from_back, to_back, filter_in}
+use Rattle.gm_pieces.specs.Common.{contains_range, and_true, has_and, all_at, steps, before_at, before_none, all_steps, step_listed, is_mine, is_theirs}
+use Rattle.gm_pieces.specs.Common.{is_empty, is_taken, cell_at, own_cells, their_cells}
 use Rattle.std.specs.Int.Bits.{or_zero_r}
-use Rattle.std.specs.List.{list_all, filter, filter_map, range_with_len}
-use Rattle.std.proofs.lemmas.Bool.{cases_Bool, cases_eq, true≢false}
-use Rattle.std.proofs.lemmas.Nat.Bits.{bit_at_above, bit_at_set_same, bit_at_set_other}
-use Rattle.gm_game.specs.Ascending.{put, put_all}
-use Rattle.gm_game.proofs.PuttingSteps.{put_more_none, put_more_some}
-use Rattle.gm_board.specs.declared.cell.Cell.{Cell}
-use Rattle.gm_board.specs.Masks.{has_cell, weight}
-use Rattle.gm_board.specs.NextCells.{rest_all, next_cell, cell_below, none_left}
-use Rattle.gm_board.specs.Images.{board_of}
-use Rattle.gm_pieces.specs.Steps.{from_point, to_point}
-use Rattle.gm_pieces.specs.laws.StepFacts.{from_back, to_back}
 use Rattle.gm_pieces.specs.laws.Skipped.{filter_skip, puts_skip}
-use Rattle.gm_board.specs.laws.Filters.{filter_in}
-use Rattle.gm_board.specs.laws.Lists.{contains_range}
-use Rattle.gm_board.specs.laws.MaskChanges.{has_and}
-use Rattle.gm_board.specs.Permutations.{all_at}
-use Rattle.gm_pieces.specs.MoveGames.{steps, before_at}
-use Rattle.gm_pieces.specs.laws.MoveLaws.{before_none, all_steps, step_listed}
-use Rattle.gm_board.specs.Cells.{is_mine, is_theirs, is_empty, is_taken, cell_at}
 use Rattle.gm_dao.specs.DaoRules.{in_line, path, beyond, can_move, was_moved, least_index_of, dao}
 use Rattle.gm_dao.specs.MaskSlides.{slides_by_masks, AreMovesBelow, AreBeforesBelow}
 use Rattle.gm_dao.specs.laws.MoveFacts.{move_slide, line_below}
 use Rattle.gm_dao.specs.laws.BeforeFacts.{was_in}
-use Rattle.gm_pieces.specs.laws.MaskFacts.{own_cells, their_cells}
-use Rattle.gm_dao.proofs.MoveSteps.{and_one, slides_by, move_by}
+use Rattle.gm_dao.proofs.MoveSteps.{slides_by, move_by}
 
 -- ---- moves
 -- no move leaves a cell without a piece of the mover's
@@ -128,7 +111,7 @@ pub free_cells : (d : List Cell) (free : ℕ) → ((k : ℕ) → k < 16 → has_
 free_cells d free h k l =
     has_and free 65535 k
     ∙ ap₂ (λ (x y : Bool). x && y) (h k l) (all_at (has_cell 65535) (range_with_len 0 16) k refl (contains_range 16 k l))
-    ∙ and_one (is_empty (cell_at d k))
+    ∙ and_true (is_empty (cell_at d k))
 
 -- cells that are not free, s of them
 pub taken_skip : (t : ℕ) (d : List Cell) (left n s : ℕ) (is : List ℕ) → ((k : ℕ) → k < 16 → has_cell left k ≡ is_empty (cell_at d k)) → n + s ≤ 16

@@ -126,7 +126,7 @@ fn push_moves(list: &mut ArrayVec<u32, MOVES>, board: Board, from: u32)
 }
 
 /// The numbers of the moves that could be made if the game were not over, ascending.
-#[tactic(auto, using(gm_board::specs::Images::board_of, crate::specs::laws::BoardFacts::legal_in, crate::specs::laws::MoveFacts::steps_few, crate::proofs::LoopSteps::moves_skip, crate::proofs::LoopSteps::moves_end))]
+#[tactic(auto, using(gm_board::specs::Images::board_of, crate::specs::laws::BoardFacts::legal_in, crate::specs::laws::MoveFacts::steps_few, crate::proofs::LoopSteps::moves_skip, crate::proofs::LoopSteps::moves_end, gm_board::specs::NextCells::next_cell))]
 pub fn open_moves(board: Board) -> ArrayVec<u32, MOVES>
     requires { legal (board_of 16 board.mine board.theirs) ≡ true }
     ensures { result.items ≡ steps dao (board_of 16 board.mine board.theirs) }
@@ -148,7 +148,8 @@ pub fn open_moves(board: Board) -> ArrayVec<u32, MOVES>
 #[tactic(auto, unfolding(crate::specs::DaoRules::play))]
 pub fn play(board: Board, number: u32) -> Board
     requires { can_move_of (board_of 16 board.mine board.theirs) number ≡ true }
-    ensures { board_of 16 result.mine result.theirs ≡ play_of (board_of 16 board.mine board.theirs) number }
+    ensures mine { result.mine ≡ board.theirs }
+    ensures board { board_of 16 result.mine result.theirs ≡ play_of (board_of 16 board.mine board.theirs) number }
 {
     let step = Step::numbered(number);
     board.gone(step.from, step.to)

@@ -72,6 +72,7 @@ fn is_open(board: Board) -> bool
 
 // The board of the tier before the opponent's piece went from one cell to another, if there is one. That the board after it is legal leaves little to be
 // tested: each side has its pieces, and the other side no formation.
+#[tactic(auto, using(gm_board::specs::Images::board_length, gm_pieces::specs::laws::MaskFacts::was_within, crate::proofs::BeforeSteps::no_before, crate::proofs::BeforeSteps::earlier_legal, crate::proofs::BeforeSteps::one_before))]
 fn gone_before(tier: u64, board: Board, from: u32, to: u32) -> Option<Board>
     requires from { from < 16 }
     requires legal { legal (board_of 16 board.mine board.theirs) ≡ true }
@@ -93,6 +94,7 @@ fn gone_before(tier: u64, board: Board, from: u32, to: u32) -> Option<Board>
 }
 
 // Puts into the list the least indexes of the boards before the moves that leave a cell.
+#[tactic(auto, using(gm_board::specs::NextCells::next_cell, gm_board::specs::NextCells::cell_below, crate::proofs::LoopSteps::moved_within, crate::proofs::LoopSteps::befores_end))]
 fn put_befores(list: &mut ArrayVec<u64, PARENTS>, tier: u64, board: Board, from: u32)
     requires cell { from < 16 }
     requires free { is_empty (cell_at (board_of 16 board.mine board.theirs) from) ≡ true }
@@ -118,6 +120,7 @@ fn put_befores(list: &mut ArrayVec<u64, PARENTS>, tier: u64, board: Board, from:
 }
 
 /// Writes the least indexes of the boards of the tier from which a move leads to this one, ascending and once each, over what the list holds.
+#[tactic(auto, using(gm_pieces::specs::laws::MoveLaws::befores_few, crate::specs::laws::DaoLaws::lawful))]
 pub fn fill_parents(tier: u64, board: Board, list: &mut ArrayVec<u64, PARENTS>)
     requires { legal (board_of 16 board.mine board.theirs) ≡ true }
     ensures { list.new.items ≡ put_all [] (map least_index_of (befores dao tier (board_of 16 board.mine board.theirs))) }
@@ -133,14 +136,4 @@ pub fn fill_parents(tier: u64, board: Board, list: &mut ArrayVec<u64, PARENTS>)
         next += 1;
         rest = rest >> skipped >> 1;
     }
-}
-
-/// The least indexes of the boards of the tier from which a move leads to this one, ascending and once each.
-pub fn parents(tier: u64, board: Board) -> ArrayVec<u64, PARENTS>
-    requires { legal (board_of 16 board.mine board.theirs) ≡ true }
-    ensures { result.items ≡ put_all [] (map least_index_of (befores dao tier (board_of 16 board.mine board.theirs))) }
-{
-    let mut list = ArrayVec::new();
-    fill_parents(tier, board, &mut list);
-    list
 }

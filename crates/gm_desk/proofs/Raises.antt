@@ -63,8 +63,3 @@ unfolding part_of
 first_raised old new p q d n up first all is =
     let sum : old.amount + d ≡ n = (let a = ap (λ (s : Part). s.amount) first in omega arith) in
     up ∙ ap (part_of old.parts) sum ∙ ap (λ (k : ℕ). part_of k n) (ap (λ (s : Part). s.parts) first ∙ all)
-
--- a share that was not raised
-pub not_raised : (s : Part) → s ≡ record { parts = s.parts; amount = s.amount + 0 }
-unfolding part_of
-not_raised s = let e : s.amount ≡ s.amount + 0 = omega arith in ap (part_of s.parts) e

@@ -15,10 +15,10 @@ use Rattle.gm_game.specs.Children.{with_position}
 use Rattle.gm_game.specs.Places.{StandsAt}
 use Rattle.gm_game.proofs.Counts.{HasNoRepeats}
 use Rattle.gm_game.proofs.SetLemmas.{with_cases}
-use Rattle.gm_frontier.specs.Notes.{NoteData, phase_of}
-use Rattle.gm_frontier.specs.Levels.{LevelData, IsLevel}
-use Rattle.gm_frontier.proofs.PairLemmas.{pairs_once, in_pairs, positions_once, canonical_notes}
-use Rattle.gm_frontier.specs.Pairs.{pairs_of}
+use Rattle.gm_frontier.specs.Notes.{NoteData, IsNoteAt, phase_of}
+use Rattle.gm_frontier.specs.Levels.{LevelData, IsLevel, positions}
+use Rattle.gm_frontier.proofs.PairLemmas.{pairs_once, in_pairs, in_piece, positions_once, piece_positions_once}
+use Rattle.gm_frontier.specs.Pairs.{pairs_of, piece_of}
 use Rattle.gm_frontier.specs.Counts.{ExpectedData, IsExpected}
 use Rattle.gm_frontier.proofs.Distinct.{same_image}
 use Rattle.gm_frontier.proofs.ForGame.{now_stands}
@@ -32,7 +32,7 @@ use Rattle.gm_deliveries.specs.Delivery.{Delivers}
 use Rattle.gm_deliveries.specs.Steps.{IsFor, IsWhole}
 use Rattle.gm_deliveries.proofs.CloseLemmas.{whole_from}
 use Rattle.gm_desk.specs.Spots.{Spot, spot_of, gain, IsDeliverable}
-use Rattle.gm_desk.specs.Rounds.{pairs_into, place_of_spot, IsRound, HasNoneHere, IsForSpot, IsLevelAt, IsNextAnswer}
+use Rattle.gm_desk.specs.Rounds.{pairs_into, place_of_spot, AreFirst, IsRound, HasNoneHere, IsForSpot, IsLevelAt, IsNextAnswer}
 use Rattle.gm_desk.proofs.Places.{value_stands}
 use Rattle.gm_desk.proofs.Kept.{stays_delivered, new_delivered}
 use Rattle.gm_desk.proofs.Gains.{gained}
@@ -54,7 +54,7 @@ item_at (y ∷ ys) zero l = (y, refl)
 item_at (y ∷ ys) (suc k) l = item_at ys k (omega arith)
 
 -- what is delivered with one pair more
-with_has : (s : ShardState) (c : Position) (parent : ℕ) → IsInRange s parent → (index : ℕ) (d : Position) → IsInRange s index → Contains (delivered_to (with_pair s c parent) index) d
+pub with_has : (s : ShardState) (c : Position) (parent : ℕ) → IsInRange s parent → (index : ℕ) (d : Position) → IsInRange s index → Contains (delivered_to (with_pair s c parent) index) d
     → Contains (delivered_to s index) d ⊎ ((index ≡ parent) × (c ≡ d))
 with_has s c parent m index d n h = elim (cases_eq index parent) [
   | inl e ↦ elim (with_cases c d (delivered_to s parent) (subst (λ (ds : List Position). Contains ds d) (get_or-set_same s.delivered (parent - s.lo) (with_position c (delivered_to s parent)) [] (omega arith)) (subst (λ (i : ℕ). Contains (delivered_to (with_pair s c parent) i) d) e h))) [
@@ -64,13 +64,28 @@ with_has s c parent m index d n h = elim (cases_eq index parent) [
   | inr o ↦ inl (subst (λ (ds : List Position). Contains ds d) (get_or-set_other s.delivered (parent - s.lo) (index - s.lo) (with_position c (delivered_to s parent)) [] (λ e. o (omega arith))) h)
 ]
 
--- the pairs of a level into a spot's range
-module _ (r : Rules) (g : IsGame r) (spot : Spot) (notes : List NoteData) (level : IsLevel r (place_of_spot spot) notes) where
+-- notes of different positions that stand at the spot's place
+pub record AreHere (r : Rules) (spot : Spot) (notes : List NoteData) : Type 0 where
+  pub noted : (n : NoteData) → Contains notes n → IsNoteAt r (place_of_spot spot) n
+  pub once : HasNoRepeats (positions notes)
+
+-- those of a level, and those of a piece of it
+pub of_level : (r : Rules) (g : IsGame r) (spot : Spot) (notes : List NoteData) → IsLevel r (place_of_spot spot) notes → AreHere r spot notes
+of_level r g spot notes level = record { noted = level.noted; once = positions_once r g (place_of_spot spot) notes level }
+
+pub of_piece : (r : Rules) (g : IsGame r) (spot : Spot) (notes : List NoteData) → IsLevel r (place_of_spot spot) notes → (piece n : ℕ) → AreHere r spot (piece_of piece n notes)
+of_piece r g spot notes level piece n = record {
+  noted = λ m h. level.noted m (in_piece piece n notes m h);
+  once = piece_positions_once r g (place_of_spot spot) notes level piece n;
+}
+
+-- the pairs of such notes into a spot's range
+module _ (r : Rules) (g : IsGame r) (spot : Spot) (notes : List NoteData) (here : AreHere r spot notes) where
   -- each is one for a shard at the spot
   pub next_here : (s : ShardState) → spot_of s ≡ spot → (k : ℕ) (pair : NoteData × ℕ) → slice_get (pairs_into r spot notes) k ≡ Some pair → IsDeliverable r s pair
   next_here s at k pair e =
       let (note, parent, low, high) = in_pairs r spot.tier spot.lo spot.hi notes pair (item_in (pairs_into r spot notes) k pair e) in
-      let noted = level.noted pair.0 note in
+      let noted = here.noted pair.0 note in
       let back = sym at in
       let lo = ap (λ (x : Spot). x.lo) at in
       let hi = ap (λ (x : Spot). x.hi) at in
@@ -79,7 +94,7 @@ module _ (r : Rules) (g : IsGame r) (spot : Spot) (notes : List NoteData) (level
         here = record {
           is_level = (noted.phase ∙ ap (λ (x : Spot). x.phase) back, noted.level ∙ ap (λ (x : Spot). x.level) back);
           is_mine = (omega arith, omega arith);
-          is_parent = subst (λ (x : Spot). IsParent r pair.0.position x.tier pair.1) back ((g.parents_exact pair.0.position spot.tier pair.1 (canonical_notes r g (place_of_spot spot) notes level pair.0 note)).0 parent);
+          is_parent = subst (λ (x : Spot). IsParent r pair.0.position x.tier pair.1) back ((g.parents_exact pair.0.position spot.tier pair.1 noted.note.canonical).0 parent);
         };
       }
 
@@ -87,12 +102,11 @@ module _ (r : Rules) (g : IsGame r) (spot : Spot) (notes : List NoteData) (level
   apart : (k j : ℕ) (p q : NoteData × ℕ) → slice_get (pairs_into r spot notes) k ≡ Some p → slice_get (pairs_into r spot notes) j ≡ Some q → p.0.position ≡ q.0.position → p.1 ≡ q.1 → k ≡ j
   apart k j p q a b same index =
       let pairs = pairs_into r spot notes in
-      let once = positions_once r g (place_of_spot spot) notes level in
       let in_p = in_pairs r spot.tier spot.lo spot.hi notes p (item_in pairs k p a) in
       let in_q = in_pairs r spot.tier spot.lo spot.hi notes q (item_in pairs j q b) in
-      let note = same_image (λ (m : NoteData). m.position) notes once p.0 q.0 in_p.0 in_q.0 same in
+      let note = same_image (λ (m : NoteData). m.position) notes here.once p.0 q.0 in_p.0 in_q.0 same in
       let is : p ≡ q = ap₂ (λ (m : NoteData) (i : ℕ). (m, i)) note index in
-      item_once pairs (pairs_once r g spot.tier spot.lo spot.hi notes once (canonical_notes r g (place_of_spot spot) notes level)) k j p a (subst (λ (x : NoteData × ℕ). slice_get pairs j ≡ Some x) (sym is) b)
+      item_once pairs (pairs_once r g spot.tier spot.lo spot.hi notes here.once (λ n l. (here.noted n l).note.canonical)) k j p a (subst (λ (x : NoteData × ℕ). slice_get pairs j ≡ Some x) (sym is) b)
 
   -- its child stands at the shard's place
   stands_here : (s : ShardState) (pair : NoteData × ℕ) → IsDeliverable r s pair → StandsAt r s.phase s.level pair.0.position
@@ -102,9 +116,8 @@ module _ (r : Rules) (g : IsGame r) (spot : Spot) (notes : List NoteData) (level
       (subst (λ (n : ℕ). StandsAt r (phase_of pair.0.solved.value) n pair.0.position) is.1 (value_stands r pair.0.position pair.0.solved.value pair.0.solved.remoteness d.is_note.value d.is_note.decided))
 
   -- none is delivered to a shard that has no pair of the place
-  pub round_first : (s : ShardState) → spot_of s ≡ spot → HasNoneHere r s → IsRound (pairs_into r spot notes) (pairs_in s) s 0
-  round_first s at none = record {
-    count = omega arith;
+  pub first_none : (s : ShardState) → spot_of s ≡ spot → HasNoneHere r s → AreFirst (pairs_into r spot notes) s 0
+  first_none s at none = record {
     within = omega arith;
     each = λ k pair e. (
       (λ h. (let d = next_here s at k pair e in
@@ -113,13 +126,15 @@ module _ (r : Rules) (g : IsGame r) (spot : Spot) (notes : List NoteData) (level
     );
   }
 
+  pub round_first : (s : ShardState) → spot_of s ≡ spot → HasNoneHere r s → IsRound (pairs_into r spot notes) (pairs_in s) s 0
+  round_first s at none = record { count = omega arith; first = first_none s at none }
+
   -- the next pair is delivered
-  round_more : (base : ℕ) (s : ShardState) (n : ℕ) (pair : NoteData × ℕ) → spot_of s ≡ spot → slice_get (pairs_into r spot notes) n ≡ Some pair → IsInRange s pair.1 → pairs_in (with_pair s pair.0.position pair.1) ≡ pairs_in s + 1
-      → IsRound (pairs_into r spot notes) base s n → IsRound (pairs_into r spot notes) base (with_pair s pair.0.position pair.1) (n + 1)
-  round_more base s n pair at e mine more h =
+  pub first_more : (s : ShardState) (n : ℕ) (pair : NoteData × ℕ) → spot_of s ≡ spot → slice_get (pairs_into r spot notes) n ≡ Some pair → IsInRange s pair.1 → AreFirst (pairs_into r spot notes) s n
+      → AreFirst (pairs_into r spot notes) (with_pair s pair.0.position pair.1) (n + 1)
+  first_more s n pair at e mine h =
       let inside = slice_get_within (pairs_into r spot notes) n pair e in
       record {
-        count = (let a = h.count in omega arith);
         within = omega arith;
         each = λ k x q. (
           (λ d. elim (with_has s pair.0.position pair.1 mine x.1 x.0.position (next_here s at k x q).here.is_mine d) [
@@ -138,9 +153,10 @@ module _ (r : Rules) (g : IsGame r) (spot : Spot) (notes : List NoteData) (level
 
   added : (base : ℕ) (s t : ShardState) (n : ℕ) (pair : NoteData × ℕ) → spot_of s ≡ spot → slice_get (pairs_into r spot notes) n ≡ Some pair → IsInRange s pair.1 → t ≡ with_pair s pair.0.position pair.1 → pairs_in t ≡ pairs_in s + 1
       → IsRound (pairs_into r spot notes) base s n → IsRound (pairs_into r spot notes) base t (n + 1)
-  added base s t n pair at e mine is more h =
-      subst (λ (u : ShardState). IsRound (pairs_into r spot notes) base u (n + 1)) (sym is)
-      (round_more base s n pair at e mine (subst (λ (u : ShardState). pairs_in u ≡ pairs_in s + 1) is more) h)
+  added base s t n pair at e mine is more h = record {
+    count = (let a = h.count in omega arith);
+    first = subst (λ (u : ShardState). AreFirst (pairs_into r spot notes) u (n + 1)) (sym is) (first_more s n pair at e mine h.first);
+  }
 
   same : (base : ℕ) (s t : ShardState) (n : ℕ) → t ≡ s → IsRound (pairs_into r spot notes) base s n → IsRound (pairs_into r spot notes) base t (n + 0)
   same base s t n is h = subst (λ (m : ℕ). IsRound (pairs_into r spot notes) base t m) (let e : n ≡ n + 0 = omega arith in e) (subst (λ (u : ShardState). IsRound (pairs_into r spot notes) base u n) (sym is) h)
@@ -152,7 +168,7 @@ module _ (r : Rules) (g : IsGame r) (spot : Spot) (notes : List NoteData) (level
   round_step base s t n pair (Err NotMine) at e d h = absurd (d.2 (next_here s at n pair e).here.is_mine)
   round_step base s t n pair (Err NotAParent) at e d h = absurd (d.3 (next_here s at n pair e).here.is_parent)
   round_step base s t n pair (Err TooFar) at e d h = (let far = d.4 in let l = ap (λ (x : Spot). x.level) at in (omega arith, same base s t n d.0 h))
-  round_step base s t n pair (Ok Repeat) at e d h = absurd (let l = (h.each n pair e).0 d.2 in omega arith)
+  round_step base s t n pair (Ok Repeat) at e d h = absurd (let l = (h.first.each n pair e).0 d.2 in omega arith)
   round_step base s t n pair (Ok Fresh) at e d h = (tt, added base s t n pair at e d.1.is_mine d.0 (gained r pair.0 pair.1 s t (Ok Fresh) d) h)
   round_step base s t n pair (Ok FreshSettled) at e d h = (tt, added base s t n pair at e d.1.is_mine d.0 (gained r pair.0 pair.1 s t (Ok FreshSettled) d) h)
 
@@ -161,9 +177,9 @@ module _ (r : Rules) (g : IsGame r) (spot : Spot) (notes : List NoteData) (level
   round_all base s n at whole h = elim (cases_lt n (length (pairs_into r spot notes))) [
     | inl less ↦ (let (pair, e) = item_at (pairs_into r spot notes) n less in
         let d = next_here s at n pair e in
-        let l = (h.each n pair e).0 (whole pair.1 pair.0.position d.here.is_mine d.here.is_parent (now_stands r s.phase s.level pair.0.position (stands_here s pair d))) in
+        let l = (h.first.each n pair e).0 (whole pair.1 pair.0.position d.here.is_mine d.here.is_parent (now_stands r s.phase s.level pair.0.position (stands_here s pair d))) in
         omega arith)
-    | inr all ↦ (let most = h.within in omega arith)
+    | inr all ↦ (let most = h.first.within in omega arith)
   ]
 
 -- the notes of a level are those of a level at the spot

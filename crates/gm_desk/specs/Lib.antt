@@ -2,5 +2,5 @@ pub mod Spots
 pub mod Parts
 pub mod Rounds
 pub mod Begun
+pub mod Pieces
 pub mod Amounts
-pub mod Batches

@@ -29,11 +29,15 @@ pairs_into r s notes = pairs_of r s.tier s.lo s.hi notes
 abbrev pub place_of_spot : Spot → Place
 place_of_spot s = place_at s.tier s.phase s.level
 
--- beside `base` other pairs the first n of these pairs are delivered, and no later one of them is
-pub record IsRound (pairs : List (NoteData × ℕ)) (base : ℕ) (s : ShardState) (n : ℕ) : Type 0 where
-  pub count : pairs_in s ≡ base + n
+-- the first n of these pairs are delivered, and no later one of them is
+pub record AreFirst (pairs : List (NoteData × ℕ)) (s : ShardState) (n : ℕ) : Type 0 where
   pub within : n ≤ length pairs
   pub each : (k : ℕ) (pair : NoteData × ℕ) → slice_get pairs k ≡ Some pair → Contains (delivered_to s pair.1) pair.0.position ↔ (k < n)
+
+-- these are delivered beside `base` other pairs
+pub record IsRound (pairs : List (NoteData × ℕ)) (base : ℕ) (s : ShardState) (n : ℕ) : Type 0 where
+  pub count : pairs_in s ≡ base + n
+  pub first : AreFirst pairs s n
 
 -- no delivered child stands at the shard's place
 abbrev pub HasNoneHere : Rules → ShardState → Type 0

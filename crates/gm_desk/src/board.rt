@@ -4,7 +4,6 @@ ghost use Rattle.gm_deliveries.specs.State.{pairs_in};
 ghost use Rattle.gm_deliveries.specs.Delivery.{IsPlaceOf};
 ghost use Rattle.gm_desk.specs.Spots.{spot_of, choose, gain, AreFourTiles, IsWithin, IsAnswer, IsDeliveryAt};
 ghost use Rattle.gm_desk.specs.Amounts.{Amounts, one_part, amount_of, raised, joined, split_of};
-ghost use Rattle.gm_desk.specs.Batches.{ArePlaced, AreAnswers};
 
 use crate::held::Held;
 use crate::share::{Desk, Share};
@@ -29,11 +28,11 @@ pub struct Four<T> {
 /// A share of each shard's ledger, all with the same number of parts.
 #[derive(Drop)]
 pub struct Shares<A: Desk, B: Desk, C: Desk, D: Desk> {
-    parts: u64,
-    a: Share<A>,
-    b: Share<B>,
-    c: Share<C>,
-    d: Share<D>,
+    pub(crate) parts: u64,
+    pub(crate) a: Share<A>,
+    pub(crate) b: Share<B>,
+    pub(crate) c: Share<C>,
+    pub(crate) d: Share<D>,
 }
 
 impl<A: Desk, B: Desk, C: Desk, D: Desk> Model for Shares<A, B, C, D> {
@@ -256,29 +255,6 @@ impl<G: Game, A: Desk, B: Desk, C: Desk, D: Desk> Board<G, A, B, C, D> {
         }
     }
 
-    /// Delivers pairs to one shard, one after another while its lock is held, and counts those that are new. Each pair comes with the place of its note's
-    /// position among the children of its parent.
-    /// The caller's amount for this shard rises by the number of new pairs, and the other amounts stay.
-    pub fn deliver_all<R: Wait>(
-        &self,
-        rt: &R,
-        shard: usize,
-        pairs: &[(Note<G>, u64, Option<u32>)],
-        shares: &mut Shares<A, B, C, D>,
-    ) -> u64
-        requires shard { shard < 4 }
-        requires places { ArePlaced G.rules A.spot.tier pairs.now }
-        ensures shares { shares.new ≡ raised shares.old shard result }
-        ensures answers { AreAnswers G.rules (choose shard A.spot B.spot C.spot D.spot) pairs.now result }
-    {
-        match shard {
-            0 => deliver_all_under(rt, &self.a, pairs, &mut shares.a),
-            1 => deliver_all_under(rt, &self.b, pairs, &mut shares.b),
-            2 => deliver_all_under(rt, &self.c, pairs, &mut shares.c),
-            _ => deliver_all_under(rt, &self.d, pairs, &mut shares.d),
-        }
-    }
-
     /// Takes the shards out of their locks, in exchange for shares of all parts. They tile the same tier at the same place, and each has as many pairs
     /// delivered to it as its whole share says.
     pub fn into_shards(self, shares: Shares<A, B, C, D>) -> Four<Shard<G>>
@@ -326,19 +302,4 @@ fn deliver_under<G: Game, L: Desk, R: Wait>(
     ensures event { IsDeliveryAt G.rules L.spot note.now parent result }
 {
     lock.lock(rt).deliver_at(note, parent, place, share)
-}
-
-// Delivers pairs one after another under one lock.
-fn deliver_all_under<G: Game, L: Desk, R: Wait>(
-    rt: &R,
-    lock: &Mutex<Held<G, L>>,
-    pairs: &[(Note<G>, u64, Option<u32>)],
-    share: &mut Share<L>,
-) -> u64
-    requires places { ArePlaced G.rules L.spot.tier pairs.now }
-    requires parts { 0 < share.old.parts }
-    ensures share { share.new ≡ record { parts = share.old.parts; amount = share.old.amount + result } }
-    ensures answers { AreAnswers G.rules L.spot pairs.now result }
-{
-    lock.lock(rt).deliver_all(pairs, share)
 }

@@ -4,7 +4,6 @@ ghost use Rattle.gm_deliveries.specs.State.{pairs_in};
 ghost use Rattle.gm_deliveries.specs.Good.{IsGood};
 ghost use Rattle.gm_deliveries.specs.Delivery.{IsPlaceOf, Delivers};
 ghost use Rattle.gm_desk.specs.Spots.{spot_of, gain, IsAnswer, IsDeliveryAt};
-ghost use Rattle.gm_desk.specs.Batches.{ArePlaced, AreAnswers, IsBatch};
 
 use crate::share::{Desk, Share, gained};
 use gm_deliveries::place::place_of;
@@ -101,31 +100,6 @@ impl<G: Game, L: Desk> Held<G, L> {
         share.audit(book);
         let _after = shard.range();
         answer
-    }
-
-    /// Delivers pairs one after another, and counts those that are new: the book and the share rise by this count.
-    pub fn deliver_all(
-        &mut self,
-        pairs: &[(Note<G>, u64, Option<u32>)],
-        share: &mut Share<L>,
-    ) -> u64
-        requires places { ArePlaced G.rules L.spot.tier pairs.now }
-        requires parts { 0 < share.old.parts }
-        ensures run { IsBatch G.rules pairs.now self.old.shard self.new.shard result }
-        ensures answers { AreAnswers G.rules L.spot pairs.now result }
-        ensures spot { spot_of self.new.shard ≡ L.spot }
-        ensures book { self.new.book ≡ self.old.book + result }
-        ensures share { share.new ≡ record { parts = share.old.parts; amount = share.old.amount + result } }
-        ensures bound { share.new.amount ≤ self.new.book }
-    {
-        let mut fresh = 0u64;
-        for pair in pairs {
-            let answer = self.deliver_at(&pair.0, pair.1, pair.2, share);
-            fresh += gained(&answer);
-        }
-        let Held { shard: _, book } = self;
-        share.audit(book);
-        fresh
     }
 
     // The shard without its lock: as many pairs are delivered to it as the whole share says.

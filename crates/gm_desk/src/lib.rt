@@ -6,4 +6,6 @@
 pub mod board;
 pub mod held;
 pub mod pass;
+pub mod piece;
+pub mod pieces;
 pub mod share;

@@ -4,20 +4,18 @@ ghost use Rattle.gm_game.specs.declared.limits.TheConstants.{MOVES, TIER_SIZE};
 ghost use Rattle.gm_frontier.specs.Notes.{NoteData};
 ghost use Rattle.gm_frontier.specs.Levels.{IsLevel};
 ghost use Rattle.gm_deliveries.specs.State.{pairs_in};
-ghost use Rattle.gm_deliveries.specs.Delivery.{IsPlaceOf, Delivers};
 ghost use Rattle.gm_deliveries.specs.Steps.{IsWhole};
 ghost use Rattle.gm_desk.specs.Spots.{spot_of, gain};
 ghost use Rattle.gm_desk.specs.Rounds.{pairs_into, place_of_spot, IsRound, HasNoneHere, IsForSpot, IsLevelAt, ClosesSurely, IsNextAnswer, IsStep};
 ghost use Rattle.gm_desk.specs.Begun.{IsBegun};
 
 use crate::share::{Desk, Share, gained};
-use gm_deliveries::place::place_of;
 use gm_deliveries::status::{Delivery, Refused};
 use gm_frontier::expected::Expected;
 use gm_frontier::level::Level;
 use gm_frontier::note::Note;
 use gm_game::game::Game;
-use gm_shard::shard::Shard;
+use gm_shard::ordered::OrderedShard;
 use std::marker::{Brand, Model};
 use std::sync::ledger::{Blank, Book};
 use std::sync::{Mutex, Wait};
@@ -77,7 +75,7 @@ impl<L: Round> Pass<L> {
 /// What the lock of a desk keeps: a shard to which the first pairs of the level are delivered, as many as its book says, and no later pair.
 #[derive(Drop)]
 struct InOrder<G: Game, L: Round> {
-    shard: Shard<G>,
+    shard: OrderedShard<G>,
     book: Book<L>,
 }
 
@@ -101,11 +99,9 @@ impl<G: Game, L: Round> InOrder<G, L> {
         &mut self,
         note: &Note<G>,
         parent: u64,
-        place: Option<u32>,
         pass: &mut Pass<L>,
     ) -> Result<Delivery, Refused>
-        requires place { IsPlaceOf G.rules note.now.position L.spot.tier parent place }
-        requires next { slice_get (pairs_into G.rules L.spot L.notes) pass.old ≡ Some (note.now, parent) }
+        requires { slice_get (pairs_into G.rules L.spot L.notes) pass.old ≡ Some (note.now, parent) }
         ensures pass { pass.new ≡ pass.old + gain result }
         ensures answer { IsNextAnswer L.spot result }
         ensures step { IsStep G.rules L.spot (pairs_into G.rules L.spot L.notes) L.base note.now parent result pass.old pass.new }
@@ -113,7 +109,7 @@ impl<G: Game, L: Round> InOrder<G, L> {
         let InOrder { shard, book } = self;
         let Pass { share, before: _ } = pass;
         share.audit(book);
-        let answer = shard.deliver_at(note, parent, place);
+        let answer = shard.deliver_new(note, parent);
         let _few = shard.delivered();
         share.raise(book, gained(&answer));
         answer
@@ -124,15 +120,17 @@ impl<G: Game, L: Round> InOrder<G, L> {
 #[derive(Drop)]
 pub struct PassDesk<G: Game, L: Round> {
     held: Mutex<InOrder<G, L>>,
-    tier: u64,
     range: (u64, u64),
-    ghost tier_is: { tier ≡ L.spot.tier },
     ghost range_is: { (range.0 ≡ L.spot.lo) × (range.1 ≡ L.spot.hi) },
 }
 
 impl<G: Game, L: Round> PassDesk<G, L> {
     /// Puts a shard at the level's place under its lock. The pass has all parts of the ledger, and no amount.
-    pub fn around(blank: Blank, shard: Shard<G>, level: &Level<G>) -> (PassDesk<G, L>, Pass<L>)
+    pub fn around(
+        blank: Blank,
+        shard: OrderedShard<G>,
+        level: &Level<G>,
+    ) -> (PassDesk<G, L>, Pass<L>)
         requires name { blank.name ≡ L.name }
         requires parts { (blank.parts ≡ L.parts) × (0 < L.parts) }
         requires spot { spot_of shard ≡ L.spot }
@@ -143,14 +141,12 @@ impl<G: Game, L: Round> PassDesk<G, L> {
         ensures begun { IsBegun G.rules L.spot L.notes L.base }
     {
         let before = shard.delivered();
-        let tier = shard.tier();
         let range = shard.range();
         let _level = level.place();
         let (book, mark) = blank.open::<L>();
         let share = Share::whole(mark);
         let desk = PassDesk {
             held: Mutex::new(InOrder { shard, book }),
-            tier,
             range,
         };
         (desk, Pass { share, before })
@@ -191,31 +187,12 @@ impl<G: Game, L: Round> PassDesk<G, L> {
         ensures answer { IsNextAnswer L.spot result }
         ensures step { IsStep G.rules L.spot (pairs_into G.rules L.spot L.notes) L.base note.now parent result pass.old pass.new }
     {
-        let place = place_of(note, self.tier, parent);
-        self.deliver_next_at(rt, note, parent, place, pass)
-    }
-
-    /// As `deliver_next`, where the place of the note's position among the children of the parent is known.
-    pub fn deliver_next_at<R: Wait>(
-        &self,
-        rt: &R,
-        note: &Note<G>,
-        parent: u64,
-        place: Option<u32>,
-        pass: &mut Pass<L>,
-    ) -> Result<Delivery, Refused>
-        requires place { IsPlaceOf G.rules note.now.position L.spot.tier parent place }
-        requires next { slice_get (pairs_into G.rules L.spot L.notes) pass.old ≡ Some (note.now, parent) }
-        ensures pass { pass.new ≡ pass.old + gain result }
-        ensures answer { IsNextAnswer L.spot result }
-        ensures step { IsStep G.rules L.spot (pairs_into G.rules L.spot L.notes) L.base note.now parent result pass.old pass.new }
-    {
-        self.held.lock(rt).deliver_next(note, parent, place, pass)
+        self.held.lock(rt).deliver_next(note, parent, pass)
     }
 
     /// The shard, where the pass is full: every pair of the level into its range is delivered, and there are as many of them as the pass says. So `close` by
     /// this count can't answer `Short`.
-    pub fn into_whole(self, pass: Pass<L>, expected: &Expected<G>) -> Shard<G>
+    pub fn into_whole(self, pass: Pass<L>, expected: &Expected<G>) -> OrderedShard<G>
         requires is_for { IsForSpot expected.now L.spot }
         requires full { L.base + pass ≡ expected.now.number }
         ensures spot { spot_of result ≡ L.spot }
@@ -235,10 +212,11 @@ impl<G: Game, L: Round> PassDesk<G, L> {
         shard
     }
 
-    /// The shard, without the pass.
-    pub fn into_shard(self) -> Shard<G>
+    /// The shard, without the pass: beside the pairs of earlier levels the first so many pairs of the level are delivered, and no later one.
+    pub fn into_shard(self) -> OrderedShard<G>
         ensures spot { spot_of result ≡ L.spot }
         ensures least { L.base ≤ pairs_in result }
+        ensures round { (n : ℕ) × IsRound (pairs_into G.rules L.spot L.notes) L.base result n }
     {
         let InOrder { shard, book: _ } = self.held.into_inner();
         shard

@@ -17,6 +17,7 @@ pub(crate) struct Frame {
 }
 
 // The length of the longest line.
+#[tactic(auto, using(crate::proofs::Spreading::widest_next, crate::proofs::Spreading::widest_all))]
 fn widest(drawing: &[u8]) -> u64
     requires { length drawing.now ≤ DRAWING }
     ensures value { result ≡ widest_spec 0 0 drawing.now }

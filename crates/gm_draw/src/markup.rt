@@ -5,6 +5,7 @@ ghost use Rattle.gm_draw.specs.Diagrams.{escaped, escaped_byte};
 use std::alloc::AllocError;
 
 /// Appends a text, in which `<` and `&` have names.
+#[tactic(auto, using(crate::proofs::Spreading::flat_next))]
 pub fn push_escaped(text: &mut Vec<u8>, plain: &[u8]) -> Result<(), AllocError>
     ensures { OnOk result (text.new.items ≡ text.old.items ++ escaped plain.now) }
 {

@@ -12,6 +12,10 @@ use Rattle.gm_game.specs.Rules.{Rules}
 use Rattle.gm_game.specs.Values.{HasValue, IsTrueValue}
 use Rattle.gm_game.proofs.Basic.{HasValue_once}
 use Rattle.gm_game.proofs.Lists.{contains_none, contains_first, contains_later, contains_cases}
+use Rattle.gm_table.specs.Tables.{TableData}
+use Rattle.gm_best.specs.Refusals.{AreNotHeld}
+use Rattle.gm_play.specs.Lines.{position_after}
+use Rattle.gm_find.specs.Reaching.{IsPlay, ComesToMissing}
 use Rattle.gm_find.specs.Finding.{KeepsValue, AgreesWith, HasOnly, HasOnlyResult, IsOnlyWin, IsOnlyAfter, IsOnlyLine}
 
 -- c is the canonical position of the result of one of these moves that keeps the value
@@ -124,3 +128,12 @@ line_is r d p s h v = (
 pub same_answer : (o : Option Bool) (A B : Type 0) → (A ↔ B) → IfSome o (λ (b : Bool). IsTrue b ↔ A) → IfSome o (λ (b : Bool). IsTrue b ↔ B)
 same_answer None A B e h = h
 same_answer (Some b) A B e h = (λ t. e.0 (h.0 t), λ x. h.1 (e.1 x))
+
+-- a table that is missing here
+pub missing_here : (r : Rules) (entries : List TableData) (p : Position) → AreNotHeld r entries p → ComesToMissing r entries p
+missing_here r entries p not = ([], tt, not)
+
+-- or after one move more
+pub missing_after : (r : Rules) (entries : List TableData) (p q : Position) (m : ℕ) → Contains (r.moves p) m → q ≡ r.play p m → ComesToMissing r entries q → ComesToMissing r entries p
+missing_after r entries p q m listed is (ms, play, not) =
+    (m ∷ ms, (listed, subst (λ (x : Position). IsPlay r x ms) is play), subst (λ (x : Position). AreNotHeld r entries (position_after r x ms)) is not)

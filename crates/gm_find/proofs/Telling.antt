@@ -1,18 +1,22 @@
 -- What is told of found positions.
-use Rattle.std.proofs.Common.{◌≡◌, ℕ, zero, suc, inl, inr, Bool, true, List, [], ◌∷◌, get_or, Option, refl, ap, subst, Result, Ok, Err}
+use Rattle.std.proofs.Common.{◌≡◌, ℕ, zero, suc, inl, inr, Bool, true, List, [], ◌∷◌, map, get_or, Option, refl, ap, subst, Result, Ok, Err}
 use Rattle.std.specs.List.{All, Contains, range_with_len}
 use Rattle.std.specs.Result.{is_ok}
-use Rattle.std.proofs.lemmas.List.Elements.{Contains-get_or, Contains-append_cases}
+use Rattle.std.proofs.lemmas.List.Elements.{Contains-get_or, Contains-append_cases, All-contains}
 use Rattle.gm_game.specs.declared.position.Position.{Position}
 use Rattle.gm_game.specs.Rules.{Rules, at}
-use Rattle.gm_game.proofs.Lists.{contains_none, contains_first, contains_later, contains_cases, map_in}
+use Rattle.gm_game.proofs.Lists.{contains_none, contains_first, contains_later, contains_cases, map_in, map_from}
 use Rattle.gm_table.specs.Tables.{TableData}
 use Rattle.gm_best.specs.declared.answer.AnswerError.{AnswerError}
 use Rattle.gm_best.specs.declared.answer.AnswerError.TheVariants.{Illegal, NotHeld}
+use Rattle.gm_find.specs.declared.found.Found.{Found}
+use Rattle.gm_find.specs.declared.sought.Choice.{Choice}
+use Rattle.gm_find.specs.declared.sought.Choice.TheVariants.{First, Random}
 use Rattle.gm_find.specs.declared.sought.Sought.{Sought}
 use Rattle.gm_find.specs.Lists.{IsFirst}
 use Rattle.gm_find.specs.Finding.{IsMatch, positions_in, all_positions, AreTiersHeld}
-use Rattle.gm_find.specs.Founds.{IsHeldAt}
+use Rattle.gm_find.specs.Founds.{IsHeldAt, IsFound, AreFound, AreChosen, position_of}
+use Rattle.gm_find.proofs.Picking.{picked_all}
 
 -- no other answer is left
 pub ok_unless : (r : Result (Option ℕ) AnswerError) → (r ≡ Err Illegal → ⊥) → (r ≡ Err NotHeld → ⊥) → is_ok r ≡ true
@@ -45,3 +49,22 @@ all_held r entries q reached limit tiers ps held first k d inside =
     let (match, there) = first_in (IsMatch r q reached) limit (all_positions r tiers) ps first p (Contains-get_or ps k d inside) in
     let (own, children) = held p.tier (tier_in r tiers p there) in
     record { legal = match.canonical.0; own = own; children = children }
+
+-- a found position is one of one of the tiers
+found_in : (r : Rules) (q : Sought) (reached : Bool) (limit : ℕ) (tiers : List ℕ) (xs : List Found) → AreFound r q reached limit tiers xs → All (λ x. Contains tiers x.position.tier) xs
+found_in r q reached limit tiers xs are k d inside =
+    let x = get_or xs k d in
+    let there = first_in (IsMatch r q reached) limit (all_positions r tiers) (map position_of xs) are.positions x.position (map_from position_of xs x (Contains-get_or xs k d inside)) in
+    tier_in r tiers x.position there.1
+
+-- and so is one that a choice takes
+pub chosen_in : (r : Rules) (q : Sought) (reached : Bool) (choice : Choice) (tiers : List ℕ) (xs : List Found) → AreChosen r q reached choice tiers xs → (x : Found) → Contains xs x
+    → (r.is_legal x.position ≡ true) × Contains tiers x.position.tier
+chosen_in r q reached (First n) tiers xs are x has = (
+  (All-contains (IsFound r) xs x are.each has).legal,
+  All-contains (λ (y : Found). Contains tiers y.position.tier) xs x (found_in r q reached n tiers xs are) has,
+)
+chosen_in r q reached (Random n seed) tiers xs (all, are, sample) x has =
+    let P : Found → Type 0 = λ y. (r.is_legal y.position ≡ true) × Contains tiers y.position.tier in
+    let each : All P all = λ k d inside. ((are.each k d inside).legal, found_in r q reached _ tiers all are k d inside) in
+    All-contains P xs x (picked_all P all xs sample.picked each) has

@@ -11,13 +11,12 @@ use Rattle.gm_game.specs.Rules.{Rules, at, IsCanonical}
 use Rattle.gm_game.specs.Values.{HasValue, IsTrueValue}
 use Rattle.gm_table.specs.Tables.{TableData, IsHeld, AreHeld}
 use Rattle.gm_game.specs.Children.{canonical_children_of}
-use Rattle.gm_best.specs.Refusals.{AreNotHeld}
 use Rattle.gm_find.specs.declared.sought.Sought.{Sought}
 use Rattle.gm_find.specs.declared.sought.Span.{Span}
 use Rattle.gm_find.specs.declared.find_error.FindError.{FindError}
 use Rattle.gm_find.specs.declared.find_error.FindError.TheVariants.{OutOfMemory, NotHeld}
 use Rattle.gm_find.specs.Lists.{AreThose}
-use Rattle.gm_find.specs.Reaching.{IsReachedByPlay}
+use Rattle.gm_find.specs.Reaching.{IsReachedByPlay, ComesToMissing}
 
 -- the positions of a tier, by ascending index
 abbrev pub positions_in : Rules → ℕ → List Position
@@ -124,13 +123,13 @@ pub record IsMatch (r : Rules) (q : Sought) (reached : Bool) (p : Position) : Ty
 abbrev pub AreTiersHeld : Rules → List TableData → List ℕ → Type 0
 AreTiersHeld r entries tiers = (tier : ℕ) → Contains tiers tier → IsHeld entries tier × AreHeld r entries tier
 
--- a table that the whole line of some position rests on is missing
-abbrev pub MayMiss : Rules → List TableData → Sought → Type 0
-MayMiss r entries q = IsTrue q.whole_line × ((p : Position) × AreNotHeld r entries p)
+-- a table that the whole line of a position of the tier rests on is missing: play from there comes to it
+abbrev pub MayMiss : Rules → List TableData → Sought → ℕ → Type 0
+MayMiss r entries q tier = IsTrue q.whole_line × ((p : Position) × (r.is_legal p ≡ true) × (p.tier ≡ tier) × ComesToMissing r entries p)
 
--- a table is missing: of one of the tiers, or of a child tier of one, or else one that a whole line rests on
+-- a table is missing: of one of the tiers, or of a child tier of one, or else one that the whole line of a position of one of the tiers rests on
 abbrev pub IsMissing : Rules → List TableData → Sought → List ℕ → Type 0
-IsMissing r entries q tiers = (AreTiersHeld r entries tiers → ⊥) ⊎ MayMiss r entries q
+IsMissing r entries q tiers = (AreTiersHeld r entries tiers → ⊥) ⊎ ((tier : ℕ) × Contains tiers tier × MayMiss r entries q tier)
 
 -- the place at which positions of this value and remoteness stand
 abbrev pub place_for : Value → Option ℕ → Option (Phase × ℕ)

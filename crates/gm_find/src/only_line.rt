@@ -1,11 +1,11 @@
 //! Wins in which the winner has one move at each turn but the last.
 ghost use Rattle.std.specs.Prelude.{◌≡◌, ◌↔◌, true, None, IsTrue, IfSome};
 ghost use Rattle.std.specs.List.{Contains};
-ghost use Rattle.gm_game.specs.declared.position.Position.{Position};
 ghost use Rattle.gm_game.specs.declared.position.Value.TheVariants.{Win};
 ghost use Rattle.gm_game.specs.Values.{HasValue, IsTrueValue};
 ghost use Rattle.gm_table.specs.Tables.{IsHeld, AreHeld};
 ghost use Rattle.gm_best.specs.Refusals.{AreNotHeld};
+ghost use Rattle.gm_find.specs.Reaching.{ComesToMissing};
 ghost use Rattle.gm_find.specs.Finding.{IsOnlyLine, IsOnlyWin, IsOnlyAfter, IsOnlyDefence, AfterDefence};
 
 use crate::only::{has_only, keeps};
@@ -17,7 +17,7 @@ use gm_table::tables::Tables;
 const LAST_TURN: u32 = 2;
 
 /// Whether a position of this true value is a win in which, against every longest defence, exactly one move keeps the win at each turn of the winner but the
-/// last; where distinct moves are asked for, exactly one up to symmetry. `None` only where a table that the answer rests on is not held.
+/// last; where distinct moves are asked for, exactly one up to symmetry. `None` only where play from the position comes to a table that is not held.
 ///
 /// It goes through all lines of longest defences, to a depth of the remoteness on the call stack, and ends at the first turn with a choice.
 pub(crate) fn is_only_line<G: Game>(
@@ -29,7 +29,7 @@ pub(crate) fn is_only_line<G: Game>(
     requires legal { G.rules.is_legal p ≡ true }
     requires solved { IsTrueValue G.rules p solved }
     ensures answer { IfSome result (λ b. IsTrue b ↔ IsOnlyLine G.rules distinct p) }
-    ensures missing { result ≡ None → ((q : Position) × AreNotHeld G.rules tables.now q) }
+    ensures missing { result ≡ None → ComesToMissing G.rules tables.now p }
 {
     match solved.value {
         Value::Win => is_only_win(tables, p, solved.remoteness, distinct),
@@ -47,7 +47,7 @@ fn is_only_win<G: Game>(
 ) -> Option<bool>
     requires { G.rules.is_legal p ≡ true }
     ensures answer { IfSome result (λ b. IsTrue b ↔ IsOnlyWin G.rules distinct remoteness p) }
-    ensures missing { result ≡ None → ((q : Position) × AreNotHeld G.rules tables.now q) }
+    ensures missing { result ≡ None → ComesToMissing G.rules tables.now p }
 {
     if remoteness <= LAST_TURN {
         return Some(true);
@@ -80,7 +80,7 @@ fn is_only_after<G: Game>(
     requires own { IsHeld tables.now p.tier }
     requires children { AreHeld G.rules tables.now p.tier }
     ensures answer { IfSome result (λ b. IsTrue b ↔ IsOnlyAfter G.rules distinct remoteness p m) }
-    ensures missing { result ≡ None → ((x : Position) × AreNotHeld G.rules tables.now x) }
+    ensures missing { result ≡ None → ComesToMissing G.rules tables.now p }
 {
     if keeps(tables, p, Value::Win, m) {
         are_only_defences(tables, G::play(p, m), remoteness, distinct)
@@ -99,7 +99,7 @@ fn are_only_defences<G: Game>(
 ) -> Option<bool>
     requires { G.rules.is_legal q ≡ true }
     ensures answer { IfSome result (λ b. IsTrue b ↔ AfterDefence G.rules remoteness (IsOnlyWin G.rules distinct remoteness) q) }
-    ensures missing { result ≡ None → ((x : Position) × AreNotHeld G.rules tables.now x) }
+    ensures missing { result ≡ None → ComesToMissing G.rules tables.now q }
 {
     for e in G::moves(q).as_slice() {
         if !is_only_defence(tables, q, *e, remoteness, distinct)? {
@@ -121,7 +121,7 @@ fn is_only_defence<G: Game>(
     requires legal { G.rules.is_legal q ≡ true }
     requires listed { Contains (G.rules.moves q) e }
     ensures answer { IfSome result (λ b. IsTrue b ↔ IsOnlyDefence G.rules distinct remoteness q e) }
-    ensures missing { result ≡ None → ((x : Position) × AreNotHeld G.rules tables.now x) }
+    ensures missing { result ≡ None → ComesToMissing G.rules tables.now q }
 {
     let p = G::play(q, e);
     if is_win_in(tables, p, remoteness)? {

@@ -1,6 +1,6 @@
 //! Positions of a value.
 ghost use Rattle.std.specs.Prelude.{◌≡◌, ◌<◌, ◌-◌, ◌++◌, ◌∷◌, [], ◌↔◌, ℕ, List, true, map, length, IsTrue, IfOk, OnOk, IsErrOf, is_some, Some};
-ghost use Rattle.std.specs.List.{range_with_len};
+ghost use Rattle.std.specs.List.{Contains, range_with_len};
 ghost use Rattle.gm_game.specs.declared.position.Position.{Position};
 ghost use Rattle.gm_game.specs.declared.limits.TheConstants.{REMOTENESS};
 ghost use Rattle.gm_game.specs.Records.{IsRecord};
@@ -70,7 +70,7 @@ fn find_in<G: Game>(
 ) -> Result<Vec<Position>, FindError>
     requires { AreTiersHeld G.rules tables.now tiers.now }
     ensures found { IfOk result (λ v. IsFirst (IsMatch G.rules sought (is_some reached.entry)) limit (all_positions G.rules tiers.now) v.items) }
-    ensures missing { IsErrOf result FindError.NotHeld → MayMiss G.rules tables.now sought }
+    ensures missing { IsErrOf result FindError.NotHeld → ((tier : ℕ) × Contains tiers.now tier × MayMiss G.rules tables.now sought tier) }
 {
     let mut found = Vec::new(alloc);
     for tier in tiers {
@@ -92,7 +92,7 @@ fn add_tier<G: Game>(
     requires children { AreHeld G.rules tables.now tier }
     ensures found { OnOk result ((more : List Position) × (found.new.items ≡ found.old.items ++ more)
         × IsFirst (IsMatch G.rules sought (is_some reached.entry)) (limit - length found.old.items) (positions_in G.rules tier) more) }
-    ensures missing { IsErrOf result FindError.NotHeld → MayMiss G.rules tables.now sought }
+    ensures missing { IsErrOf result FindError.NotHeld → MayMiss G.rules tables.now sought tier }
 {
     match place(sought) {
         Some((phase, level)) => {
@@ -140,7 +140,7 @@ fn add_run<G: Game>(
     requires children { AreHeld G.rules tables.now tier }
     ensures found { OnOk result ((more : List Position) × (found.new.items ≡ found.old.items ++ more)
         × IsFirst (IsMatch G.rules sought (is_some reached.entry)) (limit - length found.old.items) (map (at tier) run.now) more) }
-    ensures missing { IsErrOf result FindError.NotHeld → MayMiss G.rules tables.now sought }
+    ensures missing { IsErrOf result FindError.NotHeld → MayMiss G.rules tables.now sought tier }
 {
     for i in run {
         if limit <= found.len() {
@@ -172,7 +172,7 @@ fn add_all<G: Game>(
     requires children { AreHeld G.rules tables.now tier }
     ensures found { OnOk result ((more : List Position) × (found.new.items ≡ found.old.items ++ more)
         × IsFirst (IsMatch G.rules sought (is_some reached.entry)) (limit - length found.old.items) (positions_in G.rules tier) more) }
-    ensures missing { IsErrOf result FindError.NotHeld → MayMiss G.rules tables.now sought }
+    ensures missing { IsErrOf result FindError.NotHeld → MayMiss G.rules tables.now sought tier }
 {
     let size = G::tier_size(tier);
     for index in 0..size {
@@ -205,7 +205,7 @@ fn add_position<G: Game>(
     requires children { AreHeld G.rules tables.now p.tier }
     ensures found { OnOk result ((more : List Position) × (found.new.items ≡ found.old.items ++ more)
         × IsFirst (IsMatch G.rules sought (is_some reached.entry)) (limit - length found.old.items) (p ∷ []) more) }
-    ensures missing { IsErrOf result FindError.NotHeld → MayMiss G.rules tables.now sought }
+    ensures missing { IsErrOf result FindError.NotHeld → MayMiss G.rules tables.now sought p.tier }
 {
     if is_sought(tables, p, sought, reached)? {
         push(found, p)
@@ -235,7 +235,7 @@ fn is_sought<G: Game>(
     requires own { IsHeld tables.now p.tier }
     requires children { AreHeld G.rules tables.now p.tier }
     ensures answer { IfOk result (λ b. IsTrue b ↔ IsMatch G.rules sought (is_some reached.entry) p) }
-    ensures missing { IsErrOf result FindError.NotHeld → MayMiss G.rules tables.now sought }
+    ensures missing { IsErrOf result FindError.NotHeld → MayMiss G.rules tables.now sought p.tier }
 {
     let solved = match record(tables, p) {
         Some(solved) => solved,
@@ -285,7 +285,7 @@ fn has_fitting_line<G: Game>(
     requires legal { G.rules.is_legal p ≡ true }
     requires solved { IsTrueValue G.rules p solved }
     ensures answer { IfOk result (λ b. IsTrue b ↔ (IsTrue sought.whole_line → IsOnlyLine G.rules sought.distinct p)) }
-    ensures missing { IsErrOf result FindError.NotHeld → MayMiss G.rules tables.now sought }
+    ensures missing { IsErrOf result FindError.NotHeld → MayMiss G.rules tables.now sought p.tier }
 {
     if !sought.whole_line {
         return Ok(true);

@@ -60,7 +60,7 @@ one_index xs x i j once k l e f = elim (cases_lt i j) [
 ]
 
 -- each member is in one piece
-in_some_piece : {X : Type 0} (n : ℕ) (xs : List X) (x : X) → 0 < n → Contains xs x → (p : ℕ) × (p < div_ceil (length xs) n) × Contains (take n (drop (p * n) xs)) x
+pub in_some_piece : {X : Type 0} (n : ℕ) (xs : List X) (x : X) → 0 < n → Contains xs x → (p : ℕ) × (p < div_ceil (length xs) n) × Contains (take n (drop (p * n) xs)) x
 in_some_piece n xs x some (i, l, e) =
     let whole = div-add-mod' i n in
     let past = lt-div-mul-add {a = i} {b = n} some in
@@ -73,7 +73,7 @@ in_some_piece n xs x some (i, l, e) =
       (i % n, omega arith, get_or-take n (drop (i / n * n) xs) (i % n) x small ∙ get_or-drop (i / n * n) xs (i % n) x ∙ ap (λ (m : ℕ). get_or xs m x) here ∙ e),
     )
 
-one_piece : {X : Type 0} (n : ℕ) (xs : List X) (x : X) (p q : ℕ) → HasNoRepeats xs → Contains (take n (drop (p * n) xs)) x → Contains (take n (drop (q * n) xs)) x → p ≡ q
+pub one_piece : {X : Type 0} (n : ℕ) (xs : List X) (x : X) (p q : ℕ) → HasNoRepeats xs → Contains (take n (drop (p * n) xs)) x → Contains (take n (drop (q * n) xs)) x → p ≡ q
 one_piece n xs x p q once h k =
     let (i, a, e, f) = piece_index p n xs x h in
     let (j, b, c, d) = piece_index q n xs x k in

@@ -51,15 +51,6 @@ picked_all P k (q ∷ qs) m all =
     (λ (ne : bit_at m k ≢ 1). subst (AllByRecursion P) (sym (picked_out k q qs m ne)) (picked_all P (suc k) qs m all.1))
     (bit_cases m k)
 
--- what is picked is ascending
-pub picked_ascending : (k : ℕ) (cs : List Position) (m : ℕ) → AreAscending cs → AreAscending (picked_from k cs m)
-picked_ascending k [] m up = tt
-picked_ascending k (q ∷ qs) m up =
-    ⊎_elim
-    (λ (e : bit_at m k ≡ 1). subst AreAscending (sym (picked_in k q qs m e)) (picked_all (λ x. is_before q x ≡ true) (suc k) qs m up.0, picked_ascending (suc k) qs m up.1))
-    (λ (ne : bit_at m k ≢ 1). subst AreAscending (sym (picked_out k q qs m ne)) (picked_ascending (suc k) qs m up.1))
-    (bit_cases m k)
-
 -- a position at a place of an ascending list is there, after the first
 pub at_place : (cs : List Position) (i : ℕ) (c : Position) → slice_get cs i ≡ Some c → Contains cs c
 at_place [] i c e = absurd (cc)

@@ -7,10 +7,6 @@ use Rattle.gm_game.specs.Rules.{IsAscending}
 use Rattle.gm_game.specs.Ascending.{put, put_all}
 use Rattle.gm_game.proofs.Lists.{contains_first, contains_later, contains_cases}
 
-put_head : (x : ℕ) (ys : List ℕ) → ((k : ℕ) → k < length ys → x < get_or ys k 0) → put x ys ≡ x ∷ ys
-put_head x [] h = refl
-put_head x (y ∷ ys) h = rw (lt-ltb x y (h 0 (omega arith))) refl
-
 -- put, where what stands before the place is less and what stands at it is greater
 pub put_at : (x : ℕ) (ys : List ℕ) (i : ℕ) → i ≤ length ys → ((k : ℕ) → k < i → get_or ys k 0 < x) → (i < length ys → x < get_or ys i 0) → put x ys ≡ insert ys i x
 put_at x [] zero l before here = refl

@@ -136,14 +136,6 @@ with_insert_at p (q ∷ qs) absent =
       ] refl
     ] refl
 
-pub place_in_le : (p : Position) (qs : List Position) → place_in p qs ≤ length qs
-place_in_le p [] = omega arith
-place_in_le p (q ∷ qs) =
-    elim (is_before q p) as (λ b. is_before q p ≡ b → place_in p (q ∷ qs) ≤ length (q ∷ qs)) [
-      | true ↦ λ b. let m = place_more p q qs b in let l = place_in_le p qs in omega arith
-      | false ↦ λ b. let m = place_none p q qs b in omega arith
-    ] refl
-
 -- a new position makes the list longer by one
 pub length_with : (p : Position) (qs : List Position) → (Contains qs p → ⊥) → length (with_position p qs) ≡ length qs + 1
 length_with p [] absent = refl
@@ -224,22 +216,6 @@ before_itself p b = grind (arith, nat_tests)
 pub all_there : (P : Position → Type 0) (qs : List Position) (x : Position) → AllByRecursion P qs → Contains qs x → P x
 all_there P [] x all h = absurd (has_none x h)
 all_there P (q ∷ qs) x all h = ⊎_elim (λ (e : q ≡ x). subst P e all.0) (λ (t : Contains qs x). all_there P qs x all.1 t) (has_cases q x qs h)
-
--- a position that is there changes nothing
-pub with_there : (p : Position) (qs : List Position) → AreAscending qs → Contains qs p → with_position p qs ≡ qs
-with_there p [] up h = absurd (has_none p h)
-with_there p (q ∷ qs) up h =
-    elim (is_before q p) as (λ b. is_before q p ≡ b → (if b then q ∷ with_position p qs else (if is_same q p then q ∷ qs else p ∷ q ∷ qs)) ≡ q ∷ qs) [
-      | true ↦ λ b. ⊎_elim
-          (λ (e : q ≡ p). absurd (before_itself p (subst (λ (x : Position). is_before x p ≡ true) e b)))
-          (λ (t : Contains qs p). ap (λ (l : List Position). q ∷ l) (with_there p qs up.1 t)) (has_cases q p qs h)
-      | false ↦ λ b. elim (is_same q p) as (λ s. is_same q p ≡ s → (if s then q ∷ qs else p ∷ q ∷ qs) ≡ q ∷ qs) [
-        | true ↦ λ _. refl
-        | false ↦ λ s. absurd (⊎_elim
-            (λ (e : q ≡ p). true≢false (sym (is_same_itself p) ∙ (subst (λ (x : Position). is_same x p ≡ false) e s)))
-            (λ (t : Contains qs p). true≢false (sym (all_there (λ x. is_before q x ≡ true) qs p up.0 t) ∙ b)) (has_cases q p qs h))
-      ] refl
-    ] refl
 
 -- the length of a list with a position more grows by one at most
 pub length_with_le : (p : Position) (qs : List Position) → length (with_position p qs) ≤ length qs + 1

@@ -1,10 +1,10 @@
 -- The hounds of a board, one point at a time.
-use Rattle.std.proofs.Common.{◌≡◌, ℕ, zero, suc, ◌+◌, ◌^◌, ◌<◌, ◌≤◌, Bool, true, false, if◌then◌else◌, List, [], ◌∷◌, ◌++◌, reverse, length, get_or, take, sym, ap, ap₂, ◌∙◌, subst, arith, zero-add, map}
-use Rattle.std.specs.List.{range_with_len}
+use Rattle.std.specs.Prelude.{◌≡◌, ◌+◌, ◌^◌, ◌<◌, ◌≤◌, if◌then◌else◌, ◌∷◌, ◌++◌}
+use Rattle.gm_pieces.specs.Common.{ℕ, zero, suc, Bool, true, false, List, [], reverse, length, get_or, take}
+use Rattle.gm_pieces.specs.Common.{sym, ap, ap₂, ◌∙◌, subst, arith, zero-add, map, range_with_len, take_more, length-take-le, length-reverse, reverse-append}
+use Rattle.gm_pieces.specs.Common.{reverse-reverse, length-map-range_with_len, map-range_with_len_more, get_or-map-range_with_len, mask_of, mask_below}
+use Rattle.gm_pieces.specs.Common.{has_cell, tests_of, tests_none, tests_more}
 use Rattle.std.proofs.Math.Seq.{take-length}
-use Rattle.std.proofs.lemmas.List.{take_more, length-take-le, length-reverse, reverse-append, reverse-reverse}
-use Rattle.std.proofs.lemmas.List.FromFn.{length-map-range_with_len, map-range_with_len_more, get_or-map-range_with_len}
-use Rattle.gm_board.specs.Masks.{mask_of, mask_below, has_cell, tests_of, tests_none, tests_more}
 use Rattle.gm_hare.specs.declared.hunt.Hunt.{Hunt}
 use Rattle.gm_hare.specs.Board.{column, columns_from}
 use Rattle.gm_hare.specs.Texts.{hunt_char}

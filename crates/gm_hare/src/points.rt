@@ -35,7 +35,7 @@ fn neighbors(point: u32) -> &'static [u32]
 }
 
 /// Whether an edge joins the two points.
-#[tactic(auto, using(crate::proofs::PointSteps::listed_test), unfolding(crate::specs::Board::are_joined))]
+#[tactic(auto, using(gm_board::specs::laws::Filters::listed_test), unfolding(crate::specs::Board::are_joined))]
 pub fn are_joined(a: u32, c: u32) -> bool
     ensures { result ≡ are_joined_of a c }
 {

@@ -9,6 +9,7 @@ use arrayvec::ArrayVec;
 use gm_game::shown::Line;
 use gm_game::text::push_text;
 use gm_pieces::step::Step;
+use gm_pieces::text::has_mark;
 
 // The byte at a place of a board's text: for each point what is there, then a space, then who moves.
 fn hunt_byte(board: &Hunt, place: usize) -> u8
@@ -41,25 +42,14 @@ pub fn hunt_text(board: &Hunt) -> Line
     line
 }
 
-// Whether a text has this byte at a place.
-fn has_byte(text: &[u8], place: usize, byte: u8) -> bool
-    requires { 0 < byte }
-    ensures { result ≡ (slice_index text.now place == byte) }
-{
-    match text.get(place) {
-        Some(found) => *found == byte,
-        None => false,
-    }
-}
-
 // The point at which a text has the hare: 0 where it has none.
 #[tactic(auto, using(crate::specs::laws::TextLaws::hare_found, crate::specs::laws::TextLaws::hare_somewhere))]
 fn hare_in(text: &[u8]) -> u32
     ensures { (b : Hunt) → legal b ≡ true → hunt_text_of b ≡ text.now → b.hare ≡ result }
 {
     for place in 0..11 {
-        if has_byte(text, place, b'h') {
-            return place as u32;
+        if has_mark(text, b'h', place) {
+            return place;
         }
     }
     0
@@ -71,7 +61,7 @@ fn hounds_in(text: &[u8]) -> [bool; 11]
 {
     let mut hounds = [false; 11];
     for place in 0..11 {
-        hounds[place] = has_byte(text, place, b'd');
+        hounds[place] = has_mark(text, b'd', place as u32);
     }
     hounds
 }
@@ -81,7 +71,7 @@ pub fn hunt_in(text: &[u8]) -> Hunt
     ensures { (b : Hunt) → legal b ≡ true → hunt_text_of b ≡ text.now → b ≡ result }
 {
     Hunt {
-        hounds_move: has_byte(text, 12, b'd'),
+        hounds_move: has_mark(text, b'd', 12),
         hounds: hounds_in(text),
         hare: hare_in(text),
     }

@@ -47,8 +47,8 @@ pub fn find_json<G: Shown>(
     }
 }
 
-// The lines of found positions.
-fn found_lines<G: Shown>(alloc: Global, found: &[Found]) -> Result<Vec<u8>, AllocError>
+/// The lines of found positions, as `find_json` has them.
+pub fn found_lines<G: Shown>(alloc: Global, found: &[Found]) -> Result<Vec<u8>, AllocError>
     requires { All (IsFound G.Game.rules) found.now }
     ensures { IfOk result (λ v. v.items ≡ flat_map (found_line G.shown G.move_shown) found.now) }
 {

@@ -1,26 +1,13 @@
 -- What the code's tests say of a board and of a move.
-use Rattle.std.proofs.Common.{◌≡◌, ℕ, ◌-◌, ◌/◌, ◌%◌, ◌^◌, ◌<◌, ◌≤◌, Bool, true, false, eqb, List, map, set, get_or, length, refl, sym, ap, ◌∙◌, subst, arith, eqb-true}
-use Rattle.std.specs.List.{list_any, list_all, range_with_len}
-use Rattle.std.specs.Prelude.{bit_and}
-use Rattle.gm_board.specs.declared.cell.Cell.{Cell}
-use Rattle.gm_board.specs.declared.cell.Cell.TheVariants.{Empty, Mine, Theirs}
-use Rattle.gm_board.specs.laws.Lists.{and_left, contains_range}
-use Rattle.gm_board.specs.Binomials.{binomial}
-use Rattle.gm_board.specs.Arrangements.{arrangements}
-use Rattle.gm_board.specs.Masks.{has_cell}
-use Rattle.gm_board.specs.Permutations.{all_at}
-use Rattle.gm_board.specs.BoardMasks.{turned}
-use Rattle.gm_board.specs.Images.{board_of}
-use Rattle.gm_pieces.specs.MoveGames.{IsMove}
-use Rattle.gm_pieces.specs.Sides.{gone, brought_back, IsStep, WasStep}
+use Rattle.std.specs.Prelude.{◌≡◌, ◌-◌, ◌/◌, ◌%◌, ◌^◌, ◌<◌, ◌≤◌}
+use Rattle.gm_pieces.specs.Common.{ℕ, Bool, true, false, eqb, List, map, set, get_or, length, refl, sym, ap, ◌∙◌, subst}
+use Rattle.gm_pieces.specs.Common.{arith, eqb-true, list_any, list_all, range_with_len, bit_and, Cell, Empty, Mine, Theirs, and_left, contains_range, binomial}
+use Rattle.gm_pieces.specs.Common.{arrangements, has_cell, all_at, turned, board_of, IsMove, gone, brought_back, IsStep, WasStep, cell_at, is_mine, is_theirs}
+use Rattle.gm_pieces.specs.Common.{is_empty, turned_cell, their_cell, own_patterns, their_patterns}
 use Rattle.gm_morris.specs.declared.variant.Variant.{Variant}
 use Rattle.gm_morris.specs.declared.tiers.TheConstants.{SIZES}
 use Rattle.gm_morris.specs.Points.{last_tier, lines}
-use Rattle.gm_board.specs.Cells.{cell_at, is_mine, is_theirs, is_empty}
 use Rattle.gm_morris.specs.Morris.{has_line, numbers_end, moved, play, was_moved, taken_back, size_of, morris}
-use Rattle.gm_board.specs.laws.Turned.{turned_cell}
-use Rattle.gm_board.specs.laws.CellCounts.{their_cell}
-use Rattle.gm_pieces.specs.laws.MaskFacts.{own_patterns, their_patterns}
 use Rattle.gm_morris.specs.laws.PointFacts.{joined_within}
 use Rattle.gm_morris.specs.laws.MoveFacts.{is_last, end_by, left_by, was_by, back_by, CanStep, step_in, slide_step, slide_was}
 use Rattle.gm_morris.specs.laws.MorrisLaws.{size_at}

@@ -1,14 +1,8 @@
 -- Steps on the texts of boards.
-use Rattle.std.proofs.Common.{◌≡◌, ℕ, ◌+◌, ◌<◌, Bool, ◌&&◌, eqb, lt-ltb, List, [], ◌∷◌, ◌++◌, map, length, get_or, refl, sym, ap, ap₂, ◌∙◌, arith, zero-add}
-use Rattle.std.specs.List.{range_with_len}
-use Rattle.std.proofs.lemmas.List.{ext_get_or, get_or-map, map_push}
-use Rattle.std.proofs.lemmas.List.FromFn.{map-range_with_len_more}
-use Rattle.gm_board.specs.declared.cell.Cell.{Cell}
-use Rattle.gm_board.specs.declared.cell.Cell.TheVariants.{Empty}
-use Rattle.gm_board.specs.Masks.{has_cell}
-use Rattle.gm_board.specs.Pieces.{cell_by}
-use Rattle.gm_board.specs.Images.{board_of, board_length, board_get}
-use Rattle.gm_board.specs.laws.Marks.{IsRead}
+use Rattle.std.specs.Prelude.{◌≡◌, ◌+◌, ◌<◌, ◌&&◌, ◌∷◌, ◌++◌}
+use Rattle.gm_pieces.specs.Lower.{ℕ, Bool, eqb, lt-ltb, List, [], map, length, get_or, refl, sym, ap, ap₂, ◌∙◌, arith}
+use Rattle.gm_pieces.specs.Lower.{zero-add, range_with_len, ext_get_or, get_or-map, map_push, map-range_with_len_more, Cell, Empty, has_cell, cell_by}
+use Rattle.gm_pieces.specs.Lower.{board_of, board_length, board_get, IsRead}
 use Rattle.gm_pieces.specs.SideTexts.{cell_char, board_text}
 use Rattle.gm_pieces.specs.laws.SideTextFacts.{text_length, cell_back}
 

@@ -11,3 +11,4 @@ pub mod MoveFacts
 pub mod NumberFacts
 pub mod SideTextFacts
 pub mod MaskFacts
+pub mod Tables

@@ -21,6 +21,7 @@ fn place_of(list: &[u64], x: u64) -> usize
 }
 
 /// Puts x into an ascending list, unless the list has it already.
+#[tactic(auto, using(gm_game::proofs::Putting::put_at, gm_game::proofs::Putting::put_there))]
 pub fn put(list: &mut ArrayVec<u64, PARENTS>, x: u64)
     requires { array_vec_len list.old < PARENTS }
     ensures { list.new.items ≡ put_once x list.old.items }

@@ -7,8 +7,7 @@ ghost use Rattle.gm_game.specs.Rules.{IsKind};
 ghost use Rattle.gm_pieces.specs.MoveGames.{board_game, move_rules, steps, befores};
 ghost use Rattle.gm_pieces.specs.FirstBoards.{IsFirstBoard};
 
-use crate::boards::least_position;
-use crate::moves::{has_no_move, list_moves, plays_on, put_befores};
+use crate::moves::{has_no_move, list_moves, list_results, plays_on, put_befores};
 use crate::rules::MoveRules;
 use arrayvec::ArrayVec;
 use gm_game::children::insert_position;
@@ -67,10 +66,11 @@ pub trait MoveLists: MoveRules {
         requires { Self.game.legal (Self.cells board) ≡ true }
         ensures { IsSetOf (next_images (board_game Self.game) (Self.cells board)) set.new.items }
     {
-        let moves = Self::moves(board);
+        let mut results = ArrayVec::new();
+        Self::fill_results(board, &mut results);
         set.clear();
-        for m in moves.as_slice() {
-            insert_position(set, least_position::<Self>(Self::moved(board, *m)));
+        for p in results.as_slice() {
+            insert_position(set, *p);
         }
     }
 
@@ -79,10 +79,12 @@ pub trait MoveLists: MoveRules {
         requires { Self.game.legal (Self.cells board) ≡ true }
         ensures { HasSame (next_images (board_game Self.game) (Self.cells board)) list.new.items }
     {
-        Self::fill_children(board, list);
+        let moves = Self::moves(board);
+        list_results::<Self>(board, moves.as_slice(), list);
     }
 
     /// How many positions `fill_children` writes.
+    #[tactic(auto, using(gm_game::proofs::ChildrenLemmas::set_once))]
     fn count_children(board: Self::Board) -> usize
         requires { Self.game.legal (Self.cells board) ≡ true }
         ensures { result ≡ length (set_of (next_images (board_game Self.game) (Self.cells board))) }
@@ -127,7 +129,9 @@ pub trait MoveLists: MoveRules {
         requires { Self.game.legal (Self.cells board) ≡ true }
         ensures { result.items ≡ put_all [] (map (least_index_of (board_game Self.game)) (befores Self.game tier (Self.cells board))) }
     {
-        put_befores::<Self>(tier, board)
+        let mut list = ArrayVec::new();
+        Self::fill_parents(tier, board, &mut list);
+        list
     }
 
     /// Writes the indexes that `parents` gives over what the list holds.
@@ -135,6 +139,6 @@ pub trait MoveLists: MoveRules {
         requires { Self.game.legal (Self.cells board) ≡ true }
         ensures { list.new.items ≡ put_all [] (map (least_index_of (board_game Self.game)) (befores Self.game tier (Self.cells board))) }
     {
-        *list = Self::parents(tier, board);
+        put_befores::<Self>(tier, board, list);
     }
 }

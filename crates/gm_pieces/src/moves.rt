@@ -1,13 +1,15 @@
 //! The loops over the numbers of moves.
 ghost use Rattle.std.specs.Prelude.{◌≡◌, ◌<◌, ◌&&◌, true, map, [], length, ◌==◌, MatchOption, None, Some};
 ghost use Rattle.gm_game.specs.Ascending.{put_all};
-ghost use Rattle.gm_game.specs.Boards.{least_index as least_index_of};
+ghost use Rattle.gm_game.specs.Boards.{least_index as least_index_of, next_images};
 ghost use Rattle.gm_pieces.specs.MoveGames.{board_game, plays_on as plays_on_of, steps, goes_on as goes_on_of, before_at, befores};
 
 use crate::ascending::put;
+use crate::boards::least_position;
 use crate::rules::MoveRules;
 use arrayvec::ArrayVec;
 use gm_game::limits::{MOVES, PARENTS};
+use gm_game::position::Position;
 
 /// Whether the last move has not ended the game.
 pub fn plays_on<T: MoveRules>(board: T::Board) -> bool
@@ -33,6 +35,7 @@ pub fn list_moves<T: MoveRules>(board: T::Board) -> ArrayVec<u32, MOVES>
 }
 
 /// Whether no move could be made if the game were not over.
+#[tactic(auto, using(gm_board::specs::laws::Filters::filter_out, crate::specs::laws::MoveLaws::step_listed, crate::specs::laws::MoveLaws::all_steps))]
 pub fn has_no_move<T: MoveRules>(board: T::Board) -> bool
     requires { T.game.legal (T.cells board) ≡ true }
     ensures { result ≡ (length (steps T.game (T.cells board)) == 0) }
@@ -45,7 +48,24 @@ pub fn has_no_move<T: MoveRules>(board: T::Board) -> bool
     true
 }
 
+/// Writes the positions of the least images of the boards that the moves lead to over what the list holds, one for each move.
+pub fn list_results<T: MoveRules>(
+    board: T::Board,
+    moves: &[u32],
+    list: &mut ArrayVec<Position, MOVES>,
+)
+    requires legal { T.game.legal (T.cells board) ≡ true }
+    requires moves { moves.now ≡ (board_game T.game).moves (T.cells board) }
+    ensures { list.new.items ≡ next_images (board_game T.game) (T.cells board) }
+{
+    list.clear();
+    for m in moves {
+        list.push(least_position::<T>(T::moved(board, *m)));
+    }
+}
+
 /// The board of the tier from which a move with this number led to this board, if there is one.
+#[tactic(auto, using(gm_board::specs::laws::Lists::and_left, crate::specs::laws::MoveLaws::before_some, crate::specs::laws::MoveLaws::before_none))]
 pub fn before<T: MoveRules>(tier: u64, board: T::Board, number: u32) -> Option<T::Board>
     requires legal { T.game.legal (T.cells board) ≡ true }
     requires below { number < T.game.numbers_end tier }
@@ -64,17 +84,17 @@ pub fn before<T: MoveRules>(tier: u64, board: T::Board, number: u32) -> Option<T
     }
 }
 
-/// The least indexes of the boards of the tier from which a move leads to this one, ascending and once each.
-pub fn put_befores<T: MoveRules>(tier: u64, board: T::Board) -> ArrayVec<u64, PARENTS>
+/// Writes the least indexes of the boards of the tier from which a move leads to this one, ascending and once each, over what the list holds.
+#[tactic(auto, using(gm_game::proofs::PuttingSteps::put_more_some, gm_game::proofs::PuttingSteps::put_more_none, crate::specs::laws::MoveLaws::before_room, crate::specs::laws::MoveLaws::all_befores))]
+pub fn put_befores<T: MoveRules>(tier: u64, board: T::Board, list: &mut ArrayVec<u64, PARENTS>)
     requires { T.game.legal (T.cells board) ≡ true }
-    ensures { result.items ≡ put_all [] (map (least_index_of (board_game T.game)) (befores T.game tier (T.cells board))) }
+    ensures { list.new.items ≡ put_all [] (map (least_index_of (board_game T.game)) (befores T.game tier (T.cells board))) }
 {
-    let mut list = ArrayVec::new();
+    list.clear();
     for number in 0..T::numbers_end(tier) {
         match before::<T>(tier, board, number) {
-            Some(earlier) => put(&mut list, T::least_index(earlier)),
+            Some(earlier) => put(list, T::least_index(earlier)),
             None => {}
         }
     }
-    list
 }

@@ -45,6 +45,7 @@ impl<T: MoveLists> Game for OnBoards<T> {
         T::moves(board::<T>(p))
     }
 
+    #[tactic(auto, using(crate::specs::laws::MoveLaws::move_in))]
     fn play(p: Position, m: u32) -> Position {
         position::<T>(T::moved(board::<T>(p), m))
     }

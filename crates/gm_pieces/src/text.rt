@@ -43,8 +43,8 @@ pub fn board_text(cells: u32, mine: u32, theirs: u32) -> Line
     line
 }
 
-// Whether the text has this byte in the place of a cell.
-fn has_mark(text: &[u8], byte: u8, cell: u32) -> bool
+/// Whether the text has this byte in the place of a cell. Any bytes may be given.
+pub fn has_mark(text: &[u8], byte: u8, cell: u32) -> bool
     requires { 0 < byte }
     ensures { result ≡ (slice_index text.now cell == byte) }
 {
@@ -54,9 +54,9 @@ fn has_mark(text: &[u8], byte: u8, cell: u32) -> bool
     }
 }
 
-// The mask of the cells in whose places the text has this byte.
+/// The mask of the cells in whose places the text has this byte. Any bytes may be given.
 #[tactic(auto, using(gm_board::specs::laws::Marks::read_in, gm_board::specs::laws::Marks::read_out, gm_board::specs::laws::Marks::read_start, gm_board::specs::laws::MaskChanges::with_within))]
-fn marks(cells: u32, text: &[u8], byte: u8) -> u32
+pub fn marks(cells: u32, text: &[u8], byte: u8) -> u32
     requires few { cells ≤ 25 }
     requires some { 0 < byte }
     ensures within { result < 2 ^ cells }

@@ -1,6 +1,6 @@
 -- The number of a record tells it apart from each other record.
-use Rattle.std.proofs.Common.{◌≡◌, ◌≢◌, ℕ, suc, ◌+◌, ◌*◌, ◌<◌, ◌≤◌, ◌^◌, List, take, Option, None, Some, refl, ap, sym, ◌∙◌, arith}
-use Rattle.std.specs.Int.{from_le_bytes, to_le_bytes, w32}
+use Rattle.std.proofs.Common.{◌≡◌, ◌≢◌, ℕ, suc, ◌+◌, ◌*◌, ◌<◌, ◌≤◌, ◌^◌, List, Option, None, Some, refl, ap, sym, ◌∙◌, arith}
+use Rattle.std.specs.Int.{from_le_bytes, to_le_bytes}
 use Rattle.std.proofs.lemmas.Nat.{from_le_bytes-to_le_bytes_2, from_le_bytes-to_le_bytes_4}
 use Rattle.gm_game.specs.declared.limits.TheConstants.{REMOTENESS}
 use Rattle.gm_game.specs.declared.position.Value.{Value}
@@ -18,11 +18,6 @@ use Rattle.gm_record.specs.Numbers.{word, width, step, most, code, IsStorableSol
 pub step_most : (v : Version) → step v ≡ suc (most v)
 step_most One = refl
 step_most Two = refl
-
--- the bytes of a number in a record are the first of its four
-pub first_bytes : (v : Version) (n : ℕ) → take (width v) (to_le_bytes w32 n) ≡ to_le_bytes (word v) n
-first_bytes One n = refl
-first_bytes Two n = refl
 
 -- no remoteness is above the limit
 pub remoteness_small : (v : Version) (value : Value) (n : ℕ) → IsStorableSolved v value n → n < step v

@@ -65,9 +65,6 @@ module _ (r : Rules) (s : ShardState) (c : Position) (parent : ℕ) (mine : IsIn
   count_same : length (with_pair s c parent).delivered ≡ length s.delivered
   count_same = length-set s.delivered (parent - s.lo) (with_position c (delivered_to s parent))
 
-  in_after : (k : ℕ) → k < length s.delivered → IsInRange (with_pair s c parent) (s.lo + k)
-  in_after k l = let e = count_same in (omega arith, omega arith)
-
   mine_after : IsInRange (with_pair s c parent) parent
   mine_after = let n = count_same in let a = mine.0 in let b = mine.1 in (omega arith, omega arith)
 

@@ -78,9 +78,6 @@ not_applied r e ss out mid (s, t, get, takes, us) = out (slice_get_within ss (sh
 abbrev pub Leads : {G : Type 0} → Rules → List ShardState → List (Event G) → List ShardState → List (Event G) → ℕ → Type 0
 Leads r ss es us rest n = (vs : List ShardState) (m : ℕ) → Runs r us rest vs m → Runs r ss es vs (n + m)
 
-pub leads_start : {G : Type 0} → (r : Rules) (ss : List ShardState) (es : List (Event G)) → Leads r ss es ss es 0
-leads_start r ss es vs m h = subst (λ (j : ℕ). Runs r ss es vs j) (omega arith) h
-
 -- the events from one on
 rest_of : {G : Type 0} → (es : List (Event G)) (i : ℕ) (e : Event G) → i < length es → e ≡ get_or es i e → drop i es ≡ e ∷ drop (i + 1) es
 rest_of es i e l is =

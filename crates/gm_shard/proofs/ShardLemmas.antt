@@ -1,5 +1,5 @@
 -- How a shard's two queues follow its state.
-use Rattle.std.proofs.Common.{◌≡◌, ℕ, ◌+◌, ◌-◌, ◌<◌, ◌≤◌, [], ◌∷◌, ◌++◌, length, refl, sym, ap, subst, ◌∙◌, arith, Result, Ok, Err}
+use Rattle.std.proofs.Common.{◌≡◌, ℕ, ◌+◌, ◌-◌, ◌<◌, ◌≤◌, [], ◌∷◌, ◌++◌, length, refl, sym, ap, subst, ◌∙◌, Result, Ok, Err}
 use Rattle.gm_game.specs.declared.position.Phase.{Phase}
 use Rattle.gm_game.specs.declared.position.Phase.TheVariants.{WinLose, Ties}
 use Rattle.gm_game.specs.Rules.{Rules}
@@ -43,10 +43,6 @@ module _ (r : Rules) (note : NoteData) (parent : ℕ) (s t : ShardState) (d : De
 
   same_phase : (phase : Phase) → t.phase ≡ phase → s.phase ≡ phase
   same_phase phase e = sym (ap (λ (u : ShardState). u.phase) d.0) ∙ e
-
-  -- the parent lies in the range
-  pub parent_below : parent - s.lo < length s.delivered
-  parent_below = let m = d.1.is_mine in let l = m.0 in let h = m.1 in omega arith
 
   pub room_wins : t.phase ≡ WinLose → length w.indexes < w.room
   room_wins e =

@@ -1,5 +1,5 @@
 -- What is known once the levels of both phases are passed.
-use Rattle.std.proofs.Common.{◌≡◌, ℕ, ◌+◌, ◌++◌, inl, inr, List, [], length, refl, sym, ap, subst, ◌∙◌, arith, Option}
+use Rattle.std.proofs.Common.{◌≡◌, ℕ, ◌+◌, inl, inr, List, length, refl, subst, arith, Option}
 use Rattle.gm_game.specs.declared.limits.TheConstants.{REMOTENESS}
 use Rattle.gm_game.specs.declared.position.Position.{Position}
 use Rattle.gm_game.specs.declared.position.Solved.{Solved}
@@ -13,13 +13,10 @@ use Rattle.gm_game.specs.Records.{IsRecord, IsTrueTable}
 use Rattle.gm_game.specs.Places.{StandsAt, IsPlaceBefore, StandsBefore, IsNear, IsLastLevel}
 use Rattle.gm_game.proofs.Basic.{HasValue_once}
 use Rattle.gm_table.specs.Tables.{TableData, AreHeld, AreTables}
-use Rattle.gm_frontier.specs.Counts.{ExpectedData, IsExpected, IsPairInto, IsNumberBefore}
+use Rattle.gm_frontier.specs.Counts.{IsPairInto, IsNumberBefore}
 use Rattle.gm_frontier.proofs.PairLemmas.{near_of_pair}
-use Rattle.gm_deliveries.specs.State.{ShardState}
-use Rattle.gm_deliveries.specs.Steps.{place_of}
 use Rattle.gm_deliveries.specs.Closing.{ArePart}
 use Rattle.gm_table.specs.Solving.{IsDelivery, AreDeliveries, IsTooFar}
-use Rattle.gm_solver.specs.Over.{IsOver}
 use Rattle.gm_desk.proofs.Places.{stands_no_draw, value_place}
 use Rattle.gm_solver.proofs.Far.{table_knows, child_known}
 
@@ -70,28 +67,6 @@ module _ (r : Rules) (g : IsGame r) (entries : List TableData) (tables : AreTabl
       once = lists.once;
     },
   )
-
--- the same, of the shard and the count as they stand at the end
-pub final_table : (r : Rules) (tier : ℕ) (t : ShardState) (e : ExpectedData) → IsOver r t e → t.tier ≡ tier → (old records : List (Option Solved)) → old ≡ []
-    → ((part : List (Option Solved)) × (records ≡ old ++ part) × (length part ≡ length t.delivered) × ArePart r t.tier t.lo part) → IsTrueTable r REMOTENESS tier records
-final_table r tier t e over tier_is old records none (part, is, long, are) =
-    let all : records ≡ part = is ∙ ap (λ (xs : List (Option Solved)). xs ++ part) none in
-    let from = subst (λ (k : ℕ). ArePart r t.tier k part) over.lo are in
-    subst (IsTrueTable r REMOTENESS tier) (sym all)
-    (whole_part r tier part (long ∙ over.whole ∙ ap r.tier_size tier_is) (subst (λ (u : ℕ). ArePart r u 0 part) tier_is from))
-
-pub final_deliveries : (r : Rules) → IsGame r → (entries : List TableData) → AreTables r entries → (tier : ℕ) → AreHeld r entries tier → (records : List (Option Solved)) → IsTrueTable r REMOTENESS tier records
-    → (t : ShardState) (e : ExpectedData) → IsOver r t e → t.phase ≡ Ties → t.tier ≡ tier → (place : Place) → place ≡ place_of t → IsLastLevel r place.tier place.phase place.level
-    → IsExpected r e → (number : ℕ) → number ≡ e.number → AreDeliveries r tier number
-final_deliveries r g entries tables tier held records is_true t e over phase tier_is place here last exact number is =
-    let end = subst (λ (p : Place). IsLastLevel r p.tier p.phase p.level) here last in
-    let end_of_ties = subst (λ (ph : Phase). IsLastLevel r tier ph t.level) phase (subst (λ (u : ℕ). IsLastLevel r u t.phase t.level) tier_is end) in
-    let by_tier = subst (λ (u : ℕ). IsNumberBefore r u e.lo e.hi e.phase e.level e.number) (over.tier ∙ tier_is) exact.number in
-    let by_lo = subst (λ (k : ℕ). IsNumberBefore r tier k e.hi e.phase e.level e.number) over.from by_tier in
-    let by_hi = subst (λ (k : ℕ). IsNumberBefore r tier 0 k e.phase e.level e.number) (over.to ∙ ap r.tier_size tier_is) by_lo in
-    let by_phase = subst (λ (ph : Phase). IsNumberBefore r tier 0 (r.tier_size tier) ph e.level e.number) (over.phase ∙ phase) by_hi in
-    let by_level = subst (λ (k : ℕ). IsNumberBefore r tier 0 (r.tier_size tier) Ties k e.number) over.level by_phase in
-    subst (AreDeliveries r tier) (sym is) (all_deliveries r g entries tables tier held records is_true t.level end_of_ties e.number by_level)
 
 -- the same, of the number of all pairs before the end of ties
 pub end_deliveries : (r : Rules) → IsGame r → (entries : List TableData) → AreTables r entries → (tier : ℕ) → AreHeld r entries tier → (records : List (Option Solved)) → IsTrueTable r REMOTENESS tier records

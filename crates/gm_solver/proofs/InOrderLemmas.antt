@@ -1,5 +1,5 @@
 -- A shard to which the pairs of a level are delivered in their order, each once.
-use Rattle.std.proofs.Common.{◌≡◌, ℕ, suc, ◌+◌, ◌<◌, ◌≤◌, List, [], ◌++◌, length, slice_get, refl, sym, ap, subst, ◌∙◌, arith, Some, Option, Ok}
+use Rattle.std.proofs.Common.{◌≡◌, ℕ, ◌+◌, ◌≤◌, List, [], ◌++◌, length, slice_get, refl, sym, ap, subst, ◌∙◌, arith, Some, Option, Ok}
 use Rattle.std.specs.List.{Contains}
 use Rattle.std.proofs.lemmas.List.{length-replicate}
 use Rattle.std.proofs.lemmas.Option.{slice_get-get_or}
@@ -13,27 +13,26 @@ use Rattle.gm_game.specs.Records.{IsTrueTable}
 use Rattle.gm_game.specs.Places.{IsLastLevel}
 use Rattle.gm_game.specs.Laws.{IsGame}
 use Rattle.gm_frontier.specs.Notes.{NoteData}
-use Rattle.gm_frontier.specs.Levels.{LevelData, IsLevel}
-use Rattle.gm_frontier.specs.Pairs.{pairs_of}
+use Rattle.gm_frontier.specs.Levels.{IsLevel}
+use Rattle.gm_frontier.proofs.PairLemmas.{pairs_have}
 use Rattle.gm_frontier.specs.Counts.{IsNumberBefore}
 use Rattle.gm_table.specs.Tables.{TableData, AreHeld, AreTables}
 use Rattle.gm_deliveries.specs.Begin.{first_state}
 use Rattle.gm_deliveries.specs.Closing.{ArePart}
 use Rattle.gm_deliveries.proofs.CloseLemmas.{number_before}
 use Rattle.gm_deliveries.specs.declared.status.Delivery.{Delivery}
-use Rattle.gm_deliveries.specs.declared.status.Delivery.TheVariants.{Fresh, FreshSettled, Repeat}
 use Rattle.gm_deliveries.specs.State.{ShardState, delivered_to, pairs_in}
 use Rattle.gm_deliveries.specs.Good.{IsGood}
 use Rattle.gm_deliveries.specs.Delivery.{Delivers}
 use Rattle.gm_deliveries.specs.Steps.{place_of, IsWhole, next_level, first_ties}
 use Rattle.gm_desk.specs.Spots.{Spot, spot_of, IsSameSpot, IsDeliverable}
-use Rattle.gm_desk.specs.Rounds.{pairs_into, IsRound, HasNoneHere}
-use Rattle.gm_desk.proofs.RoundLemmas.{next_here, round_step}
+use Rattle.gm_desk.specs.Rounds.{pairs_into, place_of_spot, AreFirst, IsRound, HasNoneHere}
+use Rattle.gm_desk.proofs.RoundLemmas.{of_level, next_here, first_none, first_more}
+use Rattle.gm_desk.proofs.PieceLemmas.{added_is, ok_added, whole_all}
 use Rattle.gm_solver.specs.Ready.{IsReady}
 use Rattle.gm_solver.specs.Over.{IsNext}
 use Rattle.gm_table.specs.Solving.{AreDeliveries}
 use Rattle.gm_solver.proofs.Final.{whole_part, end_deliveries}
-use Rattle.gm_solver.proofs.Whole.{whole_piece, whole_from}
 use Rattle.gm_solver.proofs.RoundLemmas.{none_first, none_next, none_ties}
 
 -- the same spot, field by field
@@ -44,34 +43,49 @@ same_spot_from s t at =
     record { tier = ap (λ (x : Spot). x.tier) at; lo = lo; size = omega arith; phase = ap (λ (x : Spot). x.phase) at; level = ap (λ (x : Spot). x.level) at }
 
 module _ (r : Rules) (g : IsGame r) (s : ShardState) (notes : List NoteData) (level : IsLevel r (place_of s) notes) where
+  -- none of the pairs is delivered to a shard that has none of the place
+  pub none_yet : HasNoneHere r s → AreFirst (pairs_into r (spot_of s) notes) s 0
+  none_yet none = first_none r g (spot_of s) notes (of_level r g (spot_of s) notes level) s refl none
+
   -- the next pair is one for the shard
   pub next_of : (t : ShardState) → spot_of t ≡ spot_of s → (n : ℕ) (pair : NoteData × ℕ) → slice_get (pairs_into r (spot_of s) notes) n ≡ Some pair → IsDeliverable r t pair
-  next_of t at n pair e = next_here r g (spot_of s) notes level t at n pair e
+  next_of t at n pair e = next_here r g (spot_of s) notes (of_level r g (spot_of s) notes level) t at n pair e
 
   -- it is new
-  pub next_new : (t : ShardState) (n : ℕ) (pair : NoteData × ℕ) → slice_get (pairs_into r (spot_of s) notes) n ≡ Some pair → IsRound (pairs_into r (spot_of s) notes) (pairs_in s) t n
+  pub next_new : (t : ShardState) (n : ℕ) (pair : NoteData × ℕ) → slice_get (pairs_into r (spot_of s) notes) n ≡ Some pair → AreFirst (pairs_into r (spot_of s) notes) t n
       → Contains (delivered_to t pair.1) pair.0.position → ⊥
-  next_new t n pair e round h = let l = (round.each n pair e).0 h in omega arith
+  next_new t n pair e first h = let l = (first.each n pair e).0 h in omega arith
 
   -- and then it is delivered
-  pub next_round : (t u : ShardState) (n : ℕ) (pair : NoteData × ℕ) (answer : Delivery) → spot_of t ≡ spot_of s → slice_get (pairs_into r (spot_of s) notes) n ≡ Some pair → Delivers r pair.0 pair.1 t u (Ok answer)
-      → IsRound (pairs_into r (spot_of s) notes) (pairs_in s) t n → IsRound (pairs_into r (spot_of s) notes) (pairs_in s) u (suc n)
-  next_round t u n pair Repeat at e d h = absurd (round_step r g (spot_of s) notes level (pairs_in s) t u n pair (Ok Repeat) at e d h).0
-  next_round t u n pair Fresh at e d h =
-      let up : n + 1 ≡ suc n = omega arith in
-      subst (λ (m : ℕ). IsRound (pairs_into r (spot_of s) notes) (pairs_in s) u m) up (round_step r g (spot_of s) notes level (pairs_in s) t u n pair (Ok Fresh) at e d h).1
-  next_round t u n pair FreshSettled at e d h =
-      let up : n + 1 ≡ suc n = omega arith in
-      subst (λ (m : ℕ). IsRound (pairs_into r (spot_of s) notes) (pairs_in s) u m) up (round_step r g (spot_of s) notes level (pairs_in s) t u n pair (Ok FreshSettled) at e d h).1
+  pub next_first : (t u : ShardState) (n : ℕ) (pair : NoteData × ℕ) (answer : Delivery) → spot_of t ≡ spot_of s → slice_get (pairs_into r (spot_of s) notes) n ≡ Some pair → Delivers r pair.0 pair.1 t u (Ok answer)
+      → AreFirst (pairs_into r (spot_of s) notes) t n → AreFirst (pairs_into r (spot_of s) notes) u (n + 1)
+  next_first t u n pair answer at e d first =
+      let is = added_is r pair t u (Ok answer) d (ok_added r pair t u answer (next_new t n pair e first) d) in
+      subst (λ (v : ShardState). AreFirst (pairs_into r (spot_of s) notes) v (n + 1)) (sym is.0)
+      (first_more r g (spot_of s) notes (of_level r g (spot_of s) notes level) t n pair at e is.1.is_mine first)
 
   -- where none is left the level is whole
-  pub whole_at_end : (t : ShardState) (n : ℕ) → spot_of t ≡ spot_of s → IsGood r t → length (pairs_into r (spot_of s) notes) ≤ n → IsRound (pairs_into r (spot_of s) notes) (pairs_in s) t n → IsWhole r t
-  whole_at_end t n at good most round =
-      let l : LevelData = record { place = place_of s; notes = notes } in
-      let long : length notes ≤ length notes = omega arith in
-      whole_from r g s l refl level (length notes) long s.lo (s.lo + length s.delivered) refl refl t (same_spot_from s t at) good
-      (λ pair h. (let (k, w, e) = subst (λ (ns : List NoteData). Contains (pairs_of r s.tier s.lo (s.lo + length s.delivered) ns) pair) (whole_piece notes (length notes) long) h in
-      (round.each k pair (slice_get-get_or (pairs_into r (spot_of s) notes) k pair w ∙ ap (λ (x : NoteData × ℕ). Some x) e)).1 (omega arith)))
+  pub whole_at_end : (t : ShardState) (n : ℕ) → spot_of t ≡ spot_of s → IsGood r t → length (pairs_into r (spot_of s) notes) ≤ n → AreFirst (pairs_into r (spot_of s) notes) t n → IsWhole r t
+  whole_at_end t n at good most first =
+      let same = same_spot_from s t at in
+      let lo = same.lo in
+      let size = same.size in
+      whole_all r g t notes (subst (λ (x : Spot). IsLevel r (place_of_spot x) notes) (sym at) level) good
+      (λ m i among listed low high.
+      (let tier = same.tier in
+      let (k, w, e) = pairs_have r s.tier s.lo (s.lo + length s.delivered) notes m i among (subst (λ (u : ℕ). Contains (r.parents m.position u) i) tier listed) (omega arith) (omega arith) in
+      let pair : NoteData × ℕ = (m, i) in
+      (first.each k pair (slice_get-get_or (pairs_into r (spot_of s) notes) k pair w ∙ ap (λ (x : NoteData × ℕ). Some x) e)).1 (omega arith)))
+
+-- as many pairs as there are: the level is whole
+pub full_whole : (r : Rules) → IsGame r → (spot : Spot) (notes : List NoteData) → IsLevel r (place_of_spot spot) notes → (base : ℕ) (s t : ShardState) (n : ℕ) → spot_of s ≡ spot → IsRound (pairs_into r spot notes) base s n
+    → n ≡ length (pairs_into r spot notes) → t ≡ s → IsGood r t → IsWhole r t
+full_whole r g spot notes level base s t n at round all same good =
+    let back = sym at in
+    let here = subst (λ (x : Spot). IsLevel r (place_of_spot x) notes) back level in
+    let first = subst (λ (x : Spot). AreFirst (pairs_into r x notes) s n) back round.first in
+    let most : length (pairs_into r (spot_of s) notes) ≤ n = (let e = ap (λ (x : Spot). length (pairs_into r x notes)) at in omega arith) in
+    subst (λ (u : ShardState). IsWhole r u) (sym same) (whole_at_end r g s notes here s n refl (subst (λ (u : ShardState). IsGood r u) same good) most first)
 
 -- a level later
 pub ready_next : (r : Rules) (s t u : ShardState) → IsReady r s → IsSameSpot s t → IsGood r t → u ≡ next_level t → IsReady r u

@@ -1,12 +1,8 @@
 pub mod Far
-pub mod Whole
+pub mod SplitLemmas
+pub mod FinishLemmas
 pub mod Final
-pub mod Scans
-pub mod FoundLemmas
 pub mod TilingLemmas
 pub mod RoundLemmas
-pub mod OneTally
-pub mod SmallTiers
 pub mod BlockLemmas
-pub mod WalkLemmas
 pub mod InOrderLemmas

@@ -1,7 +1,6 @@
 -- A walk of the pairs of a level into a range, and shards to which none of the place is delivered.
-use Rattle.std.proofs.Common.{◌≡◌, ℕ, zero, suc, ◌+◌, ◌-◌, ◌<◌, ◌≤◌, List, [], ◌∷◌, length, drop, replicate, slice_get, slice_index_or, ◌^◌, refl, sym, ap, subst, ◌∙◌, arith, Some, Result, Ok, Err}
+use Rattle.std.proofs.Common.{◌≡◌, ℕ, zero, suc, ◌+◌, ◌-◌, ◌<◌, ◌≤◌, List, [], ◌∷◌, length, drop, replicate, slice_get, slice_index_or, ◌^◌, refl, sym, ap, subst, ◌∙◌, arith, Some}
 use Rattle.std.specs.List.{Contains}
-use Rattle.std.specs.Result.{IsOk}
 use Rattle.std.proofs.lemmas.List.{length-drop}
 use Rattle.gm_game.specs.declared.limits.TheConstants.{TIER_SIZE}
 use Rattle.gm_game.specs.declared.position.Position.{Position}
@@ -12,13 +11,10 @@ use Rattle.gm_game.specs.Rules.{Rules, at}
 use Rattle.gm_game.specs.Laws.{IsGame}
 use Rattle.gm_game.specs.Places.{StandsBefore}
 use Rattle.gm_frontier.specs.Notes.{NoteData}
-use Rattle.gm_frontier.specs.Levels.{LevelData, IsLevel}
-use Rattle.gm_frontier.proofs.PairLemmas.{in_pairs, positions_once, canonical_notes}
-use Rattle.gm_frontier.specs.Counts.{ExpectedData}
+use Rattle.gm_frontier.specs.Levels.{IsLevel}
+use Rattle.gm_frontier.proofs.PairLemmas.{positions_once, canonical_notes}
 use Rattle.gm_frontier.proofs.CountLemmas.{notes_few}
 use Rattle.gm_frontier.proofs.ForGame.{not_before_and_at, ties_after}
-use Rattle.gm_deliveries.specs.declared.status.Short.{Short}
-use Rattle.gm_deliveries.specs.Closing.{Closes}
 use Rattle.gm_solver.specs.Tiling.{tile_at}
 use Rattle.gm_deliveries.specs.State.{ShardState}
 use Rattle.gm_deliveries.specs.Begin.{first_state}
@@ -26,18 +22,9 @@ use Rattle.gm_deliveries.specs.Good.{IsGood}
 use Rattle.gm_deliveries.specs.Steps.{next_level, first_ties}
 use Rattle.gm_desk.specs.Spots.{Spot, spot_of}
 use Rattle.gm_desk.specs.Rounds.{pairs_into, place_of_spot, HasNoneHere}
-use Rattle.gm_desk.proofs.RoundLemmas.{item_in}
 
 -- the pairs of a level into a spot's range
 module _ (r : Rules) (g : IsGame r) (spot : Spot) (notes : List NoteData) (level : IsLevel r (place_of_spot spot) notes) where
-  -- its parent is an index of the tier
-  pub next_below : (k : ℕ) (pair : NoteData × ℕ) → slice_get (pairs_into r spot notes) k ≡ Some pair → pair.1 < r.tier_size spot.tier
-  next_below k pair e =
-      let note = (in_pairs r spot.tier spot.lo spot.hi notes pair (item_in (pairs_into r spot notes) k pair e)).0 in
-      let parent = (in_pairs r spot.tier spot.lo spot.hi notes pair (item_in (pairs_into r spot notes) k pair e)).1 in
-      let is = (g.parents_exact pair.0.position spot.tier pair.1 (canonical_notes r g (place_of_spot spot) notes level pair.0 note)).0 parent in
-      g.index_below (at spot.tier pair.1) is.0.legal
-
   -- they are few
   pub into_fit : r.tier_size spot.tier ≤ TIER_SIZE → length (pairs_into r spot notes) < 2 ^ 64
   into_fit small = (let few = notes_few r g spot.tier spot.lo spot.hi notes (positions_once r g (place_of_spot spot) notes level) (canonical_notes r g (place_of_spot spot) notes level) in omega arith)
@@ -69,10 +56,6 @@ none_next r s good i c m h stands = not_before_and_at r s.phase (s.level + 1) c 
 
 pub none_ties : (r : Rules) (s : ShardState) → IsGood r s → s.phase ≡ WinLose → HasNoneHere r (first_ties s)
 none_ties r s good wins i c m h stands = not_before_and_at r Ties 0 c (ties_after r (s.level + 1) 0 c (subst (λ (ph : Phase). StandsBefore r ph (s.level + 1) c) wins (good.pairs i c m h).1)) stands
-
-pub closed_none : (r : Rules) (e : ExpectedData) (s t : ShardState) (answer : Result (Unit {0}) Short) → Closes r e s t answer → IsOk answer → IsGood r s → HasNoneHere r t
-closed_none r e s t (Ok done) h ok good = subst (HasNoneHere r) (sym h.0) (none_next r s good)
-closed_none r e s t (Err short) h ok good = absurd (cc)
 
 pub turned_none : (r : Rules) (s t : ShardState) (place : Place) (width k : ℕ) → t ≡ first_ties s → IsGood r s → spot_of s ≡ tile_at r place width k → place.phase ≡ WinLose → HasNoneHere r t
 turned_none r s t place width k is good at wins = subst (HasNoneHere r) (sym is) (none_ties r s good (ap (λ (x : Spot). x.phase) at ∙ wins))

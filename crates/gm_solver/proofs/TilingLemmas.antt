@@ -1,5 +1,5 @@
 -- Four tiles of a tier: every index is in one, and what is known of each is known of the tier.
-use Rattle.std.proofs.Common.{◌≡◌, ℕ, zero, suc, ◌+◌, ◌*◌, ◌^◌, ◌<◌, ◌≤◌, ◌⊎◌, inl, inr, min, List, [], ◌∷◌, ◌++◌, length, replicate, Option, Some, slice_get, refl, sym, ap, subst, ◌∙◌, arith}
+use Rattle.std.proofs.Common.{◌≡◌, ℕ, zero, suc, ◌+◌, ◌*◌, ◌<◌, ◌≤◌, ◌⊎◌, inl, inr, min, List, [], ◌∷◌, ◌++◌, length, replicate, Option, Some, slice_get, sym, ap, subst, ◌∙◌, arith}
 use Rattle.std.specs.List.{Contains}
 use Rattle.std.proofs.lemmas.Bool.{cases_lt}
 use Rattle.std.proofs.lemmas.List.{length-append, length-replicate}
@@ -11,41 +11,31 @@ use Rattle.gm_game.specs.declared.position.Phase.TheVariants.{WinLose}
 use Rattle.gm_game.specs.declared.position.Place.{Place}
 use Rattle.gm_game.specs.declared.position.Solved.{Solved}
 use Rattle.gm_game.specs.Rules.{Rules, at}
-use Rattle.gm_game.specs.Laws.{IsGame}
 use Rattle.gm_game.specs.Records.{IsRecord, IsTrueTable}
 use Rattle.gm_game.specs.Values.{IsTrueValue}
-use Rattle.gm_frontier.specs.Counts.{ExpectedData, IsExpected, IsNumberBefore}
-use Rattle.gm_frontier.specs.Levels.{LevelData, RunData, AreTiles, place_at}
-use Rattle.gm_frontier.specs.Tallies.{TallyData, AreTallies, IsTile, AreAllTallies}
+use Rattle.gm_frontier.specs.Counts.{IsNumberBefore}
+use Rattle.gm_frontier.specs.Levels.{place_at}
 use Rattle.gm_frontier.proofs.Distinct.{no_repeats_from, no_repeats_to, no_repeats_append}
-use Rattle.gm_frontier.proofs.CountLemmas.{number_few}
-use Rattle.gm_frontier.proofs.AllTallies.{all_count}
-use Rattle.gm_deliveries.specs.State.{ShardState}
+use Rattle.gm_deliveries.proofs.CloseLemmas.{number_before}
+use Rattle.gm_deliveries.specs.State.{ShardState, pairs_in}
 use Rattle.gm_deliveries.specs.Begin.{first_state}
 use Rattle.gm_deliveries.specs.Good.{IsGood}
 use Rattle.gm_deliveries.specs.Steps.{place_of}
 use Rattle.gm_deliveries.specs.Closing.{ArePart}
 use Rattle.gm_desk.specs.declared.board.Four.{Four}
-use Rattle.gm_desk.specs.Spots.{Spot, spot_of, AreFourTiles}
+use Rattle.gm_desk.specs.Spots.{Spot, spot_of, choose}
+use Rattle.gm_desk.specs.Rounds.{HasNoneHere}
 use Rattle.gm_solver.specs.Covered.{IsCovered}
-use Rattle.gm_solver.specs.Tiling.{IsWide, tile_at, spot_counted, AreShardsAt, AreCountsAt, IsFreshRun}
+use Rattle.gm_solver.specs.Tiling.{IsWide, tile_at, AreShardsAt, AreGood, HaveNoneHere}
 use Rattle.gm_solver.proofs.Final.{whole_part}
 
--- the tiles follow one another
-tiles_are : (r : Rules) (place : Place) (width : ℕ) → IsWide r place.tier width → AreFourTiles r (tile_at r place width 0) (tile_at r place width 1) (tile_at r place width 2) (tile_at r place width 3)
-tiles_are r place width wide =
-    let enough = wide.enough in
-    record {
-      first = omega arith;
-      order = omega arith;
-      second = record { tier = refl; phase = refl; level = refl; from = refl; order = omega arith };
-      third = record { tier = refl; phase = refl; level = refl; from = refl; order = omega arith };
-      fourth = record { tier = refl; phase = refl; level = refl; from = refl; order = omega arith };
-      whole = omega arith;
-    }
-
-pub four_tiles : (r : Rules) (place : Place) (width : ℕ) → IsWide r place.tier width → (a b c d : Spot) → a ≡ tile_at r place width 0 → b ≡ tile_at r place width 1 → c ≡ tile_at r place width 2 → d ≡ tile_at r place width 3 → AreFourTiles r a b c d
-four_tiles r place width wide a b c d e f g h = rw (e, f, g, h) (tiles_are r place width wide)
+-- the spot of tile k
+pub choose_tile : (r : Rules) (place : Place) (width : ℕ) (a b c d : Spot) → a ≡ tile_at r place width 0 → b ≡ tile_at r place width 1 → c ≡ tile_at r place width 2 → d ≡ tile_at r place width 3 → (k : ℕ) → k < 4 → choose k a b c d ≡ tile_at r place width k
+choose_tile r place width a b c d ea eb ec ed zero l = ea
+choose_tile r place width a b c d ea eb ec ed (suc zero) l = eb
+choose_tile r place width a b c d ea eb ec ed (suc (suc zero)) l = ec
+choose_tile r place width a b c d ea eb ec ed (suc (suc (suc zero))) l = ed
+choose_tile r place width a b c d ea eb ec ed (suc (suc (suc (suc k)))) l = absurd (omega arith)
 
 -- where a shard stands, by its spot
 pub spot_place : (r : Rules) (place : Place) (width k : ℕ) (s : ShardState) → spot_of s ≡ tile_at r place width k → place_of s ≡ place
@@ -72,53 +62,6 @@ covered r place width wide shards are a b c d i inside =
         ]
       ]
     ]
-
--- runs of the tiles tile the tier
-pub runs_tile : (r : Rules) (place : Place) (width : ℕ) → IsWide r place.tier width → (shards : Four ShardState) → AreShardsAt r place width shards → (a b c d : RunData)
-    → IsFreshRun shards.a a → IsFreshRun shards.b b → IsFreshRun shards.c c → IsFreshRun shards.d d
-    → AreTiles place 0 (r.tier_size place.tier) (a ∷ b ∷ c ∷ d ∷ [])
-runs_tile r place width wide shards are a b c d fa fb fc fd =
-    let al = fa.lo in
-    let ah = fa.hi in
-    let bl = fb.lo in
-    let bh = fb.hi in
-    let cl = fc.lo in
-    let ch = fc.hi in
-    let dl = fd.lo in
-    let dh = fd.hi in
-    let enough = wide.enough in
-    let lo_a = ap (λ (x : Spot). x.lo) are.a in
-    let hi_a = ap (λ (x : Spot). x.hi) are.a in
-    let lo_b = ap (λ (x : Spot). x.lo) are.b in
-    let hi_b = ap (λ (x : Spot). x.hi) are.b in
-    let lo_c = ap (λ (x : Spot). x.lo) are.c in
-    let hi_c = ap (λ (x : Spot). x.hi) are.c in
-    let lo_d = ap (λ (x : Spot). x.lo) are.d in
-    let hi_d = ap (λ (x : Spot). x.hi) are.d in (
-      fa.place ∙ spot_place r place width 0 shards.a are.a,
-      omega arith,
-      omega arith,
-      (
-        fb.place ∙ spot_place r place width 1 shards.b are.b,
-        omega arith,
-        omega arith,
-        (
-          fc.place ∙ spot_place r place width 2 shards.c are.c,
-          omega arith,
-          omega arith,
-          (fd.place ∙ spot_place r place width 3 shards.d are.d, omega arith, omega arith, omega arith),
-        ),
-      ),
-    )
-
--- a tile, cut at the size, is one of the tiles of the tier, or has no index
-pub tile_is_one : (size width k lo hi : ℕ) → lo ≡ min (k * width) size → hi ≡ min (suc k * width) size → IsTile size width lo hi
-tile_is_one size width k lo hi e f = elim (cases_lt (k * width) size) [ inl l ↦ inr (k, omega arith, f) | inr l ↦ inl (omega arith) ]
-
--- the tallies of all pieces count into each tile
-pub all_tallies : (r : Rules) (level : LevelData) (n width k lo hi : ℕ) (tallies : List TallyData) → 0 < n → AreAllTallies level n width tallies → lo ≡ min (k * width) (r.tier_size level.place.tier) → hi ≡ min (suc k * width) (r.tier_size level.place.tier)
-    → AreTallies r level lo hi tallies
-all_tallies r level n width k lo hi tallies some all e f = all_count r level n width lo hi tallies some all (tile_is_one (r.tier_size level.place.tier) width k lo hi e f)
 
 -- the true records of the indexes below n
 pub record AreFirst (r : Rules) (tier n : ℕ) (records : List (Option Solved)) : Type 0 where
@@ -175,32 +118,30 @@ number_joined r tier lo mid hi phase level m n below above (xs, long, first) (ys
     in_second : (pair : Position × ℕ) → Contains ys pair → Contains (xs ++ ys) pair
     in_second pair h = Contains-append_right xs ys pair h
 
--- the exact number of a tile
-number_at : (r : Rules) (place : Place) (width k : ℕ) (e : ExpectedData) → spot_counted e ≡ tile_at r place width k → IsExpected r e
-    → IsNumberBefore r place.tier (min (k * width) (r.tier_size place.tier)) (min (suc k * width) (r.tier_size place.tier)) place.phase place.level e.number
-number_at r place width k e same exact = subst (λ (x : Spot). IsNumberBefore r x.tier x.lo x.hi x.phase x.level e.number) same exact.number
+-- the number of pairs into a tile whose child stands before the place
+pub number_at : (r : Rules) (place : Place) (width k : ℕ) (s : ShardState) (n : ℕ) → spot_of s ≡ tile_at r place width k → IsGood r s → HasNoneHere r s → n ≡ pairs_in s
+    → IsNumberBefore r place.tier (min (k * width) (r.tier_size place.tier)) (min (suc k * width) (r.tier_size place.tier)) place.phase place.level n
+number_at r place width k s n same good none is =
+    subst (λ (m : ℕ). IsNumberBefore r place.tier (min (k * width) (r.tier_size place.tier)) (min (suc k * width) (r.tier_size place.tier)) place.phase place.level m) (sym is)
+    (subst (λ (x : Spot). IsNumberBefore r x.tier x.lo x.hi x.phase x.level (pairs_in s)) same (number_before good none))
 
 -- the numbers of the four add up to that of the tier
-pub number_all : (r : Rules) (place : Place) (width : ℕ) → IsWide r place.tier width → (counts : Four ExpectedData) → AreCountsAt r place width counts → IsExpected r counts.a → IsExpected r counts.b → IsExpected r counts.c → IsExpected r counts.d
-    → IsNumberBefore r place.tier 0 (r.tier_size place.tier) place.phase place.level (counts.a.number + counts.b.number + counts.c.number + counts.d.number)
-number_all r place width wide counts are a b c d =
+pub number_all : (r : Rules) (place : Place) (width : ℕ) → IsWide r place.tier width → (shards : Four ShardState) → AreShardsAt r place width shards → AreGood r shards → HaveNoneHere r shards
+    → (a b c d : ℕ) → a ≡ pairs_in shards.a → b ≡ pairs_in shards.b → c ≡ pairs_in shards.c → d ≡ pairs_in shards.d → IsNumberBefore r place.tier 0 (r.tier_size place.tier) place.phase place.level (a + b + c + d)
+number_all r place width wide shards are good none a b c d ea eb ec ed =
     let size = r.tier_size place.tier in
     let enough = wide.enough in
     let t = place.tier in
-    let ab = number_joined r t (min (0 * width) size) (min (1 * width) size) (min (2 * width) size) place.phase place.level counts.a.number counts.b.number (omega arith) (omega arith) (number_at r place width 0 counts.a are.a a) (number_at r place width 1 counts.b are.b b) in
-    let abc = number_joined r t (min (0 * width) size) (min (2 * width) size) (min (3 * width) size) place.phase place.level (counts.a.number + counts.b.number) counts.c.number (omega arith) (omega arith) ab (number_at r place width 2 counts.c are.c c) in
-    let all = number_joined r t (min (0 * width) size) (min (3 * width) size) (min (4 * width) size) place.phase place.level (counts.a.number + counts.b.number + counts.c.number) counts.d.number (omega arith) (omega arith) abc (number_at r place width 3 counts.d are.d d) in
-    let number = counts.a.number + counts.b.number + counts.c.number + counts.d.number in
+    let in_a = number_at r place width 0 shards.a a are.a good.a none.a ea in
+    let in_b = number_at r place width 1 shards.b b are.b good.b none.b eb in
+    let in_c = number_at r place width 2 shards.c c are.c good.c none.c ec in
+    let in_d = number_at r place width 3 shards.d d are.d good.d none.d ed in
+    let ab = number_joined r t (min (0 * width) size) (min (1 * width) size) (min (2 * width) size) place.phase place.level a b (omega arith) (omega arith) in_a in_b in
+    let abc = number_joined r t (min (0 * width) size) (min (2 * width) size) (min (3 * width) size) place.phase place.level (a + b) c (omega arith) (omega arith) ab in_c in
+    let all = number_joined r t (min (0 * width) size) (min (3 * width) size) (min (4 * width) size) place.phase place.level (a + b + c) d (omega arith) (omega arith) abc in_d in
     let from : min (0 * width) size ≡ 0 = omega arith in
     let to : min (4 * width) size ≡ size = omega arith in
-    subst (λ (m : ℕ). IsNumberBefore r t 0 m place.phase place.level number) to (subst (λ (m : ℕ). IsNumberBefore r t m (min (4 * width) size) place.phase place.level number) from all)
-
--- and each is small
-pub number_small : (r : Rules) → IsGame r → (e : ExpectedData) → IsExpected r e → e.number ≤ 2 ^ 40
-number_small r g e exact =
-    let few = number_few r g e.tier e.lo e.hi e.phase e.level e.number exact.number in
-    let small = exact.small in
-    omega arith
+    subst (λ (m : ℕ). IsNumberBefore r t 0 m place.phase place.level (a + b + c + d)) to (subst (λ (m : ℕ). IsNumberBefore r t m (min (4 * width) size) place.phase place.level (a + b + c + d)) from all)
 
 -- the parts of the four are the true table
 pub four_parts : (r : Rules) (place : Place) (width : ℕ) → IsWide r place.tier width → (shards : Four ShardState) → AreShardsAt r place width shards → (none one two three four : List (Option Solved)) → none ≡ []

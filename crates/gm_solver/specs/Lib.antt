@@ -3,7 +3,6 @@ pub mod Over
 pub mod Ready
 pub mod Plans
 pub mod Tiling
-pub mod Found
 pub mod Covered
 pub mod Blocks
-pub mod Batches
+pub mod Split

@@ -1,29 +1,48 @@
-//! The workers of one level, and the coordinator after them.
-ghost use Rattle.std.specs.Prelude.{◌≡◌, ◌+◌, ◌<◌, [], OnOk, IfOk, vec_len};
-ghost use Rattle.gm_frontier.specs.Tallies.{AreAllTallies};
-ghost use Rattle.gm_solver.specs.Found.{AreFound};
+//! The workers of one level.
+ghost use Rattle.std.specs.Prelude.{◌≡◌, ℕ, ◌+◌, ◌<◌, OnOk, IfOk, vec_len};
+ghost use Rattle.gm_desk.specs.Spots.{choose};
+ghost use Rattle.gm_solver.specs.Tiling.{tile_at};
 
-use crate::found::{fill, keep_all};
-use crate::gate::{Gate, NoGate};
+use crate::gate::Gate;
 use crate::means::Means;
 use crate::pieces::Pieces;
 use crate::source::Source;
-use crate::work::{Slot, Walker};
-use gm_desk::board::{Board, Shares};
+use crate::work::Walker;
+use gm_desk::board::Shares;
+use gm_desk::piece::Cut;
+use gm_desk::pieces::PieceBoard;
 use gm_desk::share::Desk;
-use gm_frontier::tally::Tally;
 use gm_game::game::Game;
 use std::alloc::{AllocError, Global};
 use std::sync::{Mutex, Wait};
 use std::thread;
 use std::thread::Threads;
 
+// What a worker has: one part of each share.
+#[derive(Drop)]
+struct Slot<A: Desk, B: Desk, C: Desk, D: Desk> {
+    shares: Shares<A, B, C, D>,
+    ghost one_part: { shares.parts ≡ 1 },
+}
+
+impl<A: Cut, B: Cut, C: Cut, D: Cut> Slot<A, B, C, D> {
+    // Has a worker do its work with these shares.
+    fn serve<G: Game, R: Wait, T: Gate, S: Source>(
+        &mut self,
+        walker: &Walker<G, A, B, C, D, R, T>,
+        alloc: Global,
+        source: &S,
+    ) {
+        walker.work(alloc, source, &mut self.shares);
+    }
+}
+
 // A slot for each worker, with one part of each share.
-fn slots_of<G: Game, A: Desk, B: Desk, C: Desk, D: Desk>(
+fn slots_of<A: Desk, B: Desk, C: Desk, D: Desk>(
     alloc: Global,
     workers: usize,
     rest: &mut Shares<A, B, C, D>,
-) -> Result<Vec<Mutex<Slot<G, A, B, C, D>>>, AllocError>
+) -> Result<Vec<Mutex<Slot<A, B, C, D>>>, AllocError>
     requires { workers < rest.old.parts }
     ensures parts { IfOk result (λ slots. rest.new.parts + vec_len slots ≡ rest.old.parts) }
     ensures each { IfOk result (λ slots. vec_len slots ≡ workers) }
@@ -32,7 +51,6 @@ fn slots_of<G: Game, A: Desk, B: Desk, C: Desk, D: Desk>(
     for _ in 0..workers {
         let slot = Slot {
             shares: rest.split(),
-            walked: Vec::new(alloc),
         };
         slots.push(Mutex::new(slot))?;
     }
@@ -41,17 +59,19 @@ fn slots_of<G: Game, A: Desk, B: Desk, C: Desk, D: Desk>(
 
 // What the workers of a level share, and a slot for each of them.
 #[derive(Drop)]
-struct Crew<'a, 'b, G: Game, A: Desk, B: Desk, C: Desk, D: Desk, T: Gate, S: Source> {
+struct Crew<'a, 'b, G: Game, A: Cut, B: Cut, C: Cut, D: Cut, T: Gate, S: Source> {
     alloc: Global,
-    board: &'a Board<G, A, B, C, D>,
+    board: &'a PieceBoard<G, A, B, C, D>,
     pieces: &'a Pieces<'b, G>,
     gate: &'a T,
     source: &'a S,
-    slots: &'a [Mutex<Slot<G, A, B, C, D>>],
-    ghost here: { A.spot.tier ≡ pieces.now.level.now.place.tier },
+    slots: &'a [Mutex<Slot<A, B, C, D>>],
+    ghost tiles_are: { (k : ℕ) → k < 4 → choose k A.spot B.spot C.spot D.spot ≡ tile_at G.rules pieces.now.level.now.place pieces.now.width k },
+    ghost notes_are: { A.notes ≡ pieces.now.level.now.notes },
+    ghost size_is: { A.size ≡ pieces.now.notes },
 }
 
-impl<'a, 'b, G: Game, A: Desk, B: Desk, C: Desk, D: Desk, T: Gate, S: Source> Crew<
+impl<'a, 'b, G: Game, A: Cut, B: Cut, C: Cut, D: Cut, T: Gate, S: Source> Crew<
     'a,
     'b,
     G,
@@ -65,16 +85,14 @@ impl<'a, 'b, G: Game, A: Desk, B: Desk, C: Desk, D: Desk, T: Gate, S: Source> Cr
     // Does the work of one worker, over its slot.
     fn work<R: Wait>(&self, rt: &R, worker: usize) {
         if let Some(slot) = self.slots.get(worker) {
-            let mut mine = slot.lock(rt);
             let walker = Walker {
                 rt,
-                alloc: self.alloc,
                 board: self.board,
                 pieces: self.pieces,
                 gate: self.gate,
                 worker,
             };
-            walker.work(self.source, &mut mine);
+            slot.lock(rt).serve(&walker, self.alloc, self.source);
         }
     }
 }
@@ -85,10 +103,10 @@ fn run_workers<
     'a,
     'b,
     G: Game + Send + Sync,
-    A: Desk + Send,
-    B: Desk + Send,
-    C: Desk + Send,
-    D: Desk + Send,
+    A: Cut + Send,
+    B: Cut + Send,
+    C: Cut + Send,
+    D: Cut + Send,
     R: Threads + Wait + Sync,
     T: Gate,
     S: Source,
@@ -101,22 +119,17 @@ fn run_workers<
     });
 }
 
-// Takes back the workers' parts of the shares, and keeps the tallies that they found.
-fn take_back<G: Game, A: Desk, B: Desk, C: Desk, D: Desk>(
-    slots: Vec<Mutex<Slot<G, A, B, C, D>>>,
-    pieces: &Pieces<G>,
+// Takes back the workers' parts of the shares.
+fn take_back<A: Desk, B: Desk, C: Desk, D: Desk>(
+    slots: Vec<Mutex<Slot<A, B, C, D>>>,
     rest: &mut Shares<A, B, C, D>,
-    found: &mut Vec<Option<Tally<G>>>,
 )
-    requires { AreFound pieces.now.level.now pieces.now.notes pieces.now.width found.old.items }
-    ensures parts { rest.new.parts ≡ rest.old.parts + vec_len slots }
-    ensures found { AreFound pieces.now.level.now pieces.now.notes pieces.now.width found.new.items }
+    ensures { rest.new.parts ≡ rest.old.parts + vec_len slots }
 {
     let mut slots = slots;
     while let Some(slot) = slots.pop() {
-        let Slot { shares, walked } = slot.into_inner();
+        let Slot { shares } = slot.into_inner();
         rest.join(shares);
-        keep_all(found, pieces, walked);
     }
 }
 
@@ -129,35 +142,30 @@ fn sum_of<A: Desk, B: Desk, C: Desk, D: Desk>(shares: &Shares<A, B, C, D>) -> u6
         .saturating_add(shares.amount(3))
 }
 
-/// Serves a level: runs its workers, takes their parts of the shares back after the last has ended, and walks the pieces that they left. No tally is found at
-/// first, and the list of tallies is empty; at the end it has those of all pieces. The result is the number of the workers' deliveries.
+/// Runs the workers of a level, and takes their parts of the shares back after the last has ended. The result is the number of their deliveries.
 pub(crate) fn serve_level<
     G: Game + Send + Sync,
-    A: Desk + Send,
-    B: Desk + Send,
-    C: Desk + Send,
-    D: Desk + Send,
+    A: Cut + Send,
+    B: Cut + Send,
+    C: Cut + Send,
+    D: Cut + Send,
     R: Threads + Wait + Sync,
     T: Gate,
     S: Source,
 >(
     means: &Means<G, R, T, S>,
-    board: &Board<G, A, B, C, D>,
+    board: &PieceBoard<G, A, B, C, D>,
     pieces: &Pieces<G>,
     workers: usize,
     rest: &mut Shares<A, B, C, D>,
-    found: &mut Vec<Option<Tally<G>>>,
-    tallies: &mut Vec<Tally<G>>,
 ) -> Result<u64, AllocError>
-    requires tier { A.spot.tier ≡ pieces.now.level.now.place.tier }
+    requires tiles { (k : ℕ) → k < 4 → choose k A.spot B.spot C.spot D.spot ≡ tile_at G.rules pieces.now.level.now.place pieces.now.width k }
+    requires notes { A.notes ≡ pieces.now.level.now.notes }
+    requires size { A.size ≡ pieces.now.notes }
     requires workers { workers < rest.old.parts }
-    requires found { AreFound pieces.now.level.now pieces.now.notes pieces.now.width found.old.items }
-    requires none { tallies.old.items ≡ [] }
-    ensures parts { OnOk result (rest.new.parts ≡ rest.old.parts) }
-    ensures tallies { OnOk result (AreAllTallies pieces.now.level.now pieces.now.notes pieces.now.width tallies.new.items) }
+    ensures { OnOk result (rest.new.parts ≡ rest.old.parts) }
 {
-    let before = sum_of(rest);
-    let slots = slots_of::<G, A, B, C, D>(means.alloc, workers, rest)?;
+    let slots = slots_of::<A, B, C, D>(means.alloc, workers, rest)?;
     let crew = Crew {
         alloc: means.alloc,
         board,
@@ -167,16 +175,6 @@ pub(crate) fn serve_level<
         slots: slots.as_slice(),
     };
     run_workers(means.rt, &crew);
-    take_back(slots, pieces, rest, found);
-    let by_workers = sum_of(rest).saturating_sub(before);
-    let coordinator = Walker {
-        rt: means.rt,
-        alloc: means.alloc,
-        board,
-        pieces,
-        gate: &NoGate,
-        worker: 0,
-    };
-    fill(&coordinator, found, rest, tallies)?;
-    Ok(by_workers)
+    take_back(slots, rest);
+    Ok(sum_of(rest))
 }

@@ -1,19 +1,19 @@
 //! A tier solved by one shard, to which the pairs of each level are delivered in their order. None comes twice, so neither the children delivered to a position
 //! nor the places of its children are kept.
-ghost use Rattle.std.specs.Prelude.{◌≡◌, ◌+◌, ◌≤◌, IfOk, IfErr, OnOk};
+ghost use Rattle.std.specs.Prelude.{◌≡◌, ◌+◌, ◌≤◌, length, IfOk, IfErr, OnOk};
+ghost use Rattle.gm_deliveries.specs.Begin.{AreStarts};
 ghost use Rattle.gm_game.specs.declared.position.Phase.TheVariants.{WinLose};
 ghost use Rattle.gm_table.specs.Tables.{AreHeld, IsTable};
 ghost use Rattle.gm_deliveries.specs.Steps.{place_of, IsWhole};
-ghost use Rattle.gm_desk.specs.Spots.{IsSameSpot};
-ghost use Rattle.gm_desk.specs.Rounds.{HasNoneHere};
+ghost use Rattle.gm_desk.specs.Spots.{IsSameSpot, spot_of};
+ghost use Rattle.gm_desk.specs.Rounds.{pairs_into, AreFirst};
 ghost use Rattle.gm_solver.specs.Ready.{IsReady};
 ghost use Rattle.gm_solver.specs.Over.{IsLater, IsNext};
 ghost use Rattle.gm_table.specs.Solving.{IsTooFar, AreDeliveries};
 ghost use Rattle.gm_solver.specs.Solving.{IsError};
 
 use crate::error::SolveError;
-use crate::starts::starts;
-use crate::tier_lists::starts_by_threads;
+use gm_deliveries::status::Start;
 use gm_frontier::last::Last;
 use gm_frontier::level::Level;
 use gm_game::game::Game;
@@ -22,16 +22,17 @@ use gm_shard::ordered::OrderedShard;
 use gm_table::packed::Packed;
 use gm_table::table::Table;
 use gm_table::tables::Tables;
-use std::alloc::{AllocError, Global};
-use std::thread::Threads;
+use std::alloc::Global;
 
-// Delivers a level's pairs to a shard that has none of them. After that the shard has each pair of its range whose child stands at or before its place.
-fn deliver_in_order<G: Game>(
+/// Delivers a level's pairs to a shard that has the first so many of them, and no later one. After that the shard has each pair of its range whose child stands
+/// at or before its place.
+pub(crate) fn deliver_rest<G: Game>(
     shard: &mut OrderedShard<G>,
     level: &Level<G>,
+    done: u64,
 ) -> Result<(), SolveError>
     requires place { level.now.place ≡ place_of shard.old }
-    requires none { HasNoneHere G.rules shard.old }
+    requires first { AreFirst (pairs_into G.rules (spot_of shard.old) level.now.notes) shard.old done }
     requires near { shard.old.level ≤ REMOTENESS }
     ensures same { IsSameSpot shard.old shard.new }
     ensures whole { OnOk result (IsWhole G.rules shard.new) }
@@ -40,9 +41,14 @@ fn deliver_in_order<G: Game>(
     let tier = shard.tier();
     let (lo, hi) = shard.range();
     let _level = level.place();
+    let mut number = 0u64;
     for (note, parent) in level.pairs(0, level.len().max(1), lo, hi) {
+        if number < done {
+            number += 1;
+            continue;
+        }
         match shard.deliver_new(&note, parent) {
-            Ok(_) => {}
+            Ok(_) => number += 1,
             // A new pair of the present level into the shard's range is refused only where it is too far.
             Err(_refused) => {
                 let _good = shard.range();
@@ -63,7 +69,8 @@ fn pass_level<G: Game>(shard: &mut OrderedShard<G>, level: &Level<G>) -> Result<
     ensures next { OnOk result (IsNext shard.old shard.new) }
     ensures error { IfErr result (IsError G.rules shard.old.tier) }
 {
-    deliver_in_order(shard, level)?;
+    let _level = level.place();
+    deliver_rest(shard, level, 0)?;
     let _good = shard.range();
     shard.close();
     Ok(())
@@ -126,77 +133,24 @@ fn pass_tier<G: Game>(
     Ok((Table::from_packed(tier, records), shard.delivered()))
 }
 
-// The shard of a whole tier before the first level.
-fn begin_in_order<G: Game>(alloc: Global, tier: u64) -> Result<OrderedShard<G>, AllocError>
-    requires { G.rules.tier_size tier ≤ TIER_SIZE }
-    ensures tier { IfOk result (λ shard. shard.tier ≡ tier) }
-    ensures phase { IfOk result (λ shard. shard.phase ≡ WinLose) }
-    ensures level { IfOk result (λ shard. shard.level ≡ 0) }
-    ensures ready { IfOk result (IsReady G.rules) }
-{
-    let list = starts::<G>(alloc, tier, 0, G::tier_size(tier))?;
-    let shard = OrderedShard::begin(alloc, tier, 0, list.as_slice())?;
-    Ok(shard)
-}
-
-/// Solves a tier by one shard, as `solve_alone` does.
-pub(crate) fn solve_in_order<G: Game>(
+/// Solves a tier by one shard, as `solve_alone` does. These are what its indexes are at the start.
+pub(crate) fn solve_from<G: Game>(
     alloc: Global,
     tier: u64,
     tables: &Tables<G>,
+    starts: &[Start],
 ) -> Result<(Table<G>, u64), SolveError>
     requires held { AreHeld G.rules tables.now tier }
     requires small { G.rules.tier_size tier ≤ TIER_SIZE }
+    requires starts { AreStarts G.rules tier 0 starts.now }
+    requires whole { length starts.now ≡ G.rules.tier_size tier }
     ensures tier { IfOk result (λ answer. answer.0.tier ≡ tier) }
     ensures table { IfOk result (λ answer. IsTable G.rules answer.0) }
     ensures deliveries { IfOk result (λ answer. AreDeliveries G.rules tier answer.1) }
     ensures near { OnOk result (IsTooFar G.rules tier → ⊥) }
     ensures error { IfErr result (IsError G.rules tier) }
 {
-    let mut shard = begin_in_order::<G>(alloc, tier)?;
-    let solved = pass_tier(alloc, &mut shard, tables);
-    drop(shard);
-    solved
-}
-
-// The shard of a whole tier before the first level; what its indexes are is found by threads.
-fn begin_by_threads<G: Game + Send + Sync, R: Threads + Sync>(
-    rt: &R,
-    alloc: Global,
-    tier: u64,
-    tables: &Tables<G>,
-    workers: usize,
-) -> Result<OrderedShard<G>, AllocError>
-    requires held { AreHeld G.rules tables.now tier }
-    requires small { G.rules.tier_size tier ≤ TIER_SIZE }
-    ensures tier { IfOk result (λ shard. shard.tier ≡ tier) }
-    ensures phase { IfOk result (λ shard. shard.phase ≡ WinLose) }
-    ensures level { IfOk result (λ shard. shard.level ≡ 0) }
-    ensures ready { IfOk result (IsReady G.rules) }
-{
-    let _held = tables.has(tier);
-    let list = starts_by_threads::<G, R>(rt, alloc, tier, workers)?;
-    let shard = OrderedShard::begin(alloc, tier, 0, list.as_slice())?;
-    Ok(shard)
-}
-
-/// Solves a tier as `solve_in_order` does, where threads find what its indexes are at the start.
-pub(crate) fn solve_after_scan<G: Game + Send + Sync, R: Threads + Sync>(
-    rt: &R,
-    alloc: Global,
-    tier: u64,
-    tables: &Tables<G>,
-    workers: usize,
-) -> Result<(Table<G>, u64), SolveError>
-    requires held { AreHeld G.rules tables.now tier }
-    requires small { G.rules.tier_size tier ≤ TIER_SIZE }
-    ensures tier { IfOk result (λ answer. answer.0.tier ≡ tier) }
-    ensures table { IfOk result (λ answer. IsTable G.rules answer.0) }
-    ensures deliveries { IfOk result (λ answer. AreDeliveries G.rules tier answer.1) }
-    ensures near { OnOk result (IsTooFar G.rules tier → ⊥) }
-    ensures error { IfErr result (IsError G.rules tier) }
-{
-    let mut shard = begin_by_threads::<G, R>(rt, alloc, tier, tables, workers)?;
+    let mut shard = OrderedShard::begin(alloc, tier, 0, starts)?;
     let solved = pass_tier(alloc, &mut shard, tables);
     drop(shard);
     solved

@@ -4,25 +4,21 @@
 #![tactic(auto)]
 
 pub mod alone;
-mod batch;
 mod crew;
 pub mod error;
-mod found;
 pub mod gate;
 mod in_order;
 mod levels;
-mod listed;
 mod means;
 mod passes;
-pub mod phase;
 mod pieces;
 pub mod plan;
 mod post;
 mod round;
+mod scan;
 pub mod source;
 pub mod starts;
 pub mod tier;
-pub mod tier_lists;
 mod tiles;
 mod work;
 

@@ -1,15 +1,19 @@
 //! A desk with its pass in a slot, and what a worker does with it.
-ghost use Rattle.std.specs.Prelude.{◌≡◌, ◌<◌, ◌≤◌, ◌^◌, length};
-ghost use Rattle.gm_deliveries.specs.State.{pairs_in};
+ghost use Rattle.std.specs.Prelude.{◌≡◌, ◌<◌, ◌≤◌, length, IfOk, IfErr, IsTrue};
+ghost use Rattle.gm_deliveries.specs.Steps.{IsWhole};
 ghost use Rattle.gm_desk.specs.Spots.{spot_of};
-ghost use Rattle.gm_desk.specs.Rounds.{pairs_into, HasNoneHere, IsLevelAt};
+ghost use Rattle.gm_desk.specs.Rounds.{pairs_into, IsLevelAt};
+ghost use Rattle.gm_desk.specs.Pieces.{IsReadyFor};
+ghost use Rattle.gm_solver.specs.Solving.{IsError};
 
+use crate::error::SolveError;
 use crate::gate::Gate;
-use crate::tier_lists::TierLists;
+use crate::in_order::deliver_rest;
 use gm_desk::pass::{Pass, PassDesk, Round};
 use gm_frontier::level::Level;
 use gm_game::game::Game;
-use gm_shard::shard::Shard;
+use gm_game::limits::REMOTENESS;
+use gm_shard::ordered::OrderedShard;
 use std::marker::{Model, PhantomData};
 use std::sync::ledger::Blank;
 use std::sync::{Mutex, Wait};
@@ -56,44 +60,29 @@ struct Slot<G: Game, L: Round> {
     found: Option<Found<G, L>>,
 }
 
-// The number of a level's pairs into a desk's range, by a walk.
-fn counted<G: Game, L: Round>(desk: &PassDesk<G, L>, level: &Level<G>) -> u64
-    requires { IsLevelAt level.now L.spot L.notes }
-    ensures { result ≡ length (pairs_into G.rules L.spot L.notes) }
-{
-    let _place = level.place();
-    let (lo, hi) = desk.range();
-    let pairs = level.pairs(0, level.len().max(1), lo, hi);
-    pairs.count() as u64
-}
-
-/// A desk with its pass in a slot, the level whose pairs are delivered, and the canonical children of its tier.
+/// A desk with its pass in a slot, the level whose pairs are delivered, and how many pairs the shard had before.
 #[derive(Drop)]
 pub(crate) struct Post<'a, G: Game, L: Round> {
     desk: PassDesk<G, L>,
     slot: Mutex<Slot<G, L>>,
     level: &'a Level<'a, G>,
-    lists: &'a TierLists<G>,
+    before: u64,
     ghost level_is: { IsLevelAt level.now L.spot L.notes },
-    ghost lists_are: { lists.now ≡ L.spot.tier },
+    ghost before_is: { before ≡ L.base },
 }
 
 impl<'a, G: Game, L: Round> Post<'a, G, L> {
     /// Puts a shard under the lock of a desk, and its pass into the slot.
     pub(crate) fn around(
         blank: Blank,
-        shard: Shard<G>,
+        shard: OrderedShard<G>,
         level: &'a Level<'a, G>,
-        lists: &'a TierLists<G>,
     ) -> Post<'a, G, L>
-        requires lists { lists.now ≡ L.spot.tier }
         requires name { blank.name ≡ L.name }
         requires parts { (blank.parts ≡ L.parts) × (0 < L.parts) }
-        requires spot { spot_of shard ≡ L.spot }
-        requires level { IsLevelAt level.now L.spot L.notes }
-        requires base { pairs_in shard ≡ L.base }
-        requires none { HasNoneHere G.rules shard }
+        requires ready { IsReadyFor G.rules shard level.now L.spot L.notes L.base }
     {
+        let before = shard.delivered();
         let (desk, pass) = PassDesk::around(blank, shard, level);
         let slot = Slot {
             pass: Some(pass),
@@ -103,7 +92,7 @@ impl<'a, G: Game, L: Round> Post<'a, G, L> {
             desk,
             slot: Mutex::new(slot),
             level,
-            lists,
+            before,
         }
     }
 
@@ -117,9 +106,8 @@ impl<'a, G: Game, L: Round> Post<'a, G, L> {
         let mut number = 0u64;
         for (note, parent) in self.level.pairs(0, self.level.len().max(1), lo, hi) {
             if number == pass.amount() {
-                let stands = self.lists.place_of(note.position(), parent);
                 gate.before(rt, worker, place);
-                let _answer = self.desk.deliver_next_at(rt, &note, parent, stands, pass);
+                let _answer = self.desk.deliver_next(rt, &note, parent, pass);
                 gate.after(rt, worker, place);
             }
             number += 1;
@@ -138,22 +126,38 @@ impl<'a, G: Game, L: Round> Post<'a, G, L> {
         }
     }
 
-    /// The shard after the post's workers have ended, and the number of the level's pairs into it. Where no worker found the number, it is found by a walk.
-    pub(crate) fn end(self) -> (Shard<G>, u64)
-        ensures shard { spot_of result.0 ≡ L.spot }
-        ensures number { result.1 ≡ length (pairs_into G.rules L.spot L.notes) }
+    /// The shard after the post's workers have ended, with every pair of the level, and how many pairs the workers delivered. Where they are fewer than a walk
+    /// found, or no walk ended, what is missing is delivered.
+    pub(crate) fn end(self) -> Result<(OrderedShard<G>, u64), SolveError>
+        requires { L.spot.level ≤ REMOTENESS }
+        ensures spot { IfOk result (λ done. spot_of done.0 ≡ L.spot) }
+        ensures whole { IfOk result (λ done. IsWhole G.rules done.0) }
+        ensures error { IfErr result (IsError G.rules L.spot.tier) }
     {
         let Post {
             desk,
             slot,
             level,
-            ..
+            before,
         } = self;
         let Slot { pass: _, found } = slot.into_inner();
-        let number = match &found {
-            Some(found) => found.number(),
-            None => counted(&desk, level),
-        };
-        (desk.into_shard(), number)
+        let _place = level.place();
+        let mut shard = desk.into_shard();
+        let by_workers = shard.delivered() - before;
+        if !is_full(&found, by_workers) {
+            deliver_rest(&mut shard, level, by_workers)?;
+        }
+        let _good = shard.range();
+        Ok((shard, by_workers))
+    }
+}
+
+// Whether a walk found as many pairs.
+fn is_full<G: Game, L: Round>(found: &Option<Found<G, L>>, number: u64) -> bool
+    ensures { IsTrue result → number ≡ length (pairs_into G.rules L.spot L.notes) }
+{
+    match found {
+        Some(found) => found.number() == number,
+        None => false,
     }
 }

@@ -1,47 +1,102 @@
 //! One level by workers: their deliveries, and those that the coordinator makes up for.
-ghost use Rattle.std.specs.Prelude.{◌≡◌, ◌+◌, ◌≤◌, [], IfOk, IfErr, OnOk};
-ghost use Rattle.gm_game.specs.declared.position.Place.{Place};
+ghost use Rattle.std.specs.Prelude.{◌≡◌, ℕ, ◌+◌, ◌<◌, ◌≤◌, true, false, length, slice_index_or, IfOk, IfErr, OnOk};
+ghost use Rattle.std.specs.Int.{div_ceil};
 ghost use Rattle.gm_frontier.specs.Levels.{place_at};
-ghost use Rattle.gm_frontier.specs.Tallies.{AreTallies, AreAllTallies};
-ghost use Rattle.gm_deliveries.specs.Steps.{place_of};
+ghost use Rattle.gm_deliveries.specs.Steps.{IsWhole};
+ghost use Rattle.gm_desk.specs.Spots.{spot_of, choose};
+ghost use Rattle.gm_desk.specs.Rounds.{IsLevelAt};
+ghost use Rattle.gm_desk.specs.Pieces.{IsReadyFor};
 ghost use Rattle.gm_solver.specs.Solving.{IsError};
-ghost use Rattle.gm_desk.specs.Spots.{spot_of, AreFourTiles};
-ghost use Rattle.gm_solver.specs.Tiling.{AreShardsAt, AreCountsAt, HaveNoneHere, spot_counted, next_spot, next_place};
-ghost use Rattle.gm_solver.specs.Found.{AreFound};
-ghost use Rattle.gm_desk.specs.Rounds.{HasNoneHere};
+ghost use Rattle.gm_solver.specs.Tiling.{AreShardsAt, HaveNoneHere, AreWhole, tile_at, next_place};
 
 use crate::crew::serve_level;
 use crate::error::SolveError;
-use crate::found::none_found;
 use crate::gate::Gate;
-use crate::listed::deliver_listed;
 use crate::means::Means;
 use crate::pieces::Pieces;
 use crate::source::Source;
-use gm_desk::board::{Board, Four};
-use gm_desk::share::Desk;
-use gm_frontier::expected::Expected;
-use gm_frontier::level::Level;
-use gm_frontier::tally::Tally;
+use gm_desk::board::Four;
+use gm_desk::piece::Cut;
+use gm_desk::pieces::{PieceBoard, Taken};
+use gm_frontier::note::Note;
+use gm_frontier::pairs::Pairs;
 use gm_game::game::Game;
 use gm_game::limits::REMOTENESS;
-use gm_shard::shard::Shard;
-use std::alloc::AllocError;
+use gm_shard::ordered::OrderedShard;
+use std::alloc::{AllocError, Global};
 use std::marker::Brand;
 use std::sync::Wait;
 use std::sync::ledger::Blank;
 use std::thread::Threads;
 
-// What is left of a level after its workers have ended: its shards, and how many pairs the workers delivered.
-type Served<G> = Result<(Four<Shard<G>>, u64), AllocError>;
+/// What is left of a level after its workers have ended, and the coordinator has delivered the rest: its shards, and how many pairs the workers delivered.
+pub(crate) type Served<G> = Result<(Four<OrderedShard<G>>, u64), SolveError>;
+
+// The pairs as a list.
+fn list_of<G: Game>(alloc: Global, pairs: Pairs<G>) -> Result<Vec<(Note<G>, u64)>, AllocError>
+    ensures { IfOk result (λ list. list.items ≡ pairs.entry) }
+{
+    let mut list = Vec::new(alloc);
+    for pair in pairs {
+        list.push(pair)?;
+    }
+    Ok(list)
+}
+
+// Delivers the pairs of a piece that are missing in a shard.
+fn deliver_by_hand<G: Game, L: Cut>(
+    alloc: Global,
+    pieces: &Pieces<G>,
+    piece: usize,
+    taken: &mut Taken<G, L>,
+) -> Result<(), SolveError>
+    requires level { IsLevelAt pieces.now.level.now L.spot L.notes }
+    requires size { L.size ≡ pieces.now.notes }
+    requires piece { piece < div_ceil (length L.notes) L.size }
+    requires near { L.spot.level ≤ REMOTENESS }
+    ensures here { OnOk result (slice_index_or taken.new.whole piece false ≡ true) }
+    ensures others { OnOk result ((p : ℕ) → slice_index_or taken.old.whole p false ≡ true → slice_index_or taken.new.whole p false ≡ true) }
+    ensures error { IfErr result (IsError G.rules L.spot.tier) }
+{
+    let tier = pieces.level.tier();
+    let (lo, hi) = taken.range();
+    let list = list_of(alloc, pieces.level.pairs(piece, pieces.notes, lo, hi))?;
+    match taken.deliver(piece, list.as_slice()) {
+        Ok(()) => Ok(()),
+        Err(_refused) => Err(SolveError::TooFar { tier }),
+    }
+}
+
+// Delivers what is missing in a shard, piece by piece: then it has each pair of the level into its range.
+fn finish_tile<G: Game, L: Cut>(
+    alloc: Global,
+    pieces: &Pieces<G>,
+    taken: Taken<G, L>,
+) -> Result<OrderedShard<G>, SolveError>
+    requires level { IsLevelAt pieces.now.level.now L.spot L.notes }
+    requires size { L.size ≡ pieces.now.notes }
+    requires near { L.spot.level ≤ REMOTENESS }
+    ensures spot { IfOk result (λ shard. spot_of shard ≡ L.spot) }
+    ensures whole { IfOk result (IsWhole G.rules) }
+    ensures error { IfErr result (IsError G.rules L.spot.tier) }
+{
+    let mut taken = taken;
+    for piece in 0..pieces.level.pieces(pieces.notes) {
+        if taken.is_whole(piece) {
+            continue;
+        }
+        deliver_by_hand(alloc, pieces, piece, &mut taken)?;
+    }
+    Ok(taken.into_whole())
+}
 
 // Serves a level on a board of these names.
 fn serve_named<
     G: Game + Send + Sync,
-    A: Desk + Send,
-    B: Desk + Send,
-    C: Desk + Send,
-    D: Desk + Send,
+    A: Cut + Send,
+    B: Cut + Send,
+    C: Cut + Send,
+    D: Cut + Send,
     R: Threads + Wait + Sync,
     T: Gate,
     S: Source,
@@ -50,52 +105,53 @@ fn serve_named<
     pieces: &Pieces<G>,
     workers: usize,
     blanks: Four<Blank>,
-    shards: Four<Shard<G>>,
-    found: &mut Vec<Option<Tally<G>>>,
-    tallies: &mut Vec<Tally<G>>,
+    shards: Four<OrderedShard<G>>,
 ) -> Served<G>
     requires few { workers ≤ 16 }
     requires names { (blanks.a.name ≡ A.name) × (blanks.b.name ≡ B.name) × (blanks.c.name ≡ C.name) × (blanks.d.name ≡ D.name) }
     requires parts { (blanks.a.parts ≡ A.parts) × (blanks.b.parts ≡ B.parts) × (blanks.c.parts ≡ C.parts) × (blanks.d.parts ≡ D.parts) }
     requires equal { (A.parts ≡ workers + 1) × (B.parts ≡ workers + 1) × (C.parts ≡ workers + 1) × (D.parts ≡ workers + 1) }
-    requires spots { (spot_of shards.a ≡ A.spot) × (spot_of shards.b ≡ B.spot) × (spot_of shards.c ≡ C.spot) × (spot_of shards.d ≡ D.spot) }
+    requires sizes { (A.size ≡ pieces.now.notes) × (B.size ≡ pieces.now.notes) × (C.size ≡ pieces.now.notes) × (D.size ≡ pieces.now.notes) }
+    requires notes { (A.notes ≡ pieces.now.level.now.notes) × (B.notes ≡ pieces.now.level.now.notes) × (C.notes ≡ pieces.now.level.now.notes) × (D.notes ≡ pieces.now.level.now.notes) }
+    requires a { IsReadyFor G.rules shards.a pieces.now.level.now A.spot A.notes A.base }
+    requires b { IsReadyFor G.rules shards.b pieces.now.level.now B.spot B.notes B.base }
+    requires c { IsReadyFor G.rules shards.c pieces.now.level.now C.spot C.notes C.base }
+    requires d { IsReadyFor G.rules shards.d pieces.now.level.now D.spot D.notes D.base }
     requires here { AreShardsAt G.rules pieces.now.level.now.place pieces.now.width shards }
-    requires found { AreFound pieces.now.level.now pieces.now.notes pieces.now.width found.old.items }
-    requires none { tallies.old.items ≡ [] }
+    requires near { pieces.now.level.now.place.level ≤ REMOTENESS }
     ensures here { IfOk result (λ served. AreShardsAt G.rules pieces.now.level.now.place pieces.now.width served.0) }
-    ensures tallies { OnOk result (AreAllTallies pieces.now.level.now pieces.now.notes pieces.now.width tallies.new.items) }
+    ensures whole { IfOk result (λ served. AreWhole G.rules served.0) }
+    ensures error { IfErr result (IsError G.rules pieces.now.level.now.place.tier) }
 {
-    let (board, mut rest) = Board::<G, A, B, C, D>::around(workers as u64 + 1, blanks, shards);
-    match serve_level(means, &board, pieces, workers, &mut rest, found, tallies) {
-        Ok(by_workers) => Ok((board.into_shards(rest), by_workers)),
-        Err(error) => {
-            drop((board, rest));
-            Err(error)
-        }
-    }
+    let alloc = means.alloc;
+    let parts = workers as u64 + 1;
+    let Pieces { level, notes, .. } = *pieces;
+    let (board, mut rest) = PieceBoard::<G, A, B, C, D>::around(
+        alloc, parts, blanks, shards, level, notes,
+    )?;
+    let by_workers = serve_level(means, &board, pieces, workers, &mut rest)?;
+    let (a, b, c, d) = board.into_pieces(rest);
+    let a = finish_tile(alloc, pieces, a)?;
+    let b = finish_tile(alloc, pieces, b)?;
+    let c = finish_tile(alloc, pieces, c)?;
+    let d = finish_tile(alloc, pieces, d)?;
+    Ok((Four { a, b, c, d }, by_workers))
 }
 
-// Serves a level: workers walk its pieces, and the coordinator those that they left. Pairs that were refused are still missing. The tallies of all pieces are
-// put into an empty list.
-fn serve<G: Game + Send + Sync, R: Threads + Wait + Sync, T: Gate, S: Source>(
+/// Serves a level: workers walk its pieces, and the coordinator delivers what they left.
+pub(crate) fn serve_pieces<G: Game + Send + Sync, R: Threads + Wait + Sync, T: Gate, S: Source>(
     means: &Means<G, R, T, S>,
     pieces: &Pieces<G>,
-    shards: Four<Shard<G>>,
-    tallies: &mut Vec<Tally<G>>,
+    shards: Four<OrderedShard<G>>,
 ) -> Served<G>
     requires here { AreShardsAt G.rules pieces.now.level.now.place pieces.now.width shards }
-    requires none { tallies.old.items ≡ [] }
+    requires none { HaveNoneHere G.rules shards }
+    requires near { pieces.now.level.now.place.level ≤ REMOTENESS }
     ensures here { IfOk result (λ served. AreShardsAt G.rules pieces.now.level.now.place pieces.now.width served.0) }
-    ensures tallies { OnOk result (AreAllTallies pieces.now.level.now pieces.now.notes pieces.now.width tallies.new.items) }
+    ensures whole { IfOk result (λ served. AreWhole G.rules served.0) }
+    ensures error { IfErr result (IsError G.rules pieces.now.level.now.place.tier) }
 {
-    let mut found = match none_found(means.alloc, pieces) {
-        Ok(found) => found,
-        Err(error) => {
-            drop(shards);
-            return Err(error);
-        }
-    };
-    let count = found.len();
+    let count = pieces.level.pieces(pieces.notes);
     means.source.begin(means.rt, count);
     let workers = means.plan.workers().min(count);
     let parts = workers as u64 + 1;
@@ -105,93 +161,5 @@ fn serve<G: Game + Send + Sync, R: Threads + Wait + Sync, T: Gate, S: Source>(
         c: Blank::new(parts),
         d: Blank::new(parts),
     };
-    let served = serve_named::<G, Brand, Brand, Brand, Brand, R, T, S>(
-        means, pieces, workers, blanks, shards, &mut found, tallies,
-    );
-    drop(found);
-    served
-}
-
-// Counts a level's pairs into a shard by the tallies of all pieces, delivers those that are missing, and turns to the next level.
-fn close_tile<G: Game>(
-    shard: &mut Shard<G>,
-    count: &mut Expected<G>,
-    pieces: &Pieces<G>,
-    tallies: &[Tally<G>],
-) -> Result<(), SolveError>
-    requires count { spot_of shard.old ≡ spot_counted count.old }
-    requires place { pieces.now.level.now.place ≡ place_of shard.old }
-    requires tallies { AreTallies G.rules pieces.now.level.now count.old.lo count.old.hi tallies.now }
-    requires near { shard.old.level ≤ REMOTENESS }
-    ensures shard { OnOk result (spot_of shard.new ≡ next_spot (spot_of shard.old)) }
-    ensures count { OnOk result (spot_counted count.new ≡ next_spot (spot_counted count.old)) }
-    ensures none { OnOk result (HasNoneHere G.rules shard.new) }
-    ensures error { IfErr result (IsError G.rules shard.old.tier) }
-{
-    let Pieces { level, lists, .. } = *pieces;
-    count.add_counted(level, tallies);
-    let _good = shard.range();
-    if shard.close(count).is_ok() {
-        return Ok(());
-    }
-    deliver_listed(shard, lists, level)?;
-    let _still = shard.range();
-    shard.close(count).unwrap();
-    Ok(())
-}
-
-/// Serves a level and closes it: workers deliver its pairs, and the coordinator those that they left. The number is that of the workers' deliveries.
-pub(crate) fn run_pieces<G: Game + Send + Sync, R: Threads + Wait + Sync, T: Gate, S: Source>(
-    means: &Means<G, R, T, S>,
-    pieces: &Pieces<G>,
-    shards: Four<Shard<G>>,
-    counts: &mut Four<Expected<G>>,
-) -> Result<(Four<Shard<G>>, u64), SolveError>
-    requires here { AreShardsAt G.rules pieces.now.level.now.place pieces.now.width shards }
-    requires counts { AreCountsAt G.rules pieces.now.level.now.place pieces.now.width counts.old }
-    requires near { pieces.now.level.now.place.level ≤ REMOTENESS }
-    ensures shards { IfOk result (λ done. AreShardsAt G.rules (next_place pieces.now.level.now.place) pieces.now.width done.0) }
-    ensures none { IfOk result (λ done. HaveNoneHere G.rules done.0) }
-    ensures counts { OnOk result (AreCountsAt G.rules (next_place pieces.now.level.now.place) pieces.now.width counts.new) }
-    ensures error { IfErr result (IsError G.rules pieces.now.level.now.place.tier) }
-{
-    let mut tallies = Vec::new(means.alloc);
-    let (mut shards, by_workers) = match serve(means, pieces, shards, &mut tallies) {
-        Ok(served) => served,
-        Err(error) => {
-            drop(tallies);
-            return Err(SolveError::from(error));
-        }
-    };
-    let closed = close_tiles(&mut shards, counts, pieces, tallies.as_slice());
-    drop(tallies);
-    match closed {
-        Ok(()) => Ok((shards, by_workers)),
-        Err(error) => {
-            drop(shards);
-            Err(error)
-        }
-    }
-}
-
-/// Closes a level in all four shards: the coordinator delivers what is missing.
-pub(crate) fn close_tiles<G: Game>(
-    shards: &mut Four<Shard<G>>,
-    counts: &mut Four<Expected<G>>,
-    pieces: &Pieces<G>,
-    tallies: &[Tally<G>],
-) -> Result<(), SolveError>
-    requires shards { AreShardsAt G.rules pieces.now.level.now.place pieces.now.width shards.old }
-    requires counts { AreCountsAt G.rules pieces.now.level.now.place pieces.now.width counts.old }
-    requires tallies { AreAllTallies pieces.now.level.now pieces.now.notes pieces.now.width tallies.now }
-    requires near { pieces.now.level.now.place.level ≤ REMOTENESS }
-    ensures shards { OnOk result (AreShardsAt G.rules (next_place pieces.now.level.now.place) pieces.now.width shards.new) }
-    ensures counts { OnOk result (AreCountsAt G.rules (next_place pieces.now.level.now.place) pieces.now.width counts.new) }
-    ensures none { OnOk result (HaveNoneHere G.rules shards.new) }
-    ensures error { IfErr result (IsError G.rules pieces.now.level.now.place.tier) }
-{
-    close_tile(&mut shards.a, &mut counts.a, pieces, tallies)?;
-    close_tile(&mut shards.b, &mut counts.b, pieces, tallies)?;
-    close_tile(&mut shards.c, &mut counts.c, pieces, tallies)?;
-    close_tile(&mut shards.d, &mut counts.d, pieces, tallies)
+    serve_named::<G, Brand, Brand, Brand, Brand, R, T, S>(means, pieces, workers, blanks, shards)
 }

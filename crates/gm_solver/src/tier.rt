@@ -140,7 +140,7 @@ impl<'a, G: Game + Send + Sync, R: Threads + Wait + Sync, T: Gate, S: Source> Me
     {
         let workers = self.plan.workers();
         let width = tile_width::<G>(tier, self.plan.shards());
-        let tiles = begin_tiles(self.rt, self.alloc, tier, self.tables, width, workers)?;
+        let tiles = begin_tiles(self.rt, self.alloc, tier, width, workers)?;
         let (tiles, last, by_workers) = self.finish_phases(tiles)?;
         let solved = tiles.table(self.alloc, self.tables, &last);
         drop(tiles);

@@ -1,4 +1,4 @@
-//! The tiles of a tier before its first level: a shard of each, and the count of the pairs into it.
+//! The tiles of a tier, each with a shard.
 ghost use Rattle.std.specs.Prelude.{ℕ, ◌≡◌, ◌+◌, ◌-◌, ◌<◌, ◌≤◌, length, max, IfOk, IfErr, OnOk};
 ghost use Rattle.std.specs.Int.{div_ceil};
 ghost use Rattle.gm_game.specs.declared.position.Phase.TheVariants.{WinLose, Ties};
@@ -12,23 +12,22 @@ ghost use Rattle.gm_table.specs.Tables.{AreHeld, IsTable};
 ghost use Rattle.gm_table.specs.Solving.{IsTooFar, AreDeliveries};
 ghost use Rattle.gm_solver.specs.Solving.{IsError};
 ghost use Rattle.gm_desk.specs.Spots.{spot_of};
-ghost use Rattle.gm_solver.specs.Tiling.{IsWide, AreShardsAt, AreCountsAt, HaveNoneHere, AreGood, AreTwo, tile_at, spot_counted, next_place};
+ghost use Rattle.gm_solver.specs.Tiling.{IsWide, AreShardsAt, HaveNoneHere, AreGood, AreTwo, tile_at, next_place};
 ghost use Rattle.gm_desk.specs.Rounds.{HasNoneHere};
 
 use crate::error::SolveError;
 use crate::gate::Gate;
 use crate::means::Means;
 use crate::pieces::Pieces;
+use crate::scan::{FEW, find_starts};
 use crate::source::Source;
-use crate::tier_lists::{FEW, TierLists, scan_tier};
 use gm_deliveries::status::Start;
 use gm_desk::board::Four;
-use gm_frontier::expected::Expected;
 use gm_frontier::last::Last;
 use gm_frontier::level::Level;
 use gm_game::game::Game;
 use gm_game::limits::{REMOTENESS, TIER_SIZE};
-use gm_shard::shard::Shard;
+use gm_shard::ordered::OrderedShard;
 use gm_table::packed::Packed;
 use gm_table::table::Table;
 use gm_table::tables::Tables;
@@ -36,16 +35,12 @@ use std::alloc::{AllocError, Global};
 use std::sync::Wait;
 use std::thread::{Threads, join};
 
-/// Four shards that tile a tier at one place, each with the count of the pairs into it, and the canonical children of the tier.
+/// Four shards that tile a tier at one place.
 pub(crate) struct Tiles<G: Game> {
-    pub shards: Four<Shard<G>>,
-    pub counts: Four<Expected<G>>,
-    pub lists: TierLists<G>,
+    pub shards: Four<OrderedShard<G>>,
     pub width: u64,
-    ghost lists_are: { lists ≡ shards.a.tier },
     ghost wide: { IsWide G.rules shards.a.tier width },
     ghost shards_are: { AreShardsAt G.rules (place_of shards.a) width shards },
-    ghost counts_are: { AreCountsAt G.rules (place_of shards.a) width counts },
     ghost none_are: { HaveNoneHere G.rules shards },
 }
 
@@ -54,8 +49,6 @@ impl<G: Game> Drop for Tiles<G> {
     fn drop(self) {
         let Tiles {
             shards: _,
-            counts: _,
-            lists: _,
             width: _,
         } = self;
     }
@@ -72,49 +65,47 @@ pub(crate) fn tile_width<G: Game>(tier: u64, shards: usize) -> u64
     G::tier_size(tier).div_ceil(shards as u64).max(1)
 }
 
-// The shard of tile k and the count of the pairs into it.
+// The shard of tile k.
 fn begin_tile<G: Game>(
     alloc: Global,
     tier: u64,
     width: u64,
     k: u64,
     starts: &[Start],
-) -> Result<(Shard<G>, Expected<G>), AllocError>
+) -> Result<OrderedShard<G>, AllocError>
     requires starts { AreStarts G.rules tier 0 starts.now }
     requires whole { length starts.now ≡ G.rules.tier_size tier }
     requires small { G.rules.tier_size tier ≤ TIER_SIZE }
     requires wide { IsWide G.rules tier width }
     requires tile { k < 4 }
-    ensures shard { IfOk result (λ begun. spot_of begun.0 ≡ tile_at G.rules (place_at tier WinLose 0) width k) }
-    ensures count { IfOk result (λ begun. spot_counted begun.1 ≡ tile_at G.rules (place_at tier WinLose 0) width k) }
-    ensures none { IfOk result (λ begun. HasNoneHere G.rules begun.0) }
+    ensures shard { IfOk result (λ shard. spot_of shard ≡ tile_at G.rules (place_at tier WinLose 0) width k) }
+    ensures none { IfOk result (HasNoneHere G.rules) }
 {
     let size = G::tier_size(tier);
     let lo = (k * width).min(size);
     let hi = ((k + 1) * width).min(size);
-    let shard = Shard::begin(alloc, tier, lo, &starts[lo as usize..hi as usize])?;
-    Ok((shard, Expected::start(tier, lo, hi)))
+    let shard = OrderedShard::begin(alloc, tier, lo, &starts[lo as usize..hi as usize])?;
+    Ok(shard)
 }
 
-// Two shards of a tier before its first level, each with the count of the pairs into it.
-type Two<G> = Result<((Shard<G>, Expected<G>), (Shard<G>, Expected<G>)), AllocError>;
+// Two shards of a tier before its first level.
+type Two<G> = Result<(OrderedShard<G>, OrderedShard<G>), AllocError>;
 
-// The shards of tiles k and k + 1, each with the count of the pairs into it.
+// The shards of tiles k and k + 1.
 fn begin_two<G: Game>(alloc: Global, tier: u64, width: u64, k: u64, starts: &[Start]) -> Two<G>
     requires starts { AreStarts G.rules tier 0 starts.now }
     requires whole { length starts.now ≡ G.rules.tier_size tier }
     requires small { G.rules.tier_size tier ≤ TIER_SIZE }
     requires wide { IsWide G.rules tier width }
     requires tiles { k < 3 }
-    ensures { IfOk result (λ two. AreTwo G.rules tier width k two.0.0 two.0.1 two.1.0 two.1.1) }
+    ensures { IfOk result (λ two. AreTwo G.rules tier width k two.0 two.1) }
 {
     let low = begin_tile(alloc, tier, width, k, starts)?;
     let high = begin_tile(alloc, tier, width, k + 1, starts)?;
     Ok((low, high))
 }
 
-// The shards of all four tiles, each with the count of the pairs into it: for several workers, and a tier that isn't small, made by two threads with two tiles
-// each.
+// The shards of all four tiles: for several workers, and a tier that isn't small, made by two threads with two tiles each.
 fn begin_four<G: Game + Send + Sync, R: Threads + Sync>(
     rt: &R,
     alloc: Global,
@@ -127,8 +118,8 @@ fn begin_four<G: Game + Send + Sync, R: Threads + Sync>(
     requires whole { length starts.now ≡ G.rules.tier_size tier }
     requires small { G.rules.tier_size tier ≤ TIER_SIZE }
     requires wide { IsWide G.rules tier width }
-    ensures low { IfOk result.0 (λ two. AreTwo G.rules tier width 0 two.0.0 two.0.1 two.1.0 two.1.1) }
-    ensures high { IfOk result.1 (λ two. AreTwo G.rules tier width 2 two.0.0 two.0.1 two.1.0 two.1.1) }
+    ensures low { IfOk result.0 (λ two. AreTwo G.rules tier width 0 two.0 two.1) }
+    ensures high { IfOk result.1 (λ two. AreTwo G.rules tier width 2 two.0 two.1) }
 {
     if workers == 1 || starts.len() as u64 <= FEW {
         let low = begin_two(alloc, tier, width, 0, starts);
@@ -139,11 +130,11 @@ fn begin_four<G: Game + Send + Sync, R: Threads + Sync>(
         rt,
         || -> Two<G>
             requires { AreStarts G.rules tier 0 starts.now × (length starts.now ≡ G.rules.tier_size tier) × (G.rules.tier_size tier ≤ TIER_SIZE) × IsWide G.rules tier width }
-            ensures { IfOk result (λ two. AreTwo G.rules tier width 0 two.0.0 two.0.1 two.1.0 two.1.1) }
+            ensures { IfOk result (λ two. AreTwo G.rules tier width 0 two.0 two.1) }
         { begin_two(alloc, tier, width, 0, starts) },
         || -> Two<G>
             requires { AreStarts G.rules tier 0 starts.now × (length starts.now ≡ G.rules.tier_size tier) × (G.rules.tier_size tier ≤ TIER_SIZE) × IsWide G.rules tier width }
-            ensures { IfOk result (λ two. AreTwo G.rules tier width 2 two.0.0 two.0.1 two.1.0 two.1.1) }
+            ensures { IfOk result (λ two. AreTwo G.rules tier width 2 two.0 two.1) }
         { begin_two(alloc, tier, width, 2, starts) },
     )
 }
@@ -153,35 +144,25 @@ pub(crate) fn begin_tiles<G: Game + Send + Sync, R: Threads + Sync>(
     rt: &R,
     alloc: Global,
     tier: u64,
-    tables: &Tables<G>,
     width: u64,
     workers: usize,
 ) -> Result<Tiles<G>, AllocError>
-    requires held { AreHeld G.rules tables.now tier }
     requires small { G.rules.tier_size tier ≤ TIER_SIZE }
     requires wide { IsWide G.rules tier width }
     ensures place { IfOk result (λ tiles. place_of tiles.shards.a ≡ place_at tier WinLose 0) }
 {
-    let _held = tables.has(tier);
-    let (lists, starts) = scan_tier::<G, R>(rt, alloc, tier, workers)?;
+    let starts = find_starts::<G, R>(rt, alloc, tier, workers)?;
     let (low, high) = begin_four::<G, R>(rt, alloc, tier, width, starts.as_slice(), workers);
     drop(starts);
-    let (((a, in_a), (b, in_b)), ((c, in_c), (d, in_d))) = match (low, high) {
+    let ((a, b), (c, d)) = match (low, high) {
         (Ok(low), Ok(high)) => (low, high),
         (low, high) => {
-            drop((low, high, lists));
+            drop((low, high));
             return Err(AllocError);
         }
     };
     Ok(Tiles {
         shards: Four { a, b, c, d },
-        counts: Four {
-            a: in_a,
-            b: in_b,
-            c: in_c,
-            d: in_d,
-        },
-        lists,
         width,
     })
 }
@@ -217,10 +198,6 @@ impl<G: Game> Tiles<G> {
         self.shards.b.next_phase(last);
         self.shards.c.next_phase(last);
         self.shards.d.next_phase(last);
-        self.counts.a.next_phase(last);
-        self.counts.b.next_phase(last);
-        self.counts.c.next_phase(last);
-        self.counts.d.next_phase(last);
     }
 
     // The true records of the tier, where nothing is left to settle.
@@ -242,10 +219,11 @@ impl<G: Game> Tiles<G> {
     fn number(&self) -> u64
         ensures { IsNumberBefore G.rules self.now.shards.a.tier 0 (G.rules.tier_size self.now.shards.a.tier) self.now.shards.a.phase self.now.shards.a.level result }
     {
-        self.counts.a.number()
-            + self.counts.b.number()
-            + self.counts.c.number()
-            + self.counts.d.number()
+        self.show_good();
+        self.shards.a.delivered()
+            + self.shards.b.delivered()
+            + self.shards.c.delivered()
+            + self.shards.d.delivered()
     }
 
     /// The true table of the tier, where nothing is left to settle, and the number of all pairs whose child is no draw.
@@ -284,31 +262,13 @@ impl<G: Game + Send + Sync> Tiles<G> {
         ensures next { IfOk result (λ next. place_of next.0.shards.a ≡ next_place (place_of self.shards.a)) }
         ensures error { IfErr result (IsError G.rules self.shards.a.tier) }
     {
-        let Tiles {
-            shards,
-            mut counts,
-            lists,
-            width,
-        } = self;
+        let Tiles { shards, width } = self;
         let pieces = Pieces {
             level,
-            lists: &lists,
             notes: means.plan.piece(),
             width,
         };
-        let (shards, by_workers) = match means.serve(&pieces, shards, &mut counts) {
-            Ok(served) => served,
-            Err(error) => {
-                drop((counts, lists));
-                return Err(error);
-            }
-        };
-        let tiles = Tiles {
-            shards,
-            counts,
-            lists,
-            width,
-        };
-        Ok((tiles, by_workers))
+        let (shards, by_workers) = means.serve(&pieces, shards)?;
+        Ok((Tiles { shards, width }, by_workers))
     }
 }

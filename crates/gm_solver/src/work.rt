@@ -1,64 +1,88 @@
 //! What a worker does: it takes pieces of a level, and delivers their pairs.
-ghost use Rattle.std.specs.Prelude.{◌≡◌, ◌+◌, ◌<◌, ◌≤◌, ◌^◌, IfOk, OnOk, length, get_or, set, replicate};
+ghost use Rattle.std.specs.Prelude.{◌≡◌, ℕ, ◌+◌, ◌*◌, ◌<◌, ◌≤◌, ◌++◌, ◌∷◌, List, [], length, OnOk};
 ghost use Rattle.std.specs.Int.{div_ceil};
-ghost use Rattle.gm_frontier.specs.Pairs.{piece_of};
-ghost use Rattle.gm_frontier.specs.Tallies.{AreCounts, IsTallyOf};
-ghost use Rattle.gm_desk.specs.Batches.{ArePlaced};
-ghost use Rattle.gm_solver.specs.Batches.{left_below};
+ghost use Rattle.gm_frontier.specs.Notes.{NoteData};
+ghost use Rattle.gm_frontier.specs.Pairs.{pairs_of, piece_of};
+ghost use Rattle.gm_desk.specs.Spots.{choose};
+ghost use Rattle.gm_desk.specs.Pieces.{piece_pairs};
+ghost use Rattle.gm_solver.specs.Tiling.{tile_at};
+ghost use Rattle.gm_solver.specs.Split.{AreSplit};
 
-use crate::batch::{BATCH, Batch};
 use crate::gate::Gate;
 use crate::pieces::Pieces;
 use crate::source::Source;
-use gm_desk::board::{Board, Shares};
-use gm_desk::share::Desk;
+use gm_desk::board::Shares;
+use gm_desk::piece::Cut;
+use gm_desk::pieces::PieceBoard;
 use gm_frontier::note::Note;
-use gm_frontier::tally::Tally;
 use gm_game::game::Game;
 use std::alloc::{AllocError, Global};
 use std::sync::Wait;
 
-/// What a worker has: one part of each share, and the tallies of the pieces that it has walked.
-#[derive(Drop)]
-pub(crate) struct Slot<G: Game, A: Desk, B: Desk, C: Desk, D: Desk> {
-    pub shares: Shares<A, B, C, D>,
-    pub walked: Vec<Tally<G>>,
-    ghost one_part: { shares.parts ≡ 1 },
+/// The pairs of a piece, each in the list of the tile that has its parent.
+pub(crate) type Lists<G> = [Vec<(Note<G>, u64)>; 4];
+
+// Four empty lists.
+fn empty_lists<G: Game>(alloc: Global) -> Lists<G> {
+    [
+        Vec::new(alloc),
+        Vec::new(alloc),
+        Vec::new(alloc),
+        Vec::new(alloc),
+    ]
 }
 
-/// An empty batch for each shard.
-pub(crate) fn empty_batches<G: Game, A: Desk>(
-    alloc: Global,
-) -> Result<[Batch<G, A>; 4], AllocError> {
-    let a = Batch::new(alloc)?;
-    let b = Batch::new(alloc)?;
-    let c = Batch::new(alloc)?;
-    let d = Batch::new(alloc)?;
-    Ok([a, b, c, d])
-}
-
-// Counts one pair more in a tile.
-fn count_in(counts: &mut Vec<u64>, tile: u64)
-    requires tile { tile < length counts.old.items }
-    requires room { get_or counts.old.items tile 0 + 1 < 2 ^ 64 }
-    ensures { counts.new.items ≡ set counts.old.items tile (get_or counts.old.items tile 0 + 1) }
+// Empties the lists.
+fn clear<G: Game>(lists: &mut Lists<G>)
+    ensures { (width : ℕ) → AreSplit width [] lists.new }
 {
-    counts[tile as usize] += 1;
+    for list in lists.iter_mut() {
+        list.clear();
+    }
+}
+
+// Puts a pair into its list.
+fn put<G: Game>(
+    lists: &mut Lists<G>,
+    width: u64,
+    note: Note<G>,
+    parent: u64,
+) -> Result<(), AllocError>
+    requires some { 0 < width }
+    requires within { parent < 4 * width }
+    ensures { OnOk result ((pairs : List (NoteData × ℕ)) → AreSplit width pairs lists.old → AreSplit width (pairs ++ (note, parent) ∷ []) lists.new) }
+{
+    lists[(parent / width) as usize].push((note, parent))?;
+    Ok(())
+}
+
+// Puts the pairs of a piece into the lists, in place of what they had.
+fn split<G: Game>(pieces: &Pieces<G>, piece: usize, lists: &mut Lists<G>) -> Result<(), AllocError>
+    ensures { OnOk result (AreSplit pieces.now.width (pairs_of G.rules pieces.now.level.now.place.tier 0 (G.rules.tier_size pieces.now.level.now.place.tier) (piece_of piece pieces.now.notes pieces.now.level.now.notes)) lists.new) }
+{
+    clear(lists);
+    let level = pieces.level;
+    let size = G::tier_size(level.place().tier);
+    for (note, parent) in level.pairs(piece, pieces.notes, 0, size) {
+        put(lists, pieces.width, note, parent)?;
+    }
+    Ok(())
 }
 
 /// A worker at a level: the board to which it delivers, the pieces that it walks, the gate that it calls, and its number.
 #[derive(Drop)]
-pub(crate) struct Walker<'a, 'b, G: Game, A: Desk, B: Desk, C: Desk, D: Desk, R: Wait, T: Gate> {
+pub(crate) struct Walker<'a, 'b, G: Game, A: Cut, B: Cut, C: Cut, D: Cut, R: Wait, T: Gate> {
     pub rt: &'a R,
-    pub alloc: Global,
-    pub board: &'a Board<G, A, B, C, D>,
+    pub board: &'a PieceBoard<G, A, B, C, D>,
     pub pieces: &'a Pieces<'b, G>,
     pub gate: &'a T,
     pub worker: usize,
-    ghost here: { A.spot.tier ≡ pieces.now.level.now.place.tier },
+    ghost tiles_are: { (k : ℕ) → k < 4 → choose k A.spot B.spot C.spot D.spot ≡ tile_at G.rules pieces.now.level.now.place pieces.now.width k },
+    ghost notes_are: { A.notes ≡ pieces.now.level.now.notes },
+    ghost size_is: { A.size ≡ pieces.now.notes },
 }
 
-impl<'a, 'b, G: Game, A: Desk, B: Desk, C: Desk, D: Desk, R: Wait, T: Gate> Walker<
+impl<'a, 'b, G: Game, A: Cut, B: Cut, C: Cut, D: Cut, R: Wait, T: Gate> Walker<
     'a,
     'b,
     G,
@@ -69,174 +93,98 @@ impl<'a, 'b, G: Game, A: Desk, B: Desk, C: Desk, D: Desk, R: Wait, T: Gate> Walk
     R,
     T,
 > {
-    // Delivers pairs to a shard, each between its own two calls of the gate: its lock is taken for each of them.
+    // Delivers the pairs of a piece to a shard, each between its own two calls of the gate: the lock is taken for each of them. After one that is too far no more
+    // are.
     fn deliver_each(
         &self,
         shard: usize,
-        pairs: &[(Note<G>, u64, Option<u32>)],
+        piece: usize,
+        pairs: &[(Note<G>, u64)],
         shares: &mut Shares<A, B, C, D>,
     )
         requires shard { shard < 4 }
-        requires places { ArePlaced G.rules A.spot.tier pairs.now }
+        requires piece { piece < div_ceil (length A.notes) A.size }
+        requires pairs { pairs.now ≡ piece_pairs G.rules (choose shard A.spot B.spot C.spot D.spot) A.notes A.size piece }
         ensures { shares.new.parts ≡ shares.old.parts }
     {
         let place = self.pieces.level.place();
-        for (note, parent, stands) in pairs {
+        if pairs.is_empty() {
+            let _marked = self.board.deliver(self.rt, shard, piece, pairs, 0, shares);
+        }
+        for k in 0..pairs.len() {
             self.gate.before(self.rt, self.worker, place);
-            let _answer = self
+            let answer = self
                 .board
-                .deliver_at(self.rt, shard, note, *parent, *stands, shares);
+                .deliver(self.rt, shard, piece, pairs, k + 1, shares);
             self.gate.after(self.rt, self.worker, place);
-        }
-    }
-
-    // Delivers pairs to a shard while its lock is held once. The gate is called for each of them before and after, while no lock is held.
-    fn deliver_together(
-        &self,
-        shard: usize,
-        pairs: &[(Note<G>, u64, Option<u32>)],
-        shares: &mut Shares<A, B, C, D>,
-    )
-        requires shard { shard < 4 }
-        requires places { ArePlaced G.rules A.spot.tier pairs.now }
-        ensures { shares.new.parts ≡ shares.old.parts }
-    {
-        let place = self.pieces.level.place();
-        for _ in 0..pairs.len() {
-            self.gate.before(self.rt, self.worker, place);
-        }
-        let _fresh = self.board.deliver_all(self.rt, shard, pairs, shares);
-        for _ in 0..pairs.len() {
-            self.gate.after(self.rt, self.worker, place);
-        }
-    }
-
-    // Delivers a shard's batch where it has at least `least` pairs, and empties it.
-    fn deliver_from(
-        &self,
-        least: usize,
-        shard: usize,
-        batch: &mut Batch<G, A>,
-        shares: &mut Shares<A, B, C, D>,
-    )
-        requires { shard < 4 }
-        ensures parts { shares.new.parts ≡ shares.old.parts }
-        ensures batch { batch.new ≡ left_below least batch.old }
-    {
-        let pairs = batch.pairs();
-        if pairs.len() < least {
-            return;
-        }
-        // A pair that is refused as too far is missing at the end of the level, where the coordinator finds it.
-        if T::EACH {
-            self.deliver_each(shard, pairs, shares);
-        } else {
-            self.deliver_together(shard, pairs, shares);
-        }
-        batch.clear();
-    }
-
-    /// Delivers what is left in the batches of all shards.
-    pub(crate) fn deliver_rest(
-        &self,
-        batches: &mut [Batch<G, A>; 4],
-        shares: &mut Shares<A, B, C, D>,
-    )
-        ensures { shares.new.parts ≡ shares.old.parts }
-    {
-        for shard in 0..4 {
-            self.deliver_from(1, shard, &mut batches[shard], shares);
-        }
-    }
-
-    // Puts a pair into the batch of its shard, which is delivered before where it is full.
-    fn take_pair(
-        &self,
-        note: Note<G>,
-        parent: u64,
-        batches: &mut [Batch<G, A>; 4],
-        shares: &mut Shares<A, B, C, D>,
-    ) -> Result<(), AllocError>
-        requires within { parent < G.rules.tier_size A.spot.tier }
-        ensures { shares.new.parts ≡ shares.old.parts }
-    {
-        let stands = self.pieces.lists.place_of(note.position(), parent);
-        let shard = self.board.shard_of(parent);
-        let batch = &mut batches[shard];
-        self.deliver_from(BATCH, shard, batch, shares);
-        batch.push(note, parent, stands)
-    }
-
-    // Walks a piece's pairs once: counts each in its tile, and puts it into the batch of its shard. Full batches are delivered.
-    fn walk_pairs(
-        &self,
-        piece: usize,
-        counts: &mut Vec<u64>,
-        batches: &mut [Batch<G, A>; 4],
-        shares: &mut Shares<A, B, C, D>,
-    ) -> Result<(), AllocError>
-        requires { counts.old.items ≡ replicate (div_ceil (G.rules.tier_size self.now.pieces.now.level.now.place.tier) self.now.pieces.now.width) 0 }
-        ensures parts { shares.new.parts ≡ shares.old.parts }
-        ensures counts { OnOk result (AreCounts G.rules self.now.pieces.now.level.now.place.tier self.now.pieces.now.width (piece_of piece self.now.pieces.now.notes self.now.pieces.now.level.now.notes) counts.new.items) }
-    {
-        let pieces = self.pieces;
-        let size = G::tier_size(pieces.level.place().tier);
-        for (note, parent) in pieces.level.pairs(piece, pieces.notes, 0, size) {
-            count_in(counts, parent / pieces.width);
-            self.take_pair(note, parent, batches, shares)?;
-        }
-        Ok(())
-    }
-
-    /// The tally of a piece, whose pairs are delivered but for those that are left in the batches.
-    pub(crate) fn walk(
-        &self,
-        piece: usize,
-        batches: &mut [Batch<G, A>; 4],
-        shares: &mut Shares<A, B, C, D>,
-    ) -> Result<Tally<G>, AllocError>
-        ensures parts { shares.new.parts ≡ shares.old.parts }
-        ensures tally { IfOk result (IsTallyOf G.rules self.now.pieces.now.level.now piece self.now.pieces.now.notes self.now.pieces.now.width) }
-    {
-        let pieces = self.pieces;
-        let size = G::tier_size(pieces.level.place().tier);
-        let mut counts = vec![in self.alloc; 0u64; size.div_ceil(pieces.width) as usize]?;
-        self.walk_pairs(piece, &mut counts, batches, shares)?;
-        Ok(Tally::of(pieces.level, piece, pieces.notes, pieces.width, counts))
-    }
-
-    // Takes pieces of the level until there are no more for this worker, and keeps their tallies. It asks at most as many times as there are pieces, and skips
-    // numbers that name none. Where memory is refused a piece has no tally, and the coordinator walks it.
-    fn walk_pieces<S: Source>(
-        &self,
-        source: &S,
-        walked: &mut Vec<Tally<G>>,
-        batches: &mut [Batch<G, A>; 4],
-        shares: &mut Shares<A, B, C, D>,
-    )
-        ensures { shares.new.parts ≡ shares.old.parts }
-    {
-        let count = self.pieces.level.pieces(self.pieces.notes);
-        for _ in 0..count {
-            let Some(piece) = source.next(self.rt, self.worker) else {
+            if answer.is_err() {
                 return;
-            };
-            if piece < count
-                && let Ok(tally) = self.walk(piece, batches, shares)
-            {
-                let _kept = walked.push(tally);
             }
         }
     }
 
-    /// Does the work of a worker: it takes pieces, and delivers their pairs. What waits in its batches is kept from piece to piece. Where there is no memory for
-    /// batches it takes none.
-    pub(crate) fn work<S: Source>(&self, source: &S, slot: &mut Slot<G, A, B, C, D>) {
-        let Ok(mut batches) = empty_batches::<G, A>(self.alloc) else {
-            return;
-        };
-        let Slot { shares, walked } = slot;
-        self.walk_pieces(source, walked, &mut batches, shares);
-        self.deliver_rest(&mut batches, shares);
+    // Delivers the pairs of a piece to a shard while its lock is held once. The gate is called for each of them before and after, while no lock is held.
+    fn deliver_together(
+        &self,
+        shard: usize,
+        piece: usize,
+        pairs: &[(Note<G>, u64)],
+        shares: &mut Shares<A, B, C, D>,
+    )
+        requires shard { shard < 4 }
+        requires piece { piece < div_ceil (length A.notes) A.size }
+        requires pairs { pairs.now ≡ piece_pairs G.rules (choose shard A.spot B.spot C.spot D.spot) A.notes A.size piece }
+        ensures { shares.new.parts ≡ shares.old.parts }
+    {
+        let place = self.pieces.level.place();
+        for _ in 0..pairs.len() {
+            self.gate.before(self.rt, self.worker, place);
+        }
+        let _answer = self
+            .board
+            .deliver(self.rt, shard, piece, pairs, pairs.len(), shares);
+        for _ in 0..pairs.len() {
+            self.gate.after(self.rt, self.worker, place);
+        }
+    }
+
+    // Walks a piece's pairs once, while no lock is held, and delivers them shard by shard. A pair that is refused as too far is missing at the end of the level,
+    // where the coordinator finds it.
+    fn walk(
+        &self,
+        piece: usize,
+        lists: &mut Lists<G>,
+        shares: &mut Shares<A, B, C, D>,
+    ) -> Result<(), AllocError>
+        requires { piece < div_ceil (length A.notes) A.size }
+        ensures { shares.new.parts ≡ shares.old.parts }
+    {
+        split(self.pieces, piece, lists)?;
+        for shard in 0..4 {
+            let pairs = lists[shard].as_slice();
+            if T::EACH {
+                self.deliver_each(shard, piece, pairs, shares);
+            } else {
+                self.deliver_together(shard, piece, pairs, shares);
+            }
+        }
+        Ok(())
+    }
+
+    /// Does the work of a worker: it takes pieces of the level until there are no more for it, and delivers their pairs. It asks at most as many times as there
+    /// are pieces, and skips numbers that name none. Where memory is refused a piece is not delivered, and the coordinator walks it.
+    pub(crate) fn work<S: Source>(&self, alloc: Global, source: &S, shares: &mut Shares<A, B, C, D>)
+        ensures { shares.new.parts ≡ shares.old.parts }
+    {
+        let count = self.pieces.level.pieces(self.pieces.notes);
+        let mut lists = empty_lists::<G>(alloc);
+        for _ in 0..count {
+            let Some(piece) = source.next(self.rt, self.worker) else {
+                return;
+            };
+            if piece < count {
+                let _walked = self.walk(piece, &mut lists, shares);
+            }
+        }
     }
 }

@@ -1,5 +1,5 @@
 -- The indexes at a place with one record more, and a run with one index more.
-use Rattle.std.proofs.Common.{◌≡◌, ℕ, suc, ◌<◌, ◌+◌, ◌==◌, Bool, true, false, if◌then◌else◌, List, [], ◌∷◌, ◌++◌, map, set, take, length, get_or, refl, sym, ap, ◌∙◌, subst, arith, Option, None, Some, Vec, inl, inr, eq-eqb, ne_eqb}
+use Rattle.std.proofs.Common.{◌≡◌, ℕ, suc, ◌<◌, ◌+◌, ◌==◌, Bool, true, false, if◌then◌else◌, List, [], ◌∷◌, ◌++◌, map, set, take, length, get_or, refl, sym, ap, ◌∙◌, subst, arith, Option, None, Vec, inl, inr, eq-eqb, ne_eqb}
 use Rattle.std.proofs.lemmas.List.{take_more, map-set, get_or-map, get_or-set_same, get_or-set_other, length-map, length-take}
 use Rattle.std.proofs.lemmas.Bool.{cases_eq}
 use Rattle.std.specs.declared.alloc.Global.{Global}

@@ -5,6 +5,7 @@ pub mod Levels
 pub mod Numbers
 pub mod Packed
 pub mod Runs
+pub mod Outlines
 pub mod Solving
 pub mod Tables
 pub mod Words

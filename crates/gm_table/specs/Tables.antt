@@ -4,11 +4,12 @@ use Rattle.std.specs.List.{Contains}
 use Rattle.gm_game.specs.declared.position.Position.{Position}
 use Rattle.gm_game.specs.declared.position.Phase.{Phase}
 use Rattle.gm_game.specs.declared.position.Solved.{Solved}
-use Rattle.gm_game.specs.declared.position.Phase.TheVariants.{WinLose, Ties}
 use Rattle.gm_game.specs.declared.limits.TheConstants.{REMOTENESS, TIER_SIZE}
 use Rattle.gm_game.specs.Rules.{Rules}
 use Rattle.gm_game.specs.Records.{IsTrueTable}
-use Rattle.gm_table.specs.Levels.{greatest_of, indexes_at}
+use Rattle.gm_table.specs.declared.outline.Outline.{Outline}
+use Rattle.gm_table.specs.Levels.{indexes_at}
+use Rattle.gm_table.specs.Outlines.{IsOutlineOf}
 
 -- what a table shows
 pub record TableData : Type 0 where
@@ -24,11 +25,10 @@ pub record IsTable (r : Rules) (t : TableData) : Type 0 where
   pub is_true : IsTrueTable r REMOTENESS t.tier t.records
   pub is_small : length t.records ≤ TIER_SIZE
 
--- what a table keeps: that it is true, and the greatest level of each phase
-pub record IsKept (r : Rules) (t : TableData) (win_lose ties : Option ℕ) : Type 0 where
+-- what a table keeps: that it is true, and an outline of its records
+pub record IsKept (r : Rules) (t : TableData) (outline : Outline) : Type 0 where
   pub table : IsTable r t
-  pub greatest_win_lose : win_lose ≡ greatest_of WinLose t.records
-  pub greatest_tie : ties ≡ greatest_of Ties t.records
+  pub outlined : IsOutlineOf t.records outline
 
 -- the table of a tier, where it is held
 abbrev pub table_of : List TableData → ℕ → Option TableData

@@ -1,5 +1,5 @@
 //! Records checked by as many threads as there are processors.
-ghost use Rattle.std.specs.Prelude.{◌≡◌, ◌↔◌, ◌<◌, ◌≤◌, ℕ, length, IsTrue, None, MatchOption};
+ghost use Rattle.std.specs.Prelude.{◌≡◌, ◌↔◌, ◌*◌, ◌/◌, ◌<◌, ◌≤◌, ℕ, max, length, IsTrue, None, MatchOption};
 ghost use Rattle.gm_game.specs.Children.{AreResults};
 ghost use Rattle.gm_game.specs.Rules.{AreHoles, IsCanonical, at};
 ghost use Rattle.gm_game.specs.declared.limits.TheConstants.{TIER_SIZE};
@@ -17,8 +17,11 @@ use gm_game::position::{End, Position};
 use rayon::prelude::*;
 use std::thread::Threads;
 
+/// How few records are worth a thread of their own.
+const PIECE: usize = 4096;
+
 /// Up to this many records are checked by the caller's thread alone.
-const FEW: usize = 4096;
+const FEW: usize = 8192;
 
 /// The number of indexes of a block. Blocks are dealt out to the classes in turn: canonical positions have low indexes, so contiguous parts of the tier would
 /// mean unequal work.
@@ -26,9 +29,6 @@ const BLOCK: usize = 64;
 
 /// The number of classes: enough for as many threads as rayon starts.
 const CLASSES: usize = 1024;
-
-/// How few classes are worth a thread of their own.
-const PIECE: usize = 16;
 
 /// The indexes of one round of blocks, one for each class.
 const ROUND: usize = 65_536;
@@ -147,6 +147,13 @@ impl<'a, G: Game, C: Records> Given<'a, G, C> {
 }
 
 impl<'a, G: Game + Send + Sync, C: Records + Sync> Given<'a, G, C> {
+    // How many classes are worth a thread of their own.
+    fn piece(&self) -> usize
+        ensures { result ≡ CLASSES * PIECE / max (length (C.listed self.now.records.now)) 1 }
+    {
+        CLASSES * PIECE / self.records.count().max(1)
+    }
+
     // The least index whose record doesn't fit, or how many records there are.
     fn first_of_all<R: Threads + Sync>(&self, rt: &R) -> Option<u64>
         ensures { MatchOption result ((i : ℕ) → FitsAt G.rules self.now.tables.now self.now.tier (C.listed self.now.records.now) i)
@@ -155,7 +162,7 @@ impl<'a, G: Game + Send + Sync, C: Records + Sync> Given<'a, G, C> {
     {
         (0..CLASSES as u32)
             .into_par_iter()
-            .with_min_len(PIECE)
+            .with_min_len(self.piece())
             .map(
                 |class: u32| -> u64
                     ensures { IsFirstOfClass G.rules self.entry.now.tables.now self.entry.now.tier (C.listed self.entry.now.records.now) class result }

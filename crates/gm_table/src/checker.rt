@@ -2,9 +2,11 @@
 ghost use Rattle.std.specs.Prelude.{◌≡◌, ◌≢◌, ◌↔◌, ◌≤◌, ℕ, length, None, IfSome, IsOk, IfOk, IfErr, IsErrOf, IsOkUnless, MatchOption};
 ghost use Rattle.gm_game.specs.Records.{IsTrueTable};
 ghost use Rattle.gm_table.specs.Tables.{IsTable, AreHeld};
+ghost use Rattle.gm_table.specs.Outlines.{IsOutlineOf};
 ghost use Rattle.gm_table.specs.Checks.{FitTables, FitsAt, IsFirstWrong, AreWrong, number_of};
 
 use crate::blocks::{first_wrong, first_wrong_by};
+use crate::outline::Outline;
 use crate::packed::Packed;
 use crate::records::{Listed, Records};
 use crate::table::Table;
@@ -13,8 +15,11 @@ use gm_game::game::Game;
 use gm_game::limits::{REMOTENESS, TIER_SIZE};
 use gm_game::position::Solved;
 use std::alloc::Global;
-use std::thread::Threads;
+use std::thread::{Threads, join};
 use thiserror::Error;
+
+// The outline of so few records is made by the thread that checks them: to start another takes longer.
+const FEW: usize = 65_536;
 
 /// Why records aren't the table of a tier.
 #[derive(Clone, Copy, Debug, PartialEq, Eq, Error)]
@@ -102,7 +107,8 @@ pub fn check_by<G: Game + Send + Sync, R: Threads + Sync>(
     table_unless(alloc, tier, records, tables, fault)
 }
 
-/// As `check_by`, of records that are packed already, which become the table's. It takes no memory: `OutOfMemory` never comes.
+/// As `check_by`, of records that are packed already, which become the table's. `OutOfMemory` never comes. Where there are many, another thread lays out their
+/// indexes by place, which `Tables::insert` then needn't do; if memory runs out there, the table comes without them.
 pub fn check_packed_by<G: Game + Send + Sync, R: Threads + Sync>(
     rt: &R,
     tier: u64,
@@ -117,10 +123,40 @@ pub fn check_packed_by<G: Game + Send + Sync, R: Threads + Sync>(
     ensures are_true { IsOk result ↔ IsTrueTable G.rules REMOTENESS tier records }
     ensures wrong { IfErr result (AreWrong G.rules tables.now tier records) }
 {
-    match fault_by(rt, tier, &records, tables) {
+    let (outline, fault) = outline_beside(rt, tier, &records, tables);
+    match fault {
         Some(why) => Err(why),
-        None => Ok(Table::from_packed(tier, records)),
+        None => Ok(Table::outlined(tier, records, outline)),
     }
+}
+
+// The outline of records, and why they aren't those of a tier, if they aren't: of many by a thread each.
+fn outline_beside<G: Game + Send + Sync, R: Threads + Sync>(
+    rt: &R,
+    tier: u64,
+    records: &Packed,
+    tables: &Tables<G>,
+) -> (Outline, Option<CheckError>)
+    requires children { AreHeld G.rules tables.now tier }
+    requires is_small { G.rules.tier_size tier ≤ TIER_SIZE }
+    ensures outline { IsOutlineOf records.now result.0 }
+    ensures none { result.1 ≡ None ↔ IsTrueTable G.rules REMOTENESS tier records.now }
+    ensures wrong { IfSome result.1 (AreWrong G.rules tables.now tier records.now) }
+{
+    if records.len() <= FEW {
+        return (Outline::of(records), fault_by(rt, tier, records, tables));
+    }
+    join(
+        rt,
+        || -> Outline
+            ensures { IsOutlineOf records.entry.now result }
+        { Outline::with_runs(records) },
+        || -> Option<CheckError>
+            requires { AreHeld G.rules tables.now tier × (G.rules.tier_size tier ≤ TIER_SIZE) }
+            ensures none { result ≡ None ↔ IsTrueTable G.rules REMOTENESS tier records.entry.now }
+            ensures wrong { IfSome result (AreWrong G.rules tables.entry.now tier records.entry.now) }
+        { fault_by(rt, tier, records, tables) },
+    )
 }
 
 // The table of these records, or the reason for which they aren't those of the tier.

@@ -37,14 +37,17 @@ impl<G: Game> Model for Entry<G> {
 impl<G: Game> Entry<G> {
     ghost use Rattle.gm_table.specs.Tables.{IsTable};
 
-    /// Lays out a table. Where memory runs out, the table comes back.
-    pub(crate) fn of(alloc: Global, table: Table<G>) -> Result<Entry<G>, AllocFailed<Table<G>>>
+    /// Lays out a table, unless it is laid out already. Where memory runs out, the table comes back.
+    pub(crate) fn of(alloc: Global, mut table: Table<G>) -> Result<Entry<G>, AllocFailed<Table<G>>>
         ensures ok { IfOk result (λ e. e ≡ table) }
         ensures err { IfErr result (λ e. e.value ≡ table) }
     {
-        match Runs::of(alloc, table.records()) {
-            Ok(runs) => Ok(Entry { table, runs }),
-            Err(_) => Err(AllocFailed { value: table }),
+        match table.take_runs() {
+            Some(runs) => Ok(Entry { table, runs }),
+            None => match Runs::of(alloc, table.records()) {
+                Ok(runs) => Ok(Entry { table, runs }),
+                Err(_) => Err(AllocFailed { value: table }),
+            },
         }
     }
 

@@ -11,6 +11,7 @@ mod fits;
 pub mod hand;
 mod levels;
 mod numbers;
+mod outline;
 pub mod packed;
 mod records;
 mod runs;

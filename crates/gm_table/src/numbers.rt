@@ -46,12 +46,22 @@ impl Numbers {
         ensures ok { OnOk result (self.new ≡ self.old ++ number ∷ []) }
         ensures err { OnErr result (self.new ≡ self.old) }
     {
+        if let Stored::Short(numbers) = &mut self.stored {
+            if is_short(number) {
+                numbers.push(narrowed(number))?;
+                return Ok(());
+            }
+        }
+        self.push_long(number)
+    }
+
+    // Adds a number at the end, and keeps all of them long. It stands apart, so that code for the common case is short.
+    fn push_long(&mut self, number: u32) -> Result<(), AllocError>
+        ensures ok { OnOk result (self.new ≡ self.old ++ number ∷ []) }
+        ensures err { OnErr result (self.new ≡ self.old) }
+    {
         match &mut self.stored {
             Stored::Short(numbers) => {
-                if is_short(number) {
-                    numbers.push(narrowed(number))?;
-                    return Ok(());
-                }
                 let mut long = widened(numbers)?;
                 long.push(number)?;
                 self.stored = Stored::Long(long);
@@ -96,6 +106,14 @@ impl Numbers {
         match &mut self.stored {
             Stored::Short(numbers) => numbers.truncate(count),
             Stored::Long(numbers) => numbers.truncate(count),
+        }
+    }
+
+    /// The allocator of their memory.
+    pub(crate) fn allocator(&self) -> Global {
+        match &self.stored {
+            Stored::Short(numbers) => *numbers.allocator(),
+            Stored::Long(numbers) => *numbers.allocator(),
         }
     }
 

@@ -100,6 +100,11 @@ impl Packed {
         Ok(records)
     }
 
+    /// The allocator of their memory.
+    pub(crate) fn allocator(&self) -> Global {
+        self.numbers.allocator()
+    }
+
     /// How many records there are.
     pub fn len(&self) -> usize
         ensures { result ≡ length self.now }

@@ -1,13 +1,14 @@
 //! The true table of a tier.
-ghost use Rattle.std.specs.Prelude.{◌≡◌, ◌≤◌, length, IfOk};
+ghost use Rattle.std.specs.Prelude.{◌≡◌, ◌≤◌, length, IfOk, IfSome};
 ghost use Rattle.gm_game.specs.Rules.{at};
 ghost use Rattle.gm_game.specs.Values.{IsTrueValue};
 ghost use Rattle.gm_game.specs.Records.{IsTrueTable, IsRecord};
 ghost use Rattle.gm_table.specs.Levels.{IsGreatest};
 ghost use Rattle.gm_table.specs.Words.{record_of_word};
 
-use crate::levels::greatest_levels;
+use crate::outline::Outline;
 use crate::packed::Packed;
+use crate::runs::Runs;
 use gm_game::game::Game;
 use gm_game::limits::{REMOTENESS, TIER_SIZE};
 use gm_game::position::{Phase, Solved};
@@ -19,8 +20,7 @@ use std::marker::{Model, PhantomData};
 pub struct Table<G: Game> {
     tier: u64,
     records: Packed,
-    greatest_win_lose: Option<u32>,
-    greatest_tie: Option<u32>,
+    outline: Outline,
     game: PhantomData<G>,
 }
 
@@ -31,11 +31,13 @@ impl<G: Game> Model for Table<G> {
 
     ghost view = { λ t. record { tier = t.tier; records = t.records } };
 
-    ghost invariant = { λ t. IsKept G.rules (record { tier = t.tier; records = t.records }) t.greatest_win_lose t.greatest_tie };
+    ghost invariant = { λ t. IsKept G.rules (record { tier = t.tier; records = t.records }) t.outline };
 }
 
 impl<G: Game> Table<G> {
     ghost use Rattle.gm_table.specs.Tables.{record_at, IsTable};
+    ghost use Rattle.gm_table.specs.Outlines.{IsOutlineOf};
+    ghost use Rattle.gm_table.specs.Runs.{AreRunsOf};
 
     /// Makes a table of the true records of a tier within the limits. A table takes a byte an index, or four where a remoteness is above 31.
     pub fn from_true(
@@ -58,14 +60,32 @@ impl<G: Game> Table<G> {
         ensures tier { result.tier ≡ tier }
         ensures records { result.records ≡ records }
     {
-        let (greatest_win_lose, greatest_tie) = greatest_levels(&records);
+        let outline = Outline::of(&records);
+        Table::outlined(tier, records, outline)
+    }
+
+    /// Makes a table of true records, with their outline.
+    pub(crate) fn outlined(tier: u64, records: Packed, outline: Outline) -> Self
+        requires is_true { IsTrueTable G.rules REMOTENESS tier records }
+        requires is_small { G.rules.tier_size tier ≤ TIER_SIZE }
+        requires outline { IsOutlineOf records outline }
+        ensures tier { result.tier ≡ tier }
+        ensures records { result.records ≡ records }
+    {
         Table {
             tier,
             records,
-            greatest_win_lose,
-            greatest_tie,
+            outline,
             game: PhantomData,
         }
+    }
+
+    /// The indexes by place, where they were laid out and not taken before. The table is as before.
+    pub(crate) fn take_runs(&mut self) -> Option<Runs>
+        ensures runs { IfSome result (AreRunsOf self.old.records) }
+        ensures same { self.new ≡ self.old }
+    {
+        self.outline.runs.take()
     }
 
     /// The tier of the table.
@@ -116,8 +136,8 @@ impl<G: Game> Table<G> {
         ensures table { IsTable G.rules self.now }
     {
         match phase {
-            Phase::WinLose => self.greatest_win_lose,
-            Phase::Ties => self.greatest_tie,
+            Phase::WinLose => self.outline.greatest_win_lose,
+            Phase::Ties => self.outline.greatest_tie,
         }
     }
 }

@@ -35,7 +35,7 @@ impl<G: Game> Model for Tables<G> {
 impl<G: Game> Tables<G> {
     ghost use Rattle.gm_table.specs.Tables.{table_of, Inserts, IsHeld, AreHeld, AreTables, record_in, value_in, run_of};
 
-    /// An empty map. Inserted tables are laid out in memory of this allocator.
+    /// An empty map. Inserted tables that are not laid out yet are laid out in memory of this allocator.
     pub fn new(alloc: Global) -> Self
         ensures { result ≡ [] }
     {
@@ -45,8 +45,8 @@ impl<G: Game> Tables<G> {
         }
     }
 
-    /// Inserts a table, in place of any other one of its tier, and lays out its indexes by place. Where memory runs out, the table comes back and nothing
-    /// changes.
+    /// Inserts a table, in place of any other one of its tier, and lays out its indexes by place, unless `check_packed_by` has done so. Where memory runs out,
+    /// the table comes back and nothing changes.
     pub fn insert(&mut self, table: Table<G>) -> Result<(), AllocFailed<Table<G>>>
         ensures ok { OnOk result (Inserts self.old self.new table) }
         ensures err { OnErr result (self.new ≡ self.old) }

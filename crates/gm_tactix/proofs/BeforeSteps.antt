@@ -1,25 +1,16 @@
 -- The boards before a board: which numbers of segments give one.
-use Rattle.std.proofs.Common.{◌≡◌, ◌≢◌, ℕ, ◌+◌, ◌-◌, ◌*◌, ◌<◌, ◌≤◌, Bool, true, false, ◌||◌, eq-eqb, List, [], map, length, None, Some, refl, sym, ap, ap₂, ◌∙◌, subst, arith, inl, inr}
-use Rattle.std.proofs.lemmas.Bool.{cases_Bool, ne_eqb, true≢false}
-use Rattle.gm_game.specs.Ascending.{put, put_all}
-use Rattle.gm_game.specs.Boards.{least_index}
-use Rattle.gm_game.proofs.PuttingSteps.{put_more_none, put_more_some}
-use Rattle.gm_board.specs.laws.Lists.{and_both}
-use Rattle.gm_board.specs.Ranks.{members}
+use Rattle.std.specs.Prelude.{◌≡◌, ◌≢◌, ◌+◌, ◌-◌, ◌*◌, ◌<◌, ◌≤◌}
+use Rattle.gm_pieces.specs.Common.{ℕ, Bool, true, false, eq-eqb, List, [], map, length, None, Some, refl, sym, ap, ap₂, ◌∙◌}
+use Rattle.gm_pieces.specs.Common.{subst, arith, inl, inr, cases_Bool, ne_eqb, true≢false, put, put_all, least_index, put_more_none, put_more_some, and_both}
+use Rattle.gm_pieces.specs.Common.{all_from, members, or_right, board_game, plays_on, before_at, befores, before_some, before_none, before_room, all_befores}
 use Rattle.gm_pieces.specs.laws.Skipped.{puts_skip}
-use Rattle.gm_pieces.specs.MoveGames.{board_game, plays_on, before_at, befores}
-use Rattle.gm_pieces.specs.laws.MoveLaws.{before_some, before_none, before_room, all_befores}
 use Rattle.gm_tactix.specs.Segments.{segment_length, segment_cells}
 use Rattle.gm_tactix.specs.Board.{has_counter, is_among, with_counters, can_take, was_taken, over, tactix}
 use Rattle.gm_tactix.specs.Befores.{AreBeforesBelow}
 use Rattle.gm_tactix.specs.laws.SegmentFacts.{number_below, length_bounds, cells_within, among_from}
-use Rattle.gm_tactix.specs.laws.CounterFacts.{length_with, with_at, all_cells}
+use Rattle.gm_tactix.specs.laws.CounterFacts.{length_with, with_at}
 use Rattle.gm_tactix.specs.laws.MoveFacts.{move_from, play_members, taken_in, redone}
 use Rattle.gm_tactix.specs.laws.TactixLaws.{lawful}
-
-or_true : (x y : Bool) → y ≡ true → (x || y) ≡ true
-or_true true y e = refl
-or_true false y e = e
 
 -- with counters the game goes on, in the normal game and in misère
 with_some : (misere : Bool) (b : List Bool) → members b ≢ 0 → plays_on (over misere b) ≡ true
@@ -32,8 +23,8 @@ module _ (s t : ℕ) (d : List Bool) (low : 1 ≤ s) (high : s ≤ 5) (long : le
       let h = taken_in s t d m e in
       let cs = segment_cells s m in
       move_from s (with_counters d cs) m h.segment
-      (all_cells (has_counter (with_counters d cs)) cs
-      (λ k c. with_at d cs k (subst (λ (n : ℕ). k < n) (sym long) (cells_within s low high m k h.segment c)) ∙ or_true (has_counter d k) (is_among k cs) (among_from k cs c)))
+      (all_from (has_counter (with_counters d cs)) cs
+      (λ k c. with_at d cs k (subst (λ (n : ℕ). k < n) (sym long) (cells_within s low high m k h.segment c)) ∙ or_right (has_counter d k) (is_among k cs) (among_from k cs c)))
 
   -- a segment that can have been taken gives a board before
   before_taken : (misere : Bool) (m : ℕ) → was_taken s t d m ≡ true → before_at (tactix s misere) t d m ≡ Some (with_counters d (segment_cells s m))

@@ -7,7 +7,6 @@ pub mod ImageTable
 pub mod LeftSteps
 pub mod MaskTable
 pub mod BeforeSteps
-pub mod ChildSteps
 pub mod FirstSteps
 pub mod SegmentList
 pub mod LineTable

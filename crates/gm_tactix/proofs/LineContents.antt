@@ -1,24 +1,14 @@
 -- The cells of a line as a mask of five bits.
-use Rattle.std.proofs.Common.{◌≡◌, ℕ, zero, suc, ◌+◌, ◌-◌, ◌*◌, ◌/◌, ◌%◌, ◌^◌, ◌<◌, ◌≤◌, Bool, true, false, ◌&&◌, eqb, eqb-true, List, [], ◌∷◌, get_or, refl, sym, ap, ap₂, ◌∙◌, arith}
-use Rattle.std.specs.Prelude.{bit_and}
-use Rattle.std.specs.List.{list_all, range_with_len}
-use Rattle.std.proofs.Math.Nat.{div-div-eq-div-mul}
-use Rattle.std.proofs.lemmas.Bool.{cond_below, cond-false, le-ltb}
-use Rattle.std.proofs.lemmas.Nat.{pow-add, and_le_r}
-use Rattle.std.proofs.lemmas.Nat.Bits.{bit_at_ones}
-use Rattle.gm_board.specs.Masks.{has_cell, tests_of, mask_of, mask_below, mask_tests_small, tests_mask}
-use Rattle.gm_board.specs.laws.Lists.{contains_range}
-use Rattle.gm_board.specs.laws.MaskChanges.{has_and}
-use Rattle.gm_board.specs.Permutations.{all_at}
+use Rattle.std.specs.Prelude.{◌≡◌, ◌+◌, ◌-◌, ◌*◌, ◌/◌, ◌%◌, ◌^◌, ◌<◌, ◌≤◌, ◌&&◌, ◌∷◌}
+use Rattle.gm_pieces.specs.Common.{ℕ, zero, suc, Bool, true, false, eqb, eqb-true, List, [], get_or}
+use Rattle.gm_pieces.specs.Common.{refl, sym, ap, ap₂, ◌∙◌, arith, bit_and, list_all, range_with_len, div-div-eq-div-mul, cond_below, cond-false, le-ltb}
+use Rattle.gm_pieces.specs.Common.{pow-add, and_le_r, bit_at_ones, has_cell, tests_of, mask_of, mask_below, mask_tests_small, tests_mask, contains_range}
+use Rattle.gm_pieces.specs.Common.{and_true, has_and, all_at}
 use Rattle.gm_tactix.specs.Lines.{line_cell}
 
 -- a cell of a mask moved down
 moved_down : (m k i : ℕ) → has_cell (m / 2 ^ k) i ≡ has_cell m (k + i)
 moved_down m k i = ap (λ (n : ℕ). eqb (n % 2) 1) (div-div-eq-div-mul m (2 ^ k) (2 ^ i) ∙ ap (λ (n : ℕ). m / n) (sym (pow-add 2 k i)))
-
-and_true : (b : Bool) → (b && true) ≡ b
-and_true true = refl
-and_true false = refl
 
 and_swap : (a b : Bool) → (a && b) ≡ (b && a)
 and_swap true true = refl

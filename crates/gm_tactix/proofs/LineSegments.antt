@@ -1,13 +1,10 @@
 -- The segments of a line that can be taken.
-use Rattle.std.proofs.Common.{◌≡◌, ℕ, ◌+◌, ◌<◌, ◌≤◌, Bool, true, eqb, List, [], ◌∷◌, ◌++◌, length, take, set, get_or, append_assoc, refl, sym, ap, ◌∙◌, arith}
-use Rattle.std.specs.List.{Contains, filter, flat_map, range_with_len}
-use Rattle.std.proofs.lemmas.List.{append-nil, length-take-le, take-take, map_more, take_more_set}
-use Rattle.std.proofs.lemmas.List.Elements.{filter-append}
+use Rattle.std.specs.Prelude.{◌≡◌, ◌+◌, ◌<◌, ◌≤◌, ◌∷◌, ◌++◌}
+use Rattle.gm_pieces.specs.Common.{ℕ, Bool, true, eqb, List, [], length, take, set, get_or, append_assoc, refl, sym, ap, ◌∙◌}
+use Rattle.gm_pieces.specs.Common.{arith, Contains, filter, flat_map, range_with_len, append-nil, length-take-le, take-take, map_more, take_more_set}
+use Rattle.gm_pieces.specs.Common.{filter-append, contains_head, contains_later, filter_from, range_more, same_all, has_cell}
 use Rattle.std.proofs.lemmas.Grind.{flat_map-append}
 use Rattle.std.proofs.Math.Seq.{take-append-add}
-use Rattle.gm_board.specs.laws.Lists.{contains_head, contains_later, filter_from, range_more}
-use Rattle.gm_board.specs.laws.MaskChanges.{same_all}
-use Rattle.gm_board.specs.Masks.{has_cell}
 use Rattle.gm_tactix.specs.declared.segments.TheConstants.{SHIFTS}
 use Rattle.gm_tactix.specs.Segments.{segment_cells, is_segment, segments, numbers_end}
 use Rattle.gm_tactix.specs.Board.{has_counter, is_full, can_take}

@@ -1,9 +1,8 @@
 -- The blocks of segments against the lines of the square of side 5.
-use Rattle.std.proofs.Common.{◌≡◌, ℕ, ◌+◌, ◌/◌, ◌<◌, ◌≤◌, Bool, true, ◌&&◌, ◌||◌, eqb, eqb-true, ltb, ltb-true, le-ltb, List, [], map, length, take, get_or, refl, sym, ap, ◌∙◌, arith}
-use Rattle.std.specs.List.{Contains, filter, list_all, range_with_len}
-use Rattle.std.proofs.lemmas.List.FromFn.{get_or-map-range_with_len}
-use Rattle.gm_board.specs.laws.Lists.{and_left, and_right, contains_range}
-use Rattle.gm_board.specs.Permutations.{all_at}
+use Rattle.std.specs.Prelude.{◌≡◌, ◌+◌, ◌/◌, ◌<◌, ◌≤◌, ◌&&◌, ◌||◌}
+use Rattle.gm_pieces.specs.Common.{ℕ, Bool, true, eqb, eqb-true, ltb, ltb-true, le-ltb, List, [], map, length, take}
+use Rattle.gm_pieces.specs.Common.{get_or, refl, sym, ap, ◌∙◌, arith, Contains, filter, list_all, range_with_len, get_or-map-range_with_len, and_left}
+use Rattle.gm_pieces.specs.Common.{and_right, all_at, at_all, at_each, at_below}
 use Rattle.gm_tactix.specs.declared.segments.TheConstants.{BLOCKS, COUNTS, SHIFTS}
 use Rattle.gm_tactix.specs.Segments.{segment_cells, is_segment}
 use Rattle.gm_tactix.specs.Lines.{line_cell, line_place, lies_in, line_segments}
@@ -27,9 +26,6 @@ entries line content = take (held line content) (shifted line (block line conten
 same_at : {X : Type 0} (d : X) (n : ℕ) (f g : ℕ → X) → map f (range_with_len 0 n) ≡ map g (range_with_len 0 n) → (k : ℕ) → k < n → f k ≡ g k
 same_at d n f g e k l =
     sym (get_or-map-range_with_len f 0 n k k d l (omega arith)) ∙ ap (λ (xs : List _). get_or xs k d) e ∙ get_or-map-range_with_len g 0 n k k d l (omega arith)
-
-test_at : (n : ℕ) (p : ℕ → Bool) → list_all p (range_with_len 0 n) ≡ true → (k : ℕ) → k < n → p k ≡ true
-test_at n p e k l = all_at p (range_with_len 0 n) k e (contains_range n k l)
 
 lines_are : map line_segments (range_with_len 0 10) ≡ map (λ line. entries line 31) (range_with_len 0 10)
 unfolding line_segments is_segment
@@ -70,49 +66,45 @@ pub placed : (line m cell : ℕ) → line < 10 → Contains (line_segments line)
 placed line m cell l c d =
     let here : Contains (entries line 31) m = rw (line_is line l) at c in
     let cells =
-    all_at (λ (m : ℕ). list_all (is_placed line) (segment_cells 5 m)) (entries line 31) m (test_at 10 are_placed all_placed line l) here in
+    all_at (λ (m : ℕ). list_all (is_placed line) (segment_cells 5 m)) (entries line 31) m (at_below 10 are_placed all_placed line l) here in
     let test = all_at (is_placed line) (segment_cells 5 m) cell cells d in
     let rest = and_right _ _ test in (ltb-true _ _ (and_left _ _ test), eqb-true _ _ (and_left _ _ rest), ltb-true _ _ (and_right _ _ rest))
-
-abbrev are_most : ℕ → ℕ → Bool
-are_most line content = ltb (held line content) 16 && eqb (length (block line content)) 16
-
-all_most : list_all (λ line. list_all (are_most line) (range_with_len 0 32)) (range_with_len 0 10) ≡ true
-all_most = refl
-
-most_at : (line content : ℕ) → line < 10 → content < 32 → are_most line content ≡ true
-most_at line content l h = test_at 32 (are_most line) (test_at 10 (λ (line : ℕ). list_all (are_most line) (range_with_len 0 32)) all_most line l) content h
-
--- a line has at most 15 of them
-pub most : (line content : ℕ) → line < 10 → content < 32 → held line content < 16
-most line content l h = ltb-true _ _ (and_left _ _ (most_at line content l h))
-
--- a block has 16 numbers
-pub long : (line content : ℕ) → line < 10 → content < 32 → length (block line content) ≡ 16
-long line content l h = eqb-true _ _ (and_right _ _ (most_at line content l h))
-
-abbrev is_few : ℕ → ℕ → Bool
-is_few line content = ltb line 5 || ltb (held line content) 11
-
-all_few : list_all (λ line. list_all (is_few line) (range_with_len 0 32)) (range_with_len 0 10) ≡ true
-all_few = refl
-
--- a column has at most 10
-pub few : (line content : ℕ) → line < 10 → content < 32 → 5 ≤ line → held line content < 11
-few line content l h past =
-    let test = test_at 32 (is_few line) (test_at 10 (λ (line : ℕ). list_all (is_few line) (range_with_len 0 32)) all_few line l) content h in
-    ltb-true _ _ (sym (ap (λ (b : Bool). b || ltb (held line content) 11) (le-ltb line 5 past)) ∙ test)
 
 abbrev is_small : ℕ → ℕ → ℕ → Bool
 is_small line content place = ltb (get_or (block line content) place 0 + get_or SHIFTS line 0) 400
 
-all_small : list_all (λ line. list_all (λ content. list_all (is_small line content) (range_with_len 0 16)) (range_with_len 0 32)) (range_with_len 0 10) ≡ true
-all_small = refl
+abbrev fits : ℕ → ℕ → Bool
+fits line content =
+    ltb (held line content) 16
+    && (eqb (length (block line content)) 16
+    && ((ltb line 5 || ltb (held line content) 11) && list_all (is_small line content) (range_with_len 0 16)))
 
--- the numbers are small
-pub small : (line content place : ℕ) → line < 10 → content < 32 → place < 16 → get_or (block line content) place 0 + get_or SHIFTS line 0 < 400
-small line content place l h k =
-    let row =
-    test_at 10 (λ (line : ℕ). list_all (λ (content : ℕ). list_all (is_small line content) (range_with_len 0 16)) (range_with_len 0 32)) all_small line l in
-    let block = test_at 32 (λ (content : ℕ). list_all (is_small line content) (range_with_len 0 16)) row content h in
-    ltb-true _ _ (test_at 16 (is_small line content) block place k)
+all_fit : at_all 10 32 fits ≡ true
+all_fit = refl
+
+module _ (line content : ℕ) (l : line < 10) (h : content < 32) where
+  fits_here : fits line content ≡ true
+  fits_here = at_each 10 32 fits all_fit line content l h
+
+  rest_here : (ltb line 5 || ltb (held line content) 11) && list_all (is_small line content) (range_with_len 0 16) ≡ true
+  rest_here =
+      and_right (eqb (length (block line content)) 16) ((ltb line 5 || ltb (held line content) 11) && list_all (is_small line content) (range_with_len 0 16))
+      (and_right (ltb (held line content) 16) _ fits_here)
+
+  -- a line has at most 15 of them
+  pub most : held line content < 16
+  most = ltb-true _ _ (and_left _ _ fits_here)
+
+  -- a block has 16 numbers
+  pub long : length (block line content) ≡ 16
+  long = eqb-true _ _ (and_left _ _ (and_right _ _ fits_here))
+
+  -- a column has at most 10
+  pub few : 5 ≤ line → held line content < 11
+  few past = ltb-true _ _ (sym (ap (λ (b : Bool). b || ltb (held line content) 11) (le-ltb line 5 past)) ∙ and_left _ _ rest_here)
+
+  -- the numbers are small
+  pub small : (place : ℕ) → place < 16 → get_or (block line content) place 0 + get_or SHIFTS line 0 < 400
+  small place k =
+      let all = and_right (ltb line 5 || ltb (held line content) 11) (list_all (is_small line content) (range_with_len 0 16)) rest_here in
+      ltb-true _ _ (at_below 16 (is_small line content) all place k)

@@ -1,21 +1,14 @@
 -- Moves on masks, and the boards before a board.
-use Rattle.std.proofs.Common.{◌≡◌, ℕ, ◌+◌, ◌*◌, ◌^◌, ◌<◌, ◌≤◌, Bool, true, false, not, ◌&&◌, eqb, List, w32, refl, sym, ap, ap₂, ◌∙◌, subst, arith, eqb-true, eq-eqb}
-use Rattle.std.specs.Prelude.{bit_and, bit_or, count_ones}
-use Rattle.std.specs.Int.{bit_not}
-use Rattle.std.proofs.lemmas.Bool.{true≢false, false_from_ne_true}
-use Rattle.std.proofs.lemmas.Nat.{or_lt}
-use Rattle.std.proofs.Math.Pow.{pow-lt}
-use Rattle.gm_board.specs.Masks.{has_cell}
-use Rattle.gm_board.specs.Patterns.{same_tests}
-use Rattle.gm_board.specs.BoardMasks.{pattern_mask}
-use Rattle.gm_board.specs.Ranks.{members}
+use Rattle.std.specs.Prelude.{◌≡◌, ◌+◌, ◌*◌, ◌^◌, ◌<◌, ◌≤◌, ◌&&◌}
+use Rattle.gm_pieces.specs.Common.{ℕ, Bool, true, false, not, eqb, List, w32, refl, sym, ap, ap₂, ◌∙◌, subst, arith}
+use Rattle.gm_pieces.specs.Common.{eqb-true, eq-eqb, bit_and, bit_or, count_ones, bit_not, true≢false, false_from_ne_true, or_lt, pow-lt, has_cell, same_tests}
+use Rattle.gm_pieces.specs.Common.{pattern_mask, members, has_and, has_not}
 use Rattle.gm_tactix.specs.Segments.{segment_length, segment_cells, is_segment}
 use Rattle.gm_tactix.specs.Board.{is_full, is_free, with_counters, can_take, play, was_taken}
 use Rattle.gm_tactix.specs.laws.SegmentFacts.{square_small, cells_within}
 use Rattle.gm_tactix.specs.laws.MoveFacts.{taken_in}
 use Rattle.gm_tactix.specs.CounterMasks.{counters_of}
 use Rattle.gm_tactix.specs.laws.CounterMaskFacts.{counters_members, full_mask, free_mask, without_mask, with_mask}
-use Rattle.gm_board.specs.laws.MaskChanges.{has_and, has_not}
 use Rattle.gm_tactix.proofs.MaskSteps.{pattern_below}
 
 -- ---- tests

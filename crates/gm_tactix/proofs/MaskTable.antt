@@ -1,38 +1,54 @@
 -- The table of the segments' masks against the segments.
-use Rattle.std.proofs.Common.{◌≡◌, ◌≢◌, ℕ, ◌-◌, ◌*◌, ◌^◌, ◌<◌, ◌≤◌, Bool, true, false, not, ◌&&◌, cond, eqb, eqb-true, eq-eqb, ltb, ltb-true, [], get_or, refl, sym, ap, ◌∙◌, arith, inl, inr}
-use Rattle.std.specs.List.{list_all, range_with_len}
-use Rattle.std.proofs.lemmas.Bool.{cases_Bool, cond-true, cond-false, true≢false}
-use Rattle.gm_board.specs.laws.Lists.{and_left, and_right, contains_range}
-use Rattle.gm_board.specs.BoardMasks.{pattern_mask}
-use Rattle.gm_board.specs.Permutations.{all_at}
-use Rattle.gm_tactix.specs.declared.masks.TheConstants.{MASKS}
+use Rattle.std.specs.Prelude.{◌≡◌, ◌≢◌, ◌+◌, ◌-◌, ◌*◌, ◌^◌, ◌<◌, ◌≤◌, ◌&&◌}
+use Rattle.gm_pieces.specs.Common.{ℕ, Bool, true, false, not, cond, eqb, eqb-true, eq-eqb, ltb, ltb-true, get_or}
+use Rattle.gm_pieces.specs.Common.{refl, sym, ap, ◌∙◌, arith, inl, inr, list_all, range_with_len, cases_Bool, cond-true, cond-false, true≢false, and_left}
+use Rattle.gm_pieces.specs.Common.{and_right, pattern_mask, at_below}
+use Rattle.gm_tactix.specs.declared.masks.TheConstants.{MASKS, STARTS}
 use Rattle.gm_tactix.specs.Segments.{segment_cells, is_segment}
 use Rattle.gm_tactix.specs.SegmentMasks.{segment_mask}
 use Rattle.gm_tactix.specs.laws.SegmentFacts.{for_sides, square_small, number_below}
 
 -- what the table says of a number
+abbrev place : ℕ → ℕ → ℕ
+place s m = get_or STARTS (s - 1) 0 + m
+
 abbrev agrees : ℕ → ℕ → Bool
 agrees s m =
-    let v = get_or (get_or MASKS (s - 1) []) m 0 in
-    eqb v (segment_mask s m) && (ltb v (2 ^ (s * s)) && cond (is_segment s m) (not (eqb v 0)) true)
+    let v = get_or MASKS (place s m) 0 in
+    ltb (place s m) 880 && (eqb v (segment_mask s m) && (ltb v (2 ^ (s * s)) && cond (is_segment s m) (not (eqb v 0)) true))
 
 abbrev row_agrees : ℕ → Bool
-row_agrees s = list_all (agrees s) (range_with_len 0 400)
+row_agrees s = list_all (agrees s) (range_with_len 0 (16 * (s * s)))
 
 rows_agree : (s : ℕ) → 1 ≤ s → s ≤ 5 → row_agrees s ≡ true
 unfolding segment_mask is_segment segment_cells
 rows_agree = for_sides (λ s. row_agrees s ≡ true) refl refl refl refl refl
 
-at_number : (s m : ℕ) → 1 ≤ s → s ≤ 5 → m < 400 → agrees s m ≡ true
-at_number s m low high l = all_at (agrees s) (range_with_len 0 400) m (rows_agree s low high) (contains_range 400 m l)
+module _ (s m : ℕ) (low : 1 ≤ s) (high : s ≤ 5) (l : m < 16 * (s * s)) where
+  at_number : agrees s m ≡ true
+  at_number = at_below (16 * (s * s)) (agrees s) (rows_agree s low high) m l
 
--- the mask of each number
-pub mask_at : (s m : ℕ) → 1 ≤ s → s ≤ 5 → m < 400 → get_or (get_or MASKS (s - 1) []) m 0 ≡ segment_mask s m
-mask_at s m low high l = eqb-true _ _ (and_left _ _ (at_number s m low high l))
+  -- each number has a place
+  pub place_below : get_or STARTS (s - 1) 0 + m < 880
+  place_below = ltb-true _ _ (and_left _ _ at_number)
 
--- it fits the square
-pub mask_fits : (s m : ℕ) → 1 ≤ s → s ≤ 5 → m < 400 → get_or (get_or MASKS (s - 1) []) m 0 < 2 ^ (s * s)
-mask_fits s m low high l = ltb-true _ _ (and_left _ _ (and_right _ _ (at_number s m low high l)))
+  -- its mask
+  pub mask_at : get_or MASKS (get_or STARTS (s - 1) 0 + m) 0 ≡ segment_mask s m
+  mask_at = eqb-true _ _ (and_left _ _ (and_right _ _ at_number))
+
+  -- it fits the square
+  pub mask_fits : get_or MASKS (get_or STARTS (s - 1) 0 + m) 0 < 2 ^ (s * s)
+  mask_fits = ltb-true _ _ (and_left _ _ (and_right _ _ (and_right _ _ at_number)))
+
+  -- that of a segment is not 0
+  mask_shown : is_segment s m ≡ true → not (eqb (get_or MASKS (place s m) 0) 0) ≡ true
+  mask_shown e =
+      let v = get_or MASKS (place s m) 0 in
+      let shown = cond (is_segment s m) (not (eqb v 0)) true in
+      let rest = ltb v (2 ^ (s * s)) && shown in
+      sym (cond-true _ _ _ e)
+      ∙ and_right (ltb v (2 ^ (s * s))) shown
+      (and_right (eqb v (segment_mask s m)) rest (and_right (ltb (place s m) 880) (eqb v (segment_mask s m) && rest) at_number))
 
 -- the mask of a segment
 pub mask_of_segment : (s m : ℕ) → is_segment s m ≡ true → segment_mask s m ≡ pattern_mask (segment_cells s m)
@@ -49,9 +65,9 @@ pub segment_below : (s m : ℕ) → 1 ≤ s → s ≤ 5 → is_segment s m ≡ t
 segment_below s m low high e = let l = number_below s m e in let k = square_small s low high in omega (arith, l, k)
 
 -- a number from there on has no mask
-pub mask_past : (s m : ℕ) → 1 ≤ s → s ≤ 5 → 400 ≤ m → 0 ≡ segment_mask s m
+pub mask_past : (s m : ℕ) → 1 ≤ s → s ≤ 5 → 16 * (s * s) ≤ m → 0 ≡ segment_mask s m
 mask_past s m low high l = elim (cases_Bool (is_segment s m)) [
-  | inl e ↦ absurd (let k = segment_below s m low high e in omega (arith, k, l))
+  | inl e ↦ absurd (let k = number_below s m e in omega (arith, k, l))
   | inr f ↦ sym (mask_of_none s m f)
 ]
 
@@ -59,10 +75,9 @@ mask_past s m low high l = elim (cases_Bool (is_segment s m)) [
 pub none_by_mask : (s m v : ℕ) → 1 ≤ s → s ≤ 5 → v ≡ segment_mask s m → v ≡ 0 → is_segment s m ≡ false
 none_by_mask s m v low high h z = elim (cases_Bool (is_segment s m)) [
   | inl e ↦ (
-      let l = segment_below s m low high e in
-      let none : get_or (get_or MASKS (s - 1) []) m 0 ≡ 0 = mask_at s m low high l ∙ sym h ∙ z in
-      let shown : not (eqb (get_or (get_or MASKS (s - 1) []) m 0) 0) ≡ true = sym (cond-true _ _ _ e) ∙ and_right _ _ (and_right _ _ (at_number s m low high l)) in
-      absurd (true≢false (sym shown ∙ ap not (eq-eqb _ _ none))))
+      let l = number_below s m e in
+      let none : get_or MASKS (place s m) 0 ≡ 0 = mask_at s m low high l ∙ sym h ∙ z in
+      absurd (true≢false (sym (mask_shown s m low high l e) ∙ ap not (eq-eqb _ _ none))))
   | inr f ↦ f
 ]
 

@@ -1,10 +1,7 @@
 -- Steps on the texts of boards.
-use Rattle.std.proofs.Common.{◌≡◌, ℕ, ◌+◌, ◌<◌, Bool, false, ◌&&◌, eqb, lt-ltb, List, [], ◌∷◌, ◌++◌, map, length, get_or, refl, sym, ap, ap₂, ◌∙◌, arith, zero-add}
-use Rattle.std.specs.List.{range_with_len}
-use Rattle.std.proofs.lemmas.List.{get_or-map, map_push}
-use Rattle.std.proofs.lemmas.List.FromFn.{map-range_with_len_more}
-use Rattle.gm_board.specs.Masks.{has_cell}
-use Rattle.gm_board.specs.laws.Marks.{IsRead}
+use Rattle.std.specs.Prelude.{◌≡◌, ◌+◌, ◌<◌, ◌&&◌, ◌∷◌, ◌++◌}
+use Rattle.gm_pieces.specs.Common.{ℕ, Bool, false, eqb, lt-ltb, List, [], map, length, get_or, refl, sym, ap, ap₂, ◌∙◌, arith}
+use Rattle.gm_pieces.specs.Common.{zero-add, range_with_len, get_or-map, map_push, map-range_with_len_more, has_cell, IsRead}
 use Rattle.gm_tactix.specs.Texts.{counter_text, board_text}
 use Rattle.gm_tactix.specs.laws.TextLaws.{text_length, counter_back}
 use Rattle.gm_tactix.specs.laws.CounterFacts.{same_board}

@@ -31,6 +31,7 @@ pub fn play(side: u32, counters: u32, number: u32) -> u32
 }
 
 /// Whether taking the segment with this number can have left these counters of `tier` counters: false where there is no such segment.
+#[tactic(auto, using(crate::proofs::MaskMoves::not_taken, crate::proofs::MaskTable::none_by_mask))]
 pub fn was_taken(side: u32, tier: u64, counters: u32, number: u32) -> bool
     requires low { 1 ≤ side }
     requires high { side ≤ 5 }

@@ -32,6 +32,7 @@ fn put_before(list: &mut ArrayVec<u64, PARENTS>, side: u32, tier: u64, counters:
 
 /// Writes the least indexes of the boards with `tier` counters from which a move leads to this one, ascending and once each, over what the list holds: in the
 /// normal game and in misère.
+#[tactic(auto, using(crate::specs::laws::CounterMaskFacts::counters_length, crate::specs::laws::CounterMaskFacts::counters_members, crate::proofs::BeforeSteps::shorter_skip, crate::proofs::BeforeSteps::longer_skip))]
 pub fn fill_parents(side: u32, tier: u64, counters: u32, list: &mut ArrayVec<u64, PARENTS>)
     requires low { 1 ≤ side }
     requires high { side ≤ 5 }
@@ -49,16 +50,4 @@ pub fn fill_parents(side: u32, tier: u64, counters: u32, list: &mut ArrayVec<u64
         put_before(list, side, tier, counters, number);
         put_before(list, side, tier, counters, number + 1);
     }
-}
-
-/// The least indexes of the boards with `tier` counters from which a move leads to this one, ascending and once each, in the normal game and in misère.
-pub fn parents(side: u32, tier: u64, counters: u32) -> ArrayVec<u64, PARENTS>
-    requires low { 1 ≤ side }
-    requires high { side ≤ 5 }
-    requires within { counters < 2 ^ (side * side) }
-    ensures { (misere : Bool) → result.items ≡ put_all [] (map (least_index_of (board_game (tactix side misere))) (befores (tactix side misere) tier (counters_of (side * side) counters))) }
-{
-    let mut list = ArrayVec::new();
-    fill_parents(side, tier, counters, &mut list);
-    list
 }

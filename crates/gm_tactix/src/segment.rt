@@ -1,8 +1,7 @@
 //! Segments: adjacent cells of one row or of one column of a square.
-ghost use Rattle.std.specs.Prelude.{◌≡◌, ◌<◌, ◌≤◌, ◌^◌, ◌*◌, true, false, MatchOption};
-ghost use Rattle.gm_board.specs.BoardMasks.{pattern_mask};
+ghost use Rattle.std.specs.Prelude.{◌≡◌, ◌<◌, ◌≤◌, ◌*◌, true, false, MatchOption};
 ghost use Rattle.gm_tactix.specs.Texts.{last_cell};
-ghost use Rattle.gm_tactix.specs.Segments.{first_cell, segment_length, goes_down, stride, segment_cells, is_segment};
+ghost use Rattle.gm_tactix.specs.Segments.{first_cell, segment_length, goes_down, stride, is_segment};
 
 /// A segment of a square of side 1 to 5. Its number is `16*first + 2*length + direction`, first the least cell, direction 0 in a row and 1 in a column; a
 /// single cell has direction 0 (docs/GAMES.md, Tac Tix).
@@ -63,21 +62,6 @@ impl Segment {
         ensures within { result < self.side * self.side }
     {
         self.first() + self.stride() * (self.length() - 1)
-    }
-
-    /// The mask of its cells.
-    pub fn mask(self) -> u32
-        ensures value { result ≡ pattern_mask (segment_cells self.side self.number) }
-        ensures within { result < 2 ^ (self.side * self.side) }
-    {
-        let first = self.first();
-        let stride = self.stride();
-        let length = self.length();
-        let mut mask = 0;
-        for place in (0..length).rev() {
-            mask |= 1 << (first + stride * place);
-        }
-        mask
     }
 }
 

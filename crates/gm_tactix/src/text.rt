@@ -42,30 +42,14 @@ pub fn board_text(side: u32, counters: u32) -> Line
     line
 }
 
-// Whether the text has the byte of a counter at a cell.
-fn has_mark(text: &[u8], cell: u32) -> bool
-    ensures { result ≡ (slice_index text.now cell == 120) }
-{
-    match text.get(cell as usize) {
-        Some(byte) => *byte == COUNTER,
-        None => false,
-    }
-}
-
 /// The mask of the cells of the square at which the text has the byte of a counter. Any bytes may be given.
-#[tactic(auto, using(crate::specs::laws::SegmentFacts::square_few, gm_board::specs::laws::Marks::read_in, gm_board::specs::laws::Marks::read_out, gm_board::specs::laws::Marks::read_start, gm_board::specs::laws::MaskChanges::with_within, crate::proofs::TextSteps::read_all))]
+#[tactic(auto, using(crate::specs::laws::SegmentFacts::square_few, crate::proofs::TextSteps::read_all))]
 pub fn marks(side: u32, text: &[u8]) -> u32
     requires { side ≤ 5 }
     ensures within { result < 2 ^ (side * side) }
     ensures value { (b : List Bool) → length b ≡ side * side → board_text_of b ≡ text.now → b ≡ counters_of (side * side) result }
 {
-    let mut marks = 0;
-    for cell in 0..side * side {
-        if has_mark(text, cell) {
-            marks |= 1 << cell;
-        }
-    }
-    marks
+    gm_pieces::text::marks(side * side, text, COUNTER)
 }
 
 /// The text of a segment: its first cell, and for more than one cell `-` and its last (docs/GAMES.md, Tac Tix).

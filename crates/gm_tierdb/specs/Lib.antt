@@ -1,5 +1,6 @@
 pub mod TierText
 pub mod Refusals
+pub mod Parts
 pub mod Seals
 pub mod StoreTexts
 pub mod Streams

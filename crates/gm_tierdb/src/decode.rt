@@ -5,12 +5,13 @@ ghost use Rattle.gm_game.specs.declared.position.Solved.{Solved};
 ghost use Rattle.gm_record.specs.Numbers.{word, width};
 ghost use Rattle.gm_tierdb.specs.TierText.{IsTierText, IsTierText1, IsVersionText};
 ghost use Rattle.gm_tierdb.specs.Refusals.{IsFirstBad, AreRead, HasRecords, HasHeader, Refuses, Refuses1, RefusesIn, records_part};
+ghost use Rattle.gm_tierdb.specs.Parts.{AreParts};
 ghost use Rattle.gm_tierdb.specs.Seals.{IsSealed, IsUnsealed, IsWhole, RefusesWhole, RefusesUnsealed};
 
 use crate::file_error::FileError;
 use crate::layout::{DIGEST_LEN, HEADER_LEN, MAGIC_LEN, NAME_END, TIER_END};
 use crate::magic::{is_older, magic};
-use crate::records::{read_records, read_records_by};
+use crate::records::{HALVINGS, read_records, read_records_by};
 use gm_game::game::Game;
 use gm_game::position::Solved;
 use gm_record::version::Version;
@@ -20,7 +21,7 @@ use std::alloc::Global;
 use std::thread::Threads;
 
 /// The records of a tier, from its file: docs/FORMATS.md, "Tier file". Any bytes may be given. All is tested but the digest, which `is_sealed` tests, so that
-/// another thread may do so; the records of a large file are read by two threads. `OutOfMemory` is the last reason: it is told only of bytes that are those of a
+/// another thread may do so; the records of a large file are read by four threads. `OutOfMemory` is the last reason: it is told only of bytes that are those of a
 /// file. Takes memory as the records do.
 ///
 /// Only the checker of gm_table tells whether the records are the true ones. A file of version 1 is refused as `OldVersion`; `decode_v1` reads it.
@@ -37,8 +38,8 @@ pub fn decode_unsealed<G: Game, R: Threads + Sync>(
     ensures refused { IfErr result (RefusesUnsealed G.rules tier bytes.now) }
 {
     let parts = parts_of::<G>(Version::Two, tier, bytes)?;
-    let read = read_records_by(rt, alloc, Version::Two, parts.records, parts.size);
-    match whole::<G>(Version::Two, tier, bytes, parts, read)? {
+    let read = read_records_by(rt, alloc, Version::Two, parts.records, parts.size, HALVINGS);
+    match read_whole::<G>(Version::Two, tier, bytes, parts, read)? {
         Some(records) => Ok(records),
         None => Err(FileError::OutOfMemory),
     }
@@ -117,7 +118,7 @@ fn read_file<G: Game>(
 {
     let parts = parts_of::<G>(version, tier, bytes)?;
     let read = read_records(alloc, version, parts.records, parts.size);
-    let read = whole::<G>(version, tier, bytes, parts, read)?;
+    let read = read_whole::<G>(version, tier, bytes, parts, read)?;
     if !is_sealed(bytes) {
         return Err(FileError::BadDigest);
     }
@@ -128,18 +129,14 @@ fn read_file<G: Game>(
 }
 
 // The records that were read of these parts, where the bytes are those of a file but for the digest; `None` where memory was refused for them.
-fn whole<G: Game>(
+fn read_whole<G: Game>(
     version: Version,
     tier: u64,
     bytes: &[u8],
     parts: Parts,
     read: Result<Option<Packed>, u64>,
 ) -> Result<Option<Packed>, FileError>
-    requires header { HasHeader version G.rules tier bytes.now }
-    requires size { parts.size ≡ G.rules.tier_size tier }
-    requires records { parts.records.now ≡ records_part version parts.size bytes.now }
-    requires room { 32 ≤ length parts.digest.now }
-    requires digest { 40 + width version * parts.size + length parts.digest.now ≡ length bytes.now }
+    requires parts { AreParts version G.rules tier bytes.now parts }
     requires found { IfOk read (AreRead version parts.size parts.records.now) }
     requires bad { IfErr read (IsFirstBad version parts.size parts.records.now) }
     ensures whole { IfOk result (λ _. IsWhole version G.rules tier bytes.now) }
@@ -166,9 +163,7 @@ struct Parts<'a> {
 
 // The parts of a file that has a header and room for the records and the digest.
 fn parts_of<G: Game>(version: Version, tier: u64, bytes: &[u8]) -> Result<Parts, FileError>
-    ensures header { IfOk result (λ _. HasHeader version G.rules tier bytes.now) }
-    ensures records { IfOk result (λ parts. (parts.size ≡ G.rules.tier_size tier) × (parts.records.now ≡ records_part version parts.size bytes.now) × (length parts.records.now ≡ width version * parts.size)) }
-    ensures digest { IfOk result (λ parts. (32 ≤ length parts.digest.now) × (40 + width version * parts.size + length parts.digest.now ≡ length bytes.now)) }
+    ensures parts { IfOk result (AreParts version G.rules tier bytes.now) }
     ensures refused { IfErr result (RefusesWhole version G.rules tier bytes.now) }
 {
     let size = G::tier_size(tier);

@@ -8,7 +8,7 @@ use crate::layout::{MAGIC_LEN, NAME_END};
 use crate::owner::{is_anothers, may_be_anothers};
 use crate::store::Store;
 use crate::store_error::StoreError;
-use crate::streams::{read_text, write_text};
+use crate::streams::{READ_LEN, read_into, write_text};
 use gm_game::limits::NAME;
 use std::alloc::{AllocError, Global};
 use std::fs::{self, File, Files, OpenFile};
@@ -220,28 +220,32 @@ impl Store for FolderStore {
     }
 }
 
-// Whether an ordinary file is there; what else is there is a failure.
-fn is_there<R: Files>(rt: &R, path: &str) -> Result<bool, StoreError> {
+// How many bytes an ordinary file has, or none where nothing is there; what else is there is a failure.
+fn len_of<R: Files>(rt: &R, path: &str) -> Result<Option<u64>, StoreError> {
     match fs::metadata(rt, path) {
-        Ok(metadata) if metadata.is_file() => Ok(true),
-        Err(error) if error.kind() == ErrorKind::NotFound => Ok(false),
+        Ok(metadata) if metadata.is_file() => Ok(Some(metadata.len())),
+        Err(error) if error.kind() == ErrorKind::NotFound => Ok(None),
         _ => Err(StoreError::Failed),
     }
 }
 
 // The text of a file, or none where it is not there.
 fn read_file<R: Files>(rt: &R, alloc: Global, path: &str) -> Result<Option<Vec<u8>>, StoreError> {
-    if !is_there(rt, path)? {
+    let Some(len) = len_of(rt, path)? else {
         return Ok(None);
-    }
+    };
     let mut file = fs::open(rt, path).map_err(|_| StoreError::Failed)?;
-    let text = read_text(alloc, &mut file)?;
+    let room = (len as usize).min(READ_LEN);
+    let Ok(text) = Vec::with_capacity(alloc, room) else {
+        return Err(StoreError::OutOfMemory);
+    };
+    let text = read_into(text, &mut file)?;
     Ok(Some(text))
 }
 
 // The first bytes of a file, up to the name of its game; none where it has not so many, or is not there.
 fn read_head<R: Files>(rt: &R, path: &str) -> Result<Option<[u8; NAME_END]>, StoreError> {
-    if !is_there(rt, path)? {
+    if len_of(rt, path)?.is_none() {
         return Ok(None);
     }
     let mut file = fs::open(rt, path).map_err(|_| StoreError::Failed)?;

@@ -3,6 +3,7 @@ ghost use Rattle.std.specs.Prelude.{◌≡◌, ◌*◌, ◌^◌, ◌<◌, ◌++�
 ghost use Rattle.gm_game.specs.declared.position.Solved.{Solved as SolvedSpec};
 ghost use Rattle.std.specs.Int.{to_le_bytes};
 ghost use Rattle.gm_record.specs.Numbers.{word, width};
+ghost use Rattle.std.specs.Thread.{IsSync};
 ghost use Rattle.gm_tierdb.specs.Refusals.{IsFirstBad, AreRead, HasRecords};
 
 use gm_record::number::record_of;
@@ -14,19 +15,24 @@ use std::thread::{Threads, join};
 // So few records are read by one thread.
 const FEW: usize = 262_144;
 
-/// As `read_records`, by two threads where there are many.
+/// How often records are halved, to be read by four threads.
+pub(crate) const HALVINGS: usize = 2;
+
+/// As `read_records`, by as many threads as there are halves of halves, where there are many.
+#[cycle(halves)]
 pub(crate) fn read_records_by<R: Threads + Sync>(
     rt: &R,
     alloc: Global,
     version: Version,
     bytes: &[u8],
     size: usize,
+    halvings: usize,
 ) -> Result<Option<Packed>, u64>
     requires { length bytes.now ≡ width version * size }
     ensures found { IfOk result (AreRead version size bytes.now) }
     ensures bad { IfErr result (IsFirstBad version size bytes.now) }
 {
-    if size <= FEW {
+    if size <= FEW || halvings == 0 {
         return read_records(alloc, version, bytes, size);
     }
     let half = size / 2;
@@ -35,15 +41,15 @@ pub(crate) fn read_records_by<R: Threads + Sync>(
     let (front, back) = join(
         rt,
         || -> Result<Option<Packed>, u64>
-            requires { length first.now ≡ width version * half }
+            requires { IsSync R.row × (0 < halvings) × (length first.now ≡ width version * half) }
             ensures found { IfOk result (AreRead version half first.entry.now) }
             ensures bad { IfErr result (IsFirstBad version half first.entry.now) }
-        { read_records(alloc, version, first, half) },
+        { read_records_by(rt, alloc, version, first, half, halvings - 1) },
         || -> Result<Option<Packed>, u64>
-            requires { length rest.now ≡ width version * more }
+            requires { IsSync R.row × (0 < halvings) × (length rest.now ≡ width version * more) }
             ensures found { IfOk result (AreRead version more rest.entry.now) }
             ensures bad { IfErr result (IsFirstBad version more rest.entry.now) }
-        { read_records(alloc, version, rest, more) },
+        { read_records_by(rt, alloc, version, rest, more, halvings - 1) },
     );
     let front = front?;
     match back {

@@ -22,7 +22,18 @@ pub fn read_text<R: Read>(alloc: Global, reader: &mut R) -> Result<Vec<u8>, Stor
     ensures err { OnErr result (ConsumesPart (R.remaining reader.old) (R.remaining reader.new) READ_LEN) }
     ensures memory { IsErrOf result StoreError.OutOfMemory → ConsumesSome (R.remaining reader.old) (R.remaining reader.new) }
 {
-    let mut text = Vec::new(alloc);
+    read_into(Vec::new(alloc), reader)
+}
+
+/// As `read_text`, into an empty list. Where it has room for all, the text needn't be moved as it grows.
+pub(crate) fn read_into<R: Read>(mut text: Vec<u8>, reader: &mut R) -> Result<Vec<u8>, StoreError>
+    requires { text.items ≡ [] }
+    ensures text { IfOk result (λ v. Consumes (R.remaining reader.old) (R.remaining reader.new) v.items) }
+    ensures most { IfOk result (λ v. length v.items ≤ READ_LEN) }
+    ensures all { IfOk result (λ v. (length v.items ≡ READ_LEN) ⊎ IsAtEnd (R.remaining reader.new)) }
+    ensures err { OnErr result (ConsumesPart (R.remaining reader.old) (R.remaining reader.new) READ_LEN) }
+    ensures memory { IsErrOf result StoreError.OutOfMemory → ConsumesSome (R.remaining reader.old) (R.remaining reader.new) }
+{
     let mut chunk = [0u8; CHUNK_LEN];
     while text.len() < READ_LEN {
         let room = CHUNK_LEN.min(READ_LEN - text.len());

@@ -51,6 +51,7 @@ impl<const N: u32> Game for Chain<N> {
         moves_down(MOST, p.index)
     }
 
+    #[tactic(auto, using(crate::specs::laws::SubtractionLaws::range_in))]
     fn play(p: Position, m: u32) -> Position {
         Position {
             tier: p.tier,

@@ -51,6 +51,7 @@ impl<const N: u32> Game for Stairs<N> {
         moves_down(STEP, p.tier)
     }
 
+    #[tactic(auto, using(crate::specs::laws::SubtractionLaws::range_in))]
     fn play(p: Position, m: u32) -> Position {
         Position {
             tier: p.tier - u64::from(m),

@@ -10,6 +10,7 @@ use gm_game::shown::Line;
 use gm_game::text::{push_decimal, read_decimal};
 
 /// The moves at a number: 1 up to `most`, but at most the number itself.
+#[tactic(auto, using(crate::specs::laws::SubtractionLaws::range_push))]
 pub fn moves_down(most: u32, index: u64) -> ArrayVec<u32, MOVES>
     requires { most ≤ MOVES }
     ensures { result.items ≡ moves_down most index }
@@ -23,6 +24,7 @@ pub fn moves_down(most: u32, index: u64) -> ArrayVec<u32, MOVES>
 }
 
 /// The numbers up to `last` from which taking at most `most` leads to this one, ascending.
+#[tactic(auto, using(crate::specs::laws::SubtractionLaws::range_push))]
 pub fn numbers_above(most: u32, last: u64, index: u64) -> ArrayVec<u64, PARENTS>
     requires few { most ≤ PARENTS }
     requires within { index ≤ last }

@@ -67,6 +67,7 @@ fn is_target(index: u64, number: u32) -> bool
 }
 
 // The move from a number with this text.
+#[tactic(auto, using(crate::specs::laws::WheelLaws::target_in))]
 fn read_target(index: u64, text: &[u8]) -> Option<u32>
     requires { index < 10 }
     ensures { (m : ℕ) → (result ≡ Some m) ↔ (Contains (wheel_targets index) m × (decimal m ≡ text.now)) }

@@ -9,7 +9,7 @@ use gm_pieces::board::Board;
 use gm_pieces::step::Step;
 
 /// Whether a way leads from one point to another. Any numbers may be given.
-#[tactic(auto, using(crate::proofs::WaySteps::listed_test), unfolding(crate::specs::Ways::are_joined))]
+#[tactic(auto, using(gm_board::specs::laws::Filters::listed_test), unfolding(crate::specs::Ways::are_joined))]
 pub fn are_joined<const POINTS: u32, T: WayRules<POINTS>>(a: u32, c: u32) -> bool
     ensures { result ≡ are_joined_of T.game.ways a c }
 {

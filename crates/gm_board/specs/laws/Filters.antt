@@ -1,11 +1,14 @@
 -- Lists of numbers that pass a test, and what comes of them: how many, and one number at a time.
-use Rattle.std.proofs.Common.{◌≡◌, ℕ, zero, suc, ◌+◌, ◌-◌, ◌<◌, ◌≤◌, Bool, true, false, cond, List, [], ◌∷◌, ◌++◌, length, get_or, Option, None, Some, refl, sym, ap, ◌∙◌, subst, arith, inl, inr}
-use Rattle.std.specs.List.{Contains, filter, filter_map, cons_option, range_with_len}
+use Rattle.std.proofs.Common.{◌≡◌, ℕ, zero, suc, ◌+◌, ◌-◌, ◌<◌, ◌≤◌, Bool, true, false, eqb, eqb-true, eq-eqb, cond, List, [], ◌∷◌, ◌++◌, length, get_or, Option, None, Some, refl, sym, ap, ◌∙◌, subst, arith, inl, inr}
+use Rattle.std.specs.Prelude.{◌↔◌, IsTrue}
+use Rattle.std.specs.List.{Contains, list_any, filter, filter_map, cons_option, range_with_len}
 use Rattle.std.proofs.lemmas.Bool.{cases_Bool, cond_both, true≢false}
 use Rattle.std.proofs.lemmas.List.{append-nil, length-append}
 use Rattle.std.proofs.lemmas.List.Elements.{filter-append, filter_map-append}
 use Rattle.std.proofs.lemmas.List.FromFn.{length-range_with_len, get_or-range_with_len}
 use Rattle.gm_board.specs.laws.Lists.{contains_head, range_more}
+use Rattle.gm_board.specs.Groups.{any_at}
+use Rattle.gm_board.specs.Patterns.{same_tests, any_from}
 
 -- the numbers of a range
 pub range_in : (a n x : ℕ) → Contains (range_with_len a n) x → (a ≤ x) × (x < a + n)
@@ -13,6 +16,13 @@ range_in a n x c =
     let l : c.0 < n = omega (arith, c.1, length-range_with_len a n) in
     let e : get_or (range_with_len a n) c.0 x ≡ a + c.0 = get_or-range_with_len a n c.0 x l in
     (omega (arith, e, c.2), omega (arith, e, c.2))
+
+-- a number stands in a list where the test of some holds
+pub listed_test : (x : Bool) (xs : List ℕ) (c : ℕ) → (IsTrue x ↔ Contains xs c) → x ≡ list_any (λ k. eqb k c) xs
+listed_test x xs c h =
+    same_tests x (list_any (λ (k : ℕ). eqb k c) xs)
+    (λ e. any_from (λ (k : ℕ). eqb k c) xs c (h.0 e) (eq-eqb c c refl))
+    (λ e. let y = any_at (λ (k : ℕ). eqb k c) xs e in h.1 (subst (λ (k : ℕ). Contains xs k) (eqb-true y.0 c y.2) y.1))
 
 -- ---- lengths of lists
 option_length : {B : Type 0} (o : Option B) (bs : List B) (n : ℕ) (b : Bool) → length bs ≤ n → ((x : B) → o ≡ Some x → b ≡ true) → length (cons_option o bs) ≤ cond b (suc n) n

@@ -1,10 +1,10 @@
 -- Steps over lists: what stands in them, the least of a list, ranges and filters.
-use Rattle.std.proofs.Common.{◌≡◌, ℕ, zero, suc, ◌+◌, ◌<◌, ◌≤◌, min, Bool, true, false, ◌&&◌, cond, List, [], ◌∷◌, ◌++◌, map, Option, None, Some, zero-add, length, get_or, ◌⊎◌, inl, inr, refl, sym, ap, ◌∙◌, subst, arith, le_antisymm}
+use Rattle.std.proofs.Common.{◌≡◌, ℕ, zero, suc, ◌+◌, ◌<◌, ◌≤◌, min, Bool, true, false, ◌&&◌, cond, if◌then◌else◌, List, [], ◌∷◌, ◌++◌, map, Option, None, Some, zero-add, length, get_or, ◌⊎◌, inl, inr, refl, sym, ap, ◌∙◌, subst, arith}
 use Rattle.std.proofs.lemmas.List.{get_or-map, length-map}
 use Rattle.std.proofs.lemmas.List.Elements.{Contains-get_or}
 use Rattle.std.proofs.lemmas.List.{map-id}
 use Rattle.std.proofs.lemmas.List.FromFn.{map-range_with_len_more, length-range_with_len, get_or-range_with_len}
-use Rattle.std.specs.List.{Contains, fold, filter, filter_map, cons_option, range_with_len}
+use Rattle.std.specs.List.{Contains, list_all, fold, filter, filter_map, cons_option, range_with_len}
 
 -- the first test of a conjunction
 pub and_left : (a b : Bool) → (a && b) ≡ true → a ≡ true
@@ -17,6 +17,14 @@ and_right a b e = grind arith
 -- a conjunction of two tests that are passed
 pub and_both : (a b : Bool) → a ≡ true → b ≡ true → (a && b) ≡ true
 and_both a b e f = grind arith
+
+-- a test and one that is passed
+pub and_true : (a : Bool) → (a && true) ≡ a
+and_true a = grind arith
+
+-- a test and one that fails
+pub and_false : (a : Bool) → (a && false) ≡ false
+and_false a = grind arith
 
 -- the head of a list stands in the list
 pub contains_head : {X : Type 0} (x : X) (xs : List X) → Contains (x ∷ xs) x
@@ -42,6 +50,16 @@ contains_unmap f (x ∷ xs) y c =
     let l : c.0 < length (x ∷ xs) = omega (arith, length-map (x ∷ xs) f, c.1) in
     (get_or (x ∷ xs) c.0 x, Contains-get_or (x ∷ xs) c.0 x l, sym (get_or-map f (x ∷ xs) c.0 x y l) ∙ c.2)
 
+-- a test that each element passes holds of the list
+pub all_from : {X : Type 0} (p : X → Bool) (xs : List X) → ((x : X) → Contains xs x → p x ≡ true) → list_all p xs ≡ true
+all_from p [] h = refl
+all_from p (x ∷ xs) h = and_both _ _ (h x (contains_head x xs)) (all_from p xs (λ y c. h y (contains_later x xs y c)))
+
+-- what stands in a list of one element, if a test is passed, and else of none
+pub lone_in : {X : Type 0} (b : Bool) (y x : X) → Contains (if b then y ∷ [] else []) x → (b ≡ true) × (y ≡ x)
+lone_in true y x c = elim (contains_cases y [] x c) [ inl e ↦ (refl, e) | inr d ↦ absurd (omega (arith, d.1)) ]
+lone_in false y x c = absurd (omega (arith, c.1))
+
 -- the least is no greater than the first
 pub least_le_first : (a : ℕ) (xs : List ℕ) → fold min a xs ≤ a
 least_le_first a [] = omega arith
@@ -56,7 +74,8 @@ least_le a (y ∷ ys) x c =
       | inr d ↦ least_le (min a y) ys x d
     ]
 
-min_is : (a x : ℕ) → (min a x ≡ a) ⊎ (min a x ≡ x)
+-- the lesser of two numbers is one of them
+pub min_is : (a x : ℕ) → (min a x ≡ a) ⊎ (min a x ≡ x)
 min_is a x = grind arith
 
 -- the least is the first or stands in the list
@@ -78,13 +97,6 @@ least_in a xs c =
       | inl e ↦ subst (λ (x : ℕ). Contains xs x) (sym e) c
       | inr d ↦ d
     ]
-
--- lists of the same elements have the same least
-pub least_same : (a b : ℕ) (xs ys : List ℕ) → Contains xs a → Contains ys b
-    → ((x : ℕ) → Contains xs x → Contains ys x) → ((x : ℕ) → Contains ys x → Contains xs x)
-    → fold min a xs ≡ fold min b ys
-least_same a b xs ys ca cb f g =
-    le_antisymm (least_le a xs _ (g _ (least_in b ys cb))) (least_le b ys _ (f _ (least_in a xs ca)))
 
 -- ---- ranges
 pub contains_range : (n k : ℕ) → k < n → Contains (range_with_len 0 n) k

@@ -1,14 +1,9 @@
 -- The boards before a board of Dao: exactly those from which a move leads to it, and how many there are.
-use Rattle.std.proofs.Common.{◌≡◌, ℕ, ◌≤◌, true, List, length, sym, ap, ◌∙◌, arith}
-use Rattle.std.specs.List.{filter, range_with_len}
-use Rattle.gm_board.specs.declared.cell.Cell.{Cell}
-use Rattle.gm_board.specs.laws.Lists.{and_left, and_right, and_both}
-use Rattle.gm_pieces.specs.Steps.{from_point, to_point}
-use Rattle.gm_board.specs.Cells.{is_theirs, is_empty, cell_at}
-use Rattle.gm_pieces.specs.Sides.{WasStep}
+use Rattle.std.specs.Prelude.{◌≡◌, ◌≤◌}
+use Rattle.gm_pieces.specs.Common.{ℕ, true, List, length, sym, ap, ◌∙◌, arith, filter, range_with_len, Cell, and_left, and_right, and_both}
+use Rattle.gm_pieces.specs.Common.{from_point, to_point, is_theirs, is_empty, cell_at, WasStep, their_cell, empty_cell, cells_counted, all_cells, gone_again}
+use Rattle.gm_pieces.specs.Common.{back_again}
 use Rattle.gm_dao.specs.DaoRules.{in_line, numbers_end, play, was_moved, taken_back, legal}
-use Rattle.gm_board.specs.laws.CellCounts.{their_cell, empty_cell, cells_counted, all_cells}
-use Rattle.gm_pieces.specs.laws.MoveFacts.{gone_again, back_again}
 use Rattle.gm_dao.specs.laws.BoardFacts.{legal_in}
 use Rattle.gm_dao.specs.laws.MoveFacts.{IsSlide, slide_step, blocks_few, from_is}
 

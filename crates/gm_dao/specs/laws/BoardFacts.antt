@@ -1,19 +1,8 @@
 -- Boards of Dao: formations, images and legal boards.
-use Rattle.std.proofs.Common.{◌≡◌, ℕ, Bool, true, false, not, List, map, length, ap, ◌∙◌, eqb-true, eq-eqb}
-use Rattle.std.specs.List.{Contains}
-use Rattle.std.proofs.lemmas.Bool.{not-true}
-use Rattle.gm_board.specs.declared.cell.Cell.{Cell}
-use Rattle.gm_board.specs.declared.cell.Cell.TheVariants.{Empty}
-use Rattle.gm_board.specs.laws.Lists.{and_left, and_right, and_both}
-use Rattle.gm_board.specs.BoardMasks.{turned}
-use Rattle.gm_board.specs.Groups.{image_length}
-use Rattle.gm_board.specs.Patterns.{filled_image}
-use Rattle.gm_board.specs.Permutations.{permute}
-use Rattle.gm_board.specs.Squares.{square_symmetries}
-use Rattle.gm_board.specs.Cells.{is_mine, is_theirs, number_of}
-use Rattle.gm_pieces.specs.laws.CellFacts.{filled_turned, image_number}
-use Rattle.gm_pieces.specs.laws.MoveFacts.{IsLeft}
-use Rattle.gm_pieces.specs.laws.NumberFacts.{HasNumbers}
+use Rattle.std.specs.Prelude.{◌≡◌}
+use Rattle.gm_pieces.specs.Common.{ℕ, Bool, true, false, not, List, map, length, ap, ◌∙◌, eqb-true, eq-eqb, Contains, not-true, Cell, Empty, and_left}
+use Rattle.gm_pieces.specs.Common.{and_right, and_both, turned, image_length, filled_image, permute, square_symmetries, is_mine, is_theirs, number_of}
+use Rattle.gm_pieces.specs.Common.{filled_turned, image_number, IsLeft, HasNumbers}
 use Rattle.gm_dao.specs.DaoRules.{formations, has_formation, legal}
 use Rattle.gm_dao.specs.laws.SlideFacts.{group, formations_kept}
 

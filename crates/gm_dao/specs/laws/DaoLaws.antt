@@ -1,19 +1,11 @@
 -- Dao has the laws of a game.
-use Rattle.std.proofs.Common.{◌≡◌, ℕ, ◌<◌, Bool, true, false, if◌then◌else◌, ◌&&◌, not, eqb, length, refl, sym, ap, ap₂, ◌∙◌, subst, arith, inl, eq-eqb}
-use Rattle.gm_game.specs.Texts.{IsPaddedText}
-use Rattle.gm_game.specs.Rules.{at}
-use Rattle.gm_game.specs.Boards.{position_of, IsNumbered}
-use Rattle.gm_board.specs.declared.cell.Cell.TheVariants.{Empty}
-use Rattle.gm_board.specs.Binomials.{binomial}
-use Rattle.gm_board.specs.Arrangements.{arrangements, arrangement_index}
-use Rattle.gm_board.specs.Squares.{square_symmetries}
-use Rattle.gm_pieces.specs.MoveGames.{board_game, IsMoveGame, IsMoveSymmetric}
-use Rattle.gm_pieces.specs.laws.Images.{permuted_group}
-use Rattle.gm_board.specs.Cells.{is_mine, is_theirs, number_of}
-use Rattle.gm_pieces.specs.Sides.{board_index}
+use Rattle.std.specs.Prelude.{◌≡◌, ◌<◌, if◌then◌else◌, ◌&&◌}
+use Rattle.gm_pieces.specs.Common.{ℕ, Bool, true, false, not, eqb, length, refl, sym, ap, ap₂, ◌∙◌, subst, arith, inl, eq-eqb}
+use Rattle.gm_pieces.specs.Common.{IsPaddedText, at, position_of, IsNumbered, Empty, binomial, arrangements, arrangement_index, square_symmetries, board_game}
+use Rattle.gm_pieces.specs.Common.{IsMoveGame, IsMoveSymmetric, permuted_group, is_mine, is_theirs, number_of, board_index, board_numbers, index_below}
+use Rattle.gm_pieces.specs.Common.{board_back, index_back}
 use Rattle.gm_dao.specs.DaoRules.{formations, has_formation, legal, board_at, dao_name, start_board, play, dao}
 use Rattle.gm_dao.specs.laws.SlideFacts.{group}
-use Rattle.gm_pieces.specs.laws.NumberFacts.{board_numbers, index_below, board_back, index_back}
 use Rattle.gm_dao.specs.laws.BoardFacts.{legal_in, legal_from, legal_numbers, image_legal}
 use Rattle.gm_dao.specs.laws.MoveFacts.{move_slide, steps_few}
 use Rattle.gm_dao.specs.laws.PlayFacts.{play_legal, image_over, image_move}

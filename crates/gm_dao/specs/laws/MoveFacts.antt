@@ -1,23 +1,11 @@
 -- Moves of Dao: which there are, how many, and the ends of games.
-use Rattle.std.proofs.Common.{◌≡◌, ℕ, zero, suc, ◌+◌, ◌*◌, ◌/◌, ◌<◌, ◌≤◌, Bool, true, false, cond, List, [], ◌∷◌, length, None, Some, inl, inr, refl, sym, ap, ◌∙◌, subst, arith}
-use Rattle.std.specs.List.{filter, range_with_len}
-use Rattle.std.proofs.lemmas.Bool.{cases_Bool, cond-true}
-use Rattle.std.proofs.lemmas.List.{length-append}
-use Rattle.gm_game.specs.declared.position.End.TheVariants.{Lose}
-use Rattle.gm_board.specs.declared.cell.Cell.{Cell}
-use Rattle.gm_board.specs.declared.cell.Cell.TheVariants.{Empty, Mine}
-use Rattle.gm_board.specs.laws.Lists.{and_left, and_right, and_both}
-use Rattle.gm_board.specs.Patterns.{fills}
-use Rattle.gm_board.specs.Permutations.{all_at}
-use Rattle.gm_pieces.specs.Steps.{from_point, to_point}
-use Rattle.gm_pieces.specs.laws.StepFacts.{number_below}
-use Rattle.gm_board.specs.laws.Filters.{filter_in, filter_out}
-use Rattle.gm_pieces.specs.MoveGames.{steps}
-use Rattle.gm_board.specs.Cells.{is_mine, is_theirs, is_empty, is_taken, cell_at, number_of}
+use Rattle.std.specs.Prelude.{◌≡◌, ◌+◌, ◌*◌, ◌/◌, ◌<◌, ◌≤◌, ◌∷◌}
+use Rattle.gm_pieces.specs.Common.{ℕ, zero, suc, Bool, true, false, cond, List, [], length, None, Some, inl, inr, refl, sym}
+use Rattle.gm_pieces.specs.Common.{ap, ◌∙◌, subst, arith, filter, range_with_len, cases_Bool, cond-true, length-append, Lose, Cell, Empty, Mine, and_left}
+use Rattle.gm_pieces.specs.Common.{and_right, and_both, fills, all_at, from_point, to_point, number_below, filter_in, filter_out, steps, is_mine, is_theirs}
+use Rattle.gm_pieces.specs.Common.{is_empty, is_taken, cell_at, number_of, IsStep, mine_cell, empty_cell, cells_counted}
 use Rattle.gm_dao.specs.DaoRules.{has_formation, in_line, path, beyond, can_go, can_move, numbers_end, over, dao}
-use Rattle.gm_pieces.specs.Sides.{IsStep}
 use Rattle.gm_dao.specs.laws.SlideFacts.{line_within, way}
-use Rattle.gm_board.specs.laws.CellCounts.{mine_cell, empty_cell, cells_counted}
 
 -- ---- what a move is
 -- a piece of the mover's that slides from a to c

@@ -1,27 +1,12 @@
 -- What a move of Dao leaves, and the moves and ends of images.
-use Rattle.std.proofs.Common.{◌≡◌, ℕ, ◌<◌, Bool, true, cond, List, [], ◌∷◌, map, length, get_or, set, None, Some, refl, sym, ap, ap₂, ◌∙◌, subst, arith, ltb, ltb-true}
-use Rattle.std.specs.List.{Contains, list_all}
-use Rattle.std.proofs.lemmas.List.{length-map}
-use Rattle.gm_game.specs.declared.position.End.TheVariants.{Lose, Win}
-use Rattle.gm_board.specs.declared.cell.Cell.{Cell}
-use Rattle.gm_board.specs.declared.cell.Cell.TheVariants.{Empty, Mine}
-use Rattle.gm_board.specs.laws.Lists.{contains_head, contains_later, and_left, and_right, and_both}
-use Rattle.gm_board.specs.BoardMasks.{turned}
-use Rattle.gm_board.specs.Groups.{image_back, image_slide, any_at}
-use Rattle.gm_board.specs.Patterns.{fills, same_tests, any_from}
-use Rattle.gm_board.specs.Permutations.{permute, all_at}
-use Rattle.gm_board.specs.Squares.{square_symmetries}
-use Rattle.gm_pieces.specs.Steps.{step_number, from_point, to_point}
-use Rattle.gm_pieces.specs.laws.StepFacts.{from_back, to_back}
-use Rattle.gm_pieces.specs.MoveGames.{IsMove}
-use Rattle.gm_board.specs.Cells.{is_mine, is_theirs, is_empty, is_taken, cell_at}
-use Rattle.gm_pieces.specs.Sides.{gone}
+use Rattle.std.specs.Prelude.{◌≡◌, ◌<◌}
+use Rattle.gm_pieces.specs.Common.{ℕ, Bool, true, cond, List, map, length, get_or, set, None, Some, refl, sym, ap, ap₂, ◌∙◌, subst, arith, ltb}
+use Rattle.gm_pieces.specs.Common.{ltb-true, Contains, length-map, Lose, Win, Cell, Empty, Mine, all_from, and_left, and_right, and_both, turned, image_back}
+use Rattle.gm_pieces.specs.Common.{image_slide, any_at, fills, same_tests, any_from, permute, all_at, square_symmetries, step_number, from_point, to_point}
+use Rattle.gm_pieces.specs.Common.{from_back, to_back, IsMove, is_mine, is_theirs, is_empty, is_taken, cell_at, gone, step_left, permute_turned, mine_turned}
+use Rattle.gm_pieces.specs.Common.{theirs_turned, image_cell, image_fills}
 use Rattle.gm_dao.specs.DaoRules.{corners, around, is_trapped, has_trapped, path, beyond, can_move, over, play, legal, dao}
-use Rattle.gm_pieces.specs.laws.MoveFacts.{step_left}
 use Rattle.gm_dao.specs.laws.SlideFacts.{group, corner_kept, line_within, way, line_kept}
-use Rattle.gm_board.specs.laws.Turned.{permute_turned}
-use Rattle.gm_board.specs.laws.CellCounts.{mine_turned, theirs_turned}
-use Rattle.gm_pieces.specs.laws.CellFacts.{image_cell, image_fills}
 use Rattle.gm_dao.specs.laws.BoardFacts.{formation_turned, formation_left, image_formation, legal_in, legal_from}
 use Rattle.gm_dao.specs.laws.MoveFacts.{IsSlide, slide_step, move_slide, slide_move, line_below, no_formation}
 
@@ -79,10 +64,6 @@ image_step g b m c e f =
     )
 
 -- ---- ends of images
-all_in : (p : ℕ → Bool) (l : List ℕ) → ((k : ℕ) → Contains l k → p k ≡ true) → list_all p l ≡ true
-all_in p [] h = refl
-all_in p (k ∷ l) h = and_both _ _ (h k (contains_head k l)) (all_in p l (λ j c. h j (contains_later k l j c)))
-
 corner_below : (k : ℕ) → Contains corners k → k < 16
 corner_below k c = ltb-true k 16 (all_at (λ (j : ℕ). ltb j 16) corners k refl c)
 
@@ -97,7 +78,7 @@ trapped_from g b c e =
     any_from (is_trapped b) corners (get_or g x.0 0) k.corner
     (and_both _ _
     (ap is_mine (sym (image_cell 16 (square_symmetries 4) group g b c x.0 (corner_below x.0 x.1))) ∙ and_left _ _ x.2)
-    (all_in (λ (j : ℕ). is_theirs (cell_at b j)) (around (get_or g x.0 0))
+    (all_from (λ (j : ℕ). is_theirs (cell_at b j)) (around (get_or g x.0 0))
     (λ j d. all_at (λ (j : ℕ). is_theirs (cell_at b j)) (permute 0 (around x.0) g) j near (k.next j d))))
 
 -- an image has a trapped piece where the board has one

@@ -1,15 +1,8 @@
 -- The texts of Dao are plain, fit a line, and tell positions and moves apart.
-use Rattle.std.proofs.Common.{◌≡◌, ℕ, ◌<◌, ◌∷◌, length, refl, arith}
-use Rattle.gm_game.specs.Shown.{IsPlain, IsShown}
-use Rattle.gm_game.proofs.PlainTexts.{plain_append}
-use Rattle.gm_pieces.specs.Steps.{from_point, to_point}
-use Rattle.gm_pieces.specs.laws.StepFacts.{same_step}
-use Rattle.gm_board.specs.Squares.{cell_text}
-use Rattle.gm_pieces.specs.SideTexts.{board_text}
+use Rattle.std.specs.Prelude.{◌≡◌, ◌<◌, ◌∷◌}
+use Rattle.gm_pieces.specs.Common.{ℕ, length, refl, arith, IsPlain, IsShown, plain_append, from_point, to_point, same_step, cell_text}
+use Rattle.gm_pieces.specs.Common.{board_text, text_length, text_once, text_plain, cell_plain, AreTexts, texts_are_shown}
 use Rattle.gm_board.specs.laws.CellTexts.{step_text_once}
-use Rattle.gm_pieces.specs.laws.SideTextFacts.{text_length, text_once, text_plain, cell_plain}
-use Rattle.gm_pieces.specs.MoveTexts.{AreTexts}
-use Rattle.gm_pieces.specs.laws.TextFacts.{texts_are_shown}
 use Rattle.gm_dao.specs.DaoRules.{dao, dao_rules}
 use Rattle.gm_dao.specs.laws.BoardFacts.{legal_in}
 use Rattle.gm_dao.specs.laws.DaoLaws.{numbered}

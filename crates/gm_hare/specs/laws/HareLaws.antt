@@ -1,23 +1,11 @@
 -- Hare and Hounds has the laws of a game.
-use Rattle.std.proofs.Common.{◌≡◌, ℕ, ◌+◌, ◌-◌, ◌*◌, ◌/◌, ◌%◌, ◌<◌, ◌≤◌, Bool, true, false, not, ◌&&◌, ◌||◌, if◌then◌else◌, eqb, eqb-true, eq-eqb, leb, List, [], ◌∷◌, reverse, length, set, None, Some, refl, sym, ap, ap₂, ◌∙◌, subst, arith, inl, inr, ◌⊎◌}
-use Rattle.std.specs.List.{Contains}
-use Rattle.std.proofs.lemmas.Bool.{cond-true, cond_both}
-use Rattle.std.proofs.lemmas.Bool.Decides.{nat_tests}
-use Rattle.std.proofs.lemmas.Nat.{div-mul-add, mod-mul-add}
-use Rattle.std.proofs.lemmas.List.{length-reverse, reverse-reverse}
-use Rattle.gm_game.specs.declared.position.End.TheVariants.{Lose, Win}
-use Rattle.gm_game.specs.Texts.{IsPaddedText}
-use Rattle.gm_game.specs.Rules.{at, IsAscending}
-use Rattle.gm_game.specs.Boards.{position_of, IsNumbered}
-use Rattle.gm_board.specs.laws.Lists.{and_both, contains_head, contains_cases}
-use Rattle.gm_board.specs.Binomials.{binomial}
-use Rattle.gm_board.specs.Ranks.{members, rank, unrank, rank_below, rank_unrank, unrank_rank}
-use Rattle.gm_board.specs.Patterns.{same_tests}
-use Rattle.gm_board.specs.Permutations.{permute, permute_get, permute_length}
-use Rattle.gm_board.specs.Groups.{image_slide}
-use Rattle.gm_pieces.specs.Steps.{step_number, from_point, to_point}
-use Rattle.gm_pieces.specs.laws.StepFacts.{from_back, to_back}
-use Rattle.gm_pieces.specs.MoveGames.{board_game, IsMove, IsMoveGame, IsMoveSymmetric}
+use Rattle.std.specs.Prelude.{◌≡◌, ◌+◌, ◌-◌, ◌*◌, ◌/◌, ◌%◌, ◌<◌, ◌≤◌, ◌&&◌, ◌||◌, if◌then◌else◌, ◌∷◌, ◌⊎◌}
+use Rattle.gm_pieces.specs.Common.{ℕ, Bool, true, false, not, eqb, eqb-true, eq-eqb, leb}
+use Rattle.gm_pieces.specs.Common.{List, [], reverse, length, set, None, Some, refl, sym, ap, ap₂, ◌∙◌, subst, arith, inl, inr, Contains, cond-true}
+use Rattle.gm_pieces.specs.Common.{cond_both, nat_tests, div-mul-add, mod-mul-add, length-reverse, reverse-reverse, Lose, Win, IsPaddedText, at, IsAscending}
+use Rattle.gm_pieces.specs.Common.{position_of, IsNumbered, and_both, contains_head, lone_in, binomial, members, rank, unrank, rank_below, rank_unrank}
+use Rattle.gm_pieces.specs.Common.{unrank_rank, same_tests, permute, permute_get, permute_length, image_slide, step_number, from_point, to_point, from_back}
+use Rattle.gm_pieces.specs.Common.{to_back, board_game, IsMove, IsMoveGame, IsMoveSymmetric}
 use Rattle.gm_hare.specs.declared.hunt.Hunt.{Hunt}
 use Rattle.gm_hare.specs.Board.{column, has_hound, hunt_tier, has_escaped, legal, over, can_go, can_move, gone, play, mirror, mirror_point, mirrored, turn_of, hunt_index, hunt_board, hare_name, hare_and_hounds}
 use Rattle.gm_hare.specs.laws.PointFacts.{at_point, all_points, joined_from, joined_to, mirror_below, mirror_twice, mirror_column, mirror_joined, mirror_ahead, two, two_group, mirror_in}
@@ -49,13 +37,9 @@ child_bounds t e = (grind (arith, nat_tests), grind (arith, nat_tests))
 rank_in : (t : ℕ) → 2 ≤ t → t ≤ 10 → tier_rank_of t ≡ 10 - t
 rank_in t l h = grind (arith, nat_tests)
 
-one_child : (x : Bool) (n u : ℕ) → Contains (if x then n ∷ [] else []) u → (x ≡ true) × (n ≡ u)
-one_child true n u c = elim (contains_cases n [] u c) [ inl e ↦ (refl, e) | inr d ↦ absurd (omega (arith, d.1)) ]
-one_child false n u c = absurd (omega (arith, c.1))
-
 child_rank : (t u : ℕ) → Contains (child_tiers_of t) u → tier_rank_of u < tier_rank_of t
 child_rank t u c =
-    let h = one_child (leb 2 t && leb t 9) (t + 1) u c in
+    let h = lone_in (leb 2 t && leb t 9) (t + 1) u c in
     let b = child_bounds t h.0 in
     let x = rank_in t (omega (arith, b.0)) (omega (arith, b.1)) in
     let y = rank_in u (omega (arith, b.0, h.1)) (omega (arith, b.1, h.1)) in omega (arith, x, y, h.1, b.0, b.1)

@@ -1,13 +1,8 @@
 -- Moves of Hare and Hounds: which there are, what they leave, and the boards before a board.
-use Rattle.std.proofs.Common.{◌≡◌, ◌≢◌, ℕ, ◌+◌, ◌<◌, ◌≤◌, Bool, true, false, not, ◌&&◌, if◌then◌else◌, eqb, ltb, ltb-true, lt-ltb, eqb-true, eq-eqb, List, length, get_or, set, refl, sym, ap, ◌∙◌, arith, inl, inr, ◌⊎◌}
-use Rattle.std.specs.List.{filter, range_with_len}
-use Rattle.std.proofs.lemmas.Bool.{true≢false, not-true, ne_eqb}
-use Rattle.gm_board.specs.laws.Lists.{and_left, and_right, and_both}
-use Rattle.gm_board.specs.laws.Filters.{filter_few}
-use Rattle.gm_board.specs.Ranks.{members}
-use Rattle.gm_pieces.specs.Steps.{from_point, to_point}
-use Rattle.gm_pieces.specs.laws.StepFacts.{number_below}
-use Rattle.gm_pieces.specs.MoveGames.{steps}
+use Rattle.std.specs.Prelude.{◌≡◌, ◌≢◌, ◌+◌, ◌<◌, ◌≤◌, ◌&&◌, if◌then◌else◌, ◌⊎◌}
+use Rattle.gm_pieces.specs.Common.{ℕ, Bool, true, false, not, eqb, ltb, ltb-true, lt-ltb, eqb-true, eq-eqb, List}
+use Rattle.gm_pieces.specs.Common.{length, get_or, set, refl, sym, ap, ◌∙◌, arith, inl, inr, filter, range_with_len, true≢false, not-true, ne_eqb}
+use Rattle.gm_pieces.specs.Common.{and_left, and_right, and_both, filter_few, members, from_point, to_point, number_below, steps}
 use Rattle.gm_hare.specs.declared.hunt.Hunt.{Hunt}
 use Rattle.gm_hare.specs.Board.{are_joined, is_ahead, has_hound, is_free, hunt_tier, legal, can_go, can_move, numbers_end, gone, play, can_have_gone, hound_back, hare_back, was_moved, taken_back, hare_and_hounds}
 use Rattle.gm_hare.specs.laws.PointFacts.{differ, joined_from, joined_to, joined_apart, ahead_column, is_step, steps_few}

@@ -1,23 +1,15 @@
 -- The points: which edges there are, and what exchanging top and bottom keeps.
-use Rattle.std.proofs.Common.{◌≡◌, ◌≢◌, ℕ, ◌+◌, ◌<◌, ◌≤◌, Bool, true, false, not, ◌&&◌, ◌||◌, eqb, ltb, eqb-true, ltb-true, List, [], ◌∷◌, length, get_or, refl, sym, ap, ◌∙◌, ◌⊎◌, arith, inl, inr}
-use Rattle.std.specs.List.{Contains, filter, list_all, list_any, range_with_len}
-use Rattle.std.proofs.lemmas.Bool.{cases_eq, cases_lt, ne_eqb, true≢false}
-use Rattle.std.proofs.lemmas.Bool.Decides.{nat_tests}
-use Rattle.std.proofs.lemmas.List.{get_or_past}
-use Rattle.gm_board.specs.laws.Lists.{and_left, and_right, and_both, contains_head, contains_later, contains_range, range_below}
-use Rattle.gm_board.specs.Permutations.{all_at}
-use Rattle.gm_board.specs.Groups.{IsGroup, is_group_table, group_from_table, any_at}
-use Rattle.gm_pieces.specs.Steps.{from_point, to_point}
+use Rattle.std.specs.Prelude.{◌≡◌, ◌≢◌, ◌+◌, ◌<◌, ◌≤◌, ◌&&◌, ◌||◌, ◌∷◌, ◌⊎◌}
+use Rattle.gm_pieces.specs.Common.{ℕ, Bool, true, false, not, eqb, ltb, eqb-true, ltb-true, List, [], length, get_or}
+use Rattle.gm_pieces.specs.Common.{refl, sym, ap, ◌∙◌, arith, inl, inr, Contains, filter, list_all, list_any, range_with_len, cases_eq, cases_lt, ne_eqb}
+use Rattle.gm_pieces.specs.Common.{true≢false, nat_tests, get_or_past, and_left, and_right, all_from, contains_range, range_below, all_at, IsGroup}
+use Rattle.gm_pieces.specs.Common.{is_group_table, group_from_table, any_at, from_point, to_point}
 use Rattle.gm_hare.specs.Board.{column, edges, are_joined, is_ahead, numbers_end, mirror, mirror_point}
 
 -- ---- tests of points
 -- a test that all points pass
 pub at_point : (p : ℕ → Bool) → list_all p (range_with_len 0 11) ≡ true → (k : ℕ) → k < 11 → p k ≡ true
 at_point p e k l = all_at p (range_with_len 0 11) k e (contains_range 11 k l)
-
-all_from : (p : ℕ → Bool) (ks : List ℕ) → ((k : ℕ) → Contains ks k → p k ≡ true) → list_all p ks ≡ true
-all_from p [] h = refl
-all_from p (k ∷ ks) h = and_both _ _ (h k (contains_head k ks)) (all_from p ks (λ j c. h j (contains_later k ks j c)))
 
 -- a test that each point passes
 pub all_points : (p : ℕ → Bool) → ((k : ℕ) → k < 11 → p k ≡ true) → list_all p (range_with_len 0 11) ≡ true

@@ -1,17 +1,9 @@
 -- The texts of Hare and Hounds are plain, fit a line, and tell positions and moves apart.
-use Rattle.std.proofs.Common.{◌≡◌, ℕ, ◌<◌, ◌≤◌, Bool, true, false, ◌&&◌, cond, if◌then◌else◌, eqb, leb, leb-true, eqb-true, eq-eqb, List, [], ◌∷◌, length, get_or, refl, sym, ap, ◌∙◌, subst, arith, zero-add}
-use Rattle.std.specs.List.{Contains, filter, list_all, range_with_len}
-use Rattle.std.proofs.lemmas.Bool.{true≢false, cond-true}
-use Rattle.std.proofs.lemmas.Bool.Decides.{nat_tests}
-use Rattle.std.proofs.lemmas.List.{ext_get_or}
-use Rattle.std.proofs.lemmas.List.FromFn.{length-map-range_with_len, get_or-map-range_with_len}
-use Rattle.gm_game.specs.Shown.{is_plain, IsPlain, IsShown}
-use Rattle.gm_game.proofs.PlainTexts.{plain_map}
-use Rattle.gm_board.specs.laws.Lists.{and_left, and_right, and_both, contains_range, filter_to}
-use Rattle.gm_board.specs.Permutations.{all_at, same_list}
-use Rattle.gm_pieces.specs.Steps.{from_point, to_point}
-use Rattle.gm_pieces.specs.MoveTexts.{AreTexts}
-use Rattle.gm_pieces.specs.laws.TextFacts.{texts_are_shown}
+use Rattle.std.specs.Prelude.{◌≡◌, ◌<◌, ◌≤◌, ◌&&◌, if◌then◌else◌, ◌∷◌}
+use Rattle.gm_pieces.specs.Common.{ℕ, Bool, true, false, cond, eqb, leb, leb-true, eqb-true, eq-eqb, List, [], length}
+use Rattle.gm_pieces.specs.Common.{get_or, refl, sym, ap, ◌∙◌, subst, arith, zero-add, Contains, filter, list_all, range_with_len, true≢false, cond-true}
+use Rattle.gm_pieces.specs.Common.{nat_tests, ext_get_or, length-map-range_with_len, get_or-map-range_with_len, is_plain, IsPlain, IsShown, plain_map, and_left}
+use Rattle.gm_pieces.specs.Common.{and_right, and_both, contains_range, filter_to, all_at, same_list, from_point, to_point, AreTexts, texts_are_shown}
 use Rattle.gm_hare.specs.declared.hunt.Hunt.{Hunt}
 use Rattle.gm_hare.specs.Board.{legal, has_hound, are_joined, numbers_end, hare_and_hounds, hare_rules}
 use Rattle.gm_hare.specs.laws.PointFacts.{is_step}

@@ -1,20 +1,8 @@
 -- Boards of nine points: lines, images and legal boards.
-use Rattle.std.proofs.Common.{◌≡◌, ℕ, ◌+◌, ◌-◌, ◌/◌, ◌≤◌, Bool, true, false, not, List, map, length, ap, ◌∙◌, arith, eqb-true, eq-eqb, leb-true, le-leb}
-use Rattle.std.specs.List.{Contains}
-use Rattle.std.proofs.lemmas.Bool.{not-true}
-use Rattle.gm_board.specs.declared.cell.Cell.{Cell}
-use Rattle.gm_board.specs.declared.cell.Cell.TheVariants.{Empty}
-use Rattle.gm_board.specs.laws.Lists.{and_left, and_right, and_both}
-use Rattle.gm_board.specs.BoardMasks.{turned}
-use Rattle.gm_board.specs.Groups.{IsGroup, image_length}
-use Rattle.gm_board.specs.Patterns.{filled_image}
-use Rattle.gm_board.specs.Permutations.{permute}
-use Rattle.gm_board.specs.Squares.{square_symmetries, square_group}
-use Rattle.gm_board.specs.Cells.{is_mine, is_theirs}
-use Rattle.gm_board.specs.laws.CellCounts.{all_cells}
-use Rattle.gm_pieces.specs.laws.CellFacts.{filled_turned, image_number}
-use Rattle.gm_pieces.specs.laws.MoveFacts.{IsLeft}
-use Rattle.gm_pieces.specs.laws.NumberFacts.{HasNumbers}
+use Rattle.std.specs.Prelude.{◌≡◌, ◌+◌, ◌-◌, ◌/◌, ◌≤◌}
+use Rattle.gm_pieces.specs.Common.{ℕ, Bool, true, false, not, List, map, length, ap, ◌∙◌, arith, eqb-true, eq-eqb, leb-true, le-leb}
+use Rattle.gm_pieces.specs.Common.{Contains, not-true, Cell, Empty, and_left, and_right, and_both, turned, IsGroup, image_length, filled_image, permute}
+use Rattle.gm_pieces.specs.Common.{square_symmetries, square_group, is_mine, is_theirs, all_cells, filled_turned, image_number, IsLeft, HasNumbers}
 use Rattle.gm_morris.specs.declared.variant.Variant.{Variant}
 use Rattle.gm_morris.specs.Points.{last_tier, lines}
 use Rattle.gm_morris.specs.Morris.{mine, theirs, has_line, legal}

@@ -1,25 +1,15 @@
 -- The games of nine points have the laws of a game.
-use Rattle.std.proofs.Common.{◌≡◌, ℕ, ◌+◌, ◌-◌, ◌/◌, ◌^◌, ◌<◌, ◌≤◌, Bool, true, false, if◌then◌else◌, eqb, List, [], ◌∷◌, replicate, length, refl, sym, subst, arith, ltb, ltb-true, leb, leb-true, le-leb, inl, inr}
-use Rattle.std.specs.List.{Contains}
-use Rattle.std.proofs.lemmas.Bool.{cases_Bool, cond-true, cond-false, cond_both}
-use Rattle.gm_game.specs.Rules.{at, IsAscending}
-use Rattle.gm_game.specs.Boards.{position_of, IsNumbered}
-use Rattle.gm_board.specs.declared.cell.Cell.{Cell}
-use Rattle.gm_board.specs.declared.cell.Cell.TheVariants.{Empty}
-use Rattle.gm_board.specs.laws.Lists.{contains_cases}
-use Rattle.gm_board.specs.Arrangements.{arrangements, arrangement_index, arrangements_fit}
-use Rattle.gm_board.specs.Binomials.{binomial}
-use Rattle.gm_board.specs.Squares.{square_symmetries}
-use Rattle.gm_pieces.specs.MoveGames.{board_game, IsMoveGame, IsMoveSymmetric}
-use Rattle.gm_pieces.specs.laws.Images.{permuted_group}
+use Rattle.std.specs.Prelude.{◌≡◌, ◌+◌, ◌-◌, ◌/◌, ◌^◌, ◌<◌, ◌≤◌, if◌then◌else◌, ◌∷◌}
+use Rattle.gm_pieces.specs.Common.{ℕ, Bool, true, false, eqb, List, [], replicate, length, refl, sym}
+use Rattle.gm_pieces.specs.Common.{subst, arith, ltb, ltb-true, leb, leb-true, le-leb, inl, inr, Contains, cases_Bool, cond-true, cond-false, cond_both, at}
+use Rattle.gm_pieces.specs.Common.{IsAscending, position_of, IsNumbered, Cell, Empty, lone_in, arrangements, arrangement_index, arrangements_fit, binomial}
+use Rattle.gm_pieces.specs.Common.{square_symmetries, board_game, IsMoveGame, IsMoveSymmetric, permuted_group, number_of, board_index, index_below, board_back}
+use Rattle.gm_pieces.specs.Common.{index_back}
 use Rattle.gm_morris.specs.declared.variant.Variant.{Variant}
 use Rattle.gm_morris.specs.declared.variant.Variant.TheVariants.{TicTacToe, ThreeMens, Achi}
 use Rattle.gm_morris.specs.Points.{last_tier, lines}
-use Rattle.gm_board.specs.Cells.{number_of}
-use Rattle.gm_pieces.specs.Sides.{board_index}
 use Rattle.gm_morris.specs.Morris.{mine, theirs, has_line, legal, numbers_end, size_of, child_tiers_of, morris}
 use Rattle.gm_morris.specs.laws.PointFacts.{name_text}
-use Rattle.gm_pieces.specs.laws.NumberFacts.{index_below, board_back, index_back}
 use Rattle.gm_morris.specs.laws.BoardFacts.{pieces_few, group, image_pieces, IsLegal, legal_in, legal_numbers, image_legal}
 use Rattle.gm_morris.specs.laws.MoveFacts.{end_by, steps_few, befores_few}
 use Rattle.gm_morris.specs.laws.PlayFacts.{play_legal, play_tier, undone, redone, image_over, image_move}
@@ -71,13 +61,9 @@ numbers_fit : (v : Variant) (t : ℕ) → numbers_end v t ≤ 2 ^ 32
 unfolding numbers_end
 numbers_fit v t = end_fits (eqb t (last_tier v))
 
-one_child : (x : Bool) (n u : ℕ) → Contains (if x then n ∷ [] else []) u → (x ≡ true) × (n ≡ u)
-one_child true n u c = elim (contains_cases n [] u c) [ inl e ↦ (refl, e) | inr d ↦ absurd (omega (arith, d.1)) ]
-one_child false n u c = absurd (omega (arith, c.1))
-
 child_rank : (v : Variant) (t u : ℕ) → Contains (child_tiers_of v t) u → last_tier v - u < last_tier v - t
 unfolding child_tiers_of
-child_rank v t u c = let h = one_child _ (t + 1) u c in let l = ltb-true t (last_tier v) h.0 in omega (arith, l, h.1)
+child_rank v t u c = let h = lone_in _ (t + 1) u c in let l = ltb-true t (last_tier v) h.0 in omega (arith, l, h.1)
 
 short : (x : Bool) (n : ℕ) → IsAscending (if x then n ∷ [] else []) × (length (if x then n ∷ [] else []) ≤ 16)
 short true n = (tt, omega arith)

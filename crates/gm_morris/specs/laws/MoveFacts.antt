@@ -1,16 +1,8 @@
 -- Moves of the games of nine points: in the last tier a piece goes from point to point, and in any other a piece is placed.
-use Rattle.std.proofs.Common.{◌≡◌, ℕ, ◌+◌, ◌/◌, ◌%◌, ◌<◌, ◌≤◌, Bool, true, false, ◌&&◌, if◌then◌else◌, List, map, length, set, None, Some, refl, arith, eqb}
-use Rattle.std.specs.List.{filter, range_with_len}
-use Rattle.gm_game.specs.declared.position.End.TheVariants.{Lose}
-use Rattle.gm_board.specs.declared.cell.Cell.{Cell}
-use Rattle.gm_board.specs.declared.cell.Cell.TheVariants.{Empty, Mine}
-use Rattle.gm_board.specs.laws.Lists.{and_left, and_right}
-use Rattle.gm_board.specs.laws.Filters.{filter_few}
-use Rattle.gm_board.specs.laws.CellCounts.{mine_cell, their_cell, empty_cell}
-use Rattle.gm_board.specs.BoardMasks.{turned}
-use Rattle.gm_board.specs.Cells.{cell_at, is_mine, is_theirs, is_empty}
-use Rattle.gm_pieces.specs.MoveGames.{steps, IsMove}
-use Rattle.gm_pieces.specs.Sides.{brought_back, IsStep, WasStep}
+use Rattle.std.specs.Prelude.{◌≡◌, ◌+◌, ◌/◌, ◌%◌, ◌<◌, ◌≤◌, ◌&&◌, if◌then◌else◌}
+use Rattle.gm_pieces.specs.Common.{ℕ, Bool, true, false, List, map, length, set, None, Some, refl, arith}
+use Rattle.gm_pieces.specs.Common.{eqb, filter, range_with_len, Lose, Cell, Empty, Mine, and_left, and_right, filter_few, mine_cell, their_cell, empty_cell}
+use Rattle.gm_pieces.specs.Common.{turned, cell_at, is_mine, is_theirs, is_empty, steps, IsMove, brought_back, IsStep, WasStep}
 use Rattle.gm_morris.specs.declared.variant.Variant.{Variant}
 use Rattle.gm_morris.specs.Points.{last_tier, joins}
 use Rattle.gm_morris.specs.Morris.{mine, theirs, has_line, over, can_move, numbers_end, was_moved, morris}

@@ -1,22 +1,10 @@
 -- What a move of the games of nine points leaves, how it is taken back, and the moves of images.
-use Rattle.std.proofs.Common.{◌≡◌, ℕ, ◌+◌, ◌*◌, ◌/◌, ◌%◌, ◌≤◌, Bool, true, false, if◌then◌else◌, List, map, length, set, None, Some, ◌⊎◌, inl, inr, refl, sym, ap, ap₂, ◌∙◌, subst, arith, eqb, eqb-true, eq-eqb, lt-ltb, get_or-set_same}
-use Rattle.std.specs.List.{Contains}
-use Rattle.std.proofs.lemmas.Bool.{cond-true, true≢false}
-use Rattle.std.proofs.lemmas.List.{length-map}
-use Rattle.gm_game.specs.declared.position.End.TheVariants.{Lose}
-use Rattle.gm_board.specs.declared.cell.Cell.{Cell}
-use Rattle.gm_board.specs.declared.cell.Cell.TheVariants.{Empty, Mine, Theirs}
-use Rattle.gm_board.specs.laws.Lists.{and_left, and_both}
-use Rattle.gm_board.specs.laws.Turned.{permute_turned, turned_cell, turned_twice}
-use Rattle.gm_board.specs.laws.CellCounts.{mine_turned, theirs_turned, their_cell, empty_cell}
-use Rattle.gm_board.specs.BoardMasks.{turned}
-use Rattle.gm_board.specs.Cells.{is_mine, is_theirs, is_empty, cell_at}
-use Rattle.gm_board.specs.Groups.{image_set, image_slide}
-use Rattle.gm_board.specs.Permutations.{permute}
-use Rattle.gm_board.specs.Squares.{square_symmetries}
-use Rattle.gm_pieces.specs.MoveGames.{IsMove}
-use Rattle.gm_pieces.specs.laws.CellFacts.{image_cell}
-use Rattle.gm_pieces.specs.laws.MoveFacts.{IsLeft, step_left, placed_left, set_and_back, gone_again, back_again}
+use Rattle.std.specs.Prelude.{◌≡◌, ◌+◌, ◌*◌, ◌/◌, ◌%◌, ◌≤◌, if◌then◌else◌, ◌⊎◌}
+use Rattle.gm_pieces.specs.Common.{ℕ, Bool, true, false, List, map, length, set, None, Some, inl, inr, refl}
+use Rattle.gm_pieces.specs.Common.{sym, ap, ap₂, ◌∙◌, subst, arith, eqb, eqb-true, eq-eqb, lt-ltb, get_or-set_same, Contains, cond-true, true≢false}
+use Rattle.gm_pieces.specs.Common.{length-map, Lose, Cell, Empty, Mine, Theirs, and_left, and_both, permute_turned, turned_cell, turned_twice, mine_turned}
+use Rattle.gm_pieces.specs.Common.{theirs_turned, their_cell, empty_cell, turned, is_mine, is_theirs, is_empty, cell_at, image_set, image_slide, permute}
+use Rattle.gm_pieces.specs.Common.{square_symmetries, IsMove, image_cell, IsLeft, step_left, placed_left, set_and_back, gone_again, back_again}
 use Rattle.gm_morris.specs.declared.variant.Variant.{Variant}
 use Rattle.gm_morris.specs.Points.{last_tier, joins}
 use Rattle.gm_morris.specs.Morris.{mine, theirs, legal, over, moved, play, was_moved, taken_back, child_tiers_of, morris}

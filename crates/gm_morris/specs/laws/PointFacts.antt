@@ -1,13 +1,8 @@
 -- What computing shows of each game of nine points.
-use Rattle.std.proofs.Common.{◌≡◌, ℕ, ◌/◌, ◌%◌, ◌<◌, ◌≤◌, Bool, true, false, not, List, ◌++◌, map, length, get_or, ◌⊎◌, inl, inr, refl, ap, ◌∙◌, arith, leb, leb-true, ltb-true}
-use Rattle.std.specs.List.{Contains, list_all, filter, range_with_len}
-use Rattle.gm_game.specs.Texts.{IsPaddedText}
-use Rattle.gm_board.specs.laws.Lists.{and_left, and_right, contains_range}
-use Rattle.gm_board.specs.Masks.{has_cell}
-use Rattle.gm_board.specs.BoardMasks.{pattern_mask}
-use Rattle.gm_board.specs.Patterns.{keeps_patterns}
-use Rattle.gm_board.specs.Permutations.{all_at}
-use Rattle.gm_board.specs.Squares.{square_symmetries}
+use Rattle.std.specs.Prelude.{◌≡◌, ◌/◌, ◌%◌, ◌<◌, ◌≤◌, ◌++◌, ◌⊎◌}
+use Rattle.gm_pieces.specs.Common.{ℕ, Bool, true, false, not, List, map, length, get_or, inl, inr, refl, ap, ◌∙◌, arith}
+use Rattle.gm_pieces.specs.Common.{leb, leb-true, ltb-true, Contains, list_all, filter, range_with_len, IsPaddedText, and_left, and_right, contains_range}
+use Rattle.gm_pieces.specs.Common.{has_cell, pattern_mask, keeps_patterns, all_at, square_symmetries, at_all, at_each, agree, agree_same}
 use Rattle.gm_morris.specs.declared.variant.Variant.{Variant}
 use Rattle.gm_morris.specs.declared.variant.Variant.TheVariants.{TicTacToe, ThreeMens, Achi}
 use Rattle.gm_morris.specs.declared.variant.TheConstants.{LINES, STRAIGHT_LINES, BESIDE, ALONG_LINES}
@@ -58,27 +53,6 @@ joined_within Achi a b e = (ltb-true a 9 (and_left _ _ e), ltb-true b 9 (and_lef
 pub joined_to : (v : Variant) (a b : ℕ) → joins v a b ≡ true → b < 9
 joined_to v a b e = (joined_within v a b e).1
 
--- a test of two points, at all of them below n and m
-abbrev pub at_all : ℕ → ℕ → (ℕ → ℕ → Bool) → Bool
-at_all n m p = list_all (λ a. list_all (p a) (range_with_len 0 m)) (range_with_len 0 n)
-
--- a test that passes at all of them holds of each two
-pub at_each : (n m : ℕ) (p : ℕ → ℕ → Bool) → at_all n m p ≡ true → (a b : ℕ) → a < n → b < m → p a b ≡ true
-at_each n m p e a b l k =
-    all_at (p a) (range_with_len 0 m) b
-    (all_at (λ (x : ℕ). list_all (p x) (range_with_len 0 m)) (range_with_len 0 n) a e (contains_range n a l)) (contains_range m b k)
-
--- two tests have the same answer
-abbrev pub agree : Bool → Bool → Bool
-agree true y = y
-agree false y = not y
-
-pub agree_same : (x y : Bool) → agree x y ≡ true → x ≡ y
-agree_same true true e = refl
-agree_same true false e = absurd (let z : ⊥ = cc in z)
-agree_same false true e = absurd (let z : ⊥ = cc in z)
-agree_same false false e = refl
-
 -- whether two points are joined exactly where the points that a symmetry brings to them are
 unfoldable pub keeps_joins : Variant → Bool
 keeps_joins v = list_all (λ g. at_all 9 9 (λ a b. agree (joins v (get_or g a 0) (get_or g b 0)) (joins v a b))) (square_symmetries 3)
@@ -97,19 +71,12 @@ joined_image v g a b c l k =
     (all_at (λ (g : List ℕ). at_all 9 9 (λ a b. agree (joins v (get_or g a 0) (get_or g b 0)) (joins v a b))) (square_symmetries 3) g (joins_kept v) c)
     a b l k)
 
--- whether there are at most 128 numbers of moves from point to point
-unfoldable pub few_joins : Variant → Bool
-few_joins v = leb (length (filter (λ m. joins v (m / 16) (m % 16)) (range_with_len 0 144))) 128
-
-few : (v : Variant) → few_joins v ≡ true
-unfolding few_joins joins
-few TicTacToe = refl
-few ThreeMens = refl
-few Achi = refl
-
+-- there are at most 128 numbers of moves from point to point
 pub joined_few : (v : Variant) → length (filter (λ m. joins v (m / 16) (m % 16)) (range_with_len 0 144)) ≤ 128
-unfolding few_joins
-joined_few v = leb-true _ 128 (few v)
+unfolding joins
+joined_few TicTacToe = omega arith
+joined_few ThreeMens = omega arith
+joined_few Achi = omega arith
 
 -- the code's table of neighbors is right for Three Men's Morris
 beside_passes : at_all 9 16 (λ a b. agree (has_cell (get_or BESIDE a 0) b) (joins ThreeMens a b)) ≡ true

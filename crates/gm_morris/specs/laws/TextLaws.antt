@@ -1,14 +1,9 @@
 -- The texts of the games of nine points are plain, fit a line, and tell positions and moves apart.
-use Rattle.std.proofs.Common.{◌≡◌, ℕ, ◌+◌, ◌/◌, ◌%◌, ◌<◌, ◌≤◌, eqb, List, ◌∷◌, ◌++◌, length, sym, ◌∙◌, arith, inl, inr}
-use Rattle.std.proofs.lemmas.Bool.{cases_Bool, cond_both, cond-true, cond-false}
-use Rattle.gm_game.specs.Shown.{IsPlain, IsShown}
-use Rattle.gm_game.proofs.PlainTexts.{plain_append}
-use Rattle.gm_board.specs.Squares.{cell_text}
-use Rattle.gm_pieces.specs.SideTexts.{board_text}
+use Rattle.std.specs.Prelude.{◌≡◌, ◌+◌, ◌/◌, ◌%◌, ◌<◌, ◌≤◌, ◌∷◌, ◌++◌}
+use Rattle.gm_pieces.specs.Common.{ℕ, eqb, List, length, sym, ◌∙◌, arith, inl, inr, cases_Bool, cond_both, cond-true}
+use Rattle.gm_pieces.specs.Common.{cond-false, IsPlain, IsShown, plain_append, cell_text, board_text, text_length, text_once, text_plain, cell_plain, AreTexts}
+use Rattle.gm_pieces.specs.Common.{texts_are_shown}
 use Rattle.gm_board.specs.laws.CellTexts.{cell_text_once, step_text_once}
-use Rattle.gm_pieces.specs.laws.SideTextFacts.{text_length, text_once, text_plain, cell_plain}
-use Rattle.gm_pieces.specs.MoveTexts.{AreTexts}
-use Rattle.gm_pieces.specs.laws.TextFacts.{texts_are_shown}
 use Rattle.gm_morris.specs.declared.variant.Variant.{Variant}
 use Rattle.gm_morris.specs.Points.{variant_of, last_tier}
 use Rattle.gm_morris.specs.Morris.{mine, theirs, numbers_end, morris, morris_rules}

@@ -1,14 +1,10 @@
 -- The game in tables has the rules and texts of Mu Torere.
-use Rattle.std.proofs.Common.{◌≡◌, ℕ, ◌+◌, Bool, ◌&&◌, eqb, if◌then◌else◌, List, [], ◌∷◌, map, length, refl, ap, ap₂, ◌∙◌}
+use Rattle.std.specs.Prelude.{◌≡◌, ◌+◌, ◌&&◌, if◌then◌else◌, ◌∷◌}
+use Rattle.gm_pieces.specs.Common.{ℕ, Bool, eqb, List, [], map, length, refl, ap, ap₂, ◌∙◌, Cell, Empty, Mine, Theirs}
+use Rattle.gm_pieces.specs.Common.{is_mine, is_theirs, is_empty, cell_at, number_of as number_on, board_index, board_numbered, cell_char}
+use Rattle.gm_pieces.specs.Common.{board_text as side_text, from_point, to_point, MoveGame, move_rules}
 use Rattle.std.proofs.Math.Path.{fun_ext}
 use Rattle.std.proofs.lemmas.List.Sums.{sum_by-cons}
-use Rattle.gm_board.specs.declared.cell.Cell.{Cell}
-use Rattle.gm_board.specs.declared.cell.Cell.TheVariants.{Empty, Mine, Theirs}
-use Rattle.gm_board.specs.Cells.{is_mine, is_theirs, is_empty, cell_at, number_of as number_on}
-use Rattle.gm_pieces.specs.Sides.{board_index, board_numbered}
-use Rattle.gm_pieces.specs.SideTexts.{cell_char, board_text as side_text}
-use Rattle.gm_pieces.specs.Steps.{from_point, to_point}
-use Rattle.gm_pieces.specs.MoveGames.{MoveGame, move_rules}
 use Rattle.gm_ways.specs.Ways.{has_numbers, legal as legal_on_ways, over, can_move as can_move_on_ways, moved as moved_on_ways, was_moved as was_moved_on_ways, taken_back as taken_back_on_ways, way_game, way_rules}
 use Rattle.gm_ways.specs.WayTexts.{step_text as way_step_text, way_text, way_move_text}
 use Rattle.gm_mutorere.specs.Board.{number_of, legal, can_move, may_go, moved, was_moved, taken_back, ring_index, ring_board, mutorere, mutorere_rules}

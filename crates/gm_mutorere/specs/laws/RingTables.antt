@@ -1,7 +1,6 @@
 -- Mu Torere in tables, as a game on points that ways join.
-use Rattle.std.proofs.Common.{◌≡◌, ℕ, true, List, [], ◌∷◌, refl}
-use Rattle.gm_board.specs.declared.cell.Cell.TheVariants.{Empty, Mine, Theirs}
-use Rattle.gm_board.specs.Groups.{IsGroup, is_group_table, group_from_table}
+use Rattle.std.specs.Prelude.{◌≡◌, ◌∷◌}
+use Rattle.gm_pieces.specs.Common.{ℕ, true, List, [], refl, Empty, Mine, Theirs, IsGroup, is_group_table, group_from_table}
 use Rattle.gm_ways.specs.Ways.{WayGame}
 use Rattle.gm_mutorere.specs.declared.ring.TheConstants.{RING}
 use Rattle.gm_mutorere.specs.Board.{mutorere_name, may_go, ring_symmetries}

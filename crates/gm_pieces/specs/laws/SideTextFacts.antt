@@ -1,14 +1,7 @@
 -- The texts of boards have a byte for each cell, tell boards apart, and are plain; the texts of cells are plain too.
-use Rattle.std.proofs.Common.{◌≡◌, ℕ, ◌+◌, ◌/◌, ◌%◌, ◌≤◌, true, eqb, List, length, refl, arith}
-use Rattle.std.proofs.lemmas.List.{length-map}
-use Rattle.gm_game.specs.Shown.{is_plain, IsPlain}
-use Rattle.gm_game.proofs.PlainTexts.{plain_in, plain_map}
-use Rattle.gm_board.specs.declared.cell.Cell.{Cell}
-use Rattle.gm_board.specs.declared.cell.Cell.TheVariants.{Empty, Mine, Theirs}
-use Rattle.gm_board.specs.Pieces.{cell_by}
-use Rattle.gm_board.specs.laws.Lists.{and_both}
-use Rattle.gm_board.specs.Squares.{cell_text}
-use Rattle.gm_board.specs.laws.Marks.{map_once}
+use Rattle.std.specs.Prelude.{◌≡◌, ◌+◌, ◌/◌, ◌%◌, ◌≤◌}
+use Rattle.gm_pieces.specs.Lower.{ℕ, true, eqb, List, length, refl, arith, length-map, is_plain, IsPlain, plain_in, plain_map, Cell}
+use Rattle.gm_pieces.specs.Lower.{Empty, Mine, Theirs, cell_by, and_both, cell_text, map_once}
 use Rattle.gm_pieces.specs.SideTexts.{cell_char, board_text}
 
 -- the text of a board has one byte for each cell

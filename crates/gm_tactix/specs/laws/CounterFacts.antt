@@ -1,14 +1,10 @@
 -- Boards of counters: cells emptied and filled, and how many counters there are.
-use Rattle.std.proofs.Common.{◌≡◌, ℕ, zero, suc, ◌+◌, ◌<◌, ◌≤◌, Bool, true, false, not, ◌&&◌, ◌||◌, List, [], ◌∷◌, ◌++◌, map, reverse, length, set, refl, sym, ap, ap₂, ◌∙◌, subst, arith, inl, inr, length-set, get_or-set_same, get_or-set_other, eq-eqb}
-use Rattle.std.specs.List.{Contains, list_all, range_with_len, sum_by}
-use Rattle.std.proofs.lemmas.Bool.{cases_lt, cases_eq, ne_eqb, not-true}
-use Rattle.std.proofs.lemmas.List.{ext_get_or, get_or_past, reverse-append}
-use Rattle.std.proofs.lemmas.List.FromFn.{length-map-range_with_len, get_or-map-range_with_len}
+use Rattle.std.specs.Prelude.{◌≡◌, ◌+◌, ◌<◌, ◌&&◌, ◌||◌, ◌∷◌, ◌++◌}
+use Rattle.gm_pieces.specs.Common.{ℕ, zero, suc, Bool, true, false, not, List, [], map, reverse, length, set, refl, sym}
+use Rattle.gm_pieces.specs.Common.{ap, ap₂, ◌∙◌, subst, arith, inl, inr, length-set, get_or-set_same, get_or-set_other, eq-eqb, Contains, range_with_len}
+use Rattle.gm_pieces.specs.Common.{sum_by, cases_lt, cases_eq, ne_eqb, not-true, ext_get_or, get_or_past, reverse-append, length-map-range_with_len}
+use Rattle.gm_pieces.specs.Common.{get_or-map-range_with_len, all_from, and_left, and_right, and_true, and_false, weight, members, all_at}
 use Rattle.std.proofs.lemmas.List.Sums.{sum_by-cons}
-use Rattle.gm_board.specs.laws.Lists.{contains_head, contains_later, and_left, and_right, and_both}
-use Rattle.gm_board.specs.Masks.{weight}
-use Rattle.gm_board.specs.Ranks.{members}
-use Rattle.gm_board.specs.Permutations.{all_at}
 use Rattle.gm_tactix.specs.Segments.{cells_from}
 use Rattle.gm_tactix.specs.Board.{has_counter, is_full, is_free, is_among, without, with_counters}
 use Rattle.gm_tactix.specs.laws.SegmentFacts.{among_in, among_from}
@@ -54,11 +50,6 @@ full_at b cs k e c = all_at (has_counter b) cs k e c
 pub free_at : (b : List Bool) (cs : List ℕ) (k : ℕ) → is_free b cs ≡ true → Contains cs k → has_counter b k ≡ false
 free_at b cs k e c = not-true _ (all_at (λ (j : ℕ). not (has_counter b j)) cs k e c)
 
--- a test that each cell of a list passes holds of the list
-pub all_cells : (p : ℕ → Bool) (cs : List ℕ) → ((k : ℕ) → Contains cs k → p k ≡ true) → list_all p cs ≡ true
-all_cells p [] h = refl
-all_cells p (c ∷ cs) h = and_both _ _ (h c (contains_head c cs)) (all_cells p cs (λ k d. h k (contains_later c cs k d)))
-
 -- a cell with a counter is a cell of the board
 pub counter_within : (b : List Bool) (k : ℕ) → has_counter b k ≡ true → k < length b
 counter_within b k e = elim (cases_lt k (length b)) [
@@ -69,12 +60,8 @@ counter_within b k e = elim (cases_lt k (length b)) [
 -- cells that were emptied are free
 pub free_without : (b : List Bool) (cs : List ℕ) → is_free (without b cs) cs ≡ true
 free_without b cs =
-    all_cells (λ (k : ℕ). not (has_counter (without b cs) k)) cs
+    all_from (λ (k : ℕ). not (has_counter (without b cs) k)) cs
     (λ k c. ap not (without_at b cs k ∙ ap (λ (x : Bool). has_counter b k && not x) (among_from k cs c) ∙ and_false (has_counter b k)))
-  where
-    and_false : (x : Bool) → (x && false) ≡ false
-    and_false true = refl
-    and_false false = refl
 
 -- free cells that are filled and emptied again leave the board as it was
 pub without_with : (b : List Bool) (cs : List ℕ) → is_free b cs ≡ true → without (with_counters b cs) cs ≡ b
@@ -147,10 +134,6 @@ among_later k c step (suc n) l =
 without_none : (b : List Bool) → without b [] ≡ b
 without_none b =
     same_board (without b []) b (length_without b []) (λ k l. without_at b [] k ∙ and_true (has_counter b k))
-  where
-    and_true : (x : Bool) → (x && true) ≡ x
-    and_true true = refl
-    and_true false = refl
 
 without_more : (b : List Bool) (c : ℕ) (cs : List ℕ) → without b (c ∷ cs) ≡ set (without b cs) c false
 without_more b c cs =
@@ -166,10 +149,6 @@ without_more b c cs =
           ∙ sym (without_at b cs k)
           ∙ sym (get_or-set_other (without b cs) c k false false n)
     ])
-  where
-    and_false : (x : Bool) → (x && false) ≡ false
-    and_false true = refl
-    and_false false = refl
 
 -- taking n counters from cells in a row leaves n fewer
 pub members_without : (b : List Bool) (c step n : ℕ) → 0 < step → is_full b (cells_from c step n) ≡ true → members (without b (cells_from c step n)) + n ≡ members b
@@ -195,9 +174,3 @@ pub some_counter : (b : List Bool) → 0 < members b → (k : ℕ) × (has_count
 some_counter [] l = absurd (omega arith)
 some_counter (true ∷ b) l = (0, refl)
 some_counter (false ∷ b) l = let x = some_counter b l in (suc x.0, x.1)
-
--- there are no more counters than cells
-pub members_le_length : (b : List Bool) → members b ≤ length b
-members_le_length [] = omega arith
-members_le_length (true ∷ b) = omega (arith, members_le_length b)
-members_le_length (false ∷ b) = omega (arith, members_le_length b)

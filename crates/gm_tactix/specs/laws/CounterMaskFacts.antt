@@ -1,21 +1,14 @@
 -- Boards of counters against masks: what the code's steps on masks say of boards.
-use Rattle.std.proofs.Common.{◌≡◌, ℕ, zero, suc, ◌+◌, ◌*◌, ◌^◌, ◌<◌, ◌≤◌, Bool, true, false, not, ◌&&◌, ◌||◌, eqb, List, [], ◌∷◌, map, reverse, length, refl, sym, ap, ap₂, ◌∙◌, subst, arith, inl, inr, zero-add, eq-eqb}
-use Rattle.std.specs.Prelude.{bit_and, bit_or, count_ones, ◌↔◌}
-use Rattle.std.specs.Int.{bit_at}
-use Rattle.std.specs.List.{Contains, list_all, range_with_len}
-use Rattle.std.proofs.lemmas.Bool.{cases_eq, ne_eqb, not-true, true≢false}
-use Rattle.std.proofs.lemmas.List.{reverse-append, reverse-reverse}
-use Rattle.std.proofs.lemmas.List.FromFn.{length-map-range_with_len, get_or-map-range_with_len, map-range_with_len_more}
-use Rattle.std.proofs.lemmas.Nat.Bits.{bit_at-zero, bit_at-pow_same, bit_at-pow_other}
-use Rattle.gm_board.specs.Ranks.{members, rank}
-use Rattle.gm_board.specs.Masks.{has_cell, tests_of, mask_rank, mask_unrank, tests_none, tests_more, members_small, mask_rank_at, tests_unrank}
-use Rattle.gm_board.specs.Permutations.{permute, all_at, IsPermutationOf}
-use Rattle.gm_board.specs.Images.{image_mask, image_tests}
-use Rattle.gm_board.specs.BoardMasks.{pattern_mask, pattern_filled}
-use Rattle.gm_board.specs.laws.MaskChanges.{has_or, has_and, has_none, same_all}
+use Rattle.std.specs.Prelude.{◌≡◌, ◌+◌, ◌*◌, ◌^◌, ◌<◌, ◌≤◌, ◌&&◌, ◌||◌, ◌∷◌, ◌↔◌}
+use Rattle.gm_pieces.specs.Common.{ℕ, zero, suc, Bool, true, false, not, eqb, List, [], map, reverse, length}
+use Rattle.gm_pieces.specs.Common.{refl, sym, ap, ap₂, ◌∙◌, subst, arith, inl, inr, zero-add, eq-eqb, bit_and, bit_or, count_ones, bit_at, Contains}
+use Rattle.gm_pieces.specs.Common.{list_all, range_with_len, cases_eq, ne_eqb, not-true, true≢false, reverse-append, reverse-reverse, length-map-range_with_len}
+use Rattle.gm_pieces.specs.Common.{get_or-map-range_with_len, map-range_with_len_more, bit_at-zero, bit_at-pow_same, bit_at-pow_other, members, rank, has_cell}
+use Rattle.gm_pieces.specs.Common.{tests_of, mask_rank, mask_unrank, tests_none, tests_more, members_small, mask_rank_at, tests_unrank, permute, all_at}
+use Rattle.gm_pieces.specs.Common.{IsPermutationOf, image_mask, image_tests, pattern_mask, pattern_filled, has_or, has_and, has_none, same_all, all_from}
 use Rattle.gm_tactix.specs.Board.{has_counter, is_full, is_free, is_among, without, with_counters, counters_index, counters_at}
 use Rattle.gm_tactix.specs.laws.SegmentFacts.{among_in, among_from}
-use Rattle.gm_tactix.specs.laws.CounterFacts.{same_board, all_cells, length_without, length_with, without_at, with_at, members_reverse}
+use Rattle.gm_tactix.specs.laws.CounterFacts.{same_board, length_without, length_with, without_at, with_at, members_reverse}
 use Rattle.gm_tactix.specs.CounterMasks.{counters_of}
 
 -- one test a cell
@@ -86,7 +79,7 @@ module _ (n mask : ℕ) (cs : List ℕ) (below : (k : ℕ) → Contains cs k →
   -- it has none of them exactly where none has a counter
   pub free_mask : (bit_and mask (pattern_mask cs) ≡ 0) ↔ (is_free (counters_of n mask) cs ≡ true)
   free_mask = (
-    λ e. all_cells (λ (k : ℕ). not (has_counter (counters_of n mask) k)) cs
+    λ e. all_from (λ (k : ℕ). not (has_counter (counters_of n mask) k)) cs
         (λ k c.
         let none : (has_cell mask k && is_among k cs) ≡ false =
         ap (λ (x : Bool). has_cell mask k && x) (sym (has_pattern cs k)) ∙ sym (has_and mask (pattern_mask cs) k) ∙ ap (λ (v : ℕ). has_cell v k) e ∙ ap (λ (v : ℕ). eqb v 1) (bit_at-zero k) in

@@ -1,16 +1,10 @@
 -- Moves of Tac Tix: which there are, what they leave, and the boards before a board.
-use Rattle.std.proofs.Common.{◌≡◌, ℕ, zero, suc, ◌+◌, ◌-◌, ◌*◌, ◌<◌, ◌≤◌, Bool, true, false, cond, eqb, List, [], ◌∷◌, ◌++◌, length, refl, sym, ap, ◌∙◌, subst, arith, inl, inr, eqb-true, eq-eqb}
-use Rattle.std.specs.List.{Contains, filter, range_with_len}
-use Rattle.std.proofs.lemmas.Bool.{cases_lt, ne_eqb, true≢false}
-use Rattle.std.proofs.lemmas.List.FromFn.{length-range_with_len, get_or-range_with_len, map-range_with_len_more}
-use Rattle.std.proofs.lemmas.List.{map-id}
-use Rattle.gm_game.specs.Rules.{IsAscending}
-use Rattle.gm_board.specs.laws.Lists.{contains_head, and_left, and_right, and_both}
-use Rattle.gm_board.specs.Ranks.{members}
-use Rattle.gm_board.specs.laws.Filters.{filter_few, nil_or}
+use Rattle.std.specs.Prelude.{◌≡◌, ◌+◌, ◌-◌, ◌*◌, ◌<◌, ◌≤◌, ◌∷◌, ◌++◌}
+use Rattle.gm_pieces.specs.Common.{ℕ, zero, suc, Bool, true, false, cond, eqb, List, [], length, refl, sym, ap, ◌∙◌}
+use Rattle.gm_pieces.specs.Common.{subst, arith, inl, inr, eqb-true, eq-eqb, Contains, filter, range_with_len, cases_lt, ne_eqb, true≢false}
+use Rattle.gm_pieces.specs.Common.{length-range_with_len, get_or-range_with_len, map-range_with_len_more, map-id, IsAscending, contains_head, and_left}
+use Rattle.gm_pieces.specs.Common.{and_right, and_both, members, filter_few, nil_or, steps, step_in, step_listed}
 use Rattle.gm_pieces.specs.laws.Listed.{filter_ascending}
-use Rattle.gm_pieces.specs.MoveGames.{steps}
-use Rattle.gm_pieces.specs.laws.MoveLaws.{step_in, step_listed}
 use Rattle.gm_tactix.specs.Segments.{first_cell, segment_length, goes_down, stride, cells_from, segment_cells, is_segment, numbers_end}
 use Rattle.gm_tactix.specs.Board.{is_full, is_free, without, with_counters, can_take, play, was_taken, tactix}
 use Rattle.gm_tactix.specs.laws.SegmentFacts.{number_below, length_bounds, single, single_cells, segments_few}

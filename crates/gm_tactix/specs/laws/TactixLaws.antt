@@ -1,28 +1,15 @@
 -- Tac Tix has the laws of a game.
-use Rattle.std.proofs.Common.{◌≡◌, ℕ, ◌-◌, ◌*◌, ◌<◌, ◌≤◌, Bool, true, false, not, ◌&&◌, eqb, List, reverse, length, get_or, None, Some, refl, sym, ap, ap₂, ◌∙◌, subst, arith, inl, inr, eqb-true, eq-eqb, ltb, ltb-true, if◌then◌else◌}
-use Rattle.std.specs.List.{Contains, range_with_len}
-use Rattle.std.proofs.lemmas.Bool.{cases_Bool}
-use Rattle.std.proofs.lemmas.Bool.Decides.{nat_tests}
-use Rattle.std.proofs.lemmas.List.{length-reverse, reverse-reverse, length-replicate}
-use Rattle.std.proofs.lemmas.List.FromFn.{length-range_with_len}
-use Rattle.gm_game.specs.declared.position.Position.{Position}
-use Rattle.gm_game.specs.declared.position.End.TheVariants.{Lose, Win}
-use Rattle.gm_game.specs.Texts.{IsPaddedText}
-use Rattle.gm_game.specs.Boards.{IsNumbered}
-use Rattle.gm_board.specs.laws.Lists.{and_both}
-use Rattle.gm_board.specs.Binomials.{binomial, binomial_small}
-use Rattle.gm_board.specs.Ranks.{members, rank, unrank, rank_below, unrank_length, unrank_members, rank_unrank, unrank_rank}
-use Rattle.gm_board.specs.Masks.{weight}
-use Rattle.gm_board.specs.Permutations.{permute, permute_get}
-use Rattle.gm_board.specs.Groups.{IsGroup, group_length, image_length, image_sum}
-use Rattle.gm_board.specs.Squares.{square_symmetries, square_group}
-use Rattle.gm_board.specs.laws.Filters.{range_in}
-use Rattle.gm_pieces.specs.MoveGames.{board_game, move_rules, IsMoveGame, IsMoveSymmetric}
-use Rattle.gm_pieces.specs.laws.Images.{permuted_group}
+use Rattle.std.specs.Prelude.{◌≡◌, ◌-◌, ◌*◌, ◌<◌, ◌≤◌, ◌&&◌, if◌then◌else◌}
+use Rattle.gm_pieces.specs.Common.{ℕ, Bool, true, false, not, eqb, List, reverse, length, get_or, None, Some, refl, sym, ap}
+use Rattle.gm_pieces.specs.Common.{ap₂, ◌∙◌, subst, arith, inl, inr, eqb-true, eq-eqb, ltb, ltb-true, Contains, range_with_len, cases_Bool}
+use Rattle.gm_pieces.specs.Common.{nat_tests, length-reverse, reverse-reverse, length-replicate, length-range_with_len, Position, Lose, Win, IsPaddedText}
+use Rattle.gm_pieces.specs.Common.{IsNumbered, and_both, all_from, binomial, binomial_small, members, rank, unrank, rank_below, unrank_length, unrank_members}
+use Rattle.gm_pieces.specs.Common.{rank_unrank, unrank_rank, members_le, weight, permute, permute_get, IsGroup, group_length, image_length, image_sum}
+use Rattle.gm_pieces.specs.Common.{square_symmetries, square_group, range_in, board_game, move_rules, IsMoveGame, IsMoveSymmetric, permuted_group}
 use Rattle.gm_tactix.specs.Segments.{segment_cells}
 use Rattle.gm_tactix.specs.Board.{has_counter, is_full, without, can_take, play, tactix_name, counters_index, counters_at, side_of, tactix}
 use Rattle.gm_tactix.specs.laws.SegmentFacts.{for_sides, square_small, number_below, length_bounds, cells_within, segment_image, among_in, among_from}
-use Rattle.gm_tactix.specs.laws.CounterFacts.{same_board, length_without, without_at, full_at, all_cells, members_weight, members_reverse, members_le_length}
+use Rattle.gm_tactix.specs.laws.CounterFacts.{same_board, length_without, without_at, full_at, members_weight, members_reverse}
 use Rattle.gm_tactix.specs.laws.MoveFacts.{range_from, range_ascending, move_in, move_from, moves_few, play_length, play_members, undone, redone, befores_few}
 
 -- ---- numbering
@@ -60,7 +47,7 @@ module _ (s : ℕ) (low : 1 ≤ s) (high : s ≤ 5) where
   board_members t i l = members_reverse (unrank (s * s) t i) ∙ unrank_members (s * s) t i l
 
   members_few : (b : List Bool) → length b ≡ s * s → members b ≤ 25
-  members_few b e = let l = members_le_length b in omega (arith, l, e, cells_few)
+  members_few b e = let l = members_le b in omega (arith, l, e, cells_few)
 
   -- the numbering is one to one
   pub numbered : (misere : Bool) → IsNumbered (board_game (tactix s misere))
@@ -124,7 +111,7 @@ module _ (s : ℕ) (low : 1 ≤ s) (high : s ≤ 5) where
       let image = permute false g b in
       let long : length image ≡ s * s = image_length false (s * s) (square_symmetries s) group g c b in
       let full : is_full image ds ≡ true =
-      all_cells (has_counter image) ds (λ k f.
+      all_from (has_counter image) ds (λ k f.
       let l : k < s * s = cells_within s low high x.0 k x.1 f in
       let there : Contains cs (get_or g k 0) = among_in (get_or g k 0) cs (sym (x.2 k l) ∙ among_from k ds f) in
       image_at g b k c l ∙ full_at b cs (get_or g k 0) v.1 there) in (

@@ -1,16 +1,8 @@
 -- The texts of Tac Tix are plain, fit a line, and tell positions and moves apart.
-use Rattle.std.proofs.Common.{◌≡◌, ℕ, ◌+◌, ◌-◌, ◌*◌, ◌≤◌, Bool, true, false, ◌&&◌, cond, eqb, eqb-true, List, [], ◌∷◌, ◌++◌, length, refl, sym, ap, ◌∙◌, arith}
-use Rattle.std.specs.List.{list_all}
-use Rattle.std.proofs.lemmas.Bool.{cond_both}
-use Rattle.std.proofs.lemmas.List.{length-map}
-use Rattle.gm_game.specs.Shown.{is_plain, IsPlain, IsShown}
-use Rattle.gm_game.proofs.PlainTexts.{plain_map}
-use Rattle.gm_board.specs.laws.Lists.{and_left, and_right}
-use Rattle.gm_board.specs.Permutations.{all_at}
-use Rattle.gm_board.specs.Squares.{cell_text}
-use Rattle.gm_board.specs.laws.Marks.{map_once}
-use Rattle.gm_pieces.specs.MoveTexts.{AreTexts}
-use Rattle.gm_pieces.specs.laws.TextFacts.{texts_are_shown}
+use Rattle.std.specs.Prelude.{◌≡◌, ◌+◌, ◌-◌, ◌*◌, ◌≤◌, ◌&&◌, ◌∷◌, ◌++◌}
+use Rattle.gm_pieces.specs.Common.{ℕ, Bool, true, false, cond, eqb, eqb-true, List, [], length, refl, sym, ap, ◌∙◌}
+use Rattle.gm_pieces.specs.Common.{arith, list_all, cond_both, length-map, is_plain, IsPlain, IsShown, plain_map, and_left, and_right, all_at, cell_text}
+use Rattle.gm_pieces.specs.Common.{map_once, AreTexts, texts_are_shown}
 use Rattle.gm_tactix.specs.Segments.{first_cell, segment_length, is_segment, segments}
 use Rattle.gm_tactix.specs.Board.{side_of, tactix, tactix_rules}
 use Rattle.gm_tactix.specs.laws.SegmentFacts.{for_sides, square_small, in_segments}

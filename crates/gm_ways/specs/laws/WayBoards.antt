@@ -1,17 +1,8 @@
 -- Boards of points: numbers of pieces, lines, and what images keep of them.
-use Rattle.std.proofs.Common.{◌≡◌, ℕ, Bool, true, false, cond, eqb-true, eq-eqb, List, length, None, Some, refl, sym, ap, ◌∙◌}
-use Rattle.std.specs.List.{Contains}
-use Rattle.std.proofs.lemmas.Bool.{cond-false, true≢false}
-use Rattle.gm_game.specs.declared.position.End.TheVariants.{Lose}
-use Rattle.gm_board.specs.declared.cell.Cell.{Cell}
-use Rattle.gm_board.specs.declared.cell.Cell.TheVariants.{Empty}
-use Rattle.gm_board.specs.laws.Lists.{and_left, and_right, and_both}
-use Rattle.gm_board.specs.Cells.{is_mine, is_theirs}
-use Rattle.gm_board.specs.Groups.{image_length}
-use Rattle.gm_board.specs.Patterns.{has_filled, filled_image}
-use Rattle.gm_board.specs.Permutations.{permute}
-use Rattle.gm_pieces.specs.laws.CellFacts.{image_number}
-use Rattle.gm_pieces.specs.laws.NumberFacts.{HasNumbers}
+use Rattle.std.specs.Prelude.{◌≡◌}
+use Rattle.gm_pieces.specs.Common.{ℕ, Bool, true, false, cond, eqb-true, eq-eqb, List, length, None, Some, refl, sym, ap, ◌∙◌, Contains, cond-false}
+use Rattle.gm_pieces.specs.Common.{true≢false, Lose, Cell, Empty, and_left, and_right, and_both, is_mine, is_theirs, image_length, has_filled, filled_image}
+use Rattle.gm_pieces.specs.Common.{permute, image_number, HasNumbers}
 use Rattle.gm_ways.specs.Ways.{WayGame, has_numbers, legal, over}
 use Rattle.gm_ways.specs.WayTables.{IsWayGame}
 use Rattle.gm_ways.specs.laws.WayFacts.{group}

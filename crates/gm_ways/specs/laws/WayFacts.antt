@@ -1,14 +1,9 @@
 -- What the tables of a game on points say.
-use Rattle.std.proofs.Common.{◌≡◌, ℕ, zero, suc, ◌*◌, ◌<◌, ◌≤◌, Bool, true, false, eqb, ltb, eqb-true, eq-eqb, ltb-true, leb-true, if◌then◌else◌, List, [], ◌∷◌, length, get_or, sym, ap, ◌∙◌, subst, arith, inl, inr}
-use Rattle.std.specs.List.{Contains, filter, list_all, list_any, range_with_len}
-use Rattle.std.proofs.lemmas.Bool.{cases_lt, true≢false}
-use Rattle.std.proofs.lemmas.List.{get_or_past}
-use Rattle.gm_game.specs.Shown.{is_plain}
-use Rattle.gm_board.specs.laws.Lists.{and_left, and_right, contains_range}
-use Rattle.gm_board.specs.Permutations.{all_at}
-use Rattle.gm_board.specs.Groups.{IsGroup, group_from_table, any_at}
-use Rattle.gm_pieces.specs.Steps.{from_point, to_point}
-use Rattle.gm_pieces.specs.laws.StepFacts.{number_below}
+use Rattle.std.specs.Prelude.{◌≡◌, ◌*◌, ◌<◌, ◌≤◌, if◌then◌else◌, ◌∷◌}
+use Rattle.gm_pieces.specs.Common.{ℕ, zero, suc, Bool, true, false, eqb, ltb, eqb-true, eq-eqb, ltb-true, leb-true, List}
+use Rattle.gm_pieces.specs.Common.{[], length, get_or, sym, ap, ◌∙◌, subst, arith, inl, inr, Contains, filter, list_all, list_any, range_with_len}
+use Rattle.gm_pieces.specs.Common.{cases_lt, true≢false, get_or_past, is_plain, and_left, and_right, contains_range, all_at, IsGroup, group_from_table, any_at}
+use Rattle.gm_pieces.specs.Common.{from_point, to_point, number_below}
 use Rattle.gm_ways.specs.Ways.{WayGame, are_joined}
 use Rattle.gm_ways.specs.WayTables.{IsWayGame, is_step, keeps_way}
 

@@ -1,11 +1,7 @@
 -- A game whose tables are right has the laws of a game.
-use Rattle.std.proofs.Common.{ℕ, ◌<◌, eqb, if◌then◌else◌, refl, sym, subst, arith, inl}
-use Rattle.gm_game.specs.Boards.{IsNumbered}
-use Rattle.gm_board.specs.declared.cell.Cell.TheVariants.{Empty}
-use Rattle.gm_board.specs.Arrangements.{arrangements, arrangements_fit}
-use Rattle.gm_pieces.specs.MoveGames.{board_game, IsMoveGame, IsMoveSymmetric}
-use Rattle.gm_pieces.specs.laws.Images.{permuted_group}
-use Rattle.gm_pieces.specs.laws.NumberFacts.{index_below, board_back, index_back}
+use Rattle.std.specs.Prelude.{◌<◌, if◌then◌else◌}
+use Rattle.gm_pieces.specs.Common.{ℕ, eqb, refl, sym, subst, arith, inl, IsNumbered, Empty, arrangements, arrangements_fit, board_game}
+use Rattle.gm_pieces.specs.Common.{IsMoveGame, IsMoveSymmetric, permuted_group, index_below, board_back, index_back}
 use Rattle.gm_ways.specs.Ways.{WayGame, legal, way_game}
 use Rattle.gm_ways.specs.WayTables.{IsWayGame}
 use Rattle.gm_ways.specs.laws.WayFacts.{group}

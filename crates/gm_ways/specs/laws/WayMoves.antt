@@ -1,23 +1,10 @@
 -- Moves along ways: what they leave, the boards before a board, and moves of images.
-use Rattle.std.proofs.Common.{◌≡◌, ℕ, ◌*◌, ◌<◌, ◌≤◌, true, ◌&&◌, List, map, length, get_or, set, sym, ap, ap₂, ◌∙◌, subst, arith}
-use Rattle.std.specs.List.{Contains, filter, range_with_len}
-use Rattle.std.proofs.lemmas.List.{length-map}
-use Rattle.gm_board.specs.declared.cell.Cell.{Cell}
-use Rattle.gm_board.specs.declared.cell.Cell.TheVariants.{Empty, Mine}
-use Rattle.gm_board.specs.laws.Lists.{and_left, and_right, and_both}
-use Rattle.gm_board.specs.laws.Filters.{filter_few}
-use Rattle.gm_board.specs.laws.Turned.{permute_turned}
-use Rattle.gm_board.specs.laws.CellCounts.{mine_cell, their_cell, empty_cell, mine_turned, theirs_turned}
-use Rattle.gm_board.specs.BoardMasks.{turned}
-use Rattle.gm_board.specs.Cells.{is_mine, is_theirs, is_empty, cell_at}
-use Rattle.gm_board.specs.Groups.{image_slide}
-use Rattle.gm_board.specs.Permutations.{permute}
-use Rattle.gm_pieces.specs.Steps.{step_number, from_point, to_point}
-use Rattle.gm_pieces.specs.Sides.{gone, IsStep, WasStep}
-use Rattle.gm_pieces.specs.MoveGames.{steps, IsMove}
-use Rattle.gm_pieces.specs.laws.CellFacts.{filled_turned, image_cell}
-use Rattle.gm_pieces.specs.laws.MoveFacts.{step_left, gone_again, back_again}
-use Rattle.gm_pieces.specs.laws.StepFacts.{from_back, to_back}
+use Rattle.std.specs.Prelude.{◌≡◌, ◌*◌, ◌<◌, ◌≤◌, ◌&&◌}
+use Rattle.gm_pieces.specs.Common.{ℕ, true, List, map, length, get_or, set, sym, ap, ap₂, ◌∙◌, subst, arith, Contains, filter}
+use Rattle.gm_pieces.specs.Common.{range_with_len, length-map, Cell, Empty, Mine, and_left, and_right, and_both, filter_few, permute_turned, mine_cell}
+use Rattle.gm_pieces.specs.Common.{their_cell, empty_cell, mine_turned, theirs_turned, turned, is_mine, is_theirs, is_empty, cell_at, image_slide, permute}
+use Rattle.gm_pieces.specs.Common.{step_number, from_point, to_point, gone, IsStep, WasStep, steps, IsMove, filled_turned, image_cell, step_left, gone_again}
+use Rattle.gm_pieces.specs.Common.{back_again, from_back, to_back}
 use Rattle.gm_ways.specs.Ways.{WayGame, legal, are_joined, can_go, can_move, moved, was_moved, taken_back, way_game}
 use Rattle.gm_ways.specs.WayTables.{IsWayGame, is_step}
 use Rattle.gm_ways.specs.laws.WayFacts.{joined_from, joined_to, step_below, steps_few, group, kept}

@@ -1,13 +1,7 @@
 -- Texts are plain, fit a line, and tell positions and moves apart.
-use Rattle.std.proofs.Common.{◌≡◌, ℕ, true, length, refl, arith}
-use Rattle.gm_game.specs.Shown.{IsPlain, IsShown}
-use Rattle.gm_board.specs.laws.Lists.{and_both}
-use Rattle.gm_pieces.specs.Steps.{from_point, to_point}
-use Rattle.gm_pieces.specs.SideTexts.{board_text}
-use Rattle.gm_pieces.specs.MoveTexts.{AreTexts}
-use Rattle.gm_pieces.specs.laws.StepFacts.{same_step}
-use Rattle.gm_pieces.specs.laws.TextFacts.{texts_are_shown}
-use Rattle.gm_pieces.specs.laws.SideTextFacts.{text_length, text_once, text_plain}
+use Rattle.std.specs.Prelude.{◌≡◌}
+use Rattle.gm_pieces.specs.Common.{ℕ, true, length, refl, arith, IsPlain, IsShown, and_both, from_point, to_point, board_text, AreTexts, same_step}
+use Rattle.gm_pieces.specs.Common.{texts_are_shown, text_length, text_once, text_plain}
 use Rattle.gm_ways.specs.Ways.{WayGame, way_game, way_rules}
 use Rattle.gm_ways.specs.WayTables.{IsWayGame, is_step}
 use Rattle.gm_ways.specs.WayTexts.{step_text, way_text, way_move_text}

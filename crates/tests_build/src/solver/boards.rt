@@ -45,14 +45,7 @@ fn board_by_hand(rt: HostRuntime) {
     take_steps::<Countdown<10>, _>(&rt, 6, 1, &ONE_BY_ONE, (1, 0));
 }
 
-const TWO_AT_ONCE: [Step; 2] = [(Deed::Twice(1), 0, (1, 0)), (Deed::Twice(0), 1, (1, 0))];
-
-#[test]
-fn board_by_hand_many_at_once(rt: HostRuntime) {
-    take_steps::<Countdown<10>, _>(&rt, 6, 1, &TWO_AT_ONCE, (1, 0));
-}
-
-const CALLS: [Call; 3] = [Call::Deliver, Call::DeliverAt, Call::DeliverAll];
+const CALLS: [Call; 2] = [Call::Deliver, Call::DeliverAt];
 
 // Index 1 has the one move to 0.
 #[test]

@@ -1,7 +1,7 @@
 //! A board of four shards, as callers with workers of their own use it.
 ghost use Rattle.std.specs.Prelude.{◌≡◌, ◌<◌};
 ghost use Rattle.gm_desk.specs.Spots.{spot_of, AreFourTiles};
-ghost use Rattle.gm_desk.specs.Batches.{ArePlaced};
+ghost use Rattle.gm_deliveries.specs.Delivery.{IsPlaceOf};
 
 use crate::expect::expect_eq;
 use gm_deliveries::place::place_of;
@@ -22,7 +22,6 @@ use std::thread::{Threads, join};
 pub enum Call {
     Deliver,
     DeliverAt,
-    DeliverAll,
 }
 
 /// What is done with the pair of a note and a parent on a board, and what must come of it.
@@ -30,8 +29,6 @@ pub enum Call {
 pub enum Deed {
     /// It is delivered to a shard, which answers so.
     Once(Result<Delivery, Refused>),
-    /// It is delivered to a shard twice under one lock, which is new so often.
-    Twice(u64),
     /// It is delivered by a call while another thread holds the lock of shard 0, reads this counter of an index, and waits for the answer: so many pairs are new.
     Meanwhile(Call, u64, Option<u32>, u64),
 }
@@ -75,45 +72,25 @@ fn hold<G: Game, A: Desk, B: Desk, C: Desk, D: Desk, R: Wait>(
     (counter, came)
 }
 
-// Delivers pairs to a shard one after another, each with the place that stands with it: how many are new.
-fn deliver_each<G: Game, A: Desk, B: Desk, C: Desk, D: Desk, R: Wait>(
-    rt: &R,
-    board: &Board<G, A, B, C, D>,
-    shares: &mut Shares<A, B, C, D>,
-    shard: usize,
-    pairs: &[(Note<G>, u64, Option<u32>)],
-) -> u64
-    requires shard { shard < 4 }
-    requires places { ArePlaced G.rules A.spot.tier pairs.now }
-{
-    let mut new = 0u64;
-    for (note, parent, place) in pairs {
-        let answer = board.deliver_at(rt, shard, note, *parent, *place, shares);
-        new = new.saturating_add(gained(&answer));
-    }
-    new
-}
+// A note and a parent, with the place of the note's position among the parent's children.
+type Pair<'a, G> = (&'a Note<G>, u64, Option<u32>);
 
-// Delivers pairs to a shard by a call, which takes the first of them or all: how many are new.
+// Delivers a pair to a shard by a call: how many are new.
 fn deliver_by<G: Game, A: Desk, B: Desk, C: Desk, D: Desk, R: Wait>(
     rt: &R,
     board: &Board<G, A, B, C, D>,
     shares: &mut Shares<A, B, C, D>,
     call: Call,
     shard: usize,
-    pairs: &[(Note<G>, u64, Option<u32>)],
+    pair: Pair<G>,
 ) -> u64
     requires shard { shard < 4 }
-    requires places { ArePlaced G.rules A.spot.tier pairs.now }
+    requires place { IsPlaceOf G.rules pair.0.now.position A.spot.tier pair.1 pair.2 }
 {
-    if pairs.is_empty() {
-        return 0;
-    }
-    let (note, parent, _) = &pairs[0];
+    let (note, parent, place) = pair;
     match call {
-        Call::Deliver => gained(&board.deliver(rt, shard, note, *parent, shares)),
-        Call::DeliverAt => deliver_each(rt, board, shares, shard, pairs),
-        Call::DeliverAll => board.deliver_all(rt, shard, pairs, shares),
+        Call::Deliver => gained(&board.deliver(rt, shard, note, parent, shares)),
+        Call::DeliverAt => gained(&board.deliver_at(rt, shard, note, parent, place, shares)),
     }
 }
 
@@ -125,13 +102,13 @@ fn deliver_meanwhile<G: Game, A: Desk, B: Desk, C: Desk, D: Desk, R: Wait>(
     marks: (&Mutex<bool>, &Mutex<bool>),
     call: Call,
     shard: usize,
-    pairs: &[(Note<G>, u64, Option<u32>)],
+    pair: Pair<G>,
 ) -> u64
     requires shard { shard < 4 }
-    requires places { ArePlaced G.rules A.spot.tier pairs.now }
+    requires place { IsPlaceOf G.rules pair.0.now.position A.spot.tier pair.1 pair.2 }
 {
     let _read = comes(rt, marks.0);
-    let new = deliver_by(rt, board, shares, call, shard, pairs);
+    let new = deliver_by(rt, board, shares, call, shard, pair);
     *marks.1.lock(rt) = true;
     new
 }
@@ -151,21 +128,21 @@ fn run_both<
     index: u64,
     call: Call,
     shard: usize,
-    pairs: &[(Note<G>, u64, Option<u32>)],
+    pair: Pair<G>,
 ) -> ((Option<u32>, bool), u64)
     requires shard { shard < 4 }
-    requires places { ArePlaced G.rules A.spot.tier pairs.now }
+    requires place { IsPlaceOf G.rules pair.0.now.position A.spot.tier pair.1 pair.2 }
 {
     let read = Mutex::new(false);
     let answered = Mutex::new(false);
     join(
         rt,
         || hold(rt, board, &read, &answered, index),
-        || deliver_meanwhile(rt, board, shares, (&read, &answered), call, shard, pairs),
+        || deliver_meanwhile(rt, board, shares, (&read, &answered), call, shard, pair),
     )
 }
 
-// Takes these steps, each with the same pair, of which there are two.
+// Takes these steps, each with the same pair.
 fn take_steps<
     G: Game + Send + Sync,
     A: Desk + Send + Sync,
@@ -177,23 +154,20 @@ fn take_steps<
     rt: &R,
     board: &Board<G, A, B, C, D>,
     shares: &mut Shares<A, B, C, D>,
-    pairs: &[(Note<G>, u64, Option<u32>)],
+    pair: Pair<G>,
     steps: &[Step],
 )
-    requires { ArePlaced G.rules A.spot.tier pairs.now }
+    requires { IsPlaceOf G.rules pair.0.now.position A.spot.tier pair.1 pair.2 }
 {
     for (deed, shard, amounts) in steps {
-        assert!(rt; *shard < 4 && !pairs.is_empty());
-        let (note, parent, _) = &pairs[0];
+        assert!(rt; *shard < 4);
+        let (note, parent, _) = pair;
         match *deed {
             Deed::Once(answer) => {
-                expect_eq(rt, board.deliver(rt, *shard, note, *parent, shares), answer);
-            }
-            Deed::Twice(new) => {
-                expect_eq(rt, board.deliver_all(rt, *shard, pairs, shares), new);
+                expect_eq(rt, board.deliver(rt, *shard, note, parent, shares), answer);
             }
             Deed::Meanwhile(call, index, counter, new) => {
-                let found = run_both(rt, board, shares, index, call, *shard, pairs);
+                let found = run_both(rt, board, shares, index, call, *shard, pair);
                 expect_eq(rt, found, ((counter, true), new));
             }
         }
@@ -226,10 +200,7 @@ fn named<
 {
     let place = place_of(note, shards.a.tier(), parent);
     let (board, mut shares) = Board::<G, A, B, C, D>::around(1, blanks, shards);
-    let one = Note::of(note.position(), note.solved());
-    let other = Note::of(note.position(), note.solved());
-    let pairs = [(one, parent, place), (other, parent, place)];
-    take_steps(rt, &board, &mut shares, &pairs, steps);
+    take_steps(rt, &board, &mut shares, (note, parent, place), steps);
     assert!(rt; shares.parts() == 1);
     let shards = board.into_shards(shares);
     expect_eq(rt, (shards.a.delivered(), shards.b.delivered()), delivered);

@@ -1,24 +1,23 @@
 //! Desks that are delivered to in order, as callers with workers of their own use them.
-ghost use Rattle.std.specs.Prelude.{◌≡◌, ◌<◌, ◌≤◌};
+ghost use Rattle.std.specs.Prelude.{◌≡◌, ◌-◌, ◌<◌, ◌≤◌, IfOk};
 ghost use Rattle.gm_deliveries.specs.State.{pairs_in};
 ghost use Rattle.gm_deliveries.specs.Begin.{first_state};
 ghost use Rattle.gm_desk.specs.Spots.{spot_of};
 ghost use Rattle.gm_desk.specs.Rounds.{place_of_spot, HasNoneHere, IsForSpot, IsLevelAt};
 
 use crate::expect::{expect, expect_eq, must};
-use crate::solver::shards::closes;
 use gm_deliveries::status::{Delivery, Refused};
 use gm_desk::pass::{Pass, PassDesk, Round};
 use gm_frontier::expected::Expected;
 use gm_frontier::level::Level;
 use gm_game::game::Game;
-use gm_game::limits::TIER_SIZE;
-use gm_shard::shard::Shard;
-use gm_solver::starts::begin_range;
+use gm_game::limits::{REMOTENESS, TIER_SIZE};
+use gm_shard::ordered::OrderedShard;
+use gm_solver::starts::starts;
 use gm_table::tables::Tables;
 use gm_testing::by_hand::begin_whole;
 use gm_toys::countdown::Countdown;
-use std::alloc::Global;
+use std::alloc::{AllocError, Global};
 use std::marker::Brand;
 use std::process::Abort;
 use std::sync::Wait;
@@ -55,7 +54,7 @@ fn answers<G: Game, L: Round, R: Wait>(
 fn pass_named<G: Game, L: Round, R: Wait + Abort>(
     rt: &R,
     blank: Blank,
-    shard: Shard<G>,
+    shard: OrderedShard<G>,
     level: &Level<G>,
     expected: &Expected<G>,
     told: &[Told],
@@ -68,6 +67,7 @@ fn pass_named<G: Game, L: Round, R: Wait + Abort>(
     requires base { pairs_in shard ≡ L.base }
     requires none { HasNoneHere G.rules shard }
     requires is_for { IsForSpot expected.now L.spot }
+    requires near { L.spot.level ≤ REMOTENESS }
 {
     let (desk, mut pass) = PassDesk::<G, L>::around(blank, shard, level);
     expect_eq(rt, pass.full(expected), told.is_empty());
@@ -75,8 +75,24 @@ fn pass_named<G: Game, L: Round, R: Wait + Abort>(
     assert!(rt; pass.full(expected));
     let mut shard = desk.into_whole(pass, expected);
     expect_eq(rt, shard.delivered(), delivered);
-    closes(rt, &mut shard, expected, Ok(()));
+    shard.close();
+    expect_eq(rt, shard.place().level, 1);
     drop(shard);
+}
+
+// The shard of the indexes of a tier from `lo` up to `hi`, before the first level.
+fn ordered_range<G: Game>(
+    alloc: Global,
+    tier: u64,
+    lo: u64,
+    hi: u64,
+) -> Result<OrderedShard<G>, AllocError>
+    requires order { lo ≤ hi }
+    requires within { hi ≤ TIER_SIZE }
+    ensures { IfOk result (λ shard. shard ≡ first_state tier lo (hi - lo)) }
+{
+    let list = starts::<G>(alloc, tier, lo, hi)?;
+    OrderedShard::begin(alloc, tier, lo, list.as_slice())
 }
 
 // Delivers the first level of a tier at a desk round the indexes from `lo` up to `hi`, which answers so.
@@ -94,7 +110,7 @@ fn pass_by_hand<G: Game, R: Wait + Abort>(
     requires within { hi ≤ TIER_SIZE }
 {
     let tier = level.tier();
-    let shard = must(rt, begin_range::<G>(alloc, tier, lo, hi));
+    let shard = must(rt, ordered_range::<G>(alloc, tier, lo, hi));
     let mut expected = Expected::start(tier, lo, hi);
     expected.add(level);
     let blank = Blank::new(1);

@@ -17,11 +17,9 @@ use gm_game::position::{Solved, Value};
 use gm_shard::event::Event;
 use gm_shard::replay::replay;
 use gm_shard::shard::Shard;
-use gm_solver::phase::finish_phase;
-use gm_solver::starts::begin_tier;
 use gm_table::packed::Packed;
 use gm_table::tables::Tables;
-use gm_testing::by_hand::{at_ties, begin_whole, last_of};
+use gm_testing::by_hand::{at_ties, begin_counted, begin_whole, finish_phase, last_of};
 use gm_toys::countdown::Countdown;
 use gm_toys::wheel::Wheel;
 use std::alloc::Global;
@@ -214,18 +212,16 @@ fn check_counters<G: Game>(rt: &impl Abort, shard: &Shard<G>) {
 fn wheel_by_hand(rt: HostRuntime) {
     let alloc = rt.alloc();
     let tables: Tables<Wheel> = Tables::new(alloc);
-    let (mut shard, lists, mut expected) = must(&rt, begin_tier::<Wheel>(alloc, 0, &tables));
-    let last = must(
-        &rt,
-        finish_phase(alloc, &mut shard, &lists, &mut expected, &tables),
+    let (mut shard, mut expected) = must(&rt, begin_counted::<Wheel>(alloc, 0));
+    let last = must(&rt, finish_phase(alloc, &mut shard, &mut expected, &tables)).expect(
+        &rt, "the end",
     );
     shard.next_phase(&last);
     expected.next_phase(&last);
-    let _last = must(
-        &rt,
-        finish_phase(alloc, &mut shard, &lists, &mut expected, &tables),
+    let _last = must(&rt, finish_phase(alloc, &mut shard, &mut expected, &tables)).expect(
+        &rt, "the end",
     );
     expect_eq(&rt, (shard.delivered(), expected.number()), (9, 9));
     check_counters(&rt, &shard);
-    drop((shard, lists, expected, tables));
+    drop((shard, expected, tables));
 }

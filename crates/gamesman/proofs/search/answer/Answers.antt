@@ -5,3 +5,6 @@ write_counts-requires-clause-order g c = rw c.in-Counts.is at c.requires.order
 
 pub write_longest-requires-clause-order : goal.write_longest-requires-clause-order
 write_longest-requires-clause-order g c = rw c.in-Longest.is at c.requires.order
+
+pub write_found-requires-clause-order : goal.write_found-requires-clause-order
+write_found-requires-clause-order g c = rw c.in-Find.is at c.requires.order

@@ -1,29 +1,14 @@
 use Rattle.std.proofs.Common.{arith}
-use Rattle.gm_board.proofs.PackSteps.{packing, pack_turn, pack_done}
+use Rattle.gm_board.proofs.PackSteps.{pack_turn, pack_done}
 use Rattle.gm_board.proofs.arrangement.pack.Goals as goal
-
-pub loop-rest-init : goal.loop-rest-init
-loop-rest-init c = packing c.args.cells c.args.mine c.args.theirs
-
-pub overflow_shr-packed : goal.overflow_shr-packed
-overflow_shr-packed c =
-    let t = pack_turn _ _ _ _ _ _ c.loop-rest.invariant c.requires.mine c.requires.apart (omega arith) (omega arith) (omega arith) in omega (arith, t.shift)
 
 pub overflow_sub-packed : goal.overflow_sub-packed
 overflow_sub-packed c =
     let t = pack_turn _ _ _ _ _ _ c.loop-rest.invariant c.requires.mine c.requires.apart (omega arith) (omega arith) (omega arith) in t.passed_le
 
-pub overflow_shl-packed : goal.overflow_shl-packed
-overflow_shl-packed c =
-    let t = pack_turn _ _ _ _ _ _ c.loop-rest.invariant c.requires.mine c.requires.apart (omega arith) (omega arith) (omega arith) in omega (arith, t.shift)
-
 pub overflow_sub-packed-in-loop-rest : goal.overflow_sub-packed-in-loop-rest
 overflow_sub-packed-in-loop-rest c =
     let t = pack_turn _ _ _ _ _ _ c.loop-rest.invariant c.requires.mine c.requires.apart (omega arith) (omega arith) (omega arith) in rw t.whole t.fits
-
-pub overflow_add-passed : goal.overflow_add-passed
-overflow_add-passed c =
-    let t = pack_turn _ _ _ _ _ _ c.loop-rest.invariant c.requires.mine c.requires.apart (omega arith) (omega arith) (omega arith) in omega (arith, t.shift, t.passed_le)
 
 pub loop-rest-preserved : goal.loop-rest-preserved
 loop-rest-preserved c =

@@ -1,9 +1,6 @@
 use Rattle.std.proofs.Common.{arith}
-use Rattle.gm_board.proofs.PackSteps.{spreading, spread_turn, spread_done, spread_fits}
+use Rattle.gm_board.proofs.PackSteps.{spread_turn, spread_done, spread_fits}
 use Rattle.gm_board.proofs.arrangement.spread.Goals as goal
-
-pub loop-rest-init : goal.loop-rest-init
-loop-rest-init c = rw c.from-theirs.ensures (spreading c.args.cells c.args.mine c.args.packed (omega arith))
 
 pub overflow_add-theirs : goal.overflow_add-theirs
 overflow_add-theirs c =

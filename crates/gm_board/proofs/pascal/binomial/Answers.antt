@@ -1,11 +1,7 @@
-use Rattle.std.proofs.Common.{◌<◌, length, [], refl, sym, arith}
-use Rattle.gm_board.specs.Binomials.{binomial_past}
+use Rattle.std.proofs.Common.{◌<◌, length, [], refl, arith}
 use Rattle.gm_board.specs.declared.pascal.TheConstants.{ROWS}
 use Rattle.gm_board.proofs.PascalRows.{triangle_is}
 use Rattle.gm_board.proofs.pascal.binomial.Goals as goal
-
-pub returns-then-k-gt32-clause-value : goal.returns-then-k-gt32-clause-value
-returns-then-k-gt32-clause-value c = let far : c.args.n < c.args.k = omega arith in sym (binomial_past c.args.n c.args.k far)
 
 pub returns-clause-value : goal.returns-clause-value
 returns-clause-value c =

@@ -11,6 +11,3 @@ overflow_add-result c =
     let e : c.short_rank.result + c.from.result ≡ mask_rank m =
     ap (λ (b : ℕ). c.short_rank.result + b) c.from.ensures ∙ long_rank_is m (m % 2 ^ 16) (m / 2 ^ 16) c.short_rank.result c.requires refl refl c.short_rank.ensures in
     omega (arith, e, mask_rank_below 25 m (omega arith) c.requires, binomial_small 25 (count_ones m) (omega arith))
-
-pub returns : goal.returns
-returns c = ap (λ (b : ℕ). c.short_rank.result + b) c.from.ensures ∙ long_rank_is c.args.mask (c.args.mask % 2 ^ 16) (c.args.mask / 2 ^ 16) c.short_rank.result c.requires refl refl c.short_rank.ensures

@@ -2,25 +2,14 @@ use Rattle.std.proofs.Common.{ℕ, ◌<◌, sym, ap, ◌∙◌, subst, arith}
 use Rattle.std.specs.Prelude.{count_ones}
 use Rattle.gm_board.specs.Binomials.{binomial as binomial_of}
 use Rattle.gm_board.specs.Masks.{mask_rank_below, mask_unrank, mask_unrank_rank}
-use Rattle.gm_board.proofs.RankSteps.{counted_low, counted_small, lowest_below, counted_more, counted_all}
+use Rattle.gm_board.proofs.RankSteps.{counted_small, counted_all}
 use Rattle.gm_board.proofs.subset.rank_subset.Goals as goal
-
-pub loop-rest-init : goal.loop-rest-init
-loop-rest-init c = rw c.long_rank-rank.ensures (counted_low c.args.mask)
 
 pub overflow_add-members : goal.overflow_add-members
 overflow_add-members c = let s = counted_small _ _ _ _ c.loop-rest.invariant in omega arith
 
-pub binomial-rank-requires : goal.binomial-rank-requires
-binomial-rank-requires c =
-    let l = lowest_below _ _ _ _ c.loop-rest.invariant (omega arith) (omega arith) in omega arith
-
 pub overflow_add-rank : goal.overflow_add-rank
 overflow_add-rank c = let s = counted_small _ _ _ _ c.loop-rest.invariant in omega arith
-
-pub loop-rest-preserved : goal.loop-rest-preserved
-loop-rest-preserved c =
-    rw c.binomial-rank.ensures.value (counted_more _ _ _ _ c.loop-rest.invariant (omega arith) (omega arith))
 
 pub returns-clause-value : goal.returns-clause-value
 returns-clause-value c = counted_all _ _ _ _ c.loop-rest.invariant c.loop-rest-test.false

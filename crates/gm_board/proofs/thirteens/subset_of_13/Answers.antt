@@ -1,5 +1,5 @@
-use Rattle.std.proofs.Common.{◌∙◌, arith}
-use Rattle.gm_board.proofs.ThirteenSteps.{few_members, place_below, thirteen_at}
+use Rattle.std.proofs.Common.{arith}
+use Rattle.gm_board.proofs.ThirteenSteps.{few_members, place_below}
 use Rattle.gm_board.proofs.thirteens.subset_of_13.Goals as goal
 
 pub bounds-members : goal.bounds-members
@@ -13,6 +13,3 @@ offset_bounds-members-2 c = let p = place_below c.args.members c.args.rank c.req
 
 pub bounds-members-2 : goal.bounds-members-2
 bounds-members-2 c = place_below c.args.members c.args.rank c.requires
-
-pub returns : goal.returns
-returns c = c.from.ensures ∙ thirteen_at c.args.members c.args.rank c.requires

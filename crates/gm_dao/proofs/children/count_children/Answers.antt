@@ -1,6 +1,5 @@
-use Rattle.std.proofs.Common.{ap, length, sym, ◌∙◌}
-use Rattle.gm_dao.proofs.ChildSteps.{not_some}
-use Rattle.gm_dao.proofs.CountSteps.{counted}
+use Rattle.gm_pieces.specs.Common.{ap, length, sym, ◌∙◌}
+use Rattle.gm_dao.proofs.CountSteps.{counted, not_some}
 use Rattle.gm_dao.proofs.children.count_children.Goals as goal
 
 pub returns-in-Some : goal.returns-in-Some

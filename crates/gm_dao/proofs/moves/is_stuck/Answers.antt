@@ -1,7 +1,5 @@
-use Rattle.std.proofs.Common.{◌≡◌, ℕ, List, [], length, sym, ap, arith, eq-eqb}
-use Rattle.gm_board.specs.Images.{board_of}
-use Rattle.gm_board.specs.NextCells.{next_cell, cell_below}
-use Rattle.gm_pieces.specs.MoveGames.{steps}
+use Rattle.std.specs.Prelude.{◌≡◌}
+use Rattle.gm_pieces.specs.Common.{ℕ, List, [], length, sym, ap, arith, eq-eqb, board_of, next_cell, cell_below, steps}
 use Rattle.gm_dao.specs.DaoRules.{dao}
 use Rattle.gm_dao.proofs.LoopSteps.{goals_are, moves_skip, moves_end, goal_found, goals_none}
 use Rattle.gm_dao.proofs.moves.is_stuck.Goals as goal

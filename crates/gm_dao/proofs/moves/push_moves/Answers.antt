@@ -1,8 +1,5 @@
-use Rattle.std.proofs.Common.{◌<◌, length, sym, ◌∙◌, arith}
-use Rattle.gm_board.specs.Images.{board_of}
-use Rattle.gm_board.specs.NextCells.{next_cell, cell_below}
-use Rattle.gm_board.specs.laws.Filters.{filter_room}
-use Rattle.gm_pieces.specs.MoveGames.{steps}
+use Rattle.std.specs.Prelude.{◌<◌}
+use Rattle.gm_pieces.specs.Common.{length, sym, ◌∙◌, arith, board_of, next_cell, cell_below, filter_room, steps}
 use Rattle.gm_dao.specs.DaoRules.{can_move, numbers_end}
 use Rattle.gm_dao.proofs.LoopSteps.{AreGoals, goals_are, goals_skip, goals_end, move_more}
 use Rattle.gm_dao.proofs.moves.push_moves.Goals as goal

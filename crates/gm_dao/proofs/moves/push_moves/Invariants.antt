@@ -1,5 +1,5 @@
-use Rattle.std.proofs.Common.{◌≡◌, ◌+◌, ◌*◌, ◌-◌, ◌/◌, ◌^◌, ◌≤◌}
-use Rattle.gm_board.specs.Images.{board_of}
+use Rattle.std.specs.Prelude.{◌≡◌, ◌+◌, ◌*◌, ◌-◌, ◌/◌, ◌^◌, ◌≤◌}
+use Rattle.gm_pieces.specs.Common.{board_of}
 use Rattle.gm_dao.specs.MaskSlides.{AreMovesBelow}
 use Rattle.gm_dao.proofs.moves.push_moves.Given as goal
 

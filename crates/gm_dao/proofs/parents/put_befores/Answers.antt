@@ -1,15 +1,8 @@
-use Rattle.std.proofs.Common.{sym, ◌∙◌, arith}
-use Rattle.std.specs.Prelude.{bit_and}
-use Rattle.gm_board.specs.laws.Lists.{and_left}
-use Rattle.gm_board.specs.Images.{board_of}
-use Rattle.gm_board.specs.laws.CellCounts.{their_cell, empty_cell}
-use Rattle.gm_board.specs.NextCells.{next_cell, cell_below}
+use Rattle.gm_pieces.specs.Common.{sym, ◌∙◌, arith, bit_and, and_left, board_of, their_cell, empty_cell, next_cell, cell_below, their_cells, before_at, befores}
 use Rattle.gm_pieces.specs.laws.Listed.{put_room}
-use Rattle.gm_pieces.specs.laws.MaskFacts.{their_cells}
-use Rattle.gm_pieces.specs.MoveGames.{before_at, befores}
 use Rattle.gm_dao.specs.DaoRules.{numbers_end, least_index_of, dao}
 use Rattle.gm_dao.specs.laws.BoardFacts.{legal_in}
-use Rattle.gm_dao.proofs.LoopSteps.{moved_within, moved_cell, befores_skip, befores_end, before_less, before_more}
+use Rattle.gm_dao.proofs.LoopSteps.{moved_within, moved_cell, befores_skip, before_less, before_more}
 use Rattle.gm_dao.proofs.parents.put_befores.Goals as goal
 use Rattle.gm_dao.proofs.parents.put_befores.Goals.{in-Some, in-None}
 
@@ -64,16 +57,3 @@ loop-rest-preserved c =
         | in-None w ↦ rw w.list-is (before_less t (board_of 16 a b) c.args.from _ c.loop-rest.list.items w.in-None.ensures skipped)
       ];
     }
-
-pub returns : goal.returns
-returns c =
-    let i = c.loop-rest.invariant in
-    befores_end c.args.tier c.args.board.mine c.args.board.theirs _ c.args.from c.loop-rest.next c.loop-rest.rest c.loop-rest.list.items c.args.board.theirs_within c.args.board.apart
-    i.within c.in_line_with.ensures.cells i.is_rest c.loop-rest-test.false i.below
-
-pub loop-rest-smaller : goal.loop-rest-smaller
-loop-rest-smaller c =
-    let m = bit_and c.args.board.theirs c.in_line_with.result in
-    let z = next_cell m c.loop-rest.next c.loop-rest.rest c.loop-rest.invariant.is_rest (omega arith) (omega arith) in
-    let l = cell_below m 16 _ (moved_within c.args.board.theirs _ c.args.board.theirs_within) z.has in
-    omega (arith, l)

@@ -1,4 +1,4 @@
-use Rattle.std.proofs.Common.{◌<◌, ◌-◌, ℕ, List, get_or, refl, sym, ◌∙◌, subst, arith}
+use Rattle.std.proofs.Common.{◌≡◌, true, ◌<◌, ◌-◌, ℕ, List, get_or, refl, sym, ◌∙◌, subst, arith, rules}
 use Rattle.std.specs.List.{Contains}
 use Rattle.std.proofs.lemmas.List.{take_all}
 use Rattle.std.proofs.lemmas.List.Elements.{Contains-get_or}
@@ -6,7 +6,7 @@ use Rattle.gm_game.specs.declared.position.Position.{Position}
 use Rattle.gm_game.specs.declared.position.Value.TheVariants.{Win}
 use Rattle.gm_game.specs.Values.{HasValue}
 use Rattle.gm_find.specs.Finding.{IsOnlyWin, IsOnlyAfter, IsOnlyDefence, AfterDefence}
-use Rattle.gm_find.proofs.Onlies.{each_more, turn_parts, turn_from, same_answer}
+use Rattle.gm_find.proofs.Onlies.{each_more, turn_parts, turn_from, same_answer, missing_here, missing_after}
 use Rattle.gm_find.proofs.only_line.+turns.Goals as goal
 
 pub are_only_defences-loop-e-preserved : goal.are_only_defences-loop-e-preserved
@@ -74,3 +74,20 @@ is_only_win-returns-clause-answer g t c =
           (λ m has. c.loop-m.invariant m (subst (λ (xs : List ℕ). Contains xs m) (sym all) has)),
       λ x. refl,
     )
+
+pub is_only_after-returns-then-keeps-clause-missing : goal.is_only_after-returns-then-keeps-clause-missing
+is_only_after-returns-then-keeps-clause-missing g t c = λ e. missing_after g.G.Game.rules c.args.tables.now c.args.p c.play.result c.args.m c.requires.listed c.play.ensures
+    (c.are_only_defences.ensures.missing e)
+
+pub is_only_defence-is_only_win-requires : goal.is_only_defence-is_only_win-requires
+is_only_defence-is_only_win-requires g t c κs within =
+    let legal = subst (λ (x : Position). g.G.Game.rules.is_legal x ≡ true) (sym c.play-p.ensures) (g.met.G.Game.lawful.play_legal c.args.q c.args.e c.requires.legal c.requires.listed) in
+    (search rules, (within, legal))
+
+pub is_only_defence-returns-then-branch-clause-missing : goal.is_only_defence-returns-then-branch-clause-missing
+is_only_defence-returns-then-branch-clause-missing g t c = λ e. missing_after g.G.Game.rules c.args.tables.now c.args.q c.play-p.result c.args.e c.requires.listed c.play-p.ensures
+    (c.is_only_win.ensures.missing e)
+
+pub is_only_defence-returns-in_err-is_win_in-clause-missing : goal.is_only_defence-returns-in_err-is_win_in-clause-missing
+is_only_defence-returns-in_err-is_win_in-clause-missing g t c = λ e. missing_after g.G.Game.rules c.args.tables.now c.args.q c.play-p.result c.args.e c.requires.listed c.play-p.ensures
+    (missing_here g.G.Game.rules c.args.tables.now c.play-p.result (c.in_err-is_win_in.ensures.missing refl))

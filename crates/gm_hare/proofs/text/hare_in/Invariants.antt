@@ -1,4 +1,5 @@
-use Rattle.std.proofs.Common.{◌≡◌, ◌<◌, ℕ, false, eqb, get_or}
+use Rattle.std.specs.Prelude.{◌≡◌, ◌<◌}
+use Rattle.gm_pieces.specs.Common.{ℕ, false, eqb, get_or}
 use Rattle.gm_hare.proofs.text.hare_in.Given as goal
 
 abbrev pub invariant-loop-place : goal.invariant-loop-place

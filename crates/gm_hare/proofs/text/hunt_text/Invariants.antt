@@ -1,5 +1,5 @@
-use Rattle.std.proofs.Common.{◌≡◌, map}
-use Rattle.std.specs.List.{range_with_len}
+use Rattle.std.specs.Prelude.{◌≡◌}
+use Rattle.gm_pieces.specs.Common.{map, range_with_len}
 use Rattle.gm_hare.specs.Texts.{hunt_char}
 use Rattle.gm_hare.proofs.text.hunt_text.Given as goal
 

@@ -1,4 +1,5 @@
-use Rattle.std.proofs.Common.{ℕ, ◌<◌, slice_index}
+use Rattle.std.specs.Prelude.{◌<◌}
+use Rattle.gm_pieces.specs.Lower.{ℕ, slice_index}
 use Rattle.gm_pieces.proofs.ascending.place_of.Given as goal
 
 abbrev pub invariant-loop-place : goal.invariant-loop-place

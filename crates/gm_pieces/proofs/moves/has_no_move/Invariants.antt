@@ -1,5 +1,5 @@
-use Rattle.std.proofs.Common.{◌≡◌, []}
-use Rattle.std.specs.List.{filter, range_with_len}
+use Rattle.std.specs.Prelude.{◌≡◌}
+use Rattle.gm_pieces.specs.Lower.{[], filter, range_with_len}
 use Rattle.gm_pieces.proofs.moves.has_no_move.Given as goal
 
 abbrev pub invariant-loop-number : goal.invariant-loop-number

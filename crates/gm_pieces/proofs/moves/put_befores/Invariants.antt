@@ -1,7 +1,5 @@
-use Rattle.std.proofs.Common.{◌≡◌, [], map}
-use Rattle.std.specs.List.{filter_map, range_with_len}
-use Rattle.gm_game.specs.Ascending.{put_all}
-use Rattle.gm_game.specs.Boards.{least_index}
+use Rattle.std.specs.Prelude.{◌≡◌}
+use Rattle.gm_pieces.specs.Lower.{[], map, filter_map, range_with_len, put_all, least_index}
 use Rattle.gm_pieces.specs.MoveGames.{board_game, before_at}
 use Rattle.gm_pieces.proofs.moves.put_befores.Given as goal
 

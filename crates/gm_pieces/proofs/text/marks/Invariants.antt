@@ -1,5 +1,5 @@
-use Rattle.std.proofs.Common.{◌<◌, ◌^◌}
-use Rattle.gm_board.specs.laws.Marks.{IsRead}
+use Rattle.std.specs.Prelude.{◌<◌, ◌^◌}
+use Rattle.gm_pieces.specs.Lower.{IsRead}
 use Rattle.gm_pieces.proofs.text.marks.Given as goal
 
 abbrev pub invariant-loop-cell : goal.invariant-loop-cell

@@ -2,7 +2,7 @@ use Rattle.std.proofs.lemmas.Result.{IfOk-from_err, err_from_is_err_and}
 use Rattle.std.proofs.Common.{◌≡◌, ◌≤◌, ℕ, ap, sym, subst, ◌∙◌, arith}
 use Rattle.gm_game.specs.declared.limits.TheConstants.{TIER_SIZE}
 use Rattle.gm_table.specs.Tables.{AreHeld}
-use Rattle.gm_game.specs.declared.position.Phase.TheVariants.{WinLose, Ties}
+use Rattle.gm_game.specs.declared.position.Phase.TheVariants.{Ties}
 use Rattle.gm_deliveries.specs.State.{ShardState}
 use Rattle.gm_solver.proofs.Final.{not_too_far}
 use Rattle.gm_solver.proofs.InOrderLemmas.{ready_ties, ready_table, ready_deliveries}

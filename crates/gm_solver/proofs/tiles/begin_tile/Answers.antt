@@ -29,9 +29,6 @@ begin-requires-clause-starts g c = starts_part g.G.Game.rules c.args.tier c.min-
 pub returns-in_err-shard-clause-shard : goal.returns-in_err-shard-clause-shard
 returns-in_err-shard-clause-shard g c = IfOk-from_err c.from_residual.result _ c.from_residual.ensures.0
 
-pub returns-in_err-shard-clause-count : goal.returns-in_err-shard-clause-count
-returns-in_err-shard-clause-count g c = IfOk-from_err c.from_residual.result _ c.from_residual.ensures.0
-
 pub returns-in_err-shard-clause-none : goal.returns-in_err-shard-clause-none
 returns-in_err-shard-clause-none g c = IfOk-from_err c.from_residual.result _ c.from_residual.ensures.0
 

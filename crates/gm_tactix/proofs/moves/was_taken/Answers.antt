@@ -1,18 +1,11 @@
-use Rattle.std.proofs.Common.{◌≡◌, ℕ, Bool, ◌&&◌, eqb, eq-eqb, ◌*◌, ◌∙◌, ap, refl, sym}
-use Rattle.std.specs.Prelude.{bit_and}
-use Rattle.std.proofs.lemmas.Bool.{ne_eqb}
+use Rattle.std.specs.Prelude.{◌≡◌, ◌&&◌, ◌*◌}
+use Rattle.gm_pieces.specs.Common.{ℕ, Bool, eqb, eq-eqb, ◌∙◌, ap, refl, sym, bit_and, ne_eqb}
 use Rattle.gm_tactix.specs.Board.{was_taken}
 use Rattle.gm_tactix.specs.CounterMasks.{counters_of}
-use Rattle.gm_tactix.proofs.MaskMoves.{taken_of, not_taken}
-use Rattle.gm_tactix.proofs.MaskTable.{mask_of_segment, none_by_mask, segment_by_mask}
+use Rattle.gm_tactix.proofs.MaskMoves.{taken_of}
+use Rattle.gm_tactix.proofs.MaskTable.{mask_of_segment, segment_by_mask}
 use Rattle.gm_tactix.proofs.moves.was_taken.Goals as goal
 use Rattle.gm_tactix.proofs.moves.was_taken.Goals.{After-from-number_before}
-
-pub returns-then-cells-eq0 : goal.returns-then-cells-eq0
-returns-then-cells-eq0 c =
-    let s = c.args.side in
-    let m = c.args.number in
-    not_taken s c.args.tier (counters_of (s * s) c.args.counters) m (none_by_mask s m _ c.requires.low c.requires.high c.segment_mask-cells.ensures.value c.if-cells-eq0.true)
 
 -- the two tests of the code
 abbrev tested : After-from-number_before → Type 0

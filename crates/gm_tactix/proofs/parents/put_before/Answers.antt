@@ -1,6 +1,5 @@
-use Rattle.std.proofs.Common.{◌*◌, false, sym, ap, ◌∙◌}
-use Rattle.gm_game.specs.Boards.{least_index as least_index_of}
-use Rattle.gm_pieces.specs.MoveGames.{board_game}
+use Rattle.std.specs.Prelude.{◌*◌}
+use Rattle.gm_pieces.specs.Common.{false, sym, ap, ◌∙◌, least_index as least_index_of, board_game}
 use Rattle.gm_tactix.specs.Board.{tactix}
 use Rattle.gm_tactix.specs.CounterMasks.{counters_of}
 use Rattle.gm_tactix.specs.laws.CounterMaskFacts.{counters_length}

@@ -1,5 +1,5 @@
-use Rattle.std.proofs.Common.{ℕ, ◌++◌, List, ap₂, ◌∙◌, inl, inr, arith}
-use Rattle.std.proofs.lemmas.Bool.{cases_lt}
+use Rattle.std.specs.Prelude.{◌++◌}
+use Rattle.gm_pieces.specs.Common.{ℕ, List, ap₂, ◌∙◌, inl, inr, arith, cases_lt}
 use Rattle.gm_tactix.specs.Board.{can_take}
 use Rattle.gm_tactix.specs.CounterMasks.{counters_of}
 use Rattle.gm_tactix.proofs.LineSegments.{line_taken, lines_more}

@@ -1,5 +1,5 @@
-use Rattle.std.proofs.Common.{◌≡◌, ◌≤◌, ◌+◌, ◌*◌, length, take}
-use Rattle.std.specs.List.{filter, flat_map, range_with_len}
+use Rattle.std.specs.Prelude.{◌≡◌, ◌≤◌, ◌+◌, ◌*◌}
+use Rattle.gm_pieces.specs.Common.{length, take, filter, flat_map, range_with_len}
 use Rattle.gm_tactix.specs.Board.{can_take}
 use Rattle.gm_tactix.specs.CounterMasks.{counters_of}
 use Rattle.gm_tactix.specs.Lines.{line_segments}

@@ -1,5 +1,5 @@
-use Rattle.std.proofs.Common.{◌≡◌, ℕ, ◌+◌, ◌++◌, List, take, ap, ◌∙◌, subst, arith}
-use Rattle.std.proofs.lemmas.List.{take_all}
+use Rattle.std.specs.Prelude.{◌≡◌, ◌+◌, ◌++◌}
+use Rattle.gm_pieces.specs.Common.{ℕ, List, take, ap, ◌∙◌, subst, arith, take_all}
 use Rattle.gm_tactix.proofs.LineTable.{block, shifted, most, long}
 use Rattle.gm_tactix.proofs.LineSegments.{put_all}
 use Rattle.gm_tactix.proofs.segments.put_line.Goals as goal

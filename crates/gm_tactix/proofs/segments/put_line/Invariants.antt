@@ -1,4 +1,5 @@
-use Rattle.std.proofs.Common.{◌≡◌, ◌+◌, ◌++◌, length, take}
+use Rattle.std.specs.Prelude.{◌≡◌, ◌+◌, ◌++◌}
+use Rattle.gm_pieces.specs.Common.{length, take}
 use Rattle.gm_tactix.proofs.LineTable.{block, shifted}
 use Rattle.gm_tactix.proofs.segments.put_line.Given as goal
 

@@ -1,6 +1,5 @@
-use Rattle.std.proofs.Common.{◌≡◌, ℕ, List, [], ◌∷◌, ◌++◌, eq-eqb, ap, ap₂, ◌∙◌, refl, arith}
-use Rattle.std.proofs.lemmas.Bool.{ne_eqb}
-use Rattle.gm_board.specs.Squares.{cell_text}
+use Rattle.std.specs.Prelude.{◌≡◌, ◌∷◌, ◌++◌}
+use Rattle.gm_pieces.specs.Common.{ℕ, List, [], eq-eqb, ap, ap₂, ◌∙◌, refl, arith, ne_eqb, cell_text}
 use Rattle.gm_tactix.specs.Segments.{first_cell, segment_length}
 use Rattle.gm_tactix.specs.Texts.{last_cell, segment_text}
 use Rattle.gm_tactix.proofs.text.segment_text.Goals as goal

@@ -1,5 +1,5 @@
-use Rattle.std.proofs.Common.{◌≡◌, ◌-◌, ℕ, List, length, ap, ◌∙◌, arith}
-use Rattle.std.proofs.lemmas.List.FromFn.{length-range_with_len}
+use Rattle.std.specs.Prelude.{◌≡◌, ◌-◌}
+use Rattle.gm_pieces.specs.Common.{ℕ, List, length, ap, ◌∙◌, arith, length-range_with_len}
 use Rattle.gm_tactix.proofs.tiers.child_tiers.Goals as goal
 
 pub push-requires : goal.push-requires

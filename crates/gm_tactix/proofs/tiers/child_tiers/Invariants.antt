@@ -1,5 +1,5 @@
-use Rattle.std.proofs.Common.{◌≡◌, ◌-◌}
-use Rattle.std.specs.List.{range_with_len}
+use Rattle.std.specs.Prelude.{◌≡◌, ◌-◌}
+use Rattle.gm_pieces.specs.Common.{range_with_len}
 use Rattle.gm_tactix.proofs.tiers.child_tiers.Given as goal
 
 abbrev pub invariant-loop-child : goal.invariant-loop-child

@@ -35,9 +35,6 @@ no_step_unread text read most i m exact fits is = (
   λ h. (let (r, low, under, few) = read_of_step text read most i m exact fits h in absurd (cc)),
 )
 
-pub overflow_cast-result : goal.overflow_cast-result
-overflow_cast-result c = let (low, under, few) = c.is_step.ensures.0 c.if-is_step.true in omega arith
-
 pub returns-then-is_step : goal.returns-then-is_step
 returns-then-is_step c m =
     step_when_read c.args.text.now c.read_decimal.result c.args.most c.args.index c.in-Some.taken m c.read_decimal.ensures (omega arith) c.in-Some.is (c.is_step.ensures.0 c.if-is_step.true)

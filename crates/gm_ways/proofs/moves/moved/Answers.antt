@@ -1,5 +1,4 @@
-use Rattle.std.proofs.Common.{arith}
-use Rattle.gm_board.specs.Images.{board_of, board_length}
+use Rattle.gm_pieces.specs.Common.{arith, board_of, board_length}
 use Rattle.gm_ways.specs.laws.WayMoves.{go_step}
 use Rattle.gm_ways.proofs.WaySteps.{go_at}
 use Rattle.gm_ways.proofs.moves.moved.Goals as goal

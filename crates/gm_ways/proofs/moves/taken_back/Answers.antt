@@ -1,5 +1,4 @@
-use Rattle.std.proofs.Common.{arith}
-use Rattle.gm_board.specs.Images.{board_of}
+use Rattle.gm_pieces.specs.Common.{arith, board_of}
 use Rattle.gm_ways.specs.laws.WayFacts.{joined_from}
 use Rattle.gm_ways.proofs.WaySteps.{was_at}
 use Rattle.gm_ways.proofs.moves.taken_back.Goals as goal

@@ -1,5 +1,5 @@
-use Rattle.std.proofs.Common.{ℕ, ◌<◌, sym, subst}
-use Rattle.gm_pieces.specs.Steps.{from_point, to_point}
+use Rattle.std.specs.Prelude.{◌<◌}
+use Rattle.gm_pieces.specs.Common.{ℕ, sym, subst, from_point, to_point}
 use Rattle.gm_ways.specs.laws.WayFacts.{joined_from, joined_to}
 use Rattle.gm_ways.proofs.text.step_text.Goals as goal
 

@@ -1,7 +1,5 @@
 use Rattle.std.proofs.Common.{◌≡◌, ℕ, ◌+◌, ◌*◌, ◌^◌, ◌<◌, sym, ap, ◌∙◌, subst, arith, lt_trans}
-use Rattle.std.specs.Prelude.{count_ones}
-use Rattle.std.proofs.lemmas.Nat.{mul-lt}
-use Rattle.gm_board.specs.Binomials.{binomial as binomial_of, binomial_small}
+use Rattle.gm_board.specs.Binomials.{binomial as binomial_of}
 use Rattle.gm_board.specs.Masks.{mask_rank}
 use Rattle.gm_board.specs.Arrangements.{arrangement_index, arrangements, arrangements_fit}
 use Rattle.gm_board.specs.Pieces.{cells_of, mine_mask, their_mask, pieces_index_below, mine_again, theirs_again}
@@ -16,22 +14,12 @@ value_is c =
     (c.binomial.ensures.value ∙ ap (λ (n : ℕ). binomial_of n c.args.self.theirs) c.free.ensures)
     (c.rank_subset-2.ensures.value ∙ ap mask_rank c.pack-packed.ensures)
 
-pub overflow_mul-result : goal.overflow_mul-result
-overflow_mul-result c =
-    let n = c.args.self.cells in
-    let b = c.rank_subset.ensures.below n c.args.self.within c.requires.mine_within in
-    let a : c.rank_subset.result < 2 ^ 32 = omega (arith, b, binomial_small n (count_ones c.args.mine) c.args.self.within) in
-    omega (arith, mul-lt c.rank_subset.result c.binomial.result (2 ^ 32) (2 ^ 32) a c.binomial.ensures.small)
-
 pub overflow_add-result : goal.overflow_add-result
 overflow_add-result c =
     let h : c.rank_subset.result * c.binomial.result + c.rank_subset-2.result < 2 ^ 64 =
     subst (λ (i : ℕ). i < 2 ^ 64) (sym (value_is c))
     (lt_trans (pieces_index_below _ _ _ _ _ c.requires) (arrangements_fit c.args.self.cells c.args.self.mine c.args.self.theirs c.args.self.within)) in
     omega (arith, h)
-
-pub returns-clause-value : goal.returns-clause-value
-returns-clause-value c = value_is c
 
 pub returns-clause-below : goal.returns-clause-below
 returns-clause-below c =

@@ -16,9 +16,6 @@ digits c = digits_are c.args.self.cells c.args.self.mine c.args.self.theirs c.ar
 pub nonzero_div-index : goal.nonzero_div-index
 nonzero_div-index c = (digits c).ways
 
-pub unrank_subset-mine-requires-clause-below : goal.unrank_subset-mine-requires-clause-below
-unrank_subset-mine-requires-clause-below c = (digits c).mine_rank
-
 pub nonzero_rem-index : goal.nonzero_rem-index
 nonzero_rem-index c = (digits ((goal.at.nonzero_rem-index c).After-binomial-ways)).ways
 
@@ -41,12 +38,6 @@ theirs_is c =
     c.unrank_subset-mine.ensures.value
     (c.unrank_subset-packed.ensures.value ∙ ap (λ (n : ℕ). mask_unrank n c.args.self.theirs (c.args.index % c.binomial-ways.result)) c.free-free.ensures)
     c.spread-theirs.ensures
-
-pub returns-clause-mine : goal.returns-clause-mine
-returns-clause-mine c = mine_is c
-
-pub returns-clause-theirs : goal.returns-clause-theirs
-returns-clause-theirs c = theirs_is c
 
 pub returns-clause-pieces : goal.returns-clause-pieces
 returns-clause-pieces c =

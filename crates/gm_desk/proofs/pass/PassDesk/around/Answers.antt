@@ -6,7 +6,7 @@ use Rattle.gm_desk.specs.Spots.{Spot}
 use Rattle.gm_desk.specs.Parts.{Part}
 use Rattle.gm_desk.specs.Rounds.{pairs_into, IsRound}
 use Rattle.gm_desk.proofs.Raises.{small_sum}
-use Rattle.gm_desk.proofs.RoundLemmas.{round_first, level_into}
+use Rattle.gm_desk.proofs.RoundLemmas.{of_level, round_first, level_into}
 use Rattle.gm_desk.proofs.pass.PassDesk.around.Goals as goal
 
 pub invariant_of-new : goal.invariant_of-new
@@ -15,7 +15,7 @@ invariant_of-new g c =
     let spot = g.L.Desk.spot in
     let notes = g.L.Round.notes in
     let level = level_into r c.args.level.now spot notes c.requires.level c.place-level.ensures.level in
-    let first = round_first r g.met.G.Game.lawful spot notes level c.args.shard c.requires.spot c.requires.none in
+    let first = round_first r g.met.G.Game.lawful spot notes (of_level r g.met.G.Game.lawful spot notes level) c.args.shard c.requires.spot c.requires.none in
     let from = subst (λ (base : ℕ). IsRound (pairs_into r spot notes) base c.args.shard 0) c.requires.base first in
     (c.requires.spot, level, subst (IsRound (pairs_into r spot notes) g.L.Round.base c.args.shard) (sym c.open-book.ensures.total) from)
 
@@ -44,7 +44,6 @@ invariant_of-result g c =
 
 pub invariant_of-desk : goal.invariant_of-desk
 invariant_of-desk g c = record {
-  tier_is = c.tier-tier.ensures ∙ ap (λ (s : Spot). s.tier) c.requires.spot;
   range_is = (c.range-range.ensures.lo ∙ ap (λ (s : Spot). s.lo) c.requires.spot, c.range-range.ensures.hi ∙ ap (λ (s : Spot). s.hi) c.requires.spot);
 }
 

@@ -1,7 +1,7 @@
 use Rattle.std.proofs.Common.{◌≡◌, ◌≤◌, arith}
 use Rattle.gm_deliveries.specs.State.{pairs_in}
 use Rattle.gm_deliveries.proofs.CloseLemmas.{closes_reached}
-use Rattle.gm_desk.proofs.RoundLemmas.{round_whole, round_all}
+use Rattle.gm_desk.proofs.RoundLemmas.{of_level, round_whole, round_all}
 use Rattle.gm_desk.proofs.pass.PassDesk.into_whole.Goals as goal
 
 pub returns-clause-spot : goal.returns-clause-spot
@@ -45,5 +45,5 @@ returns-clause-all g c =
     let full = c.requires.full in
     let same : c.args.expected.now.number ≡ pairs_in s = omega arith in
     let is_whole = round_whole g.G.Game.rules g.met.G.Game.lawful g.L.Desk.spot s inv.0 c.range-good.ensures.good c.args.expected.now c.number-exact.ensures.exact c.requires.is_for same in
-    let all = round_all g.G.Game.rules g.met.G.Game.lawful g.L.Desk.spot g.L.Round.notes inv.1 g.L.Round.base s c.shard.inside.book.total inv.0 is_whole inv.2 in
+    let all = round_all g.G.Game.rules g.met.G.Game.lawful g.L.Desk.spot g.L.Round.notes (of_level g.G.Game.rules g.met.G.Game.lawful g.L.Desk.spot g.L.Round.notes inv.1) g.L.Round.base s c.shard.inside.book.total inv.0 is_whole inv.2 in
     omega arith

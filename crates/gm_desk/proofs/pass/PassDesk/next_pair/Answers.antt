@@ -1,5 +1,4 @@
-use Rattle.std.proofs.Common.{◌≡◌, ◌≤◌, refl, length, slice_get, sym, ap, ◌∙◌, arith}
-use Rattle.gm_desk.specs.Rounds.{pairs_into}
+use Rattle.std.proofs.Common.{◌≤◌, refl, length, slice_get, sym, ap, ◌∙◌, arith}
 use Rattle.gm_desk.proofs.RoundLemmas.{pairs_are_into, nth_is}
 use Rattle.gm_desk.proofs.pass.PassDesk.next_pair.Goals as goal
 

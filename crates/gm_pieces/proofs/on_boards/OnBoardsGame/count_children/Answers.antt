@@ -1,9 +1,6 @@
-use Rattle.std.proofs.Common.{◌∙◌, ap, length, List}
-use Rattle.gm_game.specs.declared.position.Position.{Position}
-use Rattle.gm_game.specs.Boards.{board_of, next_images}
-use Rattle.gm_game.specs.Children.{set_of}
+use Rattle.gm_pieces.specs.Lower.{◌∙◌, ap, length, List, Position, next_images, set_of, board_children}
+use Rattle.gm_game.specs.Boards.{board_of}
 use Rattle.gm_game.proofs.ChildrenLemmas.{set_itself, canonical_children_once}
-use Rattle.gm_game.proofs.ChildrenSteps.{board_children}
 use Rattle.gm_pieces.specs.MoveGames.{board_game, move_rules}
 use Rattle.gm_pieces.specs.laws.MoveLaws.{move_game_lawful}
 use Rattle.gm_pieces.proofs.on_boards.OnBoardsGame.count_children.Goals as goal

@@ -1,7 +1,4 @@
-use Rattle.std.proofs.Common.{subst}
-use Rattle.gm_game.specs.Boards.{next_images}
-use Rattle.gm_game.specs.Children.{IsSetOf}
-use Rattle.gm_game.proofs.ChildrenSteps.{board_children}
+use Rattle.gm_pieces.specs.Lower.{subst, next_images, IsSetOf, board_children}
 use Rattle.gm_pieces.specs.MoveGames.{board_game}
 use Rattle.gm_pieces.specs.laws.MoveLaws.{move_game_lawful}
 use Rattle.gm_pieces.proofs.on_boards.OnBoardsGame.fill_children.Goals as goal

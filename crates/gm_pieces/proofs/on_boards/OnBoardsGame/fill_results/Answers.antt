@@ -1,7 +1,4 @@
-use Rattle.std.proofs.Common.{subst}
-use Rattle.gm_game.specs.Boards.{next_images}
-use Rattle.gm_game.specs.Children.{HasSame}
-use Rattle.gm_game.proofs.ChildrenSteps.{board_results}
+use Rattle.gm_pieces.specs.Lower.{subst, next_images, HasSame, board_results}
 use Rattle.gm_pieces.specs.MoveGames.{board_game}
 use Rattle.gm_pieces.specs.laws.MoveLaws.{move_game_lawful}
 use Rattle.gm_pieces.proofs.on_boards.OnBoardsGame.fill_results.Goals as goal

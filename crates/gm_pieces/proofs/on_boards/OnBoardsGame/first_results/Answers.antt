@@ -1,8 +1,5 @@
-use Rattle.std.proofs.Common.{◌≡◌, rules, subst}
-use Rattle.gm_game.specs.Boards.{next_images}
-use Rattle.gm_game.specs.Children.{HasSame}
-use Rattle.gm_game.specs.Rules.{at}
-use Rattle.gm_game.proofs.ChildrenSteps.{board_results}
+use Rattle.std.specs.Prelude.{◌≡◌}
+use Rattle.gm_pieces.specs.Lower.{rules, subst, next_images, HasSame, at, board_results}
 use Rattle.gm_pieces.specs.MoveGames.{board_game, move_rules}
 use Rattle.gm_pieces.specs.laws.MoveLaws.{move_game_lawful}
 use Rattle.gm_pieces.proofs.on_boards.OnBoardsGame.first_results.Goals as goal

@@ -1,4 +1,4 @@
-use Rattle.std.proofs.Common.{◌≡◌, true, sym, subst}
+use Rattle.gm_pieces.specs.Lower.{sym, subst}
 use Rattle.gm_game.specs.Boards.{board_of}
 use Rattle.gm_pieces.specs.MoveGames.{board_game, IsMove}
 use Rattle.gm_pieces.specs.laws.MoveLaws.{move_in}
@@ -8,11 +8,3 @@ pub moved-requires-clause-step : goal.moved-requires-clause-step
 moved-requires-clause-step g c =
     let r = g.T.MoveRules.game in
     subst (λ (b : g.T.MoveRules.Cells). IsMove r b c.args.m) (sym c.board.ensures.board) (move_in r (board_of (board_game r) c.args.p) c.args.m c.requires.listed)
-
-pub position-requires : goal.position-requires
-position-requires g c =
-    let r = g.T.MoveRules.game in
-    let b = g.T.MoveRules.cells c.board.result in
-    subst (λ (x : g.T.MoveRules.Cells). r.legal x ≡ true) (sym c.moved.ensures)
-    (g.met.T.MoveRules.lawful.moved_legal b c.args.m c.board.ensures.legal
-    (subst (λ (x : g.T.MoveRules.Cells). IsMove r x c.args.m) (sym c.board.ensures.board) (move_in r (board_of (board_game r) c.args.p) c.args.m c.requires.listed)))

@@ -1,13 +1,11 @@
-use Rattle.std.proofs.Common.{refl, ◌≡◌, ◌<◌, ◌≤◌, ◌+◌, ℕ, Some, suc, slice_get, length, drop, sym, subst, ◌∙◌, arith}
+use Rattle.std.proofs.Common.{refl, ◌≡◌, ◌≤◌, ◌+◌, ℕ, Some, suc, slice_get, length, drop, sym, subst, ◌∙◌, arith}
 use Rattle.std.proofs.lemmas.Option.{slice_get_within}
 use Rattle.gm_game.specs.declared.position.Place.{Place}
 use Rattle.gm_game.specs.declared.limits.TheConstants.{TIER_SIZE}
 use Rattle.gm_frontier.specs.Notes.{NoteData}
 use Rattle.gm_desk.specs.Rounds.{pairs_into}
-use Rattle.gm_solver.proofs.RoundLemmas.{next_below, into_fit, item_next, item_last}
+use Rattle.gm_solver.proofs.RoundLemmas.{into_fit, item_next, item_last}
 use Rattle.gm_desk.proofs.RoundLemmas.{level_into, pairs_are_into}
-use Rattle.gm_game.specs.declared.position.Position.{Position}
-use Rattle.gm_deliveries.specs.Delivery.{IsPlaceOf}
 use Rattle.gm_solver.proofs.post.Post.walk.Goals as goal
 
 pub loop-note-init : goal.loop-note-init
@@ -21,20 +19,8 @@ loop-note-init g c =
     let pairs = c.into_iter-note-iterator.ensures.into_iter_gives ∙ items in
     record { left = sym pairs; within = omega arith }
 
-pub place_of-stands-requires : goal.place_of-stands-requires
-place_of-stands-requires g c =
-    let r = g.G.Game.rules in
-    let l = c.args.self.now.level.now in
-    let spot = g.L.Desk.spot in
-    let notes = g.L.Round.notes in
-    let pairs = pairs_into r spot notes in
-    let pair : NoteData × ℕ = (c.in-Some.note, c.in-Some.parent) in
-    let next = item_next pairs c.loop-note.number pair c.next.new.self (c.loop-note.invariant.left ∙ c.in-Some.ensures.steps) in
-    let level = level_into r l spot notes c.args.self.now.level_is c.place-place.ensures.level in
-    subst (λ (t : ℕ). c.in-Some.parent < r.tier_size t) (sym c.args.self.now.lists_are) (next_below r g.met.G.Game.lawful spot notes level c.loop-note.number pair next.0)
-
-pub deliver_next_at-answer-requires-clause-next : goal.deliver_next_at-answer-requires-clause-next
-deliver_next_at-answer-requires-clause-next g c =
+pub deliver_next-answer-requires : goal.deliver_next-answer-requires
+deliver_next-answer-requires g c =
     let pairs = pairs_into g.G.Game.rules g.L.Desk.spot g.L.Round.notes in
     let pair : NoteData × ℕ = (c.in-Some.note, c.in-Some.parent) in
     let next = item_next pairs c.loop-note.number pair c.next.new.self (c.loop-note.invariant.left ∙ c.in-Some.ensures.steps) in
@@ -74,9 +60,3 @@ returns g c =
     let most = item_last pairs c.loop-note.number (c.loop-note.invariant.left ∙ c.in-None.ensures.steps.0) in
     let within = c.loop-note.invariant.within in
     omega arith
-
-pub deliver_next_at-answer-requires-clause-place : goal.deliver_next_at-answer-requires-clause-place
-deliver_next_at-answer-requires-clause-place g c =
-    let r = g.G.Game.rules in
-    let tier = subst (λ (t : ℕ). IsPlaceOf r c.position.result t c.in-Some.parent c.place_of-stands.result) c.args.self.now.lists_are c.place_of-stands.ensures in
-    subst (λ (q : Position). IsPlaceOf r q g.L.Desk.spot.tier c.in-Some.parent c.place_of-stands.result) c.position.ensures.value tier

@@ -1,5 +1,4 @@
-use Rattle.std.proofs.Common.{rules, sym, ap, ◌∙◌}
-use Rattle.gm_deliveries.specs.State.{ShardState}
+use Rattle.std.proofs.Common.{rules}
 use Rattle.gm_deliveries.specs.Steps.{place_of}
 use Rattle.gm_solver.proofs.RoundLemmas.{turned_none}
 use Rattle.gm_solver.proofs.tiles.Tiles.next_phase.Goals as goal
@@ -11,10 +10,8 @@ invariant_of-self g c =
     let place = place_of s.shards.a in
     let good = c.show_good.ensures in
     record {
-      lists_are = s.lists_are ∙ sym (ap (λ (t : ShardState). t.tier) c.next_phase.ensures);
       wide = search rules;
       shards_are = search rules;
-      counts_are = search rules;
       none_are = record {
         a = turned_none r s.shards.a c.next_phase.new.self place s.width 0 c.next_phase.ensures good.a s.shards_are.a c.requires.phase;
         b = turned_none r s.shards.b c.next_phase-2.new.self place s.width 1 c.next_phase-2.ensures good.b s.shards_are.b c.requires.phase;

@@ -1,31 +1,33 @@
-use Rattle.std.proofs.lemmas.Result.{IfOk-from_err}
-use Rattle.std.proofs.Common.{refl, sym, subst}
-use Rattle.gm_frontier.specs.Tallies.{IsTallyOf}
+use Rattle.std.proofs.Common.{◌≡◌, ℕ, ◌<◌, Some, length, slice_get, sym, ap, ◌∙◌, arith, Vec}
+use Rattle.std.specs.declared.alloc.Global.{Global}
+use Rattle.std.proofs.lemmas.Option.{slice_get-get_or}
+use Rattle.gm_frontier.specs.Notes.{NoteData}
+use Rattle.gm_desk.specs.Spots.{choose}
+use Rattle.gm_solver.proofs.SplitLemmas.{list_is}
 use Rattle.gm_solver.proofs.work.Walker.walk.Goals as goal
 
-pub returns-in_err-counts-clause-tally : goal.returns-in_err-counts-clause-tally
-returns-in_err-counts-clause-tally g c = IfOk-from_err c.from_residual.result _ c.from_residual.ensures.0
+pub deliver_each-requires-clause-pairs : goal.deliver_each-requires-clause-pairs
+deliver_each-requires-clause-pairs g c κs bounds =
+    let s = c.args.self.now in
+    let p = s.pieces.now in
+    let lists = c.split.new.lists in
+    let k = c.loop-shard.shard in
+    let list = c.index-lists-shard.result in
+    let inside : k < length lists = omega arith in
+    let at : slice_get lists k ≡ Some list = slice_get-get_or lists k list inside ∙ ap (λ (v : Vec (NoteData × ℕ) Global). Some v) (sym c.index-lists-shard.is) in
+    c.as_slice-pairs.ensures.value ∙ ap (λ (v : Vec (NoteData × ℕ) Global). v.items) (sym c.index-lists-shard.is)
+    ∙ list_is g.G.Game.rules p.level.now.place p.width p.notes c.args.piece k g.A.Cut.size g.A.Round.notes p.level.now.notes lists list (choose k g.A.Desk.spot g.B.Desk.spot g.C.Desk.spot g.D.Desk.spot) p.wide.some c.in_ok-split.ensures at
+    (s.tiles_are k c.loop-shard-test.true) s.notes_are s.size_is
 
-pub returns-in_err-walk_pairs-clause-tally : goal.returns-in_err-walk_pairs-clause-tally
-returns-in_err-walk_pairs-clause-tally g c = IfOk-from_err c.from_residual-in_err-walk_pairs.result _ c.from_residual-in_err-walk_pairs.ensures.0
-
-pub of-requires-clause-piece_size : goal.of-requires-clause-piece_size
-of-requires-clause-piece_size g c = c.args.self.now.pieces.now.some
-
-pub of-requires-clause-width : goal.of-requires-clause-width
-of-requires-clause-width g c = c.args.self.now.pieces.now.wide.some
-
-pub of-requires-clause-exact : goal.of-requires-clause-exact
-of-requires-clause-exact g c = c.in_ok-walk_pairs.ensures.counts
-
-pub returns-clause-parts : goal.returns-clause-parts
-returns-clause-parts g c = c.walk_pairs.ensures.parts
-
-pub returns-in_err-walk_pairs-clause-parts : goal.returns-in_err-walk_pairs-clause-parts
-returns-in_err-walk_pairs-clause-parts g c = c.walk_pairs.ensures.parts
-
-pub returns-in_err-counts-clause-parts : goal.returns-in_err-counts-clause-parts
-returns-in_err-counts-clause-parts g c = refl
-
-pub returns-clause-tally : goal.returns-clause-tally
-returns-clause-tally g c = (let p = c.args.self.now.pieces.now in subst (IsTallyOf g.G.Game.rules p.level.now c.args.piece p.notes p.width) (sym c.of.ensures) (record { place = refl; piece = refl; n = refl; width = refl; counts = c.in_ok-walk_pairs.ensures.counts }))
+pub deliver_together-requires-clause-pairs : goal.deliver_together-requires-clause-pairs
+deliver_together-requires-clause-pairs g c κs bounds =
+    let s = c.args.self.now in
+    let p = s.pieces.now in
+    let lists = c.split.new.lists in
+    let k = c.loop-shard.shard in
+    let list = c.index-lists-shard.result in
+    let inside : k < length lists = omega arith in
+    let at : slice_get lists k ≡ Some list = slice_get-get_or lists k list inside ∙ ap (λ (v : Vec (NoteData × ℕ) Global). Some v) (sym c.index-lists-shard.is) in
+    c.as_slice-pairs.ensures.value ∙ ap (λ (v : Vec (NoteData × ℕ) Global). v.items) (sym c.index-lists-shard.is)
+    ∙ list_is g.G.Game.rules p.level.now.place p.width p.notes c.args.piece k g.A.Cut.size g.A.Round.notes p.level.now.notes lists list (choose k g.A.Desk.spot g.B.Desk.spot g.C.Desk.spot g.D.Desk.spot) p.wide.some c.in_ok-split.ensures at
+    (s.tiles_are k c.loop-shard-test.true) s.notes_are s.size_is

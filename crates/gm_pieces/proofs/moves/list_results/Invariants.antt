@@ -1,0 +1,7 @@
+use Rattle.std.specs.Prelude.{◌≡◌}
+use Rattle.gm_pieces.specs.Lower.{map, take}
+use Rattle.gm_pieces.specs.MoveChildren.{position_after}
+use Rattle.gm_pieces.proofs.moves.list_results.Given as goal
+
+abbrev pub invariant-loop-m : goal.invariant-loop-m
+invariant-loop-m g l = l.list.items ≡ map (position_after g.T.MoveRules.game (g.T.MoveRules.cells l.board)) (take l.m-index l.moves)

@@ -1,9 +1,0 @@
-use Rattle.std.proofs.Common.{◌≡◌, ◌*◌, min, length}
-use Rattle.gm_deliveries.specs.Begin.{AreStarts}
-use Rattle.gm_solver.proofs.tier_lists.Frame.in_order.Given as goal
-
-abbrev pub invariant-loop-block : goal.invariant-loop-block
-invariant-loop-block g l = record {
-  long : length l.all.items ≡ min (l.block * 512) l.self.size;
-  starts : AreStarts g.G.Game.rules l.self.tier 0 l.all.items;
-}

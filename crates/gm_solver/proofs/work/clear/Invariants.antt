@@ -1,0 +1,10 @@
+use Rattle.std.proofs.Common.{◌≡◌, ℕ, ◌<◌, [], Some, Vec, length, slice_get}
+use Rattle.std.specs.declared.alloc.Global.{Global}
+use Rattle.gm_frontier.specs.Notes.{NoteData}
+use Rattle.gm_solver.proofs.work.clear.Given as goal
+
+abbrev pub invariant-loop-list : goal.invariant-loop-list
+invariant-loop-list g l = record {
+  long : length l.lists ≡ 4;
+  none : (k : ℕ) (v : Vec (NoteData × ℕ) Global) → k < l.list-index → slice_get l.lists k ≡ Some v → v.items ≡ [];
+}

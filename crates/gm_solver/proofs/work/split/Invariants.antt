@@ -1,0 +1,11 @@
+use Rattle.std.proofs.Common.{◌≡◌, ℕ, ◌++◌, List}
+use Rattle.gm_frontier.specs.Notes.{NoteData}
+use Rattle.gm_frontier.specs.Pairs.{pairs_of, piece_of}
+use Rattle.gm_solver.specs.Split.{AreSplit}
+use Rattle.gm_solver.proofs.work.split.Given as goal
+
+-- the pairs that the walk has passed are in the lists
+abbrev pub invariant-loop-note : goal.invariant-loop-note
+invariant-loop-note g l =
+    (done : List (NoteData × ℕ)) × (done ++ l.note-iterator ≡ pairs_of g.G.Game.rules l.pieces.level.now.place.tier 0 (g.G.Game.rules.tier_size l.pieces.level.now.place.tier) (piece_of l.piece l.pieces.notes l.pieces.level.now.notes))
+    × AreSplit l.pieces.width done l.lists

@@ -1,0 +1,77 @@
+//! What records are found to have by going over them.
+ghost use Rattle.std.specs.Prelude.{◌≡◌, ◌↔◌, ◌≤◌, None, IsTrue, IsSome, IfSome};
+ghost use Rattle.gm_table.specs.Outlines.{IsOutlineOf};
+ghost use Rattle.gm_table.specs.Runs.{AreRunsOf};
+
+use crate::levels::greatest_levels;
+use crate::packed::Packed;
+use crate::runs::Runs;
+use gm_game::limits::TIER_SIZE;
+
+/// Up to this level runs are laid out ahead of a check, since each level takes memory for itself, even where records that are not true name it.
+const NEAR: u32 = 1024;
+
+/// The greatest level of each phase at which a record stands, and the indexes by place, where they are laid out.
+#[derive(Drop)]
+pub(crate) struct Outline {
+    pub(crate) greatest_win_lose: Option<u32>,
+    pub(crate) greatest_tie: Option<u32>,
+    pub(crate) runs: Option<Runs>,
+}
+
+impl Outline {
+    /// The outline of these records, without runs. It takes no memory.
+    pub(crate) fn of(records: &Packed) -> Outline
+        ensures outline { IsOutlineOf records.now result }
+        ensures none { result.runs ≡ None }
+    {
+        let (greatest_win_lose, greatest_tie) = greatest_levels(records);
+        Outline {
+            greatest_win_lose,
+            greatest_tie,
+            runs: None,
+        }
+    }
+
+    /// The outline of these records, with runs where there are as many records as a tier may have, their levels are near, and there is memory for them.
+    pub(crate) fn with_runs(records: &Packed) -> Outline
+        ensures outline { IsOutlineOf records.now result }
+        ensures near { IsSome result.runs → IfSome result.greatest_win_lose (λ n. n ≤ NEAR) × IfSome result.greatest_tie (λ n. n ≤ NEAR) }
+    {
+        let Outline {
+            greatest_win_lose,
+            greatest_tie,
+            runs: _,
+        } = Outline::of(records);
+        let runs = if is_near(greatest_win_lose) && is_near(greatest_tie) {
+            runs_of(records)
+        } else {
+            None
+        };
+        Outline {
+            greatest_win_lose,
+            greatest_tie,
+            runs,
+        }
+    }
+}
+
+// Whether runs may be laid out up to this level, if there is one.
+fn is_near(level: Option<u32>) -> bool
+    ensures { IsTrue result ↔ IfSome level (λ n. n ≤ NEAR) }
+{
+    match level {
+        Some(level) => level <= NEAR,
+        None => true,
+    }
+}
+
+// The runs of as many records as a tier may have, where there is memory for them.
+fn runs_of(records: &Packed) -> Option<Runs>
+    ensures { IfSome result (AreRunsOf records.now) }
+{
+    if records.len() as u64 > TIER_SIZE {
+        return None;
+    }
+    Runs::of(records.allocator(), records).ok()
+}

@@ -1,0 +1,5 @@
+use Rattle.gm_desk.specs.Spots.{IsSameSpot}
+use Rattle.gm_testing.proofs.by_hand.deliver_level.Given as goal
+
+abbrev pub invariant-loop-note : goal.invariant-loop-note
+invariant-loop-note g l = IsSameSpot l.fn.shard l.shard
