@@ -1,13 +1,21 @@
 -- Lines of analyses, with one tier more.
-use Rattle.std.proofs.Common.{◌≡◌, ℕ, ◌+◌, ◌<◌, List, [], ◌∷◌, ◌++◌, length, take, get_or, Option, None, Some, refl, sym, ap, subst, ◌∙◌, append_assoc, append-nil}
+use Rattle.std.proofs.Common.{◌≡◌, ℕ, ◌+◌, ◌<◌, List, [], ◌∷◌, ◌++◌, length, take, get_or, Option, None, Some, refl, sym, ap, subst, ◌∙◌, append_assoc}
+use Rattle.std.proofs.Common.{append-nil}
 use Rattle.std.proofs.lemmas.List.{take_more}
 use Rattle.gm_game.specs.Rules.{Rules}
 use Rattle.gamesman.specs.Analysing.{IsAnalysisLine, AreAnalysisLines}
 
-lines_more : (r : Rules) (tiers : List ℕ) (tier : ℕ) (old line new : List ℕ) → AreAnalysisLines r tiers old → IsAnalysisLine r tier line → new ≡ old ++ line → AreAnalysisLines r (tiers ++ tier ∷ []) new
+lines_more : (r : Rules) (tiers : List ℕ) (tier : ℕ) (old line new : List ℕ) → AreAnalysisLines r tiers old → IsAnalysisLine r tier line → new ≡ old ++ line
+    → AreAnalysisLines r (tiers ++ tier ∷ []) new
 lines_more r [] tier old line new h is e = (line, [], is, refl, e ∙ ap (λ (l : List ℕ). l ++ line) h ∙ sym (append-nil line))
-lines_more r (u ∷ us) tier old line new (first, rest, begins, are, split) is e =
-    (first, rest ++ line, begins, lines_more r us tier rest line (rest ++ line) are is refl, e ∙ ap (λ (l : List ℕ). l ++ line) split ∙ append_assoc first rest line)
+lines_more r (u ∷ us) tier old line new (first, rest, begins, are, split) is e = (
+  first,
+  rest ++ line,
+  begins,
+  lines_more r us tier rest line (rest ++ line) are is refl,
+  e ∙ ap (λ (l : List ℕ). l ++ line) split ∙ append_assoc first
+      rest line,
+)
 
 -- the lines up to one tier more
 pub lines_next : (r : Rules) (tiers : List ℕ) (k : ℕ) (old new : List ℕ) → k < length tiers → AreAnalysisLines r (take k tiers) old

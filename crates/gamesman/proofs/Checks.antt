@@ -1,5 +1,6 @@
 -- What a check has told so far.
-use Rattle.std.proofs.Common.{◌≡◌, ℕ, suc, ◌<◌, ◌≤◌, ◌↔◌, inl, inr, List, [], ◌∷◌, ◌++◌, length, take, drop, get_or, Option, None, Some, Ok, Err, refl, sym, ap, subst, ◌∙◌, arith, append_assoc, append-nil, drop-cons, take-append-drop}
+use Rattle.std.proofs.Common.{◌≡◌, ℕ, suc, ◌<◌, ◌≤◌, ◌↔◌, inl, inr, List, [], ◌∷◌, ◌++◌, length, take, drop, get_or, Option, None, Some, Ok, Err, refl, sym, ap}
+use Rattle.std.proofs.Common.{subst, ◌∙◌, arith, append_assoc, append-nil, drop-cons, take-append-drop}
 use Rattle.std.specs.List.{Contains}
 use Rattle.std.specs.Io.KnownBytes.{Appends, Keeps}
 use Rattle.std.proofs.KnownBytes.{Appends-nil, Appends-trans, Appends-kept}
@@ -14,22 +15,29 @@ use Rattle.gamesman.specs.declared.fault.Fault.{Fault}
 use Rattle.gamesman.specs.declared.finding.Finding.{Finding}
 use Rattle.gamesman.specs.declared.finding.Finding.TheVariants.{Right, Missing, NotChecked, NoFile, NoTable}
 use Rattle.gamesman.specs.Told.{IsMemoryFault}
-use Rattle.gamesman.specs.Checking.{finding_line, right_with, status_with, IsFinding, IsFoundAfter, IsTableFor, AreLines, IsUnread, IsUnreadAt, IsTierCut, IsCheckCut, IsCheckOf}
+use Rattle.gamesman.specs.Checking.{finding_line, right_with, status_with, IsFinding, IsFoundAfter, IsTableFor, AreLines, IsUnread, IsUnreadAt, IsTierCut}
+use Rattle.gamesman.specs.Checking.{IsCheckCut, IsCheckOf}
 
 -- no tier is right before the first
 pub none_held : HoldsExactly [] []
 none_held tier = (λ held. absurd (cc), λ has. absurd (contains_none tier has))
 
 -- a table that is inserted is held with those that were
-pub one_more_held : (old new : List TableData) (table : TableData) (tier : ℕ) (right : List ℕ) → table.tier ≡ tier → Inserts old new table → HoldsExactly old right → HoldsExactly new (tier ∷ right)
+pub one_more_held : (old new : List TableData) (table : TableData) (tier : ℕ) (right : List ℕ) → table.tier ≡ tier → Inserts old new table → HoldsExactly
+    old right → HoldsExactly new (tier ∷ right)
 one_more_held old new table tier right is inserts held t =
     let too = holds_too old new table tier is inserts t in (
-      λ h. elim (too.0 h) [ inl before ↦ contains_later tier t right ((held t).0 before) | inr e ↦ subst (Contains (tier ∷ right)) e (contains_first tier right) ],
+      λ h. elim (too.0 h) [
+        | inl before ↦ contains_later tier t right ((held t).0 before)
+        | inr e ↦ subst (Contains (tier ∷ right)) e
+            (contains_first tier right)
+      ],
       λ has. too.1 (elim (contains_cases tier t right has) [ inl e ↦ inr e | inr later ↦ inl ((held t).1 later) ]),
     )
 
 -- the tables that are held, after one more tier whose table is at hand
-pub held_with : (old new : List TableData) (tier : ℕ) (finding : Finding) (table : TableData) (right : List ℕ) → IsTableFor tier finding (Some table) → Inserts old new table → HoldsExactly old right
+pub held_with : (old new : List TableData) (tier : ℕ) (finding : Finding) (table : TableData) (right : List ℕ) → IsTableFor tier finding (Some table) →
+    Inserts old new table → HoldsExactly old right
     → HoldsExactly new (right_with tier finding right)
 held_with old new tier Right table right is inserts held = one_more_held old new table tier right is inserts held
 held_with old new tier Missing table right is inserts held = absurd (cc)
@@ -39,9 +47,11 @@ held_with old new tier (NoTable why) table right is inserts held = absurd (cc)
 
 -- the lines of these tiers are told, and those of more tiers go on from here
 abbrev pub Continues : Rules → List ℕ → List ℕ → List ℕ → ℕ → Type 0
-Continues r done out right status = (tiers rest : List ℕ) (ends : ℕ) → AreLines r right status tiers rest ends → AreLines r [] 0 (done ++ tiers) (out ++ rest) ends
+Continues r done out right status = (tiers rest : List ℕ) (ends : ℕ) → AreLines r right status tiers rest ends → AreLines r [] 0 (done ++ tiers)
+    (out ++ rest) ends
 
-continues_next : (r : Rules) (done out right : List ℕ) (status tier : ℕ) (finding : Finding) → IsFoundAfter r right tier finding → Continues r done out right status
+continues_next : (r : Rules) (done out right : List ℕ) (status tier : ℕ) (finding : Finding) → IsFoundAfter r right tier finding → Continues r done out
+    right status
     → Continues r (done ++ tier ∷ []) (out ++ finding_line tier finding) (right_with tier finding right) (status_with status finding)
 continues_next r done out right status tier finding found so_far tiers rest ends are =
     let line = finding_line tier finding in
@@ -67,13 +77,15 @@ memory_unread : (left : List ℕ) (fault : Fault) → IsMemoryFault fault → Is
 memory_unread [] fault is = is
 memory_unread (tier ∷ tiers) fault is = inl is
 
-module _ (r : Rules) (entries : List TableData) (done : List ℕ) (tier status : ℕ) (a b c : Option (List ℕ)) (are : AreTables r entries) (so_far : IsToldTo r done a b entries status) where
+module _ (r : Rules) (entries : List TableData) (done : List ℕ) (tier status : ℕ) (a b c : Option (List ℕ)) (are : AreTables r entries)
+    (so_far : IsToldTo r done a b entries status) where
   found_after : (finding : Finding) → IsFinding r entries tier finding → IsFoundAfter r so_far.right tier finding
   found_after finding is = (entries, are, so_far.held, is)
 
   -- one more line
   pub told_next : (new : List TableData) (finding : Finding) → IsFinding r entries tier finding → Appends b c (finding_line tier finding)
-      → ((right : List ℕ) → HoldsExactly entries right → HoldsExactly new (right_with tier finding right)) → IsToldTo r (done ++ tier ∷ []) a c new (status_with status finding)
+      → ((right : List ℕ) → HoldsExactly entries right → HoldsExactly new (right_with tier finding right)) → IsToldTo r (done ++ tier ∷ []) a c new
+      (status_with status finding)
   told_next new finding is line held = record {
     out = so_far.out ++ finding_line tier finding;
     right = right_with tier finding so_far.right;
@@ -82,7 +94,8 @@ module _ (r : Rules) (entries : List TableData) (done : List ℕ) (tier status :
     continues = continues_next r done so_far.out so_far.right status tier finding (found_after finding is) so_far.continues;
   }
 
-  lines_next : (finding : Finding) → IsFinding r entries tier finding → AreLines r [] 0 (done ++ tier ∷ []) (so_far.out ++ finding_line tier finding) (status_with status finding)
+  lines_next : (finding : Finding) → IsFinding r entries tier finding → AreLines r [] 0 (done ++ tier ∷ []) (so_far.out ++ finding_line tier finding)
+      (status_with status finding)
   lines_next finding is =
       continues_none r (done ++ tier ∷ []) (so_far.out ++ finding_line tier finding) (right_with tier finding so_far.right) (status_with status finding)
       (continues_next r done so_far.out so_far.right status tier finding (found_after finding is) so_far.continues)
@@ -118,7 +131,8 @@ module _ (r : Rules) (entries : List TableData) (done : List ℕ) (tier status :
   }
 
 -- all lines are written
-pub told_all : (r : Rules) (tiers : List ℕ) (a b : Option (List ℕ)) (entries : List TableData) (status : ℕ) → IsToldTo r tiers a b entries status → IsCheckOf r tiers a b (Ok status)
+pub told_all : (r : Rules) (tiers : List ℕ) (a b : Option (List ℕ)) (entries : List TableData) (status : ℕ) → IsToldTo r tiers a b entries status →
+    IsCheckOf r tiers a b (Ok status)
 told_all r tiers a b entries status so_far = (so_far.out, continues_none r tiers so_far.out so_far.right status so_far.continues, so_far.written)
 
 -- none is

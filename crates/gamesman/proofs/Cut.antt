@@ -11,7 +11,9 @@ use Rattle.gm_build.specs.Outcomes.{IsBuildError}
 use Rattle.gm_play.specs.Sessions.{AppendsPart}
 use Rattle.gm_play.specs.PlayTexts.{IsReadAs}
 use Rattle.gamesman.specs.declared.fault.Fault.{Fault}
-use Rattle.gamesman.specs.declared.fault.Fault.TheVariants.{NoSuchGame, NoSuchPosition, NoSuchPositionInLine, NoSuchTier, NoSuchIndex, NotLegal, NotCanonical, OutOfMemory as NoMemory, NotBuilt, AnotherGames, InputFailed, OutputFailed, OutputClosed, TooMuchInput}
+use Rattle.gamesman.specs.declared.fault.Fault.TheVariants.{NoSuchGame, NoSuchPosition, NoSuchPositionInLine, NoSuchTier, NoSuchIndex, NotLegal, NotCanonical}
+use Rattle.gamesman.specs.declared.fault.Fault.TheVariants.{OutOfMemory as NoMemory, NotBuilt, AnotherGames, InputFailed, OutputFailed, OutputClosed}
+use Rattle.gamesman.specs.declared.fault.Fault.TheVariants.{TooMuchInput}
 use Rattle.gamesman.specs.Outputs.{IsOutputFault, IsCutOff}
 use Rattle.gm_play.specs.PlaceTexts.{IsPlaceText}
 use Rattle.gamesman.specs.Answers.{IsAnsweredBy, IsUnlocatedFor, IsLocatedBy}
@@ -36,7 +38,8 @@ kept None = tt
 kept (Some xs) = refl
 
 -- a write failed
-pub cut_off : (IsText : List ℕ → Type 0) (before after : Option (List ℕ)) (fault : Fault) (text : List ℕ) → IsOutputFault fault → IsText text → AppendsPart before after text → IsCutOff IsText before after fault
+pub cut_off : (IsText : List ℕ → Type 0) (before after : Option (List ℕ)) (fault : Fault) (text : List ℕ) → IsOutputFault fault → IsText text → AppendsPart
+    before after text → IsCutOff IsText before after fault
 cut_off IsText before after OutputFailed text out is part = (text, is, part)
 cut_off IsText before after OutputClosed text out is part = (text, is, part)
 cut_off IsText before after NoSuchGame text out is part = absurd out
@@ -86,7 +89,8 @@ module _ (r : Rules) (shown : Position → List ℕ) (move_shown : Position → 
   write_refused InputFailed out = absurd out
   write_refused TooMuchInput out = absurd out
 
-  pub unbuilt_refused : (p : Position) → IsReadAs r shown move_shown text p → (fault : Fault) → IsUnbuilt r p.tier fault → IsRefused r shown move_shown text fault
+  pub unbuilt_refused : (p : Position) → IsReadAs r shown move_shown text p → (fault : Fault) → IsUnbuilt r p.tier fault → IsRefused r shown move_shown text
+      fault
   unbuilt_refused p read OutputFailed is = absurd is
   unbuilt_refused p read OutputClosed is = absurd is
   unbuilt_refused p read NoSuchGame is = absurd is
@@ -102,7 +106,8 @@ module _ (r : Rules) (shown : Position → List ℕ) (move_shown : Position → 
   unbuilt_refused p read InputFailed is = absurd is
   unbuilt_refused p read TooMuchInput is = absurd is
 
-module _ (r : Rules) (shown : Position → List ℕ) (move_shown : Position → ℕ → List ℕ) (text : List ℕ) (IsText : List ℕ → Type 0) (p : Position) (read : IsReadAs r shown move_shown text p) (fault : Fault) where
+module _ (r : Rules) (shown : Position → List ℕ) (move_shown : Position → ℕ → List ℕ) (text : List ℕ) (IsText : List ℕ → Type 0) (p : Position)
+    (read : IsReadAs r shown move_shown text p) (fault : Fault) where
   -- what its answer rests on is not built
   pub unbuilt_answer : (o : Option (List ℕ)) → IsUnbuilt r p.tier fault → IsAnsweredBy r shown move_shown text IsText o o (Err fault)
   unbuilt_answer o is = record {
@@ -112,7 +117,8 @@ module _ (r : Rules) (shown : Position → List ℕ) (move_shown : Position → 
   }
 
   -- the write of its answer failed
-  pub unwritten_answer : (before after : Option (List ℕ)) (out : List ℕ) → IsOutputFault fault → IsText out → AppendsPart before after out → IsAnsweredBy r shown move_shown text IsText before after (Err fault)
+  pub unwritten_answer : (before after : Option (List ℕ)) (out : List ℕ) → IsOutputFault fault → IsText out → AppendsPart before after out → IsAnsweredBy r
+      shown move_shown text IsText before after (Err fault)
   unwritten_answer before after out failed is part = record {
     written = cut_off IsText before after fault out failed is part;
     refused = write_refused r shown move_shown text fault failed;
@@ -137,7 +143,8 @@ module _ (r : Rules) (shown : Position → List ℕ) (text : List ℕ) where
   write_unlocated TooMuchInput out = absurd out
 
   -- the write of where a position stands failed
-  pub unlocated_answer : (fault : Fault) (before after : Option (List ℕ)) (out : List ℕ) → IsOutputFault fault → IsPlaceText r shown text out → AppendsPart before after out
+  pub unlocated_answer : (fault : Fault) (before after : Option (List ℕ)) (out : List ℕ) → IsOutputFault fault → IsPlaceText r shown text out → AppendsPart
+      before after out
       → IsLocatedBy r shown text before after (Err fault)
   unlocated_answer fault before after out failed is part = record {
     written = cut_off (IsPlaceText r shown text) before after fault out failed is part;
@@ -145,13 +152,10 @@ module _ (r : Rules) (shown : Position → List ℕ) (text : List ℕ) where
     unread = λ none. absurd (none is.0.position is.1.legal is.1.reads);
   }
 
--- two positions that one call has answered are one
-pub one_read : (o : Option Position) (p q : Position) → o ≡ Some p → o ≡ Some q → p ≡ q
-one_read o p q e f = ap (λ (x : Option Position). elim x [ None ↦ p | Some y ↦ y ]) (sym e ∙ f)
-
 -- the text that is asked about is the position's: the start's where none is given
 pub asked_text : (r : Rules) (shown : Position → List ℕ) (move_shown : Position → ℕ → List ℕ) (p : Position) (o : Option (Bor (List ℕ)))
-    → (o ≡ None → p ≡ r.initial) → IfSome o (λ text. IsReadAs r shown move_shown text.now p) → shown p ≡ elim o [ None ↦ shown r.initial | Some text ↦ text.now ]
+    → (o ≡ None → p ≡ r.initial) → IfSome o (λ text. IsReadAs r shown move_shown text.now p) → shown p ≡ elim o
+    [ None ↦ shown r.initial | Some text ↦ text.now ]
 asked_text r shown move_shown p None at_start read = ap shown (at_start refl)
 asked_text r shown move_shown p (Some text) at_start read = read.1
 

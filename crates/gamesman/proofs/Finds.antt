@@ -1,5 +1,6 @@
 -- What is found tier by tier, and the tables that it rests on.
-use Rattle.std.proofs.Common.{◌≡◌, ℕ, zero, suc, ◌≤◌, ◌+◌, ◌-◌, ◌⊎◌, inl, inr, Bool, List, [], ◌∷◌, ◌++◌, map, length, take, drop, Option, None, Some, Result, Ok, Err, refl, sym, ap, ap₂, subst, ◌∙◌, arith, append-nil, take-append-drop, length-append}
+use Rattle.std.proofs.Common.{◌≡◌, ℕ, zero, suc, ◌≤◌, ◌+◌, ◌-◌, ◌⊎◌, inl, inr, Bool, List, [], ◌∷◌, ◌++◌, map, length, take, drop, Option, None, Some, Result}
+use Rattle.std.proofs.Common.{Ok, Err, refl, sym, ap, ap₂, subst, ◌∙◌, arith, append-nil, take-append-drop, length-append}
 use Rattle.std.specs.List.{All, Contains, flat_map}
 use Rattle.std.specs.Io.KnownBytes.{Appends, Keeps}
 use Rattle.std.proofs.KnownBytes.{Appends-trans, Appends-kept}
@@ -8,55 +9,35 @@ use Rattle.std.proofs.lemmas.List.{map-append, length-map}
 use Rattle.std.proofs.lemmas.List.Elements.{All-append}
 use Rattle.std.proofs.lemmas.Option.{same_Some}
 use Rattle.gm_game.specs.declared.position.Position.{Position}
-use Rattle.gm_game.specs.Laws.{IsGame}
 use Rattle.gm_game.specs.Rules.{Rules}
 use Rattle.gm_game.proofs.Lists.{contains_none, contains_cases}
 use Rattle.gm_table.specs.Tables.{TableData}
-use Rattle.gm_best.specs.Refusals.{AreNotHeld}
-use Rattle.gm_best.specs.declared.play_error.PlayError.TheVariants.{NotHeld}
-use Rattle.gm_play.specs.Reached.{AreAllHeld}
+use Rattle.gm_best.specs.Reached.{AreAllHeld}
 use Rattle.gm_play.specs.Sessions.{AppendsPart}
-use Rattle.gm_play.proofs.Held.{held_own, held_children}
 use Rattle.gm_play.proofs.Parts.{part_after}
 use Rattle.gm_find.specs.declared.found.Found.{Found}
 use Rattle.gm_find.specs.declared.sought.Choice.{Choice}
 use Rattle.gm_find.specs.declared.sought.Choice.TheVariants.{First, Random}
 use Rattle.gm_find.specs.declared.sought.Sought.{Sought}
 use Rattle.gm_find.specs.Lists.{IsFirst}
-use Rattle.gm_find.specs.Finding.{IsMatch, IsMissing, AreTiersHeld, all_positions, positions_in}
+use Rattle.gm_find.specs.Finding.{IsMatch, all_positions, positions_in}
 use Rattle.gm_find.specs.Founds.{IsFound, AreFound, AreChosen, position_of}
 use Rattle.gm_find.specs.Rows.{found_row}
 use Rattle.gm_find.proofs.ListLemmas.{first_append}
-use Rattle.gm_find.proofs.Telling.{chosen_in}
 use Rattle.gm_json.specs.Founds.{found_line}
-use Rattle.gm_sheet.specs.Sheets.{MayRefuseLines}
 use Rattle.gm_command.specs.declared.requests.Form.{Form}
 use Rattle.gm_command.specs.declared.requests.Form.TheVariants.{Rows, Json, Sheet, Boards}
-use Rattle.gm_command.specs.declared.requests.PositionsSought.{PositionsSought}
+use Rattle.gm_command.specs.declared.requests.PositionSearch.{PositionSearch}
 use Rattle.gamesman.specs.declared.fault.Fault.{Fault}
-use Rattle.gamesman.specs.declared.fault.Fault.TheVariants.{NoSuchGame, NoSuchPosition, NoSuchPositionInLine, NoSuchTier, NoSuchIndex, NotLegal, NotCanonical, OutOfMemory, NotBuilt, AnotherGames, InputFailed, OutputFailed, OutputClosed, TooMuchInput}
+use Rattle.gamesman.specs.declared.fault.Fault.TheVariants.{NoSuchGame, NoSuchPosition, NoSuchPositionInLine, NoSuchTier, NoSuchIndex, NotLegal, NotCanonical}
+use Rattle.gamesman.specs.declared.fault.Fault.TheVariants.{OutOfMemory, NotBuilt, AnotherGames, InputFailed, OutputFailed, OutputClosed, TooMuchInput}
 use Rattle.gamesman.specs.Games.{GameSpec}
 use Rattle.gamesman.specs.Outputs.{IsOutputFault, IsCutOff}
 use Rattle.gamesman.specs.Told.{IsMemoryFault}
-use Rattle.gamesman.specs.Finds.{board_row, IsTextOf, IsFoundIn, IsFoundAt, AreTiersFor, IsFoundOf, IsFoundSoFar, IsLeft, IsToldByTier, IsTierTold, first_limit, limit_by_tier, AreFoundWith}
-use Rattle.gamesman.proofs.Held.{play_at_hand, best_at_hand}
+use Rattle.gamesman.specs.Finds.{board_row, IsTextOf, IsFoundIn, IsFoundAt, AreTiersFor, IsFoundOf, IsFoundSoFar, IsLeft, IsToldByTier, IsTierTold, first_limit}
+use Rattle.gamesman.specs.Finds.{limit_by_tier, AreFoundWith}
 
 -- ---- the tables
-module _ (r : Rules) (laws : IsGame r) (entries : List TableData) (tiers : List ℕ) (held : (tier : ℕ) → Contains tiers tier → AreAllHeld r entries tier) where
-  -- where all tiers are held that some tiers reach, no table that a search of these rests on is missing
-  pub search_at_hand : (q : Sought) → IsMissing r entries q tiers → ⊥
-  search_at_hand q (inl not) = not (λ tier has. (held_own r entries tier (held tier has), held_children r entries tier (held tier has)))
-  search_at_hand q (inr (tier, has, (whole, (p, legal, is, (ms, play, not))))) =
-      play_at_hand r laws entries p ms legal (subst (AreAllHeld r entries) (sym is) (held tier has)) play not
-
-  -- nor is one that a sheet rests on
-  pub sheet_at_hand : (q : Sought) (reached : Bool) (choice : Choice)
-      → IsMissing r entries q tiers ⊎ ((xs : List Found) × AreChosen r q reached choice tiers xs × MayRefuseLines r entries xs NotHeld) → ⊥
-  sheet_at_hand q reached choice (inl missing) = search_at_hand q missing
-  sheet_at_hand q reached choice (inr (xs, are, (x, has, (ms, few, best, fresh, not)))) =
-      let both = chosen_in r q reached choice tiers xs are x has in
-      best_at_hand r laws entries x.position ms both.0 (held x.position.tier both.1) best not
-
 -- one tier is the only one of a list
 pub held_one : (r : Rules) (entries : List TableData) (tier : ℕ) → AreAllHeld r entries tier → (t : ℕ) → Contains (tier ∷ []) t → AreAllHeld r entries t
 held_one r entries tier held t has = elim (contains_cases tier t [] has) [
@@ -86,7 +67,8 @@ module _ (g : GameSpec) where
   text_none Boards other = refl
   text_none Sheet other = absurd (other refl)
 
-  text_more : (form : Form) (xs ys : List Found) (out more : List ℕ) → (form ≡ Sheet → ⊥) → IsTextOf g form xs out → IsTextOf g form ys more → IsTextOf g form (xs ++ ys) (out ++ more)
+  text_more : (form : Form) (xs ys : List Found) (out more : List ℕ) → (form ≡ Sheet → ⊥) → IsTextOf g form xs out → IsTextOf g form ys more → IsTextOf g
+      form (xs ++ ys) (out ++ more)
   text_more Rows xs ys out more other is too = joined (found_row g.shown g.move_shown) xs ys out more is too
   text_more Json xs ys out more other is too = joined (found_line g.shown g.move_shown) xs ys out more is too
   text_more Boards xs ys out more other is too = joined (board_row g) xs ys out more is too
@@ -112,12 +94,14 @@ module _ (r : Rules) (q : Sought) (reached : Bool) (limit : ℕ) where
       let both = first_append P limit (all_positions r tiers) one (map position_of xs) (map position_of ys) h.positions few in
       let named = subst (λ (ps : List Position). IsFirst P limit (all_positions r tiers ++ one) ps) (sym (map-append position_of xs ys)) both in
       record {
-        positions = subst (λ (ps : List Position). IsFirst P limit ps (map position_of (xs ++ ys))) (sym (flat_map-append (positions_in r) tiers (tier ∷ []))) named;
+        positions = subst (λ (ps : List Position). IsFirst P limit ps (map position_of (xs ++ ys)))
+            (sym (flat_map-append (positions_in r) tiers (tier ∷ []))) named;
         each = All-append (IsFound r) xs ys h.each k.each;
       }
 
   -- the limit is reached before the last tier
-  found_full : (k : ℕ) (tiers : List ℕ) (xs : List Found) → AreFound r q reached limit (take k tiers) xs → limit - length xs ≡ 0 → AreFound r q reached limit tiers xs
+  found_full : (k : ℕ) (tiers : List ℕ) (xs : List Found) → AreFound r q reached limit (take k tiers) xs → limit - length xs ≡ 0 → AreFound r q reached
+      limit tiers xs
   found_full k tiers xs h full =
       let P : Position → Type 0 = IsMatch r q reached in
       let ps = map position_of xs in
@@ -126,13 +110,14 @@ module _ (r : Rules) (q : Sought) (reached : Bool) (limit : ℕ) where
       let both = first_append P limit (all_positions r (take k tiers)) later ps [] h.positions none in
       let all = sym (flat_map-append (positions_in r) (take k tiers) (drop k tiers)) ∙ ap (all_positions r) (take-append-drop k tiers) in
       record {
-        positions = subst (λ (zs : List Position). IsFirst P limit zs ps) all (subst (λ (zs : List Position). IsFirst P limit (all_positions r (take k tiers) ++ later) zs) (append-nil ps) both);
+        positions = subst (λ (zs : List Position). IsFirst P limit zs ps) all (subst
+            (λ (zs : List Position). IsFirst P limit (all_positions r (take k tiers) ++ later) zs) (append-nil ps) both);
         each = h.each;
       }
 
 -- ---- tier by tier
 -- what is found in some tiers is written, and so many may still be
-abbrev pub IsSoFar : GameSpec → PositionsSought → ℕ → List ℕ → Option (List ℕ) → Option (List ℕ) → ℕ → Type 0
+abbrev pub IsSoFar : GameSpec → PositionSearch → ℕ → List ℕ → Option (List ℕ) → Option (List ℕ) → ℕ → Type 0
 IsSoFar g asked limit tiers before now left = (xs : List Found) × AreFound g.rules asked.sought asked.reached limit tiers xs × (left ≡ limit - length xs)
     × ((text : List ℕ) × IsTextOf g asked.form xs text × Appends before now text)
 
@@ -144,14 +129,15 @@ append_none : (o : Option (List ℕ)) → Appends o o []
 append_none None = tt
 append_none (Some xs) = sym (append-nil xs)
 
-module _ (g : GameSpec) (asked : PositionsSought) (limit : ℕ) (by_tier : limit_by_tier asked.form asked.choice ≡ Some limit) where
+module _ (g : GameSpec) (asked : PositionSearch) (limit : ℕ) (by_tier : limit_by_tier asked.form asked.choice ≡ Some limit) where
   no_sheet : asked.form ≡ Sheet → ⊥
   no_sheet = (told_by_tier asked.form asked.choice limit by_tier).1
 
   pub so_far_none : (o : Option (List ℕ)) → IsSoFar g asked limit [] o o limit
   so_far_none o = ([], found_none g.rules asked.sought asked.reached limit, omega arith, ([], text_none g asked.form no_sheet, append_none o))
 
-  so_far_more : (tiers : List ℕ) (tier n next left : ℕ) (a b c : Option (List ℕ)) → IsSoFar g asked limit tiers a b left → IsTierTold g asked tier left b c (Ok n) → next ≡ left - n
+  so_far_more : (tiers : List ℕ) (tier n next left : ℕ) (a b c : Option (List ℕ)) → IsSoFar g asked limit tiers a b left → IsTierTold g asked tier left b c
+      (Ok n) → next ≡ left - n
       → IsSoFar g asked limit (tiers ++ tier ∷ []) a c next
   so_far_more tiers tier n next left a b c (xs, are, is, (text, told, put)) (ys, those, many, (more, too, written)) e =
       let long : length (xs ++ ys) ≡ length xs + length ys = length-append xs ys in
@@ -163,13 +149,16 @@ module _ (g : GameSpec) (asked : PositionsSought) (limit : ℕ) (by_tier : limit
       )
 
   -- those of the next tier are written
-  pub next_told : (tiers : List ℕ) (k tier n next left : ℕ) (a b c : Option (List ℕ)) → take (k + 1) tiers ≡ take k tiers ++ tier ∷ [] → IsSoFar g asked limit (take k tiers) a b left
+  pub next_told : (tiers : List ℕ) (k tier n next left : ℕ) (a b c : Option (List ℕ)) → take (k + 1) tiers ≡ take k tiers ++ tier ∷ [] → IsSoFar g asked
+      limit (take k tiers) a b left
       → IsTierTold g asked tier left b c (Ok n) → next ≡ left - n → IsSoFar g asked limit (take (k + 1) tiers) a c next
   next_told tiers k tier n next left a b c longer so_far told e =
       subst (λ (ts : List ℕ). IsSoFar g asked limit ts a c next) (sym longer) (so_far_more (take k tiers) tier n next left a b c so_far told e)
 
-  chosen : (tiers : List ℕ) (xs : List Found) → AreFound g.rules asked.sought asked.reached limit tiers xs → AreChosen g.rules asked.sought asked.reached asked.choice tiers xs
-  chosen tiers xs are = subst (λ (choice : Choice). AreChosen g.rules asked.sought asked.reached choice tiers xs) (sym (told_by_tier asked.form asked.choice limit by_tier).0) are
+  chosen : (tiers : List ℕ) (xs : List Found) → AreFound g.rules asked.sought asked.reached limit tiers xs → AreChosen g.rules asked.sought asked.reached
+      asked.choice tiers xs
+  chosen tiers xs are = subst (λ (choice : Choice). AreChosen g.rules asked.sought asked.reached choice tiers xs)
+      (sym (told_by_tier asked.form asked.choice limit by_tier).0) are
 
   module _ (IsWhy : Fault → Type 0) (tiers : List ℕ) (are_asked : AreTiersFor g.rules asked.tier tiers) (a b : Option (List ℕ)) where
     -- all of the tiers are told
@@ -184,7 +173,8 @@ module _ (g : GameSpec) (asked : PositionsSought) (limit : ℕ) (by_tier : limit
     pub full_told : (k left : ℕ) → IsSoFar g asked limit (take k tiers) a b left → left ≡ 0 → IsToldByTier g asked IsWhy a b (Ok 0)
     full_told k left (xs, are, is, told) none = all_told left (xs, found_full g.rules asked.sought asked.reached limit k tiers xs are (sym is ∙ none), is, told)
 
-    module _ (k tier left : ℕ) (c : Option (List ℕ)) (so_far : IsSoFar g asked limit (take k tiers) a b left) (next : take (k + 1) tiers ≡ take k tiers ++ tier ∷ []) where
+    module _ (k tier left : ℕ) (c : Option (List ℕ)) (so_far : IsSoFar g asked limit (take k tiers) a b left)
+        (next : take (k + 1) tiers ≡ take k tiers ++ tier ∷ []) where
       -- a write fails in the next tier
       part_told : (text : List ℕ) × IsFoundAt g asked tier left text × AppendsPart b c text → (text : List ℕ) × IsFoundSoFar g asked text × AppendsPart a c text
       part_told (more, (ys, those, too), part) =
@@ -203,7 +193,8 @@ module _ (g : GameSpec) (asked : PositionsSought) (limit : ℕ) (by_tier : limit
           let (xs, are, is, (text, told, put)) = so_far in
           (text, (tiers, are_asked, (k, (xs, chosen (take k tiers) xs are, told))), Appends-kept a b c text put keeps)
 
-      left_told : (fault : Fault) → IsCutOff (IsFoundAt g asked tier left) b c fault → IsOutputFault fault ⊎ IsMemoryFault fault → IsLeft (IsFoundSoFar g asked) a c fault
+      left_told : (fault : Fault) → IsCutOff (IsFoundAt g asked tier left) b c fault → IsOutputFault fault ⊎ IsMemoryFault fault → IsLeft
+          (IsFoundSoFar g asked) a c fault
       left_told OutputFailed told why = part_told told
       left_told OutputClosed told why = part_told told
       left_told (OutOfMemory error) told why = inr (memory_told told)
@@ -219,7 +210,8 @@ module _ (g : GameSpec) (asked : PositionsSought) (limit : ℕ) (by_tier : limit
       left_told InputFailed told why = absurd (neither why)
       left_told TooMuchInput told why = absurd (neither why)
 
-      pub failed_told : ((fault : Fault) → IsMemoryFault fault → IsWhy fault) → (fault : Fault) → IsTierTold g asked tier left b c (Err fault) → IsOutputFault fault ⊎ IsMemoryFault fault
+      pub failed_told : ((fault : Fault) → IsMemoryFault fault → IsWhy fault) → (fault : Fault) → IsTierTold g asked tier left b c (Err fault) →
+          IsOutputFault fault ⊎ IsMemoryFault fault
           → IsToldByTier g asked IsWhy a c (Err fault)
       failed_told refused fault told why = record {
         written = left_told fault told why;
@@ -227,6 +219,7 @@ module _ (g : GameSpec) (asked : PositionsSought) (limit : ℕ) (by_tier : limit
       }
 
 -- what is found is told as the limit says
-pub found_with : (o p : Option ℕ) (g : GameSpec) (asked : PositionsSought) (IsWhy : Fault → Type 0) (before after : Option (List ℕ)) (result : Result ℕ Fault) → o ≡ p
+pub found_with : (o p : Option ℕ) (g : GameSpec) (asked : PositionSearch) (IsWhy : Fault → Type 0) (before after : Option (List ℕ))
+    (result : Result ℕ Fault) → o ≡ p
     → AreFoundWith o g asked IsWhy before after result → AreFoundWith p g asked IsWhy before after result
 found_with o p g asked IsWhy before after result e h = subst (λ (x : Option ℕ). AreFoundWith x g asked IsWhy before after result) e h

@@ -1,5 +1,6 @@
 -- Fronts of texts that are written.
-use Rattle.std.proofs.Common.{◌≡◌, ℕ, ◌+◌, ◌-◌, ◌≤◌, Bool, true, false, List, ◌++◌, length, take, drop, Option, Result, Ok, Err, sym, ap, subst, ◌∙◌, arith, take-add, length-take, take-append-drop}
+use Rattle.std.proofs.Common.{◌≡◌, ℕ, ◌+◌, ◌-◌, ◌≤◌, Bool, true, false, List, ◌++◌, length, take, drop, Option, Result, Ok, Err, sym, ap, subst, ◌∙◌, arith}
+use Rattle.std.proofs.Common.{take-add, length-take, take-append-drop}
 use Rattle.std.proofs.lemmas.List.{take-take}
 use Rattle.std.specs.Io.KnownBytes.{Appends, Keeps}
 use Rattle.std.proofs.KnownBytes.{Appends-trans, Appends-kept}
@@ -11,7 +12,8 @@ use Rattle.gamesman.specs.Listing.{listed, listed_later}
 
 module _ (a b c : Option (List ℕ)) (done : ℕ) (xs : List ℕ) (within : done ≤ length xs) (before : Appends a b (take done xs)) where
   -- a write took some more bytes
-  pub more_written : (n next : ℕ) → n ≤ length (take (length xs - done) (drop done xs)) → Appends b c (take n (take (length xs - done) (drop done xs))) → next ≡ done + n
+  pub more_written : (n next : ℕ) → n ≤ length (take (length xs - done) (drop done xs)) → Appends b c (take n (take (length xs - done) (drop done xs))) →
+      next ≡ done + n
       → (next ≤ length xs) × Appends a c (take next xs)
   more_written n next most more is =
       let long = length-take (length xs - done) (drop done xs) in

@@ -1,6 +1,5 @@
 pub mod Reached
 pub mod Cut
-pub mod Held
 pub mod Fronts
 pub mod Ring
 pub mod Telling

@@ -17,7 +17,8 @@ use Rattle.gamesman.specs.Games.{GameSpec, game_spec, mutorere_spec}
 
 -- the game with these rules and texts
 abbrev pub ring_spec : Rules → (Position → List ℕ) → (Position → ℕ → List ℕ) → GameSpec
-ring_spec rules shown move_shown = game_spec rules shown move_shown (λ p. filled ring_board (shown p)) x_moves ring_naming Discs (codes "Mu Torere") ring_board ring_points
+ring_spec rules shown move_shown = game_spec rules shown move_shown (λ p. filled ring_board (shown p)) x_moves ring_naming Discs (codes "Mu Torere")
+    ring_board ring_points
 
 pub ring_is : (P : GameSpec → Type 0) → P (ring_spec (way_rules 9 ring_game) (way_text 9 ring_game) (way_move_text ring_game)) → P mutorere_spec
 ring_is P h =

@@ -1,5 +1,6 @@
 -- What is left of an answer about all of a game after a fault, and the tables that it rests on.
-use Rattle.std.proofs.Common.{◌≡◌, ℕ, suc, true, false, nat_eq, inl, inr, List, Option, None, Some, Result, Ok, Err, IfErr, refl, sym, subst, ◌∙◌, eqb-true, eq-eqb}
+use Rattle.std.proofs.Common.{◌≡◌, ℕ, suc, true, false, nat_eq, inl, inr, List, Option, None, Some, Result, Ok, Err, IfErr, refl, sym, subst, ◌∙◌, eqb-true}
+use Rattle.std.proofs.Common.{eq-eqb}
 use Rattle.std.specs.Prelude.{IsErrOf}
 use Rattle.std.specs.Result.{IsErrAnd}
 use Rattle.std.specs.List.{Contains, list_any}
@@ -8,17 +9,15 @@ use Rattle.gm_game.specs.Rules.{Rules}
 use Rattle.gm_table.specs.Tables.{TableData}
 use Rattle.gm_tiers.specs.Orders.{IsOrderFrom}
 use Rattle.gm_build.specs.Work.{HoldsExactly}
-use Rattle.gm_find.specs.declared.find_error.FindError.{FindError}
-use Rattle.gm_find.specs.declared.find_error.FindError.TheVariants.{OutOfMemory as NoRoom, NotHeld}
-use Rattle.gm_find.specs.Finding.{AreTiersHeld}
-use Rattle.gm_command.specs.declared.requests.PositionsSought.{PositionsSought}
-use Rattle.gm_command.specs.declared.requests.Search.{Search}
-use Rattle.gm_command.specs.declared.requests.Search.TheVariants.{Find, Counts, Longest, Ask}
+use Rattle.gm_command.specs.declared.requests.PositionSearch.{PositionSearch}
+use Rattle.gm_command.specs.declared.requests.TableRequest.{TableRequest}
+use Rattle.gm_command.specs.declared.requests.TableRequest.TheVariants.{Find, Counts, Longest, Ask}
 use Rattle.gamesman.specs.declared.fault.Fault.{Fault}
-use Rattle.gamesman.specs.declared.fault.Fault.TheVariants.{NoSuchGame, NoSuchPosition, NoSuchPositionInLine, NoSuchTier, NoSuchIndex, NotLegal, NotCanonical, OutOfMemory, NotBuilt, AnotherGames, InputFailed, OutputFailed, OutputClosed, TooMuchInput}
+use Rattle.gamesman.specs.declared.fault.Fault.TheVariants.{NoSuchGame, NoSuchPosition, NoSuchPositionInLine, NoSuchTier, NoSuchIndex, NotLegal, NotCanonical}
+use Rattle.gamesman.specs.declared.fault.Fault.TheVariants.{OutOfMemory, NotBuilt, AnotherGames, InputFailed, OutputFailed, OutputClosed, TooMuchInput}
 use Rattle.gamesman.specs.Outputs.{IsCutOff}
 use Rattle.gamesman.specs.Refusals.{IsUnbuilt}
-use Rattle.gamesman.specs.Told.{IsMemoryFault, IsFindFault, IsNoTier, IsNoPlace, IsUnknown, IsPut, IsTold}
+use Rattle.gamesman.specs.Told.{IsMemoryFault, IsNoTier, IsNoPlace, IsUnknown, IsPut, IsTold}
 use Rattle.gamesman.specs.Games.{GameSpec}
 use Rattle.gamesman.specs.Finds.{IsFoundOf, IsFoundSoFar, IsLeft, limit_by_tier, AreFoundWith}
 use Rattle.gamesman.specs.Searches.{IsUnsearched, first_of, tier_asked, IsCountsOf, IsLongestOf, IsSearched}
@@ -121,16 +120,15 @@ memory_unbuilt r first OutputClosed is = absurd is
 memory_unbuilt r first TooMuchInput is = absurd is
 
 -- a text that is written is what is to be told
-pub put_told : (IsText : List ℕ → Type 0) (IsWhy : Fault → Type 0) (text : List ℕ) (before after : Option (List ℕ)) (result : Result ℕ Fault) → IsText text → IsPut text before after result
+pub put_told : (IsText : List ℕ → Type 0) (IsWhy : Fault → Type 0) (text : List ℕ) (before after : Option (List ℕ)) (result : Result ℕ Fault) → IsText text
+    → IsPut text before after result
     → IsTold IsText IsWhy before after result
 put_told IsText IsWhy text before after (Ok status) is (done, put) = record { written = (done, (text, is, put)); refused = tt }
-put_told IsText IsWhy text before after (Err fault) is (failed, part) = record { written = cut_off IsText before after fault text failed is part; refused = inl failed }
-
--- where all tables are held a search fails for want of memory alone
-pub find_passed : {T U : Type 0} → (m : Result T Fault) (f : Result U FindError) (error : FindError) → f ≡ Err error → (IsErrOf f NotHeld → ⊥) → IsErrAnd m (IsFindFault error) → IfErr m IsMemoryFault
-find_passed (Ok x) f error e held h = tt
-find_passed (Err y) f NoRoom e held h = h
-find_passed (Err y) f NotHeld e held h = absurd (held e)
+put_told IsText IsWhy text before after (Err fault) is (failed, part) = record {
+  written = cut_off IsText before after fault text failed is part;
+  refused =
+      inl failed;
+}
 
 -- a tier that a test finds in a list is there, and one that it does not find is not
 pub listed : (tiers : List ℕ) (tier : ℕ) → list_any (λ y. nat_eq y tier) tiers ≡ true → Contains tiers tier
@@ -138,12 +136,6 @@ listed tiers tier e = let (y, has, s) = any_in (λ (y : ℕ). nat_eq y tier) tie
 
 pub unlisted : (tiers : List ℕ) (tier : ℕ) → list_any (λ y. nat_eq y tier) tiers ≡ false → Contains tiers tier → ⊥
 unlisted tiers tier e has = let f : true ≡ false = sym (any_from (λ (y : ℕ). nat_eq y tier) tiers tier has (eq-eqb tier tier refl)) ∙ e in absurd (cc)
-
--- the tables of all tiers of an order are held, and so are those of their child tiers
-pub tiers_held : (r : Rules) (entries : List TableData) (order : List ℕ) (first : ℕ) → IsOrderFrom r first order → HoldsExactly entries order → AreTiersHeld r entries order
-tiers_held r entries order first is held tier has =
-    let (n, reached) = (is.each tier).0 has in
-    ((held tier).1 has, λ child below. (held child).1 ((is.each child).1 (suc n, (tier, reached, below))))
 
 -- nothing is written tier by tier where nothing is written at all
 left_from : (IsText : List ℕ → Type 0) (o : Option (List ℕ)) (fault : Fault) → IsCutOff (λ text. ⊥) o o fault → IsLeft IsText o o fault
@@ -163,14 +155,15 @@ left_from IsText o InputFailed is = is
 left_from IsText o TooMuchInput is = is
 
 -- what `find` finds is told where no table is had
-pub find_unsearched : (limit : Option ℕ) (g : GameSpec) (asked : PositionsSought) (o : Option (List ℕ)) (fault : Fault) → IsUnsearched g.rules asked.tier fault
+pub find_unsearched : (limit : Option ℕ) (g : GameSpec) (asked : PositionSearch) (o : Option (List ℕ)) (fault : Fault) → IsUnsearched g.rules asked.tier fault
     → AreFoundWith limit g asked (IsUnsearched g.rules asked.tier) o o (Err fault)
 find_unsearched (Some limit) g asked o fault is =
     record { written = left_from (IsFoundSoFar g asked) o fault (unsearched_cut (λ text. ⊥) o g.rules asked.tier fault is); refused = inr is }
 find_unsearched None g asked o fault is = unsearched_told (IsFoundOf g asked) o g.rules asked.tier fault is
 
 -- a question about all tables of a game is answered where no table is had
-pub unsearched : (g : GameSpec) (asked : Search) (o : Option (List ℕ)) (fault : Fault) → IsUnsearched g.rules (tier_asked asked) fault → IsSearched g asked o o (Err fault)
+pub unsearched : (g : GameSpec) (asked : TableRequest) (o : Option (List ℕ)) (fault : Fault) → IsUnsearched g.rules (tier_asked asked) fault → IsSearched g
+    asked o o (Err fault)
 unsearched g (Find positions) o fault is = find_unsearched (limit_by_tier positions.form positions.choice) g positions o fault is
 unsearched g (Counts asked) o fault is = unsearched_told (IsCountsOf g.rules asked) o g.rules None fault is
 unsearched g (Longest reached limit) o fault is = unsearched_told (IsLongestOf g.rules g.shown g.move_shown reached limit) o g.rules None fault is

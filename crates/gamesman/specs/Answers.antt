@@ -14,11 +14,11 @@ use Rattle.gm_draw.specs.Diagrams.{IsDiagram}
 use Rattle.gm_page.specs.Pages.{IsPage}
 use Rattle.gm_command.specs.declared.requests.Question.{Question}
 use Rattle.gm_command.specs.declared.requests.Question.TheVariants.{Moves, Why, Line, Show, Diagram, Page}
-use Rattle.gm_command.specs.declared.requests.PositionAsked.{PositionAsked}
-use Rattle.gm_command.specs.declared.requests.Asked.{Asked}
-use Rattle.gm_command.specs.declared.requests.Asked.TheVariants.{List as Names, Of}
-use Rattle.gm_command.specs.declared.requests.GameAsked.{GameAsked}
-use Rattle.gm_command.specs.declared.requests.GameAsked.TheVariants.{Solve, Query, Explore, Locate, At, Search, Analyse, Check}
+use Rattle.gm_command.specs.declared.requests.PositionRequest.{PositionRequest}
+use Rattle.gm_command.specs.declared.requests.Request.{Request}
+use Rattle.gm_command.specs.declared.requests.Request.TheVariants.{List as Names, Of}
+use Rattle.gm_command.specs.declared.requests.GameRequest.{GameRequest}
+use Rattle.gm_command.specs.declared.requests.GameRequest.TheVariants.{Solve, Query, Explore, Locate, At, Search, Analyse, Check}
 use Rattle.gamesman.specs.declared.fault.Fault.{Fault}
 use Rattle.gamesman.specs.declared.fault.Fault.TheVariants.{NoSuchGame, NoSuchPosition, OutOfMemory, OutputFailed, OutputClosed}
 use Rattle.gamesman.specs.Games.{GameSpec, game_named}
@@ -58,12 +58,13 @@ IsTextFor g (Diagram valued) position out = IsDiagram g.rules g.shown g.move_sho
 IsTextFor g (Page limit) position out = IsPage g.rules g.shown g.move_shown g.style g.title g.board g.points g.naming position (max limit 1) out
 
 -- the text of the position that is asked about: of the start where none is given
-abbrev pub text_asked : GameSpec → PositionAsked → List ℕ
+abbrev pub text_asked : GameSpec → PositionRequest → List ℕ
 text_asked g asked = elim asked.position [ None ↦ g.shown g.rules.initial | Some text ↦ text.now ]
 
 -- a question about a position, or about the start, is answered
-abbrev pub IsExplored : GameSpec → PositionAsked → Option (List ℕ) → Option (List ℕ) → Result ℕ Fault → Type 0
-IsExplored g asked before after result = IsAnsweredBy g.rules g.shown g.move_shown (text_asked g asked) (IsTextFor g asked.question (text_asked g asked)) before after result
+abbrev pub IsExplored : GameSpec → PositionRequest → Option (List ℕ) → Option (List ℕ) → Result ℕ Fault → Type 0
+IsExplored g asked before after result = IsAnsweredBy g.rules g.shown g.move_shown (text_asked g asked) (IsTextFor g asked.question (text_asked g asked))
+    before after result
 
 -- why a position is not located: there is none with this text, or a write failed
 abbrev pub IsUnlocatedFor : Rules → (Position → List ℕ) → List ℕ → Fault → Type 0
@@ -80,7 +81,7 @@ pub record IsLocatedBy (r : Rules) (shown : Position → List ℕ) (text : List 
   pub unread : IsUnlocated r shown text → result ≡ Err NoSuchPosition
 
 -- what is asked of a game is answered
-abbrev pub IsAnswered : GameSpec → GameAsked → Option (List ℕ) → Option (List ℕ) → Result ℕ Fault → Type 0
+abbrev pub IsAnswered : GameSpec → GameRequest → Option (List ℕ) → Option (List ℕ) → Result ℕ Fault → Type 0
 IsAnswered g (Query position kept) before after result =
     IsAnsweredBy g.rules g.shown g.move_shown position.now (IsQueryLine g.rules g.shown g.move_shown position.now) before after result
 IsAnswered g (Explore asked kept) before after result = IsExplored g asked before after result
@@ -93,12 +94,12 @@ IsAnswered g (Check folder) before after result = IsCheckedBy g.rules before aft
 IsAnswered g _ before after result = Unit {0}
 
 -- what is asked of the game of a name is answered; where no game has the name, that is the fault
-abbrev pub IsAnsweredFor : Option GameSpec → GameAsked → Option (List ℕ) → Option (List ℕ) → Result ℕ Fault → Type 0
+abbrev pub IsAnsweredFor : Option GameSpec → GameRequest → Option (List ℕ) → Option (List ℕ) → Result ℕ Fault → Type 0
 IsAnsweredFor None asked before after result = (result ≡ Err NoSuchGame) × Keeps before after
 IsAnsweredFor (Some g) asked before after result = IsAnswered g asked before after result
 
 -- what a line asks for is answered
-abbrev pub IsDone : Asked → Option (List ℕ) → Option (List ℕ) → Result ℕ Fault → Type 0
+abbrev pub IsDone : Request → Option (List ℕ) → Option (List ℕ) → Result ℕ Fault → Type 0
 IsDone (Names all) before after result = IsPut (listed all) before after result
 IsDone (Of game asked telling) before after result = IsAnsweredFor (game_named game.now) asked before after result
 IsDone _ before after result = Unit {0}
@@ -109,5 +110,5 @@ status_of (Ok status) = status
 status_of (Err fault) = 1
 
 -- what a line asks for is answered, and the status tells of what
-abbrev pub IsRun : Asked → Option (List ℕ) → Option (List ℕ) → ℕ → Type 0
+abbrev pub IsRun : Request → Option (List ℕ) → Option (List ℕ) → ℕ → Type 0
 IsRun asked before after status = (result : Result ℕ Fault) × IsDone asked before after result × (status ≡ status_of result)

@@ -8,10 +8,11 @@ use Rattle.gm_table.specs.declared.checker.CheckError.TheVariants.{OutOfMemory a
 use Rattle.gm_table.specs.Tables.{TableData, AreTables, AreHeld}
 use Rattle.gm_tiers.specs.Orders.{IsTierOrder}
 use Rattle.gm_tierdb.specs.declared.file_error.FileError.{FileError}
-use Rattle.gm_tierdb.specs.declared.file_error.FileError.TheVariants.{OutOfMemory, Truncated, BadMagic, WrongGame, WrongTier, WrongSize as OtherSize, BadRecord, Trailing, BadDigest, OldVersion}
+use Rattle.gm_tierdb.specs.declared.file_error.FileError.TheVariants.{OutOfMemory, Truncated, BadMagic, WrongGame, WrongTier, WrongSize as OtherSize, BadRecord}
+use Rattle.gm_tierdb.specs.declared.file_error.FileError.TheVariants.{Trailing, BadDigest, OldVersion}
 use Rattle.gm_tierdb.specs.Refusals.{Refuses}
-use Rattle.gm_entry.specs.TrueTexts.{IsTrueText}
-use Rattle.gm_entry.specs.Inspections.{IsUntrueText}
+use Rattle.gm_build.specs.TrueTexts.{IsTrueText}
+use Rattle.gm_build.specs.Inspections.{IsUntrueText}
 use Rattle.gm_build.specs.declared.build_error.BuildError.TheVariants.{StoreFailed}
 use Rattle.gm_build.specs.Work.{HoldsExactly}
 use Rattle.gm_play.specs.Sessions.{AppendsPart}

@@ -14,7 +14,7 @@ use Rattle.gm_json.specs.Founds.{found_line}
 use Rattle.gm_sheet.specs.Sheets.{Entry, AreEntries, sheet_of}
 use Rattle.gm_command.specs.declared.requests.Form.{Form}
 use Rattle.gm_command.specs.declared.requests.Form.TheVariants.{Rows, Json, Sheet, Boards}
-use Rattle.gm_command.specs.declared.requests.PositionsSought.{PositionsSought}
+use Rattle.gm_command.specs.declared.requests.PositionSearch.{PositionSearch}
 use Rattle.gamesman.specs.declared.fault.Fault.{Fault}
 use Rattle.gamesman.specs.declared.fault.Fault.TheVariants.{OutOfMemory, OutputFailed, OutputClosed}
 use Rattle.gamesman.specs.Games.{GameSpec}
@@ -34,11 +34,11 @@ IsTextOf g Sheet xs out = (es : List Entry)
     × AreEntries g.rules g.shown g.move_shown g.drawn g.mover g.style g.title g.board xs es × (out ≡ sheet_of g.title es)
 
 -- those of the positions of these tiers that are sought that the choice takes, as a text
-abbrev pub IsFoundIn : GameSpec → PositionsSought → List ℕ → List ℕ → Type 0
+abbrev pub IsFoundIn : GameSpec → PositionSearch → List ℕ → List ℕ → Type 0
 IsFoundIn g asked tiers out = (xs : List Found) × AreChosen g.rules asked.sought asked.reached asked.choice tiers xs × IsTextOf g asked.form xs out
 
 -- the first of those of one tier, at most so many, as a text
-abbrev pub IsFoundAt : GameSpec → PositionsSought → ℕ → ℕ → List ℕ → Type 0
+abbrev pub IsFoundAt : GameSpec → PositionSearch → ℕ → ℕ → List ℕ → Type 0
 IsFoundAt g asked tier left out = (xs : List Found) × AreFound g.rules asked.sought asked.reached left (tier ∷ []) xs × IsTextOf g asked.form xs out
 
 -- the tiers that are looked in: the one that is named, or all of the game in their order
@@ -47,11 +47,11 @@ AreTiersFor r None tiers = IsTierOrder r tiers
 AreTiersFor r (Some tier) tiers = tiers ≡ tier ∷ []
 
 -- what is found in all of them
-abbrev pub IsFoundOf : GameSpec → PositionsSought → List ℕ → Type 0
+abbrev pub IsFoundOf : GameSpec → PositionSearch → List ℕ → Type 0
 IsFoundOf g asked out = (tiers : List ℕ) × AreTiersFor g.rules asked.tier tiers × IsFoundIn g asked tiers out
 
 -- what is found in the first of them, however many these are
-abbrev pub IsFoundSoFar : GameSpec → PositionsSought → List ℕ → Type 0
+abbrev pub IsFoundSoFar : GameSpec → PositionSearch → List ℕ → Type 0
 IsFoundSoFar g asked out = (tiers : List ℕ) × AreTiersFor g.rules asked.tier tiers × ((k : ℕ) × IsFoundIn g asked (take k tiers) out)
 
 -- after a fault: a first part of such a text is written where a write failed; where memory is refused nothing or the whole of one; and nothing otherwise
@@ -62,17 +62,17 @@ IsLeft IsText before after (OutOfMemory error) = Keeps before after ⊎ ((text :
 IsLeft IsText before after _ = Keeps before after
 
 -- what is found is written tier by tier; after a fault that is what the first tiers have, of which a part is left out where a write failed
-abbrev pub IsWrittenByTier : GameSpec → PositionsSought → Option (List ℕ) → Option (List ℕ) → Result ℕ Fault → Type 0
+abbrev pub IsWrittenByTier : GameSpec → PositionSearch → Option (List ℕ) → Option (List ℕ) → Result ℕ Fault → Type 0
 IsWrittenByTier g asked before after (Ok status) = (status ≡ 0) × ((text : List ℕ) × IsFoundOf g asked text × Appends before after text)
 IsWrittenByTier g asked before after (Err fault) = IsLeft (IsFoundSoFar g asked) before after fault
 
 -- the same; and why it is refused where no write failed
-pub record IsToldByTier (g : GameSpec) (q : PositionsSought) (IsWhy : Fault → Type 0) (before after : Option (List ℕ)) (result : Result ℕ Fault) : Type 0 where
+pub record IsToldByTier (g : GameSpec) (q : PositionSearch) (IsWhy : Fault → Type 0) (before after : Option (List ℕ)) (result : Result ℕ Fault) : Type 0 where
   pub written : IsWrittenByTier g q before after result
   pub refused : IfErr result (λ fault. IsOutputFault fault ⊎ IsWhy fault)
 
 -- the first of the positions of one tier are written, and are so many; after a fault a part of them is where a write failed, and else nothing
-abbrev pub IsTierTold : GameSpec → PositionsSought → ℕ → ℕ → Option (List ℕ) → Option (List ℕ) → Result ℕ Fault → Type 0
+abbrev pub IsTierTold : GameSpec → PositionSearch → ℕ → ℕ → Option (List ℕ) → Option (List ℕ) → Result ℕ Fault → Type 0
 IsTierTold g asked tier left before after (Ok n) = (xs : List Found) × AreFound g.rules asked.sought asked.reached left (tier ∷ []) xs × (n ≡ length xs)
     × ((text : List ℕ) × IsTextOf g asked.form xs text × Appends before after text)
 IsTierTold g asked tier left before after (Err fault) = IsCutOff (IsFoundAt g asked tier left) before after fault
@@ -90,10 +90,10 @@ limit_by_tier Boards choice = first_limit choice
 limit_by_tier Sheet choice = None
 
 -- what is found is told tier by tier, or at once
-abbrev pub AreFoundWith : Option ℕ → GameSpec → PositionsSought → (Fault → Type 0) → Option (List ℕ) → Option (List ℕ) → Result ℕ Fault → Type 0
+abbrev pub AreFoundWith : Option ℕ → GameSpec → PositionSearch → (Fault → Type 0) → Option (List ℕ) → Option (List ℕ) → Result ℕ Fault → Type 0
 AreFoundWith (Some limit) g asked IsWhy before after result = IsToldByTier g asked IsWhy before after result
 AreFoundWith None g asked IsWhy before after result = IsTold (IsFoundOf g asked) IsWhy before after result
 
 -- what `find` finds is told
-abbrev pub AreFoundBy : GameSpec → PositionsSought → (Fault → Type 0) → Option (List ℕ) → Option (List ℕ) → Result ℕ Fault → Type 0
+abbrev pub AreFoundBy : GameSpec → PositionSearch → (Fault → Type 0) → Option (List ℕ) → Option (List ℕ) → Result ℕ Fault → Type 0
 AreFoundBy g asked IsWhy before after result = AreFoundWith (limit_by_tier asked.form asked.choice) g asked IsWhy before after result

@@ -24,8 +24,10 @@ use Rattle.gm_tactix.specs.Texts.{position_text as tactix_text, move_text as tac
 use Rattle.gm_draw.specs.Templates.{filled}
 use Rattle.gm_draw.specs.Rows.{countdown_row, takeaway_row, wheel_row}
 use Rattle.gm_draw.specs.Pictures.{nine_points, dao_board, tactix_board, ring_board, pong_board, hare_board}
-use Rattle.gm_draw.specs.Points.{number_points, square_points, ring_points, pong_points, hare_points, countdown_board, takeaway_board, wheel_board, nine_title, nine_style, tactix_title}
-use Rattle.gm_draw.specs.Names.{x_moves, player_moves, hare_mover, countdown_naming, takeaway_naming, wheel_naming, nine_naming, dao_naming, tactix_naming, ring_naming, pong_naming, hare_naming}
+use Rattle.gm_draw.specs.Points.{number_points, square_points, ring_points, pong_points, hare_points, countdown_board, takeaway_board, wheel_board, nine_title}
+use Rattle.gm_draw.specs.Points.{nine_style, tactix_title}
+use Rattle.gm_draw.specs.Names.{x_moves, player_moves, hare_mover, countdown_naming, takeaway_naming, wheel_naming, nine_naming, dao_naming, tactix_naming}
+use Rattle.gm_draw.specs.Names.{ring_naming, pong_naming, hare_naming}
 use Rattle.gm_draw.specs.declared.pictured.Style.{Style}
 use Rattle.gm_draw.specs.declared.pictured.Style.TheVariants.{Row, Discs, Letters, Counters, Stones}
 
@@ -42,7 +44,8 @@ pub record GameSpec : Type 0 where
   pub board : List ℕ
   pub points : List (List ℕ)
 
-abbrev pub game_spec : Rules → (Position → List ℕ) → (Position → ℕ → List ℕ) → (Position → List ℕ) → (Position → List ℕ) → List ℕ → Style → List ℕ → List ℕ → List (List ℕ) → GameSpec
+abbrev pub game_spec : Rules → (Position → List ℕ) → (Position → ℕ → List ℕ) → (Position → List ℕ) → (Position → List ℕ) → List ℕ → Style → List ℕ → List ℕ
+    → List (List ℕ) → GameSpec
 game_spec rules shown move_shown drawn mover naming style title board points = record {
   rules = rules;
   shown = shown;

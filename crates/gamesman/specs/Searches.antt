@@ -8,9 +8,9 @@ use Rattle.gm_best.specs.Places.{IsAt}
 use Rattle.gm_play.specs.PlaceTexts.{IsPositionText}
 use Rattle.gm_analyse.specs.Bars.{IsCountsText}
 use Rattle.gm_analyse.specs.Longest.{IsLongestText}
-use Rattle.gm_command.specs.declared.requests.CountsAsked.{CountsAsked}
-use Rattle.gm_command.specs.declared.requests.Search.{Search}
-use Rattle.gm_command.specs.declared.requests.Search.TheVariants.{Find, Counts, Longest, Ask}
+use Rattle.gm_command.specs.declared.requests.CountsRequest.{CountsRequest}
+use Rattle.gm_command.specs.declared.requests.TableRequest.{TableRequest}
+use Rattle.gm_command.specs.declared.requests.TableRequest.TheVariants.{Find, Counts, Longest, Ask}
 use Rattle.gamesman.specs.declared.fault.Fault.{Fault}
 use Rattle.gamesman.specs.Games.{GameSpec}
 use Rattle.gamesman.specs.Finds.{AreFoundBy}
@@ -30,7 +30,7 @@ abbrev pub IsPlaced : Rules → (Position → List ℕ) → ℕ → ℕ → Opti
 IsPlaced r shown tier index before after result = IsTold (IsAtText r shown tier index) (IsUnplaced r tier index) before after result
 
 -- the counts of all tiers of the game
-abbrev pub IsCountsOf : Rules → CountsAsked → List ℕ → Type 0
+abbrev pub IsCountsOf : Rules → CountsRequest → List ℕ → Type 0
 IsCountsOf r asked out = (tiers : List ℕ) × IsTierOrder r tiers × IsCountsText r asked.among asked.reached asked.by_tier asked.form tiers out
 
 -- the longest wins and the longest losses of all tiers of the game
@@ -38,7 +38,7 @@ abbrev pub IsLongestOf : Rules → (Position → List ℕ) → (Position → ℕ
 IsLongestOf r shown move_shown reached limit out = (tiers : List ℕ) × IsTierOrder r tiers × IsLongestText r shown move_shown reached limit tiers out
 
 -- the one tier that is asked about; none where all are
-abbrev pub tier_asked : Search → Option ℕ
+abbrev pub tier_asked : TableRequest → Option ℕ
 tier_asked (Find positions) = positions.tier
 tier_asked (Counts asked) = None
 tier_asked (Longest reached limit) = None
@@ -59,8 +59,9 @@ abbrev pub IsUnsearched : Rules → Option ℕ → Fault → Type 0
 IsUnsearched r tier fault = IsUnnamed r tier fault ⊎ IsUnbuilt r (first_of r tier) fault
 
 -- a question about all tables of a game is answered
-abbrev pub IsSearched : GameSpec → Search → Option (List ℕ) → Option (List ℕ) → Result ℕ Fault → Type 0
+abbrev pub IsSearched : GameSpec → TableRequest → Option (List ℕ) → Option (List ℕ) → Result ℕ Fault → Type 0
 IsSearched g (Counts asked) before after result = IsTold (IsCountsOf g.rules asked) (IsUnsearched g.rules None) before after result
-IsSearched g (Longest reached limit) before after result = IsTold (IsLongestOf g.rules g.shown g.move_shown reached limit) (IsUnsearched g.rules None) before after result
+IsSearched g (Longest reached limit) before after result = IsTold (IsLongestOf g.rules g.shown g.move_shown reached limit) (IsUnsearched g.rules None)
+    before after result
 IsSearched g (Find positions) before after result = AreFoundBy g positions (IsUnsearched g.rules positions.tier) before after result
 IsSearched g (Ask asked) before after result = Unit {0}

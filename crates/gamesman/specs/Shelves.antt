@@ -33,4 +33,5 @@ abbrev pub IsShelfWrite : {T : Type 0} → Shelf → Shelf → ℕ → List ℕ 
 IsShelfWrite (Folder s) new tier bytes result = Unit {0}
 IsShelfWrite (ReadOnly s) new tier bytes result = IsErrOf result Failed × (kept_in new ≡ kept_in (ReadOnly s))
 IsShelfWrite (Memory s) new tier bytes result =
-    OnOk result (Sets tier bytes (texts_in (Memory s)) (texts_in new)) × (IsErrOf result OutOfMemory → AreSame (texts_in (Memory s)) (texts_in new)) × (IsErrOf result Failed → ⊥)
+    OnOk result (Sets tier bytes (texts_in (Memory s)) (texts_in new)) × (IsErrOf result OutOfMemory → AreSame (texts_in (Memory s)) (texts_in new)) ×
+    (IsErrOf result Failed → ⊥)

@@ -15,7 +15,8 @@ part words number = words ++ decimal number
 -- how many tiers were solved, reused and migrated, the deliveries, and those by hand, in words
 abbrev pub report_text : ℕ → ℕ → ℕ → ℕ → ℕ → List ℕ
 report_text solved reused migrated deliveries by_hand =
-    part (codes "solved ") solved ++ part (codes " reused ") reused ++ part (codes " migrated ") migrated ++ part (codes " deliveries ") deliveries ++ part (codes " by hand ") by_hand ++ codes "\n"
+    part (codes "solved ") solved ++ part (codes " reused ") reused ++ part (codes " migrated ") migrated ++ part (codes " deliveries ") deliveries ++ part
+    (codes " by hand ") by_hand ++ codes "\n"
 
 -- the line for a build of all tiers of the game, by numbers that tell of its work
 pub record IsReport (r : Rules) (line : List ℕ) : Type 0 where

@@ -5,8 +5,6 @@ use Rattle.gm_game.specs.Rules.{Rules}
 use Rattle.gm_tiers.specs.Reach.{IsReached}
 use Rattle.gm_best.specs.Places.{IsRefusedAt}
 use Rattle.gm_best.specs.declared.place.PlaceError.TheVariants.{NoSuchTier as NoTier, NoSuchIndex as NoIndex, NotLegal as Illegal, NotCanonical as Uncanonical}
-use Rattle.gm_find.specs.declared.find_error.FindError.{FindError}
-use Rattle.gm_find.specs.declared.find_error.FindError.TheVariants.{OutOfMemory as NoRoom, NotHeld}
 use Rattle.gm_play.specs.Sessions.{AppendsPart}
 use Rattle.gamesman.specs.declared.fault.Fault.{Fault}
 use Rattle.gamesman.specs.declared.fault.Fault.TheVariants.{NoSuchPosition, NoSuchTier, NoSuchIndex, NotLegal, NotCanonical, OutOfMemory}
@@ -17,11 +15,6 @@ use Rattle.gamesman.specs.Refusals.{IsUnbuilt}
 abbrev pub IsMemoryFault : Fault → Type 0
 IsMemoryFault (OutOfMemory error) = Unit {0}
 IsMemoryFault _ = ⊥
-
--- the fault for why a search has no answer
-abbrev pub IsFindFault : FindError → Fault → Type 0
-IsFindFault NoRoom fault = IsMemoryFault fault
-IsFindFault NotHeld fault = fault ≡ NoSuchPosition
 
 -- the tier is none of the game
 abbrev pub IsNoTier : Rules → ℕ → Fault → Type 0

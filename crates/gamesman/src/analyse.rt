@@ -6,7 +6,7 @@ ghost use Rattle.gamesman.specs.Analysing.{IsAnalysisLine, AreAnalysisLines, IsA
 
 use crate::fault::Fault;
 use crate::output::put_all;
-use crate::tables::Place;
+use crate::tables::BuildOptions;
 use gm_analyse::analysis::analyse as count;
 use gm_analyse::json::to_json;
 use gm_build::build::Built;
@@ -27,10 +27,10 @@ pub fn analyse<
     R: Threads + Wait + Clock + Files + Sync + AllocGlobal,
     O: Write,
     E: Write + Send,
->(rt: &R, place: Place<'_, E>, output: &mut O) -> Result<u8, Fault>
+>(rt: &R, options: BuildOptions<'_, E>, output: &mut O) -> Result<u8, Fault>
     ensures { IsAnalysedBy G.Game.rules (O.contents output.old) (O.contents output.new) result }
 {
-    let built = place.build::<G, R>(rt)?;
+    let built = options.build::<G, R>(rt)?;
     let lines = lines_of(rt.alloc(), &built);
     drop(built);
     let lines = lines?;

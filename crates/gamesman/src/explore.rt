@@ -1,9 +1,6 @@
 //! Questions about a position: what its moves are worth, and best play from it.
-ghost use Rattle.std.specs.Prelude.{◌≡◌, true, None, Ok, IfOk, IfErr, OnErr, IfSome, IsErrOf};
-ghost use Rattle.gm_game.specs.declared.position.Position.{Position};
+ghost use Rattle.std.specs.Prelude.{◌≡◌, true, None, Ok, IfOk, IfErr, OnErr, IfSome};
 ghost use Rattle.gm_play.specs.PlayTexts.{IsReadAs, IsNoPosition};
-ghost use Rattle.gm_play.specs.Reached.{AreAllHeld};
-ghost use Rattle.gm_best.specs.Refusals.{AreNotHeld};
 ghost use Rattle.gm_json.specs.Moves.{IsMovesJson};
 ghost use Rattle.gamesman.specs.Games.{game_spec};
 ghost use Rattle.gamesman.specs.Outputs.{IsLine};
@@ -12,21 +9,20 @@ ghost use Rattle.gamesman.specs.Answers.{IsAnsweredBy, IsExplored, IsMovesText, 
 use crate::fault::Fault;
 pub use crate::output::put;
 use crate::run::DONE;
-use crate::tables::Place;
-use gm_best::play_error::PlayError;
-use gm_command::requests::{PositionAsked, Question};
+use crate::tables::BuildOptions;
+use gm_best::known::Known;
+use gm_command::requests::{PositionRequest, Question};
 use gm_draw::diagram::diagram_text;
 use gm_draw::pictured::Pictured;
 use gm_draw::show::show_text;
 use gm_game::game::laws;
 use gm_game::position::Position;
-use gm_game::shown::{Shown, texts};
+use gm_game::shown::Shown;
 use gm_json::line::line_json;
 use gm_json::moves::moves_json;
 use gm_page::page::page_text;
 use gm_play::texts::{line_text, moves_text};
 use gm_play::why::why_text;
-use gm_table::tables::Tables;
 use std::alloc::{AllocError, Global};
 use std::fs::Files;
 use std::io::Write;
@@ -40,45 +36,39 @@ pub fn explore<
     R: Threads + Wait + Clock + Files + Sync + AllocGlobal,
     O: Write,
     E: Write + Send,
->(rt: &R, asked: PositionAsked<'_>, place: Place<'_, E>, output: &mut O) -> Result<u8, Fault>
+>(
+    rt: &R,
+    asked: PositionRequest<'_>,
+    options: BuildOptions<'_, E>,
+    output: &mut O,
+) -> Result<u8, Fault>
     ensures { IsExplored (game_spec G.Game.rules G.shown G.move_shown G.drawn G.mover G.naming G.style G.title G.board G.points)
         asked.entry (O.contents output.old) (O.contents output.new) result }
 {
     let position = position_of::<G>(asked.position)?;
-    texts::<G>();
-    let shown = G::show(position);
-    let built = place.build_from::<G, R>(rt, position.tier)?;
-    let written = write_answer(
-        rt.alloc(),
-        &built.tables,
-        shown.as_slice(),
-        asked.question,
-        output,
-    );
+    let built = options.build_from::<G, R>(rt, position.tier)?;
+    let known = Known {
+        tables: &built.tables,
+        position,
+    };
+    let written = write_answer(rt.alloc(), &known, asked.question, output);
     drop(built);
     written
 }
 
-// Writes what is asked about the position with this text.
+// Writes what is asked about a position.
 fn write_answer<G: Pictured, O: Write>(
     alloc: Global,
-    tables: &Tables<G>,
-    position: &[u8],
+    known: &Known<'_, G>,
     question: Question,
     output: &mut O,
 ) -> Result<u8, Fault>
-    requires read { (p : Position) × IsReadAs G.Game.rules G.shown G.move_shown position.now p }
-    requires held { (p : Position) → IsReadAs G.Game.rules G.shown G.move_shown position.now p → AreAllHeld G.Game.rules tables.now p.tier }
-    ensures { IsAnsweredBy G.Game.rules G.shown G.move_shown position.now
-        (IsTextFor (game_spec G.Game.rules G.shown G.move_shown G.drawn G.mover G.naming G.style G.title G.board G.points) question position.now)
+    ensures { IsAnsweredBy G.Game.rules G.shown G.move_shown (G.shown known.now.position)
+        (IsTextFor (game_spec G.Game.rules G.shown G.move_shown G.drawn G.mover G.naming G.style G.title G.board G.points) question
+        (G.shown known.now.position))
         (O.contents output.old) (O.contents output.new) result }
 {
-    let text = match text_for(alloc, tables, position, question) {
-        Ok(text) => text,
-        Err(PlayError::OutOfMemory) => return Err(Fault::OutOfMemory(AllocError)),
-        // The position's own tier is among those that are built.
-        Err(_) => return Err(Fault::NoSuchPosition),
-    };
+    let text = text_for(alloc, known, question)?;
     put(output, text.as_slice())?;
     Ok(DONE)
 }
@@ -114,64 +104,48 @@ fn read_position<G: Shown>(text: &str) -> Result<Position, Fault>
 
 fn text_for<G: Pictured>(
     alloc: Global,
-    tables: &Tables<G>,
-    position: &[u8],
+    known: &Known<'_, G>,
     question: Question,
-) -> Result<Vec<u8>, PlayError>
-    requires { (p : Position) → IsReadAs G.Game.rules G.shown G.move_shown position.now p → AreAllHeld G.Game.rules tables.now p.tier }
-    ensures text { IfOk result (λ v. IsTextFor (game_spec G.Game.rules G.shown G.move_shown G.drawn G.mover G.naming G.style G.title G.board G.points)
-        question position.now v.items) }
-    ensures illegal { IsErrOf result PlayError.Illegal → IsNoPosition G.Game.rules G.shown G.move_shown position.now }
-    ensures held { IsErrOf result PlayError.NotHeld → ⊥ }
+) -> Result<Vec<u8>, AllocError>
+    ensures { IfOk result (λ v. IsTextFor (game_spec G.Game.rules G.shown G.move_shown G.drawn G.mover G.naming G.style G.title G.board G.points)
+        question (G.shown known.now.position) v.items) }
 {
-    // The tables of a game are held along its moves.
-    laws::<G>();
     match question {
-        Question::Moves { distinct, json } => moves_for(alloc, tables, position, distinct, json),
-        Question::Why => why_text(alloc, tables, position),
-        Question::Line { limit, json: true } => line_json(alloc, tables, position, limit),
-        Question::Line { limit, .. } => line_text(alloc, tables, position, limit),
-        Question::Show { explained } => show_text(alloc, tables, position, explained),
-        Question::Diagram { valued } => diagram_text(alloc, tables, position, valued),
-        Question::Page { limit } => page_text(alloc, tables, position, limit.max(1)),
+        Question::Moves { distinct, json } => moves_for(alloc, known, distinct, json),
+        Question::Why => why_text(alloc, known),
+        Question::Line { limit, json: true } => line_json(alloc, known, limit),
+        Question::Line { limit, .. } => line_text(alloc, known, limit),
+        Question::Show { explained } => show_text(alloc, known, explained),
+        Question::Diagram { valued } => diagram_text(alloc, known, valued),
+        Question::Page { limit } => page_text(alloc, known, limit.max(1)),
     }
 }
 
 // The moves, as a line of JSON or as rows.
 fn moves_for<G: Shown>(
     alloc: Global,
-    tables: &Tables<G>,
-    position: &[u8],
+    known: &Known<'_, G>,
     distinct: bool,
     json: bool,
-) -> Result<Vec<u8>, PlayError>
-    ensures text { IfOk result (λ v. IsMovesText G.Game.rules G.shown G.move_shown position.now distinct json v.items) }
-    ensures illegal { IsErrOf result PlayError.Illegal → IsNoPosition G.Game.rules G.shown G.move_shown position.now }
-    ensures not_held { IsErrOf result PlayError.NotHeld
-        → ((p : Position) × IsReadAs G.Game.rules G.shown G.move_shown position.now p × AreNotHeld G.Game.rules tables.now p) }
+) -> Result<Vec<u8>, AllocError>
+    ensures { IfOk result (λ v. IsMovesText G.Game.rules G.shown G.move_shown (G.shown known.now.position) distinct json v.items) }
 {
     if json {
-        moves_line(alloc, tables, position, distinct)
+        moves_line(alloc, known, distinct)
     } else {
-        moves_text(alloc, tables, position, distinct)
+        moves_text(alloc, known, distinct)
     }
 }
 
 /// The moves as a line of JSON.
 pub fn moves_line<G: Shown>(
     alloc: Global,
-    tables: &Tables<G>,
-    position: &[u8],
+    known: &Known<'_, G>,
     distinct: bool,
-) -> Result<Vec<u8>, PlayError>
-    ensures text { IfOk result (λ v. IsLine (IsMovesJson G.Game.rules G.shown G.move_shown distinct position.now) v.items) }
-    ensures illegal { IsErrOf result PlayError.Illegal → IsNoPosition G.Game.rules G.shown G.move_shown position.now }
-    ensures not_held { IsErrOf result PlayError.NotHeld
-        → ((p : Position) × IsReadAs G.Game.rules G.shown G.move_shown position.now p × AreNotHeld G.Game.rules tables.now p) }
+) -> Result<Vec<u8>, AllocError>
+    ensures { IfOk result (λ v. IsLine (IsMovesJson G.Game.rules G.shown G.move_shown distinct (G.shown known.now.position)) v.items) }
 {
-    let mut line = moves_json(alloc, tables, position, distinct)?;
-    match line.extend_from_slice(b"\n") {
-        Ok(()) => Ok(line),
-        Err(_) => Err(PlayError::OutOfMemory),
-    }
+    let mut line = moves_json(alloc, known, distinct)?;
+    line.extend_from_slice(b"\n")?;
+    Ok(line)
 }

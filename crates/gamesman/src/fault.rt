@@ -1,7 +1,6 @@
 //! Why a line of words was refused.
 
 use gm_build::build_error::BuildError;
-use gm_find::find_error::FindError;
 use gm_json::ask_error::AskError;
 use gm_play::session_error::SessionError;
 use gm_tiers::tier_error::TierError;
@@ -83,19 +82,6 @@ impl From<SessionError> for Fault {
 }
 
 // Each tier of a game of the program is held, and so are its child tiers.
-impl From<FindError> for Fault {
-    ghost use Rattle.gamesman.specs.Told.{IsFindFault};
-
-    ghost from_gives = { IsFindFault };
-
-    fn from(error: FindError) -> Fault {
-        match error {
-            FindError::OutOfMemory => Fault::OutOfMemory(AllocError),
-            FindError::NotHeld => Fault::NoSuchPosition,
-        }
-    }
-}
-
 impl From<AskError> for Fault {
     fn from(error: AskError) -> Fault {
         match error {

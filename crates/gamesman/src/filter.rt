@@ -1,16 +1,20 @@
 //! Questions about positions that are read, a line each.
+ghost use Rattle.gm_tiers.specs.Orders.{IsTierOrder};
+ghost use Rattle.gm_build.specs.Work.{HoldsExactly};
 
 use crate::explore::{moves_line, put};
 use crate::fault::Fault;
 use crate::run::DONE;
-use crate::tables::Place;
+use crate::tables::BuildOptions;
 use arrayvec::ArrayVec;
-use gm_best::play_error::PlayError;
+use gm_best::closed::Closed;
+use gm_best::known::Known;
+use gm_build::build::Built;
 use gm_command::requests::Filter;
 use gm_game::limits::LINE;
 use gm_game::shown::Shown;
-use gm_play::texts::{answer_text, moves_text};
-use gm_table::tables::Tables;
+use gm_game::text::value_text;
+use gm_play::texts::moves_text;
 use std::alloc::{AllocError, Global};
 use std::fs::Files;
 use std::io::{BufReader, Read, Write};
@@ -28,20 +32,32 @@ pub fn filter<
     I: Read,
     O: Write,
     E: Write + Send,
->(rt: &R, asked: Filter, place: Place<'_, E>, input: &mut I, output: &mut O) -> Result<u8, Fault> {
-    let built = place.build::<G, R>(rt)?;
-    let answered = answer_lines(rt.alloc(), &built.tables, asked, input, output);
+>(
+    rt: &R,
+    asked: Filter,
+    options: BuildOptions<'_, E>,
+    input: &mut I,
+    output: &mut O,
+) -> Result<u8, Fault> {
+    let built = options.build::<G, R>(rt)?;
+    let answered = answer_lines(rt.alloc(), &built, asked, input, output);
     drop(built);
     answered
 }
 
 fn answer_lines<G: Shown, I: Read, O: Write>(
     alloc: Global,
-    tables: &Tables<G>,
+    built: &Built<G>,
     asked: Filter,
     input: &mut I,
     output: &mut O,
-) -> Result<u8, Fault> {
+) -> Result<u8, Fault>
+    requires order { IsTierOrder G.Game.rules built.now.order }
+    requires held { HoldsExactly built.now.tables built.now.order }
+{
+    let tables = Closed {
+        tables: &built.tables,
+    };
     let Ok(reader) = BufReader::new(alloc, input) else {
         return Err(Fault::OutOfMemory(AllocError));
     };
@@ -52,7 +68,7 @@ fn answer_lines<G: Shown, I: Read, O: Write>(
             return Err(Fault::InputFailed);
         };
         if byte == b'\n' {
-            answer_line(alloc, tables, asked, line.as_slice(), number, output)?;
+            answer_line(alloc, &tables, asked, line.as_slice(), number, output)?;
             line.clear();
             number = number.saturating_add(1);
         } else if !line.is_full() {
@@ -60,7 +76,7 @@ fn answer_lines<G: Shown, I: Read, O: Write>(
         }
     }
     if !line.is_empty() {
-        answer_line(alloc, tables, asked, line.as_slice(), number, output)?;
+        answer_line(alloc, &tables, asked, line.as_slice(), number, output)?;
     }
     Ok(DONE)
 }
@@ -68,50 +84,37 @@ fn answer_lines<G: Shown, I: Read, O: Write>(
 // Answers the line with this number. A carriage return at its end is no part of it.
 fn answer_line<G: Shown, O: Write>(
     alloc: Global,
-    tables: &Tables<G>,
+    tables: &Closed<'_, G>,
     asked: Filter,
     line: &[u8],
     number: u64,
     output: &mut O,
 ) -> Result<(), Fault> {
     let position = line.strip_suffix(b"\r").unwrap_or(line);
-    match text_for(alloc, tables, asked, position) {
-        Ok(text) => put(output, text.as_slice()),
-        Err(PlayError::OutOfMemory) => Err(Fault::OutOfMemory(AllocError)),
-        // All tiers are built.
-        Err(_) => Err(Fault::NoSuchPositionInLine { line: number }),
-    }
+    let Some(known) = known_as(tables, position) else {
+        return Err(Fault::NoSuchPositionInLine { line: number });
+    };
+    let text = text_for(alloc, &known, asked)?;
+    put(output, text.as_slice())
+}
+
+// The position with this text.
+fn known_as<'t, G: Shown>(tables: &Closed<'t, G>, text: &[u8]) -> Option<Known<'t, G>> {
+    tables.known(G::read(text)?)
 }
 
 fn text_for<G: Shown>(
     alloc: Global,
-    tables: &Tables<G>,
+    known: &Known<'_, G>,
     asked: Filter,
-    position: &[u8],
-) -> Result<Vec<u8>, PlayError> {
+) -> Result<Vec<u8>, AllocError> {
     match asked {
-        Filter::Value => value_line(alloc, tables, position),
+        Filter::Value => line_of(alloc, value_text(known.value()).as_slice()),
         Filter::Moves {
             distinct,
             json: true,
-        } => moves_line(alloc, tables, position, distinct),
-        Filter::Moves { distinct, .. } => moves_text(alloc, tables, position, distinct),
-    }
-}
-
-// The value of the position with this text, as a line.
-fn value_line<G: Shown>(
-    alloc: Global,
-    tables: &Tables<G>,
-    position: &[u8],
-) -> Result<Vec<u8>, PlayError> {
-    let value = match answer_text(tables, position) {
-        Ok(value) => value,
-        Err(_) => return Err(PlayError::Illegal),
-    };
-    match line_of(alloc, value.as_slice()) {
-        Ok(line) => Ok(line),
-        Err(_) => Err(PlayError::OutOfMemory),
+        } => moves_line(alloc, known, distinct),
+        Filter::Moves { distinct, .. } => moves_text(alloc, known, distinct),
     }
 }
 

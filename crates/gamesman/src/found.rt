@@ -1,9 +1,9 @@
 //! The positions that a search finds, as they are printed.
 ghost use Rattle.std.specs.Prelude.{◌≡◌, ◌⊎◌, ◌++◌, ℕ, Some, [], ◌∷◌, IfOk, OnOk, IfErr, is_some};
-ghost use Rattle.std.specs.List.{All, Contains, flat_map};
+ghost use Rattle.std.specs.List.{All, flat_map};
 ghost use Rattle.gm_tiers.specs.Orders.{IsOrderFrom};
 ghost use Rattle.gm_build.specs.Work.{HoldsExactly};
-ghost use Rattle.gm_play.specs.Reached.{AreAllHeld};
+ghost use Rattle.gm_best.specs.Reached.{AreAllHeld};
 ghost use Rattle.gm_find.specs.Founds.{IsFound, AreFound};
 ghost use Rattle.gm_command.specs.declared.requests.Form.TheVariants.{Sheet};
 ghost use Rattle.gamesman.specs.Games.{game_spec};
@@ -16,15 +16,15 @@ use crate::fault::Fault;
 use crate::output::{put, put_all};
 use crate::run::DONE;
 use crate::search::reached_from_start;
+use gm_best::known_tiers::KnownTiers;
 use gm_build::build::Built;
-use gm_command::requests::{Form, PositionsSought};
+use gm_command::requests::{Form, PositionSearch};
 use gm_draw::pictured::Pictured;
 use gm_find::choice::find_some;
 use gm_find::found::{Found, find};
 use gm_find::reached::Reached;
 use gm_find::rows::{found_rows, push_found};
 use gm_find::sought::Choice;
-use gm_game::game::laws;
 use gm_json::find::found_lines;
 use gm_sheet::sheet::sheet_text;
 use gm_table::tables::Tables;
@@ -35,7 +35,7 @@ use std::io::Write;
 pub fn write_found<G: Pictured, O: Write>(
     alloc: Global,
     built: &Built<G>,
-    asked: PositionsSought,
+    asked: PositionSearch,
     output: &mut O,
 ) -> Result<u8, Fault>
     requires order { IsOrderFrom G.Game.rules (first_of G.Game.rules asked.tier) built.now.order }
@@ -53,7 +53,7 @@ pub fn write_found<G: Pictured, O: Write>(
 fn write_among<G: Pictured, O: Write>(
     alloc: Global,
     built: &Built<G>,
-    asked: PositionsSought,
+    asked: PositionSearch,
     reached: Option<&Reached<G>>,
     output: &mut O,
 ) -> Result<u8, Fault>
@@ -65,37 +65,47 @@ fn write_among<G: Pictured, O: Write>(
 {
     let tables = &built.tables;
     match asked.tier {
-        Some(tier) => write_in(alloc, tables, &[tier], asked, reached, output),
-        None => write_in(alloc, tables, built.order.tiers(), asked, reached, output),
+        Some(tier) => {
+            let known = KnownTiers {
+                tables,
+                tiers: &[tier],
+            };
+            write_in(alloc, &known, asked, reached, output)
+        }
+        None => {
+            let known = KnownTiers {
+                tables,
+                tiers: built.order.tiers(),
+            };
+            write_in(alloc, &known, asked, reached, output)
+        }
     }
 }
 
 // Writes those of these tiers.
 fn write_in<G: Pictured, O: Write>(
     alloc: Global,
-    tables: &Tables<G>,
-    tiers: &[u64],
-    asked: PositionsSought,
+    known: &KnownTiers<'_, G>,
+    asked: PositionSearch,
     reached: Option<&Reached<G>>,
     output: &mut O,
 ) -> Result<u8, Fault>
-    requires tiers { AreTiersFor G.Game.rules asked.tier tiers.now }
-    requires held { (tier : ℕ) → Contains tiers.now tier → AreAllHeld G.Game.rules tables.now tier }
+    requires tiers { AreTiersFor G.Game.rules asked.tier known.now.tiers.now }
     requires reached { is_some reached ≡ asked.reached }
     ensures { AreFoundBy (game_spec G.Game.rules G.shown G.move_shown G.drawn G.mover G.naming G.style G.title G.board G.points)
         asked (IsUnsearched G.Game.rules asked.tier) (O.contents output.old) (O.contents output.new) result }
 {
     match limit_of(asked) {
-        Some(limit) => write_by_tier(alloc, tables, tiers, asked, reached, limit, output),
+        Some(limit) => write_by_tier(alloc, known, asked, reached, limit, output),
         None => {
-            let text = text_at_once(alloc, tables, tiers, asked, reached)?;
+            let text = text_at_once(alloc, known, asked, reached)?;
             put_all(output, text.as_slice())
         }
     }
 }
 
 // How many at most are written tier by tier; `None` where all are at once: a sheet, and those that chance takes.
-fn limit_of(asked: PositionsSought) -> Option<usize>
+fn limit_of(asked: PositionSearch) -> Option<usize>
     ensures { result ≡ limit_by_tier asked.form asked.choice }
 {
     match asked.form {
@@ -116,23 +126,21 @@ fn limit_for(choice: Choice) -> Option<usize>
 // Writes those of one tier after another, up to the limit.
 fn write_by_tier<G: Pictured, O: Write>(
     alloc: Global,
-    tables: &Tables<G>,
-    tiers: &[u64],
-    asked: PositionsSought,
+    known: &KnownTiers<'_, G>,
+    asked: PositionSearch,
     reached: Option<&Reached<G>>,
     limit: usize,
     output: &mut O,
 ) -> Result<u8, Fault>
-    requires tiers { AreTiersFor G.Game.rules asked.tier tiers.now }
-    requires held { (tier : ℕ) → Contains tiers.now tier → AreAllHeld G.Game.rules tables.now tier }
+    requires tiers { AreTiersFor G.Game.rules asked.tier known.now.tiers.now }
     requires reached { is_some reached ≡ asked.reached }
     requires limit { limit_by_tier asked.form asked.choice ≡ Some limit }
     ensures { IsToldByTier (game_spec G.Game.rules G.shown G.move_shown G.drawn G.mover G.naming G.style G.title G.board G.points)
         asked (IsUnsearched G.Game.rules asked.tier) (O.contents output.old) (O.contents output.new) result }
 {
     let mut left = limit;
-    for tier in tiers {
-        let many = write_tier(alloc, tables, *tier, asked, reached, left, output)?;
+    for tier in known.tiers {
+        let many = write_tier(alloc, known.tables, *tier, asked, reached, left, output)?;
         left = left.saturating_sub(many);
         if left == 0 {
             return Ok(DONE);
@@ -146,7 +154,7 @@ fn write_tier<G: Pictured, O: Write>(
     alloc: Global,
     tables: &Tables<G>,
     tier: u64,
-    asked: PositionsSought,
+    asked: PositionSearch,
     reached: Option<&Reached<G>>,
     left: usize,
     output: &mut O,
@@ -169,7 +177,7 @@ fn found_in<G: Pictured>(
     alloc: Global,
     tables: &Tables<G>,
     tier: u64,
-    asked: PositionsSought,
+    asked: PositionSearch,
     reached: Option<&Reached<G>>,
     left: usize,
 ) -> Result<Vec<Found>, Fault>
@@ -178,72 +186,63 @@ fn found_in<G: Pictured>(
     ensures found { IfOk result (λ v. AreFound G.Game.rules asked.sought asked.reached left (tier ∷ []) v.items) }
     ensures fault { IfErr result IsMemoryFault }
 {
-    laws::<G>();
-    let found = find(alloc, tables, &[tier], asked.sought, reached, left)?;
+    let known = KnownTiers {
+        tables,
+        tiers: &[tier],
+    };
+    let found = find(alloc, &known, asked.sought, reached, left)?;
     Ok(found)
 }
 
 // All that the choice takes, as one text.
 fn text_at_once<G: Pictured>(
     alloc: Global,
-    tables: &Tables<G>,
-    tiers: &[u64],
-    asked: PositionsSought,
+    known: &KnownTiers<'_, G>,
+    asked: PositionSearch,
     reached: Option<&Reached<G>>,
 ) -> Result<Vec<u8>, Fault>
-    requires held { (tier : ℕ) → Contains tiers.now tier → AreAllHeld G.Game.rules tables.now tier }
     requires reached { is_some reached ≡ asked.reached }
     ensures text { IfOk result (λ v. IsFoundIn (game_spec G.Game.rules G.shown G.move_shown G.drawn G.mover G.naming G.style G.title G.board G.points)
-        asked tiers.now v.items) }
+        asked known.now.tiers.now v.items) }
     ensures fault { IfErr result IsMemoryFault }
 {
     match asked.form {
-        Form::Sheet => sheet_at_once(alloc, tables, tiers, asked, reached),
-        Form::Rows | Form::Json | Form::Boards => {
-            lines_at_once(alloc, tables, tiers, asked, reached)
-        }
+        Form::Sheet => sheet_at_once(alloc, known, asked, reached),
+        Form::Rows | Form::Json | Form::Boards => lines_at_once(alloc, known, asked, reached),
     }
 }
 
 // The sheet of them.
 fn sheet_at_once<G: Pictured>(
     alloc: Global,
-    tables: &Tables<G>,
-    tiers: &[u64],
-    asked: PositionsSought,
+    known: &KnownTiers<'_, G>,
+    asked: PositionSearch,
     reached: Option<&Reached<G>>,
 ) -> Result<Vec<u8>, Fault>
-    requires held { (tier : ℕ) → Contains tiers.now tier → AreAllHeld G.Game.rules tables.now tier }
     requires reached { is_some reached ≡ asked.reached }
     requires sheet { asked.form ≡ Sheet }
     ensures text { IfOk result (λ v. IsFoundIn (game_spec G.Game.rules G.shown G.move_shown G.drawn G.mover G.naming G.style G.title G.board G.points)
-        asked tiers.now v.items) }
+        asked known.now.tiers.now v.items) }
     ensures fault { IfErr result IsMemoryFault }
 {
-    laws::<G>();
-    let (sought, choice) = (asked.sought, asked.choice);
-    let sheet = sheet_text(alloc, tables, tiers, sought, reached, choice)?;
+    let sheet = sheet_text(alloc, known, asked.sought, reached, asked.choice)?;
     Ok(sheet)
 }
 
 // The lines of them.
 fn lines_at_once<G: Pictured>(
     alloc: Global,
-    tables: &Tables<G>,
-    tiers: &[u64],
-    asked: PositionsSought,
+    known: &KnownTiers<'_, G>,
+    asked: PositionSearch,
     reached: Option<&Reached<G>>,
 ) -> Result<Vec<u8>, Fault>
-    requires held { (tier : ℕ) → Contains tiers.now tier → AreAllHeld G.Game.rules tables.now tier }
     requires reached { is_some reached ≡ asked.reached }
     requires lines { asked.form ≡ Sheet → ⊥ }
     ensures text { IfOk result (λ v. IsFoundIn (game_spec G.Game.rules G.shown G.move_shown G.drawn G.mover G.naming G.style G.title G.board G.points)
-        asked tiers.now v.items) }
+        asked known.now.tiers.now v.items) }
     ensures fault { IfErr result IsMemoryFault }
 {
-    laws::<G>();
-    let (sought, choice) = (asked.sought, asked.choice);
-    let found = find_some(alloc, tables, tiers, sought, reached, choice)?;
+    let found = find_some(alloc, known, asked.sought, reached, asked.choice)?;
     let lines = lines_of::<G>(alloc, found.as_slice(), asked.form)?;
     Ok(lines)
 }

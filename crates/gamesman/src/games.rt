@@ -14,9 +14,9 @@ use crate::play::play;
 use crate::query::query;
 use crate::search::search;
 use crate::solve::solve;
-use crate::tables::Place;
+use crate::tables::BuildOptions;
 use gm_command::defaults::{PIECE, SHARDS, WORKERS};
-use gm_command::requests::{GameAsked, Kept, Telling};
+use gm_command::requests::{GameRequest, TableLocation, Telling};
 pub use gm_dao::dao::Dao;
 use gm_draw::pictured::Pictured;
 pub use gm_hare::hare::Hare;
@@ -46,8 +46,12 @@ pub struct Streams<'a, I, O, E> {
 }
 
 // Where tables are kept and how they are made, for commands that have no options for a plan.
-fn place<'a, E>(kept: Kept<'a>, errors: &'a mut E, telling: Telling) -> Place<'a, E> {
-    Place {
+fn options_of<'a, E>(
+    kept: TableLocation<'a>,
+    errors: &'a mut E,
+    telling: Telling,
+) -> BuildOptions<'a, E> {
+    BuildOptions {
         kept,
         plan: Plan::fastest(WORKERS, SHARDS, PIECE).unwrap(),
         errors,
@@ -62,10 +66,10 @@ fn answer<
     I: Read,
     O: Write,
     E: Write + Send,
->(rt: &R, asked: GameAsked<'_>, streams: Streams<'_, I, O, E>) -> Result<u8, Fault>
+>(rt: &R, asked: GameRequest<'_>, streams: Streams<'_, I, O, E>) -> Result<u8, Fault>
     ensures answered { IsAnswered (game_spec G.Game.rules G.shown G.move_shown G.drawn G.mover G.naming G.style G.title G.board G.points)
         asked.entry (O.contents streams.entry.output.now) (O.contents streams.exit.1.0.now) result }
-    ensures naming { asked.entry ≡ GameAsked.Naming → streams.exit.1.0.now ≡ streams.entry.output.now }
+    ensures naming { asked.entry ≡ GameRequest.Naming → streams.exit.1.0.now ≡ streams.entry.output.now }
 {
     let Streams {
         input,
@@ -74,33 +78,33 @@ fn answer<
         telling,
     } = streams;
     match asked {
-        GameAsked::Solve(asked) => solve::<G, R, O, E>(rt, asked, output, errors, telling),
-        GameAsked::Query { position, kept } => {
-            query::<G, R, O, E>(rt, position, place(kept, errors, telling), output)
+        GameRequest::Solve(asked) => solve::<G, R, O, E>(rt, asked, output, errors, telling),
+        GameRequest::Query { position, kept } => {
+            query::<G, R, O, E>(rt, position, options_of(kept, errors, telling), output)
         }
-        GameAsked::Filter { asked, kept } => {
-            filter::<G, R, I, O, E>(rt, asked, place(kept, errors, telling), input, output)
+        GameRequest::Filter { asked, kept } => {
+            filter::<G, R, I, O, E>(rt, asked, options_of(kept, errors, telling), input, output)
         }
-        GameAsked::At { tier, index, kept } => {
-            at_place::<G, R, O, E>(rt, tier, index, place(kept, errors, telling), output)
+        GameRequest::At { tier, index, kept } => {
+            at_place::<G, R, O, E>(rt, tier, index, options_of(kept, errors, telling), output)
         }
-        GameAsked::Locate { position } => locate::<G, O>(rt.alloc(), position, output),
-        GameAsked::Explore { asked, kept } => {
-            explore::<G, R, O, E>(rt, asked, place(kept, errors, telling), output)
+        GameRequest::Locate { position } => locate::<G, O>(rt.alloc(), position, output),
+        GameRequest::Explore { asked, kept } => {
+            explore::<G, R, O, E>(rt, asked, options_of(kept, errors, telling), output)
         }
-        GameAsked::Search { asked, kept } => {
-            search::<G, R, I, O, E>(rt, asked, place(kept, errors, telling), input, output)
+        GameRequest::Search { asked, kept } => {
+            search::<G, R, I, O, E>(rt, asked, options_of(kept, errors, telling), input, output)
         }
-        GameAsked::Analyse { kept } => analyse::<G, R, O, E>(
+        GameRequest::Analyse { kept } => analyse::<G, R, O, E>(
             rt,
-            place(kept, errors, telling),
+            options_of(kept, errors, telling),
             output,
         ),
-        GameAsked::Check { folder } => check::<G, R, O, E>(rt, folder, output, errors, telling),
-        GameAsked::Play { asked, kept } => {
-            play::<G, R, I, O, E>(rt, asked, place(kept, errors, telling), input, output)
+        GameRequest::Check { folder } => check::<G, R, O, E>(rt, folder, output, errors, telling),
+        GameRequest::Play { asked, kept } => {
+            play::<G, R, I, O, E>(rt, asked, options_of(kept, errors, telling), input, output)
         }
-        GameAsked::Naming => write_naming::<G, E>(errors),
+        GameRequest::Naming => write_naming::<G, E>(errors),
     }
 }
 
@@ -110,9 +114,9 @@ fn answer_misere<
     I: Read,
     O: Write,
     E: Write + Send,
->(rt: &R, game: &str, asked: GameAsked<'_>, streams: Streams<'_, I, O, E>) -> Result<u8, Fault>
+>(rt: &R, game: &str, asked: GameRequest<'_>, streams: Streams<'_, I, O, E>) -> Result<u8, Fault>
     ensures answered { IsAnsweredFor (misere_named game.now) asked.entry (O.contents streams.entry.output.now) (O.contents streams.exit.1.0.now) result }
-    ensures naming { asked.entry ≡ GameAsked.Naming → streams.exit.1.0.now ≡ streams.entry.output.now }
+    ensures naming { asked.entry ≡ GameRequest.Naming → streams.exit.1.0.now ≡ streams.entry.output.now }
 {
     match game {
         "tactix-1-misere" => answer::<TacTix<1, true>, R, I, O, E>(rt, asked, streams),
@@ -130,9 +134,9 @@ fn answer_tactix<
     I: Read,
     O: Write,
     E: Write + Send,
->(rt: &R, game: &str, asked: GameAsked<'_>, streams: Streams<'_, I, O, E>) -> Result<u8, Fault>
+>(rt: &R, game: &str, asked: GameRequest<'_>, streams: Streams<'_, I, O, E>) -> Result<u8, Fault>
     ensures answered { IsAnsweredFor (tactix_named game.now) asked.entry (O.contents streams.entry.output.now) (O.contents streams.exit.1.0.now) result }
-    ensures naming { asked.entry ≡ GameAsked.Naming → streams.exit.1.0.now ≡ streams.entry.output.now }
+    ensures naming { asked.entry ≡ GameRequest.Naming → streams.exit.1.0.now ≡ streams.entry.output.now }
 {
     match game {
         "tactix-1" => answer::<TacTix<1, false>, R, I, O, E>(rt, asked, streams),
@@ -150,9 +154,9 @@ fn answer_moving<
     I: Read,
     O: Write,
     E: Write + Send,
->(rt: &R, game: &str, asked: GameAsked<'_>, streams: Streams<'_, I, O, E>) -> Result<u8, Fault>
+>(rt: &R, game: &str, asked: GameRequest<'_>, streams: Streams<'_, I, O, E>) -> Result<u8, Fault>
     ensures answered { IsAnsweredFor (moving_named game.now) asked.entry (O.contents streams.entry.output.now) (O.contents streams.exit.1.0.now) result }
-    ensures naming { asked.entry ≡ GameAsked.Naming → streams.exit.1.0.now ≡ streams.entry.output.now }
+    ensures naming { asked.entry ≡ GameRequest.Naming → streams.exit.1.0.now ≡ streams.entry.output.now }
 {
     match game {
         "mutorere" => answer::<MuTorere, R, I, O, E>(rt, asked, streams),
@@ -170,9 +174,9 @@ fn answer_lines<
     I: Read,
     O: Write,
     E: Write + Send,
->(rt: &R, game: &str, asked: GameAsked<'_>, streams: Streams<'_, I, O, E>) -> Result<u8, Fault>
+>(rt: &R, game: &str, asked: GameRequest<'_>, streams: Streams<'_, I, O, E>) -> Result<u8, Fault>
     ensures answered { IsAnsweredFor (lines_named game.now) asked.entry (O.contents streams.entry.output.now) (O.contents streams.exit.1.0.now) result }
-    ensures naming { asked.entry ≡ GameAsked.Naming → streams.exit.1.0.now ≡ streams.entry.output.now }
+    ensures naming { asked.entry ≡ GameRequest.Naming → streams.exit.1.0.now ≡ streams.entry.output.now }
 {
     match game {
         "tictactoe" => answer::<TicTacToe, R, I, O, E>(rt, asked, streams),
@@ -188,9 +192,9 @@ pub fn answer_for<
     I: Read,
     O: Write,
     E: Write + Send,
->(rt: &R, game: &str, asked: GameAsked<'_>, streams: Streams<'_, I, O, E>) -> Result<u8, Fault>
+>(rt: &R, game: &str, asked: GameRequest<'_>, streams: Streams<'_, I, O, E>) -> Result<u8, Fault>
     ensures answered { IsAnsweredFor (game_named game.now) asked.entry (O.contents streams.entry.output.now) (O.contents streams.exit.1.0.now) result }
-    ensures naming { asked.entry ≡ GameAsked.Naming → streams.exit.1.0.now ≡ streams.entry.output.now }
+    ensures naming { asked.entry ≡ GameRequest.Naming → streams.exit.1.0.now ≡ streams.entry.output.now }
 {
     match game {
         "countdown" => answer::<Countdown<10>, R, I, O, E>(rt, asked, streams),

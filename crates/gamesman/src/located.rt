@@ -1,10 +1,8 @@
 //! What stands at a tier and index, and where a position stands.
 
-ghost use Rattle.std.specs.Prelude.{◌≡◌, true, IfOk, IfErr};
-ghost use Rattle.gm_table.specs.Tables.{IsHeld};
+ghost use Rattle.std.specs.Prelude.{IfOk, IfErr};
 ghost use Rattle.gm_best.specs.Places.{IsAt};
-ghost use Rattle.gm_play.specs.PlaceTexts.{IsPositionText};
-ghost use Rattle.gamesman.specs.Told.{IsMemoryFault, IsNoPlace};
+ghost use Rattle.gamesman.specs.Told.{IsNoPlace};
 ghost use Rattle.gamesman.specs.Searches.{IsPlaced};
 ghost use Rattle.gamesman.specs.Answers.{IsLocatedBy};
 
@@ -12,14 +10,13 @@ use crate::fault::Fault;
 use crate::output::{put, put_all};
 use crate::run::DONE;
 use crate::search::known_tier;
-use crate::tables::Place;
-use gm_best::place::{PlaceError, at};
-use gm_best::play_error::PlayError;
+use crate::tables::BuildOptions;
+use gm_best::known::Known;
+use gm_best::place::{self, PlaceError, at};
 use gm_game::position::Position;
 use gm_game::shown::Shown;
 use gm_play::place_texts::{place_text, position_text};
-use gm_table::tables::Tables;
-use std::alloc::{AllocError, Global};
+use std::alloc::Global;
 use std::fs::Files;
 use std::io::Write;
 use std::sync::Wait;
@@ -32,13 +29,17 @@ pub fn at_place<
     R: Threads + Wait + Clock + Files + Sync + AllocGlobal,
     O: Write,
     E: Write + Send,
->(rt: &R, tier: u64, index: u64, place: Place<'_, E>, output: &mut O) -> Result<u8, Fault>
+>(rt: &R, tier: u64, index: u64, options: BuildOptions<'_, E>, output: &mut O) -> Result<u8, Fault>
     ensures { IsPlaced G.Game.rules G.shown tier index (O.contents output.old) (O.contents output.new) result }
 {
     known_tier::<G>(rt.alloc(), tier)?;
     let p = position_at::<G>(tier, index)?;
-    let built = place.build_from::<G, R>(rt, tier)?;
-    let row = row_at(rt.alloc(), &built.tables, p);
+    let built = options.build_from::<G, R>(rt, tier)?;
+    let known = Known {
+        tables: &built.tables,
+        position: p,
+    };
+    let row = position_text(rt.alloc(), &known);
     drop(built);
     let row = row?;
     put_all(output, row.as_slice())
@@ -66,26 +67,10 @@ pub fn locate<G: Shown, O: Write>(
 ) -> Result<u8, Fault>
     ensures { IsLocatedBy G.Game.rules G.shown position.now (O.contents output.old) (O.contents output.new) result }
 {
-    match place_text::<G>(alloc, position.as_bytes()) {
-        Ok(row) => {
-            put(output, row.as_slice())?;
-            Ok(DONE)
-        }
-        Err(PlayError::Illegal) => Err(Fault::NoSuchPosition),
-        Err(_) => Err(Fault::OutOfMemory(AllocError)),
-    }
-}
-
-// The row of a legal position whose tier is held.
-fn row_at<G: Shown>(alloc: Global, tables: &Tables<G>, p: Position) -> Result<Vec<u8>, Fault>
-    requires legal { G.Game.rules.is_legal p ≡ true }
-    requires held { IsHeld tables.now p.tier }
-    ensures text { IfOk result (λ v. IsPositionText G.Game.rules G.shown p v.items) }
-    ensures fault { IfErr result IsMemoryFault }
-{
-    match position_text(alloc, tables, p) {
-        Ok(row) => Ok(row),
-        Err(PlayError::OutOfMemory) => Err(Fault::OutOfMemory(AllocError)),
-        Err(PlayError::Illegal | PlayError::NotHeld) => Err(Fault::NoSuchPosition),
-    }
+    let Some(located) = place::locate::<G>(position.as_bytes()) else {
+        return Err(Fault::NoSuchPosition);
+    };
+    let row = place_text::<G>(alloc, located)?;
+    put(output, row.as_slice())?;
+    Ok(DONE)
 }

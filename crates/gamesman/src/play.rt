@@ -6,10 +6,11 @@ ghost use Rattle.gm_build.specs.Work.{HoldsExactly};
 use crate::explore::position_of;
 use crate::fault::Fault;
 use crate::run::DONE;
-use crate::tables::Place;
+use crate::tables::BuildOptions;
+use gm_best::known::Known;
 use gm_best::side::Side;
 use gm_build::build::Built;
-use gm_command::requests::PlayAsked;
+use gm_command::requests::PlayRequest;
 use gm_draw::boards::Boards;
 use gm_draw::drawn::Drawn;
 use gm_game::position::Position;
@@ -30,13 +31,13 @@ pub fn play<
     E: Write + Send,
 >(
     rt: &R,
-    asked: PlayAsked<'_>,
-    place: Place<'_, E>,
+    asked: PlayRequest<'_>,
+    options: BuildOptions<'_, E>,
     input: &mut I,
     output: &mut O,
 ) -> Result<u8, Fault> {
     let start = position_of::<G>(asked.position)?;
-    let built = place.build_from::<G, R>(rt, start.tier)?;
+    let built = options.build_from::<G, R>(rt, start.tier)?;
     let played = play_from(&built, start, asked, input, output);
     drop(built);
     played
@@ -95,7 +96,7 @@ impl<O: Write> Write for Watched<'_, O> {
 fn play_from<G: Drawn, I: Read, O: Write>(
     built: &Built<G>,
     start: Position,
-    asked: PlayAsked<'_>,
+    asked: PlayRequest<'_>,
     input: &mut I,
     output: &mut O,
 ) -> Result<u8, Fault>
@@ -111,13 +112,11 @@ fn play_from<G: Drawn, I: Read, O: Write>(
         closed: false,
     };
     let ended = if asked.drawn {
-        session_with::<G, Boards, I, Watched<'_, O>>(
-            &built.tables,
-            start,
-            asked.first,
-            input,
-            &mut watched,
-        )
+        let known = Known {
+            tables: &built.tables,
+            position: start,
+        };
+        session_with::<G, Boards, I, Watched<'_, O>>(&known, asked.first, input, &mut watched)
     } else {
         session(&built.tables, start, asked.first, input, &mut watched)
     };

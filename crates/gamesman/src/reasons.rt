@@ -5,7 +5,7 @@ use crate::fault::Fault;
 use crate::games::{Streams, answer_for};
 use gm_build::build_error::BuildError;
 use gm_command::names::nearest_name;
-use gm_command::requests::{Asked, GameAsked, Telling};
+use gm_command::requests::{GameRequest, Request, Telling};
 use std::alloc::Global;
 use std::fs::{self, Files};
 use std::io::{self, ErrorKind, Read, Write};
@@ -19,10 +19,10 @@ pub fn advise<
     I: Read,
     O: Write,
     E: Write + Send,
->(rt: &R, asked: Asked<'_>, fault: &Fault, input: &mut I, output: &mut O, errors: &mut E)
+>(rt: &R, asked: Request<'_>, fault: &Fault, input: &mut I, output: &mut O, errors: &mut E)
     ensures { output.new ≡ output.old }
 {
-    let Asked::Of { game, asked, .. } = asked else {
+    let Request::Of { game, asked, .. } = asked else {
         return;
     };
     let _ = match fault {
@@ -45,7 +45,7 @@ pub fn advise<
                 errors,
                 telling: Telling::Quiet,
             };
-            let _ = answer_for(rt, game, GameAsked::Naming, streams);
+            let _ = answer_for(rt, game, GameRequest::Naming, streams);
             Ok(())
         }
         _ => Ok(()),
@@ -53,18 +53,18 @@ pub fn advise<
 }
 
 // The folder that a command names, and whether it is only read.
-fn kept_in(asked: GameAsked<'_>) -> Option<(&str, bool)> {
+fn kept_in(asked: GameRequest<'_>) -> Option<(&str, bool)> {
     match asked {
-        GameAsked::Solve(asked) => Some((asked.folder, false)),
-        GameAsked::Check { folder } => Some((folder, true)),
-        GameAsked::Query { kept, .. }
-        | GameAsked::Filter { kept, .. }
-        | GameAsked::At { kept, .. }
-        | GameAsked::Explore { kept, .. }
-        | GameAsked::Search { kept, .. }
-        | GameAsked::Analyse { kept }
-        | GameAsked::Play { kept, .. } => Some((kept.folder?, kept.read_only)),
-        GameAsked::Locate { .. } | GameAsked::Naming => None,
+        GameRequest::Solve(asked) => Some((asked.folder, false)),
+        GameRequest::Check { folder } => Some((folder, true)),
+        GameRequest::Query { kept, .. }
+        | GameRequest::Filter { kept, .. }
+        | GameRequest::At { kept, .. }
+        | GameRequest::Explore { kept, .. }
+        | GameRequest::Search { kept, .. }
+        | GameRequest::Analyse { kept }
+        | GameRequest::Play { kept, .. } => Some((kept.folder?, kept.read_only)),
+        GameRequest::Locate { .. } | GameRequest::Naming => None,
     }
 }
 

@@ -9,9 +9,9 @@ use crate::games::{Streams, answer_for};
 use crate::output::{put, put_all};
 use crate::reasons::advise;
 use gm_build::whole_line::{FaultLine, write_line};
-use gm_command::asked::{Help, Unread, read_words, what_is_wrong};
+use gm_command::asked::{Help, ReadError, read_words, what_is_wrong};
 use gm_command::manual::{Manual, manual_text};
-use gm_command::requests::{Asked, Reading, Telling};
+use gm_command::requests::{Reading, Request, Telling};
 use std::alloc::{AllocError, Global};
 use std::fs::Files;
 use std::io::{Read, Write};
@@ -63,13 +63,13 @@ fn answer<
     I: Read,
     O: Write,
     E: Write + Send,
->(rt: &R, asked: Asked<'_>, streams: Streams<'_, I, O, E>) -> Result<u8, Fault>
+>(rt: &R, asked: Request<'_>, streams: Streams<'_, I, O, E>) -> Result<u8, Fault>
     ensures { IsDone asked.entry (O.contents streams.entry.output.now) (O.contents streams.exit.1.0.now) result }
 {
     match asked {
-        Asked::List { all } => list(all, streams.output),
-        Asked::Of { game, asked, .. } => answer_for(rt, game, asked, streams),
-        Asked::Manual(asked) => write_manual(rt.alloc(), asked, streams.output),
+        Request::List { all } => list(all, streams.output),
+        Request::Of { game, asked, .. } => answer_for(rt, game, asked, streams),
+        Request::Manual(asked) => write_manual(rt.alloc(), asked, streams.output),
     }
 }
 
@@ -97,14 +97,14 @@ pub fn explain<E: Write>(alloc: Global, words: &[&str], errors: &mut E) {
 }
 
 // How it is told how far a build is: one line that is written over and over is for a terminal alone.
-fn telling_of(asked: Asked<'_>, terminal: bool) -> Telling {
+fn telling_of(asked: Request<'_>, terminal: bool) -> Telling {
     match asked {
-        Asked::Of {
+        Request::Of {
             telling: Telling::Terminal,
             ..
         } if !terminal => Telling::Quiet,
-        Asked::Of { telling, .. } => telling,
-        Asked::List { .. } | Asked::Manual(_) => Telling::Quiet,
+        Request::Of { telling, .. } => telling,
+        Request::List { .. } | Request::Manual(_) => Telling::Quiet,
     }
 }
 
@@ -114,7 +114,7 @@ pub fn run_asked<
     I: Read,
     O: Write,
     E: Write + Send,
->(rt: &R, asked: Asked<'_>, terminal: bool, input: &mut I, output: &mut O, errors: &mut E) -> u8
+>(rt: &R, asked: Request<'_>, terminal: bool, input: &mut I, output: &mut O, errors: &mut E) -> u8
     ensures { IsRun asked.entry (O.contents output.old) (O.contents output.new) result }
 {
     let streams = Streams {
@@ -144,12 +144,12 @@ pub fn run_words<
     E: Write + Send,
 >(rt: &R, words: &[&str], terminal: bool, input: &mut I, output: &mut O, errors: &mut E) -> u8 {
     match read_words(rt.alloc(), words) {
-        Ok(Reading::Asked(asked)) => run_asked(rt, asked, terminal, input, output, errors),
+        Ok(Reading::Request(asked)) => run_asked(rt, asked, terminal, input, output, errors),
         Ok(Reading::Help(text)) => match write_help(text, output) {
             Ok(status) => status,
             Err(fault) => refused(&fault, errors),
         },
-        Err(Unread::OutOfMemory) => refused(&Fault::OutOfMemory(AllocError), errors),
-        Err(Unread::BadLine) => bad_line(errors),
+        Err(ReadError::OutOfMemory) => refused(&Fault::OutOfMemory(AllocError), errors),
+        Err(ReadError::BadLine) => bad_line(errors),
     }
 }

@@ -3,7 +3,6 @@ ghost use Rattle.std.specs.Prelude.{◌≡◌, None, IfOk, OnOk, IfErr, is_some}
 ghost use Rattle.gm_tiers.specs.Orders.{IsTierOrder, IsOrderFrom};
 ghost use Rattle.gm_tiers.specs.Reach.{IsReached};
 ghost use Rattle.gm_build.specs.Work.{HoldsExactly};
-ghost use Rattle.gm_find.specs.Finding.{AreTiersHeld};
 ghost use Rattle.gm_analyse.specs.Bars.{IsCountsText};
 ghost use Rattle.gm_analyse.specs.Longest.{IsLongestText};
 ghost use Rattle.gamesman.specs.Games.{game_spec};
@@ -14,11 +13,13 @@ use crate::fault::Fault;
 use crate::found::write_found;
 use crate::output::{put, put_all};
 use crate::run::DONE;
-use crate::tables::Place;
+use crate::tables::BuildOptions;
 use gm_analyse::bars::counts_text;
 use gm_analyse::longest_rows::longest_text;
+use gm_best::closed::Closed;
+use gm_best::known_tiers::KnownTiers;
 use gm_build::build::Built;
-use gm_command::requests::{AskAsked, CountsAsked, Search};
+use gm_command::requests::{AskRequest, CountsRequest, TableRequest};
 use gm_draw::pictured::Pictured;
 use gm_find::reached::Reached;
 use gm_game::shown::Shown;
@@ -38,13 +39,19 @@ pub fn search<
     I: Read,
     O: Write,
     E: Write + Send,
->(rt: &R, asked: Search, place: Place<'_, E>, input: &mut I, output: &mut O) -> Result<u8, Fault>
+>(
+    rt: &R,
+    asked: TableRequest,
+    options: BuildOptions<'_, E>,
+    input: &mut I,
+    output: &mut O,
+) -> Result<u8, Fault>
     ensures { IsSearched (game_spec G.Game.rules G.shown G.move_shown G.drawn G.mover G.naming G.style G.title G.board G.points)
         asked (O.contents output.old) (O.contents output.new) result }
 {
     let alloc = rt.alloc();
     let first = first_tier::<G>(alloc, asked)?;
-    let built = place.build_from::<G, R>(rt, first)?;
+    let built = options.build_from::<G, R>(rt, first)?;
     let answered = answer(alloc, &built, asked, input, output);
     drop(built);
     answered
@@ -53,7 +60,7 @@ pub fn search<
 fn answer<G: Pictured, I: Read, O: Write>(
     alloc: Global,
     built: &Built<G>,
-    asked: Search,
+    asked: TableRequest,
     input: &mut I,
     output: &mut O,
 ) -> Result<u8, Fault>
@@ -63,10 +70,12 @@ fn answer<G: Pictured, I: Read, O: Write>(
         asked (O.contents output.old) (O.contents output.new) result }
 {
     match asked {
-        Search::Find(positions) => write_found(alloc, built, positions, output),
-        Search::Counts(asked) => write_counts(alloc, built, asked, output),
-        Search::Longest { reached, limit } => write_longest(alloc, built, reached, limit, output),
-        Search::Ask(asked) => serve(alloc, built, asked, input, output),
+        TableRequest::Find(positions) => write_found(alloc, built, positions, output),
+        TableRequest::Counts(asked) => write_counts(alloc, built, asked, output),
+        TableRequest::Longest { reached, limit } => write_longest(
+            alloc, built, reached, limit, output,
+        ),
+        TableRequest::Ask(asked) => serve(alloc, built, asked, input, output),
     }
 }
 
@@ -74,30 +83,36 @@ fn answer<G: Pictured, I: Read, O: Write>(
 fn serve<G: Shown, I: Read, O: Write>(
     alloc: Global,
     built: &Built<G>,
-    asked: AskAsked,
+    asked: AskRequest,
     input: &mut I,
     output: &mut O,
-) -> Result<u8, Fault> {
+) -> Result<u8, Fault>
+    requires order { IsTierOrder G.Game.rules built.now.order }
+    requires held { HoldsExactly built.now.tables built.now.order }
+{
     if asked.ready {
         put(output, READY)?;
     }
+    let tables = Closed {
+        tables: &built.tables,
+    };
     let tiers = built.order.tiers();
-    ask(alloc, &built.tables, tiers, asked.asked, input, output)?;
+    ask(alloc, &tables, tiers, asked.asked, input, output)?;
     Ok(DONE)
 }
 
 // The one tier that is asked about; `None` where all are.
-fn tier_of(asked: Search) -> Option<u64>
+fn tier_of(asked: TableRequest) -> Option<u64>
     ensures { result ≡ tier_asked asked }
 {
     match asked {
-        Search::Find(positions) => positions.tier,
-        Search::Counts(_) | Search::Longest { .. } | Search::Ask(_) => None,
+        TableRequest::Find(positions) => positions.tier,
+        TableRequest::Counts(_) | TableRequest::Longest { .. } | TableRequest::Ask(_) => None,
     }
 }
 
 // The tier whose tables are asked about: the one that is named, which is one of the game, or else the initial one.
-fn first_tier<G: Shown>(alloc: Global, asked: Search) -> Result<u64, Fault>
+fn first_tier<G: Shown>(alloc: Global, asked: TableRequest) -> Result<u64, Fault>
     ensures first { IfOk result (λ tier. tier ≡ first_of G.Game.rules (tier_asked asked)) }
     ensures reached { IfOk result (IsReached G.Game.rules) }
     ensures refused { IfErr result (IsUnnamed G.Game.rules (tier_asked asked)) }
@@ -128,7 +143,7 @@ pub fn known_tier<G: Shown>(alloc: Global, tier: u64) -> Result<(), Fault>
 fn write_counts<G: Shown, O: Write>(
     alloc: Global,
     built: &Built<G>,
-    asked: CountsAsked,
+    asked: CountsRequest,
     output: &mut O,
 ) -> Result<u8, Fault>
     requires order { IsTierOrder G.Game.rules built.now.order }
@@ -140,16 +155,24 @@ fn write_counts<G: Shown, O: Write>(
 }
 
 // The counts of all tiers.
-fn counted<G: Shown>(alloc: Global, built: &Built<G>, asked: CountsAsked) -> Result<Vec<u8>, Fault>
-    requires { AreTiersHeld G.Game.rules built.now.tables built.now.order }
+fn counted<G: Shown>(
+    alloc: Global,
+    built: &Built<G>,
+    asked: CountsRequest,
+) -> Result<Vec<u8>, Fault>
+    requires order { IsTierOrder G.Game.rules built.now.order }
+    requires held { HoldsExactly built.now.tables built.now.order }
     ensures text { IfOk result (λ v. IsCountsText G.Game.rules asked.among asked.reached asked.by_tier asked.form built.now.order v.items) }
     ensures fault { IfErr result IsMemoryFault }
 {
     let reached = reached_from_start(alloc, asked.reached)?;
+    let known = KnownTiers {
+        tables: &built.tables,
+        tiers: built.order.tiers(),
+    };
     let text = counts_text(
         alloc,
-        &built.tables,
-        built.order.tiers(),
+        &known,
         asked.among,
         asked.by_tier,
         asked.form,
@@ -183,18 +206,17 @@ fn longest<G: Shown>(
     reached: bool,
     limit: usize,
 ) -> Result<Vec<u8>, Fault>
-    requires { AreTiersHeld G.Game.rules built.now.tables built.now.order }
+    requires order { IsTierOrder G.Game.rules built.now.order }
+    requires held { HoldsExactly built.now.tables built.now.order }
     ensures text { IfOk result (λ v. IsLongestText G.Game.rules G.shown G.move_shown reached limit built.now.order v.items) }
     ensures fault { IfErr result IsMemoryFault }
 {
     let reached = reached_from_start(alloc, reached)?;
-    let text = longest_text(
-        alloc,
-        &built.tables,
-        built.order.tiers(),
-        reached.as_ref(),
-        limit,
-    );
+    let known = KnownTiers {
+        tables: &built.tables,
+        tiers: built.order.tiers(),
+    };
+    let text = longest_text(alloc, &known, reached.as_ref(), limit);
     drop(reached);
     Ok(text?)
 }

@@ -3,7 +3,7 @@ ghost use Rattle.std.specs.Prelude.{◌≡◌, ◌+◌, ◌<◌, false, None, If
 ghost use Rattle.gm_tierdb.specs.StoreTexts.{failures_of};
 ghost use Rattle.gamesman.specs.Shelves.{failed_in, kept_in, IsShelfWrite};
 
-use gm_command::requests::Kept;
+use gm_command::requests::TableLocation;
 use gm_game::limits::NAME;
 use gm_tierdb::folder_store::FolderStore;
 use gm_tierdb::mem_store::MemStore;
@@ -24,7 +24,7 @@ pub enum Shelf {
 
 impl Shelf {
     /// The store that a line asks for: its folder, which is only read where the line says so, or memory where it names none. No call of it has failed.
-    pub fn at(alloc: Global, kept: Kept<'_>) -> Result<Shelf, AllocError>
+    pub fn at(alloc: Global, kept: TableLocation<'_>) -> Result<Shelf, AllocError>
         ensures failed { IfOk result (λ s. failed_in s ≡ 0) }
         ensures kept { IfOk result (λ s. kept_in s ≡ option_map (λ folder. (folder.now, kept.entry.read_only)) kept.entry.folder) }
     {

@@ -5,9 +5,9 @@ ghost use Rattle.gamesman.specs.Solving.{part, report_text, IsReport, IsSolvedBy
 
 use crate::fault::Fault;
 use crate::output::put_all;
-use crate::tables::Place;
+use crate::tables::BuildOptions;
 use gm_build::build::Built;
-use gm_command::requests::{Kept, SolveAsked, Telling};
+use gm_command::requests::{SolveRequest, TableLocation, Telling};
 use gm_game::game::Game;
 use gm_game::shown::Line;
 use gm_game::text::push_decimal;
@@ -26,7 +26,7 @@ pub fn solve<
     E: Write + Send,
 >(
     rt: &R,
-    asked: SolveAsked<'_>,
+    asked: SolveRequest<'_>,
     output: &mut O,
     errors: &mut E,
     telling: Telling,
@@ -42,13 +42,13 @@ fn report_of<
     G: Game + Send + Sync,
     R: Threads + Wait + Clock + Files + Sync + AllocGlobal,
     E: Write + Send,
->(rt: &R, asked: SolveAsked<'_>, errors: &mut E, telling: Telling) -> Result<Vec<u8>, Fault>
+>(rt: &R, asked: SolveRequest<'_>, errors: &mut E, telling: Telling) -> Result<Vec<u8>, Fault>
     ensures report { IfOk result (λ v. IsReport G.rules v.items) }
     ensures unbuilt { IfErr result (IsUnbuilt G.rules G.rules.initial.tier) }
 {
-    let SolveAsked { folder, plan } = asked;
-    let place = Place {
-        kept: Kept {
+    let SolveRequest { folder, plan } = asked;
+    let options = BuildOptions {
+        kept: TableLocation {
             folder: Some(folder),
             read_only: false,
         },
@@ -56,7 +56,7 @@ fn report_of<
         errors,
         telling,
     };
-    let built = place.build::<G, R>(rt)?;
+    let built = options.build::<G, R>(rt)?;
     let line = line_of(rt.alloc(), &built);
     drop(built);
     Ok(line?)

@@ -12,7 +12,7 @@ use crate::shelf::Shelf;
 use crate::teller::Teller;
 use gm_build::build::{Built, build_from};
 use gm_build::build_error::BuildError;
-use gm_command::requests::{Kept, Telling};
+use gm_command::requests::{TableLocation, Telling};
 use gm_game::game::Game;
 use gm_solver::plan::Plan;
 use gm_tiers::order::TierOrder;
@@ -25,8 +25,8 @@ use std::time::Clock;
 
 /// Where the tables of a game are kept, and how they are made.
 #[derive(Drop)]
-pub struct Place<'a, E> {
-    pub kept: Kept<'a>,
+pub struct BuildOptions<'a, E> {
+    pub kept: TableLocation<'a>,
     pub plan: Plan,
     /// Standard error.
     pub errors: &'a mut E,
@@ -34,8 +34,8 @@ pub struct Place<'a, E> {
     pub telling: Telling,
 }
 
-impl<E: Write + Send> Place<'_, E> {
-    /// Builds a whole game there.
+impl<E: Write + Send> BuildOptions<'_, E> {
+    /// Builds a whole game.
     pub fn build<G: Game + Send + Sync, R: Threads + Wait + Clock + Files + Sync + AllocGlobal>(
         self,
         rt: &R,
@@ -48,7 +48,7 @@ impl<E: Write + Send> Place<'_, E> {
         self.build_from::<G, R>(rt, G::initial().tier)
     }
 
-    /// Builds there the tiers that one tier reaches: all on which the values of that tier rest.
+    /// Builds the tiers that one tier reaches: all on which the values of that tier rest.
     pub fn build_from<
         G: Game + Send + Sync,
         R: Threads + Wait + Clock + Files + Sync + AllocGlobal,
@@ -58,7 +58,7 @@ impl<E: Write + Send> Place<'_, E> {
         ensures work { IfOk result (λ built. IsSomeWork G.rules built.order built.solved built.reused built.migrated built.deliveries built.by_hand) }
         ensures unbuilt { IfErr result (IsUnbuilt G.rules first) }
     {
-        let Place {
+        let BuildOptions {
             kept,
             plan,
             errors,

@@ -42,7 +42,8 @@ rank_listed (suc (suc zero)) d l = refl
 rank_listed (suc (suc (suc zero))) d l = refl
 rank_listed (suc (suc (suc (suc n)))) d l = absurd (omega arith)
 
-count_same : (v w : Value) (j k m n : ℕ) → v ≡ w → j ≡ k → m ≡ n → (let a : Count = record { value = v; remoteness = j; number = m } in a) ≡ (let b : Count = record { value = w; remoteness = k; number = n } in b)
+count_same : (v w : Value) (j k m n : ℕ) → v ≡ w → j ≡ k → m ≡ n → (let a : Count = record { value = v; remoteness = j; number = m } in a) ≡
+    (let b : Count = record { value = w; remoteness = k; number = n } in b)
 count_same v w j k m n p q e = cc
 
 before_more : (r k : ℕ) (c : Count) → ComesBefore r (k + 1) c → ComesBefore r k c ⊎ ((rank c.value ≡ r) × (c.remoteness ≡ k))

@@ -1,5 +1,6 @@
 -- Numbers of indexes with one index more.
-use Rattle.std.proofs.Common.{◌≡◌, ℕ, zero, suc, ◌<◌, ◌≤◌, ◌+◌, ◌==◌, Bool, true, false, if◌then◌else◌, List, set, length, get_or, refl, sym, ap, ◌∙◌, subst, arith, inl, inr, Option, None, Some, eq-eqb, ne_eqb}
+use Rattle.std.proofs.Common.{◌≡◌, ℕ, zero, suc, ◌<◌, ◌≤◌, ◌+◌, ◌==◌, Bool, true, false, if◌then◌else◌, List, set, length, get_or, refl, sym, ap, ◌∙◌, subst}
+use Rattle.std.proofs.Common.{arith, inl, inr, Option, None, Some, eq-eqb, ne_eqb}
 use Rattle.std.proofs.lemmas.Bool.{cases_eq}
 use Rattle.std.proofs.lemmas.List.{get_or-set_same, get_or-set_other}
 use Rattle.std.proofs.lemmas.Option.{same_Some}
@@ -30,7 +31,8 @@ count_le test zero = omega arith
 count_le test (suc n) = one_at_most (test n) (count_where test n) n (count_le test n)
 
 -- a record with this value
-pub within_limit : (r : Rules) (limit : ℕ) (Is : Position → Solved → Type 0) (p : Position) (v : Value) (o : Option Solved) (m : ℕ) → IsRecord r limit Is p o → Some m ≡ remoteness_in v o → m ≤ limit
+pub within_limit : (r : Rules) (limit : ℕ) (Is : Position → Solved → Type 0) (p : Position) (v : Value) (o : Option Solved) (m : ℕ) → IsRecord r limit Is p
+    o → Some m ≡ remoteness_in v o → m ≤ limit
 within_limit r limit Is p v None m h e = absurd (cc)
 within_limit r limit Is p v (Some s) m h e = go (rank s.value == rank v) e
   where
@@ -42,15 +44,19 @@ module _ (records : List (Option Solved)) (v : Value) (i : ℕ) where
   abbrev Here : Option ℕ
   Here = remoteness_in v (record_at records i)
 
-  number_more : (o : Option ℕ) (n : ℕ) → o ≡ Here → number_in records (i + 1) v n ≡ (if is_level n o then number_in records i v n + 1 else number_in records i v n)
-  number_more o n e = count_more (is_solved records v n) i ∙ ap (λ (w : Option ℕ). if is_level n w then number_in records i v n + 1 else number_in records i v n) (sym e)
+  number_more : (o : Option ℕ) (n : ℕ) → o ≡ Here → number_in records (i + 1) v n ≡
+      (if is_level n o then number_in records i v n + 1 else number_in records i v n)
+  number_more o n e = count_more (is_solved records v n) i ∙ ap (λ (w : Option ℕ). if is_level n w then number_in records i v n + 1 else number_in records i
+      v n) (sym e)
 
   -- one more has remoteness m
-  pub numbers_with : (m d : ℕ) (xs ys : List ℕ) → Some m ≡ Here → m < length xs → ((n : ℕ) → get_or xs n 0 ≡ number_in records i v n) → d ≡ get_or xs m 0 → ys ≡ set xs m (d + 1) → (n : ℕ) → get_or ys n 0 ≡ number_in records (i + 1) v n
+  pub numbers_with : (m d : ℕ) (xs ys : List ℕ) → Some m ≡ Here → m < length xs → ((n : ℕ) → get_or xs n 0 ≡ number_in records i v n) → d ≡ get_or xs m 0 →
+      ys ≡ set xs m (d + 1) → (n : ℕ) → get_or ys n 0 ≡ number_in records (i + 1) v n
   numbers_with m d xs ys e l h q w n = elim (cases_eq m n) [
     | inl s ↦ (
         let same : (m == n) ≡ true = eq-eqb m n s in
-        let new : get_or ys n 0 ≡ d + 1 = subst (λ (k : ℕ). get_or ys k 0 ≡ d + 1) s (ap (λ (zs : List ℕ). get_or zs m 0) w ∙ get_or-set_same xs m (d + 1) 0 l) in
+        let new : get_or ys n 0 ≡ d + 1 = subst (λ (k : ℕ). get_or ys k 0 ≡ d + 1) s
+        (ap (λ (zs : List ℕ). get_or zs m 0) w ∙ get_or-set_same xs m (d + 1) 0 l) in
         let old : d ≡ number_in records i v n = subst (λ (k : ℕ). d ≡ number_in records i v k) s (q ∙ h m) in
         let more : number_in records (i + 1) v n ≡ number_in records i v n + 1 = number_more (Some m) n e ∙ rw same refl in
         new ∙ ap (λ (k : ℕ). k + 1) old ∙ sym more)
@@ -62,5 +68,6 @@ module _ (records : List (Option Solved)) (v : Value) (i : ℕ) where
   ]
 
   -- one more has another value, or none
-  pub numbers_without : (xs : List ℕ) → None ≡ Here → ((n : ℕ) → get_or xs n 0 ≡ number_in records i v n) → (n : ℕ) → get_or xs n 0 ≡ number_in records (i + 1) v n
+  pub numbers_without : (xs : List ℕ) → None ≡ Here → ((n : ℕ) → get_or xs n 0 ≡ number_in records i v n) → (n : ℕ) → get_or xs n 0 ≡ number_in records
+      (i + 1) v n
   numbers_without xs e h n = h n ∙ sym (number_more None n e)

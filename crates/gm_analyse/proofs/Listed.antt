@@ -32,8 +32,10 @@ module _ (r : Rules) (among : Among) (reached : Bool) (ps : List Position) where
 
   module _ (v : Value) (k : ℕ) (cs : List Count) (old : AreCountsBefore r among reached ps (rank v) k cs) where
     -- the next remoteness has a count
-    pub with_count : (n : ℕ) → Num v k n → 0 < n → AreCountsBefore r among reached ps (rank v) (k + 1) (cs ++ (record { value = v; remoteness = k; number = n }) ∷ [])
-    with_count n is some = back (rank v) (k + 1) (cs ++ (record { value = v; remoteness = k; number = n }) ∷ []) (lists.with_count Num num_once v k cs (there (rank v) k cs old) n is some)
+    pub with_count : (n : ℕ) → Num v k n → 0 < n → AreCountsBefore r among reached ps (rank v) (k + 1)
+        (cs ++ (record { value = v; remoteness = k; number = n }) ∷ [])
+    with_count n is some = back (rank v) (k + 1) (cs ++ (record { value = v; remoteness = k; number = n }) ∷ [])
+        (lists.with_count Num num_once v k cs (there (rank v) k cs old) n is some)
 
     -- it has none
     pub without_count : Num v k 0 → AreCountsBefore r among reached ps (rank v) (k + 1) cs
@@ -44,14 +46,17 @@ module _ (r : Rules) (among : Among) (reached : Bool) (ps : List Position) where
     next_value z = back (rank v + 1) 0 cs (lists.next_value Num num_once v k cs (there (rank v) k cs old) z)
 
 -- all values are done
-pub all_counts : (r : Rules) (among : Among) (reached : Bool) (tiers : List ℕ) (cs : List Count) → AreCountsBefore r among reached (all_positions r tiers) 4 0 cs → AreCounts r among reached tiers cs
+pub all_counts : (r : Rules) (among : Among) (reached : Bool) (tiers : List ℕ) (cs : List Count) → AreCountsBefore r among reached (all_positions r tiers) 4
+    0 cs → AreCounts r among reached tiers cs
 all_counts r among reached tiers cs h = record {
   ordered = h.ordered;
-  exact = lists.all_counts (Num r among reached (all_positions r tiers)) (num_once r among reached (all_positions r tiers)) cs (there r among reached (all_positions r tiers) 4 0 cs h);
+  exact = lists.all_counts (Num r among reached (all_positions r tiers)) (num_once r among reached (all_positions r tiers)) cs
+      (there r among reached (all_positions r tiers) 4 0 cs h);
 }
 
 -- one position more, which is counted or not
-pub numbers_with : (r : Rules) (among : Among) (reached : Bool) (v : Value) (seen : List Position) (p : Position) (k : ℕ) (old new : List ℕ) → IsCounted r among reached v k p → get_or new k 0 ≡ get_or old k 0 + 1 → ((n : ℕ) → (n ≡ k → ⊥) → get_or new n 0 ≡ get_or old n 0)
+pub numbers_with : (r : Rules) (among : Among) (reached : Bool) (v : Value) (seen : List Position) (p : Position) (k : ℕ) (old new : List ℕ) → IsCounted r
+    among reached v k p → get_or new k 0 ≡ get_or old k 0 + 1 → ((n : ℕ) → (n ≡ k → ⊥) → get_or new n 0 ≡ get_or old n 0)
     → AreNumbers r among reached v seen old → AreNumbers r among reached v (seen ++ p ∷ []) new
 numbers_with r among reached v seen p k old new counted here elsewhere h n = elim (cases_eq n k) [
   | inl e ↦ (
@@ -64,8 +69,10 @@ numbers_with r among reached v seen p k old new counted here elsewhere h n = eli
       (those, those_skip (IsCounted r among reached v n) seen those p t (λ c. d (HasValue_once r p v v n k c.value counted.value).1), l ∙ sym (elsewhere n d)))
 ]
 
-pub numbers_without : (r : Rules) (among : Among) (reached : Bool) (v : Value) (seen : List Position) (p : Position) (old : List ℕ) → ((n : ℕ) → IsCounted r among reached v n p → ⊥) → AreNumbers r among reached v seen old → AreNumbers r among reached v (seen ++ p ∷ []) old
-numbers_without r among reached v seen p old none h n = let (those, t, l) = h n in (those, those_skip (IsCounted r among reached v n) seen those p t (none n), l)
+pub numbers_without : (r : Rules) (among : Among) (reached : Bool) (v : Value) (seen : List Position) (p : Position) (old : List ℕ) →
+    ((n : ℕ) → IsCounted r among reached v n p → ⊥) → AreNumbers r among reached v seen old → AreNumbers r among reached v (seen ++ p ∷ []) old
+numbers_without r among reached v seen p old none h n = let (those, t, l) = h n in
+    (those, those_skip (IsCounted r among reached v n) seen those p t (none n), l)
 
 -- no position is seen
 pub numbers_none : (r : Rules) (among : Among) (reached : Bool) (v : Value) → AreNumbers r among reached v [] []

@@ -26,7 +26,8 @@ module _ (records : List (Option Solved)) where
   module _ (v : Value) (k : ℕ) (cs : List Count) (old : AreCountsBefore records (rank v) k cs) where
     -- the next remoteness has a count
     pub with_count : (n : ℕ) → Num v k n → 0 < n → AreCountsBefore records (rank v) (k + 1) (cs ++ (record { value = v; remoteness = k; number = n }) ∷ [])
-    with_count n is some = back (rank v) (k + 1) (cs ++ (record { value = v; remoteness = k; number = n }) ∷ []) (lists.with_count Num num_once v k cs (there (rank v) k cs old) n is some)
+    with_count n is some = back (rank v) (k + 1) (cs ++ (record { value = v; remoteness = k; number = n }) ∷ [])
+        (lists.with_count Num num_once v k cs (there (rank v) k cs old) n is some)
 
     -- it has none
     pub without_count : number_in records (length records) v k ≡ 0 → AreCountsBefore records (rank v) (k + 1) cs

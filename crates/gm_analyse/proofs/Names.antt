@@ -1,5 +1,6 @@
 -- The text of a padded name.
-use Rattle.std.proofs.Common.{◌≡◌, ℕ, suc, ◌+◌, ◌⊎◌, inl, inr, ◌==◌, ◌&&◌, nat_lt, Bool, true, false, cond, List, [], ◌∷◌, length, take, not, Result, Ok, Err, refl, ap, arith, None, Some}
+use Rattle.std.proofs.Common.{◌≡◌, ℕ, suc, ◌+◌, ◌⊎◌, inl, inr, ◌==◌, ◌&&◌, nat_lt, Bool, true, false, cond, List, [], ◌∷◌, length, take, not, Result, Ok, Err}
+use Rattle.std.proofs.Common.{refl, ap, arith, None, Some}
 use Rattle.std.specs.List.{position, position_or_len}
 use Rattle.std.specs.Option.{unwrap_or}
 use Rattle.std.specs.Result.{IsOk, MatchResult}

@@ -1,5 +1,6 @@
 -- Rows of counts, with one tier or one count more; the greatest remoteness that is counted.
-use Rattle.std.proofs.Common.{◌≡◌, ℕ, ◌+◌, ◌<◌, ◌≤◌, ◌↔◌, Bool, true, List, [], ◌∷◌, ◌++◌, length, map, take, get_or, Option, None, Some, IsSome, IfSome, inl, inr, refl, sym, ap, ap₂, subst, ◌∙◌, arith, append_assoc}
+use Rattle.std.proofs.Common.{◌≡◌, ℕ, ◌+◌, ◌<◌, ◌≤◌, ◌↔◌, Bool, true, List, [], ◌∷◌, ◌++◌, length, map, take, get_or, Option, None, Some, IsSome, IfSome, inl}
+use Rattle.std.proofs.Common.{inr, refl, sym, ap, ap₂, subst, ◌∙◌, arith, append_assoc}
 use Rattle.std.specs.List.{Contains, flat_map}
 use Rattle.std.proofs.lemmas.Bool.{cases_lt}
 use Rattle.std.proofs.lemmas.List.{append-nil, take_more, take_all, map-append, get_or_past}
@@ -12,7 +13,6 @@ use Rattle.gm_game.specs.Rules.{Rules}
 use Rattle.gm_game.specs.Values.{IsTrueValue}
 use Rattle.gm_game.proofs.Lists.{contains_none, contains_first, contains_later, contains_cases}
 use Rattle.gm_table.specs.Tables.{TableData, IsHeld}
-use Rattle.gm_find.specs.Finding.{AreTiersHeld}
 use Rattle.gm_find.specs.Lists.{AreThose}
 use Rattle.gm_analyse.specs.declared.among.Among.{Among}
 use Rattle.gm_analyse.specs.declared.among.Among.TheVariants.{Canonical, Legal}
@@ -28,66 +28,89 @@ canonical_among r p None h = h
 canonical_among r p (Some s) h = h
 
 -- the true value of a legal position of a tier that is held
-pub legal_among : (r : Rules) (entries : List TableData) (p : Position) (o : Option Solved) → (IsSome o ↔ ((r.is_legal p ≡ true) × IsHeld entries p.tier)) → IsHeld entries p.tier → IfSome o (IsTrueValue r p)
+pub legal_among : (r : Rules) (entries : List TableData) (p : Position) (o : Option Solved) → (IsSome o ↔ ((r.is_legal p ≡ true) × IsHeld entries p.tier)) →
+    IsHeld entries p.tier → IfSome o (IsTrueValue r p)
     → IfSome o (λ s. s.remoteness ≤ REMOTENESS) → IsRecordAmong r Legal p o
 legal_among r entries p None is held value few = λ legal. let some = is.1 (legal, held) in absurd (cc)
 legal_among r entries p (Some s) is held value few = ((is.0 refl).0, value, few)
 
 -- the counts of one tier more
-pub tier_more : (r : Rules) (among : Among) (reached : Bool) (ts : List ℕ) (t : ℕ) (old new : List TierCount) (counts : List Count) → AreTierRows r among reached ts old → AreCounts r among reached (t ∷ []) counts
+pub tier_more : (r : Rules) (among : Among) (reached : Bool) (ts : List ℕ) (t : ℕ) (old new : List TierCount) (counts : List Count) → AreTierRows r among
+    reached ts old → AreCounts r among reached (t ∷ []) counts
     → new ≡ old ++ map (with_tier (Some t)) counts → AreTierRows r among reached (ts ++ t ∷ []) new
 tier_more r among reached [] t old new counts h c n =
     let more = map (with_tier (Some t)) counts in
     (counts, [], c, refl, n ∙ ap (λ (l : List TierCount). l ++ more) h ∙ sym (append-nil more))
 tier_more r among reached (u ∷ us) t old new counts (cs, rest, a, b, e) c n =
     let more = map (with_tier (Some t)) counts in
-    let first = map (with_tier (Some u)) cs in
-    (cs, rest ++ more, a, tier_more r among reached us t rest (rest ++ more) counts b c refl, n ∙ ap (λ (l : List TierCount). l ++ more) e ∙ append_assoc first rest more)
+    let first = map (with_tier (Some u)) cs in (
+      cs,
+      rest ++ more,
+      a,
+      tier_more r among reached us t rest (rest ++ more) counts b c refl,
+      n ∙ ap (λ (l : List TierCount). l ++ more) e ∙ append_assoc
+          first rest more,
+    )
 
-pub tiers_next : (r : Rules) (among : Among) (reached : Bool) (tiers : List ℕ) (k : ℕ) (old new : List TierCount) → k < length tiers → AreTierRows r among reached (take k tiers) old
-    → ((counts : List Count) × AreCounts r among reached (get_or tiers k 0 ∷ []) counts × (new ≡ old ++ map (with_tier (Some (get_or tiers k 0))) counts)) → AreTierRows r among reached (take (k + 1) tiers) new
+pub tiers_next : (r : Rules) (among : Among) (reached : Bool) (tiers : List ℕ) (k : ℕ) (old new : List TierCount) → k < length tiers → AreTierRows r among
+    reached (take k tiers) old
+    → ((counts : List Count) × AreCounts r among reached (get_or tiers k 0 ∷ []) counts × (new ≡ old ++ map (with_tier (Some (get_or tiers k 0))) counts)) →
+    AreTierRows r among reached (take (k + 1) tiers) new
 tiers_next r among reached tiers k old new inside h (counts, c, n) =
-    subst (λ (ts : List ℕ). AreTierRows r among reached ts new) (sym (take_more tiers k 0 inside)) (tier_more r among reached (take k tiers) (get_or tiers k 0) old new counts h c n)
+    subst (λ (ts : List ℕ). AreTierRows r among reached ts new) (sym (take_more tiers k 0 inside))
+    (tier_more r among reached (take k tiers) (get_or tiers k 0) old new counts h c n)
 
-pub tiers_all : (r : Rules) (among : Among) (reached : Bool) (tiers : List ℕ) (k : ℕ) (rows : List TierCount) → length tiers ≤ k → AreTierRows r among reached (take k tiers) rows → AreTierRows r among reached tiers rows
+pub tiers_all : (r : Rules) (among : Among) (reached : Bool) (tiers : List ℕ) (k : ℕ) (rows : List TierCount) → length tiers ≤ k → AreTierRows r among
+    reached (take k tiers) rows → AreTierRows r among reached tiers rows
 tiers_all r among reached tiers k rows past h = subst (λ (ts : List ℕ). AreTierRows r among reached ts rows) (take_all k tiers past) h
 
--- one of some tiers that are held
-pub one_held : (r : Rules) (entries : List TableData) (tiers : List ℕ) (k : ℕ) → k < length tiers → AreTiersHeld r entries tiers → AreTiersHeld r entries (get_or tiers k 0 ∷ [])
-one_held r entries tiers k inside h t has =
-    let there : Contains tiers (get_or tiers k 0) = Rattle.std.proofs.lemmas.List.Elements.Contains-get_or tiers k 0 inside in
-    elim (contains_cases (get_or tiers k 0) t [] has) [ inl e ↦ h t (subst (Contains tiers) e there) | inr n ↦ absurd (contains_none t n) ]
-
 -- one count more with its tier
-pub count_more : (tier : Option ℕ) (counts : List Count) (k : ℕ) (d : Count) (start old new : List TierCount) (x : TierCount) → k < length counts → old ≡ start ++ map (with_tier tier) (take k counts) → new ≡ old ++ x ∷ []
+pub count_more : (tier : Option ℕ) (counts : List Count) (k : ℕ) (d : Count) (start old new : List TierCount) (x : TierCount) → k < length counts → old ≡
+    start ++ map (with_tier tier) (take k counts) → new ≡ old ++ x ∷ []
     → x ≡ with_tier tier (get_or counts k d) → new ≡ start ++ map (with_tier tier) (take (k + 1) counts)
 count_more tier counts k d start old new x inside o n e =
     let f = with_tier tier in
     let done = map f (take k counts) in
-    n ∙ ap₂ (λ (l : List TierCount) (y : TierCount). l ++ y ∷ []) o e ∙ append_assoc start done (f (get_or counts k d) ∷ []) ∙ ap (λ (l : List TierCount). start ++ l) (sym (map-append f (take k counts) (get_or counts k d ∷ [])))
+    n ∙ ap₂ (λ (l : List TierCount) (y : TierCount). l ++ y ∷ []) o e ∙ append_assoc start done (f (get_or counts k d) ∷ []) ∙ ap
+    (λ (l : List TierCount). start ++ l) (sym (map-append f (take k counts) (get_or counts k d ∷ [])))
     ∙ ap (λ (cs : List Count). start ++ map f cs) (sym (take_more counts k d inside))
 
-pub counts_all : (tier : Option ℕ) (counts : List Count) (k : ℕ) (start rows : List TierCount) → length counts ≤ k → rows ≡ start ++ map (with_tier tier) (take k counts) → rows ≡ start ++ map (with_tier tier) counts
+pub counts_all : (tier : Option ℕ) (counts : List Count) (k : ℕ) (start rows : List TierCount) → length counts ≤ k → rows ≡ start ++ map (with_tier tier)
+    (take k counts) → rows ≡ start ++ map (with_tier tier) counts
 counts_all tier counts k start rows past h = h ∙ ap (λ (cs : List Count). start ++ map (with_tier tier) cs) (take_all k counts past)
 
 -- what is written for each of some things after a head, and for one thing more
-pub written_more : {X : Type 0} (f : X → List ℕ) (head : List ℕ) (xs : List X) (i : ℕ) (d : X) (old new piece : List ℕ) → i < length xs → old ≡ head ++ flat_map f (take i xs) → new ≡ old ++ piece → piece ≡ f (get_or xs i d)
+pub written_more : {X : Type 0} (f : X → List ℕ) (head : List ℕ) (xs : List X) (i : ℕ) (d : X) (old new piece : List ℕ) → i < length xs → old ≡ head ++
+    flat_map f (take i xs) → new ≡ old ++ piece → piece ≡ f (get_or xs i d)
     → new ≡ head ++ flat_map f (take (i + 1) xs)
 written_more f head xs i d old new piece less o n p =
     let x = get_or xs i d in
     let done = flat_map f (take i xs) in
     n ∙ ap₂ (λ (a b : List ℕ). a ++ b) o p ∙ append_assoc head done (f x) ∙ ap (λ (a : List ℕ). head ++ (done ++ a)) (sym (append-nil (f x)))
-    ∙ ap (λ (a : List ℕ). head ++ a) (sym (Rattle.std.proofs.lemmas.Grind.flat_map-append f (take i xs) (x ∷ []))) ∙ ap (λ (ys : List _). head ++ flat_map f ys) (sym (take_more xs i d less))
+    ∙ ap (λ (a : List ℕ). head ++ a) (sym (Rattle.std.proofs.lemmas.Grind.flat_map-append f (take i xs) (x ∷ []))) ∙ ap
+    (λ (ys : List _). head ++ flat_map f ys) (sym (take_more xs i d less))
 
-pub written_all : {X : Type 0} (f : X → List ℕ) (head : List ℕ) (xs : List X) (i : ℕ) (all : List ℕ) → length xs ≤ i → all ≡ head ++ flat_map f (take i xs) → all ≡ head ++ flat_map f xs
+pub written_all : {X : Type 0} (f : X → List ℕ) (head : List ℕ) (xs : List X) (i : ℕ) (all : List ℕ) → length xs ≤ i → all ≡ head ++ flat_map f (take i xs)
+    → all ≡ head ++ flat_map f xs
 written_all f head xs i all past e = e ∙ ap (λ (ys : List _). head ++ flat_map f ys) (take_all i xs past)
 
 -- one place more
 pub last_more : (numbers : List ℕ) (i : ℕ) (o : Option ℕ) → IsLastAbove numbers i o → get_or numbers i 0 ≡ 0 → IsLastAbove numbers (i + 1) o
-last_more numbers i None h z = λ n low. elim (cases_lt n i) [ inl l ↦ h n l | inr m ↦ (let e : n ≡ i = omega arith in ap (λ (k : ℕ). get_or numbers k 0) e ∙ z) ]
+last_more numbers i None h z = λ n low. elim (cases_lt n i) [
+  | inl l ↦ h n l
+  | inr m ↦
+      (let e : n ≡ i = omega arith in ap (λ (k : ℕ). get_or numbers k 0) e ∙ z)
+]
 last_more numbers i (Some k) h z =
-    let low = h.0 in
-    (omega arith, h.1, λ n past inside. elim (cases_lt n i) [ inl l ↦ h.2 n past l | inr m ↦ (let e : n ≡ i = omega arith in ap (λ (j : ℕ). get_or numbers j 0) e ∙ z) ])
+    let low = h.0 in (
+      omega arith,
+      h.1,
+      λ n past inside. elim (cases_lt n i) [
+        | inl l ↦ h.2 n past l
+        | inr m ↦
+            (let e : n ≡ i = omega arith in ap (λ (j : ℕ). get_or numbers j 0) e ∙ z)
+      ],
+    )
 
 pub last_here : (numbers : List ℕ) (i : ℕ) → 0 < get_or numbers i 0 → IsLastAbove numbers (i + 1) (Some i)
 last_here numbers i some = (omega arith, some, λ n past low. absurd (omega arith))

@@ -29,7 +29,8 @@ bar_length greatest n = min 40 ((n * 40 + (max greatest 1 - 1)) / max greatest 1
 
 -- the row of a count: its value and remoteness, its number and its bar
 abbrev pub count_row : ℕ → Count → List ℕ
-count_row greatest c = (value_text_of c.value c.remoteness ++ codes "\t") ++ (decimal c.number ++ codes "\t") ++ (take (bar_length greatest c.number) whole_bar ++ codes "\n")
+count_row greatest c = (value_text_of c.value c.remoteness ++ codes "\t") ++ (decimal c.number ++ codes "\t") ++
+    (take (bar_length greatest c.number) whole_bar ++ codes "\n")
 
 -- the number of a tier before its rows, with what stands after it; nothing where all tiers are counted together
 abbrev pub tier_field : List ℕ → Option ℕ → List ℕ
@@ -45,7 +46,8 @@ csv_head true = codes "tier,value,remoteness,positions\n"
 csv_head false = codes "value,remoteness,positions\n"
 
 abbrev pub csv_row : TierCount → List ℕ
-csv_row x = tier_field (codes ",") x.tier ++ ((value_word x.count.value ++ codes ",") ++ (decimal x.count.remoteness ++ codes ",") ++ (decimal x.count.number ++ codes "\n"))
+csv_row x = tier_field (codes ",") x.tier ++ ((value_word x.count.value ++ codes ",") ++ (decimal x.count.remoteness ++ codes ",") ++
+    (decimal x.count.number ++ codes "\n"))
 
 -- a count as a JSON tree, its members in alphabetical order
 abbrev pub row_tree : Option ℕ → Count → Data

@@ -12,7 +12,8 @@ with_tier tier c = record { tier = tier; count = c }
 -- the counts of each of these tiers by itself, one tier after another
 abbrev pub AreTierRows : Rules → Among → Bool → List ℕ → List TierCount → Type 0
 AreTierRows r among reached [] rows = rows ≡ []
-AreTierRows r among reached (t ∷ ts) rows = (counts : List Count) × (rest : List TierCount) × AreCounts r among reached (t ∷ []) counts × AreTierRows r among reached ts rest
+AreTierRows r among reached (t ∷ ts) rows = (counts : List Count) × (rest : List TierCount) × AreCounts r among reached (t ∷ []) counts × AreTierRows r
+    among reached ts rest
     × (rows ≡ map (with_tier (Some t)) counts ++ rest)
 
 -- the counts of these tiers: of each by itself, where that is asked for, and else of all together

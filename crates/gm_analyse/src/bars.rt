@@ -1,22 +1,21 @@
 //! Counts as lines of text: with bars, as CSV, or as JSON.
-ghost use Rattle.std.specs.Prelude.{◌≡◌, ◌≤◌, ◌<◌, ◌++◌, ◌↔◌, take, IfOk, OnOk, IsErrOf, is_some};
+ghost use Rattle.std.specs.Prelude.{◌≡◌, ◌≤◌, ◌<◌, ◌++◌, take, IfOk, OnOk, is_some};
 ghost use Rattle.std.specs.Fmt.{decimal};
 ghost use Rattle.std.specs.List.{flat_map};
-ghost use Rattle.gm_find.specs.Finding.{AreTiersHeld};
-ghost use Rattle.gm_analyse.specs.Bars.{most as most_spec, bar_length as bar_length_spec, whole_bar, count_row, tier_field, bar_row, csv_head as csv_head_spec, csv_row, rows_text as rows_text_spec, IsCountsText};
+ghost use Rattle.gm_analyse.specs.Bars.{most as most_spec, bar_length as bar_length_spec, whole_bar, count_row, tier_field, bar_row, csv_head as csv_head_spec};
+ghost use Rattle.gm_analyse.specs.Bars.{csv_row, rows_text as rows_text_spec, IsCountsText};
 
 use crate::among::Among;
 use crate::by_tier::{TierCount, tier_counts};
 use crate::counts::Count;
 use crate::json_rows::json_rows;
-use gm_find::find_error::FindError;
+use gm_best::known_tiers::KnownTiers;
 use gm_find::reached::Reached;
 use gm_game::game::Game;
 use gm_game::position::Solved;
 use gm_game::shown::Line;
 use gm_game::text::{push_decimal, value_text};
 use gm_play::texts::{push_field, word_of};
-use gm_table::tables::Tables;
 use std::alloc::{AllocError, Global};
 
 /// How counts are written.
@@ -35,25 +34,18 @@ const WHOLE: &[u8] = b"########################################";
 
 /// The counts of some tiers as lines of text, as `tier_counts` gives them. Where each tier is counted by itself its number is told: before each row, or as a
 /// member of the line of JSON.
-///
-/// `NotHeld` is tested first, and comes exactly where one of the tiers, or one of its child tiers, has no table.
 pub fn counts_text<G: Game>(
     alloc: Global,
-    tables: &Tables<G>,
-    tiers: &[u64],
+    known: &KnownTiers<'_, G>,
     among: Among,
     by_tier: bool,
     form: Form,
     reached: Option<&Reached<G>>,
-) -> Result<Vec<u8>, FindError>
-    ensures text { IfOk result (λ v. IsCountsText G.rules among (is_some reached.entry) by_tier form tiers.now v.items) }
-    ensures not_held { IsErrOf result FindError.NotHeld ↔ (AreTiersHeld G.rules tables.now tiers.now → ⊥) }
+) -> Result<Vec<u8>, AllocError>
+    ensures { IfOk result (λ v. IsCountsText G.rules among (is_some reached.entry) by_tier form known.now.tiers.now v.items) }
 {
-    let counts = tier_counts(alloc, tables, tiers, among, by_tier, reached)?;
-    match rows_text(alloc, form, by_tier, counts.as_slice()) {
-        Ok(rows) => Ok(rows),
-        Err(_) => Err(FindError::OutOfMemory),
-    }
+    let counts = tier_counts(alloc, known, among, by_tier, reached)?;
+    rows_text(alloc, form, by_tier, counts.as_slice())
 }
 
 // Counts in a form.

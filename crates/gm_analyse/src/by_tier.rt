@@ -1,15 +1,14 @@
 //! Counts over all tiers together, or tier by tier.
-ghost use Rattle.std.specs.Prelude.{◌≡◌, ◌++◌, ◌∷◌, [], ◌↔◌, List, map, Some, None, IfOk, OnOk, IsErrOf, is_some};
+ghost use Rattle.std.specs.Prelude.{◌≡◌, ◌++◌, ◌∷◌, [], List, map, Some, None, IfOk, OnOk, is_some};
 ghost use Rattle.gm_analyse.specs.declared.counts.Count.{Count as CountData};
-ghost use Rattle.gm_find.specs.Finding.{AreTiersHeld};
+ghost use Rattle.gm_best.specs.Reached.{AreAllHeld};
 ghost use Rattle.gm_analyse.specs.Totals.{AreCounts};
 ghost use Rattle.gm_analyse.specs.ByTier.{with_tier as with_tier_spec, AreRows, AreTierRows};
 
 use crate::among::Among;
 use crate::counts::Count;
-use crate::totals::counts_of;
-use gm_find::find_error::FindError;
-use gm_find::positions::are_held;
+use crate::totals::counts;
+use gm_best::known_tiers::KnownTiers;
 use gm_find::reached::Reached;
 use gm_game::game::Game;
 use gm_table::tables::Tables;
@@ -25,76 +24,48 @@ pub struct TierCount {
 /// Counts the positions of some tiers by value and remoteness, in the order Lose, Draw, Tie, Win, then by remoteness: all tiers together or, where `by_tier` is
 /// set, tier by tier in the order given. The canonical positions are counted, or all legal ones; where a set of reached positions is given, only those with a
 /// canonical position in it.
-///
-/// `NotHeld` is tested first, and comes exactly where one of the tiers, or one of its child tiers, has no table.
 pub fn tier_counts<G: Game>(
     alloc: Global,
-    tables: &Tables<G>,
-    tiers: &[u64],
-    among: Among,
-    by_tier: bool,
-    reached: Option<&Reached<G>>,
-) -> Result<Vec<TierCount>, FindError>
-    ensures rows { IfOk result (λ v. AreRows G.rules among (is_some reached.entry) by_tier tiers.now v.items) }
-    ensures not_held { IsErrOf result FindError.NotHeld ↔ (AreTiersHeld G.rules tables.now tiers.now → ⊥) }
-{
-    if !are_held(tables, tiers) {
-        return Err(FindError::NotHeld);
-    }
-    match rows_of(alloc, tables, tiers, among, by_tier, reached) {
-        Ok(rows) => Ok(rows),
-        Err(_) => Err(FindError::OutOfMemory),
-    }
-}
-
-// The counts of tiers that are held.
-fn rows_of<G: Game>(
-    alloc: Global,
-    tables: &Tables<G>,
-    tiers: &[u64],
+    known: &KnownTiers<'_, G>,
     among: Among,
     by_tier: bool,
     reached: Option<&Reached<G>>,
 ) -> Result<Vec<TierCount>, AllocError>
-    requires { AreTiersHeld G.rules tables.now tiers.now }
-    ensures { IfOk result (λ v. AreRows G.rules among (is_some reached.entry) by_tier tiers.now v.items) }
+    ensures { IfOk result (λ v. AreRows G.rules among (is_some reached.entry) by_tier known.now.tiers.now v.items) }
 {
     if by_tier {
-        rows_by_tier(alloc, tables, tiers, among, reached)
+        rows_by_tier(alloc, known, among, reached)
     } else {
-        rows_together(alloc, tables, tiers, among, reached)
+        rows_together(alloc, known, among, reached)
     }
 }
 
 // The counts of all tiers together.
 fn rows_together<G: Game>(
     alloc: Global,
-    tables: &Tables<G>,
-    tiers: &[u64],
+    known: &KnownTiers<'_, G>,
     among: Among,
     reached: Option<&Reached<G>>,
 ) -> Result<Vec<TierCount>, AllocError>
-    requires { AreTiersHeld G.rules tables.now tiers.now }
-    ensures { IfOk result (λ v. (counts : List CountData) × AreCounts G.rules among (is_some reached.entry) tiers.now counts × (v.items ≡ map (with_tier_spec None) counts)) }
+    ensures { IfOk result (λ v. (counts : List CountData) × AreCounts G.rules among (is_some reached.entry) known.now.tiers.now counts
+        × (v.items ≡ map (with_tier_spec None) counts)) }
 {
-    let counts = counts_of(alloc, tables, tiers, among, reached)?;
-    with_tier(alloc, None, counts.as_slice())
+    let counted = counts(alloc, known, among, reached)?;
+    with_tier(alloc, None, counted.as_slice())
 }
 
 // The counts of each tier.
 fn rows_by_tier<G: Game>(
     alloc: Global,
-    tables: &Tables<G>,
-    tiers: &[u64],
+    known: &KnownTiers<'_, G>,
     among: Among,
     reached: Option<&Reached<G>>,
 ) -> Result<Vec<TierCount>, AllocError>
-    requires { AreTiersHeld G.rules tables.now tiers.now }
-    ensures { IfOk result (λ v. AreTierRows G.rules among (is_some reached.entry) tiers.now v.items) }
+    ensures { IfOk result (λ v. AreTierRows G.rules among (is_some reached.entry) known.now.tiers.now v.items) }
 {
     let mut rows = Vec::new(alloc);
-    for tier in tiers {
-        add_tier(&mut rows, tables, *tier, among, reached)?;
+    for tier in known.tiers {
+        add_tier(&mut rows, known.tables, *tier, among, reached)?;
     }
     Ok(rows)
 }
@@ -107,13 +78,16 @@ fn add_tier<G: Game>(
     among: Among,
     reached: Option<&Reached<G>>,
 ) -> Result<(), AllocError>
-    requires { AreTiersHeld G.rules tables.now (tier ∷ []) }
+    requires { AreAllHeld G.rules tables.now tier }
     ensures { OnOk result ((counts : List CountData) × AreCounts G.rules among (is_some reached.entry) (tier ∷ []) counts
         × (rows.new.items ≡ rows.old.items ++ map (with_tier_spec (Some tier)) counts)) }
 {
-    let one = [tier];
-    let counts = counts_of(*rows.allocator(), tables, &one, among, reached)?;
-    add_counts(rows, Some(tier), counts.as_slice())
+    let one = KnownTiers {
+        tables,
+        tiers: &[tier],
+    };
+    let counted = counts(*rows.allocator(), &one, among, reached)?;
+    add_counts(rows, Some(tier), counted.as_slice())
 }
 
 // Some counts, with the tier that they are of.

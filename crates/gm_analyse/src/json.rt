@@ -16,8 +16,8 @@ use serde_json::{Map, Value as Json, json, push, put};
 use std::alloc::{AllocError, Global};
 use std::str;
 
-/// The analysis of a tier of the game as one line of compact JSON, with its members in alphabetical order. Each count is a list of a value's word, the remoteness and the number;
-/// the longest win is a list of the remoteness and the index, or null where there is none.
+/// The analysis of a tier of the game as one line of compact JSON, with its members in alphabetical order. Each count is a list of a value's word, the
+/// remoteness and the number; the longest win is a list of the remoteness and the index, or null where there is none.
 pub fn to_json<G: Game>(alloc: Global, analysis: &Analysis) -> Result<String, AllocError>
     ensures { IfOk result (λ s. string_bytes s ≡ compact_text (analysis_tree (name_text G.rules.name) analysis.now)) }
 {

@@ -1,64 +1,53 @@
 //! The longest wins and the longest losses of some tiers, as rows of positions.
-ghost use Rattle.std.specs.Prelude.{◌≡◌, ◌≤◌, ◌+◌, ◌↔◌, length, IfOk, IsErrOf, is_some};
+ghost use Rattle.std.specs.Prelude.{◌≡◌, ◌≤◌, ◌+◌, length, IfOk, is_some};
 ghost use Rattle.gm_game.specs.declared.limits.TheConstants.{REMOTENESS};
-ghost use Rattle.gm_find.specs.Finding.{all_positions, AreTiersHeld};
+ghost use Rattle.gm_find.specs.Finding.{all_positions};
 ghost use Rattle.gm_analyse.specs.declared.among.Among.TheVariants.{Canonical};
 ghost use Rattle.gm_analyse.specs.Totals.{IsGreatest};
 ghost use Rattle.gm_analyse.specs.Longest.{longest as longest_spec, IsLastAbove, IsLongestRows, IsLongestText};
 
 use crate::among::Among;
 use crate::numbers::numbers_of;
-use gm_find::find_error::FindError;
-use gm_find::positions::are_held;
+use gm_best::known_tiers::KnownTiers;
 use gm_find::reached::Reached;
 use gm_find::rows::find_text;
 use gm_find::sought::{Choice, Sought, Span};
 use gm_game::game::Game;
 use gm_game::position::Value;
 use gm_game::shown::Shown;
-use gm_table::tables::Tables;
-use std::alloc::Global;
+use std::alloc::{AllocError, Global};
 
 /// The rows of the longest wins of some tiers, and then of the longest losses: the position, its value, its best move and the number of its moves, with a tab
 /// between them. They are the canonical positions with the greatest remoteness, tier by tier in the order given and by ascending index: of the wins the first,
 /// at most `limit`, and of the losses too. Where a set of reached positions is given, only positions in it count.
-///
-/// `NotHeld` is tested first, and comes exactly where one of the tiers, or one of its child tiers, has no table.
 pub fn longest_text<G: Shown>(
     alloc: Global,
-    tables: &Tables<G>,
-    tiers: &[u64],
+    known: &KnownTiers<'_, G>,
     reached: Option<&Reached<G>>,
     limit: usize,
-) -> Result<Vec<u8>, FindError>
-    ensures text { IfOk result (λ v. IsLongestText G.Game.rules G.shown G.move_shown (is_some reached.entry) limit tiers.now v.items) }
-    ensures not_held { IsErrOf result FindError.NotHeld ↔ (AreTiersHeld G.Game.rules tables.now tiers.now → ⊥) }
+) -> Result<Vec<u8>, AllocError>
+    ensures { IfOk result (λ v. IsLongestText G.Game.rules G.shown G.move_shown (is_some reached.entry) limit known.now.tiers.now v.items) }
 {
-    let mut rows = rows_of_longest(alloc, tables, tiers, Value::Win, reached, limit)?;
-    let losses = rows_of_longest(alloc, tables, tiers, Value::Lose, reached, limit)?;
-    match rows.extend_from_slice(losses.as_slice()) {
-        Ok(()) => Ok(rows),
-        Err(_) => Err(FindError::OutOfMemory),
-    }
+    let mut rows = rows_of_longest(alloc, known, Value::Win, reached, limit)?;
+    let losses = rows_of_longest(alloc, known, Value::Lose, reached, limit)?;
+    rows.extend_from_slice(losses.as_slice())?;
+    Ok(rows)
 }
 
 // The rows of the positions of a value with the greatest remoteness.
 fn rows_of_longest<G: Shown>(
     alloc: Global,
-    tables: &Tables<G>,
-    tiers: &[u64],
+    known: &KnownTiers<'_, G>,
     value: Value,
     reached: Option<&Reached<G>>,
     limit: usize,
-) -> Result<Vec<u8>, FindError>
-    ensures rows { IfOk result (λ v. IsLongestRows G.Game.rules G.shown G.move_shown (is_some reached.entry) limit tiers.now value v.items) }
-    ensures not_held { IsErrOf result FindError.NotHeld ↔ (AreTiersHeld G.Game.rules tables.now tiers.now → ⊥) }
+) -> Result<Vec<u8>, AllocError>
+    ensures { IfOk result (λ v. IsLongestRows G.Game.rules G.shown G.move_shown (is_some reached.entry) limit known.now.tiers.now value v.items) }
 {
-    match greatest(alloc, tables, tiers, value, reached)? {
+    match greatest(alloc, known, value, reached)? {
         Some(remoteness) => {
             let sought = longest(value, remoteness);
-            let first = Choice::First(limit);
-            find_text(alloc, tables, tiers, sought, reached, first)
+            find_text(alloc, known, sought, reached, Choice::First(limit))
         }
         None => Ok(Vec::new(alloc)),
     }
@@ -83,25 +72,16 @@ fn longest(value: Value, remoteness: u32) -> Sought
 
 /// The greatest remoteness of the canonical positions of a value; `None` where no position has it. Where a set of reached positions is given, only positions in
 /// it count.
-///
-/// `NotHeld` is tested first, and comes exactly where one of the tiers, or one of its child tiers, has no table.
 pub fn greatest<G: Game>(
     alloc: Global,
-    tables: &Tables<G>,
-    tiers: &[u64],
+    known: &KnownTiers<'_, G>,
     value: Value,
     reached: Option<&Reached<G>>,
-) -> Result<Option<u32>, FindError>
-    ensures greatest { IfOk result (IsGreatest G.rules Canonical (is_some reached.entry) value (all_positions G.rules tiers.now)) }
-    ensures not_held { IsErrOf result FindError.NotHeld ↔ (AreTiersHeld G.rules tables.now tiers.now → ⊥) }
+) -> Result<Option<u32>, AllocError>
+    ensures { IfOk result (IsGreatest G.rules Canonical (is_some reached.entry) value (all_positions G.rules known.now.tiers.now)) }
 {
-    if !are_held(tables, tiers) {
-        return Err(FindError::NotHeld);
-    }
-    match numbers_of(alloc, tables, tiers, Among::Canonical, value, reached) {
-        Ok(numbers) => Ok(last_above(numbers.as_slice())),
-        Err(_) => Err(FindError::OutOfMemory),
-    }
+    let numbers = numbers_of(alloc, known, Among::Canonical, value, reached)?;
+    Ok(last_above(numbers.as_slice()))
 }
 
 // The last place with a number above 0.

@@ -3,11 +3,12 @@ ghost use Rattle.std.specs.Prelude.{◌≡◌, ◌<◌, ◌≤◌, ◌+◌, ◌+
 ghost use Rattle.gm_game.specs.declared.limits.TheConstants.{REMOTENESS};
 ghost use Rattle.gm_game.specs.declared.position.Position.{Position};
 ghost use Rattle.gm_table.specs.Tables.{IsHeld};
-ghost use Rattle.gm_find.specs.Finding.{all_positions, positions_in, AreTiersHeld};
+ghost use Rattle.gm_find.specs.Finding.{all_positions, positions_in};
 ghost use Rattle.gm_find.specs.Reaching.{IsReachedByPlay};
 ghost use Rattle.gm_analyse.specs.Totals.{AreNumbers, IsLevel, IsRecordAmong};
 
 use crate::among::Among;
+use gm_best::known_tiers::KnownTiers;
 use gm_find::positions::record;
 use gm_find::reached::{Reached, is_in};
 use gm_game::game::Game;
@@ -19,19 +20,17 @@ use std::alloc::{AllocError, Global};
 /// How many positions of some tiers have this value, for each remoteness up to the greatest.
 pub(crate) fn numbers_of<G: Game>(
     alloc: Global,
-    tables: &Tables<G>,
-    tiers: &[u64],
+    known: &KnownTiers<'_, G>,
     among: Among,
     value: Value,
     reached: Option<&Reached<G>>,
 ) -> Result<Vec<u64>, AllocError>
-    requires { AreTiersHeld G.rules tables.now tiers.now }
     ensures few { IfOk result (λ v. vec_len v ≤ REMOTENESS + 1) }
-    ensures numbers { IfOk result (λ v. AreNumbers G.rules among (is_some reached.entry) value (all_positions G.rules tiers.now) v.items) }
+    ensures numbers { IfOk result (λ v. AreNumbers G.rules among (is_some reached.entry) value (all_positions G.rules known.now.tiers.now) v.items) }
 {
     let mut numbers = Vec::new(alloc);
-    for tier in tiers {
-        add_tier(&mut numbers, tables, *tier, among, value, reached)?;
+    for tier in known.tiers {
+        add_tier(&mut numbers, known.tables, *tier, among, value, reached)?;
     }
     Ok(numbers)
 }

@@ -1,57 +1,32 @@
 //! How many positions of some tiers have each value and remoteness.
-ghost use Rattle.std.specs.Prelude.{◌≡◌, ◌+◌, ◌↔◌, IfOk, OnOk, IsErrOf, is_some};
+ghost use Rattle.std.specs.Prelude.{◌+◌, IfOk, OnOk, is_some};
 ghost use Rattle.gm_analyse.specs.Numbers.{rank};
-ghost use Rattle.gm_find.specs.Finding.{all_positions, AreTiersHeld};
+ghost use Rattle.gm_find.specs.Finding.{all_positions};
 ghost use Rattle.gm_analyse.specs.Totals.{AreCounts, AreCountsBefore};
 
 use crate::among::Among;
 use crate::counts::Count;
 use crate::numbers::numbers_of;
-use gm_find::find_error::FindError;
-use gm_find::positions::are_held;
+use gm_best::known_tiers::KnownTiers;
 use gm_find::reached::Reached;
 use gm_game::game::Game;
 use gm_game::position::Value;
-use gm_table::tables::Tables;
 use std::alloc::{AllocError, Global};
 
 /// Counts the positions of some tiers by value and remoteness, in the order Lose, Draw, Tie, Win, then by remoteness: the canonical ones, or all legal ones.
-/// Where a set of reached positions is given, only positions with a canonical position in it are counted. All positions of the tiers are gone through four times.
-///
-/// `NotHeld` is tested first, and comes exactly where one of the tiers, or one of its child tiers, has no table.
+/// Where a set of reached positions is given, only positions with a canonical position in it are counted. All positions of the tiers are gone through four
+/// times.
 pub fn counts<G: Game>(
     alloc: Global,
-    tables: &Tables<G>,
-    tiers: &[u64],
-    among: Among,
-    reached: Option<&Reached<G>>,
-) -> Result<Vec<Count>, FindError>
-    ensures counts { IfOk result (λ v. AreCounts G.rules among (is_some reached.entry) tiers.now v.items) }
-    ensures not_held { IsErrOf result FindError.NotHeld ↔ (AreTiersHeld G.rules tables.now tiers.now → ⊥) }
-{
-    if !are_held(tables, tiers) {
-        return Err(FindError::NotHeld);
-    }
-    match counts_of(alloc, tables, tiers, among, reached) {
-        Ok(counts) => Ok(counts),
-        Err(_) => Err(FindError::OutOfMemory),
-    }
-}
-
-/// The counts of tiers that are held.
-pub(crate) fn counts_of<G: Game>(
-    alloc: Global,
-    tables: &Tables<G>,
-    tiers: &[u64],
+    known: &KnownTiers<'_, G>,
     among: Among,
     reached: Option<&Reached<G>>,
 ) -> Result<Vec<Count>, AllocError>
-    requires { AreTiersHeld G.rules tables.now tiers.now }
-    ensures { IfOk result (λ v. AreCounts G.rules among (is_some reached.entry) tiers.now v.items) }
+    ensures { IfOk result (λ v. AreCounts G.rules among (is_some reached.entry) known.now.tiers.now v.items) }
 {
     let mut counts = Vec::new(alloc);
     for value in [Value::Lose, Value::Draw, Value::Tie, Value::Win] {
-        add_counts(&mut counts, tables, tiers, among, value, reached)?;
+        add_counts(&mut counts, known, among, value, reached)?;
     }
     Ok(counts)
 }
@@ -59,17 +34,16 @@ pub(crate) fn counts_of<G: Game>(
 // Adds the counts of a value to those of the values before it.
 fn add_counts<G: Game>(
     counts: &mut Vec<Count>,
-    tables: &Tables<G>,
-    tiers: &[u64],
+    known: &KnownTiers<'_, G>,
     among: Among,
     value: Value,
     reached: Option<&Reached<G>>,
 ) -> Result<(), AllocError>
-    requires held { AreTiersHeld G.rules tables.now tiers.now }
-    requires before { AreCountsBefore G.rules among (is_some reached) (all_positions G.rules tiers.now) (rank value) 0 counts.old.items }
-    ensures { OnOk result (AreCountsBefore G.rules among (is_some reached.entry) (all_positions G.rules tiers.now) (rank value + 1) 0 counts.new.items) }
+    requires { AreCountsBefore G.rules among (is_some reached) (all_positions G.rules known.now.tiers.now) (rank value) 0 counts.old.items }
+    ensures { OnOk result (AreCountsBefore G.rules among (is_some reached.entry) (all_positions G.rules known.now.tiers.now)
+        (rank value + 1) 0 counts.new.items) }
 {
-    let numbers = numbers_of(*counts.allocator(), tables, tiers, among, value, reached)?;
+    let numbers = numbers_of(*counts.allocator(), known, among, value, reached)?;
     for (remoteness, number) in numbers.iter().enumerate() {
         if *number > 0 {
             counts.push(Count {

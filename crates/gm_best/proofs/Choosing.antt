@@ -49,7 +49,11 @@ module _ (r : Rules) (p : Position) (value : Value) (front : List ℕ) (m : ℕ)
   best_kept c k b none = record {
     there = Contains-append_left front (m ∷ []) c b.there;
     reaches = b.reaches;
-    no_better = λ n l has v. elim (Contains-push_cases front m n has) [ inl i ↦ b.no_better n l i v | inr e ↦ absurd (none l (subst (λ (x : ℕ). Goes x l) (sym e) v)) ];
+    no_better = λ n l has v. elim (Contains-push_cases front m n has) [
+      | inl i ↦ b.no_better n l i v
+      | inr e ↦ absurd
+          (none l (subst (λ (x : ℕ). Goes x l) (sym e) v))
+    ];
     first = λ n has v. elim (Contains-push_cases front m n has) [ inl i ↦ b.first n i v | inr e ↦ absurd (none k (subst (λ (x : ℕ). Goes x k) (sym e) v)) ];
   }
 
@@ -61,7 +65,11 @@ module _ (r : Rules) (p : Position) (value : Value) (front : List ℕ) (m : ℕ)
   best_first k before goes = record {
     there = Contains-push front m;
     reaches = goes;
-    no_better = λ n l has v. elim (Contains-push_cases front m n has) [ inl i ↦ absurd (before n l i v) | inr e ↦ subst (IsNoFarther value k) (goes_once n k l e goes v) (same_far value k) ];
+    no_better = λ n l has v. elim (Contains-push_cases front m n has) [
+      | inl i ↦ absurd (before n l i v)
+      | inr e ↦ subst (IsNoFarther value k)
+          (goes_once n k l e goes v) (same_far value k)
+    ];
     first = λ n has v. elim (Contains-push_cases front m n has) [ inl i ↦ absurd (before n k i v) | inr e ↦ omega arith ];
   }
 
@@ -89,10 +97,13 @@ module _ (r : Rules) (p : Position) (value : Value) (front : List ℕ) (m : ℕ)
     first = λ n has v. elim (Contains-push_cases front m n has) [ inl i ↦ b.first n i v | inr e ↦ (let l = above c b.there in omega arith) ];
   }
 
-  chosen : (best : Option Choice) (c : Choice) (k : ℕ) → IsChoice r p value front best → Goes m k → Chooses value best m k c → IsBestOf r p value (front ++ m ∷ []) c.number c.remoteness
+  chosen : (best : Option Choice) (c : Choice) (k : ℕ) → IsChoice r p value front best → Goes m k → Chooses value best m k c → IsBestOf r p value
+      (front ++ m ∷ []) c.number c.remoteness
   chosen None c k before goes e = subst (λ (x : Choice). IsBestOf r p value (front ++ m ∷ []) x.number x.remoteness) (sym e) (best_first k before goes)
-  chosen (Some old) c k b goes (inl (near, e)) = subst (λ (x : Choice). IsBestOf r p value (front ++ m ∷ []) x.number x.remoteness) (sym e) (best_new old.number old.remoteness k b goes near)
-  chosen (Some old) c k b goes (inr (far, e)) = subst (λ (x : Choice). IsBestOf r p value (front ++ m ∷ []) x.number x.remoteness) (sym e) (best_old old.number old.remoteness k b goes far)
+  chosen (Some old) c k b goes (inl (near, e)) = subst (λ (x : Choice). IsBestOf r p value (front ++ m ∷ []) x.number x.remoteness) (sym e)
+      (best_new old.number old.remoteness k b goes near)
+  chosen (Some old) c k b goes (inr (far, e)) = subst (λ (x : Choice). IsBestOf r p value (front ++ m ∷ []) x.number x.remoteness) (sym e)
+      (best_old old.number old.remoteness k b goes far)
 
   -- the choice after the move
   pub considered : (best new : Option Choice) → IsChoice r p value front best → Considers r p value m best new → IsChoice r p value (front ++ m ∷ []) new
@@ -101,6 +112,7 @@ module _ (r : Rules) (p : Position) (value : Value) (front : List ℕ) (m : ℕ)
   considered best (Some c) b (inr (k, goes, chooses)) = chosen best c k b goes chooses
 
 -- a move that goes elsewhere changes nothing
-pub goes_elsewhere : (r : Rules) (p : Position) (value : Value) (m : ℕ) (best : Option Choice) → ((k : ℕ) → HasValue r (r.play p m) (wanted_from value) k → ⊥) → Considers r p value m best best
+pub goes_elsewhere : (r : Rules) (p : Position) (value : Value) (m : ℕ) (best : Option Choice) →
+    ((k : ℕ) → HasValue r (r.play p m) (wanted_from value) k → ⊥) → Considers r p value m best best
 goes_elsewhere r p value m None none = (refl, none)
 goes_elsewhere r p value m (Some c) none = inl (refl, none)

@@ -1,5 +1,6 @@
 -- Where all that it rests on is held, a position has a best move, or it has ended.
-use Rattle.std.proofs.Common.{◌≡◌, ℕ, ◌<◌, ◌⊎◌, inl, inr, Bool, true, false, ◌&&◌, List, [], ◌∷◌, ◌++◌, Option, None, Some, refl, sym, subst, ◌∙◌, arith, append_assoc, append-nil, IsSome, IfSome, is_some}
+use Rattle.std.proofs.Common.{◌≡◌, ℕ, ◌<◌, ◌⊎◌, inl, inr, Bool, true, false, ◌&&◌, List, [], ◌∷◌, ◌++◌, Option, None, Some, refl, sym, subst, ◌∙◌, arith}
+use Rattle.std.proofs.Common.{append_assoc, append-nil, IsSome, IfSome, is_some}
 use Rattle.std.specs.List.{Contains, list_all}
 use Rattle.std.specs.Option.{option_map}
 use Rattle.std.proofs.lemmas.Bool.{cases_lt, and_parts, and_from}
@@ -65,7 +66,8 @@ middle [] m ms = contains_first m ms
 middle (x ∷ xs) m ms = contains_later x m (xs ++ m ∷ ms) (middle xs m ms)
 
 module _ (r : Rules) (p : Position) (v : Value) where
-  goes : (m : ℕ) (s : Solved) (k : ℕ) (best : Option Choice) → k ≡ s.remoteness → HasValue r (r.play p m) (wanted_from v) k → (new : Option Choice) × Considers r p v m best new
+  goes : (m : ℕ) (s : Solved) (k : ℕ) (best : Option Choice) → k ≡ s.remoteness → HasValue r (r.play p m) (wanted_from v) k → (new : Option Choice) ×
+      Considers r p v m best new
   goes m s k None e h = (Some (record { number = m; remoteness = k }), inr (k, h, refl))
   goes m s k (Some old) e h = elim (nearer v k old.remoteness) [
     | inl near ↦ (Some (record { number = m; remoteness = k }), inr (k, h, inl (near, refl)))
@@ -79,7 +81,8 @@ module _ (r : Rules) (p : Position) (v : Value) where
   ]
 
   choose : (up : IsAscending (r.moves p)) → ((m : ℕ) → Contains (r.moves p) m → (s : Solved) × IsTrueValue r (r.play p m) s)
-      → (rest front : List ℕ) → front ++ rest ≡ r.moves p → (best : Option Choice) → IsChoice r p v front best → (o : Option Choice) × IsChoice r p v (r.moves p) o
+      → (rest front : List ℕ) → front ++ rest ≡ r.moves p → (best : Option Choice) → IsChoice r p v front best → (o : Option Choice) × IsChoice r p v
+      (r.moves p) o
   choose up known [] front e best h = (best, subst (λ (l : List ℕ). IsChoice r p v l best) (sym (append-nil front) ∙ e) h)
   choose up known (m ∷ ms) front e best h =
       let (s, is) = known m (subst (λ (l : List ℕ). Contains l m) e (middle front m ms)) in
@@ -95,12 +98,14 @@ module _ (r : Rules) (g : IsGame r) (entries : List TableData) (tables : AreTabl
   own_value : (p : Position) → r.is_legal p ≡ true → IsHeld entries p.tier → (s : Solved) × IsTrueValue r p s
   own_value p l own = own_true p (value_in r entries p) ((value_known r g entries p tables).1 (l, own)) (value_true r g entries p tables)
 
-  best_open : (p : Position) (o : Option End) → r.is_legal p ≡ true → IsHeld entries p.tier → AreHeld r entries p.tier → r.primitive p ≡ o → (b : Option ℕ) × IsBestMove r p b
+  best_open : (p : Position) (o : Option End) → r.is_legal p ≡ true → IsHeld entries p.tier → AreHeld r entries p.tier → r.primitive p ≡ o → (b : Option ℕ)
+      × IsBestMove r p b
   best_open p (Some x) l own held e = (None, λ n. absurd (cc))
   best_open p None l own held e =
       let children = children_known r g entries tables p l own held in
       let (s, is) = own_value p l own in
-      let (o, h) = choose r p s.value (g.moves_ascending p l) (λ m has. children (r.play p m) (map_from (r.play p) (r.moves p) m has)) (r.moves p) [] refl None (λ n k has w. contains_none n has) in
+      let (o, h) = choose r p s.value (g.moves_ascending p l) (λ m has. children (r.play p m) (map_from (r.play p) (r.moves p) m has)) (r.moves p) [] refl
+      None (λ n k has w. contains_none n has) in
       (option_map (λ (c : Choice). c.number) o, best_is r g p l e children s.value s.remoteness is o h)
 
   -- all that a best move rests on is there

@@ -11,7 +11,8 @@ use Rattle.gm_best.specs.declared.place.PlaceError.TheVariants.{NoSuchTier, NoSu
 use Rattle.gm_best.specs.Places.{IsAt, IsRefusedAt, IsLocated, ArePlaces}
 
 module _ (r : Rules) (g : IsGame r) (shown : Position → List ℕ) (move_shown : Position → ℕ → List ℕ) (t : IsShown r shown move_shown) where
-  located_at : (tier index : ℕ) (p : Position) (l : Located) → IsAt r tier index p → IsLocated r shown (shown p) l → (l.position ≡ at tier index) × (l.canonical ≡ l.position)
+  located_at : (tier index : ℕ) (p : Position) (l : Located) → IsAt r tier index p → IsLocated r shown (shown p) l → (l.position ≡ at tier index) ×
+      (l.canonical ≡ l.position)
   located_at tier index p l a h =
       let same : l.position ≡ p = t.shown_once l.position p h.legal a.1.0 h.reads in
       (same ∙ a.0, h.canonical ∙ ap r.canonical same ∙ a.1.1 ∙ sym same)
@@ -20,13 +21,18 @@ module _ (r : Rules) (g : IsGame r) (shown : Position → List ℕ) (move_shown 
   found_at text l h =
       let tier : l.canonical.tier ≡ l.position.tier = ap (λ (q : Position). q.tier) h.canonical ∙ g.canonical_tier l.position h.legal in (
         same_position l.canonical (at l.position.tier l.canonical.index) tier refl,
-        (subst (λ (q : Position). r.is_legal q ≡ true) (sym h.canonical) (g.canonical_legal l.position h.legal), ap r.canonical h.canonical ∙ g.canonical_twice l.position h.legal ∙ sym h.canonical),
+        (
+          subst (λ (q : Position). r.is_legal q ≡ true) (sym h.canonical) (g.canonical_legal l.position h.legal),
+          ap r.canonical h.canonical ∙
+              g.canonical_twice l.position h.legal ∙ sym h.canonical,
+        ),
       )
 
   -- what stands at a tier and index is refused for no reason
   never : (tier index : ℕ) (p : Position) (why : PlaceError) → IsAt r tier index p → IsRefusedAt r tier index why → ⊥
   never tier index p NoSuchTier a e = (let low = g.index_below (at tier index) (subst (λ (q : Position). r.is_legal q ≡ true) a.0 a.1.0) in omega arith)
-  never tier index p NoSuchIndex a e = (let low = g.index_below (at tier index) (subst (λ (q : Position). r.is_legal q ≡ true) a.0 a.1.0) in let past = e.1 in omega arith)
+  never tier index p NoSuchIndex a e = (let low = g.index_below (at tier index) (subst (λ (q : Position). r.is_legal q ≡ true) a.0 a.1.0) in let past = e.1
+      in omega arith)
   never tier index p NotLegal a e = (let legal = subst (λ (q : Position). r.is_legal q ≡ true) a.0 a.1.0 in let not = e.1 in let z : ⊥ = cc in z)
   never tier index p NotCanonical a e = e.1 (subst (λ (q : Position). r.canonical q ≡ q) a.0 a.1.1)
 

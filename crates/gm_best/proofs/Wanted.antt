@@ -1,5 +1,6 @@
 -- From every position that goes on, a move leads to a wanted value.
-use Rattle.std.proofs.Common.{◌≡◌, ◌≢◌, ℕ, zero, suc, ◌<◌, inl, inr, true, List, [], ◌∷◌, Option, None, Some, length, take, get_or, refl, sym, subst, ◌∙◌, arith, length-take, IsSome, IfSome}
+use Rattle.std.proofs.Common.{◌≡◌, ◌≢◌, ℕ, zero, suc, ◌<◌, inl, inr, true, false, is_some, List, [], ◌∷◌, Option, None, Some, length, take, get_or, refl, sym}
+use Rattle.std.proofs.Common.{subst, ◌∙◌, arith, length-take, IsSome, IfSome}
 use Rattle.std.specs.List.{Contains}
 use Rattle.std.specs.Option.{option_map}
 use Rattle.std.proofs.lemmas.List.{get_or-take}
@@ -43,7 +44,8 @@ first_of_some : (ms : List ℕ) → ms ≢ [] → (m : ℕ) × Contains ms m
 first_of_some [] h = absurd (h refl)
 first_of_some (m ∷ ms) h = (m, contains_first m ms)
 
-module _ (r : Rules) (g : IsGame r) (p : Position) (legal : r.is_legal p ≡ true) (open_ : r.primitive p ≡ None) (known : (d : Position) → IsChild r p d → (s : Solved) × IsTrueValue r d s) where
+module _ (r : Rules) (g : IsGame r) (p : Position) (legal : r.is_legal p ≡ true) (open_ : r.primitive p ≡ None)
+    (known : (d : Position) → IsChild r p d → (s : Solved) × IsTrueValue r d s) where
   abbrev Leads : Value → Type 0
   Leads v = (m : ℕ) × (k : ℕ) × Contains (r.moves p) m × HasValue r (r.play p m) (wanted_from v) k
 
@@ -89,7 +91,8 @@ module _ (r : Rules) (g : IsGame r) (p : Position) (legal : r.is_legal p ≡ tru
   best_is v n h (Some c) b = (open_, record { value = v; own = n; is_value = h; remoteness = c.remoteness; best = b })
 
 -- the results of moves have true values where the tier and its child tiers are held
-pub result_held : (r : Rules) → IsGame r → (entries : List TableData) (p : Position) (m : ℕ) → r.is_legal p ≡ true → Contains (r.moves p) m → IsHeld entries p.tier → AreHeld r entries p.tier → IsHeld entries (r.play p m).tier
+pub result_held : (r : Rules) → IsGame r → (entries : List TableData) (p : Position) (m : ℕ) → r.is_legal p ≡ true → Contains (r.moves p) m → IsHeld entries
+    p.tier → AreHeld r entries p.tier → IsHeld entries (r.play p m).tier
 result_held r g entries p m legal has own held =
     elim (g.play_tier p m legal has) [ inl e ↦ subst (IsHeld entries) (sym e) own | inr c ↦ held (r.play p m).tier c ]
 
@@ -97,14 +100,18 @@ some_true : (r : Rules) (d : Position) (o : Option Solved) → IsSome o → IfSo
 some_true r d None is h = absurd (cc)
 some_true r d (Some s) is h = (s, h)
 
-pub own_known : (r : Rules) → IsGame r → (entries : List TableData) → AreTables r entries → (p : Position) → r.is_legal p ≡ true → IsHeld entries p.tier → (s : Solved) × IsTrueValue r p s
-own_known r g entries tables p legal own = some_true r p (value_in r entries p) ((value_known r g entries p tables).1 (legal, own)) (value_true r g entries p tables)
+pub own_known : (r : Rules) → IsGame r → (entries : List TableData) → AreTables r entries → (p : Position) → r.is_legal p ≡ true → IsHeld entries p.tier →
+    (s : Solved) × IsTrueValue r p s
+own_known r g entries tables p legal own = some_true r p (value_in r entries p) ((value_known r g entries p tables).1 (legal, own))
+    (value_true r g entries p tables)
 
-pub children_known : (r : Rules) → IsGame r → (entries : List TableData) → AreTables r entries → (p : Position) → r.is_legal p ≡ true → IsHeld entries p.tier → AreHeld r entries p.tier → (d : Position) → IsChild r p d → (s : Solved) × IsTrueValue r d s
+pub children_known : (r : Rules) → IsGame r → (entries : List TableData) → AreTables r entries → (p : Position) → r.is_legal p ≡ true → IsHeld entries
+    p.tier → AreHeld r entries p.tier → (d : Position) → IsChild r p d → (s : Solved) × IsTrueValue r d s
 children_known r g entries tables p legal own held d is =
     let (m, has, e) = map_in (r.play p) (r.moves p) d is in
     let q = r.play p m in
-    let there : IsSome (value_in r entries q) = (value_known r g entries q tables).1 (g.play_legal p m legal has, result_held r g entries p m legal has own held) in
+    let there : IsSome (value_in r entries q) = (value_known r g entries q tables).1
+    (g.play_legal p m legal has, result_held r g entries p m legal has own held) in
     let k = some_true r q (value_in r entries q) there (value_true r g entries q tables) in
     subst (λ (x : Position). (s : Solved) × IsTrueValue r x s) e k
 
@@ -131,3 +138,8 @@ all_below xs k up inside n (j, low, e) =
     let here : get_or xs j 0 ≡ n = sym (get_or_default_zero xs j n (omega arith)) ∙ same in
     let less = below xs j k up j<k inside in
     omega arith
+
+-- whether the game goes on
+pub none_if : {A : Type 0} (o p : Option A) → o ≡ p → false ≡ is_some o → p ≡ None
+none_if None p e f = sym e
+none_if (Some x) p e f = absurd (let z : ⊥ = cc in z)

@@ -52,7 +52,8 @@ Chooses value (Some old) m k c =
 abbrev pub Considers : Rules → Position → Value → ℕ → Option Choice → Option Choice → Type 0
 Considers r p value m best None = (best ≡ None) × ((k : ℕ) → HasValue r (r.play p m) (wanted_from value) k → ⊥)
 Considers r p value m best (Some c) =
-    ((best ≡ Some c) × ((k : ℕ) → HasValue r (r.play p m) (wanted_from value) k → ⊥)) ⊎ ((k : ℕ) × HasValue r (r.play p m) (wanted_from value) k × Chooses value best m k c)
+    ((best ≡ Some c) × ((k : ℕ) → HasValue r (r.play p m) (wanted_from value) k → ⊥)) ⊎
+    ((k : ℕ) × HasValue r (r.play p m) (wanted_from value) k × Chooses value best m k c)
 
 -- the best move of a position of this value
 pub record IsBest (r : Rules) (p : Position) (m : ℕ) : Type 0 where

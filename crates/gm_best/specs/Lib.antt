@@ -3,3 +3,4 @@ pub mod BestMoves
 pub mod Sides
 pub mod Endings
 pub mod Places
+pub mod Reached

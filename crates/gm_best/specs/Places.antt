@@ -30,7 +30,8 @@ IsUnlocated r shown text = (p : Position) → r.is_legal p ≡ true → shown p 
 -- what stands at a tier and index, and where a text is located, undo each other
 pub record ArePlaces (r : Rules) (shown : Position → List ℕ) : Type 0 where
   -- the text of what stands at a tier and index is located there, as that of a canonical position
-  pub located : (tier index : ℕ) (p : Position) (l : Located) → IsAt r tier index p → IsLocated r shown (shown p) l → (l.position ≡ at tier index) × (l.canonical ≡ l.position)
+  pub located : (tier index : ℕ) (p : Position) (l : Located) → IsAt r tier index p → IsLocated r shown (shown p) l → (l.position ≡ at tier index) ×
+      (l.canonical ≡ l.position)
   -- it is located
   pub there : (tier index : ℕ) (p : Position) → IsAt r tier index p → IsUnlocated r shown (shown p) → ⊥
   -- the canonical position of what is located stands at the tier that is located, by its own index

@@ -3,8 +3,6 @@ use Rattle.std.specs.Prelude.{◌≡◌, ℕ, true, List}
 use Rattle.gm_game.specs.declared.position.Position.{Position}
 use Rattle.gm_game.specs.Rules.{Rules}
 use Rattle.gm_table.specs.Tables.{TableData, IsHeld, AreHeld}
-use Rattle.gm_best.specs.declared.play_error.PlayError.{PlayError}
-use Rattle.gm_best.specs.declared.play_error.PlayError.TheVariants.{OutOfMemory, Illegal as PlayIllegal, NotHeld as PlayNotHeld}
 use Rattle.gm_best.specs.declared.answer.AnswerError.{AnswerError}
 use Rattle.gm_best.specs.declared.answer.AnswerError.TheVariants.{Illegal, NotHeld}
 
@@ -20,8 +18,3 @@ AreNotHeld r entries p = (r.is_legal p ≡ true) × (IsHeld entries p.tier → A
 abbrev pub number_of : AnswerError → ℕ
 number_of Illegal = 1
 number_of NotHeld = 2
-
-abbrev pub play_number_of : PlayError → ℕ
-play_number_of OutOfMemory = 1
-play_number_of PlayIllegal = 2
-play_number_of PlayNotHeld = 3

@@ -7,7 +7,7 @@ ghost use Rattle.gm_table.specs.Tables.{IsHeld, AreHeld};
 ghost use Rattle.gm_best.specs.Refusals.{AreNotHeld};
 ghost use Rattle.gm_best.specs.BestMoves.{wanted_from, IsNearer, IsChoice, Chooses, Considers, IsBestMove};
 
-use crate::answer::{AnswerError, answer};
+use crate::answer::AnswerError;
 use gm_game::game::Game;
 use gm_game::position::{Position, Value};
 use gm_table::tables::Tables;
@@ -28,14 +28,27 @@ pub fn best_move<G: Game>(tables: &Tables<G>, p: Position) -> Result<Option<u32>
     ensures illegal { IsErrOf result AnswerError.Illegal ↔ (G.rules.is_legal p ≡ false) }
     ensures not_held { IsErrOf result AnswerError.NotHeld ↔ AreNotHeld G.rules tables.now p }
 {
-    let solved = answer(tables, p)?;
-    if !tables.has_children(p.tier) {
+    if !G::is_legal(p) {
+        return Err(AnswerError::Illegal);
+    }
+    if !tables.has(p.tier) || !tables.has_children(p.tier) {
         return Err(AnswerError::NotHeld);
     }
-    match G::primitive(p) {
-        Some(_) => Ok(None),
-        None => Ok(number_of(choose(tables, p, solved.value))),
+    Ok(best_of(tables, p))
+}
+
+/// The best move of a legal position whose tier and child tiers have tables.
+pub(crate) fn best_of<G: Game>(tables: &Tables<G>, p: Position) -> Option<u32>
+    requires legal { G.rules.is_legal p ≡ true }
+    requires own { IsHeld tables.now p.tier }
+    requires children { AreHeld G.rules tables.now p.tier }
+    ensures { IsBestMove G.rules p result }
+{
+    if G::primitive(p).is_some() {
+        return None;
     }
+    let solved = tables.get(p).unwrap();
+    number_of(choose(tables, p, solved.value))
 }
 
 fn number_of(choice: Option<Choice>) -> Option<u32>

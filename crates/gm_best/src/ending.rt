@@ -1,11 +1,11 @@
-//! The line on the end of a game.
+//! The line that announces how a game ended.
 ghost use Rattle.std.specs.Prelude.{◌≡◌};
 ghost use Rattle.gm_best.specs.Endings.{over as over_spec};
 
 use crate::side::Side;
 use gm_game::position::End;
 
-/// The line on the end of a game, with this side to move.
+/// The line that announces how a game ended, with this side to move.
 pub fn over(side: Side, end: End) -> &'static [u8]
     ensures { result.now ≡ over_spec side end }
 {

@@ -3,7 +3,9 @@
 
 pub mod answer;
 pub mod best_move;
+pub mod closed;
 pub mod ending;
+pub mod known;
+pub mod known_tiers;
 pub mod place;
-pub mod play_error;
 pub mod side;

@@ -20,7 +20,8 @@ build_error r first tier (StoreFailed t) reached is = subst (IsReachedFrom r fir
 build_error r first tier TooManyTiers reached is = absurd is
 build_error r first tier (TierTooLarge t) reached is = absurd is
 
-pub stopped_by : (r : Rules) (first : ℕ) (start now : Texts) (tier : ℕ) (e : BuildError) → StopsAt r first start now tier → IsTierError r tier e → IsStopped r first start now e
+pub stopped_by : (r : Rules) (first : ℕ) (start now : Texts) (tier : ℕ) (e : BuildError) → StopsAt r first start now tier → IsTierError r tier e
+    → IsStopped r first start now e
 stopped_by r first start now tier OutOfMemory stops is = inr (tier, stops)
 stopped_by r first start now tier (TooFar t) stops is = subst (StopsAt r first start now) (sym is.0) stops
 stopped_by r first start now tier (StoreFailed t) stops is = subst (StopsAt r first start now) (sym is) stops
@@ -33,7 +34,8 @@ passed (Ok x) Q e h q = tt
 passed (Err y) Q e h q = subst Q (sym h) q
 
 -- what an error of the order says of the build
-pub order_error : {T : Type 0} → (r : Rules) (first : ℕ) (m : Result T TierError) → (IsErrOf m TooMany → HasTooMany r first) → (IsErrOf m TooMany → AreMoreThan r first TIERS)
+pub order_error : {T : Type 0} → (r : Rules) (first : ℕ) (m : Result T TierError) → (IsErrOf m TooMany → HasTooMany r first)
+    → (IsErrOf m TooMany → AreMoreThan r first TIERS)
     → ((tier : ℕ) → IsErrOf m (TooLarge tier) → IsTooLarge r first tier) → ((tier : ℕ) → IsErrOf m (TooLarge tier) → IsReachedFrom r first tier)
     → (e : TierError) → m ≡ Err e → IsBuildError r first (of_tier_error e)
 order_error r first m many more large reached NoMemory is = tt
@@ -55,7 +57,8 @@ pub order_count : (T : Type 0) (n : ℕ) (m : Result T BuildError) (e : TierErro
 order_count T n (Ok x) e h = absurd h
 order_count T n (Err y) e h = order_counts T n e ∙ ap (λ (x : BuildError). n + failures_in {T = T} (Err x)) (sym h)
 
-pub tier_count : (T : Type 0) (start old new : ℕ) (m : Result T BuildError) (e : BuildError) → IsErrAnd m (λ y. y ≡ e) → new ≡ old + failures_in {T = T} (Err e) → old ≡ start → new ≡ start + failures_in m
+pub tier_count : (T : Type 0) (start old new : ℕ) (m : Result T BuildError) (e : BuildError) → IsErrAnd m (λ y. y ≡ e)
+    → new ≡ old + failures_in {T = T} (Err e) → old ≡ start → new ≡ start + failures_in m
 tier_count T start old new (Ok x) e h count is = absurd h
 tier_count T start old new (Err y) e h count is =
     count ∙ ap (λ (n : ℕ). n + failures_in {T = T} (Err e)) is ∙ ap (λ (k : ℕ). start + k) (ap (λ (x : BuildError). failures_in {T = T} (Err x)) (sym h))

@@ -8,7 +8,7 @@ use Rattle.gm_game.specs.Rules.{Rules}
 use Rattle.gm_table.specs.Tables.{TableData, AreHeld}
 use Rattle.gm_tiers.specs.Orders.{IsBefore, IsOrderFrom, ComeChildrenFirst}
 use Rattle.gm_tierdb.specs.StoreTexts.{Texts, AreSameBut}
-use Rattle.gm_entry.specs.TrueTexts.{HaveTexts, KeepsOthers}
+use Rattle.gm_build.specs.TrueTexts.{HaveTexts, KeepsOthers}
 use Rattle.gm_build.specs.Work.{HoldsExactly}
 use Rattle.gm_build.specs.Outcomes.{MayHaveText, StopsAt}
 use Rattle.gm_build.proofs.StoreLemmas.{texts_kept, others_more}
@@ -33,7 +33,8 @@ module _ (r : Rules) (first : ℕ) (tiers : List ℕ) (order : IsOrderFrom r fir
   children_held entries exact before child c = (exact child).1 (before k (get_or tiers k 0) child tier_there c)
 
   -- what the store has where the build stops there
-  pub stops_here : (start old new : Texts) → HaveTexts r old (take k tiers) → KeepsOthers (take k tiers) start old → AreSameBut (get_or tiers k 0) old new → MayHaveText r old new (get_or tiers k 0)
+  pub stops_here : (start old new : Texts) → HaveTexts r old (take k tiers) → KeepsOthers (take k tiers) start old → AreSameBut (get_or tiers k 0) old new
+      → MayHaveText r old new (get_or tiers k 0)
       → StopsAt r first start new (get_or tiers k 0)
   stops_here start old new have others same here =
       let t = get_or tiers k 0 in
@@ -44,5 +45,6 @@ module _ (r : Rules) (first : ℕ) (tiers : List ℕ) (order : IsOrderFrom r fir
         next = tier_there;
         texts = texts_kept r (take k tiers) t fresh_tier old new have same;
         here = elim here [ inl e ↦ inl (e ∙ others t fresh_tier) | inr h ↦ inr h ];
-        others = subst (λ (l : List ℕ). KeepsOthers l start new) (sym (take_more tiers k 0 inside)) (others_more r (take k tiers) t fresh_tier start old new others same);
+        others = subst (λ (l : List ℕ). KeepsOthers l start new) (sym (take_more tiers k 0 inside))
+            (others_more r (take k tiers) t fresh_tier start old new others same);
       }

@@ -1,18 +1,18 @@
 -- What becomes of the texts and tables of the tiers before, when one tier more is built.
-use Rattle.std.proofs.Common.{◌≡◌, ◌≢◌, ◌==◌, ℕ, ◌⊎◌, ◌↔◌, inl, inr, true, false, if◌then◌else◌, List, [], ◌∷◌, ◌++◌, Some, IsSome, refl, ap, sym, subst, ◌∙◌, eqb-true, eq-eqb}
+use Rattle.std.proofs.Common.{◌≡◌, ◌≢◌, ◌==◌, ℕ, ◌⊎◌, ◌↔◌, inl, inr, true, false, if◌then◌else◌, List, [], ◌∷◌, ◌++◌, Some, IsSome, refl, ap, sym, subst, ◌∙◌}
+use Rattle.std.proofs.Common.{eqb-true, eq-eqb}
 use Rattle.std.specs.List.{Contains}
 use Rattle.std.proofs.lemmas.List.Elements.{Contains-append_left, Contains-push, Contains-push_cases}
 use Rattle.gm_game.specs.Rules.{Rules}
-use Rattle.gm_table.specs.Tables.{TableData, IsTable, table_of, Inserts, IsHeld}
-use Rattle.gm_tierdb.specs.TierText.{IsTierText}
+use Rattle.gm_table.specs.Tables.{TableData, table_of, Inserts, IsHeld}
 use Rattle.gm_tierdb.specs.StoreTexts.{Texts, AreSameBut}
-use Rattle.gm_entry.specs.TrueTexts.{IsTrueText, IsOldText, HasText, HasOldText, HaveTexts, KeepsOthers}
-use Rattle.gm_entry.specs.declared.found.Found.{Found}
-use Rattle.gm_entry.specs.declared.found.Found.TheVariants.{Current, Old, Nothing}
-use Rattle.gm_entry.specs.Findings.{IsFound, IsFoundIn}
-use Rattle.gm_entry.specs.declared.inspect.Inspected.{Inspected}
-use Rattle.gm_entry.specs.declared.inspect.Inspected.TheVariants.{Right, Missing, NoFile, NoTable}
-use Rattle.gm_entry.specs.Inspections.{IsInspected, IsInspectedIn}
+use Rattle.gm_build.specs.TrueTexts.{IsTrueText, IsOldText, HasText, HasOldText, HaveTexts, KeepsOthers}
+use Rattle.gm_build.specs.declared.found.Found.{Found}
+use Rattle.gm_build.specs.declared.found.Found.TheVariants.{Current, Old, Nothing}
+use Rattle.gm_build.specs.Findings.{IsFound, IsFoundIn}
+use Rattle.gm_build.specs.declared.inspect.Inspected.{Inspected}
+use Rattle.gm_build.specs.declared.inspect.Inspected.TheVariants.{Right, Missing, NoFile, NoTable}
+use Rattle.gm_build.specs.Inspections.{IsInspected, IsInspectedIn}
 use Rattle.gm_build.specs.Work.{HoldsExactly, HoldsToo}
 
 -- an entry that stays the same stays the text of the true table
@@ -38,24 +38,20 @@ has_old_text r texts tier bytes e = (
   λ is. record { bytes = bytes; entry = e; is_true = is },
 )
 
-pub found_in : {G : Type 0} → (r : Rules) (texts : Texts) (tier : ℕ) (bytes : List ℕ) → texts tier ≡ Some bytes → (found : Found G) → IsFound r tier bytes found → IsFoundIn r texts tier found
+pub found_in : {G : Type 0} → (r : Rules) (texts : Texts) (tier : ℕ) (bytes : List ℕ) → texts tier ≡ Some bytes → (found : Found G)
+    → IsFound r tier bytes found → IsFoundIn r texts tier found
 found_in r texts tier bytes e (Current table) is = ((has_text r texts tier bytes e).1 is.0, λ h. is.1 ((has_old_text r texts tier bytes e).0 h))
 found_in r texts tier bytes e (Old table) is = ((has_old_text r texts tier bytes e).1 is.0, λ h. is.1 ((has_text r texts tier bytes e).0 h))
 found_in r texts tier bytes e Nothing is = (λ h. is.0 ((has_text r texts tier bytes e).0 h), λ h. is.1 ((has_old_text r texts tier bytes e).0 h))
 
 -- what the entry is found to be, by its bytes
-pub inspected_in : {G : Type 0} → (r : Rules) (entries : List TableData) (texts : Texts) (tier : ℕ) (bytes : List ℕ) → texts tier ≡ Some bytes → (found : Inspected G)
+pub inspected_in : {G : Type 0} → (r : Rules) (entries : List TableData) (texts : Texts) (tier : ℕ) (bytes : List ℕ) → texts tier ≡ Some bytes
+    → (found : Inspected G)
     → IsInspected r entries tier bytes found → IsInspectedIn r entries texts tier found
 inspected_in r entries texts tier bytes e (Right table) is = (bytes, e, is)
 inspected_in r entries texts tier bytes e Missing is = absurd is
 inspected_in r entries texts tier bytes e (NoFile why) is = (bytes, e, is)
 inspected_in r entries texts tier bytes e (NoTable why) is = (bytes, e, is)
-
--- the text of a table that is written is that of the true table of its tier
-pub text_written : (r : Rules) (new : Texts) (table : TableData) (tier : ℕ) (file bytes : List ℕ) → IsTable r table → table.tier ≡ tier → IsTierText r table.tier table.records file → bytes ≡ file → new tier ≡ Some bytes → HasText r new tier
-text_written r new table tier file bytes is e text same entry =
-    let written : IsTrueText r table.tier bytes = record { records = table.records; is_true = is.is_true; text = subst (IsTierText r table.tier table.records) (sym same) text } in
-    record { bytes = bytes; entry = entry; is_true = subst (λ (t : ℕ). IsTrueText r t bytes) e written }
 
 module _ (r : Rules) (front : List ℕ) (tier : ℕ) (fresh : Contains front tier → ⊥) where
   -- the tier's entry is still as at the start

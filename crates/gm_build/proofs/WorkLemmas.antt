@@ -1,5 +1,6 @@
 -- How the numbers of a build grow, tier by tier.
-use Rattle.std.proofs.Common.{◌≡◌, ℕ, ◌+◌, ◌*◌, ◌≤◌, ◌⊎◌, ◌↔◌, inl, inr, List, [], ◌∷◌, ◌++◌, length, take, map, Fits, refl, ap, sym, subst, ◌∙◌, arith, length-append, length-take}
+use Rattle.std.proofs.Common.{◌≡◌, ℕ, ◌+◌, ◌*◌, ◌≤◌, ◌⊎◌, ◌↔◌, inl, inr, List, [], ◌∷◌, ◌++◌, length, take, map, Fits, refl, ap, sym, subst, ◌∙◌, arith}
+use Rattle.std.proofs.Common.{length-append, length-take}
 use Rattle.std.specs.Int.{w64}
 use Rattle.std.specs.List.{Contains}
 use Rattle.std.proofs.lemmas.List.{length-map}
@@ -16,7 +17,8 @@ use Rattle.gm_table.specs.Solving.{IsDelivery, AreDeliveries}
 use Rattle.gm_build.specs.Work.{IsSolvedTier, IsSolvedDelivery, IsWorkOn, IsSomeWork}
 
 -- things of one of two kinds that have nothing in common
-there_sum : {A : Type 0} (n m : ℕ) (K L M : A → Type 0) → AreThere n K → AreThere m L → ((x : A) → K x → L x → ⊥) → ((x : A) → M x ↔ (K x ⊎ L x)) → AreThere (n + m) M
+there_sum : {A : Type 0} (n m : ℕ) (K L M : A → Type 0) → AreThere n K → AreThere m L → ((x : A) → K x → L x → ⊥) → ((x : A) → M x ↔ (K x ⊎ L x))
+    → AreThere (n + m) M
 there_sum n m K L M (xs, count, a) (ys, many, b) apart same = (
   xs ++ ys,
   omega (arith, length-append xs ys),
@@ -25,7 +27,8 @@ there_sum n m K L M (xs, count, a) (ys, many, b) apart same = (
       λ h. elim ((same x).0 h) [ inl k ↦ Contains-append_left xs ys x ((a.each x).0 k) | inr l ↦ Contains-append_right xs ys x ((b.each x).0 l) ],
       λ h. (same x).1 (elim (Contains-append_cases xs ys x h) [ inl k ↦ inl ((a.each x).1 k) | inr l ↦ inr ((b.each x).1 l) ]),
     );
-    once = no_repeats_to (xs ++ ys) (no_repeats_append xs ys (no_repeats_from xs a.once) (no_repeats_from ys b.once) (λ x i j. apart x ((a.each x).1 i) ((b.each x).1 j)));
+    once = no_repeats_to (xs ++ ys) (no_repeats_append xs ys (no_repeats_from xs a.once) (no_repeats_from ys b.once)
+        (λ x i j. apart x ((a.each x).1 i) ((b.each x).1 j)));
   },
 )
 
@@ -86,7 +89,8 @@ there_of_tier r tier n (xs, count, a) = (
         subst (λ (x : ℕ × (Position × ℕ)). IsDelivery r x.0 x.1) e ((a.each p).1 has),
       )),
     );
-    once = no_repeats_to (map (with_tier tier) xs) (no_repeats_map (with_tier tier) xs (λ x y i j e. ap (λ (z : ℕ × (Position × ℕ)). z.1) e) (no_repeats_from xs a.once));
+    once = no_repeats_to (map (with_tier tier) xs) (no_repeats_map (with_tier tier) xs (λ x y i j e. ap (λ (z : ℕ × (Position × ℕ)). z.1) e)
+        (no_repeats_from xs a.once));
   },
 )
 
@@ -132,7 +136,8 @@ module _ (front : List ℕ) (tier : ℕ) (fresh : Contains front tier → ⊥) (
       ))
 
   -- and their deliveries
-  delivered_more : (r : Rules) (n more : ℕ) → AreThere n (IsSolvedDelivery r front Was) → Is tier → AreDeliveries r tier more → AreThere (n + more) (IsSolvedDelivery r (front ++ tier ∷ []) Is)
+  delivered_more : (r : Rules) (n more : ℕ) → AreThere n (IsSolvedDelivery r front Was) → Is tier → AreDeliveries r tier more
+      → AreThere (n + more) (IsSolvedDelivery r (front ++ tier ∷ []) Is)
   delivered_more r n more those is are =
       there_sum n more (IsSolvedDelivery r front Was) (IsDeliveryOf r tier) (IsSolvedDelivery r (front ++ tier ∷ []) Is) those (there_of_tier r tier more are)
       (λ d k e. not_before d.0 k.there e.0) (λ d. (
@@ -168,19 +173,24 @@ module _ (r : Rules) (front : List ℕ) (tier : ℕ) (fresh : Contains front tie
 
   pub work_reused : IsReused tier → (IsMigrated tier → ⊥) → IsWorkOn r (front ++ tier ∷ []) IsReused IsMigrated solved (reused + 1) migrated deliveries by_hand
   work_reused is is_not = record {
-    those_solved = kind_same front tier fresh (IsSolvedTier WasReused WasMigrated) (IsSolvedTier IsReused IsMigrated) solved_as solved work.those_solved (λ n. n.0 is);
+    those_solved = kind_same front tier fresh (IsSolvedTier WasReused WasMigrated) (IsSolvedTier IsReused IsMigrated)
+        solved_as solved work.those_solved (λ n. n.0 is);
     those_reused = kind_more front tier fresh WasReused IsReused reused_as reused work.those_reused is;
     those_migrated = kind_same front tier fresh WasMigrated IsMigrated migrated_as migrated work.those_migrated is_not;
-    those_delivered = delivered_same front tier fresh (IsSolvedTier WasReused WasMigrated) (IsSolvedTier IsReused IsMigrated) solved_as r deliveries work.those_delivered (λ n. n.0 is);
+    those_delivered = delivered_same front tier fresh (IsSolvedTier WasReused WasMigrated) (IsSolvedTier IsReused IsMigrated)
+        solved_as r deliveries work.those_delivered (λ n. n.0 is);
     few_by_hand = work.few_by_hand;
   }
 
-  pub work_migrated : IsMigrated tier → (IsReused tier → ⊥) → IsWorkOn r (front ++ tier ∷ []) IsReused IsMigrated solved reused (migrated + 1) deliveries by_hand
+  pub work_migrated : IsMigrated tier → (IsReused tier → ⊥)
+      → IsWorkOn r (front ++ tier ∷ []) IsReused IsMigrated solved reused (migrated + 1) deliveries by_hand
   work_migrated is is_not = record {
-    those_solved = kind_same front tier fresh (IsSolvedTier WasReused WasMigrated) (IsSolvedTier IsReused IsMigrated) solved_as solved work.those_solved (λ n. n.1 is);
+    those_solved = kind_same front tier fresh (IsSolvedTier WasReused WasMigrated) (IsSolvedTier IsReused IsMigrated)
+        solved_as solved work.those_solved (λ n. n.1 is);
     those_reused = kind_same front tier fresh WasReused IsReused reused_as reused work.those_reused is_not;
     those_migrated = kind_more front tier fresh WasMigrated IsMigrated migrated_as migrated work.those_migrated is;
-    those_delivered = delivered_same front tier fresh (IsSolvedTier WasReused WasMigrated) (IsSolvedTier IsReused IsMigrated) solved_as r deliveries work.those_delivered (λ n. n.1 is);
+    those_delivered = delivered_same front tier fresh (IsSolvedTier WasReused WasMigrated) (IsSolvedTier IsReused IsMigrated)
+        solved_as r deliveries work.those_delivered (λ n. n.1 is);
     few_by_hand = work.few_by_hand;
   }
 
@@ -190,7 +200,8 @@ module _ (r : Rules) (front : List ℕ) (tier : ℕ) (fresh : Contains front tie
     those_solved = kind_more front tier fresh (IsSolvedTier WasReused WasMigrated) (IsSolvedTier IsReused IsMigrated) solved_as solved work.those_solved is;
     those_reused = kind_same front tier fresh WasReused IsReused reused_as reused work.those_reused is.0;
     those_migrated = kind_same front tier fresh WasMigrated IsMigrated migrated_as migrated work.those_migrated is.1;
-    those_delivered = delivered_more front tier fresh (IsSolvedTier WasReused WasMigrated) (IsSolvedTier IsReused IsMigrated) solved_as r deliveries more work.those_delivered is are;
+    those_delivered = delivered_more front tier fresh (IsSolvedTier WasReused WasMigrated) (IsSolvedTier IsReused IsMigrated)
+        solved_as r deliveries more work.those_delivered is are;
     few_by_hand = (let a = work.few_by_hand in omega arith);
   }
 
@@ -205,7 +216,8 @@ some_none r = record {
   work = work_none r (Contains []) (Contains []);
 }
 
-module _ (r : Rules) (front : List ℕ) (tier : ℕ) (fresh : Contains front tier → ⊥) (solved reused migrated deliveries by_hand : ℕ) (w : IsSomeWork r front solved reused migrated deliveries by_hand) where
+module _ (r : Rules) (front : List ℕ) (tier : ℕ) (fresh : Contains front tier → ⊥) (solved reused migrated deliveries by_hand : ℕ)
+    (w : IsSomeWork r front solved reused migrated deliveries by_hand) where
   -- some of the tiers before, and this one
   among_more : (some : List ℕ) → ((t : ℕ) → Contains some t → Contains front t) → (t : ℕ) → Contains (some ++ tier ∷ []) t → Contains (front ++ tier ∷ []) t
   among_more some among t i = elim (Contains-push_cases some tier t i) [
@@ -225,9 +237,12 @@ module _ (r : Rules) (front : List ℕ) (tier : ℕ) (fresh : Contains front tie
     migrated_tiers = w.migrated_tiers;
     among = among_more w.reused_tiers w.among;
     among_too = λ t i. Contains-append_left front (tier ∷ []) t (w.among_too t i);
-    apart = λ t i j. elim (Contains-push_cases w.reused_tiers tier t i) [ inl h ↦ w.apart t h j | inr e ↦ fresh (subst (Contains front) (sym e) (w.among_too t j)) ];
-    work = work_reused r front tier fresh (Contains w.reused_tiers) (Contains (w.reused_tiers ++ tier ∷ [])) (Contains w.migrated_tiers) (Contains w.migrated_tiers)
-        (among_as w.reused_tiers) (λ t i. (λ h. h, λ h. h)) solved reused migrated deliveries by_hand w.work (Contains-push w.reused_tiers tier) (λ h. fresh (w.among_too tier h));
+    apart = λ t i j. elim (Contains-push_cases w.reused_tiers tier t i)
+        [ inl h ↦ w.apart t h j | inr e ↦ fresh (subst (Contains front) (sym e) (w.among_too t j)) ];
+    work = work_reused r front tier fresh (Contains w.reused_tiers) (Contains (w.reused_tiers ++ tier ∷ [])) (Contains w.migrated_tiers)
+        (Contains w.migrated_tiers)
+        (among_as w.reused_tiers) (λ t i. (λ h. h, λ h. h)) solved reused migrated deliveries by_hand w.work (Contains-push w.reused_tiers tier)
+        (λ h. fresh (w.among_too tier h));
   }
 
   pub some_migrated : IsSomeWork r (front ++ tier ∷ []) solved reused (migrated + 1) deliveries by_hand
@@ -236,12 +251,16 @@ module _ (r : Rules) (front : List ℕ) (tier : ℕ) (fresh : Contains front tie
     migrated_tiers = w.migrated_tiers ++ tier ∷ [];
     among = λ t i. Contains-append_left front (tier ∷ []) t (w.among t i);
     among_too = among_more w.migrated_tiers w.among_too;
-    apart = λ t i j. elim (Contains-push_cases w.migrated_tiers tier t j) [ inl h ↦ w.apart t i h | inr e ↦ fresh (subst (Contains front) (sym e) (w.among t i)) ];
-    work = work_migrated r front tier fresh (Contains w.reused_tiers) (Contains w.reused_tiers) (Contains w.migrated_tiers) (Contains (w.migrated_tiers ++ tier ∷ []))
-        (λ t i. (λ h. h, λ h. h)) (among_as w.migrated_tiers) solved reused migrated deliveries by_hand w.work (Contains-push w.migrated_tiers tier) (λ h. fresh (w.among tier h));
+    apart = λ t i j. elim (Contains-push_cases w.migrated_tiers tier t j)
+        [ inl h ↦ w.apart t i h | inr e ↦ fresh (subst (Contains front) (sym e) (w.among t i)) ];
+    work = work_migrated r front tier fresh (Contains w.reused_tiers) (Contains w.reused_tiers) (Contains w.migrated_tiers)
+        (Contains (w.migrated_tiers ++ tier ∷ []))
+        (λ t i. (λ h. h, λ h. h)) (among_as w.migrated_tiers) solved reused migrated deliveries by_hand w.work (Contains-push w.migrated_tiers tier)
+        (λ h. fresh (w.among tier h));
   }
 
-  pub some_solved : (more hand : ℕ) → AreDeliveries r tier more → hand ≤ more → IsSomeWork r (front ++ tier ∷ []) (solved + 1) reused migrated (deliveries + more) (by_hand + hand)
+  pub some_solved : (more hand : ℕ) → AreDeliveries r tier more → hand ≤ more
+      → IsSomeWork r (front ++ tier ∷ []) (solved + 1) reused migrated (deliveries + more) (by_hand + hand)
   some_solved more hand are few = record {
     reused_tiers = w.reused_tiers;
     migrated_tiers = w.migrated_tiers;
@@ -249,7 +268,8 @@ module _ (r : Rules) (front : List ℕ) (tier : ℕ) (fresh : Contains front tie
     among_too = λ t i. Contains-append_left front (tier ∷ []) t (w.among_too t i);
     apart = w.apart;
     work = work_solved r front tier fresh (Contains w.reused_tiers) (Contains w.reused_tiers) (Contains w.migrated_tiers) (Contains w.migrated_tiers)
-        (λ t i. (λ h. h, λ h. h)) (λ t i. (λ h. h, λ h. h)) solved reused migrated deliveries by_hand w.work (λ h. fresh (w.among tier h), λ h. fresh (w.among_too tier h)) more hand are few;
+        (λ t i. (λ h. h, λ h. h)) (λ t i. (λ h. h, λ h. h)) solved reused migrated deliveries by_hand w.work
+        (λ h. fresh (w.among tier h), λ h. fresh (w.among_too tier h)) more hand are few;
   }
 
 -- one more than a number of tiers that are done

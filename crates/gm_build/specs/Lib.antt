@@ -1,3 +1,6 @@
+pub mod TrueTexts
+pub mod Findings
+pub mod Inspections
 pub mod Work
 pub mod Outcomes
 pub mod Steps

@@ -11,7 +11,7 @@ use Rattle.gm_tierdb.specs.StoreTexts.{Texts, AreSame}
 use Rattle.gm_table.specs.Solving.{IsTooFar}
 use Rattle.gm_build.specs.declared.build_error.BuildError.{BuildError}
 use Rattle.gm_build.specs.declared.build_error.BuildError.TheVariants.{OutOfMemory, TooFar, StoreFailed, TooManyTiers, TierTooLarge}
-use Rattle.gm_entry.specs.TrueTexts.{HasText, HaveTexts, KeepsOthers}
+use Rattle.gm_build.specs.TrueTexts.{HasText, HaveTexts, KeepsOthers}
 
 -- the build's error for an error of the tier order
 abbrev pub of_tier_error : TierError → BuildError

@@ -2,12 +2,12 @@
 ghost use Rattle.std.specs.Prelude.{◌≡◌, ◌+◌, ◌<◌, IsTrue, IfOk, IfErr};
 ghost use Rattle.gm_table.specs.Tables.{AreTables};
 ghost use Rattle.gm_tiers.specs.Orders.{IsTierOrder, IsOrderFrom};
-ghost use Rattle.gm_entry.specs.TrueTexts.{HasText, HasOldText, HaveTexts, KeepsOthers};
+ghost use Rattle.gm_build.specs.TrueTexts.{HasText, HasOldText, HaveTexts, KeepsOthers};
 ghost use Rattle.gm_build.specs.Work.{IsWorkOn, IsSomeWork, HoldsExactly};
 ghost use Rattle.gm_build.specs.Outcomes.{failures_in, IsBuildError, IsStopped};
 
 use crate::build_error::BuildError;
-use crate::tier::{Step, build_tier};
+use crate::tier::{TierOutcome, build_tier};
 use crate::watch::{NoWatch, Watch};
 use gm_game::game::{Game, laws};
 use gm_solver::gate::Gate;
@@ -39,7 +39,7 @@ pub struct Built<G: Game> {
     pub by_hand: u64,
 }
 
-// Let go by one call, so that a proof follows one value and not each field.
+// Dropped in one call, so that the prover tracks one value instead of every field.
 impl<G: Game> Drop for Built<G> {
     fn drop(self) {
         let Built {
@@ -82,7 +82,9 @@ pub fn build<G: Game + Send + Sync, R: Threads + Wait + Files + Sync, S: Store, 
     // it had before.
     ensures texts { IsTrue S.KEEPS → IfOk result (λ built. HaveTexts G.rules (S.texts store.new) built.order) }
     ensures others { IsTrue S.KEEPS → IfOk result (λ built. KeepsOthers built.order (S.texts store.old) (S.texts store.new)) }
-    ensures work { IsTrue S.KEEPS → IfOk result (λ built. IsWorkOn G.rules built.order (HasText G.rules (S.texts store.old)) (HasOldText G.rules (S.texts store.old)) built.solved built.reused built.migrated built.deliveries built.by_hand) }
+    ensures work { IsTrue S.KEEPS → IfOk result (λ built. IsWorkOn G.rules built.order
+        (HasText G.rules (S.texts store.old)) (HasOldText G.rules (S.texts store.old))
+        built.solved built.reused built.migrated built.deliveries built.by_hand) }
 
     // Why the game is not built, and what the store has then.
     ensures error { IfErr result (IsBuildError G.rules G.rules.initial.tier) }
@@ -124,7 +126,9 @@ pub fn build_from<
     // it had before.
     ensures texts { IsTrue S.KEEPS → IfOk result (λ built. HaveTexts G.rules (S.texts store.new) built.order) }
     ensures others { IsTrue S.KEEPS → IfOk result (λ built. KeepsOthers built.order (S.texts store.old) (S.texts store.new)) }
-    ensures work { IsTrue S.KEEPS → IfOk result (λ built. IsWorkOn G.rules built.order (HasText G.rules (S.texts store.old)) (HasOldText G.rules (S.texts store.old)) built.solved built.reused built.migrated built.deliveries built.by_hand) }
+    ensures work { IsTrue S.KEEPS → IfOk result (λ built. IsWorkOn G.rules built.order
+        (HasText G.rules (S.texts store.old)) (HasOldText G.rules (S.texts store.old))
+        built.solved built.reused built.migrated built.deliveries built.by_hand) }
 
     // Why the game is not built, and what the store has then.
     ensures error { IfErr result (IsBuildError G.rules first) }
@@ -153,16 +157,16 @@ pub fn build_from<
             source,
             watch,
         )? {
-            Step::Reused => reused += 1,
-            Step::Migrated => migrated += 1,
-            Step::Solved(report) => {
+            TierOutcome::Reused => reused += 1,
+            TierOutcome::Migrated => migrated += 1,
+            TierOutcome::Solved(report) => {
                 solved += 1;
                 deliveries += report.deliveries;
                 by_hand += report.by_hand;
             }
         }
     }
-    // What is held is true.
+    // For the proof: the tables that are held are true.
     let _held = tables.has(first);
     Ok(Built {
         tables,

@@ -1,23 +1,40 @@
 //! The true table of a tier, by its entry in a store.
-ghost use Rattle.std.specs.Prelude.{◌≡◌, ◌+◌, ◌<◌, ◌≤◌, IsTrue, IfOk, IfErr};
+ghost use Rattle.std.specs.Prelude.{◌≡◌, ◌+◌, ◌<◌, ◌≤◌, IsTrue, IfOk, IfErr, MatchOption};
+ghost use Rattle.gm_game.specs.Records.{IsTrueTable};
 ghost use Rattle.gm_table.specs.Tables.{AreHeld};
 ghost use Rattle.gm_tierdb.specs.StoreTexts.{AreSame};
-ghost use Rattle.gm_entry.specs.Findings.{IsOfTier, IsFoundIn};
+ghost use Rattle.gm_build.specs.TrueTexts.{IsOldText};
+ghost use Rattle.gm_build.specs.Findings.{IsOfTier, IsFound, IsFoundIn};
 ghost use Rattle.gm_build.specs.Outcomes.{failures_in, IsTierError};
 
 use crate::build_error::BuildError;
-use crate::inspect::read_entry;
-use gm_entry::found::{Found, text_kind};
+use crate::inspect::{Inspected, inspect_text, read_entry};
 use gm_game::game::Game;
-use gm_game::limits::TIER_SIZE;
+use gm_game::limits::{REMOTENESS, TIER_SIZE};
+use gm_game::position::Solved;
+use gm_table::checker::{CheckError, check_by};
+use gm_table::table::Table;
 use gm_table::tables::Tables;
+use gm_tierdb::decode::decode_v1;
+use gm_tierdb::file_error::FileError;
 use gm_tierdb::store::Store;
-use std::alloc::Global;
+use std::alloc::{AllocError, Global};
 use std::fs::Files;
 use std::thread::Threads;
 
+/// What a tier's entry is.
+#[derive(Drop)]
+pub enum Found<G: Game> {
+    /// The text of its true table.
+    Current(Table<G>),
+    /// The text of its true table in version 1.
+    Old(Table<G>),
+    /// No usable file.
+    Nothing,
+}
+
 /// Reads the entry of a tier once, and answers what it is. The child tiers are held.
-pub(crate) fn find<G: Game + Send + Sync, R: Threads + Files + Sync, S: Store>(
+pub(crate) fn load_tier<G: Game + Send + Sync, R: Threads + Files + Sync, S: Store>(
     rt: &R,
     alloc: Global,
     tier: u64,
@@ -37,8 +54,75 @@ pub(crate) fn find<G: Game + Send + Sync, R: Threads + Files + Sync, S: Store>(
         Some(text) => text,
         None => return Ok(Found::Nothing),
     };
-    match text_kind(rt, alloc, tier, text.as_slice(), tables) {
+    match read_entry_table(rt, alloc, tier, text.as_slice(), tables) {
         Ok(found) => Ok(found),
         Err(_refused) => Err(BuildError::OutOfMemory),
+    }
+}
+
+/// Whether the bytes of an entry are the text of the tier's true table, in either version, and that table. Takes time and memory in proportion to the tier's
+/// size.
+pub fn read_entry_table<G: Game + Send + Sync, R: Threads + Sync>(
+    rt: &R,
+    alloc: Global,
+    tier: u64,
+    bytes: &[u8],
+    tables: &Tables<G>,
+) -> Result<Found<G>, AllocError>
+    requires held { AreHeld G.rules tables.now tier }
+    requires small { G.rules.tier_size tier ≤ TIER_SIZE }
+    ensures tier { IfOk result (IsOfTier tier) }
+    ensures exact { IfOk result (IsFound G.rules tier bytes.now) }
+{
+    match inspect_text(rt, alloc, tier, bytes, tables)? {
+        Inspected::Right(table) => Ok(Found::Current(table)),
+        Inspected::NoFile(FileError::OldVersion) => match old_table(
+            rt, alloc, tier, bytes, tables,
+        )? {
+            Some(table) => Ok(Found::Old(table)),
+            None => Ok(Found::Nothing),
+        },
+        _ => Ok(Found::Nothing),
+    }
+}
+
+// The true table of a tier, where these bytes are its text in version 1.
+fn old_table<G: Game + Send + Sync, R: Threads + Sync>(
+    rt: &R,
+    alloc: Global,
+    tier: u64,
+    bytes: &[u8],
+    tables: &Tables<G>,
+) -> Result<Option<Table<G>>, AllocError>
+    requires held { AreHeld G.rules tables.now tier }
+    requires small { G.rules.tier_size tier ≤ TIER_SIZE }
+    ensures tier { IfOk result (λ o. MatchOption o (Unit {0}) (λ table. table.tier ≡ tier)) }
+    ensures exact { IfOk result (λ o. MatchOption o (IsOldText G.rules tier bytes.now → ⊥) (λ _. IsOldText G.rules tier bytes.now)) }
+{
+    match decode_v1::<G>(alloc, tier, bytes) {
+        Ok(records) => true_table(rt, alloc, tier, records.as_slice(), tables),
+        Err(FileError::OutOfMemory) => Err(AllocError),
+        Err(_) => Ok(None),
+    }
+}
+
+// The table of these records, where they are the true ones of a tier.
+fn true_table<G: Game + Send + Sync, R: Threads + Sync>(
+    rt: &R,
+    alloc: Global,
+    tier: u64,
+    records: &[Option<Solved>],
+    tables: &Tables<G>,
+) -> Result<Option<Table<G>>, AllocError>
+    requires held { AreHeld G.rules tables.now tier }
+    requires small { G.rules.tier_size tier ≤ TIER_SIZE }
+    ensures tier { IfOk result (λ o. MatchOption o (Unit {0}) (λ table. table.tier ≡ tier)) }
+    ensures exact { IfOk result (λ o. MatchOption o (IsTrueTable G.rules REMOTENESS tier records.now → ⊥)
+        (λ _. IsTrueTable G.rules REMOTENESS tier records.now)) }
+{
+    match check_by(rt, alloc, tier, records, tables) {
+        Ok(table) => Ok(Some(table)),
+        Err(CheckError::OutOfMemory) => Err(AllocError),
+        Err(_) => Ok(None),
     }
 }

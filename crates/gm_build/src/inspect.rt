@@ -1,20 +1,40 @@
 //! What a tier's entry in a store is found to be.
-ghost use Rattle.std.specs.Prelude.{◌≡◌, ◌+◌, ◌<◌, ◌≤◌, IsTrue, IfOk, IfErr, option_map};
+ghost use Rattle.std.specs.Prelude.{◌≡◌, ◌+◌, ◌<◌, ◌≤◌, ◌↔◌, IsTrue, IfOk, IfErr, option_map};
 ghost use Rattle.gm_table.specs.Tables.{AreHeld};
+ghost use Rattle.gm_tierdb.specs.Seals.{IsSealed};
 ghost use Rattle.gm_tierdb.specs.StoreTexts.{Texts, AreSame};
-ghost use Rattle.gm_entry.specs.Inspections.{IsInspectedIn};
+ghost use Rattle.gm_build.specs.Inspections.{IsInspected, IsInspectedIn, IsRead};
 ghost use Rattle.gm_build.specs.Outcomes.{failures_in, IsTierError, IsReadError};
 
 use crate::build_error::BuildError;
-use gm_entry::inspect::{Inspected, inspect_text};
 use gm_game::game::Game;
 use gm_game::limits::TIER_SIZE;
+use gm_table::checker::{CheckError, check_packed_by};
+use gm_table::table::Table;
 use gm_table::tables::Tables;
+use gm_tierdb::decode::{decode_unsealed, is_sealed};
+use gm_tierdb::file_error::FileError;
 use gm_tierdb::store::Store;
 use gm_tierdb::store_error::StoreError;
-use std::alloc::Global;
+use std::alloc::{AllocError, Global};
 use std::fs::Files;
-use std::thread::Threads;
+use std::thread::{Threads, join};
+
+// So few bytes are read by the thread that takes their digest: to start another takes longer.
+const FEW: usize = 65_536;
+
+/// What a tier's entry is found to be.
+#[derive(Drop)]
+pub enum Inspected<G: Game> {
+    /// The text of the tier's true table, which is this one.
+    Right(Table<G>),
+    /// There is none.
+    Missing,
+    /// The bytes are no text of a tier file of the present version.
+    NoFile(FileError),
+    /// They are the text of records that are not the tier's.
+    NoTable(CheckError),
+}
 
 /// Reads the entry of a tier once, and answers what it is; nothing is written. The tables of the child tiers are given. Unless memory runs out, the entry
 /// determines the answer.
@@ -65,4 +85,77 @@ pub(crate) fn read_entry<R: Files, S: Store>(
         Err(StoreError::OutOfMemory) => Err(BuildError::OutOfMemory),
         Err(StoreError::Failed) => Err(BuildError::StoreFailed { tier }),
     }
+}
+
+/// What the bytes of an entry are: they are decoded first, and then the records are checked in turn, by the tables of the child tiers, while another thread
+/// takes the digest of a long one. `NoFile` and `NoTable` have the first reason that applies; `Missing` is never the answer. Takes time and memory in
+/// proportion to the tier's size.
+pub fn inspect_text<G: Game + Send + Sync, R: Threads + Sync>(
+    rt: &R,
+    alloc: Global,
+    tier: u64,
+    bytes: &[u8],
+    tables: &Tables<G>,
+) -> Result<Inspected<G>, AllocError>
+    requires held { AreHeld G.rules tables.now tier }
+    requires small { G.rules.tier_size tier ≤ TIER_SIZE }
+    ensures exact { IfOk result (IsInspected G.rules tables.now tier bytes.now) }
+{
+    let (sealed, read) = read_both(rt, alloc, tier, bytes, tables);
+    let checked = match read {
+        Ok(checked) => checked,
+        Err(FileError::OutOfMemory) => return Err(AllocError),
+        Err(why) => return Ok(Inspected::NoFile(why)),
+    };
+    if !sealed {
+        return Ok(Inspected::NoFile(FileError::BadDigest));
+    }
+    match checked {
+        Ok(table) => Ok(Inspected::Right(table)),
+        Err(why) => Ok(Inspected::NoTable(why)),
+    }
+}
+
+// Whether an entry ends with its digest, and what its records are: of a long one by a thread each.
+fn read_both<G: Game + Send + Sync, R: Threads + Sync>(
+    rt: &R,
+    alloc: Global,
+    tier: u64,
+    bytes: &[u8],
+    tables: &Tables<G>,
+) -> (bool, Result<Result<Table<G>, CheckError>, FileError>)
+    requires held { AreHeld G.rules tables.now tier }
+    requires small { G.rules.tier_size tier ≤ TIER_SIZE }
+    ensures sealed { IsTrue result.0 ↔ IsSealed bytes.now }
+    ensures read { IsRead G.rules tables.now tier bytes.now result.1 }
+{
+    if bytes.len() <= FEW {
+        return (is_sealed(bytes), read_table(rt, alloc, tier, bytes, tables));
+    }
+    join(
+        rt,
+        || -> bool
+            ensures { IsTrue result ↔ IsSealed bytes.entry.now }
+        { is_sealed(bytes) },
+        || -> Result<Result<Table<G>, CheckError>, FileError>
+            requires { AreHeld G.rules tables.now tier × (G.rules.tier_size tier ≤ TIER_SIZE) }
+            ensures { IsRead G.rules tables.entry.now tier bytes.entry.now result }
+        { read_table(rt, alloc, tier, bytes, tables) },
+    )
+}
+
+// The table of the records of an entry, or why they are not the tier's, whatever its digest.
+fn read_table<G: Game + Send + Sync, R: Threads + Sync>(
+    rt: &R,
+    alloc: Global,
+    tier: u64,
+    bytes: &[u8],
+    tables: &Tables<G>,
+) -> Result<Result<Table<G>, CheckError>, FileError>
+    requires held { AreHeld G.rules tables.now tier }
+    requires small { G.rules.tier_size tier ≤ TIER_SIZE }
+    ensures { IsRead G.rules tables.now tier bytes.now result }
+{
+    let records = decode_unsealed::<G, R>(rt, alloc, tier, bytes)?;
+    Ok(check_packed_by(rt, tier, records, tables))
 }

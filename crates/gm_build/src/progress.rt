@@ -1,4 +1,4 @@
-//! What is written on the progress of a build while it runs.
+//! Progress lines of a running build.
 ghost use Rattle.std.specs.Prelude.{◌≡◌, ◌+◌, ◌*◌, ◌≤◌, ◌↔◌, true, false, None, IfSome};
 ghost use Rattle.std.specs.Duration.{as_nanos};
 
@@ -53,7 +53,7 @@ impl fmt::Display for Stage {
 
 // What one line says: where a build is. `number` is the place of the tier, from 1, in the order of all `tiers`.
 #[derive(Clone, Copy, Debug, Drop)]
-struct Step {
+struct ProgressLine {
     tier: u64,
     number: u64,
     tiers: usize,
@@ -61,9 +61,9 @@ struct Step {
     delivered: u64,
 }
 
-impl fmt::Display for Step {
+impl fmt::Display for ProgressLine {
     fn fmt<W: fmt::Write>(&self, f: &mut fmt::Formatter<W>) -> fmt::Result {
-        let Step {
+        let ProgressLine {
             tier,
             number,
             tiers,
@@ -167,7 +167,7 @@ impl<'a, C: Clock, E: Write> Progress<'a, C, E> {
             return;
         };
         if is_due(lines.last, now) {
-            let step = Step {
+            let step = ProgressLine {
                 tier: self.tier.load(Ordering::SeqCst),
                 number: self.number.load(Ordering::SeqCst),
                 tiers: self.tiers.load(Ordering::SeqCst),

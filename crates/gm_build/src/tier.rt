@@ -3,15 +3,14 @@ ghost use Rattle.std.specs.Prelude.{◌≡◌, ◌+◌, ◌<◌, ◌≤◌, IsTr
 ghost use Rattle.gm_table.specs.Tables.{AreHeld};
 ghost use Rattle.gm_tierdb.specs.StoreTexts.{AreSameBut};
 ghost use Rattle.gm_table.specs.Solving.{AreDeliveries};
-ghost use Rattle.gm_entry.specs.TrueTexts.{HasText};
+ghost use Rattle.gm_build.specs.TrueTexts.{HasText};
 ghost use Rattle.gm_build.specs.Work.{HoldsToo};
 ghost use Rattle.gm_build.specs.Steps.{IsStep, IsStepWork};
 ghost use Rattle.gm_build.specs.Outcomes.{failures_in, IsTierError, MayHaveText};
 
 use crate::build_error::BuildError;
-use crate::found::find;
+use crate::found::{Found, load_tier};
 use crate::watch::Watch;
-use gm_entry::found::Found;
 use gm_game::game::Game;
 use gm_game::limits::TIER_SIZE;
 use gm_settle::settle::settle_tier;
@@ -32,7 +31,7 @@ use std::fs::Files;
 use std::sync::Wait;
 use std::thread::Threads;
 
-/// A tier of at most this many indexes is solved by the calling thread alone: to start threads would take longer.
+/// A tier of at most this many indexes is solved by the calling thread alone: starting threads would cost more than it saves.
 const FEW: u64 = 16_384;
 
 /// A tier of more indexes than this is solved by workers: below it, one walker is as fast as four workers.
@@ -40,7 +39,7 @@ const LARGE: u64 = 4_194_304;
 
 /// What was done with a tier.
 #[derive(Clone, Copy, Debug, PartialEq, Eq)]
-pub(crate) enum Step {
+pub(crate) enum TierOutcome {
     /// Its text was reused as it is.
     Reused,
     /// Its text was of version 1, and was written again in version 2.
@@ -68,7 +67,7 @@ pub(crate) fn build_tier<
     gate: &T,
     source: &P,
     watch: &H,
-) -> Result<Step, BuildError>
+) -> Result<TierOutcome, BuildError>
     requires held { AreHeld G.rules tables.old tier }
     requires small { G.rules.tier_size tier ≤ TIER_SIZE }
     requires few { S.failed store.old < u64.MAX }
@@ -82,19 +81,19 @@ pub(crate) fn build_tier<
     ensures count { S.failed store.new ≡ S.failed store.old + failures_in result }
 {
     watch.read(rt, tier);
-    match find(rt, alloc, tier, tables, store)? {
+    match load_tier(rt, alloc, tier, tables, store)? {
         Found::Current(table) => {
             hold(table, tables)?;
-            Ok(Step::Reused)
+            Ok(TierOutcome::Reused)
         }
         Found::Old(table) => {
             keep(rt, alloc, table, tables, store)?;
-            Ok(Step::Migrated)
+            Ok(TierOutcome::Migrated)
         }
         Found::Nothing => {
             let (table, report) = solve(rt, alloc, tier, tables, plan, gate, source, watch)?;
             keep(rt, alloc, table, tables, store)?;
-            Ok(Step::Solved(report))
+            Ok(TierOutcome::Solved(report))
         }
     }
 }

@@ -18,7 +18,7 @@ pub trait Watch: Drop + Meter {
     fn solve<R: Wait>(&self, rt: &R, tier: u64);
 }
 
-/// Nothing is called.
+/// A watch that does nothing.
 #[derive(Clone, Copy, Debug, Drop)]
 pub struct NoWatch;
 

@@ -4,7 +4,9 @@ use crate::commands::gamesman;
 use crate::explore_commands::explore_of;
 use crate::manual::{Manual, manual_of};
 use crate::numbers::are_plain;
-use crate::requests::{Asked, Filter, GameAsked, Kept, PlayAsked, Reading, SolveAsked, Telling};
+use crate::requests::{
+    Filter, GameRequest, PlayRequest, Reading, Request, SolveRequest, TableLocation, Telling,
+};
 use crate::search_commands::{asked_of_each, search_of, sought_of};
 use clap::error::ErrorKind;
 use clap::{ArgMatches, Error};
@@ -27,14 +29,14 @@ impl fmt::Display for Help {
 
 /// Why a line of words can't be read.
 #[derive(Clone, Copy, Debug, PartialEq, Eq)]
-pub enum Unread {
+pub enum ReadError {
     BadLine,
     OutOfMemory,
 }
 
 // Where a line keeps its tables.
-fn kept_of<'a>(inner: &ArgMatches<'a>) -> Kept<'a> {
-    Kept {
+fn kept_of<'a>(inner: &ArgMatches<'a>) -> TableLocation<'a> {
+    TableLocation {
         folder: inner.get_str("folder"),
         read_only: inner.get_flag("read-only"),
     }
@@ -48,69 +50,69 @@ fn plan_of(matches: &ArgMatches<'_>) -> Option<Plan> {
     Plan::fastest(workers as usize, shards as usize, piece as usize)
 }
 
-fn solve_of<'a>(inner: &ArgMatches<'a>) -> Option<GameAsked<'a>> {
-    Some(GameAsked::Solve(SolveAsked {
+fn solve_of<'a>(inner: &ArgMatches<'a>) -> Option<GameRequest<'a>> {
+    Some(GameRequest::Solve(SolveRequest {
         folder: inner.get_str("FOLDER")?,
         plan: plan_of(inner)?,
     }))
 }
 
 // For `-` the positions are read from standard input.
-fn query_of<'a>(inner: &ArgMatches<'a>) -> Option<GameAsked<'a>> {
+fn query_of<'a>(inner: &ArgMatches<'a>) -> Option<GameRequest<'a>> {
     let kept = kept_of(inner);
     match inner.get_str("POSITION")? {
-        "-" => Some(GameAsked::Filter {
+        "-" => Some(GameRequest::Filter {
             asked: Filter::Value,
             kept,
         }),
-        position => Some(GameAsked::Query { position, kept }),
+        position => Some(GameRequest::Query { position, kept }),
     }
 }
 
 // A tier and an index are numbers without a sign and without zeros before them.
-fn at_of<'a>(inner: &ArgMatches<'a>) -> Option<GameAsked<'a>> {
-    Some(GameAsked::At {
+fn at_of<'a>(inner: &ArgMatches<'a>) -> Option<GameRequest<'a>> {
+    Some(GameRequest::At {
         tier: read_decimal(inner.get_str("TIER")?.as_bytes())?,
         index: read_decimal(inner.get_str("INDEX")?.as_bytes())?,
         kept: kept_of(inner),
     })
 }
 
-fn locate_of<'a>(inner: &ArgMatches<'a>) -> Option<GameAsked<'a>> {
-    Some(GameAsked::Locate {
+fn locate_of<'a>(inner: &ArgMatches<'a>) -> Option<GameRequest<'a>> {
+    Some(GameRequest::Locate {
         position: inner.get_str("POSITION")?,
     })
 }
 
-fn check_of<'a>(inner: &ArgMatches<'a>) -> Option<GameAsked<'a>> {
-    Some(GameAsked::Check {
+fn check_of<'a>(inner: &ArgMatches<'a>) -> Option<GameRequest<'a>> {
+    Some(GameRequest::Check {
         folder: inner.get_str("FOLDER")?,
     })
 }
 
-fn play_of<'a>(inner: &ArgMatches<'a>) -> GameAsked<'a> {
+fn play_of<'a>(inner: &ArgMatches<'a>) -> GameRequest<'a> {
     let first = if inner.get_flag("second") {
         Side::Computer
     } else {
         Side::You
     };
-    let asked = PlayAsked {
+    let asked = PlayRequest {
         position: inner.get_str("from"),
         first,
         drawn: inner.get_flag("show"),
     };
-    GameAsked::Play {
+    GameRequest::Play {
         asked,
         kept: kept_of(inner),
     }
 }
 
 // A question about the moves of a position, or of each position that is read.
-fn moves_of<'a>(name: &str, inner: &ArgMatches<'a>) -> Option<GameAsked<'a>> {
+fn moves_of<'a>(name: &str, inner: &ArgMatches<'a>) -> Option<GameRequest<'a>> {
     if inner.get_str("POSITION") != Some("-") {
         return question_of(name, inner);
     }
-    Some(GameAsked::Filter {
+    Some(GameRequest::Filter {
         asked: Filter::Moves {
             distinct: inner.get_flag("distinct"),
             json: inner.get_flag("json"),
@@ -120,11 +122,11 @@ fn moves_of<'a>(name: &str, inner: &ArgMatches<'a>) -> Option<GameAsked<'a>> {
 }
 
 // A question about a position, or a search over all tables.
-fn question_of<'a>(name: &str, inner: &ArgMatches<'a>) -> Option<GameAsked<'a>> {
+fn question_of<'a>(name: &str, inner: &ArgMatches<'a>) -> Option<GameRequest<'a>> {
     let kept = kept_of(inner);
     match search_of(name, inner) {
-        Some(asked) => Some(GameAsked::Search { asked, kept }),
-        None => Some(GameAsked::Explore {
+        Some(asked) => Some(GameRequest::Search { asked, kept }),
+        None => Some(GameRequest::Explore {
             asked: explore_of(name, inner)?,
             kept,
         }),
@@ -132,14 +134,14 @@ fn question_of<'a>(name: &str, inner: &ArgMatches<'a>) -> Option<GameAsked<'a>> 
 }
 
 // What a command asks of a game.
-fn game_asked_of<'a>(name: &str, inner: &ArgMatches<'a>) -> Option<GameAsked<'a>> {
+fn game_asked_of<'a>(name: &str, inner: &ArgMatches<'a>) -> Option<GameRequest<'a>> {
     match name {
         "solve" => solve_of(inner),
         "query" => query_of(inner),
         "moves" => moves_of(name, inner),
         "at" => at_of(inner),
         "locate" => locate_of(inner),
-        "analyse" => Some(GameAsked::Analyse {
+        "analyse" => Some(GameRequest::Analyse {
             kept: kept_of(inner),
         }),
         "check" => check_of(inner),
@@ -159,15 +161,15 @@ fn telling_of(inner: &ArgMatches<'_>) -> Telling {
     }
 }
 
-fn asked_of<'a>(matches: &ArgMatches<'a>) -> Option<Asked<'a>> {
+fn asked_of<'a>(matches: &ArgMatches<'a>) -> Option<Request<'a>> {
     match matches.subcommand() {
         Some((name, inner)) if !are_plain(name, inner) => None,
-        Some(("list", inner)) => Some(Asked::List {
+        Some(("list", inner)) => Some(Request::List {
             all: inner.get_flag("all"),
         }),
-        Some(("completions", inner)) => Some(Asked::Manual(manual_of(inner)?)),
-        Some(("man", _)) => Some(Asked::Manual(Manual::Man)),
-        Some((name, inner)) => Some(Asked::Of {
+        Some(("completions", inner)) => Some(Request::Manual(manual_of(inner)?)),
+        Some(("man", _)) => Some(Request::Manual(Manual::Man)),
+        Some((name, inner)) => Some(Request::Of {
             game: inner.get_str("GAME")?,
             asked: game_asked_of(name, inner)?,
             telling: telling_of(inner),
@@ -214,23 +216,23 @@ pub fn what_is_wrong(alloc: Global, words: &[&str]) -> Option<Help> {
 }
 
 // The text that the command line itself makes, where a line that it did not take as a command asks for one.
-fn help_of(error: Error) -> Result<Help, Unread> {
+fn help_of(error: Error) -> Result<Help, ReadError> {
     let why = match error.kind() {
         ErrorKind::DisplayHelp | ErrorKind::DisplayVersion => return Ok(Help(error)),
-        ErrorKind::OutOfMemory => Unread::OutOfMemory,
-        _ => Unread::BadLine,
+        ErrorKind::OutOfMemory => ReadError::OutOfMemory,
+        _ => ReadError::BadLine,
     };
     drop(error);
     Err(why)
 }
 
 /// Reads a line of words, of which the first is the program's name.
-pub fn read_words<'a>(alloc: Global, words: &'a [&'a str]) -> Result<Reading<'a>, Unread> {
+pub fn read_words<'a>(alloc: Global, words: &'a [&'a str]) -> Result<Reading<'a>, ReadError> {
     match matched(alloc, words) {
         Ok(matches) => {
             let asked = asked_of(&matches);
             drop(matches);
-            Ok(Reading::Asked(asked.ok_or(Unread::BadLine)?))
+            Ok(Reading::Request(asked.ok_or(ReadError::BadLine)?))
         }
         Err(error) => Ok(Reading::Help(help_of(error)?)),
     }

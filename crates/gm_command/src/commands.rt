@@ -2,7 +2,7 @@
 
 use crate::lines::lines;
 use crate::relations::{barred_by, needed_by, values_of};
-use crate::words::{Kind, Line, Word};
+use crate::words::{ArgKind, ArgSpec, CommandSpec};
 use clap::{Arg, ArgAction, Command, value_parser};
 use std::alloc::{AllocError, Global};
 
@@ -36,27 +36,30 @@ fn related<'a>(arg: Arg<'a>, name: &str) -> Result<Arg<'a>, AllocError> {
 }
 
 // A word of a command, by itself.
-fn arg_of<'a>(alloc: Global, word: &'static Word) -> Arg<'a> {
+fn arg_of<'a>(alloc: Global, word: &'static ArgSpec) -> Arg<'a> {
     let arg = Arg::new(alloc, word.name).help(word.help);
     match word.kind {
-        Kind::Word => arg.required(true).action(ArgAction::Set),
-        Kind::Optional => arg,
-        Kind::Flag => arg.long(word.name).action(ArgAction::SetTrue),
-        Kind::Text { shown, required } => arg.long(word.name).value_name(shown).required(required),
-        Kind::Number {
+        ArgKind::Word => arg.required(true).action(ArgAction::Set),
+        ArgKind::Optional => arg,
+        ArgKind::Flag => arg.long(word.name).action(ArgAction::SetTrue),
+        ArgKind::Text { shown, required } => arg
+            .long(word.name)
+            .value_name(shown)
+            .required(required),
+        ArgKind::Number {
             shown,
             least,
             most,
             default,
         } => with_number(arg.long(word.name).value_name(shown), least, most, default),
-        Kind::Tier => arg.long(word.name).value_parser(value_parser!(u64)),
+        ArgKind::Tier => arg.long(word.name).value_parser(value_parser!(u64)),
     }
 }
 
 // Adds the words of a command.
 fn add_words<'a>(
     alloc: Global,
-    words: &'static [Word],
+    words: &'static [ArgSpec],
     all: &mut Vec<Arg<'a>>,
 ) -> Result<(), AllocError> {
     for word in words {
@@ -66,7 +69,7 @@ fn add_words<'a>(
 }
 
 // A command of the program.
-fn command_of<'a>(alloc: Global, line: &'static Line) -> Result<Command<'a>, AllocError> {
+fn command_of<'a>(alloc: Global, line: &'static CommandSpec) -> Result<Command<'a>, AllocError> {
     let mut words = Vec::new(alloc);
     add_words(alloc, line.words, &mut words)?;
     let command = Command::new(alloc, line.name)

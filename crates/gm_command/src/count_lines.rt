@@ -1,29 +1,31 @@
 //! The words of `counts` and `longest`, with what `--help` says of them.
 
-use crate::words::{FOLDER, GAME, JSON, Kind, Line, MOST, QUIET, REACHED, READ_ONLY, Word};
+use crate::words::{
+    ArgKind, ArgSpec, CommandSpec, FOLDER, GAME, JSON, MOST, QUIET, REACHED, READ_ONLY,
+};
 
-pub(crate) static COUNTS: Line = Line {
+pub(crate) static COUNTS: CommandSpec = CommandSpec {
     name: "counts",
     alias: None,
     about: "Counts the positions of a game by value and remoteness, with bars",
     examples: "Examples:\n  gamesman counts countdown\n  gamesman counts tactix-3 --reached\n  gamesman counts tictactoe --legal --by-tier --csv > tictactoe.csv",
     words: &[
         GAME,
-        Word {
+        ArgSpec {
             name: "legal",
-            kind: Kind::Flag,
-            help: "Counts all legal positions, and not only one of those that are the same but for symmetry",
+            kind: ArgKind::Flag,
+            help: "Count all legal positions, not one per symmetry class",
         },
-        Word {
+        ArgSpec {
             name: "by-tier",
-            kind: Kind::Flag,
-            help: "Counts each tier by itself; its number is told first",
+            kind: ArgKind::Flag,
+            help: "Count each tier by itself; its number comes first",
         },
         REACHED,
-        Word {
+        ArgSpec {
             name: "csv",
-            kind: Kind::Flag,
-            help: "Answers with comma-separated values, under the names of the columns",
+            kind: ArgKind::Flag,
+            help: "Print comma-separated values under the names of the columns",
         },
         JSON,
         FOLDER,
@@ -32,23 +34,23 @@ pub(crate) static COUNTS: Line = Line {
     ],
 };
 
-pub(crate) static LONGEST: Line = Line {
+pub(crate) static LONGEST: CommandSpec = CommandSpec {
     name: "longest",
     alias: None,
-    about: "Lists the longest wins and then the longest losses of a game, as `find` lists positions",
+    about: "Lists the longest wins and then the longest losses of a game, in the form of `find`",
     examples: "Examples:\n  gamesman longest countdown\n  gamesman longest dao --limit 3",
     words: &[
         GAME,
         REACHED,
-        Word {
+        ArgSpec {
             name: "limit",
-            kind: Kind::Number {
+            kind: ArgKind::Number {
                 shown: "limit",
                 least: 1,
                 most: MOST,
                 default: None,
             },
-            help: "The most wins and the most losses that are listed, from 1 on",
+            help: "List at most this many wins and this many losses, 1 or more",
         },
         FOLDER,
         READ_ONLY,

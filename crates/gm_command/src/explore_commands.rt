@@ -2,7 +2,7 @@
 ghost use Rattle.std.specs.Prelude.{◌≡◌, codes, IfSome, option_map};
 ghost use Rattle.clap.specs.Words.{first_value, found_of};
 
-use crate::requests::{PositionAsked, Question};
+use crate::requests::{PositionRequest, Question};
 use clap::ArgMatches;
 
 /// The limit that a line gives, or none.
@@ -28,7 +28,7 @@ fn show_of(inner: &ArgMatches<'_>) -> Option<Question> {
 }
 
 /// Reads a line with one of these commands.
-pub fn explore_of<'a>(name: &str, inner: &ArgMatches<'a>) -> Option<PositionAsked<'a>>
+pub fn explore_of<'a>(name: &str, inner: &ArgMatches<'a>) -> Option<PositionRequest<'a>>
     ensures position { IfSome result (λ asked. option_map (λ text. text.now) asked.position ≡ first_value (found_of inner.now) (codes "POSITION")) }
     ensures why { name.now ≡ codes "why" → IfSome result (λ asked. asked.question ≡ Question.Why) }
 {
@@ -48,7 +48,7 @@ pub fn explore_of<'a>(name: &str, inner: &ArgMatches<'a>) -> Option<PositionAske
         },
         _ => return None,
     };
-    Some(PositionAsked {
+    Some(PositionRequest {
         position: inner.get_str("POSITION"),
         question,
     })

@@ -1,112 +1,114 @@
 //! The words of `find`, with what `--help` says of them.
 
-use crate::words::{FOLDER, GAME, JSON, Kind, Line, MOST, QUIET, REACHED, READ_ONLY, Word};
+use crate::words::{
+    ArgKind, ArgSpec, CommandSpec, FOLDER, GAME, JSON, MOST, QUIET, REACHED, READ_ONLY,
+};
 
-const VALUE: Word = Word {
+const VALUE: ArgSpec = ArgSpec {
     name: "value",
-    kind: Kind::Text {
+    kind: ArgKind::Text {
         shown: "value",
         required: true,
     },
     help: "The value: win, tie, draw or lose",
 };
 
-const REMOTENESS: Word = Word {
+const REMOTENESS: ArgSpec = ArgSpec {
     name: "remoteness",
-    kind: Kind::Text {
+    kind: ArgKind::Text {
         shown: "remoteness",
         required: false,
     },
-    help: "The number of moves to the end, N or A..B: none with draw",
+    help: "Moves to the end, N or A..B (not with draw)",
 };
 
-const ONLY_MOVE: Word = Word {
+const ONLY_MOVE: ArgSpec = ArgSpec {
     name: "only-move",
-    kind: Kind::Flag,
-    help: "Those alone from which exactly one move keeps the win or the tie",
+    kind: ArgKind::Flag,
+    help: "Only positions in which exactly one move keeps the win or tie",
 };
 
-const WHOLE_LINE: Word = Word {
+const WHOLE_LINE: ArgSpec = ArgSpec {
     name: "whole-line",
-    kind: Kind::Flag,
-    help: "Wins alone in which, against every longest defence, exactly one move keeps the win at each turn but the last",
+    kind: ArgKind::Flag,
+    help: "Only wins in which, against every longest defence, exactly one move keeps the win at each turn but the last",
 };
 
-const DISTINCT: Word = Word {
+const DISTINCT: ArgSpec = ArgSpec {
     name: "distinct",
-    kind: Kind::Flag,
-    help: "Counts moves as one that lead to positions that are the same but for symmetry",
+    kind: ArgKind::Flag,
+    help: "Count moves whose results are symmetric as one",
 };
 
-const MIN_MOVES: Word = Word {
+const MIN_MOVES: ArgSpec = ArgSpec {
     name: "min-moves",
-    kind: Kind::Number {
+    kind: ArgKind::Number {
         shown: "N",
         least: 1,
         most: MOST,
         default: None,
     },
-    help: "Those alone with at least so many moves, from 1 on",
+    help: "Only positions with at least this many moves, 1 or more",
 };
 
-const LIMIT: Word = Word {
+const LIMIT: ArgSpec = ArgSpec {
     name: "limit",
-    kind: Kind::Number {
+    kind: ArgKind::Number {
         shown: "limit",
         least: 1,
         most: MOST,
         default: None,
     },
-    help: "The most positions that are listed, from 1 on",
+    help: "List at most this many, 1 or more",
 };
 
-const PAGE: Word = Word {
+const PAGE: ArgSpec = ArgSpec {
     name: "page",
-    kind: Kind::Flag,
-    help: "Writes one page of HTML, for any browser or for print: a diagram of each position, and its solution to unfold",
+    kind: ArgKind::Flag,
+    help: "Write an HTML page with a diagram of each position and its solution to unfold",
 };
 
-const RANDOM: Word = Word {
+const RANDOM: ArgSpec = ArgSpec {
     name: "random",
-    kind: Kind::Number {
+    kind: ArgKind::Number {
         shown: "N",
         least: 1,
         most: MOST,
         default: None,
     },
-    help: "So many of them by chance, from 1 on, each choice as likely as any other: in place of a limit",
+    help: "Choose this many at random, 1 or more, each choice equally likely; takes the place of a limit",
 };
 
-const SEED: Word = Word {
+const SEED: ArgSpec = ArgSpec {
     name: "seed",
-    kind: Kind::Number {
+    kind: ArgKind::Number {
         shown: "N",
         least: 0,
         most: MOST,
         default: None,
     },
-    help: "The number that chance goes by, 0 where it is not given: the same for the same number",
+    help: "Seed of the random choice (default: 0); the same seed gives the same choice",
 };
 
-const SHOW: Word = Word {
+const SHOW: ArgSpec = ArgSpec {
     name: "show",
-    kind: Kind::Flag,
-    help: "Draws the board of each above its line",
+    kind: ArgKind::Flag,
+    help: "Draw the board of each position above its line",
 };
 
-pub(crate) static FIND: Line = Line {
+pub(crate) static FIND: CommandSpec = CommandSpec {
     name: "find",
     alias: None,
-    about: "Lists the positions of a value, of those that are the same but for symmetry one: its value, its best move and the number of its moves",
+    about: "Lists the positions with a given value, one per symmetry class, each with its best move and number of moves",
     examples: "Examples:\n  gamesman find countdown --value win --limit 3\n  gamesman find dao --value win --remoteness 7..11 --whole-line --limit 1",
     words: &[
         GAME,
         VALUE,
         REMOTENESS,
-        Word {
+        ArgSpec {
             name: "tier",
-            kind: Kind::Tier,
-            help: "Of this tier alone",
+            kind: ArgKind::Tier,
+            help: "Only positions of this tier",
         },
         ONLY_MOVE,
         WHOLE_LINE,

@@ -4,81 +4,83 @@ use crate::count_lines::{COUNTS, LONGEST};
 use crate::defaults::{PIECE_WORD, SHARDS_WORD, WORKERS_WORD};
 use crate::find_line::FIND;
 use crate::place_lines::{AT, LOCATE, WHY};
-use crate::words::{DISTINCT, FOLDER, GAME, JSON, Kind, Line, MOST, QUIET, READ_ONLY, START, Word};
+use crate::words::{
+    ArgKind, ArgSpec, CommandSpec, DISTINCT, FOLDER, GAME, JSON, MOST, QUIET, READ_ONLY, START,
+};
 
-static LIST: Line = Line {
+static LIST: CommandSpec = CommandSpec {
     name: "list",
     alias: None,
     about: "Lists the games",
     examples: "Examples:\n  gamesman list\n  gamesman list --all | grep tactix",
-    words: &[Word {
+    words: &[ArgSpec {
         name: "all",
-        kind: Kind::Flag,
-        help: "Those that came later too",
+        kind: ArgKind::Flag,
+        help: "List the later games too",
     }],
 };
 
-static SOLVE: Line = Line {
+static SOLVE: CommandSpec = CommandSpec {
     name: "solve",
     alias: None,
-    about: "Solves a game into a folder, which has to be there; tables that are there and true are kept",
+    about: "Solves a game into an existing folder; correct tables in it are reused",
     examples: "Examples:\n  gamesman solve countdown tables\n  gamesman solve dao dao-tables --workers 8 --progress",
     words: &[
         GAME,
-        Word {
+        ArgSpec {
             name: "FOLDER",
-            kind: Kind::Word,
+            kind: ArgKind::Word,
             help: "The folder for the tables",
         },
-        Word {
+        ArgSpec {
             name: "workers",
-            kind: Kind::Number {
+            kind: ArgKind::Number {
                 shown: "N",
                 least: 1,
                 most: 16,
                 default: Some(WORKERS_WORD),
             },
-            help: "How many threads deliver, 1 to 16",
+            help: "Number of worker threads, 1 to 16",
         },
-        Word {
+        ArgSpec {
             name: "shards",
-            kind: Kind::Number {
+            kind: ArgKind::Number {
                 shown: "N",
                 least: 1,
                 most: 4,
                 default: Some(SHARDS_WORD),
             },
-            help: "Into how many parts a tier is split, 1 to 4",
+            help: "Number of shards per tier, 1 to 4",
         },
-        Word {
+        ArgSpec {
             name: "piece",
-            kind: Kind::Number {
+            kind: ArgKind::Number {
                 shown: "N",
                 least: 1,
                 most: 4096,
                 default: Some(PIECE_WORD),
             },
-            help: "How many notes a thread takes at a time, 1 to 4096",
+            help: "Number of positions a worker takes at a time, 1 to 4096",
         },
-        Word {
+        ArgSpec {
             name: "progress",
-            kind: Kind::Flag,
-            help: "Tells on standard error, a few times a second, how far it is",
+            kind: ArgKind::Flag,
+            help: "Report progress on standard error, a few times a second",
         },
         QUIET,
     ],
 };
 
-static QUERY: Line = Line {
+static QUERY: CommandSpec = CommandSpec {
     name: "query",
     alias: None,
-    about: "Answers the value of a position and the number of moves to the end",
+    about: "Prints the value and remoteness of a position",
     examples: "Examples:\n  gamesman query countdown 10\n  gamesman query hare 'dd.d......h d' --folder tables",
     words: &[
         GAME,
-        Word {
+        ArgSpec {
             name: "POSITION",
-            kind: Kind::Word,
+            kind: ArgKind::Word,
             help: "The position, as `10` in countdown, `x...o....` in tictactoe or `dd.d......h d` in hare",
         },
         FOLDER,
@@ -87,17 +89,17 @@ static QUERY: Line = Line {
     ],
 };
 
-static MOVES: Line = Line {
+static MOVES: CommandSpec = CommandSpec {
     name: "moves",
     alias: None,
-    about: "Lists the moves of a position, the best first: what each is worth, and its result",
+    about: "Lists the moves of a position, best first, with what each is worth and its result",
     examples: "Examples:\n  gamesman moves tictactoe xo.......\n  gamesman moves dao --distinct --folder dao-tables",
     words: &[
         GAME,
-        Word {
+        ArgSpec {
             name: "POSITION",
-            kind: Kind::Optional,
-            help: "The position; the start where it is left out; `-` reads positions, a line each",
+            kind: ArgKind::Optional,
+            help: "The position (default: the start); `-` reads positions from standard input, one per line",
         },
         DISTINCT,
         JSON,
@@ -107,7 +109,7 @@ static MOVES: Line = Line {
     ],
 };
 
-static LINE: Line = Line {
+static LINE: CommandSpec = CommandSpec {
     name: "line",
     alias: None,
     about: "Plays the best moves of both sides from a position to the end",
@@ -115,15 +117,15 @@ static LINE: Line = Line {
     words: &[
         GAME,
         START,
-        Word {
+        ArgSpec {
             name: "limit",
-            kind: Kind::Number {
+            kind: ArgKind::Number {
                 shown: "N",
                 least: 1,
                 most: MOST,
                 default: None,
             },
-            help: "The most moves that are made, from 1 on",
+            help: "Stop after this many moves, 1 or more",
         },
         JSON,
         FOLDER,
@@ -132,23 +134,23 @@ static LINE: Line = Line {
     ],
 };
 
-static SHOW: Line = Line {
+static SHOW: CommandSpec = CommandSpec {
     name: "show",
     alias: None,
-    about: "Draws the board of a position, with who is to move and the value; of the start also how cells, positions and moves are written",
+    about: "Draws a position with the side to move and its value; for the start it also explains the notation",
     examples: "Examples:\n  gamesman show tictactoe\n  gamesman show dao x..o.xo..ox.o..x\n  gamesman show dao x...x..x.x.o.ooo --svg --no-value > puzzle.svg",
     words: &[
         GAME,
         START,
-        Word {
+        ArgSpec {
             name: "svg",
-            kind: Kind::Flag,
-            help: "Draws a diagram for print, an SVG document",
+            kind: ArgKind::Flag,
+            help: "Draw a diagram for print, as an SVG document",
         },
-        Word {
+        ArgSpec {
             name: "no-value",
-            kind: Kind::Flag,
-            help: "Leaves the value out of a diagram, as for a puzzle",
+            kind: ArgKind::Flag,
+            help: "Leave the value out of the diagram, as for a puzzle",
         },
         FOLDER,
         READ_ONLY,
@@ -156,23 +158,23 @@ static SHOW: Line = Line {
     ],
 };
 
-static PAGE: Line = Line {
+static PAGE: CommandSpec = CommandSpec {
     name: "page",
     alias: None,
-    about: "Writes one page of HTML, for any browser, that explores the positions that play reaches from a position: boards, moves and values",
+    about: "Writes an HTML page for exploring the positions that can be reached from a position, with boards, moves and values",
     examples: "Examples:\n  gamesman page tictactoe > tictactoe.html\n  gamesman page dao x...x..x.x.o.ooo --limit 500 > puzzle.html",
     words: &[
         GAME,
         START,
-        Word {
+        ArgSpec {
             name: "limit",
-            kind: Kind::Number {
+            kind: ArgKind::Number {
                 shown: "N",
                 least: 1,
                 most: 1_000_000,
                 default: Some("2000"),
             },
-            help: "The most positions that the page has, 1 to 1000000",
+            help: "Put at most this many positions on the page, 1 to 1000000",
         },
         FOLDER,
         READ_ONLY,
@@ -180,31 +182,31 @@ static PAGE: Line = Line {
     ],
 };
 
-static ASK: Line = Line {
+static ASK: CommandSpec = CommandSpec {
     name: "ask",
     alias: None,
-    about: "Reads positions, a line each, and answers each with a line of JSON: its value and what its moves are worth",
+    about: "Reads one position per line and answers each with one line of JSON: its value and what its moves are worth",
     examples: "Examples:\n  echo 10 | gamesman ask countdown\n  echo 10 | gamesman ask countdown --values --with canonical,best",
     words: &[
         GAME,
-        Word {
+        ArgSpec {
             name: "values",
-            kind: Kind::Flag,
-            help: "Leaves out the moves",
+            kind: ArgKind::Flag,
+            help: "Leave out the moves",
         },
         DISTINCT,
-        Word {
+        ArgSpec {
             name: "with",
-            kind: Kind::Text {
+            kind: ArgKind::Text {
                 shown: "WORDS",
                 required: false,
             },
-            help: "Tells more of each position: canonical, parents, symmetric and best, with commas between them",
+            help: "Add to each answer, separated by commas: canonical, parents, symmetric, best",
         },
-        Word {
+        ArgSpec {
             name: "ready",
-            kind: Kind::Flag,
-            help: "Writes a first line once the tables are there",
+            kind: ArgKind::Flag,
+            help: "Write a first line once the tables are there",
         },
         FOLDER,
         READ_ONLY,
@@ -212,7 +214,7 @@ static ASK: Line = Line {
     ],
 };
 
-static ANALYSE: Line = Line {
+static ANALYSE: CommandSpec = CommandSpec {
     name: "analyse",
     alias: Some("analyze"),
     about: "Counts the positions of a game by value and remoteness, one line of JSON for each tier",
@@ -220,66 +222,66 @@ static ANALYSE: Line = Line {
     words: &[GAME, FOLDER, READ_ONLY, QUIET],
 };
 
-static CHECK: Line = Line {
+static CHECK: CommandSpec = CommandSpec {
     name: "check",
     alias: None,
     about: "Checks the tables of a game in a folder, tier by tier",
     examples: "Examples:\n  gamesman check countdown tables\n  gamesman check dao dao-tables",
     words: &[
         GAME,
-        Word {
+        ArgSpec {
             name: "FOLDER",
-            kind: Kind::Word,
+            kind: ArgKind::Word,
             help: "The folder of the tables",
         },
         QUIET,
     ],
 };
 
-static PLAY: Line = Line {
+static PLAY: CommandSpec = CommandSpec {
     name: "play",
     alias: None,
-    about: "Plays a game with you from its start: type a move, as `1` in countdown or `a1` in tictactoe, or `quit`",
+    about: "Plays a game against you from its start; type a move, as `1` in countdown or `a1` in tictactoe, or `quit`",
     examples: "Examples:\n  gamesman play tictactoe --show\n  gamesman play countdown --from 7 --second",
     words: &[
         GAME,
         FOLDER,
         READ_ONLY,
         QUIET,
-        Word {
+        ArgSpec {
             name: "second",
-            kind: Kind::Flag,
-            help: "Lets the computer move first",
+            kind: ArgKind::Flag,
+            help: "Let the computer move first",
         },
-        Word {
+        ArgSpec {
             name: "from",
-            kind: Kind::Text {
+            kind: ArgKind::Text {
                 shown: "POSITION",
                 required: false,
             },
-            help: "Begins at this position; you are the side to move, or with `--second` the other one",
+            help: "Begin at this position; you are the side to move, or with `--second` the other side",
         },
-        Word {
+        ArgSpec {
             name: "show",
-            kind: Kind::Flag,
-            help: "Draws the board before each question, with you as `x` where a game has `x` and `o`",
+            kind: ArgKind::Flag,
+            help: "Draw the board before each question; you are `x` where a game has `x` and `o`",
         },
     ],
 };
 
-static COMPLETIONS: Line = Line {
+static COMPLETIONS: CommandSpec = CommandSpec {
     name: "completions",
     alias: None,
-    about: "Prints the completions of a shell, for it to read at its start",
+    about: "Prints a shell completion script",
     examples: "Examples:\n  gamesman completions bash > ~/.local/share/bash-completion/completions/gamesman\n  gamesman completions fish > ~/.config/fish/completions/gamesman.fish",
-    words: &[Word {
+    words: &[ArgSpec {
         name: "SHELL",
-        kind: Kind::Word,
+        kind: ArgKind::Word,
         help: "The shell: bash, zsh or fish",
     }],
 };
 
-static MAN: Line = Line {
+static MAN: CommandSpec = CommandSpec {
     name: "man",
     alias: None,
     about: "Prints the manual page",
@@ -288,7 +290,7 @@ static MAN: Line = Line {
 };
 
 /// All commands, in the order of the help.
-pub(crate) fn lines() -> [&'static Line; 19] {
+pub(crate) fn lines() -> [&'static CommandSpec; 19] {
     [
         &LIST,
         &SOLVE,

@@ -4,7 +4,7 @@ ghost use Rattle.clap.specs.Words.{first_value, found_of};
 
 use crate::lines::lines;
 use crate::names::{LATER_NAMES, NAMES};
-use crate::words::{Kind, Line, Word};
+use crate::words::{ArgKind, ArgSpec, CommandSpec};
 use clap::ArgMatches;
 use std::alloc::{AllocError, Global};
 
@@ -49,18 +49,18 @@ fn write_manual(asked: Manual, text: &mut String) -> Result<(), AllocError> {
 }
 
 // The name of an option; none for a word by its place.
-fn option_of(word: &Word) -> Option<&'static str> {
+fn option_of(word: &ArgSpec) -> Option<&'static str> {
     match word.kind {
-        Kind::Word | Kind::Optional => None,
+        ArgKind::Word | ArgKind::Optional => None,
         _ => Some(word.name),
     }
 }
 
 // Whether a word is an option with a value.
-fn has_value(word: &Word) -> bool {
+fn has_value(word: &ArgSpec) -> bool {
     match word.kind {
-        Kind::Text { .. } | Kind::Number { .. } | Kind::Tier => true,
-        Kind::Word | Kind::Optional | Kind::Flag => false,
+        ArgKind::Text { .. } | ArgKind::Number { .. } | ArgKind::Tier => true,
+        ArgKind::Word | ArgKind::Optional | ArgKind::Flag => false,
     }
 }
 
@@ -81,7 +81,7 @@ fn write_commands(text: &mut String) -> Result<(), AllocError> {
 }
 
 // The words that can follow a command: its options, and the names of the games.
-fn write_words(line: &Line, text: &mut String) -> Result<(), AllocError> {
+fn write_words(line: &CommandSpec, text: &mut String) -> Result<(), AllocError> {
     for word in line.words {
         match option_of(word) {
             Some(option) => add(text, &[" --", option])?,
@@ -121,7 +121,7 @@ fn write_valued(text: &mut String) -> Result<(), AllocError> {
 }
 
 // The name of a command, and its other one, with `|` between them.
-fn write_names(line: &Line, text: &mut String) -> Result<(), AllocError> {
+fn write_names(line: &CommandSpec, text: &mut String) -> Result<(), AllocError> {
     text.push_str(line.name)?;
     match line.alias {
         Some(alias) => add(text, &["|", alias]),
@@ -189,7 +189,7 @@ fn write_fish(text: &mut String) -> Result<(), AllocError> {
     Ok(())
 }
 
-fn write_fish_command(line: &Line, text: &mut String) -> Result<(), AllocError> {
+fn write_fish_command(line: &CommandSpec, text: &mut String) -> Result<(), AllocError> {
     add(
         text,
         &[
@@ -207,7 +207,11 @@ fn write_fish_command(line: &Line, text: &mut String) -> Result<(), AllocError> 
 }
 
 // An option, or the values that a word of the command line can have.
-fn write_fish_word(name: &'static str, word: &Word, text: &mut String) -> Result<(), AllocError> {
+fn write_fish_word(
+    name: &'static str,
+    word: &ArgSpec,
+    text: &mut String,
+) -> Result<(), AllocError> {
     add(
         text,
         &[
@@ -252,7 +256,7 @@ fn write_man(text: &mut String) -> Result<(), AllocError> {
     )
 }
 
-fn write_man_command(line: &Line, text: &mut String) -> Result<(), AllocError> {
+fn write_man_command(line: &CommandSpec, text: &mut String) -> Result<(), AllocError> {
     add(text, &[".SS ", line.name, "\n", line.about, ".\n"])?;
     for word in line.words {
         write_man_word(word, text)?;
@@ -260,7 +264,7 @@ fn write_man_command(line: &Line, text: &mut String) -> Result<(), AllocError> {
     Ok(())
 }
 
-fn write_man_word(word: &Word, text: &mut String) -> Result<(), AllocError> {
+fn write_man_word(word: &ArgSpec, text: &mut String) -> Result<(), AllocError> {
     let (before, name) = match option_of(word) {
         Some(option) => (".TP\n.B \\-\\-", option),
         None => (".TP\n.I ", word.name),

@@ -1,7 +1,7 @@
 //! Numbers of a command line, without a sign and without zeros before them.
 
 use crate::lines::lines;
-use crate::words::{Kind, Line};
+use crate::words::{ArgKind, CommandSpec};
 use clap::ArgMatches;
 use gm_find::sought::Span;
 
@@ -16,9 +16,9 @@ fn is_plain(text: &str) -> bool {
 }
 
 // Whether all numbers of a command are written so.
-fn are_plain_in(line: &Line, inner: &ArgMatches<'_>) -> bool {
+fn are_plain_in(line: &CommandSpec, inner: &ArgMatches<'_>) -> bool {
     line.words.iter().all(|word| match word.kind {
-        Kind::Number { .. } | Kind::Tier => match inner.get_str(word.name) {
+        ArgKind::Number { .. } | ArgKind::Tier => match inner.get_str(word.name) {
             Some(text) => is_plain(text),
             None => true,
         },

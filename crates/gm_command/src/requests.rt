@@ -11,7 +11,7 @@ use gm_solver::plan::Plan;
 
 /// Where the tables of a game are kept.
 #[derive(Clone, Copy)]
-pub struct Kept<'a> {
+pub struct TableLocation<'a> {
     /// The folder; tables are kept in memory where there is none.
     pub folder: Option<&'a str>,
     /// Whether the folder is only read.
@@ -37,7 +37,7 @@ pub enum Question {
 
 /// A question about a position of a game, or about its start.
 #[derive(Clone, Copy)]
-pub struct PositionAsked<'a> {
+pub struct PositionRequest<'a> {
     pub position: Option<&'a str>,
     pub question: Question,
 }
@@ -66,7 +66,7 @@ pub enum Form {
 
 /// Positions that are looked for.
 #[derive(Clone, Copy, Debug, PartialEq, Eq)]
-pub struct PositionsSought {
+pub struct PositionSearch {
     pub sought: Sought,
     /// The one tier to look in; all tiers where there is none.
     pub tier: Option<u64>,
@@ -80,7 +80,7 @@ pub struct PositionsSought {
 
 /// Positions that are counted.
 #[derive(Clone, Copy, Debug, PartialEq, Eq)]
-pub struct CountsAsked {
+pub struct CountsRequest {
     pub among: Among,
     /// Whether each tier is counted by itself.
     pub by_tier: bool,
@@ -92,7 +92,7 @@ pub struct CountsAsked {
 
 /// A service that is asked for.
 #[derive(Clone, Copy, Debug, PartialEq, Eq)]
-pub struct AskAsked {
+pub struct AskRequest {
     /// What is asked of each position.
     pub asked: PositionJson,
     /// Whether a first line tells that the tables are there.
@@ -101,19 +101,19 @@ pub struct AskAsked {
 
 /// What is asked of all tables of a game.
 #[derive(Clone, Copy, Debug, PartialEq, Eq)]
-pub enum Search {
-    Find(PositionsSought),
+pub enum TableRequest {
+    Find(PositionSearch),
     /// How many positions there are of each value and remoteness.
-    Counts(CountsAsked),
+    Counts(CountsRequest),
     /// The longest wins and the longest losses, of each at most this many; on request, of those that play reaches.
     Longest { reached: bool, limit: usize },
     /// An answer to each position that is read.
-    Ask(AskAsked),
+    Ask(AskRequest),
 }
 
 /// A game that is to be solved into a folder.
 #[derive(Clone, Copy)]
-pub struct SolveAsked<'a> {
+pub struct SolveRequest<'a> {
     pub folder: &'a str,
     pub plan: Plan,
 }
@@ -130,7 +130,7 @@ pub enum Telling {
 
 /// A session that is asked for.
 #[derive(Clone, Copy)]
-pub struct PlayAsked<'a> {
+pub struct PlayRequest<'a> {
     /// The position to start from; the game's start where there is none.
     pub position: Option<&'a str>,
     pub first: Side,
@@ -140,44 +140,44 @@ pub struct PlayAsked<'a> {
 
 /// What is asked of one game.
 #[derive(Clone, Copy)]
-pub enum GameAsked<'a> {
-    Solve(SolveAsked<'a>),
+pub enum GameRequest<'a> {
+    Solve(SolveRequest<'a>),
     Query {
         position: &'a str,
-        kept: Kept<'a>,
+        kept: TableLocation<'a>,
     },
     /// Questions about positions that are read, a line each.
     Filter {
         asked: Filter,
-        kept: Kept<'a>,
+        kept: TableLocation<'a>,
     },
     /// What stands at a tier and index.
     At {
         tier: u64,
         index: u64,
-        kept: Kept<'a>,
+        kept: TableLocation<'a>,
     },
     /// Where a position stands.
     Locate {
         position: &'a str,
     },
     Explore {
-        asked: PositionAsked<'a>,
-        kept: Kept<'a>,
+        asked: PositionRequest<'a>,
+        kept: TableLocation<'a>,
     },
     Search {
-        asked: Search,
-        kept: Kept<'a>,
+        asked: TableRequest,
+        kept: TableLocation<'a>,
     },
     Analyse {
-        kept: Kept<'a>,
+        kept: TableLocation<'a>,
     },
     Check {
         folder: &'a str,
     },
     Play {
-        asked: PlayAsked<'a>,
-        kept: Kept<'a>,
+        asked: PlayRequest<'a>,
+        kept: TableLocation<'a>,
     },
     /// How its positions and moves are written, for a person at a terminal. No line of words asks for this alone.
     Naming,
@@ -185,14 +185,14 @@ pub enum GameAsked<'a> {
 
 /// What a line of words asks for.
 #[derive(Clone, Copy)]
-pub enum Asked<'a> {
+pub enum Request<'a> {
     /// The names of the games, with those that came later if all are asked for.
     List {
         all: bool,
     },
     Of {
         game: &'a str,
-        asked: GameAsked<'a>,
+        asked: GameRequest<'a>,
         telling: Telling,
     },
     /// A text about the program.
@@ -202,6 +202,6 @@ pub enum Asked<'a> {
 /// What a line of words is read as: something that it asks for, or a text that the command line itself makes.
 #[derive(Drop)]
 pub enum Reading<'a> {
-    Asked(Asked<'a>),
+    Request(Request<'a>),
     Help(Help),
 }

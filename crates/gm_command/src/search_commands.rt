@@ -2,7 +2,7 @@
 
 use crate::explore_commands::limit_of;
 use crate::numbers::span_of;
-use crate::requests::{AskAsked, CountsAsked, Form, PositionsSought, Search};
+use crate::requests::{AskRequest, CountsRequest, Form, PositionSearch, TableRequest};
 use clap::ArgMatches;
 use gm_analyse::among::Among;
 use gm_analyse::bars::Form as CountsForm;
@@ -94,8 +94,8 @@ fn form_of(inner: &ArgMatches<'_>) -> Form {
     }
 }
 
-fn positions_of(inner: &ArgMatches<'_>) -> Option<PositionsSought> {
-    Some(PositionsSought {
+fn positions_of(inner: &ArgMatches<'_>) -> Option<PositionSearch> {
+    Some(PositionSearch {
         sought: sought_of(inner).ok()?,
         tier: inner.get_one::<u64>("tier"),
         reached: inner.get_flag("reached"),
@@ -115,13 +115,13 @@ fn counts_form_of(inner: &ArgMatches<'_>) -> CountsForm {
     }
 }
 
-fn counts_of(inner: &ArgMatches<'_>) -> CountsAsked {
+fn counts_of(inner: &ArgMatches<'_>) -> CountsRequest {
     let among = if inner.get_flag("legal") {
         Among::Legal
     } else {
         Among::Canonical
     };
-    CountsAsked {
+    CountsRequest {
         among,
         by_tier: inner.get_flag("by-tier"),
         reached: inner.get_flag("reached"),
@@ -173,23 +173,23 @@ pub(crate) fn asked_of_each(inner: &ArgMatches<'_>) -> Result<Asked, &'static st
     })
 }
 
-fn ask_of(inner: &ArgMatches<'_>) -> Option<AskAsked> {
-    Some(AskAsked {
+fn ask_of(inner: &ArgMatches<'_>) -> Option<AskRequest> {
+    Some(AskRequest {
         asked: asked_of_each(inner).ok()?,
         ready: inner.get_flag("ready"),
     })
 }
 
 /// Reads a line with one of these commands.
-pub fn search_of(name: &str, inner: &ArgMatches<'_>) -> Option<Search> {
+pub fn search_of(name: &str, inner: &ArgMatches<'_>) -> Option<TableRequest> {
     match name {
-        "find" => Some(Search::Find(positions_of(inner)?)),
-        "counts" => Some(Search::Counts(counts_of(inner))),
-        "longest" => Some(Search::Longest {
+        "find" => Some(TableRequest::Find(positions_of(inner)?)),
+        "counts" => Some(TableRequest::Counts(counts_of(inner))),
+        "longest" => Some(TableRequest::Longest {
             reached: inner.get_flag("reached"),
             limit: limit_of(inner),
         }),
-        "ask" => Some(Search::Ask(ask_of(inner)?)),
+        "ask" => Some(TableRequest::Ask(ask_of(inner)?)),
         _ => None,
     }
 }

@@ -2,7 +2,7 @@
 
 /// What a word of a command line is.
 #[derive(Clone, Copy)]
-pub(crate) enum Kind {
+pub(crate) enum ArgKind {
     /// A word by its place, which has to be there.
     Word,
     /// A word by its place, which may be left out.
@@ -27,72 +27,72 @@ pub(crate) enum Kind {
 
 /// A word of a command line.
 #[derive(Clone, Copy)]
-pub(crate) struct Word {
+pub(crate) struct ArgSpec {
     pub name: &'static str,
-    pub kind: Kind,
+    pub kind: ArgKind,
     pub help: &'static str,
 }
 
 /// A command: what it does, examples of it, and its words in their order.
 #[derive(Clone, Copy)]
-pub(crate) struct Line {
+pub(crate) struct CommandSpec {
     pub name: &'static str,
     pub alias: Option<&'static str>,
     pub about: &'static str,
     pub examples: &'static str,
-    pub words: &'static [Word],
+    pub words: &'static [ArgSpec],
 }
 
 /// The greatest number that a limit or a remoteness can be.
 pub(crate) const MOST: i64 = 4_294_967_295;
 
-pub(crate) const GAME: Word = Word {
+pub(crate) const GAME: ArgSpec = ArgSpec {
     name: "GAME",
-    kind: Kind::Word,
+    kind: ArgKind::Word,
     help: "The name of a game, one of those that `gamesman list` prints",
 };
 
-pub(crate) const START: Word = Word {
+pub(crate) const START: ArgSpec = ArgSpec {
     name: "POSITION",
-    kind: Kind::Optional,
-    help: "The position; the start where it is left out",
+    kind: ArgKind::Optional,
+    help: "The position (default: the start)",
 };
 
-pub(crate) const FOLDER: Word = Word {
+pub(crate) const FOLDER: ArgSpec = ArgSpec {
     name: "folder",
-    kind: Kind::Text {
+    kind: ArgKind::Text {
         shown: "FOLDER",
         required: false,
     },
-    help: "A folder for the tables, which are then kept and used again",
+    help: "Keep the tables in this folder and reuse them",
 };
 
-pub(crate) const READ_ONLY: Word = Word {
+pub(crate) const READ_ONLY: ArgSpec = ArgSpec {
     name: "read-only",
-    kind: Kind::Flag,
-    help: "Reads the folder and writes nothing: each of its tables has to be there and right",
+    kind: ArgKind::Flag,
+    help: "Only read the folder; every table needed must be there and correct",
 };
 
-pub(crate) const QUIET: Word = Word {
+pub(crate) const QUIET: ArgSpec = ArgSpec {
     name: "quiet",
-    kind: Kind::Flag,
-    help: "Tells nothing of how far it is, as it else does where standard error is a terminal",
+    kind: ArgKind::Flag,
+    help: "Report no progress, which is otherwise shown where standard error is a terminal",
 };
 
-pub(crate) const JSON: Word = Word {
+pub(crate) const JSON: ArgSpec = ArgSpec {
     name: "json",
-    kind: Kind::Flag,
-    help: "Answers with lines of JSON",
+    kind: ArgKind::Flag,
+    help: "Print lines of JSON",
 };
 
-pub(crate) const REACHED: Word = Word {
+pub(crate) const REACHED: ArgSpec = ArgSpec {
     name: "reached",
-    kind: Kind::Flag,
-    help: "Those alone that play from the start can reach",
+    kind: ArgKind::Flag,
+    help: "Only positions that can be reached from the start",
 };
 
-pub(crate) const DISTINCT: Word = Word {
+pub(crate) const DISTINCT: ArgSpec = ArgSpec {
     name: "distinct",
-    kind: Kind::Flag,
-    help: "Of moves that lead to positions that are the same but for symmetry, the first alone",
+    kind: ArgKind::Flag,
+    help: "List only the first of the moves whose results are symmetric",
 };

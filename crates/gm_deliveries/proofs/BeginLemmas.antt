@@ -1,5 +1,6 @@
 -- A shard with no pair.
-use Rattle.std.proofs.Common.{◌≡◌, ℕ, ◌+◌, ◌-◌, ◌<◌, ◌≤◌, inl, List, [], length, get_or, map, refl, ap, sym, subst, ◌∙◌, arith, Some, None, replicate, ◌*◌, take, ◌++◌, ◌∷◌, set, length-set}
+use Rattle.std.proofs.Common.{◌≡◌, ℕ, ◌+◌, ◌-◌, ◌<◌, ◌≤◌, inl, List, [], length, get_or, map, refl, ap, sym, subst, ◌∙◌, arith, Some, None, replicate, ◌*◌}
+use Rattle.std.proofs.Common.{take, ◌++◌, ◌∷◌, set, length-set}
 use Rattle.std.specs.List.{Contains, slice_get}
 use Rattle.std.proofs.lemmas.List.{length-map, get_or-map, get_or-replicate, length-replicate, map_more, take_all, take_more_set}
 use Rattle.std.proofs.lemmas.List.Folds.{sum_by-replicate}
@@ -58,10 +59,12 @@ nothing_before r p Ties n b = b
 none_at : (n k : ℕ) → k < n → get_or (replicate n []) k [] ≡ (let e : List Position = [] in e)
 none_at n k l = get_or-replicate n k [] [] l
 
-pub first_good : (r : Rules) (tier lo : ℕ) (starts : List Start) → AreStarts r tier lo starts → IsShard r (first_state tier lo (length starts)) (map first_status starts)
+pub first_good : (r : Rules) (tier lo : ℕ) (starts : List Start) → AreStarts r tier lo starts
+    → IsShard r (first_state tier lo (length starts)) (map first_status starts)
 first_good r tier lo starts are = record {
   once = λ (i : ℕ) (m : IsInRange (first_state tier lo (length starts)) i). subst AreAscending (sym (empty i m)) tt;
-  pairs = λ (i : ℕ) (c : Position) (m : IsInRange (first_state tier lo (length starts)) i) (h : Contains (delivered_to (first_state tier lo (length starts)) i) c).
+  pairs = λ (i : ℕ) (c : Position) (m : IsInRange (first_state tier lo (length starts)) i)
+      (h : Contains (delivered_to (first_state tier lo (length starts)) i) c).
       absurd (has_none c (subst (λ (d : List Position). Contains d c) (empty i m) h));
   whole = λ (i : ℕ) (c : Position) m p (b : StandsBefore r WinLose 0 c). absurd (nothing_before r c b.own_phase b.own_level b.before);
   fits = omega arith;
@@ -71,31 +74,41 @@ first_good r tier lo starts are = record {
       let s : Start = get_or starts (i - lo) NoStart in
       let is : slice_get starts (i - lo) ≡ Some s = slice_get-get_or starts (i - lo) NoStart l in
       let at' : lo + (i - lo) ≡ i = (let q : lo ≤ i = m.0 in omega arith) in
-      let k : HasStatus r (at tier (lo + (i - lo))) [] (first_status s) × IsWithinLimit (first_status s) = first_is r (at tier (lo + (i - lo))) s (are (i - lo) s is) in
-      let same : first_status s ≡ x = sym (get_or-map first_status starts (i - lo) NoStart Hole l) ∙ get_or_from_slice_get (map first_status starts) (i - lo) x Hole got in
-      subst (λ (y : Status). StatusIs r (first_state tier lo (length starts)) i y × IsWithinLimit y) same
-      (subst (λ (d : List Position). HasStatus r (at tier i) d (first_status s)) (sym (empty i m)) (subst (λ (j : ℕ). HasStatus r (at tier j) [] (first_status s)) at' k.0), k.1);
+      let k : HasStatus r (at tier (lo + (i - lo))) [] (first_status s) × IsWithinLimit (first_status s) =
+      first_is r (at tier (lo + (i - lo))) s (are (i - lo) s is) in
+      let same : first_status s ≡ x =
+      sym (get_or-map first_status starts (i - lo) NoStart Hole l) ∙ get_or_from_slice_get (map first_status starts) (i - lo) x Hole got in
+      subst (λ (y : Status). StatusIs r (first_state tier lo (length starts)) i y × IsWithinLimit y) same (
+        subst (λ (d : List Position). HasStatus r (at tier i) d (first_status s)) (sym (empty i m))
+            (subst (λ (j : ℕ). HasStatus r (at tier j) [] (first_status s)) at' k.0),
+        k.1,
+      );
 }
   where
     short : (i : ℕ) → IsInRange (first_state tier lo (length starts)) i → i - lo < length starts
-    short i m = let e : length (replicate (length starts) (let e : List Position = [] in e)) ≡ length starts = length-replicate (length starts) [] in let a = m.0 in let b = m.1 in omega arith
+    short i m = let e : length (replicate (length starts) (let e : List Position = [] in e)) ≡ length starts = length-replicate (length starts) [] in
+        let a = m.0 in let b = m.1 in omega arith
 
     empty : (i : ℕ) → IsInRange (first_state tier lo (length starts)) i → delivered_to (first_state tier lo (length starts)) i ≡ []
     empty i m = none_at (length starts) (i - lo) (short i m)
 
 -- and of the other fields
-pub first_kept : (r : Rules) (tier lo : ℕ) (starts : List Start) → AreStarts r tier lo starts → lo + length starts ≤ TIER_SIZE → IsKept r (first_state tier lo (length starts)) (map first_status starts) (map first_left starts) 0
+pub first_kept : (r : Rules) (tier lo : ℕ) (starts : List Start) → AreStarts r tier lo starts → lo + length starts ≤ TIER_SIZE
+    → IsKept r (first_state tier lo (length starts)) (map first_status starts) (map first_left starts) 0
 first_kept r tier lo starts are few' = record {
   shard = first_good r tier lo starts are;
   as_many = length-map starts first_left ∙ sym (length-replicate (length starts) []);
   counted = λ (i n : ℕ) (m : IsInRange (first_state tier lo (length starts)) i) (got : slice_get (map first_left starts) (i - lo) ≡ Some n).
-      let l : i - lo < length starts = (let e : length (replicate (length starts) (let e : List Position = [] in e)) ≡ length starts = length-replicate (length starts) [] in let a = m.0 in let b = m.1 in omega arith) in
+      let l : i - lo < length starts =
+      (let e : length (replicate (length starts) (let e : List Position = [] in e)) ≡ length starts = length-replicate (length starts) [] in let a = m.0 in
+      let b = m.1 in omega arith) in
       let s : Start = get_or starts (i - lo) NoStart in
       let is : slice_get starts (i - lo) ≡ Some s = slice_get-get_or starts (i - lo) NoStart l in
       let at' : lo + (i - lo) ≡ i = (let q : lo ≤ i = m.0 in omega arith) in
       let k : IsStart r (at tier i) s = subst (λ (j : ℕ). IsStart r (at tier j) s) at' (are (i - lo) s is) in
       let same : first_left s ≡ n = sym (get_or-map first_left starts (i - lo) NoStart 0 l) ∙ get_or_from_slice_get (map first_left starts) (i - lo) n 0 got in
-      subst (λ (y : ℕ). IsCounter r (first_state tier lo (length starts)) i y) same (first_counter r tier lo (length starts) i s (none_at (length starts) (i - lo) l) k);
+      subst (λ (y : ℕ). IsCounter r (first_state tier lo (length starts)) i y) same
+      (first_counter r tier lo (length starts) i s (none_at (length starts) (i - lo) l) k);
   number = sym (sum_by-replicate (length {A = Position}) (length starts) [] ∙ (let z : length starts * 0 ≡ 0 = omega arith in z));
   short = λ (i : ℕ) (m : IsInRange (first_state tier lo (length starts)) i).
       let e : length (replicate (length starts) (let e : List Position = [] in e)) ≡ length starts = length-replicate (length starts) [] in
@@ -104,7 +117,8 @@ first_kept r tier lo starts are few' = record {
   few = (let e : length (replicate (length starts) (let e : List Position = [] in e)) ≡ length starts = length-replicate (length starts) [] in omega arith);
 }
   where
-    first_counter : (r : Rules) (tier lo n i : ℕ) (s : Start) → delivered_to (first_state tier lo n) i ≡ [] → IsStart r (at tier i) s → IsCounter r (first_state tier lo n) i (first_left s)
+    first_counter : (r : Rules) (tier lo n i : ℕ) (s : Start) → delivered_to (first_state tier lo n) i ≡ [] → IsStart r (at tier i) s
+        → IsCounter r (first_state tier lo n) i (first_left s)
     first_counter r tier lo n i NoStart e k = record { inner = λ x. absurd (k (x.legal, x.canonical)); other = λ _. refl }
     first_counter r tier lo n i (Ended x) e k = record { inner = λ h. absurd (let z : None ≡ Some x = sym h.unended ∙ k.1 in cc); other = λ _. refl }
     first_counter r tier lo n i (Inner c) e k = record {
@@ -120,7 +134,8 @@ first_masks r tier lo n ms e =
 
 -- what the fields keep at the start
 pub first_fields : (r : Rules) (tier lo : ℕ) (starts : List Start) → AreStarts r tier lo starts → lo + length starts ≤ TIER_SIZE
-    → (ms ls : List ℕ) (ss : List Status) → ms ≡ replicate (length starts) 0 → ls ≡ map first_left starts → ss ≡ map first_status starts → IsKept r (state_of r tier lo WinLose 0 ms) ss ls 0
+    → (ms ls : List ℕ) (ss : List Status) → ms ≡ replicate (length starts) 0 → ls ≡ map first_left starts → ss ≡ map first_status starts
+    → IsKept r (state_of r tier lo WinLose 0 ms) ss ls 0
 first_fields r tier lo starts are few' ms ls ss m l s =
     subst (λ (xs : List Status). IsKept r (state_of r tier lo WinLose 0 ms) xs ls 0) (sym s)
     (subst (λ (ys : List ℕ). IsKept r (state_of r tier lo WinLose 0 ms) (map first_status starts) ys 0) (sym l)
@@ -133,10 +148,12 @@ pub record IsFilled {X A : Type 0} (f : X → A) (xs : List X) (k : ℕ) (ys : L
   pub first : take k ys ≡ map f (take k xs)
 
 -- one more item
-pub filled_more : {X A : Type 0} (f : X → A) (xs : List X) (k : ℕ) (d : X) (old new : List A) (y : A) → k < length xs → IsFilled f xs k old → y ≡ f (get_or xs k d) → new ≡ set old k y → IsFilled f xs (k + 1) new
+pub filled_more : {X A : Type 0} (f : X → A) (xs : List X) (k : ℕ) (d : X) (old new : List A) (y : A) → k < length xs → IsFilled f xs k old
+    → y ≡ f (get_or xs k d) → new ≡ set old k y → IsFilled f xs (k + 1) new
 filled_more {X} {A} f xs k d old new y inside t is put = subst (λ (ys : List A). IsFilled f xs (k + 1) ys) (sym put) (record {
   many = length-set old k y ∙ t.many;
-  first = take_more_set old k y (subst (λ (n : ℕ). k < n) (sym t.many) inside) ∙ ap (λ (ys : List A). ys ++ y ∷ []) t.first ∙ ap (λ (z : A). map f (take k xs) ++ z ∷ []) is ∙ sym (map_more f xs k d inside);
+  first = take_more_set old k y (subst (λ (n : ℕ). k < n) (sym t.many) inside) ∙ ap (λ (ys : List A). ys ++ y ∷ []) t.first
+      ∙ ap (λ (z : A). map f (take k xs) ++ z ∷ []) is ∙ sym (map_more f xs k d inside);
 })
 
 -- all of them

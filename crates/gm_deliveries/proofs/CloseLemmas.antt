@@ -1,5 +1,6 @@
 -- A level is whole exactly where as many pairs are delivered as there are.
-use Rattle.std.proofs.Common.{◌≡◌, ◌≢◌, ℕ, zero, suc, ◌+◌, ◌-◌, ◌*◌, ◌<◌, ◌≤◌, ◌⊎◌, inl, inr, true, List, [], ◌∷◌, ◌++◌, length, get_or, map, refl, ap, sym, subst, arith, Some, Option, Result, Ok, Err, sum_by, AllPairs}
+use Rattle.std.proofs.Common.{◌≡◌, ◌≢◌, ℕ, zero, suc, ◌+◌, ◌-◌, ◌*◌, ◌<◌, ◌≤◌, ◌⊎◌, inl, inr, true, List, [], ◌∷◌, ◌++◌, length, get_or, map, refl, ap, sym}
+use Rattle.std.proofs.Common.{subst, arith, Some, Option, Result, Ok, Err, sum_by, AllPairs}
 use Rattle.std.specs.Result.{IsOk}
 use Rattle.std.specs.List.{Contains}
 use Rattle.std.proofs.lemmas.List.{length-map, length-append}
@@ -50,15 +51,20 @@ pub append_right : {X : Type 0} (xs ys : List X) (x : X) → Contains ys x → C
 append_right [] ys x h = h
 append_right (z ∷ zs) ys x h = contains_later z x (zs ++ ys) (append_right zs ys x h)
 
-pub no_repeats_append : {X : Type 0} (xs ys : List X) → HasNoRepeats xs → HasNoRepeats ys → ((x : X) → Contains xs x → Contains ys x → ⊥) → HasNoRepeats (xs ++ ys)
+pub no_repeats_append : {X : Type 0} (xs ys : List X) → HasNoRepeats xs → HasNoRepeats ys → ((x : X) → Contains xs x → Contains ys x → ⊥)
+    → HasNoRepeats (xs ++ ys)
 no_repeats_append [] ys n m f = m
-no_repeats_append (x ∷ xs) ys n m f =
-    (λ h. elim (append_cases xs ys x h) [ inl a ↦ n.0 a | inr b ↦ f x (contains_first x xs) b ], no_repeats_append xs ys n.1 m (λ y a b. f y (contains_later x y xs a) b))
+no_repeats_append (x ∷ xs) ys n m f = (
+  λ h. elim (append_cases xs ys x h) [ inl a ↦ n.0 a | inr b ↦ f x (contains_first x xs) b ],
+  no_repeats_append xs ys n.1 m (λ y a b. f y (contains_later x y xs a) b),
+)
 
 pub no_repeats_from : {X : Type 0} (xs : List X) → AllPairs (λ x y. x ≢ y) xs → HasNoRepeats xs
 no_repeats_from [] all = tt
-no_repeats_from (x ∷ xs) all =
-    (λ h. all 0 (suc h.0) x (omega arith) (let l = h.1 in omega arith) (sym h.2), no_repeats_from xs (λ i j d a b. all (suc i) (suc j) d (omega arith) (omega arith)))
+no_repeats_from (x ∷ xs) all = (
+  λ h. all 0 (suc h.0) x (omega arith) (let l = h.1 in omega arith) (sym h.2),
+  no_repeats_from xs (λ i j d a b. all (suc i) (suc j) d (omega arith) (omega arith)),
+)
 
 no_repeats_ascending : (d : List Position) → AreAscending d → HasNoRepeats d
 no_repeats_ascending [] up = tt
@@ -85,12 +91,15 @@ pair_there : (i : ℕ) (ds : List (List Position)) (j : ℕ) (c : Position) → 
 pair_there i [] j c l h = absurd (omega arith)
 pair_there i (d ∷ ds) zero c l h =
     let e : i ≡ i + 0 = omega arith in
-    append_left (map (with_index i) d) (pairs_from (suc i) ds) (c, i + 0) (subst (λ (k : ℕ). Contains (map (with_index i) d) (c, k)) e (map_from (with_index i) d c h))
+    append_left (map (with_index i) d) (pairs_from (suc i) ds) (c, i + 0)
+    (subst (λ (k : ℕ). Contains (map (with_index i) d) (c, k)) e (map_from (with_index i) d c h))
 pair_there i (d ∷ ds) (suc j) c l h =
     let e : suc i + j ≡ i + suc j = omega arith in
-    append_right (map (with_index i) d) (pairs_from (suc i) ds) (c, i + suc j) (subst (λ (k : ℕ). Contains (pairs_from (suc i) ds) (c, k)) e (pair_there (suc i) ds j c (omega arith) h))
+    append_right (map (with_index i) d) (pairs_from (suc i) ds) (c, i + suc j)
+    (subst (λ (k : ℕ). Contains (pairs_from (suc i) ds) (c, k)) e (pair_there (suc i) ds j c (omega arith) h))
 
-pair_from : (i : ℕ) (ds : List (List Position)) (p : Position × ℕ) → Contains (pairs_from i ds) p → (j : ℕ) × (p.1 ≡ i + j) × (j < length ds) × Contains (get_or ds j []) p.0
+pair_from : (i : ℕ) (ds : List (List Position)) (p : Position × ℕ) → Contains (pairs_from i ds) p → (j : ℕ) × (p.1 ≡ i + j) × (j < length ds)
+    × Contains (get_or ds j []) p.0
 pair_from i [] p h = absurd (contains_none p h)
 pair_from i (d ∷ ds) p h =
     elim (append_cases (map (with_index i) d) (pairs_from (suc i) ds) p h) [
@@ -103,13 +112,17 @@ pair_from i (d ∷ ds) p h =
 no_repeats_pairs : (i : ℕ) (ds : List (List Position)) → ((j : ℕ) → j < length ds → AreAscending (get_or ds j [])) → HasNoRepeats (pairs_from i ds)
 no_repeats_pairs i [] up = tt
 no_repeats_pairs i (d ∷ ds) up =
-    no_repeats_append (map (with_index i) d) (pairs_from (suc i) ds) (no_repeats_map i d (no_repeats_ascending d (up 0 (omega arith)))) (no_repeats_pairs (suc i) ds (λ j l. up (suc j) (omega arith)))
-    (λ x a b. (let (c, l, e) = map_in (with_index i) d x a in let e1 : i ≡ x.1 = ap (λ (q : Position × ℕ). q.1) e in let (j, f, m, k) = pair_from (suc i) ds x b in absurd (omega arith)))
+    no_repeats_append (map (with_index i) d) (pairs_from (suc i) ds) (no_repeats_map i d (no_repeats_ascending d (up 0 (omega arith))))
+    (no_repeats_pairs (suc i) ds (λ j l. up (suc j) (omega arith)))
+    (λ x a b. (let (c, l, e) = map_in (with_index i) d x a in let e1 : i ≡ x.1 = ap (λ (q : Position × ℕ). q.1) e in
+    let (j, f, m, k) = pair_from (suc i) ds x b in absurd (omega arith)))
   where
     no_repeats_map : (i : ℕ) (d : List Position) → HasNoRepeats d → HasNoRepeats (map (with_index i) d)
     no_repeats_map i [] n = tt
-    no_repeats_map i (c ∷ cs) n =
-        (λ h. (let (x, l, e) = map_in (with_index i) cs (c, i) h in n.0 (subst (λ (y : Position). Contains cs y) (ap (λ (q : Position × ℕ). q.0) e) l)), no_repeats_map i cs n.1)
+    no_repeats_map i (c ∷ cs) n = (
+      λ h. (let (x, l, e) = map_in (with_index i) cs (c, i) h in n.0 (subst (λ (y : Position). Contains cs y) (ap (λ (q : Position × ℕ). q.0) e) l)),
+      no_repeats_map i cs n.1,
+    )
 
 -- later places
 later_place : (q ph : Phase) (k m n : ℕ) → m ≤ n → IsPlaceBefore q k ph m → IsPlaceBefore q k ph n
@@ -119,10 +132,16 @@ later_place Ties WinLose k m n l b = b
 later_place Ties Ties k m n l b = omega arith
 
 pub before_later : (r : Rules) (ph : Phase) (m n : ℕ) (c : Position) → m ≤ n → StandsBefore r ph m c → StandsBefore r ph n c
-before_later r ph m n c l s = record { own_phase = s.own_phase; own_level = s.own_level; stands = s.stands; before = later_place s.own_phase ph s.own_level m n l s.before }
+before_later r ph m n c l s = record {
+  own_phase = s.own_phase;
+  own_level = s.own_level;
+  stands = s.stands;
+  before = later_place s.own_phase ph s.own_level m n l s.before;
+}
 
 -- before the first level of ties stand exactly the wins and losses
-pub before_ties : (r : Rules) (tier n : ℕ) (c : Position) → IsLastLevel r tier WinLose n → IsNear r tier c → StandsBefore r Ties 0 c → StandsBefore r WinLose n c
+pub before_ties : (r : Rules) (tier n : ℕ) (c : Position) → IsLastLevel r tier WinLose n → IsNear r tier c → StandsBefore r Ties 0 c
+    → StandsBefore r WinLose n c
 before_ties r tier n c last near s = go s.own_phase s.own_level s.stands s.before
   where
     go : (q : Phase) (m : ℕ) → StandsAt r q m c → IsPlaceBefore q m Ties 0 → StandsBefore r WinLose n c
@@ -137,14 +156,16 @@ ties_after r m n c s = go s.own_phase s.own_level s.stands s.before
     go Ties k h b = absurd b
 
 -- before the next level that follows stands what stands at the present one or before
-to_here : (r : Rules) (tier : ℕ) (here : Place) (ph : Phase) (n : ℕ) (c : Position) → Follows r tier (Some here) ph n → IsNear r tier c → StandsBefore r ph n c → StandsBefore r here.phase (here.level + 1) c
+to_here : (r : Rules) (tier : ℕ) (here : Place) (ph : Phase) (n : ℕ) (c : Position) → Follows r tier (Some here) ph n → IsNear r tier c → StandsBefore r ph n c
+    → StandsBefore r here.phase (here.level + 1) c
 to_here r tier here ph n c (inl (p, l)) near s =
     subst (λ (k : ℕ). StandsBefore r here.phase k c) l (subst (λ (q : Phase). StandsBefore r q n c) (sym p) s)
 to_here r tier here ph n c (inr (p, l, w, last)) near s =
     subst (λ (q : Phase). StandsBefore r q (here.level + 1) c) (sym w)
     (before_ties r tier (here.level + 1) c last near (subst (λ (k : ℕ). StandsBefore r Ties k c) l (subst (λ (q : Phase). StandsBefore r q n c) p s)))
 
-from_here : (r : Rules) (tier : ℕ) (here : Place) (ph : Phase) (n : ℕ) (c : Position) → Follows r tier (Some here) ph n → StandsBefore r here.phase (here.level + 1) c → StandsBefore r ph n c
+from_here : (r : Rules) (tier : ℕ) (here : Place) (ph : Phase) (n : ℕ) (c : Position) → Follows r tier (Some here) ph n
+    → StandsBefore r here.phase (here.level + 1) c → StandsBefore r ph n c
 from_here r tier here ph n c (inl (p, l)) s =
     subst (λ (q : Phase). StandsBefore r q n c) p (subst (λ (k : ℕ). StandsBefore r here.phase k c) (sym l) s)
 from_here r tier here ph n c (inr (p, l, w, last)) s =
@@ -156,7 +177,8 @@ near_of_pair r g tier i c p = near_child r g tier (at tier i) c refl p.0.legal p
 -- a good shard, and a count for it that has the present level
 module _ {r : Rules} (g : IsGame r) {s : ShardState} (t : IsGood r s) {e : ExpectedData} (x : IsExpected r e) (f : IsFor e s) where
   follows : Follows r s.tier (Some (place_of s)) e.phase e.level
-  follows = subst (λ (u : ℕ). Follows r u (Some (place_of s)) e.phase e.level) f.tier (subst (λ (o : Option Place). Follows r e.tier o e.phase e.level) f.last x.next)
+  follows = subst (λ (u : ℕ). Follows r u (Some (place_of s)) e.phase e.level) f.tier
+      (subst (λ (o : Option Place). Follows r e.tier o e.phase e.level) f.last x.next)
 
   ours : List (Position × ℕ)
   ours = pairs_from s.lo s.delivered
@@ -168,7 +190,8 @@ module _ {r : Rules} (g : IsGame r) {s : ShardState} (t : IsGood r s) {e : Expec
   unfolding theirs
   all_is = x.number.1
 
-  exactly : (p : Position × ℕ) → (IsPairInto r e.tier e.lo e.hi p.0 p.1 × StandsBefore r e.phase e.level p.0 → Contains theirs p) × (Contains theirs p → IsPairInto r e.tier e.lo e.hi p.0 p.1 × StandsBefore r e.phase e.level p.0)
+  exactly : (p : Position × ℕ) → (IsPairInto r e.tier e.lo e.hi p.0 p.1 × StandsBefore r e.phase e.level p.0 → Contains theirs p)
+      × (Contains theirs p → IsPairInto r e.tier e.lo e.hi p.0 p.1 × StandsBefore r e.phase e.level p.0)
   unfolding theirs
   exactly p = ((x.number.2.each p).0, (x.number.2.each p).1)
 
@@ -182,7 +205,8 @@ module _ {r : Rules} (g : IsGame r) {s : ShardState} (t : IsGood r s) {e : Expec
 
   ours_once : HasNoRepeats ours
   unfolding ours
-  ours_once = no_repeats_pairs s.lo s.delivered (λ j l. subst (λ (k : ℕ). AreAscending (get_or s.delivered k [])) (let z : s.lo + j - s.lo ≡ j = omega arith in z) (t.once (s.lo + j) (omega arith, omega arith)))
+  ours_once = no_repeats_pairs s.lo s.delivered (λ j l. subst (λ (k : ℕ). AreAscending (get_or s.delivered k [])) (let z : s.lo + j - s.lo ≡ j = omega arith in
+      z) (t.once (s.lo + j) (omega arith, omega arith)))
 
   ours_in : (p : Position × ℕ) → Contains ours p → IsInRange s p.1 × Contains (delivered_to s p.1) p.0
   unfolding ours
@@ -243,7 +267,8 @@ module _ {r : Rules} (g : IsGame r) {s : ShardState} (t : IsGood r s) {e : Expec
       omega arith
 
 -- the next level
-pub kept_next : (r : Rules) (s : ShardState) (statuses : List Status) (left : List ℕ) (count : ℕ) → IsKept r s statuses left count → IsWhole r s → s.level ≤ REMOTENESS → IsKept r (next_level s) statuses left count
+pub kept_next : (r : Rules) (s : ShardState) (statuses : List Status) (left : List ℕ) (count : ℕ) → IsKept r s statuses left count → IsWhole r s
+    → s.level ≤ REMOTENESS → IsKept r (next_level s) statuses left count
 kept_next r s statuses left count t w l = record {
   shard = record {
     once = t.shard.once;
@@ -261,13 +286,16 @@ kept_next r s statuses left count t w l = record {
 }
 
 -- the first level of ties
-pub kept_ties : (r : Rules) → IsGame r → (s : ShardState) (statuses : List Status) (left : List ℕ) (count : ℕ) → IsKept r s statuses left count → (last : Place) → IsLastLevel r last.tier last.phase last.level → CanTurn s last
+pub kept_ties : (r : Rules) → IsGame r → (s : ShardState) (statuses : List Status) (left : List ℕ) (count : ℕ) → IsKept r s statuses left count
+    → (last : Place) → IsLastLevel r last.tier last.phase last.level → CanTurn s last
     → IsKept r (first_ties s) statuses left count
 kept_ties r g s statuses left count t last is turn = record {
   shard = record {
     once = t.shard.once;
-    pairs = λ (i : ℕ) (c : Position) m h. (let q = t.shard.pairs i c m h in (q.0, ties_after r (s.level + 1) (0 + 1) c (subst (λ (ph : Phase). StandsBefore r ph (s.level + 1) c) turn.phase q.1)));
-    whole = λ (i : ℕ) (c : Position) m p b. t.shard.whole i c m p (subst (λ (ph : Phase). StandsBefore r ph s.level c) (sym turn.phase) (before_ties r s.tier s.level c is_last (near_of_pair r g s.tier i c p) b));
+    pairs = λ (i : ℕ) (c : Position) m h. (let q = t.shard.pairs i c m h in
+        (q.0, ties_after r (s.level + 1) (0 + 1) c (subst (λ (ph : Phase). StandsBefore r ph (s.level + 1) c) turn.phase q.1)));
+    whole = λ (i : ℕ) (c : Position) m p b. t.shard.whole i c m p
+        (subst (λ (ph : Phase). StandsBefore r ph s.level c) (sym turn.phase) (before_ties r s.tier s.level c is_last (near_of_pair r g s.tier i c p) b));
     fits = omega arith;
     many = t.shard.many;
     known = t.shard.known;
@@ -283,20 +311,25 @@ kept_ties r g s statuses left count t last is turn = record {
     is_last = subst (λ (ph : Phase). IsLastLevel r s.tier ph s.level) turn.phase (subst (λ (p : Place). IsLastLevel r p.tier p.phase p.level) turn.stands is)
 
 -- the number of pairs is small
-pub few_there : (r : Rules) (s : ShardState) (statuses : List Status) (left : List ℕ) (count : ℕ) → IsKept r s statuses left count → pairs_in s ≤ MOVES * TIER_SIZE
+pub few_there : (r : Rules) (s : ShardState) (statuses : List Status) (left : List ℕ) (count : ℕ) → IsKept r s statuses left count
+    → pairs_in s ≤ MOVES * TIER_SIZE
 few_there r s statuses left count t =
-    let m = sum_small MOVES s.delivered (λ k l. subst (λ (j : ℕ). length (get_or s.delivered j []) ≤ MOVES) (let e : s.lo + k - s.lo ≡ k = omega arith in e) (t.short (s.lo + k) (omega arith, omega arith))) in
+    let m = sum_small MOVES s.delivered (λ k l. subst (λ (j : ℕ). length (get_or s.delivered j []) ≤ MOVES) (let e : s.lo + k - s.lo ≡ k = omega arith in e)
+    (t.short (s.lo + k) (omega arith, omega arith))) in
     let f = t.few in
     omega arith
 
 -- where as many pairs are there as the count says, a close is not short
-pub closes_reached : (r : Rules) (e : ExpectedData) (s t : ShardState) (answer : Result (Unit {0}) Short) → Closes r e s t answer → e.number ≤ pairs_in s → IsOk answer
+pub closes_reached : (r : Rules) (e : ExpectedData) (s t : ShardState) (answer : Result (Unit {0}) Short) → Closes r e s t answer
+    → e.number ≤ pairs_in s → IsOk answer
 closes_reached r e s t (Ok done) h l = refl
 closes_reached r e s t (Err short) h l = absurd (let a = h.2 in let b = h.3 in let c = h.4 in omega arith)
 
 -- where no child at the present place is there, the pairs are all those whose child stands before it
-module _ {r : Rules} {s : ShardState} (t : IsGood r s) (none : (i : ℕ) (c : Position) → IsInRange s i → Contains (delivered_to s i) c → StandsAt r s.phase s.level c → ⊥) where
-  before_has : (p : Position × ℕ) → IsPairInto r s.tier s.lo (s.lo + length s.delivered) p.0 p.1 × StandsBefore r s.phase s.level p.0 → Contains (pairs_from s.lo s.delivered) p
+module _ {r : Rules} {s : ShardState} (t : IsGood r s) (none : (i : ℕ) (c : Position) → IsInRange s i → Contains (delivered_to s i) c
+    → StandsAt r s.phase s.level c → ⊥) where
+  before_has : (p : Position × ℕ) → IsPairInto r s.tier s.lo (s.lo + length s.delivered) p.0 p.1 × StandsBefore r s.phase s.level p.0
+      → Contains (pairs_from s.lo s.delivered) p
   before_has p k =
       let low = k.0.low in
       let high = k.0.high in
@@ -304,7 +337,8 @@ module _ {r : Rules} {s : ShardState} (t : IsGood r s) (none : (i : ℕ) (c : Po
       let here = t.whole p.1 p.0 (low, high) k.0.is_parent k.1 in
       subst (λ (i : ℕ). Contains (pairs_from s.lo s.delivered) (p.0, i)) z (pair_there s.lo s.delivered (p.1 - s.lo) p.0 (omega arith) here)
 
-  before_is : (p : Position × ℕ) → Contains (pairs_from s.lo s.delivered) p → IsPairInto r s.tier s.lo (s.lo + length s.delivered) p.0 p.1 × StandsBefore r s.phase s.level p.0
+  before_is : (p : Position × ℕ) → Contains (pairs_from s.lo s.delivered) p → IsPairInto r s.tier s.lo (s.lo + length s.delivered) p.0 p.1
+      × StandsBefore r s.phase s.level p.0
   before_is p h =
       let (j, k, l, q) = pair_from s.lo s.delivered p h in
       let z : j ≡ p.1 - s.lo = omega arith in
@@ -322,20 +356,24 @@ module _ {r : Rules} {s : ShardState} (t : IsGood r s) (none : (i : ℕ) (c : Po
     record {
       each = λ (p : Position × ℕ). (before_has p, before_is p);
       once = no_repeats_to (pairs_from s.lo s.delivered)
-          (no_repeats_pairs s.lo s.delivered (λ j l. subst (λ (k : ℕ). AreAscending (get_or s.delivered k [])) (let z : s.lo + j - s.lo ≡ j = omega arith in z) (t.once (s.lo + j) (omega arith, omega arith))));
+          (no_repeats_pairs s.lo s.delivered (λ j l. subst (λ (k : ℕ). AreAscending (get_or s.delivered k [])) (let z : s.lo + j - s.lo ≡ j = omega arith in z)
+          (t.once (s.lo + j) (omega arith, omega arith))));
     },
   )
 
 -- what a close answers
-pub out_short : (r : Rules) → IsGame r → (s : ShardState) (statuses : List Status) (left : List ℕ) (count : ℕ) → IsKept r s statuses left count → (e : ExpectedData) → IsExpected r e
+pub out_short : (r : Rules) → IsGame r → (s : ShardState) (statuses : List Status) (left : List ℕ) (count : ℕ) → IsKept r s statuses left count
+    → (e : ExpectedData) → IsExpected r e
     → (u : ShardState) → s ≡ u → IsFor e u → (n : ℕ) → n ≡ e.number → count < n → Closes r e u u (Err (record { delivered = count; expected = n }))
 out_short r g s statuses left count t e x u same f n is l =
     subst (λ (u : ShardState). IsFor e u → Closes r e u u (Err (record { delivered = count; expected = n }))) same
     (λ f. (refl, not_whole g (good_from g t.shard) x f (let k = t.number in omega arith), t.number, is, l)) f
 
-pub whole_there : (r : Rules) → IsGame r → (s : ShardState) (statuses : List Status) (left : List ℕ) (count : ℕ) → IsKept r s statuses left count → (e : ExpectedData) → IsExpected r e
+pub whole_there : (r : Rules) → IsGame r → (s : ShardState) (statuses : List Status) (left : List ℕ) (count : ℕ) → IsKept r s statuses left count
+    → (e : ExpectedData) → IsExpected r e
     → (u : ShardState) → s ≡ u → IsFor e u → e.number ≤ count → IsWhole r s
-whole_there r g s statuses left count t e x u same f l = whole_from g (good_from g t.shard) x (subst (λ (u : ShardState). IsFor e u) (sym same) f) (let k = t.number in omega arith)
+whole_there r g s statuses left count t e x u same f l = whole_from g (good_from g t.shard) x (subst (λ (u : ShardState). IsFor e u) (sym same) f)
+    (let k = t.number in omega arith)
 
 pub out_closed : (r : Rules) (e : ExpectedData) (s u v : ShardState) → s ≡ u → v ≡ next_level s → IsWhole r s → Closes r e u v (Ok tt)
 out_closed r e s u v same is w = subst (λ (u : ShardState). Closes r e u v (Ok tt)) same (is, w)

@@ -1,6 +1,7 @@
 pub mod MaskList
 pub mod StatusLemmas
 pub mod StepLemmas
+pub mod SeenLemmas
 pub mod BeginLemmas
 pub mod GoodLemmas
 pub mod CloseLemmas

@@ -21,7 +21,8 @@ length-masks r tier i [] = refl
 length-masks r tier i (m ∷ ms) = let e = length-masks r tier (suc i) ms in omega arith
 
 -- one of them
-pub masks_at : (r : Rules) (tier i : ℕ) (ms : List ℕ) (k : ℕ) → k < length ms → get_or (children_of_masks r tier i ms) k [] ≡ picked (canonical_children_of r (at tier (i + k))) (get_or ms k 0)
+pub masks_at : (r : Rules) (tier i : ℕ) (ms : List ℕ) (k : ℕ) → k < length ms
+    → get_or (children_of_masks r tier i ms) k [] ≡ picked (canonical_children_of r (at tier (i + k))) (get_or ms k 0)
 masks_at r tier i [] k l = absurd (omega arith)
 masks_at r tier i (m ∷ ms) zero l = let e : i ≡ i + 0 = omega arith in ap (λ (j : ℕ). picked (canonical_children_of r (at tier j)) m) e
 masks_at r tier i (m ∷ ms) (suc k) l =
@@ -29,19 +30,23 @@ masks_at r tier i (m ∷ ms) (suc k) l =
     masks_at r tier (suc i) ms k (omega arith) ∙ ap (λ (j : ℕ). picked (canonical_children_of r (at tier j)) (get_or ms k 0)) e
 
 -- one of them changed
-pub masks_set : (r : Rules) (tier i : ℕ) (ms : List ℕ) (k m : ℕ) → k < length ms → children_of_masks r tier i (set ms k m) ≡ set (children_of_masks r tier i ms) k (picked (canonical_children_of r (at tier (i + k))) m)
+pub masks_set : (r : Rules) (tier i : ℕ) (ms : List ℕ) (k m : ℕ) → k < length ms
+    → children_of_masks r tier i (set ms k m) ≡ set (children_of_masks r tier i ms) k (picked (canonical_children_of r (at tier (i + k))) m)
 masks_set r tier i [] k m l = absurd (omega arith)
-masks_set r tier i (n ∷ ms) zero m l = let e : i ≡ i + 0 = omega arith in ap (λ (j : ℕ). picked (canonical_children_of r (at tier j)) m ∷ children_of_masks r tier (suc i) ms) e
+masks_set r tier i (n ∷ ms) zero m l = let e : i ≡ i + 0 = omega arith in
+    ap (λ (j : ℕ). picked (canonical_children_of r (at tier j)) m ∷ children_of_masks r tier (suc i) ms) e
 masks_set r tier i (n ∷ ms) (suc k) m l =
     let e : suc i + k ≡ i + suc k = omega arith in
     ap (λ (ds : List (List Position)). picked (canonical_children_of r (at tier i)) n ∷ ds)
-    (masks_set r tier (suc i) ms k m (omega arith) ∙ ap (λ (j : ℕ). set (children_of_masks r tier (suc i) ms) k (picked (canonical_children_of r (at tier j)) m)) e)
+    (masks_set r tier (suc i) ms k m (omega arith)
+    ∙ ap (λ (j : ℕ). set (children_of_masks r tier (suc i) ms) k (picked (canonical_children_of r (at tier j)) m)) e)
 
 -- no bit is set
 pub masks_none : (r : Rules) (tier i n : ℕ) → children_of_masks r tier i (replicate n 0) ≡ replicate {A = List Position} n []
 masks_none r tier i zero = refl
 masks_none r tier i (suc n) =
-    ap (λ (d : List Position). d ∷ children_of_masks r tier (suc i) (replicate n 0)) (picked_none 0 (canonical_children_of r (at tier i))) ∙ ap (λ (ds : List (List Position)). [] ∷ ds) (masks_none r tier (suc i) n)
+    ap (λ (d : List Position). d ∷ children_of_masks r tier (suc i) (replicate n 0)) (picked_none 0 (canonical_children_of r (at tier i)))
+    ∙ ap (λ (ds : List (List Position)). [] ∷ ds) (masks_none r tier (suc i) n)
 
 -- a mask of w bits picks no more than w positions
 pub picked_few : (w k : ℕ) (cs : List Position) (m : ℕ) → m < 2 ^ w → k ≤ w → length (picked_from k cs m) + k ≤ w
@@ -49,7 +54,8 @@ picked_few w k [] m f l = omega arith
 picked_few w k (c ∷ cs) m f l =
     ⊎_elim
     (λ (e : bit_at m k ≡ 1). ⊎_elim
-    (λ (lt : k < w). let rec = picked_few w (suc k) cs m f (omega arith) in let h = ap (λ (xs : List Position). length xs) (picked_in k c cs m e) in omega arith)
+    (λ (lt : k < w). let rec = picked_few w (suc k) cs m f (omega arith) in
+    let h = ap (λ (xs : List Position). length xs) (picked_in k c cs m e) in omega arith)
     (λ (ge : w ≤ k). absurd (let z = bit_at_above m w k f ge in omega arith))
     (cases_lt k w))
     (λ (ne : bit_at m k ≢ 1). let h = ap (λ (xs : List Position). length xs) (picked_out k c cs m ne) in
@@ -61,7 +67,8 @@ picked_few w k (c ∷ cs) m f l =
   where
     past : (w k : ℕ) (cs : List Position) (m : ℕ) → m < 2 ^ w → w ≤ k → length (picked_from k cs m) ≡ 0
     past w k [] m f l = refl
-    past w k (c ∷ cs) m f l = ap (λ (xs : List Position). length xs) (picked_out k c cs m (λ e. let z = bit_at_above m w k f l in omega arith)) ∙ past w (suc k) cs m f (omega arith)
+    past w k (c ∷ cs) m f l = ap (λ (xs : List Position). length xs) (picked_out k c cs m (λ e. let z = bit_at_above m w k f l in omega arith))
+        ∙ past w (suc k) cs m f (omega arith)
 
 -- short lists make a small sum
 pub sum_small : (n : ℕ) (ds : List (List Position)) → ((k : ℕ) → k < length ds → length (get_or ds k []) ≤ n) → sum_by length ds ≤ n * length ds

@@ -31,14 +31,16 @@ pub settled_decided : (r : Rules) (p : Position) (d : List Position) (x : Solved
 settled_decided r p d x (inl e) z = end_decided e.ended (sym (ap (λ (y : Solved). y.value) e.value) ∙ z)
 settled_decided r p d x (inr q) z = subst (λ (v : Value). IsSettled r p (In d) v x.remoteness) z q.1
 
-pub note_of : (r : Rules) → IsGame r → (s : ShardState) (statuses : List Status) → IsShard r s statuses → (i : ℕ) → IsInRange s i → (x : Solved) → StatusIs r s i (Settled x) → IsNote r (at s.tier i) x
+pub note_of : (r : Rules) → IsGame r → (s : ShardState) (statuses : List Status) → IsShard r s statuses → (i : ℕ) → IsInRange s i → (x : Solved)
+    → StatusIs r s i (Settled x) → IsNote r (at s.tier i) x
 note_of r g s statuses t i m x h = record {
   canonical = settled_canonical r (at s.tier i) (delivered_to s i) x h;
   value = settled_truth g t i x m h;
   decided = settled_decided r (at s.tier i) (delivered_to s i) x h;
 }
 
-pub none_of : (r : Rules) (p : Position) (d : List Position) (old : Status) → HasStatus r p d old → ((y : Solved) → old ≢ Settled y) → (x : Solved) → HasStatus r p d (Settled x) → ⊥
+pub none_of : (r : Rules) (p : Position) (d : List Position) (old : Status) → HasStatus r p d old → ((y : Solved) → old ≢ Settled y) → (x : Solved)
+    → HasStatus r p d (Settled x) → ⊥
 none_of r p d Hole h ne x s = h (settled_canonical r p d x s)
 none_of r p d Undecided h ne x (inl e) = let z : None ≡ Some e.ended = sym h.0.unended ∙ e.primitive in cc
 none_of r p d Undecided h ne x (inr q) = h.1 x.value x.remoteness q.1

@@ -17,7 +17,8 @@ pub in_numbers : (numbers : List ℕ) (statuses : List Status) (n k : ℕ) → m
 in_numbers numbers statuses n k same many within = let e = length-map numbers status_of in let l = ap (λ (xs : List Status). length xs) same in omega arith
 
 -- the status of the number at a place
-pub number_read : (numbers : List ℕ) (statuses : List Status) (k number : ℕ) (x : Status) → map status_of numbers ≡ statuses → k < length statuses → number ≡ get_or numbers k number → x ≡ status_of number
+pub number_read : (numbers : List ℕ) (statuses : List Status) (k number : ℕ) (x : Status) → map status_of numbers ≡ statuses → k < length statuses
+    → number ≡ get_or numbers k number → x ≡ status_of number
     → slice_get statuses k ≡ Some x
 number_read numbers statuses k number x same within read is = subst (λ (xs : List Status). k < length xs → slice_get xs k ≡ Some x) same here within
   where

@@ -1,5 +1,6 @@
 -- A range to which no pair is delivered twice.
-use Rattle.std.proofs.Common.{◌≡◌, ◌≢◌, ℕ, ◌+◌, ◌-◌, ◌*◌, ◌^◌, ◌<◌, ◌≤◌, true, false, List, [], ◌∷◌, ◌++◌, length, get_or, map, refl, ap, sym, subst, ◌∙◌, arith, Some, get_or-set_same, get_or-set_other, length-set, true≢false, ◌==◌, replicate}
+use Rattle.std.proofs.Common.{◌≡◌, ◌≢◌, ℕ, ◌+◌, ◌-◌, ◌*◌, ◌^◌, ◌<◌, ◌≤◌, true, false, List, [], ◌∷◌, ◌++◌, length, get_or, map, refl, ap, sym, subst, ◌∙◌}
+use Rattle.std.proofs.Common.{arith, Some, get_or-set_same, get_or-set_other, length-set, true≢false, ◌==◌, replicate}
 use Rattle.std.specs.List.{Contains, slice_get}
 use Rattle.std.proofs.Math.ListN.{set}
 use Rattle.std.proofs.lemmas.List.{length-map}
@@ -28,7 +29,8 @@ use Rattle.gm_deliveries.proofs.BeginLemmas.{first_kept}
 use Rattle.gm_deliveries.proofs.CloseLemmas.{few_there}
 use Rattle.gm_deliveries.proofs.StepLemmas.{NewPair, Step, within_after, same_test, fewer, long, same_here, cases_at, range_is, shard_after}
 
-all_more : (lo : ℕ) (ds : List (List Position)) (xs : List (Position × ℕ)) (p : Position × ℕ) → with_all lo ds (xs ++ p ∷ []) ≡ with_one lo (with_all lo ds xs) p
+all_more : (lo : ℕ) (ds : List (List Position)) (xs : List (Position × ℕ)) (p : Position × ℕ)
+    → with_all lo ds (xs ++ p ∷ []) ≡ with_one lo (with_all lo ds xs) p
 all_more lo ds [] p = refl
 all_more lo ds (x ∷ xs) p = all_more lo (with_one lo ds x) xs p
 
@@ -37,10 +39,12 @@ pub state_more : (tier lo : ℕ) (phase : Phase) (level n : ℕ) (xs ys : List (
     → state_by tier lo phase level n ys ≡ with_pair (state_by tier lo phase level n xs) c parent
 state_more tier lo phase level n xs ys c parent e =
     ap (λ (ps : List (Position × ℕ)). state_by tier lo phase level n ps) e
-    ∙ ap (λ (ds : List (List Position)). let s : ShardState = record { tier = tier; lo = lo; phase = phase; level = level; delivered = ds } in s) (all_more lo (replicate n []) xs (c, parent))
+    ∙ ap (λ (ds : List (List Position)). let s : ShardState = record { tier = tier; lo = lo; phase = phase; level = level; delivered = ds } in s)
+    (all_more lo (replicate n []) xs (c, parent))
 
 -- the same as a shard's fields show it
-pub shown_more : (tier lo : ℕ) (phase : Phase) (level n m : ℕ) (xs ys : List (Position × ℕ)) (c d : Position) (parent : ℕ) (s : ShardState) → state_by tier lo phase level n xs ≡ s → n ≡ m → d ≡ c → ys ≡ xs ++ (d, parent) ∷ []
+pub shown_more : (tier lo : ℕ) (phase : Phase) (level n m : ℕ) (xs ys : List (Position × ℕ)) (c d : Position) (parent : ℕ) (s : ShardState)
+    → state_by tier lo phase level n xs ≡ s → n ≡ m → d ≡ c → ys ≡ xs ++ (d, parent) ∷ []
     → state_by tier lo phase level m ys ≡ with_pair s c parent
 shown_more tier lo phase level n m xs ys c d parent s is same position e =
     ap (λ (k : ℕ). state_by tier lo phase level k ys) (sym same)
@@ -48,14 +52,16 @@ shown_more tier lo phase level n m xs ys c d parent s is same position e =
     ∙ ap (λ (u : ShardState). with_pair u c parent) is
 
 -- the state with no pair
-pub first_by : (tier lo : ℕ) (starts : List Start) (ls : List ℕ) (items : List (Position × ℕ)) → ls ≡ map first_left starts → items ≡ [] → state_by tier lo WinLose 0 (length ls) items ≡ first_state tier lo (length starts)
+pub first_by : (tier lo : ℕ) (starts : List Start) (ls : List ℕ) (items : List (Position × ℕ)) → ls ≡ map first_left starts → items ≡ []
+    → state_by tier lo WinLose 0 (length ls) items ≡ first_state tier lo (length starts)
 first_by tier lo starts ls items l e =
     ap (λ (ps : List (Position × ℕ)). state_by tier lo WinLose 0 (length ls) ps) e
     ∙ ap (λ (n : ℕ). first_state tier lo n) (ap (λ (xs : List ℕ). length xs) l ∙ length-map starts first_left)
 
 -- what the fields keep at the start
 pub first_fields : (r : Rules) (tier lo : ℕ) (starts : List Start) → AreStarts r tier lo starts → lo + length starts ≤ TIER_SIZE
-    → (ls : List ℕ) (ss : List Status) (items : List (Position × ℕ)) → ls ≡ map first_left starts → ss ≡ map first_status starts → items ≡ [] → IsKept r (state_by tier lo WinLose 0 (length ls) items) ss ls 0
+    → (ls : List ℕ) (ss : List Status) (items : List (Position × ℕ)) → ls ≡ map first_left starts → ss ≡ map first_status starts → items ≡ []
+    → IsKept r (state_by tier lo WinLose 0 (length ls) items) ss ls 0
 first_fields r tier lo starts are few ls ss items l s e =
     subst (λ (t : ShardState). IsKept r t ss ls 0) (sym (first_by tier lo starts ls items l e))
     (subst (λ (xs : List Status). IsKept r (first_state tier lo (length starts)) xs ls 0) (sym s)
@@ -63,7 +69,8 @@ first_fields r tier lo starts are few ls ss items l s e =
     (first_kept r tier lo starts are few)))
 
 -- what a delivery has found, where the pair is new
-pub step_new : {r : Rules} {u s : ShardState} {statuses : List Status} {left : List ℕ} {count : ℕ} {note : NoteData} {parent : ℕ} {old : Status} (l : ℕ) → IsKept r u statuses left count → u ≡ s → IsNote r note.position note.solved
+pub step_new : {r : Rules} {u s : ShardState} {statuses : List Status} {left : List ℕ} {count : ℕ} {note : NoteData} {parent : ℕ} {old : Status} (l : ℕ)
+    → IsKept r u statuses left count → u ≡ s → IsNote r note.position note.solved
     → IsPairHere r s note parent → (Contains (delivered_to s parent) note.position → ⊥) → StatusIs r s parent old → IsCounter r s parent l
     → Step r s statuses note parent old (l == 1)
 step_new {r} {u} {s} {statuses} {left} {count} {note} {parent} {old} l kept e is_note here new before counter = record {
@@ -75,7 +82,8 @@ step_new {r} {u} {s} {statuses} {left} {count} {note} {parent} {old} l kept e is
   last_is = same_test l (length (delivered_to s parent)) (length (canonical_children_of r (at s.tier parent))) (counter.inner here.is_parent.0);
 }
 
-module _ {r : Rules} {s : ShardState} {statuses : List Status} {left : List ℕ} {count : ℕ} {c : Position} {parent : ℕ} (g : IsGame r) (kept : IsKept r s statuses left count) (can : CanDeliver r s c parent) where
+module _ {r : Rules} {s : ShardState} {statuses : List Status} {left : List ℕ} {count : ℕ} {c : Position} {parent : ℕ} (g : IsGame r)
+    (kept : IsKept r s statuses left count) (can : CanDeliver r s c parent) where
   fresh_pair : NewPair r s c parent
   fresh_pair = record { stands = can.stands; is_mine = can.is_mine; is_parent = can.is_parent; new = can.new }
 
@@ -112,11 +120,13 @@ module _ {r : Rules} {s : ShardState} {statuses : List Status} {left : List ℕ}
   kept_more next after l is near = record {
     shard = shard_after kept.shard fresh_pair next after near;
     as_many = length-set left (parent - s.lo) (l - 1) ∙ kept.as_many ∙ sym (length-set s.delivered (parent - s.lo) (with_position c (delivered_to s parent)));
-    counted = λ (i n : ℕ) (m : IsInRange (with_pair s c parent) i) (got : slice_get (set left (parent - s.lo) (l - 1)) (i - s.lo) ≡ Some n). counted i n (range_is kept.shard fresh_pair i m) got;
+    counted = λ (i n : ℕ) (m : IsInRange (with_pair s c parent) i) (got : slice_get (set left (parent - s.lo) (l - 1)) (i - s.lo) ≡ Some n). counted i n
+        (range_is kept.shard fresh_pair i m) got;
     number = (let t = sum_by-set (length {A = Position}) s.delivered (parent - s.lo) (with_position c (delivered_to s parent)) [] high in
         let g = long kept.shard fresh_pair in let n = kept.number in omega arith);
     short = λ (i : ℕ) (m : IsInRange (with_pair s c parent) i).
-        cases_at kept.shard fresh_pair (λ d. length d ≤ MOVES) i (range_is kept.shard fresh_pair i m) (λ _. small) (λ _. kept.short i (range_is kept.shard fresh_pair i m));
+        cases_at kept.shard fresh_pair (λ d. length d ≤ MOVES) i (range_is kept.shard fresh_pair i m) (λ _. small)
+        (λ _. kept.short i (range_is kept.shard fresh_pair i m));
     few = (let e = length-set s.delivered (parent - s.lo) (with_position c (delivered_to s parent)) in let f = kept.few in omega arith);
   }
     where
@@ -125,7 +135,8 @@ module _ {r : Rules} {s : ShardState} {statuses : List Status} {left : List ℕ}
           elim (i == parent) as (λ b. (i == parent) ≡ b → IsCounter r (with_pair s c parent) i n) [
             | true ↦ λ e. let same : i ≡ parent = (Decides-eqb i parent).0 e in
                 let w : parent - s.lo < length left = place_left in
-                let read : get_or (set left (parent - s.lo) (l - 1)) (i - s.lo) 0 ≡ n = get_or_from_slice_get (set left (parent - s.lo) (l - 1)) (i - s.lo) n 0 got in
+                let read : get_or (set left (parent - s.lo) (l - 1)) (i - s.lo) 0 ≡ n =
+                get_or_from_slice_get (set left (parent - s.lo) (l - 1)) (i - s.lo) n 0 got in
                 let put : get_or (set left (parent - s.lo) (l - 1)) (parent - s.lo) 0 ≡ l - 1 = get_or-set_same left (parent - s.lo) (l - 1) 0 w in
                 let n_is : l - 1 ≡ n = sym put ∙ ap (λ (j : ℕ). get_or (set left (parent - s.lo) (l - 1)) (j - s.lo) 0) (sym same) ∙ read in
                 let one : 1 ≤ l = can_fall l is in
@@ -141,27 +152,34 @@ module _ {r : Rules} {s : ShardState} {statuses : List Status} {left : List ℕ}
                 let ml = m.0 in
                 let far : (i - s.lo) ≢ (parent - s.lo) = λ h. ne (omega arith) in
                 let w : i - s.lo < length left = (let q = kept.as_many in let a = m.1 in omega arith) in
-                let read : get_or (set left (parent - s.lo) (l - 1)) (i - s.lo) 0 ≡ n = get_or_from_slice_get (set left (parent - s.lo) (l - 1)) (i - s.lo) n 0 got in
-                let other' : get_or (set left (parent - s.lo) (l - 1)) (i - s.lo) 0 ≡ get_or left (i - s.lo) 0 = get_or-set_other left (parent - s.lo) (i - s.lo) (l - 1) 0 far in
+                let read : get_or (set left (parent - s.lo) (l - 1)) (i - s.lo) 0 ≡ n =
+                get_or_from_slice_get (set left (parent - s.lo) (l - 1)) (i - s.lo) n 0 got in
+                let other' : get_or (set left (parent - s.lo) (l - 1)) (i - s.lo) 0 ≡ get_or left (i - s.lo) 0 =
+                get_or-set_other left (parent - s.lo) (i - s.lo) (l - 1) 0 far in
                 let was' : slice_get left (i - s.lo) ≡ Some n = slice_get-get_or left (i - s.lo) 0 w ∙ ap (λ (y : ℕ). Some y) (sym other' ∙ read) in
                 let kept' = kept.counted i n m was' in
                 record {
-                  inner = λ x. cases_at kept.shard fresh_pair (λ d. n + length d ≡ length (canonical_children_of r (at s.tier i))) i m (λ same. absurd (ne same)) (λ _. kept'.inner x);
+                  inner = λ x. cases_at kept.shard fresh_pair (λ d. n + length d ≡ length (canonical_children_of r (at s.tier i))) i m
+                      (λ same. absurd (ne same)) (λ _. kept'.inner x);
                   other = kept'.other;
                 }
           ] refl
 
 -- what the fields keep after the pair is added, where the state is what the fields show
-pub kept_seen : {r : Rules} {statuses : List Status} {left : List ℕ} {count : ℕ} → IsGame r → (tier lo : ℕ) (phase : Phase) (level : ℕ) (xs ys : List (Position × ℕ)) (c d : Position) (parent : ℕ) (s : ShardState)
+pub kept_seen : {r : Rules} {statuses : List Status} {left : List ℕ} {count : ℕ} → IsGame r
+    → (tier lo : ℕ) (phase : Phase) (level : ℕ) (xs ys : List (Position × ℕ)) (c d : Position) (parent : ℕ) (s : ShardState)
     → state_by tier lo phase level (length left) xs ≡ s → IsKept r (state_by tier lo phase level (length left) xs) statuses left count → CanDeliver r s c parent
-    → (next : Status) → StatusIs r (with_pair s c parent) parent next → (l : ℕ) → l ≡ get_or left (parent - lo) l → (put : List Status) → put ≡ set statuses (parent - lo) next → d ≡ c → ys ≡ xs ++ (d, parent) ∷ []
+    → (next : Status) → StatusIs r (with_pair s c parent) parent next → (l : ℕ) → l ≡ get_or left (parent - lo) l → (put : List Status)
+    → put ≡ set statuses (parent - lo) next → d ≡ c → ys ≡ xs ++ (d, parent) ∷ []
     → IsKept r (state_by tier lo phase level (length (set left (parent - lo) (l - 1))) ys) put (set left (parent - lo) (l - 1)) (count + 1)
 kept_seen {r} {statuses} {left} {count} g tier lo phase level xs ys c d parent s is kept can next after l read put put_is position e =
     let n = length left in
     let more : state_by tier lo phase level (length (set left (parent - lo) (l - 1))) ys ≡ with_pair (state_by tier lo phase level n xs) c parent =
-    shown_more tier lo phase level n (length (set left (parent - lo) (l - 1))) xs ys c d parent (state_by tier lo phase level n xs) refl (sym (length-set left (parent - lo) (l - 1))) position e in
+    shown_more tier lo phase level n (length (set left (parent - lo) (l - 1))) xs ys c d parent (state_by tier lo phase level n xs) refl
+    (sym (length-set left (parent - lo) (l - 1))) position e in
     let can' = subst (λ (u : ShardState). CanDeliver r u c parent) (sym is) can in
     let after' = subst (λ (u : ShardState). StatusIs r (with_pair u c parent) parent next) (sym is) after in
-    subst (λ (xs' : List Status). IsKept r (state_by tier lo phase level (length (set left (parent - lo) (l - 1))) ys) xs' (set left (parent - lo) (l - 1)) (count + 1)) (sym put_is)
+    subst (λ (xs' : List Status). IsKept r (state_by tier lo phase level (length (set left (parent - lo) (l - 1))) ys) xs' (set left (parent - lo) (l - 1))
+    (count + 1)) (sym put_is)
     (subst (λ (u : ShardState). IsKept r u (set statuses (parent - lo) next) (set left (parent - lo) (l - 1)) (count + 1)) (sym more)
     (kept_more g kept can' next after' l read (within_after r (state_by tier lo phase level n xs) c parent next can' after')))

@@ -21,7 +21,8 @@ use Rattle.gm_deliveries.specs.Good.{IsShard}
 use Rattle.gm_deliveries.specs.Delivery.{next_status}
 
 -- the same positions settle the same
-pub settled_same : (r : Rules) (p : Position) (I J : Position → Type 0) → ((y : Position) → I y → J y) → ((y : Position) → J y → I y) → (v : Value) (n : ℕ) → IsSettled r p I v n → IsSettled r p J v n
+pub settled_same : (r : Rules) (p : Position) (I J : Position → Type 0) → ((y : Position) → I y → J y) → ((y : Position) → J y → I y) → (v : Value) (n : ℕ)
+    → IsSettled r p I v n → IsSettled r p J v n
 settled_same r p I J to from Win n (m, e, x) = let (c, i, h) = x.one in (m, e, record { one = (c, to c i, h); least = λ y k j. x.least y k (from y j) })
 settled_same r p I J to from Lose n (m, e, all, x) =
     let (c, i, h) = x.longest in (m, e, λ y k. to y (all y k), record { each = λ y j. x.each y (from y j); longest = (c, to c i, h) })
@@ -29,7 +30,8 @@ settled_same r p I J to from Tie n (m, e, none, x) =
     let (c, i, h) = x.one in (m, e, λ y k j. none y k (from y j), record { one = (c, to c i, h); least = λ y k j. x.least y k (from y j) })
 settled_same r p I J to from Draw n x = x
 
-pub undecided_same : (r : Rules) (p : Position) (I J : Position → Type 0) → ((y : Position) → I y → J y) → ((y : Position) → J y → I y) → IsUndecided r p I → IsUndecided r p J
+pub undecided_same : (r : Rules) (p : Position) (I J : Position → Type 0) → ((y : Position) → I y → J y) → ((y : Position) → J y → I y)
+    → IsUndecided r p I → IsUndecided r p J
 undecided_same r p I J to from u v n x = u v n (settled_same r p J I from to v n x)
 
 -- the children and one more, as a list and as a kind
@@ -69,9 +71,14 @@ pub after_any : (r : Rules) (p c : Position) (d : List Position) (v : Value) (ph
     → HasStatus r p d old → HasStatus r p (with_position c d) (next_status old (solved v n) last)
 after_any r p c d v phase n last Hole h inner k s w some all more x = absurd (x (inner.legal, inner.canonical))
 after_any r p c d v phase n last Undecided h inner k s w some all more x = after_undecided r p c d v phase n last h inner k s w some all more x.1
-after_any r p c d v phase n last (Settled y) h inner k s w some all more (inl e) = let none : None ≡ Some e.ended = sym inner.unended ∙ e.primitive in absurd (cc)
+after_any r p c d v phase n last (Settled y) h inner k s w some all more (inl e) = let none : None ≡ Some e.ended =
+    sym inner.unended ∙ e.primitive in absurd (cc)
 after_any r p c d v phase n last (Settled y) h inner k s w some all more (inr x) =
-    inr (x.0, settled_same r p (And (In d) c) (In (with_position c d)) (and_with c d) (with_and c d) y.value y.remoteness (settled_stays r p phase n (In d) h c k s y.value y.remoteness x.1))
+    inr (
+      x.0,
+      settled_same r p (And (In d) c) (In (with_position c d)) (and_with c d) (with_and c d) y.value y.remoteness
+          (settled_stays r p phase n (In d) h c k s y.value y.remoteness x.1),
+    )
 
 -- the children delivered to an inner position of a shard, at its place
 pub reached_at : (r : Rules) (s : ShardState) (statuses : List Status) → IsShard r s statuses → (i : ℕ) → IsInRange s i → IsInner r (at s.tier i)

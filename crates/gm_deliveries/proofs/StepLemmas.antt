@@ -1,14 +1,12 @@
 -- One delivery of a new pair.
-use Rattle.std.proofs.Common.{◌≡◌, ◌≢◌, ℕ, ◌+◌, ◌-◌, ◌^◌, ◌<◌, ◌≤◌, ◌⊎◌, ◌↔◌, inl, inr, ⊎_elim, Bool, true, false, List, [], length, get_or, map, refl, ap, sym, subst, ◌∙◌, arith, Some, Ok, Err, get_or-set_same, get_or-set_other, length-set, true≢false, ◌==◌}
+use Rattle.std.proofs.Common.{◌≡◌, ◌≢◌, ℕ, ◌+◌, ◌-◌, ◌^◌, ◌<◌, ◌≤◌, ◌⊎◌, inl, inr, ⊎_elim, Bool, true, false, List, [], length, get_or, map, refl, ap, sym}
+use Rattle.std.proofs.Common.{subst, ◌∙◌, arith, Some, Ok, get_or-set_same, get_or-set_other, length-set, true≢false, ◌==◌}
 use Rattle.std.specs.List.{Contains, slice_get}
 use Rattle.std.proofs.Math.ListN.{set}
-use Rattle.std.proofs.lemmas.List.{get_or_read}
-use Rattle.std.proofs.lemmas.List.Sums.{sum_by-set}
 use Rattle.std.proofs.lemmas.Bool.{false_from_ne_true}
-use Rattle.std.specs.Int.{bit_at}
-use Rattle.std.proofs.lemmas.Option.{slice_get-get_or, get_or_from_slice_get, slice_get_read}
+use Rattle.std.proofs.lemmas.Option.{slice_get-get_or, get_or_from_slice_get}
 use Rattle.std.proofs.lemmas.Bool.Decides.{Decides-eqb}
-use Rattle.gm_game.specs.declared.limits.TheConstants.{REMOTENESS, MOVES}
+use Rattle.gm_game.specs.declared.limits.TheConstants.{REMOTENESS}
 use Rattle.gm_game.specs.declared.position.Position.{Position}
 use Rattle.gm_game.specs.declared.position.Solved.{Solved}
 use Rattle.gm_game.specs.declared.position.Value.{Value}
@@ -28,9 +26,8 @@ use Rattle.gm_frontier.specs.Notes.{NoteData, IsNote, phase_of}
 use Rattle.gm_deliveries.specs.declared.status.Status.{Status}
 use Rattle.gm_deliveries.specs.declared.status.Status.TheVariants.{Hole, Undecided, Settled}
 use Rattle.gm_deliveries.specs.declared.status.Delivery.TheVariants.{Fresh, Repeat}
-use Rattle.gm_deliveries.specs.declared.status.Refused.TheVariants.{NotMine}
 use Rattle.gm_game.specs.Settling.{AreAll}
-use Rattle.gm_deliveries.specs.State.{ShardState, IsInRange, delivered_to, with_pair, state_of, children_of_masks}
+use Rattle.gm_deliveries.specs.State.{ShardState, IsInRange, delivered_to, with_pair}
 use Rattle.gm_deliveries.specs.Status.{In, HasStatus, StatusIs}
 use Rattle.gm_deliveries.specs.Good.{IsShard, IsWithinLimit, IsKept, IsCounter}
 use Rattle.gm_deliveries.specs.Steps.{CanDeliver}
@@ -38,9 +35,7 @@ use Rattle.gm_deliveries.specs.Delivery.{IsPlaceOf, Delivers, next_status, is_se
 use Rattle.gm_game.proofs.SetLemmas.{has_old, with_cases, set_has, has_set, ascending_set, ascending_with, shorter, no_longer, has_all, length_with}
 use Rattle.gm_deliveries.proofs.StatusLemmas.{after_any, reached_at}
 use Rattle.gm_deliveries.proofs.GoodLemmas.{near_of, within_limit}
-use Rattle.gm_game.specs.Masks.{picked}
-use Rattle.gm_game.proofs.MaskLemmas.{bit_cases, at_place, picked_with, picked_has, picked_lacks}
-use Rattle.gm_deliveries.proofs.MaskList.{length-masks, masks_at, masks_set, sum_small, picked_few, zero_plus}
+use Rattle.gm_game.proofs.MaskLemmas.{at_place}
 
 -- the children in K(p), as a list and as a fact
 pub in_children : (r : Rules) (p c : Position) → IsCanonicalChild r p c → Contains (canonical_children_of r p) c
@@ -67,7 +62,8 @@ pub record NewPair (r : Rules) (s : ShardState) (c : Position) (parent : ℕ) : 
   pub is_parent : IsParent r c s.tier parent
   pub new : Contains (delivered_to s parent) c → ⊥
 
-module _ {r : Rules} {s : ShardState} {statuses : List Status} (shard : IsShard r s statuses) {child : Position} {parent : ℕ} (t : NewPair r s child parent) where
+module _ {r : Rules} {s : ShardState} {statuses : List Status} (shard : IsShard r s statuses) {child : Position} {parent : ℕ}
+    (t : NewPair r s child parent) where
   pub subset : (y : Position) → Contains (delivered_to s parent) y → Contains (canonical_children_of r (at s.tier parent)) y
   subset y h = in_children r (at s.tier parent) y ((shard.pairs parent y t.is_mine h).0.1)
 
@@ -75,7 +71,9 @@ module _ {r : Rules} {s : ShardState} {statuses : List Status} (shard : IsShard 
   fewer = shorter _ _ child (shard.once parent t.is_mine) subset (in_children r (at s.tier parent) child t.is_parent.1) t.new
 
   pub subset_with : (y : Position) → Contains (with_position child (delivered_to s parent)) y → Contains (canonical_children_of r (at s.tier parent)) y
-  subset_with y h = ⊎_elim (λ (e : child ≡ y). subst (λ (x : Position). Contains (canonical_children_of r (at s.tier parent)) x) e (in_children r (at s.tier parent) child t.is_parent.1)) (λ (o : Contains (delivered_to s parent) y). subset y o) (with_cases child y (delivered_to s parent) h)
+  subset_with y h = ⊎_elim (λ (e : child ≡ y). subst (λ (x : Position). Contains (canonical_children_of r (at s.tier parent)) x) e
+      (in_children r (at s.tier parent) child t.is_parent.1)) (λ (o : Contains (delivered_to s parent) y). subset y o)
+      (with_cases child y (delivered_to s parent) h)
 
   pub up_with : AreAscending (with_position child (delivered_to s parent))
   up_with = ascending_with child _ (shard.once parent t.is_mine)
@@ -92,7 +90,8 @@ module _ {r : Rules} {s : ShardState} {statuses : List Status} (shard : IsShard 
   pub range_is : (i : ℕ) → IsInRange (with_pair s child parent) i → IsInRange s i
   range_is i m = (m.0, let e = length-set s.delivered (parent - s.lo) (with_position child (delivered_to s parent)) in omega arith)
 
-  pub cases_at : (P : List Position → Type 0) (i : ℕ) → IsInRange s i → (i ≡ parent → P (with_position child (delivered_to s parent))) → (i ≢ parent → P (delivered_to s i))
+  pub cases_at : (P : List Position → Type 0) (i : ℕ) → IsInRange s i → (i ≡ parent → P (with_position child (delivered_to s parent)))
+      → (i ≢ parent → P (delivered_to s i))
       → P (delivered_to (with_pair s child parent) i)
   cases_at P i m there other =
       elim (i == parent) as (λ b. (i == parent) ≡ b → P (delivered_to (with_pair s child parent) i)) [
@@ -110,13 +109,15 @@ module _ {r : Rules} {s : ShardState} {statuses : List Status} (shard : IsShard 
   stands_before : StandsBefore r s.phase (s.level + 1) child
   stands_before = record { own_phase = s.phase; own_level = s.level; stands = t.stands; before = next_place s.phase s.level }
 
-  known_after : (next : Status) → StatusIs r (with_pair s child parent) parent next → IsWithinLimit next → (i : ℕ) (x : Status) → IsInRange s i → slice_get (set statuses (parent - s.lo) next) (i - s.lo) ≡ Some x
+  known_after : (next : Status) → StatusIs r (with_pair s child parent) parent next → IsWithinLimit next → (i : ℕ) (x : Status) → IsInRange s i
+      → slice_get (set statuses (parent - s.lo) next) (i - s.lo) ≡ Some x
       → StatusIs r (with_pair s child parent) i x × IsWithinLimit x
   known_after next after near i x m got =
       elim (i == parent) as (λ b. (i == parent) ≡ b → StatusIs r (with_pair s child parent) i x × IsWithinLimit x) [
         | true ↦ λ e. let same : i ≡ parent = (Decides-eqb i parent).0 e in
             let w : parent - s.lo < length statuses = (let v = within in let k = shard.many in omega arith) in
-            let read : get_or (set statuses (parent - s.lo) next) (i - s.lo) Hole ≡ x = get_or_from_slice_get (set statuses (parent - s.lo) next) (i - s.lo) x Hole got in
+            let read : get_or (set statuses (parent - s.lo) next) (i - s.lo) Hole ≡ x =
+            get_or_from_slice_get (set statuses (parent - s.lo) next) (i - s.lo) x Hole got in
             let here' : get_or (set statuses (parent - s.lo) next) (parent - s.lo) Hole ≡ next = get_or-set_same statuses (parent - s.lo) next Hole w in
             let is : next ≡ x = sym here' ∙ ap (λ (j : ℕ). get_or (set statuses (parent - s.lo) next) (j - s.lo) Hole) (sym same) ∙ read in
             subst (λ (y : Status). StatusIs r (with_pair s child parent) i y × IsWithinLimit y) is
@@ -125,21 +126,26 @@ module _ {r : Rules} {s : ShardState} {statuses : List Status} (shard : IsShard 
             let m' = t.is_mine in
             let far : (i - s.lo) ≢ (parent - s.lo) = λ h. ne (omega arith) in
             let w : i - s.lo < length statuses = (let k = shard.many in omega arith) in
-            let read : get_or (set statuses (parent - s.lo) next) (i - s.lo) Hole ≡ x = get_or_from_slice_get (set statuses (parent - s.lo) next) (i - s.lo) x Hole got in
-            let other : get_or (set statuses (parent - s.lo) next) (i - s.lo) Hole ≡ get_or statuses (i - s.lo) Hole = get_or-set_other statuses (parent - s.lo) (i - s.lo) next Hole far in
+            let read : get_or (set statuses (parent - s.lo) next) (i - s.lo) Hole ≡ x =
+            get_or_from_slice_get (set statuses (parent - s.lo) next) (i - s.lo) x Hole got in
+            let other : get_or (set statuses (parent - s.lo) next) (i - s.lo) Hole ≡ get_or statuses (i - s.lo) Hole =
+            get_or-set_other statuses (parent - s.lo) (i - s.lo) next Hole far in
             let was : slice_get statuses (i - s.lo) ≡ Some x = slice_get-get_or statuses (i - s.lo) Hole w ∙ ap (λ (y : Status). Some y) (sym other ∙ read) in
             let k = shard.known i x m was in
             (cases_at (λ d. HasStatus r (at s.tier i) d x) i m (λ same. absurd (ne same)) (λ _. k.0), k.1)
       ] refl
 
-  pub shard_after : (next : Status) → StatusIs r (with_pair s child parent) parent next → IsWithinLimit next → IsShard r (with_pair s child parent) (set statuses (parent - s.lo) next)
+  pub shard_after : (next : Status) → StatusIs r (with_pair s child parent) parent next → IsWithinLimit next
+      → IsShard r (with_pair s child parent) (set statuses (parent - s.lo) next)
   shard_after next after near = record {
     once = λ (i : ℕ) (m : IsInRange (with_pair s child parent) i). cases_at AreAscending i (range_is i m) (λ _. up_with) (λ _. shard.once i (range_is i m));
     pairs = λ (i : ℕ) (c : Position) (m : IsInRange (with_pair s child parent) i).
         cases_at (λ d. Contains d c → IsParent r c s.tier i × StandsBefore r s.phase (s.level + 1) c) i (range_is i m)
         (λ same h. ⊎_elim
-        (λ (e : child ≡ c). subst (λ (x : Position). IsParent r x s.tier i × StandsBefore r s.phase (s.level + 1) x) e (subst (λ (j : ℕ). IsParent r child s.tier j) (sym same) t.is_parent, stands_before))
-        (λ (o : Contains (delivered_to s parent) c). subst (λ (j : ℕ). IsParent r c s.tier j × StandsBefore r s.phase (s.level + 1) c) (sym same) (shard.pairs parent c t.is_mine o))
+        (λ (e : child ≡ c). subst (λ (x : Position). IsParent r x s.tier i × StandsBefore r s.phase (s.level + 1) x) e
+        (subst (λ (j : ℕ). IsParent r child s.tier j) (sym same) t.is_parent, stands_before))
+        (λ (o : Contains (delivered_to s parent) c). subst (λ (j : ℕ). IsParent r c s.tier j × StandsBefore r s.phase (s.level + 1) c) (sym same)
+        (shard.pairs parent c t.is_mine o))
         (with_cases child c (delivered_to s parent) h))
         (λ _. shard.pairs i c (range_is i m));
     whole = λ (i : ℕ) (c : Position) (m : IsInRange (with_pair s child parent) i) (p : IsParent r c s.tier i) (b : StandsBefore r s.phase s.level c).
@@ -160,7 +166,8 @@ pub record Step (r : Rules) (s : ShardState) (statuses : List Status) (note : No
   pub before : StatusIs r s parent old
   pub last_is : last ≡ (length (delivered_to s parent) + 1 == length (canonical_children_of r (at s.tier parent)))
 
-module _ {r : Rules} {s : ShardState} {statuses : List Status} {note : NoteData} {parent : ℕ} {old : Status} {last : Bool} (t : Step r s statuses note parent old last) where
+module _ {r : Rules} {s : ShardState} {statuses : List Status} {note : NoteData} {parent : ℕ} {old : Status} {last : Bool}
+    (t : Step r s statuses note parent old last) where
   stands : StandsAt r s.phase s.level note.position
   stands =
       subst (λ (ph : Phase). StandsAt r ph s.level note.position) t.here.is_level.0
@@ -171,7 +178,9 @@ module _ {r : Rules} {s : ShardState} {statuses : List Status} {note : NoteData}
   fresh = record { stands = stands; is_mine = t.here.is_mine; is_parent = t.here.is_parent; new = t.new }
 
   all_there : last ≡ true → AreAll r (at s.tier parent) (In (with_position note.position (delivered_to s parent)))
-  all_there e y h = has_all _ _ (up_with t.shard fresh) (subset_with t.shard fresh) (long t.shard fresh ∙ (Decides-eqb (length (delivered_to s parent) + 1) (length (canonical_children_of r (at s.tier parent)))).0 (sym t.last_is ∙ e)) y (in_children r (at s.tier parent) y h)
+  all_there e y h = has_all _ _ (up_with t.shard fresh) (subset_with t.shard fresh)
+      (long t.shard fresh ∙ (Decides-eqb (length (delivered_to s parent) + 1) (length (canonical_children_of r (at s.tier parent)))).0 (sym t.last_is ∙ e)) y
+      (in_children r (at s.tier parent) y h)
 
   not_all : last ≡ false → AreAll r (at s.tier parent) (In (with_position note.position (delivered_to s parent))) → ⊥
   not_all e all =
@@ -190,11 +199,14 @@ module _ {r : Rules} {s : ShardState} {statuses : List Status} {note : NoteData}
       after_level : (n : ℕ) → n ≡ s.level → HasValue r note.position note.solved.value n
           → HasStatus r (at s.tier parent) (with_position note.position (delivered_to s parent)) (next_status old (solved note.solved.value n) last)
       after_level n e =
-          subst (λ (m : ℕ). HasValue r note.position note.solved.value m → HasStatus r (at s.tier parent) (with_position note.position (delivered_to s parent)) (next_status old (solved note.solved.value m) last)) (sym e)
+          subst (λ (m : ℕ). HasValue r note.position note.solved.value m
+          → HasStatus r (at s.tier parent) (with_position note.position (delivered_to s parent)) (next_status old (solved note.solved.value m) last)) (sym e)
           (λ value. after_any r (at s.tier parent) note.position (delivered_to s parent) note.solved.value s.phase s.level last old
-          (reached_at r s statuses t.shard parent t.here.is_mine t.here.is_parent.0) t.here.is_parent.0 t.here.is_parent.1 stands value t.is_note.decided all_there not_all t.before)
+          (reached_at r s statuses t.shard parent t.here.is_mine t.here.is_parent.0)
+          t.here.is_parent.0 t.here.is_parent.1 stands value t.is_note.decided all_there not_all t.before)
 
-stays_open : (v : Value) (n : ℕ) (last : Bool) → is_settling Undecided (next_status Undecided (solved v n) last) ≡ false → next_status Undecided (solved v n) last ≡ Undecided
+stays_open : (v : Value) (n : ℕ) (last : Bool) → is_settling Undecided (next_status Undecided (solved v n) last) ≡ false
+    → next_status Undecided (solved v n) last ≡ Undecided
 stays_open Lose n last e = absurd (true≢false e)
 stays_open Draw n last e = refl
 stays_open Tie n last e = absurd (true≢false e)
@@ -217,7 +229,8 @@ stays Undecided note last e = stays_open note.value note.remoteness last e
 
 -- where one is settled it was open, and has a value one above the note
 pub settles_one_above : (old : Status) (note : Solved) (last : Bool) → is_settling old (next_status old note last) ≡ true
-    → (old ≡ Undecided) × ((x : Solved) × (next_status old note last ≡ Settled x) × (x.remoteness ≡ note.remoteness + 1) × (phase_of x.value ≡ phase_of note.value))
+    → (old ≡ Undecided) × ((x : Solved) × (next_status old note last ≡ Settled x) × (x.remoteness ≡ note.remoteness + 1)
+    × (phase_of x.value ≡ phase_of note.value))
 settles_one_above Hole note last e = absurd (true≢false (sym e))
 settles_one_above (Settled x) note last e = absurd (true≢false (sym e))
 settles_one_above Undecided note last e = (refl, above_open note.value note.remoteness last e)
@@ -229,209 +242,20 @@ near_limit Undecided near = tt
 near_limit (Settled y) near = near y refl
 
 -- the same of a state after a pair
-pub within_after : (r : Rules) (s : ShardState) (c : Position) (parent : ℕ) (x : Status) → CanDeliver r s c parent → StatusIs r (with_pair s c parent) parent x → IsWithinLimit x
+pub within_after : (r : Rules) (s : ShardState) (c : Position) (parent : ℕ) (x : Status) → CanDeliver r s c parent
+    → StatusIs r (with_pair s c parent) parent x → IsWithinLimit x
 within_after r s c parent x can is = near_limit x (λ y e. can.near y (subst (λ (z : Status). StatusIs r (with_pair s c parent) parent z) e is))
-
--- the fields of a shard, and a child that can be delivered, with its place
-pub record Seen (r : Rules) (tier lo : ℕ) (phase : Phase) (level : ℕ) (masks : List ℕ) (left : List ℕ) (statuses : List Status) (count : ℕ) (c : Position) (parent k : ℕ) : Type 0 where
-  pub kept : IsKept r (state_of r tier lo phase level masks) statuses left count
-  pub can : CanDeliver r (state_of r tier lo phase level masks) c parent
-  pub place : slice_get (canonical_children_of r (at tier parent)) k ≡ Some c
-
--- an index outside the range
-pub out_not_mine : (r : Rules) (tier lo : ℕ) (phase : Phase) (level : ℕ) (masks : List ℕ) (note : NoteData) (parent : ℕ) (s : ShardState) → state_of r tier lo phase level masks ≡ s
-    → IsThisLevel s note → (parent < lo) ⊎ (length masks ≤ parent - lo) → Delivers r note parent s s (Err NotMine)
-out_not_mine r tier lo phase level masks note parent s e is_level out =
-    subst (λ (u : ShardState). IsThisLevel u note → Delivers r note parent u u (Err NotMine)) e (λ here. (refl, here, λ m. no_room out m)) is_level
-  where
-    no_room : (parent < lo) ⊎ (length masks ≤ parent - lo) → IsInRange (state_of r tier lo phase level masks) parent → ⊥
-    no_room (inl l) m = (let a = m.0 in omega arith)
-    no_room (inr l) m = (let a = m.0 in let b = m.1 in let f = length-masks r tier lo masks in omega arith)
-
--- an index inside it
-pub in_range : (r : Rules) (tier lo : ℕ) (phase : Phase) (level : ℕ) (masks : List ℕ) (parent n : ℕ) (s : ShardState) → state_of r tier lo phase level masks ≡ s
-    → lo ≤ parent → parent - lo < n → n ≡ length masks → IsInRange s parent
-in_range r tier lo phase level masks parent n s e low high is =
-    subst (λ (u : ShardState). IsInRange u parent) e (low, (let f = length-masks r tier lo masks in omega arith))
 
 pub same_test : (a b c : ℕ) → a + b ≡ c → (a == 1) ≡ (b + 1 == c)
 same_test a b c e =
     elim (a == 1) as (λ t. (a == 1) ≡ t → t ≡ (b + 1 == c)) [
       | true ↦ λ h. let f : a ≡ 1 = (Decides-eqb a 1).0 h in sym ((Decides-eqb (b + 1) c).1 (omega arith))
-      | false ↦ λ h. sym (false_from_ne_true (b + 1 == c) (λ z. true≢false (sym ((Decides-eqb a 1).1 (let f : b + 1 ≡ c = (Decides-eqb (b + 1) c).0 z in omega arith)) ∙ h)))
+      | false ↦ λ h. sym (false_from_ne_true (b + 1 == c)
+          (λ z. true≢false (sym ((Decides-eqb a 1).1 (let f : b + 1 ≡ c = (Decides-eqb (b + 1) c).0 z in omega arith)) ∙ h)))
     ] refl
 
-pub seen_from : {r : Rules} {tier lo : ℕ} {phase : Phase} {level : ℕ} {masks left : List ℕ} {statuses : List Status} {count : ℕ} {c : Position} {parent k : ℕ} (s : ShardState)
-    → IsKept r (state_of r tier lo phase level masks) statuses left count → state_of r tier lo phase level masks ≡ s → CanDeliver r s c parent → IsPlaceOf r c s.tier parent (Some k)
-    → Seen r tier lo phase level masks left statuses count c parent k
-seen_from {r} {tier} {lo} {phase} {level} {masks} {left} {statuses} {count} {c} {parent} {k} s kept e can place =
-    subst (λ (u : ShardState). CanDeliver r u c parent → IsPlaceOf r c u.tier parent (Some k) → Seen r tier lo phase level masks left statuses count c parent k) e
-    (λ can place. record { kept = kept; can = can; place = place.1 }) can place
-
--- what is delivered, by the mask
-delivered_is : (r : Rules) (tier lo : ℕ) (phase : Phase) (level : ℕ) (masks : List ℕ) (parent : ℕ) → lo ≤ parent → parent - lo < length masks
-    → delivered_to (state_of r tier lo phase level masks) parent ≡ picked (canonical_children_of r (at tier parent)) (get_or masks (parent - lo) 0)
-delivered_is r tier lo phase level masks parent low high =
-    let e : lo + (parent - lo) ≡ parent = omega arith in
-    masks_at r tier lo masks (parent - lo) high ∙ ap (λ (i : ℕ). picked (canonical_children_of r (at tier i)) (get_or masks (parent - lo) 0)) e
-
--- a bit of the mask says whether the child at its place is delivered
-bit_says : (r : Rules) (tier lo : ℕ) (phase : Phase) (level : ℕ) (masks : List ℕ) (c : Position) (parent k : ℕ) → lo ≤ parent → parent - lo < length masks
-    → slice_get (canonical_children_of r (at tier parent)) k ≡ Some c
-    → (bit_at (get_or masks (parent - lo) 0) k ≡ 1) ↔ Contains (delivered_to (state_of r tier lo phase level masks) parent) c
-bit_says r tier lo phase level masks c parent k low high place =
-    let is = delivered_is r tier lo phase level masks parent low high in
-    let children' = canonical_children_of r (at tier parent) in
-    let mask = get_or masks (parent - lo) 0 in
-    let zk = zero_plus k in (
-      λ set'. subst (λ (xs : List Position). Contains xs c) (sym is) (picked_has 0 k children' mask c place (subst (λ (i : ℕ). bit_at mask i ≡ 1) (sym zk) set')),
-      λ there. ⊎_elim (λ (set' : bit_at mask k ≡ 1). set')
-          (λ (clear : bit_at mask k ≢ 1). absurd (picked_lacks 0 k children' mask c (ascending_set (map r.canonical (children r (at tier parent)))) place
-          (λ z. clear (subst (λ (i : ℕ). bit_at mask i ≡ 1) zk z)) (subst (λ (xs : List Position). Contains xs c) is there)))
-          (bit_cases mask k),
-    )
-
--- the same, as the bit is read
-pub pair_is : (r : Rules) (tier lo : ℕ) (phase : Phase) (level : ℕ) (masks : List ℕ) (s : ShardState) (c : Position) (parent k mask : ℕ) → state_of r tier lo phase level masks ≡ s → IsInRange s parent
-    → IsPlaceOf r c s.tier parent (Some k) → mask ≡ get_or masks (parent - lo) mask → (B : Type 0) → (B ↔ (bit_at mask k ≡ 1)) → B ↔ Contains (delivered_to s parent) c
-pair_is r tier lo phase level masks s c parent k mask e range place read B says =
-    subst (λ (u : ShardState). IsInRange u parent → IsPlaceOf r c u.tier parent (Some k) → B ↔ Contains (delivered_to u parent) c) e here range place
-  where
-    here : IsInRange (state_of r tier lo phase level masks) parent → IsPlaceOf r c tier parent (Some k) → B ↔ Contains (delivered_to (state_of r tier lo phase level masks) parent) c
-    here m q =
-        let low = m.0 in
-        let high : parent - lo < length masks = (let f = length-masks r tier lo masks in let b = m.1 in omega arith) in
-        let is : mask ≡ get_or masks (parent - lo) 0 = get_or_read masks (parent - lo) mask high read 0 in
-        let bit = bit_says r tier lo phase level masks c parent k low high q.1 in (
-          λ b. bit.0 (subst (λ (m : ℕ). bit_at m k ≡ 1) is (says.0 b)),
-          λ there. says.1 (subst (λ (m : ℕ). bit_at m k ≡ 1) (sym is) (bit.1 there)),
-        )
-
-module _ {r : Rules} {tier lo : ℕ} {phase : Phase} {level : ℕ} {masks left : List ℕ} {statuses : List Status} {count : ℕ} {c : Position} {parent k : ℕ} (t : Seen r tier lo phase level masks left statuses count c parent k) where
-  state : ShardState
-  state = state_of r tier lo phase level masks
-
-  low : lo ≤ parent
-  low = t.can.is_mine.0
-
-  pub high : parent - lo < length masks
-  high = let f = length-masks r tier lo masks in let a = t.can.is_mine.0 in let b = t.can.is_mine.1 in omega arith
-
-  pub in_left : parent - lo < length left
-  in_left = let m = t.kept.as_many in let e = length-masks r tier lo masks in let h = high in omega arith
-
-  pub in_statuses : parent - lo < length statuses
-  in_statuses = let m = t.kept.shard.many in let e = length-masks r tier lo masks in let h = high in omega arith
-
-  new : NewPair r (state_of r tier lo phase level masks) c parent
-  new = record { stands = t.can.stands; is_mine = t.can.is_mine; is_parent = t.can.is_parent; new = t.can.new }
-
-  unset : bit_at (get_or masks (parent - lo) 0) k ≢ 1
-  unset z = t.can.new ((bit_says r tier lo phase level masks c parent k low high t.place).0 z)
-
-  counter_here : (l : ℕ) → l ≡ get_or left (parent - lo) l → l + length (delivered_to (state_of r tier lo phase level masks) parent) ≡ length (canonical_children_of r (at tier parent))
-  counter_here l is = (t.kept.counted parent l t.can.is_mine (slice_get_read left (length left) (parent - lo) l refl in_left is)).inner t.can.is_parent.0
-
-  other_bits : (m mask : ℕ) → mask ≡ get_or masks (parent - lo) mask → ((j : ℕ) → j ≢ k → bit_at m j ≡ bit_at mask j) → (j : ℕ) → j ≢ k → bit_at m j ≡ bit_at (get_or masks (parent - lo) 0) j
-  other_bits m mask read other j ne = other j ne ∙ ap (λ (n : ℕ). bit_at n j) (get_or_read masks (parent - lo) mask high read 0)
-
-  -- the counter can go down
-  pub left_above : (l : ℕ) → l ≡ get_or left (parent - lo) l → 1 ≤ l
-  left_above l is = let f = fewer t.kept.shard new in let e = counter_here l is in omega arith
-
-  -- the number of pairs can go up
-  pub count_room : count + 1 < 2 ^ 64
-  count_room =
-      let m = sum_small MOVES (children_of_masks r tier lo masks) (λ k l. subst (λ (j : ℕ). length (get_or (children_of_masks r tier lo masks) j []) ≤ MOVES) (let e : lo + k - lo ≡ k = omega arith in e) (t.kept.short (lo + k) (omega arith, omega arith))) in
-      let n = t.kept.number in
-      let f = t.kept.few in
-      omega arith
-
-  -- the mask with one more bit
-  picked_more : (m : ℕ) → bit_at m k ≡ 1 → ((j : ℕ) → j ≢ k → bit_at m j ≡ bit_at (get_or masks (parent - lo) 0) j)
-      → picked (canonical_children_of r (at tier parent)) m ≡ with_position c (delivered_to (state_of r tier lo phase level masks) parent)
-  picked_more m same other =
-      let zk = zero_plus k in
-      picked_with 0 k (canonical_children_of r (at tier parent)) (get_or masks (parent - lo) 0) m c (ascending_set (map r.canonical (children r (at tier parent)))) t.place
-      (λ z. unset (subst (λ (i : ℕ). bit_at (get_or masks (parent - lo) 0) i ≡ 1) zk z)) (subst (λ (i : ℕ). bit_at m i ≡ 1) (sym zk) same) (λ j ne. other j (λ z. ne (z ∙ sym zk)))
-      ∙ ap (λ (xs : List Position). with_position c xs) (sym (delivered_is r tier lo phase level masks parent low high))
-
-  -- the state that a delivery leaves
-  pub state_with : (m : ℕ) → bit_at m k ≡ 1 → ((j : ℕ) → j ≢ k → bit_at m j ≡ bit_at (get_or masks (parent - lo) 0) j)
-      → state_of r tier lo phase level (set masks (parent - lo) m) ≡ with_pair (state_of r tier lo phase level masks) c parent
-  state_with m same other =
-      let e : lo + (parent - lo) ≡ parent = (let l = low in omega arith) in
-      ap (λ (ds : List (List Position)). let s : ShardState = record { tier = tier; lo = lo; phase = phase; level = level; delivered = ds } in s)
-      (masks_set r tier lo masks (parent - lo) m high
-      ∙ ap (λ (i : ℕ). set (children_of_masks r tier lo masks) (parent - lo) (picked (canonical_children_of r (at tier i)) m)) e
-      ∙ ap (λ (xs : List Position). set (children_of_masks r tier lo masks) (parent - lo) xs) (picked_more m same other))
-
-  -- what the fields keep after the pair is added
-  kept_after : (next : Status) → StatusIs r (with_pair (state_of r tier lo phase level masks) c parent) parent next → (l : ℕ) → l ≡ get_or left (parent - lo) l
-      → length (with_position c (delivered_to (state_of r tier lo phase level masks) parent)) ≤ MOVES
-      → IsWithinLimit next
-      → IsKept r (with_pair (state_of r tier lo phase level masks) c parent) (set statuses (parent - lo) next) (set left (parent - lo) (l - 1)) (count + 1)
-  kept_after next after l is small near = record {
-    shard = shard_after t.kept.shard new next after near;
-    as_many = length-set left (parent - lo) (l - 1) ∙ t.kept.as_many ∙ sym (length-set (children_of_masks r tier lo masks) (parent - lo) (with_position c (delivered_to (state_of r tier lo phase level masks) parent)));
-    counted = λ (i n : ℕ) (m : IsInRange (with_pair (state_of r tier lo phase level masks) c parent) i) (got : slice_get (set left (parent - lo) (l - 1)) (i - lo) ≡ Some n). counted i n (range_is t.kept.shard new i m) got;
-    number = (let s = sum_by-set (length {A = Position}) (children_of_masks r tier lo masks) (parent - lo) (with_position c (delivered_to (state_of r tier lo phase level masks) parent)) [] (let e = length-masks r tier lo masks in let h = high in omega arith) in
-        let g = long t.kept.shard new in let n = t.kept.number in omega arith);
-    short = λ (i : ℕ) (m : IsInRange (with_pair (state_of r tier lo phase level masks) c parent) i).
-        cases_at t.kept.shard new (λ d. length d ≤ MOVES) i (range_is t.kept.shard new i m) (λ _. small) (λ _. t.kept.short i (range_is t.kept.shard new i m));
-    few = (let e = length-set (children_of_masks r tier lo masks) (parent - lo) (with_position c (delivered_to (state_of r tier lo phase level masks) parent)) in let f = t.kept.few in omega arith);
-  }
-    where
-      counted : (i n : ℕ) → IsInRange (state_of r tier lo phase level masks) i → slice_get (set left (parent - lo) (l - 1)) (i - lo) ≡ Some n
-          → IsCounter r (with_pair (state_of r tier lo phase level masks) c parent) i n
-      counted i n m got =
-          elim (i == parent) as (λ b. (i == parent) ≡ b → IsCounter r (with_pair (state_of r tier lo phase level masks) c parent) i n) [
-            | true ↦ λ e. let same : i ≡ parent = (Decides-eqb i parent).0 e in
-                let w : parent - lo < length left = (let q = t.kept.as_many in let f = length-masks r tier lo masks in let h = high in omega arith) in
-                let read : get_or (set left (parent - lo) (l - 1)) (i - lo) 0 ≡ n = get_or_from_slice_get (set left (parent - lo) (l - 1)) (i - lo) n 0 got in
-                let put : get_or (set left (parent - lo) (l - 1)) (parent - lo) 0 ≡ l - 1 = get_or-set_same left (parent - lo) (l - 1) 0 w in
-                let n_is : l - 1 ≡ n = sym put ∙ ap (λ (j : ℕ). get_or (set left (parent - lo) (l - 1)) (j - lo) 0) (sym same) ∙ read in
-                let one : 1 ≤ l = left_above l is in
-                let sum = counter_here l is in
-                let g = long t.kept.shard new in
-                let here' = same_here t.kept.shard new in
-                let total : n + length (delivered_to (with_pair (state_of r tier lo phase level masks) c parent) parent) ≡ length (canonical_children_of r (at tier parent)) =
-                (let hl = ap (λ (xs : List Position). length xs) here' in omega arith) in
-                subst (λ (j : ℕ). IsCounter r (with_pair (state_of r tier lo phase level masks) c parent) j n) (sym same)
-                (record { inner = λ _. total; other = λ none. absurd (none t.can.is_parent.0) })
-            | false ↦ λ e. let ne : i ≢ parent = λ h. true≢false (sym ((Decides-eqb i parent).1 h) ∙ e) in
-                let low' = low in
-                let ml = m.0 in
-                let far : (i - lo) ≢ (parent - lo) = λ h. ne (omega arith) in
-                let w : i - lo < length left = (let q = t.kept.as_many in let a = m.1 in omega arith) in
-                let read : get_or (set left (parent - lo) (l - 1)) (i - lo) 0 ≡ n = get_or_from_slice_get (set left (parent - lo) (l - 1)) (i - lo) n 0 got in
-                let other' : get_or (set left (parent - lo) (l - 1)) (i - lo) 0 ≡ get_or left (i - lo) 0 = get_or-set_other left (parent - lo) (i - lo) (l - 1) 0 far in
-                let was' : slice_get left (i - lo) ≡ Some n = slice_get-get_or left (i - lo) 0 w ∙ ap (λ (y : ℕ). Some y) (sym other' ∙ read) in
-                let kept' = t.kept.counted i n m was' in
-                record {
-                  inner = λ x. cases_at t.kept.shard new (λ d. n + length d ≡ length (canonical_children_of r (at tier i))) i m (λ same. absurd (ne same)) (λ _. kept'.inner x);
-                  other = kept'.other;
-                }
-          ] refl
-
-  -- the state and the fields after the pair is added
-  pub added : (m mask : ℕ) → mask ≡ get_or masks (parent - lo) mask → bit_at m k ≡ 1 → ((j : ℕ) → j ≢ k → bit_at m j ≡ bit_at mask j)
-      → (s : ShardState) → state_of r tier lo phase level masks ≡ s → state_of r tier lo phase level (set masks (parent - lo) m) ≡ with_pair s c parent
-  added m mask read same other s e = state_with m same (other_bits m mask read other) ∙ ap (λ (u : ShardState). with_pair u c parent) e
-
-  pub fields_after : (m mask : ℕ) → mask ≡ get_or masks (parent - lo) mask → m < 2 ^ 128 → bit_at m k ≡ 1 → ((j : ℕ) → j ≢ k → bit_at m j ≡ bit_at mask j)
-      → (s : ShardState) → state_of r tier lo phase level masks ≡ s → (next : Status) → StatusIs r (with_pair s c parent) parent next
-      → (l : ℕ) → l ≡ get_or left (parent - lo) l → (put : List Status) → put ≡ set statuses (parent - lo) next
-      → IsKept r (state_of r tier lo phase level (set masks (parent - lo) m)) put (set left (parent - lo) (l - 1)) (count + 1)
-  fields_after m mask read fits same other s e next after l is put put_is =
-      let few : length (picked (canonical_children_of r (at tier parent)) m) ≤ MOVES = (let q = picked_few MOVES 0 (canonical_children_of r (at tier parent)) m fits (omega arith) in omega arith) in
-      let after' : StatusIs r (with_pair (state_of r tier lo phase level masks) c parent) parent next = subst (λ (u : ShardState). StatusIs r (with_pair u c parent) parent next) (sym e) after in
-      let other' = other_bits m mask read other in
-      subst (λ (xs : List Status). IsKept r (state_of r tier lo phase level (set masks (parent - lo) m)) xs (set left (parent - lo) (l - 1)) (count + 1)) (sym put_is)
-      (subst (λ (u : ShardState). IsKept r u (set statuses (parent - lo) next) (set left (parent - lo) (l - 1)) (count + 1)) (sym (state_with m same other'))
-      (kept_after next after' l is (subst (λ (xs : List Position). length xs ≤ MOVES) (picked_more m same other') few) (within_after r (state_of r tier lo phase level masks) c parent next t.can after')))
-
-module _ {r : Rules} {s : ShardState} {statuses : List Status} {note : NoteData} {parent : ℕ} {old : Status} {last : Bool} (t : Step r s statuses note parent old last) where
+module _ {r : Rules} {s : ShardState} {statuses : List Status} {note : NoteData} {parent : ℕ} {old : Status} {last : Bool}
+    (t : Step r s statuses note parent old last) where
   pub settled_now : is_settling old (next_status old note.solved last) ≡ true → IsSettledNow r s (with_pair s note.position parent) parent
   settled_now e =
       let k = settles_one_above old note.solved last e in
@@ -439,18 +263,25 @@ module _ {r : Rules} {s : ShardState} {statuses : List Status} {note : NoteData}
         was_open = subst (λ (x : Status). StatusIs r s parent x) k.0 t.before;
         value = k.1.0;
         phase = k.1.3 ∙ t.here.is_level.0;
-        remoteness = (let q : k.1.0.remoteness ≡ note.solved.remoteness + 1 = k.1.2 in let m : note.solved.remoteness ≡ s.level = t.here.is_level.1 in omega arith);
+        remoteness = (let q : k.1.0.remoteness ≡ note.solved.remoteness + 1 = k.1.2 in
+            let m : note.solved.remoteness ≡ s.level = t.here.is_level.1 in omega arith);
         settled = subst (λ (x : Status). StatusIs r (with_pair s note.position parent) parent x) k.1.1 (status_after t);
       }
 
   keeps : is_settling old (next_status old note.solved last) ≡ false → KeepsStatus r s (with_pair s note.position parent) parent
-  keeps e = record { status = old; before = t.before; after = subst (λ (x : Status). StatusIs r (with_pair s note.position parent) parent x) (stays old note.solved last e) (status_after t) }
+  keeps e = record {
+    status = old;
+    before = t.before;
+    after = subst (λ (x : Status). StatusIs r (with_pair s note.position parent) parent x)
+        (stays old note.solved last e) (status_after t);
+  }
 
   pub near_settling : is_settling old (next_status old note.solved last) ≡ true → s.level + 1 ≤ REMOTENESS → IsWithinLimit (next_status old note.solved last)
   near_settling e l =
       let k = settles_one_above old note.solved last e in
       let here' = t.here.is_level in
-      subst IsWithinLimit (sym k.1.1) (let q : k.1.0.remoteness ≡ note.solved.remoteness + 1 = k.1.2 in let m : note.solved.remoteness ≡ s.level = here'.1 in let g : k.1.0.remoteness ≤ REMOTENESS = omega arith in g)
+      subst IsWithinLimit (sym k.1.1) (let q : k.1.0.remoteness ≡ note.solved.remoteness + 1 = k.1.2 in let m : note.solved.remoteness ≡ s.level = here'.1 in
+      let g : k.1.0.remoteness ≤ REMOTENESS = omega arith in g)
 
   near_staying : IsGame r → is_settling old (next_status old note.solved last) ≡ false → IsWithinLimit (next_status old note.solved last)
   near_staying g e = subst IsWithinLimit (sym (stays old note.solved last e)) (within_limit g t.shard parent t.here.is_mine old t.before)
@@ -463,7 +294,8 @@ module _ {r : Rules} {s : ShardState} {statuses : List Status} {note : NoteData}
     is_parent = t.here.is_parent;
     new = t.new;
     near = λ (x : Solved) (h : StatusIs r (with_pair s note.position parent) parent (Settled x)).
-        near_of g (shard_after t.shard (fresh t) (next_status old note.solved last) (status_after t) near) parent x (still_mine t.shard (fresh t)) h (next_status old note.solved last) (status_after t) near;
+        near_of g (shard_after t.shard (fresh t) (next_status old note.solved last) (status_after t) near) parent x (still_mine t.shard (fresh t)) h
+        (next_status old note.solved last) (status_after t) near;
   }
 
   pub can_settle : IsGame r → is_settling old (next_status old note.solved last) ≡ true → s.level < REMOTENESS → CanDeliver r s note.position parent
@@ -472,7 +304,8 @@ module _ {r : Rules} {s : ShardState} {statuses : List Status} {note : NoteData}
   pub can_stay : IsGame r → is_settling old (next_status old note.solved last) ≡ false → CanDeliver r s note.position parent
   can_stay g e = can_deliver g (near_staying g e)
 
-  pub out_fresh : (v : ShardState) → v ≡ with_pair s note.position parent → is_settling old (next_status old note.solved last) ≡ false → Delivers r note parent s v (Ok Fresh)
+  pub out_fresh : (v : ShardState) → v ≡ with_pair s note.position parent → is_settling old (next_status old note.solved last) ≡ false
+      → Delivers r note parent s v (Ok Fresh)
   out_fresh v w settles = (w, t.here, t.new, subst (λ (v : ShardState). KeepsStatus r s v parent) (sym w) (keeps settles))
 
   -- the status of the parent after the pair
@@ -483,11 +316,13 @@ module _ {r : Rules} {s : ShardState} {statuses : List Status} {note : NoteData}
 pub next_is : (old next : Status) (x y : Solved) (last : Bool) → next ≡ next_status old x last → x ≡ y → next ≡ next_status old y last
 next_is old next x y last e same = e ∙ ap (λ (z : Solved). next_status old z last) same
 
-pub settling_is : (old next : Status) (note : Solved) (last settles : Bool) {v : Bool} → next ≡ next_status old note last → settles ≡ is_settling old next → settles ≡ v → is_settling old (next_status old note last) ≡ v
+pub settling_is : (old next : Status) (note : Solved) (last settles : Bool) {v : Bool} → next ≡ next_status old note last → settles ≡ is_settling old next
+    → settles ≡ v → is_settling old (next_status old note last) ≡ v
 settling_is old next note last settles e is b = ap (is_settling old) (sym e) ∙ sym is ∙ b
 
 -- a pair of the range, where the child has a place
-pair_here : (r : Rules) (s : ShardState) (note : NoteData) (parent k : ℕ) → IsThisLevel s note → IsInRange s parent → IsPlaceOf r note.position s.tier parent (Some k) → IsPairHere r s note parent
+pair_here : (r : Rules) (s : ShardState) (note : NoteData) (parent k : ℕ) → IsThisLevel s note → IsInRange s parent
+    → IsPlaceOf r note.position s.tier parent (Some k) → IsPairHere r s note parent
 pair_here r s note parent k level mine place = record {
   is_level = level;
   is_mine = mine;
@@ -495,8 +330,10 @@ pair_here r s note parent k level mine place = record {
 }
 
 -- what a delivery has found, where the pair is new
-pub step_of : {r : Rules} {u s : ShardState} {statuses : List Status} {left : List ℕ} {count : ℕ} {note : NoteData} {parent : ℕ} (k : ℕ) {old : Status} (l : ℕ) → IsKept r u statuses left count → u ≡ s → IsNote r note.position note.solved
-    → IsThisLevel s note → IsInRange s parent → IsPlaceOf r note.position s.tier parent (Some k) → (Contains (delivered_to s parent) note.position → ⊥) → StatusIs r s parent old → IsCounter r s parent l
+pub step_of : {r : Rules} {u s : ShardState} {statuses : List Status} {left : List ℕ} {count : ℕ} {note : NoteData} {parent : ℕ} (k : ℕ) {old : Status} (l : ℕ)
+    → IsKept r u statuses left count → u ≡ s → IsNote r note.position note.solved
+    → IsThisLevel s note → IsInRange s parent → IsPlaceOf r note.position s.tier parent (Some k) → (Contains (delivered_to s parent) note.position → ⊥)
+    → StatusIs r s parent old → IsCounter r s parent l
     → Step r s statuses note parent old (l == 1)
 step_of {r} {u} {s} {statuses} {left} {count} {note} {parent} k {old} l kept e is_note level mine place new before counter = record {
   shard = subst (λ (u : ShardState). IsShard r u statuses) e kept.shard;
@@ -508,7 +345,8 @@ step_of {r} {u} {s} {statuses} {left} {count} {note} {parent} k {old} l kept e i
 }
 
 -- a remoteness one above that of a note of the present level fits
-pub room_above : {r : Rules} {u s : ShardState} {statuses : List Status} {left : List ℕ} {count : ℕ} {x y : Solved} → IsKept r u statuses left count → u ≡ s → x ≡ y → y.remoteness ≡ s.level → x.remoteness + 1 < 2 ^ 32
+pub room_above : {r : Rules} {u s : ShardState} {statuses : List Status} {left : List ℕ} {count : ℕ} {x y : Solved} → IsKept r u statuses left count → u ≡ s
+    → x ≡ y → y.remoteness ≡ s.level → x.remoteness + 1 < 2 ^ 32
 room_above kept e same level =
     let fits = kept.shard.fits in
     let here = ap (λ (s : ShardState). s.level) e in
@@ -527,11 +365,7 @@ other_phase WinLose b e = subst (λ (y : Phase). not (sameb the_type WinLose y) 
 other_phase Ties b e = subst (λ (y : Phase). not (sameb the_type Ties y) ≡ true → ⊥) e (λ d. true≢false (sym d))
 
 -- a pair that is there
-pub out_repeat : (r : Rules) (s : ShardState) (note : NoteData) (parent k : ℕ) → IsThisLevel s note → IsInRange s parent → IsPlaceOf r note.position s.tier parent (Some k) → Contains (delivered_to s parent) note.position
+pub out_repeat : (r : Rules) (s : ShardState) (note : NoteData) (parent k : ℕ) → IsThisLevel s note → IsInRange s parent
+    → IsPlaceOf r note.position s.tier parent (Some k) → Contains (delivered_to s parent) note.position
     → Delivers r note parent s s (Ok Repeat)
 out_repeat r s note parent k level mine place there = (refl, pair_here r s note parent k level mine place, there)
-
--- the masks have an entry for an index of the range
-pub in_masks : (r : Rules) (tier lo : ℕ) (phase : Phase) (level : ℕ) (masks : List ℕ) (s : ShardState) (parent n : ℕ) → state_of r tier lo phase level masks ≡ s → IsInRange s parent → n ≡ length masks → parent - lo < n
-in_masks r tier lo phase level masks s parent n e range is =
-    subst (λ (u : ShardState). IsInRange u parent → parent - lo < n) e (λ m. let f = length-masks r tier lo masks in let a = m.0 in let b = m.1 in omega arith) range

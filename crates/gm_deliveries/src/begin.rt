@@ -20,7 +20,7 @@ pub fn start<G: Game>(p: Position) -> Start
     }
 }
 
-/// Puts in the counter and the status that each of these positions begins with.
+/// Writes each position's initial counter and status.
 pub(crate) fn fill(starts: &[Start], left: &mut Vec<u8>, statuses: &mut Statuses)
     requires counters { length left.old.items ≡ length starts.now }
     requires statuses { length statuses.old ≡ length starts.now }

@@ -25,7 +25,7 @@ pub struct Ordered<G: Game> {
     game: PhantomData<G>,
 }
 
-// Let go by one call, so that a proof follows one value and not each field.
+// Dropped in one call, so that the prover tracks one value instead of every field.
 impl<G: Game> Drop for Ordered<G> {
     fn drop(self) {
         let Ordered {

@@ -70,7 +70,7 @@ impl Short {
     }
 }
 
-/// What a note makes of a status, where `last` says whether it is the last child.
+/// The status after a note is delivered; `last`: no other child is missing.
 pub(crate) fn next_status(old: Status, note: Solved, last: bool) -> Status
     requires { note.remoteness + 1 < 2 ^ 32 }
     ensures { result ≡ next_status old note last }

@@ -7,12 +7,14 @@ use Rattle.std.proofs.lemmas.Grind.{flat_map-append}
 use Rattle.gm_draw.specs.Diagrams.{escaped, escaped_byte, next_x, next_y, next_length, spread, widest}
 
 -- one byte more of a text
-pub flat_next : (f : ℕ → List ℕ) (xs : List ℕ) (i : ℕ) (base cur new : List ℕ) → i < length xs → cur ≡ base ++ flat_map f (take i xs) → new ≡ cur ++ f (get_or xs i 0)
+pub flat_next : (f : ℕ → List ℕ) (xs : List ℕ) (i : ℕ) (base cur new : List ℕ) → i < length xs → cur ≡ base ++ flat_map f (take i xs) → new ≡ cur ++ f
+    (get_or xs i 0)
     → new ≡ base ++ flat_map f (take (i + 1) xs)
 flat_next f xs i base cur new l e n =
     let x = get_or xs i 0 in
     let one : flat_map f (x ∷ []) ≡ f x = append-nil (f x) in
-    let more : flat_map f (take (i + 1) xs) ≡ flat_map f (take i xs) ++ f x = ap (flat_map f) (take_more xs i 0 l) ∙ flat_map-append f (take i xs) (x ∷ []) ∙ ap (λ (t : List ℕ). flat_map f (take i xs) ++ t) one in
+    let more : flat_map f (take (i + 1) xs) ≡ flat_map f (take i xs) ++ f x = ap (flat_map f) (take_more xs i 0 l) ∙ flat_map-append f (take i xs) (x ∷ [])
+    ∙ ap (λ (t : List ℕ). flat_map f (take i xs) ++ t) one in
     n ∙ ap (λ (t : List ℕ). t ++ f x) e ∙ append_assoc base (flat_map f (take i xs)) (f x) ∙ ap (λ (t : List ℕ). base ++ t) (sym more)
 
 -- all bytes of a text
@@ -21,7 +23,8 @@ unfolding escaped
 escaped_all xs i base cur l e = e ∙ ap (λ (t : List ℕ). base ++ flat_map escaped_byte t) (take_all i xs l)
 
 -- one byte more of a board
-pub spread_next : (f : ℕ → ℕ → ℕ → List ℕ) (xs : List ℕ) (i x y u v : ℕ) (cur new all : List ℕ) → i < length xs → cur ++ spread f x y (drop i xs) ≡ all → new ≡ cur ++ f x y (get_or xs i 0)
+pub spread_next : (f : ℕ → ℕ → ℕ → List ℕ) (xs : List ℕ) (i x y u v : ℕ) (cur new all : List ℕ) → i < length xs → cur ++ spread f x y (drop i xs) ≡ all →
+    new ≡ cur ++ f x y (get_or xs i 0)
     → u ≡ next_x x (get_or xs i 0) → v ≡ next_y y (get_or xs i 0) → new ++ spread f u v (drop (i + 1) xs) ≡ all
 unfolding spread
 spread_next f xs i x y u v cur new all l e n a b =
@@ -41,7 +44,8 @@ unfolding spread
 spread_all f xs i x y cur all l e = sym (append-nil cur) ∙ ap (λ (t : List ℕ). cur ++ spread f x y t) (sym (drop_all i xs l)) ∙ e
 
 -- one byte more of a drawing, and all of them
-pub widest_next : (xs : List ℕ) (i n longest m all : ℕ) → i < length xs → widest n longest (drop i xs) ≡ all → m ≡ next_length n (get_or xs i 0) → widest m (max longest m) (drop (i + 1) xs) ≡ all
+pub widest_next : (xs : List ℕ) (i n longest m all : ℕ) → i < length xs → widest n longest (drop i xs) ≡ all → m ≡ next_length n (get_or xs i 0) → widest m
+    (max longest m) (drop (i + 1) xs) ≡ all
 unfolding widest
 widest_next xs i n longest m all l e a = ap (λ (k : ℕ). widest k (max longest k) (drop (i + 1) xs)) a ∙ ap (widest n longest) (sym (drop_more xs i 0 l)) ∙ e
 

@@ -1,5 +1,6 @@
 -- Diagrams: SVG documents of positions, byte by byte.
-use Rattle.std.specs.Prelude.{◌≡◌, ℕ, ◌+◌, ◌-◌, ◌*◌, ◌/◌, max, Bool, true, false, ◌||◌, ◌==◌, List, [], ◌∷◌, ◌++◌, count_by, nat_lt, slice_index, codes, if◌then◌else◌}
+use Rattle.std.specs.Prelude.{◌≡◌, ℕ, ◌+◌, ◌-◌, ◌*◌, ◌/◌, max, Bool, true, false, ◌||◌, ◌==◌, List, [], ◌∷◌, ◌++◌, count_by, nat_lt, slice_index, codes}
+use Rattle.std.specs.Prelude.{if◌then◌else◌}
 use Rattle.std.specs.Fmt.{decimal}
 use Rattle.std.specs.List.{flat_map}
 use Rattle.gm_game.specs.declared.position.Position.{Position}
@@ -100,8 +101,10 @@ disc_of x y b =
 -- a man with a letter
 unfoldable pub letter_of : ℕ → ℕ → ℕ → List ℕ
 letter_of x y b =
-    if b == 104 then circle x y (codes "\" r=\"27\" fill=\"#000\"/>\n") ++ words_at x (y + 7) (codes "\" font-size=\"20\" stroke=\"none\" fill=\"#fff\">") (codes "h") else
-    if b == 100 then circle x y (codes "\" r=\"27\" fill=\"#fff\"/>\n") ++ words_at x (y + 7) (codes "\" font-size=\"20\" stroke=\"none\" fill=\"#000\">") (codes "d") else
+    if b == 104 then circle x y (codes "\" r=\"27\" fill=\"#000\"/>\n") ++ words_at x (y + 7) (codes "\" font-size=\"20\" stroke=\"none\" fill=\"#fff\">")
+    (codes "h") else
+    if b == 100 then circle x y (codes "\" r=\"27\" fill=\"#fff\"/>\n") ++ words_at x (y + 7) (codes "\" font-size=\"20\" stroke=\"none\" fill=\"#000\">")
+    (codes "d") else
     []
 
 -- the man of a byte of the position's text; nothing where there is none
@@ -130,7 +133,8 @@ label_of style x y b = words_at (label_x style x) (label_y style y) (codes "\" s
 
 -- what stands over that: the men in their places, and the names of rows and columns
 unfoldable pub over_at : Style → List ℕ → ℕ → ℕ → ℕ → List ℕ
-over_at style text x y b = if is_slot b then point_of style x y ++ man_of style x y (slice_index text (b - 65)) else if is_stroke b then [] else label_of style x y b
+over_at style text x y b = if is_slot b then point_of style x y ++ man_of style x y (slice_index text (b - 65)) else if is_stroke b then [] else label_of
+    style x y b
 
 -- ---- a board
 -- where the byte after this one stands: beside it, or where it ends its line, below
@@ -247,7 +251,8 @@ svg_of style title board text drawing caption =
 abbrev pub caption_of : List ℕ → Solved → Bool → List ℕ
 caption_of mover s valued = mover ++ codes " to move" ++ (if valued then codes ": " ++ text_of s else [])
 
-module _ (r : Rules) (shown : Position → List ℕ) (move_shown : Position → ℕ → List ℕ) (drawn mover : Position → List ℕ) (style : Style) (title board : List ℕ) where
+module _ (r : Rules) (shown : Position → List ℕ) (move_shown : Position → ℕ → List ℕ) (drawn mover : Position → List ℕ) (style : Style)
+    (title board : List ℕ) where
   -- the diagram of a position with this value
   abbrev pub diagram_of : Bool → Position → Solved → List ℕ
   diagram_of valued p s = svg_of style title board (shown p) (drawn p) (caption_of (mover p) s valued)

@@ -5,11 +5,8 @@ pub mod Rows
 pub mod Names
 pub mod Points
 pub mod Pictured
-pub mod DrawnLaws
-pub mod RowLaws
-pub mod PointLaws
-pub mod PictureLaws
 pub mod ShowTexts
 pub mod Diagrams
 pub mod Spots
 pub mod Sights
+pub mod laws

@@ -26,4 +26,5 @@ module _ (r : Rules) (shown : Position → List ℕ) (move_shown : Position → 
 
   -- what is shown of the position with this text
   abbrev pub IsShowText : Bool → List ℕ → List ℕ → Type 0
-  IsShowText explained text out = (p : Position) × IsReadAs r shown move_shown text p × (s : Solved) × IsTrueValue r p s × (out ≡ board_text p s ++ explained_text explained p)
+  IsShowText explained text out = (p : Position) × IsReadAs r shown move_shown text p × (s : Solved) × IsTrueValue r p s ×
+      (out ≡ board_text p s ++ explained_text explained p)

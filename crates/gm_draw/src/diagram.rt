@@ -1,9 +1,7 @@
 //! Diagrams of positions for print: SVG documents.
-ghost use Rattle.std.specs.Prelude.{◌≡◌, ◌≤◌, ◌↔◌, ◌++◌, [], length, true, OnOk, IfOk, IsErrOf};
-ghost use Rattle.gm_game.specs.declared.position.Position.{Position};
-ghost use Rattle.gm_play.specs.PlayTexts.{IsReadAs, IsNoPosition};
-ghost use Rattle.gm_best.specs.Refusals.{IsNotHeld};
-ghost use Rattle.gm_draw.specs.Diagrams.{start_of, svg_box, svg_size, svg_open, svg_title, svg_paper, svg_front, svg_net, svg_men, svg_back, svg_of, row_words, over_all, under_all, caption_words, caption_of, diagram_of, IsDiagram};
+ghost use Rattle.std.specs.Prelude.{◌≡◌, ◌≤◌, ◌++◌, [], length, true, OnOk, IfOk};
+ghost use Rattle.gm_draw.specs.Diagrams.{start_of, svg_box, svg_size, svg_open, svg_title, svg_paper, svg_front, svg_net, svg_men, svg_back, svg_of, row_words};
+ghost use Rattle.gm_draw.specs.Diagrams.{over_all, under_all, caption_words, caption_of, diagram_of, IsDiagram};
 ghost use Rattle.gm_draw.specs.Spots.{IsEachOnce};
 
 use crate::drawn::DRAWING;
@@ -11,40 +9,25 @@ use crate::frame::{Frame, frame_of};
 use crate::markup::push_escaped;
 use crate::pictured::{Pictured, Style};
 use crate::svg::{push_at, push_men, push_net, push_number, push_words};
-use gm_best::answer::answer;
-use gm_best::play_error::PlayError;
+use gm_best::known::Known;
 use gm_game::position::{Position, Solved};
 use gm_game::text::value_text;
-use gm_table::tables::Tables;
 use std::alloc::{AllocError, Global};
 
-/// The SVG document of the position with this text: its board with the men in their places, and under it the side to move, with the true value where that is to
-/// be said. Any bytes may be given.
+/// The SVG document of a position: its board with the men in their places, and under it the side to move, with the true value where that is to be said.
 pub fn diagram_text<G: Pictured>(
     alloc: Global,
-    tables: &Tables<G>,
-    text: &[u8],
+    known: &Known<'_, G>,
     valued: bool,
-) -> Result<Vec<u8>, PlayError>
-    ensures text { IfOk result (λ v. IsDiagram G.Game.rules G.shown G.move_shown G.drawn G.mover G.style G.title G.board valued text.now v.items) }
-    ensures illegal { IsErrOf result PlayError.Illegal ↔ IsNoPosition G.Game.rules G.shown G.move_shown text.now }
-    ensures not_held { IsErrOf result PlayError.NotHeld ↔ ((p : Position) × IsReadAs G.Game.rules G.shown G.move_shown text.now p × IsNotHeld G.Game.rules tables.now p) }
+) -> Result<Vec<u8>, AllocError>
+    ensures { IfOk result (λ v. IsDiagram G.Game.rules G.shown G.move_shown G.drawn G.mover G.style G.title G.board valued
+        (G.shown known.now.position) v.items) }
 {
-    let p = match G::read(text) {
-        Some(p) => p,
-        None => return Err(PlayError::Illegal),
-    };
-    let value = match answer(tables, p) {
-        Ok(value) => value,
-        Err(_) => return Err(PlayError::NotHeld),
-    };
-    match diagram::<G>(alloc, p, value, valued) {
-        Ok(drawn) => Ok(drawn),
-        Err(_) => Err(PlayError::OutOfMemory),
-    }
+    diagram::<G>(alloc, known.position, known.value(), valued)
 }
 
-/// Has no effect; its contract states the law of diagrams: over the net of a board, the man of each byte of a position's text stands once, at a point of its own.
+/// Has no effect; its contract states the law of diagrams: over the net of a board, the man of each byte of a position's text stands once, at a point of its
+/// own.
 pub fn each_once<G: Pictured>(bytes: &[u8])
     ensures { IsEachOnce G.style bytes.now G.board }
 {}

@@ -1,6 +1,7 @@
 //! The size of a diagram.
 ghost use Rattle.std.specs.Prelude.{◌≡◌, ◌<◌, ◌≤◌, ◌==◌, ◌+◌, ◌*◌, ◌-◌, count_by, length, max};
-ghost use Rattle.gm_draw.specs.Diagrams.{next_length as next_length_spec, widest as widest_spec, end_by, left_of, middle_of as middle_spec, width_of, margin_of, height_of};
+ghost use Rattle.gm_draw.specs.Diagrams.{next_length as next_length_spec, widest as widest_spec, end_by, left_of, middle_of as middle_spec, width_of};
+ghost use Rattle.gm_draw.specs.Diagrams.{margin_of, height_of};
 
 use crate::drawn::DRAWING;
 use crate::pictured::Style;

@@ -10,10 +10,10 @@ ghost use Rattle.gm_pong.specs.PongRules.{pong};
 ghost use Rattle.gm_shisima.specs.ShisimaRules.{shisima};
 ghost use Rattle.gm_draw.specs.Pictures.{ring_board, pong_board, hare_board};
 ghost use Rattle.gm_draw.specs.Names.{x_moves, hare_mover, ring_naming, pong_naming, hare_naming};
-ghost use Rattle.gm_draw.specs.DrawnLaws.{ring_drawn, pong_drawn, shisima_drawn, hare_drawn};
+ghost use Rattle.gm_draw.specs.laws.Drawn.{ring_drawn, pong_drawn, shisima_drawn, hare_drawn};
 ghost use Rattle.gm_draw.specs.declared.pictured.Style.TheVariants.{Discs, Letters};
 ghost use Rattle.gm_draw.specs.Points.{ring_points, pong_points, hare_points};
-ghost use Rattle.gm_draw.specs.PictureLaws.{ring_pictured, pong_pictured, shisima_pictured, hare_pictured};
+ghost use Rattle.gm_draw.specs.laws.Pictures.{ring_pictured, pong_pictured, shisima_pictured, hare_pictured};
 
 use crate::drawn::{Drawing, Drawn, fill};
 use crate::pictured::{Pictured, Style, line_of};
@@ -171,12 +171,12 @@ impl Pictured for MuTorere {
         RING
     }
 
-    #[tactic(auto, using(crate::specs::PointLaws::ring_many))]
+    #[tactic(auto, using(crate::specs::laws::Points::ring_many))]
     fn points() -> usize {
         9
     }
 
-    #[tactic(auto, using(crate::specs::PointLaws::ring_many))]
+    #[tactic(auto, using(crate::specs::laws::Points::ring_many))]
     fn point(k: usize) -> Line {
         line_of(ring_point(k))
     }
@@ -222,12 +222,12 @@ impl Pictured for Pong {
         PONG
     }
 
-    #[tactic(auto, using(crate::specs::PointLaws::pong_many))]
+    #[tactic(auto, using(crate::specs::laws::Points::pong_many))]
     fn points() -> usize {
         5
     }
 
-    #[tactic(auto, using(crate::specs::PointLaws::pong_many))]
+    #[tactic(auto, using(crate::specs::laws::Points::pong_many))]
     fn point(k: usize) -> Line {
         line_of(pong_point(k))
     }
@@ -257,12 +257,12 @@ impl Pictured for Shisima {
         RING
     }
 
-    #[tactic(auto, using(crate::specs::PointLaws::ring_many))]
+    #[tactic(auto, using(crate::specs::laws::Points::ring_many))]
     fn points() -> usize {
         9
     }
 
-    #[tactic(auto, using(crate::specs::PointLaws::ring_many))]
+    #[tactic(auto, using(crate::specs::laws::Points::ring_many))]
     fn point(k: usize) -> Line {
         line_of(ring_point(k))
     }
@@ -314,12 +314,12 @@ impl Pictured for Hare {
         HUNT
     }
 
-    #[tactic(auto, using(crate::specs::PointLaws::hare_many))]
+    #[tactic(auto, using(crate::specs::laws::Points::hare_many))]
     fn points() -> usize {
         11
     }
 
-    #[tactic(auto, using(crate::specs::PointLaws::hare_many))]
+    #[tactic(auto, using(crate::specs::laws::Points::hare_many))]
     fn point(k: usize) -> Line {
         line_of(hare_point(k))
     }

@@ -4,10 +4,10 @@ ghost use Rattle.std.specs.Fmt.{decimal};
 ghost use Rattle.gm_game.specs.declared.position.Position.{Position};
 ghost use Rattle.gm_draw.specs.Rows.{countdown_row as countdown_row_of, takeaway_row as takeaway_row_of, wheel_row as wheel_row_of};
 ghost use Rattle.gm_draw.specs.Names.{player_moves, countdown_naming, takeaway_naming, wheel_naming};
-ghost use Rattle.gm_draw.specs.RowLaws.{countdown_drawn, takeaway_drawn, wheel_drawn};
+ghost use Rattle.gm_draw.specs.laws.Rows.{countdown_drawn, takeaway_drawn, wheel_drawn};
 ghost use Rattle.gm_draw.specs.declared.pictured.Style.TheVariants.{Row};
 ghost use Rattle.gm_draw.specs.Points.{number_points, countdown_board, takeaway_board, wheel_board};
-ghost use Rattle.gm_draw.specs.PictureLaws.{countdown_pictured, takeaway_pictured, wheel_pictured};
+ghost use Rattle.gm_draw.specs.laws.Pictures.{countdown_pictured, takeaway_pictured, wheel_pictured};
 
 use crate::drawn::{DRAWING, Drawing, Drawn};
 use crate::pictured::{Pictured, Style, line_of};
@@ -187,12 +187,12 @@ impl Pictured for Countdown<10> {
         b"0 1 2 3 4 5 6 7 8 9 10"
     }
 
-    #[tactic(auto, using(crate::specs::PointLaws::number_many))]
+    #[tactic(auto, using(crate::specs::laws::Points::number_many))]
     fn points() -> usize {
         11
     }
 
-    #[tactic(auto, using(crate::specs::PointLaws::number_many, crate::specs::PointLaws::number_named))]
+    #[tactic(auto, using(crate::specs::laws::Points::number_many, crate::specs::laws::Points::number_named))]
     fn point(k: usize) -> Line {
         number_name(k)
     }
@@ -222,12 +222,12 @@ impl Pictured for Takeaway {
         b"0 1 2 3 4 5 6 7 8 9 10 11 12"
     }
 
-    #[tactic(auto, using(crate::specs::PointLaws::number_many))]
+    #[tactic(auto, using(crate::specs::laws::Points::number_many))]
     fn points() -> usize {
         13
     }
 
-    #[tactic(auto, using(crate::specs::PointLaws::number_many, crate::specs::PointLaws::number_named))]
+    #[tactic(auto, using(crate::specs::laws::Points::number_many, crate::specs::laws::Points::number_named))]
     fn point(k: usize) -> Line {
         number_name(k)
     }
@@ -257,12 +257,12 @@ impl Pictured for Wheel {
         b"0 1 2 3 4 5 6 7 8 9"
     }
 
-    #[tactic(auto, using(crate::specs::PointLaws::number_many))]
+    #[tactic(auto, using(crate::specs::laws::Points::number_many))]
     fn points() -> usize {
         10
     }
 
-    #[tactic(auto, using(crate::specs::PointLaws::number_many, crate::specs::PointLaws::number_named))]
+    #[tactic(auto, using(crate::specs::laws::Points::number_many, crate::specs::laws::Points::number_named))]
     fn point(k: usize) -> Line {
         number_name(k)
     }

@@ -1,42 +1,23 @@
 //! What is shown of a position: the board, the side to move, and the value.
-ghost use Rattle.std.specs.Prelude.{◌≡◌, ◌↔◌, ◌++◌, codes, true, OnOk, IfOk, IsErrOf};
-ghost use Rattle.gm_game.specs.declared.position.Position.{Position};
-ghost use Rattle.gm_play.specs.PlayTexts.{IsReadAs, IsNoPosition};
-ghost use Rattle.gm_best.specs.Refusals.{IsNotHeld};
+ghost use Rattle.std.specs.Prelude.{◌≡◌, ◌++◌, codes, true, OnOk, IfOk};
 ghost use Rattle.gm_draw.specs.ShowTexts.{board_text, naming_text, first_move, explained_text, IsShowText};
 
 use crate::drawn::Drawn;
-use gm_best::answer::answer;
-use gm_best::play_error::PlayError;
+use gm_best::known::Known;
 use gm_game::position::{Position, Solved};
 use gm_game::text::value_text;
-use gm_table::tables::Tables;
 use std::alloc::{AllocError, Global};
 
-/// The board of the position with this text, with a line for the side to move and the true value; where an explanation is asked for, also how cells, positions
-/// and moves are written. Any bytes may be given.
+/// The board of a position, with a line for the side to move and the true value; where an explanation is asked for, also how cells, positions and moves are
+/// written.
 pub fn show_text<G: Drawn>(
     alloc: Global,
-    tables: &Tables<G>,
-    text: &[u8],
+    known: &Known<'_, G>,
     explained: bool,
-) -> Result<Vec<u8>, PlayError>
-    ensures text { IfOk result (λ v. IsShowText G.Game.rules G.shown G.move_shown G.drawn G.mover G.naming explained text.now v.items) }
-    ensures illegal { IsErrOf result PlayError.Illegal ↔ IsNoPosition G.Game.rules G.shown G.move_shown text.now }
-    ensures not_held { IsErrOf result PlayError.NotHeld ↔ ((p : Position) × IsReadAs G.Game.rules G.shown G.move_shown text.now p × IsNotHeld G.Game.rules tables.now p) }
+) -> Result<Vec<u8>, AllocError>
+    ensures { IfOk result (λ v. IsShowText G.Game.rules G.shown G.move_shown G.drawn G.mover G.naming explained (G.shown known.now.position) v.items) }
 {
-    let p = match G::read(text) {
-        Some(p) => p,
-        None => return Err(PlayError::Illegal),
-    };
-    let value = match answer(tables, p) {
-        Ok(value) => value,
-        Err(_) => return Err(PlayError::NotHeld),
-    };
-    match board_and_naming::<G>(alloc, p, value, explained) {
-        Ok(shown) => Ok(shown),
-        Err(_) => Err(PlayError::OutOfMemory),
-    }
+    board_and_naming::<G>(alloc, known.position, known.value(), explained)
 }
 
 // The board of a legal position of this value, and how it is written.
@@ -47,7 +28,8 @@ fn board_and_naming<G: Drawn>(
     explained: bool,
 ) -> Result<Vec<u8>, AllocError>
     requires { G.Game.rules.is_legal p ≡ true }
-    ensures { IfOk result (λ v. v.items ≡ board_text G.Game.rules G.shown G.move_shown G.drawn G.mover G.naming p value ++ explained_text G.Game.rules G.shown G.move_shown G.drawn G.mover G.naming explained p) }
+    ensures { IfOk result (λ v. v.items ≡ board_text G.Game.rules G.shown G.move_shown G.drawn G.mover G.naming p value ++ explained_text G.Game.rules
+        G.shown G.move_shown G.drawn G.mover G.naming explained p) }
 {
     let mut text = Vec::new(alloc);
     text.extend_from_slice(G::draw(p).as_slice())?;

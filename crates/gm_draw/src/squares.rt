@@ -9,10 +9,10 @@ ghost use Rattle.gm_tactix.specs.Texts.{position_text as tactix_text};
 ghost use Rattle.gm_draw.specs.Templates.{filled};
 ghost use Rattle.gm_draw.specs.Pictures.{nine_points, dao_board, tactix_board as tactix_board_of};
 ghost use Rattle.gm_draw.specs.Names.{x_moves, player_moves, nine_naming as nine_naming_of, dao_naming, tactix_naming};
-ghost use Rattle.gm_draw.specs.DrawnLaws.{nine_drawn, dao_drawn, tactix_drawn};
+ghost use Rattle.gm_draw.specs.laws.Drawn.{nine_drawn, dao_drawn, tactix_drawn};
 ghost use Rattle.gm_draw.specs.declared.pictured.Style.TheVariants.{Counters, Stones};
 ghost use Rattle.gm_draw.specs.Points.{square_points, nine_title as nine_title_of, nine_style as nine_style_of, tactix_title as tactix_title_of};
-ghost use Rattle.gm_draw.specs.PictureLaws.{nine_pictured, dao_pictured, tactix_pictured};
+ghost use Rattle.gm_draw.specs.laws.Pictures.{nine_pictured, dao_pictured, tactix_pictured};
 
 use crate::drawn::{DRAWING, Drawing, Drawn, fill};
 use crate::pictured::{Pictured, Style, line_of};
@@ -152,7 +152,7 @@ impl<const N: u32, const MISERE: bool> Drawn for TacTix<N, MISERE> {
 }
 
 // The name of a cell of a square.
-#[tactic(auto, using(crate::specs::PointLaws::square_named))]
+#[tactic(auto, using(crate::specs::laws::Points::square_named))]
 fn cell_name(side: u32, k: usize) -> Line
     requires low { 1 ≤ side }
     requires high { side ≤ 5 }
@@ -200,12 +200,12 @@ impl<const LAST: u64> Pictured for NinePoints<LAST> {
         nine_board(Variant::with_last_tier(LAST))
     }
 
-    #[tactic(auto, using(crate::specs::PointLaws::square_many))]
+    #[tactic(auto, using(crate::specs::laws::Points::square_many))]
     fn points() -> usize {
         9
     }
 
-    #[tactic(auto, using(crate::specs::PointLaws::square_many))]
+    #[tactic(auto, using(crate::specs::laws::Points::square_many))]
     fn point(k: usize) -> Line {
         cell_name(3, k)
     }
@@ -235,12 +235,12 @@ impl Pictured for Dao {
         DAO
     }
 
-    #[tactic(auto, using(crate::specs::PointLaws::square_many))]
+    #[tactic(auto, using(crate::specs::laws::Points::square_many))]
     fn points() -> usize {
         16
     }
 
-    #[tactic(auto, using(crate::specs::PointLaws::square_many))]
+    #[tactic(auto, using(crate::specs::laws::Points::square_many))]
     fn point(k: usize) -> Line {
         cell_name(4, k)
     }
@@ -286,13 +286,13 @@ impl<const N: u32, const MISERE: bool> Pictured for TacTix<N, MISERE> {
         tactix_board(side_for(N))
     }
 
-    #[tactic(auto, using(crate::specs::PointLaws::square_many))]
+    #[tactic(auto, using(crate::specs::laws::Points::square_many))]
     fn points() -> usize {
         let side = side_for(N) as usize;
         side * side
     }
 
-    #[tactic(auto, using(crate::specs::PointLaws::square_many))]
+    #[tactic(auto, using(crate::specs::laws::Points::square_many))]
     fn point(k: usize) -> Line {
         cell_name(side_for(N), k)
     }

@@ -1,8 +1,10 @@
 //! The elements of a diagram.
 ghost use Rattle.std.specs.Prelude.{◌≡◌, ◌≤◌, ◌++◌, ◌+◌, ◌-◌, slice_index, length, OnOk};
 ghost use Rattle.std.specs.Fmt.{decimal};
-ghost use Rattle.gm_draw.specs.Diagrams.{at_point, path, circle, words_at, stroke_of, has_cells as has_cells_spec, has_points as has_points_spec, is_stroke as is_stroke_spec};
-ghost use Rattle.gm_draw.specs.Diagrams.{under_at, over_at, point_of, label_x as label_x_spec, label_y as label_y_spec, label_of, next_x as next_x_spec, next_y as next_y_spec, spread};
+ghost use Rattle.gm_draw.specs.Diagrams.{at_point, path, circle, words_at, stroke_of, has_cells as has_cells_spec, has_points as has_points_spec};
+ghost use Rattle.gm_draw.specs.Diagrams.{is_stroke as is_stroke_spec};
+ghost use Rattle.gm_draw.specs.Diagrams.{under_at, over_at, point_of, label_x as label_x_spec, label_y as label_y_spec, label_of, next_x as next_x_spec};
+ghost use Rattle.gm_draw.specs.Diagrams.{next_y as next_y_spec, spread};
 
 use crate::drawn::DRAWING;
 use crate::markup::push_escaped;

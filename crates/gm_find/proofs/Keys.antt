@@ -41,13 +41,16 @@ module _ (ks new : List (ℕ × ℕ)) (c : Position) (h : Inserts ks new c.tier 
   inserted_grown k has = key_found k.0 k.1 new (h k ∙ cond_true (is_key c.tier c.index k) (list_any (is_key k.0 k.1) ks) (key_there k.0 k.1 ks has))
 
   pub inserted_there : Contains new (key_of c)
-  inserted_there = key_found c.tier c.index new (h (key_of c) ∙ ap (λ (b : Bool). cond b true (list_any (is_key c.tier c.index) ks)) (and_from (nat_eq c.tier c.tier) (nat_eq c.index c.index) (eq-eqb c.tier c.tier refl) (eq-eqb c.index c.index refl)))
+  inserted_there = key_found c.tier c.index new (h (key_of c) ∙ ap (λ (b : Bool). cond b true (list_any (is_key c.tier c.index) ks))
+      (and_from (nat_eq c.tier c.tier) (nat_eq c.index c.index) (eq-eqb c.tier c.tier refl) (eq-eqb c.index c.index refl)))
 
   pub inserted_only : (d : Position) → Contains new (key_of d) → Contains ks (key_of d) ⊎ (c ≡ d)
-  inserted_only d has = elim (cond_parts (is_key c.tier c.index (key_of d)) (list_any (is_key d.tier d.index) ks) (sym (h (key_of d)) ∙ key_there d.tier d.index new has)) [
-    | inl e ↦ inl (key_found d.tier d.index ks e)
-    | inr e ↦ inr (let (a, b) = and_parts (nat_eq c.tier d.tier) (nat_eq c.index d.index) e in sym (ap (λ (k : ℕ × ℕ). at k.0 k.1) (same_pair c.tier c.index (key_of d) (eqb-true c.tier d.tier a) (eqb-true c.index d.index b))))
-  ]
+  inserted_only d has = elim (cond_parts (is_key c.tier c.index (key_of d)) (list_any (is_key d.tier d.index) ks)
+      (sym (h (key_of d)) ∙ key_there d.tier d.index new has)) [
+        | inl e ↦ inl (key_found d.tier d.index ks e)
+        | inr e ↦ inr (let (a, b) = and_parts (nat_eq c.tier d.tier) (nat_eq c.index d.index) e in sym
+            (ap (λ (k : ℕ × ℕ). at k.0 k.1) (same_pair c.tier c.index (key_of d) (eqb-true c.tier d.tier a) (eqb-true c.index d.index b))))
+      ]
 
   -- a key that is new waits
   pub inserted_new : (waiting : List Position) → AreWaiting ks waiting new (waiting ++ c ∷ [])

@@ -1,5 +1,6 @@
 -- The elements of a list that have a property, with one element or list more.
-use Rattle.std.proofs.Common.{◌≡◌, ℕ, zero, suc, ◌<◌, ◌≤◌, ◌+◌, ◌-◌, inl, inr, List, [], ◌∷◌, ◌++◌, map, take, length, refl, sym, ap, ◌∙◌, subst, arith, append_assoc, length-append}
+use Rattle.std.proofs.Common.{◌≡◌, ℕ, zero, suc, ◌<◌, ◌≤◌, ◌+◌, ◌-◌, inl, inr, List, [], ◌∷◌, ◌++◌, map, take, length, refl, sym, ap, ◌∙◌, subst, arith}
+use Rattle.std.proofs.Common.{append_assoc, length-append}
 use Rattle.std.specs.List.{Contains, range_with_len}
 use Rattle.std.proofs.lemmas.Bool.{cases_lt}
 use Rattle.gm_game.specs.Rules.{IsAscending}
@@ -71,7 +72,8 @@ module _ {A : Type 0} (P : A → Type 0) where
   first_append (suc n) (x ∷ xs) zs ys ws (inr (p, t)) k = inr (p, first_append (suc n) xs zs ys ws t k)
 
   -- a list that grows by those of some further elements
-  pub first_more : (limit : ℕ) (old cur new more add xs zs : List A) → cur ≡ old ++ more → new ≡ cur ++ add → IsFirst P (limit - length old) xs more → IsFirst P (limit - length cur) zs add
+  pub first_more : (limit : ℕ) (old cur new more add xs zs : List A) → cur ≡ old ++ more → new ≡ cur ++ add → IsFirst P (limit - length old) xs more →
+      IsFirst P (limit - length cur) zs add
       → (all : List A) × (new ≡ old ++ all) × IsFirst P (limit - length old) (xs ++ zs) all
   first_more limit old cur new more add xs zs e f h k =
       let long : length cur ≡ length old + length more = ap length e ∙ length-append old more in
@@ -82,7 +84,8 @@ module _ {A : Type 0} (P : A → Type 0) where
       )
 
   -- the limit is reached before the end of a list
-  pub first_full : (limit : ℕ) (old cur more : List A) (k : ℕ) (xs : List A) → cur ≡ old ++ more → IsFirst P (limit - length old) (take k xs) more → limit ≤ length cur
+  pub first_full : (limit : ℕ) (old cur more : List A) (k : ℕ) (xs : List A) → cur ≡ old ++ more → IsFirst P (limit - length old) (take k xs) more → limit ≤
+      length cur
       → (all : List A) × (cur ≡ old ++ all) × IsFirst P (limit - length old) xs all
   first_full limit old cur more k xs e h l =
       let long : length cur ≡ length old + length more = ap length e ∙ length-append old more in
@@ -91,7 +94,11 @@ module _ {A : Type 0} (P : A → Type 0) where
   -- of an ascending list of numbers that has all those with the property, the first are those of all numbers
   ascending_above : (x : ℕ) (xs : List ℕ) → IsAscending (x ∷ xs) → (y : ℕ) → Contains xs y → x < y
   ascending_above x [] h y c = absurd (contains_none y c)
-  ascending_above x (z ∷ xs) h y c = elim (contains_cases z y xs c) [ inl e ↦ (let l = h.0 in omega arith) | inr d ↦ (let l = h.0 in let m = ascending_above z xs h.1 y d in omega arith) ]
+  ascending_above x (z ∷ xs) h y c = elim (contains_cases z y xs c) [
+    | inl e ↦ (let l = h.0 in omega arith)
+    | inr d ↦
+        (let l = h.0 in let m = ascending_above z xs h.1 y d in omega arith)
+  ]
 
   ascending_rest : (x : ℕ) (xs : List ℕ) → IsAscending (x ∷ xs) → IsAscending xs
   ascending_rest x [] h = tt
@@ -126,7 +133,8 @@ module _ {A : Type 0} (P : A → Type 0) where
     above_all k i is l h j c = elim (contains_cases i j is c) [ inl e ↦ omega arith | inr d ↦ (let m = ascending_above i is h j d in omega arith) ]
 
     -- the next number is in the run
-    there : (m k i : ℕ) (is ns : List ℕ) (ys : List A) → i ≡ k → ((j : ℕ) (zs : List A) → IsFirst P j (map f is) zs → IsFirst P j (map f ns) zs) → IsFirst P (suc m) (f i ∷ map f is) ys → IsFirst P (suc m) (f k ∷ map f ns) ys
+    there : (m k i : ℕ) (is ns : List ℕ) (ys : List A) → i ≡ k → ((j : ℕ) (zs : List A) → IsFirst P j (map f is) zs → IsFirst P j (map f ns) zs) → IsFirst P
+        (suc m) (f i ∷ map f is) ys → IsFirst P (suc m) (f k ∷ map f ns) ys
     there m k i is ns ys e step (inl (rest, p, q, t)) = inl (rest, subst (λ (j : ℕ). P (f j)) e p, q ∙ ap (λ (j : ℕ). f j ∷ rest) e, step m rest t)
     there m k i is ns ys e step (inr (p, t)) = inr (λ q. p (subst (λ (j : ℕ). P (f j)) (sym e) q), step (suc m) ys t)
 
@@ -134,9 +142,17 @@ module _ {A : Type 0} (P : A → Type 0) where
     run_first zero m k [] ys run h = h
     run_first zero m k (i ∷ is) ys run h = let w = run.within i (contains_first i is) in let a = w.0 in let b = w.1 in absurd (omega arith)
     run_first (suc n) zero k is ys run h = first_zero (map f is) ys h
-    run_first (suc n) (suc m) k [] ys run h = inr (λ p. contains_none k (run.all k (omega arith) (omega arith) p), run_first n (suc m) (k + 1) [] ys (later k n [] (λ i c. absurd (contains_none i c)) run) h)
+    run_first (suc n) (suc m) k [] ys run h = inr (
+      λ p. contains_none k (run.all k (omega arith) (omega arith) p),
+      run_first n (suc m) (k + 1) [] ys
+          (later k n [] (λ i c. absurd (contains_none i c)) run) h,
+    )
     run_first (suc n) (suc m) k (i ∷ is) ys run h = elim (cases_lt k i) [
-      | inl l ↦ inr (λ p. absent k i is l run.ascending (run.all k (omega arith) (omega arith) p), run_first n (suc m) (k + 1) (i ∷ is) ys (later k n (i ∷ is) (above_all k i is l run.ascending) run) h)
+      | inl l ↦ inr (
+        λ p. absent k i is l run.ascending (run.all k (omega arith) (omega arith) p),
+        run_first n (suc m) (k + 1) (i ∷ is) ys
+            (later k n (i ∷ is) (above_all k i is l run.ascending) run) h,
+      )
       | inr l ↦ (
           let w = (run.within i (contains_first i is)).0 in
           let e : i ≡ k = omega arith in

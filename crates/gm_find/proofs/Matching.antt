@@ -1,5 +1,6 @@
 -- What is known of sought positions.
-use Rattle.std.proofs.Common.{◌≡◌, ℕ, ◌<◌, ◌+◌, ◌↔◌, inl, inr, ◌==◌, if◌then◌else◌, eqb-true, Bool, true, false, List, ◌∷◌, [], length, take, get_or, refl, sym, ap, ◌∙◌, subst, arith, IsTrue, Option, None, Some, Result, Ok, Err, IfOk}
+use Rattle.std.proofs.Common.{◌≡◌, ℕ, ◌<◌, ◌+◌, ◌↔◌, inl, inr, ◌==◌, if◌then◌else◌, eqb-true, Bool, true, false, List, ◌∷◌, [], length, take, get_or, refl, sym}
+use Rattle.std.proofs.Common.{ap, ◌∙◌, subst, arith, IsTrue, Option, None, Some, Result, Ok, Err, IfOk}
 use Rattle.std.specs.List.{Contains}
 use Rattle.std.proofs.lemmas.Option.{same_Some}
 use Rattle.std.proofs.lemmas.List.{take_more}
@@ -17,11 +18,11 @@ use Rattle.gm_game.specs.Records.{IsRecord}
 use Rattle.gm_game.specs.Rules.{Rules, at, IsCanonical, IsAscending}
 use Rattle.gm_game.specs.Values.{HasValue, IsTrueValue}
 use Rattle.gm_game.proofs.Basic.{HasValue_once}
-use Rattle.gm_table.specs.Tables.{TableData, IsHeld, AreHeld}
+use Rattle.gm_table.specs.Tables.{TableData, IsHeld}
 use Rattle.gm_find.specs.declared.sought.Sought.{Sought}
 use Rattle.gm_find.specs.declared.sought.Span.{Span}
 use Rattle.gm_find.specs.Lists.{AreThose}
-use Rattle.gm_find.specs.Finding.{IsMatch, IsAskedFor, IsValueOf, IsFitting, IsOnlyLine, level_of, place_for, kept_by, KeepsValue, HasOnlyMove, AreTiersHeld}
+use Rattle.gm_find.specs.Finding.{IsMatch, IsAskedFor, IsValueOf, IsFitting, IsOnlyLine, level_of, place_for, kept_by, KeepsValue, HasOnlyMove}
 use Rattle.gm_find.proofs.ListLemmas.{those_once, IsRun}
 
 -- the one remoteness, where there is one
@@ -38,21 +39,31 @@ asked_level (Some s) n h = pick (s.least == s.most) refl
     pick false e = tt
 
 -- a position that is sought stands at the place that is searched
-stands : (r : Rules) (p : Position) (v : Value) (o : Option ℕ) (place : Phase × ℕ) (s : Solved) → Some place ≡ place_for v o → IsTrueValue r p s → v ≡ s.value → IsLevel o s.remoteness → StandsAt r place.0 place.1 p
+stands : (r : Rules) (p : Position) (v : Value) (o : Option ℕ) (place : Phase × ℕ) (s : Solved) → Some place ≡ place_for v o → IsTrueValue r p s → v ≡
+    s.value → IsLevel o s.remoteness → StandsAt r place.0 place.1 p
 stands r p v None place s e h w n = absurd (cc)
-stands r p Lose (Some k) place s e h w n = let q = same_Some place (WinLose, k) e in subst (λ (x : Phase × ℕ). StandsAt r x.0 x.1 p) (sym q) (inr (subst (λ (x : Value). HasValue r p x k) (sym w) (subst (λ (x : ℕ). HasValue r p s.value x) (sym n) h)))
+stands r p Lose (Some k) place s e h w n = let q = same_Some place (WinLose, k) e in subst (λ (x : Phase × ℕ). StandsAt r x.0 x.1 p) (sym q)
+    (inr (subst (λ (x : Value). HasValue r p x k) (sym w) (subst (λ (x : ℕ). HasValue r p s.value x) (sym n) h)))
 stands r p Draw (Some k) place s e h w n = absurd (cc)
-stands r p Tie (Some k) place s e h w n = let q = same_Some place (Ties, k) e in subst (λ (x : Phase × ℕ). StandsAt r x.0 x.1 p) (sym q) (subst (λ (x : Value). HasValue r p x k) (sym w) (subst (λ (x : ℕ). HasValue r p s.value x) (sym n) h))
-stands r p Win (Some k) place s e h w n = let q = same_Some place (WinLose, k) e in subst (λ (x : Phase × ℕ). StandsAt r x.0 x.1 p) (sym q) (inl (subst (λ (x : Value). HasValue r p x k) (sym w) (subst (λ (x : ℕ). HasValue r p s.value x) (sym n) h)))
+stands r p Tie (Some k) place s e h w n = let q = same_Some place (Ties, k) e in subst (λ (x : Phase × ℕ). StandsAt r x.0 x.1 p) (sym q)
+    (subst (λ (x : Value). HasValue r p x k) (sym w) (subst (λ (x : ℕ). HasValue r p s.value x) (sym n) h))
+stands r p Win (Some k) place s e h w n = let q = same_Some place (WinLose, k) e in subst (λ (x : Phase × ℕ). StandsAt r x.0 x.1 p) (sym q)
+    (inl (subst (λ (x : Value). HasValue r p x k) (sym w) (subst (λ (x : ℕ). HasValue r p s.value x) (sym n) h)))
 
 -- the run of a tier at that place has every index that is sought
-pub run_has : (r : Rules) → IsGame r → (entries : List TableData) (q : Sought) (reached : Bool) (tier level : ℕ) (phase : Phase) (is : List ℕ) → Some (phase, level) ≡ place_for q.value (level_of q.remoteness) → IsHeld entries tier → IsAscending is
+pub run_has : (r : Rules) → IsGame r → (entries : List TableData) (q : Sought) (reached : Bool) (tier level : ℕ) (phase : Phase) (is : List ℕ) → Some
+    (phase, level) ≡ place_for q.value (level_of q.remoteness) → IsHeld entries tier → IsAscending is
     → ((i : ℕ) → Contains is i ↔ (IsHeld entries tier × IsCanonical r (at tier i) × StandsAt r phase level (at tier i)))
     → IsRun (IsMatch r q reached) (at tier) 0 (r.tier_size tier) is
 run_has r g entries q reached tier level phase is e held up exact = record {
   ascending = up;
   within = λ i c. (omega arith, (let l = g.index_below (at tier i) ((exact i).0 c).1.0 in omega arith));
-  all = λ i a b m. (exact i).1 (held, m.canonical, stands r (at tier i) q.value (level_of q.remoteness) (phase, level) m.value.0 e m.value.1 m.value.2.0 (asked_level q.remoteness m.value.0.remoteness m.value.2.1));
+  all = λ i a b m. (exact i).1 (
+    held,
+    m.canonical,
+    stands r (at tier i) q.value (level_of q.remoteness) (phase, level) m.value.0 e m.value.1 m.value.2.0
+        (asked_level q.remoteness m.value.0.remoteness m.value.2.1),
+  );
 }
 
 -- a record that is there, or not
@@ -77,17 +88,17 @@ line_left r q reached p s c h f = (
 pub fitting : (r : Rules) (q : Sought) (reached : Bool) (p : Position) (s : Solved) → IsTrueValue r p s → IsMatch r q reached p → IsFitting r q reached p s
 fitting r q reached p s h m = (match_value r q reached p s h m, (m.choice, m.only), m.reaches)
 
--- an answer about a fact is one about another that comes to the same
-pub same_result : {E : Type 0} (o : Result Bool E) (A B : Type 0) → (A ↔ B) → IfOk o (λ (b : Bool). IsTrue b ↔ A) → IfOk o (λ (b : Bool). IsTrue b ↔ B)
-same_result (Err x) A B e h = h
-same_result (Ok b) A B e h = (λ t. e.0 (h.0 t), λ x. h.1 (e.1 x))
-
 -- a move keeps a value
 pub keeps_is : (r : Rules) (p c : Position) (m : ℕ) (v : Value) (s : Solved) → c ≡ r.play p m → IsTrueValue r c s → s.value ≡ kept_by v → KeepsValue r v p m
-keeps_is r p c m v s e h w = (s.remoteness, subst (λ (x : Value). HasValue r (r.play p m) x s.remoteness) w (subst (λ (x : Position). HasValue r x s.value s.remoteness) e h))
+keeps_is r p c m v s e h w = (
+  s.remoteness,
+  subst (λ (x : Value). HasValue r (r.play p m) x s.remoteness) w
+      (subst (λ (x : Position). HasValue r x s.value s.remoteness) e h),
+)
 
 pub is_kept : (r : Rules) (p c : Position) (m : ℕ) (v : Value) (s : Solved) → c ≡ r.play p m → IsTrueValue r c s → KeepsValue r v p m → s.value ≡ kept_by v
-is_kept r p c m v s e h k = (HasValue_once r (r.play p m) s.value (kept_by v) s.remoteness k.0 (subst (λ (x : Position). HasValue r x s.value s.remoteness) e h) k.1).0
+is_kept r p c m v s e h k = (HasValue_once r (r.play p m) s.value (kept_by v) s.remoteness k.0
+    (subst (λ (x : Position). HasValue r x s.value s.remoteness) e h) k.1).0
 
 -- one move keeps it
 one_element : (ms : List ℕ) → length ms ≡ 1 → (m : ℕ) × (ms ≡ m ∷ [])
@@ -100,21 +111,3 @@ only_is r p v kept h e = let (m, q) = one_element kept e in (m, subst (AreThose 
 
 pub is_only : (r : Rules) (p : Position) (v : Value) (kept : List ℕ) → AreThose (KeepsValue r v p) (r.moves p) kept → HasOnlyMove r v p → length kept ≡ 1
 is_only r p v kept h (m, k) = ap length (those_once (KeepsValue r v p) (r.moves p) kept (m ∷ []) h k)
-
--- the result of a move has a table
-pub result_held : (r : Rules) → IsGame r → (entries : List TableData) (p : Position) (m : ℕ) → r.is_legal p ≡ true → Contains (r.moves p) m → IsHeld entries p.tier → AreHeld r entries p.tier → IsHeld entries (r.play p m).tier
-result_held r g entries p m legal has own held =
-    elim (g.play_tier p m legal has) [ inl e ↦ subst (IsHeld entries) (sym e) own | inr c ↦ held (r.play p m).tier c ]
-
--- one tier more is held
-pub more_held : (r : Rules) (entries : List TableData) (tiers : List ℕ) (k : ℕ) → k < length tiers → AreTiersHeld r entries (take k tiers) → IsHeld entries (get_or tiers k 0) → AreHeld r entries (get_or tiers k 0) → AreTiersHeld r entries (take (k + 1) tiers)
-more_held r entries tiers k l before own held tier has =
-    elim (Contains-push_cases (take k tiers) (get_or tiers k 0) tier (subst (λ (ts : List ℕ). Contains ts tier) (take_more tiers k 0 l) has)) [
-      | inl c ↦ before tier c
-      | inr e ↦ subst (λ (t : ℕ). IsHeld entries t × AreHeld r entries t) e (own, held)
-    ]
-
--- what is known anyway is known of each answer
-pub known_if_ok : {X Y : Type 0} (r : Result X Y) (P : Type 0) → P → IfOk r (λ (x : X). P)
-known_if_ok (Ok x) P p = p
-known_if_ok (Err y) P p = tt

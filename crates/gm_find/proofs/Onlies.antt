@@ -1,5 +1,6 @@
 -- Moves that keep a value, up to symmetry, and wins in which there is one at each turn.
-use Rattle.std.proofs.Common.{◌≡◌, ℕ, zero, suc, ◌<◌, ◌≤◌, ◌+◌, ◌-◌, ◌↔◌, ◌⊎◌, inl, inr, Bool, IsTrue, List, [], ◌∷◌, ◌++◌, take, get_or, length, refl, sym, ◌∙◌, subst, arith, Option, None, Some, IfSome}
+use Rattle.std.proofs.Common.{◌≡◌, ℕ, zero, suc, ◌<◌, ◌≤◌, ◌+◌, ◌-◌, ◌↔◌, ◌⊎◌, inl, inr, Bool, IsTrue, List, [], ◌∷◌, ◌++◌, take, get_or, length, refl, sym}
+use Rattle.std.proofs.Common.{◌∙◌, subst, arith, Option, None, Some}
 use Rattle.std.specs.List.{Contains}
 use Rattle.std.specs.Option.{is_some}
 use Rattle.std.proofs.lemmas.List.{take_more}
@@ -12,10 +13,6 @@ use Rattle.gm_game.specs.Rules.{Rules}
 use Rattle.gm_game.specs.Values.{HasValue, IsTrueValue}
 use Rattle.gm_game.proofs.Basic.{HasValue_once}
 use Rattle.gm_game.proofs.Lists.{contains_none, contains_first, contains_later, contains_cases}
-use Rattle.gm_table.specs.Tables.{TableData}
-use Rattle.gm_best.specs.Refusals.{AreNotHeld}
-use Rattle.gm_play.specs.Lines.{position_after}
-use Rattle.gm_find.specs.Reaching.{IsPlay, ComesToMissing}
 use Rattle.gm_find.specs.Finding.{KeepsValue, AgreesWith, HasOnly, HasOnlyResult, IsOnlyWin, IsOnlyAfter, IsOnlyLine}
 
 -- c is the canonical position of the result of one of these moves that keeps the value
@@ -59,13 +56,15 @@ module _ (r : Rules) (v : Value) (p : Position) where
   only_skip ms m (Some c) h n = (kept_still ms m c h.0, λ d k. elim (kept_cases ms m d k) [ inl a ↦ h.1 d a | inr b ↦ absurd (n b.0) ])
 
   -- one move more, which keeps the value and leads to no other position
-  pub only_more : (ms : List ℕ) (m : ℕ) (o : Option Position) (c : Position) → IsOnlySoFar r v p ms o → KeepsValue r v p m → r.canonical (r.play p m) ≡ c → AgreesWith o c
+  pub only_more : (ms : List ℕ) (m : ℕ) (o : Option Position) (c : Position) → IsOnlySoFar r v p ms o → KeepsValue r v p m → r.canonical (r.play p m) ≡ c →
+      AgreesWith o c
       → IsOnlySoFar r v p (ms ++ m ∷ []) (Some c)
   only_more ms m None c h k e n = (kept_last ms m c k e, λ d q. elim (kept_cases ms m d q) [ inl a ↦ absurd (h d a) | inr b ↦ sym b.1 ∙ e ])
   only_more ms m (Some b) c h k e n = (kept_last ms m c k e, λ d q. elim (kept_cases ms m d q) [ inl a ↦ h.1 d a ∙ n | inr f ↦ sym f.1 ∙ e ])
 
   -- two moves that lead to different positions
-  pub only_two : (ms : List ℕ) (m : ℕ) (o : Option Position) (c : Position) → IsOnlySoFar r v p ms o → ((n : ℕ) → Contains ms n → Contains (r.moves p) n) → Contains (r.moves p) m → KeepsValue r v p m
+  pub only_two : (ms : List ℕ) (m : ℕ) (o : Option Position) (c : Position) → IsOnlySoFar r v p ms o → ((n : ℕ) → Contains ms n → Contains (r.moves p) n) →
+      Contains (r.moves p) m → KeepsValue r v p m
       → r.canonical (r.play p m) ≡ c → (AgreesWith o c → ⊥) → HasOnlyResult r v p → ⊥
   only_two ms m None c h inside has k e n x = n tt
   only_two ms m (Some b) c ((w, own, kw, ew), h) inside has k e n (d, kd, same) = n (same b (w, inside w own, kw, ew) ∙ sym (same c (m, has, k, e)))
@@ -90,7 +89,8 @@ last_turn r d (suc (suc zero)) p l = tt
 last_turn r d (suc (suc (suc n))) p l = absurd (omega arith)
 
 -- a turn before the last
-pub turn_parts : (r : Rules) (d : Bool) (n : ℕ) (p : Position) → 2 < n → IsOnlyWin r d n p → HasOnly r d Win p × ((m : ℕ) → Contains (r.moves p) m → IsOnlyAfter r d (n - 2) p m)
+pub turn_parts : (r : Rules) (d : Bool) (n : ℕ) (p : Position) → 2 < n → IsOnlyWin r d n p → HasOnly r d Win p ×
+    ((m : ℕ) → Contains (r.moves p) m → IsOnlyAfter r d (n - 2) p m)
 turn_parts r d zero p l h = absurd (omega arith)
 turn_parts r d (suc zero) p l h = absurd (omega arith)
 turn_parts r d (suc (suc zero)) p l h = absurd (omega arith)
@@ -98,7 +98,8 @@ turn_parts r d (suc (suc (suc n))) p l h =
     let e : suc n ≡ suc (suc (suc n)) - 2 = omega arith in
     (h.0, λ m has. subst (λ (k : ℕ). IsOnlyAfter r d k p m) e (h.1 m has))
 
-pub turn_from : (r : Rules) (d : Bool) (n : ℕ) (p : Position) → 2 < n → HasOnly r d Win p → ((m : ℕ) → Contains (r.moves p) m → IsOnlyAfter r d (n - 2) p m) → IsOnlyWin r d n p
+pub turn_from : (r : Rules) (d : Bool) (n : ℕ) (p : Position) → 2 < n → HasOnly r d Win p → ((m : ℕ) → Contains (r.moves p) m → IsOnlyAfter r d (n - 2) p m)
+    → IsOnlyWin r d n p
 turn_from r d zero p l h k = absurd (omega arith)
 turn_from r d (suc zero) p l h k = absurd (omega arith)
 turn_from r d (suc (suc zero)) p l h k = absurd (omega arith)
@@ -107,7 +108,8 @@ turn_from r d (suc (suc (suc n))) p l h k =
     (h, λ m has. subst (λ (j : ℕ). IsOnlyAfter r d j p m) e (k m has))
 
 -- a property of all moves, after one move more
-pub each_more : (P : ℕ → Type 0) (ms : List ℕ) (k m : ℕ) → k < length ms → get_or ms k 0 ≡ m → ((n : ℕ) → Contains (take k ms) n → P n) → P m → (n : ℕ) → Contains (take (k + 1) ms) n → P n
+pub each_more : (P : ℕ → Type 0) (ms : List ℕ) (k m : ℕ) → k < length ms → get_or ms k 0 ≡ m → ((n : ℕ) → Contains (take k ms) n → P n) → P m → (n : ℕ) →
+    Contains (take (k + 1) ms) n → P n
 each_more P ms k m l e h p n has = elim (Contains-push_cases (take k ms) (get_or ms k 0) n (subst (λ (xs : List ℕ). Contains xs n) (take_more ms k 0 l) has)) [
   | inl o ↦ h n o
   | inr f ↦ subst P (sym e ∙ f) p
@@ -125,15 +127,5 @@ line_is r d p s h v = (
 )
 
 -- an answer about a fact is one about another that comes to the same
-pub same_answer : (o : Option Bool) (A B : Type 0) → (A ↔ B) → IfSome o (λ (b : Bool). IsTrue b ↔ A) → IfSome o (λ (b : Bool). IsTrue b ↔ B)
-same_answer None A B e h = h
-same_answer (Some b) A B e h = (λ t. e.0 (h.0 t), λ x. h.1 (e.1 x))
-
--- a table that is missing here
-pub missing_here : (r : Rules) (entries : List TableData) (p : Position) → AreNotHeld r entries p → ComesToMissing r entries p
-missing_here r entries p not = ([], tt, not)
-
--- or after one move more
-pub missing_after : (r : Rules) (entries : List TableData) (p q : Position) (m : ℕ) → Contains (r.moves p) m → q ≡ r.play p m → ComesToMissing r entries q → ComesToMissing r entries p
-missing_after r entries p q m listed is (ms, play, not) =
-    (m ∷ ms, (listed, subst (λ (x : Position). IsPlay r x ms) is play), subst (λ (x : Position). AreNotHeld r entries (position_after r x ms)) is not)
+pub same_answer : (b : Bool) (A B : Type 0) → (A ↔ B) → IsTrue b ↔ A → IsTrue b ↔ B
+same_answer b A B e h = (λ t. e.0 (h.0 t), λ x. h.1 (e.1 x))

@@ -32,7 +32,8 @@ module _ (r : Rules) (g : IsGame r) where
   after_legal p (m ∷ ms) l h = after_legal (r.play p m) ms (g.play_legal p m l h.0) h.1
 
   pub reached_legal : (c : Position) → IsReachedByPlay r c → r.is_legal c ≡ true
-  reached_legal c (ms, h, e) = subst (λ (q : Position). r.is_legal q ≡ true) e (g.canonical_legal (position_after r r.initial ms) (after_legal r.initial ms g.initial_legal h))
+  reached_legal c (ms, h, e) = subst (λ (q : Position). r.is_legal q ≡ true) e (g.canonical_legal (position_after r r.initial ms)
+      (after_legal r.initial ms g.initial_legal h))
 
   pub start_reached : IsReachedByPlay r (r.canonical r.initial)
   start_reached = ([], tt, refl)
@@ -50,7 +51,8 @@ module _ (r : Rules) (g : IsGame r) where
   abbrev IsClosedSet : (Position → Type 0) → Type 0
   IsClosedSet S = (c d : Position) → S c → IsCanonicalChild r c d → S d
 
-  reached_after : (ks : List (ℕ × ℕ)) (p : Position) (ms : List ℕ) → ((c d : Position) → Contains ks (key_of c) → IsCanonicalChild r c d → Contains ks (key_of d)) → r.is_legal p ≡ true → IsPlay r p ms → Contains ks (key_of (r.canonical p)) → Contains ks (key_of (r.canonical (position_after r p ms)))
+  reached_after : (ks : List (ℕ × ℕ)) (p : Position) (ms : List ℕ) → ((c d : Position) → Contains ks (key_of c) → IsCanonicalChild r c d → Contains ks
+      (key_of d)) → r.is_legal p ≡ true → IsPlay r p ms → Contains ks (key_of (r.canonical p)) → Contains ks (key_of (r.canonical (position_after r p ms)))
   reached_after ks p [] closed l h has = has
   reached_after ks p (m ∷ ms) closed l h has =
       let child : IsCanonicalChild r p (r.canonical (r.play p m)) = map_from r.canonical (children r p) (r.play p m) (map_from (r.play p) (r.moves p) m h.0) in
@@ -65,12 +67,15 @@ pub record IsSearched (r : Rules) (ks : List (ℕ × ℕ)) (waiting : List Posit
   pub closed : (c : Position) → Contains ks (key_of c) → Contains waiting c ⊎ ((d : Position) → IsCanonicalChild r c d → Contains ks (key_of d))
 
 -- the last position that waits is found, and is reached
-pub last_reached : (r : Rules) (ks : List (ℕ × ℕ)) (waiting rest : List Position) (p : Position) → IsSearched r ks waiting → waiting ≡ rest ++ p ∷ [] → IsReachedByPlay r p
+pub last_reached : (r : Rules) (ks : List (ℕ × ℕ)) (waiting rest : List Position) (p : Position) → IsSearched r ks waiting → waiting ≡ rest ++ p ∷ [] →
+    IsReachedByPlay r p
 last_reached r ks waiting rest p h e = h.sound p (h.inside p (subst (λ (l : List Position). Contains l p) (sym e) (Contains-push rest p)))
 
 -- a position that waited is closed, once its canonical children are found
-pub searched_more : (r : Rules) → IsGame r → (old new : List (ℕ × ℕ)) (waiting rest after : List Position) (p : Position) → IsSearched r old waiting → waiting ≡ rest ++ p ∷ [] → IsGrown old new
-    → ((c : Position) → IsCanonicalChild r p c → Contains new (key_of c)) → ((c : Position) → Contains new (key_of c) → Contains old (key_of c) ⊎ IsCanonicalChild r p c)
+pub searched_more : (r : Rules) → IsGame r → (old new : List (ℕ × ℕ)) (waiting rest after : List Position) (p : Position) → IsSearched r old waiting →
+    waiting ≡ rest ++ p ∷ [] → IsGrown old new
+    → ((c : Position) → IsCanonicalChild r p c → Contains new (key_of c)) → ((c : Position) → Contains new (key_of c) → Contains old (key_of c) ⊎
+    IsCanonicalChild r p c)
     → AreWaiting old rest new after → IsSearched r new after
 searched_more r g old new waiting rest after p h e grown children only waits = record {
   start = grown (key_of (r.canonical r.initial)) h.start;
@@ -108,8 +113,10 @@ all_searched r g ks waiting h l c = (
         none xs x e has = let b = has.1 in omega arith
 
 -- at first the start alone is found
-pub searched_none : (r : Rules) → IsGame r → (old new : List (ℕ × ℕ)) (old_waiting waiting : List Position) → old ≡ [] → old_waiting ≡ [] → Contains new (key_of (r.canonical r.initial))
-    → ((c : Position) → Contains new (key_of c) → Contains old (key_of c) ⊎ (r.canonical r.initial ≡ c)) → AreWaiting old old_waiting new waiting → IsSearched r new waiting
+pub searched_none : (r : Rules) → IsGame r → (old new : List (ℕ × ℕ)) (old_waiting waiting : List Position) → old ≡ [] → old_waiting ≡ [] → Contains new
+    (key_of (r.canonical r.initial))
+    → ((c : Position) → Contains new (key_of c) → Contains old (key_of c) ⊎ (r.canonical r.initial ≡ c)) → AreWaiting old old_waiting new waiting →
+    IsSearched r new waiting
 searched_none r g old new old_waiting waiting e f there only waits = record {
   start = there;
   sound = λ c has. elim (only c has) [
@@ -146,9 +153,11 @@ waiting_again a b c x y z grown h k = record {
 
 -- a child more is found
 pub children_more : (cs : List Position) (old cur new : List (ℕ × ℕ)) (k : ℕ) (d : Position) → k < length cs
-    → IsGrown old cur × ((c : Position) → Contains (take k cs) c → Contains cur (key_of c)) × ((c : Position) → Contains cur (key_of c) → Contains old (key_of c) ⊎ Contains (take k cs) c)
+    → IsGrown old cur × ((c : Position) → Contains (take k cs) c → Contains cur (key_of c)) ×
+    ((c : Position) → Contains cur (key_of c) → Contains old (key_of c) ⊎ Contains (take k cs) c)
     → IsGrown cur new → Contains new (key_of (get_or cs k d)) → ((c : Position) → Contains new (key_of c) → Contains cur (key_of c) ⊎ (get_or cs k d ≡ c))
-    → IsGrown old new × ((c : Position) → Contains (take (k + 1) cs) c → Contains new (key_of c)) × ((c : Position) → Contains new (key_of c) → Contains old (key_of c) ⊎ Contains (take (k + 1) cs) c)
+    → IsGrown old new × ((c : Position) → Contains (take (k + 1) cs) c → Contains new (key_of c)) ×
+    ((c : Position) → Contains new (key_of c) → Contains old (key_of c) ⊎ Contains (take (k + 1) cs) c)
 children_more cs old cur new k d l (grown, there, only) more has one = (
   λ q has_old. more q (grown q has_old),
   λ c in_more. elim (Contains-push_cases (take k cs) (get_or cs k d) c (subst (λ (xs : List Position). Contains xs c) cut in_more)) [
@@ -156,8 +165,13 @@ children_more cs old cur new k d l (grown, there, only) more has one = (
     | inr e ↦ subst (λ (x : Position). Contains new (key_of x)) e has
   ],
   λ c in_new. elim (one c in_new) [
-    | inl o ↦ elim (only c o) [ inl a ↦ inl a | inr b ↦ inr (subst (λ (xs : List Position). Contains xs c) (sym cut) (Contains-append_left (take k cs) (get_or cs k d ∷ []) c b)) ]
-    | inr e ↦ inr (subst (λ (xs : List Position). Contains xs c) (sym cut) (subst (Contains (take k cs ++ get_or cs k d ∷ [])) e (Contains-push (take k cs) (get_or cs k d))))
+    | inl o ↦ elim (only c o) [
+      | inl a ↦ inl a
+      | inr b ↦ inr (subst (λ (xs : List Position). Contains xs c) (sym cut)
+          (Contains-append_left (take k cs) (get_or cs k d ∷ []) c b))
+    ]
+    | inr e ↦ inr (subst (λ (xs : List Position). Contains xs c) (sym cut) (subst (Contains (take k cs ++ get_or cs k d ∷ [])) e
+        (Contains-push (take k cs) (get_or cs k d))))
   ],
 )
   where

@@ -1,28 +1,20 @@
 -- What is told of found positions.
-use Rattle.std.proofs.Common.{◌≡◌, ℕ, zero, suc, inl, inr, Bool, true, List, [], ◌∷◌, map, get_or, Option, refl, ap, subst, Result, Ok, Err}
+use Rattle.std.proofs.Common.{◌≡◌, ℕ, zero, suc, inl, inr, Bool, true, List, [], ◌∷◌, map, get_or, Option, refl, ap, subst, Result, Ok, Err, IfOk}
 use Rattle.std.specs.List.{All, Contains, range_with_len}
-use Rattle.std.specs.Result.{is_ok}
 use Rattle.std.proofs.lemmas.List.Elements.{Contains-get_or, Contains-append_cases, All-contains}
 use Rattle.gm_game.specs.declared.position.Position.{Position}
 use Rattle.gm_game.specs.Rules.{Rules, at}
 use Rattle.gm_game.proofs.Lists.{contains_none, contains_first, contains_later, contains_cases, map_in, map_from}
 use Rattle.gm_table.specs.Tables.{TableData}
-use Rattle.gm_best.specs.declared.answer.AnswerError.{AnswerError}
-use Rattle.gm_best.specs.declared.answer.AnswerError.TheVariants.{Illegal, NotHeld}
+use Rattle.gm_best.specs.Reached.{AreAllHeld}
 use Rattle.gm_find.specs.declared.found.Found.{Found}
 use Rattle.gm_find.specs.declared.sought.Choice.{Choice}
 use Rattle.gm_find.specs.declared.sought.Choice.TheVariants.{First, Random}
 use Rattle.gm_find.specs.declared.sought.Sought.{Sought}
 use Rattle.gm_find.specs.Lists.{IsFirst}
-use Rattle.gm_find.specs.Finding.{IsMatch, positions_in, all_positions, AreTiersHeld}
-use Rattle.gm_find.specs.Founds.{IsHeldAt, IsFound, AreFound, AreChosen, position_of}
+use Rattle.gm_find.specs.Finding.{IsMatch, positions_in, all_positions}
+use Rattle.gm_find.specs.Founds.{IsKnownAt, IsFound, AreFound, AreChosen, position_of}
 use Rattle.gm_find.proofs.Picking.{picked_all}
-
--- no other answer is left
-pub ok_unless : (r : Result (Option ℕ) AnswerError) → (r ≡ Err Illegal → ⊥) → (r ≡ Err NotHeld → ⊥) → is_ok r ≡ true
-ok_unless (Ok x) a b = refl
-ok_unless (Err Illegal) a b = absurd (a refl)
-ok_unless (Err NotHeld) a b = absurd (b refl)
 
 -- the first of those with a property have it, and are in the list
 first_in : {A : Type 0} (P : A → Type 0) (n : ℕ) (xs ys : List A) → IsFirst P n xs ys → (y : A) → Contains ys y → P y × Contains xs y
@@ -39,26 +31,31 @@ first_in P (suc n) (x ∷ xs) ys (inr (p, t)) y c = let k = first_in P (suc n) x
 tier_in : (r : Rules) (tiers : List ℕ) (p : Position) → Contains (all_positions r tiers) p → Contains tiers p.tier
 tier_in r [] p c = absurd (contains_none p c)
 tier_in r (t ∷ ts) p c = elim (Contains-append_cases (positions_in r t) (all_positions r ts) p c) [
-  | inl d ↦ (let (i, has, e) = map_in (at t) (range_with_len 0 (r.tier_size t)) p d in subst (Contains (t ∷ ts)) (ap (λ (q : Position). q.tier) e) (contains_first t ts))
+  | inl d ↦ (let (i, has, e) = map_in (at t) (range_with_len 0 (r.tier_size t)) p d in subst (Contains (t ∷ ts)) (ap (λ (q : Position). q.tier) e)
+      (contains_first t ts))
   | inr d ↦ contains_later t p.tier ts (tier_in r ts p d)
 ]
 
-pub all_held : (r : Rules) (entries : List TableData) (q : Sought) (reached : Bool) (limit : ℕ) (tiers : List ℕ) (ps : List Position) → AreTiersHeld r entries tiers → IsFirst (IsMatch r q reached) limit (all_positions r tiers) ps → All (IsHeldAt r entries) ps
-all_held r entries q reached limit tiers ps held first k d inside =
+pub all_known : (r : Rules) (entries : List TableData) (q : Sought) (reached : Bool) (limit : ℕ) (tiers : List ℕ) (ps : List Position) →
+    ((tier : ℕ) → Contains tiers tier → AreAllHeld r entries tier)
+    → IsFirst (IsMatch r q reached) limit (all_positions r tiers) ps → All (IsKnownAt r entries) ps
+all_known r entries q reached limit tiers ps held first k d inside =
     let p = get_or ps k d in
     let (match, there) = first_in (IsMatch r q reached) limit (all_positions r tiers) ps first p (Contains-get_or ps k d inside) in
-    let (own, children) = held p.tier (tier_in r tiers p there) in
-    record { legal = match.canonical.0; own = own; children = children }
+    (match.canonical.0, held p.tier (tier_in r tiers p there))
 
 -- a found position is one of one of the tiers
-found_in : (r : Rules) (q : Sought) (reached : Bool) (limit : ℕ) (tiers : List ℕ) (xs : List Found) → AreFound r q reached limit tiers xs → All (λ x. Contains tiers x.position.tier) xs
+found_in : (r : Rules) (q : Sought) (reached : Bool) (limit : ℕ) (tiers : List ℕ) (xs : List Found) → AreFound r q reached limit tiers xs → All
+    (λ x. Contains tiers x.position.tier) xs
 found_in r q reached limit tiers xs are k d inside =
     let x = get_or xs k d in
-    let there = first_in (IsMatch r q reached) limit (all_positions r tiers) (map position_of xs) are.positions x.position (map_from position_of xs x (Contains-get_or xs k d inside)) in
+    let there = first_in (IsMatch r q reached) limit (all_positions r tiers) (map position_of xs) are.positions x.position
+    (map_from position_of xs x (Contains-get_or xs k d inside)) in
     tier_in r tiers x.position there.1
 
 -- and so is one that a choice takes
-pub chosen_in : (r : Rules) (q : Sought) (reached : Bool) (choice : Choice) (tiers : List ℕ) (xs : List Found) → AreChosen r q reached choice tiers xs → (x : Found) → Contains xs x
+pub chosen_in : (r : Rules) (q : Sought) (reached : Bool) (choice : Choice) (tiers : List ℕ) (xs : List Found) → AreChosen r q reached choice tiers xs →
+    (x : Found) → Contains xs x
     → (r.is_legal x.position ≡ true) × Contains tiers x.position.tier
 chosen_in r q reached (First n) tiers xs are x has = (
   (All-contains (IsFound r) xs x are.each has).legal,
@@ -68,3 +65,8 @@ chosen_in r q reached (Random n seed) tiers xs (all, are, sample) x has =
     let P : Found → Type 0 = λ y. (r.is_legal y.position ≡ true) × Contains tiers y.position.tier in
     let each : All P all = λ k d inside. ((are.each k d inside).legal, found_in r q reached _ tiers all are k d inside) in
     All-contains P xs x (picked_all P all xs sample.picked each) has
+
+-- what holds where two things are told
+pub both_told : {T E : Type 0} → (m : Result T E) (A B C : T → Type 0) → ((x : T) → A x → B x → C x) → IfOk m A → IfOk m B → IfOk m C
+both_told (Ok x) A B C f a b = f x a b
+both_told (Err e) A B C f a b = tt

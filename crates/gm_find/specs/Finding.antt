@@ -1,5 +1,5 @@
 -- Positions that are sought.
-use Rattle.std.specs.Prelude.{◌≡◌, ◌≤◌, ◌⊎◌, ◌==◌, if◌then◌else◌, ℕ, zero, suc, List, [], ◌∷◌, map, length, Bool, true, false, IsTrue, Option, None, Some}
+use Rattle.std.specs.Prelude.{◌≡◌, ◌≤◌, ◌==◌, if◌then◌else◌, ℕ, zero, suc, List, [], ◌∷◌, map, length, Bool, true, false, IsTrue, Option, None, Some}
 use Rattle.std.specs.List.{Contains, flat_map, range_with_len}
 use Rattle.gm_game.specs.declared.position.Position.{Position}
 use Rattle.gm_game.specs.declared.position.Phase.{Phase}
@@ -9,14 +9,11 @@ use Rattle.gm_game.specs.declared.position.Value.{Value}
 use Rattle.gm_game.specs.declared.position.Value.TheVariants.{Lose, Draw, Tie, Win}
 use Rattle.gm_game.specs.Rules.{Rules, at, IsCanonical}
 use Rattle.gm_game.specs.Values.{HasValue, IsTrueValue}
-use Rattle.gm_table.specs.Tables.{TableData, IsHeld, AreHeld}
 use Rattle.gm_game.specs.Children.{canonical_children_of}
 use Rattle.gm_find.specs.declared.sought.Sought.{Sought}
 use Rattle.gm_find.specs.declared.sought.Span.{Span}
-use Rattle.gm_find.specs.declared.find_error.FindError.{FindError}
-use Rattle.gm_find.specs.declared.find_error.FindError.TheVariants.{OutOfMemory, NotHeld}
 use Rattle.gm_find.specs.Lists.{AreThose}
-use Rattle.gm_find.specs.Reaching.{IsReachedByPlay, ComesToMissing}
+use Rattle.gm_find.specs.Reaching.{IsReachedByPlay}
 
 -- the positions of a tier, by ascending index
 abbrev pub positions_in : Rules → ℕ → List Position
@@ -119,18 +116,6 @@ pub record IsMatch (r : Rules) (q : Sought) (reached : Bool) (p : Position) : Ty
   pub line : IsTrue q.whole_line → IsOnlyLine r q.distinct p
   pub reaches : IsTrue reached → IsReachedByPlay r p
 
--- each of these tiers has a table, and so has each of its child tiers
-abbrev pub AreTiersHeld : Rules → List TableData → List ℕ → Type 0
-AreTiersHeld r entries tiers = (tier : ℕ) → Contains tiers tier → IsHeld entries tier × AreHeld r entries tier
-
--- a table that the whole line of a position of the tier rests on is missing: play from there comes to it
-abbrev pub MayMiss : Rules → List TableData → Sought → ℕ → Type 0
-MayMiss r entries q tier = IsTrue q.whole_line × ((p : Position) × (r.is_legal p ≡ true) × (p.tier ≡ tier) × ComesToMissing r entries p)
-
--- a table is missing: of one of the tiers, or of a child tier of one, or else one that the whole line of a position of one of the tiers rests on
-abbrev pub IsMissing : Rules → List TableData → Sought → List ℕ → Type 0
-IsMissing r entries q tiers = (AreTiersHeld r entries tiers → ⊥) ⊎ ((tier : ℕ) × Contains tiers tier × MayMiss r entries q tier)
-
 -- the place at which positions of this value and remoteness stand
 abbrev pub place_for : Value → Option ℕ → Option (Phase × ℕ)
 place_for v None = None
@@ -138,8 +123,3 @@ place_for Lose (Some n) = Some (WinLose, n)
 place_for Draw (Some n) = None
 place_for Tie (Some n) = Some (Ties, n)
 place_for Win (Some n) = Some (WinLose, n)
-
--- the numbers of the errors
-abbrev pub number_of : FindError → ℕ
-number_of OutOfMemory = 1
-number_of NotHeld = 2

@@ -4,7 +4,8 @@ use Rattle.std.specs.List.{All}
 use Rattle.gm_game.specs.declared.position.Position.{Position}
 use Rattle.gm_game.specs.Rules.{Rules}
 use Rattle.gm_game.specs.Values.{IsTrueValue}
-use Rattle.gm_table.specs.Tables.{TableData, IsHeld, AreHeld}
+use Rattle.gm_table.specs.Tables.{TableData}
+use Rattle.gm_best.specs.Reached.{AreAllHeld}
 use Rattle.gm_best.specs.BestMoves.{IsBestMove}
 use Rattle.gm_find.specs.declared.found.Found.{Found}
 use Rattle.gm_find.specs.declared.sought.Sought.{Sought}
@@ -38,8 +39,6 @@ abbrev pub AreChosen : Rules → Sought → Bool → Choice → List ℕ → Lis
 AreChosen r q reached (First n) tiers xs = AreFound r q reached n tiers xs
 AreChosen r q reached (Random n seed) tiers xs = (all : List Found) × AreAllFound r q reached tiers all × IsSample n all xs
 
--- a legal position whose tier has a table, as has each of its child tiers
-pub record IsHeldAt (r : Rules) (entries : List TableData) (p : Position) : Type 0 where
-  pub legal : r.is_legal p ≡ true
-  pub own : IsHeld entries p.tier
-  pub children : AreHeld r entries p.tier
+-- a legal position, with tables of every tier that play from it can come to
+abbrev pub IsKnownAt : Rules → List TableData → Position → Type 0
+IsKnownAt r entries p = (r.is_legal p ≡ true) × AreAllHeld r entries p.tier

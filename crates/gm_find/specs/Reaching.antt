@@ -3,18 +3,12 @@ use Rattle.std.specs.Prelude.{◌≡◌, ℕ, ◌↔◌, ◌⊎◌, List, [], �
 use Rattle.std.specs.List.{Contains}
 use Rattle.gm_game.specs.declared.position.Position.{Position}
 use Rattle.gm_game.specs.Rules.{Rules}
-use Rattle.gm_table.specs.Tables.{TableData}
-use Rattle.gm_best.specs.Refusals.{AreNotHeld}
 use Rattle.gm_play.specs.Lines.{position_after}
 
 -- these moves can be played from p one after another
 abbrev pub IsPlay : Rules → Position → List ℕ → Type 0
 IsPlay r p [] = Unit {0}
 IsPlay r p (m ∷ ms) = Contains (r.moves p) m × IsPlay r (r.play p m) ms
-
--- moves that can be played from p lead to a position whose tier, or one of its child tiers, has no table
-abbrev pub ComesToMissing : Rules → List TableData → Position → Type 0
-ComesToMissing r entries p = (ms : List ℕ) × IsPlay r p ms × AreNotHeld r entries (position_after r p ms)
 
 -- some line of play from the start ends in a position whose canonical position is this one
 abbrev pub IsReachedByPlay : Rules → Position → Type 0

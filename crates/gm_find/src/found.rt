@@ -1,15 +1,13 @@
 //! Found positions, each with its value, its best move and the number of its moves.
-ghost use Rattle.std.specs.Prelude.{◌≡◌, ◌↔◌, ℕ, List, true, map, length, IfOk, IsErrOf, is_some};
+ghost use Rattle.std.specs.Prelude.{◌≡◌, map, IfOk, is_some};
 ghost use Rattle.std.specs.List.{All};
-ghost use Rattle.gm_table.specs.Tables.{IsHeld, AreHeld};
-ghost use Rattle.gm_find.specs.Finding.{AreTiersHeld, IsMissing};
-ghost use Rattle.gm_find.specs.Founds.{IsFound, AreFound, IsHeldAt, position_of};
+ghost use Rattle.gm_find.specs.Founds.{IsFound, AreFound, IsKnownAt, position_of};
 
-use crate::find_error::FindError;
 use crate::positions::find_positions;
 use crate::reached::Reached;
 use crate::sought::Sought;
-use gm_best::best_move::best_move;
+use gm_best::known::Known;
+use gm_best::known_tiers::KnownTiers;
 use gm_game::game::Game;
 use gm_game::position::{Position, Solved};
 use gm_table::tables::Tables;
@@ -28,26 +26,17 @@ pub struct Found {
 
 /// The canonical positions that are sought, each with its value, its best move and the number of its moves: tier by tier in the order given and by ascending
 /// index, the first of them, at most `limit`. Where a set of reached positions is given, only positions in it count.
-///
-/// `NotHeld` is tested first, where one of the tiers, or one of its child tiers, has no table; where a whole line is asked for it also comes at a table that
-/// one rests on, and else nowhere.
 pub fn find<G: Game>(
     alloc: Global,
-    tables: &Tables<G>,
-    tiers: &[u64],
+    known: &KnownTiers<'_, G>,
     sought: Sought,
     reached: Option<&Reached<G>>,
     limit: usize,
-) -> Result<Vec<Found>, FindError>
-    ensures found { IfOk result (λ v. AreFound G.rules sought (is_some reached.entry) limit tiers.now v.items) }
-    ensures not_held { (AreTiersHeld G.rules tables.now tiers.now → ⊥) → IsErrOf result FindError.NotHeld }
-    ensures missing { IsErrOf result FindError.NotHeld → IsMissing G.rules tables.now sought tiers.now }
+) -> Result<Vec<Found>, AllocError>
+    ensures { IfOk result (λ v. AreFound G.rules sought (is_some reached.entry) limit known.now.tiers.now v.items) }
 {
-    let positions = find_positions(alloc, tables, tiers, sought, reached, limit)?;
-    match look_up(alloc, tables, positions.as_slice()) {
-        Ok(found) => Ok(found),
-        Err(_) => Err(FindError::OutOfMemory),
-    }
+    let positions = find_positions(alloc, known, sought, reached, limit)?;
+    look_up(alloc, known.tables, positions.as_slice())
 }
 
 // The answers for some positions.
@@ -56,27 +45,30 @@ fn look_up<G: Game>(
     tables: &Tables<G>,
     positions: &[Position],
 ) -> Result<Vec<Found>, AllocError>
-    requires { All (IsHeldAt G.rules tables.now) positions.now }
+    requires { All (IsKnownAt G.rules tables.now) positions.now }
     ensures positions { IfOk result (λ v. map position_of v.items ≡ positions.now) }
     ensures each { IfOk result (λ v. All (IsFound G.rules) v.items) }
 {
     let mut found = Vec::new(alloc);
     for p in positions {
-        found.push(found_at(tables, *p))?;
+        let known = Known {
+            tables,
+            position: *p,
+        };
+        found.push(found_at(&known))?;
     }
     Ok(found)
 }
 
 // The answer for a position: its value, its best move and the number of its moves.
-fn found_at<G: Game>(tables: &Tables<G>, p: Position) -> Found
-    requires { IsHeldAt G.rules tables.now p }
-    ensures position { result.position ≡ p }
+fn found_at<G: Game>(known: &Known<'_, G>) -> Found
+    ensures position { result.position ≡ known.now.position }
     ensures found { IsFound G.rules result }
 {
     Found {
-        position: p,
-        value: tables.get(p).unwrap(),
-        best: best_move(tables, p).unwrap(),
-        moves: G::moves(p).len(),
+        position: known.position,
+        value: known.value(),
+        best: known.best_move(),
+        moves: G::moves(known.position).len(),
     }
 }

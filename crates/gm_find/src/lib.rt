@@ -4,7 +4,6 @@
 #![tactic(auto)]
 
 pub mod choice;
-pub mod find_error;
 pub mod found;
 mod only;
 mod only_line;

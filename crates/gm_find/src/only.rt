@@ -1,30 +1,21 @@
 //! Whether exactly one move of a position keeps its value.
 ghost use Rattle.std.specs.Prelude.{◌↔◌, ◌≡◌, ℕ, List, true, length, IsTrue};
 ghost use Rattle.std.specs.List.{Contains};
-ghost use Rattle.gm_table.specs.Tables.{IsHeld, AreHeld};
 ghost use Rattle.gm_find.specs.Lists.{AreThose};
 ghost use Rattle.gm_find.specs.Finding.{kept_by, KeepsValue, HasOnlyMove, HasOnlyResult, HasOnly, HasMoves, AgreesWith};
 
+use gm_best::known::Known;
 use gm_game::game::Game;
 use gm_game::position::{Position, Value};
-use gm_table::tables::Tables;
 
 /// Whether exactly one move keeps this value; where distinct moves are asked for, exactly one up to symmetry.
-pub(crate) fn has_only<G: Game>(
-    tables: &Tables<G>,
-    p: Position,
-    value: Value,
-    distinct: bool,
-) -> bool
-    requires legal { G.rules.is_legal p ≡ true }
-    requires own { IsHeld tables.now p.tier }
-    requires children { AreHeld G.rules tables.now p.tier }
-    ensures { IsTrue result ↔ HasOnly G.rules distinct value p }
+pub(crate) fn has_only<G: Game>(known: &Known<'_, G>, value: Value, distinct: bool) -> bool
+    ensures { IsTrue result ↔ HasOnly G.rules distinct value known.now.position }
 {
     if distinct {
-        has_only_result(tables, p, value)
+        has_only_result(known, value)
     } else {
-        keeping(tables, p, value) == 1
+        keeping(known, value) == 1
     }
 }
 
@@ -41,16 +32,13 @@ pub(crate) fn has_moves<G: Game>(p: Position, least: usize, distinct: bool) -> b
 }
 
 // How many moves keep this value.
-fn keeping<G: Game>(tables: &Tables<G>, p: Position, value: Value) -> usize
-    requires legal { G.rules.is_legal p ≡ true }
-    requires own { IsHeld tables.now p.tier }
-    requires children { AreHeld G.rules tables.now p.tier }
-    ensures { (kept : List ℕ) × AreThose (KeepsValue G.rules value p) (G.rules.moves p) kept × (length kept ≡ result) }
+fn keeping<G: Game>(known: &Known<'_, G>, value: Value) -> usize
+    ensures { (kept : List ℕ) × AreThose (KeepsValue G.rules value known.now.position) (G.rules.moves known.now.position) kept × (length kept ≡ result) }
 {
-    let moves = G::moves(p);
+    let moves = G::moves(known.position);
     let mut number = 0;
     for m in moves.as_slice() {
-        if keeps(tables, p, value, *m) {
+        if keeps(known, value, *m) {
             number += 1;
         }
     }
@@ -58,17 +46,14 @@ fn keeping<G: Game>(tables: &Tables<G>, p: Position, value: Value) -> usize
 }
 
 // Whether the moves that keep this value lead to one position, up to symmetry.
-fn has_only_result<G: Game>(tables: &Tables<G>, p: Position, value: Value) -> bool
-    requires legal { G.rules.is_legal p ≡ true }
-    requires own { IsHeld tables.now p.tier }
-    requires children { AreHeld G.rules tables.now p.tier }
-    ensures { IsTrue result ↔ HasOnlyResult G.rules value p }
+fn has_only_result<G: Game>(known: &Known<'_, G>, value: Value) -> bool
+    ensures { IsTrue result ↔ HasOnlyResult G.rules value known.now.position }
 {
-    let moves = G::moves(p);
+    let moves = G::moves(known.position);
     let mut only = None;
     for m in moves.as_slice() {
-        if keeps(tables, p, value, *m) {
-            let found = G::canonical(G::play(p, *m));
+        if keeps(known, value, *m) {
+            let found = G::canonical(known.play(*m).position);
             if !agrees(only, found) {
                 return false;
             }
@@ -89,15 +74,11 @@ fn agrees(only: Option<Position>, found: Position) -> bool
 }
 
 /// Whether a move keeps this value.
-pub(crate) fn keeps<G: Game>(tables: &Tables<G>, p: Position, value: Value, m: u32) -> bool
-    requires legal { G.rules.is_legal p ≡ true }
-    requires listed { Contains (G.rules.moves p) m }
-    requires own { IsHeld tables.now p.tier }
-    requires children { AreHeld G.rules tables.now p.tier }
-    ensures { IsTrue result ↔ KeepsValue G.rules value p m }
+pub(crate) fn keeps<G: Game>(known: &Known<'_, G>, value: Value, m: u32) -> bool
+    requires { Contains (G.rules.moves known.now.position) m }
+    ensures { IsTrue result ↔ KeepsValue G.rules value known.now.position m }
 {
-    let child = tables.get(G::play(p, m)).unwrap();
-    child.value == kept(value)
+    known.play(m).value().value == kept(value)
 }
 
 // The value of a result that keeps this one for the side that moves.

@@ -15,7 +15,7 @@ pub struct Reached<G: Game> {
     game: PhantomData<G>,
 }
 
-// Let go by one call, so that a proof follows one value and not each field.
+// Dropped in one call, so that the prover tracks one value instead of every field.
 impl<G: Game> Drop for Reached<G> {
     fn drop(self) {
         let Reached { keys: _, game: _ } = self;

@@ -1,46 +1,35 @@
 //! Found positions as rows of text.
-ghost use Rattle.std.specs.Prelude.{◌≡◌, ◌↔◌, ◌++◌, true, IfOk, OnOk, IsErrOf, is_some};
+ghost use Rattle.std.specs.Prelude.{◌≡◌, ◌++◌, true, IfOk, OnOk, is_some};
 ghost use Rattle.std.specs.List.{All, flat_map};
 ghost use Rattle.gm_best.specs.BestMoves.{IsBestMove};
-ghost use Rattle.gm_find.specs.Finding.{AreTiersHeld, IsMissing};
 ghost use Rattle.gm_find.specs.Founds.{IsFound};
 ghost use Rattle.gm_find.specs.Rows.{best_text as best_text_spec, found_row, row, IsFoundText};
 
 use crate::choice::find_some;
-use crate::find_error::FindError;
 use crate::found::Found;
 use crate::reached::Reached;
 use crate::sought::{Choice, Sought};
+use gm_best::known_tiers::KnownTiers;
 use gm_game::position::Position;
 use gm_game::shown::{Line, Shown};
 use gm_game::text::{push_decimal, value_text};
 use gm_play::texts::push_field;
-use gm_table::tables::Tables;
 use std::alloc::{AllocError, Global};
 
 /// The rows of the canonical positions that are sought: the position, its value, its best move (none where the game has ended) and the number of its moves,
 /// with a tab between them. They stand tier by tier in the order given and by ascending index: the first of them, or so many by chance. Where a set of reached
 /// positions is given, only positions in it count.
-///
-/// `NotHeld` is tested first, where one of the tiers, or one of its child tiers, has no table; where a whole line is asked for it also comes at a table that
-/// one rests on, and else nowhere.
 pub fn find_text<G: Shown>(
     alloc: Global,
-    tables: &Tables<G>,
-    tiers: &[u64],
+    known: &KnownTiers<'_, G>,
     sought: Sought,
     reached: Option<&Reached<G>>,
     choice: Choice,
-) -> Result<Vec<u8>, FindError>
-    ensures text { IfOk result (λ v. IsFoundText G.Game.rules G.shown G.move_shown sought (is_some reached.entry) choice tiers.now v.items) }
-    ensures not_held { (AreTiersHeld G.Game.rules tables.now tiers.now → ⊥) → IsErrOf result FindError.NotHeld }
-    ensures missing { IsErrOf result FindError.NotHeld → IsMissing G.Game.rules tables.now sought tiers.now }
+) -> Result<Vec<u8>, AllocError>
+    ensures { IfOk result (λ v. IsFoundText G.Game.rules G.shown G.move_shown sought (is_some reached.entry) choice known.now.tiers.now v.items) }
 {
-    let found = find_some(alloc, tables, tiers, sought, reached, choice)?;
-    match found_rows::<G>(alloc, found.as_slice()) {
-        Ok(rows) => Ok(rows),
-        Err(_) => Err(FindError::OutOfMemory),
-    }
+    let found = find_some(alloc, known, sought, reached, choice)?;
+    found_rows::<G>(alloc, found.as_slice())
 }
 
 /// The rows of found positions, as `find_text` has them.

@@ -28,7 +28,7 @@ pub(crate) fn search<G: Game>(alloc: Global) -> Result<HashSet<(u64, u64)>, Allo
     }
 }
 
-// Finds them all, from an empty set. A position waits from when it is found until its children are.
+// Finds them all, from an empty set. A position stays on the stack until its children are found.
 fn fill<G: Game>(
     found: &mut HashSet<(u64, u64)>,
     waiting: &mut Vec<Position>,

@@ -21,21 +21,25 @@ none_first level n width k tallies zero none = subst (AreFirst level n width k) 
   pieces = ap (numbers_from 0) (sym zero);
 })
 
-pub one_more : (r : Rules) (level : LevelData) (n width k : ℕ) (old new : List TallyData) (t : TallyData) → AreFirst level n width k old → IsTallyOf r level k n width t → new ≡ old ++ t ∷ [] → AreFirst level n width (k + 1) new
+pub one_more : (r : Rules) (level : LevelData) (n width k : ℕ) (old new : List TallyData) (t : TallyData) → AreFirst level n width k old
+    → IsTallyOf r level k n width t → new ≡ old ++ t ∷ [] → AreFirst level n width (k + 1) new
 one_more r level n width k old new t first is e = subst (AreFirst level n width (k + 1)) (sym e) (record {
   alike = λ u h. elim (Contains-push_cases old t u h) [
     | inl i ↦ first.alike u i
     | inr q ↦ subst (λ (v : TallyData). (v.place ≡ level.place) × (v.n ≡ n) × (v.width ≡ width)) q (is.place, is.n, is.width)
   ];
-  pieces = map_push (λ (u : TallyData). u.piece) old t ∙ ap (λ (ks : List ℕ). ks ++ t.piece ∷ []) first.pieces ∙ ap (λ (p : ℕ). numbers_from 0 k ++ p ∷ []) (let p = is.piece in let q : t.piece ≡ 0 + k = omega arith in q) ∙ sym (numbers_push 0 k);
+  pieces = map_push (λ (u : TallyData). u.piece) old t ∙ ap (λ (ks : List ℕ). ks ++ t.piece ∷ []) first.pieces
+      ∙ ap (λ (p : ℕ). numbers_from 0 k ++ p ∷ []) (let p = is.piece in let q : t.piece ≡ 0 + k = omega arith in q) ∙ sym (numbers_push 0 k);
 })
 
 -- when all pieces have theirs
-pub all_first : (level : LevelData) (n width k : ℕ) (tallies : List TallyData) → k ≡ div_ceil (length level.notes) n → AreFirst level n width k tallies → AreAllTallies level n width tallies
+pub all_first : (level : LevelData) (n width k : ℕ) (tallies : List TallyData) → k ≡ div_ceil (length level.notes) n → AreFirst level n width k tallies
+    → AreAllTallies level n width tallies
 all_first level n width k tallies all first = record { alike = first.alike; pieces = first.pieces ∙ ap (numbers_from 0) all }
 
 -- the tallies of all pieces count into each tile
-pub all_count : (r : Rules) (level : LevelData) (n width lo hi : ℕ) (tallies : List TallyData) → 0 < n → AreAllTallies level n width tallies → IsTile (r.tier_size level.place.tier) width lo hi → AreTallies r level lo hi tallies
+pub all_count : (r : Rules) (level : LevelData) (n width lo hi : ℕ) (tallies : List TallyData) → 0 < n → AreAllTallies level n width tallies
+    → IsTile (r.tier_size level.place.tier) width lo hi → AreTallies r level lo hi tallies
 all_count r level n width lo hi tallies some all tile = record {
   n = n;
   width = width;

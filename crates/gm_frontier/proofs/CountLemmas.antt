@@ -13,7 +13,7 @@ use Rattle.gm_game.specs.Rules.{Rules, at, IsCanonical, IsParent}
 use Rattle.gm_game.specs.Laws.{IsGame}
 use Rattle.gm_game.specs.Children.{canonical_children_of}
 use Rattle.gm_game.specs.Places.{IsLastLevel}
-use Rattle.gm_game.proofs.Lists.{contains_none, contains_first, contains_later, map_from}
+use Rattle.gm_game.proofs.Lists.{contains_first, contains_later, map_from}
 use Rattle.gm_game.proofs.Counts.{HasNoRepeats, no_longer}
 use Rattle.gm_game.proofs.ChildrenLemmas.{canonical_children_listed}
 use Rattle.gm_frontier.specs.Tallies.{numbers_from}
@@ -22,22 +22,13 @@ use Rattle.gm_frontier.specs.Levels.{IsLevel, positions}
 use Rattle.gm_frontier.specs.Pairs.{pairs_of}
 use Rattle.gm_frontier.specs.Counts.{IsNumberBefore}
 use Rattle.gm_frontier.proofs.Distinct.{no_repeats_from, no_repeats_to, no_repeats_append, flat_map_has}
-use Rattle.gm_frontier.proofs.ForGame.{stands_now, now_stands, not_before_and_at, none_before, before_later, before_ties, ties_after, canonical_children_few}
-use Rattle.gm_frontier.proofs.PairLemmas.{near_of_pair, bare_pairs, length-bare_pairs, bare_pairs_once, in_bare_pairs, positions_once, canonical_notes, level_pairs_exact}
-
--- at the start there is none
-pub none_at_first : (r : Rules) (tier lo hi : ℕ) → IsNumberBefore r tier lo hi WinLose 0 0
-none_at_first r tier lo hi = (
-  [],
-  refl,
-  record {
-    each = λ (p : Position × ℕ). ((λ k. absurd (none_before r p.0 k.1)), (λ h. absurd (contains_none p h)));
-    once = λ i j d a b. absurd (omega arith);
-  },
-)
+use Rattle.gm_frontier.proofs.ForGame.{stands_now, now_stands, not_before_and_at, before_later, before_ties, ties_after, canonical_children_few}
+use Rattle.gm_frontier.proofs.PairLemmas.{near_of_pair, bare_pairs, length-bare_pairs, bare_pairs_once, in_bare_pairs, positions_once, canonical_notes}
+use Rattle.gm_frontier.proofs.PairLemmas.{level_pairs_exact}
 
 -- with the pairs of one level there are so many more
-module _ (r : Rules) (g : IsGame r) (lo hi : ℕ) (place : Place) (notes : List NoteData) (level : IsLevel r place notes) (number : ℕ) (before : IsNumberBefore r place.tier lo hi place.phase place.level number) where
+module _ (r : Rules) (g : IsGame r) (lo hi : ℕ) (place : Place) (notes : List NoteData) (level : IsLevel r place notes) (number : ℕ)
+    (before : IsNumberBefore r place.tier lo hi place.phase place.level number) where
   more : List (Position × ℕ)
   more = bare_pairs r place.tier lo hi notes
 
@@ -52,7 +43,8 @@ module _ (r : Rules) (g : IsGame r) (lo hi : ℕ) (place : Place) (notes : List 
   unfolding more
   level_added = (
     before.0 ++ bare_pairs r place.tier lo hi notes,
-    (let a = length-append before.0 (bare_pairs r place.tier lo hi notes) in let b = length-bare_pairs r place.tier lo hi notes in let c = before.1 in omega arith),
+    (let a = length-append before.0 (bare_pairs r place.tier lo hi notes) in let b = length-bare_pairs r place.tier lo hi notes in
+        let c = before.1 in omega arith),
     record {
       each = λ (p : Position × ℕ). (
         (λ k. elim (stands_now r place.phase place.level p.0 k.1) [
@@ -69,7 +61,8 @@ module _ (r : Rules) (g : IsGame r) (lo hi : ℕ) (place : Place) (notes : List 
   )
 
 -- where no win or loss is left, as many stand before the first level of ties
-pub ties_begin : (r : Rules) → IsGame r → (tier lo hi n number : ℕ) → IsLastLevel r tier WinLose n → IsNumberBefore r tier lo hi WinLose n number → IsNumberBefore r tier lo hi Ties 0 number
+pub ties_begin : (r : Rules) → IsGame r → (tier lo hi n number : ℕ) → IsLastLevel r tier WinLose n → IsNumberBefore r tier lo hi WinLose n number
+    → IsNumberBefore r tier lo hi Ties 0 number
 ties_begin r g tier lo hi n number last (xs, count, exact) = (
   xs,
   count,
@@ -98,7 +91,8 @@ unfolding pairs_at row
 pairs_at_few r g tier i = few (r.is_legal (at tier i)) refl
   where
     few : (b : Bool) → r.is_legal (at tier i) ≡ b → length (row b r tier i) ≤ MOVES
-    few true e = subst (λ (m : ℕ). m ≤ MOVES) (sym (length-map (canonical_children_of r (at tier i)) (with_parent i))) (canonical_children_few r g (at tier i) e)
+    few true e = subst (λ (m : ℕ). m ≤ MOVES) (sym (length-map (canonical_children_of r (at tier i)) (with_parent i)))
+        (canonical_children_few r g (at tier i) e)
     few false e = omega arith
 
 pairs_at_has : (r : Rules) (tier i : ℕ) (c : Position) → IsParent r c tier i → Contains (pairs_at r tier i) (c, i)
@@ -129,25 +123,30 @@ numbers_have k (suc n) i a b = elim (cases_lt k i) [
 ]
 
 -- so there are no more than the tier's size times the limit on moves
-pub pairs_few : (r : Rules) → IsGame r → (tier : ℕ) (xs : List (Position × ℕ)) → HasNoRepeats xs → ((p : Position × ℕ) → Contains xs p → IsParent r p.0 tier p.1) → length xs ≤ MOVES * r.tier_size tier
+pub pairs_few : (r : Rules) → IsGame r → (tier : ℕ) (xs : List (Position × ℕ)) → HasNoRepeats xs
+    → ((p : Position × ℕ) → Contains xs p → IsParent r p.0 tier p.1) → length xs ≤ MOVES * r.tier_size tier
 pairs_few r g tier xs once parents =
     let all = flat_map (pairs_at r tier) (numbers_from 0 (r.tier_size tier)) in
     let a = no_longer xs all once
     (λ (p : Position × ℕ) h. (let k = parents p h in
     let below : p.1 < r.tier_size tier = g.index_below (at tier p.1) k.0.legal in
-    flat_map_has (pairs_at r tier) (numbers_from 0 (r.tier_size tier)) p.1 p (numbers_have 0 (r.tier_size tier) p.1 (omega arith) (omega arith)) (pairs_at_has r tier p.1 p.0 k))) in
+    flat_map_has (pairs_at r tier) (numbers_from 0 (r.tier_size tier)) p.1 p (numbers_have 0 (r.tier_size tier) p.1 (omega arith) (omega arith))
+    (pairs_at_has r tier p.1 p.0 k))) in
     let b = flat_map_few (pairs_at r tier) MOVES (numbers_from 0 (r.tier_size tier)) (pairs_at_few r g tier) in
     let c = length-numbers_from 0 (r.tier_size tier) in
     omega arith
 
 -- of all levels before a place
-pub number_few : (r : Rules) → IsGame r → (tier lo hi : ℕ) (phase : Phase) (n number : ℕ) → IsNumberBefore r tier lo hi phase n number → number ≤ MOVES * r.tier_size tier
+pub number_few : (r : Rules) → IsGame r → (tier lo hi : ℕ) (phase : Phase) (n number : ℕ) → IsNumberBefore r tier lo hi phase n number
+    → number ≤ MOVES * r.tier_size tier
 number_few r g tier lo hi phase n number (xs, count, exact) =
     let a = pairs_few r g tier xs (no_repeats_from xs exact.once) (λ p h. ((exact.each p).1 h).0.is_parent) in omega arith
 
 -- and of some notes
-pub notes_few : (r : Rules) → IsGame r → (tier lo hi : ℕ) (notes : List NoteData) → HasNoRepeats (positions notes) → ((n : NoteData) → Contains notes n → IsCanonical r n.position) → length (pairs_of r tier lo hi notes) ≤ MOVES * r.tier_size tier
+pub notes_few : (r : Rules) → IsGame r → (tier lo hi : ℕ) (notes : List NoteData) → HasNoRepeats (positions notes)
+    → ((n : NoteData) → Contains notes n → IsCanonical r n.position) → length (pairs_of r tier lo hi notes) ≤ MOVES * r.tier_size tier
 notes_few r g tier lo hi notes once canonical =
-    let a = pairs_few r g tier (bare_pairs r tier lo hi notes) (bare_pairs_once r g tier lo hi notes once canonical) (λ p h. (in_bare_pairs r g tier lo hi notes once canonical p h).0.is_parent) in
+    let a = pairs_few r g tier (bare_pairs r tier lo hi notes) (bare_pairs_once r g tier lo hi notes once canonical)
+    (λ p h. (in_bare_pairs r g tier lo hi notes once canonical p h).0.is_parent) in
     let b = length-bare_pairs r tier lo hi notes in
     omega arith

@@ -27,12 +27,14 @@ use Rattle.gm_frontier.specs.Pairs.{pairs_of, piece_of, IsPairAt}
 use Rattle.gm_frontier.specs.Tallies.{tile_start, tile_end, tiled_pairs, numbers_from}
 use Rattle.gm_frontier.proofs.CountLemmas.{numbers_have}
 use Rattle.gm_frontier.proofs.Distinct.{in_flat_map, flat_map_has, no_repeats_flat_map, no_repeats_before, no_repeats_to}
-use Rattle.gm_frontier.proofs.PairLemmas.{near_of_pair, in_pairs, pairs_have, pairs_once, in_piece, positions_once, canonical_notes, piece_positions_once, piece_canonical}
+use Rattle.gm_frontier.proofs.PairLemmas.{near_of_pair, in_pairs, pairs_have, pairs_once, in_piece, positions_once, canonical_notes, piece_positions_once}
+use Rattle.gm_frontier.proofs.PairLemmas.{piece_canonical}
 use Rattle.gm_frontier.proofs.SumLemmas.{numbers_once}
 use Rattle.gm_frontier.proofs.TileLemmas.{in_tile, tile_below}
 
 -- a note stands at its place
-stands_of : (r : Rules) (p : Position) (v : Value) (m : ℕ) (phase : Phase) (n : ℕ) → HasValue r p v m → v ≢ Draw → phase_of v ≡ phase → m ≡ n → StandsAt r phase n p
+stands_of : (r : Rules) (p : Position) (v : Value) (m : ℕ) (phase : Phase) (n : ℕ) → HasValue r p v m → v ≢ Draw → phase_of v ≡ phase → m ≡ n
+    → StandsAt r phase n p
 stands_of r p Lose m WinLose n h d e f = inr (subst (HasValue r p Lose) f h)
 stands_of r p Win m WinLose n h d e f = inl (subst (HasValue r p Win) f h)
 stands_of r p Tie m Ties n h d e f = subst (HasValue r p Tie) f h
@@ -42,7 +44,8 @@ stands_of r p Tie m WinLose n h d e f = absurd (cc)
 stands_of r p Draw m phase n h d e f = absurd (d refl)
 
 -- the index of what is in a piece
-piece_index : {X : Type 0} (p n : ℕ) (xs : List X) (x : X) → Contains (take n (drop (p * n) xs)) x → (i : ℕ) × (i < length xs) × (get_or xs i x ≡ x) × (i / n ≡ p)
+piece_index : {X : Type 0} (p n : ℕ) (xs : List X) (x : X) → Contains (take n (drop (p * n) xs)) x → (i : ℕ) × (i < length xs)
+    × (get_or xs i x ≡ x) × (i / n ≡ p)
 piece_index p n xs x (j, l, e) =
     let a = length-take n (drop (p * n) xs) in
     let b = length-drop (p * n) xs in
@@ -60,7 +63,8 @@ one_index xs x i j once k l e f = elim (cases_lt i j) [
 ]
 
 -- each member is in one piece
-pub in_some_piece : {X : Type 0} (n : ℕ) (xs : List X) (x : X) → 0 < n → Contains xs x → (p : ℕ) × (p < div_ceil (length xs) n) × Contains (take n (drop (p * n) xs)) x
+pub in_some_piece : {X : Type 0} (n : ℕ) (xs : List X) (x : X) → 0 < n → Contains xs x → (p : ℕ) × (p < div_ceil (length xs) n)
+    × Contains (take n (drop (p * n) xs)) x
 in_some_piece n xs x some (i, l, e) =
     let whole = div-add-mod' i n in
     let past = lt-div-mul-add {a = i} {b = n} some in
@@ -73,7 +77,8 @@ in_some_piece n xs x some (i, l, e) =
       (i % n, omega arith, get_or-take n (drop (i / n * n) xs) (i % n) x small ∙ get_or-drop (i / n * n) xs (i % n) x ∙ ap (λ (m : ℕ). get_or xs m x) here ∙ e),
     )
 
-pub one_piece : {X : Type 0} (n : ℕ) (xs : List X) (x : X) (p q : ℕ) → HasNoRepeats xs → Contains (take n (drop (p * n) xs)) x → Contains (take n (drop (q * n) xs)) x → p ≡ q
+pub one_piece : {X : Type 0} (n : ℕ) (xs : List X) (x : X) (p q : ℕ) → HasNoRepeats xs → Contains (take n (drop (p * n) xs)) x
+    → Contains (take n (drop (q * n) xs)) x → p ≡ q
 one_piece n xs x p q once h k =
     let (i, a, e, f) = piece_index p n xs x h in
     let (j, b, c, d) = piece_index q n xs x k in
@@ -85,9 +90,11 @@ module _ (r : Rules) (g : IsGame r) (place : Place) (notes : List NoteData) (lev
   listed : (n : NoteData) → IsNoteAt r place n → (i : ℕ) → IsParent r n.position place.tier i → Contains notes n
   listed n at_place i parent =
       let near = near_of_pair r g place.tier i n.position parent in
-      let stands = stands_of r n.position n.solved.value n.solved.remoteness place.phase place.level at_place.note.value at_place.note.decided at_place.phase at_place.level in
+      let stands = stands_of r n.position n.solved.value n.solved.remoteness place.phase place.level at_place.note.value at_place.note.decided
+      at_place.phase at_place.level in
       let (m, l, e) = map_in (λ (x : NoteData). x.position) notes n.position ((level.each n.position).0 (near.0, near.1, stands)) in
-      let value : m.solved ≡ n.solved = IsTrueValue_once r n.position m.solved n.solved (subst (λ (p : Position). IsTrueValue r p m.solved) e (level.noted m l).note.value) at_place.note.value in
+      let value : m.solved ≡ n.solved = IsTrueValue_once r n.position m.solved n.solved
+      (subst (λ (p : Position). IsTrueValue r p m.solved) e (level.noted m l).note.value) at_place.note.value in
       let same : m ≡ n = ap₂ (λ (p : Position) (s : Solved). let x : NoteData = record { position = p; solved = s } in x) e value in
       subst (Contains notes) same l
 
@@ -114,7 +121,8 @@ module _ (r : Rules) (g : IsGame r) (place : Place) (notes : List NoteData) (lev
         let before : x.1 / width < div_ceil (r.tier_size place.tier) width = tile_below (r.tier_size place.tier) width x.1 wide inside in
         let (low, high) = (in_tile width (x.1 / width) x.1 wide).0 refl in
         let parent = (g.parents_exact x.0.position place.tier x.1 is.note.note.canonical).1 is.is_parent in
-        let pair = pairs_have r place.tier (tile_start width tile) (tile_end (r.tier_size place.tier) width tile) (piece_of p n notes) x.0 x.1 there parent low (omega arith) in
+        let pair = pairs_have r place.tier (tile_start width tile) (tile_end (r.tier_size place.tier) width tile) (piece_of p n notes)
+        x.0 x.1 there parent low (omega arith) in
         flat_map_has of_piece (numbers_from 0 (div_ceil (length notes) n)) p x (numbers_have 0 (div_ceil (length notes) n) p (omega arith) (omega arith))
         (flat_map_has (into p) (numbers_from 0 tiles) tile x (numbers_have 0 tiles tile (omega arith) (omega arith)) pair)
 
@@ -125,20 +133,26 @@ module _ (r : Rules) (g : IsGame r) (place : Place) (notes : List NoteData) (lev
         let (tile, tl, q) = in_flat_map (into p) (numbers_from 0 tiles) x k in
         let (note, parent, low, high) = in_pairs r place.tier (tile_start width tile) (tile_end (r.tier_size place.tier) width tile) (piece_of p n notes) x q in
         let among = in_piece p n notes x.0 note in
-        record { note = level.noted x.0 among; is_parent = (g.parents_exact x.0.position place.tier x.1 (canonical_notes r g place notes level x.0 among)).0 parent }
+        record {
+          note = level.noted x.0 among;
+          is_parent = (g.parents_exact x.0.position place.tier x.1 (canonical_notes r g place notes level x.0 among)).0 parent;
+        }
 
     once : HasNoRepeats (tiled_pairs r place.tier notes n width)
     unfolding size tiles into of_piece
     once =
         no_repeats_flat_map of_piece (numbers_from 0 (div_ceil (length notes) n)) (numbers_once 0 (div_ceil (length notes) n))
         (λ p pl. no_repeats_flat_map (into p) (numbers_from 0 tiles) (numbers_once 0 tiles)
-        (λ tile tl. pairs_once r g place.tier (tile_start width tile) (tile_end (r.tier_size place.tier) width tile) (piece_of p n notes) (piece_positions_once r g place notes level p n) (piece_canonical r g place notes level p n))
+        (λ tile tl. pairs_once r g place.tier (tile_start width tile) (tile_end (r.tier_size place.tier) width tile) (piece_of p n notes)
+        (piece_positions_once r g place notes level p n) (piece_canonical r g place notes level p n))
         (λ s t x sl tl a b. sym (tile_of p s x a) ∙ tile_of p t x b))
-        (λ p q x pl ql a b. one_piece n notes x.0 p q (no_repeats_before (λ (m : NoteData). m.position) notes (positions_once r g place notes level)) (note_of p x a) (note_of q x b))
+        (λ p q x pl ql a b. one_piece n notes x.0 p q (no_repeats_before (λ (m : NoteData). m.position) notes (positions_once r g place notes level))
+        (note_of p x a) (note_of q x b))
       where
         tile_of : (p tile : ℕ) (x : NoteData × ℕ) → Contains (into p tile) x → x.1 / width ≡ tile
         tile_of p tile x h =
-            let (note, parent, low, high) = in_pairs r place.tier (tile_start width tile) (tile_end (r.tier_size place.tier) width tile) (piece_of p n notes) x h in
+            let (note, parent, low, high) = in_pairs r place.tier (tile_start width tile) (tile_end (r.tier_size place.tier) width tile)
+            (piece_of p n notes) x h in
             (in_tile width tile x.1 wide).1 (low, omega arith)
 
         note_of : (p : ℕ) (x : NoteData × ℕ) → Contains (of_piece p) x → Contains (piece_of p n notes) x.0

@@ -1,5 +1,6 @@
 -- Lists without repeats: joined, mapped, filtered, and taken apart.
-use Rattle.std.proofs.Common.{◌≡◌, ◌≢◌, ℕ, zero, suc, ◌<◌, inl, inr, Bool, true, false, List, [], ◌∷◌, ◌++◌, length, get_or, map, filter, refl, sym, ap, subst, ◌∙◌, arith, AllPairs, if◌then◌else◌}
+use Rattle.std.proofs.Common.{◌≡◌, ◌≢◌, ℕ, zero, suc, ◌<◌, inl, inr, Bool, true, false, List, [], ◌∷◌, ◌++◌, length, get_or, map, filter, refl, sym, ap, subst}
+use Rattle.std.proofs.Common.{◌∙◌, arith, AllPairs, if◌then◌else◌}
 use Rattle.std.specs.List.{Contains, flat_map}
 use Rattle.std.proofs.lemmas.List.Elements.{Contains-append_left, Contains-append_right, Contains-append_cases}
 use Rattle.gm_game.specs.Rules.{IsAscending}
@@ -9,8 +10,10 @@ use Rattle.gm_game.proofs.Counts.{HasNoRepeats}
 -- by places, and back
 pub no_repeats_from : {X : Type 0} (xs : List X) → AllPairs (λ x y. x ≢ y) xs → HasNoRepeats xs
 no_repeats_from [] all = tt
-no_repeats_from (x ∷ xs) all =
-    (λ h. all 0 (suc h.0) x (omega arith) (let l = h.1 in omega arith) (sym h.2), no_repeats_from xs (λ i j d a b. all (suc i) (suc j) d (omega arith) (omega arith)))
+no_repeats_from (x ∷ xs) all = (
+  λ h. all 0 (suc h.0) x (omega arith) (let l = h.1 in omega arith) (sym h.2),
+  no_repeats_from xs (λ i j d a b. all (suc i) (suc j) d (omega arith) (omega arith)),
+)
 
 -- whatever the default
 pub stands_there : {X : Type 0} (xs : List X) (j : ℕ) (d : X) → j < length xs → get_or xs j (get_or xs j d) ≡ get_or xs j d
@@ -25,13 +28,17 @@ no_repeats_to {X} (x ∷ xs) n zero (suc j) d a b = λ e. n.0 (subst (λ (u : X)
 no_repeats_to (x ∷ xs) n (suc i) (suc j) d a b = no_repeats_to xs n.1 i j d (omega arith) (omega arith)
 
 -- joined lists that share nothing
-pub no_repeats_append : {X : Type 0} (xs ys : List X) → HasNoRepeats xs → HasNoRepeats ys → ((x : X) → Contains xs x → Contains ys x → ⊥) → HasNoRepeats (xs ++ ys)
+pub no_repeats_append : {X : Type 0} (xs ys : List X) → HasNoRepeats xs → HasNoRepeats ys → ((x : X) → Contains xs x → Contains ys x → ⊥)
+    → HasNoRepeats (xs ++ ys)
 no_repeats_append [] ys n m f = m
-no_repeats_append (x ∷ xs) ys n m f =
-    (λ h. elim (Contains-append_cases xs ys x h) [ inl a ↦ n.0 a | inr b ↦ f x (contains_first x xs) b ], no_repeats_append xs ys n.1 m (λ y a b. f y (contains_later x y xs a) b))
+no_repeats_append (x ∷ xs) ys n m f = (
+  λ h. elim (Contains-append_cases xs ys x h) [ inl a ↦ n.0 a | inr b ↦ f x (contains_first x xs) b ],
+  no_repeats_append xs ys n.1 m (λ y a b. f y (contains_later x y xs a) b),
+)
 
 -- a mapped list, where different members stay different
-pub no_repeats_map : {X Y : Type 0} (f : X → Y) (xs : List X) → ((x y : X) → Contains xs x → Contains xs y → f x ≡ f y → x ≡ y) → HasNoRepeats xs → HasNoRepeats (map f xs)
+pub no_repeats_map : {X Y : Type 0} (f : X → Y) (xs : List X) → ((x y : X) → Contains xs x → Contains xs y → f x ≡ f y → x ≡ y) → HasNoRepeats xs
+    → HasNoRepeats (map f xs)
 no_repeats_map f [] i n = tt
 no_repeats_map {X} f (x ∷ xs) i n = (
   λ h. (let (y, l, e) = map_in f xs (f x) h in n.0 (subst (λ (z : X). Contains xs z) (i y x (contains_later x y xs l) (contains_first x xs) e) l)),
@@ -117,12 +124,14 @@ no_repeats_flat_map f [] n each apart = tt
 no_repeats_flat_map {X} f (x ∷ xs) n each apart =
     no_repeats_append (f x) (flat_map f xs) (each x (contains_first x xs))
     (no_repeats_flat_map f xs n.1 (λ z l. each z (contains_later x z xs l)) (λ z w y a b. apart z w y (contains_later x z xs a) (contains_later x w xs b)))
-    (λ y a b. (let (z, l, k) = in_flat_map f xs y b in n.0 (subst (λ (u : X). Contains xs u) (sym (apart x z y (contains_first x xs) (contains_later x z xs l) a k)) l)))
+    (λ y a b. (let (z, l, k) = in_flat_map f xs y b in
+    n.0 (subst (λ (u : X). Contains xs u) (sym (apart x z y (contains_first x xs) (contains_later x z xs l) a k)) l)))
 
 -- ascending numbers
 pub ascending_above : (x : ℕ) (xs : List ℕ) → IsAscending (x ∷ xs) → (y : ℕ) → Contains xs y → x < y
 ascending_above x [] up y h = absurd (contains_none y h)
-ascending_above x (z ∷ zs) up y h = elim (contains_cases z y zs h) [ inl e ↦ (let a = up.0 in omega arith) | inr t ↦ (let a = up.0 in let b = ascending_above z zs up.1 y t in omega arith) ]
+ascending_above x (z ∷ zs) up y h = elim (contains_cases z y zs h)
+    [ inl e ↦ (let a = up.0 in omega arith) | inr t ↦ (let a = up.0 in let b = ascending_above z zs up.1 y t in omega arith) ]
 
 pub no_repeats_ascending : (xs : List ℕ) → IsAscending xs → HasNoRepeats xs
 no_repeats_ascending [] up = tt

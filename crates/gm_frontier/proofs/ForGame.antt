@@ -55,14 +55,6 @@ not_before_and_at r phase n c s h =
     let e = one_place r s.own_phase phase s.own_level n c s.stands h in
     not_before_itself phase n (subst (λ (q : Phase). IsPlaceBefore q n phase n) e.0 (subst (λ (k : ℕ). IsPlaceBefore s.own_phase k phase n) e.1 s.before))
 
--- nothing stands before the first place
-pub none_before : (r : Rules) (c : Position) → StandsBefore r WinLose 0 c → ⊥
-none_before r c s = go s.own_phase s.own_level s.before
-  where
-    go : (q : Phase) (k : ℕ) → IsPlaceBefore q k WinLose 0 → ⊥
-    go WinLose k b = omega arith
-    go Ties k b = b
-
 -- later places
 later_place : (q phase : Phase) (k m n : ℕ) → m ≤ n → IsPlaceBefore q k phase m → IsPlaceBefore q k phase n
 later_place WinLose WinLose k m n l b = omega arith
@@ -71,10 +63,16 @@ later_place Ties WinLose k m n l b = b
 later_place Ties Ties k m n l b = omega arith
 
 pub before_later : (r : Rules) (phase : Phase) (m n : ℕ) (c : Position) → m ≤ n → StandsBefore r phase m c → StandsBefore r phase n c
-before_later r phase m n c l s = record { own_phase = s.own_phase; own_level = s.own_level; stands = s.stands; before = later_place s.own_phase phase s.own_level m n l s.before }
+before_later r phase m n c l s = record {
+  own_phase = s.own_phase;
+  own_level = s.own_level;
+  stands = s.stands;
+  before = later_place s.own_phase phase s.own_level m n l s.before;
+}
 
 -- before the first level of ties stand exactly the wins and losses
-pub before_ties : (r : Rules) (tier n : ℕ) (c : Position) → IsLastLevel r tier WinLose n → IsNear r tier c → StandsBefore r Ties 0 c → StandsBefore r WinLose n c
+pub before_ties : (r : Rules) (tier n : ℕ) (c : Position) → IsLastLevel r tier WinLose n → IsNear r tier c → StandsBefore r Ties 0 c
+    → StandsBefore r WinLose n c
 before_ties r tier n c last near s = go s.own_phase s.own_level s.stands s.before
   where
     go : (q : Phase) (m : ℕ) → StandsAt r q m c → IsPlaceBefore q m Ties 0 → StandsBefore r WinLose n c

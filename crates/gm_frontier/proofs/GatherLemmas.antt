@@ -31,7 +31,8 @@ length-positions_below most tier =
     omega arith
 
 -- a level has no more notes than its tiers have indexes
-pub level_few : (r : Rules) → IsGame r → (place : Place) (notes : List NoteData) → IsLevel r place notes → (most : ℕ) → ((t : ℕ) → IsTierOrChild r place.tier t → r.tier_size t ≤ most) → length notes ≤ most * (CHILD_TIERS + 1)
+pub level_few : (r : Rules) → IsGame r → (place : Place) (notes : List NoteData) → IsLevel r place notes → (most : ℕ)
+    → ((t : ℕ) → IsTierOrChild r place.tier t → r.tier_size t ≤ most) → length notes ≤ most * (CHILD_TIERS + 1)
 level_few r g place notes level most small =
     let tiers = place.tier ∷ r.child_tiers place.tier in
     let listed : (c : Position) → Contains (positions notes) c → Contains (flat_map (positions_below most) tiers) c = λ c h.
@@ -42,7 +43,8 @@ level_few r g place notes level most small =
       | inl e ↦ subst (λ (t : ℕ). Contains tiers t) (sym e) (contains_first place.tier (r.child_tiers place.tier))
       | inr l ↦ contains_later place.tier c.tier (r.child_tiers place.tier) l
     ] in
-    flat_map_has (positions_below most) tiers c.tier c among (map_from (at c.tier) (numbers_from 0 most) c.index (numbers_have 0 most c.index (omega arith) (omega arith)))) in
+    flat_map_has (positions_below most) tiers c.tier c among
+    (map_from (at c.tier) (numbers_from 0 most) c.index (numbers_have 0 most c.index (omega arith) (omega arith)))) in
     let a = no_longer (positions notes) (flat_map (positions_below most) tiers) (positions_once r g place notes level) listed in
     let b = flat_map_few (positions_below most) most tiers (length-positions_below most) in
     let c = length-map notes (λ (n : NoteData). n.position) in
@@ -51,15 +53,25 @@ level_few r g place notes level most small =
     omega arith
 
 -- the runs' notes and then the child tiers'
-pub gathered : (r : Rules) → IsGame r → (place : Place) (runs : List RunData) → AreTiles place 0 (r.tier_size place.tier) runs → r.tier_size place.tier ≤ TIER_SIZE → AreRuns r runs
-    → (entries : List TableData) (tiers : List ℕ) → tiers ≡ r.child_tiers place.tier → ((t : ℕ) → Contains tiers t → IsChildPart r place t (notes_of_tier entries place t))
-    → (none first all : List NoteData) → none ≡ [] → first ≡ none ++ flat_map (λ run. run.notes) runs → all ≡ first ++ flat_map (notes_of_tier entries place) tiers
+pub gathered : (r : Rules) → IsGame r → (place : Place) (runs : List RunData) → AreTiles place 0 (r.tier_size place.tier) runs
+    → r.tier_size place.tier ≤ TIER_SIZE → AreRuns r runs
+    → (entries : List TableData) (tiers : List ℕ) → tiers ≡ r.child_tiers place.tier
+    → ((t : ℕ) → Contains tiers t → IsChildPart r place t (notes_of_tier entries place t))
+    → (none first all : List NoteData) → none ≡ [] → first ≡ none ++ flat_map (λ run. run.notes) runs
+    → all ≡ first ++ flat_map (notes_of_tier entries place) tiers
     → IsLevel r place all × (length all ≤ TIER_SIZE * (CHILD_TIERS + 1))
 gathered r g place runs tiles small whole entries tiers listed parts none first all e f h =
     let own = flat_map (λ (run : RunData). run.notes) runs in
     let below = flat_map (notes_of_tier entries place) in
-    let children : (t : ℕ) → Contains (r.child_tiers place.tier) t → IsChildPart r place t (notes_of_tier entries place t) = λ t l. parts t (subst (λ (ts : List ℕ). Contains ts t) (sym listed) l) in
+    let children : (t : ℕ) → Contains (r.child_tiers place.tier) t → IsChildPart r place t (notes_of_tier entries place t) =
+    λ t l. parts t (subst (λ (ts : List ℕ). Contains ts t) (sym listed) l) in
     let is : all ≡ own ++ below (r.child_tiers place.tier) =
-    h ∙ ap (λ (ts : List ℕ). first ++ below ts) listed ∙ ap (λ (xs : List NoteData). xs ++ below (r.child_tiers place.tier)) (f ∙ ap (λ (xs : List NoteData). xs ++ own) e) in
-    let level : IsLevel r place all = subst (IsLevel r place) (sym is) (level_joined r g place own (notes_of_tier entries place) (tiled_run r place 0 (r.tier_size place.tier) runs tiles whole) (λ t l. (children t l).whole)) in
-    (level, level_few r g place all level TIER_SIZE (λ t near. elim near [ inl same ↦ subst (λ (u : ℕ). r.tier_size u ≤ TIER_SIZE) (sym same) small | inr l ↦ (children t l).small ]))
+    h ∙ ap (λ (ts : List ℕ). first ++ below ts) listed ∙ ap (λ (xs : List NoteData). xs ++ below (r.child_tiers place.tier))
+    (f ∙ ap (λ (xs : List NoteData). xs ++ own) e) in
+    let level : IsLevel r place all = subst (IsLevel r place) (sym is)
+    (level_joined r g place own (notes_of_tier entries place) (tiled_run r place 0 (r.tier_size place.tier) runs tiles whole)
+    (λ t l. (children t l).whole)) in (
+      level,
+      level_few r g place all level TIER_SIZE
+          (λ t near. elim near [ inl same ↦ subst (λ (u : ℕ). r.tier_size u ≤ TIER_SIZE) (sym same) small | inr l ↦ (children t l).small ]),
+    )

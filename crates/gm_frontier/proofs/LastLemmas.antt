@@ -35,7 +35,8 @@ module _ (r : Rules) (g : IsGame r) (t : TableData) (h : IsTable r t) (place : P
   )
 
 -- a held tier, by what its table answers
-module _ (r : Rules) (g : IsGame r) (entries : List TableData) (h : AreTables r entries) (tier : ℕ) (t : TableData) (e : table_of entries tier ≡ Some t) (place : Place) where
+module _ (r : Rules) (g : IsGame r) (entries : List TableData) (h : AreTables r entries) (tier : ℕ) (t : TableData) (e : table_of entries tier ≡ Some t)
+    (place : Place) where
   pub held_none : ((n : ℕ) → HasLevel place.phase t.records n → ⊥) → IsBelow r place tier
   held_none none = subst (IsBelow r place) (h tier t e).0 (below_none r g t (h tier t e).1 place none)
 
@@ -51,14 +52,17 @@ module _ (r : Rules) (g : IsGame r) (entries : List TableData) (h : AreTables r 
       lt_to m k l = grind (arith, nat_tests)
 
 -- the child tiers, one after another
-pub below_end : (r : Rules) (place : Place) (tiers : List ℕ) (i : ℕ) → tiers ≡ r.child_tiers place.tier → length tiers ≤ i → ((t : ℕ) → Contains (take i tiers) t → IsBelow r place t) → AreBelow r place
+pub below_end : (r : Rules) (place : Place) (tiers : List ℕ) (i : ℕ) → tiers ≡ r.child_tiers place.tier → length tiers ≤ i
+    → ((t : ℕ) → Contains (take i tiers) t → IsBelow r place t) → AreBelow r place
 below_end r place tiers i e l h t among = all_taken (IsBelow r place) tiers i l h t (subst (λ (ts : List ℕ). Contains ts t) (sym e) among)
 
-pub below_at : (r : Rules) (place : Place) (tiers : List ℕ) (i : ℕ) → tiers ≡ r.child_tiers place.tier → i < length tiers → AreBelow r place → IsBelow r place (get_or tiers i 0)
+pub below_at : (r : Rules) (place : Place) (tiers : List ℕ) (i : ℕ) → tiers ≡ r.child_tiers place.tier → i < length tiers → AreBelow r place
+    → IsBelow r place (get_or tiers i 0)
 below_at r place tiers i e l h = h (get_or tiers i 0) (subst (λ (ts : List ℕ). Contains ts (get_or tiers i 0)) e (i, l, stands_there tiers i 0 l))
 
 -- the empty level
-pub last_iff : (r : Rules) → IsGame r → (place : Place) (notes : List NoteData) → IsLevel r place notes → ((notes ≡ []) × AreBelow r place) ↔ IsLastLevel r place.tier place.phase place.level
+pub last_iff : (r : Rules) → IsGame r → (place : Place) (notes : List NoteData) → IsLevel r place notes
+    → ((notes ≡ []) × AreBelow r place) ↔ IsLastLevel r place.tier place.phase place.level
 last_iff r g place notes level = (
   (λ (empty, below) c m (canonical, near) stands. elim (cases_lt m place.level) [
     | inl l ↦ l

@@ -3,7 +3,7 @@ use Rattle.std.proofs.Common.{◌≡◌, ℕ, ◌↔◌, ◌==◌, inl, inr, Boo
 use Rattle.std.specs.List.{AllByRecursion, Contains}
 use Rattle.std.proofs.lemmas.Bool.Decides.{nat_tests}
 use Rattle.gm_game.specs.declared.position.Position.{Position}
-use Rattle.gm_game.specs.Children.{is_before, AreAscending}
+use Rattle.gm_game.specs.Children.{is_before}
 use Rattle.gm_game.proofs.Lists.{contains_none, contains_first, contains_later, contains_cases}
 use Rattle.gm_game.proofs.Counts.{HasNoRepeats}
 use Rattle.gm_game.proofs.SetLemmas.{before_itself, before_trans, all_there}
@@ -18,7 +18,8 @@ in_order_once before one [] up = tt
 in_order_once before one (p ∷ ps) up = (λ h. (let e = all_there (λ q. before p q ≡ true) ps p up.0 h in one p p e e), in_order_once before one ps up.1)
 
 -- lists in one order with the same members are one list
-pub in_order_same : (comes_before : Position → Position → Bool) → IsOneWay comes_before → (ps qs : List Position) → AreInOrder comes_before ps → AreInOrder comes_before qs → ((c : Position) → Contains ps c ↔ Contains qs c) → ps ≡ qs
+pub in_order_same : (comes_before : Position → Position → Bool) → IsOneWay comes_before → (ps qs : List Position) → AreInOrder comes_before ps
+    → AreInOrder comes_before qs → ((c : Position) → Contains ps c ↔ Contains qs c) → ps ≡ qs
 in_order_same before one [] [] up down same = refl
 in_order_same before one [] (q ∷ qs) up down same = absurd (contains_none q ((same q).1 (contains_first q qs)))
 in_order_same before one (p ∷ ps) [] up down same = absurd (contains_none p ((same p).0 (contains_first p ps)))
@@ -55,19 +56,16 @@ first_one_way tier p q = go (p.tier == tier) (q.tier == tier)
     not_both : (m n : ℕ) → nat_lt m n ≡ true → nat_lt n m ≡ true → ⊥
     not_both m n a b = grind (arith, nat_tests)
 
-    go : (b c : Bool) → (if b then (if c then nat_lt p.index q.index else true) else (if c then false else is_before p q)) ≡ true → (if c then (if b then nat_lt q.index p.index else true) else (if b then false else is_before q p)) ≡ true → ⊥
+    go : (b c : Bool) → (if b then (if c then nat_lt p.index q.index else true) else (if c then false else is_before p q)) ≡ true
+        → (if c then (if b then nat_lt q.index p.index else true) else (if b then false else is_before q p)) ≡ true → ⊥
     go true true a b = not_both p.index q.index a b
     go true false a b = cc
     go false true a b = cc
     go false false a b = before_one_way p q a b
 
--- an ascending list is in order
-pub in_order_ascending : (ps : List Position) → AreAscending ps → AreInOrder is_before ps
-in_order_ascending [] up = tt
-in_order_ascending (p ∷ ps) up = (up.0, in_order_ascending ps up.1)
-
 -- joined lists, where each of the first comes before each of the second
-pub in_order_append : (comes_before : Position → Position → Bool) (ps qs : List Position) → AreInOrder comes_before ps → AreInOrder comes_before qs → ((p q : Position) → Contains ps p → Contains qs q → comes_before p q ≡ true) → AreInOrder comes_before (ps ++ qs)
+pub in_order_append : (comes_before : Position → Position → Bool) (ps qs : List Position) → AreInOrder comes_before ps → AreInOrder comes_before qs
+    → ((p q : Position) → Contains ps p → Contains qs q → comes_before p q ≡ true) → AreInOrder comes_before (ps ++ qs)
 in_order_append before [] qs up down apart = down
 in_order_append before (p ∷ ps) qs up down apart = (
   all_append (λ x. before p x ≡ true) ps qs up.0 (all_from (λ x. before p x ≡ true) qs (λ q h. apart p q (contains_first p ps) h)),

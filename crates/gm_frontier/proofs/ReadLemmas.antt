@@ -15,7 +15,8 @@ use Rattle.gm_frontier.specs.Records.{note_of, notes_at, IsRecorded, AreRecorded
 abbrev note : Position → Solved → NoteData
 note p s = record { position = p; solved = s }
 
-module _ (r : Rules) (t : TableData) (indexes : List ℕ) (k i : ℕ) (o : Option Solved) (recorded : AreRecorded r t indexes) (inside : k < length indexes) (is : i ≡ get_or indexes k 0) (read : o ≡ record_at t.records i) where
+module _ (r : Rules) (t : TableData) (indexes : List ℕ) (k i : ℕ) (o : Option Solved) (recorded : AreRecorded r t indexes) (inside : k < length indexes)
+    (is : i ≡ get_or indexes k 0) (read : o ≡ record_at t.records i) where
   here : IsRecorded r t i
   here = recorded i (subst (Contains indexes) (sym is) (Contains-get_or indexes k 0 inside))
 
@@ -32,5 +33,7 @@ module _ (r : Rules) (t : TableData) (indexes : List ℕ) (k i : ℕ) (o : Optio
     pub note_read : (n : NoteData) → n.position ≡ at tier i → n.solved ≡ x → slice_get (notes_at t indexes) k ≡ Some n
     note_read n p s =
         let same : note_of t i ≡ n =
-        ap (λ (u : ℕ). note (at u i) (note_of t i).solved) (sym own) ∙ ap (note (at tier i)) (solved_is ∙ sym s) ∙ ap (λ (q : Position). note q n.solved) (sym p) in
-        slice_get-map (note_of t) indexes k ∙ ap (option_map (note_of t)) (slice_get-get_or indexes k 0 inside) ∙ ap (λ (j : ℕ). Some (note_of t j)) (sym is) ∙ ap Some same
+        ap (λ (u : ℕ). note (at u i) (note_of t i).solved) (sym own) ∙ ap (note (at tier i)) (solved_is ∙ sym s)
+        ∙ ap (λ (q : Position). note q n.solved) (sym p) in
+        slice_get-map (note_of t) indexes k ∙ ap (option_map (note_of t)) (slice_get-get_or indexes k 0 inside)
+        ∙ ap (λ (j : ℕ). Some (note_of t j)) (sym is) ∙ ap Some same

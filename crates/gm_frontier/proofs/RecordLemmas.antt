@@ -1,5 +1,6 @@
 -- The notes of a table's records at a place are those of the positions that stand there.
-use Rattle.std.proofs.Common.{◌≡◌, ◌≢◌, ℕ, ◌<◌, ◌↔◌, inl, inr, true, List, [], ◌∷◌, map, length, get_or, refl, sym, ap, subst, ◌∙◌, arith, Option, None, Some, IsSome, slice_get, unwrap_or}
+use Rattle.std.proofs.Common.{◌≡◌, ◌≢◌, ℕ, ◌<◌, ◌↔◌, inl, inr, true, List, [], ◌∷◌, map, length, get_or, refl, sym, ap, subst, ◌∙◌, arith, Option, None, Some}
+use Rattle.std.proofs.Common.{IsSome, slice_get, unwrap_or}
 use Rattle.std.specs.List.{AllByRecursion, Contains}
 use Rattle.std.proofs.lemmas.Option.{slice_get-get_or}
 use Rattle.std.proofs.lemmas.Bool.Decides.{nat_tests}
@@ -31,7 +32,8 @@ record Stands (s : Solved) (phase : Phase) (n : ℕ) : Type 0 where
   own_level : s.remoteness ≡ n
 
 stands_as : (r : Rules) (p : Position) (s : Solved) (v : Value) (n : ℕ) → IsTrueValue r p s → HasValue r p v n → v ≢ Draw → Stands s (phase_of v) n
-stands_as r p s v n a b open' = let (e, f) = HasValue_once r p s.value v s.remoteness n a b in record { decided = λ d. open' (sym e ∙ d); own_phase = ap phase_of e; own_level = f }
+stands_as r p s v n a b open' = let (e, f) = HasValue_once r p s.value v s.remoteness n a b in
+    record { decided = λ d. open' (sym e ∙ d); own_phase = ap phase_of e; own_level = f }
 
 stands_by : (r : Rules) (p : Position) (s : Solved) (phase : Phase) (n : ℕ) → IsTrueValue r p s → StandsAt r phase n p → Stands s phase n
 stands_by r p s WinLose n a (inl h) = stands_as r p s Win n a h (λ e. cc)
@@ -60,13 +62,15 @@ positions-notes_at t (i ∷ is) = ap (λ (ps : List Position). at t.tier i ∷ p
 
 module _ (r : Rules) (g : IsGame r) (t : TableData) (h : IsTable r t) (place : Place) where
   -- the record of a canonical position that stands at the place
-  record_there : (i : ℕ) (o : Option Solved) → record_at t.records i ≡ o → slice_get t.records i ≡ Some o → IsCanonical r (at t.tier i) → StandsAt r place.phase place.level (at t.tier i) → IsRecorded r t i × IsNoteAt r place (note_of t i)
+  record_there : (i : ℕ) (o : Option Solved) → record_at t.records i ≡ o → slice_get t.records i ≡ Some o → IsCanonical r (at t.tier i)
+      → StandsAt r place.phase place.level (at t.tier i) → IsRecorded r t i × IsNoteAt r place (note_of t i)
   record_there i None e l c s = absurd (h.is_true.each i None l c)
   record_there i (Some x) e l c s =
       let (canonical, value, small) = h.is_true.each i (Some x) l in
       let stands = stands_by r (at t.tier i) x place.phase place.level value s in
       let same : (note_of t i).solved ≡ x = ap (λ (o : Option Solved). unwrap_or o (solved Draw 0)) e in
-      let note : IsNote r (at t.tier i) (note_of t i).solved = subst (IsNote r (at t.tier i)) (sym same) (record { canonical = canonical; value = value; decided = stands.decided }) in (
+      let note : IsNote r (at t.tier i) (note_of t i).solved =
+      subst (IsNote r (at t.tier i)) (sym same) (record { canonical = canonical; value = value; decided = stands.decided }) in (
         (subst IsSome (sym e) refl, note),
         record {
           note = note;
@@ -81,7 +85,8 @@ module _ (r : Rules) (g : IsGame r) (t : TableData) (h : IsTable r t) (place : P
       let there : slice_get t.records i ≡ Some (get_or t.records i None) = slice_get-get_or t.records i None below in
       record_there i (get_or t.records i None) (ap (λ (o : Option (Option Solved)). elim o [ None ↦ None | Some x ↦ x ]) there) there c s
 
-  module _ (is : List ℕ) (up : IsAscending is) (exact : (i : ℕ) → Contains is i ↔ (IsCanonical r (at t.tier i) × StandsAt r place.phase place.level (at t.tier i))) where
+  module _ (is : List ℕ) (up : IsAscending is) (exact : (i : ℕ)
+      → Contains is i ↔ (IsCanonical r (at t.tier i) × StandsAt r place.phase place.level (at t.tier i))) where
     pub are_recorded : AreRecorded r t is
     are_recorded i l = (noted_there i ((exact i).0 l).0 ((exact i).0 l).1).0
 
@@ -93,24 +98,31 @@ module _ (r : Rules) (g : IsGame r) (t : TableData) (h : IsTable r t) (place : P
       each = λ c. (
         (λ m. subst (λ (ps : List Position). Contains ps c) (sym positions_at)
             (let here : at t.tier c.index ≡ c = ap (λ (u : ℕ). at u c.index) (sym m.tier) in
-            let there = (exact c.index).1 (subst (λ (p : Position). IsCanonical r p × StandsAt r place.phase place.level p) (sym here) (m.canonical, m.stands)) in
+            let there = (exact c.index).1 (subst (λ (p : Position). IsCanonical r p × StandsAt r place.phase place.level p) (sym here)
+            (m.canonical, m.stands)) in
             subst (λ (p : Position). Contains (map (at t.tier) is) p) here (map_from (at t.tier) is c.index there))),
         (λ l. (let (i, k, e) = map_in (at t.tier) is c (subst (λ (ps : List Position). Contains ps c) positions_at l) in
             let there = (exact i).0 k in
-            record { tier = sym (ap (λ (p : Position). p.tier) e); canonical = subst (IsCanonical r) e there.0; stands = subst (StandsAt r place.phase place.level) e there.1 })),
+            record {
+              tier = sym (ap (λ (p : Position). p.tier) e);
+              canonical = subst (IsCanonical r) e there.0;
+              stands = subst (StandsAt r place.phase place.level) e there.1;
+            })),
       );
       noted = λ n l. (let (i, k, e) = map_in (note_of t) is n l in subst (IsNoteAt r place) e (noted_there i ((exact i).0 k).0 ((exact i).0 k).1).1);
       ordered = subst (AreInOrder is_before) (sym positions_at) (at_in_order t.tier is up);
     }
 
 -- in a held table of a tier
-module _ (r : Rules) (g : IsGame r) (entries : List TableData) (h : AreTables r entries) (tier : ℕ) (t : TableData) (e : table_of entries tier ≡ Some t) (place : Place) (is : List ℕ) (up : IsAscending is)
+module _ (r : Rules) (g : IsGame r) (entries : List TableData) (h : AreTables r entries) (tier : ℕ) (t : TableData) (e : table_of entries tier ≡ Some t)
+    (place : Place) (is : List ℕ) (up : IsAscending is)
     (exact : (i : ℕ) → Contains is i ↔ (IsHeld entries tier × IsCanonical r (at tier i) × StandsAt r place.phase place.level (at tier i))) where
   exact_there : (i : ℕ) → Contains is i ↔ (IsCanonical r (at t.tier i) × StandsAt r place.phase place.level (at t.tier i))
   exact_there i =
       let same : t.tier ≡ tier = (h tier t e).0 in (
         (λ l. (let (held, c, s) = (exact i).0 l in subst (λ (u : ℕ). IsCanonical r (at u i) × StandsAt r place.phase place.level (at u i)) (sym same) (c, s))),
-        (λ k. (let (c, s) = subst (λ (u : ℕ). IsCanonical r (at u i) × StandsAt r place.phase place.level (at u i)) same k in (exact i).1 (subst IsSome (sym e) refl, c, s))),
+        (λ k. (let (c, s) = subst (λ (u : ℕ). IsCanonical r (at u i) × StandsAt r place.phase place.level (at u i)) same k in
+            (exact i).1 (subst IsSome (sym e) refl, c, s))),
       )
 
   pub child_recorded : AreRecorded r t is

@@ -1,5 +1,6 @@
 -- Sums over lists without repeats, and over the pieces of a list.
-use Rattle.std.proofs.Common.{◌≡◌, ℕ, zero, suc, ◌+◌, ◌*◌, ◌<◌, ◌≤◌, ◌↔◌, ◌⊎◌, inl, inr, List, [], ◌∷◌, ◌++◌, length, get_or, take, drop, refl, sym, ap, subst, ◌∙◌, arith, sum_by, drop-drop}
+use Rattle.std.proofs.Common.{◌≡◌, ℕ, zero, suc, ◌+◌, ◌*◌, ◌<◌, ◌≤◌, ◌↔◌, ◌⊎◌, inl, inr, List, [], ◌∷◌, ◌++◌, length, get_or, take, drop, refl, sym, ap, subst}
+use Rattle.std.proofs.Common.{◌∙◌, arith, sum_by, drop-drop}
 use Rattle.std.specs.List.{Contains}
 use Rattle.std.proofs.lemmas.List.{take-append-drop, take_more, drop_all}
 use Rattle.std.proofs.lemmas.List.Sums.{sum_by-cons, sum_by-append}
@@ -16,11 +17,13 @@ data IsWithOne {X : Type 0} (x : X) : List X → List X → Type 0 where
 
 taken_out : {X : Type 0} (x : X) (ys : List X) → Contains ys x → (zs : List X) × IsWithOne x ys zs
 taken_out x [] h = absurd (contains_none x h)
-taken_out {X} x (y ∷ ys) h = elim (contains_cases y x ys h) [ inl e ↦ (ys, subst (λ z. IsWithOne x (z ∷ ys) ys) (sym e) here) | inr i ↦ (let (zs, w) = taken_out x ys i in (y ∷ zs, past w)) ]
+taken_out {X} x (y ∷ ys) h = elim (contains_cases y x ys h)
+    [ inl e ↦ (ys, subst (λ z. IsWithOne x (z ∷ ys) ys) (sym e) here) | inr i ↦ (let (zs, w) = taken_out x ys i in (y ∷ zs, past w)) ]
 
 sum_with : {X : Type 0} (f : X → ℕ) (x : X) (ys zs : List X) → IsWithOne x ys zs → sum_by f ys ≡ f x + sum_by f zs
 sum_with f x ys zs (here {zs = vs}) = sum_by-cons f x vs
-sum_with f x ys zs (past {y = y} {ys = us} {zs = vs} w) = let a = sum_by-cons f y us in let b = sum_by-cons f y vs in let e = sum_with f x us vs w in omega arith
+sum_with f x ys zs (past {y = y} {ys = us} {zs = vs} w) = let a = sum_by-cons f y us in let b = sum_by-cons f y vs in
+    let e = sum_with f x us vs w in omega arith
 
 cases_with : {X : Type 0} (x : X) (ys zs : List X) → IsWithOne x ys zs → (d : X) → Contains ys d → (x ≡ d) ⊎ Contains zs d
 cases_with x ys zs (here {zs = vs}) d h = contains_cases x d vs h
@@ -37,11 +40,13 @@ sum_within f (x ∷ xs) ys n h =
     let (zs, w) = taken_out x ys (h x (contains_first x xs)) in
     let all = sum_with f x ys zs w in
     let first = sum_by-cons f x xs in
-    let rest = sum_within f xs zs n.1 (λ z i. elim (cases_with x ys zs w z (h z (contains_later x z xs i))) [ inl e ↦ absurd (n.0 (subst (λ u. Contains xs u) (sym e) i)) | inr j ↦ j ]) in
+    let rest = sum_within f xs zs n.1 (λ z i. elim (cases_with x ys zs w z (h z (contains_later x z xs i)))
+    [ inl e ↦ absurd (n.0 (subst (λ u. Contains xs u) (sym e) i)) | inr j ↦ j ]) in
     omega arith
 
 -- and over the same ones it is the same
-pub sum_same : {X : Type 0} (f : X → ℕ) (xs ys : List X) → HasNoRepeats xs → HasNoRepeats ys → ((d : X) → Contains xs d ↔ Contains ys d) → sum_by f xs ≡ sum_by f ys
+pub sum_same : {X : Type 0} (f : X → ℕ) (xs ys : List X) → HasNoRepeats xs → HasNoRepeats ys → ((d : X) → Contains xs d ↔ Contains ys d)
+    → sum_by f xs ≡ sum_by f ys
 sum_same f xs ys n m h =
     let a = sum_within f xs ys n (λ d i. (h d).0 i) in
     let b = sum_within f ys xs m (λ d i. (h d).1 i) in
@@ -62,7 +67,8 @@ numbers_once k (suc n) = ((λ h. (let (a, b) = numbers_in (suc k) n k h in omega
 -- what is added up over the pieces of a list is added up over the list
 module _ (g : List NoteData → ℕ) (none : g [] ≡ 0) (joined : (xs ys : List NoteData) → g (xs ++ ys) ≡ g xs + g ys) (n : ℕ) (notes : List NoteData) where
   from_piece : (k m : ℕ) → length notes ≤ (k + m) * n → sum_by (λ p. g (piece_of p n notes)) (numbers_from k m) ≡ g (drop (k * n) notes)
-  from_piece k zero l = let past : length notes ≤ k * n = subst (λ (j : ℕ). length notes ≤ j * n) (let e : k + 0 ≡ k = omega arith in e) l in sym (ap g (drop_all (k * n) notes past) ∙ none)
+  from_piece k zero l = let past : length notes ≤ k * n = subst (λ (j : ℕ). length notes ≤ j * n) (let e : k + 0 ≡ k = omega arith in e) l in
+      sym (ap g (drop_all (k * n) notes past) ∙ none)
   from_piece k (suc m) l =
       let rest = drop (k * n) notes in
       let first = sum_by-cons (λ (p : ℕ). g (piece_of p n notes)) k (numbers_from (suc k) m) in
@@ -75,10 +81,12 @@ module _ (g : List NoteData → ℕ) (none : g [] ≡ 0) (joined : (xs ys : List
       omega arith
 
   pub sum_pieces : (m : ℕ) → length notes ≤ m * n → sum_by (λ p. g (piece_of p n notes)) (numbers_from 0 m) ≡ g notes
-  sum_pieces m l = from_piece 0 m (let e : 0 + m ≡ m = omega arith in subst (λ (j : ℕ). length notes ≤ j * n) (sym e) l) ∙ ap (λ (j : ℕ). g (drop j notes)) (let z : 0 * n ≡ 0 = grind arith in z)
+  sum_pieces m l = from_piece 0 m (let e : 0 + m ≡ m = omega arith in subst (λ (j : ℕ). length notes ≤ j * n) (sym e) l)
+      ∙ ap (λ (j : ℕ). g (drop j notes)) (let z : 0 * n ≡ 0 = grind arith in z)
 
 -- one more element of a sum
-pub sum_more : {X : Type 0} (f : X → ℕ) (xs : List X) (i : ℕ) (x d : X) → i < length xs → x ≡ get_or xs i d → sum_by f (take (i + 1) xs) ≡ sum_by f (take i xs) + f x
+pub sum_more : {X : Type 0} (f : X → ℕ) (xs : List X) (i : ℕ) (x d : X) → i < length xs → x ≡ get_or xs i d
+    → sum_by f (take (i + 1) xs) ≡ sum_by f (take i xs) + f x
 sum_more {X} f xs i x d l e =
     let front : take (i + 1) xs ≡ take i xs ++ x ∷ [] = take_more xs i d l ∙ ap (λ (y : X). take i xs ++ y ∷ []) (sym e) in
     let last : sum_by f (x ∷ []) ≡ f x + sum_by f [] = sum_by-cons f x [] in

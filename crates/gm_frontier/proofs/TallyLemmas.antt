@@ -1,5 +1,6 @@
 -- Counting pairs by tile.
-use Rattle.std.proofs.Common.{◌≡◌, ◌≢◌, ℕ, zero, suc, ◌+◌, ◌/◌, ◌<◌, ◌≤◌, ◌^◌, inl, inr, ◌==◌, Bool, true, if◌then◌else◌, List, [], ◌∷◌, length, get_or, refl, sym, ap, ◌∙◌, arith, eqb-true, eq-eqb, get_or-set_same, get_or-set_other, set}
+use Rattle.std.proofs.Common.{◌≡◌, ◌≢◌, ℕ, ◌+◌, ◌/◌, ◌<◌, ◌≤◌, ◌^◌, inl, inr, ◌==◌, Bool, true, if◌then◌else◌, List, [], ◌∷◌, length, get_or, refl, sym, ap}
+use Rattle.std.proofs.Common.{◌∙◌, arith, eqb-true, eq-eqb, get_or-set_same, get_or-set_other, set}
 use Rattle.std.proofs.lemmas.Bool.{cases_Bool}
 use Rattle.gm_frontier.specs.Notes.{NoteData}
 use Rattle.gm_frontier.specs.Tallies.{tile_count}
@@ -25,8 +26,10 @@ counts_few width k (x ∷ xs) = let rest = counts_few width k xs in elim (cases_
 ]
 
 -- one turn of the count: what is counted and what is still to come are all pairs
-pub counted_more : (width : ℕ) (counts new : List ℕ) (x : NoteData × ℕ) (rest all : List (NoteData × ℕ)) (n : ℕ) → length counts ≡ n → x.1 / width < n → new ≡ set counts (x.1 / width) (get_or counts (x.1 / width) 0 + 1)
-    → ((k : ℕ) → k < n → get_or counts k 0 + tile_count width k (x ∷ rest) ≡ tile_count width k all) → (k : ℕ) → k < n → get_or new k 0 + tile_count width k rest ≡ tile_count width k all
+pub counted_more : (width : ℕ) (counts new : List ℕ) (x : NoteData × ℕ) (rest all : List (NoteData × ℕ)) (n : ℕ) → length counts ≡ n → x.1 / width < n
+    → new ≡ set counts (x.1 / width) (get_or counts (x.1 / width) 0 + 1)
+    → ((k : ℕ) → k < n → get_or counts k 0 + tile_count width k (x ∷ rest) ≡ tile_count width k all) → (k : ℕ) → k < n
+    → get_or new k 0 + tile_count width k rest ≡ tile_count width k all
 counted_more width counts new x rest all n same inside e before k l =
     let here = before k l in
     let now : get_or new k 0 ≡ get_or (set counts (x.1 / width) (get_or counts (x.1 / width) 0 + 1)) k 0 = ap (λ (xs : List ℕ). get_or xs k 0) e in
@@ -45,19 +48,11 @@ counted_more width counts new x rest all n same inside e before k l =
     ]
 
 -- and it fits
-pub room_left : (width : ℕ) (counts : List ℕ) (x : NoteData × ℕ) (rest all : List (NoteData × ℕ)) (n : ℕ) → x.1 / width < n → ((k : ℕ) → k < n → get_or counts k 0 + tile_count width k (x ∷ rest) ≡ tile_count width k all)
+pub room_left : (width : ℕ) (counts : List ℕ) (x : NoteData × ℕ) (rest all : List (NoteData × ℕ)) (n : ℕ) → x.1 / width < n
+    → ((k : ℕ) → k < n → get_or counts k 0 + tile_count width k (x ∷ rest) ≡ tile_count width k all)
     → length all < 2 ^ 64 → get_or counts (x.1 / width) 0 + 1 < 2 ^ 64
 room_left width counts x rest all n inside before few =
     let here = before (x.1 / width) inside in
     let h = count_first width (x.1 / width) x rest refl in
     let most = counts_few width (x.1 / width) all in
     omega arith
-
--- the value at an index, whatever is read past the end
-pub value_there : (xs : List ℕ) (i v : ℕ) → i < length xs → v ≡ get_or xs i v → v ≡ get_or xs i 0
-value_there xs i v l e = e ∙ same xs i l
-  where
-    same : (xs : List ℕ) (i : ℕ) → i < length xs → get_or xs i v ≡ get_or xs i 0
-    same [] i l = absurd (omega arith)
-    same (x ∷ xs) zero l = refl
-    same (x ∷ xs) (suc i) l = same xs i (omega arith)

@@ -1,5 +1,6 @@
 -- The pairs into a tile, counted among all pairs of some notes, and read from a list of pieces.
-use Rattle.std.proofs.Common.{◌≡◌, ◌≢◌, ℕ, suc, ◌+◌, ◌*◌, ◌/◌, ◌<◌, ◌≤◌, ◌^◌, ◌↔◌, inl, inr, Bool, true, false, if◌then◌else◌, min, List, [], ◌∷◌, ◌++◌, map, filter, length, get_or, refl, sym, ap, subst, ◌∙◌, arith}
+use Rattle.std.proofs.Common.{◌≡◌, ◌≢◌, ℕ, suc, ◌+◌, ◌*◌, ◌/◌, ◌<◌, ◌≤◌, ◌^◌, ◌↔◌, inl, inr, Bool, true, false, if◌then◌else◌, min, List, [], ◌∷◌, ◌++◌, map}
+use Rattle.std.proofs.Common.{filter, length, get_or, refl, sym, ap, subst, ◌∙◌, arith}
 use Rattle.std.specs.List.{Contains}
 use Rattle.std.specs.Int.{div_ceil}
 use Rattle.std.proofs.Math.Nat.{lt-div-mul-add}
@@ -62,7 +63,8 @@ with_yes n lo hi i is e = ap (λ (b : Bool). map (λ (j : ℕ). (n, j)) (if b th
 with_no : (n : NoteData) (lo hi i : ℕ) (is : List ℕ) → is_within lo hi i ≡ false → pairs_with n lo hi (i ∷ is) ≡ pairs_with n lo hi is
 with_no n lo hi i is e = ap (λ (b : Bool). map (λ (j : ℕ). (n, j)) (if b then i ∷ filter (is_within lo hi) is else filter (is_within lo hi) is)) e
 
-row_count : (width size k : ℕ) → 0 < width → (n : NoteData) (is : List ℕ) → tile_count width k (pairs_with n 0 size is) ≡ length (pairs_with n (tile_start width k) (tile_end size width k) is)
+row_count : (width size k : ℕ) → 0 < width → (n : NoteData) (is : List ℕ)
+    → tile_count width k (pairs_with n 0 size is) ≡ length (pairs_with n (tile_start width k) (tile_end size width k) is)
 row_count width size k some n [] = refl
 row_count width size k some n (i ∷ is) =
     let rest = row_count width size k some n is in
@@ -84,7 +86,8 @@ row_count width size k some n (i ∷ is) =
     ]
 
 -- of the pairs below the size as many have their parent in tile k as there are pairs into it
-pub tile_is : (r : Rules) (tier width size k : ℕ) → 0 < width → (notes : List NoteData) → tile_count width k (pairs_of r tier 0 size notes) ≡ number_into r tier (tile_start width k) (tile_end size width k) notes
+pub tile_is : (r : Rules) (tier width size k : ℕ) → 0 < width → (notes : List NoteData)
+    → tile_count width k (pairs_of r tier 0 size notes) ≡ number_into r tier (tile_start width k) (tile_end size width k) notes
 tile_is r tier width size k some [] = refl
 tile_is r tier width size k some (n ∷ ns) =
     let lo = tile_start width k in
@@ -104,21 +107,26 @@ counts_right r tier width notes counts some whole each = record {
 }
 
 -- a piece of a level, as it is tallied
-module _ (r : Rules) (g : IsGame r) (l : LevelData) (level : IsLevel r l.place l.notes) (small : r.tier_size l.place.tier ≤ TIER_SIZE) (piece n width size tiles : ℕ) (some : 0 < width) (e : size ≡ r.tier_size l.place.tier) (t : tiles ≡ div_ceil size width)
+module _ (r : Rules) (g : IsGame r) (l : LevelData) (level : IsLevel r l.place l.notes) (small : r.tier_size l.place.tier ≤ TIER_SIZE)
+    (piece n width size tiles : ℕ) (some : 0 < width) (e : size ≡ r.tier_size l.place.tier) (t : tiles ≡ div_ceil size width)
     (pairs : List (NoteData × ℕ)) (is : pairs ≡ pairs_of r l.place.tier 0 size (piece_of piece n l.notes)) where
   pub parents_in_tiles : (pair : NoteData × ℕ) → Contains pairs pair → pair.1 / width < tiles
   parents_in_tiles pair h =
-      let (note, parent, low, high) = in_pairs r l.place.tier 0 size (piece_of piece n l.notes) pair (subst (λ (ps : List (NoteData × ℕ)). Contains ps pair) is h) in
+      let (note, parent, low, high) = in_pairs r l.place.tier 0 size (piece_of piece n l.notes) pair
+      (subst (λ (ps : List (NoteData × ℕ)). Contains ps pair) is h) in
       subst (λ (m : ℕ). pair.1 / width < m) (sym t) (tile_below size width pair.1 some high)
 
   pub pairs_fit : length pairs < 2 ^ 64
   pairs_fit =
-      let few = notes_few r g l.place.tier 0 size (piece_of piece n l.notes) (piece_positions_once r g l.place l.notes level piece n) (piece_canonical r g l.place l.notes level piece n) in
+      let few = notes_few r g l.place.tier 0 size (piece_of piece n l.notes) (piece_positions_once r g l.place l.notes level piece n)
+      (piece_canonical r g l.place l.notes level piece n) in
       let same = ap (length {A = NoteData × ℕ}) is in
       omega arith
 
-  pub tally_right : (counts : List ℕ) → length counts ≡ tiles → ((k : ℕ) → k < tiles → get_or counts k 0 ≡ tile_count width k pairs) → AreCounts r l.place.tier width (piece_of piece n l.notes) counts
+  pub tally_right : (counts : List ℕ) → length counts ≡ tiles → ((k : ℕ) → k < tiles → get_or counts k 0 ≡ tile_count width k pairs)
+      → AreCounts r l.place.tier width (piece_of piece n l.notes) counts
   tally_right counts whole each =
-      let all : pairs ≡ pairs_of r l.place.tier 0 (r.tier_size l.place.tier) (piece_of piece n l.notes) = is ∙ ap (λ (m : ℕ). pairs_of r l.place.tier 0 m (piece_of piece n l.notes)) e in
+      let all : pairs ≡ pairs_of r l.place.tier 0 (r.tier_size l.place.tier) (piece_of piece n l.notes) =
+      is ∙ ap (λ (m : ℕ). pairs_of r l.place.tier 0 m (piece_of piece n l.notes)) e in
       counts_right r l.place.tier width (piece_of piece n l.notes) counts some (whole ∙ t ∙ ap (λ (m : ℕ). div_ceil m width) e)
       (λ k b. each k (omega arith) ∙ ap (tile_count width k) all)

@@ -46,7 +46,9 @@ next_level (Some last) phase = level_after last.phase last.level phase
 abbrev pub Follows : Rules → ℕ → Option Place → Phase → ℕ → Type 0
 Follows r tier None WinLose n = n ≡ 0
 Follows r tier None Ties n = (n ≡ 0) × IsLastLevel r tier WinLose 0
-Follows r tier (Some last) phase n = ((last.phase ≡ phase) × (n ≡ last.level + 1)) ⊎ ((phase ≡ Ties) × (n ≡ 0) × (last.phase ≡ WinLose) × IsLastLevel r tier WinLose (last.level + 1))
+Follows r tier (Some last) phase n =
+    ((last.phase ≡ phase) × (n ≡ last.level + 1))
+    ⊎ ((phase ≡ Ties) × (n ≡ 0) × (last.phase ≡ WinLose) × IsLastLevel r tier WinLose (last.level + 1))
 
 -- the number of an Expected is exact
 pub record IsExpected (r : Rules) (e : ExpectedData) : Type 0 where

@@ -32,7 +32,9 @@ numbers_from k (suc n) = k ∷ numbers_from (suc k) n
 -- the pairs of all pieces of n notes into all tiles of this width, tile after tile and piece after piece
 abbrev pub tiled_pairs : Rules → ℕ → List NoteData → ℕ → ℕ → List (NoteData × ℕ)
 tiled_pairs r tier notes n width =
-    flat_map (λ piece. flat_map (λ tile. pairs_of r tier (tile_start width tile) (tile_end (r.tier_size tier) width tile) (piece_of piece n notes)) (numbers_from 0 (div_ceil (r.tier_size tier) width)))
+    flat_map (λ piece.
+    flat_map (λ tile. pairs_of r tier (tile_start width tile) (tile_end (r.tier_size tier) width tile) (piece_of piece n notes))
+    (numbers_from 0 (div_ceil (r.tier_size tier) width)))
     (numbers_from 0 (div_ceil (length notes) n))
 
 -- how many pairs a piece has into a range

@@ -28,7 +28,8 @@ impl<G: Game> Model for Expected<G> {
 
     ghost view = { λ e. record { tier = e.tier; lo = e.lo; hi = e.hi; last = e.last; phase = e.phase; level = next_level e.last e.phase; number = e.number } };
 
-    ghost invariant = { λ e. IsExpected G.rules (record { tier = e.tier; lo = e.lo; hi = e.hi; last = e.last; phase = e.phase; level = next_level e.last e.phase; number = e.number }) };
+    ghost invariant = { λ e. IsExpected G.rules
+        (record { tier = e.tier; lo = e.lo; hi = e.hi; last = e.last; phase = e.phase; level = next_level e.last e.phase; number = e.number }) };
 }
 
 impl<G: Game> Expected<G> {

@@ -15,7 +15,8 @@ use gm_table::tables::Tables;
 use std::alloc::{AllocError, Global};
 use std::marker::Model;
 
-/// All notes of one phase and remoteness in a tier and its child tiers: the tier's own first, then by child tier, ascending, and within a tier by index. It borrows them from runs and tables.
+/// All notes of one phase and remoteness in a tier and its child tiers: the tier's own first, then by child tier, ascending, and within a tier by index. It
+/// borrows them from runs and tables.
 #[derive(Drop)]
 pub struct Level<'a, G: Game> {
     place: Place,
@@ -116,17 +117,20 @@ impl<'a, G: Game> Level<'a, G> {
         note_in(self.parts.as_slice(), k)
     }
 
-    /// How many pieces of `n` notes there are; the last one may have fewer. Over all pieces and all tiles of the tier, of any width, each pair whose child is at the place comes exactly once.
+    /// How many pieces of `n` notes there are; the last one may have fewer. Over all pieces and all tiles of the tier, of any width, each pair whose child is
+    /// at the place comes exactly once.
     pub fn pieces(&self, n: usize) -> usize
         requires { 0 < n }
         ensures count { result ≡ div_ceil (length self.now.notes) n }
-        ensures once { (width : ℕ) → 0 < width → ListsExactly (IsPairAt G.rules self.now.place) (tiled_pairs G.rules self.now.place.tier self.now.notes n width) }
+        ensures once { (width : ℕ) → 0 < width
+            → ListsExactly (IsPairAt G.rules self.now.place) (tiled_pairs G.rules self.now.place.tier self.now.notes n width) }
     {
         let _place = self.place();
         self.len().div_ceil(n)
     }
 
-    /// For each note of a piece, in order, each of its parents in the tier from `lo` up to `hi`, ascending. A piece past the last has none. Where the first piece has all notes, its pairs don't depend on `n`.
+    /// For each note of a piece, in order, each of its parents in the tier from `lo` up to `hi`, ascending. A piece past the last has none. Where the first
+    /// piece has all notes, its pairs don't depend on `n`.
     pub fn pairs<'b>(&'b self, piece: usize, n: usize, lo: u64, hi: u64) -> Pairs<'b, G>
         requires { 0 < n }
         ensures value { result ≡ pairs_of G.rules self.now.place.tier lo hi (piece_of piece n self.now.notes) }
@@ -161,7 +165,8 @@ impl<'a, G: Game> Level<'a, G> {
         requires piece_size { 0 < n }
         requires width { 0 < width }
         ensures all { IfOk result (λ tallies. AreAllTallies self.now n width tallies.items) }
-        ensures tiles { IfOk result (λ tallies. (lo hi : ℕ) → IsTile (G.rules.tier_size self.now.place.tier) width lo hi → AreTallies G.rules self.now lo hi tallies.items) }
+        ensures tiles { IfOk result (λ tallies. (lo hi : ℕ) → IsTile (G.rules.tier_size self.now.place.tier) width lo hi
+            → AreTallies G.rules self.now lo hi tallies.items) }
     {
         let mut tallies = Vec::new(alloc);
         for piece in 0..self.pieces(n) {

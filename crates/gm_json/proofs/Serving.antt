@@ -1,5 +1,6 @@
 -- A service in its midst.
-use Rattle.std.proofs.Common.{◌≡◌, ℕ, ◌+◌, ◌≤◌, ◌<◌, inl, inr, true, false, List, [], ◌∷◌, ◌++◌, length, take, codes, Option, refl, sym, ap, subst, ◌∙◌, append_assoc, append-nil, arith}
+use Rattle.std.proofs.Common.{◌≡◌, ℕ, ◌+◌, ◌≤◌, ◌<◌, inl, inr, true, false, List, [], ◌∷◌, ◌++◌, length, take, codes, Option, refl, sym, ap, subst, ◌∙◌}
+use Rattle.std.proofs.Common.{append_assoc, append-nil, arith}
 use Rattle.std.specs.Prelude.{◌==◌}
 use Rattle.std.proofs.lemmas.List.{length-take, length-append}
 use Rattle.std.specs.Io.KnownBytes.{Appends, Consumes, Keeps, IsAtEnd}
@@ -9,17 +10,25 @@ use Rattle.gm_json.specs.declared.ask_error.AskError.TheVariants.{OutOfMemory, N
 use Rattle.gm_play.specs.Sessions.{AppendsPart}
 use Rattle.gm_json.proofs.Splitting.{lines_more, lines_next, lines_end, lines_none, none_kept, kept_push, kept_full, one_begun}
 use Rattle.gm_json.specs.Midst.{GoesOn, Midst}
-use Rattle.gm_json.specs.Asking.{kept_bytes, block_bytes, lines_from, lines_of, AreAnswers, IsServed, IsUnread, IsUnanswered, IsUnwritten, IsBroken, IsOfOutput, IsOfLine, IsLineDone, IsCut, IsLineBroken}
+use Rattle.gm_json.specs.Asking.{kept_bytes, block_bytes, lines_from, lines_of, AreAnswers, IsServed, IsUnread, IsUnanswered, IsUnwritten, IsBroken, IsOfOutput}
+use Rattle.gm_json.specs.Asking.{IsOfLine, IsLineDone, IsCut, IsLineBroken}
 
 module _ (Says : List ℕ → ℕ → List ℕ → Type 0) where
   -- the answers to some lines, and to those after them
-  answers_join : (n : ℕ) (xs ys : List (List ℕ)) (t u : List ℕ) → AreAnswers Says n xs t → AreAnswers Says (n + length xs) ys u → AreAnswers Says n (xs ++ ys) (t ++ u)
+  answers_join : (n : ℕ) (xs ys : List (List ℕ)) (t u : List ℕ) → AreAnswers Says n xs t → AreAnswers Says (n + length xs) ys u → AreAnswers Says n
+      (xs ++ ys) (t ++ u)
   answers_join n [] ys t u e h =
       let same : n + 0 ≡ n = omega arith in
       subst (λ (v : List ℕ). AreAnswers Says n ys v) (ap (λ (l : List ℕ). l ++ u) (sym e)) (subst (λ (k : ℕ). AreAnswers Says k ys u) same h)
   answers_join n (x ∷ xs) ys t u (out, rest, is, e, more) h =
-      let same : n + length (x ∷ xs) ≡ (n + 1) + length xs = omega arith in
-      (out, rest ++ u, is, ap (λ (l : List ℕ). l ++ u) e ∙ append_assoc (out ++ codes "\n") rest u, answers_join (n + 1) xs ys rest u more (subst (λ (k : ℕ). AreAnswers Says k ys u) same h))
+      let same : n + length (x ∷ xs) ≡ (n + 1) + length xs = omega arith in (
+        out,
+        rest ++ u,
+        is,
+        ap (λ (l : List ℕ). l ++ u) e ∙ append_assoc (out ++ codes "\n") rest u,
+        answers_join (n + 1) xs ys rest u more
+            (subst (λ (k : ℕ). AreAnswers Says k ys u) same h),
+      )
 
   one_answer : (n : ℕ) (line out : List ℕ) → Says (take kept_bytes line) n out → AreAnswers Says n (line ∷ []) (out ++ codes "\n")
   one_answer n line out is = (out, [], is, sym (append-nil (out ++ codes "\n")), refl)
@@ -38,7 +47,8 @@ module _ (Says : List ℕ → ℕ → List ℕ → Type 0) where
     goes = λ more. refl;
   }
 
-  pub opens : (number : ℕ) (kept block pending : List ℕ) (r0 r1 r2 w0 w1 : Option (List ℕ)) → GoesOn Says number kept r0 r1 w0 w1 → pending ≡ [] → length block ≤ block_bytes → Consumes r1 r2 block → Midst Says number kept pending block r0 r2 w0 w1
+  pub opens : (number : ℕ) (kept block pending : List ℕ) (r0 r1 r2 w0 w1 : Option (List ℕ)) → GoesOn Says number kept r0 r1 w0 w1 → pending ≡ [] → length
+      block ≤ block_bytes → Consumes r1 r2 block → Midst Says number kept pending block r0 r2 w0 w1
   opens number kept block pending r0 r1 r2 w0 w1 h none short reads = record {
     bytes = h.bytes;
     lines = h.lines;
@@ -50,7 +60,8 @@ module _ (Says : List ℕ → ℕ → List ℕ → Type 0) where
     later = [];
     line = h.line;
     done = [];
-    goes_on = λ more. ap (λ (l : List ℕ). lines_of (l ++ more)) (append-nil h.bytes) ∙ h.goes more ∙ ap (λ (ls : List (List ℕ)). ls ++ lines_from h.line more) (sym (append-nil h.lines));
+    goes_on = λ more. ap (λ (l : List ℕ). lines_of (l ++ more)) (append-nil h.bytes) ∙ h.goes more ∙ ap
+        (λ (ls : List (List ℕ)). ls ++ lines_from h.line more) (sym (append-nil h.lines));
     later_answers = none;
     numbered = h.numbered ∙ ap (λ (ls : List (List ℕ)). 1 + length ls) (sym (append-nil h.lines));
     keeps = h.keeps;
@@ -97,7 +108,8 @@ module _ (Says : List ℕ → ℕ → List ℕ → Type 0) where
       one = one_begun h.line;
       done = h.done ++ done;
       rest = rest;
-      later_answers = subst (AreAnswers Says (1 + length h.lines) h.later) (ap (λ (l : List ℕ). h.done ++ l) e ∙ sym (append_assoc h.done done rest)) h.later_answers;
+      later_answers = subst (AreAnswers Says (1 + length h.lines) h.later) (ap (λ (l : List ℕ). h.done ++ l) e ∙ sym (append_assoc h.done done rest))
+          h.later_answers;
       writes = subst (Appends w0 w2) (append_assoc h.text h.done done) (Appends-trans w0 w1 w2 (h.text ++ h.done) done h.writes written);
     }
 
@@ -111,7 +123,8 @@ module _ (Says : List ℕ → ℕ → List ℕ → Type 0) where
 
     reached : (more : List ℕ) → lines_of ((h.bytes ++ (h.block ++ b ∷ [])) ++ more) ≡ (h.lines ++ h.later) ++ lines_from h.line (b ∷ more)
     reached more =
-        ap lines_of (ap (λ (l : List ℕ). l ++ more) (sym (append_assoc h.bytes h.block (b ∷ []))) ∙ append_assoc (h.bytes ++ h.block) (b ∷ []) more) ∙ h.goes_on (b ∷ more)
+        ap lines_of (ap (λ (l : List ℕ). l ++ more) (sym (append_assoc h.bytes h.block (b ∷ []))) ∙ append_assoc (h.bytes ++ h.block) (b ∷ []) more) ∙
+        h.goes_on (b ∷ more)
 
     same_line : (new : List ℕ) → (b == 10) ≡ false → new ≡ take kept_bytes (h.line ++ b ∷ []) → Midst Says number new pending ahead r0 r1 w0 w1
     same_line new e keeps = record {
@@ -141,24 +154,30 @@ module _ (Says : List ℕ → ℕ → List ℕ → Type 0) where
     byte_past new e full is = same_line new e (is ∙ kept_full kept h.line b h.keeps full)
 
     -- a line ends here
-    one_line : (more : List ℕ) → (b == 10) ≡ true → lines_of ((h.bytes ++ (h.block ++ b ∷ [])) ++ more) ≡ (h.lines ++ (h.later ++ h.line ∷ [])) ++ lines_from [] more
+    one_line : (more : List ℕ) → (b == 10) ≡ true → lines_of ((h.bytes ++ (h.block ++ b ∷ [])) ++ more) ≡ (h.lines ++ (h.later ++ h.line ∷ [])) ++
+        lines_from [] more
     one_line more e =
-        reached more ∙ ap (λ (ls : List (List ℕ)). (h.lines ++ h.later) ++ ls) (lines_next h.line b more e) ∙ sym (append_assoc (h.lines ++ h.later) (h.line ∷ []) (lines_from [] more))
+        reached more ∙ ap (λ (ls : List (List ℕ)). (h.lines ++ h.later) ++ ls) (lines_next h.line b more e) ∙ sym
+        (append_assoc (h.lines ++ h.later) (h.line ∷ []) (lines_from [] more))
         ∙ ap (λ (ls : List (List ℕ)). ls ++ lines_from [] more) (append_assoc h.lines h.later (h.line ∷ []))
 
     ended : (b == 10) ≡ true → lines_of (h.bytes ++ (h.block ++ b ∷ [])) ≡ h.lines ++ (h.later ++ h.line ∷ [])
     ended e =
-        ap lines_of (sym (append-nil (h.bytes ++ (h.block ++ b ∷ [])))) ∙ one_line [] e ∙ ap (λ (ls : List (List ℕ)). (h.lines ++ (h.later ++ h.line ∷ [])) ++ ls) lines_none
+        ap lines_of (sym (append-nil (h.bytes ++ (h.block ++ b ∷ [])))) ∙ one_line [] e ∙ ap
+        (λ (ls : List (List ℕ)). (h.lines ++ (h.later ++ h.line ∷ [])) ++ ls) lines_none
         ∙ append-nil (h.lines ++ (h.later ++ h.line ∷ []))
 
     -- one answer more
-    answered : (out : List ℕ) → Says kept number out → AreAnswers Says (1 + length h.lines) (h.later ++ h.line ∷ []) ((h.done ++ pending) ++ (out ++ codes "\n"))
+    answered : (out : List ℕ) → Says kept number out → AreAnswers Says (1 + length h.lines) (h.later ++ h.line ∷ [])
+        ((h.done ++ pending) ++ (out ++ codes "\n"))
     answered out is =
         let n : number ≡ (1 + length h.lines) + length h.later = omega (arith, h.numbered, length-append h.lines h.later) in
         answers_join (1 + length h.lines) h.later (h.line ∷ []) (h.done ++ pending) (out ++ codes "\n") h.later_answers
-        (one_answer ((1 + length h.lines) + length h.later) h.line out (subst (λ (k : ℕ). Says (take kept_bytes h.line) k out) n (subst (λ (l : List ℕ). Says l number out) h.keeps is)))
+        (one_answer ((1 + length h.lines) + length h.later) h.line out (subst (λ (k : ℕ). Says (take kept_bytes h.line) k out) n
+        (subst (λ (l : List ℕ). Says l number out) h.keeps is)))
 
-    pub line_done : (w2 : Option (List ℕ)) (new left : List ℕ) (next : ℕ) → (b == 10) ≡ true → new ≡ [] → next ≡ number + 1 → IsLineDone Says kept number pending left w1 w2 → Midst Says next new left ahead r0 r1 w0 w2
+    pub line_done : (w2 : Option (List ℕ)) (new left : List ℕ) (next : ℕ) → (b == 10) ≡ true → new ≡ [] → next ≡ number + 1 → IsLineDone Says kept number
+        pending left w1 w2 → Midst Says next new left ahead r0 r1 w0 w2
     line_done w2 new left next e empty n (out, done, is, all, written) = record {
       bytes = h.bytes;
       lines = h.lines;
@@ -173,7 +192,15 @@ module _ (Says : List ℕ → ℕ → List ℕ → Type 0) where
       goes_on = λ more. one_line more e;
       later_answers = subst (AreAnswers Says (1 + length h.lines) (h.later ++ h.line ∷ []))
           (append_assoc h.done pending (out ++ codes "\n") ∙ ap (λ (l : List ℕ). h.done ++ l) all ∙ sym (append_assoc h.done done left)) (answered out is);
-      numbered = omega (arith, n, h.numbered, length-append h.lines h.later, length-append h.lines (h.later ++ h.line ∷ []), length-append h.later (h.line ∷ []));
+      numbered = omega (
+        arith,
+        n,
+        h.numbered,
+        length-append h.lines h.later,
+        length-append h.lines (h.later ++ h.line ∷ []),
+        length-append h.later
+            (h.line ∷ []),
+      );
       keeps = empty;
       few = still_few;
       reads = subst (Consumes r0 r1) moved h.reads;
@@ -194,7 +221,8 @@ module _ (Says : List ℕ → ℕ → List ℕ → Type 0) where
       writes = subst (Appends w0 w2) (append_assoc h.text h.done pending) (Appends-trans w0 w1 w2 (h.text ++ h.done) pending h.writes written);
     }
 
-    cut_after : (w2 : Option (List ℕ)) → (b == 10) ≡ true → (out : List ℕ) × Says kept number out × AppendsPart w1 w2 (pending ++ (out ++ codes "\n")) → IsUnwritten Says r0 r1 w0 w2
+    cut_after : (w2 : Option (List ℕ)) → (b == 10) ≡ true → (out : List ℕ) × Says kept number out × AppendsPart w1 w2 (pending ++ (out ++ codes "\n")) →
+        IsUnwritten Says r0 r1 w0 w2
     cut_after w2 e (out, is, (done, rest, all, written)) = record {
       bytes = h.bytes;
       lines = h.lines;
@@ -240,7 +268,8 @@ module _ (Says : List ℕ → ℕ → List ℕ → Type 0) where
     pub all_served : length kept ≡ 0 → IsAtEnd r2 → IsServed Says r0 r2 w0 w1
     all_served e end =
         let none : h.line ≡ [] = none_kept h.line (ap length (sym h.keeps) ∙ e) in
-        let lines : lines_of h.bytes ≡ h.lines = whole ∙ ap (λ (l : List ℕ). h.lines ++ lines_from l []) none ∙ ap (λ (ls : List (List ℕ)). h.lines ++ ls) lines_none ∙ append-nil h.lines in
+        let lines : lines_of h.bytes ≡ h.lines = whole ∙ ap (λ (l : List ℕ). h.lines ++ lines_from l []) none ∙ ap (λ (ls : List (List ℕ)). h.lines ++ ls)
+        lines_none ∙ append-nil h.lines in
         record {
           bytes = h.bytes;
           text = h.text;
@@ -269,7 +298,8 @@ module _ (Says : List ℕ → ℕ → List ℕ → Type 0) where
       last_lines = whole ∙ ap (λ (ls : List (List ℕ)). h.lines ++ ls) (lines_end h.line (omega (arith, ap length h.keeps, length-take kept_bytes h.line)))
 
       last_answer : (out : List ℕ) → Says kept number out → AreAnswers Says (1 + length h.lines) (h.line ∷ []) (out ++ codes "\n")
-      last_answer out is = one_answer (1 + length h.lines) h.line out (subst (λ (k : ℕ). Says (take kept_bytes h.line) k out) h.numbered (subst (λ (l : List ℕ). Says l number out) h.keeps is))
+      last_answer out is = one_answer (1 + length h.lines) h.line out (subst (λ (k : ℕ). Says (take kept_bytes h.line) k out) h.numbered
+          (subst (λ (l : List ℕ). Says l number out) h.keeps is))
 
       pub last_served : (out : List ℕ) → Says kept number out → IsAtEnd r2 → Appends w1 w2 (out ++ codes "\n") → IsServed Says r0 r2 w0 w2
       last_served out is end written = record {
@@ -333,18 +363,23 @@ module _ (Says : List ℕ → ℕ → List ℕ → Type 0) where
       last_cut OutputClosed k out is part = last_unwritten out is part
 
       -- with what is answered and written in one
-      pub last_done : (none all : List ℕ) → none ≡ [] → (out : List ℕ) × Says kept number out × (all ≡ none ++ (out ++ codes "\n")) → IsAtEnd r2 → Appends w1 w2 all → IsServed Says r0 r2 w0 w2
-      last_done none all e (out, is, a) end written = last_served out is end (subst (Appends w1 w2) (a ∙ ap (λ (l : List ℕ). l ++ (out ++ codes "\n")) e) written)
+      pub last_done : (none all : List ℕ) → none ≡ [] → (out : List ℕ) × Says kept number out × (all ≡ none ++ (out ++ codes "\n")) → IsAtEnd r2 → Appends
+          w1 w2 all → IsServed Says r0 r2 w0 w2
+      last_done none all e (out, is, a) end written = last_served out is end (subst (Appends w1 w2) (a ∙ ap (λ (l : List ℕ). l ++ (out ++ codes "\n")) e)
+          written)
 
-      pub last_failed : (e : AskError) (none all : List ℕ) → none ≡ [] → (out : List ℕ) × Says kept number out × (all ≡ none ++ (out ++ codes "\n")) → IsOfOutput e → AppendsPart w1 w2 all → IsBroken Says e r0 r2 w0 w2
+      pub last_failed : (e : AskError) (none all : List ℕ) → none ≡ [] → (out : List ℕ) × Says kept number out × (all ≡ none ++ (out ++ codes "\n")) →
+          IsOfOutput e → AppendsPart w1 w2 all → IsBroken Says e r0 r2 w0 w2
       last_failed e none all n (out, is, a) k part = last_cut e k out is (subst (AppendsPart w1 w2) (a ∙ ap (λ (l : List ℕ). l ++ (out ++ codes "\n")) n) part)
 
   -- the answers to a line, of which a first part is written
-  pub line_said : (line : List ℕ) (n : ℕ) (answers all left : List ℕ) (w1 w2 : Option (List ℕ)) → (out : List ℕ) × Says line n out × (all ≡ answers ++ (out ++ codes "\n"))
+  pub line_said : (line : List ℕ) (n : ℕ) (answers all left : List ℕ) (w1 w2 : Option (List ℕ)) → (out : List ℕ) × Says line n out ×
+      (all ≡ answers ++ (out ++ codes "\n"))
       → (done : List ℕ) × (all ≡ done ++ left) × Appends w1 w2 done → IsLineDone Says line n answers left w1 w2
   line_said line n answers all left w1 w2 (out, is, a) (done, e, written) = (out, done, is, sym a ∙ e, written)
 
-  pub line_unsaid : (line : List ℕ) (n : ℕ) (answers all : List ℕ) (w1 w2 : Option (List ℕ)) → (out : List ℕ) × Says line n out × (all ≡ answers ++ (out ++ codes "\n"))
+  pub line_unsaid : (line : List ℕ) (n : ℕ) (answers all : List ℕ) (w1 w2 : Option (List ℕ)) → (out : List ℕ) × Says line n out ×
+      (all ≡ answers ++ (out ++ codes "\n"))
       → AppendsPart w1 w2 all → IsCut Says line n answers w1 w2
   line_unsaid line n answers all w1 w2 (out, is, a) part = inr (out, is, subst (AppendsPart w1 w2) a part)
 
@@ -357,7 +392,8 @@ module _ (Says : List ℕ → ℕ → List ℕ → Type 0) where
   broken_output OutputClosed r0 r1 w0 w1 k h = h
 
   -- the answers are cut, of whatever kind the failure is
-  pub line_cut : (e : AskError) (line : List ℕ) (n : ℕ) (answers : List ℕ) (w1 w2 : Option (List ℕ)) → IsOfOutput e → IsCut Says line n answers w1 w2 → IsLineBroken Says e line n answers w1 w2
+  pub line_cut : (e : AskError) (line : List ℕ) (n : ℕ) (answers : List ℕ) (w1 w2 : Option (List ℕ)) → IsOfOutput e → IsCut Says line n answers w1 w2 →
+      IsLineBroken Says e line n answers w1 w2
   line_cut OutOfMemory line n answers w1 w2 k h = absurd k
   line_cut NotHeld line n answers w1 w2 k h = absurd k
   line_cut ReadFailed line n answers w1 w2 k h = absurd k
@@ -365,7 +401,8 @@ module _ (Says : List ℕ → ℕ → List ℕ → Type 0) where
   line_cut OutputClosed line n answers w1 w2 k h = h
 
   -- a line is refused, and what was pending is written
-  pub line_refused : (e : AskError) (line : List ℕ) (n : ℕ) (answers : List ℕ) (w1 w2 : Option (List ℕ)) → IsOfLine e → Appends w1 w2 answers → IsLineBroken Says e line n answers w1 w2
+  pub line_refused : (e : AskError) (line : List ℕ) (n : ℕ) (answers : List ℕ) (w1 w2 : Option (List ℕ)) → IsOfLine e → Appends w1 w2 answers → IsLineBroken
+      Says e line n answers w1 w2
   line_refused OutOfMemory line n answers w1 w2 k h = h
   line_refused NotHeld line n answers w1 w2 k h = h
   line_refused ReadFailed line n answers w1 w2 k h = absurd k

@@ -34,7 +34,8 @@ pub kept_push : (kept line : List ℕ) (b : ℕ) → kept ≡ take kept_bytes li
 kept_push kept line b e short =
     let n : length kept ≡ length (take kept_bytes line) = ap length e in
     let few : length line < kept_bytes = omega (arith, n, short, length-take kept_bytes line) in
-    ap (λ (l : List ℕ). l ++ b ∷ []) (e ∙ take_all kept_bytes line (omega (arith, few))) ∙ sym (take_all kept_bytes (line ++ b ∷ []) (omega (arith, few, length-append line (b ∷ []))))
+    ap (λ (l : List ℕ). l ++ b ∷ []) (e ∙ take_all kept_bytes line (omega (arith, few))) ∙ sym
+    (take_all kept_bytes (line ++ b ∷ []) (omega (arith, few, length-append line (b ∷ []))))
 
 pub kept_full : (kept line : List ℕ) (b : ℕ) → kept ≡ take kept_bytes line → kept_bytes ≤ length kept → kept ≡ take kept_bytes (line ++ b ∷ [])
 kept_full kept line b e full =

@@ -12,14 +12,16 @@ use Rattle.gm_json.specs.Words.{text, line_of}
 use Rattle.gm_json.specs.Lines.{step_tree, steps_from, AreSteps}
 
 module _ (r : Rules) (shown : Position → List ℕ) (move_shown : Position → ℕ → List ℕ) where
-  pub steps_true : (ms : List ℕ) (p : Position) (s : Solved) → AreBest r p ms → IsTrueValue r p s → AreSteps r shown move_shown p ms (steps_from r shown move_shown p s ms)
+  pub steps_true : (ms : List ℕ) (p : Position) (s : Solved) → AreBest r p ms → IsTrueValue r p s → AreSteps r shown move_shown p ms
+      (steps_from r shown move_shown p s ms)
   steps_true [] p s best h = refl
   steps_true (m ∷ ms) p s best h =
       let next = after_true r p m s best.0 h in
       (after_best s, steps_from r shown move_shown (r.play p m) (after_best s) ms, next, steps_true ms (r.play p m) (after_best s) best.1 next, refl)
 
   -- one line more
-  pub steps_next : (p q : Position) (s t : Solved) (m : ℕ) (ms done more all : List ℕ) → q ≡ r.play p m → t ≡ after_best s → more ≡ done ++ line_of (step_tree shown (text (move_shown p m)) q t)
+  pub steps_next : (p q : Position) (s t : Solved) (m : ℕ) (ms done more all : List ℕ) → q ≡ r.play p m → t ≡ after_best s → more ≡ done ++ line_of
+      (step_tree shown (text (move_shown p m)) q t)
       → done ++ steps_from r shown move_shown p s (m ∷ ms) ≡ all → more ++ steps_from r shown move_shown q t ms ≡ all
   steps_next p q s t m ms done more all e f w h =
       let line : Position → Solved → List ℕ = λ x u. line_of (step_tree shown (text (move_shown p m)) x u) in

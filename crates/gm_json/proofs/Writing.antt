@@ -49,7 +49,8 @@ clear_lossy xs e = utf8_lossy-IsUtf8 xs (IsUtf8-from_ascii xs (clear_low xs e))
 
 pub clear_quoted : (old a b c text : List ℕ) → list_all is_clear text ≡ true → a ≡ old ++ 34 ∷ [] → b ≡ a ++ text → c ≡ b ++ 34 ∷ [] → c ≡ old ++ quoted text
 clear_quoted old a b c text clear first second third =
-    third ∙ ap (λ (l : List ℕ). l ++ 34 ∷ []) (second ∙ ap (λ (l : List ℕ). l ++ text) first) ∙ append_assoc (old ++ 34 ∷ []) text (34 ∷ []) ∙ append_assoc old (34 ∷ []) (text ++ 34 ∷ [])
+    third ∙ ap (λ (l : List ℕ). l ++ 34 ∷ []) (second ∙ ap (λ (l : List ℕ). l ++ text) first) ∙ append_assoc (old ++ 34 ∷ []) text (34 ∷ []) ∙ append_assoc
+    old (34 ∷ []) (text ++ 34 ∷ [])
     ∙ ap (λ (l : List ℕ). old ++ 34 ∷ (l ++ 34 ∷ [])) (sym (clear_escape text clear))
 
 -- ---- objects and arrays
@@ -57,20 +58,26 @@ clear_quoted old a b c text clear first second third =
 pub opened : (old new : List ℕ) (b : ℕ) (rest : List ℕ) → new ≡ old ++ b ∷ [] → new ++ rest ≡ old ++ b ∷ rest
 opened old new b rest e = ap (λ (l : List ℕ). l ++ rest) e ∙ append_assoc old (b ∷ []) rest
 
-pub member_next : (old new : List ℕ) (later : Bool) (k : List ℕ) (d : Data) (ms : Members) → new ≡ old ++ member_text later k d → new ++ members_text true ms ≡ old ++ members_text later (member k d ms)
+pub member_next : (old new : List ℕ) (later : Bool) (k : List ℕ) (d : Data) (ms : Members) → new ≡ old ++ member_text later k d → new ++ members_text true
+    ms ≡ old ++ members_text later (member k d ms)
 member_next old new later k d ms e =
     let rest = members_text true ms in
     ap (λ (l : List ℕ). l ++ rest) e
     ∙ append_assoc old (member_text later k d) rest
-    ∙ ap (λ (l : List ℕ). old ++ l) (append_assoc (comma_if later) (quoted k ++ 58 ∷ compact_text d) rest ∙ ap (λ (l : List ℕ). comma_if later ++ l) (append_assoc (quoted k) (58 ∷ compact_text d) rest))
+    ∙ ap (λ (l : List ℕ). old ++ l) (append_assoc (comma_if later) (quoted k ++ 58 ∷ compact_text d) rest ∙ ap (λ (l : List ℕ). comma_if later ++ l)
+    (append_assoc (quoted k) (58 ∷ compact_text d) rest))
 
-pub item_next : (old new : List ℕ) (later : Bool) (d : Data) (ds : Items) → new ≡ old ++ item_text later d → new ++ items_text true ds ≡ old ++ items_text later (item d ds)
+pub item_next : (old new : List ℕ) (later : Bool) (d : Data) (ds : Items) → new ≡ old ++ item_text later d → new ++ items_text true ds ≡ old ++ items_text
+    later (item d ds)
 item_next old new later d ds e =
     let rest = items_text true ds in
-    ap (λ (l : List ℕ). l ++ rest) e ∙ append_assoc old (item_text later d) rest ∙ ap (λ (l : List ℕ). old ++ l) (append_assoc (comma_if later) (compact_text d) rest)
+    ap (λ (l : List ℕ). l ++ rest) e ∙ append_assoc old (item_text later d) rest ∙ ap (λ (l : List ℕ). old ++ l)
+    (append_assoc (comma_if later) (compact_text d) rest)
 
 -- a key and then its value
-pub value_after : (old mid new : List ℕ) (later : Bool) (k v : List ℕ) (d : Data) → mid ≡ old ++ key_text later k → new ≡ mid ++ v → v ≡ compact_text d → new ≡ old ++ member_text later k d
+pub value_after : (old mid new : List ℕ) (later : Bool) (k v : List ℕ) (d : Data) → mid ≡ old ++ key_text later k → new ≡ mid ++ v → v ≡ compact_text d →
+    new ≡ old ++ member_text later k d
 value_after old mid new later k v d m n e =
     n ∙ ap₂ (λ (a b : List ℕ). a ++ b) m e ∙ append_assoc old (key_text later k) (compact_text d)
-    ∙ ap (λ (l : List ℕ). old ++ l) (append_assoc (comma_if later) (quoted k ++ 58 ∷ []) (compact_text d) ∙ ap (λ (l : List ℕ). comma_if later ++ l) (append_assoc (quoted k) (58 ∷ []) (compact_text d)))
+    ∙ ap (λ (l : List ℕ). old ++ l) (append_assoc (comma_if later) (quoted k ++ 58 ∷ []) (compact_text d) ∙ ap (λ (l : List ℕ). comma_if later ++ l)
+    (append_assoc (quoted k) (58 ∷ []) (compact_text d)))

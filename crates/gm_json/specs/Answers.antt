@@ -34,9 +34,18 @@ module _ (r : Rules) (shown : Position → List ℕ) (move_shown : Position → 
   -- what is told of a position: its moves unless its value alone is asked for, its value and its remoteness, and then more
   abbrev pub answer_members : Position → Solved → List MoveValue → Members → Members
   answer_members p s xs more =
-      if asked.values then position_members r shown move_shown p s more else member (codes "moves") (move_trees r shown move_shown p xs) (position_members r shown move_shown p s more)
+      if asked.values then position_members r shown move_shown p s more else member (codes "moves") (move_trees r shown move_shown p xs)
+      (position_members r shown move_shown p s more)
 
   module _ (tiers : List ℕ) where
+    -- what is told of a position with its true value, these moves of it, and more
+    pub record IsTold (p : Position) (xs : List MoveValue) (out : List ℕ) : Type 0 where
+      pub value : Solved
+      pub is_true : IsTrueValue r p value
+      pub best : List ℕ
+      pub along : asked.with.best ≡ true → AreBestMoves r p best
+      pub out_is : out ≡ compact_text (object (answer_members p value xs (extras r shown move_shown asked.with tiers p best)))
+
     -- what is asked for of the position with this text: its true value, its moves, the best first, and more
     pub record IsPositionJson (line out : List ℕ) : Type 0 where
       pub position : Position
@@ -47,7 +56,8 @@ module _ (r : Rules) (shown : Position → List ℕ) (move_shown : Position → 
       pub moves : asked.values ≡ false → AreMoveValues r position list × BeginsBest r position list
       pub best : List ℕ
       pub along : asked.with.best ≡ true → AreBestMoves r position best
-      pub out_is : out ≡ compact_text (object (answer_members position value (chosen r asked.distinct list) (extras r shown move_shown asked.with tiers position best)))
+      pub out_is : out ≡ compact_text (object (answer_members position value (chosen r asked.distinct list)
+          (extras r shown move_shown asked.with tiers position best)))
 
     -- the answer to the line with this number: what is asked for of the position, or that there is no such position
     abbrev pub IsAnswer : List ℕ → ℕ → List ℕ → Type 0

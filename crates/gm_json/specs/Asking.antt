@@ -30,7 +30,8 @@ module _ (Says : List ℕ → ℕ → List ℕ → Type 0) where
   -- the answers to these lines, of which the first has this number, each with its end
   abbrev pub AreAnswers : ℕ → List (List ℕ) → List ℕ → Type 0
   AreAnswers n [] text = text ≡ []
-  AreAnswers n (line ∷ lines) text = (out : List ℕ) × (rest : List ℕ) × Says (take kept_bytes line) n out × (text ≡ (out ++ codes "\n") ++ rest) × AreAnswers (n + 1) lines rest
+  AreAnswers n (line ∷ lines) text = (out : List ℕ) × (rest : List ℕ) × Says (take kept_bytes line) n out × (text ≡ (out ++ codes "\n") ++ rest) ×
+      AreAnswers (n + 1) lines rest
 
   -- the input was read to its end, and each of its lines was answered in its order
   pub record IsServed (old new before after : Option (List ℕ)) : Type 0 where
@@ -103,11 +104,13 @@ module _ (Says : List ℕ → ℕ → List ℕ → Type 0) where
 
   -- a line is answered after these answers: a first part of all that is written, and the rest is left
   abbrev pub IsLineDone : List ℕ → ℕ → List ℕ → List ℕ → Option (List ℕ) → Option (List ℕ) → Type 0
-  IsLineDone line n answers left before after = (out : List ℕ) × (done : List ℕ) × Says line n out × (answers ++ (out ++ codes "\n") ≡ done ++ left) × Appends before after done
+  IsLineDone line n answers left before after = (out : List ℕ) × (done : List ℕ) × Says line n out × (answers ++ (out ++ codes "\n") ≡ done ++ left) ×
+      Appends before after done
 
   -- the output failed at these answers, or at them and that to the line
   abbrev pub IsCut : List ℕ → ℕ → List ℕ → Option (List ℕ) → Option (List ℕ) → Type 0
-  IsCut line n answers before after = AppendsPart before after answers ⊎ ((out : List ℕ) × Says line n out × AppendsPart before after (answers ++ (out ++ codes "\n")))
+  IsCut line n answers before after = AppendsPart before after answers ⊎ ((out : List ℕ) × Says line n out × AppendsPart before after
+      (answers ++ (out ++ codes "\n")))
 
   -- the answer to a line failed after these answers: they are written, or a first part of them
   abbrev pub IsLineBroken : AskError → List ℕ → ℕ → List ℕ → Option (List ℕ) → Option (List ℕ) → Type 0

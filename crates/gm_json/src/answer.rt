@@ -1,131 +1,94 @@
 //! The answer to one line that should be the text of a position.
-ghost use Rattle.std.specs.Prelude.{◌≡◌, ◌↔◌, ◌++◌, ◌∷◌, ℕ, List, true, false, take, IfOk, OnOk, IsErrOf};
+ghost use Rattle.std.specs.Prelude.{◌≡◌, ◌↔◌, ◌++◌, ◌∷◌, true, false, take, IfOk, IfErr, OnOk, IsErrOf};
 ghost use Rattle.std.specs.List.{All};
 ghost use Rattle.gm_game.specs.declared.position.Position.{Position};
-ghost use Rattle.serde_json.specs.Data.{Members, object};
+ghost use Rattle.serde_json.specs.Data.{Members};
 ghost use Rattle.serde_json.specs.Written.{compact_text, members_text};
+ghost use Rattle.gm_best.specs.Refusals.{IsNotHeld};
 ghost use Rattle.gm_play.specs.Dialogue.{without_return as without_return_spec};
-ghost use Rattle.gm_play.specs.PlayTexts.{IsMoveOf, IsReadAs, IsNoPosition};
-ghost use Rattle.gm_best.specs.Refusals.{AreNotHeld};
-ghost use Rattle.gm_json.specs.Extras.{extras, AreBestMoves};
-ghost use Rattle.gm_json.specs.Answers.{IsAnswer, IsPositionJson, answer_members, read_bytes, unread_tree, error_tree};
+ghost use Rattle.gm_play.specs.PlayTexts.{IsMoveOf, IsReadAs};
+ghost use Rattle.gm_json.specs.Answers.{IsAnswer, IsPositionJson, IsTold, answer_members, read_bytes, unread_tree, error_tree};
+ghost use Rattle.gm_json.specs.Asking.{IsOfLine};
 
+use crate::ask_error::AskError;
 use crate::asked::Asked;
 use crate::extras::push_extras;
 use crate::moves::{push_moves, push_value};
 use crate::parts::{push_bytes, push_number_member, push_text_member};
-use gm_best::play_error::PlayError;
+use gm_best::closed::Closed;
+use gm_best::known::Known;
 use gm_game::position::{Position, Solved};
 use gm_game::shown::Shown;
-use gm_play::by_text::{known_value, moves_at};
+use gm_play::firsts::moves_of;
 use gm_play::move_values::MoveValue;
 use gm_play::streams::without_return;
-use gm_table::tables::Tables;
 use std::alloc::{AllocError, Global};
 
 // How much is told of a line that is the text of no position.
 const READ: usize = 64;
 
 /// The answer to the line with this number: what is asked for of the position with this text, or that there is no such position, with the first 64 bytes of the
-/// line. A carriage return at the end of the line is no part of it. Parents are looked for in these tiers.
-///
-/// The moves that are asked for ask for the tables of the position's tier and of its child tiers, its value alone for that of its tier, and the line of best play
-/// for those of each position that it comes to.
+/// line. A carriage return at the end of the line is no part of it. Parents are looked for in these tiers. `NotHeld` comes exactly where the tier of the
+/// position has no table.
 pub fn ask_line<G: Shown>(
     alloc: Global,
-    tables: &Tables<G>,
+    tables: &Closed<'_, G>,
     tiers: &[u64],
     asked: Asked,
     line: &[u8],
     number: u64,
-) -> Result<Vec<u8>, PlayError>
+) -> Result<Vec<u8>, AskError>
     ensures answer { IfOk result (λ out. IsAnswer G.Game.rules G.shown G.move_shown asked tiers.now line.now number out.items) }
-    ensures illegal { IsErrOf result PlayError.Illegal → ⊥ }
-    ensures not_held { IsErrOf result PlayError.NotHeld → ((p : Position) × AreNotHeld G.Game.rules tables.now p) }
-    ensures own { asked.with.best ≡ false → IsErrOf result PlayError.NotHeld → ((p : Position) × IsReadAs G.Game.rules G.shown G.move_shown (without_return_spec line.now) p × AreNotHeld G.Game.rules tables.now p) }
-    ensures moves { asked.values ≡ false → ((p : Position) × IsReadAs G.Game.rules G.shown G.move_shown (without_return_spec line.now) p × AreNotHeld G.Game.rules tables.now p) → IsErrOf result PlayError.NotHeld }
+    ensures kind { IfErr result IsOfLine }
+    ensures not_held { IsErrOf result AskError.NotHeld ↔ ((p : Position) × IsReadAs G.Game.rules G.shown G.move_shown (without_return_spec line.now) p
+        × IsNotHeld G.Game.rules tables.now.tables.now p) }
 {
     let text = without_return(line);
-    match position_json(alloc, tables, tiers, asked, text) {
-        Ok(out) => Ok(out),
-        Err(PlayError::Illegal) => match no_position(alloc, number, text) {
-            Ok(out) => Ok(out),
-            Err(_) => Err(PlayError::OutOfMemory),
+    let answered = match G::read(text) {
+        Some(p) => match tables.known(p) {
+            Some(known) => position_json(alloc, &known, tiers, asked),
+            None => return Err(AskError::NotHeld),
         },
-        Err(error) => Err(error),
+        None => no_position(alloc, number, text),
+    };
+    match answered {
+        Ok(out) => Ok(out),
+        Err(_) => Err(AskError::OutOfMemory),
     }
 }
 
-// What is asked for of the position with this text.
+// What is asked for of a position.
 fn position_json<G: Shown>(
     alloc: Global,
-    tables: &Tables<G>,
+    known: &Known<'_, G>,
     tiers: &[u64],
     asked: Asked,
-    text: &[u8],
-) -> Result<Vec<u8>, PlayError>
-    ensures text { IfOk result (λ out. IsPositionJson G.Game.rules G.shown G.move_shown asked tiers.now text.now out.items) }
-    ensures illegal { IsErrOf result PlayError.Illegal ↔ IsNoPosition G.Game.rules G.shown G.move_shown text.now }
-    ensures not_held { IsErrOf result PlayError.NotHeld → ((p : Position) × AreNotHeld G.Game.rules tables.now p) }
-    ensures own { asked.with.best ≡ false → IsErrOf result PlayError.NotHeld → ((p : Position) × IsReadAs G.Game.rules G.shown G.move_shown text.now p × AreNotHeld G.Game.rules tables.now p) }
-    ensures moves { asked.values ≡ false → ((p : Position) × IsReadAs G.Game.rules G.shown G.move_shown text.now p × AreNotHeld G.Game.rules tables.now p) → IsErrOf result PlayError.NotHeld }
+) -> Result<Vec<u8>, AllocError>
+    ensures { IfOk result (λ out. IsPositionJson G.Game.rules G.shown G.move_shown asked tiers.now (G.shown known.now.position) out.items) }
 {
     if asked.values {
-        return value_json(alloc, tables, tiers, asked, text);
+        return whole_json(alloc, known, tiers, asked, &[]);
     }
-    let (p, list) = moves_at(tables, text, asked.distinct)?;
-    let value = known_value(tables, p)?;
-    whole_json(alloc, tables, tiers, asked, p, value, list.as_slice())
+    let list = moves_of(known, asked.distinct);
+    whole_json(alloc, known, tiers, asked, list.as_slice())
 }
 
-// The same, where its value is asked for without its moves.
-fn value_json<G: Shown>(
-    alloc: Global,
-    tables: &Tables<G>,
-    tiers: &[u64],
-    asked: Asked,
-    text: &[u8],
-) -> Result<Vec<u8>, PlayError>
-    requires { asked.values ≡ true }
-    ensures text { IfOk result (λ out. IsPositionJson G.Game.rules G.shown G.move_shown asked tiers.now text.now out.items) }
-    ensures illegal { IsErrOf result PlayError.Illegal ↔ IsNoPosition G.Game.rules G.shown G.move_shown text.now }
-    ensures not_held { IsErrOf result PlayError.NotHeld → ((p : Position) × AreNotHeld G.Game.rules tables.now p) }
-    ensures own { asked.with.best ≡ false → IsErrOf result PlayError.NotHeld → ((p : Position) × IsReadAs G.Game.rules G.shown G.move_shown text.now p × AreNotHeld G.Game.rules tables.now p) }
-{
-    let p = match G::read(text) {
-        Some(p) => p,
-        None => return Err(PlayError::Illegal),
-    };
-    let value = known_value(tables, p)?;
-    whole_json(alloc, tables, tiers, asked, p, value, &[])
-}
-
-// A legal position of this value with some of its moves, and with what else is asked for.
+// A position with some of its moves, and with what else is asked for.
 fn whole_json<G: Shown>(
     alloc: Global,
-    tables: &Tables<G>,
+    known: &Known<'_, G>,
     tiers: &[u64],
     asked: Asked,
-    p: Position,
-    value: Solved,
     list: &[MoveValue],
-) -> Result<Vec<u8>, PlayError>
-    requires legal { G.Game.rules.is_legal p ≡ true }
-    requires each { All (IsMoveOf G.Game.rules p) list.now }
-    ensures ok { IfOk result (λ out. (best : List ℕ) × (asked.with.best ≡ true → AreBestMoves G.Game.rules p best)
-        × (out.items ≡ compact_text (object (answer_members G.Game.rules G.shown G.move_shown asked p value list.now (extras G.Game.rules G.shown G.move_shown asked.with tiers.now p best))))) }
-    ensures illegal { IsErrOf result PlayError.Illegal → ⊥ }
-    ensures not_held { IsErrOf result PlayError.NotHeld → (asked.with.best ≡ true) × ((q : Position) × AreNotHeld G.Game.rules tables.now q) }
+) -> Result<Vec<u8>, AllocError>
+    requires { All (IsMoveOf G.Game.rules known.now.position) list.now }
+    ensures { IfOk result (λ out. IsTold G.Game.rules G.shown G.move_shown asked tiers.now known.now.position list.now out.items) }
 {
     let mut out = Vec::new(alloc);
-    if push_front::<G>(alloc, &mut out, asked, p, value, list).is_err() {
-        return Err(PlayError::OutOfMemory);
-    }
-    push_extras(alloc, tables, tiers, asked.with, p, &mut out)?;
-    match push_bytes(&mut out, b"}") {
-        Ok(()) => Ok(out),
-        Err(_) => Err(PlayError::OutOfMemory),
-    }
+    push_front::<G>(alloc, &mut out, asked, known.position, known.value(), list)?;
+    push_extras(alloc, known, tiers, asked.with, &mut out)?;
+    push_bytes(&mut out, b"}")?;
+    Ok(out)
 }
 
 // Appends the first members: the moves unless the value alone is asked for, the position, its value and its remoteness.
@@ -139,7 +102,8 @@ fn push_front<G: Shown>(
 ) -> Result<(), AllocError>
     requires legal { G.Game.rules.is_legal p ≡ true }
     requires each { All (IsMoveOf G.Game.rules p) list.now }
-    ensures { OnOk result ((more : Members) → out.new.items ++ members_text true more ≡ out.old.items ++ 123 ∷ members_text false (answer_members G.Game.rules G.shown G.move_shown asked p value list.now more)) }
+    ensures { OnOk result ((more : Members) → out.new.items ++ members_text true more ≡ out.old.items ++ 123 ∷ members_text false
+        (answer_members G.Game.rules G.shown G.move_shown asked p value list.now more)) }
 {
     push_bytes(out, b"{")?;
     if asked.values {

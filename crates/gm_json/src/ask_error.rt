@@ -16,7 +16,7 @@ pub enum AskError {
     ReadFailed,
     #[error("write failed")]
     WriteFailed,
-    /// Nobody reads what is written.
+    /// The reader has closed the output.
     #[error("output closed")]
     OutputClosed,
 }

@@ -1,50 +1,39 @@
 //! Found positions, in JSON.
-ghost use Rattle.std.specs.Prelude.{◌≡◌, [], true, IfOk, OnOk, IsErrOf, is_some};
+ghost use Rattle.std.specs.Prelude.{◌≡◌, [], true, IfOk, OnOk, is_some};
 ghost use Rattle.std.specs.List.{All, flat_map};
 ghost use Rattle.serde_json.specs.Data.{object};
 ghost use Rattle.serde_json.specs.View.{view, members_view};
 ghost use Rattle.gm_best.specs.BestMoves.{IsBestMove};
-ghost use Rattle.gm_find.specs.Finding.{AreTiersHeld, IsMissing};
 ghost use Rattle.gm_find.specs.Founds.{IsFound};
 ghost use Rattle.gm_json.specs.Words.{move_or_null};
 ghost use Rattle.gm_json.specs.Founds.{found_tree, found_line, IsFoundJson};
 
 use crate::words::{push_line, put_text, put_word, text_value};
+use gm_best::known_tiers::KnownTiers;
 use gm_find::choice::find_some;
-use gm_find::find_error::FindError;
 use gm_find::found::Found;
 use gm_find::reached::Reached;
 use gm_find::sought::{Choice, Sought};
 use gm_game::position::Position;
 use gm_game::shown::Shown;
 use gm_play::texts::word_of;
-use gm_table::tables::Tables;
 use serde_json::{Map, Value as Json, put};
 use std::alloc::{AllocError, Global};
 
 /// The canonical positions that are sought as lines of compact JSON, each with its end: the best move (`null` where the game has ended), the number of the
 /// moves, the position, its remoteness and its value. The members stand in alphabetical order; the lines tier by tier in the order given and by ascending
 /// index: the first of them, or so many by chance. Where a set of reached positions is given, only positions in it count.
-///
-/// `NotHeld` is tested first, where one of the tiers, or one of its child tiers, has no table; where a whole line is asked for it also comes at a table that
-/// one rests on, and else nowhere.
 pub fn find_json<G: Shown>(
     alloc: Global,
-    tables: &Tables<G>,
-    tiers: &[u64],
+    known: &KnownTiers<'_, G>,
     sought: Sought,
     reached: Option<&Reached<G>>,
     choice: Choice,
-) -> Result<Vec<u8>, FindError>
-    ensures text { IfOk result (λ v. IsFoundJson G.Game.rules G.shown G.move_shown sought (is_some reached.entry) choice tiers.now v.items) }
-    ensures not_held { (AreTiersHeld G.Game.rules tables.now tiers.now → ⊥) → IsErrOf result FindError.NotHeld }
-    ensures missing { IsErrOf result FindError.NotHeld → IsMissing G.Game.rules tables.now sought tiers.now }
+) -> Result<Vec<u8>, AllocError>
+    ensures { IfOk result (λ v. IsFoundJson G.Game.rules G.shown G.move_shown sought (is_some reached.entry) choice known.now.tiers.now v.items) }
 {
-    let found = find_some(alloc, tables, tiers, sought, reached, choice)?;
-    match found_lines::<G>(alloc, found.as_slice()) {
-        Ok(lines) => Ok(lines),
-        Err(_) => Err(FindError::OutOfMemory),
-    }
+    let found = find_some(alloc, known, sought, reached, choice)?;
+    found_lines::<G>(alloc, found.as_slice())
 }
 
 /// The lines of found positions, as `find_json` has them.

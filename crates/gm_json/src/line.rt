@@ -1,52 +1,40 @@
 //! Lines of best play, in JSON.
-ghost use Rattle.std.specs.Prelude.{◌≡◌, ◌↔◌, ◌++◌, [], true, false, IfOk, OnOk, IsErrOf};
+ghost use Rattle.std.specs.Prelude.{◌≡◌, ◌++◌, [], true, false, IfOk, OnOk};
 ghost use Rattle.serde_json.specs.Data.{null, object};
 ghost use Rattle.serde_json.specs.View.{view, members_view};
 ghost use Rattle.serde_json.specs.Written.{has_float};
 ghost use Rattle.gm_game.specs.Values.{IsTrueValue};
 ghost use Rattle.gm_play.specs.BestLines.{AreBest};
-ghost use Rattle.gm_play.specs.ByText.{PlaysNotHeld};
-ghost use Rattle.gm_play.specs.PlayTexts.{IsNoPosition};
 ghost use Rattle.gm_json.specs.Words.{line_of};
 ghost use Rattle.gm_json.specs.Lines.{again_tree, end_line, step_tree, steps_from, IsLineJson};
 
 use crate::words::{push_line, put_text, put_word, text_value};
-use gm_best::play_error::PlayError;
+use gm_best::known::Known;
 use gm_game::position::{Position, Solved};
 use gm_game::shown::Shown;
-use gm_play::best_line::LineEnd;
-use gm_play::by_text::{best_play, value_after};
-use gm_play::texts::word_of;
-use gm_table::tables::Tables;
+use gm_play::best_line::{LineEnd, best_line};
+use gm_play::texts::{value_after, word_of};
 use serde_json::{Map, Value as Json, json, put};
 use std::alloc::{AllocError, Global};
 
-/// The line of best play from the position with this text as lines of compact JSON, each with its end: the move (`null` at first), the position, its remoteness
-/// and its value, the members in alphabetical order; and at the end of a draw `{"again":K}` with the number of the line, from 0, in which the last position
-/// stood before. Any bytes may be given. At most `limit` moves are made.
+/// The line of best play from a position as lines of compact JSON, each with its end: the move (`null` at first), the position, its remoteness and its value,
+/// the members in alphabetical order; and at the end of a draw `{"again":K}` with the number of the line, from 0, in which the last position stood before. At
+/// most `limit` moves are made.
 pub fn line_json<G: Shown>(
     alloc: Global,
-    tables: &Tables<G>,
-    text: &[u8],
+    start: &Known<'_, G>,
     limit: usize,
-) -> Result<Vec<u8>, PlayError>
-    ensures text { IfOk result (λ v. IsLineJson G.Game.rules G.shown G.move_shown text.now limit v.items) }
-    ensures illegal { IsErrOf result PlayError.Illegal ↔ IsNoPosition G.Game.rules G.shown G.move_shown text.now }
-    ensures not_held { IsErrOf result PlayError.NotHeld → PlaysNotHeld G.Game.rules G.shown G.move_shown tables.now text.now limit }
-    ensures held { IfOk result (λ _. PlaysNotHeld G.Game.rules G.shown G.move_shown tables.now text.now limit → ⊥) }
+) -> Result<Vec<u8>, AllocError>
+    ensures { IfOk result (λ v. IsLineJson G.Game.rules G.shown G.move_shown (G.shown start.now.position) limit v.items) }
 {
-    let play = best_play(alloc, tables, text, limit)?;
-    let line = &play.line;
-    match line_lines::<G>(
+    let line = best_line(alloc, start, limit)?;
+    line_lines::<G>(
         alloc,
-        play.start,
-        play.value,
+        start.position,
+        start.value(),
         line.moves.as_slice(),
         line.end,
-    ) {
-        Ok(lines) => Ok(lines),
-        Err(_) => Err(PlayError::OutOfMemory),
-    }
+    )
 }
 
 // The lines of best moves from a position of this value.
@@ -60,7 +48,8 @@ fn line_lines<G: Shown>(
     requires legal { G.Game.rules.is_legal start ≡ true }
     requires value { IsTrueValue G.Game.rules start value }
     requires best { AreBest G.Game.rules start moves.now }
-    ensures { IfOk result (λ v. v.items ≡ line_of (step_tree G.shown null start value) ++ steps_from G.Game.rules G.shown G.move_shown start value moves.now ++ end_line end) }
+    ensures { IfOk result (λ v. v.items ≡ line_of (step_tree G.shown null start value) ++ steps_from G.Game.rules G.shown G.move_shown start value moves.now
+        ++ end_line end) }
 {
     let mut lines = Vec::new(alloc);
     push_step::<G>(alloc, &mut lines, Json::Null, start, value)?;

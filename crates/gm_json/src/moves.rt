@@ -1,45 +1,42 @@
 //! What the moves of a position are worth, in JSON.
-ghost use Rattle.std.specs.Prelude.{◌≡◌, ◌↔◌, ◌++◌, true, false, codes, IfOk, OnOk, IsErrOf};
+ghost use Rattle.std.specs.Prelude.{◌≡◌, ◌++◌, true, false, codes, IfOk, OnOk};
 ghost use Rattle.std.specs.List.{All};
-ghost use Rattle.gm_game.specs.declared.position.Position.{Position};
 ghost use Rattle.serde_json.specs.Data.{Members};
 ghost use Rattle.serde_json.specs.Written.{compact_text, members_text};
-ghost use Rattle.gm_play.specs.PlayTexts.{IsMoveOf, IsNoPosition, IsReadAs};
-ghost use Rattle.gm_best.specs.Refusals.{AreNotHeld};
+ghost use Rattle.gm_play.specs.PlayTexts.{IsMoveOf};
 ghost use Rattle.gm_json.specs.Parts.{item_text, member_text};
 ghost use Rattle.gm_json.specs.Moves.{move_tree, move_trees, moves_tree, position_members, IsMovesJson};
 
 use crate::parts::{
     push_bytes, push_comma, push_key, push_number_member, push_text_member, push_value_member,
 };
-use gm_best::play_error::PlayError;
+use gm_best::known::Known;
 use gm_game::position::{Position, Solved};
 use gm_game::shown::Shown;
-use gm_play::by_text::{known_value, moves_at};
+use gm_play::firsts::moves_of;
 use gm_play::move_values::MoveValue;
-use gm_table::tables::Tables;
 use std::alloc::{AllocError, Global};
 
-/// The position with this text as one line of compact JSON, without its end: its value and remoteness, and its moves, the best first, each with what it is
-/// worth, its result, the result's value and remoteness, and the remoteness counted from before the move. Where `distinct` is set, of several moves that lead to
-/// one canonical position only the first is kept. Any bytes may be given.
+/// A position as one line of compact JSON, without its end: its value and remoteness, and its moves, the best first, each with what it is worth, its result,
+/// the result's value and remoteness, and the remoteness counted from before the move. Where `distinct` is set, of several moves that lead to one canonical
+/// position only the first is kept.
 pub fn moves_json<G: Shown>(
     alloc: Global,
-    tables: &Tables<G>,
-    text: &[u8],
+    known: &Known<'_, G>,
     distinct: bool,
-) -> Result<Vec<u8>, PlayError>
-    ensures text { IfOk result (λ line. IsMovesJson G.Game.rules G.shown G.move_shown distinct text.now line.items) }
-    ensures illegal { IsErrOf result PlayError.Illegal ↔ IsNoPosition G.Game.rules G.shown G.move_shown text.now }
-    ensures not_held { IsErrOf result PlayError.NotHeld ↔ ((p : Position) × IsReadAs G.Game.rules G.shown G.move_shown text.now p × AreNotHeld G.Game.rules tables.now p) }
+) -> Result<Vec<u8>, AllocError>
+    ensures { IfOk result (λ line. IsMovesJson G.Game.rules G.shown G.move_shown distinct (G.shown known.now.position) line.items) }
 {
-    let (p, list) = moves_at(tables, text, distinct)?;
-    let value = known_value(tables, p)?;
+    let list = moves_of(known, distinct);
     let mut line = Vec::new(alloc);
-    match push_position::<G>(alloc, &mut line, p, value, list.as_slice()) {
-        Ok(()) => Ok(line),
-        Err(_) => Err(PlayError::OutOfMemory),
-    }
+    push_position::<G>(
+        alloc,
+        &mut line,
+        known.position,
+        known.value(),
+        list.as_slice(),
+    )?;
+    Ok(line)
 }
 
 // Appends a legal position with some of its moves.
@@ -69,7 +66,8 @@ pub(crate) fn push_value<G: Shown>(
     value: Solved,
 ) -> Result<(), AllocError>
     requires { G.Game.rules.is_legal p ≡ true }
-    ensures { OnOk result ((more : Members) → out.new.items ++ members_text true more ≡ out.old.items ++ members_text later (position_members G.Game.rules G.shown G.move_shown p value more)) }
+    ensures { OnOk result ((more : Members) → out.new.items ++ members_text true more ≡ out.old.items ++ members_text later
+        (position_members G.Game.rules G.shown G.move_shown p value more)) }
 {
     push_text_member(alloc, out, later, "position", G::show(p).as_slice())?;
     push_value_member(out, true, "positionValue", value.value)?;

@@ -34,7 +34,8 @@ fresh_more old q fresh new i j d less inside same =
 pub earlier_one : (r : Rules) (p : Position) → ComesFromEarlier r (p ∷ [])
 earlier_one r p j d some inside = absurd (omega arith)
 
-pub earlier_more : (r : Rules) (old : List Position) (p q : Position) (m : ℕ) → ComesFromEarlier r old → Contains old p → Contains (r.moves p) m → r.play p m ≡ q → ComesFromEarlier r (old ++ q ∷ [])
+pub earlier_more : (r : Rules) (old : List Position) (p q : Position) (m : ℕ) → ComesFromEarlier r old → Contains old p → Contains (r.moves p) m → r.play p
+    m ≡ q → ComesFromEarlier r (old ++ q ∷ [])
 earlier_more r old p q m h has listed e j d some inside =
     let long = long_more old q in
     elim (cases_lt j (length old)) [
@@ -61,18 +62,21 @@ earlier_more r old p q m h has listed e j d some inside =
 
 module _ (limit : ℕ) where
   -- ---- a step
-  pub new_keeps : (P : List Position → Type 0) (old : List Position) (q : Position) → P old → ((Contains old q → ⊥) → length old < limit → P (old ++ q ∷ [])) → P (with_new limit old q)
+  pub new_keeps : (P : List Position → Type 0) (old : List Position) (q : Position) → P old →
+      ((Contains old q → ⊥) → length old < limit → P (old ++ q ∷ [])) → P (with_new limit old q)
   new_keeps P old q h step = elim (new_cases limit old q) [
     | inl a ↦ subst P (sym a.0) h
     | inr b ↦ subst P (sym b.0) (step b.1 b.2)
   ]
 
   -- what each step keeps, all of them keep
-  pub all_keep : (P : List Position → Type 0) (Q : Position → Type 0) → ((old : List Position) (q : Position) → Q q → P old → (Contains old q → ⊥) → length old < limit → P (old ++ q ∷ []))
+  pub all_keep : (P : List Position → Type 0) (Q : Position → Type 0) → ((old : List Position) (q : Position) → Q q → P old → (Contains old q → ⊥) → length
+      old < limit → P (old ++ q ∷ []))
       → (ps : List Position) → ((q : Position) → Contains ps q → Q q) → (old : List Position) → P old → P (with_all limit old ps)
   all_keep P Q step [] each old h = h
   all_keep P Q step (p ∷ ps) each old h =
-      all_keep P Q step ps (λ q c. each q (contains_later p q ps c)) (with_new limit old p) (new_keeps P old p h (λ absent room. step old p (each p (contains_first p ps)) h absent room))
+      all_keep P Q step ps (λ q c. each q (contains_later p q ps c)) (with_new limit old p)
+      (new_keeps P old p h (λ absent room. step old p (each p (contains_first p ps)) h absent room))
 
   -- one position more at the end
   pub with_push : (ps : List Position) (old : List Position) (p : Position) → with_all limit old (ps ++ p ∷ []) ≡ with_new limit (with_all limit old ps) p
@@ -109,7 +113,8 @@ module _ (limit : ℕ) where
   all_there (x ∷ xs) old q c = elim (contains_cases x q xs c) [
     | inl e ↦ elim (new_there old q) [
       | inl h ↦ inl (subst (λ (y : Position). Contains (with_all limit (with_new limit old y) xs) q) (sym e) (all_stays xs (with_new limit old q) q h))
-      | inr f ↦ inr (let b = all_longer xs (with_new limit old q) in subst (λ (y : Position). limit ≤ length (with_all limit (with_new limit old y) xs)) (sym e) (omega arith))
+      | inr f ↦ inr (let b = all_longer xs (with_new limit old q) in subst (λ (y : Position). limit ≤ length (with_all limit (with_new limit old y) xs))
+          (sym e) (omega arith))
     ]
     | inr d ↦ all_there xs (with_new limit old x) q d
   ]
@@ -130,7 +135,8 @@ module _ (limit : ℕ) where
 
   pub once_after : (r : Rules) (line : List Position) (k : ℕ) (all : List Position) → IsListedAfter r limit line k all → IsOnceEach all
   once_after r line zero all h = subst IsOnceEach (sym h) (once_all line [] once_none)
-  once_after r line (suc k) all (old, p, xs, before, here, values, e) = subst IsOnceEach (sym e) (once_all (map result_of xs) old (once_after r line k old before))
+  once_after r line (suc k) all (old, p, xs, before, here, values, e) = subst IsOnceEach (sym e)
+      (once_all (map result_of xs) old (once_after r line k old before))
 
   -- no more were gone through than there are
   pub gone_within : (r : Rules) (line : List Position) (k : ℕ) (all : List Position) → IsListedAfter r limit line k all → k ≤ length all
@@ -141,15 +147,18 @@ module _ (limit : ℕ) where
       subst (λ (l : List Position). suc k ≤ length l) (sym e) (omega arith)
 
   -- ---- a list that a loop adds to
-  pub all_next : (old ps : List Position) (i : ℕ) (d : Position) (cur new : List Position) → i < length ps → cur ≡ with_all limit old (take i ps) → new ≡ with_new limit cur (get_or ps i d)
+  pub all_next : (old ps : List Position) (i : ℕ) (d : Position) (cur new : List Position) → i < length ps → cur ≡ with_all limit old (take i ps) → new ≡
+      with_new limit cur (get_or ps i d)
       → new ≡ with_all limit old (take (i + 1) ps)
   all_next old ps i d cur new l e n =
-      n ∙ ap (λ (c : List Position). with_new limit c (get_or ps i d)) e ∙ sym (ap (with_all limit old) (take_more ps i d l) ∙ with_push (take i ps) old (get_or ps i d))
+      n ∙ ap (λ (c : List Position). with_new limit c (get_or ps i d)) e ∙ sym (ap (with_all limit old) (take_more ps i d l) ∙ with_push (take i ps) old
+      (get_or ps i d))
 
   pub all_done : (old ps : List Position) (i : ℕ) (cur : List Position) → length ps ≤ i → cur ≡ with_all limit old (take i ps) → cur ≡ with_all limit old ps
   all_done old ps i cur l e = e ∙ ap (with_all limit old) (take_all i ps l)
 
-  pub moves_next : (old : List Position) (xs : List MoveValue) (i : ℕ) (d : MoveValue) (cur new : List Position) → i < length xs → cur ≡ with_all limit old (map result_of (take i xs))
+  pub moves_next : (old : List Position) (xs : List MoveValue) (i : ℕ) (d : MoveValue) (cur new : List Position) → i < length xs → cur ≡ with_all limit old
+      (map result_of (take i xs))
       → new ≡ with_new limit cur (result_of (get_or xs i d)) → new ≡ with_all limit old (map result_of (take (i + 1) xs))
   moves_next old xs i d cur new l e n =
       n
@@ -158,5 +167,6 @@ module _ (limit : ℕ) where
       ∙ ap (with_all limit old) (map-append result_of (take i xs) (get_or xs i d ∷ []))
       ∙ with_push (map result_of (take i xs)) old (result_of (get_or xs i d)))
 
-  pub moves_done : (old : List Position) (xs : List MoveValue) (i : ℕ) (cur : List Position) → length xs ≤ i → cur ≡ with_all limit old (map result_of (take i xs)) → cur ≡ with_all limit old (map result_of xs)
+  pub moves_done : (old : List Position) (xs : List MoveValue) (i : ℕ) (cur : List Position) → length xs ≤ i → cur ≡ with_all limit old
+      (map result_of (take i xs)) → cur ≡ with_all limit old (map result_of xs)
   moves_done old xs i cur l e = e ∙ ap (λ (ys : List MoveValue). with_all limit old (map result_of ys)) (take_all i xs l)

@@ -1,5 +1,6 @@
 -- Places of positions in a list.
-use Rattle.std.proofs.Common.{◌≡◌, ℕ, ◌+◌, ◌<◌, ◌≤◌, Bool, true, false, cond, nat_eq, eqb-true, eq-eqb, leb, leb-true, le-leb, ◌↔◌, List, [], ◌∷◌, ◌++◌, length, Option, None, Some, is_some, refl, sym, ap, ◌∙◌, subst, ◌⊎◌, inl, inr, arith}
+use Rattle.std.proofs.Common.{◌≡◌, ℕ, ◌+◌, ◌<◌, ◌≤◌, Bool, true, false, cond, nat_eq, eqb-true, eq-eqb, leb, leb-true, le-leb, ◌↔◌, List, [], ◌∷◌, ◌++◌, length}
+use Rattle.std.proofs.Common.{Option, None, Some, is_some, refl, sym, ap, ◌∙◌, subst, ◌⊎◌, inl, inr, arith}
 use Rattle.std.specs.HashMap.{get, HashMap}
 use Rattle.std.specs.List.{Contains}
 use Rattle.std.proofs.lemmas.Bool.{cases_Bool, cond-true, cond-false, and_parts, and_from, false≢true}
@@ -55,7 +56,8 @@ place_added : (n : ℕ) (ps : List Position) (p : Position) → place_from n ps 
 place_added n [] p e = cond-true _ _ _ (same_self p) ∙ ap Some (let z : n ≡ n + 0 = omega arith in z)
 place_added n (q ∷ qs) p e = elim (cases_Bool (is_same p q)) [
   | inl f ↦ (let g : Some n ≡ None = sym (cond-true _ _ _ f) ∙ e in let z : ⊥ = cc in absurd z)
-  | inr f ↦ cond-false _ _ _ f ∙ place_added (n + 1) qs p (sym (cond-false _ _ _ f) ∙ e) ∙ ap Some (let z : n + 1 + length qs ≡ n + length (q ∷ qs) = omega arith in z)
+  | inr f ↦ cond-false _ _ _ f ∙ place_added (n + 1) qs p (sym (cond-false _ _ _ f) ∙ e) ∙ ap Some
+      (let z : n + 1 + length qs ≡ n + length (q ∷ qs) = omega arith in z)
 ]
 
 -- the place of any other stays
@@ -88,7 +90,8 @@ module _ {S : Type 0} where
   pub tells_more : (old new : HashMap (ℕ × ℕ) ℕ S) (ps : List Position) (p : Position) → Tells old ps → place_of ps p ≡ None
       → ((k : ℕ × ℕ) → get is_key new k ≡ cond (is_key (p.tier, p.index) k) (Some (length ps)) (get is_key old k)) → Tells new (ps ++ p ∷ [])
   tells_more old new ps p tells none updates k = elim (cases_Bool (is_key (p.tier, p.index) k)) [
-    | inl f ↦ updates k ∙ cond-true _ _ _ f ∙ sym (place_added 0 ps p none ∙ ap Some (let z : 0 + length ps ≡ length ps = omega arith in z)) ∙ ap (place_from 0 (ps ++ p ∷ [])) (sym (key_same p k f))
+    | inl f ↦ updates k ∙ cond-true _ _ _ f ∙ sym (place_added 0 ps p none ∙ ap Some (let z : 0 + length ps ≡ length ps = omega arith in z)) ∙ ap
+        (place_from 0 (ps ++ p ∷ [])) (sym (key_same p k f))
     | inr f ↦ updates k ∙ cond-false _ _ _ f ∙ tells k ∙ sym (place_kept 0 ps p (at k.0 k.1) (key_apart p k f))
   ]
 
@@ -103,7 +106,8 @@ not_le a b e = grind (arith, nat_tests)
 pub new_listed : (limit : ℕ) (old : List Position) (p : Position) (k : ℕ) → place_of old p ≡ Some k → with_new limit old p ≡ old
 new_listed limit old p k e = ap (added limit old p) e
 
-new_missing : (limit : ℕ) (old : List Position) (p : Position) → place_of old p ≡ None → with_new limit old p ≡ cond (leb limit (length old)) old (old ++ p ∷ [])
+new_missing : (limit : ℕ) (old : List Position) (p : Position) → place_of old p ≡ None → with_new limit old p ≡ cond (leb limit (length old)) old
+    (old ++ p ∷ [])
 new_missing limit old p e = ap (added limit old p) e
 
 pub new_full : (limit : ℕ) (old : List Position) (p : Position) → place_of old p ≡ None → limit ≤ length old → with_new limit old p ≡ old
@@ -116,7 +120,8 @@ new_room limit old p e l = elim (cases_Bool (leb limit (length old))) [
 ]
 
 pub new_cases : (limit : ℕ) (old : List Position) (p : Position)
-    → ((with_new limit old p ≡ old) × (Contains old p ⊎ (limit ≤ length old))) ⊎ ((with_new limit old p ≡ old ++ p ∷ []) × (Contains old p → ⊥) × (length old < limit))
+    → ((with_new limit old p ≡ old) × (Contains old p ⊎ (limit ≤ length old))) ⊎ ((with_new limit old p ≡ old ++ p ∷ []) × (Contains old p → ⊥) ×
+    (length old < limit))
 new_cases limit old p = elim (place_cases old p) [
   | inl h ↦ inl (new_listed limit old p h.0 h.1, inl h.2)
   | inr h ↦ elim (cases_Bool (leb limit (length old))) [

@@ -1,11 +1,7 @@
 -- What a listing has: what play from its start reaches, from earlier positions, and all of it where nothing is missing.
-use Rattle.std.proofs.Common.{◌≡◌, ℕ, zero, suc, ◌+◌, ◌-◌, ◌<◌, ◌≤◌, true, false, List, [], ◌∷◌, ◌++◌, map, length, get_or, slice_get, Some, Result, Ok, Err, ◌↔◌, refl, sym, ap, ◌∙◌, subst, ◌⊎◌, inl, inr, arith}
+use Rattle.std.proofs.Common.{◌≡◌, ℕ, zero, suc, ◌+◌, ◌-◌, ◌<◌, ◌≤◌, true, false, List, [], ◌∷◌, ◌++◌, map, length, get_or, slice_get, Some, Result, Ok, Err}
+use Rattle.std.proofs.Common.{◌↔◌, refl, sym, ap, ◌∙◌, subst, ◌⊎◌, inl, inr, arith}
 use Rattle.std.specs.List.{All, Contains}
-use Rattle.std.specs.Result.{IsErrAnd, IsErrOf, IfErr}
-use Rattle.std.proofs.lemmas.Bool.{false≢true}
-use Rattle.gm_table.specs.Tables.{TableData}
-use Rattle.gm_best.specs.declared.play_error.PlayError.{PlayError}
-use Rattle.gm_best.specs.declared.play_error.PlayError.TheVariants.{OutOfMemory, Illegal, NotHeld}
 use Rattle.std.proofs.lemmas.Bool.{cases_lt}
 use Rattle.std.proofs.lemmas.Option.{slice_get_within, get_or_from_slice_get, slice_get-get_or}
 use Rattle.std.proofs.lemmas.List.Elements.{All-contains, Contains-get_or, Contains-push_cases}
@@ -14,15 +10,18 @@ use Rattle.gm_game.specs.declared.position.Position.{Position}
 use Rattle.gm_game.specs.Laws.{IsGame}
 use Rattle.gm_game.specs.Rules.{Rules}
 use Rattle.gm_game.proofs.Lists.{contains_none, contains_first, contains_later, contains_cases, map_in, map_from}
+use Rattle.gm_best.specs.Reached.{IsReached}
+use Rattle.gm_best.proofs.Reaching.{own_reached, played_reached, reached_reached}
 use Rattle.gm_find.specs.Reaching.{IsPlay}
 use Rattle.gm_play.specs.declared.move_values.MoveValue.{MoveValue}
 use Rattle.gm_play.specs.declared.best_line.BestLine.{BestLine}
-use Rattle.gm_play.specs.BestLines.{AreBest, positions_along, AreFresh, IsBestLine, ComesToNotHeld}
+use Rattle.gm_play.specs.BestLines.{AreBest, positions_along, AreFresh, IsBestLine}
 use Rattle.gm_play.specs.Lines.{position_after}
 use Rattle.gm_play.specs.MoveValues.{IsMoveValue, AreMoveValues}
-use Rattle.gm_page.specs.Listings.{with_new, with_all, result_of, IsListedAfter, IsListing, IsReachedFrom, ComesFromEarlier, IsClosed, MayRefuse, MayRefuseAt}
+use Rattle.gm_page.specs.Listings.{with_new, with_all, result_of, IsListedAfter, IsListing, IsReachedFrom, ComesFromEarlier, IsClosed}
 use Rattle.gm_page.proofs.Places.{new_cases}
-use Rattle.gm_page.proofs.Growing.{earlier_one, earlier_more, new_keeps, new_there, new_stays, all_keep, all_stays, all_longer, all_there, once_after, gone_within}
+use Rattle.gm_page.proofs.Growing.{earlier_one, earlier_more, new_keeps, new_there, new_stays, all_keep, all_stays, all_longer, all_there, once_after}
+use Rattle.gm_page.proofs.Growing.{gone_within}
 
 module _ (r : Rules) where
   -- ---- lines of play
@@ -38,15 +37,20 @@ module _ (r : Rules) where
   reached_start start = ([], tt, refl)
 
   pub reached_more : (start p : Position) (m : ℕ) → IsReachedFrom r start p → Contains (r.moves p) m → IsReachedFrom r start (r.play p m)
-  reached_more start p m (ms, h, e) has =
-      (ms ++ m ∷ [], play_more start ms m h (subst (λ (q : Position). Contains (r.moves q) m) (sym e) has), after_more start ms m ∙ ap (λ (q : Position). r.play q m) e)
+  reached_more start p m (ms, h, e) has = (
+    ms ++ m ∷ [],
+    play_more start ms m h (subst (λ (q : Position). Contains (r.moves q) m) (sym e) has),
+    after_more start ms m ∙ ap
+        (λ (q : Position). r.play q m) e,
+  )
 
-  legal_after : IsGame r → (p : Position) (ms : List ℕ) → r.is_legal p ≡ true → IsPlay r p ms → r.is_legal (position_after r p ms) ≡ true
-  legal_after g p [] l h = l
-  legal_after g p (m ∷ ms) l h = legal_after g (r.play p m) ms (g.play_legal p m l h.0) h.1
+  comes_to : IsGame r → (p : Position) (ms : List ℕ) → r.is_legal p ≡ true → IsPlay r p ms → IsReached r p.tier (position_after r p ms)
+  comes_to g p [] l h = own_reached r p l
+  comes_to g p (m ∷ ms) l h = reached_reached r p.tier (r.play p m) (position_after r (r.play p m) ms) (played_reached r g p m l h.0)
+      (comes_to g (r.play p m) ms (g.play_legal p m l h.0) h.1)
 
-  pub reached_legal : IsGame r → (start p : Position) → r.is_legal start ≡ true → IsReachedFrom r start p → r.is_legal p ≡ true
-  reached_legal g start p l (ms, h, e) = subst (λ (q : Position). r.is_legal q ≡ true) e (legal_after g start ms l h)
+  pub reached_on : IsGame r → (start p : Position) → r.is_legal start ≡ true → IsReachedFrom r start p → IsReached r start.tier p
+  reached_on g start p l (ms, h, e) = subst (IsReached r start.tier) e (comes_to g start ms l h)
 
   -- best play is play
   pub best_is_play : (p : Position) (ms : List ℕ) → AreBest r p ms → IsPlay r p ms
@@ -54,11 +58,13 @@ module _ (r : Rules) where
   best_is_play p (m ∷ ms) h = (h.0.1.best.there, best_is_play (r.play p m) ms h.1)
 
   -- ---- the results of the moves of a position
-  pub result_is : (p : Position) (xs : List MoveValue) → AreMoveValues r p xs → (q : Position) → Contains (map result_of xs) q → (m : ℕ) × Contains (r.moves p) m × (r.play p m ≡ q)
+  pub result_is : (p : Position) (xs : List MoveValue) → AreMoveValues r p xs → (q : Position) → Contains (map result_of xs) q → (m : ℕ) × Contains
+      (r.moves p) m × (r.play p m ≡ q)
   result_is p xs h q c =
       let number : MoveValue → ℕ = λ (y : MoveValue). y.number in
       let (x, has, e) = map_in result_of xs q c in
-      let there : Contains (r.moves p) x.number = Contains-permutation (map number xs) (r.moves p) x.number (IsPermutation-sym (r.moves p) (map number xs) h.listed) (map_from number xs x has) in
+      let there : Contains (r.moves p) x.number = Contains-permutation (map number xs) (r.moves p) x.number
+      (IsPermutation-sym (r.moves p) (map number xs) h.listed) (map_from number xs x has) in
       (x.number, there, sym (value_at xs h.each x has).position ∙ e)
     where
       value_at : (xs : List MoveValue) → All (IsMoveValue r p) xs → (x : MoveValue) → Contains xs x → IsMoveValue r p x
@@ -88,18 +94,23 @@ module _ (r : Rules) where
     pub at_place : (old : List Position) (k : ℕ) (p : Position) → slice_get old k ≡ Some p → Contains old p
     at_place old k p e = (let l = slice_get_within old k p e in subst (Contains old) (get_or_from_slice_get old k p p e) (Contains-get_or old k p l))
 
-    pub reached_after : (ms : List ℕ) → IsPlay r start ms → (k : ℕ) (all : List Position) → IsListedAfter r limit (positions_along r start ms) k all → AreReached all
+    pub reached_after : (ms : List ℕ) → IsPlay r start ms → (k : ℕ) (all : List Position) → IsListedAfter r limit (positions_along r start ms) k all →
+        AreReached all
     reached_after ms h zero all e = subst AreReached (sym e)
-        (all_keep limit AreReached (IsReachedFrom r start) (λ old q g l absent room. reached_step old q g l) (positions_along r start ms) (along_reached start ms (reached_start start) h) [] (λ p c. absurd (contains_none p c)))
+        (all_keep limit AreReached (IsReachedFrom r start) (λ old q g l absent room. reached_step old q g l) (positions_along r start ms)
+        (along_reached start ms (reached_start start) h) [] (λ p c. absurd (contains_none p c)))
     reached_after ms h (suc k) all (old, p, xs, before, here, values, e) =
         let old_reached = reached_after ms h k old before in
         let own = old_reached p (at_place old k p here) in
-        let results : (q : Position) → Contains (map result_of xs) q → IsReachedFrom r start q = λ q c. (let (m, listed, same) = result_is p xs values q c in subst (IsReachedFrom r start) same (reached_more start p m own listed)) in
-        subst AreReached (sym e) (all_keep limit AreReached (IsReachedFrom r start) (λ l q g a absent room. reached_step l q g a) (map result_of xs) results old old_reached)
+        let results : (q : Position) → Contains (map result_of xs) q → IsReachedFrom r start q = λ q
+        c. (let (m, listed, same) = result_is p xs values q c in subst (IsReachedFrom r start) same (reached_more start p m own listed)) in
+        subst AreReached (sym e) (all_keep limit AreReached (IsReachedFrom r start) (λ l q g a absent room. reached_step l q g a) (map result_of xs) results
+        old old_reached)
 
     -- ---- each comes from an earlier one
     -- with a position that has earlier ones, or follows one
-    earlier_new : (old : List Position) (p q : Position) (m : ℕ) → ComesFromEarlier r old → Contains old p → Contains (r.moves p) m → r.play p m ≡ q → ComesFromEarlier r (with_new limit old q)
+    earlier_new : (old : List Position) (p q : Position) (m : ℕ) → ComesFromEarlier r old → Contains old p → Contains (r.moves p) m → r.play p m ≡ q →
+        ComesFromEarlier r (with_new limit old q)
     earlier_new old p q m h has listed e = new_keeps limit (ComesFromEarlier r) old q h (λ absent room. earlier_more r old p q m h has listed e)
 
     -- nothing is added to a full list
@@ -111,7 +122,8 @@ module _ (r : Rules) where
     full_all (x ∷ xs) old full = ap (λ (l : List Position). with_all limit l xs) (full_new old x full) ∙ full_all xs old full
 
     -- a line of play from a position that is listed now
-    earlier_along : (ms : List ℕ) (old : List Position) (q : Position) → IsPlay r q ms → ComesFromEarlier r (with_new limit old q) → ComesFromEarlier r (with_all limit old (positions_along r q ms))
+    earlier_along : (ms : List ℕ) (old : List Position) (q : Position) → IsPlay r q ms → ComesFromEarlier r (with_new limit old q) → ComesFromEarlier r
+        (with_all limit old (positions_along r q ms))
     earlier_along [] old q h k = k
     earlier_along (m ∷ ms) old q h k = elim (new_there limit old q) [
       | inl c ↦ earlier_along ms (with_new limit old q) (r.play q m) h.1 (earlier_new (with_new limit old q) q (r.play q m) m k c h.0 refl)
@@ -121,16 +133,19 @@ module _ (r : Rules) where
     earlier_first : (q : Position) → ComesFromEarlier r (with_new limit [] q)
     earlier_first q = new_keeps limit (ComesFromEarlier r) [] q (λ j d some inside. absurd (omega arith)) (λ absent room. earlier_one r q)
 
-    earlier_all : (ps old : List Position) (p : Position) → Contains old p → ((q : Position) → Contains ps q → (m : ℕ) × Contains (r.moves p) m × (r.play p m ≡ q)) → ComesFromEarlier r old → ComesFromEarlier r (with_all limit old ps)
+    earlier_all : (ps old : List Position) (p : Position) → Contains old p → ((q : Position) → Contains ps q → (m : ℕ) × Contains (r.moves p) m ×
+        (r.play p m ≡ q)) → ComesFromEarlier r old → ComesFromEarlier r (with_all limit old ps)
     earlier_all [] old p has each h = h
     earlier_all (x ∷ xs) old p has each h =
         let (m, listed, e) = each x (contains_first x xs) in
         earlier_all xs (with_new limit old x) p (new_stays limit old x p has) (λ q c. each q (contains_later x q xs c)) (earlier_new old p x m h has listed e)
 
-    pub earlier_after : (ms : List ℕ) → IsPlay r start ms → (k : ℕ) (all : List Position) → IsListedAfter r limit (positions_along r start ms) k all → ComesFromEarlier r all
+    pub earlier_after : (ms : List ℕ) → IsPlay r start ms → (k : ℕ) (all : List Position) → IsListedAfter r limit (positions_along r start ms) k all →
+        ComesFromEarlier r all
     earlier_after ms h zero all e = subst (ComesFromEarlier r) (sym e) (earlier_along ms [] start h (earlier_first start))
     earlier_after ms h (suc k) all (old, p, xs, before, here, values, e) =
-        subst (ComesFromEarlier r) (sym e) (earlier_all (map result_of xs) old p (at_place old k p here) (result_is p xs values) (earlier_after ms h k old before))
+        subst (ComesFromEarlier r) (sym e) (earlier_all (map result_of xs) old p (at_place old k p here) (result_is p xs values)
+        (earlier_after ms h k old before))
 
     -- ---- the start is first
     first_new : (old : List Position) (q : Position) → slice_get old 0 ≡ Some start → slice_get (with_new limit old q) 0 ≡ Some start
@@ -154,9 +169,11 @@ module _ (r : Rules) where
     along_first some [] = first_one some
     along_first some (m ∷ ms) = first_all (positions_along r (r.play start m) ms) (with_new limit [] start) (first_one some)
 
-    pub first_after : 1 ≤ limit → (ms : List ℕ) (k : ℕ) (all : List Position) → IsListedAfter r limit (positions_along r start ms) k all → slice_get all 0 ≡ Some start
+    pub first_after : 1 ≤ limit → (ms : List ℕ) (k : ℕ) (all : List Position) → IsListedAfter r limit (positions_along r start ms) k all → slice_get all 0 ≡
+        Some start
     first_after some ms zero all e = ap (λ (l : List Position). slice_get l 0) e ∙ along_first some ms
-    first_after some ms (suc k) all (old, p, xs, before, here, values, e) = ap (λ (l : List Position). slice_get l 0) e ∙ first_all (map result_of xs) old (first_after some ms k old before)
+    first_after some ms (suc k) all (old, p, xs, before, here, values, e) = ap (λ (l : List Position). slice_get l 0) e ∙ first_all (map result_of xs) old
+        (first_after some ms k old before)
 
     -- ---- nothing is missing, or the list is full
     -- of the first k positions each result is listed, or the list is full
@@ -164,20 +181,24 @@ module _ (r : Rules) where
         → (i : ℕ) (p : Position) (m : ℕ) → i < k → slice_get all i ≡ Some p → Contains (r.moves p) m → Contains all (r.play p m) ⊎ (limit ≤ length all)
     missing_after line zero all e i p m below here listed = absurd (omega arith)
     missing_after line (suc k) all (old, q, xs, before, there, values, e) i p m below here listed =
-        let kept : (l : List Position) (j : ℕ) (x : Position) → slice_get old j ≡ Some x → slice_get (with_all limit old (map result_of xs)) j ≡ Some x = λ l j x h. place_stays (map result_of xs) old j x h in
+        let kept : (l : List Position) (j : ℕ) (x : Position) → slice_get old j ≡ Some x → slice_get (with_all limit old (map result_of xs)) j ≡ Some x =
+        λ l j x h. place_stays (map result_of xs) old j x h in
         elim (cases_lt i k) [
           | inl lower ↦ (
               let within : i < length old = (let a = slice_get_within old k q there in omega arith) in
               let own : slice_get old i ≡ Some (get_or old i p) = slice_get-get_or old i p within in
-              let same : get_or old i p ≡ p = (let f : Some (get_or old i p) ≡ Some p = sym (kept old i (get_or old i p) own) ∙ ap (λ (l : List Position). slice_get l i) (sym e) ∙ here in cc) in
+              let same : get_or old i p ≡ p = (let f : Some (get_or old i p) ≡ Some p = sym (kept old i (get_or old i p) own) ∙ ap
+              (λ (l : List Position). slice_get l i) (sym e) ∙ here in cc) in
               elim (missing_after line k old before i p m lower (own ∙ ap Some same) listed) [
                 | inl c ↦ inl (subst (λ (l : List Position). Contains l (r.play p m)) (sym e) (all_stays limit (map result_of xs) old (r.play p m) c))
                 | inr f ↦ inr (let b = all_longer limit (map result_of xs) old in subst (λ (l : List Position). limit ≤ length l) (sym e) (omega arith))
               ])
           | inr at_k ↦ (
               let i_is : i ≡ k = omega arith in
-              let same : q ≡ p = (let f : Some q ≡ Some p = sym (kept old k q there) ∙ ap (λ (l : List Position). slice_get l k) (sym e) ∙ ap (slice_get all) (sym i_is) ∙ here in cc) in
-              let result : Contains (map result_of xs) (r.play p m) = subst (λ (x : Position). Contains (r.moves x) m → Contains (map result_of xs) (r.play x m)) same (result_there q xs values m) listed in
+              let same : q ≡ p = (let f : Some q ≡ Some p = sym (kept old k q there) ∙ ap (λ (l : List Position). slice_get l k) (sym e) ∙ ap
+              (slice_get all) (sym i_is) ∙ here in cc) in
+              let result : Contains (map result_of xs) (r.play p m) = subst (λ (x : Position). Contains (r.moves x) m → Contains (map result_of xs)
+              (r.play x m)) same (result_there q xs values m) listed in
               elim (all_there limit (map result_of xs) old (r.play p m) result) [
                 | inl c ↦ inl (subst (λ (l : List Position). Contains l (r.play p m)) (sym e) c)
                 | inr f ↦ inr (subst (λ (l : List Position). limit ≤ length l) (sym e) f)
@@ -211,7 +232,8 @@ IsGoneThrough r start limit k all = (line : BestLine) × IsBestLine r start (lim
 
 module _ (r : Rules) (start : Position) (limit : ℕ) where
   -- nothing was gone through at first
-  pub none_through : (all : List Position) → ((line : BestLine) × IsBestLine r start (limit - 1) line × (all ≡ with_all limit [] line.positions.items)) → IsGoneThrough r start limit 0 all
+  pub none_through : (all : List Position) → ((line : BestLine) × IsBestLine r start (limit - 1) line × (all ≡ with_all limit [] line.positions.items)) →
+      IsGoneThrough r start limit 0 all
   none_through all h = h
 
   -- one position more was
@@ -229,7 +251,11 @@ module _ (r : Rules) (start : Position) (limit : ℕ) where
 
   line_is_play : (line : BestLine) → IsBestLine r start (limit - 1) line → (k : ℕ) (all : List Position) → IsListedAfter r limit line.positions.items k all
       → IsPlay r start line.moves.items × IsListedAfter r limit (positions_along r start line.moves.items) k all
-  line_is_play line best k all h = (best_is_play r start line.moves.items best.best, subst (λ (ps : List Position). IsListedAfter r limit ps k all) best.positions h)
+  line_is_play line best k all h = (
+    best_is_play r start line.moves.items best.best,
+    subst (λ (ps : List Position). IsListedAfter r limit ps k all)
+        best.positions h,
+  )
 
   -- play reaches each of them
   pub through_reached : (k : ℕ) (all : List Position) → IsGoneThrough r start limit k all → (p : Position) → Contains all p → IsReachedFrom r start p
@@ -260,15 +286,17 @@ module _ (r : Rules) (start : Position) (limit : ℕ) where
   listing_earlier all h =
       let w = line_is_play h.line h.is_best (length all) all h.gone_through in earlier_after r start limit h.line.moves.items w.0 (length all) all w.1
 
-  pub listing_whole : 1 ≤ limit → (all : List Position) → IsListing r start limit all → IsClosed r all → (p : Position) → IsReachedFrom r start p → Contains all p
+  pub listing_whole : 1 ≤ limit → (all : List Position) → IsListing r start limit all → IsClosed r all → (p : Position) → IsReachedFrom r start p → Contains
+      all p
   listing_whole some all h closed = closed_has r start limit all closed (listing_first some all h)
 
   -- a list that isn't full is closed
   pub listing_closed : (all : List Position) → IsListing r start limit all → length all < limit → IsClosed r all
-  listing_closed all h room p m (k, inside, e) listed = elim (missing_after r start limit h.line.positions.items (length all) all h.gone_through k p m inside (place_is all k p inside e) listed) [
-    | inl c ↦ c
-    | inr f ↦ absurd (omega arith)
-  ]
+  listing_closed all h room p m (k, inside, e) listed = elim (missing_after r start limit h.line.positions.items (length all) all h.gone_through k p m
+      inside (place_is all k p inside e) listed) [
+        | inl c ↦ c
+        | inr f ↦ absurd (omega arith)
+      ]
     where
       place_is : (xs : List Position) (k : ℕ) (p : Position) → k < length xs → get_or xs k p ≡ p → slice_get xs k ≡ Some p
       place_is xs k p l e = slice_get-get_or xs k p l ∙ ap Some e
@@ -278,26 +306,6 @@ module _ (r : Rules) (start : Position) (limit : ℕ) where
     | inl room ↦ absurd (open_ (listing_closed all h room))
     | inr full ↦ (let few = listing_few all h in omega arith)
   ]
-
--- why there is no line of best play
-pub line_refused : (r : Rules) (entries : List TableData) (start : Position) (limit : ℕ) (e : PlayError) {T : Type 0} → r.is_legal start ≡ true
-    → (IsErrOf {T = T} {E = PlayError} (Err e) Illegal ↔ (r.is_legal start ≡ false)) → (IsErrOf {T = T} {E = PlayError} (Err e) NotHeld → ComesToNotHeld r entries start limit)
-    → MayRefuse r entries start e
-line_refused r entries start limit OutOfMemory legal illegal held = tt
-line_refused r entries start limit Illegal legal illegal held = let z : r.is_legal start ≡ false = illegal.0 refl in false≢true (sym z ∙ legal)
-line_refused r entries start limit NotHeld legal illegal held =
-    let (ms, few, best, fresh, not) = held refl in (position_after r start ms, (ms, best_is_play r start ms best, refl), not)
-
--- why the results of a position that is reached may not be listed
-pub results_refused : (r : Rules) (entries : List TableData) (start p : Position) (e : PlayError) → IsReachedFrom r start p → MayRefuseAt r entries p e → MayRefuse r entries start e
-results_refused r entries start p OutOfMemory reached h = tt
-results_refused r entries start p Illegal reached h = h
-results_refused r entries start p NotHeld reached h = (p, reached, h)
-
--- an error that is passed on is what it was
-pub passed : {T E : Type 0} → (r : Result T E) (Q : E → Type 0) (e : E) → IsErrAnd r (λ y. y ≡ e) → Q e → IfErr r Q
-passed (Ok x) Q e h q = tt
-passed (Err y) Q e h q = subst Q (sym h) q
 
 -- one position more leaves one fewer to go through
 pub fewer_left : (k n limit : ℕ) → k < n → n ≤ limit → limit - (k + 1) < limit - k

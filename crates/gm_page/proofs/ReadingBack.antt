@@ -1,5 +1,6 @@
 -- Lines of a page are read as the trees that they are written for.
-use Rattle.std.proofs.Common.{◌≡◌, ℕ, ◌<◌, ◌≤◌, ◌^◌, Bool, true, false, cond, List, [], ◌∷◌, ◌++◌, Some, option_and_then, decimal, refl, sym, ap, ap₂, ◌∙◌, subst, arith, append_assoc, append-nil}
+use Rattle.std.proofs.Common.{◌≡◌, ℕ, ◌<◌, ◌≤◌, ◌^◌, Bool, true, false, cond, List, [], ◌∷◌, ◌++◌, Some, option_and_then, decimal, refl, sym, ap, ap₂, ◌∙◌}
+use Rattle.std.proofs.Common.{subst, arith, append_assoc, append-nil}
 use Rattle.std.specs.Char.{digit_value}
 use Rattle.std.specs.Prelude.{⊤}
 use Rattle.std.specs.Str.Parse.{AllDigits}
@@ -18,7 +19,8 @@ use Rattle.json.proofs.Printed.Numbers.{in_word-ended, lex-number}
 use Rattle.json.proofs.Printed.Strings.{content-escape, lex-escape}
 use Rattle.json.proofs.Printed.Tokens.{tokens-print}
 use Rattle.json.proofs.Printed.Trees.{ArePrintable-json_tokens, value-json_tokens}
-use Rattle.serde_json.specs.Data.{unsigned, negative, float, Data, null, boolean, number, string, array, object, Items, no_items, item, Members, no_members, member}
+use Rattle.serde_json.specs.Data.{unsigned, negative, float, Data, null, boolean, number, string, array, object, Items, no_items, item, Members, no_members}
+use Rattle.serde_json.specs.Data.{member}
 use Rattle.serde_json.specs.Read.{read, of_json, max_depth}
 use Rattle.serde_json.specs.Written.{compact_text, items_text, members_text, comma_if, outline, items_outline, members_outline}
 use Rattle.serde_json.proofs.Texts.{print-outline}
@@ -65,8 +67,10 @@ record Alike (r s : List ℕ) : Type 0 where
 lex_string : (x r s : List ℕ) → Alike r s → lex between (script (quoted x) ++ r) ≡ lex between (quoted x ++ s)
 unfolding lex
 lex_string x r s h =
-    let mine = ap (λ l. lex between (34 ∷ l)) (script_two (escape x) (34 ∷ []) r) ∙ ap₂ (λ o l. token (string_token o) ∷ l) (content-script x r) (lex-script x r) in
-    let plain = ap (λ l. lex between (34 ∷ l)) (append_assoc (escape x) (34 ∷ []) s) ∙ ap₂ (λ o l. token (string_token o) ∷ l) (content-escape x s) (lex-escape x s) in
+    let mine = ap (λ l. lex between (34 ∷ l)) (script_two (escape x) (34 ∷ []) r) ∙ ap₂ (λ o l. token (string_token o) ∷ l) (content-script x r)
+    (lex-script x r) in
+    let plain = ap (λ l. lex between (34 ∷ l)) (append_assoc (escape x) (34 ∷ []) s) ∙ ap₂ (λ o l. token (string_token o) ∷ l) (content-escape x s)
+    (lex-escape x s) in
     mine ∙ ap (λ l. token (Token.string x) ∷ l) h.lexed ∙ sym plain
 
 lex_key : (x r s : List ℕ) → lex between r ≡ lex between s → lex between (script (quoted x) ++ 58 ∷ r) ≡ lex between (quoted x ++ 58 ∷ s)
@@ -98,9 +102,11 @@ mutual
   lex_value null r s small h =
       ap₂ (λ b l. token (cond b Token.null Token.bad) ∷ l) (h.ends ∙ sym h.other_ends) (in_word-ended r h.ends ∙ h.lexed ∙ sym (in_word-ended s h.other_ends))
   lex_value (boolean true) r s small h =
-      ap₂ (λ b l. token (cond b (Token.boolean true) Token.bad) ∷ l) (h.ends ∙ sym h.other_ends) (in_word-ended r h.ends ∙ h.lexed ∙ sym (in_word-ended s h.other_ends))
+      ap₂ (λ b l. token (cond b (Token.boolean true) Token.bad) ∷ l) (h.ends ∙ sym h.other_ends)
+      (in_word-ended r h.ends ∙ h.lexed ∙ sym (in_word-ended s h.other_ends))
   lex_value (boolean false) r s small h =
-      ap₂ (λ b l. token (cond b (Token.boolean false) Token.bad) ∷ l) (h.ends ∙ sym h.other_ends) (in_word-ended r h.ends ∙ h.lexed ∙ sym (in_word-ended s h.other_ends))
+      ap₂ (λ b l. token (cond b (Token.boolean false) Token.bad) ∷ l) (h.ends ∙ sym h.other_ends)
+      (in_word-ended r h.ends ∙ h.lexed ∙ sym (in_word-ended s h.other_ends))
   lex_value (number (unsigned n)) r s small h = lex_number n r s small h
   lex_value (number (negative z)) r s small h = absurd small
   lex_value (number (float x)) r s small h = absurd small
@@ -108,18 +114,22 @@ mutual
   lex_value (array ds) r s small h = ap (λ l. token Token.begin_array ∷ l) (lex_items false ds r s small h.lexed)
   lex_value (object ms) r s small h = ap (λ l. token Token.begin_object ∷ l) (lex_members false ms r s small h.lexed)
 
-  lex_items : (later : Bool) (ds : Items) (r s : List ℕ) → AreSmall ds → lex between r ≡ lex between s → lex between (script (items_text later ds) ++ r) ≡ lex between (items_text later ds ++ s)
+  lex_items : (later : Bool) (ds : Items) (r s : List ℕ) → AreSmall ds → lex between r ≡ lex between s → lex between (script (items_text later ds) ++ r) ≡
+      lex between (items_text later ds ++ s)
   lex_items later no_items r s small h = ap (λ l. token Token.end_array ∷ l) h
   lex_items later (item d ds) r s small h =
       let a = script (items_text true ds) ++ r in
       let b = items_text true ds ++ s in
       let rest = lex_items true ds r s small.1 h in
       let alike : Alike a b = record { ends = (items_end ds r).0; other_ends = (items_end ds s).1; lexed = rest } in
-      ap (lex between) (script_two (comma_if later) (compact_text d ++ items_text true ds) r ∙ ap (λ l. script (comma_if later) ++ l) (script_two (compact_text d) (items_text true ds) r))
+      ap (lex between) (script_two (comma_if later) (compact_text d ++ items_text true ds) r ∙ ap (λ l. script (comma_if later) ++ l)
+      (script_two (compact_text d) (items_text true ds) r))
       ∙ lex_comma later (script (compact_text d) ++ a) (compact_text d ++ b) (lex_value d a b small.0 alike)
-      ∙ ap (lex between) (sym (append_assoc (comma_if later) (compact_text d ++ items_text true ds) s ∙ ap (λ l. comma_if later ++ l) (append_assoc (compact_text d) (items_text true ds) s)))
+      ∙ ap (lex between) (sym (append_assoc (comma_if later) (compact_text d ++ items_text true ds) s ∙ ap (λ l. comma_if later ++ l)
+      (append_assoc (compact_text d) (items_text true ds) s)))
 
-  lex_members : (later : Bool) (ms : Members) (r s : List ℕ) → HasSmall ms → lex between r ≡ lex between s → lex between (script (members_text later ms) ++ r) ≡ lex between (members_text later ms ++ s)
+  lex_members : (later : Bool) (ms : Members) (r s : List ℕ) → HasSmall ms → lex between r ≡ lex between s → lex between
+      (script (members_text later ms) ++ r) ≡ lex between (members_text later ms ++ s)
   lex_members later no_members r s small h = ap (λ l. token Token.end_object ∷ l) h
   lex_members later (member k d ms) r s small h =
       let a = script (members_text true ms) ++ r in
@@ -128,17 +138,21 @@ mutual
       let value = compact_text d ++ members_text true ms in
       let alike : Alike a b = record { ends = (members_end ms r).0; other_ends = (members_end ms s).1; lexed = rest } in
       ap (lex between) (script_two (comma_if later) (quoted k ++ 58 ∷ value) r
-      ∙ ap (λ l. script (comma_if later) ++ l) (script_two (quoted k) (58 ∷ value) r ∙ ap (λ l. script (quoted k) ++ 58 ∷ l) (script_two (compact_text d) (members_text true ms) r)))
-      ∙ lex_comma later (script (quoted k) ++ 58 ∷ (script (compact_text d) ++ a)) (quoted k ++ 58 ∷ (compact_text d ++ b)) (lex_key k (script (compact_text d) ++ a) (compact_text d ++ b) (lex_value d a b small.0 alike))
+      ∙ ap (λ l. script (comma_if later) ++ l) (script_two (quoted k) (58 ∷ value) r ∙ ap (λ l. script (quoted k) ++ 58 ∷ l)
+      (script_two (compact_text d) (members_text true ms) r)))
+      ∙ lex_comma later (script (quoted k) ++ 58 ∷ (script (compact_text d) ++ a)) (quoted k ++ 58 ∷ (compact_text d ++ b))
+      (lex_key k (script (compact_text d) ++ a) (compact_text d ++ b) (lex_value d a b small.0 alike))
       ∙ ap (lex between) (sym (append_assoc (comma_if later) (quoted k ++ 58 ∷ value) s
-      ∙ ap (λ l. comma_if later ++ l) (append_assoc (quoted k) (58 ∷ value) s ∙ ap (λ l. quoted k ++ 58 ∷ l) (append_assoc (compact_text d) (members_text true ms) s))))
+      ∙ ap (λ l. comma_if later ++ l) (append_assoc (quoted k) (58 ∷ value) s ∙ ap (λ l. quoted k ++ 58 ∷ l)
+      (append_assoc (compact_text d) (members_text true ms) s))))
 
 -- a line has the tokens of its tree's text
 lex_line : (d : Data) → IsSmall d → lex between (script_line d) ≡ lex between (compact_text d)
 unfolding lex script_text
 lex_line d small =
     let alike : Alike (10 ∷ []) [] = record { ends = refl; other_ends = refl; lexed = refl } in
-    ap (lex between) (flat_map-append script_byte (compact_text d) (10 ∷ [])) ∙ lex_value d (10 ∷ []) [] small alike ∙ ap (lex between) (append-nil (compact_text d))
+    ap (lex between) (flat_map-append script_byte (compact_text d) (10 ∷ [])) ∙ lex_value d (10 ∷ []) [] small alike ∙ ap (lex between)
+    (append-nil (compact_text d))
 
 -- ---- the tree
 mutual
@@ -163,5 +177,7 @@ mutual
 pub read_line : (d : Data) → IsSmall d → tree.depth (outline d) ≤ max_depth → of_json (outline d) ≡ Some d → read (script_line d) ≡ Some d
 read_line d small shallow same =
     let ts = json_tokens (outline d) in
-    let is : tokens (script_line d) ≡ ts ++ [] = ap (punctuate fresh) (lex_line d small) ∙ ap tokens (sym (print-outline d)) ∙ tokens-print ts (ArePrintable-json_tokens (outline d) (numbers d small)) ∙ sym (append-nil ts) in
-    ap (λ o. option_and_then of_json (option_and_then (λ p. json.if_last p.0 p.1) o)) (ap (json.value max_depth) is ∙ value-json_tokens (outline d) max_depth [] shallow) ∙ same
+    let is : tokens (script_line d) ≡ ts ++ [] = ap (punctuate fresh) (lex_line d small) ∙ ap tokens (sym (print-outline d)) ∙ tokens-print ts
+    (ArePrintable-json_tokens (outline d) (numbers d small)) ∙ sym (append-nil ts) in
+    ap (λ o. option_and_then of_json (option_and_then (λ p. json.if_last p.0 p.1) o))
+    (ap (json.value max_depth) is ∙ value-json_tokens (outline d) max_depth [] shallow) ∙ same

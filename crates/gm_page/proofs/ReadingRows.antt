@@ -1,5 +1,6 @@
 -- The rows of a page, and its first line, are read as their trees.
-use Rattle.std.proofs.Common.{◌≡◌, ℕ, suc, ◌+◌, ◌<◌, ◌≤◌, ◌^◌, Bool, List, [], ◌∷◌, ◌++◌, length, map, Option, None, Some, option_map, refl, sym, ap, ◌∙◌, arith, inl, inr}
+use Rattle.std.proofs.Common.{◌≡◌, ℕ, suc, ◌+◌, ◌<◌, ◌≤◌, ◌^◌, Bool, List, [], ◌∷◌, ◌++◌, length, map, Option, None, Some, option_map, refl, sym, ap, ◌∙◌}
+use Rattle.std.proofs.Common.{arith, inl, inr}
 use Rattle.std.specs.List.{flat_map}
 use Rattle.std.specs.Option.{unwrap_or}
 use Rattle.std.proofs.lemmas.Bool.{cases_Bool, cond-true, cond-false}
@@ -47,7 +48,12 @@ items_shallow n [] h = omega arith
 items_shallow n (d ∷ ds) h = let a = h.0.shallow in let b = items_shallow n ds h.1 in omega arith
 
 pub reads_array : (n : ℕ) (ds : List Data) → AllRead n ds → Reads (suc n) (array (items_of ds))
-reads_array n ds h = record { small = items_small n ds h; same = ap (option_map array) (items_same n ds h); shallow = let a = items_shallow n ds h in omega arith }
+reads_array n ds h = record {
+  small = items_small n ds h;
+  same = ap (option_map array) (items_same n ds h);
+  shallow = let a = items_shallow n ds h in omega
+      arith;
+}
 
 pub reads_text : (n : ℕ) (bs : List ℕ) → Reads n (text bs)
 reads_text n bs = record { small = tt; same = refl; shallow = omega arith }
@@ -80,7 +86,8 @@ module _ (shown : Position → List ℕ) (move_shown : Position → ℕ → List
   groups_read p [] = tt
   groups_read p (g ∷ gs) = (reads_array 0 (group_cells shown move_shown all p g) (reads_text 0 _, moves_read p g.moves), groups_read p gs)
 
-  pub row_read : (p : Position) (s : Solved) (gs : List Group) → read (script_line (row_tree shown move_shown all p s gs)) ≡ Some (row_tree shown move_shown all p s gs)
+  pub row_read : (p : Position) (s : Solved) (gs : List Group) → read (script_line (row_tree shown move_shown all p s gs)) ≡ Some
+      (row_tree shown move_shown all p s gs)
   row_read p s gs =
       let d = row_tree shown move_shown all p s gs in
       let is : Reads 2 d = reads_array 1 (row_cells shown move_shown all p s gs) (reads_text 1 _, (reads_text 1 _, groups_read p gs)) in

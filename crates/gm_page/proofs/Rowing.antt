@@ -1,7 +1,8 @@
 -- Rows: moves in groups, one group after the other, and rows one by one.
-use Rattle.std.proofs.Common.{◌≡◌, ℕ, zero, suc, ◌+◌, ◌<◌, ◌≤◌, Bool, false, List, [], ◌∷◌, ◌++◌, length, map, take, drop, get_or, slice_get, Option, None, Some, refl, sym, ap, subst, ◌∙◌, arith}
+use Rattle.std.proofs.Common.{◌≡◌, ℕ, zero, suc, ◌+◌, ◌<◌, ◌≤◌, Bool, false, List, [], ◌∷◌, ◌++◌, length, map, take, drop, get_or, slice_get, Option, None}
+use Rattle.std.proofs.Common.{Some, refl, sym, ap, subst, ◌∙◌, arith}
 use Rattle.std.specs.List.{All, Contains, flat_map}
-use Rattle.std.specs.Prelude.{IfSome, IfErr, IsErrOf, Result, unwrap_or}
+use Rattle.std.specs.Prelude.{IfSome, unwrap_or}
 use Rattle.std.proofs.lemmas.Bool.{or_parts}
 use Rattle.std.proofs.lemmas.Grind.{flat_map-append}
 use Rattle.std.proofs.lemmas.List.{append_assoc, append-nil, map-append, take_more, take_all, take-append-drop}
@@ -11,14 +12,11 @@ use Rattle.serde_json.specs.Written.{has_float, items_have_float}
 use Rattle.gm_game.specs.declared.position.Position.{Position}
 use Rattle.gm_game.specs.declared.position.Solved.{Solved}
 use Rattle.gm_game.specs.Rules.{Rules}
-use Rattle.gm_table.specs.Tables.{TableData}
-use Rattle.gm_best.specs.declared.play_error.PlayError.{PlayError}
-use Rattle.gm_best.specs.declared.play_error.PlayError.TheVariants.{OutOfMemory, Illegal, NotHeld}
 use Rattle.gm_play.specs.declared.move_values.MoveValue.{MoveValue}
 use Rattle.gm_json.specs.Words.{text}
 use Rattle.gm_draw.specs.declared.pictured.Style.{Style}
 use Rattle.gm_page.specs.Heads.{head_tree}
-use Rattle.gm_page.specs.Listings.{place_of, IsReachedFrom, MayRefuse, MayRefuseAt, MayRefuseAny}
+use Rattle.gm_page.specs.Listings.{place_of}
 use Rattle.gm_page.specs.Rows.{Group, IsRun, AreGroups, AreRows, IsRow, place_cells, move_cells, group_tree, row_tree}
 
 -- ---- groups
@@ -33,11 +31,13 @@ module _ (tree : Group → Data) (moves : List MoveValue) (old : List Data) wher
   none_grouped = record { done = []; cells = sym (append-nil old); goes = λ gs h. h }
 
   -- one group more
-  pub more_grouped : (g : Group) (rest others : List MoveValue) (now new : List Data) → IsGrouped tree moves rest old now → rest ≡ g.moves ++ others → IsRun g others → new ≡ now ++ tree g ∷ []
+  pub more_grouped : (g : Group) (rest others : List MoveValue) (now new : List Data) → IsGrouped tree moves rest old now → rest ≡ g.moves ++ others → IsRun
+      g others → new ≡ now ++ tree g ∷ []
       → IsGrouped tree moves others old new
   more_grouped g rest others now new h e run n = record {
     done = h.done ++ g ∷ [];
-    cells = n ∙ ap (λ (l : List Data). l ++ tree g ∷ []) h.cells ∙ append_assoc old (map tree h.done) (tree g ∷ []) ∙ ap (λ (l : List Data). old ++ l) (sym (map-append tree h.done (g ∷ [])));
+    cells = n ∙ ap (λ (l : List Data). l ++ tree g ∷ []) h.cells ∙ append_assoc old (map tree h.done) (tree g ∷ []) ∙ ap (λ (l : List Data). old ++ l)
+        (sym (map-append tree h.done (g ∷ [])));
     goes = λ gs k. subst (AreGroups moves) (sym (append_assoc h.done (g ∷ []) gs)) (h.goes (g ∷ gs) (others, e, run, k));
   }
 
@@ -50,7 +50,12 @@ module _ (tree : Group → Data) (moves : List MoveValue) (old : List Data) wher
 pub is_run : (worth : Solved) (rest : List MoveValue) (n : ℕ) (x : MoveValue) → slice_get rest 0 ≡ Some x → x.worth ≡ worth → n ≤ length rest
     → All (λ (y : MoveValue). y.worth ≡ worth) (take n rest) → IfSome (slice_get rest n) (λ (y : MoveValue). y.worth ≡ worth → ⊥)
     → IsRun (record { worth = worth; moves = take n rest }) (drop n rest)
-is_run worth rest n x first e within same ends = record { some = some_moves rest n first ends within; same = same; ends = subst (λ (o : Option MoveValue). IfSome o (λ (y : MoveValue). y.worth ≡ worth → ⊥)) (sym (first_after rest n)) ends }
+is_run worth rest n x first e within same ends = record {
+  some = some_moves rest n first ends within;
+  same = same;
+  ends = subst
+      (λ (o : Option MoveValue). IfSome o (λ (y : MoveValue). y.worth ≡ worth → ⊥)) (sym (first_after rest n)) ends;
+}
   where
     first_after : (xs : List MoveValue) (k : ℕ) → slice_get (drop k xs) 0 ≡ slice_get xs k
     first_after xs zero = refl
@@ -60,17 +65,21 @@ is_run worth rest n x first e within same ends = record { some = some_moves rest
     same_move : (y : MoveValue) → Some y ≡ Some x → y ≡ x
     same_move y f = ap (λ (o : Option MoveValue). unwrap_or o y) f
 
-    some_moves : (xs : List MoveValue) (k : ℕ) → slice_get xs 0 ≡ Some x → IfSome (slice_get xs k) (λ (y : MoveValue). y.worth ≡ worth → ⊥) → k ≤ length xs → 0 < length (take k xs)
+    some_moves : (xs : List MoveValue) (k : ℕ) → slice_get xs 0 ≡ Some x → IfSome (slice_get xs k) (λ (y : MoveValue). y.worth ≡ worth → ⊥) → k ≤ length xs
+        → 0 < length (take k xs)
     some_moves [] k f last l = let z : ⊥ = cc in absurd z
     some_moves (y ∷ ys) zero f last l = absurd (last (ap (λ (z : MoveValue). z.worth) (same_move y f) ∙ e))
     some_moves (y ∷ ys) (suc k) f last l = omega arith
 
 -- the next run, where a list is split
-pub next_grouped : (tree : Group → Data) (moves rest : List MoveValue) (old now new : List Data) (x : MoveValue) (n : ℕ) (run others : List MoveValue) → IsGrouped tree moves rest old now
-    → Some x ≡ slice_get rest 0 → n ≤ length rest → All (λ (y : MoveValue). y.worth ≡ x.worth) (take n rest) → IfSome (slice_get rest n) (λ (y : MoveValue). y.worth ≡ x.worth → ⊥)
+pub next_grouped : (tree : Group → Data) (moves rest : List MoveValue) (old now new : List Data) (x : MoveValue) (n : ℕ) (run others : List MoveValue) →
+    IsGrouped tree moves rest old now
+    → Some x ≡ slice_get rest 0 → n ≤ length rest → All (λ (y : MoveValue). y.worth ≡ x.worth) (take n rest) → IfSome (slice_get rest n)
+    (λ (y : MoveValue). y.worth ≡ x.worth → ⊥)
     → run ≡ take n rest → others ≡ drop n rest → new ≡ now ++ tree (record { worth = x.worth; moves = run }) ∷ [] → IsGrouped tree moves others old new
 next_grouped tree moves rest old now new x n run others h first within same ends front back e =
-    let more = more_grouped tree moves old (record { worth = x.worth; moves = take n rest }) rest (drop n rest) now new h (sym (take-append-drop n rest)) (is_run x.worth rest n x (sym first) refl within same ends)
+    let more = more_grouped tree moves old (record { worth = x.worth; moves = take n rest }) rest (drop n rest) now new h (sym (take-append-drop n rest))
+    (is_run x.worth rest n x (sym first) refl within same ends)
     (subst (λ (ms : List MoveValue). new ≡ now ++ tree (record { worth = x.worth; moves = ms }) ∷ []) front e) in
     subst (λ (os : List MoveValue). IsGrouped tree moves os old new) (sym back) more
 
@@ -81,7 +90,8 @@ none_first (x ∷ xs) e = let z : ⊥ = cc in absurd z
 
 -- ---- trees without floats
 module _ (shown : Position → List ℕ) (move_shown : Position → ℕ → List ℕ) (all : List Position) where
-  two_without : (ds es : List Data) → items_have_float (items_of ds) ≡ false → items_have_float (items_of es) ≡ false → items_have_float (items_of (ds ++ es)) ≡ false
+  two_without : (ds es : List Data) → items_have_float (items_of ds) ≡ false → items_have_float (items_of es) ≡ false → items_have_float
+      (items_of (ds ++ es)) ≡ false
   two_without [] es h k = k
   two_without (d ∷ ds) es h k = let parts = or_parts (has_float d) _ h in rw parts.0 (two_without ds es parts.1 k)
 
@@ -91,7 +101,8 @@ module _ (shown : Position → List ℕ) (move_shown : Position → ℕ → List
 
   moves_without : (p : Position) (xs : List MoveValue) → items_have_float (items_of (flat_map (move_cells shown move_shown all p) xs)) ≡ false
   moves_without p [] = refl
-  moves_without p (x ∷ xs) = two_without (place_cells (place_of all x.position)) (flat_map (move_cells shown move_shown all p) xs) (place_without (place_of all x.position)) (moves_without p xs)
+  moves_without p (x ∷ xs) = two_without (place_cells (place_of all x.position)) (flat_map (move_cells shown move_shown all p) xs)
+      (place_without (place_of all x.position)) (moves_without p xs)
 
   groups_without : (p : Position) (gs : List Group) → items_have_float (items_of (map (group_tree shown move_shown all p) gs)) ≡ false
   groups_without p [] = refl
@@ -104,42 +115,29 @@ texts_without : (ts : List (List ℕ)) → items_have_float (items_of (map text 
 texts_without [] = refl
 texts_without (t ∷ ts) = texts_without ts
 
-pub head_without : (name : List ℕ) (style : Style) (title board : List ℕ) (points : List (List ℕ)) (naming : List ℕ) (whole : Bool) → has_float (head_tree name style title board points naming whole) ≡ false
+pub head_without : (name : List ℕ) (style : Style) (title board : List ℕ) (points : List (List ℕ)) (naming : List ℕ) (whole : Bool) → has_float
+    (head_tree name style title board points naming whole) ≡ false
 head_without name style title board points naming whole = rw (texts_without points) refl
-
--- ---- refusals
--- why one of some positions is refused
-pub one_refused : (r : Rules) (entries : List TableData) (all : List Position) (p : Position) (e : PlayError) → Contains all p → MayRefuseAt r entries p e → MayRefuseAny r entries all e
-one_refused r entries all p OutOfMemory c h = tt
-one_refused r entries all p Illegal c h = h
-one_refused r entries all p NotHeld c h = (p, c, h)
-
--- why some positions that play reaches are
-pub all_refused : (r : Rules) (entries : List TableData) (start : Position) (all : List Position) (e : PlayError) → ((p : Position) → Contains all p → IsReachedFrom r start p) → MayRefuseAny r entries all e
-    → MayRefuse r entries start e
-all_refused r entries start all OutOfMemory reached h = tt
-all_refused r entries start all Illegal reached h = h
-all_refused r entries start all NotHeld reached (p, c, none) = (p, reached p c, none)
-
--- what is known of an error
-pub error_is : {T : Type 0} (res : Result T PlayError) (Q : PlayError → Type 0) (e : PlayError) → IsErrOf res e → IfErr res Q → Q e
-error_is res Q e is h = subst (λ x. IfErr x Q) is h
 
 -- ---- one thing after the other
 -- the trees of some things, and of one thing more
-pub trees_more : {X : Type 0} (cells : X → List Data) (xs : List X) (i : ℕ) (d : X) (base old new : List Data) → i < length xs → old ≡ base ++ flat_map cells (take i xs)
+pub trees_more : {X : Type 0} (cells : X → List Data) (xs : List X) (i : ℕ) (d : X) (base old new : List Data) → i < length xs → old ≡ base ++ flat_map
+    cells (take i xs)
     → new ≡ old ++ cells (get_or xs i d) → new ≡ base ++ flat_map cells (take (i + 1) xs)
 trees_more {X} cells xs i d base old new l o n =
     let x = get_or xs i d in
-    let more : flat_map cells (take (i + 1) xs) ≡ flat_map cells (take i xs) ++ cells x = ap (flat_map cells) (take_more xs i d l) ∙ flat_map-append cells (take i xs) (x ∷ []) ∙ ap (λ (t : List Data). flat_map cells (take i xs) ++ t) (append-nil (cells x)) in
+    let more : flat_map cells (take (i + 1) xs) ≡ flat_map cells (take i xs) ++ cells x = ap (flat_map cells) (take_more xs i d l) ∙ flat_map-append cells
+    (take i xs) (x ∷ []) ∙ ap (λ (t : List Data). flat_map cells (take i xs) ++ t) (append-nil (cells x)) in
     n ∙ ap (λ (t : List Data). t ++ cells x) o ∙ append_assoc base (flat_map cells (take i xs)) (cells x) ∙ ap (λ (t : List Data). base ++ t) (sym more)
 
-pub trees_all : {X : Type 0} (cells : X → List Data) (xs : List X) (i : ℕ) (base old : List Data) → length xs ≤ i → old ≡ base ++ flat_map cells (take i xs) → old ≡ base ++ flat_map cells xs
+pub trees_all : {X : Type 0} (cells : X → List Data) (xs : List X) (i : ℕ) (base old : List Data) → length xs ≤ i → old ≡ base ++ flat_map cells (take i xs)
+    → old ≡ base ++ flat_map cells xs
 trees_all cells xs i base old l o = o ∙ ap (λ t. base ++ flat_map cells t) (take_all i xs l)
 
 -- ---- rows
 module _ (r : Rules) (shown : Position → List ℕ) (move_shown : Position → ℕ → List ℕ) (all : List Position) where
-  two_rows : (ps qs : List Position) (ds es : List Data) → AreRows r shown move_shown all ps ds → AreRows r shown move_shown all qs es → AreRows r shown move_shown all (ps ++ qs) (ds ++ es)
+  two_rows : (ps qs : List Position) (ds es : List Data) → AreRows r shown move_shown all ps ds → AreRows r shown move_shown all qs es → AreRows r shown
+      move_shown all (ps ++ qs) (ds ++ es)
   two_rows [] qs [] es h k = k
   two_rows [] qs (d ∷ ds) es h k = absurd h
   two_rows (p ∷ ps) qs [] es h k = absurd h
@@ -158,9 +156,11 @@ module _ (r : Rules) (shown : Position → List ℕ) (move_shown : Position → 
       → ((tree : Data) × IsRow r shown move_shown all (get_or ps i d) tree × (new ≡ now ++ line tree)) → HasRows line (take (i + 1) ps) old new
   more_rows line ps i d old now new l h (tree, is, n) = record {
     rows = h.rows ++ tree ∷ [];
-    are_rows = subst (λ (qs : List Position). AreRows r shown move_shown all qs (h.rows ++ tree ∷ [])) (sym (take_more ps i d l)) (two_rows (take i ps) (get_or ps i d ∷ []) h.rows (tree ∷ []) h.are_rows (is, tt));
+    are_rows = subst (λ (qs : List Position). AreRows r shown move_shown all qs (h.rows ++ tree ∷ [])) (sym (take_more ps i d l))
+        (two_rows (take i ps) (get_or ps i d ∷ []) h.rows (tree ∷ []) h.are_rows (is, tt));
     lines = n ∙ ap (λ (t : List ℕ). t ++ line tree) h.lines ∙ append_assoc old (flat_map line h.rows) (line tree)
-        ∙ ap (λ (t : List ℕ). old ++ t) (ap (λ (t : List ℕ). flat_map line h.rows ++ t) (sym (append-nil (line tree))) ∙ sym (flat_map-append line h.rows (tree ∷ [])));
+        ∙ ap (λ (t : List ℕ). old ++ t) (ap (λ (t : List ℕ). flat_map line h.rows ++ t) (sym (append-nil (line tree))) ∙ sym
+        (flat_map-append line h.rows (tree ∷ [])));
   }
 
   pub all_rows : (line : Data → List ℕ) (ps : List Position) (i : ℕ) (old now : List ℕ) → length ps ≤ i → HasRows line (take i ps) old now

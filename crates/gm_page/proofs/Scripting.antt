@@ -26,13 +26,15 @@ unfolding script_text
 text_opens_none xs = bytes_open_none xs
 
 -- one byte more of a text, and all of them
-pub script_next : (xs : List ℕ) (i : ℕ) (base cur new : List ℕ) → i < length xs → cur ≡ base ++ flat_map script_byte (take i xs) → new ≡ cur ++ script_byte (get_or xs i 0)
+pub script_next : (xs : List ℕ) (i : ℕ) (base cur new : List ℕ) → i < length xs → cur ≡ base ++ flat_map script_byte (take i xs) → new ≡ cur ++ script_byte
+    (get_or xs i 0)
     → new ≡ base ++ flat_map script_byte (take (i + 1) xs)
 script_next xs i base cur new l e n =
     let x = get_or xs i 0 in
     let f : ℕ → List ℕ = script_byte in
     let one : flat_map f (x ∷ []) ≡ f x = append-nil (f x) in
-    let more : flat_map f (take (i + 1) xs) ≡ flat_map f (take i xs) ++ f x = ap (flat_map f) (take_more xs i 0 l) ∙ flat_map-append f (take i xs) (x ∷ []) ∙ ap (λ (t : List ℕ). flat_map f (take i xs) ++ t) one in
+    let more : flat_map f (take (i + 1) xs) ≡ flat_map f (take i xs) ++ f x = ap (flat_map f) (take_more xs i 0 l) ∙ flat_map-append f (take i xs) (x ∷ [])
+    ∙ ap (λ (t : List ℕ). flat_map f (take i xs) ++ t) one in
     n ∙ ap (λ (t : List ℕ). t ++ f x) e ∙ append_assoc base (flat_map f (take i xs)) (f x) ∙ ap (λ (t : List ℕ). base ++ t) (sym more)
 
 pub script_all : (xs : List ℕ) (i : ℕ) (base cur : List ℕ) → length xs ≤ i → cur ≡ base ++ flat_map script_byte (take i xs) → cur ≡ base ++ script_text xs
@@ -41,8 +43,10 @@ script_all xs i base cur l e = e ∙ ap (λ (t : List ℕ). base ++ flat_map scr
 
 -- no byte of some lines does
 pub lines_open_none : (head : Data) (rows : List Data) → list_all opens_none (script_lines head rows) ≡ true
-lines_open_none head rows = list_all-append opens_none (script_line head) (flat_map script_line rows) ∙ and_from _ _ (text_opens_none (line_of head)) (each_opens_none rows)
+lines_open_none head rows = list_all-append opens_none (script_line head) (flat_map script_line rows) ∙ and_from _ _ (text_opens_none (line_of head))
+    (each_opens_none rows)
   where
     each_opens_none : (ds : List Data) → list_all opens_none (flat_map script_line ds) ≡ true
     each_opens_none [] = refl
-    each_opens_none (d ∷ ds) = list_all-append opens_none (script_line d) (flat_map script_line ds) ∙ and_from _ _ (text_opens_none (line_of d)) (each_opens_none ds)
+    each_opens_none (d ∷ ds) = list_all-append opens_none (script_line d) (flat_map script_line ds) ∙ and_from _ _ (text_opens_none (line_of d))
+        (each_opens_none ds)

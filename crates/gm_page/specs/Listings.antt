@@ -1,13 +1,10 @@
 -- The positions of a page: those of best play, and then those that play reaches, the near ones first.
-use Rattle.std.specs.Prelude.{◌≡◌, ℕ, zero, suc, ◌+◌, ◌-◌, ◌<◌, Bool, ◌&&◌, nat_eq, nat_le, List, [], ◌∷◌, ◌++◌, map, length, take, get_or, slice_get, if◌then◌else◌, Option, None, Some, is_some}
+use Rattle.std.specs.Prelude.{◌≡◌, ℕ, zero, suc, ◌+◌, ◌-◌, ◌<◌, Bool, ◌&&◌, nat_eq, nat_le, List, [], ◌∷◌, ◌++◌, map, length, take, get_or, slice_get}
+use Rattle.std.specs.Prelude.{if◌then◌else◌, Option, None, Some, is_some}
 use Rattle.std.specs.HashMap.{get, HashMap}
 use Rattle.std.specs.List.{Contains}
 use Rattle.gm_game.specs.declared.position.Position.{Position}
 use Rattle.gm_game.specs.Rules.{Rules, at}
-use Rattle.gm_table.specs.Tables.{TableData}
-use Rattle.gm_best.specs.declared.play_error.PlayError.{PlayError}
-use Rattle.gm_best.specs.declared.play_error.PlayError.TheVariants.{OutOfMemory, Illegal, NotHeld}
-use Rattle.gm_best.specs.Refusals.{AreNotHeld}
 use Rattle.gm_find.specs.Reaching.{IsPlay}
 use Rattle.gm_play.specs.declared.best_line.BestLine.{BestLine}
 use Rattle.gm_play.specs.declared.move_values.MoveValue.{MoveValue}
@@ -78,21 +75,3 @@ ComesFromEarlier r all = (j : ℕ) (d : Position) → 0 < j → j < length all
 -- each result of a move of a listed position is listed
 abbrev pub IsClosed : Rules → List Position → Type 0
 IsClosed r all = (p : Position) (m : ℕ) → Contains all p → Contains (r.moves p) m → Contains all (r.play p m)
-
--- why there may be no listing: memory, or a position that play reaches whose tier, or one of its child tiers, has no table
-abbrev pub MayRefuse : Rules → List TableData → Position → PlayError → Type 0
-MayRefuse r entries start OutOfMemory = Unit {0}
-MayRefuse r entries start Illegal = ⊥
-MayRefuse r entries start NotHeld = (p : Position) × IsReachedFrom r start p × AreNotHeld r entries p
-
--- why the results of the moves of a position may not be listed
-abbrev pub MayRefuseAt : Rules → List TableData → Position → PlayError → Type 0
-MayRefuseAt r entries p OutOfMemory = Unit {0}
-MayRefuseAt r entries p Illegal = ⊥
-MayRefuseAt r entries p NotHeld = AreNotHeld r entries p
-
--- why what is told of these positions may be refused
-abbrev pub MayRefuseAny : Rules → List TableData → List Position → PlayError → Type 0
-MayRefuseAny r entries all OutOfMemory = Unit {0}
-MayRefuseAny r entries all Illegal = ⊥
-MayRefuseAny r entries all NotHeld = (p : Position) × Contains all p × AreNotHeld r entries p

@@ -4,13 +4,11 @@ use Rattle.std.specs.List.{flat_map}
 use Rattle.serde_json.specs.Data.{Data}
 use Rattle.gm_game.specs.declared.position.Position.{Position}
 use Rattle.gm_game.specs.Rules.{Rules}
-use Rattle.gm_table.specs.Tables.{TableData}
-use Rattle.gm_best.specs.Refusals.{AreNotHeld}
 use Rattle.gm_play.specs.PlayTexts.{IsReadAs}
 use Rattle.gm_draw.specs.declared.pictured.Style.{Style}
 use Rattle.gm_page.specs.declared.front.TheConstants.{FRONT}
 use Rattle.gm_page.specs.declared.back.TheConstants.{BACK}
-use Rattle.gm_page.specs.Listings.{IsClosed, IsListing, IsReachedFrom}
+use Rattle.gm_page.specs.Listings.{IsClosed, IsListing}
 use Rattle.gm_page.specs.Heads.{head_tree}
 use Rattle.gm_page.specs.Rows.{AreRows}
 use Rattle.gm_page.specs.Scripts.{script_line}
@@ -23,7 +21,8 @@ script_lines head rows = script_line head ++ flat_map script_line rows
 unfoldable pub with_viewer : List ℕ → List ℕ
 with_viewer lines = FRONT.now ++ lines ++ BACK.now
 
-module _ (r : Rules) (shown : Position → List ℕ) (move_shown : Position → ℕ → List ℕ) (style : Style) (title board : List ℕ) (points : List (List ℕ)) (naming : List ℕ) where
+module _ (r : Rules) (shown : Position → List ℕ) (move_shown : Position → ℕ → List ℕ) (style : Style) (title board : List ℕ) (points : List (List ℕ))
+    (naming : List ℕ) where
   -- the page of these positions: a line that tells of the game, and whether each result of a move is among them; and then their rows
   pub record IsListedPage (all : List Position) (out : List ℕ) : Type 0 where
     pub whole : Bool
@@ -39,8 +38,3 @@ module _ (r : Rules) (shown : Position → List ℕ) (move_shown : Position → 
     pub all : List Position
     pub listing : IsListing r start limit all
     pub lines : IsListedPage all out
-
--- a position that play from the one with this text reaches, whose tier, or one of its child tiers, has no table
-abbrev pub PageNotHeld : Rules → (Position → List ℕ) → (Position → ℕ → List ℕ) → List TableData → List ℕ → Type 0
-PageNotHeld r shown move_shown entries asked =
-    (start : Position) × IsReadAs r shown move_shown asked start × (p : Position) × IsReachedFrom r start p × AreNotHeld r entries p

@@ -1,5 +1,5 @@
 //! The positions of a page.
-ghost use Rattle.std.specs.Prelude.{◌≡◌, ◌≤◌, ◌-◌, ◌↔◌, ◌++◌, ◌∷◌, ℕ, [], List, true, length, map, IsTrue, IfOk, OnOk, IfErr, slice_get, Some, None};
+ghost use Rattle.std.specs.Prelude.{◌≡◌, ◌≤◌, ◌-◌, ◌↔◌, ◌++◌, ◌∷◌, ℕ, [], List, true, length, map, IsTrue, IfOk, OnOk, slice_get, Some, None};
 ghost use Rattle.std.specs.HashMap.{get};
 ghost use Rattle.std.specs.List.{All, Contains};
 ghost use Rattle.gm_game.specs.declared.position.Position.{Position};
@@ -7,14 +7,13 @@ ghost use Rattle.gm_play.specs.declared.best_line.BestLine.{BestLine};
 ghost use Rattle.gm_play.specs.declared.move_values.MoveValue.{MoveValue};
 ghost use Rattle.gm_play.specs.BestLines.{AreFresh, IsBestLine};
 ghost use Rattle.gm_play.specs.MoveValues.{AreMoveValues};
-ghost use Rattle.gm_page.specs.Listings.{place_of, with_new, with_all, result_of, Tells, IsListing, IsReachedFrom, ComesFromEarlier, IsClosed, MayRefuse, MayRefuseAt, is_key};
+ghost use Rattle.gm_page.specs.Listings.{place_of, with_new, with_all, result_of, Tells, IsListing, IsReachedFrom, ComesFromEarlier, IsClosed, is_key};
 
-use gm_best::play_error::PlayError;
+use gm_best::known::Known;
 use gm_game::game::{Game, laws};
 use gm_game::position::Position;
 use gm_play::best_line::best_line;
 use gm_play::move_values::{MoveValue, move_values};
-use gm_table::tables::Tables;
 use std::alloc::{AllocError, Global};
 use std::collections::HashMap;
 use std::marker::Model;
@@ -25,7 +24,7 @@ pub struct Listing {
     places: HashMap<(u64, u64), usize>,
 }
 
-// Let go by one call, so that a proof follows one value and not each field.
+// Dropped in one call, so that the prover tracks one value instead of every field.
 impl Drop for Listing {
     fn drop(self) {
         let Listing {
@@ -70,24 +69,19 @@ impl Listing {
     }
 }
 
-/// The listing of a legal position: the positions of the line of best play from it, each once; and then, going through this very list from its first position
-/// on, the results of the moves of each, the best first, each where it isn't listed yet; at most `limit`. Positions are as played, and not canonical.
-///
-/// `Illegal` never comes; `NotHeld` comes only where the tier of some position that play from the start reaches, or one of its child tiers, has no table.
+/// The listing of a position: the positions of the line of best play from it, each once; and then, going through this very list from its first position on, the
+/// results of the moves of each, the best first, each where it isn't listed yet; at most `limit`. Positions are as played, and not canonical.
 pub fn listing_of<G: Game>(
     alloc: Global,
-    tables: &Tables<G>,
-    start: Position,
+    start: &Known<'_, G>,
     limit: usize,
-) -> Result<Listing, PlayError>
-    requires legal { G.rules.is_legal start ≡ true }
-    requires some { 1 ≤ limit }
-    ensures listing { IfOk result (IsListing G.rules start limit) }
-    ensures refused { IfErr result (MayRefuse G.rules tables.now start) }
+) -> Result<Listing, AllocError>
+    requires { 1 ≤ limit }
+    ensures { IfOk result (IsListing G.rules start.now.position limit) }
 {
     let mut positions = Vec::new(alloc);
     let mut places = HashMap::new(alloc);
-    match fill(alloc, tables, start, limit, &mut positions, &mut places) {
+    match fill(alloc, start, limit, &mut positions, &mut places) {
         Ok(()) => Ok(Listing { positions, places }),
         Err(error) => {
             drop(positions);
@@ -100,26 +94,23 @@ pub fn listing_of<G: Game>(
 // Lists them all, from empty lists.
 fn fill<G: Game>(
     alloc: Global,
-    tables: &Tables<G>,
-    start: Position,
+    start: &Known<'_, G>,
     limit: usize,
     positions: &mut Vec<Position>,
     places: &mut HashMap<(u64, u64), usize>,
-) -> Result<(), PlayError>
-    requires legal { G.rules.is_legal start ≡ true }
+) -> Result<(), AllocError>
     requires some { 1 ≤ limit }
     requires empty { positions.old.items ≡ [] }
     requires places { Tells places.old positions.old.items }
-    ensures listing { OnOk result (IsListing G.rules start limit positions.new.items) }
+    ensures listing { OnOk result (IsListing G.rules start.now.position limit positions.new.items) }
     ensures places { OnOk result (Tells places.new positions.new.items) }
-    ensures refused { IfErr result (MayRefuse G.rules tables.now start) }
 {
     laws::<G>();
-    list_line(alloc, tables, start, limit, positions, places)?;
+    list_line(alloc, start, limit, positions, places)?;
     let mut next = 0;
     while next < positions.len() {
         let p = positions[next];
-        list_results(tables, p, limit, positions, places)?;
+        list_results(&start.at(p), limit, positions, places)?;
         next += 1;
     }
     Ok(())
@@ -128,31 +119,22 @@ fn fill<G: Game>(
 // Lists the positions of the line of best play, in empty lists.
 fn list_line<G: Game>(
     alloc: Global,
-    tables: &Tables<G>,
-    start: Position,
+    start: &Known<'_, G>,
     limit: usize,
     positions: &mut Vec<Position>,
     places: &mut HashMap<(u64, u64), usize>,
-) -> Result<(), PlayError>
-    requires legal { G.rules.is_legal start ≡ true }
+) -> Result<(), AllocError>
     requires some { 1 ≤ limit }
     requires empty { positions.old.items ≡ [] }
     requires places { Tells places.old positions.old.items }
-    ensures line { OnOk result ((line : BestLine) × IsBestLine G.rules start (limit - 1) line
+    ensures line { OnOk result ((line : BestLine) × IsBestLine G.rules start.now.position (limit - 1) line
         × (positions.new.items ≡ with_all limit [] line.positions.items)) }
     ensures places { OnOk result (Tells places.new positions.new.items) }
-    ensures refused { IfErr result (MayRefuse G.rules tables.now start) }
 {
-    let line = match best_line(alloc, tables, start, limit - 1) {
-        Ok(line) => line,
-        Err(error) => return Err(error),
-    };
+    let line = best_line(alloc, start, limit - 1)?;
     let listed = list_all(line.positions.as_slice(), limit, positions, places);
     drop(line);
-    match listed {
-        Ok(()) => Ok(()),
-        Err(_) => Err(PlayError::OutOfMemory),
-    }
+    listed
 }
 
 // Lists each of some positions that isn't listed yet, up to the limit.
@@ -174,27 +156,18 @@ fn list_all(
 
 // Lists the results of the moves of a position.
 fn list_results<G: Game>(
-    tables: &Tables<G>,
-    p: Position,
+    known: &Known<'_, G>,
     limit: usize,
     positions: &mut Vec<Position>,
     places: &mut HashMap<(u64, u64), usize>,
-) -> Result<(), PlayError>
-    requires legal { G.rules.is_legal p ≡ true }
-    requires places { Tells places.old positions.old.items }
-    ensures listed { OnOk result ((xs : List MoveValue) × AreMoveValues G.rules p xs
+) -> Result<(), AllocError>
+    requires { Tells places.old positions.old.items }
+    ensures listed { OnOk result ((xs : List MoveValue) × AreMoveValues G.rules known.now.position xs
         × (positions.new.items ≡ with_all limit positions.old.items (map result_of xs))) }
     ensures places { OnOk result (Tells places.new positions.new.items) }
-    ensures refused { IfErr result (MayRefuseAt G.rules tables.now p) }
 {
-    let list = match move_values(tables, p) {
-        Ok(list) => list,
-        Err(_) => return Err(PlayError::NotHeld),
-    };
-    match list_moves(list.as_slice(), limit, positions, places) {
-        Ok(()) => Ok(()),
-        Err(_) => Err(PlayError::OutOfMemory),
-    }
+    let list = move_values(known);
+    list_moves(list.as_slice(), limit, positions, places)
 }
 
 // Lists each result of some moves that isn't listed yet, up to the limit.
@@ -310,8 +283,8 @@ pub fn each_once<G: Game>(start: Position, limit: usize, list: &[Position])
     ensures few { length list.now ≤ limit }
 {}
 
-/// Has no effect; its contract states that play from the start reaches each position of a listing, and that each but the first, which is the start, is the result
-/// of a move of an earlier one.
+/// Has no effect; its contract states that play from the start reaches each position of a listing, and that each but the first, which is the start, is the
+/// result of a move of an earlier one.
 pub fn each_reached<G: Game>(start: Position, limit: usize, list: &[Position])
     requires some { 1 ≤ limit }
     requires listing { IsListing G.rules start limit list.now }

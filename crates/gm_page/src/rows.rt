@@ -1,66 +1,54 @@
 //! The rows of a page: each tells of one position.
-ghost use Rattle.std.specs.Prelude.{◌≡◌, ◌≤◌, ◌++◌, [], true, List, length, map, take, slice_get, IfOk, OnOk, IfErr, IfSome};
+ghost use Rattle.std.specs.Prelude.{◌≡◌, ◌≤◌, ◌++◌, [], true, List, length, map, take, slice_get, IfOk, OnOk, IfSome};
 ghost use Rattle.std.specs.List.{All, flat_map};
 ghost use Rattle.serde_json.specs.Data.{Data};
 ghost use Rattle.serde_json.specs.View.{view};
+ghost use Rattle.gm_best.specs.Reached.{IsReached};
 ghost use Rattle.gm_play.specs.declared.move_values.MoveValue.{MoveValue};
 ghost use Rattle.gm_play.specs.PlayTexts.{IsMoveOf};
-ghost use Rattle.gm_page.specs.Listings.{MayRefuseAt, MayRefuseAny};
 ghost use Rattle.gm_page.specs.Rows.{Group, AreGroups, AreRows, IsRow, move_cells, group_tree, row_tree};
 ghost use Rattle.gm_page.specs.Scripts.{script_line};
 
 use crate::listing::Listing;
 use crate::words::{push_script_line, text_value};
-use gm_best::play_error::PlayError;
+use gm_best::known::Known;
 use gm_game::position::{Position, Solved};
 use gm_game::shown::Shown;
 use gm_game::text::value_text;
-use gm_play::by_text::known_value;
 use gm_play::move_values::{MoveValue, move_values};
-use gm_table::tables::Tables;
 use serde_json::{Value as Json, push};
 use std::alloc::{AllocError, Global};
 
 /// Appends the rows of the listed positions, in their order.
 pub(crate) fn push_rows<G: Shown>(
     alloc: Global,
-    tables: &Tables<G>,
+    start: &Known<'_, G>,
     list: &Listing,
     page: &mut Vec<u8>,
-) -> Result<(), PlayError>
-    requires { All (λ p. G.Game.rules.is_legal p ≡ true) list.now }
-    ensures rows { OnOk result ((rows : List Data) × AreRows G.Game.rules G.shown G.move_shown list.now list.now rows
+) -> Result<(), AllocError>
+    requires { All (IsReached G.Game.rules start.now.position.tier) list.now }
+    ensures { OnOk result ((rows : List Data) × AreRows G.Game.rules G.shown G.move_shown list.now list.now rows
         × (page.new.items ≡ page.old.items ++ flat_map script_line rows)) }
-    ensures refused { IfErr result (MayRefuseAny G.Game.rules tables.now list.now) }
 {
     for p in list.positions() {
-        push_row(alloc, tables, list, *p, page)?;
+        push_row(alloc, &start.at(*p), list, page)?;
     }
     Ok(())
 }
 
-// Appends the row of a legal position.
+// Appends the row of a position.
 fn push_row<G: Shown>(
     alloc: Global,
-    tables: &Tables<G>,
+    known: &Known<'_, G>,
     list: &Listing,
-    p: Position,
     page: &mut Vec<u8>,
-) -> Result<(), PlayError>
-    requires { G.Game.rules.is_legal p ≡ true }
-    ensures row { OnOk result ((tree : Data) × IsRow G.Game.rules G.shown G.move_shown list.now p tree
+) -> Result<(), AllocError>
+    ensures { OnOk result ((tree : Data) × IsRow G.Game.rules G.shown G.move_shown list.now known.now.position tree
         × (page.new.items ≡ page.old.items ++ script_line tree)) }
-    ensures refused { IfErr result (MayRefuseAt G.Game.rules tables.now p) }
 {
-    let value = known_value(tables, p)?;
-    let moves = match move_values(tables, p) {
-        Ok(moves) => moves,
-        Err(_) => return Err(PlayError::NotHeld),
-    };
-    match push_known::<G>(alloc, list, p, value, moves.as_slice(), page) {
-        Ok(()) => Ok(()),
-        Err(_) => Err(PlayError::OutOfMemory),
-    }
+    let value = known.value();
+    let moves = move_values(known);
+    push_known::<G>(alloc, list, known.position, value, moves.as_slice(), page)
 }
 
 // Appends the row of a legal position of this value, with these moves.

@@ -9,10 +9,10 @@ use Rattle.gm_game.specs.Values.{IsTrueValue}
 use Rattle.gm_table.specs.Tables.{TableData, AreTables, value_in}
 use Rattle.gm_table.proofs.ValueLemmas.{value_known, value_true}
 use Rattle.gm_best.proofs.Existing.{best_at}
-use Rattle.gm_play.specs.Reached.{AreAllHeld}
+use Rattle.gm_best.specs.Reached.{AreAllHeld}
 use Rattle.gm_play.specs.Dialogue.{Advice, IsKnown}
-use Rattle.gm_play.proofs.Held.{held_own, held_children}
-use Rattle.gm_play.proofs.Reaching.{held_from}
+use Rattle.gm_best.proofs.Held.{held_own, held_children}
+use Rattle.gm_best.proofs.Reaching.{held_from}
 
 module _ (r : Rules) (g : IsGame r) (entries : List TableData) (tables : AreTables r entries) where
   nothing : Solved

@@ -23,7 +23,8 @@ all_chosen r P true list h = all_firsts r P [] list (none P) h
 all_chosen r P false list h = h
 
 -- one move more
-pub next_on : (r : Rules) (kept new list all : List MoveValue) (k : ℕ) (d : MoveValue) → k < length list → new ≡ with_first r kept (get_or list k d) → firsts_onto r kept (drop k list) ≡ all → firsts_onto r new (drop (k + 1) list) ≡ all
+pub next_on : (r : Rules) (kept new list all : List MoveValue) (k : ℕ) (d : MoveValue) → k < length list → new ≡ with_first r kept (get_or list k d) →
+    firsts_onto r kept (drop k list) ≡ all → firsts_onto r new (drop (k + 1) list) ≡ all
 next_on r kept new list all k d inside e h =
     ap (λ (ms : List MoveValue). firsts_onto r ms (drop (k + 1) list)) e ∙ ap (firsts_onto r kept) (sym (drop_more list k d inside)) ∙ h
 

@@ -1,5 +1,6 @@
 -- The last line of a dialogue, by the end of its game.
-use Rattle.std.proofs.Common.{◌≡◌, ◌≢◌, ℕ, ◌⊎◌, Bool, true, false, List, [], ◌∷◌, ◌++◌, length, codes, Option, None, Some, IfSome, refl, sym, ap, subst, ◌∙◌, append_assoc, append-nil, inl, inr}
+use Rattle.std.proofs.Common.{◌≡◌, ◌≢◌, ℕ, ◌⊎◌, Bool, true, false, List, [], ◌∷◌, ◌++◌, length, codes, Option, None, Some, IfSome, refl, sym, ap, subst, ◌∙◌}
+use Rattle.std.proofs.Common.{append_assoc, append-nil, inl, inr}
 use Rattle.std.specs.Prelude.{◌==◌, if◌then◌else◌}
 use Rattle.std.specs.List.{Contains, find}
 use Rattle.std.specs.Str.{bytes_eq}
@@ -11,11 +12,12 @@ use Rattle.gm_game.specs.Texts.{text_of}
 use Rattle.gm_best.specs.declared.side.Side.{Side}
 use Rattle.gm_best.specs.declared.side.Side.TheVariants.{You, Computer}
 use Rattle.gm_best.specs.BestMoves.{IsBestMove}
-use Rattle.gm_play.specs.Reached.{IsReached}
+use Rattle.gm_best.specs.Reached.{IsReached}
 use Rattle.gm_best.specs.Endings.{over_line}
-use Rattle.gm_play.specs.Dialogue.{Advice, IsKnown, Said, Course, before, ends, text_after, place, asks_or_ends, persons_turn, moves_or_ends, computers_turn, turn, without_return, answer_to, reply, closing, talk, dialogue, unmoved, course_with, course_after, course_from, course}
+use Rattle.gm_play.specs.Dialogue.{Advice, IsKnown, Said, Course, before, ends, text_after, place, asks_or_ends, persons_turn, moves_or_ends, computers_turn}
+use Rattle.gm_play.specs.Dialogue.{turn, without_return, answer_to, reply, closing, talk, dialogue, unmoved, course_with, course_after, course_from, course}
 use Rattle.gm_play.specs.LastLines.{IsLastLine, EndsWon, EndsUnlost}
-use Rattle.gm_play.proofs.Reaching.{reached_reached, played_reached}
+use Rattle.gm_best.proofs.Reaching.{reached_reached, played_reached}
 use Rattle.gm_play.proofs.Reading.{find_is}
 use Rattle.gm_play.specs.declared.view.Question.TheVariants.{First, Again}
 use Rattle.gm_play.specs.declared.view.Question.{Question}
@@ -34,7 +36,11 @@ IsClosed (Some w) t = IsLastLine t (over_line w)
 
 last_after : (pre t line : List ℕ) → EndsLine pre → IsLastLine t line → IsLastLine (pre ++ t) line
 last_after pre t line (front, e) (inl h) = inr (front, ap (λ (x : List ℕ). x ++ t) e ∙ ap (λ (x : List ℕ). front ++ newline ++ x) h)
-last_after pre t line e (inr (front, h)) = inr (pre ++ front, ap (λ (x : List ℕ). pre ++ x) h ∙ sym (append_assoc pre (front ++ newline) line) ∙ ap (λ (x : List ℕ). x ++ line) (sym (append_assoc pre front newline)))
+last_after pre t line e (inr (front, h)) = inr (
+  pre ++ front,
+  ap (λ (x : List ℕ). pre ++ x) h ∙ sym (append_assoc pre (front ++ newline) line) ∙ ap
+      (λ (x : List ℕ). x ++ line) (sym (append_assoc pre front newline)),
+)
 
 closed_after : (pre t : List ℕ) (e : Option (Option Side)) → EndsLine pre → IsClosed e t → IsClosed e (pre ++ t)
 closed_after pre t None l (inl h) = inl (last_after pre t (codes "bye\n") l h)
@@ -57,7 +63,8 @@ unlost_line (Some None) t h c = inl c
 unlost_line (Some (Some You)) t h c = absurd (h refl)
 unlost_line (Some (Some Computer)) t h c = inr (inl c)
 
-module _ (r : Rules) (g : IsGame r) (shown : Position → List ℕ) (move_shown : Position → ℕ → List ℕ) (k : Advice) (seen : Question → Position → List ℕ) (tier : ℕ) (known : IsKnown r tier k) where
+module _ (r : Rules) (g : IsGame r) (shown : Position → List ℕ) (move_shown : Position → ℕ → List ℕ) (k : Advice) (seen : Question → Position → List ℕ)
+    (tier : ℕ) (known : IsKnown r tier k) where
   step : (p : Position) (m : ℕ) → IsReached r tier p → Contains (r.moves p) m → IsReached r tier (r.play p m)
   step p m h has = reached_reached r tier p (r.play p m) h (played_reached r g p m h.0 has)
 
@@ -84,25 +91,32 @@ module _ (r : Rules) (g : IsGame r) (shown : Position → List ℕ) (move_shown 
   person_case p (Some e) l = inl refl
 
   person_said : (p : Position) → IsReached r tier p → IsSaid (persons_turn r shown move_shown k seen p)
-  person_said p l = said_after (place r shown move_shown k seen p) (asks_or_ends r shown move_shown k seen p (r.primitive p)) (place_ends p) (person_case p (r.primitive p) l)
+  person_said p l = said_after (place r shown move_shown k seen p) (asks_or_ends r shown move_shown k seen p (r.primitive p)) (place_ends p)
+      (person_case p (r.primitive p) l)
 
-  computer_case : (p : Position) (o : Option End) (b : Option ℕ) → IsReached r tier p → r.primitive p ≡ o → IsBestMove r p b → IsSaid (moves_or_ends r shown move_shown k seen p o b)
+  computer_case : (p : Position) (o : Option End) (b : Option ℕ) → IsReached r tier p → r.primitive p ≡ o → IsBestMove r p b → IsSaid
+      (moves_or_ends r shown move_shown k seen p o b)
   computer_case p (Some e) b l h best = inl refl
   computer_case p None None l h best = absurd (best h)
   computer_case p None (Some m) l h best =
       let line = codes "computer" ++ codes ": " ++ move_shown p m ++ newline in
-      said_after line (persons_turn r shown move_shown k seen (r.play p m)) (codes "computer" ++ codes ": " ++ move_shown p m, refl) (person_said (r.play p m) (step p m l best.1.best.there))
+      said_after line (persons_turn r shown move_shown k seen (r.play p m)) (codes "computer" ++ codes ": " ++ move_shown p m, refl)
+      (person_said (r.play p m) (step p m l best.1.best.there))
 
   computer_said : (p : Position) → IsReached r tier p → IsSaid (computers_turn r shown move_shown k seen p)
   computer_said p l =
       said_after (place r shown move_shown k seen p) (moves_or_ends r shown move_shown k seen p (r.primitive p) (k.best p)) (place_ends p)
       (computer_case p (r.primitive p) (k.best p) l refl (known p l).1)
 
-  reply_case : (p : Position) (line : List ℕ) (c : Bool) (o : Option ℕ) → IsReached r tier p → find (λ m. bytes_eq (move_shown p m) (without_return line)) (r.moves p) ≡ o
+  reply_case : (p : Position) (line : List ℕ) (c : Bool) (o : Option ℕ) → IsReached r tier p → find (λ m. bytes_eq (move_shown p m) (without_return line))
+      (r.moves p) ≡ o
       → IsSaid (if c then ends (codes "bye\n") else answer_to r shown move_shown k seen p o)
   reply_case p line true o l e = inl (inl refl)
-  reply_case p line false None l e =
-      (l, ends_after (codes "not a move\n") (seen Again p ++ codes "your move?\n") (ends_after (seen Again p) (codes "your move?\n") (codes "your move?", refl)))
+  reply_case p line false None l e = (
+    l,
+    ends_after (codes "not a move\n") (seen Again p ++ codes "your move?\n")
+        (ends_after (seen Again p) (codes "your move?\n") (codes "your move?", refl)),
+  )
   reply_case p line false (Some m) l e =
       let has = (find_is (λ x. bytes_eq (move_shown p x) (without_return line)) (r.moves p) m e).0 in
       computer_said (r.play p m) (step p m l has)
@@ -120,7 +134,8 @@ module _ (r : Rules) (g : IsGame r) (shown : Position → List ℕ) (move_shown 
 
   end_closed : (p : Position) (line : List ℕ) (c : Bool) → IsReached r tier p
       → IsClosed (if c then unmoved else course_after (reply r shown move_shown k seen p line) (λ q. unmoved)).ending
-      (if c then codes "input ended\n" else (reply r shown move_shown k seen p line).text ++ text_after (λ q. codes "input ended\n") (reply r shown move_shown k seen p line).asked)
+      (if c then codes "input ended\n" else (reply r shown move_shown k seen p line).text ++ text_after (λ q. codes "input ended\n")
+      (reply r shown move_shown k seen p line).asked)
   end_closed p line true l = inr (inl refl)
   end_closed p line false l =
       let said = reply r shown move_shown k seen p line in
@@ -132,14 +147,17 @@ module _ (r : Rules) (g : IsGame r) (shown : Position → List ℕ) (move_shown 
   byte_closed : (bs line : List ℕ) (p : Position) (b : ℕ) (c : Bool)
       → ((m : List ℕ) (q : Position) → IsReached r tier q → IsClosed (course_from r shown move_shown k seen q m bs).ending (Talk q m bs))
       → IsReached r tier p
-      → IsClosed (if c then course_after (reply r shown move_shown k seen p line) (λ q. course_from r shown move_shown k seen q [] bs) else course_from r shown move_shown k seen p (line ++ b ∷ []) bs).ending
-      (if c then (reply r shown move_shown k seen p line).text ++ text_after (λ q. Talk q [] bs) (reply r shown move_shown k seen p line).asked else Talk p (line ++ b ∷ []) bs)
+      → IsClosed (if c then course_after (reply r shown move_shown k seen p line) (λ q. course_from r shown move_shown k seen q [] bs) else course_from r
+      shown move_shown k seen p (line ++ b ∷ []) bs).ending
+      (if c then (reply r shown move_shown k seen p line).text ++ text_after (λ q. Talk q [] bs) (reply r shown move_shown k seen p line).asked else Talk p
+      (line ++ b ∷ []) bs)
   byte_closed bs line p b true rest l =
       let said = reply r shown move_shown k seen p line in
       after_closed said said.asked (λ q. Talk q [] bs) (λ q. course_from r shown move_shown k seen q [] bs) (reply_said p line l) (λ q a. rest [] q a)
   byte_closed bs line p b false rest l = rest (line ++ b ∷ []) p l
 
-  from_closed : (bytes line : List ℕ) (p : Position) → IsReached r tier p → IsClosed (course_from r shown move_shown k seen p line bytes).ending (Talk p line bytes)
+  from_closed : (bytes line : List ℕ) (p : Position) → IsReached r tier p → IsClosed (course_from r shown move_shown k seen p line bytes).ending
+      (Talk p line bytes)
   unfolding course_from talk
   from_closed [] line p l = end_closed p line (length line == 0) l
   from_closed (b ∷ bs) line p l = byte_closed bs line p b (b == 10) (λ m q. from_closed bs m q) l
@@ -149,7 +167,9 @@ module _ (r : Rules) (g : IsGame r) (shown : Position → List ℕ) (move_shown 
   turn_said p Computer l = computer_said p l
 
   -- the last line of a dialogue is that of its end
-  pub dialogue_closed : (start : Position) (first : Side) (bytes : List ℕ) → IsReached r tier start → IsClosed (course r shown move_shown k seen start first bytes).ending (dialogue r shown move_shown k seen start first bytes)
+  pub dialogue_closed : (start : Position) (first : Side) (bytes : List ℕ) → IsReached r tier start → IsClosed
+      (course r shown move_shown k seen start first bytes).ending (dialogue r shown move_shown k seen start first bytes)
   dialogue_closed start first bytes l =
       let said = turn r shown move_shown k seen start first in
-      after_closed said said.asked (λ q. Talk q [] bytes) (λ q. course_from r shown move_shown k seen q [] bytes) (turn_said start first l) (λ q a. from_closed bytes [] q a)
+      after_closed said said.asked (λ q. Talk q [] bytes) (λ q. course_from r shown move_shown k seen q [] bytes) (turn_said start first l)
+      (λ q a. from_closed bytes [] q a)

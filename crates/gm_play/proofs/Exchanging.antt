@@ -1,5 +1,6 @@
 -- Moves with their best answers.
-use Rattle.std.proofs.Common.{◌≡◌, ℕ, ◌+◌, ◌<◌, ◌≤◌, true, List, [], ◌∷◌, ◌++◌, length, map, take, get_or, None, Some, inl, inr, refl, sym, ap, ap₂, subst, ◌∙◌, arith}
+use Rattle.std.proofs.Common.{◌≡◌, ℕ, ◌+◌, ◌<◌, ◌≤◌, true, List, [], ◌∷◌, ◌++◌, length, map, take, get_or, None, Some, inl, inr, refl, sym, ap, ap₂, subst, ◌∙◌}
+use Rattle.std.proofs.Common.{arith}
 use Rattle.std.specs.List.{All, Contains}
 use Rattle.std.proofs.lemmas.List.{append-nil, take_more, take_all, map-append}
 use Rattle.std.proofs.lemmas.Grind.{flat_map-append}
@@ -11,14 +12,12 @@ use Rattle.gm_game.specs.Rules.{Rules}
 use Rattle.gm_game.specs.Shown.{IsShown}
 use Rattle.gm_game.specs.Values.{IsTrueValue}
 use Rattle.gm_game.proofs.Lists.{map_from, map_in}
-use Rattle.gm_table.specs.Tables.{TableData, IsHeld, AreHeld}
 use Rattle.gm_best.specs.BestMoves.{IsBestMove}
-use Rattle.gm_best.specs.Refusals.{AreNotHeld}
 use Rattle.gm_play.specs.declared.move_values.MoveValue.{MoveValue}
 use Rattle.gm_play.specs.declared.why.Exchange.{Exchange}
 use Rattle.gm_play.specs.MoveValues.{AreMoveValues}
-use Rattle.gm_play.specs.PlayTexts.{IsReadAs, after_best}
-use Rattle.gm_play.specs.Why.{made_of, left_after, value_left, IsExchange, IsAnswerable, AreAnswersNotHeld, exchange_row, AreExchangeRows}
+use Rattle.gm_play.specs.PlayTexts.{after_best}
+use Rattle.gm_play.specs.Why.{made_of, left_after, value_left, IsExchange, exchange_row, AreExchangeRows}
 use Rattle.gm_play.proofs.Rows.{after_true}
 
 module _ (r : Rules) (shown : Position → List ℕ) (move_shown : Position → ℕ → List ℕ) (p : Position) where
@@ -27,7 +26,8 @@ module _ (r : Rules) (shown : Position → List ℕ) (move_shown : Position → 
   rows_none out e = record { exchanges = []; made = refl; each = λ k d inside. absurd (omega arith); out_is = e }
 
   -- one row more
-  pub rows_more : (moves : List MoveValue) (k : ℕ) (d : MoveValue) (x : Exchange) (old new : List ℕ) → k < length moves → AreExchangeRows r shown move_shown p (take k moves) old → x.made ≡ get_or moves k d
+  pub rows_more : (moves : List MoveValue) (k : ℕ) (d : MoveValue) (x : Exchange) (old new : List ℕ) → k < length moves → AreExchangeRows r shown move_shown
+      p (take k moves) old → x.made ≡ get_or moves k d
       → IsExchange r x → new ≡ old ++ exchange_row r shown move_shown p x → AreExchangeRows r shown move_shown p (take (k + 1) moves) new
   rows_more moves k d x old new inside h made is n =
       let row : Exchange → List ℕ = exchange_row r shown move_shown p in
@@ -40,11 +40,13 @@ module _ (r : Rules) (shown : Position → List ℕ) (move_shown : Position → 
       }
 
   -- all rows
-  pub rows_all : (moves : List MoveValue) (k : ℕ) (out : List ℕ) → length moves ≤ k → AreExchangeRows r shown move_shown p (take k moves) out → AreExchangeRows r shown move_shown p moves out
+  pub rows_all : (moves : List MoveValue) (k : ℕ) (out : List ℕ) → length moves ≤ k → AreExchangeRows r shown move_shown p (take k moves) out →
+      AreExchangeRows r shown move_shown p moves out
   rows_all moves k out past h = subst (λ (ms : List MoveValue). AreExchangeRows r shown move_shown p ms out) (take_all k moves past) h
 
 -- after the best answer
-pub with_answer : (r : Rules) → IsGame r → (x : Exchange) (m : ℕ) → r.is_legal x.made.position ≡ true → IsTrueValue r x.made.position x.made.result → IsBestMove r x.made.position (Some m) → x.answer ≡ Some m
+pub with_answer : (r : Rules) → IsGame r → (x : Exchange) (m : ℕ) → r.is_legal x.made.position ≡ true → IsTrueValue r x.made.position x.made.result →
+    IsBestMove r x.made.position (Some m) → x.answer ≡ Some m
     → x.left ≡ r.play x.made.position m → x.value ≡ after_best x.made.result → IsExchange r x
 with_answer r g x m legal value best a l v =
     let q = x.made.position in
@@ -59,7 +61,8 @@ with_answer r g x m legal value best a l v =
     }
 
 -- where the move has ended the game
-pub without_answer : (r : Rules) (x : Exchange) → r.is_legal x.made.position ≡ true → IsTrueValue r x.made.position x.made.result → IsBestMove r x.made.position None → x.answer ≡ None
+pub without_answer : (r : Rules) (x : Exchange) → r.is_legal x.made.position ≡ true → IsTrueValue r x.made.position x.made.result → IsBestMove r
+    x.made.position None → x.answer ≡ None
     → x.left ≡ x.made.position → x.value ≡ x.made.result → IsExchange r x
 without_answer r x legal value best a l v =
     let q = x.made.position in
@@ -71,33 +74,3 @@ without_answer r x legal value best a l v =
       value = subst (λ (z : Position). IsTrueValue r z x.value) (sym l) (subst (IsTrueValue r q) (sym v) value);
       nearer = v ∙ ap (value_left x.made.result) (sym a);
     }
-
--- the results of all moves are answerable, so no table is missing
-pub none_missing : (r : Rules) (entries : List TableData) (p : Position) → (list : List MoveValue) → AreMoveValues r p list → All (IsAnswerable r entries) list → (m : ℕ) → Contains (r.moves p) m → AreNotHeld r entries (r.play p m) → ⊥
-none_missing r entries p list h all m has not =
-    let number : MoveValue → ℕ = λ (y : MoveValue). y.number in
-    let (x, there, e) = map_in number list m (Contains-permutation (r.moves p) (map number list) m h.listed has) in
-    let (k, inside, is) = there in
-    let at_k : (get_or list k x).position ≡ r.play p (get_or list k x).number = (h.each k x inside).position in
-    let same : (get_or list k x).position ≡ r.play p m = at_k ∙ ap (λ (y : MoveValue). r.play p y.number) is ∙ ap (r.play p) e in
-    let held = all k x inside in
-    not.1 (subst (λ (q : Position). IsHeld entries q.tier) same held.0) (subst (λ (q : Position). AreHeld r entries q.tier) same held.1)
-
--- a result that is not answerable is that of a move
-pub some_missing : (r : Rules) → IsGame r → (entries : List TableData) (p : Position) → r.is_legal p ≡ true → (list : List MoveValue) → AreMoveValues r p list → (x : MoveValue) → Contains list x → (IsAnswerable r entries x → ⊥)
-    → (m : ℕ) × Contains (r.moves p) m × AreNotHeld r entries (r.play p m)
-some_missing r g entries p legal list h x there not =
-    let number : MoveValue → ℕ = λ (y : MoveValue). y.number in
-    let has : Contains (r.moves p) x.number = Contains-permutation (map number list) (r.moves p) x.number (IsPermutation-sym (r.moves p) (map number list) h.listed) (map_from number list x there) in
-    let (k, inside, is) = there in
-    let same : x.position ≡ r.play p x.number = ap (λ (y : MoveValue). y.position) (sym {A = MoveValue} is) ∙ (h.each k x inside).position ∙ ap (λ (y : MoveValue). r.play p y.number) is in
-    (x.number, has, (g.play_legal p x.number legal has, λ own held. not (subst (λ (q : Position). IsHeld entries q.tier) (sym same) own, subst (λ (q : Position). AreHeld r entries q.tier) (sym same) held)))
-
--- where all results of the moves of the position with this text are answerable, and its own tables are there, no table is missing
-pub nothing_missing : (r : Rules) (shown : Position → List ℕ) (move_shown : Position → ℕ → List ℕ) → IsShown r shown move_shown → (entries : List TableData) (text : List ℕ) (p : Position) (list : List MoveValue)
-    → IsReadAs r shown move_shown text p → AreMoveValues r p list → All (IsAnswerable r entries) list → (((q : Position) × IsReadAs r shown move_shown text q × AreNotHeld r entries q) → ⊥)
-    → AreAnswersNotHeld r shown move_shown entries text → ⊥
-nothing_missing r shown move_shown t entries text p list read values all held (q, here, inl not) = held (q, here, not)
-nothing_missing r shown move_shown t entries text p list read values all held (q, here, inr (m, has, not)) =
-    let same : q ≡ p = t.shown_once q p here.0 read.0 (here.1 ∙ sym read.1) in
-    none_missing r entries p list values all m (subst (λ (x : Position). Contains (r.moves x) m) same has) (subst (λ (x : Position). AreNotHeld r entries (r.play x m)) same not)

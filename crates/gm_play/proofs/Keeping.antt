@@ -23,7 +23,8 @@ false_unless true h = absurd (h refl)
 false_unless false h = refl
 
 -- there is one best move only
-same_remoteness : (r : Rules) (v : Value) (p q : Position) (k l : ℕ) → HasValue r p (wanted_from v) k → HasValue r q (wanted_from v) l → IsNoFarther v k l → IsNoFarther v l k → k ≡ l
+same_remoteness : (r : Rules) (v : Value) (p q : Position) (k l : ℕ) → HasValue r p (wanted_from v) k → HasValue r q (wanted_from v) l → IsNoFarther v k l →
+    IsNoFarther v l k → k ≡ l
 same_remoteness r Lose p q k l a b c d = omega arith
 same_remoteness r Draw p q k l a b c d = a.0 ∙ sym b.0
 same_remoteness r Tie p q k l a b c d = omega arith
@@ -31,7 +32,8 @@ same_remoteness r Win p q k l a b c d = omega arith
 
 best_of_once : (r : Rules) (p : Position) (v : Value) (ms : List ℕ) (m n k l : ℕ) → IsBestOf r p v ms m k → IsBestOf r p v ms n l → m ≡ n
 best_of_once r p v ms m n k l a b =
-    let e : k ≡ l = same_remoteness r v (r.play p m) (r.play p n) k l a.reaches b.reaches (a.no_better n l b.there b.reaches) (b.no_better m k a.there a.reaches) in
+    let e : k ≡ l = same_remoteness r v (r.play p m) (r.play p n) k l a.reaches b.reaches (a.no_better n l b.there b.reaches)
+    (b.no_better m k a.there a.reaches) in
     let low : m ≤ n = a.first n b.there (subst (λ (x : ℕ). HasValue r (r.play p n) (wanted_from v) x) (sym e) b.reaches) in
     let high : n ≤ m = b.first m a.there (subst (λ (x : ℕ). HasValue r (r.play p m) (wanted_from v) x) e a.reaches) in
     omega arith
@@ -59,7 +61,8 @@ module _ (r : Rules) (g : IsGame r) where
   goes_on p m l has = open_case p m (r.primitive p) l has refl
 
   -- from a lost position each move leads to a nearer win
-  pub reply_won : (p : Position) (m n : ℕ) → r.is_legal p ≡ true → Contains (r.moves p) m → HasValue r p Lose n → (k : ℕ) × (k < n) × HasValue r (r.play p m) Win k
+  pub reply_won : (p : Position) (m n : ℕ) → r.is_legal p ≡ true → Contains (r.moves p) m → HasValue r p Lose n → (k : ℕ) × (k < n) × HasValue r
+      (r.play p m) Win k
   reply_won p m zero l has h = (let e = loses_zero r p h.0 in let o = goes_on p m l has in absurd (cc))
   reply_won p m (suc n) l has h = elim (loses_suc r n p h.0) [
     | inl e ↦ (let o = goes_on p m l has in absurd (cc))
@@ -102,9 +105,11 @@ module _ (r : Rules) (g : IsGame r) where
 
   pub reply_safe : (p : Position) (m : ℕ) → r.is_legal p ≡ true → Contains (r.moves p) m → IsSafe p You → IsSafe (r.play p m) Computer
   reply_safe p m l has safe n =
-      false_unless (loses r n (r.play p m)) (λ e. (let w = wins_from r n p (r.play p m) (goes_on p m l has) (map_from (r.play p) (r.moves p) m has) e in let f = safe (suc n) in absurd (cc)))
+      false_unless (loses r n (r.play p m)) (λ e. (let w = wins_from r n p (r.play p m) (goes_on p m l has) (map_from (r.play p) (r.moves p) m has) e in let
+      f = safe (suc n) in absurd (cc)))
 
-  pub best_safe : (p : Position) (m : ℕ) (v : Value) (own k : ℕ) → HasValue r p v own → HasValue r (r.play p m) (wanted_from v) k → IsSafe p Computer → IsSafe (r.play p m) You
+  pub best_safe : (p : Position) (m : ℕ) (v : Value) (own k : ℕ) → HasValue r p v own → HasValue r (r.play p m) (wanted_from v) k → IsSafe p Computer →
+      IsSafe (r.play p m) You
   best_safe p m Lose own k h w safe n = (let f = safe own in let e = h.0 in absurd (cc))
   best_safe p m Draw own k h w safe n = w.2 n
   best_safe p m Tie own k h w safe n = false_unless (wins r n (r.play p m)) (no_win_of_tie r k (r.play p m) w.0 n)

@@ -1,5 +1,6 @@
 -- A line of which a front is kept is answered as the whole line: no move has a text that is longer.
-use Rattle.std.proofs.Common.{◌≡◌, ℕ, ◌+◌, ◌-◌, ◌≤◌, ◌<◌, ◌⊎◌, inl, inr, Bool, true, false, List, [], ◌∷◌, ◌++◌, length, take, drop, codes, nat_eq, None, sym, ap, ◌∙◌, arith}
+use Rattle.std.proofs.Common.{◌≡◌, ℕ, ◌+◌, ◌-◌, ◌≤◌, ◌<◌, ◌⊎◌, inl, inr, Bool, true, false, List, [], ◌∷◌, ◌++◌, length, take, drop, codes, nat_eq, None, sym}
+use Rattle.std.proofs.Common.{ap, ◌∙◌, arith}
 use Rattle.std.specs.Prelude.{◌==◌, if◌then◌else◌}
 use Rattle.std.specs.Str.{bytes_eq}
 use Rattle.std.specs.Cmp.Lexicographic.{unequal}
@@ -20,7 +21,8 @@ pub kept_push : (kept line : List ℕ) (b : ℕ) → kept ≡ take KEPT line →
 kept_push kept line b e short =
     let n : length kept ≡ length (take KEPT line) = ap length e in
     let few : length line < KEPT = omega (arith, n, short, length-take KEPT line) in
-    ap (λ (l : List ℕ). l ++ b ∷ []) (e ∙ take_all KEPT line (omega (arith, few))) ∙ sym (take_all KEPT (line ++ b ∷ []) (omega (arith, few, length-append line (b ∷ []))))
+    ap (λ (l : List ℕ). l ++ b ∷ []) (e ∙ take_all KEPT line (omega (arith, few))) ∙ sym
+    (take_all KEPT (line ++ b ∷ []) (omega (arith, few, length-append line (b ∷ []))))
 
 pub kept_full : (kept line : List ℕ) (b : ℕ) → kept ≡ take KEPT line → length kept ≡ KEPT → kept ≡ take KEPT (line ++ b ∷ [])
 kept_full kept line b e full =
@@ -34,8 +36,10 @@ text_of_length line false n h = omega (arith, h)
 text_long : (line : List ℕ) (n : ℕ) → n < length line → n ≤ length (without_return line)
 text_long line n h = text_of_length line (bytes_eq (drop (length line - 1) line) (13 ∷ [])) n h
 
-module _ (r : Rules) (shown : Position → List ℕ) (move_shown : Position → ℕ → List ℕ) (t : IsShown r shown move_shown) (k : Advice) (seen : Question → Position → List ℕ) (p : Position) (legal : r.is_legal p ≡ true) where
-  no_move : (line : List ℕ) → LINE + 1 < length line → asks (codes "not a move\n" ++ seen Again p ++ codes "your move?\n") p ≡ reply r shown move_shown k seen p line
+module _ (r : Rules) (shown : Position → List ℕ) (move_shown : Position → ℕ → List ℕ) (t : IsShown r shown move_shown) (k : Advice)
+    (seen : Question → Position → List ℕ) (p : Position) (legal : r.is_legal p ≡ true) where
+  no_move : (line : List ℕ) → LINE + 1 < length line → asks (codes "not a move\n" ++ seen Again p ++ codes "your move?\n") p ≡ reply r shown move_shown k
+      seen p line
   no_move line long =
       let text = without_return line in
       let many : LINE + 1 ≤ length text = text_long line (LINE + 1) long in
@@ -44,7 +48,8 @@ module _ (r : Rules) (shown : Position → List ℕ) (move_shown : Position → 
       (none_found (λ m. bytes_eq (move_shown p m) text) (r.moves p)
       (λ m has. unequal nat_eq (move_shown p m) text (λ e. (let fits = t.move_shown_fits p m legal has in omega (arith, e, fits, many)))))
 
-  heard_if : (line : List ℕ) → (KEPT < length line) ⊎ (length line ≤ KEPT) → reply r shown move_shown k seen p (take KEPT line) ≡ reply r shown move_shown k seen p line
+  heard_if : (line : List ℕ) → (KEPT < length line) ⊎ (length line ≤ KEPT) → reply r shown move_shown k seen p (take KEPT line) ≡ reply r shown move_shown k
+      seen p line
   heard_if line (inl long) = sym (no_move (take KEPT line) (omega (arith, long, length-take KEPT line))) ∙ no_move line (omega (arith, long))
   heard_if line (inr short) = ap (reply r shown move_shown k seen p) (take_all KEPT line short)
 
@@ -54,7 +59,8 @@ module _ (r : Rules) (shown : Position → List ℕ) (move_shown : Position → 
   some_bytes : (n : ℕ) → 0 < n → (n == 0) ≡ false
   some_bytes n h = grind arith
 
-  closed_if : (line : List ℕ) → (KEPT < length line) ⊎ (length line ≤ KEPT) → closing r shown move_shown k seen p (take KEPT line) ≡ closing r shown move_shown k seen p line
+  closed_if : (line : List ℕ) → (KEPT < length line) ⊎ (length line ≤ KEPT) → closing r shown move_shown k seen p (take KEPT line) ≡ closing r shown
+      move_shown k seen p line
   closed_if line (inl long) =
       sym (closing_is r shown move_shown k seen p (take KEPT line) (some_bytes (length (take KEPT line)) (omega (arith, long, length-take KEPT line))))
       ∙ ap (λ (s : Said). s.text ++ after_reply r shown move_shown k seen p line s.asked) (heard line)

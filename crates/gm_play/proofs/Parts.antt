@@ -38,15 +38,18 @@ pub part_after : (a b c : Option (List ℕ)) (xs ys : List ℕ) → Appends a b 
 part_after a b c xs ys h (done, rest, e, k) = (xs ++ done, rest, ap (λ l. xs ++ l) e ∙ sym (append_assoc xs done rest), Appends-trans a b c xs done h k)
 
 -- what is said after a text
-pub says_after : (a b c : Option (List ℕ)) (xs : List ℕ) (said : Said) (asked : Option Position) → Appends a b xs → Says b c said asked → Says a c (before xs said) asked
+pub says_after : (a b c : Option (List ℕ)) (xs : List ℕ) (said : Said) (asked : Option Position) → Appends a b xs → Says b c said asked → Says a c
+    (before xs said) asked
 says_after a b c xs said asked h (e, k) = (e, Appends-trans a b c xs said.text h k)
 
 -- the same, where what is said and its text are known by equations
 pub done_after : (a b c : Option (List ℕ)) (xs : List ℕ) (said is : Said) (asked : Option Position) (text : List ℕ)
     → Appends a b xs → is ≡ said → text ≡ is.text → asked ≡ is.asked → Appends b c text → Says a c (before xs said) asked
-done_after a b c xs said is asked text h e t o k = says_after a b c xs said asked h (subst (λ (s : Said). Says b c s asked) e (o, subst (λ (l : List ℕ). Appends b c l) t k))
+done_after a b c xs said is asked text h e t o k = says_after a b c xs said asked h
+    (subst (λ (s : Said). Says b c s asked) e (o, subst (λ (l : List ℕ). Appends b c l) t k))
 
-pub stops_after : (a b c : Option (List ℕ)) (xs : List ℕ) (said is : Said) (text : List ℕ) → Appends a b xs → is ≡ said → text ≡ is.text → AppendsPart b c text → AppendsPart a c (xs ++ said.text)
+pub stops_after : (a b c : Option (List ℕ)) (xs : List ℕ) (said is : Said) (text : List ℕ) → Appends a b xs → is ≡ said → text ≡ is.text → AppendsPart b c
+    text → AppendsPart a c (xs ++ said.text)
 stops_after a b c xs said is text h e t k = part_after a b c xs said.text h (subst (λ (l : List ℕ). AppendsPart b c l) (t ∙ ap (λ (s : Said). s.text) e) k)
 
 pub part_is : (a b : Option (List ℕ)) (xs ys : List ℕ) → xs ≡ ys → AppendsPart a b xs → AppendsPart a b ys
@@ -56,10 +59,12 @@ pub text_is : (a b : Option (List ℕ)) (xs ys : List ℕ) → xs ≡ ys → App
 text_is a b xs ys e h = subst (λ (l : List ℕ). Appends a b l) e h
 
 -- a text is written, and then a call says the rest
-module _ (a b c : Option (List ℕ)) (xs : List ℕ) (said is : Said) (written : Appends a b xs) (is_said : is ≡ said) (text : List ℕ) (text_is_said : text ≡ is.text)
+module _ (a b c : Option (List ℕ)) (xs : List ℕ) (said is : Said) (written : Appends a b xs) (is_said : is ≡ said) (text : List ℕ)
+    (text_is_said : text ≡ is.text)
     (call : Result (Option Position) SessionError) where
   pub done_by : IfOk call (λ o. (o ≡ is.asked) × Appends b c text) → IfOk call (Says a c (before xs said))
-  done_by h = IfOk-weaker call (λ o. (o ≡ is.asked) × Appends b c text) (Says a c (before xs said)) (λ o k. done_after a b c xs said is o text written is_said text_is_said k.0 k.1) h
+  done_by h = IfOk-weaker call (λ o. (o ≡ is.asked) × Appends b c text) (Says a c (before xs said))
+      (λ o k. done_after a b c xs said is o text written is_said text_is_said k.0 k.1) h
 
   pub stops_in : OnErr call (AppendsPart b c text) → OnErr call (AppendsPart a c (xs ++ said.text))
   stops_in h = on_err_weaker call (λ k. stops_after a b c xs said is text written is_said text_is_said k) h

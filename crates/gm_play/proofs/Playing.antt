@@ -1,5 +1,6 @@
 -- A line of play, move by move.
-use Rattle.std.proofs.Common.{◌≡◌, ◌≢◌, ℕ, ◌+◌, ◌<◌, ◌≤◌, ◌⊎◌, inl, inr, true, List, [], ◌∷◌, ◌++◌, length, Option, None, Some, refl, sym, ap, ◌∙◌, subst, arith, append_assoc, append-nil, drop, get_or}
+use Rattle.std.proofs.Common.{◌≡◌, ◌≢◌, ℕ, ◌+◌, ◌<◌, ◌≤◌, ◌⊎◌, inl, inr, true, List, [], ◌∷◌, ◌++◌, length, Option, None, Some, refl, sym, ap, ◌∙◌, subst}
+use Rattle.std.proofs.Common.{arith, append_assoc, append-nil, drop, get_or}
 use Rattle.std.proofs.lemmas.List.{drop_more, drop_all}
 use Rattle.std.specs.Prelude.{MatchOption, IfSome}
 use Rattle.std.specs.List.{Contains}
@@ -12,10 +13,10 @@ use Rattle.gm_best.specs.declared.side.Side.TheVariants.{You, Computer}
 use Rattle.gm_play.specs.declared.play_line.PlayLine.{PlayLine}
 use Rattle.gm_best.specs.BestMoves.{IsBestMove}
 use Rattle.gm_best.specs.Sides.{other}
-use Rattle.gm_play.specs.Reached.{AreAllHeld}
+use Rattle.gm_best.specs.Reached.{AreAllHeld}
 use Rattle.gm_play.specs.Lines.{position_after, side_after, IsLine, LeadsTo, IsPlayed, one_more, IsAnswered, IsReplied}
 use Rattle.gm_play.proofs.Keeping.{best_once}
-use Rattle.gm_play.proofs.Held.{held_after}
+use Rattle.gm_best.proofs.Held.{held_after}
 
 -- the line has come this far: what is left of it from here is what is left of it from the start
 pub record OnLine (r : Rules) (start : Position) (first : Side) (replies rest : List ℕ) (line : PlayLine) : Type 0 where
@@ -38,7 +39,8 @@ length_push [] m = refl
 length_push (x ∷ xs) m = let e = length_push xs m in omega arith
 
 module _ (r : Rules) (g : IsGame r) (start : Position) (first : Side) (replies : List ℕ) where
-  pub begins : (line : PlayLine) → line.position ≡ start → line.side ≡ first → line.moves ≡ 0 → r.is_legal start ≡ true → OnLine r start first replies replies line
+  pub begins : (line : PlayLine) → line.position ≡ start → line.side ≡ first → line.moves ≡ 0 → r.is_legal start ≡ true → OnLine r start first replies
+      replies line
   begins line p s n l = record {
     moves = [];
     leads = record { position = p; side = s; number = n };
@@ -56,7 +58,8 @@ module _ (r : Rules) (g : IsGame r) (start : Position) (first : Side) (replies :
 
   module _ (rest : List ℕ) (line : PlayLine) (on : OnLine r start first replies rest line) where
     -- the moves that the computer's best move begins
-    computer_left : (m : ℕ) (left : List ℕ) → IsBestMove r line.position (Some m) → IsLine r line.position Computer rest left → (ms : List ℕ) × IsLine r (r.play line.position m) You rest ms
+    computer_left : (m : ℕ) (left : List ℕ) → IsBestMove r line.position (Some m) → IsLine r line.position Computer rest left → (ms : List ℕ) × IsLine r
+        (r.play line.position m) You rest ms
     computer_left m [] b (inl e) = absurd (e b.0)
     computer_left m [] b (inr e) = (let f = e.0 in absurd (cc))
     computer_left m (k ∷ ks) b h = (ks, subst (λ (x : ℕ). IsLine r (r.play line.position x) You rest ks) (best_once r line.position k m h.0 b) h.1)
@@ -67,7 +70,8 @@ module _ (r : Rules) (g : IsGame r) (start : Position) (first : Side) (replies :
       leads = leads_push on.moves line m on.leads;
       legal = (let t = b.1 in g.play_legal line.position m on.legal t.best.there);
       goes = λ ms h. subst (λ (xs : List ℕ). IsLine r start first replies xs) (sym (append_assoc on.moves (m ∷ []) ms))
-          (on.goes (m ∷ ms) (subst (λ (x : Side). IsLine r line.position x rest (m ∷ ms)) (sym s) (b, subst (λ (x : Side). IsLine r (r.play line.position m) (other x) rest ms) s h)));
+          (on.goes (m ∷ ms) (subst (λ (x : Side). IsLine r line.position x rest (m ∷ ms)) (sym s)
+          (b, subst (λ (x : Side). IsLine r (r.play line.position m) (other x) rest ms) s h)));
       only = λ ms h. (
           let (left, t) = on.only ms h in
           let (ks, k) = computer_left m left b (subst (λ (x : Side). IsLine r line.position x rest left) s t) in
@@ -90,15 +94,23 @@ module _ (r : Rules) (g : IsGame r) (start : Position) (first : Side) (replies :
   turn Computer old new e (inr (m, b, q)) = inl (subst (λ (x : PlayLine). x.side ≡ You) (sym q) (ap other e))
 
   -- no reply is left
-  pub ends_last : (line : PlayLine) → OnLine r start first replies [] line → (line.side ≡ You) ⊎ (r.primitive line.position ≢ None) → IsPlayed r start first replies line
+  pub ends_last : (line : PlayLine) → OnLine r start first replies [] line → (line.side ≡ You) ⊎ (r.primitive line.position ≢ None) → IsPlayed r start first
+      replies line
   ends_last line on (inl e) = (on.moves, subst (λ (xs : List ℕ). IsLine r start first replies xs) (append-nil on.moves) (on.goes [] (inr (e, refl))), on.leads)
   ends_last line on (inr e) = ends [] line on e
 
-  module _ (reply : ℕ) (rest : List ℕ) (line : PlayLine) (on : OnLine r start first replies (reply ∷ rest) line) (you : line.side ≡ You) (open_ : r.primitive line.position ≡ None) where
-    reply_left : (left : List ℕ) → IsLine r line.position You (reply ∷ rest) left → Contains (r.moves line.position) reply × (ms : List ℕ) × IsLine r (r.play line.position reply) Computer rest ms
+  module _ (reply : ℕ) (rest : List ℕ) (line : PlayLine) (on : OnLine r start first replies (reply ∷ rest) line) (you : line.side ≡ You)
+      (open_ : r.primitive line.position ≡ None) where
+    reply_left : (left : List ℕ) → IsLine r line.position You (reply ∷ rest) left → Contains (r.moves line.position) reply × (ms : List ℕ) × IsLine r
+        (r.play line.position reply) Computer rest ms
     reply_left [] (inl e) = absurd (e open_)
     reply_left [] (inr e) = (let f = e.1 in absurd (cc))
-    reply_left (k ∷ ks) h = (subst (λ (x : ℕ). Contains (r.moves line.position) x) (sym h.0) h.1, ks, subst (λ (x : ℕ). IsLine r (r.play line.position x) Computer rest ks) (sym h.0) h.2)
+    reply_left (k ∷ ks) h = (
+      subst (λ (x : ℕ). Contains (r.moves line.position) x) (sym h.0) h.1,
+      ks,
+      subst
+          (λ (x : ℕ). IsLine r (r.play line.position x) Computer rest ks) (sym h.0) h.2,
+    )
 
     -- the reply is a move
     pub replied_on : Contains (r.moves line.position) reply → OnLine r start first replies rest (one_more r line reply)
@@ -107,7 +119,8 @@ module _ (r : Rules) (g : IsGame r) (start : Position) (first : Side) (replies :
       leads = leads_push on.moves line reply on.leads;
       legal = g.play_legal line.position reply on.legal has;
       goes = λ ms h. subst (λ (xs : List ℕ). IsLine r start first replies xs) (sym (append_assoc on.moves (reply ∷ []) ms))
-          (on.goes (reply ∷ ms) (subst (λ (x : Side). IsLine r line.position x (reply ∷ rest) (reply ∷ ms)) (sym you) (refl, has, subst (λ (x : Side). IsLine r (r.play line.position reply) (other x) rest ms) you h)));
+          (on.goes (reply ∷ ms) (subst (λ (x : Side). IsLine r line.position x (reply ∷ rest) (reply ∷ ms)) (sym you)
+          (refl, has, subst (λ (x : Side). IsLine r (r.play line.position reply) (other x) rest ms) you h)));
       only = λ ms h. (
           let (left, t) = on.only ms h in
           let k = reply_left left (subst (λ (x : Side). IsLine r line.position x (reply ∷ rest) left) you t) in
@@ -122,17 +135,20 @@ module _ (r : Rules) (g : IsGame r) (start : Position) (first : Side) (replies :
 
 -- what is held after a move
 module _ (r : Rules) (entries : List TableData) where
-  held_moved : IsGame r → (p : Position) (m : ℕ) → r.is_legal p ≡ true → Contains (r.moves p) m → AreAllHeld r entries p.tier → AreAllHeld r entries (r.play p m).tier
+  held_moved : IsGame r → (p : Position) (m : ℕ) → r.is_legal p ≡ true → Contains (r.moves p) m → AreAllHeld r entries p.tier → AreAllHeld r entries
+      (r.play p m).tier
   held_moved g p m l has h = held_after r entries p.tier (r.play p m).tier h (g.play_tier p m l has)
 
-  pub held_answered : IsGame r → (s : Side) (old new : PlayLine) → r.is_legal old.position ≡ true → IsAnswered r s old new → AreAllHeld r entries old.position.tier → AreAllHeld r entries new.position.tier
+  pub held_answered : IsGame r → (s : Side) (old new : PlayLine) → r.is_legal old.position ≡ true → IsAnswered r s old new → AreAllHeld r entries
+      old.position.tier → AreAllHeld r entries new.position.tier
   held_answered g You old new l a h = subst (λ (x : PlayLine). AreAllHeld r entries x.position.tier) (sym a) h
   held_answered g Computer old new l (inl a) h = subst (λ (x : PlayLine). AreAllHeld r entries x.position.tier) (sym a.1) h
   held_answered g Computer old new l (inr (m, b, q)) h =
       let t = b.1 in
       subst (λ (x : PlayLine). AreAllHeld r entries x.position.tier) (sym q) (held_moved g old.position m l t.best.there h)
 
-  pub held_replied : IsGame r → (reply : ℕ) (old new : PlayLine) → r.is_legal old.position ≡ true → IsReplied r old reply (Some new) → AreAllHeld r entries old.position.tier → AreAllHeld r entries new.position.tier
+  pub held_replied : IsGame r → (reply : ℕ) (old new : PlayLine) → r.is_legal old.position ≡ true → IsReplied r old reply (Some new) → AreAllHeld r entries
+      old.position.tier → AreAllHeld r entries new.position.tier
   held_replied g reply old new l a h = subst (λ (x : PlayLine). AreAllHeld r entries x.position.tier) (sym a.1) (held_moved g old.position reply l a.0 h)
 
 -- the number of moves
@@ -145,14 +161,17 @@ pub moves_replied : (r : Rules) (reply : ℕ) (old new : PlayLine) → IsReplied
 moves_replied r reply old new a = ap (λ (x : PlayLine). x.moves) a.1
 
 -- the replies that are left, after the first ones
-pub reply_is_next : (r : Rules) (start : Position) (first : Side) (replies : List ℕ) (k : ℕ) (line : PlayLine) → k < length replies → OnLine r start first replies (drop k replies) line → OnLine r start first replies (get_or replies k 0 ∷ drop (k + 1) replies) line
+pub reply_is_next : (r : Rules) (start : Position) (first : Side) (replies : List ℕ) (k : ℕ) (line : PlayLine) → k < length replies → OnLine r start first
+    replies (drop k replies) line → OnLine r start first replies (get_or replies k 0 ∷ drop (k + 1) replies) line
 reply_is_next r start first replies k line inside on = subst (λ (l : List ℕ). OnLine r start first replies l line) (drop_more replies k 0 inside) on
 
-pub no_reply_is_left : (r : Rules) (start : Position) (first : Side) (replies : List ℕ) (k : ℕ) (line : PlayLine) → length replies ≤ k → OnLine r start first replies (drop k replies) line → OnLine r start first replies [] line
+pub no_reply_is_left : (r : Rules) (start : Position) (first : Side) (replies : List ℕ) (k : ℕ) (line : PlayLine) → length replies ≤ k → OnLine r start
+    first replies (drop k replies) line → OnLine r start first replies [] line
 no_reply_is_left r start first replies k line past on = subst (λ (l : List ℕ). OnLine r start first replies l line) (drop_all k replies past) on
 
 -- the computer's move, if it is its turn, and then a reply
-module _ (r : Rules) (g : IsGame r) (start : Position) (first : Side) (replies rest : List ℕ) (reply : ℕ) (line a : PlayLine) (on : OnLine r start first replies (reply ∷ rest) line) (is : IsAnswered r line.side line a) where
+module _ (r : Rules) (g : IsGame r) (start : Position) (first : Side) (replies rest : List ℕ) (reply : ℕ) (line a : PlayLine)
+    (on : OnLine r start first replies (reply ∷ rest) line) (is : IsAnswered r line.side line a) where
   answered_here : OnLine r start first replies (reply ∷ rest) a
   answered_here = answered_on r g start first replies (reply ∷ rest) line on line.side a refl is
 
@@ -160,7 +179,8 @@ module _ (r : Rules) (g : IsGame r) (start : Position) (first : Side) (replies r
   yours o = elim (turn r g start first replies line.side line a refl is) [ inl e ↦ e | inr e ↦ absurd (e o) ]
 
   pub step_on : r.primitive a.position ≡ None → (new : PlayLine) → IsReplied r a reply (Some new) → OnLine r start first replies rest new
-  step_on o new q = subst (λ (x : PlayLine). OnLine r start first replies rest x) (sym q.1) (replied_on r g start first replies reply rest a answered_here (yours o) o q.0)
+  step_on o new q = subst (λ (x : PlayLine). OnLine r start first replies rest x) (sym q.1)
+      (replied_on r g start first replies reply rest a answered_here (yours o) o q.0)
 
   pub step_stuck : r.primitive a.position ≡ None → IsReplied r a reply None → (ms : List ℕ) → IsLine r start first replies ms → ⊥
   step_stuck o q = stuck r g start first replies reply rest a answered_here (yours o) o q
@@ -169,9 +189,11 @@ module _ (r : Rules) (g : IsGame r) (start : Position) (first : Side) (replies r
   step_end e = ends r g start first replies (reply ∷ rest) a answered_here e
 
 -- no reply is left
-pub step_last : (r : Rules) (g : IsGame r) (start : Position) (first : Side) (replies : List ℕ) (line a : PlayLine) → OnLine r start first replies [] line → IsAnswered r line.side line a → IsPlayed r start first replies a
+pub step_last : (r : Rules) (g : IsGame r) (start : Position) (first : Side) (replies : List ℕ) (line a : PlayLine) → OnLine r start first replies [] line →
+    IsAnswered r line.side line a → IsPlayed r start first replies a
 step_last r g start first replies line a on is =
-    ends_last r g start first replies a (answered_on r g start first replies [] line on line.side a refl is) (turn r g start first replies line.side line a refl is)
+    ends_last r g start first replies a (answered_on r g start first replies [] line on line.side a refl is)
+    (turn r g start first replies line.side line a refl is)
 
 pub if_some : (o : Option PlayLine) (P : Type 0) (Q R : PlayLine → Type 0) → MatchOption o P Q → ((e : PlayLine) → Q e → R e) → IfSome o R
 if_some None P Q R h f = tt

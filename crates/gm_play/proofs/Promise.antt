@@ -15,7 +15,8 @@ module _ (r : Rules) (g : IsGame r) where
   KeepsWin p s ms n = (length ms ≤ n) × (r.primitive (position_after r p ms) ≢ None → HasWon r (position_after r p ms) (side_after s ms))
 
   -- a line from a won position
-  line_won : (ms : List ℕ) (p : Position) (s : Side) (replies : List ℕ) (n : ℕ) → r.is_legal p ≡ true → IsLine r p s replies ms → IsWonIn r p s n → KeepsWin p s ms n
+  line_won : (ms : List ℕ) (p : Position) (s : Side) (replies : List ℕ) (n : ℕ) → r.is_legal p ≡ true → IsLine r p s replies ms → IsWonIn r p s n → KeepsWin
+      p s ms n
   line_won [] p s replies n l line w = (omega arith, won_at r g p s n (r.primitive p) w refl)
   line_won (m ∷ ms) p Computer replies n l line w =
       let (k, few, v) = best_won r g p m n line.0 w in
@@ -28,16 +29,19 @@ module _ (r : Rules) (g : IsGame r) where
       let t = line_won ms (r.play p m) Computer qs k (g.play_legal p m l line.1) line.2 v in
       ((let a = t.0 in omega arith), t.1)
 
-  line_safe : (ms : List ℕ) (p : Position) (s : Side) (replies : List ℕ) → r.is_legal p ≡ true → IsLine r p s replies ms → IsSafe r g p s → HasLost r (position_after r p ms) (side_after s ms) → ⊥
+  line_safe : (ms : List ℕ) (p : Position) (s : Side) (replies : List ℕ) → r.is_legal p ≡ true → IsLine r p s replies ms → IsSafe r g p s → HasLost r
+      (position_after r p ms) (side_after s ms) → ⊥
   line_safe [] p s replies l line safe = not_lost r g p s safe
   line_safe (m ∷ ms) p Computer replies l line safe =
       let b = line.0.1 in
-      line_safe ms (r.play p m) You replies (g.play_legal p m l b.best.there) line.1 (best_safe r g p m b.value b.own b.remoteness b.is_value b.best.reaches safe)
+      line_safe ms (r.play p m) You replies (g.play_legal p m l b.best.there) line.1
+      (best_safe r g p m b.value b.own b.remoteness b.is_value b.best.reaches safe)
   line_safe (m ∷ ms) p You [] l line safe = absurd line
   line_safe (m ∷ ms) p You (q ∷ qs) l line safe = line_safe ms (r.play p m) Computer qs (g.play_legal p m l line.1) line.2 (reply_safe r g p m l line.1 safe)
 
   -- where a line ends, no other one goes on
-  no_longer : (n : ℕ) (ns : List ℕ) (p : Position) (s : Side) (replies : List ℕ) → r.is_legal p ≡ true → IsLine r p s replies [] → IsLine r p s replies (n ∷ ns) → ⊥
+  no_longer : (n : ℕ) (ns : List ℕ) (p : Position) (s : Side) (replies : List ℕ) → r.is_legal p ≡ true → IsLine r p s replies [] → IsLine r p s replies
+      (n ∷ ns) → ⊥
   no_longer n ns p Computer replies l (inl e) b = e b.0.0
   no_longer n ns p Computer replies l (inr e) b = (let f = e.0 in absurd (cc))
   no_longer n ns p You [] l a b = b
@@ -62,11 +66,14 @@ module _ (r : Rules) (g : IsGame r) where
       let same : ms ≡ ns = line_once ms ns (r.play p m) Computer qs (g.play_legal p m l a.1) a.2 rest in
       cc
 
-  pub played_every : (p : Position) (s : Side) (replies moves : List ℕ) (end : PlayLine) → r.is_legal p ≡ true → IsPlayed r p s replies end → IsLine r p s replies moves → LeadsTo r p s moves end
-  played_every p s replies moves end l (ms, line, leads) other = subst (λ (xs : List ℕ). LeadsTo r p s xs end) (line_once ms moves p s replies l line other) leads
+  pub played_every : (p : Position) (s : Side) (replies moves : List ℕ) (end : PlayLine) → r.is_legal p ≡ true → IsPlayed r p s replies end → IsLine r p s
+      replies moves → LeadsTo r p s moves end
+  played_every p s replies moves end l (ms, line, leads) other = subst (λ (xs : List ℕ). LeadsTo r p s xs end) (line_once ms moves p s replies l line other)
+      leads
 
   -- what is played keeps both
-  pub played_won : (p : Position) (s : Side) (replies : List ℕ) (end : PlayLine) (n : ℕ) → r.is_legal p ≡ true → IsPlayed r p s replies end → IsWonIn r p s n → WinsWithin r n end
+  pub played_won : (p : Position) (s : Side) (replies : List ℕ) (end : PlayLine) (n : ℕ) → r.is_legal p ≡ true → IsPlayed r p s replies end → IsWonIn r p s
+      n → WinsWithin r n end
   played_won p s replies end n l (moves, line, leads) w =
       let t = line_won moves p s replies n l line w in
       let few = t.0 in
@@ -76,7 +83,8 @@ module _ (r : Rules) (g : IsGame r) where
             (subst (λ (x : Side). HasWon r (position_after r p moves) x) (sym leads.side) (t.1 (λ e. h (ap r.primitive leads.position ∙ e)))),
       )
 
-  pub played_even : (p : Position) (s : Side) (replies : List ℕ) (end : PlayLine) → r.is_legal p ≡ true → IsPlayed r p s replies end → IsEven r p → HasLost r end.position end.side → ⊥
+  pub played_even : (p : Position) (s : Side) (replies : List ℕ) (end : PlayLine) → r.is_legal p ≡ true → IsPlayed r p s replies end → IsEven r p → HasLost
+      r end.position end.side → ⊥
   played_even p s replies end l (moves, line, leads) even lost =
       line_safe moves p s replies l line (even_safe r g p s even)
       (subst (λ (q : Position). HasLost r q (side_after s moves)) leads.position (subst (λ (x : Side). HasLost r end.position x) leads.side lost))

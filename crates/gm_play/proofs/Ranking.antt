@@ -1,5 +1,6 @@
 -- The first of the moves in order is the best move, and what it is worth is the value of the position.
-use Rattle.std.proofs.Common.{◌≡◌, ℕ, suc, ◌+◌, ◌*◌, ◌^◌, ◌<◌, ◌≤◌, true, List, [], ◌∷◌, map, Option, None, Some, refl, sym, ap, subst, ◌∙◌, arith, Bool, false, if◌then◌else◌}
+use Rattle.std.proofs.Common.{◌≡◌, ℕ, suc, ◌+◌, ◌*◌, ◌^◌, ◌<◌, ◌≤◌, true, List, [], ◌∷◌, map, Option, None, Some, refl, sym, ap, subst, ◌∙◌, arith, Bool, false}
+use Rattle.std.proofs.Common.{if◌then◌else◌}
 use Rattle.std.specs.Prelude.{IsPermutation, IfSome, slice_get}
 use Rattle.std.specs.List.{Contains}
 use Rattle.std.specs.List.Sorted.{IsNonDecreasingBy}
@@ -33,7 +34,8 @@ rank_first a b m n few h = omega arith
 number_next : (a b m n : ℕ) → a ≡ b → 2 ^ 32 * a + m ≤ 2 ^ 32 * b + n → m ≤ n
 number_next a b m n e h = omega arith
 
-rank_apart : (v w : Value) (k l : ℕ) → k ≤ REMOTENESS → l ≤ REMOTENESS → rank v k ≤ rank w l → (w ≡ Lose → v ≡ Lose) × (w ≡ Tie → (v ≡ Lose → ⊥) → v ≡ Tie) × (w ≡ Draw → (v ≡ Lose → ⊥) → (v ≡ Tie → ⊥) → v ≡ Draw)
+rank_apart : (v w : Value) (k l : ℕ) → k ≤ REMOTENESS → l ≤ REMOTENESS → rank v k ≤ rank w l → (w ≡ Lose → v ≡ Lose) × (w ≡ Tie → (v ≡ Lose → ⊥) → v ≡ Tie)
+    × (w ≡ Draw → (v ≡ Lose → ⊥) → (v ≡ Tie → ⊥) → v ≡ Draw)
 rank_apart Lose w k l a b h = (λ e. refl, λ e f. absurd (f refl), λ e f x. absurd (f refl))
 rank_apart Tie Lose k l a b h = absurd (omega arith)
 rank_apart Tie Tie k l a b h = (λ e. absurd (cc), λ e f. refl, λ e f x. absurd (x refl))
@@ -57,12 +59,14 @@ rank_far Win k l a b h = omega arith
 least_first : (x : MoveValue) (xs : List MoveValue) → IsNonDecreasingBy place (x ∷ xs) → (y : MoveValue) → Contains (x ∷ xs) y → place x ≤ place y
 least_first x xs h y (j, low, e) = subst (λ (z : MoveValue). place x ≤ place z) e (h 0 j y (omega arith) low)
 
-module _ (r : Rules) (g : IsGame r) (p : Position) (legal : r.is_legal p ≡ true) (known : (d : Position) → IsChild r p d → (s : Solved) × IsTrueValue r d s) (x : MoveValue) (xs : List MoveValue) (h : AreMoveValues r p (x ∷ xs)) where
+module _ (r : Rules) (g : IsGame r) (p : Position) (legal : r.is_legal p ≡ true) (known : (d : Position) → IsChild r p d → (s : Solved) × IsTrueValue r d s)
+    (x : MoveValue) (xs : List MoveValue) (h : AreMoveValues r p (x ∷ xs)) where
   abbrev number : MoveValue → ℕ
   number y = y.number
 
   move_of : (y : MoveValue) → Contains (x ∷ xs) y → Contains (r.moves p) y.number
-  move_of y has = Contains-permutation (map number (x ∷ xs)) (r.moves p) y.number (IsPermutation-sym (r.moves p) (map number (x ∷ xs)) h.listed) (map_from number (x ∷ xs) y has)
+  move_of y has = Contains-permutation (map number (x ∷ xs)) (r.moves p) y.number (IsPermutation-sym (r.moves p) (map number (x ∷ xs)) h.listed)
+      (map_from number (x ∷ xs) y has)
 
   first_there : Contains (r.moves p) x.number
   first_there = move_of x (contains_first x xs)
@@ -87,7 +91,8 @@ module _ (r : Rules) (g : IsGame r) (p : Position) (legal : r.is_legal p ≡ tru
   follows n k w has v =
       let (y, there, e) = map_in number (x ∷ xs) n (Contains-permutation (r.moves p) (map number (x ∷ xs)) n h.listed has) in
       let m = All-contains (IsMoveValue r p) (x ∷ xs) y h.each there in
-      let here : HasValue r (r.play p n) y.result.value y.result.remoteness = subst (λ (z : ℕ). HasValue r (r.play p z) y.result.value y.result.remoteness) e (value_of y m) in
+      let here : HasValue r (r.play p n) y.result.value y.result.remoteness = subst (λ (z : ℕ). HasValue r (r.play p z) y.result.value y.result.remoteness)
+      e (value_of y m) in
       let (same, far) = HasValue_once r (r.play p n) y.result.value w y.result.remoteness k here v in
       let at : rank y.result.value y.result.remoteness ≡ rank w k = ap (λ (z : Value). rank z y.result.remoteness) same ∙ ap (rank w) far in
       let small : y.result.remoteness ≤ REMOTENESS = m.small in
@@ -96,19 +101,23 @@ module _ (r : Rules) (g : IsGame r) (p : Position) (legal : r.is_legal p ≡ tru
       let low = rank_first (rank x.result.value x.result.remoteness) (rank y.result.value y.result.remoteness) x.number y.number fits before in (
         subst (λ (z : ℕ). z ≤ REMOTENESS) far small,
         subst (λ (z : ℕ). rank x.result.value x.result.remoteness ≤ z) at low,
-        λ q. subst (λ (z : ℕ). x.number ≤ z) e (number_next (rank x.result.value x.result.remoteness) (rank y.result.value y.result.remoteness) x.number y.number (q ∙ sym at) before),
+        λ q. subst (λ (z : ℕ). x.number ≤ z) e (number_next (rank x.result.value x.result.remoteness) (rank y.result.value y.result.remoteness) x.number
+            y.number (q ∙ sym at) before),
       )
 
   not_lost : (v : Value) (own : ℕ) → HasValue r p v own → (v ≡ Win → ⊥) → x.result.value ≡ Lose → ⊥
   not_lost v own q other e =
-      let l : HasValue r (r.play p x.number) Lose x.result.remoteness = subst (λ (w : Value). HasValue r (r.play p x.number) w x.result.remoteness) e first_value in
-      let w : wins r (suc x.result.remoteness) p ≡ true = wins_from r x.result.remoteness p (r.play p x.number) open_ (map_from (r.play p) (r.moves p) x.number first_there) l.0 in
+      let l : HasValue r (r.play p x.number) Lose x.result.remoteness = subst (λ (w : Value). HasValue r (r.play p x.number) w x.result.remoteness) e
+      first_value in
+      let w : wins r (suc x.result.remoteness) p ≡ true = wins_from r x.result.remoteness p (r.play p x.number) open_
+      (map_from (r.play p) (r.moves p) x.number first_there) l.0 in
       let (j, few, z) = win_within r (suc x.result.remoteness) p w in
       other (HasValue_once r p v Win own j q z).0
 
   not_tied : (own : ℕ) → HasValue r p Draw own → x.result.value ≡ Tie → ⊥
   not_tied own q e =
-      let t : HasValue r (r.play p x.number) Tie x.result.remoteness = subst (λ (w : Value). HasValue r (r.play p x.number) w x.result.remoteness) e first_value in
+      let t : HasValue r (r.play p x.number) Tie x.result.remoteness = subst (λ (w : Value). HasValue r (r.play p x.number) w x.result.remoteness) e
+      first_value in
       q.3 (suc x.result.remoteness) (ties_from r x.result.remoteness p (r.play p x.number) open_ q.2 (map_from (r.play p) (r.moves p) x.number first_there) t.0)
 
   abbrev Leads : Value → Type 0
@@ -134,7 +143,8 @@ module _ (r : Rules) (g : IsGame r) (p : Position) (legal : r.is_legal p ≡ tru
       record {
         there = first_there;
         reaches = subst (λ (w : Value). HasValue r (r.play p x.number) w x.result.remoteness) e first_value;
-        no_better = λ n k has w. (let f = follows n k (wanted_from v) has w in rank_far v x.result.remoteness k first_small f.0 (subst (λ (z : ℕ). z ≤ rank (wanted_from v) k) same f.1));
+        no_better = λ n k has w. (let f = follows n k (wanted_from v) has w in rank_far v x.result.remoteness k first_small f.0
+            (subst (λ (z : ℕ). z ≤ rank (wanted_from v) k) same f.1));
         first = λ n has w. (follows n x.result.remoteness (wanted_from v) has w).2 same;
       }
 
@@ -143,33 +153,19 @@ module _ (r : Rules) (g : IsGame r) (p : Position) (legal : r.is_legal p ≡ tru
       let e : x.result.value ≡ wanted_from v = wanted_first v own q (leads r g p legal open_ known v own q) in
       let b = first_best v e in
       let m = All-contains (IsMoveValue r p) (x ∷ xs) x h.each (contains_first x xs) in
-      let worth : x.worth ≡ solved v own = m.worth ∙ ap (λ (w : Value). worth_from w x.result.remoteness) e ∙ best_worth r p open_ v own x.number x.result.remoteness q b in (
+      let worth : x.worth ≡ solved v own = m.worth ∙ ap (λ (w : Value). worth_from w x.result.remoteness) e ∙ best_worth r p open_ v own x.number
+      x.result.remoteness q b in (
         (open_, record { value = v; own = own; is_value = q; remoteness = x.result.remoteness; best = b }),
         subst (IsTrueValue r p) (sym worth) q,
       )
 
 no_moves : (r : Rules) (p : Position) → IsPermutation (r.moves p) [] → (ms : List ℕ) → r.moves p ≡ ms → ms ≡ []
 no_moves r p h [] e = refl
-no_moves r p h (m ∷ ms) e = absurd (contains_none m (Contains-permutation (r.moves p) [] m h (subst (λ (xs : List ℕ). Contains xs m) (sym e) (contains_first m ms))))
+no_moves r p h (m ∷ ms) e = absurd (contains_none m (Contains-permutation (r.moves p) [] m h
+    (subst (λ (xs : List ℕ). Contains xs m) (sym e) (contains_first m ms))))
 
 -- where a position has a value, its moves in order begin with the best one
-pub begins_best : (r : Rules) (g : IsGame r) (p : Position) → r.is_legal p ≡ true → ((d : Position) → IsChild r p d → (s : Solved) × IsTrueValue r d s) → (s : Solved) → IsTrueValue r p s → (list : List MoveValue) → AreMoveValues r p list → BeginsBest r p list
+pub begins_best : (r : Rules) (g : IsGame r) (p : Position) → r.is_legal p ≡ true → ((d : Position) → IsChild r p d → (s : Solved) × IsTrueValue r d s) →
+    (s : Solved) → IsTrueValue r p s → (list : List MoveValue) → AreMoveValues r p list → BeginsBest r p list
 begins_best r g p legal known s q [] h = λ e. absurd (g.unended p legal e (no_moves r p h.listed (r.moves p) refl))
 begins_best r g p legal known s q (x ∷ xs) h = begins r g p legal known x xs h s.value s.remoteness q
-
--- no value of a table is farther than the limit
-small_record : (r : Rules) (t : TableData) (i : ℕ) (o : Option (Option Solved)) → IsTrueTable r REMOTENESS t.tier t.records → slice_get t.records i ≡ o → IfSome (elim o [ None ↦ None | Some x ↦ x ]) (λ s. s.remoteness ≤ REMOTENESS)
-small_record r t i None h e = tt
-small_record r t i (Some None) h e = tt
-small_record r t i (Some (Some s)) h e = (h.each i (Some s) e).2
-
-small_in : (r : Rules) (entries : List TableData) (tier i : ℕ) (o : Option TableData) → AreTables r entries → table_of entries tier ≡ o → IfSome (elim o [ None ↦ None | Some t ↦ record_at t.records i ]) (λ s. s.remoteness ≤ REMOTENESS)
-small_in r entries tier i None h e = tt
-small_in r entries tier i (Some t) h e = small_record r t i (slice_get t.records i) (h tier t e).1.is_true refl
-
-small_if : (b : Bool) (o : Option Solved) → IfSome o (λ s. s.remoteness ≤ REMOTENESS) → IfSome (if b then o else None) (λ s. s.remoteness ≤ REMOTENESS)
-small_if true o h = h
-small_if false o h = tt
-
-pub value_small : (r : Rules) (entries : List TableData) (p : Position) → AreTables r entries → IfSome (value_in r entries p) (λ s. s.remoteness ≤ REMOTENESS)
-value_small r entries p h = small_if (r.is_legal p) (record_in entries (r.canonical p)) (small_in r entries (r.canonical p).tier (r.canonical p).index (table_of entries (r.canonical p).tier) h refl)

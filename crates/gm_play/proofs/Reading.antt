@@ -11,7 +11,8 @@ use Rattle.gm_play.specs.Dialogue.{Advice, Said, ends, after_move, computers_tur
 use Rattle.gm_play.specs.declared.view.Question.{Question}
 
 module _ {X : Type 0} (test : X → Bool) where
-  find_first : (y x : X) (ys : List X) (b : Bool) → (find test ys ≡ Some x → Contains ys x × (test x ≡ true)) → test y ≡ b → cond b (Some y) (find test ys) ≡ Some x → Contains (y ∷ ys) x × (test x ≡ true)
+  find_first : (y x : X) (ys : List X) (b : Bool) → (find test ys ≡ Some x → Contains ys x × (test x ≡ true)) → test y ≡ b → cond b (Some y) (find test ys)
+      ≡ Some x → Contains (y ∷ ys) x × (test x ≡ true)
   find_first y x ys true h t e = (let s : y ≡ x = cc in (subst (Contains (y ∷ ys)) s (contains_first y ys), sym (ap test s) ∙ t))
   find_first y x ys false h t e = (let (has, s) = h e in (contains_later y x ys has, s))
 
@@ -50,7 +51,8 @@ module _ (r : Rules) (shown : Position → List ℕ) (move_shown : Position → 
   pub read_is : (o : Option ℕ) → IsReadAs o → move_read r shown move_shown p text ≡ o
   read_is o h = found o (find test (r.moves p)) refl h
 
-module _ (r : Rules) (shown : Position → List ℕ) (move_shown : Position → ℕ → List ℕ) (k : Advice) (seen : Question → Position → List ℕ) (p : Position) (line : List ℕ) where
+module _ (r : Rules) (shown : Position → List ℕ) (move_shown : Position → ℕ → List ℕ) (k : Advice) (seen : Question → Position → List ℕ) (p : Position)
+    (line : List ℕ) where
   abbrev Reply : Bool → Option ℕ → Said
   Reply quits o = if quits then ends (codes "bye\n") else answer_to r shown move_shown k seen p o
 
@@ -59,7 +61,8 @@ module _ (r : Rules) (shown : Position → List ℕ) (move_shown : Position → 
 
   pub reply_is : (o : Option ℕ) → bytes_eq (without_return line) (codes "quit") ≡ false → move_read r shown move_shown p (without_return line) ≡ o
       → answer_to r shown move_shown k seen p o ≡ reply r shown move_shown k seen p line
-  reply_is o h e = ap (answer_to r shown move_shown k seen p) (sym e) ∙ ap (λ (b : Bool). Reply b (move_read r shown move_shown p (without_return line))) (sym h)
+  reply_is o h e = ap (answer_to r shown move_shown k seen p) (sym e) ∙ ap (λ (b : Bool). Reply b (move_read r shown move_shown p (without_return line)))
+      (sym h)
 
   -- the same, where the line has become this text, and it was compared
   module _ (text quit : List ℕ) (t : text ≡ without_return line) (q : quit ≡ codes "quit") (b : Bool) (compared : b ≡ bytes_eq text quit) where
@@ -69,8 +72,10 @@ module _ (r : Rules) (shown : Position → List ℕ) (move_shown : Position → 
     pub says_bye : b ≡ true → ends (codes "bye\n") ≡ reply r shown move_shown k seen p line
     says_bye e = reply_quits (same ∙ e)
 
-    pub answers : b ≡ false → (o is : Option ℕ) → IsReadAs r shown move_shown p text o → o ≡ is → answer_to r shown move_shown k seen p is ≡ reply r shown move_shown k seen p line
-    answers e o is read i = reply_is is (same ∙ e) (read_is r shown move_shown p (without_return line) o (subst (λ (l : List ℕ). IsReadAs r shown move_shown p l o) t read) ∙ i)
+    pub answers : b ≡ false → (o is : Option ℕ) → IsReadAs r shown move_shown p text o → o ≡ is → answer_to r shown move_shown k seen p is ≡ reply r shown
+        move_shown k seen p line
+    answers e o is read i = reply_is is (same ∙ e) (read_is r shown move_shown p (without_return line) o
+        (subst (λ (l : List ℕ). IsReadAs r shown move_shown p l o) t read) ∙ i)
 
     pub moves : b ≡ false → (o : Option ℕ) (m : ℕ) → IsReadAs r shown move_shown p text o → o ≡ Some m → (next : Position) → next ≡ r.play p m
         → after_move (computers_turn r shown move_shown k seen next) ≡ reply r shown move_shown k seen p line
@@ -80,5 +85,7 @@ module _ (r : Rules) (shown : Position → List ℕ) (move_shown : Position → 
   abbrev pub after_reply : Option Position → List ℕ
   after_reply o = text_after (λ q. codes "input ended\n") o
 
-  pub closing_is : (length line == 0) ≡ false → (reply r shown move_shown k seen p line).text ++ after_reply (reply r shown move_shown k seen p line).asked ≡ closing r shown move_shown k seen p line
-  closing_is h = ap (λ (b : Bool). if b then codes "input ended\n" else (reply r shown move_shown k seen p line).text ++ after_reply (reply r shown move_shown k seen p line).asked) (sym h)
+  pub closing_is : (length line == 0) ≡ false → (reply r shown move_shown k seen p line).text ++ after_reply (reply r shown move_shown k seen p line).asked
+      ≡ closing r shown move_shown k seen p line
+  closing_is h = ap (λ (b : Bool). if b then codes "input ended\n" else (reply r shown move_shown k seen p line).text ++ after_reply
+      (reply r shown move_shown k seen p line).asked) (sym h)

@@ -1,5 +1,6 @@
 -- The rows of moves and of lines of play.
-use Rattle.std.proofs.Common.{◌≡◌, ℕ, ◌+◌, ◌-◌, ◌<◌, ◌≤◌, true, List, [], ◌∷◌, ◌++◌, length, map, take, drop, get_or, Option, Some, refl, sym, ap, ap₂, subst, ◌∙◌, arith}
+use Rattle.std.proofs.Common.{◌≡◌, ℕ, ◌+◌, ◌-◌, ◌<◌, ◌≤◌, true, List, [], ◌∷◌, ◌++◌, length, map, take, drop, get_or, Option, Some, refl, sym, ap, ap₂, subst}
+use Rattle.std.proofs.Common.{◌∙◌, arith}
 use Rattle.std.specs.List.{All, Contains, flat_map}
 use Rattle.std.proofs.lemmas.List.{append_assoc, append-nil, take_more, take_all, drop_more}
 use Rattle.std.proofs.lemmas.Grind.{flat_map-append}
@@ -22,17 +23,14 @@ use Rattle.gm_play.specs.MoveValues.{worth_from, AreMoveValues}
 use Rattle.gm_play.specs.PlayTexts.{row, after_best, IsMoveOf, AreLineRows, rows_from}
 use Rattle.gm_play.proofs.Walking.{step_value}
 
--- there is one position with a text
-pub same_read : (p q : Position) (o : Option Position) → o ≡ Some p → o ≡ Some q → p ≡ q
-same_read p q o a b = let e : Some p ≡ Some q = sym a ∙ b in cc
-
 -- moves with their values have legal results
 pub are_moves : (r : Rules) → IsGame r → (p : Position) → r.is_legal p ≡ true → (list : List MoveValue) → AreMoveValues r p list → All (IsMoveOf r p) list
 are_moves r g p legal list h k d inside =
     let x = get_or list k d in
     let number : MoveValue → ℕ = λ (y : MoveValue). y.number in
     let there : Contains list x = All-contains_itself list k d inside in
-    let has : Contains (r.moves p) x.number = Contains-permutation (map number list) (r.moves p) x.number (IsPermutation-sym (r.moves p) (map number list) h.listed) (map_from number list x there) in
+    let has : Contains (r.moves p) x.number = Contains-permutation (map number list) (r.moves p) x.number
+    (IsPermutation-sym (r.moves p) (map number list) h.listed) (map_from number list x there) in
     (has, subst (λ (q : Position). r.is_legal q ≡ true) (sym (h.each k d inside).position) (g.play_legal p x.number legal has))
 
 -- the value after the best move
@@ -51,23 +49,28 @@ after_true r p m s b h =
     subst (λ (n : ℕ). HasValue r (r.play p m) (wanted_from s.value) n) (lowered s.value k s.remoteness (drawn_zero r p s.value s.remoteness h) e) here
 
 -- the next of some best moves is a move, and the others are best after it
-pub best_step : (r : Rules) (p : Position) (ms : List ℕ) (k : ℕ) → k < length ms → AreBest r p (drop k ms) → Contains (r.moves p) (get_or ms k 0) × AreBest r (r.play p (get_or ms k 0)) (drop (k + 1) ms)
-best_step r p ms k less h = let best : AreBest r p (get_or ms k 0 ∷ drop (k + 1) ms) = subst (AreBest r p) (drop_more ms k 0 less) h in (best.0.1.best.there, best.1)
+pub best_step : (r : Rules) (p : Position) (ms : List ℕ) (k : ℕ) → k < length ms → AreBest r p (drop k ms) → Contains (r.moves p) (get_or ms k 0) × AreBest
+    r (r.play p (get_or ms k 0)) (drop (k + 1) ms)
+best_step r p ms k less h = let best : AreBest r p (get_or ms k 0 ∷ drop (k + 1) ms) = subst (AreBest r p) (drop_more ms k 0 less) h in
+    (best.0.1.best.there, best.1)
 
 module _ (r : Rules) (shown : Position → List ℕ) (move_shown : Position → ℕ → List ℕ) where
-  pub rows_true : (ms : List ℕ) (p : Position) (s : Solved) → AreBest r p ms → IsTrueValue r p s → AreLineRows r shown move_shown p ms (rows_from r shown move_shown p s ms)
+  pub rows_true : (ms : List ℕ) (p : Position) (s : Solved) → AreBest r p ms → IsTrueValue r p s → AreLineRows r shown move_shown p ms
+      (rows_from r shown move_shown p s ms)
   rows_true [] p s best h = refl
   rows_true (m ∷ ms) p s best h =
       let next = after_true r p m s best.0 h in
       (after_best s, rows_from r shown move_shown (r.play p m) (after_best s) ms, next, rows_true ms (r.play p m) (after_best s) best.1 next, refl)
 
   -- one row more
-  pub rows_next : (p q : Position) (s t : Solved) (m : ℕ) (ms done more all : List ℕ) → q ≡ r.play p m → t ≡ after_best s → more ≡ done ++ row (move_shown p m) (shown q) (text_of t)
+  pub rows_next : (p q : Position) (s t : Solved) (m : ℕ) (ms done more all : List ℕ) → q ≡ r.play p m → t ≡ after_best s → more ≡ done ++ row
+      (move_shown p m) (shown q) (text_of t)
       → done ++ rows_from r shown move_shown p s (m ∷ ms) ≡ all → more ++ rows_from r shown move_shown q t ms ≡ all
   rows_next p q s t m ms done more all e f w h =
       let line = row (move_shown p m) (shown q) (text_of t) in
       let rest = rows_from r shown move_shown q t ms in
-      let here : line ++ rest ≡ rows_from r shown move_shown p s (m ∷ ms) = ap (λ (x : Position). row (move_shown p m) (shown x) (text_of t) ++ rows_from r shown move_shown x t ms) e
+      let here : line ++ rest ≡ rows_from r shown move_shown p s (m ∷ ms) = ap (λ (x : Position). row (move_shown p m) (shown x) (text_of t) ++ rows_from r
+      shown move_shown x t ms) e
       ∙ ap (λ (u : Solved). row (move_shown p m) (shown (r.play p m)) (text_of u) ++ rows_from r shown move_shown (r.play p m) u ms) f in
       ap (λ (x : List ℕ). x ++ rest) w ∙ append_assoc done line rest ∙ ap (λ (x : List ℕ). done ++ x) here ∙ h
 
@@ -83,11 +86,13 @@ pub same_row : (done a b d x y z : List ℕ) → a ≡ x → b ≡ y → d ≡ z
 same_row done a b d x y z e f g = rw (e, f, g) refl
 
 -- what is written for each of some things, and for one thing more
-pub flat_more : {X : Type 0} (f : X → List ℕ) (xs : List X) (i : ℕ) (d : X) (old new piece : List ℕ) → i < length xs → old ≡ flat_map f (take i xs) → new ≡ old ++ piece → piece ≡ f (get_or xs i d)
+pub flat_more : {X : Type 0} (f : X → List ℕ) (xs : List X) (i : ℕ) (d : X) (old new piece : List ℕ) → i < length xs → old ≡ flat_map f (take i xs) → new ≡
+    old ++ piece → piece ≡ f (get_or xs i d)
     → new ≡ flat_map f (take (i + 1) xs)
 flat_more f xs i d old new piece less o n p =
     let x = get_or xs i d in
-    n ∙ ap₂ (λ (a b : List ℕ). a ++ b) o p ∙ ap (λ (a : List ℕ). flat_map f (take i xs) ++ a) (sym (append-nil (f x))) ∙ sym (flat_map-append f (take i xs) (x ∷ []))
+    n ∙ ap₂ (λ (a b : List ℕ). a ++ b) o p ∙ ap (λ (a : List ℕ). flat_map f (take i xs) ++ a) (sym (append-nil (f x))) ∙ sym
+    (flat_map-append f (take i xs) (x ∷ []))
     ∙ ap (flat_map f) (sym (take_more xs i d less))
 
 pub flat_all : {X : Type 0} (f : X → List ℕ) (xs : List X) (i : ℕ) (all : List ℕ) → length xs ≤ i → all ≡ flat_map f (take i xs) → all ≡ flat_map f xs

@@ -19,9 +19,10 @@ use Rattle.gm_play.specs.Sessions.{AppendsPart, Says}
 use Rattle.gm_play.proofs.Parts.{part_is, part_longer, text_is, done_by, stops_in}
 use Rattle.gm_play.specs.Dialogue.{Advice, Said, IsKnown, before, after_move, game_over, asks, place, asks_or_ends, persons_turn, moves_or_ends}
 use Rattle.gm_best.specs.BestMoves.{IsBestMove}
-use Rattle.gm_play.specs.Reached.{IsReached}
+use Rattle.gm_best.specs.Reached.{IsReached}
 use Rattle.gm_play.proofs.Keeping.{best_once}
-use Rattle.gm_play.proofs.Reaching.{own_reached, reached_by, known_from}
+use Rattle.gm_best.proofs.Reaching.{own_reached, reached_by}
+use Rattle.gm_play.proofs.Knowing.{known_from}
 use Rattle.gm_play.specs.declared.view.Question.TheVariants.{First}
 use Rattle.gm_play.specs.declared.view.Question.{Question}
 
@@ -55,13 +56,15 @@ module _ (r : Rules) (shown : Position → List ℕ) (move_shown : Position → 
   move_line m = codes "computer" ++ codes ": " ++ move_shown p m ++ codes "\n"
 
   pub computer_moves : (m : ℕ) → r.is_legal p ≡ true → IsKnown r p.tier k → IsBestMove r p (Some m)
-      → after_move (before (move_line m) (persons_turn r shown move_shown k seen (r.play p m))) ≡ moves_or_ends r shown move_shown k seen p (r.primitive p) (k.best p)
+      → after_move (before (move_line m) (persons_turn r shown move_shown k seen (r.play p m))) ≡ moves_or_ends r shown move_shown k seen p (r.primitive p)
+      (k.best p)
   computer_moves m l known h =
       ap (λ (o : Option End). moves_or_ends r shown move_shown k seen p o (Some m)) (sym h.0)
       ∙ ap (moves_or_ends r shown move_shown k seen p (r.primitive p)) (sym (best_known m l known h))
 
 -- where the best move leads is reached
-pub best_reached : (r : Rules) (p : Position) (m : ℕ) → r.is_legal p ≡ true → IsBestMove r p (Some m) → IsGame r → (q : Position) → q ≡ r.play p m → IsReached r p.tier q
+pub best_reached : (r : Rules) (p : Position) (m : ℕ) → r.is_legal p ≡ true → IsBestMove r p (Some m) → IsGame r → (q : Position) → q ≡ r.play p m →
+    IsReached r p.tier q
 best_reached r p m legal best game q e = reached_by r game p m legal best.1.best.there q e
 
 -- the best move is made: its line, and then the person's turn
@@ -95,12 +98,14 @@ module _ (r : Rules) (shown : Position → List ℕ) (move_shown : Position → 
     pub move_done : (IsKnown r q.tier k → IfOk call (Says b c (next q))) → IfOk call (Says a c goes_on)
     move_done h =
         subst (λ (s : Said). IfOk call (Says a c s)) same
-        (done_by a b c (move_line r shown move_shown k seen p m) (next (r.play p m)) (next q) line_written (ap next there) (next q).text refl call (h (known_next q there game)))
+        (done_by a b c (move_line r shown move_shown k seen p m) (next (r.play p m)) (next q) line_written (ap next there) (next q).text refl call
+        (h (known_next q there game)))
 
     pub move_stops : (IsKnown r q.tier k → OnErr call (AppendsPart b c (next q).text)) → OnErr call (AppendsPart a c goes_on.text)
     move_stops h =
         subst (λ (s : Said). OnErr call (AppendsPart a c s.text)) same
-        (stops_in a b c (move_line r shown move_shown k seen p m) (next (r.play p m)) (next q) line_written (ap next there) (next q).text refl call (h (known_next q there game)))
+        (stops_in a b c (move_line r shown move_shown k seen p m) (next (r.play p m)) (next q) line_written (ap next there) (next q).text refl call
+        (h (known_next q there game)))
 
 -- no other answer is left
 pub ok_unless : (r : Result (Option ℕ) AnswerError) → (r ≡ Err Illegal → ⊥) → (r ≡ Err NotHeld → ⊥) → is_ok r ≡ true

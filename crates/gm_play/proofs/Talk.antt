@@ -1,5 +1,6 @@
 -- A session in its midst: what is read and written, and what follows.
-use Rattle.std.proofs.Common.{◌≡◌, ℕ, ◌+◌, ◌≤◌, Bool, true, false, List, [], ◌∷◌, ◌++◌, length, take, Option, Some, None, refl, sym, ap, ◌∙◌, append_assoc, append-nil, arith, inl, inr}
+use Rattle.std.proofs.Common.{◌≡◌, ℕ, ◌+◌, ◌≤◌, Bool, true, false, List, [], ◌∷◌, ◌++◌, length, take, Option, Some, None, refl, sym, ap, ◌∙◌, append_assoc}
+use Rattle.std.proofs.Common.{append-nil, arith, inl, inr}
 use Rattle.std.specs.Prelude.{◌==◌, if◌then◌else◌}
 use Rattle.std.proofs.lemmas.List.{length-append}
 use Rattle.std.specs.Io.KnownBytes.{Consumes, Appends, Keeps, IsAtEnd}
@@ -31,14 +32,17 @@ module _ (r : Rules) (shown : Position → List ℕ) (move_shown : Position → 
   Reply = reply r shown move_shown k seen
 
   -- a byte of a line, and the byte that ends it
-  talk_more : (f : Position → List ℕ → List ℕ) (p : Position) (line : List ℕ) (b : ℕ) (more : List ℕ) → (b == 10) ≡ false → Talk f p line (b ∷ more) ≡ Talk f p (line ++ b ∷ []) more
+  talk_more : (f : Position → List ℕ → List ℕ) (p : Position) (line : List ℕ) (b : ℕ) (more : List ℕ) → (b == 10) ≡ false → Talk f p line (b ∷ more) ≡ Talk
+      f p (line ++ b ∷ []) more
   unfolding talk
-  talk_more f p line b more e = ap (λ (c : Bool). if c then (Reply p line).text ++ text_after (λ q. Talk f q [] more) (Reply p line).asked else Talk f p (line ++ b ∷ []) more) e
+  talk_more f p line b more e = ap (λ (c : Bool). if c then (Reply p line).text ++ text_after (λ q. Talk f q [] more) (Reply p line).asked else Talk f p
+      (line ++ b ∷ []) more) e
 
   talk_line : (f : Position → List ℕ → List ℕ) (p : Position) (line : List ℕ) (b : ℕ) (more : List ℕ) → (b == 10) ≡ true
       → Talk f p line (b ∷ more) ≡ (Reply p line).text ++ text_after (λ q. Talk f q [] more) (Reply p line).asked
   unfolding talk
-  talk_line f p line b more e = ap (λ (c : Bool). if c then (Reply p line).text ++ text_after (λ q. Talk f q [] more) (Reply p line).asked else Talk f p (line ++ b ∷ []) more) e
+  talk_line f p line b more e = ap (λ (c : Bool). if c then (Reply p line).text ++ text_after (λ q. Talk f q [] more) (Reply p line).asked else Talk f p
+      (line ++ b ∷ []) more) e
 
   talk_end : (f : Position → List ℕ → List ℕ) (p : Position) (line : List ℕ) → Talk f p line [] ≡ f p line
   unfolding talk
@@ -48,7 +52,8 @@ module _ (r : Rules) (shown : Position → List ℕ) (move_shown : Position → 
   unfolding count
   count_more p line b more e = ap (λ (c : Bool). 1 + (if c then count_after (λ q. Count q [] more) (Reply p line).asked else Count p (line ++ b ∷ []) more)) e
 
-  count_line : (p : Position) (line : List ℕ) (b : ℕ) (more : List ℕ) → (b == 10) ≡ true → Count p line (b ∷ more) ≡ 1 + count_after (λ q. Count q [] more) (Reply p line).asked
+  count_line : (p : Position) (line : List ℕ) (b : ℕ) (more : List ℕ) → (b == 10) ≡ true → Count p line (b ∷ more) ≡ 1 + count_after (λ q. Count q [] more)
+      (Reply p line).asked
   unfolding count
   count_line p line b more e = ap (λ (c : Bool). 1 + (if c then count_after (λ q. Count q [] more) (Reply p line).asked else Count p (line ++ b ∷ []) more)) e
 
@@ -74,7 +79,8 @@ module _ (r : Rules) (shown : Position → List ℕ) (move_shown : Position → 
     abbrev Turn : Said
     Turn = turn r shown move_shown k seen start first
 
-    -- these bytes are read and this text is written; the person is asked at p and has given these bytes of a line, of which a front is kept; the rest is the talk from here
+    -- these bytes are read and this text is written; the person is asked at p and has given these bytes of a line, of which a front is kept; the rest is
+    -- the talk from here
     pub record GoesOn (number : ℕ) (r0 r1 w0 w1 : Option (List ℕ)) (p : Position) (kept : List ℕ) : Type 0 where
       pub bytes : List ℕ
       pub written : List ℕ
@@ -96,7 +102,8 @@ module _ (r : Rules) (shown : Position → List ℕ) (move_shown : Position → 
       len = refl;
       keeps = grind arith;
       talks = λ f more. asked_text Turn (λ q. Talk f q [] more) p e;
-      uses = λ more. (let h : count_after (λ q. Count q [] more) Turn.asked ≡ Count p [] more = ap (count_after (λ q. Count q [] more)) (sym e) in omega (arith, h));
+      uses = λ more. (let h : count_after (λ q. Count q [] more) Turn.asked ≡ Count p [] more = ap (count_after (λ q. Count q [] more)) (sym e) in omega
+          (arith, h));
     }
 
     nothing_read : (r0 : Option (List ℕ)) → IsRead r shown move_shown k seen start first r0 r0 []
@@ -107,7 +114,8 @@ module _ (r : Rules) (shown : Position → List ℕ) (move_shown : Position → 
     over_at_once r0 w0 w1 (e, a) = record {
       bytes = [];
       is_read = nothing_read r0;
-      writes = text_is w0 w1 Turn.text (Spoken (closing r shown move_shown k seen) []) (sym (ended_text Turn (λ q. Talk (closing r shown move_shown k seen) q [] []) e)) a;
+      writes = text_is w0 w1 Turn.text (Spoken (closing r shown move_shown k seen) [])
+          (sym (ended_text Turn (λ q. Talk (closing r shown move_shown k seen) q [] []) e)) a;
       end = inl (λ more. ap (count_after (λ q. Count q [] more)) (sym e));
     }
 
@@ -129,7 +137,8 @@ module _ (r : Rules) (shown : Position → List ℕ) (move_shown : Position → 
       used_push b more = ap Used (append_assoc g.bytes (b ∷ []) more) ∙ g.uses (b ∷ more)
 
       -- a byte of a line
-      pub goes_on : (r2 : Option (List ℕ)) (b : ℕ) (kept2 : List ℕ) → Consumes r1 r2 (b ∷ []) → (b == 10) ≡ false → kept2 ≡ take KEPT (g.line ++ b ∷ []) → GoesOn (number + 1) r0 r2 w0 w1 p kept2
+      pub goes_on : (r2 : Option (List ℕ)) (b : ℕ) (kept2 : List ℕ) → Consumes r1 r2 (b ∷ []) → (b == 10) ≡ false → kept2 ≡ take KEPT (g.line ++ b ∷ []) →
+          GoesOn (number + 1) r0 r2 w0 w1 p kept2
       goes_on r2 b kept2 c e t = record {
         bytes = g.bytes ++ b ∷ [];
         written = g.written;
@@ -143,7 +152,8 @@ module _ (r : Rules) (shown : Position → List ℕ) (move_shown : Position → 
       }
 
       -- a line that is answered, and the next question
-      pub next_line : (r2 w2 : Option (List ℕ)) (b : ℕ) (q : Position) → Consumes r1 r2 (b ∷ []) → (b == 10) ≡ true → Says w1 w2 (Reply p g.line) (Some q) → GoesOn (number + 1) r0 r2 w0 w2 q []
+      pub next_line : (r2 w2 : Option (List ℕ)) (b : ℕ) (q : Position) → Consumes r1 r2 (b ∷ []) → (b == 10) ≡ true → Says w1 w2 (Reply p g.line) (Some q) →
+          GoesOn (number + 1) r0 r2 w0 w2 q []
       next_line r2 w2 b q c e (o, a) = record {
         bytes = g.bytes ++ b ∷ [];
         written = g.written ++ (Reply p g.line).text;
@@ -152,7 +162,8 @@ module _ (r : Rules) (shown : Position → List ℕ) (move_shown : Position → 
         writes = Appends-trans w0 w1 w2 g.written (Reply p g.line).text g.writes a;
         len = omega (arith, g.len, length-append g.bytes (b ∷ []));
         keeps = grind arith;
-        talks = λ f more. spoken_push f b more ∙ ap (λ (l : List ℕ). g.written ++ l) (talk_line f p g.line b more e ∙ asked_text (Reply p g.line) (λ s. Talk f s [] more) q o)
+        talks = λ f more. spoken_push f b more ∙ ap (λ (l : List ℕ). g.written ++ l)
+            (talk_line f p g.line b more e ∙ asked_text (Reply p g.line) (λ s. Talk f s [] more) q o)
             ∙ sym (append_assoc g.written (Reply p g.line).text (Talk f q [] more));
         uses = λ more. (
             let h = used_push b more in
@@ -168,7 +179,8 @@ module _ (r : Rules) (shown : Position → List ℕ) (move_shown : Position → 
         all_used = ap Used (sym (append-nil g.bytes)) ∙ g.uses [] ∙ (let h = count_end p g.line in omega (arith, h));
       }
 
-      read_one_more : (r2 : Option (List ℕ)) (b : ℕ) → Consumes r1 r2 (b ∷ []) → number + 1 ≤ SESSION_BYTES → IsRead r shown move_shown k seen start first r0 r2 (g.bytes ++ b ∷ [])
+      read_one_more : (r2 : Option (List ℕ)) (b : ℕ) → Consumes r1 r2 (b ∷ []) → number + 1 ≤ SESSION_BYTES → IsRead r shown move_shown k seen start first
+          r0 r2 (g.bytes ++ b ∷ [])
       read_one_more r2 b c few = record {
         reads = Consumes-trans r0 r1 r2 g.bytes (b ∷ []) g.reads c;
         few = omega (arith, g.len, few, length-append g.bytes (b ∷ []));
@@ -176,7 +188,8 @@ module _ (r : Rules) (shown : Position → List ℕ) (move_shown : Position → 
       }
 
       -- the line that ends the session
-      pub last_line : (r2 w2 : Option (List ℕ)) (b : ℕ) → Consumes r1 r2 (b ∷ []) → (b == 10) ≡ true → number + 1 ≤ SESSION_BYTES → Says w1 w2 (Reply p g.line) None
+      pub last_line : (r2 w2 : Option (List ℕ)) (b : ℕ) → Consumes r1 r2 (b ∷ []) → (b == 10) ≡ true → number + 1 ≤ SESSION_BYTES → Says w1 w2
+          (Reply p g.line) None
           → IsSession r shown move_shown k seen start first r0 r2 w0 w2
       last_line r2 w2 b c e few (o, a) =
           let f = closing r shown move_shown k seen in
@@ -185,7 +198,8 @@ module _ (r : Rules) (shown : Position → List ℕ) (move_shown : Position → 
           record {
             bytes = g.bytes ++ b ∷ [];
             is_read = read_one_more r2 b c few;
-            writes = text_is w0 w2 (g.written ++ (Reply p g.line).text) (Spoken f (g.bytes ++ b ∷ [])) (sym said) (Appends-trans w0 w1 w2 g.written (Reply p g.line).text g.writes a);
+            writes = text_is w0 w2 (g.written ++ (Reply p g.line).text) (Spoken f (g.bytes ++ b ∷ [])) (sym said)
+                (Appends-trans w0 w1 w2 g.written (Reply p g.line).text g.writes a);
             end = inl (λ more. (
                 let h = used_push b more in
                 let d = count_line p g.line b more e in
@@ -194,10 +208,12 @@ module _ (r : Rules) (shown : Position → List ℕ) (move_shown : Position → 
           }
 
       -- the end of the input
-      pub input_ends : (r2 w2 : Option (List ℕ)) → Keeps r1 r2 → IsAtEnd r2 → number ≤ SESSION_BYTES → Appends w1 w2 (closing r shown move_shown k seen p g.line) → IsSession r shown move_shown k seen start first r0 r2 w0 w2
+      pub input_ends : (r2 w2 : Option (List ℕ)) → Keeps r1 r2 → IsAtEnd r2 → number ≤ SESSION_BYTES → Appends w1 w2
+          (closing r shown move_shown k seen p g.line) → IsSession r shown move_shown k seen start first r0 r2 w0 w2
       input_ends r2 w2 h d few a =
           let f = closing r shown move_shown k seen in
-          let said : Spoken f g.bytes ≡ g.written ++ f p g.line = ap (Spoken f) (sym (append-nil g.bytes)) ∙ g.talks f [] ∙ ap (λ (l : List ℕ). g.written ++ l) (talk_end f p g.line) in
+          let said : Spoken f g.bytes ≡ g.written ++ f p g.line = ap (Spoken f) (sym (append-nil g.bytes)) ∙ g.talks f [] ∙ ap
+          (λ (l : List ℕ). g.written ++ l) (talk_end f p g.line) in
           record {
             bytes = g.bytes;
             is_read = read_so_far r2 h few;
@@ -208,22 +224,32 @@ module _ (r : Rules) (shown : Position → List ℕ) (move_shown : Position → 
       -- errors: in reading
       pub read_fails : (r2 : Option (List ℕ)) → Keeps r1 r2 → number ≤ SESSION_BYTES → IsUnread r shown move_shown k seen start first r0 r2 w0 w1
       read_fails r2 h few =
-          let said : Spoken waiting g.bytes ≡ g.written = ap (Spoken waiting) (sym (append-nil g.bytes)) ∙ g.talks waiting [] ∙ ap (λ (l : List ℕ). g.written ++ l) (talk_end waiting p g.line) ∙ append-nil g.written in
+          let said : Spoken waiting g.bytes ≡ g.written = ap (Spoken waiting) (sym (append-nil g.bytes)) ∙ g.talks waiting [] ∙ ap
+          (λ (l : List ℕ). g.written ++ l) (talk_end waiting p g.line) ∙ append-nil g.written in
           record { bytes = g.bytes; is_read = read_so_far r2 h few; writes = text_is w0 w1 g.written (Spoken waiting g.bytes) (sym said) g.writes }
 
       -- in writing at the end of the input
-      pub close_fails : (r2 w2 : Option (List ℕ)) → Keeps r1 r2 → number ≤ SESSION_BYTES → AppendsPart w1 w2 (closing r shown move_shown k seen p g.line) → IsUnwritten r shown move_shown k seen start first r0 r2 w0 w2
+      pub close_fails : (r2 w2 : Option (List ℕ)) → Keeps r1 r2 → number ≤ SESSION_BYTES → AppendsPart w1 w2 (closing r shown move_shown k seen p g.line) →
+          IsUnwritten r shown move_shown k seen start first r0 r2 w0 w2
       close_fails r2 w2 h few a =
           let f = closing r shown move_shown k seen in
-          let said : Spoken f g.bytes ≡ g.written ++ f p g.line = ap (Spoken f) (sym (append-nil g.bytes)) ∙ g.talks f [] ∙ ap (λ (l : List ℕ). g.written ++ l) (talk_end f p g.line) in
-          record { bytes = g.bytes; is_read = read_so_far r2 h few; writes = part_is w0 w2 (g.written ++ f p g.line) (Spoken f g.bytes) (sym said) (part_after w0 w1 w2 g.written (f p g.line) g.writes a) }
+          let said : Spoken f g.bytes ≡ g.written ++ f p g.line = ap (Spoken f) (sym (append-nil g.bytes)) ∙ g.talks f [] ∙ ap
+          (λ (l : List ℕ). g.written ++ l) (talk_end f p g.line) in
+          record {
+            bytes = g.bytes;
+            is_read = read_so_far r2 h few;
+            writes = part_is w0 w2 (g.written ++ f p g.line) (Spoken f g.bytes) (sym said)
+                (part_after w0 w1 w2 g.written (f p g.line) g.writes a);
+          }
 
       -- in writing after a line
-      pub reply_fails : (r2 w2 : Option (List ℕ)) (b : ℕ) → Consumes r1 r2 (b ∷ []) → (b == 10) ≡ true → number + 1 ≤ SESSION_BYTES → AppendsPart w1 w2 (Reply p g.line).text → IsUnwritten r shown move_shown k seen start first r0 r2 w0 w2
+      pub reply_fails : (r2 w2 : Option (List ℕ)) (b : ℕ) → Consumes r1 r2 (b ∷ []) → (b == 10) ≡ true → number + 1 ≤ SESSION_BYTES → AppendsPart w1 w2
+          (Reply p g.line).text → IsUnwritten r shown move_shown k seen start first r0 r2 w0 w2
       reply_fails r2 w2 b c e few a =
           let f = closing r shown move_shown k seen in
           let rest = text_after (λ s. Talk f s [] []) (Reply p g.line).asked in
-          let said : Spoken f (g.bytes ++ b ∷ []) ≡ g.written ++ ((Reply p g.line).text ++ rest) = g.talks f (b ∷ []) ∙ ap (λ (l : List ℕ). g.written ++ l) (talk_line f p g.line b [] e) in
+          let said : Spoken f (g.bytes ++ b ∷ []) ≡ g.written ++ ((Reply p g.line).text ++ rest) = g.talks f (b ∷ []) ∙ ap (λ (l : List ℕ). g.written ++ l)
+          (talk_line f p g.line b [] e) in
           record {
             bytes = g.bytes ++ b ∷ [];
             is_read = read_one_more r2 b c few;
@@ -232,9 +258,11 @@ module _ (r : Rules) (shown : Position → List ℕ) (move_shown : Position → 
           }
 
       -- one byte too many
-      pub too_long : (r2 : Option (List ℕ)) (b : ℕ) → Consumes r1 r2 (b ∷ []) → number ≡ SESSION_BYTES → IsTooLong r shown move_shown k seen start first r0 r2 w0 w1
+      pub too_long : (r2 : Option (List ℕ)) (b : ℕ) → Consumes r1 r2 (b ∷ []) → number ≡ SESSION_BYTES → IsTooLong r shown move_shown k seen start first r0
+          r2 w0 w1
       too_long r2 b c many =
-          let said : Spoken waiting g.bytes ≡ g.written = ap (Spoken waiting) (sym (append-nil g.bytes)) ∙ g.talks waiting [] ∙ ap (λ (l : List ℕ). g.written ++ l) (talk_end waiting p g.line) ∙ append-nil g.written in
+          let said : Spoken waiting g.bytes ≡ g.written = ap (Spoken waiting) (sym (append-nil g.bytes)) ∙ g.talks waiting [] ∙ ap
+          (λ (l : List ℕ). g.written ++ l) (talk_end waiting p g.line) ∙ append-nil g.written in
           record {
             bytes = g.bytes;
             last = b;

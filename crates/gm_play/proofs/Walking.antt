@@ -1,5 +1,6 @@
 -- Lines of best play: how far they have come, and how many moves they have.
-use Rattle.std.proofs.Common.{◌≡◌, ◌≢◌, ℕ, zero, suc, ◌+◌, ◌<◌, ◌≤◌, inl, inr, true, List, [], ◌∷◌, ◌++◌, length, take, get_or, slice_get, Option, None, Some, refl, sym, ap, subst, ◌∙◌, arith}
+use Rattle.std.proofs.Common.{◌≡◌, ◌≢◌, ℕ, zero, suc, ◌+◌, ◌-◌, ◌<◌, ◌≤◌, inl, inr, true, List, [], ◌∷◌, ◌++◌, length, take, get_or, slice_get, Option, None}
+use Rattle.std.proofs.Common.{Some, refl, sym, ap, subst, ◌∙◌, arith}
 use Rattle.std.specs.List.{Contains}
 use Rattle.std.proofs.lemmas.Bool.{cases_lt}
 use Rattle.std.proofs.lemmas.List.{length-append, length-take-le, get_or_append_left}
@@ -33,7 +34,8 @@ after_push : (r : Rules) (p : Position) (ms : List ℕ) (m : ℕ) → position_a
 after_push r p [] m = refl
 after_push r p (n ∷ ns) m = after_push r (r.play p n) ns m
 
-along_push : (r : Rules) (p : Position) (ms : List ℕ) (m : ℕ) → positions_along r p (ms ++ m ∷ []) ≡ positions_along r p ms ++ r.play (position_after r p ms) m ∷ []
+along_push : (r : Rules) (p : Position) (ms : List ℕ) (m : ℕ) → positions_along r p (ms ++ m ∷ []) ≡ positions_along r p ms ++ r.play
+    (position_after r p ms) m ∷ []
 along_push r p [] m = refl
 along_push r p (n ∷ ns) m = ap (λ (ps : List Position). p ∷ ps) (along_push r (r.play p n) ns m)
 
@@ -72,7 +74,8 @@ pub record IsOnWay (r : Rules) (start : Position) (limit : ℕ) (moves : List �
 pub begins : (r : Rules) (start : Position) (limit : ℕ) → r.is_legal start ≡ true → IsOnWay r start limit [] (start ∷ []) start
 begins r start limit legal = record { best = tt; along = refl; here = refl; legal = legal; few = omega arith; fresh = fresh_one start }
 
-module _ (r : Rules) (start : Position) (limit : ℕ) (moves : List ℕ) (positions : List Position) (p : Position) (h : IsOnWay r start limit moves positions p) where
+module _ (r : Rules) (start : Position) (limit : ℕ) (moves : List ℕ) (positions : List Position) (p : Position)
+    (h : IsOnWay r start limit moves positions p) where
   pub best_next : (m : ℕ) → IsBestMove r p (Some m) → AreBest r start (moves ++ m ∷ [])
   best_next m b = best_push r start moves m h.best (subst (λ (q : Position). IsBestMove r q (Some m)) h.here b)
 
@@ -80,12 +83,14 @@ module _ (r : Rules) (start : Position) (limit : ℕ) (moves : List ℕ) (positi
   after_next m = ap (λ (q : Position). r.play q m) h.here ∙ sym (after_push r start moves m)
 
   along_next : (m : ℕ) → positions ++ r.play p m ∷ [] ≡ positions_along r start (moves ++ m ∷ [])
-  along_next m = ap (λ (ps : List Position). ps ++ r.play p m ∷ []) h.along ∙ ap (λ (q : Position). positions_along r start moves ++ r.play q m ∷ []) h.here ∙ sym (along_push r start moves m)
+  along_next m = ap (λ (ps : List Position). ps ++ r.play p m ∷ []) h.along ∙ ap (λ (q : Position). positions_along r start moves ++ r.play q m ∷ []) h.here
+      ∙ sym (along_push r start moves m)
 
   few_next : (m : ℕ) → length moves < limit → length (moves ++ m ∷ []) ≤ limit
   few_next m low = (let long = length-append moves (m ∷ []) in omega arith)
 
-  pub goes_on : (m : ℕ) → IsBestMove r p (Some m) → r.is_legal (r.play p m) ≡ true → length moves < limit → (Contains positions (r.play p m) → ⊥) → IsOnWay r start limit (moves ++ m ∷ []) (positions ++ r.play p m ∷ []) (r.play p m)
+  pub goes_on : (m : ℕ) → IsBestMove r p (Some m) → r.is_legal (r.play p m) ≡ true → length moves < limit → (Contains positions (r.play p m) → ⊥) → IsOnWay
+      r start limit (moves ++ m ∷ []) (positions ++ r.play p m ∷ []) (r.play p m)
   goes_on m b legal low new = record {
     best = best_next m b;
     along = along_next m;
@@ -96,20 +101,24 @@ module _ (r : Rules) (start : Position) (limit : ℕ) (moves : List ℕ) (positi
   }
 
   -- the line as it stands
-  pub line_over : (line : BestLine) → line.moves.items ≡ moves → line.positions.items ≡ positions → line.end ≡ Over → r.primitive p ≢ None → IsBestLine r start limit line
+  pub line_over : (line : BestLine) → line.moves.items ≡ moves → line.positions.items ≡ positions → line.end ≡ Over → r.primitive p ≢ None → IsBestLine r
+      start limit line
   line_over line e d w over = record {
     best = subst (AreBest r start) (sym e) h.best;
     positions = d ∙ h.along ∙ ap (positions_along r start) (sym e);
     few = subst (λ (ms : List ℕ). length ms ≤ limit) (sym e) h.few;
-    end = subst (EndsSo r start limit line.moves.items) (sym w) (subst (λ (ms : List ℕ). EndsSo r start limit ms Over) (sym e) (λ none. over (ap r.primitive h.here ∙ none), subst AreFresh h.along h.fresh));
+    end = subst (EndsSo r start limit line.moves.items) (sym w) (subst (λ (ms : List ℕ). EndsSo r start limit ms Over) (sym e)
+        (λ none. over (ap r.primitive h.here ∙ none), subst AreFresh h.along h.fresh));
   }
 
-  pub line_cut : (line : BestLine) → line.moves.items ≡ moves → line.positions.items ≡ positions → line.end ≡ Cut → r.primitive p ≡ None → limit ≤ length moves → IsBestLine r start limit line
+  pub line_cut : (line : BestLine) → line.moves.items ≡ moves → line.positions.items ≡ positions → line.end ≡ Cut → r.primitive p ≡ None → limit ≤ length
+      moves → IsBestLine r start limit line
   line_cut line e d w open_ all = record {
     best = subst (AreBest r start) (sym e) h.best;
     positions = d ∙ h.along ∙ ap (positions_along r start) (sym e);
     few = subst (λ (ms : List ℕ). length ms ≤ limit) (sym e) h.few;
-    end = subst (EndsSo r start limit line.moves.items) (sym w) (subst (λ (ms : List ℕ). EndsSo r start limit ms Cut) (sym e) (ap r.primitive (sym h.here) ∙ open_, (let few = h.few in omega arith), subst AreFresh h.along h.fresh));
+    end = subst (EndsSo r start limit line.moves.items) (sym w) (subst (λ (ms : List ℕ). EndsSo r start limit ms Cut) (sym e)
+        (ap r.primitive (sym h.here) ∙ open_, (let few = h.few in omega arith), subst AreFresh h.along h.fresh));
   }
 
   pub came_before : (m k : ℕ) → slice_get positions k ≡ Some (r.play p m) → EndsSo r start limit (moves ++ m ∷ []) (Again k)
@@ -121,13 +130,15 @@ module _ (r : Rules) (start : Position) (limit : ℕ) (moves : List ℕ) (positi
       let longest : length (positions ++ q ∷ []) ≡ length positions + 1 = length-append positions (q ∷ []) in
       let at : get_or (positions ++ q ∷ []) k q ≡ q = get_or_append_left positions (q ∷ []) q k k_in ∙ get_or_from_slice_get positions k q q there in
       let found : slice_get (positions ++ q ∷ []) k ≡ Some q = slice_get-get_or (positions ++ q ∷ []) k q (omega arith) ∙ ap Some at in
-      let front : take (length (moves ++ m ∷ [])) (positions ++ q ∷ []) ≡ positions = ap (λ (n : ℕ). take n (positions ++ q ∷ [])) (longer ∙ sym long) ∙ take-append_seam positions (q ∷ []) in (
+      let front : take (length (moves ++ m ∷ [])) (positions ++ q ∷ []) ≡ positions = ap (λ (n : ℕ). take n (positions ++ q ∷ [])) (longer ∙ sym long) ∙
+      take-append_seam positions (q ∷ []) in (
         omega arith,
         subst (λ (ps : List Position). slice_get ps k ≡ Some (position_after r start (moves ++ m ∷ []))) (along_next m) (found ∙ ap Some (after_next m)),
         subst (λ (ps : List Position). AreFresh (take (length (moves ++ m ∷ [])) ps)) (along_next m) (subst AreFresh (sym front) h.fresh),
       )
 
-  pub line_again : (line : BestLine) (m k : ℕ) → line.moves.items ≡ moves ++ m ∷ [] → line.positions.items ≡ positions ++ r.play p m ∷ [] → line.end ≡ Again k → IsBestMove r p (Some m) → length moves < limit → slice_get positions k ≡ Some (r.play p m) → IsBestLine r start limit line
+  pub line_again : (line : BestLine) (m k : ℕ) → line.moves.items ≡ moves ++ m ∷ [] → line.positions.items ≡ positions ++ r.play p m ∷ [] → line.end ≡ Again
+      k → IsBestMove r p (Some m) → length moves < limit → slice_get positions k ≡ Some (r.play p m) → IsBestLine r start limit line
   line_again line m k e d w b low there = record {
     best = subst (AreBest r start) (sym e) (best_next m b);
     positions = d ∙ along_next m ∙ ap (positions_along r start) (sym e);
@@ -139,7 +150,8 @@ module _ (r : Rules) (start : Position) (limit : ℕ) (moves : List ℕ) (positi
 abbrev Falls : Rules → Position → List ℕ → ℕ → Type 0
 Falls r p ms n = (w : Value) × (j : ℕ) × (w ≢ Draw) × (j + length ms ≡ n) × HasValue r (position_after r p ms) w j
 
-pub step_value : (r : Rules) (p : Position) (m : ℕ) (v : Value) (n : ℕ) → IsBestMove r p (Some m) → HasValue r p v n → (k : ℕ) × HasValue r (r.play p m) (wanted_from v) k × (worth_from (wanted_from v) k ≡ solved v n)
+pub step_value : (r : Rules) (p : Position) (m : ℕ) (v : Value) (n : ℕ) → IsBestMove r p (Some m) → HasValue r p v n → (k : ℕ) × HasValue r (r.play p m)
+    (wanted_from v) k × (worth_from (wanted_from v) k ≡ solved v n)
 step_value r p m v n (open_, b) h =
     let (e, d) = HasValue_once r p b.value v b.own n b.is_value h in
     let w : worth_from (wanted_from b.value) b.remoteness ≡ solved b.value b.own = best_worth r p open_ b.value b.own m b.remoteness b.is_value b.best in (
@@ -171,7 +183,8 @@ best_take r ms p zero best = tt
 best_take r [] p (suc k) best = tt
 best_take r (m ∷ ms) p (suc k) best = (best.0, best_take r ms (r.play p m) k best.1)
 
-get_along : (r : Rules) (ms : List ℕ) (p : Position) (k : ℕ) (d : Position) → k ≤ length ms → get_or (positions_along r p ms) k d ≡ position_after r p (take k ms)
+get_along : (r : Rules) (ms : List ℕ) (p : Position) (k : ℕ) (d : Position) → k ≤ length ms → get_or (positions_along r p ms) k d ≡ position_after r p
+    (take k ms)
 get_along r [] p zero d low = refl
 get_along r (m ∷ ms) p zero d low = refl
 get_along r [] p (suc k) d low = absurd (omega arith)
@@ -195,7 +208,8 @@ module _ (r : Rules) (p : Position) (limit : ℕ) (ms : List ℕ) (best : AreBes
   again_never k v n h d (low, there, fresh) =
       let (w, j, x, sum, value) = falls r ms p v n best h d in
       let (u, i, y, total, before) = falls r (take k ms) p v n (best_take r ms p k best) h d in
-      let same : position_after r p (take k ms) ≡ position_after r p ms = sym (get_along r ms p k p (omega arith)) ∙ get_or_from_slice_get (positions_along r p ms) k (position_after r p ms) p there in
+      let same : position_after r p (take k ms) ≡ position_after r p ms = sym (get_along r ms p k p (omega arith)) ∙ get_or_from_slice_get
+      (positions_along r p ms) k (position_after r p ms) p there in
       let e : i ≡ j = (HasValue_once r (position_after r p ms) u w i j (subst (λ (q : Position). HasValue r q u i) same before) value).1 in
       let short : length (take k ms) ≡ k = length-take-le k ms (omega arith) in
       omega arith
@@ -238,3 +252,7 @@ whole r p limit line h = record {
   cut = λ v n x d low. cut_is r p limit line.moves.items h.best line.end v n x d low h.few h.end;
   drawn = λ n x. drawn_is r p limit line.moves.items h.best line.end n x h.end;
 }
+
+-- one move more leaves one fewer to the limit
+pub fewer : (ms new : List ℕ) (m limit : ℕ) → new ≡ ms ++ m ∷ [] → length ms < limit → limit - length new < limit - length ms
+fewer ms new m limit e low = let long : length new ≡ length ms + 1 = ap (λ (l : List ℕ). length l) e ∙ length-append ms (m ∷ []) in omega arith

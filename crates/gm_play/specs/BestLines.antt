@@ -5,13 +5,11 @@ use Rattle.gm_game.specs.declared.position.Value.{Value}
 use Rattle.gm_game.specs.declared.position.Value.TheVariants.{Draw}
 use Rattle.gm_game.specs.Rules.{Rules}
 use Rattle.gm_game.specs.Values.{HasValue}
-use Rattle.gm_table.specs.Tables.{TableData}
 use Rattle.gm_play.specs.declared.best_line.BestLine.{BestLine}
 use Rattle.gm_play.specs.declared.best_line.LineEnd.{LineEnd}
 use Rattle.gm_play.specs.declared.best_line.LineEnd.TheVariants.{Over, Again, Cut}
 use Rattle.gm_best.specs.BestMoves.{IsBestMove}
 use Rattle.gm_play.specs.Lines.{position_after}
-use Rattle.gm_best.specs.Refusals.{AreNotHeld}
 
 -- each of these moves is the best one of its position
 abbrev pub AreBest : Rules → Position → List ℕ → Type 0
@@ -30,7 +28,8 @@ AreFresh ps = (i j : ℕ) (d : Position) → i < j → j < length ps → get_or 
 -- why the line ends: the game has ended; or the last position has come before, and no other has; or no more moves were asked for
 abbrev pub EndsSo : Rules → Position → ℕ → List ℕ → LineEnd → Type 0
 EndsSo r p limit ms Over = (r.primitive (position_after r p ms) ≢ None) × AreFresh (positions_along r p ms)
-EndsSo r p limit ms (Again k) = (k < length ms) × (slice_get (positions_along r p ms) k ≡ Some (position_after r p ms)) × AreFresh (take (length ms) (positions_along r p ms))
+EndsSo r p limit ms (Again k) = (k < length ms) × (slice_get (positions_along r p ms) k ≡ Some (position_after r p ms)) × AreFresh
+    (take (length ms) (positions_along r p ms))
 EndsSo r p limit ms Cut = (r.primitive (position_after r p ms) ≡ None) × (length ms ≡ limit) × AreFresh (positions_along r p ms)
 
 -- a line of best moves, no longer than the limit
@@ -45,7 +44,3 @@ pub record IsWhole (r : Rules) (p : Position) (limit : ℕ) (line : BestLine) : 
   pub over : (v : Value) (n : ℕ) → HasValue r p v n → v ≢ Draw → n ≤ limit → (line.end ≡ Over) × (length line.moves.items ≡ n)
   pub cut : (v : Value) (n : ℕ) → HasValue r p v n → v ≢ Draw → limit < n → line.end ≡ Cut
   pub drawn : (n : ℕ) → HasValue r p Draw n → line.end ≢ Over
-
--- fewer best moves than the limit, through positions that come once, lead to a position whose tier, or one of its child tiers, has no table
-abbrev pub ComesToNotHeld : Rules → List TableData → Position → ℕ → Type 0
-ComesToNotHeld r entries p limit = (ms : List ℕ) × (length ms < limit) × AreBest r p ms × AreFresh (positions_along r p ms) × AreNotHeld r entries (position_after r p ms)

@@ -12,7 +12,7 @@ use Rattle.gm_best.specs.declared.side.Side.{Side}
 use Rattle.gm_best.specs.declared.side.Side.TheVariants.{You, Computer}
 use Rattle.gm_best.specs.BestMoves.{IsBestMove}
 use Rattle.gm_best.specs.Endings.{winner, over}
-use Rattle.gm_play.specs.Reached.{IsReached}
+use Rattle.gm_best.specs.Reached.{IsReached}
 use Rattle.gm_play.specs.declared.view.Question.{Question}
 use Rattle.gm_play.specs.declared.view.Question.TheVariants.{First, Again}
 
@@ -140,7 +140,8 @@ module _ (r : Rules) (shown : Position → List ℕ) (move_shown : Position → 
     -- the person is asked at p and has given these bytes of a line; further bytes come, and then what stands at their end
     unfoldable pub talk : (Position → List ℕ → List ℕ) → Position → List ℕ → List ℕ → List ℕ
     talk at_end p line [] = at_end p line
-    talk at_end p line (b ∷ bs) = if b == 10 then (reply p line).text ++ text_after (λ q. talk at_end q [] bs) (reply p line).asked else talk at_end p (line ++ b ∷ []) bs
+    talk at_end p line (b ∷ bs) = if b == 10 then (reply p line).text ++ text_after (λ q. talk at_end q [] bs) (reply p line).asked else talk at_end p
+        (line ++ b ∷ []) bs
 
     -- how many of these bytes are read
     unfoldable pub count : Position → List ℕ → List ℕ → ℕ

@@ -1,5 +1,4 @@
 pub mod MoveValues
-pub mod Reached
 pub mod Lines
 pub mod Firsts
 pub mod BestLines
@@ -8,6 +7,5 @@ pub mod Dialogue
 pub mod Sessions
 pub mod Courses
 pub mod LastLines
-pub mod ByText
 pub mod Why
 pub mod PlaceTexts

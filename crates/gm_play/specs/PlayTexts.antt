@@ -44,6 +44,13 @@ after_best s = solved (wanted_from s.value) (s.remoteness - 1)
 abbrev pub IsMoveOf : Rules → Position → MoveValue → Type 0
 IsMoveOf r p x = Contains (r.moves p) x.number × (r.is_legal x.position ≡ true)
 
+-- the moves of p, the best first; where they are to be distinct, the first of those that lead to one canonical position
+pub record AreMovesOf (r : Rules) (distinct : Bool) (p : Position) (these : List MoveValue) : Type 0 where
+  pub list : List MoveValue
+  pub values : AreMoveValues r p list
+  pub best : BeginsBest r p list
+  pub are : these ≡ chosen r distinct list
+
 module _ (r : Rules) (shown : Position → List ℕ) (move_shown : Position → ℕ → List ℕ) where
   -- the legal position with this text
   abbrev pub IsReadAs : List ℕ → Position → Type 0
@@ -63,12 +70,14 @@ module _ (r : Rules) (shown : Position → List ℕ) (move_shown : Position → 
 
   -- the rows of the moves of the position with this text, the best first; where they are to be distinct, the first of those that lead to one canonical position
   abbrev pub AreMoveRows : Bool → List ℕ → List ℕ → Type 0
-  AreMoveRows distinct text out = (p : Position) × IsReadAs text p × (list : List MoveValue) × AreMoveValues r p list × BeginsBest r p list × (out ≡ flat_map (move_row p) (chosen r distinct list))
+  AreMoveRows distinct text out = (p : Position) × IsReadAs text p × (list : List MoveValue) × AreMoveValues r p list × BeginsBest r p list ×
+      (out ≡ flat_map (move_row p) (chosen r distinct list))
 
   -- the rows of a line: each move, its result, and the true value of the result
   abbrev pub AreLineRows : Position → List ℕ → List ℕ → Type 0
   AreLineRows p [] out = out ≡ []
-  AreLineRows p (m ∷ ms) out = (s : Solved) × (rest : List ℕ) × IsTrueValue r (r.play p m) s × AreLineRows (r.play p m) ms rest × (out ≡ row (move_shown p m) (shown (r.play p m)) (text_of s) ++ rest)
+  AreLineRows p (m ∷ ms) out = (s : Solved) × (rest : List ℕ) × IsTrueValue r (r.play p m) s × AreLineRows (r.play p m) ms rest ×
+      (out ≡ row (move_shown p m) (shown (r.play p m)) (text_of s) ++ rest)
 
   -- the rows of best moves from a position of this value
   abbrev pub rows_from : Position → Solved → List ℕ → List ℕ

@@ -26,7 +26,8 @@ AppendsPart old new text = (done rest : List ℕ) × (text ≡ done ++ rest) × 
 abbrev pub Says : Option (List ℕ) → Option (List ℕ) → Said → Option Position → Type 0
 Says old new said asked = (asked ≡ said.asked) × Appends old new said.text
 
-module _ (r : Rules) (shown : Position → List ℕ) (move_shown : Position → ℕ → List ℕ) (k : Advice) (seen : Question → Position → List ℕ) (start : Position) (first : Side) where
+module _ (r : Rules) (shown : Position → List ℕ) (move_shown : Position → ℕ → List ℕ) (k : Advice) (seen : Question → Position → List ℕ) (start : Position)
+    (first : Side) where
   -- these bytes were read, no more than one session reads, and none after the line that ends it
   pub record IsRead (old new : Option (List ℕ)) (bytes : List ℕ) : Type 0 where
     pub reads : Consumes old new bytes

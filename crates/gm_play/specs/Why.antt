@@ -1,14 +1,12 @@
 -- Why a position has its value: its moves, the best answer to each, and what is left.
-use Rattle.std.specs.Prelude.{◌≡◌, ℕ, ◌⊎◌, true, List, [], ◌++◌, codes, map, Option, None, Some}
-use Rattle.std.specs.List.{All, Contains, flat_map}
+use Rattle.std.specs.Prelude.{◌≡◌, ℕ, true, List, [], ◌++◌, codes, map, Option, None, Some}
+use Rattle.std.specs.List.{All, flat_map}
 use Rattle.gm_game.specs.declared.position.Position.{Position}
 use Rattle.gm_game.specs.declared.position.Solved.{Solved}
 use Rattle.gm_game.specs.Rules.{Rules}
 use Rattle.gm_game.specs.Texts.{text_of}
 use Rattle.gm_game.specs.Values.{IsTrueValue}
-use Rattle.gm_table.specs.Tables.{TableData, IsHeld, AreHeld}
 use Rattle.gm_best.specs.BestMoves.{IsBestMove}
-use Rattle.gm_best.specs.Refusals.{AreNotHeld}
 use Rattle.gm_play.specs.declared.move_values.MoveValue.{MoveValue}
 use Rattle.gm_play.specs.declared.why.Exchange.{Exchange}
 use Rattle.gm_play.specs.MoveValues.{AreMoveValues, BeginsBest}
@@ -35,10 +33,6 @@ pub record IsExchange (r : Rules) (x : Exchange) : Type 0 where
   pub left_legal : r.is_legal x.left ≡ true
   pub value : IsTrueValue r x.left x.value
   pub nearer : x.value ≡ value_left x.made.result x.answer
-
--- the tier of the move's result has a table, and so has each of its child tiers
-abbrev pub IsAnswerable : Rules → List TableData → MoveValue → Type 0
-IsAnswerable r entries x = IsHeld entries x.position.tier × AreHeld r entries x.position.tier
 
 -- two fields that begin a line
 abbrev pub two : List ℕ → List ℕ → List ℕ
@@ -73,8 +67,3 @@ module _ (r : Rules) (shown : Position → List ℕ) (move_shown : Position → 
     pub values : AreMoveValues r position moves
     pub best : BeginsBest r position moves
     pub rows : AreExchangeRows position moves out
-
-  -- a table is missing: of the tier of the position with this text, or of that of the result of a move, or of a child tier of one of these
-  abbrev pub AreAnswersNotHeld : List TableData → List ℕ → Type 0
-  AreAnswersNotHeld entries text = (p : Position) × IsReadAs r shown move_shown text p
-      × (AreNotHeld r entries p ⊎ ((m : ℕ) × Contains (r.moves p) m × AreNotHeld r entries (r.play p m)))

@@ -4,7 +4,6 @@
 #![tactic(auto)]
 
 pub mod best_line;
-pub mod by_text;
 pub mod firsts;
 pub mod move_values;
 pub mod place_texts;

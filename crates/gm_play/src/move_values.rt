@@ -1,18 +1,14 @@
 //! What each move of a position is worth.
-ghost use Rattle.std.specs.Prelude.{◌≡◌, ◌≤◌, ◌↔◌, ◌<◌, ◌^◌, map, true, false, IfOk, IsErrOf, IsPermutation};
+ghost use Rattle.std.specs.Prelude.{◌≡◌, ◌<◌, ◌^◌, map, IsPermutation};
 ghost use Rattle.std.specs.List.{All, Contains};
 ghost use Rattle.std.specs.List.Sorted.{IsNonDecreasingBy};
-ghost use Rattle.gm_game.specs.Values.{IsTrueValue};
-ghost use Rattle.gm_table.specs.Tables.{IsHeld, AreHeld};
 ghost use Rattle.gm_play.specs.MoveValues.{rank as rank_spec, place as place_spec, worth_of, IsMoveValue, AreMoveValues, BeginsBest};
-ghost use Rattle.gm_best.specs.Refusals.{AreNotHeld};
 
 use arrayvec::ArrayVec;
-use gm_best::answer::AnswerError;
+use gm_best::known::Known;
 use gm_game::game::Game;
 use gm_game::limits::MOVES;
 use gm_game::position::{Position, Solved, Value};
-use gm_table::tables::Tables;
 
 /// A move of a position, with what it leads to.
 #[derive(Clone, Copy, Debug, PartialEq, Eq)]
@@ -44,58 +40,40 @@ impl Default for MoveValue {
 /// The moves of a position, each once with the true value of its result, the best first: moves to a Lose, by least remoteness; then to a Tie, by least
 /// remoteness; then to a Draw; then to a Win, by greatest remoteness; and among equals by number. So the first is the best move, and its worth is the value of
 /// the position. It takes no memory.
-///
-/// `Illegal` is tested before `NotHeld`, which comes where the tier of the position or one of its child tiers has no table, even where the game has ended.
-pub fn move_values<G: Game>(
-    tables: &Tables<G>,
-    p: Position,
-) -> Result<ArrayVec<MoveValue, MOVES>, AnswerError>
-    ensures values { IfOk result (λ list. AreMoveValues G.rules p list.items) }
-    ensures best { IfOk result (λ list. BeginsBest G.rules p list.items) }
-    ensures illegal { IsErrOf result AnswerError.Illegal ↔ (G.rules.is_legal p ≡ false) }
-    ensures not_held { IsErrOf result AnswerError.NotHeld ↔ AreNotHeld G.rules tables.now p }
+pub fn move_values<G: Game>(known: &Known<'_, G>) -> ArrayVec<MoveValue, MOVES>
+    ensures values { AreMoveValues G.rules known.now.position result.items }
+    ensures best { BeginsBest G.rules known.now.position result.items }
 {
-    if !G::is_legal(p) {
-        return Err(AnswerError::Illegal);
-    }
-    if !tables.has(p.tier) || !tables.has_children(p.tier) {
-        return Err(AnswerError::NotHeld);
-    }
-    let mut list = values_of(tables, p);
+    known.truth();
+    let mut list = values_of(known);
     put_in_order(&mut list);
-    Ok(list)
+    list
 }
 
 // The moves by number.
-fn values_of<G: Game>(tables: &Tables<G>, p: Position) -> ArrayVec<MoveValue, MOVES>
-    requires legal { G.rules.is_legal p ≡ true }
-    requires own { IsHeld tables.now p.tier }
-    requires children { AreHeld G.rules tables.now p.tier }
-    ensures listed { map (λ (x : MoveValue). x.number) result.items ≡ G.rules.moves p }
-    ensures each { All (IsMoveValue G.rules p) result.items }
+fn values_of<G: Game>(known: &Known<'_, G>) -> ArrayVec<MoveValue, MOVES>
+    ensures listed { map (λ (x : MoveValue). x.number) result.items ≡ G.rules.moves known.now.position }
+    ensures each { All (IsMoveValue G.rules known.now.position) result.items }
 {
-    let moves = G::moves(p);
+    let moves = G::moves(known.position);
     let mut list = ArrayVec::new();
     for number in moves.as_slice() {
-        list.push(value_of(tables, p, *number));
+        list.push(value_of(known, *number));
     }
     list
 }
 
 // One move with its value.
-fn value_of<G: Game>(tables: &Tables<G>, p: Position, number: u32) -> MoveValue
-    requires legal { G.rules.is_legal p ≡ true }
-    requires listed { Contains (G.rules.moves p) number }
-    requires own { IsHeld tables.now p.tier }
-    requires children { AreHeld G.rules tables.now p.tier }
+fn value_of<G: Game>(known: &Known<'_, G>, number: u32) -> MoveValue
+    requires { Contains (G.rules.moves known.now.position) number }
     ensures number { result.number ≡ number }
-    ensures value { IsMoveValue G.rules p result }
+    ensures value { IsMoveValue G.rules known.now.position result }
 {
-    let position = G::play(p, number);
-    let result = tables.get(position).unwrap();
+    let after = known.play(number);
+    let result = after.value();
     MoveValue {
         number,
-        position,
+        position: after.position,
         result,
         worth: worth(result),
     }

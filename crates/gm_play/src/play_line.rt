@@ -4,7 +4,7 @@ ghost use Rattle.std.specs.List.{Contains};
 ghost use Rattle.gm_table.specs.Tables.{IsHeld, AreHeld};
 ghost use Rattle.gm_best.specs.BestMoves.{IsBestMove};
 ghost use Rattle.gm_best.specs.Sides.{IsWonIn, IsEven, HasLost};
-ghost use Rattle.gm_play.specs.Reached.{AreAllHeld};
+ghost use Rattle.gm_best.specs.Reached.{AreAllHeld};
 ghost use Rattle.gm_play.specs.Lines.{IsLine, LeadsTo, IsPlayed, WinsWithin, one_more, IsAnswered, IsReplied};
 
 use gm_best::best_move::best_move;
@@ -26,8 +26,8 @@ pub struct PlayLine {
 /// Plays a line from a legal position: the computer plays its best move, the other side the next reply, until the game ends or no reply is left. `None` where a
 /// reply is no move when its turn comes. It takes no memory.
 ///
-/// Whatever the replies are, from a win of the computer's side with remoteness n the line has at most n moves, and where it ends the game, that side has won; from a tie or
-/// a draw that side never loses.
+/// Whatever the replies are, from a win of the computer's side with remoteness n the line has at most n moves, and where it ends the game, that side has won;
+/// from a tie or a draw that side never loses.
 pub fn play_line<G: Game>(
     tables: &Tables<G>,
     start: Position,

@@ -1,6 +1,6 @@
 //! Play against the computer over a reader and a writer.
 ghost use Rattle.std.specs.Prelude.{◌≡◌, ℕ, List, true, OnOk, IfErr};
-ghost use Rattle.gm_play.specs.Reached.{AreAllHeld};
+ghost use Rattle.gm_best.specs.Reached.{AreAllHeld};
 ghost use Rattle.gm_play.specs.Dialogue.{Advice, IsKnown, course, unseen};
 ghost use Rattle.gm_play.specs.Courses.{IsWonCourse, IsUnlostCourse};
 ghost use Rattle.gm_play.specs.LastLines.{EndsWon, EndsUnlost, WritesOne};
@@ -12,6 +12,7 @@ use crate::streams::read_byte;
 use crate::turns::{close, reply, turn};
 use crate::view::{Plain, View};
 use arrayvec::ArrayVec;
+use gm_best::known::Known;
 use gm_best::side::Side;
 use gm_game::game::Game;
 use gm_game::limits::LINE;
@@ -39,9 +40,11 @@ pub fn session<G: Shown, R: Read, W: Write>(
     requires legal { G.Game.rules.is_legal start ≡ true }
     requires held { AreAllHeld G.Game.rules tables.now start.tier }
     ensures ok { (k : Advice) → IsKnown G.Game.rules start.tier k
-        → OnOk result (IsSession G.Game.rules G.shown G.move_shown k unseen start first (R.remaining input.old) (R.remaining input.new) (W.contents output.old) (W.contents output.new)) }
+        → OnOk result (IsSession G.Game.rules G.shown G.move_shown k unseen start first (R.remaining input.old) (R.remaining input.new)
+        (W.contents output.old) (W.contents output.new)) }
     ensures err { (k : Advice) → IsKnown G.Game.rules start.tier k
-        → IfErr result (λ e. IsBroken G.Game.rules G.shown G.move_shown k unseen start first e (R.remaining input.old) (R.remaining input.new) (W.contents output.old) (W.contents output.new)) }
+        → IfErr result (λ e. IsBroken G.Game.rules G.shown G.move_shown k unseen start first e (R.remaining input.old) (R.remaining input.new)
+        (W.contents output.old) (W.contents output.new)) }
     ensures won { (n : ℕ) → IsWonIn G.Game.rules start first n → (k : Advice) → IsKnown G.Game.rules start.tier k
         → (bytes : List ℕ) → IsWonCourse n (course G.Game.rules G.shown G.move_shown k unseen start first bytes) }
     ensures even { IsEven G.Game.rules start → (k : Advice) → IsKnown G.Game.rules start.tier k
@@ -50,71 +53,77 @@ pub fn session<G: Shown, R: Read, W: Write>(
     ensures even_text { IsEven G.Game.rules start → OnOk result (WritesOne EndsUnlost (W.contents output.old) (W.contents output.new)) }
     ensures known { (k : Advice) × IsKnown G.Game.rules start.tier k }
 {
-    session_with::<G, Plain, R, W>(tables, start, first, input, output)
+    let known = Known {
+        tables,
+        position: start,
+    };
+    session_with::<G, Plain, R, W>(&known, first, input, output)
 }
 
 /// A session that shows the person, before each question, what the view says of the position. It takes no memory.
 ///
 /// It reads a byte at a time, none after the line that ends the session, and at most `SESSION_BYTES`: one byte more is `TooMuchInput`.
 pub fn session_with<G: Shown, V: View<G>, R: Read, W: Write>(
-    tables: &Tables<G>,
-    start: Position,
+    start: &Known<'_, G>,
     first: Side,
     input: &mut R,
     output: &mut W,
 ) -> Result<(), SessionError>
-    requires legal { G.Game.rules.is_legal start ≡ true }
-    requires held { AreAllHeld G.Game.rules tables.now start.tier }
-    ensures ok { (k : Advice) → IsKnown G.Game.rules start.tier k
-        → OnOk result (IsSession G.Game.rules G.shown G.move_shown k V.seen start first (R.remaining input.old) (R.remaining input.new) (W.contents output.old) (W.contents output.new)) }
-    ensures err { (k : Advice) → IsKnown G.Game.rules start.tier k
-        → IfErr result (λ e. IsBroken G.Game.rules G.shown G.move_shown k V.seen start first e (R.remaining input.old) (R.remaining input.new) (W.contents output.old) (W.contents output.new)) }
-    ensures won { (n : ℕ) → IsWonIn G.Game.rules start first n → (k : Advice) → IsKnown G.Game.rules start.tier k
-        → (bytes : List ℕ) → IsWonCourse n (course G.Game.rules G.shown G.move_shown k V.seen start first bytes) }
-    ensures even { IsEven G.Game.rules start → (k : Advice) → IsKnown G.Game.rules start.tier k
-        → (bytes : List ℕ) → IsUnlostCourse (course G.Game.rules G.shown G.move_shown k V.seen start first bytes) }
-    ensures won_text { (n : ℕ) → IsWonIn G.Game.rules start first n → OnOk result (WritesOne EndsWon (W.contents output.old) (W.contents output.new)) }
-    ensures even_text { IsEven G.Game.rules start → OnOk result (WritesOne EndsUnlost (W.contents output.old) (W.contents output.new)) }
-    ensures known { (k : Advice) × IsKnown G.Game.rules start.tier k }
+    ensures ok { (k : Advice) → IsKnown G.Game.rules start.now.position.tier k
+        → OnOk result (IsSession G.Game.rules G.shown G.move_shown k V.seen start.now.position first (R.remaining input.old) (R.remaining input.new)
+        (W.contents output.old) (W.contents output.new)) }
+    ensures err { (k : Advice) → IsKnown G.Game.rules start.now.position.tier k
+        → IfErr result (λ e. IsBroken G.Game.rules G.shown G.move_shown k V.seen start.now.position first e (R.remaining input.old) (R.remaining input.new)
+        (W.contents output.old) (W.contents output.new)) }
+    ensures won { (n : ℕ) → IsWonIn G.Game.rules start.now.position first n → (k : Advice) → IsKnown G.Game.rules start.now.position.tier k
+        → (bytes : List ℕ) → IsWonCourse n (course G.Game.rules G.shown G.move_shown k V.seen start.now.position first bytes) }
+    ensures even { IsEven G.Game.rules start.now.position → (k : Advice) → IsKnown G.Game.rules start.now.position.tier k
+        → (bytes : List ℕ) → IsUnlostCourse (course G.Game.rules G.shown G.move_shown k V.seen start.now.position first bytes) }
+    ensures won_text { (n : ℕ) → IsWonIn G.Game.rules start.now.position first n
+        → OnOk result (WritesOne EndsWon (W.contents output.old) (W.contents output.new)) }
+    ensures even_text { IsEven G.Game.rules start.now.position → OnOk result (WritesOne EndsUnlost (W.contents output.old) (W.contents output.new)) }
+    ensures known { (k : Advice) × IsKnown G.Game.rules start.now.position.tier k }
 {
-    advice(tables, start.tier);
-    converse::<G, V, R, W>(tables, start, first, input, output)
+    advice(start);
+    converse::<G, V, R, W>(start, first, input, output)
 }
 
 // Has no effect; its contract states that there is a look-up of true values and best moves where every tier that is reached is held.
-fn advice<G: Game>(tables: &Tables<G>, tier: u64)
-    requires { AreAllHeld G.rules tables.now tier }
-    ensures { (k : Advice) × IsKnown G.rules tier k }
+fn advice<G: Game>(start: &Known<'_, G>)
+    ensures { (k : Advice) × IsKnown G.rules start.now.position.tier k }
 {
-    let _held = tables.has(tier);
+    start.truth();
 }
 
 // The session, byte by byte.
 fn converse<G: Shown, V: View<G>, R: Read, W: Write>(
-    tables: &Tables<G>,
-    start: Position,
+    start: &Known<'_, G>,
     first: Side,
     input: &mut R,
     output: &mut W,
 ) -> Result<(), SessionError>
-    requires legal { G.Game.rules.is_legal start ≡ true }
-    requires held { AreAllHeld G.Game.rules tables.now start.tier }
-    ensures ok { (k : Advice) → IsKnown G.Game.rules start.tier k
-        → OnOk result (IsSession G.Game.rules G.shown G.move_shown k V.seen start first (R.remaining input.old) (R.remaining input.new) (W.contents output.old) (W.contents output.new)) }
-    ensures err { (k : Advice) → IsKnown G.Game.rules start.tier k
-        → IfErr result (λ e. IsBroken G.Game.rules G.shown G.move_shown k V.seen start first e (R.remaining input.old) (R.remaining input.new) (W.contents output.old) (W.contents output.new)) }
+    ensures ok { (k : Advice) → IsKnown G.Game.rules start.now.position.tier k
+        → OnOk result (IsSession G.Game.rules G.shown G.move_shown k V.seen start.now.position first (R.remaining input.old) (R.remaining input.new)
+        (W.contents output.old) (W.contents output.new)) }
+    ensures err { (k : Advice) → IsKnown G.Game.rules start.now.position.tier k
+        → IfErr result (λ e. IsBroken G.Game.rules G.shown G.move_shown k V.seen start.now.position first e (R.remaining input.old) (R.remaining input.new)
+        (W.contents output.old) (W.contents output.new)) }
 {
-    let mut asked = match turn::<G, V, W>(tables, start, first, output) {
+    let mut asked = match turn::<G, V, W>(start, first, output) {
         Ok(Some(p)) => p,
         Ok(None) => return Ok(()),
         Err(_) => return Err(SessionError::WriteFailed),
     };
     let mut line = ArrayVec::<u8, KEPT>::new();
     for count in 0..SESSION_BYTES + 1 {
+        let here = Known {
+            tables: start.tables,
+            position: asked,
+        };
         let byte = match read_byte(input) {
             Ok(Some(byte)) => byte,
             Ok(None) => {
-                return match close::<G, V, W>(tables, asked, &line, output) {
+                return match close::<G, V, W>(&here, &line, output) {
                     Ok(()) => Ok(()),
                     Err(_) => Err(SessionError::WriteFailed),
                 };
@@ -125,7 +134,7 @@ fn converse<G: Shown, V: View<G>, R: Read, W: Write>(
             return Err(SessionError::TooMuchInput);
         }
         if byte == b'\n' {
-            match reply::<G, V, W>(tables, asked, &line, output) {
+            match reply::<G, V, W>(&here, &line, output) {
                 Ok(Some(next)) => asked = next,
                 Ok(None) => return Ok(()),
                 Err(_) => return Err(SessionError::WriteFailed),

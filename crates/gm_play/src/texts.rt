@@ -1,53 +1,31 @@
 //! The texts of answers: values, moves and lines of play.
-ghost use Rattle.std.specs.Prelude.{◌≡◌, ◌↔◌, ◌∷◌, ◌++◌, ◌<◌, ◌^◌, [], true, IfOk, OnOk, IfErr, IsErrOf};
-ghost use Rattle.gm_game.specs.declared.position.Position.{Position};
-ghost use Rattle.std.specs.List.{All, Contains, flat_map};
+ghost use Rattle.std.specs.Prelude.{◌≡◌, ◌++◌, [], true, IfOk, OnOk};
+ghost use Rattle.std.specs.List.{All, flat_map};
 ghost use Rattle.gm_game.specs.Texts.{text_of};
 ghost use Rattle.gm_play.specs.BestLines.{AreBest};
-ghost use Rattle.gm_play.specs.ByText.{PlaysNotHeld};
-ghost use Rattle.gm_play.specs.PlayTexts.{row, value_word, end_row, after_best, IsMoveOf, IsReadAs, IsNoPosition, IsAnswerText, move_row, AreMoveRows, rows_from, IsLineText};
-ghost use Rattle.gm_best.specs.Refusals.{IsNotHeld, AreNotHeld};
+ghost use Rattle.gm_play.specs.PlayTexts.{row, value_word, end_row, after_best, IsMoveOf, move_row, AreMoveRows, rows_from, IsLineText};
 
-use crate::best_line::LineEnd;
-use crate::by_text::{BestPlay, best_play, moves_at, value_after};
+use crate::best_line::{BestLine, LineEnd, best_line};
+use crate::firsts::moves_of;
 use crate::move_values::MoveValue;
-use gm_best::answer::{AnswerError, answer};
-use gm_best::play_error::PlayError;
+use gm_best::best_move::wanted;
+use gm_best::known::Known;
 use gm_game::position::{Position, Solved, Value};
 use gm_game::shown::{Line, Shown};
 use gm_game::text::{push_decimal, value_text};
-use gm_table::tables::Tables;
 use std::alloc::{AllocError, Global};
 
-/// The text of the true value of the position with this text. Any bytes may be given. It takes no memory.
-pub fn answer_text<G: Shown>(tables: &Tables<G>, text: &[u8]) -> Result<Line, AnswerError>
-    ensures text { IfOk result (λ line. IsAnswerText G.Game.rules G.shown G.move_shown text.now line.items) }
-    ensures illegal { IsErrOf result AnswerError.Illegal ↔ IsNoPosition G.Game.rules G.shown G.move_shown text.now }
-    ensures not_held { IsErrOf result AnswerError.NotHeld ↔ ((p : Position) × IsReadAs G.Game.rules G.shown G.move_shown text.now p × IsNotHeld G.Game.rules tables.now p) }
-{
-    match G::read(text) {
-        Some(p) => Ok(value_text(answer(tables, p)?)),
-        None => Err(AnswerError::Illegal),
-    }
-}
-
-/// The rows of the moves of the position with this text, the best first: the text of the move, what it is worth, and its result, with a tab between them. Where
-/// `distinct` is set, of several moves that lead to one canonical position only the first is kept. Any bytes may be given.
+/// The rows of the moves of a position, the best first: the text of the move, what it is worth, and its result, with a tab between them. Where `distinct` is
+/// set, of several moves that lead to one canonical position only the first is kept.
 pub fn moves_text<G: Shown>(
     alloc: Global,
-    tables: &Tables<G>,
-    text: &[u8],
+    known: &Known<'_, G>,
     distinct: bool,
-) -> Result<Vec<u8>, PlayError>
-    ensures text { IfOk result (λ v. AreMoveRows G.Game.rules G.shown G.move_shown distinct text.now v.items) }
-    ensures illegal { IsErrOf result PlayError.Illegal ↔ IsNoPosition G.Game.rules G.shown G.move_shown text.now }
-    ensures not_held { IsErrOf result PlayError.NotHeld ↔ ((p : Position) × IsReadAs G.Game.rules G.shown G.move_shown text.now p × AreNotHeld G.Game.rules tables.now p) }
+) -> Result<Vec<u8>, AllocError>
+    ensures { IfOk result (λ v. AreMoveRows G.Game.rules G.shown G.move_shown distinct (G.shown known.now.position) v.items) }
 {
-    let (p, list) = moves_at(tables, text, distinct)?;
-    match move_rows::<G>(alloc, p, list.as_slice()) {
-        Ok(rows) => Ok(rows),
-        Err(_) => Err(PlayError::OutOfMemory),
-    }
+    let list = moves_of(known, distinct);
+    move_rows::<G>(alloc, known.position, list.as_slice())
 }
 
 // The rows of some moves of a legal position.
@@ -110,53 +88,53 @@ pub fn word_of(value: Value) -> &'static str
     }
 }
 
-/// The rows of the line of best play from the position with this text: the text of a move (none at first), the position and its value, with a tab between them,
-/// and at the end of a draw the number of the row, from 0, in which the last position stood before. Any bytes may be given. At most `limit` moves are made.
+/// The rows of the line of best play from a position: the text of a move (none at first), the position and its value, with a tab between them, and at the end
+/// of a draw the number of the row, from 0, in which the last position stood before. At most `limit` moves are made.
 pub fn line_text<G: Shown>(
     alloc: Global,
-    tables: &Tables<G>,
-    text: &[u8],
+    start: &Known<'_, G>,
     limit: usize,
-) -> Result<Vec<u8>, PlayError>
-    ensures text { IfOk result (λ v. IsLineText G.Game.rules G.shown G.move_shown text.now limit v.items) }
-    ensures illegal { IsErrOf result PlayError.Illegal ↔ IsNoPosition G.Game.rules G.shown G.move_shown text.now }
-    ensures not_held { IsErrOf result PlayError.NotHeld → PlaysNotHeld G.Game.rules G.shown G.move_shown tables.now text.now limit }
-    ensures held { IfOk result (λ _. PlaysNotHeld G.Game.rules G.shown G.move_shown tables.now text.now limit → ⊥) }
+) -> Result<Vec<u8>, AllocError>
+    ensures { IfOk result (λ v. IsLineText G.Game.rules G.shown G.move_shown (G.shown start.now.position) limit v.items) }
 {
-    let play = best_play(alloc, tables, text, limit)?;
-    let rows = line_rows::<G>(alloc, &play);
-    drop(play);
-    rows
-}
-
-// The rows of best play from a legal position.
-fn line_rows<G: Shown>(alloc: Global, play: &BestPlay) -> Result<Vec<u8>, PlayError>
-    requires legal { G.Game.rules.is_legal play.now.start ≡ true }
-    requires best { AreBest G.Game.rules play.now.start play.now.line.moves.items }
-    ensures rows { IfOk result (λ v. v.items ≡ row [] (G.shown play.now.start) (text_of play.now.value)
-        ++ rows_from G.Game.rules G.shown G.move_shown play.now.start play.now.value play.now.line.moves.items ++ end_row play.now.line.end) }
-    ensures err { IfErr result (λ e. e ≡ PlayError.OutOfMemory) }
-{
+    let line = best_line(alloc, start, limit)?;
     let mut rows = Vec::new(alloc);
-    match push_line::<G>(&mut rows, play) {
+    let pushed = push_line::<G>(&mut rows, start.position, start.value(), &line);
+    drop(line);
+    match pushed {
         Ok(()) => Ok(rows),
-        Err(_) => {
+        Err(error) => {
             drop(rows);
-            Err(PlayError::OutOfMemory)
+            Err(error)
         }
     }
 }
 
-// Appends the rows of best play from a legal position.
-fn push_line<G: Shown>(rows: &mut Vec<u8>, play: &BestPlay) -> Result<(), AllocError>
-    requires legal { G.Game.rules.is_legal play.now.start ≡ true }
-    requires best { AreBest G.Game.rules play.now.start play.now.line.moves.items }
-    ensures { OnOk result (rows.new.items ≡ rows.old.items ++ row [] (G.shown play.now.start) (text_of play.now.value)
-        ++ rows_from G.Game.rules G.shown G.move_shown play.now.start play.now.value play.now.line.moves.items ++ end_row play.now.line.end) }
+// Appends the rows of a line of best play from a legal position of this value.
+fn push_line<G: Shown>(
+    rows: &mut Vec<u8>,
+    start: Position,
+    value: Solved,
+    line: &BestLine,
+) -> Result<(), AllocError>
+    requires legal { G.Game.rules.is_legal start ≡ true }
+    requires best { AreBest G.Game.rules start line.now.moves.items }
+    ensures { OnOk result (rows.new.items ≡ rows.old.items ++ row [] (G.shown start) (text_of value)
+        ++ rows_from G.Game.rules G.shown G.move_shown start value line.now.moves.items ++ end_row line.now.end) }
 {
-    push_place::<G>(rows, b"", play.start, play.value)?;
-    push_steps::<G>(rows, play.start, play.value, play.line.moves.as_slice())?;
-    push_end(rows, play.line.end)
+    push_place::<G>(rows, b"", start, value)?;
+    push_steps::<G>(rows, start, value, line.moves.as_slice())?;
+    push_end(rows, line.end)
+}
+
+/// The value of the result of a best move, by that of its position.
+pub fn value_after(value: Solved) -> Solved
+    ensures { result ≡ after_best value }
+{
+    Solved {
+        value: wanted(value.value),
+        remoteness: value.remoteness.saturating_sub(1),
+    }
 }
 
 // Appends the rows of best moves from a position of this value.

@@ -1,42 +1,37 @@
 //! The turns of a session.
 ghost use Rattle.std.specs.Prelude.{◌≡◌, ◌++◌, codes, true, None, Some, OnOk, OnErr, IfOk, IfSome};
 ghost use Rattle.std.specs.Io.KnownBytes.{Appends};
-ghost use Rattle.gm_table.specs.Tables.{IsHeld};
 ghost use Rattle.gm_best.specs.BestMoves.{IsBestMove};
-ghost use Rattle.gm_play.specs.Reached.{AreAllHeld, IsReached};
+ghost use Rattle.gm_best.specs.Reached.{IsReached};
 ghost use Rattle.gm_play.specs.Dialogue.{Advice, IsKnown, place, persons_turn, moves_or_ends, computers_turn, turn as turn_spec, reply as reply_spec, closing};
 ghost use Rattle.gm_play.specs.Sessions.{AppendsPart, Says};
 
 use crate::session_error::SessionError;
 use crate::streams::{say, without_return, write_line};
 use crate::view::{Question, View};
-use gm_best::best_move::best_move;
 use gm_best::ending::over;
+use gm_best::known::Known;
 use gm_best::side::Side;
 use gm_game::game::Game;
 use gm_game::position::{End, Position};
 use gm_game::shown::Shown;
 use gm_game::text::value_text;
-use gm_table::tables::Tables;
 use std::io::Write;
 
 // Writes the line on a position.
 fn write_place<G: Shown, V: View<G>, W: Write>(
-    tables: &Tables<G>,
-    p: Position,
+    known: &Known<'_, G>,
     output: &mut W,
 ) -> Result<(), SessionError>
-    requires legal { G.Game.rules.is_legal p ≡ true }
-    requires held { IsHeld tables.now p.tier }
-    ensures ok { (k : Advice) → IsKnown G.Game.rules p.tier k
-        → OnOk result (Appends (W.contents output.old) (W.contents output.new) (place G.Game.rules G.shown G.move_shown k V.seen p)) }
-    ensures err { (k : Advice) → IsKnown G.Game.rules p.tier k
-        → OnErr result (AppendsPart (W.contents output.old) (W.contents output.new) (place G.Game.rules G.shown G.move_shown k V.seen p)) }
+    ensures ok { (k : Advice) → IsKnown G.Game.rules known.now.position.tier k
+        → OnOk result (Appends (W.contents output.old) (W.contents output.new) (place G.Game.rules G.shown G.move_shown k V.seen known.now.position)) }
+    ensures err { (k : Advice) → IsKnown G.Game.rules known.now.position.tier k
+        → OnErr result (AppendsPart (W.contents output.old) (W.contents output.new) (place G.Game.rules G.shown G.move_shown k V.seen known.now.position)) }
 {
-    let solved = tables.get(p).unwrap();
+    let solved = known.value();
     write_line(
         output,
-        G::show(p).as_slice(),
+        G::show(known.position).as_slice(),
         b" ",
         value_text(solved).as_slice(),
     )
@@ -68,94 +63,91 @@ fn finish<W: Write>(output: &mut W, text: &[u8]) -> Result<Option<Position>, Ses
 
 // The person's turn: where they are asked, or `None` where the game has ended.
 fn ask<G: Shown, V: View<G>, W: Write>(
-    tables: &Tables<G>,
-    p: Position,
+    known: &Known<'_, G>,
     output: &mut W,
 ) -> Result<Option<Position>, SessionError>
-    requires legal { G.Game.rules.is_legal p ≡ true }
-    requires held { IsHeld tables.now p.tier }
-    ensures ok { (k : Advice) → IsKnown G.Game.rules p.tier k
-        → IfOk result (Says (W.contents output.old) (W.contents output.new) (persons_turn G.Game.rules G.shown G.move_shown k V.seen p)) }
-    ensures err { (k : Advice) → IsKnown G.Game.rules p.tier k
-        → OnErr result (AppendsPart (W.contents output.old) (W.contents output.new) (persons_turn G.Game.rules G.shown G.move_shown k V.seen p).text) }
-    ensures asked { IfOk result (λ o. IfSome o (IsReached G.Game.rules p.tier)) }
+    ensures ok { (k : Advice) → IsKnown G.Game.rules known.now.position.tier k
+        → IfOk result (Says (W.contents output.old) (W.contents output.new) (persons_turn G.Game.rules G.shown G.move_shown k V.seen known.now.position)) }
+    ensures err { (k : Advice) → IsKnown G.Game.rules known.now.position.tier k
+        → OnErr result (AppendsPart (W.contents output.old) (W.contents output.new)
+        (persons_turn G.Game.rules G.shown G.move_shown k V.seen known.now.position).text) }
+    ensures asked { IfOk result (λ o. IfSome o (IsReached G.Game.rules known.now.position.tier)) }
 {
-    write_place::<G, V, W>(tables, p, output)?;
-    match G::primitive(p) {
+    write_place::<G, V, W>(known, output)?;
+    match G::primitive(known.position) {
         Some(end) => finish(output, over(Side::You, end)),
-        None => ask_move::<G, V, W>(Question::First, p, output),
+        None => ask_move::<G, V, W>(Question::First, known.position, output),
     }
 }
 
 // The computer's move, where the game goes on.
-fn best_number<G: Game>(tables: &Tables<G>, p: Position) -> u32
-    requires legal { G.rules.is_legal p ≡ true }
-    requires held { AreAllHeld G.rules tables.now p.tier }
-    requires goes_on { G.rules.primitive p ≡ None }
-    ensures { IsBestMove G.rules p (Some result) }
+fn best_number<G: Game>(known: &Known<'_, G>) -> u32
+    requires { G.rules.primitive known.now.position ≡ None }
+    ensures { IsBestMove G.rules known.now.position (Some result) }
 {
-    best_move(tables, p).unwrap().unwrap()
+    known.best_move().unwrap()
 }
 
 // Makes the computer's move, where the game goes on, and then the person's turn.
 fn play_best<G: Shown, V: View<G>, W: Write>(
-    tables: &Tables<G>,
-    p: Position,
+    known: &Known<'_, G>,
     output: &mut W,
 ) -> Result<Option<Position>, SessionError>
-    requires legal { G.Game.rules.is_legal p ≡ true }
-    requires held { AreAllHeld G.Game.rules tables.now p.tier }
-    requires goes_on { G.Game.rules.primitive p ≡ None }
-    ensures ok { (k : Advice) → IsKnown G.Game.rules p.tier k
-        → IfOk result (Says (W.contents output.old) (W.contents output.new) (moves_or_ends G.Game.rules G.shown G.move_shown k V.seen p (G.Game.rules.primitive p) (k.best p))) }
-    ensures err { (k : Advice) → IsKnown G.Game.rules p.tier k
-        → OnErr result (AppendsPart (W.contents output.old) (W.contents output.new) (moves_or_ends G.Game.rules G.shown G.move_shown k V.seen p (G.Game.rules.primitive p) (k.best p)).text) }
-    ensures asked { IfOk result (λ o. IfSome o (IsReached G.Game.rules p.tier)) }
+    requires { G.Game.rules.primitive known.now.position ≡ None }
+    ensures ok { (k : Advice) → IsKnown G.Game.rules known.now.position.tier k
+        → IfOk result (Says (W.contents output.old) (W.contents output.new) (moves_or_ends G.Game.rules G.shown G.move_shown k V.seen known.now.position
+        (G.Game.rules.primitive known.now.position) (k.best known.now.position))) }
+    ensures err { (k : Advice) → IsKnown G.Game.rules known.now.position.tier k
+        → OnErr result (AppendsPart (W.contents output.old) (W.contents output.new)
+        (moves_or_ends G.Game.rules G.shown G.move_shown k V.seen known.now.position (G.Game.rules.primitive known.now.position)
+        (k.best known.now.position)).text) }
+    ensures asked { IfOk result (λ o. IfSome o (IsReached G.Game.rules known.now.position.tier)) }
 {
-    let m = best_number(tables, p);
-    write_line(output, b"computer", b": ", G::move_text(p, m).as_slice())?;
-    ask::<G, V, W>(tables, G::play(p, m), output)
+    let m = best_number(known);
+    write_line(
+        output,
+        b"computer",
+        b": ",
+        G::move_text(known.position, m).as_slice(),
+    )?;
+    ask::<G, V, W>(&known.play(m), output)
 }
 
 // The computer's turn, and then the person's.
 fn move_and_ask<G: Shown, V: View<G>, W: Write>(
-    tables: &Tables<G>,
-    p: Position,
+    known: &Known<'_, G>,
     output: &mut W,
 ) -> Result<Option<Position>, SessionError>
-    requires legal { G.Game.rules.is_legal p ≡ true }
-    requires held { AreAllHeld G.Game.rules tables.now p.tier }
-    ensures ok { (k : Advice) → IsKnown G.Game.rules p.tier k
-        → IfOk result (Says (W.contents output.old) (W.contents output.new) (computers_turn G.Game.rules G.shown G.move_shown k V.seen p)) }
-    ensures err { (k : Advice) → IsKnown G.Game.rules p.tier k
-        → OnErr result (AppendsPart (W.contents output.old) (W.contents output.new) (computers_turn G.Game.rules G.shown G.move_shown k V.seen p).text) }
-    ensures asked { IfOk result (λ o. IfSome o (IsReached G.Game.rules p.tier)) }
+    ensures ok { (k : Advice) → IsKnown G.Game.rules known.now.position.tier k
+        → IfOk result (Says (W.contents output.old) (W.contents output.new) (computers_turn G.Game.rules G.shown G.move_shown k V.seen known.now.position)) }
+    ensures err { (k : Advice) → IsKnown G.Game.rules known.now.position.tier k
+        → OnErr result (AppendsPart (W.contents output.old) (W.contents output.new)
+        (computers_turn G.Game.rules G.shown G.move_shown k V.seen known.now.position).text) }
+    ensures asked { IfOk result (λ o. IfSome o (IsReached G.Game.rules known.now.position.tier)) }
 {
-    write_place::<G, V, W>(tables, p, output)?;
-    match G::primitive(p) {
+    write_place::<G, V, W>(known, output)?;
+    match G::primitive(known.position) {
         Some(end) => finish(output, over(Side::Computer, end)),
-        None => play_best::<G, V, W>(tables, p, output),
+        None => play_best::<G, V, W>(known, output),
     }
 }
 
 /// Writes the turn of the side to move, and of the person after the computer: where the person is asked, or `None` where the game has ended.
 pub(crate) fn turn<G: Shown, V: View<G>, W: Write>(
-    tables: &Tables<G>,
-    p: Position,
+    known: &Known<'_, G>,
     side: Side,
     output: &mut W,
 ) -> Result<Option<Position>, SessionError>
-    requires legal { G.Game.rules.is_legal p ≡ true }
-    requires held { AreAllHeld G.Game.rules tables.now p.tier }
-    ensures ok { (k : Advice) → IsKnown G.Game.rules p.tier k
-        → IfOk result (Says (W.contents output.old) (W.contents output.new) (turn_spec G.Game.rules G.shown G.move_shown k V.seen p side)) }
-    ensures err { (k : Advice) → IsKnown G.Game.rules p.tier k
-        → OnErr result (AppendsPart (W.contents output.old) (W.contents output.new) (turn_spec G.Game.rules G.shown G.move_shown k V.seen p side).text) }
-    ensures asked { IfOk result (λ o. IfSome o (IsReached G.Game.rules p.tier)) }
+    ensures ok { (k : Advice) → IsKnown G.Game.rules known.now.position.tier k
+        → IfOk result (Says (W.contents output.old) (W.contents output.new) (turn_spec G.Game.rules G.shown G.move_shown k V.seen known.now.position side)) }
+    ensures err { (k : Advice) → IsKnown G.Game.rules known.now.position.tier k
+        → OnErr result (AppendsPart (W.contents output.old) (W.contents output.new)
+        (turn_spec G.Game.rules G.shown G.move_shown k V.seen known.now.position side).text) }
+    ensures asked { IfOk result (λ o. IfSome o (IsReached G.Game.rules known.now.position.tier)) }
 {
     match side {
-        Side::You => ask::<G, V, W>(tables, p, output),
-        Side::Computer => move_and_ask::<G, V, W>(tables, p, output),
+        Side::You => ask::<G, V, W>(known, output),
+        Side::Computer => move_and_ask::<G, V, W>(known, output),
     }
 }
 
@@ -165,8 +157,10 @@ fn ask_again<G: Shown, V: View<G>, W: Write>(
     output: &mut W,
 ) -> Result<Option<Position>, SessionError>
     requires { G.Game.rules.is_legal p ≡ true }
-    ensures ok { IfOk result (λ o. (o ≡ Some p) × Appends (W.contents output.old) (W.contents output.new) (codes "not a move\n" ++ V.seen Question.Again p ++ codes "your move?\n")) }
-    ensures err { OnErr result (AppendsPart (W.contents output.old) (W.contents output.new) (codes "not a move\n" ++ V.seen Question.Again p ++ codes "your move?\n")) }
+    ensures ok { IfOk result (λ o. (o ≡ Some p) × Appends (W.contents output.old) (W.contents output.new)
+        (codes "not a move\n" ++ V.seen Question.Again p ++ codes "your move?\n")) }
+    ensures err { OnErr result (AppendsPart (W.contents output.old) (W.contents output.new)
+        (codes "not a move\n" ++ V.seen Question.Again p ++ codes "your move?\n")) }
 {
     say(output, b"not a move\n")?;
     ask_move::<G, V, W>(Question::Again, p, output)
@@ -174,47 +168,45 @@ fn ask_again<G: Shown, V: View<G>, W: Write>(
 
 /// Answers a line: where the person is asked next, or `None` where the session ends.
 pub(crate) fn reply<G: Shown, V: View<G>, W: Write>(
-    tables: &Tables<G>,
-    p: Position,
+    known: &Known<'_, G>,
     line: &[u8],
     output: &mut W,
 ) -> Result<Option<Position>, SessionError>
-    requires legal { G.Game.rules.is_legal p ≡ true }
-    requires held { AreAllHeld G.Game.rules tables.now p.tier }
-    ensures ok { (k : Advice) → IsKnown G.Game.rules p.tier k
-        → IfOk result (Says (W.contents output.old) (W.contents output.new) (reply_spec G.Game.rules G.shown G.move_shown k V.seen p line.now)) }
-    ensures err { (k : Advice) → IsKnown G.Game.rules p.tier k
-        → OnErr result (AppendsPart (W.contents output.old) (W.contents output.new) (reply_spec G.Game.rules G.shown G.move_shown k V.seen p line.now).text) }
-    ensures asked { IfOk result (λ o. IfSome o (IsReached G.Game.rules p.tier)) }
+    ensures ok { (k : Advice) → IsKnown G.Game.rules known.now.position.tier k
+        → IfOk result (Says (W.contents output.old) (W.contents output.new)
+        (reply_spec G.Game.rules G.shown G.move_shown k V.seen known.now.position line.now)) }
+    ensures err { (k : Advice) → IsKnown G.Game.rules known.now.position.tier k
+        → OnErr result (AppendsPart (W.contents output.old) (W.contents output.new)
+        (reply_spec G.Game.rules G.shown G.move_shown k V.seen known.now.position line.now).text) }
+    ensures asked { IfOk result (λ o. IfSome o (IsReached G.Game.rules known.now.position.tier)) }
 {
     let text = without_return(line);
     if text == b"quit".as_slice() {
         return finish(output, b"bye\n");
     }
-    match G::read_move(p, text) {
-        Some(m) => move_and_ask::<G, V, W>(tables, G::play(p, m), output),
-        None => ask_again::<G, V, W>(p, output),
+    match G::read_move(known.position, text) {
+        Some(m) => move_and_ask::<G, V, W>(&known.play(m), output),
+        None => ask_again::<G, V, W>(known.position, output),
     }
 }
 
 /// Answers the bytes that stand before the end of the input, as a last line.
 pub(crate) fn close<G: Shown, V: View<G>, W: Write>(
-    tables: &Tables<G>,
-    p: Position,
+    known: &Known<'_, G>,
     line: &[u8],
     output: &mut W,
 ) -> Result<(), SessionError>
-    requires legal { G.Game.rules.is_legal p ≡ true }
-    requires held { AreAllHeld G.Game.rules tables.now p.tier }
-    ensures ok { (k : Advice) → IsKnown G.Game.rules p.tier k
-        → OnOk result (Appends (W.contents output.old) (W.contents output.new) (closing G.Game.rules G.shown G.move_shown k V.seen p line.now)) }
-    ensures err { (k : Advice) → IsKnown G.Game.rules p.tier k
-        → OnErr result (AppendsPart (W.contents output.old) (W.contents output.new) (closing G.Game.rules G.shown G.move_shown k V.seen p line.now)) }
+    ensures ok { (k : Advice) → IsKnown G.Game.rules known.now.position.tier k
+        → OnOk result (Appends (W.contents output.old) (W.contents output.new)
+        (closing G.Game.rules G.shown G.move_shown k V.seen known.now.position line.now)) }
+    ensures err { (k : Advice) → IsKnown G.Game.rules known.now.position.tier k
+        → OnErr result (AppendsPart (W.contents output.old) (W.contents output.new)
+        (closing G.Game.rules G.shown G.move_shown k V.seen known.now.position line.now)) }
 {
     if line.is_empty() {
         return say(output, b"input ended\n");
     }
-    match reply::<G, V, W>(tables, p, line, output)? {
+    match reply::<G, V, W>(known, line, output)? {
         Some(_) => say(output, b"input ended\n"),
         None => Ok(()),
     }

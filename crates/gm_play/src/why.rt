@@ -1,22 +1,19 @@
 //! Why a position has its value: its moves, the best answer to each, and what is left.
-ghost use Rattle.std.specs.Prelude.{◌≡◌, ◌↔◌, ◌++◌, true, false, IsTrue, IfOk, OnOk, IsErrOf};
-ghost use Rattle.std.specs.List.{All, Contains};
-ghost use Rattle.gm_game.specs.Values.{IsTrueValue};
-ghost use Rattle.gm_table.specs.Tables.{IsHeld, AreHeld};
+ghost use Rattle.std.specs.Prelude.{◌≡◌, ◌++◌, true, IfOk, OnOk};
+ghost use Rattle.std.specs.List.{All};
 ghost use Rattle.gm_best.specs.BestMoves.{IsBestMove};
-ghost use Rattle.gm_play.specs.PlayTexts.{IsMoveOf, IsNoPosition};
-ghost use Rattle.gm_play.specs.Why.{answer_text, IsExchange, IsAnswerable, AreAnswersNotHeld, exchange_row, AreExchangeRows, two, five, IsWhyText};
+ghost use Rattle.gm_play.specs.MoveValues.{IsMoveValue};
+ghost use Rattle.gm_play.specs.PlayTexts.{IsMoveOf};
+ghost use Rattle.gm_play.specs.Why.{answer_text, IsExchange, exchange_row, AreExchangeRows, two, five, IsWhyText};
 
-use crate::by_text::{moves_at, value_after};
+use crate::firsts::moves_of;
 use crate::move_values::MoveValue;
-use crate::texts::{push_field, push_row};
-use gm_best::best_move::best_move;
-use gm_best::play_error::PlayError;
+use crate::texts::{push_field, push_row, value_after};
+use gm_best::known::Known;
 use gm_game::game::Game;
 use gm_game::position::{Position, Solved};
 use gm_game::shown::{Line, Shown};
 use gm_game::text::value_text;
-use gm_table::tables::Tables;
 use std::alloc::{AllocError, Global};
 
 /// A move of a position, the best answer to it, and what is left.
@@ -31,80 +28,42 @@ pub struct Exchange {
     pub value: Solved,
 }
 
-/// The rows of the moves of the position with this text, the best first: the text of the move, what it is worth, the best answer to it (none where it ends the
-/// game), what is left, and the value of that, with a tab between them. So a loss is seen to be one: after each answer the side is lost again, and nearer the
-/// end. Any bytes may be given.
-///
-/// `Illegal` is tested first. `NotHeld` comes where the position's tier or the tier of one of its results, or a child tier of one of these, has no table.
-pub fn why_text<G: Shown>(
-    alloc: Global,
-    tables: &Tables<G>,
-    text: &[u8],
-) -> Result<Vec<u8>, PlayError>
-    ensures text { IfOk result (λ v. IsWhyText G.Game.rules G.shown G.move_shown text.now v.items) }
-    ensures illegal { IsErrOf result PlayError.Illegal ↔ IsNoPosition G.Game.rules G.shown G.move_shown text.now }
-    ensures not_held { IsErrOf result PlayError.NotHeld ↔ AreAnswersNotHeld G.Game.rules G.shown G.move_shown tables.now text.now }
+/// The rows of the moves of a position, the best first: the text of the move, what it is worth, the best answer to it (none where it ends the game), what is
+/// left, and the value of that, with a tab between them. So a loss is seen to be one: after each answer the side is lost again, and nearer the end.
+pub fn why_text<G: Shown>(alloc: Global, known: &Known<'_, G>) -> Result<Vec<u8>, AllocError>
+    ensures { IfOk result (λ v. IsWhyText G.Game.rules G.shown G.move_shown (G.shown known.now.position) v.items) }
 {
-    let (p, list) = moves_at(tables, text, false)?;
-    if !are_answerable(tables, list.as_slice()) {
-        return Err(PlayError::NotHeld);
-    }
-    match rows_for::<G>(alloc, tables, p, list.as_slice()) {
-        Ok(rows) => Ok(rows),
-        Err(_) => Err(PlayError::OutOfMemory),
-    }
+    let list = moves_of(known, false);
+    rows_for(alloc, known, list.as_slice())
 }
 
-// Whether the tier of each move's result has a table, and so has each of its child tiers.
-fn are_answerable<G: Game>(tables: &Tables<G>, list: &[MoveValue]) -> bool
-    ensures held { IsTrue result → All (IsAnswerable G.rules tables.now) list.now }
-    ensures missing { result ≡ false → (x : MoveValue) × Contains list.now x × (IsAnswerable G.rules tables.now x → ⊥) }
-{
-    for x in list {
-        if !is_answerable(tables, x.position) {
-            return false;
-        }
-    }
-    true
-}
-
-fn is_answerable<G: Game>(tables: &Tables<G>, q: Position) -> bool
-    ensures { IsTrue result ↔ (IsHeld tables.now q.tier × AreHeld G.rules tables.now q.tier) }
-{
-    tables.has(q.tier) && tables.has_children(q.tier)
-}
-
-// The rows of some moves of a legal position.
+// The rows of some moves.
 fn rows_for<G: Shown>(
     alloc: Global,
-    tables: &Tables<G>,
-    p: Position,
+    known: &Known<'_, G>,
     list: &[MoveValue],
 ) -> Result<Vec<u8>, AllocError>
-    requires legal { G.Game.rules.is_legal p ≡ true }
-    requires each { All (IsMoveOf G.Game.rules p) list.now }
-    requires values { All (λ (x : MoveValue). IsTrueValue G.Game.rules x.position x.result) list.now }
-    requires held { All (IsAnswerable G.Game.rules tables.now) list.now }
-    ensures { IfOk result (λ v. AreExchangeRows G.Game.rules G.shown G.move_shown p list.now v.items) }
+    requires each { All (IsMoveOf G.Game.rules known.now.position) list.now }
+    requires values { All (IsMoveValue G.Game.rules known.now.position) list.now }
+    ensures { IfOk result (λ v. AreExchangeRows G.Game.rules G.shown G.move_shown known.now.position list.now v.items) }
 {
     let mut rows = Vec::new(alloc);
     for x in list {
-        let exchange = exchange_after(tables, *x);
-        push_exchange::<G>(&mut rows, p, exchange)?;
+        let exchange = exchange_after(known, *x);
+        push_exchange::<G>(&mut rows, known.position, exchange)?;
     }
     Ok(rows)
 }
 
 // The best answer to a move, and what is left.
-fn exchange_after<G: Game>(tables: &Tables<G>, x: MoveValue) -> Exchange
-    requires legal { G.rules.is_legal x.position ≡ true }
-    requires value { IsTrueValue G.rules x.position x.result }
-    requires held { IsAnswerable G.rules tables.now x }
+fn exchange_after<G: Game>(known: &Known<'_, G>, x: MoveValue) -> Exchange
+    requires each { IsMoveOf G.rules known.now.position x }
+    requires value { IsMoveValue G.rules known.now.position x }
     ensures made { result.made ≡ x }
     ensures exchange { IsExchange G.rules result }
 {
     let q = x.position;
-    match best_move(tables, q).unwrap() {
+    match known.play(x.number).best_move() {
         Some(m) => Exchange {
             made: x,
             answer: Some(m),

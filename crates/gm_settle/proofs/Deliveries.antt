@@ -1,5 +1,6 @@
 -- Deliveries into ranges of a tier.
-use Rattle.std.proofs.Common.{◌≡◌, ℕ, ◌+◌, ◌<◌, ◌≤◌, ◌⊎◌, ◌↔◌, inl, inr, Bool, true, List, [], ◌++◌, length, map, filter, refl, ap, sym, subst, arith, length-append}
+use Rattle.std.proofs.Common.{◌≡◌, ℕ, ◌+◌, ◌<◌, ◌≤◌, ◌⊎◌, ◌↔◌, inl, inr, Bool, true, List, [], ◌++◌, length, map, filter, refl, ap, sym, subst, arith}
+use Rattle.std.proofs.Common.{length-append}
 use Rattle.std.specs.List.{Contains}
 use Rattle.std.proofs.lemmas.Bool.{cases_lt}
 use Rattle.std.proofs.lemmas.List.{length-map}
@@ -17,7 +18,8 @@ use Rattle.gm_table.specs.Solving.{AreDeliveries}
 use Rattle.gm_settle.specs.Passes.{IsDeliveryIn}
 
 -- things of one of two kinds that have nothing in common
-there_sum : {A : Type 0} (n m : ℕ) (K L M : A → Type 0) → AreThere n K → AreThere m L → ((x : A) → K x → L x → ⊥) → ((x : A) → M x ↔ (K x ⊎ L x)) → AreThere (n + m) M
+there_sum : {A : Type 0} (n m : ℕ) (K L M : A → Type 0) → AreThere n K → AreThere m L → ((x : A) → K x → L x → ⊥) → ((x : A) → M x ↔ (K x ⊎ L x))
+    → AreThere (n + m) M
 there_sum n m K L M (xs, count, a) (ys, many, b) apart same = (
   xs ++ ys,
   omega (arith, length-append xs ys),
@@ -26,7 +28,8 @@ there_sum n m K L M (xs, count, a) (ys, many, b) apart same = (
       λ h. elim ((same x).0 h) [ inl k ↦ Contains-append_left xs ys x ((a.each x).0 k) | inr l ↦ Contains-append_right xs ys x ((b.each x).0 l) ],
       λ h. (same x).1 (elim (Contains-append_cases xs ys x h) [ inl k ↦ inl ((a.each x).1 k) | inr l ↦ inr ((b.each x).1 l) ]),
     );
-    once = no_repeats_to (xs ++ ys) (no_repeats_append xs ys (no_repeats_from xs a.once) (no_repeats_from ys b.once) (λ x i j. apart x ((a.each x).1 i) ((b.each x).1 j)));
+    once = no_repeats_to (xs ++ ys) (no_repeats_append xs ys (no_repeats_from xs a.once) (no_repeats_from ys b.once)
+        (λ x i j. apart x ((a.each x).1 i) ((b.each x).1 j)));
   },
 )
 
@@ -46,7 +49,8 @@ pub deliveries_start : (r : Rules) (tier lo hi : ℕ) → hi ≤ lo → AreThere
 deliveries_start r tier lo hi l = there_none (IsDeliveryIn r tier lo hi) (λ pair d. let a = d.low in let b = d.high in omega arith)
 
 -- those into a range and into the one behind it
-pub deliveries_join : (r : Rules) (tier lo mid hi n m : ℕ) → lo ≤ mid → mid ≤ hi → AreThere n (IsDeliveryIn r tier lo mid) → AreThere m (IsDeliveryIn r tier mid hi) → AreThere (n + m) (IsDeliveryIn r tier lo hi)
+pub deliveries_join : (r : Rules) (tier lo mid hi n m : ℕ) → lo ≤ mid → mid ≤ hi → AreThere n (IsDeliveryIn r tier lo mid)
+    → AreThere m (IsDeliveryIn r tier mid hi) → AreThere (n + m) (IsDeliveryIn r tier lo hi)
 deliveries_join r tier lo mid hi n m a b x y =
     there_sum n m (IsDeliveryIn r tier lo mid) (IsDeliveryIn r tier mid hi) (IsDeliveryIn r tier lo hi) x y
     (λ pair k l. let h = k.high in let g = l.low in omega arith)
@@ -68,7 +72,8 @@ one_index i k a b = omega arith
 -- none into an index that isn't inner
 pub deliveries_outer : (r : Rules) (p : Position) → (IsInner r p → ⊥) → AreThere 0 (IsDeliveryIn r p.tier p.index (p.index + 1))
 deliveries_outer r p none =
-    there_none (IsDeliveryIn r p.tier p.index (p.index + 1)) (λ pair d. none (subst (λ (i : ℕ). IsInner r (at p.tier i)) (one_index p.index pair.1 d.low d.high) d.delivery.is_parent.0))
+    there_none (IsDeliveryIn r p.tier p.index (p.index + 1))
+    (λ pair d. none (subst (λ (i : ℕ). IsInner r (at p.tier i)) (one_index p.index pair.1 d.low d.high) d.delivery.is_parent.0))
 
 -- none into indexes that are none of canonical positions
 pub deliveries_holes : (r : Rules) (tier lo hi : ℕ) → AreHoles r tier lo hi → AreThere 0 (IsDeliveryIn r tier lo hi)
@@ -80,7 +85,8 @@ abbrev pair_with : ℕ → Position → Position × ℕ
 pair_with i c = (c, i)
 
 -- those into an inner index: its canonical children that are no draws
-pub deliveries_inner : (r : Rules) (p : Position) (cs : List Position) (f : Position → Bool) → IsInner r p → AreOnce r p cs → ((c : Position) → Contains cs c → (f c ≡ true) ↔ (HasValue r c Draw 0 → ⊥))
+pub deliveries_inner : (r : Rules) (p : Position) (cs : List Position) (f : Position → Bool) → IsInner r p → AreOnce r p cs
+    → ((c : Position) → Contains cs c → (f c ≡ true) ↔ (HasValue r c Draw 0 → ⊥))
     → AreThere (length (filter f cs)) (IsDeliveryIn r p.tier p.index (p.index + 1))
 deliveries_inner r p cs f inner are decides = (
   map (pair_with p.index) (filter f cs),
@@ -97,10 +103,15 @@ deliveries_inner r p cs f inner are decides = (
           let (c, has, e) = map_in (pair_with p.index) (filter f cs) pair h in
           let (there, passes) = in_filter f cs c has in
           subst (IsDeliveryIn r p.tier p.index (p.index + 1)) e
-          (record { delivery = record { is_parent = (inner, (are.exact c).0 there); no_draw = (decides c there).0 passes }; low = omega arith; high = omega arith })),
+          (record {
+            delivery = record { is_parent = (inner, (are.exact c).0 there); no_draw = (decides c there).0 passes };
+            low = omega arith;
+            high = omega arith;
+          })),
     );
     once = no_repeats_to (map (pair_with p.index) (filter f cs))
-        (no_repeats_map (pair_with p.index) (filter f cs) (λ x y i j e. ap (λ (z : Position × ℕ). z.0) e) (no_repeats_filter f cs (no_repeats_from cs are.once)));
+        (no_repeats_map (pair_with p.index) (filter f cs) (λ x y i j e. ap (λ (z : Position × ℕ). z.0) e)
+        (no_repeats_filter f cs (no_repeats_from cs are.once)));
   },
 )
 

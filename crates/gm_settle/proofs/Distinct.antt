@@ -1,5 +1,6 @@
 -- Lists without repeats: joined, mapped and filtered.
-use Rattle.std.proofs.Common.{◌≡◌, ◌≢◌, ℕ, zero, suc, ◌<◌, inl, inr, Bool, true, false, List, [], ◌∷◌, ◌++◌, length, get_or, map, filter, refl, sym, ap, subst, ◌∙◌, arith, AllPairs, if◌then◌else◌}
+use Rattle.std.proofs.Common.{◌≡◌, ◌≢◌, ℕ, zero, suc, ◌<◌, inl, inr, Bool, true, false, List, [], ◌∷◌, ◌++◌, length, get_or, map, filter, refl, sym, ap, subst}
+use Rattle.std.proofs.Common.{◌∙◌, arith, AllPairs, if◌then◌else◌}
 use Rattle.std.specs.List.{Contains}
 use Rattle.std.proofs.lemmas.List.Elements.{Contains-append_cases}
 use Rattle.gm_game.proofs.Lists.{contains_none, contains_first, contains_later, contains_cases, map_in}
@@ -8,8 +9,10 @@ use Rattle.gm_game.proofs.Counts.{HasNoRepeats}
 -- by places, and back
 pub no_repeats_from : {X : Type 0} (xs : List X) → AllPairs (λ x y. x ≢ y) xs → HasNoRepeats xs
 no_repeats_from [] all = tt
-no_repeats_from (x ∷ xs) all =
-    (λ h. all 0 (suc h.0) x (omega arith) (let l = h.1 in omega arith) (sym h.2), no_repeats_from xs (λ i j d a b. all (suc i) (suc j) d (omega arith) (omega arith)))
+no_repeats_from (x ∷ xs) all = (
+  λ h. all 0 (suc h.0) x (omega arith) (let l = h.1 in omega arith) (sym h.2),
+  no_repeats_from xs (λ i j d a b. all (suc i) (suc j) d (omega arith) (omega arith)),
+)
 
 -- whatever the default
 pub stands_there : {X : Type 0} (xs : List X) (j : ℕ) (d : X) → j < length xs → get_or xs j (get_or xs j d) ≡ get_or xs j d
@@ -24,13 +27,17 @@ no_repeats_to {X} (x ∷ xs) n zero (suc j) d a b = λ e. n.0 (subst (λ (u : X)
 no_repeats_to (x ∷ xs) n (suc i) (suc j) d a b = no_repeats_to xs n.1 i j d (omega arith) (omega arith)
 
 -- joined lists that share nothing
-pub no_repeats_append : {X : Type 0} (xs ys : List X) → HasNoRepeats xs → HasNoRepeats ys → ((x : X) → Contains xs x → Contains ys x → ⊥) → HasNoRepeats (xs ++ ys)
+pub no_repeats_append : {X : Type 0} (xs ys : List X) → HasNoRepeats xs → HasNoRepeats ys → ((x : X) → Contains xs x → Contains ys x → ⊥)
+    → HasNoRepeats (xs ++ ys)
 no_repeats_append [] ys n m f = m
-no_repeats_append (x ∷ xs) ys n m f =
-    (λ h. elim (Contains-append_cases xs ys x h) [ inl a ↦ n.0 a | inr b ↦ f x (contains_first x xs) b ], no_repeats_append xs ys n.1 m (λ y a b. f y (contains_later x y xs a) b))
+no_repeats_append (x ∷ xs) ys n m f = (
+  λ h. elim (Contains-append_cases xs ys x h) [ inl a ↦ n.0 a | inr b ↦ f x (contains_first x xs) b ],
+  no_repeats_append xs ys n.1 m (λ y a b. f y (contains_later x y xs a) b),
+)
 
 -- a mapped list, where different members stay different
-pub no_repeats_map : {X Y : Type 0} (f : X → Y) (xs : List X) → ((x y : X) → Contains xs x → Contains xs y → f x ≡ f y → x ≡ y) → HasNoRepeats xs → HasNoRepeats (map f xs)
+pub no_repeats_map : {X Y : Type 0} (f : X → Y) (xs : List X) → ((x y : X) → Contains xs x → Contains xs y → f x ≡ f y → x ≡ y) → HasNoRepeats xs
+    → HasNoRepeats (map f xs)
 no_repeats_map f [] i n = tt
 no_repeats_map {X} f (x ∷ xs) i n = (
   λ h. (let (y, l, e) = map_in f xs (f x) h in n.0 (subst (λ (z : X). Contains xs z) (i y x (contains_later x y xs l) (contains_first x xs) e) l)),

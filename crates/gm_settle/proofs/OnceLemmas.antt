@@ -1,5 +1,6 @@
 -- Each position of a list once.
-use Rattle.std.proofs.Common.{◌≡◌, ℕ, ◌+◌, ◌%◌, ◌<◌, ◌≤◌, inl, inr, Bool, true, false, List, [], ◌∷◌, ◌++◌, length, length-append, take, get_or, set, get_or-set_other, get_or-set_same, sym, subst, ◌∙◌, arith}
+use Rattle.std.proofs.Common.{◌≡◌, ℕ, ◌+◌, ◌%◌, ◌<◌, ◌≤◌, inl, inr, Bool, true, false, List, [], ◌∷◌, ◌++◌, length, length-append, take, get_or, set}
+use Rattle.std.proofs.Common.{get_or-set_other, get_or-set_same, sym, subst, ◌∙◌, arith}
 use Rattle.std.specs.List.{Contains}
 use Rattle.std.proofs.lemmas.List.{take_more, length-set}
 use Rattle.std.proofs.lemmas.Bool.{cases_eq}
@@ -19,15 +20,6 @@ pub record AreListed (list : List Position) (n : ℕ) (once : List Position) (ma
   pub long : length marks ≡ 1024
   pub marked : AreMarked marks once
 
-pub listed_none : (list once : List Position) (marks : List Bool) → once ≡ [] → length marks ≡ 1024 → AreListed list 0 once marks
-listed_none list once marks none long = subst (λ (ps : List Position). AreListed list 0 ps marks) (sym none) (record {
-  same = λ c. (λ h. h, λ h. h);
-  once_each = tt;
-  few = omega arith;
-  long = long;
-  marked = λ p h. absurd (contains_none p h);
-})
-
 -- what is marked stays so
 still_marked : (marks : List Bool) (m k : ℕ) → m < length marks → get_or marks k false ≡ true → get_or (set marks m true) k false ≡ true
 still_marked marks m k inside h = elim (cases_eq k m) [
@@ -40,7 +32,8 @@ module _ (list once : List Position) (marks : List Bool) (n : ℕ) (d : Position
   pub listed_old : Contains once (get_or list n d) → AreListed list (n + 1) once marks
   listed_old there = record {
     same = λ c. (
-      λ h. subst (λ (ps : List Position). Contains ps c) (sym (take_more list n d inside)) (Contains-append_left (take n list) (get_or list n d ∷ []) c ((old.same c).0 h)),
+      λ h. subst (λ (ps : List Position). Contains ps c) (sym (take_more list n d inside))
+          (Contains-append_left (take n list) (get_or list n d ∷ []) c ((old.same c).0 h)),
       λ h. elim (Contains-push_cases (take n list) (get_or list n d) c (subst (λ (ps : List Position). Contains ps c) (take_more list n d inside) h)) [
         | inl k ↦ (old.same c).1 k
         | inr e ↦ subst (Contains once) e there
@@ -53,7 +46,8 @@ module _ (list once : List Position) (marks : List Bool) (n : ℕ) (d : Position
   }
 
   -- and one that is new
-  pub listed_new : (m : ℕ) → m ≡ (get_or list n d).index % 1024 → m < 1024 → (Contains once (get_or list n d) → ⊥) → AreListed list (n + 1) (once ++ get_or list n d ∷ []) (set marks m true)
+  pub listed_new : (m : ℕ) → m ≡ (get_or list n d).index % 1024 → m < 1024 → (Contains once (get_or list n d) → ⊥)
+      → AreListed list (n + 1) (once ++ get_or list n d ∷ []) (set marks m true)
   listed_new m mark small new =
       let p = get_or list n d in
       let long = old.long in
@@ -77,6 +71,7 @@ module _ (list once : List Position) (marks : List Bool) (n : ℕ) (d : Position
         long = length-set marks m true ∙ old.long;
         marked = λ c h. elim (Contains-push_cases once p c h) [
           | inl k ↦ still_marked marks m (c.index % 1024) within (old.marked c k)
-          | inr e ↦ subst (λ (q : Position). get_or (set marks m true) (q.index % 1024) false ≡ true) e (subst (λ (i : ℕ). get_or (set marks m true) i false ≡ true) mark (get_or-set_same marks m true false within))
+          | inr e ↦ subst (λ (q : Position). get_or (set marks m true) (q.index % 1024) false ≡ true) e
+              (subst (λ (i : ℕ). get_or (set marks m true) i false ≡ true) mark (get_or-set_same marks m true false within))
         ];
       }

@@ -17,7 +17,7 @@ use rayon::prelude::*;
 use std::alloc::{AllocError, Global};
 use std::thread::Threads;
 
-/// A tier of at most this many indexes is settled by the calling thread alone: to start threads would take longer.
+/// A tier of at most this many indexes is settled by the calling thread alone: starting threads would cost more than it saves.
 const FEW: u64 = 16_384;
 
 /// A tier within the limits whose child tiers are held.

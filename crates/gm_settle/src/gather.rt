@@ -19,7 +19,8 @@ use gm_table::tables::Tables;
 use gm_table::words::sum_of;
 
 /// What the canonical children of p say, and how many of them are no draws; `None` where one of them is in the tier of p. The tables of the child tiers are
-/// given, and those that were read last are at hand. The words of the children's records are written over what `words` holds, all before the first is looked into.
+/// given, and those that were read last are at hand. The words of the children's records are written over what `words` holds, all before the first is looked
+/// into.
 pub(crate) fn gather<'a, G: Game>(
     tables: &'a Tables<G>,
     hand: &mut [Option<&'a Table<G>>],

@@ -57,8 +57,8 @@ impl Lists {
     }
 }
 
-/// The record of a canonical legal position, and how many of its canonical children are no draws. The game has ended there so, or else goes on to the results that
-/// the lists hold. Children are written over what else they hold.
+/// The record of a canonical legal position, and how many of its canonical children are no draws. The game has ended there so, or else goes on to the results
+/// that the lists hold. Children are written over what else they hold.
 pub(crate) fn settle_position<'a, G: Game>(
     tables: &'a Tables<G>,
     hand: &mut [Option<&'a Table<G>>],

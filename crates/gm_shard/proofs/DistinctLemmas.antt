@@ -40,7 +40,8 @@ distinct_push xs x d new i j l m e =
 no_repeats : (xs : List ℕ) → AreDistinct xs → HasNoRepeats xs
 no_repeats [] d = tt
 no_repeats (x ∷ xs) d = (
-  λ h. (let m : h.0 < length xs = h.1 in let z : 0 ≡ suc h.0 = d 0 (suc h.0) (omega arith) (omega arith) (sym h.2 ∙ get_or_default_zero xs h.0 x m) in omega arith),
+  λ h. (let m : h.0 < length xs = h.1 in let z : 0 ≡ suc h.0 = d 0 (suc h.0) (omega arith) (omega arith) (sym h.2 ∙ get_or_default_zero xs h.0 x m) in
+      omega arith),
   no_repeats xs (λ i j l m e. let z : suc i ≡ suc j = d (suc i) (suc j) (omega arith) (omega arith) e in omega arith),
 )
 

@@ -35,7 +35,8 @@ pub record IsFilled (r : Rules) (s : ShardState) (phase : Phase) (n : ℕ) (q : 
   pub to : q.to ≡ 0
   pub room : length s.delivered ≤ q.room
 
-pub filled_none : (r : Rules) (s : ShardState) (phase : Phase) (q : QueueData) → q.indexes ≡ [] → q.from ≡ 0 → q.to ≡ 0 → length s.delivered ≤ q.room → IsFilled r s phase 0 q
+pub filled_none : (r : Rules) (s : ShardState) (phase : Phase) (q : QueueData) → q.indexes ≡ [] → q.from ≡ 0 → q.to ≡ 0 → length s.delivered ≤ q.room
+    → IsFilled r s phase 0 q
 filled_none r s phase q e from to room = record {
   listed = λ k. (λ h. absurd (contains_none k (subst (λ (l : List ℕ). Contains l k) e h)), λ (l, w). absurd (omega arith));
   once = subst AreDistinct (sym e) distinct_none;
@@ -44,25 +45,30 @@ filled_none r s phase q e from to room = record {
   room = room;
 }
 
-pub filled_few : (r : Rules) (s : ShardState) (phase : Phase) (n : ℕ) (q : QueueData) → IsFilled r s phase n q → n < length s.delivered → length q.indexes < q.room
+pub filled_few : (r : Rules) (s : ShardState) (phase : Phase) (n : ℕ) (q : QueueData) → IsFilled r s phase n q → n < length s.delivered
+    → length q.indexes < q.room
 filled_few r s phase n q f l =
     let few = distinct_few n q.indexes f.once (λ x h. ((f.listed x).0 h).0) in
     let room = f.room in
     omega arith
 
 -- a settled status has this phase exactly where the record has
-has_phase_of : (r : Rules) (s : ShardState) → IsGood r s → (phase : Phase) (i : ℕ) → IsInRange s i → (status : Status) (x : Solved) → StatusIs r s i status → StatusIs r s i (Settled x) → HasPhase phase (Settled x) → HasPhase phase status
+has_phase_of : (r : Rules) (s : ShardState) → IsGood r s → (phase : Phase) (i : ℕ) → IsInRange s i → (status : Status) (x : Solved) → StatusIs r s i status
+    → StatusIs r s i (Settled x) → HasPhase phase (Settled x) → HasPhase phase status
 has_phase_of r s g phase i m Hole x a b p = absurd (none_of r (at s.tier i) (delivered_to s i) Hole a (λ y e. cc) x b)
 has_phase_of r s g phase i m Undecided x a b p = absurd (none_of r (at s.tier i) (delivered_to s i) Undecided a (λ y e. cc) x b)
 has_phase_of r s g phase i m (Settled y) x a b p = subst (λ (z : Solved). HasPhase phase (Settled z)) (settled_once r s g i m x y b a) p
 
-settled_in : (r : Rules) (s : ShardState) (phase : Phase) (k : ℕ) → k < length s.delivered → (status : Status) → StatusIs r s (s.lo + k) status → HasPhase phase status → IsSettledIn r s phase k
+settled_in : (r : Rules) (s : ShardState) (phase : Phase) (k : ℕ) → k < length s.delivered → (status : Status) → StatusIs r s (s.lo + k) status
+    → HasPhase phase status → IsSettledIn r s phase k
 settled_in r s phase k l Hole a p = absurd p
 settled_in r s phase k l Undecided a p = absurd p
 settled_in r s phase k l (Settled x) a p = record { within = l; value = x; settled = a; phase_is = p }
 
-module _ (r : Rules) (s : ShardState) (good : IsGood r s) (phase : Phase) (n : ℕ) (within : n < length s.delivered) (q : QueueData) (f : IsFilled r s phase n q) (status : Status) (is : StatusIs r s (s.lo + n) status) where
-  pub filled_more : HasPhase phase status → (p : QueueData) → p.indexes ≡ q.indexes ++ n ∷ [] → p.from ≡ q.from → p.to ≡ q.to → q.room ≤ p.room → IsFilled r s phase (n + 1) p
+module _ (r : Rules) (s : ShardState) (good : IsGood r s) (phase : Phase) (n : ℕ) (within : n < length s.delivered) (q : QueueData)
+    (f : IsFilled r s phase n q) (status : Status) (is : StatusIs r s (s.lo + n) status) where
+  pub filled_more : HasPhase phase status → (p : QueueData) → p.indexes ≡ q.indexes ++ n ∷ [] → p.from ≡ q.from → p.to ≡ q.to → q.room ≤ p.room
+      → IsFilled r s phase (n + 1) p
   filled_more has p e from to room = record {
     listed = λ k. (
       λ h. elim (Contains-append_cases q.indexes (n ∷ []) k (subst (λ (l : List ℕ). Contains l k) e h)) [
@@ -108,10 +114,12 @@ end_at_once EndWin = refl
 
 at_once : (r : Rules) (s : ShardState) (i : ℕ) (x : Solved) → delivered_to s i ≡ [] → StatusIs r s i (Settled x) → x.remoteness ≡ 0
 at_once r s i x e (inl h) = ap (λ (y : Solved). y.remoteness) h.value ∙ end_at_once h.ended
-at_once r s i x e (inr (inner, h)) = absurd (nothing_settled r (at s.tier i) x.value x.remoteness (subst (λ (d : List Position). IsSettled r (at s.tier i) (In d) x.value x.remoteness) e h))
+at_once r s i x e (inr (inner, h)) =
+    absurd (nothing_settled r (at s.tier i) x.value x.remoteness (subst (λ (d : List Position). IsSettled r (at s.tier i) (In d) x.value x.remoteness) e h))
 
 -- the queue of all indexes is that of level 0
-pub filled_all : (r : Rules) (s : ShardState) (phase : Phase) (n : ℕ) (q : QueueData) → IsEmptied s → n ≡ length s.delivered → IsFilled r s phase n q → IsQueue r s phase 0 (record q { from = q.to; to = length q.indexes })
+pub filled_all : (r : Rules) (s : ShardState) (phase : Phase) (n : ℕ) (q : QueueData) → IsEmptied s → n ≡ length s.delivered → IsFilled r s phase n q
+    → IsQueue r s phase 0 (record q { from = q.to; to = length q.indexes })
 filled_all r s phase n q none all f = record {
   listed = λ k. (λ h. ((f.listed k).0 h).1, λ w. (f.listed k).1 (let l = w.within in omega arith, w));
   once = f.once;
@@ -128,15 +136,19 @@ filled_all r s phase n q none all f = record {
 }
   where
     there : (place k : ℕ) → slice_get q.indexes place ≡ Some k → Contains q.indexes k
-    there place k is = subst (Contains q.indexes) (get_or_from_slice_get q.indexes place k 0 is) (Contains-get_or q.indexes place 0 (slice_get_within q.indexes place k is))
+    there place k is = subst (Contains q.indexes) (get_or_from_slice_get q.indexes place k 0 is)
+        (Contains-get_or q.indexes place 0 (slice_get_within q.indexes place k is))
 
 -- a shard at the first place has no child delivered
 pub first_emptied : (s : ShardState) (tier lo n : ℕ) → s ≡ first_state tier lo n → IsEmptied s
 first_emptied s tier lo n e =
     subst IsEmptied (sym e)
-    (λ i within. (let a = within.0 in let b = within.1 in let long : length (replicate n (let none : List Position = [] in none)) ≡ n = length-replicate n [] in get_or-replicate n (i - lo) [] [] (omega arith)))
+    (λ i within. (let a = within.0 in let b = within.1 in let long : length (replicate n (let none : List Position = [] in none)) ≡ n =
+    length-replicate n [] in get_or-replicate n (i - lo) [] [] (omega arith)))
 
 -- its queues have what has ended
-pub first_queues : (r : Rules) (s : ShardState) (tier lo n : ℕ) (wins ties : QueueData) → s ≡ first_state tier lo n → IsQueue r s WinLose 0 wins → IsQueue r s Ties 0 ties → AreQueues r s s.phase wins ties
+pub first_queues : (r : Rules) (s : ShardState) (tier lo n : ℕ) (wins ties : QueueData) → s ≡ first_state tier lo n → IsQueue r s WinLose 0 wins
+    → IsQueue r s Ties 0 ties → AreQueues r s s.phase wins ties
 first_queues r s tier lo n wins ties e w t =
-    subst (λ (x : ShardState). AreQueues r x x.phase wins ties) (sym e) (subst (λ (x : ShardState). IsQueue r x WinLose 0 wins) e w, subst (λ (x : ShardState). IsQueue r x Ties 0 ties) e t)
+    subst (λ (x : ShardState). AreQueues r x x.phase wins ties) (sym e)
+    (subst (λ (x : ShardState). IsQueue r x WinLose 0 wins) e w, subst (λ (x : ShardState). IsQueue r x Ties 0 ties) e t)

@@ -1,5 +1,6 @@
 -- The indexes that are settled at the present place, and their notes.
-use Rattle.std.proofs.Common.{◌≡◌, ◌≢◌, ℕ, suc, ◌+◌, ◌-◌, ◌<◌, ◌≤◌, inl, inr, true, List, [], ◌∷◌, map, drop, length, get_or, refl, sym, ap, subst, ◌∙◌, arith, Some, length-drop, length-take}
+use Rattle.std.proofs.Common.{◌≡◌, ◌≢◌, ℕ, suc, ◌+◌, ◌-◌, ◌<◌, ◌≤◌, inl, inr, true, List, [], ◌∷◌, map, drop, length, get_or, refl, sym, ap, subst, ◌∙◌, arith}
+use Rattle.std.proofs.Common.{Some, length-drop, length-take}
 use Rattle.std.specs.List.{Contains, slice_get, slice_range, AllByRecursion}
 use Rattle.std.specs.List.Sorted.{IsPermutation, IsNonDecreasing}
 use Rattle.std.proofs.lemmas.List.{get_or-drop, get_or-take}
@@ -42,7 +43,8 @@ range_at : (xs : List ℕ) (a b i : ℕ) → i < b - a → get_or (slice_range x
 range_at xs a b i l = get_or-take (b - a) (drop a xs) i 0 l ∙ get_or-drop a xs i 0
 
 -- a place of a queue's present part
-settled_at_place : (r : Rules) (s : ShardState) (phase : Phase) (level : ℕ) (q : QueueData) → IsQueue r s phase level q → (k j : ℕ) → q.from ≤ j → j < q.to → get_or q.indexes j 0 ≡ k → IsSettledAt r s phase level k
+settled_at_place : (r : Rules) (s : ShardState) (phase : Phase) (level : ℕ) (q : QueueData) → IsQueue r s phase level q → (k j : ℕ) → q.from ≤ j → j < q.to
+    → get_or q.indexes j 0 ≡ k → IsSettledAt r s phase level k
 settled_at_place r s phase level q old k j low high e =
     let inside = old.inside in
     let l : j < length q.indexes = omega arith in
@@ -51,7 +53,8 @@ settled_at_place r s phase level q old k j low high e =
     let w = (old.listed k).0 there in
     record { within = w.within; value = w.value; settled = w.settled; phase_is = w.phase_is; level_is = (old.placed j k w.value is w.settled).present low high }
 
-place_of_settled : (r : Rules) (s : ShardState) (phase : Phase) (level : ℕ) (q : QueueData) → IsQueue r s phase level q → (k : ℕ) → IsSettledAt r s phase level k → (j : ℕ) × (q.from ≤ j) × (j < q.to) × (get_or q.indexes j 0 ≡ k)
+place_of_settled : (r : Rules) (s : ShardState) (phase : Phase) (level : ℕ) (q : QueueData) → IsQueue r s phase level q → (k : ℕ)
+    → IsSettledAt r s phase level k → (j : ℕ) × (q.from ≤ j) × (j < q.to) × (get_or q.indexes j 0 ≡ k)
 place_of_settled r s phase level q old k w =
     let h = (old.listed k).1 (record { within = w.within; value = w.value; settled = w.settled; phase_is = w.phase_is }) in
     let l : h.0 < length q.indexes = h.1 in
@@ -68,7 +71,8 @@ place_of_settled r s phase level q old k w =
     ]
 
 -- the present part of a queue
-pub present_of : (r : Rules) (s : ShardState) (phase : Phase) (level : ℕ) (q : QueueData) → IsQueue r s phase level q → AreSettledAt r s phase level (slice_range q.indexes q.from q.to)
+pub present_of : (r : Rules) (s : ShardState) (phase : Phase) (level : ℕ) (q : QueueData) → IsQueue r s phase level q
+    → AreSettledAt r s phase level (slice_range q.indexes q.from q.to)
 present_of r s phase level q old =
     let order = old.order in
     let inside = old.inside in
@@ -81,8 +85,12 @@ present_of r s phase level q old =
             (sym (range_at q.indexes q.from q.to h.0 (omega arith)) ∙ sym (get_or_default_zero ys h.0 k l) ∙ h.2)),
         λ w. (let (j, low, high, e) = place_of_settled r s phase level q old k w in
             let l : j - q.from < length ys = omega arith in
-            let back : q.from + (j - q.from) ≡ j = omega arith in
-            (j - q.from, l, get_or_default_zero ys (j - q.from) k l ∙ range_at q.indexes q.from q.to (j - q.from) (omega arith) ∙ ap (λ (i : ℕ). get_or q.indexes i 0) back ∙ e)),
+            let back : q.from + (j - q.from) ≡ j = omega arith in (
+              j - q.from,
+              l,
+              get_or_default_zero ys (j - q.from) k l ∙ range_at q.indexes q.from q.to (j - q.from) (omega arith)
+                  ∙ ap (λ (i : ℕ). get_or q.indexes i 0) back ∙ e,
+            )),
       );
       once = λ i j a b e.
           let z : q.from + i ≡ q.from + j = old.once (q.from + i) (q.from + j) (omega arith) (omega arith)
@@ -91,18 +99,21 @@ present_of r s phase level q old =
     }
 
 -- the present part of the queue of the present phase
-pub present_wins : (r : Rules) (s : ShardState) (w q : QueueData) → s.phase ≡ WinLose → AreQueues r s s.phase w q → AreSettledAt r s s.phase s.level (slice_range w.indexes w.from w.to)
+pub present_wins : (r : Rules) (s : ShardState) (w q : QueueData) → s.phase ≡ WinLose → AreQueues r s s.phase w q
+    → AreSettledAt r s s.phase s.level (slice_range w.indexes w.from w.to)
 present_wins r s w q e x =
     let y : AreQueues r s WinLose w q = subst (λ (ph : Phase). AreQueues r s ph w q) e x in
     subst (λ (ph : Phase). AreSettledAt r s ph s.level (slice_range w.indexes w.from w.to)) (sym e) (present_of r s WinLose s.level w y.0)
 
-pub present_ties : (r : Rules) (s : ShardState) (w q : QueueData) → s.phase ≡ Ties → AreQueues r s s.phase w q → AreSettledAt r s s.phase s.level (slice_range q.indexes q.from q.to)
+pub present_ties : (r : Rules) (s : ShardState) (w q : QueueData) → s.phase ≡ Ties → AreQueues r s s.phase w q
+    → AreSettledAt r s s.phase s.level (slice_range q.indexes q.from q.to)
 present_ties r s w q e x =
     let y : AreQueues r s Ties w q = subst (λ (ph : Phase). AreQueues r s ph w q) e x in
     subst (λ (ph : Phase). AreSettledAt r s ph s.level (slice_range q.indexes q.from q.to)) (sym e) (present_of r s Ties s.level q y)
 
 -- in another order
-pub settled_permuted : (r : Rules) (s : ShardState) (phase : Phase) (level : ℕ) (xs ys : List ℕ) → IsPermutation xs ys → AreSettledAt r s phase level xs → AreSettledAt r s phase level ys
+pub settled_permuted : (r : Rules) (s : ShardState) (phase : Phase) (level : ℕ) (xs ys : List ℕ) → IsPermutation xs ys → AreSettledAt r s phase level xs
+    → AreSettledAt r s phase level ys
 settled_permuted r s phase level xs ys p h = record {
   listed = λ k. (λ c. (h.listed k).0 (Contains-permutation ys xs k (IsPermutation-sym xs ys p) c), λ w. Contains-permutation xs ys k p ((h.listed k).1 w));
   once = distinct_permuted xs ys p h.once;
@@ -115,7 +126,8 @@ positions_at r s [] (n ∷ ns) h = absurd h
 positions_at r s (k ∷ ks) [] h = absurd h
 positions_at r s (k ∷ ks) (n ∷ ns) (x, h) = ap (λ p. p ∷ positions ns) x.position ∙ ap (λ ps. at s.tier (s.lo + k) ∷ ps) (positions_at r s ks ns h)
 
-note_of_one : (r : Rules) (s : ShardState) (ks : List ℕ) (ns : List NoteData) → AreNotesAt r s ks ns → (n : NoteData) → Contains ns n → (k : ℕ) × Contains ks k × IsNoteAtIndex r s k n
+note_of_one : (r : Rules) (s : ShardState) (ks : List ℕ) (ns : List NoteData) → AreNotesAt r s ks ns → (n : NoteData) → Contains ns n
+    → (k : ℕ) × Contains ks k × IsNoteAtIndex r s k n
 note_of_one r s [] [] h n c = absurd (contains_none n c)
 note_of_one r s [] (m ∷ ns) h n c = absurd h
 note_of_one r s (k ∷ ks) [] h n c = absurd h
@@ -125,16 +137,20 @@ note_of_one r s (k ∷ ks) (m ∷ ns) (x, h) n c = elim (contains_cases m n ns c
 ]
 
 -- ascending indexes are positions in order
-later_all : (tier lo k : ℕ) (ks : List ℕ) → ((j : ℕ) → j < length ks → k < get_or ks j 0) → AllByRecursion (λ q. is_before (at tier (lo + k)) q ≡ true) (map (λ i. at tier (lo + i)) ks)
+later_all : (tier lo k : ℕ) (ks : List ℕ) → ((j : ℕ) → j < length ks → k < get_or ks j 0)
+    → AllByRecursion (λ q. is_before (at tier (lo + k)) q ≡ true) (map (λ i. at tier (lo + i)) ks)
 later_all tier lo k [] h = tt
-later_all tier lo k (x ∷ ks) h = (before_same_tier tier (lo + k) (lo + x) (let l = h 0 (omega arith) in omega arith), later_all tier lo k ks (λ j l. h (suc j) (omega arith)))
+later_all tier lo k (x ∷ ks) h =
+    (before_same_tier tier (lo + k) (lo + x) (let l = h 0 (omega arith) in omega arith), later_all tier lo k ks (λ j l. h (suc j) (omega arith)))
   where
     before_same_tier : (t i j : ℕ) → i < j → is_before (at t i) (at t j) ≡ true
     before_same_tier t i j l = grind (arith, nat_tests)
 
-in_order : (tier lo : ℕ) (ks : List ℕ) → ((i j : ℕ) → i < j → j < length ks → get_or ks i 0 < get_or ks j 0) → AreInOrder is_before (map (λ i. at tier (lo + i)) ks)
+in_order : (tier lo : ℕ) (ks : List ℕ) → ((i j : ℕ) → i < j → j < length ks → get_or ks i 0 < get_or ks j 0)
+    → AreInOrder is_before (map (λ i. at tier (lo + i)) ks)
 in_order tier lo [] h = tt
-in_order tier lo (k ∷ ks) h = (later_all tier lo k ks (λ j l. h 0 (suc j) (omega arith) (omega arith)), in_order tier lo ks (λ i j l m. h (suc i) (suc j) (omega arith) (omega arith)))
+in_order tier lo (k ∷ ks) h =
+    (later_all tier lo k ks (λ j l. h 0 (suc j) (omega arith) (omega arith)), in_order tier lo ks (λ i j l m. h (suc i) (suc j) (omega arith) (omega arith)))
 
 -- a settled value stands in its phase
 pub stands_of : (r : Rules) (p : Position) (v : Value) (n : ℕ) → HasValue r p v n → (v ≢ Draw) → StandsAt r (phase_of v) n p
@@ -144,7 +160,8 @@ stands_of r p Tie n h some = h
 stands_of r p Win n h some = inl h
 
 -- what stands at a place has that phase and remoteness
-pub place_is : (r : Rules) (p : Position) (x : Solved) (phase : Phase) (n : ℕ) → IsTrueValue r p x → (x.value ≢ Draw) → StandsAt r phase n p → (phase_of x.value ≡ phase) × (x.remoteness ≡ n)
+pub place_is : (r : Rules) (p : Position) (x : Solved) (phase : Phase) (n : ℕ) → IsTrueValue r p x → (x.value ≢ Draw) → StandsAt r phase n p
+    → (phase_of x.value ≡ phase) × (x.remoteness ≡ n)
 place_is r p x WinLose n h some (inl w) = let (e, f) = HasValue_once r p x.value Win x.remoteness n h w in (ap phase_of e, f)
 place_is r p x WinLose n h some (inr l) = let (e, f) = HasValue_once r p x.value Lose x.remoteness n h l in (ap phase_of e, f)
 place_is r p x Ties n h some t = let (e, f) = HasValue_once r p x.value Tie x.remoteness n h t in (ap phase_of e, f)
@@ -155,12 +172,15 @@ here_before WinLose n = omega arith
 here_before Ties n = omega arith
 
 -- the notes of all indexes that are settled at the place are a run
-pub run_of : (r : Rules) (s : ShardState) → IsGood r s → (ks : List ℕ) (ns : List NoteData) → AreSettledAt r s s.phase s.level ks → IsNonDecreasing ks → AreNotesAt r s ks ns
+pub run_of : (r : Rules) (s : ShardState) → IsGood r s → (ks : List ℕ) (ns : List NoteData) → AreSettledAt r s s.phase s.level ks → IsNonDecreasing ks
+    → AreNotesAt r s ks ns
     → IsRun r (place_of s) s.lo (s.lo + length s.delivered) ns
 run_of r s good ks ns h up notes = record {
   each = λ c. (
-    λ i. subst (λ (l : List Position). Contains l c) (sym at_is) (subst (Contains (map f ks)) (f_is c i) (map_from f ks (c.index - s.lo) ((h.listed (c.index - s.lo)).1 (settled_one c i)))),
-    λ i. (let (k, d, e) = map_in f ks c (subst (λ (l : List Position). Contains l c) at_is i) in subst (IsInRun r (place_of s) s.lo (s.lo + length s.delivered)) e (in_run k ((h.listed k).0 d))),
+    λ i. subst (λ (l : List Position). Contains l c) (sym at_is)
+        (subst (Contains (map f ks)) (f_is c i) (map_from f ks (c.index - s.lo) ((h.listed (c.index - s.lo)).1 (settled_one c i)))),
+    λ i. (let (k, d, e) = map_in f ks c (subst (λ (l : List Position). Contains l c) at_is i) in
+        subst (IsInRun r (place_of s) s.lo (s.lo + length s.delivered)) e (in_run k ((h.listed k).0 d))),
   );
   noted = λ n i. (let (k, d, x) = note_of_one r s ks ns notes n i in noted_one k n ((h.listed k).0 d) x);
   ordered = subst (AreInOrder is_before) (sym at_is) (in_order s.tier s.lo ks (distinct_ascending ks h.once up));
@@ -183,8 +203,10 @@ run_of r s good ks ns h up notes = record {
         let here : at s.tier c.index ≡ c = same_position (at s.tier c.index) c (sym i.tier) refl in
         let stands : StandsAt r s.phase s.level (at s.tier c.index) = subst (StandsAt r s.phase s.level) (sym here) i.stands in
         let canonical : IsCanonical r (at s.tier c.index) = subst (IsCanonical r) (sym here) i.canonical in
-        let (x, h) = good.true_is_settled c.index (low, high) canonical (record { own_phase = s.phase; own_level = s.level; stands = stands; before = here_before s.phase s.level }) in
-        let (e, n) = place_is r (at s.tier c.index) x s.phase s.level (good.settled_is_true c.index x (low, high) h).0 (settled_decided r (at s.tier c.index) (delivered_to s c.index) x h) stands in
+        let (x, h) = good.true_is_settled c.index (low, high) canonical
+        (record { own_phase = s.phase; own_level = s.level; stands = stands; before = here_before s.phase s.level }) in
+        let (e, n) = place_is r (at s.tier c.index) x s.phase s.level (good.settled_is_true c.index x (low, high) h).0
+        (settled_decided r (at s.tier c.index) (delivered_to s c.index) x h) stands in
         record { within = omega arith; value = x; settled = subst (λ (j : ℕ). StatusIs r s j (Settled x)) (sym back) h; phase_is = e; level_is = n }
 
     range_in : (k : ℕ) → IsSettledAt r s s.phase s.level k → IsInRange s (s.lo + k)
@@ -201,7 +223,8 @@ run_of r s good ks ns h up notes = record {
           high = (let l = w.within in omega arith);
           canonical = settled_canonical r (at s.tier (s.lo + k)) (delivered_to s (s.lo + k)) x w.settled;
           stands = subst (λ (ph : Phase). StandsAt r ph s.level (at s.tier (s.lo + k))) w.phase_is
-              (subst (λ (n : ℕ). StandsAt r (phase_of x.value) n (at s.tier (s.lo + k))) w.level_is (stands_of r (at s.tier (s.lo + k)) x.value x.remoteness (good.settled_is_true (s.lo + k) x m w.settled).0 some));
+              (subst (λ (n : ℕ). StandsAt r (phase_of x.value) n (at s.tier (s.lo + k))) w.level_is
+              (stands_of r (at s.tier (s.lo + k)) x.value x.remoteness (good.settled_is_true (s.lo + k) x m w.settled).0 some));
         }
 
     noted_one : (k : ℕ) (n : NoteData) → IsSettledAt r s s.phase s.level k → IsNoteAtIndex r s k n → IsNoteAt r (place_of s) n

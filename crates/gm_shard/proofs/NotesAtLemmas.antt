@@ -10,14 +10,17 @@ use Rattle.gm_deliveries.specs.Status.{StatusIs}
 use Rattle.gm_deliveries.specs.Closing.{IsNoteOf}
 use Rattle.gm_shard.specs.Queues.{IsNoteAtIndex, AreNotesAt}
 
-pub notes_push : (r : Rules) (s : ShardState) (ks : List ℕ) (ns : List NoteData) (k : ℕ) (n : NoteData) → AreNotesAt r s ks ns → IsNoteAtIndex r s k n → AreNotesAt r s (ks ++ k ∷ []) (ns ++ n ∷ [])
+pub notes_push : (r : Rules) (s : ShardState) (ks : List ℕ) (ns : List NoteData) (k : ℕ) (n : NoteData) → AreNotesAt r s ks ns → IsNoteAtIndex r s k n
+    → AreNotesAt r s (ks ++ k ∷ []) (ns ++ n ∷ [])
 notes_push r s [] [] k n h x = (x, tt)
 notes_push r s [] (m ∷ ns) k n h x = absurd h
 notes_push r s (j ∷ ks) [] k n h x = absurd h
 notes_push r s (j ∷ ks) (m ∷ ns) k n h x = (h.0, notes_push r s ks ns k n h.1 x)
 
-pub notes_more : (r : Rules) (s : ShardState) (ks : List ℕ) (i : ℕ) (ns ms : List NoteData) (n : NoteData) → i < length ks → AreNotesAt r s (take i ks) ns → ms ≡ ns ++ n ∷ [] → IsNoteAtIndex r s (get_or ks i 0) n → AreNotesAt r s (take (i + 1) ks) ms
-notes_more r s ks i ns ms n l h e x = subst (AreNotesAt r s (take (i + 1) ks)) (sym e) (subst (λ (js : List ℕ). AreNotesAt r s js (ns ++ n ∷ [])) (sym (take_more ks i 0 l)) (notes_push r s (take i ks) ns (get_or ks i 0) n h x))
+pub notes_more : (r : Rules) (s : ShardState) (ks : List ℕ) (i : ℕ) (ns ms : List NoteData) (n : NoteData) → i < length ks → AreNotesAt r s (take i ks) ns
+    → ms ≡ ns ++ n ∷ [] → IsNoteAtIndex r s (get_or ks i 0) n → AreNotesAt r s (take (i + 1) ks) ms
+notes_more r s ks i ns ms n l h e x = subst (AreNotesAt r s (take (i + 1) ks)) (sym e)
+    (subst (λ (js : List ℕ). AreNotesAt r s js (ns ++ n ∷ [])) (sym (take_more ks i 0 l)) (notes_push r s (take i ks) ns (get_or ks i 0) n h x))
 
 -- a settled index has a note
 pub some_note : (r : Rules) (s : ShardState) (i : ℕ) (x : Solved) (o : Option NoteData) → StatusIs r s i (Settled x) → IsNoteOf r s i o → IsSome o

@@ -1,5 +1,6 @@
 -- How queues follow a shard's state.
-use Rattle.std.proofs.Common.{◌≡◌, ◌≢◌, ℕ, ◌+◌, ◌-◌, ◌<◌, ◌≤◌, inl, inr, List, [], ◌∷◌, ◌++◌, length, get_or, sym, ap, subst, ◌∙◌, arith, Some, get_or-set_other, length-set, length-append}
+use Rattle.std.proofs.Common.{◌≡◌, ◌≢◌, ℕ, ◌+◌, ◌-◌, ◌<◌, ◌≤◌, inl, inr, List, [], ◌∷◌, ◌++◌, length, get_or, sym, ap, subst, ◌∙◌, arith, Some}
+use Rattle.std.proofs.Common.{get_or-set_other, length-set, length-append}
 use Rattle.std.specs.List.{Contains, slice_get}
 use Rattle.std.proofs.lemmas.Bool.{cases_lt, cases_eq}
 use Rattle.std.proofs.lemmas.List.{get_or_append_left}
@@ -26,7 +27,8 @@ use Rattle.gm_deliveries.proofs.NoteLemmas.{none_of}
 use Rattle.gm_shard.proofs.DistinctLemmas.{distinct_push, fewer_than}
 
 -- a settled status is one record
-pub settled_once : (r : Rules) (s : ShardState) → IsGood r s → (i : ℕ) → IsInRange s i → (x y : Solved) → StatusIs r s i (Settled x) → StatusIs r s i (Settled y) → x ≡ y
+pub settled_once : (r : Rules) (s : ShardState) → IsGood r s → (i : ℕ) → IsInRange s i → (x y : Solved) → StatusIs r s i (Settled x)
+    → StatusIs r s i (Settled y) → x ≡ y
 settled_once r s g i m x y a b = IsTrueValue_once r (at s.tier i) x y (g.settled_is_true i x m a).0 (g.settled_is_true i y m b).0
 
 -- an undecided index is in no queue
@@ -40,8 +42,18 @@ pub queue_same : (r : Rules) (s t : ShardState) (phase : Phase) (level : ℕ) (q
     → IsGood r t → IsQueue r s phase level q → IsQueue r t phase level q
 queue_same r s t phase level q same to from good old = record {
   listed = λ k. (
-    λ h. let w = (old.listed k).0 h in record { within = (let l = w.within in omega arith); value = w.value; settled = to k w.value w.within w.phase_is w.settled; phase_is = w.phase_is },
-    λ w. (old.listed k).1 (record { within = (let l = w.within in omega arith); value = w.value; settled = from k w.value (let l = w.within in omega arith) w.phase_is w.settled; phase_is = w.phase_is }),
+    λ h. let w = (old.listed k).0 h in record {
+      within = (let l = w.within in omega arith);
+      value = w.value;
+      settled = to k w.value w.within w.phase_is w.settled;
+      phase_is = w.phase_is;
+    },
+    λ w. (old.listed k).1 (record {
+      within = (let l = w.within in omega arith);
+      value = w.value;
+      settled = from k w.value (let l = w.within in omega arith) w.phase_is w.settled;
+      phase_is = w.phase_is;
+    }),
   );
   once = old.once;
   placed = λ place k x is h.
@@ -55,13 +67,17 @@ queue_same r s t phase level q same to from good old = record {
 }
   where
     there : (place k : ℕ) → slice_get q.indexes place ≡ Some k → Contains q.indexes k
-    there place k is = subst (Contains q.indexes) (get_or_from_slice_get q.indexes place k 0 is) (Contains-get_or q.indexes place 0 (slice_get_within q.indexes place k is))
+    there place k is = subst (Contains q.indexes) (get_or_from_slice_get q.indexes place k 0 is)
+        (Contains-get_or q.indexes place 0 (slice_get_within q.indexes place k is))
 
 -- what is delivered to an index other than the parent stays
-stays_other : (s : ShardState) (c : Position) (parent k : ℕ) → s.lo ≤ parent → (s.lo + k ≢ parent) → delivered_to (with_pair s c parent) (s.lo + k) ≡ delivered_to s (s.lo + k)
-stays_other s c parent k l ne = get_or-set_other s.delivered (parent - s.lo) (s.lo + k - s.lo) (with_position c (delivered_to s parent)) [] (λ e. ne (omega arith))
+stays_other : (s : ShardState) (c : Position) (parent k : ℕ) → s.lo ≤ parent → (s.lo + k ≢ parent)
+    → delivered_to (with_pair s c parent) (s.lo + k) ≡ delivered_to s (s.lo + k)
+stays_other s c parent k l ne = get_or-set_other s.delivered (parent - s.lo) (s.lo + k - s.lo) (with_position c (delivered_to s parent)) []
+    (λ e. ne (omega arith))
 
-module _ (r : Rules) (s : ShardState) (c : Position) (parent : ℕ) (mine : IsInRange s parent) (good : IsGood r s) (after : IsGood r (with_pair s c parent)) where
+module _ (r : Rules) (s : ShardState) (c : Position) (parent : ℕ) (mine : IsInRange s parent) (good : IsGood r s)
+    (after : IsGood r (with_pair s c parent)) where
   count_same : length (with_pair s c parent).delivered ≡ length s.delivered
   count_same = length-set s.delivered (parent - s.lo) (with_position c (delivered_to s parent))
 
@@ -75,37 +91,46 @@ module _ (r : Rules) (s : ShardState) (c : Position) (parent : ℕ) (mine : IsIn
   other_from k x ne h = subst (λ (d : List Position). HasStatus r (at s.tier (s.lo + k)) d (Settled x)) (stays_other s c parent k mine.0 ne) h
 
   -- a pair that settles nothing
-  kept_status : KeepsStatus r s (with_pair s c parent) parent → (x : Solved) → (StatusIs r s parent (Settled x) → StatusIs r (with_pair s c parent) parent (Settled x)) × (StatusIs r (with_pair s c parent) parent (Settled x) → StatusIs r s parent (Settled x))
+  kept_status : KeepsStatus r s (with_pair s c parent) parent → (x : Solved)
+      → (StatusIs r s parent (Settled x) → StatusIs r (with_pair s c parent) parent (Settled x))
+      × (StatusIs r (with_pair s c parent) parent (Settled x) → StatusIs r s parent (Settled x))
   kept_status kept x = (
     λ h. kept_to kept.status kept.before kept.after h,
     λ h. kept_from kept.status kept.before kept.after h,
   )
     where
-      kept_to : (y : Status) → StatusIs r s parent y → StatusIs r (with_pair s c parent) parent y → StatusIs r s parent (Settled x) → StatusIs r (with_pair s c parent) parent (Settled x)
+      kept_to : (y : Status) → StatusIs r s parent y → StatusIs r (with_pair s c parent) parent y → StatusIs r s parent (Settled x)
+          → StatusIs r (with_pair s c parent) parent (Settled x)
       kept_to Hole a b h = absurd (none_of r (at s.tier parent) (delivered_to s parent) Hole a (λ y e. cc) x h)
       kept_to Undecided a b h = absurd (not_settled r s parent x a h)
       kept_to (Settled y) a b h = subst (λ (z : Solved). StatusIs r (with_pair s c parent) parent (Settled z)) (settled_once r s good parent mine y x a h) b
 
-      kept_from : (y : Status) → StatusIs r s parent y → StatusIs r (with_pair s c parent) parent y → StatusIs r (with_pair s c parent) parent (Settled x) → StatusIs r s parent (Settled x)
+      kept_from : (y : Status) → StatusIs r s parent y → StatusIs r (with_pair s c parent) parent y → StatusIs r (with_pair s c parent) parent (Settled x)
+          → StatusIs r s parent (Settled x)
       kept_from Hole a b h = absurd (none_of r (at s.tier parent) (delivered_to (with_pair s c parent) parent) Hole b (λ y e. cc) x h)
       kept_from Undecided a b h = absurd (none_of r (at s.tier parent) (delivered_to (with_pair s c parent) parent) Undecided b (λ y e. cc) x h)
-      kept_from (Settled y) a b h = subst (λ (z : Solved). StatusIs r s parent (Settled z)) (settled_once r (with_pair s c parent) after parent mine_after y x b h) a
+      kept_from (Settled y) a b h = subst (λ (z : Solved). StatusIs r s parent (Settled z))
+          (settled_once r (with_pair s c parent) after parent mine_after y x b h) a
 
-  pub queue_kept : KeepsStatus r s (with_pair s c parent) parent → (phase : Phase) (level : ℕ) (q : QueueData) → IsQueue r s phase level q → IsQueue r (with_pair s c parent) phase level q
+  pub queue_kept : KeepsStatus r s (with_pair s c parent) parent → (phase : Phase) (level : ℕ) (q : QueueData) → IsQueue r s phase level q
+      → IsQueue r (with_pair s c parent) phase level q
   queue_kept kept phase level q old =
       queue_same r s (with_pair s c parent) phase level q count_same
       (λ k x l e h. elim (cases_eq (s.lo + k) parent) [
-        | inl is ↦ subst (λ (i : ℕ). StatusIs r (with_pair s c parent) i (Settled x)) (sym is) ((kept_status kept x).0 (subst (λ (i : ℕ). StatusIs r s i (Settled x)) is h))
+        | inl is ↦ subst (λ (i : ℕ). StatusIs r (with_pair s c parent) i (Settled x)) (sym is)
+            ((kept_status kept x).0 (subst (λ (i : ℕ). StatusIs r s i (Settled x)) is h))
         | inr ne ↦ other_to k x ne h
       ])
       (λ k x l e h. elim (cases_eq (s.lo + k) parent) [
-        | inl is ↦ subst (λ (i : ℕ). StatusIs r s i (Settled x)) (sym is) ((kept_status kept x).1 (subst (λ (i : ℕ). StatusIs r (with_pair s c parent) i (Settled x)) is h))
+        | inl is ↦ subst (λ (i : ℕ). StatusIs r s i (Settled x)) (sym is)
+            ((kept_status kept x).1 (subst (λ (i : ℕ). StatusIs r (with_pair s c parent) i (Settled x)) is h))
         | inr ne ↦ other_from k x ne h
       ])
       after old
 
   -- a pair that settles in another phase
-  pub queue_other : (now : IsSettledNow r s (with_pair s c parent) parent) → (phase : Phase) (level : ℕ) (q : QueueData) → (s.phase ≢ phase) → IsQueue r s phase level q → IsQueue r (with_pair s c parent) phase level q
+  pub queue_other : (now : IsSettledNow r s (with_pair s c parent) parent) → (phase : Phase) (level : ℕ) (q : QueueData) → (s.phase ≢ phase)
+      → IsQueue r s phase level q → IsQueue r (with_pair s c parent) phase level q
   queue_other now phase level q apart old =
       queue_same r s (with_pair s c parent) phase level q count_same
       (λ k x l e h. elim (cases_eq (s.lo + k) parent) [
@@ -113,7 +138,10 @@ module _ (r : Rules) (s : ShardState) (c : Position) (parent : ℕ) (mine : IsIn
         | inr ne ↦ other_to k x ne h
       ])
       (λ k x l e h. elim (cases_eq (s.lo + k) parent) [
-        | inl is ↦ absurd (apart (sym now.phase ∙ ap (λ (y : Solved). phase_of y.value) (settled_once r (with_pair s c parent) after parent mine_after now.value x now.settled (subst (λ (i : ℕ). StatusIs r (with_pair s c parent) i (Settled x)) is h)) ∙ e))
+        | inl is ↦ absurd (apart
+            (sym now.phase ∙ ap (λ (y : Solved). phase_of y.value)
+            (settled_once r (with_pair s c parent) after parent mine_after now.value x now.settled
+            (subst (λ (i : ℕ). StatusIs r (with_pair s c parent) i (Settled x)) is h)) ∙ e))
         | inr ne ↦ other_from k x ne h
       ])
       after old
@@ -125,15 +153,18 @@ module _ (r : Rules) (s : ShardState) (c : Position) (parent : ℕ) (mine : IsIn
   back : s.lo + (parent - s.lo) ≡ parent
   back = let a = mine.0 in omega arith
 
-  not_listed : IsSettledNow r s (with_pair s c parent) parent → (phase : Phase) (level : ℕ) (q : QueueData) → IsQueue r s phase level q → Contains q.indexes (parent - s.lo) → ⊥
+  not_listed : IsSettledNow r s (with_pair s c parent) parent → (phase : Phase) (level : ℕ) (q : QueueData) → IsQueue r s phase level q
+      → Contains q.indexes (parent - s.lo) → ⊥
   not_listed now phase level q old h =
       let w = (old.listed (parent - s.lo)).0 h in
       not_settled r s parent w.value now.was_open (subst (λ (i : ℕ). StatusIs r s i (Settled w.value)) back w.settled)
 
   -- a pair that settles in the queue's phase
-  pub queue_room : IsSettledNow r s (with_pair s c parent) parent → (phase : Phase) (level : ℕ) (q : QueueData) → IsQueue r s phase level q → length q.indexes < q.room
+  pub queue_room : IsSettledNow r s (with_pair s c parent) parent → (phase : Phase) (level : ℕ) (q : QueueData) → IsQueue r s phase level q
+      → length q.indexes < q.room
   queue_room now phase level q old =
-      let few = fewer_than (length s.delivered) (parent - s.lo) q.indexes old.once (λ x h. ((old.listed x).0 h).within) here (not_listed now phase level q old) in
+      let few = fewer_than (length s.delivered) (parent - s.lo) q.indexes old.once (λ x h. ((old.listed x).0 h).within) here
+      (not_listed now phase level q old) in
       let room = old.room in omega arith
 
   pub queue_pushed : (now : IsSettledNow r s (with_pair s c parent) parent) → (q p : QueueData) → IsQueue r s s.phase s.level q
@@ -142,7 +173,8 @@ module _ (r : Rules) (s : ShardState) (c : Position) (parent : ℕ) (mine : IsIn
     listed = λ k. (
       λ h. elim (Contains-append_cases q.indexes last k (subst (λ (l : List ℕ). Contains l k) is h)) [
         | inl a ↦ old_settled k ((old.listed k).0 a) (apart k a)
-        | inr a ↦ elim (contains_cases (parent - s.lo) k [] a) [ inl e ↦ subst (IsSettledIn r (with_pair s c parent) s.phase) e now_settled | inr z ↦ absurd (contains_none k z) ]
+        | inr a ↦ elim (contains_cases (parent - s.lo) k [] a)
+            [ inl e ↦ subst (IsSettledIn r (with_pair s c parent) s.phase) e now_settled | inr z ↦ absurd (contains_none k z) ]
       ],
       λ w. subst (λ (l : List ℕ). Contains l k) (sym is) (elim (cases_eq k (parent - s.lo)) [
         | inl e ↦ subst (Contains (q.indexes ++ last)) (sym e) (Contains-append_right q.indexes last (parent - s.lo) (contains_first (parent - s.lo) []))
@@ -166,10 +198,20 @@ module _ (r : Rules) (s : ShardState) (c : Position) (parent : ℕ) (mine : IsIn
       apart k a e = not_listed now s.phase s.level q old (subst (Contains q.indexes) e a)
 
       old_settled : (k : ℕ) → IsSettledIn r s s.phase k → (k ≢ parent - s.lo) → IsSettledIn r (with_pair s c parent) s.phase k
-      old_settled k w ne = record { within = (let n = count_same in let l = w.within in omega arith); value = w.value; settled = other_to k w.value (apart_of k ne) w.settled; phase_is = w.phase_is }
+      old_settled k w ne = record {
+        within = (let n = count_same in let l = w.within in omega arith);
+        value = w.value;
+        settled = other_to k w.value (apart_of k ne) w.settled;
+        phase_is = w.phase_is;
+      }
 
       was_settled : (k : ℕ) → IsSettledIn r (with_pair s c parent) s.phase k → (k ≢ parent - s.lo) → IsSettledIn r s s.phase k
-      was_settled k w ne = record { within = (let n = count_same in let l = w.within in omega arith); value = w.value; settled = other_from k w.value (apart_of k ne) w.settled; phase_is = w.phase_is }
+      was_settled k w ne = record {
+        within = (let n = count_same in let l = w.within in omega arith);
+        value = w.value;
+        settled = other_from k w.value (apart_of k ne) w.settled;
+        phase_is = w.phase_is;
+      }
 
       now_settled : IsSettledIn r (with_pair s c parent) s.phase (parent - s.lo)
       now_settled = record {
@@ -179,10 +221,12 @@ module _ (r : Rules) (s : ShardState) (c : Position) (parent : ℕ) (mine : IsIn
         phase_is = now.phase;
       }
 
-      place_of : (place k : ℕ) (x : Solved) → slice_get (q.indexes ++ last) place ≡ Some k → StatusIs r (with_pair s c parent) (s.lo + k) (Settled x) → IsPlaced s.level p place x.remoteness
+      place_of : (place k : ℕ) (x : Solved) → slice_get (q.indexes ++ last) place ≡ Some k → StatusIs r (with_pair s c parent) (s.lo + k) (Settled x)
+          → IsPlaced s.level p place x.remoteness
       place_of place k x got h = elim (cases_lt place (length q.indexes)) [
         | inl l ↦ (
-            let k_is : get_or q.indexes place 0 ≡ k = sym (get_or_append_left q.indexes last 0 place l) ∙ get_or_from_slice_get (q.indexes ++ last) place k 0 got in
+            let k_is : get_or q.indexes place 0 ≡ k =
+            sym (get_or_append_left q.indexes last 0 place l) ∙ get_or_from_slice_get (q.indexes ++ last) place k 0 got in
             let there : Contains q.indexes k = subst (Contains q.indexes) k_is (Contains-get_or q.indexes place 0 l) in
             let was : slice_get q.indexes place ≡ Some k = slice_get-get_or q.indexes place 0 l ∙ ap (λ (y : ℕ). Some y) k_is in
             let placed = old.placed place k x was (other_from k x (apart_of k (apart k there)) h) in
@@ -197,8 +241,10 @@ module _ (r : Rules) (s : ShardState) (c : Position) (parent : ℕ) (mine : IsIn
             let order = old.order in
             let m : place < length (q.indexes ++ last) = slice_get_within (q.indexes ++ last) place k got in
             let end : place ≡ length q.indexes = omega arith in
-            let k_is : parent - s.lo ≡ k = sym (ap (λ (j : ℕ). get_or (q.indexes ++ last) j 0) end ∙ get_or-append_seam q.indexes (parent - s.lo) [] 0) ∙ get_or_from_slice_get (q.indexes ++ last) place k 0 got in
-            let h' : StatusIs r (with_pair s c parent) parent (Settled x) = subst (λ (i : ℕ). StatusIs r (with_pair s c parent) i (Settled x)) (ap (λ (j : ℕ). s.lo + j) (sym k_is) ∙ back) h in
+            let k_is : parent - s.lo ≡ k = sym (ap (λ (j : ℕ). get_or (q.indexes ++ last) j 0) end ∙ get_or-append_seam q.indexes (parent - s.lo) [] 0)
+            ∙ get_or_from_slice_get (q.indexes ++ last) place k 0 got in
+            let h' : StatusIs r (with_pair s c parent) parent (Settled x) =
+            subst (λ (i : ℕ). StatusIs r (with_pair s c parent) i (Settled x)) (ap (λ (j : ℕ). s.lo + j) (sym k_is) ∙ back) h in
             let e = ap (λ (y : Solved). y.remoteness) (settled_once r (with_pair s c parent) after parent mine_after now.value x now.settled h') in
             let level : x.remoteness ≡ s.level + 1 = sym e ∙ now.remoteness in
             record {
@@ -209,7 +255,8 @@ module _ (r : Rules) (s : ShardState) (c : Position) (parent : ℕ) (mine : IsIn
       ]
 
 -- the queue of a level that is closed
-pub queue_closed : (r : Rules) (s : ShardState) (phase : Phase) (level : ℕ) (q : QueueData) → IsQueue r s phase level q → IsQueue r (next_level s) phase (level + 1) (record q { from = q.to; to = length q.indexes })
+pub queue_closed : (r : Rules) (s : ShardState) (phase : Phase) (level : ℕ) (q : QueueData) → IsQueue r s phase level q
+    → IsQueue r (next_level s) phase (level + 1) (record q { from = q.to; to = length q.indexes })
 queue_closed r s phase level q old = record {
   listed = λ k. (
     λ h. let w = (old.listed k).0 h in record { within = w.within; value = w.value; settled = w.settled; phase_is = w.phase_is },
@@ -244,7 +291,8 @@ queue_turned r s phase level q old = record {
 }
 
 -- the queue of another phase, where a level is closed
-pub queue_kept_level : (r : Rules) (s : ShardState) (phase : Phase) (level : ℕ) (q : QueueData) → IsQueue r s phase level q → IsQueue r (next_level s) phase level q
+pub queue_kept_level : (r : Rules) (s : ShardState) (phase : Phase) (level : ℕ) (q : QueueData) → IsQueue r s phase level q
+    → IsQueue r (next_level s) phase level q
 queue_kept_level r s phase level q old = record {
   listed = λ k. (
     λ h. let w = (old.listed k).0 h in record { within = w.within; value = w.value; settled = w.settled; phase_is = w.phase_is },

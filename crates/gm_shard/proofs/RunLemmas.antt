@@ -1,5 +1,6 @@
 -- Events, and what they leave.
-use Rattle.std.proofs.Common.{◌≡◌, ℕ, suc, ◌+◌, ◌-◌, ◌<◌, ◌≤◌, inl, inr, List, [], ◌∷◌, Some, Result, Ok, Err, Bool, true, false, MatchBool, slice_get, slice_set, get_or, drop, length, refl, sym, ap, subst, ◌∙◌, arith, length-set}
+use Rattle.std.proofs.Common.{◌≡◌, ℕ, suc, ◌+◌, ◌-◌, ◌<◌, ◌≤◌, inl, inr, List, [], ◌∷◌, Some, Result, Ok, Err, Bool, true, false, MatchBool, slice_get}
+use Rattle.std.proofs.Common.{slice_set, get_or, drop, length, refl, sym, ap, subst, ◌∙◌, arith, length-set}
 use Rattle.std.specs.List.{Contains}
 use Rattle.std.proofs.Math.Seq.{drop-cons}
 use Rattle.std.proofs.lemmas.Option.{slice_get-get_or, slice_get_within, get_or_from_slice_get, same_Some}
@@ -27,10 +28,12 @@ use Rattle.gm_shard.proofs.FreshLemmas.{stands_of, place_is}
 
 -- a note that passes the first three tests, whose pair is new and leaves a good shard
 can_deliver : (r : Rules) (note : NoteData) (parent : ℕ) (s t : ShardState) → IsNote r note.position note.solved → IsGood r t → IsInRange t parent
-    → t ≡ with_pair s note.position parent → IsPairHere r s note parent → (Contains (delivered_to s parent) note.position → ⊥) → CanDeliver r s note.position parent
+    → t ≡ with_pair s note.position parent → IsPairHere r s note parent → (Contains (delivered_to s parent) note.position → ⊥)
+    → CanDeliver r s note.position parent
 can_deliver r note parent s t true_note good mine is here new = record {
   stands = subst (λ (ph : Phase). StandsAt r ph s.level note.position) here.is_level.0
-      (subst (λ (n : ℕ). StandsAt r (phase_of note.solved.value) n note.position) here.is_level.1 (stands_of r note.position note.solved.value note.solved.remoteness true_note.value true_note.decided));
+      (subst (λ (n : ℕ). StandsAt r (phase_of note.solved.value) n note.position) here.is_level.1
+      (stands_of r note.position note.solved.value note.solved.remoteness true_note.value true_note.decided));
   is_mine = here.is_mine;
   is_parent = here.is_parent;
   new = new;
@@ -39,15 +42,19 @@ can_deliver r note parent s t true_note good mine is here new = record {
 
 -- a parent stays in the range
 still_mine : (s t : ShardState) (c : Position) (parent : ℕ) → t ≡ with_pair s c parent → IsInRange s parent → IsInRange t parent
-still_mine s t c parent is m = subst (λ (u : ShardState). IsInRange u parent) (sym is) (let e = length-set s.delivered (parent - s.lo) (with_position c (delivered_to s parent)) in let a = m.0 in let b = m.1 in (omega arith, omega arith))
+still_mine s t c parent is m = subst (λ (u : ShardState). IsInRange u parent) (sym is)
+    (let e = length-set s.delivered (parent - s.lo) (with_position c (delivered_to s parent)) in let a = m.0 in let b = m.1 in (omega arith, omega arith))
 
 -- a delivery that added its pair could be made
 pub added_can : (r : Rules) (note : NoteData) (parent : ℕ) (s t : ShardState) → IsNote r note.position note.solved → IsGood r t
-    → (answer : Result Delivery Refused) → IsAdded answer → Delivers r note parent s t answer → CanDeliver r s note.position parent × (t ≡ with_pair s note.position parent)
+    → (answer : Result Delivery Refused) → IsAdded answer → Delivers r note parent s t answer → CanDeliver r s note.position parent
+    × (t ≡ with_pair s note.position parent)
 added_can r note parent s t n g (Err e) a d = absurd a
 added_can r note parent s t n g (Ok Repeat) a d = absurd a
-added_can r note parent s t n g (Ok Fresh) a (is, here, new, kept) = (can_deliver r note parent s t n g (still_mine s t note.position parent is here.is_mine) is here new, is)
-added_can r note parent s t n g (Ok FreshSettled) a (is, here, new, now, near) = (can_deliver r note parent s t n g (still_mine s t note.position parent is here.is_mine) is here new, is)
+added_can r note parent s t n g (Ok Fresh) a (is, here, new, kept) =
+    (can_deliver r note parent s t n g (still_mine s t note.position parent is here.is_mine) is here new, is)
+added_can r note parent s t n g (Ok FreshSettled) a (is, here, new, now, near) =
+    (can_deliver r note parent s t n g (still_mine s t note.position parent is here.is_mine) is here new, is)
 
 -- a delivery that added nothing could not
 pub refused_cannot : (r : Rules) (note : NoteData) (parent : ℕ) (s t : ShardState) → IsNote r note.position note.solved
@@ -55,10 +62,12 @@ pub refused_cannot : (r : Rules) (note : NoteData) (parent : ℕ) (s t : ShardSt
 refused_cannot r note parent s t n (Ok Fresh) a d = absurd (a tt)
 refused_cannot r note parent s t n (Ok FreshSettled) a d = absurd (a tt)
 refused_cannot r note parent s t n (Ok Repeat) a (is, here, held) = (is, λ c. c.new held)
-refused_cannot r note parent s t n (Err NotThisLevel) a (is, other) = (is, λ c. other (place_is r note.position note.solved s.phase s.level n.value n.decided c.stands))
+refused_cannot r note parent s t n (Err NotThisLevel) a (is, other) =
+    (is, λ c. other (place_is r note.position note.solved s.phase s.level n.value n.decided c.stands))
 refused_cannot r note parent s t n (Err NotMine) a (is, level, other) = (is, λ c. other c.is_mine)
 refused_cannot r note parent s t n (Err NotAParent) a (is, level, mine, other) = (is, λ c. other c.is_parent)
-refused_cannot r note parent s t n (Err TooFar) a (is, here, new, now, far) = (is, λ c. (let near = c.near now.value now.settled in let e = now.remoteness in omega arith))
+refused_cannot r note parent s t n (Err TooFar) a (is, here, new, now, far) =
+    (is, λ c. (let near = c.near now.value now.settled in let e = now.remoteness in omega arith))
 
 -- what an event makes of the shard that it names, it makes of the list
 pub applied : {G : Type 0} → (r : Rules) (e : Event G) (ss : List ShardState) (k : ℕ) (s t : ShardState) (b : Bool) → slice_get ss k ≡ Some s → shard_of e ≡ k
@@ -67,11 +76,13 @@ pub applied : {G : Type 0} → (r : Rules) (e : Event G) (ss : List ShardState) 
 applied r e ss k s t true get is h = (s, t, subst (λ (i : ℕ). slice_get ss i ≡ Some s) (sym is) get, h, ap (λ (i : ℕ). slice_set ss i t) (sym is))
 applied r e ss k s t false get is (same, none) = (
   ap (λ (x : ShardState). slice_set ss k x) (same ∙ sym (get_or_from_slice_get ss k s s get)) ∙ set-get_or ss k s,
-  λ mid (s2, t2, get2, takes, us). none t2 (subst (λ (x : ShardState). Takes r e x t2) (same_Some s2 s (sym get2 ∙ ap (λ (i : ℕ). slice_get ss i) is ∙ get)) takes),
+  λ mid (s2, t2, get2, takes, us). none t2
+      (subst (λ (x : ShardState). Takes r e x t2) (same_Some s2 s (sym get2 ∙ ap (λ (i : ℕ). slice_get ss i) is ∙ get)) takes),
 )
 
 -- an event that names no shard
-pub not_applied : {G : Type 0} → (r : Rules) (e : Event G) (ss : List ShardState) → (shard_of e < length ss → ⊥) → (mid : List ShardState) → Changes r e ss mid → ⊥
+pub not_applied : {G : Type 0} → (r : Rules) (e : Event G) (ss : List ShardState) → (shard_of e < length ss → ⊥) → (mid : List ShardState)
+    → Changes r e ss mid → ⊥
 not_applied r e ss out mid (s, t, get, takes, us) = out (slice_get_within ss (shard_of e) s get)
 
 -- whatever the rest of the events does from us on, all of them do from ss on
@@ -84,17 +95,21 @@ rest_of es i e l is =
     let next : suc i ≡ i + 1 = omega arith in
     drop-cons es i e l ∙ ap (λ x. x ∷ drop (suc i) es) (sym is) ∙ ap (λ (j : ℕ). e ∷ drop j es) next
 
-pub leads_changed : {G : Type 0} → (r : Rules) (ss : List ShardState) (es : List (Event G)) (us mid : List ShardState) (i : ℕ) (e : Event G) (n : ℕ) → i < length es → e ≡ get_or es i e
+pub leads_changed : {G : Type 0} → (r : Rules) (ss : List ShardState) (es : List (Event G)) (us mid : List ShardState) (i : ℕ) (e : Event G) (n : ℕ)
+    → i < length es → e ≡ get_or es i e
     → Leads r ss es us (drop i es) n → Changes r e us mid → Leads r ss es mid (drop (i + 1) es) (n + 1)
 leads_changed r ss es us mid i e n l is h c vs m x = subst (λ (j : ℕ). Runs r ss es vs j) (omega arith)
     (h vs (suc m) (subst (λ rest. Runs r us rest vs (suc m)) (sym (rest_of es i e l is)) (inl (mid, m, c, x, refl))))
 
-pub leads_skipped : {G : Type 0} → (r : Rules) (ss : List ShardState) (es : List (Event G)) (us mid : List ShardState) (i : ℕ) (e : Event G) (n : ℕ) → i < length es → e ≡ get_or es i e
+pub leads_skipped : {G : Type 0} → (r : Rules) (ss : List ShardState) (es : List (Event G)) (us mid : List ShardState) (i : ℕ) (e : Event G) (n : ℕ)
+    → i < length es → e ≡ get_or es i e
     → Leads r ss es us (drop i es) n → ((mid ≡ us) × ((other : List ShardState) → Changes r e us other → ⊥)) → Leads r ss es mid (drop (i + 1) es) n
 leads_skipped r ss es us mid i e n l is h (same, none) vs m x =
-    h vs m (subst (λ rest. Runs r us rest vs m) (sym (rest_of es i e l is)) (inr (none, subst (λ (ws : List ShardState). Runs r ws (drop (i + 1) es) vs m) same x)))
+    h vs m (subst (λ rest. Runs r us rest vs m) (sym (rest_of es i e l is))
+    (inr (none, subst (λ (ws : List ShardState). Runs r ws (drop (i + 1) es) vs m) same x)))
 
-pub leads_end : {G : Type 0} → (r : Rules) (ss : List ShardState) (es : List (Event G)) (us : List ShardState) (n : ℕ) → Leads r ss es us [] n → Runs r ss es us n
+pub leads_end : {G : Type 0} → (r : Rules) (ss : List ShardState) (es : List (Event G)) (us : List ShardState) (n : ℕ)
+    → Leads r ss es us [] n → Runs r ss es us n
 leads_end r ss es us n h = subst (λ (j : ℕ). Runs r ss es us j) (omega arith) (h us 0 (refl, refl))
 
 -- what the answer of a delivery says of whether it could be made
@@ -105,7 +120,8 @@ note_taken r note parent s t n good answer d true a = added_can r note parent s 
 note_taken r note parent s t n good answer d false a = refused_cannot r note parent s t n answer a d
 
 -- all events have been taken
-pub all_events : {G : Type 0} → (r : Rules) (ss : List ShardState) (es : List (Event G)) (us : List ShardState) (i n : ℕ) → length es ≤ i → Leads r ss es us (drop i es) n → Runs r ss es us n
+pub all_events : {G : Type 0} → (r : Rules) (ss : List ShardState) (es : List (Event G)) (us : List ShardState) (i n : ℕ) → length es ≤ i
+    → Leads r ss es us (drop i es) n → Runs r ss es us n
 all_events r ss es us i n l h = leads_end r ss es us n (subst (λ rest. Leads r ss es us rest n) (drop_all i es l) h)
 
 -- one good shard more

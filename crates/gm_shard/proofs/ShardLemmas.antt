@@ -16,13 +16,15 @@ use Rattle.gm_shard.specs.Queues.{QueueData, IsQueue, AreQueues}
 use Rattle.gm_shard.proofs.QueueLemmas.{queue_kept, queue_other, queue_room, queue_pushed, queue_closed, queue_turned, queue_kept_level}
 
 -- a delivery that settles nothing keeps both queues
-kept_both : (r : Rules) (s : ShardState) (note : NoteData) (parent : ℕ) → IsPairHere r s note parent → IsGood r s → IsGood r (with_pair s note.position parent) → KeepsStatus r s (with_pair s note.position parent) parent
+kept_both : (r : Rules) (s : ShardState) (note : NoteData) (parent : ℕ) → IsPairHere r s note parent → IsGood r s → IsGood r (with_pair s note.position parent)
+    → KeepsStatus r s (with_pair s note.position parent) parent
     → (phase : Phase) (w q : QueueData) → AreQueues r s phase w q → AreQueues r (with_pair s note.position parent) phase w q
 kept_both r s note parent here a b kept WinLose w q (x, y) =
     (queue_kept r s note.position parent here.is_mine a b kept WinLose s.level w x, queue_kept r s note.position parent here.is_mine a b kept Ties 0 q y)
 kept_both r s note parent here a b kept Ties w q y = queue_kept r s note.position parent here.is_mine a b kept Ties s.level q y
 
-pub quiet : (r : Rules) (note : NoteData) (parent : ℕ) (s t : ShardState) (answer : Result Delivery Refused) → Delivers r note parent s t answer → (answer ≡ Ok FreshSettled → ⊥)
+pub quiet : (r : Rules) (note : NoteData) (parent : ℕ) (s t : ShardState) (answer : Result Delivery Refused) → Delivers r note parent s t answer
+    → (answer ≡ Ok FreshSettled → ⊥)
     → IsGood r s → IsGood r t → (w q : QueueData) → AreQueues r s s.phase w q → AreQueues r t t.phase w q
 quiet r note parent s t (Err NotThisLevel) d n a b w q x = subst (λ (u : ShardState). AreQueues r u u.phase w q) (sym d.0) x
 quiet r note parent s t (Err NotMine) d n a b w q x = subst (λ (u : ShardState). AreQueues r u u.phase w q) (sym d.0) x
@@ -34,7 +36,8 @@ quiet r note parent s t (Ok Fresh) d n a b w q x =
     subst (λ (u : ShardState). AreQueues r u u.phase w q) (sym d.0)
     (kept_both r s note parent d.1 a (subst (IsGood r) d.0 b) (subst (λ (u : ShardState). KeepsStatus r s u parent) d.0 d.3) s.phase w q x)
 
-module _ (r : Rules) (note : NoteData) (parent : ℕ) (s t : ShardState) (d : Delivers r note parent s t (Ok FreshSettled)) (a : IsGood r s) (b : IsGood r t) (w q : QueueData) (x : AreQueues r s s.phase w q) where
+module _ (r : Rules) (note : NoteData) (parent : ℕ) (s t : ShardState) (d : Delivers r note parent s t (Ok FreshSettled)) (a : IsGood r s) (b : IsGood r t)
+    (w q : QueueData) (x : AreQueues r s s.phase w q) where
   settled : IsSettledNow r s (with_pair s note.position parent) parent
   settled = subst (λ (u : ShardState). IsSettledNow r s u parent) d.0 d.3
 
@@ -54,7 +57,8 @@ module _ (r : Rules) (note : NoteData) (parent : ℕ) (s t : ShardState) (d : De
       let y : AreQueues r s Ties w q = subst (λ (ph : Phase). AreQueues r s ph w q) (same_phase Ties e) x in
       queue_room r s note.position parent d.1.is_mine a after settled Ties s.level q y
 
-  pub pushed_wins : t.phase ≡ WinLose → (p : QueueData) → p.indexes ≡ w.indexes ++ (parent - s.lo) ∷ [] → p.from ≡ w.from → p.to ≡ w.to → w.room ≤ p.room → AreQueues r t t.phase p q
+  pub pushed_wins : t.phase ≡ WinLose → (p : QueueData) → p.indexes ≡ w.indexes ++ (parent - s.lo) ∷ [] → p.from ≡ w.from → p.to ≡ w.to → w.room ≤ p.room
+      → AreQueues r t t.phase p q
   pushed_wins e p is from to room =
       let f = same_phase WinLose e in
       let y : AreQueues r s WinLose w q = subst (λ (ph : Phase). AreQueues r s ph w q) f x in
@@ -65,7 +69,8 @@ module _ (r : Rules) (note : NoteData) (parent : ℕ) (s t : ShardState) (d : De
       (subst (λ (ph : Phase). AreQueues r (with_pair s note.position parent) ph p q) (sym f)
       (subst (λ (ph : Phase). IsQueue r (with_pair s note.position parent) ph s.level p) f new, other))
 
-  pub pushed_ties : t.phase ≡ Ties → (p : QueueData) → p.indexes ≡ q.indexes ++ (parent - s.lo) ∷ [] → p.from ≡ q.from → p.to ≡ q.to → q.room ≤ p.room → AreQueues r t t.phase w p
+  pub pushed_ties : t.phase ≡ Ties → (p : QueueData) → p.indexes ≡ q.indexes ++ (parent - s.lo) ∷ [] → p.from ≡ q.from → p.to ≡ q.to → q.room ≤ p.room
+      → AreQueues r t t.phase w p
   pushed_ties e p is from to room =
       let f = same_phase Ties e in
       let y : AreQueues r s Ties w q = subst (λ (ph : Phase). AreQueues r s ph w q) f x in
@@ -76,7 +81,8 @@ module _ (r : Rules) (note : NoteData) (parent : ℕ) (s t : ShardState) (d : De
       (subst (λ (ph : Phase). IsQueue r (with_pair s note.position parent) ph s.level p) f new))
 
 -- a level is closed
-pub closed_wins : (r : Rules) (s t : ShardState) (w p q : QueueData) → t ≡ next_level s → t.phase ≡ WinLose → AreQueues r s s.phase w q → p ≡ record w { from = w.to; to = length w.indexes } → AreQueues r t t.phase p q
+pub closed_wins : (r : Rules) (s t : ShardState) (w p q : QueueData) → t ≡ next_level s → t.phase ≡ WinLose → AreQueues r s s.phase w q
+    → p ≡ record w { from = w.to; to = length w.indexes } → AreQueues r t t.phase p q
 closed_wins r s t w p q e f x is =
     let f' : s.phase ≡ WinLose = sym (ap (λ (u : ShardState). u.phase) e) ∙ f in
     let y : AreQueues r s WinLose w q = subst (λ (ph : Phase). AreQueues r s ph w q) f' x in
@@ -84,7 +90,8 @@ closed_wins r s t w p q e f x is =
     (subst (λ (ph : Phase). AreQueues r (next_level s) ph p q) (sym f')
     (subst (IsQueue r (next_level s) WinLose (s.level + 1)) (sym is) (queue_closed r s WinLose s.level w y.0), queue_kept_level r s Ties 0 q y.1))
 
-pub closed_ties : (r : Rules) (s t : ShardState) (w p q : QueueData) → t ≡ next_level s → t.phase ≡ Ties → AreQueues r s s.phase w q → p ≡ record q { from = q.to; to = length q.indexes } → AreQueues r t t.phase w p
+pub closed_ties : (r : Rules) (s t : ShardState) (w p q : QueueData) → t ≡ next_level s → t.phase ≡ Ties → AreQueues r s s.phase w q
+    → p ≡ record q { from = q.to; to = length q.indexes } → AreQueues r t t.phase w p
 closed_ties r s t w p q e f x is =
     let f' : s.phase ≡ Ties = sym (ap (λ (u : ShardState). u.phase) e) ∙ f in
     let y : AreQueues r s Ties w q = subst (λ (ph : Phase). AreQueues r s ph w q) f' x in

@@ -59,7 +59,7 @@ pub struct OrderedShard<G: Game> {
     ties: Queue,
 }
 
-// Let go by one call, so that a proof follows one value and not each field.
+// Dropped in one call, so that the prover tracks one value instead of every field.
 impl<G: Game> Drop for OrderedShard<G> {
     fn drop(self) {
         let OrderedShard {
@@ -96,7 +96,7 @@ impl<G: Game> OrderedShard<G> {
     ghost use Rattle.gm_deliveries.specs.Steps.{IsWhole, CanTurn, place_of, next_level, first_ties};
     ghost use Rattle.gm_deliveries.specs.Closing.{ArePart};
 
-    /// The shard of the indexes from `lo` on, whose starts these are, at the first place and with no pair.
+    /// Makes the shard of the indexes from `lo` on with these start values; nothing is delivered yet.
     pub fn begin(alloc: Global, tier: u64, lo: u64, starts: &[Start]) -> Result<Self, AllocError>
         requires starts { AreStarts G.rules tier lo starts.now }
         requires within { lo + length starts.now ≤ TIER_SIZE }
@@ -204,7 +204,7 @@ impl<G: Game> OrderedShard<G> {
         }
     }
 
-    /// The notes of the present place, ascending. Its cost is that of the level.
+    /// The notes of the present place, ascending. Takes time in proportion to the level.
     pub fn fresh(&self, alloc: Global) -> Result<Run<G>, AllocError>
         ensures place { IfOk result (λ run. run.place ≡ place_of self.now) }
         ensures lo { IfOk result (λ run. run.lo ≡ self.now.lo) }

@@ -1,23 +1,15 @@
 -- Sheets: entries one by one, and solutions move by move.
 use Rattle.std.proofs.Common.{◌≡◌, ℕ, ◌+◌, ◌<◌, ◌≤◌, true, false, List, [], ◌∷◌, ◌++◌, length, take, get_or, Result, Ok, Err, refl, sym, ap, subst, ◌∙◌, arith}
-use Rattle.std.specs.Prelude.{IsErrOf, IsErrAnd, IfErr, ◌↔◌, codes}
-use Rattle.std.specs.List.{Contains, flat_map}
-use Rattle.std.proofs.lemmas.Bool.{false≢true}
+use Rattle.std.specs.Prelude.{codes, OnOk}
+use Rattle.std.specs.List.{flat_map}
 use Rattle.std.proofs.lemmas.Grind.{flat_map-append}
 use Rattle.std.proofs.lemmas.List.{append_assoc, append-nil, take_more, take_all}
 use Rattle.gm_game.specs.declared.position.Position.{Position}
 use Rattle.gm_game.specs.Rules.{Rules}
-use Rattle.gm_table.specs.Tables.{TableData}
-use Rattle.gm_best.specs.declared.play_error.PlayError.{PlayError}
-use Rattle.gm_best.specs.declared.play_error.PlayError.TheVariants.{OutOfMemory, Illegal, NotHeld}
-use Rattle.gm_best.specs.Refusals.{IsNotHeld}
-use Rattle.gm_play.specs.PlayTexts.{IsReadAs, IsNoPosition}
-use Rattle.gm_play.specs.BestLines.{ComesToNotHeld}
 use Rattle.gm_find.specs.declared.found.Found.{Found}
 use Rattle.gm_draw.specs.declared.pictured.Style.{Style}
 use Rattle.gm_draw.specs.Diagrams.{escaped}
-use Rattle.gm_sheet.specs.declared.solution.TheConstants.{SOLUTION_MOVES}
-use Rattle.gm_sheet.specs.Sheets.{Entry, entry_text, answer_text, IsEntry, AreEntries, steps_text, MayRefuseLine, MayRefuseLines}
+use Rattle.gm_sheet.specs.Sheets.{Entry, entry_text, answer_text, IsEntry, AreEntries, steps_text}
 
 -- ---- moves
 -- one move more
@@ -30,47 +22,20 @@ steps_next r move_shown p q m ms done more all e w h =
     ap (λ (t : List ℕ). t ++ rest) w ∙ append_assoc done step rest ∙ ap (λ (t : List ℕ). done ++ t) here ∙ h
 
 -- what stands before moves, the moves, and how they end
-pub line_parts : (t0 front steps moves end t1 t2 t3 : List ℕ) → t1 ≡ t0 ++ front → t2 ≡ t1 ++ moves → moves ≡ steps → t3 ≡ t2 ++ end → t3 ≡ t0 ++ (front ++ steps ++ end)
+pub line_parts : (t0 front steps moves end t1 t2 t3 : List ℕ) → t1 ≡ t0 ++ front → t2 ≡ t1 ++ moves → moves ≡ steps → t3 ≡ t2 ++ end → t3 ≡ t0 ++
+    (front ++ steps ++ end)
 line_parts t0 front steps moves end t1 t2 t3 a b e c =
     c ∙ ap (λ (t : List ℕ). t ++ end) (b ∙ ap (λ (t : List ℕ). t ++ moves) a ∙ ap (λ (t : List ℕ). (t0 ++ front) ++ t) e) ∙ simp append_assoc
 
--- ---- refusals
--- why there is no line of best play
-pub line_unsolved : {T : Type 0} (r : Rules) (entries : List TableData) (p : Position) (e : PlayError) → r.is_legal p ≡ true
-    → (IsErrOf {T = T} {E = PlayError} (Err e) Illegal ↔ (r.is_legal p ≡ false)) → (IsErrOf {T = T} {E = PlayError} (Err e) NotHeld → ComesToNotHeld r entries p SOLUTION_MOVES)
-    → MayRefuseLine r entries p e
-line_unsolved r entries p OutOfMemory legal illegal held = tt
-line_unsolved r entries p Illegal legal illegal held = let z : r.is_legal p ≡ false = illegal.0 refl in false≢true (sym z ∙ legal)
-line_unsolved r entries p NotHeld legal illegal held = held refl
-
--- a position without a table is one to which best play from it comes
-pub comes_at_once : (r : Rules) (entries : List TableData) (p : Position) → IsNotHeld r entries p → ComesToNotHeld r entries p SOLUTION_MOVES
-comes_at_once r entries p (legal, none) = ([], (let z : 0 < SOLUTION_MOVES = omega arith in z), tt, (λ i j d l k. absurd (omega arith)), (legal, λ own all. none own))
-
--- why there is no diagram
-pub not_drawn : {T : Type 0} (r : Rules) (shown : Position → List ℕ) (move_shown : Position → ℕ → List ℕ) (entries : List TableData) (p : Position) (text : List ℕ) (e : PlayError)
-    → r.is_legal p ≡ true → text ≡ shown p → ((q : Position) → r.is_legal q ≡ true → shown q ≡ shown p → q ≡ p)
-    → (IsErrOf {T = T} {E = PlayError} (Err e) Illegal ↔ IsNoPosition r shown move_shown text)
-    → (IsErrOf {T = T} {E = PlayError} (Err e) NotHeld ↔ ((q : Position) × IsReadAs r shown move_shown text q × IsNotHeld r entries q)) → MayRefuseLine r entries p e
-not_drawn r shown move_shown entries p text OutOfMemory legal is once illegal held = tt
-not_drawn r shown move_shown entries p text Illegal legal is once illegal held = illegal.0 refl p (legal, sym is)
-not_drawn r shown move_shown entries p text NotHeld legal is once illegal held =
-    let (q, read, none) = held.0 refl in
-    subst (λ (x : Position). ComesToNotHeld r entries x SOLUTION_MOVES) (once q read.0 (read.1 ∙ is)) (comes_at_once r entries q none)
-
--- an error that is passed on is what it was
-pub passed : {T E : Type 0} → (r : Result T E) (Q : E → Type 0) (e : E) → IsErrAnd r (λ y. y ≡ e) → Q e → IfErr r Q
-passed (Ok x) Q e h q = tt
-passed (Err y) Q e h q = subst Q (sym h) q
-
--- why one of some positions is refused
-pub one_unsolved : (r : Rules) (entries : List TableData) (xs : List Found) (x : Found) (e : PlayError) → Contains xs x → MayRefuseLine r entries x.position e → MayRefuseLines r entries xs e
-one_unsolved r entries xs x OutOfMemory c h = tt
-one_unsolved r entries xs x Illegal c h = h
-one_unsolved r entries xs x NotHeld c h = (x, c, h)
-
 -- ---- entries
-module _ (r : Rules) (shown : Position → List ℕ) (move_shown : Position → ℕ → List ℕ) (drawn mover : Position → List ℕ) (style : Style) (title board : List ℕ) where
+-- what is appended of an entry
+pub both_parts : {X E : Type 0} → (m : Result (Unit {0}) E) (P A B : X → Type 0) (x : X) → P x → OnOk m (A x) → OnOk m (B x) → OnOk m
+    ((e : X) × P e × A e × B e)
+both_parts (Ok u) P A B x p a b = (x, p, a, b)
+both_parts (Err e) P A B x p a b = tt
+
+module _ (r : Rules) (shown : Position → List ℕ) (move_shown : Position → ℕ → List ℕ) (drawn mover : Position → List ℕ) (style : Style)
+    (title board : List ℕ) where
   abbrev All : List Found → List Entry → Type 0
   All = AreEntries r shown move_shown drawn mover style title board
 
@@ -90,21 +55,30 @@ module _ (r : Rules) (shown : Position → List ℕ) (move_shown : Position → 
   pub no_entries : (old old_answers : List ℕ) → HasEntries [] old old old_answers old_answers
   no_entries old old_answers = record { list = []; are_entries = tt; entries = sym (append-nil old); answers_are = sym (append-nil old_answers) }
 
-  one_more : (f : Entry → List ℕ) (es : List Entry) (e : Entry) (old now new : List ℕ) → now ≡ old ++ flat_map f es → new ≡ now ++ f e → new ≡ old ++ flat_map f (es ++ e ∷ [])
+  one_more : (f : Entry → List ℕ) (es : List Entry) (e : Entry) (old now new : List ℕ) → now ≡ old ++ flat_map f es → new ≡ now ++ f e → new ≡ old ++
+      flat_map f (es ++ e ∷ [])
   one_more f es e old now new h n =
       n ∙ ap (λ (t : List ℕ). t ++ f e) h ∙ append_assoc old (flat_map f es) (f e)
       ∙ ap (λ (t : List ℕ). old ++ t) (ap (λ (t : List ℕ). flat_map f es ++ t) (sym (append-nil (f e))) ∙ sym (flat_map-append f es (e ∷ [])))
 
-  pub more_entries : (xs : List Found) (i : ℕ) (d : Found) (old now new old_answers answers more : List ℕ) → i < length xs → HasEntries (take i xs) old now old_answers answers
-      → ((e : Entry) × IsEntry r shown move_shown drawn mover style title board (get_or xs i d) e × (new ≡ now ++ entry_text e) × (more ≡ answers ++ answer_text e))
+  pub more_entries : (xs : List Found) (i : ℕ) (d : Found) (old now new old_answers answers more : List ℕ) → i < length xs → HasEntries (take i xs) old now
+      old_answers answers
+      → ((e : Entry) × IsEntry r shown move_shown drawn mover style title board (get_or xs i d) e × (new ≡ now ++ entry_text e) ×
+      (more ≡ answers ++ answer_text e))
       → HasEntries (take (i + 1) xs) old new old_answers more
   more_entries xs i d old now new old_answers answers more l h (e, is, n, m) = record {
     list = h.list ++ e ∷ [];
-    are_entries = subst (λ (ys : List Found). All ys (h.list ++ e ∷ [])) (sym (take_more xs i d l)) (two_lists (take i xs) (get_or xs i d ∷ []) h.list (e ∷ []) h.are_entries (is, tt));
+    are_entries = subst (λ (ys : List Found). All ys (h.list ++ e ∷ [])) (sym (take_more xs i d l))
+        (two_lists (take i xs) (get_or xs i d ∷ []) h.list (e ∷ []) h.are_entries (is, tt));
     entries = one_more entry_text h.list e old now new h.entries n;
     answers_are = one_more answer_text h.list e old_answers answers more h.answers_are m;
   }
 
   pub all_entries : (xs : List Found) (i : ℕ) (old now old_answers answers : List ℕ) → length xs ≤ i → HasEntries (take i xs) old now old_answers answers
       → (es : List Entry) × All xs es × (now ≡ old ++ flat_map entry_text es) × (answers ≡ old_answers ++ flat_map answer_text es)
-  all_entries xs i old now old_answers answers l h = (h.list, subst (λ (ys : List Found). All ys h.list) (take_all i xs l) h.are_entries, h.entries, h.answers_are)
+  all_entries xs i old now old_answers answers l h = (
+    h.list,
+    subst (λ (ys : List Found). All ys h.list) (take_all i xs l) h.are_entries,
+    h.entries,
+    h.answers_are,
+  )

@@ -5,16 +5,15 @@ use Rattle.std.specs.List.{Contains, flat_map}
 use Rattle.gm_game.specs.declared.position.Position.{Position}
 use Rattle.gm_game.specs.Rules.{Rules}
 use Rattle.gm_table.specs.Tables.{TableData}
-use Rattle.gm_best.specs.declared.play_error.PlayError.{PlayError}
-use Rattle.gm_best.specs.declared.play_error.PlayError.TheVariants.{OutOfMemory, Illegal, NotHeld}
 use Rattle.gm_play.specs.declared.best_line.BestLine.{BestLine}
 use Rattle.gm_play.specs.declared.best_line.LineEnd.{LineEnd}
 use Rattle.gm_play.specs.declared.best_line.LineEnd.TheVariants.{Over, Again, Cut}
-use Rattle.gm_play.specs.BestLines.{IsBestLine, ComesToNotHeld}
+use Rattle.gm_best.specs.Reached.{AreAllHeld}
+use Rattle.gm_play.specs.BestLines.{IsBestLine}
 use Rattle.gm_find.specs.declared.found.Found.{Found}
 use Rattle.gm_find.specs.declared.sought.Sought.{Sought}
 use Rattle.gm_find.specs.declared.sought.Choice.{Choice}
-use Rattle.gm_find.specs.Founds.{AreChosen}
+use Rattle.gm_find.specs.Founds.{AreChosen, IsFound}
 use Rattle.gm_draw.specs.declared.pictured.Style.{Style}
 use Rattle.gm_draw.specs.Diagrams.{escaped, IsDiagram}
 use Rattle.gm_sheet.specs.declared.solution.TheConstants.{SOLUTION_MOVES}
@@ -106,15 +105,7 @@ module _ (r : Rules) (shown : Position → List ℕ) (move_shown : Position → 
     pub are_entries : AreEntries found entries
     pub out_is : out ≡ sheet_of title entries
 
--- ---- refusals
--- why the entry of a position may be refused: memory, or a position to which best play from it comes, whose tier, or one of its child tiers, has no table
-abbrev pub MayRefuseLine : Rules → List TableData → Position → PlayError → Type 0
-MayRefuseLine r entries p OutOfMemory = Unit {0}
-MayRefuseLine r entries p Illegal = ⊥
-MayRefuseLine r entries p NotHeld = ComesToNotHeld r entries p SOLUTION_MOVES
-
--- why those of some positions may be
-abbrev pub MayRefuseLines : Rules → List TableData → List Found → PlayError → Type 0
-MayRefuseLines r entries xs OutOfMemory = Unit {0}
-MayRefuseLines r entries xs Illegal = ⊥
-MayRefuseLines r entries xs NotHeld = (x : Found) × Contains xs x × ComesToNotHeld r entries x.position SOLUTION_MOVES
+-- ---- tables
+-- a found position, from whose tier each tier that is reached has a table
+abbrev pub IsKnownAt : Rules → List TableData → Found → Type 0
+IsKnownAt r entries x = IsFound r x × AreAllHeld r entries x.position.tier

@@ -1,19 +1,16 @@
 //! Sheets: diagrams of found positions, with their solutions.
-ghost use Rattle.std.specs.Prelude.{◌≡◌, ◌⊎◌, ◌++◌, ℕ, List, IfOk, OnOk, IfErr, IsErrOf, is_some};
+ghost use Rattle.std.specs.Prelude.{◌≡◌, ◌++◌, ℕ, List, IfOk, OnOk, is_some};
 ghost use Rattle.std.specs.List.{All, flat_map};
-ghost use Rattle.gm_find.specs.declared.found.Found.{Found};
-ghost use Rattle.gm_find.specs.Finding.{AreTiersHeld, IsMissing};
-ghost use Rattle.gm_find.specs.Founds.{AreChosen, IsFound};
-ghost use Rattle.gm_sheet.specs.Sheets.{Entry, entry_text, answer_text, heading, lists, sheet_of, IsEntry, AreEntries, IsSheet, MayRefuseLine, MayRefuseLines};
+ghost use Rattle.gm_sheet.specs.Sheets.{Entry, entry_text, answer_text, heading, lists, sheet_of, IsEntry, AreEntries, IsSheet, IsKnownAt};
 
 use crate::parts::{SHEET_BACK, SHEET_DIAGRAMS, SHEET_FRONT, SHEET_SOLUTIONS};
 use crate::solution::solution_text;
-use gm_best::play_error::PlayError;
+use gm_best::known::Known;
+use gm_best::known_tiers::KnownTiers;
 use gm_draw::diagram::diagram_text;
 use gm_draw::markup::push_escaped;
 use gm_draw::pictured::Pictured;
 use gm_find::choice::find_some;
-use gm_find::find_error::FindError;
 use gm_find::found::Found;
 use gm_find::reached::Reached;
 use gm_find::sought::{Choice, Sought};
@@ -24,29 +21,19 @@ use std::alloc::{AllocError, Global};
 /// paper. A solution is the best move, how many moves there are, and the line of best play, of at most 40 moves. The positions stand in the order
 /// of `find`: the first of them, or so many by chance. Where a set of reached positions is given, only positions in it count.
 ///
-/// `NotHeld` is tested first: it comes where one of the tiers, or one of its child tiers, has no table; and else only where `find` says so of a whole line, or
-/// the line of best play from a found position comes to one whose tier, or one of its child tiers, has none. The whole sheet is made in memory.
+/// The whole sheet is made in memory.
 pub fn sheet_text<G: Pictured>(
     alloc: Global,
-    tables: &Tables<G>,
-    tiers: &[u64],
+    known: &KnownTiers<'_, G>,
     sought: Sought,
     reached: Option<&Reached<G>>,
     choice: Choice,
-) -> Result<Vec<u8>, FindError>
-    ensures sheet { IfOk result (λ v. IsSheet G.Game.rules G.shown G.move_shown G.drawn G.mover G.style G.title G.board sought (is_some reached.entry) choice
-        tiers.now v.items) }
-    ensures first { (AreTiersHeld G.Game.rules tables.now tiers.now → ⊥) → IsErrOf result FindError.NotHeld }
-    ensures not_held { IsErrOf result FindError.NotHeld → IsMissing G.Game.rules tables.now sought tiers.now
-        ⊎ ((xs : List Found) × AreChosen G.Game.rules sought (is_some reached.entry) choice tiers.now xs
-        × MayRefuseLines G.Game.rules tables.now xs PlayError.NotHeld) }
+) -> Result<Vec<u8>, AllocError>
+    ensures { IfOk result (λ v. IsSheet G.Game.rules G.shown G.move_shown G.drawn G.mover G.style G.title G.board sought (is_some reached.entry) choice
+        known.now.tiers.now v.items) }
 {
-    let found = find_some(alloc, tables, tiers, sought, reached, choice)?;
-    match sheet_of_found(alloc, tables, found.as_slice()) {
-        Ok(sheet) => Ok(sheet),
-        Err(PlayError::OutOfMemory) => Err(FindError::OutOfMemory),
-        Err(_) => Err(FindError::NotHeld),
-    }
+    let found = find_some(alloc, known, sought, reached, choice)?;
+    sheet_of_found(alloc, known.tables, found.as_slice())
 }
 
 // The sheet of found positions.
@@ -54,19 +41,15 @@ fn sheet_of_found<G: Pictured>(
     alloc: Global,
     tables: &Tables<G>,
     found: &[Found],
-) -> Result<Vec<u8>, PlayError>
-    requires { All (IsFound G.Game.rules) found.now }
-    ensures sheet { IfOk result (λ v. (es : List Entry)
+) -> Result<Vec<u8>, AllocError>
+    requires { All (IsKnownAt G.Game.rules tables.now) found.now }
+    ensures { IfOk result (λ v. (es : List Entry)
         × AreEntries G.Game.rules G.shown G.move_shown G.drawn G.mover G.style G.title G.board found.now es × (v.items ≡ sheet_of G.title es)) }
-    ensures refused { IfErr result (MayRefuseLines G.Game.rules tables.now found.now) }
 {
     let mut entries = Vec::new(alloc);
     let mut answers = Vec::new(alloc);
     push_entries(alloc, tables, found, &mut entries, &mut answers)?;
-    match sheet_with::<G>(alloc, entries.as_slice(), answers.as_slice()) {
-        Ok(sheet) => Ok(sheet),
-        Err(_) => Err(PlayError::OutOfMemory),
-    }
+    sheet_with::<G>(alloc, entries.as_slice(), answers.as_slice())
 }
 
 // Appends the entries of found positions, and their solutions for paper.
@@ -76,11 +59,10 @@ fn push_entries<G: Pictured>(
     found: &[Found],
     entries: &mut Vec<u8>,
     answers: &mut Vec<u8>,
-) -> Result<(), PlayError>
-    requires { All (IsFound G.Game.rules) found.now }
-    ensures entries { OnOk result ((es : List Entry) × AreEntries G.Game.rules G.shown G.move_shown G.drawn G.mover G.style G.title G.board found.now es
+) -> Result<(), AllocError>
+    requires { All (IsKnownAt G.Game.rules tables.now) found.now }
+    ensures { OnOk result ((es : List Entry) × AreEntries G.Game.rules G.shown G.move_shown G.drawn G.mover G.style G.title G.board found.now es
         × (entries.new.items ≡ entries.old.items ++ flat_map entry_text es) × (answers.new.items ≡ answers.old.items ++ flat_map answer_text es)) }
-    ensures refused { IfErr result (MayRefuseLines G.Game.rules tables.now found.now) }
 {
     for x in found {
         push_entry(alloc, tables, *x, entries, answers)?;
@@ -95,25 +77,25 @@ fn push_entry<G: Pictured>(
     x: Found,
     entries: &mut Vec<u8>,
     answers: &mut Vec<u8>,
-) -> Result<(), PlayError>
-    requires { IsFound G.Game.rules x }
-    ensures entry { OnOk result ((e : Entry) × IsEntry G.Game.rules G.shown G.move_shown G.drawn G.mover G.style G.title G.board x e
+) -> Result<(), AllocError>
+    requires { IsKnownAt G.Game.rules tables.now x }
+    ensures { OnOk result ((e : Entry) × IsEntry G.Game.rules G.shown G.move_shown G.drawn G.mover G.style G.title G.board x e
         × (entries.new.items ≡ entries.old.items ++ entry_text e) × (answers.new.items ≡ answers.old.items ++ answer_text e)) }
-    ensures refused { IfErr result (MayRefuseLine G.Game.rules tables.now x.position) }
 {
+    let known = Known {
+        tables,
+        position: x.position,
+    };
     let text = G::show(x.position);
-    let diagram = diagram_text(alloc, tables, text.as_slice(), true)?;
-    let solution = solution_text(alloc, tables, x)?;
-    match push_parts(
+    let diagram = diagram_text(alloc, &known, true)?;
+    let solution = solution_text(alloc, &known, x)?;
+    push_parts(
         entries,
         answers,
         text.as_slice(),
         diagram.as_slice(),
         solution.as_slice(),
-    ) {
-        Ok(()) => Ok(()),
-        Err(_) => Err(PlayError::OutOfMemory),
-    }
+    )
 }
 
 // Appends an entry of these parts, and its solution for paper.

@@ -1,19 +1,18 @@
 //! The solutions of a sheet: the best move of a position, and best play from it.
-ghost use Rattle.std.specs.Prelude.{◌≡◌, ◌++◌, true, codes, IfOk, OnOk, IfErr};
+ghost use Rattle.std.specs.Prelude.{◌≡◌, ◌++◌, true, codes, IfOk, OnOk};
 ghost use Rattle.std.specs.List.{Contains};
 ghost use Rattle.gm_play.specs.BestLines.{AreBest};
 ghost use Rattle.gm_find.specs.Founds.{IsFound};
 ghost use Rattle.gm_draw.specs.Diagrams.{escaped};
-ghost use Rattle.gm_sheet.specs.Sheets.{choice_words, end_words, steps_text, best_words, line_words, solution_of, IsSolution, MayRefuseLine};
+ghost use Rattle.gm_sheet.specs.Sheets.{choice_words, end_words, steps_text, best_words, line_words, solution_of, IsSolution};
 
-use gm_best::play_error::PlayError;
+use gm_best::known::Known;
 use gm_draw::markup::push_escaped;
 use gm_find::found::Found;
 use gm_game::position::Position;
 use gm_game::shown::{Line, Shown};
 use gm_game::text::push_decimal;
 use gm_play::best_line::{BestLine, LineEnd, best_line};
-use gm_table::tables::Tables;
 use std::alloc::{AllocError, Global};
 
 /// The greatest number of moves of a solution's line.
@@ -22,20 +21,17 @@ pub const SOLUTION_MOVES: usize = 40;
 /// The solution of a found position: its best move, how many moves it has, and the line of best play from it, of at most `SOLUTION_MOVES` moves.
 pub(crate) fn solution_text<G: Shown>(
     alloc: Global,
-    tables: &Tables<G>,
+    known: &Known<'_, G>,
     x: Found,
-) -> Result<Vec<u8>, PlayError>
-    requires { IsFound G.Game.rules x }
-    ensures solution { IfOk result (λ v. IsSolution G.Game.rules G.move_shown x v.items) }
-    ensures refused { IfErr result (MayRefuseLine G.Game.rules tables.now x.position) }
+) -> Result<Vec<u8>, AllocError>
+    requires found { IsFound G.Game.rules x }
+    requires here { known.now.position ≡ x.position }
+    ensures { IfOk result (λ v. IsSolution G.Game.rules G.move_shown x v.items) }
 {
-    let line = best_line(alloc, tables, x.position, SOLUTION_MOVES)?;
+    let line = best_line(alloc, known, SOLUTION_MOVES)?;
     let solution = solution_with::<G>(alloc, x, &line);
     drop(line);
-    match solution {
-        Ok(text) => Ok(text),
-        Err(_) => Err(PlayError::OutOfMemory),
-    }
+    solution
 }
 
 // The solution with this line of best play.

@@ -7,7 +7,8 @@ use Rattle.gm_deliveries.specs.Begin.{IsStart, AreStarts}
 use Rattle.gm_table.proofs.Dealt.{append_cases}
 
 -- the starts of a range, and those of the range that goes on where it ends
-pub starts_more : (r : Rules) (tier lo : ℕ) (xs ys : List Start) → length xs ≡ lo → AreStarts r tier 0 xs → AreStarts r tier lo ys → AreStarts r tier 0 (xs ++ ys)
+pub starts_more : (r : Rules) (tier lo : ℕ) (xs ys : List Start) → length xs ≡ lo → AreStarts r tier 0 xs → AreStarts r tier lo ys
+    → AreStarts r tier 0 (xs ++ ys)
 starts_more r tier lo xs ys long before more k x e = elim (append_cases xs ys k x e) [
   | inl h ↦ before k x h
   | inr (j, i, q) ↦ (let here : lo + j ≡ 0 + k = omega arith in subst (λ (m : ℕ). IsStart r (at tier m) x) here (more j x q))
@@ -23,7 +24,8 @@ take_get (suc n) (suc k) (y ∷ ys) x e = take_get n k ys x e
 drop_get : {X : Type 0} (lo k : ℕ) (xs : List X) (x : X) → slice_get (drop lo xs) k ≡ Some x → slice_get xs (lo + k) ≡ Some x
 drop_get zero k xs x e = (let same : k ≡ 0 + k = omega arith in subst (λ (m : ℕ). slice_get xs m ≡ Some x) same e)
 drop_get (suc lo) k [] x e = absurd (cc)
-drop_get (suc lo) k (y ∷ ys) x e = (let same : suc (lo + k) ≡ suc lo + k = omega arith in subst (λ (m : ℕ). slice_get (y ∷ ys) m ≡ Some x) same (drop_get lo k ys x e))
+drop_get (suc lo) k (y ∷ ys) x e = (let same : suc (lo + k) ≡ suc lo + k = omega arith in
+    subst (λ (m : ℕ). slice_get (y ∷ ys) m ≡ Some x) same (drop_get lo k ys x e))
 
 -- the starts of a part of a tier
 pub starts_part : (r : Rules) (tier lo n : ℕ) (xs : List Start) → AreStarts r tier 0 xs → AreStarts r tier lo (take n (drop lo xs))
@@ -32,7 +34,8 @@ starts_part r tier lo n xs all k x e =
     subst (λ (m : ℕ). IsStart r (at tier m) x) same (all (lo + k) x (drop_get lo k xs x (take_get n k (drop lo xs) x e)))
 
 -- an item that goes with the numbers from n on has the property of its number
-pub zip_at : {X : Type 0} (R : ℕ → X → Type 0) (n : ℕ) (xs : List X) → AllZip R (range_with_len n (length xs)) xs → (k : ℕ) (x : X) → slice_get xs k ≡ Some x → R (n + k) x
+pub zip_at : {X : Type 0} (R : ℕ → X → Type 0) (n : ℕ) (xs : List X) → AllZip R (range_with_len n (length xs)) xs → (k : ℕ) (x : X)
+    → slice_get xs k ≡ Some x → R (n + k) x
 zip_at {X} R n [] h k x e = absurd (cc)
 zip_at {X} R n (y ∷ ys) h zero x e =
     let same : y ≡ x = cc in

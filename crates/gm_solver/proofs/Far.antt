@@ -1,5 +1,6 @@
 -- A delivery that would settle a position above the limit, and the last level within it.
-use Rattle.std.proofs.Common.{◌≡◌, ℕ, ◌+◌, ◌-◌, ◌<◌, ◌≤◌, inl, inr, ⊎_elim, List, [], length, get_or, refl, sym, subst, ◌∙◌, arith, Option, None, Some, IsSome, Err, get_or-set_same}
+use Rattle.std.proofs.Common.{◌≡◌, ℕ, ◌+◌, ◌-◌, ◌<◌, ◌≤◌, inl, inr, ⊎_elim, List, [], length, get_or, refl, sym, subst, ◌∙◌, arith, Option, None, Some, IsSome}
+use Rattle.std.proofs.Common.{Err, get_or-set_same}
 use Rattle.std.specs.List.{Contains}
 use Rattle.std.proofs.lemmas.Bool.{cases_lt, false≢true}
 use Rattle.std.proofs.lemmas.Option.{slice_get-get_or}
@@ -32,12 +33,13 @@ use Rattle.gm_deliveries.specs.Delivery.{IsPairHere, IsSettledNow, Delivers}
 use Rattle.gm_deliveries.proofs.StatusLemmas.{settled_same}
 use Rattle.gm_deliveries.specs.Steps.{place_of}
 use Rattle.gm_table.specs.Solving.{IsTooFar}
-use Rattle.gm_desk.specs.Spots.{IsDeliverable}
+use Rattle.gm_locks.specs.Spots.{IsDeliverable}
 use Rattle.gm_solver.specs.Covered.{IsCovered}
-use Rattle.gm_desk.proofs.Places.{value_stands, stands_remoteness}
+use Rattle.gm_locks.proofs.Places.{value_stands, stands_remoteness}
 
 -- the children delivered to an inner position of a good shard, at its place
-reached_good : (r : Rules) (s : ShardState) → IsGood r s → (i : ℕ) → IsInRange s i → IsInner r (at s.tier i) → AreReached r (at s.tier i) s.phase s.level (In (delivered_to s i))
+reached_good : (r : Rules) (s : ShardState) → IsGood r s → (i : ℕ) → IsInRange s i → IsInner r (at s.tier i)
+    → AreReached r (at s.tier i) s.phase s.level (In (delivered_to s i))
 reached_good r s h i m inner = record {
   children = λ c k. (h.pairs i c m k).0.1;
   up_to = λ c k. (let b = (h.pairs i c m k).1 in (b.own_phase, b.own_level, b.stands, b.before));
@@ -52,7 +54,8 @@ and_with c d y (inr e) = subst (In (with_position c d)) (sym e) (has_new c d)
 with_and : (c : Position) (d : List Position) (y : Position) → In (with_position c d) y → And (In d) c y
 with_and c d y h = ⊎_elim (λ (e : c ≡ y). inr (sym e)) (λ (i : Contains d y). inl i) (with_cases c y d h)
 
-module _ (r : Rules) (g : IsGame r) (s : ShardState) (h : IsGood r s) (note : NoteData) (parent : ℕ) (is : IsNote r note.position note.solved) (here : IsPairHere r s note parent) where
+module _ (r : Rules) (g : IsGame r) (s : ShardState) (h : IsGood r s) (note : NoteData) (parent : ℕ) (is : IsNote r note.position note.solved)
+    (here : IsPairHere r s note parent) where
   stands : StandsAt r s.phase s.level note.position
   stands =
       subst (λ (ph : Phase). StandsAt r ph s.level note.position) here.is_level.0
@@ -60,12 +63,15 @@ module _ (r : Rules) (g : IsGame r) (s : ShardState) (h : IsGood r s) (note : No
       (value_stands r note.position note.solved.value note.solved.remoteness is.value is.decided))
 
   -- what the note settles is the true value
-  settled_with : (x : Solved) → IsSettled r (at s.tier parent) (In (with_position note.position (delivered_to s parent))) x.value x.remoteness → HasValue r (at s.tier parent) x.value x.remoteness
+  settled_with : (x : Solved) → IsSettled r (at s.tier parent) (In (with_position note.position (delivered_to s parent))) x.value x.remoteness
+      → HasValue r (at s.tier parent) x.value x.remoteness
   settled_with x q =
       let d = delivered_to s parent in
       let c = note.position in
       let reached = reached_good r s h parent here.is_mine here.is_parent.0 in
-      reached_true r (at s.tier parent) s.phase s.level (And (In d) c) (reached_more r (at s.tier parent) s.phase s.level (In d) reached c here.is_parent.1 stands) g here.is_parent.0.legal here.is_parent.0.unended x.value x.remoteness
+      reached_true r (at s.tier parent) s.phase s.level (And (In d) c)
+      (reached_more r (at s.tier parent) s.phase s.level (In d) reached c here.is_parent.1 stands)
+      g here.is_parent.0.legal here.is_parent.0.unended x.value x.remoteness
       (settled_same r (at s.tier parent) (In (with_position c d)) (And (In d) c) (with_and c d) (and_with c d) x.value x.remoteness q)
 
   same_here : delivered_to (with_pair s note.position parent) parent ≡ with_position note.position (delivered_to s parent)
@@ -88,26 +94,30 @@ module _ (r : Rules) (g : IsGame r) (s : ShardState) (h : IsGood r s) (note : No
       }
 
 -- a pair that can be delivered is refused for nothing else
-pub refused_far : (r : Rules) → IsGame r → (s t : ShardState) (pair : NoteData × ℕ) (refused : Refused) → IsDeliverable r s pair → IsGood r t → s.level ≤ REMOTENESS → Delivers r pair.0 pair.1 s t (Err refused) → IsTooFar r s.tier
+pub refused_far : (r : Rules) → IsGame r → (s t : ShardState) (pair : NoteData × ℕ) (refused : Refused) → IsDeliverable r s pair → IsGood r t
+    → s.level ≤ REMOTENESS → Delivers r pair.0 pair.1 s t (Err refused) → IsTooFar r s.tier
 refused_far r g s t pair NotThisLevel d good near h = absurd (h.1 d.here.is_level)
 refused_far r g s t pair NotMine d good near h = absurd (h.2 d.here.is_mine)
 refused_far r g s t pair NotAParent d good near h = absurd (h.3 d.here.is_parent)
 refused_far r g s t pair TooFar d good near h = too_far r g s (subst (IsGood r) h.0 good) pair.0 pair.1 d.is_note d.here near h.3 h.4
 
 -- a true table knows each canonical legal position of its tier
-pub table_knows : (r : Rules) → IsGame r → (limit tier : ℕ) (records : List (Option Solved)) → IsTrueTable r limit tier records → (c : Position) → IsCanonical r c → c.tier ≡ tier → (x : Solved) × IsTrueValue r c x × (x.remoteness ≤ limit)
+pub table_knows : (r : Rules) → IsGame r → (limit tier : ℕ) (records : List (Option Solved)) → IsTrueTable r limit tier records → (c : Position)
+    → IsCanonical r c → c.tier ≡ tier → (x : Solved) × IsTrueValue r c x × (x.remoteness ≤ limit)
 table_knows r g limit tier records t c canonical e =
     let size : c.index < r.tier_size tier = subst (λ (u : ℕ). c.index < r.tier_size u) e (g.index_below c canonical.0) in
     let long = t.whole in
     let within : c.index < length records = omega arith in
-    found (get_or records c.index None) (subst (λ (u : ℕ). IsRecord r limit (IsTrueValue r) (at u c.index) (get_or records c.index None)) (sym e) (t.each c.index (get_or records c.index None) (slice_get-get_or records c.index None within)))
+    found (get_or records c.index None) (subst (λ (u : ℕ). IsRecord r limit (IsTrueValue r) (at u c.index) (get_or records c.index None)) (sym e)
+    (t.each c.index (get_or records c.index None) (slice_get-get_or records c.index None within)))
   where
     found : (o : Option Solved) → IsRecord r limit (IsTrueValue r) (at c.tier c.index) o → (x : Solved) × IsTrueValue r c x × (x.remoteness ≤ limit)
     found None none = absurd (none canonical)
     found (Some x) (k, is_true, near) = (x, is_true, near)
 
 -- so do the tables of the child tiers
-pub child_known : (r : Rules) → IsGame r → (entries : List TableData) → AreTables r entries → (tier : ℕ) → AreHeld r entries tier → (c : Position) → IsCanonical r c → Contains (r.child_tiers tier) c.tier → (x : Solved) × IsTrueValue r c x × (x.remoteness ≤ REMOTENESS)
+pub child_known : (r : Rules) → IsGame r → (entries : List TableData) → AreTables r entries → (tier : ℕ) → AreHeld r entries tier → (c : Position)
+    → IsCanonical r c → Contains (r.child_tiers tier) c.tier → (x : Solved) × IsTrueValue r c x × (x.remoteness ≤ REMOTENESS)
 child_known r g entries tables tier held c canonical k = found (table_of entries c.tier) refl (held c.tier k)
   where
     found : (o : Option TableData) → table_of entries c.tier ≡ o → IsSome o → (x : Solved) × IsTrueValue r c x × (x.remoteness ≤ REMOTENESS)
@@ -115,7 +125,8 @@ child_known r g entries tables tier held c canonical k = found (table_of entries
     found (Some t) e some = let (same, table) = tables c.tier t e in table_knows r g REMOTENESS t.tier t.records table.is_true c canonical (sym same)
 
 -- one level above the limit nothing is left, where good shards have every index of the tier
-past_limit : (r : Rules) → IsGame r → (entries : List TableData) → AreTables r entries → (place : Place) → ((i : ℕ) → i < r.tier_size place.tier → IsCovered r place i) → AreHeld r entries place.tier → REMOTENESS < place.level
+past_limit : (r : Rules) → IsGame r → (entries : List TableData) → AreTables r entries → (place : Place)
+    → ((i : ℕ) → i < r.tier_size place.tier → IsCovered r place i) → AreHeld r entries place.tier → REMOTENESS < place.level
     → IsLastLevel r place.tier place.phase place.level
 past_limit r g entries tables place covered held above = λ c m near stands. elim (cases_lt m place.level) [
   | inl l ↦ l
@@ -135,9 +146,11 @@ past_limit r g entries tables place covered held above = λ c m near stands. eli
     same_place WinLose n = omega arith
     same_place Ties n = omega arith
 
-    of_shard : (s : ShardState) → IsGood r s → (i : ℕ) → IsInRange s i → REMOTENESS < s.level → IsCanonical r (at s.tier i) → StandsAt r s.phase s.level (at s.tier i) → ⊥
+    of_shard : (s : ShardState) → IsGood r s → (i : ℕ) → IsInRange s i → REMOTENESS < s.level → IsCanonical r (at s.tier i)
+        → StandsAt r s.phase s.level (at s.tier i) → ⊥
     of_shard s good i m far canonical stands =
-        let (x, settled) = good.true_is_settled i m canonical (record { own_phase = s.phase; own_level = s.level; stands = stands; before = same_place s.phase s.level }) in
+        let (x, settled) = good.true_is_settled i m canonical
+        (record { own_phase = s.phase; own_level = s.level; stands = stands; before = same_place s.phase s.level }) in
         let (is_true, near) = good.settled_is_true i x m settled in
         let e = stands_remoteness r (at s.tier i) s.phase s.level x stands is_true in
         omega arith
@@ -146,14 +159,17 @@ past_limit r g entries tables place covered held above = λ c m near stands. eli
     own_none i canonical stands =
         let k = covered i (g.index_below (at place.tier i) canonical.0) in
         let back = sym k.here in
-        of_shard k.shard k.good i k.mine (subst (λ (p : Place). REMOTENESS < p.level) back above) (subst (λ (p : Place). IsCanonical r (at p.tier i)) back canonical) (subst (λ (p : Place). StandsAt r p.phase p.level (at p.tier i)) back stands)
+        of_shard k.shard k.good i k.mine (subst (λ (p : Place). REMOTENESS < p.level) back above)
+        (subst (λ (p : Place). IsCanonical r (at p.tier i)) back canonical) (subst (λ (p : Place). StandsAt r p.phase p.level (at p.tier i)) back stands)
 
     none_here : (c : Position) → IsAtLevel r place.tier place.phase place.level c → ⊥
-    none_here c (canonical, inl e, stands) = own_none c.index (subst (λ (t : ℕ). IsCanonical r (at t c.index)) e canonical) (subst (λ (t : ℕ). StandsAt r place.phase place.level (at t c.index)) e stands)
+    none_here c (canonical, inl e, stands) = own_none c.index (subst (λ (t : ℕ). IsCanonical r (at t c.index)) e canonical)
+        (subst (λ (t : ℕ). StandsAt r place.phase place.level (at t c.index)) e stands)
     none_here c (canonical, inr k, stands) = none_below c place.level (omega arith) k canonical stands
 
 -- so where something is left the level is within the limit
-pub level_near : (r : Rules) → IsGame r → (entries : List TableData) → AreTables r entries → (place : Place) → ((i : ℕ) → i < r.tier_size place.tier → IsCovered r place i) → AreHeld r entries place.tier
+pub level_near : (r : Rules) → IsGame r → (entries : List TableData) → AreTables r entries → (place : Place)
+    → ((i : ℕ) → i < r.tier_size place.tier → IsCovered r place i) → AreHeld r entries place.tier
     → (IsLastLevel r place.tier place.phase place.level → ⊥) → place.level ≤ REMOTENESS
 level_near r g entries tables place covered held more = elim (cases_lt REMOTENESS place.level) [
   | inl above ↦ absurd (more (past_limit r g entries tables place covered held above))
@@ -161,5 +177,6 @@ level_near r g entries tables place covered held more = elim (cases_lt REMOTENES
 ]
 
 -- one shard over a whole tier has every index
-pub whole_covered : (r : Rules) (s : ShardState) → IsGood r s → s.lo ≡ 0 → length s.delivered ≡ r.tier_size s.tier → (i : ℕ) → i < r.tier_size s.tier → IsCovered r (place_of s) i
+pub whole_covered : (r : Rules) (s : ShardState) → IsGood r s → s.lo ≡ 0 → length s.delivered ≡ r.tier_size s.tier → (i : ℕ) → i < r.tier_size s.tier
+    → IsCovered r (place_of s) i
 whole_covered r s good lo whole i l = record { shard = s; good = good; mine = (omega arith, omega arith); here = refl }

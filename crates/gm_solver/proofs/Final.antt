@@ -17,11 +17,12 @@ use Rattle.gm_frontier.specs.Counts.{IsPairInto, IsNumberBefore}
 use Rattle.gm_frontier.proofs.PairLemmas.{near_of_pair}
 use Rattle.gm_deliveries.specs.Closing.{ArePart}
 use Rattle.gm_table.specs.Solving.{IsDelivery, AreDeliveries, IsTooFar}
-use Rattle.gm_desk.proofs.Places.{stands_no_draw, value_place}
+use Rattle.gm_locks.proofs.Places.{stands_no_draw, value_place}
 use Rattle.gm_solver.proofs.Far.{table_knows, child_known}
 
 -- the part of a shard over the whole tier is its true table
-pub whole_part : (r : Rules) (tier : ℕ) (records : List (Option Solved)) → length records ≡ r.tier_size tier → ArePart r tier 0 records → IsTrueTable r REMOTENESS tier records
+pub whole_part : (r : Rules) (tier : ℕ) (records : List (Option Solved)) → length records ≡ r.tier_size tier → ArePart r tier 0 records
+    → IsTrueTable r REMOTENESS tier records
 whole_part r tier records whole part = record {
   whole = whole;
   each = λ i o e. subst (λ (k : ℕ). IsRecord r REMOTENESS (IsTrueValue r) (at tier k) o) (let same : 0 + i ≡ i = omega arith in same) (part.each i o e);
@@ -34,7 +35,8 @@ not_too_far r g tier records t far =
     let e = (HasValue_once r (at tier far.index) x.value far.value x.remoteness (REMOTENESS + 1) is_true far.far).1 in
     omega arith
 
-module _ (r : Rules) (g : IsGame r) (entries : List TableData) (tables : AreTables r entries) (tier : ℕ) (held : AreHeld r entries tier) (records : List (Option Solved)) (is_true : IsTrueTable r REMOTENESS tier records)
+module _ (r : Rules) (g : IsGame r) (entries : List TableData) (tables : AreTables r entries) (tier : ℕ) (held : AreHeld r entries tier)
+    (records : List (Option Solved)) (is_true : IsTrueTable r REMOTENESS tier records)
     (level : ℕ) (last : IsLastLevel r tier Ties level) where
   known : (c : Position) → IsNear r tier c → (x : Solved) × IsTrueValue r c x
   known c (canonical, inl e) = let (x, value, near) = table_knows r g REMOTENESS tier records is_true c canonical e in (x, value)
@@ -69,9 +71,12 @@ module _ (r : Rules) (g : IsGame r) (entries : List TableData) (tables : AreTabl
   )
 
 -- the same, of the number of all pairs before the end of ties
-pub end_deliveries : (r : Rules) → IsGame r → (entries : List TableData) → AreTables r entries → (tier : ℕ) → AreHeld r entries tier → (records : List (Option Solved)) → IsTrueTable r REMOTENESS tier records
-    → (place : Place) → place.tier ≡ tier → place.phase ≡ Ties → IsLastLevel r place.tier place.phase place.level → (number : ℕ) → IsNumberBefore r place.tier 0 (r.tier_size place.tier) place.phase place.level number → AreDeliveries r tier number
+pub end_deliveries : (r : Rules) → IsGame r → (entries : List TableData) → AreTables r entries → (tier : ℕ) → AreHeld r entries tier
+    → (records : List (Option Solved)) → IsTrueTable r REMOTENESS tier records
+    → (place : Place) → place.tier ≡ tier → place.phase ≡ Ties → IsLastLevel r place.tier place.phase place.level → (number : ℕ)
+    → IsNumberBefore r place.tier 0 (r.tier_size place.tier) place.phase place.level number → AreDeliveries r tier number
 end_deliveries r g entries tables tier held records is_true place tier_is phase last number exact =
     let end = subst (λ (ph : Phase). IsLastLevel r tier ph place.level) phase (subst (λ (u : ℕ). IsLastLevel r u place.phase place.level) tier_is last) in
-    let counted = subst (λ (ph : Phase). IsNumberBefore r tier 0 (r.tier_size tier) ph place.level number) phase (subst (λ (u : ℕ). IsNumberBefore r u 0 (r.tier_size u) place.phase place.level number) tier_is exact) in
+    let counted = subst (λ (ph : Phase). IsNumberBefore r tier 0 (r.tier_size tier) ph place.level number) phase
+    (subst (λ (u : ℕ). IsNumberBefore r u 0 (r.tier_size u) place.phase place.level number) tier_is exact) in
     all_deliveries r g entries tables tier held records is_true place.level end number counted

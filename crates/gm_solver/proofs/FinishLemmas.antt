@@ -8,9 +8,9 @@ use Rattle.gm_frontier.specs.Notes.{NoteData}
 use Rattle.gm_frontier.specs.Levels.{LevelData}
 use Rattle.gm_frontier.specs.Pairs.{pairs_of, piece_of}
 use Rattle.gm_deliveries.specs.declared.status.Refused.TheVariants.{TooFar}
-use Rattle.gm_desk.specs.Spots.{Spot}
-use Rattle.gm_desk.specs.Rounds.{IsLevelAt}
-use Rattle.gm_desk.specs.Pieces.{piece_pairs, IsRefusedAt}
+use Rattle.gm_locks.specs.Spots.{Spot}
+use Rattle.gm_locks.specs.Rounds.{IsLevelAt}
+use Rattle.gm_locks.specs.Pieces.{piece_pairs, IsRefusedAt}
 use Rattle.gm_table.specs.Solving.{IsTooFar}
 use Rattle.gm_solver.proofs.Far.{refused_far}
 
@@ -21,9 +21,11 @@ refused_at_far r g spot h near =
     subst (λ (s : Spot). IsTooFar r s.tier) h.spot (refused_far r g h.state h.state h.pair TooFar h.here h.good here h.event)
 
 -- the pairs of a piece of a level at the spot
-pub piece_is : (r : Rules) (l : LevelData) (spot : Spot) (notes : List NoteData) (n size piece lo hi : ℕ) (pairs : List (NoteData × ℕ)) → IsLevelAt l spot notes → lo ≡ spot.lo → hi ≡ spot.hi → size ≡ n
+pub piece_is : (r : Rules) (l : LevelData) (spot : Spot) (notes : List NoteData) (n size piece lo hi : ℕ) (pairs : List (NoteData × ℕ))
+    → IsLevelAt l spot notes → lo ≡ spot.lo → hi ≡ spot.hi → size ≡ n
     → pairs ≡ pairs_of r l.place.tier lo hi (piece_of piece n l.notes) → pairs ≡ piece_pairs r spot notes size piece
 piece_is r l spot notes n size piece lo hi pairs at from to cut is =
     let tier : l.place.tier ≡ spot.tier = ap (λ (p : Place). p.tier) at.place in
     is ∙ ap (λ (t : ℕ). pairs_of r t lo hi (piece_of piece n l.notes)) tier ∙ ap (λ (m : ℕ). pairs_of r spot.tier m hi (piece_of piece n l.notes)) from
-    ∙ ap (λ (m : ℕ). pairs_of r spot.tier spot.lo m (piece_of piece n l.notes)) to ∙ ap (λ (ns : List NoteData). piece_pairs r spot ns n piece) at.notes_are ∙ ap (λ (m : ℕ). piece_pairs r spot notes m piece) (sym cut)
+    ∙ ap (λ (m : ℕ). pairs_of r spot.tier spot.lo m (piece_of piece n l.notes)) to ∙ ap (λ (ns : List NoteData). piece_pairs r spot ns n piece) at.notes_are
+    ∙ ap (λ (m : ℕ). piece_pairs r spot notes m piece) (sym cut)

@@ -1,5 +1,6 @@
 -- A walk of the pairs of a level into a range, and shards to which none of the place is delivered.
-use Rattle.std.proofs.Common.{◌≡◌, ℕ, zero, suc, ◌+◌, ◌-◌, ◌<◌, ◌≤◌, List, [], ◌∷◌, length, drop, replicate, slice_get, slice_index_or, ◌^◌, refl, sym, ap, subst, ◌∙◌, arith, Some}
+use Rattle.std.proofs.Common.{◌≡◌, ℕ, zero, suc, ◌+◌, ◌-◌, ◌<◌, ◌≤◌, List, [], ◌∷◌, length, drop, replicate, slice_get, slice_index_or, ◌^◌, refl, sym, ap}
+use Rattle.std.proofs.Common.{subst, ◌∙◌, arith, Some}
 use Rattle.std.specs.List.{Contains}
 use Rattle.std.proofs.lemmas.List.{length-drop}
 use Rattle.gm_game.specs.declared.limits.TheConstants.{TIER_SIZE}
@@ -20,14 +21,15 @@ use Rattle.gm_deliveries.specs.State.{ShardState}
 use Rattle.gm_deliveries.specs.Begin.{first_state}
 use Rattle.gm_deliveries.specs.Good.{IsGood}
 use Rattle.gm_deliveries.specs.Steps.{next_level, first_ties}
-use Rattle.gm_desk.specs.Spots.{Spot, spot_of}
-use Rattle.gm_desk.specs.Rounds.{pairs_into, place_of_spot, HasNoneHere}
+use Rattle.gm_locks.specs.Spots.{Spot, spot_of}
+use Rattle.gm_locks.specs.Rounds.{pairs_into, place_of_spot, HasNoneHere}
 
 -- the pairs of a level into a spot's range
 module _ (r : Rules) (g : IsGame r) (spot : Spot) (notes : List NoteData) (level : IsLevel r (place_of_spot spot) notes) where
   -- they are few
   pub into_fit : r.tier_size spot.tier ≤ TIER_SIZE → length (pairs_into r spot notes) < 2 ^ 64
-  into_fit small = (let few = notes_few r g spot.tier spot.lo spot.hi notes (positions_once r g (place_of_spot spot) notes level) (canonical_notes r g (place_of_spot spot) notes level) in omega arith)
+  into_fit small = (let few = notes_few r g spot.tier spot.lo spot.hi notes (positions_once r g (place_of_spot spot) notes level)
+      (canonical_notes r g (place_of_spot spot) notes level) in omega arith)
 
 -- a walk through a list: what is left after k items
 pub item_next : {X : Type 0} (xs : List X) (k : ℕ) (x : X) (rest : List X) → drop k xs ≡ x ∷ rest → (slice_get xs k ≡ Some x) × (drop (suc k) xs ≡ rest)
@@ -55,7 +57,9 @@ pub none_next : (r : Rules) (s : ShardState) → IsGood r s → HasNoneHere r (n
 none_next r s good i c m h stands = not_before_and_at r s.phase (s.level + 1) c (good.pairs i c m h).1 stands
 
 pub none_ties : (r : Rules) (s : ShardState) → IsGood r s → s.phase ≡ WinLose → HasNoneHere r (first_ties s)
-none_ties r s good wins i c m h stands = not_before_and_at r Ties 0 c (ties_after r (s.level + 1) 0 c (subst (λ (ph : Phase). StandsBefore r ph (s.level + 1) c) wins (good.pairs i c m h).1)) stands
+none_ties r s good wins i c m h stands = not_before_and_at r Ties 0 c
+    (ties_after r (s.level + 1) 0 c (subst (λ (ph : Phase). StandsBefore r ph (s.level + 1) c) wins (good.pairs i c m h).1)) stands
 
-pub turned_none : (r : Rules) (s t : ShardState) (place : Place) (width k : ℕ) → t ≡ first_ties s → IsGood r s → spot_of s ≡ tile_at r place width k → place.phase ≡ WinLose → HasNoneHere r t
+pub turned_none : (r : Rules) (s t : ShardState) (place : Place) (width k : ℕ) → t ≡ first_ties s → IsGood r s → spot_of s ≡ tile_at r place width k
+    → place.phase ≡ WinLose → HasNoneHere r t
 turned_none r s t place width k is good at wins = subst (HasNoneHere r) (sym is) (none_ties r s good (ap (λ (x : Spot). x.phase) at ∙ wins))

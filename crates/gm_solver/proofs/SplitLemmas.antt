@@ -1,5 +1,6 @@
 -- The pairs of a piece by the tiles that have their parents.
-use Rattle.std.proofs.Common.{◌≡◌, ◌≢◌, ℕ, zero, suc, ◌*◌, ◌/◌, ◌<◌, ◌≤◌, ◌==◌, ◌&&◌, inl, inr, Bool, true, false, if◌then◌else◌, min, List, [], ◌∷◌, ◌++◌, map, filter, length, set, slice_get, refl, sym, ap, subst, ◌∙◌, arith, Some, Vec, length-set, get_or-set_same}
+use Rattle.std.proofs.Common.{◌≡◌, ◌≢◌, ℕ, zero, suc, ◌*◌, ◌/◌, ◌<◌, ◌≤◌, ◌==◌, ◌&&◌, inl, inr, Bool, true, false, if◌then◌else◌, min, List, [], ◌∷◌, ◌++◌, map}
+use Rattle.std.proofs.Common.{filter, length, set, slice_get, refl, sym, ap, subst, ◌∙◌, arith, Some, Vec, length-set, get_or-set_same}
 use Rattle.std.specs.declared.alloc.Global.{Global}
 use Rattle.std.proofs.lemmas.Bool.{cases_lt, cases_eq}
 use Rattle.std.proofs.lemmas.Bool.Decides.{nat_tests}
@@ -13,13 +14,14 @@ use Rattle.gm_game.specs.Rules.{Rules}
 use Rattle.gm_frontier.specs.Notes.{NoteData}
 use Rattle.gm_frontier.specs.Pairs.{is_within, pairs_with, pairs_of_note, pairs_of, piece_of}
 use Rattle.gm_frontier.proofs.TileLemmas.{in_tile as index_in_tile}
-use Rattle.gm_desk.specs.Spots.{Spot}
-use Rattle.gm_desk.specs.Pieces.{piece_pairs}
+use Rattle.gm_locks.specs.Spots.{Spot}
+use Rattle.gm_locks.specs.Pieces.{piece_pairs}
 use Rattle.gm_solver.specs.Split.{in_tile, AreSplit}
 use Rattle.gm_solver.specs.Tiling.{tile_at}
 
 -- a filter of a filter, and of a mapped list
-twice_step : {X : Type 0} (p : X → Bool) (x : X) (F Z : List X) → filter p F ≡ Z → (a : Bool) → filter p (if a then x ∷ F else F) ≡ (if (a && p x) then x ∷ Z else Z)
+twice_step : {X : Type 0} (p : X → Bool) (x : X) (F Z : List X) → filter p F ≡ Z → (a : Bool)
+    → filter p (if a then x ∷ F else F) ≡ (if (a && p x) then x ∷ Z else Z)
 twice_step {X} p x F Z e true = ap (λ (ys : List X). if p x then x ∷ ys else ys) e
 twice_step p x F Z e false = e
 
@@ -55,17 +57,22 @@ same_test width size k i some = elim (cases_lt i size) [
 ]
 
 -- so the pairs into a tile are those of all pairs whose parent is there
-row_list : (width size k : ℕ) → 0 < width → (n : NoteData) (is : List ℕ) → in_tile width k (pairs_with n 0 size is) ≡ pairs_with n (min (k * width) size) (min (suc k * width) size) is
+row_list : (width size k : ℕ) → 0 < width → (n : NoteData) (is : List ℕ)
+    → in_tile width k (pairs_with n 0 size is) ≡ pairs_with n (min (k * width) size) (min (suc k * width) size) is
 row_list width size k some n is =
     filter_mapped (λ (i : ℕ). (n, i)) (λ pair. pair.1 / width == k) (filter (is_within 0 size) is)
-    ∙ ap (map (λ (i : ℕ). (n, i))) (filter_twice (λ i. i / width == k) (is_within 0 size) is ∙ filter_agree (λ i. is_within 0 size i && (i / width == k)) (is_within (min (k * width) size) (min (suc k * width) size)) (λ i. same_test width size k i some) is)
+    ∙ ap (map (λ (i : ℕ). (n, i))) (filter_twice (λ i. i / width == k) (is_within 0 size) is
+    ∙ filter_agree (λ i. is_within 0 size i && (i / width == k)) (is_within (min (k * width) size) (min (suc k * width) size))
+    (λ i. same_test width size k i some) is)
 
-pub tile_list : (r : Rules) (tier width size k : ℕ) → 0 < width → (notes : List NoteData) → in_tile width k (pairs_of r tier 0 size notes) ≡ pairs_of r tier (min (k * width) size) (min (suc k * width) size) notes
+pub tile_list : (r : Rules) (tier width size k : ℕ) → 0 < width → (notes : List NoteData)
+    → in_tile width k (pairs_of r tier 0 size notes) ≡ pairs_of r tier (min (k * width) size) (min (suc k * width) size) notes
 tile_list r tier width size k some [] = refl
 tile_list r tier width size k some (n ∷ notes) =
     filter-append (λ pair. pair.1 / width == k) (pairs_of_note r tier 0 size n) (pairs_of r tier 0 size notes)
     ∙ ap (λ (ps : List (NoteData × ℕ)). ps ++ in_tile width k (pairs_of r tier 0 size notes)) (row_list width size k some n (r.parents n.position tier))
-    ∙ ap (λ (ps : List (NoteData × ℕ)). pairs_of_note r tier (min (k * width) size) (min (suc k * width) size) n ++ ps) (tile_list r tier width size k some notes)
+    ∙ ap (λ (ps : List (NoteData × ℕ)). pairs_of_note r tier (min (k * width) size) (min (suc k * width) size) n ++ ps)
+    (tile_list r tier width size k some notes)
 
 -- one pair more is put into its list
 one_in : (width k : ℕ) (pairs : List (NoteData × ℕ)) (x : NoteData × ℕ) → x.1 / width ≡ k → in_tile width k pairs ++ x ∷ [] ≡ in_tile width k (pairs ++ x ∷ [])
@@ -92,28 +99,36 @@ set_past zero (suc j) (w ∷ vs) v o = refl
 set_past (suc i) zero (w ∷ vs) v o = refl
 set_past (suc i) (suc j) (w ∷ vs) v o = set_past i j vs v (λ e. o (ap suc e))
 
-pub split_more : (width j : ℕ) (old new : List (Vec (NoteData × ℕ) Global)) (was list : Vec (NoteData × ℕ) Global) (x : NoteData × ℕ) → x.1 / width ≡ j → slice_get old j ≡ Some was → list.items ≡ was.items ++ x ∷ [] → new ≡ set old j list
+pub split_more : (width j : ℕ) (old new : List (Vec (NoteData × ℕ) Global)) (was list : Vec (NoteData × ℕ) Global) (x : NoteData × ℕ) → x.1 / width ≡ j
+    → slice_get old j ≡ Some was → list.items ≡ was.items ++ x ∷ [] → new ≡ set old j list
     → (pairs : List (NoteData × ℕ)) → AreSplit width pairs old → AreSplit width (pairs ++ x ∷ []) new
 split_more width j old new was list x tile at more is pairs h = record {
   each = λ k v e. elim (cases_eq k j) [
-    | inl same ↦ (let there : slice_get new j ≡ Some list = ap (λ (vs : List (Vec (NoteData × ℕ) Global)). slice_get vs j) is ∙ set_at j old list (slice_get_within old j was at) in
+    | inl same ↦ (let there : slice_get new j ≡ Some list = ap (λ (vs : List (Vec (NoteData × ℕ) Global)). slice_get vs j) is
+        ∙ set_at j old list (slice_get_within old j was at) in
         let here : Some v ≡ Some list = sym e ∙ ap (slice_get new) same ∙ there in
         let v_is : v ≡ list = cc in
-        ap (λ (w : Vec (NoteData × ℕ) Global). w.items) v_is ∙ more ∙ ap (λ (ps : List (NoteData × ℕ)). ps ++ x ∷ []) (h.each j was at) ∙ one_in width j pairs x tile ∙ ap (λ (m : ℕ). in_tile width m (pairs ++ x ∷ [])) (sym same))
-    | inr other ↦ (let before : slice_get old k ≡ Some v = sym (set_past k j old list other) ∙ ap (λ (vs : List (Vec (NoteData × ℕ) Global)). slice_get vs k) (sym is) ∙ e in
+        ap (λ (w : Vec (NoteData × ℕ) Global). w.items) v_is ∙ more ∙ ap (λ (ps : List (NoteData × ℕ)). ps ++ x ∷ []) (h.each j was at)
+        ∙ one_in width j pairs x tile ∙ ap (λ (m : ℕ). in_tile width m (pairs ++ x ∷ [])) (sym same))
+    | inr other ↦ (let before : slice_get old k ≡ Some v = sym (set_past k j old list other)
+        ∙ ap (λ (vs : List (Vec (NoteData × ℕ) Global)). slice_get vs k) (sym is) ∙ e in
         h.each k v before ∙ none_in width k pairs x (λ q. other (sym q ∙ tile)))
   ];
 }
 
 -- the list of a tile has the pairs of the piece into it
-pub list_is : (r : Rules) (place : Place) (width n piece k size : ℕ) (notes ns : List NoteData) (lists : List (Vec (NoteData × ℕ) Global)) (list : Vec (NoteData × ℕ) Global) (spot : Spot) → 0 < width
-    → AreSplit width (pairs_of r place.tier 0 (r.tier_size place.tier) (piece_of piece n ns)) lists → slice_get lists k ≡ Some list → spot ≡ tile_at r place width k → notes ≡ ns → size ≡ n → list.items ≡ piece_pairs r spot notes size piece
+pub list_is : (r : Rules) (place : Place) (width n piece k size : ℕ) (notes ns : List NoteData) (lists : List (Vec (NoteData × ℕ) Global))
+    (list : Vec (NoteData × ℕ) Global) (spot : Spot) → 0 < width
+    → AreSplit width (pairs_of r place.tier 0 (r.tier_size place.tier) (piece_of piece n ns)) lists → slice_get lists k ≡ Some list
+    → spot ≡ tile_at r place width k → notes ≡ ns → size ≡ n → list.items ≡ piece_pairs r spot notes size piece
 list_is r place width n piece k size notes ns lists list spot some split at tile same cut =
     split.each k list at ∙ tile_list r place.tier width (r.tier_size place.tier) k some (piece_of piece n ns)
-    ∙ ap (λ (s : Spot). piece_pairs r s ns n piece) (sym tile) ∙ ap (λ (ms : List NoteData). piece_pairs r spot ms n piece) (sym same) ∙ ap (λ (m : ℕ). piece_pairs r spot notes m piece) (sym cut)
+    ∙ ap (λ (s : Spot). piece_pairs r s ns n piece) (sym tile) ∙ ap (λ (ms : List NoteData). piece_pairs r spot ms n piece) (sym same)
+    ∙ ap (λ (m : ℕ). piece_pairs r spot notes m piece) (sym cut)
 
 -- the next pair of a walk has its parent in one of four tiles
-pub next_fits : (r : Rules) (tier width : ℕ) (notes : List NoteData) (done rest : List (NoteData × ℕ)) (x : NoteData × ℕ) → r.tier_size tier ≤ 4 * width → done ++ x ∷ rest ≡ pairs_of r tier 0 (r.tier_size tier) notes → x.1 < 4 * width
+pub next_fits : (r : Rules) (tier width : ℕ) (notes : List NoteData) (done rest : List (NoteData × ℕ)) (x : NoteData × ℕ) → r.tier_size tier ≤ 4 * width
+    → done ++ x ∷ rest ≡ pairs_of r tier 0 (r.tier_size tier) notes → x.1 < 4 * width
 next_fits r tier width notes done rest x wide e =
     let inside = subst (λ (ps : List (NoteData × ℕ)). Contains ps x) e (Contains-append_right done (x ∷ rest) x (contains_first x rest)) in
     let (note, parent, low, high) = in_pairs r tier 0 (r.tier_size tier) notes x inside in

@@ -1,5 +1,6 @@
 -- Four tiles of a tier: every index is in one, and what is known of each is known of the tier.
-use Rattle.std.proofs.Common.{◌≡◌, ℕ, zero, suc, ◌+◌, ◌*◌, ◌<◌, ◌≤◌, ◌⊎◌, inl, inr, min, List, [], ◌∷◌, ◌++◌, length, replicate, Option, Some, slice_get, sym, ap, subst, ◌∙◌, arith}
+use Rattle.std.proofs.Common.{◌≡◌, ℕ, zero, suc, ◌+◌, ◌*◌, ◌<◌, ◌≤◌, ◌⊎◌, inl, inr, min, List, [], ◌∷◌, ◌++◌, length, replicate, Option, Some, slice_get, sym}
+use Rattle.std.proofs.Common.{ap, subst, ◌∙◌, arith}
 use Rattle.std.specs.List.{Contains}
 use Rattle.std.proofs.lemmas.Bool.{cases_lt}
 use Rattle.std.proofs.lemmas.List.{length-append, length-replicate}
@@ -22,15 +23,16 @@ use Rattle.gm_deliveries.specs.Begin.{first_state}
 use Rattle.gm_deliveries.specs.Good.{IsGood}
 use Rattle.gm_deliveries.specs.Steps.{place_of}
 use Rattle.gm_deliveries.specs.Closing.{ArePart}
-use Rattle.gm_desk.specs.declared.board.Four.{Four}
-use Rattle.gm_desk.specs.Spots.{Spot, spot_of, choose}
-use Rattle.gm_desk.specs.Rounds.{HasNoneHere}
+use Rattle.gm_locks.specs.declared.board.Four.{Four}
+use Rattle.gm_locks.specs.Spots.{Spot, spot_of, choose}
+use Rattle.gm_locks.specs.Rounds.{HasNoneHere}
 use Rattle.gm_solver.specs.Covered.{IsCovered}
 use Rattle.gm_solver.specs.Tiling.{IsWide, tile_at, AreShardsAt, AreGood, HaveNoneHere}
 use Rattle.gm_solver.proofs.Final.{whole_part}
 
 -- the spot of tile k
-pub choose_tile : (r : Rules) (place : Place) (width : ℕ) (a b c d : Spot) → a ≡ tile_at r place width 0 → b ≡ tile_at r place width 1 → c ≡ tile_at r place width 2 → d ≡ tile_at r place width 3 → (k : ℕ) → k < 4 → choose k a b c d ≡ tile_at r place width k
+pub choose_tile : (r : Rules) (place : Place) (width : ℕ) (a b c d : Spot) → a ≡ tile_at r place width 0 → b ≡ tile_at r place width 1
+    → c ≡ tile_at r place width 2 → d ≡ tile_at r place width 3 → (k : ℕ) → k < 4 → choose k a b c d ≡ tile_at r place width k
 choose_tile r place width a b c d ea eb ec ed zero l = ea
 choose_tile r place width a b c d ea eb ec ed (suc zero) l = eb
 choose_tile r place width a b c d ea eb ec ed (suc (suc zero)) l = ec
@@ -41,14 +43,16 @@ choose_tile r place width a b c d ea eb ec ed (suc (suc (suc (suc k)))) l = absu
 pub spot_place : (r : Rules) (place : Place) (width k : ℕ) (s : ShardState) → spot_of s ≡ tile_at r place width k → place_of s ≡ place
 spot_place r place width k s e = ap (λ (x : Spot). place_at x.tier x.phase x.level) e
 
-in_tile : (r : Rules) (place : Place) (width k : ℕ) (s : ShardState) → IsGood r s → spot_of s ≡ tile_at r place width k → (i : ℕ) → k * width ≤ i → i < suc k * width → i < r.tier_size place.tier → IsCovered r place i
+in_tile : (r : Rules) (place : Place) (width k : ℕ) (s : ShardState) → IsGood r s → spot_of s ≡ tile_at r place width k → (i : ℕ) → k * width ≤ i
+    → i < suc k * width → i < r.tier_size place.tier → IsCovered r place i
 in_tile r place width k s good e i low high inside =
     let lo = ap (λ (x : Spot). x.lo) e in
     let hi = ap (λ (x : Spot). x.hi) e in
     record { shard = s; good = good; mine = (omega arith, omega arith); here = spot_place r place width k s e }
 
 -- a good shard has each index
-pub covered : (r : Rules) (place : Place) (width : ℕ) → IsWide r place.tier width → (shards : Four ShardState) → AreShardsAt r place width shards → IsGood r shards.a → IsGood r shards.b → IsGood r shards.c → IsGood r shards.d
+pub covered : (r : Rules) (place : Place) (width : ℕ) → IsWide r place.tier width → (shards : Four ShardState) → AreShardsAt r place width shards
+    → IsGood r shards.a → IsGood r shards.b → IsGood r shards.c → IsGood r shards.d
     → (i : ℕ) → i < r.tier_size place.tier → IsCovered r place i
 covered r place width wide shards are a b c d i inside =
     let enough = wide.enough in
@@ -69,13 +73,15 @@ pub record AreFirst (r : Rules) (tier n : ℕ) (records : List (Option Solved)) 
   pub part : ArePart r tier 0 records
 
 -- with the part of one more shard
-record_at : (xs ys : List (Option Solved)) (k : ℕ) (o : Option Solved) → slice_get (xs ++ ys) k ≡ Some o → (slice_get xs k ≡ Some o) ⊎ ((j : ℕ) × (k ≡ length xs + j) × (slice_get ys j ≡ Some o))
+record_at : (xs ys : List (Option Solved)) (k : ℕ) (o : Option Solved) → slice_get (xs ++ ys) k ≡ Some o
+    → (slice_get xs k ≡ Some o) ⊎ ((j : ℕ) × (k ≡ length xs + j) × (slice_get ys j ≡ Some o))
 record_at [] ys k o e = inr (k, omega arith, e)
 record_at (x ∷ xs) ys zero o e = inl e
 record_at (x ∷ xs) ys (suc k) o e = elim (record_at xs ys k o e) [ inl h ↦ inl h | inr (j, q, h) ↦ inr (j, omega arith, h) ]
 
 pub first_more : (r : Rules) (tier : ℕ) (s : ShardState) (old new : List (Option Solved)) → AreFirst r tier s.lo old → s.tier ≡ tier
-    → ((part : List (Option Solved)) × (new ≡ old ++ part) × (length part ≡ length s.delivered) × ArePart r s.tier s.lo part) → AreFirst r tier (s.lo + length s.delivered) new
+    → ((part : List (Option Solved)) × (new ≡ old ++ part) × (length part ≡ length s.delivered) × ArePart r s.tier s.lo part)
+    → AreFirst r tier (s.lo + length s.delivered) new
 first_more r tier s old new first same (part, is, long, are) = subst (AreFirst r tier (s.lo + length s.delivered)) (sym is) (record {
   long = (let a = length-append old part in let b = first.long in omega arith);
   part = record {
@@ -83,17 +89,20 @@ first_more r tier s old new first same (part, is, long, are) = subst (AreFirst r
       | inl h ↦ first.part.each k o h
       | inr (j, q, h) ↦ (let b = first.long in
           let here : s.lo + j ≡ 0 + k = omega arith in
-          subst (λ (i : ℕ). IsRecord r REMOTENESS (IsTrueValue r) (at tier i) o) here (subst (λ (t : ℕ). IsRecord r REMOTENESS (IsTrueValue r) (at t (s.lo + j)) o) same (are.each j o h)))
+          subst (λ (i : ℕ). IsRecord r REMOTENESS (IsTrueValue r) (at tier i) o) here
+          (subst (λ (t : ℕ). IsRecord r REMOTENESS (IsTrueValue r) (at t (s.lo + j)) o) same (are.each j o h)))
     ];
   };
 })
 
 -- four parts are the true table
-pub first_all : (r : Rules) (tier n : ℕ) (records : List (Option Solved)) → AreFirst r tier n records → n ≡ r.tier_size tier → IsTrueTable r REMOTENESS tier records
+pub first_all : (r : Rules) (tier n : ℕ) (records : List (Option Solved)) → AreFirst r tier n records → n ≡ r.tier_size tier
+    → IsTrueTable r REMOTENESS tier records
 first_all r tier n records first e = whole_part r tier records (first.long ∙ e) first.part
 
 -- the pairs into two ranges that follow one another
-pub number_joined : (r : Rules) (tier lo mid hi : ℕ) (phase : Phase) (level m n : ℕ) → lo ≤ mid → mid ≤ hi → IsNumberBefore r tier lo mid phase level m → IsNumberBefore r tier mid hi phase level n → IsNumberBefore r tier lo hi phase level (m + n)
+pub number_joined : (r : Rules) (tier lo mid hi : ℕ) (phase : Phase) (level m n : ℕ) → lo ≤ mid → mid ≤ hi → IsNumberBefore r tier lo mid phase level m
+    → IsNumberBefore r tier mid hi phase level n → IsNumberBefore r tier lo hi phase level (m + n)
 number_joined r tier lo mid hi phase level m n below above (xs, long, first) (ys, wide, second) = (
   xs ++ ys,
   (let e = length-append xs ys in omega arith),
@@ -104,11 +113,14 @@ number_joined r tier lo mid hi phase level m n below above (xs, long, first) (ys
         | inr l ↦ in_second pair ((second.each pair).0 (record { low = l; high = h.0.high; is_parent = h.0.is_parent }, h.1))
       ]),
       (λ k. elim (Contains-append_cases xs ys pair k) [
-        | inl i ↦ (let (into, before) = (first.each pair).1 i in let high = into.high in (record { low = into.low; high = omega arith; is_parent = into.is_parent }, before))
-        | inr i ↦ (let (into, before) = (second.each pair).1 i in let low = into.low in (record { low = omega arith; high = into.high; is_parent = into.is_parent }, before))
+        | inl i ↦ (let (into, before) = (first.each pair).1 i in let high = into.high in
+            (record { low = into.low; high = omega arith; is_parent = into.is_parent }, before))
+        | inr i ↦ (let (into, before) = (second.each pair).1 i in let low = into.low in
+            (record { low = omega arith; high = into.high; is_parent = into.is_parent }, before))
       ]),
     );
-    once = no_repeats_to (xs ++ ys) (no_repeats_append xs ys (no_repeats_from xs first.once) (no_repeats_from ys second.once) (λ pair i j. (let a = ((first.each pair).1 i).0.high in let b = ((second.each pair).1 j).0.low in omega arith)));
+    once = no_repeats_to (xs ++ ys) (no_repeats_append xs ys (no_repeats_from xs first.once) (no_repeats_from ys second.once)
+        (λ pair i j. (let a = ((first.each pair).1 i).0.high in let b = ((second.each pair).1 j).0.low in omega arith)));
   },
 )
   where
@@ -119,15 +131,19 @@ number_joined r tier lo mid hi phase level m n below above (xs, long, first) (ys
     in_second pair h = Contains-append_right xs ys pair h
 
 -- the number of pairs into a tile whose child stands before the place
-pub number_at : (r : Rules) (place : Place) (width k : ℕ) (s : ShardState) (n : ℕ) → spot_of s ≡ tile_at r place width k → IsGood r s → HasNoneHere r s → n ≡ pairs_in s
+pub number_at : (r : Rules) (place : Place) (width k : ℕ) (s : ShardState) (n : ℕ) → spot_of s ≡ tile_at r place width k → IsGood r s
+    → HasNoneHere r s → n ≡ pairs_in s
     → IsNumberBefore r place.tier (min (k * width) (r.tier_size place.tier)) (min (suc k * width) (r.tier_size place.tier)) place.phase place.level n
 number_at r place width k s n same good none is =
-    subst (λ (m : ℕ). IsNumberBefore r place.tier (min (k * width) (r.tier_size place.tier)) (min (suc k * width) (r.tier_size place.tier)) place.phase place.level m) (sym is)
+    subst (λ (m : ℕ). IsNumberBefore r place.tier (min (k * width) (r.tier_size place.tier)) (min (suc k * width) (r.tier_size place.tier))
+    place.phase place.level m) (sym is)
     (subst (λ (x : Spot). IsNumberBefore r x.tier x.lo x.hi x.phase x.level (pairs_in s)) same (number_before good none))
 
 -- the numbers of the four add up to that of the tier
-pub number_all : (r : Rules) (place : Place) (width : ℕ) → IsWide r place.tier width → (shards : Four ShardState) → AreShardsAt r place width shards → AreGood r shards → HaveNoneHere r shards
-    → (a b c d : ℕ) → a ≡ pairs_in shards.a → b ≡ pairs_in shards.b → c ≡ pairs_in shards.c → d ≡ pairs_in shards.d → IsNumberBefore r place.tier 0 (r.tier_size place.tier) place.phase place.level (a + b + c + d)
+pub number_all : (r : Rules) (place : Place) (width : ℕ) → IsWide r place.tier width → (shards : Four ShardState) → AreShardsAt r place width shards
+    → AreGood r shards → HaveNoneHere r shards
+    → (a b c d : ℕ) → a ≡ pairs_in shards.a → b ≡ pairs_in shards.b → c ≡ pairs_in shards.c → d ≡ pairs_in shards.d
+    → IsNumberBefore r place.tier 0 (r.tier_size place.tier) place.phase place.level (a + b + c + d)
 number_all r place width wide shards are good none a b c d ea eb ec ed =
     let size = r.tier_size place.tier in
     let enough = wide.enough in
@@ -136,15 +152,20 @@ number_all r place width wide shards are good none a b c d ea eb ec ed =
     let in_b = number_at r place width 1 shards.b b are.b good.b none.b eb in
     let in_c = number_at r place width 2 shards.c c are.c good.c none.c ec in
     let in_d = number_at r place width 3 shards.d d are.d good.d none.d ed in
-    let ab = number_joined r t (min (0 * width) size) (min (1 * width) size) (min (2 * width) size) place.phase place.level a b (omega arith) (omega arith) in_a in_b in
-    let abc = number_joined r t (min (0 * width) size) (min (2 * width) size) (min (3 * width) size) place.phase place.level (a + b) c (omega arith) (omega arith) ab in_c in
-    let all = number_joined r t (min (0 * width) size) (min (3 * width) size) (min (4 * width) size) place.phase place.level (a + b + c) d (omega arith) (omega arith) abc in_d in
+    let ab = number_joined r t (min (0 * width) size) (min (1 * width) size) (min (2 * width) size) place.phase place.level a b (omega arith)
+    (omega arith) in_a in_b in
+    let abc = number_joined r t (min (0 * width) size) (min (2 * width) size) (min (3 * width) size) place.phase place.level (a + b) c (omega arith)
+    (omega arith) ab in_c in
+    let all = number_joined r t (min (0 * width) size) (min (3 * width) size) (min (4 * width) size) place.phase place.level (a + b + c) d (omega arith)
+    (omega arith) abc in_d in
     let from : min (0 * width) size ≡ 0 = omega arith in
     let to : min (4 * width) size ≡ size = omega arith in
-    subst (λ (m : ℕ). IsNumberBefore r t 0 m place.phase place.level (a + b + c + d)) to (subst (λ (m : ℕ). IsNumberBefore r t m (min (4 * width) size) place.phase place.level (a + b + c + d)) from all)
+    subst (λ (m : ℕ). IsNumberBefore r t 0 m place.phase place.level (a + b + c + d)) to
+    (subst (λ (m : ℕ). IsNumberBefore r t m (min (4 * width) size) place.phase place.level (a + b + c + d)) from all)
 
 -- the parts of the four are the true table
-pub four_parts : (r : Rules) (place : Place) (width : ℕ) → IsWide r place.tier width → (shards : Four ShardState) → AreShardsAt r place width shards → (none one two three four : List (Option Solved)) → none ≡ []
+pub four_parts : (r : Rules) (place : Place) (width : ℕ) → IsWide r place.tier width → (shards : Four ShardState) → AreShardsAt r place width shards
+    → (none one two three four : List (Option Solved)) → none ≡ []
     → ((part : List (Option Solved)) × (one ≡ none ++ part) × (length part ≡ length shards.a.delivered) × ArePart r shards.a.tier shards.a.lo part)
     → ((part : List (Option Solved)) × (two ≡ one ++ part) × (length part ≡ length shards.b.delivered) × ArePart r shards.b.tier shards.b.lo part)
     → ((part : List (Option Solved)) × (three ≡ two ++ part) × (length part ≡ length shards.c.delivered) × ArePart r shards.c.tier shards.c.lo part)
@@ -161,7 +182,8 @@ four_parts r place width wide shards are none one two three four empty a b c d =
     let hi_c = ap (λ (x : Spot). x.hi) are.c in
     let lo_d = ap (λ (x : Spot). x.lo) are.d in
     let hi_d = ap (λ (x : Spot). x.hi) are.d in
-    let start : AreFirst r t shards.a.lo none = subst (AreFirst r t shards.a.lo) (sym empty) (record { long = (let e : 0 ≡ shards.a.lo = omega arith in e); part = record { each = λ k o e. absurd (no_item k o e) } }) in
+    let start : AreFirst r t shards.a.lo none = subst (AreFirst r t shards.a.lo) (sym empty)
+    (record { long = (let e : 0 ≡ shards.a.lo = omega arith in e); part = record { each = λ k o e. absurd (no_item k o e) } }) in
     let at_b : shards.a.lo + length shards.a.delivered ≡ shards.b.lo = omega arith in
     let at_c : shards.b.lo + length shards.b.delivered ≡ shards.c.lo = omega arith in
     let at_d : shards.c.lo + length shards.c.delivered ≡ shards.d.lo = omega arith in
@@ -176,7 +198,8 @@ four_parts r place width wide shards are none one two three four empty a b c d =
     no_item k o e = absurd (cc)
 
 -- a shard of a tile before the first level
-pub begun_at : (r : Rules) (tier width k lo n : ℕ) (s : ShardState) → s ≡ first_state tier lo n → lo ≡ min (k * width) (r.tier_size tier) → lo + n ≡ min (suc k * width) (r.tier_size tier)
+pub begun_at : (r : Rules) (tier width k lo n : ℕ) (s : ShardState) → s ≡ first_state tier lo n → lo ≡ min (k * width) (r.tier_size tier)
+    → lo + n ≡ min (suc k * width) (r.tier_size tier)
     → spot_of s ≡ tile_at r (place_at tier WinLose 0) width k
 begun_at r tier width k lo n s is from to =
     let spot : ℕ → ℕ → Spot = λ l h. record { tier = tier; lo = l; hi = h; phase = WinLose; level = 0 } in

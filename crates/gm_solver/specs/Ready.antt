@@ -2,7 +2,7 @@
 use Rattle.std.specs.Prelude.{◌≡◌, length}
 use Rattle.gm_game.specs.Rules.{Rules}
 use Rattle.gm_deliveries.specs.State.{ShardState}
-use Rattle.gm_desk.specs.Rounds.{HasNoneHere}
+use Rattle.gm_locks.specs.Rounds.{HasNoneHere}
 
 pub record IsReady (r : Rules) (s : ShardState) : Type 0 where
   pub lo : s.lo ≡ 0

@@ -4,16 +4,15 @@
 #![tactic(auto)]
 
 pub mod alone;
+mod context;
 mod crew;
 pub mod error;
 pub mod gate;
 mod in_order;
+mod level_job;
 mod levels;
-mod means;
 mod passes;
-mod pieces;
 pub mod plan;
-mod post;
 mod round;
 mod scan;
 pub mod source;
@@ -21,8 +20,9 @@ pub mod starts;
 pub mod tier;
 mod tiles;
 mod work;
+mod workplace;
 
-pub use gm_desk::board::{Board, Four, Shares};
-pub use gm_desk::held::Held;
-pub use gm_desk::pass::{Pass, PassDesk};
-pub use gm_desk::share::Share;
+pub use gm_locks::board::{Board, Four, Shares};
+pub use gm_locks::held::Held;
+pub use gm_locks::pass::{Pass, PassDesk};
+pub use gm_locks::share::Share;

@@ -1,19 +1,19 @@
 //! One level by passes: each shard has one pass, which delivers the level's pairs to it in their order.
 ghost use Rattle.std.specs.Prelude.{◌≡◌, ◌<◌, ◌≤◌, IfOk, IfErr};
-ghost use Rattle.gm_desk.specs.Pieces.{IsReadyFor};
+ghost use Rattle.gm_locks.specs.Pieces.{IsReadyFor};
 ghost use Rattle.gm_solver.specs.Solving.{IsError};
 ghost use Rattle.gm_solver.specs.Tiling.{AreShardsAt, AreWhole, HaveNoneHere};
 
+use crate::context::SolveContext;
 use crate::gate::Gate;
-use crate::means::Means;
-use crate::pieces::Pieces;
-use crate::post::Post;
-use crate::round::Served;
+use crate::level_job::LevelJob;
+use crate::round::LevelEnd;
 use crate::source::Source;
-use gm_desk::board::Four;
-use gm_desk::pass::Round;
+use crate::workplace::Workplace;
 use gm_game::game::Game;
 use gm_game::limits::REMOTENESS;
+use gm_locks::board::Four;
+use gm_locks::pass::PassLedger;
 use gm_shard::ordered::OrderedShard;
 use std::marker::Brand;
 use std::sync::Wait;
@@ -21,27 +21,36 @@ use std::sync::ledger::Blank;
 use std::thread;
 use std::thread::Threads;
 
-// The posts of the four shards, and what their workers call.
+// The workplaces of the four shards, and what their workers call.
 #[derive(Drop)]
-struct Posts<'a, G: Game, A: Round, B: Round, C: Round, D: Round, T: Gate, S: Source> {
-    a: Post<'a, G, A>,
-    b: Post<'a, G, B>,
-    c: Post<'a, G, C>,
-    d: Post<'a, G, D>,
+struct Workplaces<
+    'a,
+    G: Game,
+    A: PassLedger,
+    B: PassLedger,
+    C: PassLedger,
+    D: PassLedger,
+    T: Gate,
+    S: Source,
+> {
+    a: Workplace<'a, G, A>,
+    b: Workplace<'a, G, B>,
+    c: Workplace<'a, G, C>,
+    d: Workplace<'a, G, D>,
     gate: &'a T,
     source: &'a S,
 }
 
-impl<'a, G: Game, A: Round, B: Round, C: Round, D: Round, T: Gate, S: Source> Posts<
+impl<
     'a,
-    G,
-    A,
-    B,
-    C,
-    D,
-    T,
-    S,
-> {
+    G: Game,
+    A: PassLedger,
+    B: PassLedger,
+    C: PassLedger,
+    D: PassLedger,
+    T: Gate,
+    S: Source,
+> Workplaces<'a, G, A, B, C, D, T, S> {
     // Serves the shards that the source names. It asks at most four times.
     fn work<R: Wait>(&self, rt: &R, worker: usize) {
         for _ in 0..4 {
@@ -49,93 +58,100 @@ impl<'a, G: Game, A: Round, B: Round, C: Round, D: Round, T: Gate, S: Source> Po
                 return;
             };
             match shard {
-                0 => self.a.serve(rt, self.gate, worker),
-                1 => self.b.serve(rt, self.gate, worker),
-                2 => self.c.serve(rt, self.gate, worker),
-                3 => self.d.serve(rt, self.gate, worker),
+                0 => self.a.deliver_pass(rt, self.gate, worker),
+                1 => self.b.deliver_pass(rt, self.gate, worker),
+                2 => self.c.deliver_pass(rt, self.gate, worker),
+                3 => self.d.deliver_pass(rt, self.gate, worker),
                 _ => {}
             }
         }
     }
 }
 
-// Runs workers, the first in this thread and every other in a thread of its own, and waits for all. A worker that can't be started is done without.
+// Runs workers, the first in this thread and every other in a thread of its own, and waits for all. If a worker thread can't be started, the
+// others do its work.
 fn run_workers<
     'a,
     G: Game + Send + Sync,
-    A: Round + Send,
-    B: Round + Send,
-    C: Round + Send,
-    D: Round + Send,
+    A: PassLedger + Send,
+    B: PassLedger + Send,
+    C: PassLedger + Send,
+    D: PassLedger + Send,
     R: Threads + Wait + Sync,
     T: Gate,
     S: Source,
->(rt: &R, posts: &Posts<'a, G, A, B, C, D, T, S>, workers: usize) {
+>(rt: &R, workplaces: &Workplaces<'a, G, A, B, C, D, T, S>, workers: usize) {
     thread::scope(thread::scope_env(), rt, |scope| {
         for worker in 1..workers {
-            let _started = scope.spawn(move || posts.work(rt, worker));
+            let _started = scope.spawn(move || workplaces.work(rt, worker));
         }
-        posts.work(rt, 0);
+        workplaces.work(rt, 0);
     });
 }
 
 // Runs workers one after another in this thread.
-fn run_in_turn<'a, G: Game, A: Round, B: Round, C: Round, D: Round, R: Wait, T: Gate, S: Source>(
-    rt: &R,
-    posts: &Posts<'a, G, A, B, C, D, T, S>,
-    workers: usize,
-) {
+fn run_in_turn<
+    'a,
+    G: Game,
+    A: PassLedger,
+    B: PassLedger,
+    C: PassLedger,
+    D: PassLedger,
+    R: Wait,
+    T: Gate,
+    S: Source,
+>(rt: &R, workplaces: &Workplaces<'a, G, A, B, C, D, T, S>, workers: usize) {
     for worker in 0..workers {
-        posts.work(rt, worker);
+        workplaces.work(rt, worker);
     }
 }
 
-// Serves a level at desks of these names.
-fn serve_named<
+// Runs a level at desks with these ledgers' names.
+fn run_at_desks<
     G: Game + Send + Sync,
-    A: Round + Send,
-    B: Round + Send,
-    C: Round + Send,
-    D: Round + Send,
+    A: PassLedger + Send,
+    B: PassLedger + Send,
+    C: PassLedger + Send,
+    D: PassLedger + Send,
     R: Threads + Wait + Sync,
     T: Gate,
     S: Source,
 >(
-    means: &Means<G, R, T, S>,
-    pieces: &Pieces<G>,
+    context: &SolveContext<G, R, T, S>,
+    job: &LevelJob<G>,
     blanks: Four<Blank>,
     shards: Four<OrderedShard<G>>,
-) -> Served<G>
+) -> LevelEnd<G>
     requires names { (blanks.a.name ≡ A.name) × (blanks.b.name ≡ B.name) × (blanks.c.name ≡ C.name) × (blanks.d.name ≡ D.name) }
     requires parts { (blanks.a.parts ≡ A.parts) × (blanks.b.parts ≡ B.parts) × (blanks.c.parts ≡ C.parts) × (blanks.d.parts ≡ D.parts) }
     requires some { (0 < A.parts) × (0 < B.parts) × (0 < C.parts) × (0 < D.parts) }
-    requires a { IsReadyFor G.rules shards.a pieces.now.level.now A.spot A.notes A.base }
-    requires b { IsReadyFor G.rules shards.b pieces.now.level.now B.spot B.notes B.base }
-    requires c { IsReadyFor G.rules shards.c pieces.now.level.now C.spot C.notes C.base }
-    requires d { IsReadyFor G.rules shards.d pieces.now.level.now D.spot D.notes D.base }
-    requires here { AreShardsAt G.rules pieces.now.level.now.place pieces.now.width shards }
-    requires near { pieces.now.level.now.place.level ≤ REMOTENESS }
-    ensures here { IfOk result (λ served. AreShardsAt G.rules pieces.now.level.now.place pieces.now.width served.0) }
-    ensures whole { IfOk result (λ served. AreWhole G.rules served.0) }
-    ensures error { IfErr result (IsError G.rules pieces.now.level.now.place.tier) }
+    requires a { IsReadyFor G.rules shards.a job.now.level.now A.spot A.notes A.base }
+    requires b { IsReadyFor G.rules shards.b job.now.level.now B.spot B.notes B.base }
+    requires c { IsReadyFor G.rules shards.c job.now.level.now C.spot C.notes C.base }
+    requires d { IsReadyFor G.rules shards.d job.now.level.now D.spot D.notes D.base }
+    requires here { AreShardsAt G.rules job.now.level.now.place job.now.width shards }
+    requires near { job.now.level.now.place.level ≤ REMOTENESS }
+    ensures here { IfOk result (λ done. AreShardsAt G.rules job.now.level.now.place job.now.width done.0) }
+    ensures whole { IfOk result (λ done. AreWhole G.rules done.0) }
+    ensures error { IfErr result (IsError G.rules job.now.level.now.place.tier) }
 {
-    let level = pieces.level;
-    let posts = Posts::<G, A, B, C, D, T, S> {
-        a: Post::around(blanks.a, shards.a, level),
-        b: Post::around(blanks.b, shards.b, level),
-        c: Post::around(blanks.c, shards.c, level),
-        d: Post::around(blanks.d, shards.d, level),
-        gate: means.gate,
-        source: means.source,
+    let level = job.level;
+    let workplaces = Workplaces::<G, A, B, C, D, T, S> {
+        a: Workplace::around(blanks.a, shards.a, level),
+        b: Workplace::around(blanks.b, shards.b, level),
+        c: Workplace::around(blanks.c, shards.c, level),
+        d: Workplace::around(blanks.d, shards.d, level),
+        gate: context.gate,
+        source: context.source,
     };
-    let workers = means.plan.workers().min(4);
-    // To start a thread for an empty level, or for one of a single piece, would take longer than to serve it.
-    if level.pieces(pieces.notes) <= 1 {
-        run_in_turn(means.rt, &posts, workers);
+    let workers = context.plan.workers().min(4);
+    // Starting a thread for an empty level, or for one of a single piece, would cost more than it saves.
+    if level.pieces(job.notes) <= 1 {
+        run_in_turn(context.rt, &workplaces, workers);
     } else {
-        run_workers(means.rt, &posts, workers);
+        run_workers(context.rt, &workplaces, workers);
     }
-    let Posts { a, b, c, d, .. } = posts;
+    let Workplaces { a, b, c, d, .. } = workplaces;
     let (a, in_a) = a.end()?;
     let (b, in_b) = b.end()?;
     let (c, in_c) = c.end()?;
@@ -147,25 +163,25 @@ fn serve_named<
     Ok((Four { a, b, c, d }, by_workers))
 }
 
-/// Serves a level, with one pass for each shard: workers deliver its pairs, and the coordinator the rest.
-pub(crate) fn serve_passes<G: Game + Send + Sync, R: Threads + Wait + Sync, T: Gate, S: Source>(
-    means: &Means<G, R, T, S>,
-    pieces: &Pieces<G>,
+/// Runs a level, with one pass for each shard: workers deliver its pairs, and the coordinator the rest.
+pub(crate) fn run_passes<G: Game + Send + Sync, R: Threads + Wait + Sync, T: Gate, S: Source>(
+    context: &SolveContext<G, R, T, S>,
+    job: &LevelJob<G>,
     shards: Four<OrderedShard<G>>,
-) -> Served<G>
-    requires here { AreShardsAt G.rules pieces.now.level.now.place pieces.now.width shards }
+) -> LevelEnd<G>
+    requires here { AreShardsAt G.rules job.now.level.now.place job.now.width shards }
     requires none { HaveNoneHere G.rules shards }
-    requires near { pieces.now.level.now.place.level ≤ REMOTENESS }
-    ensures here { IfOk result (λ served. AreShardsAt G.rules pieces.now.level.now.place pieces.now.width served.0) }
-    ensures whole { IfOk result (λ served. AreWhole G.rules served.0) }
-    ensures error { IfErr result (IsError G.rules pieces.now.level.now.place.tier) }
+    requires near { job.now.level.now.place.level ≤ REMOTENESS }
+    ensures here { IfOk result (λ done. AreShardsAt G.rules job.now.level.now.place job.now.width done.0) }
+    ensures whole { IfOk result (λ done. AreWhole G.rules done.0) }
+    ensures error { IfErr result (IsError G.rules job.now.level.now.place.tier) }
 {
-    means.source.begin(means.rt, 4);
+    context.source.begin(context.rt, 4);
     let blanks = Four {
         a: Blank::new(1),
         b: Blank::new(1),
         c: Blank::new(1),
         d: Blank::new(1),
     };
-    serve_named::<G, Brand, Brand, Brand, Brand, R, T, S>(means, pieces, blanks, shards)
+    run_at_desks::<G, Brand, Brand, Brand, Brand, R, T, S>(context, job, blanks, shards)
 }

@@ -11,8 +11,8 @@ pub const SHARDS: usize = 4;
 /// The most notes of a piece.
 pub const PIECE: usize = 4096;
 
-/// How many workers solve a tier, into how many shards it is split, and how many notes a piece of a level has; and whether a build may solve tiers otherwise than
-/// by these workers where that is faster.
+/// How many workers solve a tier, into how many shards it is split, and how many notes a piece of a level has; and whether a build may solve tiers otherwise
+/// than by these workers where that is faster.
 #[derive(Clone, Copy, Debug, PartialEq, Eq)]
 pub struct Plan {
     workers: usize,

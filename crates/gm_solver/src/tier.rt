@@ -7,9 +7,9 @@ ghost use Rattle.gm_deliveries.specs.Steps.{place_of};
 ghost use Rattle.gm_table.specs.Solving.{IsTooFar, AreDeliveries};
 ghost use Rattle.gm_solver.specs.Solving.{IsError};
 
+use crate::context::{Schedule, SolveContext};
 use crate::error::SolveError;
 use crate::gate::Gate;
-use crate::means::{Means, Way};
 use crate::plan::Plan;
 use crate::source::Source;
 use crate::tiles::{Tiles, begin_tiles, tile_width};
@@ -35,9 +35,8 @@ pub struct Report {
 /// on the order in which threads take the locks.
 ///
 /// The tier is split into the plan's shards. At each level workers ask the source for pieces of the level, and deliver their pairs under the shards' locks.
-/// There are no more workers than pieces, the first runs in the
-/// calling thread and every other in a thread of its own, and a worker that can't be started is done without. After they have ended, the coordinator delivers
-/// the pairs that are missing; `by_hand` counts these.
+/// There are no more workers than pieces, the first runs in the calling thread and every other in a thread of its own; if a worker thread can't be started, the
+/// others do its work. After they have ended, the coordinator delivers the pairs that are missing; `by_hand` counts these.
 ///
 /// The tables of the child tiers are given, and the tier has at most `TIER_SIZE` indexes. `TooFar` is the answer only where a canonical legal position of the
 /// tier has a remoteness one above the limit, and where there is such a position the answer is never `Ok`.
@@ -59,21 +58,21 @@ pub fn solve_tier<G: Game + Send + Sync, R: Threads + Wait + Sync, T: Gate, S: S
     ensures near { OnOk result (IsTooFar G.rules tier → ⊥) }
     ensures error { IfErr result (IsError G.rules tier) }
 {
-    let means = Means {
+    let context = SolveContext {
         rt,
         alloc,
         tables,
-        way: Way::Pieces,
+        schedule: Schedule::Pieces,
         plan,
         gate,
         source,
     };
-    means.solve(tier)
+    context.solve(tier)
 }
 
 /// Solves a tier as `solve_tier` does, but with one pass for each shard: at each level a worker takes the pass of a shard that the source names, and delivers
-/// the level's pairs into that shard in their order,
-/// so that none is delivered twice. At each level the source is told of four passes, and a worker asks it at most four times.
+/// the level's pairs into that shard in their order, so that none is delivered twice. At each level the source is told of four passes, and a worker asks it at
+/// most four times.
 pub fn solve_passes<G: Game + Send + Sync, R: Threads + Wait + Sync, T: Gate, S: Source>(
     rt: &R,
     alloc: Global,
@@ -92,19 +91,19 @@ pub fn solve_passes<G: Game + Send + Sync, R: Threads + Wait + Sync, T: Gate, S:
     ensures near { OnOk result (IsTooFar G.rules tier → ⊥) }
     ensures error { IfErr result (IsError G.rules tier) }
 {
-    let means = Means {
+    let context = SolveContext {
         rt,
         alloc,
         tables,
-        way: Way::Passes,
+        schedule: Schedule::Passes,
         plan,
         gate,
         source,
     };
-    means.solve(tier)
+    context.solve(tier)
 }
 
-impl<'a, G: Game + Send + Sync, R: Threads + Wait + Sync, T: Gate, S: Source> Means<
+impl<'a, G: Game + Send + Sync, R: Threads + Wait + Sync, T: Gate, S: Source> SolveContext<
     'a,
     G,
     R,

@@ -11,22 +11,22 @@ ghost use Rattle.gm_game.specs.Places.{IsLastLevel};
 ghost use Rattle.gm_table.specs.Tables.{AreHeld, IsTable};
 ghost use Rattle.gm_table.specs.Solving.{IsTooFar, AreDeliveries};
 ghost use Rattle.gm_solver.specs.Solving.{IsError};
-ghost use Rattle.gm_desk.specs.Spots.{spot_of};
+ghost use Rattle.gm_locks.specs.Spots.{spot_of};
 ghost use Rattle.gm_solver.specs.Tiling.{IsWide, AreShardsAt, HaveNoneHere, AreGood, AreTwo, tile_at, next_place};
-ghost use Rattle.gm_desk.specs.Rounds.{HasNoneHere};
+ghost use Rattle.gm_locks.specs.Rounds.{HasNoneHere};
 
+use crate::context::SolveContext;
 use crate::error::SolveError;
 use crate::gate::Gate;
-use crate::means::Means;
-use crate::pieces::Pieces;
+use crate::level_job::LevelJob;
 use crate::scan::{FEW, find_starts};
 use crate::source::Source;
 use gm_deliveries::status::Start;
-use gm_desk::board::Four;
 use gm_frontier::last::Last;
 use gm_frontier::level::Level;
 use gm_game::game::Game;
 use gm_game::limits::{REMOTENESS, TIER_SIZE};
+use gm_locks::board::Four;
 use gm_shard::ordered::OrderedShard;
 use gm_table::packed::Packed;
 use gm_table::table::Table;
@@ -44,7 +44,7 @@ pub(crate) struct Tiles<G: Game> {
     ghost none_are: { HaveNoneHere G.rules shards },
 }
 
-// Let go by one call, so that a proof follows one value and not each field.
+// Dropped in one call, so that the prover tracks one value instead of every field.
 impl<G: Game> Drop for Tiles<G> {
     fn drop(self) {
         let Tiles {
@@ -129,11 +129,13 @@ fn begin_four<G: Game + Send + Sync, R: Threads + Sync>(
     join(
         rt,
         || -> Two<G>
-            requires { AreStarts G.rules tier 0 starts.now × (length starts.now ≡ G.rules.tier_size tier) × (G.rules.tier_size tier ≤ TIER_SIZE) × IsWide G.rules tier width }
+            requires { AreStarts G.rules tier 0 starts.now × (length starts.now ≡ G.rules.tier_size tier)
+                × (G.rules.tier_size tier ≤ TIER_SIZE) × IsWide G.rules tier width }
             ensures { IfOk result (λ two. AreTwo G.rules tier width 0 two.0 two.1) }
         { begin_two(alloc, tier, width, 0, starts) },
         || -> Two<G>
-            requires { AreStarts G.rules tier 0 starts.now × (length starts.now ≡ G.rules.tier_size tier) × (G.rules.tier_size tier ≤ TIER_SIZE) × IsWide G.rules tier width }
+            requires { AreStarts G.rules tier 0 starts.now × (length starts.now ≡ G.rules.tier_size tier)
+                × (G.rules.tier_size tier ≤ TIER_SIZE) × IsWide G.rules tier width }
             ensures { IfOk result (λ two. AreTwo G.rules tier width 2 two.0 two.1) }
         { begin_two(alloc, tier, width, 2, starts) },
     )
@@ -217,7 +219,8 @@ impl<G: Game> Tiles<G> {
 
     // The number of all pairs whose child stands before the present place.
     fn number(&self) -> u64
-        ensures { IsNumberBefore G.rules self.now.shards.a.tier 0 (G.rules.tier_size self.now.shards.a.tier) self.now.shards.a.phase self.now.shards.a.level result }
+        ensures { IsNumberBefore G.rules self.now.shards.a.tier 0 (G.rules.tier_size self.now.shards.a.tier)
+            self.now.shards.a.phase self.now.shards.a.level result }
     {
         self.show_good();
         self.shards.a.delivered()
@@ -254,7 +257,7 @@ impl<G: Game + Send + Sync> Tiles<G> {
     /// Runs one level of a tier: workers deliver its pairs, and the coordinator those that they left. The number is that of the workers' deliveries.
     pub(crate) fn run<R: Threads + Wait + Sync, T: Gate, S: Source>(
         self,
-        means: &Means<G, R, T, S>,
+        context: &SolveContext<G, R, T, S>,
         level: &Level<G>,
     ) -> Result<(Tiles<G>, u64), SolveError>
         requires place { level.now.place ≡ place_of self.shards.a }
@@ -263,12 +266,12 @@ impl<G: Game + Send + Sync> Tiles<G> {
         ensures error { IfErr result (IsError G.rules self.shards.a.tier) }
     {
         let Tiles { shards, width } = self;
-        let pieces = Pieces {
+        let job = LevelJob {
             level,
-            notes: means.plan.piece(),
+            notes: context.plan.piece(),
             width,
         };
-        let (shards, by_workers) = means.serve(&pieces, shards)?;
+        let (shards, by_workers) = context.run_job(&job, shards)?;
         Ok((Tiles { shards, width }, by_workers))
     }
 }

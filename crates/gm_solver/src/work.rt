@@ -3,19 +3,19 @@ ghost use Rattle.std.specs.Prelude.{◌≡◌, ℕ, ◌+◌, ◌*◌, ◌<◌, �
 ghost use Rattle.std.specs.Int.{div_ceil};
 ghost use Rattle.gm_frontier.specs.Notes.{NoteData};
 ghost use Rattle.gm_frontier.specs.Pairs.{pairs_of, piece_of};
-ghost use Rattle.gm_desk.specs.Spots.{choose};
-ghost use Rattle.gm_desk.specs.Pieces.{piece_pairs};
+ghost use Rattle.gm_locks.specs.Spots.{choose};
+ghost use Rattle.gm_locks.specs.Pieces.{piece_pairs};
 ghost use Rattle.gm_solver.specs.Tiling.{tile_at};
 ghost use Rattle.gm_solver.specs.Split.{AreSplit};
 
 use crate::gate::Gate;
-use crate::pieces::Pieces;
+use crate::level_job::LevelJob;
 use crate::source::Source;
-use gm_desk::board::Shares;
-use gm_desk::piece::Cut;
-use gm_desk::pieces::PieceBoard;
 use gm_frontier::note::Note;
 use gm_game::game::Game;
+use gm_locks::board::Shares;
+use gm_locks::piece::PieceLedger;
+use gm_locks::pieces::PieceBoard;
 use std::alloc::{AllocError, Global};
 use std::sync::Wait;
 
@@ -57,44 +57,56 @@ fn put<G: Game>(
 }
 
 // Puts the pairs of a piece into the lists, in place of what they had.
-fn split<G: Game>(pieces: &Pieces<G>, piece: usize, lists: &mut Lists<G>) -> Result<(), AllocError>
-    ensures { OnOk result (AreSplit pieces.now.width (pairs_of G.rules pieces.now.level.now.place.tier 0 (G.rules.tier_size pieces.now.level.now.place.tier) (piece_of piece pieces.now.notes pieces.now.level.now.notes)) lists.new) }
+fn split<G: Game>(job: &LevelJob<G>, piece: usize, lists: &mut Lists<G>) -> Result<(), AllocError>
+    ensures { OnOk result (AreSplit job.now.width
+        (pairs_of G.rules job.now.level.now.place.tier 0 (G.rules.tier_size job.now.level.now.place.tier)
+        (piece_of piece job.now.notes job.now.level.now.notes)) lists.new) }
 {
     clear(lists);
-    let level = pieces.level;
+    let level = job.level;
     let size = G::tier_size(level.place().tier);
-    for (note, parent) in level.pairs(piece, pieces.notes, 0, size) {
-        put(lists, pieces.width, note, parent)?;
+    for (note, parent) in level.pairs(piece, job.notes, 0, size) {
+        put(lists, job.width, note, parent)?;
     }
     Ok(())
 }
 
 /// A worker at a level: the board to which it delivers, the pieces that it walks, the gate that it calls, and its number.
 #[derive(Drop)]
-pub(crate) struct Walker<'a, 'b, G: Game, A: Cut, B: Cut, C: Cut, D: Cut, R: Wait, T: Gate> {
-    pub rt: &'a R,
-    pub board: &'a PieceBoard<G, A, B, C, D>,
-    pub pieces: &'a Pieces<'b, G>,
-    pub gate: &'a T,
-    pub worker: usize,
-    ghost tiles_are: { (k : ℕ) → k < 4 → choose k A.spot B.spot C.spot D.spot ≡ tile_at G.rules pieces.now.level.now.place pieces.now.width k },
-    ghost notes_are: { A.notes ≡ pieces.now.level.now.notes },
-    ghost size_is: { A.size ≡ pieces.now.notes },
-}
-
-impl<'a, 'b, G: Game, A: Cut, B: Cut, C: Cut, D: Cut, R: Wait, T: Gate> Walker<
+pub(crate) struct Walker<
     'a,
     'b,
-    G,
-    A,
-    B,
-    C,
-    D,
-    R,
-    T,
+    G: Game,
+    A: PieceLedger,
+    B: PieceLedger,
+    C: PieceLedger,
+    D: PieceLedger,
+    R: Wait,
+    T: Gate,
 > {
-    // Delivers the pairs of a piece to a shard, each between its own two calls of the gate: the lock is taken for each of them. After one that is too far no more
-    // are.
+    pub rt: &'a R,
+    pub board: &'a PieceBoard<G, A, B, C, D>,
+    pub job: &'a LevelJob<'b, G>,
+    pub gate: &'a T,
+    pub worker: usize,
+    ghost tiles_are: { (k : ℕ) → k < 4 → choose k A.spot B.spot C.spot D.spot ≡ tile_at G.rules job.now.level.now.place job.now.width k },
+    ghost notes_are: { A.notes ≡ job.now.level.now.notes },
+    ghost size_is: { A.size ≡ job.now.notes },
+}
+
+impl<
+    'a,
+    'b,
+    G: Game,
+    A: PieceLedger,
+    B: PieceLedger,
+    C: PieceLedger,
+    D: PieceLedger,
+    R: Wait,
+    T: Gate,
+> Walker<'a, 'b, G, A, B, C, D, R, T> {
+    // Delivers the pairs of a piece to a shard, each between its own two calls of the gate: the lock is taken for each of them. After one that is too far no
+    // more are.
     fn deliver_each(
         &self,
         shard: usize,
@@ -107,7 +119,7 @@ impl<'a, 'b, G: Game, A: Cut, B: Cut, C: Cut, D: Cut, R: Wait, T: Gate> Walker<
         requires pairs { pairs.now ≡ piece_pairs G.rules (choose shard A.spot B.spot C.spot D.spot) A.notes A.size piece }
         ensures { shares.new.parts ≡ shares.old.parts }
     {
-        let place = self.pieces.level.place();
+        let place = self.job.level.place();
         if pairs.is_empty() {
             let _marked = self.board.deliver(self.rt, shard, piece, pairs, 0, shares);
         }
@@ -136,7 +148,7 @@ impl<'a, 'b, G: Game, A: Cut, B: Cut, C: Cut, D: Cut, R: Wait, T: Gate> Walker<
         requires pairs { pairs.now ≡ piece_pairs G.rules (choose shard A.spot B.spot C.spot D.spot) A.notes A.size piece }
         ensures { shares.new.parts ≡ shares.old.parts }
     {
-        let place = self.pieces.level.place();
+        let place = self.job.level.place();
         for _ in 0..pairs.len() {
             self.gate.before(self.rt, self.worker, place);
         }
@@ -148,8 +160,8 @@ impl<'a, 'b, G: Game, A: Cut, B: Cut, C: Cut, D: Cut, R: Wait, T: Gate> Walker<
         }
     }
 
-    // Walks a piece's pairs once, while no lock is held, and delivers them shard by shard. A pair that is refused as too far is missing at the end of the level,
-    // where the coordinator finds it.
+    // Walks a piece's pairs once, while no lock is held, and delivers them shard by shard. A pair that is refused as too far is missing at the end of the
+    // level, where the coordinator finds it.
     fn walk(
         &self,
         piece: usize,
@@ -159,7 +171,7 @@ impl<'a, 'b, G: Game, A: Cut, B: Cut, C: Cut, D: Cut, R: Wait, T: Gate> Walker<
         requires { piece < div_ceil (length A.notes) A.size }
         ensures { shares.new.parts ≡ shares.old.parts }
     {
-        split(self.pieces, piece, lists)?;
+        split(self.job, piece, lists)?;
         for shard in 0..4 {
             let pairs = lists[shard].as_slice();
             if T::EACH {
@@ -176,7 +188,7 @@ impl<'a, 'b, G: Game, A: Cut, B: Cut, C: Cut, D: Cut, R: Wait, T: Gate> Walker<
     pub(crate) fn work<S: Source>(&self, alloc: Global, source: &S, shares: &mut Shares<A, B, C, D>)
         ensures { shares.new.parts ≡ shares.old.parts }
     {
-        let count = self.pieces.level.pieces(self.pieces.notes);
+        let count = self.job.level.pieces(self.job.notes);
         let mut lists = empty_lists::<G>(alloc);
         for _ in 0..count {
             let Some(piece) = source.next(self.rt, self.worker) else {

@@ -1,5 +1,5 @@
 //! Records checked by as many threads as there are processors.
-ghost use Rattle.std.specs.Prelude.{◌≡◌, ◌↔◌, ◌*◌, ◌/◌, ◌<◌, ◌≤◌, ℕ, max, length, IsTrue, None, MatchOption};
+ghost use Rattle.std.specs.Prelude.{◌≡◌, ◌↔◌, ◌*◌, ◌/◌, ◌<◌, ◌≤◌, ℕ, max, suc, length, IsTrue, None, MatchOption};
 ghost use Rattle.gm_game.specs.Children.{AreResults};
 ghost use Rattle.gm_game.specs.Rules.{AreHoles, IsCanonical, at};
 ghost use Rattle.gm_game.specs.declared.limits.TheConstants.{TIER_SIZE};
@@ -14,6 +14,7 @@ use crate::tables::Tables;
 use gm_game::game::Game;
 use gm_game::limits::TIER_SIZE;
 use gm_game::position::{End, Position};
+use rayon::current_num_threads;
 use rayon::prelude::*;
 use std::thread::Threads;
 
@@ -91,7 +92,7 @@ impl<'a, G: Game, C: Records> Given<'a, G, C> {
         )
     }
 
-    // The least index from `lo` up to `hi` whose record doesn't fit. Results are written over what the lists hold.
+    // The least index from `lo` up to `hi` whose record doesn't fit. `lists` is scratch space.
     fn first_between(
         &self,
         hand: &mut [Option<&'a Table<G>>],
@@ -147,11 +148,13 @@ impl<'a, G: Game, C: Records> Given<'a, G, C> {
 }
 
 impl<'a, G: Game + Send + Sync, C: Records + Sync> Given<'a, G, C> {
-    // How many classes are worth a thread of their own.
-    fn piece(&self) -> usize
-        ensures { result ≡ CLASSES * PIECE / max (length (C.listed self.now.records.now)) 1 }
+    // How few classes are worth a thread of their own, where so many threads run side by side: enough records, and more than half of a thread's share. Other
+    // threads take the digest and lay out the indexes meanwhile, so that more threads than processors would only make these late.
+    fn piece(&self, threads: usize) -> usize
+        ensures { result ≡ max (CLASSES * PIECE / max (length (C.listed self.now.records.now)) 1) (suc (CLASSES / 2 / max threads 1)) }
     {
-        CLASSES * PIECE / self.records.count().max(1)
+        let worth = CLASSES * PIECE / self.records.count().max(1);
+        worth.max(CLASSES / 2 / threads.max(1) + 1)
     }
 
     // The least index whose record doesn't fit, or how many records there are.
@@ -162,7 +165,7 @@ impl<'a, G: Game + Send + Sync, C: Records + Sync> Given<'a, G, C> {
     {
         (0..CLASSES as u32)
             .into_par_iter()
-            .with_min_len(self.piece())
+            .with_min_len(self.piece(current_num_threads(rt)))
             .map(
                 |class: u32| -> u64
                     ensures { IsFirstOfClass G.rules self.entry.now.tables.now self.entry.now.tier (C.listed self.entry.now.records.now) class result }

@@ -15,7 +15,7 @@ pub(crate) struct Entry<G: Game> {
     runs: Runs,
 }
 
-// Let go by one call, so that a proof follows one value and not each field.
+// Dropped in one call, so that the prover tracks one value instead of every field.
 impl<G: Game> Drop for Entry<G> {
     fn drop(self) {
         let Entry { table: _, runs: _ } = self;

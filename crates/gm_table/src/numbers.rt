@@ -42,6 +42,7 @@ impl Numbers {
     }
 
     /// Adds a number at the end. Where memory is refused the numbers are as before.
+    #[inline(always)]
     pub(crate) fn push(&mut self, number: u32) -> Result<(), AllocError>
         ensures ok { OnOk result (self.new ≡ self.old ++ number ∷ []) }
         ensures err { OnErr result (self.new ≡ self.old) }
@@ -56,6 +57,7 @@ impl Numbers {
     }
 
     // Adds a number at the end, and keeps all of them long. It stands apart, so that code for the common case is short.
+    #[inline(never)]
     fn push_long(&mut self, number: u32) -> Result<(), AllocError>
         ensures ok { OnOk result (self.new ≡ self.old ++ number ∷ []) }
         ensures err { OnErr result (self.new ≡ self.old) }

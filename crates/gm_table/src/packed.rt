@@ -42,6 +42,7 @@ impl Packed {
     }
 
     /// Adds a record within the greatest remoteness at the end. Where memory is refused the records are as before.
+    #[inline(always)]
     pub fn push(&mut self, known: Option<Solved>) -> Result<(), AllocError>
         requires { IsNear known }
         ensures ok { OnOk result (self.new ≡ self.old ++ known ∷ []) }
@@ -70,7 +71,7 @@ impl Packed {
         Ok(())
     }
 
-    /// Keeps this many of the first records.
+    /// Keeps the first `count` records.
     pub fn truncate(&mut self, count: usize)
         ensures { self.new ≡ take count self.old }
     {

@@ -5,7 +5,7 @@ ghost use Rattle.gm_table.specs.Tables.{AreHeld};
 ghost use Rattle.gm_frontier.specs.Levels.{AreTiles};
 ghost use Rattle.gm_deliveries.specs.Begin.{first_state};
 ghost use Rattle.gm_deliveries.specs.Steps.{place_of};
-ghost use Rattle.gm_desk.specs.Spots.{IsSameSpot};
+ghost use Rattle.gm_locks.specs.Spots.{IsSameSpot};
 ghost use Rattle.gm_testing.specs.ByHand.{IsOfTier, IsCounted, IsLater};
 
 use gm_frontier::expected::Expected;

@@ -1,5 +1,6 @@
 -- Bytes of records that are read in two parts.
-use Rattle.std.proofs.Common.{◌≡◌, ℕ, ◌+◌, ◌*◌, ◌<◌, ◌≤◌, List, ◌++◌, length, Option, None, Some, IfSome, Result, Ok, Err, IfErr, IsErrAnd, sym, ap, subst, ◌∙◌, append_assoc, length-append, arith}
+use Rattle.std.proofs.Common.{◌≡◌, ℕ, ◌+◌, ◌*◌, ◌<◌, ◌≤◌, List, ◌++◌, length, Option, None, Some, IfSome, Result, Ok, Err, IfErr, IsErrAnd, sym, ap, subst, ◌∙◌}
+use Rattle.std.proofs.Common.{append_assoc, length-append, arith}
 use Rattle.std.specs.List.{flat_map}
 use Rattle.std.proofs.lemmas.Grind.{flat_map-append}
 use Rattle.std.proofs.lemmas.List.{take-append-le}
@@ -21,7 +22,8 @@ both_parts v n k size bytes first rest front back e sum are more = record {
   text = e ∙ (λ i. are.text i ++ more.text i) ∙ sym (flat_map-append (record_bytes v) front back);
 }
 
-pub both_have : (v : Version) (n k size : ℕ) (bytes first rest : List ℕ) → bytes ≡ first ++ rest → size ≡ n + k → HasRecords v n first → HasRecords v k rest → HasRecords v size bytes
+pub both_have : (v : Version) (n k size : ℕ) (bytes first rest : List ℕ) → bytes ≡ first ++ rest → size ≡ n + k → HasRecords v n first → HasRecords v k rest
+    → HasRecords v size bytes
 both_have v n k size bytes first rest e sum (front, are) (back, more) = (front ++ back, both_parts v n k size bytes first rest front back e sum are more)
 
 pub has_read : (v : Version) (size : ℕ) (part : List ℕ) (read : Option (List (Option Solved))) → AreRead v size part read → HasRecords v size part
@@ -33,7 +35,8 @@ room_left One i n len left h e s = omega arith
 room_left Two i n len left h e s = omega arith
 
 -- a bad record of the first part is the first of all
-pub bad_first : (v : Version) (n k size : ℕ) (bytes first rest : List ℕ) (index : ℕ) → bytes ≡ first ++ rest → size ≡ n + k → length first ≡ width v * n → IsFirstBad v n first index → IsFirstBad v size bytes index
+pub bad_first : (v : Version) (n k size : ℕ) (bytes first rest : List ℕ) (index : ℕ) → bytes ≡ first ++ rest → size ≡ n + k → length first ≡ width v * n
+    → IsFirstBad v n first index → IsFirstBad v size bytes index
 bad_first v n k size bytes first rest index e sum len is =
     let front = flat_map (record_bytes v) is.front in
     let within = is.within in
@@ -51,7 +54,8 @@ bad_first v n k size bytes first rest index e sum len is =
     }
 
 -- and one of the second part, where the first has none
-pub bad_second : (v : Version) (n k size : ℕ) (bytes first rest : List ℕ) (index : ℕ) → bytes ≡ first ++ rest → size ≡ n + k → HasRecords v n first → IsFirstBad v k rest index → IsFirstBad v size bytes (n + index)
+pub bad_second : (v : Version) (n k size : ℕ) (bytes first rest : List ℕ) (index : ℕ) → bytes ≡ first ++ rest → size ≡ n + k → HasRecords v n first
+    → IsFirstBad v k rest index → IsFirstBad v size bytes (n + index)
 bad_second v n k size bytes first rest index e sum (front, are) is =
     let within = is.within in
     record {
@@ -67,9 +71,11 @@ bad_second v n k size bytes first rest index e sum (front, are) is =
     }
 
 -- what was read of both parts is what the bytes are
-pub read_joined : (v : Version) (n k size : ℕ) (bytes first rest : List ℕ) (front back all : Option (List (Option Solved))) → bytes ≡ first ++ rest → size ≡ n + k → AreRead v n first front → AreRead v k rest back
+pub read_joined : (v : Version) (n k size : ℕ) (bytes first rest : List ℕ) (front back all : Option (List (Option Solved))) → bytes ≡ first ++ rest
+    → size ≡ n + k → AreRead v n first front → AreRead v k rest back
     → IfSome all (λ x. (a : List (Option Solved)) × (b : List (Option Solved)) × (front ≡ Some a) × (back ≡ Some b) × (x ≡ a ++ b)) → AreRead v size bytes all
-read_joined v n k size bytes first rest front back None e sum are more h = both_have v n k size bytes first rest e sum (has_read v n first front are) (has_read v k rest back more)
+read_joined v n k size bytes first rest front back None e sum are more h =
+    both_have v n k size bytes first rest e sum (has_read v n first front are) (has_read v k rest back more)
 read_joined v n k size bytes first rest front back (Some x) e sum are more (a, b, ea, eb, ex) =
     subst (λ records. AreRecords v size records bytes) (sym ex)
     (both_parts v n k size bytes first rest a b e sum (subst (AreRead v n first) ea are) (subst (AreRead v k rest) eb more))

@@ -3,7 +3,6 @@ pub mod RecordLemmas
 pub mod HalfLemmas
 pub mod TextLemmas
 pub mod RefusalLemmas
-pub mod ReasonLemmas
 pub mod SealLemmas
 pub mod StreamLemmas
 pub mod HeadLemmas

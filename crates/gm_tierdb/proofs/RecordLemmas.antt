@@ -1,5 +1,6 @@
 -- Lists of records and their bytes.
-use Rattle.std.proofs.Common.{◌≡◌, ◌≢◌, ℕ, zero, suc, ◌+◌, ◌*◌, ◌-◌, ◌<◌, ◌≤◌, List, [], ◌∷◌, ◌++◌, length, take, drop, get_or, All, Option, None, refl, sym, ap, subst, ◌∙◌, append_assoc, append-nil, length-append, arith}
+use Rattle.std.proofs.Common.{◌≡◌, ◌≢◌, ℕ, zero, suc, ◌+◌, ◌*◌, ◌-◌, ◌<◌, ◌≤◌, List, [], ◌∷◌, ◌++◌, length, take, drop, get_or, All, Option, None, refl, sym}
+use Rattle.std.proofs.Common.{ap, subst, ◌∙◌, append_assoc, append-nil, length-append, arith}
 use Rattle.std.specs.List.{flat_map}
 use Rattle.std.specs.Int.{to_le_bytes}
 use Rattle.std.proofs.lemmas.List.{flat_map_more, take_more, nil_from_length}
@@ -26,7 +27,8 @@ room One i n rest h e = omega arith
 room Two i n rest h e = omega arith
 
 -- what is left of some records after one more
-pub one_less : (v : Version) (i n : ℕ) (rest more : List ℕ) → i < n → length rest ≡ width v * (n - i) → length more ≡ length rest - width v → length more ≡ width v * (n - (i + 1))
+pub one_less : (v : Version) (i n : ℕ) (rest more : List ℕ) → i < n → length rest ≡ width v * (n - i) → length more ≡ length rest - width v
+    → length more ≡ width v * (n - (i + 1))
 one_less One i n rest more h e f = omega arith
 one_less Two i n rest more h e f = omega arith
 
@@ -36,7 +38,8 @@ none_less Two n = omega arith
 
 -- one more record at the front of the bytes
 pub grown : (v : Version) (bytes rest one more : List ℕ) (front : List (Option Solved)) (o : Option Solved)
-    → bytes ≡ flat_map (record_bytes v) front ++ rest → rest ≡ one ++ more → record_bytes v o ≡ one → bytes ≡ flat_map (record_bytes v) (front ++ o ∷ []) ++ more
+    → bytes ≡ flat_map (record_bytes v) front ++ rest → rest ≡ one ++ more → record_bytes v o ≡ one
+    → bytes ≡ flat_map (record_bytes v) (front ++ o ∷ []) ++ more
 grown v bytes rest one more front o e split two =
     e ∙ ap (λ (l : List ℕ). flat_map (record_bytes v) front ++ l) (split ∙ ap (λ (l : List ℕ). l ++ more) (sym two))
     ∙ sym (append_assoc (flat_map (record_bytes v) front) (record_bytes v o) more)
@@ -54,7 +57,8 @@ no_bytes Two = refl
 pub length_records : (v : Version) (os : List (Option Solved)) → length (flat_map (record_bytes v) os) ≡ width v * length os
 length_records v [] = no_bytes v
 length_records v (o ∷ os) =
-    length-append (record_bytes v o) (flat_map (record_bytes v) os) ∙ (λ i. length_bytes v (record_number v o) i + length_records v os i) ∙ more_bytes v (length os)
+    length-append (record_bytes v o) (flat_map (record_bytes v) os) ∙ (λ i. length_bytes v (record_number v o) i + length_records v os i)
+    ∙ more_bytes v (length os)
 
 -- the first bytes of a list of records are those of the first one
 first_of : (v : Version) (n : ℕ) (rest : List ℕ) → take (width v) (to_le_bytes (word v) n ++ rest) ≡ to_le_bytes (word v) n
@@ -66,13 +70,15 @@ rest_of One n rest = refl
 rest_of Two n rest = refl
 
 -- as many records with the same bytes are the same
-same_step : (v : Version) (n m : ℕ) (xs ys : List ℕ) → to_le_bytes (word v) n ++ xs ≡ to_le_bytes (word v) m ++ ys → (to_le_bytes (word v) n ≡ to_le_bytes (word v) m) × (xs ≡ ys)
+same_step : (v : Version) (n m : ℕ) (xs ys : List ℕ) → to_le_bytes (word v) n ++ xs ≡ to_le_bytes (word v) m ++ ys
+    → (to_le_bytes (word v) n ≡ to_le_bytes (word v) m) × (xs ≡ ys)
 same_step v n m xs ys e = (
   sym (first_of v n xs) ∙ ap (take (width v)) e ∙ first_of v m ys,
   sym (rest_of v n xs) ∙ ap (drop (width v)) e ∙ rest_of v m ys,
 )
 
-pub same_records : (v : Version) (os ps : List (Option Solved)) → All (IsStorable v) os → All (IsStorable v) ps → length os ≡ length ps → flat_map (record_bytes v) os ≡ flat_map (record_bytes v) ps → os ≡ ps
+pub same_records : (v : Version) (os ps : List (Option Solved)) → All (IsStorable v) os → All (IsStorable v) ps → length os ≡ length ps
+    → flat_map (record_bytes v) os ≡ flat_map (record_bytes v) ps → os ≡ ps
 same_records v [] [] ho hp len e = refl
 same_records v [] (p ∷ ps) ho hp len e = absurd (omega arith)
 same_records v (o ∷ os) [] ho hp len e = absurd (omega arith)
@@ -83,7 +89,8 @@ same_records v (o ∷ os) (p ∷ ps) ho hp len e =
     ap (λ x. x ∷ os) first ∙ ap (λ xs. p ∷ xs) rest
 
 -- in the bytes of records each index below their number has one
-pub none_bad : (v : Version) (front records : List (Option Solved)) (rest : List ℕ) → All (IsStorable v) records → length front < length records → flat_map (record_bytes v) records ≡ flat_map (record_bytes v) front ++ rest
+pub none_bad : (v : Version) (front records : List (Option Solved)) (rest : List ℕ) → All (IsStorable v) records → length front < length records
+    → flat_map (record_bytes v) records ≡ flat_map (record_bytes v) front ++ rest
     → ((o : Option Solved) → IsStorable v o → take (width v) rest ≢ record_bytes v o) → ⊥
 none_bad v [] [] rest ok less e bad = omega arith
 none_bad v (f ∷ fs) [] rest ok less e bad = omega arith
@@ -96,7 +103,8 @@ none_bad v (f ∷ fs) (r ∷ rs) rest ok less e bad =
 
 -- the records of a table can be in a file
 storable_table : (r : Rules) (t : TableData) → IsTable r t → All (IsStorable Two) t.records
-storable_table r t is k d h = storable_record r (at t.tier k) (get_or t.records k d) (is.is_true.each k (get_or t.records k d) (slice_get-get_or t.records k d h))
+storable_table r t is k d h = storable_record r (at t.tier k) (get_or t.records k d)
+    (is.is_true.each k (get_or t.records k d) (slice_get-get_or t.records k d h))
 
 pub storable_for : (v : Version) (r : Rules) (t : TableData) → IsTable r t → IsFor v t.records → All (IsStorable v) t.records
 storable_for One r t is fits = λ k d h. old_record t.records fits k (get_or t.records k d) (slice_get-get_or t.records k d h) (storable_table r t is k d h)

@@ -1,16 +1,17 @@
 -- What is refused, and what isn't.
-use Rattle.std.proofs.Common.{◌≡◌, ℕ, ◌+◌, ◌^◌, ◌<◌, Bool, true, false, List, length, take, drop, get_or, Option, Result, Ok, Err, IfOk, IfErr, MatchResult, IsErrOf, IsTrue, ⊎_elim, refl, sym, ap, ◌∙◌, arith}
+use Rattle.std.proofs.Common.{◌≡◌, ℕ, ◌^◌, ◌<◌, Bool, true, false, List, length, take, get_or, Option, Result, Ok, Err, IfOk, IfErr, MatchResult, IsErrOf}
+use Rattle.std.proofs.Common.{IsTrue, ⊎_elim, refl, sym, ap, ◌∙◌, arith}
 use Rattle.std.proofs.Math.Bool.{not}
 use Rattle.std.specs.Int.{to_le_bytes, from_le_bytes, w64}
 use Rattle.std.specs.Str.{bytes_eq}
 use Rattle.std.proofs.lemmas.Nat.{from_le_bytes-to_le_bytes_8}
 use Rattle.std.proofs.lemmas.Slice.Eq.{bytes_eq-Decides}
-use Rattle.sha2.specs.Sha256.{sha256}
 use Rattle.gm_game.specs.declared.limits.TheConstants.{NAME}
 use Rattle.gm_game.specs.declared.position.Solved.{Solved}
 use Rattle.gm_game.specs.Rules.{Rules}
 use Rattle.gm_tierdb.specs.declared.file_error.FileError.{FileError}
-use Rattle.gm_tierdb.specs.declared.file_error.FileError.TheVariants.{OutOfMemory, Truncated, BadMagic, WrongGame, WrongTier, WrongSize, BadRecord, Trailing, BadDigest, OldVersion}
+use Rattle.gm_tierdb.specs.declared.file_error.FileError.TheVariants.{OutOfMemory, Truncated, BadMagic, WrongGame, WrongTier, WrongSize, BadRecord, Trailing}
+use Rattle.gm_tierdb.specs.declared.file_error.FileError.TheVariants.{BadDigest, OldVersion}
 use Rattle.gm_record.specs.declared.version.Version.{Version}
 use Rattle.gm_record.specs.declared.version.Version.TheVariants.{One, Two}
 use Rattle.gm_tierdb.specs.TierText.{magic, IsVersionText}
@@ -24,11 +25,13 @@ not_old One first e h = h
 not_old Two first e h = let other : get_or (magic Two) 7 0 ≡ get_or (magic One) 7 0 = ap (λ bytes. get_or bytes 7 0) (sym e ∙ h) in omega arith
 
 -- a text is refused for want of memory alone
-pub only_memory : (v : Version) (r : Rules) → length r.name ≡ NAME → (tier : ℕ) (records : List (Option Solved)) (bytes : List ℕ) → IsVersionText v r tier records bytes → (e : FileError) → RefusesIn v r tier bytes e → e ≡ OutOfMemory
+pub only_memory : (v : Version) (r : Rules) → length r.name ≡ NAME → (tier : ℕ) (records : List (Option Solved)) (bytes : List ℕ)
+    → IsVersionText v r tier records bytes → (e : FileError) → RefusesIn v r tier bytes e → e ≡ OutOfMemory
 only_memory v r named tier records bytes is OutOfMemory h = refl
 only_memory v r named tier records bytes is Truncated h =
     let p = parts_of_text v r named tier records bytes is in let len = p.len in
-    absurd (⊎_elim (λ (short : length bytes < 40). let none : ⊥ = omega arith in none) (λ (short : HasHeader v r tier bytes × (length bytes < file_len v (r.tier_size tier))). let less = short.1 in let none : ⊥ = omega arith in none) h)
+    absurd (⊎_elim (λ (short : length bytes < 40). let none : ⊥ = omega arith in none)
+    (λ (short : HasHeader v r tier bytes × (length bytes < file_len v (r.tier_size tier))). let less = short.1 in let none : ⊥ = omega arith in none) h)
 only_memory v r named tier records bytes is BadMagic h = absurd (h.1 (parts_of_text v r named tier records bytes is).header.0.0.0.1)
 only_memory v r named tier records bytes is WrongGame h = absurd (h.1 (parts_of_text v r named tier records bytes is).header.0.0.1)
 only_memory v r named tier records bytes is WrongTier h = absurd (h.1 (parts_of_text v r named tier records bytes is).header.0.1)
@@ -42,21 +45,25 @@ only_memory v r named tier records bytes is BadDigest h = absurd (h.3 (parts_of_
 only_memory v r named tier records bytes is OldVersion h = absurd (not_old v (take 8 bytes) (parts_of_text v r named tier records bytes is).header.0.0.0.1 h.1)
 
 -- where the bytes are the text of some records, these are the answer, or there is no memory
-pub exact_answer : {X : Type 0} (listed : X → List (Option Solved)) (v : Version) (r : Rules) → length r.name ≡ NAME → (tier : ℕ) (bytes : List ℕ) (result : Result X FileError)
-    → IfOk result (λ x. IsVersionText v r tier (listed x) bytes) → IfErr result (RefusesIn v r tier bytes) → (records : List (Option Solved)) → IsVersionText v r tier records bytes
+pub exact_answer : {X : Type 0} (listed : X → List (Option Solved)) (v : Version) (r : Rules) → length r.name ≡ NAME
+    → (tier : ℕ) (bytes : List ℕ) (result : Result X FileError)
+    → IfOk result (λ x. IsVersionText v r tier (listed x) bytes) → IfErr result (RefusesIn v r tier bytes) → (records : List (Option Solved))
+    → IsVersionText v r tier records bytes
     → MatchResult result (λ x. listed x ≡ records) (λ e. e ≡ OutOfMemory)
 exact_answer listed v r named tier bytes (Ok x) found refused records is = same_text v r named tier (listed x) records bytes found is
 exact_answer listed v r named tier bytes (Err e) found refused records is = only_memory v r named tier records bytes is e refused
 
 -- a text of version 1 is refused as that
-pub old_version : (r : Rules) → length r.name ≡ NAME → (tier : ℕ) (records : List (Option Solved)) (bytes : List ℕ) → IsVersionText One r tier records bytes → (e : FileError) → RefusesIn Two r tier bytes e → e ≡ OldVersion
+pub old_version : (r : Rules) → length r.name ≡ NAME → (tier : ℕ) (records : List (Option Solved)) (bytes : List ℕ) → IsVersionText One r tier records bytes
+    → (e : FileError) → RefusesIn Two r tier bytes e → e ≡ OldVersion
 old_version r named tier records bytes is e h =
     let p = parts_of_text One r named tier records bytes is in
     let old = p.header.0.0.0.1 in
     let len = p.len in
     elim e as (λ x. RefusesIn Two r tier bytes x → x ≡ OldVersion) [
       | OutOfMemory ↦ λ k. absurd (not_old Two (take 8 bytes) (parts_of_text Two r named tier k.0 bytes k.1).header.0.0.0.1 old)
-      | Truncated ↦ λ k. absurd (⊎_elim (λ (short : length bytes < 40). let none : ⊥ = omega arith in none) (λ (short : HasHeader Two r tier bytes × (length bytes < file_len Two (r.tier_size tier))). not_old Two (take 8 bytes) short.0.0.0.0.1 old) k)
+      | Truncated ↦ λ k. absurd (⊎_elim (λ (short : length bytes < 40). let none : ⊥ = omega arith in none)
+          (λ (short : HasHeader Two r tier bytes × (length bytes < file_len Two (r.tier_size tier))). not_old Two (take 8 bytes) short.0.0.0.0.1 old) k)
       | BadMagic ↦ λ k. absurd (k.2 old)
       | WrongGame ↦ λ k. absurd (not_old Two (take 8 bytes) k.0.1 old)
       | WrongTier ↦ λ k. absurd (not_old Two (take 8 bytes) k.0.0.1 old)
@@ -68,21 +75,17 @@ old_version r named tier records bytes is e h =
     ] h
 
 pub old_answer : {X : Type 0} (listed : X → List (Option Solved)) (r : Rules) → length r.name ≡ NAME → (tier : ℕ) (bytes : List ℕ) (result : Result X FileError)
-    → IfOk result (λ x. IsVersionText Two r tier (listed x) bytes) → IfErr result (RefusesIn Two r tier bytes) → (records : List (Option Solved)) → IsVersionText One r tier records bytes
+    → IfOk result (λ x. IsVersionText Two r tier (listed x) bytes) → IfErr result (RefusesIn Two r tier bytes) → (records : List (Option Solved))
+    → IsVersionText One r tier records bytes
     → IsErrOf result OldVersion
 old_answer listed r named tier bytes (Ok x) found refused records is =
-    absurd (not_old Two (take 8 bytes) (parts_of_text Two r named tier (listed x) bytes found).header.0.0.0.1 (parts_of_text One r named tier records bytes is).header.0.0.0.1)
+    absurd (not_old Two (take 8 bytes) (parts_of_text Two r named tier (listed x) bytes found).header.0.0.0.1
+    (parts_of_text One r named tier records bytes is).header.0.0.0.1)
 old_answer listed r named tier bytes (Err e) found refused records is = ap (λ x. Err x) (old_version r named tier records bytes is e refused)
 
 same_if : (a b : List ℕ) (equal : Bool) → bytes_eq a b ≡ equal → not equal ≡ false → a ≡ b
 same_if a b true e h = (bytes_eq-Decides a b).0 e
 same_if a b false e h = absurd (let z : ⊥ = cc in z)
-
--- a digest that was compared is that of what stands before it
-pub digest_is : (bytes body digest sum : List ℕ) (len n : ℕ) (differs : Bool) → len ≡ n → body ≡ take (40 + len) bytes → digest ≡ drop (40 + len) bytes → sum ≡ sha256 body → differs ≡ not (bytes_eq sum digest) → differs ≡ false
-    → drop (40 + n) bytes ≡ sha256 (take (40 + n) bytes)
-digest_is bytes body digest sum len n differs e front back is compared same =
-    ap (λ (k : ℕ). drop (40 + k) bytes) (sym e) ∙ sym back ∙ sym (same_if sum digest (bytes_eq sum digest) refl (sym compared ∙ same)) ∙ is ∙ ap sha256 (front ∙ ap (λ (k : ℕ). take (40 + k) bytes) e)
 
 -- lists that were compared are the same, or not
 pub alike : (a b : List ℕ) (differs : Bool) → differs ≡ not (bytes_eq a b) → differs ≡ false → a ≡ b

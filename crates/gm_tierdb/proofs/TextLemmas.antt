@@ -1,5 +1,6 @@
 -- The parts of a text, and the text of the parts.
-use Rattle.std.proofs.Common.{◌≡◌, ℕ, ◌+◌, ◌*◌, List, [], ◌++◌, length, take, drop, Option, refl, sym, ap, ◌∙◌, append_assoc, take-add, take-append-drop, length-append, arith}
+use Rattle.std.proofs.Common.{◌≡◌, ℕ, ◌+◌, ◌*◌, List, [], ◌++◌, length, take, drop, Option, refl, sym, ap, ◌∙◌, append_assoc, take-add, take-append-drop}
+use Rattle.std.proofs.Common.{length-append, arith}
 use Rattle.std.specs.List.{flat_map}
 use Rattle.std.specs.Int.{to_le_bytes, w64}
 use Rattle.std.proofs.lemmas.List.{take-take}
@@ -54,10 +55,6 @@ length_header v name tier size e =
     let ls : length s ≡ 8 = refl in
     omega (arith, e, lm, lt, ls, length-append (magic v) name, length-append (magic v ++ name) t, length-append (magic v ++ name ++ t) s)
 
-pub length_body : (v : Version) (name : List ℕ) (tier : ℕ) (records : List (Option Solved)) → length name ≡ 16 → length (body v name tier records) ≡ 40 + width v * length records
-length_body v name tier records e =
-    omega (arith, length_header v name tier (length records) e, length_records v records, length-append (header v name tier (length records)) (flat_map (record_bytes v) records))
-
 -- the parts of a text
 pub record TextParts (v : Version) (r : Rules) (tier : ℕ) (records : List (Option Solved)) (bytes : List ℕ) : Type 0 where
   pub header : HasHeader v r tier bytes
@@ -65,7 +62,8 @@ pub record TextParts (v : Version) (r : Rules) (tier : ℕ) (records : List (Opt
   pub inner : AreRecords v (r.tier_size tier) records (records_part v (r.tier_size tier) bytes)
   pub digest : drop (body_len v (r.tier_size tier)) bytes ≡ sha256 (take (body_len v (r.tier_size tier)) bytes)
 
-pub parts_of_text : (v : Version) (r : Rules) → length r.name ≡ NAME → (tier : ℕ) (records : List (Option Solved)) (bytes : List ℕ) → IsVersionText v r tier records bytes → TextParts v r tier records bytes
+pub parts_of_text : (v : Version) (r : Rules) → length r.name ≡ NAME → (tier : ℕ) (records : List (Option Solved)) (bytes : List ℕ)
+    → IsVersionText v r tier records bytes → TextParts v r tier records bytes
 unfolding version_text
 parts_of_text v r named tier records bytes is =
     let size = r.tier_size tier in
@@ -78,16 +76,23 @@ parts_of_text v r named tier records bytes is =
     let lh : length (header v name tier size) ≡ 40 = length_header v name tier size ln in
     let text : bytes ≡ (header v name tier size ++ f) ++ d =
     is.text ∙ ap (λ n. (header v name tier n ++ f) ++ d) is.whole in
-    let lb : length (header v name tier size ++ f) ≡ 40 + width v * size = omega (arith, ap (λ n. width v * n) is.whole, lh, length_records v records, length-append (header v name tier size) f) in
-    let front : take (40 + width v * size) bytes ≡ header v name tier size ++ f = ap (take (40 + width v * size)) text ∙ before (40 + width v * size) (header v name tier size ++ f) d lb in
+    let lb : length (header v name tier size ++ f) ≡ 40 + width v * size =
+    omega (arith, ap (λ n. width v * n) is.whole, lh, length_records v records, length-append (header v name tier size) f) in
+    let front : take (40 + width v * size) bytes ≡ header v name tier size ++ f =
+    ap (take (40 + width v * size)) text ∙ before (40 + width v * size) (header v name tier size ++ f) d lb in
     let at_name : bytes ≡ magic v ++ (name ++ (t ++ (s ++ (f ++ d)))) = text ∙ after_one (magic v) name t s f d in
     let at_tier : bytes ≡ (magic v ++ name) ++ (t ++ (s ++ (f ++ d))) = text ∙ after_two (magic v) name t s f d in
     let at_size : bytes ≡ (magic v ++ name ++ t) ++ (s ++ (f ++ d)) = text ∙ after_three (magic v) name t s f d in
     let is_magic : take 8 bytes ≡ magic v = ap (take 8) at_name ∙ between 0 8 [] (magic v) (name ++ (t ++ (s ++ (f ++ d)))) refl (length_magic v) in
-    let is_name : take 16 (drop 8 bytes) ≡ name = ap (λ l. take 16 (drop 8 l)) at_name ∙ between 8 16 (magic v) name (t ++ (s ++ (f ++ d))) (length_magic v) ln in
-    let is_tier : take 8 (drop 24 bytes) ≡ t = ap (λ l. take 8 (drop 24 l)) at_tier ∙ between 24 8 (magic v ++ name) t (s ++ (f ++ d)) (omega (arith, ln, length_magic v, length-append (magic v) name)) refl in
-    let is_size : take 8 (drop 32 bytes) ≡ s = ap (λ l. take 8 (drop 32 l)) at_size ∙ between 32 8 (magic v ++ name ++ t) s (f ++ d) (omega (arith, ln, length_magic v, length-append (magic v) name, length-append (magic v ++ name) t)) refl in
-    let len : length bytes ≡ 72 + width v * size = omega (arith, ap length text, lb, length-sha256 (body v name tier records), length-append (header v name tier size ++ f) d) in
+    let is_name : take 16 (drop 8 bytes) ≡ name =
+    ap (λ l. take 16 (drop 8 l)) at_name ∙ between 8 16 (magic v) name (t ++ (s ++ (f ++ d))) (length_magic v) ln in
+    let is_tier : take 8 (drop 24 bytes) ≡ t = ap (λ l. take 8 (drop 24 l)) at_tier
+    ∙ between 24 8 (magic v ++ name) t (s ++ (f ++ d)) (omega (arith, ln, length_magic v, length-append (magic v) name)) refl in
+    let is_size : take 8 (drop 32 bytes) ≡ s = ap (λ l. take 8 (drop 32 l)) at_size
+    ∙ between 32 8 (magic v ++ name ++ t) s (f ++ d) (omega (arith, ln, length_magic v, length-append (magic v) name, length-append (magic v ++ name) t))
+    refl in
+    let len : length bytes ≡ 72 + width v * size =
+    omega (arith, ap length text, lb, length-sha256 (body v name tier records), length-append (header v name tier size ++ f) d) in
     record {
       header = ((((omega arith, is_magic), is_name), is_tier), is_size);
       len = len;
@@ -108,7 +113,8 @@ head_of v r tier bytes h =
     let e3 : take 24 bytes ≡ take 8 bytes ++ take 16 (drop 8 bytes) = take-add 8 16 bytes in
     e1 ∙ rw (e2, e3, h.0.0.0.1, h.0.0.1, h.0.1, h.1) refl
 
-pub text_of_parts : (v : Version) (r : Rules) (tier : ℕ) (bytes : List ℕ) (records : List (Option Solved)) → HasHeader v r tier bytes → AreRecords v (r.tier_size tier) records (records_part v (r.tier_size tier) bytes)
+pub text_of_parts : (v : Version) (r : Rules) (tier : ℕ) (bytes : List ℕ) (records : List (Option Solved)) → HasHeader v r tier bytes
+    → AreRecords v (r.tier_size tier) records (records_part v (r.tier_size tier) bytes)
     → drop (body_len v (r.tier_size tier)) bytes ≡ sha256 (take (body_len v (r.tier_size tier)) bytes) → IsVersionText v r tier records bytes
 unfolding version_text
 text_of_parts v r tier bytes records h are d =
@@ -118,7 +124,8 @@ text_of_parts v r tier bytes records h are d =
     record { whole = are.whole; storable = are.storable; text = sym (take-append-drop n bytes) ∙ rw (d, front) refl }
 
 -- no bytes are the text of two lists of records
-pub same_text : (v : Version) (r : Rules) → length r.name ≡ NAME → (tier : ℕ) (records others : List (Option Solved)) (bytes : List ℕ) → IsVersionText v r tier records bytes → IsVersionText v r tier others bytes → records ≡ others
+pub same_text : (v : Version) (r : Rules) → length r.name ≡ NAME → (tier : ℕ) (records others : List (Option Solved)) (bytes : List ℕ)
+    → IsVersionText v r tier records bytes → IsVersionText v r tier others bytes → records ≡ others
 same_text v r named tier records others bytes is also =
     let p = (parts_of_text v r named tier records bytes is).inner in
     let q = (parts_of_text v r named tier others bytes also).inner in

@@ -6,7 +6,8 @@ use Rattle.sha2.specs.Sha256.{sha256}
 use Rattle.gm_game.specs.declared.position.Solved.{Solved}
 use Rattle.gm_game.specs.Rules.{Rules}
 use Rattle.gm_tierdb.specs.declared.file_error.FileError.{FileError}
-use Rattle.gm_tierdb.specs.declared.file_error.FileError.TheVariants.{OutOfMemory, Truncated, BadMagic, WrongGame, WrongTier, WrongSize, BadRecord, Trailing, BadDigest, OldVersion}
+use Rattle.gm_tierdb.specs.declared.file_error.FileError.TheVariants.{OutOfMemory, Truncated, BadMagic, WrongGame, WrongTier, WrongSize, BadRecord, Trailing}
+use Rattle.gm_tierdb.specs.declared.file_error.FileError.TheVariants.{BadDigest, OldVersion}
 use Rattle.gm_record.specs.declared.version.Version.{Version}
 use Rattle.gm_record.specs.declared.version.Version.TheVariants.{One, Two}
 use Rattle.gm_record.specs.Numbers.{width, record_bytes, IsStorable}

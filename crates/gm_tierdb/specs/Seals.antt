@@ -6,7 +6,8 @@ use Rattle.gm_game.specs.Rules.{Rules}
 use Rattle.gm_record.specs.declared.version.Version.{Version}
 use Rattle.gm_record.specs.declared.version.Version.TheVariants.{Two}
 use Rattle.gm_tierdb.specs.declared.file_error.FileError.{FileError}
-use Rattle.gm_tierdb.specs.declared.file_error.FileError.TheVariants.{OutOfMemory, Truncated, BadMagic, WrongGame, WrongTier, WrongSize, BadRecord, Trailing, BadDigest, OldVersion}
+use Rattle.gm_tierdb.specs.declared.file_error.FileError.TheVariants.{OutOfMemory, Truncated, BadMagic, WrongGame, WrongTier, WrongSize, BadRecord, Trailing}
+use Rattle.gm_tierdb.specs.declared.file_error.FileError.TheVariants.{BadDigest, OldVersion}
 use Rattle.gm_tierdb.specs.TierText.{IsTierText}
 use Rattle.gm_tierdb.specs.Refusals.{HasHeader, HasRecords, RefusesIn, Refuses, records_part, file_len}
 

@@ -21,8 +21,8 @@ use std::alloc::Global;
 use std::thread::Threads;
 
 /// The records of a tier, from its file: docs/FORMATS.md, "Tier file". Any bytes may be given. All is tested but the digest, which `is_sealed` tests, so that
-/// another thread may do so; the records of a large file are read by four threads. `OutOfMemory` is the last reason: it is told only of bytes that are those of a
-/// file. Takes memory as the records do.
+/// another thread may do so; the records of a large file are read by four threads. `OutOfMemory` is the last reason: it is told only of bytes that are those
+/// of a file. Takes memory as the records do.
 ///
 /// Only the checker of gm_table tells whether the records are the true ones. A file of version 1 is refused as `OldVersion`; `decode_v1` reads it.
 pub fn decode_unsealed<G: Game, R: Threads + Sync>(
@@ -181,7 +181,7 @@ fn parts_of<G: Game>(version: Version, tier: u64, bytes: &[u8]) -> Result<Parts,
     })
 }
 
-// Tests all that stands before the records.
+// Checks the header.
 fn check_header<G: Game>(
     version: Version,
     tier: u64,

@@ -9,8 +9,8 @@ use crate::store_error::StoreError;
 use std::alloc::Global;
 use std::fs::Files;
 
-/// A store round another one, which fails on purpose: its reads and writes are numbered from 1, and those from `from` to `to` answer `Failed` without reaching the
-/// inner store. The map is the inner store's, and the count of failures is the sum of both.
+/// A store round another one, which fails on purpose: its reads and writes are numbered from 1, and those from `from` to `to` answer `Failed` without reaching
+/// the inner store. The map is the inner store's, and the count of failures is the sum of both.
 #[derive(Drop)]
 pub struct Flaky<S: Store> {
     inner: S,
@@ -47,7 +47,7 @@ impl<S: Store> Flaky<S> {
         self.inner
     }
 
-    // Counts a call, and tells whether it is to fail. The number stays at its greatest.
+    // Counts a call (saturating) and returns whether it fails.
     fn fails_next(&mut self) -> bool
         ensures answer { IsTrue result ↔ FailsNext self.old.from self.old.to self.old.calls }
         ensures calls { self.new.calls ≡ next_call self.old.calls }

@@ -1,4 +1,4 @@
-//! Whose the text of a tier is.
+//! Which game a tier file belongs to.
 ghost use Rattle.std.specs.Prelude.{◌≡◌, ◌↔◌, ◌≤◌, ℕ, List, IsTrue, length, take};
 ghost use Rattle.gm_tierdb.specs.Owners.{IsIntact, IsAnothers, owner_of};
 

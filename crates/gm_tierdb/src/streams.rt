@@ -8,7 +8,7 @@ use crate::store_error::StoreError;
 use std::alloc::Global;
 use std::io::{Read, Write};
 
-/// The most bytes that are read of a text: one more than the longest file of a tier has.
+/// The read limit in bytes: one more than the longest tier file has.
 pub const READ_LEN: usize = FILE_LEN + 1;
 
 /// How many bytes are read at a time.

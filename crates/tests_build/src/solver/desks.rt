@@ -1,15 +1,15 @@
 //! A board of four shards, as callers with workers of their own use it.
 ghost use Rattle.std.specs.Prelude.{◌≡◌, ◌<◌};
-ghost use Rattle.gm_desk.specs.Spots.{spot_of, AreFourTiles};
+ghost use Rattle.gm_locks.specs.Spots.{spot_of, AreFourTiles};
 ghost use Rattle.gm_deliveries.specs.Delivery.{IsPlaceOf};
 
 use crate::expect::expect_eq;
 use gm_deliveries::place::place_of;
 use gm_deliveries::status::{Delivery, Refused};
-use gm_desk::board::{Board, Four, Shares};
-use gm_desk::share::{Desk, gained};
 use gm_frontier::note::Note;
 use gm_game::game::Game;
+use gm_locks::board::{Board, Four, Shares};
+use gm_locks::share::{ShardLedger, gained};
 use gm_shard::shard::Shard;
 use std::marker::Brand;
 use std::process::Abort;
@@ -29,7 +29,8 @@ pub enum Call {
 pub enum Deed {
     /// It is delivered to a shard, which answers so.
     Once(Result<Delivery, Refused>),
-    /// It is delivered by a call while another thread holds the lock of shard 0, reads this counter of an index, and waits for the answer: so many pairs are new.
+    /// It is delivered by a call while another thread holds the lock of shard 0, reads this counter of an index, and waits for the answer: so many
+    /// pairs are new.
     Meanwhile(Call, u64, Option<u32>, u64),
 }
 
@@ -57,7 +58,7 @@ fn counter_of<G: Game>(shard: &Shard<G>, index: u64) -> Option<u32> {
 }
 
 // Holds the lock of shard 0: reads a counter, marks that it has, and waits until the other thread has its answer: the counter, and whether the answer came.
-fn hold<G: Game, A: Desk, B: Desk, C: Desk, D: Desk, R: Wait>(
+fn hold<G: Game, A: ShardLedger, B: ShardLedger, C: ShardLedger, D: ShardLedger, R: Wait>(
     rt: &R,
     board: &Board<G, A, B, C, D>,
     read: &Mutex<bool>,
@@ -76,7 +77,7 @@ fn hold<G: Game, A: Desk, B: Desk, C: Desk, D: Desk, R: Wait>(
 type Pair<'a, G> = (&'a Note<G>, u64, Option<u32>);
 
 // Delivers a pair to a shard by a call: how many are new.
-fn deliver_by<G: Game, A: Desk, B: Desk, C: Desk, D: Desk, R: Wait>(
+fn deliver_by<G: Game, A: ShardLedger, B: ShardLedger, C: ShardLedger, D: ShardLedger, R: Wait>(
     rt: &R,
     board: &Board<G, A, B, C, D>,
     shares: &mut Shares<A, B, C, D>,
@@ -95,7 +96,14 @@ fn deliver_by<G: Game, A: Desk, B: Desk, C: Desk, D: Desk, R: Wait>(
 }
 
 // Waits until the other thread has read its counter, delivers to a shard, and marks that it has the answer.
-fn deliver_meanwhile<G: Game, A: Desk, B: Desk, C: Desk, D: Desk, R: Wait>(
+fn deliver_meanwhile<
+    G: Game,
+    A: ShardLedger,
+    B: ShardLedger,
+    C: ShardLedger,
+    D: ShardLedger,
+    R: Wait,
+>(
     rt: &R,
     board: &Board<G, A, B, C, D>,
     shares: &mut Shares<A, B, C, D>,
@@ -116,10 +124,10 @@ fn deliver_meanwhile<G: Game, A: Desk, B: Desk, C: Desk, D: Desk, R: Wait>(
 // Runs both, each in a thread of its own, and waits for them.
 fn run_both<
     G: Game + Send + Sync,
-    A: Desk + Send + Sync,
-    B: Desk + Send + Sync,
-    C: Desk + Send + Sync,
-    D: Desk + Send + Sync,
+    A: ShardLedger + Send + Sync,
+    B: ShardLedger + Send + Sync,
+    C: ShardLedger + Send + Sync,
+    D: ShardLedger + Send + Sync,
     R: Threads + Wait + Sync,
 >(
     rt: &R,
@@ -145,10 +153,10 @@ fn run_both<
 // Takes these steps, each with the same pair.
 fn take_steps<
     G: Game + Send + Sync,
-    A: Desk + Send + Sync,
-    B: Desk + Send + Sync,
-    C: Desk + Send + Sync,
-    D: Desk + Send + Sync,
+    A: ShardLedger + Send + Sync,
+    B: ShardLedger + Send + Sync,
+    C: ShardLedger + Send + Sync,
+    D: ShardLedger + Send + Sync,
     R: Threads + Wait + Sync + Abort,
 >(
     rt: &R,
@@ -178,10 +186,10 @@ fn take_steps<
 // The same on a board of these names, whose first two shards then have so many pairs.
 fn named<
     G: Game + Send + Sync,
-    A: Desk + Send + Sync,
-    B: Desk + Send + Sync,
-    C: Desk + Send + Sync,
-    D: Desk + Send + Sync,
+    A: ShardLedger + Send + Sync,
+    B: ShardLedger + Send + Sync,
+    C: ShardLedger + Send + Sync,
+    D: ShardLedger + Send + Sync,
     R: Threads + Wait + Sync + Abort,
 >(
     rt: &R,

@@ -2,16 +2,16 @@
 ghost use Rattle.std.specs.Prelude.{◌≡◌, ◌-◌, ◌<◌, ◌≤◌, IfOk};
 ghost use Rattle.gm_deliveries.specs.State.{pairs_in};
 ghost use Rattle.gm_deliveries.specs.Begin.{first_state};
-ghost use Rattle.gm_desk.specs.Spots.{spot_of};
-ghost use Rattle.gm_desk.specs.Rounds.{place_of_spot, HasNoneHere, IsForSpot, IsLevelAt};
+ghost use Rattle.gm_locks.specs.Spots.{spot_of};
+ghost use Rattle.gm_locks.specs.Rounds.{place_of_spot, HasNoneHere, IsForSpot, IsLevelAt};
 
 use crate::expect::{expect, expect_eq, must};
 use gm_deliveries::status::{Delivery, Refused};
-use gm_desk::pass::{Pass, PassDesk, Round};
 use gm_frontier::expected::Expected;
 use gm_frontier::level::Level;
 use gm_game::game::Game;
 use gm_game::limits::{REMOTENESS, TIER_SIZE};
+use gm_locks::pass::{Pass, PassDesk, PassLedger};
 use gm_shard::ordered::OrderedShard;
 use gm_solver::starts::starts;
 use gm_table::tables::Tables;
@@ -27,7 +27,7 @@ use std::sync::ledger::Blank;
 type Told = (Result<Delivery, Refused>, u64, bool);
 
 // Delivers the level's pairs into the desk's range, each as the pass's next one: whether these are the answers, and there are no more pairs.
-fn answers<G: Game, L: Round, R: Wait>(
+fn answers<G: Game, L: PassLedger, R: Wait>(
     rt: &R,
     desk: &PassDesk<G, L>,
     level: &Level<G>,
@@ -51,7 +51,7 @@ fn answers<G: Game, L: Round, R: Wait>(
 }
 
 // At a desk of this name round a shard, whose pass is full at once where nothing is to be told, and at the end. Then the shard has so many pairs, and closes.
-fn pass_named<G: Game, L: Round, R: Wait + Abort>(
+fn pass_named<G: Game, L: PassLedger, R: Wait + Abort>(
     rt: &R,
     blank: Blank,
     shard: OrderedShard<G>,

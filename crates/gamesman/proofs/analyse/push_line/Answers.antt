@@ -17,4 +17,5 @@ returns-in_ok-line-in-Some g c =
     let held : Some table ≡ table_of c.args.tables.now c.args.tier = c.in-Some.ensures.value in
     let of_tier = (c.in-Some.ensures.tables c.args.tier table (sym held)).0 in
     let is : IsAnalysisLine r table.tier text = subst (IsAnalysisLine r table.tier) (sym c.as_bytes.ensures.value) c.in_ok-line-in-Some.ensures in
-    on_ok_weaker c.extend_from_slice.result (λ items. (text, subst (λ (t : ℕ). IsAnalysisLine r t text) of_tier is, items)) (taken c.extend_from_slice.result _ _ _ c.extend_from_slice.ensures.items)
+    on_ok_weaker c.extend_from_slice.result (λ items. (text, subst (λ (t : ℕ). IsAnalysisLine r t text) of_tier is, items))
+    (taken c.extend_from_slice.result _ _ _ c.extend_from_slice.ensures.items)

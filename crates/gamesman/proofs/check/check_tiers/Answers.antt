@@ -24,7 +24,8 @@ loop-tier-preserved g c =
     let new = g.O.Write.contents c.check_tier.new.output in
     let e = c.in_ok-finding.ensures in
     subst (λ (ts : List ℕ). IsToldTo r ts start new c.check_tier.new.tables c.status-status.result) (sym (take_more tiers k 0 c.loop-tier-test.true))
-    (rw c.status-status.ensures (told_next r c.loop-tier.tables (take k tiers) (get_or tiers k 0) c.loop-tier.status start old new c.check_tier.ensures.tables c.loop-tier.invariant
+    (rw c.status-status.ensures (told_next r c.loop-tier.tables (take k tiers) (get_or tiers k 0) c.loop-tier.status start old new
+    c.check_tier.ensures.tables c.loop-tier.invariant
     c.check_tier.new.tables c.in_ok-finding.finding e.found e.told e.held))
 
 pub returns-in_err-finding : goal.returns-in_err-finding
@@ -36,7 +37,8 @@ returns-in_err-finding g c =
     let old = g.O.Write.contents c.loop-tier.output in
     let new = g.O.Write.contents c.check_tier.new.output in
     let q = err_from_is_err_and c.from_residual.result c.from_residual.ensures.1 in
-    rw (q.1, q.2) (cut_at r c.loop-tier.tables (take k tiers) (get_or tiers k 0) c.loop-tier.status start old new c.check_tier.ensures.tables c.loop-tier.invariant tiers (drop (suc k) tiers)
+    rw (q.1, q.2) (cut_at r c.loop-tier.tables (take k tiers) (get_or tiers k 0) c.loop-tier.status start old new c.check_tier.ensures.tables
+    c.loop-tier.invariant tiers (drop (suc k) tiers)
     c.in_err-finding.field-0.0 (split_at tiers k c.loop-tier-test.true) c.in_err-finding.ensures.cut)
 
 pub returns : goal.returns
@@ -46,4 +48,5 @@ returns g c =
     let start = g.O.Write.contents c.args.output.now in
     let end = g.O.Write.contents c.loop-tier.output in
     told_all r tiers start end c.loop-tier.tables c.loop-tier.status
-    (subst (λ (ts : List ℕ). IsToldTo r ts start end c.loop-tier.tables c.loop-tier.status) (take_all c.loop-tier.tier-index tiers c.loop-tier-test.false) c.loop-tier.invariant)
+    (subst (λ (ts : List ℕ). IsToldTo r ts start end c.loop-tier.tables c.loop-tier.status) (take_all c.loop-tier.tier-index tiers c.loop-tier-test.false)
+    c.loop-tier.invariant)

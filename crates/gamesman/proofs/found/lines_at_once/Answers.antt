@@ -4,14 +4,7 @@ use Rattle.gm_find.specs.declared.found.Found.{Found}
 use Rattle.gm_find.specs.Founds.{IsFound, AreChosen}
 use Rattle.gamesman.specs.Games.{game_spec}
 use Rattle.gamesman.specs.Finds.{IsTextOf}
-use Rattle.gamesman.proofs.Finds.{search_at_hand}
-use Rattle.gamesman.proofs.Telling.{find_passed}
 use Rattle.gamesman.proofs.found.lines_at_once.Goals as goal
-
-pub returns-in_err-found-clause-fault : goal.returns-in_err-found-clause-fault
-returns-in_err-found-clause-fault g c =
-    find_passed c.from_residual.result c.find_some.result c.in_err-found.field-0.0 c.in_err-found.was
-    (λ e. search_at_hand g.G.Game.rules c.laws.ensures c.args.tables.now c.args.tiers.now c.requires.held c.args.asked.sought (c.find_some.ensures.missing e)) c.from_residual.ensures.1
 
 pub lines_of-requires-clause-found : goal.lines_of-requires-clause-found
 lines_of-requires-clause-found g c = subst (All (IsFound g.G.Game.rules)) (sym c.as_slice.ensures.value) c.in_ok-found.ensures.each
@@ -19,9 +12,10 @@ lines_of-requires-clause-found g c = subst (All (IsFound g.G.Game.rules)) (sym c
 pub returns-clause-text : goal.returns-clause-text
 returns-clause-text g c =
     let asked = c.args.asked in
-    let spec = game_spec g.G.Game.rules g.G.Shown.shown g.G.Shown.move_shown g.G.Drawn.drawn g.G.Drawn.mover g.G.Drawn.naming g.G.Pictured.style g.G.Pictured.title g.G.Pictured.board g.G.Pictured.points in
+    let spec = game_spec g.G.Game.rules g.G.Shown.shown g.G.Shown.move_shown g.G.Drawn.drawn g.G.Drawn.mover g.G.Drawn.naming g.G.Pictured.style
+    g.G.Pictured.title g.G.Pictured.board g.G.Pictured.points in
     let xs = c.in_ok-found.found.items in (
       xs,
-      subst (λ (b : Bool). AreChosen g.G.Game.rules asked.sought b asked.choice c.args.tiers.now xs) c.requires.reached c.in_ok-found.ensures.chosen,
+      subst (λ (b : Bool). AreChosen g.G.Game.rules asked.sought b asked.choice c.args.known.now.tiers.now xs) c.requires.reached c.in_ok-found.ensures.chosen,
       subst (λ (ys : List Found). IsTextOf spec asked.form ys c.in_ok-lines.lines.items) c.as_slice.ensures.value c.in_ok-lines.ensures,
     )

@@ -10,16 +10,19 @@ use Rattle.gamesman.proofs.found.write_among.Goals as goal
 pub write_in-requires-clause-tiers : goal.write_in-requires-clause-tiers
 write_in-requires-clause-tiers g c = subst (λ (o : Option ℕ). AreTiersFor g.G.Game.rules o (c.in-Some.tier ∷ [])) (sym c.in-Some.is) refl
 
-pub write_in-requires-clause-held : goal.write_in-requires-clause-held
-write_in-requires-clause-held g c =
+pub invariant_of-known : goal.invariant_of-known
+invariant_of-known g c =
     let r = g.G.Game.rules in
     let built = c.args.built.now in
     let tier = c.in-Some.tier in
     let order = subst (λ (o : Option ℕ). IsOrderFrom r (first_of r o) built.order) c.in-Some.is c.requires.order in
-    held_one r built.tables tier (reached_held r built.tables built.order tier order c.requires.held)
+    record { held = held_one r built.tables tier (reached_held r built.tables built.order tier order c.requires.held) }
 
-pub write_in-requires-in-None-clause-held : goal.write_in-requires-in-None-clause-held
-write_in-requires-in-None-clause-held g c tier has =
+pub invariant_of-known-in-None : goal.invariant_of-known-in-None
+invariant_of-known-in-None g c =
     let r = g.G.Game.rules in
     let built = c.args.built.now in
-    order_held r built.tables built.order (first_of r c.args.asked.tier) c.requires.order c.requires.held tier (subst (λ (ts : List ℕ). Contains ts tier) c.tiers.ensures.value has)
+    record {
+      held = λ tier has. order_held r built.tables built.order (first_of r c.args.asked.tier) c.requires.order c.requires.held tier
+          (subst (λ (ts : List ℕ). Contains ts tier) c.tiers.ensures.value has);
+    }

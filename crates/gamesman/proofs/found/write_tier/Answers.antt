@@ -11,7 +11,8 @@ use Rattle.gamesman.proofs.found.write_tier.Goals as goal
 
 pub returns-in_err-found : goal.returns-in_err-found
 returns-in_err-found g c =
-    let spec = game_spec g.G.Game.rules g.G.Shown.shown g.G.Shown.move_shown g.G.Drawn.drawn g.G.Drawn.mover g.G.Drawn.naming g.G.Pictured.style g.G.Pictured.title g.G.Pictured.board g.G.Pictured.points in
+    let spec = game_spec g.G.Game.rules g.G.Shown.shown g.G.Shown.move_shown g.G.Drawn.drawn g.G.Drawn.mover g.G.Drawn.naming g.G.Pictured.style
+    g.G.Pictured.title g.G.Pictured.board g.G.Pictured.points in
     let q = err_from_is_err_and c.from_residual.result c.from_residual.ensures.1 in
     let is = c.in_err-found.ensures.fault in
     rw (q.1, q.2) (record { told = memory_cut (IsFoundAt spec c.args.asked c.args.tier c.args.left) _ c.in_err-found.field-0.0 is; fault = inr is })
@@ -26,24 +27,32 @@ returns-in_err-lines g c =
 
 pub returns-in_err-put : goal.returns-in_err-put
 returns-in_err-put g c =
-    let spec = game_spec g.G.Game.rules g.G.Shown.shown g.G.Shown.move_shown g.G.Drawn.drawn g.G.Drawn.mover g.G.Drawn.naming g.G.Pictured.style g.G.Pictured.title g.G.Pictured.board g.G.Pictured.points in
+    let spec = game_spec g.G.Game.rules g.G.Shown.shown g.G.Shown.move_shown g.G.Drawn.drawn g.G.Drawn.mover g.G.Drawn.naming g.G.Pictured.style
+    g.G.Pictured.title g.G.Pictured.board g.G.Pictured.points in
     let asked = c.args.asked in
     let q = err_from_is_err_and c.from_residual-in_err-put.result c.from_residual-in_err-put.ensures.1 in
     let is = subst (λ (ys : List Found). IsTextOf spec asked.form ys c.in_ok-lines.lines.items) c.as_slice.ensures.value c.in_ok-lines.ensures in
     let out : IsFoundAt spec asked c.args.tier c.args.left c.in_ok-lines.lines.items = (c.in_ok-found.found.items, c.in_ok-found.ensures.found, is) in
     let here = subst (IsFoundAt spec asked c.args.tier c.args.left) (sym c.as_slice-2.ensures.value) out in
     rw (q.1, q.2) (record {
-      told = cut_off (IsFoundAt spec asked c.args.tier c.args.left) _ _ c.in_err-put.field-0.0 c.as_slice-2.result.now c.in_err-put.ensures.fault here c.in_err-put.ensures.err;
+      told = cut_off (IsFoundAt spec asked c.args.tier c.args.left) _ _ c.in_err-put.field-0.0 c.as_slice-2.result.now c.in_err-put.ensures.fault here
+          c.in_err-put.ensures.err;
       fault = inl c.in_err-put.ensures.fault;
     })
 
 pub returns : goal.returns
 returns g c =
-    let spec = game_spec g.G.Game.rules g.G.Shown.shown g.G.Shown.move_shown g.G.Drawn.drawn g.G.Drawn.mover g.G.Drawn.naming g.G.Pictured.style g.G.Pictured.title g.G.Pictured.board g.G.Pictured.points in
+    let spec = game_spec g.G.Game.rules g.G.Shown.shown g.G.Shown.move_shown g.G.Drawn.drawn g.G.Drawn.mover g.G.Drawn.naming g.G.Pictured.style
+    g.G.Pictured.title g.G.Pictured.board g.G.Pictured.points in
     let asked = c.args.asked in
     let is = subst (λ (ys : List Found). IsTextOf spec asked.form ys c.in_ok-lines.lines.items) c.as_slice.ensures.value c.in_ok-lines.ensures in
     let here = subst (IsTextOf spec asked.form c.in_ok-found.found.items) (sym c.as_slice-2.ensures.value) is in
     record {
-      told = (c.in_ok-found.found.items, c.in_ok-found.ensures.found, c.len.ensures ∙ c.in_ok-found.found.ok.0, (c.as_slice-2.result.now, here, c.in_ok-put.ensures.ok));
+      told = (
+        c.in_ok-found.found.items,
+        c.in_ok-found.ensures.found,
+        c.len.ensures ∙ c.in_ok-found.found.ok.0,
+        (c.as_slice-2.result.now, here, c.in_ok-put.ensures.ok),
+      );
       fault = tt;
     }

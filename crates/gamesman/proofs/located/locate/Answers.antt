@@ -1,17 +1,38 @@
-use Rattle.std.proofs.Common.{ℕ, List, sym, subst}
+use Rattle.std.proofs.Common.{ℕ, List, refl, subst, ◌∙◌}
 use Rattle.std.proofs.lemmas.Result.{err_from_is_err_and}
+use Rattle.gm_best.specs.Places.{IsLocated}
 use Rattle.gm_play.specs.PlaceTexts.{IsPlaceText}
-use Rattle.gamesman.proofs.Cut.{unlocated_answer}
+use Rattle.gamesman.proofs.Cut.{kept, unlocated_answer}
 use Rattle.gamesman.proofs.located.locate.Goals as goal
 
-pub returns-in_err-put-in-Ok : goal.returns-in_err-put-in-Ok
-returns-in_err-put-in-Ok g c =
+pub returns-in_err-row : goal.returns-in_err-row
+returns-in_err-row g c =
+    let l = c.in-Some.located in
+    let at : IsLocated g.G.Game.rules g.G.Shown.shown c.args.position.now l = subst (λ (t : List ℕ). IsLocated g.G.Game.rules g.G.Shown.shown t l)
+    c.as_bytes.ensures.value c.in-Some.ensures.located in
+    let q = err_from_is_err_and c.from_residual.result c.from_residual.ensures.1 in
+    rw (q.1, q.2) (record { written = kept _; refused = tt; unread = λ none. absurd (none l.position at.legal at.reads) })
+
+pub returns-in_err-put : goal.returns-in_err-put
+returns-in_err-put g c =
     let r = g.G.Game.rules in
     let shown = g.G.Shown.shown in
     let text = c.args.position.now in
     let row = c.as_slice.result.now in
-    let is : IsPlaceText r shown text row =
-    subst (IsPlaceText r shown text) (sym c.as_slice.ensures.value) (subst (λ (t : List ℕ). IsPlaceText r shown t c.in-Ok.row.items) c.as_bytes.ensures.value c.in-Ok.ensures.text) in
-    let e = c.in_err-put-in-Ok in
-    let p = err_from_is_err_and c.from_residual.result c.from_residual.ensures.1 in
-    rw (p.1, p.2) (unlocated_answer r shown text e.field-0.0 _ _ row e.ensures.fault is e.ensures.err)
+    let l = c.in-Some.located in
+    let at : IsLocated r shown text l = subst (λ (t : List ℕ). IsLocated r shown t l) c.as_bytes.ensures.value c.in-Some.ensures.located in
+    let is : IsPlaceText r shown text row = (l, at, c.as_slice.ensures.value ∙ c.in_ok-row.ensures) in
+    let e = c.in_err-put in
+    let q = err_from_is_err_and c.from_residual-in_err-put.result c.from_residual-in_err-put.ensures.1 in
+    rw (q.1, q.2) (unlocated_answer r shown text e.field-0.0 _ _ row e.ensures.fault is e.ensures.err)
+
+pub returns : goal.returns
+returns g c =
+    let r = g.G.Game.rules in
+    let shown = g.G.Shown.shown in
+    let text = c.args.position.now in
+    let row = c.as_slice.result.now in
+    let l = c.in-Some.located in
+    let at : IsLocated r shown text l = subst (λ (t : List ℕ). IsLocated r shown t l) c.as_bytes.ensures.value c.in-Some.ensures.located in
+    let is : IsPlaceText r shown text row = (l, at, c.as_slice.ensures.value ∙ c.in_ok-row.ensures) in
+    record { written = (refl, (row, is, c.in_ok-put.ensures.ok)); refused = tt; unread = λ none. absurd (none l.position at.legal at.reads) }

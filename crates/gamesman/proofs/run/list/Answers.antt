@@ -7,7 +7,11 @@ use Rattle.gamesman.proofs.run.list.Goals as goal
 pub returns-in_err-put : goal.returns-in_err-put
 returns-in_err-put g c =
     let q = err_from_is_err_and c.from_residual.result c.from_residual.ensures.1 in
-    rw (q.1, q.2) (c.in_err-put.ensures.fault, part_listed c.args.all (g.O.Write.contents c.args.output.now) (g.O.Write.contents c.put.new.output) c.in_err-put.ensures.err)
+    rw (q.1, q.2) (
+      c.in_err-put.ensures.fault,
+      part_listed c.args.all (g.O.Write.contents c.args.output.now) (g.O.Write.contents c.put.new.output)
+          c.in_err-put.ensures.err,
+    )
 
 pub returns-then-all : goal.returns-then-all
 returns-then-all g c =

@@ -8,3 +8,6 @@ write_longest-requires-clause-order g c = rw c.in-Longest.is at c.requires.order
 
 pub write_found-requires-clause-order : goal.write_found-requires-clause-order
 write_found-requires-clause-order g c = rw c.in-Find.is at c.requires.order
+
+pub serve-requires-clause-order : goal.serve-requires-clause-order
+serve-requires-clause-order g c = rw c.in-Ask.is at c.requires.order

@@ -1,9 +1,13 @@
-use Rattle.std.proofs.Common.{sym, subst}
-use Rattle.gm_find.specs.Finding.{AreTiersHeld}
-use Rattle.gamesman.proofs.Telling.{find_passed}
+use Rattle.std.proofs.Common.{List, ℕ, subst}
+use Rattle.std.specs.List.{Contains}
+use Rattle.gamesman.proofs.Reached.{order_held}
 use Rattle.gamesman.proofs.search.longest.Goals as goal
 
-pub returns-in_err-text-clause-fault : goal.returns-in_err-text-clause-fault
-returns-in_err-text-clause-fault g c =
-    let held = subst (AreTiersHeld g.G.Game.rules c.args.built.now.tables) (sym c.tiers.ensures.value) c.requires in
-    find_passed c.from_residual-in_err-text.result c.longest_text-text.result c.in_err-text.field-0.0 c.in_err-text.was (λ e. c.longest_text-text.ensures.not_held.0 e held) c.from_residual-in_err-text.ensures.1
+pub invariant_of-known : goal.invariant_of-known
+invariant_of-known g c =
+    let r = g.G.Game.rules in
+    let built = c.args.built.now in
+    record {
+      held = λ tier has. order_held r built.tables built.order r.initial.tier c.requires.order c.requires.held tier
+          (subst (λ (ts : List ℕ). Contains ts tier) c.tiers.ensures.value has);
+    }

@@ -2,11 +2,8 @@ use Rattle.std.proofs.Common.{None, inr, sym, subst}
 use Rattle.std.proofs.lemmas.Result.{err_from_is_err_and}
 use Rattle.gm_analyse.specs.Bars.{IsCountsText}
 use Rattle.gamesman.specs.Searches.{IsCountsOf, IsUnsearched}
-use Rattle.gamesman.proofs.Telling.{memory_told, memory_unbuilt, put_told, tiers_held}
+use Rattle.gamesman.proofs.Telling.{memory_told, memory_unbuilt, put_told}
 use Rattle.gamesman.proofs.search.write_counts.Goals as goal
-
-pub counted-requires : goal.counted-requires
-counted-requires g c = tiers_held g.G.Game.rules c.args.built.now.tables c.args.built.now.order g.G.Game.rules.initial.tier c.requires.order c.requires.held
 
 pub returns-in_err-text : goal.returns-in_err-text
 returns-in_err-text g c =
@@ -18,5 +15,7 @@ returns-in_err-text g c =
 pub returns : goal.returns
 returns g c =
     let r = g.G.Game.rules in
-    let is = subst (IsCountsText r c.args.asked.among c.args.asked.reached c.args.asked.by_tier c.args.asked.form c.args.built.now.order) (sym c.as_slice.ensures.value) c.in_ok-text.ensures.text in
-    put_told (IsCountsOf r c.args.asked) (IsUnsearched r None) c.as_slice.result.now _ _ c.put_all.result (c.args.built.now.order, c.requires.order, is) c.put_all.ensures
+    let is = subst (IsCountsText r c.args.asked.among c.args.asked.reached c.args.asked.by_tier c.args.asked.form c.args.built.now.order)
+    (sym c.as_slice.ensures.value) c.in_ok-text.ensures.text in
+    put_told (IsCountsOf r c.args.asked) (IsUnsearched r None) c.as_slice.result.now _ _ c.put_all.result (c.args.built.now.order, c.requires.order, is)
+    c.put_all.ensures

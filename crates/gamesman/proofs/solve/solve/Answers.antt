@@ -15,4 +15,5 @@ returns-in_err-line g c =
 pub returns : goal.returns
 returns g c =
     let r = g.G.Game.rules in
-    put_told (IsReport r) (IsUnsearched r None) c.as_slice.result.now _ _ c.put_all.result (subst (IsReport r) (sym c.as_slice.ensures.value) c.in_ok-line.ensures.report) c.put_all.ensures
+    put_told (IsReport r) (IsUnsearched r None) c.as_slice.result.now _ _ c.put_all.result
+    (subst (IsReport r) (sym c.as_slice.ensures.value) c.in_ok-line.ensures.report) c.put_all.ensures

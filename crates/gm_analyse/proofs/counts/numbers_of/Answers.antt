@@ -36,17 +36,22 @@ loop-index-preserved g c =
           let m = w.in-Some.remoteness in
           let d = w.index_mut.result.now in
           let n = inv.0 in
-          let close = within_limit g.G.Game.rules REMOTENESS (IsTrueValue g.G.Game.rules) (at t.tier i) v c.at.result m c.at.ensures.is_true w.in-Some.ensures in
+          let close = within_limit g.G.Game.rules REMOTENESS (IsTrueValue g.G.Game.rules) (at t.tier i) v c.at.result m c.at.ensures.is_true
+          w.in-Some.ensures in
           let few : vec_len w.grow.new.numbers ≤ REMOTENESS + 1 = (let f = w.in_ok-grow.ensures.few in omega arith) in
           let below : m < length xs = (let room = w.in_ok-grow.ensures.room in omega arith) in
           let value = w.index_mut.ensures.value in
           let read : d ≡ get_or xs m 0 = value ∙ get_or_default_zero xs m d below in
           let items : c.match-remoteness_in.numbers.items ≡ set xs m (d + 1) = ap (λ (x : Vec ℕ Global). x.items) w.numbers-is in
-          let long : vec_len c.match-remoteness_in.numbers ≤ REMOTENESS + 1 = (let same = ap (λ (x : Vec ℕ Global). vec_len x) w.numbers-is in omega arith) in
-          (long, numbers_with t.records v i m d xs c.match-remoteness_in.numbers.items (sym w.in-Some.is ∙ here) below (λ k. w.in_ok-grow.ensures.same k ∙ inv.1 k) read items))
+          let long : vec_len c.match-remoteness_in.numbers ≤ REMOTENESS + 1 = (let same = ap (λ (x : Vec ℕ Global). vec_len x) w.numbers-is in omega arith) in (
+            long,
+            numbers_with t.records v i m d xs c.match-remoteness_in.numbers.items (sym w.in-Some.is ∙ here) below
+                (λ k. w.in_ok-grow.ensures.same k ∙ inv.1 k) read items,
+          ))
       | in_default w ↦ (
           let none : None ≡ remoteness_in v (record_at t.records i) = w.in_default.ensures ∙ ap (remoteness_in v) c.at.ensures.value in
-          let few : vec_len c.match-remoteness_in.numbers ≤ REMOTENESS + 1 = (let same = ap (λ (x : Vec ℕ Global). vec_len x) w.numbers-is in let n = inv.0 in omega arith) in (
+          let few : vec_len c.match-remoteness_in.numbers ≤ REMOTENESS + 1 = (let same = ap (λ (x : Vec ℕ Global). vec_len x) w.numbers-is in let n = inv.0
+          in omega arith) in (
             few,
             λ n. ap (λ (x : Vec ℕ Global). get_or x.items n 0) w.numbers-is ∙ numbers_without t.records v i c.loop-index.numbers.items none inv.1 n,
           ))

@@ -8,11 +8,13 @@ use Rattle.gm_analyse.specs.Tree.{count_tree}
 use Rattle.gm_analyse.proofs.json.counts_value.Goals as goal
 
 -- the trees of some counts, and of one more
-trees_more : (counts : List Count) (i : ℕ) (d : Count) (old new : List Data) → i < length counts → old ≡ map count_tree (take i counts) → new ≡ old ++ count_tree (get_or counts i d) ∷ []
+trees_more : (counts : List Count) (i : ℕ) (d : Count) (old new : List Data) → i < length counts → old ≡ map count_tree (take i counts) → new ≡ old ++
+    count_tree (get_or counts i d) ∷ []
     → new ≡ map count_tree (take (i + 1) counts)
 trees_more counts i d old new less o n =
     let tree = count_tree (get_or counts i d) in
-    n ∙ ap (λ (ds : List Data). ds ++ tree ∷ []) o ∙ sym (map-append count_tree (take i counts) (get_or counts i d ∷ [])) ∙ ap (map count_tree) (sym (take_more counts i d less))
+    n ∙ ap (λ (ds : List Data). ds ++ tree ∷ []) o ∙ sym (map-append count_tree (take i counts) (get_or counts i d ∷ [])) ∙ ap (map count_tree)
+    (sym (take_more counts i d less))
 
 pub loop-count-preserved : goal.loop-count-preserved
 loop-count-preserved c = trees_more c.args.counts.now c.loop-count.count-index _ _ _ c.loop-count-test.true c.loop-count.invariant c.in_ok-push_count.ensures
@@ -20,4 +22,5 @@ loop-count-preserved c = trees_more c.args.counts.now c.loop-count.count-index _
 pub returns : goal.returns
 returns c =
     view-Array c.loop-count.list
-    ∙ ap (λ (ds : List Data). array (items_of ds)) (c.loop-count.invariant ∙ ap (map count_tree) (take_all c.loop-count.count-index c.args.counts.now c.loop-count-test.false))
+    ∙ ap (λ (ds : List Data). array (items_of ds)) (c.loop-count.invariant ∙ ap (map count_tree)
+    (take_all c.loop-count.count-index c.args.counts.now c.loop-count-test.false))

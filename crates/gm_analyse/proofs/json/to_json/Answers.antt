@@ -11,4 +11,5 @@ returns g c =
     let name : c.text_of.result.now ≡ name_text g.G.Game.rules.name = c.text_of.ensures ∙ ap name_text c.name-name.ensures in
     let same : view c.in_ok-tree.tree ≡ analysis_tree (name_text g.G.Game.rules.name) c.args.analysis.now =
     c.in_ok-tree.ensures ∙ ap (λ (game : List ℕ). analysis_tree game c.args.analysis.now) name in
-    IfOk-weaker c.to_string-text.result _ _ (λ s h. h (rw same (tree_no_float (name_text g.G.Game.rules.name) c.args.analysis.now)) ∙ ap compact_text same) c.to_string-text.ensures.text
+    IfOk-weaker c.to_string-text.result _ _ (λ s h. h (rw same (tree_no_float (name_text g.G.Game.rules.name) c.args.analysis.now)) ∙ ap compact_text same)
+    c.to_string-text.ensures.text

@@ -11,7 +11,8 @@ push_line-requires c = row_no_float _ _ _ c.in_ok-tree.ensures
 
 pub loop-x-preserved : goal.loop-x-preserved
 loop-x-preserved c =
-    written_more json_row [] c.args.counts.now c.loop-x.x-index _ c.loop-x.rows.items c.push_line.new.rows.items _ c.loop-x-test.true c.loop-x.invariant c.in_ok-push_line.ensures
+    written_more json_row [] c.args.counts.now c.loop-x.x-index _ c.loop-x.rows.items c.push_line.new.rows.items _ c.loop-x-test.true c.loop-x.invariant
+    c.in_ok-push_line.ensures
     (ap (λ (d : Data). compact_text d ++ codes "\n") c.in_ok-tree.ensures)
 
 pub returns : goal.returns

@@ -18,12 +18,15 @@ loop-index-preserved g c =
       c.in_ok-add_position.ensures.few,
       λ seen h. (
           let done : List Position = map f (range_with_len 0 k) in
-          let more : (seen ++ done) ++ f k ∷ [] ≡ seen ++ map f (range_with_len 0 (k + 1)) = append_assoc seen done (f k ∷ []) ∙ ap (λ (l : List Position). seen ++ l) (sym (map-range_with_len_more f 0 k k (omega arith))) in
-          subst (λ (l : List Position). AreNumbers r c.args.among reached v l new) more (c.in_ok-add_position.ensures.numbers (seen ++ done) (c.loop-index.invariant.1 seen h))),
+          let more : (seen ++ done) ++ f k ∷ [] ≡ seen ++ map f (range_with_len 0 (k + 1)) = append_assoc seen done (f k ∷ []) ∙ ap
+          (λ (l : List Position). seen ++ l) (sym (map-range_with_len_more f 0 k k (omega arith))) in
+          subst (λ (l : List Position). AreNumbers r c.args.among reached v l new) more
+          (c.in_ok-add_position.ensures.numbers (seen ++ done) (c.loop-index.invariant.1 seen h))),
     )
 
 pub returns-clause-numbers : goal.returns-clause-numbers
 returns-clause-numbers g c =
     let r = g.G.Game.rules in
     let last : c.loop-index.index ≡ r.tier_size c.args.tier = (let e = c.tier_size-size.ensures in omega arith) in
-    λ seen h. subst (λ (n : ℕ). AreNumbers r c.args.among (is_some c.args.reached) c.args.value (seen ++ map (at c.args.tier) (range_with_len 0 n)) c.loop-index.numbers.items) last (c.loop-index.invariant.1 seen h)
+    λ seen h. subst (λ (n : ℕ). AreNumbers r c.args.among (is_some c.args.reached) c.args.value (seen ++ map (at c.args.tier) (range_with_len 0 n))
+    c.loop-index.numbers.items) last (c.loop-index.invariant.1 seen h)

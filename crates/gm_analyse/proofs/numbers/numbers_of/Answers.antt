@@ -1,26 +1,38 @@
 use Rattle.std.proofs.Common.{◌≡◌, ◌+◌, ◌++◌, ◌∷◌, [], List, ℕ, take, get_or, sym, ap, ◌∙◌, subst, arith}
 use Rattle.std.specs.Option.{is_some}
 use Rattle.std.proofs.lemmas.List.{take_all, take_more, append-nil}
+use Rattle.std.proofs.lemmas.List.Elements.{Contains-get_or}
 use Rattle.std.proofs.lemmas.Grind.{flat_map-append}
 use Rattle.gm_game.specs.declared.position.Position.{Position}
+use Rattle.gm_best.proofs.Held.{held_own}
 use Rattle.gm_find.specs.Finding.{all_positions, positions_in}
 use Rattle.gm_analyse.specs.Totals.{AreNumbers}
 use Rattle.gm_analyse.proofs.numbers.numbers_of.Goals as goal
 
+pub add_tier-requires-clause-held : goal.add_tier-requires-clause-held
+add_tier-requires-clause-held g c =
+    let known = c.args.known.now in
+    let tiers = known.tiers.now in
+    held_own g.G.Game.rules known.tables.now _ (known.held (get_or tiers c.loop-tier.tier-index 0)
+    (Contains-get_or tiers c.loop-tier.tier-index 0 c.loop-tier-test.true))
+
 pub loop-tier-preserved : goal.loop-tier-preserved
 loop-tier-preserved g c =
     let r = g.G.Game.rules in
-    let tiers = c.args.tiers.now in
+    let tiers = c.args.known.now.tiers.now in
     let k = c.loop-tier.tier-index in
     let t = get_or tiers k 0 in
     let longer : all_positions r (take k tiers) ++ positions_in r t ≡ all_positions r (take (k + 1) tiers) =
-    ap (λ (xs : List Position). all_positions r (take k tiers) ++ xs) (sym (append-nil (positions_in r t))) ∙ sym (flat_map-append (positions_in r) (take k tiers) (t ∷ [])) ∙ ap (all_positions r) (sym (take_more tiers k 0 c.loop-tier-test.true)) in (
+    ap (λ (xs : List Position). all_positions r (take k tiers) ++ xs) (sym (append-nil (positions_in r t))) ∙ sym
+    (flat_map-append (positions_in r) (take k tiers) (t ∷ [])) ∙ ap (all_positions r) (sym (take_more tiers k 0 c.loop-tier-test.true)) in (
       c.in_ok-add_tier.ensures.few,
-      subst (λ (xs : List Position). AreNumbers r c.args.among (is_some c.args.reached) c.args.value xs c.add_tier.new.numbers.items) longer (c.in_ok-add_tier.ensures.numbers (all_positions r (take k tiers)) c.loop-tier.invariant.1),
+      subst (λ (xs : List Position). AreNumbers r c.args.among (is_some c.args.reached) c.args.value xs c.add_tier.new.numbers.items) longer
+          (c.in_ok-add_tier.ensures.numbers (all_positions r (take k tiers)) c.loop-tier.invariant.1),
     )
 
 pub returns-clause-numbers : goal.returns-clause-numbers
 returns-clause-numbers g c =
     let r = g.G.Game.rules in
-    let tiers = c.args.tiers.now in
-    subst (λ (ts : List ℕ). AreNumbers r c.args.among (is_some c.args.reached) c.args.value (all_positions r ts) c.loop-tier.numbers.items) (take_all c.loop-tier.tier-index tiers (omega arith)) c.loop-tier.invariant.1
+    let tiers = c.args.known.now.tiers.now in
+    subst (λ (ts : List ℕ). AreNumbers r c.args.among (is_some c.args.reached) c.args.value (all_positions r ts) c.loop-tier.numbers.items)
+    (take_all c.loop-tier.tier-index tiers (omega arith)) c.loop-tier.invariant.1

@@ -1,7 +1,7 @@
 use Rattle.std.proofs.Common.{◌≤◌, sym, subst, IfSome, Option}
 use Rattle.gm_game.specs.declared.limits.TheConstants.{REMOTENESS}
 use Rattle.gm_game.specs.declared.position.Solved.{Solved}
-use Rattle.gm_play.proofs.Ranking.{value_small}
+use Rattle.gm_best.proofs.Small.{value_small}
 use Rattle.gm_analyse.specs.declared.among.Among.{Among}
 use Rattle.gm_analyse.specs.Totals.{IsRecordAmong}
 use Rattle.gm_analyse.proofs.Reporting.{canonical_among, legal_among}
@@ -15,5 +15,7 @@ returns-in-Canonical-clause-among g c =
 pub returns-in-Legal-clause-among : goal.returns-in-Legal-clause-among
 returns-in-Legal-clause-among g c =
     let r = g.G.Game.rules in
-    let few = subst (λ (o : Option Solved). IfSome o (λ s. s.remoteness ≤ REMOTENESS)) (sym c.get.ensures.value) (value_small r c.args.tables.now c.args.p c.get.ensures.tables) in
-    subst (λ (a : Among). IsRecordAmong r a c.args.p c.get.result) (sym c.in-Legal.is) (legal_among r c.args.tables.now c.args.p c.get.result c.get.ensures.held c.requires c.get.ensures.is_true few)
+    let few = subst (λ (o : Option Solved). IfSome o (λ s. s.remoteness ≤ REMOTENESS)) (sym c.get.ensures.value)
+    (value_small r c.args.tables.now c.args.p c.get.ensures.tables) in
+    subst (λ (a : Among). IsRecordAmong r a c.args.p c.get.result) (sym c.in-Legal.is)
+    (legal_among r c.args.tables.now c.args.p c.get.result c.get.ensures.held c.requires c.get.ensures.is_true few)

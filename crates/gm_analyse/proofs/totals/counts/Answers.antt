@@ -1,11 +1,31 @@
-use Rattle.std.proofs.Common.{refl}
+use Rattle.std.proofs.lemmas.Result.{IfOk-from_err}
+use Rattle.std.proofs.Common.{◌≡◌, ◌+◌, ℕ, sym, subst, arith}
+use Rattle.std.specs.Option.{is_some}
+use Rattle.gm_find.specs.Finding.{all_positions}
+use Rattle.gm_analyse.specs.Totals.{AreCountsBefore}
+use Rattle.gm_analyse.proofs.CountLists.{rank_listed}
+use Rattle.gm_analyse.proofs.Listed.{all_counts}
 use Rattle.gm_analyse.proofs.totals.counts.Goals as goal
 
-pub counts_of-requires : goal.counts_of-requires
-counts_of-requires g c = c.if-not-are_held.ensures.0 refl
+pub add_counts-requires : goal.add_counts-requires
+add_counts-requires g c =
+    let r = g.G.Game.rules in
+    subst (λ (n : ℕ). AreCountsBefore r c.args.among (is_some c.args.reached) (all_positions r c.args.known.now.tiers.now) n 0 c.loop-value.counts.items)
+    (sym (rank_listed c.loop-value.value-index _ c.loop-value-test.true)) c.loop-value.invariant
 
-pub returns-in-Ok-clause-not_held : goal.returns-in-Ok-clause-not_held
-returns-in-Ok-clause-not_held g c = (λ e. absurd (cc), λ n. absurd (n (c.if-not-are_held.ensures.0 refl)))
+pub loop-value-preserved : goal.loop-value-preserved
+loop-value-preserved g c =
+    let r = g.G.Game.rules in
+    subst (λ (n : ℕ). AreCountsBefore r c.args.among (is_some c.args.reached) (all_positions r c.args.known.now.tiers.now) (n + 1) 0
+    c.add_counts.new.counts.items) (rank_listed c.loop-value.value-index _ c.loop-value-test.true) c.in_ok-add_counts.ensures
 
-pub returns-in-Err-clause-not_held : goal.returns-in-Err-clause-not_held
-returns-in-Err-clause-not_held g c = (λ e. absurd (cc), λ n. absurd (n (c.if-not-are_held.ensures.0 refl)))
+pub returns : goal.returns
+returns g c =
+    let r = g.G.Game.rules in
+    let tiers = c.args.known.now.tiers.now in
+    let last : c.loop-value.value-index ≡ 4 = omega arith in
+    all_counts r c.args.among (is_some c.args.reached) tiers c.loop-value.counts.items
+    (subst (λ n. AreCountsBefore r c.args.among (is_some c.args.reached) (all_positions r tiers) n 0 c.loop-value.counts.items) last c.loop-value.invariant)
+
+pub returns-in_err-add_counts : goal.returns-in_err-add_counts
+returns-in_err-add_counts g c = IfOk-from_err c.from_residual.result _ c.from_residual.ensures.0

@@ -15,7 +15,8 @@ loop-number-preserved g c =
     let same : items ≡ r.moves c.args.p = c.as_slice-number-items.ensures.value ∙ c.moves.ensures in
     let up : IsAscending items = subst IsAscending (sym same) (g.met.G.Game.lawful.moves_ascending c.args.p c.requires.legal) in
     subst (λ (l : List ℕ). IsChoice r c.args.p c.args.value l c.consider-best.result) (sym (take_more items k 0 inside))
-    (considered r c.args.p c.args.value (take k items) (get_or items k 0) (all_below items k up inside) c.loop-number.best c.consider-best.result c.loop-number.invariant c.consider-best.ensures)
+    (considered r c.args.p c.args.value (take k items) (get_or items k 0) (all_below items k up inside) c.loop-number.best c.consider-best.result
+    c.loop-number.invariant c.consider-best.ensures)
 
 pub returns : goal.returns
 returns g c =

@@ -7,7 +7,7 @@ use Rattle.gm_game.specs.declared.limits.TheConstants.{TIERS}
 use Rattle.gm_table.specs.Tables.{TableData}
 use Rattle.gm_tiers.specs.Orders.{IsOrderFrom, ComeChildrenFirst}
 use Rattle.gm_tiers.specs.Reach.{IsReachedFrom}
-use Rattle.gm_entry.specs.TrueTexts.{HasText, HasOldText, HaveTexts, KeepsOthers}
+use Rattle.gm_build.specs.TrueTexts.{HasText, HasOldText, HaveTexts, KeepsOthers}
 use Rattle.gm_build.specs.Outcomes.{of_tier_error, IsBuildError, IsStopped}
 use Rattle.gm_build.specs.Work.{IsWorkOn, IsSomeWork, HoldsExactly}
 use Rattle.gm_build.specs.Steps.{IsStep, IsStepWork}
@@ -20,7 +20,8 @@ use Rattle.gm_build.proofs.build.build_from.Goals.{in-Reused, in-Migrated, in-So
 
 pub loop-tier-init : goal.loop-tier-init
 loop-tier-init g c = record {
-  so_far = subst (λ (entries : List TableData). IsSoFar g.G.Game.rules (IsTrue g.S.Store.KEEPS) (g.S.Store.texts c.args.store.now) (g.S.Store.texts c.args.store.now) entries [] 0 0 0 0 0) (sym c.new-tables.ensures)
+  so_far = subst (λ (entries : List TableData). IsSoFar g.G.Game.rules (IsTrue g.S.Store.KEEPS) (g.S.Store.texts c.args.store.now)
+      (g.S.Store.texts c.args.store.now) entries [] 0 0 0 0 0) (sym c.new-tables.ensures)
       (so_far_none g.G.Game.rules (IsTrue g.S.Store.KEEPS) (g.S.Store.texts c.args.store.now));
   count = refl;
 }
@@ -54,7 +55,8 @@ returns-in_err-build_tier-clause-stopped g c keeps =
     let new = g.S.Store.texts c.build_tier.new.store in
     let so = c.loop-tier.invariant.so_far in
     let e = c.in_err-build_tier.ensures in
-    let stops = stops_here r c.args.first tiers order c.loop-tier.tier-index c.loop-tier-test.true start old new (so.texts keeps) (so.others keeps) (e.others keeps) (e.here keeps) in
+    let stops = stops_here r c.args.first tiers order c.loop-tier.tier-index c.loop-tier-test.true start old new (so.texts keeps) (so.others keeps)
+    (e.others keeps) (e.here keeps) in
     let p = err_from_is_err_and c.from_residual-in_err-build_tier.result c.from_residual-in_err-build_tier.ensures.1 in
     rw (p.1, p.2) (stopped_by r c.args.first start new tier c.in_err-build_tier.field-0.0 stops e.error)
 
@@ -113,16 +115,20 @@ loop-tier-preserved g c =
     let count : g.S.Store.failed c.build_tier.new.store ≡ g.S.Store.failed c.args.store.now = (let a = e.count in let b = l.invariant.count in omega arith) in
     elim c.match-branch-3.branch [
       | in-Reused w ↦ record {
-        so_far = so_far_at r Keeps start new c.build_tier.new.tables (front ++ tier ∷ []) (take (k + 1) tiers) l.solved m.solved (l.reused + 1) m.reused l.migrated m.migrated l.deliveries m.deliveries l.by_hand m.by_hand
+        so_far = so_far_at r Keeps start new c.build_tier.new.tables (front ++ tier ∷ []) (take (k + 1) tiers) l.solved m.solved (l.reused + 1)
+            m.reused l.migrated m.migrated l.deliveries m.deliveries l.by_hand m.by_hand
             more w.solved-is w.reused-is w.migrated-is w.deliveries-is w.by_hand-is
-            (so_far_reused r c.laws.ensures Keeps start old new l.tables c.build_tier.new.tables front tier fresh l.solved l.reused l.migrated l.deliveries l.by_hand so e.held e.text e.others
+            (so_far_reused r c.laws.ensures Keeps start old new l.tables c.build_tier.new.tables front tier fresh l.solved l.reused l.migrated l.deliveries
+            l.by_hand so e.held e.text e.others
             (λ keeps. subst (IsStep r old tier) w.in-Reused.is (e.step keeps)));
         count = count;
       }
       | in-Migrated w ↦ record {
-        so_far = so_far_at r Keeps start new c.build_tier.new.tables (front ++ tier ∷ []) (take (k + 1) tiers) l.solved m.solved l.reused m.reused (l.migrated + 1) m.migrated l.deliveries m.deliveries l.by_hand m.by_hand
+        so_far = so_far_at r Keeps start new c.build_tier.new.tables (front ++ tier ∷ []) (take (k + 1) tiers) l.solved m.solved l.reused m.reused
+            (l.migrated + 1) m.migrated l.deliveries m.deliveries l.by_hand m.by_hand
             more w.solved-is w.reused-is w.migrated-is w.deliveries-is w.by_hand-is
-            (so_far_migrated r c.laws.ensures Keeps start old new l.tables c.build_tier.new.tables front tier fresh l.solved l.reused l.migrated l.deliveries l.by_hand so e.held e.text e.others
+            (so_far_migrated r c.laws.ensures Keeps start old new l.tables c.build_tier.new.tables front tier fresh l.solved l.reused l.migrated l.deliveries
+            l.by_hand so e.held e.text e.others
             (λ keeps. subst (IsStep r old tier) w.in-Migrated.is (e.step keeps)));
         count = count;
       }
@@ -130,9 +136,11 @@ loop-tier-preserved g c =
           let report = w.in-Solved.report in
           let work = subst (IsStepWork r tier) w.in-Solved.is e.work in
           record {
-            so_far = so_far_at r Keeps start new c.build_tier.new.tables (front ++ tier ∷ []) (take (k + 1) tiers) (l.solved + 1) m.solved l.reused m.reused l.migrated m.migrated (l.deliveries + report.deliveries) m.deliveries (l.by_hand + report.by_hand) m.by_hand
+            so_far = so_far_at r Keeps start new c.build_tier.new.tables (front ++ tier ∷ []) (take (k + 1) tiers) (l.solved + 1)
+                m.solved l.reused m.reused l.migrated m.migrated (l.deliveries + report.deliveries) m.deliveries (l.by_hand + report.by_hand) m.by_hand
                 more w.solved-is w.reused-is w.migrated-is w.deliveries-is w.by_hand-is
-                (so_far_solved r c.laws.ensures Keeps start old new l.tables c.build_tier.new.tables front tier fresh l.solved l.reused l.migrated l.deliveries l.by_hand so e.held e.text e.others
+                (so_far_solved r c.laws.ensures Keeps start old new l.tables c.build_tier.new.tables front tier fresh l.solved l.reused l.migrated l.deliveries
+                l.by_hand so e.held e.text e.others
                 (λ keeps. subst (IsStep r old tier) w.in-Solved.is (e.step keeps)) small report.deliveries report.by_hand work.0 work.1);
             count = count;
           }
@@ -141,28 +149,37 @@ loop-tier-preserved g c =
 
 pub returns-clause-held : goal.returns-clause-held
 returns-clause-held g c =
-    let whole : take c.loop-tier.tier-index c.tiers-tier-items.result.now ≡ c.in_ok-order.order = take_all c.loop-tier.tier-index c.tiers-tier-items.result.now (omega arith) ∙ c.tiers-tier-items.ensures.value in
+    let whole : take c.loop-tier.tier-index c.tiers-tier-items.result.now ≡ c.in_ok-order.order =
+    take_all c.loop-tier.tier-index c.tiers-tier-items.result.now (omega arith) ∙ c.tiers-tier-items.ensures.value in
     subst (HoldsExactly c.loop-tier.tables) whole c.loop-tier.invariant.so_far.held
 
 pub returns-clause-some_work : goal.returns-clause-some_work
 returns-clause-some_work g c =
-    let whole : take c.loop-tier.tier-index c.tiers-tier-items.result.now ≡ c.in_ok-order.order = take_all c.loop-tier.tier-index c.tiers-tier-items.result.now (omega arith) ∙ c.tiers-tier-items.ensures.value in
-    subst (λ (tiers : List ℕ). IsSomeWork g.G.Game.rules tiers c.loop-tier.solved c.loop-tier.reused c.loop-tier.migrated c.loop-tier.deliveries c.loop-tier.by_hand) whole c.loop-tier.invariant.so_far.some_work
+    let whole : take c.loop-tier.tier-index c.tiers-tier-items.result.now ≡ c.in_ok-order.order =
+    take_all c.loop-tier.tier-index c.tiers-tier-items.result.now (omega arith) ∙ c.tiers-tier-items.ensures.value in
+    subst (λ (tiers : List ℕ). IsSomeWork g.G.Game.rules tiers c.loop-tier.solved c.loop-tier.reused c.loop-tier.migrated c.loop-tier.deliveries
+    c.loop-tier.by_hand) whole c.loop-tier.invariant.so_far.some_work
 
 pub returns-clause-texts : goal.returns-clause-texts
 returns-clause-texts g c keeps =
-    let whole : take c.loop-tier.tier-index c.tiers-tier-items.result.now ≡ c.in_ok-order.order = take_all c.loop-tier.tier-index c.tiers-tier-items.result.now (omega arith) ∙ c.tiers-tier-items.ensures.value in
+    let whole : take c.loop-tier.tier-index c.tiers-tier-items.result.now ≡ c.in_ok-order.order =
+    take_all c.loop-tier.tier-index c.tiers-tier-items.result.now (omega arith) ∙ c.tiers-tier-items.ensures.value in
     subst (HaveTexts g.G.Game.rules (g.S.Store.texts c.loop-tier.store)) whole (c.loop-tier.invariant.so_far.texts keeps)
 
 pub returns-clause-others : goal.returns-clause-others
 returns-clause-others g c keeps =
-    let whole : take c.loop-tier.tier-index c.tiers-tier-items.result.now ≡ c.in_ok-order.order = take_all c.loop-tier.tier-index c.tiers-tier-items.result.now (omega arith) ∙ c.tiers-tier-items.ensures.value in
-    subst (λ (tiers : List ℕ). KeepsOthers tiers (g.S.Store.texts c.args.store.now) (g.S.Store.texts c.loop-tier.store)) whole (c.loop-tier.invariant.so_far.others keeps)
+    let whole : take c.loop-tier.tier-index c.tiers-tier-items.result.now ≡ c.in_ok-order.order =
+    take_all c.loop-tier.tier-index c.tiers-tier-items.result.now (omega arith) ∙ c.tiers-tier-items.ensures.value in
+    subst (λ (tiers : List ℕ). KeepsOthers tiers (g.S.Store.texts c.args.store.now) (g.S.Store.texts c.loop-tier.store)) whole
+    (c.loop-tier.invariant.so_far.others keeps)
 
 pub returns-clause-work : goal.returns-clause-work
 returns-clause-work g c keeps =
-    let whole : take c.loop-tier.tier-index c.tiers-tier-items.result.now ≡ c.in_ok-order.order = take_all c.loop-tier.tier-index c.tiers-tier-items.result.now (omega arith) ∙ c.tiers-tier-items.ensures.value in
-    subst (λ (tiers : List ℕ). IsWorkOn g.G.Game.rules tiers (HasText g.G.Game.rules (g.S.Store.texts c.args.store.now)) (HasOldText g.G.Game.rules (g.S.Store.texts c.args.store.now)) c.loop-tier.solved c.loop-tier.reused c.loop-tier.migrated c.loop-tier.deliveries c.loop-tier.by_hand) whole (c.loop-tier.invariant.so_far.work keeps)
+    let whole : take c.loop-tier.tier-index c.tiers-tier-items.result.now ≡ c.in_ok-order.order =
+    take_all c.loop-tier.tier-index c.tiers-tier-items.result.now (omega arith) ∙ c.tiers-tier-items.ensures.value in
+    subst (λ (tiers : List ℕ). IsWorkOn g.G.Game.rules tiers (HasText g.G.Game.rules (g.S.Store.texts c.args.store.now))
+    (HasOldText g.G.Game.rules (g.S.Store.texts c.args.store.now))
+    c.loop-tier.solved c.loop-tier.reused c.loop-tier.migrated c.loop-tier.deliveries c.loop-tier.by_hand) whole (c.loop-tier.invariant.so_far.work keeps)
 
 pub returns-clause-order : goal.returns-clause-order
 returns-clause-order g c = c.in_ok-order.ensures.order
@@ -211,15 +228,18 @@ returns-in_err-build_tier-clause-work g c keeps = IfOk-from_err c.from_residual-
 
 pub overflow_add-reused : goal.overflow_add-reused
 overflow_add-reused g c =
-    one_fits c.loop-tier.reused c.loop-tier.tier-index c.tiers-tier-items.result.now c.loop-tier.invariant.so_far.few_reused (subst (λ (tiers : List ℕ). length tiers ≤ TIERS) (sym c.tiers-tier-items.ensures.value) c.in_ok-order.ensures.order.few)
+    one_fits c.loop-tier.reused c.loop-tier.tier-index c.tiers-tier-items.result.now c.loop-tier.invariant.so_far.few_reused
+    (subst (λ (tiers : List ℕ). length tiers ≤ TIERS) (sym c.tiers-tier-items.ensures.value) c.in_ok-order.ensures.order.few)
 
 pub overflow_add-migrated : goal.overflow_add-migrated
 overflow_add-migrated g c =
-    one_fits c.loop-tier.migrated c.loop-tier.tier-index c.tiers-tier-items.result.now c.loop-tier.invariant.so_far.few_migrated (subst (λ (tiers : List ℕ). length tiers ≤ TIERS) (sym c.tiers-tier-items.ensures.value) c.in_ok-order.ensures.order.few)
+    one_fits c.loop-tier.migrated c.loop-tier.tier-index c.tiers-tier-items.result.now c.loop-tier.invariant.so_far.few_migrated
+    (subst (λ (tiers : List ℕ). length tiers ≤ TIERS) (sym c.tiers-tier-items.ensures.value) c.in_ok-order.ensures.order.few)
 
 pub overflow_add-solved : goal.overflow_add-solved
 overflow_add-solved g c =
-    one_fits c.loop-tier.solved c.loop-tier.tier-index c.tiers-tier-items.result.now c.loop-tier.invariant.so_far.few_solved (subst (λ (tiers : List ℕ). length tiers ≤ TIERS) (sym c.tiers-tier-items.ensures.value) c.in_ok-order.ensures.order.few)
+    one_fits c.loop-tier.solved c.loop-tier.tier-index c.tiers-tier-items.result.now c.loop-tier.invariant.so_far.few_solved
+    (subst (λ (tiers : List ℕ). length tiers ≤ TIERS) (sym c.tiers-tier-items.ensures.value) c.in_ok-order.ensures.order.few)
 
 pub bounds-tier-items-tier-index : goal.bounds-tier-items-tier-index
 bounds-tier-items-tier-index g c = c.loop-tier-test.true
@@ -235,13 +255,16 @@ returns-in_err-order-clause-error g c =
 
 pub returns-in_err-order-clause-stopped : goal.returns-in_err-order-clause-stopped
 returns-in_err-order-clause-stopped g c keeps =
-    passed c.from_residual.result (IsStopped g.G.Game.rules c.args.first (g.S.Store.texts c.args.store.now) (g.S.Store.texts c.args.store.now)) (of_tier_error c.in_err-order.field-0.0) c.from_residual.ensures.1
+    passed c.from_residual.result (IsStopped g.G.Game.rules c.args.first (g.S.Store.texts c.args.store.now) (g.S.Store.texts c.args.store.now))
+    (of_tier_error c.in_err-order.field-0.0) c.from_residual.ensures.1
     (order_stopped g.G.Game.rules c.args.first (g.S.Store.texts c.args.store.now) c.in_err-order.field-0.0)
 
 pub returns-in_err-order-clause-count : goal.returns-in_err-order-clause-count
-returns-in_err-order-clause-count g c = order_count _ (g.S.Store.failed c.args.store.now) c.from_residual.result c.in_err-order.field-0.0 c.from_residual.ensures.1
+returns-in_err-order-clause-count g c = order_count _ (g.S.Store.failed c.args.store.now)
+    c.from_residual.result c.in_err-order.field-0.0 c.from_residual.ensures.1
 
 pub returns-in_err-build_tier-clause-count : goal.returns-in_err-build_tier-clause-count
 returns-in_err-build_tier-clause-count g c =
-    tier_count _ (g.S.Store.failed c.args.store.now) (g.S.Store.failed c.loop-tier.store) (g.S.Store.failed c.build_tier.new.store) c.from_residual-in_err-build_tier.result c.in_err-build_tier.field-0.0
+    tier_count _ (g.S.Store.failed c.args.store.now) (g.S.Store.failed c.loop-tier.store) (g.S.Store.failed c.build_tier.new.store)
+    c.from_residual-in_err-build_tier.result c.in_err-build_tier.field-0.0
     c.from_residual-in_err-build_tier.ensures.1 c.in_err-build_tier.ensures.count c.loop-tier.invariant.count

@@ -12,8 +12,10 @@ set-requires-clause-near c = subst IsWithinLimit (sym c.first_status.ensures) (n
 
 pub loop-k-preserved : goal.loop-k-preserved
 loop-k-preserved c = record {
-  counters = filled_more first_left c.args.starts.now c.loop-k.k _ c.loop-k.left.items _ c.first_left.result c.loop-k-test.true c.loop-k.invariant.counters c.first_left.ensures refl;
-  statuses = filled_more first_status c.args.starts.now c.loop-k.k _ c.loop-k.statuses c.set.new.self c.first_status.result c.loop-k-test.true c.loop-k.invariant.statuses c.first_status.ensures c.set.ensures;
+  counters = filled_more first_left c.args.starts.now c.loop-k.k _ c.loop-k.left.items _ c.first_left.result c.loop-k-test.true c.loop-k.invariant.counters
+      c.first_left.ensures refl;
+  statuses = filled_more first_status c.args.starts.now c.loop-k.k _ c.loop-k.statuses c.set.new.self c.first_status.result c.loop-k-test.true
+      c.loop-k.invariant.statuses c.first_status.ensures c.set.ensures;
 }
 
 pub returns-clause-counters : goal.returns-clause-counters

@@ -6,4 +6,5 @@ use Rattle.std.proofs.lemmas.Bool.Decides.{Decides-eqb}
 use Rattle.gm_deliveries.proofs.bits.has_bit.Goals as goal
 
 pub returns : goal.returns
-returns c = subst (λ (n : ℕ). IsTrue (n == 1) ↔ (bit_at c.args.mask c.args.k ≡ 1)) (sym (shr_and_one c.args.mask c.args.k)) (Decides-eqb (bit_at c.args.mask c.args.k) 1)
+returns c = subst (λ (n : ℕ). IsTrue (n == 1) ↔ (bit_at c.args.mask c.args.k ≡ 1)) (sym (shr_and_one c.args.mask c.args.k))
+    (Decides-eqb (bit_at c.args.mask c.args.k) 1)

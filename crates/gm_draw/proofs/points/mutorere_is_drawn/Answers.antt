@@ -1,4 +1,4 @@
-use Rattle.gm_draw.specs.DrawnLaws.{ring_is}
+use Rattle.gm_draw.specs.laws.Drawn.{ring_is}
 use Rattle.gm_draw.proofs.points.mutorere_is_drawn.Goals as goal
 
 pub returns-clause-drawn : goal.returns-clause-drawn

@@ -5,8 +5,10 @@ use Rattle.gm_draw.proofs.svg.push_men.Goals as goal
 
 pub loop-byte-preserved : goal.loop-byte-preserved
 loop-byte-preserved c = record {
-  done = spread_next (over_at c.args.style c.args.bytes.now) c.args.board.now c.loop-byte.byte-index c.loop-byte.x c.loop-byte.y c.next_x-x.result c.next_y-y.result c.loop-byte.text.items c.push_over.new.text.items
-      (c.args.text.now.items ++ spread (over_at c.args.style c.args.bytes.now) 40 40 c.args.board.now) c.loop-byte-test.true c.loop-byte.invariant.done c.in_ok-push_over.ensures c.next_x-x.ensures.value c.next_y-y.ensures.value;
+  done = spread_next (over_at c.args.style c.args.bytes.now) c.args.board.now c.loop-byte.byte-index c.loop-byte.x c.loop-byte.y c.next_x-x.result
+      c.next_y-y.result c.loop-byte.text.items c.push_over.new.text.items
+      (c.args.text.now.items ++ spread (over_at c.args.style c.args.bytes.now) 40 40 c.args.board.now) c.loop-byte-test.true c.loop-byte.invariant.done
+      c.in_ok-push_over.ensures c.next_x-x.ensures.value c.next_y-y.ensures.value;
   right = omega arith;
   near = omega arith;
   down = omega arith;
@@ -15,5 +17,6 @@ loop-byte-preserved c = record {
 
 pub returns : goal.returns
 returns c =
-    spread_all (over_at c.args.style c.args.bytes.now) c.args.board.now c.loop-byte.byte-index c.loop-byte.x c.loop-byte.y c.loop-byte.text.items (c.args.text.now.items ++ spread (over_at c.args.style c.args.bytes.now) 40 40 c.args.board.now)
+    spread_all (over_at c.args.style c.args.bytes.now) c.args.board.now c.loop-byte.byte-index c.loop-byte.x c.loop-byte.y c.loop-byte.text.items
+    (c.args.text.now.items ++ spread (over_at c.args.style c.args.bytes.now) 40 40 c.args.board.now)
     c.loop-byte-test.false c.loop-byte.invariant.done

@@ -11,6 +11,6 @@ pub returns-in_ok-all-in-Random-clause-each : goal.returns-in_ok-all-in-Random-c
 returns-in_ok-all-in-Random-clause-each g c =
     let P : Found → Type 0 = IsFound g.G.Game.rules in
     let all = c.as_slice.result.now in
-    let each = subst (All P) (sym c.as_slice.ensures.value) c.in_ok-all-in-Random.ensures.found.each in
-    IfOk-weaker c.picked.result (λ v. IsSample c.in-Random.number all v.items) (λ v. All P v.items) (λ v s. picked_all P all v.items s.picked each)
-    c.picked.ensures.sample
+    let each = subst (All P) (sym c.as_slice.ensures.value) c.in_ok-all-in-Random.ensures.each in
+    IfOk-weaker c.sample_of.result (λ v. IsSample c.in-Random.number all v.items) (λ v. All P v.items) (λ v s. picked_all P all v.items s.picked each)
+    c.sample_of.ensures

@@ -1,13 +1,24 @@
-use Rattle.std.proofs.Common.{sym, subst}
+use Rattle.std.proofs.Common.{sym, subst, ◌∙◌}
 use Rattle.std.specs.List.{All}
 use Rattle.std.specs.Option.{is_some}
-use Rattle.gm_find.specs.Founds.{IsHeldAt}
-use Rattle.gm_find.proofs.Telling.{all_held}
+use Rattle.gm_find.specs.Lists.{IsFirst}
+use Rattle.gm_find.specs.Finding.{IsMatch, all_positions}
+use Rattle.gm_find.specs.Founds.{IsKnownAt}
+use Rattle.gm_find.proofs.Telling.{all_known, both_told}
 use Rattle.gm_find.proofs.found.find.Goals as goal
 
 pub look_up-requires : goal.look_up-requires
 look_up-requires g c =
     let r = g.G.Game.rules in
-    let es = c.args.tables.now in
-    subst (All (IsHeldAt r es)) (sym c.as_slice.ensures.value)
-    (all_held r es c.args.sought (is_some c.args.reached) c.args.limit c.args.tiers.now c.in_ok-positions.positions.items c.in_ok-positions.ensures.held c.in_ok-positions.ensures.found)
+    let known = c.args.known.now in
+    subst (All (IsKnownAt r known.tables.now)) (sym c.as_slice.ensures.value)
+    (all_known r known.tables.now c.args.sought (is_some c.args.reached) c.args.limit known.tiers.now c.in_ok-positions.positions.items known.held
+    c.in_ok-positions.ensures)
+
+pub returns : goal.returns
+returns g c =
+    both_told c.look_up.result _ _ _ (λ v positions each. record {
+      positions = subst (IsFirst (IsMatch g.G.Game.rules c.args.sought (is_some c.args.reached)) c.args.limit
+          (all_positions g.G.Game.rules c.args.known.now.tiers.now)) (sym (positions ∙ c.as_slice.ensures.value)) c.in_ok-positions.ensures;
+      each = each;
+    }) c.look_up.ensures.positions c.look_up.ensures.each

@@ -7,7 +7,7 @@ pub returns-else-distinct : goal.returns-else-distinct
 returns-else-distinct g c =
     let (kept, those, long) = c.keeping.ensures in
     let r = g.G.Game.rules in
-    let p = c.args.p in
+    let p = c.args.known.now.position in
     let v = c.args.value in
     subst (λ (d : Bool). IsTrue (nat_eq c.keeping.result 1) ↔ HasOnly r d v p) (sym c.if-distinct.false) (
       λ h. only_is r p v kept those (long ∙ eqb-true c.keeping.result 1 h),

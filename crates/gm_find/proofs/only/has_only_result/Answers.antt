@@ -7,17 +7,6 @@ use Rattle.gm_find.proofs.Onlies.{IsOnlySoFar, contains_taken, only_skip, only_m
 use Rattle.gm_find.proofs.only.has_only_result.Goals as goal
 use Rattle.gm_find.proofs.only.has_only_result.Goals.{then-keeps+else-not-agrees, else-keeps}
 
-pub canonical-found-requires : goal.canonical-found-requires
-canonical-found-requires g c =
-    let r = g.G.Game.rules in
-    let items = c.as_slice-m-items.result.now in
-    let k = c.loop-m.m-index in
-    let m = get_or items k 0 in
-    let all = c.as_slice-m-items.ensures.value ∙ c.moves-moves.ensures in
-    let listed = subst (λ (xs : List ℕ). Contains xs m) all (Contains-get_or items k 0 c.loop-m-test.true) in
-    let legal = g.met.G.Game.lawful.play_legal c.args.p m c.requires.legal listed in
-    subst (λ (q : Position). r.is_legal q ≡ true) (sym c.play.ensures) legal
-
 pub returns-then-not-agrees : goal.returns-then-not-agrees
 returns-then-not-agrees g c =
     let r = g.G.Game.rules in
@@ -26,9 +15,10 @@ returns-then-not-agrees g c =
     let m = get_or items k 0 in
     let all = c.as_slice-m-items.ensures.value ∙ c.moves-moves.ensures in
     let listed = subst (λ (xs : List ℕ). Contains xs m) all (Contains-get_or items k 0 c.loop-m-test.true) in
-    let leads : r.canonical (r.play c.args.p m) ≡ c.canonical-found.result = sym (c.canonical-found.ensures ∙ ap r.canonical c.play.ensures) in (
+    let leads : r.canonical (r.play c.args.known.now.position m) ≡ c.canonical-found.result = sym
+    (c.canonical-found.ensures ∙ ap r.canonical c.play.ensures) in (
       λ t. absurd (cc),
-      λ x. absurd (only_two r c.args.value c.args.p (take k items) m c.loop-m.only c.canonical-found.result c.loop-m.invariant
+      λ x. absurd (only_two r c.args.value c.args.known.now.position (take k items) m c.loop-m.only c.canonical-found.result c.loop-m.invariant
           (λ n has. subst (λ (xs : List ℕ). Contains xs n) all (contains_taken k items n has))
           listed (c.keeps.ensures.0 c.if-keeps.true) leads
           (λ a. let t = c.agrees.ensures.1 a in let f = c.if-not-agrees.true in cc) x),
@@ -37,7 +27,7 @@ returns-then-not-agrees g c =
 pub loop-m-preserved : goal.loop-m-preserved
 loop-m-preserved g c =
     let r = g.G.Game.rules in
-    let p = c.args.p in
+    let p = c.args.known.now.position in
     let v = c.args.value in
     let items = c.as_slice-m-items.result.now in
     let k = c.loop-m.m-index in
@@ -60,6 +50,6 @@ returns g c =
     let r = g.G.Game.rules in
     let items = c.as_slice-m-items.result.now in
     let all = take_all c.loop-m.m-index items c.loop-m-test.false ∙ c.as_slice-m-items.ensures.value ∙ c.moves-moves.ensures in
-    let whole = subst (λ (xs : List ℕ). IsOnlySoFar r c.args.value c.args.p xs c.loop-m.only) all c.loop-m.invariant in
-    let ends = only_all r c.args.value c.args.p c.loop-m.only whole in
+    let whole = subst (λ (xs : List ℕ). IsOnlySoFar r c.args.value c.args.known.now.position xs c.loop-m.only) all c.loop-m.invariant in
+    let ends = only_all r c.args.value c.args.known.now.position c.loop-m.only whole in
     (λ t. ends.0 (subst IsTrue c.is_some.ensures t), λ x. subst IsTrue (sym c.is_some.ensures) (ends.1 x))

@@ -9,14 +9,15 @@ use Rattle.gm_find.proofs.only.keeping.Goals.{then-keeps, else-keeps}
 pub overflow_add-number : goal.overflow_add-number
 overflow_add-number g c =
     let items = c.as_slice-m-items.result.now in
-    let few = those_few (KeepsValue g.G.Game.rules c.args.value c.args.p) (take c.loop-m.m-index items) c.loop-m.invariant.0 c.loop-m.invariant.1 in
+    let few = those_few (KeepsValue g.G.Game.rules c.args.value c.args.known.now.position) (take c.loop-m.m-index items) c.loop-m.invariant.0
+    c.loop-m.invariant.1 in
     let same = c.loop-m.invariant.2 in
     let cut = length-take c.loop-m.m-index items in
     omega arith
 
 pub loop-m-preserved : goal.loop-m-preserved
 loop-m-preserved g c =
-    let P : ℕ → Type 0 = KeepsValue g.G.Game.rules c.args.value c.args.p in
+    let P : ℕ → Type 0 = KeepsValue g.G.Game.rules c.args.value c.args.known.now.position in
     let items = c.as_slice-m-items.result.now in
     let k = c.loop-m.m-index in
     let m = get_or items k 0 in
@@ -30,7 +31,8 @@ loop-m-preserved g c =
       )
       | else-keeps w ↦ (
         kept,
-        subst (λ (xs : List ℕ). AreThose P xs kept) (sym more) (those_skip P (take k items) kept m those (λ p. let t = c.keeps.ensures.1 p in let f = w.if-keeps.false in cc)),
+        subst (λ (xs : List ℕ). AreThose P xs kept) (sym more) (those_skip P (take k items) kept m those
+            (λ p. let t = c.keeps.ensures.1 p in let f = w.if-keeps.false in cc)),
         let same = w.number-is in omega arith,
       )
     ]

@@ -6,41 +6,55 @@ use Rattle.gm_game.specs.declared.position.Position.{Position}
 use Rattle.gm_game.specs.declared.position.Value.TheVariants.{Win}
 use Rattle.gm_game.specs.Values.{HasValue}
 use Rattle.gm_find.specs.Finding.{IsOnlyWin, IsOnlyAfter, IsOnlyDefence, AfterDefence}
-use Rattle.gm_find.proofs.Onlies.{each_more, turn_parts, turn_from, same_answer, missing_here, missing_after}
+use Rattle.gm_find.proofs.Onlies.{each_more, turn_parts, turn_from, same_answer, win_is, is_win}
 use Rattle.gm_find.proofs.only_line.+turns.Goals as goal
 
 pub are_only_defences-loop-e-preserved : goal.are_only_defences-loop-e-preserved
 are_only_defences-loop-e-preserved g t c =
     let items = c.as_slice-e-items.result.now in
     let k = c.loop-e.e-index in
-    each_more (IsOnlyDefence g.G.Game.rules c.args.distinct c.args.remoteness c.args.q) items k (get_or items k 0) c.loop-e-test.true refl c.loop-e.invariant
-    (c.in_ok-is_only_defence.ensures.answer.0 c.if-not-branch.false)
+    each_more (IsOnlyDefence g.G.Game.rules c.args.distinct c.args.remoteness c.args.known.now.position) items k (get_or items k 0) c.loop-e-test.true refl
+    c.loop-e.invariant
+    (c.is_only_defence.ensures.0 c.if-not-is_only_defence.false)
 
-pub are_only_defences-returns-clause-answer : goal.are_only_defences-returns-clause-answer
-are_only_defences-returns-clause-answer g t c =
+pub are_only_defences-returns : goal.are_only_defences-returns
+are_only_defences-returns g t c =
     let items = c.as_slice-e-items.result.now in
     let all = take_all c.loop-e.e-index items c.loop-e-test.false ∙ c.as_slice-e-items.ensures.value ∙ c.moves.ensures in
     (λ x e has. c.loop-e.invariant e (subst (λ (xs : List ℕ). Contains xs e) (sym all) has), λ x. refl)
 
-pub is_only_after-returns-then-keeps-clause-answer : goal.is_only_after-returns-then-keeps-clause-answer
-is_only_after-returns-then-keeps-clause-answer g t c =
+pub is_only_after-returns-then-keeps : goal.is_only_after-returns-then-keeps
+is_only_after-returns-then-keeps g t c =
     let r = g.G.Game.rules in
     let n = c.args.remoteness in
     let A : Position → Type 0 = AfterDefence r n (IsOnlyWin r c.args.distinct n) in
-    same_answer c.are_only_defences.result (A c.play.result) (IsOnlyAfter r c.args.distinct n c.args.p c.args.m)
-    (λ a k. subst A c.play.ensures a, λ f. subst A (sym c.play.ensures) (f (c.keeps.ensures.0 c.if-keeps.true))) c.are_only_defences.ensures.answer
+    same_answer c.are_only_defences.result (A c.play.result.position) (IsOnlyAfter r c.args.distinct n c.args.known.now.position c.args.m)
+    (λ a k. subst A c.play.ensures a, λ f. subst A (sym c.play.ensures) (f (c.keeps.ensures.0 c.if-keeps.true))) c.are_only_defences.ensures
 
-pub is_only_defence-returns-then-branch-clause-answer : goal.is_only_defence-returns-then-branch-clause-answer
-is_only_defence-returns-then-branch-clause-answer g t c =
+pub is_only_defence-returns-then-is_win_in : goal.is_only_defence-returns-then-is_win_in
+is_only_defence-returns-then-is_win_in g t c =
     let r = g.G.Game.rules in
     let n = c.args.remoteness in
     let A : Position → Type 0 = IsOnlyWin r c.args.distinct n in
-    let won = subst (λ (p : Position). HasValue r p Win n) c.play-p.ensures (c.in_ok-is_win_in.ensures.answer.0 c.if-branch.true) in
-    same_answer c.is_only_win.result (A c.play-p.result) (IsOnlyDefence r c.args.distinct n c.args.q c.args.e)
-    (λ a w. subst A c.play-p.ensures a, λ f. subst A (sym c.play-p.ensures) (f won)) c.is_only_win.ensures.answer
+    let both = c.is_win_in.ensures.0 c.if-is_win_in.true in
+    let won = subst (λ (p : Position). HasValue r p Win n) c.play-after.ensures (win_is r c.play-after.result.position c.value.result n
+    c.value.ensures.value both.0 both.1) in
+    same_answer c.is_only_win.result (A c.play-after.result.position) (IsOnlyDefence r c.args.distinct n c.args.known.now.position c.args.e)
+    (λ a w. subst A c.play-after.ensures a, λ f. subst A (sym c.play-after.ensures) (f won)) c.is_only_win.ensures
 
-pub is_only_win-returns-then-not-branch-clause-answer : goal.is_only_win-returns-then-not-branch-clause-answer
-is_only_win-returns-then-not-branch-clause-answer g t c =
+pub is_only_defence-returns-else-is_win_in : goal.is_only_defence-returns-else-is_win_in
+is_only_defence-returns-else-is_win_in g t c = (
+  λ x w. (
+      let here = is_win g.G.Game.rules c.play-after.result.position c.value.result c.args.remoteness c.value.ensures.value
+      (subst (λ (p : Position). HasValue g.G.Game.rules p Win c.args.remoteness) (sym c.play-after.ensures) w) in
+      let yes = c.is_win_in.ensures.1 here in
+      let no = c.if-is_win_in.false in
+      absurd (cc)),
+  λ x. refl,
+)
+
+pub is_only_win-returns-then-not-is_only_after : goal.is_only_win-returns-then-not-is_only_after
+is_only_win-returns-then-not-is_only_after g t c =
     let r = g.G.Game.rules in
     let items = c.as_slice-m-items.result.now in
     let m = get_or items c.loop-m.m-index 0 in
@@ -50,8 +64,8 @@ is_only_win-returns-then-not-branch-clause-answer g t c =
     let before : 2 < c.args.remoteness = omega arith in (
       λ x. absurd (cc),
       λ x. (
-          let one = c.in_ok-is_only_after.ensures.answer.1 ((turn_parts r c.args.distinct c.args.remoteness c.args.p before x).1 m listed) in
-          let f = c.if-not-branch.true in
+          let one = c.is_only_after.ensures.1 ((turn_parts r c.args.distinct c.args.remoteness c.args.known.now.position before x).1 m listed) in
+          let f = c.if-not-is_only_after.true in
           absurd (cc)),
     )
 
@@ -59,35 +73,19 @@ pub is_only_win-loop-m-preserved : goal.is_only_win-loop-m-preserved
 is_only_win-loop-m-preserved g t c =
     let items = c.as_slice-m-items.result.now in
     let k = c.loop-m.m-index in
-    each_more (IsOnlyAfter g.G.Game.rules c.args.distinct (c.args.remoteness - 2) c.args.p) items k (get_or items k 0) c.loop-m-test.true refl c.loop-m.invariant
-    (c.in_ok-is_only_after.ensures.answer.0 c.if-not-branch.false)
+    each_more (IsOnlyAfter g.G.Game.rules c.args.distinct (c.args.remoteness - 2) c.args.known.now.position) items k (get_or items k 0) c.loop-m-test.true
+    refl c.loop-m.invariant
+    (c.is_only_after.ensures.0 c.if-not-is_only_after.false)
 
-pub is_only_win-returns-clause-answer : goal.is_only_win-returns-clause-answer
-is_only_win-returns-clause-answer g t c =
+pub is_only_win-returns : goal.is_only_win-returns
+is_only_win-returns g t c =
     let r = g.G.Game.rules in
     let items = c.as_slice-m-items.result.now in
     let all = take_all c.loop-m.m-index items c.loop-m-test.false ∙ c.as_slice-m-items.ensures.value ∙ c.moves.ensures in
     let more = c.if-remoteness-le-LAST_TURN.false in
     let before : 2 < c.args.remoteness = omega arith in
     let one = c.has_only.ensures.0 c.if-not-has_only.false in (
-      λ x. turn_from r c.args.distinct c.args.remoteness c.args.p before one
+      λ x. turn_from r c.args.distinct c.args.remoteness c.args.known.now.position before one
           (λ m has. c.loop-m.invariant m (subst (λ (xs : List ℕ). Contains xs m) (sym all) has)),
       λ x. refl,
     )
-
-pub is_only_after-returns-then-keeps-clause-missing : goal.is_only_after-returns-then-keeps-clause-missing
-is_only_after-returns-then-keeps-clause-missing g t c = λ e. missing_after g.G.Game.rules c.args.tables.now c.args.p c.play.result c.args.m c.requires.listed c.play.ensures
-    (c.are_only_defences.ensures.missing e)
-
-pub is_only_defence-is_only_win-requires : goal.is_only_defence-is_only_win-requires
-is_only_defence-is_only_win-requires g t c κs within =
-    let legal = subst (λ (x : Position). g.G.Game.rules.is_legal x ≡ true) (sym c.play-p.ensures) (g.met.G.Game.lawful.play_legal c.args.q c.args.e c.requires.legal c.requires.listed) in
-    (search rules, (within, legal))
-
-pub is_only_defence-returns-then-branch-clause-missing : goal.is_only_defence-returns-then-branch-clause-missing
-is_only_defence-returns-then-branch-clause-missing g t c = λ e. missing_after g.G.Game.rules c.args.tables.now c.args.q c.play-p.result c.args.e c.requires.listed c.play-p.ensures
-    (c.is_only_win.ensures.missing e)
-
-pub is_only_defence-returns-in_err-is_win_in-clause-missing : goal.is_only_defence-returns-in_err-is_win_in-clause-missing
-is_only_defence-returns-in_err-is_win_in-clause-missing g t c = λ e. missing_after g.G.Game.rules c.args.tables.now c.args.q c.play-p.result c.args.e c.requires.listed c.play-p.ensures
-    (missing_here g.G.Game.rules c.args.tables.now c.play-p.result (c.in_err-is_win_in.ensures.missing refl))

@@ -16,8 +16,8 @@ abbrev pub decreases-is_only_defence : goal.decreases-is_only_defence
 decreases-is_only_defence g l = 4 * l.remoteness + 1
 
 abbrev pub invariant-is_only_win-loop-m : goal.invariant-is_only_win-loop-m
-invariant-is_only_win-loop-m g l = (m : ℕ) → Contains (take l.m-index l.m-items) m → IsOnlyAfter g.G.Game.rules l.distinct (l.remoteness - 2) l.p m
+invariant-is_only_win-loop-m g l = (m : ℕ) → Contains (take l.m-index l.m-items) m → IsOnlyAfter g.G.Game.rules l.distinct (l.remoteness - 2) l.known.position m
 
 abbrev pub invariant-are_only_defences-loop-e : goal.invariant-are_only_defences-loop-e
 invariant-are_only_defences-loop-e g l =
-    (e : ℕ) → Contains (take l.e-index l.e-items) e → IsOnlyDefence g.G.Game.rules l.distinct l.remoteness l.q e
+    (e : ℕ) → Contains (take l.e-index l.e-items) e → IsOnlyDefence g.G.Game.rules l.distinct l.remoteness l.known.position e

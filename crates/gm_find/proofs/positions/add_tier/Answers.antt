@@ -3,17 +3,20 @@ use Rattle.std.specs.Option.{is_some}
 use Rattle.std.proofs.lemmas.Result.{on_ok_weaker}
 use Rattle.gm_game.specs.declared.position.Position.{Position}
 use Rattle.gm_game.specs.Rules.{at}
+use Rattle.gm_best.proofs.Held.{held_own}
 use Rattle.gm_find.specs.Finding.{IsMatch}
 use Rattle.gm_find.proofs.ListLemmas.{run_first}
 use Rattle.gm_find.proofs.Matching.{run_has}
 use Rattle.gm_find.proofs.positions.add_tier.Goals as goal
 
-pub returns-in-Some-clause-found : goal.returns-in-Some-clause-found
-returns-in-Some-clause-found g c =
+pub returns-in-Some : goal.returns-in-Some
+returns-in-Some g c =
     let r = g.G.Game.rules in
     let reached = is_some c.args.reached in
     let P : Position → Type 0 = IsMatch r c.args.sought reached in
     let n = c.args.limit - length c.args.found.now.items in
     let run = c.run-run.result.now in
-    let has = run_has r g.met.G.Game.lawful c.args.tables.now c.args.sought reached c.args.tier c.in-Some.level c.in-Some.phase run (sym c.in-Some.is ∙ c.place.ensures) c.requires.own c.run-run.ensures.ascending c.run-run.ensures.exact in
-    on_ok_weaker c.add_run.result (λ (more, is, first). (more, is, run_first P (at c.args.tier) (r.tier_size c.args.tier) n 0 run more has first)) c.add_run.ensures.found
+    let has = run_has r g.met.G.Game.lawful c.args.tables.now c.args.sought reached c.args.tier c.in-Some.level c.in-Some.phase run
+    (sym c.in-Some.is ∙ c.place.ensures) (held_own r c.args.tables.now c.args.tier c.requires) c.run-run.ensures.ascending c.run-run.ensures.exact in
+    on_ok_weaker c.add_run.result (λ (more, is, first). (more, is, run_first P (at c.args.tier) (r.tier_size c.args.tier) n 0 run more has first))
+    c.add_run.ensures

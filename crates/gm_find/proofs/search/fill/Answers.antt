@@ -16,7 +16,8 @@ loop-init g c =
     c.in_ok-find.ensures.waiting
 
 pub returns-in-None : goal.returns-in-None
-returns-in-None g c = all_searched g.G.Game.rules c.laws.ensures c.loop.found.keys c.loop.waiting.items c.loop.invariant (sym c.loop.waiting.ok.0 ∙ c.in-None.ensures.cases.0)
+returns-in-None g c = all_searched g.G.Game.rules c.laws.ensures c.loop.found.keys c.loop.waiting.items c.loop.invariant
+    (sym c.loop.waiting.ok.0 ∙ c.in-None.ensures.cases.0)
 
 pub find_children-requires : goal.find_children-requires
 find_children-requires g c =
@@ -25,6 +26,8 @@ find_children-requires g c =
 
 pub loop-preserved : goal.loop-preserved
 loop-preserved g c =
-    searched_more g.G.Game.rules c.laws.ensures c.loop.found.keys c.find_children.new.found.keys c.loop.waiting.items c.pop.new.self.items c.find_children.new.waiting.items c.in-Some.p
-    c.loop.invariant c.in-Some.ensures.items c.in_ok-find_children-in-Some.ensures.grown c.in_ok-find_children-in-Some.ensures.children c.in_ok-find_children-in-Some.ensures.only
+    searched_more g.G.Game.rules c.laws.ensures c.loop.found.keys c.find_children.new.found.keys c.loop.waiting.items c.pop.new.self.items
+    c.find_children.new.waiting.items c.in-Some.p
+    c.loop.invariant c.in-Some.ensures.items c.in_ok-find_children-in-Some.ensures.grown c.in_ok-find_children-in-Some.ensures.children
+    c.in_ok-find_children-in-Some.ensures.only
     c.in_ok-find_children-in-Some.ensures.waiting

@@ -17,7 +17,8 @@ bounds-parts-passed-2 g c = parts_left c.args.parts.now c.loop-left.passed c.loo
 pub overflow_sub-left : goal.overflow_sub-left
 overflow_sub-left g c =
     let inside = parts_left c.args.parts.now c.loop-left.passed c.loop-left.left c.loop-left.invariant.in_range in
-    same_length c.args.parts.now c.loop-left.passed c.len.result c.len-left.result c.loop-left.left c.index-parts-passed.result c.index-parts-passed-in-loop-left.result inside
+    same_length c.args.parts.now c.loop-left.passed c.len.result c.len-left.result c.loop-left.left c.index-parts-passed.result
+    c.index-parts-passed-in-loop-left.result inside
     c.index-parts-passed.is c.index-parts-passed-in-loop-left.is c.len.ensures c.len-left.ensures c.loop-left-test.true
 
 pub note-requires : goal.note-requires
@@ -60,11 +61,14 @@ loop-left-preserved g c =
     let part = c.index-parts-passed-in-loop-left.result in
     let past = overflow_sub-left g c in
     record {
-      in_range = passed_left parts passed left c.len-left.result part inside c.index-parts-passed-in-loop-left.is c.len-left.ensures past c.loop-left.invariant.in_range;
-      same = λ d. c.loop-left.invariant.same d ∙ passed_same parts passed left c.len-left.result part inside c.index-parts-passed-in-loop-left.is c.len-left.ensures past d;
+      in_range = passed_left parts passed left c.len-left.result part inside c.index-parts-passed-in-loop-left.is c.len-left.ensures past
+          c.loop-left.invariant.in_range;
+      same = λ d. c.loop-left.invariant.same d ∙ passed_same parts passed left c.len-left.result part inside c.index-parts-passed-in-loop-left.is
+          c.len-left.ensures past d;
     }
 
 pub returns : goal.returns
 returns g c =
     found_in_whole c.args.parts.now c.loop-left.passed c.loop-left.left c.args.k c.index-parts-passed-2.result c.note.result c.requires
-    (parts_left c.args.parts.now c.loop-left.passed c.loop-left.left c.loop-left.invariant.in_range) c.index-parts-passed-2.is c.loop-left.invariant.same c.note.ensures
+    (parts_left c.args.parts.now c.loop-left.passed c.loop-left.left c.loop-left.invariant.in_range)
+    c.index-parts-passed-2.is c.loop-left.invariant.same c.note.ensures

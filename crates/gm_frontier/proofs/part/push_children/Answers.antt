@@ -11,7 +11,8 @@ use Rattle.gm_frontier.proofs.PieceLemmas.{joined_more, all_more}
 use Rattle.gm_frontier.proofs.part.push_children.Goals as goal
 
 pub child_part-requires : goal.child_part-requires
-child_part-requires g c = c.requires (get_or c.args.tiers.now c.loop-tier.tier-index 0) (Contains-get_or c.args.tiers.now c.loop-tier.tier-index 0 c.loop-tier-test.true)
+child_part-requires g c = c.requires (get_or c.args.tiers.now c.loop-tier.tier-index 0)
+    (Contains-get_or c.args.tiers.now c.loop-tier.tier-index 0 c.loop-tier-test.true)
 
 pub loop-tier-init : goal.loop-tier-init
 loop-tier-init g c = record { notes = sym (append-nil (joined c.args.parts.now.items)); whole = λ tier h. absurd (contains_none tier h) }
@@ -19,7 +20,8 @@ loop-tier-init g c = record { notes = sym (append-nil (joined c.args.parts.now.i
 pub returns-clause-notes : goal.returns-clause-notes
 returns-clause-notes g c =
     c.loop-tier.invariant.notes
-    ∙ ap (λ (l : List ℕ). joined c.args.parts.now.items ++ flat_map (notes_of_tier c.args.tables.now c.args.place) l) (take_all c.loop-tier.tier-index c.args.tiers.now c.loop-tier-test.false)
+    ∙ ap (λ (l : List ℕ). joined c.args.parts.now.items ++ flat_map (notes_of_tier c.args.tables.now c.args.place) l)
+    (take_all c.loop-tier.tier-index c.args.tiers.now c.loop-tier-test.false)
 
 pub returns-clause-whole : goal.returns-clause-whole
 returns-clause-whole g c =
@@ -32,9 +34,11 @@ loop-tier-preserved g c =
     let i = c.loop-tier.tier-index in
     let notes_in = notes_of_tier c.args.tables.now c.args.place in
     record {
-      notes = joined_more notes_in tiers i (get_or tiers i 0) 0 (joined c.args.parts.now.items) (joined c.loop-tier.parts.items) (joined c.push_part.new.parts.items) c.child_part.result
+      notes = joined_more notes_in tiers i (get_or tiers i 0) 0 (joined c.args.parts.now.items) (joined c.loop-tier.parts.items)
+          (joined c.push_part.new.parts.items) c.child_part.result
           c.loop-tier-test.true refl c.loop-tier.invariant.notes c.in_ok-push_part.ensures c.child_part.ensures.notes;
-      whole = all_more (λ t. IsChildPart g.G.Game.rules c.args.place t (notes_in t)) tiers i (get_or tiers i 0) 0 c.loop-tier-test.true refl c.loop-tier.invariant.whole
+      whole = all_more (λ t. IsChildPart g.G.Game.rules c.args.place t (notes_in t)) tiers i (get_or tiers i 0)
+          0 c.loop-tier-test.true refl c.loop-tier.invariant.whole
           (subst (IsChildPart g.G.Game.rules c.args.place (get_or tiers i 0)) c.child_part.ensures.notes c.child_part.ensures.whole);
     }
 

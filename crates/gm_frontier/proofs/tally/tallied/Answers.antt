@@ -11,7 +11,8 @@ returns-then-hi-lo g c = sym (none_into g.G.Game.rules c.args.level.now.place.ti
 
 pub returns-in_default : goal.returns-in_default
 returns-in_default g c =
-    sym (none_tallied g.G.Game.rules g.met.G.Game.lawful c.args.level.now c.place-place.ensures.level c.place-place.ensures.small c.args.lo c.args.hi c.args.tallies.now c.requires (none_first c.args.tallies.now c.in_default.ensures.value))
+    sym (none_tallied g.G.Game.rules g.met.G.Game.lawful c.args.level.now c.place-place.ensures.level c.place-place.ensures.small c.args.lo c.args.hi
+    c.args.tallies.now c.requires (none_first c.args.tallies.now c.in_default.ensures.value))
 
 pub overflow_add-number : goal.overflow_add-number
 overflow_add-number g c =
@@ -20,9 +21,12 @@ overflow_add-number g c =
     let t = c.tally-item.result in
     let k = c.tile_of-tile.result in
     let l = c.args.level.now in
-    let (start, end, inside) = tile_of g.G.Game.rules g.met.G.Game.lawful l c.place-place.ensures.level c.place-place.ensures.small c.args.lo c.args.hi tallies c.requires c.if-hi-lo.false c.in-Some.first.now (first_in tallies c.in-Some.first.now c.in-Some.ensures.value) k c.tile_of-tile.ensures.value c.tile_of-tile.ensures.some in
+    let (start, end, inside) = tile_of g.G.Game.rules g.met.G.Game.lawful l c.place-place.ensures.level c.place-place.ensures.small c.args.lo c.args.hi tallies
+    c.requires c.if-hi-lo.false c.in-Some.first.now (first_in tallies c.in-Some.first.now c.in-Some.ensures.value)
+    k c.tile_of-tile.ensures.value c.tile_of-tile.ensures.some in
     let are = all_more (IsTally g.G.Game.rules) tallies i t t c.loop-tally-test.true c.tally-item.is c.loop-tally.invariant.are c.count-number.ensures.tally in
-    let fits = so_far g.G.Game.rules g.met.G.Game.lawful l c.place-place.ensures.level c.place-place.ensures.small c.args.lo c.args.hi tallies c.requires k inside (i + 1) are in
+    let fits = so_far g.G.Game.rules g.met.G.Game.lawful l c.place-place.ensures.level c.place-place.ensures.small c.args.lo c.args.hi tallies c.requires k
+    inside (i + 1) are in
     let more = sum_more (λ (x : TallyData). get_or x.counts k 0) tallies i t t c.loop-tally-test.true c.tally-item.is in
     let sum = c.loop-tally.invariant.sum in
     let value = c.count-number.ensures.value in
@@ -48,6 +52,9 @@ returns g c =
     let i = c.loop-tally.tally-index in
     let k = c.tile_of-tile.result in
     let l = c.args.level.now in
-    let (start, end, inside) = tile_of g.G.Game.rules g.met.G.Game.lawful l c.place-place.ensures.level c.place-place.ensures.small c.args.lo c.args.hi tallies c.requires c.if-hi-lo.false c.in-Some.first.now (first_in tallies c.in-Some.first.now c.in-Some.ensures.value) k c.tile_of-tile.ensures.value c.tile_of-tile.ensures.some in
+    let (start, end, inside) = tile_of g.G.Game.rules g.met.G.Game.lawful l c.place-place.ensures.level c.place-place.ensures.small c.args.lo c.args.hi tallies
+    c.requires c.if-hi-lo.false c.in-Some.first.now (first_in tallies c.in-Some.first.now c.in-Some.ensures.value)
+    k c.tile_of-tile.ensures.value c.tile_of-tile.ensures.some in
     c.loop-tally.invariant.sum ∙ ap (λ (ts : List TallyData). sum_by (λ (x : TallyData). get_or x.counts k 0) ts) (take_all i tallies c.loop-tally-test.false)
-    ∙ finished g.G.Game.rules g.met.G.Game.lawful l c.place-place.ensures.level c.place-place.ensures.small c.args.lo c.args.hi tallies c.requires k inside (all_taken (IsTally g.G.Game.rules) tallies i c.loop-tally-test.false c.loop-tally.invariant.are) start end
+    ∙ finished g.G.Game.rules g.met.G.Game.lawful l c.place-place.ensures.level c.place-place.ensures.small c.args.lo c.args.hi tallies c.requires k inside
+    (all_taken (IsTally g.G.Game.rules) tallies i c.loop-tally-test.false c.loop-tally.invariant.are) start end

@@ -20,7 +20,8 @@ count_index-requires-clause-room g c =
     let pair : NoteData × ℕ = (c.in-Some.field-0-0, c.in-Some.parent) in
     let within = subst (Within c.args.width n) c.in-Some.ensures.steps c.loop-parent.invariant.within in
     let counted = subst (Counted c.args.width n c.loop-parent.counts.items c.args.pairs) c.in-Some.ensures.steps c.loop-parent.invariant.counted in
-    room_left c.args.width c.loop-parent.counts.items pair c.next.new.self c.args.pairs n (within pair (contains_first pair c.next.new.self)) counted c.requires.few
+    room_left c.args.width c.loop-parent.counts.items pair c.next.new.self c.args.pairs n (within pair (contains_first pair c.next.new.self))
+    counted c.requires.few
 
 pub loop-parent-preserved : goal.loop-parent-preserved
 unfolding Within Counted
@@ -33,5 +34,6 @@ loop-parent-preserved g c =
     record {
       same = c.count_index.ensures.length ∙ c.loop-parent.invariant.same;
       within = λ x l. within x (contains_later pair x c.next.new.self l);
-      counted = counted_more c.args.width c.loop-parent.counts.items c.count_index.new.counts.items pair c.next.new.self c.args.pairs n length_is (within pair (contains_first pair c.next.new.self)) c.count_index.ensures.counts counted;
+      counted = counted_more c.args.width c.loop-parent.counts.items c.count_index.new.counts.items pair c.next.new.self c.args.pairs n length_is
+          (within pair (contains_first pair c.next.new.self)) c.count_index.ensures.counts counted;
     }

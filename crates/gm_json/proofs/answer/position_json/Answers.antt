@@ -1,12 +1,25 @@
-use Rattle.std.proofs.Common.{◌∙◌}
+use Rattle.std.proofs.Common.{[], List, subst, sym}
+use Rattle.std.specs.List.{All}
 use Rattle.std.proofs.lemmas.Result.{IfOk-weaker}
-use Rattle.gm_json.proofs.Answering.{with_moves}
+use Rattle.gm_play.specs.declared.move_values.MoveValue.{MoveValue}
+use Rattle.gm_play.specs.PlayTexts.{IsMoveOf, AreMovesOf}
+use Rattle.gm_json.proofs.Answering.{with_moves, without_moves}
 use Rattle.gm_json.proofs.answer.position_json.Goals as goal
 
-pub returns-clause-text : goal.returns-clause-text
-returns-clause-text g c =
-    let found = c.in_ok-p.ensures.moves in
-    IfOk-weaker c.whole_json.result _ _
-    (λ v h. with_moves g.G.Game.rules g.G.Shown.shown g.G.Shown.move_shown c.args.asked c.args.tiers.now c.args.text.now v.items c.in_ok-p.p c.in_ok-value.value found.read c.in_ok-value.ensures.value found.list
-    c.as_slice.result.now found.values found.best (c.as_slice.ensures.value ∙ found.are) h)
-    c.whole_json.ensures.ok
+pub whole_json-requires-2 : goal.whole_json-requires-2
+whole_json-requires-2 g c = subst (All (IsMoveOf g.G.Game.rules c.args.known.now.position)) (sym c.as_slice.ensures.value) c.moves_of-list.ensures.each
+
+pub returns-then-asked : goal.returns-then-asked
+returns-then-asked g c =
+    let known = c.args.known.now in
+    IfOk-weaker c.whole_json.result _ _ (λ v told. without_moves g.G.Game.rules g.G.Shown.shown g.G.Shown.move_shown c.args.asked c.args.tiers.now v.items
+    known.position known.legal [] c.if-asked.true told) c.whole_json.ensures
+
+pub returns : goal.returns
+returns g c =
+    let r = g.G.Game.rules in
+    let known = c.args.known.now in
+    let found = subst (λ (xs : List MoveValue). AreMovesOf r c.args.asked.distinct known.position xs) (sym c.as_slice.ensures.value)
+    c.moves_of-list.ensures.moves in
+    IfOk-weaker c.whole_json-2.result _ _ (λ v told. with_moves r g.G.Shown.shown g.G.Shown.move_shown c.args.asked c.args.tiers.now v.items known.position
+    known.legal _ found told) c.whole_json-2.ensures

@@ -34,6 +34,7 @@ returns g c =
     on_ok_weaker c.push_value-2.result
     (λ e (more : Members).
     let tail = position_members r shown move_shown c.args.p c.args.value more in
-    e more ∙ member_next o1 o2 false (codes "moves") trees tail c.in_ok-push_moves.ensures ∙ opened o0 o1 123 (members_text false (member (codes "moves") trees tail)) c.in_ok-push_bytes.ensures
+    e more ∙ member_next o1 o2 false (codes "moves") trees tail c.in_ok-push_moves.ensures ∙ opened o0 o1 123
+    (members_text false (member (codes "moves") trees tail)) c.in_ok-push_bytes.ensures
     ∙ ap (λ (b : Bool). o0 ++ 123 ∷ members_text false (if b then tail else member (codes "moves") trees tail)) (sym c.if-asked.false))
     c.push_value-2.ensures

@@ -19,7 +19,8 @@ returns c =
     let m2 : Members = member (codes "line") (whole c.args.number) m3 in
     let m1 : Members = member (codes "error") said m2 in
     let e2 : o2 ≡ o1 ++ member_text false (codes "error") said
-    = c.in_ok-push_text_member.ensures ∙ ap (λ (t : List ℕ). o1 ++ member_text false (codes "error") (string t)) (clear_lossy (codes "no such position") refl) in
+    = c.in_ok-push_text_member.ensures ∙ ap (λ (t : List ℕ). o1 ++ member_text false (codes "error") (string t))
+    (clear_lossy (codes "no such position") refl) in
     let all : o4 ++ members_text true no_members ≡ o0 ++ 123 ∷ members_text false m1
     = member_next o3 o4 true (codes "read") (text c.args.read.now) no_members c.in_ok-push_text_member-2.ensures
     ∙ member_next o2 o3 true (codes "line") (whole c.args.number) m3 c.in_ok-push_number_member.ensures

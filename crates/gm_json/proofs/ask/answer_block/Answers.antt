@@ -11,7 +11,8 @@ use Rattle.gm_json.proofs.ask.answer_block.Goals as goal
 pub loop-byte-init : goal.loop-byte-init
 loop-byte-init g c = record {
   number = omega arith;
-  goes = λ r0 r1 r2 w0 h reads. opens (IsAnswer g.G.Game.rules g.G.Shown.shown g.G.Shown.move_shown c.args.asked c.args.tiers.now) c.args.hand.now.number c.args.hand.now.line.items c.args.block.now c.args.hand.now.answers.items r0 r1 r2 w0 _ h
+  goes = λ r0 r1 r2 w0 h reads. opens (IsAnswer g.G.Game.rules g.G.Shown.shown g.G.Shown.move_shown c.args.asked c.args.tiers.now) c.args.hand.now.number
+      c.args.hand.now.line.items c.args.block.now c.args.hand.now.answers.items r0 r1 r2 w0 _ h
       c.requires.answers c.requires.short reads;
 }
 
@@ -22,7 +23,8 @@ loop-byte-preserved g c =
     record {
       number = let more = c.in_ok-take_byte.ensures.number in let before = c.loop-byte.invariant.number in omega arith;
       goes = λ r0 r1 r2 w0 h reads. c.in_ok-take_byte.ensures.ok (drop (k + 1) xs) r0 r2 w0
-          (subst (λ (ahead : List ℕ). Midst (IsAnswer g.G.Game.rules g.G.Shown.shown g.G.Shown.move_shown c.args.asked c.args.tiers.now) c.loop-byte.hand.number c.loop-byte.hand.line.items c.loop-byte.hand.answers.items ahead r0 r2 w0 (g.W.Write.contents c.loop-byte.output))
+          (subst (λ (ahead : List ℕ). Midst (IsAnswer g.G.Game.rules g.G.Shown.shown g.G.Shown.move_shown c.args.asked c.args.tiers.now)
+          c.loop-byte.hand.number c.loop-byte.hand.line.items c.loop-byte.hand.answers.items ahead r0 r2 w0 (g.W.Write.contents c.loop-byte.output))
           (drop_more xs k _ c.loop-byte-test.true) (c.loop-byte.invariant.goes r0 r1 r2 w0 h reads));
     }
 
@@ -32,7 +34,8 @@ returns-in_err-take_byte-clause-err g c r0 r1 r2 w0 h reads =
     let xs = c.args.block.now in
     passed c.from_residual.result _ c.in_err-take_byte.field-0.0 c.from_residual.ensures.1
     (c.in_err-take_byte.ensures.err (drop (k + 1) xs) r0 r2 w0
-    (subst (λ (ahead : List ℕ). Midst (IsAnswer g.G.Game.rules g.G.Shown.shown g.G.Shown.move_shown c.args.asked c.args.tiers.now) c.loop-byte.hand.number c.loop-byte.hand.line.items c.loop-byte.hand.answers.items ahead r0 r2 w0 (g.W.Write.contents c.loop-byte.output))
+    (subst (λ (ahead : List ℕ). Midst (IsAnswer g.G.Game.rules g.G.Shown.shown g.G.Shown.move_shown c.args.asked c.args.tiers.now) c.loop-byte.hand.number
+    c.loop-byte.hand.line.items c.loop-byte.hand.answers.items ahead r0 r2 w0 (g.W.Write.contents c.loop-byte.output))
     (drop_more xs k _ c.loop-byte-test.true) (c.loop-byte.invariant.goes r0 r1 r2 w0 h reads)))
 
 pub returns-clause-ok : goal.returns-clause-ok
@@ -41,7 +44,8 @@ returns-clause-ok g c r0 r1 r2 w0 h reads =
     let k = c.loop-byte.byte-index in
     let hand = c.loop-byte.hand in
     let at_end : Midst says hand.number hand.line.items hand.answers.items [] r0 r2 w0 (g.W.Write.contents c.loop-byte.output)
-    = subst (λ (ahead : List ℕ). Midst says hand.number hand.line.items hand.answers.items ahead r0 r2 w0 (g.W.Write.contents c.loop-byte.output)) (drop_all k c.args.block.now c.loop-byte-test.false) (c.loop-byte.invariant.goes r0 r1 r2 w0 h reads) in
+    = subst (λ (ahead : List ℕ). Midst says hand.number hand.line.items hand.answers.items ahead r0 r2 w0 (g.W.Write.contents c.loop-byte.output))
+    (drop_all k c.args.block.now c.loop-byte-test.false) (c.loop-byte.invariant.goes r0 r1 r2 w0 h reads) in
     on_ok_weaker c.flush.result (λ written. closes says hand.number hand.line.items hand.answers.items r0 r2 w0 _ _ at_end written) c.flush.ensures.ok
 
 pub returns-clause-err : goal.returns-clause-err
@@ -50,7 +54,8 @@ returns-clause-err g c r0 r1 r2 w0 h reads =
     let k = c.loop-byte.byte-index in
     let hand = c.loop-byte.hand in
     let at_end : Midst says hand.number hand.line.items hand.answers.items [] r0 r2 w0 (g.W.Write.contents c.loop-byte.output)
-    = subst (λ (ahead : List ℕ). Midst says hand.number hand.line.items hand.answers.items ahead r0 r2 w0 (g.W.Write.contents c.loop-byte.output)) (drop_all k c.args.block.now c.loop-byte-test.false) (c.loop-byte.invariant.goes r0 r1 r2 w0 h reads) in
+    = subst (λ (ahead : List ℕ). Midst says hand.number hand.line.items hand.answers.items ahead r0 r2 w0 (g.W.Write.contents c.loop-byte.output))
+    (drop_all k c.args.block.now c.loop-byte-test.false) (c.loop-byte.invariant.goes r0 r1 r2 w0 h reads) in
     err_kind c.flush.result IsOfOutput _ _
     (λ e k part. broken_output says e _ _ _ _ k (unwritten says hand.number hand.line.items hand.answers.items [] r0 r2 w0 _ at_end _ part))
     c.flush.ensures.kind c.flush.ensures.err

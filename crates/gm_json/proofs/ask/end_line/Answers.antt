@@ -9,7 +9,8 @@ pub returns-in-Ok-clause-ok : goal.returns-in-Ok-clause-ok
 returns-in-Ok-clause-ok g c =
     let says = IsAnswer g.G.Game.rules g.G.Shown.shown g.G.Shown.move_shown c.args.asked c.args.tiers.now in
     on_ok_weaker c.next_line.result
-    (line_said says c.args.hand.now.line.items c.args.hand.now.number c.args.hand.now.answers.items c.take_answer.new.hand.answers.items c.next_line.new.hand.answers.items _ _ c.in-Ok.ensures.ok)
+    (line_said says c.args.hand.now.line.items c.args.hand.now.number c.args.hand.now.answers.items c.take_answer.new.hand.answers.items
+    c.next_line.new.hand.answers.items _ _ c.in-Ok.ensures.ok)
     c.next_line.ensures.ok
 
 pub returns-in-Ok-clause-err : goal.returns-in-Ok-clause-err

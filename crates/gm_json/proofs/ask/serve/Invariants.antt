@@ -9,5 +9,6 @@ invariant-loop-turn g l = record {
   block : length l.block ≡ block_bytes;
   number : l.hand.number ≤ 1 + l.turn * block_bytes;
   answers : l.hand.answers.items ≡ [];
-  goes : GoesOn (IsAnswer g.G.Game.rules g.G.Shown.shown g.G.Shown.move_shown l.asked l.tiers) l.hand.number l.hand.line.items (g.R.Read.remaining l.fn.input) (g.R.Read.remaining l.input) (g.W.Write.contents l.fn.output) (g.W.Write.contents l.output);
+  goes : GoesOn (IsAnswer g.G.Game.rules g.G.Shown.shown g.G.Shown.move_shown l.asked l.tiers) l.hand.number l.hand.line.items
+      (g.R.Read.remaining l.fn.input) (g.R.Read.remaining l.input) (g.W.Write.contents l.fn.output) (g.W.Write.contents l.output);
 }

@@ -11,7 +11,8 @@ returns-then-byte-eq10-clause-ok g c ahead r0 r1 w0 h =
     let says = IsAnswer g.G.Game.rules g.G.Shown.shown g.G.Shown.move_shown c.args.asked c.args.tiers.now in
     let here : (c.args.byte == 10) ≡ true = search rules in
     ok_three c.end_line.result _ _ _ _
-    (λ done empty next. line_done says c.args.hand.now.number c.args.hand.now.line.items c.args.hand.now.answers.items ahead c.args.byte r0 r1 w0 _ h _ c.end_line.new.hand.line.items c.end_line.new.hand.answers.items
+    (λ done empty next. line_done says c.args.hand.now.number c.args.hand.now.line.items c.args.hand.now.answers.items ahead c.args.byte r0 r1 w0 _ h _
+    c.end_line.new.hand.line.items c.end_line.new.hand.answers.items
     c.end_line.new.hand.number here empty next done)
     c.end_line.ensures.ok c.end_line.ensures.line c.end_line.ensures.number
 
@@ -20,7 +21,8 @@ returns-then-byte-eq10-clause-err g c ahead r0 r1 w0 h =
     let says = IsAnswer g.G.Game.rules g.G.Shown.shown g.G.Shown.move_shown c.args.asked c.args.tiers.now in
     let here : (c.args.byte == 10) ≡ true = search rules in
     err_map c.end_line.result _ _
-    (λ e broken. line_broken says c.args.hand.now.number c.args.hand.now.line.items c.args.hand.now.answers.items ahead c.args.byte r0 r1 w0 _ h _ e here broken)
+    (λ e broken. line_broken says c.args.hand.now.number c.args.hand.now.line.items c.args.hand.now.answers.items ahead c.args.byte r0 r1 w0 _ h _ e here
+    broken)
     c.end_line.ensures.err
 
 pub returns-then-not-is_full-clause-ok : goal.returns-then-not-is_full-clause-ok

@@ -10,8 +10,10 @@ push_line-requires g c = found_no_float g.G.Shown.shown g.G.Shown.move_shown _ _
 
 pub loop-x-preserved : goal.loop-x-preserved
 loop-x-preserved g c =
-    flat_more (found_line g.G.Shown.shown g.G.Shown.move_shown) c.args.found.now c.loop-x.x-index _ c.loop-x.lines.items c.push_line.new.lines.items _ c.loop-x-test.true c.loop-x.invariant
+    flat_more (found_line g.G.Shown.shown g.G.Shown.move_shown) c.args.found.now c.loop-x.x-index _ c.loop-x.lines.items c.push_line.new.lines.items _
+    c.loop-x-test.true c.loop-x.invariant
     c.in_ok-push_line.ensures (ap line_of c.in_ok-tree.ensures)
 
 pub returns : goal.returns
-returns g c = flat_all (found_line g.G.Shown.shown g.G.Shown.move_shown) c.args.found.now c.loop-x.x-index c.loop-x.lines.items c.loop-x-test.false c.loop-x.invariant
+returns g c = flat_all (found_line g.G.Shown.shown g.G.Shown.move_shown) c.args.found.now c.loop-x.x-index c.loop-x.lines.items c.loop-x-test.false
+    c.loop-x.invariant

@@ -1,36 +1,35 @@
-use Rattle.std.proofs.lemmas.Result.{IfOk-from_err}
-use Rattle.std.proofs.Common.{◌≡◌, ℕ, List, ◌++◌, subst}
+use Rattle.std.proofs.Common.{◌≡◌, ℕ, List, ◌++◌, refl, sym, subst}
+use Rattle.std.proofs.lemmas.Result.{IfOk-weaker}
 use Rattle.serde_json.specs.Data.{null}
+use Rattle.gm_play.specs.BestLines.{AreBest}
 use Rattle.gm_json.specs.Words.{line_of}
-use Rattle.gm_json.specs.Lines.{end_line, step_tree, steps_from}
+use Rattle.gm_json.specs.Lines.{end_line, step_tree, steps_from, IsLineJson}
 use Rattle.gm_json.proofs.Steps.{steps_true}
 use Rattle.gm_json.proofs.line.line_json.Goals as goal
 
-pub returns-in-Ok-clause-text : goal.returns-in-Ok-clause-text
-returns-in-Ok-clause-text g c =
+pub line_lines-requires-clause-best : goal.line_lines-requires-clause-best
+line_lines-requires-clause-best g c = subst (AreBest g.G.Game.rules c.args.start.now.position) (sym c.as_slice.ensures.value) c.in_ok-line.ensures.line.best
+
+pub returns : goal.returns
+returns g c =
     let r = g.G.Game.rules in
     let shown = g.G.Shown.shown in
     let move_shown = g.G.Shown.move_shown in
-    let play = c.in_ok-play.play in
-    let is = c.in_ok-play.ensures.play in
-    record {
-      start = play.start;
-      read = is.read;
-      value = play.value;
-      is_true = is.is_true;
-      line = play.line;
-      is_best = is.is_best;
-      whole = is.whole;
-      steps = steps_from r shown move_shown play.start play.value play.line.moves.items;
-      are_steps = steps_true r shown move_shown play.line.moves.items play.start play.value is.is_best.best is.is_true;
-      out_is = subst (λ (ms : List ℕ). c.in-Ok.lines.items ≡ line_of (step_tree shown null play.start play.value) ++ steps_from r shown move_shown play.start play.value ms ++ end_line play.line.end) c.as_slice.ensures.value c.in-Ok.ensures;
-    }
-
-pub returns-in_err-play-clause-text : goal.returns-in_err-play-clause-text
-returns-in_err-play-clause-text g c = IfOk-from_err c.from_residual.result _ c.from_residual.ensures.0
-
-pub returns-in_err-play-clause-held : goal.returns-in_err-play-clause-held
-returns-in_err-play-clause-held g c = IfOk-from_err c.from_residual.result _ c.from_residual.ensures.0
-
-pub returns-in-Ok-clause-held : goal.returns-in-Ok-clause-held
-returns-in-Ok-clause-held g c = c.in_ok-play.ensures.held
+    let start = c.args.start.now in
+    let line = c.in_ok-line.line in
+    let value = c.value.result in
+    let best = c.in_ok-line.ensures.line in
+    IfOk-weaker c.line_lines.result _ (λ v. IsLineJson r shown move_shown (shown start.position) c.args.limit v.items)
+    (λ v h. record {
+      start = start.position;
+      read = (start.legal, refl);
+      value = value;
+      is_true = c.value.ensures.value;
+      line = line;
+      is_best = best;
+      whole = c.in_ok-line.ensures.whole;
+      steps = steps_from r shown move_shown start.position value line.moves.items;
+      are_steps = steps_true r shown move_shown line.moves.items start.position value best.best c.value.ensures.value;
+      out_is = subst (λ (ms : List ℕ). v.items ≡ line_of (step_tree shown null start.position value) ++ steps_from r shown move_shown start.position value
+          ms ++ end_line line.end) c.as_slice.ensures.value h;
+    }) c.line_lines.ensures

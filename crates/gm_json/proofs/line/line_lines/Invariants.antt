@@ -10,5 +10,6 @@ invariant-loop-number g l = record {
   legal : g.G.Game.rules.is_legal l.p ≡ true;
   best : AreBest g.G.Game.rules l.p (drop l.number-index l.moves);
   lines : l.lines.items ++ steps_from g.G.Game.rules g.G.Shown.shown g.G.Shown.move_shown l.p l.value (drop l.number-index l.moves)
-      ≡ line_of (step_tree g.G.Shown.shown null l.fn.start l.fn.value) ++ steps_from g.G.Game.rules g.G.Shown.shown g.G.Shown.move_shown l.fn.start l.fn.value l.moves;
+      ≡ line_of (step_tree g.G.Shown.shown null l.fn.start l.fn.value) ++ steps_from g.G.Game.rules g.G.Shown.shown g.G.Shown.move_shown l.fn.start
+      l.fn.value l.moves;
 }

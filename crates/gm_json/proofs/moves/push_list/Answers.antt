@@ -31,5 +31,6 @@ returns g c =
     let tree = move_tree g.G.Game.rules g.G.Shown.shown g.G.Shown.move_shown c.args.p in
     let old = c.loop-x.out.items in
     on_ok_weaker c.push_bytes-2.result
-    (λ e. e ∙ ap (λ (ys : List MoveValue). old ++ items_text c.loop-x.later (items_of (map tree ys))) (sym (drop_all c.loop-x.x-index c.args.list.now c.loop-x-test.false)) ∙ c.loop-x.invariant)
+    (λ e. e ∙ ap (λ (ys : List MoveValue). old ++ items_text c.loop-x.later (items_of (map tree ys)))
+    (sym (drop_all c.loop-x.x-index c.args.list.now c.loop-x-test.false)) ∙ c.loop-x.invariant)
     c.push_bytes-2.ensures

@@ -28,9 +28,11 @@ returns g c =
     let m2 : Members = member (codes "moveValue") (string (value_word x.worth.value)) m3 in
     let m1 : Members = member (codes "move") (text (move_shown c.args.p x.number)) m2 in
     let e2 : o2 ≡ o1 ++ member_text false (codes "move") (text (move_shown c.args.p x.number))
-    = c.in_ok-push_text_member.ensures ∙ ap (λ (t : List ℕ). o1 ++ member_text false (codes "move") (text t)) (c.as_slice.ensures.value ∙ c.move_text.ensures) in
+    = c.in_ok-push_text_member.ensures ∙ ap (λ (t : List ℕ). o1 ++ member_text false (codes "move") (text t))
+    (c.as_slice.ensures.value ∙ c.move_text.ensures) in
     let e4 : o4 ≡ o3 ++ member_text true (codes "position") (text (shown x.position))
-    = c.in_ok-push_text_member-2.ensures ∙ ap (λ (t : List ℕ). o3 ++ member_text true (codes "position") (text t)) (c.as_slice-2.ensures.value ∙ c.show.ensures) in
+    = c.in_ok-push_text_member-2.ensures ∙ ap (λ (t : List ℕ). o3 ++ member_text true (codes "position") (text t))
+    (c.as_slice-2.ensures.value ∙ c.show.ensures) in
     let e6 : o6 ≡ o5 ++ member_text true (codes "remoteness") (whole x.result.remoteness)
     = c.in_ok-push_number_member.ensures ∙ ap (λ (n : ℕ). o5 ++ member_text true (codes "remoteness") (whole n)) c.from.ensures in
     let e7 : o7 ≡ o6 ++ member_text true (codes "moveRemoteness") (whole x.worth.remoteness)

@@ -17,5 +17,6 @@ returns g c =
     let o2 = c.push_moves.new.out.items in
     let o3 = c.push_value.new.out.items in
     let all : o3 ++ members_text true no_members ≡ o0 ++ 123 ∷ members_text false (member (codes "moves") trees tail)
-    = c.in_ok-push_value.ensures no_members ∙ member_next o1 o2 false (codes "moves") trees tail c.in_ok-push_moves.ensures ∙ opened o0 o1 123 (members_text false (member (codes "moves") trees tail)) c.in_ok-push_bytes.ensures in
+    = c.in_ok-push_value.ensures no_members ∙ member_next o1 o2 false (codes "moves") trees tail c.in_ok-push_moves.ensures ∙ opened o0 o1 123
+    (members_text false (member (codes "moves") trees tail)) c.in_ok-push_bytes.ensures in
     on_ok_weaker c.push_bytes-2.result (λ e. e ∙ all) c.push_bytes-2.ensures

@@ -16,10 +16,14 @@ returns g c =
     let o2 = c.push_value_member.new.out.items in
     let o3 = c.push_number_member.new.out.items in
     let e1 : o1 ≡ o0 ++ member_text c.args.later (codes "position") (text (shown c.args.p))
-    = c.in_ok-push_text_member.ensures ∙ ap (λ (t : List ℕ). o0 ++ member_text c.args.later (codes "position") (text t)) (c.as_slice.ensures.value ∙ c.show.ensures) in
+    = c.in_ok-push_text_member.ensures ∙ ap (λ (t : List ℕ). o0 ++ member_text c.args.later (codes "position") (text t))
+    (c.as_slice.ensures.value ∙ c.show.ensures) in
     on_ok_weaker c.push_number_member.result
     (λ e (more : Members).
-    member_next o2 o3 true (codes "remoteness") (whole s.remoteness) more (e ∙ ap (λ (n : ℕ). o2 ++ member_text true (codes "remoteness") (whole n)) c.from.ensures)
-    ∙ member_next o1 o2 true (codes "positionValue") (string (value_word s.value)) (member (codes "remoteness") (whole s.remoteness) more) c.in_ok-push_value_member.ensures
-    ∙ member_next o0 o1 c.args.later (codes "position") (text (shown c.args.p)) (member (codes "positionValue") (string (value_word s.value)) (member (codes "remoteness") (whole s.remoteness) more)) e1)
+    member_next o2 o3 true (codes "remoteness") (whole s.remoteness) more (e ∙ ap (λ (n : ℕ). o2 ++ member_text true (codes "remoteness") (whole n))
+    c.from.ensures)
+    ∙ member_next o1 o2 true (codes "positionValue") (string (value_word s.value)) (member (codes "remoteness") (whole s.remoteness) more)
+    c.in_ok-push_value_member.ensures
+    ∙ member_next o0 o1 c.args.later (codes "position") (text (shown c.args.p)) (member (codes "positionValue") (string (value_word s.value))
+    (member (codes "remoteness") (whole s.remoteness) more)) e1)
     c.push_number_member.ensures

@@ -14,6 +14,7 @@ push_clear-requires c = subst (λ (w : List ℕ). list_all is_clear w ≡ true) 
 pub returns : goal.returns
 returns c =
     on_ok_weaker c.push_clear.result
-    (λ e. value_after c.args.out.now.items c.push_key.new.out.items c.push_clear.new.out.items c.args.later c.args.key.now (quoted c.as_bytes.result.now) (string (value_word c.args.value))
+    (λ e. value_after c.args.out.now.items c.push_key.new.out.items c.push_clear.new.out.items c.args.later c.args.key.now (quoted c.as_bytes.result.now)
+    (string (value_word c.args.value))
     c.in_ok-push_key.ensures e (ap quoted (c.as_bytes.ensures.value ∙ c.word_of.ensures)))
     c.push_clear.ensures

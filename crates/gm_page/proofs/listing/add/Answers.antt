@@ -12,4 +12,5 @@ returns-in-Ok-clause-places c =
     let old = c.args.places.now in
     subst (λ (l : List Position). Tells c.insert.new.self l) (sym c.in_ok-push.ensures.items)
     (tells_more old c.insert.new.self ps p c.requires.places c.requires.new
-    (λ k. c.in-Ok.ensures.updates.0 k ∙ ap (λ (v : ℕ). cond (is_key (p.tier, p.index) k) (Some v) (get is_key old k)) (c.len-place.ensures ∙ c.args.positions.now.ok.0)))
+    (λ k. c.in-Ok.ensures.updates.0 k ∙ ap (λ (v : ℕ). cond (is_key (p.tier, p.index) k) (Some v) (get is_key old k))
+    (c.len-place.ensures ∙ c.args.positions.now.ok.0)))

@@ -5,7 +5,7 @@ use Rattle.gm_page.proofs.listing.fill.Given as goal
 
 abbrev pub invariant-loop-next : goal.invariant-loop-next
 invariant-loop-next g l = record {
-  through : IsGoneThrough g.G.Game.rules l.fn.start l.limit l.next l.positions.items;
+  through : IsGoneThrough g.G.Game.rules l.start.position l.limit l.next l.positions.items;
   places : Tells l.places l.positions.items;
 }
 

@@ -14,5 +14,6 @@ push_move-requires-clause-each g c = c.requires.each c.loop-x.x-index _ c.loop-x
 pub returns : goal.returns
 returns g c =
     let cells = move_cells g.G.Shown.shown g.G.Shown.move_shown c.args.list.now c.args.p in
-    let all = trees_all cells c.args.run.now c.loop-x.x-index (text (text_of c.args.worth) ∷ []) (map view c.loop-x.cells.items) c.loop-x-test.false c.loop-x.invariant in
+    let all = trees_all cells c.args.run.now c.loop-x.x-index (text (text_of c.args.worth) ∷ []) (map view c.loop-x.cells.items) c.loop-x-test.false
+    c.loop-x.invariant in
     view-Array c.loop-x.cells ∙ ap (λ (ds : List Data). array (items_of ds)) all

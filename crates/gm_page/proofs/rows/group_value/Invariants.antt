@@ -7,4 +7,5 @@ use Rattle.gm_page.specs.Rows.{move_cells}
 use Rattle.gm_page.proofs.rows.group_value.Given as goal
 
 abbrev pub invariant-loop-x : goal.invariant-loop-x
-invariant-loop-x g l = map view l.cells.items ≡ (text (text_of l.fn.worth) ∷ []) ++ flat_map (move_cells g.G.Shown.shown g.G.Shown.move_shown l.list l.p) (take l.x-index l.run)
+invariant-loop-x g l = map view l.cells.items ≡ (text (text_of l.fn.worth) ∷ []) ++ flat_map (move_cells g.G.Shown.shown g.G.Shown.move_shown l.list l.p)
+    (take l.x-index l.run)

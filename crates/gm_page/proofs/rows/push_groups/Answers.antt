@@ -22,12 +22,16 @@ loop-x-preserved g c =
     let one : map view new ≡ map view cells ++ tree (record { worth = worth; moves = run }) ∷ []
     = ap (map view) c.in_ok-push.ensures.ok ∙ map-append view cells _ ∙ ap (λ (d : Data). map view cells ++ d ∷ []) c.in_ok-group_value.ensures in
     record {
-      each = subst (All (IsMoveOf g.G.Game.rules c.args.p)) (sym c.split_at.ensures.back) (All-drop (IsMoveOf g.G.Game.rules c.args.p) n rest c.loop-x.invariant.each);
-      grouped = next_grouped tree c.args.moves.now rest (map view c.args.cells.now.items) (map view cells) (map view new) c.in-Some.x.now n run others c.loop-x.invariant.grouped
-          c.in-Some.ensures.value c.run_length.ensures.within c.run_length.ensures.same c.run_length.ensures.ends c.split_at.ensures.front c.split_at.ensures.back one;
+      each = subst (All (IsMoveOf g.G.Game.rules c.args.p)) (sym c.split_at.ensures.back)
+          (All-drop (IsMoveOf g.G.Game.rules c.args.p) n rest c.loop-x.invariant.each);
+      grouped = next_grouped tree c.args.moves.now rest (map view c.args.cells.now.items) (map view cells) (map view new) c.in-Some.x.now n run others
+          c.loop-x.invariant.grouped
+          c.in-Some.ensures.value c.run_length.ensures.within c.run_length.ensures.same c.run_length.ensures.ends c.split_at.ensures.front
+          c.split_at.ensures.back one;
     }
 
 pub returns : goal.returns
 returns g c =
     let tree = group_tree g.G.Shown.shown g.G.Shown.move_shown c.args.list.now c.args.p in
-    all_grouped tree c.args.moves.now (map view c.args.cells.now.items) c.loop-x.rest.now (map view c.loop-x.cells.items) c.loop-x.invariant.grouped (none_first c.loop-x.rest.now c.in_default.ensures.value)
+    all_grouped tree c.args.moves.now (map view c.args.cells.now.items) c.loop-x.rest.now (map view c.loop-x.cells.items) c.loop-x.invariant.grouped
+    (none_first c.loop-x.rest.now c.in_default.ensures.value)

@@ -1,5 +1,6 @@
 use Rattle.std.proofs.Common.{List, refl, sym, subst}
 use Rattle.std.specs.List.{All}
+use Rattle.std.proofs.lemmas.Result.{on_ok_weaker}
 use Rattle.gm_play.specs.declared.move_values.MoveValue.{MoveValue}
 use Rattle.gm_play.specs.PlayTexts.{IsMoveOf}
 use Rattle.gm_play.proofs.Rows.{are_moves}
@@ -8,22 +9,25 @@ use Rattle.gm_page.proofs.rows.push_row.Goals as goal
 
 pub push_known-requires-clause-each : goal.push_known-requires-clause-each
 push_known-requires-clause-each g c =
-    let r = g.G.Game.rules in
-    let all = are_moves r g.met.G.Game.lawful c.args.p c.requires c.in-Ok.moves.items c.in-Ok.ensures.values in
-    subst (All (IsMoveOf r c.args.p)) (sym c.as_slice.ensures.value) all
+    let known = c.args.known.now in
+    subst (All (IsMoveOf g.G.Game.rules known.position)) (sym c.as_slice.ensures.value)
+    (are_moves g.G.Game.rules g.met.G.Game.lawful known.position known.legal c.move_values-moves.result.items c.move_values-moves.ensures.values)
 
-pub returns-in-Ok-push_known-clause-row : goal.returns-in-Ok-push_known-clause-row
-returns-in-Ok-push_known-clause-row g c =
-    let (groups, are, is) = c.in-Ok-push_known.ensures in (
-      row_tree g.G.Shown.shown g.G.Shown.move_shown c.args.list.now c.args.p c.in_ok-value.value groups,
+pub returns : goal.returns
+returns g c =
+    let p = c.args.known.now.position in
+    on_ok_weaker c.push_known.result
+    (λ (groups, are, is). (
+      row_tree g.G.Shown.shown g.G.Shown.move_shown c.args.list.now p c.value-value.result groups,
       record {
-        value = c.in_ok-value.value;
-        is_true = c.in_ok-value.ensures.value;
-        list = c.in-Ok.moves.items;
-        values = c.in-Ok.ensures.values;
+        value = c.value-value.result;
+        is_true = c.value-value.ensures.value;
+        list = c.move_values-moves.result.items;
+        values = c.move_values-moves.ensures.values;
         groups = groups;
         grouped = subst (λ (ms : List MoveValue). AreGroups ms groups) c.as_slice.ensures.value are;
         tree_is = refl;
       },
       is,
-    )
+    ))
+    c.push_known.ensures

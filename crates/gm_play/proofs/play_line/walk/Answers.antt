@@ -2,7 +2,8 @@ use Rattle.std.proofs.Common.{◌≡◌, ◌≢◌, ◌+◌, ℕ, List, ◌∷�
 use Rattle.gm_game.specs.declared.position.End.{End}
 use Rattle.gm_play.specs.Lines.{IsLine, IsPlayed, IsReplied}
 use Rattle.gm_play.specs.declared.play_line.PlayLine.{PlayLine}
-use Rattle.gm_play.proofs.Playing.{reply_is_next, no_reply_is_left, step_on, step_stuck, step_end, step_last, answered_on, held_answered, held_replied, moves_answered, moves_replied}
+use Rattle.gm_play.proofs.Playing.{reply_is_next, no_reply_is_left, step_on, step_stuck, step_end, step_last, answered_on, held_answered, held_replied}
+use Rattle.gm_play.proofs.Playing.{moves_answered, moves_replied}
 use Rattle.gm_play.proofs.play_line.walk.Goals as goal
 
 -- whether the game has ended
@@ -28,7 +29,8 @@ replied-requires-clause-legal g c =
     let i = c.loop-reply.reply-index in
     let line = c.loop-reply.line in
     let on = reply_is_next r a.start a.first xs i line c.loop-reply-test.true c.loop-reply.invariant.on in
-    (answered_on r g.met.G.Game.lawful a.start a.first xs (get_or xs i 0 ∷ drop (i + 1) xs) line on line.side c.answered-line.result refl c.answered-line.ensures).legal
+    (answered_on r g.met.G.Game.lawful a.start a.first xs (get_or xs i 0 ∷ drop (i + 1) xs) line on line.side c.answered-line.result refl
+    c.answered-line.ensures).legal
 
 pub returns-then-is_some : goal.returns-then-is_some
 returns-then-is_some g c =
@@ -38,7 +40,8 @@ returns-then-is_some g c =
     let i = c.loop-reply.reply-index in
     let on = reply_is_next r a.start a.first xs i c.loop-reply.line c.loop-reply-test.true c.loop-reply.invariant.on in
     let ended : r.primitive c.answered-line.result.position ≢ None = ended_if _ _ c.primitive.ensures c.if-is_some.ensures in
-    step_end r g.met.G.Game.lawful a.start a.first xs (drop (i + 1) xs) (get_or xs i 0) c.loop-reply.line c.answered-line.result on c.answered-line.ensures ended
+    step_end r g.met.G.Game.lawful a.start a.first xs (drop (i + 1) xs) (get_or xs i 0) c.loop-reply.line c.answered-line.result on c.answered-line.ensures
+    ended
 
 pub returns-in_err-line : goal.returns-in_err-line
 returns-in_err-line g c =
@@ -52,7 +55,8 @@ returns-in_err-line g c =
     let given : c.from_residual.result ≡ None = c.from_residual.ensures in
     let is : IsReplied r c.answered-line.result (get_or xs i 0) None = subst (IsReplied r c.answered-line.result (get_or xs i 0)) none c.replied.ensures in
     subst (λ (o : Option PlayLine). MatchOption o ((moves : List ℕ) → IsLine r a.start a.first xs moves → ⊥) (IsPlayed r a.start a.first xs)) (sym given)
-    (step_stuck r g.met.G.Game.lawful a.start a.first xs (drop (i + 1) xs) (get_or xs i 0) c.loop-reply.line c.answered-line.result on c.answered-line.ensures open_ is)
+    (step_stuck r g.met.G.Game.lawful a.start a.first xs (drop (i + 1) xs) (get_or xs i 0) c.loop-reply.line c.answered-line.result on
+    c.answered-line.ensures open_ is)
 
 pub loop-reply-preserved : goal.loop-reply-preserved
 loop-reply-preserved g c =

@@ -3,10 +3,11 @@ use Rattle.std.specs.Io.KnownBytes.{Appends}
 use Rattle.std.proofs.lemmas.Bool.{ne_eqb}
 use Rattle.gm_game.specs.declared.position.Position.{Position}
 use Rattle.gm_play.specs.declared.session.TheConstants.{SESSION_BYTES, KEPT}
-use Rattle.gm_play.specs.Reached.{IsReached}
+use Rattle.gm_best.specs.Reached.{IsReached}
 use Rattle.gm_play.specs.Dialogue.{Advice, Said, turn, reply, closing}
 use Rattle.gm_play.specs.Sessions.{ReadsByte, AppendsPart, Says}
-use Rattle.gm_play.proofs.Reaching.{known_from, held_from, reached_reached}
+use Rattle.gm_best.proofs.Reaching.{held_from, reached_reached}
+use Rattle.gm_play.proofs.Knowing.{known_from}
 use Rattle.gm_play.proofs.Kept.{kept_push, kept_full, heard, closed}
 use Rattle.gm_play.proofs.Talk.{begins, over_at_once, cut_at_once, goes_on, next_line, last_line, input_ends, read_fails, close_fails, reply_fails, too_long}
 use Rattle.gm_play.proofs.session.converse.Goals as goal
@@ -23,10 +24,12 @@ returns-in-Ok-None-clause-ok g c k known =
     let v = g.V.View.seen in
     let w0 = g.W.Write.contents c.args.output.now in
     let w1 = g.W.Write.contents c.turn.new.output in
-    over_at_once r s m k v c.args.start c.args.first _ w0 w1 (subst (Says w0 w1 (turn r s m k v c.args.start c.args.first)) c.in-Ok-None.field-0-is (c.in-Ok-None.ensures.ok k known))
+    over_at_once r s m k v c.args.start.now.position c.args.first _ w0 w1 (subst (Says w0 w1 (turn r s m k v c.args.start.now.position c.args.first))
+    c.in-Ok-None.field-0-is (c.in-Ok-None.ensures.ok k known))
 
 pub returns-in-Err-clause-err : goal.returns-in-Err-clause-err
-returns-in-Err-clause-err g c k known = cut_at_once g.G.Game.rules g.G.Shown.shown g.G.Shown.move_shown k g.V.View.seen c.args.start c.args.first _ _ _ (c.in-Err.ensures.err k known)
+returns-in-Err-clause-err g c k known = cut_at_once g.G.Game.rules g.G.Shown.shown g.G.Shown.move_shown k g.V.View.seen c.args.start.now.position
+    c.args.first _ _ _ (c.in-Err.ensures.err k known)
 
 pub loop-count-init : goal.loop-count-init
 loop-count-init g c =
@@ -36,21 +39,31 @@ loop-count-init g c =
     let v = g.V.View.seen in
     let w0 = g.W.Write.contents c.args.output.now in
     let w1 = g.W.Write.contents c.turn.new.output in
-    let start = c.args.start in
-    let reached : IsReached r start.tier c.in-Ok-Some.p = subst (λ (o : Option Position). IfSome o (IsReached r start.tier)) c.in-Ok-Some.field-0-is c.in-Ok-Some.ensures.asked in
+    let start = c.args.start.now.position in
+    let reached : IsReached r start.tier c.in-Ok-Some.p = subst (λ (o : Option Position). IfSome o (IsReached r start.tier)) c.in-Ok-Some.field-0-is
+    c.in-Ok-Some.ensures.asked in
     record {
       few = omega arith;
       reached = reached;
       talk = λ (k : Advice) known. (
-          let said : Says w0 w1 (turn r s m k v start c.args.first) (Some c.in-Ok-Some.p) = subst (Says w0 w1 (turn r s m k v start c.args.first)) c.in-Ok-Some.field-0-is (c.in-Ok-Some.ensures.ok k known) in
+          let said : Says w0 w1 (turn r s m k v start c.args.first) (Some c.in-Ok-Some.p) = subst (Says w0 w1 (turn r s m k v start c.args.first))
+          c.in-Ok-Some.field-0-is (c.in-Ok-Some.ensures.ok k known) in
           rw c.new-line.ensures (begins r s m k v start c.args.first _ w0 w1 c.in-Ok-Some.p said));
     }
 
-pub close-requires-clause-legal : goal.close-requires-clause-legal
-close-requires-clause-legal g c = c.loop-count.invariant.reached.0
+pub invariant_of-here : goal.invariant_of-here
+invariant_of-here g c = record {
+  legal = c.loop-count.invariant.reached.0;
+  held = held_from g.G.Game.rules c.args.start.now.tables.now c.args.start.now.position.tier c.loop-count.asked c.args.start.now.held
+      c.loop-count.invariant.reached;
+}
 
-pub close-requires-clause-held : goal.close-requires-clause-held
-close-requires-clause-held g c = held_from g.G.Game.rules c.args.tables.now c.args.start.tier c.loop-count.asked c.requires.held c.loop-count.invariant.reached
+pub invariant_of-here-then-byte-eq10 : goal.invariant_of-here-then-byte-eq10
+invariant_of-here-then-byte-eq10 g c = record {
+  legal = c.loop-count.invariant.reached.0;
+  held = held_from g.G.Game.rules c.args.start.now.tables.now c.args.start.now.position.tier c.loop-count.asked c.args.start.now.held
+      c.loop-count.invariant.reached;
+}
 
 pub returns-in-Ok-clause-ok : goal.returns-in-Ok-clause-ok
 returns-in-Ok-clause-ok g c k known =
@@ -58,7 +71,7 @@ returns-in-Ok-clause-ok g c k known =
     let s = g.G.Shown.shown in
     let m = g.G.Shown.move_shown in
     let v = g.V.View.seen in
-    let start = c.args.start in
+    let start = c.args.start.now.position in
     let first = c.args.first in
     let asked = c.loop-count.asked in
     let talk = c.loop-count.invariant.talk k known in
@@ -69,7 +82,8 @@ returns-in-Ok-clause-ok g c k known =
     ap (closing r s m k v asked) (c.deref.ensures.0 ∙ talk.keeps) ∙ closed r s m g.met.G.Shown.readable k v asked c.loop-count.invariant.reached.0 talk.line in
     let w1 = g.W.Write.contents c.loop-count.output in
     let w2 = g.W.Write.contents c.close.new.output in
-    input_ends r s m k v start first talk _ w2 reads.0 reads.1 c.loop-count.invariant.few (subst (λ (t : List ℕ). Appends w1 w2 t) same (c.in-Ok.ensures.ok k there))
+    input_ends r s m k v start first talk _ w2 reads.0 reads.1 c.loop-count.invariant.few
+    (subst (λ (t : List ℕ). Appends w1 w2 t) same (c.in-Ok.ensures.ok k there))
 
 pub returns-in-Err-close-clause-err : goal.returns-in-Err-close-clause-err
 returns-in-Err-close-clause-err g c k known =
@@ -77,7 +91,7 @@ returns-in-Err-close-clause-err g c k known =
     let s = g.G.Shown.shown in
     let m = g.G.Shown.move_shown in
     let v = g.V.View.seen in
-    let start = c.args.start in
+    let start = c.args.start.now.position in
     let first = c.args.first in
     let asked = c.loop-count.asked in
     let talk = c.loop-count.invariant.talk k known in
@@ -88,23 +102,20 @@ returns-in-Err-close-clause-err g c k known =
     ap (closing r s m k v asked) (c.deref.ensures.0 ∙ talk.keeps) ∙ closed r s m g.met.G.Shown.readable k v asked c.loop-count.invariant.reached.0 talk.line in
     let w1 = g.W.Write.contents c.loop-count.output in
     let w2 = g.W.Write.contents c.close.new.output in
-    close_fails r s m k v start first talk _ w2 reads.0 c.loop-count.invariant.few (subst (λ (t : List ℕ). AppendsPart w1 w2 t) same (c.in-Err-close.ensures.err k there))
+    close_fails r s m k v start first talk _ w2 reads.0 c.loop-count.invariant.few
+    (subst (λ (t : List ℕ). AppendsPart w1 w2 t) same (c.in-Err-close.ensures.err k there))
 
 pub returns-in-Err-read_byte-clause-err : goal.returns-in-Err-read_byte-clause-err
 returns-in-Err-read_byte-clause-err g c k known =
-    read_fails g.G.Game.rules g.G.Shown.shown g.G.Shown.move_shown k g.V.View.seen c.args.start c.args.first (c.loop-count.invariant.talk k known) _ c.in-Err-read_byte.ensures.err c.loop-count.invariant.few
+    read_fails g.G.Game.rules g.G.Shown.shown g.G.Shown.move_shown k g.V.View.seen c.args.start.now.position c.args.first
+    (c.loop-count.invariant.talk k known) _ c.in-Err-read_byte.ensures.err c.loop-count.invariant.few
 
 pub returns-then-count-eq-SESSION_BYTES-clause-err : goal.returns-then-count-eq-SESSION_BYTES-clause-err
 returns-then-count-eq-SESSION_BYTES-clause-err g c k known =
     let reads : ReadsByte (g.R.Read.remaining c.loop-count.input) (g.R.Read.remaining c.read_byte.new.input) (Some c.in-Ok-Some-read_byte.byte) =
     subst (ReadsByte _ _) c.in-Ok-Some-read_byte.field-0-is c.in-Ok-Some-read_byte.ensures.ok in
-    too_long g.G.Game.rules g.G.Shown.shown g.G.Shown.move_shown k g.V.View.seen c.args.start c.args.first (c.loop-count.invariant.talk k known) _ c.in-Ok-Some-read_byte.byte reads c.if-count-eq-SESSION_BYTES.true
-
-pub reply-requires-clause-legal : goal.reply-requires-clause-legal
-reply-requires-clause-legal g c = c.loop-count.invariant.reached.0
-
-pub reply-requires-clause-held : goal.reply-requires-clause-held
-reply-requires-clause-held g c = held_from g.G.Game.rules c.args.tables.now c.args.start.tier c.loop-count.asked c.requires.held c.loop-count.invariant.reached
+    too_long g.G.Game.rules g.G.Shown.shown g.G.Shown.move_shown k g.V.View.seen c.args.start.now.position c.args.first
+    (c.loop-count.invariant.talk k known) _ c.in-Ok-Some-read_byte.byte reads c.if-count-eq-SESSION_BYTES.true
 
 pub returns-in-Ok-None-reply-clause-ok : goal.returns-in-Ok-None-reply-clause-ok
 returns-in-Ok-None-reply-clause-ok g c k known =
@@ -112,7 +123,7 @@ returns-in-Ok-None-reply-clause-ok g c k known =
     let s = g.G.Shown.shown in
     let m = g.G.Shown.move_shown in
     let v = g.V.View.seen in
-    let start = c.args.start in
+    let start = c.args.start.now.position in
     let first = c.args.first in
     let asked = c.loop-count.asked in
     let talk = c.loop-count.invariant.talk k known in
@@ -120,11 +131,14 @@ returns-in-Ok-None-reply-clause-ok g c k known =
     let reads : ReadsByte (g.R.Read.remaining c.loop-count.input) (g.R.Read.remaining c.read_byte.new.input) (Some c.in-Ok-Some-read_byte.byte) =
     subst (ReadsByte _ _) c.in-Ok-Some-read_byte.field-0-is c.in-Ok-Some-read_byte.ensures.ok in
     let same : reply r s m k v asked c.deref-then-byte-eq10.result.now ≡ reply r s m k v asked talk.line =
-    ap (reply r s m k v asked) (c.deref-then-byte-eq10.ensures.0 ∙ talk.keeps) ∙ heard r s m g.met.G.Shown.readable k v asked c.loop-count.invariant.reached.0 talk.line in
+    ap (reply r s m k v asked) (c.deref-then-byte-eq10.ensures.0 ∙ talk.keeps) ∙ heard r s m g.met.G.Shown.readable k v asked
+    c.loop-count.invariant.reached.0 talk.line in
     let w1 = g.W.Write.contents c.loop-count.output in
     let w2 = g.W.Write.contents c.reply.new.output in
-    let before : Says w1 w2 (reply r s m k v asked c.deref-then-byte-eq10.result.now) None = subst (Says w1 w2 (reply r s m k v asked c.deref-then-byte-eq10.result.now)) c.in-Ok-None-reply.field-0-is (c.in-Ok-None-reply.ensures.ok k there) in
-    last_line r s m k v start first talk _ w2 c.in-Ok-Some-read_byte.byte reads (eq-eqb _ _ c.if-byte-eq10.true) (one_below _ _ c.loop-count.invariant.few c.if-count-eq-SESSION_BYTES.false)
+    let before : Says w1 w2 (reply r s m k v asked c.deref-then-byte-eq10.result.now) None = subst
+    (Says w1 w2 (reply r s m k v asked c.deref-then-byte-eq10.result.now)) c.in-Ok-None-reply.field-0-is (c.in-Ok-None-reply.ensures.ok k there) in
+    last_line r s m k v start first talk _ w2 c.in-Ok-Some-read_byte.byte reads (eq-eqb _ _ c.if-byte-eq10.true)
+    (one_below _ _ c.loop-count.invariant.few c.if-count-eq-SESSION_BYTES.false)
     (subst (λ (t : Said). Says w1 w2 t None) same before)
 
 pub returns-in-Err-reply-clause-err : goal.returns-in-Err-reply-clause-err
@@ -133,7 +147,7 @@ returns-in-Err-reply-clause-err g c k known =
     let s = g.G.Shown.shown in
     let m = g.G.Shown.move_shown in
     let v = g.V.View.seen in
-    let start = c.args.start in
+    let start = c.args.start.now.position in
     let first = c.args.first in
     let asked = c.loop-count.asked in
     let talk = c.loop-count.invariant.talk k known in
@@ -141,10 +155,12 @@ returns-in-Err-reply-clause-err g c k known =
     let reads : ReadsByte (g.R.Read.remaining c.loop-count.input) (g.R.Read.remaining c.read_byte.new.input) (Some c.in-Ok-Some-read_byte.byte) =
     subst (ReadsByte _ _) c.in-Ok-Some-read_byte.field-0-is c.in-Ok-Some-read_byte.ensures.ok in
     let same : reply r s m k v asked c.deref-then-byte-eq10.result.now ≡ reply r s m k v asked talk.line =
-    ap (reply r s m k v asked) (c.deref-then-byte-eq10.ensures.0 ∙ talk.keeps) ∙ heard r s m g.met.G.Shown.readable k v asked c.loop-count.invariant.reached.0 talk.line in
+    ap (reply r s m k v asked) (c.deref-then-byte-eq10.ensures.0 ∙ talk.keeps) ∙ heard r s m g.met.G.Shown.readable k v asked
+    c.loop-count.invariant.reached.0 talk.line in
     let w1 = g.W.Write.contents c.loop-count.output in
     let w2 = g.W.Write.contents c.reply.new.output in
-    reply_fails r s m k v start first talk _ w2 c.in-Ok-Some-read_byte.byte reads (eq-eqb _ _ c.if-byte-eq10.true) (one_below _ _ c.loop-count.invariant.few c.if-count-eq-SESSION_BYTES.false)
+    reply_fails r s m k v start first talk _ w2 c.in-Ok-Some-read_byte.byte reads (eq-eqb _ _ c.if-byte-eq10.true)
+    (one_below _ _ c.loop-count.invariant.few c.if-count-eq-SESSION_BYTES.false)
     (subst (λ (t : Said). AppendsPart w1 w2 t.text) same (c.in-Err-reply.ensures.err k there))
 
 pub loop-count-preserved : goal.loop-count-preserved
@@ -153,7 +169,7 @@ loop-count-preserved g c =
     let s = g.G.Shown.shown in
     let m = g.G.Shown.move_shown in
     let v = g.V.View.seen in
-    let start = c.args.start in
+    let start = c.args.start.now.position in
     let first = c.args.first in
     let asked = c.loop-count.asked in
     let reached = c.loop-count.invariant.reached in
@@ -165,7 +181,8 @@ loop-count-preserved g c =
       | then-byte-eq10+in-Ok-Some-reply w ↦ (
           let next = w.in-Ok-Some-reply.next in
           let w2 = g.W.Write.contents w.reply.new.output in
-          let below : IsReached r asked.tier next = subst (λ (o : Option Position). IfSome o (IsReached r asked.tier)) w.in-Ok-Some-reply.field-0-is w.in-Ok-Some-reply.ensures.asked in
+          let below : IsReached r asked.tier next = subst (λ (o : Option Position). IfSome o (IsReached r asked.tier)) w.in-Ok-Some-reply.field-0-is
+          w.in-Ok-Some-reply.ensures.asked in
           record {
             few = few;
             reached = rw w.asked-is (reached_reached r start.tier asked next reached below);
@@ -174,9 +191,11 @@ loop-count-preserved g c =
                 let same : reply r s m k v asked w.deref-then-byte-eq10.result.now ≡ reply r s m k v asked talk.line =
                 ap (reply r s m k v asked) (w.deref-then-byte-eq10.ensures.0 ∙ talk.keeps) ∙ heard r s m g.met.G.Shown.readable k v asked reached.0 talk.line in
                 let before : Says w1 w2 (reply r s m k v asked w.deref-then-byte-eq10.result.now) (Some next) =
-                subst (Says w1 w2 (reply r s m k v asked w.deref-then-byte-eq10.result.now)) w.in-Ok-Some-reply.field-0-is (w.in-Ok-Some-reply.ensures.ok k (known_from r start.tier k asked known reached)) in
+                subst (Says w1 w2 (reply r s m k v asked w.deref-then-byte-eq10.result.now)) w.in-Ok-Some-reply.field-0-is
+                (w.in-Ok-Some-reply.ensures.ok k (known_from r start.tier k asked known reached)) in
                 rw (w.output-is, w.asked-is, w.line-is, w.clear.ensures)
-                (next_line r s m k v start first talk _ w2 c.in-Ok-Some-read_byte.byte next reads (eq-eqb _ _ w.if-byte-eq10.true) (subst (λ (t : Said). Says w1 w2 t (Some next)) same before)));
+                (next_line r s m k v start first talk _ w2 c.in-Ok-Some-read_byte.byte next reads (eq-eqb _ _ w.if-byte-eq10.true)
+                (subst (λ (t : Said). Says w1 w2 t (Some next)) same before)));
           })
       | else-byte-eq10+then-not-is_full w ↦ (
           let grown : w.push.new.self.items ≡ c.loop-count.line.items ++ c.in-Ok-Some-read_byte.byte ∷ [] = w.push.ensures.items in
@@ -232,9 +251,3 @@ returns-in-Err-reply-clause-ok g c k known = tt
 
 pub returns-clause-ok : goal.returns-clause-ok
 returns-clause-ok g c k known = tt
-
-pub turn-requires-clause-legal : goal.turn-requires-clause-legal
-turn-requires-clause-legal g c = c.requires.legal
-
-pub turn-requires-clause-held : goal.turn-requires-clause-held
-turn-requires-clause-held g c = c.requires.held

@@ -1,6 +1,6 @@
 use Rattle.std.proofs.Common.{◌≤◌}
 use Rattle.gm_play.specs.declared.session.TheConstants.{SESSION_BYTES}
-use Rattle.gm_play.specs.Reached.{IsReached}
+use Rattle.gm_best.specs.Reached.{IsReached}
 use Rattle.gm_play.specs.Dialogue.{Advice, IsKnown}
 use Rattle.gm_play.proofs.Talk.{GoesOn}
 use Rattle.gm_play.proofs.session.converse.Given as goal
@@ -8,7 +8,8 @@ use Rattle.gm_play.proofs.session.converse.Given as goal
 abbrev pub invariant-loop-count : goal.invariant-loop-count
 invariant-loop-count g l = record {
   few : l.count ≤ SESSION_BYTES;
-  reached : IsReached g.G.Game.rules l.fn.start.tier l.asked;
-  talk : (k : Advice) → IsKnown g.G.Game.rules l.fn.start.tier k
-      → GoesOn g.G.Game.rules g.G.Shown.shown g.G.Shown.move_shown k g.V.View.seen l.fn.start l.fn.first l.count (g.R.Read.remaining l.fn.input) (g.R.Read.remaining l.input) (g.W.Write.contents l.fn.output) (g.W.Write.contents l.output) l.asked l.line.items;
+  reached : IsReached g.G.Game.rules l.start.position.tier l.asked;
+  talk : (k : Advice) → IsKnown g.G.Game.rules l.start.position.tier k
+      → GoesOn g.G.Game.rules g.G.Shown.shown g.G.Shown.move_shown k g.V.View.seen l.start.position l.fn.first l.count (g.R.Read.remaining l.fn.input)
+      (g.R.Read.remaining l.input) (g.W.Write.contents l.fn.output) (g.W.Write.contents l.output) l.asked l.line.items;
 }

@@ -8,8 +8,10 @@ push_move-requires-clause-each g c = c.requires.each c.loop-x.x-index _ c.loop-x
 
 pub loop-x-preserved : goal.loop-x-preserved
 loop-x-preserved g c =
-    flat_more (move_row g.G.Game.rules g.G.Shown.shown g.G.Shown.move_shown c.args.p) c.args.list.now c.loop-x.x-index _ c.loop-x.rows.items c.push_move.new.rows.items _ c.loop-x-test.true
+    flat_more (move_row g.G.Game.rules g.G.Shown.shown g.G.Shown.move_shown c.args.p) c.args.list.now c.loop-x.x-index _ c.loop-x.rows.items
+    c.push_move.new.rows.items _ c.loop-x-test.true
     c.loop-x.invariant c.in_ok-push_move.ensures refl
 
 pub returns : goal.returns
-returns g c = flat_all (move_row g.G.Game.rules g.G.Shown.shown g.G.Shown.move_shown c.args.p) c.args.list.now c.loop-x.x-index c.loop-x.rows.items c.loop-x-test.false c.loop-x.invariant
+returns g c = flat_all (move_row g.G.Game.rules g.G.Shown.shown g.G.Shown.move_shown c.args.p) c.args.list.now c.loop-x.x-index c.loop-x.rows.items
+    c.loop-x-test.false c.loop-x.invariant

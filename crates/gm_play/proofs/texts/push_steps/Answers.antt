@@ -13,13 +13,15 @@ pub move_text-text-requires-clause-legal : goal.move_text-text-requires-clause-l
 move_text-text-requires-clause-legal g c = c.loop-number.invariant.legal
 
 pub move_text-text-requires-clause-listed : goal.move_text-text-requires-clause-listed
-move_text-text-requires-clause-listed g c = (best_step g.G.Game.rules c.loop-number.p c.args.moves.now c.loop-number.number-index c.loop-number-test.true c.loop-number.invariant.best).0
+move_text-text-requires-clause-listed g c = (best_step g.G.Game.rules c.loop-number.p c.args.moves.now c.loop-number.number-index c.loop-number-test.true
+    c.loop-number.invariant.best).0
 
 pub play-p-requires-clause-legal : goal.play-p-requires-clause-legal
 play-p-requires-clause-legal g c = c.loop-number.invariant.legal
 
 pub play-p-requires-clause-listed : goal.play-p-requires-clause-listed
-play-p-requires-clause-listed g c = (best_step g.G.Game.rules c.loop-number.p c.args.moves.now c.loop-number.number-index c.loop-number-test.true c.loop-number.invariant.best).0
+play-p-requires-clause-listed g c = (best_step g.G.Game.rules c.loop-number.p c.args.moves.now c.loop-number.number-index c.loop-number-test.true
+    c.loop-number.invariant.best).0
 
 pub push_place-requires : goal.push_place-requires
 push_place-requires g c =
@@ -37,11 +39,15 @@ loop-number-preserved g c =
     let p = c.loop-number.p in
     let step = best_step r p ms k c.loop-number-test.true c.loop-number.invariant.best in
     record {
-      legal = subst (λ (x : Position). r.is_legal x ≡ true) (sym c.play-p.ensures) (g.met.G.Game.lawful.play_legal p (get_or ms k 0) c.loop-number.invariant.legal step.0);
+      legal = subst (λ (x : Position). r.is_legal x ≡ true) (sym c.play-p.ensures)
+          (g.met.G.Game.lawful.play_legal p (get_or ms k 0) c.loop-number.invariant.legal step.0);
       best = subst (λ (x : Position). AreBest r x (drop (k + 1) ms)) (sym c.play-p.ensures) step.1;
-      rows = rows_next r shown move_shown p c.play-p.result c.loop-number.value c.value_after-value.result (get_or ms k 0) (drop (k + 1) ms) c.loop-number.rows.items c.push_place.new.rows.items _ c.play-p.ensures
-          c.value_after-value.ensures (row_named c.loop-number.rows.items _ _ _ _ _ c.in_ok-push_place.ensures (c.as_slice.ensures.value ∙ c.move_text-text.ensures))
-          (subst (λ (xs : List ℕ). c.loop-number.rows.items ++ rows_from r shown move_shown p c.loop-number.value xs ≡ c.args.rows.now.items ++ rows_from r shown move_shown c.args.start c.args.value ms)
+      rows = rows_next r shown move_shown p c.play-p.result c.loop-number.value c.value_after-value.result (get_or ms k 0) (drop (k + 1) ms)
+          c.loop-number.rows.items c.push_place.new.rows.items _ c.play-p.ensures
+          c.value_after-value.ensures (row_named c.loop-number.rows.items _ _ _ _ _ c.in_ok-push_place.ensures
+          (c.as_slice.ensures.value ∙ c.move_text-text.ensures))
+          (subst (λ (xs : List ℕ). c.loop-number.rows.items ++ rows_from r shown move_shown p c.loop-number.value xs ≡ c.args.rows.now.items ++ rows_from r
+          shown move_shown c.args.start c.args.value ms)
           (drop_more ms k 0 c.loop-number-test.true) c.loop-number.invariant.rows);
     }
 
@@ -51,5 +57,6 @@ returns g c =
     let ms = c.args.moves.now in
     let l = c.loop-number in
     rows_all l.rows.items _
-    (subst (λ (xs : List ℕ). l.rows.items ++ rows_from r g.G.Shown.shown g.G.Shown.move_shown l.p l.value xs ≡ c.args.rows.now.items ++ rows_from r g.G.Shown.shown g.G.Shown.move_shown c.args.start c.args.value ms)
+    (subst (λ (xs : List ℕ). l.rows.items ++ rows_from r g.G.Shown.shown g.G.Shown.move_shown l.p l.value xs ≡ c.args.rows.now.items ++ rows_from r
+    g.G.Shown.shown g.G.Shown.move_shown c.args.start c.args.value ms)
     (drop_all l.number-index ms c.loop-number-test.false) l.invariant.rows)

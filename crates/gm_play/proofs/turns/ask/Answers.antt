@@ -12,8 +12,9 @@ returns-in_err-write_place-clause-err g c k known =
     let s = g.G.Shown.shown in
     let m = g.G.Shown.move_shown in
     let v = g.V.View.seen in
-    let p = c.args.p in
-    on_err c.from_residual.result _ (part_longer _ _ (place r s m k v p) (asks_or_ends r s m k v p (r.primitive p)).text (c.in_err-write_place.ensures.err k known))
+    let p = c.args.known.now.position in
+    on_err c.from_residual.result _ (part_longer _ _ (place r s m k v p) (asks_or_ends r s m k v p (r.primitive p)).text
+    (c.in_err-write_place.ensures.err k known))
 
 pub returns-in-Some-clause-ok : goal.returns-in-Some-clause-ok
 returns-in-Some-clause-ok g c k known =
@@ -21,7 +22,7 @@ returns-in-Some-clause-ok g c k known =
     let s = g.G.Shown.shown in
     let m = g.G.Shown.move_shown in
     let v = g.V.View.seen in
-    let p = c.args.p in
+    let p = c.args.known.now.position in
     done_by _ _ _ (place r s m k v p) (asks_or_ends r s m k v p (r.primitive p)) (game_over You c.in-Some.end) (c.in_ok-write_place.ensures.ok k known)
     (person_ends r s m k v p c.in-Some.end (sym c.primitive.ensures ∙ c.in-Some.is)) c.over.result.now c.over.ensures c.finish.result c.finish.ensures.ok
 
@@ -31,7 +32,7 @@ returns-in-Some-clause-err g c k known =
     let s = g.G.Shown.shown in
     let m = g.G.Shown.move_shown in
     let v = g.V.View.seen in
-    let p = c.args.p in
+    let p = c.args.known.now.position in
     stops_in _ _ _ (place r s m k v p) (asks_or_ends r s m k v p (r.primitive p)) (game_over You c.in-Some.end) (c.in_ok-write_place.ensures.ok k known)
     (person_ends r s m k v p c.in-Some.end (sym c.primitive.ensures ∙ c.in-Some.is)) c.over.result.now c.over.ensures c.finish.result c.finish.ensures.err
 
@@ -41,8 +42,9 @@ returns-in-None-clause-ok g c k known =
     let s = g.G.Shown.shown in
     let m = g.G.Shown.move_shown in
     let v = g.V.View.seen in
-    let p = c.args.p in
-    done_by _ _ _ (place r s m k v p) (asks_or_ends r s m k v p (r.primitive p)) (asks (v First p ++ codes "your move?\n") p) (c.in_ok-write_place.ensures.ok k known)
+    let p = c.args.known.now.position in
+    done_by _ _ _ (place r s m k v p) (asks_or_ends r s m k v p (r.primitive p)) (asks (v First p ++ codes "your move?\n") p)
+    (c.in_ok-write_place.ensures.ok k known)
     (person_is_asked r s m k v p (sym c.primitive.ensures ∙ c.in-None.is)) (v First p ++ codes "your move?\n") refl c.ask_move.result c.ask_move.ensures.ok
 
 pub returns-in-None-clause-err : goal.returns-in-None-clause-err
@@ -51,6 +53,7 @@ returns-in-None-clause-err g c k known =
     let s = g.G.Shown.shown in
     let m = g.G.Shown.move_shown in
     let v = g.V.View.seen in
-    let p = c.args.p in
-    stops_in _ _ _ (place r s m k v p) (asks_or_ends r s m k v p (r.primitive p)) (asks (v First p ++ codes "your move?\n") p) (c.in_ok-write_place.ensures.ok k known)
+    let p = c.args.known.now.position in
+    stops_in _ _ _ (place r s m k v p) (asks_or_ends r s m k v p (r.primitive p)) (asks (v First p ++ codes "your move?\n") p)
+    (c.in_ok-write_place.ensures.ok k known)
     (person_is_asked r s m k v p (sym c.primitive.ensures ∙ c.in-None.is)) (v First p ++ codes "your move?\n") refl c.ask_move.result c.ask_move.ensures.err

@@ -21,4 +21,5 @@ returns-clause-ok g c =
 
 pub returns-clause-err : goal.returns-clause-err
 returns-clause-err g c =
-    on_err_weaker c.ask_move.result (λ h. part_after _ _ _ (codes "not a move\n") (g.V.View.seen Again c.args.p ++ codes "your move?\n") c.in_ok-say.ensures.ok h) c.ask_move.ensures.err
+    on_err_weaker c.ask_move.result (λ h. part_after _ _ _ (codes "not a move\n") (g.V.View.seen Again c.args.p ++ codes "your move?\n")
+    c.in_ok-say.ensures.ok h) c.ask_move.ensures.err

@@ -13,11 +13,12 @@ returns-in_err-reply-clause-err g c k known =
     let s = g.G.Shown.shown in
     let m = g.G.Shown.move_shown in
     let v = g.V.View.seen in
-    let p = c.args.p in
+    let p = c.args.known.now.position in
     let line = c.args.line.now in
     let some : (length line == 0) ≡ false = sym c.is_empty.ensures ∙ c.if-is_empty.false in
     let said = reply r s m k v p line in
-    on_err c.from_residual.result _ (part_is _ _ (said.text ++ after_reply r s m k v p line said.asked) (closing r s m k v p line) (closing_is r s m k v p line some)
+    on_err c.from_residual.result _ (part_is _ _ (said.text ++ after_reply r s m k v p line said.asked) (closing r s m k v p line)
+    (closing_is r s m k v p line some)
     (part_longer _ _ said.text (after_reply r s m k v p line said.asked) (c.in_err-reply.ensures.err k known)))
 
 pub returns-in-Some-clause-ok : goal.returns-in-Some-clause-ok
@@ -26,7 +27,7 @@ returns-in-Some-clause-ok g c k known =
     let s = g.G.Shown.shown in
     let m = g.G.Shown.move_shown in
     let v = g.V.View.seen in
-    let p = c.args.p in
+    let p = c.args.known.now.position in
     let line = c.args.line.now in
     let some : (length line == 0) ≡ false = sym c.is_empty.ensures ∙ c.if-is_empty.false in
     let said = reply r s m k v p line in
@@ -42,7 +43,7 @@ returns-in-Some-clause-err g c k known =
     let s = g.G.Shown.shown in
     let m = g.G.Shown.move_shown in
     let v = g.V.View.seen in
-    let p = c.args.p in
+    let p = c.args.known.now.position in
     let line = c.args.line.now in
     let some : (length line == 0) ≡ false = sym c.is_empty.ensures ∙ c.if-is_empty.false in
     let said = reply r s m k v p line in

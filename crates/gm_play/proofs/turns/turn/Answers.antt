@@ -2,20 +2,18 @@ use Rattle.std.proofs.Common.{sym, subst, OnErr}
 use Rattle.gm_best.specs.declared.side.Side.{Side}
 use Rattle.gm_play.specs.Dialogue.{turn}
 use Rattle.gm_play.specs.Sessions.{AppendsPart}
-use Rattle.gm_play.proofs.Held.{held_own}
 use Rattle.gm_play.proofs.turns.turn.Goals as goal
-
-pub ask-requires-clause-held : goal.ask-requires-clause-held
-ask-requires-clause-held g c = held_own g.G.Game.rules c.args.tables.now c.args.p.tier c.requires.held
 
 pub returns-in-You-clause-err : goal.returns-in-You-clause-err
 returns-in-You-clause-err g c k known =
     let w0 = g.W.Write.contents c.args.output.now in
     let w1 = g.W.Write.contents c.ask.new.output in
-    subst (λ (side : Side). OnErr c.ask.result (AppendsPart w0 w1 (turn g.G.Game.rules g.G.Shown.shown g.G.Shown.move_shown k g.V.View.seen c.args.p side).text)) (sym c.in-You.is) (c.ask.ensures.err k known)
+    subst (λ (side : Side). OnErr c.ask.result (AppendsPart w0 w1 (turn g.G.Game.rules g.G.Shown.shown g.G.Shown.move_shown k g.V.View.seen
+    c.args.known.now.position side).text)) (sym c.in-You.is) (c.ask.ensures.err k known)
 
 pub returns-in-Computer-clause-err : goal.returns-in-Computer-clause-err
 returns-in-Computer-clause-err g c k known =
     let w0 = g.W.Write.contents c.args.output.now in
     let w1 = g.W.Write.contents c.move_and_ask.new.output in
-    subst (λ (side : Side). OnErr c.move_and_ask.result (AppendsPart w0 w1 (turn g.G.Game.rules g.G.Shown.shown g.G.Shown.move_shown k g.V.View.seen c.args.p side).text)) (sym c.in-Computer.is) (c.move_and_ask.ensures.err k known)
+    subst (λ (side : Side). OnErr c.move_and_ask.result (AppendsPart w0 w1 (turn g.G.Game.rules g.G.Shown.shown g.G.Shown.move_shown k g.V.View.seen
+    c.args.known.now.position side).text)) (sym c.in-Computer.is) (c.move_and_ask.ensures.err k known)

@@ -1,8 +1,6 @@
-use Rattle.std.proofs.Common.{◌≡◌, ◌∙◌, Option, List, ℕ, OnOk, OnErr, IfSome, subst, ap}
+use Rattle.std.proofs.Common.{◌≡◌, ◌∙◌, List, ℕ, OnOk, OnErr, subst, ap}
 use Rattle.std.specs.Io.KnownBytes.{Appends}
-use Rattle.gm_game.specs.declared.position.Solved.{Solved}
 use Rattle.gm_game.specs.Texts.{text_of}
-use Rattle.gm_game.specs.Values.{IsTrueValue}
 use Rattle.gm_play.specs.Sessions.{AppendsPart}
 use Rattle.gm_play.proofs.Saying.{value_known, place_is}
 use Rattle.gm_play.proofs.turns.write_place.Goals as goal
@@ -10,19 +8,21 @@ use Rattle.gm_play.proofs.turns.write_place.Goals as goal
 pub returns-clause-ok : goal.returns-clause-ok
 returns-clause-ok g c k known =
     let r = g.G.Game.rules in
-    let is_true : IsTrueValue r c.args.p c.unwrap-solved.result = subst (λ (o : Option Solved). IfSome o (IsTrueValue r c.args.p)) c.unwrap-solved.ensures c.get.ensures.is_true in
-    let value : c.unwrap-solved.result ≡ k.value c.args.p = value_known r k c.args.p c.unwrap-solved.result c.requires.legal known is_true in
-    let front : c.as_slice.result.now ≡ g.G.Shown.shown c.args.p = c.as_slice.ensures.value ∙ c.show.ensures in
-    let back : c.as_slice-2.result.now ≡ text_of (k.value c.args.p) = c.as_slice-2.ensures.value ∙ c.value_text.ensures ∙ ap text_of value in
+    let value : c.value-solved.result ≡ k.value c.args.known.now.position = value_known r k c.args.known.now.position c.value-solved.result
+    c.args.known.now.legal known c.value-solved.ensures.value in
+    let front : c.as_slice.result.now ≡ g.G.Shown.shown c.args.known.now.position = c.as_slice.ensures.value ∙ c.show.ensures in
+    let back : c.as_slice-2.result.now ≡ text_of (k.value c.args.known.now.position) = c.as_slice-2.ensures.value ∙ c.value_text.ensures ∙ ap text_of value in
     subst (λ (t : List ℕ). OnOk c.write_line.result (Appends (g.W.Write.contents c.args.output.now) (g.W.Write.contents c.write_line.new.output) t))
-    (place_is r g.G.Shown.shown g.G.Shown.move_shown k g.V.View.seen c.args.p c.as_slice.result.now c.as_slice-2.result.now front back) c.write_line.ensures.ok
+    (place_is r g.G.Shown.shown g.G.Shown.move_shown k g.V.View.seen c.args.known.now.position c.as_slice.result.now c.as_slice-2.result.now front back)
+    c.write_line.ensures.ok
 
 pub returns-clause-err : goal.returns-clause-err
 returns-clause-err g c k known =
     let r = g.G.Game.rules in
-    let is_true : IsTrueValue r c.args.p c.unwrap-solved.result = subst (λ (o : Option Solved). IfSome o (IsTrueValue r c.args.p)) c.unwrap-solved.ensures c.get.ensures.is_true in
-    let value : c.unwrap-solved.result ≡ k.value c.args.p = value_known r k c.args.p c.unwrap-solved.result c.requires.legal known is_true in
-    let front : c.as_slice.result.now ≡ g.G.Shown.shown c.args.p = c.as_slice.ensures.value ∙ c.show.ensures in
-    let back : c.as_slice-2.result.now ≡ text_of (k.value c.args.p) = c.as_slice-2.ensures.value ∙ c.value_text.ensures ∙ ap text_of value in
+    let value : c.value-solved.result ≡ k.value c.args.known.now.position = value_known r k c.args.known.now.position c.value-solved.result
+    c.args.known.now.legal known c.value-solved.ensures.value in
+    let front : c.as_slice.result.now ≡ g.G.Shown.shown c.args.known.now.position = c.as_slice.ensures.value ∙ c.show.ensures in
+    let back : c.as_slice-2.result.now ≡ text_of (k.value c.args.known.now.position) = c.as_slice-2.ensures.value ∙ c.value_text.ensures ∙ ap text_of value in
     subst (λ (t : List ℕ). OnErr c.write_line.result (AppendsPart (g.W.Write.contents c.args.output.now) (g.W.Write.contents c.write_line.new.output) t))
-    (place_is r g.G.Shown.shown g.G.Shown.move_shown k g.V.View.seen c.args.p c.as_slice.result.now c.as_slice-2.result.now front back) c.write_line.ensures.err
+    (place_is r g.G.Shown.shown g.G.Shown.move_shown k g.V.View.seen c.args.known.now.position c.as_slice.result.now c.as_slice-2.result.now front back)
+    c.write_line.ensures.err

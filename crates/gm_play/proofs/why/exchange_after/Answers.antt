@@ -1,8 +1,12 @@
-use Rattle.std.proofs.Common.{refl}
-use Rattle.gm_play.proofs.Exchanging.{with_answer}
-use Rattle.gm_play.proofs.Exits.{best_in}
+use Rattle.std.proofs.Common.{None, Some, refl, sym, subst, ◌∙◌}
+use Rattle.gm_game.specs.declared.position.Position.{Position}
+use Rattle.gm_best.specs.BestMoves.{IsBestMove}
+use Rattle.gm_play.proofs.Exchanging.{with_answer, without_answer}
 use Rattle.gm_play.proofs.why.exchange_after.Goals as goal
 
 pub returns-in-Some-clause-exchange : goal.returns-in-Some-clause-exchange
 returns-in-Some-clause-exchange g c =
-    with_answer g.G.Game.rules g.met.G.Game.lawful _ c.in-Some.m c.requires.legal c.requires.value (best_in g.G.Game.rules c.args.x.position c.best_move.result _ c.in-Some.ensures c.best_move.ensures.best) refl c.play.ensures c.value_after.ensures
+    let r = g.G.Game.rules in
+    let best = subst (λ (q : Position). IsBestMove r q (Some c.in-Some.m)) (c.play.ensures ∙ sym c.requires.value.position)
+    (subst (IsBestMove r c.play.result.position) c.in-Some.is c.best_move.ensures) in
+    with_answer r g.met.G.Game.lawful _ c.in-Some.m c.requires.each.1 c.requires.value.is_true best refl c.play-in-Some.ensures c.value_after.ensures

@@ -19,7 +19,8 @@ loop-p-preserved c =
     let inside = c.loop-p-test.true in
     elim c.if-not-is_among.branch [
       | then-not-is_among w ↦ (
-          let new : Contains once p → ⊥ = λ h. (let none = w.if-not-is_among.true in let there = c.is_among.ensures.1 (subst (λ (ps : List Position). Contains ps p) (sym c.as_slice.ensures.value) h) in absurd (cc)) in
+          let new : Contains once p → ⊥ = λ h. (let none = w.if-not-is_among.true in
+          let there = c.is_among.ensures.1 (subst (λ (ps : List Position). Contains ps p) (sym c.as_slice.ensures.value) h) in absurd (cc)) in
           let more = listed_new list once marks i (at 0 0) inside c.loop-p.invariant w.mark_of.result w.mark_of.ensures.value w.mark_of.ensures.within new in
           rw (w.once-is, w.push.ensures.items, w.marks-is) more)
       | else-not-is_among w ↦ (

@@ -23,10 +23,12 @@ loop-index-preserved g c =
     let s = c.args.children.now in
     let count = c.range-lo.ensures.count in
     let within : c.loop-index.index < length s.delivered = omega arith in
-    let is : StatusIs r s (s.lo + c.loop-index.index) c.status.result = subst (λ (n : ℕ). StatusIs r s (n + c.loop-index.index) c.status.result) c.range-lo.ensures.lo c.status.ensures in
+    let is : StatusIs r s (s.lo + c.loop-index.index) c.status.result =
+    subst (λ (n : ℕ). StatusIs r s (n + c.loop-index.index) c.status.result) c.range-lo.ensures.lo c.status.ensures in
     elim c.if-has_phase.branch [
       | then-has_phase w ↦ subst (IsFilled r s c.args.phase (c.loop-index.index + 1)) (sym w.queue-is)
-          (filled_more r s c.range-lo.ensures.good c.args.phase c.loop-index.index within c.loop-index.queue c.loop-index.invariant c.status.result is (c.has_phase.ensures.0 w.if-has_phase.true)
+          (filled_more r s c.range-lo.ensures.good c.args.phase c.loop-index.index within c.loop-index.queue c.loop-index.invariant c.status.result is
+          (c.has_phase.ensures.0 w.if-has_phase.true)
           w.push.new.self w.push.ensures.items w.push.ensures.from w.push.ensures.to w.push.ensures.room)
       | else-has_phase w ↦ subst (IsFilled r s c.args.phase (c.loop-index.index + 1)) (sym w.queue-is)
           (filled_past r s c.range-lo.ensures.good c.args.phase c.loop-index.index within c.loop-index.queue c.loop-index.invariant c.status.result is

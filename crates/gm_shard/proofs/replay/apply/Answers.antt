@@ -11,5 +11,8 @@ returns g c =
     (slice_get-get_or c.args.shards.now k d (omega (arith, c.if-index-shards.false))) (sym c.shard_of-index.ensures) c.take.ensures
 
 pub returns-then-index-shards : goal.returns-then-index-shards
-returns-then-index-shards g c =
-    (refl, not_applied g.G.Game.rules c.args.event.now c.args.shards.now (λ l. (let e = c.shard_of-index.ensures in let h = c.if-index-shards.true in omega arith)))
+returns-then-index-shards g c = (
+  refl,
+  not_applied g.G.Game.rules c.args.event.now c.args.shards.now
+      (λ l. (let e = c.shard_of-index.ensures in let h = c.if-index-shards.true in omega arith)),
+)

@@ -13,20 +13,24 @@ loop-event-preserved g c =
     elim c.if-apply.branch [
       | then-apply w ↦ (
         subst (λ (n : ℕ). Leads r c.args.shards.now es c.apply.new.shards (drop (i + 1) es) n) (sym w.applied-is)
-            (leads_changed r c.args.shards.now es c.loop-event.shards c.apply.new.shards i c.event-item.result c.loop-event.applied l c.event-item.is old w.if-apply.ensures),
+            (leads_changed r c.args.shards.now es c.loop-event.shards c.apply.new.shards i c.event-item.result c.loop-event.applied l c.event-item.is old
+            w.if-apply.ensures),
         omega (arith, w.applied-is),
       )
       | else-apply w ↦ (
         subst (λ (n : ℕ). Leads r c.args.shards.now es c.apply.new.shards (drop (i + 1) es) n) (sym w.applied-is)
-            (leads_skipped r c.args.shards.now es c.loop-event.shards c.apply.new.shards i c.event-item.result c.loop-event.applied l c.event-item.is old w.if-apply.ensures),
+            (leads_skipped r c.args.shards.now es c.loop-event.shards c.apply.new.shards i c.event-item.result c.loop-event.applied l c.event-item.is old
+            w.if-apply.ensures),
         omega (arith, w.applied-is),
       )
     ]
 
 pub loop-shard-preserved : goal.loop-shard-preserved
 loop-shard-preserved g c =
-    one_more_good g.G.Game.rules c.loop-event.shards c.loop-shard.shard-index c.shard-item.result c.loop-shard-test.true c.shard-item.is c.range-good.ensures.good c.loop-shard.invariant
+    one_more_good g.G.Game.rules c.loop-event.shards c.loop-shard.shard-index c.shard-item.result c.loop-shard-test.true c.shard-item.is
+    c.range-good.ensures.good c.loop-shard.invariant
 
 pub returns-clause-run : goal.returns-clause-run
 returns-clause-run g c =
-    all_events g.G.Game.rules c.args.shards.now c.args.events.now c.loop-event.shards c.loop-event.event-index c.loop-event.applied c.loop-event-test.false c.loop-event.invariant.0
+    all_events g.G.Game.rules c.args.shards.now c.args.events.now c.loop-event.shards c.loop-event.event-index c.loop-event.applied c.loop-event-test.false
+    c.loop-event.invariant.0

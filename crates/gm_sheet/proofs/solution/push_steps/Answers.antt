@@ -14,13 +14,15 @@ pub push_step-requires-clause-legal : goal.push_step-requires-clause-legal
 push_step-requires-clause-legal g c = c.loop-number.invariant.legal
 
 pub push_step-requires-clause-listed : goal.push_step-requires-clause-listed
-push_step-requires-clause-listed g c = (best_step g.G.Game.rules c.loop-number.p c.args.moves.now c.loop-number.number-index c.loop-number-test.true c.loop-number.invariant.best).0
+push_step-requires-clause-listed g c = (best_step g.G.Game.rules c.loop-number.p c.args.moves.now c.loop-number.number-index c.loop-number-test.true
+    c.loop-number.invariant.best).0
 
 pub play-p-requires-clause-legal : goal.play-p-requires-clause-legal
 play-p-requires-clause-legal g c = c.loop-number.invariant.legal
 
 pub play-p-requires-clause-listed : goal.play-p-requires-clause-listed
-play-p-requires-clause-listed g c = (best_step g.G.Game.rules c.loop-number.p c.args.moves.now c.loop-number.number-index c.loop-number-test.true c.loop-number.invariant.best).0
+play-p-requires-clause-listed g c = (best_step g.G.Game.rules c.loop-number.p c.args.moves.now c.loop-number.number-index c.loop-number-test.true
+    c.loop-number.invariant.best).0
 
 pub loop-number-preserved : goal.loop-number-preserved
 loop-number-preserved g c =
@@ -47,4 +49,5 @@ returns g c =
     let r = g.G.Game.rules in
     let move_shown = g.G.Shown.move_shown in
     let all : List ℕ = c.args.text.now.items ++ steps_text r move_shown c.args.start ms in
-    sym (append-nil l.text.items) ∙ subst (λ (xs : List ℕ). l.text.items ++ steps_text r move_shown l.p xs ≡ all) (drop_all l.number-index ms c.loop-number-test.false) l.invariant.steps
+    sym (append-nil l.text.items) ∙ subst (λ (xs : List ℕ). l.text.items ++ steps_text r move_shown l.p xs ≡ all)
+    (drop_all l.number-index ms c.loop-number-test.false) l.invariant.steps

@@ -7,5 +7,6 @@ abbrev pub invariant-loop-number : goal.invariant-loop-number
 invariant-loop-number g l = record {
   legal : g.G.Game.rules.is_legal l.p ≡ true;
   best : AreBest g.G.Game.rules l.p (drop l.number-index l.moves);
-  steps : l.text.items ++ steps_text g.G.Game.rules g.G.Shown.move_shown l.p (drop l.number-index l.moves) ≡ l.fn.text.items ++ steps_text g.G.Game.rules g.G.Shown.move_shown l.fn.start l.moves;
+  steps : l.text.items ++ steps_text g.G.Game.rules g.G.Shown.move_shown l.p (drop l.number-index l.moves) ≡ l.fn.text.items ++ steps_text g.G.Game.rules
+      g.G.Shown.move_shown l.fn.start l.moves;
 }

@@ -5,10 +5,10 @@ use Rattle.gm_game.specs.declared.position.Place.{Place}
 use Rattle.gm_frontier.specs.Notes.{NoteData}
 use Rattle.gm_frontier.specs.Levels.{IsLevel}
 use Rattle.gm_deliveries.specs.Steps.{place_of}
-use Rattle.gm_desk.specs.Spots.{Spot, spot_of}
-use Rattle.gm_desk.specs.Rounds.{pairs_into, AreFirst, IsLevelAt}
-use Rattle.gm_desk.proofs.RoundLemmas.{pairs_are_into}
-use Rattle.gm_desk.proofs.Gains.{stays}
+use Rattle.gm_locks.specs.Spots.{Spot, spot_of}
+use Rattle.gm_locks.specs.Rounds.{pairs_into, AreFirst, IsLevelAt}
+use Rattle.gm_locks.proofs.RoundLemmas.{pairs_are_into}
+use Rattle.gm_locks.proofs.Gains.{stays}
 use Rattle.gm_table.specs.Solving.{IsTooFar}
 use Rattle.gm_solver.proofs.Far.{refused_far}
 use Rattle.gm_solver.proofs.RoundLemmas.{item_next, item_last, into_fit}
@@ -22,10 +22,16 @@ loop-note-init g c =
     let s = c.args.shard.now in
     let long : length l.notes ≤ c.max.result = (let a = c.len.ensures in let b = c.max.ensures in omega arith) in
     let at : IsLevelAt l (spot_of s) l.notes = record { place = c.requires.place; notes_are = refl } in
-    let items = pairs_are_into r l (spot_of s) l.notes at c.range-lo.result.0 c.range-lo.result.1 c.range-lo.ensures.lo c.range-lo.ensures.hi c.pairs-note-items.result (c.pairs-note-items.ensures.whole refl long) in
+    let items = pairs_are_into r l (spot_of s) l.notes at c.range-lo.result.0 c.range-lo.result.1 c.range-lo.ensures.lo c.range-lo.ensures.hi
+    c.pairs-note-items.result (c.pairs-note-items.ensures.whole refl long) in
     let pairs = c.into_iter-note-iterator.ensures.into_iter_gives ∙ items in
     let from : c.args.done ≡ max 0 c.args.done = omega arith in
-    record { left = sym pairs; within = omega arith; at = refl; first = subst (λ (k : ℕ). AreFirst (pairs_into r (spot_of s) l.notes) s k) from c.requires.first }
+    record {
+      left = sym pairs;
+      within = omega arith;
+      at = refl;
+      first = subst (λ (k : ℕ). AreFirst (pairs_into r (spot_of s) l.notes) s k) from c.requires.first;
+    }
 
 pub deliver_new-requires-clause-here : goal.deliver_new-requires-clause-here
 deliver_new-requires-clause-here g c =
@@ -64,7 +70,8 @@ loop-note-preserved g c =
     let first = subst (λ (k : ℕ). AreFirst (pairs_into r (spot_of s) l.notes) c.loop-note.shard k) now h.first in
     let inside = slice_get_within (pairs_into r (spot_of s) l.notes) c.loop-note.number pair next.0 in
     let up : suc c.loop-note.number ≡ c.loop-note.number + 1 = omega arith in
-    let more = next_first r g.met.G.Game.lawful s l.notes level c.loop-note.shard c.deliver_new.new.self c.loop-note.number pair c.in-Ok.field-0 h.at next.0 c.in-Ok.ensures first in
+    let more = next_first r g.met.G.Game.lawful s l.notes level c.loop-note.shard c.deliver_new.new.self c.loop-note.number pair c.in-Ok.field-0 h.at next.0
+    c.in-Ok.ensures first in
     let to : c.loop-note.number + 1 ≡ max (c.loop-note.number + 1) c.args.done = omega arith in
     record {
       left = subst (λ (k : ℕ). drop k (pairs_into r (spot_of s) l.notes) ≡ c.next.new.self) up next.1;
@@ -84,7 +91,8 @@ loop-note-preserved-then-number-done g c =
     let next = item_next (pairs_into r (spot_of s) l.notes) c.loop-note.number pair c.next.new.self (h.left ∙ c.in-Some.ensures.steps) in
     let inside = slice_get_within (pairs_into r (spot_of s) l.notes) c.loop-note.number pair next.0 in
     let up : suc c.loop-note.number ≡ c.loop-note.number + 1 = omega arith in
-    let to : max c.loop-note.number c.args.done ≡ max (c.loop-note.number + 1) c.args.done = (let less : c.loop-note.number < c.args.done = c.if-number-done.true in omega arith) in
+    let to : max c.loop-note.number c.args.done ≡ max (c.loop-note.number + 1) c.args.done =
+    (let less : c.loop-note.number < c.args.done = c.if-number-done.true in omega arith) in
     record {
       left = subst (λ (k : ℕ). drop k (pairs_into r (spot_of s) l.notes) ≡ c.next.new.self) up next.1;
       within = omega arith;
@@ -108,7 +116,8 @@ overflow_add-number-in-Ok g c =
 
 pub returns-in-Err-clause-same : goal.returns-in-Err-clause-same
 returns-in-Err-clause-same g c =
-    same_spot_from c.args.shard.now c.deliver_new.new.self (stays g.G.Game.rules c.in-Some.note c.in-Some.parent c.loop-note.shard c.deliver_new.new.self (Err c.in-Err._refused) c.in-Err.ensures ∙ c.loop-note.invariant.at)
+    same_spot_from c.args.shard.now c.deliver_new.new.self (stays g.G.Game.rules c.in-Some.note c.in-Some.parent c.loop-note.shard c.deliver_new.new.self
+    (Err c.in-Err._refused) c.in-Err.ensures ∙ c.loop-note.invariant.at)
 
 pub returns-in-Err-clause-whole : goal.returns-in-Err-clause-whole
 returns-in-Err-clause-whole g c = tt
@@ -123,8 +132,11 @@ returns-in-Err-clause-error g c =
     let pair : NoteData × ℕ = (c.in-Some.note, c.in-Some.parent) in
     let next = item_next (pairs_into r (spot_of s) l.notes) c.loop-note.number pair c.next.new.self (h.left ∙ c.in-Some.ensures.steps) in
     let d = next_of r g.met.G.Game.lawful s l.notes level c.loop-note.shard h.at c.loop-note.number pair next.0 in
-    let near : c.loop-note.shard.level ≤ REMOTENESS = (let a = c.requires.near in let b = ap (λ (x : Spot). x.level) h.at in omega arith) in
-    (c.tier-tier.ensures, subst (IsTooFar r) (ap (λ (x : Spot). x.tier) h.at) (refused_far r g.met.G.Game.lawful c.loop-note.shard c.deliver_new.new.self pair c.in-Err._refused d c.range-good.ensures.good near c.in-Err.ensures))
+    let near : c.loop-note.shard.level ≤ REMOTENESS = (let a = c.requires.near in let b = ap (λ (x : Spot). x.level) h.at in omega arith) in (
+      c.tier-tier.ensures,
+      subst (IsTooFar r) (ap (λ (x : Spot). x.tier) h.at)
+          (refused_far r g.met.G.Game.lawful c.loop-note.shard c.deliver_new.new.self pair c.in-Err._refused d c.range-good.ensures.good near c.in-Err.ensures),
+    )
 
 pub returns-clause-same : goal.returns-clause-same
 returns-clause-same g c = same_spot_from c.args.shard.now c.loop-note.shard c.loop-note.invariant.at

@@ -16,7 +16,8 @@ pub close-requires-clause-fits : goal.close-requires-clause-fits
 close-requires-clause-fits g c = subst (λ (n : ℕ). n ≤ REMOTENESS) (sym c.deliver_rest.ensures.same.level) c.requires.near
 
 pub returns-clause-ready : goal.returns-clause-ready
-returns-clause-ready g c = ready_next g.G.Game.rules c.args.shard.now c.deliver_rest.new.shard c.close.new.self c.requires.ready c.deliver_rest.ensures.same c.range-good.ensures.good c.close.ensures
+returns-clause-ready g c = ready_next g.G.Game.rules c.args.shard.now c.deliver_rest.new.shard c.close.new.self c.requires.ready c.deliver_rest.ensures.same
+    c.range-good.ensures.good c.close.ensures
 
 pub returns-clause-next : goal.returns-clause-next
 returns-clause-next g c = next_from c.args.shard.now c.deliver_rest.new.shard c.close.new.self c.deliver_rest.ensures.same c.close.ensures

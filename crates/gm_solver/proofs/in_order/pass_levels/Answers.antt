@@ -16,7 +16,8 @@ pass_level-requires-clause-near g c =
     let ready = c.loop-runs.invariant.ready in
     let held = subst (AreHeld r c.args.tables.now) (sym c.loop-runs.invariant.later.tier) c.requires.held in
     let here : c.in_ok-level.level.place ≡ place_of s = c.in_ok-level.ensures.0 ∙ c.place.ensures in
-    level_near r g.met.G.Game.lawful c.args.tables.now c.has-held.ensures.tables (place_of s) (whole_covered r s c.range-good.ensures.good ready.lo ready.whole) held
+    level_near r g.met.G.Game.lawful c.args.tables.now c.has-held.ensures.tables (place_of s)
+    (whole_covered r s c.range-good.ensures.good ready.lo ready.whole) held
     (λ last. false≢true (c.in_default.ensures.exact.1 (subst (λ (p : Place). IsLastLevel r p.tier p.phase p.level) (sym here) last)))
 
 pub loop-runs-preserved : goal.loop-runs-preserved
@@ -27,7 +28,8 @@ loop-runs-preserved g c =
     let later = c.loop-runs.invariant.later in
     let held = subst (AreHeld r c.args.tables.now) (sym later.tier) c.requires.held in
     let here : c.in_ok-level.level.place ≡ place_of s = c.in_ok-level.ensures.0 ∙ c.place.ensures in
-    let near : s.level ≤ REMOTENESS = level_near r g.met.G.Game.lawful c.args.tables.now c.has-held.ensures.tables (place_of s) (whole_covered r s c.range-good.ensures.good ready.lo ready.whole) held
+    let near : s.level ≤ REMOTENESS = level_near r g.met.G.Game.lawful c.args.tables.now c.has-held.ensures.tables (place_of s)
+    (whole_covered r s c.range-good.ensures.good ready.lo ready.whole) held
     (λ last. false≢true (c.in_default.ensures.exact.1 (subst (λ (p : Place). IsLastLevel r p.tier p.phase p.level) (sym here) last))) in
     let next = c.in_ok-pass_level.ensures.next in
     record {
@@ -97,4 +99,5 @@ pub returns-in_err-pass_level-clause-last : goal.returns-in_err-pass_level-claus
 returns-in_err-pass_level-clause-last g c = IfOk-from_err c.from_residual-in_err-pass_level.result _ c.from_residual-in_err-pass_level.ensures.0
 
 pub last-requires : goal.last-requires
-last-requires g c = subst (AreHeld g.G.Game.rules c.args.tables.now) (sym (ap (λ (p : Place). p.tier) (c.in_ok-level.ensures.0 ∙ c.place.ensures) ∙ c.loop-runs.invariant.later.tier)) c.requires.held
+last-requires g c = subst (AreHeld g.G.Game.rules c.args.tables.now)
+    (sym (ap (λ (p : Place). p.tier) (c.in_ok-level.ensures.0 ∙ c.place.ensures) ∙ c.loop-runs.invariant.later.tier)) c.requires.held

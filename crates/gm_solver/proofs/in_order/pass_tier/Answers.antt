@@ -16,26 +16,33 @@ pass_levels-requires-2-clause-ready g c =
 pub from_packed-requires-clause-is_true : goal.from_packed-requires-clause-is_true
 from_packed-requires-clause-is_true g c =
     let t = c.pass_levels-2.new.shard in
-    let tier : t.tier ≡ c.tier-tier.result = c.in_ok-last-2.ensures.later.tier ∙ ap (λ (s : ShardState). s.tier) c.next_phase.ensures ∙ c.in_ok-last.ensures.later.tier ∙ sym c.tier-tier.ensures in
-    ready_table g.G.Game.rules c.tier-tier.result t c.in_ok-last-2.ensures.ready tier c.in_ok-records.records c.finish.new.records c.in_ok-records.ensures c.in_ok-finish.ensures.ok
+    let tier : t.tier ≡ c.tier-tier.result =
+    c.in_ok-last-2.ensures.later.tier ∙ ap (λ (s : ShardState). s.tier) c.next_phase.ensures ∙ c.in_ok-last.ensures.later.tier ∙ sym c.tier-tier.ensures in
+    ready_table g.G.Game.rules c.tier-tier.result t c.in_ok-last-2.ensures.ready tier c.in_ok-records.records c.finish.new.records c.in_ok-records.ensures
+    c.in_ok-finish.ensures.ok
 
 pub returns-clause-deliveries : goal.returns-clause-deliveries
 returns-clause-deliveries g c =
     let r = g.G.Game.rules in
     let t = c.pass_levels-2.new.shard in
     let ready = c.in_ok-last-2.ensures.ready in
-    let tier : t.tier ≡ c.args.shard.now.tier = c.in_ok-last-2.ensures.later.tier ∙ ap (λ (s : ShardState). s.tier) c.next_phase.ensures ∙ c.in_ok-last.ensures.later.tier in
+    let tier : t.tier ≡ c.args.shard.now.tier =
+    c.in_ok-last-2.ensures.later.tier ∙ ap (λ (s : ShardState). s.tier) c.next_phase.ensures ∙ c.in_ok-last.ensures.later.tier in
     let phase : t.phase ≡ Ties = c.in_ok-last-2.ensures.later.phase ∙ ap (λ (s : ShardState). s.phase) c.next_phase.ensures in
-    let is_true = ready_table r c.args.shard.now.tier t ready tier c.in_ok-records.records c.finish.new.records c.in_ok-records.ensures c.in_ok-finish.ensures.ok in
-    ready_deliveries r g.met.G.Game.lawful c.args.tables.now c.has-held.ensures.tables c.args.shard.now.tier c.requires.held c.finish.new.records is_true t ready c.range-ties.ensures.good tier phase
+    let is_true = ready_table r c.args.shard.now.tier t ready tier c.in_ok-records.records c.finish.new.records c.in_ok-records.ensures
+    c.in_ok-finish.ensures.ok in
+    ready_deliveries r g.met.G.Game.lawful c.args.tables.now c.has-held.ensures.tables c.args.shard.now.tier c.requires.held c.finish.new.records is_true t
+    ready c.range-ties.ensures.good tier phase
     c.in_ok-last-2.last c.in_ok-last-2.ensures.last c.place-end.ensures.last c.delivered.result c.delivered.ensures.value
 
 pub returns-clause-near : goal.returns-clause-near
 returns-clause-near g c =
     let r = g.G.Game.rules in
     let t = c.pass_levels-2.new.shard in
-    let tier : t.tier ≡ c.args.shard.now.tier = c.in_ok-last-2.ensures.later.tier ∙ ap (λ (s : ShardState). s.tier) c.next_phase.ensures ∙ c.in_ok-last.ensures.later.tier in
-    let is_true = ready_table r c.args.shard.now.tier t c.in_ok-last-2.ensures.ready tier c.in_ok-records.records c.finish.new.records c.in_ok-records.ensures c.in_ok-finish.ensures.ok in
+    let tier : t.tier ≡ c.args.shard.now.tier =
+    c.in_ok-last-2.ensures.later.tier ∙ ap (λ (s : ShardState). s.tier) c.next_phase.ensures ∙ c.in_ok-last.ensures.later.tier in
+    let is_true = ready_table r c.args.shard.now.tier t c.in_ok-last-2.ensures.ready tier c.in_ok-records.records c.finish.new.records c.in_ok-records.ensures
+    c.in_ok-finish.ensures.ok in
     not_too_far r g.met.G.Game.lawful c.args.shard.now.tier c.finish.new.records is_true
 
 pub returns-in_err-last-clause-tier : goal.returns-in_err-last-clause-tier

@@ -1,7 +1,7 @@
 use Rattle.std.proofs.Common.{ℕ, ◌≤◌, ap, sym, subst, ◌∙◌}
 use Rattle.gm_game.specs.declared.limits.TheConstants.{REMOTENESS}
-use Rattle.gm_desk.specs.Spots.{Spot, spot_of}
-use Rattle.gm_desk.specs.Rounds.{HasNoneHere}
+use Rattle.gm_locks.specs.Spots.{Spot, spot_of}
+use Rattle.gm_locks.specs.Rounds.{HasNoneHere}
 use Rattle.gm_solver.specs.Tiling.{next_spot}
 use Rattle.gm_solver.proofs.RoundLemmas.{none_next}
 use Rattle.gm_solver.proofs.levels.close_all.Goals as goal

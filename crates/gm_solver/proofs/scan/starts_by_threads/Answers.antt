@@ -3,7 +3,9 @@ use Rattle.gm_deliveries.specs.Begin.{AreStarts}
 use Rattle.gm_solver.proofs.scan.starts_by_threads.Goals as goal
 
 pub returns-clause-length : goal.returns-clause-length
-returns-clause-length g c = subst (λ (t : ℕ). IfOk c.in_order_of.result (λ all. length all.items ≡ g.G.Game.rules.tier_size t)) c.of-frame.ensures c.in_order_of.ensures.length
+returns-clause-length g c = subst (λ (t : ℕ). IfOk c.in_order_of.result (λ all. length all.items ≡ g.G.Game.rules.tier_size t))
+    c.of-frame.ensures c.in_order_of.ensures.length
 
 pub returns-clause-starts : goal.returns-clause-starts
-returns-clause-starts g c = subst (λ (t : ℕ). IfOk c.in_order_of.result (λ all. AreStarts g.G.Game.rules t 0 all.items)) c.of-frame.ensures c.in_order_of.ensures.starts
+returns-clause-starts g c = subst (λ (t : ℕ). IfOk c.in_order_of.result (λ all. AreStarts g.G.Game.rules t 0 all.items))
+    c.of-frame.ensures c.in_order_of.ensures.starts

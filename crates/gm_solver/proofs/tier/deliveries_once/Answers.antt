@@ -1,5 +1,5 @@
 use Rattle.gm_table.specs.Solving.{IsDelivery}
-use Rattle.gm_desk.proofs.FullLemmas.{there_once}
+use Rattle.gm_locks.proofs.FullLemmas.{there_once}
 use Rattle.gm_solver.proofs.tier.deliveries_once.Goals as goal
 
 pub returns : goal.returns

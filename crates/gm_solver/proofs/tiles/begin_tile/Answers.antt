@@ -4,7 +4,7 @@ use Rattle.gm_solver.proofs.BlockLemmas.{starts_part}
 use Rattle.std.proofs.Math.Nat.{mul-le-mul_right}
 use Rattle.std.proofs.lemmas.List.{length-take-le, length-drop}
 use Rattle.gm_deliveries.specs.declared.status.Start.{Start}
-use Rattle.gm_desk.specs.Rounds.{HasNoneHere}
+use Rattle.gm_locks.specs.Rounds.{HasNoneHere}
 use Rattle.gm_solver.proofs.TilingLemmas.{begun_at}
 use Rattle.gm_solver.proofs.RoundLemmas.{none_first}
 use Rattle.gm_solver.proofs.tiles.begin_tile.Goals as goal
@@ -24,7 +24,8 @@ overflow_mul-k-2 g c =
     omega arith
 
 pub begin-requires-clause-starts : goal.begin-requires-clause-starts
-begin-requires-clause-starts g c = starts_part g.G.Game.rules c.args.tier c.min-lo.result (c.min-hi.result - c.min-lo.result) c.args.starts.now c.requires.starts
+begin-requires-clause-starts g c = starts_part g.G.Game.rules c.args.tier c.min-lo.result (c.min-hi.result - c.min-lo.result)
+    c.args.starts.now c.requires.starts
 
 pub returns-in_err-shard-clause-shard : goal.returns-in_err-shard-clause-shard
 returns-in_err-shard-clause-shard g c = IfOk-from_err c.from_residual.result _ c.from_residual.ensures.0
@@ -38,7 +39,8 @@ returns-clause-shard g c =
     let lo = c.min-lo.result in
     let hi = c.min-hi.result in
     let part : List Start = take (hi - lo) (drop lo c.args.starts.now) in
-    let next : (c.args.k + 1) * c.args.width ≡ suc c.args.k * c.args.width = ap (λ (m : ℕ). m * c.args.width) (let one : c.args.k + 1 ≡ suc c.args.k = omega arith in one) in
+    let next : (c.args.k + 1) * c.args.width ≡ suc c.args.k * c.args.width =
+    ap (λ (m : ℕ). m * c.args.width) (let one : c.args.k + 1 ≡ suc c.args.k = omega arith in one) in
     let whole = c.requires.whole in
     let from : lo ≡ min (c.args.k * c.args.width) (r.tier_size c.args.tier) = omega arith in
     let end : hi ≡ min (suc c.args.k * c.args.width) (r.tier_size c.args.tier) = omega arith in

@@ -12,5 +12,8 @@ returns g c =
     let was = c.index-lists-parent.result in
     let small : j < 4 = div_below c.args.parent c.args.width 4 c.requires.some c.requires.within in
     let inside : j < length c.args.lists.now = omega arith in
-    let at : slice_get c.args.lists.now j ≡ Some was = slice_get-get_or c.args.lists.now j was inside ∙ ap (λ (v : Vec (NoteData × ℕ) Global). Some v) (sym c.index-lists-parent.is) in
-    λ pairs h. split_more c.args.width j c.args.lists.now _ was _ (c.args.note, c.args.parent) refl at (c.in_ok-push.ensures.items ∙ ap (λ (v : Vec (NoteData × ℕ) Global). v.items ++ (c.args.note, c.args.parent) ∷ []) (sym c.index-lists-parent.is)) refl pairs h
+    let at : slice_get c.args.lists.now j ≡ Some was =
+    slice_get-get_or c.args.lists.now j was inside ∙ ap (λ (v : Vec (NoteData × ℕ) Global). Some v) (sym c.index-lists-parent.is) in
+    λ pairs h. split_more c.args.width j c.args.lists.now _ was _ (c.args.note, c.args.parent) refl at
+    (c.in_ok-push.ensures.items ∙ ap (λ (v : Vec (NoteData × ℕ) Global). v.items ++ (c.args.note, c.args.parent) ∷ []) (sym c.index-lists-parent.is))
+    refl pairs h

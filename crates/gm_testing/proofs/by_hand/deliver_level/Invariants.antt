@@ -1,4 +1,4 @@
-use Rattle.gm_desk.specs.Spots.{IsSameSpot}
+use Rattle.gm_locks.specs.Spots.{IsSameSpot}
 use Rattle.gm_testing.proofs.by_hand.deliver_level.Given as goal
 
 abbrev pub invariant-loop-note : goal.invariant-loop-note

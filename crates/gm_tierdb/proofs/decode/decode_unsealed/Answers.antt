@@ -7,21 +7,25 @@ use Rattle.gm_tierdb.proofs.decode.decode_unsealed.Goals as goal
 
 pub returns-in_err-parts-clause-exact : goal.returns-in_err-parts-clause-exact
 returns-in_err-parts-clause-exact g c records is =
-    absurd (whole_of_text g.G.Game.rules g.met.G.Game.lawful.name_length c.args.tier records c.args.bytes.now is c.in_err-parts.field-0.0 c.in_err-parts.ensures.refused)
+    absurd (whole_of_text g.G.Game.rules g.met.G.Game.lawful.name_length c.args.tier records c.args.bytes.now is c.in_err-parts.field-0.0
+    c.in_err-parts.ensures.refused)
 
 pub returns-in_err-parts-clause-old : goal.returns-in_err-parts-clause-old
 returns-in_err-parts-clause-old g c records is =
     error_again c.from_residual.result c.in_err-parts.field-0.0 _ c.from_residual.ensures.1
-    (old_version g.G.Game.rules g.met.G.Game.lawful.name_length c.args.tier records c.args.bytes.now is _ (refuses_of_whole Two g.G.Game.rules c.args.tier c.args.bytes.now _ c.in_err-parts.ensures.refused))
+    (old_version g.G.Game.rules g.met.G.Game.lawful.name_length c.args.tier records c.args.bytes.now is _
+    (refuses_of_whole Two g.G.Game.rules c.args.tier c.args.bytes.now _ c.in_err-parts.ensures.refused))
 
 pub returns-in_err-records-clause-exact : goal.returns-in_err-records-clause-exact
 returns-in_err-records-clause-exact g c records is =
-    absurd (whole_of_text g.G.Game.rules g.met.G.Game.lawful.name_length c.args.tier records c.args.bytes.now is c.in_err-records.field-0.0 c.in_err-records.ensures.refused)
+    absurd (whole_of_text g.G.Game.rules g.met.G.Game.lawful.name_length c.args.tier records c.args.bytes.now is c.in_err-records.field-0.0
+    c.in_err-records.ensures.refused)
 
 pub returns-in_err-records-clause-old : goal.returns-in_err-records-clause-old
 returns-in_err-records-clause-old g c records is =
     error_again c.from_residual-in_err-records.result c.in_err-records.field-0.0 _ c.from_residual-in_err-records.ensures.1
-    (old_version g.G.Game.rules g.met.G.Game.lawful.name_length c.args.tier records c.args.bytes.now is _ (refuses_of_whole Two g.G.Game.rules c.args.tier c.args.bytes.now _ c.in_err-records.ensures.refused))
+    (old_version g.G.Game.rules g.met.G.Game.lawful.name_length c.args.tier records c.args.bytes.now is _
+    (refuses_of_whole Two g.G.Game.rules c.args.tier c.args.bytes.now _ c.in_err-records.ensures.refused))
 
 pub returns-in-Some-clause-found : goal.returns-in-Some-clause-found
 returns-in-Some-clause-found g c =

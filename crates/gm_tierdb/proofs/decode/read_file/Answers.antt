@@ -17,5 +17,6 @@ returns-in-None-clause-refused g c =
     let v = c.args.version in
     let size = g.G.Game.rules.tier_size c.args.tier in
     let seal : IsSealed c.args.bytes.now = search rules in
-    let has : HasRecords v size (records_part v size c.args.bytes.now) = subst (AreRead v size (records_part v size c.args.bytes.now)) c.in-None.is c.in_ok-read.ensures.found in
+    let has : HasRecords v size (records_part v size c.args.bytes.now) =
+    subst (AreRead v size (records_part v size c.args.bytes.now)) c.in-None.is c.in_ok-read.ensures.found in
     (has.0, sealed_text v g.G.Game.rules c.args.tier c.args.bytes.now c.in_ok-read.ensures.whole seal has.0 has.1)

@@ -24,7 +24,8 @@ loop-index-init g c = sym (append-nil c.args.file.now.items)
 pub returns : goal.returns
 returns g c =
     let records = c.args.table.now.records in
-    c.loop-index.invariant ∙ ap (λ l. c.args.file.now.items ++ flat_map (record_bytes c.args.version) l) (take_all c.loop-index.index records (omega (arith, c.loop-index-test.false, c.size-index-end.ensures.value)))
+    c.loop-index.invariant ∙ ap (λ l. c.args.file.now.items ++ flat_map (record_bytes c.args.version) l)
+    (take_all c.loop-index.index records (omega (arith, c.loop-index-test.false, c.size-index-end.ensures.value)))
 
 pub returns-in_err-push_record : goal.returns-in_err-push_record
 returns-in_err-push_record g c = IfOk-from_err c.from_residual.result _ c.from_residual.ensures.0

@@ -41,4 +41,5 @@ returns-in-Err-clause-bad g t c =
     let one : IfOk c.join-front.result.0 (AreRead v n first) = search rules in
     let bad : IfErr c.join-front.result.1 (IsFirstBad v k rest) = search rules in
     bad_second v n k c.args.size c.args.bytes.now first rest c.in-Err.index c.split_at.ensures.by_index.0 sum
-    (has_read v n first c.in_ok-front.front (subst (λ x. IfOk x (AreRead v n first)) c.in_ok-front.was one)) (subst (λ x. IfErr x (IsFirstBad v k rest)) c.in-Err.is bad)
+    (has_read v n first c.in_ok-front.front (subst (λ x. IfOk x (AreRead v n first)) c.in_ok-front.was one))
+    (subst (λ x. IfErr x (IsFirstBad v k rest)) c.in-Err.is bad)

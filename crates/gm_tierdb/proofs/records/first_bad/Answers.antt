@@ -28,7 +28,8 @@ pub returns-in-None-clause-some : goal.returns-in-None-clause-some
 returns-in-None-clause-some c =
     let v = c.args.version in
     let (front, are, fit, len, left) = c.loop-index.invariant in
-    let first : take (width v) c.loop-index.rest.now ≡ c.split_at.result.0.now = ap (λ n. take n c.loop-index.rest.now) (sym c.record_len.ensures.value) ∙ sym c.split_at.ensures.front in
+    let first : take (width v) c.loop-index.rest.now ≡ c.split_at.result.0.now =
+    ap (λ n. take n c.loop-index.rest.now) (sym c.record_len.ensures.value) ∙ sym c.split_at.ensures.front in
     record {
       front = front;
       rest = c.loop-index.rest.now;
@@ -36,5 +37,6 @@ returns-in-None-clause-some c =
       count = len;
       within = c.loop-index-test.true;
       split = are;
-      bad = λ o ok e. none_here v c.number_at.result c.split_at.result.0.now c.number_at.ensures.fits c.number_at.ensures.bytes c.in-None.ensures.none o ok (sym first ∙ e);
+      bad = λ o ok e. none_here v c.number_at.result c.split_at.result.0.now c.number_at.ensures.fits c.number_at.ensures.bytes c.in-None.ensures.none
+          o ok (sym first ∙ e);
     }

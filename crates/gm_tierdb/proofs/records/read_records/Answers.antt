@@ -12,12 +12,14 @@ loop-index-init c = none_read c.args.version c.args.bytes.now c.in-Ok.records c.
 
 pub returns-clause-found : goal.returns-clause-found
 returns-clause-found c =
-    all_read c.args.version c.args.bytes.now c.loop-index.rest.now c.loop-index.records c.loop-index.index c.args.size c.loop-index.invariant c.loop-index.auto.index-end c.loop-index-test.false
+    all_read c.args.version c.args.bytes.now c.loop-index.rest.now c.loop-index.records c.loop-index.index c.args.size c.loop-index.invariant
+    c.loop-index.auto.index-end c.loop-index-test.false
 
 pub split_at-requires : goal.split_at-requires
 split_at-requires c =
     let left = c.loop-index.invariant.3 in
-    subst (λ n. n ≤ length c.loop-index.rest.now) (sym c.record_len.ensures.value) (room c.args.version c.loop-index.index c.args.size c.loop-index.rest.now c.loop-index-test.true left)
+    subst (λ n. n ≤ length c.loop-index.rest.now) (sym c.record_len.ensures.value)
+    (room c.args.version c.loop-index.index c.args.size c.loop-index.rest.now c.loop-index-test.true left)
 
 pub number_at-requires : goal.number_at-requires
 number_at-requires c = c.split_at.ensures.front_len ∙ c.record_len.ensures.value
@@ -26,7 +28,8 @@ pub returns-in-None-clause-bad : goal.returns-in-None-clause-bad
 returns-in-None-clause-bad c =
     let v = c.args.version in
     let (are, fit, len, left) = c.loop-index.invariant in
-    let first : take (width v) c.loop-index.rest.now ≡ c.split_at.result.0.now = ap (λ n. take n c.loop-index.rest.now) (sym c.record_len.ensures.value) ∙ sym c.split_at.ensures.front in
+    let first : take (width v) c.loop-index.rest.now ≡ c.split_at.result.0.now =
+    ap (λ n. take n c.loop-index.rest.now) (sym c.record_len.ensures.value) ∙ sym c.split_at.ensures.front in
     record {
       front = c.loop-index.records;
       rest = c.loop-index.rest.now;
@@ -34,7 +37,8 @@ returns-in-None-clause-bad c =
       count = len;
       within = c.loop-index-test.true;
       split = are;
-      bad = λ o ok e. none_here v c.number_at.result c.split_at.result.0.now c.number_at.ensures.fits c.number_at.ensures.bytes c.in-None.ensures.none o ok (sym first ∙ e);
+      bad = λ o ok e. none_here v c.number_at.result c.split_at.result.0.now c.number_at.ensures.fits c.number_at.ensures.bytes c.in-None.ensures.none
+          o ok (sym first ∙ e);
     }
 
 pub loop-index-preserved : goal.loop-index-preserved

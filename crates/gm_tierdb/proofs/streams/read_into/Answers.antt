@@ -31,7 +31,8 @@ loop-chunk-preserved g c =
     let before = c.loop-chunk.text.items in
     let given = take c.in-Ok.count c.read.new.buf in
     let items : c.extend_from_slice.new.self.items ≡ before ++ given =
-    c.in-Ok-extend_from_slice.ensures.items ∙ ap (λ l. before ++ l) (take-append-le c.in-Ok.count c.read.new.buf _ (omega (arith, c.in-Ok.ensures.bound, c.read.auto.buf, length-take c.min-room.result c.loop-chunk.chunk))) in
+    c.in-Ok-extend_from_slice.ensures.items ∙ ap (λ l. before ++ l)
+    (take-append-le c.in-Ok.count c.read.new.buf _ (omega (arith, c.in-Ok.ensures.bound, c.read.auto.buf, length-take c.min-room.result c.loop-chunk.chunk))) in
     rw items (
       joined_small before given READ_LEN (omega (arith, c.in-Ok.ensures.bound, c.read.auto.buf, length-take c.min-room.result c.loop-chunk.chunk)),
       Consumes-trans _ _ _ _ _ c.loop-chunk.invariant.1 c.in-Ok.ensures.bytes.0,

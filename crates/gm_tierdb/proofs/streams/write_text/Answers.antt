@@ -17,7 +17,8 @@ loop-done-preserved g c =
     (omega arith, subst (Appends _ _) joined (Appends-trans _ _ _ _ _ before.1 c.in-Ok.ensures.bytes))
 
 pub returns-in-Ok-eq0-clause-front : goal.returns-in-Ok-eq0-clause-front
-returns-in-Ok-eq0-clause-front g c = part_stuck _ _ _ c.loop-done.done c.in-Ok-eq0.field-0 c.args.bytes.now _ c.loop-done.invariant.1 c.in-Ok-eq0.ensures.bytes (search rules)
+returns-in-Ok-eq0-clause-front g c =
+    part_stuck _ _ _ c.loop-done.done c.in-Ok-eq0.field-0 c.args.bytes.now _ c.loop-done.invariant.1 c.in-Ok-eq0.ensures.bytes (search rules)
 
 pub returns-in-Err-clause-front : goal.returns-in-Err-clause-front
 returns-in-Err-clause-front g c = part_kept _ _ _ c.loop-done.done c.args.bytes.now c.loop-done.invariant.1 c.in-Err.ensures.bytes

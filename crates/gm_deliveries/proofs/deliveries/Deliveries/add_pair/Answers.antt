@@ -1,6 +1,7 @@
 use Rattle.std.proofs.Common.{ℕ, ◌-◌, ◌<◌, ◌≤◌, sym, subst, arith}
 use Rattle.gm_deliveries.specs.State.{ShardState}
-use Rattle.gm_deliveries.proofs.StepLemmas.{seen_from, in_masks, in_left, in_statuses, left_above, count_room, within_after, added, fields_after}
+use Rattle.gm_deliveries.proofs.StepLemmas.{within_after}
+use Rattle.gm_deliveries.proofs.SeenLemmas.{seen_from, in_masks, in_left, in_statuses, left_above, count_room, added, fields_after}
 use Rattle.gm_deliveries.proofs.deliveries.Deliveries.add_pair.Goals as goal
 
 pub index-requires : goal.index-requires
@@ -39,7 +40,8 @@ pub invariant_of-self : goal.invariant_of-self
 invariant_of-self g c =
     let seen = seen_from c.args.self.now c.self.invariant c.self.view_is c.requires.can c.requires.place in
     let bit = c.with_bit.ensures in
-    fields_after seen c.with_bit.result c.index.result.now c.index.ensures bit.fits bit.same bit.other c.args.self.now c.self.view_is c.args.next c.requires.next
+    fields_after seen c.with_bit.result c.index.result.now c.index.ensures bit.fits bit.same bit.other c.args.self.now c.self.view_is
+    c.args.next c.requires.next
     c.index_mut-2.result.now c.index_mut-2.ensures.value c.set.new.self c.set.ensures
 
 pub returns : goal.returns

@@ -13,11 +13,13 @@ fill-requires-clause-statuses g c = ap length c.in_ok-statuses.ensures ∙ lengt
 
 pub invariant_of-result : goal.invariant_of-result
 invariant_of-result g c =
-    first_fields g.G.Game.rules c.args.tier c.args.lo c.args.starts.now c.requires.starts c.requires.within c.in_ok-masks.masks.items c.fill.new.left.items c.fill.new.statuses
+    first_fields g.G.Game.rules c.args.tier c.args.lo c.args.starts.now c.requires.starts c.requires.within c.in_ok-masks.masks.items
+    c.fill.new.left.items c.fill.new.statuses
     (c.in_ok-masks.ensures.items_if_clones_equal (λ y e. e)) c.fill.ensures.counters c.fill.ensures.statuses
 
 pub returns : goal.returns
-returns g c = first_masks g.G.Game.rules c.args.tier c.args.lo (length c.args.starts.now) c.in_ok-masks.masks.items (c.in_ok-masks.ensures.items_if_clones_equal (λ y e. e))
+returns g c = first_masks g.G.Game.rules c.args.tier c.args.lo (length c.args.starts.now) c.in_ok-masks.masks.items
+    (c.in_ok-masks.ensures.items_if_clones_equal (λ y e. e))
 
 pub returns-in_err-masks : goal.returns-in_err-masks
 returns-in_err-masks g c = IfOk-from_err c.from_residual.result _ c.from_residual.ensures.0

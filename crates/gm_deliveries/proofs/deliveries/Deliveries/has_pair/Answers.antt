@@ -1,6 +1,6 @@
 use Rattle.std.proofs.Common.{◌≤◌, subst, sym}
 use Rattle.gm_deliveries.specs.State.{ShardState}
-use Rattle.gm_deliveries.proofs.StepLemmas.{in_masks, pair_is}
+use Rattle.gm_deliveries.proofs.SeenLemmas.{in_masks, pair_is}
 use Rattle.gm_deliveries.proofs.deliveries.Deliveries.has_pair.Goals as goal
 
 pub index-requires : goal.index-requires

@@ -17,17 +17,20 @@ index_mut-requires g c =
     let f = c.self.inside in
     let r = g.G.Game.rules in
     subst (λ (n : ℕ). c.args.parent - f.lo < n) (sym f.left.ok.0)
-    (place_left g.met.G.Game.lawful c.self.invariant (subst (λ (s : ShardState). CanDeliver r s c.args.note.now.position c.args.parent) (sym c.self.view_is) c.requires.can))
+    (place_left g.met.G.Game.lawful c.self.invariant (subst (λ (s : ShardState). CanDeliver r s c.args.note.now.position c.args.parent)
+    (sym c.self.view_is) c.requires.can))
 
 pub overflow_sub-index_mut : goal.overflow_sub-index_mut
 overflow_sub-index_mut g c =
     let r = g.G.Game.rules in
-    can_fall g.met.G.Game.lawful c.self.invariant (subst (λ (s : ShardState). CanDeliver r s c.args.note.now.position c.args.parent) (sym c.self.view_is) c.requires.can) c.index_mut.result.now c.index_mut.ensures.value
+    can_fall g.met.G.Game.lawful c.self.invariant (subst (λ (s : ShardState). CanDeliver r s c.args.note.now.position c.args.parent) (sym c.self.view_is)
+    c.requires.can) c.index_mut.result.now c.index_mut.ensures.value
 
 pub set-requires-clause-place : goal.set-requires-clause-place
 set-requires-clause-place g c =
     let r = g.G.Game.rules in
-    place_statuses g.met.G.Game.lawful c.self.invariant (subst (λ (s : ShardState). CanDeliver r s c.args.note.now.position c.args.parent) (sym c.self.view_is) c.requires.can)
+    place_statuses g.met.G.Game.lawful c.self.invariant (subst (λ (s : ShardState). CanDeliver r s c.args.note.now.position c.args.parent)
+    (sym c.self.view_is) c.requires.can)
 
 pub set-requires-clause-near : goal.set-requires-clause-near
 set-requires-clause-near g c = within_after g.G.Game.rules c.args.self.now c.args.note.now.position c.args.parent c.args.next c.requires.can c.requires.next
@@ -35,18 +38,21 @@ set-requires-clause-near g c = within_after g.G.Game.rules c.args.self.now c.arg
 pub overflow_add-self : goal.overflow_add-self
 overflow_add-self g c =
     let r = g.G.Game.rules in
-    let room = can_rise g.met.G.Game.lawful c.self.invariant (subst (λ (s : ShardState). CanDeliver r s c.args.note.now.position c.args.parent) (sym c.self.view_is) c.requires.can) in
+    let room = can_rise g.met.G.Game.lawful c.self.invariant
+    (subst (λ (s : ShardState). CanDeliver r s c.args.note.now.position c.args.parent) (sym c.self.view_is) c.requires.can) in
     omega arith
 
 pub invariant_of-self : goal.invariant_of-self
 invariant_of-self g c =
     let r = g.G.Game.rules in
     let f = c.self.inside in
-    kept_seen g.met.G.Game.lawful f.tier f.lo f.phase f.level f.pairs.items c.and-self-inside.result.items c.args.note.now.position c.position-child.result c.args.parent c.args.self.now c.self.view_is c.self.invariant c.requires.can c.args.next c.requires.next
+    kept_seen g.met.G.Game.lawful f.tier f.lo f.phase f.level f.pairs.items c.and-self-inside.result.items c.args.note.now.position c.position-child.result
+    c.args.parent c.args.self.now c.self.view_is c.self.invariant c.requires.can c.args.next c.requires.next
     c.index_mut.result.now c.index_mut.ensures.value c.set.new.self c.set.ensures c.position-child.ensures.value c.and-self-inside.ensures
 
 pub returns : goal.returns
 returns g c =
     let f = c.self.inside in
-    shown_more f.tier f.lo f.phase f.level (length f.left.items) _ f.pairs.items c.and-self-inside.result.items c.args.note.now.position c.position-child.result c.args.parent c.args.self.now c.self.view_is
+    shown_more f.tier f.lo f.phase f.level (length f.left.items)
+    _ f.pairs.items c.and-self-inside.result.items c.args.note.now.position c.position-child.result c.args.parent c.args.self.now c.self.view_is
     (sym (length-set f.left.items (c.args.parent - f.lo) (c.index_mut.result.now - 1))) c.position-child.ensures.value c.and-self-inside.ensures

@@ -13,7 +13,8 @@ fill-requires-clause-statuses g c = ap length c.in_ok-statuses.ensures ∙ lengt
 
 pub invariant_of-result : goal.invariant_of-result
 invariant_of-result g c =
-    first_fields g.G.Game.rules c.args.tier c.args.lo c.args.starts.now c.requires.starts c.requires.within c.fill.new.left.items c.fill.new.statuses c.new.result.items
+    first_fields g.G.Game.rules c.args.tier c.args.lo c.args.starts.now c.requires.starts c.requires.within c.fill.new.left.items
+    c.fill.new.statuses c.new.result.items
     c.fill.ensures.counters c.fill.ensures.statuses c.new.ensures
 
 pub returns : goal.returns

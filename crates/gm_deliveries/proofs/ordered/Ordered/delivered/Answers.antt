@@ -9,4 +9,5 @@ pub returns-clause-small : goal.returns-clause-small
 returns-clause-small g c =
     let r = g.G.Game.rules in
     let f = c.self.inside in
-    subst (λ (s : ShardState). pairs_in s ≤ MOVES * TIER_SIZE) c.self.view_is (few_there r (state_by f.tier f.lo f.phase f.level (length f.left.items) f.pairs.items) f.statuses f.left.items f.delivered c.self.invariant)
+    subst (λ (s : ShardState). pairs_in s ≤ MOVES * TIER_SIZE) c.self.view_is
+    (few_there r (state_by f.tier f.lo f.phase f.level (length f.left.items) f.pairs.items) f.statuses f.left.items f.delivered c.self.invariant)

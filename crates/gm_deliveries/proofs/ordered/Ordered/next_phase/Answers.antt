@@ -10,7 +10,8 @@ invariant_of-self g c =
     let r = g.G.Game.rules in
     let f = c.self.inside in
     let s : ShardState = state_by f.tier f.lo f.phase f.level (length f.left.items) f.pairs.items in
-    kept_ties r g.met.G.Game.lawful s f.statuses f.left.items f.delivered c.self.invariant c.args.last.now c.place-place.ensures.last (subst (λ (u : ShardState). CanTurn u c.args.last.now) (sym c.self.view_is) c.requires)
+    kept_ties r g.met.G.Game.lawful s f.statuses f.left.items f.delivered c.self.invariant c.args.last.now c.place-place.ensures.last
+    (subst (λ (u : ShardState). CanTurn u c.args.last.now) (sym c.self.view_is) c.requires)
 
 pub returns : goal.returns
 returns g c = ap first_ties c.self.view_is

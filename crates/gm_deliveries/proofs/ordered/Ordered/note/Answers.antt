@@ -15,12 +15,15 @@ of-requires g c =
     let f = c.self.inside in
     let x = c.in-Settled.x in
     let s : ShardState = state_by f.tier f.lo f.phase f.level (length f.left.items) f.pairs.items in
-    let h : StatusIs r c.args.self.now c.args.index (Settled x) = subst (λ (y : Status). StatusIs r c.args.self.now c.args.index y) c.in-Settled.is c.status.ensures in
-    note_of r g.met.G.Game.lawful s f.statuses c.self.invariant.shard c.args.index (subst (λ (u : ShardState). IsInRange u c.args.index) (sym c.self.view_is) c.requires) x
+    let h : StatusIs r c.args.self.now c.args.index (Settled x) =
+    subst (λ (y : Status). StatusIs r c.args.self.now c.args.index y) c.in-Settled.is c.status.ensures in
+    note_of r g.met.G.Game.lawful s f.statuses c.self.invariant.shard c.args.index
+    (subst (λ (u : ShardState). IsInRange u c.args.index) (sym c.self.view_is) c.requires) x
     (subst (λ (u : ShardState). StatusIs r u c.args.index (Settled x)) (sym c.self.view_is) h)
 
 pub returns-in_default : goal.returns-in_default
-returns-in_default g c = none_of g.G.Game.rules (at c.args.self.now.tier c.args.index) (delivered_to c.args.self.now c.args.index) c.status.result c.status.ensures (λ y e. c.in_default.not-Settled y e)
+returns-in_default g c = none_of g.G.Game.rules (at c.args.self.now.tier c.args.index) (delivered_to c.args.self.now c.args.index)
+    c.status.result c.status.ensures (λ y e. c.in_default.not-Settled y e)
 
 pub status-requires : goal.status-requires
 status-requires g c = c.requires

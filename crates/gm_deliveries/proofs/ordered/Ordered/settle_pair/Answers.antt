@@ -6,18 +6,21 @@ use Rattle.gm_deliveries.proofs.ordered.Ordered.settle_pair.Goals as goal
 
 pub returns-then-self-ge-REMOTENESS : goal.returns-then-self-ge-REMOTENESS
 returns-then-self-ge-REMOTENESS g c =
-    let level : REMOTENESS ≤ c.args.self.now.level = subst (λ (n : ℕ). REMOTENESS ≤ n) (ap (λ (s : ShardState). s.level) c.self.view_is) c.if-self-ge-REMOTENESS.true in
+    let level : REMOTENESS ≤ c.args.self.now.level = subst (λ (n : ℕ). REMOTENESS ≤ n) (ap (λ (s : ShardState). s.level) c.self.view_is)
+    c.if-self-ge-REMOTENESS.true in
     (refl, c.requires.here, c.requires.new, c.requires.settles, omega (arith, level))
 
 pub add_pair-requires-clause-can : goal.add_pair-requires-clause-can
-add_pair-requires-clause-can g c = c.requires.can (subst (λ (n : ℕ). n < REMOTENESS) (ap (λ (s : ShardState). s.level) c.self.view_is) c.if-self-ge-REMOTENESS.false)
+add_pair-requires-clause-can g c =
+    c.requires.can (subst (λ (n : ℕ). n < REMOTENESS) (ap (λ (s : ShardState). s.level) c.self.view_is) c.if-self-ge-REMOTENESS.false)
 
 pub add_pair-requires-clause-next : goal.add_pair-requires-clause-next
 add_pair-requires-clause-next g c = c.requires.next
 
 pub returns : goal.returns
 returns g c =
-    let level : c.args.self.now.level < REMOTENESS = subst (λ (n : ℕ). n < REMOTENESS) (ap (λ (s : ShardState). s.level) c.self.view_is) c.if-self-ge-REMOTENESS.false in (
+    let level : c.args.self.now.level < REMOTENESS = subst (λ (n : ℕ). n < REMOTENESS) (ap (λ (s : ShardState). s.level) c.self.view_is)
+    c.if-self-ge-REMOTENESS.false in (
       c.add_pair.ensures,
       c.requires.here,
       c.requires.new,

@@ -7,7 +7,8 @@ use Rattle.gm_frontier.proofs.expected.Expected.add_counted.Goals as goal
 pub overflow_add-self : goal.overflow_add-self
 overflow_add-self g c =
     let e = c.self.inside in
-    let added = level_added_to g.G.Game.rules g.met.G.Game.lawful e.tier e.lo e.hi e.last e.phase e.number c.self.invariant c.args.self.now c.self.view_is c.args.level.now c.place-place.ensures.level c.requires.next c.tallied.result c.tallied.ensures in
+    let added = level_added_to g.G.Game.rules g.met.G.Game.lawful e.tier e.lo e.hi e.last e.phase e.number c.self.invariant c.args.self.now c.self.view_is
+    c.args.level.now c.place-place.ensures.level c.requires.next c.tallied.result c.tallied.ensures in
     let fits = expected_fits g.G.Game.rules g.met.G.Game.lawful _ added in
     omega arith
 
@@ -15,4 +16,5 @@ pub invariant_of-self : goal.invariant_of-self
 invariant_of-self g c =
     let e = c.self.inside in
     subst (λ (p : Place). IsExpected g.G.Game.rules (shown e.tier e.lo e.hi (Some p) e.phase (e.number + c.tallied.result))) (sym c.place-place.ensures.value)
-    (level_added_to g.G.Game.rules g.met.G.Game.lawful e.tier e.lo e.hi e.last e.phase e.number c.self.invariant c.args.self.now c.self.view_is c.args.level.now c.place-place.ensures.level c.requires.next c.tallied.result c.tallied.ensures)
+    (level_added_to g.G.Game.rules g.met.G.Game.lawful e.tier e.lo e.hi e.last e.phase e.number c.self.invariant c.args.self.now c.self.view_is
+    c.args.level.now c.place-place.ensures.level c.requires.next c.tallied.result c.tallied.ensures)

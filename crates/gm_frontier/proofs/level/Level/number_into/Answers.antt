@@ -15,8 +15,10 @@ count-requires-clause-fits g c =
     let l = c.args.self.now in
     let whole = subst (λ (x : LevelData). IsWhole r x c.self.inside.len) c.self.view_is c.self.invariant in
     let all = stretch_all l.notes c.self.inside.len whole.count in
-    let pairs : length c.of.result ≡ length (pairs_of r l.place.tier c.args.lo c.args.hi l.notes) = ap length (c.of.ensures ∙ ap (pairs_of r l.place.tier c.args.lo c.args.hi) all) in
-    let few = notes_few r laws l.place.tier c.args.lo c.args.hi l.notes (positions_once r laws l.place l.notes whole.level) (canonical_notes r laws l.place l.notes whole.level) in
+    let pairs : length c.of.result ≡ length (pairs_of r l.place.tier c.args.lo c.args.hi l.notes) =
+    ap length (c.of.ensures ∙ ap (pairs_of r l.place.tier c.args.lo c.args.hi) all) in
+    let few = notes_few r laws l.place.tier c.args.lo c.args.hi l.notes (positions_once r laws l.place l.notes whole.level)
+    (canonical_notes r laws l.place l.notes whole.level) in
     let small = whole.small in
     inl (omega arith)
 

@@ -20,6 +20,7 @@ returns-clause-whole g c =
     let fits : length notes ≤ 18446744073709551615 = omega arith in
     let from : c.min-from.result ≡ min (min (c.args.piece * c.args.n) 18446744073709551615) (length notes) = cc in
     let to : c.min-to.result ≡ min (min (c.min-from.result + c.args.n) 18446744073709551615) (length notes) = cc in
-    let all : piece_of c.args.piece c.args.n notes ≡ notes = subst (λ (k : ℕ). piece_of k c.args.n notes ≡ notes) (sym first) (whole_piece c.args.n notes long) in
+    let all : piece_of c.args.piece c.args.n notes ≡ notes =
+    subst (λ (k : ℕ). piece_of k c.args.n notes ≡ notes) (sym first) (whole_piece c.args.n notes long) in
     c.of.ensures ∙ ap (pairs_of g.G.Game.rules c.args.self.now.place.tier c.args.lo c.args.hi)
     (stretch_piece notes (c.args.piece * c.args.n) c.args.n 18446744073709551615 c.min-from.result c.min-to.result fits from to ∙ all)

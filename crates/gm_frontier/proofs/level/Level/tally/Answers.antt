@@ -7,18 +7,24 @@ use Rattle.gm_frontier.proofs.level.Level.tally.Goals as goal
 
 pub tile_counts-requires-clause-tiles : goal.tile_counts-requires-clause-tiles
 tile_counts-requires-clause-tiles g c =
-    parents_in_tiles g.G.Game.rules g.met.G.Game.lawful c.args.self.now c.place.ensures.level c.place.ensures.small c.args.piece c.args.n c.args.width c.tier_size-size.result c.div_ceil.result c.requires.width (c.tier_size-size.ensures ∙ ap (λ (p : Place). g.G.Game.rules.tier_size p.tier) c.place.ensures.value) c.div_ceil.ensures
+    parents_in_tiles g.G.Game.rules g.met.G.Game.lawful c.args.self.now c.place.ensures.level c.place.ensures.small c.args.piece c.args.n c.args.width
+    c.tier_size-size.result c.div_ceil.result c.requires.width
+    (c.tier_size-size.ensures ∙ ap (λ (p : Place). g.G.Game.rules.tier_size p.tier) c.place.ensures.value) c.div_ceil.ensures
     c.pairs-pairs.result c.pairs-pairs.ensures.value
 
 pub tile_counts-requires-clause-few : goal.tile_counts-requires-clause-few
 tile_counts-requires-clause-few g c =
-    pairs_fit g.G.Game.rules g.met.G.Game.lawful c.args.self.now c.place.ensures.level c.place.ensures.small c.args.piece c.args.n c.args.width c.tier_size-size.result c.div_ceil.result c.requires.width (c.tier_size-size.ensures ∙ ap (λ (p : Place). g.G.Game.rules.tier_size p.tier) c.place.ensures.value) c.div_ceil.ensures
+    pairs_fit g.G.Game.rules g.met.G.Game.lawful c.args.self.now c.place.ensures.level c.place.ensures.small c.args.piece c.args.n c.args.width
+    c.tier_size-size.result c.div_ceil.result c.requires.width
+    (c.tier_size-size.ensures ∙ ap (λ (p : Place). g.G.Game.rules.tier_size p.tier) c.place.ensures.value) c.div_ceil.ensures
     c.pairs-pairs.result c.pairs-pairs.ensures.value
 
 pub of-requires-clause-exact : goal.of-requires-clause-exact
 of-requires-clause-exact g c =
     let whole : length c.in_ok-counts.counts.items ≡ c.div_ceil.result = search rules in
-    tally_right g.G.Game.rules g.met.G.Game.lawful c.args.self.now c.place.ensures.level c.place.ensures.small c.args.piece c.args.n c.args.width c.tier_size-size.result c.div_ceil.result c.requires.width (c.tier_size-size.ensures ∙ ap (λ (p : Place). g.G.Game.rules.tier_size p.tier) c.place.ensures.value) c.div_ceil.ensures
+    tally_right g.G.Game.rules g.met.G.Game.lawful c.args.self.now c.place.ensures.level c.place.ensures.small c.args.piece c.args.n c.args.width
+    c.tier_size-size.result c.div_ceil.result c.requires.width
+    (c.tier_size-size.ensures ∙ ap (λ (p : Place). g.G.Game.rules.tier_size p.tier) c.place.ensures.value) c.div_ceil.ensures
     c.pairs-pairs.result c.pairs-pairs.ensures.value
     c.in_ok-counts.counts.items whole c.in_ok-counts.ensures.counts
 
@@ -31,8 +37,11 @@ returns g c =
       piece = ap (λ (t : TallyData). t.piece) e;
       n = ap (λ (t : TallyData). t.n) e;
       width = ap (λ (t : TallyData). t.width) e;
-      counts = subst (AreCounts g.G.Game.rules c.args.self.now.place.tier c.args.width (piece_of c.args.piece c.args.n c.args.self.now.notes)) (ap (λ (t : TallyData). t.counts) (sym e))
-          (tally_right g.G.Game.rules g.met.G.Game.lawful c.args.self.now c.place.ensures.level c.place.ensures.small c.args.piece c.args.n c.args.width c.tier_size-size.result c.div_ceil.result c.requires.width (c.tier_size-size.ensures ∙ ap (λ (p : Place). g.G.Game.rules.tier_size p.tier) c.place.ensures.value) c.div_ceil.ensures
+      counts = subst (AreCounts g.G.Game.rules c.args.self.now.place.tier c.args.width (piece_of c.args.piece c.args.n c.args.self.now.notes))
+          (ap (λ (t : TallyData). t.counts) (sym e))
+          (tally_right g.G.Game.rules g.met.G.Game.lawful c.args.self.now c.place.ensures.level c.place.ensures.small c.args.piece c.args.n c.args.width
+          c.tier_size-size.result c.div_ceil.result c.requires.width
+          (c.tier_size-size.ensures ∙ ap (λ (p : Place). g.G.Game.rules.tier_size p.tier) c.place.ensures.value) c.div_ceil.ensures
           c.pairs-pairs.result c.pairs-pairs.ensures.value
           c.in_ok-counts.counts.items whole c.in_ok-counts.ensures.counts);
     }

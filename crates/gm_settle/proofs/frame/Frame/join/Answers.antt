@@ -10,15 +10,18 @@ loop-block-init g c = joined_none g.G.Game.rules c.args.self.now.tier c.in_ok-al
 pub returns-in-Err-clause-stop : goal.returns-in-Err-clause-stop
 returns-in-Err-clause-stop g c =
     let self = c.args.self.now in
-    let found = found_at g.G.Game.rules self.tier self.dealing.rows c.args.found.now c.place_of.result c.loop-block.block c.index-found-place_of.result c.requires c.place_of.ensures.within c.place_of.ensures.value c.index-found-place_of.is in
+    let found = found_at g.G.Game.rules self.tier self.dealing.rows c.args.found.now c.place_of.result c.loop-block.block c.index-found-place_of.result
+    c.requires c.place_of.ensures.within c.place_of.ensures.value c.index-found-place_of.is in
     (subst (IsFound g.G.Game.rules self.tier c.loop-block.block) c.in-Err.is found).finding
 
 pub overflow_add-number : goal.overflow_add-number
 overflow_add-number g c =
     let self = c.args.self.now in
-    let found = found_at g.G.Game.rules self.tier self.dealing.rows c.args.found.now c.place_of.result c.loop-block.block c.index-found-place_of.result c.requires c.place_of.ensures.within c.place_of.ensures.value c.index-found-place_of.is in
+    let found = found_at g.G.Game.rules self.tier self.dealing.rows c.args.found.now c.place_of.result c.loop-block.block c.index-found-place_of.result
+    c.requires c.place_of.ensures.within c.place_of.ensures.value c.index-found-place_of.is in
     let block = (subst (IsFound g.G.Game.rules self.tier c.loop-block.block) c.in-Ok.is found).finding in
-    let few = joined_few g.G.Game.rules self.tier c.loop-block.block c.loop-block.all c.in-Ok.records c.loop-block.number c.in-Ok.more c.loop-block.invariant block in
+    let few = joined_few g.G.Game.rules self.tier c.loop-block.block c.loop-block.all c.in-Ok.records c.loop-block.number c.in-Ok.more
+    c.loop-block.invariant block in
     let size = self.size_is in
     let within = self.dealing.within in
     omega arith
@@ -26,9 +29,11 @@ overflow_add-number g c =
 pub loop-block-preserved : goal.loop-block-preserved
 loop-block-preserved g c =
     let self = c.args.self.now in
-    let found = found_at g.G.Game.rules self.tier self.dealing.rows c.args.found.now c.place_of.result c.loop-block.block c.index-found-place_of.result c.requires c.place_of.ensures.within c.place_of.ensures.value c.index-found-place_of.is in
+    let found = found_at g.G.Game.rules self.tier self.dealing.rows c.args.found.now c.place_of.result c.loop-block.block c.index-found-place_of.result
+    c.requires c.place_of.ensures.within c.place_of.ensures.value c.index-found-place_of.is in
     let block = (subst (IsFound g.G.Game.rules self.tier c.loop-block.block) c.in-Ok.is found).finding in
-    joined_more g.G.Game.rules self.tier c.loop-block.block c.loop-block.all c.in-Ok.records c.append.new.self c.loop-block.number c.in-Ok.more c.loop-block.invariant block c.in_ok-append-in-Ok.ensures.ok
+    joined_more g.G.Game.rules self.tier c.loop-block.block c.loop-block.all c.in-Ok.records c.append.new.self c.loop-block.number c.in-Ok.more
+    c.loop-block.invariant block c.in_ok-append-in-Ok.ensures.ok
 
 pub returns-clause-records : goal.returns-clause-records
 returns-clause-records g c =

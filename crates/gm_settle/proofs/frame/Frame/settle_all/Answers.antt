@@ -27,4 +27,5 @@ returns g c =
     ∙ ap (nat_range 0) c.blocks-blocks.ensures.count in
     let asked : AllZip (λ place x. IsFound r self.tier (block_in self.dealing.rows place) x) numbers h.0 =
     subst (λ f. AllZip (λ place x. IsFound r f.0.now.tier (block_in f.0.now.dealing.rows place) x) numbers h.0) c.map.ensures.f zip in
-    found_by_zip r self.tier self.dealing.rows v.items (zip_whole (λ place x. IsFound r self.tier (block_in self.dealing.rows place) x) count numbers h.0 v.items whole asked h.2))
+    found_by_zip r self.tier self.dealing.rows v.items (zip_whole (λ place x. IsFound r self.tier (block_in self.dealing.rows place) x)
+    count numbers h.0 v.items whole asked h.2))

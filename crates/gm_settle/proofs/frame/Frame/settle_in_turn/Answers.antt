@@ -17,7 +17,8 @@ loop-place-preserved g c =
     record {
       long = omega arith;
       each = subst (EachAt (λ place x. IsFound r self.tier (block_in self.dealing.rows place) x)) (sym pushed)
-          (one_at _ before c.settle_and_tell.result (subst (λ (k : ℕ). IsFound r self.tier (block_in self.dealing.rows k) c.settle_and_tell.result) (sym long) c.settle_and_tell.ensures) old.each);
+          (one_at _ before c.settle_and_tell.result (subst (λ (k : ℕ). IsFound r self.tier (block_in self.dealing.rows k) c.settle_and_tell.result) (sym long)
+          c.settle_and_tell.ensures) old.each);
     }
 
 pub returns : goal.returns

@@ -13,7 +13,8 @@ push-requires g c =
     let s = c.self.inside.children in
     let t = c.deliver_new-answer.new.self in
     let is : c.deliver_new-answer.result ≡ Ok FreshSettled = c.has_settled.ensures.0 c.if-has_settled.true in
-    let d : Delivers r c.args.note.now c.args.parent s t (Ok FreshSettled) = subst (λ (x : Result Delivery Refused). Delivers r c.args.note.now c.args.parent s t x) is c.deliver_new-answer.ensures in
+    let d : Delivers r c.args.note.now c.args.parent s t (Ok FreshSettled) =
+    subst (λ (x : Result Delivery Refused). Delivers r c.args.note.now c.args.parent s t x) is c.deliver_new-answer.ensures in
     room_wins r c.args.note.now c.args.parent s t d c.range-lo.ensures.good c.range-good.ensures.good c.self.inside.wins c.self.inside.ties c.self.invariant
     (sym (ap (λ (p : Place). p.phase) c.place.ensures) ∙ c.in-WinLose.is)
 
@@ -23,7 +24,8 @@ push-requires-in-Ties g c =
     let s = c.self.inside.children in
     let t = c.deliver_new-answer.new.self in
     let is : c.deliver_new-answer.result ≡ Ok FreshSettled = c.has_settled.ensures.0 c.if-has_settled.true in
-    let d : Delivers r c.args.note.now c.args.parent s t (Ok FreshSettled) = subst (λ (x : Result Delivery Refused). Delivers r c.args.note.now c.args.parent s t x) is c.deliver_new-answer.ensures in
+    let d : Delivers r c.args.note.now c.args.parent s t (Ok FreshSettled) =
+    subst (λ (x : Result Delivery Refused). Delivers r c.args.note.now c.args.parent s t x) is c.deliver_new-answer.ensures in
     room_ties r c.args.note.now c.args.parent s t d c.range-lo.ensures.good c.range-good.ensures.good c.self.inside.wins c.self.inside.ties c.self.invariant
     (sym (ap (λ (p : Place). p.phase) c.place.ensures) ∙ c.in-Ties.is)
 
@@ -34,7 +36,8 @@ invariant_of-self g c =
     let t = c.deliver_new-answer.new.self in
     let w = c.self.inside.wins in
     let is : c.deliver_new-answer.result ≡ Ok FreshSettled = c.has_settled.ensures.0 c.if-has_settled.true in
-    let d : Delivers r c.args.note.now c.args.parent s t (Ok FreshSettled) = subst (λ (x : Result Delivery Refused). Delivers r c.args.note.now c.args.parent s t x) is c.deliver_new-answer.ensures in
+    let d : Delivers r c.args.note.now c.args.parent s t (Ok FreshSettled) =
+    subst (λ (x : Result Delivery Refused). Delivers r c.args.note.now c.args.parent s t x) is c.deliver_new-answer.ensures in
     pushed_wins r c.args.note.now c.args.parent s t d c.range-lo.ensures.good c.range-good.ensures.good w c.self.inside.ties c.self.invariant
     (sym (ap (λ (p : Place). p.phase) c.place.ensures) ∙ c.in-WinLose.is) c.push.new.self
     (c.push.ensures.items ∙ ap (λ n. w.indexes ++ (c.args.parent - n) ∷ []) c.range-lo.ensures.lo) c.push.ensures.from c.push.ensures.to c.push.ensures.room
@@ -46,15 +49,18 @@ invariant_of-self-in-Ties g c =
     let t = c.deliver_new-answer.new.self in
     let q = c.self.inside.ties in
     let is : c.deliver_new-answer.result ≡ Ok FreshSettled = c.has_settled.ensures.0 c.if-has_settled.true in
-    let d : Delivers r c.args.note.now c.args.parent s t (Ok FreshSettled) = subst (λ (x : Result Delivery Refused). Delivers r c.args.note.now c.args.parent s t x) is c.deliver_new-answer.ensures in
+    let d : Delivers r c.args.note.now c.args.parent s t (Ok FreshSettled) =
+    subst (λ (x : Result Delivery Refused). Delivers r c.args.note.now c.args.parent s t x) is c.deliver_new-answer.ensures in
     pushed_ties r c.args.note.now c.args.parent s t d c.range-lo.ensures.good c.range-good.ensures.good c.self.inside.wins q c.self.invariant
     (sym (ap (λ (p : Place). p.phase) c.place.ensures) ∙ c.in-Ties.is) c.push-in-Ties.new.self
-    (c.push-in-Ties.ensures.items ∙ ap (λ n. q.indexes ++ (c.args.parent - n) ∷ []) c.range-lo.ensures.lo) c.push-in-Ties.ensures.from c.push-in-Ties.ensures.to c.push-in-Ties.ensures.room
+    (c.push-in-Ties.ensures.items ∙ ap (λ n. q.indexes ++ (c.args.parent - n) ∷ []) c.range-lo.ensures.lo)
+    c.push-in-Ties.ensures.from c.push-in-Ties.ensures.to c.push-in-Ties.ensures.room
 
 pub invariant_of-self-else-has_settled : goal.invariant_of-self-else-has_settled
 invariant_of-self-else-has_settled g c =
     let r = g.G.Game.rules in
     let s = c.self.inside.children in
     let t = c.deliver_new-answer.new.self in
-    quiet r c.args.note.now c.args.parent s t c.deliver_new-answer.result c.deliver_new-answer.ensures (λ e. true≢false (sym (c.has_settled.ensures.1 e) ∙ c.if-has_settled.false))
+    quiet r c.args.note.now c.args.parent s t c.deliver_new-answer.result c.deliver_new-answer.ensures
+    (λ e. true≢false (sym (c.has_settled.ensures.1 e) ∙ c.if-has_settled.false))
     c.range-lo.ensures.good c.range-good.ensures.good c.self.inside.wins c.self.inside.ties c.self.invariant

@@ -17,7 +17,8 @@ notes_at-requires g c k h =
     let r = g.G.Game.rules in
     let s = c.args.self.now in
     let items : List ℕ = c.sort_unstable.new.self.items in
-    let permuted : IsPermutation c.present.result.now items = subst (λ (l : List ℕ). IsPermutation l items) c.in_ok-indexes.ensures.items c.sort_unstable.ensures.permutation in
+    let permuted : IsPermutation c.present.result.now items =
+    subst (λ (l : List ℕ). IsPermutation l items) c.in_ok-indexes.ensures.items c.sort_unstable.ensures.permutation in
     let all : AreSettledAt r s s.phase s.level items = settled_permuted r s s.phase s.level c.present.result.now items permuted c.present.ensures in
     let here = (all.listed k).0 (subst (λ (l : List ℕ). Contains l k) c.as_slice.ensures.value h) in
     subst (λ (x : ShardState). IsSettledAt r x x.phase x.level k) (sym c.self.view_is) here
@@ -28,7 +29,8 @@ of-requires g c =
     let s = c.args.self.now in
     let items : List ℕ = c.sort_unstable.new.self.items in
     let found : List NoteData = c.in_ok-notes.notes.items in
-    let permuted : IsPermutation c.present.result.now items = subst (λ (l : List ℕ). IsPermutation l items) c.in_ok-indexes.ensures.items c.sort_unstable.ensures.permutation in
+    let permuted : IsPermutation c.present.result.now items =
+    subst (λ (l : List ℕ). IsPermutation l items) c.in_ok-indexes.ensures.items c.sort_unstable.ensures.permutation in
     let all : AreSettledAt r s s.phase s.level items = settled_permuted r s s.phase s.level c.present.result.now items permuted c.present.ensures in
     let up : IsNonDecreasing items = IsNonDecreasingBy-from_sort (λ (x : ℕ). x) items c.sort_unstable.ensures.sorted in
     let notes : AreNotesAt r s items found = subst (λ (x : ShardState). AreNotesAt r x items found) c.self.view_is

@@ -10,11 +10,13 @@ returns-in-WinLose g c =
     let r = g.G.Game.rules in
     let s = c.self.inside.children in
     let h = present_wins r s c.self.inside.wins c.self.inside.ties (sym (ap (λ (p : Place). p.phase) c.place.ensures) ∙ c.in-WinLose.is) c.self.invariant in
-    subst (λ (t : ShardState). AreSettledAt r t t.phase t.level c.present.result.now) c.self.view_is (subst (AreSettledAt r s s.phase s.level) (sym c.present.ensures) h)
+    subst (λ (t : ShardState). AreSettledAt r t t.phase t.level c.present.result.now) c.self.view_is
+    (subst (AreSettledAt r s s.phase s.level) (sym c.present.ensures) h)
 
 pub returns-in-Ties : goal.returns-in-Ties
 returns-in-Ties g c =
     let r = g.G.Game.rules in
     let s = c.self.inside.children in
     let h = present_ties r s c.self.inside.wins c.self.inside.ties (sym (ap (λ (p : Place). p.phase) c.place.ensures) ∙ c.in-Ties.is) c.self.invariant in
-    subst (λ (t : ShardState). AreSettledAt r t t.phase t.level c.present-in-Ties.result.now) c.self.view_is (subst (AreSettledAt r s s.phase s.level) (sym c.present-in-Ties.ensures) h)
+    subst (λ (t : ShardState). AreSettledAt r t t.phase t.level c.present-in-Ties.result.now) c.self.view_is
+    (subst (AreSettledAt r s s.phase s.level) (sym c.present-in-Ties.ensures) h)

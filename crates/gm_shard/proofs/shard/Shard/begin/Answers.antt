@@ -20,7 +20,8 @@ ended-requires-2 g c = first_emptied c.in_ok-children.children c.args.tier c.arg
 
 pub invariant_of-result : goal.invariant_of-result
 invariant_of-result g c =
-    first_queues g.G.Game.rules c.in_ok-children.children c.args.tier c.args.lo (length c.args.starts.now) c.in_ok-wins.wins c.in_ok-ties.ties c.in_ok-children.ensures c.in_ok-wins.ensures c.in_ok-ties.ensures
+    first_queues g.G.Game.rules c.in_ok-children.children c.args.tier c.args.lo (length c.args.starts.now)
+    c.in_ok-wins.wins c.in_ok-ties.ties c.in_ok-children.ensures c.in_ok-wins.ensures c.in_ok-ties.ensures
 
 pub returns : goal.returns
 returns g c = c.in_ok-children.ensures

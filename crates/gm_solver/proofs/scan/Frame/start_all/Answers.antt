@@ -1,4 +1,4 @@
-use Rattle.std.proofs.Common.{◌∙◌, ◌*◌}
+use Rattle.std.proofs.Common.{◌∙◌}
 use Rattle.rayon.specs.Numbers.{nat_range}
 use Rattle.rayon.proofs.ListFacts.{IfOk-then}
 use Rattle.gm_table.proofs.Dealt.{zip_whole}
@@ -7,8 +7,8 @@ use Rattle.gm_solver.proofs.scan.Frame.start_all.Goals as goal
 pub returns : goal.returns
 returns g c =
     let ends = c.into_par_iter.ensures in
-    let count = c.args.self.now.rows * 32 in
     IfOk-then c.collect.result _ _ c.collect.ensures (λ v h.
     let chain = rw (c.map.ensures.base, c.map.ensures.f, c.with_min_len.ensures.base) at h.1 in
     let places = chain.1 ∙ (λ i. nat_range (ends.0 i) (ends.1 i)) in
-    zip_whole _ count chain.0 h.0 v.items places chain.2 h.2)
+    let whole = zip_whole _ c.blocks-blocks.result chain.0 h.0 v.items places chain.2 h.2 in
+    record { many = whole.0 ∙ c.blocks-blocks.ensures.count; each = whole.1 })

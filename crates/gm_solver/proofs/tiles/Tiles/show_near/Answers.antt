@@ -8,4 +8,5 @@ returns g c =
     let r = g.G.Game.rules in
     let s = c.args.self.now in
     let good = c.show_good.ensures in
-    level_near r g.met.G.Game.lawful c.args.tables.now c.has-held.ensures.tables (place_of s.shards.a) (covered r (place_of s.shards.a) s.width s.wide s.shards s.shards_are good.a good.b good.c good.d) c.requires.held c.requires.left
+    level_near r g.met.G.Game.lawful c.args.tables.now c.has-held.ensures.tables (place_of s.shards.a)
+    (covered r (place_of s.shards.a) s.width s.wide s.shards s.shards_are good.a good.b good.c good.d) c.requires.held c.requires.left

@@ -20,10 +20,12 @@ pub returns-clause-reaches : goal.returns-clause-reaches
 returns-clause-reaches g c other = c.fails_next.ensures.broken
 
 pub returns-clause-text : goal.returns-clause-text
-returns-clause-text g c keeps = subst (λ s. IfOk c.read.result (λ o. option_map (λ v. v.items) o ≡ g.S.Store.texts s c.args.tier)) c.fails_next.ensures.inner (c.read.ensures.text keeps)
+returns-clause-text g c keeps = subst (λ s. IfOk c.read.result (λ o. option_map (λ v. v.items) o ≡ g.S.Store.texts s c.args.tier)) c.fails_next.ensures.inner
+    (c.read.ensures.text keeps)
 
 pub returns-clause-same : goal.returns-clause-same
-returns-clause-same g c keeps = subst (λ s. AreSame (g.S.Store.texts s) (g.S.Store.texts c.read.new.self)) c.fails_next.ensures.inner (c.read.ensures.same keeps)
+returns-clause-same g c keeps = subst (λ s. AreSame (g.S.Store.texts s) (g.S.Store.texts c.read.new.self)) c.fails_next.ensures.inner
+    (c.read.ensures.same keeps)
 
 pub returns-then-fails_next-clause-same : goal.returns-then-fails_next-clause-same
 returns-then-fails_next-clause-same g c keeps t = ap (λ s. g.S.Store.texts s t) c.fails_next.ensures.inner

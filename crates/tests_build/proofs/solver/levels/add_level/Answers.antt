@@ -11,5 +11,6 @@ add_counted-requires-clause-tallies g c =
     let from : c.args.tallied.now.lo ≡ c.args.tile.0 = search rules in
     let to : c.args.tallied.now.hi ≡ c.args.tile.1 = search rules in
     let tile : IsTile (r.tier_size level.place.tier) width c.args.tallied.now.lo c.args.tallied.now.hi = rw (size, from, to) c.requires.tile in
-    let all = subst (λ found. IfOk found (λ tallies. (lo hi : ℕ) → IsTile (r.tier_size level.place.tier) width lo hi → AreTallies r level lo hi tallies.items)) c.must-tallies.ensures c.tallies.ensures.tiles in
+    let all = subst (λ found. IfOk found (λ tallies. (lo hi : ℕ) → IsTile (r.tier_size level.place.tier) width lo hi → AreTallies r level lo hi
+    tallies.items)) c.must-tallies.ensures c.tallies.ensures.tiles in
     subst (AreTallies r level c.args.tallied.now.lo c.args.tallied.now.hi) (sym c.as_slice.ensures.value) (all c.args.tallied.now.lo c.args.tallied.now.hi tile)

@@ -1,0 +1,12 @@
+use Rattle.std.proofs.Common.{[], inl, inr, subst}
+use Rattle.gm_game.proofs.Lists.{contains_none, contains_cases}
+use Rattle.gm_best.specs.Reached.{AreAllHeld}
+use Rattle.gm_analyse.proofs.by_tier.add_tier.Goals as goal
+
+pub invariant_of-one : goal.invariant_of-one
+invariant_of-one g c = record {
+  held = λ tier has. elim (contains_cases c.args.tier tier [] has) [
+    | inl e ↦ subst (AreAllHeld g.G.Game.rules c.args.tables.now) e c.requires
+    | inr f ↦ absurd (contains_none tier f)
+  ];
+}

@@ -1,0 +1,8 @@
+use Rattle.std.specs.Option.{is_some}
+use Rattle.gm_find.specs.Finding.{all_positions}
+use Rattle.gm_analyse.specs.Totals.{AreCountsBefore}
+use Rattle.gm_analyse.proofs.totals.counts.Given as goal
+
+abbrev pub invariant-loop-value : goal.invariant-loop-value
+invariant-loop-value g l = AreCountsBefore g.G.Game.rules l.among (is_some l.reached) (all_positions g.G.Game.rules l.known.tiers.now) l.value-index 0
+    l.counts.items

@@ -1,0 +1,14 @@
+use Rattle.std.proofs.Common.{refl}
+use Rattle.std.proofs.lemmas.Result.{IfOk-weaker}
+use Rattle.gm_draw.specs.Diagrams.{IsDiagram}
+use Rattle.gm_draw.proofs.diagram.diagram_text.Goals as goal
+
+pub returns : goal.returns
+returns g c =
+    let r = g.G.Game.rules in
+    let s = g.G.Shown.shown in
+    let m = g.G.Shown.move_shown in
+    let known = c.args.known.now in
+    IfOk-weaker c.diagram.result _ (λ v. IsDiagram r s m g.G.Drawn.drawn g.G.Drawn.mover g.G.Pictured.style g.G.Pictured.title g.G.Pictured.board
+    c.args.valued (s known.position) v.items)
+    (λ v h. (known.position, (known.legal, refl), c.value.result, c.value.ensures.value, h)) c.diagram.ensures

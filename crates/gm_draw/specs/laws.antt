@@ -1,0 +1,5 @@
+-- What follows from the definitions.
+pub mod Drawn
+pub mod Rows
+pub mod Points
+pub mod Pictures

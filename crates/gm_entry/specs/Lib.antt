@@ -1,3 +1,0 @@
-pub mod TrueTexts
-pub mod Findings
-pub mod Inspections

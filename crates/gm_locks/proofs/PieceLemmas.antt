@@ -1,0 +1,346 @@
+-- A shard to which the pieces of a level are delivered, each pair once.
+use Rattle.std.proofs.Common.{◌≡◌, ℕ, zero, suc, ◌+◌, ◌-◌, ◌<◌, ◌≤◌, ◌==◌, max, inl, inr, Bool, true, false, List, [], ◌∷◌, ◌++◌, length, take, drop, replicate}
+use Rattle.std.proofs.Common.{get_or, set, slice_get, refl, sym, ap, subst, ◌∙◌, arith, Some, Result, Ok, Err, get_or-set_same, get_or-set_other, length-set}
+use Rattle.std.specs.List.{Contains}
+use Rattle.std.specs.Int.{div_ceil}
+use Rattle.std.specs.Result.{IsOk, is_err}
+use Rattle.std.proofs.lemmas.Bool.{cases_eq}
+use Rattle.std.proofs.lemmas.Bool.Decides.{Decides-eqb}
+use Rattle.std.proofs.lemmas.List.{length-take-le, length-drop, length-replicate, take_more, get_or-drop}
+use Rattle.std.proofs.lemmas.Option.{slice_get-get_or, slice_get_within, get_or_from_slice_get}
+use Rattle.gm_game.specs.declared.position.Position.{Position}
+use Rattle.gm_game.specs.Rules.{Rules, IsParent}
+use Rattle.gm_game.specs.Laws.{IsGame}
+use Rattle.gm_game.proofs.Lists.{map_in}
+use Rattle.gm_frontier.specs.Notes.{NoteData}
+use Rattle.gm_frontier.specs.Levels.{IsLevel}
+use Rattle.gm_frontier.specs.Pairs.{piece_of}
+use Rattle.gm_frontier.proofs.Distinct.{same_image, no_repeats_before}
+use Rattle.gm_frontier.proofs.PairLemmas.{in_pairs, in_piece, pairs_have, positions_once, near_of_pair, contains_taken}
+use Rattle.gm_frontier.proofs.CoverLemmas.{one_piece, in_some_piece}
+use Rattle.gm_deliveries.specs.declared.status.Delivery.{Delivery}
+use Rattle.gm_deliveries.specs.declared.status.Delivery.TheVariants.{Fresh, FreshSettled, Repeat}
+use Rattle.gm_deliveries.specs.declared.status.Refused.{Refused}
+use Rattle.gm_deliveries.specs.declared.status.Refused.TheVariants.{NotThisLevel, NotMine, NotAParent, TooFar}
+use Rattle.gm_deliveries.specs.State.{ShardState, IsInRange, delivered_to, with_pair, pairs_in}
+use Rattle.gm_deliveries.specs.Good.{IsGood}
+use Rattle.gm_deliveries.specs.Delivery.{IsPairHere, Delivers, IsAdded}
+use Rattle.gm_deliveries.specs.Steps.{IsWhole, place_of}
+use Rattle.gm_locks.specs.Spots.{Spot, spot_of, gain, IsDeliverable}
+use Rattle.gm_locks.specs.Rounds.{pairs_into, place_of_spot, AreFirst, HasNoneHere}
+use Rattle.gm_locks.specs.Pieces.{PiecedData, piece_pairs, IsPieced, AreNew, IsTurn, IsTurnAt, IsRefusedAt}
+use Rattle.gm_locks.proofs.Places.{split_level}
+use Rattle.gm_locks.proofs.Kept.{stays_delivered}
+use Rattle.gm_locks.proofs.Gains.{gained, stays}
+use Rattle.gm_locks.proofs.RoundLemmas.{AreHere, item_in, with_has, next_here, first_none, first_more, of_piece}
+
+dropped_in : {X : Type 0} (n : ℕ) (xs : List X) (x : X) → Contains (drop n xs) x → Contains xs x
+dropped_in n xs x (k, l, e) = let long = length-drop n xs in (n + k, omega arith, sym (get_or-drop n xs k x) ∙ e)
+
+-- a pair that was added
+pub added_is : (r : Rules) (x : NoteData × ℕ) (s t : ShardState) (answer : Result Delivery Refused) → Delivers r x.0 x.1 s t answer → IsAdded answer
+    → (t ≡ with_pair s x.0.position x.1) × IsPairHere r s x.0 x.1
+added_is r x s t (Err e) d a = absurd a
+added_is r x s t (Ok Fresh) d a = (d.0, d.1)
+added_is r x s t (Ok FreshSettled) d a = (d.0, d.1)
+added_is r x s t (Ok Repeat) d a = absurd a
+
+added_gain : (answer : Result Delivery Refused) → IsAdded answer → gain answer ≡ 1
+added_gain (Err e) a = absurd a
+added_gain (Ok Fresh) a = refl
+added_gain (Ok FreshSettled) a = refl
+added_gain (Ok Repeat) a = absurd a
+
+-- what is not refused, and was not there, is added
+pub ok_added : (r : Rules) (x : NoteData × ℕ) (s t : ShardState) (answer : Delivery) → (Contains (delivered_to s x.1) x.0.position → ⊥)
+    → Delivers r x.0 x.1 s t (Ok answer) → IsAdded (Ok answer)
+ok_added r x s t Fresh new d = tt
+ok_added r x s t FreshSettled new d = tt
+ok_added r x s t Repeat new d = absurd (new d.2)
+
+-- new pairs, and one more
+pub run_push : (r : Rules) (xs : List (NoteData × ℕ)) (x : NoteData × ℕ) (s t u : ShardState) (answer : Result Delivery Refused) → AreNew r xs s t
+    → Delivers r x.0 x.1 t u answer → IsAdded answer → AreNew r (xs ++ x ∷ []) s u
+run_push r [] x s t u answer run d a = (u, answer, subst (λ (v : ShardState). Delivers r x.0 x.1 v u answer) run d, a, refl)
+run_push r (y ∷ ys) x s t u answer run d a = (run.0, run.1, run.2, run.3, run_push r ys x run.0 t u answer run.4 d a)
+
+-- they raise the number of pairs, and leave the shard where it stands
+pub run_count : (r : Rules) (xs : List (NoteData × ℕ)) (s t : ShardState) → AreNew r xs s t → pairs_in t ≡ pairs_in s + length xs
+run_count r [] s t run = (let same = ap pairs_in run in omega arith)
+run_count r (x ∷ xs) s t run =
+    let rest = run_count r xs run.0 t run.4 in
+    let first = gained r x.0 x.1 s run.0 run.1 run.2 in
+    let one = added_gain run.1 run.3 in
+    omega arith
+
+pub run_spot : (r : Rules) (xs : List (NoteData × ℕ)) (s t : ShardState) → AreNew r xs s t → spot_of t ≡ spot_of s
+run_spot r [] s t run = ap spot_of run
+run_spot r (x ∷ xs) s t run = run_spot r xs run.0 t run.4 ∙ stays r x.0 x.1 s run.0 run.1 run.2
+
+-- the next pair of a list after some of them
+pub run_next : (r : Rules) (pairs : List (NoteData × ℕ)) (from k : ℕ) (x : NoteData × ℕ) (s t u : ShardState) (answer : Result Delivery Refused) → from ≤ k
+    → slice_get pairs k ≡ Some x → AreNew r (take (k - from) (drop from pairs)) s t
+    → Delivers r x.0 x.1 t u answer → IsAdded answer → AreNew r (take (k + 1 - from) (drop from pairs)) s u
+run_next r pairs from k x s t u answer order e run d a =
+    let inside = slice_get_within pairs k x e in
+    let long = length-drop from pairs in
+    let within : k - from < length (drop from pairs) = omega arith in
+    let at : get_or (drop from pairs) (k - from) x ≡ x = get_or-drop from pairs (k - from) x
+    ∙ ap (λ (j : ℕ). get_or pairs j x) (let j : from + (k - from) ≡ k = omega arith in j) ∙ get_or_from_slice_get pairs k x x e in
+    let more = take_more (drop from pairs) (k - from) x within in
+    let all : take (k + 1 - from) (drop from pairs) ≡ take (k - from) (drop from pairs) ++ x ∷ [] =
+    ap (λ (m : ℕ). take m (drop from pairs)) (let m : k + 1 - from ≡ k - from + 1 = omega arith in m) ∙ more
+    ∙ ap (λ (y : NoteData × ℕ). take (k - from) (drop from pairs) ++ y ∷ []) at in
+    subst (λ (xs : List (NoteData × ℕ)). AreNew r xs s u) (sym all) (run_push r (take (k - from) (drop from pairs)) x s t u answer run d a)
+
+-- of notes that have none of their children, as many pairs stay delivered
+module _ (r : Rules) (g : IsGame r) (spot : Spot) (notes : List NoteData) (here : AreHere r spot notes) where
+  first_other : (s : ShardState) (n : ℕ) (x : NoteData × ℕ) → spot_of s ≡ spot → IsInRange s x.1
+      → ((y : NoteData × ℕ) → Contains (pairs_into r spot notes) y → x.0.position ≡ y.0.position → ⊥)
+      → AreFirst (pairs_into r spot notes) s n → AreFirst (pairs_into r spot notes) (with_pair s x.0.position x.1) n
+  first_other s n x at mine other h = record {
+    within = h.within;
+    each = λ k y q. (
+      (λ d. elim (with_has s x.0.position x.1 mine y.1 y.0.position (next_here r g spot notes here s at k y q).here.is_mine d) [
+        | inl old ↦ (h.each k y q).0 old
+        | inr (index, child) ↦ absurd (other y (item_in (pairs_into r spot notes) k y q) child)
+      ]),
+      (λ l. stays_delivered s x.0.position x.1 mine y.1 y.0.position (next_here r g spot notes here s at k y q).here.is_mine ((h.each k y q).1 l)),
+    );
+  }
+
+  run_other : (xs : List (NoteData × ℕ)) (s t : ShardState) (n : ℕ) → spot_of s ≡ spot
+      → ((x : NoteData × ℕ) → Contains xs x → (y : NoteData × ℕ) → Contains (pairs_into r spot notes) y → x.0.position ≡ y.0.position → ⊥)
+      → AreNew r xs s t → AreFirst (pairs_into r spot notes) s n → AreFirst (pairs_into r spot notes) t n
+  run_other [] s t n at other run h = subst (λ (u : ShardState). AreFirst (pairs_into r spot notes) u n) (sym run) h
+  run_other (x ∷ xs) s t n at other run h =
+      let (is, pair) = added_is r x s run.0 run.1 run.2 run.3 in
+      let first : Contains (x ∷ xs) x = (0, omega arith, refl) in
+      let more = first_other s n x at pair.is_mine (other x first) h in
+      let later : (z : NoteData × ℕ) → Contains xs z → Contains (x ∷ xs) z = (λ z c. (suc c.0, (let l = c.1 in omega arith), c.2)) in
+      run_other xs run.0 t n (stays r x.0 x.1 s run.0 run.1 run.2 ∙ at) (λ z c. other z (later z c)) run.4
+      (subst (λ (u : ShardState). AreFirst (pairs_into r spot notes) u n) (sym is) more)
+
+-- the next pair of a piece is for the shard and new, and is delivered, or too far
+module _ (r : Rules) (g : IsGame r) (spot : Spot) (notes : List NoteData) (level : IsLevel r (place_of_spot spot) notes) (size piece : ℕ)
+    (pairs : List (NoteData × ℕ)) (are : pairs ≡ piece_pairs r spot notes size piece) where
+  pub piece_next : (s : ShardState) (k : ℕ) (x : NoteData × ℕ) → spot_of s ≡ spot → slice_get pairs k ≡ Some x → AreFirst pairs s k
+      → IsDeliverable r s x × (Contains (delivered_to s x.1) x.0.position → ⊥)
+  piece_next s k x at e first = (
+    next_here r g spot (piece_of piece size notes) (of_piece r g spot notes level piece size) s at k x
+        (subst (λ (ps : List (NoteData × ℕ)). slice_get ps k ≡ Some x) are e),
+    (λ h. (let l = (first.each k x e).0 h in omega arith)),
+  )
+
+  pub piece_more : (s t : ShardState) (k : ℕ) (x : NoteData × ℕ) (answer : Delivery) → spot_of s ≡ spot → slice_get pairs k ≡ Some x → AreFirst pairs s k
+      → Delivers r x.0 x.1 s t (Ok answer) → AreFirst pairs t (k + 1)
+  piece_more s t k x answer at e first d =
+      let next = piece_next s k x at e first in
+      let is = added_is r x s t (Ok answer) d (ok_added r x s t answer next.1 d) in
+      let here = of_piece r g spot notes level piece size in
+      let P : List (NoteData × ℕ) → ShardState → Type 0 = λ ps u. AreFirst ps u (k + 1) in
+      subst (λ (ps : List (NoteData × ℕ)). P ps t) (sym are)
+      (subst (λ (u : ShardState). P (piece_pairs r spot notes size piece) u) (sym is.0)
+      (first_more r g spot (piece_of piece size notes) here s k x at (subst (λ (ps : List (NoteData × ℕ)). slice_get ps k ≡ Some x) are e) is.1.is_mine
+      (subst (λ (ps : List (NoteData × ℕ)). AreFirst ps s k) are first)))
+
+  pub piece_refused : (s t : ShardState) (k : ℕ) (x : NoteData × ℕ) (refused : Refused) → spot_of s ≡ spot → slice_get pairs k ≡ Some x → AreFirst pairs s k
+      → IsGood r t → Delivers r x.0 x.1 s t (Err refused) → (t ≡ s) × IsRefusedAt r spot
+  piece_refused s t k x NotThisLevel at e first good d = absurd (d.1 (piece_next s k x at e first).0.here.is_level)
+  piece_refused s t k x NotMine at e first good d = absurd (d.2 (piece_next s k x at e first).0.here.is_mine)
+  piece_refused s t k x NotAParent at e first good d = absurd (d.3 (piece_next s k x at e first).0.here.is_parent)
+  piece_refused s t k x TooFar at e first good d = (
+    d.0,
+    record {
+      state = s;
+      good = subst (IsGood r) d.0 good;
+      spot = at;
+      pair = x;
+      here = (piece_next s k x at e first).0;
+      event = (refl, d.1, d.2, d.3, d.4);
+    },
+  )
+
+  -- by what the delivery answers
+  pub piece_taken : (s t : ShardState) (k : ℕ) (x : NoteData × ℕ) (answer : Result Delivery Refused) → spot_of s ≡ spot → slice_get pairs k ≡ Some x
+      → AreFirst pairs s k → is_err answer ≡ false → Delivers r x.0 x.1 s t answer
+      → AreFirst pairs t (k + 1) × IsAdded answer
+  piece_taken s t k x (Ok a) at e first off d = (piece_more s t k x a at e first d, ok_added r x s t a (piece_next s k x at e first).1 d)
+  piece_taken s t k x (Err refused) at e first off d = absurd (cc)
+
+  pub piece_left : (s t : ShardState) (k : ℕ) (x : NoteData × ℕ) (answer : Result Delivery Refused) → spot_of s ≡ spot → slice_get pairs k ≡ Some x
+      → AreFirst pairs s k → is_err answer ≡ true → IsGood r t → Delivers r x.0 x.1 s t answer
+      → (t ≡ s) × IsRefusedAt r spot
+  piece_left s t k x (Ok a) at e first on good d = absurd (cc)
+  piece_left s t k x (Err refused) at e first on good d = piece_refused s t k x refused at e first good d
+
+-- two pieces of a level have no common child
+module _ (r : Rules) (g : IsGame r) (spot : Spot) (notes : List NoteData) (level : IsLevel r (place_of_spot spot) notes) (size : ℕ) where
+  pieces_apart : (p q : ℕ) → (p ≡ q → ⊥) → (x y : NoteData × ℕ) → Contains (piece_pairs r spot notes size p) x → Contains (piece_pairs r spot notes size q) y
+      → x.0.position ≡ y.0.position → ⊥
+  pieces_apart p q other x y a b child =
+      let once = positions_once r g (place_of_spot spot) notes level in
+      let in_p = (in_pairs r spot.tier spot.lo spot.hi (piece_of p size notes) x a).0 in
+      let in_q = (in_pairs r spot.tier spot.lo spot.hi (piece_of q size notes) y b).0 in
+      let same = same_image (λ (m : NoteData). m.position) notes once x.0 y.0 (in_piece p size notes x.0 in_p) (in_piece q size notes y.0 in_q) child in
+      other (one_piece size notes x.0 p q (no_repeats_before (λ (m : NoteData). m.position) notes once) in_p
+      (subst (λ (m : NoteData). Contains (piece_of q size notes) m) (sym same) in_q))
+
+  -- a call delivers pairs of one piece, and the others stay as they were
+  pub turned : (base : ℕ) (d e : PiecedData) (piece to n : ℕ) → IsPieced r spot notes size base d → piece < length d.counts
+      → IsTurn r (piece_pairs r spot notes size piece) piece to n d e
+      → AreFirst (piece_pairs r spot notes size piece) e.shard (get_or d.counts piece 0 + n) → IsPieced r spot notes size base e
+  turned base d e piece to n h within turn here =
+      let pairs = piece_pairs r spot notes size piece in
+      let count = get_or d.counts piece 0 in
+      let run = turn.run in
+      let in_bits : piece < length d.whole = (let a = h.many in let b = h.bits in omega arith) in
+      let from : (x : NoteData × ℕ) → Contains (take n (drop count pairs)) x → Contains pairs x =
+      (λ x c. dropped_in count pairs x (contains_taken n (drop count pairs) x c)) in
+      record {
+        spot = run_spot r (take n (drop count pairs)) d.shard e.shard run ∙ h.spot;
+        level = h.level;
+        some = h.some;
+        many = ap length turn.counts ∙ length-set d.counts piece (count + n) ∙ h.many;
+        bits = ap length turn.whole ∙ length-set d.whole piece (count + n == length pairs) ∙ h.bits;
+        first = λ q. elim (cases_eq q piece) [
+          | inl is ↦ (let now : get_or e.counts q 0 ≡ count + n = ap (λ (ns : List ℕ). get_or ns q 0) turn.counts
+              ∙ ap (λ (k : ℕ). get_or (set d.counts piece (count + n)) k 0) is ∙ get_or-set_same d.counts piece (count + n) 0 within in
+              subst (λ (k : ℕ). AreFirst (piece_pairs r spot notes size q) e.shard k) (sym now)
+              (subst (λ (k : ℕ). AreFirst (piece_pairs r spot notes size k) e.shard (count + n)) (sym is) here))
+          | inr other ↦ (let now : get_or e.counts q 0 ≡ get_or d.counts q 0 = ap (λ (ns : List ℕ). get_or ns q 0) turn.counts
+              ∙ get_or-set_other d.counts piece q (count + n) 0 other in
+              subst (λ (k : ℕ). AreFirst (piece_pairs r spot notes size q) e.shard k) (sym now)
+              (run_other r g spot (piece_of q size notes) (of_piece r g spot notes level q size) (take n (drop count pairs)) d.shard e.shard
+              (get_or d.counts q 0) h.spot
+              (λ x c y b child. pieces_apart piece q (λ s. other (sym s)) x y (from x c) b child) run (h.first q)))
+        ];
+        all = λ q yes. elim (cases_eq q piece) [
+          | inl is ↦ (let now : get_or e.counts q 0 ≡ count + n = ap (λ (ns : List ℕ). get_or ns q 0) turn.counts
+              ∙ ap (λ (k : ℕ). get_or (set d.counts piece (count + n)) k 0) is ∙ get_or-set_same d.counts piece (count + n) 0 within in
+              let bit : get_or e.whole q false ≡ (count + n == length pairs) = ap (λ (bs : List Bool). get_or bs q false) turn.whole
+              ∙ ap (λ (k : ℕ). get_or (set d.whole piece (count + n == length pairs)) k false) is
+              ∙ get_or-set_same d.whole piece (count + n == length pairs) false in_bits in
+              let full = (Decides-eqb (count + n) (length pairs)).0 (sym bit ∙ yes) in
+              now ∙ full ∙ ap (λ (k : ℕ). length (piece_pairs r spot notes size k)) (sym is))
+          | inr other ↦ (let now : get_or e.counts q 0 ≡ get_or d.counts q 0 = ap (λ (ns : List ℕ). get_or ns q 0) turn.counts
+              ∙ get_or-set_other d.counts piece q (count + n) 0 other in
+              let bit : get_or e.whole q false ≡ get_or d.whole q false =
+              ap (λ (bs : List Bool). get_or bs q false) turn.whole ∙ get_or-set_other d.whole piece q (count + n == length pairs) false other in
+              now ∙ h.all q (sym bit ∙ yes))
+        ];
+        number = (let more = run_count r (take n (drop count pairs)) d.shard e.shard run in
+            let left = length-drop count pairs in
+            let most = here.within in
+            let long : length (take n (drop count pairs)) ≡ n = length-take-le n (drop count pairs) (omega arith) in
+            let book = turn.book in let number = h.number in omega arith);
+      }
+
+  -- what a call leaves, by where it began and ended
+  pub turned_at : (base : ℕ) (d e : PiecedData) (pairs : List (NoteData × ℕ)) (piece from to end next : ℕ) (answer : Result (Unit {0}) Refused)
+      → IsPieced r spot notes size base d → IsGood r d.shard → IsGood r e.shard → piece < div_ceil (length notes) size
+      → pairs ≡ piece_pairs r spot notes size piece → from ≡ get_or d.counts piece 0 → end ≡ max to from → from ≤ next → next ≤ end
+      → AreNew r (take (next - from) (drop from pairs)) d.shard e.shard → AreFirst pairs e.shard next
+      → e.counts ≡ set d.counts piece next → e.whole ≡ set d.whole piece (next == length pairs) → e.book ≡ d.book + (next - from) → (IsOk answer → end ≤ next)
+      → IsTurnAt r spot notes size base piece to (next - from) answer d e
+  turned_at base d e pairs piece from to end next answer h old_good new_good few are begin stop low high run first counts whole book done =
+      let P = piece_pairs r spot notes size piece in
+      let n = next - from in
+      let within : piece < length d.counts = (let a = h.many in omega arith) in
+      let up : next ≡ get_or d.counts piece 0 + n = omega arith in
+      let turn : IsTurn r P piece to n d e = record {
+        run = subst (λ (k : ℕ). AreNew r (take n (drop k P)) d.shard e.shard) begin
+            (subst (λ (ps : List (NoteData × ℕ)). AreNew r (take n (drop from ps)) d.shard e.shard) are run);
+        counts = counts ∙ ap (set d.counts piece) up;
+        whole = whole ∙ ap (set d.whole piece) (ap (λ (k : ℕ). k == length pairs) up
+            ∙ ap (λ (ps : List (NoteData × ℕ)). get_or d.counts piece 0 + n == length ps) are);
+        book = book;
+        most = omega arith;
+      } in
+      let here = subst (λ (k : ℕ). AreFirst P e.shard k) up (subst (λ (ps : List (NoteData × ℕ)). AreFirst ps e.shard next) are first) in
+      record {
+        old_good = old_good;
+        new_good = new_good;
+        old_kept = h;
+        new_kept = turned base d e piece to n h within turn here;
+        turn = turn;
+        done = λ ok. (let last = done ok in let at = ap (λ (ns : List ℕ). get_or ns piece 0) counts
+            ∙ get_or-set_same d.counts piece next 0 within in omega arith);
+      }
+
+-- a call that delivers a piece to its end sets its bit, and clears no other one
+module _ (r : Rules) (spot : Spot) (notes : List NoteData) (size base piece to n : ℕ) (answer : Result (Unit {0}) Refused) (d e : PiecedData)
+    (turn : IsTurnAt r spot notes size base piece to n answer d e) (ok : IsOk answer)
+    (all : to ≡ length (piece_pairs r spot notes size piece)) (few : piece < div_ceil (length notes) size) where
+  pub turned_whole : get_or e.whole piece false ≡ true
+  turned_whole =
+      let pairs = piece_pairs r spot notes size piece in
+      let many = turn.old_kept.many in
+      let bits = turn.old_kept.bits in
+      let count = get_or d.counts piece 0 + n in
+      let now : get_or e.counts piece 0 ≡ count =
+      ap (λ (ns : List ℕ). get_or ns piece 0) turn.turn.counts ∙ get_or-set_same d.counts piece count 0 (omega arith) in
+      let least = turn.done ok in
+      let most = (turn.new_kept.first piece).within in
+      let full : count ≡ length pairs = omega arith in
+      ap (λ (bs : List Bool). get_or bs piece false) turn.turn.whole ∙ get_or-set_same d.whole piece (count == length pairs) false (omega arith)
+      ∙ (Decides-eqb count (length pairs)).1 full
+
+  pub turned_kept : (p : ℕ) → get_or d.whole p false ≡ true → get_or e.whole p false ≡ true
+  turned_kept p was = elim (cases_eq p piece) [
+    | inl same ↦ ap (λ (q : ℕ). get_or e.whole q false) same ∙ turned_whole
+    | inr other ↦ ap (λ (bs : List Bool). get_or bs p false) turn.turn.whole
+        ∙ get_or-set_other d.whole piece p (get_or d.counts piece 0 + n == length (piece_pairs r spot notes size piece)) false other ∙ was
+  ]
+
+-- a shard that has none of the level's pairs
+pub begun_pieced : (r : Rules) (g : IsGame r) (spot : Spot) (notes : List NoteData) (size base n : ℕ) (d : PiecedData) → IsLevel r (place_of_spot spot) notes
+    → 0 < size → n ≡ div_ceil (length notes) size → spot_of d.shard ≡ spot → HasNoneHere r d.shard
+    → d.counts ≡ replicate n 0 → d.whole ≡ replicate n false → pairs_in d.shard ≡ base → d.book ≡ 0 → IsPieced r spot notes size base d
+begun_pieced r g spot notes size base n d level some pieces at none zeros clear number book =
+    let count : (p : ℕ) → get_or d.counts p 0 ≡ 0 = (λ p. ap (λ (ns : List ℕ). get_or ns p 0) zeros ∙ all_same n p 0) in
+    record {
+      spot = at;
+      level = level;
+      some = some;
+      many = ap length zeros ∙ length-replicate n 0 ∙ pieces;
+      bits = ap length clear ∙ length-replicate n false ∙ pieces;
+      first = λ p. subst (λ (k : ℕ). AreFirst (piece_pairs r spot notes size p) d.shard k) (sym (count p))
+          (first_none r g spot (piece_of p size notes) (of_piece r g spot notes level p size) d.shard at none);
+      all = λ p yes. (let no : get_or d.whole p false ≡ false = ap (λ (bs : List Bool). get_or bs p false) clear ∙ all_same n p false in absurd (cc));
+      number = omega arith;
+    }
+  where
+    all_same : {X : Type 0} (n i : ℕ) (x : X) → get_or (replicate n x) i x ≡ x
+    all_same zero i x = refl
+    all_same (suc n) zero x = refl
+    all_same (suc n) (suc i) x = all_same n i x
+
+-- where each pair of the level is delivered, the level is whole
+pub whole_all : (r : Rules) → IsGame r → (t : ShardState) (notes : List NoteData) → IsLevel r (place_of t) notes → IsGood r t
+    → ((n : NoteData) (i : ℕ) → Contains notes n → Contains (r.parents n.position t.tier) i → t.lo ≤ i → i < t.lo + length t.delivered
+    → Contains (delivered_to t i) n.position) → IsWhole r t
+whole_all r g t notes level good all i c mine parent before = elim (split_level r t.phase t.level c before) [
+  | inl earlier ↦ good.whole i c mine parent earlier
+  | inr stands ↦ (let near = near_of_pair r g t.tier i c parent in
+      let (note, among, e) = map_in (λ (x : NoteData). x.position) notes c ((level.each c).0 (near.0, near.1, stands)) in
+      let listed = (g.parents_exact note.position t.tier i (level.noted note among).note.canonical).1
+      (subst (λ (q : Position). IsParent r q t.tier i) (sym e) parent) in
+      subst (λ (q : Position). Contains (delivered_to t i) q) e (all note i among listed mine.0 mine.1))
+]
+
+-- where all pieces are delivered, the level is whole
+pub pieces_whole : (r : Rules) → IsGame r → (spot : Spot) (notes : List NoteData) (size base : ℕ) (d : PiecedData)
+    → IsPieced r spot notes size base d → IsGood r d.shard
+    → ((p : ℕ) → p < div_ceil (length notes) size → get_or d.whole p false ≡ true) → IsWhole r d.shard
+pieces_whole r g spot notes size base d h good bits =
+    let s = d.shard in
+    let at = subst (λ (x : Spot). IsPieced r x notes size base d) (sym h.spot) h in
+    whole_all r g s notes at.level good (λ n i among listed low high.
+    (let (p, few, inside) = in_some_piece size notes n h.some among in
+    let pairs = piece_pairs r (spot_of s) notes size p in
+    let (k, w, e) = pairs_have r s.tier s.lo (s.lo + length s.delivered) (piece_of p size notes) n i inside listed low high in
+    let pair : NoteData × ℕ = (n, i) in
+    let there : slice_get pairs k ≡ Some pair = slice_get-get_or pairs k pair w ∙ ap Some e in
+    let full = at.all p (bits p few) in
+    ((at.first p).each k pair there).1 (omega arith)))

@@ -1,0 +1,109 @@
+use Rattle.std.proofs.Common.{◌≡◌, ℕ, ◌+◌, ◌<◌, Some, slice_get, sym, subst, ◌∙◌, arith}
+use Rattle.gm_frontier.specs.Notes.{NoteData}
+use Rattle.gm_locks.specs.Spots.{gain}
+use Rattle.gm_locks.specs.Parts.{Part}
+use Rattle.gm_locks.specs.Rounds.{pairs_into, IsRound}
+use Rattle.gm_locks.proofs.Gains.{stays, raised_share}
+use Rattle.gm_locks.proofs.RoundLemmas.{of_level, next_here, round_step}
+use Rattle.gm_locks.proofs.pass.HeldInOrder.deliver_next.Goals as goal
+
+pub invariant_of-self : goal.invariant_of-self
+invariant_of-self g c =
+    let r = g.G.Game.rules in
+    let pairs = pairs_into r g.L.ShardLedger.spot g.L.PassLedger.notes in
+    let pair : NoteData × ℕ = (c.args.note.now, c.args.parent) in
+    let n = c.self.inside.book.total in
+    let same : c.args.pass.now ≡ n = sym c.pass.view_is ∙ c.audit.ensures.whole c.pass.invariant.0 in
+    let next = subst (λ (m : ℕ). slice_get pairs m ≡ Some pair) same c.requires in
+    let d = c.deliver_new-answer.ensures in
+    let step = round_step r g.met.G.Game.lawful g.L.ShardLedger.spot g.L.PassLedger.notes
+    (of_level r g.met.G.Game.lawful g.L.ShardLedger.spot g.L.PassLedger.notes c.self.invariant.1)
+    g.L.PassLedger.base c.self.inside.shard c.deliver_new-answer.new.self n pair c.deliver_new-answer.result c.self.invariant.0 next d c.self.invariant.2 in
+    let up : n + gain c.deliver_new-answer.result ≡ c.raise.new.book.total =
+    (let a = c.raise.ensures.book in let b = c.gained.ensures in let e = c.audit.ensures.same.1 in omega arith) in (
+      stays r c.args.note.now c.args.parent c.self.inside.shard c.deliver_new-answer.new.self c.deliver_new-answer.result d ∙ c.self.invariant.0,
+      c.self.invariant.1,
+      subst (IsRound pairs g.L.PassLedger.base c.deliver_new-answer.new.self) up step.1,
+    )
+
+pub invariant_of-pass : goal.invariant_of-pass
+invariant_of-pass g c =
+    let r = g.G.Game.rules in
+    let pairs = pairs_into r g.L.ShardLedger.spot g.L.PassLedger.notes in
+    let pair : NoteData × ℕ = (c.args.note.now, c.args.parent) in
+    let n = c.self.inside.book.total in
+    let same : c.args.pass.now ≡ n = sym c.pass.view_is ∙ c.audit.ensures.whole c.pass.invariant.0 in
+    let next = subst (λ (m : ℕ). slice_get pairs m ≡ Some pair) same c.requires in
+    let d = c.deliver_new-answer.ensures in
+    let step = round_step r g.met.G.Game.lawful g.L.ShardLedger.spot g.L.PassLedger.notes
+    (of_level r g.met.G.Game.lawful g.L.ShardLedger.spot g.L.PassLedger.notes c.self.invariant.1)
+    g.L.PassLedger.base c.self.inside.shard c.deliver_new-answer.new.self n pair c.deliver_new-answer.result c.self.invariant.0 next d c.self.invariant.2 in
+    let inv = c.pass.invariant in
+    let share = raised_share c.pass.inside.share c.audit.new.self c.raise.new.self c.gained.result c.audit.ensures.same.0 c.raise.ensures.share in
+    let amount = share.1 in
+    let count = step.1.count in
+    let few = c.delivered-few.ensures.small in
+    let gain_is = c.gained.ensures in
+    let whole = c.audit.ensures.whole inv.0 in
+    (share.0 ∙ inv.0, inv.1, inv.2, omega arith)
+
+pub returns-clause-answer : goal.returns-clause-answer
+returns-clause-answer g c =
+    let r = g.G.Game.rules in
+    let pairs = pairs_into r g.L.ShardLedger.spot g.L.PassLedger.notes in
+    let pair : NoteData × ℕ = (c.args.note.now, c.args.parent) in
+    let n = c.self.inside.book.total in
+    let same : c.args.pass.now ≡ n = sym c.pass.view_is ∙ c.audit.ensures.whole c.pass.invariant.0 in
+    let next = subst (λ (m : ℕ). slice_get pairs m ≡ Some pair) same c.requires in
+    (round_step r g.met.G.Game.lawful g.L.ShardLedger.spot g.L.PassLedger.notes (of_level r g.met.G.Game.lawful g.L.ShardLedger.spot g.L.PassLedger.notes
+    c.self.invariant.1)
+    g.L.PassLedger.base c.self.inside.shard c.deliver_new-answer.new.self n pair c.deliver_new-answer.result c.self.invariant.0 next
+    c.deliver_new-answer.ensures
+    c.self.invariant.2).0
+
+pub returns-clause-step : goal.returns-clause-step
+returns-clause-step g c =
+    let r = g.G.Game.rules in
+    let pairs = pairs_into r g.L.ShardLedger.spot g.L.PassLedger.notes in
+    let pair : NoteData × ℕ = (c.args.note.now, c.args.parent) in
+    let n = c.self.inside.book.total in
+    let same : c.args.pass.now ≡ n = sym c.pass.view_is ∙ c.audit.ensures.whole c.pass.invariant.0 in
+    let next = subst (λ (m : ℕ). slice_get pairs m ≡ Some pair) same c.requires in
+    let d = c.deliver_new-answer.ensures in
+    let step = round_step r g.met.G.Game.lawful g.L.ShardLedger.spot g.L.PassLedger.notes
+    (of_level r g.met.G.Game.lawful g.L.ShardLedger.spot g.L.PassLedger.notes c.self.invariant.1)
+    g.L.PassLedger.base c.self.inside.shard c.deliver_new-answer.new.self n pair c.deliver_new-answer.result c.self.invariant.0 next d c.self.invariant.2 in
+    let up : n + gain c.deliver_new-answer.result ≡ c.raise.new.self.amount =
+    (let amount = (raised_share c.pass.inside.share c.audit.new.self c.raise.new.self c.gained.result c.audit.ensures.same.0 c.raise.ensures.share).1 in
+    let whole = c.audit.ensures.whole c.pass.invariant.0 in let gain_is = c.gained.ensures in omega arith) in
+    record {
+      old = c.self.inside.shard;
+      new = c.deliver_new-answer.new.self;
+      old_spot = c.self.invariant.0;
+      new_spot = stays r c.args.note.now c.args.parent c.self.inside.shard c.deliver_new-answer.new.self c.deliver_new-answer.result d ∙ c.self.invariant.0;
+      old_round = subst (IsRound pairs g.L.PassLedger.base c.self.inside.shard) (sym same) c.self.invariant.2;
+      new_round = subst (IsRound pairs g.L.PassLedger.base c.deliver_new-answer.new.self) up step.1;
+      event = d;
+    }
+
+pub deliver_new-answer-requires-clause-here : goal.deliver_new-answer-requires-clause-here
+deliver_new-answer-requires-clause-here g c =
+    let r = g.G.Game.rules in
+    let pairs = pairs_into r g.L.ShardLedger.spot g.L.PassLedger.notes in
+    let pair : NoteData × ℕ = (c.args.note.now, c.args.parent) in
+    let same : c.args.pass.now ≡ c.self.inside.book.total = sym c.pass.view_is ∙ c.audit.ensures.whole c.pass.invariant.0 in
+    let next = subst (λ (m : ℕ). slice_get pairs m ≡ Some pair) same c.requires in
+    let here = of_level r g.met.G.Game.lawful g.L.ShardLedger.spot g.L.PassLedger.notes c.self.invariant.1 in
+    (next_here r g.met.G.Game.lawful g.L.ShardLedger.spot g.L.PassLedger.notes here c.self.inside.shard c.self.invariant.0 c.self.inside.book.total pair
+    next).here
+
+pub deliver_new-answer-requires-clause-new : goal.deliver_new-answer-requires-clause-new
+deliver_new-answer-requires-clause-new g c =
+    let pairs = pairs_into g.G.Game.rules g.L.ShardLedger.spot g.L.PassLedger.notes in
+    let pair : NoteData × ℕ = (c.args.note.now, c.args.parent) in
+    let same : c.args.pass.now ≡ c.self.inside.book.total = sym c.pass.view_is ∙ c.audit.ensures.whole c.pass.invariant.0 in
+    let next = subst (λ (m : ℕ). slice_get pairs m ≡ Some pair) same c.requires in
+    λ h. (let l = (c.self.invariant.2.first.each c.self.inside.book.total pair next).0 h in omega arith)
+
+pub raise-requires : goal.raise-requires
+raise-requires g c = subst (λ (p : Part). 0 < p.parts) (sym c.audit.ensures.same.0) (subst (λ (n : ℕ). 0 < n) (sym c.pass.invariant.0) c.pass.invariant.1)

@@ -1,0 +1,305 @@
+//! Four shards of a tier, each under a lock of its own, and shares of their ledgers.
+ghost use Rattle.std.specs.Prelude.{◌≡◌, ◌+◌, ◌^◌, ◌-◌, ◌<◌, ◌≤◌, min};
+ghost use Rattle.gm_deliveries.specs.State.{pairs_in};
+ghost use Rattle.gm_deliveries.specs.Delivery.{IsPlaceOf};
+ghost use Rattle.gm_locks.specs.Spots.{spot_of, choose, gain, AreFourTiles, IsWithin, IsAnswer, IsDeliveryAt};
+ghost use Rattle.gm_locks.specs.Amounts.{Amounts, one_part, amount_of, raised, joined, split_of};
+
+use crate::held::Held;
+use crate::share::{ShardLedger, Share};
+use gm_deliveries::place::place_of;
+use gm_deliveries::status::{Delivery, Refused};
+use gm_frontier::note::Note;
+use gm_game::game::Game;
+use gm_shard::shard::Shard;
+use std::marker::Model;
+use std::sync::ledger::Blank;
+use std::sync::{Mutex, Wait};
+
+/// One item for each shard, 0 to 3.
+#[derive(Drop)]
+pub struct Four<T> {
+    pub a: T,
+    pub b: T,
+    pub c: T,
+    pub d: T,
+}
+
+/// A share of each shard's ledger, all with the same number of parts.
+#[derive(Drop)]
+pub struct Shares<A: ShardLedger, B: ShardLedger, C: ShardLedger, D: ShardLedger> {
+    pub(crate) parts: u64,
+    pub(crate) a: Share<A>,
+    pub(crate) b: Share<B>,
+    pub(crate) c: Share<C>,
+    pub(crate) d: Share<D>,
+}
+
+impl<A: ShardLedger, B: ShardLedger, C: ShardLedger, D: ShardLedger> Model for Shares<A, B, C, D> {
+    ghost use Rattle.std.specs.Prelude.{◌≡◌, ◌<◌, ◌^◌};
+    ghost use Rattle.gm_locks.specs.Amounts.{Amounts};
+
+    ghost Value = { Amounts };
+
+    ghost view = { λ s. record { parts = s.parts; a = s.a.amount; b = s.b.amount; c = s.c.amount; d = s.d.amount } };
+
+    ghost invariant = { λ s. (0 < s.parts) × (s.a.parts ≡ s.parts) × (s.b.parts ≡ s.parts) × (s.c.parts ≡ s.parts) × (s.d.parts ≡ s.parts)
+        × (A.parts ≡ B.parts) × (A.parts ≡ C.parts) × (A.parts ≡ D.parts) × (A.parts < 2 ^ 64) };
+}
+
+impl<A: ShardLedger, B: ShardLedger, C: ShardLedger, D: ShardLedger> Shares<A, B, C, D> {
+    /// How many pairs were delivered to a shard by these shares, or the greatest number of 64 bits where there were more.
+    pub fn amount(&self, shard: usize) -> u64
+        requires { shard < 4 }
+        ensures { result ≡ min (amount_of self.now shard) (2 ^ 64 - 1) }
+    {
+        match shard {
+            0 => self.a.amount(),
+            1 => self.b.amount(),
+            2 => self.c.amount(),
+            _ => self.d.amount(),
+        }
+    }
+
+    /// How many parts each share has.
+    pub fn parts(&self) -> u64
+        ensures { result ≡ self.now.parts }
+    {
+        self.parts
+    }
+
+    /// Takes one part off each share, with an amount of 0.
+    pub fn split(&mut self) -> Shares<A, B, C, D>
+        requires { 1 < self.old.parts }
+        ensures taken { result ≡ one_part }
+        ensures left { self.new ≡ split_of self.old }
+    {
+        self.parts -= 1;
+        Shares {
+            parts: 1,
+            a: self.a.split(),
+            b: self.b.split(),
+            c: self.c.split(),
+            d: self.d.split(),
+        }
+    }
+
+    /// Adds the parts and amounts of other shares to these.
+    pub fn join(&mut self, other: Shares<A, B, C, D>)
+        ensures { self.new ≡ joined self.old other }
+    {
+        let Shares { parts, a, b, c, d } = other;
+        self.a.join(a);
+        self.b.join(b);
+        self.c.join(c);
+        self.d.join(d);
+        self.parts += parts;
+    }
+}
+
+/// Four shards that tile a tier, each under a lock of its own. Whenever a lock is taken, the shard behind it is good, stands at the place that its name fixes,
+/// and has as many pairs as its book says.
+#[derive(Drop)]
+pub struct Board<G: Game, A: ShardLedger, B: ShardLedger, C: ShardLedger, D: ShardLedger> {
+    a: Mutex<Held<G, A>>,
+    b: Mutex<Held<G, B>>,
+    c: Mutex<Held<G, C>>,
+    d: Mutex<Held<G, D>>,
+    tier: u64,
+    ranges: Four<(u64, u64)>,
+    ghost tier_is: { tier ≡ A.spot.tier },
+    ghost a_is: { (ranges.a.0 ≡ A.spot.lo) × (ranges.a.1 ≡ A.spot.hi) },
+    ghost b_is: { (ranges.b.0 ≡ B.spot.lo) × (ranges.b.1 ≡ B.spot.hi) },
+    ghost c_is: { (ranges.c.0 ≡ C.spot.lo) × (ranges.c.1 ≡ C.spot.hi) },
+    ghost d_is: { (ranges.d.0 ≡ D.spot.lo) × (ranges.d.1 ≡ D.spot.hi) },
+    ghost tiled: { AreFourTiles G.rules A.spot B.spot C.spot D.spot },
+}
+
+impl<G: Game, A: ShardLedger, B: ShardLedger, C: ShardLedger, D: ShardLedger> Board<G, A, B, C, D> {
+    /// Puts each shard under its lock. The shards tile one tier at one place, the blanks have the names of the ledgers and `parts` parts each, and each name
+    /// fixes the place at which its shard stands.
+    /// The shares of the result have all parts.
+    pub fn around(
+        parts: u64,
+        blanks: Four<Blank>,
+        shards: Four<Shard<G>>,
+    ) -> (Board<G, A, B, C, D>, Shares<A, B, C, D>)
+        requires names { (blanks.a.name ≡ A.name) × (blanks.b.name ≡ B.name) × (blanks.c.name ≡ C.name) × (blanks.d.name ≡ D.name) }
+        requires parts { (blanks.a.parts ≡ A.parts) × (blanks.b.parts ≡ B.parts) × (blanks.c.parts ≡ C.parts) × (blanks.d.parts ≡ D.parts) }
+        requires equal { (A.parts ≡ parts) × (B.parts ≡ parts) × (C.parts ≡ parts) × (D.parts ≡ parts) }
+        requires some { 0 < parts }
+        requires spots { (spot_of shards.a ≡ A.spot) × (spot_of shards.b ≡ B.spot) × (spot_of shards.c ≡ C.spot) × (spot_of shards.d ≡ D.spot) }
+        requires tiles { AreFourTiles G.rules A.spot B.spot C.spot D.spot }
+        ensures { result.1 ≡ record { parts = parts; a = pairs_in shards.a; b = pairs_in shards.b; c = pairs_in shards.c; d = pairs_in shards.d } }
+    {
+        let ranges = Four {
+            a: shards.a.range(),
+            b: shards.b.range(),
+            c: shards.c.range(),
+            d: shards.d.range(),
+        };
+        let tier = shards.a.tier();
+        let (a, one) = hold(blanks.a, shards.a);
+        let (b, two) = hold(blanks.b, shards.b);
+        let (c, three) = hold(blanks.c, shards.c);
+        let (d, four) = hold(blanks.d, shards.d);
+        let board = Board {
+            a: Mutex::new(a),
+            b: Mutex::new(b),
+            c: Mutex::new(c),
+            d: Mutex::new(d),
+            tier,
+            ranges,
+        };
+        let shares = Shares {
+            parts,
+            a: one,
+            b: two,
+            c: three,
+            d: four,
+        };
+        (board, shares)
+    }
+
+    /// The lock of shard 0.
+    pub fn a(&self) -> &Mutex<Held<G, A>> {
+        &self.a
+    }
+
+    /// The lock of shard 1.
+    pub fn b(&self) -> &Mutex<Held<G, B>> {
+        &self.b
+    }
+
+    /// The lock of shard 2.
+    pub fn c(&self) -> &Mutex<Held<G, C>> {
+        &self.c
+    }
+
+    /// The lock of shard 3.
+    pub fn d(&self) -> &Mutex<Held<G, D>> {
+        &self.d
+    }
+
+    /// The index range of a shard: the first index, and the one past the last.
+    pub fn range(&self, shard: usize) -> (u64, u64)
+        requires { shard < 4 }
+        ensures lo { result.0 ≡ (choose shard A.spot B.spot C.spot D.spot).lo }
+        ensures hi { result.1 ≡ (choose shard A.spot B.spot C.spot D.spot).hi }
+    {
+        match shard {
+            0 => self.ranges.a,
+            1 => self.ranges.b,
+            2 => self.ranges.c,
+            _ => self.ranges.d,
+        }
+    }
+
+    /// The shard whose range has this index of the tier.
+    pub fn shard_of(&self, parent: u64) -> usize
+        requires { parent < G.rules.tier_size A.spot.tier }
+        ensures shard { result < 4 }
+        ensures range { IsWithin (choose result A.spot B.spot C.spot D.spot) parent }
+    {
+        if parent < self.ranges.a.1 {
+            0
+        } else if parent < self.ranges.b.1 {
+            1
+        } else if parent < self.ranges.c.1 {
+            2
+        } else {
+            3
+        }
+    }
+
+    /// Delivers a note to a parent under the lock of the parent's shard alone. The caller's amount for this shard rises by one exactly where the pair is new,
+    /// and the other amounts stay.
+    pub fn deliver<R: Wait>(
+        &self,
+        rt: &R,
+        shard: usize,
+        note: &Note<G>,
+        parent: u64,
+        shares: &mut Shares<A, B, C, D>,
+    ) -> Result<Delivery, Refused>
+        requires { shard < 4 }
+        ensures shares { shares.new ≡ raised shares.old shard (gain result) }
+        ensures refusals { IsAnswer G.rules (choose shard A.spot B.spot C.spot D.spot) note.now parent result }
+        ensures event { IsDeliveryAt G.rules (choose shard A.spot B.spot C.spot D.spot) note.now parent result }
+    {
+        let place = place_of(note, self.tier, parent);
+        self.deliver_at(rt, shard, note, parent, place, shares)
+    }
+
+    /// As `deliver`, where the place of the note's position among the children of the parent is known.
+    pub fn deliver_at<R: Wait>(
+        &self,
+        rt: &R,
+        shard: usize,
+        note: &Note<G>,
+        parent: u64,
+        place: Option<u32>,
+        shares: &mut Shares<A, B, C, D>,
+    ) -> Result<Delivery, Refused>
+        requires shard { shard < 4 }
+        requires place { IsPlaceOf G.rules note.now.position A.spot.tier parent place }
+        ensures shares { shares.new ≡ raised shares.old shard (gain result) }
+        ensures refusals { IsAnswer G.rules (choose shard A.spot B.spot C.spot D.spot) note.now parent result }
+        ensures event { IsDeliveryAt G.rules (choose shard A.spot B.spot C.spot D.spot) note.now parent result }
+    {
+        match shard {
+            0 => deliver_under(rt, &self.a, note, parent, place, &mut shares.a),
+            1 => deliver_under(rt, &self.b, note, parent, place, &mut shares.b),
+            2 => deliver_under(rt, &self.c, note, parent, place, &mut shares.c),
+            _ => deliver_under(rt, &self.d, note, parent, place, &mut shares.d),
+        }
+    }
+
+    /// Takes the shards out of their locks, in exchange for shares of all parts. They tile the same tier at the same place, and each has as many pairs
+    /// delivered to it as its whole share says.
+    pub fn into_shards(self, shares: Shares<A, B, C, D>) -> Four<Shard<G>>
+        requires { shares.parts ≡ A.parts }
+        ensures spots { (spot_of result.a ≡ A.spot) × (spot_of result.b ≡ B.spot) × (spot_of result.c ≡ C.spot) × (spot_of result.d ≡ D.spot) }
+        ensures amounts { (pairs_in result.a ≡ shares.a) × (pairs_in result.b ≡ shares.b) × (pairs_in result.c ≡ shares.c) × (pairs_in result.d ≡ shares.d) }
+    {
+        Four {
+            a: self.a.into_inner().into_shard(shares.a),
+            b: self.b.into_inner().into_shard(shares.b),
+            c: self.c.into_inner().into_shard(shares.c),
+            d: self.d.into_inner().into_shard(shares.d),
+        }
+    }
+}
+
+// A shard with its book, and the share that has all parts.
+fn hold<G: Game, L: ShardLedger>(blank: Blank, shard: Shard<G>) -> (Held<G, L>, Share<L>)
+    requires name { blank.name ≡ L.name }
+    requires parts { blank.parts ≡ L.parts }
+    requires some { 0 < L.parts }
+    requires spot { spot_of shard ≡ L.spot }
+    ensures { result.1 ≡ record { parts = L.parts; amount = pairs_in shard } }
+{
+    let delivered = shard.delivered();
+    let (mut book, mark) = blank.open::<L>();
+    let mut share = Share::whole(mark);
+    share.raise(&mut book, delivered);
+    (Held::new(shard, book), share)
+}
+
+// Delivers a note under one lock.
+fn deliver_under<G: Game, L: ShardLedger, R: Wait>(
+    rt: &R,
+    lock: &Mutex<Held<G, L>>,
+    note: &Note<G>,
+    parent: u64,
+    place: Option<u32>,
+    share: &mut Share<L>,
+) -> Result<Delivery, Refused>
+    requires place { IsPlaceOf G.rules note.now.position L.spot.tier parent place }
+    requires parts { 0 < share.old.parts }
+    ensures share { share.new ≡ record { parts = share.old.parts; amount = share.old.amount + gain result } }
+    ensures refusals { IsAnswer G.rules L.spot note.now parent result }
+    ensures event { IsDeliveryAt G.rules L.spot note.now parent result }
+{
+    lock.lock(rt).deliver_at(note, parent, place, share)
+}

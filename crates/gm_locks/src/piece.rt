@@ -1,0 +1,185 @@
+//! Deliveries of a level's pieces to one shard, each piece once: under the shard's lock a bit for each piece says whether its pairs are delivered.
+ghost use Rattle.std.specs.Prelude.{◌≡◌, ℕ, ◌+◌, ◌-◌, ◌<◌, ◌≤◌, true, false, take, drop, length, slice_index, slice_index_or, IfOk, OnErr};
+ghost use Rattle.std.specs.Int.{div_ceil};
+ghost use Rattle.gm_frontier.specs.Levels.{IsLevel};
+ghost use Rattle.gm_deliveries.specs.State.{pairs_in};
+ghost use Rattle.gm_deliveries.specs.Steps.{IsWhole};
+ghost use Rattle.gm_locks.specs.Spots.{spot_of};
+ghost use Rattle.gm_locks.specs.Rounds.{place_of_spot, AreFirst};
+ghost use Rattle.gm_locks.specs.Pieces.{piece_pairs, AreNew, IsRefusedAt, IsTurnAt, IsReadyFor};
+
+use crate::pass::PassLedger;
+use crate::share::Share;
+use gm_deliveries::status::Refused;
+use gm_frontier::level::Level;
+use gm_frontier::note::Note;
+use gm_game::game::Game;
+use gm_shard::ordered::OrderedShard;
+use std::alloc::{AllocError, Global};
+use std::marker::{Brand, Model};
+use std::sync::ledger::{Blank, Book};
+
+/// The name of a shard's ledger for one level that is delivered in pieces. It also fixes how many notes a piece has.
+pub trait PieceLedger: PassLedger {
+    /// How many notes a piece has.
+    ghost size: { ℕ };
+}
+
+impl PieceLedger for Brand {
+    ghost size = { 1 };
+}
+
+// Delivers the pairs of a piece from one number up to another, until one is too far: the number of the first that is not delivered.
+fn deliver_from<G: Game, L: PieceLedger>(
+    shard: &mut OrderedShard<G>,
+    piece: usize,
+    pairs: &[(Note<G>, u64)],
+    from: usize,
+    to: usize,
+) -> usize
+    requires pairs { pairs.now ≡ piece_pairs G.rules L.spot L.notes L.size piece }
+    requires level { IsLevel G.rules (place_of_spot L.spot) L.notes }
+    requires spot { spot_of shard.old ≡ L.spot }
+    requires first { AreFirst pairs.now shard.old from }
+    requires order { from ≤ to }
+    requires within { to ≤ length pairs.now }
+    ensures order { from ≤ result }
+    ensures most { result ≤ to }
+    ensures first { AreFirst pairs.now shard.new result }
+    ensures run { AreNew G.rules (take (result - from) (drop from pairs.now)) shard.old shard.new }
+    ensures far { result < to → IsRefusedAt G.rules L.spot }
+{
+    for k in from..to {
+        let (note, parent) = &pairs[k];
+        if shard.deliver_new(note, *parent).is_err() {
+            let _good = shard.range();
+            return k;
+        }
+    }
+    to
+}
+
+/// What one lock keeps: a shard, and of each piece how many of its pairs are delivered, with a bit that says whether these are all.
+#[derive(Drop)]
+pub(crate) struct Pieced<G: Game, L: PieceLedger> {
+    shard: OrderedShard<G>,
+    counts: Vec<usize>,
+    whole: Vec<bool>,
+    book: Book<L>,
+}
+
+impl<G: Game, L: PieceLedger> Model for Pieced<G, L> {
+    ghost use Rattle.gm_locks.specs.Pieces.{PiecedData, IsPieced};
+
+    ghost Value = { PiecedData };
+
+    ghost view = { λ h. record { shard = h.shard; counts = h.counts.items; whole = h.whole.items; book = h.book.total } };
+
+    ghost invariant = { λ h. IsPieced G.rules L.spot L.notes L.size L.base
+        (record { shard = h.shard; counts = h.counts.items; whole = h.whole.items; book = h.book.total }) };
+}
+
+impl<G: Game, L: PieceLedger> Pieced<G, L> {
+    /// A shard at the level's place to which none of its pairs is delivered, and the share that has all parts of its ledger.
+    pub(crate) fn around(
+        alloc: Global,
+        blank: Blank,
+        shard: OrderedShard<G>,
+        level: &Level<G>,
+        size: usize,
+    ) -> Result<(Pieced<G, L>, Share<L>), AllocError>
+        requires name { blank.name ≡ L.name }
+        requires parts { (blank.parts ≡ L.parts) × (0 < L.parts) }
+        requires ready { IsReadyFor G.rules shard level.now L.spot L.notes L.base }
+        requires size { (L.size ≡ size) × (0 < size) }
+        ensures share { IfOk result (λ begun. begun.1 ≡ record { parts = L.parts; amount = 0 }) }
+    {
+        let _place = level.place();
+        let pieces = level.pieces(size);
+        let counts = vec![in alloc; 0usize; pieces]?;
+        let whole = vec![in alloc; false; pieces]?;
+        let (book, mark) = blank.open::<L>();
+        let share = Share::whole(mark);
+        let pieced = Pieced {
+            shard,
+            counts,
+            whole,
+            book,
+        };
+        Ok((pieced, share))
+    }
+
+    /// The index range of the shard: the first index, and the one past the last.
+    pub(crate) fn range(&self) -> (u64, u64)
+        ensures lo { result.0 ≡ L.spot.lo }
+        ensures hi { result.1 ≡ L.spot.hi }
+    {
+        self.shard.range()
+    }
+
+    /// Whether all pairs of a piece are delivered.
+    pub(crate) fn is_whole(&self, piece: usize) -> bool
+        requires { piece < div_ceil (length L.notes) L.size }
+        ensures { result ≡ slice_index_or self.now.whole piece false }
+    {
+        self.whole[piece]
+    }
+
+    /// Delivers the pairs of a piece up to a number, but for those that are delivered already, and sets the piece's bit where these are all. Where a pair is
+    /// too far it and those after it are not delivered. The share rises by what is new.
+    pub(crate) fn deliver(
+        &mut self,
+        piece: usize,
+        pairs: &[(Note<G>, u64)],
+        to: usize,
+        share: &mut Share<L>,
+    ) -> Result<(), Refused>
+        requires piece { piece < div_ceil (length L.notes) L.size }
+        requires pairs { pairs.now ≡ piece_pairs G.rules L.spot L.notes L.size piece }
+        requires to { to ≤ length pairs.now }
+        requires parts { 0 < share.old.parts }
+        ensures turn { (n : ℕ) × IsTurnAt G.rules L.spot L.notes L.size L.base piece to n result self.old self.new
+            × (share.new ≡ record { parts = share.old.parts; amount = share.old.amount + n }) }
+        ensures far { OnErr result (IsRefusedAt G.rules L.spot) }
+    {
+        let Pieced {
+            shard,
+            counts,
+            whole,
+            book,
+        } = self;
+        let _before = shard.range();
+        let from = counts[piece];
+        let end = to.max(from);
+        let next = deliver_from::<G, L>(shard, piece, pairs, from, end);
+        counts[piece] = next;
+        whole[piece] = next == pairs.len();
+        share.raise(book, (next - from) as u64);
+        let _after = shard.range();
+        if next < end {
+            return Err(Refused::TooFar);
+        }
+        Ok(())
+    }
+
+    /// The shard, where all pieces are delivered: every pair of the level into its range is delivered, beside those of earlier levels as many as the whole
+    /// share says.
+    pub(crate) fn into_whole(self, share: Share<L>) -> OrderedShard<G>
+        requires whole { (p : ℕ) → p < div_ceil (length L.notes) L.size → slice_index_or self.whole p false ≡ true }
+        requires parts { share.parts ≡ L.parts }
+        ensures spot { spot_of result ≡ L.spot }
+        ensures whole { IsWhole G.rules result }
+        ensures number { pairs_in result ≡ L.base + share.amount }
+        ensures book { share.amount ≡ self.book }
+    {
+        let Pieced {
+            shard,
+            mut book,
+            ..
+        } = self;
+        let mut share = share;
+        share.audit(&mut book);
+        let _good = shard.range();
+        shard
+    }
+}

@@ -1,0 +1,219 @@
+//! Four shards of a tier, each under a lock of its own, to which a level is delivered piece by piece.
+ghost use Rattle.std.specs.Prelude.{◌≡◌, ℕ, ◌+◌, ◌<◌, ◌≤◌, true, false, length, slice_index_or, IfOk, OnOk, OnErr};
+ghost use Rattle.std.specs.Int.{div_ceil};
+ghost use Rattle.gm_deliveries.specs.State.{pairs_in};
+ghost use Rattle.gm_deliveries.specs.Steps.{IsWhole};
+ghost use Rattle.gm_locks.specs.Spots.{spot_of, choose};
+ghost use Rattle.gm_locks.specs.Amounts.{raised};
+ghost use Rattle.gm_locks.specs.Pieces.{PiecedData, piece_pairs, IsRefusedAt, IsTurnAt, IsReadyFor};
+
+use crate::board::{Four, Shares};
+use crate::piece::{PieceLedger, Pieced};
+use crate::share::Share;
+use gm_deliveries::status::Refused;
+use gm_frontier::level::Level;
+use gm_frontier::note::Note;
+use gm_game::game::Game;
+use gm_shard::ordered::OrderedShard;
+use std::alloc::{AllocError, Global};
+use std::marker::Model;
+use std::sync::ledger::Blank;
+use std::sync::{Mutex, Wait};
+
+/// Four shards to which a level is delivered piece by piece, each under a lock of its own. Whenever a lock is taken, the shard behind it is good, and has of
+/// each piece the first so many pairs.
+#[derive(Drop)]
+pub struct PieceBoard<G: Game, A: PieceLedger, B: PieceLedger, C: PieceLedger, D: PieceLedger> {
+    a: Mutex<Pieced<G, A>>,
+    b: Mutex<Pieced<G, B>>,
+    c: Mutex<Pieced<G, C>>,
+    d: Mutex<Pieced<G, D>>,
+    ghost notes_are: { (B.notes ≡ A.notes) × (C.notes ≡ A.notes) × (D.notes ≡ A.notes) },
+    ghost sizes_are: { (B.size ≡ A.size) × (C.size ≡ A.size) × (D.size ≡ A.size) },
+}
+
+// Delivers pairs of a piece under one lock.
+fn deliver_under<G: Game, L: PieceLedger, R: Wait>(
+    rt: &R,
+    lock: &Mutex<Pieced<G, L>>,
+    piece: usize,
+    pairs: &[(Note<G>, u64)],
+    to: usize,
+    share: &mut Share<L>,
+) -> Result<(), Refused>
+    requires piece { piece < div_ceil (length L.notes) L.size }
+    requires pairs { pairs.now ≡ piece_pairs G.rules L.spot L.notes L.size piece }
+    requires to { to ≤ length pairs.now }
+    requires parts { 0 < share.old.parts }
+    ensures turn { (n : ℕ) × (d : PiecedData) × (e : PiecedData) × IsTurnAt G.rules L.spot L.notes L.size L.base piece to n result d e
+        × (share.new ≡ record { parts = share.old.parts; amount = share.old.amount + n }) }
+    ensures far { OnErr result (IsRefusedAt G.rules L.spot) }
+{
+    lock.lock(rt).deliver(piece, pairs, to, share)
+}
+
+impl<G: Game, A: PieceLedger, B: PieceLedger, C: PieceLedger, D: PieceLedger> PieceBoard<
+    G,
+    A,
+    B,
+    C,
+    D,
+> {
+    /// Puts each shard under its lock. The blanks have the names of the ledgers and `parts` parts each, and each name fixes how its shard stands before the
+    /// level. The shares of the result have all parts.
+    pub fn around(
+        alloc: Global,
+        parts: u64,
+        blanks: Four<Blank>,
+        shards: Four<OrderedShard<G>>,
+        level: &Level<G>,
+        size: usize,
+    ) -> Result<(PieceBoard<G, A, B, C, D>, Shares<A, B, C, D>), AllocError>
+        requires names { (blanks.a.name ≡ A.name) × (blanks.b.name ≡ B.name) × (blanks.c.name ≡ C.name) × (blanks.d.name ≡ D.name) }
+        requires parts { (blanks.a.parts ≡ A.parts) × (blanks.b.parts ≡ B.parts) × (blanks.c.parts ≡ C.parts) × (blanks.d.parts ≡ D.parts) }
+        requires equal { (A.parts ≡ parts) × (B.parts ≡ parts) × (C.parts ≡ parts) × (D.parts ≡ parts) }
+        requires some { (0 < parts) × (0 < size) }
+        requires sizes { (A.size ≡ size) × (B.size ≡ size) × (C.size ≡ size) × (D.size ≡ size) }
+        requires a { IsReadyFor G.rules shards.a level.now A.spot A.notes A.base }
+        requires b { IsReadyFor G.rules shards.b level.now B.spot B.notes B.base }
+        requires c { IsReadyFor G.rules shards.c level.now C.spot C.notes C.base }
+        requires d { IsReadyFor G.rules shards.d level.now D.spot D.notes D.base }
+        ensures { IfOk result (λ begun. begun.1 ≡ record { parts = parts; a = 0; b = 0; c = 0; d = 0 }) }
+    {
+        let (a, one) = Pieced::around(alloc, blanks.a, shards.a, level, size)?;
+        let (b, two) = Pieced::around(alloc, blanks.b, shards.b, level, size)?;
+        let (c, three) = Pieced::around(alloc, blanks.c, shards.c, level, size)?;
+        let (d, four) = Pieced::around(alloc, blanks.d, shards.d, level, size)?;
+        let board = PieceBoard {
+            a: Mutex::new(a),
+            b: Mutex::new(b),
+            c: Mutex::new(c),
+            d: Mutex::new(d),
+        };
+        let shares = Shares {
+            parts,
+            a: one,
+            b: two,
+            c: three,
+            d: four,
+        };
+        Ok((board, shares))
+    }
+
+    /// Delivers the pairs of a piece up to a number to one shard, under its lock alone, as `Pieced::deliver` does. The caller's amount for this shard rises by
+    /// what is new, and the other amounts stay.
+    pub fn deliver<R: Wait>(
+        &self,
+        rt: &R,
+        shard: usize,
+        piece: usize,
+        pairs: &[(Note<G>, u64)],
+        to: usize,
+        shares: &mut Shares<A, B, C, D>,
+    ) -> Result<(), Refused>
+        requires shard { shard < 4 }
+        requires piece { piece < div_ceil (length A.notes) A.size }
+        requires pairs { pairs.now ≡ piece_pairs G.rules (choose shard A.spot B.spot C.spot D.spot) A.notes A.size piece }
+        requires to { to ≤ length pairs.now }
+        ensures turn { (n : ℕ) × (d : PiecedData) × (e : PiecedData)
+            × IsTurnAt G.rules (choose shard A.spot B.spot C.spot D.spot) A.notes A.size (choose shard A.base B.base C.base D.base) piece to n result d e
+            × (shares.new ≡ raised shares.old shard n) }
+        ensures far { OnErr result (IsRefusedAt G.rules (choose shard A.spot B.spot C.spot D.spot)) }
+    {
+        match shard {
+            0 => deliver_under(rt, &self.a, piece, pairs, to, &mut shares.a),
+            1 => deliver_under(rt, &self.b, piece, pairs, to, &mut shares.b),
+            2 => deliver_under(rt, &self.c, piece, pairs, to, &mut shares.c),
+            _ => deliver_under(rt, &self.d, piece, pairs, to, &mut shares.d),
+        }
+    }
+
+    /// Takes the shards out of their locks, in exchange for shares of all parts.
+    pub fn into_pieces(
+        self,
+        shares: Shares<A, B, C, D>,
+    ) -> (Taken<G, A>, Taken<G, B>, Taken<G, C>, Taken<G, D>)
+        requires { shares.parts ≡ A.parts }
+    {
+        let PieceBoard { a, b, c, d } = self;
+        let Shares {
+            parts: _,
+            a: one,
+            b: two,
+            c: three,
+            d: four,
+        } = shares;
+        (
+            Taken::new(a.into_inner(), one),
+            Taken::new(b.into_inner(), two),
+            Taken::new(c.into_inner(), three),
+            Taken::new(d.into_inner(), four),
+        )
+    }
+}
+
+/// A shard that was taken out of its lock, with its whole share.
+#[derive(Drop)]
+pub struct Taken<G: Game, L: PieceLedger> {
+    pieced: Pieced<G, L>,
+    share: Share<L>,
+}
+
+impl<G: Game, L: PieceLedger> Model for Taken<G, L> {
+    ghost use Rattle.std.specs.Prelude.{◌≡◌, ◌<◌};
+    ghost use Rattle.gm_locks.specs.Pieces.{PiecedData};
+
+    ghost Value = { PiecedData };
+
+    ghost view = { λ t. t.pieced };
+
+    ghost invariant = { λ t. (t.share.parts ≡ L.parts) × (0 < L.parts) };
+}
+
+impl<G: Game, L: PieceLedger> Taken<G, L> {
+    fn new(pieced: Pieced<G, L>, share: Share<L>) -> Taken<G, L>
+        requires { (share.parts ≡ L.parts) × (0 < L.parts) }
+        ensures { result ≡ pieced }
+    {
+        Taken { pieced, share }
+    }
+
+    /// The index range of the shard: the first index, and the one past the last.
+    pub fn range(&self) -> (u64, u64)
+        ensures lo { result.0 ≡ L.spot.lo }
+        ensures hi { result.1 ≡ L.spot.hi }
+    {
+        self.pieced.range()
+    }
+
+    /// Whether all pairs of a piece are delivered.
+    pub fn is_whole(&self, piece: usize) -> bool
+        requires { piece < div_ceil (length L.notes) L.size }
+        ensures { result ≡ slice_index_or self.now.whole piece false }
+    {
+        self.pieced.is_whole(piece)
+    }
+
+    /// Delivers what is missing of a piece. A pair is refused only where it is too far.
+    pub fn deliver(&mut self, piece: usize, pairs: &[(Note<G>, u64)]) -> Result<(), Refused>
+        requires piece { piece < div_ceil (length L.notes) L.size }
+        requires pairs { pairs.now ≡ piece_pairs G.rules L.spot L.notes L.size piece }
+        ensures here { OnOk result (slice_index_or self.new.whole piece false ≡ true) }
+        ensures others { OnOk result ((p : ℕ) → slice_index_or self.old.whole p false ≡ true → slice_index_or self.new.whole p false ≡ true) }
+        ensures far { OnErr result (IsRefusedAt G.rules L.spot) }
+    {
+        let Taken { pieced, share } = self;
+        pieced.deliver(piece, pairs, pairs.len(), share)
+    }
+
+    /// The shard, where all pieces are delivered: every pair of the level into its range is.
+    pub fn into_whole(self) -> OrderedShard<G>
+        requires { (p : ℕ) → p < div_ceil (length L.notes) L.size → slice_index_or self.whole p false ≡ true }
+        ensures spot { spot_of result ≡ L.spot }
+        ensures whole { IsWhole G.rules result }
+        ensures number { pairs_in result ≡ L.base + self.book }
+    {
+        let Taken { pieced, share } = self;
+        pieced.into_whole(share)
+    }
+}
