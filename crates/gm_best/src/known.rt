@@ -69,6 +69,7 @@ impl<'t, G: Game> Known<'t, G> {
             position,
         }
     }
+
     /// Has no effect; its contract states that each held table is the true one of its tier.
     pub fn truth(&self)
         ensures { AreTables G.rules self.now.tables.now }

@@ -1,16 +1,21 @@
 -- An arrangement's index by the ranks of two masks, and its masks by two ranks.
 use Rattle.std.proofs.Common.{◌≡◌, ℕ, ◌+◌, ◌-◌, ◌*◌, ◌/◌, ◌%◌, ◌<◌, ◌≤◌, Bool, List, length, sym, ap, ap₂, ◌∙◌, subst, arith, mod-lt, div-lt_iff_lt-mul}
 use Rattle.gm_board.specs.Binomials.{binomial}
-use Rattle.gm_board.specs.Ranks.{members, rank, unrank, unrank_members}
-use Rattle.gm_board.specs.Masks.{tests_of, tests_mask, tests_unrank, mask_of, mask_below, mask_rank, mask_rank_at, mask_unrank}
-use Rattle.gm_board.specs.Arrangements.{their_bits, merge, arrangement_index, arrangement, arrangements, mine_bits_merge, their_bits_free, pos_of_lt_mul}
-use Rattle.gm_board.specs.Pieces.{HasPieces, cells_of, cells_length, mine_bits_cells, mine_count, their_count, their_tests, mine_mask, their_mask, spread_mask}
+use Rattle.gm_board.specs.Ranks.{members, rank, unrank}
+use Rattle.gm_board.specs.laws.Ranks.{unrank_members}
+use Rattle.gm_board.specs.Masks.{tests_of, mask_of, mask_rank, mask_unrank}
+use Rattle.gm_board.specs.laws.Masks.{tests_mask, tests_unrank, mask_below, mask_rank_at}
+use Rattle.gm_board.specs.Arrangements.{their_bits, merge, arrangement_index, arrangement, arrangements}
+use Rattle.gm_board.specs.laws.Arrangements.{mine_bits_merge, their_bits_free, pos_of_lt_mul}
+use Rattle.gm_board.specs.Pieces.{HasPieces, cells_of, their_tests, mine_mask, their_mask, spread_mask}
+use Rattle.gm_board.specs.laws.Pieces.{cells_length, mine_bits_cells, mine_count, their_count}
 
 rank_of_tests : (bs : List Bool) → length bs ≤ 32 → mask_rank (mask_of bs) ≡ rank bs
 rank_of_tests bs l = mask_rank_at (length bs) (mask_of bs) l (mask_below bs) ∙ ap rank (tests_mask bs)
 
 -- the index is made of the rank of the one mask, the ways for the other, and its rank when packed
-pub index_is : (n m t mine theirs a w p : ℕ) → n ≤ 32 → HasPieces n m t mine theirs → a ≡ mask_rank mine → w ≡ binomial (n - m) t → p ≡ mask_rank (mask_of (their_bits (cells_of n mine theirs)))
+pub index_is : (n m t mine theirs a w p : ℕ) → n ≤ 32 → HasPieces n m t mine theirs → a ≡ mask_rank mine → w ≡ binomial (n - m) t → p ≡ mask_rank
+    (mask_of (their_bits (cells_of n mine theirs)))
     → a * w + p ≡ arrangement_index (cells_of n mine theirs)
 unfolding arrangement_index
 index_is n m t mine theirs a w p l h ea ew ep =
@@ -45,7 +50,8 @@ mine_mask_is n m t i w mine e f =
     ∙ ap mask_of (sym (mine_bits_merge (unrank n m (i / binomial (n - m) t)) (unrank (n - m) t (i % binomial (n - m) t))))
 
 -- the opponent's mask is that of the second rank, spread
-pub their_mask_is : (n m t i w mine packed theirs : ℕ) → w ≡ binomial (n - m) t → i / w < binomial n m → mine ≡ mask_unrank n m (i / w) → packed ≡ mask_unrank (n - m) t (i % w)
+pub their_mask_is : (n m t i w mine packed theirs : ℕ) → w ≡ binomial (n - m) t → i / w < binomial n m → mine ≡ mask_unrank n m (i / w) → packed ≡
+    mask_unrank (n - m) t (i % w)
     → theirs ≡ spread_mask n mine packed → theirs ≡ their_mask n m t i
 unfolding their_mask arrangement spread_mask
 their_mask_is n m t i w mine packed theirs e l f g h =

@@ -65,7 +65,8 @@ cleared_low r c i e f l = bit_at_and r (r - 1) i ∙ elim (cases_lt i c) [
       let s = split r c e f in
       let p : 0 < 2 ^ c = pow_pos c in
       let b : bit_at (r - 1) i ≡ 0 =
-      ap (λ (v : ℕ). bit_at v i) s.less ∙ bit_at_cat_low (r / 2 ^ (c + 1)) (c + 1) (2 ^ c - 1) i l ∙ bit_at_above (2 ^ c - 1) c i (let q : 2 ^ c - 1 < 2 ^ c = omega (arith, p) in q) h in
+      ap (λ (v : ℕ). bit_at v i) s.less ∙ bit_at_cat_low (r / 2 ^ (c + 1)) (c + 1) (2 ^ c - 1) i l ∙ bit_at_above (2 ^ c - 1) c i
+      (let q : 2 ^ c - 1 < 2 ^ c = omega (arith, p) in q) h in
       min_right (bit_at r i) (bit_at (r - 1) i) b
 ]
 

@@ -1,14 +1,18 @@
 -- The subset with the next rank: its lowest run of members goes up by a cell at its end, and its other members to the bottom.
-use Rattle.std.proofs.Common.{◌≡◌, ℕ, zero, suc, ◌+◌, ◌-◌, ◌*◌, ◌/◌, ◌%◌, ◌^◌, ◌<◌, ◌≤◌, Bool, true, false, eqb, List, [], ◌∷◌, ◌++◌, length, refl, sym, ap, ap₂, ◌∙◌, subst, arith, pow-suc, w32, inl, inr}
+use Rattle.std.proofs.Common.{◌≡◌, ℕ, zero, suc, ◌+◌, ◌-◌, ◌*◌, ◌/◌, ◌%◌, ◌^◌, ◌<◌, ◌≤◌, Bool, true, false, eqb, List, [], ◌∷◌, ◌++◌, length, refl, sym, ap}
+use Rattle.std.proofs.Common.{ap₂, ◌∙◌, subst, arith, pow-suc, w32, inl, inr}
 use Rattle.std.specs.Prelude.{count_ones}
 use Rattle.std.specs.Int.{bit_at, trailing_zeros, trailing_ones}
 use Rattle.std.proofs.lemmas.Bool.{cases_lt}
 use Rattle.std.proofs.lemmas.Nat.{shr-shr, shr_le, one_shl, pow_pos}
 use Rattle.std.proofs.lemmas.Nat.Bits.{bit_at-trailing_zeros, bit_at-trailing_ones, bit_at_above}
 use Rattle.std.proofs.Math.Pow.{pow_mono}
-use Rattle.gm_board.specs.Binomials.{binomial, binomial_zero, binomial_past, pascal}
+use Rattle.gm_board.specs.Binomials.{binomial}
+use Rattle.gm_board.specs.laws.Binomials.{binomial_zero, binomial_past, pascal}
 use Rattle.gm_board.specs.Ranks.{members, rank}
-use Rattle.gm_board.specs.Masks.{has_cell, tests_of, mask_of, mask_rank, mask_unrank, tests_none, tests_more, tests_length, mask_below, mask_tests_small, tests_mask, members_small, mask_unrank_below, mask_unrank_ones, mask_rank_unrank, mask_unrank_rank}
+use Rattle.gm_board.specs.Masks.{has_cell, tests_of, mask_of, mask_rank, mask_unrank}
+use Rattle.gm_board.specs.laws.Masks.{tests_none, tests_more, tests_length, mask_below, mask_tests_small}
+use Rattle.gm_board.specs.laws.Masks.{tests_mask, members_small, mask_unrank_below, mask_unrank_ones, mask_rank_unrank, mask_unrank_rank}
 
 -- n members, and n cells that are none, above others
 abbrev ones : ℕ → List Bool → List Bool
@@ -61,9 +65,11 @@ climbs a (suc b) =
     let h = climbs a b in
     let l : length (ones b (zeros a [])) ≡ a + b = (let x = length_ones b (zeros a []) in let y = length_zeros a [] in omega (arith, x, y)) in
     let m : members (ones b (zeros a [])) ≡ b = (let x = members_ones b (zeros a []) in let y = members_zeros a [] in omega (arith, x, y)) in
-    let here : binomial (length (ones b (zeros a []))) (suc (members (ones b (zeros a [])))) ≡ binomial (a + b) (suc b) = ap₂ (λ (n k : ℕ). binomial n (suc k)) l m in
+    let here : binomial (length (ones b (zeros a []))) (suc (members (ones b (zeros a [])))) ≡ binomial (a + b) (suc b) = ap₂
+    (λ (n k : ℕ). binomial n (suc k)) l m in
     let p = pascal (a + b) b in
-    let top : binomial (a + suc b) (suc b) ≡ binomial (suc (a + b)) (suc b) = ap (λ (n : ℕ). binomial n (suc b)) (let z : a + suc b ≡ suc (a + b) = omega arith in z) in
+    let top : binomial (a + suc b) (suc b) ≡ binomial (suc (a + b)) (suc b) = ap (λ (n : ℕ). binomial n (suc b))
+    (let z : a + suc b ≡ suc (a + b) = omega arith in z) in
     omega (arith, h, here, p, top)
 
 -- members at the bottom have rank 0
@@ -103,7 +109,8 @@ part_rank : (a c : ℕ) → rank (next_part a c) ≡ suc (rank (low_part a c))
 part_rank a c =
     let l : length (zeros (suc a) (ones c [])) ≡ a + suc c = (let z = length_zeros (suc a) (ones c []) in let w = length_ones c [] in omega (arith, z, w)) in
     let m : members (zeros (suc a) (ones c [])) ≡ c = (let z = members_zeros (suc a) (ones c []) in let w = members_ones c [] in omega (arith, z, w)) in
-    let here : binomial (length (zeros (suc a) (ones c []))) (suc (members (zeros (suc a) (ones c [])))) ≡ binomial (a + suc c) (suc c) = ap₂ (λ (n k : ℕ). binomial n (suc k)) l m in
+    let here : binomial (length (zeros (suc a) (ones c []))) (suc (members (zeros (suc a) (ones c [])))) ≡ binomial (a + suc c) (suc c) = ap₂
+    (λ (n k : ℕ). binomial n (suc k)) l m in
     let none : rank (zeros (suc a) (ones c [])) ≡ 0 = rank_zeros (suc a) (ones c []) ∙ rank_bottom c in
     let h = climbs a (suc c) in
     omega (arith, here, none, h)
@@ -113,11 +120,14 @@ part_mask a c =
     let low = mask_ones (suc c) (zeros a []) in
     let none : mask_of (zeros a []) ≡ 0 = mask_zeros a [] in
     let la : 2 ^ length (zeros a []) ≡ 2 ^ a = ap (λ (k : ℕ). 2 ^ k) (let y = length_zeros a [] in let z : length (zeros a []) ≡ a = omega (arith, y) in z) in
-    let lb : 2 ^ (suc c + length (zeros a [])) ≡ 2 ^ (suc c + a) = ap (λ (k : ℕ). 2 ^ (suc c + k)) (let y = length_zeros a [] in let z : length (zeros a []) ≡ a = omega (arith, y) in z) in
+    let lb : 2 ^ (suc c + length (zeros a [])) ≡ 2 ^ (suc c + a) = ap (λ (k : ℕ). 2 ^ (suc c + k))
+    (let y = length_zeros a [] in let z : length (zeros a []) ≡ a = omega (arith, y) in z) in
     let up : mask_of (zeros (suc a) (ones c [])) ≡ mask_of (ones c []) = mask_zeros (suc a) (ones c []) in
     let bottom = mask_ones c [] in
     let lc : 2 ^ (c + 0) ≡ 2 ^ c = ap (λ (k : ℕ). 2 ^ k) (let z : c + 0 ≡ c = omega arith in z) in
-    let ld : 2 ^ length (zeros (suc a) (ones c [])) ≡ 2 ^ (suc c + a) = ap (λ (k : ℕ). 2 ^ k) (let z = length_zeros (suc a) (ones c []) in let w = length_ones c [] in let q : length (zeros (suc a) (ones c [])) ≡ suc c + a = omega (arith, z, w) in q) in
+    let ld : 2 ^ length (zeros (suc a) (ones c [])) ≡ 2 ^ (suc c + a) = ap (λ (k : ℕ). 2 ^ k)
+    (let z = length_zeros (suc a) (ones c []) in let w = length_ones c [] in let q : length (zeros (suc a) (ones c [])) ≡ suc c + a = omega
+    (arith, z, w) in q) in
     omega (arith, low, none, la, lb, up, bottom, lc, ld)
 
 -- below other cells
@@ -166,11 +176,13 @@ tests_split (suc k) w m =
     let (us, l, e) = tests_split k w m in (
       has_cell m (k + w) ∷ us,
       ap suc l,
-      ap (λ (j : ℕ). tests_of j m) (let z : suc k + w ≡ suc (k + w) = omega arith in z) ∙ tests_more (k + w) m ∙ ap (λ (ts : List Bool). has_cell m (k + w) ∷ ts) e,
+      ap (λ (j : ℕ). tests_of j m) (let z : suc k + w ≡ suc (k + w) = omega arith in z) ∙ tests_more (k + w) m ∙ ap
+          (λ (ts : List Bool). has_cell m (k + w) ∷ ts) e,
     )
 
 -- the cells of a mask whose lowest members stand from a to a + c, with none behind them
-low_tests : (a c m : ℕ) → ((i : ℕ) → i < a → bit_at m i ≡ 0) → ((i : ℕ) → i < suc c → bit_at m (i + a) ≡ 1) → bit_at m (suc c + a) ≡ 0 → tests_of (suc (suc c + a)) m ≡ low_part a c
+low_tests : (a c m : ℕ) → ((i : ℕ) → i < a → bit_at m i ≡ 0) → ((i : ℕ) → i < suc c → bit_at m (i + a) ≡ 1) → bit_at m (suc c + a) ≡ 0 → tests_of
+    (suc (suc c + a)) m ≡ low_part a c
 low_tests a c m low run none =
     tests_more (suc c + a) m
     ∙ ap₂ (λ (t : Bool) (ts : List Bool). t ∷ ts) (ap (λ (v : ℕ). eqb v 1) none) (tests_ones (suc c) a m run ∙ ap (ones (suc c)) (tests_zeros a m low))
@@ -181,22 +193,27 @@ pub record IsNextMask (m r : ℕ) : Type 0 where
   pub ones_are : count_ones r ≡ count_ones m
   pub fits : r < 2 ^ 32
 
-pub next_is : (a c m r : ℕ) → m < 2 ^ 32 → suc c + a < 32 → ((i : ℕ) → i < a → bit_at m i ≡ 0) → ((i : ℕ) → i < suc c → bit_at m (i + a) ≡ 1) → bit_at m (suc c + a) ≡ 0 → r + 1 ≡ m + (2 ^ a + 2 ^ c) → IsNextMask m r
+pub next_is : (a c m r : ℕ) → m < 2 ^ 32 → suc c + a < 32 → ((i : ℕ) → i < a → bit_at m i ≡ 0) → ((i : ℕ) → i < suc c → bit_at m (i + a) ≡ 1) → bit_at m
+    (suc c + a) ≡ 0 → r + 1 ≡ m + (2 ^ a + 2 ^ c) → IsNextMask m r
 unfolding mask_rank
 next_is a c m r fits small low run none is =
     let w = suc (suc c + a) in
     let (us, long, split) = tests_split (32 - w) w m in
     let whole : 32 - w + w ≡ 32 = omega arith in
-    let old : tests_of 32 m ≡ us ++ low_part a c = ap (λ (k : ℕ). tests_of k m) (sym whole) ∙ split ∙ ap (λ (ts : List Bool). us ++ ts) (low_tests a c m low run none) in
+    let old : tests_of 32 m ≡ us ++ low_part a c = ap (λ (k : ℕ). tests_of k m) (sym whole) ∙ split ∙ ap (λ (ts : List Bool). us ++ ts)
+    (low_tests a c m low run none) in
     let number : mask_of (us ++ low_part a c) ≡ m = ap mask_of (sym old) ∙ mask_tests_small 32 m fits in
     let step = next_mask us (low_part a c) (next_part a c) 1 (2 ^ a + 2 ^ c) (part_length a c) (part_mask a c) in
     let new : mask_of (us ++ next_part a c) ≡ r = omega (arith, step, number, is) in
     let size : length (us ++ next_part a c) ≡ 32 = same_length us (low_part a c) (next_part a c) (part_length a c) ∙ ap length (sym old) ∙ tests_length 32 m in
     let tests : tests_of 32 r ≡ us ++ next_part a c =
     ap₂ tests_of (sym size) (sym new) ∙ tests_mask (us ++ next_part a c) in
-    let below : r < 2 ^ 32 = subst (λ (k : ℕ). k < 2 ^ 32) new (subst (λ (k : ℕ). mask_of (us ++ next_part a c) < 2 ^ k) size (mask_below (us ++ next_part a c))) in
-    let rank_here : rank (tests_of 32 r) ≡ suc (rank (tests_of 32 m)) = ap rank tests ∙ next_rank us (low_part a c) (next_part a c) (part_length a c) (part_members a c) (part_rank a c) ∙ ap (λ (ts : List Bool). suc (rank ts)) (sym old) in
-    let members_here : members (tests_of 32 r) ≡ members (tests_of 32 m) = ap members tests ∙ same_members us (low_part a c) (next_part a c) (part_members a c) ∙ ap members (sym old) in
+    let below : r < 2 ^ 32 = subst (λ (k : ℕ). k < 2 ^ 32) new (subst (λ (k : ℕ). mask_of (us ++ next_part a c) < 2 ^ k) size
+    (mask_below (us ++ next_part a c))) in
+    let rank_here : rank (tests_of 32 r) ≡ suc (rank (tests_of 32 m)) = ap rank tests ∙ next_rank us (low_part a c) (next_part a c) (part_length a c)
+    (part_members a c) (part_rank a c) ∙ ap (λ (ts : List Bool). suc (rank ts)) (sym old) in
+    let members_here : members (tests_of 32 r) ≡ members (tests_of 32 m) = ap members tests ∙ same_members us (low_part a c) (next_part a c)
+    (part_members a c) ∙ ap members (sym old) in
     record {
       rank_is = omega (arith, rank_here);
       ones_are = sym (members_small 32 r below) ∙ members_here ∙ members_small 32 m fits;

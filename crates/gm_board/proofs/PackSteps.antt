@@ -1,5 +1,6 @@
 -- The steps of packing the opponent's pieces on the cells without the mover's, and of spreading them again.
-use Rattle.std.proofs.Common.{◌≡◌, ℕ, zero, suc, ◌+◌, ◌-◌, ◌*◌, ◌/◌, ◌%◌, ◌^◌, ◌<◌, ◌≤◌, Bool, true, false, eqb, List, [], ◌∷◌, length, refl, sym, ap, ap₂, ◌∙◌, subst, arith, add-one, pow_pos, lt_of_le_of_lt}
+use Rattle.std.proofs.Common.{◌≡◌, ℕ, zero, suc, ◌+◌, ◌-◌, ◌*◌, ◌/◌, ◌%◌, ◌^◌, ◌<◌, ◌≤◌, Bool, true, false, eqb, List, [], ◌∷◌, length, refl, sym, ap, ap₂, ◌∙◌}
+use Rattle.std.proofs.Common.{subst, arith, add-one, pow_pos, lt_of_le_of_lt}
 use Rattle.std.specs.Prelude.{bit_and, count_ones}
 use Rattle.std.specs.Int.{bit_at, trailing_zeros, w32}
 use Rattle.std.proofs.Math.Nat.{mul-add, add-mul, two-pow-succ, div-eq_of_lt, mod-eq_of_lt}
@@ -7,11 +8,14 @@ use Rattle.std.proofs.Math.Pow.{pow_mono}
 use Rattle.std.proofs.lemmas.Nat.{shr-shr, shr_split, mod-pow-add, mod-mul-add, div-mul-add, mod_below}
 use Rattle.std.proofs.lemmas.Nat.Bits.{shr_and_one, bit_at-lt}
 use Rattle.gm_board.specs.declared.cell.Cell.{Cell}
-use Rattle.gm_board.specs.Ranks.{members, members_le}
-use Rattle.gm_board.specs.Masks.{has_cell, tests_of, tests_none, tests_more, tests_length, mask_of, mask_cons, mask_below, weight, weight_bit, members_small}
+use Rattle.gm_board.specs.Ranks.{members}
+use Rattle.gm_board.specs.laws.Ranks.{members_le}
+use Rattle.gm_board.specs.Masks.{has_cell, tests_of, mask_of, weight}
+use Rattle.gm_board.specs.laws.Masks.{tests_none, tests_more, tests_length, mask_cons, mask_below, weight_bit, members_small}
 use Rattle.gm_board.specs.Arrangements.{their_bits, their_cell, merge}
-use Rattle.gm_board.specs.Pieces.{cell_by, cells_of, cells_none, cells_more, their_tests, spread_mask, apart_below}
-use Rattle.gm_board.specs.NextCells.{cell_below, cell_one, cell_none}
+use Rattle.gm_board.specs.Pieces.{cell_by, cells_of, their_tests, spread_mask}
+use Rattle.gm_board.specs.laws.Pieces.{cells_none, cells_more, apart_below}
+use Rattle.gm_board.specs.laws.NextCells.{cell_below, cell_one, cell_none}
 use Rattle.gm_board.proofs.LowestCells.{IsRest, rest_whole, lowest, nothing_left}
 
 -- the opponent's pieces below `cell` are packed
@@ -36,10 +40,12 @@ their_bits_free false true cs e = refl
 their_bits_free false false cs e = refl
 
 -- a cell of the mover's
-pub packed_skip : (mine theirs cell packed free : ℕ) → IsPacked mine theirs cell packed free → has_cell mine cell ≡ true → IsPacked mine theirs (cell + 1) packed free
+pub packed_skip : (mine theirs cell packed free : ℕ) → IsPacked mine theirs cell packed free → has_cell mine cell ≡ true → IsPacked mine theirs (cell + 1)
+    packed free
 packed_skip mine theirs cell packed free h e =
     let q : their_bits (cells_of (cell + 1) mine theirs) ≡ their_bits (cells_of cell mine theirs) =
-    ap (λ (k : ℕ). their_bits (cells_of k mine theirs)) (add-one cell) ∙ ap their_bits (cells_more cell mine theirs) ∙ their_bits_mine (has_cell mine cell) (has_cell theirs cell) (cells_of cell mine theirs) e in
+    ap (λ (k : ℕ). their_bits (cells_of k mine theirs)) (add-one cell) ∙ ap their_bits (cells_more cell mine theirs) ∙ their_bits_mine (has_cell mine cell)
+    (has_cell theirs cell) (cells_of cell mine theirs) e in
     record { is_free = h.is_free ∙ sym (ap length q); is_packed = h.is_packed ∙ sym (ap mask_of q) }
 
 -- another cell
@@ -48,7 +54,8 @@ pub packed_more : (mine theirs cell packed free : ℕ) → IsPacked mine theirs 
 packed_more mine theirs cell packed free h e =
     let bs = their_bits (cells_of cell mine theirs) in
     let q : their_bits (cells_of (cell + 1) mine theirs) ≡ has_cell theirs cell ∷ bs =
-    ap (λ (k : ℕ). their_bits (cells_of k mine theirs)) (add-one cell) ∙ ap their_bits (cells_more cell mine theirs) ∙ their_bits_free (has_cell mine cell) (has_cell theirs cell) (cells_of cell mine theirs) e in
+    ap (λ (k : ℕ). their_bits (cells_of k mine theirs)) (add-one cell) ∙ ap their_bits (cells_more cell mine theirs) ∙ their_bits_free (has_cell mine cell)
+    (has_cell theirs cell) (cells_of cell mine theirs) e in
     record {
       is_free = (let z : free + 1 ≡ suc (length bs) = omega (arith, h.is_free) in z) ∙ sym (ap length q);
       is_packed = sym (
@@ -89,12 +96,14 @@ spread_none mine packed = record {
     whole n = omega arith
 
 -- a cell of the mover's
-pub spread_skip : (mine packed cell theirs rest : ℕ) → IsSpread mine packed cell theirs rest → has_cell mine cell ≡ true → IsSpread mine packed (cell + 1) theirs rest
+pub spread_skip : (mine packed cell theirs rest : ℕ) → IsSpread mine packed cell theirs rest → has_cell mine cell ≡ true → IsSpread mine packed (cell + 1)
+    theirs rest
 unfolding spread_mask free_below
 spread_skip mine packed cell theirs rest h e =
     let ms = tests_of cell mine in
     let q : tests_of (cell + 1) mine ≡ true ∷ ms = ap (λ (j : ℕ). tests_of j mine) (add-one cell) ∙ tests_more cell mine ∙ ap (λ (b : Bool). b ∷ ms) e in
-    let f : cell + 1 - members (tests_of (cell + 1) mine) ≡ cell - members ms = ap (λ (bs : List Bool). cell + 1 - members bs) q ∙ (let z : cell + 1 - suc (members ms) ≡ cell - members ms = omega arith in z) in
+    let f : cell + 1 - members (tests_of (cell + 1) mine) ≡ cell - members ms = ap (λ (bs : List Bool). cell + 1 - members bs) q ∙
+    (let z : cell + 1 - suc (members ms) ≡ cell - members ms = omega arith in z) in
     record {
       is_theirs = h.is_theirs ∙ sym (ap₂ (λ (bs : List Bool) (k : ℕ). mask_of (their_tests (merge bs (tests_of k packed)))) q f);
       is_rest = h.is_rest ∙ sym (ap (λ (k : ℕ). packed / 2 ^ k) f);
@@ -188,7 +197,8 @@ spread_own mine packed n t h e =
     }
 
 -- all is spread
-pub spread_end : (cells mine packed t : ℕ) → IsSpreadTo mine packed cells t → mine < 2 ^ cells → packed < 2 ^ (cells - count_ones mine) → t ≡ spread_mask cells mine packed
+pub spread_end : (cells mine packed t : ℕ) → IsSpreadTo mine packed cells t → mine < 2 ^ cells → packed < 2 ^ (cells - count_ones mine) → t ≡ spread_mask
+    cells mine packed
 unfolding free_below
 spread_end cells mine packed t h f g =
     let k : free_below mine cells ≡ cells - count_ones mine = ap (λ (v : ℕ). cells - v) (members_small cells mine f) in
@@ -208,7 +218,8 @@ packed_start mine theirs =
     let z : 0 ≡ theirs % 1 = omega (arith, l) in
     record { low = subst (λ (v : ℕ). IsPacked mine theirs 0 v 0) z (packed_none mine theirs); high = refl }
 
-packed_free : (mine theirs n free packed : ℕ) → IsPackedTo mine theirs n free packed → has_cell mine n ≡ false → IsPackedTo mine theirs (n + 1) (free + 1) packed
+packed_free : (mine theirs n free packed : ℕ) → IsPackedTo mine theirs n free packed → has_cell mine n ≡ false → IsPackedTo mine theirs (n + 1) (free + 1)
+    packed
 packed_free mine theirs n free packed h e =
     let m = packed_more mine theirs n (packed % 2 ^ free) free h.low e in
     record {
@@ -218,7 +229,8 @@ packed_free mine theirs n free packed h e =
     }
 
 -- cells without the mover's pieces, s of them
-pub packed_frees : (mine theirs n s free packed : ℕ) → IsPackedTo mine theirs n free packed → ((i : ℕ) → i < s → has_cell mine (n + i) ≡ false) → IsPackedTo mine theirs (n + s) (free + s) packed
+pub packed_frees : (mine theirs n s free packed : ℕ) → IsPackedTo mine theirs n free packed → ((i : ℕ) → i < s → has_cell mine (n + i) ≡ false) → IsPackedTo
+    mine theirs (n + s) (free + s) packed
 packed_frees mine theirs n zero free packed h f =
     subst (λ (k : ℕ). IsPackedTo mine theirs (n + 0) k packed) (let e : free ≡ free + 0 = omega arith in e)
     (subst (λ (k : ℕ). IsPackedTo mine theirs k free packed) (let e : n ≡ n + 0 = omega arith in e) h)
@@ -258,12 +270,14 @@ packed_own mine theirs n free packed h e f =
     let b : packed % 2 ^ free < 2 ^ free = mod_below packed (2 ^ free) (pow_pos free) in
     let m = packed_skip mine theirs n (packed % 2 ^ free) free h.low e in
     record {
-      low = subst (λ (v : ℕ). IsPacked mine theirs (n + 1) v free) (sym (ap (λ (v : ℕ). v % 2 ^ free) s.left ∙ mod-mul-add a (2 ^ free) (packed % 2 ^ free) b)) m;
+      low = subst (λ (v : ℕ). IsPacked mine theirs (n + 1) v free) (sym (ap (λ (v : ℕ). v % 2 ^ free) s.left ∙ mod-mul-add a (2 ^ free) (packed % 2 ^ free)
+          b)) m;
       high = ap (λ (v : ℕ). v / 2 ^ free) s.left ∙ div-mul-add a (2 ^ free) (packed % 2 ^ free) b ∙ shr-shr theirs n 1;
     }
 
 -- all is packed
-pub packed_end : (cells mine theirs free packed : ℕ) → IsPackedTo mine theirs cells free packed → theirs < 2 ^ cells → packed ≡ mask_of (their_bits (cells_of cells mine theirs))
+pub packed_end : (cells mine theirs free packed : ℕ) → IsPackedTo mine theirs cells free packed → theirs < 2 ^ cells → packed ≡ mask_of
+    (their_bits (cells_of cells mine theirs))
 packed_end cells mine theirs free packed h l =
     let z : packed / 2 ^ free ≡ 0 = h.high ∙ div-eq_of_lt l in
     let w : packed / 2 ^ free * 2 ^ free ≡ 0 = ap (λ (v : ℕ). v * 2 ^ free) z ∙ (let u : 0 * 2 ^ free ≡ 0 = omega arith in u) in
@@ -314,18 +328,21 @@ pack_turn cells mine theirs rest passed packed h f a j g p =
         within = omega (arith, below);
         passed_le = omega (arith, h.passed_le, z.from);
         is_rest = z.left;
-        is_to = subst (λ (k : ℕ). IsPackedTo mine theirs (c + 1) k (packed - theirs / 2 ^ c / 2 * 2 ^ (c - passed))) (let e : c - passed ≡ c + 1 - (passed + 1) = omega arith in e)
+        is_to = subst (λ (k : ℕ). IsPackedTo mine theirs (c + 1) k (packed - theirs / 2 ^ c / 2 * 2 ^ (c - passed)))
+            (let e : c - passed ≡ c + 1 - (passed + 1) = omega arith in e)
             (packed_own mine theirs c (c - passed) packed to own none);
       };
     }
 
 -- all is packed
-pub pack_done : (cells mine theirs rest passed packed : ℕ) → IsPacking cells mine theirs rest passed packed → theirs < 2 ^ cells → rest ≡ 0 → packed ≡ mask_of (their_bits (cells_of cells mine theirs))
+pub pack_done : (cells mine theirs rest passed packed : ℕ) → IsPacking cells mine theirs rest passed packed → theirs < 2 ^ cells → rest ≡ 0 → packed ≡
+    mask_of (their_bits (cells_of cells mine theirs))
 pack_done cells mine theirs rest passed packed h l e =
     let n = h.next in
     packed_end cells mine theirs (n - passed + (cells - n)) packed
     (subst (λ (k : ℕ). IsPackedTo mine theirs k (n - passed + (cells - n)) packed) (let q : n + (cells - n) ≡ cells = omega (arith, h.within) in q)
-    (packed_frees mine theirs n (cells - n) (n - passed) packed h.is_to (λ i k. cell_none mine (n + i) (nothing_left mine n rest (n + i) h.is_rest e (omega arith)))))
+    (packed_frees mine theirs n (cells - n) (n - passed) packed h.is_to (λ i k. cell_none mine (n + i)
+    (nothing_left mine n rest (n + i) h.is_rest e (omega arith)))))
     l
 
 -- what holds before each of the mover's cells: those below some `next` are done
@@ -360,7 +377,8 @@ spread_turn cells mine packed rest theirs h w f g p =
     (spread_frees mine packed n (c - n) theirs h.is_to (λ i l. cell_none mine (n + i) (z.none i l))) in
     let up = theirs / 2 ^ c * 2 ^ c in
     let part : up ≤ theirs = omega (arith, shr_split theirs c) in
-    let e : 2 ^ (32 + (c + 1)) ≡ 2 ^ (32 + c) + 2 ^ (32 + c) = ap (λ (k : ℕ). 2 ^ k) (let q : 32 + (c + 1) ≡ suc (32 + c) = omega arith in q) ∙ two-pow-succ (32 + c) in
+    let e : 2 ^ (32 + (c + 1)) ≡ 2 ^ (32 + c) + 2 ^ (32 + c) = ap (λ (k : ℕ). 2 ^ k) (let q : 32 + (c + 1) ≡ suc (32 + c) = omega arith in q) ∙ two-pow-succ
+    (32 + c) in
     let b : 2 ^ (32 + n) ≤ 2 ^ (32 + c) = pow_mono (let q : 32 + n ≤ 32 + c = omega (arith, z.from) in q) in
     let d : 2 ^ (32 + (c + 1)) ≤ 2 ^ 64 = pow_mono (let q : 32 + (c + 1) ≤ 64 = omega (arith, below, w) in q) in
     let twofold : theirs + up < 2 ^ (32 + (c + 1)) = omega (arith, part, h.fits, e, b) in
@@ -378,7 +396,8 @@ spread_turn cells mine packed rest theirs h w f g p =
     }
 
 -- all is spread
-pub spread_done : (cells mine packed rest theirs : ℕ) → IsSpreading cells mine packed rest theirs → mine < 2 ^ cells → packed < 2 ^ (cells - count_ones mine) → rest ≡ 0 → theirs ≡ spread_mask cells mine packed
+pub spread_done : (cells mine packed rest theirs : ℕ) → IsSpreading cells mine packed rest theirs → mine < 2 ^ cells → packed < 2 ^
+    (cells - count_ones mine) → rest ≡ 0 → theirs ≡ spread_mask cells mine packed
 spread_done cells mine packed rest theirs h f g e =
     let n = h.next in
     spread_end cells mine packed theirs
@@ -392,6 +411,7 @@ unfolding spread_mask
 spread_fits cells mine packed w =
     let ms = tests_of cells mine in
     let ts = tests_of (cells - members ms) packed in
-    let l : mask_of (their_tests (merge ms ts)) < 2 ^ cells = subst (λ (k : ℕ). mask_of (their_tests (merge ms ts)) < 2 ^ k) (merge_length ms ts ∙ tests_length cells mine) (mask_below (their_tests (merge ms ts))) in
+    let l : mask_of (their_tests (merge ms ts)) < 2 ^ cells = subst (λ (k : ℕ). mask_of (their_tests (merge ms ts)) < 2 ^ k)
+    (merge_length ms ts ∙ tests_length cells mine) (mask_below (their_tests (merge ms ts))) in
     let p : 2 ^ cells ≤ 2 ^ 32 = pow_mono w in
     omega (arith, l, p)

@@ -2,7 +2,8 @@
 use Rattle.std.proofs.Common.{◌≡◌, ℕ, zero, suc, ◌+◌, ◌<◌, Bool, true, ◌&&◌, List, [], ◌∷◌, length, get_or, eqb, eqb-true, refl, ap, ◌∙◌, subst, arith}
 use Rattle.std.specs.List.{list_all}
 use Rattle.gm_board.specs.laws.Lists.{and_left, and_right}
-use Rattle.gm_board.specs.Binomials.{binomial, binomial_zero, binomial_none, pascal}
+use Rattle.gm_board.specs.Binomials.{binomial}
+use Rattle.gm_board.specs.laws.Binomials.{binomial_zero, binomial_none, pascal}
 
 -- whether ys has the sums of the neighbours in p ∷ xs
 abbrev pub are_sums : ℕ → List ℕ → List ℕ → Bool
@@ -45,7 +46,8 @@ next_row n xs ys r e = record {
     entry zero l = omega (arith, r.entries 0 (omega (arith, r.length)), binomial_zero n, binomial_zero (suc n))
     entry (suc k) l = omega (arith, r.entries k (omega (arith, r.length)), r.entries (suc k) (omega (arith, r.length)), pascal n k)
 
-rows_are : (n : ℕ) (xs : List ℕ) (rows : List (List ℕ)) → IsRow n xs → are_rows xs rows ≡ true → (i : ℕ) (d : List ℕ) → i < length rows → IsRow (suc n + i) (get_or rows i d)
+rows_are : (n : ℕ) (xs : List ℕ) (rows : List (List ℕ)) → IsRow n xs → are_rows xs rows ≡ true → (i : ℕ) (d : List ℕ) → i < length rows → IsRow (suc n + i)
+    (get_or rows i d)
 rows_are n xs [] r e i d l = absurd (omega arith)
 rows_are n xs (ys ∷ rows) r e zero d l =
     subst (λ (m : ℕ). IsRow m ys) (let q : suc n ≡ suc n + 0 = omega arith in q) (next_row n xs ys r (and_left _ _ e))
@@ -73,7 +75,8 @@ first_row x xs e l z = record { length = ap suc l; entries = entry }
 
 leading_row : (x : ℕ) (xs : List ℕ) (rows : List (List ℕ)) → is_triangle ((x ∷ xs) ∷ rows) ≡ true → IsRow 0 (x ∷ xs)
 leading_row x xs rows e =
-    first_row x xs (eqb-true x 1 (and_left _ _ e)) (eqb-true _ _ (and_left _ _ (and_left _ _ (and_right _ _ e)))) (and_right _ _ (and_left _ _ (and_right _ _ e)))
+    first_row x xs (eqb-true x 1 (and_left _ _ e)) (eqb-true _ _ (and_left _ _ (and_left _ _ (and_right _ _ e))))
+    (and_right _ _ (and_left _ _ (and_right _ _ e)))
 
 -- each row of such a table is that row of the triangle
 pub triangle_is : (rows : List (List ℕ)) → is_triangle rows ≡ true → (n : ℕ) (d : List ℕ) → n < length rows → IsRow n (get_or rows n d)

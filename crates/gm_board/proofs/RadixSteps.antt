@@ -1,9 +1,12 @@
 -- The steps of making a number of digits, and of taking it apart again.
-use Rattle.std.proofs.Common.{◌≡◌, ℕ, zero, suc, ◌+◌, ◌*◌, ◌/◌, ◌%◌, ◌^◌, ◌<◌, ◌≤◌, List, [], ◌∷◌, ◌++◌, length, get_or, set, take, drop, sym, ap, ap₂, ◌∙◌, subst, arith, mod-lt, mul-le-mul_left, length-set, length-take, get_or-take, get_or-set_same, get_or-set_other, inl, inr, div-lt_iff_lt-mul}
+use Rattle.std.proofs.Common.{◌≡◌, ℕ, zero, suc, ◌+◌, ◌*◌, ◌/◌, ◌%◌, ◌^◌, ◌<◌, ◌≤◌, List, [], ◌∷◌, ◌++◌, length, get_or, set, take, drop, sym, ap, ap₂, ◌∙◌}
+use Rattle.std.proofs.Common.{subst, arith, mod-lt, mul-le-mul_left, length-set, length-take, get_or-take, get_or-set_same, get_or-set_other, inl, inr}
+use Rattle.std.proofs.Common.{div-lt_iff_lt-mul}
 use Rattle.std.proofs.lemmas.Bool.{cases_eq}
 use Rattle.std.proofs.lemmas.Nat.{div-add-mod', mul-mod_first}
 use Rattle.std.proofs.lemmas.List.{take_more, take_all, drop_more, drop-set}
-use Rattle.gm_board.specs.Digits.{radix_size, digits_number, AreBelow, number_below, number_digits, digits_back}
+use Rattle.gm_board.specs.Digits.{radix_size, digits_number, AreBelow, number_digits}
+use Rattle.gm_board.specs.laws.Digits.{number_below, digits_back}
 
 size_push : (rs : List ℕ) (r : ℕ) → radix_size (rs ++ r ∷ []) ≡ radix_size rs * r
 size_push [] r = omega arith
@@ -22,10 +25,12 @@ pub number_more : (rs ds : List ℕ) (k : ℕ) → length ds ≡ length rs → k
     → digits_number (take (k + 1) rs) (take (k + 1) ds) ≡ digits_number (take k rs) (take k ds) * get_or rs k 0 + get_or ds k 0
 number_more rs ds k e l =
     ap₂ digits_number (take_more rs k 0 l) (take_more ds k 0 (omega (arith, e)))
-    ∙ number_push (take k rs) (take k ds) (get_or rs k 0) (get_or ds k 0) (let z : length (take k ds) ≡ length (take k rs) = omega (arith, length-take k ds, length-take k rs) in z)
+    ∙ number_push (take k rs) (take k ds) (get_or rs k 0) (get_or ds k 0) (let z : length (take k ds) ≡ length (take k rs) = omega
+    (arith, length-take k ds, length-take k rs) in z)
 
 -- a product that wraps on the way
-pub size_more : (rs : List ℕ) (k j size : ℕ) → j + 1 ≡ k → k ≤ length rs → size ≡ radix_size (drop k rs) % 2 ^ 64 → size * get_or rs j 0 % 2 ^ 64 ≡ radix_size (drop j rs) % 2 ^ 64
+pub size_more : (rs : List ℕ) (k j size : ℕ) → j + 1 ≡ k → k ≤ length rs → size ≡ radix_size (drop k rs) % 2 ^ 64 → size * get_or rs j 0 % 2 ^ 64 ≡
+    radix_size (drop j rs) % 2 ^ 64
 size_more rs k j size q l h =
     let r = get_or rs j 0 in
     ap (λ (v : ℕ). v * r % 2 ^ 64) h
@@ -76,7 +81,8 @@ pub record IsDecoded (rs : List ℕ) (number k rest : ℕ) (ds : List ℕ) : Typ
 pub radix_positive : (rs : List ℕ) (number k j rest : ℕ) (ds : List ℕ) → j + 1 ≡ k → k ≤ length rs → IsDecoded rs number k rest ds → 0 < get_or rs j 0
 radix_positive rs number k j rest ds q l h =
     positive (get_or rs j 0) (radix_size (take j rs)) rest
-    (subst (λ (s : ℕ). rest < s) (ap (λ (i : ℕ). radix_size (take i rs)) (sym q) ∙ ap radix_size (take_more rs j 0 (omega arith)) ∙ size_push (take j rs) (get_or rs j 0)) h.below)
+    (subst (λ (s : ℕ). rest < s) (ap (λ (i : ℕ). radix_size (take i rs)) (sym q) ∙ ap radix_size (take_more rs j 0 (omega arith)) ∙ size_push (take j rs)
+    (get_or rs j 0)) h.below)
   where
     positive : (r s i : ℕ) → i < s * r → 0 < r
     positive zero s i m = absurd (omega arith)
@@ -88,9 +94,11 @@ pub decoded_more : (rs : List ℕ) (number k j rest : ℕ) (ds : List ℕ) → j
 decoded_more rs number k j rest ds q l h =
     let r = get_or rs j 0 in
     let p : 0 < r = radix_positive rs number k j rest ds q l h in
-    let s : radix_size (take k rs) ≡ radix_size (take j rs) * r = ap (λ (i : ℕ). radix_size (take i rs)) (sym q) ∙ ap radix_size (take_more rs j 0 (omega arith)) ∙ size_push (take j rs) r in
+    let s : radix_size (take k rs) ≡ radix_size (take j rs) * r = ap (λ (i : ℕ). radix_size (take i rs)) (sym q) ∙ ap radix_size
+    (take_more rs j 0 (omega arith)) ∙ size_push (take j rs) r in
     let dr : drop j rs ≡ r ∷ drop k rs = drop_more rs j 0 (omega arith) ∙ ap (λ (i : ℕ). r ∷ drop i rs) q in
-    let dd : drop j (set ds j (rest % r)) ≡ (rest % r) ∷ drop k ds = drop-set ds j (rest % r) (omega (arith, h.is_length)) ∙ ap (λ (i : ℕ). (rest % r) ∷ drop i ds) q in
+    let dd : drop j (set ds j (rest % r)) ≡ (rest % r) ∷ drop k ds = drop-set ds j (rest % r) (omega (arith, h.is_length)) ∙ ap
+    (λ (i : ℕ). (rest % r) ∷ drop i ds) q in
     let split = div-add-mod' rest r in
     record {
       is_length = length-set ds j (rest % r) ∙ h.is_length;
@@ -120,7 +128,8 @@ decoded_all rs number k rest ds e h =
     let l : rest < 1 = subst (λ (i : ℕ). rest < radix_size (take i rs)) e h.below in
     let n : number ≡ rest * radix_size rs + digits_number rs ds =
     h.is_number ∙ ap (λ (i : ℕ). rest * radix_size (drop i rs) + digits_number (drop i rs) (drop i ds)) e in
-    let z : rest * radix_size rs ≡ 0 = ap (λ (v : ℕ). v * radix_size rs) (let q : rest ≡ 0 = omega arith in q) ∙ (let q : 0 * radix_size rs ≡ 0 = omega arith in q) in
+    let z : rest * radix_size rs ≡ 0 = ap (λ (v : ℕ). v * radix_size rs) (let q : rest ≡ 0 = omega arith in q) ∙
+    (let q : 0 * radix_size rs ≡ 0 = omega arith in q) in
     let b : digits_number rs ds ≡ number = omega (arith, n, z) in
     let below : AreBelow rs ds = λ i m. h.digits i (omega (arith, e)) m in
     record { value = sym (ap (number_digits rs) (sym b) ∙ digits_back rs ds h.is_length below); below = below; back = b }

@@ -4,9 +4,12 @@ use Rattle.std.specs.Prelude.{bit_and, count_ones}
 use Rattle.std.specs.Int.{bit_at, trailing_zeros, w32}
 use Rattle.std.proofs.lemmas.Nat.{shr_split, mod_below}
 use Rattle.std.proofs.lemmas.Nat.Bits.{bit_at-zero, bit_at_cat_low, bit_at_cat_high}
-use Rattle.gm_board.specs.Binomials.{binomial, binomial_small}
-use Rattle.gm_board.specs.Ranks.{members, rank, rank_below, members_le}
-use Rattle.gm_board.specs.Masks.{tests_of, tests_length, tests_same, mask_rank, mask_rank_at, members_ones, members_skips, rank_skips, members_add, rank_add}
+use Rattle.gm_board.specs.Binomials.{binomial}
+use Rattle.gm_board.specs.laws.Binomials.{binomial_small}
+use Rattle.gm_board.specs.Ranks.{members, rank}
+use Rattle.gm_board.specs.laws.Ranks.{rank_below, members_le}
+use Rattle.gm_board.specs.Masks.{tests_of, mask_rank}
+use Rattle.gm_board.specs.laws.Masks.{tests_length, tests_same, mask_rank_at, members_ones, members_skips, rank_skips, members_add, rank_add}
 use Rattle.gm_board.proofs.LowestCells.{IsRest, lowest, nothing_left}
 
 -- the cells below some `next` are counted, and `rest` has the others
@@ -30,10 +33,12 @@ counted_low mask =
       within = omega arith;
       is_rest = record {
         none = λ i l. ap (λ (v : ℕ). bit_at v i) rest ∙ bit_at_cat_low high 25 0 i l ∙ bit_at-zero i;
-        same = λ i l. ap (λ (v : ℕ). bit_at v i) rest ∙ bit_at_cat_high high 25 0 i (omega arith) l ∙ sym (ap (λ (v : ℕ). bit_at v i) whole ∙ bit_at_cat_high high 25 low i below l);
+        same = λ i l. ap (λ (v : ℕ). bit_at v i) rest ∙ bit_at_cat_high high 25 0 i (omega arith) l ∙ sym
+            (ap (λ (v : ℕ). bit_at v i) whole ∙ bit_at_cat_high high 25 low i below l);
       };
       is_count = sym (members_ones 25 mask);
-      is_sum = mask_rank_at 25 low (omega arith) below ∙ ap rank (tests_same 25 low mask (λ i l. sym (ap (λ (v : ℕ). bit_at v i) whole ∙ bit_at_cat_low high 25 low i l)));
+      is_sum = mask_rank_at 25 low (omega arith) below ∙ ap rank (tests_same 25 low mask
+          (λ i l. sym (ap (λ (v : ℕ). bit_at v i) whole ∙ bit_at_cat_low high 25 low i l)));
     }
 
 -- bounds on what is counted
@@ -62,7 +67,8 @@ counted_more mask rest count sum h g p =
     let z = lowest mask h.next rest h.is_rest g p in
     let at : h.next + (c - h.next) ≡ c = omega (arith, z.from) in
     let e : c + 1 ≡ suc c = omega arith in
-    let ms : members (tests_of c mask) ≡ count = ap (λ (k : ℕ). members (tests_of k mask)) (sym at) ∙ members_skips h.next (c - h.next) mask z.none ∙ sym h.is_count in
+    let ms : members (tests_of c mask) ≡ count = ap (λ (k : ℕ). members (tests_of k mask)) (sym at) ∙ members_skips h.next (c - h.next) mask z.none ∙ sym
+    h.is_count in
     let rs : rank (tests_of c mask) ≡ sum = ap (λ (k : ℕ). rank (tests_of k mask)) (sym at) ∙ rank_skips h.next (c - h.next) mask z.none ∙ sym h.is_sum in
     let more : suc (members (tests_of c mask)) ≡ count + 1 = omega (arith, ms) in
     record {

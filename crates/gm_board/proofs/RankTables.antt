@@ -1,13 +1,16 @@
 -- Ranks of subsets of sixteen cells, by bytes.
-use Rattle.std.proofs.Common.{◌≡◌, ℕ, zero, suc, ◌+◌, ◌-◌, ◌*◌, ◌/◌, ◌%◌, ◌^◌, ◌<◌, ◌≤◌, Bool, true, false, List, [], ◌∷◌, ◌++◌, map, length, get_or, eqb, refl, sym, ap, ap₂, ◌∙◌, arith}
+use Rattle.std.proofs.Common.{◌≡◌, ℕ, zero, suc, ◌+◌, ◌-◌, ◌*◌, ◌/◌, ◌%◌, ◌^◌, ◌<◌, ◌≤◌, Bool, true, false, List, [], ◌∷◌, ◌++◌, map, length, get_or, eqb, refl}
+use Rattle.std.proofs.Common.{sym, ap, ap₂, ◌∙◌, arith}
 use Rattle.std.specs.Prelude.{count_ones}
 use Rattle.std.specs.Int.{bit_at}
 use Rattle.std.specs.List.{range_with_len}
 use Rattle.std.proofs.lemmas.Nat.Bits.{bit_at_cat_low, bit_at_cat_high}
 use Rattle.std.proofs.lemmas.List.FromFn.{get_or-map-range_with_len}
 use Rattle.gm_board.specs.Binomials.{binomial}
-use Rattle.gm_board.specs.Ranks.{members, rank, members_le}
-use Rattle.gm_board.specs.Masks.{tests_of, tests_none, tests_more, tests_length, tests_same, mask_rank, mask_rank_at, members_small}
+use Rattle.gm_board.specs.Ranks.{members, rank}
+use Rattle.gm_board.specs.laws.Ranks.{members_le}
+use Rattle.gm_board.specs.Masks.{tests_of, mask_rank}
+use Rattle.gm_board.specs.laws.Masks.{tests_none, tests_more, tests_length, tests_same, mask_rank_at, members_small}
 use Rattle.gm_board.specs.declared.pascal.TheConstants.{ROWS}
 use Rattle.gm_board.specs.declared.ranks.TheConstants.{LOW, HIGH, UPPER}
 use Rattle.gm_board.proofs.PascalRows.{triangle_is}
@@ -99,7 +102,8 @@ low_at b l =
 high_at : (k b : ℕ) → k ≤ 8 → b < 256 → get_or (get_or HIGH k []) b 0 ≡ rank_above 8 k (tests_of 8 b)
 high_at k b l h =
     ap (λ (xs : List (List ℕ)). get_or (get_or xs k []) b 0) (sym high_are)
-    ∙ ap (λ (xs : List ℕ). get_or xs b 0) (get_or-map-range_with_len (λ (k : ℕ). map (λ (b : ℕ). rank_by_rows 8 k (tests_of 8 b)) (range_with_len 0 256)) 0 9 k k [] (omega (arith, l)) (omega arith))
+    ∙ ap (λ (xs : List ℕ). get_or xs b 0) (get_or-map-range_with_len (λ (k : ℕ). map (λ (b : ℕ). rank_by_rows 8 k (tests_of 8 b)) (range_with_len 0 256)) 0
+    9 k k [] (omega (arith, l)) (omega arith))
     ∙ get_or-map-range_with_len (λ (b : ℕ). rank_by_rows 8 k (tests_of 8 b)) 0 256 b b 0 h (omega arith)
     ∙ by_rows 8 k (tests_of 8 b) (omega (arith, tests_length 8 b)) (omega (arith, l, tests_length 8 b))
 
@@ -108,7 +112,8 @@ pub byte_members : (b : ℕ) → b < 2 ^ 8 → count_ones b ≤ 8
 byte_members b l = omega (arith, members_small 8 b l, members_le (tests_of 8 b), tests_length 8 b)
 
 -- the rank of a subset of sixteen cells
-pub short_rank_is : (mask low high : ℕ) → mask < 2 ^ 16 → low ≡ mask % 256 → high ≡ mask / 2 ^ 8 → get_or LOW low 0 + get_or (get_or HIGH (count_ones low) []) high 0 ≡ mask_rank mask
+pub short_rank_is : (mask low high : ℕ) → mask < 2 ^ 16 → low ≡ mask % 256 → high ≡ mask / 2 ^ 8 → get_or LOW low 0 + get_or
+    (get_or HIGH (count_ones low) []) high 0 ≡ mask_rank mask
 short_rank_is mask low high f e g =
     let l : low < 2 ^ 8 = omega (arith, e) in
     let h : high < 2 ^ 8 = omega (arith, g, f) in
@@ -127,14 +132,16 @@ short_rank_is mask low high f e g =
 upper_at : (k b : ℕ) → k ≤ 16 → b < 512 → get_or (get_or UPPER k []) b 0 ≡ rank_above 16 k (tests_of 9 b)
 upper_at k b l h =
     ap (λ (xs : List (List ℕ)). get_or (get_or xs k []) b 0) (sym upper_are)
-    ∙ ap (λ (xs : List ℕ). get_or xs b 0) (get_or-map-range_with_len (λ (k : ℕ). map (λ (b : ℕ). rank_by_rows 16 k (tests_of 9 b)) (range_with_len 0 512)) 0 17 k k [] (omega (arith, l)) (omega arith))
+    ∙ ap (λ (xs : List ℕ). get_or xs b 0) (get_or-map-range_with_len (λ (k : ℕ). map (λ (b : ℕ). rank_by_rows 16 k (tests_of 9 b)) (range_with_len 0 512)) 0
+    17 k k [] (omega (arith, l)) (omega arith))
     ∙ get_or-map-range_with_len (λ (b : ℕ). rank_by_rows 16 k (tests_of 9 b)) 0 512 b b 0 h (omega arith)
     ∙ by_rows 16 k (tests_of 9 b) (omega (arith, tests_length 9 b)) (omega (arith, l, tests_length 9 b))
 
 pub short_members : (b : ℕ) → b < 2 ^ 16 → count_ones b ≤ 16
 short_members b l = omega (arith, members_small 16 b l, members_le (tests_of 16 b), tests_length 16 b)
 
-pub long_rank_is : (mask low high low_rank : ℕ) → mask < 2 ^ 25 → low ≡ mask % 2 ^ 16 → high ≡ mask / 2 ^ 16 → low_rank ≡ mask_rank low → low_rank + get_or (get_or UPPER (count_ones low) []) high 0 ≡ mask_rank mask
+pub long_rank_is : (mask low high low_rank : ℕ) → mask < 2 ^ 25 → low ≡ mask % 2 ^ 16 → high ≡ mask / 2 ^ 16 → low_rank ≡ mask_rank low → low_rank + get_or
+    (get_or UPPER (count_ones low) []) high 0 ≡ mask_rank mask
 long_rank_is mask low high low_rank f e g r =
     let l : low < 2 ^ 16 = omega (arith, e) in
     let h : high < 2 ^ 9 = omega (arith, g, f) in

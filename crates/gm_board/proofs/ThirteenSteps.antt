@@ -4,7 +4,8 @@ use Rattle.std.specs.List.{range_with_len}
 use Rattle.std.proofs.lemmas.Bool.{cases_lt}
 use Rattle.std.proofs.lemmas.List.{get_or_append_left, get_or-append-add}
 use Rattle.std.proofs.lemmas.List.FromFn.{get_or-map-range_with_len}
-use Rattle.gm_board.specs.Binomials.{binomial, binomial_past}
+use Rattle.gm_board.specs.Binomials.{binomial}
+use Rattle.gm_board.specs.laws.Binomials.{binomial_past}
 use Rattle.gm_board.specs.Masks.{mask_unrank}
 use Rattle.gm_board.specs.declared.thirteens.TheConstants.{SUBSETS, STARTS}
 use Rattle.gm_board.proofs.FourSteps.{subsets, subsets_length, subsets_at, binomial_wide, mask_unrank_wide}
@@ -30,7 +31,8 @@ more_is (suc n) k l = elim (cases_lt k (suc n)) [
   | inl h ↦ (let r = more_is n k (omega arith) in let a = length-append (fewer (suc n)) (subsets 13 (suc n)) in omega (arith, r, a))
   | inr h ↦ (
       let e : k ≡ suc n = omega (arith, l, h) in
-      let s : length (fewer k) + length (subsets 13 k) ≡ length (fewer (suc n)) + length (subsets 13 (suc n)) = ap (λ (j : ℕ). length (fewer j) + length (subsets 13 j)) e in
+      let s : length (fewer k) + length (subsets 13 k) ≡ length (fewer (suc n)) + length (subsets 13 (suc n)) = ap
+      (λ (j : ℕ). length (fewer j) + length (subsets 13 j)) e in
       let a = length-append (fewer (suc n)) (subsets 13 (suc n)) in omega (arith, s, a))
 ]
 
@@ -81,7 +83,8 @@ thirteen_below wanted cell left rest mask l h =
     let e : binomial (cell + (13 - cell)) left ≡ binomial 13 left = ap (λ (n : ℕ). binomial n left) (let z : cell + (13 - cell) ≡ 13 = omega arith in z) in
     omega (arith, e, h.below, binomial_wide cell (13 - cell) left)
 
-pub thirteen_all : (wanted cell left rest mask low : ℕ) → cell ≤ 13 → IsUnranked wanted cell left rest mask → low ≡ mask_unrank 13 left rest → mask + low ≡ wanted
+pub thirteen_all : (wanted cell left rest mask low : ℕ) → cell ≤ 13 → IsUnranked wanted cell left rest mask → low ≡ mask_unrank 13 left rest → mask + low ≡
+    wanted
 thirteen_all wanted cell left rest mask low l h e =
     let w : mask_unrank 13 left rest ≡ mask_unrank cell left rest =
     ap (λ (n : ℕ). mask_unrank n left rest) (let z : 13 ≡ cell + (13 - cell) = omega arith in z) ∙ mask_unrank_wide cell (13 - cell) left rest h.below in

@@ -1,4 +1,19 @@
 -- What follows from the definitions.
+pub mod Arrangements
+pub mod Binomials
+pub mod BoardMasks
+pub mod Digits
+pub mod Groups
+pub mod Images
+pub mod Masks
+pub mod NextCells
+pub mod Orbits
+pub mod Patterns
+pub mod Permutations
+pub mod Pieces
+pub mod Ranks
+pub mod Squares
+pub mod Words
 pub mod MaskChanges
 pub mod Marks
 pub mod Turned

@@ -28,7 +28,7 @@ impl Arrangement {
     }
 
     /// The index of the arrangement with these masks of pieces. Inlined, as `masks` is.
-    #[tactic(auto, using(crate::specs::Binomials::binomial_small, crate::proofs::IndexSteps::index_is))]
+    #[tactic(auto, using(crate::specs::laws::Binomials::binomial_small, crate::proofs::IndexSteps::index_is))]
     #[inline(always)]
     pub fn index(self, mine: u32, theirs: u32) -> u64
         requires { HasPieces self.cells self.mine self.theirs mine theirs }

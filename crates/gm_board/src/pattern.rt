@@ -5,7 +5,7 @@ ghost use Rattle.gm_board.specs.Masks.{has_cell};
 ghost use Rattle.gm_board.specs.BoardMasks.{pattern_mask};
 
 /// Whether these cells include all cells of the pattern with this mask.
-#[tactic(auto, using(crate::specs::BoardMasks::filled_by))]
+#[tactic(auto, using(crate::specs::laws::BoardMasks::filled_by))]
 pub fn has_all(cells: u32, mask: u32) -> bool
     ensures { (pattern : List ℕ) → pattern_mask pattern ≡ mask → result ≡ list_all (has_cell cells) pattern }
 {

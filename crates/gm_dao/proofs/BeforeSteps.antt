@@ -5,15 +5,15 @@ use Rattle.gm_pieces.specs.Common.{◌∙◌, arith, inl, inr, get_or-set_same, 
 use Rattle.gm_pieces.specs.Common.{Cell, Empty, Mine, turned, is_mine, is_theirs, cell_at, number_of, mine_turned, theirs_turned, and_left, and_right}
 use Rattle.gm_pieces.specs.Common.{and_both, from_point, to_point, from_back, to_back, plays_on, goes_on, before_at, before_some, before_none, WasStep, gone}
 use Rattle.gm_pieces.specs.Common.{brought_back, step_left, gone_again}
-use Rattle.gm_dao.specs.DaoRules.{has_formation, has_trapped, legal, over, in_line, slides, can_move, was_moved, taken_back, dao}
+use Rattle.gm_dao.specs.DaoRules.{has_formation, has_trapped, legal, end_by_last_move, in_line, slides, can_move, can_have_led_here, undo, dao}
 use Rattle.gm_dao.specs.MaskSlides.{is_open}
 use Rattle.gm_dao.specs.laws.BoardFacts.{formation_turned, formation_left, legal_in, legal_from}
 use Rattle.gm_dao.specs.laws.MoveFacts.{IsSlide, slide_step, move_slide, slide_move}
 use Rattle.gm_dao.specs.laws.BeforeFacts.{was_from}
 
 -- the board before, by the cells of the move
-taken_at : (d : List Cell) (a c : ℕ) → c < 16 → taken_back d (16 * a + c) ≡ brought_back d a c
-unfolding taken_back
+taken_at : (d : List Cell) (a c : ℕ) → c < 16 → undo d (16 * a + c) ≡ brought_back d a c
+unfolding undo
 taken_at d a c l = ap₂ (λ (p q : ℕ). brought_back d p q) (from_back a c l) (to_back a c l)
 
 -- ---- what a board before has where its slide leads to a legal board
@@ -38,13 +38,13 @@ earlier_has d e a c l w q n h =
 
 -- ---- where the game goes on
 -- the last move has not ended the game where no piece is trapped
-plays_by : (e : List Cell) → has_formation is_theirs e ≡ false → has_trapped e ≡ false → plays_on (over e) ≡ true
-unfolding over
+plays_by : (e : List Cell) → has_formation is_theirs e ≡ false → has_trapped e ≡ false → plays_on (end_by_last_move e) ≡ true
+unfolding end_by_last_move
 plays_by e f g = ap plays_on (cond-false _ _ _ f ∙ cond-false _ _ _ g)
 
 -- a piece that is trapped has ended it
-plays_not : (e : List Cell) → has_trapped e ≡ true → plays_on (over e) ≡ false
-unfolding over
+plays_not : (e : List Cell) → has_trapped e ≡ true → plays_on (end_by_last_move e) ≡ false
+unfolding end_by_last_move
 plays_not e g = elim (cases_Bool (has_formation is_theirs e)) [
   | inl f ↦ ap plays_on (cond-true _ _ _ f)
   | inr f ↦ ap plays_on (cond-false _ _ _ f ∙ cond-true _ _ _ g)
@@ -53,14 +53,16 @@ plays_not e g = elim (cases_Bool (has_formation is_theirs e)) [
 -- the slide, by the cells that the code has
 slide_number : (e : List Cell) (a c : ℕ) → c < 16 → IsSlide e a c → can_move e (16 * a + c) ≡ true
 slide_number e a c l h =
-    slide_move e (16 * a + c) (subst (λ (p : ℕ). IsSlide e p (to_point (16 * a + c))) (sym (from_back a c l)) (subst (λ (q : ℕ). IsSlide e a q) (sym (to_back a c l)) h))
+    slide_move e (16 * a + c) (subst (λ (p : ℕ). IsSlide e p (to_point (16 * a + c))) (sym (from_back a c l))
+    (subst (λ (q : ℕ). IsSlide e a q) (sym (to_back a c l)) h))
 
 number_slide : (e : List Cell) (a c : ℕ) → c < 16 → can_move e (16 * a + c) ≡ true → IsSlide e a c
 number_slide e a c l h =
     subst (λ (p : ℕ). IsSlide e p c) (from_back a c l) (subst (λ (q : ℕ). IsSlide e (from_point (16 * a + c)) q) (to_back a c l) (move_slide e (16 * a + c) h))
 
 -- ---- the board before a step that led to a legal board
-module _ (t : ℕ) (d e : List Cell) (a c : ℕ) (la : a < 16) (lc : c < 16) (l : legal d ≡ true) (w : WasStep d a c) (q : e ≡ brought_back d a c) (n : length e ≡ 16) where
+module _ (t : ℕ) (d e : List Cell) (a c : ℕ) (la : a < 16) (lc : c < 16) (l : legal d ≡ true) (w : WasStep d a c) (q : e ≡ brought_back d a c)
+    (n : length e ≡ 16) where
   mover_at : cell_at e a ≡ Mine
   mover_at =
       let x = set (map turned d) c Empty in
@@ -86,12 +88,12 @@ module _ (t : ℕ) (d e : List Cell) (a c : ℕ) (la : a < 16) (lc : c < 16) (l 
         and_both _ _ (ap not (legal_in e (and_left _ _ g)).no_formation) (ap not free),
       )
 
-  taken : taken_back d (16 * a + c) ≡ e
+  taken : undo d (16 * a + c) ≡ e
   taken = taken_at d a c lc ∙ sym q
 
   -- where a test fails there is none
   pub no_before : (slides e a c ≡ true → eqb t 0 ≡ true → is_open e ≡ true → ⊥) → before_at dao t d (16 * a + c) ≡ None
-  no_before z = before_none dao t d (16 * a + c) (λ u. elim (cases_Bool (goes_on dao t (taken_back d (16 * a + c)) (16 * a + c))) [
+  no_before z = before_none dao t d (16 * a + c) (λ u. elim (cases_Bool (goes_on dao t (undo d (16 * a + c)) (16 * a + c))) [
     | inl g ↦ absurd (let x = went_on (subst (λ (b : List Cell). goes_on dao t b (16 * a + c) ≡ true) taken g) in z x.0 x.1 x.2)
     | inr f ↦ f
   ])
@@ -111,7 +113,7 @@ module _ (t : ℕ) (d e : List Cell) (a c : ℕ) (la : a < 16) (lc : c < 16) (l 
     pub one_before : before_at dao t d (16 * a + c) ≡ Some e
     one_before =
         let m = 16 * a + c in
-        let was : was_moved d m ≡ true = was_from d m (record {
+        let was : can_have_led_here d m ≡ true = was_from d m (record {
           line = ap₂ in_line (from_back a c lc) (to_back a c lc) ∙ slide.line;
           step = subst (λ (p : ℕ). WasStep d p (to_point m)) (sym (from_back a c lc)) (subst (λ (p : ℕ). WasStep d a p) (sym (to_back a c lc)) w);
         }) in

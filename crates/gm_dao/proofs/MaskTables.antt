@@ -15,7 +15,8 @@ masks_of_formations = refl
 
 -- ---- corners
 abbrev corner_masks : ℕ → Bool
-corner_masks i = eqb (get_or CORNERS i 0) (pattern_mask (get_or corners i 0 ∷ [])) && eqb (get_or NEXT_TO_CORNERS i 0) (pattern_mask (around (get_or corners i 0)))
+corner_masks i = eqb (get_or CORNERS i 0) (pattern_mask (get_or corners i 0 ∷ [])) && eqb (get_or NEXT_TO_CORNERS i 0)
+    (pattern_mask (around (get_or corners i 0)))
 
 corners_pass : list_all corner_masks (range_with_len 0 4) ≡ true
 unfolding around

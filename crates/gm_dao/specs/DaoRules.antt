@@ -1,5 +1,6 @@
 -- The rules of Dao on boards: a board is a list of sixteen cells as the player to move sees them.
-use Rattle.std.specs.Prelude.{ℕ, ◌+◌, ◌-◌, ◌/◌, ◌%◌, max, Bool, true, not, ◌&&◌, ◌||◌, ◌==◌, nat_le, nat_lt, List, [], ◌∷◌, ◌++◌, map, length, codes, if◌then◌else◌, Option, None, Some}
+use Rattle.std.specs.Prelude.{ℕ, ◌+◌, ◌-◌, ◌/◌, ◌%◌, max, Bool, true, not, ◌&&◌, ◌||◌, ◌==◌, nat_le, nat_lt, List, [], ◌∷◌, ◌++◌, map, length, codes}
+use Rattle.std.specs.Prelude.{if◌then◌else◌, Option, None, Some}
 use Rattle.std.specs.List.{filter, list_any, range_with_len}
 use Rattle.gm_game.specs.declared.position.End.{End}
 use Rattle.gm_game.specs.declared.position.End.TheVariants.{Lose, Win}
@@ -112,13 +113,13 @@ unfoldable pub can_move : List Cell → ℕ → Bool
 can_move b m = can_go b (from_point m) (to_point m)
 
 -- all numbers of moves are below this number
-abbrev pub numbers_end : ℕ
-numbers_end = 256
+abbrev pub move_number_bound : ℕ
+move_number_bound = 256
 
 -- how the last move has ended the game, if it has: the mover loses where the opponent has a formation, which is tested first, and wins where a piece of the
 -- mover's is trapped in a corner
-unfoldable pub over : List Cell → Option End
-over b = if has_formation is_theirs b then Some Lose else (if has_trapped b then Some Win else None)
+unfoldable pub end_by_last_move : List Cell → Option End
+end_by_last_move b = if has_formation is_theirs b then Some Lose else (if has_trapped b then Some Win else None)
 
 -- a move, after which the roles swap
 unfoldable pub play : List Cell → ℕ → List Cell
@@ -126,12 +127,12 @@ play b m = gone b (from_point m) (to_point m)
 
 -- ---- moves back
 -- whether the move can have led to d: a piece of the opponent's stands where it ended, and none where it began
-unfoldable pub was_moved : List Cell → ℕ → Bool
-was_moved d m = in_line (from_point m) (to_point m) && (is_theirs (cell_at d (to_point m)) && is_empty (cell_at d (from_point m)))
+unfoldable pub can_have_led_here : List Cell → ℕ → Bool
+can_have_led_here d m = in_line (from_point m) (to_point m) && (is_theirs (cell_at d (to_point m)) && is_empty (cell_at d (from_point m)))
 
 -- the board before the move with this number
-unfoldable pub taken_back : List Cell → ℕ → List Cell
-taken_back d m = brought_back d (from_point m) (to_point m)
+unfoldable pub undo : List Cell → ℕ → List Cell
+undo d m = brought_back d (from_point m) (to_point m)
 
 -- ---- the game
 -- the name, padded with zeros
@@ -160,13 +161,13 @@ dao = record {
   name = dao_name;
   start = start_board;
   legal = legal;
-  over = over;
-  stuck = Lose;
-  numbers_end = λ t. numbers_end;
+  end_by_last_move = end_by_last_move;
+  end_if_no_move = Lose;
+  move_number_bound = λ t. move_number_bound;
   can_move = can_move;
   moved = play;
-  was_moved = λ t d m. was_moved d m;
-  taken_back = λ t d m. taken_back d m;
+  can_have_led_here = λ t d m. can_have_led_here d m;
+  undo = λ t d m. undo d m;
   symmetries = square_symmetries 4;
   image = λ g b. permute Empty g b;
   tier = λ b. 0;

@@ -4,7 +4,9 @@ ghost use Rattle.gm_board.specs.Images.{board_of};
 ghost use Rattle.gm_board.specs.Masks.{has_cell};
 ghost use Rattle.gm_pieces.specs.MoveGames.{steps};
 ghost use Rattle.gm_board.specs.Cells.{is_mine, is_theirs, number_of};
-ghost use Rattle.gm_dao.specs.DaoRules.{has_formation as has_formation_of, has_trapped as has_trapped_of, legal, can_move as can_move_of, over as over_of, play as play_of, dao};
+ghost use Rattle.gm_dao.specs.DaoRules.{has_formation as has_formation_of, has_trapped as has_trapped_of, legal, can_move as can_move_of};
+ghost use Rattle.gm_dao.specs.DaoRules.{end_by_last_move as over_of};
+ghost use Rattle.gm_dao.specs.DaoRules.{play as play_of, dao};
 ghost use Rattle.gm_dao.specs.MaskSlides.{AreMovesBelow};
 
 use crate::board::Board;
@@ -92,8 +94,8 @@ pub fn is_stuck(board: Board) -> bool
 
 /// How the last move has ended the game, if it has: the mover loses where the opponent has a formation, which is tested first, and wins where a piece of the
 /// mover's is trapped in a corner.
-#[tactic(auto, unfolding(crate::specs::DaoRules::over))]
-pub fn over(board: Board) -> Option<End>
+#[tactic(auto, unfolding(crate::specs::DaoRules::end_by_last_move))]
+pub fn end_by_last_move(board: Board) -> Option<End>
     ensures { result ≡ over_of (board_of 16 board.mine board.theirs) }
 {
     if has_their_formation(board) {
@@ -126,7 +128,7 @@ fn push_moves(list: &mut ArrayVec<u32, MOVES>, board: Board, from: u32)
 }
 
 /// The numbers of the moves that could be made if the game were not over, ascending.
-#[tactic(auto, using(gm_board::specs::Images::board_of, crate::specs::laws::BoardFacts::legal_in, crate::specs::laws::MoveFacts::steps_few, crate::proofs::LoopSteps::moves_skip, crate::proofs::LoopSteps::moves_end, gm_board::specs::NextCells::next_cell))]
+#[tactic(auto, using(gm_board::specs::Images::board_of, crate::specs::laws::BoardFacts::legal_in, crate::specs::laws::MoveFacts::steps_few, crate::proofs::LoopSteps::moves_skip, crate::proofs::LoopSteps::moves_end, gm_board::specs::laws::NextCells::next_cell))]
 pub fn open_moves(board: Board) -> ArrayVec<u32, MOVES>
     requires { legal (board_of 16 board.mine board.theirs) ≡ true }
     ensures { result.items ≡ steps dao (board_of 16 board.mine board.theirs) }

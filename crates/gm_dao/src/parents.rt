@@ -8,11 +8,11 @@ ghost use Rattle.gm_board.specs.Images.{board_of};
 ghost use Rattle.gm_board.specs.Cells.{is_empty, cell_at};
 ghost use Rattle.gm_pieces.specs.Sides.{WasStep};
 ghost use Rattle.gm_pieces.specs.MoveGames.{goes_on as goes_on_of, before_at, befores};
-ghost use Rattle.gm_dao.specs.DaoRules.{was_moved as was_moved_of, taken_back as taken_back_of, legal, slides as slides_of, least_index_of, dao};
+ghost use Rattle.gm_dao.specs.DaoRules.{can_have_led_here as was_moved_of, undo as taken_back_of, legal, slides as slides_of, least_index_of, dao};
 ghost use Rattle.gm_dao.specs.MaskSlides.{is_open as is_open_of, AreBeforesBelow};
 
 use crate::board::{Board, least_index};
-use crate::moves::{can_move, has_own_formation, is_legal_board, is_trapped, over};
+use crate::moves::{can_move, end_by_last_move, has_own_formation, is_legal_board, is_trapped};
 use crate::slides::{are_in_line, can_slide, in_line_with};
 use arrayvec::ArrayVec;
 use gm_game::limits::PARENTS;
@@ -23,8 +23,8 @@ use gm_pieces::step::Step;
 const CELLS: u32 = 0xffff;
 
 /// Whether the move with this number can have led to the board.
-#[tactic(auto, using(crate::proofs::MoveSteps::from_below, crate::proofs::MoveSteps::to_below), unfolding(crate::specs::DaoRules::was_moved))]
-pub fn was_moved(board: Board, number: u32) -> bool
+#[tactic(auto, using(crate::proofs::MoveSteps::from_below, crate::proofs::MoveSteps::to_below), unfolding(crate::specs::DaoRules::can_have_led_here))]
+pub fn can_have_led_here(board: Board, number: u32) -> bool
     requires { number < 256 }
     ensures { result ≡ was_moved_of (board_of 16 board.mine board.theirs) number }
 {
@@ -36,8 +36,8 @@ pub fn was_moved(board: Board, number: u32) -> bool
 }
 
 /// The board before the move with this number.
-#[tactic(auto, unfolding(crate::specs::DaoRules::taken_back))]
-pub fn taken_back(board: Board, number: u32) -> Board
+#[tactic(auto, unfolding(crate::specs::DaoRules::undo))]
+pub fn undo(board: Board, number: u32) -> Board
     requires { was_moved_of (board_of 16 board.mine board.theirs) number ≡ true }
     ensures { board_of 16 result.mine result.theirs ≡ taken_back_of (board_of 16 board.mine board.theirs) number }
 {
@@ -50,7 +50,10 @@ pub fn goes_on(tier: u64, board: Board, number: u32) -> bool
     requires { number < 256 }
     ensures { result ≡ goes_on_of dao tier (board_of 16 board.mine board.theirs) number }
 {
-    tier == 0 && can_move(board, number) && is_legal_board(board) && over(board).is_none()
+    tier == 0
+        && can_move(board, number)
+        && is_legal_board(board)
+        && end_by_last_move(board).is_none()
 }
 
 // Whether a piece slides on the board from one cell to another.
@@ -72,7 +75,7 @@ fn is_open(board: Board) -> bool
 
 // The board of the tier before the opponent's piece went from one cell to another, if there is one. That the board after it is legal leaves little to be
 // tested: each side has its pieces, and the other side no formation.
-#[tactic(auto, using(gm_board::specs::Images::board_length, gm_pieces::specs::laws::MaskFacts::was_within, crate::proofs::BeforeSteps::no_before, crate::proofs::BeforeSteps::earlier_legal, crate::proofs::BeforeSteps::one_before))]
+#[tactic(auto, using(gm_board::specs::laws::Images::board_length, gm_pieces::specs::laws::MaskFacts::was_within, crate::proofs::BeforeSteps::no_before, crate::proofs::BeforeSteps::earlier_legal, crate::proofs::BeforeSteps::one_before))]
 fn gone_before(tier: u64, board: Board, from: u32, to: u32) -> Option<Board>
     requires from { from < 16 }
     requires legal { legal (board_of 16 board.mine board.theirs) ≡ true }
@@ -94,7 +97,7 @@ fn gone_before(tier: u64, board: Board, from: u32, to: u32) -> Option<Board>
 }
 
 // Puts into the list the least indexes of the boards before the moves that leave a cell.
-#[tactic(auto, using(gm_board::specs::NextCells::next_cell, gm_board::specs::NextCells::cell_below, crate::proofs::LoopSteps::moved_within, crate::proofs::LoopSteps::befores_end))]
+#[tactic(auto, using(gm_board::specs::laws::NextCells::next_cell, gm_board::specs::laws::NextCells::cell_below, crate::proofs::LoopSteps::moved_within, crate::proofs::LoopSteps::befores_end))]
 fn put_befores(list: &mut ArrayVec<u64, PARENTS>, tier: u64, board: Board, from: u32)
     requires cell { from < 16 }
     requires free { is_empty (cell_at (board_of 16 board.mine board.theirs) from) ≡ true }

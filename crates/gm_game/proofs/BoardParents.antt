@@ -10,7 +10,8 @@ use Rattle.gm_game.specs.Ascending.{put_all}
 use Rattle.gm_game.specs.Boards.{BoardGame, position_of, board_of, least_index, least_image, rules_of, IsBoardGame, IsNumbered, IsSymmetric, IsBefore}
 use Rattle.gm_game.proofs.Lists.{map_in, map_from}
 use Rattle.gm_game.proofs.Putting.{put_all_ascending, put_all_from, put_all_later, put_all_few}
-use Rattle.gm_game.proofs.BoardLaws.{legal_board, legal_below, board_back, position_legal, least_image_is, least_image_same, canonical_child_from, canonical_child_to, own_tier, image_child, canonical_board, canonical_legal, from_canonical, to_canonical}
+use Rattle.gm_game.proofs.BoardLaws.{legal_board, legal_below, board_back, position_legal, least_image_is, least_image_same, canonical_child_from}
+use Rattle.gm_game.proofs.BoardLaws.{canonical_child_to, own_tier, image_child, canonical_board, canonical_legal, from_canonical, to_canonical}
 
 is_parent : {B S : Type 0} (r : BoardGame B S) → IsBoardGame r → IsNumbered r → IsSymmetric r → (c : Position) (t : ℕ) (b : B)
     → (rules_of r).is_legal c ≡ true → (rules_of r).canonical c ≡ c → IsBefore r t (board_of r c) b → IsParent (rules_of r) c t (least_index r b)
@@ -84,12 +85,15 @@ parents_listed r g n s c t befores l k all xs e = (
 )
 
 -- the parents of the rules
-listed : {B S : Type 0} (r : BoardGame B S) → IsBoardGame r → IsNumbered r → IsSymmetric r → (c : Position) (t : ℕ) → ((rules_of r).is_legal c ≡ true) × ((rules_of r).canonical c ≡ c)
+listed : {B S : Type 0} (r : BoardGame B S) → IsBoardGame r → IsNumbered r → IsSymmetric r → (c : Position) (t : ℕ) → ((rules_of r).is_legal c ≡ true) ×
+    ((rules_of r).canonical c ≡ c)
     → IsAscending ((rules_of r).parents c t) × ((i : ℕ) → Contains ((rules_of r).parents c t) i ↔ IsParent (rules_of r) c t i)
 listed r g n s c t k =
-    parents_listed r g n s c t (r.befores t (board_of r c)) k.0 k.1 (λ b. g.befores_exact t (board_of r c) b (legal_board r c k.0)) ((rules_of r).parents c t) refl
+    parents_listed r g n s c t (r.befores t (board_of r c)) k.0 k.1 (λ b. g.befores_exact t (board_of r c) b (legal_board r c k.0))
+    ((rules_of r).parents c t) refl
 
-parents_few : {B S : Type 0} (r : BoardGame B S) → IsBoardGame r → (c : Position) (t : ℕ) → (rules_of r).is_legal c ≡ true → length ((rules_of r).parents c t) ≤ PARENTS
+parents_few : {B S : Type 0} (r : BoardGame B S) → IsBoardGame r → (c : Position) (t : ℕ) → (rules_of r).is_legal c ≡ true → length
+    ((rules_of r).parents c t) ≤ PARENTS
 parents_few r g c t l =
     let befores = r.befores t (board_of r c) in
     let few = g.befores_few t (board_of r c) (legal_board r c l) in

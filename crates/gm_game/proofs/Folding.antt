@@ -1,5 +1,6 @@
 -- The least and the greatest with one more record at the end, and how large they can be.
-use Rattle.std.proofs.Common.{◌≡◌, ℕ, zero, suc, ◌<◌, ◌≤◌, ◌+◌, ◌^◌, min, max, Bool, true, false, ◌&&◌, List, [], ◌∷◌, ◌++◌, map, take, length, get_or, Contains, IfSome, refl, ap, ◌∙◌, subst, arith, Option, None, Some, is_some}
+use Rattle.std.proofs.Common.{◌≡◌, ℕ, zero, suc, ◌<◌, ◌≤◌, ◌+◌, ◌^◌, min, max, Bool, true, false, ◌&&◌, List, [], ◌∷◌, ◌++◌, map, take, length, get_or}
+use Rattle.std.proofs.Common.{Contains, IfSome, refl, ap, ◌∙◌, subst, arith, Option, None, Some, is_some}
 use Rattle.std.specs.List.{list_all}
 use Rattle.gm_game.specs.declared.position.Position.{Position}
 use Rattle.gm_game.specs.declared.position.Value.{Value}
@@ -76,22 +77,27 @@ unfolding AllSmall
 won_small b [] h = omega arith
 won_small b (x ∷ xs) h = greater_small (won_in x) (all_won xs) b (h x (contains_first x xs)) (won_small b xs (λ o i. h o (contains_later x o xs i)))
 
-small_record : (v : Value) (k b : ℕ) → k ≤ b → IfSome (lost_in (Some (solved v k))) (λ x. x ≤ b) × IfSome (won_in (Some (solved v k))) (λ x. x ≤ b) × IfSome (tied_in (Some (solved v k))) (λ x. x ≤ b)
+small_record : (v : Value) (k b : ℕ) → k ≤ b → IfSome (lost_in (Some (solved v k))) (λ x. x ≤ b) × IfSome (won_in (Some (solved v k))) (λ x. x ≤ b) × IfSome
+    (tied_in (Some (solved v k))) (λ x. x ≤ b)
 small_record Lose k b l = (l, tt, tt)
 small_record Draw k b l = (tt, tt, tt)
 small_record Tie k b l = (tt, tt, l)
 small_record Win k b l = (tt, l, tt)
 
-small_evaluated : (r : Rules) (n : ℕ) (d : Position) (o : Option Solved) → IsEvaluated r n d o → IfSome (lost_in o) (λ x. x ≤ n) × IfSome (won_in o) (λ x. x ≤ n) × IfSome (tied_in o) (λ x. x ≤ n)
+small_evaluated : (r : Rules) (n : ℕ) (d : Position) (o : Option Solved) → IsEvaluated r n d o → IfSome (lost_in o) (λ x. x ≤ n) × IfSome (won_in o)
+    (λ x. x ≤ n) × IfSome (tied_in o) (λ x. x ≤ n)
 small_evaluated r n d None e = (tt, tt, tt)
 small_evaluated r n d (Some s) e = small_record s.value s.remoteness n e.1
 
 -- what is known of the children within n moves is at most n
-pub evaluated_small : (r : Rules) (g : IsGame r) (n : ℕ) (p : Position) → r.is_legal p ≡ true → let os = map (evaluated r n) (children r p) in IfSome (least_of lost_in os) (λ x. x ≤ n) × IfSome (all_won os) (λ x. x ≤ n) × IfSome (least_of tied_in os) (λ x. x ≤ n)
+pub evaluated_small : (r : Rules) (g : IsGame r) (n : ℕ) (p : Position) → r.is_legal p ≡ true → let os = map (evaluated r n) (children r p) in IfSome
+    (least_of lost_in os) (λ x. x ≤ n) × IfSome (all_won os) (λ x. x ≤ n) × IfSome (least_of tied_in os) (λ x. x ≤ n)
 unfolding AllSmall
 evaluated_small r g n p l =
     let os = map (evaluated r n) (children r p) in
-    let each : (o : Option Solved) → Contains os o → IfSome (lost_in o) (λ x. x ≤ n) × IfSome (won_in o) (λ x. x ≤ n) × IfSome (tied_in o) (λ x. x ≤ n) = λ o i. (let (d, j, e) = map_in (evaluated r n) (children r p) o i in small_evaluated r n d o (subst (λ x. IsEvaluated r n d x) e (evaluated_true r g n d (child_legal r g p d l j)))) in
+    let each : (o : Option Solved) → Contains os o → IfSome (lost_in o) (λ x. x ≤ n) × IfSome (won_in o) (λ x. x ≤ n) × IfSome (tied_in o) (λ x. x ≤ n) =
+    λ o i. (let (d, j, e) = map_in (evaluated r n) (children r p) o i in small_evaluated r n d o
+    (subst (λ x. IsEvaluated r n d x) e (evaluated_true r g n d (child_legal r g p d l j)))) in
     (least_small lost_in n os (λ o i. (each o i).0), won_small n os (λ o i. (each o i).1), least_small tied_in n os (λ o i. (each o i).2))
 
 pub fits_since : (a : Option ℕ) (n : ℕ) → IfSome a (λ x. x ≤ n) → n + 1 < 2 ^ 32 → IfSome a (λ k. k + 1 < 2 ^ 32)
@@ -99,7 +105,8 @@ fits_since None n h l = tt
 fits_since (Some k) n h l = omega arith
 
 -- one more child
-pub one_more : {Y : Type 0} (f : Position → Y) (play : ℕ → Position) (xs : List ℕ) (i d : ℕ) → i < length xs → map f (map play (take (i + 1) xs)) ≡ map f (map play (take i xs)) ++ f (play (get_or xs i d)) ∷ []
+pub one_more : {Y : Type 0} (f : Position → Y) (play : ℕ → Position) (xs : List ℕ) (i d : ℕ) → i < length xs → map f (map play (take (i + 1) xs)) ≡ map f
+    (map play (take i xs)) ++ f (play (get_or xs i d)) ∷ []
 one_more f play xs i d l = ap (map f) (map_more play xs i d l) ∙ map-append f (map play (take i xs)) (play (get_or xs i d) ∷ [])
 
 pub evaluated_open : (r : Rules) (n m : ℕ) (p : Position) → r.primitive p ≡ None → m ≡ n + 1 → evaluated r m p ≡ evaluate (map (evaluated r n) (children r p))

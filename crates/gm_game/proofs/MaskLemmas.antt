@@ -1,5 +1,6 @@
 -- What a mask picks from an ascending list.
-use Rattle.std.proofs.Common.{◌≡◌, ◌≢◌, ℕ, zero, suc, ◌+◌, ◌≤◌, ◌⊎◌, inl, inr, ⊎_elim, Bool, true, false, List, [], ◌∷◌, refl, ap, sym, subst, ◌∙◌, arith, if◌then◌else◌, true≢false, ◌==◌, Some}
+use Rattle.std.proofs.Common.{◌≡◌, ◌≢◌, ℕ, zero, suc, ◌+◌, ◌≤◌, ◌⊎◌, inl, inr, ⊎_elim, Bool, true, false, List, [], ◌∷◌, refl, ap, sym, subst, ◌∙◌, arith}
+use Rattle.std.proofs.Common.{if◌then◌else◌, true≢false, ◌==◌, Some}
 use Rattle.std.specs.List.{Contains, slice_get, AllByRecursion}
 use Rattle.std.specs.Int.{bit_at}
 use Rattle.std.proofs.lemmas.Bool.Decides.{Decides-eqb}
@@ -37,7 +38,8 @@ pub picked_of : (k : ℕ) (cs : List Position) (m : ℕ) (x : Position) → Cont
 picked_of k [] m x h = h
 picked_of k (q ∷ qs) m x h =
     ⊎_elim
-    (λ (e : bit_at m k ≡ 1). ⊎_elim (λ (s : q ≡ x). subst (λ (y : Position). Contains (q ∷ qs) y) s (has_head q qs)) (λ (t : Contains (picked_from (suc k) qs m) x). has_tail q x qs (picked_of (suc k) qs m x t))
+    (λ (e : bit_at m k ≡ 1). ⊎_elim (λ (s : q ≡ x). subst (λ (y : Position). Contains (q ∷ qs) y) s (has_head q qs))
+    (λ (t : Contains (picked_from (suc k) qs m) x). has_tail q x qs (picked_of (suc k) qs m x t))
     (has_cases q x (picked_from (suc k) qs m) (subst (λ (l : List Position). Contains l x) (picked_in k q qs m e) h)))
     (λ (ne : bit_at m k ≢ 1). has_tail q x qs (picked_of (suc k) qs m x (subst (λ (l : List Position). Contains l x) (picked_out k q qs m ne) h)))
     (bit_cases m k)
@@ -91,7 +93,8 @@ pub with_past : (p q : Position) (qs : List Position) → is_before q p ≡ true
 with_past p q qs b = ap (λ (t : Bool). if t then q ∷ with_position p qs else (if is_same q p then q ∷ qs else p ∷ q ∷ qs)) b
 
 -- one more bit is one more position
-pub picked_with : (k i : ℕ) (cs : List Position) (m n : ℕ) (c : Position) → AreAscending cs → slice_get cs i ≡ Some c → bit_at m (k + i) ≢ 1 → bit_at n (k + i) ≡ 1
+pub picked_with : (k i : ℕ) (cs : List Position) (m n : ℕ) (c : Position) → AreAscending cs → slice_get cs i ≡ Some c → bit_at m (k + i) ≢ 1 → bit_at n
+    (k + i) ≡ 1
     → ((j : ℕ) → j ≢ k + i → bit_at n j ≡ bit_at m j) → picked_from k cs n ≡ with_position c (picked_from k cs m)
 picked_with k i [] m n c up e old new other = absurd (cc)
 picked_with k zero (q ∷ qs) m n c up e old new other =
@@ -102,16 +105,20 @@ picked_with k zero (q ∷ qs) m n c up e old new other =
     let old' : bit_at m k ≢ 1 = subst (λ (j : ℕ). bit_at m j ≢ 1) here old in
     let front = with_front q (picked_from (suc k) qs m) (picked_all (λ x. is_before q x ≡ true) (suc k) qs m up.0) in
     subst (λ (x : Position). picked_from k (q ∷ qs) n ≡ with_position x (picked_from k (q ∷ qs) m)) s
-    (picked_in k q qs n new' ∙ ap (λ (l : List Position). q ∷ l) rest ∙ sym front ∙ ap (λ (l : List Position). with_position q l) (sym (picked_out k q qs m old')))
+    (picked_in k q qs n new' ∙ ap (λ (l : List Position). q ∷ l) rest ∙ sym front ∙ ap (λ (l : List Position). with_position q l)
+    (sym (picked_out k q qs m old')))
 picked_with k (suc i) (q ∷ qs) m n c up e old new other =
     let here : k + suc i ≡ suc k + i = omega arith in
     let rec : picked_from (suc k) qs n ≡ with_position c (picked_from (suc k) qs m) =
-    picked_with (suc k) i qs m n c up.1 e (subst (λ (j : ℕ). bit_at m j ≢ 1) here old) (subst (λ (j : ℕ). bit_at n j ≡ 1) here new) (λ j ne. other j (λ z. ne (z ∙ here))) in
+    picked_with (suc k) i qs m n c up.1 e (subst (λ (j : ℕ). bit_at m j ≢ 1) here old) (subst (λ (j : ℕ). bit_at n j ≡ 1) here new)
+    (λ j ne. other j (λ z. ne (z ∙ here))) in
     let first : bit_at n k ≡ bit_at m k = other k (λ z. omega arith) in
     let b : is_before q c ≡ true = all_there (λ x. is_before q x ≡ true) qs c up.0 (at_place qs i c e) in
     ⊎_elim
-    (λ (o : bit_at m k ≡ 1). picked_in k q qs n (first ∙ o) ∙ ap (λ (l : List Position). q ∷ l) rec ∙ sym (with_past c q (picked_from (suc k) qs m) b) ∙ ap (λ (l : List Position). with_position c l) (sym (picked_in k q qs m o)))
-    (λ (ne : bit_at m k ≢ 1). picked_out k q qs n (λ z. ne (sym first ∙ z)) ∙ rec ∙ ap (λ (l : List Position). with_position c l) (sym (picked_out k q qs m ne)))
+    (λ (o : bit_at m k ≡ 1). picked_in k q qs n (first ∙ o) ∙ ap (λ (l : List Position). q ∷ l) rec ∙ sym (with_past c q (picked_from (suc k) qs m) b) ∙ ap
+    (λ (l : List Position). with_position c l) (sym (picked_in k q qs m o)))
+    (λ (ne : bit_at m k ≢ 1). picked_out k q qs n (λ z. ne (sym first ∙ z)) ∙ rec ∙ ap (λ (l : List Position). with_position c l)
+    (sym (picked_out k q qs m ne)))
     (bit_cases m k)
 
 -- a set bit picks its position
@@ -131,12 +138,14 @@ picked_has k (suc i) (q ∷ qs) m c e b =
     (bit_cases m k)
 
 -- a position whose bit is not set is not picked
-pub picked_lacks : (k i : ℕ) (cs : List Position) (m : ℕ) (c : Position) → AreAscending cs → slice_get cs i ≡ Some c → bit_at m (k + i) ≢ 1 → Contains (picked_from k cs m) c → ⊥
+pub picked_lacks : (k i : ℕ) (cs : List Position) (m : ℕ) (c : Position) → AreAscending cs → slice_get cs i ≡ Some c → bit_at m (k + i) ≢ 1 → Contains
+    (picked_from k cs m) c → ⊥
 picked_lacks k i [] m c up e b h = absurd (cc)
 picked_lacks k zero (q ∷ qs) m c up e b h =
     let here : k + 0 ≡ k = omega arith in
     let s : q ≡ c = cc in
-    let l : Contains qs c = picked_of (suc k) qs m c (subst (λ (l : List Position). Contains l c) (picked_out k q qs m (subst (λ (j : ℕ). bit_at m j ≢ 1) here b)) h) in
+    let l : Contains qs c = picked_of (suc k) qs m c (subst (λ (l : List Position). Contains l c)
+    (picked_out k q qs m (subst (λ (j : ℕ). bit_at m j ≢ 1) here b)) h) in
     before_itself c (subst (λ (x : Position). is_before x c ≡ true) s (all_there (λ x. is_before q x ≡ true) qs c up.0 l))
 picked_lacks k (suc i) (q ∷ qs) m c up e b h =
     let here : k + suc i ≡ suc k + i = omega arith in

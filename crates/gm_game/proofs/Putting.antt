@@ -1,5 +1,6 @@
 -- Numbers put into an ascending list, one at a time.
-use Rattle.std.proofs.Common.{◌≡◌, ℕ, ◌+◌, ◌<◌, ◌≤◌, true, false, ltb, eqb, List, [], ◌∷◌, length, get_or, zero, suc, lt-ltb, ◌⊎◌, inl, inr, refl, sym, subst, arith}
+use Rattle.std.proofs.Common.{◌≡◌, ℕ, ◌+◌, ◌<◌, ◌≤◌, true, false, ltb, eqb, List, [], ◌∷◌, length, get_or, zero, suc, lt-ltb, ◌⊎◌, inl, inr, refl, sym, subst}
+use Rattle.std.proofs.Common.{arith}
 use Rattle.std.proofs.lemmas.Bool.Decides.{nat_tests}
 use Rattle.std.proofs.lemmas.Bool.{cases_lt, cases_eq}
 use Rattle.std.specs.List.{Contains, insert}
@@ -8,7 +9,8 @@ use Rattle.gm_game.specs.Ascending.{put, put_all}
 use Rattle.gm_game.proofs.Lists.{contains_first, contains_later, contains_cases}
 
 -- put, where what stands before the place is less and what stands at it is greater
-pub put_at : (x : ℕ) (ys : List ℕ) (i : ℕ) → i ≤ length ys → ((k : ℕ) → k < i → get_or ys k 0 < x) → (i < length ys → x < get_or ys i 0) → put x ys ≡ insert ys i x
+pub put_at : (x : ℕ) (ys : List ℕ) (i : ℕ) → i ≤ length ys → ((k : ℕ) → k < i → get_or ys k 0 < x) → (i < length ys → x < get_or ys i 0) → put x ys ≡ insert
+    ys i x
 put_at x [] zero l before here = refl
 put_at x [] (suc i) l before here = absurd (omega arith)
 put_at x (y ∷ ys) zero l before here = rw (lt-ltb x y (here (omega arith))) refl
@@ -62,7 +64,8 @@ put_ascending x (y ∷ ys) s = elim (cases_lt x y) [
   | inr g ↦ elim (cases_eq x y) [
     | inl e ↦ let a : ltb x y ≡ false = grind (arith, nat_tests) in let b : eqb x y ≡ true = grind (arith, nat_tests) in rw (a, b) s
     | inr n ↦ let a : ltb x y ≡ false = grind (arith, nat_tests) in let b : eqb x y ≡ false = grind (arith, nat_tests) in
-        let r : IsAscending (y ∷ put x ys) = ascending_cons y (put x ys) (put_above y x ys (omega arith) (ascending_above y ys s)) (put_ascending x ys (ascending_tail y ys s)) in
+        let r : IsAscending (y ∷ put x ys) = ascending_cons y (put x ys) (put_above y x ys (omega arith) (ascending_above y ys s))
+        (put_ascending x ys (ascending_tail y ys s)) in
         rw (a, b) r
   ]
 ]
@@ -136,7 +139,8 @@ put_few x (y ∷ ys) = elim (cases_lt x y) [
   | inl l ↦ rw (lt-ltb x y l) (omega arith)
   | inr g ↦ elim (cases_eq x y) [
     | inl e ↦ let a : ltb x y ≡ false = grind (arith, nat_tests) in let b : eqb x y ≡ true = grind (arith, nat_tests) in rw (a, b) (omega arith)
-    | inr n ↦ let a : ltb x y ≡ false = grind (arith, nat_tests) in let b : eqb x y ≡ false = grind (arith, nat_tests) in let h = put_few x ys in rw (a, b) (omega arith)
+    | inr n ↦ let a : ltb x y ≡ false = grind (arith, nat_tests) in let b : eqb x y ≡ false = grind (arith, nat_tests) in let h = put_few x ys in rw (a, b)
+        (omega arith)
   ]
 ]
 

@@ -1,5 +1,6 @@
 -- Sets of positions as ascending lists.
-use Rattle.std.proofs.Common.{◌≡◌, ℕ, zero, suc, ◌+◌, ◌≤◌, ◌⊎◌, inl, inr, ⊎_elim, Bool, true, false, List, [], ◌∷◌, take, length, refl, ap, sym, subst, ◌∙◌, arith, cond, if◌then◌else◌, true≢false}
+use Rattle.std.proofs.Common.{◌≡◌, ℕ, zero, suc, ◌+◌, ◌≤◌, ◌⊎◌, inl, inr, ⊎_elim, Bool, true, false, List, [], ◌∷◌, take, length, refl, ap, sym, subst, ◌∙◌}
+use Rattle.std.proofs.Common.{arith, cond, if◌then◌else◌, true≢false}
 use Rattle.std.proofs.Common.{Some}
 use Rattle.std.specs.List.{slice_get, Contains, insert as insert_at, AllByRecursion, prefix_len, IsDistinct}
 use Rattle.std.proofs.lemmas.Bool.Decides.{nat_tests}
@@ -60,7 +61,8 @@ pub has_old : (p x : Position) (qs : List Position) → Contains qs x → Contai
 has_old p x [] h = absurd (has_none x h)
 has_old p x (q ∷ qs) h =
     elim (is_before q p) as (λ b. Contains (if b then q ∷ with_position p qs else (if is_same q p then q ∷ qs else p ∷ q ∷ qs)) x) [
-      | true ↦ ⊎_elim (λ (e : q ≡ x). subst (λ (y : Position). Contains (q ∷ with_position p qs) y) e (has_head q _)) (λ (t : Contains qs x). has_tail q x _ (has_old p x qs t)) (has_cases q x qs h)
+      | true ↦ ⊎_elim (λ (e : q ≡ x). subst (λ (y : Position). Contains (q ∷ with_position p qs) y) e (has_head q _))
+          (λ (t : Contains qs x). has_tail q x _ (has_old p x qs t)) (has_cases q x qs h)
       | false ↦ elim (is_same q p) as (λ s. Contains (if s then q ∷ qs else p ∷ q ∷ qs) x) [
         | true ↦ h
         | false ↦ has_tail p x (q ∷ qs) h
@@ -70,7 +72,8 @@ has_old p x (q ∷ qs) h =
 pub with_cases : (p x : Position) (qs : List Position) → Contains (with_position p qs) x → (p ≡ x) ⊎ Contains qs x
 with_cases p x [] = λ h. has_cases p x [] h
 with_cases p x (q ∷ qs) =
-    elim (is_before q p) as (λ b. Contains (if b then q ∷ with_position p qs else (if is_same q p then q ∷ qs else p ∷ q ∷ qs)) x → (p ≡ x) ⊎ Contains (q ∷ qs) x) [
+    elim (is_before q p) as (λ b. Contains (if b then q ∷ with_position p qs else (if is_same q p then q ∷ qs else p ∷ q ∷ qs)) x → (p ≡ x) ⊎ Contains
+    (q ∷ qs) x) [
       | true ↦ λ h. ⊎_elim (λ (e : q ≡ x). inr (subst (λ (y : Position). Contains (q ∷ qs) y) e (has_head q qs)))
           (λ (t : Contains (with_position p qs) x). ⊎_elim (λ (e : p ≡ x). inl e) (λ (o : Contains qs x). inr (has_tail q x qs o)) (with_cases p x qs t))
           (has_cases q x _ h)
@@ -89,7 +92,8 @@ all_with P p (q ∷ qs) here all =
       | false ↦ elim (is_same q p) as (λ s. AllByRecursion P (if s then q ∷ qs else p ∷ q ∷ qs)) [ true ↦ all | false ↦ (here, all) ]
     ]
 
-pub all_after : (p q : Position) (qs : List Position) → is_before p q ≡ true → AllByRecursion (λ x. is_before q x ≡ true) qs → AllByRecursion (λ x. is_before p x ≡ true) qs
+pub all_after : (p q : Position) (qs : List Position) → is_before p q ≡ true → AllByRecursion (λ x. is_before q x ≡ true) qs → AllByRecursion
+    (λ x. is_before p x ≡ true) qs
 all_after p q [] b all = tt
 all_after p q (x ∷ qs) b all = (before_trans p q x b all.0, all_after p q qs b all.1)
 
@@ -127,13 +131,16 @@ with_there_at p (q ∷ qs) e =
 pub with_insert_at : (p : Position) (qs : List Position) → (slice_get qs (place_in p qs) ≡ Some p → ⊥) → with_position p qs ≡ insert_at qs (place_in p qs) p
 with_insert_at p [] absent = refl
 with_insert_at p (q ∷ qs) absent =
-    elim (is_before q p) as (λ b. is_before q p ≡ b → (if b then q ∷ with_position p qs else (if is_same q p then q ∷ qs else p ∷ q ∷ qs)) ≡ insert_at (q ∷ qs) (place_in p (q ∷ qs)) p) [
+    elim (is_before q p) as (λ b. is_before q p ≡ b → (if b then q ∷ with_position p qs else (if is_same q p then q ∷ qs else p ∷ q ∷ qs)) ≡ insert_at
+    (q ∷ qs) (place_in p (q ∷ qs)) p) [
       | true ↦ λ b. let m = place_more p q qs b in
-          ap (λ (l : List Position). q ∷ l) (with_insert_at p qs (λ e. absent (ap (λ (k : ℕ). slice_get (q ∷ qs) k) m ∙ e))) ∙ ap (λ (n : ℕ). insert_at (q ∷ qs) n p) (sym m)
-      | false ↦ λ b. let m = place_none p q qs b in elim (is_same q p) as (λ s. is_same q p ≡ s → (if s then q ∷ qs else p ∷ q ∷ qs) ≡ insert_at (q ∷ qs) (place_in p (q ∷ qs)) p) [
-        | true ↦ λ s. absurd (absent (ap (λ (k : ℕ). slice_get (q ∷ qs) k) m ∙ ap Some (is_same_means q p s)))
-        | false ↦ λ _. ap (λ (n : ℕ). insert_at (q ∷ qs) n p) (sym m)
-      ] refl
+          ap (λ (l : List Position). q ∷ l) (with_insert_at p qs (λ e. absent (ap (λ (k : ℕ). slice_get (q ∷ qs) k) m ∙ e))) ∙ ap
+          (λ (n : ℕ). insert_at (q ∷ qs) n p) (sym m)
+      | false ↦ λ b. let m = place_none p q qs b in elim (is_same q p) as (λ s. is_same q p ≡ s → (if s then q ∷ qs else p ∷ q ∷ qs) ≡ insert_at (q ∷ qs)
+          (place_in p (q ∷ qs)) p) [
+            | true ↦ λ s. absurd (absent (ap (λ (k : ℕ). slice_get (q ∷ qs) k) m ∙ ap Some (is_same_means q p s)))
+            | false ↦ λ _. ap (λ (n : ℕ). insert_at (q ∷ qs) n p) (sym m)
+          ] refl
     ] refl
 
 -- a new position makes the list longer by one
@@ -195,7 +202,8 @@ no_longer xs ys up within =
     (λ q h. (is_member-Decides is_same_decides ys q).1 (within q ((is_member-Decides is_same_decides xs q).0 h)))
 
 -- and shorter, where it lacks one
-pub shorter : (xs ys : List Position) (c : Position) → AreAscending xs → ((x : Position) → Contains xs x → Contains ys x) → Contains ys c → (Contains xs c → ⊥) → length xs + 1 ≤ length ys
+pub shorter : (xs ys : List Position) (c : Position) → AreAscending xs → ((x : Position) → Contains xs x → Contains ys x) → Contains ys c →
+    (Contains xs c → ⊥) → length xs + 1 ≤ length ys
 shorter xs ys c up within there absent =
     let l : length (with_position c xs) ≤ length ys =
     no_longer (with_position c xs) ys (ascending_with c xs up)
@@ -203,11 +211,13 @@ shorter xs ys c up within there absent =
     let e = length_with c xs absent in omega arith
 
 -- a list that is as long has all of it
-pub has_all : (xs ys : List Position) → AreAscending xs → ((x : Position) → Contains xs x → Contains ys x) → length xs ≡ length ys → (x : Position) → Contains ys x → Contains xs x
+pub has_all : (xs ys : List Position) → AreAscending xs → ((x : Position) → Contains xs x → Contains ys x) → length xs ≡ length ys → (x : Position) →
+    Contains ys x → Contains xs x
 has_all xs ys up within same x there =
     elim (is_member is_same xs x) as (λ b. is_member is_same xs x ≡ b → Contains xs x) [
       | true ↦ λ e. (is_member-Decides is_same_decides xs x).0 e
-      | false ↦ λ e. absurd (let l : length xs + 1 ≤ length ys = shorter xs ys x up within there (λ h. true≢false (sym ((is_member-Decides is_same_decides xs x).1 h) ∙ e)) in omega arith)
+      | false ↦ λ e. absurd (let l : length xs + 1 ≤ length ys = shorter xs ys x up within there
+          (λ h. true≢false (sym ((is_member-Decides is_same_decides xs x).1 h) ∙ e)) in omega arith)
     ] refl
 
 pub before_itself : (p : Position) → is_before p p ≡ true → ⊥

@@ -15,7 +15,8 @@ within_same None (Some k) h = absurd ((h k).1 (omega arith))
 within_same (Some k) None h = absurd ((h k).0 (omega arith))
 within_same (Some k) (Some m) h = let x = (h k).0 (omega arith) in let y = (h m).1 (omega arith) in let e : k ≡ m = omega arith in ap Some e
 
-least_same : (f : Option Solved → Option ℕ) (os os' : List (Option Solved)) → ((o : Option Solved) → Contains os o ↔ Contains os' o) → least_of f os ≡ least_of f os'
+least_same : (f : Option Solved → Option ℕ) (os os' : List (Option Solved)) → ((o : Option Solved) → Contains os o ↔ Contains os' o) → least_of f os ≡
+    least_of f os'
 least_same f os os' h =
     within_same (least_of f os) (least_of f os') (λ n. (
       λ w. (let (o, i, v) = least_in f os n w in least_from f os' n o ((h o).0 i) v),
@@ -37,7 +38,8 @@ from_children_same os os' h =
     cc
 
 -- so the rules may read the children in any list of them
-pub settled_by_list : (r : Rules) (look : Position → Option Solved) (p : Position) (cs : List Position) → r.primitive p ≡ None → ((c : Position) → Contains cs c ↔ IsCanonicalChild r p c) → settled_by r look p ≡ from_children (map look cs)
+pub settled_by_list : (r : Rules) (look : Position → Option Solved) (p : Position) (cs : List Position) → r.primitive p ≡ None →
+    ((c : Position) → Contains cs c ↔ IsCanonicalChild r p c) → settled_by r look p ≡ from_children (map look cs)
 settled_by_list r look p cs o h =
     let ds = map r.canonical (children r p) in
     settled_open r look p o ∙ from_children_same (map look ds) (map look cs) (λ x. (

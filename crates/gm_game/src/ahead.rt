@@ -1,7 +1,8 @@
 //! Looking ahead: values by the definitions themselves, over raw positions.
 ghost use Rattle.std.specs.Prelude.{◌≡◌, ℕ, true, ◌+◌, ◌<◌, ◌^◌, IfSome};
 ghost use Rattle.gm_game.specs.Evaluation.{evaluated, IsEvaluated, choose as choose_spec};
-ghost use Rattle.gm_game.specs.Records.{solved, lesser as lesser_spec, greater as greater_spec, lost_in as lost_in_spec, won_in as won_in_spec, tied_in as tied_in_spec};
+ghost use Rattle.gm_game.specs.Records.{solved, lesser as lesser_spec, greater as greater_spec, lost_in as lost_in_spec, won_in as won_in_spec};
+ghost use Rattle.gm_game.specs.Records.{tied_in as tied_in_spec};
 
 use crate::evaluate::of_end;
 use crate::game::Game;
@@ -91,7 +92,8 @@ fn choose(lost: Option<u32>, won: Option<u32>, known: bool, tied: Option<u32>) -
     }
 }
 
-/// The true value and remoteness of p, where looking n moves ahead decides them. `None` says that p neither wins nor loses within n moves, and that some line of play is longer.
+/// The true value and remoteness of p, where looking n moves ahead decides them. `None` says that p neither wins nor loses within n moves, and that some line
+/// of play is longer.
 ///
 /// This is the slow forward evaluator: it knows no canonical position and no table, and its time grows with the number of lines of play.
 pub fn within<G: Game>(p: Position, n: u32) -> Option<Solved>

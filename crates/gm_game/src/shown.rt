@@ -40,7 +40,8 @@ pub trait Shown: Game {
         requires { Self.rules.is_legal p ≡ true }
         ensures { (m : ℕ) → (result ≡ Some m) ↔ (Contains (Self.rules.moves p) m × (move_shown p m ≡ text.now)) };
 
-    /// The laws of texts: each is of visible ASCII characters and spaces, and fits a `Line`; different positions, and different moves of a position, have different texts.
+    /// The laws of texts: each is of visible ASCII characters and spaces, and fits a `Line`; different positions, and different moves of a position, have
+    /// different texts.
     ghost readable: { IsShown Self.rules shown move_shown };
 }
 

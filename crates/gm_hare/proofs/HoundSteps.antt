@@ -37,7 +37,8 @@ mask_out b n m l e h = h ∙ sym (ap mask_of (points_more b n l ∙ ap (λ (x : 
 
 -- the mask of n points is small
 pub mask_small : (b : List Bool) (n m : ℕ) → n ≤ length b → m ≡ mask_of (points_down b n) → m < 2 ^ n
-mask_small b n m l e = subst (λ (v : ℕ). v < 2 ^ n) (sym e) (subst (λ (k : ℕ). mask_of (points_down b n) < 2 ^ k) (points_length b n l) (mask_below (points_down b n)))
+mask_small b n m l e = subst (λ (v : ℕ). v < 2 ^ n) (sym e) (subst (λ (k : ℕ). mask_of (points_down b n) < 2 ^ k) (points_length b n l)
+    (mask_below (points_down b n)))
 
 -- ---- the sum of the columns
 columns_push : (n p : ℕ) (xs : List Bool) (x : Bool) → p ≡ n + length xs → columns_from n (xs ++ x ∷ []) ≡ columns_from n xs + (if x then column p else 0)
@@ -45,8 +46,10 @@ columns_push n p [] x e = (let q : p ≡ n = omega arith in rw q (omega arith))
 columns_push n p (y ∷ xs) x e = (let h = columns_push (n + 1) p xs x (omega arith) in omega (arith, h))
 
 -- one more point
-pub columns_more : (b : List Bool) (k : ℕ) → k < length b → columns_from 0 (take (k + 1) b) ≡ columns_from 0 (take k b) + (if get_or b k false then column k else 0)
-columns_more b k l = ap (columns_from 0) (take_more b k false l) ∙ columns_push 0 k (take k b) (get_or b k false) (let e = length-take-le k b in omega (arith, e (omega arith)))
+pub columns_more : (b : List Bool) (k : ℕ) → k < length b → columns_from 0 (take (k + 1) b) ≡ columns_from 0 (take k b) +
+    (if get_or b k false then column k else 0)
+columns_more b k l = ap (columns_from 0) (take_more b k false l) ∙ columns_push 0 k (take k b) (get_or b k false)
+    (let e = length-take-le k b in omega (arith, e (omega arith)))
 
 -- all of them
 pub columns_all : (b : List Bool) (k : ℕ) → k ≡ length b → columns_from 0 (take k b) ≡ columns_from 0 b
@@ -70,7 +73,8 @@ test_at n m j l =
 
 -- ---- texts
 -- one more byte
-pub chars_more : (b : Hunt) (n x : ℕ) (xs : List ℕ) → xs ≡ map (hunt_char b) (range_with_len 0 n) → x ≡ hunt_char b n → xs ++ x ∷ [] ≡ map (hunt_char b) (range_with_len 0 (n + 1))
+pub chars_more : (b : Hunt) (n x : ℕ) (xs : List ℕ) → xs ≡ map (hunt_char b) (range_with_len 0 n) → x ≡ hunt_char b n → xs ++ x ∷ [] ≡ map (hunt_char b)
+    (range_with_len 0 (n + 1))
 chars_more b n x xs e f = ap₂ (λ (ys : List ℕ) (y : ℕ). ys ++ y ∷ []) e f ∙ sym (map-range_with_len_more (hunt_char b) 0 n n (zero-add n))
 
 -- there is room for it

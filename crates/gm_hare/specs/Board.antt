@@ -1,5 +1,6 @@
 -- The rules of Hare and Hounds on boards: a board tells who moves, for each of the eleven points whether a hound is there, and the point of the hare.
-use Rattle.std.specs.Prelude.{ℕ, ◌+◌, ◌-◌, ◌*◌, ◌/◌, ◌%◌, Bool, true, false, not, ◌&&◌, ◌||◌, ◌==◌, nat_lt, nat_le, List, [], ◌∷◌, ◌++◌, reverse, length, slice_index_or, slice_set, codes, if◌then◌else◌, Option, None, Some}
+use Rattle.std.specs.Prelude.{ℕ, ◌+◌, ◌-◌, ◌*◌, ◌/◌, ◌%◌, Bool, true, false, not, ◌&&◌, ◌||◌, ◌==◌, nat_lt, nat_le, List, [], ◌∷◌, ◌++◌, reverse, length}
+use Rattle.std.specs.Prelude.{slice_index_or, slice_set, codes, if◌then◌else◌, Option, None, Some}
 use Rattle.std.specs.List.{list_all, list_any, range_with_len}
 use Rattle.gm_game.specs.declared.position.End.{End}
 use Rattle.gm_game.specs.declared.position.End.TheVariants.{Lose, Win}
@@ -79,8 +80,8 @@ unfoldable pub can_move : Hunt → ℕ → Bool
 can_move b m = can_go b (from_point m) (to_point m)
 
 -- all numbers of moves are below this number
-abbrev pub numbers_end : ℕ
-numbers_end = 176
+abbrev pub move_number_bound : ℕ
+move_number_bound = 176
 
 -- the board after a hound, or the hare, has gone from one point to another
 abbrev pub hound_gone : Hunt → ℕ → ℕ → Hunt
@@ -97,8 +98,8 @@ unfoldable pub play : Hunt → ℕ → Hunt
 play b m = gone b (from_point m) (to_point m)
 
 -- how the last move has ended the game, if it has, for the side to move: by the hare's escape
-unfoldable pub over : Hunt → Option End
-over b = if has_escaped b then Some (if b.hounds_move then Lose else Win) else None
+unfoldable pub end_by_last_move : Hunt → Option End
+end_by_last_move b = if has_escaped b then Some (if b.hounds_move then Lose else Win) else None
 
 -- ---- moves back
 -- whether a piece of the side that moved last can have gone from one point to another
@@ -112,12 +113,12 @@ hound_back d a c = record { hounds_move = true; hounds = slice_set (slice_set d.
 abbrev pub hare_back : Hunt → ℕ → Hunt
 hare_back d a = record { hounds_move = false; hounds = d.hounds; hare = a }
 
-unfoldable pub taken_back : Hunt → ℕ → Hunt
-taken_back d m = if d.hounds_move then hare_back d (from_point m) else hound_back d (from_point m) (to_point m)
+unfoldable pub undo : Hunt → ℕ → Hunt
+undo d m = if d.hounds_move then hare_back d (from_point m) else hound_back d (from_point m) (to_point m)
 
 -- whether the move with this number can have led to the board
-unfoldable pub was_moved : Hunt → ℕ → Bool
-was_moved d m = can_have_gone d (from_point m) (to_point m)
+unfoldable pub can_have_led_here : Hunt → ℕ → Bool
+can_have_led_here d m = can_have_gone d (from_point m) (to_point m)
 
 -- ---- the game
 -- for each point, the point that comes in its place when top and bottom are exchanged
@@ -153,13 +154,13 @@ hare_and_hounds = record {
   name = hare_name;
   start = record { hounds_move = true; hounds = true ∷ true ∷ false ∷ true ∷ false ∷ false ∷ false ∷ false ∷ false ∷ false ∷ false ∷ []; hare = 10 };
   legal = legal;
-  over = over;
-  stuck = Lose;
-  numbers_end = λ t. numbers_end;
+  end_by_last_move = end_by_last_move;
+  end_if_no_move = Lose;
+  move_number_bound = λ t. move_number_bound;
   can_move = can_move;
   moved = play;
-  was_moved = λ t d m. was_moved d m;
-  taken_back = λ t d m. taken_back d m;
+  can_have_led_here = λ t d m. can_have_led_here d m;
+  undo = λ t d m. undo d m;
   symmetries = false ∷ true ∷ [];
   image = λ exchanged b. if exchanged then mirrored b else b;
   tier = hunt_tier;

@@ -2,7 +2,8 @@
 ghost use Rattle.std.specs.Prelude.{◌≡◌, ◌<◌, true};
 ghost use Rattle.gm_hare.specs.laws.PointFacts.{is_step};
 ghost use Rattle.gm_hare.specs.laws.MoveFacts.{back as back_of};
-ghost use Rattle.gm_hare.specs.Board.{is_free as is_free_of, can_go as can_go_of, can_move as can_move_of, gone as gone_of, play as play_of, can_have_gone as can_have_gone_of, was_moved as was_moved_of, taken_back as taken_back_of, are_joined as are_joined_of};
+ghost use Rattle.gm_hare.specs.Board.{is_free as is_free_of, can_go as can_go_of, can_move as can_move_of, gone as gone_of, play as play_of};
+ghost use Rattle.gm_hare.specs.Board.{can_have_gone as can_have_gone_of, can_have_led_here as was_moved_of, undo as taken_back_of, are_joined as are_joined_of};
 
 use crate::hunt::Hunt;
 use crate::points::{are_joined, is_ahead};
@@ -99,8 +100,8 @@ fn can_have_gone(board: &Hunt, from: u32, to: u32) -> bool
 }
 
 /// Whether the move with this number can have led to the board.
-#[tactic(auto, unfolding(crate::specs::Board::was_moved))]
-pub fn was_moved(board: &Hunt, number: u32) -> bool
+#[tactic(auto, unfolding(crate::specs::Board::can_have_led_here))]
+pub fn can_have_led_here(board: &Hunt, number: u32) -> bool
     ensures { result ≡ was_moved_of board.now number }
 {
     let step = Step::numbered(number);
@@ -132,8 +133,8 @@ fn back(board: &Hunt, from: u32, to: u32) -> Hunt
 }
 
 /// The board before a move with this number.
-#[tactic(auto, unfolding(crate::specs::Board::taken_back))]
-pub fn taken_back(board: &Hunt, number: u32) -> Hunt
+#[tactic(auto, unfolding(crate::specs::Board::undo))]
+pub fn undo(board: &Hunt, number: u32) -> Hunt
     requires { is_step number ≡ true }
     ensures { result ≡ taken_back_of board.now number }
 {

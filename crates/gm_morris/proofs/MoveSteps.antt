@@ -7,7 +7,7 @@ use Rattle.gm_pieces.specs.Common.{is_empty, turned_cell, their_cell, own_patter
 use Rattle.gm_morris.specs.declared.variant.Variant.{Variant}
 use Rattle.gm_morris.specs.declared.tiers.TheConstants.{SIZES}
 use Rattle.gm_morris.specs.Points.{last_tier, lines}
-use Rattle.gm_morris.specs.Morris.{has_line, numbers_end, moved, play, was_moved, taken_back, size_of, morris}
+use Rattle.gm_morris.specs.Morris.{has_line, move_number_bound, moved, play, can_have_led_here, undo, size_of, morris}
 use Rattle.gm_morris.specs.laws.PointFacts.{joined_within}
 use Rattle.gm_morris.specs.laws.MoveFacts.{is_last, end_by, left_by, was_by, back_by, CanStep, step_in, slide_step, slide_was}
 use Rattle.gm_morris.specs.laws.MorrisLaws.{size_at}
@@ -20,7 +20,8 @@ sizes_pass = refl
 -- the sizes of the tiers
 pub sizes_are : (v : Variant) (t : ℕ) → t ≤ last_tier v → last_tier v ≤ 9 → get_or SIZES t 0 ≡ size_of v t
 sizes_are v t l h =
-    eqb-true _ _ (all_at (λ (t : ℕ). eqb (get_or SIZES t 0) (arrangements 9 (t / 2) (t - t / 2))) (range_with_len 0 10) t sizes_pass (contains_range 10 t (omega arith)))
+    eqb-true _ _ (all_at (λ (t : ℕ). eqb (get_or SIZES t 0) (arrangements 9 (t / 2) (t - t / 2))) (range_with_len 0 10) t sizes_pass
+    (contains_range 10 t (omega arith)))
     ∙ sym (size_at v t l)
 
 -- ---- lines
@@ -30,7 +31,8 @@ unfolding has_line
 own_line v a b l = own_patterns 9 a b l (lines v)
 
 -- the opponent's are those of his
-pub their_line : (v : Variant) (a b : ℕ) → b < 2 ^ 9 → bit_and a b ≡ 0 → list_any (λ line. list_all (has_cell b) line) (lines v) ≡ has_line v is_theirs (board_of 9 a b)
+pub their_line : (v : Variant) (a b : ℕ) → b < 2 ^ 9 → bit_and a b ≡ 0 → list_any (λ line. list_all (has_cell b) line) (lines v) ≡ has_line v is_theirs
+    (board_of 9 a b)
 unfolding has_line
 their_line v a b l e = their_patterns 9 a b l e (lines v)
 
@@ -68,30 +70,30 @@ module _ (v : Variant) (b : List Cell) (m : ℕ) (x : Bool) (is : x ≡ is_last 
 
 -- ---- single moves taken back
 module _ (v : Variant) (t : ℕ) (d : List Cell) (m : ℕ) (x : Bool) (is : x ≡ eqb t (last_tier v)) where
-  was_here : (y : Bool) → x ≡ y → was_moved v t d m ≡ true → was_by v y d m ≡ true
-  unfolding was_moved
+  was_here : (y : Bool) → x ≡ y → can_have_led_here v t d m ≡ true → was_by v y d m ≡ true
+  unfolding can_have_led_here
   was_here y e w = ap (λ (z : Bool). was_by v z d m) (sym e ∙ is) ∙ w
 
   -- a piece went from point to point
-  pub slid_from : x ≡ true → was_moved v t d m ≡ true → m / 16 < 9
+  pub slid_from : x ≡ true → can_have_led_here v t d m ≡ true → m / 16 < 9
   slid_from e w = (joined_within v (m / 16) (m % 16) (and_left _ _ (was_here true e w))).0
 
-  pub slid_step : x ≡ true → was_moved v t d m ≡ true → WasStep d (m / 16) (m % 16)
+  pub slid_step : x ≡ true → can_have_led_here v t d m ≡ true → WasStep d (m / 16) (m % 16)
   slid_step e w = slide_was v d m (was_here true e w)
 
   -- a piece was placed
-  pub placed_point : x ≡ false → m < numbers_end v t → m < 9
-  unfolding numbers_end
+  pub placed_point : x ≡ false → m < move_number_bound v t → m < 9
+  unfolding move_number_bound
   placed_point e l = subst (λ (z : Bool). m < end_by z) (sym is ∙ e) l
 
-  pub placed_mine : (c : List Cell) → x ≡ false → was_moved v t d m ≡ true → c ≡ map turned d → is_mine (cell_at c m) ≡ true
+  pub placed_mine : (c : List Cell) → x ≡ false → can_have_led_here v t d m ≡ true → c ≡ map turned d → is_mine (cell_at c m) ≡ true
   placed_mine c e w s = ap (λ (y : List Cell). is_mine (cell_at y m)) s ∙ ap is_mine (turned_cell d m Theirs (their_cell _ (was_here false e w)))
 
   -- the board before a move
-  pub slid_back : x ≡ true → brought_back d (m / 16) (m % 16) ≡ taken_back v t d m
-  unfolding taken_back
+  pub slid_back : x ≡ true → brought_back d (m / 16) (m % 16) ≡ undo v t d m
+  unfolding undo
   slid_back e = ap (λ (z : Bool). back_by z d m) (sym e ∙ is)
 
-  pub placed_back : x ≡ false → set (map turned d) m Empty ≡ taken_back v t d m
-  unfolding taken_back
+  pub placed_back : x ≡ false → set (map turned d) m Empty ≡ undo v t d m
+  unfolding undo
   placed_back e = ap (λ (z : Bool). back_by z d m) (sym e ∙ is)

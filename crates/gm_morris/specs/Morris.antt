@@ -1,5 +1,6 @@
 -- The rules of the games of nine points on boards: a board is a list of nine cells as the player to move sees them.
-use Rattle.std.specs.Prelude.{ℕ, ◌+◌, ◌-◌, ◌/◌, ◌%◌, Bool, not, ◌&&◌, ◌==◌, nat_le, nat_lt, List, [], ◌∷◌, map, replicate, length, set, if◌then◌else◌, Option, None, Some}
+use Rattle.std.specs.Prelude.{ℕ, ◌+◌, ◌-◌, ◌/◌, ◌%◌, Bool, not, ◌&&◌, ◌==◌, nat_le, nat_lt, List, [], ◌∷◌, map, replicate, length, set, if◌then◌else◌, Option}
+use Rattle.std.specs.Prelude.{None, Some}
 use Rattle.gm_game.specs.declared.position.End.{End}
 use Rattle.gm_game.specs.declared.position.End.TheVariants.{Lose}
 use Rattle.gm_game.specs.Rules.{Rules}
@@ -14,7 +15,7 @@ use Rattle.gm_board.specs.Cells.{is_mine, is_theirs, is_empty, cell_at, number_o
 use Rattle.gm_pieces.specs.Sides.{brought_back, board_index, board_numbered, least_index_under}
 use Rattle.gm_pieces.specs.MoveGames.{MoveGame, move_rules}
 use Rattle.gm_morris.specs.declared.variant.Variant.{Variant}
-use Rattle.gm_morris.specs.Points.{variant_of, name_of, last_tier, stuck, lines, joins}
+use Rattle.gm_morris.specs.Points.{variant_of, name_of, last_tier, end_if_no_move, lines, joins}
 
 -- how many pieces the mover has
 abbrev pub mine : List Cell → ℕ
@@ -51,12 +52,12 @@ can_move v b m = if pieces b == last_tier v
     else is_empty (cell_at b m)
 
 -- all numbers of moves from a tier are below this number
-unfoldable pub numbers_end : Variant → ℕ → ℕ
-numbers_end v t = if t == last_tier v then 144 else 9
+unfoldable pub move_number_bound : Variant → ℕ → ℕ
+move_number_bound v t = if t == last_tier v then 144 else 9
 
 -- how the last move has ended the game, if it has: the mover has lost where the opponent has a line
-unfoldable pub over : Variant → List Cell → Option End
-over v b = if has_line v is_theirs b then Some Lose else None
+unfoldable pub end_by_last_move : Variant → List Cell → Option End
+end_by_last_move v b = if has_line v is_theirs b then Some Lose else None
 
 -- the board after a move, before the roles swap
 unfoldable pub moved : Variant → List Cell → ℕ → List Cell
@@ -67,14 +68,14 @@ unfoldable pub play : Variant → List Cell → ℕ → List Cell
 play v b m = map turned (moved v b m)
 
 -- whether the move with this number can have led to d from a board of tier t
-unfoldable pub was_moved : Variant → ℕ → List Cell → ℕ → Bool
-was_moved v t d m = if t == last_tier v
+unfoldable pub can_have_led_here : Variant → ℕ → List Cell → ℕ → Bool
+can_have_led_here v t d m = if t == last_tier v
     then joins v (from_point m) (to_point m) && (is_theirs (cell_at d (to_point m)) && is_empty (cell_at d (from_point m)))
     else is_theirs (cell_at d m)
 
 -- the board before the move with this number
-unfoldable pub taken_back : Variant → ℕ → List Cell → ℕ → List Cell
-taken_back v t d m = if t == last_tier v
+unfoldable pub undo : Variant → ℕ → List Cell → ℕ → List Cell
+undo v t d m = if t == last_tier v
     then brought_back d (from_point m) (to_point m)
     else set (map turned d) m Empty
 
@@ -101,13 +102,13 @@ morris v = record {
   name = name_of v;
   start = replicate 9 Empty;
   legal = legal v;
-  over = over v;
-  stuck = stuck v;
-  numbers_end = numbers_end v;
+  end_by_last_move = end_by_last_move v;
+  end_if_no_move = end_if_no_move v;
+  move_number_bound = move_number_bound v;
   can_move = can_move v;
   moved = play v;
-  was_moved = was_moved v;
-  taken_back = taken_back v;
+  can_have_led_here = can_have_led_here v;
+  undo = undo v;
   symmetries = square_symmetries 3;
   image = λ g b. permute Empty g b;
   tier = λ b. pieces b;

@@ -22,10 +22,10 @@ last_tier ThreeMens = 6
 last_tier Achi = 8
 
 -- how the game ends for a player who can't move
-unfoldable pub stuck : Variant → End
-stuck TicTacToe = Tie
-stuck ThreeMens = Lose
-stuck Achi = Lose
+unfoldable pub end_if_no_move : Variant → End
+end_if_no_move TicTacToe = Tie
+end_if_no_move ThreeMens = Lose
+end_if_no_move Achi = Lose
 
 -- the rows and the columns
 abbrev pub straight_lines : List (List ℕ)

@@ -3,7 +3,8 @@ ghost use Rattle.std.specs.Prelude.{◌≡◌, ◌<◌, true};
 ghost use Rattle.gm_board.specs.Images.{board_of};
 ghost use Rattle.gm_pieces.specs.MoveGames.{IsMove};
 ghost use Rattle.gm_board.specs.Cells.{is_mine, is_theirs as is_theirs_cell};
-ghost use Rattle.gm_morris.specs.Morris.{pieces as pieces_of, has_line as has_line_of, legal, numbers_end as numbers_end_of, over as over_of, can_move as can_move_of, play as play_of, morris};
+ghost use Rattle.gm_morris.specs.Morris.{pieces as pieces_of, has_line as has_line_of, legal, move_number_bound as numbers_end_of, end_by_last_move as over_of};
+ghost use Rattle.gm_morris.specs.Morris.{can_move as can_move_of, play as play_of, morris};
 ghost use Rattle.gm_morris.specs.laws.MoveFacts.{is_last as is_last_of, can_by};
 
 use crate::board::Board;
@@ -28,7 +29,7 @@ pub fn has_their_line(variant: Variant, board: Board) -> bool
 }
 
 /// Whether a board is legal: the mover has half of the pieces, rounded down, there are no more pieces than in the last tier, and the mover has no line.
-#[tactic(auto, using(gm_board::specs::Images::board_length), unfolding(crate::specs::Morris::legal))]
+#[tactic(auto, using(gm_board::specs::laws::Images::board_length), unfolding(crate::specs::Morris::legal))]
 pub fn is_legal_board(variant: Variant, board: Board) -> bool
     ensures { result ≡ legal variant (board_of 9 board.mine board.theirs) }
 {
@@ -61,7 +62,7 @@ fn can_slide(variant: Variant, board: Board, number: u32) -> bool
 }
 
 /// Whether the move with this number can be made.
-#[tactic(auto, unfolding(crate::specs::Morris::can_move, crate::specs::Morris::numbers_end))]
+#[tactic(auto, unfolding(crate::specs::Morris::can_move, crate::specs::Morris::move_number_bound))]
 pub fn can_move(variant: Variant, board: Board, number: u32) -> bool
     requires { number < numbers_end_of variant (pieces_of (board_of 9 board.mine board.theirs)) }
     ensures { result ≡ can_move_of variant (board_of 9 board.mine board.theirs) number }
@@ -74,8 +75,8 @@ pub fn can_move(variant: Variant, board: Board, number: u32) -> bool
 }
 
 /// How the last move has ended the game, if it has: the mover loses where the opponent has a line.
-#[tactic(auto, unfolding(crate::specs::Morris::over))]
-pub fn over(variant: Variant, board: Board) -> Option<End>
+#[tactic(auto, unfolding(crate::specs::Morris::end_by_last_move))]
+pub fn end_by_last_move(variant: Variant, board: Board) -> Option<End>
     ensures { result ≡ over_of variant (board_of 9 board.mine board.theirs) }
 {
     if has_their_line(variant, board) {
@@ -86,7 +87,7 @@ pub fn over(variant: Variant, board: Board) -> Option<End>
 }
 
 /// The board after a move, as the other side sees it.
-#[tactic(auto, using(gm_board::specs::Images::board_length, crate::proofs::MoveSteps::slide_here, crate::proofs::MoveSteps::place_point, crate::proofs::MoveSteps::place_free, crate::proofs::MoveSteps::slide_played, crate::proofs::MoveSteps::place_played))]
+#[tactic(auto, using(gm_board::specs::laws::Images::board_length, crate::proofs::MoveSteps::slide_here, crate::proofs::MoveSteps::place_point, crate::proofs::MoveSteps::place_free, crate::proofs::MoveSteps::slide_played, crate::proofs::MoveSteps::place_played))]
 pub fn play(variant: Variant, board: Board, number: u32) -> Board
     requires { IsMove (morris variant) (board_of 9 board.mine board.theirs) number }
     ensures { board_of 9 result.mine result.theirs ≡ play_of variant (board_of 9 board.mine board.theirs) number }

@@ -1,7 +1,7 @@
 //! Moves taken back: the boards before a board.
 ghost use Rattle.std.specs.Prelude.{◌≡◌, ◌<◌, true};
 ghost use Rattle.gm_board.specs.Images.{board_of};
-ghost use Rattle.gm_morris.specs.Morris.{numbers_end as numbers_end_of, was_moved as was_moved_of, taken_back as taken_back_of};
+ghost use Rattle.gm_morris.specs.Morris.{move_number_bound as numbers_end_of, can_have_led_here as was_moved_of, undo as taken_back_of};
 ghost use Rattle.gm_morris.specs.laws.MoveFacts.{was_by};
 
 use crate::board::Board;
@@ -23,8 +23,8 @@ fn was_slid(variant: Variant, board: Board, number: u32) -> bool
 }
 
 /// Whether the move with this number can have led to the board from a board of the tier.
-#[tactic(auto, unfolding(crate::specs::Morris::was_moved, crate::specs::Morris::numbers_end))]
-pub fn was_moved(variant: Variant, tier: u64, board: Board, number: u32) -> bool
+#[tactic(auto, unfolding(crate::specs::Morris::can_have_led_here, crate::specs::Morris::move_number_bound))]
+pub fn can_have_led_here(variant: Variant, tier: u64, board: Board, number: u32) -> bool
     requires { number < numbers_end_of variant tier }
     ensures { result ≡ was_moved_of variant tier (board_of 9 board.mine board.theirs) number }
 {
@@ -37,7 +37,7 @@ pub fn was_moved(variant: Variant, tier: u64, board: Board, number: u32) -> bool
 
 /// The board before the move with this number.
 #[tactic(auto, using(crate::proofs::MoveSteps::slid_from, crate::proofs::MoveSteps::slid_step, crate::proofs::MoveSteps::placed_point, crate::proofs::MoveSteps::placed_mine, crate::proofs::MoveSteps::slid_back, crate::proofs::MoveSteps::placed_back))]
-pub fn taken_back(variant: Variant, tier: u64, board: Board, number: u32) -> Board
+pub fn undo(variant: Variant, tier: u64, board: Board, number: u32) -> Board
     requires within { number < numbers_end_of variant tier }
     requires was { was_moved_of variant tier (board_of 9 board.mine board.theirs) number ≡ true }
     ensures { board_of 9 result.mine result.theirs ≡ taken_back_of variant tier (board_of 9 board.mine board.theirs) number }

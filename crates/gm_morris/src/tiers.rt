@@ -2,7 +2,7 @@
 ghost use Rattle.std.specs.Prelude.{◌≡◌, ◌-◌, ◌≤◌, ◌==◌};
 ghost use Rattle.gm_morris.specs.Points.{last_tier};
 ghost use Rattle.gm_board.specs.Images.{board_of};
-ghost use Rattle.gm_morris.specs.Morris.{pieces as pieces_of, size_of, child_tiers_of, numbers_end as numbers_end_of};
+ghost use Rattle.gm_morris.specs.Morris.{pieces as pieces_of, size_of, child_tiers_of, move_number_bound as numbers_end_of};
 
 use crate::board::Board;
 use crate::variant::Variant;
@@ -59,8 +59,8 @@ pub fn tier_rank(variant: Variant, tier: u64) -> u64
 }
 
 /// All numbers of moves from a tier are below this number: in the last tier those of moves from point to point, else those of placements.
-#[tactic(auto, unfolding(crate::specs::Morris::numbers_end))]
-pub fn numbers_end(variant: Variant, tier: u64) -> u32
+#[tactic(auto, unfolding(crate::specs::Morris::move_number_bound))]
+pub fn move_number_bound(variant: Variant, tier: u64) -> u32
     ensures { result ≡ numbers_end_of variant tier }
 {
     if is_last_tier(variant, tier) { 144 } else { 9 }

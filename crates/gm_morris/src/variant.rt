@@ -2,7 +2,7 @@
 ghost use Rattle.std.specs.Prelude.{◌≡◌, ◌<◌, ◌≤◌};
 ghost use Rattle.std.specs.List.{list_any, list_all};
 ghost use Rattle.gm_board.specs.Masks.{has_cell};
-ghost use Rattle.gm_morris.specs.Points.{variant_of, name_of, last_tier as last_tier_of, stuck as stuck_of, lines, joins as joins_of};
+ghost use Rattle.gm_morris.specs.Points.{variant_of, name_of, last_tier as last_tier_of, end_if_no_move as stuck_of, lines, joins as joins_of};
 
 use gm_board::pattern::has_some;
 use gm_game::limits::NAME;
@@ -103,8 +103,8 @@ impl Variant {
     }
 
     /// How the game ends for a player who can't move: in Tic-tac-toe the board is full, which is a tie, and in the other games the player loses.
-    #[tactic(auto, unfolding(crate::specs::Points::stuck))]
-    pub fn stuck(self) -> End
+    #[tactic(auto, unfolding(crate::specs::Points::end_if_no_move))]
+    pub fn end_if_no_move(self) -> End
         ensures { result ≡ stuck_of self }
     {
         match self {

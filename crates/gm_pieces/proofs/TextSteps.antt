@@ -24,13 +24,15 @@ pub text_long : (n a b : ℕ) → length (board_text (board_of n a b)) ≡ n
 text_long n a b = text_length (board_of n a b) ∙ board_length n a b
 
 -- a board with the text is the one that was read
-pub read_all : (n : ℕ) (text : List ℕ) (a b : ℕ) (d : List Cell) → IsRead text 120 n a → IsRead text 111 n b → length d ≡ n → board_text d ≡ text → board_of n a b ≡ d
+pub read_all : (n : ℕ) (text : List ℕ) (a b : ℕ) (d : List Cell) → IsRead text 120 n a → IsRead text 111 n b → length d ≡ n → board_text d ≡ text → board_of
+    n a b ≡ d
 unfolding board_text
 read_all n text a b d h k long e =
     ext_get_or Empty (board_of n a b) d (board_length n a b ∙ sym long)
     (λ i l.
     let j : i < n = omega (arith, l, board_length n a b) in
-    let byte : get_or text i 0 ≡ cell_char (get_or d i Empty) = ap (λ (t : List ℕ). get_or t i 0) (sym e) ∙ get_or-map cell_char d i Empty 0 (omega (arith, j, long)) in
+    let byte : get_or text i 0 ≡ cell_char (get_or d i Empty) = ap (λ (t : List ℕ). get_or t i 0) (sym e) ∙ get_or-map cell_char d i Empty 0
+    (omega (arith, j, long)) in
     board_get n a b i j
     ∙ ap₂ cell_by
     (h i ∙ ap₂ (λ (x : Bool) (v : ℕ). x && eqb v 120) (lt-ltb i n j) byte)

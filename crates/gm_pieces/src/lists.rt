@@ -29,11 +29,11 @@ pub trait MoveLists: MoveRules {
         requires { Self.game.legal (Self.cells board) ≡ true }
         ensures { result ≡ (board_game Self.game).ended (Self.cells board) }
     {
-        match Self::over(board) {
+        match Self::end_by_last_move(board) {
             Some(end) => Some(end),
             None => {
                 if Self::is_stuck(board) {
-                    Some(Self::stuck())
+                    Some(Self::end_if_no_move())
                 } else {
                     None
                 }

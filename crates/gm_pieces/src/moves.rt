@@ -14,9 +14,9 @@ use gm_game::position::Position;
 /// Whether the last move has not ended the game.
 pub fn plays_on<T: MoveRules>(board: T::Board) -> bool
     requires { T.game.legal (T.cells board) ≡ true }
-    ensures { result ≡ plays_on_of (T.game.over (T.cells board)) }
+    ensures { result ≡ plays_on_of (T.game.end_by_last_move (T.cells board)) }
 {
-    T::over(board).is_none()
+    T::end_by_last_move(board).is_none()
 }
 
 /// The numbers of the moves that could be made if the game were not over, ascending.
@@ -26,7 +26,7 @@ pub fn list_moves<T: MoveRules>(board: T::Board) -> ArrayVec<u32, MOVES>
     ensures { result.items ≡ steps T.game (T.cells board) }
 {
     let mut list = ArrayVec::new();
-    for number in 0..T::numbers_end(T::tier(board)) {
+    for number in 0..T::move_number_bound(T::tier(board)) {
         if T::can_move(board, number) {
             list.push(number);
         }
@@ -40,7 +40,7 @@ pub fn has_no_move<T: MoveRules>(board: T::Board) -> bool
     requires { T.game.legal (T.cells board) ≡ true }
     ensures { result ≡ (length (steps T.game (T.cells board)) == 0) }
 {
-    for number in 0..T::numbers_end(T::tier(board)) {
+    for number in 0..T::move_number_bound(T::tier(board)) {
         if T::can_move(board, number) {
             return false;
         }
@@ -68,15 +68,15 @@ pub fn list_results<T: MoveRules>(
 #[tactic(auto, using(gm_board::specs::laws::Lists::and_left, crate::specs::laws::MoveLaws::before_some, crate::specs::laws::MoveLaws::before_none))]
 pub fn before<T: MoveRules>(tier: u64, board: T::Board, number: u32) -> Option<T::Board>
     requires legal { T.game.legal (T.cells board) ≡ true }
-    requires below { number < T.game.numbers_end tier }
+    requires below { number < T.game.move_number_bound tier }
     ensures { MatchOption result
         (before_at T.game tier (T.cells board) number ≡ None)
         (λ b. (before_at T.game tier (T.cells board) number ≡ Some (T.cells b)) × (T.game.legal (T.cells b) ≡ true)) }
 {
-    if !T::was_moved(tier, board, number) {
+    if !T::can_have_led_here(tier, board, number) {
         return None;
     }
-    let earlier = T::taken_back(tier, board, number);
+    let earlier = T::undo(tier, board, number);
     if T::goes_on(tier, earlier, number) {
         Some(earlier)
     } else {
@@ -91,7 +91,7 @@ pub fn put_befores<T: MoveRules>(tier: u64, board: T::Board, list: &mut ArrayVec
     ensures { list.new.items ≡ put_all [] (map (least_index_of (board_game T.game)) (befores T.game tier (T.cells board))) }
 {
     list.clear();
-    for number in 0..T::numbers_end(tier) {
+    for number in 0..T::move_number_bound(tier) {
         match before::<T>(tier, board, number) {
             Some(earlier) => put(list, T::least_index(earlier)),
             None => {}

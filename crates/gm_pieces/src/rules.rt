@@ -54,8 +54,8 @@ pub trait MoveRules: Drop {
         ensures { result ≡ game.tier_rank tier };
 
     /// All numbers of moves from a tier are below this number.
-    fn numbers_end(tier: u64) -> u32
-        ensures { result ≡ game.numbers_end tier };
+    fn move_number_bound(tier: u64) -> u32
+        ensures { result ≡ game.move_number_bound tier };
 
     /// The board with this index.
     fn board(tier: u64, index: u64) -> Self::Board
@@ -104,18 +104,18 @@ pub trait MoveRules: Drop {
     }
 
     /// How the last move has ended the game, if it has.
-    fn over(board: Self::Board) -> Option<End>
+    fn end_by_last_move(board: Self::Board) -> Option<End>
         requires { game.legal (cells board) ≡ true }
-        ensures { result ≡ game.over (cells board) };
+        ensures { result ≡ game.end_by_last_move (cells board) };
 
     /// How the game ends for a player who can't move.
-    fn stuck() -> End
-        ensures { result ≡ game.stuck };
+    fn end_if_no_move() -> End
+        ensures { result ≡ game.end_if_no_move };
 
     /// Whether the move with this number could be made if the game were not over.
     fn can_move(board: Self::Board, number: u32) -> bool
         requires legal { game.legal (cells board) ≡ true }
-        requires below { number < game.numbers_end (game.tier (cells board)) }
+        requires below { number < game.move_number_bound (game.tier (cells board)) }
         ensures { result ≡ game.can_move (cells board) number };
 
     /// The board after a move, as the other player sees it.
@@ -125,26 +125,26 @@ pub trait MoveRules: Drop {
         ensures { cells result ≡ game.moved (cells board) number };
 
     /// Whether the move with this number can have led to this board from a board of the tier.
-    fn was_moved(tier: u64, board: Self::Board, number: u32) -> bool
+    fn can_have_led_here(tier: u64, board: Self::Board, number: u32) -> bool
         requires legal { game.legal (cells board) ≡ true }
-        requires below { number < game.numbers_end tier }
-        ensures { result ≡ game.was_moved tier (cells board) number };
+        requires below { number < game.move_number_bound tier }
+        ensures { result ≡ game.can_have_led_here tier (cells board) number };
 
     /// The board before the move with this number, as the player who made it saw it.
-    fn taken_back(tier: u64, board: Self::Board, number: u32) -> Self::Board
+    fn undo(tier: u64, board: Self::Board, number: u32) -> Self::Board
         requires legal { game.legal (cells board) ≡ true }
-        requires below { number < game.numbers_end tier }
-        requires was { game.was_moved tier (cells board) number ≡ true }
-        ensures { cells result ≡ game.taken_back tier (cells board) number };
+        requires below { number < game.move_number_bound tier }
+        requires was { game.can_have_led_here tier (cells board) number ≡ true }
+        ensures { cells result ≡ game.undo tier (cells board) number };
 
     /// Whether the board is a legal one of the tier from which the game goes on by this move. A game may make the tests in another order.
     fn goes_on(tier: u64, board: Self::Board, number: u32) -> bool
-        requires { number < game.numbers_end tier }
+        requires { number < game.move_number_bound tier }
         ensures { result ≡ goes_on_of game tier (cells board) number }
     {
         Self::is_legal_board(board)
             && Self::tier(board) == tier
-            && Self::over(board).is_none()
+            && Self::end_by_last_move(board).is_none()
             && Self::can_move(board, number)
     }
 

@@ -48,12 +48,13 @@ fn has_text<T: MoveRules>(board: T::Board, number: u32, text: &[u8]) -> bool
 #[tactic(auto, using(crate::specs::laws::TextFacts::move_missing, crate::specs::laws::MoveLaws::plays, crate::specs::laws::MoveLaws::plays_not))]
 fn read_step<T: MoveRules>(board: T::Board, text: &[u8]) -> Option<u32>
     requires { T.game.legal (T.cells board) ≡ true }
-    ensures { (m : ℕ) → (result ≡ Some m) ↔ (Contains ((board_game T.game).moves (T.cells board)) m × (T.step_text (T.game.tier (T.cells board)) m ≡ text.now)) }
+    ensures { (m : ℕ) → (result ≡ Some m) ↔ (Contains ((board_game T.game).moves (T.cells board)) m
+        × (T.step_text (T.game.tier (T.cells board)) m ≡ text.now)) }
 {
     if !plays_on::<T>(board) {
         return None;
     }
-    for number in 0..T::numbers_end(T::tier(board)) {
+    for number in 0..T::move_number_bound(T::tier(board)) {
         if T::can_move(board, number) && has_text::<T>(board, number, text) {
             return Some(number);
         }

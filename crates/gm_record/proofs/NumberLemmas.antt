@@ -55,9 +55,11 @@ pub split_once : (v : Version) (a b n m : ℕ) → n < step v → m < step v →
 split_once One a b n m n< m< e = (omega arith, omega arith)
 split_once Two a b n m n< m< e = (omega arith, omega arith)
 
-same_solved : (v : Version) (s t : Solved) → IsStorableSolved v s.value s.remoteness → IsStorableSolved v t.value t.remoteness → code s.value * step v + s.remoteness ≡ code t.value * step v + t.remoteness → s ≡ t
+same_solved : (v : Version) (s t : Solved) → IsStorableSolved v s.value s.remoteness → IsStorableSolved v t.value t.remoteness → code s.value * step v +
+    s.remoteness ≡ code t.value * step v + t.remoteness → s ≡ t
 same_solved v s t hs ht e =
-    let (c, n) = split_once v (code s.value) (code t.value) s.remoteness t.remoteness (remoteness_small v s.value s.remoteness hs) (remoteness_small v t.value t.remoteness ht) e in
+    let (c, n) = split_once v (code s.value) (code t.value) s.remoteness t.remoteness (remoteness_small v s.value s.remoteness hs)
+    (remoteness_small v t.value t.remoteness ht) e in
     ap (λ x. solved x s.remoteness) (same_code s.value t.value c) ∙ ap (solved t.value) n
 
 -- the number of a record with a value isn't 0
@@ -83,7 +85,8 @@ number_back One n h = from_le_bytes-to_le_bytes_2 n h
 number_back Two n h = from_le_bytes-to_le_bytes_4 n h
 
 -- where a number is that of no record, its bytes are those of none
-pub none_here : (v : Version) (number : ℕ) (one : List ℕ) → number < 256 ^ width v → to_le_bytes (word v) number ≡ one → ((o : Option Solved) → IsStorable v o → record_number v o ≢ number)
+pub none_here : (v : Version) (number : ℕ) (one : List ℕ) → number < 256 ^ width v → to_le_bytes (word v) number ≡ one →
+    ((o : Option Solved) → IsStorable v o → record_number v o ≢ number)
     → (o : Option Solved) → IsStorable v o → one ≢ record_bytes v o
 none_here v number one small e none o ok same =
     none o ok (sym (number_back v (record_number v o) (number_small v o ok)) ∙ ap (from_le_bytes (word v)) (sym (e ∙ same)) ∙ number_back v number small)
@@ -91,7 +94,8 @@ none_here v number one small e none o ok same =
 -- so do those of a record
 pub same_bytes : (v : Version) (o p : Option Solved) → IsStorable v o → IsStorable v p → record_bytes v o ≡ record_bytes v p → o ≡ p
 same_bytes v o p ho hp e =
-    same_record v o p ho hp (sym (number_back v (record_number v o) (number_small v o ho)) ∙ ap (from_le_bytes (word v)) e ∙ number_back v (record_number v p) (number_small v p hp))
+    same_record v o p ho hp (sym (number_back v (record_number v o) (number_small v o ho)) ∙ ap (from_le_bytes (word v)) e ∙ number_back v
+    (record_number v p) (number_small v p hp))
 
 -- a record of a table can be in a file
 storable_value : (r : Rules) (p : Position) (value : Value) (n : ℕ) → HasValue r p value n → n ≤ REMOTENESS → IsStorableSolved Two value n

@@ -155,7 +155,7 @@ fn sum_of<A: ShardLedger, B: ShardLedger, C: ShardLedger, D: ShardLedger>(
 }
 
 /// Runs the workers of a level, and takes their parts of the shares back after the last has ended. The result is the number of their deliveries.
-pub(crate) fn run_workers_of<
+pub(crate) fn run_crew<
     G: Game + Send + Sync,
     A: PieceLedger + Send,
     B: PieceLedger + Send,

@@ -10,7 +10,7 @@ ghost use Rattle.gm_solver.specs.Solving.{IsError};
 ghost use Rattle.gm_solver.specs.Tiling.{AreShardsAt, HaveNoneHere, AreWhole, tile_at, next_place};
 
 use crate::context::SolveContext;
-use crate::crew::run_workers_of;
+use crate::crew::run_crew;
 use crate::error::SolveError;
 use crate::gate::Gate;
 use crate::level_job::LevelJob;
@@ -130,7 +130,7 @@ fn run_on_board<
     let (board, mut rest) = PieceBoard::<G, A, B, C, D>::around(
         alloc, parts, blanks, shards, level, notes,
     )?;
-    let by_workers = run_workers_of(context, &board, job, workers, &mut rest)?;
+    let by_workers = run_crew(context, &board, job, workers, &mut rest)?;
     let (a, b, c, d) = board.into_pieces(rest);
     let a = finish_tile(alloc, job, a)?;
     let b = finish_tile(alloc, job, b)?;

@@ -1,5 +1,6 @@
 -- What a checked position's canonical children say, and the records that fit.
-use Rattle.std.proofs.Common.{◌≡◌, ◌≢◌, ◌==◌, ℕ, ◌<◌, ◌≤◌, ◌+◌, true, false, Bool, ne_eqb, eq-eqb, eqb-true, if◌then◌else◌, MatchOption, List, [], ◌∷◌, ◌++◌, map, take, length, get_or, refl, sym, ap, ◌∙◌, subst, arith, inl, inr, Option, None, Some}
+use Rattle.std.proofs.Common.{◌≡◌, ◌≢◌, ◌==◌, ℕ, ◌<◌, ◌≤◌, ◌+◌, true, false, Bool, ne_eqb, eq-eqb, eqb-true, if◌then◌else◌, MatchOption, List, [], ◌∷◌, ◌++◌}
+use Rattle.std.proofs.Common.{map, take, length, get_or, refl, sym, ap, ◌∙◌, subst, arith, inl, inr, Option, None, Some}
 use Rattle.std.specs.Option.{is_some}
 use Rattle.std.proofs.lemmas.List.{map-append, map_more, take_all, length-map, length-take}
 use Rattle.std.proofs.lemmas.Bool.{cases_eq}
@@ -19,7 +20,8 @@ use Rattle.gm_table.specs.Words.{record_of_word}
 use Rattle.gm_table.specs.Checks.{look_up, RecordFits, FitsAt, IsFirstWrong, IsFirstWrongIn, FitBetween}
 
 -- one child's word more
-pub words_more : (look : Position → Option Solved) (cs : List Position) (ws new : List ℕ) (i w : ℕ) (d : Position) → i < length cs → map record_of_word ws ≡ map look (take i cs) → new ≡ ws ++ w ∷ [] → record_of_word w ≡ look (get_or cs i d)
+pub words_more : (look : Position → Option Solved) (cs : List Position) (ws new : List ℕ) (i w : ℕ) (d : Position) → i < length cs → map record_of_word ws ≡
+    map look (take i cs) → new ≡ ws ++ w ∷ [] → record_of_word w ≡ look (get_or cs i d)
     → map record_of_word new ≡ map look (take (i + 1) cs)
 words_more look cs ws new i w d l before is e =
     ap (map record_of_word) is ∙ map-append record_of_word ws (w ∷ []) ∙ ap (λ (os : List (Option Solved)). os ++ record_of_word w ∷ []) before
@@ -33,12 +35,15 @@ words_few look cs ws i e =
     omega arith
 
 -- a canonical child is canonical
-pub child_canonical : (r : Rules) (g : IsGame r) (p : Position) (cs : List Position) (i : ℕ) (d : Position) → r.is_legal p ≡ true → AreResults r p cs → i < length cs → IsCanonical r (get_or cs i d)
+pub child_canonical : (r : Rules) (g : IsGame r) (p : Position) (cs : List Position) (i : ℕ) (d : Position) → r.is_legal p ≡ true → AreResults r p cs → i <
+    length cs → IsCanonical r (get_or cs i d)
 child_canonical r g p cs i d l h n = (near_child r g p.tier p (get_or cs i d) refl l ((h (get_or cs i d)).0 (Contains-get_or cs i d n))).0
 
 -- what the canonical children say is what the rules give
-pub settled_results : (r : Rules) (look : Position → Option Solved) (p : Position) (cs : List Position) (ws : List ℕ) (i : ℕ) (lost won tied : Option ℕ) → r.primitive p ≡ None → AreResults r p cs → length cs ≤ i
-    → map record_of_word ws ≡ map look (take i cs) → lost ≡ least_of lost_in (map record_of_word ws) → won ≡ all_won (map record_of_word ws) → tied ≡ least_of tied_in (map record_of_word ws)
+pub settled_results : (r : Rules) (look : Position → Option Solved) (p : Position) (cs : List Position) (ws : List ℕ) (i : ℕ) (lost won tied : Option ℕ) →
+    r.primitive p ≡ None → AreResults r p cs → length cs ≤ i
+    → map record_of_word ws ≡ map look (take i cs) → lost ≡ least_of lost_in (map record_of_word ws) → won ≡ all_won (map record_of_word ws) → tied ≡
+    least_of tied_in (map record_of_word ws)
     → settle lost won tied ≡ settled_by r look p
 settled_results r look p cs ws i lost won tied o are past all a b c =
     let whole : map record_of_word ws ≡ map look cs = all ∙ ap (map look) (take_all i cs past) in
@@ -57,10 +62,13 @@ value_canonical r entries c (legal, same) = rw (legal, same) refl
 
 -- what is said of one record, for the record at an index
 module _ (r : Rules) (entries : List TableData) (tier : ℕ) (records : List (Option Solved)) where
-  pub fits_at : (i : ℕ) (d : Option Solved) → i < length records → RecordFits r entries tier records (at tier i) (get_or records i d) → FitsAt r entries tier records i
-  fits_at i d l h o e = let same = same_Some (get_or records i d) o (sym (slice_get-get_or records i d l) ∙ e) in subst (RecordFits r entries tier records (at tier i)) same h
+  pub fits_at : (i : ℕ) (d : Option Solved) → i < length records → RecordFits r entries tier records (at tier i) (get_or records i d) → FitsAt r entries
+      tier records i
+  fits_at i d l h o e = let same = same_Some (get_or records i d) o (sym (slice_get-get_or records i d l) ∙ e) in subst
+      (RecordFits r entries tier records (at tier i)) same h
 
-  pub wrong_at : (i : ℕ) (d : Option Solved) → i < length records → (RecordFits r entries tier records (at tier i) (get_or records i d) → ⊥) → FitsAt r entries tier records i → ⊥
+  pub wrong_at : (i : ℕ) (d : Option Solved) → i < length records → (RecordFits r entries tier records (at tier i) (get_or records i d) → ⊥) → FitsAt r
+      entries tier records i → ⊥
   wrong_at i d l h f = h (f (get_or records i d) (slice_get-get_or records i d l))
 
   -- at an index that is none of a canonical position no record fits but none
@@ -77,7 +85,8 @@ module _ (r : Rules) (entries : List TableData) (tier : ℕ) (records : List (Op
   fit_more lo i h f k l u = elim (cases_eq k i) [ inl e ↦ subst (FitsAt r entries tier records) (sym e) f | inr o ↦ h k l (omega arith) ]
 
   -- all of the records
-  pub first_of_all : (first : Option ℕ) → IsFirstWrongIn r entries tier records 0 (length records) first → MatchOption first ((i : ℕ) → FitsAt r entries tier records i) (IsFirstWrong r entries tier records)
+  pub first_of_all : (first : Option ℕ) → IsFirstWrongIn r entries tier records 0 (length records) first → MatchOption first
+      ((i : ℕ) → FitsAt r entries tier records i) (IsFirstWrong r entries tier records)
   first_of_all None h = λ i o e. (let inside = slice_get_within records i o e in h i (omega arith) inside o e)
   first_of_all (Some w) h = record { there = h.1; wrong = h.2; before = λ i l. h.3 i (omega arith) l }
 
@@ -87,7 +96,8 @@ module _ (r : Rules) (entries : List TableData) (tier : ℕ) (records : List (Op
       e ∙ sym (ap (λ (b : Bool). elim b [ true ↦ record_at records c.index | false ↦ value_in r entries c ]) (eq-eqb c.tier tier same))
 
   -- what is looked up in another tier
-  pub look_up_else : (c : Position) (o : Option Solved) (t : Option TableData) → IsCanonical r c → c.tier ≢ tier → t ≡ table_of entries c.tier → o ≡ record_of t c.index → o ≡ look_up r entries tier records c
+  pub look_up_else : (c : Position) (o : Option Solved) (t : Option TableData) → IsCanonical r c → c.tier ≢ tier → t ≡ table_of entries c.tier → o ≡
+      record_of t c.index → o ≡ look_up r entries tier records c
   look_up_else c o t is other held e =
       let apart : (c.tier == tier) ≡ false = ne_eqb c.tier tier other in
       let known : value_in r entries c ≡ record_in entries c = value_canonical r entries c is in

@@ -1,5 +1,6 @@
 -- Blocks that are dealt out, and what is found of them, item by item.
-use Rattle.std.proofs.Common.{◌≡◌, ℕ, zero, suc, ◌+◌, ◌-◌, ◌*◌, ◌/◌, ◌%◌, ◌<◌, ◌⊎◌, inl, inr, List, [], ◌∷◌, ◌++◌, length, slice_get, Some, sym, ap, subst, ◌∙◌, arith}
+use Rattle.std.proofs.Common.{◌≡◌, ℕ, zero, suc, ◌+◌, ◌-◌, ◌*◌, ◌/◌, ◌%◌, ◌<◌, ◌⊎◌, inl, inr, List, [], ◌∷◌, ◌++◌, length, slice_get, Some, sym, ap, subst, ◌∙◌}
+use Rattle.std.proofs.Common.{arith}
 use Rattle.std.specs.List.{AllZip, range_with_len}
 use Rattle.std.proofs.Math.Nat.{div-lt_iff_lt-mul, mod-lt}
 use Rattle.std.proofs.lemmas.Nat.{mul-add-lt, mod-mul-add, div-mul-add, div-add-mod'}
@@ -8,7 +9,8 @@ use Rattle.std.proofs.lemmas.List.FromFn.{length-range_with_len}
 use Rattle.gm_table.specs.Dealing.{block_in}
 
 -- an item of two lists, one after the other, stands in one of them
-pub append_cases : {X : Type 0} (xs ys : List X) (k : ℕ) (x : X) → slice_get (xs ++ ys) k ≡ Some x → (slice_get xs k ≡ Some x) ⊎ ((j : ℕ) × (k ≡ length xs + j) × (slice_get ys j ≡ Some x))
+pub append_cases : {X : Type 0} (xs ys : List X) (k : ℕ) (x : X) → slice_get (xs ++ ys) k ≡ Some x → (slice_get xs k ≡ Some x) ⊎
+    ((j : ℕ) × (k ≡ length xs + j) × (slice_get ys j ≡ Some x))
 append_cases [] ys k x e = inr (k, (let same : k ≡ 0 + k = omega arith in same), e)
 append_cases (z ∷ zs) ys zero x e = inl e
 append_cases (z ∷ zs) ys (suc k) x e = elim (append_cases zs ys k x e) [
@@ -42,9 +44,11 @@ dealt rows block within =
     (inside, ap (λ (a : ℕ). a * 32 + place / rows) low ∙ ap (λ (b : ℕ). block / 32 * 32 + b) high ∙ div-add-mod' block 32)
 
 -- a list that goes with the numbers below n, item by item
-pub zip_whole : {X : Type 0} (R : ℕ → X → Type 0) (n : ℕ) (numbers : List ℕ) (xs items : List X) → numbers ≡ range_with_len 0 (n - 0) → AllZip R numbers xs → items ≡ xs → (length items ≡ n) × AllZip R (range_with_len 0 (length items)) items
+pub zip_whole : {X : Type 0} (R : ℕ → X → Type 0) (n : ℕ) (numbers : List ℕ) (xs items : List X) → numbers ≡ range_with_len 0 (n - 0) → AllZip R numbers xs
+    → items ≡ xs → (length items ≡ n) × AllZip R (range_with_len 0 (length items)) items
 zip_whole {X} R n numbers xs items places zip same =
     let same_end : n - 0 ≡ n = omega arith in
-    let z = subst (λ (ys : List X). AllZip R (range_with_len 0 n) ys) (sym same) (subst (λ (is : List ℕ). AllZip R is xs) (places ∙ ap (range_with_len 0) same_end) zip) in
+    let z = subst (λ (ys : List X). AllZip R (range_with_len 0 n) ys) (sym same) (subst (λ (is : List ℕ). AllZip R is xs)
+    (places ∙ ap (range_with_len 0) same_end) zip) in
     let long : length items ≡ n = AllZip-long R (range_with_len 0 n) items z ∙ length-range_with_len 0 n in
     (long, subst (λ (m : ℕ). AllZip R (range_with_len 0 m) items) (sym long) z)

@@ -1,5 +1,6 @@
 -- The greatest level of the records, and the indexes of those at a place.
-use Rattle.std.proofs.Common.{◌≡◌, ℕ, zero, suc, ◌<◌, ◌+◌, max, List, [], ◌∷◌, ◌++◌, take, length, get_or, refl, sym, ap, ◌∙◌, subst, arith, false, Option, None, Some, is_some, ◌⊎◌, inl, inr}
+use Rattle.std.proofs.Common.{◌≡◌, ℕ, zero, suc, ◌<◌, ◌+◌, max, List, [], ◌∷◌, ◌++◌, take, length, get_or, refl, sym, ap, ◌∙◌, subst, arith, false, Option}
+use Rattle.std.proofs.Common.{None, Some, is_some, ◌⊎◌, inl, inr}
 use Rattle.std.proofs.lemmas.List.{take_more}
 use Rattle.std.proofs.lemmas.Option.{none-some, same_Some, slice_get-get_or}
 use Rattle.std.proofs.lemmas.Bool.{cases_lt}
@@ -23,15 +24,19 @@ later_assoc (Some k) (Some m) None = refl
 later_assoc (Some k) (Some m) (Some n) = ap Some (let e : max k (max m n) ≡ max (max k m) n = omega arith in e)
 
 -- one more record at the end
-greatest_push : (phase : Phase) (os : List (Option Solved)) (o : Option Solved) → greatest_of phase (os ++ o ∷ []) ≡ later (greatest_of phase os) (level_in phase o)
+greatest_push : (phase : Phase) (os : List (Option Solved)) (o : Option Solved) → greatest_of phase (os ++ o ∷ []) ≡ later (greatest_of phase os)
+    (level_in phase o)
 greatest_push phase [] o = later_none (level_in phase o)
-greatest_push phase (x ∷ xs) o = ap (later (level_in phase x)) (greatest_push phase xs o) ∙ later_assoc (level_in phase x) (greatest_of phase xs) (level_in phase o)
+greatest_push phase (x ∷ xs) o = ap (later (level_in phase x)) (greatest_push phase xs o) ∙ later_assoc (level_in phase x) (greatest_of phase xs)
+    (level_in phase o)
 
-greatest_more : (phase : Phase) (os : List (Option Solved)) (i : ℕ) (d : Option Solved) → i < length os → greatest_of phase (take (i + 1) os) ≡ later (greatest_of phase (take i os)) (level_in phase (get_or os i d))
+greatest_more : (phase : Phase) (os : List (Option Solved)) (i : ℕ) (d : Option Solved) → i < length os → greatest_of phase (take (i + 1) os) ≡ later
+    (greatest_of phase (take i os)) (level_in phase (get_or os i d))
 greatest_more phase os i d l = ap (greatest_of phase) (take_more os i d l) ∙ greatest_push phase (take i os) (get_or os i d)
 
 -- the greatest level of one record more
-pub greatest_with_one : (phase : Phase) (os : List (Option Solved)) (i : ℕ) (o : Option Solved) (was : Option ℕ) → i < length os → o ≡ record_at os i → was ≡ greatest_of phase (take i os)
+pub greatest_with_one : (phase : Phase) (os : List (Option Solved)) (i : ℕ) (o : Option Solved) (was : Option ℕ) → i < length os → o ≡ record_at os i → was
+    ≡ greatest_of phase (take i os)
     → later was (level_in phase o) ≡ greatest_of phase (take (i + 1) os)
 greatest_with_one phase os i o was l known e =
     ap (λ (n : Option ℕ). later n (level_in phase o)) e
@@ -39,7 +44,8 @@ greatest_with_one phase os i o was l known e =
     ∙ sym (greatest_more phase os i None l)
 
 -- and of no record more
-pub greatest_without : (phase : Phase) (os : List (Option Solved)) (i : ℕ) (o : Option Solved) (was : Option ℕ) → i < length os → o ≡ record_at os i → is_some o ≡ false → was ≡ greatest_of phase (take i os)
+pub greatest_without : (phase : Phase) (os : List (Option Solved)) (i : ℕ) (o : Option Solved) (was : Option ℕ) → i < length os → o ≡ record_at os i →
+    is_some o ≡ false → was ≡ greatest_of phase (take i os)
     → was ≡ greatest_of phase (take (i + 1) os)
 greatest_without phase os i None was l known none e = sym (later_none was) ∙ greatest_with_one phase os i None was l known e
 greatest_without phase os i (Some s) was l known none e = absurd (let z : ⊥ = cc in z)
@@ -51,11 +57,13 @@ level_first phase o os n e = (0, o, refl, e)
 level_later : (phase : Phase) (o : Option Solved) (os : List (Option Solved)) (n : ℕ) → HasLevel phase os n → HasLevel phase (o ∷ os) n
 level_later phase o os n (i, x, e, h) = (suc i, x, e, h)
 
-level_cases : (phase : Phase) (o : Option Solved) (os : List (Option Solved)) (n : ℕ) → HasLevel phase (o ∷ os) n → (level_in phase o ≡ Some n) ⊎ HasLevel phase os n
+level_cases : (phase : Phase) (o : Option Solved) (os : List (Option Solved)) (n : ℕ) → HasLevel phase (o ∷ os) n → (level_in phase o ≡ Some n) ⊎ HasLevel
+    phase os n
 level_cases phase o os n (zero, x, s, t) = inl (ap (level_in phase) (same_Some o x s) ∙ t)
 level_cases phase o os n (suc i, x, s, t) = inr (i, x, s, t)
 
-greatest_with : (phase : Phase) (o : Option Solved) (os : List (Option Solved)) (a b : Option ℕ) → level_in phase o ≡ a → IsGreatest phase os b → IsGreatest phase (o ∷ os) (later a b)
+greatest_with : (phase : Phase) (o : Option Solved) (os : List (Option Solved)) (a b : Option ℕ) → level_in phase o ≡ a → IsGreatest phase os b → IsGreatest
+    phase (o ∷ os) (later a b)
 greatest_with phase o os None None e h = λ n x. elim (level_cases phase o os n x) [ inl s ↦ none-some n (sym e ∙ s) | inr t ↦ h n t ]
 greatest_with phase o os None (Some m) e h = record {
   there = level_later phase o os m h.there;
@@ -70,7 +78,11 @@ greatest_with phase o os (Some k) (Some m) e h = record {
     | inl l ↦ (let q : m ≡ max k m = omega arith in subst (HasLevel phase (o ∷ os)) q (level_later phase o os m h.there))
     | inr l ↦ (let q : k ≡ max k m = omega arith in subst (HasLevel phase (o ∷ os)) q (level_first phase o os k e))
   ];
-  greatest = λ n x. elim (level_cases phase o os n x) [ inl s ↦ (let q = same_Some k n (sym e ∙ s) in omega arith) | inr t ↦ (let q = h.greatest n t in omega arith) ];
+  greatest = λ n x. elim (level_cases phase o os n x) [
+    | inl s ↦ (let q = same_Some k n (sym e ∙ s) in omega arith)
+    | inr t ↦
+        (let q = h.greatest n t in omega arith)
+  ];
 }
 
 greatest_exact : (phase : Phase) (os : List (Option Solved)) → IsGreatest phase os (greatest_of phase os)

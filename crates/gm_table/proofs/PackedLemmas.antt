@@ -10,12 +10,14 @@ pub near_at : (records : List (Option Solved)) (i : ℕ) (d : Option Solved) →
 near_at records i d near inside = near i (get_or records i d) (slice_get-get_or records i d inside)
 
 -- one record more is packed
-pub packed_more : (numbers new : List ℕ) (records : List (Option Solved)) (i n : ℕ) (d : Option Solved) → i < length records → map unpacked numbers ≡ take i records → new ≡ numbers ++ n ∷ []
+pub packed_more : (numbers new : List ℕ) (records : List (Option Solved)) (i n : ℕ) (d : Option Solved) → i < length records → map unpacked numbers ≡ take i
+    records → new ≡ numbers ++ n ∷ []
     → unpacked n ≡ get_or records i d → map unpacked new ≡ take (i + 1) records
 packed_more numbers new records i n d inside before is e =
     ap (map unpacked) is ∙ map-append unpacked numbers (n ∷ []) ∙ ap (λ (rs : List (Option Solved)). rs ++ unpacked n ∷ []) before
     ∙ ap (λ (o : Option Solved). take i records ++ o ∷ []) e ∙ sym (take_more records i d inside)
 
 -- all are packed
-pub packed_all : (numbers : List ℕ) (records : List (Option Solved)) (i : ℕ) → length records ≤ i → map unpacked numbers ≡ take i records → map unpacked numbers ≡ records
+pub packed_all : (numbers : List ℕ) (records : List (Option Solved)) (i : ℕ) → length records ≤ i → map unpacked numbers ≡ take i records → map unpacked
+    numbers ≡ records
 packed_all numbers records i past e = e ∙ take_all i records past

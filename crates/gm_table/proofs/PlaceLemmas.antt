@@ -1,5 +1,6 @@
 -- Records at a place are those of the positions that stand there.
-use Rattle.std.proofs.Common.{◌≡◌, ℕ, zero, suc, ◌<◌, ◌≤◌, ◌+◌, ◌↔◌, Bool, true, false, if◌then◌else◌, List, [], ◌∷◌, get_or, refl, sym, ap, ◌∙◌, subst, inl, inr, arith, Option, None, Some, IsSome, slice_get, eq-eqb, eqb-true}
+use Rattle.std.proofs.Common.{◌≡◌, ℕ, zero, suc, ◌<◌, ◌≤◌, ◌+◌, ◌↔◌, Bool, true, false, if◌then◌else◌, List, [], ◌∷◌, get_or, refl, sym, ap, ◌∙◌, subst, inl}
+use Rattle.std.proofs.Common.{inr, arith, Option, None, Some, IsSome, slice_get, eq-eqb, eqb-true}
 use Rattle.std.specs.List.{Contains}
 use Rattle.std.proofs.lemmas.Option.{same_Some, none-some, slice_get-get_or}
 use Rattle.gm_game.specs.declared.position.Position.{Position}
@@ -35,7 +36,8 @@ indexes_in_cond : (b : Bool) (k i : ℕ) (is : List ℕ) (P : Type 0) → (b ≡
 indexes_in_cond true k i is P here later c = elim (contains_cases k i is c) [ inl e ↦ here refl e | inr d ↦ later d ]
 indexes_in_cond false k i is P here later c = later c
 
-indexes_in : (k : ℕ) (phase : Phase) (n : ℕ) (os : List (Option Solved)) (i : ℕ) → Contains (indexes_from k phase n os) i → (j : ℕ) × (i ≡ k + j) × IsAt phase n os j
+indexes_in : (k : ℕ) (phase : Phase) (n : ℕ) (os : List (Option Solved)) (i : ℕ) → Contains (indexes_from k phase n os) i → (j : ℕ) × (i ≡ k + j) × IsAt
+    phase n os j
 unfolding IsAt
 indexes_in k phase n [] i c = absurd (contains_none i c)
 indexes_in k phase n (o ∷ os) i c =
@@ -54,12 +56,15 @@ indexes_has k phase n [] j (o, e, h) = absurd (none-some o e)
 indexes_has k phase n (x ∷ xs) zero (o, e, h) =
     let b = is_level_is n (level_in phase x) (ap (level_in phase) (same_Some x o e) ∙ h) in
     let s : k ≡ k + 0 = omega arith in
-    subst (λ (i : ℕ). Contains (indexes_from k phase n (x ∷ xs)) i) s (subst (λ (c : Bool). Contains (if c then k ∷ indexes_from (suc k) phase n xs else indexes_from (suc k) phase n xs) k) (sym b) (contains_first k (indexes_from (suc k) phase n xs)))
+    subst (λ (i : ℕ). Contains (indexes_from k phase n (x ∷ xs)) i) s (subst (λ (c : Bool). Contains
+    (if c then k ∷ indexes_from (suc k) phase n xs else indexes_from (suc k) phase n xs) k) (sym b) (contains_first k (indexes_from (suc k) phase n xs)))
 indexes_has k phase n (x ∷ xs) (suc j) a =
     let s : suc k + j ≡ k + suc j = omega arith in
-    contains_cond (is_level n (level_in phase x)) k (k + suc j) (indexes_from (suc k) phase n xs) (subst (Contains (indexes_from (suc k) phase n xs)) s (indexes_has (suc k) phase n xs j a))
+    contains_cond (is_level n (level_in phase x)) k (k + suc j) (indexes_from (suc k) phase n xs)
+    (subst (Contains (indexes_from (suc k) phase n xs)) s (indexes_has (suc k) phase n xs j a))
 
-pub indexes_exact : (phase : Phase) (n : ℕ) (os : List (Option Solved)) (i : ℕ) → Contains (indexes_at phase n os) i ↔ ((o : Option Solved) × (slice_get os i ≡ Some o) × (level_in phase o ≡ Some n))
+pub indexes_exact : (phase : Phase) (n : ℕ) (os : List (Option Solved)) (i : ℕ) → Contains (indexes_at phase n os) i ↔
+    ((o : Option Solved) × (slice_get os i ≡ Some o) × (level_in phase o ≡ Some n))
 unfolding IsAt
 indexes_exact phase n os i = (
   λ c. (let (j, e, h) = indexes_in 0 phase n os i c in let s : j ≡ i = omega arith in subst (IsAt phase n os) s h),
@@ -85,13 +90,15 @@ ascending_cond false k is h a = a
 
 ascending_from : (k : ℕ) (phase : Phase) (n : ℕ) (os : List (Option Solved)) → IsAscending (indexes_from k phase n os)
 ascending_from k phase n [] = tt
-ascending_from k phase n (o ∷ os) = ascending_cond (is_level n (level_in phase o)) k (indexes_from (suc k) phase n os) (from_indexes (suc k) phase n os) (ascending_from (suc k) phase n os)
+ascending_from k phase n (o ∷ os) = ascending_cond (is_level n (level_in phase o)) k (indexes_from (suc k) phase n os) (from_indexes (suc k) phase n os)
+    (ascending_from (suc k) phase n os)
 
 pub indexes_ascending : (phase : Phase) (n : ℕ) (os : List (Option Solved)) → IsAscending (indexes_at phase n os)
 indexes_ascending phase n os = ascending_from 0 phase n os
 
 -- the level of a true value is the place of its position
-stands_from : (r : Rules) (p : Position) (phase : Phase) (v : Value) (m n : ℕ) → HasValue r p v m → level_in phase (Some (solved v m)) ≡ Some n → StandsAt r phase n p
+stands_from : (r : Rules) (p : Position) (phase : Phase) (v : Value) (m n : ℕ) → HasValue r p v m → level_in phase (Some (solved v m)) ≡ Some n → StandsAt r
+    phase n p
 stands_from r p WinLose Lose m n h e = inr (subst (HasValue r p Lose) (same_Some m n e) h)
 stands_from r p WinLose Win m n h e = inl (subst (HasValue r p Win) (same_Some m n e) h)
 stands_from r p WinLose Tie m n h e = absurd (none-some n e)
@@ -102,8 +109,10 @@ stands_from r p Ties Win m n h e = absurd (none-some n e)
 stands_from r p Ties Draw m n h e = absurd (none-some n e)
 
 -- a place gives the value's phase and remoteness
-level_of_value : (r : Rules) (p : Position) (phase : Phase) (v w : Value) (m n : ℕ) → HasValue r p v m → HasValue r p w n → level_in phase (Some (solved w n)) ≡ Some n → level_in phase (Some (solved v m)) ≡ Some n
-level_of_value r p phase v w m n h k e = let (a, b) = HasValue_once r p v w m n h k in ap (λ x. level_in phase (Some (solved x m))) a ∙ ap (λ x. level_in phase (Some (solved w x))) b ∙ e
+level_of_value : (r : Rules) (p : Position) (phase : Phase) (v w : Value) (m n : ℕ) → HasValue r p v m → HasValue r p w n → level_in phase
+    (Some (solved w n)) ≡ Some n → level_in phase (Some (solved v m)) ≡ Some n
+level_of_value r p phase v w m n h k e = let (a, b) = HasValue_once r p v w m n h k in ap (λ x. level_in phase (Some (solved x m))) a ∙ ap
+    (λ x. level_in phase (Some (solved w x))) b ∙ e
 
 stands_level : (r : Rules) (p : Position) (phase : Phase) (s : Solved) (n : ℕ) → IsTrueValue r p s → StandsAt r phase n p → level_in phase (Some s) ≡ Some n
 stands_level r p WinLose s n h (inl k) = level_of_value r p WinLose s.value Win s.remoteness n h k refl
@@ -112,11 +121,13 @@ stands_level r p Ties s n h k = level_of_value r p Ties s.value Tie s.remoteness
 
 -- in a table
 module _ (r : Rules) (g : IsGame r) (t : TableData) (h : IsTable r t) (phase : Phase) (n : ℕ) where
-  stands_there : (i : ℕ) (o : Option Solved) → slice_get t.records i ≡ Some o → level_in phase o ≡ Some n → IsCanonical r (at t.tier i) × StandsAt r phase n (at t.tier i)
+  stands_there : (i : ℕ) (o : Option Solved) → slice_get t.records i ≡ Some o → level_in phase o ≡ Some n → IsCanonical r (at t.tier i) × StandsAt r phase n
+      (at t.tier i)
   stands_there i None e l = absurd (none-some n l)
   stands_there i (Some s) e l = let (c, v, m) = h.is_true.each i (Some s) e in (c, stands_from r (at t.tier i) phase s.value s.remoteness n v l)
 
-  level_there : (i : ℕ) (o : Option Solved) → slice_get t.records i ≡ Some o → IsCanonical r (at t.tier i) → StandsAt r phase n (at t.tier i) → level_in phase o ≡ Some n
+  level_there : (i : ℕ) (o : Option Solved) → slice_get t.records i ≡ Some o → IsCanonical r (at t.tier i) → StandsAt r phase n (at t.tier i) → level_in
+      phase o ≡ Some n
   level_there i None e c s = absurd (h.is_true.each i None e c)
   level_there i (Some x) e c s = stands_level r (at t.tier i) phase x n (h.is_true.each i (Some x) e).1 s
 
@@ -152,8 +163,10 @@ module _ (r : Rules) (g : IsGame r) (entries : List TableData) (h : AreTables r 
       let (q, k) = h tier t e in
       let there : IsHeld entries tier = subst IsSome (sym e) refl in
       let same = indexes_stand r g t k phase n i in (
-        λ c. (let (a, b) = subst (λ u. IsCanonical r (at u i) × StandsAt r phase n (at u i)) q (same.0 (subst (λ (is : List ℕ). Contains is i) run c)) in (there, a, b)),
-        λ (x, a, b). subst (λ (is : List ℕ). Contains is i) (sym run) (same.1 (subst (λ u. IsCanonical r (at u i) × StandsAt r phase n (at u i)) (sym q) (a, b))),
+        λ c. (let (a, b) = subst (λ u. IsCanonical r (at u i) × StandsAt r phase n (at u i)) q (same.0 (subst (λ (is : List ℕ). Contains is i) run c)) in
+            (there, a, b)),
+        λ (x, a, b). subst (λ (is : List ℕ). Contains is i) (sym run) (same.1 (subst (λ u. IsCanonical r (at u i) × StandsAt r phase n (at u i)) (sym q)
+            (a, b))),
       )
 
   pub run_stands : (i : ℕ) → Contains (run_of entries tier phase n) i ↔ (IsHeld entries tier × IsCanonical r (at tier i) × StandsAt r phase n (at tier i))

@@ -1,5 +1,6 @@
 -- The indexes at a place with one record more, and a run with one index more.
-use Rattle.std.proofs.Common.{◌≡◌, ℕ, suc, ◌<◌, ◌+◌, ◌==◌, Bool, true, false, if◌then◌else◌, List, [], ◌∷◌, ◌++◌, map, set, take, length, get_or, refl, sym, ap, ◌∙◌, subst, arith, Option, None, Vec, inl, inr, eq-eqb, ne_eqb}
+use Rattle.std.proofs.Common.{◌≡◌, ℕ, suc, ◌<◌, ◌+◌, ◌==◌, Bool, true, false, if◌then◌else◌, List, [], ◌∷◌, ◌++◌, map, set, take, length, get_or, refl, sym, ap}
+use Rattle.std.proofs.Common.{◌∙◌, subst, arith, Option, None, Vec, inl, inr, eq-eqb, ne_eqb}
 use Rattle.std.proofs.lemmas.List.{take_more, map-set, get_or-map, get_or-set_same, get_or-set_other, length-map, length-take}
 use Rattle.std.proofs.lemmas.Bool.{cases_eq}
 use Rattle.std.specs.declared.alloc.Global.{Global}
@@ -23,28 +24,35 @@ push_later false false k ys zs i j e h = h
 
 -- one record more at the end
 indexes_push : (k : ℕ) (phase : Phase) (n : ℕ) (os : List (Option Solved)) (o : Option Solved)
-    → indexes_from k phase n (os ++ o ∷ []) ≡ (if is_level n (level_in phase o) then indexes_from k phase n os ++ (k + length os) ∷ [] else indexes_from k phase n os)
+    → indexes_from k phase n (os ++ o ∷ []) ≡ (if is_level n (level_in phase o) then indexes_from k phase n os ++ (k + length os) ∷ [] else indexes_from k
+    phase n os)
 indexes_push k phase n [] o = push_first (is_level n (level_in phase o)) k
 indexes_push k phase n (x ∷ xs) o =
-    push_later (is_level n (level_in phase x)) (is_level n (level_in phase o)) k (indexes_from (suc k) phase n (xs ++ o ∷ [])) (indexes_from (suc k) phase n xs) (suc k + length xs) (k + length (x ∷ xs)) (omega arith) (indexes_push (suc k) phase n xs o)
+    push_later (is_level n (level_in phase x)) (is_level n (level_in phase o)) k (indexes_from (suc k) phase n (xs ++ o ∷ []))
+    (indexes_from (suc k) phase n xs) (suc k + length xs) (k + length (x ∷ xs)) (omega arith) (indexes_push (suc k) phase n xs o)
 
 -- the indexes with one record more
 indexes_more : (phase : Phase) (n i : ℕ) (os : List (Option Solved)) (d : Option Solved) → i < length os
-    → indexes_at phase n (take (i + 1) os) ≡ (if is_level n (level_in phase (get_or os i d)) then indexes_at phase n (take i os) ++ i ∷ [] else indexes_at phase n (take i os))
+    → indexes_at phase n (take (i + 1) os) ≡ (if is_level n (level_in phase (get_or os i d)) then indexes_at phase n (take i os) ++ i ∷ [] else indexes_at
+    phase n (take i os))
 indexes_more phase n i os d l =
     let e : 0 + length (take i os) ≡ i = rw length-take (omega arith) in
-    ap (indexes_at phase n) (take_more os i d l) ∙ indexes_push 0 phase n (take i os) (get_or os i d) ∙ ap (λ j. if is_level n (level_in phase (get_or os i d)) then indexes_at phase n (take i os) ++ j ∷ [] else indexes_at phase n (take i os)) e
+    ap (indexes_at phase n) (take_more os i d l) ∙ indexes_push 0 phase n (take i os) (get_or os i d) ∙ ap
+    (λ j. if is_level n (level_in phase (get_or os i d)) then indexes_at phase n (take i os) ++ j ∷ [] else indexes_at phase n (take i os)) e
 
 -- a run that has the indexes of the first records has those with one record more
-pub indexes_with : (phase : Phase) (n i : ℕ) (os : List (Option Solved)) (o : Option Solved) (was : List ℕ) → i < length os → o ≡ record_at os i → was ≡ indexes_at phase n (take i os)
+pub indexes_with : (phase : Phase) (n i : ℕ) (os : List (Option Solved)) (o : Option Solved) (was : List ℕ) → i < length os → o ≡ record_at os i → was ≡
+    indexes_at phase n (take i os)
     → (if is_level n (level_in phase o) then was ++ i ∷ [] else was) ≡ indexes_at phase n (take (i + 1) os)
 indexes_with phase n i os o was l known h =
     ap (λ (ys : List ℕ). if is_level n (level_in phase o) then ys ++ i ∷ [] else ys) h
-    ∙ ap (λ (x : Option Solved). if is_level n (level_in phase x) then indexes_at phase n (take i os) ++ i ∷ [] else indexes_at phase n (take i os)) (known ∙ record_read os i l)
+    ∙ ap (λ (x : Option Solved). if is_level n (level_in phase x) then indexes_at phase n (take i os) ++ i ∷ [] else indexes_at phase n (take i os))
+    (known ∙ record_read os i l)
     ∙ sym (indexes_more phase n i os None l)
 
 -- a run with one index more
-pub run_push : (runs new_runs : Vec (Vec ℕ Global) Global) (i : ℕ) (old new : Vec ℕ Global) (x : ℕ) → i < length runs.items → old ≡ get_or runs.items i old → new.items ≡ old.items ++ x ∷ [] → new_runs.items ≡ set runs.items i new
+pub run_push : (runs new_runs : Vec (Vec ℕ Global) Global) (i : ℕ) (old new : Vec ℕ Global) (x : ℕ) → i < length runs.items → old ≡ get_or runs.items i old
+    → new.items ≡ old.items ++ x ∷ [] → new_runs.items ≡ set runs.items i new
     → (n : ℕ) → run_at new_runs n ≡ (if i == n then run_at runs n ++ x ∷ [] else run_at runs n)
 run_push runs new_runs i old new x l e h w n =
     let f = λ (run : Vec ℕ Global). run.items in

@@ -1,5 +1,6 @@
 -- The values that tables give.
-use Rattle.std.proofs.Common.{◌≡◌, ℕ, ◌<◌, ◌↔◌, true, false, List, length, get_or, refl, sym, ap, ◌∙◌, subst, Bool, Option, None, Some, IsSome, IfSome, slice_get}
+use Rattle.std.proofs.Common.{◌≡◌, ℕ, ◌<◌, ◌↔◌, true, false, List, length, get_or, refl, sym, ap, ◌∙◌, subst, Bool, Option, None, Some, IsSome, IfSome}
+use Rattle.std.proofs.Common.{slice_get}
 use Rattle.std.proofs.lemmas.Option.{slice_get-get_or}
 use Rattle.gm_game.specs.declared.position.Position.{Position}
 use Rattle.gm_game.specs.declared.position.Solved.{Solved}
@@ -14,11 +15,13 @@ use Rattle.gm_game.proofs.Checker.{true_iff_fits}
 use Rattle.gm_table.specs.Tables.{TableData, IsTable, record_at, table_of, IsHeld, AreHeld, AreTables, record_in, value_in}
 
 -- a table has the record of each canonical position of its tier
-record_there : (r : Rules) (t : TableData) (c : Position) (s : Option Solved) → IsTrueTable r REMOTENESS t.tier t.records → IsCanonical r c → c.tier ≡ t.tier → slice_get t.records c.index ≡ Some s → (x : Solved) × (record_at t.records c.index ≡ Some x) × IsTrueValue r c x
+record_there : (r : Rules) (t : TableData) (c : Position) (s : Option Solved) → IsTrueTable r REMOTENESS t.tier t.records → IsCanonical r c → c.tier ≡
+    t.tier → slice_get t.records c.index ≡ Some s → (x : Solved) × (record_at t.records c.index ≡ Some x) × IsTrueValue r c x
 record_there r t c None h i e q = absurd (h.each c.index None q (subst (λ x. IsCanonical r x) (ap (λ u. at u c.index) e) i))
 record_there r t c (Some x) h i e q = (x, rw (q, record_at) refl, subst (λ y. IsTrueValue r y x) (ap (λ u. at u c.index) (sym e)) (h.each c.index (Some x) q).1)
 
-record_of : (r : Rules) (g : IsGame r) (t : TableData) (c : Position) → IsTable r t → IsCanonical r c → c.tier ≡ t.tier → (x : Solved) × (record_at t.records c.index ≡ Some x) × IsTrueValue r c x
+record_of : (r : Rules) (g : IsGame r) (t : TableData) (c : Position) → IsTable r t → IsCanonical r c → c.tier ≡ t.tier → (x : Solved) ×
+    (record_at t.records c.index ≡ Some x) × IsTrueValue r c x
 record_of r g t c h i e =
     let l : c.index < length t.records = subst (λ n. c.index < n) (sym h.is_true.whole) (subst (λ u. c.index < r.tier_size u) e (g.index_below c i.0)) in
     record_there r t c (get_or t.records c.index None) h.is_true i e (slice_get-get_or t.records c.index None l)
@@ -44,7 +47,8 @@ module _ (r : Rules) (g : IsGame r) (entries : List TableData) (p : Position) wh
   value_held : (t : TableData) → r.is_legal p ≡ true → table_of entries p.tier ≡ Some t → value_in r entries p ≡ record_at t.records (r.canonical p).index
   value_held t l e = value_legal l ∙ record_held entries t (r.canonical p) (canonical_held (Some t) l e)
 
-  pub value_read : (t : TableData) (o : Option Solved) → true ≡ r.is_legal p → Some t ≡ table_of entries p.tier → o ≡ record_at t.records (r.canonical p).index → o ≡ value_in r entries p
+  pub value_read : (t : TableData) (o : Option Solved) → true ≡ r.is_legal p → Some t ≡ table_of entries p.tier → o ≡ record_at t.records
+      (r.canonical p).index → o ≡ value_in r entries p
   value_read t o l e h = h ∙ sym (value_held t (sym l) (sym e))
 
   not_held : (b : Bool) → r.is_legal p ≡ b → table_of entries p.tier ≡ None → value_in r entries p ≡ None
@@ -52,7 +56,8 @@ module _ (r : Rules) (g : IsGame r) (entries : List TableData) (p : Position) wh
   not_held false l e = value_not_legal l
 
   -- a legal position of a held tier has its true value
-  known_value : (t : TableData) → AreTables r entries → r.is_legal p ≡ true → table_of entries p.tier ≡ Some t → (s : Solved) × (value_in r entries p ≡ Some s) × IsTrueValue r p s
+  known_value : (t : TableData) → AreTables r entries → r.is_legal p ≡ true → table_of entries p.tier ≡ Some t → (s : Solved) ×
+      (value_in r entries p ≡ Some s) × IsTrueValue r p s
   known_value t h l e =
       let (q, k) = h p.tier t e in
       let c = r.canonical p in
@@ -66,7 +71,8 @@ module _ (r : Rules) (g : IsGame r) (entries : List TableData) (p : Position) wh
   none_case : (IsLegalHeld → ⊥) → value_in r entries p ≡ None → (IsSome (value_in r entries p) ↔ IsLegalHeld) × IfSome (value_in r entries p) (IsTrueValue r p)
   none_case n e = (subst (λ o. IsSome o ↔ IsLegalHeld) (sym e) (λ i. absurd (cc), λ k. absurd (n k)), subst (λ o. IfSome o (IsTrueValue r p)) (sym e) tt)
 
-  some_case : (s : Solved) → IsLegalHeld → value_in r entries p ≡ Some s → IsTrueValue r p s → (IsSome (value_in r entries p) ↔ IsLegalHeld) × IfSome (value_in r entries p) (IsTrueValue r p)
+  some_case : (s : Solved) → IsLegalHeld → value_in r entries p ≡ Some s → IsTrueValue r p s → (IsSome (value_in r entries p) ↔ IsLegalHeld) × IfSome
+      (value_in r entries p) (IsTrueValue r p)
   some_case s k e v = (subst (λ o. IsSome o ↔ IsLegalHeld) (sym e) (λ i. k, λ i. refl), subst (λ o. IfSome o (IsTrueValue r p)) (sym e) v)
 
   value_cases : (b : Bool) (o : Option TableData) → AreTables r entries → r.is_legal p ≡ b → table_of entries p.tier ≡ o
@@ -91,13 +97,16 @@ module _ (r : Rules) (g : IsGame r) (entries : List TableData) (tables : AreTabl
   holds_children tier h c k i = held_known c (table_of entries c.tier) refl (h c.tier k) i
 
   -- records fit exactly where they are the true ones
-  pub true_iff_fit : (tier : ℕ) (records : List (Option Solved)) → AreHeld r entries tier → IsTrueTable r REMOTENESS tier records ↔ Fits r REMOTENESS tier (value_in r entries) records
+  pub true_iff_fit : (tier : ℕ) (records : List (Option Solved)) → AreHeld r entries tier → IsTrueTable r REMOTENESS tier records ↔ Fits r REMOTENESS tier
+      (value_in r entries) records
   true_iff_fit tier records h = true_iff_fits r g tier (value_in r entries) records REMOTENESS (holds_children tier h)
 
 -- the record at an index of a table, also past its end
 pub record_is : (r : Rules) (g : IsGame r) (t : TableData) (i : ℕ) → IsTable r t → IsRecord r REMOTENESS (IsTrueValue r) (at t.tier i) (record_at t.records i)
 record_is r g t i is = record_cases (slice_get t.records i) refl
   where
-    record_cases : (o : Option (Option Solved)) → slice_get t.records i ≡ o → IsRecord r REMOTENESS (IsTrueValue r) (at t.tier i) (elim o [ None ↦ None | Some x ↦ x ])
-    record_cases None e = λ k. (let inside : i < length t.records = subst (λ n. i < n) (sym is.is_true.whole) (g.index_below (at t.tier i) k.0) in let there = slice_get-get_or t.records i None inside in absurd (cc))
+    record_cases : (o : Option (Option Solved)) → slice_get t.records i ≡ o → IsRecord r REMOTENESS (IsTrueValue r) (at t.tier i)
+        (elim o [ None ↦ None | Some x ↦ x ])
+    record_cases None e = λ k. (let inside : i < length t.records = subst (λ n. i < n) (sym is.is_true.whole) (g.index_below (at t.tier i) k.0) in let there
+        = slice_get-get_or t.records i None inside in absurd (cc))
     record_cases (Some x) e = is.is_true.each i x e

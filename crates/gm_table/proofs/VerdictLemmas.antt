@@ -10,7 +10,8 @@ use Rattle.gm_table.specs.declared.checker.CheckError.{CheckError}
 use Rattle.gm_table.specs.declared.checker.CheckError.TheVariants.{OutOfMemory, WrongSize, WrongRecord}
 use Rattle.gm_table.specs.Checks.{FitTables, IsFirstWrong, AreWrong}
 
-module _ (r : Rules) (entries : List TableData) (tier : ℕ) (records : List (Option Solved)) (same : IsTrueTable r REMOTENESS tier records ↔ FitTables r entries tier records) where
+module _ (r : Rules) (entries : List TableData) (tier : ℕ) (records : List (Option Solved))
+    (same : IsTrueTable r REMOTENESS tier records ↔ FitTables r entries tier records) where
   -- true records have no first wrong one
   pub true_no_first : IsTrueTable r REMOTENESS tier records → (i : ℕ) → IsFirstWrong r entries tier records i → ⊥
   true_no_first t i first = first.wrong ((same.0 t).each i)
@@ -29,8 +30,12 @@ module _ (r : Rules) (entries : List TableData) (tier : ℕ) (records : List (Op
   ]
 
   -- a wrong record is named exactly where it is the first one
-  pub names_first : (why : CheckError) → AreWrong r entries tier records why → (i : ℕ) → (why ≡ WrongRecord i) ↔ ((length records ≡ r.tier_size tier) × IsFirstWrong r entries tier records i)
+  pub names_first : (why : CheckError) → AreWrong r entries tier records why → (i : ℕ) → (why ≡ WrongRecord i) ↔
+      ((length records ≡ r.tier_size tier) × IsFirstWrong r entries tier records i)
   names_first OutOfMemory wrong i = absurd wrong
   names_first WrongSize wrong i = (λ e. absurd (cc), λ h. absurd (wrong h.0))
-  names_first (WrongRecord j) wrong i =
-      (λ e. (let here : j ≡ i = cc in (wrong.0, subst (IsFirstWrong r entries tier records) here wrong.1)), λ h. ap (λ (k : ℕ). WrongRecord k) (first_once j i wrong.1 h.1))
+  names_first (WrongRecord j) wrong i = (
+    λ e. (let here : j ≡ i = cc in (wrong.0, subst (IsFirstWrong r entries tier records) here wrong.1)),
+    λ h. ap (λ (k : ℕ). WrongRecord k)
+        (first_once j i wrong.1 h.1),
+  )

@@ -1,5 +1,6 @@
 -- Words that are read one by one.
-use Rattle.std.proofs.Common.{◌≡◌, ◌+◌, ◌<◌, ◌≤◌, ◌∙◌, ℕ, Bool, true, false, List, [], ◌∷◌, ◌++◌, length, length-append, map, take, get_or, filter, not, cond, Option, ap, refl, arith}
+use Rattle.std.proofs.Common.{◌≡◌, ◌+◌, ◌<◌, ◌≤◌, ◌∙◌, ℕ, Bool, true, false, List, [], ◌∷◌, ◌++◌, length, length-append, map, take, get_or, filter, not, cond}
+use Rattle.std.proofs.Common.{Option, ap, refl, arith}
 use Rattle.std.proofs.lemmas.List.{map_more, length-map, length-take}
 use Rattle.std.proofs.lemmas.List.Elements.{filter-append}
 use Rattle.std.proofs.lemmas.List.Filters.{length-filter_both}
@@ -16,21 +17,26 @@ one_passes p o = go (p o) refl
     go true e = rw (e, filter) refl
     go false e = rw (e, filter) refl
 
-passes_push : (p : Option Solved → Bool) (os : List (Option Solved)) (o : Option Solved) → length (filter p (os ++ o ∷ [])) ≡ length (filter p os) + cond (p o) 1 0
-passes_push p os o = ap length (filter-append p os (o ∷ [])) ∙ length-append (filter p os) (filter p (o ∷ [])) ∙ ap (λ (n : ℕ). length (filter p os) + n) (one_passes p o)
+passes_push : (p : Option Solved → Bool) (os : List (Option Solved)) (o : Option Solved) → length (filter p (os ++ o ∷ [])) ≡ length (filter p os) + cond
+    (p o) 1 0
+passes_push p os o = ap length (filter-append p os (o ∷ [])) ∙ length-append (filter p os) (filter p (o ∷ [])) ∙ ap (λ (n : ℕ). length (filter p os) + n)
+    (one_passes p o)
 
 module _ (ws : List ℕ) (i d : ℕ) (inside : i < length ws) where
   more : map record_of_word (take (i + 1) ws) ≡ map record_of_word (take i ws) ++ record_of_word (get_or ws i d) ∷ []
   more = map_more record_of_word ws i d inside
 
-  pub least_more : (f : Option Solved → Option ℕ) → least_of f (map record_of_word (take (i + 1) ws)) ≡ lesser (least_of f (map record_of_word (take i ws))) (f (record_of_word (get_or ws i d)))
+  pub least_more : (f : Option Solved → Option ℕ) → least_of f (map record_of_word (take (i + 1) ws)) ≡ lesser (least_of f (map record_of_word (take i ws)))
+      (f (record_of_word (get_or ws i d)))
   least_more f = ap (least_of f) more ∙ least_push f (map record_of_word (take i ws)) (record_of_word (get_or ws i d))
 
   pub won_more : all_won (map record_of_word (take (i + 1) ws)) ≡ greater (all_won (map record_of_word (take i ws))) (won_in (record_of_word (get_or ws i d)))
   won_more = ap all_won more ∙ all_won_push (map record_of_word (take i ws)) (record_of_word (get_or ws i d))
 
-  pub decided_more : length (filter is_decided (map record_of_word (take (i + 1) ws))) ≡ length (filter is_decided (map record_of_word (take i ws))) + cond (is_decided (record_of_word (get_or ws i d))) 1 0
-  decided_more = ap (λ (os : List (Option Solved)). length (filter is_decided os)) more ∙ passes_push is_decided (map record_of_word (take i ws)) (record_of_word (get_or ws i d))
+  pub decided_more : length (filter is_decided (map record_of_word (take (i + 1) ws))) ≡ length (filter is_decided (map record_of_word (take i ws))) + cond
+      (is_decided (record_of_word (get_or ws i d))) 1 0
+  decided_more = ap (λ (os : List (Option Solved)). length (filter is_decided os)) more ∙ passes_push is_decided (map record_of_word (take i ws))
+      (record_of_word (get_or ws i d))
 
 -- no more are no draws than were read
 pub decided_few : (ws : List ℕ) (i : ℕ) → length (filter is_decided (map record_of_word (take i ws))) ≤ i

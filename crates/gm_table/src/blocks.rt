@@ -1,10 +1,10 @@
 //! Records checked by as many threads as there are processors.
-ghost use Rattle.std.specs.Prelude.{◌≡◌, ◌↔◌, ◌*◌, ◌/◌, ◌<◌, ◌≤◌, ℕ, max, suc, length, IsTrue, None, MatchOption};
+ghost use Rattle.std.specs.Prelude.{◌≡◌, ◌↔◌, ◌/◌, ◌<◌, ◌≤◌, ℕ, min, length, IsTrue, None, MatchOption};
 ghost use Rattle.gm_game.specs.Children.{AreResults};
 ghost use Rattle.gm_game.specs.Rules.{AreHoles, IsCanonical, at};
 ghost use Rattle.gm_game.specs.declared.limits.TheConstants.{TIER_SIZE};
 ghost use Rattle.gm_table.specs.Hands.{AreAtHand};
-ghost use Rattle.gm_table.specs.Checks.{FitsAt, IsFirstWrong, IsFirstWrongIn, IsFirstOfClass};
+ghost use Rattle.gm_table.specs.Checks.{FitsAt, IsFirstWrong, IsFirstWrongIn, IsFirstOfClass, AreFirsts, HasNone, IsOfBoth};
 
 use crate::fits::{Lists, fits};
 use crate::hand::SLOTS;
@@ -16,6 +16,7 @@ use gm_game::limits::TIER_SIZE;
 use gm_game::position::{End, Position};
 use rayon::current_num_threads;
 use rayon::prelude::*;
+use std::sync::atomic::{AtomicUsize, Ordering};
 use std::thread::Threads;
 
 /// How few records are worth a thread of their own.
@@ -28,11 +29,11 @@ const FEW: usize = 8192;
 /// mean unequal work.
 const BLOCK: usize = 64;
 
-/// The number of classes: enough for as many threads as rayon starts.
-const CLASSES: usize = 1024;
+/// The number of classes. Threads draw them one after another, so that they end almost together, whatever else the processors do meanwhile.
+const CLASSES: usize = 256;
 
 /// The indexes of one round of blocks, one for each class.
-const ROUND: usize = 65_536;
+const ROUND: usize = 16_384;
 
 // Records of a tier that are to be checked, with the tables that they are checked against.
 #[derive(Drop)]
@@ -129,14 +130,14 @@ impl<'a, G: Game, C: Records> Given<'a, G, C> {
     }
 
     // The least index of a class whose record doesn't fit, or how many records there are.
-    fn first_of(&self, class: u32) -> u64
+    fn first_of(&self, class: usize) -> u64
         ensures { IsFirstOfClass G.rules self.now.tables.now self.now.tier (C.listed self.now.records.now) class result }
     {
         let size = self.records.count();
         let mut lists = Lists::new();
         let mut hand = [None; SLOTS];
         for round in 0..size.div_ceil(ROUND) {
-            let start = round * ROUND + (class as usize % CLASSES) * BLOCK;
+            let start = round * ROUND + class % CLASSES * BLOCK;
             let lo = start.min(size);
             let hi = (start + BLOCK).min(size);
             if let Some(index) = self.first_between(&mut hand, &mut lists, lo, hi) {
@@ -148,30 +149,99 @@ impl<'a, G: Game, C: Records> Given<'a, G, C> {
 }
 
 impl<'a, G: Game + Send + Sync, C: Records + Sync> Given<'a, G, C> {
-    // How few classes are worth a thread of their own, where so many threads run side by side: enough records, and more than half of a thread's share. Other
-    // threads take the digest and lay out the indexes meanwhile, so that more threads than processors would only make these late.
-    fn piece(&self, threads: usize) -> usize
-        ensures { result ≡ max (CLASSES * PIECE / max (length (C.listed self.now.records.now)) 1) (suc (CLASSES / 2 / max threads 1)) }
+    // How many threads are to check: one for each processor, and enough records for each.
+    fn workers(&self, processors: usize) -> u32
+        ensures { result ≡ min processors (length (C.listed self.now.records.now) / PIECE) }
     {
-        let worth = CLASSES * PIECE / self.records.count().max(1);
-        worth.max(CLASSES / 2 / threads.max(1) + 1)
+        processors.min(self.records.count() / PIECE) as u32
+    }
+
+    // The firsts of the classes that one thread draws, until all are drawn.
+    fn drawn(&self, next: &AtomicUsize) -> Firsts
+        ensures { AreFirsts G.rules self.now.tables.now self.now.tier (C.listed self.now.records.now) result.classes }
+    {
+        let mut classes = [None; CLASSES];
+        for _ in 0..CLASSES {
+            let class = next.fetch_add(1, Ordering::SeqCst);
+            if class >= CLASSES {
+                return Firsts { classes };
+            }
+            classes[class] = Some(self.first_of(class));
+        }
+        Firsts { classes }
     }
 
     // The least index whose record doesn't fit, or how many records there are.
-    fn first_of_all<R: Threads + Sync>(&self, rt: &R) -> Option<u64>
-        ensures { MatchOption result ((i : ℕ) → FitsAt G.rules self.now.tables.now self.now.tier (C.listed self.now.records.now) i)
-            (λ w. (w < length (C.listed self.now.records.now) → IsFirstWrong G.rules self.now.tables.now self.now.tier (C.listed self.now.records.now) w)
-            × (length (C.listed self.now.records.now) ≤ w → (i : ℕ) → FitsAt G.rules self.now.tables.now self.now.tier (C.listed self.now.records.now) i)) }
+    fn first_of_all<R: Threads + Sync>(&self, rt: &R) -> u64
+        ensures wrong { result < length (C.listed self.now.records.now)
+            → IsFirstWrong G.rules self.now.tables.now self.now.tier (C.listed self.now.records.now) result }
+        ensures fit { length (C.listed self.now.records.now) ≤ result
+            → (i : ℕ) → FitsAt G.rules self.now.tables.now self.now.tier (C.listed self.now.records.now) i }
     {
-        (0..CLASSES as u32)
+        let next = AtomicUsize::new(0);
+        let workers = self.workers(current_num_threads(rt));
+        let firsts = (0..workers)
             .into_par_iter()
-            .with_min_len(self.piece(current_num_threads(rt)))
+            .with_min_len(1)
             .map(
-                |class: u32| -> u64
-                    ensures { IsFirstOfClass G.rules self.entry.now.tables.now self.entry.now.tier (C.listed self.entry.now.records.now) class result }
-                { self.first_of(class) },
+                |_worker: u32| -> Firsts
+                    ensures { AreFirsts G.rules self.entry.now.tables.now self.entry.now.tier (C.listed self.entry.now.records.now) result.classes }
+                { self.drawn(&next) },
             )
-            .min(rt)
+            .reduce(
+                rt,
+                || -> Firsts
+                    ensures { HasNone result.classes }
+                { Firsts::none() },
+                |some: Firsts, others: Firsts| -> Firsts
+                    ensures { IsOfBoth some.classes others.classes result.classes }
+                { some.and(&others) },
+            );
+        let mut first = self.records.count() as u64;
+        for class in 0..CLASSES {
+            first = first.min(self.first_at(&firsts, class));
+        }
+        first
+    }
+
+    // The first of a class. Each has been drawn; the first of one that had not would be found here.
+    fn first_at(&self, firsts: &Firsts, class: usize) -> u64
+        requires class { class < CLASSES }
+        requires firsts { AreFirsts G.rules self.now.tables.now self.now.tier (C.listed self.now.records.now) firsts.now.classes }
+        ensures { IsFirstOfClass G.rules self.now.tables.now self.now.tier (C.listed self.now.records.now) class result }
+    {
+        match firsts.classes[class] {
+            Some(first) => first,
+            None => self.first_of(class),
+        }
+    }
+}
+
+// What one thread has found: for each class that it drew, the least index whose record doesn't fit, or how many records there are.
+#[derive(Drop)]
+struct Firsts {
+    classes: [Option<u64>; CLASSES],
+}
+
+impl Firsts {
+    // Nothing yet.
+    fn none() -> Firsts
+        ensures { HasNone result.classes }
+    {
+        Firsts {
+            classes: [None; CLASSES],
+        }
+    }
+
+    // What both have found.
+    fn and(self, other: &Firsts) -> Firsts
+        ensures { IsOfBoth self.classes other.now.classes result.classes }
+    {
+        let mut classes = self.classes;
+        for class in 0..CLASSES {
+            classes[class] = classes[class].or(other.classes[class]);
+        }
+        Firsts { classes }
     }
 }
 
@@ -212,7 +282,7 @@ pub(crate) fn first_wrong_by<G: Game + Send + Sync, C: Records + Sync, R: Thread
         records,
         tables,
     };
-    let first = given.first_of_all(rt)?;
+    let first = given.first_of_all(rt);
     if first < records.count() as u64 {
         Some(first)
     } else {

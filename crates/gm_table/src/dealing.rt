@@ -15,7 +15,8 @@ const CLASSES: u64 = 32;
 /// The indexes of one row of blocks, one for each class.
 const ROW: u64 = 16_384;
 
-/// The indexes of a tier in blocks of 512, which are dealt out to 32 classes in turn. Each class has `rows` blocks, of which those past the tier's end are empty.
+/// The indexes of a tier in blocks of 512, which are dealt out to 32 classes in turn. Each class has `rows` blocks, of which those past the tier's end are
+/// empty.
 #[derive(Clone, Copy, Debug, Drop)]
 pub struct Dealing {
     size: u64,

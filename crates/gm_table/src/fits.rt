@@ -88,7 +88,8 @@ fn follows<'a, G: Game, C: Records>(
     gather::<G, C>(tier, records, tables, hand, lists, p).settles(solved)
 }
 
-// What the results of a position say, which the lists hold: their words first, and then what the words say, so that no record is waited for before the next is asked for.
+// What the results of a position say, which the lists hold: their words first, and then what the words say, so that no record is waited for before the next is
+// asked for.
 fn gather<'a, G: Game, C: Records>(
     tier: u64,
     records: &C,

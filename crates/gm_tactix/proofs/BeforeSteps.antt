@@ -5,7 +5,7 @@ use Rattle.gm_pieces.specs.Common.{subst, arith, inl, inr, cases_Bool, ne_eqb, t
 use Rattle.gm_pieces.specs.Common.{all_from, members, or_right, board_game, plays_on, before_at, befores, before_some, before_none, before_room, all_befores}
 use Rattle.gm_pieces.specs.laws.Skipped.{puts_skip}
 use Rattle.gm_tactix.specs.Segments.{segment_length, segment_cells}
-use Rattle.gm_tactix.specs.Board.{has_counter, is_among, with_counters, can_take, was_taken, over, tactix}
+use Rattle.gm_tactix.specs.Board.{has_counter, is_among, with_counters, can_take, was_taken, end_by_last_move, tactix}
 use Rattle.gm_tactix.specs.Befores.{AreBeforesBelow}
 use Rattle.gm_tactix.specs.laws.SegmentFacts.{number_below, length_bounds, cells_within, among_from}
 use Rattle.gm_tactix.specs.laws.CounterFacts.{length_with, with_at}
@@ -13,7 +13,7 @@ use Rattle.gm_tactix.specs.laws.MoveFacts.{move_from, play_members, taken_in, re
 use Rattle.gm_tactix.specs.laws.TactixLaws.{lawful}
 
 -- with counters the game goes on, in the normal game and in misère
-with_some : (misere : Bool) (b : List Bool) → members b ≢ 0 → plays_on (over misere b) ≡ true
+with_some : (misere : Bool) (b : List Bool) → members b ≢ 0 → plays_on (end_by_last_move misere b) ≡ true
 with_some misere b n = rw (ne_eqb (members b) 0 n) refl
 
 module _ (s t : ℕ) (d : List Bool) (low : 1 ≤ s) (high : s ≤ 5) (long : length d ≡ s * s) where
@@ -24,7 +24,8 @@ module _ (s t : ℕ) (d : List Bool) (low : 1 ≤ s) (high : s ≤ 5) (long : le
       let cs = segment_cells s m in
       move_from s (with_counters d cs) m h.segment
       (all_from (has_counter (with_counters d cs)) cs
-      (λ k c. with_at d cs k (subst (λ (n : ℕ). k < n) (sym long) (cells_within s low high m k h.segment c)) ∙ or_right (has_counter d k) (is_among k cs) (among_from k cs c)))
+      (λ k c. with_at d cs k (subst (λ (n : ℕ). k < n) (sym long) (cells_within s low high m k h.segment c)) ∙ or_right (has_counter d k) (is_among k cs)
+      (among_from k cs c)))
 
   -- a segment that can have been taken gives a board before
   before_taken : (misere : Bool) (m : ℕ) → was_taken s t d m ≡ true → before_at (tactix s misere) t d m ≡ Some (with_counters d (segment_cells s m))
@@ -49,9 +50,11 @@ module _ (s t : ℕ) (d : List Bool) (low : 1 ≤ s) (high : s ≤ 5) (long : le
   ]
 
   -- k numbers of segments of other lengths
-  pub others_skip : (misere : Bool) (n k : ℕ) (is : List ℕ) → ((i : ℕ) → i < k → segment_length (n + i) ≢ t - members d) → AreBeforesBelow s misere t d n is → AreBeforesBelow s misere t d (n + k) is
+  pub others_skip : (misere : Bool) (n k : ℕ) (is : List ℕ) → ((i : ℕ) → i < k → segment_length (n + i) ≢ t - members d) → AreBeforesBelow s misere t d n is
+      → AreBeforesBelow s misere t d (n + k) is
   others_skip misere n k is h e =
-      e ∙ sym (puts_skip (least_index (board_game (tactix s misere))) (before_at (tactix s misere) t d) n k (λ i l. before_other misere (n + i) (other_length (n + i) (h i l))))
+      e ∙ sym (puts_skip (least_index (board_game (tactix s misere))) (before_at (tactix s misere) t d) n k
+      (λ i l. before_other misere (n + i) (other_length (n + i) (h i l))))
 
   too_long : (m : ℕ) → s < t - members d → was_taken s t d m ≡ false
   too_long m l = elim (cases_Bool (was_taken s t d m)) [
@@ -64,7 +67,8 @@ module _ (s t : ℕ) (d : List Bool) (low : 1 ≤ s) (high : s ≤ 5) (long : le
   none_long misere l =
       let n = 16 * (s * s) in
       subst (λ (k : ℕ). AreBeforesBelow s misere t d k []) (let z : 0 + n ≡ n = omega arith in z)
-      (sym (puts_skip (least_index (board_game (tactix s misere))) (before_at (tactix s misere) t d) 0 n (λ i k. before_other misere (0 + i) (too_long (0 + i) l))))
+      (sym (puts_skip (least_index (board_game (tactix s misere))) (before_at (tactix s misere) t d) 0 n
+      (λ i k. before_other misere (0 + i) (too_long (0 + i) l))))
 
   -- the list has room for the board before
   pub taken_room : (misere : Bool) (m : ℕ) (is : List ℕ) → was_taken s t d m ≡ true → AreBeforesBelow s misere t d m is → length is < 128
@@ -73,25 +77,33 @@ module _ (s t : ℕ) (d : List Bool) (low : 1 ≤ s) (high : s ≤ 5) (long : le
       (eq-eqb _ _ long) (number_below s m (taken_in s t d m e).segment) (before_taken misere m e) h
 
   -- the number of a segment that can have been taken
-  pub taken_more : (misere : Bool) (m : ℕ) (i : ℕ) (is new : List ℕ) → was_taken s t d m ≡ true → i ≡ least_index (board_game (tactix s misere)) (with_counters d (segment_cells s m)) → new ≡ put i is
+  pub taken_more : (misere : Bool) (m : ℕ) (i : ℕ) (is new : List ℕ) → was_taken s t d m ≡ true → i ≡ least_index (board_game (tactix s misere))
+      (with_counters d (segment_cells s m)) → new ≡ put i is
       → AreBeforesBelow s misere t d m is → AreBeforesBelow s misere t d (m + 1) new
   taken_more misere m i is new e f p h =
-      p ∙ ap₂ put f h ∙ sym (put_more_some (least_index (board_game (tactix s misere))) (before_at (tactix s misere) t d) m (with_counters d (segment_cells s m)) (before_taken misere m e))
+      p ∙ ap₂ put f h ∙ sym (put_more_some (least_index (board_game (tactix s misere))) (before_at (tactix s misere) t d) m
+      (with_counters d (segment_cells s m)) (before_taken misere m e))
 
   -- and of one that can't
-  pub taken_less : (misere : Bool) (m : ℕ) (is : List ℕ) → was_taken s t d m ≡ false → AreBeforesBelow s misere t d m is → AreBeforesBelow s misere t d (m + 1) is
-  taken_less misere m is e h = h ∙ sym (put_more_none (least_index (board_game (tactix s misere))) (before_at (tactix s misere) t d) m (before_other misere m e))
+  pub taken_less : (misere : Bool) (m : ℕ) (is : List ℕ) → was_taken s t d m ≡ false → AreBeforesBelow s misere t d m is → AreBeforesBelow s misere t d
+      (m + 1) is
+  taken_less misere m is e h = h ∙ sym (put_more_none (least_index (board_game (tactix s misere))) (before_at (tactix s misere) t d) m
+      (before_other misere m e))
 
   -- a cell's numbers of segments that are shorter
-  pub shorter_skip : (misere : Bool) (n l : ℕ) (is : List ℕ) → l ≡ t - members d → l ≤ s → AreBeforesBelow s misere t d (16 * n) is → AreBeforesBelow s misere t d (16 * n + 2 * l) is
+  pub shorter_skip : (misere : Bool) (n l : ℕ) (is : List ℕ) → l ≡ t - members d → l ≤ s → AreBeforesBelow s misere t d (16 * n) is → AreBeforesBelow s
+      misere t d (16 * n + 2 * l) is
   shorter_skip misere n l is e h = others_skip misere (16 * n) (2 * l) is (λ i k q. omega (arith, high, e, h, k, q))
 
   -- and of those that are longer
-  pub longer_skip : (misere : Bool) (n l : ℕ) (is : List ℕ) → l ≡ t - members d → l ≤ s → AreBeforesBelow s misere t d (16 * n + 2 * l + 1 + 1) is → AreBeforesBelow s misere t d (16 * (n + 1)) is
+  pub longer_skip : (misere : Bool) (n l : ℕ) (is : List ℕ) → l ≡ t - members d → l ≤ s → AreBeforesBelow s misere t d (16 * n + 2 * l + 1 + 1) is →
+      AreBeforesBelow s misere t d (16 * (n + 1)) is
   longer_skip misere n l is e h b =
       subst (λ (k : ℕ). AreBeforesBelow s misere t d k is) (let z : 16 * n + 2 * l + 1 + 1 + (14 - 2 * l) ≡ 16 * (n + 1) = omega (arith, high, h) in z)
       (others_skip misere (16 * n + 2 * l + 1 + 1) (14 - 2 * l) is (λ i k q. omega (arith, high, e, h, k, q)) b)
 
   -- the numbers of all segments
-  pub all_taken : (misere : Bool) (n : ℕ) (is : List ℕ) → n ≡ 16 * (s * s) → AreBeforesBelow s misere t d n is → is ≡ put_all [] (map (least_index (board_game (tactix s misere))) (befores (tactix s misere) t d))
-  all_taken misere n is e h = h ∙ ap (λ (bs : List (List Bool)). put_all [] (map (least_index (board_game (tactix s misere))) bs)) (all_befores (tactix s misere) t d n e)
+  pub all_taken : (misere : Bool) (n : ℕ) (is : List ℕ) → n ≡ 16 * (s * s) → AreBeforesBelow s misere t d n is → is ≡ put_all []
+      (map (least_index (board_game (tactix s misere))) (befores (tactix s misere) t d))
+  all_taken misere n is e h = h ∙ ap (λ (bs : List (List Bool)). put_all [] (map (least_index (board_game (tactix s misere))) bs))
+      (all_befores (tactix s misere) t d n e)

@@ -6,7 +6,7 @@ use Rattle.gm_pieces.specs.Common.{filter-append, contains_head, contains_later,
 use Rattle.std.proofs.lemmas.Grind.{flat_map-append}
 use Rattle.std.proofs.Math.Seq.{take-append-add}
 use Rattle.gm_tactix.specs.declared.segments.TheConstants.{SHIFTS}
-use Rattle.gm_tactix.specs.Segments.{segment_cells, is_segment, segments, numbers_end}
+use Rattle.gm_tactix.specs.Segments.{segment_cells, is_segment, segments, move_number_bound}
 use Rattle.gm_tactix.specs.Board.{has_counter, is_full, can_take}
 use Rattle.gm_tactix.specs.CounterMasks.{counters_of}
 use Rattle.gm_tactix.specs.Lines.{line_cell, line_place, line_of, lies_in, line_segments}
@@ -24,7 +24,7 @@ same_kept p q (x ∷ xs) h =
 -- a line's segments are segments
 in_line : (line m : ℕ) → Contains (line_segments line) m → is_segment 5 m ≡ true
 unfolding line_segments
-in_line line m c = (filter_from (is_segment 5) (range_with_len 0 (numbers_end 5)) m (filter_from (λ (m : ℕ). eqb (line_of m) line) (segments 5) m c).0).1
+in_line line m c = (filter_from (is_segment 5) (range_with_len 0 (move_number_bound 5)) m (filter_from (λ (m : ℕ). eqb (line_of m) line) (segments 5) m c).0).1
 
 when_segment : (b : List Bool) (m : ℕ) → is_segment 5 m ≡ true → is_full b (segment_cells 5 m) ≡ can_take 5 b m
 unfolding can_take

@@ -48,7 +48,8 @@ play_of s mask m cells low high w f =
 
 -- ---- a move taken back
 -- the code's test of a segment that was taken
-pub taken_of : (s t mask m cells n : ℕ) → 1 ≤ s → s ≤ 5 → mask < 2 ^ (s * s) → is_segment s m ≡ true → cells ≡ pattern_mask (segment_cells s m) → n ≡ segment_length m
+pub taken_of : (s t mask m cells n : ℕ) → 1 ≤ s → s ≤ 5 → mask < 2 ^ (s * s) → is_segment s m ≡ true → cells ≡ pattern_mask (segment_cells s m) → n ≡
+    segment_length m
     → (eqb (bit_and mask cells) 0 && eqb (count_ones mask + n) t) ≡ was_taken s t (counters_of (s * s) mask) m
 unfolding was_taken
 taken_of s t mask m cells n low high l e f g =

@@ -16,7 +16,8 @@ text_none mask = refl
 -- the text of one more cell
 pub text_more : (n mask : ℕ) → board_text (counters_of (n + 1) mask) ≡ board_text (counters_of n mask) ++ counter_text (has_cell mask n) ∷ []
 unfolding board_text counters_of
-text_more n mask = ap (map counter_text) (map-range_with_len_more (has_cell mask) 0 n n (zero-add n)) ∙ map_push counter_text (map (has_cell mask) (range_with_len 0 n)) (has_cell mask n)
+text_more n mask = ap (map counter_text) (map-range_with_len_more (has_cell mask) 0 n n (zero-add n)) ∙ map_push counter_text
+    (map (has_cell mask) (range_with_len 0 n)) (has_cell mask n)
 
 -- one byte a cell
 pub text_long : (n mask : ℕ) → length (board_text (counters_of n mask)) ≡ n

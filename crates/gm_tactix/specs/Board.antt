@@ -1,5 +1,6 @@
 -- The rules of Tac Tix on boards: a board is a list that tells for each cell, the lowest first, whether it has a counter.
-use Rattle.std.specs.Prelude.{ℕ, ◌+◌, ◌-◌, ◌*◌, Bool, true, false, not, ◌&&◌, ◌||◌, ◌==◌, nat_le, List, [], ◌∷◌, ◌++◌, map, reverse, replicate, length, slice_index_or, codes, if◌then◌else◌, Option, None, Some}
+use Rattle.std.specs.Prelude.{ℕ, ◌+◌, ◌-◌, ◌*◌, Bool, true, false, not, ◌&&◌, ◌||◌, ◌==◌, nat_le, List, [], ◌∷◌, ◌++◌, map, reverse, replicate, length}
+use Rattle.std.specs.Prelude.{slice_index_or, codes, if◌then◌else◌, Option, None, Some}
 use Rattle.std.specs.List.{list_all, list_any, range_with_len}
 use Rattle.gm_game.specs.declared.position.End.{End}
 use Rattle.gm_game.specs.declared.position.End.TheVariants.{Lose, Win}
@@ -9,7 +10,7 @@ use Rattle.gm_board.specs.Ranks.{members, rank, unrank}
 use Rattle.gm_board.specs.Permutations.{permute}
 use Rattle.gm_board.specs.Squares.{square_symmetries}
 use Rattle.gm_pieces.specs.MoveGames.{MoveGame, move_rules}
-use Rattle.gm_tactix.specs.Segments.{is_segment, segment_cells, segment_length, numbers_end}
+use Rattle.gm_tactix.specs.Segments.{is_segment, segment_cells, segment_length, move_number_bound}
 
 -- the side of the square in the game for N: N where it is 1 to 5, and 1 for any other N
 unfoldable pub side_of : ℕ → ℕ
@@ -40,8 +41,8 @@ unfoldable pub with_counters : List Bool → List ℕ → List Bool
 with_counters b cells = map (λ k. has_counter b k || is_among k cells) (range_with_len 0 (length b))
 
 -- how the game has ended, if it has, for the player to move: the player who has taken the last counter has won, or in misère lost
-abbrev pub over : Bool → List Bool → Option End
-over misere b = if members b == 0 then Some (if misere then Win else Lose) else None
+abbrev pub end_by_last_move : Bool → List Bool → Option End
+end_by_last_move misere b = if members b == 0 then Some (if misere then Win else Lose) else None
 
 -- whether the counters of a segment can be taken
 unfoldable pub can_take : ℕ → List Bool → ℕ → Bool
@@ -78,13 +79,13 @@ tactix s misere = record {
   name = tactix_name s misere;
   start = replicate (s * s) true;
   legal = λ b. length b == s * s;
-  over = over misere;
-  stuck = Lose;
-  numbers_end = λ t. numbers_end s;
+  end_by_last_move = end_by_last_move misere;
+  end_if_no_move = Lose;
+  move_number_bound = λ t. move_number_bound s;
   can_move = can_take s;
   moved = play s;
-  was_moved = was_taken s;
-  taken_back = λ t d m. with_counters d (segment_cells s m);
+  can_have_led_here = was_taken s;
+  undo = λ t d m. with_counters d (segment_cells s m);
   symmetries = square_symmetries s;
   image = counters_image;
   tier = members;

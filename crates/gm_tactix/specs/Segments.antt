@@ -36,9 +36,9 @@ is_segment s m = nat_lt (first_cell m) (s * s)
     else nat_le 1 (segment_length m) && nat_le (first_cell m % s + segment_length m) s)
 
 -- all numbers of segments are below this number
-abbrev pub numbers_end : ℕ → ℕ
-numbers_end s = 16 * (s * s)
+abbrev pub move_number_bound : ℕ → ℕ
+move_number_bound s = 16 * (s * s)
 
 -- the numbers of all segments, ascending
 abbrev pub segments : ℕ → List ℕ
-segments s = filter (is_segment s) (range_with_len 0 (numbers_end s))
+segments s = filter (is_segment s) (range_with_len 0 (move_number_bound s))

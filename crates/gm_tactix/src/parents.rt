@@ -37,7 +37,8 @@ pub fn fill_parents(side: u32, tier: u64, counters: u32, list: &mut ArrayVec<u64
     requires low { 1 ≤ side }
     requires high { side ≤ 5 }
     requires within { counters < 2 ^ (side * side) }
-    ensures { (misere : Bool) → list.new.items ≡ put_all [] (map (least_index_of (board_game (tactix side misere))) (befores (tactix side misere) tier (counters_of (side * side) counters))) }
+    ensures { (misere : Bool) → list.new.items ≡ put_all [] (map (least_index_of (board_game (tactix side misere))) (befores (tactix side misere) tier
+        (counters_of (side * side) counters))) }
 {
     list.clear();
     let length = tier.saturating_sub(u64::from(counters.count_ones()));

@@ -28,7 +28,7 @@ pub fn name(side: u32, misere: bool) -> [u8; NAME]
 }
 
 /// How many boards of a square of side up to 5 have `tier` counters: 0 where there are fewer cells.
-#[tactic(auto, using(gm_board::specs::Binomials::binomial_past))]
+#[tactic(auto, using(gm_board::specs::laws::Binomials::binomial_past))]
 pub fn tier_size(side: u32, tier: u64) -> u64
     requires { side ≤ 5 }
     ensures { result ≡ binomial_of (side * side) tier }

@@ -38,7 +38,15 @@ pub fn decode_unsealed<G: Game, R: Threads + Sync>(
     ensures refused { IfErr result (RefusesUnsealed G.rules tier bytes.now) }
 {
     let parts = parts_of::<G>(Version::Two, tier, bytes)?;
-    let read = read_records_by(rt, alloc, Version::Two, parts.records, parts.size, HALVINGS);
+    let read = read_records_by(
+        rt,
+        alloc,
+        Version::Two,
+        parts.records,
+        parts.size,
+        parts.size,
+        HALVINGS,
+    );
     match read_whole::<G>(Version::Two, tier, bytes, parts, read)? {
         Some(records) => Ok(records),
         None => Err(FileError::OutOfMemory),
@@ -117,7 +125,7 @@ fn read_file<G: Game>(
     ensures refused { IfErr result (RefusesIn version G.rules tier bytes.now) }
 {
     let parts = parts_of::<G>(version, tier, bytes)?;
-    let read = read_records(alloc, version, parts.records, parts.size);
+    let read = read_records(alloc, version, parts.records, parts.size, parts.size);
     let read = read_whole::<G>(version, tier, bytes, parts, read)?;
     if !is_sealed(bytes) {
         return Err(FileError::BadDigest);

@@ -18,7 +18,8 @@ const FEW: usize = 262_144;
 /// How often records are halved, to be read by four threads.
 pub(crate) const HALVINGS: usize = 2;
 
-/// As `read_records`, by as many threads as there are halves of halves, where there are many.
+/// As `read_records`, by as many threads as there are halves of halves, where there are many. There is room for so many records, so that the records of other
+/// halves needn't be moved as they are added.
 #[cycle(halves)]
 pub(crate) fn read_records_by<R: Threads + Sync>(
     rt: &R,
@@ -26,6 +27,7 @@ pub(crate) fn read_records_by<R: Threads + Sync>(
     version: Version,
     bytes: &[u8],
     size: usize,
+    room: usize,
     halvings: usize,
 ) -> Result<Option<Packed>, u64>
     requires { length bytes.now ≡ width version * size }
@@ -33,7 +35,7 @@ pub(crate) fn read_records_by<R: Threads + Sync>(
     ensures bad { IfErr result (IsFirstBad version size bytes.now) }
 {
     if size <= FEW || halvings == 0 {
-        return read_records(alloc, version, bytes, size);
+        return read_records(alloc, version, bytes, size, room);
     }
     let half = size / 2;
     let more = size - half;
@@ -44,12 +46,12 @@ pub(crate) fn read_records_by<R: Threads + Sync>(
             requires { IsSync R.row × (0 < halvings) × (length first.now ≡ width version * half) }
             ensures found { IfOk result (AreRead version half first.entry.now) }
             ensures bad { IfErr result (IsFirstBad version half first.entry.now) }
-        { read_records_by(rt, alloc, version, first, half, halvings - 1) },
+        { read_records_by(rt, alloc, version, first, half, room, halvings - 1) },
         || -> Result<Option<Packed>, u64>
             requires { IsSync R.row × (0 < halvings) × (length rest.now ≡ width version * more) }
             ensures found { IfOk result (AreRead version more rest.entry.now) }
             ensures bad { IfErr result (IsFirstBad version more rest.entry.now) }
-        { read_records_by(rt, alloc, version, rest, more, halvings - 1) },
+        { read_records_by(rt, alloc, version, rest, more, more, halvings - 1) },
     );
     let front = front?;
     match back {
@@ -69,18 +71,19 @@ fn joined(front: Option<Packed>, back: Option<Packed>) -> Option<Packed>
     }
 }
 
-/// The records that stand in the bytes, or the first index at which none stands; `None` where memory is refused for them.
+/// The records that stand in the bytes, in a list with room for so many, or the first index at which none stands; `None` where memory is refused for them.
 pub(crate) fn read_records(
     alloc: Global,
     version: Version,
     bytes: &[u8],
     size: usize,
+    room: usize,
 ) -> Result<Option<Packed>, u64>
     requires { length bytes.now ≡ width version * size }
     ensures found { IfOk result (AreRead version size bytes.now) }
     ensures bad { IfErr result (IsFirstBad version size bytes.now) }
 {
-    let mut records = match Packed::with_capacity(alloc, size) {
+    let mut records = match Packed::with_capacity(alloc, room) {
         Ok(records) => records,
         Err(_) => return without_memory(version, bytes, size),
     };

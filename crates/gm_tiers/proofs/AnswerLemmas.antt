@@ -1,5 +1,6 @@
 -- What a search answers, step by step.
-use Rattle.std.proofs.Common.{◌≡◌, ℕ, zero, suc, ◌+◌, ◌-◌, ◌<◌, ◌≤◌, inl, inr, List, [], ◌∷◌, ◌++◌, length, take, drop, get_or, slice_get, None, Some, Ok, Err, refl, ap, sym, subst, ◌∙◌, arith}
+use Rattle.std.proofs.Common.{◌≡◌, ℕ, zero, suc, ◌+◌, ◌-◌, ◌<◌, ◌≤◌, inl, inr, List, [], ◌∷◌, ◌++◌, length, take, drop, get_or, slice_get, None, Some, Ok, Err}
+use Rattle.std.proofs.Common.{refl, ap, sym, subst, ◌∙◌, arith}
 use Rattle.std.proofs.lemmas.List.{take_more, take-append-drop}
 use Rattle.std.proofs.lemmas.Option.{slice_get_past}
 use Rattle.gm_game.specs.declared.limits.TheConstants.{TIERS}
@@ -22,25 +23,29 @@ all_append r s [] us = refl
 all_append r s (t ∷ ts) us = all_append r (comes_to r s t) ts us
 
 -- to one more
-pub one_more_comes : (r : Rules) (s now : Search) (ts : List ℕ) (i : ℕ) → i < length ts → comes_to_all r s (take i ts) ≡ now → comes_to_all r s (take (i + 1) ts) ≡ comes_to r now (get_or ts i 0)
+pub one_more_comes : (r : Rules) (s now : Search) (ts : List ℕ) (i : ℕ) → i < length ts → comes_to_all r s (take i ts) ≡ now → comes_to_all r s
+    (take (i + 1) ts) ≡ comes_to r now (get_or ts i 0)
 one_more_comes r s now ts i h e =
     ap (comes_to_all r s) (take_more ts i 0 h) ∙ all_append r s (take i ts) (get_or ts i 0 ∷ []) ∙ ap (λ u. comes_to r u (get_or ts i 0)) e
 
 -- where it ends among some, it ends among all
 ends_among : (r : Rules) (s : Search) (e : TierError) (ts : List ℕ) (n : ℕ) → comes_to_all r s (take n ts) ≡ Err e → comes_to_all r s ts ≡ Err e
 ends_among r s e ts n h =
-    ap (comes_to_all r s) (sym (take-append-drop n ts)) ∙ all_append r s (take n ts) (drop n ts) ∙ ap (λ u. comes_to_all r u (drop n ts)) h ∙ ended_all r e (drop n ts)
+    ap (comes_to_all r s) (sym (take-append-drop n ts)) ∙ all_append r s (take n ts) (drop n ts) ∙ ap (λ u. comes_to_all r u (drop n ts)) h ∙ ended_all r e
+    (drop n ts)
 
 pub ends_here : (r : Rules) (s now : Search) (e : TierError) (ts us : List ℕ) (i : ℕ) → ts ≡ us → i < length ts → comes_to_all r s (take i ts) ≡ now
     → EndsWith (comes_to r now (get_or ts i 0)) e → EndsWith (comes_to_all r s us) e
 ends_here r s now e ts us i same h before (inl o) = inl o
-ends_here r s now e ts us i same h before (inr last) = inr (ap (comes_to_all r s) (sym same) ∙ ends_among r s e ts (i + 1) (one_more_comes r s now ts i h before ∙ last))
+ends_here r s now e ts us i same h before (inr last) = inr (ap (comes_to_all r s) (sym same) ∙ ends_among r s e ts (i + 1)
+    (one_more_comes r s now ts i h before ∙ last))
 
 -- past the last place nothing comes
 pub past_all : (r : Rules) (found : List ℕ) (n k : ℕ) → length found ≤ k → goes_through r n k (Ok found) ≡ Ok found
 past_all r found zero k h = refl
 past_all r found (suc n) k h =
-    let at : comes_to_children r k (Ok found) ≡ Ok found = ap (λ o. elim o [ None ↦ Ok found | Some t ↦ comes_to_all r (Ok found) (r.child_tiers t) ]) (slice_get_past found k h) in
+    let at : comes_to_children r k (Ok found) ≡ Ok found = ap (λ o. elim o [ None ↦ Ok found | Some t ↦ comes_to_all r (Ok found) (r.child_tiers t) ])
+    (slice_get_past found k h) in
     ap (goes_through r n (suc k)) at ∙ past_all r found n (suc k) (omega arith)
 
 -- the child tiers of the tier at a place
@@ -55,20 +60,24 @@ one_place r n k s h =
     ap (λ m. goes_through r m k s) left ∙ ap (λ j. goes_through r (n - (k + 1)) j (comes_to_children r k s)) next
 
 -- a search that has gone on to a place, and on to the child tiers of the tier there
-pub place_more : (r : Rules) (first : ℕ) (n k t : ℕ) (found new : List ℕ) → k < n → search_of r first ≡ goes_through r (n - k) k (Ok found) → slice_get found k ≡ Some t
+pub place_more : (r : Rules) (first : ℕ) (n k t : ℕ) (found new : List ℕ) → k < n → search_of r first ≡ goes_through r (n - k) k (Ok found) → slice_get
+    found k ≡ Some t
     → comes_to_all r (Ok found) (r.child_tiers t) ≡ Ok new → search_of r first ≡ goes_through r (n - (k + 1)) (k + 1) (Ok new)
 place_more r first n k t found new h before at e =
     before ∙ one_place r n k (Ok found) h ∙ ap (goes_through r (n - (k + 1)) (k + 1)) (at_place r found k t at ∙ e)
 
-pub place_ends : (r : Rules) (first : ℕ) (n k t : ℕ) (found : List ℕ) (e : TierError) → k < n → search_of r first ≡ goes_through r (n - k) k (Ok found) → slice_get found k ≡ Some t
+pub place_ends : (r : Rules) (first : ℕ) (n k t : ℕ) (found : List ℕ) (e : TierError) → k < n → search_of r first ≡ goes_through r (n - k) k (Ok found) →
+    slice_get found k ≡ Some t
     → EndsWith (comes_to_all r (Ok found) (r.child_tiers t)) e → EndsWith (search_of r first) e
 place_ends r first n k t found e h before at (inl o) = inl o
 place_ends r first n k t found e h before at (inr s) =
-    inr (before ∙ one_place r n k (Ok found) h ∙ ap (goes_through r (n - (k + 1)) (k + 1)) (at_place r found k t at ∙ s) ∙ ended_through r e (n - (k + 1)) (k + 1))
+    inr (before ∙ one_place r n k (Ok found) h ∙ ap (goes_through r (n - (k + 1)) (k + 1)) (at_place r found k t at ∙ s) ∙ ended_through r e (n - (k + 1))
+    (k + 1))
 
 pub first_ends : (r : Rules) (first : ℕ) (e : TierError) → EndsWith (comes_to r (Ok []) first) e → EndsWith (search_of r first) e
 first_ends r first e (inl o) = inl o
 first_ends r first e (inr s) = inr (ap (goes_through r TIERS 0) s ∙ ended_through r e TIERS 0)
 
-pub first_ends_at : (r : Rules) (first : ℕ) (keys : List ℕ) (e : TierError) → keys ≡ [] → EndsWith (comes_to r (Ok keys) first) e → EndsWith (search_of r first) e
+pub first_ends_at : (r : Rules) (first : ℕ) (keys : List ℕ) (e : TierError) → keys ≡ [] → EndsWith (comes_to r (Ok keys) first) e → EndsWith
+    (search_of r first) e
 first_ends_at r first keys e none ends = first_ends r first e (subst (λ ks. EndsWith (comes_to r (Ok ks) first) e) none ends)

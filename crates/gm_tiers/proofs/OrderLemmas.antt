@@ -30,7 +30,8 @@ pair_cmp_total : IsTotalOrder pair_cmp
 pair_cmp_total = then_total (on_total (λ (p : ℕ × ℕ). p.0) nat_cmp_total) (on_total (λ (p : ℕ × ℕ). p.1) nat_cmp_total)
 
 -- no two are the same, and each has at least the rank and number of the one before it
-pub ordered : (r : Rules) (tiers : List ℕ) → AllPairs (λ (t u : ℕ). t ≢ u) tiers → IsSortedBy (λ t u. is_lt (pair_cmp (r.tier_rank t, t) (r.tier_rank u, u))) tiers → AllPairs (IsBefore r) tiers
+pub ordered : (r : Rules) (tiers : List ℕ) → AllPairs (λ (t u : ℕ). t ≢ u) tiers → IsSortedBy
+    (λ t u. is_lt (pair_cmp (r.tier_rank t, t) (r.tier_rank u, u))) tiers → AllPairs (IsBefore r) tiers
 ordered r tiers once up i j d i<j j<n =
     let key : ℕ → ℕ × ℕ = λ t. (r.tier_rank t, t) in
     let t = get_or tiers i d in
@@ -55,12 +56,14 @@ children_first r laws first tiers is k t child e c =
     let less : r.tier_rank t < r.tier_rank t = subst (λ u. r.tier_rank u < r.tier_rank t) (sym e') falls in omega arith)
     (λ (k<j : k < j).
     let before : IsBefore r t child = subst (λ u. IsBefore r u child) here (subst (λ u. IsBefore r (get_or tiers k 0) u) there' (is.ordered k j 0 k<j j<n)) in
-    ⊎_elim (λ (less : r.tier_rank t < r.tier_rank child). let none : ⊥ = omega arith in none) (λ (b : (r.tier_rank t ≡ r.tier_rank child) × (t < child)). let none : ⊥ = omega arith in none) before)
+    ⊎_elim (λ (less : r.tier_rank t < r.tier_rank child). let none : ⊥ = omega arith in none)
+    (λ (b : (r.tier_rank t ≡ r.tier_rank child) × (t < child)). let none : ⊥ = omega arith in none) before)
     (eq-or-lt_of_le k≤j)))
     (cases_lt j k)
 
 -- the tiers that a search finds, sorted
-pub order_is : (r : Rules) (first : ℕ) (found tiers : List ℕ) → AreFound r first found → IsPermutation found tiers → AllPairs (IsBefore r) tiers → IsOrderFrom r first tiers
+pub order_is : (r : Rules) (first : ℕ) (found tiers : List ℕ) → AreFound r first found → IsPermutation found tiers → AllPairs (IsBefore r) tiers →
+    IsOrderFrom r first tiers
 order_is r first found tiers is same up = record {
   each = λ t. (
     λ (has : Contains tiers t). search_reached r first found is.within.search t (back t has),

@@ -1,5 +1,6 @@
 -- What one step of a search answers.
-use Rattle.std.proofs.Common.{◌≡◌, ℕ, ◌-◌, ◌<◌, ◌≤◌, inl, inr, true, false, nat_eq, List, [], ◌∷◌, ◌++◌, length, Result, Ok, Err, refl, ap, sym, subst, ◌∙◌, arith}
+use Rattle.std.proofs.Common.{◌≡◌, ℕ, ◌-◌, ◌<◌, ◌≤◌, inl, inr, true, false, nat_eq, List, [], ◌∷◌, ◌++◌, length, Result, Ok, Err, refl, ap, sym, subst, ◌∙◌}
+use Rattle.std.proofs.Common.{arith}
 use Rattle.std.specs.List.{Contains, list_any}
 use Rattle.std.specs.Result.{IsErrAnd, IsErrOf}
 use Rattle.std.proofs.lemmas.Result.{err_from_is_err_and}
@@ -22,7 +23,8 @@ pub same_error : {X : Type 0} (d e : TierError) → ◌≡◌ {A = Result X Tier
 same_error d e h = cc
 
 -- what the exit of a `?` returns is refused as what it had
-pub passed_on : {T U : Type 0} (r : Result T TierError) (m : Result U TierError) (e why : TierError) → IsErrAnd r (λ y. y ≡ e) → m ≡ Err e → IsErrOf r why → IsErrOf m why
+pub passed_on : {T U : Type 0} (r : Result T TierError) (m : Result U TierError) (e why : TierError) → IsErrAnd r (λ y. y ≡ e) → m ≡ Err e → IsErrOf r why →
+    IsErrOf m why
 passed_on r m e why h is k = let p = err_from_is_err_and r h in let same = p.1 ∙ ap (λ y. Err y) p.2 in is ∙ ap (λ y. Err y) (same_error e why (sym same ∙ k))
 
 -- a tier that is there already
@@ -30,22 +32,26 @@ pub comes_there : (r : Rules) (found : List ℕ) (t : ℕ) → list_any (nat_eq 
 comes_there r found t h = rw h refl
 
 -- a new tier that is too large
-pub comes_too_large : (r : Rules) (found : List ℕ) (t : ℕ) → list_any (nat_eq t) found ≡ false → TIER_SIZE < r.tier_size t → comes_to r (Ok found) t ≡ Err (TierTooLarge t)
+pub comes_too_large : (r : Rules) (found : List ℕ) (t : ℕ) → list_any (nat_eq t) found ≡ false → TIER_SIZE < r.tier_size t → comes_to r (Ok found) t ≡ Err
+    (TierTooLarge t)
 comes_too_large r found t h large = rw (h, lt-ltb TIER_SIZE (r.tier_size t) large) refl
 
 -- a new tier for which there is no room
-pub comes_too_many : (r : Rules) (found : List ℕ) (t : ℕ) → list_any (nat_eq t) found ≡ false → r.tier_size t ≤ TIER_SIZE → TIERS ≤ length found → comes_to r (Ok found) t ≡ Err TooManyTiers
+pub comes_too_many : (r : Rules) (found : List ℕ) (t : ℕ) → list_any (nat_eq t) found ≡ false → r.tier_size t ≤ TIER_SIZE → TIERS ≤ length found → comes_to
+    r (Ok found) t ≡ Err TooManyTiers
 comes_too_many r found t h small full = rw (h, le-ltb TIER_SIZE (r.tier_size t) small, le-leb TIERS (length found) full) refl
 
 -- a new tier for which there is room
-pub comes_new : (r : Rules) (found : List ℕ) (t : ℕ) → list_any (nat_eq t) found ≡ false → r.tier_size t ≤ TIER_SIZE → length found < TIERS → comes_to r (Ok found) t ≡ Ok (found ++ t ∷ [])
+pub comes_new : (r : Rules) (found : List ℕ) (t : ℕ) → list_any (nat_eq t) found ≡ false → r.tier_size t ≤ TIER_SIZE → length found < TIERS → comes_to r
+    (Ok found) t ≡ Ok (found ++ t ∷ [])
 comes_new r found t h small room = rw (h, le-ltb TIER_SIZE (r.tier_size t) small, lt-leb TIERS (length found) room) refl
 
 pub last_there : (found : List ℕ) (t : ℕ) → Contains (found ++ t ∷ []) t
 last_there found t = Contains-append_right found (t ∷ []) t (contains_first t [])
 
 -- which refusal is which
-pub large_is_large : {X : Type 0} (r : Rules) (first tier t : ℕ) → IsTooLarge r first tier → ◌≡◌ {A = Result X TierError} (Err (TierTooLarge tier)) (Err (TierTooLarge t)) → IsTooLarge r first t
+pub large_is_large : {X : Type 0} (r : Rules) (first tier t : ℕ) → IsTooLarge r first tier → ◌≡◌ {A = Result X TierError} (Err (TierTooLarge tier))
+    (Err (TierTooLarge t)) → IsTooLarge r first t
 large_is_large r first tier t is h = let same : tier ≡ t = cc in subst (IsTooLarge r first) same is
 
 pub large_is_not_many : {X : Type 0} (A : Type 0) (t : ℕ) → ◌≡◌ {A = Result X TierError} (Err (TierTooLarge t)) (Err TooManyTiers) → A
@@ -61,14 +67,16 @@ pub memory_is_not_large : {X : Type 0} (A : Type 0) (t : ℕ) → ◌≡◌ {A =
 memory_is_not_large A t h = absurd (cc)
 
 -- where memory runs out
-pub memory_ends : {X : Type 0} (r : Rules) (found : List ℕ) (t : ℕ) (e : TierError) → ◌≡◌ {A = Result X TierError} (Err OutOfMemory) (Err e) → EndsWith (comes_to r (Ok found) t) e
+pub memory_ends : {X : Type 0} (r : Rules) (found : List ℕ) (t : ℕ) (e : TierError) → ◌≡◌ {A = Result X TierError} (Err OutOfMemory) (Err e) → EndsWith
+    (comes_to r (Ok found) t) e
 memory_ends r found t e h = inl (sym (same_error OutOfMemory e h))
 
 pub memory_out : {X : Type 0} (r : Rules) (first : ℕ) (e : TierError) → ◌≡◌ {A = Result X TierError} (Err OutOfMemory) (Err e) → EndsWith (search_of r first) e
 memory_out r first e h = inl (sym (same_error OutOfMemory e h))
 
 -- where a refusal is the one that a step ends with
-pub step_ends : {X : Type 0} (r : Rules) (found : List ℕ) (t : ℕ) (d e : TierError) → comes_to r (Ok found) t ≡ Err d → ◌≡◌ {A = Result X TierError} (Err d) (Err e) → EndsWith (comes_to r (Ok found) t) e
+pub step_ends : {X : Type 0} (r : Rules) (found : List ℕ) (t : ℕ) (d e : TierError) → comes_to r (Ok found) t ≡ Err d → ◌≡◌ {A = Result X TierError} (Err d)
+    (Err e) → EndsWith (comes_to r (Ok found) t) e
 step_ends r found t d e is h = inr (is ∙ ap Err (same_error d e h))
 
 -- a search has found nothing when it begins
@@ -86,5 +94,6 @@ next_first r first keys e = subst (λ ks. IsNext r first ks first) (sym e) refl
 pub closed_none : (r : Rules) (keys : List ℕ) → IsClosed r 0 keys
 closed_none r keys t child has is = absurd (contains_none t has)
 
-pub first_goes : (r : Rules) (first : ℕ) (keys new : List ℕ) → keys ≡ [] → comes_to r (Ok keys) first ≡ Ok new → search_of r first ≡ goes_through r (TIERS - 0) 0 (Ok new)
+pub first_goes : (r : Rules) (first : ℕ) (keys new : List ℕ) → keys ≡ [] → comes_to r (Ok keys) first ≡ Ok new → search_of r first ≡ goes_through r
+    (TIERS - 0) 0 (Ok new)
 first_goes r first keys new e is = ap (goes_through r TIERS 0) (ap (λ ks. comes_to r (Ok ks) first) (sym e) ∙ is)

@@ -43,8 +43,8 @@ unfoldable pub legal : ℕ → WayGame → List Cell → Bool
 legal n g b = if has_filled Empty g.lines is_mine b then false else has_numbers n g.pieces g.pieces b
 
 -- how the last move has ended the game, if it has: the mover has lost where the opponent has a line
-unfoldable pub over : WayGame → List Cell → Option End
-over g b = if has_filled Empty g.lines is_theirs b then Some Lose else None
+unfoldable pub end_by_last_move : WayGame → List Cell → Option End
+end_by_last_move g b = if has_filled Empty g.lines is_theirs b then Some Lose else None
 
 -- ---- moves
 -- whether a way leads from one point to another
@@ -68,12 +68,12 @@ abbrev pub was_gone : WayGame → List Cell → ℕ → ℕ → Bool
 was_gone g d a c = are_joined g.ways a c && (is_theirs (cell_at d c) && is_empty (cell_at d a))
 
 -- whether the move with this number can have led to d
-unfoldable pub was_moved : WayGame → List Cell → ℕ → Bool
-was_moved g d m = was_gone g d (from_point m) (to_point m)
+unfoldable pub can_have_led_here : WayGame → List Cell → ℕ → Bool
+can_have_led_here g d m = was_gone g d (from_point m) (to_point m)
 
 -- the board before the move with this number, as the player who made it saw it
-unfoldable pub taken_back : List Cell → ℕ → List Cell
-taken_back d m = brought_back d (from_point m) (to_point m)
+unfoldable pub undo : List Cell → ℕ → List Cell
+undo d m = brought_back d (from_point m) (to_point m)
 
 -- ---- the game
 -- the game with numbered moves: all positions are of tier 0
@@ -82,13 +82,13 @@ way_game n g = record {
   name = g.name;
   start = g.start;
   legal = legal n g;
-  over = over g;
-  stuck = Lose;
-  numbers_end = λ t. 16 * n;
+  end_by_last_move = end_by_last_move g;
+  end_if_no_move = Lose;
+  move_number_bound = λ t. 16 * n;
   can_move = can_move g;
   moved = moved;
-  was_moved = λ t d m. was_moved g d m;
-  taken_back = λ t d m. taken_back d m;
+  can_have_led_here = λ t d m. can_have_led_here g d m;
+  undo = λ t d m. undo d m;
   symmetries = g.symmetries;
   image = λ p b. permute Empty p b;
   tier = λ b. 0;

@@ -4,7 +4,7 @@ ghost use Rattle.gm_board.specs.Cells.{is_mine, is_theirs};
 ghost use Rattle.gm_board.specs.declared.cell.Cell.TheVariants.{Empty};
 ghost use Rattle.gm_board.specs.Images.{board_of};
 ghost use Rattle.gm_board.specs.Patterns.{has_filled};
-ghost use Rattle.gm_ways.specs.Ways.{has_numbers as has_numbers_of, legal, over as over_of};
+ghost use Rattle.gm_ways.specs.Ways.{has_numbers as has_numbers_of, legal, end_by_last_move as over_of};
 
 use crate::rules::WayRules;
 use gm_board::pattern::has_some;
@@ -12,7 +12,7 @@ use gm_game::position::End;
 use gm_pieces::board::Board;
 
 /// Whether the mover and the opponent have these numbers of pieces.
-#[tactic(auto, using(gm_board::specs::Images::board_length), unfolding(crate::specs::Ways::has_numbers))]
+#[tactic(auto, using(gm_board::specs::laws::Images::board_length), unfolding(crate::specs::Ways::has_numbers))]
 pub fn has_numbers<const CELLS: u32>(board: Board<CELLS>, mine: u32, theirs: u32) -> bool
     ensures { result ≡ has_numbers_of CELLS mine theirs (board_of CELLS board.entry.mine board.entry.theirs) }
 {
@@ -48,8 +48,8 @@ pub fn is_legal_board<const POINTS: u32, T: WayRules<POINTS>>(board: Board<POINT
 }
 
 /// How the last move has ended the game, if it has: the mover has lost where the opponent has a line.
-#[tactic(auto, unfolding(crate::specs::Ways::over))]
-pub fn over<const POINTS: u32, T: WayRules<POINTS>>(board: Board<POINTS>) -> Option<End>
+#[tactic(auto, unfolding(crate::specs::Ways::end_by_last_move))]
+pub fn end_by_last_move<const POINTS: u32, T: WayRules<POINTS>>(board: Board<POINTS>) -> Option<End>
     ensures { result ≡ over_of T.game (board_of POINTS board.entry.mine board.entry.theirs) }
 {
     if has_their_line::<POINTS, T>(board) {

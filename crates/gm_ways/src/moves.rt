@@ -2,7 +2,8 @@
 ghost use Rattle.std.specs.Prelude.{◌≡◌, ◌&&◌, true};
 ghost use Rattle.gm_board.specs.Cells.{is_mine, is_theirs, is_empty, cell_at};
 ghost use Rattle.gm_board.specs.Images.{board_of};
-ghost use Rattle.gm_ways.specs.Ways.{are_joined as are_joined_of, can_move as can_move_of, moved as moved_of, was_moved as was_moved_of, taken_back as taken_back_of};
+ghost use Rattle.gm_ways.specs.Ways.{are_joined as are_joined_of, can_move as can_move_of, moved as moved_of, can_have_led_here as was_moved_of};
+ghost use Rattle.gm_ways.specs.Ways.{undo as taken_back_of};
 
 use crate::rules::WayRules;
 use gm_pieces::board::Board;
@@ -20,7 +21,8 @@ pub fn are_joined<const POINTS: u32, T: WayRules<POINTS>>(a: u32, c: u32) -> boo
 #[tactic(auto, using(crate::specs::laws::WayFacts::joined_from, crate::specs::laws::WayFacts::joined_to))]
 fn is_open<const POINTS: u32, T: WayRules<POINTS>>(board: Board<POINTS>, from: u32, to: u32) -> bool
     requires { are_joined_of T.game.ways from to ≡ true }
-    ensures { result ≡ (is_mine (cell_at (board_of POINTS board.entry.mine board.entry.theirs) from) && is_empty (cell_at (board_of POINTS board.entry.mine board.entry.theirs) to)) }
+    ensures { result ≡ (is_mine (cell_at (board_of POINTS board.entry.mine board.entry.theirs) from) && is_empty (cell_at
+        (board_of POINTS board.entry.mine board.entry.theirs) to)) }
 {
     board.has_mine(from) && board.is_free(to)
 }
@@ -29,7 +31,8 @@ fn is_open<const POINTS: u32, T: WayRules<POINTS>>(board: Board<POINTS>, from: u
 #[tactic(auto, using(crate::specs::laws::WayFacts::joined_from, crate::specs::laws::WayFacts::joined_to))]
 fn is_left<const POINTS: u32, T: WayRules<POINTS>>(board: Board<POINTS>, from: u32, to: u32) -> bool
     requires { are_joined_of T.game.ways from to ≡ true }
-    ensures { result ≡ (is_theirs (cell_at (board_of POINTS board.entry.mine board.entry.theirs) to) && is_empty (cell_at (board_of POINTS board.entry.mine board.entry.theirs) from)) }
+    ensures { result ≡ (is_theirs (cell_at (board_of POINTS board.entry.mine board.entry.theirs) to) && is_empty (cell_at
+        (board_of POINTS board.entry.mine board.entry.theirs) from)) }
 {
     board.has_theirs(to) && board.is_free(from)
 }
@@ -63,8 +66,11 @@ pub fn moved<const POINTS: u32, T: WayRules<POINTS>>(
 }
 
 /// Whether the move with this number can have led to the board.
-#[tactic(auto, unfolding(crate::specs::Ways::was_moved))]
-pub fn was_moved<const POINTS: u32, T: WayRules<POINTS>>(board: Board<POINTS>, number: u32) -> bool
+#[tactic(auto, unfolding(crate::specs::Ways::can_have_led_here))]
+pub fn can_have_led_here<const POINTS: u32, T: WayRules<POINTS>>(
+    board: Board<POINTS>,
+    number: u32,
+) -> bool
     ensures { result ≡ was_moved_of T.game (board_of POINTS board.entry.mine board.entry.theirs) number }
 {
     let step = Step::numbered(number);
@@ -75,8 +81,8 @@ pub fn was_moved<const POINTS: u32, T: WayRules<POINTS>>(board: Board<POINTS>, n
 }
 
 /// The board before the move with this number, as the side that made it saw it.
-#[tactic(auto, unfolding(crate::specs::Ways::taken_back))]
-pub fn taken_back<const POINTS: u32, T: WayRules<POINTS>>(
+#[tactic(auto, unfolding(crate::specs::Ways::undo))]
+pub fn undo<const POINTS: u32, T: WayRules<POINTS>>(
     board: Board<POINTS>,
     number: u32,
 ) -> Board<POINTS>

@@ -8,8 +8,8 @@ ghost use Rattle.gm_ways.specs.WayTexts.{step_text as step_text_of};
 ghost use Rattle.gm_ways.specs.laws.WayLaws.{way_lawful, way_numbered, way_symmetric};
 ghost use Rattle.gm_ways.specs.laws.WayTextLaws.{way_readable};
 
-use crate::boards::{is_legal_board, over};
-use crate::moves::{can_move, moved, taken_back, was_moved};
+use crate::boards::{end_by_last_move, is_legal_board};
+use crate::moves::{can_have_led_here, can_move, moved, undo};
 use crate::rules::WayRules;
 use crate::text::step_text;
 use arrayvec::ArrayVec;
@@ -79,7 +79,7 @@ impl<const POINTS: u32, T: WayRules<POINTS>> MoveRules for WayMoves<POINTS, T> {
         0
     }
 
-    fn numbers_end(_tier: u64) -> u32 {
+    fn move_number_bound(_tier: u64) -> u32 {
         16 * POINTS
     }
 
@@ -103,11 +103,11 @@ impl<const POINTS: u32, T: WayRules<POINTS>> MoveRules for WayMoves<POINTS, T> {
         T::least_index(&board)
     }
 
-    fn over(board: Board<POINTS>) -> Option<End> {
-        over::<POINTS, T>(board)
+    fn end_by_last_move(board: Board<POINTS>) -> Option<End> {
+        end_by_last_move::<POINTS, T>(board)
     }
 
-    fn stuck() -> End {
+    fn end_if_no_move() -> End {
         End::Lose
     }
 
@@ -119,12 +119,12 @@ impl<const POINTS: u32, T: WayRules<POINTS>> MoveRules for WayMoves<POINTS, T> {
         moved::<POINTS, T>(board, number)
     }
 
-    fn was_moved(_tier: u64, board: Board<POINTS>, number: u32) -> bool {
-        was_moved::<POINTS, T>(board, number)
+    fn can_have_led_here(_tier: u64, board: Board<POINTS>, number: u32) -> bool {
+        can_have_led_here::<POINTS, T>(board, number)
     }
 
-    fn taken_back(_tier: u64, board: Board<POINTS>, number: u32) -> Board<POINTS> {
-        taken_back::<POINTS, T>(board, number)
+    fn undo(_tier: u64, board: Board<POINTS>, number: u32) -> Board<POINTS> {
+        undo::<POINTS, T>(board, number)
     }
 
     fn board_text(board: Board<POINTS>) -> Line {

@@ -1,5 +1,6 @@
 -- Lists of numbers that pass a test, and what comes of them: how many, and one number at a time.
-use Rattle.std.proofs.Common.{◌≡◌, ℕ, zero, suc, ◌+◌, ◌-◌, ◌<◌, ◌≤◌, Bool, true, false, eqb, eqb-true, eq-eqb, cond, List, [], ◌∷◌, ◌++◌, length, get_or, Option, None, Some, refl, sym, ap, ◌∙◌, subst, arith, inl, inr}
+use Rattle.std.proofs.Common.{◌≡◌, ℕ, zero, suc, ◌+◌, ◌-◌, ◌<◌, ◌≤◌, Bool, true, false, eqb, eqb-true, eq-eqb, cond, List, [], ◌∷◌, ◌++◌, length, get_or}
+use Rattle.std.proofs.Common.{Option, None, Some, refl, sym, ap, ◌∙◌, subst, arith, inl, inr}
 use Rattle.std.specs.Prelude.{◌↔◌, IsTrue}
 use Rattle.std.specs.List.{Contains, list_any, filter, filter_map, cons_option, range_with_len}
 use Rattle.std.proofs.lemmas.Bool.{cases_Bool, cond_both, true≢false}
@@ -7,8 +8,8 @@ use Rattle.std.proofs.lemmas.List.{append-nil, length-append}
 use Rattle.std.proofs.lemmas.List.Elements.{filter-append, filter_map-append}
 use Rattle.std.proofs.lemmas.List.FromFn.{length-range_with_len, get_or-range_with_len}
 use Rattle.gm_board.specs.laws.Lists.{contains_head, range_more}
-use Rattle.gm_board.specs.Groups.{any_at}
-use Rattle.gm_board.specs.Patterns.{same_tests, any_from}
+use Rattle.gm_board.specs.laws.Groups.{any_at}
+use Rattle.gm_board.specs.laws.Patterns.{same_tests, any_from}
 
 -- the numbers of a range
 pub range_in : (a n x : ℕ) → Contains (range_with_len a n) x → (a ≤ x) × (x < a + n)
@@ -25,7 +26,8 @@ listed_test x xs c h =
     (λ e. let y = any_at (λ (k : ℕ). eqb k c) xs e in h.1 (subst (λ (k : ℕ). Contains xs k) (eqb-true y.0 c y.2) y.1))
 
 -- ---- lengths of lists
-option_length : {B : Type 0} (o : Option B) (bs : List B) (n : ℕ) (b : Bool) → length bs ≤ n → ((x : B) → o ≡ Some x → b ≡ true) → length (cons_option o bs) ≤ cond b (suc n) n
+option_length : {B : Type 0} (o : Option B) (bs : List B) (n : ℕ) (b : Bool) → length bs ≤ n → ((x : B) → o ≡ Some x → b ≡ true) → length (cons_option o bs)
+    ≤ cond b (suc n) n
 option_length None bs n true l h = omega arith
 option_length None bs n false l h = l
 option_length (Some x) bs n true l h = omega arith
@@ -35,7 +37,8 @@ filter_length : (p : ℕ → Bool) (x : ℕ) (xs : List ℕ) → length (filter 
 filter_length p x xs = elim (cases_Bool (p x)) [ inl e ↦ rw e refl | inr e ↦ rw e refl ]
 
 -- a function gives something for no more elements of a list than pass a test, if all for which it gives something pass the test
-pub filter_map_few : {B : Type 0} (h : ℕ → Option B) (p : ℕ → Bool) → ((m : ℕ) (b : B) → h m ≡ Some b → p m ≡ true) → (xs : List ℕ) → length (filter_map h xs) ≤ length (filter p xs)
+pub filter_map_few : {B : Type 0} (h : ℕ → Option B) (p : ℕ → Bool) → ((m : ℕ) (b : B) → h m ≡ Some b → p m ≡ true) → (xs : List ℕ) → length
+    (filter_map h xs) ≤ length (filter p xs)
 filter_map_few h p all [] = omega arith
 filter_map_few h p all (x ∷ xs) =
     subst (λ (n : ℕ). length (filter_map h (x ∷ xs)) ≤ n) (sym (filter_length p x xs))
@@ -74,7 +77,8 @@ one_more : (p : ℕ → Bool) (n : ℕ) → length (filter p (range_with_len 0 (
 one_more p n = ap (λ (xs : List ℕ). length xs) (filter_one p n) ∙ length-append (filter p (range_with_len 0 n)) (filter p (n ∷ []))
 
 -- one more number of a range adds as many results as the function gives for this number
-pub one_more_map : {B : Type 0} (h : ℕ → Option B) (n : ℕ) → length (filter_map h (range_with_len 0 (n + 1))) ≡ length (filter_map h (range_with_len 0 n)) + length (filter_map h (n ∷ []))
+pub one_more_map : {B : Type 0} (h : ℕ → Option B) (n : ℕ) → length (filter_map h (range_with_len 0 (n + 1))) ≡ length (filter_map h (range_with_len 0 n)) +
+    length (filter_map h (n ∷ []))
 one_more_map h n =
     ap (λ (xs : List _). length xs) (ap (filter_map h) (range_more n) ∙ filter_map-append h (range_with_len 0 n) (n ∷ []))
     ∙ length-append (filter_map h (range_with_len 0 n)) (filter_map h (n ∷ []))
@@ -91,8 +95,10 @@ room f h n m all l e =
     omega (arith, up, all, e)
 
 -- there is room for each number that is kept, where they are at most 128
-pub filter_room : (p : ℕ → Bool) (n m : ℕ) (xs : List ℕ) → length (filter p (range_with_len 0 n)) ≤ 128 → m < n → p m ≡ true → xs ≡ filter p (range_with_len 0 m) → length xs < 128
+pub filter_room : (p : ℕ → Bool) (n m : ℕ) (xs : List ℕ) → length (filter p (range_with_len 0 n)) ≤ 128 → m < n → p m ≡ true → xs ≡ filter p
+    (range_with_len 0 m) → length xs < 128
 filter_room p n m xs all l e is =
     let last : length (filter p (m ∷ [])) ≡ 1 = rw e refl in
     subst (λ (ys : List ℕ). length ys < 128) (sym is)
-    (room (λ k. length (filter p (range_with_len 0 k))) (λ k. let s = one_more p k in omega (arith, s)) n m all l (let s = one_more p m in omega (arith, s, last)))
+    (room (λ k. length (filter p (range_with_len 0 k))) (λ k. let s = one_more p k in omega (arith, s)) n m all l
+    (let s = one_more p m in omega (arith, s, last)))

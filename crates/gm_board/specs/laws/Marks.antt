@@ -1,5 +1,6 @@
 -- Texts that have a byte for each cell: they tell boards apart. And marks: the mask of the cells at which a text has a byte, read one cell after the other.
-use Rattle.std.proofs.Common.{◌≡◌, ◌≢◌, ℕ, ◌+◌, ◌*◌, ◌%◌, ◌^◌, ◌<◌, w32, Bool, true, false, ◌&&◌, eqb, ltb, lt-ltb, List, [], ◌∷◌, map, get_or, refl, sym, ap, ap₂, ◌∙◌, arith, inl, inr, eq-eqb}
+use Rattle.std.proofs.Common.{◌≡◌, ◌≢◌, ℕ, ◌+◌, ◌*◌, ◌%◌, ◌^◌, ◌<◌, w32, Bool, true, false, ◌&&◌, eqb, ltb, lt-ltb, List, [], ◌∷◌, map, get_or, refl, sym, ap}
+use Rattle.std.proofs.Common.{ap₂, ◌∙◌, arith, inl, inr, eq-eqb}
 use Rattle.std.specs.Prelude.{bit_and, bit_or}
 use Rattle.std.proofs.lemmas.Bool.{cases_eq, le-ltb}
 use Rattle.std.proofs.lemmas.Bool.Decides.{nat_tests}
@@ -36,7 +37,8 @@ same_in : (x : Bool) (k n : ℕ) → k ≢ n → (ltb k n && x) ≡ (ltb k (n + 
 same_in x k n q = grind (arith, nat_tests)
 
 -- one more cell, with the byte
-pub read_in : (text : List ℕ) (byte n marks : ℕ) → n < 32 → IsRead text byte n marks → eqb (get_or text n 0) byte ≡ true → IsRead text byte (n + 1) (bit_or marks (1 * 2 ^ n % 2 ^ 32))
+pub read_in : (text : List ℕ) (byte n marks : ℕ) → n < 32 → IsRead text byte n marks → eqb (get_or text n 0) byte ≡ true → IsRead text byte (n + 1)
+    (bit_or marks (1 * 2 ^ n % 2 ^ 32))
 read_in text byte n marks l h e k = elim (cases_eq k n) [
   | inl q ↦ ap (has_cell (bit_or marks (1 * 2 ^ n % 2 ^ 32))) q
       ∙ eq-eqb _ _ (bit_at_set_same w32 marks n l)
@@ -49,4 +51,5 @@ two_bytes x y v c d q = grind (arith, nat_tests)
 
 -- no cell has two bytes
 pub read_apart : (text : List ℕ) (c d n a b : ℕ) → c ≢ d → IsRead text c n a → IsRead text d n b → bit_and a b ≡ 0
-read_apart text c d n a b q h k = has_none (bit_and a b) (λ i. has_and a b i ∙ ap₂ (λ (x y : Bool). x && y) (h i) (k i) ∙ two_bytes (ltb i n) (ltb i n) (get_or text i 0) c d q)
+read_apart text c d n a b q h k = has_none (bit_and a b) (λ i. has_and a b i ∙ ap₂ (λ (x y : Bool). x && y) (h i) (k i) ∙ two_bytes (ltb i n) (ltb i n)
+    (get_or text i 0) c d q)

@@ -3,7 +3,7 @@ use Rattle.std.specs.Prelude.{◌≡◌, ◌≤◌}
 use Rattle.gm_pieces.specs.Common.{ℕ, true, List, length, sym, ap, ◌∙◌, arith, filter, range_with_len, Cell, and_left, and_right, and_both}
 use Rattle.gm_pieces.specs.Common.{from_point, to_point, is_theirs, is_empty, cell_at, WasStep, their_cell, empty_cell, cells_counted, all_cells, gone_again}
 use Rattle.gm_pieces.specs.Common.{back_again}
-use Rattle.gm_dao.specs.DaoRules.{in_line, numbers_end, play, was_moved, taken_back, legal}
+use Rattle.gm_dao.specs.DaoRules.{in_line, move_number_bound, play, can_have_led_here, undo, legal}
 use Rattle.gm_dao.specs.laws.BoardFacts.{legal_in}
 use Rattle.gm_dao.specs.laws.MoveFacts.{IsSlide, slide_step, blocks_few, from_is}
 
@@ -14,8 +14,8 @@ pub record WasMoved (d : List Cell) (a c : ℕ) : Type 0 where
   pub step : WasStep d a c
 
 -- what holds where the test is passed
-pub was_in : (d : List Cell) (m : ℕ) → was_moved d m ≡ true → WasMoved d (from_point m) (to_point m)
-unfolding was_moved
+pub was_in : (d : List Cell) (m : ℕ) → can_have_led_here d m ≡ true → WasMoved d (from_point m) (to_point m)
+unfolding can_have_led_here
 was_in d m e =
     let r = and_right _ _ e in
     record {
@@ -24,27 +24,28 @@ was_in d m e =
     }
 
 -- where that holds, the test is passed
-pub was_from : (d : List Cell) (m : ℕ) → WasMoved d (from_point m) (to_point m) → was_moved d m ≡ true
-unfolding was_moved
+pub was_from : (d : List Cell) (m : ℕ) → WasMoved d (from_point m) (to_point m) → can_have_led_here d m ≡ true
+unfolding can_have_led_here
 was_from d m h = and_both _ _ h.line (and_both _ _ (ap is_theirs h.step.there) (ap is_empty h.step.left))
 
 -- ---- taken back and made again
-pub played_back : (d : List Cell) (m : ℕ) → WasMoved d (from_point m) (to_point m) → play (taken_back d m) m ≡ d
-unfolding play taken_back
+pub played_back : (d : List Cell) (m : ℕ) → WasMoved d (from_point m) (to_point m) → play (undo d m) m ≡ d
+unfolding play undo
 played_back d m h = gone_again d (from_point m) (to_point m) h.step
 
 -- a move made and taken back leads to the same board
-pub taken_played : (b : List Cell) (m : ℕ) → length b ≡ 16 → IsSlide b (from_point m) (to_point m) → WasMoved (play b m) (from_point m) (to_point m) × (taken_back (play b m) m ≡ b)
-unfolding play taken_back
+pub taken_played : (b : List Cell) (m : ℕ) → length b ≡ 16 → IsSlide b (from_point m) (to_point m) → WasMoved (play b m) (from_point m) (to_point m) ×
+    (undo (play b m) m ≡ b)
+unfolding play undo
 taken_played b m n h =
     let x = back_again b (from_point m) (to_point m) (slide_step b (from_point m) (to_point m) n h) in
     (record { line = h.line; step = x.0 }, x.1)
 
 -- there are at most sixteen boards before for each empty cell
-pub befores_few : (d : List Cell) → legal d ≡ true → length (filter (was_moved d) (range_with_len 0 numbers_end)) ≤ 128
+pub befores_few : (d : List Cell) → legal d ≡ true → length (filter (can_have_led_here d) (range_with_len 0 move_number_bound)) ≤ 128
 befores_few d l =
     let h = legal_in d l in
-    let blocks = blocks_few (was_moved d) (λ k. is_empty (cell_at d k))
+    let blocks = blocks_few (can_have_led_here d) (λ k. is_empty (cell_at d k))
     (λ m f. ap (λ (k : ℕ). is_empty (cell_at d k)) (sym (from_is m)) ∙ ap is_empty (was_in d m f).step.left) 16 in
     let all = cells_counted is_empty d 16 h.cells in
     let cells = all_cells d in

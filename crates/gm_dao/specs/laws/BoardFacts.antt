@@ -18,7 +18,8 @@ unfolding has_formation
 formation_left b d more h = h.filled formations
 
 -- an image has a formation where the board has one
-pub image_formation : (p : Cell → Bool) (g : List ℕ) (b : List Cell) → Contains (square_symmetries 4) g → length b ≡ 16 → has_formation p (permute Empty g b) ≡ has_formation p b
+pub image_formation : (p : Cell → Bool) (g : List ℕ) (b : List Cell) → Contains (square_symmetries 4) g → length b ≡ 16 → has_formation p
+    (permute Empty g b) ≡ has_formation p b
 unfolding has_formation
 image_formation p g b c e = filled_image Empty p 16 (square_symmetries 4) formations group formations_kept g c b e
 

@@ -82,5 +82,6 @@ unfolding legal
 legal_at i x l e =
     let h = board_numbers 16 4 4 i l in
     ap not e
-    ∙ sym (ap₂ (λ (y z : Bool). y && (z && (eqb (number_of is_theirs (board_at i)) 4 && not (has_formation is_mine (board_at i))))) (eq-eqb _ _ h.cells) (eq-eqb _ _ h.own)
+    ∙ sym (ap₂ (λ (y z : Bool). y && (z && (eqb (number_of is_theirs (board_at i)) 4 && not (has_formation is_mine (board_at i))))) (eq-eqb _ _ h.cells)
+    (eq-eqb _ _ h.own)
     ∙ ap (λ (y : Bool). y && not (has_formation is_mine (board_at i))) (eq-eqb _ _ h.other))

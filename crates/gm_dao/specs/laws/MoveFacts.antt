@@ -4,7 +4,7 @@ use Rattle.gm_pieces.specs.Common.{ℕ, zero, suc, Bool, true, false, cond, List
 use Rattle.gm_pieces.specs.Common.{ap, ◌∙◌, subst, arith, filter, range_with_len, cases_Bool, cond-true, length-append, Lose, Cell, Empty, Mine, and_left}
 use Rattle.gm_pieces.specs.Common.{and_right, and_both, fills, all_at, from_point, to_point, number_below, filter_in, filter_out, steps, is_mine, is_theirs}
 use Rattle.gm_pieces.specs.Common.{is_empty, is_taken, cell_at, number_of, IsStep, mine_cell, empty_cell, cells_counted}
-use Rattle.gm_dao.specs.DaoRules.{has_formation, in_line, path, beyond, can_go, can_move, numbers_end, over, dao}
+use Rattle.gm_dao.specs.DaoRules.{has_formation, in_line, path, beyond, can_go, can_move, move_number_bound, end_by_last_move, dao}
 use Rattle.gm_dao.specs.laws.SlideFacts.{line_within, way}
 
 -- ---- what a move is
@@ -52,13 +52,13 @@ unfolding can_move
 slide_move b m h = go_from b (from_point m) (to_point m) h
 
 -- the number of a slide is below 256
-pub line_below : (m : ℕ) → in_line (from_point m) (to_point m) ≡ true → m < numbers_end
+pub line_below : (m : ℕ) → in_line (from_point m) (to_point m) ≡ true → m < move_number_bound
 line_below m e = let l = number_below m 16 (line_within (from_point m) (to_point m) e).0 in omega (arith, l)
 
 -- ---- the end of the game
 -- a board that is not over has no formation of the opponent's
-pub no_formation : (b : List Cell) → over b ≡ None → has_formation is_theirs b ≡ false
-unfolding over
+pub no_formation : (b : List Cell) → end_by_last_move b ≡ None → has_formation is_theirs b ≡ false
+unfolding end_by_last_move
 no_formation b e = elim (cases_Bool (has_formation is_theirs b)) [
   | inl f ↦ absurd (let g : Some Lose ≡ None = sym (cond-true _ _ _ f) ∙ e in let z : ⊥ = cc in z)
   | inr f ↦ f
@@ -78,7 +78,8 @@ block_few p q h n (suc k) l =
       | inl f ↦ (
           let here : q n ≡ true = ap q (sym d) ∙ h m f in
           let more = ap (λ (xs : List ℕ). length xs) (filter_in p m f) ∙ length-append (filter p (range_with_len 0 m)) (m ∷ []) in
-          let i2 : length (filter p (range_with_len 0 m)) ≤ length (filter p (range_with_len 0 (16 * n))) + k = subst (λ (x : Bool). length (filter p (range_with_len 0 m)) ≤ length (filter p (range_with_len 0 (16 * n))) + cond x k 0) here i in
+          let i2 : length (filter p (range_with_len 0 m)) ≤ length (filter p (range_with_len 0 (16 * n))) + k = subst
+          (λ (x : Bool). length (filter p (range_with_len 0 m)) ≤ length (filter p (range_with_len 0 (16 * n))) + cond x k 0) here i in
           rw (e, here) (omega (arith, more, i2)))
       | inr f ↦ (
           let same = ap (λ (xs : List ℕ). length xs) (filter_out p m f) in
@@ -91,7 +92,8 @@ block_few p q h n (suc k) l =
     cond_grow false k = omega arith
 
 -- at most sixteen numbers for each n that passes the second test
-pub blocks_few : (p q : ℕ → Bool) → ((m : ℕ) → p m ≡ true → q (m / 16) ≡ true) → (n : ℕ) → length (filter p (range_with_len 0 (16 * n))) ≤ 16 * length (filter q (range_with_len 0 n))
+pub blocks_few : (p q : ℕ → Bool) → ((m : ℕ) → p m ≡ true → q (m / 16) ≡ true) → (n : ℕ) → length (filter p (range_with_len 0 (16 * n))) ≤ 16 * length
+    (filter q (range_with_len 0 n))
 blocks_few p q h zero = omega arith
 blocks_few p q h (suc n) =
     let e : 16 * (n + 1) ≡ 16 * n + 16 = omega arith in
@@ -102,11 +104,13 @@ blocks_few p q h (suc n) =
     elim (cases_Bool (q n)) [
       | inl f ↦ (
           let more = ap (λ (xs : List ℕ). length xs) (filter_in q n f) ∙ length-append (filter q (range_with_len 0 n)) (n ∷ []) in
-          let b2 : length (filter p (range_with_len 0 (16 * n + 16))) ≤ length (filter p (range_with_len 0 (16 * n))) + 16 = subst (λ (x : Bool). length (filter p (range_with_len 0 (16 * n + 16))) ≤ length (filter p (range_with_len 0 (16 * n))) + cond x 16 0) f b in
+          let b2 : length (filter p (range_with_len 0 (16 * n + 16))) ≤ length (filter p (range_with_len 0 (16 * n))) + 16 = subst
+          (λ (x : Bool). length (filter p (range_with_len 0 (16 * n + 16))) ≤ length (filter p (range_with_len 0 (16 * n))) + cond x 16 0) f b in
           omega (arith, more, b2, i))
       | inr f ↦ (
           let same = ap (λ (xs : List ℕ). length xs) (filter_out q n f) in
-          let b2 : length (filter p (range_with_len 0 (16 * n + 16))) ≤ length (filter p (range_with_len 0 (16 * n))) + 0 = subst (λ (x : Bool). length (filter p (range_with_len 0 (16 * n + 16))) ≤ length (filter p (range_with_len 0 (16 * n))) + cond x 16 0) f b in
+          let b2 : length (filter p (range_with_len 0 (16 * n + 16))) ≤ length (filter p (range_with_len 0 (16 * n))) + 0 = subst
+          (λ (x : Bool). length (filter p (range_with_len 0 (16 * n + 16))) ≤ length (filter p (range_with_len 0 (16 * n))) + cond x 16 0) f b in
           omega (arith, same, b2, i))
     ] in
     subst (λ (k : ℕ). length (filter p (range_with_len 0 (16 * k))) ≤ 16 * length (filter q (range_with_len 0 k))) (sym s)

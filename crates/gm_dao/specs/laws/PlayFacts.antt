@@ -5,7 +5,7 @@ use Rattle.gm_pieces.specs.Common.{ltb-true, Contains, length-map, Lose, Win, Ce
 use Rattle.gm_pieces.specs.Common.{image_slide, any_at, fills, same_tests, any_from, permute, all_at, square_symmetries, step_number, from_point, to_point}
 use Rattle.gm_pieces.specs.Common.{from_back, to_back, IsMove, is_mine, is_theirs, is_empty, is_taken, cell_at, gone, step_left, permute_turned, mine_turned}
 use Rattle.gm_pieces.specs.Common.{theirs_turned, image_cell, image_fills}
-use Rattle.gm_dao.specs.DaoRules.{corners, around, is_trapped, has_trapped, path, beyond, can_move, over, play, legal, dao}
+use Rattle.gm_dao.specs.DaoRules.{corners, around, is_trapped, has_trapped, path, beyond, can_move, end_by_last_move, play, legal, dao}
 use Rattle.gm_dao.specs.laws.SlideFacts.{group, corner_kept, line_within, way, line_kept}
 use Rattle.gm_dao.specs.laws.BoardFacts.{formation_turned, formation_left, image_formation, legal_in, legal_from}
 use Rattle.gm_dao.specs.laws.MoveFacts.{IsSlide, slide_step, move_slide, slide_move, line_below, no_formation}
@@ -27,7 +27,8 @@ play_legal b m l k =
 
 -- ---- slides of images
 -- a slide on the board is a slide in the image
-image_slides : (g : List ℕ) (b : List Cell) (i j : ℕ) → Contains (square_symmetries 4) g → i < 16 → j < 16 → IsSlide b (get_or g i 0) (get_or g j 0) → IsSlide (permute Empty g b) i j
+image_slides : (g : List ℕ) (b : List Cell) (i j : ℕ) → Contains (square_symmetries 4) g → i < 16 → j < 16 → IsSlide b (get_or g i 0) (get_or g j 0) →
+    IsSlide (permute Empty g b) i j
 image_slides g b i j c li lj h =
     let k = line_kept g i j c li lj h.line in
     let w = way i j k.line in
@@ -54,7 +55,8 @@ image_step g b m c e f =
     let from : from_point n ≡ i = from_back i j x.3 in
     let to : to_point n ≡ j = to_back i j x.3 in
     let image = permute Empty g b in
-    let there : IsSlide b (get_or g i 0) (get_or g j 0) = subst (λ (p : ℕ). IsSlide b p (get_or g j 0)) (sym x.4) (subst (λ (q : ℕ). IsSlide b a q) (sym x.5) h) in
+    let there : IsSlide b (get_or g i 0) (get_or g j 0) = subst (λ (p : ℕ). IsSlide b p (get_or g j 0)) (sym x.4)
+    (subst (λ (q : ℕ). IsSlide b a q) (sym x.5) h) in
     let slide : IsSlide image i j = image_slides g b i j c x.2 x.3 there in (
       n,
       slide_move image n (subst (λ (p : ℕ). IsSlide image p (to_point n)) (sym from) (subst (λ (q : ℕ). IsSlide image i q) (sym to) slide)),
@@ -74,7 +76,8 @@ trapped_from g b c e =
     let image = permute Empty g b in
     let x = any_at (is_trapped image) corners e in
     let k = corner_kept g x.0 c x.1 in
-    let near : fills Empty is_theirs b (permute 0 (around x.0) g) ≡ true = sym (image_fills 16 (square_symmetries 4) group g b c is_theirs (around x.0) k.within) ∙ and_right _ _ x.2 in
+    let near : fills Empty is_theirs b (permute 0 (around x.0) g) ≡ true = sym (image_fills 16 (square_symmetries 4) group g b c is_theirs (around x.0)
+    k.within) ∙ and_right _ _ x.2 in
     any_from (is_trapped b) corners (get_or g x.0 0) k.corner
     (and_both _ _
     (ap is_mine (sym (image_cell 16 (square_symmetries 4) group g b c x.0 (corner_below x.0 x.1))) ∙ and_left _ _ x.2)
@@ -90,8 +93,8 @@ image_trapped g b c e =
     (λ f. trapped_from h.0 (permute Empty g b) h.1 (ap has_trapped h.2 ∙ f))
 
 -- the last move has ended the game in an image as it has on the board
-pub image_over : (g : List ℕ) (b : List Cell) → Contains (square_symmetries 4) g → length b ≡ 16 → over (permute Empty g b) ≡ over b
-unfolding over
+pub image_over : (g : List ℕ) (b : List Cell) → Contains (square_symmetries 4) g → length b ≡ 16 → end_by_last_move (permute Empty g b) ≡ end_by_last_move b
+unfolding end_by_last_move
 image_over g b c e = ap₂ (λ (x y : Bool). cond x (Some Lose) (cond y (Some Win) None)) (image_formation is_theirs g b c e) (image_trapped g b c e)
 
 -- a move of a board has an image among the moves of the image

@@ -24,7 +24,8 @@ step_length m = refl
 -- the text of a move is plain
 pub step_plain : (m : ℕ) → from_point m < 16 → to_point m < 16 → IsPlain (step_text m)
 unfolding step_text
-step_plain m l h = plain_append (cell_text 4 (from_point m)) (45 ∷ cell_text 4 (to_point m)) (cell_plain 4 (from_point m) (omega arith) (omega arith)) (cell_plain 4 (to_point m) (omega arith) (omega arith))
+step_plain m l h = plain_append (cell_text 4 (from_point m)) (45 ∷ cell_text 4 (to_point m)) (cell_plain 4 (from_point m) (omega arith) (omega arith))
+    (cell_plain 4 (to_point m) (omega arith) (omega arith))
 
 -- ---- the laws of texts
 pub readable : AreTexts dao board_text (λ t m. step_text m)

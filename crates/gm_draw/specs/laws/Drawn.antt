@@ -11,7 +11,7 @@ use Rattle.gm_game.specs.Rules.{Rules}
 use Rattle.gm_game.specs.Shown.{IsShown}
 use Rattle.gm_game.proofs.BoardLaws.{legal_board}
 use Rattle.gm_board.specs.laws.Lists.{contains_range}
-use Rattle.gm_board.specs.Permutations.{all_at}
+use Rattle.gm_board.specs.laws.Permutations.{all_at}
 use Rattle.gm_pieces.specs.laws.SideTextFacts.{text_length}
 use Rattle.gm_pieces.specs.MoveGames.{board_game}
 use Rattle.gm_pieces.specs.Sides.{board_numbered}

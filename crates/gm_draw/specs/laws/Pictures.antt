@@ -9,7 +9,7 @@ use Rattle.gm_game.specs.Rules.{Rules, at}
 use Rattle.gm_game.proofs.BoardLaws.{legal_board, own_tier}
 use Rattle.gm_board.specs.declared.cell.Cell.{Cell}
 use Rattle.gm_board.specs.Squares.{cell_text}
-use Rattle.gm_board.specs.Permutations.{all_at}
+use Rattle.gm_board.specs.laws.Permutations.{all_at}
 use Rattle.gm_board.specs.laws.Lists.{and_left, and_right, contains_unmap, contains_range, range_below, filter_to}
 use Rattle.gm_pieces.specs.MoveGames.{board_game, IsMove}
 use Rattle.gm_pieces.specs.Sides.{board_numbered}
@@ -48,7 +48,7 @@ use Rattle.gm_pong.specs.PongRules.{pong, pong_rules}
 use Rattle.gm_pong.specs.laws.PongTables.{tables as pong_tables}
 use Rattle.gm_shisima.specs.ShisimaRules.{shisima, shisima_rules}
 use Rattle.gm_shisima.specs.laws.ShisimaTables.{tables as shisima_tables}
-use Rattle.gm_hare.specs.Board.{are_joined, hunt_board, numbers_end, hare_and_hounds, hare_rules}
+use Rattle.gm_hare.specs.Board.{are_joined, hunt_board, move_number_bound, hare_and_hounds, hare_rules}
 use Rattle.gm_hare.specs.Texts.{point_name, step_text as hare_step, position_text as hare_text, move_text as hare_move}
 use Rattle.gm_hare.specs.laws.MoveFacts.{move_in as hunt_in, step_below}
 use Rattle.gm_hare.specs.laws.PointFacts.{is_step}
@@ -259,7 +259,7 @@ shisima_pictured = way_pictured 9 shisima ring_board ring_points shisima_tables 
 abbrev hare_ends : ℕ → Bool
 hare_ends m = ltb (from_point m) 11 && ltb (to_point m) 11
 
-hare_table : list_all hare_ends (filter is_step (range_with_len 0 numbers_end)) ≡ true
+hare_table : list_all hare_ends (filter is_step (range_with_len 0 move_number_bound)) ≡ true
 unfolding are_joined from_point to_point
 hare_table = refl
 
@@ -271,8 +271,8 @@ hare_words : (p : Position) (m : ℕ) → hare_rules.is_legal p ≡ true → Con
 hare_words p m l c =
     let b = hunt_board p.index in
     let e = (hunt_in b m (move_in hare_and_hounds b m c).can).joined in
-    let w = all_at hare_ends (filter is_step (range_with_len 0 numbers_end)) m hare_table
-    (filter_to is_step (range_with_len 0 numbers_end) m (contains_range numbers_end m (step_below m e)) e) in
+    let w = all_at hare_ends (filter is_step (range_with_len 0 move_number_bound)) m hare_table
+    (filter_to is_step (range_with_len 0 move_number_bound) m (contains_range move_number_bound m (step_below m e)) e) in
     hare_step_words m (ltb-true _ _ (and_left _ _ w)) (ltb-true _ _ (and_right _ _ w))
 
 pub hare_pictured : IsPictured hare_rules hare_text hare_move (λ p. filled hare_board (hare_text p)) Letters hare_board hare_points

@@ -7,10 +7,14 @@ use Rattle.gm_pieces.specs.Common.{position_of, IsNumbered, and_both, contains_h
 use Rattle.gm_pieces.specs.Common.{unrank_rank, same_tests, permute, permute_get, permute_length, image_slide, step_number, from_point, to_point, from_back}
 use Rattle.gm_pieces.specs.Common.{to_back, board_game, IsMove, IsMoveGame, IsMoveSymmetric}
 use Rattle.gm_hare.specs.declared.hunt.Hunt.{Hunt}
-use Rattle.gm_hare.specs.Board.{column, has_hound, hunt_tier, has_escaped, legal, over, can_go, can_move, gone, play, mirror, mirror_point, mirrored, turn_of, hunt_index, hunt_board, hare_name, hare_and_hounds}
-use Rattle.gm_hare.specs.laws.PointFacts.{at_point, all_points, joined_from, joined_to, mirror_below, mirror_twice, mirror_column, mirror_joined, mirror_ahead, two, two_group, mirror_in}
+use Rattle.gm_hare.specs.Board.{column, has_hound, hunt_tier, has_escaped, legal, end_by_last_move, can_go, can_move, gone, play, mirror, mirror_point}
+use Rattle.gm_hare.specs.Board.{mirrored, turn_of}
+use Rattle.gm_hare.specs.Board.{hunt_index, hunt_board, hare_name, hare_and_hounds}
+use Rattle.gm_hare.specs.laws.PointFacts.{at_point, all_points, joined_from, joined_to, mirror_below, mirror_twice, mirror_column, mirror_joined, mirror_ahead}
+use Rattle.gm_hare.specs.laws.PointFacts.{two, two_group, mirror_in}
 use Rattle.gm_hare.specs.laws.HoundFacts.{count, members_count, same_hunt, for_eleven, mirror_count, mirror_columns, mirror_hounds_twice, three_columns}
-use Rattle.gm_hare.specs.laws.MoveFacts.{hunt, IsLegal, legal_in, legal_from, free_in, free_from, may_go, CanGo, move_in, step_below, moves_few, gone_legal, gone_tier, undone, redone, befores_few}
+use Rattle.gm_hare.specs.laws.MoveFacts.{hunt, IsLegal, legal_in, legal_from, free_in, free_from, may_go, CanGo, move_in, step_below, moves_few, gone_legal}
+use Rattle.gm_hare.specs.laws.MoveFacts.{gone_tier, undone, redone, befores_few}
 
 -- ---- tiers
 abbrev pub tier_size_of : ℕ → ℕ
@@ -92,9 +96,9 @@ board_back b l =
     let t = turn_of b.hounds_move in
     let r = rank (reverse b.hounds) in
     let i = (t * 165 + r) * 11 + b.hare in
-    let over : i / 11 ≡ t * 165 + r = div-mul-add (t * 165 + r) 11 b.hare l.below in
-    let turn : i / 11 / 165 ≡ t = ap (λ (n : ℕ). n / 165) over ∙ div-mul-add t 165 r (hounds_rank b l) in
-    let hounds : i / 11 % 165 ≡ r = ap (λ (n : ℕ). n % 165) over ∙ mod-mul-add t 165 r (hounds_rank b l) in
+    let end_by_last_move : i / 11 ≡ t * 165 + r = div-mul-add (t * 165 + r) 11 b.hare l.below in
+    let turn : i / 11 / 165 ≡ t = ap (λ (n : ℕ). n / 165) end_by_last_move ∙ div-mul-add t 165 r (hounds_rank b l) in
+    let hounds : i / 11 % 165 ≡ r = ap (λ (n : ℕ). n % 165) end_by_last_move ∙ mod-mul-add t 165 r (hounds_rank b l) in
     let hare : i % 11 ≡ b.hare = mod-mul-add (t * 165 + r) 11 b.hare l.below in
     same_hunt (record { hounds_move = eqb (i / 11 / 165) 0; hounds = reverse (unrank 11 3 (i / 11 % 165)); hare = i % 11 }) b
     (ap (λ (n : ℕ). eqb n 0) turn ∙ turn_test b.hounds_move)
@@ -109,7 +113,8 @@ index_back i l =
     let q = i / 11 in
     let turn : turn_of (eqb (q / 165) 0) ≡ q / 165 = turn_back (q / 165) (omega arith) in
     let few : q % 165 < binomial 11 3 = omega (arith, ways) in
-    let hounds : rank (reverse (reverse (unrank 11 3 (q % 165)))) ≡ q % 165 = ap rank (reverse-reverse (unrank 11 3 (q % 165))) ∙ rank_unrank 11 3 (q % 165) few in
+    let hounds : rank (reverse (reverse (unrank 11 3 (q % 165)))) ≡ q % 165 = ap rank (reverse-reverse (unrank 11 3 (q % 165))) ∙ rank_unrank 11 3 (q % 165)
+    few in
     ap₂ (λ (t r : ℕ). (t * 165 + r) * 11 + i % 11) turn hounds ∙ omega arith
 
 -- the numbering is one to one
@@ -128,7 +133,8 @@ pub play_legal : (b : Hunt) (m : ℕ) → legal b ≡ true → can_move b m ≡ 
 unfolding play
 play_legal b m l c = legal_from (play b m) (gone_legal b (from_point m) (to_point m) (legal_in b l) (move_in b m c))
 
-play_tier : (b : Hunt) (m : ℕ) → legal b ≡ true → can_move b m ≡ true → (hunt_tier (play b m) ≡ hunt_tier b) ⊎ Contains (child_tiers_of (hunt_tier b)) (hunt_tier (play b m))
+play_tier : (b : Hunt) (m : ℕ) → legal b ≡ true → can_move b m ≡ true → (hunt_tier (play b m) ≡ hunt_tier b) ⊎ Contains (child_tiers_of (hunt_tier b))
+    (hunt_tier (play b m))
 unfolding play
 play_tier b m l c =
     let h = legal_in b l in
@@ -209,7 +215,8 @@ mirrored_escaped b l =
     (λ e. sym (ap has_escaped (mirrored_twice b l)) ∙ mirrored_escape (mirrored b) (mirrored_legal b l) e)
     (λ e. mirrored_escape b l e)
 
-mirrored_may : (x : Bool) (h : List Bool) (r a c : ℕ) → a < 11 → c < 11 → may_go (hunt x h r) a c ≡ true → may_go (mirrored (hunt x h r)) (mirror_point a) (mirror_point c) ≡ true
+mirrored_may : (x : Bool) (h : List Bool) (r a c : ℕ) → a < 11 → c < 11 → may_go (hunt x h r) a c ≡ true → may_go (mirrored (hunt x h r)) (mirror_point a)
+    (mirror_point c) ≡ true
 mirrored_may true h r a c la lc e = ap₂ (λ (x y : Bool). x && y) (mirrored_at (hunt true h r) a la) (mirror_ahead a c la lc) ∙ e
 mirrored_may false h r a c la lc e = eq-eqb _ _ (ap mirror_point (eqb-true a r e))
 
@@ -219,10 +226,12 @@ mirrored_go b a c l k =
     let lc = joined_to a c k.joined in
     let free = free_in b c k.free in
     and_both _ _ (mirror_joined a c k.joined)
-    (and_both _ _ (free_from (mirrored b) (mirror_point c) (mirrored_at b c lc ∙ free.0) (λ e. free.1 (sym (mirror_twice c lc) ∙ ap mirror_point e ∙ mirror_twice b.hare l.below)))
+    (and_both _ _ (free_from (mirrored b) (mirror_point c) (mirrored_at b c lc ∙ free.0)
+    (λ e. free.1 (sym (mirror_twice c lc) ∙ ap mirror_point e ∙ mirror_twice b.hare l.below)))
     (mirrored_may b.hounds_move b.hounds b.hare a c la lc k.may))
 
-mirrored_gone : (x : Bool) (h : List Bool) (r a c : ℕ) → length h ≡ 11 → a < 11 → c < 11 → gone (mirrored (hunt x h r)) (mirror_point a) (mirror_point c) ≡ mirrored (gone (hunt x h r) a c)
+mirrored_gone : (x : Bool) (h : List Bool) (r a c : ℕ) → length h ≡ 11 → a < 11 → c < 11 → gone (mirrored (hunt x h r)) (mirror_point a) (mirror_point c) ≡
+    mirrored (gone (hunt x h r) a c)
 mirrored_gone true h r a c e la lc =
     let x = image_slide false 11 two two_group mirror mirror_in h a c false true e la lc in
     let i : x.0 ≡ mirror_point a = sym (mirror_twice x.0 x.2) ∙ ap mirror_point x.4 in
@@ -248,8 +257,8 @@ mirrored_moves b m l d =
       ap₂ (gone (mirrored b)) from to ∙ mirrored_gone b.hounds_move b.hounds b.hare a c l.eleven la lc,
     )
 
-mirrored_over : (b : Hunt) → IsLegal b → over (mirrored b) ≡ over b
-unfolding over
+mirrored_over : (b : Hunt) → IsLegal b → end_by_last_move (mirrored b) ≡ end_by_last_move b
+unfolding end_by_last_move
 mirrored_over b l = ap (λ (x : Bool). if x then Some (if b.hounds_move then Lose else Win) else None) (mirrored_escaped b l)
 
 -- the image under one of the two symmetries
@@ -273,7 +282,7 @@ image_legal : (g : Bool) (b : Hunt) → legal b ≡ true → legal (image g b) �
 image_legal false b l = l
 image_legal true b l = mirrored_is_legal b l
 
-image_over : (g : Bool) (b : Hunt) → legal b ≡ true → over (image g b) ≡ over b
+image_over : (g : Bool) (b : Hunt) → legal b ≡ true → end_by_last_move (image g b) ≡ end_by_last_move b
 image_over false b l = refl
 image_over true b l = mirrored_over b (legal_in b l)
 
@@ -281,7 +290,8 @@ image_tier : (g : Bool) (b : Hunt) → legal b ≡ true → hunt_tier (image g b
 image_tier false b l = refl
 image_tier true b l = mirror_columns b.hounds (legal_in b l).eleven
 
-image_move : (g : Bool) (b : Hunt) (m : ℕ) → legal b ≡ true → IsMove hare_and_hounds b m → (n : ℕ) × IsMove hare_and_hounds (image g b) n × (play (image g b) n ≡ image g (play b m))
+image_move : (g : Bool) (b : Hunt) (m : ℕ) → legal b ≡ true → IsMove hare_and_hounds b m → (n : ℕ) × IsMove hare_and_hounds (image g b) n ×
+    (play (image g b) n ≡ image g (play b m))
 image_move false b m l h = (m, h, refl)
 image_move true b m l h =
     let x = mirrored_moves b m (legal_in b l) h.can in

@@ -67,7 +67,8 @@ module _ (xs : List Bool) (a c : ℕ) (u v : Bool) (apart : a ≢ c) where
       ∙ same_set xs a x e
 
 -- a hound that goes from a to c leaves as many hounds
-pub moved_count : (xs : List Bool) (a c : ℕ) → a ≢ c → a < length xs → c < length xs → get_or xs a false ≡ true → get_or xs c false ≡ false → count (set (set xs a false) c true) ≡ count xs
+pub moved_count : (xs : List Bool) (a c : ℕ) → a ≢ c → a < length xs → c < length xs → get_or xs a false ≡ true → get_or xs c false ≡ false → count
+    (set (set xs a false) c true) ≡ count xs
 moved_count xs a c apart la lc e f =
     let left = set xs a false in
     let x = count_set xs a false la in
@@ -86,12 +87,14 @@ moved_columns xs a c apart la lc e f =
     let y = columns_set 0 c left c true (omega arith) (let z : c < length left = omega (arith, length-set xs a false) in z) in
     let there : get_or left c false ≡ false = get_or-set_other xs a c false false (λ q. apart (sym q)) ∙ f in
     let u : columns_from 0 left + column a ≡ columns_from 0 xs + 0 = sym (ap (λ (v : Bool). columns_from 0 left + (if v then column a else 0)) e) ∙ x in
-    let w : columns_from 0 (set left c true) + 0 ≡ columns_from 0 left + column c = sym (ap (λ (v : Bool). columns_from 0 (set left c true) + (if v then column c else 0)) there) ∙ y in
+    let w : columns_from 0 (set left c true) + 0 ≡ columns_from 0 left + column c = sym
+    (ap (λ (v : Bool). columns_from 0 (set left c true) + (if v then column c else 0)) there) ∙ y in
     omega (arith, u, w)
 
 -- ---- eleven points
 -- what holds of each list of eleven tests
-pub for_eleven : (P : List Bool → Type 0) → ((a b c d e f g h i j k : Bool) → P (a ∷ b ∷ c ∷ d ∷ e ∷ f ∷ g ∷ h ∷ i ∷ j ∷ k ∷ [])) → (xs : List Bool) → length xs ≡ 11 → P xs
+pub for_eleven : (P : List Bool → Type 0) → ((a b c d e f g h i j k : Bool) → P (a ∷ b ∷ c ∷ d ∷ e ∷ f ∷ g ∷ h ∷ i ∷ j ∷ k ∷ [])) → (xs : List Bool) →
+    length xs ≡ 11 → P xs
 for_eleven P p (a ∷ b ∷ c ∷ d ∷ e ∷ f ∷ g ∷ h ∷ i ∷ j ∷ k ∷ []) q = p a b c d e f g h i j k
 for_eleven P p xs q = absurd (omega arith)
 

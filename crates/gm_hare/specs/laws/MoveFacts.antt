@@ -4,7 +4,8 @@ use Rattle.gm_pieces.specs.Common.{ℕ, Bool, true, false, not, eqb, ltb, ltb-tr
 use Rattle.gm_pieces.specs.Common.{length, get_or, set, refl, sym, ap, ◌∙◌, arith, inl, inr, filter, range_with_len, true≢false, not-true, ne_eqb}
 use Rattle.gm_pieces.specs.Common.{and_left, and_right, and_both, filter_few, members, from_point, to_point, number_below, steps}
 use Rattle.gm_hare.specs.declared.hunt.Hunt.{Hunt}
-use Rattle.gm_hare.specs.Board.{are_joined, is_ahead, has_hound, is_free, hunt_tier, legal, can_go, can_move, numbers_end, gone, play, can_have_gone, hound_back, hare_back, was_moved, taken_back, hare_and_hounds}
+use Rattle.gm_hare.specs.Board.{are_joined, is_ahead, has_hound, is_free, hunt_tier, legal, can_go, can_move, move_number_bound, gone, play, can_have_gone}
+use Rattle.gm_hare.specs.Board.{hound_back, hare_back, can_have_led_here, undo, hare_and_hounds}
 use Rattle.gm_hare.specs.laws.PointFacts.{differ, joined_from, joined_to, joined_apart, ahead_column, is_step, steps_few}
 use Rattle.gm_hare.specs.laws.HoundFacts.{count, members_count, both_length, both_first, both_second, both_other, both_back, moved_count, moved_columns}
 
@@ -76,14 +77,14 @@ pub move_joined : (b : Hunt) (m : ℕ) → can_move b m ≡ true → are_joined 
 move_joined b m e = (move_in b m e).joined
 
 -- the number of a move is below 176
-pub step_below : (m : ℕ) → is_step m ≡ true → m < numbers_end
+pub step_below : (m : ℕ) → is_step m ≡ true → m < move_number_bound
 step_below m e = let l = number_below m 11 (joined_from (from_point m) (to_point m) e) in omega (arith, l)
 
 -- there are at most 128 moves
 pub moves_few : (b : Hunt) → length (steps hare_and_hounds b) ≤ 128
 unfolding steps
 moves_few b =
-    let few = filter_few (can_move b) is_step (λ m e. (move_in b m e).joined) (range_with_len 0 numbers_end) in omega (arith, few, steps_few)
+    let few = filter_few (can_move b) is_step (λ m e. (move_in b m e).joined) (range_with_len 0 move_number_bound) in omega (arith, few, steps_few)
 
 -- ---- what a move leaves
 -- the board before a move
@@ -121,7 +122,8 @@ module _ (h : List Bool) (r a c : ℕ) (l : IsLegal (hunt true h r)) (k : CanGo 
     apart = both_other h a c false true apart r (λ e. hare_apart (sym e)) (λ e. free.1 (sym e)) ∙ l.apart;
   }
 
-  hound_tier : (hunt_tier (hunt false (set (set h a false) c true) r) ≡ hunt_tier (hunt true h r)) ⊎ (hunt_tier (hunt false (set (set h a false) c true) r) ≡ hunt_tier (hunt true h r) + 1)
+  hound_tier : (hunt_tier (hunt false (set (set h a false) c true) r) ≡ hunt_tier (hunt true h r)) ⊎
+      (hunt_tier (hunt false (set (set h a false) c true) r) ≡ hunt_tier (hunt true h r) + 1)
   hound_tier =
       let s = moved_columns h a c apart from_below to_below here free.0 in
       elim (ahead_column a c ahead) [
@@ -160,18 +162,19 @@ undone_by : (x : Bool) (h : List Bool) (r a c : ℕ) → IsLegal (hunt x h r) �
 undone_by true h r a c l k = hound_back_again h r a c l k
 undone_by false h r a c l k =
     let e = eqb-true a r k.may in (
-      and_both _ _ k.joined (and_both _ _ (free_from (hunt true h c) a (ap (λ (j : ℕ). get_or h j false) e ∙ l.apart) (joined_apart a c k.joined)) (eq-eqb c c refl)),
+      and_both _ _ k.joined (and_both _ _ (free_from (hunt true h c) a (ap (λ (j : ℕ). get_or h j false) e ∙ l.apart) (joined_apart a c k.joined))
+          (eq-eqb c c refl)),
       ap (hunt false h) e,
     )
 
 -- a move made and taken back leads to the same board
-pub undone : (b : Hunt) (m : ℕ) → IsLegal b → CanGo b (from_point m) (to_point m) → (was_moved (play b m) m ≡ true) × (taken_back (play b m) m ≡ b)
-unfolding play taken_back was_moved
+pub undone : (b : Hunt) (m : ℕ) → IsLegal b → CanGo b (from_point m) (to_point m) → (can_have_led_here (play b m) m ≡ true) × (undo (play b m) m ≡ b)
+unfolding play undo can_have_led_here
 undone b m l k = undone_by b.hounds_move b.hounds b.hare (from_point m) (to_point m) l k
 
 -- the points of a move that has been made are joined
-pub was_joined : (d : Hunt) (m : ℕ) → was_moved d m ≡ true → is_step m ≡ true
-unfolding was_moved
+pub was_joined : (d : Hunt) (m : ℕ) → can_have_led_here d m ≡ true → is_step m ≡ true
+unfolding can_have_led_here
 was_joined d m e = and_left _ _ e
 
 redone_by : (x : Bool) (h : List Bool) (r a c : ℕ) → can_have_gone (hunt x h r) a c ≡ true → gone (back (hunt x h r) a c) a c ≡ hunt x h r
@@ -186,11 +189,11 @@ redone_by false h r a c e =
     ap (λ (hs : List Bool). hunt false hs r) (both_back h c a false true (λ q. joined_apart a c (and_left _ _ e) (sym q)) true false there free.0)
 
 -- a move taken back and made again leads to the same board
-pub redone : (d : Hunt) (m : ℕ) → was_moved d m ≡ true → play (taken_back d m) m ≡ d
-unfolding play taken_back was_moved
+pub redone : (d : Hunt) (m : ℕ) → can_have_led_here d m ≡ true → play (undo d m) m ≡ d
+unfolding play undo can_have_led_here
 redone d m e = redone_by d.hounds_move d.hounds d.hare (from_point m) (to_point m) e
 
 -- there are at most 128 boards before
-pub befores_few : (d : Hunt) → length (filter (was_moved d) (range_with_len 0 numbers_end)) ≤ 128
+pub befores_few : (d : Hunt) → length (filter (can_have_led_here d) (range_with_len 0 move_number_bound)) ≤ 128
 befores_few d =
-    let few = filter_few (was_moved d) is_step (was_joined d) (range_with_len 0 numbers_end) in omega (arith, few, steps_few)
+    let few = filter_few (can_have_led_here d) is_step (was_joined d) (range_with_len 0 move_number_bound) in omega (arith, few, steps_few)

@@ -4,7 +4,7 @@ use Rattle.gm_pieces.specs.Common.{ℕ, Bool, true, false, not, eqb, ltb, eqb-tr
 use Rattle.gm_pieces.specs.Common.{refl, sym, ap, ◌∙◌, arith, inl, inr, Contains, filter, list_all, list_any, range_with_len, cases_eq, cases_lt, ne_eqb}
 use Rattle.gm_pieces.specs.Common.{true≢false, nat_tests, get_or_past, and_left, and_right, all_from, contains_range, range_below, all_at, IsGroup}
 use Rattle.gm_pieces.specs.Common.{is_group_table, group_from_table, any_at, from_point, to_point}
-use Rattle.gm_hare.specs.Board.{column, edges, are_joined, is_ahead, numbers_end, mirror, mirror_point}
+use Rattle.gm_hare.specs.Board.{column, edges, are_joined, is_ahead, move_number_bound, mirror, mirror_point}
 
 -- ---- tests of points
 -- a test that all points pass
@@ -71,12 +71,13 @@ abbrev pub is_step : ℕ → Bool
 is_step m = are_joined (from_point m) (to_point m)
 
 -- there are 44 such numbers
-pub steps_few : length (filter is_step (range_with_len 0 numbers_end)) ≤ 128
+pub steps_few : length (filter is_step (range_with_len 0 move_number_bound)) ≤ 128
 unfolding are_joined from_point to_point
 steps_few = omega arith
 
 -- ---- top and bottom exchanged
-points_table : list_all (λ a. ltb (mirror_point a) 11 && (eqb (mirror_point (mirror_point a)) a && eqb (column (mirror_point a)) (column a))) (range_with_len 0 11) ≡ true
+points_table : list_all (λ a. ltb (mirror_point a) 11 && (eqb (mirror_point (mirror_point a)) a && eqb (column (mirror_point a)) (column a)))
+    (range_with_len 0 11) ≡ true
 unfolding column
 points_table = refl
 
@@ -93,7 +94,8 @@ mirror_twice a l = eqb-true _ _ (and_left _ _ (and_right _ _ (point_at a l)))
 
 -- a point goes to a point of the same column
 pub mirror_column : (a : ℕ) → a < 11 → column (mirror_point a) ≡ column a
-mirror_column a l = eqb-true (column (mirror_point a)) (column a) (and_right (eqb (mirror_point (mirror_point a)) a) (eqb (column (mirror_point a)) (column a)) (and_right _ _ (point_at a l)))
+mirror_column a l = eqb-true (column (mirror_point a)) (column a) (and_right (eqb (mirror_point (mirror_point a)) a)
+    (eqb (column (mirror_point a)) (column a)) (and_right _ _ (point_at a l)))
 
 -- a point that is ahead stays ahead
 pub mirror_ahead : (a c : ℕ) → a < 11 → c < 11 → is_ahead (mirror_point a) (mirror_point c) ≡ is_ahead a c

@@ -5,7 +5,7 @@ use Rattle.gm_pieces.specs.Common.{get_or, refl, sym, ap, ◌∙◌, subst, arit
 use Rattle.gm_pieces.specs.Common.{nat_tests, ext_get_or, length-map-range_with_len, get_or-map-range_with_len, is_plain, IsPlain, IsShown, plain_map, and_left}
 use Rattle.gm_pieces.specs.Common.{and_right, and_both, contains_range, filter_to, all_at, same_list, from_point, to_point, AreTexts, texts_are_shown}
 use Rattle.gm_hare.specs.declared.hunt.Hunt.{Hunt}
-use Rattle.gm_hare.specs.Board.{legal, has_hound, are_joined, numbers_end, hare_and_hounds, hare_rules}
+use Rattle.gm_hare.specs.Board.{legal, has_hound, are_joined, move_number_bound, hare_and_hounds, hare_rules}
 use Rattle.gm_hare.specs.laws.PointFacts.{is_step}
 use Rattle.gm_hare.specs.laws.HoundFacts.{same_hunt}
 use Rattle.gm_hare.specs.laws.MoveFacts.{IsLegal, legal_in, move_in, step_below}
@@ -30,7 +30,8 @@ pub text_at : (b : Hunt) (k : ℕ) → k < 13 → get_or (hunt_text b) k 0 ≡ h
 unfolding hunt_text
 text_at b k l = get_or-map-range_with_len (hunt_char b) 0 13 k k 0 l (zero-add k)
 
-point_at : (x : Bool) (k h t : ℕ) → k < 11 → (if eqb k 11 then 32 else (if eqb k 12 then t else (if x then 100 else (if eqb k h then 104 else 46)))) ≡ (if x then 100 else (if eqb k h then 104 else 46))
+point_at : (x : Bool) (k h t : ℕ) → k < 11 → (if eqb k 11 then 32 else (if eqb k 12 then t else (if x then 100 else (if eqb k h then 104 else 46)))) ≡
+    (if x then 100 else (if eqb k h then 104 else 46))
 point_at x k h t l = grind (arith, nat_tests)
 
 -- the byte of a point
@@ -86,7 +87,7 @@ text_once x y l m e =
 
 -- ---- moves
 abbrev steps : List ℕ
-steps = filter is_step (range_with_len 0 numbers_end)
+steps = filter is_step (range_with_len 0 move_number_bound)
 
 apart_test : ℕ → ℕ → Bool
 apart_test m n = cond (same_list (step_text m) (step_text n)) (eqb m n) true
@@ -100,14 +101,15 @@ same_self [] = refl
 same_self (x ∷ xs) = and_both _ _ (eq-eqb x x refl) (same_self xs)
 
 listed : (m : ℕ) → is_step m ≡ true → Contains steps m
-listed m e = filter_to is_step (range_with_len 0 numbers_end) m (contains_range numbers_end m (step_below m e)) e
+listed m e = filter_to is_step (range_with_len 0 move_number_bound) m (contains_range move_number_bound m (step_below m e)) e
 
 -- moves with the same text are the same
 pub step_once : (m n : ℕ) → is_step m ≡ true → is_step n ≡ true → step_text m ≡ step_text n → m ≡ n
 unfolding apart_test
 step_once m n e f g =
     let t = all_at (apart_test m) steps n (all_at (λ (m : ℕ). list_all (apart_test m) steps) steps m texts_table (listed m e)) (listed n f) in
-    eqb-true m n (sym (cond-true (same_list (step_text m) (step_text n)) (eqb m n) true (subst (λ (t : List ℕ). same_list (step_text m) t ≡ true) g (same_self (step_text m)))) ∙ t)
+    eqb-true m n (sym (cond-true (same_list (step_text m) (step_text n)) (eqb m n) true
+    (subst (λ (t : List ℕ). same_list (step_text m) t ≡ true) g (same_self (step_text m)))) ∙ t)
 
 is_short : ℕ → Bool
 is_short m = leb (length (step_text m)) 5 && list_all is_plain (step_text m)

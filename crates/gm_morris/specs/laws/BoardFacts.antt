@@ -29,14 +29,16 @@ pub group : IsGroup 9 (square_symmetries 3)
 group = square_group 3 (omega arith) (omega arith)
 
 -- an image has as many pieces of each side as the board
-pub image_pieces : (g : List ℕ) (b : List Cell) → Contains (square_symmetries 3) g → length b ≡ 9 → mine (permute Empty g b) + theirs (permute Empty g b) ≡ mine b + theirs b
+pub image_pieces : (g : List ℕ) (b : List Cell) → Contains (square_symmetries 3) g → length b ≡ 9 → mine (permute Empty g b) + theirs (permute Empty g b) ≡
+    mine b + theirs b
 image_pieces g b c e =
     let m = image_number 9 (square_symmetries 3) group g b c is_mine e in
     let t = image_number 9 (square_symmetries 3) group g b c is_theirs e in
     omega (arith, m, t)
 
 -- an image has a line where the board has one
-pub image_line : (v : Variant) (p : Cell → Bool) (g : List ℕ) (b : List Cell) → Contains (square_symmetries 3) g → length b ≡ 9 → has_line v p (permute Empty g b) ≡ has_line v p b
+pub image_line : (v : Variant) (p : Cell → Bool) (g : List ℕ) (b : List Cell) → Contains (square_symmetries 3) g → length b ≡ 9 → has_line v p
+    (permute Empty g b) ≡ has_line v p b
 unfolding has_line
 image_line v p g b c e = filled_image Empty p 9 (square_symmetries 3) (lines v) group (lines_kept v) g c b e
 

@@ -8,7 +8,7 @@ use Rattle.gm_pieces.specs.Common.{index_back}
 use Rattle.gm_morris.specs.declared.variant.Variant.{Variant}
 use Rattle.gm_morris.specs.declared.variant.Variant.TheVariants.{TicTacToe, ThreeMens, Achi}
 use Rattle.gm_morris.specs.Points.{last_tier, lines}
-use Rattle.gm_morris.specs.Morris.{mine, theirs, has_line, legal, numbers_end, size_of, child_tiers_of, morris}
+use Rattle.gm_morris.specs.Morris.{mine, theirs, has_line, legal, move_number_bound, size_of, child_tiers_of, morris}
 use Rattle.gm_morris.specs.laws.PointFacts.{name_text}
 use Rattle.gm_morris.specs.laws.BoardFacts.{pieces_few, group, image_pieces, IsLegal, legal_in, legal_numbers, image_legal}
 use Rattle.gm_morris.specs.laws.MoveFacts.{end_by, steps_few, befores_few}
@@ -57,8 +57,8 @@ end_fits : (x : Bool) → end_by x ≤ 2 ^ 32
 end_fits true = omega arith
 end_fits false = omega arith
 
-numbers_fit : (v : Variant) (t : ℕ) → numbers_end v t ≤ 2 ^ 32
-unfolding numbers_end
+numbers_fit : (v : Variant) (t : ℕ) → move_number_bound v t ≤ 2 ^ 32
+unfolding move_number_bound
 numbers_fit v t = end_fits (eqb t (last_tier v))
 
 child_rank : (v : Variant) (t u : ℕ) → Contains (child_tiers_of v t) u → last_tier v - u < last_tier v - t

@@ -5,7 +5,7 @@ use Rattle.gm_pieces.specs.Common.{eqb, filter, range_with_len, Lose, Cell, Empt
 use Rattle.gm_pieces.specs.Common.{turned, cell_at, is_mine, is_theirs, is_empty, steps, IsMove, brought_back, IsStep, WasStep}
 use Rattle.gm_morris.specs.declared.variant.Variant.{Variant}
 use Rattle.gm_morris.specs.Points.{last_tier, joins}
-use Rattle.gm_morris.specs.Morris.{mine, theirs, has_line, over, can_move, numbers_end, was_moved, morris}
+use Rattle.gm_morris.specs.Morris.{mine, theirs, has_line, end_by_last_move, can_move, move_number_bound, can_have_led_here, morris}
 use Rattle.gm_morris.specs.laws.PointFacts.{joined_within, joined_few}
 
 -- ---- the rules of moves, by whether the tier is the last
@@ -36,12 +36,12 @@ pub record CanStep (v : Variant) (x : Bool) (b : List Cell) (m : ℕ) : Type 0 w
 
 -- what holds for a move
 pub step_in : (v : Variant) (b : List Cell) (m : ℕ) → IsMove (morris v) b m → CanStep v (is_last v b) b m
-unfolding can_move numbers_end
+unfolding can_move move_number_bound
 step_in v b m h = record { below = h.below; can = h.can }
 
 -- where the game is not over, that makes it one
-pub step_from : (v : Variant) (b : List Cell) (m : ℕ) → CanStep v (is_last v b) b m → over v b ≡ None → IsMove (morris v) b m
-unfolding can_move numbers_end
+pub step_from : (v : Variant) (b : List Cell) (m : ℕ) → CanStep v (is_last v b) b m → end_by_last_move v b ≡ None → IsMove (morris v) b m
+unfolding can_move move_number_bound
 step_from v b m h o = record { below = h.below; not_over = o; can = h.can }
 
 -- a move from point to point is the step of a piece
@@ -62,8 +62,8 @@ line_none true e = absurd (let z : ⊥ = cc in z)
 line_none false e = refl
 
 -- where the game goes on the opponent has no line
-pub no_line : (v : Variant) (b : List Cell) → over v b ≡ None → has_line v is_theirs b ≡ false
-unfolding over
+pub no_line : (v : Variant) (b : List Cell) → end_by_last_move v b ≡ None → has_line v is_theirs b ≡ false
+unfolding end_by_last_move
 no_line v b e = line_none _ e
 
 -- ---- lists of moves
@@ -89,10 +89,10 @@ was_number v false d m e = refl
 
 -- at most 128 moves can be made
 pub steps_few : (v : Variant) (b : List Cell) → length (steps (morris v) b) ≤ 128
-unfolding steps can_move numbers_end
+unfolding steps can_move move_number_bound
 steps_few v b = few v (is_last v b) (can_by v (is_last v b) b) (can_number v (is_last v b) b)
 
 -- there are at most 128 boards before
-pub befores_few : (v : Variant) (t : ℕ) (d : List Cell) → length (filter (was_moved v t d) (range_with_len 0 (numbers_end v t))) ≤ 128
-unfolding was_moved numbers_end
+pub befores_few : (v : Variant) (t : ℕ) (d : List Cell) → length (filter (can_have_led_here v t d) (range_with_len 0 (move_number_bound v t))) ≤ 128
+unfolding can_have_led_here move_number_bound
 befores_few v t d = let x = eqb t (last_tier v) in few v x (was_by v x d) (was_number v x d)

@@ -7,7 +7,7 @@ use Rattle.gm_pieces.specs.Common.{theirs_turned, their_cell, empty_cell, turned
 use Rattle.gm_pieces.specs.Common.{square_symmetries, IsMove, image_cell, IsLeft, step_left, placed_left, set_and_back, gone_again, back_again}
 use Rattle.gm_morris.specs.declared.variant.Variant.{Variant}
 use Rattle.gm_morris.specs.Points.{last_tier, joins}
-use Rattle.gm_morris.specs.Morris.{mine, theirs, legal, over, moved, play, was_moved, taken_back, child_tiers_of, morris}
+use Rattle.gm_morris.specs.Morris.{mine, theirs, legal, end_by_last_move, moved, play, can_have_led_here, undo, child_tiers_of, morris}
 use Rattle.gm_morris.specs.laws.PointFacts.{last_tier_even, joined_within, joined_image}
 use Rattle.gm_morris.specs.laws.BoardFacts.{line_turned, line_left, group, image_pieces, image_line, IsLegal, legal_in, legal_from}
 use Rattle.gm_morris.specs.laws.MoveFacts.{is_last, left_by, was_by, back_by, CanStep, step_in, step_from, slide_step, slide_was, no_line}
@@ -30,7 +30,11 @@ odd_half x y h = omega arith
 -- half of the pieces then, rounded down, are the opponent's, and they are not too many
 halves : (v : Variant) (x : Bool) (b : List Cell) (m : ℕ) → x ≡ is_last v b → IsLegal v b → CanStep v x b m
     → (theirs b ≡ (mine b + theirs b + more_by x) / 2) × (mine b + theirs b + more_by x ≤ last_tier v)
-halves v true b m e h s = (even_half (mine b) (theirs b) (last_tier v) (eqb-true _ _ (sym e)) (last_tier_even v _ _ (and_left _ _ s.can)) h.half, omega (arith, h.few))
+halves v true b m e h s = (
+  even_half (mine b) (theirs b) (last_tier v) (eqb-true _ _ (sym e)) (last_tier_even v _ _ (and_left _ _ s.can)) h.half,
+  omega
+      (arith, h.few),
+)
 halves v false b m e h s = (
   odd_half (mine b) (theirs b) h.half,
   (let other : mine b + theirs b ≡ last_tier v → ⊥ = λ q. true≢false (sym (eq-eqb _ _ q) ∙ sym e) in omega (arith, h.few, other)),
@@ -76,7 +80,8 @@ play_tier v b m l c =
     next_tier v x (mine b + theirs b) (mine (map turned d) + theirs (map turned d)) (halves v x b m refl h s).1 (omega (arith, p, q, k.own, k.other))
 
 -- ---- moves taken back
-undone_by : (v : Variant) (x : Bool) (b : List Cell) (m : ℕ) → length b ≡ 9 → CanStep v x b m → (was_by v x (map turned (left_by x b m)) m ≡ true) × (back_by x (map turned (left_by x b m)) m ≡ b)
+undone_by : (v : Variant) (x : Bool) (b : List Cell) (m : ℕ) → length b ≡ 9 → CanStep v x b m → (was_by v x (map turned (left_by x b m)) m ≡ true) ×
+    (back_by x (map turned (left_by x b m)) m ≡ b)
 undone_by v true b m n h =
     let y = back_again b (m / 16) (m % 16) (slide_step v b m n h.can) in
     (and_both _ _ (and_left _ _ h.can) (and_both _ _ (ap is_theirs y.0.there) (ap is_empty y.0.left)), y.1)
@@ -88,8 +93,8 @@ undone_by v false b m n h =
 
 -- a move made and taken back leads to the same board
 pub undone : (v : Variant) (b : List Cell) (m : ℕ) → length b ≡ 9 → IsMove (morris v) b m
-    → (was_moved v (mine b + theirs b) (play v b m) m ≡ true) × (taken_back v (mine b + theirs b) (play v b m) m ≡ b)
-unfolding play moved was_moved taken_back
+    → (can_have_led_here v (mine b + theirs b) (play v b m) m ≡ true) × (undo v (mine b + theirs b) (play v b m) m ≡ b)
+unfolding play moved can_have_led_here undo
 undone v b m n c = undone_by v (is_last v b) b m n (step_in v b m c)
 
 redone_by : (v : Variant) (x : Bool) (d : List Cell) (m : ℕ) → was_by v x d m ≡ true → map turned (left_by x (back_by x d m) m) ≡ d
@@ -97,15 +102,17 @@ redone_by v true d m e = gone_again d (m / 16) (m % 16) (slide_was v d m e)
 redone_by v false d m e = ap (map turned) (set_and_back (map turned d) m Mine Empty (turned_cell d m Theirs (their_cell _ e))) ∙ turned_twice d
 
 -- a move taken back and made again leads to the same board
-pub redone : (v : Variant) (t : ℕ) (d : List Cell) (m : ℕ) → was_moved v t d m ≡ true → mine (taken_back v t d m) + theirs (taken_back v t d m) ≡ t → play v (taken_back v t d m) m ≡ d
-unfolding play moved was_moved taken_back
+pub redone : (v : Variant) (t : ℕ) (d : List Cell) (m : ℕ) → can_have_led_here v t d m ≡ true → mine (undo v t d m) + theirs (undo v t d m) ≡ t → play v
+    (undo v t d m) m ≡ d
+unfolding play moved can_have_led_here undo
 redone v t d m w tier =
     let x = eqb t (last_tier v) in
     ap (λ (y : Bool). map turned (left_by y (back_by x d m) m)) (ap (λ (n : ℕ). eqb n (last_tier v)) tier) ∙ redone_by v x d m w
 
 -- ---- images
 module _ (v : Variant) (g : List ℕ) (b : List Cell) (c : Contains (square_symmetries 3) g) (e : length b ≡ 9) where
-  step_image : (x : Bool) (m : ℕ) → CanStep v x b m → (n : ℕ) × CanStep v x (permute Empty g b) n × (left_by x (permute Empty g b) n ≡ permute Empty g (left_by x b m))
+  step_image : (x : Bool) (m : ℕ) → CanStep v x b m → (n : ℕ) × CanStep v x (permute Empty g b) n ×
+      (left_by x (permute Empty g b) n ≡ permute Empty g (left_by x b m))
   step_image true m h =
       let joined = and_left _ _ h.can in
       let s = slide_step v b m e h.can in
@@ -134,12 +141,13 @@ module _ (v : Variant) (g : List ℕ) (b : List Cell) (c : Contains (square_symm
       )
 
   -- an image has ended where the board has
-  pub image_over : over v (permute Empty g b) ≡ over v b
-  unfolding over
+  pub image_over : end_by_last_move v (permute Empty g b) ≡ end_by_last_move v b
+  unfolding end_by_last_move
   image_over = ap (λ (x : Bool). if x then Some Lose else None) (image_line v is_theirs g b c e)
 
   -- a move of a board has an image among the moves of the image
-  pub image_move : (m : ℕ) → IsMove (morris v) b m → (n : ℕ) × IsMove (morris v) (permute Empty g b) n × (play v (permute Empty g b) n ≡ permute Empty g (play v b m))
+  pub image_move : (m : ℕ) → IsMove (morris v) b m → (n : ℕ) × IsMove (morris v) (permute Empty g b) n ×
+      (play v (permute Empty g b) n ≡ permute Empty g (play v b m))
   unfolding play moved
   image_move m d =
       let image = permute Empty g b in

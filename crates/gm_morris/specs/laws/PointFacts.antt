@@ -97,7 +97,11 @@ along_joins a b l k = agree_same _ _ (at_each 9 16 (λ a b. agree (has_cell (get
 -- the masks of the lines: the rows, the columns and the diagonals
 pub all_lines : (v : Variant) → (v ≡ TicTacToe) ⊎ (v ≡ Achi) → map pattern_mask (lines v) ≡ LINES
 unfolding lines
-all_lines v h = elim h [ inl e ↦ ap (λ (u : Variant). map pattern_mask (lines u)) e ∙ masks_of_lines | inr e ↦ ap (λ (u : Variant). map pattern_mask (lines u)) e ∙ masks_of_lines ]
+all_lines v h = elim h [
+  | inl e ↦ ap (λ (u : Variant). map pattern_mask (lines u)) e ∙ masks_of_lines
+  | inr e ↦ ap
+      (λ (u : Variant). map pattern_mask (lines u)) e ∙ masks_of_lines
+]
 
 -- the masks of the lines without the diagonals
 pub most_lines : (v : Variant) → v ≡ ThreeMens → map pattern_mask (lines v) ≡ STRAIGHT_LINES

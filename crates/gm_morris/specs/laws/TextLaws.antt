@@ -6,7 +6,7 @@ use Rattle.gm_pieces.specs.Common.{texts_are_shown}
 use Rattle.gm_board.specs.laws.CellTexts.{cell_text_once, step_text_once}
 use Rattle.gm_morris.specs.declared.variant.Variant.{Variant}
 use Rattle.gm_morris.specs.Points.{variant_of, last_tier}
-use Rattle.gm_morris.specs.Morris.{mine, theirs, numbers_end, morris, morris_rules}
+use Rattle.gm_morris.specs.Morris.{mine, theirs, move_number_bound, morris, morris_rules}
 use Rattle.gm_morris.specs.laws.BoardFacts.{legal_in}
 use Rattle.gm_morris.specs.laws.MorrisLaws.{numbered}
 use Rattle.gm_morris.specs.Texts.{step_text, position_text, move_text}
@@ -27,15 +27,17 @@ step_once v t m k e = elim (cases_Bool (eqb t (last_tier v))) [
 pub step_short : (v : Variant) (t m : ℕ) → length (step_text v t m) ≤ 5
 unfolding step_text
 step_short v t m =
-    cond_both (eqb t (last_tier v)) (cell_text 3 (m / 16) ++ 45 ∷ cell_text 3 (m % 16)) (cell_text 3 m) (λ (t : List ℕ). length t ≤ 5) (λ e. omega arith) (λ e. omega arith)
+    cond_both (eqb t (last_tier v)) (cell_text 3 (m / 16) ++ 45 ∷ cell_text 3 (m % 16)) (cell_text 3 m) (λ (t : List ℕ). length t ≤ 5) (λ e. omega arith)
+    (λ e. omega arith)
 
 -- the text of a move is plain
-pub step_plain : (v : Variant) (t m : ℕ) → m < numbers_end v t → IsPlain (step_text v t m)
-unfolding step_text numbers_end
+pub step_plain : (v : Variant) (t m : ℕ) → m < move_number_bound v t → IsPlain (step_text v t m)
+unfolding step_text move_number_bound
 step_plain v t m l =
     cond_both (eqb t (last_tier v)) (cell_text 3 (m / 16) ++ 45 ∷ cell_text 3 (m % 16)) (cell_text 3 m) IsPlain
-    (λ e. let n : numbers_end v t ≡ 144 = cond-true _ _ _ e in plain_append (cell_text 3 (m / 16)) (45 ∷ cell_text 3 (m % 16)) (cell_plain 3 (m / 16) (omega arith) (omega arith)) (cell_plain 3 (m % 16) (omega arith) (omega arith)))
-    (λ e. let n : numbers_end v t ≡ 9 = cond-false _ _ _ e in cell_plain 3 m (omega arith) (omega arith))
+    (λ e. let n : move_number_bound v t ≡ 144 = cond-true _ _ _ e in plain_append (cell_text 3 (m / 16)) (45 ∷ cell_text 3 (m % 16))
+    (cell_plain 3 (m / 16) (omega arith) (omega arith)) (cell_plain 3 (m % 16) (omega arith) (omega arith)))
+    (λ e. let n : move_number_bound v t ≡ 9 = cond-false _ _ _ e in cell_plain 3 m (omega arith) (omega arith))
 
 -- ---- the laws of texts
 pub readable : (v : Variant) → AreTexts (morris v) board_text (step_text v)

@@ -5,9 +5,11 @@ use Rattle.gm_pieces.specs.Common.{is_mine, is_theirs, is_empty, cell_at, number
 use Rattle.gm_pieces.specs.Common.{board_text as side_text, from_point, to_point, MoveGame, move_rules}
 use Rattle.std.proofs.Math.Path.{fun_ext}
 use Rattle.std.proofs.lemmas.List.Sums.{sum_by-cons}
-use Rattle.gm_ways.specs.Ways.{has_numbers, legal as legal_on_ways, over, can_move as can_move_on_ways, moved as moved_on_ways, was_moved as was_moved_on_ways, taken_back as taken_back_on_ways, way_game, way_rules}
+use Rattle.gm_ways.specs.Ways.{has_numbers, legal as legal_on_ways, end_by_last_move, can_move as can_move_on_ways, moved as moved_on_ways}
+use Rattle.gm_ways.specs.Ways.{can_have_led_here as was_moved_on_ways}
+use Rattle.gm_ways.specs.Ways.{undo as taken_back_on_ways, way_game, way_rules}
 use Rattle.gm_ways.specs.WayTexts.{step_text as way_step_text, way_text, way_move_text}
-use Rattle.gm_mutorere.specs.Board.{number_of, legal, can_move, may_go, moved, was_moved, taken_back, ring_index, ring_board, mutorere, mutorere_rules}
+use Rattle.gm_mutorere.specs.Board.{number_of, legal, can_move, may_go, moved, can_have_led_here, undo, ring_index, ring_board, mutorere, mutorere_rules}
 use Rattle.gm_mutorere.specs.Texts.{cell_text, board_text, step_text, position_text, move_text}
 use Rattle.gm_mutorere.specs.laws.RingTables.{ring_game}
 use Rattle.gm_mutorere.specs.laws.RingFacts.{joined_next}
@@ -29,8 +31,8 @@ same_move b m =
     let c = to_point m in
     ap (λ (x : Bool). x && (is_mine (cell_at b a) && (is_empty (cell_at b c) && may_go b a c))) (joined_next a c)
 
-same_was : (d : List Cell) (m : ℕ) → was_moved_on_ways ring_game d m ≡ was_moved d m
-unfolding was_moved_on_ways was_moved
+same_was : (d : List Cell) (m : ℕ) → was_moved_on_ways ring_game d m ≡ can_have_led_here d m
+unfolding was_moved_on_ways can_have_led_here
 same_was d m =
     let a = from_point m in
     let c = to_point m in
@@ -38,10 +40,10 @@ same_was d m =
 
 -- ---- the game
 abbrev with_tests : (List Cell → Bool) → (List Cell → ℕ → Bool) → (List Cell → ℕ → Bool) → MoveGame (List Cell) (List ℕ)
-with_tests l c w = record mutorere { legal = l; can_move = c; was_moved = λ t d m. w d m }
+with_tests l c w = record mutorere { legal = l; can_move = c; can_have_led_here = λ t d m. w d m }
 
 in_tables : way_game 9 ring_game ≡ with_tests (legal_on_ways 9 ring_game) (can_move_on_ways ring_game) (was_moved_on_ways ring_game)
-unfolding over moved_on_ways moved taken_back_on_ways taken_back board_index ring_index board_numbered ring_board
+unfolding end_by_last_move moved_on_ways moved taken_back_on_ways undo board_index ring_index board_numbered ring_board
 in_tables = refl
 
 same_game : way_game 9 ring_game ≡ mutorere

@@ -21,12 +21,14 @@ filter_ascending p a (suc n) =
     (λ e. up)
 
 -- there is room for each index that is put into a list, where at most 128 are put
-pub put_room : {B : Type 0} (h : ℕ → Option B) (f : B → ℕ) (n m : ℕ) (a : B) (xs : List ℕ) → length (filter_map h (range_with_len 0 n)) ≤ 128 → m < n → h m ≡ Some a
+pub put_room : {B : Type 0} (h : ℕ → Option B) (f : B → ℕ) (n m : ℕ) (a : B) (xs : List ℕ) → length (filter_map h (range_with_len 0 n)) ≤ 128 → m < n → h m
+    ≡ Some a
     → xs ≡ put_all [] (map f (filter_map h (range_with_len 0 m))) → length xs < 128
 put_room h f n m a xs all l e is =
     let last : length (filter_map h (m ∷ [])) ≡ 1 = rw e refl in
     let put = map f (filter_map h (range_with_len 0 m)) in
     let few = put_all_few [] put in
     let long = length-map (filter_map h (range_with_len 0 m)) f in
-    let less = room (λ k. length (filter_map h (range_with_len 0 k))) (λ k. let s = one_more_map h k in omega (arith, s)) n m all l (let s = one_more_map h m in omega (arith, s, last)) in
+    let less = room (λ k. length (filter_map h (range_with_len 0 k))) (λ k. let s = one_more_map h k in omega (arith, s)) n m all l
+    (let s = one_more_map h m in omega (arith, s, last)) in
     subst (λ (ys : List ℕ). length ys < 128) (sym is) (omega (arith, few, long, less))

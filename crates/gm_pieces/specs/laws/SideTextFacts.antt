@@ -27,4 +27,5 @@ text_plain b = plain_map cell_char (λ c. elim c as (λ c. is_plain (cell_char c
 
 -- the text of a cell is plain, where its row and column are small enough
 pub cell_plain : (s k : ℕ) → k / s ≤ 29 → k % s ≤ 77 → IsPlain (cell_text s k)
-cell_plain s k row column = and_both _ _ (plain_in (97 + k / s) (omega arith) (omega arith)) (and_both _ _ (plain_in (49 + k % s) (omega arith) (omega arith)) refl)
+cell_plain s k row column = and_both _ _ (plain_in (97 + k / s) (omega arith) (omega arith))
+    (and_both _ _ (plain_in (49 + k % s) (omega arith) (omega arith)) refl)

@@ -144,14 +144,16 @@ without_more b c cs =
     elim (cases_eq k c) [
       | inl e ↦ ap (λ (x : Bool). has_counter b k && not (x || is_among k cs)) (eq-eqb c k (sym e))
           ∙ and_false (has_counter b k)
-          ∙ sym (ap (λ (j : ℕ). has_counter (set (without b cs) c false) j) e ∙ get_or-set_same (without b cs) c false false (subst (λ (j : ℕ). j < length (without b cs)) e m))
+          ∙ sym (ap (λ (j : ℕ). has_counter (set (without b cs) c false) j) e ∙ get_or-set_same (without b cs) c false false
+          (subst (λ (j : ℕ). j < length (without b cs)) e m))
       | inr n ↦ ap (λ (x : Bool). has_counter b k && not (x || is_among k cs)) (ne_eqb c k (λ e. n (sym e)))
           ∙ sym (without_at b cs k)
           ∙ sym (get_or-set_other (without b cs) c k false false n)
     ])
 
 -- taking n counters from cells in a row leaves n fewer
-pub members_without : (b : List Bool) (c step n : ℕ) → 0 < step → is_full b (cells_from c step n) ≡ true → members (without b (cells_from c step n)) + n ≡ members b
+pub members_without : (b : List Bool) (c step n : ℕ) → 0 < step → is_full b (cells_from c step n) ≡ true → members (without b (cells_from c step n)) + n ≡
+    members b
 members_without b c step zero p e = let q : members (without b []) ≡ members b = ap members (without_none b) in omega arith
 members_without b c step (suc n) p e =
     let rest = cells_from (c + step) step n in

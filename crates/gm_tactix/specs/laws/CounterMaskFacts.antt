@@ -71,7 +71,8 @@ module _ (n mask : ℕ) (cs : List ℕ) (below : (k : ℕ) → Contains cs k →
   -- the mask has all cells of the list exactly where they all have counters
   pub full_mask : (bit_and mask (pattern_mask cs) ≡ pattern_mask cs) ↔ (is_full (counters_of n mask) cs ≡ true)
   full_mask =
-      let same : is_full (counters_of n mask) cs ≡ list_all (has_cell mask) cs = same_all (has_counter (counters_of n mask)) (has_cell mask) cs (λ k c. counter_at n mask k (below k c)) in (
+      let same : is_full (counters_of n mask) cs ≡ list_all (has_cell mask) cs = same_all (has_counter (counters_of n mask)) (has_cell mask) cs
+      (λ k c. counter_at n mask k (below k c)) in (
         λ e. same ∙ (pattern_filled mask cs).0 e,
         λ e. (pattern_filled mask cs).1 (sym same ∙ e),
       )
@@ -82,13 +83,15 @@ module _ (n mask : ℕ) (cs : List ℕ) (below : (k : ℕ) → Contains cs k →
     λ e. all_from (λ (k : ℕ). not (has_counter (counters_of n mask) k)) cs
         (λ k c.
         let none : (has_cell mask k && is_among k cs) ≡ false =
-        ap (λ (x : Bool). has_cell mask k && x) (sym (has_pattern cs k)) ∙ sym (has_and mask (pattern_mask cs) k) ∙ ap (λ (v : ℕ). has_cell v k) e ∙ ap (λ (v : ℕ). eqb v 1) (bit_at-zero k) in
+        ap (λ (x : Bool). has_cell mask k && x) (sym (has_pattern cs k)) ∙ sym (has_and mask (pattern_mask cs) k) ∙ ap (λ (v : ℕ). has_cell v k) e ∙ ap
+        (λ (v : ℕ). eqb v 1) (bit_at-zero k) in
         ap not (counter_at n mask k (below k c) ∙ first_false (has_cell mask k) (is_among k cs) none (among_from k cs c))),
     λ e. has_none (bit_and mask (pattern_mask cs))
         (λ i. has_and mask (pattern_mask cs) i
         ∙ ap (λ (x : Bool). has_cell mask i && x) (has_pattern cs i)
         ∙ both_false (has_cell mask i) (is_among i cs)
-        (λ f. let c = among_in i cs f in sym (counter_at n mask i (below i c)) ∙ not-true _ (all_at (λ (k : ℕ). not (has_counter (counters_of n mask) k)) cs i e c))),
+        (λ f. let c = among_in i cs f in sym (counter_at n mask i (below i c)) ∙ not-true _
+        (all_at (λ (k : ℕ). not (has_counter (counters_of n mask) k)) cs i e c))),
   )
     where
       first_false : (x y : Bool) → (x && y) ≡ false → y ≡ true → x ≡ false

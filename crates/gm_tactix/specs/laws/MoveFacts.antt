@@ -5,10 +5,11 @@ use Rattle.gm_pieces.specs.Common.{subst, arith, inl, inr, eqb-true, eq-eqb, Con
 use Rattle.gm_pieces.specs.Common.{length-range_with_len, get_or-range_with_len, map-range_with_len_more, map-id, IsAscending, contains_head, and_left}
 use Rattle.gm_pieces.specs.Common.{and_right, and_both, members, filter_few, nil_or, steps, step_in, step_listed}
 use Rattle.gm_pieces.specs.laws.Listed.{filter_ascending}
-use Rattle.gm_tactix.specs.Segments.{first_cell, segment_length, goes_down, stride, cells_from, segment_cells, is_segment, numbers_end}
+use Rattle.gm_tactix.specs.Segments.{first_cell, segment_length, goes_down, stride, cells_from, segment_cells, is_segment, move_number_bound}
 use Rattle.gm_tactix.specs.Board.{is_full, is_free, without, with_counters, can_take, play, was_taken, tactix}
 use Rattle.gm_tactix.specs.laws.SegmentFacts.{number_below, length_bounds, single, single_cells, segments_few}
-use Rattle.gm_tactix.specs.laws.CounterFacts.{length_without, full_at, counter_within, free_without, without_with, with_without, members_without, no_counters, some_counter}
+use Rattle.gm_tactix.specs.laws.CounterFacts.{length_without, full_at, counter_within, free_without, without_with, with_without, members_without, no_counters}
+use Rattle.gm_tactix.specs.laws.CounterFacts.{some_counter}
 
 -- ---- ranges
 -- each number of a range is in it
@@ -52,7 +53,7 @@ take_segment s b m e = (move_in s b m e).0
 pub moves_few : (s : ℕ) (misere : Bool) (b : List Bool) → 1 ≤ s → s ≤ 5 → length (steps (tactix s misere) b) ≤ 128
 unfolding steps
 moves_few s misere b low high =
-    let few = filter_few (can_take s b) (is_segment s) (take_segment s b) (range_with_len 0 (numbers_end s)) in
+    let few = filter_few (can_take s b) (is_segment s) (take_segment s b) (range_with_len 0 (move_number_bound s)) in
     let all = segments_few s low high in omega (arith, few, all)
 
 -- a move leaves as many cells
@@ -64,7 +65,8 @@ positive_stride : (b : Bool) (s : ℕ) → 1 ≤ s → 0 < cond b s 1
 positive_stride true s l = l
 positive_stride false s l = omega arith
 
-segment_taken : (s m : ℕ) (b : List Bool) → 1 ≤ s → is_full b (segment_cells s m) ≡ true → members (without b (segment_cells s m)) + segment_length m ≡ members b
+segment_taken : (s m : ℕ) (b : List Bool) → 1 ≤ s → is_full b (segment_cells s m) ≡ true → members (without b (segment_cells s m)) + segment_length m ≡
+    members b
 unfolding segment_cells
 segment_taken s m b l e = members_without b (first_cell m) (stride s m) (segment_length m) (positive_stride (goes_down m) s l) e
 
@@ -150,7 +152,7 @@ unfolding play
 redone s t d m e = without_with d (segment_cells s m) (taken_in s t d m e).free
 
 -- there are at most 128 segments to give back
-pub befores_few : (s t : ℕ) (d : List Bool) → 1 ≤ s → s ≤ 5 → length (filter (was_taken s t d) (range_with_len 0 (numbers_end s))) ≤ 128
+pub befores_few : (s t : ℕ) (d : List Bool) → 1 ≤ s → s ≤ 5 → length (filter (was_taken s t d) (range_with_len 0 (move_number_bound s))) ≤ 128
 befores_few s t d low high =
-    let few = filter_few (was_taken s t d) (is_segment s) (λ m e. (taken_in s t d m e).segment) (range_with_len 0 (numbers_end s)) in
+    let few = filter_few (was_taken s t d) (is_segment s) (λ m e. (taken_in s t d m e).segment) (range_with_len 0 (move_number_bound s)) in
     let all = segments_few s low high in omega (arith, few, all)

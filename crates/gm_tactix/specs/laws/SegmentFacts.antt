@@ -5,7 +5,7 @@ use Rattle.gm_pieces.specs.Common.{[], reverse, length, get_or, refl, sym, ap, a
 use Rattle.gm_pieces.specs.Common.{leb-true, le-leb, Contains, list_all, range_with_len, or_cases, reverse-append, and_left, and_right, and_both}
 use Rattle.gm_pieces.specs.Common.{contains_range, contains_head, contains_later, filter_to, same_list, same_list_true, permute, all_at, IsGroup, any_at}
 use Rattle.gm_pieces.specs.Common.{group_inverse, undone, same_tests, any_from, square_symmetries, square_group}
-use Rattle.gm_tactix.specs.Segments.{first_cell, segment_length, goes_down, segment_cells, is_segment, numbers_end, segments}
+use Rattle.gm_tactix.specs.Segments.{first_cell, segment_length, goes_down, segment_cells, is_segment, move_number_bound, segments}
 use Rattle.gm_tactix.specs.Board.{is_among}
 
 -- ---- tests that compute, for each side
@@ -30,7 +30,8 @@ are_cells s cs m = is_segment s m && (same_list cs (segment_cells s m) || same_l
 
 -- whether each symmetry takes each segment to a segment
 unfoldable pub keeps_segments : ℕ → Bool
-keeps_segments s = list_all (λ g. list_all (λ m. are_cells s (permute 0 (segment_cells s m) g) (number_of s (permute 0 (segment_cells s m) g))) (segments s)) (square_symmetries s)
+keeps_segments s = list_all (λ g. list_all (λ m. are_cells s (permute 0 (segment_cells s m) g) (number_of s (permute 0 (segment_cells s m) g)))
+    (segments s)) (square_symmetries s)
 
 -- whether the cells of each segment are on the square
 unfoldable pub segments_within : ℕ → Bool
@@ -89,7 +90,7 @@ unfolding is_segment
 first_within s m e = ltb-true (first_cell m) (s * s) (and_left _ _ e)
 
 -- numbers of segments are below the end
-pub number_below : (s m : ℕ) → is_segment s m ≡ true → m < numbers_end s
+pub number_below : (s m : ℕ) → is_segment s m ≡ true → m < move_number_bound s
 number_below s m e = let l = first_within s m e in omega (arith, l)
 
 two_bounds : (b : Bool) (n x y s : ℕ) → cond b (leb 2 n && leb (x + n) s) (leb 1 n && leb (y + n) s) ≡ true → (1 ≤ n) × (n ≤ s)
@@ -125,7 +126,7 @@ single_cells s k =
 
 -- ---- all segments
 pub in_segments : (s m : ℕ) → is_segment s m ≡ true → Contains (segments s) m
-in_segments s m e = filter_to (is_segment s) (range_with_len 0 (numbers_end s)) m (contains_range (numbers_end s) m (number_below s m e)) e
+in_segments s m e = filter_to (is_segment s) (range_with_len 0 (move_number_bound s)) m (contains_range (move_number_bound s) m (number_below s m e)) e
 
 module _ (s : ℕ) (low : 1 ≤ s) (high : s ≤ 5) where
   passed : segments_pass s ≡ true
@@ -149,7 +150,8 @@ module _ (s : ℕ) (low : 1 ≤ s) (high : s ≤ 5) where
   unfolding segments_pass keeps_segments
   kept g m c e =
       all_at (λ (n : ℕ). are_cells s (permute 0 (segment_cells s n) g) (number_of s (permute 0 (segment_cells s n) g))) (segments s) m
-      (all_at (λ (h : List ℕ). list_all (λ (n : ℕ). are_cells s (permute 0 (segment_cells s n) h) (number_of s (permute 0 (segment_cells s n) h))) (segments s)) (square_symmetries s) g
+      (all_at (λ (h : List ℕ). list_all (λ (n : ℕ). are_cells s (permute 0 (segment_cells s n) h) (number_of s (permute 0 (segment_cells s n) h)))
+      (segments s)) (square_symmetries s) g
       (and_right _ _ (and_right _ _ passed)) c) (in_segments s m e)
 
 -- ---- what is among the cells of an image

@@ -68,8 +68,10 @@ module _ (s : ℕ) (low : 1 ≤ s) (high : s ≤ 5) where
 
   name_text : (misere : Bool) → (length (tactix_name s misere) ≡ 16) × IsPaddedText (tactix_name s misere)
   unfolding tactix_name
-  name_text true = for_sides (λ s. (length (tactix_name s true) ≡ 16) × IsPaddedText (tactix_name s true)) (refl, refl) (refl, refl) (refl, refl) (refl, refl) (refl, refl) s low high
-  name_text false = for_sides (λ s. (length (tactix_name s false) ≡ 16) × IsPaddedText (tactix_name s false)) (refl, refl) (refl, refl) (refl, refl) (refl, refl) (refl, refl) s low high
+  name_text true = for_sides (λ s. (length (tactix_name s true) ≡ 16) × IsPaddedText (tactix_name s true)) (refl, refl) (refl, refl) (refl, refl)
+      (refl, refl) (refl, refl) s low high
+  name_text false = for_sides (λ s. (length (tactix_name s false) ≡ 16) × IsPaddedText (tactix_name s false)) (refl, refl) (refl, refl) (refl, refl)
+      (refl, refl) (refl, refl) s low high
 
   -- the game's own laws
   pub lawful : (misere : Bool) → IsMoveGame (tactix s misere)
@@ -97,7 +99,8 @@ module _ (s : ℕ) (low : 1 ≤ s) (high : s ≤ 5) where
   image_members g b c e =
       members_weight (permute false g b) ∙ image_sum weight false (s * s) (square_symmetries s) group g c b e ∙ sym (members_weight b)
 
-  image_at : (g : List ℕ) (b : List Bool) (k : ℕ) → Contains (square_symmetries s) g → k < s * s → has_counter (permute false g b) k ≡ has_counter b (get_or g k 0)
+  image_at : (g : List ℕ) (b : List Bool) (k : ℕ) → Contains (square_symmetries s) g → k < s * s → has_counter (permute false g b) k ≡ has_counter b
+      (get_or g k 0)
   image_at g b k c l = permute_get false g b k (subst (λ (n : ℕ). k < n) (sym (group_length (s * s) (square_symmetries s) group g c)) l)
 
   image_move : (g : List ℕ) (b : List Bool) (m : ℕ) → Contains (square_symmetries s) g → length b ≡ s * s → can_take s b m ≡ true
@@ -135,8 +138,8 @@ module _ (s : ℕ) (low : 1 ≤ s) (high : s ≤ 5) where
     keeps_tier = λ g b c l. image_members g b c (eqb-true _ _ l);
     keeps_move = λ g b m c l h.
         let x = image_move g b m c (eqb-true _ _ l) h.can in
-        let over = ap (λ (n : ℕ). if eqb n 0 then Some (if misere then Win else Lose) else None) (image_members g b c (eqb-true _ _ l)) in
-        (x.0, record { below = number_below s x.0 (move_in s (permute false g b) x.0 x.1).0; not_over = over ∙ h.not_over; can = x.1 }, x.2);
+        let end_by_last_move = ap (λ (n : ℕ). if eqb n 0 then Some (if misere then Win else Lose) else None) (image_members g b c (eqb-true _ _ l)) in
+        (x.0, record { below = number_below s x.0 (move_in s (permute false g b) x.0 x.1).0; not_over = end_by_last_move ∙ h.not_over; can = x.1 }, x.2);
   }
 
 -- the side of the square is at least 1 for any N

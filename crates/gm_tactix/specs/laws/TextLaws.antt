@@ -71,7 +71,8 @@ texts_5 = refl
 
 passes : (s m : ℕ) → 1 ≤ s → s ≤ 5 → is_segment s m ≡ true → text_passes s m ≡ true
 unfolding texts_pass
-passes s m low high e = all_at (text_passes s) (segments s) m (for_sides (λ s. texts_pass s ≡ true) texts_1 texts_2 texts_3 texts_4 texts_5 s low high) (in_segments s m e)
+passes s m low high e = all_at (text_passes s) (segments s) m (for_sides (λ s. texts_pass s ≡ true) texts_1 texts_2 texts_3 texts_4 texts_5 s low high)
+    (in_segments s m e)
 
 number_back : (s m : ℕ) → 1 ≤ s → s ≤ 5 → is_segment s m ≡ true → number_in_text s (segment_text s m) ≡ m
 number_back s m low high e = eqb-true _ _ (and_left _ _ (passes s m low high e))
@@ -88,7 +89,8 @@ segment_once s m n low high e f g = sym (number_back s m low high e) ∙ ap (num
 pub segment_short : (s m : ℕ) → length (segment_text s m) ≤ 5
 unfolding segment_text
 segment_short s m =
-    cond_both (eqb (segment_length m) 1) (cell_text s (first_cell m)) (cell_text s (first_cell m) ++ 45 ∷ cell_text s (last_cell s m)) (λ (t : List ℕ). length t ≤ 5) (λ e. omega arith) (λ e. omega arith)
+    cond_both (eqb (segment_length m) 1) (cell_text s (first_cell m)) (cell_text s (first_cell m) ++ 45 ∷ cell_text s (last_cell s m))
+    (λ (t : List ℕ). length t ≤ 5) (λ e. omega arith) (λ e. omega arith)
 
 -- ---- the laws of texts
 pub readable : (s : ℕ) (misere : Bool) → 1 ≤ s → s ≤ 5 → AreTexts (tactix s misere) board_text (λ t m. segment_text s m)

@@ -1,5 +1,6 @@
 -- Subtraction games have the laws of a game, and their texts can be read back.
-use Rattle.std.proofs.Common.{◌≡◌, ℕ, zero, suc, ◌+◌, ◌-◌, ◌<◌, ◌≤◌, ◌^◌, inl, min, true, false, eqb, if◌then◌else◌, List, [], ◌∷◌, ◌++◌, length, refl, None, arith, sym, ap, subst, ◌∙◌}
+use Rattle.std.proofs.Common.{◌≡◌, ℕ, zero, suc, ◌+◌, ◌-◌, ◌<◌, ◌≤◌, ◌^◌, inl, min, true, false, eqb, if◌then◌else◌, List, [], ◌∷◌, ◌++◌, length, refl, None}
+use Rattle.std.proofs.Common.{arith, sym, ap, subst, ◌∙◌}
 use Rattle.std.proofs.lemmas.Bool.Decides.{nat_tests}
 use Rattle.std.proofs.lemmas.Grind.{common_steps}
 use Rattle.std.proofs.lemmas.Fmt.{length-decimal-le, decimal_injective}
@@ -69,10 +70,12 @@ few_above name most n c t = let l = length-range_with_len (c.index + 1) (min mos
 
 up_above : (name : List ℕ) (most n : ℕ) (c : Position) (t : ℕ) → IsAscending ((subtraction name most n).parents c t)
 up_above name most n c t =
-    elim (eqb t 0) as (λ b. IsAscending (if b then numbers_above most n c.index else [])) [ true ↦ range_ascending (c.index + 1) (min most (n - c.index)) | false ↦ tt ]
+    elim (eqb t 0) as (λ b. IsAscending (if b then numbers_above most n c.index else []))
+    [ true ↦ range_ascending (c.index + 1) (min most (n - c.index)) | false ↦ tt ]
 
 -- a canonical child comes from a move
-child_in : (name : List ℕ) (most n t i : ℕ) (c : Position) → IsCanonicalChild (subtraction name most n) (at t i) c → (m : ℕ) × Contains (moves_down most i) m × (at t (i - m) ≡ c)
+child_in : (name : List ℕ) (most n t i : ℕ) (c : Position) → IsCanonicalChild (subtraction name most n) (at t i) c → (m : ℕ) × Contains (moves_down most i)
+    m × (at t (i - m) ≡ c)
 child_in name most n t i c h =
     let r = subtraction name most n in
     let (d, k, e) = map_in r.canonical (children r (at t i)) c h in
@@ -84,7 +87,8 @@ child_from name most n t i m k =
     let r = subtraction name most n in
     map_from r.canonical (children r (at t i)) (at t (i - m)) (map_from (r.play (at t i)) (moves_down most i) m k)
 
-parents_in : (name : List ℕ) (most n : ℕ) (c : Position) (t i : ℕ) → IsCanonical (subtraction name most n) c → Contains ((subtraction name most n).parents c t) i → IsParent (subtraction name most n) c t i
+parents_in : (name : List ℕ) (most n : ℕ) (c : Position) (t i : ℕ) → IsCanonical (subtraction name most n) c → Contains
+    ((subtraction name most n).parents c t) i → IsParent (subtraction name most n) c t i
 parents_in name most n c t i k h =
     let r = subtraction name most n in
     let z : t ≡ 0 = own_tier name most n c t i h in
@@ -96,7 +100,8 @@ parents_in name most n c t i k h =
       subst (IsCanonicalChild r (at t i)) back (child_from name most n t i (i - c.index) (range_from 1 (min most i) (i - c.index) (omega arith) (omega arith))),
     )
 
-parents_from : (name : List ℕ) (most n : ℕ) (c : Position) (t i : ℕ) → IsParent (subtraction name most n) c t i → Contains ((subtraction name most n).parents c t) i
+parents_from : (name : List ℕ) (most n : ℕ) (c : Position) (t i : ℕ) → IsParent (subtraction name most n) c t i → Contains
+    ((subtraction name most n).parents c t) i
 parents_from name most n c t i (inner, child) =
     let r = subtraction name most n in
     let (z, le) = legal_in name most n (at t i) inner.legal in
@@ -106,7 +111,8 @@ parents_from name most n c t i (inner, child) =
     subst (λ (u : ℕ). Contains (r.parents c u) i) (sym z) (range_from (c.index + 1) (min most (n - c.index)) i (omega arith) (omega arith))
 
 -- the laws of a game hold
-pub subtraction_lawful : (name : List ℕ) (most n : ℕ) → length name ≡ NAME → IsPaddedText name → 0 < most → most ≤ MOVES → n < 2 ^ 32 → IsGame (subtraction name most n)
+pub subtraction_lawful : (name : List ℕ) (most n : ℕ) → length name ≡ NAME → IsPaddedText name → 0 < most → most ≤ MOVES → n < 2 ^ 32 → IsGame
+    (subtraction name most n)
 subtraction_lawful name most n long text some few h = record {
   name_length = long;
   name_text = text;

@@ -38,26 +38,33 @@ pub wheel_legal_from : (t i : ℕ) → t ≡ 0 → i < 10 → wheel.is_legal (at
 wheel_legal_from t i e l = grind (arith, nat_tests)
 
 targets_up : (i : ℕ) → i < 10 → IsAscending (wheel_targets i)
-targets_up = below_ten (λ i. IsAscending (wheel_targets i)) tt (omega arith, tt) (omega arith, tt) tt tt tt (omega arith, tt) tt (omega arith, tt) (omega arith, tt)
+targets_up = below_ten (λ i. IsAscending (wheel_targets i)) tt (omega arith, tt) (omega arith, tt) tt tt tt (omega arith, tt) tt (omega arith, tt)
+    (omega arith, tt)
 
 sources_up : (i : ℕ) → i < 10 → IsAscending (wheel_sources i)
-sources_up = below_ten (λ i. IsAscending (wheel_sources i)) (omega arith, tt) (omega arith, tt) tt (omega arith, (omega arith, tt)) tt tt (omega arith, tt) tt tt tt
+sources_up = below_ten (λ i. IsAscending (wheel_sources i)) (omega arith, tt) (omega arith, tt) tt (omega arith, (omega arith, tt)) tt tt (omega arith, tt)
+    tt tt tt
 
 few_targets : (i : ℕ) → i < 10 → length (wheel_targets i) ≤ 2
-few_targets = below_ten (λ i. length (wheel_targets i) ≤ 2) (omega arith) (omega arith) (omega arith) (omega arith) (omega arith) (omega arith) (omega arith) (omega arith) (omega arith) (omega arith)
+few_targets = below_ten (λ i. length (wheel_targets i) ≤ 2) (omega arith) (omega arith) (omega arith) (omega arith) (omega arith) (omega arith)
+    (omega arith) (omega arith) (omega arith) (omega arith)
 
 few_sources : (i : ℕ) → i < 10 → length (wheel_sources i) ≤ 3
-few_sources = below_ten (λ i. length (wheel_sources i) ≤ 3) (omega arith) (omega arith) (omega arith) (omega arith) (omega arith) (omega arith) (omega arith) (omega arith) (omega arith) (omega arith)
+few_sources = below_ten (λ i. length (wheel_sources i) ≤ 3) (omega arith) (omega arith) (omega arith) (omega arith) (omega arith) (omega arith)
+    (omega arith) (omega arith) (omega arith) (omega arith)
 
 -- the game ends exactly where there is no move
 no_targets : (i : ℕ) → i < 10 → wheel_end i ≢ None → wheel_targets i ≡ []
-no_targets = below_ten (λ i. wheel_end i ≢ None → wheel_targets i ≡ []) (λ h. refl) (λ h. absurd (h refl)) (λ h. absurd (h refl)) (λ h. absurd (h refl)) (λ h. absurd (h refl)) (λ h. refl) (λ h. absurd (h refl)) (λ h. absurd (h refl)) (λ h. absurd (h refl)) (λ h. absurd (h refl))
+no_targets = below_ten (λ i. wheel_end i ≢ None → wheel_targets i ≡ []) (λ h. refl) (λ h. absurd (h refl)) (λ h. absurd (h refl)) (λ h. absurd (h refl))
+    (λ h. absurd (h refl)) (λ h. refl) (λ h. absurd (h refl)) (λ h. absurd (h refl)) (λ h. absurd (h refl)) (λ h. absurd (h refl))
 
 some_targets : (i : ℕ) → i < 10 → wheel_end i ≡ None → wheel_targets i ≢ []
-some_targets = below_ten (λ i. wheel_end i ≡ None → wheel_targets i ≢ []) (λ h e. cc) (λ h e. cc) (λ h e. cc) (λ h e. cc) (λ h e. cc) (λ h e. cc) (λ h e. cc) (λ h e. cc) (λ h e. cc) (λ h e. cc)
+some_targets = below_ten (λ i. wheel_end i ≡ None → wheel_targets i ≢ []) (λ h e. cc) (λ h e. cc) (λ h e. cc) (λ h e. cc) (λ h e. cc) (λ h e. cc)
+    (λ h e. cc) (λ h e. cc) (λ h e. cc) (λ h e. cc)
 
 goes_on : (i : ℕ) → i < 10 → wheel_targets i ≢ [] → wheel_end i ≡ None
-goes_on = below_ten (λ i. wheel_targets i ≢ [] → wheel_end i ≡ None) (λ h. absurd (h refl)) (λ h. refl) (λ h. refl) (λ h. refl) (λ h. refl) (λ h. absurd (h refl)) (λ h. refl) (λ h. refl) (λ h. refl) (λ h. refl)
+goes_on = below_ten (λ i. wheel_targets i ≢ [] → wheel_end i ≡ None) (λ h. absurd (h refl)) (λ h. refl) (λ h. refl) (λ h. refl) (λ h. refl)
+    (λ h. absurd (h refl)) (λ h. refl) (λ h. refl) (λ h. refl) (λ h. refl)
 
 -- whether each number of a list is below ten and has i in its own list
 abbrev are_linked : (ℕ → List ℕ) → ℕ → List ℕ → Bool
@@ -72,17 +79,20 @@ linked_in back i xs e x h =
 
 -- targets and sources are each other's reverse
 pub target_in : (i : ℕ) → i < 10 → (m : ℕ) → Contains (wheel_targets i) m → (m < 10) × Contains (wheel_sources m) i
-target_in i l = linked_in wheel_sources i (wheel_targets i) (below_ten (λ i. are_linked wheel_sources i (wheel_targets i) ≡ true) refl refl refl refl refl refl refl refl refl refl i l)
+target_in i l = linked_in wheel_sources i (wheel_targets i) (below_ten (λ i. are_linked wheel_sources i (wheel_targets i) ≡ true) refl refl refl refl refl
+    refl refl refl refl refl i l)
 
 source_in : (i : ℕ) → i < 10 → (k : ℕ) → Contains (wheel_sources i) k → (k < 10) × Contains (wheel_targets k) i
-source_in i l = linked_in wheel_targets i (wheel_sources i) (below_ten (λ i. are_linked wheel_targets i (wheel_sources i) ≡ true) refl refl refl refl refl refl refl refl refl refl i l)
+source_in i l = linked_in wheel_targets i (wheel_sources i) (below_ten (λ i. are_linked wheel_targets i (wheel_sources i) ≡ true) refl refl refl refl refl
+    refl refl refl refl refl i l)
 
 -- only tier 0 has parents
 own_tier : (c : Position) (t j : ℕ) → Contains (wheel.parents c t) j → t ≡ 0
 own_tier c t j h = grind (arith, nat_tests, common_steps)
 
 few_parents : (c : Position) (t : ℕ) → c.index < 10 → length (wheel.parents c t) ≤ 3
-few_parents c t l = let few = few_sources c.index l in elim (eqb t 0) as (λ b. length (if b then wheel_sources c.index else []) ≤ 3) [ true ↦ few | false ↦ omega arith ]
+few_parents c t l = let few = few_sources c.index l in elim (eqb t 0) as (λ b. length (if b then wheel_sources c.index else []) ≤ 3)
+    [ true ↦ few | false ↦ omega arith ]
 
 parents_up : (c : Position) (t : ℕ) → c.index < 10 → IsAscending (wheel.parents c t)
 parents_up c t l = elim (eqb t 0) as (λ b. IsAscending (if b then wheel_sources c.index else [])) [ true ↦ sources_up c.index l | false ↦ tt ]

@@ -3,7 +3,7 @@ use Rattle.std.specs.Prelude.{◌≡◌}
 use Rattle.gm_pieces.specs.Common.{ℕ, Bool, true, false, cond, eqb-true, eq-eqb, List, length, None, Some, refl, sym, ap, ◌∙◌, Contains, cond-false}
 use Rattle.gm_pieces.specs.Common.{true≢false, Lose, Cell, Empty, and_left, and_right, and_both, is_mine, is_theirs, image_length, has_filled, filled_image}
 use Rattle.gm_pieces.specs.Common.{permute, image_number, HasNumbers}
-use Rattle.gm_ways.specs.Ways.{WayGame, has_numbers, legal, over}
+use Rattle.gm_ways.specs.Ways.{WayGame, has_numbers, legal, end_by_last_move}
 use Rattle.gm_ways.specs.WayTables.{IsWayGame}
 use Rattle.gm_ways.specs.laws.WayFacts.{group}
 
@@ -44,8 +44,8 @@ line_none true e = absurd (let z : ⊥ = cc in z)
 line_none false e = refl
 
 -- where the last move has not ended the game the opponent has no line
-pub not_over : (g : WayGame) (b : List Cell) → over g b ≡ None → has_filled Empty g.lines is_theirs b ≡ false
-unfolding over
+pub not_over : (g : WayGame) (b : List Cell) → end_by_last_move g b ≡ None → has_filled Empty g.lines is_theirs b ≡ false
+unfolding end_by_last_move
 not_over g b e = line_none _ e
 
 -- ---- images
@@ -68,6 +68,6 @@ module _ (n : ℕ) (g : WayGame) (h : IsWayGame n g) (p : List ℕ) (b : List Ce
       })
 
   -- the game is over on an image where it is on the board
-  pub image_over : length b ≡ n → over g (permute Empty p b) ≡ over g b
-  unfolding over
+  pub image_over : length b ≡ n → end_by_last_move g (permute Empty p b) ≡ end_by_last_move g b
+  unfolding end_by_last_move
   image_over e = ap (λ (x : Bool). cond x (Some Lose) None) (image_line is_theirs e)

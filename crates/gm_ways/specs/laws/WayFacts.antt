@@ -57,9 +57,11 @@ module _ (n : ℕ) (g : WayGame) (h : IsWayGame n g) where
   group = group_from_table n g.symmetries h.group
 
   -- points whose images are joined are joined
-  pub kept : (p : List ℕ) (i j : ℕ) → Contains g.symmetries p → i < n → j < n → are_joined g.ways (get_or p i 0) (get_or p j 0) ≡ true → are_joined g.ways i j ≡ true
+  pub kept : (p : List ℕ) (i j : ℕ) → Contains g.symmetries p → i < n → j < n → are_joined g.ways (get_or p i 0) (get_or p j 0) ≡ true → are_joined g.ways i
+      j ≡ true
   kept p i j c l m e =
-      let t = all_at (λ (p : List ℕ). list_all (λ (i : ℕ). list_all (keeps_way g.ways p i) (range_with_len 0 n)) (range_with_len 0 n)) g.symmetries p h.kept c in
+      let t = all_at (λ (p : List ℕ). list_all (λ (i : ℕ). list_all (keeps_way g.ways p i) (range_with_len 0 n)) (range_with_len 0 n)) g.symmetries p h.kept
+      c in
       let u = all_at (λ (i : ℕ). list_all (keeps_way g.ways p i) (range_with_len 0 n)) (range_with_len 0 n) i t (contains_range n i l) in
       let v = all_at (keeps_way g.ways p i) (range_with_len 0 n) j u (contains_range n j m) in
       chosen _ _ v e

@@ -5,7 +5,7 @@ use Rattle.gm_pieces.specs.Common.{range_with_len, length-map, Cell, Empty, Mine
 use Rattle.gm_pieces.specs.Common.{their_cell, empty_cell, mine_turned, theirs_turned, turned, is_mine, is_theirs, is_empty, cell_at, image_slide, permute}
 use Rattle.gm_pieces.specs.Common.{step_number, from_point, to_point, gone, IsStep, WasStep, steps, IsMove, filled_turned, image_cell, step_left, gone_again}
 use Rattle.gm_pieces.specs.Common.{back_again, from_back, to_back}
-use Rattle.gm_ways.specs.Ways.{WayGame, legal, are_joined, can_go, can_move, moved, was_moved, taken_back, way_game}
+use Rattle.gm_ways.specs.Ways.{WayGame, legal, are_joined, can_go, can_move, moved, can_have_led_here, undo, way_game}
 use Rattle.gm_ways.specs.WayTables.{IsWayGame, is_step}
 use Rattle.gm_ways.specs.laws.WayFacts.{joined_from, joined_to, step_below, steps_few, group, kept}
 use Rattle.gm_ways.specs.laws.WayBoards.{legal_in, legal_from, not_over, image_over}
@@ -48,14 +48,14 @@ unfolding can_move
 move_from g b m h = go_from g b (from_point m) (to_point m) h
 
 -- a move back is that of a piece that can have gone
-pub was_in : (g : WayGame) (d : List Cell) (m : ℕ) → was_moved g d m ≡ true → WasGone g d (from_point m) (to_point m)
-unfolding was_moved
+pub was_in : (g : WayGame) (d : List Cell) (m : ℕ) → can_have_led_here g d m ≡ true → WasGone g d (from_point m) (to_point m)
+unfolding can_have_led_here
 was_in g d m e =
     let r = and_right _ _ e in
     record { joined = and_left _ _ e; step = record { there = their_cell _ (and_left _ _ r); left = empty_cell _ (and_right _ _ r) } }
 
-was_from : (g : WayGame) (d : List Cell) (m : ℕ) → WasGone g d (from_point m) (to_point m) → was_moved g d m ≡ true
-unfolding was_moved
+was_from : (g : WayGame) (d : List Cell) (m : ℕ) → WasGone g d (from_point m) (to_point m) → can_have_led_here g d m ≡ true
+unfolding can_have_led_here
 was_from g d m h = and_both _ _ h.joined (and_both _ _ (ap is_theirs h.step.there) (ap is_empty h.step.left))
 
 -- ---- the limits on lists
@@ -68,9 +68,9 @@ module _ (n : ℕ) (g : WayGame) (h : IsWayGame n g) where
       let all = steps_few n g h in omega (arith, few, all)
 
   -- there are at most 128 boards before
-  pub befores_few : (d : List Cell) → length (filter (was_moved g d) (range_with_len 0 (16 * n))) ≤ 128
+  pub befores_few : (d : List Cell) → length (filter (can_have_led_here g d) (range_with_len 0 (16 * n))) ≤ 128
   befores_few d =
-      let few = filter_few (was_moved g d) (is_step g.ways) (λ m e. (was_in g d m e).joined) (range_with_len 0 (16 * n)) in
+      let few = filter_few (can_have_led_here g d) (is_step g.ways) (λ m e. (was_in g d m e).joined) (range_with_len 0 (16 * n)) in
       let all = steps_few n g h in omega (arith, few, all)
 
   -- ---- made and taken back
@@ -101,8 +101,8 @@ module _ (n : ℕ) (g : WayGame) (h : IsWayGame n g) where
       })
 
   -- a move made and taken back leads to the same board
-  pub undone : (b : List Cell) (m : ℕ) → length b ≡ n → can_move g b m ≡ true → (was_moved g (moved b m) m ≡ true) × (taken_back (moved b m) m ≡ b)
-  unfolding moved taken_back
+  pub undone : (b : List Cell) (m : ℕ) → length b ≡ n → can_move g b m ≡ true → (can_have_led_here g (moved b m) m ≡ true) × (undo (moved b m) m ≡ b)
+  unfolding moved undo
   undone b m e k =
       let a = from_point m in
       let c = to_point m in
@@ -137,7 +137,8 @@ module _ (n : ℕ) (g : WayGame) (h : IsWayGame n g) where
         free = image_cell n g.symmetries o p b c j x.3 ∙ ap (cell_at b) x.5 ∙ q.free;
         may = h.may_go p b i j c e x.2 x.3 joined (ap₂ (g.may_go b) x.4 x.5 ∙ q.may);
       } in
-      let there : CanGo g image (from_point r) (to_point r) = subst (λ (u : ℕ). CanGo g image u (to_point r)) (sym from) (subst (λ (u : ℕ). CanGo g image i u) (sym to) go) in (
+      let there : CanGo g image (from_point r) (to_point r) = subst (λ (u : ℕ). CanGo g image u (to_point r)) (sym from)
+      (subst (λ (u : ℕ). CanGo g image i u) (sym to) go) in (
         r,
         record { below = step_below n g h r there.joined; not_over = image_over n g h p b c e ∙ k.not_over; can = move_from g image r there },
         ap₂ (λ (u v : ℕ). gone image u v) from to
@@ -146,6 +147,6 @@ module _ (n : ℕ) (g : WayGame) (h : IsWayGame n g) where
       )
 
 -- a move taken back and made again leads to the same board
-pub redone : (g : WayGame) (d : List Cell) (m : ℕ) → was_moved g d m ≡ true → moved (taken_back d m) m ≡ d
-unfolding moved taken_back
+pub redone : (g : WayGame) (d : List Cell) (m : ℕ) → can_have_led_here g d m ≡ true → moved (undo d m) m ≡ d
+unfolding moved undo
 redone g d m e = gone_again d (from_point m) (to_point m) (was_in g d m e).step

@@ -1,5 +1,5 @@
 use Rattle.std.proofs.Common.{◌∙◌}
-use Rattle.gm_board.specs.BoardMasks.{some_filled}
+use Rattle.gm_board.specs.laws.BoardMasks.{some_filled}
 use Rattle.gm_board.proofs.pattern.has_some.Goals as goal
 
 pub returns : goal.returns

@@ -5,7 +5,8 @@ use Rattle.gm_board.proofs.subset.next_subset.Goals as goal
 use Rattle.gm_board.proofs.subset.next_subset.Goals.{After-trailing_ones-run}
 
 -- what the code makes
-made : (c : After-trailing_ones-run) → IsStep c.args.mask c.trailing_ones-run.result (c.args.mask + 1 * 2 ^ trailing_zeros w32 c.args.mask % 2 ^ 32 + (1 * 2 ^ (c.trailing_ones-run.result - 1) % 2 ^ 32 - 1))
+made : (c : After-trailing_ones-run) → IsStep c.args.mask c.trailing_ones-run.result
+    (c.args.mask + 1 * 2 ^ trailing_zeros w32 c.args.mask % 2 ^ 32 + (1 * 2 ^ (c.trailing_ones-run.result - 1) % 2 ^ 32 - 1))
 made c = next_of c.args.mask c.trailing_ones-run.result c.requires.some c.requires.within c.trailing_ones-run.ensures
 
 pub overflow_sub-result : goal.overflow_sub-result

@@ -1,13 +1,14 @@
 use Rattle.std.specs.Prelude.{◌<◌}
 use Rattle.gm_pieces.specs.Common.{length, sym, ◌∙◌, arith, board_of, next_cell, cell_below, filter_room, steps}
-use Rattle.gm_dao.specs.DaoRules.{can_move, numbers_end}
+use Rattle.gm_dao.specs.DaoRules.{can_move, move_number_bound}
 use Rattle.gm_dao.proofs.LoopSteps.{AreGoals, goals_are, goals_skip, goals_end, move_more}
 use Rattle.gm_dao.proofs.moves.push_moves.Goals as goal
 use Rattle.gm_dao.proofs.moves.push_moves.Goals.{After-goals-reached}
 
 reached : (c : After-goals-reached) → AreGoals (board_of 16 c.args.board.mine c.args.board.theirs) c.args.from c.goals-reached.result
 reached c =
-    goals_are c.args.board.mine c.args.board.theirs c.free.result c.taken.result c.goals-reached.result c.args.from c.args.board.mine_within c.requires.cell c.requires.own c.free.ensures.cells c.taken.ensures.cells
+    goals_are c.args.board.mine c.args.board.theirs c.free.result c.taken.result c.goals-reached.result c.args.from c.args.board.mine_within c.requires.cell
+    c.requires.own c.free.ensures.cells c.taken.ensures.cells
     c.goals-reached.ensures.cells
 
 pub push-requires : goal.push-requires
@@ -20,7 +21,7 @@ push-requires c =
     let z = next_cell g c.loop-rest.next c.loop-rest.rest i.is_rest (omega arith) (omega arith) in
     let l = cell_below g 16 _ c.goals-reached.ensures.within z.has in
     let room : length c.loop-rest.list.items < 128 =
-    filter_room (can_move b) numbers_end _ c.loop-rest.list.items c.requires.few (omega (arith, l, c.requires.cell)) (sym (h _ l) ∙ z.has)
+    filter_room (can_move b) move_number_bound _ c.loop-rest.list.items c.requires.few (omega (arith, l, c.requires.cell)) (sym (h _ l) ∙ z.has)
     (goals_skip b c.args.from g c.loop-rest.next _ c.loop-rest.list.items h (omega (arith, l)) z.none i.below) in
     (omega arith, room)
 

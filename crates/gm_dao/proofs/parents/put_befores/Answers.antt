@@ -1,6 +1,6 @@
 use Rattle.gm_pieces.specs.Common.{sym, ◌∙◌, arith, bit_and, and_left, board_of, their_cell, empty_cell, next_cell, cell_below, their_cells, before_at, befores}
 use Rattle.gm_pieces.specs.laws.Listed.{put_room}
-use Rattle.gm_dao.specs.DaoRules.{numbers_end, least_index_of, dao}
+use Rattle.gm_dao.specs.DaoRules.{move_number_bound, least_index_of, dao}
 use Rattle.gm_dao.specs.laws.BoardFacts.{legal_in}
 use Rattle.gm_dao.proofs.LoopSteps.{moved_within, moved_cell, befores_skip, before_less, before_more}
 use Rattle.gm_dao.proofs.parents.put_befores.Goals as goal
@@ -34,9 +34,11 @@ put-requires c =
     let z = next_cell m c.loop-rest.next c.loop-rest.rest i.is_rest (omega arith) (omega arith) in
     let l = cell_below m 16 _ (moved_within b _ c.args.board.theirs_within) z.has in
     let e = c.in-Some.earlier in
-    put_room (before_at dao c.args.tier (board_of 16 c.args.board.mine b)) least_index_of numbers_end _ (board_of 16 e.mine e.theirs) c.loop-rest.list.items
+    put_room (before_at dao c.args.tier (board_of 16 c.args.board.mine b)) least_index_of move_number_bound _ (board_of 16 e.mine e.theirs)
+    c.loop-rest.list.items
     c.requires.few (omega (arith, l, c.requires.cell)) c.in-Some.ensures.0
-    (befores_skip c.args.tier c.args.board.mine b _ c.args.from c.loop-rest.next _ c.loop-rest.list.items c.args.board.theirs_within c.args.board.apart (omega (arith, l)) c.in_line_with.ensures.cells z.none i.below)
+    (befores_skip c.args.tier c.args.board.mine b _ c.args.from c.loop-rest.next _ c.loop-rest.list.items c.args.board.theirs_within c.args.board.apart
+    (omega (arith, l)) c.in_line_with.ensures.cells z.none i.below)
 
 pub loop-rest-preserved : goal.loop-rest-preserved
 loop-rest-preserved c =
@@ -47,12 +49,14 @@ loop-rest-preserved c =
     let i = c.loop-rest.invariant in
     let z = next_cell m c.loop-rest.next c.loop-rest.rest i.is_rest (omega arith) (omega arith) in
     let l = cell_below m 16 _ (moved_within b _ c.args.board.theirs_within) z.has in
-    let skipped = befores_skip t a b _ c.args.from c.loop-rest.next _ c.loop-rest.list.items c.args.board.theirs_within c.args.board.apart (omega (arith, l)) c.in_line_with.ensures.cells z.none i.below in
+    let skipped = befores_skip t a b _ c.args.from c.loop-rest.next _ c.loop-rest.list.items c.args.board.theirs_within c.args.board.apart
+    (omega (arith, l)) c.in_line_with.ensures.cells z.none i.below in
     record {
       within = omega (arith, l);
       is_rest = z.is_rest;
       below = elim c.match-gone_before.branch [
-        | in-Some w ↦ before_more t (board_of 16 a b) (board_of 16 w.in-Some.earlier.mine w.in-Some.earlier.theirs) c.args.from _ w.least_index.result c.loop-rest.list.items c.match-gone_before.list.items
+        | in-Some w ↦ before_more t (board_of 16 a b) (board_of 16 w.in-Some.earlier.mine w.in-Some.earlier.theirs) c.args.from _ w.least_index.result
+            c.loop-rest.list.items c.match-gone_before.list.items
             w.in-Some.ensures.0 w.least_index.ensures (rw w.list-is w.put.ensures) skipped
         | in-None w ↦ rw w.list-is (before_less t (board_of 16 a b) c.args.from _ c.loop-rest.list.items w.in-None.ensures skipped)
       ];

@@ -7,7 +7,8 @@ use Rattle.gm_game.proofs.text.parsed.Goals as goal
 
 pub returns-in-Ok : goal.returns-in-Ok
 returns-in-Ok c n small e =
-    let r : c.parse.result ≡ Ok n = parse-decimal 64 n c.in-Ok.digits.now c.parse.result small small (c.in-Ok.ensures.cases.0 ∙ sym e) c.parse.ensures.value.0 in
+    let r : c.parse.result ≡ Ok n = parse-decimal 64 n c.in-Ok.digits.now c.parse.result small small (c.in-Ok.ensures.cases.0 ∙ sym e)
+    c.parse.ensures.value.0 in
     let ok = c.ok.ensures.value in
     ok ∙ ap result_ok r
 

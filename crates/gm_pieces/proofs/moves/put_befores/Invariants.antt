@@ -5,4 +5,5 @@ use Rattle.gm_pieces.proofs.moves.put_befores.Given as goal
 
 abbrev pub invariant-loop-number : goal.invariant-loop-number
 invariant-loop-number g l =
-    l.list.items ≡ put_all [] (map (least_index (board_game g.T.MoveRules.game)) (filter_map (before_at g.T.MoveRules.game l.tier (g.T.MoveRules.cells l.board)) (range_with_len 0 l.number)))
+    l.list.items ≡ put_all [] (map (least_index (board_game g.T.MoveRules.game)) (filter_map
+    (before_at g.T.MoveRules.game l.tier (g.T.MoveRules.cells l.board)) (range_with_len 0 l.number)))

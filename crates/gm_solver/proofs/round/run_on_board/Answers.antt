@@ -2,8 +2,8 @@ use Rattle.std.proofs.Common.{sym, ◌∙◌}
 use Rattle.gm_solver.proofs.TilingLemmas.{choose_tile}
 use Rattle.gm_solver.proofs.round.run_on_board.Goals as goal
 
-pub run_workers_of-requires-clause-tiles : goal.run_workers_of-requires-clause-tiles
-run_workers_of-requires-clause-tiles g c κs bounds =
+pub run_crew-requires-clause-tiles : goal.run_crew-requires-clause-tiles
+run_crew-requires-clause-tiles g c κs bounds =
     let q = c.requires in
     let p = c.args.job.now in
     choose_tile g.G.Game.rules p.level.now.place p.width g.A.ShardLedger.spot g.B.ShardLedger.spot g.C.ShardLedger.spot g.D.ShardLedger.spot

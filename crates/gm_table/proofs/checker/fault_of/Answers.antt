@@ -10,7 +10,8 @@ returns-in-Some g c =
     let entries = c.args.tables.now in
     let records = g.C.Records.listed c.args.records.now in
     let whole : length records ≡ r.tier_size c.args.tier = search rules in
-    let first = subst (λ (o : Option ℕ). MatchOption o ((i : ℕ) → FitsAt r entries c.args.tier records i) (IsFirstWrong r entries c.args.tier records)) c.in-Some.is (c.requires.first whole) in
+    let first = subst (λ (o : Option ℕ). MatchOption o ((i : ℕ) → FitsAt r entries c.args.tier records i) (IsFirstWrong r entries c.args.tier records))
+    c.in-Some.is (c.requires.first whole) in
     let same = true_iff_fit r g.met.G.Game.lawful entries c.truth.ensures c.args.tier records c.requires.children in
     record { none = (λ e. absurd (cc), λ t. absurd (true_no_first r entries c.args.tier records same t c.in-Some.index first)); wrong = (whole, first) }
 
@@ -20,6 +21,7 @@ returns-in-None g c =
     let entries = c.args.tables.now in
     let records = g.C.Records.listed c.args.records.now in
     let whole : length records ≡ r.tier_size c.args.tier = search rules in
-    let fit = subst (λ (o : Option ℕ). MatchOption o ((i : ℕ) → FitsAt r entries c.args.tier records i) (IsFirstWrong r entries c.args.tier records)) c.in-None.is (c.requires.first whole) in
+    let fit = subst (λ (o : Option ℕ). MatchOption o ((i : ℕ) → FitsAt r entries c.args.tier records i) (IsFirstWrong r entries c.args.tier records))
+    c.in-None.is (c.requires.first whole) in
     let same = true_iff_fit r g.met.G.Game.lawful entries c.truth.ensures c.args.tier records c.requires.children in
     record { none = (λ e. same.1 (record { whole = whole; each = fit }), λ t. refl); wrong = tt }

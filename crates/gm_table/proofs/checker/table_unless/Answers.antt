@@ -31,8 +31,11 @@ returns-in-Ok-clause-fit g c =
 
 pub returns-in-Ok-clause-wrong_record : goal.returns-in-Ok-clause-wrong_record
 returns-in-Ok-clause-wrong_record g c i =
-    let same = true_iff_fit g.G.Game.rules g.met.G.Game.lawful c.args.tables.now c.truth.ensures c.args.tier c.args.records.now c.requires.children in
-    (λ e. absurd (cc), λ h. absurd (true_no_first g.G.Game.rules c.args.tables.now c.args.tier c.args.records.now same (c.requires.none.0 c.in_default.is) i h.1))
+    let same = true_iff_fit g.G.Game.rules g.met.G.Game.lawful c.args.tables.now c.truth.ensures c.args.tier c.args.records.now c.requires.children in (
+      λ e. absurd (cc),
+      λ h. absurd (true_no_first g.G.Game.rules c.args.tables.now c.args.tier c.args.records.now same (c.requires.none.0 c.in_default.is) i
+          h.1),
+    )
 
 pub returns-in-Err-clause-fit : goal.returns-in-Err-clause-fit
 returns-in-Err-clause-fit g c =
@@ -41,5 +44,8 @@ returns-in-Err-clause-fit g c =
 
 pub returns-in-Err-clause-wrong_record : goal.returns-in-Err-clause-wrong_record
 returns-in-Err-clause-wrong_record g c i =
-    let same = true_iff_fit g.G.Game.rules g.met.G.Game.lawful c.args.tables.now c.truth.ensures c.args.tier c.args.records.now c.requires.children in
-    (λ e. absurd (cc), λ h. absurd (true_no_first g.G.Game.rules c.args.tables.now c.args.tier c.args.records.now same (c.requires.none.0 c.in_default.is) i h.1))
+    let same = true_iff_fit g.G.Game.rules g.met.G.Game.lawful c.args.tables.now c.truth.ensures c.args.tier c.args.records.now c.requires.children in (
+      λ e. absurd (cc),
+      λ h. absurd (true_no_first g.G.Game.rules c.args.tables.now c.args.tier c.args.records.now same (c.requires.none.0 c.in_default.is) i
+          h.1),
+    )

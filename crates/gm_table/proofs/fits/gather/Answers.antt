@@ -8,7 +8,8 @@ use Rattle.gm_table.proofs.fits.gather.Goals as goal
 
 pub look_up-requires-clause-canonical : goal.look_up-requires-clause-canonical
 look_up-requires-clause-canonical g c =
-    child_canonical g.G.Game.rules g.met.G.Game.lawful c.args.p c.as_slice-c-items.result.now c.loop-c.c-index (at 0 0) c.requires.inner.legal c.loop-c.invariant.all_children c.loop-c-test.true
+    child_canonical g.G.Game.rules g.met.G.Game.lawful c.args.p c.as_slice-c-items.result.now c.loop-c.c-index (at 0 0) c.requires.inner.legal
+    c.loop-c.invariant.all_children c.loop-c-test.true
 
 pub push-requires : goal.push-requires
 push-requires g c =
@@ -30,7 +31,8 @@ pub loop-c-preserved : goal.loop-c-preserved
 loop-c-preserved g c =
     let look = look_up g.G.Game.rules c.args.tables.now c.args.tier (g.C.Records.listed c.args.records.now) in
     record {
-      words_so_far = words_more look c.as_slice-c-items.result.now c.loop-c.words.items _ c.loop-c.c-index c.look_up.result (at 0 0) c.loop-c-test.true c.loop-c.invariant.words_so_far c.push.ensures.items c.look_up.ensures.record;
+      words_so_far = words_more look c.as_slice-c-items.result.now c.loop-c.words.items _ c.loop-c.c-index c.look_up.result (at 0 0) c.loop-c-test.true
+          c.loop-c.invariant.words_so_far c.push.ensures.items c.look_up.ensures.record;
       all_children = c.loop-c.invariant.all_children;
       hand_long = c.look_up.ensures.long;
       at_hand = c.look_up.ensures.at_hand;
@@ -41,6 +43,7 @@ returns-clause-value g c =
     let look = look_up g.G.Game.rules c.args.tables.now c.args.tier (g.C.Records.listed c.args.records.now) in
     let i = c.loop-c.invariant in
     let sum = c.sum_of-decided.ensures in
-    settled_results g.G.Game.rules look c.args.p c.as_slice-c-items.result.now c.as_slice.result.now c.loop-c.c-index _ _ _ c.requires.inner.unended i.all_children c.loop-c-test.false
+    settled_results g.G.Game.rules look c.args.p c.as_slice-c-items.result.now c.as_slice.result.now c.loop-c.c-index _ _ _ c.requires.inner.unended
+    i.all_children c.loop-c-test.false
     (ap (map record_of_word) c.as_slice.ensures.value ∙ i.words_so_far)
     sum.lost sum.won sum.tied

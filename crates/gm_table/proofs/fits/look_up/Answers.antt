@@ -7,4 +7,5 @@ returns-then-c-tier-clause-record g c =
 
 pub returns-clause-record : goal.returns-clause-record
 returns-clause-record g c =
-    look_up_else g.G.Game.rules c.args.tables.now c.args.tier (g.C.Records.listed c.args.records.now) c.args.c _ _ c.requires.canonical c.if-c-tier.false c.table_for.ensures.table c.word_in.ensures
+    look_up_else g.G.Game.rules c.args.tables.now c.args.tier (g.C.Records.listed c.args.records.now) c.args.c _ _ c.requires.canonical c.if-c-tier.false
+    c.table_for.ensures.table c.word_in.ensures

@@ -8,5 +8,6 @@ returns c n =
     let runs = c.grow.new.runs in
     let room : c.args.level < length runs.items = search rules in
     let old : c.index_mut.result.now ≡ get_or runs.items c.args.level c.index_mut.result.now = search rules in
-    run_push runs (with_item runs c.args.level c.push.new.self) c.args.level c.index_mut.result.now c.push.new.self c.args.index room old c.in_ok-push.ensures.items refl n
+    run_push runs (with_item runs c.args.level c.push.new.self) c.args.level c.index_mut.result.now c.push.new.self c.args.index room old
+    c.in_ok-push.ensures.items refl n
     ∙ ap (λ (run : List ℕ). if c.args.level == n then run ++ c.args.index ∷ [] else run) (c.in_ok-grow.ensures.same n)

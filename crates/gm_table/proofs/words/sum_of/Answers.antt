@@ -16,4 +16,13 @@ loop-word-preserved c =
     let won = won_more c.args.words.now c.loop-word.word-index 0 c.loop-word-test.true in
     let tied = least_more c.args.words.now c.loop-word.word-index 0 c.loop-word-test.true tied_in in
     let decided = decided_more c.args.words.now c.loop-word.word-index 0 c.loop-word-test.true in
-    record { lost = cc; won = cc; tied = cc; decided = cc; lost_fits = c.with-sum.result.lost_fits; won_fits = c.with-sum.result.won_fits; tied_fits = c.with-sum.result.tied_fits }
+    record {
+      lost = cc;
+      won = cc;
+      tied = cc;
+      decided = cc;
+      lost_fits = c.with-sum.result.lost_fits;
+      won_fits = c.with-sum.result.won_fits;
+      tied_fits =
+          c.with-sum.result.tied_fits;
+    }

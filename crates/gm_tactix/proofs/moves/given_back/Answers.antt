@@ -11,4 +11,5 @@ returns-clause-within c =
     let s = c.args.side in
     let m = c.args.number in
     let e = (taken_in s c.args.tier (counters_of (s * s) c.args.counters) m c.requires.taken).segment in
-    (back_of s c.args.counters m c.segment_mask.result c.requires.low c.requires.high c.requires.within e (c.segment_mask.ensures.value ∙ mask_of_segment s m e)).1
+    (back_of s c.args.counters m c.segment_mask.result c.requires.low c.requires.high c.requires.within e
+    (c.segment_mask.ensures.value ∙ mask_of_segment s m e)).1

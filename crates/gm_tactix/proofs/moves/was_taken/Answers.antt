@@ -9,7 +9,8 @@ use Rattle.gm_tactix.proofs.moves.was_taken.Goals.{After-from-number_before}
 
 -- the two tests of the code
 abbrev tested : After-from-number_before → Type 0
-tested c = (eqb (bit_and c.args.counters c.segment_mask-cells.result) 0 && eqb c.from-number_before.result c.args.tier) ≡ was_taken c.args.side c.args.tier (counters_of (c.args.side * c.args.side) c.args.counters) c.args.number
+tested c = (eqb (bit_and c.args.counters c.segment_mask-cells.result) 0 && eqb c.from-number_before.result c.args.tier) ≡ was_taken c.args.side c.args.tier
+    (counters_of (c.args.side * c.args.side) c.args.counters) c.args.number
 
 test_is : (c : After-from-number_before) → tested c
 test_is c =
@@ -23,7 +24,8 @@ test_is c =
 pub returns-then-counters-cells-eq0 : goal.returns-then-counters-cells-eq0
 returns-then-counters-cells-eq0 c =
     let n = c.from-number_before.result in
-    sym (ap (λ (x : Bool). x && eqb n c.args.tier) (eq-eqb _ _ c.if-counters-cells-eq0.true)) ∙ test_is ((goal.at.returns-then-counters-cells-eq0 c).After-from-number_before)
+    sym (ap (λ (x : Bool). x && eqb n c.args.tier) (eq-eqb _ _ c.if-counters-cells-eq0.true)) ∙ test_is
+    ((goal.at.returns-then-counters-cells-eq0 c).After-from-number_before)
 
 pub returns-else-counters-cells-eq0 : goal.returns-else-counters-cells-eq0
 returns-else-counters-cells-eq0 c =

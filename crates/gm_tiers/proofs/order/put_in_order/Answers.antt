@@ -15,4 +15,5 @@ returns-clause-ordered g c =
     let is : AllPairs (IsBefore g.G.Game.rules) keys =
     ordered g.G.Game.rules keys (AllPairs-from_IsDistinct Decides-eqb keys c.sort_unstable_by_key.ensures.unique)
     (c.in_ok-sort_unstable_by_key.ensures.sorted key (answers_always _ (λ a s. s ≡ key a.0.now) _ (λ f a s q k. search rules))) in
-    IfOk-weaker c.from_slice.result _ _ (λ v e. subst (λ xs. AllPairs (IsBefore g.G.Game.rules) xs) (sym (e ∙ c.as_slice.ensures.keys)) is) c.from_slice.ensures.items
+    IfOk-weaker c.from_slice.result _ _ (λ v e. subst (λ xs. AllPairs (IsBefore g.G.Game.rules) xs) (sym (e ∙ c.as_slice.ensures.keys)) is)
+    c.from_slice.ensures.items

@@ -4,7 +4,8 @@ use Rattle.gm_game.specs.declared.limits.TheConstants.{TIER_SIZE, TIERS}
 use Rattle.gm_tiers.specs.declared.tier_error.TierError.TheVariants.{TooManyTiers, TierTooLarge}
 use Rattle.gm_tiers.specs.Limits.{AreWithin, IsFoundNext, HasTooMany, IsTooLarge}
 use Rattle.gm_tiers.proofs.SearchLemmas.{there, not_there, put_last, one_more, grown_itself}
-use Rattle.gm_tiers.proofs.StepLemmas.{comes_there, comes_too_large, comes_too_many, comes_new, last_there, large_is_large, large_is_not_many, many_is_not_large, memory_is_not_many, memory_is_not_large, memory_ends, step_ends}
+use Rattle.gm_tiers.proofs.StepLemmas.{comes_there, comes_too_large, comes_too_many, comes_new, last_there, large_is_large, large_is_not_many}
+use Rattle.gm_tiers.proofs.StepLemmas.{many_is_not_large, memory_is_not_many, memory_is_not_large, memory_ends, step_ends}
 use Rattle.gm_tiers.proofs.search.find.Goals as goal
 
 pub returns-then-contains-clause-within : goal.returns-then-contains-clause-within
@@ -64,7 +65,12 @@ pub returns-in-Ok-clause-within : goal.returns-in-Ok-clause-within
 returns-in-Ok-clause-within g c =
     let keys = c.args.found.now.keys in
     let new : list_any (nat_eq c.args.tier) keys ≡ false = sym c.contains.ensures ∙ c.if-contains.false in
-    let next : IsFoundNext g.G.Game.rules c.args.first keys c.args.tier = record { within = c.requires.within; next = c.requires.next; fresh = not_there keys c.args.tier new } in
+    let next : IsFoundNext g.G.Game.rules c.args.first keys c.args.tier = record {
+      within = c.requires.within;
+      next = c.requires.next;
+      fresh = not_there
+          keys c.args.tier new;
+    } in
     subst (AreWithin g.G.Game.rules c.args.first) (sym (c.in-Ok.ensures.keys ∙ put_last keys c.args.tier new))
     (one_more g.G.Game.rules c.args.first keys c.args.tier next (omega (arith, c.tier_size.ensures)) (omega arith))
 
@@ -84,7 +90,8 @@ returns-in-Ok-clause-answer g c =
 pub returns-in-Ok-clause-there : goal.returns-in-Ok-clause-there
 returns-in-Ok-clause-there g c =
     let keys = c.args.found.now.keys in
-    subst (λ ks. Contains ks c.args.tier) (sym (c.in-Ok.ensures.keys ∙ put_last keys c.args.tier (sym c.contains.ensures ∙ c.if-contains.false))) (last_there keys c.args.tier)
+    subst (λ ks. Contains ks c.args.tier) (sym (c.in-Ok.ensures.keys ∙ put_last keys c.args.tier (sym c.contains.ensures ∙ c.if-contains.false)))
+    (last_there keys c.args.tier)
 
 pub returns-in-Err-clause-refusal : goal.returns-in-Err-clause-refusal
 returns-in-Err-clause-refusal g c e is = memory_ends g.G.Game.rules c.args.found.now.keys c.args.tier e is

@@ -15,8 +15,10 @@ loop-child-preserved g c =
     let (within, grown, there, answer) = c.loop-child.invariant in (
       c.in_ok-find.ensures.within,
       grown_again c.args.found.now.keys c.loop-child.found.keys c.find.new.found.keys grown c.in_ok-find.ensures.grown,
-      more_there c.as_slice-child-items.result.now c.loop-child.found.keys c.find.new.found.keys c.loop-child.child-index (omega arith) there c.in_ok-find.ensures.grown c.in_ok-find.ensures.there,
-      one_more_comes g.G.Game.rules (Ok c.args.found.now.keys) (Ok c.loop-child.found.keys) c.as_slice-child-items.result.now c.loop-child.child-index (omega arith) answer
+      more_there c.as_slice-child-items.result.now c.loop-child.found.keys c.find.new.found.keys c.loop-child.child-index (omega arith) there
+          c.in_ok-find.ensures.grown c.in_ok-find.ensures.there,
+      one_more_comes g.G.Game.rules (Ok c.args.found.now.keys) (Ok c.loop-child.found.keys) c.as_slice-child-items.result.now c.loop-child.child-index
+          (omega arith) answer
           ∙ c.in_ok-find.ensures.answer,
     )
 
@@ -27,13 +29,16 @@ returns-clause-children g c =
 
 pub returns-in_err-find-clause-refusal : goal.returns-in_err-find-clause-refusal
 returns-in_err-find-clause-refusal g c e is =
-    ends_here g.G.Game.rules (Ok c.args.found.now.keys) (Ok c.loop-child.found.keys) e c.as_slice-child-items.result.now (g.G.Game.rules.child_tiers c.args.tier) c.loop-child.child-index
-    (c.as_slice-child-items.ensures.value ∙ c.child_tiers-children.ensures) (omega arith) c.loop-child.invariant.3 (c.find.ensures.refusal e (passed_on c.from_residual.result c.find.result c.in_err-find.field-0.0 e c.from_residual.ensures.1 c.in_err-find.was is))
+    ends_here g.G.Game.rules (Ok c.args.found.now.keys) (Ok c.loop-child.found.keys) e c.as_slice-child-items.result.now
+    (g.G.Game.rules.child_tiers c.args.tier) c.loop-child.child-index
+    (c.as_slice-child-items.ensures.value ∙ c.child_tiers-children.ensures) (omega arith) c.loop-child.invariant.3
+    (c.find.ensures.refusal e (passed_on c.from_residual.result c.find.result c.in_err-find.field-0.0 e c.from_residual.ensures.1 c.in_err-find.was is))
 
 pub returns-clause-answer : goal.returns-clause-answer
 returns-clause-answer g c =
     let items = c.as_slice-child-items.result.now in
-    ap (comes_to_all g.G.Game.rules (Ok c.args.found.now.keys)) (sym (take_all c.loop-child.child-index items (omega arith) ∙ c.as_slice-child-items.ensures.value ∙ c.child_tiers-children.ensures))
+    ap (comes_to_all g.G.Game.rules (Ok c.args.found.now.keys)) (sym (take_all c.loop-child.child-index items (omega arith) ∙
+    c.as_slice-child-items.ensures.value ∙ c.child_tiers-children.ensures))
     ∙ c.loop-child.invariant.3
 
 pub returns-in_err-find-clause-within : goal.returns-in_err-find-clause-within
@@ -49,10 +54,12 @@ pub returns-in_err-find-clause-children : goal.returns-in_err-find-clause-childr
 returns-in_err-find-clause-children g c = IfOk-from_err c.from_residual.result _ c.from_residual.ensures.0
 
 pub returns-in_err-find-clause-too_many : goal.returns-in_err-find-clause-too_many
-returns-in_err-find-clause-too_many g c is = c.find.ensures.too_many (passed_on c.from_residual.result c.find.result c.in_err-find.field-0.0 TooManyTiers c.from_residual.ensures.1 c.in_err-find.was is)
+returns-in_err-find-clause-too_many g c is = c.find.ensures.too_many (passed_on c.from_residual.result c.find.result c.in_err-find.field-0.0 TooManyTiers
+    c.from_residual.ensures.1 c.in_err-find.was is)
 
 pub returns-in_err-find-clause-too_large : goal.returns-in_err-find-clause-too_large
-returns-in_err-find-clause-too_large g c tier is = c.find.ensures.too_large tier (passed_on c.from_residual.result c.find.result c.in_err-find.field-0.0 (TierTooLarge tier) c.from_residual.ensures.1 c.in_err-find.was is)
+returns-in_err-find-clause-too_large g c tier is = c.find.ensures.too_large tier (passed_on c.from_residual.result c.find.result c.in_err-find.field-0.0
+    (TierTooLarge tier) c.from_residual.ensures.1 c.in_err-find.was is)
 
 pub returns-clause-within : goal.returns-clause-within
 returns-clause-within g c = c.loop-child.invariant.0
@@ -61,7 +68,8 @@ pub returns-clause-grown : goal.returns-clause-grown
 returns-clause-grown g c = c.loop-child.invariant.1
 
 pub returns-clause-refusal : goal.returns-clause-refusal
-returns-clause-refusal g c e is = no_error (EndsWith (comes_to_all g.G.Game.rules (Ok c.args.found.now.keys) (g.G.Game.rules.child_tiers c.args.tier)) e) tt e is
+returns-clause-refusal g c e is = no_error (EndsWith (comes_to_all g.G.Game.rules (Ok c.args.found.now.keys) (g.G.Game.rules.child_tiers c.args.tier)) e) tt
+    e is
 
 pub returns-clause-too_many : goal.returns-clause-too_many
 returns-clause-too_many g c is = no_error (HasTooMany g.G.Game.rules c.args.first) tt TooManyTiers is

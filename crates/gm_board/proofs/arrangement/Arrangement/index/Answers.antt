@@ -1,13 +1,16 @@
 use Rattle.std.proofs.Common.{◌≡◌, ℕ, ◌+◌, ◌*◌, ◌^◌, ◌<◌, sym, ap, ◌∙◌, subst, arith, lt_trans}
 use Rattle.gm_board.specs.Binomials.{binomial as binomial_of}
 use Rattle.gm_board.specs.Masks.{mask_rank}
-use Rattle.gm_board.specs.Arrangements.{arrangement_index, arrangements, arrangements_fit}
-use Rattle.gm_board.specs.Pieces.{cells_of, mine_mask, their_mask, pieces_index_below, mine_again, theirs_again}
+use Rattle.gm_board.specs.Arrangements.{arrangement_index, arrangements}
+use Rattle.gm_board.specs.laws.Arrangements.{arrangements_fit}
+use Rattle.gm_board.specs.Pieces.{cells_of, mine_mask, their_mask}
+use Rattle.gm_board.specs.laws.Pieces.{pieces_index_below, mine_again, theirs_again}
 use Rattle.gm_board.proofs.IndexSteps.{index_is}
 use Rattle.gm_board.proofs.arrangement.Arrangement.index.Goals as goal
 use Rattle.gm_board.proofs.arrangement.Arrangement.index.Goals.{After-rank_subset-2}
 
-value_is : (c : After-rank_subset-2) → c.rank_subset.result * c.binomial.result + c.rank_subset-2.result ≡ arrangement_index (cells_of c.args.self.cells c.args.mine c.args.theirs)
+value_is : (c : After-rank_subset-2) → c.rank_subset.result * c.binomial.result + c.rank_subset-2.result ≡ arrangement_index
+    (cells_of c.args.self.cells c.args.mine c.args.theirs)
 value_is c =
     index_is c.args.self.cells c.args.self.mine c.args.self.theirs c.args.mine c.args.theirs _ _ _ c.args.self.within c.requires
     c.rank_subset.ensures.value

@@ -2,7 +2,8 @@ use Rattle.std.proofs.Common.{◌≡◌, ℕ, ◌-◌, ◌%◌, ap, ap₂, ◌�
 use Rattle.gm_board.specs.Binomials.{binomial as binomial_of}
 use Rattle.gm_board.specs.Masks.{mask_unrank}
 use Rattle.gm_board.specs.Arrangements.{arrangement_index}
-use Rattle.gm_board.specs.Pieces.{cells_of, mine_mask, their_mask, arrangement_pieces, index_of_masks}
+use Rattle.gm_board.specs.Pieces.{cells_of, mine_mask, their_mask}
+use Rattle.gm_board.specs.laws.Pieces.{arrangement_pieces, index_of_masks}
 use Rattle.gm_board.proofs.IndexSteps.{AreDigits, digits_are, mine_mask_is, their_mask_is}
 use Rattle.gm_board.proofs.arrangement.Arrangement.masks.Goals as goal
 use Rattle.gm_board.proofs.arrangement.Arrangement.masks.Goals.{After-binomial-ways, After-spread-theirs}
@@ -29,7 +30,8 @@ free_is : (c : After-spread-theirs) → c.binomial-ways.result ≡ binomial_of (
 free_is c = c.binomial-ways.ensures.value ∙ ap (λ (n : ℕ). binomial_of n c.args.self.theirs) c.free-free.ensures
 
 mine_is : (c : After-spread-theirs) → c.unrank_subset-mine.result ≡ mine_mask c.args.self.cells c.args.self.mine c.args.self.theirs c.args.index
-mine_is c = mine_mask_is c.args.self.cells c.args.self.mine c.args.self.theirs c.args.index c.binomial-ways.result _ (free_is c) c.unrank_subset-mine.ensures.value
+mine_is c = mine_mask_is c.args.self.cells c.args.self.mine c.args.self.theirs c.args.index c.binomial-ways.result _ (free_is c)
+    c.unrank_subset-mine.ensures.value
 
 theirs_is : (c : After-spread-theirs) → c.spread-theirs.result ≡ their_mask c.args.self.cells c.args.self.mine c.args.self.theirs c.args.index
 theirs_is c =

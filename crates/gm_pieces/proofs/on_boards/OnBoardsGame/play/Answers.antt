@@ -7,4 +7,5 @@ use Rattle.gm_pieces.proofs.on_boards.OnBoardsGame.play.Goals as goal
 pub moved-requires-clause-step : goal.moved-requires-clause-step
 moved-requires-clause-step g c =
     let r = g.T.MoveRules.game in
-    subst (λ (b : g.T.MoveRules.Cells). IsMove r b c.args.m) (sym c.board.ensures.board) (move_in r (board_of (board_game r) c.args.p) c.args.m c.requires.listed)
+    subst (λ (b : g.T.MoveRules.Cells). IsMove r b c.args.m) (sym c.board.ensures.board)
+    (move_in r (board_of (board_game r) c.args.p) c.args.m c.requires.listed)

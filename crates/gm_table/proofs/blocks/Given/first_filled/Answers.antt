@@ -17,7 +17,8 @@ returns-then-is_some g c =
     let hole = c.requires.holes i c.loop-index.auto.index below in
     let same = c.record.ensures ∙ record_read records i inside in
     let filled = hole_filled r self.tables.now self.tier records i c.record.result hole (sym c.is_some.ensures ∙ c.if-is_some.true) in
-    let wrong = wrong_at r self.tables.now self.tier records i None inside (λ h. filled (subst (RecordFits r self.tables.now self.tier records (at self.tier i)) (sym same) h)) in
+    let wrong = wrong_at r self.tables.now self.tier records i None inside (λ h. filled
+    (subst (RecordFits r self.tables.now self.tier records (at self.tier i)) (sym same) h)) in
     (c.loop-index.auto.index, below, wrong, c.loop-index.invariant)
 
 pub loop-index-preserved : goal.loop-index-preserved

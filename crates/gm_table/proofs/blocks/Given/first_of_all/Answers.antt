@@ -1,26 +1,55 @@
-use Rattle.std.proofs.Common.{◌≡◌, ◌-◌, ℕ, List, ap, subst, ◌∙◌, arith}
-use Rattle.std.specs.List.{AllZip, range_with_len}
-use Rattle.rayon.specs.Lists.{range_start, range_end, min_len_base}
-use Rattle.rayon.specs.Numbers.{nat_range}
-use Rattle.gm_table.specs.Checks.{IsFirstOfClass}
-use Rattle.gm_table.proofs.BlockLemmas.{first_of_classes}
+use Rattle.std.proofs.Common.{◌≡◌, ℕ, ◌+◌, sym, subst, arith}
+use Rattle.std.specs.List.{AllZip}
+use Rattle.gm_table.specs.declared.blocks.Firsts.{Firsts}
+use Rattle.gm_table.specs.Checks.{AreFirsts}
+use Rattle.gm_table.proofs.BlockLemmas.{IsFirstBelow, below_none, below_more, below_all, all_fit, all_found}
 use Rattle.gm_table.proofs.blocks.Given.first_of_all.Goals as goal
 
-pub returns : goal.returns
-returns g c =
-    let r = g.G.Game.rules in
+pub loop-class-init : goal.loop-class-init
+loop-class-init g c =
     let self = c.args.self.now in
-    let ends = c.into_par_iter.ensures in
-    let (firsts, given, least, reduced) = c.min.ensures in
+    let r = g.G.Game.rules in
+    let records = g.C.Records.listed self.records.now in
+    subst (IsFirstBelow r self.tables.now self.tier records 0) (sym c.count-first.ensures) (below_none r self.tables.now self.tier records)
+
+pub first_at-requires-clause-firsts : goal.first_at-requires-clause-firsts
+first_at-requires-clause-firsts g c κs within =
+    let self = c.args.self.now in
+    let r = g.G.Game.rules in
+    let records = g.C.Records.listed self.records.now in
+    let (found, given, reduced) = c.reduce-firsts.ensures in
     let (numbers, places, zip) = given in
-    let base = c.map.ensures.base in
-    let piece = c.with_min_len.ensures.base in
-    let classes : numbers ≡ nat_range 0 1024 = places
-    ∙ (λ i. nat_range (range_start (min_len_base (base i))) (range_end (min_len_base (base i))))
-    ∙ (λ i. nat_range (range_start (piece i)) (range_end (piece i)))
-    ∙ (λ i. nat_range (ends.0 i) (ends.1 i)) in
-    let zero : 1024 - 0 ≡ 1024 = omega arith in
-    let Is = λ (class first : ℕ). IsFirstOfClass r self.tables.now self.tier (g.C.Records.listed self.records.now) class first in
-    let asked : AllZip Is numbers firsts = subst (λ f. AllZip (λ class first. IsFirstOfClass r f.0.now.tables.now f.0.now.tier (g.C.Records.listed f.0.now.records.now) class first) numbers firsts) c.map.ensures.f zip in
-    let each : AllZip Is (range_with_len 0 1024) firsts = subst (λ (ks : List ℕ). AllZip Is ks firsts) (classes ∙ ap (range_with_len 0) zero) asked in
-    first_of_classes r self.tables.now self.tier (g.C.Records.listed self.records.now) firsts each c.min.result least
+    let each : AllZip (λ (_ : ℕ) (one : Firsts). AreFirsts r self.tables.now self.tier records one.classes) numbers found =
+    subst (λ f. AllZip (λ (_ : ℕ) (one : Firsts). AreFirsts r f.0.now.tables.now f.0.now.tier (g.C.Records.listed f.0.now.records.now) one.classes)
+    numbers found) c.map.ensures.f zip in
+    all_found r self.tables.now self.tier records numbers found c.reduce-firsts.result each reduced
+
+pub loop-class-preserved : goal.loop-class-preserved
+loop-class-preserved g c =
+    let self = c.args.self.now in
+    let r = g.G.Game.rules in
+    let records = g.C.Records.listed self.records.now in
+    subst (IsFirstBelow r self.tables.now self.tier records (c.loop-class.class + 1)) (sym c.min-first.ensures)
+    (below_more r self.tables.now self.tier records c.loop-class.class c.loop-class.first c.first_at.result c.loop-class.invariant c.first_at.ensures)
+
+pub returns-clause-wrong : goal.returns-clause-wrong
+returns-clause-wrong g c =
+    let self = c.args.self.now in
+    let r = g.G.Game.rules in
+    let records = g.C.Records.listed self.records.now in
+    let low = c.loop-class-test.false in
+    let high = c.loop-class.auto.class-end in
+    let end : c.loop-class.class ≡ 256 = omega arith in
+    below_all r self.tables.now self.tier records c.loop-class.first
+    (subst (λ n. IsFirstBelow r self.tables.now self.tier records n c.loop-class.first) end c.loop-class.invariant)
+
+pub returns-clause-fit : goal.returns-clause-fit
+returns-clause-fit g c =
+    let self = c.args.self.now in
+    let r = g.G.Game.rules in
+    let records = g.C.Records.listed self.records.now in
+    let low = c.loop-class-test.false in
+    let high = c.loop-class.auto.class-end in
+    let end : c.loop-class.class ≡ 256 = omega arith in
+    all_fit r self.tables.now self.tier records c.loop-class.first
+    (subst (λ n. IsFirstBelow r self.tables.now self.tier records n c.loop-class.first) end c.loop-class.invariant)

@@ -7,7 +7,8 @@ number_of-requires c = near_at c.args.records.now c.loop-known.known-index None 
 
 pub loop-known-preserved : goal.loop-known-preserved
 loop-known-preserved c =
-    packed_more c.loop-known.numbers _ c.args.records.now c.loop-known.known-index c.number_of.result None c.loop-known-test.true c.loop-known.invariant c.in_ok-push.ensures.ok c.number_of.ensures.number
+    packed_more c.loop-known.numbers _ c.args.records.now c.loop-known.known-index c.number_of.result None c.loop-known-test.true c.loop-known.invariant
+    c.in_ok-push.ensures.ok c.number_of.ensures.number
 
 pub returns : goal.returns
 returns c = packed_all c.loop-known.numbers c.args.records.now c.loop-known.known-index c.loop-known-test.false c.loop-known.invariant

@@ -17,4 +17,5 @@ pub returns-clause-is_true : goal.returns-clause-is_true
 returns-clause-is_true g c =
     let r = g.G.Game.rules in
     let t = c.args.self.now in
-    subst (IsRecord r REMOTENESS (IsTrueValue r) (at t.tier c.args.index)) (sym (returns-clause-value g c)) (record_is r g.met.G.Game.lawful t c.args.index (returns-clause-table g c))
+    subst (IsRecord r REMOTENESS (IsTrueValue r) (at t.tier c.args.index)) (sym (returns-clause-value g c))
+    (record_is r g.met.G.Game.lawful t c.args.index (returns-clause-table g c))

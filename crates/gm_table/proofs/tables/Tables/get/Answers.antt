@@ -13,9 +13,11 @@ returns-clause-value g c =
 pub returns-clause-held : goal.returns-clause-held
 returns-clause-held g c =
     let r = g.G.Game.rules in
-    subst (λ o. IsSome o ↔ ((r.is_legal c.args.p ≡ true) × IsHeld c.args.self.now c.args.p.tier)) (sym (returns-clause-value g c)) (value_known r g.met.G.Game.lawful c.args.self.now c.args.p c.in_ok-table.ensures.tables)
+    subst (λ o. IsSome o ↔ ((r.is_legal c.args.p ≡ true) × IsHeld c.args.self.now c.args.p.tier)) (sym (returns-clause-value g c))
+    (value_known r g.met.G.Game.lawful c.args.self.now c.args.p c.in_ok-table.ensures.tables)
 
 pub returns-clause-is_true : goal.returns-clause-is_true
 returns-clause-is_true g c =
     let r = g.G.Game.rules in
-    subst (λ o. IfSome o (IsTrueValue r c.args.p)) (sym (returns-clause-value g c)) (value_true r g.met.G.Game.lawful c.args.self.now c.args.p c.in_ok-table.ensures.tables)
+    subst (λ o. IfSome o (IsTrueValue r c.args.p)) (sym (returns-clause-value g c))
+    (value_true r g.met.G.Game.lawful c.args.self.now c.args.p c.in_ok-table.ensures.tables)

@@ -15,5 +15,6 @@ pub returns-in-Some-clause-exact : goal.returns-in-Some-clause-exact
 returns-in-Some-clause-exact g c i =
     let r = g.G.Game.rules in
     let run : c.run.result.now ≡ run_of c.args.self.now c.args.tier c.args.phase c.args.level = search rules in
-    subst (λ (is : List ℕ). Contains is i ↔ (IsHeld c.args.self.now c.args.tier × IsCanonical r (at c.args.tier i) × StandsAt r c.args.phase c.args.level (at c.args.tier i))) (sym run)
+    subst (λ (is : List ℕ). Contains is i ↔ (IsHeld c.args.self.now c.args.tier × IsCanonical r (at c.args.tier i) × StandsAt r c.args.phase c.args.level
+    (at c.args.tier i))) (sym run)
     (run_stands r g.met.G.Game.lawful c.args.self.now c.entry.ensures.tables c.args.tier c.args.phase c.args.level i)

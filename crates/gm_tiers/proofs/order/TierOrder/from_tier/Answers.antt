@@ -9,27 +9,34 @@ use Rattle.gm_tiers.proofs.OrderLemmas.{order_is}
 use Rattle.gm_tiers.proofs.order.TierOrder.from_tier.Goals as goal
 
 pub returns-in_err-found-clause-too_many : goal.returns-in_err-found-clause-too_many
-returns-in_err-found-clause-too_many g c is = c.search.ensures.too_many (passed_on c.from_residual.result c.search.result c.in_err-found.field-0.0 TooManyTiers c.from_residual.ensures.1 c.in_err-found.was is)
+returns-in_err-found-clause-too_many g c is = c.search.ensures.too_many (passed_on c.from_residual.result c.search.result c.in_err-found.field-0.0
+    TooManyTiers c.from_residual.ensures.1 c.in_err-found.was is)
 
 pub returns-in_err-found-clause-more : goal.returns-in_err-found-clause-more
 returns-in_err-found-clause-more g c e = too_many_reached g.G.Game.rules c.args.first (returns-in_err-found-clause-too_many g c e)
 
 pub returns-in_err-found-clause-too_large : goal.returns-in_err-found-clause-too_large
-returns-in_err-found-clause-too_large g c tier is = c.search.ensures.too_large tier (passed_on c.from_residual.result c.search.result c.in_err-found.field-0.0 (TierTooLarge tier) c.from_residual.ensures.1 c.in_err-found.was is)
+returns-in_err-found-clause-too_large g c tier is = c.search.ensures.too_large tier
+    (passed_on c.from_residual.result c.search.result c.in_err-found.field-0.0 (TierTooLarge tier) c.from_residual.ensures.1 c.in_err-found.was is)
 
 pub returns-in_err-found-clause-reached : goal.returns-in_err-found-clause-reached
 returns-in_err-found-clause-reached g c tier e =
     let (large, found, is) = returns-in_err-found-clause-too_large g c tier e in found_next_reached g.G.Game.rules c.args.first found tier is
 
 pub returns-in-Ok-clause-order : goal.returns-in-Ok-clause-order
-returns-in-Ok-clause-order g c = order_is g.G.Game.rules c.args.first c.in_ok-found.found.keys c.in-Ok.tiers.items c.in_ok-found.ensures.found c.in-Ok.ensures.same c.in-Ok.ensures.ordered
+returns-in-Ok-clause-order g c = order_is g.G.Game.rules c.args.first c.in_ok-found.found.keys c.in-Ok.tiers.items c.in_ok-found.ensures.found
+    c.in-Ok.ensures.same c.in-Ok.ensures.ordered
 
 pub invariant_of-result : goal.invariant_of-result
-invariant_of-result g c =
-    (c.args.first, order_is g.G.Game.rules c.args.first c.in_ok-found.found.keys c.in-Ok.tiers.items c.in_ok-found.ensures.found c.in-Ok.ensures.same c.in-Ok.ensures.ordered)
+invariant_of-result g c = (
+  c.args.first,
+  order_is g.G.Game.rules c.args.first c.in_ok-found.found.keys c.in-Ok.tiers.items c.in_ok-found.ensures.found c.in-Ok.ensures.same
+      c.in-Ok.ensures.ordered,
+)
 
 pub returns-in_err-found-clause-refusal : goal.returns-in_err-found-clause-refusal
-returns-in_err-found-clause-refusal g c e is = c.search.ensures.refusal e (passed_on c.from_residual.result c.search.result c.in_err-found.field-0.0 e c.from_residual.ensures.1 c.in_err-found.was is)
+returns-in_err-found-clause-refusal g c e is = c.search.ensures.refusal e (passed_on c.from_residual.result c.search.result c.in_err-found.field-0.0 e
+    c.from_residual.ensures.1 c.in_err-found.was is)
 
 pub returns-in-Ok-clause-answer : goal.returns-in-Ok-clause-answer
 returns-in-Ok-clause-answer g c = (c.in_ok-found.found.keys, c.in_ok-found.ensures.answer, c.in-Ok.ensures.same)

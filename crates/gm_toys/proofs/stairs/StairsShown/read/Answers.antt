@@ -8,10 +8,12 @@ use Rattle.gm_toys.specs.laws.StairsLaws.{stairs_legal_in, stairs_legal_from}
 use Rattle.gm_toys.proofs.stairs.StairsShown.read.Goals as goal
 
 -- a number that was read is the tier of the position with that text
-position_read : (n last : ℕ) (text : List ℕ) (read : Option ℕ) (t : ℕ) → last ≡ n → ((k : ℕ) → (read ≡ Some k) ↔ ((k ≤ last) × (decimal k ≡ text))) → read ≡ Some t
+position_read : (n last : ℕ) (text : List ℕ) (read : Option ℕ) (t : ℕ) → last ≡ n → ((k : ℕ) → (read ≡ Some k) ↔ ((k ≤ last) × (decimal k ≡ text))) → read ≡
+    Some t
     → (p : Position) → (Some (at t 0) ≡ Some p) ↔ (((stairs n).is_legal p ≡ true) × (tier_text p ≡ text))
 position_read n last text read t same_last exact is p = (
-  λ e. (let s : at t 0 ≡ p = cc in subst (λ (q : Position). ((stairs n).is_legal q ≡ true) × (tier_text q ≡ text)) s (let (le, same) = (exact t).0 is in (stairs_legal_from n t 0 (omega arith) refl, same))),
+  λ e. (let s : at t 0 ≡ p = cc in subst (λ (q : Position). ((stairs n).is_legal q ≡ true) × (tier_text q ≡ text)) s
+      (let (le, same) = (exact t).0 is in (stairs_legal_from n t 0 (omega arith) refl, same))),
   λ (l, same). (let (le, i) = stairs_legal_in n p l in
       let k : read ≡ Some p.tier = (exact p.tier).1 (omega arith, same) in
       let e : t ≡ p.tier = cc in
@@ -19,4 +21,5 @@ position_read n last text read t same_last exact is p = (
 )
 
 pub returns-in-Some : goal.returns-in-Some
-returns-in-Some g c p = position_read g.row.N c.from.result c.args.text.now c.read_number.result c.in-Some.tier c.from.ensures c.read_number.ensures c.in-Some.is p
+returns-in-Some g c p = position_read g.row.N c.from.result c.args.text.now c.read_number.result c.in-Some.tier c.from.ensures c.read_number.ensures
+    c.in-Some.is p

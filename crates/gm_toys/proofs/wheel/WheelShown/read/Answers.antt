@@ -12,7 +12,8 @@ use Rattle.gm_toys.proofs.wheel.WheelShown.read.Goals as goal
 position_read : (text : List ℕ) (read : Option ℕ) (i : ℕ) → ((k : ℕ) → (read ≡ Some k) ↔ ((k ≤ 9) × (decimal k ≡ text))) → read ≡ Some i
     → (p : Position) → (Some (at 0 i) ≡ Some p) ↔ ((wheel.is_legal p ≡ true) × (number_text p ≡ text))
 position_read text read i exact is p = (
-  λ e. (let s : at 0 i ≡ p = cc in subst (λ (q : Position). (wheel.is_legal q ≡ true) × (number_text q ≡ text)) s (let (le, same) = (exact i).0 is in (wheel_legal_from 0 i refl (omega arith), same))),
+  λ e. (let s : at 0 i ≡ p = cc in subst (λ (q : Position). (wheel.is_legal q ≡ true) × (number_text q ≡ text)) s
+      (let (le, same) = (exact i).0 is in (wheel_legal_from 0 i refl (omega arith), same))),
   λ (l, same). (let (t, le) = wheel_legal_in p l in
       let k : read ≡ Some p.index = (exact p.index).1 (omega arith, same) in
       let e : i ≡ p.index = cc in

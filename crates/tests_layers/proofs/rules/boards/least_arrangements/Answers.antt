@@ -1,5 +1,5 @@
 use Rattle.std.proofs.Common.{refl, arith}
-use Rattle.gm_board.specs.Groups.{group_from_table}
+use Rattle.gm_board.specs.laws.Groups.{group_from_table}
 use Rattle.tests_layers.proofs.rules.boards.least_arrangements.Goals as goal
 
 pub least_arrangement-requires : goal.least_arrangement-requires

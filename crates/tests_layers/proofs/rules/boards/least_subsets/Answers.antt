@@ -1,5 +1,5 @@
 use Rattle.std.proofs.Common.{refl, arith}
-use Rattle.gm_board.specs.Groups.{group_from_table}
+use Rattle.gm_board.specs.laws.Groups.{group_from_table}
 use Rattle.tests_layers.proofs.rules.boards.least_subsets.Goals as goal
 
 pub least_subset-requires : goal.least_subset-requires

@@ -1,7 +1,7 @@
 use Rattle.gm_pieces.specs.Common.{arith, board_of}
 use Rattle.gm_ways.specs.laws.WayFacts.{joined_from}
 use Rattle.gm_ways.proofs.WaySteps.{was_at}
-use Rattle.gm_ways.proofs.moves.taken_back.Goals as goal
+use Rattle.gm_ways.proofs.moves.undo.Goals as goal
 
 pub brought_back-requires : goal.brought_back-requires
 brought_back-requires g c =
