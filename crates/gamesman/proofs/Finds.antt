@@ -1,7 +1,7 @@
 -- What is found tier by tier, and the tables that it rests on.
-use Rattle.std.proofs.Common.{◌≡◌, ℕ, zero, suc, ◌≤◌, ◌+◌, ◌-◌, ◌⊎◌, inl, inr, Bool, List, [], ◌∷◌, ◌++◌, map, length, take, drop, Option, None, Some, Result}
+use Rattle.std.proofs.Common.{◌≡◌, ℕ, zero, suc, ◌+◌, ◌-◌, ◌⊎◌, inl, inr, Bool, List, [], ◌∷◌, ◌++◌, map, length, take, drop, Option, None, Some, Result}
 use Rattle.std.proofs.Common.{Ok, Err, refl, sym, ap, ap₂, subst, ◌∙◌, arith, append-nil, take-append-drop, length-append}
-use Rattle.std.specs.List.{All, Contains, flat_map}
+use Rattle.std.specs.List.{Contains, flat_map}
 use Rattle.std.specs.Io.KnownBytes.{Appends, Keeps}
 use Rattle.std.proofs.KnownBytes.{Appends-trans, Appends-kept}
 use Rattle.std.proofs.lemmas.Grind.{flat_map-append}
@@ -34,7 +34,7 @@ use Rattle.gamesman.specs.declared.fault.Fault.TheVariants.{OutOfMemory, NotBuil
 use Rattle.gamesman.specs.Games.{GameSpec}
 use Rattle.gamesman.specs.Outputs.{IsOutputFault, IsCutOff}
 use Rattle.gamesman.specs.Told.{IsMemoryFault}
-use Rattle.gamesman.specs.Finds.{board_row, IsTextOf, IsFoundIn, IsFoundAt, AreTiersFor, IsFoundOf, IsFoundSoFar, IsLeft, IsToldByTier, IsTierTold, first_limit}
+use Rattle.gamesman.specs.Finds.{board_row, IsTextOf, IsFoundAt, AreTiersFor, IsFoundSoFar, IsLeft, IsToldByTier, IsTierTold}
 use Rattle.gamesman.specs.Finds.{limit_by_tier, AreFoundWith}
 
 -- ---- the tables

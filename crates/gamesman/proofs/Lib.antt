@@ -6,3 +6,4 @@ pub mod Telling
 pub mod Checks
 pub mod Analyses
 pub mod Finds
+pub mod Filtering

@@ -1,14 +1,9 @@
 -- What is left of an answer about all of a game after a fault, and the tables that it rests on.
-use Rattle.std.proofs.Common.{◌≡◌, ℕ, suc, true, false, nat_eq, inl, inr, List, Option, None, Some, Result, Ok, Err, IfErr, refl, sym, subst, ◌∙◌, eqb-true}
+use Rattle.std.proofs.Common.{◌≡◌, ℕ, true, false, nat_eq, inl, inr, List, Option, None, Some, Result, Ok, Err, refl, sym, subst, ◌∙◌, eqb-true}
 use Rattle.std.proofs.Common.{eq-eqb}
-use Rattle.std.specs.Prelude.{IsErrOf}
-use Rattle.std.specs.Result.{IsErrAnd}
 use Rattle.std.specs.List.{Contains, list_any}
 use Rattle.gm_game.proofs.Lists.{any_in, any_from}
 use Rattle.gm_game.specs.Rules.{Rules}
-use Rattle.gm_table.specs.Tables.{TableData}
-use Rattle.gm_tiers.specs.Orders.{IsOrderFrom}
-use Rattle.gm_build.specs.Work.{HoldsExactly}
 use Rattle.gm_command.specs.declared.requests.PositionSearch.{PositionSearch}
 use Rattle.gm_command.specs.declared.requests.TableRequest.{TableRequest}
 use Rattle.gm_command.specs.declared.requests.TableRequest.TheVariants.{Find, Counts, Longest, Ask}
@@ -162,9 +157,9 @@ find_unsearched (Some limit) g asked o fault is =
 find_unsearched None g asked o fault is = unsearched_told (IsFoundOf g asked) o g.rules asked.tier fault is
 
 -- a question about all tables of a game is answered where no table is had
-pub unsearched : (g : GameSpec) (asked : TableRequest) (o : Option (List ℕ)) (fault : Fault) → IsUnsearched g.rules (tier_asked asked) fault → IsSearched g
-    asked o o (Err fault)
-unsearched g (Find positions) o fault is = find_unsearched (limit_by_tier positions.form positions.choice) g positions o fault is
-unsearched g (Counts asked) o fault is = unsearched_told (IsCountsOf g.rules asked) o g.rules None fault is
-unsearched g (Longest reached limit) o fault is = unsearched_told (IsLongestOf g.rules g.shown g.move_shown reached limit) o g.rules None fault is
-unsearched g (Ask asked) o fault is = tt
+pub unsearched : (g : GameSpec) (asked : TableRequest) (input o : Option (List ℕ)) (fault : Fault) → IsUnsearched g.rules (tier_asked asked) fault →
+    IsSearched g asked input o o (Err fault)
+unsearched g (Find positions) input o fault is = find_unsearched (limit_by_tier positions.form positions.choice) g positions o fault is
+unsearched g (Counts asked) input o fault is = unsearched_told (IsCountsOf g.rules asked) o g.rules None fault is
+unsearched g (Longest reached limit) input o fault is = unsearched_told (IsLongestOf g.rules g.shown g.move_shown reached limit) o g.rules None fault is
+unsearched g (Ask asked) input o fault is = inl (is, kept o)

@@ -1,13 +1,12 @@
 -- What each command answers.
-use Rattle.std.specs.Prelude.{◌≡◌, ℕ, max, Bool, true, false, List, Option, None, Some, Result, Ok, Err, IfErr}
+use Rattle.std.specs.Prelude.{◌≡◌, ℕ, max, true, false, List, Option, None, Some, Result, Ok, Err, IfErr}
 use Rattle.std.specs.Io.KnownBytes.{Keeps}
 use Rattle.gm_game.specs.declared.position.Position.{Position}
 use Rattle.gm_game.specs.Rules.{Rules}
-use Rattle.gm_play.specs.PlayTexts.{IsNoPosition, IsAnswerText, AreMoveRows, IsLineText}
+use Rattle.gm_play.specs.PlayTexts.{IsNoPosition, IsLineText}
 use Rattle.gm_play.specs.PlaceTexts.{IsPlaceText}
 use Rattle.gm_play.specs.Why.{IsWhyText}
 use Rattle.gm_best.specs.Places.{IsUnlocated}
-use Rattle.gm_json.specs.Moves.{IsMovesJson}
 use Rattle.gm_json.specs.Lines.{IsLineJson}
 use Rattle.gm_draw.specs.ShowTexts.{IsShowText}
 use Rattle.gm_draw.specs.Diagrams.{IsDiagram}
@@ -18,12 +17,14 @@ use Rattle.gm_command.specs.declared.requests.PositionRequest.{PositionRequest}
 use Rattle.gm_command.specs.declared.requests.Request.{Request}
 use Rattle.gm_command.specs.declared.requests.Request.TheVariants.{List as Names, Of}
 use Rattle.gm_command.specs.declared.requests.GameRequest.{GameRequest}
-use Rattle.gm_command.specs.declared.requests.GameRequest.TheVariants.{Solve, Query, Explore, Locate, At, Search, Analyse, Check}
+use Rattle.gm_command.specs.declared.requests.GameRequest.TheVariants.{Solve, Query, Filter, Explore, Locate, At, Search, Analyse, Check}
 use Rattle.gamesman.specs.declared.fault.Fault.{Fault}
 use Rattle.gamesman.specs.declared.fault.Fault.TheVariants.{NoSuchGame, NoSuchPosition, OutOfMemory, OutputFailed, OutputClosed}
 use Rattle.gamesman.specs.Games.{GameSpec, game_named}
-use Rattle.gamesman.specs.Outputs.{IsWritten, IsLine}
+use Rattle.gamesman.specs.Outputs.{IsWritten}
+use Rattle.gamesman.specs.Texts.{IsQueryLine, IsMovesText}
 use Rattle.gamesman.specs.Refusals.{IsRefused}
+use Rattle.gamesman.specs.Filters.{IsFiltered}
 use Rattle.gamesman.specs.Searches.{IsPlaced, IsSearched}
 use Rattle.gamesman.specs.Solving.{IsSolvedBy}
 use Rattle.gamesman.specs.Checking.{IsCheckedBy}
@@ -37,15 +38,6 @@ module _ (r : Rules) (shown : Position → List ℕ) (move_shown : Position → 
     pub written : IsWritten IsText before after result
     pub refused : IfErr result (IsRefused r shown move_shown position)
     pub unread : IsNoPosition r shown move_shown position → result ≡ Err NoSuchPosition
-
-  -- the line that `query` writes: the text of the true value of the position with this text
-  abbrev pub IsQueryLine : List ℕ → Type 0
-  IsQueryLine = IsLine (IsAnswerText r shown move_shown position)
-
-  -- its moves: as a line of JSON, or as rows
-  abbrev pub IsMovesText : Bool → Bool → List ℕ → Type 0
-  IsMovesText distinct true = IsLine (IsMovesJson r shown move_shown distinct position)
-  IsMovesText distinct false = AreMoveRows r shown move_shown distinct position
 
 -- what is written of the position with this text
 abbrev pub IsTextFor : GameSpec → Question → List ℕ → List ℕ → Type 0
@@ -80,29 +72,30 @@ pub record IsLocatedBy (r : Rules) (shown : Position → List ℕ) (text : List 
   pub refused : IfErr result (IsUnlocatedFor r shown text)
   pub unread : IsUnlocated r shown text → result ≡ Err NoSuchPosition
 
--- what is asked of a game is answered
-abbrev pub IsAnswered : GameSpec → GameRequest → Option (List ℕ) → Option (List ℕ) → Result ℕ Fault → Type 0
-IsAnswered g (Query position kept) before after result =
+-- what is asked of a game is answered, from the bytes that are left to read to those that are written
+abbrev pub IsAnswered : GameSpec → GameRequest → Option (List ℕ) → Option (List ℕ) → Option (List ℕ) → Result ℕ Fault → Type 0
+IsAnswered g (Query position kept) input before after result =
     IsAnsweredBy g.rules g.shown g.move_shown position.now (IsQueryLine g.rules g.shown g.move_shown position.now) before after result
-IsAnswered g (Explore asked kept) before after result = IsExplored g asked before after result
-IsAnswered g (Locate position) before after result = IsLocatedBy g.rules g.shown position.now before after result
-IsAnswered g (Solve asked) before after result = IsSolvedBy g.rules before after result
-IsAnswered g (At tier index kept) before after result = IsPlaced g.rules g.shown tier index before after result
-IsAnswered g (Search asked kept) before after result = IsSearched g asked before after result
-IsAnswered g (Analyse kept) before after result = IsAnalysedBy g.rules before after result
-IsAnswered g (Check folder) before after result = IsCheckedBy g.rules before after result
-IsAnswered g _ before after result = Unit {0}
+IsAnswered g (Filter asked kept) input before after result = IsFiltered g.rules g.shown g.move_shown asked input before after result
+IsAnswered g (Explore asked kept) input before after result = IsExplored g asked before after result
+IsAnswered g (Locate position) input before after result = IsLocatedBy g.rules g.shown position.now before after result
+IsAnswered g (Solve asked) input before after result = IsSolvedBy g.rules before after result
+IsAnswered g (At tier index kept) input before after result = IsPlaced g.rules g.shown tier index before after result
+IsAnswered g (Search asked kept) input before after result = IsSearched g asked input before after result
+IsAnswered g (Analyse kept) input before after result = IsAnalysedBy g.rules before after result
+IsAnswered g (Check folder) input before after result = IsCheckedBy g.rules before after result
+IsAnswered g _ input before after result = Unit {0}
 
 -- what is asked of the game of a name is answered; where no game has the name, that is the fault
-abbrev pub IsAnsweredFor : Option GameSpec → GameRequest → Option (List ℕ) → Option (List ℕ) → Result ℕ Fault → Type 0
-IsAnsweredFor None asked before after result = (result ≡ Err NoSuchGame) × Keeps before after
-IsAnsweredFor (Some g) asked before after result = IsAnswered g asked before after result
+abbrev pub IsAnsweredFor : Option GameSpec → GameRequest → Option (List ℕ) → Option (List ℕ) → Option (List ℕ) → Result ℕ Fault → Type 0
+IsAnsweredFor None asked input before after result = (result ≡ Err NoSuchGame) × Keeps before after
+IsAnsweredFor (Some g) asked input before after result = IsAnswered g asked input before after result
 
 -- what a line asks for is answered
-abbrev pub IsDone : Request → Option (List ℕ) → Option (List ℕ) → Result ℕ Fault → Type 0
-IsDone (Names all) before after result = IsPut (listed all) before after result
-IsDone (Of game asked telling) before after result = IsAnsweredFor (game_named game.now) asked before after result
-IsDone _ before after result = Unit {0}
+abbrev pub IsDone : Request → Option (List ℕ) → Option (List ℕ) → Option (List ℕ) → Result ℕ Fault → Type 0
+IsDone (Names all) input before after result = IsPut (listed all) before after result
+IsDone (Of game asked telling) input before after result = IsAnsweredFor (game_named game.now) asked input before after result
+IsDone _ input before after result = Unit {0}
 
 -- the status that a line ends with: 1 after a fault
 abbrev pub status_of : Result ℕ Fault → ℕ
@@ -110,5 +103,5 @@ status_of (Ok status) = status
 status_of (Err fault) = 1
 
 -- what a line asks for is answered, and the status tells of what
-abbrev pub IsRun : Request → Option (List ℕ) → Option (List ℕ) → ℕ → Type 0
-IsRun asked before after status = (result : Result ℕ Fault) × IsDone asked before after result × (status ≡ status_of result)
+abbrev pub IsRun : Request → Option (List ℕ) → Option (List ℕ) → Option (List ℕ) → ℕ → Type 0
+IsRun asked input before after status = (result : Result ℕ Fault) × IsDone asked input before after result × (status ≡ status_of result)

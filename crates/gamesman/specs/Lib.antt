@@ -2,6 +2,9 @@ pub mod Shelves
 pub mod Games
 pub mod Outputs
 pub mod Refusals
+pub mod Texts
+pub mod Filters
+pub mod Asks
 pub mod Told
 pub mod Finds
 pub mod Searches

@@ -16,6 +16,7 @@ use Rattle.gamesman.specs.Games.{GameSpec}
 use Rattle.gamesman.specs.Finds.{AreFoundBy}
 use Rattle.gamesman.specs.Refusals.{IsUnbuilt}
 use Rattle.gamesman.specs.Told.{IsNoPlace, IsUnknown, IsTold}
+use Rattle.gamesman.specs.Asks.{IsAskedBy}
 
 -- what stands at this index of a tier of the game: a canonical position, with its true value
 abbrev pub IsAtText : Rules → (Position → List ℕ) → ℕ → ℕ → List ℕ → Type 0
@@ -59,9 +60,9 @@ abbrev pub IsUnsearched : Rules → Option ℕ → Fault → Type 0
 IsUnsearched r tier fault = IsUnnamed r tier fault ⊎ IsUnbuilt r (first_of r tier) fault
 
 -- a question about all tables of a game is answered
-abbrev pub IsSearched : GameSpec → TableRequest → Option (List ℕ) → Option (List ℕ) → Result ℕ Fault → Type 0
-IsSearched g (Counts asked) before after result = IsTold (IsCountsOf g.rules asked) (IsUnsearched g.rules None) before after result
-IsSearched g (Longest reached limit) before after result = IsTold (IsLongestOf g.rules g.shown g.move_shown reached limit) (IsUnsearched g.rules None)
+abbrev pub IsSearched : GameSpec → TableRequest → Option (List ℕ) → Option (List ℕ) → Option (List ℕ) → Result ℕ Fault → Type 0
+IsSearched g (Counts asked) input before after result = IsTold (IsCountsOf g.rules asked) (IsUnsearched g.rules None) before after result
+IsSearched g (Longest reached limit) input before after result = IsTold (IsLongestOf g.rules g.shown g.move_shown reached limit) (IsUnsearched g.rules None)
     before after result
-IsSearched g (Find positions) before after result = AreFoundBy g positions (IsUnsearched g.rules positions.tier) before after result
-IsSearched g (Ask asked) before after result = Unit {0}
+IsSearched g (Find positions) input before after result = AreFoundBy g positions (IsUnsearched g.rules positions.tier) before after result
+IsSearched g (Ask asked) input before after result = IsAskedBy g.rules g.shown g.move_shown asked (IsUnsearched g.rules None) input before after result

@@ -7,7 +7,7 @@ use Rattle.gm_best.specs.Places.{IsRefusedAt}
 use Rattle.gm_best.specs.declared.place.PlaceError.TheVariants.{NoSuchTier as NoTier, NoSuchIndex as NoIndex, NotLegal as Illegal, NotCanonical as Uncanonical}
 use Rattle.gm_play.specs.Sessions.{AppendsPart}
 use Rattle.gamesman.specs.declared.fault.Fault.{Fault}
-use Rattle.gamesman.specs.declared.fault.Fault.TheVariants.{NoSuchPosition, NoSuchTier, NoSuchIndex, NotLegal, NotCanonical, OutOfMemory}
+use Rattle.gamesman.specs.declared.fault.Fault.TheVariants.{NoSuchTier, NoSuchIndex, NotLegal, NotCanonical, OutOfMemory}
 use Rattle.gamesman.specs.Outputs.{IsOutputFault, IsWritten}
 use Rattle.gamesman.specs.Refusals.{IsUnbuilt}
 

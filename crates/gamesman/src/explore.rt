@@ -4,7 +4,8 @@ ghost use Rattle.gm_play.specs.PlayTexts.{IsReadAs, IsNoPosition};
 ghost use Rattle.gm_json.specs.Moves.{IsMovesJson};
 ghost use Rattle.gamesman.specs.Games.{game_spec};
 ghost use Rattle.gamesman.specs.Outputs.{IsLine};
-ghost use Rattle.gamesman.specs.Answers.{IsAnsweredBy, IsExplored, IsMovesText, IsTextFor};
+ghost use Rattle.gamesman.specs.Texts.{IsMovesText};
+ghost use Rattle.gamesman.specs.Answers.{IsAnsweredBy, IsExplored, IsTextFor};
 
 use crate::fault::Fault;
 pub use crate::output::put;
@@ -121,8 +122,8 @@ fn text_for<G: Pictured>(
     }
 }
 
-// The moves, as a line of JSON or as rows.
-fn moves_for<G: Shown>(
+/// The moves of a position, as a line of JSON or as rows.
+pub fn moves_for<G: Shown>(
     alloc: Global,
     known: &Known<'_, G>,
     distinct: bool,
@@ -137,8 +138,8 @@ fn moves_for<G: Shown>(
     }
 }
 
-/// The moves as a line of JSON.
-pub fn moves_line<G: Shown>(
+// The moves as a line of JSON.
+fn moves_line<G: Shown>(
     alloc: Global,
     known: &Known<'_, G>,
     distinct: bool,

@@ -83,6 +83,10 @@ impl From<SessionError> for Fault {
 
 // Each tier of a game of the program is held, and so are its child tiers.
 impl From<AskError> for Fault {
+    ghost use Rattle.gamesman.specs.Asks.{IsFaultOf};
+
+    ghost from_gives = { λ error fault. IsFaultOf error fault };
+
     fn from(error: AskError) -> Fault {
         match error {
             AskError::OutOfMemory => Fault::OutOfMemory(AllocError),

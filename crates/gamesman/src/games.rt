@@ -68,7 +68,7 @@ fn answer<
     E: Write + Send,
 >(rt: &R, asked: GameRequest<'_>, streams: Streams<'_, I, O, E>) -> Result<u8, Fault>
     ensures answered { IsAnswered (game_spec G.Game.rules G.shown G.move_shown G.drawn G.mover G.naming G.style G.title G.board G.points)
-        asked.entry (O.contents streams.entry.output.now) (O.contents streams.exit.1.0.now) result }
+        asked.entry (I.remaining streams.entry.input.now) (O.contents streams.entry.output.now) (O.contents streams.exit.1.0.now) result }
     ensures naming { asked.entry ≡ GameRequest.Naming → streams.exit.1.0.now ≡ streams.entry.output.now }
 {
     let Streams {
@@ -115,7 +115,8 @@ fn answer_misere<
     O: Write,
     E: Write + Send,
 >(rt: &R, game: &str, asked: GameRequest<'_>, streams: Streams<'_, I, O, E>) -> Result<u8, Fault>
-    ensures answered { IsAnsweredFor (misere_named game.now) asked.entry (O.contents streams.entry.output.now) (O.contents streams.exit.1.0.now) result }
+    ensures answered { IsAnsweredFor (misere_named game.now) asked.entry (I.remaining streams.entry.input.now) (O.contents streams.entry.output.now)
+        (O.contents streams.exit.1.0.now) result }
     ensures naming { asked.entry ≡ GameRequest.Naming → streams.exit.1.0.now ≡ streams.entry.output.now }
 {
     match game {
@@ -135,7 +136,8 @@ fn answer_tactix<
     O: Write,
     E: Write + Send,
 >(rt: &R, game: &str, asked: GameRequest<'_>, streams: Streams<'_, I, O, E>) -> Result<u8, Fault>
-    ensures answered { IsAnsweredFor (tactix_named game.now) asked.entry (O.contents streams.entry.output.now) (O.contents streams.exit.1.0.now) result }
+    ensures answered { IsAnsweredFor (tactix_named game.now) asked.entry (I.remaining streams.entry.input.now) (O.contents streams.entry.output.now)
+        (O.contents streams.exit.1.0.now) result }
     ensures naming { asked.entry ≡ GameRequest.Naming → streams.exit.1.0.now ≡ streams.entry.output.now }
 {
     match game {
@@ -155,7 +157,8 @@ fn answer_moving<
     O: Write,
     E: Write + Send,
 >(rt: &R, game: &str, asked: GameRequest<'_>, streams: Streams<'_, I, O, E>) -> Result<u8, Fault>
-    ensures answered { IsAnsweredFor (moving_named game.now) asked.entry (O.contents streams.entry.output.now) (O.contents streams.exit.1.0.now) result }
+    ensures answered { IsAnsweredFor (moving_named game.now) asked.entry (I.remaining streams.entry.input.now) (O.contents streams.entry.output.now)
+        (O.contents streams.exit.1.0.now) result }
     ensures naming { asked.entry ≡ GameRequest.Naming → streams.exit.1.0.now ≡ streams.entry.output.now }
 {
     match game {
@@ -175,7 +178,8 @@ fn answer_lines<
     O: Write,
     E: Write + Send,
 >(rt: &R, game: &str, asked: GameRequest<'_>, streams: Streams<'_, I, O, E>) -> Result<u8, Fault>
-    ensures answered { IsAnsweredFor (lines_named game.now) asked.entry (O.contents streams.entry.output.now) (O.contents streams.exit.1.0.now) result }
+    ensures answered { IsAnsweredFor (lines_named game.now) asked.entry (I.remaining streams.entry.input.now) (O.contents streams.entry.output.now)
+        (O.contents streams.exit.1.0.now) result }
     ensures naming { asked.entry ≡ GameRequest.Naming → streams.exit.1.0.now ≡ streams.entry.output.now }
 {
     match game {
@@ -193,7 +197,8 @@ pub fn answer_for<
     O: Write,
     E: Write + Send,
 >(rt: &R, game: &str, asked: GameRequest<'_>, streams: Streams<'_, I, O, E>) -> Result<u8, Fault>
-    ensures answered { IsAnsweredFor (game_named game.now) asked.entry (O.contents streams.entry.output.now) (O.contents streams.exit.1.0.now) result }
+    ensures answered { IsAnsweredFor (game_named game.now) asked.entry (I.remaining streams.entry.input.now) (O.contents streams.entry.output.now)
+        (O.contents streams.exit.1.0.now) result }
     ensures naming { asked.entry ≡ GameRequest.Naming → streams.exit.1.0.now ≡ streams.entry.output.now }
 {
     match game {

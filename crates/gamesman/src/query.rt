@@ -1,5 +1,6 @@
 //! The value of one position.
-ghost use Rattle.gamesman.specs.Answers.{IsAnsweredBy, IsQueryLine};
+ghost use Rattle.gamesman.specs.Texts.{IsQueryLine};
+ghost use Rattle.gamesman.specs.Answers.{IsAnsweredBy};
 
 use crate::fault::Fault;
 use crate::output::put_line;

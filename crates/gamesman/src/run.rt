@@ -64,7 +64,7 @@ fn answer<
     O: Write,
     E: Write + Send,
 >(rt: &R, asked: Request<'_>, streams: Streams<'_, I, O, E>) -> Result<u8, Fault>
-    ensures { IsDone asked.entry (O.contents streams.entry.output.now) (O.contents streams.exit.1.0.now) result }
+    ensures { IsDone asked.entry (I.remaining streams.entry.input.now) (O.contents streams.entry.output.now) (O.contents streams.exit.1.0.now) result }
 {
     match asked {
         Request::List { all } => list(all, streams.output),
@@ -115,7 +115,7 @@ pub fn run_asked<
     O: Write,
     E: Write + Send,
 >(rt: &R, asked: Request<'_>, terminal: bool, input: &mut I, output: &mut O, errors: &mut E) -> u8
-    ensures { IsRun asked.entry (O.contents output.old) (O.contents output.new) result }
+    ensures { IsRun asked.entry (I.remaining input.old) (O.contents output.old) (O.contents output.new) result }
 {
     let streams = Streams {
         input: &mut *input,

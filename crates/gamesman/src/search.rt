@@ -1,12 +1,16 @@
 //! Searches over all tables of a game, and the service that answers positions.
-ghost use Rattle.std.specs.Prelude.{◌≡◌, None, IfOk, OnOk, IfErr, is_some};
+ghost use Rattle.std.specs.Prelude.{◌≡◌, None, IfOk, OnOk, OnErr, IfErr, is_some};
+ghost use Rattle.std.specs.Io.KnownBytes.{Appends};
 ghost use Rattle.gm_tiers.specs.Orders.{IsTierOrder, IsOrderFrom};
 ghost use Rattle.gm_tiers.specs.Reach.{IsReached};
 ghost use Rattle.gm_build.specs.Work.{HoldsExactly};
+ghost use Rattle.gm_play.specs.Sessions.{AppendsPart};
 ghost use Rattle.gm_analyse.specs.Bars.{IsCountsText};
 ghost use Rattle.gm_analyse.specs.Longest.{IsLongestText};
 ghost use Rattle.gamesman.specs.Games.{game_spec};
+ghost use Rattle.gamesman.specs.Outputs.{IsOutputFault};
 ghost use Rattle.gamesman.specs.Told.{IsMemoryFault, IsUnknown, IsTold};
+ghost use Rattle.gamesman.specs.Asks.{ready_text, IsAskedBy};
 ghost use Rattle.gamesman.specs.Searches.{tier_asked, first_of, IsUnnamed, IsUnsearched, IsCountsOf, IsLongestOf, IsSearched};
 
 use crate::fault::Fault;
@@ -47,7 +51,7 @@ pub fn search<
     output: &mut O,
 ) -> Result<u8, Fault>
     ensures { IsSearched (game_spec G.Game.rules G.shown G.move_shown G.drawn G.mover G.naming G.style G.title G.board G.points)
-        asked (O.contents output.old) (O.contents output.new) result }
+        asked (I.remaining input.old) (O.contents output.old) (O.contents output.new) result }
 {
     let alloc = rt.alloc();
     let first = first_tier::<G>(alloc, asked)?;
@@ -67,7 +71,7 @@ fn answer<G: Pictured, I: Read, O: Write>(
     requires order { IsOrderFrom G.Game.rules (first_of G.Game.rules (tier_asked asked)) built.now.order }
     requires held { HoldsExactly built.now.tables built.now.order }
     ensures { IsSearched (game_spec G.Game.rules G.shown G.move_shown G.drawn G.mover G.naming G.style G.title G.board G.points)
-        asked (O.contents output.old) (O.contents output.new) result }
+        asked (I.remaining input.old) (O.contents output.old) (O.contents output.new) result }
 {
     match asked {
         TableRequest::Find(positions) => write_found(alloc, built, positions, output),
@@ -89,16 +93,28 @@ fn serve<G: Shown, I: Read, O: Write>(
 ) -> Result<u8, Fault>
     requires order { IsTierOrder G.Game.rules built.now.order }
     requires held { HoldsExactly built.now.tables built.now.order }
+    ensures { IsAskedBy G.Game.rules G.shown G.move_shown asked (IsUnsearched G.Game.rules None)
+        (I.remaining input.old) (O.contents output.old) (O.contents output.new) result }
 {
-    if asked.ready {
-        put(output, READY)?;
-    }
+    write_ready(asked.ready, output)?;
     let tables = Closed {
         tables: &built.tables,
     };
     let tiers = built.order.tiers();
     ask(alloc, &tables, tiers, asked.asked, input, output)?;
     Ok(DONE)
+}
+
+// Tells that the tables are there, where that is asked for.
+fn write_ready<O: Write>(asked: bool, output: &mut O) -> Result<(), Fault>
+    ensures ok { OnOk result (Appends (O.contents output.old) (O.contents output.new) (ready_text asked)) }
+    ensures err { OnErr result (AppendsPart (O.contents output.old) (O.contents output.new) (ready_text asked)) }
+    ensures fault { IfErr result IsOutputFault }
+{
+    if asked {
+        put(output, READY)?;
+    }
+    Ok(())
 }
 
 // The one tier that is asked about; `None` where all are.

@@ -2,7 +2,7 @@ use Rattle.std.proofs.Common.{None, inr, sym, subst}
 use Rattle.std.proofs.lemmas.Result.{err_from_is_err_and}
 use Rattle.gamesman.specs.Analysing.{IsAnalysisText, AreAnalysisLines}
 use Rattle.gamesman.specs.Searches.{IsUnsearched}
-use Rattle.gamesman.proofs.Telling.{memory_told, memory_unbuilt, unbuilt_told, put_told}
+use Rattle.gamesman.proofs.Telling.{unbuilt_told, put_told}
 use Rattle.gamesman.proofs.analyse.analyse.Goals as goal
 
 pub returns-in_err-built : goal.returns-in_err-built

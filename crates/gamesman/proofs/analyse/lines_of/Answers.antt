@@ -1,4 +1,4 @@
-use Rattle.std.proofs.Common.{ℕ, List, get_or, sym, subst, ◌∙◌, take, arith}
+use Rattle.std.proofs.Common.{ℕ, List, get_or, subst, ◌∙◌}
 use Rattle.std.specs.List.{Contains}
 use Rattle.std.proofs.lemmas.List.{take_all}
 use Rattle.std.proofs.lemmas.List.Elements.{Contains-get_or}

@@ -5,7 +5,7 @@ pub returns-clause-answered : goal.returns-clause-answered
 returns-clause-answered g c = elim c.match-asked.branch [
   | in-Solve w ↦ rw (w.in-Solve.is, w.output-is, w.result-is) w.solve.ensures
   | in-Query w ↦ rw (w.in-Query.is, w.output-is, w.result-is) w.query.ensures
-  | in-Filter w ↦ rw w.in-Filter.is tt
+  | in-Filter w ↦ rw (w.in-Filter.is, w.output-is, w.result-is) w.filter.ensures
   | in-At w ↦ rw (w.in-At.is, w.output-is, w.result-is) w.at_place.ensures
   | in-Locate w ↦ rw (w.in-Locate.is, w.output-is, w.result-is) w.locate.ensures
   | in-Explore w ↦ rw (w.in-Explore.is, w.output-is, w.result-is) w.explore.ensures

@@ -1,6 +1,7 @@
 use Rattle.std.proofs.Common.{List, ℕ, subst, ◌∙◌}
 use Rattle.std.proofs.lemmas.Result.{err_from_is_err_and}
-use Rattle.gamesman.specs.Answers.{IsAnsweredBy, IsQueryLine}
+use Rattle.gamesman.specs.Texts.{IsQueryLine}
+use Rattle.gamesman.specs.Answers.{IsAnsweredBy}
 use Rattle.gamesman.proofs.Cut.{unbuilt_answer}
 use Rattle.gamesman.proofs.Reached.{reached_held}
 use Rattle.gamesman.proofs.query.query.Goals as goal

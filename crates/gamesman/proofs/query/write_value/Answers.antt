@@ -2,7 +2,7 @@ use Rattle.std.proofs.Common.{◌++◌, refl, ◌∙◌}
 use Rattle.std.specs.Prelude.{codes}
 use Rattle.std.proofs.lemmas.Result.{err_from_is_err_and}
 use Rattle.gm_play.specs.PlayTexts.{IsAnswerText}
-use Rattle.gamesman.specs.Answers.{IsQueryLine}
+use Rattle.gamesman.specs.Texts.{IsQueryLine}
 use Rattle.gamesman.proofs.Cut.{unwritten_answer}
 use Rattle.gamesman.proofs.query.write_value.Goals as goal
 

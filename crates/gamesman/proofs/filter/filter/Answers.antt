@@ -1,0 +1,12 @@
+use Rattle.std.proofs.Common.{inl, inr}
+use Rattle.std.proofs.lemmas.Result.{err_from_is_err_and}
+use Rattle.gamesman.proofs.Cut.{kept}
+use Rattle.gamesman.proofs.filter.filter.Goals as goal
+
+pub returns-in_err-built : goal.returns-in_err-built
+returns-in_err-built g c =
+    let q = err_from_is_err_and c.from_residual.result c.from_residual.ensures.1 in
+    rw (q.1, q.2) (inl (c.in_err-built.ensures.unbuilt, kept _))
+
+pub returns : goal.returns
+returns g c = inr c.answer_input-answered.ensures

@@ -1,0 +1,114 @@
+-- What is answered to positions that are read, a line each.
+use Rattle.std.specs.Prelude.{◌≡◌, ℕ, ◌+◌, ◌-◌, ◌^◌, min, ◌⊎◌, List, [], ◌∷◌, ◌++◌, length, take, Option, Result, Ok, Err}
+use Rattle.std.specs.Io.KnownBytes.{Appends, Consumes, Keeps, IsAtEnd}
+use Rattle.gm_game.specs.declared.position.Position.{Position}
+use Rattle.gm_game.specs.Rules.{Rules}
+use Rattle.gm_tiers.specs.Reach.{IsReached}
+use Rattle.gm_play.specs.Dialogue.{without_return}
+use Rattle.gm_play.specs.PlayTexts.{IsReadAs}
+use Rattle.gm_play.specs.Sessions.{AppendsPart}
+use Rattle.gm_json.specs.Asking.{kept_bytes, lines_of, AreEnded}
+use Rattle.gm_command.specs.declared.requests.Filter.{Filter}
+use Rattle.gm_command.specs.declared.requests.Filter.TheVariants.{Value, Moves}
+use Rattle.gamesman.specs.declared.fault.Fault.{Fault}
+use Rattle.gamesman.specs.declared.fault.Fault.TheVariants.{NoSuchPositionInLine, OutOfMemory, InputFailed, OutputFailed, OutputClosed}
+use Rattle.gamesman.specs.Refusals.{IsUnbuilt}
+use Rattle.gamesman.specs.Texts.{IsQueryLine, IsMovesText}
+
+-- the number of the last line that is counted
+abbrev pub last_number : ℕ
+last_number = 2 ^ 64 - 1
+
+module _ (IsText : List ℕ → List ℕ → Type 0) where
+  -- such texts of these lines, one after the other: of a line, of which so much is looked at, without the carriage return at its end
+  abbrev pub AreTexts : List (List ℕ) → List ℕ → Type 0
+  AreTexts [] out = out ≡ []
+  AreTexts (line ∷ lines) out = (text : List ℕ) × (rest : List ℕ) × IsText (without_return (take kept_bytes line)) text × (out ≡ text ++ rest) ×
+      AreTexts lines rest
+
+  -- these lines ended in what was read, and such a text of each was written; of the line that has begun nothing was
+  pub record AreAnswered (lines : List (List ℕ)) (begun : List ℕ) (input left before after : Option (List ℕ)) : Type 0 where
+    pub bytes : List ℕ
+    pub text : List ℕ
+    pub reads : Consumes input left bytes
+    pub parts : AreEnded bytes lines begun
+    pub answers : AreTexts lines text
+    pub writes : Appends before after text
+
+  -- this line came to its end, and such a text of each line before it was written
+  pub record AreBefore (lines : List (List ℕ)) (line : List ℕ) (input before after : Option (List ℕ)) : Type 0 where
+    pub left : Option (List ℕ)
+    pub bytes : List ℕ
+    pub text : List ℕ
+    pub reads : Consumes input left bytes
+    pub parts : lines_of bytes ≡ lines ++ line ∷ []
+    pub answers : AreTexts lines text
+    pub writes : Appends before after text
+
+  -- the input was read to its end, and such a text of each of its lines was written
+  pub record AreAllAnswered (input before after : Option (List ℕ)) : Type 0 where
+    pub left : Option (List ℕ)
+    pub bytes : List ℕ
+    pub text : List ℕ
+    pub reads : Consumes input left bytes
+    pub end : IsAtEnd left
+    pub answers : AreTexts (lines_of bytes) text
+    pub writes : Appends before after text
+
+  -- each line that came to its end was answered, and the input or the memory failed
+  abbrev pub IsStopped : Option (List ℕ) → Option (List ℕ) → Option (List ℕ) → Type 0
+  IsStopped input before after = (lines : List (List ℕ)) × (begun : List ℕ) × (left : Option (List ℕ)) × AreAnswered lines begun input left before after
+
+  -- of the text of one line a first part was written
+  abbrev pub IsCutLine : Option (List ℕ) → Option (List ℕ) → Option (List ℕ) → Type 0
+  IsCutLine input before after = (lines : List (List ℕ)) × (line : List ℕ) × (between : Option (List ℕ)) × AreBefore lines line input before between ×
+      ((out : List ℕ) × IsText (without_return (take kept_bytes line)) out × AppendsPart between after out)
+
+  module _ (IsNone : List ℕ → Type 0) where
+    -- nothing was written of the line with this number, which has no such text
+    abbrev pub IsNoLine : ℕ → Option (List ℕ) → Option (List ℕ) → Option (List ℕ) → Type 0
+    IsNoLine n input before after = (lines : List (List ℕ)) × (line : List ℕ) × AreBefore lines line input before after ×
+        IsNone (without_return (take kept_bytes line)) × (n ≡ min (1 + length lines) last_number)
+
+    -- how far it came before this fault
+    abbrev pub IsLeftOff : Option (List ℕ) → Option (List ℕ) → Option (List ℕ) → Fault → Type 0
+    IsLeftOff input before after (NoSuchPositionInLine n) = IsNoLine n input before after
+    IsLeftOff input before after (OutOfMemory error) = IsStopped input before after
+    IsLeftOff input before after InputFailed = IsStopped input before after
+    IsLeftOff input before after OutputFailed = IsCutLine input before after
+    IsLeftOff input before after OutputClosed = IsCutLine input before after
+    IsLeftOff input before after _ = ⊥
+
+    -- the same for one line with this number
+    abbrev pub IsLineFault : List ℕ → ℕ → Option (List ℕ) → Option (List ℕ) → Fault → Type 0
+    IsLineFault line number before after (NoSuchPositionInLine n) = (n ≡ number) × IsNone (without_return line) × Keeps before after
+    IsLineFault line number before after (OutOfMemory error) = Keeps before after
+    IsLineFault line number before after OutputFailed = (out : List ℕ) × IsText (without_return line) out × AppendsPart before after out
+    IsLineFault line number before after OutputClosed = (out : List ℕ) × IsText (without_return line) out × AppendsPart before after out
+    IsLineFault line number before after _ = ⊥
+
+    -- all lines of the input are answered, or those before the fault
+    abbrev pub AreLinesAnswered : Option (List ℕ) → Option (List ℕ) → Option (List ℕ) → Result ℕ Fault → Type 0
+    AreLinesAnswered input before after (Ok status) = (status ≡ 0) × AreAllAnswered input before after
+    AreLinesAnswered input before after (Err fault) = IsLeftOff input before after fault
+
+-- what is written of the position with this text: its value as a line, or its moves
+abbrev pub IsFilterText : Rules → (Position → List ℕ) → (Position → ℕ → List ℕ) → Filter → List ℕ → List ℕ → Type 0
+IsFilterText r shown move_shown Value text out = IsQueryLine r shown move_shown text out
+IsFilterText r shown move_shown (Moves distinct json) text out = IsMovesText r shown move_shown text distinct json out
+
+-- no position in a tier of the game has this text
+abbrev pub IsOfNone : Rules → (Position → List ℕ) → (Position → ℕ → List ℕ) → List ℕ → Type 0
+IsOfNone r shown move_shown text = (p : Position) → IsReadAs r shown move_shown text p → IsReached r p.tier → ⊥
+
+-- no table is built, and nothing is written
+abbrev pub IsNotBegun : Rules → Option (List ℕ) → Option (List ℕ) → Result ℕ Fault → Type 0
+IsNotBegun r before after (Ok status) = ⊥
+IsNotBegun r before after (Err fault) = IsUnbuilt r r.initial.tier fault × Keeps before after
+
+-- each position that is read is answered, up to a fault
+abbrev pub IsFiltered : Rules → (Position → List ℕ) → (Position → ℕ → List ℕ) → Filter → Option (List ℕ) → Option (List ℕ) → Option (List ℕ) → Result ℕ Fault
+    → Type 0
+IsFiltered r shown move_shown asked input before after result =
+    IsNotBegun r before after result
+    ⊎ AreLinesAnswered (IsFilterText r shown move_shown asked) (IsOfNone r shown move_shown) input before after result
