@@ -83,8 +83,8 @@ def is_unhindered(free, ran):
 class Line:
     """A line of the program, with the files that its folder (the word @) holds before and the right ones."""
 
-    def __init__(self, words, before=None, right=None, given=b""):
-        self.words, self.before, self.right, self.given = words.split(), before or {}, right or {}, given
+    def __init__(self, words, before=None, right=None, given=b"", by_threads=False):
+        self.words, self.before, self.right, self.given, self.by_threads = words.split(), before or {}, right or {}, given, by_threads
 
     def __str__(self):
         return " ".join(self.words)
@@ -120,8 +120,9 @@ class Line:
         return None
 
     def may_miss(self, kind):
-        """Whether a refusal may go unnoticed: where levels are solved by workers, one that gets no memory is done without, as one that could not be started."""
-        return kind == "malloc" and self.words[1] in BY_LEVELS
+        """Whether a refusal may go unnoticed: if levels are solved by workers, or a tier is solved or checked by threads, others do the work of one that gets no
+        memory, as of one that could not be started."""
+        return kind == "malloc" and (self.by_threads or self.words[1] in BY_LEVELS)
 
     def stopped_at(self, tier, kind, at, folder):
         """Why a fault of the store names the wrong tier, if it does: those before it are right, and it and those after it are as they were. The folder is opened and
@@ -170,6 +171,19 @@ def refuse_in_line(room, line, kind, on):
         if not ran.refused:
             return figures
         at += 1
+
+
+def refuse_in_sample(room, line, kind, runs):
+    """A sample of the calls of a kind in a line refused, spread evenly over all of them."""
+    figures = Figures(kind)
+    free, _ = line.once(room, kind=kind)
+    if free.status != 0:
+        figures.add(0, f"{line} undisturbed: {free}")
+        return figures
+    for at in range(1, free.calls + 1, max(1, free.calls // runs)):
+        ran, why = line.disturbed(room, free, kind=kind, at=at, on=False)
+        figures.add(ran.refused > 0, why)
+    return figures
 
 
 def torn_lines(room, line):
@@ -272,6 +286,24 @@ def lines_of_the_program(room):
         yield Line(f"solve {game} @", right=right_files(room, game)), ("thread",)
 
 
+# A position of Tac Tix on 5 by 5 with six counters: threads solve the largest tier that it reaches, and check its file.
+SIX_COUNTERS = "xxxxxx" + "." * 19
+
+# How many of the allocations of a large solve are refused, one in each run.
+SAMPLE = 40
+
+
+def sampled_lines(room):
+    """Lines whose levels workers solve, or whose tiers threads solve and check."""
+    words = f"query tactix-5 {SIX_COUNTERS} --folder @"
+    folder = room.fresh()
+    room.run([GAMESMAN, *(folder if word == "@" else word for word in words.split())])
+    files = files_of(folder)
+    yield Line("solve dao @", right=right_files(room, "dao"), by_threads=True)
+    yield Line(words, right=files, by_threads=True)
+    yield Line(words, before=files, right=files, by_threads=True)
+
+
 def program(room, options):
     """Each allocation, thread, read, write, output and call about files of lines of every command."""
     lines = list(lines_of_the_program(room))
@@ -283,7 +315,8 @@ def program(room, options):
     ]
     figures = Figures("program")
     done = [torn_lines(room, line) for line, _ in lines]
-    for each in done + room.in_lanes(lambda it: refuse_in_line(room, *it), work):
+    sampled = room.in_lanes(lambda line: refuse_in_sample(room, line, "malloc", SAMPLE), list(sampled_lines(room)))
+    for each in done + sampled + room.in_lanes(lambda it: refuse_in_line(room, *it), work):
         figures.runs += each.runs
         figures.refused += each.refused
         figures.wrong += each.wrong

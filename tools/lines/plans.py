@@ -1,20 +1,24 @@
-"""Whole games by the program's own plan and by workers under nine plans: the same files, byte for byte, and the same deliveries."""
+"""Whole games tier by tier, by one thread and by workers under nine plans (`drill plans`), beside the files of the program's own plan."""
 import json
 import os
 import re
 import subprocess
 
 from common import DRILL, GAMESMAN
+from large import found_digests, right_digests
 from lines import same
 
 SECONDS = 120
 
-WORKERS = (1, 2, 16)
-SHARDS = (1, 2, 4)
+# More than the tiers of any game.
+ALL = "2000"
+
+TACTIX = [f"tactix-{rows}{end}" for end in ("", "-misere") for rows in (1, 2, 3, 4)]
 
 
-def deliveries_of(folder, *words):
-    """The deliveries of a game that a line solves into an empty folder, none of them by hand."""
+def solved(game, folder, *options):
+    """The deliveries of a game that the program solves into an empty folder, none of them by hand."""
+    words = [GAMESMAN, "solve", game, folder, *options]
     ran = subprocess.run(words, capture_output=True, text=True, timeout=SECONDS, check=False)
     found = re.fullmatch(r"solved (\d+) reused 0 migrated 0 deliveries (\d+) by hand 0\n", ran.stdout)
     if ran.returncode or not found or int(found[1]) != len(os.listdir(folder)):
@@ -22,29 +26,39 @@ def deliveries_of(folder, *words):
     return int(found[2])
 
 
-def solved(game, folder, *words):
-    return deliveries_of(folder, GAMESMAN, "solve", game, folder, *words)
+def tiers_by_plans(game, count=ALL):
+    """For each of a game's first tiers its deliveries and the digest that ends its file, on which one thread and all plans agree."""
+    ran = subprocess.run([DRILL, "plans", game, count], capture_output=True, text=True, timeout=SECONDS, check=False)
+    if ran.returncode:
+        raise ValueError(f"{game}: status {ran.returncode}: {ran.stdout[-200:]}{ran.stderr}")
+    lines = re.findall(r"tier (\d+): (\d+) deliveries, 0 by hand, digest ([0-9a-f]{64})\n", ran.stdout)
+    return {int(tier): (int(deliveries), digest) for tier, deliveries, digest in lines}
+
+
+def ends_of(folder):
+    """For each file of a folder, by its tier, the digest that ends it."""
+    ends = {}
+    for name in os.listdir(folder):
+        with open(os.path.join(folder, name), "rb") as file:
+            ends[int(name.removeprefix("tier-").removesuffix(".gmt"))] = file.read()[-32:].hex()
+    return ends
 
 
 def under_nine_plans(room, games):
-    """Why a game's files or deliveries depend on who solves it, if they do: the program's own plan, or workers in every tier."""
+    """Why a game's tables or deliveries depend on who solves it, if they do: the program's own plan, one thread, or workers in every tier."""
     for game in games:
-        right = room.fresh()
-        deliveries = solved(game, right)
-        for workers in WORKERS:
-            for shards in SHARDS:
-                folder = room.fresh()
-                plan = [str(workers), str(shards), "64"]
-                if deliveries_of(folder, DRILL, "workers", game, folder, *plan) != deliveries:
-                    return f"{game} {plan}: other deliveries"
-                why = same(right, folder)
-                if why:
-                    return f"{game} {plan}: {why}"
+        folder = room.fresh()
+        deliveries = solved(game, folder)
+        tiers = tiers_by_plans(game)
+        if sum(number for number, _ in tiers.values()) != deliveries:
+            return f"{game}: other deliveries"
+        if {tier: digest for tier, (_, digest) in tiers.items()} != ends_of(folder):
+            return f"{game}: other files"
     return None
 
 
 def by_each_number_of_threads(room):
-    """The program's own plan by one thread and by sixteen, over games whose tiers are settled, solved by one walker, or both."""
+    """The program's own plan by one thread and by sixteen, over games whose tiers are settled, solved level by level, or both."""
     for game in ("countdown", "wheel", "tactix-1", "tactix-4-misere", "threemens", "mutorere", "hare"):
         right = room.fresh()
         deliveries = solved(game, right)
@@ -58,16 +72,31 @@ def by_each_number_of_threads(room):
     return None
 
 
-def wheel_under_nine_plans(room):
-    return under_nine_plans(room, ["wheel"])
+def toys_of_the_program_under_nine_plans(room):
+    return under_nine_plans(room, ("countdown", "wheel"))
 
 
 def tactix_under_nine_plans(room):
-    return under_nine_plans(room, ("tactix-3-misere", "tactix-4"))
+    return under_nine_plans(room, TACTIX)
 
 
 def nine_point_games_under_nine_plans(room):
     return under_nine_plans(room, ("tictactoe", "threemens", "achi"))
+
+
+def ring_and_star_under_nine_plans(room):
+    return under_nine_plans(room, ("ponghauki", "shisima"))
+
+
+def low_tiers_of_five_under_nine_plans(room):
+    """The tiers 0 to 5 of Tac Tix on 5 by 5, in this order, which a row of five reaches; their files are those that independent solvers made."""
+    folder = room.fresh()
+    subprocess.run([GAMESMAN, "query", "tactix-5", "xxxxx" + 20 * ".", "--folder", folder], stdout=subprocess.DEVNULL, timeout=SECONDS, check=True)
+    right = {name: digest for name, digest in right_digests().items() if int(name.removeprefix("tier-")) <= 5}
+    if found_digests(folder) != right:
+        return "the folder has other files"
+    tiers = tiers_by_plans("tactix-5", "6")
+    return None if list(tiers) == [0, 1, 2, 3, 4, 5] and {tier: digest for tier, (_, digest) in tiers.items()} == ends_of(folder) else f"{tiers}"
 
 
 def tictactoe_table(room):
@@ -91,11 +120,33 @@ def file_of_dao(room):
     return None if ran.stdout == "solved 0 reused 1 migrated 0 deliveries 0 by hand 0\n" else ran.stdout
 
 
+def threads_of(room, game, *words):
+    """How many threads a solve of a game starts."""
+    ran = room.run([GAMESMAN, "solve", game, room.fresh(), *words], kind="thread")
+    if ran.status:
+        raise ValueError(f"solve {game} {words}: {ran}")
+    return ran.calls
+
+
+def workers_start_where_moves_stay(room):
+    """Levels are solved by workers in threads of their own: by one worker none starts, and smaller pieces give more workers work."""
+    for game in ("dao", "achi", "hare"):
+        alone = threads_of(room, game, "--workers", "1")
+        wide, narrow = (threads_of(room, game, "--workers", "4", "--piece", piece) for piece in ("4096", "1"))
+        if alone or not wide < narrow:
+            return f"{game}: {alone} threads by one worker, {wide} by four with wide pieces, {narrow} with narrow ones"
+    settled = threads_of(room, "tictactoe", "--workers", "4", "--piece", "1")
+    return f"tictactoe: {settled} threads, though no move stays in a tier" if settled else None
+
+
 PLANS = (
     by_each_number_of_threads,
-    wheel_under_nine_plans,
+    toys_of_the_program_under_nine_plans,
     tactix_under_nine_plans,
     nine_point_games_under_nine_plans,
+    ring_and_star_under_nine_plans,
+    low_tiers_of_five_under_nine_plans,
     tictactoe_table,
     file_of_dao,
+    workers_start_where_moves_stay,
 )

@@ -1,6 +1,8 @@
-"""The programs of examples/python: over all positions of two games they read what an independent solver (tools/solver) says, and they refuse what they must."""
+"""The Python package and the scripts of examples/python: over all positions of two games the package reads what an independent solver (tools/solver) says, and
+it refuses what it must. Its own tests are run by python/run."""
 import importlib.util
 import os
+import re
 import subprocess
 import sys
 from collections import Counter
@@ -8,10 +10,11 @@ from collections import Counter
 from common import GAMESMAN, ROOT, SECONDS
 from lines import put
 from mended import RIGHT, WORDS, file_of
-from samples import blocks, wrong_in
+from samples import blocks, wrong_in, wrong_typed
 
 GAMES = ("tictactoe", "mutorere")
 EXAMPLES = os.path.join(ROOT, "examples/python")
+PACKAGE = os.path.join(ROOT, "python")
 
 
 def module(path):
@@ -24,12 +27,15 @@ def module(path):
     return found
 
 
-TIERS, ASK = module("examples/python/tiers"), module("examples/python/ask")
+sys.path.insert(0, PACKAGE)
+import gamesman
+from gamesman.folder import decode
+
 games, Solved = module("tools/solver/games").games, module("tools/solver/values").Solved
 
 
 def ran(*words):
-    env = {"PATH": f"{os.path.dirname(GAMESMAN)}:/usr/bin:/bin", "LANG": "C.UTF-8"}
+    env = {"PATH": f"{os.path.dirname(GAMESMAN)}:/usr/bin:/bin", "LANG": "C.UTF-8", "PYTHONPATH": PACKAGE}
     done = subprocess.run([sys.executable, "-B", *words], cwd=EXAMPLES, env=env, capture_output=True, text=True, timeout=SECONDS, check=False)
     return done.returncode, done.stdout, done.stderr
 
@@ -43,7 +49,7 @@ def solved(room, game):
 
 def wrong_record(folder, right):
     """The first index of a folder's files where the reader answers another record than the solver, if there is one."""
-    tables = {table.tier: table for table in TIERS.read_folder(folder, right.game.name)}
+    tables = {table.tier: table for table in gamesman.Folder(folder, right.game.name)}
     if set(tables) != set(right.game.tiers):
         return f"the tiers {sorted(tables)}"
     for tier, positions in right.canonical().items():
@@ -51,8 +57,8 @@ def wrong_record(folder, right):
         if len(table.numbers) != right.game.size(tier):
             return f"tier {tier} has {len(table.numbers)} indexes"
         counts = Counter(value for value, _ in values.values())
-        if TIERS.by_value(table) != [counts[value] for value in ("lose", "draw", "tie", "win")]:
-            return f"tier {tier}: {TIERS.by_value(table)}"
+        if table.by_value() != {value: counts[value] for value in ("lose", "draw", "tie", "win")}:
+            return f"tier {tier}: {table.by_value()}"
         for index in range(right.game.size(tier)):
             if table.record(index) != values.get(index):
                 return f"tier {tier}, index {index}: {table.record(index)}, not {values.get(index)}"
@@ -67,40 +73,37 @@ def the_reader_reads_each_record(room):
     return None
 
 
-def wrong_answer(asker, right):
-    """The first text of a game that the client is answered otherwise than the solver says, if there is one."""
+def wrong_answer(game, right):
+    """The first text of a game that is answered otherwise than the solver says, if there is one."""
     for text in right.game.texts:
         try:
-            said = asker.answer(text)
-        except ASK.NoSuchPosition:
+            said = game.position(text)
+        except gamesman.NoSuchPosition:
             said = None
         if (said is None) == right.game.is_legal(text):
             return f"{text!r}: {said}"
-        for move in said["moves"] if said else ():
-            if move["moveRemoteness"] != (0 if move["moveValue"] == "draw" else move["remoteness"] + 1):
-                return f"{text!r}: {move}"
-        if said and (text, right.values[text]) != (said["position"], (said["positionValue"], said["remoteness"])):
-            return f"{text!r}: {said['positionValue']} in {said['remoteness']}"
-        if said and [row[::2] for row in ASK.rows(said)] != [(name, child) for _, name, child in right.ranked(text)]:
-            return f"{text!r}: the moves {said['moves']}"
+        if said and (text, right.values[text]) != (said.text, (said.value, said.remoteness)):
+            return f"{text!r}: {said!r}"
+        if said and [(move.text, move.result) for move in said.moves()] != [(name, child) for _, name, child in right.ranked(text)]:
+            return f"{text!r}: the moves {said.moves()}"
     return None
 
 
 def the_client_asks_each_position(room):
     """Each text of nine cells and some more, by one process for each game."""
-    for game in GAMES:
-        with ASK.Asker(game, solved(room, game), GAMESMAN) as asker:
-            why = wrong_answer(asker, Solved(games()[game]))
+    for name in GAMES:
+        with gamesman.Game(name, solved(room, name), GAMESMAN) as game:
+            why = wrong_answer(game, Solved(games()[name]))
         if why:
-            return f"{game}: {why}"
+            return f"{name}: {why}"
     return None
 
 
 def refusal(text):
     """The word by which the reader refuses a file that is to be Countdown's from 10, if it does."""
     try:
-        TIERS.decode(text, "countdown", 0, 11)
-    except TIERS.Refused as why:
+        decode(text, "countdown", 0, 11)
+    except gamesman.BadFile as why:
         return str(why)
     return None
 
@@ -126,22 +129,21 @@ def the_reader_refuses_each_bad_file(room):
     cut = {refusal(RIGHT[:length]) for length in range(len(RIGHT))}
     if cut != {"truncated"} or refusal(RIGHT):
         return f"cut to each length: {cut}"
-    table = TIERS.decode(file_of(list(GREATEST) + [0] * 5), "countdown", 0, 11)
+    table = decode(file_of(list(GREATEST) + [0] * 5), "countdown", 0, 11)
     if [table.record(index) for index in range(11)] != [*GREATEST.values()] + [None] * 5:
         return f"the greatest records: {table}"
     kept = [at for at in range(len(RIGHT)) if not refusal(RIGHT[:at] + bytes([RIGHT[at] ^ 1]) + RIGHT[at + 1 :])]
     return f"bytes that may be changed: {kept}" if kept else None
 
 
-# The positions of each value in each tier of Tac Tix on 2 by 2, canonical ones, by hand: only the square's diagonal loses with two counters.
-COUNTED = """tactix-2
-      tier      lose      draw       tie       win positions
-         0         1         0         0         0         1
-         1         0         0         0         1         1
-         2         1         0         0         1         2
-         3         0         0         0         1         1
-         4         1         0         0         0         1
-       all         3         0         0         3         6
+# The positions of each remoteness of Tac Tix on 2 by 2, canonical ones, by hand: only the square's diagonal loses with two counters.
+COUNTED = """tactix-2: 6 canonical positions by the number of moves to the end
+         lose       tie       win
+  0         1         0         0  ##############################
+  1         0         0         2  ############################################################
+  2         1         0         0  ##############################
+  3         0         0         1  ##############################
+  4         1         0         0  ##############################
 """
 
 
@@ -149,37 +151,54 @@ def the_examples_are_run(room):
     """As a user runs them: what they print, and what they say of what is not there."""
     folder, empty, mixed = solved(room, "tactix-2"), room.fresh(), solved(room, "wheel")
     put(f"{mixed}/tier-1.gmt", RIGHT)
-    moves = subprocess.run([GAMESMAN, "moves", "tictactoe", "xo......."], capture_output=True, text=True, timeout=SECONDS, check=True).stdout
     wanted = (
-        (("tiers.py", folder), (0, COUNTED, "")),
-        (("tiers.py", folder, "tactix-3"), (1, "", "tiers.py: tier-0.gmt: wrong game\n")),
-        (("tiers.py", mixed), (1, "", "tiers.py: tier-1.gmt: wrong game\n")),
-        (("tiers.py", empty), (1, "", f"tiers.py: {empty} has no tier files\n")),
-        (("tiers.py", f"{empty}/none"), (1, "", f"tiers.py: {empty}/none: No such file or directory\n")),
-        (("ask.py", "tictactoe", "xo......."), (0, f"xo.......\twin in 5\n{moves}", "")),
-        (("ask.py", "wheel", "3"), (0, "3\tdraw\n4\tdraw\t4\n", "")),
-        (("ask.py", "tactix-2", "....", "--folder", folder), (0, "....\tlose in 0\n", "")),
-        (("ask.py", "tictactoe", "x........"), (1, "", "ask.py: x........ is no position of tictactoe\n")),
-        (("ask.py", "chess", "1"), (1, "", "ask.py: gamesman: no such game\n")),
-        (("ask.py", "countdown", "1", "--folder", empty), (1, "", "ask.py: gamesman: store failed at tier 0\n")),
+        (("remoteness.py", "tactix-2"), (0, COUNTED, "")),
+        (("remoteness.py", "tactix-2", "--folder", folder), (0, COUNTED, "")),
+        (("remoteness.py", "wheel", "--folder", mixed), (1, "", "remoteness.py: tier-1.gmt: wrong game\n")),
+        (("remoteness.py", "chess"), (1, "", "remoteness.py: no such game: 'chess'\n")),
+        (("remoteness.py", "wheel", "--folder", f"{empty}/none"), (1, "", f"remoteness.py: [Errno 2] No such file or directory: '{empty}/none'\n")),
+        (("puzzles.py", "chess"), (1, "", "puzzles.py: no such game: 'chess'\n")),
     )
-    return next((f"{' '.join(words)}: {ran(*words)}" for words, outcome in wanted if ran(*words) != outcome), None)
+    why = next((f"{' '.join(words)}: {ran(*words)}" for words, outcome in wanted if ran(*words) != outcome), None)
+    return why or wrong_book()
+
+
+def wrong_book():
+    """Why a book of the puzzles of Countdown is another than it must be: a win from 4 in three moves, 5, 7, 8 and 10 are the ones of three and more."""
+    status, out, err = ran("puzzles.py", "countdown", "--number", "99")
+    found = re.findall(r"<figcaption>(\d+)\. countdown: win in (\d+)</figcaption>", out)
+    solutions = re.findall(r"<li value=(\d+)><b>(\d)</b>((?: \d)*)</li>", out)
+    right = [(str(k), str(n)) for k, n in enumerate((3, 3, 5, 5, 7), 1)]
+    # Of each win the first move leaves a multiple of three, and the answers are long ones, of one.
+    long_enough = [len(first + rest.replace(" ", "")) for _, first, rest in solutions] == [3, 3, 5, 5, 7]
+    if (status, err, found) != (0, "", right) or not long_enough or out.count("<svg ") != 5:
+        return f"puzzles.py: {status}, {err!r}, {found}, {solutions}"
+    return None
 
 
 def wrong_program(block, folder):
     """Why a program of the page prints something else than its comment says, if it does."""
-    env = {"PATH": f"{os.path.dirname(GAMESMAN)}:/usr/bin:/bin", "PYTHONPATH": EXAMPLES}
+    env = {"PATH": f"{os.path.dirname(GAMESMAN)}:/usr/bin:/bin", "PYTHONPATH": PACKAGE}
     done = subprocess.run([sys.executable, "-B", "-c", block], cwd=folder, env=env, capture_output=True, text=True, timeout=SECONDS, check=False)
-    wanted = (0, f"{block.partition('  # ')[2].strip()}\n", "")
+    wanted = (0, f"{block.rpartition('  # ')[2].strip()}\n", "")
     return None if (done.returncode, done.stdout, done.stderr) == wanted else f"{done}"
 
 
+def wrong_sample(language, block, folder):
+    """Why a sample of a page does not do what the page shows, if so. What is not Python is what a shell reads; pip is run by python/run."""
+    if language == "python":
+        return wrong_program(block, folder)
+    typed = [line for line in block.splitlines() if language == "sh" and not line.startswith("pip ")]
+    return wrong_in(block, folder) if not language else next(filter(None, (wrong_typed(line, folder) for line in typed)), None)
+
+
 def the_page_of_examples_is_true(room):
-    """Its samples and its programs, one after the other in one folder."""
+    """The samples and the programs of both pages, one after the other in one folder."""
     folder = room.fresh()
     os.symlink(os.path.join(ROOT, "examples"), f"{folder}/examples")
-    found = [wrong_in(block, folder) if language != "python" else wrong_program(block, folder) for language, block in blocks("examples/python/README.md")]
-    return next(filter(None, found), None) if len(found) == 4 else f"{len(found)} samples"
+    os.mkdir(f"{folder}/tables")
+    found = [wrong_sample(*block, folder) for page in ("python/README.md", "examples/python/README.md") for block in blocks(page)]
+    return next(filter(None, found), None) if len(found) == 6 else f"{len(found)} samples"
 
 
 READERS = (

@@ -62,6 +62,12 @@ SHISIMA_WAYS = [(point, (point + 1) % 8) for point in range(8)] + [(point, 8) fo
 SHISIMA = Game("shisima", "01234567c", SHISIMA_WAYS, [(point, 8, point + 4) for point in range(4)], 3, 1600)
 
 
+# Rows, columns and diagonals; ways join the points beside each other in them. 160 of the 1,680 arrangements have a line of the mover's.
+TAPATAN_LINES = [(0, 1, 2), (3, 4, 5), (6, 7, 8), (0, 3, 6), (1, 4, 7), (2, 5, 8), (0, 4, 8), (2, 4, 6)]
+
+TAPATAN = Game("tapatan", "123456789", [way for line in TAPATAN_LINES for way in zip(line, line[1:])], TAPATAN_LINES, 3, 1520)
+
+
 def told(game, texts):
     ran = subprocess.run([GAMESMAN, "ask", game], input="".join(f"{it}\n" for it in texts), capture_output=True, text=True, timeout=SECONDS, check=True)
     return [json.loads(line) for line in ran.stdout.splitlines()]
@@ -90,4 +96,8 @@ def shisima_is_solved(room):
     return wrong(SHISIMA)
 
 
-WAYS = (pong_is_solved, shisima_is_solved)
+def tapatan_is_solved(room):
+    return wrong(TAPATAN)
+
+
+WAYS = (pong_is_solved, shisima_is_solved, tapatan_is_solved)

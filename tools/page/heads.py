@@ -54,4 +54,6 @@ HEADS = {
     "hare": head("Hare and Hounds", HARE, "L T1 M1 B1 T2 M2 B2 T3 M3 B3 R".split(), "dh", False, ["Hounds", "Hare"]),
     "ponghauki": head("Pong Hau K'i", "A       B\n| \\   / |\n|   C   |\n| /   \\ |\nD-------E", list("01234"), "xo", True, COLOURS),
     "shisima": head("Shisima", RING, POINTS, "xo", True, COLOURS),
+    "tapatan": head("Tapatan", "A---B---C\n| \\ | / |\nD---E---F\n| / | \\ |\nG---H---I", list("123456789"), "xo", True, COLOURS),
+    "dodgem": head("Dodgem", square(3), cells(3), "xo", True, COLOURS),
 }

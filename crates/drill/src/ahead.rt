@@ -91,7 +91,7 @@ fn right_table<G: Game, R: Files>(
     table
 }
 
-// What is found of a tier, whose table is held after that; none where its file isn't right.
+// What is found of a tier, whose table is held after that; none if its file isn't right.
 fn found_in<G: Game, R: Files>(
     rt: &R,
     alloc: Global,

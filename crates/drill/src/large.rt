@@ -2,10 +2,10 @@
 
 use crate::solving::say_digest;
 use gm_build::build::{Built, build_from};
-use gm_build::watch::NoWatch;
 use gm_game::game::Game;
 use gm_game::limits::TIER_SIZE;
 use gm_solver::gate::NoGate;
+use gm_solver::observer::NoObserver;
 use gm_solver::plan::Plan;
 use gm_solver::source::Counter;
 use gm_solver::tier::solve_tier;
@@ -21,7 +21,7 @@ use std::time::{Clock, Instant};
 // Tac Tix on 5 by 5: its tiers are numbered by how many counters are left.
 type Five = TacTix<5, false>;
 
-// The tables of the tiers below one: none where there is no such tier, or the build ended with an error.
+// The tables of the tiers below one: none if there is no such tier, or the build ended with an error.
 fn tables_below<R: Threads + Wait + Files + Sync>(
     rt: &R,
     alloc: Global,
@@ -40,7 +40,7 @@ fn tables_below<R: Threads + Wait + Files + Sync>(
         plan,
         &NoGate,
         &Counter::new(),
-        &NoWatch,
+        &NoObserver,
     );
     drop(store);
     built.ok()
@@ -81,7 +81,7 @@ fn solve_and_time<R: Print + Threads + Wait + Clock + Sync>(
 }
 
 /// Solves a tier of Tac Tix on 5 by 5 by workers, over tables that are made in memory, and prints the milliseconds that its solving alone took, the number of
-/// deliveries, and the digest that ends its file. False where there is no such tier, or memory was refused.
+/// deliveries, and the digest that ends its file. False if there is no such tier, or memory was refused.
 pub fn solve_large<R: Print + Threads + Wait + Files + Clock + Sync>(
     rt: &R,
     alloc: Global,

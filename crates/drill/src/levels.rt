@@ -63,7 +63,7 @@ impl<G: Game> Counted for Tally<G> {
     }
 }
 
-// What a call answers: the number of what it makes, of a tally by tiles of 6; none where memory was refused.
+// What a call answers: the number of what it makes, of a tally by tiles of 6; none if memory was refused.
 fn answered<G: Game>(
     alloc: Global,
     call: Call,
@@ -157,7 +157,7 @@ fn call_on_first<G: Game, R: Print>(rt: &R, alloc: Global, call: Call, tables: &
     said
 }
 
-// Appends the records of a shard at the end of ties: none where memory was refused.
+// Appends the records of a shard at the end of ties: none if memory was refused.
 fn appended<G: Game>(
     shard: &Shard<G>,
     last: &Last<G>,

@@ -1,6 +1,6 @@
 //! Drills: each word makes one call that may want memory and says what it answered and what it left, for tools/hostile, which refuses its allocations one after
-//! another. For tools/lines, `ahead` compares a solved game with looking ahead, `workers` builds a game by workers, and `dao` solves Dao in a way and says what
-//! its file ends with. For tools/measure, `large` times a large tier that workers solve.
+//! another. For tools/lines, `ahead` compares a solved game with looking ahead, `plans` solves a game's tiers by workers under nine plans, and `dao` solves Dao in a
+//! way and says what its file ends with. For tools/measure, `large` times a large tier that workers solve.
 #![tactic(auto)]
 
 ghost use Rattle.std.specs.Prelude.{◌<◌};
@@ -21,7 +21,7 @@ mod words;
 use crate::ahead::look_ahead;
 use crate::damage::damage;
 use crate::large::solve_large;
-use crate::plans::build_by_workers;
+use crate::plans::solve_by_plans;
 use crate::solving::Way;
 use crate::stores::Place;
 use crate::words::named;
@@ -138,7 +138,7 @@ fn make<R: Print + Threads + Wait + Files + Sync>(rt: &R, alloc: Global, call: C
     }
 }
 
-// Makes the call that a word names: false where there is no such word.
+// Makes the call that a word names: false if there is no such word.
 fn drill<R: Print + Threads + Wait + Files + Sync>(rt: &R, alloc: Global, word: &str) -> bool {
     match named(calls(), word) {
         Some(call) => make(rt, alloc, call),
@@ -146,7 +146,7 @@ fn drill<R: Print + Threads + Wait + Files + Sync>(rt: &R, alloc: Global, word: 
     }
 }
 
-// A word of a line as text; an empty one where there is none.
+// A word of a line as text; an empty one if there is none.
 fn word(words: &[String], number: usize) -> &str {
     match words.get(number) {
         Some(word) => word.as_str(),
@@ -172,20 +172,20 @@ fn plan_of(words: &[String], first: usize) -> Option<Plan>
     Plan::new(workers, shards, piece)
 }
 
-// Builds a game by a line of its name, a folder and the three numbers of a plan: whether it could be done.
-fn build_planned<R: Print + Threads + Wait + Files + Sync>(
+// Solves by nine plans, by a line of a game's name and how many of its tiers: whether it could be done.
+fn solve_planned<R: Print + Threads + Wait + Sync>(
     rt: &R,
     alloc: Global,
     words: &[String],
 ) -> bool {
-    match plan_of(words, 4) {
-        Some(plan) => build_by_workers(rt, alloc, word(words, 2), word(words, 3), plan),
-        None => false,
+    match word(words, 3).parse::<usize>() {
+        Ok(count) => solve_by_plans(rt, alloc, word(words, 2), count),
+        Err(_) => false,
     }
 }
 
 // Solves a tier of Tac Tix on 5 by 5 by a line of its number and the three numbers of a plan: whether it could be done.
-fn solve_planned<R: Print + Threads + Wait + Files + Clock + Sync>(
+fn solve_one<R: Print + Threads + Wait + Files + Clock + Sync>(
     rt: &R,
     alloc: Global,
     words: &[String],
@@ -202,7 +202,7 @@ enum Line {
     List,
     Ahead,
     Dao,
-    Workers,
+    Plans,
     Large,
     DamageCountdown,
     DamageTacTix,
@@ -212,7 +212,7 @@ const LINES: [(&str, Line); 7] = [
     ("list", Line::List),
     ("ahead", Line::Ahead),
     ("dao", Line::Dao),
-    ("workers", Line::Workers),
+    ("plans", Line::Plans),
     ("large", Line::Large),
     ("damage-countdown", Line::DamageCountdown),
     ("damage-tactix-2", Line::DamageTacTix),
@@ -230,8 +230,8 @@ fn run<R: Print + Threads + Wait + Files + Clock + Sync, I: io::Read + Drop>(
         Some(Line::List) => list(rt),
         Some(Line::Ahead) => compare(rt, alloc, words),
         Some(Line::Dao) => solving::solve_and_say::<Dao, R>(rt, alloc, word(words, 2)),
-        Some(Line::Workers) => build_planned(rt, alloc, words),
-        Some(Line::Large) => solve_planned(rt, alloc, words),
+        Some(Line::Plans) => solve_planned(rt, alloc, words),
+        Some(Line::Large) => solve_one(rt, alloc, words),
         Some(Line::DamageCountdown) => damage::<Countdown<10>, R, I>(rt, alloc, input),
         Some(Line::DamageTacTix) => damage::<TacTix<2, false>, R, I>(rt, alloc, input),
         None => drill(rt, alloc, first),

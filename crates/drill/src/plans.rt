@@ -1,106 +1,231 @@
-//! Whole games built by workers, with numbers of workers, shards and notes of one's own.
+//! Games solved tier by tier, each tier by one thread and by workers under nine plans beside it.
+ghost use Rattle.std.specs.Prelude.{◌≤◌};
+ghost use Rattle.gm_table.specs.Tables.{AreHeld};
 
+use crate::solving::say_digest;
 use crate::words::named;
-use gm_build::build::{Built, build};
-use gm_build::build_error::BuildError;
 use gm_game::game::Game;
+use gm_game::limits::TIER_SIZE;
 use gm_morris::games::{Achi, ThreeMens, TicTacToe};
+use gm_pong::pong::Pong;
+use gm_shisima::shisima::Shisima;
+use gm_solver::alone::solve_alone;
 use gm_solver::gate::NoGate;
 use gm_solver::plan::Plan;
 use gm_solver::source::Counter;
+use gm_solver::tier::{Report, solve_tier};
+use gm_table::table::Table;
+use gm_table::tables::Tables;
 use gm_tactix::tactix::TacTix;
-use gm_tierdb::folder_store::FolderStore;
-use gm_tierdb::store::Store;
+use gm_tiers::order::TierOrder;
+use gm_toys::countdown::Countdown;
 use gm_toys::wheel::Wheel;
 use std::alloc::Global;
-use std::fs::Files;
 use std::sync::Wait;
 use std::thread::Threads;
 
-// A game that is built.
+// Tac Tix on this many rows, normal or misère; or a game of another name.
 #[derive(Clone, Copy)]
 enum Planned {
+    Countdown,
     Wheel,
-    Three,
-    Four,
+    TacTix(u8, bool),
     TicTacToe,
     ThreeMens,
     Achi,
+    Pong,
+    Shisima,
 }
 
-const GAMES: [(&str, Planned); 6] = [
+const GAMES: [(&str, Planned); 17] = [
+    ("countdown", Planned::Countdown),
     ("wheel", Planned::Wheel),
-    ("tactix-3-misere", Planned::Three),
-    ("tactix-4", Planned::Four),
+    ("tactix-1", Planned::TacTix(1, false)),
+    ("tactix-2", Planned::TacTix(2, false)),
+    ("tactix-3", Planned::TacTix(3, false)),
+    ("tactix-4", Planned::TacTix(4, false)),
+    ("tactix-5", Planned::TacTix(5, false)),
+    ("tactix-1-misere", Planned::TacTix(1, true)),
+    ("tactix-2-misere", Planned::TacTix(2, true)),
+    ("tactix-3-misere", Planned::TacTix(3, true)),
+    ("tactix-4-misere", Planned::TacTix(4, true)),
+    ("tactix-5-misere", Planned::TacTix(5, true)),
     ("tictactoe", Planned::TicTacToe),
     ("threemens", Planned::ThreeMens),
     ("achi", Planned::Achi),
+    ("ponghauki", Planned::Pong),
+    ("shisima", Planned::Shisima),
 ];
 
-// Builds a game into a folder, and prints what that took.
-fn build_and_say<G: Game + Send + Sync, R: Print + Threads + Wait + Files + Sync>(
-    rt: &R,
-    alloc: Global,
-    plan: Plan,
-    folder: &mut FolderStore,
-) -> bool {
-    if folder.failures() == u64::MAX {
+const WORKERS: [usize; 3] = [1, 2, 16];
+
+const SHARDS: [usize; 3] = [1, 2, 4];
+
+const NOTES: usize = 64;
+
+// Whether two tables have the same records.
+fn are_same<G: Game>(one: &Table<G>, other: &Table<G>) -> bool {
+    if one.size() != other.size() {
         return false;
     }
-    let built: Result<Built<G>, BuildError> = build(
-        rt,
-        alloc,
-        folder,
-        plan,
-        &NoGate,
-        &Counter::new(),
-    );
-    let said = match &built {
-        Ok(built) => {
-            let (solved, reused, migrated) = (built.solved, built.reused, built.migrated);
-            let (deliveries, by_hand) = (built.deliveries, built.by_hand);
-            println!(rt;
-                "solved {solved} reused {reused} migrated {migrated} deliveries {deliveries} by hand {by_hand}"
-            ).is_ok()
+    for index in 0..one.size() {
+        if one.at(index) != other.at(index) {
+            return false;
         }
-        Err(_) => false,
-    };
-    drop(built);
-    said
+    }
+    true
 }
 
-// Builds one of the games.
-fn build_one<R: Print + Threads + Wait + Files + Sync>(
+// Whether workers under a plan solve a tier as one thread did, and the coordinator delivers nothing.
+fn solves_so<G: Game + Send + Sync, R: Threads + Wait + Sync>(
     rt: &R,
     alloc: Global,
-    game: Planned,
+    tier: u64,
+    tables: &Tables<G>,
     plan: Plan,
-    folder: &mut FolderStore,
-) -> bool {
-    match game {
-        Planned::Wheel => build_and_say::<Wheel, R>(rt, alloc, plan, folder),
-        Planned::Three => build_and_say::<TacTix<3, true>, R>(rt, alloc, plan, folder),
-        Planned::Four => build_and_say::<TacTix<4, false>, R>(rt, alloc, plan, folder),
-        Planned::TicTacToe => build_and_say::<TicTacToe, R>(rt, alloc, plan, folder),
-        Planned::ThreeMens => build_and_say::<ThreeMens, R>(rt, alloc, plan, folder),
-        Planned::Achi => build_and_say::<Achi, R>(rt, alloc, plan, folder),
+    right: &(Table<G>, Report),
+) -> bool
+    requires held { AreHeld G.rules tables.now tier }
+    requires small { G.rules.tier_size tier ≤ TIER_SIZE }
+{
+    match solve_tier(rt, alloc, tier, tables, plan, &NoGate, &Counter::new()) {
+        Ok((table, report)) => {
+            let is_so = report == right.1 && are_same(&table, &right.0);
+            drop(table);
+            is_so
+        }
+        Err(_) => false,
     }
 }
 
-/// Builds a game into a folder by workers, every tier of it, and prints the line that `gamesman solve` prints. False where there is no such game, or the build
-/// ended with an error.
-pub fn build_by_workers<R: Print + Threads + Wait + Files + Sync>(
+// Whether each of the nine plans solves a tier as one thread did.
+fn all_solve_so<G: Game + Send + Sync, R: Threads + Wait + Sync>(
+    rt: &R,
+    alloc: Global,
+    tier: u64,
+    tables: &Tables<G>,
+    right: &(Table<G>, Report),
+) -> bool
+    requires held { AreHeld G.rules tables.now tier }
+    requires small { G.rules.tier_size tier ≤ TIER_SIZE }
+{
+    for workers in WORKERS {
+        for shards in SHARDS {
+            let Some(plan) = Plan::new(workers, shards, NOTES) else {
+                return false;
+            };
+            if !solves_so(rt, alloc, tier, tables, plan, right) {
+                return false;
+            }
+        }
+    }
+    true
+}
+
+// The table of a tier by one thread, with its deliveries, where workers under each of the nine plans find the same.
+fn agreed<G: Game + Send + Sync, R: Threads + Wait + Sync>(
+    rt: &R,
+    alloc: Global,
+    tier: u64,
+    tables: &Tables<G>,
+) -> Option<(Table<G>, Report)> {
+    if !tables.has_children(tier) || G::tier_size(tier) > TIER_SIZE {
+        return None;
+    }
+    let (table, deliveries) = solve_alone(alloc, tier, tables).ok()?;
+    let right = (
+        table,
+        Report {
+            deliveries,
+            by_hand: 0,
+        },
+    );
+    if !all_solve_so(rt, alloc, tier, tables, &right) {
+        drop(right);
+        return None;
+    }
+    Some(right)
+}
+
+// Solves these tiers, one after another, and prints of each its deliveries and the digest that ends its file. False at the first tier that a plan solves
+// otherwise.
+fn solve_tiers<G: Game + Send + Sync, R: Print + Threads + Wait + Sync>(
+    rt: &R,
+    alloc: Global,
+    tiers: &[u64],
+    tables: &mut Tables<G>,
+) -> bool {
+    for tier in tiers {
+        let solved = agreed(rt, alloc, *tier, tables);
+        let is_said = print!(rt; "tier {tier}: ").is_ok() && say_digest(rt, alloc, &solved);
+        let is_held = match solved {
+            Some((table, _report)) => tables.insert(table).is_ok(),
+            None => false,
+        };
+        if !is_said || !is_held {
+            return false;
+        }
+    }
+    true
+}
+
+// Solves the first tiers of a game, so many of them.
+fn solve_first<G: Game + Send + Sync, R: Print + Threads + Wait + Sync>(
+    rt: &R,
+    alloc: Global,
+    count: usize,
+) -> bool {
+    let Ok(order) = TierOrder::<G>::from_initial(alloc) else {
+        return false;
+    };
+    let tiers = order.tiers();
+    let first = tiers.get(..count).unwrap_or(tiers);
+    let mut tables: Tables<G> = Tables::new(alloc);
+    let is_done = solve_tiers(rt, alloc, first, &mut tables);
+    drop((tables, order));
+    is_done
+}
+
+// The same of Tac Tix.
+fn solve_tactix<R: Print + Threads + Wait + Sync>(
+    rt: &R,
+    alloc: Global,
+    rows: u8,
+    misere: bool,
+    count: usize,
+) -> bool {
+    match (rows, misere) {
+        (1, false) => solve_first::<TacTix<1, false>, R>(rt, alloc, count),
+        (2, false) => solve_first::<TacTix<2, false>, R>(rt, alloc, count),
+        (3, false) => solve_first::<TacTix<3, false>, R>(rt, alloc, count),
+        (4, false) => solve_first::<TacTix<4, false>, R>(rt, alloc, count),
+        (5, false) => solve_first::<TacTix<5, false>, R>(rt, alloc, count),
+        (1, true) => solve_first::<TacTix<1, true>, R>(rt, alloc, count),
+        (2, true) => solve_first::<TacTix<2, true>, R>(rt, alloc, count),
+        (3, true) => solve_first::<TacTix<3, true>, R>(rt, alloc, count),
+        (4, true) => solve_first::<TacTix<4, true>, R>(rt, alloc, count),
+        (5, true) => solve_first::<TacTix<5, true>, R>(rt, alloc, count),
+        _ => false,
+    }
+}
+
+/// Solves the first tiers of a game, so many of them or all where it has fewer, each by one thread and then by 1, 2 and 16 workers with 1, 2 and 4 shards, and
+/// prints a line for each. False if there is no such game, a tier isn't solved, or a plan finds another table or another number of deliveries.
+pub fn solve_by_plans<R: Print + Threads + Wait + Sync>(
     rt: &R,
     alloc: Global,
     game: &str,
-    folder: &str,
-    plan: Plan,
+    count: usize,
 ) -> bool {
-    match (named(&GAMES, game), String::from_str(alloc, folder)) {
-        (Some(game), Ok(folder)) => {
-            let mut folder = FolderStore::new(alloc, folder);
-            build_one(rt, alloc, game, plan, &mut folder)
-        }
-        _ => false,
+    match named(&GAMES, game) {
+        Some(Planned::Countdown) => solve_first::<Countdown<10>, R>(rt, alloc, count),
+        Some(Planned::Wheel) => solve_first::<Wheel, R>(rt, alloc, count),
+        Some(Planned::TacTix(rows, misere)) => solve_tactix(rt, alloc, rows, misere, count),
+        Some(Planned::TicTacToe) => solve_first::<TicTacToe, R>(rt, alloc, count),
+        Some(Planned::ThreeMens) => solve_first::<ThreeMens, R>(rt, alloc, count),
+        Some(Planned::Achi) => solve_first::<Achi, R>(rt, alloc, count),
+        Some(Planned::Pong) => solve_first::<Pong, R>(rt, alloc, count),
+        Some(Planned::Shisima) => solve_first::<Shisima, R>(rt, alloc, count),
+        None => false,
     }
 }

@@ -2,7 +2,7 @@
 use gm_game::game::Game;
 use gm_tiers::order::TierOrder;
 
-/// What a call answered; where there is none, memory was refused.
+/// What a call answered; if there is none, memory was refused.
 #[derive(Clone, Copy)]
 pub enum Said<'a> {
     Number(u64),
@@ -14,7 +14,7 @@ pub trait Counted: Drop {
     fn count(&self) -> u64;
 }
 
-/// What a call answered, as the number of what it made; none where memory was refused.
+/// What a call answered, as the number of what it made; none if memory was refused.
 pub fn number_of<T: Counted, E: Drop>(answer: Result<T, E>) -> Option<Said<'static>> {
     match answer {
         Ok(made) => Some(Said::Number(made.count())),

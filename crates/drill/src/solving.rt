@@ -58,7 +58,7 @@ fn solved_alone<G: Game>(alloc: Global, tables: &Tables<G>) -> Option<(Table<G>,
     }
 }
 
-// Solves the first tier of a game in a way: none where memory was refused.
+// Solves the first tier of a game in a way: none if memory was refused.
 fn solved<G: Game + Send + Sync, R: Threads + Wait + Sync>(
     rt: &R,
     alloc: Global,
@@ -181,7 +181,7 @@ impl<G: Game> Counted for Built<G> {
     }
 }
 
-// Builds Tac Tix on 2 by 2 into a store: how many tiers there are, or none where memory was refused.
+// Builds Tac Tix on 2 by 2 into a store: how many tiers there are, or none if memory was refused.
 fn built<R: Threads + Wait + Files + Sync>(
     rt: &R,
     alloc: Global,

@@ -23,7 +23,7 @@ pub enum Call {
     Read,
 }
 
-/// Where the store of a call has its texts: in memory, there through a `Flaky` that doesn't fail, or in the folder in which the drill runs.
+/// The place of the texts of a call's store: in memory, there through a `Flaky` that doesn't fail, or in the folder in which the drill runs.
 #[derive(Clone, Copy)]
 pub enum Place {
     Memory,
@@ -31,7 +31,7 @@ pub enum Place {
     Folder,
 }
 
-// What a write answered; none where memory was refused.
+// What a write answered; none if memory was refused.
 fn written(answer: Result<(), StoreError>) -> Option<Said<'static>> {
     match answer {
         Ok(()) => Some(Said::Text("written")),
@@ -40,7 +40,7 @@ fn written(answer: Result<(), StoreError>) -> Option<Said<'static>> {
     }
 }
 
-// What a read answered, as the number of bytes; none where memory was refused.
+// What a read answered, as the number of bytes; none if memory was refused.
 fn number_of(answer: Result<Option<Vec<u8>>, StoreError>) -> Option<Said<'static>> {
     match answer {
         Ok(Some(text)) => Some(Said::Number(text.len() as u64)),
@@ -89,7 +89,7 @@ fn answered<S: Store, R: Files>(
     }
 }
 
-// A call on a store where there is an old text.
+// A call on a store if there is an old text.
 fn call_on_old<R: Print + Files, S: Store>(
     rt: &R,
     alloc: Global,

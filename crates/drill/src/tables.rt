@@ -48,7 +48,7 @@ impl Counted for Analysis {
     }
 }
 
-// What a call on a tier answers: the number of what it makes (bytes of a file, records, or a text read from a stream); none where memory was refused.
+// What a call on a tier answers: the number of what it makes (bytes of a file, records, or a text read from a stream); none if memory was refused.
 fn answered<G: Game>(
     alloc: Global,
     call: Call,
@@ -152,7 +152,7 @@ fn held<G: Game>(tables: &Tables<G>) -> Option<Said<'static>> {
     Some(Said::Text(text))
 }
 
-// Inserts the table that is left: where memory is refused, it is left again.
+// Inserts the table that is left: if memory is refused, it is left again.
 fn inserted<G: Game>(
     tables: &mut Tables<G>,
     left: &mut Option<(Table<G>, u64)>,

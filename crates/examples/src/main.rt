@@ -22,7 +22,7 @@ use std::sync::Wait;
 use std::thread::Threads;
 use std::{io, str};
 
-// Prints a position with its value and, where the game goes on, the best move from it.
+// Prints a position with its value and, if the game goes on, the best move from it.
 fn say<G: Shown, R: Print>(rt: &R, tables: &Tables<G>, text: &str) -> io::Result<()> {
     let Some(p) = G::read(text.as_bytes()) else {
         return println!(rt; "{text}: no such position");

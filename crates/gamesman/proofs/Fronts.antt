@@ -1,5 +1,5 @@
 -- Fronts of texts that are written.
-use Rattle.std.proofs.Common.{◌≡◌, ℕ, ◌+◌, ◌-◌, ◌≤◌, Bool, true, false, List, ◌++◌, length, take, drop, Option, Result, Ok, Err, sym, ap, subst, ◌∙◌, arith}
+use Rattle.std.proofs.Common.{◌≡◌, ℕ, ◌+◌, ◌-◌, ◌≤◌, Bool, true, false, List, ◌++◌, length, take, drop, Option, Result, Ok, Err, OnErr, sym, ap, subst, ◌∙◌, arith}
 use Rattle.std.proofs.Common.{take-add, length-take, take-append-drop}
 use Rattle.std.proofs.lemmas.List.{take-take}
 use Rattle.std.specs.Io.KnownBytes.{Appends, Keeps}
@@ -37,3 +37,8 @@ put_after a b c xs ys (Err fault) before (failed, part) = (failed, part_after a 
 pub part_listed : (all : Bool) (a b : Option (List ℕ)) → AppendsPart a b (listed false) → AppendsPart a b (listed all)
 part_listed false a b part = part
 part_listed true a b part = part_longer a b (listed false) listed_later part
+
+-- what holds after a failed write, from what holds after its last part
+pub err_after : {A E : Type 0} (result : Result A E) (P Q : Type 0) → (P → Q) → OnErr result P → OnErr result Q
+err_after (Ok x) P Q f h = tt
+err_after (Err e) P Q f h = f h

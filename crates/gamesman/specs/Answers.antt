@@ -17,7 +17,7 @@ use Rattle.gm_command.specs.declared.requests.PositionRequest.{PositionRequest}
 use Rattle.gm_command.specs.declared.requests.Request.{Request}
 use Rattle.gm_command.specs.declared.requests.Request.TheVariants.{List as Names, Of}
 use Rattle.gm_command.specs.declared.requests.GameRequest.{GameRequest}
-use Rattle.gm_command.specs.declared.requests.GameRequest.TheVariants.{Solve, Query, Filter, Explore, Locate, At, Search, Analyse, Check}
+use Rattle.gm_command.specs.declared.requests.GameRequest.TheVariants.{Solve, Query, Filter, Explore, Locate, At, Search, Analyse, Check, Play}
 use Rattle.gamesman.specs.declared.fault.Fault.{Fault}
 use Rattle.gamesman.specs.declared.fault.Fault.TheVariants.{NoSuchGame, NoSuchPosition, OutOfMemory, OutputFailed, OutputClosed}
 use Rattle.gamesman.specs.Games.{GameSpec, game_named}
@@ -29,6 +29,7 @@ use Rattle.gamesman.specs.Searches.{IsPlaced, IsSearched}
 use Rattle.gamesman.specs.Solving.{IsSolvedBy}
 use Rattle.gamesman.specs.Checking.{IsCheckedBy}
 use Rattle.gamesman.specs.Analysing.{IsAnalysedBy}
+use Rattle.gamesman.specs.Plays.{IsPlayed}
 use Rattle.gamesman.specs.Listing.{listed}
 use Rattle.gamesman.specs.Told.{IsPut}
 
@@ -84,6 +85,7 @@ IsAnswered g (At tier index kept) input before after result = IsPlaced g.rules g
 IsAnswered g (Search asked kept) input before after result = IsSearched g asked input before after result
 IsAnswered g (Analyse kept) input before after result = IsAnalysedBy g.rules before after result
 IsAnswered g (Check folder) input before after result = IsCheckedBy g.rules before after result
+IsAnswered g (Play asked kept) input before after result = IsPlayed g.rules g.shown g.move_shown g.drawn g.mover asked input before after result
 IsAnswered g _ input before after result = Unit {0}
 
 -- what is asked of the game of a name is answered; where no game has the name, that is the fault

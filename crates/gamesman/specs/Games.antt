@@ -19,15 +19,17 @@ use Rattle.gm_hare.specs.Board.{hare_rules}
 use Rattle.gm_hare.specs.Texts.{position_text as hare_text, move_text as hare_move_text}
 use Rattle.gm_pong.specs.PongRules.{pong, pong_rules}
 use Rattle.gm_shisima.specs.ShisimaRules.{shisima, shisima_rules}
+use Rattle.gm_tapatan.specs.TapatanRules.{tapatan, tapatan_rules}
+use Rattle.gm_dodgem.specs.Dodgem.{dodgem_rules, dodgem_text, dodgem_move}
 use Rattle.gm_tactix.specs.Board.{side_of, tactix_rules}
 use Rattle.gm_tactix.specs.Texts.{position_text as tactix_text, move_text as tactix_move_text}
 use Rattle.gm_draw.specs.Templates.{filled}
 use Rattle.gm_draw.specs.Rows.{countdown_row, takeaway_row, wheel_row}
-use Rattle.gm_draw.specs.Pictures.{nine_points, dao_board, tactix_board, ring_board, pong_board, hare_board}
-use Rattle.gm_draw.specs.Points.{number_points, square_points, ring_points, pong_points, hare_points, countdown_board, takeaway_board, wheel_board, nine_title}
+use Rattle.gm_draw.specs.Pictures.{nine_points, dao_board, dodgem_board, tactix_board, ring_board, pong_board, tapatan_board, hare_board}
+use Rattle.gm_draw.specs.Points.{number_points, square_points, ring_points, pong_points, tapatan_points, hare_points, countdown_board, takeaway_board, wheel_board, nine_title}
 use Rattle.gm_draw.specs.Points.{nine_style, tactix_title}
-use Rattle.gm_draw.specs.Names.{x_moves, player_moves, hare_mover, countdown_naming, takeaway_naming, wheel_naming, nine_naming, dao_naming, tactix_naming}
-use Rattle.gm_draw.specs.Names.{ring_naming, pong_naming, hare_naming}
+use Rattle.gm_draw.specs.Names.{x_moves, player_moves, hare_mover, countdown_naming, takeaway_naming, wheel_naming, nine_naming, dao_naming, dodgem_naming, tactix_naming}
+use Rattle.gm_draw.specs.Names.{ring_naming, pong_naming, tapatan_naming, hare_naming}
 use Rattle.gm_draw.specs.declared.pictured.Style.{Style}
 use Rattle.gm_draw.specs.declared.pictured.Style.TheVariants.{Row, Discs, Letters, Counters, Stones}
 
@@ -186,6 +188,34 @@ shisima_spec = record {
   points = ring_points;
 }
 
+abbrev pub tapatan_spec : GameSpec
+tapatan_spec = record {
+  rules = tapatan_rules;
+  shown = way_text 9 tapatan;
+  move_shown = way_move_text tapatan;
+  drawn = λ p. filled tapatan_board (way_text 9 tapatan p);
+  mover = x_moves;
+  naming = tapatan_naming;
+  style = Discs;
+  title = codes "Tapatan";
+  board = tapatan_board;
+  points = tapatan_points;
+}
+
+abbrev pub dodgem_spec : GameSpec
+dodgem_spec = record {
+  rules = dodgem_rules;
+  shown = dodgem_text;
+  move_shown = dodgem_move;
+  drawn = λ p. filled dodgem_board (dodgem_text p);
+  mover = x_moves;
+  naming = dodgem_naming;
+  style = Stones;
+  title = codes "Dodgem";
+  board = dodgem_board;
+  points = square_points 3;
+}
+
 -- Tac Tix on a square of side n, by the misère rule or the normal one
 abbrev pub tactix_spec : ℕ → Bool → GameSpec
 tactix_spec n misere = record {
@@ -233,7 +263,9 @@ moving_named name =
     else (if is_same name (codes "hare") then Some hare_spec
     else (if is_same name (codes "ponghauki") then Some pong_spec
     else (if is_same name (codes "shisima") then Some shisima_spec
-    else tactix_named name))))
+    else (if is_same name (codes "tapatan") then Some tapatan_spec
+    else (if is_same name (codes "dodgem") then Some dodgem_spec
+    else tactix_named name))))))
 
 -- a game of three in a row, or one of those above
 abbrev pub lines_named : List ℕ → Option GameSpec

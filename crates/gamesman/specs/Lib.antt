@@ -12,4 +12,5 @@ pub mod Solving
 pub mod Checking
 pub mod Analysing
 pub mod Listing
+pub mod Plays
 pub mod Answers

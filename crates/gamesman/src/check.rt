@@ -16,10 +16,10 @@ use crate::run::DONE;
 use crate::teller::Teller;
 use gm_build::build_error::BuildError;
 use gm_build::inspect::{Inspected, inspect_text};
-use gm_build::watch::Watch;
 use gm_command::requests::Telling;
 use gm_game::game::Game;
 use gm_game::limits::TIER_SIZE;
+use gm_solver::observer::Observer;
 use gm_table::table::Table;
 use gm_table::tables::Tables;
 use gm_tierdb::folder_store::FolderStore;
@@ -162,7 +162,7 @@ fn check_tiers<
     ensures { IsCheckOf G.rules tiers.now (O.contents output.old) (O.contents output.new) result }
 {
     let mut status = DONE;
-    Watch::begin(teller, rt, tiers.len());
+    teller.begin(rt, tiers.len());
     for tier in tiers {
         teller.read(rt, *tier);
         let finding = check_tier(rt, folder, *tier, tables, output, teller)?;

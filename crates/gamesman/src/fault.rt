@@ -72,11 +72,16 @@ impl From<io::Error> for Fault {
 }
 
 impl From<SessionError> for Fault {
+    ghost use Rattle.gamesman.specs.Plays.{IsSessionFault};
+
+    ghost from_gives = { λ error fault. IsSessionFault error fault };
+
     fn from(error: SessionError) -> Fault {
         match error {
             SessionError::ReadFailed => Fault::InputFailed,
             SessionError::WriteFailed => Fault::OutputFailed,
             SessionError::TooMuchInput => Fault::TooMuchInput,
+            SessionError::OutputClosed => Fault::OutputClosed,
         }
     }
 }

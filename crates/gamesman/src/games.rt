@@ -18,6 +18,7 @@ use crate::tables::BuildOptions;
 use gm_command::defaults::{PIECE, SHARDS, WORKERS};
 use gm_command::requests::{GameRequest, TableLocation, Telling};
 pub use gm_dao::dao::Dao;
+pub use gm_dodgem::dodgem::Dodgem;
 use gm_draw::pictured::Pictured;
 pub use gm_hare::hare::Hare;
 pub use gm_morris::games::{Achi, ThreeMens, TicTacToe};
@@ -27,6 +28,7 @@ pub use gm_shisima::shisima::Shisima;
 use gm_solver::plan::Plan;
 pub use gm_tactix::tactix::TacTix;
 pub use gm_takeaway::takeaway::Takeaway;
+pub use gm_tapatan::tapatan::Tapatan;
 pub use gm_toys::countdown::Countdown;
 pub use gm_toys::wheel::Wheel;
 use std::fs::Files;
@@ -167,6 +169,8 @@ fn answer_moving<
         "hare" => answer::<Hare, R, I, O, E>(rt, asked, streams),
         "ponghauki" => answer::<Pong, R, I, O, E>(rt, asked, streams),
         "shisima" => answer::<Shisima, R, I, O, E>(rt, asked, streams),
+        "tapatan" => answer::<Tapatan, R, I, O, E>(rt, asked, streams),
+        "dodgem" => answer::<Dodgem, R, I, O, E>(rt, asked, streams),
         _ => answer_tactix(rt, game, asked, streams),
     }
 }

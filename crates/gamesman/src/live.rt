@@ -1,17 +1,14 @@
-//! The line at a terminal that says how far a build or a check is.
+//! The line at a terminal that shows how far a build or a check is.
 
 use arrayvec::ArrayString;
 use gm_build::progress::{Stage, is_due};
-use gm_build::watch::Watch;
 use gm_game::game::Game;
 use gm_game::position::{Phase, Place};
-use gm_settle::meter::Meter;
-use gm_solver::gate::Gate;
-use gm_solver::source::{Counter, Source};
+use gm_solver::observer::Observer;
 use std::fmt::{self, Write as _};
 use std::io::Write;
 use std::marker::PhantomData;
-use std::sync::atomic::{AtomicBool, AtomicU64, AtomicUsize, Ordering};
+use std::sync::atomic::{AtomicU64, AtomicUsize, Ordering};
 use std::sync::{Mutex, Wait};
 use std::time::{Clock, Duration};
 
@@ -20,9 +17,6 @@ const SHORT: u64 = 1000;
 
 /// A tier of so many indexes or more is told of at once, since it may be long until anything else is known of it.
 const MANY: u64 = 500_000;
-
-/// How many deliveries lie between two readings of the clock within a level.
-const OFTEN: u64 = 4096;
 
 /// The bytes of the longest line.
 const WIDTH: usize = 128;
@@ -94,8 +88,7 @@ impl<E: Write> Screen<'_, E> {
     }
 }
 
-/// One line at a terminal that says how far a build is, and is written over and over: as its watch, its meter, its gate and its source. No worker waits for
-/// another one that is writing.
+/// Observes a build, and shows how far it is in one line of a terminal, which is written over and over. No thread waits for another one that is writing.
 #[derive(Drop)]
 pub struct Live<'a, G: Game, C, E: Write> {
     clock: &'a C,
@@ -109,9 +102,6 @@ pub struct Live<'a, G: Game, C, E: Write> {
     done: AtomicU64,
     size: AtomicU64,
     settled: AtomicU64,
-    delivered: AtomicU64,
-    level_begins: AtomicBool,
-    pieces: Counter,
     screen: Mutex<Screen<'a, E>>,
     game: PhantomData<G>,
 }
@@ -169,9 +159,6 @@ impl<'a, G: Game, C: Clock, E: Write> Live<'a, G, C, E> {
             done: AtomicU64::new(0),
             size: AtomicU64::new(0),
             settled: AtomicU64::new(0),
-            delivered: AtomicU64::new(0),
-            level_begins: AtomicBool::new(false),
-            pieces: Counter::new(),
             screen: Mutex::new(screen),
             game: PhantomData,
         }
@@ -190,8 +177,8 @@ impl<'a, G: Game, C: Clock, E: Write> Live<'a, G, C, E> {
         (last.is_some() || long) && is_due(last, now)
     }
 
-    // Writes the line, where it is due and the clock can be read.
-    fn tell(&self, stage: Stage) {
+    // Writes the line if it is due and the clock can be read.
+    fn show(&self, stage: Stage) {
         let (Some(mut screen), Some(begun)) = (self.screen.try_lock(), self.begun) else {
             return;
         };
@@ -220,16 +207,9 @@ impl<'a, G: Game, C: Clock, E: Write> Live<'a, G, C, E> {
             },
         }
     }
-
-    fn tell_level(&self, place: Place) {
-        self.tell(Stage::Level {
-            phase: place.phase,
-            remoteness: place.level,
-        });
-    }
 }
 
-impl<G: Game + Sync, C: Clock + Sync, E: Write + Send> Watch for Live<'_, G, C, E> {
+impl<G: Game + Sync, C: Clock + Sync, E: Write + Send> Observer for Live<'_, G, C, E> {
     fn begin<R: Wait>(&self, _rt: &R, tiers: usize) {
         self.tiers.store(tiers, Ordering::SeqCst);
     }
@@ -240,49 +220,27 @@ impl<G: Game + Sync, C: Clock + Sync, E: Write + Send> Watch for Live<'_, G, C, 
         self.size.store(G::tier_size(tier), Ordering::SeqCst);
         self.settled.store(0, Ordering::SeqCst);
         self.number.fetch_add(1, Ordering::SeqCst);
-        self.tell(Stage::Check);
+        self.show(Stage::Check);
     }
 
     fn settle<R: Wait>(&self, _rt: &R, _tier: u64, _size: u64) {}
 
-    fn solve<R: Wait>(&self, _rt: &R, _tier: u64) {
-        self.settled.store(0, Ordering::SeqCst);
-        self.tell(Stage::Scan);
-    }
-}
-
-impl<G: Game + Sync, C: Clock + Sync, E: Write + Send> Meter for Live<'_, G, C, E> {
     fn settled(&self, indexes: u64) {
         self.settled.fetch_add(indexes, Ordering::SeqCst);
-        self.tell(Stage::Settle { share: 0 });
-    }
-}
-
-impl<G: Game + Sync, C: Clock + Sync, E: Write + Send> Gate for Live<'_, G, C, E> {
-    const EACH: bool = false;
-
-    fn before<R: Wait>(&self, _rt: &R, _worker: usize, place: Place) {
-        if self.level_begins.load(Ordering::SeqCst) {
-            self.level_begins.store(false, Ordering::SeqCst);
-            self.tell_level(place);
-        }
+        self.show(Stage::Settle { share: 0 });
     }
 
-    fn after<R: Wait>(&self, _rt: &R, _worker: usize, place: Place) {
-        let before = self.delivered.fetch_add(1, Ordering::SeqCst);
-        if before % OFTEN == OFTEN - 1 {
-            self.tell_level(place);
-        }
-    }
-}
-
-impl<G: Game + Sync, C: Clock + Sync, E: Write + Send> Source for Live<'_, G, C, E> {
-    fn begin<R: Wait>(&self, rt: &R, pieces: usize) {
-        self.level_begins.store(true, Ordering::SeqCst);
-        self.pieces.begin(rt, pieces);
+    fn solve<R: Wait>(&self, _rt: &R, _tier: u64) {
+        self.settled.store(0, Ordering::SeqCst);
+        self.show(Stage::Scan);
     }
 
-    fn next<R: Wait>(&self, rt: &R, worker: usize) -> Option<usize> {
-        self.pieces.next(rt, worker)
+    fn level<R: Wait>(&self, _rt: &R, place: Place) {
+        self.show(Stage::Level {
+            phase: place.phase,
+            remoteness: place.level,
+        });
     }
+
+    fn delivered<R: Wait>(&self, _rt: &R, _pairs: u64) {}
 }

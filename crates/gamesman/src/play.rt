@@ -1,10 +1,18 @@
 //! A session of play, from the start of a game or from a position.
-ghost use Rattle.std.specs.Prelude.{◌≡◌, true};
+ghost use Rattle.std.specs.Prelude.{◌≡◌, ◌++◌, ℕ, codes, true, IfErr, OnErr, OnOk};
+ghost use Rattle.std.specs.Io.KnownBytes.{Appends};
 ghost use Rattle.gm_tiers.specs.Orders.{IsOrderFrom};
 ghost use Rattle.gm_build.specs.Work.{HoldsExactly};
+ghost use Rattle.gm_best.specs.Sides.{IsWonIn, IsEven};
+ghost use Rattle.gm_play.specs.Dialogue.{Advice, IsKnown};
+ghost use Rattle.gm_play.specs.LastLines.{EndsWon, EndsUnlost, WritesOne};
+ghost use Rattle.gm_play.specs.Sessions.{IsSession, IsBroken, AppendsPart};
+ghost use Rattle.gamesman.specs.Outputs.{IsOutputFault};
+ghost use Rattle.gamesman.specs.Plays.{first_text as first_text_spec, whose_text as whose_text_spec, sides_text, opening, seen_by, IsSitting, IsPlayed};
 
 use crate::explore::position_of;
 use crate::fault::Fault;
+use crate::output::put;
 use crate::run::DONE;
 use crate::tables::BuildOptions;
 use gm_best::known::Known;
@@ -14,10 +22,11 @@ use gm_command::requests::PlayRequest;
 use gm_draw::boards::Boards;
 use gm_draw::drawn::Drawn;
 use gm_game::position::Position;
-use gm_play::session::{session, session_with};
+use gm_play::session::session_with;
 use gm_play::session_error::SessionError;
+use gm_play::view::Plain;
 use std::fs::Files;
-use std::io::{self, ErrorKind, Read, Write};
+use std::io::{Read, Write};
 use std::sync::Wait;
 use std::thread::Threads;
 use std::time::Clock;
@@ -35,7 +44,9 @@ pub fn play<
     options: BuildOptions<'_, E>,
     input: &mut I,
     output: &mut O,
-) -> Result<u8, Fault> {
+) -> Result<u8, Fault>
+    ensures { IsPlayed G.Game.rules G.shown G.move_shown G.drawn G.mover asked.entry (I.remaining input.old) (O.contents output.old) (O.contents output.new) result }
+{
     let start = position_of::<G>(asked.position)?;
     let built = options.build_from::<G, R>(rt, start.tier)?;
     let played = play_from(&built, start, asked, input, output);
@@ -43,56 +54,97 @@ pub fn play<
     played
 }
 
-// Says who the person is, where boards are drawn: always `x` in a game of `x` and `o`.
-fn write_sides<G: Drawn, O: Write>(
+// Who moves first, as a line.
+fn first_text(first: Side) -> &'static [u8]
+    ensures { result.now ≡ first_text_spec first }
+{
+    match first {
+        Side::You => b"you move first\n",
+        Side::Computer => b"the computer moves first\n",
+    }
+}
+
+// The beginning of the line on which side one of the two has.
+fn whose_text(side: Side) -> &'static [u8]
+    ensures { result.now ≡ whose_text_spec side }
+{
+    match side {
+        Side::You => b"you are the ",
+        Side::Computer => b"the computer is the ",
+    }
+}
+
+// Writes which side one of the two has.
+fn write_side<O: Write>(side: Side, mover: &[u8], output: &mut O) -> Result<(), Fault>
+    ensures ok { OnOk result (Appends (O.contents output.old) (O.contents output.new) (whose_text_spec side ++ mover.now ++ codes "\n")) }
+    ensures err { OnErr result (AppendsPart (O.contents output.old) (O.contents output.new) (whose_text_spec side ++ mover.now ++ codes "\n")) }
+    ensures fault { IfErr result IsOutputFault }
+{
+    put(output, whose_text(side))?;
+    put(output, mover)?;
+    put(output, b"\n")
+}
+
+// Writes who the person is: always `x` in a game of `x` and `o`.
+fn write_sides<O: Write>(mover: &[u8], first: Side, output: &mut O) -> Result<(), Fault>
+    ensures ok { OnOk result (Appends (O.contents output.old) (O.contents output.new) (sides_text mover.now first)) }
+    ensures err { OnErr result (AppendsPart (O.contents output.old) (O.contents output.new) (sides_text mover.now first)) }
+    ensures fault { IfErr result IsOutputFault }
+{
+    if mover == b"x".as_slice() {
+        return put(output, b"you are x, the computer is o\n");
+    }
+    if mover == b"player".as_slice() {
+        return put(output, first_text(first));
+    }
+    write_side(first, mover, output)
+}
+
+// Writes what stands before the dialogue: who the person is, where boards are drawn.
+fn write_opening<G: Drawn, O: Write>(
     start: Position,
     first: Side,
+    drawn: bool,
     output: &mut O,
 ) -> Result<(), Fault>
     requires { G.Game.rules.is_legal start ≡ true }
+    ensures ok { OnOk result (Appends (O.contents output.old) (O.contents output.new) (opening drawn (G.mover start) first)) }
+    ensures err { OnErr result (AppendsPart (O.contents output.old) (O.contents output.new) (opening drawn (G.mover start) first)) }
+    ensures fault { IfErr result IsOutputFault }
 {
-    match (G::mover(start), first) {
-        (b"x", _) => output.write_all(b"you are x, the computer is o\n")?,
-        (b"player", Side::You) => output.write_all(b"you move first\n")?,
-        (b"player", Side::Computer) => output.write_all(b"the computer moves first\n")?,
-        (mover, Side::You) => write_side(b"you are the ", mover, output)?,
-        (mover, Side::Computer) => write_side(b"the computer is the ", mover, output)?,
+    if !drawn {
+        return Ok(());
     }
-    Ok(())
+    write_sides(G::mover(start), first, output)
 }
 
-// Says which side one of the two has.
-fn write_side<O: Write>(who: &[u8], mover: &[u8], output: &mut O) -> Result<(), Fault> {
-    output.write_all(who)?;
-    output.write_all(mover)?;
-    output.write_all(b"\n")?;
-    Ok(())
-}
-
-// An output that tells, after a write has failed, whether that was since its reader has closed it.
-#[derive(Drop)]
-struct Watched<'a, O> {
-    output: &'a mut O,
-    closed: bool,
-}
-
-impl<O: Write> Write for Watched<'_, O> {
-    fn write(&mut self, buf: &[u8]) -> io::Result<usize> {
-        match self.output.write(buf) {
-            Ok(count) => Ok(count),
-            Err(error) => {
-                self.closed = error.kind() == ErrorKind::BrokenPipe;
-                Err(error)
-            }
-        }
-    }
-
-    fn flush(&mut self) -> io::Result<()> {
-        self.output.flush()
+// Holds the session, with boards or without.
+fn sit<G: Drawn, I: Read, O: Write>(
+    known: &Known<'_, G>,
+    first: Side,
+    drawn: bool,
+    input: &mut I,
+    output: &mut O,
+) -> Result<(), SessionError>
+    ensures ok { (k : Advice) → IsKnown G.Game.rules known.now.position.tier k
+        → OnOk result (IsSession G.Game.rules G.shown G.move_shown k (seen_by G.Game.rules G.shown G.move_shown G.drawn G.mover drawn)
+        known.now.position first (I.remaining input.old) (I.remaining input.new) (O.contents output.old) (O.contents output.new)) }
+    ensures err { (k : Advice) → IsKnown G.Game.rules known.now.position.tier k
+        → IfErr result (λ e. IsBroken G.Game.rules G.shown G.move_shown k (seen_by G.Game.rules G.shown G.move_shown G.drawn G.mover drawn)
+        known.now.position first e (I.remaining input.old) (I.remaining input.new) (O.contents output.old) (O.contents output.new)) }
+    ensures won { (n : ℕ) → IsWonIn G.Game.rules known.now.position first n
+        → OnOk result (WritesOne EndsWon (O.contents output.old) (O.contents output.new)) }
+    ensures even { IsEven G.Game.rules known.now.position → OnOk result (WritesOne EndsUnlost (O.contents output.old) (O.contents output.new)) }
+    ensures known { (k : Advice) × IsKnown G.Game.rules known.now.position.tier k }
+{
+    if drawn {
+        session_with::<G, Boards, I, O>(known, first, input, output)
+    } else {
+        session_with::<G, Plain, I, O>(known, first, input, output)
     }
 }
 
-// A session over the tables of all tiers that play from its start can come to.
+// Plays over the tables of all tiers that play from its start can come to.
 fn play_from<G: Drawn, I: Read, O: Write>(
     built: &Built<G>,
     start: Position,
@@ -103,26 +155,14 @@ fn play_from<G: Drawn, I: Read, O: Write>(
     requires order { IsOrderFrom G.Game.rules start.tier built.now.order }
     requires held { HoldsExactly built.now.tables built.now.order }
     requires legal { G.Game.rules.is_legal start ≡ true }
+    ensures { IsSitting G.Game.rules G.shown G.move_shown G.drawn G.mover asked.entry start (I.remaining input.old) (O.contents output.old) (O.contents output.new)
+        result }
 {
-    if asked.drawn {
-        write_sides::<G, O>(start, asked.first, output)?;
-    }
-    let mut watched = Watched {
-        output,
-        closed: false,
+    write_opening::<G, O>(start, asked.first, asked.drawn, output)?;
+    let known = Known {
+        tables: &built.tables,
+        position: start,
     };
-    let ended = if asked.drawn {
-        let known = Known {
-            tables: &built.tables,
-            position: start,
-        };
-        session_with::<G, Boards, I, Watched<'_, O>>(&known, asked.first, input, &mut watched)
-    } else {
-        session(&built.tables, start, asked.first, input, &mut watched)
-    };
-    match ended {
-        Ok(()) => Ok(DONE),
-        Err(SessionError::WriteFailed) if watched.closed => Err(Fault::OutputClosed),
-        Err(error) => Err(Fault::from(error)),
-    }
+    sit(&known, asked.first, asked.drawn, input, output)?;
+    Ok(DONE)
 }

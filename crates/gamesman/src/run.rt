@@ -33,7 +33,7 @@ const LISTED: &[u8] =
     b"countdown\nwheel\ntactix-1\ntactix-2\ntactix-3\ntactix-4\ntactix-5\ntactix-1-misere\ntactix-2-misere\n\
 tactix-3-misere\ntactix-4-misere\ntactix-5-misere\ntictactoe\nthreemens\nachi\nmutorere\ndao\nhare\n";
 
-const LISTED_LATER: &[u8] = b"ponghauki\nshisima\ntakeaway\n";
+const LISTED_LATER: &[u8] = b"ponghauki\nshisima\ntakeaway\ntapatan\ndodgem\n";
 
 fn list<O: Write>(all: bool, output: &mut O) -> Result<u8, Fault>
     ensures { IsPut (listed all) (O.contents output.old) (O.contents output.new) result }

@@ -14,7 +14,9 @@ use gm_build::build::{Built, build_from};
 use gm_build::build_error::BuildError;
 use gm_command::requests::{TableLocation, Telling};
 use gm_game::game::Game;
+use gm_solver::gate::NoGate;
 use gm_solver::plan::Plan;
+use gm_solver::source::Counter;
 use gm_tiers::order::TierOrder;
 use std::alloc::AllocError;
 use std::fs::Files;
@@ -121,7 +123,16 @@ fn build_over<
 {
     let alloc = rt.alloc();
     let teller: Teller<'_, G, R, E> = Teller::new(rt, errors, telling, tiers);
-    let built = build_from(rt, alloc, first, shelf, plan, &teller, &teller, &teller);
+    let built = build_from(
+        rt,
+        alloc,
+        first,
+        shelf,
+        plan,
+        &NoGate,
+        &Counter::new(),
+        &teller,
+    );
     teller.clear();
     drop(teller);
     built

@@ -1,19 +1,16 @@
-//! What tells standard error how far a build or a check is.
+//! Reports on standard error how far a build or a check is.
 
 use crate::live::Live;
 use gm_build::progress::Progress;
-use gm_build::watch::Watch;
 use gm_command::requests::Telling;
 use gm_game::game::Game;
 use gm_game::position::Place;
-use gm_settle::meter::Meter;
-use gm_solver::gate::Gate;
-use gm_solver::source::Source;
+use gm_solver::observer::Observer;
 use std::io::Write;
 use std::sync::Wait;
 use std::time::Clock;
 
-/// Tells of a build by lines, by one line at a terminal, or not at all. One type for all three, since a build is compiled once for each type of watch.
+/// Reports a build by lines, by one line at a terminal, or not at all. One type for all three, since a build is compiled once for each type of observer.
 #[derive(Drop)]
 pub enum Teller<'a, G: Game, C, E: Write> {
     Lines(Progress<'a, C, E>),
@@ -21,7 +18,7 @@ pub enum Teller<'a, G: Game, C, E: Write> {
 }
 
 impl<'a, G: Game, C: Clock, E: Write> Teller<'a, G, C, E> {
-    /// What tells of a build of these tiers, or of a check of them.
+    /// Returns what reports a build of these tiers, or a check of them.
     pub fn new(clock: &'a C, errors: &'a mut E, telling: Telling, tiers: &[u64]) -> Self {
         match telling {
             Telling::Quiet => Teller::Lines(Progress::quiet(clock, errors)),
@@ -48,11 +45,11 @@ fn indexes_of<G: Game>(tiers: &[u64]) -> u64 {
     all
 }
 
-impl<G: Game + Sync, C: Clock + Sync, E: Write + Send> Watch for Teller<'_, G, C, E> {
+impl<G: Game + Sync, C: Clock + Sync, E: Write + Send> Observer for Teller<'_, G, C, E> {
     fn begin<R: Wait>(&self, rt: &R, tiers: usize) {
         match self {
-            Teller::Lines(lines) => Watch::begin(lines, rt, tiers),
-            Teller::Live(live) => Watch::begin(live, rt, tiers),
+            Teller::Lines(lines) => lines.begin(rt, tiers),
+            Teller::Live(live) => live.begin(rt, tiers),
         }
     }
 
@@ -70,53 +67,31 @@ impl<G: Game + Sync, C: Clock + Sync, E: Write + Send> Watch for Teller<'_, G, C
         }
     }
 
-    fn solve<R: Wait>(&self, rt: &R, tier: u64) {
-        match self {
-            Teller::Lines(lines) => lines.solve(rt, tier),
-            Teller::Live(live) => live.solve(rt, tier),
-        }
-    }
-}
-
-impl<G: Game + Sync, C: Clock + Sync, E: Write + Send> Meter for Teller<'_, G, C, E> {
     fn settled(&self, indexes: u64) {
         match self {
             Teller::Lines(lines) => lines.settled(indexes),
             Teller::Live(live) => live.settled(indexes),
         }
     }
-}
 
-impl<G: Game + Sync, C: Clock + Sync, E: Write + Send> Gate for Teller<'_, G, C, E> {
-    const EACH: bool = false;
-
-    fn before<R: Wait>(&self, rt: &R, worker: usize, place: Place) {
+    fn solve<R: Wait>(&self, rt: &R, tier: u64) {
         match self {
-            Teller::Lines(lines) => lines.before(rt, worker, place),
-            Teller::Live(live) => live.before(rt, worker, place),
+            Teller::Lines(lines) => lines.solve(rt, tier),
+            Teller::Live(live) => live.solve(rt, tier),
         }
     }
 
-    fn after<R: Wait>(&self, rt: &R, worker: usize, place: Place) {
+    fn level<R: Wait>(&self, rt: &R, place: Place) {
         match self {
-            Teller::Lines(lines) => lines.after(rt, worker, place),
-            Teller::Live(live) => live.after(rt, worker, place),
-        }
-    }
-}
-
-impl<G: Game + Sync, C: Clock + Sync, E: Write + Send> Source for Teller<'_, G, C, E> {
-    fn begin<R: Wait>(&self, rt: &R, pieces: usize) {
-        match self {
-            Teller::Lines(lines) => Source::begin(lines, rt, pieces),
-            Teller::Live(live) => Source::begin(live, rt, pieces),
+            Teller::Lines(lines) => lines.level(rt, place),
+            Teller::Live(live) => live.level(rt, place),
         }
     }
 
-    fn next<R: Wait>(&self, rt: &R, worker: usize) -> Option<usize> {
+    fn delivered<R: Wait>(&self, rt: &R, pairs: u64) {
         match self {
-            Teller::Lines(lines) => lines.next(rt, worker),
-            Teller::Live(live) => live.next(rt, worker),
+            Teller::Lines(lines) => lines.delivered(rt, pairs),
+            Teller::Live(live) => live.delivered(rt, pairs),
         }
     }
 }

@@ -22,7 +22,7 @@ pub struct Analysis {
     /// How many of them are legal and canonical, and so have a record.
     pub canonical: u64,
     pub counts: Counts,
-    /// The greatest remoteness of a win and the least index that has it; `None` where there is no win.
+    /// The greatest remoteness of a win and the least index that has it; `None` if there is no win.
     pub longest_win: Option<(u32, u64)>,
 }
 

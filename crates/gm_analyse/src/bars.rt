@@ -32,8 +32,8 @@ pub enum Form {
 // The longest bar.
 const WHOLE: &[u8] = b"########################################";
 
-/// The counts of some tiers as lines of text, as `tier_counts` gives them. Where each tier is counted by itself its number is told: before each row, or as a
-/// member of the line of JSON.
+/// Returns the counts of some tiers as lines of text, as `tier_counts` gives them. If each tier is counted by itself, its number is written: before each row,
+/// or as a member of the line of JSON.
 pub fn counts_text<G: Game>(
     alloc: Global,
     known: &KnownTiers<'_, G>,
@@ -94,7 +94,7 @@ fn push_bar(rows: &mut Vec<u8>, greatest: u64, x: TierCount) -> Result<(), Alloc
     push_count(rows, greatest, x.count)
 }
 
-// Appends the number of a tier, where there is one, and what stands after it.
+// Appends the number of a tier, if there is one, and the text after it.
 fn push_tier(rows: &mut Vec<u8>, tier: Option<u64>, after: &[u8]) -> Result<(), AllocError>
     ensures { OnOk result (rows.new.items ≡ rows.old.items ++ tier_field after.now tier) }
 {
@@ -167,7 +167,7 @@ fn push_csv(rows: &mut Vec<u8>, x: TierCount) -> Result<(), AllocError>
     push_number(rows, count.number, b"\n")
 }
 
-// Appends a number and what stands after it.
+// Appends a number and the text after it.
 fn push_number(rows: &mut Vec<u8>, number: u64, after: &[u8]) -> Result<(), AllocError>
     ensures { OnOk result (rows.new.items ≡ rows.old.items ++ (decimal number ++ after.now)) }
 {

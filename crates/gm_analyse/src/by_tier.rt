@@ -14,15 +14,15 @@ use gm_game::game::Game;
 use gm_table::tables::Tables;
 use std::alloc::{AllocError, Global};
 
-/// A count, of one tier where each tier is counted by itself.
+/// A count, of one tier if each tier is counted by itself.
 #[derive(Clone, Copy, Debug, PartialEq, Eq)]
 pub struct TierCount {
     pub tier: Option<u64>,
     pub count: Count,
 }
 
-/// Counts the positions of some tiers by value and remoteness, in the order Lose, Draw, Tie, Win, then by remoteness: all tiers together or, where `by_tier` is
-/// set, tier by tier in the order given. The canonical positions are counted, or all legal ones; where a set of reached positions is given, only those with a
+/// Counts the positions of some tiers by value and remoteness, in the order Lose, Draw, Tie, Win, then by remoteness: all tiers together or, if `by_tier` is
+/// set, tier by tier in the order given. The canonical positions are counted, or all legal ones; if a set of reached positions is given, only those with a
 /// canonical position in it.
 pub fn tier_counts<G: Game>(
     alloc: Global,

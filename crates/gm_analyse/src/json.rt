@@ -17,7 +17,7 @@ use std::alloc::{AllocError, Global};
 use std::str;
 
 /// The analysis of a tier of the game as one line of compact JSON, with its members in alphabetical order. Each count is a list of a value's word, the
-/// remoteness and the number; the longest win is a list of the remoteness and the index, or null where there is none.
+/// remoteness and the number; the longest win is a list of the remoteness and the index, or null if there is none.
 pub fn to_json<G: Game>(alloc: Global, analysis: &Analysis) -> Result<String, AllocError>
     ensures { IfOk result (λ s. string_bytes s ≡ compact_text (analysis_tree (name_text G.rules.name) analysis.now)) }
 {
@@ -38,7 +38,7 @@ fn text_of(name: &[u8; NAME]) -> &str
     str::from_utf8(&name[..end]).unwrap()
 }
 
-// Where a padded name ends, if it is shorter than its bytes.
+// Returns the end of a padded name, if it is shorter than its bytes.
 fn first_zero(name: &[u8]) -> Option<usize>
     ensures value { result ≡ position (λ b. b == 0) name.now }
     ensures within { IfSome result (λ end. end < length name.now) }

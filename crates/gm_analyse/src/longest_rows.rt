@@ -19,7 +19,7 @@ use std::alloc::{AllocError, Global};
 
 /// The rows of the longest wins of some tiers, and then of the longest losses: the position, its value, its best move and the number of its moves, with a tab
 /// between them. They are the canonical positions with the greatest remoteness, tier by tier in the order given and by ascending index: of the wins the first,
-/// at most `limit`, and of the losses too. Where a set of reached positions is given, only positions in it count.
+/// at most `limit`, and of the losses too. If a set of reached positions is given, only positions in it count.
 pub fn longest_text<G: Shown>(
     alloc: Global,
     known: &KnownTiers<'_, G>,
@@ -53,7 +53,7 @@ fn rows_of_longest<G: Shown>(
     }
 }
 
-// What is sought where the greatest remoteness is known.
+// Returns the filter for the greatest remoteness.
 fn longest(value: Value, remoteness: u32) -> Sought
     ensures { result ≡ longest_spec value remoteness }
 {
@@ -70,8 +70,8 @@ fn longest(value: Value, remoteness: u32) -> Sought
     }
 }
 
-/// The greatest remoteness of the canonical positions of a value; `None` where no position has it. Where a set of reached positions is given, only positions in
-/// it count.
+/// Returns the greatest remoteness of the canonical positions of a value; `None` if no position has it. If a set of reached positions is given, only positions
+/// in it count.
 pub fn greatest<G: Game>(
     alloc: Global,
     known: &KnownTiers<'_, G>,

@@ -13,9 +13,8 @@ use gm_game::game::Game;
 use gm_game::position::Value;
 use std::alloc::{AllocError, Global};
 
-/// Counts the positions of some tiers by value and remoteness, in the order Lose, Draw, Tie, Win, then by remoteness: the canonical ones, or all legal ones.
-/// Where a set of reached positions is given, only positions with a canonical position in it are counted. All positions of the tiers are gone through four
-/// times.
+/// Counts the positions of some tiers by value and remoteness, in the order Lose, Draw, Tie, Win, then by remoteness: the canonical ones, or all legal ones. If
+/// a set of reached positions is given, only positions with a canonical position in it are counted. Reads all positions of the tiers four times.
 pub fn counts<G: Game>(
     alloc: Global,
     known: &KnownTiers<'_, G>,

@@ -19,10 +19,10 @@ pub(crate) struct Choice {
     remoteness: u32,
 }
 
-/// The number of the best move, or `None` where the game has ended. From Win it goes to a Lose of least remoteness, from Lose to a Win of greatest remoteness,
-/// from Tie to a Tie of least remoteness, from Draw to a Draw; among equals it has the least number. It takes no memory.
+/// Returns the number of the best move, or `None` at an end. From Win it goes to a Lose of least remoteness, from Lose to a Win of greatest remoteness, from
+/// Tie to a Tie of least remoteness, from Draw to a Draw; among equals it has the least number. It takes no memory.
 ///
-/// `Illegal` is tested before `NotHeld`, which comes where the tier of the position or one of its child tiers has no table, even where the game has ended.
+/// `Illegal` is tested before `NotHeld`, which comes if the tier of the position or one of its child tiers has no table, even at an end.
 pub fn best_move<G: Game>(tables: &Tables<G>, p: Position) -> Result<Option<u32>, AnswerError>
     ensures best { IfOk result (IsBestMove G.rules p) }
     ensures illegal { IsErrOf result AnswerError.Illegal ↔ (G.rules.is_legal p ≡ false) }

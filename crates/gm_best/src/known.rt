@@ -44,7 +44,7 @@ impl<'t, G: Game> Known<'t, G> {
         self.tables.get(self.position).unwrap()
     }
 
-    /// The number of the best move, or `None` where the game has ended. It takes no memory.
+    /// Returns the number of the best move, or `None` at an end. It takes no memory.
     pub fn best_move(&self) -> Option<u32>
         ensures { IsBestMove G.rules self.now.position result }
     {

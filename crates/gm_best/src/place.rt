@@ -1,4 +1,4 @@
-//! Where positions stand: their tiers and indexes.
+//! The tiers and indexes of positions.
 ghost use Rattle.std.specs.Prelude.{◌≡◌, ◌↔◌, None, IfOk, IfErr, IfSome};
 ghost use Rattle.gm_best.specs.Places.{IsAt, IsRefusedAt, IsLocated, IsUnlocated, ArePlaces, place_number_of};
 
@@ -7,7 +7,7 @@ use gm_game::position::Position;
 use gm_game::shown::{Shown, texts};
 use thiserror::Error;
 
-/// Why no canonical position stands at a tier and index.
+/// Why a tier and an index have no canonical position.
 #[derive(Clone, Copy, Debug, PartialEq, Eq, Error)]
 pub enum PlaceError {
     /// The tier has no index.
@@ -47,7 +47,7 @@ pub struct Located {
 
 /// The canonical position with this index of a tier. It takes no memory and asks no table.
 ///
-/// The refusals are tested in the order of their numbers, and each comes exactly where its condition holds and no earlier one's does.
+/// The refusals are tested in the order of their numbers, and each comes exactly if its condition holds and no earlier one's does.
 pub fn at<G: Game>(tier: u64, index: u64) -> Result<Position, PlaceError>
     ensures position { IfOk result (IsAt G.rules tier index) }
     ensures refused { IfErr result (IsRefusedAt G.rules tier index) }
@@ -69,7 +69,7 @@ pub fn at<G: Game>(tier: u64, index: u64) -> Result<Position, PlaceError>
     Ok(p)
 }
 
-/// Where the legal position with this text stands, if there is one. Any bytes may be given. It takes no memory and asks no table.
+/// Returns the tier and index of the legal position with this text, if there is one. Any bytes may be given. It takes no memory and asks no table.
 pub fn locate<G: Shown>(text: &[u8]) -> Option<Located>
     ensures located { IfSome result (IsLocated G.Game.rules G.shown text.now) }
     ensures none { result ≡ None ↔ IsUnlocated G.Game.rules G.shown text.now }

@@ -60,7 +60,7 @@ impl Arrangement {
         (mine, theirs)
     }
 
-    /// The number of cells without the mover's pieces, 0 where the mover has more pieces than there are cells.
+    /// The number of cells without the mover's pieces, 0 if the mover has more pieces than there are cells.
     #[inline(always)]
     fn free(self) -> u32
         ensures { result ≡ self.cells - self.mine }

@@ -17,7 +17,7 @@ impl<const K: usize> MixedRadix<K> {
     {
         let mut size: u64 = 1;
         for k in (0..K).rev() {
-            // The product of the later radices can be too large where an earlier one is 0.
+            // The product of the later radices can be too large if an earlier one is 0.
             size = size.wrapping_mul(self.radices[k]);
         }
         size

@@ -8,9 +8,9 @@ ghost use Rattle.gm_build.specs.Outcomes.{failures_in, IsBuildError, IsStopped};
 
 use crate::build_error::BuildError;
 use crate::tier::{TierOutcome, build_tier};
-use crate::watch::{NoWatch, Watch};
 use gm_game::game::{Game, laws};
 use gm_solver::gate::Gate;
+use gm_solver::observer::{NoObserver, Observer};
 use gm_solver::plan::Plan;
 use gm_solver::source::Source;
 use gm_table::tables::Tables;
@@ -33,9 +33,9 @@ pub struct Built<G: Game> {
     pub reused: usize,
     /// How many of them were migrated: the store had the text of their true table in version 1, and has the new one.
     pub migrated: usize,
-    /// The number of deliveries of the tiers that were solved, the same whatever the workers did.
+    /// The number of deliveries of the tiers that were solved. It does not depend on the workers.
     pub deliveries: u64,
-    /// How many of them the coordinator did itself.
+    /// The number of deliveries that the coordinator made itself.
     pub by_hand: u64,
 }
 
@@ -56,11 +56,11 @@ impl<G: Game> Drop for Built<G> {
 
 /// Builds a game: the true table of each tier that it reaches, child tiers first. The order of tiers is made before the first read. Then each tier is read
 /// once: a text that `decode` and `check` accept is reused and not written; a text of version 1 that `decode_v1` and `check` accept is migrated, by one write
-/// of the tier's text; otherwise the tier is solved, and its text is written once. By `Plan::new` every tier is solved by workers, with the gate round each
-/// delivery and the source asked for each piece; by `Plan::fastest` they are asked only in tiers that workers solve.
+/// of the tier's text; otherwise the tier is solved, and its text is written once. By `Plan::new` workers solve every tier, with the gate round each delivery
+/// and the source asked for each piece; by `Plan::fastest` they solve only tiers in which a move stays.
 ///
 /// Neither the tables nor the texts nor the number of deliveries depend on the plan, the gate or the source. Of a store that does not keep its map, such as a
-/// folder, nothing is promised about its texts, but the tables are true all the same. The store's count of failures rises exactly where the answer is
+/// folder, nothing is promised about its texts, but the tables are true all the same. The store's count of failures rises exactly if the result is
 /// `StoreFailed`.
 pub fn build<G: Game + Send + Sync, R: Threads + Wait + Files + Sync, S: Store, T: Gate, P: Source>(
     rt: &R,
@@ -92,18 +92,18 @@ pub fn build<G: Game + Send + Sync, R: Threads + Wait + Files + Sync, S: Store, 
     ensures count { S.failed store.new ≡ S.failed store.old + failures_in result }
 {
     let first = G::initial().tier;
-    build_from(rt, alloc, first, store, plan, gate, source, &NoWatch)
+    build_from(rt, alloc, first, store, plan, gate, source, &NoObserver)
 }
 
 /// Builds the tiers that one tier reaches, itself included, as `build` builds those that the initial tier reaches: the tiers on which the values of that tier
-/// rest. No other entry of the store is read or written. The watch is called as the build goes on, and nothing depends on what it does.
+/// rest. No other entry of the store is read or written. The observer is called as the build goes on, and nothing depends on what it does.
 pub fn build_from<
     G: Game + Send + Sync,
     R: Threads + Wait + Files + Sync,
     S: Store,
     T: Gate,
     P: Source,
-    H: Watch,
+    O: Observer,
 >(
     rt: &R,
     alloc: Global,
@@ -112,7 +112,7 @@ pub fn build_from<
     plan: Plan,
     gate: &T,
     source: &P,
-    watch: &H,
+    observer: &O,
 ) -> Result<Built<G>, BuildError>
     requires { S.failed store.old < u64.MAX }
 
@@ -136,7 +136,7 @@ pub fn build_from<
     ensures count { S.failed store.new ≡ S.failed store.old + failures_in result }
 {
     let order = TierOrder::from_tier(alloc, first)?;
-    watch.begin(rt, order.tiers().len());
+    observer.begin(rt, order.tiers().len());
     let mut tables = Tables::new(alloc);
     let mut solved = 0;
     let mut reused = 0;
@@ -155,7 +155,7 @@ pub fn build_from<
             plan,
             gate,
             source,
-            watch,
+            observer,
         )? {
             TierOutcome::Reused => reused += 1,
             TierOutcome::Migrated => migrated += 1,

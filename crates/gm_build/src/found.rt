@@ -33,7 +33,7 @@ pub enum Found<G: Game> {
     Nothing,
 }
 
-/// Reads the entry of a tier once, and answers what it is. The child tiers are held.
+/// Reads the entry of a tier once. The child tiers are held.
 pub(crate) fn load_tier<G: Game + Send + Sync, R: Threads + Files + Sync, S: Store>(
     rt: &R,
     alloc: Global,
@@ -106,7 +106,7 @@ fn old_table<G: Game + Send + Sync, R: Threads + Sync>(
     }
 }
 
-// The table of these records, where they are the true ones of a tier.
+// Returns the table of these records if they are the true ones of a tier.
 fn true_table<G: Game + Send + Sync, R: Threads + Sync>(
     rt: &R,
     alloc: Global,

@@ -11,5 +11,4 @@ pub mod found;
 pub mod inspect;
 pub mod progress;
 mod tier;
-pub mod watch;
 pub mod whole_line;

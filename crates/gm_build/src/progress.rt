@@ -2,30 +2,24 @@
 ghost use Rattle.std.specs.Prelude.{◌≡◌, ◌+◌, ◌*◌, ◌≤◌, ◌↔◌, true, false, None, IfSome};
 ghost use Rattle.std.specs.Duration.{as_nanos};
 
-use crate::watch::Watch;
 use crate::whole_line::write_line;
 use gm_game::position::{Phase, Place};
-use gm_settle::meter::Meter;
-use gm_solver::gate::Gate;
-use gm_solver::source::{Counter, Source};
+use gm_solver::observer::Observer;
 use std::fmt;
 use std::io::Write;
-use std::sync::atomic::{AtomicBool, AtomicU64, AtomicUsize, Ordering};
+use std::sync::atomic::{AtomicU64, AtomicUsize, Ordering};
 use std::sync::{Mutex, Wait};
 use std::time::{Clock, Duration};
 
 /// The least time between two lines, in milliseconds.
 pub const PAUSE: u64 = 250;
 
-// How many deliveries of all workers together lie between two readings of the clock within a level; it is also read at the first delivery of each level.
-const OFTEN: u64 = 4096;
-
 /// What is done with a tier.
 #[derive(Clone, Copy, Debug, PartialEq, Eq)]
 pub enum Stage {
-    /// Its file is read and checked, where there is one.
+    /// Its file is read and checked, if there is one.
     Check,
-    /// The values of its positions follow from the tables of its child tiers: so many of a hundred of its indexes are done.
+    /// The values of its positions follow from the tables of its child tiers. `share` is the percentage of its indexes that are done.
     Settle { share: u64 },
     /// Its positions are scanned.
     Scan,
@@ -51,7 +45,7 @@ impl fmt::Display for Stage {
     }
 }
 
-// What one line says: where a build is. `number` is the place of the tier, from 1, in the order of all `tiers`.
+// One line of progress. `number` is the place of the tier, from 1, in the order of all `tiers`.
 #[derive(Clone, Copy, Debug, Drop)]
 struct ProgressLine {
     tier: u64,
@@ -97,11 +91,11 @@ struct Lines<'a, E: Write> {
     closed: bool,
 }
 
-/// Writes lines on the progress of a build, as its watch, its meter, its gate and its source, or is quiet. No worker waits for another one that is writing.
+/// Observes a build, and writes lines on its progress or is quiet. No thread waits for another one that is writing.
 #[derive(Drop)]
 pub struct Progress<'a, C, E: Write> {
     clock: &'a C,
-    // Whether nothing is written: then the clock isn't read either, and deliveries aren't counted.
+    // Whether nothing is written: then the clock isn't read either.
     quiet: bool,
     tiers: AtomicUsize,
     tier: AtomicU64,
@@ -109,8 +103,6 @@ pub struct Progress<'a, C, E: Write> {
     size: AtomicU64,
     settled: AtomicU64,
     delivered: AtomicU64,
-    level_begins: AtomicBool,
-    pieces: Counter,
     lines: Mutex<Lines<'a, E>>,
 }
 
@@ -146,14 +138,12 @@ impl<'a, C: Clock, E: Write> Progress<'a, C, E> {
             size: AtomicU64::new(0),
             settled: AtomicU64::new(0),
             delivered: AtomicU64::new(0),
-            level_begins: AtomicBool::new(false),
-            pieces: Counter::new(),
             lines: Mutex::new(lines),
         }
     }
 
-    // Writes a line where one is due and the clock can be read.
-    fn tell(&self, stage: Stage) {
+    // Writes a line if one is due and the clock can be read.
+    fn report(&self, stage: Stage) {
         if self.quiet {
             return;
         }
@@ -178,16 +168,9 @@ impl<'a, C: Clock, E: Write> Progress<'a, C, E> {
             lines.closed = write_line(lines.errors, &step).is_err();
         }
     }
-
-    fn tell_level(&self, place: Place) {
-        self.tell(Stage::Level {
-            phase: place.phase,
-            remoteness: place.level,
-        });
-    }
 }
 
-impl<C: Clock + Sync, E: Write + Send> Watch for Progress<'_, C, E> {
+impl<C: Clock + Sync, E: Write + Send> Observer for Progress<'_, C, E> {
     fn begin<R: Wait>(&self, _rt: &R, tiers: usize) {
         self.tiers.store(tiers, Ordering::SeqCst);
     }
@@ -195,7 +178,7 @@ impl<C: Clock + Sync, E: Write + Send> Watch for Progress<'_, C, E> {
     fn read<R: Wait>(&self, _rt: &R, tier: u64) {
         self.tier.store(tier, Ordering::SeqCst);
         self.number.fetch_add(1, Ordering::SeqCst);
-        self.tell(Stage::Check);
+        self.report(Stage::Check);
     }
 
     fn settle<R: Wait>(&self, _rt: &R, _tier: u64, size: u64) {
@@ -203,12 +186,6 @@ impl<C: Clock + Sync, E: Write + Send> Watch for Progress<'_, C, E> {
         self.settled.store(0, Ordering::SeqCst);
     }
 
-    fn solve<R: Wait>(&self, _rt: &R, _tier: u64) {
-        self.tell(Stage::Scan);
-    }
-}
-
-impl<C: Clock + Sync, E: Write + Send> Meter for Progress<'_, C, E> {
     fn settled(&self, indexes: u64) {
         if self.quiet {
             return;
@@ -216,41 +193,21 @@ impl<C: Clock + Sync, E: Write + Send> Meter for Progress<'_, C, E> {
         let before = self.settled.fetch_add(indexes, Ordering::SeqCst);
         let done = before.saturating_add(indexes).saturating_mul(100);
         let size = self.size.load(Ordering::SeqCst).max(1);
-        self.tell(Stage::Settle { share: done / size });
-    }
-}
-
-impl<C: Clock + Sync, E: Write + Send> Gate for Progress<'_, C, E> {
-    const EACH: bool = false;
-
-    fn before<R: Wait>(&self, _rt: &R, _worker: usize, place: Place) {
-        if self.quiet {
-            return;
-        }
-        if self.level_begins.load(Ordering::SeqCst) {
-            self.level_begins.store(false, Ordering::SeqCst);
-            self.tell_level(place);
-        }
+        self.report(Stage::Settle { share: done / size });
     }
 
-    fn after<R: Wait>(&self, _rt: &R, _worker: usize, place: Place) {
-        if self.quiet {
-            return;
-        }
-        let before = self.delivered.fetch_add(1, Ordering::SeqCst);
-        if before % OFTEN == OFTEN - 1 {
-            self.tell_level(place);
-        }
-    }
-}
-
-impl<C: Clock + Sync, E: Write + Send> Source for Progress<'_, C, E> {
-    fn begin<R: Wait>(&self, rt: &R, pieces: usize) {
-        self.level_begins.store(true, Ordering::SeqCst);
-        self.pieces.begin(rt, pieces);
+    fn solve<R: Wait>(&self, _rt: &R, _tier: u64) {
+        self.report(Stage::Scan);
     }
 
-    fn next<R: Wait>(&self, rt: &R, worker: usize) -> Option<usize> {
-        self.pieces.next(rt, worker)
+    fn level<R: Wait>(&self, _rt: &R, place: Place) {
+        self.report(Stage::Level {
+            phase: place.phase,
+            remoteness: place.level,
+        });
+    }
+
+    fn delivered<R: Wait>(&self, _rt: &R, pairs: u64) {
+        self.delivered.fetch_add(pairs, Ordering::SeqCst);
     }
 }

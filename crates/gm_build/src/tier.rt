@@ -10,17 +10,15 @@ ghost use Rattle.gm_build.specs.Outcomes.{failures_in, IsTierError, MayHaveText}
 
 use crate::build_error::BuildError;
 use crate::found::{Found, load_tier};
-use crate::watch::Watch;
 use gm_game::game::Game;
 use gm_game::limits::TIER_SIZE;
-use gm_settle::settle::settle_tier;
-use gm_settle::stop::Stop;
-use gm_solver::alone::{solve_alone, solve_by_one};
 use gm_solver::error::SolveError;
 use gm_solver::gate::Gate;
+use gm_solver::observer::Observer;
 use gm_solver::plan::Plan;
+use gm_solver::solve;
 use gm_solver::source::Source;
-use gm_solver::tier::{Report, solve_tier};
+use gm_solver::tier::Report;
 use gm_table::table::Table;
 use gm_table::tables::Tables;
 use gm_tierdb::encode::encode;
@@ -31,16 +29,10 @@ use std::fs::Files;
 use std::sync::Wait;
 use std::thread::Threads;
 
-/// A tier of at most this many indexes is solved by the calling thread alone: starting threads would cost more than it saves.
-const FEW: u64 = 16_384;
-
-/// A tier of more indexes than this is solved by workers: below it, one walker is as fast as four workers.
-const LARGE: u64 = 4_194_304;
-
 /// What was done with a tier.
 #[derive(Clone, Copy, Debug, PartialEq, Eq)]
 pub(crate) enum TierOutcome {
-    /// Its text was reused as it is.
+    /// Its text was reused.
     Reused,
     /// Its text was of version 1, and was written again in version 2.
     Migrated,
@@ -48,15 +40,15 @@ pub(crate) enum TierOutcome {
     Solved(Report),
 }
 
-/// Puts the true table of a tier into the tables, and sees that its text is in the store: the one that is there, or one that is written once. The tier is
-/// solved where the store has no text of its true table, in either version.
+/// Puts the true table of a tier into the tables, and ensures that its text is in the store. The tier is solved if the store has no text of its true table in
+/// either version.
 pub(crate) fn build_tier<
     G: Game + Send + Sync,
     R: Threads + Wait + Files + Sync,
     S: Store,
     T: Gate,
     P: Source,
-    H: Watch,
+    O: Observer,
 >(
     rt: &R,
     alloc: Global,
@@ -66,7 +58,7 @@ pub(crate) fn build_tier<
     plan: Plan,
     gate: &T,
     source: &P,
-    watch: &H,
+    observer: &O,
 ) -> Result<TierOutcome, BuildError>
     requires held { AreHeld G.rules tables.old tier }
     requires small { G.rules.tier_size tier ≤ TIER_SIZE }
@@ -80,7 +72,7 @@ pub(crate) fn build_tier<
     ensures error { IfErr result (IsTierError G.rules tier) }
     ensures count { S.failed store.new ≡ S.failed store.old + failures_in result }
 {
-    watch.read(rt, tier);
+    observer.read(rt, tier);
     match load_tier(rt, alloc, tier, tables, store)? {
         Found::Current(table) => {
             hold(table, tables)?;
@@ -91,52 +83,22 @@ pub(crate) fn build_tier<
             Ok(TierOutcome::Migrated)
         }
         Found::Nothing => {
-            let (table, report) = solve(rt, alloc, tier, tables, plan, gate, source, watch)?;
+            let (table, report) = solve_tier(
+                rt, alloc, tier, tables, plan, gate, source, observer,
+            )?;
             keep(rt, alloc, table, tables, store)?;
             Ok(TierOutcome::Solved(report))
         }
     }
 }
 
-// Solves a tier: by workers, or in the way that is fastest where the plan leaves that free.
-fn solve<G: Game + Send + Sync, R: Threads + Wait + Files + Sync, T: Gate, P: Source, H: Watch>(
-    rt: &R,
-    alloc: Global,
-    tier: u64,
-    tables: &Tables<G>,
-    plan: Plan,
-    gate: &T,
-    source: &P,
-    watch: &H,
-) -> Result<(Table<G>, Report), BuildError>
-    requires held { AreHeld G.rules tables.now tier }
-    requires small { G.rules.tier_size tier ≤ TIER_SIZE }
-    ensures tier { IfOk result (λ solved. solved.0.tier ≡ tier) }
-    ensures deliveries { IfOk result (λ solved. AreDeliveries G.rules tier solved.1.deliveries) }
-    ensures by_hand { IfOk result (λ solved. solved.1.by_hand ≤ solved.1.deliveries) }
-    ensures error { IfErr result (IsTierError G.rules tier) }
-    ensures count { failures_in result ≡ 0 }
-{
-    if !plan.is_fastest() {
-        watch.solve(rt, tier);
-        return solve_by_workers(rt, alloc, tier, tables, plan, gate, source);
-    }
-    watch.settle(rt, tier, G::tier_size(tier));
-    match settle_tier(rt, alloc, tier, tables, plan.workers(), watch) {
-        Ok((table, deliveries)) => Ok((table, by_none(deliveries))),
-        Err(Stop::Stays) => solve_levels(rt, alloc, tier, tables, plan, gate, source, watch),
-        Err(Stop::OutOfMemory) => Err(BuildError::OutOfMemory),
-        Err(Stop::TooFar) => Err(BuildError::TooFar { tier }),
-    }
-}
-
-// Solves a tier level by level: a large one by workers, any other by one walker.
-fn solve_levels<
+// Solves a tier by the method that the plan chooses.
+fn solve_tier<
     G: Game + Send + Sync,
     R: Threads + Wait + Files + Sync,
     T: Gate,
     P: Source,
-    H: Watch,
+    O: Observer,
 >(
     rt: &R,
     alloc: Global,
@@ -145,7 +107,7 @@ fn solve_levels<
     plan: Plan,
     gate: &T,
     source: &P,
-    watch: &H,
+    observer: &O,
 ) -> Result<(Table<G>, Report), BuildError>
     requires held { AreHeld G.rules tables.now tier }
     requires small { G.rules.tier_size tier ≤ TIER_SIZE }
@@ -155,53 +117,7 @@ fn solve_levels<
     ensures error { IfErr result (IsTierError G.rules tier) }
     ensures count { failures_in result ≡ 0 }
 {
-    watch.solve(rt, tier);
-    let size = G::tier_size(tier);
-    if plan.workers() > 1 && size > LARGE {
-        return solve_by_workers(rt, alloc, tier, tables, plan, gate, source);
-    }
-    let solved = if plan.workers() > 1 && size > FEW {
-        solve_by_one(rt, alloc, tier, tables, plan.workers())
-    } else {
-        solve_alone(alloc, tier, tables)
-    };
-    match solved {
-        Ok((table, deliveries)) => Ok((table, by_none(deliveries))),
-        Err(SolveError::OutOfMemory) => Err(BuildError::OutOfMemory),
-        Err(SolveError::TooFar { tier }) => Err(BuildError::TooFar { tier }),
-    }
-}
-
-// What a tier took that no workers solved.
-fn by_none(deliveries: u64) -> Report
-    ensures deliveries { result.deliveries ≡ deliveries }
-    ensures by_hand { result.by_hand ≡ 0 }
-{
-    Report {
-        deliveries,
-        by_hand: 0,
-    }
-}
-
-// Solves a tier by workers.
-fn solve_by_workers<G: Game + Send + Sync, R: Threads + Wait + Files + Sync, T: Gate, P: Source>(
-    rt: &R,
-    alloc: Global,
-    tier: u64,
-    tables: &Tables<G>,
-    plan: Plan,
-    gate: &T,
-    source: &P,
-) -> Result<(Table<G>, Report), BuildError>
-    requires held { AreHeld G.rules tables.now tier }
-    requires small { G.rules.tier_size tier ≤ TIER_SIZE }
-    ensures tier { IfOk result (λ solved. solved.0.tier ≡ tier) }
-    ensures deliveries { IfOk result (λ solved. AreDeliveries G.rules tier solved.1.deliveries) }
-    ensures by_hand { IfOk result (λ solved. solved.1.by_hand ≤ solved.1.deliveries) }
-    ensures error { IfErr result (IsTierError G.rules tier) }
-    ensures count { failures_in result ≡ 0 }
-{
-    match solve_tier(rt, alloc, tier, tables, plan, gate, source) {
+    match solve::solve(rt, alloc, tier, tables, plan, gate, source, observer) {
         Ok(solved) => Ok(solved),
         Err(SolveError::OutOfMemory) => Err(BuildError::OutOfMemory),
         Err(SolveError::TooFar { tier }) => Err(BuildError::TooFar { tier }),

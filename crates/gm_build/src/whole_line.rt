@@ -9,7 +9,7 @@ use std::io::{self, Write};
 /// The bytes of the longest line that is written in one call: five numbers of twenty digits and the words between them.
 const LINE: usize = 192;
 
-/// Writes some words and a line end, by one call. A line that is too long for that is written in parts. After an error a first part of it may stand there.
+/// Writes some words and a line end, by one call. A line that is too long for that is written in parts. After an error a first part of it may be written.
 pub fn write_line<W: Write, T: Display>(output: &mut W, words: &T) -> io::Result<()>
     ensures { OnOk result (IfSome (T.output words.now) (λ text. Appends (W.contents output.old) (W.contents output.new) (text ++ codes "\n"))) }
 {
@@ -20,7 +20,7 @@ pub fn write_line<W: Write, T: Display>(output: &mut W, words: &T) -> io::Result
     output.write_all(line.as_bytes())
 }
 
-/// A fault as it is printed: after the program's name.
+/// A fault with the program's name before it.
 #[derive(Drop)]
 pub struct FaultLine<'a, T> {
     pub fault: &'a T,

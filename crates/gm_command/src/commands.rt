@@ -6,7 +6,7 @@ use crate::words::{ArgKind, ArgSpec, CommandSpec};
 use clap::{Arg, ArgAction, Command, value_parser};
 use std::alloc::{AllocError, Global};
 
-const VERSION: &str = "1.0.0";
+const VERSION: &str = "1.1.0";
 
 // An option with a number of a range.
 fn with_number<'a>(

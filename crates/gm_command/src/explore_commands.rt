@@ -1,5 +1,5 @@
 //! What a line that asks about a position says.
-ghost use Rattle.std.specs.Prelude.{◌≡◌, codes, IfSome, option_map};
+ghost use Rattle.std.specs.Prelude.{◌≡◌, ◌⊎◌, codes, IfSome, IsSome, option_map};
 ghost use Rattle.clap.specs.Words.{first_value, found_of};
 
 use crate::requests::{PositionRequest, Question};
@@ -31,6 +31,9 @@ fn show_of(inner: &ArgMatches<'_>) -> Option<Question> {
 pub fn explore_of<'a>(name: &str, inner: &ArgMatches<'a>) -> Option<PositionRequest<'a>>
     ensures position { IfSome result (λ asked. option_map (λ text. text.now) asked.position ≡ first_value (found_of inner.now) (codes "POSITION")) }
     ensures why { name.now ≡ codes "why" → IfSome result (λ asked. asked.question ≡ Question.Why) }
+    ensures read { (name.now ≡ codes "moves") ⊎ ((name.now ≡ codes "why") ⊎ (name.now ≡ codes "line")) → IsSome result }
+    ensures only { IsSome result → (name.now ≡ codes "moves") ⊎ ((name.now ≡ codes "why") ⊎ ((name.now ≡ codes "line")
+        ⊎ ((name.now ≡ codes "show") ⊎ (name.now ≡ codes "page")))) }
 {
     let question = match name {
         "moves" => Question::Moves {

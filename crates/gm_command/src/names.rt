@@ -26,7 +26,7 @@ pub const NAMES: [&str; 18] = [
 ];
 
 /// The names of the games that came later, which `list --all` says after those.
-pub const LATER_NAMES: [&str; 3] = ["ponghauki", "shisima", "takeaway"];
+pub const LATER_NAMES: [&str; 5] = ["ponghauki", "shisima", "takeaway", "tapatan", "dodgem"];
 
 /// From which likeness on a name is taken for a misspelled one; the command line takes the same for its commands.
 const ALIKE: f64 = 0.7;

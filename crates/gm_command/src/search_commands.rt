@@ -1,4 +1,5 @@
 //! What a line says that asks about all tables, or for the service that answers positions.
+ghost use Rattle.std.specs.Prelude.{◌≡◌, ◌⊎◌, codes, IsSome};
 
 use crate::explore_commands::limit_of;
 use crate::numbers::span_of;
@@ -181,7 +182,10 @@ fn ask_of(inner: &ArgMatches<'_>) -> Option<AskRequest> {
 }
 
 /// Reads a line with one of these commands.
-pub fn search_of(name: &str, inner: &ArgMatches<'_>) -> Option<TableRequest> {
+pub fn search_of(name: &str, inner: &ArgMatches<'_>) -> Option<TableRequest>
+    ensures read { (name.now ≡ codes "counts") ⊎ (name.now ≡ codes "longest") → IsSome result }
+    ensures only { IsSome result → (name.now ≡ codes "find") ⊎ ((name.now ≡ codes "counts") ⊎ ((name.now ≡ codes "longest") ⊎ (name.now ≡ codes "ask"))) }
+{
     match name {
         "find" => Some(TableRequest::Find(positions_of(inner)?)),
         "counts" => Some(TableRequest::Counts(counts_of(inner))),

@@ -1,10 +1,10 @@
 -- The constant tables of the code against the lists of cells.
-use Rattle.std.specs.Prelude.{◌≡◌, ◌+◌, ◌*◌, ◌^◌, ◌<◌, ◌&&◌, ◌∷◌}
-use Rattle.gm_pieces.specs.Common.{ℕ, Bool, true, not, cond, ltb, ltb-true, eqb, eqb-true, [], map, get_or, refl, sym}
-use Rattle.gm_pieces.specs.Common.{◌∙◌, list_all, range_with_len, cond-true, and_left, and_right, pattern_mask, has_cell, at_below, at_all, at_each, agree}
+use Rattle.std.specs.Prelude.{◌≡◌, ◌+◌, ◌*◌, ◌<◌, ◌&&◌, ◌∷◌}
+use Rattle.gm_pieces.specs.Common.{ℕ, Bool, true, not, cond, eqb, eqb-true, [], map, get_or, refl, sym}
+use Rattle.gm_pieces.specs.Common.{◌∙◌, list_all, range_with_len, cond-true, and_left, and_right, pattern_mask, at_below, at_all, at_each, agree}
 use Rattle.gm_pieces.specs.Common.{agree_same}
 use Rattle.gm_dao.specs.declared.formations.TheConstants.{FORMATIONS, CORNERS, NEXT_TO_CORNERS}
-use Rattle.gm_dao.specs.declared.slides.TheConstants.{PATHS, BEYOND, LINES}
+use Rattle.gm_dao.specs.declared.slides.TheConstants.{PATHS, BEYOND, BEHIND}
 use Rattle.gm_dao.specs.DaoRules.{formations, corners, around, in_line, path, beyond}
 use Rattle.gm_dao.specs.MaskSlides.{way_mask}
 
@@ -31,14 +31,13 @@ pub next_mask : (i : ℕ) → i < 4 → get_or NEXT_TO_CORNERS i 0 ≡ pattern_m
 next_mask i l = eqb-true _ _ (and_right _ _ (at_below 4 corner_masks corners_pass i l))
 
 -- ---- slides
--- the way and what follows it, by the number of the move; the cells in line with a cell
+-- the way and what follows it, by the number of the move; what follows the way back
 abbrev way_passes : ℕ → ℕ → Bool
 way_passes a c = eqb (get_or PATHS (16 * a + c) 0) (way_mask a c) && agree (in_line a c) (not (eqb (way_mask a c) 0))
 
 abbrev line_passes : ℕ → ℕ → Bool
 line_passes a c =
-    agree (has_cell (get_or LINES a 0) c) (in_line a c)
-    && (ltb (get_or LINES a 0) (2 ^ 16) && cond (in_line a c) (eqb (get_or BEYOND (16 * a + c) 0) (pattern_mask (beyond a c))) true)
+    cond (in_line a c) (eqb (get_or BEYOND (16 * a + c) 0) (pattern_mask (beyond a c)) && eqb (get_or BEHIND (16 * a + c) 0) (pattern_mask (beyond c a))) true
 
 ways_pass : at_all 16 16 way_passes ≡ true
 unfolding way_mask in_line path
@@ -56,17 +55,16 @@ way_is a c l k = eqb-true _ _ (and_left _ _ (at_each 16 16 way_passes ways_pass 
 pub line_shown : (a c : ℕ) → a < 16 → c < 16 → not (eqb (way_mask a c) 0) ≡ in_line a c
 line_shown a c l k = sym (agree_same _ _ (and_right _ _ (at_each 16 16 way_passes ways_pass a c l k)))
 
--- the mask of the cell that follows
+-- the masks of the cells that follow
+follow : (a c : ℕ) → a < 16 → c < 16 → in_line a c ≡ true
+    → (eqb (get_or BEYOND (16 * a + c) 0) (pattern_mask (beyond a c)) && eqb (get_or BEHIND (16 * a + c) 0) (pattern_mask (beyond c a))) ≡ true
+follow a c l k e = sym (cond-true _ _ _ e) ∙ at_each 16 16 line_passes lines_pass a c l k
+
 pub next_is : (a c : ℕ) → a < 16 → c < 16 → in_line a c ≡ true → get_or BEYOND (16 * a + c) 0 ≡ pattern_mask (beyond a c)
-next_is a c l k e = eqb-true _ _ (sym (cond-true _ _ _ e) ∙ and_right _ _ (and_right _ _ (at_each 16 16 line_passes lines_pass a c l k)))
+next_is a c l k e = eqb-true _ _ (and_left _ _ (follow a c l k e))
 
--- the cells in line with a cell
-pub cells_in_line : (a c : ℕ) → a < 16 → c < 16 → has_cell (get_or LINES a 0) c ≡ in_line a c
-cells_in_line a c l k = agree_same _ _ (and_left _ _ (at_each 16 16 line_passes lines_pass a c l k))
-
--- their mask has no bits past the last cell
-pub lines_within : (a : ℕ) → a < 16 → get_or LINES a 0 < 2 ^ 16
-lines_within a l = ltb-true _ _ (and_left _ _ (and_right _ _ (at_each 16 16 line_passes lines_pass a a l l)))
+pub behind_is : (c a : ℕ) → c < 16 → a < 16 → in_line c a ≡ true → get_or BEHIND (16 * c + a) 0 ≡ pattern_mask (beyond a c)
+behind_is c a l k e = eqb-true _ _ (and_right _ _ (follow c a l k e))
 
 -- between cells in line
 pub way_line : (a c : ℕ) → in_line a c ≡ true → way_mask a c ≡ pattern_mask (path a c)

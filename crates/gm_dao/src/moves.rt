@@ -11,7 +11,7 @@ ghost use Rattle.gm_dao.specs.MaskSlides.{AreMovesBelow};
 
 use crate::board::Board;
 use crate::formations::{has_formation, has_trapped};
-use crate::slides::{can_slide, goals};
+use crate::slides::{can_slide, count_goals, goals};
 use arrayvec::ArrayVec;
 use gm_game::limits::MOVES;
 use gm_game::position::End;
@@ -72,27 +72,33 @@ pub fn can_move(board: Board, number: u32) -> bool
     board.has_mine(step.from) && can_slide(board.free(), board.taken(), step.from, step.to)
 }
 
-/// Whether no move can be made.
-pub fn is_stuck(board: Board) -> bool
-    ensures { result ≡ (length (steps dao (board_of 16 board.mine board.theirs)) == 0) }
+/// How many moves could be made if the game were not over.
+#[tactic(auto, using(gm_board::specs::Images::board_of))]
+pub fn count_moves(board: Board) -> usize
+    ensures { result ≡ length (steps dao (board_of 16 board.mine board.theirs)) }
 {
     let free = board.free();
-    let taken = board.taken();
+    let mut count = 0;
     let mut rest = board.mine;
     let mut next = 0;
     while rest != 0 {
         let skipped = rest.trailing_zeros();
         next += skipped;
-        if goals(free, taken, next) != 0 {
-            return false;
-        }
+        count += count_goals(free, next);
         next += 1;
         rest = rest >> skipped >> 1;
     }
-    true
+    count as usize
 }
 
-/// How the last move has ended the game, if it has: the mover loses where the opponent has a formation, which is tested first, and wins where a piece of the
+/// Whether no move can be made.
+pub fn is_stuck(board: Board) -> bool
+    ensures { result ≡ (length (steps dao (board_of 16 board.mine board.theirs)) == 0) }
+{
+    count_moves(board) == 0
+}
+
+/// How the last move has ended the game, if it has: the mover loses if the opponent has a formation, which is tested first, and wins if a piece of the
 /// mover's is trapped in a corner.
 #[tactic(auto, unfolding(crate::specs::DaoRules::end_by_last_move))]
 pub fn end_by_last_move(board: Board) -> Option<End>

@@ -1,26 +1,24 @@
 //! Moves taken back: the boards before a board.
 //!
-//! Slides aren't reversed. Instead each piece that may have moved is put on each empty cell, with the roles of the sides swapped.
+//! Each piece that may have moved is put on each cell from which it can have slid to where it is, with the roles of the sides swapped.
 //! Of these boards, those are kept from which the game goes on by the move that leads back.
 ghost use Rattle.std.specs.Prelude.{◌≡◌, ◌<◌, ◌≤◌, ◌+◌, ◌*◌, true, length, map, [], MatchOption, None, Some};
 ghost use Rattle.gm_game.specs.Ascending.{put_all};
 ghost use Rattle.gm_board.specs.Images.{board_of};
-ghost use Rattle.gm_board.specs.Cells.{is_empty, cell_at};
-ghost use Rattle.gm_pieces.specs.Sides.{WasStep};
+ghost use Rattle.gm_board.specs.Cells.{cell_at};
+ghost use Rattle.gm_pieces.specs.Sides.{WasStep, brought_back};
+ghost use Rattle.gm_board.specs.declared.cell.Cell.TheVariants.{Theirs};
 ghost use Rattle.gm_pieces.specs.MoveGames.{goes_on as goes_on_of, before_at, befores};
-ghost use Rattle.gm_dao.specs.DaoRules.{can_have_led_here as was_moved_of, undo as taken_back_of, legal, slides as slides_of, least_index_of, dao};
-ghost use Rattle.gm_dao.specs.MaskSlides.{is_open as is_open_of, AreBeforesBelow};
+ghost use Rattle.gm_dao.specs.DaoRules.{can_have_led_here as was_moved_of, undo as taken_back_of, legal, slides, least_index_of, dao};
+ghost use Rattle.gm_dao.specs.MaskSlides.{is_open as is_open_of, befores_below, AreBeforesBelow};
 
 use crate::board::{Board, least_index};
 use crate::moves::{can_move, end_by_last_move, has_own_formation, is_legal_board, is_trapped};
-use crate::slides::{are_in_line, can_slide, in_line_with};
+use crate::slides::{are_in_line, sources};
 use arrayvec::ArrayVec;
 use gm_game::limits::PARENTS;
 use gm_pieces::ascending::put;
 use gm_pieces::step::Step;
-
-/// The mask of the sixteen cells.
-const CELLS: u32 = 0xffff;
 
 /// Whether the move with this number can have led to the board.
 #[tactic(auto, using(crate::proofs::MoveSteps::from_below, crate::proofs::MoveSteps::to_below), unfolding(crate::specs::DaoRules::can_have_led_here))]
@@ -56,16 +54,6 @@ pub fn goes_on(tier: u64, board: Board, number: u32) -> bool
         && end_by_last_move(board).is_none()
 }
 
-// Whether a piece slides on the board from one cell to another.
-#[tactic(auto, using(gm_board::specs::Images::board_of, crate::proofs::MoveSteps::slides_by))]
-fn slides(board: Board, from: u32, to: u32) -> bool
-    requires from { from < 16 }
-    requires to { to < 16 }
-    ensures { result ≡ slides_of (board_of 16 board.mine board.theirs) from to }
-{
-    can_slide(board.free(), board.taken(), from, to)
-}
-
 // Whether the mover has neither a formation nor a trapped piece.
 fn is_open(board: Board) -> bool
     ensures { result ≡ is_open_of (board_of 16 board.mine board.theirs) }
@@ -73,22 +61,21 @@ fn is_open(board: Board) -> bool
     !has_own_formation(board) && !is_trapped(board)
 }
 
-// The board of the tier before the opponent's piece went from one cell to another, if there is one. That the board after it is legal leaves little to be
+// The board of the tier before the opponent's piece slid from one cell to another, if there is one. That the board after it is legal leaves little to be
 // tested: each side has its pieces, and the other side no formation.
 #[tactic(auto, using(gm_board::specs::laws::Images::board_length, gm_pieces::specs::laws::MaskFacts::was_within, crate::proofs::BeforeSteps::no_before, crate::proofs::BeforeSteps::earlier_legal, crate::proofs::BeforeSteps::one_before))]
 fn gone_before(tier: u64, board: Board, from: u32, to: u32) -> Option<Board>
     requires from { from < 16 }
+    requires to { to < 16 }
     requires legal { legal (board_of 16 board.mine board.theirs) ≡ true }
     requires was { WasStep (board_of 16 board.mine board.theirs) from to }
+    requires slid { slides (brought_back (board_of 16 board.mine board.theirs) from to) from to ≡ true }
     ensures { MatchOption result
         (before_at dao tier (board_of 16 board.mine board.theirs) (16 * from + to) ≡ None)
         (λ b. (before_at dao tier (board_of 16 board.mine board.theirs) (16 * from + to) ≡ Some (board_of 16 b.mine b.theirs))
         × (legal (board_of 16 b.mine b.theirs) ≡ true)) }
 {
     let earlier = board.brought_back(from, to);
-    if !slides(earlier, from, to) {
-        return None;
-    }
     if tier == 0 && is_open(earlier) {
         Some(earlier)
     } else {
@@ -96,24 +83,23 @@ fn gone_before(tier: u64, board: Board, from: u32, to: u32) -> Option<Board>
     }
 }
 
-// Puts into the list the least indexes of the boards before the moves that leave a cell.
-#[tactic(auto, using(gm_board::specs::laws::NextCells::next_cell, gm_board::specs::laws::NextCells::cell_below, crate::proofs::LoopSteps::moved_within, crate::proofs::LoopSteps::befores_end))]
-fn put_befores(list: &mut ArrayVec<u64, PARENTS>, tier: u64, board: Board, from: u32)
-    requires cell { from < 16 }
-    requires free { is_empty (cell_at (board_of 16 board.mine board.theirs) from) ≡ true }
+// Puts into the list the least indexes of the boards before the moves that end on a cell.
+#[tactic(auto, using(gm_board::specs::laws::NextCells::next_cell, gm_board::specs::laws::NextCells::cell_below))]
+fn put_befores(list: &mut ArrayVec<u64, PARENTS>, tier: u64, board: Board, to: u32)
+    requires cell { to < 16 }
+    requires there { cell_at (board_of 16 board.mine board.theirs) to ≡ Theirs }
     requires legal { legal (board_of 16 board.mine board.theirs) ≡ true }
-    requires few { length (befores dao tier (board_of 16 board.mine board.theirs)) ≤ 128 }
-    requires before { AreBeforesBelow tier (board_of 16 board.mine board.theirs) (16 * from) list.old.items }
-    ensures { AreBeforesBelow tier (board_of 16 board.mine board.theirs) (16 * from + 16) list.new.items }
+    requires few { length (befores_below tier (board_of 16 board.mine board.theirs) 256) ≤ 128 }
+    requires before { AreBeforesBelow tier (board_of 16 board.mine board.theirs) (16 * to) list.old.items }
+    ensures { AreBeforesBelow tier (board_of 16 board.mine board.theirs) (16 * to + 16) list.new.items }
 {
-    // A piece that has slid is still in line with the cell.
-    let moved = board.theirs & in_line_with(from);
-    let mut rest = moved;
+    let came = sources(board.free(), board.taken(), to);
+    let mut rest = came;
     let mut next = 0;
     while rest != 0 {
         let skipped = rest.trailing_zeros();
         next += skipped;
-        match gone_before(tier, board, from, next) {
+        match gone_before(tier, board, next, to) {
             Some(earlier) => put(list, least_index(earlier, None)),
             None => {}
         }
@@ -123,14 +109,13 @@ fn put_befores(list: &mut ArrayVec<u64, PARENTS>, tier: u64, board: Board, from:
 }
 
 /// Writes the least indexes of the boards of the tier from which a move leads to this one, ascending and once each, over what the list holds.
-#[tactic(auto, using(gm_pieces::specs::laws::MoveLaws::befores_few, crate::specs::laws::DaoLaws::lawful))]
+#[tactic(auto, using(crate::proofs::CameSteps::befores_room))]
 pub fn fill_parents(tier: u64, board: Board, list: &mut ArrayVec<u64, PARENTS>)
     requires { legal (board_of 16 board.mine board.theirs) ≡ true }
     ensures { list.new.items ≡ put_all [] (map least_index_of (befores dao tier (board_of 16 board.mine board.theirs))) }
 {
     list.clear();
-    let left = board.free() & CELLS;
-    let mut rest = left;
+    let mut rest = board.theirs;
     let mut next = 0;
     while rest != 0 {
         let skipped = rest.trailing_zeros();

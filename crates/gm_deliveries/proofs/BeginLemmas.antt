@@ -21,12 +21,11 @@ use Rattle.gm_deliveries.specs.declared.status.Start.{Start}
 use Rattle.gm_deliveries.specs.declared.status.Start.TheVariants.{Hole as NoStart, Ended, Inner}
 use Rattle.gm_deliveries.specs.declared.status.Status.{Status}
 use Rattle.gm_deliveries.specs.declared.status.Status.TheVariants.{Hole, Settled}
-use Rattle.gm_deliveries.specs.State.{ShardState, IsInRange, delivered_to, state_of, children_of_masks}
+use Rattle.gm_deliveries.specs.State.{IsInRange, delivered_to}
 use Rattle.gm_deliveries.specs.Status.{In, HasStatus, StatusIs}
 use Rattle.gm_deliveries.specs.Good.{IsShard, IsWithinLimit, IsKept, IsCounter}
 use Rattle.gm_deliveries.specs.Begin.{IsStart, AreStarts, first_status, first_left, first_state}
 use Rattle.gm_game.proofs.SetLemmas.{has_none}
-use Rattle.gm_deliveries.proofs.MaskList.{masks_none}
 
 near_end : (e : End) → IsWithinLimit (Settled (from_end e))
 near_end EndLose = omega arith
@@ -125,22 +124,6 @@ first_kept r tier lo starts are few' = record {
       inner = λ _. (let z = ap (λ (xs : List Position). length xs) e in let f : c ≡ length (canonical_children_of r (at tier i)) = k.1 in omega arith);
       other = λ none. absurd (none k.0);
     }
-
--- the state of masks with no bit
-pub first_masks : (r : Rules) (tier lo n : ℕ) (ms : List ℕ) → ms ≡ replicate n 0 → state_of r tier lo WinLose 0 ms ≡ first_state tier lo n
-first_masks r tier lo n ms e =
-    ap (λ (ds : List (List Position)). let s : ShardState = record { tier = tier; lo = lo; phase = WinLose; level = 0; delivered = ds } in s)
-    (ap (λ (xs : List ℕ). children_of_masks r tier lo xs) e ∙ masks_none r tier lo n)
-
--- what the fields keep at the start
-pub first_fields : (r : Rules) (tier lo : ℕ) (starts : List Start) → AreStarts r tier lo starts → lo + length starts ≤ TIER_SIZE
-    → (ms ls : List ℕ) (ss : List Status) → ms ≡ replicate (length starts) 0 → ls ≡ map first_left starts → ss ≡ map first_status starts
-    → IsKept r (state_of r tier lo WinLose 0 ms) ss ls 0
-first_fields r tier lo starts are few' ms ls ss m l s =
-    subst (λ (xs : List Status). IsKept r (state_of r tier lo WinLose 0 ms) xs ls 0) (sym s)
-    (subst (λ (ys : List ℕ). IsKept r (state_of r tier lo WinLose 0 ms) (map first_status starts) ys 0) (sym l)
-    (subst (λ (t : ShardState). IsKept r t (map first_status starts) (map first_left starts) 0) (sym (first_masks r tier lo (length starts) ms m))
-    (first_kept r tier lo starts are few')))
 
 -- the first k items of ys are those of xs under f
 pub record IsFilled {X A : Type 0} (f : X → A) (xs : List X) (k : ℕ) (ys : List A) : Type 0 where

@@ -28,7 +28,6 @@ use Rattle.gm_deliveries.specs.Good.{IsGood, IsKept}
 use Rattle.gm_deliveries.specs.Steps.{IsFor, IsWhole, place_of, next_level, first_ties, CanTurn}
 use Rattle.gm_deliveries.specs.Closing.{Closes}
 use Rattle.gm_deliveries.proofs.MaskList.{sum_small}
-use Rattle.gm_deliveries.proofs.GoodLemmas.{good_from}
 
 -- lists joined
 pub append_cases : {X : Type 0} (xs ys : List X) (x : X) → Contains (xs ++ ys) x → Contains xs x ⊎ Contains ys x
@@ -360,20 +359,3 @@ module _ {r : Rules} {s : ShardState} (t : IsGood r s) (none : (i : ℕ) (c : Po
           (t.once (s.lo + j) (omega arith, omega arith))));
     },
   )
-
--- what a close answers
-pub out_short : (r : Rules) → IsGame r → (s : ShardState) (statuses : List Status) (left : List ℕ) (count : ℕ) → IsKept r s statuses left count
-    → (e : ExpectedData) → IsExpected r e
-    → (u : ShardState) → s ≡ u → IsFor e u → (n : ℕ) → n ≡ e.number → count < n → Closes r e u u (Err (record { delivered = count; expected = n }))
-out_short r g s statuses left count t e x u same f n is l =
-    subst (λ (u : ShardState). IsFor e u → Closes r e u u (Err (record { delivered = count; expected = n }))) same
-    (λ f. (refl, not_whole g (good_from g t.shard) x f (let k = t.number in omega arith), t.number, is, l)) f
-
-pub whole_there : (r : Rules) → IsGame r → (s : ShardState) (statuses : List Status) (left : List ℕ) (count : ℕ) → IsKept r s statuses left count
-    → (e : ExpectedData) → IsExpected r e
-    → (u : ShardState) → s ≡ u → IsFor e u → e.number ≤ count → IsWhole r s
-whole_there r g s statuses left count t e x u same f l = whole_from g (good_from g t.shard) x (subst (λ (u : ShardState). IsFor e u) (sym same) f)
-    (let k = t.number in omega arith)
-
-pub out_closed : (r : Rules) (e : ExpectedData) (s u v : ShardState) → s ≡ u → v ≡ next_level s → IsWhole r s → Closes r e u v (Ok tt)
-out_closed r e s u v same is w = subst (λ (u : ShardState). Closes r e u v (Ok tt)) same (is, w)

@@ -1,4 +1,5 @@
 pub mod MaskList
+pub mod MaskedLemmas
 pub mod StatusLemmas
 pub mod StepLemmas
 pub mod SeenLemmas

@@ -1,16 +1,13 @@
 -- The children that a list of masks stands for.
-use Rattle.std.proofs.Common.{◌≡◌, ◌≢◌, ℕ, zero, suc, ◌+◌, ◌*◌, ◌^◌, ◌<◌, ◌≤◌, ⊎_elim, List, [], ◌∷◌, length, get_or, refl, ap, ◌∙◌, arith, replicate, sum_by}
-use Rattle.std.specs.Int.{bit_at}
+use Rattle.std.proofs.Common.{◌≡◌, ℕ, zero, suc, ◌+◌, ◌*◌, ◌<◌, ◌≤◌, List, [], ◌∷◌, length, get_or, refl, ap, ◌∙◌, arith, replicate, sum_by}
 use Rattle.std.proofs.Math.ListN.{set}
-use Rattle.std.proofs.lemmas.Nat.Bits.{bit_at_above}
 use Rattle.std.proofs.lemmas.List.Sums.{sum_by-cons}
-use Rattle.std.proofs.lemmas.Bool.{cases_lt}
 use Rattle.std.proofs.Math.Nat.{mul-suc}
 use Rattle.gm_game.specs.declared.position.Position.{Position}
 use Rattle.gm_game.specs.Rules.{Rules, at}
 use Rattle.gm_game.specs.Children.{canonical_children_of}
-use Rattle.gm_game.specs.Masks.{picked, picked_from}
-use Rattle.gm_game.proofs.MaskLemmas.{picked_in, picked_out, picked_none, bit_cases}
+use Rattle.gm_game.specs.Masks.{picked}
+use Rattle.gm_game.proofs.MaskLemmas.{picked_none}
 use Rattle.gm_deliveries.specs.State.{children_of_masks}
 
 pub zero_plus : (k : ℕ) → 0 + k ≡ k
@@ -47,28 +44,6 @@ masks_none r tier i zero = refl
 masks_none r tier i (suc n) =
     ap (λ (d : List Position). d ∷ children_of_masks r tier (suc i) (replicate n 0)) (picked_none 0 (canonical_children_of r (at tier i)))
     ∙ ap (λ (ds : List (List Position)). [] ∷ ds) (masks_none r tier (suc i) n)
-
--- a mask of w bits picks no more than w positions
-pub picked_few : (w k : ℕ) (cs : List Position) (m : ℕ) → m < 2 ^ w → k ≤ w → length (picked_from k cs m) + k ≤ w
-picked_few w k [] m f l = omega arith
-picked_few w k (c ∷ cs) m f l =
-    ⊎_elim
-    (λ (e : bit_at m k ≡ 1). ⊎_elim
-    (λ (lt : k < w). let rec = picked_few w (suc k) cs m f (omega arith) in
-    let h = ap (λ (xs : List Position). length xs) (picked_in k c cs m e) in omega arith)
-    (λ (ge : w ≤ k). absurd (let z = bit_at_above m w k f ge in omega arith))
-    (cases_lt k w))
-    (λ (ne : bit_at m k ≢ 1). let h = ap (λ (xs : List Position). length xs) (picked_out k c cs m ne) in
-    ⊎_elim
-    (λ (lt : k < w). let rec = picked_few w (suc k) cs m f (omega arith) in omega arith)
-    (λ (ge : w ≤ k). let z = past w (suc k) cs m f (omega arith) in omega arith)
-    (cases_lt k w))
-    (bit_cases m k)
-  where
-    past : (w k : ℕ) (cs : List Position) (m : ℕ) → m < 2 ^ w → w ≤ k → length (picked_from k cs m) ≡ 0
-    past w k [] m f l = refl
-    past w k (c ∷ cs) m f l = ap (λ (xs : List Position). length xs) (picked_out k c cs m (λ e. let z = bit_at_above m w k f l in omega arith))
-        ∙ past w (suc k) cs m f (omega arith)
 
 -- short lists make a small sum
 pub sum_small : (n : ℕ) (ds : List (List Position)) → ((k : ℕ) → k < length ds → length (get_or ds k []) ≤ n) → sum_by length ds ≤ n * length ds

@@ -321,7 +321,7 @@ pub settling_is : (old next : Status) (note : Solved) (last settles : Bool) {v :
 settling_is old next note last settles e is b = ap (is_settling old) (sym e) ∙ sym is ∙ b
 
 -- a pair of the range, where the child has a place
-pair_here : (r : Rules) (s : ShardState) (note : NoteData) (parent k : ℕ) → IsThisLevel s note → IsInRange s parent
+pub pair_here : (r : Rules) (s : ShardState) (note : NoteData) (parent k : ℕ) → IsThisLevel s note → IsInRange s parent
     → IsPlaceOf r note.position s.tier parent (Some k) → IsPairHere r s note parent
 pair_here r s note parent k level mine place = record {
   is_level = level;
@@ -359,10 +359,6 @@ same_phase WinLose WinLose e = refl
 same_phase WinLose Ties e = absurd (true≢false (sym e))
 same_phase Ties WinLose e = absurd (true≢false (sym e))
 same_phase Ties Ties e = refl
-
-pub other_phase : (a b : Phase) → a ≡ b → not (sameb the_type a b) ≡ true → ⊥
-other_phase WinLose b e = subst (λ (y : Phase). not (sameb the_type WinLose y) ≡ true → ⊥) e (λ d. true≢false (sym d))
-other_phase Ties b e = subst (λ (y : Phase). not (sameb the_type Ties y) ≡ true → ⊥) e (λ d. true≢false (sym d))
 
 -- a pair that is there
 pub out_repeat : (r : Rules) (s : ShardState) (note : NoteData) (parent k : ℕ) → IsThisLevel s note → IsInRange s parent

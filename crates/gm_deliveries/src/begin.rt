@@ -1,4 +1,4 @@
-//! What the positions of a shard are at the start.
+//! The start values of the positions of a shard.
 ghost use Rattle.std.specs.Prelude.{◌≡◌, length, map};
 ghost use Rattle.gm_deliveries.specs.Begin.{IsStart, first_left, first_status};
 
@@ -7,7 +7,7 @@ use crate::statuses::Statuses;
 use gm_game::game::Game;
 use gm_game::position::{Kind, Position};
 
-/// What a position is at the start.
+/// Returns the start value of a position.
 pub fn start<G: Game>(p: Position) -> Start
     ensures { IsStart G.rules p result }
 {

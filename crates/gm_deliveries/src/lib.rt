@@ -2,8 +2,7 @@
 #![tactic(auto)]
 
 pub mod begin;
-mod bits;
-pub mod deliveries;
+pub mod bits;
 pub mod log;
 pub mod ordered;
 pub mod place;

@@ -132,7 +132,7 @@ impl<G: Game> Ordered<G> {
         self.left[(index - self.lo) as usize] as u32
     }
 
-    /// The note of an index, where it is settled.
+    /// Returns the note of an index, if it is settled.
     pub fn note(&self, index: u64) -> Option<Note<G>>
         requires { IsInRange self.now index }
         ensures { IsNoteOf G.rules self.now index result }
@@ -155,7 +155,7 @@ impl<G: Game> Ordered<G> {
         self.delivered
     }
 
-    /// Turns to the next level, where every pair up to the present place is delivered.
+    /// Turns to the next level, when every pair up to the present place is delivered.
     pub fn close(&mut self)
         requires whole { IsWhole G.rules self.old }
         requires fits { self.old.level ≤ REMOTENESS }

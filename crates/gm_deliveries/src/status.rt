@@ -6,6 +6,7 @@ ghost use Rattle.gm_deliveries.specs.Begin.{first_status, first_left};
 
 use gm_game::evaluate::of_end;
 use gm_game::position::{End, Phase, Solved, Value};
+use thiserror::Error;
 
 /// What an index is at the start.
 #[derive(Clone, Copy, Debug, PartialEq, Eq)]
@@ -32,11 +33,19 @@ pub enum Delivery {
 }
 
 /// Why a delivery was refused.
-#[derive(Clone, Copy, Debug, PartialEq, Eq)]
+#[derive(Clone, Copy, Debug, PartialEq, Eq, Error)]
 pub enum Refused {
+    /// The note is not one of the present level.
+    #[error("not of this level")]
     NotThisLevel,
+    /// The parent's index is outside the shard's range.
+    #[error("outside the shard")]
     NotMine,
+    /// The index is not that of a parent of the note.
+    #[error("not a parent")]
     NotAParent,
+    /// The parent's remoteness would be above the limit.
+    #[error("too far")]
     TooFar,
 }
 
@@ -55,7 +64,8 @@ impl Refused {
 }
 
 /// Fewer pairs were delivered than expected.
-#[derive(Clone, Copy, Debug, PartialEq, Eq)]
+#[derive(Clone, Copy, Debug, PartialEq, Eq, Error)]
+#[error("{delivered} of {expected} pairs delivered")]
 pub struct Short {
     pub delivered: u64,
     pub expected: u64,

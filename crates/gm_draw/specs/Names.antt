@@ -43,6 +43,13 @@ abbrev pub pong_naming : List ℕ
 pong_naming =
     codes "Points are named so:\n0       1\n| \\   / |\n|   2   |\n| /   \\ |\n3-------4\nA position is points 0 to 4: x for the side to\nmove, o for the other, . where it is empty.\nA move is from one point to another.\n"
 
+abbrev pub tapatan_naming : List ℕ
+tapatan_naming =
+    codes "Points are named so:\n1---2---3\n| \\ | / |\n4---5---6\n| / | \\ |\n7---8---9\nA position is points 1 to 9: x for the side to\nmove, o for the other, . where it is empty.\nA move is from one point to another.\n"
+
+abbrev pub dodgem_naming : List ℕ
+dodgem_naming = square_naming ++ codes "Your cars go to the right, up or down. A move is\nfrom one cell to the next; a car that leaves the\nboard to the right is written as its cell.\n"
+
 abbrev pub hare_naming : List ℕ
 hare_naming =
     codes "Points are named so:\n     T1--T2--T3\n   / | \\ | / | \\\n  L--M1--M2--M3--R\n   \\ | / | \\ | /\n     B1--B2--B3\nA position is L T1 M1 B1 T2 M2 B2 T3 M3 B3 R:\nd for a hound, h for the hare, . where it is\nempty; then a space, and d or h for who moves.\nA move is from one point to another.\n"

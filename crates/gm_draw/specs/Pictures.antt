@@ -26,6 +26,10 @@ tactix_board s =
     if s == 2 then codes "    1 2\na   A B\nb   C D" else
     codes "    1\na   A"
 
+-- the board of Dodgem
+unfoldable pub dodgem_board : List ℕ
+dodgem_board = codes "    1 2 3\na   A B C\nb   D E F\nc   G H I"
+
 -- the board of Mu Torere and of Shisima: point 0 is at the top, and the ring goes round clockwise
 unfoldable pub ring_board : List ℕ
 ring_board = codes "H---A---B\n| \\ | / |\nG---I---C\n| / | \\ |\nF---E---D"
@@ -33,6 +37,10 @@ ring_board = codes "H---A---B\n| \\ | / |\nG---I---C\n| / | \\ |\nF---E---D"
 -- the board of Pong Hau K'i: the two upper points are not joined
 unfoldable pub pong_board : List ℕ
 pong_board = codes "A       B\n| \\   / |\n|   C   |\n| /   \\ |\nD-------E"
+
+-- the board of Tapatan
+unfoldable pub tapatan_board : List ℕ
+tapatan_board = codes "A---B---C\n| \\ | / |\nD---E---F\n| / | \\ |\nG---H---I"
 
 -- the board of Hare and Hounds: the hounds begin on the left
 unfoldable pub hare_board : List ℕ

@@ -30,6 +30,13 @@ pong_name k = (48 + k) ∷ []
 unfoldable pub pong_points : List (List ℕ)
 pong_points = map pong_name (range_with_len 0 5)
 
+-- the points of Tapatan, by digits from 1 on
+abbrev pub tapatan_name : ℕ → List ℕ
+tapatan_name k = (49 + k) ∷ []
+
+unfoldable pub tapatan_points : List (List ℕ)
+tapatan_points = map tapatan_name (range_with_len 0 9)
+
 -- the points of Hare and Hounds
 unfoldable pub hare_points : List (List ℕ)
 hare_points = map point_name (range_with_len 0 11)

@@ -8,8 +8,8 @@ use gm_game::position::Position;
 use gm_game::shown::Shown;
 use gm_play::view::{Question, Sight, View};
 
-/// Shows the person the board before each question, always as seen from the person's side: in a game of `x` and `o`, `x` is the person and `o` the computer.
-/// After what is no move, the moves that there are stand before it.
+/// Shows the player the board before each question, always as seen from the player's side: in a game of `x` and `o`, `x` is the player and `o` the computer.
+/// After an invalid move, the valid ones come before it.
 #[derive(Drop)]
 pub struct Boards;
 

@@ -14,7 +14,7 @@ use gm_game::position::{Position, Solved};
 use gm_game::text::value_text;
 use std::alloc::{AllocError, Global};
 
-/// The SVG document of a position: its board with the men in their places, and under it the side to move, with the true value where that is to be said.
+/// Returns the SVG document of a position: its board with the men in their places, and under it the side to move, with the true value if that is shown.
 pub fn diagram_text<G: Pictured>(
     alloc: Global,
     known: &Known<'_, G>,
@@ -26,7 +26,7 @@ pub fn diagram_text<G: Pictured>(
     diagram::<G>(alloc, known.position, known.value(), valued)
 }
 
-/// Has no effect; its contract states the law of diagrams: over the net of a board, the man of each byte of a position's text stands once, at a point of its
+/// Has no effect; its contract states the law of diagrams: over the net of a board, the man of each byte of a position's text is drawn once, at a point of its
 /// own.
 pub fn each_once<G: Pictured>(bytes: &[u8])
     ensures { IsEachOnce G.style bytes.now G.board }
@@ -55,7 +55,7 @@ fn diagram<G: Pictured>(
     }
 }
 
-// Writes the diagram of a legal position of this value, and its caption beside it, into empty texts.
+// Writes the diagram of a legal position of this value, and its caption, into empty texts.
 fn push_diagram<G: Pictured>(
     text: &mut Vec<u8>,
     caption: &mut Vec<u8>,
@@ -72,7 +72,7 @@ fn push_diagram<G: Pictured>(
     push_svg::<G>(text, p, caption.as_slice())
 }
 
-// Appends what stands under a board.
+// Appends the lines under a board.
 fn push_caption(
     caption: &mut Vec<u8>,
     mover: &[u8],
@@ -173,7 +173,7 @@ fn push_back(text: &mut Vec<u8>, frame: Frame, caption: &[u8]) -> Result<(), All
     text.extend_from_slice(b"</g>\n</svg>\n")
 }
 
-// Appends where the paper begins.
+// Appends the origin of the paper.
 fn push_start(text: &mut Vec<u8>, frame: Frame) -> Result<(), AllocError>
     ensures { OnOk result (text.new.items ≡ text.old.items ++ start_of frame.left frame.margin) }
 {
@@ -254,7 +254,7 @@ fn push_paper(text: &mut Vec<u8>, frame: Frame) -> Result<(), AllocError>
     )
 }
 
-// Appends what lies under the men.
+// Appends the strokes and squares under the men.
 fn push_under_all(text: &mut Vec<u8>, style: Style, board: &[u8]) -> Result<(), AllocError>
     requires { length board.now ≤ DRAWING }
     ensures { OnOk result (text.new.items ≡ text.old.items ++ under_all style board.now) }

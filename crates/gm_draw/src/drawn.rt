@@ -48,7 +48,7 @@ pub fn drawings<G: Drawn>()
     ensures { IsDrawn G.Game.rules G.drawn G.mover }
 {}
 
-// What stands in the place of a byte of a template.
+// Returns the byte in the place of a byte of a template.
 fn byte_for(byte: u8, text: &[u8]) -> u8
     ensures { result ≡ drawn_byte text.now byte }
 {

@@ -78,7 +78,7 @@ pub(crate) fn frame_of(style: Style, drawing: &[u8]) -> Frame
     }
 }
 
-// Where a board ends on the right whose longest line has this length.
+// Returns the right edge of a board whose longest line has this length.
 fn end(style: Style, longest: u64) -> u64
     requires { longest ≤ DRAWING }
     ensures value { result ≡ end_by style longest }

@@ -30,7 +30,7 @@ pub trait Pictured: Drawn {
     /// The board: a template with the places of the text's bytes, or a row of numbers without places.
     ghost board: { List ℕ };
 
-    /// The names of the points, by the byte of the text that stands there.
+    /// The names of the points, in the order of the text's bytes.
     ghost points: { List (List ℕ) };
 
     /// How the men look.

@@ -1,4 +1,4 @@
-//! The boards of points: Mu Torere, Pong Hau K'i, Shisima, and Hare and Hounds.
+//! The boards of points: Mu Torere, Pong Hau K'i, Shisima, Tapatan, and Hare and Hounds.
 ghost use Rattle.std.specs.Prelude.{◌≡◌, ◌<◌, ◌≤◌, [], codes, length, slice_index_or, true};
 ghost use Rattle.gm_game.specs.declared.position.Position.{Position};
 ghost use Rattle.gm_mutorere.specs.Texts.{position_text as ring_text};
@@ -8,12 +8,13 @@ ghost use Rattle.gm_draw.specs.Templates.{filled};
 ghost use Rattle.gm_ways.specs.WayTexts.{way_text};
 ghost use Rattle.gm_pong.specs.PongRules.{pong};
 ghost use Rattle.gm_shisima.specs.ShisimaRules.{shisima};
-ghost use Rattle.gm_draw.specs.Pictures.{ring_board, pong_board, hare_board};
-ghost use Rattle.gm_draw.specs.Names.{x_moves, hare_mover, ring_naming, pong_naming, hare_naming};
-ghost use Rattle.gm_draw.specs.laws.Drawn.{ring_drawn, pong_drawn, shisima_drawn, hare_drawn};
+ghost use Rattle.gm_tapatan.specs.TapatanRules.{tapatan};
+ghost use Rattle.gm_draw.specs.Pictures.{ring_board, pong_board, tapatan_board, hare_board};
+ghost use Rattle.gm_draw.specs.Names.{x_moves, hare_mover, ring_naming, pong_naming, tapatan_naming, hare_naming};
+ghost use Rattle.gm_draw.specs.laws.Drawn.{ring_drawn, pong_drawn, shisima_drawn, tapatan_drawn, hare_drawn};
 ghost use Rattle.gm_draw.specs.declared.pictured.Style.TheVariants.{Discs, Letters};
-ghost use Rattle.gm_draw.specs.Points.{ring_points, pong_points, hare_points};
-ghost use Rattle.gm_draw.specs.laws.Pictures.{ring_pictured, pong_pictured, shisima_pictured, hare_pictured};
+ghost use Rattle.gm_draw.specs.Points.{ring_points, pong_points, tapatan_points, hare_points};
+ghost use Rattle.gm_draw.specs.laws.Pictures.{ring_pictured, pong_pictured, shisima_pictured, tapatan_pictured, hare_pictured};
 
 use crate::drawn::{Drawing, Drawn, fill};
 use crate::pictured::{Pictured, Style, line_of};
@@ -24,6 +25,7 @@ use gm_hare::hunt::hunt_at;
 use gm_mutorere::mutorere::MuTorere;
 use gm_pong::pong::Pong;
 use gm_shisima::shisima::Shisima;
+use gm_tapatan::tapatan::Tapatan;
 
 /// Mu Torere and Shisima: point 0 is at the top, and the ring is numbered clockwise.
 const RING: &[u8] = b"H---A---B\n| \\ | / |\nG---I---C\n| / | \\ |\nF---E---D";
@@ -34,6 +36,9 @@ const RING_NAMING: &[u8] =
 
 /// Pong Hau K'i: the two upper points are not joined.
 const PONG: &[u8] = b"A       B\n| \\   / |\n|   C   |\n| /   \\ |\nD-------E";
+
+/// Tapatan.
+const TAPATAN: &[u8] = b"A---B---C\n| \\ | / |\nD---E---F\n| / | \\ |\nG---H---I";
 
 /// Hare and Hounds: the hounds begin on the left.
 const HUNT: &[u8] =
@@ -105,6 +110,29 @@ impl Drawn for Shisima {
 
     fn naming() -> &'static [u8] {
         RING_NAMING
+    }
+}
+
+impl Drawn for Tapatan {
+    ghost drawn = { λ p. filled tapatan_board (way_text 9 tapatan p) };
+
+    ghost mover = { x_moves };
+
+    ghost naming = { tapatan_naming };
+
+    ghost tells = { tapatan_drawn };
+
+    #[tactic(auto, unfolding(crate::specs::Pictures::tapatan_board))]
+    fn draw(p: Position) -> Drawing {
+        fill(TAPATAN, Self::show(p).as_slice())
+    }
+
+    fn mover(_p: Position) -> &'static [u8] {
+        b"x"
+    }
+
+    fn naming() -> &'static [u8] {
+        b"Points are named so:\n1---2---3\n| \\ | / |\n4---5---6\n| / | \\ |\n7---8---9\nA position is points 1 to 9: x for the side to\nmove, o for the other, . where it is empty.\nA move is from one point to another.\n"
     }
 }
 
@@ -276,6 +304,61 @@ impl Pictured for Shisima {
     }
 }
 
+// The name of a point of Tapatan.
+#[tactic(auto, unfolding(crate::specs::Points::tapatan_points))]
+fn tapatan_point(k: usize) -> &'static [u8]
+    requires { k < 9 }
+    ensures value { result.now ≡ slice_index_or tapatan_points k [] }
+    ensures short { length result.now ≤ 2 }
+{
+    match k {
+        0 => b"1",
+        1 => b"2",
+        2 => b"3",
+        3 => b"4",
+        4 => b"5",
+        5 => b"6",
+        6 => b"7",
+        7 => b"8",
+        _ => b"9",
+    }
+}
+
+impl Pictured for Tapatan {
+    ghost board = { tapatan_board };
+
+    ghost points = { tapatan_points };
+
+    ghost style = { Discs };
+
+    ghost title = { codes "Tapatan" };
+
+    ghost pictured = { tapatan_pictured };
+
+    #[tactic(auto, unfolding(crate::specs::Pictures::tapatan_board))]
+    fn board() -> &'static [u8] {
+        TAPATAN
+    }
+
+    #[tactic(auto, using(crate::specs::laws::Points::tapatan_many))]
+    fn points() -> usize {
+        9
+    }
+
+    #[tactic(auto, using(crate::specs::laws::Points::tapatan_many))]
+    fn point(k: usize) -> Line {
+        line_of(tapatan_point(k))
+    }
+
+    fn style() -> Style {
+        Style::Discs
+    }
+
+    fn title() -> Line {
+        line_of(b"Tapatan")
+    }
+}
+
 // The name of a point of Hare and Hounds.
 #[tactic(auto, unfolding(crate::specs::Points::hare_points, gm_hare::specs::Texts::point_name))]
 fn hare_point(k: usize) -> &'static [u8]
@@ -349,6 +432,12 @@ pub fn pong_is_drawn()
 pub fn shisima_is_drawn()
     ensures mover { ⟦<Shisima as Drawn>⟧.mover ≡ x_moves }
     ensures drawn { ⟦<Shisima as Drawn>⟧.drawn ≡ (λ p. filled ring_board (way_text 9 shisima p)) }
+{}
+
+/// The drawing of Tapatan is its board with the points of the position in it.
+pub fn tapatan_is_drawn()
+    ensures mover { ⟦<Tapatan as Drawn>⟧.mover ≡ x_moves }
+    ensures drawn { ⟦<Tapatan as Drawn>⟧.drawn ≡ (λ p. filled tapatan_board (way_text 9 tapatan p)) }
 {}
 
 /// The drawing of Hare and Hounds is its board with the points of the position in it, and the side to move is that of the position.

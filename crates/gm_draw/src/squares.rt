@@ -1,23 +1,25 @@
-//! The square boards: the games of nine points, Dao and Tac Tix.
+//! The square boards: the games of nine points, Dao, Dodgem and Tac Tix.
 ghost use Rattle.std.specs.Prelude.{◌≡◌, ◌≤◌, ◌<◌, ◌*◌, [], length, slice_index_or, codes, true};
 ghost use Rattle.gm_game.specs.declared.position.Position.{Position};
 ghost use Rattle.gm_morris.specs.Points.{variant_of};
 ghost use Rattle.gm_morris.specs.Texts.{position_text as nine_text};
 ghost use Rattle.gm_dao.specs.Texts.{position_text as dao_text};
+ghost use Rattle.gm_dodgem.specs.Dodgem.{dodgem_text};
 ghost use Rattle.gm_tactix.specs.Board.{side_of};
 ghost use Rattle.gm_tactix.specs.Texts.{position_text as tactix_text};
 ghost use Rattle.gm_draw.specs.Templates.{filled};
-ghost use Rattle.gm_draw.specs.Pictures.{nine_points, dao_board, tactix_board as tactix_board_of};
-ghost use Rattle.gm_draw.specs.Names.{x_moves, player_moves, nine_naming as nine_naming_of, dao_naming, tactix_naming};
-ghost use Rattle.gm_draw.specs.laws.Drawn.{nine_drawn, dao_drawn, tactix_drawn};
+ghost use Rattle.gm_draw.specs.Pictures.{nine_points, dao_board, dodgem_board, tactix_board as tactix_board_of};
+ghost use Rattle.gm_draw.specs.Names.{x_moves, player_moves, nine_naming as nine_naming_of, dao_naming, dodgem_naming, tactix_naming};
+ghost use Rattle.gm_draw.specs.laws.Drawn.{nine_drawn, dao_drawn, dodgem_drawn, tactix_drawn};
 ghost use Rattle.gm_draw.specs.declared.pictured.Style.TheVariants.{Counters, Stones};
 ghost use Rattle.gm_draw.specs.Points.{square_points, nine_title as nine_title_of, nine_style as nine_style_of, tactix_title as tactix_title_of};
-ghost use Rattle.gm_draw.specs.laws.Pictures.{nine_pictured, dao_pictured, tactix_pictured};
+ghost use Rattle.gm_draw.specs.laws.Pictures.{nine_pictured, dao_pictured, dodgem_pictured, tactix_pictured};
 
 use crate::drawn::{DRAWING, Drawing, Drawn, fill};
 use crate::pictured::{Pictured, Style, line_of};
 use gm_board::square::square_cell_text;
 use gm_dao::dao::Dao;
+use gm_dodgem::dodgem::Dodgem;
 use gm_game::position::Position;
 use gm_game::shown::{Line, Shown};
 use gm_game::text::push_text;
@@ -109,6 +111,32 @@ impl Drawn for Dao {
 
     fn naming() -> &'static [u8] {
         b"A cell is its row and its column, as a1.\nA position is its cells, row by row: x for the\nside to move, o for the other, . where it is empty\nA move is from one cell to another; a piece\nslides as far as it can.\n"
+    }
+}
+
+/// The board of Dodgem.
+const DODGEM: &[u8] = b"    1 2 3\na   A B C\nb   D E F\nc   G H I";
+
+impl Drawn for Dodgem {
+    ghost drawn = { λ p. filled dodgem_board (dodgem_text p) };
+
+    ghost mover = { x_moves };
+
+    ghost naming = { dodgem_naming };
+
+    ghost tells = { dodgem_drawn };
+
+    #[tactic(auto, unfolding(crate::specs::Pictures::dodgem_board))]
+    fn draw(p: Position) -> Drawing {
+        fill(DODGEM, Self::show(p).as_slice())
+    }
+
+    fn mover(_p: Position) -> &'static [u8] {
+        b"x"
+    }
+
+    fn naming() -> &'static [u8] {
+        b"A cell is its row and its column, as a1.\nA position is its cells, row by row: x for the\nside to move, o for the other, . where it is empty\nYour cars go to the right, up or down. A move is\nfrom one cell to the next; a car that leaves the\nboard to the right is written as its cell.\n"
     }
 }
 
@@ -254,6 +282,41 @@ impl Pictured for Dao {
     }
 }
 
+impl Pictured for Dodgem {
+    ghost board = { dodgem_board };
+
+    ghost points = { square_points 3 };
+
+    ghost style = { Stones };
+
+    ghost title = { codes "Dodgem" };
+
+    ghost pictured = { dodgem_pictured };
+
+    #[tactic(auto, unfolding(crate::specs::Pictures::dodgem_board))]
+    fn board() -> &'static [u8] {
+        DODGEM
+    }
+
+    #[tactic(auto, using(crate::specs::laws::Points::square_many))]
+    fn points() -> usize {
+        9
+    }
+
+    #[tactic(auto, using(crate::specs::laws::Points::square_many))]
+    fn point(k: usize) -> Line {
+        cell_name(3, k)
+    }
+
+    fn style() -> Style {
+        Style::Stones
+    }
+
+    fn title() -> Line {
+        line_of(b"Dodgem")
+    }
+}
+
 // The heading of Tac Tix with this side.
 #[tactic(auto, unfolding(crate::specs::Points::tactix_title))]
 fn tactix_title(side: u32, misere: bool) -> Line
@@ -310,6 +373,12 @@ impl<const N: u32, const MISERE: bool> Pictured for TacTix<N, MISERE> {
 pub fn nine_points_are_drawn<const LAST: u64>()
     ensures mover { ⟦<NinePoints<LAST> as Drawn>⟧.mover ≡ x_moves }
     ensures drawn { ⟦<NinePoints<LAST> as Drawn>⟧.drawn ≡ (λ p. filled (nine_points (variant_of LAST)) (nine_text p)) }
+{}
+
+/// The drawing of Dodgem is its board with the cells of the position in it.
+pub fn dodgem_is_drawn()
+    ensures mover { ⟦<Dodgem as Drawn>⟧.mover ≡ x_moves }
+    ensures drawn { ⟦<Dodgem as Drawn>⟧.drawn ≡ (λ p. filled dodgem_board (dodgem_text p)) }
 {}
 
 /// The drawing of Dao is its board with the cells of the position in it.

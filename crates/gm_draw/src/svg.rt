@@ -23,7 +23,7 @@ pub(crate) fn push_number(text: &mut Vec<u8>, number: u64) -> Result<(), AllocEr
     text.extend_from_slice(line.as_slice())
 }
 
-/// Appends two numbers, with what stands before, between and after them.
+/// Appends two numbers, with the texts before, between and after them.
 pub(crate) fn push_at(
     text: &mut Vec<u8>,
     front: &[u8],
@@ -91,21 +91,21 @@ fn push_stroke(text: &mut Vec<u8>, x: u64, y: u64, byte: u8) -> Result<(), Alloc
     }
 }
 
-/// Whether men stand in cells of their own, which are drawn as squares.
+/// Whether men are drawn in cells, which are squares.
 pub(crate) fn has_cells(style: Style) -> bool
     ensures { result ≡ has_cells_spec style }
 {
     matches!(style, Style::Counters | Style::Stones)
 }
 
-// Whether men stand on points.
+// Whether men are drawn on points.
 fn has_points(style: Style) -> bool
     ensures { result ≡ has_points_spec style }
 {
     matches!(style, Style::Discs | Style::Letters)
 }
 
-// Appends what lies under the men.
+// Appends the strokes and squares under the men.
 #[tactic(auto, unfolding(crate::specs::Diagrams::under_at))]
 fn push_under(text: &mut Vec<u8>, style: Style, x: u64, y: u64, byte: u8) -> Result<(), AllocError>
     requires right { 40 ≤ x }
@@ -134,14 +134,14 @@ fn push_point(text: &mut Vec<u8>, style: Style, x: u64, y: u64) -> Result<(), Al
     }
 }
 
-// Where the name of a row or a column stands, from the left.
+// The place of the name of a row or a column, from the left.
 fn label_x(style: Style, x: u64) -> u64
     ensures { result ≡ label_x_spec style x }
 {
     if has_cells(style) && x == 40 { 70 } else { x }
 }
 
-// Where it stands, from the top.
+// Its place from the top.
 fn label_y(style: Style, y: u64) -> u64
     requires { y ≤ 16000 }
     ensures { result ≡ label_y_spec style y }
@@ -174,7 +174,7 @@ fn is_stroke(byte: u8) -> bool
     matches!(byte, b'-' | b'|' | b'/' | b'\\' | b'+' | b' ' | b'\n')
 }
 
-// Appends what stands over strokes and squares: a man in its place, or the name of a row or a column.
+// Appends the layer over strokes and squares: a man in its place, or the name of a row or a column.
 #[tactic(auto, unfolding(crate::specs::Diagrams::over_at))]
 fn push_over(
     text: &mut Vec<u8>,
@@ -231,7 +231,7 @@ fn next_y(y: u64, byte: u8) -> u64
     if byte == b'\n' { y + 40 } else { y }
 }
 
-/// Appends what lies under the men of a board.
+/// Appends the strokes and squares under the men of a board.
 pub(crate) fn push_net(text: &mut Vec<u8>, style: Style, board: &[u8]) -> Result<(), AllocError>
     requires { length board.now ≤ DRAWING }
     ensures { OnOk result (text.new.items ≡ text.old.items ++ spread (under_at style) 40 40 board.now) }

@@ -1,10 +1,8 @@
 -- What is known of sought positions.
-use Rattle.std.proofs.Common.{◌≡◌, ℕ, ◌<◌, ◌+◌, ◌↔◌, inl, inr, ◌==◌, if◌then◌else◌, eqb-true, Bool, true, false, List, ◌∷◌, [], length, take, get_or, refl, sym}
-use Rattle.std.proofs.Common.{ap, ◌∙◌, subst, arith, IsTrue, Option, None, Some, Result, Ok, Err, IfOk}
+use Rattle.std.proofs.Common.{◌≡◌, ℕ, ◌↔◌, inl, inr, ◌==◌, if◌then◌else◌, eqb-true, Bool, true, false, List, ◌∷◌, [], length, refl, sym}
+use Rattle.std.proofs.Common.{ap, ◌∙◌, subst, arith, IsTrue, Option, None, Some}
 use Rattle.std.specs.List.{Contains}
 use Rattle.std.proofs.lemmas.Option.{same_Some}
-use Rattle.std.proofs.lemmas.List.{take_more}
-use Rattle.std.proofs.lemmas.List.Elements.{Contains-push_cases}
 use Rattle.gm_game.specs.declared.limits.TheConstants.{REMOTENESS}
 use Rattle.gm_game.specs.declared.position.Position.{Position}
 use Rattle.gm_game.specs.declared.position.Phase.{Phase}

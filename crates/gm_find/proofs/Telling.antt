@@ -1,5 +1,5 @@
 -- What is told of found positions.
-use Rattle.std.proofs.Common.{◌≡◌, ℕ, zero, suc, inl, inr, Bool, true, List, [], ◌∷◌, map, get_or, Option, refl, ap, subst, Result, Ok, Err, IfOk}
+use Rattle.std.proofs.Common.{◌≡◌, ℕ, zero, suc, inl, inr, Bool, true, List, [], ◌∷◌, map, get_or, ap, subst, Result, Ok, Err, IfOk}
 use Rattle.std.specs.List.{All, Contains, range_with_len}
 use Rattle.std.proofs.lemmas.List.Elements.{Contains-get_or, Contains-append_cases, All-contains}
 use Rattle.gm_game.specs.declared.position.Position.{Position}
@@ -61,10 +61,13 @@ chosen_in r q reached (First n) tiers xs are x has = (
   (All-contains (IsFound r) xs x are.each has).legal,
   All-contains (λ (y : Found). Contains tiers y.position.tier) xs x (found_in r q reached n tiers xs are) has,
 )
-chosen_in r q reached (Random n seed) tiers xs (all, are, sample) x has =
-    let P : Found → Type 0 = λ y. (r.is_legal y.position ≡ true) × Contains tiers y.position.tier in
-    let each : All P all = λ k d inside. ((are.each k d inside).legal, found_in r q reached _ tiers all are k d inside) in
-    All-contains P xs x (picked_all P all xs sample.picked each) has
+chosen_in r q reached (Random n seed) tiers xs (all, are, sample, each) x has =
+    let P : Position → Type 0 = λ p. Contains tiers p.tier in
+    let within : All P all = λ k d inside. tier_in r tiers (get_or all k d)
+    (first_in (IsMatch r q reached) _ (all_positions r tiers) all are (get_or all k d) (Contains-get_or all k d inside)).1 in (
+      (All-contains (IsFound r) xs x each has).legal,
+      All-contains P (map position_of xs) x.position (picked_all P all (map position_of xs) sample.picked within) (map_from position_of xs x has),
+    )
 
 -- what holds where two things are told
 pub both_told : {T E : Type 0} → (m : Result T E) (A B C : T → Type 0) → ((x : T) → A x → B x → C x) → IfOk m A → IfOk m B → IfOk m C

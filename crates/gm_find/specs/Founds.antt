@@ -31,13 +31,14 @@ pub record AreFound (r : Rules) (q : Sought) (reached : Bool) (limit : ℕ) (tie
   pub each : All (IsFound r) xs
 
 -- all positions that are sought, as far as a list can be long
-abbrev pub AreAllFound : Rules → Sought → Bool → List ℕ → List Found → Type 0
-AreAllFound r q reached tiers xs = AreFound r q reached (2 ^ 64 - 1) tiers xs
+abbrev pub AreAllSought : Rules → Sought → Bool → List ℕ → List Position → Type 0
+AreAllSought r q reached tiers ps = IsFirst (IsMatch r q reached) (2 ^ 64 - 1) (all_positions r tiers) ps
 
--- those of the positions that are sought that a choice takes: the first, or so many of all of them, in their order
+-- those of the positions that are sought that a choice takes: the first, or n of all of them in their order, each with its answers
 abbrev pub AreChosen : Rules → Sought → Bool → Choice → List ℕ → List Found → Type 0
 AreChosen r q reached (First n) tiers xs = AreFound r q reached n tiers xs
-AreChosen r q reached (Random n seed) tiers xs = (all : List Found) × AreAllFound r q reached tiers all × IsSample n all xs
+AreChosen r q reached (Random n seed) tiers xs =
+    (all : List Position) × AreAllSought r q reached tiers all × IsSample n all (map position_of xs) × All (IsFound r) xs
 
 -- a legal position, with tables of every tier that play from it can come to
 abbrev pub IsKnownAt : Rules → List TableData → Position → Type 0

@@ -3,7 +3,8 @@ ghost use Rattle.std.specs.Prelude.{IfOk, is_some};
 ghost use Rattle.std.specs.List.{All};
 ghost use Rattle.gm_find.specs.Founds.{IsFound, AreChosen};
 
-use crate::found::{Found, find};
+use crate::found::{Found, find, look_up};
+use crate::positions::find_positions;
 use crate::reached::Reached;
 use crate::sample::sample_of;
 use crate::sought::{Choice, Sought};
@@ -11,8 +12,9 @@ use gm_best::known_tiers::KnownTiers;
 use gm_game::game::Game;
 use std::alloc::{AllocError, Global};
 
-/// Those of the canonical positions that are sought that the choice takes, each with its value, its best move and the number of its moves: tier by tier in the
-/// order given and by ascending index. Where a set of reached positions is given, only positions in it count. For a choice by chance all are found first.
+/// Returns the canonical positions that are sought and that the choice takes, each with its value, its best move and the number of its moves: tier by tier in the
+/// order given and by ascending index. If a set of reached positions is given, only positions in it count. For a random choice all positions that are sought
+/// are found first, and only the chosen ones are looked up.
 pub fn find_some<G: Game>(
     alloc: Global,
     known: &KnownTiers<'_, G>,
@@ -26,8 +28,10 @@ pub fn find_some<G: Game>(
     match choice {
         Choice::First(limit) => find(alloc, known, sought, reached, limit),
         Choice::Random { number, seed } => {
-            let all = find(alloc, known, sought, reached, usize::MAX)?;
-            sample_of(alloc, all.as_slice(), number, seed)
+            let all = find_positions(alloc, known, sought, reached, usize::MAX)?;
+            let some = sample_of(alloc, all.as_slice(), number, seed)?;
+            drop(all);
+            look_up(alloc, known.tables, some.as_slice())
         }
     }
 }

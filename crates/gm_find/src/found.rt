@@ -18,14 +18,14 @@ use std::alloc::{AllocError, Global};
 pub struct Found {
     pub position: Position,
     pub value: Solved,
-    /// The number of the best move; `None` where the game has ended.
+    /// The number of the best move; `None` at an end.
     pub best: Option<u32>,
     /// How many moves there are.
     pub moves: usize,
 }
 
-/// The canonical positions that are sought, each with its value, its best move and the number of its moves: tier by tier in the order given and by ascending
-/// index, the first of them, at most `limit`. Where a set of reached positions is given, only positions in it count.
+/// Returns the canonical positions that are sought, each with its value, its best move and the number of its moves: tier by tier in the order given and by
+/// ascending index, the first of them, at most `limit`. If a set of reached positions is given, only positions in it count.
 pub fn find<G: Game>(
     alloc: Global,
     known: &KnownTiers<'_, G>,
@@ -39,8 +39,8 @@ pub fn find<G: Game>(
     look_up(alloc, known.tables, positions.as_slice())
 }
 
-// The answers for some positions.
-fn look_up<G: Game>(
+/// Returns the answers for some positions.
+pub(crate) fn look_up<G: Game>(
     alloc: Global,
     tables: &Tables<G>,
     positions: &[Position],

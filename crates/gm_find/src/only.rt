@@ -19,7 +19,7 @@ pub(crate) fn has_only<G: Game>(known: &Known<'_, G>, value: Value, distinct: bo
     }
 }
 
-/// Whether there are at least so many moves; where distinct moves are asked for, so many up to symmetry.
+/// Whether there are as many moves as are sought, counted up to symmetry for distinct moves.
 pub(crate) fn has_moves<G: Game>(p: Position, least: usize, distinct: bool) -> bool
     requires { G.rules.is_legal p ≡ true }
     ensures { IsTrue result ↔ HasMoves G.rules distinct least p }

@@ -27,7 +27,7 @@ pub(crate) fn is_only_line<G: Game>(known: &Known<'_, G>, solved: Solved, distin
     }
 }
 
-// Whether a win in so many moves is one in which the winner has one move at each turn but the last.
+// True if the winner has exactly one winning move at every turn but the last.
 #[cycle(turns)]
 fn is_only_win<G: Game>(known: &Known<'_, G>, remoteness: u32, distinct: bool) -> bool
     ensures { IsTrue result ↔ IsOnlyWin G.rules distinct remoteness known.now.position }
@@ -59,7 +59,7 @@ fn is_only_after<G: Game>(known: &Known<'_, G>, m: u32, remoteness: u32, distinc
     }
 }
 
-// Whether each longest defence leads to such a win, which is in so many moves.
+// True if each longest defence leads to such a win, one move nearer the end.
 #[cycle(turns)]
 fn are_only_defences<G: Game>(known: &Known<'_, G>, remoteness: u32, distinct: bool) -> bool
     ensures { IsTrue result ↔ AfterDefence G.rules remoteness (IsOnlyWin G.rules distinct remoteness) known.now.position }
@@ -72,7 +72,7 @@ fn are_only_defences<G: Game>(known: &Known<'_, G>, remoteness: u32, distinct: b
     true
 }
 
-// Whether the result of a defence, if it is a win in so many moves, is such a win.
+// True if the result of a defence is such a win, or is no win of that length.
 #[cycle(turns)]
 fn is_only_defence<G: Game>(known: &Known<'_, G>, e: u32, remoteness: u32, distinct: bool) -> bool
     requires { Contains (G.rules.moves known.now.position) e }
@@ -86,7 +86,7 @@ fn is_only_defence<G: Game>(known: &Known<'_, G>, e: u32, remoteness: u32, disti
     }
 }
 
-// Whether a value is a win in so many moves.
+// Whether a value is a win with this remoteness.
 fn is_win_in(solved: Solved, remoteness: u32) -> bool
     ensures { IsTrue result ↔ ((solved.value ≡ Win) × (solved.remoteness ≡ remoteness)) }
 {

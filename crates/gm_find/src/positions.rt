@@ -24,10 +24,10 @@ use gm_game::position::{Phase, Position, Solved, Value};
 use gm_table::tables::Tables;
 use std::alloc::{AllocError, Global};
 
-/// The canonical positions that are sought, tier by tier in the order given and by ascending index: the first of them, at most `limit`. Where a set of reached
-/// positions is given, only positions in it count.
+/// Returns the canonical positions that are sought, tier by tier in the order given and by ascending index: the first of them, at most `limit`. If a set of
+/// reached positions is given, only positions in it count.
 ///
-/// Where a single remoteness is given, the positions are read from the run at its place; otherwise every record of the tiers is looked at, up to the limit.
+/// For a single remoteness, the positions are read from the run at its place; otherwise every record of the tiers is read, up to the limit.
 pub fn find_positions<G: Game>(
     alloc: Global,
     known: &KnownTiers<'_, G>,
@@ -66,7 +66,7 @@ fn add_tier<G: Game>(
     }
 }
 
-// The place at which the sought positions stand, where there is one.
+// Returns the place of the sought positions, if they have one place.
 fn place(sought: Sought) -> Option<(Phase, u32)>
     ensures { result ≡ place_for sought.value (level_of sought.remoteness) }
 {
@@ -78,7 +78,7 @@ fn place(sought: Sought) -> Option<(Phase, u32)>
     }
 }
 
-// The one remoteness of a span, where it has one.
+// Returns the one remoteness of a span, if it has only one.
 fn one_level(span: Span) -> Option<u32>
     ensures { result ≡ level_of (Some span) }
 {
@@ -190,7 +190,7 @@ fn is_sought<G: Game>(
     is_fitting(&known, solved, sought, reached) && has_fitting_line(&known, solved, sought)
 }
 
-// Whether a position of this true value has all that is asked for beside a whole line.
+// Whether a position of this true value fits in everything but its line.
 fn is_fitting<G: Game>(
     known: &Known<'_, G>,
     solved: Solved,
@@ -202,7 +202,7 @@ fn is_fitting<G: Game>(
     is_value(sought, solved) && has_fitting_moves(known, sought) && is_in(reached, known.position)
 }
 
-// Whether a position has the moves that are asked for.
+// Whether a position has the moves that are sought.
 fn has_fitting_moves<G: Game>(known: &Known<'_, G>, sought: Sought) -> bool
     ensures { IsTrue result ↔ HasFittingMoves G.rules sought known.now.position }
 {
@@ -210,7 +210,7 @@ fn has_fitting_moves<G: Game>(known: &Known<'_, G>, sought: Sought) -> bool
         && (!sought.only_move || has_only(known, sought.value, sought.distinct))
 }
 
-// Whether a position has the whole line that is asked for.
+// Whether a position has the line that is sought.
 fn has_fitting_line<G: Game>(known: &Known<'_, G>, solved: Solved, sought: Sought) -> bool
     requires { IsTrueValue G.rules known.now.position solved }
     ensures { IsTrue result ↔ (IsTrue sought.whole_line → IsOnlyLine G.rules sought.distinct known.now.position) }

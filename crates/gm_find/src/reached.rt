@@ -52,7 +52,7 @@ impl<G: Game> Reached<G> {
     }
 }
 
-/// Whether some line of play from the start ends in a position that has this one as its canonical position, where that is asked; where it isn't, yes.
+/// True if no set is given, or if some line of play from the start ends in a position that has this one as its canonical position.
 pub fn is_in<G: Game>(reached: Option<&Reached<G>>, c: Position) -> bool
     ensures { IsTrue result ↔ (IsTrue (is_some reached.entry) → IsReachedByPlay G.rules c) }
 {

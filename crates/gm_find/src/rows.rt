@@ -16,9 +16,9 @@ use gm_game::text::{push_decimal, value_text};
 use gm_play::texts::push_field;
 use std::alloc::{AllocError, Global};
 
-/// The rows of the canonical positions that are sought: the position, its value, its best move (none where the game has ended) and the number of its moves,
-/// with a tab between them. They stand tier by tier in the order given and by ascending index: the first of them, or so many by chance. Where a set of reached
-/// positions is given, only positions in it count.
+/// Returns the rows of the canonical positions that are sought: the position, its value, its best move (none at an end) and the number of its moves, with a tab
+/// between them. They come tier by tier in the order given and by ascending index: the first of them, or a random choice. If a set of reached positions is
+/// given, only positions in it count.
 pub fn find_text<G: Shown>(
     alloc: Global,
     known: &KnownTiers<'_, G>,
@@ -61,7 +61,7 @@ pub fn push_found<G: Shown>(rows: &mut Vec<u8>, x: &Found) -> Result<(), AllocEr
     )
 }
 
-/// The text of a best move; none where the game has ended.
+/// Returns the text of a best move; none at an end.
 pub fn best_text<G: Shown>(p: Position, best: Option<u32>) -> Line
     requires legal { G.Game.rules.is_legal p ≡ true }
     requires best { IsBestMove G.Game.rules p best }

@@ -1,30 +1,30 @@
-//! A random choice of found positions.
+//! A random choice of positions.
 ghost use Rattle.std.specs.Prelude.{◌<◌, IfOk};
 ghost use Rattle.gm_find.specs.Samples.{IsSample};
 
-use crate::found::Found;
+use gm_game::position::Position;
 use rand::RngExt;
 use rand_core::SeedableRng;
 use rand_xoshiro::Xoshiro256PlusPlus;
 use std::alloc::{AllocError, Global};
 
-/// So many of the found positions in their order, or all of them where there are fewer: chosen by xoshiro256++ from this seed, so that each choice is as
-/// likely as any other, and the same seed makes the same choice.
+/// Returns `number` of the positions in their order, or all of them if there are fewer. They are chosen by xoshiro256++ from this seed: each choice is as likely
+/// as any other, and the same seed makes the same choice.
 pub fn sample_of(
     alloc: Global,
-    found: &[Found],
+    positions: &[Position],
     number: usize,
     seed: u64,
-) -> Result<Vec<Found>, AllocError>
-    ensures { IfOk result (λ v. IsSample number found.now v.items) }
+) -> Result<Vec<Position>, AllocError>
+    ensures { IfOk result (λ v. IsSample number positions.now v.items) }
 {
     let mut random = Xoshiro256PlusPlus::seed_from_u64(seed);
     let mut chosen = Vec::new(alloc);
-    let mut wanted = number.min(found.len());
-    for place in 0..found.len() {
-        let left = found.len() - place;
+    let mut wanted = number.min(positions.len());
+    for place in 0..positions.len() {
+        let left = positions.len() - place;
         if number_below(&mut random, left as u64) < wanted as u64 {
-            chosen.push(found[place])?;
+            chosen.push(positions[place])?;
             wanted -= 1;
         }
     }

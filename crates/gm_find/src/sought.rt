@@ -13,7 +13,7 @@ pub struct Span {
 #[derive(Clone, Copy, Debug, PartialEq, Eq)]
 pub struct Sought {
     pub value: Value,
-    /// Those of a remoteness in this span; of any where there is none.
+    /// Those of a remoteness in this span, if there is one.
     pub remoteness: Option<Span>,
     /// Those from which exactly one move keeps the value.
     pub only_move: bool,
@@ -21,15 +21,15 @@ pub struct Sought {
     pub whole_line: bool,
     /// Whether moves whose results are the same but for symmetry count as one.
     pub distinct: bool,
-    /// Those with at least so many moves.
+    /// Those with at least this many moves.
     pub min_moves: usize,
 }
 
 /// Which of the positions that are sought are taken.
 #[derive(Clone, Copy, Debug, PartialEq, Eq)]
 pub enum Choice {
-    /// The first of them, at most so many.
+    /// The first of them, at most this many.
     First(usize),
-    /// So many of them by chance, or all where there are fewer: the same for the same seed.
+    /// A random choice of this many, or all if there are fewer: the same for the same seed.
     Random { number: usize, seed: u64 },
 }

@@ -87,7 +87,7 @@ impl<G: Game> Expected<G> {
         self.last = Some(place);
     }
 
-    /// Turns to ties, where no win or loss is left.
+    /// Turns to ties, when no win or loss is left.
     pub fn next_phase(&mut self, last: &Last<G>)
         requires stands { last.now ≡ place_at self.old.tier WinLose self.old.level }
         requires phase { self.old.phase ≡ WinLose }

@@ -67,8 +67,8 @@ impl<'a, G: Game> Level<'a, G> {
         Ok(Level { place, parts, len })
     }
 
-    /// The end of the phase, as a `Last`: there is one exactly where this level is empty, and no child tier has a value of the phase with its remoteness or
-    /// more.
+    /// Returns the end of the phase, as a `Last`: there is one exactly if this level is empty, and no child tier has a value of the phase with its remoteness
+    /// or more.
     pub fn last(&self, tables: &Tables<G>) -> Option<Last<G>>
         requires { AreHeld G.rules tables.now self.now.place.tier }
         ensures found { IsSome result ↔ ((self.now.notes ≡ []) × AreBelow G.rules self.now.place) }
@@ -129,8 +129,8 @@ impl<'a, G: Game> Level<'a, G> {
         self.len().div_ceil(n)
     }
 
-    /// For each note of a piece, in order, each of its parents in the tier from `lo` up to `hi`, ascending. A piece past the last has none. Where the first
-    /// piece has all notes, its pairs don't depend on `n`.
+    /// Returns, for each note of a piece, in order, each of its parents in the tier from `lo` up to `hi`, ascending. A piece past the last has none. If the
+    /// first piece has all notes, its pairs don't depend on `n`.
     pub fn pairs<'b>(&'b self, piece: usize, n: usize, lo: u64, hi: u64) -> Pairs<'b, G>
         requires { 0 < n }
         ensures value { result ≡ pairs_of G.rules self.now.place.tier lo hi (piece_of piece n self.now.notes) }

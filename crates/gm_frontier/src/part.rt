@@ -15,7 +15,7 @@ use gm_table::tables::Tables;
 use std::alloc::AllocError;
 use std::marker::Model;
 
-/// Where the notes of a part stand: in a run, or as the records of a table at some of its indexes.
+/// The source of the notes of a part: a run, or the records of a table at some of its indexes.
 #[derive(Drop)]
 enum Source<'a, G: Game> {
     Listed(&'a [Note<G>]),

@@ -74,7 +74,7 @@ fn one_move_more(value: Value, remoteness: u32) -> Solved
     }
 }
 
-// What is decided by the least remoteness of a Lose child, the greatest of a Win child and the least of a Tie child; the last decides only where all children
+// What is decided by the least remoteness of a Lose child, the greatest of a Win child and the least of a Tie child; the last decides only if all children
 // are known.
 fn choose(lost: Option<u32>, won: Option<u32>, known: bool, tied: Option<u32>) -> Option<Solved>
     requires lost_fits { IfSome lost (λ k. k + 1 < 2 ^ 32) }

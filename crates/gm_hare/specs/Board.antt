@@ -155,7 +155,7 @@ hare_and_hounds = record {
   start = record { hounds_move = true; hounds = true ∷ true ∷ false ∷ true ∷ false ∷ false ∷ false ∷ false ∷ false ∷ false ∷ false ∷ []; hare = 10 };
   legal = legal;
   end_by_last_move = end_by_last_move;
-  end_if_no_move = Lose;
+  end_if_no_move = λ b. Lose;
   move_number_bound = λ t. move_number_bound;
   can_move = can_move;
   moved = play;

@@ -14,7 +14,7 @@ pub fn column(point: u32) -> u32
     COLUMNS[point as usize]
 }
 
-// The points that an edge joins to a point: none where there is no such point.
+// The points that an edge joins to a point: none if there is no such point.
 fn neighbors(point: u32) -> &'static [u32]
     ensures { result.now ≡ slice_index_or edges point [] }
 {

@@ -42,7 +42,7 @@ pub fn hunt_text(board: &Hunt) -> Line
     line
 }
 
-// The point at which a text has the hare: 0 where it has none.
+// The point at which a text has the hare: 0 if it has none.
 #[tactic(auto, using(crate::specs::laws::TextLaws::hare_found, crate::specs::laws::TextLaws::hare_somewhere))]
 fn hare_in(text: &[u8]) -> u32
     ensures { (b : Hunt) → legal b ≡ true → hunt_text_of b ≡ text.now → b.hare ≡ result }
@@ -66,7 +66,7 @@ fn hounds_in(text: &[u8]) -> [bool; 11]
     hounds
 }
 
-/// The board that has this text, where there is one. Any bytes may be given.
+/// The board that has this text, if there is one. Any bytes may be given.
 pub fn hunt_in(text: &[u8]) -> Hunt
     ensures { (b : Hunt) → legal b ≡ true → hunt_text_of b ≡ text.now → b ≡ result }
 {

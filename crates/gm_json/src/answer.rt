@@ -24,11 +24,11 @@ use gm_play::move_values::MoveValue;
 use gm_play::streams::without_return;
 use std::alloc::{AllocError, Global};
 
-// How much is told of a line that is the text of no position.
+// The number of bytes that are repeated of a line that is the text of no position.
 const READ: usize = 64;
 
 /// The answer to the line with this number: what is asked for of the position with this text, or that there is no such position, with the first 64 bytes of the
-/// line. A carriage return at the end of the line is no part of it. Parents are looked for in these tiers. `NotHeld` comes exactly where the tier of the
+/// line. A carriage return at the end of the line is no part of it. Parents are looked for in these tiers. `NotHeld` comes exactly if the tier of the
 /// position has no table.
 pub fn ask_line<G: Shown>(
     alloc: Global,
@@ -57,7 +57,7 @@ pub fn ask_line<G: Shown>(
     }
 }
 
-// What is asked for of a position.
+// Returns the answers about a position.
 fn position_json<G: Shown>(
     alloc: Global,
     known: &Known<'_, G>,

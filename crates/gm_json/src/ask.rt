@@ -19,13 +19,13 @@ use gm_play::streams::write_text;
 use std::alloc::Global;
 use std::io::{ErrorKind, Read, Write};
 
-/// The most bytes that one read gives; so many bytes of answers are written at the latest.
+/// The size of the input and output buffers in bytes.
 pub const BLOCK: usize = 65_536;
 
 /// The line that tells that the tables are there.
 pub const READY: &[u8] = b"{\"ready\":true}\n";
 
-// The most reads: with so many the number of a line is below 2^64.
+// The most reads: with this many the number of a line is below 2^64.
 const READS: u64 = 281_474_976_710_655;
 
 // How much of a line is kept: the longest text of a position, its return, and a byte that tells a longer line.
@@ -39,12 +39,12 @@ struct Hand {
     answers: Vec<u8>,
 }
 
-/// Reads positions, a line each, and answers each with one line of JSON: the position with its value and what else is asked for, or
-/// `{"error":"no such position","line":N,"read":".."}` with the number of the line, from 1, and its first 64 bytes. A carriage return before the end of a line
-/// is no part of it; the last line needs no line end. Parents are looked for in these tiers.
+/// Reads positions, a line each, and answers each with one line of JSON: the position with its value and the other parts of the query, or `{"error":"no such
+/// position","line":N,"read":".."}` with the number of the line, from 1, and its first 64 bytes. A carriage return before the end of a line is no part of it;
+/// the last line needs no line end. Parents are looked for in these tiers.
 ///
 /// It reads up to `BLOCK` bytes at a time, to the end of the input, and before each further read it has written the answers to all lines that have ended, many
-/// by one call. `NotHeld` comes only where some position's tier has no table. After `OutOfMemory` and `NotHeld` each line before the one in
+/// by one call. `NotHeld` comes only if some position's tier has no table. After `OutOfMemory` and `NotHeld` each line before the one in
 /// question is answered. After `WriteFailed` and `OutputClosed` each line that ended before the last read is answered, and of the answers to lines that ended
 /// in what it gave a first part is written.
 pub fn ask<G: Shown, R: Read, W: Write>(
@@ -290,7 +290,7 @@ fn answer_line<G: Shown>(
     }
 }
 
-// Writes the answers, by one call where the writer takes them whole, and has none left.
+// Writes the answers, by one call if the writer takes them whole, and has none left.
 fn flush<W: Write>(answers: &mut Vec<u8>, output: &mut W) -> Result<(), AskError>
     ensures ok { OnOk result (Appends (W.contents output.old) (W.contents output.new) answers.old.items) }
     ensures empty { OnOk result (answers.new.items ≡ []) }

@@ -20,9 +20,9 @@ use gm_play::texts::word_of;
 use serde_json::{Map, Value as Json, put};
 use std::alloc::{AllocError, Global};
 
-/// The canonical positions that are sought as lines of compact JSON, each with its end: the best move (`null` where the game has ended), the number of the
-/// moves, the position, its remoteness and its value. The members stand in alphabetical order; the lines tier by tier in the order given and by ascending
-/// index: the first of them, or so many by chance. Where a set of reached positions is given, only positions in it count.
+/// Returns the canonical positions that are sought as lines of compact JSON, each with its end: the best move (`null` at an end), the number of the moves, the
+/// position, its remoteness and its value. The members are in alphabetical order; the lines come tier by tier in the order given and by ascending index: the
+/// first of them, or a random choice. If a set of reached positions is given, only positions in it count.
 pub fn find_json<G: Shown>(
     alloc: Global,
     known: &KnownTiers<'_, G>,
@@ -76,7 +76,7 @@ fn put_found<G: Shown>(
     put_word(alloc, members, "value", word_of(x.value.value))
 }
 
-// A best move; null where the game has ended.
+// A best move; null at an end.
 fn best_value<G: Shown>(alloc: Global, p: Position, best: Option<u32>) -> Result<Json, AllocError>
     requires legal { G.Game.rules.is_legal p ≡ true }
     requires best { IsBestMove G.Game.rules p best }

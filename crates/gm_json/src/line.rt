@@ -113,7 +113,7 @@ fn put_step<G: Shown>(
     put_word(alloc, members, "value", word_of(value.value))
 }
 
-// Appends where the last position of a line has come before.
+// Appends the earlier line of the last position of a line that comes again.
 fn push_end(alloc: Global, lines: &mut Vec<u8>, end: LineEnd) -> Result<(), AllocError>
     ensures { OnOk result (lines.new.items ≡ lines.old.items ++ end_line end) }
 {

@@ -72,7 +72,7 @@ pub(crate) fn push_text(alloc: Global, out: &mut Vec<u8>, text: &[u8]) -> Result
     }
 }
 
-/// Appends a comma where something stands before.
+/// Appends a comma after an earlier member.
 pub(crate) fn push_comma(out: &mut Vec<u8>, later: bool) -> Result<(), AllocError>
     ensures { OnOk result (out.new.items ≡ out.old.items ++ comma_if later) }
 {

@@ -18,6 +18,10 @@ one_part = record { parts = 1; a = 0; b = 0; c = 0; d = 0 }
 abbrev pub amount_of : Amounts → ℕ → ℕ
 amount_of s k = choose k s.a s.b s.c s.d
 
+-- the amounts of all four together
+abbrev pub total_of : Amounts → ℕ
+total_of s = s.a + s.b + s.c + s.d
+
 -- the amounts after that of shard k has risen by n
 abbrev pub raised : Amounts → ℕ → ℕ → Amounts
 raised s k n =

@@ -19,6 +19,7 @@ use Rattle.gm_deliveries.specs.declared.status.Short.{Short}
 use Rattle.gm_deliveries.specs.Closing.{Closes}
 use Rattle.gm_deliveries.specs.State.{ShardState, IsInRange, delivered_to, pairs_in}
 use Rattle.gm_deliveries.specs.Delivery.{Delivers}
+use Rattle.gm_deliveries.specs.Good.{IsGood}
 use Rattle.gm_locks.specs.Spots.{Spot, spot_of}
 
 -- the pairs of a level's notes into the range of a spot, in the order of a walk
@@ -69,11 +70,13 @@ IsNextAnswer s (Err NotMine) = ⊥
 IsNextAnswer s (Err NotAParent) = ⊥
 IsNextAnswer s (Err TooFar) = REMOTENESS ≤ s.level
 
--- one delivery to a shard at the spot: n of the pairs were delivered to the shard before it, and m are after it
+-- one delivery to a good shard at the spot, which leaves a good one there: n of the pairs were delivered to it before, and m are after
 pub record IsStep (r : Rules) (s : Spot) (pairs : List (NoteData × ℕ)) (base : ℕ) (note : NoteData) (parent : ℕ)
     (answer : Result Delivery Refused) (n m : ℕ) : Type 0 where
   pub old : ShardState
   pub new : ShardState
+  pub old_good : IsGood r old
+  pub new_good : IsGood r new
   pub old_spot : spot_of old ≡ s
   pub new_spot : spot_of new ≡ s
   pub old_round : IsRound pairs base old n

@@ -48,7 +48,7 @@ impl<A: ShardLedger, B: ShardLedger, C: ShardLedger, D: ShardLedger> Model for S
 }
 
 impl<A: ShardLedger, B: ShardLedger, C: ShardLedger, D: ShardLedger> Shares<A, B, C, D> {
-    /// How many pairs were delivered to a shard by these shares, or the greatest number of 64 bits where there were more.
+    /// Returns the number of pairs that were delivered to a shard by these shares, or `u64::MAX` if there were more.
     pub fn amount(&self, shard: usize) -> u64
         requires { shard < 4 }
         ensures { result ≡ min (amount_of self.now shard) (2 ^ 64 - 1) }
@@ -61,7 +61,7 @@ impl<A: ShardLedger, B: ShardLedger, C: ShardLedger, D: ShardLedger> Shares<A, B
         }
     }
 
-    /// How many parts each share has.
+    /// The number of parts of each share.
     pub fn parts(&self) -> u64
         ensures { result ≡ self.now.parts }
     {
@@ -97,8 +97,8 @@ impl<A: ShardLedger, B: ShardLedger, C: ShardLedger, D: ShardLedger> Shares<A, B
     }
 }
 
-/// Four shards that tile a tier, each under a lock of its own. Whenever a lock is taken, the shard behind it is good, stands at the place that its name fixes,
-/// and has as many pairs as its book says.
+/// Four shards that tile a tier, each under a lock of its own. Whenever a lock is taken, the shard behind it is good, has the place that its name fixes, and
+/// has as many pairs as its book.
 #[derive(Drop)]
 pub struct Board<G: Game, A: ShardLedger, B: ShardLedger, C: ShardLedger, D: ShardLedger> {
     a: Mutex<Held<G, A>>,
@@ -117,8 +117,7 @@ pub struct Board<G: Game, A: ShardLedger, B: ShardLedger, C: ShardLedger, D: Sha
 
 impl<G: Game, A: ShardLedger, B: ShardLedger, C: ShardLedger, D: ShardLedger> Board<G, A, B, C, D> {
     /// Puts each shard under its lock. The shards tile one tier at one place, the blanks have the names of the ledgers and `parts` parts each, and each name
-    /// fixes the place at which its shard stands.
-    /// The shares of the result have all parts.
+    /// fixes the place of its shard. The shares of the result have all parts.
     pub fn around(
         parts: u64,
         blanks: Four<Blank>,
@@ -212,8 +211,8 @@ impl<G: Game, A: ShardLedger, B: ShardLedger, C: ShardLedger, D: ShardLedger> Bo
         }
     }
 
-    /// Delivers a note to a parent under the lock of the parent's shard alone. The caller's amount for this shard rises by one exactly where the pair is new,
-    /// and the other amounts stay.
+    /// Delivers a note to a parent under the lock of the parent's shard. The caller's amount for this shard rises by one exactly if the pair is new, and the
+    /// other amounts stay.
     pub fn deliver<R: Wait>(
         &self,
         rt: &R,
@@ -231,7 +230,7 @@ impl<G: Game, A: ShardLedger, B: ShardLedger, C: ShardLedger, D: ShardLedger> Bo
         self.deliver_at(rt, shard, note, parent, place, shares)
     }
 
-    /// As `deliver`, where the place of the note's position among the children of the parent is known.
+    /// Delivers as `deliver` does, when the place of the note's position among the children of the parent is known.
     pub fn deliver_at<R: Wait>(
         &self,
         rt: &R,
@@ -255,8 +254,8 @@ impl<G: Game, A: ShardLedger, B: ShardLedger, C: ShardLedger, D: ShardLedger> Bo
         }
     }
 
-    /// Takes the shards out of their locks, in exchange for shares of all parts. They tile the same tier at the same place, and each has as many pairs
-    /// delivered to it as its whole share says.
+    /// Takes the shards out of their locks, in exchange for shares of all parts. They tile the same tier at the same place, and each has as many pairs as its
+    /// whole share.
     pub fn into_shards(self, shares: Shares<A, B, C, D>) -> Four<Shard<G>>
         requires { shares.parts ≡ A.parts }
         ensures spots { (spot_of result.a ≡ A.spot) × (spot_of result.b ≡ B.spot) × (spot_of result.c ≡ C.spot) × (spot_of result.d ≡ D.spot) }

@@ -1,4 +1,4 @@
-//! What one lock keeps.
+//! The contents of one lock.
 ghost use Rattle.std.specs.Prelude.{◌≡◌, ◌+◌, ◌<◌, ◌≤◌};
 ghost use Rattle.gm_deliveries.specs.State.{pairs_in};
 ghost use Rattle.gm_deliveries.specs.Good.{IsGood};
@@ -14,7 +14,7 @@ use gm_shard::shard::Shard;
 use std::marker::Model;
 use std::sync::ledger::Book;
 
-/// What one lock keeps: a shard, which stands where its name says, and its book, whose total is the number of pairs delivered to it.
+/// The contents of one lock: a shard at the place that its name fixes, and its book, whose total is the number of pairs delivered to it.
 #[derive(Drop)]
 pub struct Held<G: Game, L: ShardLedger> {
     shard: Shard<G>,
@@ -44,7 +44,7 @@ impl<G: Game, L: ShardLedger> Held<G, L> {
         Held { shard, book }
     }
 
-    /// The shard: it is good, it stands where its name says, and the total of its book is the number of its pairs.
+    /// Returns the shard. It is good, it is at the place that its name fixes, and the total of its book is the number of its pairs.
     pub fn shard(&self) -> &Shard<G>
         ensures shard { result.now ≡ self.now.shard }
         ensures good { IsGood G.rules self.now.shard }
@@ -55,7 +55,7 @@ impl<G: Game, L: ShardLedger> Held<G, L> {
         &self.shard
     }
 
-    /// Delivers a note to a parent, as the shard does. The book and the share rise by one exactly where the pair is new.
+    /// Delivers a note to a parent, as the shard does. The book and the share rise by one exactly if the pair is new.
     pub fn deliver(
         &mut self,
         note: &Note<G>,
@@ -74,8 +74,8 @@ impl<G: Game, L: ShardLedger> Held<G, L> {
         self.deliver_at(note, parent, place, share)
     }
 
-    /// As `deliver`, where the place of the note's position among the children of the parent is known: so the costliest part of a delivery is done before the
-    /// lock is taken.
+    /// Delivers as `deliver` does, when the place of the note's position among the children of the parent is known: so the costliest part of a delivery is done
+    /// before the lock is taken.
     pub fn deliver_at(
         &mut self,
         note: &Note<G>,
@@ -102,7 +102,7 @@ impl<G: Game, L: ShardLedger> Held<G, L> {
         answer
     }
 
-    // The shard without its lock: as many pairs are delivered to it as the whole share says.
+    // Returns the shard without its lock. It has as many pairs as the whole share.
     pub(crate) fn into_shard(self, whole: Share<L>) -> Shard<G>
         requires { whole.parts ≡ L.parts }
         ensures shard { result ≡ self.shard }

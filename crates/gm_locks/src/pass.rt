@@ -34,7 +34,7 @@ impl PassLedger for Brand {
     ghost notes = { [] };
 }
 
-/// The whole share of a shard's ledger. Contracts see its amount: how many pairs of the level were delivered by it.
+/// The whole share of a shard's ledger. Contracts see its amount: the number of pairs of the level that were delivered by it.
 #[derive(Drop)]
 pub struct Pass<L: PassLedger> {
     share: Share<L>,
@@ -53,7 +53,7 @@ impl<L: PassLedger> Model for Pass<L> {
 }
 
 impl<L: PassLedger> Pass<L> {
-    /// How many pairs of the level were delivered by this pass, which is also the number, from 0, of the next pair.
+    /// Returns the number of pairs of the level that were delivered by this pass, which is also the number, from 0, of the next pair.
     pub fn amount(&self) -> u64
         ensures value { result ≡ self.now }
         ensures small { L.base + self.now ≤ MOVES * TIER_SIZE }
@@ -61,8 +61,8 @@ impl<L: PassLedger> Pass<L> {
         self.share.amount()
     }
 
-    /// Whether the pairs that were delivered before this pass and by it are as many as the count says: for the pass of a desk (`around`), whether it has
-    /// delivered all pairs of the level into the range.
+    /// Whether the pairs that were delivered before this pass and by it are as many as the count: for the pass of a desk (`around`), whether it has delivered
+    /// all pairs of the level into the range.
     pub fn full<G: Game>(&self, expected: &Expected<G>) -> bool
         requires { IsForSpot expected.now L.spot }
         ensures number { IsTrue result ↔ (L.base + self.now ≡ expected.now.number) }
@@ -72,7 +72,7 @@ impl<L: PassLedger> Pass<L> {
     }
 }
 
-/// What the lock of a desk keeps: a shard to which the first pairs of the level are delivered, as many as its book says, and no later pair.
+/// The contents of the lock of a desk: a shard to which the first pairs of the level are delivered, as many as its book's total, and no later pair.
 #[derive(Drop)]
 struct HeldInOrder<G: Game, L: PassLedger> {
     shard: OrderedShard<G>,
@@ -110,8 +110,10 @@ impl<G: Game, L: PassLedger> HeldInOrder<G, L> {
         let HeldInOrder { shard, book } = self;
         let Pass { share, before: _ } = pass;
         share.audit(book);
+        let _before = shard.range();
         let answer = shard.deliver_new(note, parent);
         let _few = shard.delivered();
+        let _after = shard.range();
         share.raise(book, gained(&answer));
         answer
     }
@@ -161,8 +163,8 @@ impl<G: Game, L: PassLedger> PassDesk<G, L> {
         self.range
     }
 
-    /// The pass's next pair, as `deliver_next` wants it: the one with number `amount()`, from 0, of the level's pairs into the range; `None` where there are no
-    /// more. It walks the pairs up to that one.
+    /// Returns the pass's next pair, as `deliver_next` takes it: the one with number `amount()`, from 0, of the level's pairs into the range; `None` if there
+    /// are no more. It walks the pairs up to that one.
     pub fn next_pair(&self, level: &Level<G>, pass: &Pass<L>) -> Option<(Note<G>, u64)>
         requires { IsLevelAt level.now L.spot L.notes }
         ensures { slice_get (pairs_into G.rules L.spot L.notes) pass.now ≡ result }
@@ -174,8 +176,7 @@ impl<G: Game, L: PassLedger> PassDesk<G, L> {
     }
 
     /// Delivers the pass's next pair: the one with number `amount()`, from 0, of the level's pairs into the range. Either it is new and the amount rises by
-    /// one, or it is too far, which happens only
-    /// where the level is at the limit, and the amount stays. Either way it is one delivery to the shard.
+    /// one, or it is too far, which happens only if the level is at the limit, and the amount stays. Either way it is one delivery to the shard.
     pub fn deliver_next<R: Wait>(
         &self,
         rt: &R,
@@ -191,8 +192,8 @@ impl<G: Game, L: PassLedger> PassDesk<G, L> {
         self.held.lock(rt).deliver_next(note, parent, pass)
     }
 
-    /// The shard, where the pass is full: every pair of the level into its range is delivered, and there are as many of them as the pass says. So `close` by
-    /// this count can't answer `Short`.
+    /// Returns the shard of a full pass: every pair of the level into its range is delivered, and there are as many of them as the pass's amount. So `close` by
+    /// this count can't return `Short`.
     pub fn into_whole(self, pass: Pass<L>, expected: &Expected<G>) -> OrderedShard<G>
         requires is_for { IsForSpot expected.now L.spot }
         requires full { L.base + pass ≡ expected.now.number }
@@ -213,7 +214,7 @@ impl<G: Game, L: PassLedger> PassDesk<G, L> {
         shard
     }
 
-    /// The shard, without the pass: beside the pairs of earlier levels the first so many pairs of the level are delivered, and no later one.
+    /// Returns the shard without the pass: it has the pairs of earlier levels and a first part of the pairs of the level, and no later one.
     pub fn into_shard(self) -> OrderedShard<G>
         ensures spot { spot_of result ≡ L.spot }
         ensures least { L.base ≤ pairs_in result }

@@ -1,4 +1,4 @@
-//! Deliveries of a level's pieces to one shard, each piece once: under the shard's lock a bit for each piece says whether its pairs are delivered.
+//! Deliveries of a level's pieces to one shard, each piece once: under the shard's lock a bit for each piece shows whether its pairs are delivered.
 ghost use Rattle.std.specs.Prelude.{◌≡◌, ℕ, ◌+◌, ◌-◌, ◌<◌, ◌≤◌, true, false, take, drop, length, slice_index, slice_index_or, IfOk, OnErr};
 ghost use Rattle.std.specs.Int.{div_ceil};
 ghost use Rattle.gm_frontier.specs.Levels.{IsLevel};
@@ -19,9 +19,9 @@ use std::alloc::{AllocError, Global};
 use std::marker::{Brand, Model};
 use std::sync::ledger::{Blank, Book};
 
-/// The name of a shard's ledger for one level that is delivered in pieces. It also fixes how many notes a piece has.
+/// The name of a shard's ledger for one level that is delivered in pieces. It also fixes the number of notes in a piece.
 pub trait PieceLedger: PassLedger {
-    /// How many notes a piece has.
+    /// The number of notes in a piece.
     ghost size: { ℕ };
 }
 
@@ -29,7 +29,7 @@ impl PieceLedger for Brand {
     ghost size = { 1 };
 }
 
-// Delivers the pairs of a piece from one number up to another, until one is too far: the number of the first that is not delivered.
+// Delivers the pairs `from..to` of a piece, until one is too far. Returns the number of the first that is not delivered.
 fn deliver_from<G: Game, L: PieceLedger>(
     shard: &mut OrderedShard<G>,
     piece: usize,
@@ -59,7 +59,7 @@ fn deliver_from<G: Game, L: PieceLedger>(
     to
 }
 
-/// What one lock keeps: a shard, and of each piece how many of its pairs are delivered, with a bit that says whether these are all.
+/// The contents of one lock: a shard, the number of delivered pairs of each piece, and a bit for each piece that is set when these are all.
 #[derive(Drop)]
 pub(crate) struct Pieced<G: Game, L: PieceLedger> {
     shard: OrderedShard<G>,
@@ -80,7 +80,7 @@ impl<G: Game, L: PieceLedger> Model for Pieced<G, L> {
 }
 
 impl<G: Game, L: PieceLedger> Pieced<G, L> {
-    /// A shard at the level's place to which none of its pairs is delivered, and the share that has all parts of its ledger.
+    /// Returns a shard at the level's place that has none of the level's pairs, and the share that has all parts of its ledger.
     pub(crate) fn around(
         alloc: Global,
         blank: Blank,
@@ -125,8 +125,8 @@ impl<G: Game, L: PieceLedger> Pieced<G, L> {
         self.whole[piece]
     }
 
-    /// Delivers the pairs of a piece up to a number, but for those that are delivered already, and sets the piece's bit where these are all. Where a pair is
-    /// too far it and those after it are not delivered. The share rises by what is new.
+    /// Delivers the pairs of a piece up to number `to`, except those that are delivered already, and sets the piece's bit when none is left. If a pair is too
+    /// far, it and those after it are not delivered. The share rises by the number of new pairs.
     pub(crate) fn deliver(
         &mut self,
         piece: usize,
@@ -162,8 +162,23 @@ impl<G: Game, L: PieceLedger> Pieced<G, L> {
         Ok(())
     }
 
-    /// The shard, where all pieces are delivered: every pair of the level into its range is delivered, beside those of earlier levels as many as the whole
-    /// share says.
+    /// Shows that a share of all parts has the amount of the book, and that the shard has as many pairs of the level.
+    pub(crate) fn audit(&mut self, share: &mut Share<L>)
+        ensures same { (self.new ≡ self.old) × (share.new ≡ share.old) }
+        ensures book { share.old.parts ≡ L.parts → self.old.book ≡ share.old.amount }
+        ensures pairs { pairs_in self.old.shard ≡ L.base + self.old.book }
+    {
+        let Pieced {
+            shard: _,
+            counts: _,
+            whole: _,
+            book,
+        } = self;
+        share.audit(book);
+    }
+
+    /// Returns the shard when all pieces are delivered: it has every pair of the level into its range, as many as the amount of the whole share, and the pairs
+    /// of earlier levels.
     pub(crate) fn into_whole(self, share: Share<L>) -> OrderedShard<G>
         requires whole { (p : ℕ) → p < div_ceil (length L.notes) L.size → slice_index_or self.whole p false ≡ true }
         requires parts { share.parts ≡ L.parts }

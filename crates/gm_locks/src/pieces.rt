@@ -20,8 +20,8 @@ use std::marker::Model;
 use std::sync::ledger::Blank;
 use std::sync::{Mutex, Wait};
 
-/// Four shards to which a level is delivered piece by piece, each under a lock of its own. Whenever a lock is taken, the shard behind it is good, and has of
-/// each piece the first so many pairs.
+/// Four shards to which a level is delivered piece by piece, each under a lock of its own. Whenever a lock is taken, the shard behind it is good, and has a
+/// first part of the pairs of each piece.
 #[derive(Drop)]
 pub struct PieceBoard<G: Game, A: PieceLedger, B: PieceLedger, C: PieceLedger, D: PieceLedger> {
     a: Mutex<Pieced<G, A>>,
@@ -59,7 +59,7 @@ impl<G: Game, A: PieceLedger, B: PieceLedger, C: PieceLedger, D: PieceLedger> Pi
     C,
     D,
 > {
-    /// Puts each shard under its lock. The blanks have the names of the ledgers and `parts` parts each, and each name fixes how its shard stands before the
+    /// Puts each shard under its lock. The blanks have the names of the ledgers and `parts` parts each, and each name fixes the state of its shard before the
     /// level. The shares of the result have all parts.
     pub fn around(
         alloc: Global,
@@ -100,8 +100,8 @@ impl<G: Game, A: PieceLedger, B: PieceLedger, C: PieceLedger, D: PieceLedger> Pi
         Ok((board, shares))
     }
 
-    /// Delivers the pairs of a piece up to a number to one shard, under its lock alone, as `Pieced::deliver` does. The caller's amount for this shard rises by
-    /// what is new, and the other amounts stay.
+    /// Delivers the pairs of a piece up to number `to` to one shard, under its lock, as `Pieced::deliver` does. The caller's amount for this shard rises by the
+    /// number of new pairs, and the other amounts stay.
     pub fn deliver<R: Wait>(
         &self,
         rt: &R,
@@ -128,12 +128,18 @@ impl<G: Game, A: PieceLedger, B: PieceLedger, C: PieceLedger, D: PieceLedger> Pi
         }
     }
 
-    /// Takes the shards out of their locks, in exchange for shares of all parts.
+    /// Takes the shards out of their locks, in exchange for shares of all parts. The book of each is the amount of its share, and it has as many pairs as
+    /// before the level and the book together.
     pub fn into_pieces(
         self,
         shares: Shares<A, B, C, D>,
     ) -> (Taken<G, A>, Taken<G, B>, Taken<G, C>, Taken<G, D>)
         requires { shares.parts ≡ A.parts }
+        ensures amounts { (result.0.book ≡ shares.a) × (result.1.book ≡ shares.b) × (result.2.book ≡ shares.c) × (result.3.book ≡ shares.d) }
+        ensures a { pairs_in result.0.shard ≡ A.base + result.0.book }
+        ensures b { pairs_in result.1.shard ≡ B.base + result.1.book }
+        ensures c { pairs_in result.2.shard ≡ C.base + result.2.book }
+        ensures d { pairs_in result.3.shard ≡ D.base + result.3.book }
     {
         let PieceBoard { a, b, c, d } = self;
         let Shares {
@@ -173,8 +179,13 @@ impl<G: Game, L: PieceLedger> Model for Taken<G, L> {
 impl<G: Game, L: PieceLedger> Taken<G, L> {
     fn new(pieced: Pieced<G, L>, share: Share<L>) -> Taken<G, L>
         requires { (share.parts ≡ L.parts) × (0 < L.parts) }
-        ensures { result ≡ pieced }
+        ensures pieced { result ≡ pieced }
+        ensures book { result.book ≡ share.amount }
+        ensures pairs { pairs_in result.shard ≡ L.base + result.book }
     {
+        let mut pieced = pieced;
+        let mut share = share;
+        pieced.audit(&mut share);
         Taken { pieced, share }
     }
 
@@ -194,7 +205,7 @@ impl<G: Game, L: PieceLedger> Taken<G, L> {
         self.pieced.is_whole(piece)
     }
 
-    /// Delivers what is missing of a piece. A pair is refused only where it is too far.
+    /// Delivers the missing pairs of a piece. A pair is refused only if it is too far.
     pub fn deliver(&mut self, piece: usize, pairs: &[(Note<G>, u64)]) -> Result<(), Refused>
         requires piece { piece < div_ceil (length L.notes) L.size }
         requires pairs { pairs.now ≡ piece_pairs G.rules L.spot L.notes L.size piece }
@@ -206,7 +217,7 @@ impl<G: Game, L: PieceLedger> Taken<G, L> {
         pieced.deliver(piece, pairs, pairs.len(), share)
     }
 
-    /// The shard, where all pieces are delivered: every pair of the level into its range is.
+    /// Returns the shard when all pieces are delivered: it has every pair of the level into its range.
     pub fn into_whole(self) -> OrderedShard<G>
         requires { (p : ℕ) → p < div_ceil (length L.notes) L.size → slice_index_or self.whole p false ≡ true }
         ensures spot { spot_of result ≡ L.spot }

@@ -8,9 +8,9 @@ use std::marker::{Brand, Model};
 use std::sync::ledger;
 use std::sync::ledger::{Book, Ledger};
 
-/// The name of one shard's ledger. It fixes where the shard stands: its tier, range, phase and level.
+/// The name of one shard's ledger. It fixes the tier, range, phase and level of the shard.
 pub trait ShardLedger: Ledger {
-    /// Where the shard stands.
+    /// The tier, range, phase and level of the shard.
     ghost spot: { Spot };
 }
 
@@ -46,7 +46,7 @@ impl<L: ShardLedger> Share<L> {
         Share { mark, counted: 0 }
     }
 
-    /// The amount, or the greatest number of 64 bits where the amount is above it.
+    /// Returns the amount, or `u64::MAX` if the amount is greater.
     pub fn amount(&self) -> u64
         ensures { result ≡ min self.now.amount (2 ^ 64 - 1) }
     {
@@ -63,7 +63,7 @@ impl<L: ShardLedger> Share<L> {
         self.counted = self.counted.saturating_add(by);
     }
 
-    /// Shows that the amount is at most the book's total, and equal to it where the share has all parts.
+    /// Shows that the amount is at most the book's total, and equal to it if the share has all parts.
     pub(crate) fn audit(&mut self, book: &mut Book<L>)
         ensures same { (self.new ≡ self.old) × (book.new.total ≡ book.old.total) }
         ensures bound { self.old.amount ≤ book.old.total }
@@ -91,7 +91,7 @@ impl<L: ShardLedger> Share<L> {
     }
 }
 
-/// By how much a delivery raises the number of pairs.
+/// Returns the number of pairs that a delivery adds.
 pub fn gained(answer: &Result<Delivery, Refused>) -> u64
     ensures { result ≡ gain answer.now }
 {

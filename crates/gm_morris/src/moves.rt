@@ -74,7 +74,7 @@ pub fn can_move(variant: Variant, board: Board, number: u32) -> bool
     }
 }
 
-/// How the last move has ended the game, if it has: the mover loses where the opponent has a line.
+/// How the last move has ended the game, if it has: the mover loses if the opponent has a line.
 #[tactic(auto, unfolding(crate::specs::Morris::end_by_last_move))]
 pub fn end_by_last_move(variant: Variant, board: Board) -> Option<End>
     ensures { result ≡ over_of variant (board_of 9 board.mine board.theirs) }

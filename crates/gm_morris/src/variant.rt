@@ -1,4 +1,4 @@
-//! Where the games of nine points differ: their names, last tiers, lines, and the points between which pieces move.
+//! The differences of the games of nine points: their names, last tiers, lines, and the points between which pieces move.
 ghost use Rattle.std.specs.Prelude.{◌≡◌, ◌<◌, ◌≤◌};
 ghost use Rattle.std.specs.List.{list_any, list_all};
 ghost use Rattle.gm_board.specs.Masks.{has_cell};

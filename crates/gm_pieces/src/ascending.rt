@@ -12,12 +12,14 @@ fn place_of(list: &[u64], x: u64) -> usize
     ensures before { (k : ℕ) → k < result → slice_index list.now k < x }
     ensures after { result < length list.now → x ≤ slice_index list.now result }
 {
-    for (place, y) in list.iter().enumerate() {
-        if *y >= x {
-            return place;
-        }
+    // From the end, and to the beginning: so the loop has no branch that depends on what the list holds.
+    let mut place = list.len();
+    let mut next = place;
+    while next > 0 {
+        next -= 1;
+        place = if list[next] < x { place } else { next };
     }
-    list.len()
+    place
 }
 
 /// Puts x into an ascending list, unless the list has it already.

@@ -33,7 +33,7 @@ pub trait MoveLists: MoveRules {
             Some(end) => Some(end),
             None => {
                 if Self::is_stuck(board) {
-                    Some(Self::end_if_no_move())
+                    Some(Self::end_if_no_move(board))
                 } else {
                     None
                 }
@@ -111,7 +111,7 @@ pub trait MoveLists: MoveRules {
         }
     }
 
-    /// The first canonical legal position of the tier with an index from `lo` up to `hi`: its index and its board; `None` where there is none.
+    /// The first canonical legal position of the tier with an index from `lo` up to `hi`: its index and its board; `None` if there is none.
     fn first_board(tier: u64, lo: u64, hi: u64) -> Option<(u64, Self::Board)>
         ensures { IsFirstBoard Self.cells Self.game tier lo hi result }
     {

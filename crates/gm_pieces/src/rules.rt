@@ -108,9 +108,10 @@ pub trait MoveRules: Drop {
         requires { game.legal (cells board) ≡ true }
         ensures { result ≡ game.end_by_last_move (cells board) };
 
-    /// How the game ends for a player who can't move.
-    fn end_if_no_move() -> End
-        ensures { result ≡ game.end_if_no_move };
+    /// How the game ends if the player to move can't move.
+    fn end_if_no_move(board: Self::Board) -> End
+        requires { game.legal (cells board) ≡ true }
+        ensures { result ≡ game.end_if_no_move (cells board) };
 
     /// Whether the move with this number could be made if the game were not over.
     fn can_move(board: Self::Board, number: u32) -> bool
@@ -153,7 +154,7 @@ pub trait MoveRules: Drop {
         requires { game.legal (cells board) ≡ true }
         ensures { result.items ≡ text (cells board) };
 
-    /// The board that has this text, where there is one. Any bytes may be given.
+    /// The board that has this text, if there is one. Any bytes may be given.
     fn board_in(bytes: &[u8]) -> Self::Board
         ensures { (b : Cells) → game.legal b ≡ true → text b ≡ bytes.now → b ≡ cells result };
 

@@ -71,7 +71,7 @@ pub fn marks(cells: u32, text: &[u8], byte: u8) -> u32
     marks
 }
 
-/// The masks of the mover's and of the opponent's pieces on the board of this many cells that has this text, where there is one. Any bytes may be given.
+/// The masks of the mover's and of the opponent's pieces on the board of this many cells that has this text, if there is one. Any bytes may be given.
 #[tactic(auto, using(crate::proofs::TextSteps::read_all))]
 pub fn masks_in(cells: u32, text: &[u8]) -> (u32, u32)
     requires { cells ≤ 25 }

@@ -1,21 +1,16 @@
 -- Moves with their best answers.
-use Rattle.std.proofs.Common.{◌≡◌, ℕ, ◌+◌, ◌<◌, ◌≤◌, true, List, [], ◌∷◌, ◌++◌, length, map, take, get_or, None, Some, inl, inr, refl, sym, ap, ap₂, subst, ◌∙◌}
+use Rattle.std.proofs.Common.{◌≡◌, ℕ, ◌+◌, ◌<◌, ◌≤◌, true, List, [], ◌∷◌, ◌++◌, length, take, get_or, None, Some, refl, sym, ap, ap₂, subst, ◌∙◌}
 use Rattle.std.proofs.Common.{arith}
-use Rattle.std.specs.List.{All, Contains}
 use Rattle.std.proofs.lemmas.List.{append-nil, take_more, take_all, map-append}
 use Rattle.std.proofs.lemmas.Grind.{flat_map-append}
 use Rattle.std.proofs.lemmas.List.Elements.{All-push}
-use Rattle.std.proofs.lemmas.List.Sorted.{Contains-permutation, IsPermutation-sym}
 use Rattle.gm_game.specs.declared.position.Position.{Position}
 use Rattle.gm_game.specs.Laws.{IsGame}
 use Rattle.gm_game.specs.Rules.{Rules}
-use Rattle.gm_game.specs.Shown.{IsShown}
 use Rattle.gm_game.specs.Values.{IsTrueValue}
-use Rattle.gm_game.proofs.Lists.{map_from, map_in}
 use Rattle.gm_best.specs.BestMoves.{IsBestMove}
 use Rattle.gm_play.specs.declared.move_values.MoveValue.{MoveValue}
 use Rattle.gm_play.specs.declared.why.Exchange.{Exchange}
-use Rattle.gm_play.specs.MoveValues.{AreMoveValues}
 use Rattle.gm_play.specs.PlayTexts.{after_best}
 use Rattle.gm_play.specs.Why.{made_of, left_after, value_left, IsExchange, exchange_row, AreExchangeRows}
 use Rattle.gm_play.proofs.Rows.{after_true}

@@ -5,7 +5,7 @@ use Rattle.std.specs.Io.KnownBytes.{Appends, Keeps}
 use Rattle.std.proofs.KnownBytes.{Appends-trans, Appends-kept}
 use Rattle.std.proofs.lemmas.Result.{IfOk-weaker, on_err_weaker}
 use Rattle.gm_game.specs.declared.position.Position.{Position}
-use Rattle.gm_play.specs.declared.session_error.SessionError.{SessionError}
+use Rattle.gm_play.specs.declared.streams.Unwritten.{Unwritten}
 use Rattle.gm_play.specs.Dialogue.{Said, before}
 use Rattle.gm_play.specs.Sessions.{AppendsPart, Says}
 
@@ -61,7 +61,7 @@ text_is a b xs ys e h = subst (λ (l : List ℕ). Appends a b l) e h
 -- a text is written, and then a call says the rest
 module _ (a b c : Option (List ℕ)) (xs : List ℕ) (said is : Said) (written : Appends a b xs) (is_said : is ≡ said) (text : List ℕ)
     (text_is_said : text ≡ is.text)
-    (call : Result (Option Position) SessionError) where
+    (call : Result (Option Position) Unwritten) where
   pub done_by : IfOk call (λ o. (o ≡ is.asked) × Appends b c text) → IfOk call (Says a c (before xs said))
   done_by h = IfOk-weaker call (λ o. (o ≡ is.asked) × Appends b c text) (Says a c (before xs said))
       (λ o k. done_after a b c xs said is o text written is_said text_is_said k.0 k.1) h
@@ -70,7 +70,7 @@ module _ (a b c : Option (List ℕ)) (xs : List ℕ) (said is : Said) (written :
   stops_in h = on_err_weaker call (λ k. stops_after a b c xs said is text written is_said text_is_said k) h
 
 -- a call says what is known by an equation
-module _ (a b : Option (List ℕ)) (call : Result (Option Position) SessionError) (is said : Said) (is_said : is ≡ said) where
+module _ (a b : Option (List ℕ)) (call : Result (Option Position) Unwritten) (is said : Said) (is_said : is ≡ said) where
   pub ok_is : IfOk call (Says a b is) → IfOk call (Says a b said)
   ok_is h = subst (λ (s : Said). IfOk call (Says a b s)) is_said h
 

@@ -1,7 +1,6 @@
 -- The first of the moves in order is the best move, and what it is worth is the value of the position.
-use Rattle.std.proofs.Common.{◌≡◌, ℕ, suc, ◌+◌, ◌*◌, ◌^◌, ◌<◌, ◌≤◌, true, List, [], ◌∷◌, map, Option, None, Some, refl, sym, ap, subst, ◌∙◌, arith, Bool, false}
-use Rattle.std.proofs.Common.{if◌then◌else◌}
-use Rattle.std.specs.Prelude.{IsPermutation, IfSome, slice_get}
+use Rattle.std.proofs.Common.{◌≡◌, ℕ, suc, ◌+◌, ◌*◌, ◌^◌, ◌<◌, ◌≤◌, true, List, [], ◌∷◌, map, None, refl, sym, ap, subst, ◌∙◌, arith}
+use Rattle.std.specs.Prelude.{IsPermutation}
 use Rattle.std.specs.List.{Contains}
 use Rattle.std.specs.List.Sorted.{IsNonDecreasingBy}
 use Rattle.std.proofs.lemmas.List.Elements.{All-contains}
@@ -12,14 +11,13 @@ use Rattle.gm_game.specs.declared.position.Solved.{Solved}
 use Rattle.gm_game.specs.declared.position.Value.{Value}
 use Rattle.gm_game.specs.declared.position.Value.TheVariants.{Lose, Draw, Tie, Win}
 use Rattle.gm_game.specs.Laws.{IsGame}
-use Rattle.gm_game.specs.Records.{solved, IsTrueTable}
+use Rattle.gm_game.specs.Records.{solved}
 use Rattle.gm_game.specs.Rules.{Rules, IsChild}
 use Rattle.gm_game.specs.Values.{wins, HasValue, IsTrueValue}
 use Rattle.gm_game.proofs.Basic.{HasValue_once}
 use Rattle.gm_game.proofs.Frontier.{win_within}
 use Rattle.gm_game.proofs.Lists.{contains_none, contains_first, map_from, map_in}
 use Rattle.gm_game.proofs.Steps.{wins_from, ties_from}
-use Rattle.gm_table.specs.Tables.{TableData, AreTables, record_at, table_of, record_in, value_in}
 use Rattle.gm_play.specs.declared.move_values.MoveValue.{MoveValue}
 use Rattle.gm_best.specs.BestMoves.{wanted_from, IsNoFarther, IsBestOf}
 use Rattle.gm_play.specs.MoveValues.{worth_from, rank, place, IsMoveValue, AreMoveValues, BeginsBest}

@@ -14,7 +14,7 @@ use Rattle.gm_game.specs.Values.{IsTrueValue}
 use Rattle.gm_game.proofs.Checker.{IsTrueValue_once}
 use Rattle.gm_best.specs.declared.side.Side.TheVariants.{You, Computer}
 use Rattle.gm_game.specs.Laws.{IsGame}
-use Rattle.gm_play.specs.declared.session_error.SessionError.{SessionError}
+use Rattle.gm_play.specs.declared.streams.Unwritten.{Unwritten}
 use Rattle.gm_play.specs.Sessions.{AppendsPart, Says}
 use Rattle.gm_play.proofs.Parts.{part_is, part_longer, text_is, done_by, stops_in}
 use Rattle.gm_play.specs.Dialogue.{Advice, Said, IsKnown, before, after_move, game_over, asks, place, asks_or_ends, persons_turn, moves_or_ends}
@@ -90,7 +90,7 @@ module _ (r : Rules) (shown : Position → List ℕ) (move_shown : Position → 
       part_is a b (move_line r shown move_shown k seen p m ++ (next (r.play p m)).text) goes_on.text (ap (λ (s : Said). s.text) same)
       (part_longer a b (move_line r shown move_shown k seen p m) (next (r.play p m)).text (part_is a b _ _ line_is h))
 
-  module _ (game : IsGame r) (a b c : Option (List ℕ)) (q : Position) (there : q ≡ r.play p m) (call : Result (Option Position) SessionError)
+  module _ (game : IsGame r) (a b c : Option (List ℕ)) (q : Position) (there : q ≡ r.play p m) (call : Result (Option Position) Unwritten)
       (written : Appends a b (codes "computer" ++ codes ": " ++ text ++ codes "\n")) where
     line_written : Appends a b (move_line r shown move_shown k seen p m)
     line_written = text_is a b _ _ line_is written

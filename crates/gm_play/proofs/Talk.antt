@@ -10,7 +10,9 @@ use Rattle.gm_game.specs.Rules.{Rules}
 use Rattle.gm_best.specs.declared.side.Side.{Side}
 use Rattle.gm_play.specs.declared.session.TheConstants.{SESSION_BYTES, KEPT}
 use Rattle.gm_play.specs.Dialogue.{Advice, Said, text_after, count_after, waiting, turn, reply, closing, talk, count, spoken, used}
-use Rattle.gm_play.specs.Sessions.{AppendsPart, Says, IsRead, IsSession, IsUnread, IsUnwritten, IsTooLong}
+use Rattle.gm_play.specs.Sessions.{AppendsPart, Says, IsRead, IsSession, IsUnread, IsUnwritten, IsTooLong, IsBroken, IsOfOutput}
+use Rattle.gm_play.specs.declared.session_error.SessionError.{SessionError}
+use Rattle.gm_play.specs.declared.session_error.SessionError.TheVariants.{ReadFailed, WriteFailed, TooMuchInput, OutputClosed}
 use Rattle.gm_play.proofs.Parts.{part_after, part_longer, part_is, text_is}
 use Rattle.gm_play.specs.declared.view.Question.{Question}
 
@@ -271,3 +273,13 @@ module _ (r : Rules) (shown : Position → List ℕ) (move_shown : Position → 
             all_used = g.uses (b ∷ []) ∙ (let h = count_one p g.line b (b == 10) refl in omega (arith, h, g.len, many));
             writes = text_is w0 w1 g.written (Spoken waiting g.bytes) (sym said) g.writes;
           }
+
+module _ (r : Rules) (shown : Position → List ℕ) (move_shown : Position → ℕ → List ℕ) (k : Advice) (seen : Question → Position → List ℕ) (start : Position)
+    (first : Side) where
+  -- the output fails, of whatever kind the failure is
+  pub broken_output : (e : SessionError) (r0 r1 w0 w1 : Option (List ℕ)) → IsOfOutput e → IsUnwritten r shown move_shown k seen start first r0 r1 w0 w1
+      → IsBroken r shown move_shown k seen start first e r0 r1 w0 w1
+  broken_output ReadFailed r0 r1 w0 w1 is h = absurd is
+  broken_output WriteFailed r0 r1 w0 w1 is h = h
+  broken_output TooMuchInput r0 r1 w0 w1 is h = absurd is
+  broken_output OutputClosed r0 r1 w0 w1 is h = h

@@ -5,7 +5,7 @@ use Rattle.gm_game.specs.declared.position.Position.{Position}
 use Rattle.gm_game.specs.Rules.{Rules}
 use Rattle.gm_best.specs.declared.side.Side.{Side}
 use Rattle.gm_play.specs.declared.session_error.SessionError.{SessionError}
-use Rattle.gm_play.specs.declared.session_error.SessionError.TheVariants.{ReadFailed, WriteFailed, TooMuchInput}
+use Rattle.gm_play.specs.declared.session_error.SessionError.TheVariants.{ReadFailed, WriteFailed, TooMuchInput, OutputClosed}
 use Rattle.gm_play.specs.Dialogue.{Advice, Said, dialogue, dialogue_so_far, used}
 use Rattle.gm_play.specs.declared.view.Question.{Question}
 
@@ -71,9 +71,18 @@ module _ (r : Rules) (shown : Position → List ℕ) (move_shown : Position → 
   IsBroken ReadFailed old new before after = IsUnread old new before after
   IsBroken WriteFailed old new before after = IsUnwritten old new before after
   IsBroken TooMuchInput old new before after = IsTooLong old new before after
+  IsBroken OutputClosed old new before after = IsUnwritten old new before after
 
 -- the numbers of the errors
 abbrev pub number_of : SessionError → ℕ
 number_of ReadFailed = 1
 number_of WriteFailed = 2
 number_of TooMuchInput = 3
+number_of OutputClosed = 4
+
+-- an output that failed, or whose reader has closed it
+abbrev pub IsOfOutput : SessionError → Type 0
+IsOfOutput ReadFailed = ⊥
+IsOfOutput WriteFailed = Unit {0}
+IsOfOutput TooMuchInput = ⊥
+IsOfOutput OutputClosed = Unit {0}

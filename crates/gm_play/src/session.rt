@@ -112,7 +112,7 @@ fn converse<G: Shown, V: View<G>, R: Read, W: Write>(
     let mut asked = match turn::<G, V, W>(start, first, output) {
         Ok(Some(p)) => p,
         Ok(None) => return Ok(()),
-        Err(_) => return Err(SessionError::WriteFailed),
+        Err(unwritten) => return Err(unwritten.of_session()),
     };
     let mut line = ArrayVec::<u8, KEPT>::new();
     for count in 0..SESSION_BYTES + 1 {
@@ -125,7 +125,7 @@ fn converse<G: Shown, V: View<G>, R: Read, W: Write>(
             Ok(None) => {
                 return match close::<G, V, W>(&here, &line, output) {
                     Ok(()) => Ok(()),
-                    Err(_) => Err(SessionError::WriteFailed),
+                    Err(unwritten) => Err(unwritten.of_session()),
                 };
             }
             Err(_) => return Err(SessionError::ReadFailed),
@@ -137,7 +137,7 @@ fn converse<G: Shown, V: View<G>, R: Read, W: Write>(
             match reply::<G, V, W>(&here, &line, output) {
                 Ok(Some(next)) => asked = next,
                 Ok(None) => return Ok(()),
-                Err(_) => return Err(SessionError::WriteFailed),
+                Err(unwritten) => return Err(unwritten.of_session()),
             }
             line.clear();
         } else if !line.is_full() {

@@ -14,6 +14,9 @@ pub enum SessionError {
     /// More bytes came than one session reads.
     #[error("too much input")]
     TooMuchInput,
+    /// The reader has closed the output.
+    #[error("output closed")]
+    OutputClosed,
 }
 
 impl SessionError {
@@ -25,6 +28,7 @@ impl SessionError {
             SessionError::ReadFailed => 1,
             SessionError::WriteFailed => 2,
             SessionError::TooMuchInput => 3,
+            SessionError::OutputClosed => 4,
         }
     }
 }

@@ -2,7 +2,7 @@
 ghost use Rattle.std.specs.Prelude.{◌≡◌, ◌<◌, ◌+◌, ◌++◌, codes, length, OnOk, OnErr, IfOk};
 ghost use Rattle.std.specs.Io.KnownBytes.{Keeps, Appends};
 ghost use Rattle.gm_play.specs.Dialogue.{without_return as without_return_spec};
-ghost use Rattle.gm_play.specs.Sessions.{ReadsByte, AppendsPart};
+ghost use Rattle.gm_play.specs.Sessions.{ReadsByte, AppendsPart, IsOfOutput};
 
 use crate::session_error::SessionError;
 use arrayvec::ArrayVec;
@@ -48,14 +48,35 @@ pub fn write_text<W: Write>(output: &mut W, text: &[u8]) -> io::Result<()>
     Ok(())
 }
 
+/// Why a text is not written whole.
+#[derive(Clone, Copy, Debug)]
+pub(crate) enum Unwritten {
+    Failed,
+    /// The reader has closed the output.
+    Closed,
+}
+
+impl Unwritten {
+    /// The error of the session whose text it was.
+    pub(crate) fn of_session(self) -> SessionError
+        ensures { IsOfOutput result }
+    {
+        match self {
+            Unwritten::Failed => SessionError::WriteFailed,
+            Unwritten::Closed => SessionError::OutputClosed,
+        }
+    }
+}
+
 /// Writes all of a text of a session. After an error a prefix of it is written.
-pub(crate) fn say<W: Write>(output: &mut W, text: &[u8]) -> Result<(), SessionError>
+pub(crate) fn say<W: Write>(output: &mut W, text: &[u8]) -> Result<(), Unwritten>
     ensures ok { OnOk result (Appends (W.contents output.old) (W.contents output.new) text.now) }
     ensures err { OnErr result (AppendsPart (W.contents output.old) (W.contents output.new) text.now) }
 {
     match write_text(output, text) {
         Ok(()) => Ok(()),
-        Err(_) => Err(SessionError::WriteFailed),
+        Err(error) if error.kind() == ErrorKind::BrokenPipe => Err(Unwritten::Closed),
+        Err(_) => Err(Unwritten::Failed),
     }
 }
 
@@ -68,7 +89,7 @@ pub(crate) fn write_line<W: Write>(
     front: &[u8],
     between: &[u8],
     back: &[u8],
-) -> Result<(), SessionError>
+) -> Result<(), Unwritten>
     requires { length front.now + length between.now + length back.now < WIDTH }
     ensures ok { OnOk result (Appends (W.contents output.old) (W.contents output.new) (front.now ++ between.now ++ back.now ++ codes "\n")) }
     ensures err { OnErr result (AppendsPart (W.contents output.old) (W.contents output.new) (front.now ++ between.now ++ back.now ++ codes "\n")) }

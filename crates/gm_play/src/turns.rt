@@ -6,8 +6,7 @@ ghost use Rattle.gm_best.specs.Reached.{IsReached};
 ghost use Rattle.gm_play.specs.Dialogue.{Advice, IsKnown, place, persons_turn, moves_or_ends, computers_turn, turn as turn_spec, reply as reply_spec, closing};
 ghost use Rattle.gm_play.specs.Sessions.{AppendsPart, Says};
 
-use crate::session_error::SessionError;
-use crate::streams::{say, without_return, write_line};
+use crate::streams::{Unwritten, say, without_return, write_line};
 use crate::view::{Question, View};
 use gm_best::ending::over;
 use gm_best::known::Known;
@@ -22,7 +21,7 @@ use std::io::Write;
 fn write_place<G: Shown, V: View<G>, W: Write>(
     known: &Known<'_, G>,
     output: &mut W,
-) -> Result<(), SessionError>
+) -> Result<(), Unwritten>
     ensures ok { (k : Advice) → IsKnown G.Game.rules known.now.position.tier k
         → OnOk result (Appends (W.contents output.old) (W.contents output.new) (place G.Game.rules G.shown G.move_shown k V.seen known.now.position)) }
     ensures err { (k : Advice) → IsKnown G.Game.rules known.now.position.tier k
@@ -42,7 +41,7 @@ fn ask_move<G: Shown, V: View<G>, W: Write>(
     asked: Question,
     p: Position,
     output: &mut W,
-) -> Result<Option<Position>, SessionError>
+) -> Result<Option<Position>, Unwritten>
     requires { G.Game.rules.is_legal p ≡ true }
     ensures ok { IfOk result (λ o. (o ≡ Some p) × Appends (W.contents output.old) (W.contents output.new) (V.seen asked p ++ codes "your move?\n")) }
     ensures err { OnErr result (AppendsPart (W.contents output.old) (W.contents output.new) (V.seen asked p ++ codes "your move?\n")) }
@@ -53,7 +52,7 @@ fn ask_move<G: Shown, V: View<G>, W: Write>(
 }
 
 // Writes the last text of a game or of a session.
-fn finish<W: Write>(output: &mut W, text: &[u8]) -> Result<Option<Position>, SessionError>
+fn finish<W: Write>(output: &mut W, text: &[u8]) -> Result<Option<Position>, Unwritten>
     ensures ok { IfOk result (λ o. (o ≡ None) × Appends (W.contents output.old) (W.contents output.new) text.now) }
     ensures err { OnErr result (AppendsPart (W.contents output.old) (W.contents output.new) text.now) }
 {
@@ -65,7 +64,7 @@ fn finish<W: Write>(output: &mut W, text: &[u8]) -> Result<Option<Position>, Ses
 fn ask<G: Shown, V: View<G>, W: Write>(
     known: &Known<'_, G>,
     output: &mut W,
-) -> Result<Option<Position>, SessionError>
+) -> Result<Option<Position>, Unwritten>
     ensures ok { (k : Advice) → IsKnown G.Game.rules known.now.position.tier k
         → IfOk result (Says (W.contents output.old) (W.contents output.new) (persons_turn G.Game.rules G.shown G.move_shown k V.seen known.now.position)) }
     ensures err { (k : Advice) → IsKnown G.Game.rules known.now.position.tier k
@@ -92,7 +91,7 @@ fn best_number<G: Game>(known: &Known<'_, G>) -> u32
 fn play_best<G: Shown, V: View<G>, W: Write>(
     known: &Known<'_, G>,
     output: &mut W,
-) -> Result<Option<Position>, SessionError>
+) -> Result<Option<Position>, Unwritten>
     requires { G.Game.rules.primitive known.now.position ≡ None }
     ensures ok { (k : Advice) → IsKnown G.Game.rules known.now.position.tier k
         → IfOk result (Says (W.contents output.old) (W.contents output.new) (moves_or_ends G.Game.rules G.shown G.move_shown k V.seen known.now.position
@@ -117,7 +116,7 @@ fn play_best<G: Shown, V: View<G>, W: Write>(
 fn move_and_ask<G: Shown, V: View<G>, W: Write>(
     known: &Known<'_, G>,
     output: &mut W,
-) -> Result<Option<Position>, SessionError>
+) -> Result<Option<Position>, Unwritten>
     ensures ok { (k : Advice) → IsKnown G.Game.rules known.now.position.tier k
         → IfOk result (Says (W.contents output.old) (W.contents output.new) (computers_turn G.Game.rules G.shown G.move_shown k V.seen known.now.position)) }
     ensures err { (k : Advice) → IsKnown G.Game.rules known.now.position.tier k
@@ -137,7 +136,7 @@ pub(crate) fn turn<G: Shown, V: View<G>, W: Write>(
     known: &Known<'_, G>,
     side: Side,
     output: &mut W,
-) -> Result<Option<Position>, SessionError>
+) -> Result<Option<Position>, Unwritten>
     ensures ok { (k : Advice) → IsKnown G.Game.rules known.now.position.tier k
         → IfOk result (Says (W.contents output.old) (W.contents output.new) (turn_spec G.Game.rules G.shown G.move_shown k V.seen known.now.position side)) }
     ensures err { (k : Advice) → IsKnown G.Game.rules known.now.position.tier k
@@ -155,7 +154,7 @@ pub(crate) fn turn<G: Shown, V: View<G>, W: Write>(
 fn ask_again<G: Shown, V: View<G>, W: Write>(
     p: Position,
     output: &mut W,
-) -> Result<Option<Position>, SessionError>
+) -> Result<Option<Position>, Unwritten>
     requires { G.Game.rules.is_legal p ≡ true }
     ensures ok { IfOk result (λ o. (o ≡ Some p) × Appends (W.contents output.old) (W.contents output.new)
         (codes "not a move\n" ++ V.seen Question.Again p ++ codes "your move?\n")) }
@@ -171,7 +170,7 @@ pub(crate) fn reply<G: Shown, V: View<G>, W: Write>(
     known: &Known<'_, G>,
     line: &[u8],
     output: &mut W,
-) -> Result<Option<Position>, SessionError>
+) -> Result<Option<Position>, Unwritten>
     ensures ok { (k : Advice) → IsKnown G.Game.rules known.now.position.tier k
         → IfOk result (Says (W.contents output.old) (W.contents output.new)
         (reply_spec G.Game.rules G.shown G.move_shown k V.seen known.now.position line.now)) }
@@ -195,7 +194,7 @@ pub(crate) fn close<G: Shown, V: View<G>, W: Write>(
     known: &Known<'_, G>,
     line: &[u8],
     output: &mut W,
-) -> Result<(), SessionError>
+) -> Result<(), Unwritten>
     ensures ok { (k : Advice) → IsKnown G.Game.rules known.now.position.tier k
         → OnOk result (Appends (W.contents output.old) (W.contents output.new)
         (closing G.Game.rules G.shown G.move_shown k V.seen known.now.position line.now)) }

@@ -17,7 +17,7 @@ pub fn number_of(version: Version, entry: Option<Solved>) -> u32
     }
 }
 
-/// The record with this number; `None` where no record has it.
+/// Returns the record with this number; `None` if no record has it.
 pub fn record_of(version: Version, number: u32) -> Option<Option<Solved>>
     ensures some { IfSome result (λ r. IsStorable version r × (record_number version r ≡ number)) }
     ensures none { IfNone result ((r : Option Solved) → IsStorable version r → record_number version r ≢ number) }

@@ -4,7 +4,7 @@ ghost use Rattle.gm_game.specs.Records.{settle, solved as solved_spec, lost_in, 
 
 use gm_game::position::{Solved, Value};
 
-/// What some children's records say: the least remoteness of a loss, the greatest of a win where all are wins, and the least of a tie.
+/// A fold over some children's records: the least remoteness of a loss, the greatest of a win if all are wins, and the least of a tie.
 #[derive(Clone, Copy)]
 pub struct Summary {
     pub lost: Option<u32>,

@@ -1,5 +1,4 @@
-//! A shard to which no pair is delivered twice: the children delivered to it are known to proofs alone, and the order in which its positions were settled is
-//! kept.
+//! A shard to which no pair is delivered twice. Only proofs know the children delivered to it. The order in which its positions were settled is kept.
 
 ghost use Rattle.std.specs.Prelude.{◌≡◌, ℕ, IfOk};
 ghost use Rattle.std.specs.List.{Contains};
@@ -19,7 +18,7 @@ use gm_table::packed::Packed;
 use std::alloc::{AllocError, Global};
 use std::marker::Model;
 
-// The queue of the positions that have ended in a phase, where no child is delivered yet.
+// Returns the queue of the positions that have ended in a phase, before any child is delivered.
 fn ended<G: Game>(alloc: Global, children: &Ordered<G>, phase: Phase) -> Result<Queue, AllocError>
     requires { IsEmptied children.now }
     ensures { IfOk result (IsQueue G.rules children.now phase 0) }
@@ -52,7 +51,7 @@ fn notes_at<G: Game>(
     Ok(notes)
 }
 
-/// A range of a tier at a place, with the children delivered to each of its positions. It is good after any calls, as the contract of `range` says.
+/// A range of a tier at a place, with the children delivered to each of its positions. It is good after any calls: see the contract of `range`.
 pub struct OrderedShard<G: Game> {
     children: Ordered<G>,
     wins: Queue,
@@ -94,7 +93,7 @@ impl<G: Game> OrderedShard<G> {
     ghost use Rattle.gm_deliveries.specs.Good.{IsGood, IsCounter};
     ghost use Rattle.gm_deliveries.specs.Delivery.{IsPairHere, Delivers};
     ghost use Rattle.gm_deliveries.specs.Steps.{IsWhole, CanTurn, place_of, next_level, first_ties};
-    ghost use Rattle.gm_deliveries.specs.Closing.{ArePart};
+    ghost use Rattle.gm_deliveries.specs.Closing.{IsNoteOf, ArePart};
 
     /// Makes the shard of the indexes from `lo` on with these start values; nothing is delivered yet.
     pub fn begin(alloc: Global, tier: u64, lo: u64, starts: &[Start]) -> Result<Self, AllocError>
@@ -153,7 +152,7 @@ impl<G: Game> OrderedShard<G> {
         self.children.status(index)
     }
 
-    /// How many distinct canonical children of an index are not delivered: 0 at a hole and where the game has ended.
+    /// Returns the number of distinct canonical children of an index that are not delivered: 0 at a hole and at an end.
     pub fn counter(&self, index: u64) -> u32
         requires { IsInRange self.now index }
         ensures { IsCounter G.rules self.now index result }
@@ -161,7 +160,15 @@ impl<G: Game> OrderedShard<G> {
         self.children.counter(index)
     }
 
-    /// Delivers a note of the present level to a parent of the range to which it is not delivered yet: adds the pair, and settles an undecided parent where it
+    /// Returns the note of an index, if it is settled.
+    pub fn note(&self, index: u64) -> Option<Note<G>>
+        requires { IsInRange self.now index }
+        ensures { IsNoteOf G.rules self.now index result }
+    {
+        self.children.note(index)
+    }
+
+    /// Delivers a note of the present level to a parent of the range to which it is not delivered yet: adds the pair, and settles an undecided parent if it
     /// decides.
     pub fn deliver_new(&mut self, note: &Note<G>, parent: u64) -> Result<Delivery, Refused>
         requires here { IsPairHere G.rules self.old note.now parent }
@@ -181,7 +188,7 @@ impl<G: Game> OrderedShard<G> {
         answer
     }
 
-    /// Turns to the next level, where every pair up to the present place is delivered.
+    /// Turns to the next level, when every pair up to the present place is delivered.
     pub fn close(&mut self)
         requires whole { IsWhole G.rules self.old }
         requires fits { self.old.level ≤ REMOTENESS }
@@ -217,8 +224,7 @@ impl<G: Game> OrderedShard<G> {
         Ok(Run::of(self.place(), lo, hi, notes))
     }
 
-    /// Appends the true records of the range, where nothing is left to settle: undecided positions are draws. Where memory is refused the records are as
-    /// before.
+    /// Appends the true records of the range when nothing is left to settle: undecided positions are draws. If memory is refused, the records are unchanged.
     pub fn finish(&self, last: &Last<G>, records: &mut Packed) -> Result<(), AllocError>
         requires last { last.now ≡ place_of self.now }
         requires ties { self.now.phase ≡ Ties }

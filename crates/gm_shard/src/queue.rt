@@ -37,7 +37,7 @@ impl Queue {
         })
     }
 
-    /// Adds an index at the end, where there is room.
+    /// Adds an index at the end, if there is room.
     pub(crate) fn push(&mut self, index: u32)
         requires { length self.old.indexes < self.old.room }
         ensures items { self.new.indexes ≡ self.old.indexes ++ index ∷ [] }

@@ -38,7 +38,7 @@ fn has_added(answer: &Result<Delivery, Refused>) -> bool
     }
 }
 
-// Delivers a note where it can be delivered, and says whether it could.
+// Delivers a note if it can be delivered. Returns whether it could.
 fn take_note<G: Game>(shard: &mut Shard<G>, note: &Note<G>, parent: u64) -> bool
     ensures { MatchBool result (CanDeliver G.rules shard.old note.now.position parent × (shard.new ≡ with_pair shard.old note.now.position parent))
         ((shard.new ≡ shard.old) × (CanDeliver G.rules shard.old note.now.position parent → ⊥)) }
@@ -50,7 +50,7 @@ fn take_note<G: Game>(shard: &mut Shard<G>, note: &Note<G>, parent: u64) -> bool
     has_added(&answer)
 }
 
-// Applies an event to the shard that it names, and says whether it could be applied.
+// Applies an event to the shard that it names. Returns whether it could be applied.
 fn take<G: Game>(shard: &mut Shard<G>, event: &Event<G>) -> bool
     ensures { MatchBool result (Takes G.rules event.now shard.old shard.new)
         ((shard.new ≡ shard.old) × ((t : ShardState) → Takes G.rules event.now shard.old t → ⊥)) }
@@ -74,7 +74,7 @@ fn take<G: Game>(shard: &mut Shard<G>, event: &Event<G>) -> bool
     }
 }
 
-// Applies an event to the shard that it names, where there is one.
+// Applies an event to the shard that it names, if there is one.
 fn apply<G: Game>(shards: &mut [Shard<G>], event: &Event<G>) -> bool
     ensures { MatchBool result (Changes G.rules event.now shards.old shards.new)
         ((shards.new ≡ shards.old) × ((mid : List ShardState) → Changes G.rules event.now shards.old mid → ⊥)) }

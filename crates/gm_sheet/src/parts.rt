@@ -1,6 +1,6 @@
 //! The constant parts of a sheet of diagrams.
 
-/// What stands before a sheet's heading.
+/// The text before a sheet's heading.
 pub const SHEET_FRONT: &[u8] = br##"<!doctype html>
 <html lang="en">
 <head>
@@ -43,19 +43,19 @@ code { font: .9em ui-monospace, monospace; overflow-wrap: anywhere; }
 <body>
 <header><h1>"##;
 
-/// What stands between a sheet's heading and its diagrams.
+/// The text between a sheet's heading and its diagrams.
 pub const SHEET_DIAGRAMS: &[u8] = br##"</h1>
 <p>Each value and each solution is from gamesman's tables, which are proved.</p></header>
 <main><ol>
 "##;
 
-/// What stands between a sheet's diagrams and its solutions for paper.
+/// The text between a sheet's diagrams and its solutions for paper.
 pub const SHEET_SOLUTIONS: &[u8] = br##"</ol></main>
 <section class="solutions"><h2>Solutions</h2>
 <ol>
 "##;
 
-/// What stands after a sheet's solutions.
+/// The text after a sheet's solutions.
 pub const SHEET_BACK: &[u8] = br##"</ol></section>
 </body>
 </html>

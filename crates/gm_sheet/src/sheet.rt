@@ -17,9 +17,9 @@ use gm_find::sought::{Choice, Sought};
 use gm_table::tables::Tables;
 use std::alloc::{AllocError, Global};
 
-/// The canonical positions that are sought as a sheet, which is one HTML file: of each its diagram, and its solution to unfold; and the solutions once more for
-/// paper. A solution is the best move, how many moves there are, and the line of best play, of at most 40 moves. The positions stand in the order
-/// of `find`: the first of them, or so many by chance. Where a set of reached positions is given, only positions in it count.
+/// Returns the canonical positions that are sought as a sheet, which is one HTML file: of each its diagram, and its solution to unfold; and the solutions once
+/// more for paper. A solution is the best move, the number of moves, and the line of best play, of at most 40 moves. The positions come in the order of `find`:
+/// the first of them, or a random choice. If a set of reached positions is given, only positions in it count.
 ///
 /// The whole sheet is made in memory.
 pub fn sheet_text<G: Pictured>(
@@ -160,7 +160,7 @@ fn sheet_with<G: Pictured>(
     Ok(sheet)
 }
 
-// Appends what stands before the diagrams.
+// Appends the text before the diagrams.
 #[tactic(auto, unfolding(crate::specs::Sheets::heading))]
 fn push_heading(sheet: &mut Vec<u8>, title: &[u8]) -> Result<(), AllocError>
     ensures { OnOk result (sheet.new.items ≡ sheet.old.items ++ heading title.now) }

@@ -6,3 +6,8 @@ pub mod TilingLemmas
 pub mod RoundLemmas
 pub mod BlockLemmas
 pub mod InOrderLemmas
+pub mod Deliveries
+pub mod Distinct
+pub mod Values
+pub mod Parts
+pub mod OnceLemmas

@@ -6,3 +6,5 @@ pub mod Tiling
 pub mod Covered
 pub mod Blocks
 pub mod Split
+pub mod Gathered
+pub mod Passes

@@ -1,6 +1,7 @@
 //! What the calls of the solver share.
 
 use crate::gate::Gate;
+use crate::observer::Observer;
 use crate::plan::Plan;
 use crate::source::Source;
 use gm_game::game::Game;
@@ -19,7 +20,14 @@ pub(crate) enum Schedule {
 /// What the calls that solve a tier share: threads and memory, the tables of its child tiers, the schedule and the plan by which workers share the pairs, and
 /// what they call.
 #[derive(Drop)]
-pub(crate) struct SolveContext<'a, G: Game, R: Threads + Wait + Sync, T: Gate, S: Source> {
+pub(crate) struct SolveContext<
+    'a,
+    G: Game,
+    R: Threads + Wait + Sync,
+    T: Gate,
+    S: Source,
+    O: Observer,
+> {
     pub rt: &'a R,
     pub alloc: Global,
     pub tables: &'a Tables<G>,
@@ -27,4 +35,5 @@ pub(crate) struct SolveContext<'a, G: Game, R: Threads + Wait + Sync, T: Gate, S
     pub plan: Plan,
     pub gate: &'a T,
     pub source: &'a S,
+    pub observer: &'a O,
 }

@@ -1,11 +1,13 @@
 //! The workers of one level.
-ghost use Rattle.std.specs.Prelude.{◌≡◌, ℕ, ◌+◌, ◌<◌, OnOk, IfOk, vec_len};
+ghost use Rattle.std.specs.Prelude.{◌≡◌, ℕ, ◌+◌, ◌-◌, ◌^◌, ◌<◌, min, OnOk, IfOk, vec_len};
 ghost use Rattle.gm_locks.specs.Spots.{choose};
+ghost use Rattle.gm_locks.specs.Amounts.{total_of};
 ghost use Rattle.gm_solver.specs.Tiling.{tile_at};
 
 use crate::context::SolveContext;
 use crate::gate::Gate;
 use crate::level_job::LevelJob;
+use crate::observer::Observer;
 use crate::source::Source;
 use crate::work::Walker;
 use gm_game::game::Game;
@@ -18,7 +20,7 @@ use std::sync::{Mutex, Wait};
 use std::thread;
 use std::thread::Threads;
 
-// What a worker has: one part of each share.
+// One part of each share, for one worker.
 #[derive(Drop)]
 struct WorkerSlot<A: ShardLedger, B: ShardLedger, C: ShardLedger, D: ShardLedger> {
     shares: Shares<A, B, C, D>,
@@ -26,7 +28,7 @@ struct WorkerSlot<A: ShardLedger, B: ShardLedger, C: ShardLedger, D: ShardLedger
 }
 
 impl<A: PieceLedger, B: PieceLedger, C: PieceLedger, D: PieceLedger> WorkerSlot<A, B, C, D> {
-    // Has a worker do its work with these shares.
+    // Lets a worker work with these shares.
     fn work<G: Game, R: Wait, T: Gate, S: Source>(
         &mut self,
         walker: &Walker<G, A, B, C, D, R, T>,
@@ -37,7 +39,7 @@ impl<A: PieceLedger, B: PieceLedger, C: PieceLedger, D: PieceLedger> WorkerSlot<
     }
 }
 
-// A slot for each worker, with one part of each share.
+// Makes a slot for each worker, with one part of each share.
 fn slots_of<A: ShardLedger, B: ShardLedger, C: ShardLedger, D: ShardLedger>(
     alloc: Global,
     workers: usize,
@@ -107,8 +109,8 @@ impl<
     }
 }
 
-// Runs a worker for each slot, the first in this thread and every other in a thread of its own, and waits for all. A worker that can't be started leaves its
-// slot as it was.
+// Runs a worker for each slot and waits for all: the first in this thread, every other in a thread of its own. A worker that can't be started leaves its slot
+// unchanged. For one worker no thread is started.
 fn run_workers<
     'a,
     'b,
@@ -121,6 +123,10 @@ fn run_workers<
     T: Gate,
     S: Source,
 >(rt: &R, crew: &Crew<'a, 'b, G, A, B, C, D, T, S>) {
+    if crew.slots.len() <= 1 {
+        crew.work(rt, 0);
+        return;
+    }
     thread::scope(thread::scope_env(), rt, |scope| {
         for worker in 1..crew.slots.len() {
             let _started = scope.spawn(move || crew.work(rt, worker));
@@ -143,10 +149,12 @@ fn take_back<A: ShardLedger, B: ShardLedger, C: ShardLedger, D: ShardLedger>(
     }
 }
 
-// The number of pairs that were delivered by these shares.
+// Returns the number of pairs that were delivered by these shares, or `u64::MAX` if there were more.
 fn sum_of<A: ShardLedger, B: ShardLedger, C: ShardLedger, D: ShardLedger>(
     shares: &Shares<A, B, C, D>,
-) -> u64 {
+) -> u64
+    ensures { result ≡ min (total_of shares.now) (2 ^ 64 - 1) }
+{
     shares
         .amount(0)
         .saturating_add(shares.amount(1))
@@ -154,7 +162,8 @@ fn sum_of<A: ShardLedger, B: ShardLedger, C: ShardLedger, D: ShardLedger>(
         .saturating_add(shares.amount(3))
 }
 
-/// Runs the workers of a level, and takes their parts of the shares back after the last has ended. The result is the number of their deliveries.
+/// Runs the workers of a level, and takes their parts of the shares back after the last has ended. Returns the number of pairs that were delivered by the
+/// shares, or `u64::MAX` if there were more.
 pub(crate) fn run_crew<
     G: Game + Send + Sync,
     A: PieceLedger + Send,
@@ -164,8 +173,9 @@ pub(crate) fn run_crew<
     R: Threads + Wait + Sync,
     T: Gate,
     S: Source,
+    O: Observer,
 >(
-    context: &SolveContext<G, R, T, S>,
+    context: &SolveContext<G, R, T, S, O>,
     board: &PieceBoard<G, A, B, C, D>,
     job: &LevelJob<G>,
     workers: usize,
@@ -175,7 +185,8 @@ pub(crate) fn run_crew<
     requires notes { A.notes ≡ job.now.level.now.notes }
     requires size { A.size ≡ job.now.notes }
     requires workers { workers < rest.old.parts }
-    ensures { OnOk result (rest.new.parts ≡ rest.old.parts) }
+    ensures parts { OnOk result (rest.new.parts ≡ rest.old.parts) }
+    ensures number { IfOk result (λ number. number ≡ min (total_of rest.new) (2 ^ 64 - 1)) }
 {
     let slots = slots_of::<A, B, C, D>(context.alloc, workers, rest)?;
     let crew = Crew {

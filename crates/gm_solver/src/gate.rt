@@ -6,8 +6,8 @@ use std::sync::Wait;
 /// Called before and after each delivery of a worker, whose number is given. It may wait, as tests do to make workers meet. No shard is locked during these
 /// calls.
 pub trait Gate: Drop + Sync {
-    /// Whether each delivery stands between its own two calls, so that a gate may take something in `before` and free it in `after`. Where this is false, a
-    /// worker may deliver many pairs while it holds a lock once: then `before` is called for each of them first, and `after` for each when all are delivered.
+    /// Whether each delivery comes between its own two calls, so that a gate may take something in `before` and free it in `after`. If this is false, a worker
+    /// may deliver many pairs while it holds a lock once: then `before` is called for each of them first, and `after` for each when all are delivered.
     const EACH: bool;
 
     /// Called before a delivery at this place.

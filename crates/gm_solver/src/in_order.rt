@@ -24,8 +24,8 @@ use gm_table::table::Table;
 use gm_table::tables::Tables;
 use std::alloc::Global;
 
-/// Delivers a level's pairs to a shard that has the first so many of them, and no later one. After that the shard has each pair of its range whose child stands
-/// at or before its place.
+/// Delivers the pairs of a level from number `done` on, to a shard that has the first `done` of them and no later one. After that the shard has each pair of
+/// its range whose child is at or before its place.
 pub(crate) fn deliver_rest<G: Game>(
     shard: &mut OrderedShard<G>,
     level: &Level<G>,
@@ -49,7 +49,7 @@ pub(crate) fn deliver_rest<G: Game>(
         }
         match shard.deliver_new(&note, parent) {
             Ok(_) => number += 1,
-            // A new pair of the present level into the shard's range is refused only where it is too far.
+            // A new pair of the present level into the shard's range is refused only if it is too far.
             Err(_refused) => {
                 let _good = shard.range();
                 return Err(SolveError::TooFar { tier });
@@ -104,7 +104,7 @@ fn pass_levels<G: Game>(
     }
 }
 
-// Takes a shard over a whole tier from the first level through both phases: the tier's true table, and the number of deliveries.
+// Takes a shard over a whole tier from the first level through both phases. Returns the tier's true table and the number of deliveries.
 fn pass_tier<G: Game>(
     alloc: Global,
     shard: &mut OrderedShard<G>,
@@ -133,7 +133,7 @@ fn pass_tier<G: Game>(
     Ok((Table::from_packed(tier, records), shard.delivered()))
 }
 
-/// Solves a tier by one shard, as `solve_alone` does. These are what its indexes are at the start.
+/// Solves a tier by one shard, as `solve_alone` does, from these start values of its indexes.
 pub(crate) fn solve_from<G: Game>(
     alloc: Global,
     tier: u64,

@@ -1,4 +1,4 @@
-//! Solves tiers: level after level, until every position of a tier has its true value.
+//! Solves tiers: level after level, until every position of a tier has its true value, or in one pass if no move stays in the tier.
 //!
 //! `specs/` has the definitions that contracts cite, and `proofs/` what follows from them.
 #![tactic(auto)]
@@ -7,16 +7,25 @@ pub mod alone;
 mod context;
 mod crew;
 pub mod error;
+mod frame;
 pub mod gate;
+mod gather;
 mod in_order;
 mod level_job;
 mod levels;
+pub mod observer;
+mod once;
 mod passes;
 pub mod plan;
+mod position;
+mod range;
 mod round;
 mod scan;
+pub mod settle;
+pub mod solve;
 pub mod source;
 pub mod starts;
+pub mod stop;
 pub mod tier;
 mod tiles;
 mod work;
@@ -24,5 +33,5 @@ mod workplace;
 
 pub use gm_locks::board::{Board, Four, Shares};
 pub use gm_locks::held::Held;
-pub use gm_locks::pass::{Pass, PassDesk};
-pub use gm_locks::share::Share;
+pub use gm_locks::pass::{Pass, PassDesk, PassLedger};
+pub use gm_locks::share::{ShardLedger, Share};

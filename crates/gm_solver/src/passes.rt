@@ -7,6 +7,7 @@ ghost use Rattle.gm_solver.specs.Tiling.{AreShardsAt, AreWhole, HaveNoneHere};
 use crate::context::SolveContext;
 use crate::gate::Gate;
 use crate::level_job::LevelJob;
+use crate::observer::Observer;
 use crate::round::LevelEnd;
 use crate::source::Source;
 use crate::workplace::Workplace;
@@ -116,8 +117,9 @@ fn run_at_desks<
     R: Threads + Wait + Sync,
     T: Gate,
     S: Source,
+    O: Observer,
 >(
-    context: &SolveContext<G, R, T, S>,
+    context: &SolveContext<G, R, T, S, O>,
     job: &LevelJob<G>,
     blanks: Four<Blank>,
     shards: Four<OrderedShard<G>>,
@@ -164,8 +166,14 @@ fn run_at_desks<
 }
 
 /// Runs a level, with one pass for each shard: workers deliver its pairs, and the coordinator the rest.
-pub(crate) fn run_passes<G: Game + Send + Sync, R: Threads + Wait + Sync, T: Gate, S: Source>(
-    context: &SolveContext<G, R, T, S>,
+pub(crate) fn run_passes<
+    G: Game + Send + Sync,
+    R: Threads + Wait + Sync,
+    T: Gate,
+    S: Source,
+    O: Observer,
+>(
+    context: &SolveContext<G, R, T, S, O>,
     job: &LevelJob<G>,
     shards: Four<OrderedShard<G>>,
 ) -> LevelEnd<G>
@@ -183,5 +191,5 @@ pub(crate) fn run_passes<G: Game + Send + Sync, R: Threads + Wait + Sync, T: Gat
         c: Blank::new(1),
         d: Blank::new(1),
     };
-    run_at_desks::<G, Brand, Brand, Brand, Brand, R, T, S>(context, job, blanks, shards)
+    run_at_desks::<G, Brand, Brand, Brand, Brand, R, T, S, O>(context, job, blanks, shards)
 }

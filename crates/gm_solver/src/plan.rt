@@ -11,8 +11,7 @@ pub const SHARDS: usize = 4;
 /// The most notes of a piece.
 pub const PIECE: usize = 4096;
 
-/// How many workers solve a tier, into how many shards it is split, and how many notes a piece of a level has; and whether a build may solve tiers otherwise
-/// than by these workers where that is faster.
+/// The number of workers that solve a tier, of shards into which it is split, and of notes in a piece of a level; and whether one pass is tried first.
 #[derive(Clone, Copy, Debug, PartialEq, Eq)]
 pub struct Plan {
     workers: usize,
@@ -23,8 +22,8 @@ pub struct Plan {
 }
 
 impl Plan {
-    /// The plan of these numbers: `None` exactly outside the limits, which are 1 to `WORKERS`, 1 to `SHARDS` and 1 to `PIECE`. By this plan workers solve every
-    /// tier, with the gate round each delivery, and the source is asked for each piece.
+    /// Returns the plan of these numbers; `None` exactly outside the limits, which are 1 to `WORKERS`, 1 to `SHARDS` and 1 to `PIECE`. By this plan workers
+    /// solve every tier, with the gate round each delivery and the source asked for each piece.
     pub fn new(workers: usize, shards: usize, piece: usize) -> Option<Self>
         ensures exact { IsSome result ↔ IsWithin workers shards piece }
         ensures workers { IfSome result (λ plan. plan.workers ≡ workers) }
@@ -35,9 +34,8 @@ impl Plan {
         Plan::of(workers, shards, piece, false)
     }
 
-    /// The plan of these numbers by which a build is fastest: `None` exactly where `new` answers `None`. A tier that no move stays in is settled in one pass, a
-    /// small one or one of a single worker is solved by one walker, and only others are solved by workers. So the gate and the source are asked only where
-    /// workers deliver, and shards and pieces matter only there.
+    /// Returns the plan of these numbers by which a build is fastest; `None` exactly if `new` returns `None`. A tier that every move leaves is solved in one
+    /// pass, any other by workers.
     pub fn fastest(workers: usize, shards: usize, piece: usize) -> Option<Self>
         ensures exact { IsSome result ↔ IsWithin workers shards piece }
         ensures workers { IfSome result (λ plan. plan.workers ≡ workers) }
@@ -48,7 +46,7 @@ impl Plan {
         Plan::of(workers, shards, piece, true)
     }
 
-    // The plan of these numbers, where they are within the limits.
+    // Returns the plan of these numbers if they are within the limits.
     fn of(workers: usize, shards: usize, piece: usize, fastest: bool) -> Option<Self>
         ensures exact { IsSome result ↔ IsWithin workers shards piece }
         ensures workers { IfSome result (λ plan. plan.workers ≡ workers) }
@@ -70,14 +68,29 @@ impl Plan {
         })
     }
 
-    /// Whether a build may solve tiers otherwise than by workers.
+    /// Returns the same plan with one worker.
+    pub fn by_one(&self) -> Self
+        ensures workers { result.workers ≡ 1 }
+        ensures shards { result.shards ≡ self.now.shards }
+        ensures piece { result.piece ≡ self.now.piece }
+        ensures fastest { result.fastest ≡ self.now.fastest }
+    {
+        Plan {
+            workers: 1,
+            shards: self.shards,
+            piece: self.piece,
+            fastest: self.fastest,
+        }
+    }
+
+    /// Whether one pass is tried first.
     pub fn is_fastest(&self) -> bool
         ensures { result ≡ self.now.fastest }
     {
         self.fastest
     }
 
-    /// How many workers there are, 1 to `WORKERS`.
+    /// The number of workers, 1 to `WORKERS`.
     pub fn workers(&self) -> usize
         ensures value { result ≡ self.now.workers }
         ensures within { (0 < result) × (result ≤ WORKERS) }
@@ -85,7 +98,7 @@ impl Plan {
         self.workers
     }
 
-    /// Into how many shards a tier is split, 1 to `SHARDS`.
+    /// The number of shards of a tier, 1 to `SHARDS`.
     pub fn shards(&self) -> usize
         ensures value { result ≡ self.now.shards }
         ensures within { (0 < result) × (result ≤ SHARDS) }
@@ -93,7 +106,7 @@ impl Plan {
         self.shards
     }
 
-    /// How many notes a piece of a level has, 1 to `PIECE`.
+    /// The number of notes in a piece of a level, 1 to `PIECE`.
     pub fn piece(&self) -> usize
         ensures value { result ≡ self.now.piece }
         ensures within { (0 < result) × (result ≤ PIECE) }

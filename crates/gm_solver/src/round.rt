@@ -1,4 +1,4 @@
-//! One level by workers: they deliver, and then the coordinator delivers what is missing.
+//! One level by workers: they deliver, and then the coordinator delivers the missing pairs.
 ghost use Rattle.std.specs.Prelude.{◌≡◌, ℕ, ◌+◌, ◌<◌, ◌≤◌, true, false, length, slice_index_or, IfOk, IfErr, OnOk};
 ghost use Rattle.std.specs.Int.{div_ceil};
 ghost use Rattle.gm_frontier.specs.Levels.{place_at};
@@ -14,6 +14,7 @@ use crate::crew::run_crew;
 use crate::error::SolveError;
 use crate::gate::Gate;
 use crate::level_job::LevelJob;
+use crate::observer::Observer;
 use crate::source::Source;
 use gm_frontier::note::Note;
 use gm_frontier::pairs::Pairs;
@@ -29,10 +30,10 @@ use std::sync::Wait;
 use std::sync::ledger::Blank;
 use std::thread::Threads;
 
-/// What is left of a level after its workers have ended, and the coordinator has delivered the rest: its shards, and how many pairs the workers delivered.
+/// The shards at the end of a level, after the workers and the coordinator, and the number of pairs that the workers delivered.
 pub(crate) type LevelEnd<G> = Result<(Four<OrderedShard<G>>, u64), SolveError>;
 
-// The pairs as a list.
+// Collects the pairs into a list.
 fn list_of<G: Game>(alloc: Global, pairs: Pairs<G>) -> Result<Vec<(Note<G>, u64)>, AllocError>
     ensures { IfOk result (λ list. list.items ≡ pairs.entry) }
 {
@@ -67,7 +68,7 @@ fn deliver_by_hand<G: Game, L: PieceLedger>(
     }
 }
 
-// Delivers what is missing in a shard, piece by piece: then it has each pair of the level into its range.
+// Delivers the missing pairs to a shard, piece by piece: then it has each pair of the level into its range.
 fn finish_tile<G: Game, L: PieceLedger>(
     alloc: Global,
     job: &LevelJob<G>,
@@ -100,8 +101,9 @@ fn run_on_board<
     R: Threads + Wait + Sync,
     T: Gate,
     S: Source,
+    O: Observer,
 >(
-    context: &SolveContext<G, R, T, S>,
+    context: &SolveContext<G, R, T, S, O>,
     job: &LevelJob<G>,
     workers: usize,
     blanks: Four<Blank>,
@@ -139,9 +141,15 @@ fn run_on_board<
     Ok((Four { a, b, c, d }, by_workers))
 }
 
-/// Runs a level: workers walk its pieces, and the coordinator delivers what they left.
-pub(crate) fn run_pieces<G: Game + Send + Sync, R: Threads + Wait + Sync, T: Gate, S: Source>(
-    context: &SolveContext<G, R, T, S>,
+/// Runs a level: workers walk its pieces, and the coordinator delivers the rest.
+pub(crate) fn run_pieces<
+    G: Game + Send + Sync,
+    R: Threads + Wait + Sync,
+    T: Gate,
+    S: Source,
+    O: Observer,
+>(
+    context: &SolveContext<G, R, T, S, O>,
     job: &LevelJob<G>,
     shards: Four<OrderedShard<G>>,
 ) -> LevelEnd<G>
@@ -162,5 +170,5 @@ pub(crate) fn run_pieces<G: Game + Send + Sync, R: Threads + Wait + Sync, T: Gat
         c: Blank::new(parts),
         d: Blank::new(parts),
     };
-    run_on_board::<G, Brand, Brand, Brand, Brand, R, T, S>(context, job, workers, blanks, shards)
+    run_on_board::<G, Brand, Brand, Brand, Brand, R, T, S, O>(context, job, workers, blanks, shards)
 }

@@ -1,4 +1,4 @@
-//! What the indexes of a tier are at the start, found block by block: for several workers by at most as many threads as there are workers and processors.
+//! The start values of the indexes of a tier, found block by block: for several workers by at most as many threads as workers or processors.
 ghost use Rattle.std.specs.Prelude.{◌≡◌, ◌≤◌, length, IfOk};
 ghost use Rattle.gm_deliveries.specs.Begin.{AreStarts};
 ghost use Rattle.gm_table.specs.Dealing.{block_in};
@@ -14,7 +14,7 @@ use std::alloc::{AllocError, Global};
 use std::marker::PhantomData;
 use std::thread::Threads;
 
-/// A tier of at most this many indexes is scanned, and its shards are made, by the calling thread alone: starting threads would cost more than it saves.
+/// A tier of at most this many indexes is scanned, and its shards are made, by the calling thread: starting threads would cost more than it saves.
 pub(crate) const FEW: u64 = 16_384;
 
 // A tier within the limits that is to be scanned in blocks.
@@ -39,7 +39,7 @@ impl<G: Game> Frame<G> {
         }
     }
 
-    // What the indexes of the block that belongs to a place are at the start.
+    // Returns the start values of the block that belongs to a place.
     fn start_block(&self, alloc: Global, place: u32) -> Result<Vec<Start>, AllocError>
         ensures { IfOk result (λ part. IsPart G.rules self.now.tier (block_in self.now.dealing.rows place) part.items) }
     {
@@ -47,7 +47,7 @@ impl<G: Game> Frame<G> {
         starts::<G>(alloc, self.tier, lo, hi)
     }
 
-    // What the indexes of the tier are at the start, in order, from the blocks, which are found in the order of their places.
+    // Returns the start values of the tier in order, from the blocks, which are found in the order of their places.
     fn in_order_of(
         &self,
         alloc: Global,
@@ -69,7 +69,7 @@ impl<G: Game> Frame<G> {
 }
 
 impl<G: Game + Send + Sync> Frame<G> {
-    // What the indexes of all blocks are at the start, by at most as many threads as there are workers and processors.
+    // Returns the start values of all blocks, by at most as many threads as workers or processors.
     fn start_all<R: Threads + Sync>(
         &self,
         rt: &R,
@@ -91,8 +91,8 @@ impl<G: Game + Send + Sync> Frame<G> {
     }
 }
 
-/// What each index of a tier is at the start, in order, found by at most as many threads as there are workers and processors. The tier has at most
-/// `TIER_SIZE` indexes.
+/// Returns the start value of each index of a tier, in order, found by at most as many threads as workers or processors. The tier has at most `TIER_SIZE`
+/// indexes.
 pub(crate) fn starts_by_threads<G: Game + Send + Sync, R: Threads + Sync>(
     rt: &R,
     alloc: Global,
@@ -108,7 +108,7 @@ pub(crate) fn starts_by_threads<G: Game + Send + Sync, R: Threads + Sync>(
     frame.in_order_of(alloc, found.as_slice())
 }
 
-/// What each index of a tier is at the start, in order: as `starts_by_threads`, but for one worker, and for a small tier, no thread is started.
+/// Returns the start value of each index of a tier, in order: as `starts_by_threads`, but for one worker or a small tier no thread is started.
 pub(crate) fn find_starts<G: Game + Send + Sync, R: Threads + Sync>(
     rt: &R,
     alloc: Global,

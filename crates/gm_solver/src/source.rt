@@ -3,12 +3,12 @@
 use std::sync::Wait;
 use std::sync::atomic::{AtomicUsize, Ordering};
 
-/// Hands out the numbers of a level's pieces. Whatever it answers, the table of the tier is the same.
+/// Hands out the numbers of a level's pieces. The table of the tier does not depend on its answers.
 pub trait Source: Drop + Sync {
     /// Called once for each level that is run, before its workers start, with the number of its pieces.
     fn begin<R: Wait>(&self, rt: &R, pieces: usize);
 
-    /// The number of the piece that a worker is to take next, or `None` where there is nothing for it.
+    /// Returns the number of the piece that a worker takes next, or `None` if there is nothing for it.
     fn next<R: Wait>(&self, rt: &R, worker: usize) -> Option<usize>;
 }
 

@@ -10,7 +10,7 @@ use gm_game::position::Position;
 use gm_shard::shard::Shard;
 use std::alloc::{AllocError, Global};
 
-/// What each index of a tier from `lo` up to `hi` is at the start, in order.
+/// Returns the start value of each index of a tier from `lo` up to `hi`, in order.
 pub fn starts<G: Game>(alloc: Global, tier: u64, lo: u64, hi: u64) -> Result<Vec<Start>, AllocError>
     requires { lo ≤ hi }
     ensures length { IfOk result (λ list. length list.items ≡ hi - lo) }
@@ -23,7 +23,7 @@ pub fn starts<G: Game>(alloc: Global, tier: u64, lo: u64, hi: u64) -> Result<Vec
     Ok(list)
 }
 
-/// The shard of the indexes of a tier from `lo` up to `hi`, before the first level.
+/// Makes the shard of the indexes of a tier from `lo` up to `hi`, before the first level.
 pub fn begin_range<G: Game>(
     alloc: Global,
     tier: u64,

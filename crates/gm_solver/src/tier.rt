@@ -10,6 +10,7 @@ ghost use Rattle.gm_solver.specs.Solving.{IsError};
 use crate::context::{Schedule, SolveContext};
 use crate::error::SolveError;
 use crate::gate::Gate;
+use crate::observer::{NoObserver, Observer};
 use crate::plan::Plan;
 use crate::source::Source;
 use crate::tiles::{Tiles, begin_tiles, tile_width};
@@ -22,24 +23,37 @@ use std::alloc::Global;
 use std::sync::Wait;
 use std::thread::Threads;
 
-/// What it took to solve a tier.
+/// The cost of a solved tier.
 #[derive(Clone, Copy, Debug, PartialEq, Eq)]
 pub struct Report {
-    /// The number of deliveries, the same whatever the workers did.
+    /// The number of deliveries. It depends on the tier only.
     pub deliveries: u64,
-    /// How many of the deliveries the coordinator did itself.
+    /// The number of deliveries that the coordinator made itself.
     pub by_hand: u64,
 }
 
-/// Solves a tier: the result is its true table and what it took. Neither the table nor the number of deliveries depends on the plan, the gate or the source, or
-/// on the order in which threads take the locks.
+impl Report {
+    /// Returns the report of a tier that no worker solved.
+    pub(crate) fn of_one_pass(deliveries: u64) -> Self
+        ensures deliveries { result.deliveries ≡ deliveries }
+        ensures by_hand { result.by_hand ≡ 0 }
+    {
+        Report {
+            deliveries,
+            by_hand: 0,
+        }
+    }
+}
+
+/// Solves a tier by workers. Returns its true table and a report. Neither the table nor the number of deliveries depends on the plan, the gate or the source,
+/// or on the order in which threads take the locks.
 ///
 /// The tier is split into the plan's shards. At each level workers ask the source for pieces of the level, and deliver their pairs under the shards' locks.
-/// There are no more workers than pieces, the first runs in the calling thread and every other in a thread of its own; if a worker thread can't be started, the
+/// There are no more workers than pieces. The first runs in the calling thread, every other in a thread of its own; if a worker thread can't be started, the
 /// others do its work. After they have ended, the coordinator delivers the pairs that are missing; `by_hand` counts these.
 ///
-/// The tables of the child tiers are given, and the tier has at most `TIER_SIZE` indexes. `TooFar` is the answer only where a canonical legal position of the
-/// tier has a remoteness one above the limit, and where there is such a position the answer is never `Ok`.
+/// The tables of the child tiers are given, and the tier has at most `TIER_SIZE` indexes. Returns `TooFar` only if a canonical legal position of the tier has a
+/// remoteness one above the limit; if there is such a position, the result is never `Ok`.
 pub fn solve_tier<G: Game + Send + Sync, R: Threads + Wait + Sync, T: Gate, S: Source>(
     rt: &R,
     alloc: Global,
@@ -66,13 +80,14 @@ pub fn solve_tier<G: Game + Send + Sync, R: Threads + Wait + Sync, T: Gate, S: S
         plan,
         gate,
         source,
+        observer: &NoObserver,
     };
     context.solve(tier)
 }
 
 /// Solves a tier as `solve_tier` does, but with one pass for each shard: at each level a worker takes the pass of a shard that the source names, and delivers
-/// the level's pairs into that shard in their order, so that none is delivered twice. At each level the source is told of four passes, and a worker asks it at
-/// most four times.
+/// the level's pairs into that shard in their order, so that none is delivered twice. At each level the source hands out one of four passes, and a worker asks
+/// it at most four times.
 pub fn solve_passes<G: Game + Send + Sync, R: Threads + Wait + Sync, T: Gate, S: Source>(
     rt: &R,
     alloc: Global,
@@ -99,18 +114,20 @@ pub fn solve_passes<G: Game + Send + Sync, R: Threads + Wait + Sync, T: Gate, S:
         plan,
         gate,
         source,
+        observer: &NoObserver,
     };
     context.solve(tier)
 }
 
-impl<'a, G: Game + Send + Sync, R: Threads + Wait + Sync, T: Gate, S: Source> SolveContext<
+impl<
     'a,
-    G,
-    R,
-    T,
-    S,
-> {
-    // Takes a tier from its first level through both phases. The number is that of the workers' deliveries.
+    G: Game + Send + Sync,
+    R: Threads + Wait + Sync,
+    T: Gate,
+    S: Source,
+    O: Observer,
+> SolveContext<'a, G, R, T, S, O> {
+    // Takes a tier from its first level through both phases. Returns the number of the workers' deliveries too.
     fn finish_phases(&self, tiles: Tiles<G>) -> Result<(Tiles<G>, Last<G>, u64), SolveError>
         requires held { AreHeld G.rules self.now.tables.now tiles.shards.a.tier }
         requires small { G.rules.tier_size tiles.shards.a.tier ≤ TIER_SIZE }
@@ -126,8 +143,8 @@ impl<'a, G: Game + Send + Sync, R: Threads + Wait + Sync, T: Gate, S: Source> So
         Ok((tiles, last, wins.saturating_add(ties)))
     }
 
-    // Solves a tier.
-    fn solve(&self, tier: u64) -> Result<(Table<G>, Report), SolveError>
+    /// Solves a tier level by level.
+    pub(crate) fn solve(&self, tier: u64) -> Result<(Table<G>, Report), SolveError>
         requires held { AreHeld G.rules self.now.tables.now tier }
         requires small { G.rules.tier_size tier ≤ TIER_SIZE }
         ensures tier { IfOk result (λ answer. answer.0.tier ≡ tier) }
@@ -152,7 +169,7 @@ impl<'a, G: Game + Send + Sync, R: Threads + Wait + Sync, T: Gate, S: Source> So
     }
 }
 
-/// The number of deliveries of a tier depends on the game alone: there is only one such number.
+/// Has no effect; its contract states that the number of deliveries of a tier depends on the game only: there is one such number.
 pub fn deliveries_once<G: Game>(tier: u64)
     ensures { (m n : ℕ) → AreDeliveries G.rules tier m → AreDeliveries G.rules tier n → m ≡ n }
 {}

@@ -19,6 +19,7 @@ use crate::context::SolveContext;
 use crate::error::SolveError;
 use crate::gate::Gate;
 use crate::level_job::LevelJob;
+use crate::observer::Observer;
 use crate::scan::{FEW, find_starts};
 use crate::source::Source;
 use gm_deliveries::status::Start;
@@ -54,7 +55,7 @@ impl<G: Game> Drop for Tiles<G> {
     }
 }
 
-/// How many indexes a tile has: the size of the tier divided by the number of shards, rounded up, and at least 1.
+/// Returns the number of indexes of a tile: the size of the tier divided by the number of shards, rounded up, and at least 1.
 pub(crate) fn tile_width<G: Game>(tier: u64, shards: usize) -> u64
     requires some { 0 < shards }
     requires few { shards ≤ 4 }
@@ -65,7 +66,7 @@ pub(crate) fn tile_width<G: Game>(tier: u64, shards: usize) -> u64
     G::tier_size(tier).div_ceil(shards as u64).max(1)
 }
 
-// The shard of tile k.
+// Makes the shard of tile k.
 fn begin_tile<G: Game>(
     alloc: Global,
     tier: u64,
@@ -91,7 +92,7 @@ fn begin_tile<G: Game>(
 // Two shards of a tier before its first level.
 type Two<G> = Result<(OrderedShard<G>, OrderedShard<G>), AllocError>;
 
-// The shards of tiles k and k + 1.
+// Makes the shards of tiles k and k + 1.
 fn begin_two<G: Game>(alloc: Global, tier: u64, width: u64, k: u64, starts: &[Start]) -> Two<G>
     requires starts { AreStarts G.rules tier 0 starts.now }
     requires whole { length starts.now ≡ G.rules.tier_size tier }
@@ -105,7 +106,7 @@ fn begin_two<G: Game>(alloc: Global, tier: u64, width: u64, k: u64, starts: &[St
     Ok((low, high))
 }
 
-// The shards of all four tiles: for several workers, and a tier that isn't small, made by two threads with two tiles each.
+// Makes the shards of all four tiles: for several workers and many indexes, by two threads with two tiles each.
 fn begin_four<G: Game + Send + Sync, R: Threads + Sync>(
     rt: &R,
     alloc: Global,
@@ -141,7 +142,7 @@ fn begin_four<G: Game + Send + Sync, R: Threads + Sync>(
     )
 }
 
-/// A tier before its first level. For one worker no thread is started.
+/// Returns a tier before its first level. For one worker no thread is started.
 pub(crate) fn begin_tiles<G: Game + Send + Sync, R: Threads + Sync>(
     rt: &R,
     alloc: Global,
@@ -180,7 +181,7 @@ impl<G: Game> Tiles<G> {
         let _d = self.shards.d.range();
     }
 
-    /// Shows that the present level is within the limit, where something of its phase is left, since the shards are good and the tables are true.
+    /// Shows that the present level is within the limit, if something of its phase is left: the shards are good and the tables are true.
     pub(crate) fn show_near(&self, tables: &Tables<G>)
         requires held { AreHeld G.rules tables.now self.now.shards.a.tier }
         requires left { IsLastLevel G.rules self.now.shards.a.tier self.now.shards.a.phase self.now.shards.a.level → ⊥ }
@@ -202,7 +203,7 @@ impl<G: Game> Tiles<G> {
         self.shards.d.next_phase(last);
     }
 
-    // The true records of the tier, where nothing is left to settle.
+    // Returns the true records of the tier when nothing is left to settle.
     fn records(&self, alloc: Global, last: &Last<G>) -> Result<Packed, AllocError>
         requires last { last.now ≡ place_of self.now.shards.a }
         requires ties { self.now.shards.a.phase ≡ Ties }
@@ -217,8 +218,8 @@ impl<G: Game> Tiles<G> {
         Ok(records)
     }
 
-    // The number of all pairs whose child stands before the present place.
-    fn number(&self) -> u64
+    /// Returns the number of all pairs whose child is before the present place.
+    pub(crate) fn number(&self) -> u64
         ensures { IsNumberBefore G.rules self.now.shards.a.tier 0 (G.rules.tier_size self.now.shards.a.tier)
             self.now.shards.a.phase self.now.shards.a.level result }
     {
@@ -229,7 +230,7 @@ impl<G: Game> Tiles<G> {
             + self.shards.d.delivered()
     }
 
-    /// The true table of the tier, where nothing is left to settle, and the number of all pairs whose child is no draw.
+    /// Returns the true table of the tier when nothing is left to settle, and the number of all pairs whose child is no draw.
     pub(crate) fn table(
         &self,
         alloc: Global,
@@ -254,10 +255,10 @@ impl<G: Game> Tiles<G> {
 }
 
 impl<G: Game + Send + Sync> Tiles<G> {
-    /// Runs one level of a tier: workers deliver its pairs, and the coordinator those that they left. The number is that of the workers' deliveries.
-    pub(crate) fn run<R: Threads + Wait + Sync, T: Gate, S: Source>(
+    /// Runs one level of a tier: workers deliver its pairs, and the coordinator the rest. Returns the number of the workers' deliveries too.
+    pub(crate) fn run<R: Threads + Wait + Sync, T: Gate, S: Source, O: Observer>(
         self,
-        context: &SolveContext<G, R, T, S>,
+        context: &SolveContext<G, R, T, S, O>,
         level: &Level<G>,
     ) -> Result<(Tiles<G>, u64), SolveError>
         requires place { level.now.place ≡ place_of self.shards.a }

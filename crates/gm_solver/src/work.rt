@@ -1,4 +1,4 @@
-//! What a worker does: it takes pieces of a level, and delivers their pairs.
+//! The work of a worker: it takes pieces of a level, and delivers their pairs.
 ghost use Rattle.std.specs.Prelude.{◌≡◌, ℕ, ◌+◌, ◌*◌, ◌<◌, ◌≤◌, ◌++◌, ◌∷◌, List, [], length, OnOk};
 ghost use Rattle.std.specs.Int.{div_ceil};
 ghost use Rattle.gm_frontier.specs.Notes.{NoteData};
@@ -105,8 +105,7 @@ impl<
     R: Wait,
     T: Gate,
 > Walker<'a, 'b, G, A, B, C, D, R, T> {
-    // Delivers the pairs of a piece to a shard, each between its own two calls of the gate: the lock is taken for each of them. After one that is too far no
-    // more are.
+    // Delivers the pairs of a piece to a shard, each between its own two calls of the gate and under the lock. Stops after a pair that is too far.
     fn deliver_each(
         &self,
         shard: usize,
@@ -161,7 +160,7 @@ impl<
     }
 
     // Walks a piece's pairs once, while no lock is held, and delivers them shard by shard. A pair that is refused as too far is missing at the end of the
-    // level, where the coordinator finds it.
+    // level, and the coordinator finds it.
     fn walk(
         &self,
         piece: usize,
@@ -183,8 +182,8 @@ impl<
         Ok(())
     }
 
-    /// Does the work of a worker: it takes pieces of the level until there are no more for it, and delivers their pairs. It asks at most as many times as there
-    /// are pieces, and skips numbers that name none. Where memory is refused a piece is not delivered, and the coordinator walks it.
+    /// Does the work of a worker: takes pieces of the level until there are no more for it, and delivers their pairs. It asks at most as many times as there
+    /// are pieces, and skips numbers that are no piece's. If memory is refused, a piece is not delivered, and the coordinator walks it.
     pub(crate) fn work<S: Source>(&self, alloc: Global, source: &S, shares: &mut Shares<A, B, C, D>)
         ensures { shares.new.parts ≡ shares.old.parts }
     {

@@ -1,4 +1,4 @@
-//! A desk with its pass in a slot, and what a worker does with it.
+//! A desk with its pass in a slot, and the work at it.
 ghost use Rattle.std.specs.Prelude.{◌≡◌, ◌<◌, ◌≤◌, length, IfOk, IfErr, IsTrue};
 ghost use Rattle.gm_deliveries.specs.Steps.{IsWhole};
 ghost use Rattle.gm_locks.specs.Spots.{spot_of};
@@ -96,8 +96,8 @@ impl<'a, G: Game, L: PassLedger> Workplace<'a, G, L> {
         }
     }
 
-    // Walks all of the level's pairs into the range and counts them; those from the pass's next pair on are delivered. After a refused pair
-    // it only counts.
+    // Walks all of the level's pairs into the range and counts them. Those from the pass's next pair on are delivered; after a refused pair they are only
+    // counted.
     fn walk<R: Wait, T: Gate>(&self, rt: &R, gate: &T, worker: usize, pass: &mut Pass<L>) -> u64
         ensures { result ≡ length (pairs_into G.rules L.spot L.notes) }
     {
@@ -115,7 +115,7 @@ impl<'a, G: Game, L: PassLedger> Workplace<'a, G, L> {
         number
     }
 
-    /// Takes the pass from the slot where it is there, delivers it to its end, and puts it back with the number that the walk found.
+    /// Takes the pass from the slot if it is there, delivers it to its end, and puts it back with the number that the walk found.
     pub(crate) fn deliver_pass<R: Wait, T: Gate>(&self, rt: &R, gate: &T, worker: usize) {
         let taken = self.slot.lock(rt).pass.take();
         if let Some(mut pass) = taken {
@@ -126,8 +126,8 @@ impl<'a, G: Game, L: PassLedger> Workplace<'a, G, L> {
         }
     }
 
-    /// The shard after the post's workers have ended, with every pair of the level, and how many pairs the workers delivered. Where they are fewer than a walk
-    /// found, or no walk ended, what is missing is delivered.
+    /// Returns the shard after the workers have ended, with every pair of the level, and the number of pairs that the workers delivered. If these are fewer
+    /// than a walk found, or no walk ended, the rest is delivered here.
     pub(crate) fn end(self) -> Result<(OrderedShard<G>, u64), SolveError>
         requires { L.spot.level ≤ REMOTENESS }
         ensures spot { IfOk result (λ done. spot_of done.0 ≡ L.spot) }

@@ -29,7 +29,7 @@ const FEW: usize = 8192;
 /// mean unequal work.
 const BLOCK: usize = 64;
 
-/// The number of classes. Threads draw them one after another, so that they end almost together, whatever else the processors do meanwhile.
+/// The number of classes. Threads draw them one after another, so that they end almost together on a busy machine too.
 const CLASSES: usize = 256;
 
 /// The indexes of one round of blocks, one for each class.
@@ -45,7 +45,7 @@ struct Given<'a, G: Game, C: Records> {
 }
 
 impl<'a, G: Game, C: Records> Given<'a, G, C> {
-    // The least index from `lo` up to `hi` that has a record, where no index is that of a canonical legal position.
+    // Returns the least index from `lo` up to `hi` that has a record, if no index is that of a canonical legal position.
     fn first_filled(&self, lo: usize, hi: usize) -> Option<u64>
         requires within { hi ≤ length (C.listed self.now.records.now) }
         requires holes { AreHoles G.rules self.now.tier lo hi }

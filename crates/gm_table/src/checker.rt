@@ -47,7 +47,7 @@ impl CheckError {
 
 /// Makes a table of records that fit: each canonical legal position has the value that follows from the records of its canonical children (or from its own
 /// end), with a remoteness within the limit, and every other index has none. The tables of the child tiers are given; children in the tier itself are looked up
-/// in the records, even where the tier has a table.
+/// in the records, even if the tier has a table.
 ///
 /// The size is tested first (`WrongSize`), then the records by index (`WrongRecord` names the first that doesn't fit), and memory is asked for last
 /// (`OutOfMemory`).
@@ -65,7 +65,7 @@ pub fn check<G: Game>(
     ensures records { IfOk result (λ t. t.records ≡ records.now) }
     ensures table { IfOk result (IsTable G.rules) }
 
-    // Unless memory runs out, records are accepted exactly where they fit, and those that fit are the true ones.
+    // Unless memory runs out, records are accepted exactly if they fit, and those that fit are the true ones.
     ensures fit { IsOkUnless result CheckError.OutOfMemory ↔ FitTables G.rules tables.now tier records.now }
     ensures are_true { IsOkUnless result CheckError.OutOfMemory ↔ IsTrueTable G.rules REMOTENESS tier records.now }
 
@@ -94,7 +94,7 @@ pub fn check_by<G: Game + Send + Sync, R: Threads + Sync>(
     ensures records { IfOk result (λ t. t.records ≡ records.now) }
     ensures table { IfOk result (IsTable G.rules) }
 
-    // Unless memory runs out, records are accepted exactly where they fit, and those that fit are the true ones.
+    // Unless memory runs out, records are accepted exactly if they fit, and those that fit are the true ones.
     ensures fit { IsOkUnless result CheckError.OutOfMemory ↔ FitTables G.rules tables.now tier records.now }
     ensures are_true { IsOkUnless result CheckError.OutOfMemory ↔ IsTrueTable G.rules REMOTENESS tier records.now }
 
@@ -107,8 +107,8 @@ pub fn check_by<G: Game + Send + Sync, R: Threads + Sync>(
     table_unless(alloc, tier, records, tables, fault)
 }
 
-/// As `check_by`, of records that are packed already, which become the table's. `OutOfMemory` never comes. Where there are many, another thread lays out their
-/// indexes by place, which `Tables::insert` then needn't do; if memory runs out there, the table comes without them.
+/// Checks as `check_by` does, but records that are packed already and become the table's. `OutOfMemory` never comes. If there are many, another thread lays out
+/// their indexes by place, which `Tables::insert` then need not do; if memory runs out there, the table comes without them.
 pub fn check_packed_by<G: Game + Send + Sync, R: Threads + Sync>(
     rt: &R,
     tier: u64,
@@ -177,7 +177,7 @@ fn table_unless<G: Game>(
     ensures records { IfOk result (λ t. t.records ≡ records.now) }
     ensures table { IfOk result (IsTable G.rules) }
 
-    // Unless memory runs out, records are accepted exactly where they fit, and those that fit are the true ones.
+    // Unless memory runs out, records are accepted exactly if they fit, and those that fit are the true ones.
     ensures fit { IsOkUnless result CheckError.OutOfMemory ↔ FitTables G.rules tables.now tier records.now }
     ensures are_true { IsOkUnless result CheckError.OutOfMemory ↔ IsTrueTable G.rules REMOTENESS tier records.now }
 
@@ -231,7 +231,7 @@ fn fault_by<G: Game + Send + Sync, C: Records + Sync, R: Threads + Sync>(
     fault_of(tier, records, tables, first)
 }
 
-// Why records aren't those of a tier, where this is the first wrong one if there are as many as the tier has indexes.
+// Returns why records aren't those of a tier, if this is the first wrong one when there are as many as the tier has indexes.
 fn fault_of<G: Game, C: Records>(
     tier: u64,
     records: &C,

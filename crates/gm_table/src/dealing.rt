@@ -28,7 +28,7 @@ pub struct Dealing {
 }
 
 impl Dealing {
-    /// The blocks of so many indexes.
+    /// Returns the blocks of `size` indexes.
     pub fn of(size: u64) -> Dealing
         requires { size ≤ TIER_SIZE }
         ensures { result.size ≡ size }

@@ -37,7 +37,7 @@ impl<G: Game> Model for Entry<G> {
 impl<G: Game> Entry<G> {
     ghost use Rattle.gm_table.specs.Tables.{IsTable};
 
-    /// Lays out a table, unless it is laid out already. Where memory runs out, the table comes back.
+    /// Lays out a table, unless it is laid out already. If memory runs out, the table comes back.
     pub(crate) fn of(alloc: Global, mut table: Table<G>) -> Result<Entry<G>, AllocFailed<Table<G>>>
         ensures ok { IfOk result (λ e. e ≡ table) }
         ensures err { IfErr result (λ e. e.value ≡ table) }

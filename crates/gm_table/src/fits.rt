@@ -136,7 +136,7 @@ fn look_up<'a, G: Game, C: Records>(
     word_in(table_for(tables, hand, c.tier), c.index)
 }
 
-// The word of the record at an index of a table; 0 where there is no table.
+// Returns the word of the record at an index of a table; 0 if there is no table.
 fn word_in<G: Game>(table: Option<&Table<G>>, index: u64) -> u64
     ensures { record_of_word result ≡ record_of (option_copied table.entry) index }
 {

@@ -1,4 +1,4 @@
-//! The levels at which the records of a table stand.
+//! The levels of the records of a table.
 ghost use Rattle.std.specs.Prelude.{◌≡◌};
 ghost use Rattle.gm_game.specs.declared.position.Phase.TheVariants.{WinLose, Ties};
 ghost use Rattle.gm_table.specs.Levels.{level_in as level_in_spec, later as later_spec, greatest_of};
@@ -6,7 +6,7 @@ ghost use Rattle.gm_table.specs.Levels.{level_in as level_in_spec, later as late
 use crate::packed::Packed;
 use gm_game::position::{Phase, Solved, Value};
 
-/// The level at which a record stands in a phase: its remoteness, or `None` where its value isn't settled in that phase.
+/// Returns the level of a record in a phase: its remoteness, or `None` if its value isn't settled in that phase.
 pub(crate) fn level_in(phase: Phase, known: Option<Solved>) -> Option<u32>
     ensures { result ≡ level_in_spec phase known }
 {
@@ -19,7 +19,7 @@ pub(crate) fn level_in(phase: Phase, known: Option<Solved>) -> Option<u32>
     }
 }
 
-// The later of two levels, where there are any.
+// Returns the later of two levels, if there are any.
 fn later(a: Option<u32>, b: Option<u32>) -> Option<u32>
     ensures { result ≡ later_spec a b }
 {
@@ -29,7 +29,7 @@ fn later(a: Option<u32>, b: Option<u32>) -> Option<u32>
     }
 }
 
-/// The greatest levels at which these records stand, of wins and losses and of ties, in one pass.
+/// Returns the greatest levels of these records, of wins and losses and of ties, in one pass.
 pub(crate) fn greatest_levels(records: &Packed) -> (Option<u32>, Option<u32>)
     ensures win_lose { result.0 ≡ greatest_of WinLose records.now }
     ensures ties { result.1 ≡ greatest_of Ties records.now }

@@ -1,7 +1,7 @@
 //! The true tables of tiers, and the checker that makes them from records of any origin.
 //!
-//! A table is true by its type: whoever holds one holds the true table of its tier. `specs/` has the definitions that contracts cite, and `proofs/` what
-//! follows from them.
+//! A table is true by its type: a value of the type is the true table of its tier. `specs/` has the definitions that contracts cite, and `proofs/` what follows
+//! from them.
 #![tactic(auto)]
 
 mod blocks;

@@ -1,4 +1,4 @@
-//! Numbers of records, which take a byte each where all of them have short forms, and else four.
+//! Numbers of records, which take a byte each if all of them have short forms, and four otherwise.
 ghost use Rattle.std.specs.Prelude.{◌≡◌, ◌++◌, [], ◌∷◌, ◌<◌, ◌/◌, ◌%◌, IsTrue, ◌↔◌, map, take, slice_get, length, IfOk, OnOk, OnErr};
 ghost use Rattle.gm_table.specs.Numbers.{wide, IsShort};
 
@@ -19,7 +19,7 @@ pub(crate) struct Numbers {
 enum Stored {
     // The short form of each number.
     Short(Vec<u8>),
-    // The numbers, where one of them has no short form.
+    // The numbers, if one of them has no short form.
     Long(Vec<u32>),
 }
 
@@ -41,7 +41,7 @@ impl Numbers {
         Ok(Numbers { stored })
     }
 
-    /// Adds a number at the end. Where memory is refused the numbers are as before.
+    /// Adds a number at the end. If memory is refused, the numbers are unchanged.
     #[inline(always)]
     pub(crate) fn push(&mut self, number: u32) -> Result<(), AllocError>
         ensures ok { OnOk result (self.new ≡ self.old ++ number ∷ []) }
@@ -56,7 +56,7 @@ impl Numbers {
         self.push_long(number)
     }
 
-    // Adds a number at the end, and keeps all of them long. It stands apart, so that code for the common case is short.
+    // Adds a number at the end, and keeps all of them long. It is a function of its own, so that code for the common case is short.
     #[inline(never)]
     fn push_long(&mut self, number: u32) -> Result<(), AllocError>
         ensures ok { OnOk result (self.new ≡ self.old ++ number ∷ []) }
@@ -76,7 +76,7 @@ impl Numbers {
         }
     }
 
-    /// Adds other numbers at the end. Where memory is refused the numbers are as before.
+    /// Adds other numbers at the end. If memory is refused, the numbers are unchanged.
     pub(crate) fn append(&mut self, more: &Numbers) -> Result<(), AllocError>
         ensures ok { OnOk result (self.new ≡ self.old ++ more.now) }
         ensures err { OnErr result (self.new ≡ self.old) }

@@ -8,10 +8,10 @@ use crate::packed::Packed;
 use crate::runs::Runs;
 use gm_game::limits::TIER_SIZE;
 
-/// Up to this level runs are laid out ahead of a check, since each level takes memory for itself, even where records that are not true name it.
+/// Up to this level runs are laid out ahead of a check, since each level takes memory for itself, even if records that are not true name it.
 const NEAR: u32 = 1024;
 
-/// The greatest level of each phase at which a record stands, and the indexes by place, where they are laid out.
+/// The greatest level of the records of each phase, and the indexes by place, if they are laid out.
 #[derive(Drop)]
 pub(crate) struct Outline {
     pub(crate) greatest_win_lose: Option<u32>,
@@ -33,7 +33,7 @@ impl Outline {
         }
     }
 
-    /// The outline of these records, with runs where there are as many records as a tier may have, their levels are near, and there is memory for them.
+    /// The outline of these records, with runs if there are as many records as a tier may have, their levels are near, and there is memory for them.
     pub(crate) fn with_runs(records: &Packed) -> Outline
         ensures outline { IsOutlineOf records.now result }
         ensures near { IsSome result.runs → IfSome result.greatest_win_lose (λ n. n ≤ NEAR) × IfSome result.greatest_tie (λ n. n ≤ NEAR) }
@@ -66,7 +66,7 @@ fn is_near(level: Option<u32>) -> bool
     }
 }
 
-// The runs of as many records as a tier may have, where there is memory for them.
+// Returns the runs of as many records as a tier may have, if there is memory for them.
 fn runs_of(records: &Packed) -> Option<Runs>
     ensures { IfSome result (AreRunsOf records.now) }
 {

@@ -16,7 +16,7 @@ use std::marker::Model;
 /// One more than the greatest remoteness: a record's number is the code of its value times this, plus its remoteness.
 pub(crate) const STEP: u32 = 1_048_576;
 
-/// Records of a byte each, or of four where one has a remoteness above 31. Contracts see the records.
+/// Records of a byte each, or of four if one has a remoteness above 31. Contracts see the records.
 #[derive(Drop)]
 pub struct Packed {
     numbers: Numbers,
@@ -41,7 +41,7 @@ impl Packed {
         Ok(Packed { numbers })
     }
 
-    /// Adds a record within the greatest remoteness at the end. Where memory is refused the records are as before.
+    /// Adds a record within the greatest remoteness at the end. If memory is refused, the records are unchanged.
     #[inline(always)]
     pub fn push(&mut self, known: Option<Solved>) -> Result<(), AllocError>
         requires { IsNear known }
@@ -52,7 +52,7 @@ impl Packed {
         Ok(())
     }
 
-    /// Adds other records at the end. Where memory is refused the records are as before.
+    /// Adds other records at the end. If memory is refused, the records are unchanged.
     pub fn append(&mut self, more: &Packed) -> Result<(), AllocError>
         ensures ok { OnOk result (self.new ≡ self.old ++ more.now) }
         ensures err { OnErr result (self.new ≡ self.old) }
@@ -61,7 +61,7 @@ impl Packed {
         Ok(())
     }
 
-    /// Adds so many times no record at the end. Where memory is refused some of them may have been added.
+    /// Adds `number` times no record at the end. If memory is refused, some of them may have been added.
     pub fn push_none(&mut self, count: usize) -> Result<(), AllocError>
         ensures { OnOk result (self.new ≡ self.old ++ replicate count None) }
     {

@@ -9,7 +9,7 @@ use gm_game::limits::TIER_SIZE;
 use gm_game::position::{Phase, Solved, Value};
 use std::alloc::{AllocError, Global};
 
-/// The indexes of the records that stand at each place: for each phase a list for each level, ascending.
+/// The indexes of the records of each place: for each phase a list for each level, ascending.
 #[derive(Drop)]
 pub(crate) struct Runs {
     win_lose: Vec<Vec<u32>>,
@@ -34,7 +34,7 @@ impl Runs {
         Ok(runs)
     }
 
-    // Adds the index of a record at its place, where it has one.
+    // Adds the index of a record at its place, if it has one.
     fn place(&mut self, solved: Solved, index: u32) -> Result<(), AllocError>
         ensures { OnOk result ((phase : PhaseSpec) (n : ℕ) → run_in self.new phase n
             ≡ (if is_level n (level_in phase (Some solved)) then run_in self.old phase n ++ index ∷ [] else run_in self.old phase n)) }

@@ -39,7 +39,7 @@ impl<G: Game> Table<G> {
     ghost use Rattle.gm_table.specs.Outlines.{IsOutlineOf};
     ghost use Rattle.gm_table.specs.Runs.{AreRunsOf};
 
-    /// Makes a table of the true records of a tier within the limits. A table takes a byte an index, or four where a remoteness is above 31.
+    /// Makes a table of the true records of a tier within the limits. A table takes a byte an index, or four if a remoteness is above 31.
     pub fn from_true(
         alloc: Global,
         tier: u64,
@@ -80,7 +80,7 @@ impl<G: Game> Table<G> {
         }
     }
 
-    /// The indexes by place, where they were laid out and not taken before. The table is as before.
+    /// Takes the indexes by place, if they were laid out and not taken before. The table is unchanged.
     pub(crate) fn take_runs(&mut self) -> Option<Runs>
         ensures runs { IfSome result (AreRunsOf self.old.records) }
         ensures same { self.new ≡ self.old }
@@ -121,7 +121,7 @@ impl<G: Game> Table<G> {
         self.records.get(index as usize)
     }
 
-    /// The word of the record at an index, which tells it without a branch; 0 where there is none.
+    /// Returns the word of the record at an index, without a branch; 0 if there is none.
     pub fn word(&self, index: u64) -> u64
         ensures value { record_of_word result ≡ record_at self.now.records index }
         ensures is_true { IsRecord G.rules REMOTENESS (IsTrueValue G.rules) (at self.now.tier index) (record_of_word result) }
@@ -130,7 +130,7 @@ impl<G: Game> Table<G> {
         self.records.word(index as usize)
     }
 
-    /// The greatest remoteness among wins and losses, or among ties; `None` where there is none.
+    /// Returns the greatest remoteness of wins and losses, or of ties; `None` if there is none.
     pub fn greatest(&self, phase: Phase) -> Option<u32>
         ensures value { IsGreatest phase self.now.records result }
         ensures table { IsTable G.rules self.now }

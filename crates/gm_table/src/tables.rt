@@ -45,8 +45,8 @@ impl<G: Game> Tables<G> {
         }
     }
 
-    /// Inserts a table, in place of any other one of its tier, and lays out its indexes by place, unless `check_packed_by` has done so. Where memory runs out,
-    /// the table comes back and nothing changes.
+    /// Inserts a table, in place of any other one of its tier, and lays out its indexes by place, unless `check_packed_by` has done so. If memory runs out, the
+    /// table comes back and nothing changes.
     pub fn insert(&mut self, table: Table<G>) -> Result<(), AllocFailed<Table<G>>>
         ensures ok { OnOk result (Inserts self.old self.new table) }
         ensures err { OnErr result (self.new ≡ self.old) }
@@ -132,7 +132,7 @@ impl<G: Game> Tables<G> {
         self.table(p.tier)?.at(p.index)
     }
 
-    /// The indexes, ascending, of a tier's canonical positions that have a value of the phase with this remoteness. Empty where the tier isn't held.
+    /// Returns the indexes, ascending, of a tier's canonical positions that have a value of the phase with this remoteness. Empty if the tier isn't held.
     pub fn run(&self, tier: u64, phase: Phase, level: u32) -> &[u32]
         ensures value { result.now ≡ run_of self.now tier phase level }
         ensures ascending { IsAscending result.now }

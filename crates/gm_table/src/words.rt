@@ -12,7 +12,7 @@ use gm_record::summary::Summary;
 /// One more than the greatest remoteness of a word: its number is the code of the value times this, plus the remoteness. As a mark it stands for none.
 const NONE: u64 = 4_294_967_296;
 
-/// The word of a record. It is 0 where there is none.
+/// Returns the word of a record. It is 0 for none.
 pub fn word_of(known: Option<Solved>) -> u64
     ensures { record_of_word result ≡ known }
 {
@@ -29,8 +29,8 @@ pub fn word_with(number: u32) -> u64
     u64::from(number / STEP) * NONE + u64::from(number % STEP)
 }
 
-// What the words that were read so far say: the least remoteness of a loss, the greatest of a win where all are wins, the least of a tie, each of them `NONE`
-// where there is none; and how many of the records are no draws.
+// A fold over the words that were read: the least remoteness of a loss, the greatest of a win if all are wins, the least of a tie, each of them `NONE` if there
+// is none; and how many of the records are no draws.
 #[derive(Clone, Copy)]
 struct Sum {
     lost: u64,

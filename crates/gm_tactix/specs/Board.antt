@@ -80,7 +80,7 @@ tactix s misere = record {
   start = replicate (s * s) true;
   legal = λ b. length b == s * s;
   end_by_last_move = end_by_last_move misere;
-  end_if_no_move = Lose;
+  end_if_no_move = λ b. Lose;
   move_number_bound = λ t. move_number_bound s;
   can_move = can_take s;
   moved = play s;

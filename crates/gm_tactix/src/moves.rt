@@ -6,7 +6,7 @@ ghost use Rattle.gm_tactix.specs.CounterMasks.{counters_of};
 
 use crate::masks::segment_mask;
 
-/// Whether the segment with this number can be taken: false where there is no such segment.
+/// Whether the segment with this number can be taken: false if there is no such segment.
 #[tactic(auto, using(crate::proofs::MaskMoves::take_of, crate::proofs::MaskMoves::no_segment, crate::proofs::MaskTable::mask_of_segment, crate::proofs::MaskTable::none_by_mask, crate::proofs::MaskTable::segment_by_mask))]
 pub fn can_take(side: u32, counters: u32, number: u32) -> bool
     requires low { 1 ≤ side }
@@ -30,7 +30,7 @@ pub fn play(side: u32, counters: u32, number: u32) -> u32
     counters & !segment_mask(side, number)
 }
 
-/// Whether taking the segment with this number can have left these counters of `tier` counters: false where there is no such segment.
+/// Whether taking the segment with this number can have left these counters of `tier` counters: false if there is no such segment.
 #[tactic(auto, using(crate::proofs::MaskMoves::not_taken, crate::proofs::MaskTable::none_by_mask))]
 pub fn was_taken(side: u32, tier: u64, counters: u32, number: u32) -> bool
     requires low { 1 ≤ side }

@@ -15,7 +15,7 @@ pub struct Segment {
 }
 
 impl Segment {
-    /// The segment with this number, or `None` where the square has no such segment.
+    /// The segment with this number, or `None` if the square has no such segment.
     pub fn numbered(side: u32, number: u32) -> Option<Segment>
         requires low { 1 ≤ side }
         requires high { side ≤ 5 }

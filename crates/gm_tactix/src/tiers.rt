@@ -27,7 +27,7 @@ pub fn name(side: u32, misere: bool) -> [u8; NAME]
     }
 }
 
-/// How many boards of a square of side up to 5 have `tier` counters: 0 where there are fewer cells.
+/// How many boards of a square of side up to 5 have `tier` counters: 0 if there are fewer cells.
 #[tactic(auto, using(gm_board::specs::laws::Binomials::binomial_past))]
 pub fn tier_size(side: u32, tier: u64) -> u64
     requires { side ≤ 5 }
@@ -41,7 +41,7 @@ pub fn tier_size(side: u32, tier: u64) -> u64
     }
 }
 
-/// How the game has ended for the player to move with `tier` counters left: without counters Lose, or Win in misère, and `None` where there are counters.
+/// How the game has ended for the player to move with `tier` counters left: without counters Lose, or Win in misère, and `None` if there are counters.
 pub fn end(misere: bool, tier: u64) -> Option<End>
     ensures { result ≡ (if tier == 0 then Some (if misere then End.Win else End.Lose) else None) }
 {

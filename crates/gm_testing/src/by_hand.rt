@@ -103,7 +103,7 @@ fn finish_level<G: Game>(shard: &mut Shard<G>, expected: &mut Expected<G>, level
     shard.close(expected).is_ok()
 }
 
-/// Takes a shard of a whole tier, and the count of its pairs, through the levels of the present phase: their end; none where a level is too far.
+/// Takes a shard of a whole tier, and the count of its pairs, through the levels of the present phase: their end; none if a level is too far.
 pub fn finish_phase<G: Game>(
     alloc: Global,
     shard: &mut Shard<G>,
@@ -130,7 +130,7 @@ pub fn finish_phase<G: Game>(
     Ok(None)
 }
 
-/// The shard of a tier at its first level of ties, after its wins and losses; none where one of these is too far.
+/// The shard of a tier at its first level of ties, after its wins and losses; none if one of these is too far.
 pub fn at_ties<G: Game>(
     alloc: Global,
     tier: u64,

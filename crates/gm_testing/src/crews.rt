@@ -2,10 +2,11 @@
 ghost use Rattle.std.specs.Prelude.{◌≤◌};
 ghost use Rattle.gm_table.specs.Tables.{AreHeld};
 
-use crate::sources::{TestGate, TestSource};
+use crate::sources::TestSource;
 use gm_game::game::Game;
 use gm_game::limits::TIER_SIZE;
 use gm_solver::error::SolveError;
+use gm_solver::gate::Gate;
 use gm_solver::plan::Plan;
 use gm_solver::tier::{Report, solve_passes, solve_tier};
 use gm_table::table::Table;
@@ -22,14 +23,14 @@ pub enum Way {
 }
 
 /// Solves a tier by workers in one of the two ways.
-pub fn solve_by<G: Game + Send + Sync, R: Threads + Wait + Sync>(
+pub fn solve_by<G: Game + Send + Sync, R: Threads + Wait + Sync, T: Gate>(
     rt: &R,
     alloc: Global,
     tier: u64,
     tables: &Tables<G>,
     way: Way,
     plan: Plan,
-    gate: &TestGate,
+    gate: &T,
     source: &TestSource,
 ) -> Result<(Table<G>, Report), SolveError>
     requires held { AreHeld G.rules tables.now tier }

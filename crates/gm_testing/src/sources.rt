@@ -148,7 +148,7 @@ pub struct Seat {
 }
 
 impl Seat {
-    // Takes the seat where it is free, and answers whether it was.
+    // Takes the seat if it is free, and answers whether it was.
     fn try_take<R: Wait>(&self, rt: &R) -> bool {
         let mut taken = self.taken.lock(rt);
         let is_free = !*taken;
@@ -264,5 +264,33 @@ impl Gate for TestGate {
             TestGate::Seat(seat) => *seat.taken.lock(rt) = false,
             TestGate::Open | TestGate::Meeting(_) => {}
         }
+    }
+}
+
+/// A gate for workers that deliver many pairs while they hold a lock once: a turnstile that takes no mutex.
+#[derive(Drop)]
+pub struct Together(TestGate);
+
+impl Together {
+    /// One that nothing has passed.
+    pub fn new() -> Self {
+        Together(TestGate::turnstile(0))
+    }
+
+    /// How often it was called before deliveries and after them.
+    pub fn passed(&self) -> (usize, usize) {
+        self.0.passed()
+    }
+}
+
+impl Gate for Together {
+    const EACH: bool = false;
+
+    fn before<R: Wait>(&self, rt: &R, worker: usize, place: Place) {
+        self.0.before(rt, worker, place);
+    }
+
+    fn after<R: Wait>(&self, rt: &R, worker: usize, place: Place) {
+        self.0.after(rt, worker, place);
     }
 }

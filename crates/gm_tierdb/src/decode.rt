@@ -136,7 +136,7 @@ fn read_file<G: Game>(
     }
 }
 
-// The records that were read of these parts, where the bytes are those of a file but for the digest; `None` where memory was refused for them.
+// Returns the records that were read of these parts, if everything but the digest is valid; `None` if memory was refused.
 fn read_whole<G: Game>(
     version: Version,
     tier: u64,
@@ -161,7 +161,7 @@ fn read_whole<G: Game>(
     Ok(read)
 }
 
-// Where the records of a file stand, how many there are, and what stands after them.
+// The place of the records of a file, their number, and the bytes after them.
 #[derive(Clone, Copy)]
 struct Parts<'a> {
     records: &'a [u8],
@@ -222,7 +222,7 @@ fn check_header<G: Game>(
     Ok(())
 }
 
-// How many bytes the records of a file have; `None` where a file of this length has no room for them and the digest.
+// Returns the number of bytes of the records of a file; `None` if a file of this length has no room for them and the digest.
 fn records_len(version: Version, size: u64, file_len: usize) -> Option<usize>
     ensures some { IfSome result (λ len. (len ≡ width version * size) × (72 + len ≤ file_len)) }
     ensures none { IfNone result (file_len < 72 + width version * size) }

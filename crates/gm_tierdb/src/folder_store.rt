@@ -15,8 +15,8 @@ use std::fs::{self, File, Files, OpenFile};
 use std::io::{ErrorKind, Read};
 
 /// A store in a folder: docs/FORMATS.md, "Files in a folder". Tier t is the file `tier-<t>.gmt`, which is written as `tier-<t>.tmp`, synced and renamed, and
-/// then the folder is synced. Where there is no file, the tier has no text. The folder is not made, and an empty path is no folder. Only the count of
-/// failures is promised, and not what the folder holds between two calls.
+/// then the folder is synced. A tier without a file has no text. The folder is not made, and an empty path is no folder. Only the count of failures is
+/// promised, and not what the folder holds between two calls.
 ///
 /// An intact file of another game is never overwritten: the write fails. What is no ordinary file is not opened.
 #[derive(Drop)]
@@ -53,9 +53,9 @@ impl FolderStore {
         self.met_another
     }
 
-    /// Whether the file of a tier is an intact one of another game than the one of this name, for a caller that looks ahead. Nothing is written, and no
-    /// failure is counted: where the file can't be read, the answer is no, and a later `read` of that tier fails. The whole file is read only where its
-    /// first bytes name another game.
+    /// Whether the file of a tier is an intact one of another game than the one of this name, for a caller that looks ahead. Nothing is written, and no failure
+    /// is counted: if the file can't be read, the result is false, and a later `read` of that tier fails. The whole file is read only if its first bytes name
+    /// another game.
     pub fn is_anothers<R: Files>(
         &mut self,
         rt: &R,
@@ -78,7 +78,7 @@ impl FolderStore {
         }
     }
 
-    // The same, where a file that can't be read is a failure.
+    // Does the same, but counts a file that can't be read as a failure.
     fn has_anothers<R: Files>(
         &self,
         rt: &R,
@@ -107,7 +107,7 @@ impl FolderStore {
         }
     }
 
-    // The text of a tier, or none where there is no file.
+    // Returns the text of a tier, or none if there is no file.
     fn get<R: Files>(&self, rt: &R, alloc: Global, tier: u64) -> Result<Option<Vec<u8>>, StoreError>
         ensures empty { string_len self.now.folder ≡ 0 → IsErrOf result StoreError.Failed }
         ensures unseen { self.now.unseen ≡ Some tier → IsErrOf result StoreError.Failed }
@@ -220,7 +220,7 @@ impl Store for FolderStore {
     }
 }
 
-// How many bytes an ordinary file has, or none where nothing is there; what else is there is a failure.
+// Returns the number of bytes of an ordinary file, or none if there is nothing; anything else is a failure.
 fn len_of<R: Files>(rt: &R, path: &str) -> Result<Option<u64>, StoreError> {
     match fs::metadata(rt, path) {
         Ok(metadata) if metadata.is_file() => Ok(Some(metadata.len())),
@@ -229,7 +229,7 @@ fn len_of<R: Files>(rt: &R, path: &str) -> Result<Option<u64>, StoreError> {
     }
 }
 
-// The text of a file, or none where it is not there.
+// Returns the text of a file, or none if there is no file.
 fn read_file<R: Files>(rt: &R, alloc: Global, path: &str) -> Result<Option<Vec<u8>>, StoreError> {
     let Some(len) = len_of(rt, path)? else {
         return Ok(None);
@@ -243,7 +243,7 @@ fn read_file<R: Files>(rt: &R, alloc: Global, path: &str) -> Result<Option<Vec<u
     Ok(Some(text))
 }
 
-// The first bytes of a file, up to the name of its game; none where it has not so many, or is not there.
+// Returns the first bytes of a file, up to the name of its game; none if it is shorter, or missing.
 fn read_head<R: Files>(rt: &R, path: &str) -> Result<Option<[u8; NAME_END]>, StoreError> {
     if len_of(rt, path)?.is_none() {
         return Ok(None);
@@ -261,7 +261,7 @@ fn read_head<R: Files>(rt: &R, path: &str) -> Result<Option<[u8; NAME_END]>, Sto
     Ok(Some(head))
 }
 
-// Whether an intact file of another game than the text's stands there. Mostly its first bytes tell.
+// Whether the file is an intact one of another game than the text's. Mostly its first bytes show this.
 fn holds_another<R: Files>(
     rt: &R,
     alloc: Global,
@@ -291,7 +291,7 @@ fn is_whole_another<R: Files>(
     }
 }
 
-// Writes a text beside a file, and puts it in its place. After a failure the temporary file is removed where possible.
+// Writes a text to a temporary file, and renames it to the file. After a failure the temporary file is removed if possible.
 fn write_file<R: Files>(rt: &R, path: &str, beside: &str, bytes: &[u8]) -> Result<(), StoreError> {
     clear(rt, beside)?;
     let mut file = File::create_new(rt, beside).map_err(|_| StoreError::Failed)?;
@@ -309,7 +309,7 @@ fn write_file<R: Files>(rt: &R, path: &str, beside: &str, bytes: &[u8]) -> Resul
     written
 }
 
-// Syncs a folder, so that the names in it last. Where the file system syncs no folders, nothing is done.
+// Syncs a folder, so that the names in it last. On a file system that syncs no folders, nothing is done.
 fn sync_folder<R: Files>(rt: &R, folder: &str) -> Result<(), StoreError> {
     let folder = fs::open(rt, folder).map_err(|_| StoreError::Failed)?;
     match folder.sync_all() {

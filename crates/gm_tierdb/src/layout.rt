@@ -1,4 +1,4 @@
-//! Where things stand in the file of a tier.
+//! The layout of the file of a tier.
 
 use gm_game::limits::TIER_SIZE;
 

@@ -48,7 +48,7 @@ impl Store for MemStore {
         ensures same { self.new ≡ self.old }
         ensures failed { IfErr result (λ e. e ≡ StoreError.OutOfMemory) }
 
-        // Memory is asked for only where there is a text.
+        // Memory is used only if there is a text.
         ensures absent { get nat_cmp self.old.entries tier ≡ None → result ≡ Ok None }
     {
         match self.entries.get(&tier) {

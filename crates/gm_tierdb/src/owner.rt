@@ -5,7 +5,7 @@ ghost use Rattle.gm_tierdb.specs.Owners.{IsIntact, IsAnothers, owner_of};
 use crate::layout::{DIGEST_LEN, HEADER_LEN, MAGIC_LEN, NAME_END};
 use sha2::{Digest, Sha256};
 
-/// What the file of a tier begins with, whatever its version is.
+/// The first bytes of the file of a tier, of any version.
 const MARK: &[u8] = b"GMTIER";
 
 /// Whether a text is an intact tier file of another game than the one whose file these bytes are. Any bytes may be given.
@@ -15,8 +15,8 @@ pub fn is_anothers(text: &[u8], bytes: &[u8]) -> bool
     is_intact(text) && (bytes.len() < NAME_END || owner(text) != owner(bytes))
 }
 
-/// Whether a text with these first bytes, at least 24 of them, can be an intact tier file of another game than the one whose file the other bytes are.
-/// Where it can't, the rest of it needn't be read.
+/// Whether a text with these first bytes, at least 24 of them, can be an intact tier file of another game than the one whose file the other bytes are. If not,
+/// the rest of it need not be read.
 pub(crate) fn may_be_anothers(head: &[u8], bytes: &[u8]) -> bool
     requires { 24 ≤ length head.now }
     ensures { (text : List ℕ) → take (length head.now) text ≡ head.now → IsAnothers text bytes.now → IsTrue result }

@@ -18,8 +18,8 @@ const FEW: usize = 262_144;
 /// How often records are halved, to be read by four threads.
 pub(crate) const HALVINGS: usize = 2;
 
-/// As `read_records`, by as many threads as there are halves of halves, where there are many. There is room for so many records, so that the records of other
-/// halves needn't be moved as they are added.
+/// Reads as `read_records` does, by as many threads as there are halves of halves, if there are many records. The list has room for all of them, so that the
+/// records of other halves are not moved as they are added.
 #[cycle(halves)]
 pub(crate) fn read_records_by<R: Threads + Sync>(
     rt: &R,
@@ -60,7 +60,7 @@ pub(crate) fn read_records_by<R: Threads + Sync>(
     }
 }
 
-// The records of both, where there are those of both and memory for them.
+// Returns the records of both, if both have records and there is memory for them.
 fn joined(front: Option<Packed>, back: Option<Packed>) -> Option<Packed>
     ensures { IfSome result (λ all. (a : List (Option SolvedSpec)) × (b : List (Option SolvedSpec)) × (front ≡ Some a) × (back ≡ Some b) × (all ≡ a ++ b)) }
 {
@@ -71,7 +71,7 @@ fn joined(front: Option<Packed>, back: Option<Packed>) -> Option<Packed>
     }
 }
 
-/// The records that stand in the bytes, in a list with room for so many, or the first index at which none stands; `None` where memory is refused for them.
+/// Returns the records in the bytes, in a list with this room, or the first index without one; `None` if memory is refused for them.
 pub(crate) fn read_records(
     alloc: Global,
     version: Version,
@@ -101,7 +101,7 @@ pub(crate) fn read_records(
     Ok(Some(records))
 }
 
-// No records, or the first index at which none stands.
+// No records, or the first index without one.
 fn without_memory(version: Version, bytes: &[u8], size: usize) -> Result<Option<Packed>, u64>
     requires { length bytes.now ≡ width version * size }
     ensures found { IfOk result (AreRead version size bytes.now) }
@@ -113,7 +113,7 @@ fn without_memory(version: Version, bytes: &[u8], size: usize) -> Result<Option<
     }
 }
 
-// The first index at which no record stands.
+// Returns the first index without a record.
 fn first_bad(version: Version, bytes: &[u8], size: usize) -> Option<u64>
     requires { length bytes.now ≡ width version * size }
     ensures none { IfNone result (HasRecords version size bytes.now) }

@@ -1,4 +1,4 @@
-//! Where the texts of tiers are kept.
+//! The texts of tiers.
 ghost use Rattle.std.specs.Prelude.{◌≡◌, ◌+◌, ◌<◌, ℕ, Bool, List, Option, IsTrue, IfOk, OnOk, IsErrOf};
 ghost use Rattle.std.specs.Option.{option_map};
 ghost use Rattle.gm_tierdb.specs.StoreTexts.{AreSame, Sets, MaySet, failures_of};
@@ -9,7 +9,7 @@ use std::fs::Files;
 
 /// A store of texts: a map from tiers to bytes, with a count of the calls that have failed.
 pub trait Store: Drop {
-    /// Whether the map is promised. Where it is not, as on a disk that others write to, only the count of failures is.
+    /// Whether the map is promised. If it is not, as on a disk that others write to, only the count of failures is.
     ghost KEEPS: { Bool };
 
     /// The text of each tier that has one.
@@ -21,7 +21,7 @@ pub trait Store: Drop {
     /// Whether the map is promised.
     const KEEPS: bool;
 
-    /// The text of a tier, or `None` where it has none. No text changes.
+    /// Returns the text of a tier, or `None` if it has none. No text changes.
     fn read<R: Files>(
         &mut self,
         rt: &R,
@@ -33,7 +33,7 @@ pub trait Store: Drop {
         ensures same { IsTrue KEEPS → AreSame (texts self.old) (texts self.new) }
         ensures count { failed self.new ≡ failed self.old + failures_of result };
 
-    /// Gives a tier this text. Where memory runs out no text has changed; after a failure the tier has its old text or this one.
+    /// Gives a tier this text. If memory runs out, no text has changed; after a failure the tier has its old text or this one.
     fn write<R: Files>(&mut self, rt: &R, tier: u64, bytes: &[u8]) -> Result<(), StoreError>
         requires { failed self.old < u64.MAX }
         ensures ok { IsTrue KEEPS → OnOk result (Sets tier bytes.now (texts self.old) (texts self.new)) }

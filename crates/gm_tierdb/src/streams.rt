@@ -25,7 +25,7 @@ pub fn read_text<R: Read>(alloc: Global, reader: &mut R) -> Result<Vec<u8>, Stor
     read_into(Vec::new(alloc), reader)
 }
 
-/// As `read_text`, into an empty list. Where it has room for all, the text needn't be moved as it grows.
+/// Reads as `read_text` does, into an empty list. If it has room for all, the text is not moved as it grows.
 pub(crate) fn read_into<R: Read>(mut text: Vec<u8>, reader: &mut R) -> Result<Vec<u8>, StoreError>
     requires { text.items ≡ [] }
     ensures text { IfOk result (λ v. Consumes (R.remaining reader.old) (R.remaining reader.new) v.items) }

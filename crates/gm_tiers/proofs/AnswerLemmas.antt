@@ -1,8 +1,17 @@
 -- What a search answers, step by step.
 use Rattle.std.proofs.Common.{◌≡◌, ℕ, zero, suc, ◌+◌, ◌-◌, ◌<◌, ◌≤◌, inl, inr, List, [], ◌∷◌, ◌++◌, length, take, drop, get_or, slice_get, None, Some, Ok, Err}
 use Rattle.std.proofs.Common.{refl, ap, sym, subst, ◌∙◌, arith}
-use Rattle.std.proofs.lemmas.List.{take_more, take-append-drop}
-use Rattle.std.proofs.lemmas.Option.{slice_get_past}
+use Rattle.std.proofs.lemmas.List.{take_all, take_more, take-append-drop}
+use Rattle.std.proofs.lemmas.Bool.{cases_lt}
+use Rattle.std.proofs.lemmas.Option.{slice_get_past, slice_get-get_or}
+use Rattle.std.specs.List.{Contains}
+use Rattle.std.proofs.Common.{⊎_elim, ◌⊎◌}
+use Rattle.gm_game.proofs.Lists.{contains_none}
+use Rattle.gm_tiers.specs.declared.tier_error.TierError.TheVariants.{TooManyTiers, TierTooLarge}
+use Rattle.gm_tiers.specs.Reach.{IsClosed}
+use Rattle.gm_tiers.specs.Limits.{AreWithin, AreFound, HasTooMany, IsTooLarge}
+use Rattle.gm_tiers.proofs.SearchLemmas.{grown_has, grown_itself, closed_more, at_there, found_all}
+use Rattle.gm_tiers.proofs.StepLemmas.{Fails, Comes, comes_step, comes_all}
 use Rattle.gm_game.specs.declared.limits.TheConstants.{TIERS}
 use Rattle.gm_game.specs.Rules.{Rules}
 use Rattle.gm_tiers.specs.declared.tier_error.TierError.{TierError}
@@ -74,10 +83,55 @@ place_ends r first n k t found e h before at (inr s) =
     inr (before ∙ one_place r n k (Ok found) h ∙ ap (goes_through r (n - (k + 1)) (k + 1)) (at_place r found k t at ∙ s) ∙ ended_through r e (n - (k + 1))
     (k + 1))
 
-pub first_ends : (r : Rules) (first : ℕ) (e : TierError) → EndsWith (comes_to r (Ok []) first) e → EndsWith (search_of r first) e
-first_ends r first e (inl o) = inl o
-first_ends r first e (inr s) = inr (ap (goes_through r TIERS 0) s ∙ ended_through r e TIERS 0)
+-- the search before a place: what it has found, with the child tiers of all before the place, or why it has ended
+abbrev Goes : Rules → ℕ → ℕ → Search → Type 0
+Goes r first k (Ok found) = AreWithin r first found × Contains found first × IsClosed r k found
+Goes r first k (Err e) = Fails r first e
 
-pub first_ends_at : (r : Rules) (first : ℕ) (keys : List ℕ) (e : TierError) → keys ≡ [] → EndsWith (comes_to r (Ok keys) first) e → EndsWith
-    (search_of r first) e
-first_ends_at r first keys e none ends = first_ends r first e (subst (λ ks. EndsWith (comes_to r (Ok ks) first) e) none ends)
+goes_on : (r : Rules) (first k t : ℕ) (found : List ℕ) (s : Search) → Contains found first → IsClosed r k found → slice_get found k ≡ Some t →
+    Comes r first found (λ u. ⊥ ⊎ Contains (r.child_tiers t) u) s → Goes r first (k + 1) s
+goes_on r first k t found (Ok new) initial closed at (within, grown, all) =
+    (within, grown_has found new first grown initial, closed_more r found new k t closed grown at (λ u n. all u (inr n)))
+goes_on r first k t found (Err e) initial closed at c = c
+
+goes_place : (r : Rules) (first k : ℕ) (s : Search) → Goes r first k s → Goes r first (k + 1) (comes_to_children r k s)
+goes_place r first k (Err e) c = c
+goes_place r first k (Ok found) (within, initial, closed) = ⊎_elim
+    (λ (inside : k < length found).
+    let t = get_or found k 0 in
+    let at : slice_get found k ≡ Some t = slice_get-get_or found k 0 inside in
+    subst (Goes r first (k + 1)) (sym (at_place r found k t at))
+    (goes_on r first k t found (comes_to_all r (Ok found) (r.child_tiers t)) initial closed at
+    (comes_all r first t found (λ _. ⊥) (Ok found) (r.child_tiers t) (at_there found k t at) (λ u n. n) (within, grown_itself found, λ u. absurd))))
+    (λ (past : length found ≤ k). subst (Goes r first (k + 1)) (sym (past_all r found 1 k past))
+    (within, initial, λ u child has is. closed u child (subst (λ l. Contains l u) (take_all (k + 1) found (omega arith) ∙ sym (take_all k found past)) has) is))
+    (cases_lt k (length found))
+
+goes_far : (r : Rules) (first n k m : ℕ) (s : Search) → k + n ≡ m → Goes r first k s → Goes r first m (goes_through r n k s)
+goes_far r first zero k m s e h = subst (λ i. Goes r first i s) (let same : k ≡ m = omega arith in same) h
+goes_far r first (suc n) k m s e h = goes_far r first n (suc k) m (comes_to_children r k s) (omega arith)
+    (subst (λ i. Goes r first i (comes_to_children r k s)) (let same : k + 1 ≡ suc k = omega arith in same) (goes_place r first k s h))
+
+-- what a search finds, and why it ends, is so
+searched : (r : Rules) (first : ℕ) → Goes r first TIERS (search_of r first)
+searched r first = goes_far r first TIERS 0 TIERS (comes_to r (Ok []) first) refl (begun (comes_to r (Ok []) first) (comes_step r first [] first record {
+  search = tt;
+  small = λ t has. absurd (contains_none t has);
+  few = omega arith;
+} refl))
+  where
+    begun : (s : Search) → Comes r first [] (λ u. first ≡ u) s → Goes r first 0 s
+    begun (Ok new) (within, grown, has) = (within, has first refl, λ t child none. absurd (contains_none t none))
+    begun (Err e) c = c
+
+pub found_is : (r : Rules) (first : ℕ) (found : List ℕ) → search_of r first ≡ Ok found → AreFound r first found
+found_is r first found e =
+    let (within, initial, closed) = subst (Goes r first TIERS) e (searched r first) in found_all r first found TIERS within initial closed within.few
+
+pub many_is : (r : Rules) (first : ℕ) → EndsWith (search_of r first) TooManyTiers → HasTooMany r first
+many_is r first (inl o) = absurd (cc)
+many_is r first (inr e) = subst (Goes r first TIERS) e (searched r first)
+
+pub large_is : (r : Rules) (first tier : ℕ) → EndsWith (search_of r first) (TierTooLarge tier) → IsTooLarge r first tier
+large_is r first tier (inl o) = absurd (cc)
+large_is r first tier (inr e) = subst (Goes r first TIERS) e (searched r first)

@@ -20,10 +20,6 @@ there ks k h = let (x, has, e) = any_in (nat_eq k) ks h in subst (Contains ks) (
 pub not_there : (ks : List ℕ) (k : ℕ) → list_any (nat_eq k) ks ≡ false → Contains ks k → ⊥
 not_there ks k h has = true≢false (sym (any_from (nat_eq k) ks k has (eq-eqb k k refl)) ∙ h)
 
--- the keys after a new one is inserted
-pub put_last : (ks : List ℕ) (k : ℕ) → list_any (nat_eq k) ks ≡ false → (if list_any (nat_eq k) ks then ks else ks ++ k ∷ []) ≡ ks ++ k ∷ []
-put_last ks k h = ap (λ b. if b then ks else ks ++ k ∷ []) h
-
 -- a child tier of one that is found comes next
 pub next_child : (r : Rules) (first : ℕ) (found : List ℕ) (parent child : ℕ) → Contains found parent → Contains (r.child_tiers parent) child → IsNext r
     first found child
@@ -120,14 +116,6 @@ reached_found r first found is (suc n) t (parent, reached, child) =
 -- what is among the first i of a list, and one more
 among_more : (xs : List ℕ) (i u : ℕ) → i < length xs → Contains (take (i + 1) xs) u → Contains (take i xs) u ⊎ (get_or xs i 0 ≡ u)
 among_more xs i u h has = Contains-push_cases (take i xs) (get_or xs i 0) u (subst (λ l. Contains l u) (take_more xs i 0 h) has)
-
--- one child tier more is found
-pub more_there : (xs old new : List ℕ) (i : ℕ) → i < length xs → ((u : ℕ) → Contains (take i xs) u → Contains old u) → IsGrown old new → Contains new
-    (get_or xs i 0)
-    → (u : ℕ) → Contains (take (i + 1) xs) u → Contains new u
-more_there xs old new i h before grown last u has =
-    ⊎_elim (λ (t : Contains (take i xs) u). grown_has old new u grown (before u t)) (λ (e : get_or xs i 0 ≡ u). subst (Contains new) e last)
-    (among_more xs i u h has)
 
 pub among_all : (xs : List ℕ) (i u : ℕ) → length xs ≤ i → Contains xs u → Contains (take i xs) u
 among_all xs i u h has = subst (λ l. Contains l u) (sym (take_all i xs h)) has

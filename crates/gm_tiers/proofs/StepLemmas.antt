@@ -1,99 +1,87 @@
--- What one step of a search answers.
-use Rattle.std.proofs.Common.{◌≡◌, ℕ, ◌-◌, ◌<◌, ◌≤◌, inl, inr, true, false, nat_eq, List, [], ◌∷◌, ◌++◌, length, Result, Ok, Err, refl, ap, sym, subst, ◌∙◌}
+-- What one step of a search answers, and that what it has found, or why it has ended, is so.
+use Rattle.std.proofs.Common.{◌≡◌, ℕ, suc, ◌<◌, ◌≤◌, ◌⊎◌, ⊎_elim, inl, inr, true, false, nat_eq, List, [], ◌∷◌, length, Result, Ok, Err, refl, ap, sym, subst, ◌∙◌}
 use Rattle.std.proofs.Common.{arith}
 use Rattle.std.specs.List.{Contains, list_any}
 use Rattle.std.specs.Result.{IsErrAnd, IsErrOf}
 use Rattle.std.proofs.lemmas.Result.{err_from_is_err_and}
-use Rattle.std.proofs.lemmas.Bool.{lt-ltb, le-ltb, le-leb, lt-leb}
+use Rattle.std.proofs.lemmas.Bool.{cases_Bool, cases_lt, lt-ltb, le-ltb, le-leb, lt-leb}
 use Rattle.std.proofs.lemmas.List.Elements.{Contains-append_right}
 use Rattle.gm_game.specs.declared.limits.TheConstants.{TIER_SIZE, TIERS}
 use Rattle.gm_game.specs.Rules.{Rules}
-use Rattle.gm_game.proofs.Lists.{contains_none, contains_first}
+use Rattle.gm_game.proofs.Lists.{contains_none, contains_first, contains_cases}
 use Rattle.gm_tiers.specs.declared.tier_error.TierError.{TierError}
 use Rattle.gm_tiers.specs.declared.tier_error.TierError.TheVariants.{OutOfMemory, TooManyTiers, TierTooLarge}
-use Rattle.gm_tiers.specs.Reach.{IsNext, IsClosed}
-use Rattle.gm_tiers.specs.Search.{comes_to, goes_through, search_of, EndsWith}
-use Rattle.gm_tiers.specs.Limits.{AreWithin, IsTooLarge}
-
--- no value is an error
-pub no_error : {X : Type 0} (A : Type 0) (x : X) (e : TierError) → Ok x ≡ Err e → A
-no_error A x e h = absurd (cc)
-
-pub same_error : {X : Type 0} (d e : TierError) → ◌≡◌ {A = Result X TierError} (Err d) (Err e) → d ≡ e
-same_error d e h = cc
+use Rattle.gm_tiers.specs.Reach.{IsNext, IsGrown}
+use Rattle.gm_tiers.specs.Search.{Search, comes_to, comes_to_all, Answers, EndsWith}
+use Rattle.gm_tiers.specs.Limits.{AreWithin, IsFoundNext, IsTooLarge, HasTooMany}
+use Rattle.gm_tiers.proofs.SearchLemmas.{there, not_there, one_more, next_child, grown_itself, grown_again, grown_has}
 
 -- what the exit of a `?` returns is refused as what it had
-pub passed_on : {T U : Type 0} (r : Result T TierError) (m : Result U TierError) (e why : TierError) → IsErrAnd r (λ y. y ≡ e) → m ≡ Err e → IsErrOf r why →
-    IsErrOf m why
-passed_on r m e why h is k = let p = err_from_is_err_and r h in let same = p.1 ∙ ap (λ y. Err y) p.2 in is ∙ ap (λ y. Err y) (same_error e why (sym same ∙ k))
+pub passed_on : {T U : Type 0} (r : Result T TierError) (m : Result U TierError) (e : TierError) (s t : Search) (f : T → List ℕ) (h : U → List ℕ) →
+    IsErrAnd r (λ y. y ≡ e) → m ≡ Err e → Answers m s h → (EndsWith s e → EndsWith t e) → Answers r t f
+passed_on r m e s t f h err was ans more =
+    let (y, is, same) = err_from_is_err_and r err in subst (λ q. Answers q t f) (sym (is ∙ ap Err same)) (more (subst (λ q. Answers q s h) was ans))
 
--- a tier that is there already
-pub comes_there : (r : Rules) (found : List ℕ) (t : ℕ) → list_any (nat_eq t) found ≡ true → comes_to r (Ok found) t ≡ Ok found
-comes_there r found t h = rw h refl
+pub ends_as : {T : Type 0} (r : Result T TierError) (s : Search) (f : T → List ℕ) (e : TierError) → Answers r s f → IsErrOf r e → EndsWith s e
+ends_as r s f e ans is = subst (λ q. Answers q s f) is ans
 
--- a new tier that is too large
-pub comes_too_large : (r : Rules) (found : List ℕ) (t : ℕ) → list_any (nat_eq t) found ≡ false → TIER_SIZE < r.tier_size t → comes_to r (Ok found) t ≡ Err
-    (TierTooLarge t)
-comes_too_large r found t h large = rw (h, lt-ltb TIER_SIZE (r.tier_size t) large) refl
+-- why a search has ended
+abbrev pub Fails : Rules → ℕ → TierError → Type 0
+Fails r first OutOfMemory = ⊥
+Fails r first TooManyTiers = HasTooMany r first
+Fails r first (TierTooLarge t) = IsTooLarge r first t
 
--- a new tier for which there is no room
-pub comes_too_many : (r : Rules) (found : List ℕ) (t : ℕ) → list_any (nat_eq t) found ≡ false → r.tier_size t ≤ TIER_SIZE → TIERS ≤ length found → comes_to
-    r (Ok found) t ≡ Err TooManyTiers
-comes_too_many r found t h small full = rw (h, le-ltb TIER_SIZE (r.tier_size t) small, le-leb TIERS (length found) full) refl
+-- a search that had found the tiers of the base has found more, and all that is wanted, or has ended
+abbrev pub Comes : Rules → ℕ → List ℕ → (ℕ → Type 0) → Search → Type 0
+Comes r first base D (Ok new) = AreWithin r first new × IsGrown base new × ((u : ℕ) → D u → Contains new u)
+Comes r first base D (Err e) = Fails r first e
 
--- a new tier for which there is room
-pub comes_new : (r : Rules) (found : List ℕ) (t : ℕ) → list_any (nat_eq t) found ≡ false → r.tier_size t ≤ TIER_SIZE → length found < TIERS → comes_to r
-    (Ok found) t ≡ Ok (found ++ t ∷ [])
-comes_new r found t h small room = rw (h, le-ltb TIER_SIZE (r.tier_size t) small, lt-leb TIERS (length found) room) refl
+pub comes_step : (r : Rules) (first : ℕ) (found : List ℕ) (t : ℕ) → AreWithin r first found → IsNext r first found t →
+    Comes r first found (λ u. t ≡ u) (comes_to r (Ok found) t)
+comes_step r first found t within next = ⊎_elim (λ (h : list_any (nat_eq t) found ≡ true).
+    rw h (within, grown_itself found, λ u e. subst (Contains found) e (there found t h)))
+    (λ (h : list_any (nat_eq t) found ≡ false).
+    let is : IsFoundNext r first found t = record { within = within; next = next; fresh = not_there found t h } in
+    ⊎_elim (λ (l : TIER_SIZE < r.tier_size t). rw (h, lt-ltb TIER_SIZE (r.tier_size t) l) (l, found, is))
+    (λ (l : r.tier_size t ≤ TIER_SIZE). ⊎_elim
+    (λ (k : length found < TIERS). rw (h, le-ltb TIER_SIZE (r.tier_size t) l, lt-leb TIERS (length found) k)
+    (one_more r first found t is l k, (t ∷ [], refl), λ u e. Contains-append_right found (t ∷ []) u (subst (Contains (t ∷ [])) e (contains_first t []))))
+    (λ (k : TIERS ≤ length found). rw (h, le-ltb TIER_SIZE (r.tier_size t) l, le-leb TIERS (length found) k)
+    (found, t, is, omega (arith, within.few), l))
+    (cases_lt (length found) TIERS))
+    (cases_lt TIER_SIZE (r.tier_size t))) (cases_Bool (list_any (nat_eq t) found))
 
-pub last_there : (found : List ℕ) (t : ℕ) → Contains (found ++ t ∷ []) t
-last_there found t = Contains-append_right found (t ∷ []) t (contains_first t [])
+comes_weaker : (r : Rules) (first : ℕ) (base : List ℕ) (D E : ℕ → Type 0) (s : Search) → ((u : ℕ) → E u → D u) → Comes r first base D s →
+    Comes r first base E s
+comes_weaker r first base D E (Ok new) h (within, grown, all) = (within, grown, λ u e. all u (h u e))
+comes_weaker r first base D E (Err e) h c = c
 
--- which refusal is which
-pub large_is_large : {X : Type 0} (r : Rules) (first tier t : ℕ) → IsTooLarge r first tier → ◌≡◌ {A = Result X TierError} (Err (TierTooLarge tier))
-    (Err (TierTooLarge t)) → IsTooLarge r first t
-large_is_large r first tier t is h = let same : tier ≡ t = cc in subst (IsTooLarge r first) same is
+comes_on : (r : Rules) (first : ℕ) (base found : List ℕ) (D E : ℕ → Type 0) (s : Search) → IsGrown base found → ((u : ℕ) → D u → Contains found u) →
+    Comes r first found E s → Comes r first base (λ u. D u ⊎ E u) s
+comes_on r first base found D E (Ok new) grown all (within, more, last) =
+    (within, grown_again base found new grown more, λ u. ⊎_elim (λ (d : D u). grown_has found new u more (all u d)) (λ (e : E u). last u e))
+comes_on r first base found D E (Err e) grown all c = c
 
-pub large_is_not_many : {X : Type 0} (A : Type 0) (t : ℕ) → ◌≡◌ {A = Result X TierError} (Err (TierTooLarge t)) (Err TooManyTiers) → A
-large_is_not_many A t h = absurd (cc)
+comes_child : (r : Rules) (first parent : ℕ) (base : List ℕ) (D : ℕ → Type 0) (s : Search) (t : ℕ) → Contains base parent →
+    Contains (r.child_tiers parent) t → Comes r first base D s → Comes r first base (λ u. D u ⊎ (t ≡ u)) (comes_to r s t)
+comes_child r first parent base D (Ok found) t has is (within, grown, all) = comes_on r first base found D (λ u. t ≡ u) (comes_to r (Ok found) t) grown all
+    (comes_step r first found t within (next_child r first found parent t (grown_has base found parent grown has) is))
+comes_child r first parent base D (Err e) t has is c = c
 
-pub many_is_not_large : {X : Type 0} (A : Type 0) (t : ℕ) → ◌≡◌ {A = Result X TierError} (Err TooManyTiers) (Err (TierTooLarge t)) → A
-many_is_not_large A t h = absurd (cc)
+pub comes_all : (r : Rules) (first parent : ℕ) (base : List ℕ) (D : ℕ → Type 0) (s : Search) (ts : List ℕ) → Contains base parent →
+    ((u : ℕ) → Contains ts u → Contains (r.child_tiers parent) u) → Comes r first base D s →
+    Comes r first base (λ u. D u ⊎ Contains ts u) (comes_to_all r s ts)
+comes_all r first parent base D s [] has are c =
+    comes_weaker r first base D (λ u. D u ⊎ Contains [] u) s (λ u. ⊎_elim (λ (d : D u). d) (λ (n : Contains [] u). absurd (contains_none u n))) c
+comes_all r first parent base D s (t ∷ ts) has are c =
+    comes_weaker r first base (λ u. (D u ⊎ (t ≡ u)) ⊎ Contains ts u) (λ u. D u ⊎ Contains (t ∷ ts) u) (comes_to_all r (comes_to r s t) ts)
+    (λ u. ⊎_elim (λ (d : D u). inl (inl d)) (λ (n : Contains (t ∷ ts) u). cases u (contains_cases t u ts n)))
+    (comes_all r first parent base (λ u. D u ⊎ (t ≡ u)) (comes_to r s t) ts has (λ u n. are u (later u n))
+    (comes_child r first parent base D s t has (are t (contains_first t ts)) c))
+  where
+    cases : (u : ℕ) → (t ≡ u) ⊎ Contains ts u → (D u ⊎ (t ≡ u)) ⊎ Contains ts u
+    cases u (inl e) = inl (inr e)
+    cases u (inr n) = inr n
 
-pub memory_is_not_many : {X : Type 0} (A : Type 0) → ◌≡◌ {A = Result X TierError} (Err OutOfMemory) (Err TooManyTiers) → A
-memory_is_not_many A h = absurd (cc)
-
-pub memory_is_not_large : {X : Type 0} (A : Type 0) (t : ℕ) → ◌≡◌ {A = Result X TierError} (Err OutOfMemory) (Err (TierTooLarge t)) → A
-memory_is_not_large A t h = absurd (cc)
-
--- where memory runs out
-pub memory_ends : {X : Type 0} (r : Rules) (found : List ℕ) (t : ℕ) (e : TierError) → ◌≡◌ {A = Result X TierError} (Err OutOfMemory) (Err e) → EndsWith
-    (comes_to r (Ok found) t) e
-memory_ends r found t e h = inl (sym (same_error OutOfMemory e h))
-
-pub memory_out : {X : Type 0} (r : Rules) (first : ℕ) (e : TierError) → ◌≡◌ {A = Result X TierError} (Err OutOfMemory) (Err e) → EndsWith (search_of r first) e
-memory_out r first e h = inl (sym (same_error OutOfMemory e h))
-
--- where a refusal is the one that a step ends with
-pub step_ends : {X : Type 0} (r : Rules) (found : List ℕ) (t : ℕ) (d e : TierError) → comes_to r (Ok found) t ≡ Err d → ◌≡◌ {A = Result X TierError} (Err d)
-    (Err e) → EndsWith (comes_to r (Ok found) t) e
-step_ends r found t d e is h = inr (is ∙ ap Err (same_error d e h))
-
--- a search has found nothing when it begins
-pub within_none : (r : Rules) (first : ℕ) (keys : List ℕ) → keys ≡ [] → AreWithin r first keys
-within_none r first keys e = subst (AreWithin r first) (sym e) record {
-  search = tt;
-  small = λ t has. absurd (contains_none t has);
-  few = omega arith;
-}
-
-pub next_first : (r : Rules) (first : ℕ) (keys : List ℕ) → keys ≡ [] → IsNext r first keys first
-next_first r first keys e = subst (λ ks. IsNext r first ks first) (sym e) refl
-
--- the children of no tier are asked for
-pub closed_none : (r : Rules) (keys : List ℕ) → IsClosed r 0 keys
-closed_none r keys t child has is = absurd (contains_none t has)
-
-pub first_goes : (r : Rules) (first : ℕ) (keys new : List ℕ) → keys ≡ [] → comes_to r (Ok keys) first ≡ Ok new → search_of r first ≡ goes_through r
-    (TIERS - 0) 0 (Ok new)
-first_goes r first keys new e is = ap (goes_through r TIERS 0) (ap (λ ks. comes_to r (Ok ks) first) (sym e) ∙ is)
+    later : (u : ℕ) → Contains ts u → Contains (t ∷ ts) u
+    later u (k, l, e) = (suc k, omega arith, e)

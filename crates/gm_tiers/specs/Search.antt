@@ -41,3 +41,8 @@ search_of r first = goes_through r TIERS 0 (comes_to r (Ok []) first)
 -- an error that is answered is the one that the search ends with, unless memory has run out
 abbrev pub EndsWith : Search → TierError → Type 0
 EndsWith s e = (e ≡ OutOfMemory) ⊎ (s ≡ Err e)
+
+-- a search answers the tiers that are found, or refuses as it ends
+abbrev pub Answers : {T : Type 0} → Result T TierError → Search → (T → List ℕ) → Type 0
+Answers (Ok x) s keys = s ≡ Ok (keys x)
+Answers (Err e) s keys = EndsWith s e

@@ -1,4 +1,4 @@
-//! Wheel: ten numbers, and moves between them that can go round for ever.
+//! Wheel: ten numbers, and moves between them that can go round forever.
 ghost use Rattle.std.specs.Prelude.{◌≡◌, ◌↔◌, ◌<◌, ◌≤◌, ℕ, Some, IsTrue, length};
 ghost use Rattle.std.specs.List.{Contains};
 ghost use Rattle.std.specs.Fmt.{decimal};
@@ -19,11 +19,11 @@ const SIZE: u64 = 10;
 /// The greatest number, which the game starts from.
 const START: u64 = 9;
 
-/// Ten numbers with moves between them, some of which go round for ever: a game with every value. The rules are in docs/GAMES.md.
+/// Ten numbers with moves between them, some of which go round forever: a game with every value. The rules are in docs/GAMES.md.
 #[derive(Drop)]
 pub struct Wheel;
 
-// Where the moves from a number lead.
+// Returns the targets of the moves from a number.
 fn targets(index: u64) -> &'static [u32]
     ensures value { result.now ≡ wheel_targets index }
     ensures few { length result.now ≤ 2 }

@@ -47,7 +47,7 @@ pub fn is_legal_board<const POINTS: u32, T: WayRules<POINTS>>(board: Board<POINT
     }
 }
 
-/// How the last move has ended the game, if it has: the mover has lost where the opponent has a line.
+/// How the last move has ended the game, if it has: the mover has lost if the opponent has a line.
 #[tactic(auto, unfolding(crate::specs::Ways::end_by_last_move))]
 pub fn end_by_last_move<const POINTS: u32, T: WayRules<POINTS>>(board: Board<POINTS>) -> Option<End>
     ensures { result ≡ over_of T.game (board_of POINTS board.entry.mine board.entry.theirs) }

@@ -17,7 +17,7 @@ pub fn are_joined<const POINTS: u32, T: WayRules<POINTS>>(a: u32, c: u32) -> boo
     T::neighbors(a).contains(&c)
 }
 
-// Whether a piece of the mover's stands on the first point, and none on the second.
+// Whether a piece of the mover's is on the first point, and none on the second.
 #[tactic(auto, using(crate::specs::laws::WayFacts::joined_from, crate::specs::laws::WayFacts::joined_to))]
 fn is_open<const POINTS: u32, T: WayRules<POINTS>>(board: Board<POINTS>, from: u32, to: u32) -> bool
     requires { are_joined_of T.game.ways from to ≡ true }
@@ -27,7 +27,7 @@ fn is_open<const POINTS: u32, T: WayRules<POINTS>>(board: Board<POINTS>, from: u
     board.has_mine(from) && board.is_free(to)
 }
 
-// Whether a piece of the opponent's stands on the second point, and none on the first.
+// Whether a piece of the opponent's is on the second point, and none on the first.
 #[tactic(auto, using(crate::specs::laws::WayFacts::joined_from, crate::specs::laws::WayFacts::joined_to))]
 fn is_left<const POINTS: u32, T: WayRules<POINTS>>(board: Board<POINTS>, from: u32, to: u32) -> bool
     requires { are_joined_of T.game.ways from to ≡ true }

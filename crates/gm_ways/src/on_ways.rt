@@ -107,7 +107,7 @@ impl<const POINTS: u32, T: WayRules<POINTS>> MoveRules for WayMoves<POINTS, T> {
         end_by_last_move::<POINTS, T>(board)
     }
 
-    fn end_if_no_move() -> End {
+    fn end_if_no_move(_board: Board<POINTS>) -> End {
         End::Lose
     }
 

@@ -3,6 +3,8 @@ mod asking;
 mod boards;
 mod chain;
 mod countdown;
+mod hare;
+mod lines;
 mod orders;
 mod squares;
 mod stairs;

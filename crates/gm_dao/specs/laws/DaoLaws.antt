@@ -66,6 +66,7 @@ symmetric = record {
   group = permuted_group Empty 16 (square_symmetries 4) legal group (λ b l. (legal_in b l).cells);
   keeps_legal = λ g b c l. image_legal g b c l;
   keeps_over = λ g b c l. image_over g b c (legal_in b l).cells;
+  keeps_stuck = λ g b c l. refl;
   keeps_tier = λ g b c l. refl;
   keeps_move = λ g b m c l h. image_move g b m c (legal_in b l).cells h;
 }

@@ -44,6 +44,10 @@ use Rattle.gm_pong.specs.PongRules.{pong, pong_rules}
 use Rattle.gm_pong.specs.laws.PongTables.{tables as pong_tables}
 use Rattle.gm_shisima.specs.ShisimaRules.{shisima, shisima_rules}
 use Rattle.gm_shisima.specs.laws.ShisimaTables.{tables as shisima_tables}
+use Rattle.gm_tapatan.specs.TapatanRules.{tapatan, tapatan_rules}
+use Rattle.gm_tapatan.specs.laws.TapatanTables.{tables as tapatan_tables}
+use Rattle.gm_dodgem.specs.Dodgem.{dodgem_rules, dodgem_text, dodgem_move, board_text as dodgem_cells}
+use Rattle.gm_dodgem.specs.laws.DodgemLaws.{shown as dodgem_shown}
 use Rattle.gm_hare.specs.declared.hunt.Hunt.{Hunt}
 use Rattle.gm_hare.specs.Board.{hunt_board, hare_rules}
 use Rattle.gm_hare.specs.Texts.{hunt_text, position_text as hare_text}
@@ -51,7 +55,7 @@ use Rattle.gm_hare.specs.laws.TextLaws.{text_at, text_length as hunt_length, tex
 use Rattle.gm_draw.specs.declared.drawn.TheConstants.{DRAWING}
 use Rattle.gm_draw.specs.Templates.{is_slot, drawn_byte, filled, has_slot, has_slots}
 use Rattle.gm_draw.specs.Drawn.{IsDrawn}
-use Rattle.gm_draw.specs.Pictures.{nine_points, dao_board, tactix_board, ring_board, pong_board, hare_board}
+use Rattle.gm_draw.specs.Pictures.{nine_points, dao_board, dodgem_board, tactix_board, ring_board, pong_board, tapatan_board, hare_board}
 use Rattle.gm_draw.specs.Names.{hunt_mover, hare_mover, x_moves, player_moves}
 
 -- ---- templates
@@ -140,6 +144,10 @@ tactix_5 = record { few = omega arith; slots = refl; fits = omega arith }
 pub tactix_template : (s : ℕ) → 1 ≤ s → s ≤ 5 → IsTemplate (s * s) (tactix_board s)
 tactix_template = for_sides (λ s. IsTemplate (s * s) (tactix_board s)) tactix_1 tactix_2 tactix_3 tactix_4 tactix_5
 
+pub dodgem_template : IsTemplate 9 dodgem_board
+unfolding dodgem_board has_slots
+dodgem_template = record { few = omega arith; slots = refl; fits = omega arith }
+
 pub ring_template : IsTemplate 9 ring_board
 unfolding ring_board has_slots
 ring_template = record { few = omega arith; slots = refl; fits = omega arith }
@@ -147,6 +155,10 @@ ring_template = record { few = omega arith; slots = refl; fits = omega arith }
 pub pong_template : IsTemplate 5 pong_board
 unfolding pong_board has_slots
 pong_template = record { few = omega arith; slots = refl; fits = omega arith }
+
+pub tapatan_template : IsTemplate 9 tapatan_board
+unfolding tapatan_board has_slots
+tapatan_template = record { few = omega arith; slots = refl; fits = omega arith }
 
 pub hare_template : IsTemplate 11 hare_board
 unfolding hare_board has_slots
@@ -166,6 +178,13 @@ dao_drawn =
     drawn_by dao_rules dao_text _ x_moves dao_board 16 dao_readable
     (λ p l. (let a = text_length (dao_at p.index) in let b = (legal_dao (dao_at p.index) (legal_board (board_game dao) p l)).cells in a ∙ b))
     dao_template
+
+pub dodgem_long : (b : ℕ) → length (dodgem_cells b) ≡ 9
+unfolding dodgem_cells
+dodgem_long b = refl
+
+pub dodgem_drawn : IsDrawn dodgem_rules (λ p. filled dodgem_board (dodgem_text p)) x_moves
+dodgem_drawn = drawn_by dodgem_rules dodgem_text dodgem_move x_moves dodgem_board 9 dodgem_shown (λ p l. dodgem_long p.index) dodgem_template
 
 pub tactix_drawn : (n : ℕ) (misere : Bool) → IsDrawn (tactix_rules n misere) (λ p. filled (tactix_board (side_of n)) (tactix_text n p)) player_moves
 tactix_drawn n misere =
@@ -200,6 +219,9 @@ pong_drawn = way_drawn 5 pong pong_board pong_tables pong_template
 
 pub shisima_drawn : IsDrawn shisima_rules (λ p. filled ring_board (way_text 9 shisima p)) x_moves
 shisima_drawn = way_drawn 9 shisima ring_board shisima_tables ring_template
+
+pub tapatan_drawn : IsDrawn tapatan_rules (λ p. filled tapatan_board (way_text 9 tapatan p)) x_moves
+tapatan_drawn = way_drawn 9 tapatan tapatan_board tapatan_tables tapatan_template
 
 -- ---- Hare and Hounds: who moves is no part of the board
 name_once : (a b : Bool) → hunt_mover a ≡ hunt_mover b → a ≡ b

@@ -1,6 +1,7 @@
 -- The pictures of the games keep the laws of pictures.
 use Rattle.std.proofs.Common.{◌≡◌, ◌↔◌, ℕ, ◌+◌, ◌*◌, ◌/◌, ◌%◌, ◌<◌, ◌≤◌, min, Bool, true, false, ◌&&◌, if◌then◌else◌, eqb, ltb, ltb-true, List, [], ◌∷◌, ◌++◌}
 use Rattle.std.proofs.Common.{map, length, refl, sym, subst, arith, inl, inr}
+use Rattle.std.proofs.lemmas.Bool.Decides.{nat_tests}
 use Rattle.std.specs.Fmt.{decimal}
 use Rattle.std.specs.List.{Contains, filter, list_all, range_with_len}
 use Rattle.std.proofs.lemmas.Bool.{cases_Bool, cond-true, cond-false}
@@ -48,6 +49,11 @@ use Rattle.gm_pong.specs.PongRules.{pong, pong_rules}
 use Rattle.gm_pong.specs.laws.PongTables.{tables as pong_tables}
 use Rattle.gm_shisima.specs.ShisimaRules.{shisima, shisima_rules}
 use Rattle.gm_shisima.specs.laws.ShisimaTables.{tables as shisima_tables}
+use Rattle.gm_tapatan.specs.TapatanRules.{tapatan, tapatan_rules}
+use Rattle.gm_tapatan.specs.laws.TapatanTables.{tables as tapatan_tables}
+use Rattle.gm_dodgem.specs.Dodgem.{dodgem, dodgem_rules, dodgem_text, dodgem_move, step_text as dodgem_step}
+use Rattle.gm_small.specs.Small.{small_game}
+use Rattle.gm_draw.specs.laws.Drawn.{dodgem_long}
 use Rattle.gm_hare.specs.Board.{are_joined, hunt_board, move_number_bound, hare_and_hounds, hare_rules}
 use Rattle.gm_hare.specs.Texts.{point_name, step_text as hare_step, position_text as hare_text, move_text as hare_move}
 use Rattle.gm_hare.specs.laws.MoveFacts.{move_in as hunt_in, step_below}
@@ -60,14 +66,14 @@ use Rattle.gm_toys.specs.Wheel.{wheel, target_text}
 use Rattle.gm_toys.specs.laws.SubtractionLaws.{legal_in as number_in, legal_from as number_from, range_in}
 use Rattle.gm_toys.specs.laws.WheelLaws.{wheel_legal_in, wheel_legal_from, target_in}
 use Rattle.gm_draw.specs.declared.pictured.Style.TheVariants.{Row, Counters, Stones, Discs, Letters}
-use Rattle.gm_draw.specs.Pictures.{nine_points, dao_board, tactix_board, ring_board, pong_board, hare_board}
+use Rattle.gm_draw.specs.Pictures.{nine_points, dao_board, dodgem_board, tactix_board, ring_board, pong_board, tapatan_board, hare_board}
 use Rattle.gm_draw.specs.Pictured.{IsBoard, IsBoardOf, IsRow, IsPictured}
-use Rattle.gm_draw.specs.Points.{square_points, ring_points, pong_points, hare_points, number_points, countdown_board, takeaway_board, wheel_board, nine_style}
+use Rattle.gm_draw.specs.Points.{square_points, ring_points, pong_points, tapatan_points, hare_points, number_points, countdown_board, takeaway_board, wheel_board, nine_style}
 use Rattle.gm_draw.specs.Points.{IsPointWord}
 use Rattle.gm_draw.specs.Templates.{filled}
 use Rattle.gm_draw.specs.laws.Points.{named_point, one_point, two_points, AreNames, IsPlaced, square_names_3, square_names_4, square_names, ring_names}
-use Rattle.gm_draw.specs.laws.Points.{pong_names, hare_names, countdown_names, takeaway_names, wheel_names, nine_placed, dao_placed, tactix_placed, ring_placed}
-use Rattle.gm_draw.specs.laws.Points.{pong_placed, hare_placed}
+use Rattle.gm_draw.specs.laws.Points.{pong_names, hare_names, countdown_names, takeaway_names, wheel_names, nine_placed, dao_placed, dodgem_placed, tactix_placed, ring_placed}
+use Rattle.gm_draw.specs.laws.Points.{pong_placed, tapatan_names, tapatan_placed, hare_placed}
 
 -- a board with as many places as there are points
 board_with : (r : Rules) (shown : Position → List ℕ) (board : List ℕ) (points : List (List ℕ)) (n : ℕ) → length points ≡ n → IsPlaced board n
@@ -143,6 +149,30 @@ dao_pictured =
       board_is = board_with dao_rules dao_text dao_board (square_points 4) 16 names.many dao_placed
           (λ p l. (let a = text_length (dao_at p.index) in let b = (legal_dao (dao_at p.index) (legal_board (board_game dao) p l)).cells in omega
           (arith, a, b)));
+    }
+
+-- ---- Dodgem
+dodgem_word : (x : Bool) (a c : ℕ) → a < 9 → (x ≡ false → c < 9) → IsPointWord (square_points 3) (cell_text 3 a ++ (if x then [] else 45 ∷ cell_text 3 c))
+unfolding square_points
+dodgem_word true a c l h = one_point (cell_text 3) 9 a l
+dodgem_word false a c l h = two_points (cell_text 3) 9 a c l (h refl)
+
+not_off : (c : ℕ) → c < 10 → eqb c 9 ≡ false → c < 9
+not_off c l e = grind (arith, nat_tests)
+
+dodgem_step_words : (m : ℕ) → m < 90 → IsPointWord (square_points 3) (dodgem_step m)
+unfolding dodgem_step
+dodgem_step_words m l = dodgem_word (eqb (m % 10) 9) (m / 10) (m % 10) (omega arith) (not_off (m % 10) (omega arith))
+
+pub dodgem_pictured : IsPictured dodgem_rules dodgem_text dodgem_move (λ p. filled dodgem_board (dodgem_text p)) Stones dodgem_board (square_points 3)
+dodgem_pictured =
+    let names = square_names_3 in record {
+      few = omega (arith, names.many);
+      named = names.named;
+      apart = names.apart;
+      words = λ p m l c. dodgem_step_words m (move_in (small_game dodgem) p.index m c).below;
+      board_is = board_with dodgem_rules dodgem_text dodgem_board (square_points 3) 9 names.many dodgem_placed
+          (λ p l. (let a = dodgem_long p.index in omega (arith, a)));
     }
 
 -- ---- Tac Tix
@@ -254,6 +284,11 @@ pub shisima_pictured : IsPictured shisima_rules (way_text 9 shisima) (way_move_t
     ring_board ring_points
 unfolding ring_points
 shisima_pictured = way_pictured 9 shisima ring_board ring_points shisima_tables refl ring_names ring_placed
+
+pub tapatan_pictured : IsPictured tapatan_rules (way_text 9 tapatan) (way_move_text tapatan) (λ p. filled tapatan_board (way_text 9 tapatan p)) Discs
+    tapatan_board tapatan_points
+unfolding tapatan_points
+tapatan_pictured = way_pictured 9 tapatan tapatan_board tapatan_points tapatan_tables refl tapatan_names tapatan_placed
 
 -- ---- Hare and Hounds
 abbrev hare_ends : ℕ → Bool

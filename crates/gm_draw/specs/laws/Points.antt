@@ -11,9 +11,9 @@ use Rattle.gm_morris.specs.declared.variant.Variant.{Variant}
 use Rattle.gm_morris.specs.declared.variant.Variant.TheVariants.{TicTacToe, ThreeMens, Achi}
 use Rattle.gm_tactix.specs.laws.SegmentFacts.{for_sides}
 use Rattle.gm_hare.specs.Texts.{point_name}
-use Rattle.gm_draw.specs.Pictures.{nine_points, dao_board, tactix_board, ring_board, pong_board, hare_board}
+use Rattle.gm_draw.specs.Pictures.{nine_points, dao_board, dodgem_board, tactix_board, ring_board, pong_board, tapatan_board, hare_board}
 use Rattle.gm_draw.specs.Pictured.{has_place_once}
-use Rattle.gm_draw.specs.Points.{square_points, ring_name, ring_points, pong_name, pong_points, hare_points, number_points, is_name, are_apart, IsPointWord}
+use Rattle.gm_draw.specs.Points.{square_points, ring_name, ring_points, pong_name, pong_points, tapatan_name, tapatan_points, hare_points, number_points, is_name, are_apart, IsPointWord}
 use Rattle.gm_draw.specs.Templates.{is_slot}
 
 -- ---- names by a function of the point
@@ -73,6 +73,10 @@ pub pong_names : AreNames pong_points 5
 unfolding pong_points
 pong_names = record { many = refl; small = omega arith; named = refl; apart = refl }
 
+pub tapatan_names : AreNames tapatan_points 9
+unfolding tapatan_points
+tapatan_names = record { many = refl; small = omega arith; named = refl; apart = refl }
+
 pub hare_names : AreNames hare_points 11
 unfolding hare_points point_name
 hare_names = record { many = refl; small = omega arith; named = refl; apart = refl }
@@ -99,6 +103,10 @@ nine_placed Achi = record { places = refl; no_more = refl }
 pub dao_placed : IsPlaced dao_board 16
 unfolding dao_board
 dao_placed = record { places = refl; no_more = refl }
+
+pub dodgem_placed : IsPlaced dodgem_board 9
+unfolding dodgem_board
+dodgem_placed = record { places = refl; no_more = refl }
 
 tactix_placed_1 : IsPlaced (tactix_board 1) 1
 unfolding tactix_board
@@ -131,6 +139,10 @@ pub pong_placed : IsPlaced pong_board 5
 unfolding pong_board
 pong_placed = record { places = refl; no_more = refl }
 
+pub tapatan_placed : IsPlaced tapatan_board 9
+unfolding tapatan_board
+tapatan_placed = record { places = refl; no_more = refl }
+
 pub hare_placed : IsPlaced hare_board 11
 unfolding hare_board
 hare_placed = record { places = refl; no_more = refl }
@@ -157,6 +169,13 @@ pong_many = pong_names.many
 pub pong_named : (k : ℕ) → k < 5 → get_or pong_points k [] ≡ pong_name k
 unfolding pong_points
 pong_named k l = get_or-map-range_with_len pong_name 0 5 k k [] l (zero-add k)
+
+pub tapatan_many : length tapatan_points ≡ 9
+tapatan_many = tapatan_names.many
+
+pub tapatan_named : (k : ℕ) → k < 9 → get_or tapatan_points k [] ≡ tapatan_name k
+unfolding tapatan_points
+tapatan_named k l = get_or-map-range_with_len tapatan_name 0 9 k k [] l (zero-add k)
 
 pub hare_many : length hare_points ≡ 11
 hare_many = hare_names.many

@@ -306,6 +306,7 @@ symmetric = record {
   };
   keeps_legal = λ g b c l. image_legal g b l;
   keeps_over = λ g b c l. image_over g b l;
+  keeps_stuck = λ g b c l. refl;
   keeps_tier = λ g b c l. image_tier g b l;
   keeps_move = λ g b m c l h. image_move g b m l h;
 }

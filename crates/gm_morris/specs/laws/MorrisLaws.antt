@@ -109,6 +109,7 @@ symmetric v = record {
   group = permuted_group Empty 9 (square_symmetries 3) (legal v) group (λ b l. (legal_in v b l).cells);
   keeps_legal = λ g b c l. image_legal v g b c l;
   keeps_over = λ g b c l. image_over v g b c (legal_in v b l).cells;
+  keeps_stuck = λ g b c l. refl;
   keeps_tier = λ g b c l. image_pieces g b c (legal_in v b l).cells;
   keeps_move = λ g b m c l h. image_move v g b c (legal_in v b l).cells m h;
 }

@@ -135,6 +135,7 @@ module _ (s : ℕ) (low : 1 ≤ s) (high : s ≤ 5) where
     group = permuted_group false (s * s) (square_symmetries s) (λ b. eqb (length b) (s * s)) group (λ b l. eqb-true _ _ l);
     keeps_legal = λ g b c l. eq-eqb _ _ (image_length false (s * s) (square_symmetries s) group g c b);
     keeps_over = λ g b c l. ap (λ (n : ℕ). if eqb n 0 then Some (if misere then Win else Lose) else None) (image_members g b c (eqb-true _ _ l));
+    keeps_stuck = λ g b c l. refl;
     keeps_tier = λ g b c l. image_members g b c (eqb-true _ _ l);
     keeps_move = λ g b m c l h.
         let x = image_move g b m c (eqb-true _ _ l) h.can in

@@ -43,6 +43,7 @@ module _ (n : ℕ) (g : WayGame) (h : IsWayGame n g) where
     group = permuted_group Empty n g.symmetries (legal n g) (group n g h) (λ b l. (legal_in n g b l).numbers.cells);
     keeps_legal = λ p b c l. image_legal n g h p b c l;
     keeps_over = λ p b c l. image_over n g h p b c (legal_in n g b l).numbers.cells;
+    keeps_stuck = λ p b c l. refl;
     keeps_tier = λ p b c l. refl;
     keeps_move = λ p b m c l k. image_move n g h p b m c (legal_in n g b l).numbers.cells k;
   }

@@ -1,11 +1,8 @@
 //! Progress on standard error: docs/PROGRAM.md.
 use crate::expect::expect_eq;
 use gm_build::progress::Progress;
-use gm_build::watch::Watch;
 use gm_game::position::{Phase, Place};
-use gm_settle::meter::Meter;
-use gm_solver::gate::Gate;
-use gm_solver::source::Source;
+use gm_solver::observer::Observer;
 use std::io::{self, ErrorKind, Write};
 use std::process::Abort;
 use std::sync::Wait;
@@ -57,7 +54,7 @@ impl Write for Lines {
 
 // Delivers eight pairs, each at the next level of wins and losses.
 fn deliver<R: Wait, C: Clock + Sync, E: Write + Send>(rt: &R, progress: &Progress<'_, C, E>) {
-    Watch::begin(progress, rt, 3);
+    progress.begin(rt, 3);
     progress.read(rt, 7);
     progress.solve(rt, 7);
     for level in 0..8 {
@@ -66,9 +63,8 @@ fn deliver<R: Wait, C: Clock + Sync, E: Write + Send>(rt: &R, progress: &Progres
             phase: Phase::WinLose,
             level,
         };
-        Source::begin(progress, rt, 1);
-        progress.before(rt, 0, place);
-        progress.after(rt, 0, place);
+        progress.level(rt, place);
+        progress.delivered(rt, 1);
     }
 }
 
@@ -124,7 +120,7 @@ fn lines_are_told_a_quarter_of_a_second_apart(rt: HostRuntime) {
 // A tier of 2,000 indexes is settled in four blocks.
 fn settle<R: Wait>(rt: &R, clock: &Tenths, errors: &mut Lines) {
     let progress = Progress::new(clock, errors);
-    Watch::begin(&progress, rt, 3);
+    progress.begin(rt, 3);
     progress.read(rt, 7);
     progress.settle(rt, 7, 2000);
     for _ in 0..4 {

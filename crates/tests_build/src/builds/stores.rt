@@ -2,8 +2,8 @@
 use crate::expect::{expect_eq, must};
 use gm_build::build::{Built, build_from};
 use gm_build::build_error::BuildError;
-use gm_build::watch::NoWatch;
 use gm_game::game::Game;
+use gm_solver::observer::NoObserver;
 use gm_solver::plan::Plan;
 use gm_tactix::tactix::TacTix;
 use gm_testing::sources::{TestGate, TestSource};
@@ -30,14 +30,11 @@ fn took<G: Game>(rt: &impl Abort, built: Built<G>) -> (usize, usize, u64, u64) {
 }
 
 // Builds the tiers of a game that one tier reaches, with this gate and source.
-fn built_by<G: Game + Send + Sync, R: Threads + Wait + Files + Sync + AllocGlobal + Abort>(
-    rt: &R,
-    first: u64,
-    store: &mut Flaky<MemStore>,
-    plan: Plan,
-    gate: &TestGate,
-    source: &TestSource,
-) -> Took {
+fn built_by<
+    G: Game + Send + Sync,
+    R: Threads + Wait + Files + Sync + AllocGlobal + Abort,
+    S: Store,
+>(rt: &R, first: u64, store: &mut S, plan: Plan, gate: &TestGate, source: &TestSource) -> Took {
     assert!(rt; store.failures() < u64::MAX);
     match build_from::<G, R, _, _, _, _>(
         rt,
@@ -47,7 +44,7 @@ fn built_by<G: Game + Send + Sync, R: Threads + Wait + Files + Sync + AllocGloba
         plan,
         gate,
         source,
-        &NoWatch,
+        &NoObserver,
     ) {
         Ok(built) => Ok(took(rt, built)),
         Err(error) => Err(error),
@@ -55,14 +52,14 @@ fn built_by<G: Game + Send + Sync, R: Threads + Wait + Files + Sync + AllocGloba
 }
 
 // The same with a gate that does nothing and a source that hands out each piece once.
-fn built<G: Game + Send + Sync, R: Threads + Wait + Files + Sync + AllocGlobal + Abort>(
+fn built<G: Game + Send + Sync, R: Threads + Wait + Files + Sync + AllocGlobal + Abort, S: Store>(
     rt: &R,
     first: u64,
-    store: &mut Flaky<MemStore>,
+    store: &mut S,
 ) -> Took {
     let plan = Plan::new(2, 2, 1).expect(rt, "a plan");
     let source = TestSource::counter();
-    built_by::<G, R>(rt, first, store, plan, &TestGate::Open, &source)
+    built_by::<G, R, S>(rt, first, store, plan, &TestGate::Open, &source)
 }
 
 // Builds a game once for each of these answers, over an empty store of which one call fails.
@@ -73,7 +70,7 @@ fn builds<G: Game + Send + Sync, R: Threads + Wait + Files + Sync + AllocGlobal 
 ) -> Flaky<MemStore> {
     let mut store = Flaky::new(MemStore::new(rt.alloc()), call, call);
     for answer in answers {
-        let took = built::<G, R>(rt, G::initial().tier, &mut store);
+        let took = built::<G, R, _>(rt, G::initial().tier, &mut store);
         expect_eq(rt, took, *answer);
     }
     store
@@ -134,7 +131,7 @@ fn an_old_file_in_memory_is_migrated(rt: HostRuntime) {
         plan,
         &TestGate::Open,
         &TestSource::counter(),
-        &NoWatch,
+        &NoObserver,
     );
     let built = must(&rt, built);
     expect_eq(&rt, (built.solved, built.reused, built.migrated), (0, 0, 1));
@@ -169,6 +166,44 @@ fn a_build_goes_on_where_the_store_failed(rt: HostRuntime) {
     }
 }
 
+// The text of a tier, which a store in memory has.
+fn text_of<R: Files + AllocGlobal + Abort>(rt: &R, store: &mut MemStore, tier: u64) -> Vec<u8> {
+    assert!(rt; store.failures() < u64::MAX);
+    must(rt, store.read(rt, rt.alloc(), tier)).expect(rt, "it has a text")
+}
+
+// Two stores in memory have the same texts of the five tiers.
+fn have_same_texts<R: Files + AllocGlobal + Abort>(
+    rt: &R,
+    one: &mut MemStore,
+    other: &mut MemStore,
+) {
+    for tier in 0..5 {
+        let texts = (text_of(rt, one, tier), text_of(rt, other, tier));
+        expect_eq(rt, texts.0.as_slice(), texts.1.as_slice());
+        drop(texts);
+    }
+}
+
+// What a failed build left in the inner store is built to its end there, without the store round it that failed: the tiers that were done are reused, and the
+// texts are those of a build that nothing stopped.
+#[test]
+fn a_build_goes_on_over_the_inner_store(rt: HostRuntime) {
+    let mut right = MemStore::new(rt.alloc());
+    let built_right = built::<Square, _, _>(&rt, 4, &mut right);
+    expect_eq(&rt, built_right, SOLVED);
+    for call in 1..11 {
+        let done = (call - 1) / 2;
+        let failed = Err(BuildError::StoreFailed { tier: done as u64 });
+        let mut inner = builds::<Square, _>(&rt, call as u64, &[failed]).into_inner();
+        let later = built::<Square, _, _>(&rt, 4, &mut inner);
+        expect_eq(&rt, later, Ok((5 - done, done, LEFT[done], 0)));
+        have_same_texts(&rt, &mut inner, &mut right);
+        drop(inner);
+    }
+    drop(right);
+}
+
 // A build makes ten calls, and one over what it left makes five, since what is reused is read and not written.
 #[test]
 fn a_build_reads_and_writes_each_tier_once(rt: HostRuntime) {
@@ -180,11 +215,11 @@ fn a_build_reads_and_writes_each_tier_once(rt: HostRuntime) {
 #[test]
 fn what_a_tier_rests_on_is_built(rt: HostRuntime) {
     let mut store = Flaky::new(MemStore::new(rt.alloc()), NEVER, NEVER);
-    let low = built::<Stairs<3>, _>(&rt, 1, &mut store);
+    let low = built::<Stairs<3>, _, _>(&rt, 1, &mut store);
     expect_eq(&rt, low, Ok((2, 0, 1, 0)));
     assert!(rt; store.failures() < u64::MAX);
     expect_eq(&rt, store.read(&rt, rt.alloc(), 2), Ok(None));
-    let all = built::<Stairs<3>, _>(&rt, 3, &mut store);
+    let all = built::<Stairs<3>, _, _>(&rt, 3, &mut store);
     expect_eq(&rt, all, Ok((2, 2, 2, 0)));
     drop(store);
 }
@@ -215,13 +250,13 @@ fn asked<G: Game + Send + Sync, R: Threads + Wait + Files + Sync + AllocGlobal +
     let mut store = Flaky::new(MemStore::new(rt.alloc()), NEVER, NEVER);
     let (gate, source) = (TestGate::turnstile(0), TestSource::counter());
     let plan = plan.expect(rt, "a plan");
-    let took = built_by::<G, R>(rt, G::initial().tier, &mut store, plan, &gate, &source);
+    let took = built_by::<G, R, _>(rt, G::initial().tier, &mut store, plan, &gate, &source);
     drop(store);
     (took, source.asked().0, gate.passed().0)
 }
 
 // By a plan of numbers workers solve each tier: the levels of Tac Tix are those of wins and losses up to the greatest remoteness below. By the fastest plan no
-// tier of Tac Tix or Countdown is solved by workers, and so nothing is asked.
+// tier of Tac Tix is solved by workers, and so nothing is asked; Countdown, in which each move stays, is solved by one.
 #[test]
 fn gate_and_source_are_asked_where_workers_deliver(rt: HostRuntime) {
     let (took, levels, passed) = asked::<Square, _>(&rt, Plan::new(2, 2, 1));
@@ -230,6 +265,10 @@ fn gate_and_source_are_asked_where_workers_deliver(rt: HostRuntime) {
     expect_eq(&rt, fastest, (SOLVED, 0, 0));
     let (took, _levels, passed) = asked::<Countdown<10>, _>(&rt, Plan::new(1, 1, 64));
     expect_eq(&rt, (took, passed), (Ok((1, 0, 19, 0)), 19));
-    let fastest = asked::<Countdown<10>, _>(&rt, Plan::fastest(2, 2, 1));
-    expect_eq(&rt, fastest, (Ok((1, 0, 19, 0)), 0, 0));
+    let (took, levels, passed) = asked::<Countdown<10>, _>(&rt, Plan::fastest(2, 2, 1));
+    expect_eq(
+        &rt,
+        (took, levels > 0, passed),
+        (Ok((1, 0, 19, 0)), true, 19),
+    );
 }

@@ -45,6 +45,20 @@ fn board_by_hand(rt: HostRuntime) {
     take_steps::<Countdown<10>, _>(&rt, 6, 1, &ONE_BY_ONE, (1, 0));
 }
 
+// The shards of a tier of one position.
+const EMPTY: [Step; 5] = [
+    (Deed::HasRange(0, 1), 0, (0, 0)),
+    (Deed::HasRange(1, 1), 1, (0, 0)),
+    (Deed::HasRange(1, 1), 2, (0, 0)),
+    (Deed::HasRange(1, 1), 3, (0, 0)),
+    (Deed::Once(Err(Refused::NotMine)), 1, (0, 0)),
+];
+
+#[test]
+fn three_of_four_shards_are_empty(rt: HostRuntime) {
+    take_steps::<Countdown<0>, _>(&rt, 1, 0, &EMPTY, (0, 0));
+}
+
 const CALLS: [Call; 2] = [Call::Deliver, Call::DeliverAt];
 
 // Index 1 has the one move to 0.

@@ -29,6 +29,8 @@ pub enum Call {
 pub enum Deed {
     /// It is delivered to a shard, which answers so.
     Once(Result<Delivery, Refused>),
+    /// Nothing is delivered. The shard has the indexes from the first of these up to the second.
+    HasRange(u64, u64),
     /// It is delivered by a call while another thread holds the lock of shard 0, reads this counter of an index, and waits for the answer: so many
     /// pairs are new.
     Meanwhile(Call, u64, Option<u32>, u64),
@@ -174,6 +176,7 @@ fn take_steps<
             Deed::Once(answer) => {
                 expect_eq(rt, board.deliver(rt, *shard, note, parent, shares), answer);
             }
+            Deed::HasRange(lo, hi) => expect_eq(rt, board.range(*shard), (lo, hi)),
             Deed::Meanwhile(call, index, counter, new) => {
                 let found = run_both(rt, board, shares, index, call, *shard, pair);
                 expect_eq(rt, found, ((counter, true), new));

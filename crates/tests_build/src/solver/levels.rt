@@ -165,6 +165,32 @@ fn level_of_a_child_tier(rt: HostRuntime) {
     drop((shard, expected, tables));
 }
 
+// The tier of 3 has the levels 0 to 3 of wins and losses, each at its place, and the next one is the end of the phase.
+#[test]
+fn levels_of_the_last_stair(rt: HostRuntime) {
+    let mut tables: Tables<Stairs<3>> = Tables::new(rt.alloc());
+    hold(&rt, rt.alloc(), &mut tables, 0, &[(Value::Lose, 0)]);
+    hold(&rt, rt.alloc(), &mut tables, 1, &[(Value::Win, 1)]);
+    hold(&rt, rt.alloc(), &mut tables, 2, &[(Value::Lose, 2)]);
+    let mut shard = must(&rt, begin_whole::<Stairs<3>>(rt.alloc(), 3));
+    let mut expected = Expected::start(3, 0, 1);
+    let mut pairs = 0;
+    for number in 0..5 {
+        let runs = must(&rt, fresh_run(rt.alloc(), &shard));
+        let level = level_here(&rt, rt.alloc(), &shard, runs.as_slice(), &tables);
+        expect_eq(&rt, level.place(), level_of(3, number));
+        expect_eq(&rt, level.last(&tables).is_some(), number == 4);
+        if number < 4 {
+            close_level(&rt, &mut shard, &level, &mut expected);
+        }
+        pairs = expected.number();
+        drop(level);
+        drop(runs);
+    }
+    expect_eq(&rt, pairs, 1);
+    drop((shard, expected, tables));
+}
+
 // The level of a tier without positions.
 #[test]
 fn level_of_an_empty_tier(rt: HostRuntime) {

@@ -4,10 +4,11 @@ use crate::solver::records::{COUNTDOWN, Known, WHEEL, check_table};
 use gm_game::game::Game;
 use gm_game::limits::TIER_SIZE;
 use gm_game::position::Value;
+use gm_solver::gate::Gate;
 use gm_solver::plan::Plan;
 use gm_table::tables::Tables;
 use gm_testing::crews::{Way, solve_by};
-use gm_testing::sources::{TestGate, TestSource};
+use gm_testing::sources::TestSource;
 use std::process::Abort;
 use std::sync::Wait;
 use std::thread::Threads;
@@ -56,12 +57,12 @@ pub const TOP: Truth = Truth {
 };
 
 /// A tier whose child tiers are held is solved in a way, by this many workers and shards with this many notes in a piece, and this many deliveries are by hand.
-pub fn solves_tier<G: Game + Send + Sync, R: Threads + Wait + Sync + AllocGlobal + Abort>(
+pub fn solves_tier<G: Game + Send + Sync, R: Threads + Wait + Sync + AllocGlobal + Abort, T: Gate>(
     rt: &R,
     tables: &Tables<G>,
     tier: u64,
     (way, workers, shards, piece): (Way, usize, usize, usize),
-    gate: &TestGate,
+    gate: &T,
     source: &TestSource,
     truth: Truth,
     by_hand: u64,
@@ -80,10 +81,10 @@ pub fn solves_tier<G: Game + Send + Sync, R: Threads + Wait + Sync + AllocGlobal
 }
 
 /// The same of a game of one tier.
-pub fn solves<G: Game + Send + Sync, R: Threads + Wait + Sync + AllocGlobal + Abort>(
+pub fn solves<G: Game + Send + Sync, R: Threads + Wait + Sync + AllocGlobal + Abort, T: Gate>(
     rt: &R,
     how: (Way, usize, usize, usize),
-    gate: &TestGate,
+    gate: &T,
     source: &TestSource,
     truth: Truth,
     by_hand: u64,

@@ -7,11 +7,12 @@ use gm_game::limits::TIER_SIZE;
 use gm_game::position::Value;
 use gm_solver::alone::solve_alone;
 use gm_solver::error::SolveError;
+use gm_solver::gate::{Gate, NoGate};
 use gm_solver::plan::Plan;
 use gm_table::tables::Tables;
 use gm_tactix::tactix::TacTix;
 use gm_testing::crews::{Way, solve_by};
-use gm_testing::sources::{Habit, TestGate, TestSource};
+use gm_testing::sources::{Habit, TestGate, TestSource, Together};
 use gm_toys::chain::Chain;
 use gm_toys::countdown::Countdown;
 use gm_toys::stairs::Stairs;
@@ -39,7 +40,7 @@ fn check_workers<G: Game + Send + Sync, R: Threads + Wait + Sync + AllocGlobal +
     for shards in SHARDS {
         for piece in [1, 64] {
             let how = (way, workers, shards, piece);
-            solves::<G, R>(rt, how, &TestGate::Open, &source, truth, 0);
+            solves::<G, R, _>(rt, how, &TestGate::Open, &source, truth, 0);
         }
     }
 }
@@ -62,16 +63,16 @@ fn toys_under_nine_plans(rt: HostRuntime) {
     check_plans::<Wheel, _>(&rt, ROUND);
 }
 
-// A game by sources of these habits, each with how many deliveries then are by hand.
-fn by_habit<G: Game + Send + Sync, R: Threads + Wait + Sync + AllocGlobal + Abort>(
+// A game by sources of these habits with a gate, each with how many deliveries then are by hand.
+fn by_habit<G: Game + Send + Sync, R: Threads + Wait + Sync + AllocGlobal + Abort, T: Gate>(
     rt: &R,
+    gate: &T,
     truth: Truth,
     cases: &[(Way, Habit, u64)],
 ) {
     for (way, habit, by_hand) in cases {
         let source = TestSource::of(*habit);
-        let how = (*way, 2, 2, 1);
-        solves::<G, R>(rt, how, &TestGate::Open, &source, truth, *by_hand);
+        solves::<G, R, T>(rt, (*way, 2, 2, 1), gate, &source, truth, *by_hand);
     }
 }
 
@@ -96,8 +97,34 @@ const HABITS_OF_WHEEL: &[(Way, Habit, u64)] = &[
 
 #[test]
 fn sources_of_every_habit(rt: HostRuntime) {
-    by_habit::<Ten, _>(&rt, TEN, HABITS);
-    by_habit::<Wheel, _>(&rt, ROUND, HABITS_OF_WHEEL);
+    by_habit::<Ten, _, _>(&rt, &TestGate::Open, TEN, HABITS);
+    by_habit::<Wheel, _, _>(&rt, &TestGate::Open, ROUND, HABITS_OF_WHEEL);
+}
+
+// Whole pieces are lost, repeated and walked twice.
+#[test]
+fn sources_of_every_habit_without_a_gate(rt: HostRuntime) {
+    by_habit::<Ten, _, _>(&rt, &NoGate, TEN, HABITS);
+    by_habit::<Wheel, _, _>(&rt, &NoGate, ROUND, HABITS_OF_WHEEL);
+}
+
+// Each habit with how often the gate is called before deliveries, and as often after them. The levels 1, 3 and 5 have two notes, with two pairs each: a source that
+// always names the first of them has it walked four times, and one that gives each number twice has both walked twice.
+const PASSED: [(Habit, usize, u64); 5] = [
+    (Habit::Once, 19, 0),
+    (Habit::Silent, 0, 19),
+    (Habit::Always(0), 31, 6),
+    (Habit::Twice, 31, 0),
+    (Habit::Odd, 6, 13),
+];
+
+#[test]
+fn gate_is_called_for_each_delivery_of_a_piece(rt: HostRuntime) {
+    for (habit, passed, by_hand) in PASSED {
+        let gate = Together::new();
+        by_habit::<Ten, _, _>(&rt, &gate, TEN, &[(Way::Pieces, habit, by_hand)]);
+        expect_eq(&rt, gate.passed(), (passed, passed));
+    }
 }
 
 // Each way with the level at which two workers wait for each other: by passes both have pairs at level 3.
@@ -106,7 +133,7 @@ fn two_workers_meet(rt: HostRuntime) {
     for (way, level) in [(Way::Pieces, 1), (Way::Passes, 3)] {
         let gate = TestGate::meeting(level);
         let source = TestSource::of(Habit::Own);
-        solves::<Ten, _>(&rt, (way, 2, 2, 1), &gate, &source, TEN, 0);
+        solves::<Ten, _, _>(&rt, (way, 2, 2, 1), &gate, &source, TEN, 0);
         expect(&rt, gate.met(&rt));
     }
 }
@@ -125,7 +152,7 @@ fn gate_is_called_for_each_delivery(rt: HostRuntime) {
     for (way, piece, turns) in TURNS {
         let gate = TestGate::turnstile(turns);
         let source = TestSource::counter();
-        solves::<Ten, _>(&rt, (way, 2, 2, piece), &gate, &source, TEN, 0);
+        solves::<Ten, _, _>(&rt, (way, 2, 2, piece), &gate, &source, TEN, 0);
         expect_eq(&rt, gate.passed(), (19, 19));
     }
 }
@@ -164,7 +191,7 @@ fn one_seat_serves_all_workers(rt: HostRuntime) {
 fn a_long_chain(rt: HostRuntime) {
     let source = TestSource::counter();
     for way in WAYS {
-        solves::<Chain<4096>, _>(&rt, (way, 2, 2, 1), &TestGate::Open, &source, LONG, 0);
+        solves::<Chain<4096>, _, _>(&rt, (way, 2, 2, 1), &TestGate::Open, &source, LONG, 0);
     }
 }
 
@@ -173,7 +200,7 @@ fn shards_without_positions(rt: HostRuntime) {
     let source = TestSource::counter();
     for way in WAYS {
         let how = (way, 2, 4, 1);
-        solves::<Countdown<0>, _>(&rt, how, &TestGate::Open, &source, NOTHING, 0);
+        solves::<Countdown<0>, _, _>(&rt, how, &TestGate::Open, &source, NOTHING, 0);
     }
 }
 

@@ -30,7 +30,7 @@ pub(crate) fn file_of_countdown() -> &'static [u8] {
     &FILE
 }
 
-/// The bytes from one place to another; none where there are no such places.
+/// The bytes from one place to another; none if there are no such places.
 pub(crate) fn part(bytes: &[u8], from: usize, to: usize) -> &[u8] {
     bytes.get(from..to).unwrap_or(&[])
 }

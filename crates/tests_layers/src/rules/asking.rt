@@ -37,7 +37,7 @@ pub fn has_size_and_rank<G: Game>(tier: u64, size: u64, rank: u64) -> bool {
     G::tier_size(tier) == size && G::tier_rank(tier) == rank
 }
 
-/// What looking this many moves ahead finds for a position; none where it is not legal.
+/// What looking this many moves ahead finds for a position; none if it is not legal.
 pub fn looked_ahead<G: Game>(p: Position, moves: u32) -> Option<Solved> {
     if G::is_legal(p) {
         within::<G>(p, moves)
@@ -133,7 +133,7 @@ pub fn reads_none<G: Shown>(texts: &[&[u8]]) -> bool {
     true
 }
 
-/// The move that this text is read as at a position, and whose text it is; none where there is none, and where the position is not legal.
+/// The move that this text is read as at a position, and whose text it is; none if there is none, and where the position is not legal.
 pub fn move_at<G: Shown>(p: Position, text: &[u8]) -> Option<u32> {
     if !G::is_legal(p) {
         return None;

@@ -12,6 +12,6 @@ returns-clause-answered g c = elim c.match-asked.branch [
   | in-Search w ↦ rw (w.in-Search.is, w.output-is, w.result-is) w.search.ensures
   | in-Analyse w ↦ rw (w.in-Analyse.is, w.output-is, w.result-is) w.analyse.ensures
   | in-Check w ↦ rw (w.in-Check.is, w.output-is, w.result-is) w.check.ensures
-  | in-Play w ↦ rw w.in-Play.is tt
+  | in-Play w ↦ rw (w.in-Play.is, w.output-is, w.result-is) w.play.ensures
   | in-Naming w ↦ rw w.in-Naming.is tt
 ]

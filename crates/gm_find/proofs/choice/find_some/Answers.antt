@@ -1,16 +1,19 @@
 use Rattle.std.proofs.Common.{sym, subst}
 use Rattle.std.specs.List.{All}
-use Rattle.std.proofs.lemmas.Result.{IfOk-weaker}
-use Rattle.gm_find.specs.declared.found.Found.{Found}
-use Rattle.gm_find.specs.Founds.{IsFound}
-use Rattle.gm_find.specs.Samples.{IsSample}
+use Rattle.std.specs.Option.{is_some}
+use Rattle.gm_game.specs.declared.position.Position.{Position}
+use Rattle.gm_find.specs.Founds.{IsKnownAt}
 use Rattle.gm_find.proofs.Picking.{picked_all}
+use Rattle.gm_find.proofs.Telling.{all_known}
 use Rattle.gm_find.proofs.choice.find_some.Goals as goal
 
-pub returns-in_ok-all-in-Random-clause-each : goal.returns-in_ok-all-in-Random-clause-each
-returns-in_ok-all-in-Random-clause-each g c =
-    let P : Found → Type 0 = IsFound g.G.Game.rules in
-    let all = c.as_slice.result.now in
-    let each = subst (All P) (sym c.as_slice.ensures.value) c.in_ok-all-in-Random.ensures.each in
-    IfOk-weaker c.sample_of.result (λ v. IsSample c.in-Random.number all v.items) (λ v. All P v.items) (λ v s. picked_all P all v.items s.picked each)
-    c.sample_of.ensures
+pub look_up-requires : goal.look_up-requires
+look_up-requires g c =
+    let r = g.G.Game.rules in
+    let known = c.args.known.now in
+    let P : Position → Type 0 = IsKnownAt r known.tables.now in
+    let each = all_known r known.tables.now c.args.sought (is_some c.args.reached) _ known.tiers.now c.in_ok-all-in-Random.all.items known.held
+    c.in_ok-all-in-Random.ensures in
+    subst (All P) (sym c.as_slice-in-Random.ensures.value)
+    (picked_all P c.as_slice.result.now c.in_ok-some-in-Random.some.items c.in_ok-some-in-Random.ensures.picked
+    (subst (All P) (sym c.as_slice.ensures.value) each))

@@ -1,6 +1,6 @@
 use Rattle.std.specs.Option.{is_some}
 use Rattle.gm_best.proofs.Held.{held_own}
-use Rattle.gm_find.proofs.Matching.{line_left, fitting}
+use Rattle.gm_find.proofs.Matching.{fitting}
 use Rattle.gm_find.proofs.positions.is_sought.Goals as goal
 
 pub record-requires : goal.record-requires

@@ -1,8 +1,7 @@
-use Rattle.std.proofs.Common.{◌++◌, ◌∷◌, [], List, get_or, take, length, None, sym, ap, ◌∙◌, subst, arith, length-append}
+use Rattle.std.proofs.Common.{◌++◌, ◌∷◌, [], List, get_or, take, length, sym, ap, ◌∙◌, subst, arith, length-append}
 use Rattle.std.proofs.lemmas.List.{take_more}
-use Rattle.gm_game.specs.declared.position.Value.TheVariants.{Win}
+use Rattle.gm_game.specs.declared.position.Position.{Position}
 use Rattle.gm_game.specs.Rules.{at}
-use Rattle.gm_find.specs.declared.found.Found.{Found}
 use Rattle.gm_find.specs.Samples.{ArePicked}
 use Rattle.gm_find.proofs.Picking.{picked_skip, picked_push}
 use Rattle.gm_find.proofs.sample.sample_of.Goals as goal
@@ -10,7 +9,7 @@ use Rattle.gm_find.proofs.sample.sample_of.Goals.{then-number_below-wanted+in_ok
 
 pub loop-place-preserved : goal.loop-place-preserved
 loop-place-preserved c =
-    let items = c.args.found.now in
+    let items = c.args.positions.now in
     let k = c.loop-place.place in
     let old = c.loop-place.chosen.items in
     let before = c.loop-place.invariant in
@@ -26,7 +25,7 @@ loop-place-preserved c =
           let less = w.wanted-is in
           let drawn = w.if-number_below-wanted.true in
           record {
-            picked = subst (λ (xs : List Found). ArePicked xs c.if-number_below-wanted.chosen.items) (sym (take_more items k _ inside))
+            picked = subst (λ (xs : List Position). ArePicked xs c.if-number_below-wanted.chosen.items) (sym (take_more items k _ inside))
                 (subst (ArePicked (take k items ++ _ ∷ [])) (sym grown) more);
             many = omega arith;
             room = omega arith;
@@ -36,11 +35,10 @@ loop-place-preserved c =
           let long = ap length same in
           let kept = w.wanted-is in
           let drawn = w.if-number_below-wanted.false in
-          let some : Found = record { position = at 0 0; value = record { value = Win; remoteness = 0 }; best = None; moves = 0 } in
-          let x = get_or items k some in
+          let x = get_or items k (at 0 0) in
           let skipped = subst (ArePicked (take k items ++ x ∷ [])) (sym same) (picked_skip (take k items) old x before.picked) in
           record {
-            picked = subst (λ (xs : List Found). ArePicked xs c.if-number_below-wanted.chosen.items) (sym (take_more items k some inside)) skipped;
+            picked = subst (λ (xs : List Position). ArePicked xs c.if-number_below-wanted.chosen.items) (sym (take_more items k (at 0 0) inside)) skipped;
             many = omega arith;
             room = omega arith;
           })

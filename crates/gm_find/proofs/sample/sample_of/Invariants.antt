@@ -4,7 +4,7 @@ use Rattle.gm_find.proofs.sample.sample_of.Given as goal
 
 abbrev pub invariant-loop-place : goal.invariant-loop-place
 invariant-loop-place l = record {
-  picked : ArePicked (take l.place l.found) l.chosen.items;
-  many : length l.chosen.items + l.wanted ≡ min l.number (length l.found);
-  room : l.wanted ≤ length l.found - l.place;
+  picked : ArePicked (take l.place l.positions) l.chosen.items;
+  many : length l.chosen.items + l.wanted ≡ min l.number (length l.positions);
+  room : l.wanted ≤ length l.positions - l.place;
 }

@@ -9,7 +9,7 @@ use Rattle.gm_play.specs.Sessions.{ReadsByte, AppendsPart, Says}
 use Rattle.gm_best.proofs.Reaching.{held_from, reached_reached}
 use Rattle.gm_play.proofs.Knowing.{known_from}
 use Rattle.gm_play.proofs.Kept.{kept_push, kept_full, heard, closed}
-use Rattle.gm_play.proofs.Talk.{begins, over_at_once, cut_at_once, goes_on, next_line, last_line, input_ends, read_fails, close_fails, reply_fails, too_long}
+use Rattle.gm_play.proofs.Talk.{broken_output, begins, over_at_once, cut_at_once, goes_on, next_line, last_line, input_ends, read_fails, close_fails, reply_fails, too_long}
 use Rattle.gm_play.proofs.session.converse.Goals as goal
 use Rattle.gm_play.proofs.session.converse.Goals.{then-byte-eq10+in-Ok-Some-reply, else-byte-eq10+then-not-is_full, else-byte-eq10+else-not-is_full}
 
@@ -28,8 +28,14 @@ returns-in-Ok-None-clause-ok g c k known =
     c.in-Ok-None.field-0-is (c.in-Ok-None.ensures.ok k known))
 
 pub returns-in-Err-clause-err : goal.returns-in-Err-clause-err
-returns-in-Err-clause-err g c k known = cut_at_once g.G.Game.rules g.G.Shown.shown g.G.Shown.move_shown k g.V.View.seen c.args.start.now.position
-    c.args.first _ _ _ (c.in-Err.ensures.err k known)
+returns-in-Err-clause-err g c k known =
+    let r = g.G.Game.rules in
+    let s = g.G.Shown.shown in
+    let m = g.G.Shown.move_shown in
+    let v = g.V.View.seen in
+    let start = c.args.start.now.position in
+    broken_output r s m k v start c.args.first c.of_session.result _ _ _ _ c.of_session.ensures
+    (cut_at_once r s m k v start c.args.first _ _ _ (c.in-Err.ensures.err k known))
 
 pub loop-count-init : goal.loop-count-init
 loop-count-init g c =
@@ -102,8 +108,9 @@ returns-in-Err-close-clause-err g c k known =
     ap (closing r s m k v asked) (c.deref.ensures.0 ∙ talk.keeps) ∙ closed r s m g.met.G.Shown.readable k v asked c.loop-count.invariant.reached.0 talk.line in
     let w1 = g.W.Write.contents c.loop-count.output in
     let w2 = g.W.Write.contents c.close.new.output in
-    close_fails r s m k v start first talk _ w2 reads.0 c.loop-count.invariant.few
-    (subst (λ (t : List ℕ). AppendsPart w1 w2 t) same (c.in-Err-close.ensures.err k there))
+    broken_output r s m k v start first c.of_session-in-Err-close.result _ _ _ _ c.of_session-in-Err-close.ensures
+    (close_fails r s m k v start first talk _ w2 reads.0 c.loop-count.invariant.few
+    (subst (λ (t : List ℕ). AppendsPart w1 w2 t) same (c.in-Err-close.ensures.err k there)))
 
 pub returns-in-Err-read_byte-clause-err : goal.returns-in-Err-read_byte-clause-err
 returns-in-Err-read_byte-clause-err g c k known =
@@ -159,9 +166,10 @@ returns-in-Err-reply-clause-err g c k known =
     c.loop-count.invariant.reached.0 talk.line in
     let w1 = g.W.Write.contents c.loop-count.output in
     let w2 = g.W.Write.contents c.reply.new.output in
-    reply_fails r s m k v start first talk _ w2 c.in-Ok-Some-read_byte.byte reads (eq-eqb _ _ c.if-byte-eq10.true)
+    broken_output r s m k v start first c.of_session-in-Err-reply.result _ _ _ _ c.of_session-in-Err-reply.ensures
+    (reply_fails r s m k v start first talk _ w2 c.in-Ok-Some-read_byte.byte reads (eq-eqb _ _ c.if-byte-eq10.true)
     (one_below _ _ c.loop-count.invariant.few c.if-count-eq-SESSION_BYTES.false)
-    (subst (λ (t : Said). AppendsPart w1 w2 t.text) same (c.in-Err-reply.ensures.err k there))
+    (subst (λ (t : Said). AppendsPart w1 w2 t.text) same (c.in-Err-reply.ensures.err k there)))
 
 pub loop-count-preserved : goal.loop-count-preserved
 loop-count-preserved g c =

@@ -1,7 +1,7 @@
-use Rattle.std.proofs.Common.{None, Some, refl, sym, subst, ◌∙◌}
+use Rattle.std.proofs.Common.{Some, refl, sym, subst, ◌∙◌}
 use Rattle.gm_game.specs.declared.position.Position.{Position}
 use Rattle.gm_best.specs.BestMoves.{IsBestMove}
-use Rattle.gm_play.proofs.Exchanging.{with_answer, without_answer}
+use Rattle.gm_play.proofs.Exchanging.{with_answer}
 use Rattle.gm_play.proofs.why.exchange_after.Goals as goal
 
 pub returns-in-Some-clause-exchange : goal.returns-in-Some-clause-exchange

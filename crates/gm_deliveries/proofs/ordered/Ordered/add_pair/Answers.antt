@@ -1,12 +1,8 @@
-use Rattle.std.proofs.Common.{ℕ, ◌-◌, ◌<◌, ◌≤◌, length, sym, subst, ◌∙◌, arith, length-set, refl}
-use Rattle.gm_game.specs.Rules.{Rules}
+use Rattle.std.proofs.Common.{ℕ, ◌-◌, ◌<◌, ◌≤◌, length, sym, subst, arith, length-set}
 use Rattle.gm_deliveries.specs.State.{ShardState}
-use Rattle.gm_deliveries.specs.Ordered.{state_by}
-use Rattle.gm_deliveries.specs.Good.{IsKept}
 use Rattle.gm_deliveries.specs.Steps.{CanDeliver}
 use Rattle.gm_deliveries.proofs.StepLemmas.{within_after}
 use Rattle.gm_deliveries.proofs.OrderedLemmas.{place_left, place_statuses, can_fall, can_rise, kept_seen, shown_more}
-use Rattle.gm_deliveries.proofs.ordered.Ordered.add_pair.Given.{Over}
 use Rattle.gm_deliveries.proofs.ordered.Ordered.add_pair.Goals as goal
 
 pub overflow_sub-k : goal.overflow_sub-k

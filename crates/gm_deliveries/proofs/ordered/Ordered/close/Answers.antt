@@ -1,4 +1,4 @@
-use Rattle.std.proofs.Common.{ℕ, ◌≤◌, length, ap, subst, sym}
+use Rattle.std.proofs.Common.{◌≤◌, length, ap, subst, sym}
 use Rattle.gm_game.specs.declared.limits.TheConstants.{REMOTENESS}
 use Rattle.gm_deliveries.specs.State.{ShardState}
 use Rattle.gm_deliveries.specs.Ordered.{state_by}

@@ -1,4 +1,4 @@
-use Rattle.std.proofs.Common.{◌≡◌, ◌==◌, ◌∙◌, Bool}
+use Rattle.std.proofs.Common.{◌≡◌, ◌==◌, Bool}
 use Rattle.gm_deliveries.specs.Delivery.{next_status, is_settling}
 use Rattle.gm_deliveries.proofs.StepLemmas.{Step, room_above, next_is, settling_is, next_after, can_settle, can_stay, settled_now, out_fresh}
 use Rattle.gm_deliveries.proofs.OrderedLemmas.{step_new}

@@ -1,4 +1,4 @@
-use Rattle.std.proofs.Common.{◌∙◌, ◌≡◌, ℕ, ◌+◌, ◌≤◌, [], List, length, ap, sym, subst}
+use Rattle.std.proofs.Common.{◌∙◌, ◌+◌, ◌≤◌, length, ap, subst}
 use Rattle.gm_game.specs.declared.limits.TheConstants.{TIER_SIZE}
 use Rattle.gm_deliveries.specs.State.{ShardState}
 use Rattle.gm_deliveries.specs.Good.{IsGood}

@@ -79,6 +79,8 @@ returns-clause-step g c =
     record {
       old = c.self.inside.shard;
       new = c.deliver_new-answer.new.self;
+      old_good = c.range-before.ensures.good;
+      new_good = c.range-after.ensures.good;
       old_spot = c.self.invariant.0;
       new_spot = stays r c.args.note.now c.args.parent c.self.inside.shard c.deliver_new-answer.new.self c.deliver_new-answer.result d ∙ c.self.invariant.0;
       old_round = subst (IsRound pairs g.L.PassLedger.base c.self.inside.shard) (sym same) c.self.invariant.2;

@@ -1,27 +1,7 @@
-use Rattle.std.proofs.lemmas.Result.{IfOk-from_err}
 use Rattle.std.proofs.Common.{length}
-use Rattle.gm_shard.proofs.FillLemmas.{first_emptied, first_queues}
+use Rattle.gm_deliveries.proofs.MaskedLemmas.{tells_none}
 use Rattle.gm_shard.proofs.shard.Shard.begin.Goals as goal
 
-pub returns-in_err-children : goal.returns-in_err-children
-returns-in_err-children g c = IfOk-from_err c.from_residual.result _ c.from_residual.ensures.0
-
-pub returns-in_err-wins : goal.returns-in_err-wins
-returns-in_err-wins g c = IfOk-from_err c.from_residual-in_err-wins.result _ c.from_residual-in_err-wins.ensures.0
-
-pub returns-in_err-ties : goal.returns-in_err-ties
-returns-in_err-ties g c = IfOk-from_err c.from_residual-in_err-ties.result _ c.from_residual-in_err-ties.ensures.0
-
-pub ended-requires : goal.ended-requires
-ended-requires g c = first_emptied c.in_ok-children.children c.args.tier c.args.lo (length c.args.starts.now) c.in_ok-children.ensures
-
-pub ended-requires-2 : goal.ended-requires-2
-ended-requires-2 g c = first_emptied c.in_ok-children.children c.args.tier c.args.lo (length c.args.starts.now) c.in_ok-children.ensures
-
 pub invariant_of-result : goal.invariant_of-result
-invariant_of-result g c =
-    first_queues g.G.Game.rules c.in_ok-children.children c.args.tier c.args.lo (length c.args.starts.now)
-    c.in_ok-wins.wins c.in_ok-ties.ties c.in_ok-children.ensures c.in_ok-wins.ensures c.in_ok-ties.ensures
-
-pub returns : goal.returns
-returns g c = c.in_ok-children.ensures
+invariant_of-result g c = tells_none g.G.Game.rules c.args.tier c.args.lo (length c.args.starts.now) c.in_ok-order.order c.in_ok-masks.masks.items
+    c.in_ok-order.ensures (c.in_ok-masks.ensures.items_if_clones_equal (λ y e. e))

@@ -1,0 +1,3 @@
+pub mod Chess
+pub mod Rows
+pub mod laws

@@ -1,0 +1,10 @@
+-- What follows from the rules.
+pub mod SquareFacts
+pub mod MenFacts
+pub mod Numbering
+pub mod Few
+pub mod Moves
+pub mod Images
+pub mod Texts
+pub mod RowFacts
+pub mod ChessLaws

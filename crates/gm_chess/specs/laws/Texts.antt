@@ -1,0 +1,159 @@
+-- Texts are plain, fit a line, and tell boards and moves apart.
+use Rattle.std.specs.Prelude.{◌≡◌, ◌≢◌, ◌+◌, ◌<◌, ◌≤◌, ◌*◌, ◌/◌, ◌%◌, ◌-◌, ◌∷◌, ◌&&◌, if◌then◌else◌, slice_index}
+use Rattle.gm_pieces.specs.Common.{ℕ, zero, suc, Bool, true, false, eqb, eqb-true, eq-eqb, List, [], length, refl, sym, ap, ◌∙◌, arith, inl, inr, cases_Bool}
+use Rattle.gm_pieces.specs.Common.{true≢false, and_both, cond_both, list_all, is_plain, IsPlain, IsMove, AreTexts}
+use Rattle.gm_game.proofs.PlainTexts.{plain_in}
+use Rattle.gm_chess.specs.declared.men.Men.{Men}
+use Rattle.gm_chess.specs.Chess.{legal, man, from_square, to_square, piece_char, man_char, board_text, step_text, square_in, told, ending}
+use Rattle.gm_chess.specs.laws.MenFacts.{IsLegal, legal_in, same_men, move_in, from_below, to_below}
+use Rattle.gm_chess.specs.laws.Moves.{same_number}
+use Rattle.gm_chess.specs.laws.Images.{man_small}
+
+-- ---- bounds
+pub king_below : (q : Bool) (b : Men) → legal q b ≡ true → b.king < 64
+king_below q b l = (legal_in q b l).king
+
+pub foe_below : (q : Bool) (b : Men) → legal q b ≡ true → b.foe < 64
+foe_below q b l = (legal_in q b l).foe
+
+pub piece_below : (q : Bool) (b : Men) → legal q b ≡ true → b.piece ≢ 64 → b.piece < 64
+piece_below q b l n = ((legal_in q b l).armed n).below
+
+-- ---- the bytes of a text
+abbrev side_char : Bool → ℕ
+side_char white_moves = if white_moves then 119 else 98
+
+abbrev bare_text : Men → List ℕ
+bare_text b =
+    75 ∷ (97 + b.king % 8) ∷ (49 + b.king / 8) ∷ 32 ∷ 107 ∷ (97 + b.foe % 8) ∷ (49 + b.foe / 8) ∷ 32 ∷ side_char b.white_moves ∷ []
+
+abbrev armed_text : Bool → Men → List ℕ
+armed_text q b =
+    75 ∷ (97 + b.king % 8) ∷ (49 + b.king / 8) ∷ 32 ∷ piece_char q ∷ (97 + b.piece % 8) ∷ (49 + b.piece / 8) ∷ 32 ∷ 107 ∷ (97 + b.foe % 8)
+    ∷ (49 + b.foe / 8) ∷ 32 ∷ side_char b.white_moves ∷ []
+
+bare_by : (q : Bool) (b : Men) → eqb b.piece 64 ≡ true → board_text q b ≡ bare_text b
+unfolding board_text
+bare_by q b e = rw e refl
+
+armed_by : (q : Bool) (b : Men) → eqb b.piece 64 ≡ false → board_text q b ≡ armed_text q b
+unfolding board_text
+armed_by q b e = rw e refl
+
+apart : (p : ℕ) → p ≢ 64 → eqb p 64 ≡ false
+apart p n = elim (cases_Bool (eqb p 64)) [ inl e ↦ absurd (n (eqb-true p 64 e)) | inr e ↦ e ]
+
+pub bare_is : (q : Bool) (b : Men) → b.piece ≡ 64 → board_text q b ≡ bare_text b
+bare_is q b e = bare_by q b (eq-eqb _ _ e)
+
+pub armed_is : (q : Bool) (b : Men) → b.piece ≢ 64 → board_text q b ≡ armed_text q b
+armed_is q b n = armed_by q b (apart b.piece n)
+
+-- ---- plain
+file_plain : (s : ℕ) → is_plain (97 + s % 8) ≡ true
+file_plain s = plain_in (97 + s % 8) (omega arith) (omega arith)
+
+row_plain : (s : ℕ) → s < 64 → is_plain (49 + s / 8) ≡ true
+row_plain s l = plain_in (49 + s / 8) (omega arith) (omega arith)
+
+side_plain : (w : Bool) → IsPlain (side_char w ∷ [])
+side_plain true = refl
+side_plain false = refl
+
+piece_plain : (q : Bool) → is_plain (piece_char q) ≡ true
+piece_plain true = refl
+piece_plain false = refl
+
+bare_plain : (q : Bool) (b : Men) → IsLegal q b → IsPlain (bare_text b)
+bare_plain q b h =
+    and_both _ _ (file_plain b.king) (and_both _ _ (row_plain b.king h.king) (and_both _ _ (file_plain b.foe) (and_both _ _ (row_plain b.foe h.foe)
+    (side_plain b.white_moves))))
+
+armed_plain : (q : Bool) (b : Men) → IsLegal q b → b.piece < 64 → IsPlain (armed_text q b)
+armed_plain q b h p =
+    and_both _ _ (file_plain b.king) (and_both _ _ (row_plain b.king h.king) (and_both _ _ (piece_plain q)
+    (and_both _ _ (file_plain b.piece) (and_both _ _ (row_plain b.piece p)
+    (and_both _ _ (file_plain b.foe) (and_both _ _ (row_plain b.foe h.foe) (side_plain b.white_moves)))))))
+
+-- ---- a text tells its board
+side_told : (w : Bool) → eqb (side_char w) 119 ≡ w
+side_told true = refl
+side_told false = refl
+
+square_told : (s : ℕ) → 8 * (49 + s / 8 - 49) + (97 + s % 8 - 97) ≡ s
+square_told s = omega arith
+
+bare_told : (q : Bool) (b : Men) → IsLegal q b → b.piece ≡ 64 → told (bare_text b) ≡ b
+unfolding told
+bare_told q b h e = same_men (told (bare_text b)) b (sym (h.bare e)) (square_told b.king) (sym e) (square_told b.foe)
+
+armed_told : (q : Bool) (b : Men) → told (armed_text q b) ≡ b
+unfolding told
+armed_told q b = same_men (told (armed_text q b)) b (side_told b.white_moves) (square_told b.king) (square_told b.piece) (square_told b.foe)
+
+pub told_text : (q : Bool) (b : Men) → legal q b ≡ true → told (board_text q b) ≡ b
+told_text q b l = elim (cases_Bool (eqb b.piece 64)) [
+  | inl e ↦ ap told (bare_by q b e) ∙ bare_told q b (legal_in q b l) (eqb-true _ _ e)
+  | inr e ↦ ap told (armed_by q b e) ∙ armed_told q b
+]
+
+-- ---- moves
+abbrev man_told : ℕ → ℕ
+man_told c = if eqb c 75 then 0 else (if eqb c 107 then 2 else 1)
+
+man_back : (q : Bool) (k : ℕ) → k ≤ 2 → man_told (man_char q k) ≡ k
+man_back true zero l = refl
+man_back false zero l = refl
+man_back true (suc zero) l = refl
+man_back false (suc zero) l = refl
+man_back true (suc (suc zero)) l = refl
+man_back false (suc (suc zero)) l = refl
+man_back q (suc (suc (suc k))) l = absurd (omega (arith, l))
+
+abbrev step_bytes : Bool → ℕ → List ℕ
+step_bytes q m = man_char q (man m) ∷ (97 + from_square m % 8) ∷ (49 + from_square m / 8) ∷ 45 ∷ (97 + to_square m % 8) ∷ (49 + to_square m / 8) ∷ []
+
+step_is : (q : Bool) (m : ℕ) → step_text q m ≡ step_bytes q m
+unfolding step_text
+step_is q m = refl
+
+man_plain : (q : Bool) (k : ℕ) → is_plain (man_char q k) ≡ true
+man_plain q k =
+    cond_both (eqb k 0) 75 (if eqb k 1 then piece_char q else 107) (λ (c : ℕ). is_plain c ≡ true) (λ e. refl)
+    (λ e. cond_both (eqb k 1) (piece_char q) 107 (λ (c : ℕ). is_plain c ≡ true) (λ f. piece_plain q) (λ f. refl))
+
+step_plain : (q : Bool) (m : ℕ) → IsPlain (step_bytes q m)
+step_plain q m =
+    and_both _ _ (man_plain q (man m)) (and_both _ _ (file_plain (from_square m)) (and_both _ _ (row_plain (from_square m) (from_below m))
+    (and_both _ _ (file_plain (to_square m)) (and_both _ _ (row_plain (to_square m) (to_below m)) refl))))
+
+byte : (k : ℕ) (xs ys : List ℕ) → xs ≡ ys → slice_index xs k ≡ slice_index ys k
+byte k xs ys e = ap (λ (t : List ℕ). slice_index t k) e
+
+square_once : (s t : ℕ) → 97 + s % 8 ≡ 97 + t % 8 → 49 + s / 8 ≡ 49 + t / 8 → s ≡ t
+square_once s t e f = omega (arith, e, f)
+
+step_once : (q : Bool) (m n : ℕ) → man m ≤ 2 → man n ≤ 2 → step_bytes q m ≡ step_bytes q n → m ≡ n
+step_once q m n l k e =
+    let xs = step_bytes q m in
+    let ys = step_bytes q n in
+    same_number m n
+    (sym (man_back q (man m) l) ∙ ap man_told (byte 0 xs ys e) ∙ man_back q (man n) k)
+    (square_once (from_square m) (from_square n) (byte 1 xs ys e) (byte 2 xs ys e))
+    (square_once (to_square m) (to_square n) (byte 4 xs ys e) (byte 5 xs ys e))
+
+pub readable : (q : Bool) → AreTexts (ending q) (board_text q) (λ t m. step_text q m)
+readable q = record {
+  text_plain = λ b l. elim (cases_Bool (eqb b.piece 64)) [
+    | inl e ↦ ap (λ (t : List ℕ). list_all is_plain t) (bare_by q b e) ∙ bare_plain q b (legal_in q b l)
+    | inr e ↦ ap (λ (t : List ℕ). list_all is_plain t) (armed_by q b e) ∙ armed_plain q b (legal_in q b l) (piece_below q b l (λ i. true≢false (sym (eq-eqb _ _ i) ∙ e)))
+  ];
+  text_fits = λ b l. elim (cases_Bool (eqb b.piece 64)) [
+    | inl e ↦ (let n = ap (λ (t : List ℕ). length t) (bare_by q b e) in omega (arith, n))
+    | inr e ↦ (let n = ap (λ (t : List ℕ). length t) (armed_by q b e) in omega (arith, n))
+  ];
+  text_once = λ a b l k e. sym (told_text q a l) ∙ ap told e ∙ told_text q b k;
+  step_plain = λ b m l k. ap (λ (t : List ℕ). list_all is_plain t) (step_is q m) ∙ step_plain q m;
+  step_fits = λ b m l k. let n = ap (λ (t : List ℕ). length t) (step_is q m) in omega (arith, n);
+  step_once = λ b m n l k i e. step_once q m n (man_small q b m (move_in q b m k.can)) (man_small q b n (move_in q b n i.can)) (sym (step_is q m) ∙ e ∙ step_is q n);
+}

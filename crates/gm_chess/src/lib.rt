@@ -1,0 +1,8 @@
+//! King and rook, or king and queen, against king. The rules are those of chess, and `specs/` states them.
+#![tactic(auto)]
+
+pub mod chess;
+pub mod lists;
+pub mod men;
+pub mod squares;
+pub mod text;

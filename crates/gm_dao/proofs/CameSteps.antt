@@ -1,0 +1,382 @@
+-- The cells from which a piece can have slid to its cell, and the boards before a board, taken by the pieces that may have moved.
+use Rattle.std.specs.Prelude.{◌≡◌, ◌≢◌, ◌+◌, ◌-◌, ◌*◌, ◌/◌, ◌%◌, ◌^◌, ◌<◌, ◌≤◌, ◌&&◌, ◌||◌, ◌∷◌}
+use Rattle.gm_pieces.specs.Common.{ℕ, zero, suc, Bool, true, false, not, cond, eqb, eqb-true, eq-eqb, ltb, ltb-true, List, [], length, map, set, None, Some, Option}
+use Rattle.gm_pieces.specs.Common.{refl, sym, ap, ap₂, ◌∙◌, subst, arith, inl, inr, bit_and, bit_or, list_all, filter, filter_map, range_with_len}
+use Rattle.gm_pieces.specs.Common.{cases_Bool, true≢false, Contains, put, put_all, put_more_none, put_more_some, Cell, Empty, Mine, Theirs, turned}
+use Rattle.gm_pieces.specs.Common.{has_cell, weight, none_left, board_of, from_point, to_point, from_back, to_back, all_at, all_from, at_all, at_each, and_left}
+use Rattle.gm_pieces.specs.Common.{and_right, and_both, cond-true, get_or-set_same, get_or-set_other, length-set, length-map, length-append, before_at, before_none}
+use Rattle.gm_pieces.specs.Common.{befores, is_theirs, is_empty, is_taken, cell_at, WasStep, brought_back, turned_cell, filter_in, filter_out}
+use Rattle.gm_pieces.specs.Common.{cells_counted, empty_cell, contains_range, range_below, their_cells, IsAscending}
+use Rattle.gm_board.specs.laws.Lists.{filter_map_from, filter_map_to, contains_head, contains_later, contains_cases}
+use Rattle.gm_board.specs.laws.Filters.{one_more_map}
+use Rattle.gm_game.proofs.Lists.{contains_none, map_in, map_from}
+use Rattle.gm_game.proofs.Putting.{put_all_ascending, put_all_from, put_all_later}
+use Rattle.gm_pieces.specs.laws.Skipped.{puts_skip}
+use Rattle.gm_dao.specs.DaoRules.{in_line, path, beyond, legal, slides, can_have_led_here, least_index_of, dao}
+use Rattle.gm_dao.specs.MaskSlides.{came_by_masks, way_back, befores_below, AreBeforesBelow}
+use Rattle.gm_dao.specs.laws.BoardFacts.{legal_in}
+use Rattle.gm_dao.specs.laws.SlideFacts.{listed, listed_in, way}
+use Rattle.gm_dao.specs.laws.MoveFacts.{blocks_few}
+use Rattle.gm_dao.specs.laws.BeforeFacts.{was_in}
+use Rattle.gm_dao.proofs.MoveSteps.{was_at}
+use Rattle.gm_dao.proofs.BeforeSteps.{no_before}
+use Rattle.gm_dao.proofs.LoopSteps.{passed_more, by_three}
+
+-- ---- the mask of the cells
+-- whether a piece can have come, by its three tests
+pub came_by : (free taken c a : ℕ) (x y z : Bool) → x ≡ in_line c a → (in_line c a ≡ true → y ≡ list_all (has_cell free) (path c a)) →
+    (in_line c a ≡ true → z ≡ list_all (has_cell taken) (beyond a c))
+    → ((x && y) && z) ≡ came_by_masks free taken c a
+came_by free taken c a x y z e f g = by_three (in_line c a) (list_all (has_cell free) (path c a)) (list_all (has_cell taken) (beyond a c)) x y z e f g
+
+-- what is found of the first n cells
+pub record AreSources (free taken to n g : ℕ) : Type 0 where
+  pub within : g < 2 ^ n
+  pub cells : (k : ℕ) → k < n → has_cell g k ≡ came_by_masks free taken to k
+
+-- one more cell, from which the piece can have come or not
+pub came_more : (free taken to n g v : ℕ) (x : Bool) → n < 16 → AreSources free taken to n g → x ≡ came_by_masks free taken to n → v ≡ weight x → AreSources
+    free taken to (n + 1) (bit_or g (v * 2 ^ n % 2 ^ 32))
+came_more free taken to n g v x l h e w =
+    let r = passed_more (came_by_masks free taken to) n g v x l (record { within = h.within; cells = h.cells }) e w in
+    record { within = r.within; cells = r.cells }
+
+-- ---- a way and the way back
+-- whether a cell is neither of two
+abbrev apart : ℕ → ℕ → ℕ → Bool
+apart a c k = not (eqb k a) && not (eqb k c)
+
+-- the way back has the cells of the way, but for its ends; and what follows the way is neither end
+abbrev turns : ℕ → ℕ → Bool
+turns a c =
+    cond (in_line a c)
+    (in_line c a && (list_all (λ k. eqb k a || (apart a c k && listed (path a c) k)) (path c a)
+    && (list_all (λ k. eqb k c || (apart a c k && listed (path c a) k)) (path a c) && list_all (apart a c) (beyond a c))))
+    true
+
+ways_turn : at_all 16 16 turns ≡ true
+unfolding in_line path beyond
+ways_turn = refl
+
+record IsTurned (a c : ℕ) : Type 0 where
+  line : in_line c a ≡ true
+  back : list_all (λ k. eqb k a || (apart a c k && listed (path a c) k)) (path c a) ≡ true
+  forth : list_all (λ k. eqb k c || (apart a c k && listed (path c a) k)) (path a c) ≡ true
+  after : list_all (apart a c) (beyond a c) ≡ true
+
+way_turned : (a c : ℕ) → a < 16 → c < 16 → in_line a c ≡ true → IsTurned a c
+way_turned a c l k e =
+    let t = sym (cond-true _ _ _ e) ∙ at_each 16 16 turns ways_turn a c l k in
+    let u = and_right _ _ t in
+    let v = and_right _ _ u in
+    record { line = and_left _ _ t; back = and_left _ _ u; forth = and_left _ _ v; after = and_right _ _ v }
+
+not_eqb : (x y : ℕ) → not (eqb x y) ≡ true → x ≢ y
+not_eqb x y e q = true≢false (sym e ∙ ap not (eq-eqb x y q))
+
+-- ---- cells before and after
+empty_turned : (v : Cell) → is_empty (turned v) ≡ is_empty v
+empty_turned Empty = refl
+empty_turned Mine = refl
+empty_turned Theirs = refl
+
+taken_turned : (v : Cell) → is_taken (turned v) ≡ is_taken v
+taken_turned Empty = refl
+taken_turned Mine = refl
+taken_turned Theirs = refl
+
+module _ (d : List Cell) (a c free taken : ℕ) (la : a < 16) (lc : c < 16) (long : length d ≡ 16) (w : WasStep d a c)
+    (f : (k : ℕ) → k < 16 → has_cell free k ≡ is_empty (cell_at d k)) (t : (k : ℕ) → k < 16 → has_cell taken k ≡ is_taken (cell_at d k)) where
+  -- a cell that is neither end
+  other : (k : ℕ) → apart a c k ≡ true → cell_at (brought_back d a c) k ≡ turned (cell_at d k)
+  other k e =
+      get_or-set_other (set (map turned d) c Empty) a k Mine Empty (not_eqb k a (and_left _ _ e))
+      ∙ get_or-set_other (map turned d) c k Empty Empty (not_eqb k c (and_right _ _ e))
+      ∙ turned_cell d k (cell_at d k) refl
+
+  ends_apart : c ≢ a
+  ends_apart q = let z : Theirs ≡ Empty = sym w.there ∙ ap (cell_at d) q ∙ w.left in let y : ⊥ = cc in y
+
+  end_free : cell_at (brought_back d a c) c ≡ Empty
+  end_free =
+      get_or-set_other (set (map turned d) c Empty) a c Mine Empty ends_apart
+      ∙ get_or-set_same (map turned d) c Empty Empty (let n = length-map d turned in omega (arith, n, long, lc))
+
+  -- where the piece slid there, it can have come
+  pub slid_came : slides (brought_back d a c) a c ≡ true → came_by_masks free taken c a ≡ true
+  slid_came h =
+      let e = and_left _ _ h in
+      let r = and_right _ _ h in
+      let u = way_turned a c la lc e in
+      let v = way c a u.line in
+      let x = way a c e in
+      and_both _ _ u.line (and_both _ _
+      (all_from (has_cell free) (path c a) (λ k m. f k (ltb-true _ _ (all_at (λ (i : ℕ). ltb i 16) (path c a) k v.path_within m))
+      ∙ clear r k (all_at (λ (i : ℕ). eqb i a || (apart a c i && listed (path a c) i)) (path c a) k u.back m)))
+      (all_from (has_cell taken) (beyond a c) (λ k m. t k (ltb-true _ _ (all_at (λ (i : ℕ). ltb i 16) (beyond a c) k x.beyond_within m))
+      ∙ sym (taken_turned (cell_at d k))
+      ∙ ap is_taken (sym (other k (all_at (apart a c) (beyond a c) k u.after m)))
+      ∙ all_at (λ (i : ℕ). is_taken (cell_at (brought_back d a c) i)) (beyond a c) k (and_right _ _ r) m)))
+    where
+      clear : list_all (λ i. is_empty (cell_at (brought_back d a c) i)) (path a c) && list_all (λ i. is_taken (cell_at (brought_back d a c) i)) (beyond a c) ≡
+          true
+          → (k : ℕ) → (eqb k a || (apart a c k && listed (path a c) k)) ≡ true → is_empty (cell_at d k) ≡ true
+      clear r k y = elim (cases_Bool (eqb k a)) [
+        | inl q ↦ ap (λ (i : ℕ). is_empty (cell_at d i)) (eqb-true _ _ q) ∙ ap is_empty w.left
+        | inr q ↦ (
+            let z : apart a c k && listed (path a c) k ≡ true = sym (ap (λ (b : Bool). b || (apart a c k && listed (path a c) k)) q) ∙ y in
+            sym (empty_turned (cell_at d k))
+            ∙ ap is_empty (sym (other k (and_left _ _ z)))
+            ∙ all_at (λ (i : ℕ). is_empty (cell_at (brought_back d a c) i)) (path a c) k (and_left _ _ r) (listed_in (path a c) k (and_right _ _ z)))
+      ]
+
+  -- and where it can have come, it slid
+  pub came_slid : in_line a c ≡ true → came_by_masks free taken c a ≡ true → slides (brought_back d a c) a c ≡ true
+  came_slid e h =
+      let r = and_right _ _ h in
+      let u = way_turned a c la lc e in
+      let v = way c a u.line in
+      let x = way a c e in
+      and_both _ _ e (and_both _ _
+      (all_from (λ (i : ℕ). is_empty (cell_at (brought_back d a c) i)) (path a c)
+      (λ k m. clear r k (all_at (λ (i : ℕ). eqb i c || (apart a c i && listed (path c a) i)) (path a c) k u.forth m)
+      (ltb-true _ _ (all_at (λ (i : ℕ). ltb i 16) (path a c) k x.path_within m))))
+      (all_from (λ (i : ℕ). is_taken (cell_at (brought_back d a c) i)) (beyond a c)
+      (λ k m. ap is_taken (other k (all_at (apart a c) (beyond a c) k u.after m))
+      ∙ taken_turned (cell_at d k)
+      ∙ sym (t k (ltb-true _ _ (all_at (λ (i : ℕ). ltb i 16) (beyond a c) k x.beyond_within m)))
+      ∙ all_at (has_cell taken) (beyond a c) k (and_right _ _ r) m)))
+    where
+      clear : list_all (has_cell free) (path c a) && list_all (has_cell taken) (beyond a c) ≡ true
+          → (k : ℕ) → (eqb k c || (apart a c k && listed (path c a) k)) ≡ true → k < 16 → is_empty (cell_at (brought_back d a c) k) ≡ true
+      clear r k y l = elim (cases_Bool (eqb k c)) [
+        | inl q ↦ ap (λ (i : ℕ). is_empty (cell_at (brought_back d a c) i)) (eqb-true _ _ q) ∙ ap is_empty end_free
+        | inr q ↦ (
+            let z : apart a c k && listed (path c a) k ≡ true = sym (ap (λ (b : Bool). b || (apart a c k && listed (path c a) k)) q) ∙ y in
+            ap is_empty (other k (and_left _ _ z))
+            ∙ empty_turned (cell_at d k)
+            ∙ sym (f k l)
+            ∙ all_at (has_cell free) (path c a) k (and_left _ _ r) (listed_in (path c a) k (and_right _ _ z)))
+      ]
+
+-- the line, from either end
+pub line_back : (a c : ℕ) → a < 16 → c < 16 → in_line c a ≡ true → in_line a c ≡ true
+line_back a c la lc e = (way_turned c a lc la e).line
+
+-- a piece comes from an empty cell
+pub came_free : (free taken c a : ℕ) → came_by_masks free taken c a ≡ true → has_cell free a ≡ true
+came_free free taken c a h = all_at (has_cell free) (path c a) a (and_left _ _ (and_right _ _ h)) (way c a (and_left _ _ h)).ends
+
+module _ (d : List Cell) (c free taken a : ℕ) (la : a < 16) (there : cell_at d c ≡ Theirs)
+    (f : (k : ℕ) → k < 16 → has_cell free k ≡ is_empty (cell_at d k)) where
+  -- so it has stepped
+  pub was_step : came_by_masks free taken c a ≡ true → WasStep d a c
+  was_step h = record { there = there; left = empty_cell _ (sym (f a la) ∙ came_free free taken c a h) }
+
+  -- and slid
+  pub was_slid : legal d ≡ true → c < 16 → ((k : ℕ) → k < 16 → has_cell taken k ≡ is_taken (cell_at d k)) → came_by_masks free taken c a ≡ true → slides
+      (brought_back d a c) a c ≡ true
+  was_slid l lc t h =
+      came_slid d a c free taken la lc (legal_in d l).cells (was_step h) f t (line_back a c la lc (and_left _ _ h)) h
+
+-- ---- boards before
+-- no board before a move that cannot have led to d
+before_not : (t : ℕ) (d : List Cell) (m : ℕ) → can_have_led_here d m ≡ false → before_at dao t d m ≡ None
+before_not t d m e = before_none dao t d m (λ w. absurd (true≢false (sym w ∙ e)))
+
+-- the number of the move that comes from a
+back_at : (a c : ℕ) → a < 16 → way_back (16 * c + a) ≡ 16 * a + c
+back_at a c l = ap₂ (λ (x y : ℕ). 16 * x + y) (to_back c a l) (from_back c a l)
+
+module _ (t : ℕ) (d : List Cell) (c free taken : ℕ) (is_legal : legal d ≡ true) (lc : c < 16)
+    (f : (k : ℕ) → k < 16 → has_cell free k ≡ is_empty (cell_at d k)) (s : (k : ℕ) → k < 16 → has_cell taken k ≡ is_taken (cell_at d k)) where
+  -- no board before a move from a cell from which the piece cannot have come
+  came_none : (a : ℕ) → a < 16 → came_by_masks free taken c a ≡ false → before_at dao t d (way_back (16 * c + a)) ≡ None
+  came_none a l e = ap (before_at dao t d) (back_at a c l) ∙ elim (cases_Bool (can_have_led_here d (16 * a + c))) [
+    | inl w ↦ (
+        let m = was_at d (16 * a + c) a c w (sym (from_back a c lc)) (sym (to_back a c lc)) in
+        let long = (legal_in d is_legal).cells in
+        let n : length (brought_back d a c) ≡ 16 = length-set (set (map turned d) c Empty) a Mine ∙ length-set (map turned d) c Empty ∙ length-map d turned ∙
+        long in
+        no_before t d (brought_back d a c) a c l lc is_legal m.step refl n
+        (λ h z o. absurd (true≢false (sym (slid_came d a c free taken l lc long m.step f s h) ∙ e))))
+    | inr w ↦ before_not t d (16 * a + c) w
+  ]
+
+  -- n cells from which it cannot have come
+  pub came_skip : (g n k : ℕ) (is : List ℕ) → ((i : ℕ) → i < 16 → has_cell g i ≡ came_by_masks free taken c i) → n + k ≤ 16
+      → ((i : ℕ) → i < k → has_cell g (n + i) ≡ false) → AreBeforesBelow t d (16 * c + n) is → AreBeforesBelow t d (16 * c + (n + k)) is
+  came_skip g n k is h w none e =
+      e
+      ∙ sym (
+      ap (λ (m : ℕ). put_all [] (map least_index_of (befores_below t d m))) (let z : 16 * c + (n + k) ≡ 16 * c + n + k = omega arith in z)
+      ∙ puts_skip least_index_of (λ (m : ℕ). before_at dao t d (way_back m)) (16 * c + n) k (λ i l.
+      ap (λ (m : ℕ). before_at dao t d (way_back m)) (let z : 16 * c + n + i ≡ 16 * c + (n + i) = omega arith in z)
+      ∙ came_none (n + i) (omega (arith, w, l)) (sym (h (n + i) (omega (arith, w, l))) ∙ none i l)))
+
+  -- no cell is left from which it can have come
+  pub came_end : (g n rest : ℕ) (is : List ℕ) → ((i : ℕ) → i < 16 → has_cell g i ≡ came_by_masks free taken c i) → n ≤ 16 → rest ≡ g / 2 ^ n → rest ≡ 0
+      → AreBeforesBelow t d (16 * c + n) is → AreBeforesBelow t d (16 * c + 16) is
+  came_end g n rest is h l e z m =
+      subst (λ (k : ℕ). AreBeforesBelow t d (16 * c + k) is) (let p : n + (16 - n) ≡ 16 = omega (arith, l) in p)
+      (came_skip g n (16 - n) is h (omega (arith, l)) (λ i k. none_left g n rest (n + i) e z (omega arith)) m)
+
+-- no move has ended on a cell without a piece of the opponent's
+ended_past : (t : ℕ) (d : List Cell) (c : ℕ) (is : List ℕ) → c < 16 → is_theirs (cell_at d c) ≡ false → AreBeforesBelow t d (16 * c) is → AreBeforesBelow t d
+    (16 * c + 16) is
+ended_past t d c is lc e h =
+    h
+    ∙ sym (puts_skip least_index_of (λ (m : ℕ). before_at dao t d (way_back m)) (16 * c) 16 (λ a l.
+    ap (before_at dao t d) (back_at a c l)
+    ∙ before_not t d (16 * a + c) (elim (cases_Bool (can_have_led_here d (16 * a + c))) [
+      | inl w ↦ absurd (true≢false (sym (ap is_theirs (was_at d (16 * a + c) a c w (sym (from_back a c lc)) (sym (to_back a c lc))).step.there) ∙ e))
+      | inr g ↦ g
+    ])))
+
+-- cells without the opponent's pieces, s of them
+pub others_skip : (t a b n s : ℕ) (is : List ℕ) → b < 2 ^ 16 → bit_and a b ≡ 0 → n + s ≤ 16 → ((i : ℕ) → i < s → has_cell b (n + i) ≡ false)
+    → AreBeforesBelow t (board_of 16 a b) (16 * n) is → AreBeforesBelow t (board_of 16 a b) (16 * (n + s)) is
+others_skip t a b n zero is w q l none m =
+    subst (λ (k : ℕ). AreBeforesBelow t (board_of 16 a b) k is) (let z : 16 * n ≡ 16 * (n + 0) = omega arith in z) m
+others_skip t a b n (suc s) is w q l none m =
+    subst (λ (k : ℕ). AreBeforesBelow t (board_of 16 a b) k is) (let z : 16 * (n + s) + 16 ≡ 16 * (n + suc s) = omega arith in z)
+    (ended_past t (board_of 16 a b) (n + s) is (omega (arith, l)) (sym (their_cells 16 a b w q (n + s)) ∙ none s (omega arith))
+    (others_skip t a b n s is w q (omega (arith, l)) (λ i k. none i (omega (arith, k))) m))
+
+-- no piece of the opponent's is left
+pub others_end : (t a b n rest : ℕ) (is : List ℕ) → b < 2 ^ 16 → bit_and a b ≡ 0 → n ≤ 16 → rest ≡ b / 2 ^ n → rest ≡ 0 → AreBeforesBelow t (board_of 16 a b)
+    (16 * n) is
+    → AreBeforesBelow t (board_of 16 a b) 256 is
+others_end t a b n rest is w q l e z m =
+    subst (λ (k : ℕ). AreBeforesBelow t (board_of 16 a b) k is) (let p : 16 * (n + (16 - n)) ≡ 256 = omega (arith, l) in p)
+    (others_skip t a b n (16 - n) is w q (omega (arith, l)) (λ i k. none_left b n rest (n + i) e z (omega arith)) m)
+
+-- the number has no board before it
+pub before_less : (t : ℕ) (d : List Cell) (c a : ℕ) (is : List ℕ) → a < 16 → before_at dao t d (16 * a + c) ≡ None → AreBeforesBelow t d (16 * c + a) is →
+    AreBeforesBelow t d (16 * c + (a + 1)) is
+before_less t d c a is l e h =
+    h
+    ∙ sym (put_more_none least_index_of (λ (m : ℕ). before_at dao t d (way_back m)) (16 * c + a) (ap (before_at dao t d) (back_at a c l) ∙ e))
+    ∙ ap (λ (n : ℕ). put_all [] (map least_index_of (befores_below t d n))) (let z : 16 * c + a + 1 ≡ 16 * c + (a + 1) = omega arith in z)
+
+-- or one
+pub before_more : (t : ℕ) (d b : List Cell) (c a i : ℕ) (is new : List ℕ) → a < 16 → before_at dao t d (16 * a + c) ≡ Some b → i ≡ least_index_of b → new ≡ put
+    i is → AreBeforesBelow t d (16 * c + a) is → AreBeforesBelow t d (16 * c + (a + 1)) new
+before_more t d b c a i is new l e f p h =
+    p
+    ∙ ap₂ put f h
+    ∙ sym (put_more_some least_index_of (λ (m : ℕ). before_at dao t d (way_back m)) (16 * c + a) b (ap (before_at dao t d) (back_at a c l) ∙ e))
+    ∙ ap (λ (n : ℕ). put_all [] (map least_index_of (befores_below t d n))) (let z : 16 * c + a + 1 ≡ 16 * c + (a + 1) = omega arith in z)
+
+-- its board, by the number that is counted
+pub before_here : (t : ℕ) (d b : List Cell) (c a : ℕ) → a < 16 → before_at dao t d (16 * a + c) ≡ Some b → before_at dao t d (way_back (16 * c + a)) ≡ Some b
+before_here t d b c a l e = ap (before_at dao t d) (back_at a c l) ∙ e
+
+-- ---- how many there are
+few_more : {B : Type 0} (h : ℕ → Option B) (p : ℕ → Bool) (n : ℕ) (o : Option B) → h n ≡ o → (o ≢ None → p n ≡ true)
+    → length (filter_map h (range_with_len 0 n)) ≤ length (filter p (range_with_len 0 n))
+    → length (filter_map h (range_with_len 0 (n + 1))) ≤ length (filter p (range_with_len 0 (n + 1)))
+few_more h p n None e all i =
+    let more = one_more_map h n in
+    let none : length (filter_map h (n ∷ [])) ≡ 0 = rw e refl in
+    elim (cases_Bool (p n)) [
+      | inl t ↦ (let k = ap (λ (xs : List ℕ). length xs) (filter_in p n t) ∙ length-append (filter p (range_with_len 0 n)) (n ∷ []) in
+          omega (arith, i, more, none, k))
+      | inr t ↦ (let k = ap (λ (xs : List ℕ). length xs) (filter_out p n t) in omega (arith, i, more, none, k))
+    ]
+few_more h p n (Some b) e all i =
+    let more = one_more_map h n in
+    let one : length (filter_map h (n ∷ [])) ≡ 1 = rw e refl in
+    let k = ap (λ (xs : List ℕ). length xs) (filter_in p n (all (λ q. (let z : ⊥ = cc in z)))) ∙ length-append (filter p (range_with_len 0 n)) (n ∷ []) in
+    omega (arith, i, more, one, k)
+
+few_below : {B : Type 0} (h : ℕ → Option B) (p : ℕ → Bool) (n : ℕ) → ((m : ℕ) → m < n → h m ≢ None → p m ≡ true)
+    → length (filter_map h (range_with_len 0 n)) ≤ length (filter p (range_with_len 0 n))
+few_below h p zero all = omega arith
+few_below h p (suc n) all =
+    let e : suc n ≡ n + 1 = omega arith in
+    subst (λ (k : ℕ). length (filter_map h (range_with_len 0 k)) ≤ length (filter p (range_with_len 0 k))) (sym e)
+    (few_more h p n (h n) refl (all n (omega arith)) (few_below h p n (λ m l. all m (omega (arith, l)))))
+
+-- at most sixteen for each of the opponent's pieces
+pub befores_room : (t : ℕ) (d : List Cell) → legal d ≡ true → length (befores_below t d 256) ≤ 128
+unfolding from_point to_point
+befores_room t d l =
+    let h = legal_in d l in
+    let few = few_below (λ (m : ℕ). before_at dao t d (way_back m)) (λ (m : ℕ). is_theirs (cell_at d (m / 16))) 256 (λ m k e.
+    elim (cases_Bool (can_have_led_here d (way_back m))) [
+      | inl w ↦ (
+          let z : to_point (way_back m) ≡ m / 16 = omega (arith, k) in
+          ap (λ (i : ℕ). is_theirs (cell_at d i)) (sym z) ∙ ap is_theirs (was_in d (way_back m) w).step.there)
+      | inr w ↦ absurd (e (before_not t d (way_back m) w))
+    ]) in
+    let blocks = blocks_few (λ (m : ℕ). is_theirs (cell_at d (m / 16))) (λ (k : ℕ). is_theirs (cell_at d k)) (λ m e. e) 16 in
+    let all = cells_counted is_theirs d 16 h.cells in
+    omega (arith, few, blocks, all, h.other)
+
+-- ---- in another order
+after_first : (x : ℕ) (xs : List ℕ) → IsAscending (x ∷ xs) → (y : ℕ) → Contains xs y → x < y
+after_first x [] up y h = absurd (contains_none y h)
+after_first x (z ∷ zs) up y h = elim (contains_cases z zs y h) [
+  | inl e ↦ (let l = up.0 in omega (arith, l, e))
+  | inr t ↦ (let l = up.0 in let k = after_first z zs up.1 y t in omega (arith, l, k))
+]
+
+rest_ascending : (x : ℕ) (xs : List ℕ) → IsAscending (x ∷ xs) → IsAscending xs
+rest_ascending x [] up = tt
+rest_ascending x (y ∷ ys) up = up.1
+
+-- ascending lists of the same numbers are one
+same_list : (xs ys : List ℕ) → IsAscending xs → IsAscending ys → ((z : ℕ) → Contains xs z → Contains ys z) → ((z : ℕ) → Contains ys z → Contains xs z) → xs ≡ ys
+same_list [] [] u v f g = refl
+same_list [] (y ∷ ys) u v f g = absurd (contains_none y (g y (contains_head y ys)))
+same_list (x ∷ xs) [] u v f g = absurd (contains_none x (f x (contains_head x xs)))
+same_list (x ∷ xs) (y ∷ ys) u v f g =
+    let le : y ≤ x = elim (contains_cases y ys x (f x (contains_head x xs))) [
+      | inl e ↦ omega (arith, e)
+      | inr t ↦ (let l = after_first y ys v x t in omega (arith, l))
+    ] in
+    let ge : x ≤ y = elim (contains_cases x xs y (g y (contains_head y ys))) [
+      | inl e ↦ omega (arith, e)
+      | inr t ↦ (let l = after_first x xs u y t in omega (arith, l))
+    ] in
+    let here : x ≡ y = omega (arith, le, ge) in
+    ap₂ (λ (z : ℕ) (zs : List ℕ). z ∷ zs) here (same_list xs ys (rest_ascending x xs u) (rest_ascending y ys v)
+    (λ z c. elim (contains_cases y ys z (f z (contains_later x xs z c))) [
+      | inl e ↦ absurd (let l = after_first x xs u z c in omega (arith, l, e, here))
+      | inr t ↦ t
+    ])
+    (λ z c. elim (contains_cases x xs z (g z (contains_later y ys z c))) [
+      | inl e ↦ absurd (let l = after_first y ys v z c in omega (arith, l, e, here))
+      | inr t ↦ t
+    ]))
+
+-- putting lists with the same boards in order gives the same
+same_put : {B : Type 0} (f : B → ℕ) (xs ys : List B) → ((b : B) → Contains xs b → Contains ys b) → ((b : B) → Contains ys b → Contains xs b) → put_all []
+    (map f xs) ≡ put_all [] (map f ys)
+same_put {B} f xs ys g h =
+    same_list (put_all [] (map f xs)) (put_all [] (map f ys)) (put_all_ascending [] (map f xs) tt) (put_all_ascending [] (map f ys) tt) (moved xs ys g)
+    (moved ys xs h)
+  where
+    moved : (us vs : List B) → ((b : B) → Contains us b → Contains vs b) → (z : ℕ) → Contains (put_all [] (map f us)) z → Contains (put_all [] (map f vs)) z
+    moved us vs k z c = elim (put_all_from [] (map f us) z c) [
+      | inl n ↦ absurd (contains_none z n)
+      | inr d ↦ (
+          let x = map_in f us z d in
+          put_all_later [] (map f vs) z (subst (λ (i : ℕ). Contains (map f vs) i) x.2 (map_from f vs x.0 (k x.0 x.1))))
+    ]
+
+-- the boards before the moves that end on the sixteen cells are all
+pub befores_all : (t : ℕ) (d : List Cell) (is : List ℕ) → AreBeforesBelow t d 256 is → is ≡ put_all [] (map least_index_of (befores dao t d))
+unfolding befores from_point to_point
+befores_all t d is e =
+    e ∙ same_put least_index_of (befores_below t d 256) (filter_map (before_at dao t d) (range_with_len 0 256))
+    (λ b c.
+    let x = filter_map_from (λ (m : ℕ). before_at dao t d (way_back m)) (range_with_len 0 256) b c in
+    let l = range_below 256 x.0 x.1 in
+    filter_map_to (before_at dao t d) (range_with_len 0 256) (way_back x.0) b (contains_range 256 (way_back x.0) (omega (arith, l))) x.2)
+    (λ b c.
+    let x = filter_map_from (before_at dao t d) (range_with_len 0 256) b c in
+    let l = range_below 256 x.0 x.1 in
+    filter_map_to (λ (m : ℕ). before_at dao t d (way_back m)) (range_with_len 0 256) (way_back x.0) b (contains_range 256 (way_back x.0) (omega (arith, l)))
+    (ap (before_at dao t d) (let z : way_back (way_back x.0) ≡ x.0 = omega (arith, l) in z) ∙ x.2))

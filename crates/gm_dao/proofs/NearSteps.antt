@@ -1,0 +1,210 @@
+-- How many cells a piece slides to: one in each direction in which the next cell is free.
+use Rattle.std.specs.Prelude.{◌≡◌, ◌+◌, ◌*◌, ◌^◌, ◌<◌, ◌&&◌, ◌∷◌, ◌++◌, count_ones}
+use Rattle.gm_pieces.specs.Common.{ℕ, zero, suc, Bool, true, false, not, cond, List, [], length, refl, sym, ap, ap₂, ◌∙◌, arith, inl, inr, bit_and}
+use Rattle.gm_pieces.specs.Common.{filter, filter_in, filter_out, range_with_len, length-append, cases_Bool, true≢false, list_all, get_or, has_cell, has_and}
+use Rattle.gm_pieces.specs.Common.{weight, at_all, at_each, cond-true, ltb, ltb-true, at_below, and_le_r, same_list, same_list_true, Cell, Empty, Mine, Theirs}
+use Rattle.gm_pieces.specs.Common.{fills, is_empty, is_taken, cell_at, board_of, own_cells, from_back, to_back, same_within}
+use Rattle.gm_dao.specs.declared.slides.TheConstants.{NEAR}
+use Rattle.gm_dao.specs.DaoRules.{in_line, path, beyond, can_move}
+use Rattle.gm_dao.specs.MaskSlides.{slides_over}
+use Rattle.gm_dao.specs.laws.SlideFacts.{way}
+use Rattle.gm_dao.proofs.MoveSteps.{move_by}
+use Rattle.gm_dao.proofs.NumberSteps.{cells_of_mask}
+
+-- ---- sums over the cells
+-- what a function gives for the first n numbers
+abbrev total : (ℕ → ℕ) → ℕ → ℕ
+total f zero = 0
+total f (suc n) = total f n + f n
+
+total_same : (f g : ℕ → ℕ) (n : ℕ) → ((k : ℕ) → k < n → f k ≡ g k) → total f n ≡ total g n
+total_same f g zero h = refl
+total_same f g (suc n) h = ap₂ (λ (x y : ℕ). x + y) (total_same f g n (λ k l. h k (omega (arith, l)))) (h n (omega arith))
+
+total_add : (f g : ℕ → ℕ) (n : ℕ) → total (λ k. f k + g k) n ≡ total f n + total g n
+total_add f g zero = refl
+total_add f g (suc n) = let i = total_add f g n in omega (arith, i)
+
+-- numbers that pass, as a sum
+passed : (p : ℕ → Bool) (n : ℕ) → length (filter p (range_with_len 0 n)) ≡ total (λ k. weight (p k)) n
+passed p zero = refl
+passed p (suc n) =
+    let i = passed p n in
+    let own = ap (λ (k : ℕ). length (filter p (range_with_len 0 k))) (let f : suc n ≡ n + 1 = omega arith in f) in
+    elim (cases_Bool (p n)) [
+      | inl t ↦ (
+          let x = ap (λ (xs : List ℕ). length xs) (filter_in p n t) ∙ length-append (filter p (range_with_len 0 n)) (n ∷ []) in
+          let w : weight (p n) ≡ 1 = rw t refl in
+          omega (arith, i, own, x, w))
+      | inr t ↦ (
+          let x = ap (λ (xs : List ℕ). length xs) (filter_out p n t) in
+          let w : weight (p n) ≡ 0 = rw t refl in
+          omega (arith, i, own, x, w))
+    ]
+
+-- ---- along a way
+-- the value at the cell that follows, if there is one
+abbrev after : List ℕ → (ℕ → ℕ) → ℕ
+after [] f = 0
+after (e ∷ es) f = f e
+
+-- the way to the cell that follows is a cell longer
+abbrev longer : ℕ → ℕ → List ℕ → Bool
+longer a c [] = true
+longer a c (e ∷ []) = same_list (path a e) (path a c ++ e ∷ [])
+longer a c (e ∷ f ∷ es) = false
+
+abbrev ways : ℕ → ℕ → Bool
+ways a c = cond (in_line a c) (longer a c (beyond a c)) true
+
+ways_pass : at_all 16 16 ways ≡ true
+unfolding in_line path beyond
+ways_pass = refl
+
+all_more : (x : ℕ → Bool) (ps : List ℕ) (e : ℕ) → list_all x (ps ++ e ∷ []) ≡ (list_all x ps && x e)
+all_more x [] e = and_end (x e)
+  where
+    and_end : (q : Bool) → (q && true) ≡ (true && q)
+    and_end true = refl
+    and_end false = refl
+all_more x (p ∷ ps) e = ap (λ (q : Bool). x p && q) (all_more x ps e) ∙ regroup (x p) (list_all x ps) (x e)
+  where
+    regroup : (p q r : Bool) → (p && (q && r)) ≡ ((p && q) && r)
+    regroup true q r = refl
+    regroup false q r = refl
+
+last_weight : (p : Bool) → weight (p && true) + 0 ≡ weight p
+last_weight true = refl
+last_weight false = refl
+
+split_weight : (p q : Bool) → weight (p && (not q && true)) + weight (p && q) ≡ weight p
+split_weight true true = refl
+split_weight true false = refl
+split_weight false q = refl
+
+-- a piece that passes a cell stops on it or goes on
+stops_or_goes : (x : ℕ → Bool) (a c : ℕ) (es : List ℕ) → longer a c es ≡ true
+    → weight (list_all x (path a c) && list_all (λ k. not (x k)) es) + after es (λ e. weight (list_all x (path a e))) ≡ weight (list_all x (path a c))
+stops_or_goes x a c [] h = last_weight (list_all x (path a c))
+stops_or_goes x a c (e ∷ []) h =
+    ap (λ (ps : List ℕ). weight (list_all x (path a c) && (not (x e) && true)) + weight (list_all x ps)) (same_list_true _ _ h)
+    ∙ ap (λ (q : Bool). weight (list_all x (path a c) && (not (x e) && true)) + weight q) (all_more x (path a c) e)
+    ∙ split_weight (list_all x (path a c)) (x e)
+stops_or_goes x a c (e ∷ f ∷ es) h = absurd (true≢false (sym h))
+
+-- ---- in all directions
+-- the cells in line, those of them that follow one, and those next to a cell
+abbrev in_lines : (ℕ → ℕ) → ℕ → ℕ → ℕ
+in_lines F a c = cond (in_line a c) (F c) 0
+
+abbrev followed : (ℕ → ℕ) → ℕ → ℕ → ℕ
+followed F a c = cond (in_line a c) (after (beyond a c) F) 0
+
+abbrev nexts : (ℕ → ℕ) → ℕ → ℕ → ℕ
+nexts F a c = cond (has_cell (get_or NEAR a 0) c) (F c) 0
+
+-- each cell in line follows another or is next
+reindex : (F : ℕ → ℕ) (a : ℕ) → a < 16 → total (in_lines F a) 16 ≡ total (followed F a) 16 + total (nexts F a) 16
+unfolding in_line path beyond
+reindex F zero l = omega arith
+reindex F (suc zero) l = omega arith
+reindex F (suc (suc zero)) l = omega arith
+reindex F (suc (suc (suc zero))) l = omega arith
+reindex F (suc (suc (suc (suc zero)))) l = omega arith
+reindex F (suc (suc (suc (suc (suc zero))))) l = omega arith
+reindex F (suc (suc (suc (suc (suc (suc zero)))))) l = omega arith
+reindex F (suc (suc (suc (suc (suc (suc (suc zero))))))) l = omega arith
+reindex F (suc (suc (suc (suc (suc (suc (suc (suc zero)))))))) l = omega arith
+reindex F (suc (suc (suc (suc (suc (suc (suc (suc (suc zero))))))))) l = omega arith
+reindex F (suc (suc (suc (suc (suc (suc (suc (suc (suc (suc zero)))))))))) l = omega arith
+reindex F (suc (suc (suc (suc (suc (suc (suc (suc (suc (suc (suc zero))))))))))) l = omega arith
+reindex F (suc (suc (suc (suc (suc (suc (suc (suc (suc (suc (suc (suc zero)))))))))))) l = omega arith
+reindex F (suc (suc (suc (suc (suc (suc (suc (suc (suc (suc (suc (suc (suc zero))))))))))))) l = omega arith
+reindex F (suc (suc (suc (suc (suc (suc (suc (suc (suc (suc (suc (suc (suc (suc zero)))))))))))))) l = omega arith
+reindex F (suc (suc (suc (suc (suc (suc (suc (suc (suc (suc (suc (suc (suc (suc (suc zero))))))))))))))) l = omega arith
+reindex F (suc (suc (suc (suc (suc (suc (suc (suc (suc (suc (suc (suc (suc (suc (suc (suc a)))))))))))))))) l = absurd (omega (arith, l))
+
+one_cell : (x : ℕ → Bool) (a c : ℕ) → a < 16 → c < 16 → weight (slides_over x a c) + followed (λ e. weight (list_all x (path a e))) a c ≡ in_lines
+    (λ e. weight (list_all x (path a e))) a c
+one_cell x a c l k = elim (cases_Bool (in_line a c)) [
+  | inl t ↦ rw t (stops_or_goes x a c (beyond a c) (sym (cond-true _ _ _ t) ∙ at_each 16 16 ways ways_pass a c l k))
+  | inr t ↦ rw t refl
+]
+
+-- ---- the cells next to a cell
+abbrev near_passes : ℕ → ℕ → Bool
+near_passes a c = cond (has_cell (get_or NEAR a 0) c) (same_list (path a c) (c ∷ [])) true
+
+near_pass : at_all 16 16 near_passes ≡ true
+unfolding path
+near_pass = refl
+
+near_within : list_all (λ a. ltb (get_or NEAR a 0) (2 ^ 16)) (range_with_len 0 16) ≡ true
+near_within = refl
+
+one_near : (free a c : ℕ) → a < 16 → c < 16 → nexts (λ e. weight (list_all (has_cell free) (path a e))) a c ≡ weight (has_cell (bit_and free (get_or NEAR a 0)) c)
+one_near free a c l k = elim (cases_Bool (has_cell (get_or NEAR a 0) c)) [
+  | inl t ↦ (
+      let p : path a c ≡ c ∷ [] = same_list_true _ _ (sym (cond-true _ _ _ t) ∙ at_each 16 16 near_passes near_pass a c l k) in
+      cond-true _ _ _ t
+      ∙ ap (λ (ps : List ℕ). weight (list_all (has_cell free) ps)) p
+      ∙ ap (λ (q : Bool). weight (has_cell free c && q)) (sym t)
+      ∙ ap weight (sym (has_and free (get_or NEAR a 0) c)))
+  | inr t ↦ (
+      let n : has_cell (bit_and free (get_or NEAR a 0)) c ≡ has_cell free c && false = has_and free (get_or NEAR a 0) c ∙ ap (λ (q : Bool). has_cell free c && q) t in
+      let z : weight (has_cell free c && false) ≡ 0 = none (has_cell free c) in
+      let e : nexts (λ e. weight (list_all (has_cell free) (path a e))) a c ≡ 0 = rw t refl in
+      e ∙ sym (ap weight n ∙ z))
+]
+  where
+    none : (q : Bool) → weight (q && false) ≡ 0
+    none true = refl
+    none false = refl
+
+meet : (ones m n h sf s f found : ℕ) → ones ≡ m → n ≡ m → sf ≡ h → sf ≡ s + f → h ≡ f + n → found ≡ s → ones ≡ found
+meet ones m n h sf s f found p q r t u v = omega (arith, p, q, r, t, u, v)
+
+-- as many as there are free cells next to it
+pub near_counted : (free a : ℕ) → a < 16 → count_ones (bit_and free (get_or NEAR a 0)) ≡ length (filter (slides_over (has_cell free) a) (range_with_len 0 16))
+near_counted free a l =
+    let x = has_cell free in
+    let F : ℕ → ℕ = λ e. weight (list_all x (path a e)) in
+    let m = bit_and free (get_or NEAR a 0) in
+    let fits : get_or NEAR a 0 < 2 ^ 16 = ltb-true _ _ (at_below 16 (λ (a : ℕ). ltb (get_or NEAR a 0) (2 ^ 16)) near_within a l) in
+    let small : m < 2 ^ 16 = omega (arith, fits, and_le_r free (get_or NEAR a 0)) in
+    let cells = sym (cells_of_mask m small) ∙ passed (has_cell m) 16 in
+    let near = total_same (nexts F a) (λ (c : ℕ). weight (has_cell m c)) 16 (λ c k. one_near free a c l k) in
+    let all = total_same (λ (c : ℕ). weight (slides_over x a c) + followed F a c) (in_lines F a) 16 (λ c k. one_cell x a c l k) in
+    let sums = total_add (λ (c : ℕ). weight (slides_over x a c)) (followed F a) 16 in
+    let again = reindex F a l in
+    let found = passed (slides_over x a) 16 in
+    meet _ _ _ _ _ _ _ _ cells near all sums again found
+
+-- ---- the moves of a piece
+free_taken : (v : Cell) → not (is_empty v) ≡ is_taken v
+free_taken Empty = refl
+free_taken Mine = refl
+free_taken Theirs = refl
+
+over_by : (b : List Cell) (free a c : ℕ) → ((k : ℕ) → k < 16 → has_cell free k ≡ is_empty (cell_at b k))
+    → slides_over (has_cell free) a c ≡ (in_line a c && (fills Empty is_empty b (path a c) && fills Empty is_taken b (beyond a c)))
+over_by b free a c f = elim (cases_Bool (in_line a c)) [
+  | inl e ↦ (
+      let w = way a c e in
+      ap₂ (λ (x y : Bool). in_line a c && (x && y))
+      (same_within 16 (has_cell free) (λ (k : ℕ). is_empty (cell_at b k)) (path a c) w.path_within f)
+      (same_within 16 (λ (k : ℕ). not (has_cell free k)) (λ (k : ℕ). is_taken (cell_at b k)) (beyond a c) w.beyond_within
+      (λ k l. ap not (f k l) ∙ free_taken (cell_at b k))))
+  | inr e ↦ first_false _ _ e ∙ sym (first_false _ _ e)
+]
+  where
+    first_false : (x y : Bool) → x ≡ false → (x && y) ≡ false
+    first_false true y e = absurd (true≢false e)
+    first_false false y e = refl
+
+-- the moves of the piece on a cell
+pub moves_over : (a b free from : ℕ) → a < 2 ^ 16 → has_cell a from ≡ true → ((k : ℕ) → k < 16 → has_cell free k ≡ is_empty (cell_at (board_of 16 a b) k))
+    → (k : ℕ) → k < 16 → slides_over (has_cell free) from k ≡ can_move (board_of 16 a b) (16 * from + k)
+moves_over a b free from l own f k j =
+    move_by (board_of 16 a b) (16 * from + k) from k true (slides_over (has_cell free) from k) (sym (from_back from k j)) (sym (to_back from k j))
+    (sym own ∙ own_cells 16 a b l from) (over_by (board_of 16 a b) free from k f)

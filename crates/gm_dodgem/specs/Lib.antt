@@ -1,0 +1,2 @@
+pub mod Dodgem
+pub mod laws

@@ -1,6 +1,0 @@
-use Rattle.std.proofs.Common.{ℕ, subst}
-use Rattle.gm_table.specs.Solving.{IsTooFar}
-use Rattle.gm_settle.proofs.settle.settle_tier.Goals as goal
-
-pub returns-clause-near : goal.returns-clause-near
-returns-clause-near g c = subst (λ (t : ℕ). IsTooFar g.G.Game.rules t → ⊥) c.of-frame.ensures c.in_ok-records.ensures.near

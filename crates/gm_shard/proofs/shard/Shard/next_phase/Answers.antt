@@ -1,9 +1,0 @@
-use Rattle.std.proofs.Common.{ap, ◌∙◌}
-use Rattle.gm_deliveries.specs.State.{ShardState}
-use Rattle.gm_shard.proofs.ShardLemmas.{turned}
-use Rattle.gm_shard.proofs.shard.Shard.next_phase.Goals as goal
-
-pub invariant_of-self : goal.invariant_of-self
-invariant_of-self g c =
-    turned g.G.Game.rules c.self.inside.children c.next_phase.new.self c.self.inside.wins c.self.inside.ties c.next_phase.ensures
-    (ap (λ (s : ShardState). s.phase) c.self.view_is ∙ c.requires.phase) c.self.invariant

@@ -1,6 +1,0 @@
-use Rattle.std.proofs.Common.{take}
-use Rattle.gm_shard.specs.Queues.{AreNotesAt}
-use Rattle.gm_shard.proofs.shard.notes_at.Given as goal
-
-abbrev pub invariant-loop-index : goal.invariant-loop-index
-invariant-loop-index g l = AreNotesAt g.G.Game.rules l.children (take l.index-index l.indexes) l.notes.items

@@ -1,0 +1,3 @@
+pub mod Small
+pub mod SmallTables
+pub mod laws

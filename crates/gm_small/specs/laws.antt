@@ -1,0 +1,2 @@
+-- What follows from the tables.
+pub mod SmallLaws

@@ -1,0 +1,11 @@
+use Rattle.std.proofs.Common.{◌≡◌, length}
+use Rattle.gm_table.specs.Dealing.{block_in}
+use Rattle.gm_table.proofs.Dealt.{EachAt}
+use Rattle.gm_solver.specs.Passes.{IsFound}
+use Rattle.gm_solver.proofs.frame.Frame.settle_in_turn.Given as goal
+
+abbrev pub invariant-loop-place : goal.invariant-loop-place
+invariant-loop-place g l = record {
+  long : length l.found.items ≡ l.place;
+  each : EachAt (λ place x. IsFound g.G.Game.rules l.self.tier (block_in l.self.dealing.rows place) x) l.found.items;
+}

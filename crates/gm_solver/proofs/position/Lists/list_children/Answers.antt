@@ -1,0 +1,16 @@
+use Rattle.std.proofs.Common.{List, sym, subst}
+use Rattle.std.specs.List.{Contains}
+use Rattle.gm_game.specs.declared.position.Position.{Position}
+use Rattle.gm_solver.proofs.position.Lists.list_children.Goals as goal
+
+pub returns : goal.returns
+returns g c =
+    let same = c.list_once.ensures.same in
+    let value = c.as_slice.ensures.value in
+    record {
+      exact = λ d. (
+        λ h. (c.requires d).0 (subst (λ (ps : List Position). Contains ps d) value ((same d).0 h)),
+        λ k. (same d).1 (subst (λ (ps : List Position). Contains ps d) (sym value) ((c.requires d).1 k)),
+      );
+      once = c.list_once.ensures.once;
+    }

@@ -1,0 +1,154 @@
+//! One position of a tier.
+ghost use Rattle.std.specs.Prelude.{◌≡◌, ◌≤◌, ◌+◌, length, None, Some, IfOk, IfErr, IfSome};
+ghost use Rattle.gm_game.specs.declared.limits.TheConstants.{MOVES, REMOTENESS};
+ghost use Rattle.gm_game.specs.Numbers.{AreThere};
+ghost use Rattle.gm_game.specs.Records.{settle, IsRecord};
+ghost use Rattle.gm_game.specs.Children.{AreResults};
+ghost use Rattle.gm_game.specs.Rules.{IsCanonical, IsInner};
+ghost use Rattle.gm_game.specs.Values.{IsTrueValue};
+ghost use Rattle.gm_table.specs.Hands.{AreAtHand};
+ghost use Rattle.gm_table.specs.Tables.{AreHeld};
+ghost use Rattle.gm_solver.specs.Gathered.{AreOnce};
+ghost use Rattle.gm_solver.specs.Passes.{IsDeliveryIn, IsStop};
+
+use crate::gather::gather;
+use crate::once::list_once;
+use crate::stop::Stop;
+use arrayvec::ArrayVec;
+use gm_game::evaluate::of_end;
+use gm_game::game::Game;
+use gm_game::limits::{MOVES, REMOTENESS};
+use gm_game::position::{End, Position, Solved, Value};
+use gm_record::summary::Summary;
+use gm_table::hand::SLOTS;
+use gm_table::table::Table;
+use gm_table::tables::Tables;
+
+/// Lists that serve many positions: of one its results, in any order and as often as moves lead to them, each of them once, and the words
+/// of their records.
+#[derive(Drop)]
+pub(crate) struct Lists {
+    pub(crate) results: ArrayVec<Position, MOVES>,
+    children: ArrayVec<Position, MOVES>,
+    words: ArrayVec<u64, MOVES>,
+}
+
+impl Lists {
+    /// Empty lists.
+    pub(crate) fn new() -> Self {
+        Lists {
+            results: ArrayVec::new(),
+            children: ArrayVec::new(),
+            words: ArrayVec::new(),
+        }
+    }
+
+    // Writes each of the results that the lists hold once, in any order: the canonical children of p.
+    fn list_children<G: Game>(&mut self, p: Position)
+        requires { AreResults G.rules p self.old.results.items }
+        ensures { AreOnce G.rules p self.new.children.items }
+    {
+        let Lists {
+            results,
+            children,
+            words: _,
+        } = self;
+        list_once(results.as_slice(), children);
+    }
+}
+
+/// Returns the record of a canonical legal position, and how many of its canonical children are no draws. The game has ended there, or else goes on to the
+/// results that the lists hold. Children are written over the other contents of the lists.
+pub(crate) fn settle_position<'a, G: Game>(
+    tables: &'a Tables<G>,
+    hand: &mut [Option<&'a Table<G>>],
+    lists: &mut Lists,
+    p: Position,
+    end: Option<End>,
+) -> Result<(Solved, u64), Stop>
+    requires canonical { IsCanonical G.rules p }
+    requires end { G.rules.primitive p ≡ end }
+    requires results { end ≡ None → AreResults G.rules p lists.old.results.items }
+    requires held { AreHeld G.rules tables.now p.tier }
+    requires long { length hand.old ≡ SLOTS }
+    requires at_hand { AreAtHand tables.now hand.old }
+    ensures record { IfOk result (λ found. IsRecord G.rules REMOTENESS (IsTrueValue G.rules) p (Some found.0)) }
+    ensures number { IfOk result (λ found. AreThere found.1 (IsDeliveryIn G.rules p.tier p.index (p.index + 1))) }
+    ensures few { IfOk result (λ found. found.1 ≤ MOVES) }
+    ensures stop { IfErr result (IsStop G.rules p.tier) }
+    ensures long { length hand.new ≡ SLOTS }
+    ensures at_hand { AreAtHand tables.now hand.new }
+{
+    match end {
+        Some(end) => Ok((of_end(end), 0)),
+        None => settle_inner::<G>(tables, hand, lists, p),
+    }
+}
+
+// Returns the value of a position at which the game goes on, and how many of its canonical children are no draws.
+fn settle_inner<'a, G: Game>(
+    tables: &'a Tables<G>,
+    hand: &mut [Option<&'a Table<G>>],
+    lists: &mut Lists,
+    p: Position,
+) -> Result<(Solved, u64), Stop>
+    requires inner { IsInner G.rules p }
+    requires results { AreResults G.rules p lists.old.results.items }
+    requires held { AreHeld G.rules tables.now p.tier }
+    requires long { length hand.old ≡ SLOTS }
+    requires at_hand { AreAtHand tables.now hand.old }
+    ensures value { IfOk result (λ found. IsTrueValue G.rules p found.0) }
+    ensures near { IfOk result (λ found. found.0.remoteness ≤ REMOTENESS) }
+    ensures number { IfOk result (λ found. AreThere found.1 (IsDeliveryIn G.rules p.tier p.index (p.index + 1))) }
+    ensures few { IfOk result (λ found. found.1 ≤ MOVES) }
+    ensures stop { IfErr result (IsStop G.rules p.tier) }
+    ensures long { length hand.new ≡ SLOTS }
+    ensures at_hand { AreAtHand tables.now hand.new }
+{
+    lists.list_children::<G>(p);
+    let Lists {
+        results: _,
+        children,
+        words,
+    } = lists;
+    let (seen, number) = match gather::<G>(tables, hand, p, children.as_slice(), words) {
+        Some(found) => found,
+        None => return Err(Stop::Stays),
+    };
+    let solved = value_of(seen);
+    if solved.remoteness > REMOTENESS {
+        return Err(Stop::TooFar);
+    }
+    Ok((solved, number))
+}
+
+// Returns the value of a position with these children.
+fn value_of(seen: Summary) -> Solved
+    requires lost { IfSome seen.lost (λ n. n ≤ REMOTENESS) }
+    requires won { IfSome seen.won (λ n. n ≤ REMOTENESS) }
+    requires tied { IfSome seen.tied (λ n. n ≤ REMOTENESS) }
+    ensures value { result ≡ settle seen.lost seen.won seen.tied }
+    ensures near { result.remoteness ≤ REMOTENESS + 1 }
+{
+    match (seen.lost, seen.won, seen.tied) {
+        (Some(n), _, _) => one_more(Value::Win, n),
+        (None, Some(n), _) => one_more(Value::Lose, n),
+        (None, None, Some(n)) => one_more(Value::Tie, n),
+        (None, None, None) => Solved {
+            value: Value::Draw,
+            remoteness: 0,
+        },
+    }
+}
+
+// Returns this value with a remoteness of one more.
+fn one_more(value: Value, n: u32) -> Solved
+    requires { n ≤ REMOTENESS }
+    ensures value { result.value ≡ value }
+    ensures remoteness { result.remoteness ≡ n + 1 }
+{
+    Solved {
+        value,
+        remoteness: n + 1,
+    }
+}

@@ -1,0 +1,2 @@
+pub mod TapatanRules
+pub mod laws

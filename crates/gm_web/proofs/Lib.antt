@@ -1,0 +1,3 @@
+mod Closing
+mod Refused
+mod Trueness

@@ -1,0 +1,5 @@
+pub mod Games
+pub mod Records
+pub mod Refusing
+pub mod Replies
+pub mod Saying

@@ -1,0 +1,147 @@
+//! The solver for a host such as a web page: exports that keep nothing. The host keeps the records of the tiers that were solved, a byte each, in memory of its
+//! own. `web_solve_game` and `web_solve` write them, and `web_check` tests bytes from elsewhere. `web_solve` and `web_ask` require bytes that one of these three
+//! has written or accepted for the same tiers of the same game, unchanged since.
+#![tactic(auto)]
+
+ghost use Rattle.std.specs.Prelude.{◌≡◌};
+ghost use Rattle.gm_web.specs.Games.{IsFor, IsNoGame};
+ghost use Rattle.gm_web.specs.Records.{AreTrue};
+ghost use Rattle.gm_web.specs.Replies.{IsAnswered, IsText, IsOrder, IsSolved, IsSolvedGame, IsChecked, refused};
+
+pub mod bytes;
+pub mod engine;
+pub mod refusal;
+pub mod told;
+
+use crate::told::{
+    REFUSED, tell_check, tell_game, tell_lines, tell_order, tell_size, tell_text, tell_tier,
+};
+use gm_dao::dao::Dao;
+use gm_hare::hare::Hare;
+use gm_morris::games::{Achi, ThreeMens, TicTacToe};
+use gm_mutorere::mutorere::MuTorere;
+use gm_pong::pong::Pong;
+use gm_shisima::shisima::Shisima;
+use gm_tactix::tactix::TacTix;
+use gm_takeaway::takeaway::Takeaway;
+use gm_toys::countdown::Countdown;
+use gm_toys::wheel::Wheel;
+use std::alloc::Global;
+
+// Calls a function of the game with this number; where there is none, the last value is the answer. Each game has a line here and one in specs/Games.antt.
+macro_rules! of_game {
+    ($game:expr, $of:ident, $given:tt, $none:expr) => {
+        match $game {
+            0 => $of::<Countdown<10>> $given,
+            1 => $of::<Wheel> $given,
+            2 => $of::<TacTix<1, false>> $given,
+            3 => $of::<TacTix<2, false>> $given,
+            4 => $of::<TacTix<3, false>> $given,
+            5 => $of::<TacTix<4, false>> $given,
+            6 => $of::<TacTix<1, true>> $given,
+            7 => $of::<TacTix<2, true>> $given,
+            8 => $of::<TacTix<3, true>> $given,
+            9 => $of::<TacTix<4, true>> $given,
+            10 => $of::<TicTacToe> $given,
+            11 => $of::<ThreeMens> $given,
+            12 => $of::<Achi> $given,
+            13 => $of::<MuTorere> $given,
+            14 => $of::<Dao> $given,
+            15 => $of::<Hare> $given,
+            16 => $of::<Pong> $given,
+            17 => $of::<Shisima> $given,
+            18 => $of::<Takeaway> $given,
+            _ => $none,
+        }
+    };
+}
+
+/// Returns how many indexes a tier has, or 0 when there is no such game.
+#[unsafe(no_mangle)]
+pub extern "C" fn web_size(game: u32, tier: u64) -> u64
+    ensures size { IsFor game (λ g. result ≡ g.rules.tier_size tier) }
+    ensures none { IsNoGame game → result ≡ 0 }
+{
+    of_game!(game, tell_size, (tier), 0)
+}
+
+/// Writes the tiers of a game, child tiers first. The answer is how many there are, or a refusal.
+#[unsafe(no_mangle)]
+pub extern "C" fn web_order(alloc: Global, game: u32, out: &mut [u64]) -> u64
+    ensures order { IsFor game (λ g. IsOrder g out.old out.new result) }
+    ensures none { IsNoGame game → result ≡ refused }
+{
+    of_game!(game, tell_order, (alloc, out), REFUSED)
+}
+
+/// Solves a whole game: writes its tiers, child tiers first, and their records, one tier after another. The answer is how many tiers there are, or a refusal.
+#[unsafe(no_mangle)]
+pub extern "C" fn web_solve_game(alloc: Global, game: u32, order: &mut [u64], out: &mut [u8]) -> u64
+    ensures solved { IsFor game (λ g. IsSolvedGame g order.new out.new result) }
+    ensures none { IsNoGame game → result ≡ refused }
+{
+    of_game!(game, tell_game, (alloc, order, out), REFUSED)
+}
+
+/// Solves a tier when these tiers have these records, and writes its records. The answer is the number of deliveries, or a refusal.
+#[unsafe(no_mangle)]
+pub extern "C" fn web_solve(
+    alloc: Global,
+    game: u32,
+    solved: &[u64],
+    records: &[u8],
+    tier: u64,
+    out: &mut [u8],
+) -> u64
+    requires known { IsFor game (λ g. AreTrue g.rules solved.now records.now) }
+    ensures solved { IsFor game (λ g. IsSolved g tier out.old out.new result) }
+    ensures none { IsNoGame game → result ≡ refused }
+{
+    of_game!(
+        game,
+        tell_tier,
+        (alloc, solved, records, tier, out),
+        REFUSED
+    )
+}
+
+/// Tests whether these bytes are the records of these tiers. The answer is 0, or a refusal.
+#[unsafe(no_mangle)]
+pub extern "C" fn web_check(alloc: Global, game: u32, tiers: &[u64], records: &[u8]) -> u64
+    ensures checked { IsFor game (λ g. IsChecked g tiers.now records.now result) }
+    ensures none { IsNoGame game → result ≡ refused }
+{
+    of_game!(game, tell_check, (alloc, tiers, records), REFUSED)
+}
+
+/// Answers lines when these tiers have these records, in the words of `gamesman ask`. The answer is how many bytes are written, or a refusal.
+#[unsafe(no_mangle)]
+pub extern "C" fn web_ask(
+    alloc: Global,
+    game: u32,
+    solved: &[u64],
+    records: &[u8],
+    asked: u32,
+    lines: &[u8],
+    out: &mut [u8],
+) -> u64
+    requires known { IsFor game (λ g. AreTrue g.rules solved.now records.now) }
+    ensures answered { IsFor game (λ g. IsAnswered g asked solved.now lines.now out.old out.new result) }
+    ensures none { IsNoGame game → result ≡ refused }
+{
+    of_game!(
+        game,
+        tell_lines,
+        (alloc, solved, records, asked, lines, out),
+        REFUSED
+    )
+}
+
+/// Writes the text of the canonical position with this index of a tier. The answer is how many bytes that takes, or a refusal.
+#[unsafe(no_mangle)]
+pub extern "C" fn web_text(game: u32, tier: u64, index: u64, out: &mut [u8]) -> u64
+    ensures text { IsFor game (λ g. IsText g tier index out.old out.new result) }
+    ensures none { IsNoGame game → result ≡ refused }
+{
+    of_game!(game, tell_text, (tier, index, out), REFUSED)
+}

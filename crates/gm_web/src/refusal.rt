@@ -1,0 +1,39 @@
+//! Why there is no answer.
+ghost use Rattle.std.specs.Prelude.{◌≡◌};
+ghost use Rattle.gm_web.specs.Replies.{number_of};
+
+/// Why there is no answer.
+#[derive(Clone, Copy, Debug, PartialEq, Eq)]
+pub enum Refusal {
+    /// There is no memory left.
+    Memory,
+    /// A tier comes before one of its child tiers, or is too large.
+    Order,
+    /// The bytes are not the records of the tiers.
+    Records,
+    /// A position of the tier is further from its end than a byte holds.
+    TooFar,
+    /// There is less room than the answer takes, or the room is not that of the records.
+    Room,
+    /// No canonical position has this index of the tier.
+    Position,
+    /// A line names a position of a tier that is not among those given.
+    NotSolved,
+}
+
+impl Refusal {
+    /// Returns the number of the refusal.
+    pub fn number(&self) -> u32
+        ensures { result ≡ number_of self.now }
+    {
+        match self {
+            Refusal::Memory => 1,
+            Refusal::Order => 2,
+            Refusal::Records => 3,
+            Refusal::TooFar => 4,
+            Refusal::Room => 5,
+            Refusal::Position => 6,
+            Refusal::NotSolved => 7,
+        }
+    }
+}

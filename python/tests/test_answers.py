@@ -1,0 +1,138 @@
+"""Each legal position of six games, and each text that is none, beside an independent solver."""
+import unittest
+from collections import Counter, defaultdict
+from dataclasses import astuple
+from typing import Any, Dict, List, Set
+
+from common import GAMESMAN, WithRoom, solved
+from gamesman import Folder, Game, NoSuchPlace, NoSuchPosition, Position, Record
+
+GAMES = ("wheel", "tactix-3-misere", "tictactoe", "threemens", "achi", "mutorere")
+
+# How many positions of a game are looked at by a process each.
+FEW = 12
+
+
+def parents_of(right: Any) -> Dict[str, Set[str]]:
+    """Returns the canonical positions from which a move leads to a position or to one that is symmetric to it, by its canonical position."""
+    found: Dict[str, Set[str]] = defaultdict(set)
+    for position in set(right.least.values()):
+        for _, _, child in right.moves[position]:
+            found[right.least[child]].add(position)
+    return found
+
+
+def rows_of(position: Position) -> List[Any]:
+    """Returns the moves with all that is said of them."""
+    return [tuple(move) for move in position.moves()]
+
+
+def rows_wanted(right: Any, text: str) -> List[Any]:
+    """Returns the moves as the solver has them."""
+    other = {"win": "lose", "lose": "win"}
+    rows = []
+    for _, name, child in right.ranked(text):
+        value, remoteness = right.values[child]
+        rows.append((name, other.get(value, value), 0 if value == "draw" else remoteness + 1, child))
+    return rows
+
+
+class Answers(WithRoom):
+    """Each test goes through all games."""
+
+    def games(self) -> Any:
+        for name in GAMES:
+            with Game(name, program=GAMESMAN) as game:
+                yield game, solved(name)
+
+    def test_each_legal_position_has_its_value_and_its_moves(self) -> None:
+        for game, right in self.games():
+            legal = sorted(right.game.legal)
+            seen = 0
+            for text, position in zip(legal, game.positions(legal)):
+                self.assertEqual((position.text, (position.value, position.remoteness)), (text, right.values[text]))
+                self.assertEqual(rows_of(position), rows_wanted(right, text))
+                self.assertEqual(position.is_over, not right.moves[text])
+                best = position.best_move()
+                self.assertEqual(best and tuple(best), next(iter(rows_wanted(right, text)), None))
+                seen += 1
+            self.assertEqual(seen, len(legal))
+            self.assertEqual(game.start.text, right.game.start)
+
+    def test_each_other_text_is_refused(self) -> None:
+        for game, right in self.games():
+            others = [text for text in right.game.texts if not right.game.is_legal(text)]
+            others += ["\n", f"{right.game.start}\r", f"{right.game.start}\n", "\u00e9", "\u0661", "", "x" * 5000, "\ud800", "a\0"]
+            for text in others:
+                with self.assertRaises(NoSuchPosition):
+                    game.position(text)
+            self.assertEqual(game.position(right.game.start).text, right.game.start)
+
+    def test_parents_and_places(self) -> None:
+        """By one process for all positions; what the methods say of some."""
+        for game, right in self.games():
+            parents, orbits = parents_of(right), Counter(right.least.values())
+            legal = sorted(right.game.legal)
+            words = ("--values", "--with", "canonical,parents,symmetric")
+            for text, (asked, answer) in zip(legal, game._answers(legal, words)):
+                least = right.least[text]
+                self.assertEqual((asked, set(answer["parents"])), (text, parents[least]))
+                self.assertEqual(answer["symmetric"], orbits[least])
+            for text in legal[:: len(legal) // FEW + 1]:
+                least, position = right.least[text], game.position(text)
+                self.assertEqual({parent.text for parent in position.parents()}, parents[least])
+                self.assertEqual(position.symmetric(), orbits[least])
+                place = (right.game.tier(text), right.game.index(text), least == text, right.game.index(least), least)
+                self.assertEqual(astuple(position.place()), place)
+                self.assertEqual(game.at(place[0], place[3]).text, least)
+
+    def test_best_play(self) -> None:
+        """The line of best play is that of the best moves, and its end is what the value says."""
+        for game, right in self.games():
+            legal = sorted(right.game.legal)
+            for text in legal[:: len(legal) // FEW + 1]:
+                position = game.position(text)
+                line = position.best_line()
+                if position.value != "draw":
+                    self.assertEqual(len(line), position.remoteness)
+                for move in line:
+                    best = position.best_move()
+                    self.assertEqual(best and best.text, move)
+                    position = position.play(move)
+                if game.position(text).value != "draw":
+                    self.assertTrue(position.is_over)
+
+    def test_each_record_of_the_files(self) -> None:
+        for game, right in self.games():
+            to = self.folder(game.name)
+            heard: List[Any] = []
+            summary = game.solve(to, heard.append)
+            self.assertEqual((summary.solved, summary.reused, summary.migrated), (len(right.game.tiers), 0, 0))
+            self.assertTrue(heard and all(it.tiers == len(right.game.tiers) and it.stage for it in heard))
+            self.assertEqual(game.solve(to).reused, len(right.game.tiers))
+            folder = Folder(to)
+            self.assertEqual((folder.game, folder.tiers), (game.name, sorted(right.game.tiers)))
+            wanted = {(tier, index): right.values[text] for tier, rows in right.canonical().items() for index, text in rows}
+            self.assertEqual({(tier, index): tuple(record) for tier, index, record in folder.records()}, wanted)
+            self.assertEqual(folder.counts(), Counter(Record(*it) for it in wanted.values()))
+            for tier in folder:
+                self.assertEqual(len(tier), right.game.size(tier.tier))
+                self.assertEqual([index for index in range(len(tier)) if tier[index]], [index for index, _ in tier])
+            with Game(game.name, folder=to, program=GAMESMAN) as read:
+                texts = sorted(right.game.legal)[:50]
+                self.assertEqual([(it.value, it.remoteness) for it in read.positions(texts)], [right.values[it] for it in texts])
+
+    def test_places_that_are_none(self) -> None:
+        for game, right in self.games():
+            tier = sorted(right.game.tiers)[-1]
+            taken = {index for index, _ in right.canonical()[tier]}
+            free = [index for index in range(right.game.size(tier)) if index not in taken][:3]
+            for at in [(tier, right.game.size(tier)), (-1, 0), (tier, -1), (9999, 0), *((tier, index) for index in free)]:
+                with self.assertRaises(NoSuchPlace):
+                    game.at(*at)
+            with self.assertRaises(NoSuchPosition):
+                game.locate("no such text")
+
+
+if __name__ == "__main__":
+    unittest.main()

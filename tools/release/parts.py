@@ -1,0 +1,184 @@
+"""What a release has: each file with its mode and its bytes, in the archive and in the Debian package."""
+import gzip
+import os
+import re
+import subprocess
+
+HERE = os.path.dirname(os.path.abspath(__file__))
+ROOT = os.path.dirname(os.path.dirname(HERE))
+GAMESMAN = os.path.join(ROOT, "crates/gamesman/out/gamesman")
+
+NAME = "gamesman"
+MAINTAINER = "Fegbolaru maintainers <maintainers@users.noreply.fegbolaru.example>"
+
+PICTURES = ("docs/pictures/explorer.png", "docs/pictures/explorer-dark.png")
+
+# The pages of the repository that a user of the program reads.
+PAGES = ("README.md", "docs/PROGRAM.md", "docs/GAMES.md", "docs/FORMATS.md", "docs/CHANGELOG.md", *PICTURES)
+LICENCES = ("LICENSE-MIT", "LICENSE-APACHE")
+EXAMPLES = ("README.md", "puzzles.py", "remoteness.py")
+
+
+class Refused(Exception):
+    """Why there is no release."""
+
+
+def read(path):
+    with open(os.path.join(ROOT, path), "rb") as file:
+        return file.read()
+
+
+def told(*words):
+    """What a command writes; anything but success is a refusal."""
+    ran = subprocess.run(words, cwd=ROOT, stdin=subprocess.DEVNULL, capture_output=True, check=False)
+    if ran.returncode:
+        raise Refused(f"{' '.join(words)}: status {ran.returncode}, {ran.stderr.decode(errors='replace').strip()}")
+    return ran.stdout
+
+
+def version():
+    """The version that the program says, which is the package's too."""
+    found = re.fullmatch(r"gamesman (\d+\.\d+\.\d+)\n", told(GAMESMAN, "--version").decode())
+    of_package = re.search(r'(?m)^__version__ = "([^"]+)"$', read("python/gamesman/__init__.py").decode())
+    if not found or not of_package or found[1] != of_package[1]:
+        raise Refused(f"the program is version {found and found[1]}, and the Python package {of_package and of_package[1]}")
+    return found[1]
+
+
+def package_of_python():
+    """The files of the Python package, by their paths below python/."""
+    names = told("git", "ls-files", "python/gamesman", "python/README.md", "python/backend.py", "python/pyproject.toml").decode().split()
+    return {os.path.relpath(name, "python"): read(name) for name in sorted(names)}
+
+
+def shared():
+    """What is in both: the program, its page of the manual, and its completions, by short names."""
+    found = {"program": read(GAMESMAN), "manual": told(GAMESMAN, "man")}
+    return {**found, **{shell: told(GAMESMAN, "completions", shell) for shell in ("bash", "zsh", "fish")}}
+
+
+def with_modes(texts, programs=()):
+    return {path: (0o755 if path in programs else 0o644, text) for path, text in texts.items()}
+
+
+def archive(proved, page):
+    """The files of the archive."""
+    own = shared()
+    texts = {
+        "bin/gamesman": own["program"],
+        "share/man/man1/gamesman.1": own["manual"],
+        "share/bash-completion/completions/gamesman": own["bash"],
+        "share/zsh/site-functions/_gamesman": own["zsh"],
+        "share/fish/vendor_completions.d/gamesman.fish": own["fish"],
+        "PROVED.txt": proved,
+    }
+    texts.update((path, read(path)) for path in PAGES + LICENCES)
+    texts.update((f"python/{path}", text) for path, text in package_of_python().items())
+    texts.update((f"examples/python/{name}", read(f"examples/python/{name}")) for name in EXAMPLES)
+    texts.update({"games.html": page} if page else {})
+    scripts = {f"examples/python/{name}" for name in EXAMPLES if name.endswith(".py")}
+    return with_modes(texts, {"bin/gamesman", *scripts})
+
+
+def zipped(text):
+    """A text as Debian keeps it, without a date."""
+    return gzip.compress(text, 9, mtime=0)
+
+
+COPYRIGHT = """Format: https://www.debian.org/doc/packaging-manuals/copyright-format/1.0/
+Upstream-Name: gamesman
+
+Files: *
+Copyright: 2026 the gamesman authors
+License: Expat or Apache-2.0
+
+License: Expat
+"""
+
+
+def copyright_text():
+    """Debian's file of licences: the whole text of one, and where the other one is."""
+    _, _, terms = read("LICENSE-MIT").decode().partition("\n\n")[2].partition("\n\n")
+    expat = "".join(f" {line or '.'}\n" for line in terms.strip().split("\n"))
+    return (COPYRIGHT + expat + "\nLicense: Apache-2.0\n On Debian systems the text is in /usr/share/common-licenses/Apache-2.0.\n").encode()
+
+
+def debian_changes(number, date):
+    return f"gamesman ({number}) unstable; urgency=medium\n\n  * CHANGELOG.md says what is new.\n\n -- {MAINTAINER}  {date}\n".encode()
+
+
+OVERRIDES = b"""# The program is to the byte the one that the gate built, tested and named the sum of, so nothing is taken out of it.
+gamesman: unstripped-binary-or-object [usr/bin/gamesman]
+# It is published by its authors, and in no archive that has reports of wishes.
+gamesman: initial-upload-closes-no-bugs [usr/share/doc/gamesman/changelog.gz:1]
+"""
+
+# Python writes what it compiles beside the modules, where root runs it.
+BEFORE_REMOVAL = b"""#!/bin/sh
+set -e
+rm -rf /usr/lib/python3/dist-packages/gamesman/__pycache__
+"""
+
+
+def debian(proved, page, date):
+    """The files of the Debian package, but for its control files."""
+    own, number = shared(), version()
+    doc, modules = "usr/share/doc/gamesman", "usr/lib/python3/dist-packages"
+    texts = {
+        "usr/bin/gamesman": own["program"],
+        "usr/share/man/man1/gamesman.1.gz": zipped(own["manual"]),
+        "usr/share/bash-completion/completions/gamesman": own["bash"],
+        "usr/share/zsh/vendor-completions/_gamesman": own["zsh"],
+        "usr/share/fish/vendor_completions.d/gamesman.fish": own["fish"],
+        "usr/share/lintian/overrides/gamesman": OVERRIDES,
+        f"{doc}/copyright": copyright_text(),
+        f"{doc}/changelog.gz": zipped(debian_changes(number, date)),
+        f"{doc}/PROVED.txt": proved,
+    }
+    texts.update((f"{doc}/{os.path.basename(path)}", read(path)) for path in PAGES if path.endswith(".md"))
+    texts.update((f"{modules}/{path}", text) for path, text in package_of_python().items() if path.startswith("gamesman/"))
+    texts.update((f"{doc}/examples/{name}", read(f"examples/python/{name}")) for name in EXAMPLES)
+    texts[f"{doc}/PYTHON.md"] = read("python/README.md")
+    texts.update({"usr/share/gamesman/games.html": page} if page else {})
+    return with_modes(texts, {"usr/bin/gamesman"})
+
+
+def c_library():
+    """The least version of the C library that has all symbols of the program, which is linked with nothing else."""
+    text = read(GAMESMAN)
+    found = {tuple(map(int, it.decode().split("."))) for it in re.findall(rb"\0GLIBC_(\d+\.\d+(?:\.\d+)?)(?=\0)", text)}
+    if not found:
+        raise Refused("the program names no version of the C library")
+    return ".".join(map(str, max(found)))
+
+
+def control(number, files):
+    """The control file of the package."""
+    size = sum(-(-len(text) // 1024) for _, text in files.values())
+    return f"""Package: gamesman
+Version: {number}
+Architecture: amd64
+Maintainer: {MAINTAINER}
+Installed-Size: {size}
+Depends: libc6 (>= {c_library()})
+Suggests: python3
+Section: math
+Priority: optional
+Description: solver of board games whose values are proved
+ gamesman solves two-player games without chance or hidden information, such as
+ Tic-tac-toe, Achi, Dao, and Hare and Hounds. For every legal position it finds
+ whether the player to move wins, loses, ties or draws, and in how many moves.
+ .
+ It looks positions up, ranks moves, draws boards, finds puzzles, and plays.
+ That its values are right is proved. A package for Python is included.
+""".encode()
+
+
+def written(folder, files):
+    """Writes files below a folder, with one date and in order."""
+    for path, (mode, text) in sorted(files.items()):
+        to = os.path.join(folder, path)
+        os.makedirs(os.path.dirname(to), mode=0o755, exist_ok=True)
+        with open(to, "xb") as file:
+            os.fchmod(file.fileno(), mode)
+            file.write(text)

@@ -1,0 +1,215 @@
+"""The page with all games, opened from its file in Chromium: looks, names, addresses, keys, typing, play, puzzles, editing, answers, and no request."""
+import os
+import re
+import sys
+import time
+import urllib.parse
+
+HERE = os.path.dirname(os.path.abspath(__file__))
+sys.path.insert(0, os.path.join(os.path.dirname(HERE), "page"))
+import chromium
+from looks import CONTRAST, NAMELESS
+
+READY = """$('fault').textContent !== ''
+|| (!$('explorer').hidden && line.length > 0 && rows[line[at].row].moves !== undefined && $('state').textContent !== '')"""
+SOME = """(async () => {
+  const texts = [];
+  for (let k = 0; k < 12; k++) texts.push(await ask("random", { game: game.game, byte: 0 }));
+  return texts;
+})()"""
+SHOWN = """(async text => {
+  const row = await find(text);
+  return [rows[row][1], rows[row].moves.map(m => [m.name, m.worth, rows[m.to][0]])];
+})"""
+OVER = "document.documentElement.scrollWidth > document.documentElement.clientWidth"
+FRESH = """(async () => {
+  const took = [];
+  for (let k = 0; k < 9; k++) {
+    const text = await ask("random", { game: game.game, byte: 0 }), start = performance.now();
+    await find(text);
+    took.push(performance.now() - start);
+  }
+  return took.sort((a, b) => a - b)[4];
+})()"""
+# (wide, high, the size of letters in per cent)
+SIZES = ((1280, 960, 100), (360, 780, 100), (1280, 960, 200), (640, 480, 100))
+PRESSED = ("button", "link", "textbox", "combobox", "option")
+GAMES = "tictactoe dao mutorere hare tactix-4 countdown".split()
+
+
+def worth(value, left):
+    return value if value == "draw" else f"{value} in {left}"
+
+
+class Tried:
+    """The page in a browser, with what was found wrong and what was measured."""
+
+    def __init__(self, file, asked, pictures=None):
+        self.url, self.asked, self.pictures = f"file://{os.path.abspath(file)}", asked, pictures
+        self.browser, self.wrong, self.figures = chromium.Browser(), [], {}
+
+    def want(self, what, got, wanted=True):
+        if got != wanted:
+            self.wrong.append(f"{what}: {str(got)[:300]}, not {str(wanted)[:300]}")
+
+    def js(self, text):
+        return self.browser.js(text)
+
+    def open(self, address=""):
+        """Opens the page anew, and gives the milliseconds to the first value."""
+        start = time.monotonic()
+        self.browser.open(self.url + address)
+        if address:
+            self.browser.until(READY)
+        return round(1000 * (time.monotonic() - start))
+
+    def soon(self, what, text):
+        """A fact comes to hold."""
+        try:
+            self.browser.until(text)
+        except TimeoutError:
+            self.wrong.append(f"{what}: never {text}; {self.js('$(`say`).textContent')}")
+
+    def looks(self):
+        for width, height, letters in SIZES:
+            for scheme in ("light", "dark"):
+                self.browser.size(width, height, scheme)
+                for where in ("", *(f"#{game}" for game in GAMES)):
+                    self.open(where)
+                    self.js(f"document.documentElement.style.fontSize = '{letters}%'")
+                    what = f"{where or 'the list'} at {width}, {letters} per cent, {scheme}"
+                    self.want(f"width of {what}", self.js(OVER), False)
+                    self.want(f"contrast of {what}", self.js(CONTRAST), [])
+                    self.want(f"names of {what}", self.js(NAMELESS), [])
+                    self.shot(f"{where[1:] or 'list'}-{width}-{letters}-{scheme}", width, height)
+        self.browser.size(1280, 960, "light")
+
+    def shot(self, name, width, height):
+        if self.pictures:
+            with open(os.path.join(self.pictures, f"{name}.png"), "wb") as it:
+                it.write(self.browser.picture({"x": 0, "y": 0, "width": width, "height": height, "scale": 1}))
+
+    def names(self):
+        """What can be pressed has a name, and the value is in a part that is spoken."""
+        self.open("#dao")
+        self.browser.call("Accessibility.enable")
+        nodes = [node for node in self.browser.call("Accessibility.getFullAXTree")["nodes"] if not node.get("ignored")]
+        named = [(node["role"]["value"], node.get("name", {}).get("value", "")) for node in nodes]
+        self.want("what has no name", [role for role, name in named if role in PRESSED and not name], [])
+        places = [name for role, name in named if role == "button" and re.match("[a-d][1-4], ", name)]
+        self.want("places of the board", len(places), 16)
+        self.want("a place's name", "a1, Black, draw" in places)
+        self.want("what is spoken", self.js("$('state').getAttribute('role') === 'status' && $('state').textContent.includes('draw')"))
+
+    def addresses(self):
+        text = "x.x..x.x.o.oo..o"
+        quoted = urllib.parse.quote(text, safe="")
+        for address, at, shown, hidden in ((f"#dao/{quoted}", 0, text, False), ("#dao//a1-a3", 1, None, False), (f"#dao?/{quoted}", 0, text, True)):
+            self.open(address)
+            self.want(f"{address}: where", self.js("at"), at)
+            self.want(f"{address}: hidden", self.js("hidden"), hidden)
+            if shown:
+                self.want(f"{address}: what", self.js("textAt(at)"), shown)
+        self.open("#dao/none")
+        self.soon("a wrong position", "$('say').textContent === 'There is no such position or move.'")
+        self.open("#chess")
+        self.want("a wrong game", self.js("$('fault').textContent"), "There is no game chess here.")
+
+    def typing(self):
+        self.open("#dao")
+        self.js("$('typing').value = 'x.x..x.x.o.oo..o'; $('typed').requestSubmit()")
+        self.soon("typed", "textAt(at) === 'x.x..x.x.o.oo..o'")
+        self.js("$('typing').value = 'nothing'; $('typed').requestSubmit()")
+        self.soon("typed wrong", "$('typing').getAttribute('aria-invalid') === 'true'")
+        self.want("after a wrong text", self.js("textAt(at)"), "x.x..x.x.o.oo..o")
+
+    def keys(self):
+        key = self.browser.key
+        self.open("#dao")
+        self.js("board.places[0].g.focus()")
+        key("ArrowRight")
+        self.want("the arrow to the right", self.js("document.activeElement === board.places[1].g"))
+        key("ArrowDown")
+        self.want("the arrow down", self.js("document.activeElement === board.places[5].g"))
+        key("Enter", "\r")
+        self.want("Enter on a stone", self.js("picked"), 5)
+        key("Escape")
+        self.want("Escape", self.js("picked"), None)
+        self.js("$('best').focus()")
+        key("b", "b")
+        self.soon("key b", "at === 1 && rows[line[at].row].moves")
+        key("ArrowLeft")
+        self.soon("the arrow to the left", "at === 0")
+        key("v", "v")
+        self.soon("key v", "hidden")
+        key("v", "v")
+        key("r", "r")
+        self.soon("key r", "$('say').textContent === 'A random position.'")
+        key("g", "g")
+        self.soon("key g", "!$('games').hidden")
+
+    def play(self):
+        self.open("#dao")
+        self.js("$('versus').value = '1'; $('versus').onchange()")
+        self.soon("the solver's first move", "line.length === 2 && at === 1 && hidden && side(at) === 1")
+        self.js("play(moves[0])")
+        self.soon("the solver's answer", "line.length === 4 && at === 3")
+        self.open("#countdown/4")
+        self.js("$('versus').value = '0'; $('versus').onchange(); play(moves.find(m => m.name === '1'))")
+        self.soon("the solver's answer", "line.length === 3 && at === 2")
+        self.js("play(moves[0])")
+        self.soon("the end", "['You won.', 'The solver won.'].includes($('say').textContent)")
+
+    def puzzles(self):
+        for game in ("dao", "tictactoe", "hare"):
+            self.open(f"#{game}")
+            self.js("puzzle()")
+            self.soon(f"a puzzle of {game}", "puzzled && $('say').textContent.startsWith('A puzzle: ')")
+            self.want(f"winning moves of {game}", self.js("moves.filter(m => word(m.worth) === 'win').length"), 1)
+            self.want(f"values of {game}'s puzzle", self.js("hidden && !document.querySelector('#moves .value')"))
+        self.js("play(moves.find(m => word(m.worth) !== 'win'))")
+        self.soon("a wrong move", "$('say').textContent.startsWith('That gives the win away.')")
+
+    def editing(self):
+        self.open("#tictactoe")
+        self.js("$('edit').click()")
+        self.soon("editing", "edited === '.........' && $('edit').getAttribute('aria-pressed') === 'true'")
+        self.js("press(4)")
+        self.soon("one press", "edited === '....x....' && $('state').textContent === 'No position of the game'")
+        self.js("press(4)")
+        self.soon("two presses", "edited === '....o....' && $('state').textContent.includes('tie in 8')")
+        self.js("$('edit').click()")
+        self.soon("edited", "edited === null && textAt(at) === '....o....'")
+
+    def answers(self):
+        """What the page shows of random positions, beside the program's answers."""
+        for game in GAMES:
+            self.open(f"#{game}")
+            texts = self.js(SOME)
+            for text, line in zip(texts, self.asked(game, texts)):
+                shown = self.js(f"{SHOWN}({text!r})")
+                moves = [[m["move"], worth(m["moveValue"], m["moveRemoteness"]), m["position"]] for m in line["moves"]]
+                self.want(f"{game} {text}", shown, [worth(line["positionValue"], line["remoteness"]), moves])
+
+    def times(self):
+        for game in ("dao", "tactix-4"):
+            self.figures[f"{game} to the first value, ms"] = min(self.open(f"#{game}") for _ in range(3))
+            self.figures[f"{game}, a new position, ms"] = round(self.js(FRESH), 1)
+
+    def without(self):
+        self.browser.call("Page.addScriptToEvaluateOnNewDocument", source="delete globalThis.WebAssembly")
+        self.browser.open(self.url)
+        self.want("without WebAssembly", "no WebAssembly" in self.js("$('fault').textContent"))
+
+    def run(self):
+        try:
+            for part in (self.looks, self.names, self.addresses, self.typing, self.keys, self.play, self.puzzles, self.editing, self.answers, self.times):
+                part()
+                faults = [it for it in self.browser.faults(self.url) if not str(it).startswith("blob:")]
+                self.want(f"{part.__name__}: what is said on the console or asked for", faults, [])
+            self.without()
+        except (OSError, EOFError, RuntimeError, TimeoutError) as why:
+            self.wrong.append(f"in the browser: {str(why)[:300]}")
+        finally:
+            self.browser.close()
+        return self
