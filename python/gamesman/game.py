@@ -4,7 +4,6 @@ import re
 import weakref
 from dataclasses import dataclass
 from functools import partial
-from operator import itemgetter
 from types import TracebackType
 from typing import Any, Callable, Dict, Iterable, Iterator, List, NamedTuple, Optional, Tuple, Type, Union
 
@@ -14,6 +13,9 @@ from .process import Asker, program_of, run, run_with_progress
 # What can be the text of a position: visible ASCII characters and spaces. In place of any other text the program is asked a line that is none.
 PLAIN = re.compile(r"[ -~]{0,1024}")
 NOT_PLAIN = b"\xff"
+
+# How the answer to a text that is no position begins.
+ERROR = '{"error":'
 
 
 def value_text(value: str, remoteness: int) -> str:
@@ -42,9 +44,30 @@ class Move(NamedTuple):
         return self.text
 
 
-# The members of an answer that are the fields of a move, and what makes a move of them without a call of Python code.
-FIELDS = itemgetter("move", "moveValue", "moveRemoteness", "position")
+# A move of an answer, and what follows its moves (docs/FORMATS.md). Reading these takes half the time of a JSON reader, which makes a dict of each move.
+MOVE = re.compile(r'"move":"([^"\\]*)","moveValue":"(\w+)","position":"([^"\\]*)","positionValue":"\w+","remoteness":\d+,"moveRemoteness":(\d+)')
+POSITION = re.compile(r'\],"position":"([^"\\]*)","positionValue":"(\w+)","remoteness":(\d+)\}')
+
+# Makes a move of its fields without a call of Python code.
 new_move: Any = partial(tuple.__new__, Move)
+
+
+def moves_of(answer: str) -> List[Move]:
+    """Reads the moves of an answer. A text with an escape is left to the JSON reader."""
+    found = MOVE.findall(answer)
+    if len(found) == answer.count('"moveValue":'):
+        return [new_move((text, value, int(remoteness), result)) for text, value, result, remoteness in found]
+    members = json.loads(answer)["moves"]
+    return [Move(it["move"], it["moveValue"], it["moveRemoteness"], it["position"]) for it in members]
+
+
+def value_of(answer: str) -> Tuple[str, str, int]:
+    """Reads the text of an answer's position, its value and its remoteness. A text with an escape is left to the JSON reader."""
+    found = POSITION.match(answer, answer.rfind('],"position":'))
+    if found:
+        return found[1], found[2], int(found[3])
+    members = json.loads(answer)
+    return members["position"], members["positionValue"], members["remoteness"]
 
 
 @dataclass(frozen=True)
@@ -96,19 +119,17 @@ class Progress(NamedTuple):
 class Position:
     """A legal position with its true value. Two positions are equal if they are of games with one name and have one text."""
 
-    __slots__ = ("game", "text", "value", "remoteness", "_moves")
+    __slots__ = ("game", "text", "value", "remoteness", "_answer")
 
     game: "Game"
     text: str
     value: str
     remoteness: int
 
-    def __init__(self, game: "Game", answer: Dict[str, Any]) -> None:
+    def __init__(self, game: "Game", answer: str) -> None:
         self.game = game
-        self.text = answer["position"]
-        self.value = answer["positionValue"]
-        self.remoteness = answer["remoteness"]
-        self._moves = answer["moves"]
+        self.text, self.value, self.remoteness = value_of(answer)
+        self._answer = answer
 
     def __repr__(self) -> str:
         return f"<{self.game.name} {self.text!r}: {value_text(self.value, self.remoteness)}>"
@@ -127,25 +148,24 @@ class Position:
     @property
     def is_over(self) -> bool:
         """Whether the game has ended: there is no move."""
-        return not self._moves
+        return not self.moves()
 
     def moves(self, distinct: bool = False) -> List[Move]:
         """Returns the moves, the best first: quick wins, then ties, draws, and losses, the slowest first.
 
         With `distinct`, of moves whose results are the same but for symmetry only the first."""
-        found = self.game._asked(self.text, "--distinct")["moves"] if distinct else self._moves
-        return list(map(new_move, map(FIELDS, found)))
+        return moves_of(self.game._line(self.text, "--distinct") if distinct else self._answer)
 
     def best_move(self) -> Optional[Move]:
         """Returns the move that the program plays, the first of `moves`, or None where the game has ended."""
-        return self.moves()[0] if self._moves else None
+        return next(iter(self.moves()), None)
 
     def play(self, move: Union[str, Move]) -> "Position":
         """Returns the position after a move, for the other side to move."""
         text = move.text if isinstance(move, Move) else move
-        for it in self._moves:
-            if it["move"] == text:
-                return self.game.position(it["position"])
+        for it in self.moves():
+            if it.text == text:
+                return self.game.position(it.result)
         raise NoSuchMove(f"{text!r} is no move of {self.text!r} in {self.game.name}")
 
     def best_line(self) -> List[str]:
@@ -220,10 +240,10 @@ class Game:
         """Returns the positions with these texts, in their order. They are asked for many at once, so this is the way to ask for a lot of them.
 
         The first text that is none raises NoSuchPosition."""
-        for text, answer in self._answers(texts, ()):
-            if "error" in answer:
+        for text, line in self._lines(texts, ()):
+            if line.startswith(ERROR):
                 raise NoSuchPosition(f"{text!r} is no position of {self.name}")
-            yield Position(self, answer)
+            yield Position(self, line)
 
     @property
     def start(self) -> Position:
@@ -291,8 +311,8 @@ class Game:
             found = self._askers[words] = Asker([self.program, "ask", self.name, *words, *self._kept()])
         return found
 
-    def _answers(self, texts: Iterable[str], words: Tuple[str, ...]) -> Iterator[Tuple[str, Dict[str, Any]]]:
-        """Asks for texts, and returns each with its answer."""
+    def _lines(self, texts: Iterable[str], words: Tuple[str, ...]) -> Iterator[Tuple[str, str]]:
+        """Asks for texts, and returns each with the line that answers it."""
         asked: List[str] = []
 
         def lines() -> Iterator[bytes]:
@@ -303,14 +323,18 @@ class Game:
         for answers in self._asker(words).ask(lines()):
             some = asked[: len(answers)]
             del asked[: len(answers)]
-            # (one list is read in less time than its members one by one)
-            yield from zip(some, json.loads(b"[" + b",".join(answers) + b"]"))
+            yield from zip(some, b"".join(answers).decode().splitlines())
+
+    def _line(self, text: str, *words: str) -> str:
+        """Asks for one position by a process with these words, and returns the line that answers it."""
+        ((_, line),) = self._lines([text], words)
+        if line.startswith(ERROR):
+            raise NoSuchPosition(f"{text!r} is no position of {self.name}")
+        return line
 
     def _asked(self, text: str, *words: str) -> Dict[str, Any]:
-        """Asks for one position by a process with these words."""
-        ((_, answer),) = self._answers([text], words)
-        if "error" in answer:
-            raise NoSuchPosition(f"{text!r} is no position of {self.name}")
+        """Asks for one position by a process with these words, and returns the members of the answer."""
+        answer: Dict[str, Any] = json.loads(self._line(text, *words))
         return answer
 
 

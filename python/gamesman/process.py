@@ -1,6 +1,8 @@
 """Processes of the program: one command to its end, and a running `gamesman ask`."""
+import contextlib
 import os
 import subprocess
+import sys
 import tempfile
 import threading
 from typing import IO, Callable, Iterable, Iterator, List, Optional, Sequence
@@ -9,6 +11,11 @@ from .errors import Failed, ProgramMissing, Stopped
 
 # As many bytes of questions are written at once at most. The smallest pipe has room for them, so the write never waits.
 CHUNK = 4096
+
+# How many bytes of answers the program may write before they are read, where the system grants it: those to a chunk of questions. By Linux's number of the
+# call for it, which Python names from 3.10 on.
+ROOM = 1 << 20
+SET_PIPE_SIZE = 1031
 
 # How many seconds a process whose output has ended is given to end by itself.
 PATIENCE = 1
@@ -26,6 +33,15 @@ def started(words: Sequence[str], errors: IO[bytes], has_input: bool) -> "subpro
         return subprocess.Popen(words, stdin=given, stdout=subprocess.PIPE, stderr=errors, bufsize=-1)
     except OSError as why:
         raise ProgramMissing(f"{words[0]}: {why.strerror}") from None
+
+
+def widen(pipe: IO[bytes]) -> None:
+    """Gives a pipe `ROOM`, so that the program answers while the caller looks at earlier answers."""
+    if sys.platform == "linux":
+        import fcntl
+
+        with contextlib.suppress(OSError):
+            fcntl.fcntl(pipe, SET_PIPE_SIZE, ROOM)
 
 
 def fault_of(errors: IO[bytes], status: int) -> str:
@@ -116,6 +132,8 @@ class Asker:
                 return
             self._errors = tempfile.TemporaryFile()
             self._process = started(self._words, self._errors, has_input=True)
+            assert self._process.stdout
+            widen(self._process.stdout)
             self._read_lines(1)
 
     def ask(self, lines: Iterable[bytes]) -> Iterator[List[bytes]]:

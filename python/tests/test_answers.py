@@ -1,4 +1,5 @@
 """Each legal position of six games, and each text that is none, beside an independent solver."""
+import json
 import unittest
 from collections import Counter, defaultdict
 from dataclasses import astuple
@@ -74,8 +75,8 @@ class Answers(WithRoom):
             parents, orbits = parents_of(right), Counter(right.least.values())
             legal = sorted(right.game.legal)
             words = ("--values", "--with", "canonical,parents,symmetric")
-            for text, (asked, answer) in zip(legal, game._answers(legal, words)):
-                least = right.least[text]
+            for text, (asked, line) in zip(legal, game._lines(legal, words)):
+                least, answer = right.least[text], json.loads(line)
                 self.assertEqual((asked, set(answer["parents"])), (text, parents[least]))
                 self.assertEqual(answer["symmetric"], orbits[least])
             for text in legal[:: len(legal) // FEW + 1]:

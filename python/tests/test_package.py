@@ -10,7 +10,8 @@ from typing import Any, Iterator, Tuple
 
 from common import GAMESMAN, ROOT, WithRoom, module
 import gamesman
-from gamesman import BadFile, Folder, Game
+from gamesman import BadFile, Folder, Game, Move
+from gamesman.game import moves_of, value_of
 
 FILES = sorted(glob.glob(f"{ROOT}/python/**/*.py", recursive=True) + glob.glob(f"{ROOT}/examples/python/*.py"))
 
@@ -37,7 +38,18 @@ def imports(tree: ast.AST, within: str = "") -> Iterator[Tuple[str, str]]:
         yield from imports(node, node.name if isinstance(node, ast.FunctionDef) else within)
 
 
+# An answer with escapes in its texts, as no game of the program has them.
+ESCAPED = (
+    r'{"moves":[{"move":"a\"b","moveValue":"win","position":"\u0041","positionValue":"lose","remoteness":0,"moveRemoteness":1}],'
+    r'"position":"],\"position\":\"\\","positionValue":"win","remoteness":1}'
+)
+
+
 class Package(WithRoom):
+    def test_texts_with_escapes(self) -> None:
+        self.assertEqual(moves_of(ESCAPED), [Move('a"b', "win", 1, "A")])
+        self.assertEqual(value_of(ESCAPED), ('],"position":"\\', "win", 1))
+
     def test_syntax_of_python_3_8(self) -> None:
         self.assertGreater(len(FILES), 8)
         for path in FILES:

@@ -13,31 +13,31 @@ use Rattle.gm_chess.specs.declared.men.Men.{Men}
 abbrev pub TAKEN : ℕ
 TAKEN = 64
 
--- a way is a number below 9: three times its step in rows, plus its step in files, each step one more than it is; 4 is no way
+-- a way is a number below 9: three times its step in rows, plus its step in files, with one added to each step; 4 is not a way
 abbrev pub rook_ways : List ℕ
 rook_ways = 1 ∷ 3 ∷ 5 ∷ 7 ∷ []
 
 abbrev pub all_ways : List ℕ
 all_ways = 0 ∷ 1 ∷ 2 ∷ 3 ∷ 5 ∷ 6 ∷ 7 ∷ 8 ∷ []
 
--- whether there is a square beside this one on this way, and which
+-- whether there is a next square on this way, and which
 unfoldable pub goes_on_board : ℕ → ℕ → Bool
 goes_on_board d s = nat_lt s 64 && (nat_le 1 (s / 8 + d / 3) && (nat_le (s / 8 + d / 3) 8 && (nat_le 1 (s % 8 + d % 3) && nat_le (s % 8 + d % 3) 8)))
 
 unfoldable pub beside : ℕ → ℕ → ℕ
 beside d s = 8 * (s / 8 + d / 3 - 1) + (s % 8 + d % 3 - 1)
 
--- the next n squares from a square on a way, as far as the board goes
+-- the next n squares from a square on a way, up to the edge of the board
 unfoldable pub ray : ℕ → ℕ → ℕ → List ℕ
 ray zero d s = []
 ray (suc n) d s = if goes_on_board d s then beside d s ∷ ray n d (beside d s) else []
 
--- whether a man that goes along these squares comes to one of them, if men stand on two others that stop it
+-- whether a man that goes along these squares reaches a square, with men on two others that stop it
 unfoldable pub reaches : List ℕ → ℕ → ℕ → ℕ → Bool
 reaches [] c u v = false
 reaches (x ∷ xs) c u v = x == c || (not (x == u || x == v) && reaches xs c u v)
 
--- whether a man that goes up to n squares on each of these ways attacks one square from another, if men stand on u and v
+-- whether a man that goes up to n squares on each of these ways attacks one square from another, with men on u and v
 abbrev pub attacks : ℕ → List ℕ → ℕ → ℕ → ℕ → ℕ → Bool
 attacks n ways a c u v = list_any (λ d. reaches (ray n d a) c u v) ways
 
@@ -57,7 +57,8 @@ piece_attacks q a c u v = attacks 7 (piece_ways q) a c u v
 unfoldable pub in_check : Bool → Men → Bool
 in_check q b = piece_attacks q b.piece b.foe b.king b.king
 
--- the men stand on different squares of the board, the kings apart, and the side that has moved is not in check; bare kings are left by black's move
+-- the men are on different squares of the board, the kings are apart, and the side that has moved is not in check; bare kings are the result of a move of
+-- black's
 unfoldable pub legal : Bool → Men → Bool
 legal q b = nat_lt b.king 64 && (nat_lt b.foe 64 && (not (b.king == b.foe) && (not (king_attacks b.king b.foe)
     && (if b.piece == TAKEN then b.white_moves
@@ -85,7 +86,7 @@ king_can b a c = a == b.king && (king_attacks a c && (not (c == b.piece) && not 
 unfoldable pub piece_can : Bool → Men → ℕ → ℕ → Bool
 piece_can q b a c = a == b.piece && (piece_attacks q a c b.king b.foe && (not (c == b.king) && not (c == b.foe)))
 
--- black's king goes to a square that is not attacked when it has left its own; it may take the rook or queen
+-- black's king goes to a square that is not attacked after it has left its own; it may take the rook or queen
 unfoldable pub foe_can : Bool → Men → ℕ → ℕ → Bool
 foe_can q b a c = a == b.foe && (king_attacks a c && (not (king_attacks b.king c) && (c == b.piece || not (piece_attacks q b.piece c b.king b.king))))
 
@@ -121,7 +122,7 @@ king_back d a = record { white_moves = true; king = a; piece = d.piece; foe = d.
 abbrev pub piece_back : Men → ℕ → Men
 piece_back d a = record { white_moves = true; king = d.king; piece = a; foe = d.foe }
 
--- what stood on the square where the black king has taken, stands there again
+-- if the rook or queen has been taken, it is put back on the square of the black king
 abbrev pub foe_back : Men → ℕ → Men
 foe_back d a = record { white_moves = false; king = d.king; piece = if d.piece == TAKEN then d.foe else d.piece; foe = a }
 
@@ -131,15 +132,15 @@ undo d m =
     else (if man m == 1 then piece_back d (from_square m) else foe_back d (from_square m))
 
 -- ---- ends
--- bare kings draw at once
+-- bare kings are a tie at once
 unfoldable pub end_by_last_move : Men → Option End
 end_by_last_move b = if b.piece == TAKEN then Some Tie else None
 
--- who can't move is mated in check, and else it is stalemate
+-- a side without a move is mated if it is in check, and otherwise stalemated
 unfoldable pub end_if_no_move : Bool → Men → End
 end_if_no_move q b = if not b.white_moves && in_check q b then Lose else Tie
 
--- ---- symmetries: a number below 8 says whether rows are reversed, whether files are, and whether rows and files are exchanged
+-- ---- symmetries: a number below 8 encodes whether rows are reversed, whether files are reversed, and whether rows and files are exchanged
 abbrev pub reversed_if : Bool → ℕ → ℕ
 reversed_if x k = if x then 7 - k else k
 
@@ -185,7 +186,7 @@ board_text q b =
     75 ∷ square_text b.king ++ (if b.piece == TAKEN then [] else 32 ∷ piece_char q ∷ square_text b.piece)
     ++ 32 ∷ 107 ∷ square_text b.foe ++ 32 ∷ (if b.white_moves then 119 else 98) ∷ []
 
--- the square whose text stands at a place, and the board with a text, where there is one
+-- the square whose text is at a place, and the board with a text, if there is one
 abbrev pub square_in : List ℕ → ℕ → ℕ
 square_in t k = 8 * (slice_index t (k + 1) - 49) + (slice_index t k - 97)
 
@@ -204,7 +205,7 @@ step_text q m = man_char q (man m) ∷ square_text (from_square m) ++ 45 ∷ squ
 abbrev pub chess_name : Bool → List ℕ
 chess_name queen = if queen then codes "kqk" ++ 0 ∷ 0 ∷ 0 ∷ 0 ∷ 0 ∷ 0 ∷ 0 ∷ 0 ∷ 0 ∷ 0 ∷ 0 ∷ 0 ∷ 0 ∷ [] else codes "krk" ++ 0 ∷ 0 ∷ 0 ∷ 0 ∷ 0 ∷ 0 ∷ 0 ∷ 0 ∷ 0 ∷ 0 ∷ 0 ∷ 0 ∷ 0 ∷ []
 
--- Ke1, the rook or queen on a1, ke8, and white moves
+-- Ke1, the rook or queen on a1, ke8, and white to move
 abbrev pub start : Men
 start = record { white_moves = true; king = 4; piece = 0; foe = 60 }
 

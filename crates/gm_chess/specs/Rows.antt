@@ -1,4 +1,4 @@
--- Moves and boards before, up to a number: what the loops over numbers keep.
+-- The lists of moves and of earlier boards, up to a number: the invariants of the loops over numbers.
 use Rattle.std.specs.Prelude.{◌≡◌, ℕ, Bool, List, [], map}
 use Rattle.std.specs.List.{filter, filter_map, range_with_len}
 use Rattle.gm_game.specs.Ascending.{put_all}

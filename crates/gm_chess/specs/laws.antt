@@ -1,4 +1,4 @@
--- What follows from the rules.
+-- Facts that follow from the rules.
 pub mod SquareFacts
 pub mod MenFacts
 pub mod Numbering

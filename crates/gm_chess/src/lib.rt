@@ -1,4 +1,4 @@
-//! King and rook, or king and queen, against king. The rules are those of chess, and `specs/` states them.
+//! King and rook, or king and queen, against king. The rules are those of chess; `specs/` defines them.
 #![tactic(auto)]
 
 pub mod chess;

@@ -1,4 +1,4 @@
-//! The lists of moves and parents: of all numbers those are tried that a man on its square can have.
+//! The lists of moves and parents. Of all move numbers, only those of a man at its square are tried.
 ghost use Rattle.std.specs.Prelude.{ℕ, MatchOption, None, Some, ◌≡◌, ◌+◌, ◌*◌, ◌<◌, ◌≤◌, true, false};
 ghost use Rattle.gm_chess.specs.Chess.{legal, can_have_led_here as was_of, man as man_of, to_square, tier as tier_of_men, end_by_last_move, ending};
 ghost use Rattle.gm_pieces.specs.MoveGames.{plays_on as plays_on_of, goes_on as goes_on_of, before_at};
@@ -10,7 +10,7 @@ use arrayvec::ArrayVec;
 use gm_game::limits::{MOVES, PARENTS};
 use gm_pieces::ascending::put;
 
-// Adds the moves with the 64 numbers from this one on.
+// Adds the moves among the 64 numbers from this one on.
 #[tactic(auto, using(gm_board::specs::laws::Filters::filter_in, gm_board::specs::laws::Filters::filter_out, crate::specs::laws::RowFacts::room))]
 fn push_row(queen: bool, b: Men, base: u32, list: &mut ArrayVec<u32, MOVES>)
     requires small { base ≤ 12288 }
@@ -24,7 +24,7 @@ fn push_row(queen: bool, b: Men, base: u32, list: &mut ArrayVec<u32, MOVES>)
     }
 }
 
-// White's moves, ascending.
+// Returns White's moves, ascending.
 fn white_moves(queen: bool, b: Men) -> ArrayVec<u32, MOVES>
     requires legal { legal queen b ≡ true }
     requires white { b.white_moves ≡ true }
@@ -38,7 +38,7 @@ fn white_moves(queen: bool, b: Men) -> ArrayVec<u32, MOVES>
     list
 }
 
-// Black's moves, ascending.
+// Returns Black's moves, ascending.
 fn black_moves(queen: bool, b: Men) -> ArrayVec<u32, MOVES>
     requires legal { legal queen b ≡ true }
     requires black { b.white_moves ≡ false }
@@ -50,7 +50,7 @@ fn black_moves(queen: bool, b: Men) -> ArrayVec<u32, MOVES>
     list
 }
 
-/// The numbers of the moves that could be made if the game were not over, ascending.
+/// Returns the numbers of the moves that could be made if the game were not over, ascending.
 #[tactic(auto, using(crate::specs::laws::ChessLaws::king_small, crate::specs::laws::ChessLaws::piece_small, crate::specs::laws::ChessLaws::foe_small))]
 pub fn open_moves(queen: bool, b: Men) -> ArrayVec<u32, MOVES>
     requires { legal queen b ≡ true }
@@ -63,7 +63,7 @@ pub fn open_moves(queen: bool, b: Men) -> ArrayVec<u32, MOVES>
     }
 }
 
-// Whether the last move has not ended the game.
+// Tests whether the last move has not ended the game.
 #[tactic(auto, unfolding(crate::specs::Chess::end_by_last_move))]
 fn plays_on(b: Men) -> bool
     ensures { result ≡ plays_on_of (end_by_last_move b) }
@@ -72,7 +72,7 @@ fn plays_on(b: Men) -> bool
     !over
 }
 
-// The tier of a board.
+// Returns the tier of a board.
 #[tactic(auto, unfolding(crate::specs::Chess::tier))]
 fn tier_of(b: Men) -> u64
     ensures { result ≡ tier_of_men b }
@@ -80,14 +80,14 @@ fn tier_of(b: Men) -> u64
     if b.piece == TAKEN { 0 } else { 1 }
 }
 
-// Whether the board is a legal one of the tier from which the game goes on by this move.
+// Tests whether the board is a legal one of the tier, and the game goes on from it by this move.
 fn goes_on(queen: bool, tier: u64, b: Men, number: u32) -> bool
     ensures { result ≡ goes_on_of (ending queen) tier b number }
 {
     is_legal(queen, b) && (tier_of(b) == tier && (plays_on(b) && can_move(queen, b, number)))
 }
 
-// The board of the tier from which a move with this number led to this board, if there is one.
+// Returns the board of the tier from which a move with this number leads to this board, if there is one.
 #[tactic(auto, using(gm_board::specs::laws::Lists::and_left, gm_pieces::specs::laws::MoveLaws::before_some, gm_pieces::specs::laws::MoveLaws::before_none))]
 fn earlier(queen: bool, tier: u64, d: Men, number: u32) -> Option<Men>
     ensures { MatchOption result
@@ -105,7 +105,7 @@ fn earlier(queen: bool, tier: u64, d: Men, number: u32) -> Option<Men>
     }
 }
 
-// Puts into the list the least indexes of the boards before the moves of a man to its square.
+// Adds the least indexes of the boards before the moves of a man to its square.
 #[tactic(auto, using(crate::specs::laws::ChessLaws::king_small, crate::specs::laws::ChessLaws::piece_small, crate::specs::laws::ChessLaws::foe_small, crate::specs::laws::RowFacts::befores_none, crate::specs::laws::RowFacts::befores_some, crate::specs::laws::RowFacts::befores_room))]
 fn put_row(queen: bool, tier: u64, d: Men, man: u32, to: u32, list: &mut ArrayVec<u64, PARENTS>)
     requires man { man < 3 }
@@ -123,7 +123,7 @@ fn put_row(queen: bool, tier: u64, d: Men, man: u32, to: u32, list: &mut ArrayVe
     }
 }
 
-// Writes the least indexes of the boards before Black's moves over what the list holds.
+// Replaces the list by the least indexes of the boards before Black's moves.
 fn before_black(queen: bool, tier: u64, d: Men, list: &mut ArrayVec<u64, PARENTS>)
     requires legal { legal queen d ≡ true }
     requires white { d.white_moves ≡ true }
@@ -134,7 +134,7 @@ fn before_black(queen: bool, tier: u64, d: Men, list: &mut ArrayVec<u64, PARENTS
     put_row(queen, tier, d, 2, d.foe, list);
 }
 
-// Writes the least indexes of the boards before White's moves over what the list holds.
+// Replaces the list by the least indexes of the boards before White's moves.
 fn before_white(queen: bool, tier: u64, d: Men, list: &mut ArrayVec<u64, PARENTS>)
     requires legal { legal queen d ≡ true }
     requires black { d.white_moves ≡ false }
@@ -147,7 +147,7 @@ fn before_white(queen: bool, tier: u64, d: Men, list: &mut ArrayVec<u64, PARENTS
     put_row(queen, tier, d, 1, d.piece, list);
 }
 
-/// Writes the least indexes of the boards of the tier from which a move leads to this one, ascending and once each, over what the list holds.
+/// Replaces the list by the least indexes of the boards of the tier from which a move leads to this one, ascending, each once.
 #[tactic(auto, using(crate::specs::laws::RowFacts::king_below, crate::specs::laws::RowFacts::foe_below, crate::specs::laws::RowFacts::armed_below))]
 pub fn fill_parents(queen: bool, tier: u64, d: Men, list: &mut ArrayVec<u64, PARENTS>)
     requires { legal queen d ≡ true }

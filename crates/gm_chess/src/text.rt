@@ -9,14 +9,14 @@ use arrayvec::ArrayVec;
 use gm_game::shown::Line;
 use gm_game::text::push_text;
 
-// The letter of the rook or queen.
+// Returns the letter of the rook or queen.
 fn piece_byte(queen: bool) -> u8
     ensures { result ≡ piece_char_of queen }
 {
     if queen { b'Q' } else { b'R' }
 }
 
-// The letter of a man.
+// Returns the letter of a man.
 fn man_byte(queen: bool, man: u32) -> u8
     ensures { result ≡ man_char_of queen man }
 {
@@ -29,14 +29,14 @@ fn man_byte(queen: bool, man: u32) -> u8
     }
 }
 
-// The byte of a square's file.
+// Returns the byte of a square's file.
 fn file_byte(square: u32) -> u8
     ensures { result ≡ 97 + square % 8 }
 {
     b'a' + (square % 8) as u8
 }
 
-// The byte of a square's row.
+// Returns the byte of a square's row.
 fn row_byte(square: u32) -> u8
     requires { square < 64 }
     ensures { result ≡ 49 + square / 8 }
@@ -44,14 +44,14 @@ fn row_byte(square: u32) -> u8
     b'1' + (square / 8) as u8
 }
 
-// The byte that says whose move it is.
+// Returns the byte of the side to move.
 fn side_byte(white_moves: bool) -> u8
     ensures { result ≡ (if white_moves then 119 else 98) }
 {
     if white_moves { b'w' } else { b'b' }
 }
 
-/// The text of a board.
+/// Returns the text of a board.
 #[tactic(auto, using(crate::specs::laws::Texts::king_below, crate::specs::laws::Texts::foe_below, crate::specs::laws::Texts::piece_below, crate::specs::laws::Texts::bare_is, crate::specs::laws::Texts::armed_is))]
 pub fn board_text(queen: bool, b: Men) -> Line
     requires { legal queen b ≡ true }
@@ -92,7 +92,7 @@ pub fn board_text(queen: bool, b: Men) -> Line
     line
 }
 
-// The byte at a place of a text, or 0 past its end.
+// Returns the byte at a place of a text, or 0 past its end.
 fn byte_at(text: &[u8], place: usize) -> u8
     ensures { result ≡ slice_index text.now place }
 {
@@ -133,7 +133,7 @@ pub fn board_in(text: &[u8]) -> Men
     }
 }
 
-/// The text of a move.
+/// Returns the text of a move.
 #[tactic(auto, unfolding(crate::specs::Chess::step_text, crate::specs::Chess::man, crate::specs::Chess::from_square, crate::specs::Chess::to_square))]
 pub fn step_text(queen: bool, number: u32) -> Line
     requires { number < 12288 }

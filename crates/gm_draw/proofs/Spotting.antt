@@ -22,14 +22,14 @@ count_spots test x y (b ∷ bs) =
     ∙ ap (λ (n : ℕ). cond (test b) 1 0 + n) (count_spots test (next_x x b) (next_y y b) bs)
     ∙ sym (sum_by-cons (λ (c : ℕ). cond (test c) 1 0) b bs)
 
--- where the byte after a line's end stands, and after any other
+-- the point of the byte after a line's end, and of the byte after any other byte
 ends : (x y b : ℕ) → eqb b 10 ≡ true → (next_x x b ≡ 40) × (next_y y b ≡ y + 40)
 ends x y b e = (cond-true _ _ _ e, cond-true _ _ _ e)
 
 goes_on : (x y b : ℕ) → eqb b 10 ≡ false → (next_x x b ≡ x + 20) × (next_y y b ≡ y)
 goes_on x y b e = (cond-false _ _ _ e, cond-false _ _ _ e)
 
--- the byte after one that stands past a point is past it too
+-- the byte after a byte past a point is past that point too
 next_past : (x y u v b : ℕ) → (y < v) ⊎ ((y ≡ v) × (x < u)) → (y < next_y v b) ⊎ ((y ≡ next_y v b) × (x < next_x u b))
 next_past x y u v b (inl l) = elim (cases_Bool (eqb b 10)) [
   | inl e ↦ (let (h, k) = ends u v b e in inl (omega (arith, l, k)))
@@ -47,7 +47,7 @@ all_past x y c u v (b ∷ bs) h =
     All-cons (IsBefore (record { x = x; y = y; byte = c })) (record { x = u; y = v; byte = b }) (spots (next_x u b) (next_y v b) bs) h
     (all_past x y c (next_x u b) (next_y v b) bs (next_past x y u v b h))
 
--- the byte after one stands past it
+-- the byte after a byte is past it
 past_here : (x y b : ℕ) → (y < next_y y b) ⊎ ((y ≡ next_y y b) × (x < next_x x b))
 past_here x y b = elim (cases_Bool (eqb b 10)) [
   | inl e ↦ (let (h, k) = ends x y b e in inl (omega (arith, k)))

@@ -1,4 +1,4 @@
--- Texts that grow by a piece for each byte.
+-- Texts that grow by a part for each byte.
 use Rattle.std.proofs.Common.{◌≡◌, ℕ, ◌+◌, ◌<◌, ◌≤◌, max, List, [], ◌∷◌, ◌++◌, length, take, drop, get_or, cond, Result, Ok, Err, sym, ap, ◌∙◌}
 use Rattle.std.specs.List.{flat_map}
 use Rattle.std.specs.Result.{OnOk, is_ok}
@@ -6,7 +6,7 @@ use Rattle.std.proofs.lemmas.List.{append_assoc, append-nil, take_more, take_all
 use Rattle.std.proofs.lemmas.Grind.{flat_map-append}
 use Rattle.gm_draw.specs.Diagrams.{escaped, escaped_byte, next_x, next_y, next_length, spread, widest}
 
--- one byte more of a text
+-- one more byte of a text
 pub flat_next : (f : ℕ → List ℕ) (xs : List ℕ) (i : ℕ) (base cur new : List ℕ) → i < length xs → cur ≡ base ++ flat_map f (take i xs) → new ≡ cur ++ f
     (get_or xs i 0)
     → new ≡ base ++ flat_map f (take (i + 1) xs)
@@ -22,7 +22,7 @@ pub escaped_all : (xs : List ℕ) (i : ℕ) (base cur : List ℕ) → length xs 
 unfolding escaped
 escaped_all xs i base cur l e = e ∙ ap (λ (t : List ℕ). base ++ flat_map escaped_byte t) (take_all i xs l)
 
--- one byte more of a board
+-- one more byte of a board
 pub spread_next : (f : ℕ → ℕ → ℕ → List ℕ) (xs : List ℕ) (i x y u v : ℕ) (cur new all : List ℕ) → i < length xs → cur ++ spread f x y (drop i xs) ≡ all →
     new ≡ cur ++ f x y (get_or xs i 0)
     → u ≡ next_x x (get_or xs i 0) → v ≡ next_y y (get_or xs i 0) → new ++ spread f u v (drop (i + 1) xs) ≡ all
@@ -43,7 +43,7 @@ pub spread_all : (f : ℕ → ℕ → ℕ → List ℕ) (xs : List ℕ) (i x y :
 unfolding spread
 spread_all f xs i x y cur all l e = sym (append-nil cur) ∙ ap (λ (t : List ℕ). cur ++ spread f x y t) (sym (drop_all i xs l)) ∙ e
 
--- one byte more of a drawing, and all of them
+-- one more byte of a drawing, and all of them
 pub widest_next : (xs : List ℕ) (i n longest m all : ℕ) → i < length xs → widest n longest (drop i xs) ≡ all → m ≡ next_length n (get_or xs i 0) → widest m
     (max longest m) (drop (i + 1) xs) ≡ all
 unfolding widest
@@ -53,14 +53,14 @@ pub widest_all : (xs : List ℕ) (i n longest all : ℕ) → length xs ≤ i →
 unfolding widest
 widest_all xs i n longest all l e = ap (widest n longest) (sym (drop_all i xs l)) ∙ e
 
--- two pieces more, and three
+-- two more parts, and three
 pub joined : (old a b mid new : List ℕ) → mid ≡ old ++ a → new ≡ mid ++ b → new ≡ old ++ (a ++ b)
 joined old a b mid new m n = n ∙ ap (λ (t : List ℕ). t ++ b) m ∙ append_assoc old a b
 
 pub joined_three : (old a b c mid last new : List ℕ) → mid ≡ old ++ a → last ≡ mid ++ b → new ≡ last ++ c → new ≡ old ++ (a ++ (b ++ c))
 joined_three old a b c mid last new m l n = joined old a (b ++ c) mid new m (joined mid b c last new l n)
 
--- what a call leaves where it succeeds
+-- the text after a call that succeeds
 pub when_ok : {T E : Type 0} → (r : Result T E) (new a b : List ℕ) → new ≡ cond (is_ok r) a b → OnOk r (new ≡ a)
 when_ok (Ok x) new a b e = e
 when_ok (Err y) new a b e = tt

@@ -14,7 +14,7 @@ use Rattle.gm_draw.specs.declared.pictured.Style.TheVariants.{Row, Crosses, Coun
 use Rattle.gm_draw.specs.Templates.{is_slot}
 
 -- ---- texts in XML
--- a byte of a text: `<` and `&` have names
+-- a byte of a text, with `<` and `&` replaced by their character references
 abbrev pub escaped_byte : ℕ → List ℕ
 escaped_byte b = if b == 60 then codes "&lt;" else if b == 38 then codes "&amp;" else b ∷ []
 
@@ -22,7 +22,7 @@ unfoldable pub escaped : List ℕ → List ℕ
 escaped text = flat_map escaped_byte text
 
 -- ---- elements at a point
--- what stands before, between and after two coordinates
+-- the texts before, between and after two coordinates
 abbrev pub at_point : List ℕ → ℕ → List ℕ → ℕ → List ℕ → List ℕ
 at_point front x middle y back = front ++ decimal x ++ middle ++ decimal y ++ back
 
@@ -32,12 +32,12 @@ path x y back = at_point (codes "<path d=\"M") x (codes " ") y back
 abbrev pub circle : ℕ → ℕ → List ℕ → List ℕ
 circle x y back = at_point (codes "<circle cx=\"") x (codes "\" cy=\"") y back
 
--- words at a point, after what tells how they look
+-- words at a point, after the attributes of their look
 abbrev pub words_at : ℕ → ℕ → List ℕ → List ℕ → List ℕ
 words_at x y look plain = at_point (codes "<text x=\"") x (codes "\" y=\"") y look ++ escaped plain ++ codes "</text>\n"
 
--- ---- what a byte of the board is drawn as, at its point
--- the strokes of the net; none for any other byte
+-- ---- the drawing of a byte of the board, at its point
+-- the strokes of the net; nothing for any other byte
 unfoldable pub stroke_of : ℕ → ℕ → ℕ → List ℕ
 stroke_of x y b =
     if b == 45 then path (x - 20) y (codes "h40\"/>\n") else
@@ -51,7 +51,7 @@ stroke_of x y b =
 abbrev pub is_stroke : ℕ → Bool
 is_stroke b = b == 45 || b == 124 || b == 47 || b == 92 || b == 43 || b == 32 || b == 10
 
--- whether men stand in cells of their own, which are drawn as squares
+-- whether men are in cells, which are drawn as squares
 abbrev pub has_cells : Style → Bool
 has_cells Row = false
 has_cells Crosses = false
@@ -60,7 +60,7 @@ has_cells Stones = true
 has_cells Discs = false
 has_cells Letters = false
 
--- whether men stand on points
+-- whether men are on points
 abbrev pub has_points : Style → Bool
 has_points Row = false
 has_points Crosses = false
@@ -69,7 +69,7 @@ has_points Stones = false
 has_points Discs = true
 has_points Letters = true
 
--- what lies under the men: strokes and squares
+-- the strokes and squares under the men
 unfoldable pub under_at : Style → ℕ → ℕ → ℕ → List ℕ
 under_at style x y b = if is_slot b then (if has_cells style then path (x - 20) (y - 20) (codes "h40v40h-40z\"/>\n") else []) else stroke_of x y b
 
@@ -107,7 +107,7 @@ letter_of x y b =
     (codes "d") else
     []
 
--- the man of a byte of the position's text; nothing where there is none
+-- the man of a byte of the position's text; nothing if the byte is not a man
 abbrev pub man_of : Style → ℕ → ℕ → ℕ → List ℕ
 man_of Row x y b = []
 man_of Crosses x y b = cross_of x y b
@@ -120,7 +120,8 @@ man_of Letters x y b = letter_of x y b
 abbrev pub point_of : Style → ℕ → ℕ → List ℕ
 point_of style x y = if has_points style then circle x y (codes "\" r=\"5\" fill=\"#fff\"/>\n") else []
 
--- where the name of a row or a column stands: beside cells those of rows are nearer, over the men on points those of columns farther
+-- the point of the name of a row or a column: next to cells the names of rows are nearer to the board, and over men on points the names of columns are
+-- farther from it
 abbrev pub label_x : Style → ℕ → ℕ
 label_x style x = if has_cells style then (if x == 40 then 70 else x) else x
 
@@ -131,34 +132,34 @@ label_y style y = if has_points style then (if y == 40 then 38 else y + 6) else 
 abbrev pub label_of : Style → ℕ → ℕ → ℕ → List ℕ
 label_of style x y b = words_at (label_x style x) (label_y style y) (codes "\" stroke=\"none\">") (b ∷ [])
 
--- what stands over that: the men in their places, and the names of rows and columns
+-- the men in their places, over strokes and squares, and the names of rows and columns
 unfoldable pub over_at : Style → List ℕ → ℕ → ℕ → ℕ → List ℕ
 over_at style text x y b = if is_slot b then point_of style x y ++ man_of style x y (slice_index text (b - 65)) else if is_stroke b then [] else label_of
     style x y b
 
 -- ---- a board
--- where the byte after this one stands: beside it, or where it ends its line, below
+-- the point of the byte after this one: to its right, or, after a line's end, at the beginning of the next line
 abbrev pub next_x : ℕ → ℕ → ℕ
 next_x x b = if b == 10 then 40 else x + 20
 
 abbrev pub next_y : ℕ → ℕ → ℕ
 next_y y b = if b == 10 then y + 40 else y
 
--- what the bytes of a board are drawn as: the one in row r and column c at 20c + 40 and 40r + 40
+-- the drawing of the bytes of a board: the one in row r and column c is at 20c + 40 and 40r + 40
 unfoldable pub spread : (ℕ → ℕ → ℕ → List ℕ) → ℕ → ℕ → List ℕ → List ℕ
 spread f x y [] = []
 spread f x y (b ∷ bs) = f x y b ++ spread f (next_x x b) (next_y y b) bs
 
--- how many bytes of its line have come with this byte
+-- the length of a line so far, after this byte
 abbrev pub next_length : ℕ → ℕ → ℕ
 next_length n b = if b == 10 then 0 else n + 1
 
--- the length of the longest line, where n bytes of a line have come, and the longest so far has this length
+-- the length of the longest line, if n bytes of the current line have been read, and the longest so far has this length
 unfoldable pub widest : ℕ → ℕ → List ℕ → ℕ
 widest n longest [] = longest
 widest n longest (b ∷ bs) = widest (next_length n b) (max longest (next_length n b)) bs
 
--- where a board ends on the right, by the length of its longest line: a letter of a row is 11 wide
+-- the right edge of a board, by the length of its longest line: a letter of a row is 11 wide
 abbrev pub end_by : Style → ℕ → ℕ
 end_by Row longest = 11 * longest + 30
 end_by style longest = 20 * longest + 60
@@ -166,15 +167,15 @@ end_by style longest = 20 * longest + 60
 abbrev pub end_of : Style → List ℕ → ℕ
 end_of style drawing = end_by style (widest 0 0 drawing)
 
--- where it begins on the left
+-- the left edge of a board
 abbrev pub left_of : Style → ℕ
 left_of style = if has_cells style then 40 else 0
 
--- its middle from left to right
+-- the middle of a board from left to right
 abbrev pub middle_of : Style → List ℕ → ℕ
 middle_of style drawing = (end_of style drawing + left_of style) / 2
 
--- the width of a diagram, which has room for its caption, and how much of that is added before the board
+-- the width of a diagram, which has room for its caption, and the width that is added before the board
 abbrev pub width_of : Style → List ℕ → ℕ
 width_of style drawing = max (end_of style drawing) 300 - left_of style
 
@@ -185,22 +186,22 @@ abbrev pub height_of : List ℕ → ℕ
 height_of drawing = 40 * count_by (λ b. b == 10) drawing + 130
 
 -- ---- documents
--- where the paper begins: so much before the left of the board, which may be left of 0
+-- the left edge of the paper: the left edge of the board minus the margin, which may be negative
 abbrev pub start_of : ℕ → ℕ → List ℕ
 start_of left margin = if nat_lt left margin then 45 ∷ decimal (margin - left) else decimal (left - margin)
 
--- the beginning of the whole, with its box
+-- the beginning of the document's element, with its view box
 unfoldable pub svg_box : ℕ → ℕ → ℕ → ℕ → List ℕ
 svg_box left margin width height =
     codes "<svg xmlns=\"http://www.w3.org/2000/svg\" viewBox=\"" ++ start_of left margin ++ at_point (codes " 0 ") width (codes " ") height []
 
--- its size, and how its lines and letters look
+-- the size of the document, and the style of its lines and letters
 unfoldable pub svg_size : ℕ → ℕ → List ℕ
 svg_size width height =
     at_point (codes "\" width=\"") width (codes "\" height=\"") height
     (codes "\" role=\"img\" font-family=\"sans-serif\" font-size=\"18\" text-anchor=\"middle\" stroke-linecap=\"round\">\n")
 
--- the element of the whole, up to its title
+-- the opening tag of the document
 abbrev pub svg_open : ℕ → ℕ → ℕ → ℕ → List ℕ
 svg_open left margin width height = svg_box left margin width height ++ svg_size width height
 
@@ -228,7 +229,7 @@ under_all style board = spread (under_at style) 40 40 board
 abbrev pub caption_words : ℕ → ℕ → List ℕ → List ℕ
 caption_words middle height caption = words_at middle (height - 14) (codes "\" stroke=\"none\">") caption
 
--- the parts of a document: up to the paper, what lies under the men, and the men with the caption
+-- the parts of a document: up to the paper, the strokes and squares under the men, and the men with the caption
 unfoldable pub svg_front : ℕ → ℕ → ℕ → ℕ → List ℕ → List ℕ → List ℕ → List ℕ
 svg_front left margin width height title text caption = svg_open left margin width height ++ svg_title title text caption ++ svg_paper left margin width height
 
@@ -247,7 +248,7 @@ svg_of style title board text drawing caption =
     svg_front (left_of style) (margin_of style drawing) (width_of style drawing) (height_of drawing) title text caption
     ++ svg_net style board ++ svg_men style board text drawing (middle_of style drawing) ++ svg_back (middle_of style drawing) (height_of drawing) caption
 
--- what stands under a board: the side to move, and its value where that is to be said
+-- the caption under a board: the side to move, and its value if it is to be shown
 abbrev pub caption_of : List ℕ → Solved → Bool → List ℕ
 caption_of mover s valued = mover ++ codes " to move" ++ (if valued then codes ": " ++ text_of s else [])
 

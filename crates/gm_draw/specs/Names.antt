@@ -1,19 +1,19 @@
--- Who is to move, and how cells, positions and moves are written.
+-- The side to move, and the description of how cells, positions and moves are written.
 use Rattle.std.specs.Prelude.{ℕ, Bool, List, ◌++◌, codes, if◌then◌else◌}
 use Rattle.gm_game.specs.declared.position.Position.{Position}
 use Rattle.gm_morris.specs.declared.variant.Variant.{Variant}
 use Rattle.gm_morris.specs.declared.variant.Variant.TheVariants.{TicTacToe, ThreeMens, Achi}
 use Rattle.gm_hare.specs.Board.{hunt_board}
 
--- who is to move, in games whose positions are seen from the side to move
+-- the side to move, in games whose positions are seen from the side to move
 abbrev pub x_moves : Position → List ℕ
 x_moves p = codes "x"
 
--- who is to move, in games where both sides have the same moves
+-- the side to move, in games in which both sides have the same moves
 abbrev pub player_moves : Position → List ℕ
 player_moves p = codes "player"
 
--- who is to move in Hare and Hounds
+-- the side to move in Hare and Hounds
 abbrev pub hunt_mover : Bool → List ℕ
 hunt_mover hounds = if hounds then codes "hounds" else codes "hare"
 

@@ -8,23 +8,23 @@ use Rattle.gm_draw.specs.declared.pictured.Style.TheVariants.{Row, Crosses, Coun
 use Rattle.gm_draw.specs.Templates.{is_slot, filled}
 use Rattle.gm_draw.specs.Points.{is_name, are_apart, IsPointWord}
 
--- whether the board has the place of the byte k once
+-- whether the board has the slot of the byte k once
 abbrev pub has_place_once : List ℕ → ℕ → Bool
 has_place_once board k = count_by (λ b. b == 65 + k) board == 1
 
--- a board with places: each drawing is the board with the bytes of the position's text in its places; of these there are n, each once
+-- a board with slots: each drawing is the board with its slots filled from the position's text; there are n slots, each once
 pub record IsBoard (r : Rules) (shown drawn : Position → List ℕ) (board : List ℕ) (n : ℕ) : Type 0 where
   pub drawn_is : (p : Position) → r.is_legal p ≡ true → drawn p ≡ filled board (shown p)
   pub long : (p : Position) → r.is_legal p ≡ true → n ≤ length (shown p)
   pub places : list_all (has_place_once board) (range_with_len 0 n) ≡ true
   pub no_more : count_by is_slot board ≡ n
 
--- a row without places: its points are the positions
+-- a row without slots: its points are the positions
 pub record IsRow (r : Rules) (shown : Position → List ℕ) (board : List ℕ) (points : List (List ℕ)) : Type 0 where
   pub no_places : list_all (λ b. not (is_slot b)) board ≡ true
   pub positions : (text : List ℕ) → Contains points text ↔ ((p : Position) × (r.is_legal p ≡ true) × (shown p ≡ text))
 
--- what stands for the board, by the style
+-- the law of the board, by the style
 abbrev pub IsBoardOf : Style → Rules → (Position → List ℕ) → (Position → List ℕ) → List ℕ → List (List ℕ) → Type 0
 IsBoardOf Row r shown drawn board points = IsRow r shown board points
 IsBoardOf Crosses r shown drawn board points = IsBoard r shown drawn board (length points)
@@ -33,7 +33,7 @@ IsBoardOf Stones r shown drawn board points = IsBoard r shown drawn board (lengt
 IsBoardOf Discs r shown drawn board points = IsBoard r shown drawn board (length points)
 IsBoardOf Letters r shown drawn board points = IsBoard r shown drawn board (length points)
 
--- names of points have bytes but no `-`, and no name comes again; the text of each move is the name of a point, or those of two with `-` between them
+-- names of points are not empty and have no `-`, and no name occurs twice; the text of each move is the name of a point, or two names with `-` between them
 pub record IsPictured (r : Rules) (shown : Position → List ℕ) (move_shown : Position → ℕ → List ℕ) (drawn : Position → List ℕ) (style : Style) (board : List ℕ)
     (points : List (List ℕ)) : Type 0 where
   pub few : length points ≤ 26

@@ -1,4 +1,4 @@
--- The points of the boards: their names, by the byte of a position's text that tells what stands there.
+-- The points of the boards: their names, in the order of the bytes of a position's text.
 use Rattle.std.specs.Prelude.{◌≡◌, ℕ, ◌+◌, ◌*◌, ◌⊎◌, Bool, true, not, ◌&&◌, ◌==◌, List, [], ◌∷◌, ◌++◌, map, length, codes, if◌then◌else◌}
 use Rattle.std.specs.Fmt.{decimal}
 use Rattle.std.specs.List.{Contains, list_all, list_any, range_with_len}
@@ -45,7 +45,7 @@ hare_points = map point_name (range_with_len 0 11)
 unfoldable pub number_points : ℕ → List (List ℕ)
 number_points n = map decimal (range_with_len 0 n)
 
--- ---- rows of numbers, in which no place is marked
+-- ---- rows of numbers, which have no slots
 unfoldable pub countdown_board : List ℕ
 countdown_board = codes "0 1 2 3 4 5 6 7 8 9 10"
 
@@ -70,15 +70,15 @@ unfoldable pub tactix_title : ℕ → Bool → List ℕ
 tactix_title s misere = codes "Tac Tix " ++ (48 + s) ∷ codes " by " ++ (48 + s) ∷ (if misere then codes ", misere" else [])
 
 -- ---- names and moves
--- a name has bytes, and none of them is `-`
+-- whether a name is not empty and has no `-`
 abbrev pub is_name : List ℕ → Bool
 is_name text = not (length text == 0) && list_all (λ b. not (b == 45)) text
 
--- whether no name comes again
+-- whether no name occurs twice
 abbrev pub are_apart : List (List ℕ) → Bool
 are_apart [] = true
 are_apart (n ∷ ns) = not (list_any (bytes_eq n) ns) && are_apart ns
 
--- the text is the name of a point, or those of two with `-` between them
+-- the text is the name of a point, or two names with `-` between them
 abbrev pub IsPointWord : List (List ℕ) → List ℕ → Type 0
 IsPointWord points text = Contains points text ⊎ ((a : List ℕ) × (b : List ℕ) × Contains points a × Contains points b × (text ≡ a ++ 45 ∷ b))

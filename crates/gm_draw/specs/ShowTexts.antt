@@ -1,4 +1,4 @@
--- What is shown of a position.
+-- The text of a position for people.
 use Rattle.std.specs.Prelude.{◌≡◌, ℕ, Bool, List, [], ◌∷◌, ◌++◌, codes, if◌then◌else◌}
 use Rattle.gm_game.specs.declared.position.Position.{Position}
 use Rattle.gm_game.specs.declared.position.Solved.{Solved}
@@ -8,7 +8,7 @@ use Rattle.gm_game.specs.Values.{IsTrueValue}
 use Rattle.gm_play.specs.PlayTexts.{IsReadAs}
 
 module _ (r : Rules) (shown : Position → List ℕ) (move_shown : Position → ℕ → List ℕ) (drawn mover : Position → List ℕ) (naming : List ℕ) where
-  -- the drawing, and who is to move with the value
+  -- the drawing, and the side to move with the value
   abbrev pub board_text : Position → Solved → List ℕ
   board_text p s = drawn p ++ codes "\n" ++ mover p ++ codes " to move: " ++ text_of s ++ codes "\n"
 
@@ -17,14 +17,14 @@ module _ (r : Rules) (shown : Position → List ℕ) (move_shown : Position → 
   first_move p [] = []
   first_move p (m ∷ ms) = codes "A move here: " ++ move_shown p m ++ codes "\n"
 
-  -- how cells, positions and moves are written, with those of this position
+  -- the description of how cells, positions and moves are written, with this position and one of its moves
   abbrev pub naming_text : Position → List ℕ
   naming_text p = codes "\n" ++ naming ++ codes "This position: " ++ shown p ++ codes "\n" ++ first_move p (r.moves p)
 
   abbrev pub explained_text : Bool → Position → List ℕ
   explained_text explained p = if explained then naming_text p else []
 
-  -- what is shown of the position with this text
+  -- the text for people of the position with this text
   abbrev pub IsShowText : Bool → List ℕ → List ℕ → Type 0
   IsShowText explained text out = (p : Position) × IsReadAs r shown move_shown text p × (s : Solved) × IsTrueValue r p s ×
       (out ≡ board_text p s ++ explained_text explained p)

@@ -1,4 +1,4 @@
--- What a person sees before a question.
+-- The text before a question to the person.
 use Rattle.std.specs.Prelude.{ℕ, List, ◌++◌, codes}
 use Rattle.std.specs.List.{flat_map}
 use Rattle.gm_game.specs.declared.position.Position.{Position}
@@ -10,7 +10,7 @@ use Rattle.gm_play.specs.declared.view.Question.TheVariants.{First, Again}
 abbrev pub move_line : (Position → ℕ → List ℕ) → Position → List ℕ → List ℕ
 move_line shown p moves = codes "moves:" ++ flat_map (λ m. codes " " ++ shown p m) moves ++ codes "\n"
 
--- the board, and before it the moves that there are, where the person is asked again
+-- the board, after the line of the moves if the person is asked again
 abbrev pub sight : Rules → (Position → ℕ → List ℕ) → (Position → List ℕ) → Question → Position → List ℕ
 sight r shown drawn First p = drawn p ++ codes "\n"
 sight r shown drawn Again p = move_line shown p (r.moves p) ++ drawn p ++ codes "\n"

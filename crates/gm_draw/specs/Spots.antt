@@ -1,4 +1,4 @@
--- Where the bytes of a board stand in its diagram, and that each man stands there once.
+-- The points of the bytes of a board in its diagram, and the fact that each man is drawn once.
 use Rattle.std.specs.Prelude.{◌≡◌, ℕ, ◌+◌, ◌<◌, ◌⊎◌, ◌==◌, true, List, [], ◌∷◌, count_by}
 use Rattle.std.specs.List.{All, flat_map}
 use Rattle.gm_draw.specs.declared.pictured.Style.{Style}
@@ -11,25 +11,25 @@ pub record Spot : Type 0 where
   pub y : ℕ
   pub byte : ℕ
 
--- the bytes of a board, the first at this point
+-- the bytes of a board with their points, the first at this point
 unfoldable pub spots : ℕ → ℕ → List ℕ → List Spot
 spots x y [] = []
 spots x y (b ∷ bs) = record { x = x; y = y; byte = b } ∷ spots (next_x x b) (next_y y b) bs
 
--- one stands in a line above, or left of the other in its line
+-- one is in an earlier line, or left of the other in its line
 abbrev pub IsBefore : Spot → Spot → Type 0
 IsBefore s t = (s.y < t.y) ⊎ ((s.y ≡ t.y) × (s.x < t.x))
 
--- each stands before all that follow, so no two stand at one point
+-- each comes before all that follow, so no two have the same point
 unfoldable pub AreApart : List Spot → Type 0
 AreApart [] = Unit {0}
 AreApart (s ∷ ss) = All (IsBefore s) ss × AreApart ss
 
--- what is drawn over the net at a spot
+-- the drawing over the net at a spot
 abbrev pub over_spot : Style → List ℕ → Spot → List ℕ
 over_spot style text s = over_at style text s.x s.y s.byte
 
--- over the net stands what is drawn at the spots, one after the other; no two spots are one; and a place that the board has once has one spot
+-- the spots are drawn over the net, one after the other; no two spots have the same point; and a slot that the board has once has one spot
 pub record IsEachOnce (style : Style) (text board : List ℕ) : Type 0 where
   pub men : spread (over_at style text) 40 40 board ≡ flat_map (over_spot style text) (spots 40 40 board)
   pub apart : AreApart (spots 40 40 board)

@@ -6,7 +6,7 @@ use Rattle.std.specs.List.{list_all, range_with_len}
 abbrev pub is_slot : ℕ → Bool
 is_slot b = nat_le 65 b && nat_le b 90
 
--- what stands in the place of a byte of a template: for the k-th letter, from 0, the byte k of the text
+-- the byte in the place of a byte of a template: for the k-th letter, from 0, the byte k of the text
 abbrev pub drawn_byte : List ℕ → ℕ → ℕ
 drawn_byte text b = if is_slot b then slice_index text (b - 65) else b
 

@@ -1,4 +1,4 @@
--- What follows from the definitions.
+-- Facts that follow from the definitions.
 pub mod Drawn
 pub mod Rows
 pub mod Points

@@ -8,8 +8,8 @@ use gm_game::position::Position;
 use gm_game::shown::Shown;
 use gm_play::view::{Question, Sight, View};
 
-/// Shows the player the board before each question, always as seen from the player's side: in a game of `x` and `o`, `x` is the player and `o` the computer.
-/// After an invalid move, the valid ones come before it.
+/// A view that shows the board before each question, always from the person's side: in a game of `x` and `o`, `x` is the person and
+/// `o` the computer. After a line that is not a move, a line with all moves comes before the board.
 #[derive(Drop)]
 pub struct Boards;
 
@@ -27,7 +27,7 @@ impl<G: Drawn> View<G> for Boards {
     }
 }
 
-// A line of the moves from a position.
+// Returns the line of the moves of a position.
 fn move_line<G: Shown>(p: Position) -> Sight
     requires { G.Game.rules.is_legal p ≡ true }
     ensures text { result.items ≡ move_line G.move_shown p (G.Game.rules.moves p) }

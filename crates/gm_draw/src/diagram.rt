@@ -14,7 +14,8 @@ use gm_game::position::{Position, Solved};
 use gm_game::text::value_text;
 use std::alloc::{AllocError, Global};
 
-/// Returns the SVG document of a position: its board with the men in their places, and under it the side to move, with the true value if that is shown.
+/// Returns the SVG document of a position: its board with the men in their places, and under it the side to move. If `valued` is
+/// set, the true value follows.
 pub fn diagram_text<G: Pictured>(
     alloc: Global,
     known: &Known<'_, G>,
@@ -26,13 +27,13 @@ pub fn diagram_text<G: Pictured>(
     diagram::<G>(alloc, known.position, known.value(), valued)
 }
 
-/// Has no effect; its contract states the law of diagrams: over the net of a board, the man of each byte of a position's text is drawn once, at a point of its
-/// own.
+/// Has no effect; its contract states that a diagram draws each man once. Over the net of the board, the man of each byte of a
+/// position's text is drawn once, at a point of its own.
 pub fn each_once<G: Pictured>(bytes: &[u8])
     ensures { IsEachOnce G.style bytes.now G.board }
 {}
 
-// The diagram of a legal position of this value.
+// Returns the diagram of a legal position of this value.
 fn diagram<G: Pictured>(
     alloc: Global,
     p: Position,
@@ -72,7 +73,7 @@ fn push_diagram<G: Pictured>(
     push_svg::<G>(text, p, caption.as_slice())
 }
 
-// Appends the lines under a board.
+// Appends the caption under a board.
 fn push_caption(
     caption: &mut Vec<u8>,
     mover: &[u8],
@@ -119,7 +120,7 @@ fn push_svg<G: Pictured>(text: &mut Vec<u8>, p: Position, caption: &[u8]) -> Res
     push_back(text, frame, caption)
 }
 
-// Appends the first part, up to the paper.
+// Appends the part of the document up to the paper.
 #[tactic(auto, unfolding(crate::specs::Diagrams::svg_front))]
 fn push_front(
     text: &mut Vec<u8>,
@@ -135,7 +136,7 @@ fn push_front(
     push_paper(text, frame)
 }
 
-// Appends the group of what lies under the men.
+// Appends the group of the strokes and squares under the men.
 #[tactic(auto, unfolding(crate::specs::Diagrams::svg_net))]
 fn push_net_group(text: &mut Vec<u8>, style: Style, board: &[u8]) -> Result<(), AllocError>
     requires { length board.now ≤ DRAWING }
@@ -146,7 +147,7 @@ fn push_net_group(text: &mut Vec<u8>, style: Style, board: &[u8]) -> Result<(), 
     text.extend_from_slice(b"</g>\n")
 }
 
-// Appends the group of the men, which the last part closes.
+// Appends the group of the men, which the last part of the document closes.
 #[tactic(auto, unfolding(crate::specs::Diagrams::svg_men))]
 fn push_men_group(
     text: &mut Vec<u8>,
@@ -163,7 +164,7 @@ fn push_men_group(
     push_over_all(text, style, board, bytes, drawing, middle)
 }
 
-// Appends the last part, with the caption.
+// Appends the last part of the document, with the caption.
 #[tactic(auto, unfolding(crate::specs::Diagrams::svg_back))]
 fn push_back(text: &mut Vec<u8>, frame: Frame, caption: &[u8]) -> Result<(), AllocError>
     requires { 14 ≤ frame.height }
@@ -185,7 +186,7 @@ fn push_start(text: &mut Vec<u8>, frame: Frame) -> Result<(), AllocError>
     }
 }
 
-// Appends the beginning of the whole, with its box.
+// Appends the beginning of the document's element, with its view box.
 #[tactic(auto, unfolding(crate::specs::Diagrams::svg_box))]
 fn push_box(text: &mut Vec<u8>, frame: Frame) -> Result<(), AllocError>
     ensures { OnOk result (text.new.items ≡ text.old.items ++ svg_box frame.left frame.margin frame.width frame.height) }
@@ -195,7 +196,7 @@ fn push_box(text: &mut Vec<u8>, frame: Frame) -> Result<(), AllocError>
     push_at(text, b" 0 ", frame.width, b" ", frame.height, b"")
 }
 
-// Appends its size, and how its lines and letters look.
+// Appends the size of the document, and the style of its lines and letters.
 #[tactic(auto, unfolding(crate::specs::Diagrams::svg_size))]
 fn push_size(text: &mut Vec<u8>, frame: Frame) -> Result<(), AllocError>
     ensures { OnOk result (text.new.items ≡ text.old.items ++ svg_size frame.width frame.height) }
@@ -210,7 +211,7 @@ fn push_size(text: &mut Vec<u8>, frame: Frame) -> Result<(), AllocError>
     )
 }
 
-// Appends the element of the whole, up to its title.
+// Appends the opening tag of the document.
 fn push_open(text: &mut Vec<u8>, frame: Frame) -> Result<(), AllocError>
     ensures { OnOk result (text.new.items ≡ text.old.items ++ svg_open frame.left frame.margin frame.width frame.height) }
 {
@@ -296,7 +297,7 @@ fn push_row(text: &mut Vec<u8>, drawing: &[u8], middle: u64) -> Result<(), Alloc
     )
 }
 
-// Appends the caption in the middle under a board.
+// Appends the caption, centered under a board.
 fn push_caption_words(text: &mut Vec<u8>, frame: Frame, caption: &[u8]) -> Result<(), AllocError>
     requires { 14 ≤ frame.height }
     ensures { OnOk result (text.new.items ≡ text.old.items ++ caption_words frame.middle frame.height caption.now) }

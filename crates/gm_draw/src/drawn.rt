@@ -8,10 +8,10 @@ use arrayvec::ArrayVec;
 use gm_game::position::Position;
 use gm_game::shown::Shown;
 
-/// The bytes of the greatest drawing.
+/// The most bytes of a drawing.
 pub const DRAWING: usize = 256;
 
-/// A drawing: lines with a line end between them.
+/// A drawing: lines separated by line ends.
 pub type Drawing = ArrayVec<u8, DRAWING>;
 
 /// A game whose positions can be drawn.
@@ -22,33 +22,33 @@ pub trait Drawn: Shown {
     /// The name of the side to move.
     ghost mover: { Position → List ℕ };
 
-    /// How cells, positions and moves are written.
+    /// The description of how cells, positions and moves are written.
     ghost naming: { List ℕ };
 
-    /// The drawing of a legal position.
+    /// Returns the drawing of a legal position.
     fn draw(p: Position) -> Drawing
         requires { Self.Game.rules.is_legal p ≡ true }
         ensures { result.items ≡ drawn p };
 
-    /// The name of the side to move in a legal position.
+    /// Returns the name of the side to move in a legal position.
     fn mover(p: Position) -> &'static [u8]
         requires { Self.Game.rules.is_legal p ≡ true }
         ensures { result.now ≡ mover p };
 
-    /// How cells, positions and moves are written, in lines.
+    /// Returns the description of how cells, positions and moves are written, in lines.
     fn naming() -> &'static [u8]
         ensures { result.now ≡ naming };
 
-    /// The laws of drawings: each fits, and different positions differ in their drawing or their side to move.
+    /// The laws of drawings: each drawing fits, and different positions differ in their drawing or in their side to move.
     ghost tells: { IsDrawn Self.Game.rules drawn mover };
 }
 
-/// Has no effect; its contract states the laws of a game's drawings: positions with the same drawing and the same side to move are equal.
+/// Has no effect; its contract states that positions with the same drawing and the same side to move are equal.
 pub fn drawings<G: Drawn>()
     ensures { IsDrawn G.Game.rules G.drawn G.mover }
 {}
 
-// Returns the byte in the place of a byte of a template.
+// Returns the byte of a drawing for a byte of its template.
 fn byte_for(byte: u8, text: &[u8]) -> u8
     ensures { result ≡ drawn_byte text.now byte }
 {
@@ -61,7 +61,7 @@ fn byte_for(byte: u8, text: &[u8]) -> u8
     }
 }
 
-/// A template with the bytes of a text in its slots, the capital letters: `A` stands for the first byte.
+/// Returns a template with its slots filled from a text. The slots are the capital letters: `A` stands for the first byte.
 #[tactic(auto, unfolding(crate::specs::Templates::filled))]
 pub fn fill(template: &[u8], text: &[u8]) -> Drawing
     requires { length template.now ≤ DRAWING }

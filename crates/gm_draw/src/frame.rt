@@ -1,4 +1,4 @@
-//! The size of a diagram.
+//! The sizes of diagrams.
 ghost use Rattle.std.specs.Prelude.{◌≡◌, ◌<◌, ◌≤◌, ◌==◌, ◌+◌, ◌*◌, ◌-◌, count_by, length, max};
 ghost use Rattle.gm_draw.specs.Diagrams.{next_length as next_length_spec, widest as widest_spec, end_by, left_of, middle_of as middle_spec, width_of};
 ghost use Rattle.gm_draw.specs.Diagrams.{margin_of, height_of};
@@ -7,7 +7,8 @@ use crate::drawn::DRAWING;
 use crate::pictured::Style;
 use crate::svg::has_cells;
 
-/// The size of a diagram, where its board begins and how much paper is added before that, and the board's middle from left to right.
+/// The size of a diagram, the left edge of its board, the width of the paper that is added before it, and the middle of the board
+/// from left to right, in SVG units.
 #[derive(Clone, Copy)]
 pub(crate) struct Frame {
     pub(crate) left: u64,
@@ -17,7 +18,7 @@ pub(crate) struct Frame {
     pub(crate) middle: u64,
 }
 
-// The length of the longest line.
+// Returns the length of the longest line.
 #[tactic(auto, using(crate::proofs::Spreading::widest_next, crate::proofs::Spreading::widest_all))]
 fn widest(drawing: &[u8]) -> u64
     requires { length drawing.now ≤ DRAWING }
@@ -33,14 +34,14 @@ fn widest(drawing: &[u8]) -> u64
     longest
 }
 
-// The greater of two numbers.
+// Returns the greater of two numbers.
 fn greater(a: u64, b: u64) -> u64
     ensures { result ≡ max a b }
 {
     if a < b { b } else { a }
 }
 
-// How many bytes of its line have come with this byte.
+// Returns the length of a line so far, after this byte.
 fn next_length(n: u64, byte: u8) -> u64
     requires { n < DRAWING }
     ensures value { result ≡ next_length_spec n byte }
@@ -49,7 +50,7 @@ fn next_length(n: u64, byte: u8) -> u64
     if byte == b'\n' { 0 } else { n + 1 }
 }
 
-// How many lines end in a drawing.
+// Returns the number of line ends in a drawing.
 fn line_ends(drawing: &[u8]) -> usize
     ensures value { result ≡ count_by (λ b. b == 10) drawing.now }
     ensures few { result ≤ length drawing.now }
@@ -57,7 +58,7 @@ fn line_ends(drawing: &[u8]) -> usize
     drawing.iter().filter(|b| **b == b'\n').count()
 }
 
-/// The frame of a drawing: its caption has room.
+/// Returns the frame of a drawing. It is wide enough for the caption.
 pub(crate) fn frame_of(style: Style, drawing: &[u8]) -> Frame
     requires { length drawing.now ≤ DRAWING }
     ensures left { result.left ≡ left_of style }

@@ -1,7 +1,8 @@
-//! Boards to look at: a drawing of each position of a game, with its coordinates, the side to move, and how cells and moves are named.
+//! Boards for people: a drawing of each position of a game with its coordinates, the side to move, and the names of cells and
+//! moves.
 //!
-//! A drawing is plain ASCII of at most 50 columns. `specs/` has the drawings as templates, in which each capital letter stands for a byte of the position's
-//! text.
+//! A drawing is plain ASCII of at most 50 columns. `specs/` has the drawings as templates, in which each capital letter stands for
+//! a byte of the position's text.
 #![tactic(auto)]
 
 pub mod boards;

@@ -4,7 +4,7 @@ ghost use Rattle.gm_draw.specs.Diagrams.{escaped, escaped_byte};
 
 use std::alloc::AllocError;
 
-/// Appends a text, in which `<` and `&` have names.
+/// Appends a text, with `<` and `&` replaced by their character references.
 #[tactic(auto, using(crate::proofs::Spreading::flat_next))]
 pub fn push_escaped(text: &mut Vec<u8>, plain: &[u8]) -> Result<(), AllocError>
     ensures { OnOk result (text.new.items ≡ text.old.items ++ escaped plain.now) }
@@ -15,7 +15,7 @@ pub fn push_escaped(text: &mut Vec<u8>, plain: &[u8]) -> Result<(), AllocError>
     Ok(())
 }
 
-// Appends a byte of a text.
+// Appends a byte of such a text.
 fn push_escaped_byte(text: &mut Vec<u8>, byte: u8) -> Result<(), AllocError>
     ensures { OnOk result (text.new.items ≡ text.old.items ++ escaped_byte byte) }
 {

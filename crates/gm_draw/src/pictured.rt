@@ -1,4 +1,4 @@
-//! Games whose boards can be drawn by programs of their own: the board as a template, its points and their names.
+//! Games with pictures: the board as a template, its points, and their names, from which any program can draw the board.
 ghost use Rattle.std.specs.Prelude.{◌≡◌, ◌<◌, ◌≤◌, ℕ, List, [], length, slice_index_or};
 ghost use Rattle.gm_draw.specs.declared.pictured.Style.{Style};
 ghost use Rattle.gm_draw.specs.Pictured.{IsPictured};
@@ -8,7 +8,7 @@ use gm_game::limits::LINE;
 use gm_game::shown::Line;
 use gm_game::text::push_text;
 
-/// How the men of a game look, and on what they stand.
+/// The look of the men of a game, and of the places under them.
 #[derive(Clone, Copy, Debug, PartialEq, Eq)]
 pub enum Style {
     /// Numbers in a row, of which one is the position. There are no men.
@@ -21,47 +21,47 @@ pub enum Style {
     Stones,
     /// `x` and `o` on the points of a net; `x` is the side to move.
     Discs,
-    /// `d` and `h` on the points of a net; the text's last byte tells who moves.
+    /// `d` and `h` on the points of a net; the last byte of the text is the side to move.
     Letters,
 }
 
-/// A game whose board can be drawn.
+/// A game whose board any program can draw.
 pub trait Pictured: Drawn {
-    /// The board: a template with the places of the text's bytes, or a row of numbers without places.
+    /// The board: a template with a slot for each byte of a position's text, or a row of numbers without slots.
     ghost board: { List ℕ };
 
-    /// The names of the points, in the order of the text's bytes.
+    /// The names of the points, in the order of the bytes of a position's text.
     ghost points: { List (List ℕ) };
 
-    /// How the men look.
+    /// The look of the men.
     ghost style: { Style };
 
     /// The name of the game for a heading.
     ghost title: { List ℕ };
 
-    /// The board, as a template.
+    /// Returns the board, as a template.
     fn board() -> &'static [u8]
         ensures value { result.now ≡ board }
         ensures fits { length board ≤ DRAWING };
 
-    /// How many points there are.
+    /// Returns the number of points.
     fn points() -> usize
         ensures { result ≡ length points };
 
-    /// The name of a point.
+    /// Returns the name of a point.
     fn point(k: usize) -> Line
         requires { k < length points }
         ensures { result.items ≡ slice_index_or points k [] };
 
-    /// How the men look.
+    /// Returns the look of the men.
     fn style() -> Style
         ensures { result ≡ style };
 
-    /// The name of the game for a heading.
+    /// Returns the name of the game for a heading.
     fn title() -> Line
         ensures { result.items ≡ title };
 
-    /// The laws of pictures: each place of the board once, names that differ, and moves whose words are points.
+    /// The laws of pictures: the board has each slot once, the names differ, and the words of moves are points.
     ghost pictured: { IsPictured Self.Game.rules Self.Shown.shown Self.Shown.move_shown Self.Drawn.drawn style board points };
 }
 
@@ -70,7 +70,7 @@ pub fn pictures<G: Pictured>()
     ensures { IsPictured G.Game.rules G.shown G.move_shown G.drawn G.style G.board G.points }
 {}
 
-// A line of this text.
+// Returns a line with this text.
 pub(crate) fn line_of(text: &[u8]) -> Line
     requires { length text.now ≤ LINE }
     ensures { result.items ≡ text.now }

@@ -27,20 +27,20 @@ use gm_pong::pong::Pong;
 use gm_shisima::shisima::Shisima;
 use gm_tapatan::tapatan::Tapatan;
 
-/// Mu Torere and Shisima: point 0 is at the top, and the ring is numbered clockwise.
+/// The board of Mu Torere and Shisima: point 0 is at the top, and the ring is numbered clockwise.
 const RING: &[u8] = b"H---A---B\n| \\ | / |\nG---I---C\n| / | \\ |\nF---E---D";
 
-/// How points, positions and moves are written on a ring.
+/// The description of how points, positions and moves are written on a ring.
 const RING_NAMING: &[u8] =
     b"Points are named so:\n7---0---1\n| \\ | / |\n6---c---2\n| / | \\ |\n5---4---3\nA position is points 0 to 7 and c: x for the side\nto move, o for the other, . where it is empty.\nA move is from one point to another.\n";
 
-/// Pong Hau K'i: the two upper points are not joined.
+/// The board of Pong Hau K'i: the two upper points are not joined.
 const PONG: &[u8] = b"A       B\n| \\   / |\n|   C   |\n| /   \\ |\nD-------E";
 
-/// Tapatan.
+/// The board of Tapatan.
 const TAPATAN: &[u8] = b"A---B---C\n| \\ | / |\nD---E---F\n| / | \\ |\nG---H---I";
 
-/// Hare and Hounds: the hounds begin on the left.
+/// The board of Hare and Hounds: the hounds begin on the left.
 const HUNT: &[u8] =
     b"      B---E---H\n    / | \\ | / | \\\n  A---C---F---I---K\n    \\ | / | \\ | /\n      D---G---J";
 
@@ -163,7 +163,7 @@ impl Drawn for Hare {
     }
 }
 
-// The name of a point of the ring, or of its center.
+// Returns the name of a point of the ring, or of its center.
 #[tactic(auto, unfolding(crate::specs::Points::ring_points))]
 fn ring_point(k: usize) -> &'static [u8]
     requires { k < 9 }
@@ -218,7 +218,7 @@ impl Pictured for MuTorere {
     }
 }
 
-// The name of a point of Pong Hau K'i.
+// Returns the name of a point of Pong Hau K'i.
 #[tactic(auto, unfolding(crate::specs::Points::pong_points))]
 fn pong_point(k: usize) -> &'static [u8]
     requires { k < 5 }
@@ -304,7 +304,7 @@ impl Pictured for Shisima {
     }
 }
 
-// The name of a point of Tapatan.
+// Returns the name of a point of Tapatan.
 #[tactic(auto, unfolding(crate::specs::Points::tapatan_points))]
 fn tapatan_point(k: usize) -> &'static [u8]
     requires { k < 9 }
@@ -359,7 +359,7 @@ impl Pictured for Tapatan {
     }
 }
 
-// The name of a point of Hare and Hounds.
+// Returns the name of a point of Hare and Hounds.
 #[tactic(auto, unfolding(crate::specs::Points::hare_points, gm_hare::specs::Texts::point_name))]
 fn hare_point(k: usize) -> &'static [u8]
     requires { k < 11 }
@@ -416,31 +416,32 @@ impl Pictured for Hare {
     }
 }
 
-/// The drawing of Mu Torere is its board with the points of the position in it.
+/// Has no effect; its contract states that the drawing of Mu Torere is its board with the points of the position.
 pub fn mutorere_is_drawn()
     ensures mover { ⟦<MuTorere as Drawn>⟧.mover ≡ x_moves }
     ensures drawn { ⟦<MuTorere as Drawn>⟧.drawn ≡ (λ p. filled ring_board (ring_text p)) }
 {}
 
-/// The drawing of Pong Hau K'i is its board with the points of the position in it.
+/// Has no effect; its contract states that the drawing of Pong Hau K'i is its board with the points of the position.
 pub fn pong_is_drawn()
     ensures mover { ⟦<Pong as Drawn>⟧.mover ≡ x_moves }
     ensures drawn { ⟦<Pong as Drawn>⟧.drawn ≡ (λ p. filled pong_board (way_text 5 pong p)) }
 {}
 
-/// The drawing of Shisima is its board with the points of the position in it.
+/// Has no effect; its contract states that the drawing of Shisima is its board with the points of the position.
 pub fn shisima_is_drawn()
     ensures mover { ⟦<Shisima as Drawn>⟧.mover ≡ x_moves }
     ensures drawn { ⟦<Shisima as Drawn>⟧.drawn ≡ (λ p. filled ring_board (way_text 9 shisima p)) }
 {}
 
-/// The drawing of Tapatan is its board with the points of the position in it.
+/// Has no effect; its contract states that the drawing of Tapatan is its board with the points of the position.
 pub fn tapatan_is_drawn()
     ensures mover { ⟦<Tapatan as Drawn>⟧.mover ≡ x_moves }
     ensures drawn { ⟦<Tapatan as Drawn>⟧.drawn ≡ (λ p. filled tapatan_board (way_text 9 tapatan p)) }
 {}
 
-/// The drawing of Hare and Hounds is its board with the points of the position in it, and the side to move is that of the position.
+/// Has no effect; its contract states that the drawing of Hare and Hounds is its board with the points of the position, and that
+/// the side to move is that of the position.
 pub fn hare_is_drawn()
     ensures drawn { ⟦<Hare as Drawn>⟧.drawn ≡ (λ p. filled hare_board (hare_text p)) }
     ensures mover { ⟦<Hare as Drawn>⟧.mover ≡ hare_mover }

@@ -19,7 +19,7 @@ use gm_takeaway::takeaway::Takeaway;
 use gm_toys::countdown::Countdown;
 use gm_toys::wheel::Wheel;
 
-// The numbers of Countdown with the current one in brackets, and its moves.
+// Returns the numbers of Countdown with the current one in brackets, and its moves.
 #[tactic(auto, unfolding(crate::specs::Rows::countdown_row))]
 fn countdown_row(index: u64) -> &'static [u8]
     ensures value { result.now ≡ countdown_row_of index }
@@ -41,7 +41,7 @@ fn countdown_row(index: u64) -> &'static [u8]
     }
 }
 
-// The numbers of Takeaway with the current one in brackets, and its moves.
+// Returns the numbers of Takeaway with the current one in brackets, and its moves.
 #[tactic(auto, unfolding(crate::specs::Rows::takeaway_row))]
 fn takeaway_row(index: u64) -> &'static [u8]
     ensures value { result.now ≡ takeaway_row_of index }
@@ -65,7 +65,7 @@ fn takeaway_row(index: u64) -> &'static [u8]
     }
 }
 
-// The numbers of Wheel with the current one in brackets, and its moves.
+// Returns the numbers of Wheel with the current one in brackets, and its moves.
 #[tactic(auto, unfolding(crate::specs::Rows::wheel_row))]
 fn wheel_row(index: u64) -> &'static [u8]
     ensures value { result.now ≡ wheel_row_of index }
@@ -86,7 +86,7 @@ fn wheel_row(index: u64) -> &'static [u8]
     }
 }
 
-// The drawing of this text.
+// Returns a drawing with this text.
 fn drawing_of(text: &[u8]) -> Drawing
     requires { length text.now ≤ DRAWING }
     ensures { result.items ≡ text.now }
@@ -162,7 +162,7 @@ impl Drawn for Wheel {
     }
 }
 
-// The name of a number.
+// Returns the name of a number.
 fn number_name(number: usize) -> Line
     ensures { result.items ≡ decimal number }
 {
@@ -276,7 +276,7 @@ impl Pictured for Wheel {
     }
 }
 
-/// The drawings of Countdown, Takeaway and Wheel are their rows.
+/// Has no effect; its contract states that the drawings of Countdown, Takeaway and Wheel are their rows.
 pub fn rows_are_drawn()
     ensures countdown { ⟦<Countdown<10> as Drawn>⟧.drawn ≡ (λ p. countdown_row_of p.index) }
     ensures takeaway { ⟦<Takeaway as Drawn>⟧.drawn ≡ (λ p. takeaway_row_of p.index) }

@@ -1,4 +1,4 @@
-//! What is shown of a position: the board, the side to move, and the value.
+//! The text of a position for people: its board, the side to move, and the value.
 ghost use Rattle.std.specs.Prelude.{◌≡◌, ◌++◌, codes, true, OnOk, IfOk};
 ghost use Rattle.gm_draw.specs.ShowTexts.{board_text, naming_text, first_move, explained_text, IsShowText};
 
@@ -8,8 +8,8 @@ use gm_game::position::{Position, Solved};
 use gm_game::text::value_text;
 use std::alloc::{AllocError, Global};
 
-/// The board of a position, with a line for the side to move and the true value; where an explanation is asked for, also how cells, positions and moves are
-/// written.
+/// Returns the board of a position, and a line with the side to move and the true value. If `explained` is set, a description of
+/// how cells, positions and moves are written follows.
 pub fn show_text<G: Drawn>(
     alloc: Global,
     known: &Known<'_, G>,
@@ -20,7 +20,7 @@ pub fn show_text<G: Drawn>(
     board_and_naming::<G>(alloc, known.position, known.value(), explained)
 }
 
-// The board of a legal position of this value, and how it is written.
+// Returns this text for a legal position of this value.
 fn board_and_naming<G: Drawn>(
     alloc: Global,
     p: Position,
@@ -51,7 +51,7 @@ fn push_line(text: &mut Vec<u8>, front: &[u8], back: &[u8]) -> Result<(), AllocE
     text.extend_from_slice(b"\n")
 }
 
-// Appends how cells, positions and moves are written.
+// Appends the description of how cells, positions and moves are written.
 fn push_naming<G: Drawn>(text: &mut Vec<u8>, p: Position) -> Result<(), AllocError>
     requires { G.Game.rules.is_legal p ≡ true }
     ensures { OnOk result (text.new.items ≡ text.old.items ++ naming_text G.Game.rules G.shown G.move_shown G.drawn G.mover G.naming p) }

@@ -28,7 +28,7 @@ use gm_morris::variant::Variant;
 use gm_tactix::side::side_for;
 use gm_tactix::tactix::TacTix;
 
-// The board of a game of nine points.
+// Returns the board of a game of nine points.
 #[tactic(auto, unfolding(crate::specs::Pictures::nine_points))]
 fn nine_board(variant: Variant) -> &'static [u8]
     ensures value { result.now ≡ nine_points variant }
@@ -47,7 +47,7 @@ fn nine_board(variant: Variant) -> &'static [u8]
     }
 }
 
-// How its cells, positions and moves are written.
+// Returns the description of how its cells, positions and moves are written.
 #[tactic(auto, unfolding(crate::specs::Names::nine_naming))]
 fn nine_naming(variant: Variant) -> &'static [u8]
     ensures { result.now ≡ nine_naming_of variant }
@@ -140,7 +140,7 @@ impl Drawn for Dodgem {
     }
 }
 
-// The board of Tac Tix with this side.
+// Returns the board of Tac Tix with this side.
 #[tactic(auto, unfolding(crate::specs::Pictures::tactix_board))]
 fn tactix_board(side: u32) -> &'static [u8]
     ensures value { result.now ≡ tactix_board_of side }
@@ -179,7 +179,7 @@ impl<const N: u32, const MISERE: bool> Drawn for TacTix<N, MISERE> {
     }
 }
 
-// The name of a cell of a square.
+// Returns the name of a cell of a square.
 #[tactic(auto, using(crate::specs::laws::Points::square_named))]
 fn cell_name(side: u32, k: usize) -> Line
     requires low { 1 ≤ side }
@@ -190,7 +190,7 @@ fn cell_name(side: u32, k: usize) -> Line
     line_of(&square_cell_text(side, k as u32))
 }
 
-// The heading of a game of nine points.
+// Returns the heading of a game of nine points.
 #[tactic(auto, unfolding(crate::specs::Points::nine_title))]
 fn nine_title(variant: Variant) -> Line
     ensures { result.items ≡ nine_title_of variant }
@@ -202,7 +202,7 @@ fn nine_title(variant: Variant) -> Line
     }
 }
 
-// How its men look.
+// Returns the look of its men.
 #[tactic(auto, unfolding(crate::specs::Points::nine_style))]
 fn nine_style(variant: Variant) -> Style
     ensures { result ≡ nine_style_of variant }
@@ -317,7 +317,7 @@ impl Pictured for Dodgem {
     }
 }
 
-// The heading of Tac Tix with this side.
+// Returns the heading of Tac Tix with this side.
 #[tactic(auto, unfolding(crate::specs::Points::tactix_title))]
 fn tactix_title(side: u32, misere: bool) -> Line
     requires { side ≤ 5 }
@@ -369,25 +369,26 @@ impl<const N: u32, const MISERE: bool> Pictured for TacTix<N, MISERE> {
     }
 }
 
-/// The drawings of the games of nine points are their boards with the cells of the position in them.
+/// Has no effect; its contract states that the drawings of the games of nine points are their boards with the cells of the
+/// position.
 pub fn nine_points_are_drawn<const LAST: u64>()
     ensures mover { ⟦<NinePoints<LAST> as Drawn>⟧.mover ≡ x_moves }
     ensures drawn { ⟦<NinePoints<LAST> as Drawn>⟧.drawn ≡ (λ p. filled (nine_points (variant_of LAST)) (nine_text p)) }
 {}
 
-/// The drawing of Dodgem is its board with the cells of the position in it.
+/// Has no effect; its contract states that the drawing of Dodgem is its board with the cells of the position.
 pub fn dodgem_is_drawn()
     ensures mover { ⟦<Dodgem as Drawn>⟧.mover ≡ x_moves }
     ensures drawn { ⟦<Dodgem as Drawn>⟧.drawn ≡ (λ p. filled dodgem_board (dodgem_text p)) }
 {}
 
-/// The drawing of Dao is its board with the cells of the position in it.
+/// Has no effect; its contract states that the drawing of Dao is its board with the cells of the position.
 pub fn dao_is_drawn()
     ensures mover { ⟦<Dao as Drawn>⟧.mover ≡ x_moves }
     ensures drawn { ⟦<Dao as Drawn>⟧.drawn ≡ (λ p. filled dao_board (dao_text p)) }
 {}
 
-/// The drawing of Tac Tix is its board with the counters of the position in it.
+/// Has no effect; its contract states that the drawing of Tac Tix is its board with the counters of the position.
 pub fn tactix_is_drawn<const N: u32, const MISERE: bool>()
     ensures mover { ⟦<TacTix<N, MISERE> as Drawn>⟧.mover ≡ player_moves }
     ensures drawn { ⟦<TacTix<N, MISERE> as Drawn>⟧.drawn ≡ (λ p. filled (tactix_board_of (side_of N)) (tactix_text N p)) }

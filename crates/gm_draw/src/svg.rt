@@ -55,7 +55,7 @@ pub(crate) fn push_circle(text: &mut Vec<u8>, x: u64, y: u64, back: &[u8]) -> Re
     push_at(text, b"<circle cx=\"", x, b"\" cy=\"", y, back)
 }
 
-/// Appends words at a point, after what tells how they look.
+/// Appends words at a point, after the attributes of their look.
 pub(crate) fn push_words(
     text: &mut Vec<u8>,
     x: u64,
@@ -91,21 +91,21 @@ fn push_stroke(text: &mut Vec<u8>, x: u64, y: u64, byte: u8) -> Result<(), Alloc
     }
 }
 
-/// Whether men are drawn in cells, which are squares.
+/// Tests whether men are drawn in cells, which are squares.
 pub(crate) fn has_cells(style: Style) -> bool
     ensures { result ≡ has_cells_spec style }
 {
     matches!(style, Style::Counters | Style::Stones)
 }
 
-// Whether men are drawn on points.
+// Tests whether men are drawn on points.
 fn has_points(style: Style) -> bool
     ensures { result ≡ has_points_spec style }
 {
     matches!(style, Style::Discs | Style::Letters)
 }
 
-// Appends the strokes and squares under the men.
+// Appends the stroke or the square of a byte of the board, under the men.
 #[tactic(auto, unfolding(crate::specs::Diagrams::under_at))]
 fn push_under(text: &mut Vec<u8>, style: Style, x: u64, y: u64, byte: u8) -> Result<(), AllocError>
     requires right { 40 ≤ x }
@@ -134,14 +134,14 @@ fn push_point(text: &mut Vec<u8>, style: Style, x: u64, y: u64) -> Result<(), Al
     }
 }
 
-// The place of the name of a row or a column, from the left.
+// Returns the distance of the name of a row or a column from the left.
 fn label_x(style: Style, x: u64) -> u64
     ensures { result ≡ label_x_spec style x }
 {
     if has_cells(style) && x == 40 { 70 } else { x }
 }
 
-// Its place from the top.
+// Returns the distance of the name of a row or a column from the top.
 fn label_y(style: Style, y: u64) -> u64
     requires { y ≤ 16000 }
     ensures { result ≡ label_y_spec style y }
@@ -167,14 +167,14 @@ fn push_label(text: &mut Vec<u8>, style: Style, x: u64, y: u64, byte: u8) -> Res
     )
 }
 
-// Whether a byte is a stroke of the net, a space or the end of a line.
+// Tests whether a byte is a stroke of the net, a space or the end of a line.
 fn is_stroke(byte: u8) -> bool
     ensures { result ≡ is_stroke_spec byte }
 {
     matches!(byte, b'-' | b'|' | b'/' | b'\\' | b'+' | b' ' | b'\n')
 }
 
-// Appends the layer over strokes and squares: a man in its place, or the name of a row or a column.
+// Appends the part of a byte of the board over strokes and squares: a man in its place, or the name of a row or a column.
 #[tactic(auto, unfolding(crate::specs::Diagrams::over_at))]
 fn push_over(
     text: &mut Vec<u8>,
@@ -199,7 +199,7 @@ fn push_over(
     }
 }
 
-// The byte of a text that a capital letter stands for: 0 past its end.
+// Returns the byte of a text that a capital letter stands for, or 0 past its end.
 fn byte_at(bytes: &[u8], letter: u8) -> u8
     requires { 65 ≤ letter }
     ensures { result ≡ slice_index bytes.now (letter - 65) }
@@ -210,7 +210,7 @@ fn byte_at(bytes: &[u8], letter: u8) -> u8
     }
 }
 
-// The column of the byte after this one.
+// Returns the distance of the next byte of the board from the left.
 fn next_x(x: u64, byte: u8) -> u64
     requires right { 40 ≤ x }
     requires near { x ≤ 16000 }
@@ -221,7 +221,7 @@ fn next_x(x: u64, byte: u8) -> u64
     if byte == b'\n' { 40 } else { x + 20 }
 }
 
-// Its row.
+// Returns the distance of the next byte of the board from the top.
 fn next_y(y: u64, byte: u8) -> u64
     requires { y ≤ 16000 }
     ensures value { result ≡ next_y_spec y byte }

@@ -1,4 +1,4 @@
--- What follows from the definitions.
+-- Facts that follow from the definitions.
 pub mod RingTables
 pub mod RingFacts
 pub mod RingLaws

@@ -1,4 +1,4 @@
--- Where every table is held, there is a look-up of all values and best moves.
+-- If every table is held, a look-up of all values and best moves exists.
 use Rattle.std.proofs.Common.{ℕ, List, Option, None, Some, IsSome, IfSome}
 use Rattle.gm_game.specs.declared.position.Position.{Position}
 use Rattle.gm_game.specs.declared.position.Value.TheVariants.{Draw}

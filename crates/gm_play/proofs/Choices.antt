@@ -1,4 +1,4 @@
--- The first of the moves that lead to one canonical position.
+-- Distinct moves: of those that lead to the same canonical position, only the first.
 use Rattle.std.proofs.Common.{◌≡◌, ◌+◌, ◌<◌, ◌≤◌, Bool, true, false, List, [], ◌∷◌, ◌++◌, ℕ, length, drop, get_or, if◌then◌else◌, sym, ap, subst, ◌∙◌, arith}
 use Rattle.std.specs.List.{All}
 use Rattle.std.proofs.lemmas.List.{length-append, drop_more}
@@ -22,7 +22,7 @@ pub all_chosen : (r : Rules) (P : MoveValue → Type 0) (distinct : Bool) (list 
 all_chosen r P true list h = all_firsts r P [] list (none P) h
 all_chosen r P false list h = h
 
--- one move more
+-- one more move
 pub next_on : (r : Rules) (kept new list all : List MoveValue) (k : ℕ) (d : MoveValue) → k < length list → new ≡ with_first r kept (get_or list k d) →
     firsts_onto r kept (drop k list) ≡ all → firsts_onto r new (drop (k + 1) list) ≡ all
 next_on r kept new list all k d inside e h =

@@ -1,4 +1,4 @@
--- What the computer's best moves keep in a dialogue, whatever the bytes are.
+-- What the computer's best moves guarantee in a dialogue, for any input.
 use Rattle.std.proofs.Common.{◌≡◌, ◌≢◌, ℕ, ◌+◌, ◌<◌, ◌≤◌, Bool, true, false, List, [], ◌∷◌, ◌++◌, length, codes, Option, None, Some, IfSome, refl, arith}
 use Rattle.std.specs.Prelude.{◌==◌, if◌then◌else◌}
 use Rattle.std.specs.List.{Contains, find}
@@ -28,7 +28,7 @@ module _ (r : Rules) (g : IsGame r) (shown : Position → List ℕ) (move_shown 
   step : (p : Position) (m : ℕ) → IsReached r tier p → Contains (r.moves p) m → IsReached r tier (r.play p m)
   step p m h has = reached_reached r tier p (r.play p m) h (played_reached r g p m h.0 has)
 
-  -- what is said keeps a win within n moves
+  -- a part of a dialogue preserves a win within n moves
   record IsWinning (n : ℕ) (said : Said) : Type 0 where
     pub left : ℕ
     pub few : said.moves + left ≤ n
@@ -83,7 +83,7 @@ module _ (r : Rules) (g : IsGame r) (shown : Position → List ℕ) (move_shown 
       let text = without_return line in
       reply_case p n line (bytes_eq text (codes "quit")) (find (λ m. bytes_eq (move_shown p m) text) (r.moves p)) l h refl
 
-  -- and so does a course
+  -- and so does the course of the game
   after_wins : (said : Said) (o : Option Position) (f : Position → Course) (n left : ℕ) → said.moves + left ≤ n → IfSome o
       (λ q. IsReached r tier q × HasValue r q Lose left) → IfSome said.ending (λ w. w ≡ Some Computer)
       → ((q : Position) → IsReached r tier q → HasValue r q Lose left → IsWonCourse left (f q)) → IsWonCourse n (course_with said o f)
@@ -128,7 +128,7 @@ module _ (r : Rules) (g : IsGame r) (shown : Position → List ℕ) (move_shown 
       after_wins said said.asked (λ q. course_from r shown move_shown k seen q [] bytes) n w.left w.few w.asked w.ending
       (λ q a v. from_wins bytes [] q w.left a v)
 
-  -- what is said keeps the computer's side from losing
+  -- a part of a dialogue does not let the computer's side lose
   record IsKeeping (said : Said) : Type 0 where
     pub asked : IfSome said.asked (λ q. IsReached r tier q × IsSafe r g q You)
     pub ending : IfSome said.ending (λ w. w ≢ Some You)

@@ -29,7 +29,7 @@ newline = codes "\n"
 abbrev EndsLine : List ℕ → Type 0
 EndsLine t = (front : List ℕ) × (t ≡ front ++ newline)
 
--- the last line by the end of the game: its winner's, or where the game goes on, the session's
+-- the last line, by the end of the game: the line of the result, or that of the session if the game goes on
 abbrev IsClosed : Option (Option Side) → List ℕ → Type 0
 IsClosed None t = IsLastLine t (codes "bye\n") ⊎ IsLastLine t (codes "input ended\n")
 IsClosed (Some w) t = IsLastLine t (over_line w)
@@ -50,7 +50,7 @@ closed_after pre t (Some w) l h = last_after pre t (over_line w) l h
 ends_after : (pre t : List ℕ) → EndsLine t → EndsLine (pre ++ t)
 ends_after pre t (front, e) = (pre ++ front, ap (λ (x : List ℕ). pre ++ x) e ∙ sym (append_assoc pre front newline))
 
--- from a win of the computer's side, and where it doesn't lose
+-- the last lines from a win of the computer's side, and if the computer's side does not lose
 pub won_line : (e : Option (Option Side)) (t : List ℕ) → IfSome e (λ w. w ≡ Some Computer) → IsClosed e t → EndsWon t
 won_line None t h c = inr c
 won_line (Some None) t h c = absurd (cc)
@@ -68,7 +68,7 @@ module _ (r : Rules) (g : IsGame r) (shown : Position → List ℕ) (move_shown 
   step : (p : Position) (m : ℕ) → IsReached r tier p → Contains (r.moves p) m → IsReached r tier (r.play p m)
   step p m h has = reached_reached r tier p (r.play p m) h (played_reached r g p m h.0 has)
 
-  -- what is said ends with a question, or with the last line
+  -- a part of a dialogue ends with a question, or with the last line
   abbrev IsOpen : Option Position → Option (Option Side) → List ℕ → Type 0
   IsOpen (Some q) e t = IsReached r tier q × EndsLine t
   IsOpen None e t = IsClosed e t
@@ -126,7 +126,7 @@ module _ (r : Rules) (g : IsGame r) (shown : Position → List ℕ) (move_shown 
       let text = without_return line in
       reply_case p line (bytes_eq text (codes "quit")) (find (λ m. bytes_eq (move_shown p m) text) (r.moves p)) l refl
 
-  -- what is said, and what follows the question
+  -- a part of a dialogue, and the text after its question
   after_closed : (said : Said) (o : Option Position) (f : Position → List ℕ) (h : Position → Course) → IsOpen o said.ending said.text
       → ((q : Position) → IsReached r tier q → IsClosed (h q).ending (f q)) → IsClosed (course_with said o h).ending (said.text ++ text_after f o)
   after_closed said None f h w next = subst (IsClosed said.ending) (sym (append-nil said.text)) w

@@ -20,7 +20,7 @@ module _ (r : Rules) (shown : Position → List ℕ) (move_shown : Position → 
   pub rows_none : (out : List ℕ) → out ≡ [] → AreExchangeRows r shown move_shown p [] out
   rows_none out e = record { exchanges = []; made = refl; each = λ k d inside. absurd (omega arith); out_is = e }
 
-  -- one row more
+  -- one more row
   pub rows_more : (moves : List MoveValue) (k : ℕ) (d : MoveValue) (x : Exchange) (old new : List ℕ) → k < length moves → AreExchangeRows r shown move_shown
       p (take k moves) old → x.made ≡ get_or moves k d
       → IsExchange r x → new ≡ old ++ exchange_row r shown move_shown p x → AreExchangeRows r shown move_shown p (take (k + 1) moves) new
@@ -55,7 +55,7 @@ with_answer r g x m legal value best a l v =
       nearer = v ∙ ap (value_left x.made.result) (sym a);
     }
 
--- where the move has ended the game
+-- if the move has ended the game
 pub without_answer : (r : Rules) (x : Exchange) → r.is_legal x.made.position ≡ true → IsTrueValue r x.made.position x.made.result → IsBestMove r
     x.made.position None → x.answer ≡ None
     → x.left ≡ x.made.position → x.value ≡ x.made.result → IsExchange r x

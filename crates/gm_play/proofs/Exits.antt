@@ -1,4 +1,4 @@
--- Where the game goes on, there is a best move.
+-- If the game goes on, there is a best move.
 use Rattle.std.proofs.Common.{◌≡◌, ℕ, Option, None, Some, IsSome, refl}
 use Rattle.gm_game.specs.declared.position.Position.{Position}
 use Rattle.gm_game.specs.Rules.{Rules}

@@ -1,4 +1,4 @@
--- What best moves keep, move by move.
+-- Properties that best moves preserve, move by move.
 use Rattle.std.proofs.Common.{◌≡◌, ◌≢◌, ℕ, zero, suc, ◌<◌, ◌≤◌, inl, inr, Bool, true, false, List, Option, None, Some, refl, sym, ◌∙◌, subst, arith}
 use Rattle.std.specs.List.{Contains}
 use Rattle.gm_game.specs.declared.position.Position.{Position}
@@ -22,7 +22,7 @@ false_unless : (b : Bool) → (b ≡ true → ⊥) → b ≡ false
 false_unless true h = absurd (h refl)
 false_unless false h = refl
 
--- there is one best move only
+-- the best move is unique
 same_remoteness : (r : Rules) (v : Value) (p q : Position) (k l : ℕ) → HasValue r p (wanted_from v) k → HasValue r q (wanted_from v) l → IsNoFarther v k l →
     IsNoFarther v l k → k ≡ l
 same_remoteness r Lose p q k l a b c d = omega arith
@@ -56,7 +56,7 @@ module _ (r : Rules) (g : IsGame r) where
       let some : r.primitive p ≢ None = λ n. absurd (cc) in
       absurd (contains_none m (subst (λ (ms : List ℕ). Contains ms m) (g.ended p l some) has))
 
-  -- where there is a move, the game goes on
+  -- if there is a move, the game goes on
   pub goes_on : (p : Position) (m : ℕ) → r.is_legal p ≡ true → Contains (r.moves p) m → r.primitive p ≡ None
   goes_on p m l has = open_case p m (r.primitive p) l has refl
 
@@ -92,7 +92,7 @@ module _ (r : Rules) (g : IsGame r) where
   won_at p You n (Some EndWin) w e h = absurd (never_both r n 0 p w.0 (wins_at_end r 0 p e))
   won_at p You n (Some EndTie) w e h = absurd (no_loss_of_tie r 0 p (ties_at_end r 0 p e) n w.0)
 
-  -- the computer's side doesn't lose
+  -- the computer's side has not lost
   abbrev pub IsSafe : Position → Side → Type 0
   IsSafe p Computer = (n : ℕ) → loses r n p ≡ false
   IsSafe p You = (n : ℕ) → wins r n p ≡ false

@@ -1,4 +1,4 @@
--- A line of which a front is kept is answered as the whole line: no move has a text that is longer.
+-- A line is answered from its kept prefix as from the whole line, because no move has a longer text.
 use Rattle.std.proofs.Common.{◌≡◌, ℕ, ◌+◌, ◌-◌, ◌≤◌, ◌<◌, ◌⊎◌, inl, inr, Bool, true, false, List, [], ◌∷◌, ◌++◌, length, take, drop, codes, nat_eq, None, sym}
 use Rattle.std.proofs.Common.{ap, ◌∙◌, arith}
 use Rattle.std.specs.Prelude.{◌==◌, if◌then◌else◌}
@@ -16,7 +16,7 @@ use Rattle.gm_play.proofs.Reading.{none_found, reply_is, after_reply, closing_is
 use Rattle.gm_play.specs.declared.view.Question.{Question}
 use Rattle.gm_play.specs.declared.view.Question.TheVariants.{Again}
 
--- one byte more
+-- one more byte
 pub kept_push : (kept line : List ℕ) (b : ℕ) → kept ≡ take KEPT line → length kept < KEPT → kept ++ b ∷ [] ≡ take KEPT (line ++ b ∷ [])
 kept_push kept line b e short =
     let n : length kept ≡ length (take KEPT line) = ap length e in

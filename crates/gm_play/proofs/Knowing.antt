@@ -1,4 +1,4 @@
--- What is known from a position that is reached.
+-- A look-up that holds from a tier also holds from each position that is reached from it.
 use Rattle.std.proofs.Common.{ℕ}
 use Rattle.gm_game.specs.declared.position.Position.{Position}
 use Rattle.gm_game.specs.Rules.{Rules}

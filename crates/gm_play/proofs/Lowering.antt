@@ -71,7 +71,7 @@ module _ (r : Rules) (p : Position) (open_ : r.primitive p ≡ None) where
         elim (cases_lt k o) [ inl less ↦ (let f = h.1 (suc k) (omega arith) in absurd (cc)) | inr more ↦ omega arith ])
   ]
 
-  -- so what it is worth is the value of the position
+  -- so the worth of the best move is the value of the position
   pub best_worth : (v : Value) (own m k : ℕ) → HasValue r p v own → IsBestOf r p v (r.moves p) m k → worth_from (wanted_from v) k ≡ solved v own
   best_worth Win own m k h b = ap (solved Win) (sym (near_win own m k h b))
   best_worth Tie own m k h b = ap (solved Tie) (sym (near_tie own m k h b))

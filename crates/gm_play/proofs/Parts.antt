@@ -1,4 +1,4 @@
--- Fronts of texts that are written.
+-- Prefixes of texts that are written.
 use Rattle.std.proofs.Common.{◌≡◌, ℕ, List, [], ◌++◌, take, drop, Option, Result, Ok, Err, sym, subst, ap, ◌∙◌, append_assoc, take-append-drop, append-nil}
 use Rattle.std.specs.Prelude.{OnOk, OnErr, IfOk}
 use Rattle.std.specs.Io.KnownBytes.{Appends, Keeps}
@@ -29,20 +29,20 @@ part_stuck a b c n m xs buf h k e =
     let k0 : Appends b c [] = subst (λ m. Appends b c (take m buf)) e k in
     (take n xs, drop n xs, sym (take-append-drop n xs), subst (Appends a c) (append-nil (take n xs)) (Appends-trans a b c (take n xs) [] h k0))
 
--- a front of a text is a front of a longer one
+-- a prefix of a text is a prefix of a longer one
 pub part_longer : (a b : Option (List ℕ)) (xs ys : List ℕ) → AppendsPart a b xs → AppendsPart a b (xs ++ ys)
 part_longer a b xs ys (done, rest, e, h) = (done, rest ++ ys, ap (λ l. l ++ ys) e ∙ append_assoc done rest ys, h)
 
--- a text and then a front of another
+-- a text, and then a prefix of another
 pub part_after : (a b c : Option (List ℕ)) (xs ys : List ℕ) → Appends a b xs → AppendsPart b c ys → AppendsPart a c (xs ++ ys)
 part_after a b c xs ys h (done, rest, e, k) = (xs ++ done, rest, ap (λ l. xs ++ l) e ∙ sym (append_assoc xs done rest), Appends-trans a b c xs done h k)
 
--- what is said after a text
+-- a part of a dialogue after a text
 pub says_after : (a b c : Option (List ℕ)) (xs : List ℕ) (said : Said) (asked : Option Position) → Appends a b xs → Says b c said asked → Says a c
     (before xs said) asked
 says_after a b c xs said asked h (e, k) = (e, Appends-trans a b c xs said.text h k)
 
--- the same, where what is said and its text are known by equations
+-- the same, with the part of the dialogue and its text given by equations
 pub done_after : (a b c : Option (List ℕ)) (xs : List ℕ) (said is : Said) (asked : Option Position) (text : List ℕ)
     → Appends a b xs → is ≡ said → text ≡ is.text → asked ≡ is.asked → Appends b c text → Says a c (before xs said) asked
 done_after a b c xs said is asked text h e t o k = says_after a b c xs said asked h
@@ -58,7 +58,7 @@ part_is a b xs ys e h = subst (λ (l : List ℕ). AppendsPart a b l) e h
 pub text_is : (a b : Option (List ℕ)) (xs ys : List ℕ) → xs ≡ ys → Appends a b xs → Appends a b ys
 text_is a b xs ys e h = subst (λ (l : List ℕ). Appends a b l) e h
 
--- a text is written, and then a call says the rest
+-- a text is written, and then a call writes the next part of the dialogue
 module _ (a b c : Option (List ℕ)) (xs : List ℕ) (said is : Said) (written : Appends a b xs) (is_said : is ≡ said) (text : List ℕ)
     (text_is_said : text ≡ is.text)
     (call : Result (Option Position) Unwritten) where
@@ -69,7 +69,7 @@ module _ (a b c : Option (List ℕ)) (xs : List ℕ) (said is : Said) (written :
   pub stops_in : OnErr call (AppendsPart b c text) → OnErr call (AppendsPart a c (xs ++ said.text))
   stops_in h = on_err_weaker call (λ k. stops_after a b c xs said is text written is_said text_is_said k) h
 
--- a call says what is known by an equation
+-- a call writes a part of the dialogue that is given by an equation
 module _ (a b : Option (List ℕ)) (call : Result (Option Position) Unwritten) (is said : Said) (is_said : is ≡ said) where
   pub ok_is : IfOk call (Says a b is) → IfOk call (Says a b said)
   ok_is h = subst (λ (s : Said). IfOk call (Says a b s)) is_said h

@@ -18,7 +18,7 @@ use Rattle.gm_play.specs.Lines.{position_after, side_after, IsLine, LeadsTo, IsP
 use Rattle.gm_play.proofs.Keeping.{best_once}
 use Rattle.gm_best.proofs.Held.{held_after}
 
--- the line has come this far: what is left of it from here is what is left of it from the start
+-- the state of a line after some moves: its continuations from here are those of the line from the start
 pub record OnLine (r : Rules) (start : Position) (first : Side) (replies rest : List ℕ) (line : PlayLine) : Type 0 where
   pub moves : List ℕ
   pub leads : LeadsTo r start first moves line
@@ -57,7 +57,7 @@ module _ (r : Rules) (g : IsGame r) (start : Position) (first : Side) (replies :
   }
 
   module _ (rest : List ℕ) (line : PlayLine) (on : OnLine r start first replies rest line) where
-    -- the moves that the computer's best move begins
+    -- the continuations that begin with the computer's best move
     computer_left : (m : ℕ) (left : List ℕ) → IsBestMove r line.position (Some m) → IsLine r line.position Computer rest left → (ms : List ℕ) × IsLine r
         (r.play line.position m) You rest ms
     computer_left m [] b (inl e) = absurd (e b.0)
@@ -93,7 +93,7 @@ module _ (r : Rules) (g : IsGame r) (start : Position) (first : Side) (replies :
   turn Computer old new e (inl a) = inr (subst (λ (x : PlayLine). r.primitive x.position ≢ None) (sym a.1) a.0)
   turn Computer old new e (inr (m, b, q)) = inl (subst (λ (x : PlayLine). x.side ≡ You) (sym q) (ap other e))
 
-  -- no reply is left
+  -- no reply remains
   pub ends_last : (line : PlayLine) → OnLine r start first replies [] line → (line.side ≡ You) ⊎ (r.primitive line.position ≢ None) → IsPlayed r start first
       replies line
   ends_last line on (inl e) = (on.moves, subst (λ (xs : List ℕ). IsLine r start first replies xs) (append-nil on.moves) (on.goes [] (inr (e, refl))), on.leads)
@@ -127,13 +127,13 @@ module _ (r : Rules) (g : IsGame r) (start : Position) (first : Side) (replies :
           (k.1, subst (λ (x : Side). IsLine r (r.play line.position reply) (other x) rest k.1) (sym you) k.2));
     }
 
-    -- it is none
+    -- the reply is not a move
     pub stuck : (Contains (r.moves line.position) reply → ⊥) → (ms : List ℕ) → IsLine r start first replies ms → ⊥
     stuck none ms h =
         let (left, t) = on.only ms h in
         none (reply_left left (subst (λ (x : Side). IsLine r line.position x (reply ∷ rest) left) you t)).0
 
--- what is held after a move
+-- the tables that are held after a move
 module _ (r : Rules) (entries : List TableData) where
   held_moved : IsGame r → (p : Position) (m : ℕ) → r.is_legal p ≡ true → Contains (r.moves p) m → AreAllHeld r entries p.tier → AreAllHeld r entries
       (r.play p m).tier
@@ -160,7 +160,7 @@ moves_answered r Computer old new (inr (m, b, q)) = (let e = ap (λ (x : PlayLin
 pub moves_replied : (r : Rules) (reply : ℕ) (old new : PlayLine) → IsReplied r old reply (Some new) → new.moves ≡ old.moves + 1
 moves_replied r reply old new a = ap (λ (x : PlayLine). x.moves) a.1
 
--- the replies that are left, after the first ones
+-- the remaining replies, after the first ones
 pub reply_is_next : (r : Rules) (start : Position) (first : Side) (replies : List ℕ) (k : ℕ) (line : PlayLine) → k < length replies → OnLine r start first
     replies (drop k replies) line → OnLine r start first replies (get_or replies k 0 ∷ drop (k + 1) replies) line
 reply_is_next r start first replies k line inside on = subst (λ (l : List ℕ). OnLine r start first replies l line) (drop_more replies k 0 inside) on
@@ -188,7 +188,7 @@ module _ (r : Rules) (g : IsGame r) (start : Position) (first : Side) (replies r
   pub step_end : r.primitive a.position ≢ None → IsPlayed r start first replies a
   step_end e = ends r g start first replies (reply ∷ rest) a answered_here e
 
--- no reply is left
+-- no reply remains
 pub step_last : (r : Rules) (g : IsGame r) (start : Position) (first : Side) (replies : List ℕ) (line a : PlayLine) → OnLine r start first replies [] line →
     IsAnswered r line.side line a → IsPlayed r start first replies a
 step_last r g start first replies line a on is =

@@ -1,4 +1,4 @@
--- What the computer's best moves keep, whatever the replies are.
+-- What the computer's best moves guarantee for any replies.
 use Rattle.std.proofs.Common.{◌≡◌, ◌≢◌, ℕ, ◌≤◌, inl, inr, true, List, [], ◌∷◌, length, None, refl, sym, ap, ◌∙◌, subst, arith}
 use Rattle.gm_game.specs.declared.position.Position.{Position}
 use Rattle.gm_game.specs.Rules.{Rules}
@@ -39,7 +39,7 @@ module _ (r : Rules) (g : IsGame r) where
   line_safe (m ∷ ms) p You [] l line safe = absurd line
   line_safe (m ∷ ms) p You (q ∷ qs) l line safe = line_safe ms (r.play p m) Computer qs (g.play_legal p m l line.1) line.2 (reply_safe r g p m l line.1 safe)
 
-  -- where a line ends, no other one goes on
+  -- a line that has ended has no longer line with the same replies
   no_longer : (n : ℕ) (ns : List ℕ) (p : Position) (s : Side) (replies : List ℕ) → r.is_legal p ≡ true → IsLine r p s replies [] → IsLine r p s replies
       (n ∷ ns) → ⊥
   no_longer n ns p Computer replies l (inl e) b = e b.0.0
@@ -48,7 +48,7 @@ module _ (r : Rules) (g : IsGame r) where
   no_longer n ns p You (q ∷ qs) l (inl e) b = e (goes_on r g p n l b.1)
   no_longer n ns p You (q ∷ qs) l (inr e) b = (let f = e.1 in absurd (cc))
 
-  -- there is one line with these replies only
+  -- the line with these replies is unique
   line_once : (ms ns : List ℕ) (p : Position) (s : Side) (replies : List ℕ) → r.is_legal p ≡ true → IsLine r p s replies ms → IsLine r p s replies ns → ms ≡ ns
   line_once [] [] p s replies l a b = refl
   line_once [] (n ∷ ns) p s replies l a b = absurd (no_longer n ns p s replies l a b)
@@ -71,7 +71,7 @@ module _ (r : Rules) (g : IsGame r) where
   played_every p s replies moves end l (ms, line, leads) other = subst (λ (xs : List ℕ). LeadsTo r p s xs end) (line_once ms moves p s replies l line other)
       leads
 
-  -- what is played keeps both
+  -- a line that is played has both properties
   pub played_won : (p : Position) (s : Side) (replies : List ℕ) (end : PlayLine) (n : ℕ) → r.is_legal p ≡ true → IsPlayed r p s replies end → IsWonIn r p s
       n → WinsWithin r n end
   played_won p s replies end n l (moves, line, leads) w =

@@ -1,4 +1,4 @@
--- The first of the moves in order is the best move, and what it is worth is the value of the position.
+-- The first of the sorted moves is the best move, and its worth is the value of the position.
 use Rattle.std.proofs.Common.{◌≡◌, ℕ, suc, ◌+◌, ◌*◌, ◌^◌, ◌<◌, ◌≤◌, true, List, [], ◌∷◌, map, None, refl, sym, ap, subst, ◌∙◌, arith}
 use Rattle.std.specs.Prelude.{IsPermutation}
 use Rattle.std.specs.List.{Contains}
@@ -81,7 +81,7 @@ module _ (r : Rules) (g : IsGame r) (p : Position) (legal : r.is_legal p ≡ tru
   first_small : x.result.remoteness ≤ REMOTENESS
   first_small = (All-contains (IsMoveValue r p) (x ∷ xs) x h.each (contains_first x xs)).small
 
-  -- no move with another value stands before the first
+  -- no move with another value comes before the first
   abbrev Follows : Value → ℕ → ℕ → Type 0
   Follows w k n = (k ≤ REMOTENESS) × (rank x.result.value x.result.remoteness ≤ rank w k) × (rank x.result.value x.result.remoteness ≡ rank w k → x.number ≤ n)
 
@@ -162,7 +162,7 @@ no_moves r p h [] e = refl
 no_moves r p h (m ∷ ms) e = absurd (contains_none m (Contains-permutation (r.moves p) [] m h
     (subst (λ (xs : List ℕ). Contains xs m) (sym e) (contains_first m ms))))
 
--- where a position has a value, its moves in order begin with the best one
+-- if a position has a value, its sorted moves begin with the best one
 pub begins_best : (r : Rules) (g : IsGame r) (p : Position) → r.is_legal p ≡ true → ((d : Position) → IsChild r p d → (s : Solved) × IsTrueValue r d s) →
     (s : Solved) → IsTrueValue r p s → (list : List MoveValue) → AreMoveValues r p list → BeginsBest r p list
 begins_best r g p legal known s q [] h = λ e. absurd (g.unended p legal e (no_moves r p h.listed (r.moves p) refl))

@@ -64,7 +64,7 @@ module _ (r : Rules) (shown : Position → List ℕ) (move_shown : Position → 
   reply_is o h e = ap (answer_to r shown move_shown k seen p) (sym e) ∙ ap (λ (b : Bool). Reply b (move_read r shown move_shown p (without_return line)))
       (sym h)
 
-  -- the same, where the line has become this text, and it was compared
+  -- the same, after the line has become this text and has been compared
   module _ (text quit : List ℕ) (t : text ≡ without_return line) (q : quit ≡ codes "quit") (b : Bool) (compared : b ≡ bytes_eq text quit) where
     same : bytes_eq (without_return line) (codes "quit") ≡ b
     same = ap₂ bytes_eq (sym t) (sym q) ∙ sym compared

@@ -48,7 +48,7 @@ after_true r p m s b h =
     let (k, here, e) = step_value r p m s.value s.remoteness b h in
     subst (λ (n : ℕ). HasValue r (r.play p m) (wanted_from s.value) n) (lowered s.value k s.remoteness (drawn_zero r p s.value s.remoteness h) e) here
 
--- the next of some best moves is a move, and the others are best after it
+-- the next of some best moves is a move, and the following ones are best after it
 pub best_step : (r : Rules) (p : Position) (ms : List ℕ) (k : ℕ) → k < length ms → AreBest r p (drop k ms) → Contains (r.moves p) (get_or ms k 0) × AreBest
     r (r.play p (get_or ms k 0)) (drop (k + 1) ms)
 best_step r p ms k less h = let best : AreBest r p (get_or ms k 0 ∷ drop (k + 1) ms) = subst (AreBest r p) (drop_more ms k 0 less) h in
@@ -62,7 +62,7 @@ module _ (r : Rules) (shown : Position → List ℕ) (move_shown : Position → 
       let next = after_true r p m s best.0 h in
       (after_best s, rows_from r shown move_shown (r.play p m) (after_best s) ms, next, rows_true ms (r.play p m) (after_best s) best.1 next, refl)
 
-  -- one row more
+  -- one more row
   pub rows_next : (p q : Position) (s t : Solved) (m : ℕ) (ms done more all : List ℕ) → q ≡ r.play p m → t ≡ after_best s → more ≡ done ++ row
       (move_shown p m) (shown q) (text_of t)
       → done ++ rows_from r shown move_shown p s (m ∷ ms) ≡ all → more ++ rows_from r shown move_shown q t ms ≡ all
@@ -74,7 +74,7 @@ module _ (r : Rules) (shown : Position → List ℕ) (move_shown : Position → 
       ∙ ap (λ (u : Solved). row (move_shown p m) (shown (r.play p m)) (text_of u) ++ rows_from r shown move_shown (r.play p m) u ms) f in
       ap (λ (x : List ℕ). x ++ rest) w ∙ append_assoc done line rest ∙ ap (λ (x : List ℕ). done ++ x) here ∙ h
 
--- all rows are written where no move is left
+-- all rows are written when no move remains
 pub rows_all : (done all : List ℕ) → done ++ [] ≡ all → done ≡ all
 rows_all done all h = sym (append-nil done) ∙ h
 
@@ -85,7 +85,7 @@ row_named done more a b d x h e = h ∙ ap (λ (l : List ℕ). done ++ row l b d
 pub same_row : (done a b d x y z : List ℕ) → a ≡ x → b ≡ y → d ≡ z → done ++ row a b d ≡ done ++ row x y z
 same_row done a b d x y z e f g = rw (e, f, g) refl
 
--- what is written for each of some things, and for one thing more
+-- the text of some things, and of one more
 pub flat_more : {X : Type 0} (f : X → List ℕ) (xs : List X) (i : ℕ) (d : X) (old new piece : List ℕ) → i < length xs → old ≡ flat_map f (take i xs) → new ≡
     old ++ piece → piece ≡ f (get_or xs i d)
     → new ≡ flat_map f (take (i + 1) xs)

@@ -1,4 +1,4 @@
--- Turns, by how the game stands.
+-- Turns, by the state of the game.
 use Rattle.std.proofs.Common.{◌≡◌, ℕ, true, List, ◌++◌, codes, Option, None, Some, refl, sym, ap, ◌∙◌, subst}
 use Rattle.std.specs.Result.{is_ok}
 use Rattle.std.specs.Prelude.{Result, Ok, Err, IfOk, OnErr}
@@ -62,7 +62,7 @@ module _ (r : Rules) (shown : Position → List ℕ) (move_shown : Position → 
       ap (λ (o : Option End). moves_or_ends r shown move_shown k seen p o (Some m)) (sym h.0)
       ∙ ap (moves_or_ends r shown move_shown k seen p (r.primitive p)) (sym (best_known m l known h))
 
--- where the best move leads is reached
+-- the result of the best move is reached
 pub best_reached : (r : Rules) (p : Position) (m : ℕ) → r.is_legal p ≡ true → IsBestMove r p (Some m) → IsGame r → (q : Position) → q ≡ r.play p m →
     IsReached r p.tier q
 best_reached r p m legal best game q e = reached_by r game p m legal best.1.best.there q e
@@ -107,7 +107,7 @@ module _ (r : Rules) (shown : Position → List ℕ) (move_shown : Position → 
         (stops_in a b c (move_line r shown move_shown k seen p m) (next (r.play p m)) (next q) line_written (ap next there) (next q).text refl call
         (h (known_next q there game)))
 
--- no other answer is left
+-- a result that can be neither refusal is a value
 pub ok_unless : (r : Result (Option ℕ) AnswerError) → (r ≡ Err Illegal → ⊥) → (r ≡ Err NotHeld → ⊥) → is_ok r ≡ true
 ok_unless (Ok x) a b = refl
 ok_unless (Err Illegal) a b = absurd (a refl)

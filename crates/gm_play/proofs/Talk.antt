@@ -1,4 +1,4 @@
--- A session in its midst: what is read and written, and what follows.
+-- The middle of a session: the bytes read and written so far, and the rest.
 use Rattle.std.proofs.Common.{◌≡◌, ℕ, ◌+◌, ◌≤◌, Bool, true, false, List, [], ◌∷◌, ◌++◌, length, take, Option, Some, None, refl, sym, ap, ◌∙◌, append_assoc}
 use Rattle.std.proofs.Common.{append-nil, arith, inl, inr}
 use Rattle.std.specs.Prelude.{◌==◌, if◌then◌else◌}
@@ -16,7 +16,7 @@ use Rattle.gm_play.specs.declared.session_error.SessionError.TheVariants.{ReadFa
 use Rattle.gm_play.proofs.Parts.{part_after, part_longer, part_is, text_is}
 use Rattle.gm_play.specs.declared.view.Question.{Question}
 
--- what follows a question that was asked, and none that was not
+-- the text after a question, which is empty if no question was asked
 asked_text : (said : Said) (f : Position → List ℕ) (q : Position) → Some q ≡ said.asked → said.text ++ text_after f said.asked ≡ said.text ++ f q
 asked_text said f q e = ap (λ (o : Option Position). said.text ++ text_after f o) (sym e)
 
@@ -81,8 +81,8 @@ module _ (r : Rules) (shown : Position → List ℕ) (move_shown : Position → 
     abbrev Turn : Said
     Turn = turn r shown move_shown k seen start first
 
-    -- these bytes are read and this text is written; the person is asked at p and has given these bytes of a line, of which a front is kept; the rest is
-    -- the talk from here
+    -- these bytes have been read and this text has been written; the person is asked at p and has given these bytes of a line, of which a prefix is kept; the
+    -- rest is the talk from here
     pub record GoesOn (number : ℕ) (r0 r1 w0 w1 : Option (List ℕ)) (p : Position) (kept : List ℕ) : Type 0 where
       pub bytes : List ℕ
       pub written : List ℕ
@@ -276,7 +276,7 @@ module _ (r : Rules) (shown : Position → List ℕ) (move_shown : Position → 
 
 module _ (r : Rules) (shown : Position → List ℕ) (move_shown : Position → ℕ → List ℕ) (k : Advice) (seen : Question → Position → List ℕ) (start : Position)
     (first : Side) where
-  -- the output fails, of whatever kind the failure is
+  -- the output fails, for either of its two reasons
   pub broken_output : (e : SessionError) (r0 r1 w0 w1 : Option (List ℕ)) → IsOfOutput e → IsUnwritten r shown move_shown k seen start first r0 r1 w0 w1
       → IsBroken r shown move_shown k seen start first e r0 r1 w0 w1
   broken_output ReadFailed r0 r1 w0 w1 is h = absurd is

@@ -1,4 +1,4 @@
--- Lines of best play: how far they have come, and how many moves they have.
+-- Lines of best play: their state after some moves, and their length.
 use Rattle.std.proofs.Common.{◌≡◌, ◌≢◌, ℕ, zero, suc, ◌+◌, ◌-◌, ◌<◌, ◌≤◌, inl, inr, true, List, [], ◌∷◌, ◌++◌, length, take, get_or, slice_get, Option, None}
 use Rattle.std.proofs.Common.{Some, refl, sym, ap, subst, ◌∙◌, arith}
 use Rattle.std.specs.List.{Contains}
@@ -25,7 +25,7 @@ use Rattle.gm_play.specs.Lines.{position_after}
 use Rattle.gm_play.specs.MoveValues.{worth_from}
 use Rattle.gm_play.proofs.Lowering.{best_worth}
 
--- one move more
+-- one more move
 best_push : (r : Rules) (p : Position) (ms : List ℕ) (m : ℕ) → AreBest r p ms → IsBestMove r (position_after r p ms) (Some m) → AreBest r p (ms ++ m ∷ [])
 best_push r p [] m h b = (b, tt)
 best_push r p (n ∷ ns) m h b = (h.0, best_push r (r.play p n) ns m h.1 b)
@@ -62,7 +62,7 @@ fresh_push ps q fresh new i j d less inside same =
     contains_at : (xs : List Position) (k : ℕ) (d x : Position) → k < length xs → get_or xs k d ≡ x → Contains xs x
     contains_at xs k d x inside e = (k, inside, get_or_from_slice_get xs k x x (slice_get-get_or xs k d inside ∙ ap Some e))
 
--- how far a line has come
+-- the state of a line after some moves
 pub record IsOnWay (r : Rules) (start : Position) (limit : ℕ) (moves : List ℕ) (positions : List Position) (p : Position) : Type 0 where
   pub best : AreBest r start moves
   pub along : positions ≡ positions_along r start moves
@@ -100,7 +100,7 @@ module _ (r : Rules) (start : Position) (limit : ℕ) (moves : List ℕ) (positi
     fresh = fresh_push positions (r.play p m) h.fresh new;
   }
 
-  -- the line as it stands
+  -- the line with the moves so far
   pub line_over : (line : BestLine) → line.moves.items ≡ moves → line.positions.items ≡ positions → line.end ≡ Over → r.primitive p ≢ None → IsBestLine r
       start limit line
   line_over line e d w over = record {
@@ -253,6 +253,6 @@ whole r p limit line h = record {
   drawn = λ n x. drawn_is r p limit line.moves.items h.best line.end n x h.end;
 }
 
--- one move more leaves one fewer to the limit
+-- one more move leaves one fewer to the limit
 pub fewer : (ms new : List ℕ) (m limit : ℕ) → new ≡ ms ++ m ∷ [] → length ms < limit → limit - length new < limit - length ms
 fewer ms new m limit e low = let long : length new ≡ length ms + 1 = ap (λ (l : List ℕ). length l) e ∙ length-append ms (m ∷ []) in omega arith

@@ -1,9 +1,9 @@
--- What holds for the course of a game on the computer's side.
+-- Properties of the course of a game for the computer's side.
 use Rattle.std.specs.Prelude.{◌≡◌, ◌≢◌, ℕ, ◌≤◌, Some, IfSome}
 use Rattle.gm_best.specs.declared.side.Side.TheVariants.{You, Computer}
 use Rattle.gm_play.specs.Dialogue.{Course}
 
--- at most n moves are played, and where the game ends, the computer wins
+-- at most n moves are played, and if the game ends, the computer wins
 abbrev pub IsWonCourse : ℕ → Course → Type 0
 IsWonCourse n c = (c.moves ≤ n) × IfSome c.ending (λ w. w ≡ Some Computer)
 

@@ -1,4 +1,4 @@
--- The dialogue of a session: what is written for the bytes that come.
+-- The dialogue of a session: the text that is written in answer to the input.
 use Rattle.std.specs.Prelude.{ℕ, ◌+◌, ◌-◌, List, [], ◌∷◌, ◌++◌, length, take, drop, codes, ◌==◌, if◌then◌else◌, Option, None, Some}
 use Rattle.std.specs.List.{find}
 use Rattle.std.specs.Str.{bytes_eq}
@@ -25,23 +25,23 @@ pub record Advice : Type 0 where
 abbrev pub IsKnown : Rules → ℕ → Advice → Type 0
 IsKnown r tier k = (p : Position) → IsReached r tier p → IsTrueValue r p (k.value p) × IsBestMove r p (k.best p)
 
--- what is written up to the next question; the position at which the person is asked, none where the session ends; how many moves are played; and the winner,
--- where a game ends
+-- a part of a dialogue up to the next question: its text; the position of the question, or none if the session ends; the number of moves played; and the
+-- winner, if the game ends
 pub record Said : Type 0 where
   pub text : List ℕ
   pub asked : Option Position
   pub moves : ℕ
   pub ending : Option (Option Side)
 
--- what is said, after a text before it
+-- the part of a dialogue, with a text before it
 abbrev pub before : List ℕ → Said → Said
 before text said = record { text = text ++ said.text; asked = said.asked; moves = said.moves; ending = said.ending }
 
--- what is said, with one more move played before it
+-- the part of a dialogue, with one more move played before it
 abbrev pub after_move : Said → Said
 after_move said = record { text = said.text; asked = said.asked; moves = 1 + said.moves; ending = said.ending }
 
--- what is said where the session ends
+-- a part of a dialogue that ends the session
 abbrev pub ends : List ℕ → Said
 ends text = record { text = text; asked = None; moves = 0; ending = None }
 
@@ -52,11 +52,11 @@ asks text p = record { text = text; asked = Some p; moves = 0; ending = None }
 abbrev pub game_over : Side → End → Said
 game_over s e = record { text = over s e; asked = None; moves = 0; ending = Some (winner s e) }
 
--- a line without the return at its end
+-- a line without the carriage return at its end
 abbrev pub without_return : List ℕ → List ℕ
 without_return line = let n = length line - 1 in if bytes_eq (drop n line) (13 ∷ []) then take n line else line
 
--- what follows a question, if one was asked
+-- the text after a question, if one was asked
 abbrev pub text_after : (Position → List ℕ) → Option Position → List ℕ
 text_after f None = []
 text_after f (Some p) = f p
@@ -65,7 +65,7 @@ abbrev pub count_after : (Position → ℕ) → Option Position → ℕ
 count_after f None = 0
 count_after f (Some p) = f p
 
--- how many moves were played, and the winner, where a game has ended
+-- the number of moves played, and the winner, if the game has ended
 pub record Course : Type 0 where
   pub moves : ℕ
   pub ending : Option (Option Side)
@@ -73,7 +73,7 @@ pub record Course : Type 0 where
 abbrev pub unmoved : Course
 unmoved = record { moves = 0; ending = None }
 
--- what is said, and then what follows the question
+-- the course of a part of a dialogue, and then that after its question
 abbrev pub course_with : Said → Option Position → (Position → Course) → Course
 course_with said None f = record { moves = said.moves; ending = said.ending }
 course_with said (Some q) f = record { moves = said.moves + (f q).moves; ending = (f q).ending }
@@ -81,7 +81,7 @@ course_with said (Some q) f = record { moves = said.moves + (f q).moves; ending 
 abbrev pub course_after : Said → (Position → Course) → Course
 course_after said f = course_with said said.asked f
 
--- nothing is seen beside the lines
+-- a view that adds nothing to the lines of the dialogue
 abbrev pub unseen : Question → Position → List ℕ
 unseen q p = []
 
@@ -90,20 +90,20 @@ abbrev pub waiting : Position → List ℕ → List ℕ
 waiting p line = []
 
 module _ (r : Rules) (shown : Position → List ℕ) (move_shown : Position → ℕ → List ℕ) where
-  -- the move with this text, if there is one: none has a text of more than 64 bytes
+  -- the move with this text, if there is one; no move has a text of more than 64 bytes
   abbrev pub move_read : Position → List ℕ → Option ℕ
   move_read p text = find (λ m. bytes_eq (move_shown p m) text) (r.moves p)
 
   module _ (k : Advice) (seen : Question → Position → List ℕ) where
-    -- what the person sees, and the question, which is asked again after what is no move
+    -- the view of the position, and the question, which is asked again after a line that is not a move
     abbrev pub question : Question → Position → List ℕ
     question q p = seen q p ++ codes "your move?\n"
 
-    -- the line about a position
+    -- the line with a position and its value
     abbrev pub place : Position → List ℕ
     place p = shown p ++ codes " " ++ text_of (k.value p) ++ codes "\n"
 
-    -- what is said where the person is to move
+    -- the part of the dialogue after the position if the person is to move
     abbrev pub asks_or_ends : Position → Option End → Said
     asks_or_ends p (Some e) = game_over You e
     asks_or_ends p None = asks (question First p) p
@@ -111,7 +111,7 @@ module _ (r : Rules) (shown : Position → List ℕ) (move_shown : Position → 
     abbrev pub persons_turn : Position → Said
     persons_turn p = before (place p) (asks_or_ends p (r.primitive p))
 
-    -- what is said where the computer is to move, and then the person
+    -- the part of the dialogue after the position if the computer is to move, up to the person's turn
     abbrev pub moves_or_ends : Position → Option End → Option ℕ → Said
     moves_or_ends p (Some e) best = game_over Computer e
     moves_or_ends p None None = ends []
@@ -120,12 +120,12 @@ module _ (r : Rules) (shown : Position → List ℕ) (move_shown : Position → 
     abbrev pub computers_turn : Position → Said
     computers_turn p = before (place p) (moves_or_ends p (r.primitive p) (k.best p))
 
-    -- what is said where this side is to move
+    -- the part of the dialogue if this side is to move
     abbrev pub turn : Position → Side → Said
     turn p You = persons_turn p
     turn p Computer = computers_turn p
 
-    -- what is said in answer to a line
+    -- the answer to a line
     abbrev pub answer_to : Position → Option ℕ → Said
     answer_to p None = asks (codes "not a move\n" ++ question Again p) p
     answer_to p (Some m) = after_move (computers_turn (r.play p m))
@@ -133,34 +133,34 @@ module _ (r : Rules) (shown : Position → List ℕ) (move_shown : Position → 
     abbrev pub reply : Position → List ℕ → Said
     reply p line = let text = without_return line in if bytes_eq text (codes "quit") then ends (codes "bye\n") else answer_to p (move_read p text)
 
-    -- what is written where the input ends after these bytes of a line
+    -- the text if the input ends after these bytes of a line
     abbrev pub closing : Position → List ℕ → List ℕ
     closing p line = if length line == 0 then codes "input ended\n" else (reply p line).text ++ text_after (λ q. codes "input ended\n") (reply p line).asked
 
-    -- the person is asked at p and has given these bytes of a line; further bytes come, and then what stands at their end
+    -- the person is asked at p and has given these bytes of a line; the text for further bytes, and then the text at their end
     unfoldable pub talk : (Position → List ℕ → List ℕ) → Position → List ℕ → List ℕ → List ℕ
     talk at_end p line [] = at_end p line
     talk at_end p line (b ∷ bs) = if b == 10 then (reply p line).text ++ text_after (λ q. talk at_end q [] bs) (reply p line).asked else talk at_end p
         (line ++ b ∷ []) bs
 
-    -- how many of these bytes are read
+    -- the number of these bytes that are read
     unfoldable pub count : Position → List ℕ → List ℕ → ℕ
     count p line [] = 0
     count p line (b ∷ bs) = 1 + (if b == 10 then count_after (λ q. count q [] bs) (reply p line).asked else count p (line ++ b ∷ []) bs)
 
-    -- what is said in a session over these bytes, with what stands at their end
+    -- the text of a session over these bytes, and then the text at their end
     abbrev pub spoken : (Position → List ℕ → List ℕ) → Position → Side → List ℕ → List ℕ
     spoken at_end start first bytes = (turn start first).text ++ text_after (λ p. talk at_end p [] bytes) (turn start first).asked
 
-    -- the text of a session over these bytes, at whose end the input ends
+    -- the text of a session over these bytes, after which the input ends
     abbrev pub dialogue : Position → Side → List ℕ → List ℕ
     dialogue start first bytes = spoken closing start first bytes
 
-    -- the text of a session over these bytes so far, where further bytes may come
+    -- the text of a session over these bytes so far, which further bytes may follow
     abbrev pub dialogue_so_far : Position → Side → List ℕ → List ℕ
     dialogue_so_far start first bytes = spoken waiting start first bytes
 
-    -- how many of the bytes a session reads: none after the line that ends it
+    -- the number of bytes that a session reads: none after the line that ends it
     abbrev pub used : Position → Side → List ℕ → ℕ
     used start first bytes = count_after (λ p. count p [] bytes) (turn start first).asked
 

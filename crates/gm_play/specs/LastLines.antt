@@ -1,4 +1,4 @@
--- The last line of what a session has written.
+-- The last line that a session has written.
 use Rattle.std.specs.Prelude.{◌≡◌, ℕ, ◌⊎◌, List, ◌++◌, codes, Option}
 use Rattle.std.specs.Io.KnownBytes.{Appends}
 

@@ -18,14 +18,14 @@ abbrev pub side_after : Side → List ℕ → Side
 side_after s [] = s
 side_after s (m ∷ ms) = side_after (other s) ms
 
--- these moves are a line from p: the computer plays the best move, the other side the next reply, until the game ends or no reply is left
+-- these moves are a line from p: the computer plays the best move, the other side the next reply, until the game ends or no reply remains
 abbrev pub IsLine : Rules → Position → Side → List ℕ → List ℕ → Type 0
 IsLine r p s replies [] = (r.primitive p ≢ None) ⊎ ((s ≡ You) × (replies ≡ []))
 IsLine r p Computer replies (m ∷ ms) = IsBestMove r p (Some m) × IsLine r (r.play p m) You replies ms
 IsLine r p You [] (m ∷ ms) = ⊥
 IsLine r p You (reply ∷ replies) (m ∷ ms) = (reply ≡ m) × Contains (r.moves p) m × IsLine r (r.play p m) Computer replies ms
 
--- what these moves lead to
+-- the end of these moves
 pub record LeadsTo (r : Rules) (p : Position) (s : Side) (moves : List ℕ) (end : PlayLine) : Type 0 where
   pub position : end.position ≡ position_after r p moves
   pub side : end.side ≡ side_after s moves
@@ -43,7 +43,7 @@ WinsWithin r n end = (end.moves ≤ n) × (r.primitive end.position ≢ None →
 abbrev pub one_more : Rules → PlayLine → ℕ → PlayLine
 one_more r line m = record { position = r.play line.position m; side = other line.side; moves = line.moves + 1 }
 
--- with this side to move: the computer's move, where it is its turn and the game goes on
+-- the line with the computer's move if it is the computer's turn and the game goes on, and otherwise unchanged
 abbrev pub IsAnswered : Rules → Side → PlayLine → PlayLine → Type 0
 IsAnswered r You old new = new ≡ old
 IsAnswered r Computer old new = ((r.primitive old.position ≢ None) × (new ≡ old)) ⊎ ((m : ℕ) × IsBestMove r old.position (Some m) × (new ≡ one_more r old m))

@@ -1,4 +1,4 @@
--- The moves of a position, by what they are worth.
+-- The moves of a position, by their worth.
 use Rattle.std.specs.Prelude.{◌≡◌, ℕ, ◌+◌, ◌-◌, ◌*◌, ◌^◌, ◌≤◌, List, [], ◌∷◌, map, IsPermutation, None, Some}
 use Rattle.std.specs.List.{All}
 use Rattle.std.specs.List.Sorted.{IsNonDecreasingBy}
@@ -13,7 +13,7 @@ use Rattle.gm_game.specs.Values.{IsTrueValue}
 use Rattle.gm_best.specs.BestMoves.{IsBestMove}
 use Rattle.gm_play.specs.declared.move_values.MoveValue.{MoveValue}
 
--- what a move to a position of this value and remoteness is worth to the side that makes it, with the remoteness counted from before the move
+-- the worth of a move to the side that makes it, from the value and remoteness of its result; the remoteness is counted from before the move
 abbrev pub worth_from : Value → ℕ → Solved
 worth_from Lose k = solved Win (k + 1)
 worth_from Draw k = solved Draw k
@@ -23,20 +23,19 @@ worth_from Win k = solved Lose (k + 1)
 abbrev pub worth_of : Solved → Solved
 worth_of s = worth_from s.value s.remoteness
 
--- where a move to a position of this value and remoteness stands among others: first the moves to a loss, the near ones before the far ones, then those to a
--- tie, the near ones
--- before the far ones, then those to a draw, and last those to a win, the far ones before the near ones
+-- the rank of a move by the value and remoteness of its result: first the moves to a loss, by least remoteness, then those to a tie, by least remoteness,
+-- then those to a draw, and last those to a win, by greatest remoteness
 abbrev pub rank : Value → ℕ → ℕ
 rank Lose k = k
 rank Tie k = 2 ^ 32 + k
 rank Draw k = 2 * 2 ^ 32
 rank Win k = 4 * 2 ^ 32 - k
 
--- among equals the least number stands first
+-- the sort key of a move: equal moves are ordered by number
 abbrev pub place : MoveValue → ℕ
 place x = 2 ^ 32 * rank x.result.value x.result.remoteness + x.number
 
--- the result of the move, its true value, and what the move is worth
+-- the result of the move, its true value, and the worth of the move
 pub record IsMoveValue (r : Rules) (p : Position) (x : MoveValue) : Type 0 where
   pub position : x.position ≡ r.play p x.number
   pub is_true : IsTrueValue r x.position x.result
@@ -49,7 +48,7 @@ pub record AreMoveValues (r : Rules) (p : Position) (list : List MoveValue) : Ty
   pub each : All (IsMoveValue r p) list
   pub ordered : IsNonDecreasingBy place list
 
--- the first is the best move, and what it is worth is the true value of p; there is none where the game has ended
+-- the first move is the best one, and its worth is the true value of p; there is no move if the game has ended
 abbrev pub BeginsBest : Rules → Position → List MoveValue → Type 0
 BeginsBest r p [] = IsBestMove r p None
 BeginsBest r p (x ∷ xs) = IsBestMove r p (Some x.number) × IsTrueValue r p x.worth

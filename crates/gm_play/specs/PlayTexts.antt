@@ -30,7 +30,7 @@ value_word Win = codes "win"
 abbrev pub row : List ℕ → List ℕ → List ℕ → List ℕ
 row a b c = a ++ codes "\t" ++ b ++ codes "\t" ++ c ++ codes "\n"
 
--- the row that tells where the last position has come before
+-- the row that refers to the earlier row of the last position
 abbrev pub end_row : LineEnd → List ℕ
 end_row Over = []
 end_row (Again k) = codes "again " ++ decimal k ++ codes "\n"
@@ -44,7 +44,7 @@ after_best s = solved (wanted_from s.value) (s.remoteness - 1)
 abbrev pub IsMoveOf : Rules → Position → MoveValue → Type 0
 IsMoveOf r p x = Contains (r.moves p) x.number × (r.is_legal x.position ≡ true)
 
--- the moves of p, the best first; where they are to be distinct, the first of those that lead to one canonical position
+-- the moves of p, the best first; if they are to be distinct, only the first of several moves to the same canonical position
 pub record AreMovesOf (r : Rules) (distinct : Bool) (p : Position) (these : List MoveValue) : Type 0 where
   pub list : List MoveValue
   pub values : AreMoveValues r p list
@@ -64,11 +64,12 @@ module _ (r : Rules) (shown : Position → List ℕ) (move_shown : Position → 
   abbrev pub IsAnswerText : List ℕ → List ℕ → Type 0
   IsAnswerText text out = (p : Position) × IsReadAs text p × (s : Solved) × IsTrueValue r p s × (out ≡ text_of s)
 
-  -- a move: its text, what it is worth, and its result
+  -- the row of a move: its text, its worth, and its result
   abbrev pub move_row : Position → MoveValue → List ℕ
   move_row p x = row (move_shown p x.number) (text_of x.worth) (shown x.position)
 
-  -- the rows of the moves of the position with this text, the best first; where they are to be distinct, the first of those that lead to one canonical position
+  -- the rows of the moves of the position with this text, the best first; if they are to be distinct, only the first of several moves to the same canonical
+  -- position
   abbrev pub AreMoveRows : Bool → List ℕ → List ℕ → Type 0
   AreMoveRows distinct text out = (p : Position) × IsReadAs text p × (list : List MoveValue) × AreMoveValues r p list × BeginsBest r p list ×
       (out ≡ flat_map (move_row p) (chosen r distinct list))

@@ -1,4 +1,4 @@
--- What a session reads and writes.
+-- The input and the output of a session.
 use Rattle.std.specs.Prelude.{◌≡◌, ℕ, ◌+◌, ◌≤◌, ◌⊎◌, List, [], ◌∷◌, ◌++◌, length, Option, None, Some}
 use Rattle.std.specs.Io.KnownBytes.{Keeps, Appends, Consumes, IsAtEnd}
 use Rattle.gm_game.specs.declared.position.Position.{Position}
@@ -13,22 +13,22 @@ use Rattle.gm_play.specs.declared.view.Question.{Question}
 abbrev pub most_bytes : ℕ
 most_bytes = 1000000
 
--- a read gave the next byte, or none at the end
+-- a read returned the next byte, or none at the end
 abbrev pub ReadsByte : Option (List ℕ) → Option (List ℕ) → Option ℕ → Type 0
 ReadsByte old new None = Keeps old new × IsAtEnd new
 ReadsByte old new (Some b) = Consumes old new (b ∷ [])
 
--- a first part of the text is written
+-- a prefix of the text is written
 abbrev pub AppendsPart : Option (List ℕ) → Option (List ℕ) → List ℕ → Type 0
 AppendsPart old new text = (done rest : List ℕ) × (text ≡ done ++ rest) × Appends old new done
 
--- this is said, and the next question is asked
+-- this part of a dialogue is written, and it ends with this question
 abbrev pub Says : Option (List ℕ) → Option (List ℕ) → Said → Option Position → Type 0
 Says old new said asked = (asked ≡ said.asked) × Appends old new said.text
 
 module _ (r : Rules) (shown : Position → List ℕ) (move_shown : Position → ℕ → List ℕ) (k : Advice) (seen : Question → Position → List ℕ) (start : Position)
     (first : Side) where
-  -- these bytes were read, no more than one session reads, and none after the line that ends it
+  -- these bytes were read: no more than one session reads, and none after the line that ends it
   pub record IsRead (old new : Option (List ℕ)) (bytes : List ℕ) : Type 0 where
     pub reads : Consumes old new bytes
     pub few : length bytes ≤ most_bytes
@@ -45,19 +45,19 @@ module _ (r : Rules) (shown : Position → List ℕ) (move_shown : Position → 
     pub writes : Appends before after (dialogue r shown move_shown k seen start first bytes)
     pub end : IsEnded bytes ⊎ IsAtEnd new
 
-  -- a session whose input failed: all that answers the bytes before was written
+  -- a session whose input failed: the answers to all earlier bytes are written
   pub record IsUnread (old new before after : Option (List ℕ)) : Type 0 where
     pub bytes : List ℕ
     pub is_read : IsRead old new bytes
     pub writes : Appends before after (dialogue_so_far r shown move_shown k seen start first bytes)
 
-  -- a session whose output failed: a first part of the dialogue is written
+  -- a session whose output failed: a prefix of the dialogue is written
   pub record IsUnwritten (old new before after : Option (List ℕ)) : Type 0 where
     pub bytes : List ℕ
     pub is_read : IsRead old new bytes
     pub writes : AppendsPart before after (dialogue r shown move_shown k seen start first bytes)
 
-  -- a session to which one byte more came than may be read; that byte is not answered
+  -- a session that received one byte more than it may read; that byte is not answered
   pub record IsTooLong (old new before after : Option (List ℕ)) : Type 0 where
     pub bytes : List ℕ
     pub last : ℕ

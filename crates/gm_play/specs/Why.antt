@@ -1,4 +1,4 @@
--- Why a position has its value: its moves, the best answer to each, and what is left.
+-- Why a position has its value: its moves, the best answer to each, and the result of the answer.
 use Rattle.std.specs.Prelude.{◌≡◌, ℕ, true, List, [], ◌++◌, codes, map, Option, None, Some}
 use Rattle.std.specs.List.{All, flat_map}
 use Rattle.gm_game.specs.declared.position.Position.{Position}
@@ -15,17 +15,17 @@ use Rattle.gm_play.specs.PlayTexts.{row, IsReadAs, after_best}
 abbrev pub made_of : Exchange → MoveValue
 made_of x = x.made
 
--- what is left after an answer; after none, the position itself
+-- the result of an answer; if there is no answer, the position itself
 abbrev pub left_after : Rules → Position → Option ℕ → Position
 left_after r q None = q
 left_after r q (Some m) = r.play q m
 
--- the value of what is left: after the best answer the opposite one, one move nearer the end
+-- the value of this result: after the best answer the opposite value, one move nearer the end
 abbrev pub value_left : Solved → Option ℕ → Solved
 value_left s None = s
 value_left s (Some m) = after_best s
 
--- the best answer to the move, none where it has ended the game; what is left, and its true value
+-- the best answer to the move, or `None` if the move has ended the game; the result, and its true value
 pub record IsExchange (r : Rules) (x : Exchange) : Type 0 where
   pub legal : r.is_legal x.made.position ≡ true
   pub answer : IsBestMove r x.made.position x.answer
@@ -43,12 +43,12 @@ abbrev pub five : List ℕ → List ℕ → List ℕ → List ℕ → List ℕ �
 five a b c d e = two a b ++ row c d e
 
 module _ (r : Rules) (shown : Position → List ℕ) (move_shown : Position → ℕ → List ℕ) where
-  -- the text of an answer, and none where the game has ended
+  -- the text of an answer, which is empty if the game has ended
   abbrev pub answer_text : Position → Option ℕ → List ℕ
   answer_text q None = []
   answer_text q (Some m) = move_shown q m
 
-  -- a move of p: its text, what it is worth, the best answer, what is left and the value of that
+  -- the row of a move of p: its text, its worth, the best answer, the result and its value
   abbrev pub exchange_row : Position → Exchange → List ℕ
   exchange_row p x = five (move_shown p x.made.number) (text_of x.made.worth) (answer_text x.made.position x.answer) (shown x.left) (text_of x.value)
 

@@ -1,4 +1,4 @@
-//! Best play of both sides.
+//! Lines of best play by both sides.
 ghost use Rattle.std.specs.Prelude.{◌≡◌, [], MatchOption, IfOk, Some, slice_get};
 ghost use Rattle.std.specs.List.{Contains};
 ghost use Rattle.gm_play.specs.BestLines.{IsBestLine, IsWhole};
@@ -8,23 +8,23 @@ use gm_game::game::Game;
 use gm_game::position::Position;
 use std::alloc::{AllocError, Global};
 
-/// How a line of best play ends.
+/// The way a line of best play ends.
 #[derive(Clone, Copy, Debug, PartialEq, Eq)]
 pub enum LineEnd {
     /// The game has ended.
     Over,
-    /// The last position has come before: it is the one at this place of the line, from 0.
+    /// The last position has occurred before, at this place of the line, counted from 0.
     Again { first: usize },
-    /// As many moves were made as were asked for.
+    /// The line is cut at the limit on its moves.
     Cut,
 }
 
-/// Best play of both sides from a position.
+/// A line of best play by both sides.
 #[derive(Debug)]
 pub struct BestLine {
     /// The numbers of the moves.
     pub moves: Vec<u32>,
-    /// The position that the line starts from, and the result of each move.
+    /// The position at the start of the line, and the result of each move.
     pub positions: Vec<Position>,
     pub end: LineEnd,
 }
@@ -40,10 +40,11 @@ impl Drop for BestLine {
     }
 }
 
-/// The line of play in which both sides make their best moves, up to the end of the game, to a position that has come before, or to `limit` moves.
+/// Returns the line of play in which both sides make their best moves. It ends at the end of the game, at a position that has
+/// occurred before, or after `limit` moves.
 ///
-/// Each best move lowers the remoteness by one: from a win, a loss or a tie the line has as many moves as the remoteness says, unless it is cut. Play from a
-/// draw does not end. Each position is looked for among those before it.
+/// Each best move lowers the remoteness by one. From a win, a loss or a tie, a line that is not cut has as many moves as the
+/// remoteness. Best play from a draw never ends the game. Each position is searched for among all those before it.
 pub fn best_line<G: Game>(
     alloc: Global,
     start: &Known<'_, G>,
@@ -62,7 +63,7 @@ pub fn best_line<G: Game>(
     })
 }
 
-// Writes the moves and the positions of a line into empty lists: how it ends.
+// Writes the moves and the positions of a line into empty lists, and returns how it ends.
 fn follow<G: Game>(
     start: &Known<'_, G>,
     moves: &mut Vec<u32>,
@@ -93,7 +94,7 @@ fn follow<G: Game>(
     }
 }
 
-// The place at which a position stands.
+// Finds the place of a position in a list, from 0.
 fn place_of(positions: &[Position], p: Position) -> Option<usize>
     ensures { MatchOption result (Contains positions.now p → ⊥) (λ k. slice_get positions.now k ≡ Some p) }
 {

@@ -1,6 +1,6 @@
-//! The values of moves, lines of play, texts about them, and sessions against the computer: read from the true tables.
+//! Values of moves, lines of play, their texts, and sessions against the computer. All of them are read from the true tables.
 //!
-//! `specs/` has the definitions that contracts cite, and `proofs/` what follows from them.
+//! `specs/` has the definitions that contracts cite, and `proofs/` has the facts that follow from them.
 #![tactic(auto)]
 
 pub mod best_line;

@@ -1,4 +1,4 @@
-//! What each move of a position is worth.
+//! The worth of each move of a position.
 ghost use Rattle.std.specs.Prelude.{◌≡◌, ◌<◌, ◌^◌, map, IsPermutation};
 ghost use Rattle.std.specs.List.{All, Contains};
 ghost use Rattle.std.specs.List.Sorted.{IsNonDecreasingBy};
@@ -10,7 +10,7 @@ use gm_game::game::Game;
 use gm_game::limits::MOVES;
 use gm_game::position::{Position, Solved, Value};
 
-/// A move of a position, with what it leads to.
+/// A move of a position, its result and its worth.
 #[derive(Clone, Copy, Debug, PartialEq, Eq)]
 pub struct MoveValue {
     pub number: u32,
@@ -18,7 +18,7 @@ pub struct MoveValue {
     pub position: Position,
     /// The value of the result, for the side that is to move there.
     pub result: Solved,
-    /// What the move is worth to the side that makes it, counted from before the move.
+    /// The worth of the move to the side that makes it, with the remoteness counted from before the move.
     pub worth: Solved,
 }
 
@@ -37,9 +37,11 @@ impl Default for MoveValue {
     }
 }
 
-/// The moves of a position, each once with the true value of its result, the best first: moves to a Lose, by least remoteness; then to a Tie, by least
-/// remoteness; then to a Draw; then to a Win, by greatest remoteness; and among equals by number. So the first is the best move, and its worth is the value of
-/// the position. It takes no memory.
+/// Returns the moves of a position, each once, with the true value of its result. Allocates no memory.
+///
+/// The best moves come first: moves to a Lose, by least remoteness; then to a Tie, by least remoteness; then to a Draw; then to a
+/// Win, by greatest remoteness. Equal moves are ordered by number. So the first is the best move, and its worth is the value of the
+/// position.
 pub fn move_values<G: Game>(known: &Known<'_, G>) -> ArrayVec<MoveValue, MOVES>
     ensures values { AreMoveValues G.rules known.now.position result.items }
     ensures best { BeginsBest G.rules known.now.position result.items }
@@ -50,7 +52,7 @@ pub fn move_values<G: Game>(known: &Known<'_, G>) -> ArrayVec<MoveValue, MOVES>
     list
 }
 
-// The moves by number.
+// Returns the moves in the order of their numbers.
 fn values_of<G: Game>(known: &Known<'_, G>) -> ArrayVec<MoveValue, MOVES>
     ensures listed { map (λ (x : MoveValue). x.number) result.items ≡ G.rules.moves known.now.position }
     ensures each { All (IsMoveValue G.rules known.now.position) result.items }
@@ -63,7 +65,7 @@ fn values_of<G: Game>(known: &Known<'_, G>) -> ArrayVec<MoveValue, MOVES>
     list
 }
 
-// One move with its value.
+// Returns one move with its value.
 fn value_of<G: Game>(known: &Known<'_, G>, number: u32) -> MoveValue
     requires { Contains (G.rules.moves known.now.position) number }
     ensures number { result.number ≡ number }
@@ -79,7 +81,7 @@ fn value_of<G: Game>(known: &Known<'_, G>, number: u32) -> MoveValue
     }
 }
 
-// What a move to a position of this value is worth to the side that makes it.
+// Returns the worth of a move to the side that makes it, from the value of its result.
 fn worth(result_value: Solved) -> Solved
     requires { result_value.remoteness < u32.MAX }
     ensures { result ≡ worth_of result_value }
@@ -102,7 +104,7 @@ fn worth(result_value: Solved) -> Solved
     }
 }
 
-// Puts moves in their order.
+// Sorts moves, the best first.
 fn put_in_order(list: &mut ArrayVec<MoveValue, MOVES>)
     ensures same { IsPermutation list.old.items list.new.items }
     ensures ordered { IsNonDecreasingBy place_spec list.new.items }
@@ -110,7 +112,7 @@ fn put_in_order(list: &mut ArrayVec<MoveValue, MOVES>)
     list.sort_unstable_by_key(|x| place(x));
 }
 
-// Where a move stands among others.
+// Returns the sort key of a move.
 fn place(x: &MoveValue) -> u128
     ensures { result ≡ place_spec x.now }
 {

@@ -1,4 +1,4 @@
-//! The texts of places: what stands at one, and where a position stands.
+//! The texts of positions with their values, and of the tiers and indexes of positions.
 ghost use Rattle.std.specs.Prelude.{◌≡◌, true, IfOk};
 ghost use Rattle.std.specs.Fmt.{decimal};
 ghost use Rattle.gm_play.specs.PlaceTexts.{place_row, place_word, IsPositionText};
@@ -11,7 +11,7 @@ use gm_game::shown::{Line, Shown};
 use gm_game::text::{push_decimal, value_text};
 use std::alloc::{AllocError, Global};
 
-/// The row of a position: its text and its true value, with a tab between them.
+/// Returns the row of a position: its text and its true value, separated by a tab.
 pub fn position_text<G: Shown>(alloc: Global, known: &Known<'_, G>) -> Result<Vec<u8>, AllocError>
     ensures { IfOk result (λ v. IsPositionText G.Game.rules G.shown known.now.position v.items) }
 {
@@ -21,8 +21,8 @@ pub fn position_text<G: Shown>(alloc: Global, known: &Known<'_, G>) -> Result<Ve
     Ok(row)
 }
 
-/// The row of where a position stands: its tier, its index, `canonical` or `not canonical`, and the index and the text of its canonical position, with a tab
-/// between them. It asks no table.
+/// Returns the row that locates a position: its tier, its index, `canonical` or `not canonical`, and the index and the text of its
+/// canonical position, separated by tabs. Reads no table.
 pub fn place_text<G: Shown>(alloc: Global, l: Located) -> Result<Vec<u8>, AllocError>
     requires { G.Game.rules.is_legal l.canonical ≡ true }
     ensures { IfOk result (λ v. v.items ≡ place_row G.shown l) }
@@ -47,7 +47,7 @@ fn number_text(number: u64) -> Line
     line
 }
 
-// Whether a position is canonical, in words.
+// Returns `canonical` or `not canonical`.
 fn word_of(l: Located) -> &'static [u8]
     ensures { result.now ≡ place_word l }
 {

@@ -13,21 +13,21 @@ use gm_game::game::Game;
 use gm_game::position::Position;
 use gm_table::tables::Tables;
 
-/// How far a line of play has come.
+/// The current state of a line of play.
 #[derive(Clone, Copy, Debug, PartialEq, Eq)]
 pub struct PlayLine {
     pub position: Position,
-    /// Who moves there.
+    /// The side to move.
     pub side: Side,
-    /// How many moves were played, by both sides together.
+    /// The number of moves that both sides together have made.
     pub moves: u64,
 }
 
-/// Plays a line from a legal position: the computer plays its best move, the other side the next reply, until the game ends or no reply is left. `None` where a
-/// reply is no move when its turn comes. It takes no memory.
+/// Plays a line from a legal position: the computer plays its best move, and the other side the next reply, until the game ends or
+/// no reply remains. Returns `None` if a reply is not a move when its turn comes. Allocates no memory.
 ///
-/// Whatever the replies are, from a win of the computer's side with remoteness n the line has at most n moves, and where it ends the game, that side has won;
-/// from a tie or a draw that side never loses.
+/// The following holds for any replies. From a win of the computer's side with remoteness n the line has at most n moves, and if it
+/// ends the game, the computer's side has won. From a tie or a draw the computer's side never loses.
 pub fn play_line<G: Game>(
     tables: &Tables<G>,
     start: Position,
@@ -45,7 +45,7 @@ pub fn play_line<G: Game>(
     walk(tables, start, first, replies)
 }
 
-// The line, move by move.
+// Plays the line move by move.
 fn walk<G: Game>(
     tables: &Tables<G>,
     start: Position,
@@ -72,7 +72,7 @@ fn walk<G: Game>(
     Some(answered(tables, line))
 }
 
-// The line with the computer's move, where it is its turn and the game goes on.
+// Returns the line with the computer's move if it is the computer's turn and the game goes on, and otherwise unchanged.
 fn answered<G: Game>(tables: &Tables<G>, line: PlayLine) -> PlayLine
     requires legal { G.rules.is_legal line.position ≡ true }
     requires held { AreAllHeld G.rules tables.now line.position.tier }
@@ -88,7 +88,7 @@ fn answered<G: Game>(tables: &Tables<G>, line: PlayLine) -> PlayLine
     }
 }
 
-// The best move, where all tables that it rests on are held.
+// Returns the best move. The tables of the tier and of its child tiers must be held.
 fn known_best<G: Game>(tables: &Tables<G>, p: Position) -> Option<u32>
     requires legal { G.rules.is_legal p ≡ true }
     requires own { IsHeld tables.now p.tier }
@@ -98,7 +98,7 @@ fn known_best<G: Game>(tables: &Tables<G>, p: Position) -> Option<u32>
     best_move(tables, p).unwrap()
 }
 
-// The line with a reply, where it is a move.
+// Returns the line with a reply, if it is a move.
 fn replied<G: Game>(line: PlayLine, reply: u32) -> Option<PlayLine>
     requires legal { G.rules.is_legal line.position ≡ true }
     requires few { line.moves + 1 < 2 ^ 64 }
@@ -111,7 +111,7 @@ fn replied<G: Game>(line: PlayLine, reply: u32) -> Option<PlayLine>
     }
 }
 
-// The line with one more move.
+// Returns the line with one more move.
 fn played<G: Game>(line: PlayLine, number: u32) -> PlayLine
     requires legal { G.rules.is_legal line.position ≡ true }
     requires listed { Contains (G.rules.moves line.position) number }

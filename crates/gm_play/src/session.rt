@@ -1,4 +1,4 @@
-//! Play against the computer over a reader and a writer.
+//! Sessions against the computer over a reader and a writer.
 ghost use Rattle.std.specs.Prelude.{◌≡◌, ℕ, List, true, OnOk, IfErr};
 ghost use Rattle.gm_best.specs.Reached.{AreAllHeld};
 ghost use Rattle.gm_play.specs.Dialogue.{Advice, IsKnown, course, unseen};
@@ -24,12 +24,13 @@ use std::io::{Read, Write};
 /// The most bytes that one session reads.
 pub const SESSION_BYTES: u32 = 1_000_000;
 
-// How much of a line is kept: the longest text of a move, its return, and a byte that tells a longer line.
+// The most bytes of a line that are kept: the longest text of a move, its carriage return, and a byte that marks a longer line.
 const KEPT: usize = LINE + 2;
 
-/// Plays a game with the person behind a reader and a writer: see docs/PROGRAM.md for the lines. It takes no memory.
+/// Plays a game with the person behind a reader and a writer. The lines are described in docs/PROGRAM.md. Allocates no memory.
 ///
-/// It reads a byte at a time, none after the line that ends the session, and at most `SESSION_BYTES`: one byte more is `TooMuchInput`.
+/// Reads one byte at a time, and none after the line that ends the session. It reads at most `SESSION_BYTES`; one byte more is
+/// refused as `TooMuchInput`.
 pub fn session<G: Shown, R: Read, W: Write>(
     tables: &Tables<G>,
     start: Position,
@@ -60,9 +61,10 @@ pub fn session<G: Shown, R: Read, W: Write>(
     session_with::<G, Plain, R, W>(&known, first, input, output)
 }
 
-/// A session that shows the person, before each question, what the view says of the position. It takes no memory.
+/// Plays a session that shows the person the view of the position before each question. Allocates no memory.
 ///
-/// It reads a byte at a time, none after the line that ends the session, and at most `SESSION_BYTES`: one byte more is `TooMuchInput`.
+/// Reads one byte at a time, and none after the line that ends the session. It reads at most `SESSION_BYTES`; one byte more is
+/// refused as `TooMuchInput`.
 pub fn session_with<G: Shown, V: View<G>, R: Read, W: Write>(
     start: &Known<'_, G>,
     first: Side,
@@ -88,14 +90,14 @@ pub fn session_with<G: Shown, V: View<G>, R: Read, W: Write>(
     converse::<G, V, R, W>(start, first, input, output)
 }
 
-// Has no effect; its contract states that there is a look-up of true values and best moves where every tier that is reached is held.
+// Has no effect; its contract states that true values and best moves are known when every reached tier is held.
 fn advice<G: Game>(start: &Known<'_, G>)
     ensures { (k : Advice) × IsKnown G.rules start.now.position.tier k }
 {
     start.truth();
 }
 
-// The session, byte by byte.
+// Runs the session byte by byte.
 fn converse<G: Shown, V: View<G>, R: Read, W: Write>(
     start: &Known<'_, G>,
     first: Side,

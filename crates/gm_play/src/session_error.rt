@@ -4,14 +4,14 @@ ghost use Rattle.gm_play.specs.Sessions.{number_of};
 
 use thiserror::Error;
 
-/// Why a session ended early.
+/// The reason why a session ended early.
 #[derive(Clone, Copy, Debug, PartialEq, Eq, Error)]
 pub enum SessionError {
     #[error("input failed")]
     ReadFailed,
     #[error("output failed")]
     WriteFailed,
-    /// More bytes came than one session reads.
+    /// The input has more bytes than one session reads.
     #[error("too much input")]
     TooMuchInput,
     /// The reader has closed the output.
@@ -20,7 +20,7 @@ pub enum SessionError {
 }
 
 impl SessionError {
-    /// The number of the error.
+    /// Returns the number of the error.
     pub fn number(&self) -> u8
         ensures { result ≡ number_of self.now }
     {

@@ -1,4 +1,4 @@
-//! Bytes from a reader, and texts to a writer.
+//! Reading bytes, and writing texts.
 ghost use Rattle.std.specs.Prelude.{◌≡◌, ◌<◌, ◌+◌, ◌++◌, codes, length, OnOk, OnErr, IfOk};
 ghost use Rattle.std.specs.Io.KnownBytes.{Keeps, Appends};
 ghost use Rattle.gm_play.specs.Dialogue.{without_return as without_return_spec};
@@ -9,7 +9,7 @@ use arrayvec::ArrayVec;
 use gm_game::limits::LINE;
 use std::io::{self, ErrorKind, Read, Write};
 
-/// The next byte, or `None` at the end of the input. No byte is read beyond it.
+/// Reads the next byte, or returns `None` at the end of the input. Reads no further byte.
 pub fn read_byte<R: Read>(input: &mut R) -> io::Result<Option<u8>>
     ensures ok { IfOk result (λ o. ReadsByte (R.remaining input.old) (R.remaining input.new) o) }
     ensures err { OnErr result (Keeps (R.remaining input.old) (R.remaining input.new)) }
@@ -22,7 +22,7 @@ pub fn read_byte<R: Read>(input: &mut R) -> io::Result<Option<u8>>
     }
 }
 
-/// A line without the carriage return at its end, where it has one.
+/// Returns a line without the carriage return at its end, if it has one.
 pub fn without_return(line: &[u8]) -> &[u8]
     ensures { result.now ≡ without_return_spec line.now }
 {
@@ -32,7 +32,7 @@ pub fn without_return(line: &[u8]) -> &[u8]
     }
 }
 
-/// Writes all of a text. After an error a prefix of it is written, which the contract of `write_all` doesn't say.
+/// Writes all of a text. After an error a prefix of it is written; the contract of `write_all` does not state this.
 pub fn write_text<W: Write>(output: &mut W, text: &[u8]) -> io::Result<()>
     ensures ok { OnOk result (Appends (W.contents output.old) (W.contents output.new) text.now) }
     ensures err { OnErr result (AppendsPart (W.contents output.old) (W.contents output.new) text.now) }
@@ -48,7 +48,7 @@ pub fn write_text<W: Write>(output: &mut W, text: &[u8]) -> io::Result<()>
     Ok(())
 }
 
-/// Why a text is not written whole.
+/// The reason why a text was not written completely.
 #[derive(Clone, Copy, Debug)]
 pub(crate) enum Unwritten {
     Failed,
@@ -57,7 +57,7 @@ pub(crate) enum Unwritten {
 }
 
 impl Unwritten {
-    /// The error of the session whose text it was.
+    /// Returns the error of the session that the text belongs to.
     pub(crate) fn of_session(self) -> SessionError
         ensures { IsOfOutput result }
     {
@@ -80,10 +80,11 @@ pub(crate) fn say<W: Write>(output: &mut W, text: &[u8]) -> Result<(), Unwritten
     }
 }
 
-/// The bytes of the longest line: two texts, what stands between them, and the line end.
+/// The most bytes of a line: two texts, the text between them, and the line end.
 const WIDTH: usize = 2 * LINE + 16;
 
-/// Writes a line of two texts with a third between them, by one call, where the writer takes it whole. After an error a prefix of it is written.
+/// Writes a line of three texts. Makes only one call if the writer accepts the whole line. After an error a prefix of the line is
+/// written.
 pub(crate) fn write_line<W: Write>(
     output: &mut W,
     front: &[u8],
@@ -97,7 +98,7 @@ pub(crate) fn write_line<W: Write>(
     say(output, whole_line(front, between, back).as_slice())
 }
 
-// The line of three texts.
+// Returns the line of three texts.
 fn whole_line(front: &[u8], between: &[u8], back: &[u8]) -> ArrayVec<u8, WIDTH>
     requires { length front.now + length between.now + length back.now < WIDTH }
     ensures { result.items ≡ front.now ++ between.now ++ back.now ++ codes "\n" }

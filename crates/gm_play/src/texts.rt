@@ -15,8 +15,8 @@ use gm_game::shown::{Line, Shown};
 use gm_game::text::{push_decimal, value_text};
 use std::alloc::{AllocError, Global};
 
-/// The rows of the moves of a position, the best first: the text of the move, what it is worth, and its result, with a tab between them. Where `distinct` is
-/// set, of several moves that lead to one canonical position only the first is kept.
+/// Returns the rows of the moves of a position, the best first: the text of the move, its worth, and its result, separated by tabs.
+/// If `distinct` is set, only the first of several moves to the same canonical position is kept.
 pub fn moves_text<G: Shown>(
     alloc: Global,
     known: &Known<'_, G>,
@@ -28,7 +28,7 @@ pub fn moves_text<G: Shown>(
     move_rows::<G>(alloc, known.position, list.as_slice())
 }
 
-// The rows of some moves of a legal position.
+// Returns the rows of some moves of a legal position.
 fn move_rows<G: Shown>(
     alloc: Global,
     p: Position,
@@ -59,7 +59,7 @@ fn push_move<G: Shown>(rows: &mut Vec<u8>, p: Position, x: &MoveValue) -> Result
     )
 }
 
-/// Appends three fields, with a tab between them.
+/// Appends a row of three fields, separated by tabs.
 pub(crate) fn push_row(rows: &mut Vec<u8>, a: &[u8], b: &[u8], c: &[u8]) -> Result<(), AllocError>
     ensures { OnOk result (rows.new.items ≡ rows.old.items ++ row a.now b.now c.now) }
 {
@@ -68,7 +68,7 @@ pub(crate) fn push_row(rows: &mut Vec<u8>, a: &[u8], b: &[u8], c: &[u8]) -> Resu
     push_field(rows, c, b"\n")
 }
 
-/// Appends a field and what ends it. After an error the field may stand there without it.
+/// Appends a field and its end. After an error the field may have been appended without its end.
 pub fn push_field(rows: &mut Vec<u8>, field: &[u8], end: &[u8]) -> Result<(), AllocError>
     ensures { OnOk result (rows.new.items ≡ rows.old.items ++ (field.now ++ end.now)) }
 {
@@ -76,7 +76,7 @@ pub fn push_field(rows: &mut Vec<u8>, field: &[u8], end: &[u8]) -> Result<(), Al
     rows.extend_from_slice(end)
 }
 
-/// The word of a value: `win`, `tie`, `draw` or `lose`.
+/// Returns the word of a value: `win`, `tie`, `draw` or `lose`.
 pub fn word_of(value: Value) -> &'static str
     ensures { result.now ≡ value_word value }
 {
@@ -88,8 +88,9 @@ pub fn word_of(value: Value) -> &'static str
     }
 }
 
-/// The rows of the line of best play from a position: the text of a move (none at first), the position and its value, with a tab between them, and at the end
-/// of a draw the number of the row, from 0, in which the last position stood before. At most `limit` moves are made.
+/// Returns the rows of the line of best play from a position, of at most `limit` moves: the text of a move (empty in the first
+/// row), the position, and its value, separated by tabs. If the last position has occurred before, a final row `again N` has the
+/// number of its earlier row, from 0.
 pub fn line_text<G: Shown>(
     alloc: Global,
     start: &Known<'_, G>,
@@ -127,7 +128,7 @@ fn push_line<G: Shown>(
     push_end(rows, line.end)
 }
 
-/// The value of the result of a best move, by that of its position.
+/// Returns the value of the result of a best move, from the value of its position.
 pub fn value_after(value: Solved) -> Solved
     ensures { result ≡ after_best value }
 {
@@ -159,7 +160,7 @@ fn push_steps<G: Shown>(
     Ok(())
 }
 
-// Appends the row of a move, or of none, the position that it leads to, and its value.
+// Appends a row: the text of a move, which may be empty, the position that it leads to, and the position's value.
 fn push_place<G: Shown>(
     rows: &mut Vec<u8>,
     text: &[u8],
@@ -177,7 +178,7 @@ fn push_place<G: Shown>(
     )
 }
 
-// Appends where the last position of a line has come before.
+// Appends the row that refers to the earlier row of the last position, if the line ends with a repetition.
 fn push_end(rows: &mut Vec<u8>, end: LineEnd) -> Result<(), AllocError>
     ensures { OnOk result (rows.new.items ≡ rows.old.items ++ end_row end) }
 {

@@ -17,7 +17,7 @@ use gm_game::shown::Shown;
 use gm_game::text::value_text;
 use std::io::Write;
 
-// Writes the line on a position.
+// Writes the line with a position and its value.
 fn write_place<G: Shown, V: View<G>, W: Write>(
     known: &Known<'_, G>,
     output: &mut W,
@@ -36,7 +36,7 @@ fn write_place<G: Shown, V: View<G>, W: Write>(
     )
 }
 
-// Writes what the person sees, and asks them for a move.
+// Writes the view of a position, and asks the person for a move.
 fn ask_move<G: Shown, V: View<G>, W: Write>(
     asked: Question,
     p: Position,
@@ -60,7 +60,7 @@ fn finish<W: Write>(output: &mut W, text: &[u8]) -> Result<Option<Position>, Unw
     Ok(None)
 }
 
-// The person's turn: where they are asked, or `None` where the game has ended.
+// Writes the person's turn. Returns the position of the question, or `None` if the game has ended.
 fn ask<G: Shown, V: View<G>, W: Write>(
     known: &Known<'_, G>,
     output: &mut W,
@@ -79,7 +79,7 @@ fn ask<G: Shown, V: View<G>, W: Write>(
     }
 }
 
-// The computer's move, where the game goes on.
+// Returns the computer's move. The game must go on.
 fn best_number<G: Game>(known: &Known<'_, G>) -> u32
     requires { G.rules.primitive known.now.position ≡ None }
     ensures { IsBestMove G.rules known.now.position (Some result) }
@@ -87,7 +87,7 @@ fn best_number<G: Game>(known: &Known<'_, G>) -> u32
     known.best_move().unwrap()
 }
 
-// Makes the computer's move, where the game goes on, and then the person's turn.
+// Makes the computer's move, and then writes the person's turn. The game must go on.
 fn play_best<G: Shown, V: View<G>, W: Write>(
     known: &Known<'_, G>,
     output: &mut W,
@@ -112,7 +112,7 @@ fn play_best<G: Shown, V: View<G>, W: Write>(
     ask::<G, V, W>(&known.play(m), output)
 }
 
-// The computer's turn, and then the person's.
+// Writes the computer's turn, and then the person's.
 fn move_and_ask<G: Shown, V: View<G>, W: Write>(
     known: &Known<'_, G>,
     output: &mut W,
@@ -131,7 +131,8 @@ fn move_and_ask<G: Shown, V: View<G>, W: Write>(
     }
 }
 
-/// Writes the turn of the side to move, and of the person after the computer: where the person is asked, or `None` where the game has ended.
+/// Writes the turn of the side to move, and after the computer's turn the person's. Returns the position of the question, or `None`
+/// if the game has ended.
 pub(crate) fn turn<G: Shown, V: View<G>, W: Write>(
     known: &Known<'_, G>,
     side: Side,
@@ -150,7 +151,7 @@ pub(crate) fn turn<G: Shown, V: View<G>, W: Write>(
     }
 }
 
-// Says that a line is no move, and asks anew.
+// Writes that a line is not a move, and asks again.
 fn ask_again<G: Shown, V: View<G>, W: Write>(
     p: Position,
     output: &mut W,
@@ -165,7 +166,7 @@ fn ask_again<G: Shown, V: View<G>, W: Write>(
     ask_move::<G, V, W>(Question::Again, p, output)
 }
 
-/// Answers a line: where the person is asked next, or `None` where the session ends.
+/// Answers a line. Returns the position of the next question, or `None` if the session has ended.
 pub(crate) fn reply<G: Shown, V: View<G>, W: Write>(
     known: &Known<'_, G>,
     line: &[u8],
@@ -189,7 +190,7 @@ pub(crate) fn reply<G: Shown, V: View<G>, W: Write>(
     }
 }
 
-/// Answers the bytes that stand before the end of the input, as a last line.
+/// Answers the bytes after the last line end as a last line, and ends the session.
 pub(crate) fn close<G: Shown, V: View<G>, W: Write>(
     known: &Known<'_, G>,
     line: &[u8],

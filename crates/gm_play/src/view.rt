@@ -1,4 +1,4 @@
-//! What the person sees before they are asked.
+//! What the person sees before a question.
 ghost use Rattle.std.specs.Prelude.{◌≡◌, List, ℕ, true};
 ghost use Rattle.gm_game.specs.declared.position.Position.{Position};
 ghost use Rattle.gm_play.specs.declared.view.Question.{Question as QuestionSpec};
@@ -8,33 +8,33 @@ use arrayvec::ArrayVec;
 use gm_game::position::Position;
 use gm_game::shown::Shown;
 
-/// The most bytes that are seen before a question: a board, and the texts of all moves.
+/// The most bytes before a question: a board, and the texts of all moves.
 pub const SIGHT: usize = 8704;
 
-/// Which question a person is asked.
+/// The kind of a question to the person.
 #[derive(Clone, Copy, Debug, PartialEq, Eq)]
 pub enum Question {
-    /// For a move.
+    /// The first question for a move.
     First,
-    /// Again, after what is no move.
+    /// The same question again, after a line that is not a move.
     Again,
 }
 
-/// Lines that are seen before a question.
+/// The lines before a question.
 pub type Sight = ArrayVec<u8, SIGHT>;
 
-/// What the person sees before they are asked.
+/// The part of a session that shows the person a position before each question.
 pub trait View<G: Shown> {
-    /// What is seen of a position before a question.
+    /// The text of a position before a question.
     ghost seen: { QuestionSpec → Position → List ℕ };
 
-    /// What is seen of a legal position before a question, in lines.
+    /// Returns the text of a legal position before a question, in lines.
     fn see(asked: Question, p: Position) -> Sight
         requires { G.Game.rules.is_legal p ≡ true }
         ensures { result.items ≡ seen asked p };
 }
 
-/// Nothing but the lines of the dialogue.
+/// A view that adds nothing to the lines of the dialogue.
 #[derive(Drop)]
 pub struct Plain;
 

@@ -1,4 +1,4 @@
-//! Why a position has its value: its moves, the best answer to each, and what is left.
+//! Why a position has its value: its moves, the best answer to each, and the result of the answer.
 ghost use Rattle.std.specs.Prelude.{◌≡◌, ◌++◌, true, IfOk, OnOk};
 ghost use Rattle.std.specs.List.{All};
 ghost use Rattle.gm_best.specs.BestMoves.{IsBestMove};
@@ -16,20 +16,22 @@ use gm_game::shown::{Line, Shown};
 use gm_game::text::value_text;
 use std::alloc::{AllocError, Global};
 
-/// A move of a position, the best answer to it, and what is left.
+/// A move of a position, the best answer to it, and the result.
 #[derive(Clone, Copy, Debug, PartialEq, Eq)]
 pub struct Exchange {
     pub made: MoveValue,
-    /// The number of the best answer; `None` where the move has ended the game.
+    /// The number of the best answer, or `None` if the move has ended the game.
     pub answer: Option<u32>,
-    /// The result of the answer, or that of the move where there is none.
+    /// The result of the answer, or that of the move if there is no answer.
     pub left: Position,
-    /// The value of what is left, for the side that is to move there: the one that made the move, where there is an answer.
+    /// The value of `left` for the side to move there. If there is an answer, this is the side that made the move.
     pub value: Solved,
 }
 
-/// The rows of the moves of a position, the best first: the text of the move, what it is worth, the best answer to it (none where it ends the game), what is
-/// left, and the value of that, with a tab between them. So a loss is seen to be one: after each answer the side is lost again, and nearer the end.
+/// Returns the rows of the moves of a position, the best first: the text of the move, its worth, the best answer (empty if the move
+/// ends the game), the final position, and its value, separated by tabs.
+///
+/// The rows explain a loss: after each move and its answer the side is in a lost position again, nearer the end.
 pub fn why_text<G: Shown>(alloc: Global, known: &Known<'_, G>) -> Result<Vec<u8>, AllocError>
     ensures { IfOk result (λ v. IsWhyText G.Game.rules G.shown G.move_shown (G.shown known.now.position) v.items) }
 {
@@ -37,7 +39,7 @@ pub fn why_text<G: Shown>(alloc: Global, known: &Known<'_, G>) -> Result<Vec<u8>
     rows_for(alloc, known, list.as_slice())
 }
 
-// The rows of some moves.
+// Returns the rows of some moves.
 fn rows_for<G: Shown>(
     alloc: Global,
     known: &Known<'_, G>,
@@ -55,7 +57,7 @@ fn rows_for<G: Shown>(
     Ok(rows)
 }
 
-// The best answer to a move, and what is left.
+// Returns a move with the best answer to it.
 fn exchange_after<G: Game>(known: &Known<'_, G>, x: MoveValue) -> Exchange
     requires each { IsMoveOf G.rules known.now.position x }
     requires value { IsMoveValue G.rules known.now.position x }
@@ -95,7 +97,7 @@ fn push_exchange<G: Shown>(rows: &mut Vec<u8>, p: Position, x: Exchange) -> Resu
     )
 }
 
-// The text of an answer; none where the game has ended.
+// Returns the text of an answer, which is empty if the game has ended.
 fn answer_line<G: Shown>(q: Position, answer: Option<u32>) -> Line
     requires legal { G.Game.rules.is_legal q ≡ true }
     requires best { IsBestMove G.Game.rules q answer }
@@ -107,7 +109,7 @@ fn answer_line<G: Shown>(q: Position, answer: Option<u32>) -> Line
     }
 }
 
-/// Appends five fields, with a tab between them.
+/// Appends a row of five fields, separated by tabs.
 pub(crate) fn push_five(
     rows: &mut Vec<u8>,
     a: &[u8],

@@ -12,7 +12,7 @@ use Rattle.gm_draw.specs.Diagrams.{escaped}
 use Rattle.gm_sheet.specs.Sheets.{Entry, entry_text, answer_text, IsEntry, AreEntries, steps_text}
 
 -- ---- moves
--- one move more
+-- one more move
 pub steps_next : (r : Rules) (move_shown : Position → ℕ → List ℕ) (p q : Position) (m : ℕ) (ms done more all : List ℕ) → q ≡ r.play p m
     → more ≡ done ++ (codes " " ++ escaped (move_shown p m)) → done ++ steps_text r move_shown p (m ∷ ms) ≡ all → more ++ steps_text r move_shown q ms ≡ all
 steps_next r move_shown p q m ms done more all e w h =
@@ -21,14 +21,14 @@ steps_next r move_shown p q m ms done more all e w h =
     let here : step ++ rest ≡ steps_text r move_shown p (m ∷ ms) = ap (λ (x : Position). step ++ steps_text r move_shown x ms) e in
     ap (λ (t : List ℕ). t ++ rest) w ∙ append_assoc done step rest ∙ ap (λ (t : List ℕ). done ++ t) here ∙ h
 
--- what stands before moves, the moves, and how they end
+-- the text before moves, the moves, and their end
 pub line_parts : (t0 front steps moves end t1 t2 t3 : List ℕ) → t1 ≡ t0 ++ front → t2 ≡ t1 ++ moves → moves ≡ steps → t3 ≡ t2 ++ end → t3 ≡ t0 ++
     (front ++ steps ++ end)
 line_parts t0 front steps moves end t1 t2 t3 a b e c =
     c ∙ ap (λ (t : List ℕ). t ++ end) (b ∙ ap (λ (t : List ℕ). t ++ moves) a ∙ ap (λ (t : List ℕ). (t0 ++ front) ++ t) e) ∙ simp append_assoc
 
 -- ---- entries
--- what is appended of an entry
+-- the text of an entry, and that of its solution
 pub both_parts : {X E : Type 0} → (m : Result (Unit {0}) E) (P A B : X → Type 0) (x : X) → P x → OnOk m (A x) → OnOk m (B x) → OnOk m
     ((e : X) × P e × A e × B e)
 both_parts (Ok u) P A B x p a b = (x, p, a, b)
@@ -45,7 +45,7 @@ module _ (r : Rules) (shown : Position → List ℕ) (move_shown : Position → 
   two_lists (x ∷ xs) ys [] es h k = absurd h
   two_lists (x ∷ xs) ys (d ∷ ds) es h k = (h.0, two_lists xs ys ds es h.1 k)
 
-  -- the entries of the first positions, after what was there before
+  -- the entries of the first positions, after the earlier text
   pub record HasEntries (xs : List Found) (old now old_answers answers : List ℕ) : Type 0 where
     pub list : List Entry
     pub are_entries : All xs list

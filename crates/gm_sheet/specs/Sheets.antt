@@ -20,7 +20,7 @@ use Rattle.gm_sheet.specs.declared.solution.TheConstants.{SOLUTION_MOVES}
 use Rattle.gm_sheet.specs.declared.parts.TheConstants.{SHEET_FRONT, SHEET_DIAGRAMS, SHEET_SOLUTIONS, SHEET_BACK}
 
 -- ---- solutions
--- of how many moves the best one is chosen
+-- the number of moves that the best one is chosen from
 unfoldable pub choice_words : ℕ → List ℕ
 choice_words n = if n == 1 then codes ", the only move" else codes ", one of " ++ decimal n ++ codes " moves"
 
@@ -36,7 +36,7 @@ module _ (r : Rules) (move_shown : Position → ℕ → List ℕ) where
   steps_text p [] = []
   steps_text p (m ∷ ms) = codes " " ++ escaped (move_shown p m) ++ steps_text (r.play p m) ms
 
-  -- the best move, and of how many
+  -- the best move, and the number of moves
   unfoldable pub best_words : Position → ℕ → ℕ → List ℕ
   best_words p m n = codes "<b>" ++ escaped (move_shown p m) ++ codes "</b>" ++ choice_words n
 
@@ -54,7 +54,7 @@ module _ (r : Rules) (move_shown : Position → ℕ → List ℕ) where
   IsSolution x out = (line : BestLine) × IsBestLine r x.position SOLUTION_MOVES line × (out ≡ solution_of x.position x.best x.moves line)
 
 -- ---- sheets
--- what a sheet has of a position
+-- the parts of a sheet for one position
 pub record Entry : Type 0 where
   pub text : List ℕ
   pub diagram : List ℕ
@@ -70,7 +70,7 @@ entry_text e =
 unfoldable pub answer_text : Entry → List ℕ
 answer_text e = codes "<li>" ++ e.solution ++ codes "</li>\n"
 
--- what stands before the diagrams: the title
+-- the text before the diagrams, with the title
 unfoldable pub heading : List ℕ → List ℕ
 heading title = SHEET_FRONT.now ++ escaped title ++ SHEET_DIAGRAMS.now
 
@@ -90,14 +90,14 @@ module _ (r : Rules) (shown : Position → List ℕ) (move_shown : Position → 
     pub diagram : IsDiagram r shown move_shown drawn mover style title board true (shown x.position) e.diagram
     pub solution : IsSolution r move_shown x e.solution
 
-  -- the entries of these, in their order
+  -- the entries of these positions, in their order
   abbrev pub AreEntries : List Found → List Entry → Type 0
   AreEntries [] [] = Unit {0}
   AreEntries [] (e ∷ es) = ⊥
   AreEntries (x ∷ xs) [] = ⊥
   AreEntries (x ∷ xs) (e ∷ es) = IsEntry x e × AreEntries xs es
 
-  -- the sheet of those of the positions that are sought that a choice takes
+  -- the sheet of those positions of a search that a choice takes
   pub record IsSheet (q : Sought) (reached : Bool) (choice : Choice) (tiers out : List ℕ) : Type 0 where
     pub found : List Found
     pub are_found : AreChosen r q reached choice tiers found
@@ -106,6 +106,6 @@ module _ (r : Rules) (shown : Position → List ℕ) (move_shown : Position → 
     pub out_is : out ≡ sheet_of title entries
 
 -- ---- tables
--- a found position, from whose tier each tier that is reached has a table
+-- a found position whose tier has a table, as has each tier that is reached from it
 abbrev pub IsKnownAt : Rules → List TableData → Found → Type 0
 IsKnownAt r entries x = IsFound r x × AreAllHeld r entries x.position.tier

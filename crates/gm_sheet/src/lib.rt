@@ -1,6 +1,6 @@
-//! Sheets of diagrams for solvers: found positions, each with its solution.
+//! Sheets of diagrams for people to solve: found positions, each with its solution.
 //!
-//! `specs/` has the definitions that contracts cite, and `proofs/` what follows from them.
+//! `specs/` has the definitions that contracts cite, and `proofs/` has the facts that follow from them.
 #![tactic(auto)]
 
 pub mod parts;

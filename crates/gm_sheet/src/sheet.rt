@@ -17,11 +17,11 @@ use gm_find::sought::{Choice, Sought};
 use gm_table::tables::Tables;
 use std::alloc::{AllocError, Global};
 
-/// Returns the canonical positions that are sought as a sheet, which is one HTML file: of each its diagram, and its solution to unfold; and the solutions once
-/// more for paper. A solution is the best move, the number of moves, and the line of best play, of at most 40 moves. The positions come in the order of `find`:
-/// the first of them, or a random choice. If a set of reached positions is given, only positions in it count.
+/// Returns a sheet of canonical positions that match a search, as one HTML file. Each has its diagram and its solution, which can
+/// be unfolded. The solutions follow once more for paper. The whole sheet is built in memory.
 ///
-/// The whole sheet is made in memory.
+/// A solution is the best move, the number of moves, and the line of best play, of at most 40 moves. The positions come in the
+/// order of `find`: the first of them, or a random choice. If a set of reached positions is given, only positions in it are taken.
 pub fn sheet_text<G: Pictured>(
     alloc: Global,
     known: &KnownTiers<'_, G>,
@@ -36,7 +36,7 @@ pub fn sheet_text<G: Pictured>(
     sheet_of_found(alloc, known.tables, found.as_slice())
 }
 
-// The sheet of found positions.
+// Returns the sheet of found positions.
 fn sheet_of_found<G: Pictured>(
     alloc: Global,
     tables: &Tables<G>,
@@ -115,7 +115,7 @@ fn push_parts(
     push_answer(answers, solution)
 }
 
-// Appends a diagram, with the solution and the text to unfold.
+// Appends a diagram, with its solution and its text to unfold.
 #[tactic(auto, unfolding(crate::specs::Sheets::entry_text))]
 fn push_unfolding(
     entries: &mut Vec<u8>,
@@ -146,7 +146,7 @@ fn push_answer(answers: &mut Vec<u8>, solution: &[u8]) -> Result<(), AllocError>
     answers.extend_from_slice(b"</li>\n")
 }
 
-// The sheet with these entries and these solutions for paper.
+// Returns the sheet with these entries and these solutions for paper.
 fn sheet_with<G: Pictured>(
     alloc: Global,
     entries: &[u8],

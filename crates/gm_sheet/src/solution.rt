@@ -15,10 +15,11 @@ use gm_game::text::push_decimal;
 use gm_play::best_line::{BestLine, LineEnd, best_line};
 use std::alloc::{AllocError, Global};
 
-/// The greatest number of moves of a solution's line.
+/// The most moves of the line of a solution.
 pub const SOLUTION_MOVES: usize = 40;
 
-/// The solution of a found position: its best move, how many moves it has, and the line of best play from it, of at most `SOLUTION_MOVES` moves.
+/// Returns the solution of a found position: its best move, the number of its moves, and the line of best play from it, of at most
+/// `SOLUTION_MOVES` moves.
 pub(crate) fn solution_text<G: Shown>(
     alloc: Global,
     known: &Known<'_, G>,
@@ -34,7 +35,7 @@ pub(crate) fn solution_text<G: Shown>(
     solution
 }
 
-// The solution with this line of best play.
+// Returns the solution with this line of best play.
 fn solution_with<G: Shown>(alloc: Global, x: Found, line: &BestLine) -> Result<Vec<u8>, AllocError>
     requires found { IsFound G.Game.rules x }
     requires best { AreBest G.Game.rules x.position line.now.moves.items }
@@ -48,7 +49,7 @@ fn solution_with<G: Shown>(alloc: Global, x: Found, line: &BestLine) -> Result<V
     Ok(text)
 }
 
-// Appends the best move, and best play.
+// Appends the best move and the line of best play.
 fn push_best<G: Shown>(
     text: &mut Vec<u8>,
     p: Position,
@@ -66,7 +67,7 @@ fn push_best<G: Shown>(
     push_line::<G>(text, p, line)
 }
 
-// Appends the best move, and of how many.
+// Appends the best move and the number of moves.
 #[tactic(auto, unfolding(crate::specs::Sheets::best_words))]
 fn push_move<G: Shown>(
     text: &mut Vec<u8>,
@@ -96,7 +97,7 @@ fn push_line<G: Shown>(text: &mut Vec<u8>, p: Position, line: &BestLine) -> Resu
     push_end(text, line.end)
 }
 
-// Appends of how many moves the best one is chosen.
+// Appends the number of moves that the best one is chosen from.
 #[tactic(auto, unfolding(crate::specs::Sheets::choice_words))]
 fn push_choice(text: &mut Vec<u8>, count: usize) -> Result<(), AllocError>
     ensures { OnOk result (text.new.items ≡ text.old.items ++ choice_words count) }
@@ -111,7 +112,7 @@ fn push_choice(text: &mut Vec<u8>, count: usize) -> Result<(), AllocError>
     text.extend_from_slice(b" moves")
 }
 
-// Appends best moves one after the other.
+// Appends the best moves of a line.
 fn push_steps<G: Shown>(
     text: &mut Vec<u8>,
     start: Position,

@@ -1,4 +1,4 @@
--- The endings have the laws of a game.
+-- The endings satisfy the laws of a game.
 use Rattle.std.specs.Prelude.{◌≡◌, ◌<◌, ◌≤◌}
 use Rattle.gm_pieces.specs.Common.{ℕ, Bool, true, false, arith, IsMoveGame, IsMoveSymmetric, IsNumbered, AreTexts, board_game}
 use Rattle.gm_chess.specs.declared.men.Men.{Men}

@@ -1,4 +1,4 @@
--- How many numbers of moves pass a test, by a code that tells them apart.
+-- A bound on how many move numbers pass a test, from a code that distinguishes them.
 use Rattle.std.specs.Prelude.{◌≡◌, ◌+◌, ◌<◌, ◌≤◌, ◌*◌, ◌/◌, ◌%◌, ◌∷◌, ◌⊎◌}
 use Rattle.gm_pieces.specs.Common.{ℕ, zero, suc, Bool, true, eqb, List, [], length, get_or, refl, sym, ap, ◌∙◌, subst, arith, inl, inr, Contains, filter}
 use Rattle.gm_pieces.specs.Common.{range_with_len, filter_from, range_below, IsAscending, cases_lt}

@@ -1,4 +1,4 @@
--- The symmetries keep the rules.
+-- The symmetries preserve the rules.
 use Rattle.std.specs.Prelude.{◌≡◌, ◌≢◌, ◌+◌, ◌<◌, ◌≤◌, ◌*◌, ◌/◌, ◌%◌, ◌&&◌, ◌||◌, ◌∷◌, ◌⊎◌, if◌then◌else◌}
 use Rattle.gm_pieces.specs.Common.{ℕ, Bool, true, false, not, eqb, eqb-true, eq-eqb, nat_tests, refl, sym, ap, ap₂, ◌∙◌, subst, arith, inl, inr, cases_Bool}
 use Rattle.gm_pieces.specs.Common.{true≢false, Contains, range_with_len, range_below, contains_range, Option, None, Some, Lose, End, IsMove, IsMoveSymmetric}
@@ -15,11 +15,11 @@ use Rattle.gm_chess.specs.laws.MenFacts.{king_from, piece_from, foe_from, by_kin
 images_differ : (x a c : ℕ) → x < 8 → a ≤ 64 → c ≤ 64 → a ≢ c → image_square x a ≢ image_square x c
 images_differ x a c l h k n e = n (eqb-true a c (sym (image_same x a c l h k) ∙ eq-eqb _ _ e))
 
--- a man that has been taken stays so
+-- a man that has been taken is taken in every image
 image_gone : (x s : ℕ) → x < 8 → s ≤ 64 → eqb (image_square x s) 64 ≡ eqb s 64
 image_gone x s l h = ap (eqb (image_square x s)) (sym (image_taken x)) ∙ image_same x s 64 l h (omega arith)
 
--- what is taken is so in every image
+-- a man that a move takes is taken in every image
 taken_image : (t : Bool) (x p : ℕ) → (if t then 64 else image_square x p) ≡ image_square x (if t then 64 else p)
 taken_image true x p = sym (image_taken x)
 taken_image false x p = refl

@@ -8,7 +8,7 @@ use Rattle.gm_chess.specs.Chess.{king_gone, piece_gone, foe_gone, can_have_led_h
 use Rattle.gm_chess.specs.laws.SquareFacts.{king_mutual}
 
 -- ---- legal boards
--- the rook or queen, where it has not been taken
+-- the rook or queen, if it has not been taken
 pub record IsArmed (q : Bool) (b : Men) : Type 0 where
   pub below : b.piece < 64
   pub king : b.piece ≢ b.king
@@ -219,7 +219,7 @@ foe_from q b m h =
     if_false b.white_moves _ _ h.black
     ∙ and_both _ _ (eq-eqb _ _ h.is) (and_both _ _ (eq-eqb _ _ h.from) (and_both _ _ h.attacks (and_both _ _ (not_false _ h.safe) h.unguarded)))
 
--- ---- what a move leaves
+-- ---- the board after a move
 pub by_king : (b : Men) (m : ℕ) → man m ≡ 0 → (moved b m ≡ king_gone b (to_square m)) × (undo b m ≡ king_back b (from_square m))
 unfolding moved undo
 by_king b m e = rw e (refl, refl)
@@ -240,7 +240,7 @@ pub from_below : (m : ℕ) → from_square m < 64
 unfolding from_square
 from_below m = omega arith
 
--- no square of a man that stands is the one of men that are taken
+-- no man on the board has the square of men that are taken
 off_board : (s : ℕ) → s < 64 → s ≢ 64
 off_board s l = λ e. omega (arith, l, e)
 
@@ -266,7 +266,7 @@ piece_legal q b m h n k = record {
   armed = λ i. record { below = to_below m; king = k.king; foe = k.foe; check = λ w. absurd (true≢false (sym w)) };
 }
 
--- what is left of the rook or queen when the black king goes to a square
+-- if the rook or queen is not taken when the black king goes to a square, it is unchanged
 left : (q : Bool) (b : Men) (c : ℕ) → IsArmed q b → (p : ℕ) → p ≡ (if eqb c b.piece then 64 else b.piece) → p ≢ 64 → (p ≡ b.piece) × (eqb c b.piece ≡ false)
 left q b c a p e n = elim (cases_Bool (eqb c b.piece)) [
   | inl i ↦ absurd (n (e ∙ if_true (eqb c b.piece) 64 b.piece i))
@@ -309,7 +309,7 @@ moved_legal q b m h n v = elim v [
   ]
 ]
 
--- ---- back
+-- ---- moves back
 was_white : (d : Men) (m : ℕ) → d.white_moves ≡ false → ((eqb (man m) 0 && eqb (to_square m) d.king) || (eqb (man m) 1 && eqb (to_square m) d.piece)) ≡ true
     → can_have_led_here d m ≡ true
 unfolding can_have_led_here
@@ -319,7 +319,7 @@ was_black : (d : Men) (m : ℕ) → d.white_moves ≡ true → (eqb (man m) 2 &&
 unfolding can_have_led_here
 was_black d m w e = if_true d.white_moves _ _ w ∙ e
 
--- taking back what stood where the black king is
+-- taking back a move of the black king restores the rook or queen
 stood : (b : Men) (c : ℕ) → b.piece ≢ 64 → (if eqb (if eqb c b.piece then 64 else b.piece) 64 then c else (if eqb c b.piece then 64 else b.piece)) ≡ b.piece
 stood b c n = elim (cases_Bool (eqb c b.piece)) [
   | inl e ↦ rw e (eqb-true c b.piece e)
@@ -367,7 +367,7 @@ was_in_black d m w e =
       | inr g ↦ inr (eqb-true _ _ (and_left _ _ g), eqb-true _ _ (and_right (eqb (man m) 1) _ g))
     ]
 
--- what the black king has left of the rook or queen, if this is put back
+-- putting the rook or queen back and moving the black king again changes nothing
 put_back : (p r : ℕ) → p ≢ r → (if eqb r (if eqb p 64 then r else p) then 64 else (if eqb p 64 then r else p)) ≡ p
 put_back p r n = elim (cases_Bool (eqb p 64)) [
   | inl e ↦ rw e (if_true (eqb r r) 64 r (eq-eqb r r refl) ∙ sym (eqb-true p 64 e))

@@ -1,4 +1,4 @@
--- The endings' own laws of moves: a move keeps a board legal and can be taken back, and the lists are short.
+-- The endings' own laws of moves: a move preserves legality and can be taken back, and the lists are short.
 use Rattle.std.specs.Prelude.{◌≡◌, ◌≢◌, ◌+◌, ◌<◌, ◌≤◌, ◌*◌, ◌/◌, ◌%◌, ◌∷◌, ◌⊎◌, if◌then◌else◌}
 use Rattle.gm_pieces.specs.Common.{ℕ, zero, suc, Bool, true, false, eqb, eqb-true, eq-eqb, nat_tests, List, [], length, refl, sym, ap, ap₂, ◌∙◌, subst, arith}
 use Rattle.gm_pieces.specs.Common.{inl, inr, cases_Bool, cond_both, true≢false, lone_in, Contains, contains_head, filter, range_with_len, Option, None, Some}
@@ -11,8 +11,8 @@ use Rattle.gm_chess.specs.laws.MenFacts.{IsLegal, legal_in, legal_from, IsManMov
 use Rattle.gm_chess.specs.laws.MenFacts.{to_below, from_below}
 use Rattle.gm_chess.specs.laws.Few.{few}
 
--- ---- which man moves, and from where
--- a number says its man and its squares
+-- ---- the man that moves, and its square
+-- a number is determined by its man and its squares
 pub same_number : (l m : ℕ) → man l ≡ man m → from_square l ≡ from_square m → to_square l ≡ to_square m → l ≡ m
 unfolding man from_square to_square
 same_number l m e f g = omega (arith, e, f, g)
@@ -95,7 +95,7 @@ befores_few d =
     same_number l m z.0 z.1 (x.0 ∙ ap (square_of d) z.0 ∙ sym y.0))
 
 -- ---- tiers
--- where the game is not over there are three men
+-- if the game is not over, there are three men
 none_if : {X : Type 0} (t : Bool) (x : X) → (if t then Some x else None) ≡ None → t ≡ false
 none_if true x e = absurd (let z : ⊥ = cc in z)
 none_if false x e = refl

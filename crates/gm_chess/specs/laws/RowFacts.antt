@@ -44,7 +44,7 @@ black_row q b m w e = elim (move_in q b m e) [
   ]
 ]
 
--- numbers that are no moves are skipped
+-- numbers that are not moves are skipped
 skip : (q : Bool) (b : Men) (n k : ℕ) (ms : List ℕ) → n ≤ k → ((m : ℕ) → n ≤ m → m < k → can_move q b m ≡ true → ⊥) → AreMovesBelow q b n ms
     → AreMovesBelow q b k ms
 skip q b n k ms l none e =
@@ -109,8 +109,8 @@ to_at : (k a c : ℕ) → c < 64 → to_square (4096 * k + 64 * a + c) ≡ c
 unfolding to_square
 to_at k a c l = omega (arith, l)
 
--- ---- boards before
--- the numbers with which no man of this kind comes to its square give no board
+-- ---- earlier boards
+-- numbers by which no man of this kind comes to its square have no earlier board
 module _ (q : Bool) (t : ℕ) (d : Men) (man' to : ℕ) (l : to < 64) (lm : man' < 3)
     (alone : (m : ℕ) → can_have_led_here d m ≡ true → man m ≡ man' → to_square m ≡ to) where
   no_board : (m : ℕ) → man m ≡ man' → to_square m ≢ to → before_at (ending q) t d m ≡ None
@@ -163,7 +163,7 @@ armed_below q d l w =
     let h = legal_in q d l in
     (h.armed (λ e. true≢false (sym (h.bare e) ∙ w))).below
 
--- numbers that give no board are skipped
+-- numbers without an earlier board are skipped
 pub befores_skip : (q : Bool) (t : ℕ) (d : Men) (n k : ℕ) (xs : List ℕ) → ((i : ℕ) → i < k → can_have_led_here d (n + i) ≡ true → ⊥)
     → AreBeforesBelow q t d n xs → AreBeforesBelow q t d (n + k) xs
 befores_skip q t d n k xs none e =

@@ -1,4 +1,4 @@
--- Squares under symmetries: tables that compute, over squares and ways, and what comes of them for all that a man attacks.
+-- Squares under symmetries: tables, checked by computation, over squares and ways, and the facts about a man's attacks that follow from them.
 use Rattle.std.specs.Prelude.{◌≡◌, ◌≢◌, ◌+◌, ◌<◌, ◌≤◌, ◌&&◌, ◌||◌, ◌*◌, ◌/◌, ◌%◌, ◌-◌, ◌∷◌, if◌then◌else◌}
 use Rattle.gm_pieces.specs.Common.{ℕ, zero, suc, Bool, true, false, not, eqb, eqb-true, eq-eqb, ltb, ltb-true, lt-ltb, List, [], refl, sym, ap, ap₂, ◌∙◌}
 use Rattle.gm_pieces.specs.Common.{subst, arith, inl, inr, Contains, list_all, list_any, range_with_len, cases_Bool, cond-true, cond-false, true≢false}
@@ -25,7 +25,7 @@ placed_if x r f = if x then 3 * f + r else 3 * r + f
 unfoldable pub image_way : ℕ → ℕ → ℕ
 image_way x d = placed_if (eqb (x / 4) 1) (turned_if (eqb (x % 2) 1) (d / 3)) (turned_if (eqb (x / 2 % 2) 1) (d % 3))
 
--- a symmetry takes the square beside another to the one beside its image
+-- a symmetry takes the next square on a way to the next square of the image on the image of the way
 abbrev keeps_beside : ℕ → ℕ → ℕ → Bool
 keeps_beside x d s =
     agree (goes_on_board (image_way x d) (image_square x s)) (goes_on_board d s)
@@ -49,7 +49,7 @@ stays_table = refl
 pub image_below : (x s : ℕ) → x < 8 → s < 64 → image_square x s < 64
 image_below x s l h = ltb-true _ _ (at_each 8 64 stays stays_table x s l h)
 
--- each symmetry is undone by one, and two that follow one another are one
+-- each symmetry has an inverse, and the product of two symmetries is a symmetry
 abbrev same_after : ℕ → ℕ → ℕ → Bool
 same_after x y k = list_all (λ s. eqb (image_square x (image_square y s)) (image_square k s)) (range_with_len 0 65)
 
@@ -90,7 +90,7 @@ image_inverse x l =
     let z = any_at (undoes x) (range_with_len 0 8) (at_below 8 has_inverse inverse_table x l) in
     (z.0, range_below 8 z.0 z.1, λ s b. eqb-true _ _ (at_below 65 (λ s. eqb (image_square z.0 (image_square x s)) s) z.2 s (omega (arith, b))))
 
--- the squares of men that are taken stay so
+-- the square of men that are taken is fixed
 pub image_taken : (x : ℕ) → image_square x 64 ≡ 64
 unfolding image_square
 image_taken x = refl
@@ -101,7 +101,7 @@ image_small x s l b = elim (cases_Bool (eqb s 64)) [
   | inr e ↦ (let t = image_below x s l (grind (arith, e, b)) in omega (arith, t))
 ]
 
--- images are equal where squares are
+-- images are equal if and only if the squares are
 pub image_same : (x a c : ℕ) → x < 8 → a ≤ 64 → c ≤ 64 → eqb (image_square x a) (image_square x c) ≡ eqb a c
 image_same x a c l h k =
     let y = image_inverse x l in
@@ -134,7 +134,7 @@ way_kept ways x d e l c =
     let u = any_at (λ k. eqb k (image_way x d)) ways (and_right _ _ t) in
     (ltb-true _ _ (and_left _ _ t), subst (Contains ways) (eqb-true _ _ u.2) u.1)
 
--- ---- what is reached
+-- ---- the squares that a man reaches
 step_same : (p q : Bool) (x y : ℕ) (xs ys : List ℕ) (c u v c' u' v' : ℕ) → p ≡ q → (q ≡ true → reaches (x ∷ xs) c u v ≡ reaches (y ∷ ys) c' u' v')
     → reaches (if p then x ∷ xs else []) c u v ≡ reaches (if q then y ∷ ys else []) c' u' v'
 unfolding reaches
@@ -148,7 +148,7 @@ reach_one : (x y : ℕ) (xs ys : List ℕ) (c u v c' u' v' : ℕ) → eqb x c �
 unfolding reaches
 reach_one x y xs ys c u v c' u' v' e f g h = rw (e, f, g, h) refl
 
--- a man on the image of a square reaches the image of what it reaches
+-- a man on the image of a square reaches the images of the squares that it reaches
 pub reaches_image : (n x d s c u v : ℕ) → x < 8 → d < 9 → s ≤ 64 → c ≤ 64 → u ≤ 64 → v ≤ 64
     → reaches (ray n (image_way x d) (image_square x s)) (image_square x c) (image_square x u) (image_square x v) ≡ reaches (ray n d s) c u v
 unfolding ray reaches
@@ -179,7 +179,7 @@ attacks_to ways n x a c u v kept l ba bc bu bv e =
     any_from (λ d. reaches (ray n d (image_square x a)) (image_square x c) (image_square x u) (image_square x v)) ways (image_way x z.0) k.1
     (reaches_image n x z.0 a c u v l k.0 ba bc bu bv ∙ z.2)
 
--- a man attacks the image of a square from the image of another where it attacks one from the other
+-- a man attacks the image of a square from the image of another if and only if it attacks the one square from the other
 pub attacks_image : (ways : List ℕ) (n x a c u v : ℕ) → are_ways_kept ways ≡ true → x < 8 → a ≤ 64 → c ≤ 64 → u ≤ 64 → v ≤ 64
     → attacks n ways (image_square x a) (image_square x c) (image_square x u) (image_square x v) ≡ attacks n ways a c u v
 attacks_image ways n x a c u v kept l ba bc bu bv =
@@ -204,7 +204,7 @@ pub piece_image : (q : Bool) (x a c u v : ℕ) → x < 8 → a ≤ 64 → c ≤ 
 unfolding piece_attacks
 piece_image q x a c u v l ba bc bu bv = attacks_image (piece_ways q) 7 x a c u v (piece_kept q) l ba bc bu bv
 
--- a king attacks a square from another where it attacks this from that
+-- a king attacks one square from another if and only if it attacks the second from the first
 abbrev is_mutual : ℕ → ℕ → Bool
 is_mutual a c = agree (king_attacks a c) (king_attacks c a)
 

@@ -1,4 +1,4 @@
--- Texts are plain, fit a line, and tell boards and moves apart.
+-- Texts are plain, fit a line, and distinguish boards and moves.
 use Rattle.std.specs.Prelude.{◌≡◌, ◌≢◌, ◌+◌, ◌<◌, ◌≤◌, ◌*◌, ◌/◌, ◌%◌, ◌-◌, ◌∷◌, ◌&&◌, if◌then◌else◌, slice_index}
 use Rattle.gm_pieces.specs.Common.{ℕ, zero, suc, Bool, true, false, eqb, eqb-true, eq-eqb, List, [], length, refl, sym, ap, ◌∙◌, arith, inl, inr, cases_Bool}
 use Rattle.gm_pieces.specs.Common.{true≢false, and_both, cond_both, list_all, is_plain, IsPlain, IsMove, AreTexts}
@@ -75,7 +75,7 @@ armed_plain q b h p =
     (and_both _ _ (file_plain b.piece) (and_both _ _ (row_plain b.piece p)
     (and_both _ _ (file_plain b.foe) (and_both _ _ (row_plain b.foe h.foe) (side_plain b.white_moves)))))))
 
--- ---- a text tells its board
+-- ---- a text determines its board
 side_told : (w : Bool) → eqb (side_char w) 119 ≡ w
 side_told true = refl
 side_told false = refl

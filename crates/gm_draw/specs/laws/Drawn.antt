@@ -1,4 +1,4 @@
--- Drawings tell positions apart: each byte of a position's text has a slot.
+-- Drawings distinguish positions: each byte of a position's text has a slot.
 use Rattle.std.proofs.Common.{◌≡◌, ℕ, ◌+◌, ◌-◌, ◌*◌, ◌<◌, ◌≤◌, Bool, true, false, cond, eqb, leb, eqb-true, List, [], ◌∷◌, map, length, get_or, refl, sym, ap}
 use Rattle.std.proofs.Common.{subst, ◌∙◌, arith, inl, inr}
 use Rattle.std.specs.Prelude.{if◌then◌else◌}
@@ -82,12 +82,12 @@ same_in_slot (x ∷ t) a b k e h l =
       | inr f ↦ same_in_slot t a b k tail (sym (ap (λ (c : Bool). cond c true (has_slot t k)) f) ∙ h) l
     ]
 
--- where the first n bytes have slots, texts with the same drawing have the same first n bytes
+-- if the first n bytes have slots, texts with the same drawing have the same first n bytes
 pub same_in_slots : (t a b : List ℕ) (n k : ℕ) → n ≤ 26 → has_slots t n ≡ true → filled t a ≡ filled t b → k < n → get_or a k 0 ≡ get_or b k 0
 unfolding filled has_slots
 same_in_slots t a b n k few slots e below = same_in_slot t a b k e (all_at (has_slot t) (range_with_len 0 n) k slots (contains_range n k below)) (omega arith)
 
--- texts of n bytes with the same drawing are the same
+-- texts of n bytes with the same drawing are equal
 pub filled_once : (t a b : List ℕ) (n : ℕ) → n ≤ 26 → has_slots t n ≡ true → length a ≡ n → length b ≡ n → filled t a ≡ filled t b → a ≡ b
 filled_once t a b n few slots la lb e = ext_get_or 0 a b (la ∙ sym lb) (λ k h. same_in_slots t a b n k few slots e (omega (arith, la)))
 
@@ -102,7 +102,7 @@ pub record IsTemplate (n : ℕ) (t : List ℕ) : Type 0 where
   pub slots : has_slots t n ≡ true
   pub fits : length t ≤ DRAWING
 
--- drawings by a template tell positions apart
+-- drawings by a template distinguish positions
 pub drawn_by : (r : Rules) (shown : Position → List ℕ) (move_shown : Position → ℕ → List ℕ) (mover : Position → List ℕ) (t : List ℕ) (n : ℕ)
     → IsShown r shown move_shown → ((p : Position) → r.is_legal p ≡ true → length (shown p) ≡ n) → IsTemplate n t → IsDrawn r (λ p. filled t (shown p)) mover
 drawn_by r shown move_shown mover t n s long h = record {
@@ -223,7 +223,7 @@ shisima_drawn = way_drawn 9 shisima ring_board shisima_tables ring_template
 pub tapatan_drawn : IsDrawn tapatan_rules (λ p. filled tapatan_board (way_text 9 tapatan p)) x_moves
 tapatan_drawn = way_drawn 9 tapatan tapatan_board tapatan_tables tapatan_template
 
--- ---- Hare and Hounds: who moves is no part of the board
+-- ---- Hare and Hounds: the side to move is not part of the board
 name_once : (a b : Bool) → hunt_mover a ≡ hunt_mover b → a ≡ b
 name_once true true e = refl
 name_once true false e = absurd (let z : ⊥ = cc in z)

@@ -1,4 +1,4 @@
--- The pictures of the games keep the laws of pictures.
+-- The pictures of the games satisfy the laws of pictures.
 use Rattle.std.proofs.Common.{◌≡◌, ◌↔◌, ℕ, ◌+◌, ◌*◌, ◌/◌, ◌%◌, ◌<◌, ◌≤◌, min, Bool, true, false, ◌&&◌, if◌then◌else◌, eqb, ltb, ltb-true, List, [], ◌∷◌, ◌++◌}
 use Rattle.std.proofs.Common.{map, length, refl, sym, subst, arith, inl, inr}
 use Rattle.std.proofs.lemmas.Bool.Decides.{nat_tests}
@@ -253,7 +253,7 @@ way_words n g h p m l c =
     let joined = (way_in g b m (move_in (way_game n g) b m c).can).joined in
     way_step_words n g m (joined_from n g h (from_point m) (to_point m) joined) (joined_to n g h (from_point m) (to_point m) joined)
 
--- with the names of its points, and a board that has a place for each
+-- a picture with the names of its points, and a board that has a slot for each
 way_pictured : (n : ℕ) (g : WayGame) (board : List ℕ) (points : List (List ℕ)) → IsWayGame n g → points ≡ map (way_name g) (range_with_len 0 n) → AreNames
     points n → IsPlaced board n
     → IsPictured (way_rules n g) (way_text n g) (way_move_text g) (λ p. filled board (way_text n g p)) Discs board points

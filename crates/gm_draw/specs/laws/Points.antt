@@ -1,4 +1,4 @@
--- The points of the boards: their names, told by computing, and a place for each.
+-- The points of the boards: their names, found by computation, and a slot for each.
 use Rattle.std.proofs.Common.{◌≡◌, ℕ, ◌*◌, ◌<◌, ◌≤◌, true, List, [], ◌∷◌, ◌++◌, map, length, get_or, refl, ◌∙◌, arith, zero-add, inl, inr}
 use Rattle.std.specs.Fmt.{decimal, digits}
 use Rattle.std.specs.Prelude.{count_by}
@@ -30,14 +30,14 @@ two_points f n a b l h = inr (f a, f b, named_point f n a l, named_point f n b h
 how_many : (f : ℕ → List ℕ) (n : ℕ) → length (map f (range_with_len 0 n)) ≡ n
 how_many f n = length-map (range_with_len 0 n) f ∙ length-range_with_len 0 n
 
--- what computing shows of the names of points
+-- what computation shows about the names of points
 pub record AreNames (points : List (List ℕ)) (n : ℕ) : Type 0 where
   pub many : length points ≡ n
   pub small : n ≤ 26
   pub named : list_all is_name points ≡ true
   pub apart : are_apart points ≡ true
 
--- what computing shows of a board with n places
+-- what computation shows about a board with n slots
 pub record IsPlaced (board : List ℕ) (n : ℕ) : Type 0 where
   pub places : list_all (has_place_once board) (range_with_len 0 n) ≡ true
   pub no_more : count_by is_slot board ≡ n
@@ -93,7 +93,7 @@ pub wheel_names : AreNames (number_points 10) 10
 unfolding number_points digits
 wheel_names = record { many = refl; small = omega arith; named = refl; apart = refl }
 
--- ---- boards with places
+-- ---- boards with slots
 pub nine_placed : (v : Variant) → IsPlaced (nine_points v) 9
 unfolding nine_points
 nine_placed TicTacToe = record { places = refl; no_more = refl }
@@ -147,7 +147,7 @@ pub hare_placed : IsPlaced hare_board 11
 unfolding hare_board
 hare_placed = record { places = refl; no_more = refl }
 
--- ---- how many points there are, and their names
+-- ---- the number of points, and their names
 pub square_many : (s : ℕ) → length (square_points s) ≡ s * s
 unfolding square_points
 square_many s = how_many (cell_text s) (s * s)

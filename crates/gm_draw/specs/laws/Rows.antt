@@ -1,4 +1,4 @@
--- The rows of numbers tell positions apart: the bracket stands after the numbers before the current one.
+-- The rows of numbers distinguish positions: the bracket comes after the numbers before the current one.
 use Rattle.std.proofs.Common.{◌≡◌, ℕ, ◌+◌, ◌<◌, ◌≤◌, Bool, true, cond, eqb, leb, eqb-true, List, [], ◌∷◌, length, refl, sym, ap, ◌∙◌, arith}
 use Rattle.std.specs.List.{list_all, range_with_len}
 use Rattle.std.specs.Prelude.{◌&&◌}
@@ -17,7 +17,7 @@ use Rattle.gm_draw.specs.Drawn.{IsDrawn}
 use Rattle.gm_draw.specs.Names.{player_moves}
 use Rattle.gm_draw.specs.Rows.{countdown_row, takeaway_row, wheel_row}
 
--- how many spaces stand before the bracket
+-- the number of spaces before the bracket
 abbrev spaces : List ℕ → ℕ
 spaces [] = 0
 spaces (b ∷ bs) = cond (eqb b 91) 0 (cond (eqb b 32) 1 0 + spaces bs)

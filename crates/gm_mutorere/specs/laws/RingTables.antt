@@ -1,4 +1,4 @@
--- Mu Torere in tables, as a game on points that ways join.
+-- Mu Torere in tables, as a game on points joined by ways.
 use Rattle.std.specs.Prelude.{◌≡◌, ◌∷◌}
 use Rattle.gm_pieces.specs.Common.{ℕ, true, List, [], refl, Empty, Mine, Theirs, IsGroup, is_group_table, group_from_table}
 use Rattle.gm_ways.specs.Ways.{WayGame}
@@ -6,7 +6,7 @@ use Rattle.gm_mutorere.specs.declared.ring.TheConstants.{RING}
 use Rattle.gm_mutorere.specs.Board.{mutorere_name, may_go, ring_symmetries}
 use Rattle.gm_mutorere.specs.Texts.{point_text}
 
--- a point of the ring is joined to the two beside it and to the center, and the center to all points of the ring
+-- a point of the ring is joined to its two neighbors on the ring and to the center, and the center to all points of the ring
 abbrev pub ring_ways : List (List ℕ)
 ring_ways =
     (7 ∷ 1 ∷ 8 ∷ []) ∷ (0 ∷ 2 ∷ 8 ∷ []) ∷ (1 ∷ 3 ∷ 8 ∷ []) ∷ (2 ∷ 4 ∷ 8 ∷ []) ∷ (3 ∷ 5 ∷ 8 ∷ []) ∷ (4 ∷ 6 ∷ 8 ∷ []) ∷ (5 ∷ 7 ∷ 8 ∷ []) ∷ (6 ∷ 0 ∷ 8 ∷ [])
