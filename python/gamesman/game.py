@@ -55,7 +55,7 @@ new_move: Any = partial(tuple.__new__, Move)
 def moves_of(answer: str) -> List[Move]:
     """Reads the moves of an answer. A text with an escape is left to the JSON reader."""
     found = MOVE.findall(answer)
-    if len(found) == answer.count('"moveValue":'):
+    if len(found) == answer.count("{") - 1:
         return [new_move((text, value, int(remoteness), result)) for text, value, result, remoteness in found]
     members = json.loads(answer)["moves"]
     return [Move(it["move"], it["moveValue"], it["moveRemoteness"], it["position"]) for it in members]
@@ -323,7 +323,7 @@ class Game:
         for answers in self._asker(words).ask(lines()):
             some = asked[: len(answers)]
             del asked[: len(answers)]
-            yield from zip(some, b"".join(answers).decode().splitlines())
+            yield from zip(some, b"".join(answers).decode().split("\n"))
 
     def _line(self, text: str, *words: str) -> str:
         """Asks for one position by a process with these words, and returns the line that answers it."""
