@@ -1,4 +1,4 @@
-//! Tables that are read from files, and judgements on files.
+//! The tables that files have.
 ghost use Rattle.std.specs.Prelude.{◌≤◌};
 ghost use Rattle.gm_table.specs.Tables.{AreHeld};
 
@@ -12,8 +12,7 @@ use gm_tierdb::decode::{decode, decode_v1};
 use gm_tierdb::file_error::FileError;
 use std::alloc::Global;
 
-/// The judgement on a file. It has the true table of its tier, in the present version or in version 1; or it hasn't; or its tier
-/// can't be judged.
+/// The judgement on a file: it has the true table of its tier, in the present version or in version 1, it has not, or nothing can be said of its tier.
 pub const ACCEPTED: char = '+';
 
 pub const ACCEPTED_OLD: char = '1';
@@ -24,7 +23,7 @@ pub const UNREAD: char = '?';
 
 const OUT_OF_MEMORY: char = '!';
 
-// Returns the table that records make, or the judgement on them.
+// The table that records make, or the judgement on them.
 fn checked<G: Game>(
     alloc: Global,
     tables: &Tables<G>,
@@ -41,7 +40,7 @@ fn checked<G: Game>(
     }
 }
 
-// Returns the table for the decoded file of a tier, or the judgement on it.
+// The table of what a file of a tier was decoded to, or the judgement on it.
 fn table_from<G: Game>(
     alloc: Global,
     tables: &Tables<G>,
@@ -60,7 +59,7 @@ fn table_from<G: Game>(
     table
 }
 
-/// Returns the true table of a tier, from its file of the present version, or the judgement on the file.
+/// The true table of a tier, by its file of the present version, or the judgement on the file.
 pub fn table_of<G: Game>(
     alloc: Global,
     tables: &Tables<G>,
@@ -73,7 +72,7 @@ pub fn table_of<G: Game>(
     table_from(alloc, tables, tier, decode::<G>(alloc, tier, file))
 }
 
-// Returns the true table of a tier, from its file of version 1, or the judgement on the file.
+// The same by its file of version 1.
 fn old_table_of<G: Game>(
     alloc: Global,
     tables: &Tables<G>,
@@ -86,7 +85,7 @@ fn old_table_of<G: Game>(
     table_from(alloc, tables, tier, decode_v1::<G>(alloc, tier, file))
 }
 
-/// Judges the file of a tier. Each version is tried, independently of the first bytes of the file.
+/// The judgement on the file of a tier: each version is tried, whatever the file begins with.
 pub fn judged<G: Game>(alloc: Global, tables: &Tables<G>, tier: u64, file: &[u8]) -> char {
     match table_of(alloc, tables, tier, file) {
         Ok(_) => ACCEPTED,

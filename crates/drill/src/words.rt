@@ -1,6 +1,6 @@
-//! Words that name a value.
+//! Words that stand for something.
 
-/// Returns the value that a word has in a table.
+/// What a word stands for in a table.
 pub fn named<T: Copy>(table: &[(&str, T)], word: &str) -> Option<T> {
     for (name, meaning) in table {
         if *name == word {

@@ -50,7 +50,7 @@ fn read_file<R: Files>(
     }
 }
 
-// Checks the text of a tier's file. Returns the finding, with the tier's table if it is right.
+// What the text that was read of a tier is found to be, with the tier's table where that is right.
 fn inspect<G: Game + Send + Sync, R: Threads + Sync>(
     rt: &R,
     alloc: Global,
@@ -74,8 +74,7 @@ fn inspect<G: Game + Send + Sync, R: Threads + Sync>(
     }
 }
 
-// Checks a tier's file. Returns the finding, with the tier's table if it is right. The tables of the right tiers before it are
-// given.
+// What a tier's file is found to be, with the tier's table where it is right. The tables of the tiers that are right are given.
 fn find<G: Game + Send + Sync, R: Threads + Files + Sync>(
     rt: &R,
     alloc: Global,
@@ -96,7 +95,7 @@ fn find<G: Game + Send + Sync, R: Threads + Files + Sync>(
     Ok(inspect(rt, alloc, tier, text, tables)?)
 }
 
-// Adds the table of a right tier to those that are held.
+// Holds the table of a tier that is right.
 fn hold<G: Game>(
     tier: u64,
     finding: Finding,
@@ -115,7 +114,7 @@ fn hold<G: Game>(
     }
 }
 
-// Prints the finding on a tier's file, and holds the table if it is right.
+// Prints what a tier's file is found to be, and holds its table where it is right.
 fn check_tier<
     G: Game + Send + Sync,
     R: Threads + Wait + Clock + Files + Sync + AllocGlobal,
@@ -144,7 +143,7 @@ fn check_tier<
     Ok(finding)
 }
 
-// Prints the findings on the files of these tiers, and returns the exit status.
+// Prints for each of these tiers what its file is found to be, and answers the status to end with.
 fn check_tiers<
     G: Game + Send + Sync,
     R: Threads + Wait + Clock + Files + Sync + AllocGlobal,
@@ -172,7 +171,7 @@ fn check_tiers<
     Ok(status)
 }
 
-// Returns the order of the game's tiers.
+// The order of the game's tiers.
 fn order_of<G: Game>(alloc: Global) -> Result<TierOrder<G>, Fault>
     ensures order { IfOk result (IsTierOrder G.rules) }
     ensures unbuilt { IfErr result (IsUnbuilt G.rules G.rules.initial.tier) }
@@ -180,8 +179,7 @@ fn order_of<G: Game>(alloc: Global) -> Result<TierOrder<G>, Fault>
     Ok(TierOrder::from_initial(alloc)?)
 }
 
-/// Prints for each tier the finding on its file in a folder, in the order of tiers. The status is 0 if all files are right, and
-/// otherwise 1.
+/// Prints for each tier what its file in a folder is found to be, in the order of tiers. The status is 0 where all are right, and else 1.
 pub fn check<
     G: Game + Send + Sync,
     R: Threads + Wait + Clock + Files + Sync + AllocGlobal,

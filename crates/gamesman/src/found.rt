@@ -1,4 +1,4 @@
-//! Printing the positions that a search finds.
+//! The positions that a search finds, as they are printed.
 ghost use Rattle.std.specs.Prelude.{◌≡◌, ◌⊎◌, ◌++◌, ℕ, Some, [], ◌∷◌, IfOk, OnOk, IfErr, is_some};
 ghost use Rattle.std.specs.List.{All, flat_map};
 ghost use Rattle.gm_tiers.specs.Orders.{IsOrderFrom};
@@ -31,8 +31,7 @@ use gm_table::tables::Tables;
 use std::alloc::{AllocError, Global};
 use std::io::Write;
 
-/// Writes the positions that a search finds. They are written tier by tier as they are found, except that a sheet and positions
-/// chosen by chance are written when all are found.
+/// Writes the positions that are looked for: tier by tier as they are found; a sheet of them, and those that chance takes, when all are found.
 pub fn write_found<G: Pictured, O: Write>(
     alloc: Global,
     built: &Built<G>,
@@ -50,7 +49,7 @@ pub fn write_found<G: Pictured, O: Write>(
     done
 }
 
-// Writes the positions as `write_found` does. The positions that play reaches are given if the search is limited to them.
+// The same, where the positions that play reaches are known if they are asked for.
 fn write_among<G: Pictured, O: Write>(
     alloc: Global,
     built: &Built<G>,
@@ -83,7 +82,7 @@ fn write_among<G: Pictured, O: Write>(
     }
 }
 
-// Writes the found positions of these tiers.
+// Writes those of these tiers.
 fn write_in<G: Pictured, O: Write>(
     alloc: Global,
     known: &KnownTiers<'_, G>,
@@ -105,8 +104,7 @@ fn write_in<G: Pictured, O: Write>(
     }
 }
 
-// Returns the limit for positions that are written tier by tier. `None` means that they are written at once: a sheet, or positions
-// chosen by chance.
+// How many at most are written tier by tier; `None` where all are at once: a sheet, and those that chance takes.
 fn limit_of(asked: PositionSearch) -> Option<usize>
     ensures { result ≡ limit_by_tier asked.form asked.choice }
 {
@@ -125,7 +123,7 @@ fn limit_for(choice: Choice) -> Option<usize>
     }
 }
 
-// Writes the found positions of one tier after another, up to the limit.
+// Writes those of one tier after another, up to the limit.
 fn write_by_tier<G: Pictured, O: Write>(
     alloc: Global,
     known: &KnownTiers<'_, G>,
@@ -151,7 +149,7 @@ fn write_by_tier<G: Pictured, O: Write>(
     Ok(DONE)
 }
 
-// Writes the found positions of one tier, up to this limit, and returns their number.
+// Writes those of one tier, at most so many, and answers how many they are.
 fn write_tier<G: Pictured, O: Write>(
     alloc: Global,
     tables: &Tables<G>,
@@ -174,7 +172,7 @@ fn write_tier<G: Pictured, O: Write>(
     Ok(found.len())
 }
 
-// Finds the positions of one tier, up to this limit.
+// The positions of one tier, at most so many.
 fn found_in<G: Pictured>(
     alloc: Global,
     tables: &Tables<G>,
@@ -196,7 +194,7 @@ fn found_in<G: Pictured>(
     Ok(found)
 }
 
-// Returns all chosen positions as one text.
+// All that the choice takes, as one text.
 fn text_at_once<G: Pictured>(
     alloc: Global,
     known: &KnownTiers<'_, G>,
@@ -214,7 +212,7 @@ fn text_at_once<G: Pictured>(
     }
 }
 
-// Returns the sheet of the chosen positions.
+// The sheet of them.
 fn sheet_at_once<G: Pictured>(
     alloc: Global,
     known: &KnownTiers<'_, G>,
@@ -231,7 +229,7 @@ fn sheet_at_once<G: Pictured>(
     Ok(sheet)
 }
 
-// Returns the lines of the chosen positions.
+// The lines of them.
 fn lines_at_once<G: Pictured>(
     alloc: Global,
     known: &KnownTiers<'_, G>,
@@ -249,7 +247,7 @@ fn lines_at_once<G: Pictured>(
     Ok(lines)
 }
 
-// Returns found positions as a text other than a sheet.
+// Found positions as a text that is no sheet.
 fn lines_of<G: Pictured>(alloc: Global, found: &[Found], form: Form) -> Result<Vec<u8>, AllocError>
     requires found { All (IsFound G.Game.rules) found.now }
     requires lines { form ≡ Sheet → ⊥ }
@@ -264,7 +262,7 @@ fn lines_of<G: Pictured>(alloc: Global, found: &[Found], form: Form) -> Result<V
     }
 }
 
-// Returns a row for each found position, below its board.
+// A row for each found position, below its board.
 fn board_rows<G: Pictured>(alloc: Global, found: &[Found]) -> Result<Vec<u8>, AllocError>
     requires { All (IsFound G.Game.rules) found.now }
     ensures { IfOk result (λ v. v.items

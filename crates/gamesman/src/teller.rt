@@ -1,4 +1,4 @@
-//! Progress reports of a build or a check on standard error.
+//! Reports on standard error how far a build or a check is.
 
 use crate::live::Live;
 use gm_build::progress::Progress;
@@ -10,8 +10,7 @@ use std::io::Write;
 use std::sync::Wait;
 use std::time::Clock;
 
-/// The reporter of a build: by lines, by one line at a terminal, or not at all. One type covers all three, since a build is
-/// compiled once for each type of observer.
+/// Reports a build by lines, by one line at a terminal, or not at all. One type for all three, since a build is compiled once for each type of observer.
 #[derive(Drop)]
 pub enum Teller<'a, G: Game, C, E: Write> {
     Lines(Progress<'a, C, E>),
@@ -19,7 +18,7 @@ pub enum Teller<'a, G: Game, C, E: Write> {
 }
 
 impl<'a, G: Game, C: Clock, E: Write> Teller<'a, G, C, E> {
-    /// Returns the reporter for a build or a check of these tiers.
+    /// Returns what reports a build of these tiers, or a check of them.
     pub fn new(clock: &'a C, errors: &'a mut E, telling: Telling, tiers: &[u64]) -> Self {
         match telling {
             Telling::Quiet => Teller::Lines(Progress::quiet(clock, errors)),
@@ -28,7 +27,7 @@ impl<'a, G: Game, C: Clock, E: Write> Teller<'a, G, C, E> {
         }
     }
 
-    /// Removes the line at a terminal, if there is one.
+    /// Takes a line at a terminal away.
     pub fn clear(&self) {
         match self {
             Teller::Lines(_) => {}
@@ -37,7 +36,7 @@ impl<'a, G: Game, C: Clock, E: Write> Teller<'a, G, C, E> {
     }
 }
 
-// Returns the number of indexes that these tiers have together.
+// How many indexes these tiers have together.
 fn indexes_of<G: Game>(tiers: &[u64]) -> u64 {
     let mut all = 0u64;
     for tier in tiers {

@@ -1,4 +1,4 @@
--- Tables stay closed when a table is added whose child tiers are held.
+-- Tables stay closed when the table of a tier is held whose child tiers are.
 use Rattle.std.proofs.Common.{◌≡◌, ◌==◌, ℕ, ◌⊎◌, ◌↔◌, inl, inr, zero, suc, true, false, if◌then◌else◌, List, [], Some, IsSome, refl, ap, sym, subst, ◌∙◌}
 use Rattle.std.proofs.Common.{eqb-true, eq-eqb}
 use Rattle.gm_game.specs.Rules.{Rules}

@@ -1,4 +1,4 @@
--- The reason for a refusal, from the reason why a step has failed.
+-- Why there is no answer, from why a step has failed.
 use Rattle.std.proofs.Common.{◌≡◌, ◌<◌, ℕ, List, Option, Some, slice_get, subst}
 use Rattle.gm_game.specs.declared.position.Solved.{Solved}
 use Rattle.gm_game.specs.Rules.{Rules}
@@ -9,7 +9,7 @@ use Rattle.gm_web.specs.declared.refusal.Refusal.{Refusal}
 use Rattle.gm_web.specs.declared.refusal.Refusal.TheVariants.{Memory, Order, Records, TooFar, Room, Position as NoPosition, NotSolved}
 
 module _ (r : Rules) where
-  -- if the bytes of a tier are refused, so are all bytes that they are a part of
+  -- the bytes of a tier are refused, and so all of which they are a part
   pub unchecked : (tiers all : List ℕ) (tier : ℕ) (bytes : List ℕ) → (AreTrue r tiers all → IsTrueTier r tier bytes) → (e : Refusal)
       → IsTierUnchecked r tier bytes e → IsUnchecked r tiers all e
   unchecked tiers all tier bytes is Memory why = tt
@@ -20,14 +20,14 @@ module _ (r : Rules) where
   unchecked tiers all tier bytes is NoPosition why = why
   unchecked tiers all tier bytes is NotSolved why = why
 
-  -- a record of a true table whose remoteness is too great is that of a position
+  -- a record of a true table that is too far is that of a position
   pub far : (tier : ℕ) (t : TableData) → IsTable r t → t.tier ≡ tier → (index : ℕ) (s : Solved) → slice_get t.records index ≡ Some (Some s) → 31 < s.remoteness
       → IsFar r tier
   far tier t is same index s there more =
       let (canonical, value, near) = is.is_true.each index (Some s) there in
       subst (IsFar r) same (index, s.value, s.remoteness, canonical, value, more)
 
-  -- if the records of a table are refused, so is the tier
+  -- the records of a table are refused, and so is the tier
   pub unsolved : (tier room : ℕ) (t : TableData) → IsTable r t → t.tier ≡ tier → (e : Refusal) → IsUnadded t.records e → IsUnsolved r tier room e
   unsolved tier room t is same Memory why = tt
   unsolved tier room t is same TooFar (index, s, there, more) = far tier t is same index s there more

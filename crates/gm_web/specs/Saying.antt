@@ -1,11 +1,11 @@
--- The answers to lines.
+-- What lines are answered.
 use Rattle.std.specs.Prelude.{ℕ, ◌/◌, ◌%◌, ◌==◌, List}
 use Rattle.gm_game.specs.declared.position.Position.{Position}
 use Rattle.gm_game.specs.Rules.{Rules}
 use Rattle.gm_json.specs.declared.asked.Asked.{Asked}
 use Rattle.gm_json.specs.Answers.{IsAnswer}
 
--- the options that bits stand for
+-- what bits ask for
 abbrev pub asked_of : ℕ → Asked
 asked_of bits = record {
   values = bits % 2 == 1;
@@ -18,6 +18,6 @@ asked_of bits = record {
   };
 }
 
--- the answer about a position
+-- what is asked for of a position
 abbrev pub Says : Rules → (Position → List ℕ) → (Position → ℕ → List ℕ) → ℕ → List ℕ → List ℕ → ℕ → List ℕ → Type 0
 Says r shown move_shown bits tiers = IsAnswer r shown move_shown (asked_of bits) tiers

@@ -1,4 +1,4 @@
-//! The work of the exports, for any game.
+//! What the exports do, for any game.
 ghost use Rattle.std.specs.Prelude.{◌≡◌, ◌≢◌, ◌≤◌, ◌<◌, ◌^◌, ◌++◌, ◌∷◌, [], ℕ, List, true, false, OnOk, IfOk, IfErr, IsErrOf, length, take};
 ghost use Rattle.gm_table.specs.Tables.{AreHeld, IsTable};
 ghost use Rattle.gm_table.specs.Solving.{AreDeliveries};
@@ -30,7 +30,7 @@ use gm_tiers::order::TierOrder;
 use gm_tiers::tier_error::TierError;
 use std::alloc::Global;
 
-/// The exclusive upper bound of the numbers that the host receives, apart from refusals.
+/// A number that the host is given is smaller.
 const MOST: u64 = 0x8000_0000_0000_0000;
 
 /// Writes the tiers of a game, child tiers first.
@@ -56,7 +56,7 @@ fn order_of<G: Game>(alloc: Global) -> Result<TierOrder<G>, Refusal>
     }
 }
 
-// Writes these tiers at the beginning, and returns their number.
+// Writes these tiers at the beginning, and returns how many there are.
 fn put_tiers(tiers: &[u64], out: &mut [u64]) -> Result<usize, Refusal>
     ensures few { IfOk result (λ n. n < 2 ^ 63) }
     ensures same { IfOk result (λ n. take n out.new ≡ tiers.now) }
@@ -70,7 +70,7 @@ fn put_tiers(tiers: &[u64], out: &mut [u64]) -> Result<usize, Refusal>
     Ok(number)
 }
 
-// Adds a table. The tables of its child tiers must be held.
+// Holds a table when the tables of its child tiers are held.
 fn hold<G: Game>(tables: &mut Tables<G>, table: Table<G>) -> Result<(), Refusal>
     requires closed { AreClosed G.rules tables.old }
     requires children { AreHeld G.rules tables.old table.tier }
@@ -83,7 +83,7 @@ fn hold<G: Game>(tables: &mut Tables<G>, table: Table<G>) -> Result<(), Refusal>
     }
 }
 
-// Tests whether a tier can be solved or checked: it is small enough, and its child tiers are held.
+// Returns whether a tier can be solved or checked: it is small, and its child tiers are held.
 fn is_next<G: Game>(tables: &Tables<G>, tier: u64) -> bool
     ensures small { result ≡ true → G.rules.tier_size tier ≤ TIER_SIZE }
     ensures held { result ≡ true → AreHeld G.rules tables.now tier }
@@ -159,7 +159,7 @@ fn hold_true<G: Game>(
     hold(tables, Table::from_packed(tier, records))
 }
 
-// Holds the tables of these tiers, from these records, one tier after another.
+// Holds the tables of these tiers, which have these records, one tier after another.
 fn hold_all<G: Game>(
     alloc: Global,
     tables: &mut Tables<G>,
@@ -184,7 +184,7 @@ fn hold_all<G: Game>(
     Ok(())
 }
 
-// Solves a tier. Returns its table and the number of deliveries.
+// Solves a tier: returns its table and the number of deliveries.
 fn solve<G: Game>(alloc: Global, tables: &Tables<G>, tier: u64) -> Result<(Table<G>, u64), Refusal>
     ensures table { IfOk result (λ answer. IsTable G.rules answer.0) }
     ensures tier { IfOk result (λ answer. answer.0.tier ≡ tier) }
@@ -202,7 +202,7 @@ fn solve<G: Game>(alloc: Global, tables: &Tables<G>, tier: u64) -> Result<(Table
     }
 }
 
-/// Solves a tier from the records of these tiers. Writes its records, and returns the number of deliveries.
+/// Solves a tier when these tiers have these records: writes its records, and returns the number of deliveries.
 pub fn solve_next<G: Game>(
     alloc: Global,
     solved: &[u64],
@@ -228,7 +228,7 @@ pub fn solve_next<G: Game>(
     Ok(deliveries)
 }
 
-// Writes bytes into room of exactly their size, and refuses room of any other size.
+// Writes bytes when there is exactly as much room.
 fn put_bytes(bytes: &Vec<u8>, out: &mut [u8]) -> Result<(), Refusal>
     ensures same { OnOk result (out.new ≡ bytes.now.items) }
     ensures refused { IfErr result (λ e. (e ≡ Refusal.Room) × (length bytes.now.items ≢ length out.old)) }
@@ -257,7 +257,7 @@ fn solve_and_hold<G: Game>(
     hold(tables, table)
 }
 
-/// Solves all tiers of a game. Writes the tiers, child tiers first, and their records, one tier after another.
+/// Solves all tiers of a game: writes them, child tiers first, and their records, one tier after another.
 pub fn solve_game<G: Game>(
     alloc: Global,
     order: &mut [u64],
@@ -287,7 +287,7 @@ fn solve_tiers<G: Game>(alloc: Global, tiers: &[u64]) -> Result<Vec<u8>, Refusal
     Ok(bytes)
 }
 
-/// Answers lines from the records of these tiers.
+/// Answers lines when these tiers have these records.
 pub fn ask_lines<G: Shown>(
     alloc: Global,
     solved: &[u64],
@@ -313,7 +313,7 @@ pub fn ask_lines<G: Shown>(
     Ok(number)
 }
 
-// Returns the options that these bits stand for.
+// Returns what these bits ask for.
 fn asked_of(bits: u32) -> Asked
     ensures { result ≡ asked_of bits }
 {

@@ -1,8 +1,8 @@
-//! Reasons for refusals.
+//! Why there is no answer.
 ghost use Rattle.std.specs.Prelude.{◌≡◌};
 ghost use Rattle.gm_web.specs.Replies.{number_of};
 
-/// The reason why there is no answer.
+/// Why there is no answer.
 #[derive(Clone, Copy, Debug, PartialEq, Eq)]
 pub enum Refusal {
     /// There is no memory left.
@@ -11,13 +11,13 @@ pub enum Refusal {
     Order,
     /// The bytes are not the records of the tiers.
     Records,
-    /// The remoteness of a position of the tier is too great for a byte.
+    /// A position of the tier is further from its end than a byte holds.
     TooFar,
-    /// There is less room than the answer takes, or the room for the records has another size.
+    /// There is less room than the answer takes, or the room is not that of the records.
     Room,
     /// No canonical position has this index of the tier.
     Position,
-    /// A line names a position of a tier that is not among the given ones.
+    /// A line names a position of a tier that is not among those given.
     NotSolved,
 }
 

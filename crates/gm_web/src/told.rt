@@ -1,4 +1,4 @@
-//! The answers of the exports, for any game: a number, or a refusal with its reason.
+//! What the exports answer, for any game: a number, or a refusal with its reason.
 ghost use Rattle.std.specs.Prelude.{◌≡◌, ◌+◌, ◌<◌, ◌^◌, IfOk, IfErr, OnOk};
 ghost use Rattle.gm_web.specs.Games.{played};
 ghost use Rattle.gm_web.specs.Records.{AreTrue};
@@ -10,7 +10,7 @@ use gm_game::game::Game;
 use gm_game::shown::Shown;
 use std::alloc::Global;
 
-/// The first number that is a refusal. It is the answer if there is no such game.
+/// Numbers from this one on are refusals. This one comes where there is no such game.
 pub const REFUSED: u64 = 0xffff_ffff_ffff_ff00;
 
 // Returns the number, or that of the refusal.
@@ -24,7 +24,7 @@ fn number_or(done: Result<u64, Refusal>) -> u64
     }
 }
 
-// Returns the count, or the number of the refusal.
+// Returns how many there are, or the number of the refusal.
 fn count_or(done: Result<usize, Refusal>) -> u64
     ensures ok { IfOk done (λ n. result ≡ n) }
     ensures refused { IfErr done (λ e. result ≡ refused + number_of e) }
@@ -46,7 +46,7 @@ fn status_of(done: Result<(), Refusal>) -> u64
     }
 }
 
-/// Returns the number of indexes of a tier.
+/// Returns how many indexes a tier has.
 pub fn tell_size<G: Shown>(tier: u64) -> u64
     ensures { result ≡ G.Game.rules.tier_size tier }
 {

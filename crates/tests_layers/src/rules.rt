@@ -1,4 +1,4 @@
-//! Worked positions of boards, the toys and Tac Tix, and orders of tiers.
+//! What boards, the toys and Tac Tix say of worked positions, and orders of tiers.
 mod asking;
 mod boards;
 mod chain;
