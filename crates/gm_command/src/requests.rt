@@ -1,4 +1,4 @@
-//! The requests that a line of words can make.
+//! What a line of words can ask for.
 
 use crate::asked::Help;
 use crate::manual::Manual;
@@ -9,29 +9,29 @@ use gm_find::sought::{Choice, Sought};
 use gm_json::asked::Asked as PositionJson;
 use gm_solver::plan::Plan;
 
-/// The place where the tables of a game are kept.
+/// Where the tables of a game are kept.
 #[derive(Clone, Copy)]
 pub struct TableLocation<'a> {
-    /// The folder. Without one the tables are kept in memory.
+    /// The folder; tables are kept in memory where there is none.
     pub folder: Option<&'a str>,
     /// Whether the folder is only read.
     pub read_only: bool,
 }
 
-/// A question about a position.
+/// What is asked about a position.
 #[derive(Clone, Copy, Debug, PartialEq, Eq)]
 pub enum Question {
-    /// The value of each move. With `distinct`, only the first of several moves that lead to one canonical position.
+    /// What each move is worth; with `distinct`, of several moves that lead to one canonical position only the first.
     Moves { distinct: bool, json: bool },
-    /// The value of each move, the best answer to it, and the position after that.
+    /// What each move is worth, the best answer to it, and what is left.
     Why,
     /// Best play of both sides, of at most this many moves.
     Line { limit: usize, json: bool },
-    /// The board and the value; on request, also how cells, positions and moves are written.
+    /// The board and the value; where an explanation is asked for, also how cells, positions and moves are written.
     Show { explained: bool },
-    /// The board as a diagram for print; on request, with the value under it.
+    /// The board as a diagram for print, with the value under it where that is asked for.
     Diagram { valued: bool },
-    /// A page that explores at most this many of the positions that play reaches.
+    /// A page that explores at most this many positions that play reaches.
     Page { limit: usize },
 }
 
@@ -42,16 +42,16 @@ pub struct PositionRequest<'a> {
     pub question: Question,
 }
 
-/// A question about each position of the input.
+/// What is asked of each position that is read.
 #[derive(Clone, Copy, Debug, PartialEq, Eq)]
 pub enum Filter {
     /// Its value.
     Value,
-    /// The value of each of its moves, as in `Question::Moves`.
+    /// What each of its moves is worth, as `Question::Moves`.
     Moves { distinct: bool, json: bool },
 }
 
-/// The form in which found positions are written.
+/// How positions that are found are written.
 #[derive(Clone, Copy, Debug, PartialEq, Eq)]
 pub enum Form {
     /// A row for each.
@@ -64,81 +64,81 @@ pub enum Form {
     Boards,
 }
 
-/// A search for positions.
+/// Positions that are looked for.
 #[derive(Clone, Copy, Debug, PartialEq, Eq)]
 pub struct PositionSearch {
     pub sought: Sought,
-    /// The one tier to search. Without one all tiers are searched.
+    /// The one tier to look in; all tiers where there is none.
     pub tier: Option<u64>,
-    /// Whether the search is limited to positions that play from the start reaches.
+    /// Whether only positions that play from the start reaches are looked for.
     pub reached: bool,
-    /// Which of the found positions are returned.
+    /// Which of them are answered.
     pub choice: Choice,
-    /// The form in which they are written.
+    /// How they are written.
     pub form: Form,
 }
 
-/// A request for counts of positions.
+/// Positions that are counted.
 #[derive(Clone, Copy, Debug, PartialEq, Eq)]
 pub struct CountsRequest {
     pub among: Among,
-    /// Whether each tier is counted separately.
+    /// Whether each tier is counted by itself.
     pub by_tier: bool,
-    /// Whether the counts are limited to positions that play from the start reaches.
+    /// Whether only positions that play from the start reaches are counted.
     pub reached: bool,
-    /// The form in which the counts are written.
+    /// How the counts are written.
     pub form: CountsForm,
 }
 
-/// A request for the service that answers positions.
+/// A service that is asked for.
 #[derive(Clone, Copy, Debug, PartialEq, Eq)]
 pub struct AskRequest {
-    /// The answer that each position gets.
+    /// What is asked of each position.
     pub asked: PositionJson,
-    /// Whether a first line reports that the tables are ready.
+    /// Whether a first line tells that the tables are there.
     pub ready: bool,
 }
 
-/// A question about all tables of a game.
+/// What is asked of all tables of a game.
 #[derive(Clone, Copy, Debug, PartialEq, Eq)]
 pub enum TableRequest {
     Find(PositionSearch),
-    /// The number of positions of each value and remoteness.
+    /// How many positions there are of each value and remoteness.
     Counts(CountsRequest),
-    /// The longest wins and the longest losses, at most this many of each; on request, only those that play reaches.
+    /// The longest wins and the longest losses, of each at most this many; on request, of those that play reaches.
     Longest { reached: bool, limit: usize },
-    /// An answer to each position of the input.
+    /// An answer to each position that is read.
     Ask(AskRequest),
 }
 
-/// A request to solve a game into a folder.
+/// A game that is to be solved into a folder.
 #[derive(Clone, Copy)]
 pub struct SolveRequest<'a> {
     pub folder: &'a str,
     pub plan: Plan,
 }
 
-/// How progress is reported on standard error while a game is built or checked.
+/// How standard error is told, while a game is built or checked, how far that is.
 #[derive(Clone, Copy, Debug, PartialEq, Eq)]
 pub enum Telling {
-    /// By one line that is removed at the end, if standard error is a terminal.
+    /// By one line that is gone at the end, where standard error is a terminal.
     Terminal,
-    /// By lines, to a terminal or not.
+    /// By lines, wherever they go.
     Lines,
     Quiet,
 }
 
-/// A request for a session of play.
+/// A session that is asked for.
 #[derive(Clone, Copy)]
 pub struct PlayRequest<'a> {
-    /// The position to start from. Without one the session starts at the game's start.
+    /// The position to start from; the game's start where there is none.
     pub position: Option<&'a str>,
     pub first: Side,
     /// Whether the board is drawn before each question.
     pub drawn: bool,
 }
 
-/// A request about one game.
+/// What is asked of one game.
 #[derive(Clone, Copy)]
 pub enum GameRequest<'a> {
     Solve(SolveRequest<'a>),
@@ -146,18 +146,18 @@ pub enum GameRequest<'a> {
         position: &'a str,
         kept: TableLocation<'a>,
     },
-    /// Questions about the positions of the input, one in each line.
+    /// Questions about positions that are read, a line each.
     Filter {
         asked: Filter,
         kept: TableLocation<'a>,
     },
-    /// The position at a tier and index.
+    /// What stands at a tier and index.
     At {
         tier: u64,
         index: u64,
         kept: TableLocation<'a>,
     },
-    /// The tier and index of a position.
+    /// Where a position stands.
     Locate {
         position: &'a str,
     },
@@ -179,14 +179,14 @@ pub enum GameRequest<'a> {
         asked: PlayRequest<'a>,
         kept: TableLocation<'a>,
     },
-    /// How its positions and moves are written, for a person at a terminal. No line of words makes only this request.
+    /// How its positions and moves are written, for a person at a terminal. No line of words asks for this alone.
     Naming,
 }
 
-/// A request that a line of words makes.
+/// What a line of words asks for.
 #[derive(Clone, Copy)]
 pub enum Request<'a> {
-    /// The names of the games; on request, also those that were added later.
+    /// The names of the games, with those that came later if all are asked for.
     List {
         all: bool,
     },
@@ -199,7 +199,7 @@ pub enum Request<'a> {
     Manual(Manual),
 }
 
-/// The reading of a line of words: a request, or a text that the command line itself makes.
+/// What a line of words is read as: something that it asks for, or a text that the command line itself makes.
 #[derive(Drop)]
 pub enum Reading<'a> {
     Request(Request<'a>),

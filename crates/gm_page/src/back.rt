@@ -1,7 +1,6 @@
 //! The last part of a page: the script that shows the lines of its data.
 
-/// The text after the lines of a page's data: the end of their element, and the script that shows them. The script has no rules of
-/// a game and computes no value.
+/// What stands after the lines of a page's data: the end of their element, and the script that shows them. It knows no rules of a game and computes no value.
 pub const BACK: &[u8] = br##"</script>
 <script>
 "use strict";
