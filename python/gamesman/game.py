@@ -44,21 +44,38 @@ class Move(NamedTuple):
         return self.text
 
 
-# A move of an answer, and what follows its moves (docs/FORMATS.md). Reading these takes half the time of a JSON reader, which makes a dict of each move.
-MOVE = re.compile(r'"move":"([^"\\]*)","moveValue":"(\w+)","position":"([^"\\]*)","positionValue":"\w+","remoteness":\d+,"moveRemoteness":(\d+)')
+# What follows the moves of an answer (docs/FORMATS.md).
 POSITION = re.compile(r'\],"position":"([^"\\]*)","positionValue":"(\w+)","remoteness":(\d+)\}')
+
+# Cut at its quotation marks, an answer has 3 pieces, then 20 for each move, of which 4 are read, and 10 about the position. Reading them takes half the
+# time of a JSON reader, which makes a dict of each move.
+HEAD, PIECES, TAIL = 3, 20, 10
+TEXT, VALUE, RESULT, REMOTENESS = 5, 9, 13, 22
 
 # Makes a move of its fields without a call of Python code.
 new_move: Any = partial(tuple.__new__, Move)
 
 
+class Numbers(Dict[str, int]):
+    """The numbers in pieces such as `:7},{`. Each piece is read once."""
+
+    def __missing__(self, piece: str) -> int:
+        number = self[piece] = int(piece.strip(":,{}[]"))
+        return number
+
+
+number_in = Numbers().__getitem__
+
+
 def moves_of(answer: str) -> List[Move]:
-    """Reads the moves of an answer. A text with an escape is left to the JSON reader."""
-    found = MOVE.findall(answer)
-    if len(found) == answer.count("{") - 1:
-        return [new_move((text, value, int(remoteness), result)) for text, value, result, remoteness in found]
-    members = json.loads(answer)["moves"]
-    return [Move(it["move"], it["moveValue"], it["moveRemoteness"], it["position"]) for it in members]
+    """Reads the moves of an answer. An answer with an escape is left to the JSON reader."""
+    pieces = answer.split('"')
+    if "\\" in answer or len(pieces) % PIECES != HEAD + TAIL:
+        members = json.loads(answer)["moves"]
+        return [Move(it["move"], it["moveValue"], it["moveRemoteness"], it["position"]) for it in members]
+    texts = pieces[TEXT:-TAIL:PIECES]
+    numbers = map(number_in, pieces[REMOTENESS::PIECES])
+    return list(map(new_move, zip(texts, pieces[VALUE::PIECES], numbers, pieces[RESULT::PIECES])))
 
 
 def value_of(answer: str) -> Tuple[str, str, int]:

@@ -1,4 +1,4 @@
-"""What a page says of each game, in its first line: the board, the names of its points, its men and its sides (docs/PROGRAM.md)."""
+"""What a page says of each game, in its first line: the board, the names of its points, its men and its sides (docs/FORMATS.md)."""
 
 NINE = "    1   2   3\n"
 RING = "H---A---B\n| \\ | / |\nG---I---C\n| / | \\ |\nF---E---D"

@@ -12,6 +12,7 @@ ENDS = (
     "lines: 150 passed, 0 failed",
     "terminal: 5 passed, 0 failed",
     "page: 20 pages, 4 sheets, 0 faults; no browser here, so nothing was clicked",
+    "web: a page of 400000 bytes; 30000 answers, 300 refusals; the page tried in Chromium; 0 faults",
     "hostile: 5 passed, 0 failed",
     "python: 27 tests, 0 failed",
     "release: 5 files equal to the byte (made.deb 9), 0 faults",
@@ -54,9 +55,9 @@ def wrong(room):
     if lost:
         return f"the text on what was proved does not have {lost}"
     program = f"{proved.sum_of_program()}  crates/gamesman/out/gamesman"
-    needed = [ENDS[0], *ENDS[2:8], whole[1], whole[2], program, VERDICT.format(1), f"rt: {proved.crates()[0]} proved"]
+    needed = [ENDS[0], *ENDS[2:9], whole[1], whole[2], program, VERDICT.format(1), f"rt: {proved.crates()[0]} proved"]
     bad = [[line for line in whole if line != gone] for gone in needed]
-    bad += [[line.replace(", 0 fa", ", 1 fa") if line == changed else line for line in whole] for changed in (ENDS[0], *ENDS[2:8])]
+    bad += [[line.replace(" 0 fa", " 1 fa") if line == changed else line for line in whole] for changed in (ENDS[0], *ENDS[2:9])]
     bad += [[line.replace(commit, it) for line in whole] for it in ("0" * 40, f"{commit}-dirty")]
     kept = [lines for lines in bad if lines == whole or text_of(lines, commit, room)]
     return f"{len(kept)} logs that are not whole are taken for whole ones" if kept else None

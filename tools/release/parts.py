@@ -1,4 +1,5 @@
 """What a release has: each file with its mode and its bytes, in the archive and in the Debian package."""
+import glob
 import gzip
 import os
 import re
@@ -11,7 +12,8 @@ GAMESMAN = os.path.join(ROOT, "crates/gamesman/out/gamesman")
 NAME = "gamesman"
 MAINTAINER = "Fegbolaru maintainers <maintainers@users.noreply.fegbolaru.example>"
 
-PICTURES = ("docs/pictures/explorer.png", "docs/pictures/explorer-dark.png")
+BOARDS = sorted(os.path.relpath(path, ROOT) for path in glob.glob(os.path.join(ROOT, "docs/pictures/board-*.svg")))
+PICTURES = ("docs/pictures/explorer.png", "docs/pictures/explorer-dark.png", *BOARDS)
 
 # The pages of the repository that a user of the program reads.
 PAGES = ("README.md", "docs/PROGRAM.md", "docs/GAMES.md", "docs/FORMATS.md", "docs/CHANGELOG.md", *PICTURES)

@@ -4,13 +4,14 @@ import re
 
 from parts import GAMESMAN, Refused, read, told
 
-# The last line of each part of the gate, and whether it says that all is well.
+# The last line of each part of the gate, if all is well.
 ENDS = {
     "docs": r"docs: \d+ pages, 0 faults",
     "proofs, edits, tests and programs": r"\d+ passed, 0 failed",
     "lines": r"lines: \d+ passed, 0 failed",
     "terminal": r"terminal: \d+ passed, 0 failed",
     "pages": r"page: \d+ pages, \d+ sheets, 0 faults.*",
+    "the page with the solver": r"web: (?:a page of \d+ bytes; .*; 0 faults|.*, so no module was built and nothing was tried)",
     "hostile use": r"hostile: \d+ passed, 0 failed",
     "Python": r"python: \d+ tests, 0 failed.*",
 }
@@ -91,10 +92,10 @@ def text(number, commit, path):
     lines = head(number, commit) + [f"toolchain  {toolchain(log)}", ""]
     lines += ["Each crate, with the sum of its files (git rev-parse COMMIT:crates/NAME), how many must-fail edits were refused, and its verdict:", ""]
     lines += rows(log) + ["", "The last lines of the gate:", "", *ends(log), ""]
-    lines += ["What is proved, and what is only tested, is said in README.md, and at length in docs/PROMISES.md and docs/EVIDENCE.md of the repository.", ""]
+    lines += ["README.md describes what is proved and what is only tested. docs/PROMISES.md and docs/EVIDENCE.md of the repository have the details.", ""]
     return "\n".join(lines).encode()
 
 
 def trial(number, commit):
     """The text of a trial, which no gate has passed."""
-    return "\n".join(head(number, commit) + ["", "A trial: nothing is said here of what was proved.", ""]).encode()
+    return "\n".join(head(number, commit) + ["", "A trial: this text does not report what was proved.", ""]).encode()

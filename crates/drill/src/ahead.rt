@@ -1,4 +1,5 @@
-//! Looking ahead: each position of a solved game, as the files in a folder have it, beside what the definitions say within some moves.
+//! Looking ahead: compares each position of a solved game, as the files in a folder have it, with the value that the definitions
+//! give within some moves.
 ghost use Rattle.std.specs.Prelude.{◌≡◌, true};
 
 use crate::files::table_of;
@@ -19,7 +20,7 @@ use gm_tiers::order::TierOrder;
 use std::alloc::Global;
 use std::fs::Files;
 
-// What was found of a tier: its canonical positions, those whose value looking ahead finds too, and those for which it finds another one.
+// The counts of a tier: its canonical positions, those whose value looking ahead finds too, and those with which it disagrees.
 #[derive(Clone, Copy)]
 struct Found {
     positions: u64,
@@ -27,7 +28,8 @@ struct Found {
     wrong: u64,
 }
 
-// Whether a value fits where looking this many moves ahead finds none: the position is no win or loss within these moves.
+// Tests whether a value is possible if looking this many moves ahead finds none: the position is not a win or a loss within these
+// moves.
 fn is_later(solved: Solved, moves: u32) -> bool {
     match solved.value {
         Value::Lose | Value::Win => solved.remoteness > moves,
@@ -35,7 +37,7 @@ fn is_later(solved: Solved, moves: u32) -> bool {
     }
 }
 
-// A legal position more, with what looking ahead finds and what the table has.
+// Adds a legal position to the counts, by the value that looking ahead finds and the one in the table.
 fn with_position<G: Game>(before: Found, p: Position, record: Option<Solved>, moves: u32) -> Found
     requires { G.rules.is_legal p ≡ true }
 {
@@ -54,7 +56,7 @@ fn with_position<G: Game>(before: Found, p: Position, record: Option<Solved>, mo
     }
 }
 
-// What is found of the canonical positions of a table.
+// Counts the canonical positions of a table.
 fn compared<G: Game>(table: &Table<G>, moves: u32) -> Found {
     let tier = table.tier();
     let mut found = Found {
@@ -71,7 +73,7 @@ fn compared<G: Game>(table: &Table<G>, moves: u32) -> Found {
     found
 }
 
-// The table of a tier's file in a folder, where it is right.
+// Returns the table of a tier's file in a folder, if the file is right.
 fn right_table<G: Game, R: Files>(
     rt: &R,
     alloc: Global,
@@ -91,7 +93,7 @@ fn right_table<G: Game, R: Files>(
     table
 }
 
-// What is found of a tier, whose table is held after that; none if its file isn't right.
+// Counts a tier, and then holds its table. Returns `None` if its file isn't right.
 fn found_in<G: Game, R: Files>(
     rt: &R,
     alloc: Global,
@@ -110,7 +112,7 @@ fn found_in<G: Game, R: Files>(
     }
 }
 
-// Prints what was found of a tier.
+// Prints the counts of a tier.
 fn say_found<R: Print>(rt: &R, tier: u64, found: Found) -> bool {
     let Found {
         positions,
@@ -202,8 +204,8 @@ fn compare_one<R: Print + Files>(
     }
 }
 
-/// Compares the files of a game in a folder with looking this many moves ahead, tier by tier as far as they are right: a line for each tier. False where there
-/// is no such game.
+/// Compares the files of a game in a folder with looking this many moves ahead. It goes tier by tier, as far as the files are
+/// right, and prints a line for each tier. Returns false if there is no such game.
 pub fn look_ahead<R: Print + Files>(
     rt: &R,
     alloc: Global,

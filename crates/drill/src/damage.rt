@@ -1,4 +1,5 @@
-//! Damaged files: each line of the input is `tier hex`, the bytes that are said to be the file of a tier; the output is one sign for each line.
+//! Damaged files. Each line of the input is `tier hex`: a tier, and the bytes that may be its file. The output is one sign for each
+//! line.
 use crate::files::{UNREAD, judged};
 use gm_game::game::Game;
 use gm_game::limits::TIER_SIZE;
@@ -8,14 +9,14 @@ use gm_tiers::order::TierOrder;
 use std::alloc::Global;
 use std::io::{self, Read};
 
-// Solves a tier by one thread and inserts its table: whether that could be done.
+// Solves a tier by one thread and inserts its table. Returns whether that succeeded.
 fn solve_next<G: Game>(alloc: Global, tier: u64, tables: &mut Tables<G>) -> bool {
     tables.has_children(tier)
         && G::tier_size(tier) <= TIER_SIZE
         && hold_solved(alloc, tables, tier).is_ok()
 }
 
-// Solves all tiers of a game into the tables: whether that could be done.
+// Solves all tiers of a game into the tables. Returns whether that succeeded.
 fn solve_all<G: Game>(alloc: Global, tables: &mut Tables<G>) -> bool {
     let Ok(order) = TierOrder::<G>::from_initial(alloc) else {
         return false;
@@ -27,7 +28,7 @@ fn solve_all<G: Game>(alloc: Global, tables: &mut Tables<G>) -> bool {
     is_solved
 }
 
-// A line, judged.
+// Judges a line.
 fn judged_line<G: Game>(alloc: Global, tables: &Tables<G>, line: &str) -> char {
     let Some((tier, digits)) = line.split_once(' ') else {
         return UNREAD;
@@ -38,7 +39,7 @@ fn judged_line<G: Game>(alloc: Global, tables: &Tables<G>, line: &str) -> char {
     }
 }
 
-// Judges each line: whether that could be done.
+// Judges each line. Returns whether that succeeded.
 fn judge_lines<G: Game, R: Print>(
     rt: &R,
     alloc: Global,
@@ -57,7 +58,7 @@ fn judge_lines<G: Game, R: Print>(
     true
 }
 
-/// Judges each line of the input as the file of a tier of this game: whether that could be done.
+/// Judges each line of the input as the file of a tier of this game. Returns whether that succeeded.
 pub fn damage<G: Game, R: Print, I: Read + Drop>(rt: &R, alloc: Global, input: I) -> bool {
     let Ok(text) = io::read_to_string(alloc, input) else {
         return false;

@@ -1,4 +1,4 @@
-//! The tables that files have.
+//! Tables that are read from files, and judgements on files.
 ghost use Rattle.std.specs.Prelude.{◌≤◌};
 ghost use Rattle.gm_table.specs.Tables.{AreHeld};
 
@@ -12,7 +12,8 @@ use gm_tierdb::decode::{decode, decode_v1};
 use gm_tierdb::file_error::FileError;
 use std::alloc::Global;
 
-/// The judgement on a file: it has the true table of its tier, in the present version or in version 1, it has not, or nothing can be said of its tier.
+/// The judgement on a file. It has the true table of its tier, in the present version or in version 1; or it hasn't; or its tier
+/// can't be judged.
 pub const ACCEPTED: char = '+';
 
 pub const ACCEPTED_OLD: char = '1';
@@ -23,7 +24,7 @@ pub const UNREAD: char = '?';
 
 const OUT_OF_MEMORY: char = '!';
 
-// The table that records make, or the judgement on them.
+// Returns the table that records make, or the judgement on them.
 fn checked<G: Game>(
     alloc: Global,
     tables: &Tables<G>,
@@ -40,7 +41,7 @@ fn checked<G: Game>(
     }
 }
 
-// The table of what a file of a tier was decoded to, or the judgement on it.
+// Returns the table for the decoded file of a tier, or the judgement on it.
 fn table_from<G: Game>(
     alloc: Global,
     tables: &Tables<G>,
@@ -59,7 +60,7 @@ fn table_from<G: Game>(
     table
 }
 
-/// The true table of a tier, by its file of the present version, or the judgement on the file.
+/// Returns the true table of a tier, from its file of the present version, or the judgement on the file.
 pub fn table_of<G: Game>(
     alloc: Global,
     tables: &Tables<G>,
@@ -72,7 +73,7 @@ pub fn table_of<G: Game>(
     table_from(alloc, tables, tier, decode::<G>(alloc, tier, file))
 }
 
-// The same by its file of version 1.
+// Returns the true table of a tier, from its file of version 1, or the judgement on the file.
 fn old_table_of<G: Game>(
     alloc: Global,
     tables: &Tables<G>,
@@ -85,7 +86,7 @@ fn old_table_of<G: Game>(
     table_from(alloc, tables, tier, decode_v1::<G>(alloc, tier, file))
 }
 
-/// The judgement on the file of a tier: each version is tried, whatever the file begins with.
+/// Judges the file of a tier. Each version is tried, independently of the first bytes of the file.
 pub fn judged<G: Game>(alloc: Global, tables: &Tables<G>, tier: u64, file: &[u8]) -> char {
     match table_of(alloc, tables, tier, file) {
         Ok(_) => ACCEPTED,

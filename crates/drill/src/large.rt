@@ -1,4 +1,4 @@
-//! A large tier solved by workers, over the tables of the tiers below it.
+//! Solving a large tier by workers, over the tables of the tiers below it.
 
 use crate::solving::say_digest;
 use gm_build::build::{Built, build_from};
@@ -18,10 +18,10 @@ use std::sync::Wait;
 use std::thread::Threads;
 use std::time::{Clock, Instant};
 
-// Tac Tix on 5 by 5: its tiers are numbered by how many counters are left.
+// Tac Tix on 5 by 5. The number of a tier is the number of counters on the board.
 type Five = TacTix<5, false>;
 
-// The tables of the tiers below one: none if there is no such tier, or the build ended with an error.
+// Returns the tables of the tiers below one, or `None` if there is no such tier or the build ended with an error.
 fn tables_below<R: Threads + Wait + Files + Sync>(
     rt: &R,
     alloc: Global,
@@ -46,7 +46,7 @@ fn tables_below<R: Threads + Wait + Files + Sync>(
     built.ok()
 }
 
-// Solves a tier, and says how long that took and what its file ends with.
+// Solves a tier, and prints the time that it took and the digest that ends its file.
 fn solve_and_time<R: Print + Threads + Wait + Clock + Sync>(
     rt: &R,
     alloc: Global,
@@ -80,8 +80,9 @@ fn solve_and_time<R: Print + Threads + Wait + Clock + Sync>(
     said
 }
 
-/// Solves a tier of Tac Tix on 5 by 5 by workers, over tables that are made in memory, and prints the milliseconds that its solving alone took, the number of
-/// deliveries, and the digest that ends its file. False if there is no such tier, or memory was refused.
+/// Solves a tier of Tac Tix on 5 by 5 by workers, over tables that are made in memory. Prints the milliseconds for solving only
+/// this tier, the number of deliveries, and the digest that ends its file. Returns false if there is no such tier, or memory was
+/// refused.
 pub fn solve_large<R: Print + Threads + Wait + Files + Clock + Sync>(
     rt: &R,
     alloc: Global,

@@ -26,7 +26,7 @@ use gm_tiers::order::TierOrder;
 use gm_toys::countdown::Countdown;
 use std::alloc::Global;
 
-/// A call that makes a shard of a tier, or that is made on one or on its level.
+/// A call that makes a shard of a tier, or a call on a shard or on its level.
 #[derive(Clone, Copy)]
 pub enum Call {
     Begin,
@@ -63,7 +63,7 @@ impl<G: Game> Counted for Tally<G> {
     }
 }
 
-// What a call answers: the number of what it makes, of a tally by tiles of 6; none if memory was refused.
+// Makes a call, and returns the number that counts its result (for a tally, by tiles of 6), or `None` if memory was refused.
 fn answered<G: Game>(
     alloc: Global,
     call: Call,
@@ -87,7 +87,7 @@ fn answered<G: Game>(
     }
 }
 
-// Makes a call on the level of a shard, which is that of these runs.
+// Makes a call on the level of a shard, which has these runs.
 fn call_on_level<G: Game, R: Print>(
     rt: &R,
     alloc: Global,
@@ -157,7 +157,7 @@ fn call_on_first<G: Game, R: Print>(rt: &R, alloc: Global, call: Call, tables: &
     said
 }
 
-// Appends the records of a shard at the end of ties: none if memory was refused.
+// Appends the records of a shard at the end of ties. Returns `None` if memory was refused.
 fn appended<G: Game>(
     shard: &Shard<G>,
     last: &Last<G>,
@@ -172,7 +172,7 @@ fn appended<G: Game>(
     }
 }
 
-// `Shard::finish` into records of which there is one already.
+// Calls `Shard::finish` on records that already have one.
 fn finish<G: Game, R: Print>(
     rt: &R,
     alloc: Global,
@@ -196,7 +196,7 @@ fn finish<G: Game, R: Print>(
     )
 }
 
-// Finishes the shard of a whole tier at its first level of ties, where that is its last one.
+// Finishes the shard of a whole tier at its first level of ties, if that is its last one.
 fn finish_shard<G: Game, R: Print>(
     rt: &R,
     alloc: Global,

@@ -1,6 +1,7 @@
-//! Drills: each word makes one call that may want memory and says what it answered and what it left, for tools/hostile, which refuses its allocations one after
-//! another. For tools/lines, `ahead` compares a solved game with looking ahead, `plans` solves a game's tiers by workers under nine plans, and `dao` solves Dao in a
-//! way and says what its file ends with. For tools/measure, `large` times a large tier that workers solve.
+//! Drills. Each word makes one call that may need memory, and prints its result and the state after it. They are for tools/hostile,
+//! which refuses its allocations one after another. For tools/lines, `ahead` compares a solved game with looking ahead, `plans`
+//! solves a game's tiers by workers under nine plans, and `dao` solves Dao in a way and prints the digest that ends its file. For
+//! tools/measure, `large` times a large tier that workers solve.
 #![tactic(auto)]
 
 ghost use Rattle.std.specs.Prelude.{◌<◌};
@@ -38,7 +39,7 @@ use std::thread::Threads;
 use std::time::Clock;
 use std::{env, io};
 
-// A call that wants memory.
+// A call that may need memory.
 #[derive(Clone, Copy)]
 enum Call {
     Order,
@@ -104,7 +105,7 @@ const CALLS: [(&str, Call); 29] = [
     ("build", Call::Build),
 ];
 
-// The words with their calls.
+// Returns the words with their calls.
 fn calls() -> &'static [(&'static str, Call)] {
     &CALLS
 }
@@ -138,7 +139,7 @@ fn make<R: Print + Threads + Wait + Files + Sync>(rt: &R, alloc: Global, call: C
     }
 }
 
-// Makes the call that a word names: false if there is no such word.
+// Makes the call that a word names. Returns false if there is no such word.
 fn drill<R: Print + Threads + Wait + Files + Sync>(rt: &R, alloc: Global, word: &str) -> bool {
     match named(calls(), word) {
         Some(call) => make(rt, alloc, call),
@@ -146,7 +147,7 @@ fn drill<R: Print + Threads + Wait + Files + Sync>(rt: &R, alloc: Global, word: 
     }
 }
 
-// A word of a line as text; an empty one if there is none.
+// Returns a word of a line as text, or an empty text if there is no such word.
 fn word(words: &[String], number: usize) -> &str {
     match words.get(number) {
         Some(word) => word.as_str(),
@@ -154,7 +155,7 @@ fn word(words: &[String], number: usize) -> &str {
     }
 }
 
-// Looks ahead by a line of a game, a number of moves and a folder: whether it could be done.
+// Looks ahead, by a line with a game, a number of moves and a folder. Returns whether that succeeded.
 fn compare<R: Print + Files>(rt: &R, alloc: Global, words: &[String]) -> bool {
     match word(words, 3).parse::<u32>() {
         Ok(moves) => look_ahead(rt, alloc, word(words, 2), word(words, 4), moves),
@@ -162,7 +163,7 @@ fn compare<R: Print + Files>(rt: &R, alloc: Global, words: &[String]) -> bool {
     }
 }
 
-// The plan of three words from this one on, where they are numbers within the limits.
+// Returns the plan in the three words from this one on, if they are numbers within the limits.
 fn plan_of(words: &[String], first: usize) -> Option<Plan>
     requires { first < 100 }
 {
@@ -172,7 +173,7 @@ fn plan_of(words: &[String], first: usize) -> Option<Plan>
     Plan::new(workers, shards, piece)
 }
 
-// Solves by nine plans, by a line of a game's name and how many of its tiers: whether it could be done.
+// Solves by nine plans, by a line with a game's name and the number of its tiers to solve. Returns whether that succeeded.
 fn solve_planned<R: Print + Threads + Wait + Sync>(
     rt: &R,
     alloc: Global,
@@ -184,7 +185,7 @@ fn solve_planned<R: Print + Threads + Wait + Sync>(
     }
 }
 
-// Solves a tier of Tac Tix on 5 by 5 by a line of its number and the three numbers of a plan: whether it could be done.
+// Solves a tier of Tac Tix on 5 by 5, by a line with its number and the three numbers of a plan. Returns whether that succeeded.
 fn solve_one<R: Print + Threads + Wait + Files + Clock + Sync>(
     rt: &R,
     alloc: Global,
@@ -196,7 +197,7 @@ fn solve_one<R: Print + Threads + Wait + Files + Clock + Sync>(
     }
 }
 
-// What a line does that makes no such call.
+// The lines that don't make such a call.
 #[derive(Clone, Copy)]
 enum Line {
     List,
@@ -218,7 +219,7 @@ const LINES: [(&str, Line); 7] = [
     ("damage-tactix-2", Line::DamageTacTix),
 ];
 
-// Does what the words say of which the first is the program's name: whether it could be done.
+// Runs a line of words. The first word is the program's name. Returns whether that succeeded.
 fn run<R: Print + Threads + Wait + Files + Clock + Sync, I: io::Read + Drop>(
     rt: &R,
     alloc: Global,

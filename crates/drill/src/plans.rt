@@ -1,4 +1,4 @@
-//! Games solved tier by tier, each tier by one thread and by workers under nine plans beside it.
+//! Solving games tier by tier: each tier by one thread, and for comparison by workers under nine plans.
 ghost use Rattle.std.specs.Prelude.{◌≤◌};
 ghost use Rattle.gm_table.specs.Tables.{AreHeld};
 
@@ -24,7 +24,7 @@ use std::alloc::Global;
 use std::sync::Wait;
 use std::thread::Threads;
 
-// Tac Tix on this many rows, normal or misère; or a game of another name.
+// Tac Tix on this many rows, normal or misère; or another game.
 #[derive(Clone, Copy)]
 enum Planned {
     Countdown,
@@ -63,7 +63,7 @@ const SHARDS: [usize; 3] = [1, 2, 4];
 
 const NOTES: usize = 64;
 
-// Whether two tables have the same records.
+// Tests whether two tables have the same records.
 fn are_same<G: Game>(one: &Table<G>, other: &Table<G>) -> bool {
     if one.size() != other.size() {
         return false;
@@ -76,7 +76,7 @@ fn are_same<G: Game>(one: &Table<G>, other: &Table<G>) -> bool {
     true
 }
 
-// Whether workers under a plan solve a tier as one thread did, and the coordinator delivers nothing.
+// Tests whether workers under a plan solve a tier as one thread did, without deliveries by the coordinator.
 fn solves_so<G: Game + Send + Sync, R: Threads + Wait + Sync>(
     rt: &R,
     alloc: Global,
@@ -98,7 +98,7 @@ fn solves_so<G: Game + Send + Sync, R: Threads + Wait + Sync>(
     }
 }
 
-// Whether each of the nine plans solves a tier as one thread did.
+// Tests whether each of the nine plans solves a tier as one thread did.
 fn all_solve_so<G: Game + Send + Sync, R: Threads + Wait + Sync>(
     rt: &R,
     alloc: Global,
@@ -122,7 +122,7 @@ fn all_solve_so<G: Game + Send + Sync, R: Threads + Wait + Sync>(
     true
 }
 
-// The table of a tier by one thread, with its deliveries, where workers under each of the nine plans find the same.
+// Returns the table of a tier by one thread, with its deliveries, if workers under each of the nine plans find the same.
 fn agreed<G: Game + Send + Sync, R: Threads + Wait + Sync>(
     rt: &R,
     alloc: Global,
@@ -147,8 +147,8 @@ fn agreed<G: Game + Send + Sync, R: Threads + Wait + Sync>(
     Some(right)
 }
 
-// Solves these tiers, one after another, and prints of each its deliveries and the digest that ends its file. False at the first tier that a plan solves
-// otherwise.
+// Solves these tiers, one after another, and prints for each its deliveries and the digest that ends its file. Returns false at the
+// first tier that a plan solves differently.
 fn solve_tiers<G: Game + Send + Sync, R: Print + Threads + Wait + Sync>(
     rt: &R,
     alloc: Global,
@@ -169,7 +169,7 @@ fn solve_tiers<G: Game + Send + Sync, R: Print + Threads + Wait + Sync>(
     true
 }
 
-// Solves the first tiers of a game, so many of them.
+// Solves this many of the first tiers of a game.
 fn solve_first<G: Game + Send + Sync, R: Print + Threads + Wait + Sync>(
     rt: &R,
     alloc: Global,
@@ -186,7 +186,7 @@ fn solve_first<G: Game + Send + Sync, R: Print + Threads + Wait + Sync>(
     is_done
 }
 
-// The same of Tac Tix.
+// Solves this many of the first tiers of Tac Tix.
 fn solve_tactix<R: Print + Threads + Wait + Sync>(
     rt: &R,
     alloc: Global,
@@ -209,8 +209,9 @@ fn solve_tactix<R: Print + Threads + Wait + Sync>(
     }
 }
 
-/// Solves the first tiers of a game, so many of them or all where it has fewer, each by one thread and then by 1, 2 and 16 workers with 1, 2 and 4 shards, and
-/// prints a line for each. False if there is no such game, a tier isn't solved, or a plan finds another table or another number of deliveries.
+/// Solves this many of the first tiers of a game, or all if it has fewer. Each tier is solved by one thread and then by 1, 2 and 16
+/// workers with 1, 2 and 4 shards. Prints a line for each tier. Returns false if there is no such game, a tier isn't solved, or a
+/// plan finds another table or another number of deliveries.
 pub fn solve_by_plans<R: Print + Threads + Wait + Sync>(
     rt: &R,
     alloc: Global,

@@ -1,20 +1,21 @@
-//! What a drill prints: `answer`, what the call answered; `before` and `after`, what it is to leave; `again`, what a second call answers.
+//! The lines that a drill prints: `answer` is the result of the call; `before` and `after` are the state before and after it, which
+//! a refused call must not change; `again` is the result of a second call.
 use gm_game::game::Game;
 use gm_tiers::order::TierOrder;
 
-/// What a call answered; if there is none, memory was refused.
+/// The result of a call. In its place `None` means that memory was refused.
 #[derive(Clone, Copy)]
 pub enum Said<'a> {
     Number(u64),
     Text(&'a str),
 }
 
-/// What a call makes, of which a number is printed.
+/// A result that is printed as a number.
 pub trait Counted: Drop {
     fn count(&self) -> u64;
 }
 
-/// What a call answered, as the number of what it made; none if memory was refused.
+/// Returns the result of a call as its number, or `None` if memory was refused.
 pub fn number_of<T: Counted, E: Drop>(answer: Result<T, E>) -> Option<Said<'static>> {
     match answer {
         Ok(made) => Some(Said::Number(made.count())),
@@ -34,7 +35,7 @@ impl<G: Game> Counted for TierOrder<G> {
     }
 }
 
-// Prints a line: whether that could be done, as in all that follows.
+// Prints a line. This function and the following ones return whether that succeeded.
 fn say<R: Print>(rt: &R, what: &str, said: Option<Said<'_>>) -> bool {
     match said {
         Some(Said::Number(number)) => println!(rt; "{what}: {number}").is_ok(),
@@ -53,12 +54,12 @@ pub fn say_all<R: Print>(rt: &R, lines: &[(&str, Option<Said<'_>>)]) -> bool {
     true
 }
 
-/// Prints what a call and a second one answered.
+/// Prints the results of a call and of a second one.
 pub fn say_both<R: Print>(rt: &R, first: Option<Said<'_>>, again: Option<Said<'_>>) -> bool {
     say_all(rt, &[("answer", first), ("again", again)])
 }
 
-/// Prints what there was before a call, what it answered, what there was after it, and what a second one answered.
+/// Prints the state before a call, its result, the state after it, and the result of a second call.
 pub fn say_four<R: Print>(
     rt: &R,
     before: Option<Said<'_>>,
@@ -77,7 +78,7 @@ pub fn say_four<R: Print>(
     )
 }
 
-/// Makes a call between the marks and then once more, and prints what both answered.
+/// Makes a call between the marks and then once more, and prints both results.
 macro_rules! say_twice {
     ($rt:expr, $alloc:expr, $call:expr) => {{
         let first = $crate::marks::marked!($alloc, $call);

@@ -1,4 +1,4 @@
-//! Tiers solved and a game built.
+//! Solving tiers, and building a game.
 ghost use Rattle.std.specs.Prelude.{◌≤◌};
 ghost use Rattle.gm_table.specs.Tables.{AreHeld};
 
@@ -26,7 +26,7 @@ use std::fs::Files;
 use std::sync::Wait;
 use std::thread::Threads;
 
-/// How a tier is solved: by one thread without locks, or by workers, which take pieces of a level or one pass a shard.
+/// A way to solve a tier: by one thread without locks, or by workers that take pieces of a level or one pass for each shard.
 #[derive(Clone, Copy)]
 pub enum Way {
     Alone,
@@ -58,7 +58,7 @@ fn solved_alone<G: Game>(alloc: Global, tables: &Tables<G>) -> Option<(Table<G>,
     }
 }
 
-// Solves the first tier of a game in a way: none if memory was refused.
+// Solves the first tier of a game in a way. Returns `None` if memory was refused.
 fn solved<G: Game + Send + Sync, R: Threads + Wait + Sync>(
     rt: &R,
     alloc: Global,
@@ -76,7 +76,7 @@ fn solved<G: Game + Send + Sync, R: Threads + Wait + Sync>(
     }
 }
 
-// The letter of a record's value and its remoteness.
+// Returns the letter of a record's value, and its remoteness.
 fn letters(record: Option<Solved>) -> (char, u32) {
     let Some(Solved { value, remoteness }) = record else {
         return ('-', 0);
@@ -90,7 +90,7 @@ fn letters(record: Option<Solved>) -> (char, u32) {
     (letter, remoteness)
 }
 
-// Prints the records of a table up to the end of a line.
+// Prints the records of a table, and ends the line.
 fn say_records<G: Game, R: Print>(rt: &R, table: &Table<G>) -> bool {
     for index in 0..table.size() {
         let (letter, remoteness) = letters(table.at(index));
@@ -136,7 +136,8 @@ pub fn solve<G: Game + Send + Sync, R: Print + Threads + Wait + Sync>(
     said
 }
 
-/// Prints how many deliveries solved a tier, how many of them the coordinator made, and the digest that ends its file.
+/// Prints the number of deliveries that solved a tier, the number of those that the coordinator made, and the digest that ends its
+/// file.
 pub(crate) fn say_digest<G: Game, R: Print>(
     rt: &R,
     alloc: Global,
@@ -158,7 +159,8 @@ pub(crate) fn say_digest<G: Game, R: Print>(
     println!(rt; "{deliveries} deliveries, {by_hand} by hand, digest {digest}").is_ok()
 }
 
-/// Solves the first tier of a game in the way of this name, with four workers and four shards, and says what its file ends with.
+/// Solves the first tier of a game in the way of this name, with four workers and four shards, and prints the digest that ends its
+/// file.
 pub fn solve_and_say<G: Game + Send + Sync, R: Print + Threads + Wait + Sync>(
     rt: &R,
     alloc: Global,
@@ -181,7 +183,7 @@ impl<G: Game> Counted for Built<G> {
     }
 }
 
-// Builds Tac Tix on 2 by 2 into a store: how many tiers there are, or none if memory was refused.
+// Builds Tac Tix on 2 by 2 into a store. Returns the number of tiers, or `None` if memory was refused.
 fn built<R: Threads + Wait + Files + Sync>(
     rt: &R,
     alloc: Global,
@@ -202,7 +204,7 @@ fn built<R: Threads + Wait + Files + Sync>(
     number_of(built)
 }
 
-// Whether a store has the right text of a tier, or none, beside a store that has the right ones: nothing where it has another text.
+// Tests whether a store has the text of a tier, by a store that has the right ones. Returns `None` if it has another text.
 fn has_text<R: Files>(
     rt: &R,
     alloc: Global,
@@ -223,11 +225,11 @@ fn has_text<R: Files>(
     has_text
 }
 
-// The five tiers of a build, child tiers first, by how many have their text.
+// The five tiers of a build, child tiers first, by the number of those with their text.
 const TEXTS: [&str; 6] = ["-----", "=----", "==---", "===--", "====-", "====="];
 
-// A sign for each of five tiers, child tiers first: the right text, or none. It is no such line where a text is another one, or stands after a tier
-// that has none.
+// Returns a line with a sign for each of five tiers, child tiers first: the right text, or no text. The line is `x` if a text is
+// wrong, or follows a tier without one.
 fn texts<R: Files>(
     rt: &R,
     alloc: Global,
@@ -246,7 +248,8 @@ fn texts<R: Files>(
     Some(Said::Text(text))
 }
 
-// Builds Tac Tix on 2 by 2 into an empty store, and once more: after a refusal the earlier tiers have their texts, and the second build finishes the game.
+// Builds Tac Tix on 2 by 2 into an empty store, and once more. After a refusal the earlier tiers have their texts, and the second
+// build finishes the game.
 fn say_builds<R: Print + Threads + Wait + Files + Sync>(
     rt: &R,
     alloc: Global,
@@ -270,7 +273,7 @@ fn say_builds<R: Print + Threads + Wait + Files + Sync>(
     )
 }
 
-/// Builds Tac Tix on 2 by 2 over a store in memory, beside one that is built without refusals.
+/// Builds Tac Tix on 2 by 2 over a store in memory, and compares it with one that is built without refusals.
 pub fn build<R: Print + Threads + Wait + Files + Sync>(rt: &R, alloc: Global, plan: Plan) -> bool {
     let mut store = MemStore::new(alloc);
     let mut right = MemStore::new(alloc);

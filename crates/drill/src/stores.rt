@@ -1,4 +1,4 @@
-//! Stores: after a refused write the entry is the old one.
+//! Stores. After a refused write the entry is the old one.
 use crate::marks::marked;
 use crate::said::{Said, say_four};
 use gm_tierdb::flaky::Flaky;
@@ -9,7 +9,7 @@ use gm_tierdb::store_error::StoreError;
 use std::alloc::Global;
 use std::fs::Files;
 
-// The tier whose text is written, first the old one and then the new one.
+// The tier that gets first the old text and then the new one.
 const TIER: u64 = 7;
 
 const OLD: &[u8] = b"an old text";
@@ -23,7 +23,8 @@ pub enum Call {
     Read,
 }
 
-/// The place of the texts of a call's store: in memory, there through a `Flaky` that doesn't fail, or in the folder in which the drill runs.
+/// The place of a store's texts: in memory, in memory through a `Flaky` that doesn't fail, or in the folder in which the drill
+/// runs.
 #[derive(Clone, Copy)]
 pub enum Place {
     Memory,
@@ -31,7 +32,7 @@ pub enum Place {
     Folder,
 }
 
-// What a write answered; none if memory was refused.
+// Returns the result of a write, or `None` if memory was refused.
 fn written(answer: Result<(), StoreError>) -> Option<Said<'static>> {
     match answer {
         Ok(()) => Some(Said::Text("written")),
@@ -40,7 +41,7 @@ fn written(answer: Result<(), StoreError>) -> Option<Said<'static>> {
     }
 }
 
-// What a read answered, as the number of bytes; none if memory was refused.
+// Returns the result of a read as the number of bytes, or `None` if memory was refused.
 fn number_of(answer: Result<Option<Vec<u8>>, StoreError>) -> Option<Said<'static>> {
     match answer {
         Ok(Some(text)) => Some(Said::Number(text.len() as u64)),
@@ -50,7 +51,7 @@ fn number_of(answer: Result<Option<Vec<u8>>, StoreError>) -> Option<Said<'static
     }
 }
 
-// Which text was read.
+// Returns which text was read.
 fn which(answer: Result<Option<Vec<u8>>, StoreError>) -> Option<Said<'static>> {
     let word = match &answer {
         Ok(Some(text)) if text.as_slice() == OLD => "old",
@@ -63,7 +64,7 @@ fn which(answer: Result<Option<Vec<u8>>, StoreError>) -> Option<Said<'static>> {
     Some(Said::Text(word))
 }
 
-// What is done with a store.
+// An action on a store.
 #[derive(Clone, Copy)]
 enum Deed {
     WriteOld,
@@ -71,7 +72,7 @@ enum Deed {
     Call(Call),
 }
 
-// Does something with a store, and says what it answered.
+// Does this with a store, and returns the result.
 fn answered<S: Store, R: Files>(
     rt: &R,
     alloc: Global,
@@ -89,7 +90,7 @@ fn answered<S: Store, R: Files>(
     }
 }
 
-// A call on a store if there is an old text.
+// Makes a call on a store that has the old text.
 fn call_on_old<R: Print + Files, S: Store>(
     rt: &R,
     alloc: Global,

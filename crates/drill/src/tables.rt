@@ -1,4 +1,4 @@
-//! Tables, what checks them, their files and their counts, on Countdown from 10.
+//! Tables, their checks, files and counts, on Countdown from 10.
 ghost use Rattle.std.specs.Prelude.{◌≤◌};
 ghost use Rattle.gm_table.specs.Tables.{AreHeld};
 ghost use Rattle.gm_tierdb.specs.TierText.{AreUpTo};
@@ -48,7 +48,8 @@ impl Counted for Analysis {
     }
 }
 
-// What a call on a tier answers: the number of what it makes (bytes of a file, records, or a text read from a stream); none if memory was refused.
+// Makes a call on a tier, and returns the number that counts its result (bytes of a file, records, or bytes read from a stream), or
+// `None` if memory was refused.
 fn answered<G: Game>(
     alloc: Global,
     call: Call,
@@ -75,7 +76,7 @@ fn answered<G: Game>(
     }
 }
 
-// Makes a call over a file of a table, and over its old file and its records.
+// Makes a call on a file of a table, and on its old file and its records.
 fn say_count<G: Game, R: Print>(
     rt: &R,
     alloc: Global,
@@ -104,7 +105,7 @@ fn say_count<G: Game, R: Print>(
     said
 }
 
-// Makes a call on a true table and what is made of it.
+// Makes a call on a true table and on the files and records made from it.
 fn call_on_table<G: Game, R: Print>(
     rt: &R,
     alloc: Global,
@@ -126,7 +127,7 @@ fn call_on_table<G: Game, R: Print>(
     said
 }
 
-// `to_json` of what was counted.
+// Calls `to_json` on the counts of a table.
 fn json<G: Game, R: Print>(rt: &R, alloc: Global, table: &Table<G>) -> bool {
     let Ok(analysis) = analyse(alloc, table) else {
         return false;
@@ -138,7 +139,7 @@ fn json<G: Game, R: Print>(rt: &R, alloc: Global, table: &Table<G>) -> bool {
     said
 }
 
-// A text as an answer.
+// Returns a text as a result.
 fn text_of(text: &Option<String>) -> Option<Said<'_>> {
     match text {
         Some(text) => Some(Said::Text(text.as_str())),
@@ -146,13 +147,13 @@ fn text_of(text: &Option<String>) -> Option<Said<'_>> {
     }
 }
 
-// Whether the first tier is held.
+// Returns whether the first tier is held.
 fn held<G: Game>(tables: &Tables<G>) -> Option<Said<'static>> {
     let text = if tables.has(0) { "held" } else { "not held" };
     Some(Said::Text(text))
 }
 
-// Inserts the table that is left: if memory is refused, it is left again.
+// Inserts the remaining table. If memory is refused, the table remains.
 fn inserted<G: Game>(
     tables: &mut Tables<G>,
     left: &mut Option<(Table<G>, u64)>,
@@ -166,7 +167,7 @@ fn inserted<G: Game>(
     Some(Said::Text("inserted"))
 }
 
-// `Tables::insert`, and a second time where the table came back: where it is refused, the tables are as before.
+// Calls `Tables::insert`, and calls it again if the table was returned. A refused call leaves the tables unchanged.
 fn insert<G: Game, R: Print>(
     rt: &R,
     alloc: Global,
@@ -213,7 +214,7 @@ pub fn call_on_ten<R: Print>(rt: &R, alloc: Global, call: Call) -> bool {
     said
 }
 
-/// `to_json` of what is counted of Countdown from 0, which has one position.
+/// Calls `to_json` on the counts of Countdown from 0, which has one position.
 pub fn json_of_one<R: Print>(rt: &R, alloc: Global) -> bool {
     let tables: Tables<Countdown<0>> = Tables::new(alloc);
     let solved = solve_alone(alloc, 0, &tables);

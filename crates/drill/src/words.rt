@@ -1,6 +1,6 @@
-//! Words that stand for something.
+//! Words that name a value.
 
-/// What a word stands for in a table.
+/// Returns the value that a word has in a table.
 pub fn named<T: Copy>(table: &[(&str, T)], word: &str) -> Option<T> {
     for (name, meaning) in table {
         if *name == word {

@@ -1,4 +1,4 @@
-//! A source and a gate of one's own. Whatever they do, the tables are the same: so they may count, log, slow down, or choose.
+//! A source and a gate of one's own. They can't change the tables, so they may count, log, slow down, or choose.
 use gm_game::position::Place;
 use gm_solver::gate::Gate;
 use gm_solver::source::Source;

@@ -1,4 +1,4 @@
--- Lines of analyses, with one tier more.
+-- Lines of analyses, with one more tier.
 use Rattle.std.proofs.Common.{◌≡◌, ℕ, ◌+◌, ◌<◌, List, [], ◌∷◌, ◌++◌, length, take, get_or, refl, sym, ap, subst, ◌∙◌, append_assoc}
 use Rattle.std.proofs.Common.{append-nil}
 use Rattle.std.proofs.lemmas.List.{take_more}
@@ -17,7 +17,7 @@ lines_more r (u ∷ us) tier old line new (first, rest, begins, are, split) is e
       rest line,
 )
 
--- the lines up to one tier more
+-- the lines up to one more tier
 pub lines_next : (r : Rules) (tiers : List ℕ) (k : ℕ) (old new : List ℕ) → k < length tiers → AreAnalysisLines r (take k tiers) old
     → ((line : List ℕ) × IsAnalysisLine r (get_or tiers k 0) line × (new ≡ old ++ line)) → AreAnalysisLines r (take (k + 1) tiers) new
 lines_next r tiers k old new inside h (line, is, e) =

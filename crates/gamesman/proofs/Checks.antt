@@ -1,4 +1,4 @@
--- What a check has told so far.
+-- The output of a check so far.
 use Rattle.std.proofs.Common.{◌≡◌, ℕ, suc, ◌<◌, inl, inr, List, [], ◌∷◌, ◌++◌, length, take, drop, get_or, Option, Some, Ok, refl, sym, ap}
 use Rattle.std.proofs.Common.{subst, ◌∙◌, append_assoc, append-nil, drop-cons, take-append-drop}
 use Rattle.std.specs.List.{Contains}
@@ -21,7 +21,7 @@ use Rattle.gamesman.specs.Checking.{IsCheckCut, IsCheckOf}
 pub none_held : HoldsExactly [] []
 none_held tier = (λ held. absurd (cc), λ has. absurd (contains_none tier has))
 
--- a table that is inserted is held with those that were
+-- a table that is inserted is held, together with those before it
 pub one_more_held : (old new : List TableData) (table : TableData) (tier : ℕ) (right : List ℕ) → table.tier ≡ tier → Inserts old new table → HoldsExactly
     old right → HoldsExactly new (tier ∷ right)
 one_more_held old new table tier right is inserts held t =
@@ -34,7 +34,7 @@ one_more_held old new table tier right is inserts held t =
       λ has. too.1 (elim (contains_cases tier t right has) [ inl e ↦ inr e | inr later ↦ inl ((held t).1 later) ]),
     )
 
--- the tables that are held, after one more tier whose table is at hand
+-- the tables that are held, after one more tier whose table is given
 pub held_with : (old new : List TableData) (tier : ℕ) (finding : Finding) (table : TableData) (right : List ℕ) → IsTableFor tier finding (Some table) →
     Inserts old new table → HoldsExactly old right
     → HoldsExactly new (right_with tier finding right)
@@ -44,7 +44,7 @@ held_with old new tier NotChecked table right is inserts held = absurd (cc)
 held_with old new tier (NoFile why) table right is inserts held = absurd (cc)
 held_with old new tier (NoTable why) table right is inserts held = absurd (cc)
 
--- the lines of these tiers are told, and those of more tiers go on from here
+-- the lines of these tiers are written, and those of further tiers continue from here
 abbrev pub Continues : Rules → List ℕ → List ℕ → List ℕ → ℕ → Type 0
 Continues r done out right status = (tiers rest : List ℕ) (ends : ℕ) → AreLines r right status tiers rest ends → AreLines r [] 0 (done ++ tiers)
     (out ++ rest) ends
@@ -134,7 +134,7 @@ pub told_all : (r : Rules) (tiers : List ℕ) (a b : Option (List ℕ)) (entries
     IsCheckOf r tiers a b (Ok status)
 told_all r tiers a b entries status so_far = (so_far.out, continues_none r tiers so_far.out so_far.right status so_far.continues, so_far.written)
 
--- none is
+-- no line is written
 pub told_none : (r : Rules) (a : Option (List ℕ)) (entries : List TableData) → HoldsExactly entries [] → IsToldTo r [] a a entries 0
 told_none r a entries held = record {
   out = [];
@@ -144,6 +144,6 @@ told_none r a entries held = record {
   continues = λ tiers rest ends are. are;
 }
 
--- a list up to a place, what stands there, and the rest
+-- a list as its first part, the element at a place, and the rest
 pub split_at : (tiers : List ℕ) (k : ℕ) → k < length tiers → tiers ≡ take k tiers ++ get_or tiers k 0 ∷ drop (suc k) tiers
 split_at tiers k inside = sym (take-append-drop k tiers) ∙ ap (λ (l : List ℕ). take k tiers ++ l) (drop-cons tiers k 0 inside)

@@ -1,4 +1,4 @@
--- What is left of an answer after a fault.
+-- The output of an answer after a fault.
 use Rattle.std.proofs.Common.{◌≡◌, ℕ, Bool, true, false, List, Option, None, Some, Result, Ok, Err, IfErr, IfSome, refl, sym, ap, subst, ◌∙◌}
 use Rattle.std.specs.Result.{IsErrAnd}
 use Rattle.std.specs.Borrow.{Bor}
@@ -19,12 +19,12 @@ use Rattle.gm_play.specs.PlaceTexts.{IsPlaceText}
 use Rattle.gamesman.specs.Answers.{IsAnsweredBy, IsUnlocatedFor, IsLocatedBy}
 use Rattle.gamesman.specs.Refusals.{reason_of, IsUnbuilt, IsRefused}
 
--- an error that is passed on is what it was made of
+-- an error that is passed on keeps its properties
 pub passed : {T E : Type 0} → (m : Result T E) (Q : E → Type 0) (e : E) → IsErrAnd m (λ y. y ≡ e) → Q e → IfErr m Q
 passed (Ok x) Q e h q = tt
 passed (Err y) Q e h q = subst Q (sym h) q
 
--- the reason of a build's error
+-- the reason for a build's error
 pub reason_unbuilt : (r : Rules) (first : ℕ) (error : BuildError) (met : Bool) → IsBuildError r first error → IsUnbuilt r first (reason_of error met)
 reason_unbuilt r first OutOfMemory met is = is
 reason_unbuilt r first (TooFar tier) met is = is
@@ -55,7 +55,7 @@ cut_off IsText before after (AnotherGames tier) text out is part = absurd out
 cut_off IsText before after InputFailed text out is part = absurd out
 cut_off IsText before after TooMuchInput text out is part = absurd out
 
--- nothing is built, and so nothing is written
+-- nothing is built, so nothing is written
 pub unbuilt_cut : (IsText : List ℕ → Type 0) (o : Option (List ℕ)) (r : Rules) (first : ℕ) (fault : Fault) → IsUnbuilt r first fault → IsCutOff IsText o o fault
 unbuilt_cut IsText o r first OutputFailed is = absurd is
 unbuilt_cut IsText o r first OutputClosed is = absurd is
@@ -108,7 +108,7 @@ module _ (r : Rules) (shown : Position → List ℕ) (move_shown : Position → 
 
 module _ (r : Rules) (shown : Position → List ℕ) (move_shown : Position → ℕ → List ℕ) (text : List ℕ) (IsText : List ℕ → Type 0) (p : Position)
     (read : IsReadAs r shown move_shown text p) (fault : Fault) where
-  -- what its answer rests on is not built
+  -- the tables for an answer are not built
   pub unbuilt_answer : (o : Option (List ℕ)) → IsUnbuilt r p.tier fault → IsAnsweredBy r shown move_shown text IsText o o (Err fault)
   unbuilt_answer o is = record {
     written = unbuilt_cut IsText o r p.tier fault is;
@@ -116,7 +116,7 @@ module _ (r : Rules) (shown : Position → List ℕ) (move_shown : Position → 
     unread = λ none. absurd (none p read);
   }
 
-  -- the write of its answer failed
+  -- the write of an answer failed
   pub unwritten_answer : (before after : Option (List ℕ)) (out : List ℕ) → IsOutputFault fault → IsText out → AppendsPart before after out → IsAnsweredBy r
       shown move_shown text IsText before after (Err fault)
   unwritten_answer before after out failed is part = record {
@@ -142,7 +142,7 @@ module _ (r : Rules) (shown : Position → List ℕ) (text : List ℕ) where
   write_unlocated InputFailed out = absurd out
   write_unlocated TooMuchInput out = absurd out
 
-  -- the write of where a position stands failed
+  -- the write of a position's tier and index failed
   pub unlocated_answer : (fault : Fault) (before after : Option (List ℕ)) (out : List ℕ) → IsOutputFault fault → IsPlaceText r shown text out → AppendsPart
       before after out
       → IsLocatedBy r shown text before after (Err fault)
@@ -152,13 +152,13 @@ module _ (r : Rules) (shown : Position → List ℕ) (text : List ℕ) where
     unread = λ none. absurd (none is.0.position is.1.legal is.1.reads);
   }
 
--- the text that is asked about is the position's: the start's where none is given
+-- the text of the question is the position's: the start's if none is given
 pub asked_text : (r : Rules) (shown : Position → List ℕ) (move_shown : Position → ℕ → List ℕ) (p : Position) (o : Option (Bor (List ℕ)))
     → (o ≡ None → p ≡ r.initial) → IfSome o (λ text. IsReadAs r shown move_shown text.now p) → shown p ≡ elim o
     [ None ↦ shown r.initial | Some text ↦ text.now ]
 asked_text r shown move_shown p None at_start read = ap shown (at_start refl)
 asked_text r shown move_shown p (Some text) at_start read = read.1
 
--- what was answered as ok is one value
+-- two values of one successful result are equal
 pub one_answer : {E : Type 0} → (m : Result Position E) (p q : Position) → m ≡ Ok p → m ≡ Ok q → p ≡ q
 one_answer m p q e f = ap (λ (x : Result Position _). elim x [ Ok y ↦ y | Err z ↦ p ]) (sym e ∙ f)

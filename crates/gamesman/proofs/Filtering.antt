@@ -1,4 +1,4 @@
--- The answers to lines that are read, in their midst.
+-- The answers to the lines of an input, before its end.
 use Rattle.std.proofs.Common.{◌≡◌, ℕ, ◌+◌, ◌≤◌, ◌<◌, true, false, List, [], ◌∷◌, ◌++◌, length, take, Option, Result, Ok, IfOk, refl, sym, ap}
 use Rattle.std.proofs.Common.{subst, ◌∙◌, append_assoc, append-nil, arith}
 use Rattle.std.specs.Prelude.{◌==◌, min, None, Some, ◌↔◌, if◌then◌else◌}
@@ -22,14 +22,14 @@ use Rattle.gamesman.specs.declared.fault.Fault.TheVariants.{OutOfMemory, NotBuil
 use Rattle.gamesman.specs.Filters.{last_number, AreTexts, AreAnswered, AreBefore, AreAllAnswered, IsStopped, IsLeftOff, IsLineFault, IsOfNone}
 
 module _ (IsText : List ℕ → List ℕ → Type 0) where
-  -- the texts of some lines, and of one more
+  -- the texts of some lines and of one more
   texts_more : (xs : List (List ℕ)) (line t out : List ℕ) → AreTexts IsText xs t → IsText (without_return (take kept_bytes line)) out → AreTexts IsText
       (xs ++ line ∷ []) (t ++ out)
   texts_more [] line t out e is = (out, [], is, ap (λ (l : List ℕ). l ++ out) e ∙ sym (append-nil out), refl)
   texts_more (x ∷ xs) line t out (text, rest, first, e, more) is =
       (text, rest ++ out, first, ap (λ (l : List ℕ). l ++ out) e ∙ append_assoc text rest out, texts_more xs line rest out more is)
 
-  -- between two bytes: the lines that ended are answered, and of the line that has begun a front is kept
+  -- between two bytes: the lines that ended are answered, and the first bytes of the line that has begun are kept
   pub record Amid (number : ℕ) (kept : List ℕ) (input left before after : Option (List ℕ)) : Type 0 where
     pub lines : List (List ℕ)
     pub line : List ℕ
@@ -60,7 +60,7 @@ module _ (IsText : List ℕ → List ℕ → Type 0) where
   module _ (IsNone : List ℕ → Type 0) (lines : List (List ℕ)) (line kept : List ℕ) (number : ℕ) (input before w1 w2 : Option (List ℕ))
       (keeps : kept ≡ take kept_bytes line) (numbered : number ≡ min (1 + length lines) last_number)
       (stop : Keeps w1 w2 → IsStopped IsText input before w2) (come : (w : Option (List ℕ)) → Keeps w1 w → AreBefore IsText lines line input before w) where
-    -- what is left off where a line is not answered
+    -- the output if a line is not answered
     left_off : (fault : Fault) → IsLineFault IsText IsNone kept number w1 w2 fault → IsLeftOff IsText IsNone input before w2 fault
     left_off (NoSuchPositionInLine n) (same, none, kept_out) =
         (lines, line, come w2 kept_out, subst (λ (l : List ℕ). IsNone (without_return l)) keeps none, same ∙ numbered)
@@ -80,7 +80,7 @@ module _ (IsText : List ℕ → List ℕ → Type 0) where
     left_off InputFailed is = absurd is
     left_off TooMuchInput is = absurd is
 
-  -- ---- a byte more
+  -- ---- one more byte
   module _ (number : ℕ) (kept : List ℕ) (b : ℕ) (input l1 l2 before w1 : Option (List ℕ)) (h : Amid number kept input l1 before w1)
       (one : Consumes l1 l2 (b ∷ [])) where
     all_read : Consumes input l2 (h.so_far.bytes ++ b ∷ [])
@@ -167,7 +167,7 @@ module _ (IsText : List ℕ → List ℕ → Type 0) where
     whole : lines_of h.so_far.bytes ≡ h.lines ++ lines_from h.line []
     whole = ap lines_of (sym (append-nil h.so_far.bytes)) ∙ h.so_far.parts []
 
-    -- nothing is left to answer
+    -- all lines are answered
     pub all_done : length kept ≡ 0 → AreAllAnswered IsText input before w1
     all_done e =
         let none : h.line ≡ [] = none_kept h.line (ap length (sym h.keeps) ∙ e) in
@@ -227,12 +227,12 @@ module _ (IsText : List ℕ → List ℕ → Type 0) where
           })
           fault is
 
--- a byte that was given is one that the input had
+-- a byte that was read is one of the input
 pub one_byte : {E : Type 0} → (old new : Option (List ℕ)) (item : Result ℕ E) (b : ℕ) → item ≡ Ok b → IfOk item (λ x. Consumes old new (x ∷ [])) → Consumes old
     new (b ∷ [])
 one_byte old new item b e h = subst (λ (i : Result ℕ _). IfOk i (λ x. Consumes old new (x ∷ []))) e h
 
--- of a buffer that has read nothing all is left that its reader has
+-- a buffer that has read nothing has the whole rest of its reader
 pub fresh_reader : {T A : Type 0} → (remaining : T → Option (List ℕ)) (b : BufReader T A) (inner : T) → reader_capacity b ≡ 8192 → reader_buffer b ≡ [] →
     reader_inner b ≡ inner → reader_remaining remaining b ≡ remaining inner
 fresh_reader remaining b inner room empty is =
@@ -245,7 +245,7 @@ module _ (r : Rules) (shown : Position → List ℕ) (move_shown : Position → 
   pub unread : m ≡ None → IsOfNone r shown move_shown text
   unread none p read reached = let e : None ≡ Some p = sym none ∙ (reads p).1 read in absurd (cc)
 
-  -- what was read has no table, though each tier of the game has
+  -- the position that was read has no table, though each tier of the game has one
   pub unheld : (p : Position) (entries : List TableData) (order : List ℕ) → m ≡ Some p → IsTierOrder r order → HoldsExactly entries order
       → (IsHeld entries p.tier → ⊥) → IsOfNone r shown move_shown text
   unheld p entries order e is held none q read reached =

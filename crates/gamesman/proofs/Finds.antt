@@ -1,4 +1,4 @@
--- What is found tier by tier, and the tables that it rests on.
+-- The positions found tier by tier, and the tables that they come from.
 use Rattle.std.proofs.Common.{◌≡◌, ℕ, zero, suc, ◌+◌, ◌-◌, ◌⊎◌, inl, inr, Bool, List, [], ◌∷◌, ◌++◌, map, length, take, drop, Option, None, Some, Result}
 use Rattle.std.proofs.Common.{Ok, Err, refl, sym, ap, ap₂, subst, ◌∙◌, arith, append-nil, take-append-drop, length-append}
 use Rattle.std.specs.List.{Contains, flat_map}
@@ -38,7 +38,7 @@ use Rattle.gamesman.specs.Finds.{board_row, IsTextOf, IsFoundAt, AreTiersFor, Is
 use Rattle.gamesman.specs.Finds.{limit_by_tier, AreFoundWith}
 
 -- ---- the tables
--- one tier is the only one of a list
+-- a list of one tier
 pub held_one : (r : Rules) (entries : List TableData) (tier : ℕ) → AreAllHeld r entries tier → (t : ℕ) → Contains (tier ∷ []) t → AreAllHeld r entries t
 held_one r entries tier held t has = elim (contains_cases tier t [] has) [
   | inl e ↦ subst (AreAllHeld r entries) e held
@@ -46,7 +46,7 @@ held_one r entries tier held t has = elim (contains_cases tier t [] has) [
 ]
 
 -- ---- the limit
--- what is told tier by tier is the first positions, and no sheet
+-- only the first positions are written tier by tier, and a sheet never is
 pub told_by_tier : (form : Form) (choice : Choice) (n : ℕ) → limit_by_tier form choice ≡ Some n → (choice ≡ First n) × (form ≡ Sheet → ⊥)
 told_by_tier Rows (First k) n e = (ap First (same_Some k n e), λ f. absurd (cc))
 told_by_tier Json (First k) n e = (ap First (same_Some k n e), λ f. absurd (cc))
@@ -84,7 +84,7 @@ module _ (r : Rules) (q : Sought) (reached : Bool) (limit : ℕ) where
   found_none : AreFound r q reached limit [] []
   found_none = record { positions = refl; each = λ k d inside. absurd (omega arith) }
 
-  -- those of some tiers and of one more
+  -- the positions of some tiers and of one more
   found_more : (tiers : List ℕ) (tier : ℕ) (xs ys : List Found) → AreFound r q reached limit tiers xs → AreFound r q reached (limit - length xs) (tier ∷ []) ys
       → AreFound r q reached limit (tiers ++ tier ∷ []) (xs ++ ys)
   found_more tiers tier xs ys h k =
@@ -116,7 +116,7 @@ module _ (r : Rules) (q : Sought) (reached : Bool) (limit : ℕ) where
       }
 
 -- ---- tier by tier
--- what is found in some tiers is written, and so many may still be
+-- the found positions of some tiers are written, and this many more may be
 abbrev pub IsSoFar : GameSpec → PositionSearch → ℕ → List ℕ → Option (List ℕ) → Option (List ℕ) → ℕ → Type 0
 IsSoFar g asked limit tiers before now left = (xs : List Found) × AreFound g.rules asked.sought asked.reached limit tiers xs × (left ≡ limit - length xs)
     × ((text : List ℕ) × IsTextOf g asked.form xs text × Appends before now text)
@@ -148,7 +148,7 @@ module _ (g : GameSpec) (asked : PositionSearch) (limit : ℕ) (by_tier : limit_
         (text ++ more, text_more g asked.form xs ys text more no_sheet told too, Appends-trans a b c text more put written),
       )
 
-  -- those of the next tier are written
+  -- the positions of the next tier are written
   pub next_told : (tiers : List ℕ) (k tier n next left : ℕ) (a b c : Option (List ℕ)) → take (k + 1) tiers ≡ take k tiers ++ tier ∷ [] → IsSoFar g asked
       limit (take k tiers) a b left
       → IsTierTold g asked tier left b c (Ok n) → next ≡ left - n → IsSoFar g asked limit (take (k + 1) tiers) a c next
@@ -161,7 +161,7 @@ module _ (g : GameSpec) (asked : PositionSearch) (limit : ℕ) (by_tier : limit_
       (sym (told_by_tier asked.form asked.choice limit by_tier).0) are
 
   module _ (IsWhy : Fault → Type 0) (tiers : List ℕ) (are_asked : AreTiersFor g.rules asked.tier tiers) (a b : Option (List ℕ)) where
-    -- all of the tiers are told
+    -- the positions of all tiers are written
     all_told : (left : ℕ) → IsSoFar g asked limit tiers a b left → IsToldByTier g asked IsWhy a b (Ok 0)
     all_told left (xs, are, is, (text, told, put)) =
         record { written = (refl, (text, (tiers, are_asked, (xs, chosen tiers xs are, told)), put)); refused = tt }
@@ -187,7 +187,7 @@ module _ (g : GameSpec) (asked : PositionSearch) (limit : ℕ) (by_tier : limit_
             part_after a b c text more put part,
           )
 
-      -- or memory is refused there
+      -- memory is refused in the next tier
       memory_told : Keeps b c → (text : List ℕ) × IsFoundSoFar g asked text × Appends a c text
       memory_told keeps =
           let (xs, are, is, (text, told, put)) = so_far in
@@ -218,7 +218,7 @@ module _ (g : GameSpec) (asked : PositionSearch) (limit : ℕ) (by_tier : limit_
         refused = elim why [ inl out ↦ inl out | inr memory ↦ inr (refused fault memory) ];
       }
 
--- what is found is told as the limit says
+-- found positions are written as the limit requires
 pub found_with : (o p : Option ℕ) (g : GameSpec) (asked : PositionSearch) (IsWhy : Fault → Type 0) (before after : Option (List ℕ))
     (result : Result ℕ Fault) → o ≡ p
     → AreFoundWith o g asked IsWhy before after result → AreFoundWith p g asked IsWhy before after result

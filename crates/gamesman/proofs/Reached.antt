@@ -1,4 +1,4 @@
--- All tiers that a tier reaches are held: those below one of them too.
+-- All tiers that a tier reaches are held, also those below one of them.
 use Rattle.std.proofs.Common.{ℕ, zero, suc, List, refl}
 use Rattle.std.specs.List.{Contains}
 use Rattle.gm_game.specs.Rules.{Rules}
@@ -9,7 +9,7 @@ use Rattle.gm_build.specs.Work.{HoldsExactly}
 use Rattle.gm_best.specs.Reached.{AreAllHeld, AreClosed}
 use Rattle.gm_best.proofs.Held.{all_held}
 
--- those that are reached from any of them
+-- the tiers that are reached from one of them
 pub order_held : (r : Rules) (entries : List TableData) (order : List ℕ) (first : ℕ) → IsOrderFrom r first order → HoldsExactly entries order → (tier : ℕ) →
     Contains order tier → AreAllHeld r entries tier
 order_held r entries order first is held tier has =
@@ -22,7 +22,7 @@ reached_held r entries order first is held =
     all_held r entries (IsReachedFrom r first) (λ tier child (n, reached) has. (suc n, (tier, reached, has)))
     (λ tier reached. (held tier).1 ((is.each tier).1 reached)) first (zero, refl)
 
--- so the tables are closed
+-- the tables are closed
 pub order_closed : (r : Rules) (entries : List TableData) (order : List ℕ) (first : ℕ) → IsOrderFrom r first order → HoldsExactly entries order → AreClosed
     r entries
 order_closed r entries order first is held tier has = order_held r entries order first is held tier ((held tier).0 has)

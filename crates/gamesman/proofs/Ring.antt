@@ -1,4 +1,4 @@
--- Mu Torere by its ways is Mu Torere by its board.
+-- Mu Torere by its ways is the same game as Mu Torere by its board.
 use Rattle.std.proofs.Common.{ℕ, List, subst}
 use Rattle.std.specs.Prelude.{codes}
 use Rattle.gm_game.specs.declared.position.Position.{Position}

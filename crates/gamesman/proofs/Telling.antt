@@ -1,4 +1,4 @@
--- What is left of an answer about all of a game after a fault, and the tables that it rests on.
+-- The output of an answer about all of a game after a fault, and the tables for it.
 use Rattle.std.proofs.Common.{◌≡◌, ℕ, true, false, nat_eq, inl, inr, List, Option, None, Some, Result, Ok, Err, refl, sym, subst, ◌∙◌, eqb-true}
 use Rattle.std.proofs.Common.{eq-eqb}
 use Rattle.std.specs.List.{Contains, list_any}
@@ -77,27 +77,27 @@ module _ (IsText : List ℕ → Type 0) (o : Option (List ℕ)) where
   unsearched_cut r tier fault (inr is) = unbuilt_cut IsText o r (first_of r tier) fault is
 
   module _ (IsWhy : Fault → Type 0) (fault : Fault) (why : IsWhy fault) where
-    -- nothing is written where memory is refused
+    -- nothing is written if memory is refused
     pub memory_told : IsMemoryFault fault → IsTold IsText IsWhy o o (Err fault)
     memory_told is = record { written = memory_cut fault is; refused = inr why }
 
-    -- nor where no table is built
+    -- nothing is written if no table is built
     pub unbuilt_told : (r : Rules) (first : ℕ) → IsUnbuilt r first fault → IsTold IsText IsWhy o o (Err fault)
     unbuilt_told r first is = record { written = unbuilt_cut IsText o r first fault is; refused = inr why }
 
-    -- nor where the tier is not known to be one of the game
+    -- nothing is written if the tier is not known to be one of the game
     pub unknown_told : (r : Rules) (tier : ℕ) → IsUnknown r tier fault → IsTold IsText IsWhy o o (Err fault)
     unknown_told r tier is = record { written = unknown_cut r tier fault is; refused = inr why }
 
-    -- nor where nothing canonical stands at a place
+    -- nothing is written if a place has no canonical position
     pub no_place_told : (r : Rules) (tier index : ℕ) → IsNoPlace r tier index fault → IsTold IsText IsWhy o o (Err fault)
     no_place_told r tier index is = record { written = no_place_cut r tier index fault is; refused = inr why }
 
-  -- nor where no table is had
+  -- nothing is written if there is no table
   pub unsearched_told : (r : Rules) (tier : Option ℕ) (fault : Fault) → IsUnsearched r tier fault → IsTold IsText (IsUnsearched r tier) o o (Err fault)
   unsearched_told r tier fault is = record { written = unsearched_cut r tier fault is; refused = inr is }
 
--- refused memory is a reason for which tables are not built
+-- refused memory is a reason why tables are not built
 pub memory_unbuilt : (r : Rules) (first : ℕ) (fault : Fault) → IsMemoryFault fault → IsUnbuilt r first fault
 memory_unbuilt r first NoSuchGame is = absurd is
 memory_unbuilt r first NoSuchPosition is = absurd is
@@ -114,7 +114,7 @@ memory_unbuilt r first OutputFailed is = absurd is
 memory_unbuilt r first OutputClosed is = absurd is
 memory_unbuilt r first TooMuchInput is = absurd is
 
--- a text that is written is what is to be told
+-- a text of the right kind that is put is an answer
 pub put_told : (IsText : List ℕ → Type 0) (IsWhy : Fault → Type 0) (text : List ℕ) (before after : Option (List ℕ)) (result : Result ℕ Fault) → IsText text
     → IsPut text before after result
     → IsTold IsText IsWhy before after result
@@ -125,14 +125,14 @@ put_told IsText IsWhy text before after (Err fault) is (failed, part) = record {
       inl failed;
 }
 
--- a tier that a test finds in a list is there, and one that it does not find is not
+-- a tier that a test finds in a list is there, and one that it doesn't find is not
 pub listed : (tiers : List ℕ) (tier : ℕ) → list_any (λ y. nat_eq y tier) tiers ≡ true → Contains tiers tier
 listed tiers tier e = let (y, has, s) = any_in (λ (y : ℕ). nat_eq y tier) tiers e in subst (Contains tiers) (eqb-true y tier s) has
 
 pub unlisted : (tiers : List ℕ) (tier : ℕ) → list_any (λ y. nat_eq y tier) tiers ≡ false → Contains tiers tier → ⊥
 unlisted tiers tier e has = let f : true ≡ false = sym (any_from (λ (y : ℕ). nat_eq y tier) tiers tier has (eq-eqb tier tier refl)) ∙ e in absurd (cc)
 
--- nothing is written tier by tier where nothing is written at all
+-- nothing is written tier by tier if nothing is written at all
 left_from : (IsText : List ℕ → Type 0) (o : Option (List ℕ)) (fault : Fault) → IsCutOff (λ text. ⊥) o o fault → IsLeft IsText o o fault
 left_from IsText o OutputFailed is = absurd is.1
 left_from IsText o OutputClosed is = absurd is.1
@@ -149,14 +149,14 @@ left_from IsText o (AnotherGames t) is = is
 left_from IsText o InputFailed is = is
 left_from IsText o TooMuchInput is = is
 
--- what `find` finds is told where no table is had
+-- the output of `find` if there is no table
 pub find_unsearched : (limit : Option ℕ) (g : GameSpec) (asked : PositionSearch) (o : Option (List ℕ)) (fault : Fault) → IsUnsearched g.rules asked.tier fault
     → AreFoundWith limit g asked (IsUnsearched g.rules asked.tier) o o (Err fault)
 find_unsearched (Some limit) g asked o fault is =
     record { written = left_from (IsFoundSoFar g asked) o fault (unsearched_cut (λ text. ⊥) o g.rules asked.tier fault is); refused = inr is }
 find_unsearched None g asked o fault is = unsearched_told (IsFoundOf g asked) o g.rules asked.tier fault is
 
--- a question about all tables of a game is answered where no table is had
+-- the answer to a question about all tables of a game if there is no table
 pub unsearched : (g : GameSpec) (asked : TableRequest) (input o : Option (List ℕ)) (fault : Fault) → IsUnsearched g.rules (tier_asked asked) fault →
     IsSearched g asked input o o (Err fault)
 unsearched g (Find positions) input o fault is = find_unsearched (limit_by_tier positions.form positions.choice) g positions o fault is

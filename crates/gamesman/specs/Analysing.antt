@@ -1,4 +1,4 @@
--- What `analyse` tells of a game.
+-- The output of `analyse`.
 use Rattle.std.specs.Prelude.{◌≡◌, ℕ, List, [], ◌∷◌, ◌++◌, codes, length, Option, None, Result}
 use Rattle.serde_json.specs.Written.{compact_text}
 use Rattle.gm_game.specs.Rules.{Rules}
@@ -13,7 +13,7 @@ use Rattle.gamesman.specs.declared.fault.Fault.{Fault}
 use Rattle.gamesman.specs.Searches.{IsUnsearched}
 use Rattle.gamesman.specs.Told.{IsTold}
 
--- what is counted of a tier's true table
+-- the counts of a tier's true table
 pub record IsAnalysisOf (r : Rules) (table : TableData) (a : Analysis) : Type 0 where
   pub tier : a.tier ≡ table.tier
   pub size : a.size ≡ length table.records
@@ -40,6 +40,6 @@ AreAnalysisLines r (tier ∷ tiers) out = (line : List ℕ) × (rest : List ℕ)
 abbrev pub IsAnalysisText : Rules → List ℕ → Type 0
 IsAnalysisText r out = (tiers : List ℕ) × IsTierOrder r tiers × AreAnalysisLines r tiers out
 
--- what is counted of each tier of the game is told
+-- the counts of each tier of the game are written
 abbrev pub IsAnalysedBy : Rules → Option (List ℕ) → Option (List ℕ) → Result ℕ Fault → Type 0
 IsAnalysedBy r before after result = IsTold (IsAnalysisText r) (IsUnsearched r None) before after result

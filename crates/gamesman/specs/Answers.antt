@@ -1,4 +1,4 @@
--- What each command answers.
+-- The answer of each command.
 use Rattle.std.specs.Prelude.{◌≡◌, ℕ, max, true, false, List, Option, None, Some, Result, Ok, Err, IfErr}
 use Rattle.std.specs.Io.KnownBytes.{Keeps}
 use Rattle.gm_game.specs.declared.position.Position.{Position}
@@ -34,13 +34,13 @@ use Rattle.gamesman.specs.Listing.{listed}
 use Rattle.gamesman.specs.Told.{IsPut}
 
 module _ (r : Rules) (shown : Position → List ℕ) (move_shown : Position → ℕ → List ℕ) (position : List ℕ) where
-  -- a question about the position with this text is answered by such a text; where no position has the text, that is the fault
+  -- a question about the position with this text is answered by such a text; if no position has the text, that is the fault
   pub record IsAnsweredBy (IsText : List ℕ → Type 0) (before after : Option (List ℕ)) (result : Result ℕ Fault) : Type 0 where
     pub written : IsWritten IsText before after result
     pub refused : IfErr result (IsRefused r shown move_shown position)
     pub unread : IsNoPosition r shown move_shown position → result ≡ Err NoSuchPosition
 
--- what is written of the position with this text
+-- the answer to a question about the position with this text
 abbrev pub IsTextFor : GameSpec → Question → List ℕ → List ℕ → Type 0
 IsTextFor g (Moves distinct json) position out = IsMovesText g.rules g.shown g.move_shown position distinct json out
 IsTextFor g Why position out = IsWhyText g.rules g.shown g.move_shown position out
@@ -50,7 +50,7 @@ IsTextFor g (Show explained) position out = IsShowText g.rules g.shown g.move_sh
 IsTextFor g (Diagram valued) position out = IsDiagram g.rules g.shown g.move_shown g.drawn g.mover g.style g.title g.board valued position out
 IsTextFor g (Page limit) position out = IsPage g.rules g.shown g.move_shown g.style g.title g.board g.points g.naming position (max limit 1) out
 
--- the text of the position that is asked about: of the start where none is given
+-- the text of the position that a question is about: that of the start if none is given
 abbrev pub text_asked : GameSpec → PositionRequest → List ℕ
 text_asked g asked = elim asked.position [ None ↦ g.shown g.rules.initial | Some text ↦ text.now ]
 
@@ -59,7 +59,7 @@ abbrev pub IsExplored : GameSpec → PositionRequest → Option (List ℕ) → O
 IsExplored g asked before after result = IsAnsweredBy g.rules g.shown g.move_shown (text_asked g asked) (IsTextFor g asked.question (text_asked g asked))
     before after result
 
--- why a position is not located: there is none with this text, or a write failed
+-- the reason why a position is not located: no position has this text, or a write failed
 abbrev pub IsUnlocatedFor : Rules → (Position → List ℕ) → List ℕ → Fault → Type 0
 IsUnlocatedFor r shown text NoSuchPosition = IsUnlocated r shown text
 IsUnlocatedFor r shown text (OutOfMemory error) = Unit {0}
@@ -67,13 +67,13 @@ IsUnlocatedFor r shown text OutputFailed = Unit {0}
 IsUnlocatedFor r shown text OutputClosed = Unit {0}
 IsUnlocatedFor r shown text _ = ⊥
 
--- where the position with this text stands is written; where no position has the text, that is the fault
+-- the tier and index of the position with this text are written; if no position has the text, that is the fault
 pub record IsLocatedBy (r : Rules) (shown : Position → List ℕ) (text : List ℕ) (before after : Option (List ℕ)) (result : Result ℕ Fault) : Type 0 where
   pub written : IsWritten (IsPlaceText r shown text) before after result
   pub refused : IfErr result (IsUnlocatedFor r shown text)
   pub unread : IsUnlocated r shown text → result ≡ Err NoSuchPosition
 
--- what is asked of a game is answered, from the bytes that are left to read to those that are written
+-- a request about a game is answered, from the rest of the input, the output before and the output after
 abbrev pub IsAnswered : GameSpec → GameRequest → Option (List ℕ) → Option (List ℕ) → Option (List ℕ) → Result ℕ Fault → Type 0
 IsAnswered g (Query position kept) input before after result =
     IsAnsweredBy g.rules g.shown g.move_shown position.now (IsQueryLine g.rules g.shown g.move_shown position.now) before after result
@@ -88,12 +88,12 @@ IsAnswered g (Check folder) input before after result = IsCheckedBy g.rules befo
 IsAnswered g (Play asked kept) input before after result = IsPlayed g.rules g.shown g.move_shown g.drawn g.mover asked input before after result
 IsAnswered g _ input before after result = Unit {0}
 
--- what is asked of the game of a name is answered; where no game has the name, that is the fault
+-- a request about the game of a name is answered; if no game has the name, that is the fault
 abbrev pub IsAnsweredFor : Option GameSpec → GameRequest → Option (List ℕ) → Option (List ℕ) → Option (List ℕ) → Result ℕ Fault → Type 0
 IsAnsweredFor None asked input before after result = (result ≡ Err NoSuchGame) × Keeps before after
 IsAnsweredFor (Some g) asked input before after result = IsAnswered g asked input before after result
 
--- what a line asks for is answered
+-- a request is answered
 abbrev pub IsDone : Request → Option (List ℕ) → Option (List ℕ) → Option (List ℕ) → Result ℕ Fault → Type 0
 IsDone (Names all) input before after result = IsPut (listed all) before after result
 IsDone (Of game asked telling) input before after result = IsAnsweredFor (game_named game.now) asked input before after result
@@ -104,6 +104,6 @@ abbrev pub status_of : Result ℕ Fault → ℕ
 status_of (Ok status) = status
 status_of (Err fault) = 1
 
--- what a line asks for is answered, and the status tells of what
+-- a request is answered, and the status shows with which result
 abbrev pub IsRun : Request → Option (List ℕ) → Option (List ℕ) → Option (List ℕ) → ℕ → Type 0
 IsRun asked input before after status = (result : Result ℕ Fault) × IsDone asked input before after result × (status ≡ status_of result)

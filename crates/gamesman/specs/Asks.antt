@@ -1,4 +1,4 @@
--- What the service that answers positions has written when it ends.
+-- The output of the service that answers positions, when it ends.
 use Rattle.std.specs.Prelude.{◌≡◌, ℕ, ◌⊎◌, Bool, true, false, List, [], codes, Option, Result, Ok, Err}
 use Rattle.std.specs.Io.KnownBytes.{Appends, Keeps}
 use Rattle.gm_game.specs.declared.position.Position.{Position}
@@ -14,7 +14,7 @@ use Rattle.gamesman.specs.declared.fault.Fault.{Fault}
 use Rattle.gamesman.specs.declared.fault.Fault.TheVariants.{NoSuchPosition, OutOfMemory, InputFailed, OutputFailed, OutputClosed}
 use Rattle.gamesman.specs.Outputs.{IsOutputFault}
 
--- the line that tells that the tables are there, where it is asked for
+-- the line that reports that the tables are ready, if it is requested
 abbrev pub ready_text : Bool → List ℕ
 ready_text true = codes "{\"ready\":true}\n"
 ready_text false = []
@@ -29,7 +29,7 @@ IsFaultOf Closed OutputClosed = Unit {0}
 IsFaultOf _ _ = ⊥
 
 module _ (r : Rules) (shown : Position → List ℕ) (move_shown : Position → ℕ → List ℕ) (asked : AskRequest) where
-  -- all lines of the input are answered, after the line that tells that the tables are there
+  -- all lines of the input are answered, after the line that reports that the tables are ready
   pub record IsAsked (input before after : Option (List ℕ)) : Type 0 where
     pub left : Option (List ℕ)
     pub between : Option (List ℕ)
@@ -38,7 +38,7 @@ module _ (r : Rules) (shown : Position → List ℕ) (move_shown : Position → 
     pub ready : Appends before between (ready_text asked.ready)
     pub served : IsServed (IsAnswer r shown move_shown asked.asked tiers) input left between after
 
-  -- the service ended by this error, after the line that tells that the tables are there
+  -- the service ended by this error, after the line that reports that the tables are ready
   pub record IsAskBroken (error : AskError) (input before after : Option (List ℕ)) : Type 0 where
     pub left : Option (List ℕ)
     pub between : Option (List ℕ)
@@ -47,7 +47,7 @@ module _ (r : Rules) (shown : Position → List ℕ) (move_shown : Position → 
     pub ready : Appends before between (ready_text asked.ready)
     pub broken : IsBroken (IsAnswer r shown move_shown asked.asked tiers) error input left between after
 
-  -- the service answered all, or ended before: before it began, in its first line, or by an error
+  -- the service answered all lines, or ended earlier: before it began, in its first line, or by an error
   abbrev pub IsAskedBy : (Fault → Type 0) → Option (List ℕ) → Option (List ℕ) → Option (List ℕ) → Result ℕ Fault → Type 0
   IsAskedBy IsWhy input before after (Ok status) = (status ≡ 0) × IsAsked input before after
   IsAskedBy IsWhy input before after (Err fault) =

@@ -1,4 +1,4 @@
--- What `check` tells of the files of a game.
+-- The output of `check` on the files of a game.
 use Rattle.std.specs.Prelude.{◌≡◌, ℕ, ◌⊎◌, List, [], ◌∷◌, ◌++◌, codes, Option, None, Some, Result, Ok, Err}
 use Rattle.std.specs.Result.{IsErrAnd}
 use Rattle.std.specs.Fmt.{decimal}
@@ -24,7 +24,7 @@ use Rattle.gamesman.specs.Outputs.{IsOutputFault}
 use Rattle.gamesman.specs.Refusals.{IsUnbuilt}
 use Rattle.gamesman.specs.Told.{IsMemoryFault}
 
--- the words for why bytes are no file of a tier
+-- the words for the reason why bytes are not a file of a tier
 abbrev pub file_words : FileError → List ℕ
 file_words OutOfMemory = codes "out of memory"
 file_words Truncated = codes "truncated"
@@ -37,7 +37,7 @@ file_words Trailing = codes "trailing bytes"
 file_words BadDigest = codes "bad digest"
 file_words OldVersion = codes "old version"
 
--- the words for what a tier's file is found to be
+-- the words for the finding on a tier's file
 abbrev pub finding_words : Finding → List ℕ
 finding_words Right = codes "ok"
 finding_words Missing = codes "missing"
@@ -52,7 +52,7 @@ abbrev pub finding_line : ℕ → Finding → List ℕ
 finding_line tier finding = ((codes "tier " ++ decimal tier) ++ codes " ") ++ finding_words finding ++ codes "\n"
 
 module _ (r : Rules) (entries : List TableData) (tier : ℕ) where
-  -- what these bytes are found to be, over the tables of the child tiers
+  -- the finding on these bytes, over the tables of the child tiers
   abbrev pub IsFoundIn : List ℕ → Finding → Type 0
   IsFoundIn bytes Right = IsTrueText r tier bytes
   IsFoundIn bytes Missing = ⊥
@@ -60,16 +60,16 @@ module _ (r : Rules) (entries : List TableData) (tier : ℕ) where
   IsFoundIn bytes (NoFile why) = Refuses r tier bytes why × (IsTrueText r tier bytes → ⊥)
   IsFoundIn bytes (NoTable why) = IsUntrueText r entries tier bytes why × (IsTrueText r tier bytes → ⊥)
 
-  -- what the bytes that were read are found to be, if any were
+  -- the finding on the bytes that were read, if there were any
   abbrev pub IsFoundOf : Option (List ℕ) → Finding → Type 0
   IsFoundOf None finding = finding ≡ Missing
   IsFoundOf (Some bytes) finding = IsFoundIn bytes finding
 
-  -- what a tier's file is found to be: it is read exactly where the tables of all child tiers are held
+  -- the finding on a tier's file, which is read exactly if the tables of all child tiers are held
   abbrev pub IsFinding : Finding → Type 0
   IsFinding finding = ((finding ≡ NotChecked) × (AreHeld r entries tier → ⊥)) ⊎ (AreHeld r entries tier × ((read : Option (List ℕ)) × IsFoundOf read finding))
 
--- the tier's table is at hand exactly where it is right
+-- the tier's table is given exactly if it is right
 abbrev pub IsTableFor : ℕ → Finding → Option TableData → Type 0
 IsTableFor tier Right None = ⊥
 IsTableFor tier Right (Some table) = table.tier ≡ tier
@@ -86,7 +86,7 @@ right_with tier NotChecked right = right
 right_with tier (NoFile why) right = right
 right_with tier (NoTable why) right = right
 
--- the status to end with, after one more tier: 1 unless all tiers are right
+-- the exit status after one more tier: 1 unless all tiers are right
 abbrev pub status_with : ℕ → Finding → ℕ
 status_with status Right = status
 status_with status Missing = 1
@@ -94,11 +94,11 @@ status_with status NotChecked = 1
 status_with status (NoFile why) = 1
 status_with status (NoTable why) = 1
 
--- what a tier's file is found to be, where exactly these tiers are right among those before it
+-- the finding on a tier's file, if exactly these of the tiers before it are right
 abbrev pub IsFoundAfter : Rules → List ℕ → ℕ → Finding → Type 0
 IsFoundAfter r right tier finding = (entries : List TableData) × AreTables r entries × HoldsExactly entries right × IsFinding r entries tier finding
 
--- the lines of some tiers, one after another, where these tiers are right and this is the status before them; and the status after them
+-- the lines of some tiers, one after another, and the status after them; given are the right tiers and the status before them
 abbrev pub AreLines : Rules → List ℕ → ℕ → List ℕ → List ℕ → ℕ → Type 0
 AreLines r right status [] out ends = (out ≡ []) × (ends ≡ status)
 AreLines r right status (tier ∷ tiers) out ends = (finding : Finding) × (rest : List ℕ) × IsFoundAfter r right tier finding
@@ -114,12 +114,12 @@ IsTierCut r entries tier before after fault = (IsUnreadAt tier fault × Keeps be
     ⊎ ((finding : Finding) × IsFinding r entries tier finding × ((IsOutputFault fault × AppendsPart before after (finding_line tier finding))
     ⊎ (IsMemoryFault fault × Appends before after (finding_line tier finding))))
 
--- why a check ends before the tiers that are left: memory is refused, or the next tier's file can't be read
+-- the reason why a check ends before the remaining tiers: memory is refused, or the next tier's file can't be read
 abbrev pub IsUnread : List ℕ → Fault → Type 0
 IsUnread [] fault = IsMemoryFault fault
 IsUnread (tier ∷ tiers) fault = IsUnreadAt tier fault
 
--- a check ended early: the lines of the tiers before are written, or a first part of them where a write failed
+-- a check ended early: the lines of the tiers before are written, or a first part of them if a write failed
 pub record IsCheckCut (r : Rules) (tiers : List ℕ) (before after : Option (List ℕ)) (fault : Fault) : Type 0 where
   pub done : List ℕ
   pub left : List ℕ
@@ -129,12 +129,12 @@ pub record IsCheckCut (r : Rules) (tiers : List ℕ) (before after : Option (Lis
   pub lines : AreLines r [] 0 done out status
   pub written : (IsOutputFault fault × AppendsPart before after out) ⊎ (IsUnread left fault × Appends before after out)
 
--- these tiers are checked in turn: a line for each is written, and the status tells whether all are right
+-- these tiers are checked in their order: a line for each is written, and the status shows whether all are right
 abbrev pub IsCheckOf : Rules → List ℕ → Option (List ℕ) → Option (List ℕ) → Result ℕ Fault → Type 0
 IsCheckOf r tiers before after (Ok status) = (out : List ℕ) × AreLines r [] 0 tiers out status × Appends before after out
 IsCheckOf r tiers before after (Err fault) = IsCheckCut r tiers before after fault
 
--- the order of the game's tiers can't be had, and nothing is written
+-- the order of the game's tiers can't be made, and nothing is written
 abbrev pub IsUnchecked : Rules → Option (List ℕ) → Option (List ℕ) → Result ℕ Fault → Type 0
 IsUnchecked r before after result = IsErrAnd result (IsUnbuilt r r.initial.tier) × Keeps before after
 

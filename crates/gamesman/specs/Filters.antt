@@ -1,4 +1,4 @@
--- What is answered to positions that are read, a line each.
+-- The answers to the positions of the input, one in each line.
 use Rattle.std.specs.Prelude.{◌≡◌, ℕ, ◌+◌, ◌-◌, ◌^◌, min, ◌⊎◌, List, [], ◌∷◌, ◌++◌, length, take, Option, Result, Ok, Err}
 use Rattle.std.specs.Io.KnownBytes.{Appends, Consumes, Keeps, IsAtEnd}
 use Rattle.gm_game.specs.declared.position.Position.{Position}
@@ -15,18 +15,18 @@ use Rattle.gamesman.specs.declared.fault.Fault.TheVariants.{NoSuchPositionInLine
 use Rattle.gamesman.specs.Refusals.{IsUnbuilt}
 use Rattle.gamesman.specs.Texts.{IsQueryLine, IsMovesText}
 
--- the number of the last line that is counted
+-- the greatest number of a line
 abbrev pub last_number : ℕ
 last_number = 2 ^ 64 - 1
 
 module _ (IsText : List ℕ → List ℕ → Type 0) where
-  -- such texts of these lines, one after the other: of a line, of which so much is looked at, without the carriage return at its end
+  -- such texts of these lines, one after the other; the text of a line is that of its first `kept_bytes` bytes, without the carriage return at its end
   abbrev pub AreTexts : List (List ℕ) → List ℕ → Type 0
   AreTexts [] out = out ≡ []
   AreTexts (line ∷ lines) out = (text : List ℕ) × (rest : List ℕ) × IsText (without_return (take kept_bytes line)) text × (out ≡ text ++ rest) ×
       AreTexts lines rest
 
-  -- these lines ended in what was read, and such a text of each was written; of the line that has begun nothing was
+  -- these lines ended in the part of the input that was read, and such a text of each was written; for the line that has begun nothing was written
   pub record AreAnswered (lines : List (List ℕ)) (begun : List ℕ) (input left before after : Option (List ℕ)) : Type 0 where
     pub bytes : List ℕ
     pub text : List ℕ
@@ -59,18 +59,18 @@ module _ (IsText : List ℕ → List ℕ → Type 0) where
   abbrev pub IsStopped : Option (List ℕ) → Option (List ℕ) → Option (List ℕ) → Type 0
   IsStopped input before after = (lines : List (List ℕ)) × (begun : List ℕ) × (left : Option (List ℕ)) × AreAnswered lines begun input left before after
 
-  -- of the text of one line a first part was written
+  -- a first part of the text of one line was written
   abbrev pub IsCutLine : Option (List ℕ) → Option (List ℕ) → Option (List ℕ) → Type 0
   IsCutLine input before after = (lines : List (List ℕ)) × (line : List ℕ) × (between : Option (List ℕ)) × AreBefore lines line input before between ×
       ((out : List ℕ) × IsText (without_return (take kept_bytes line)) out × AppendsPart between after out)
 
   module _ (IsNone : List ℕ → Type 0) where
-    -- nothing was written of the line with this number, which has no such text
+    -- nothing was written for the line with this number, which has no such text
     abbrev pub IsNoLine : ℕ → Option (List ℕ) → Option (List ℕ) → Option (List ℕ) → Type 0
     IsNoLine n input before after = (lines : List (List ℕ)) × (line : List ℕ) × AreBefore lines line input before after ×
         IsNone (without_return (take kept_bytes line)) × (n ≡ min (1 + length lines) last_number)
 
-    -- how far it came before this fault
+    -- the progress before this fault
     abbrev pub IsLeftOff : Option (List ℕ) → Option (List ℕ) → Option (List ℕ) → Fault → Type 0
     IsLeftOff input before after (NoSuchPositionInLine n) = IsNoLine n input before after
     IsLeftOff input before after (OutOfMemory error) = IsStopped input before after
@@ -79,7 +79,7 @@ module _ (IsText : List ℕ → List ℕ → Type 0) where
     IsLeftOff input before after OutputClosed = IsCutLine input before after
     IsLeftOff input before after _ = ⊥
 
-    -- the same for one line with this number
+    -- the progress in the line with this number before this fault
     abbrev pub IsLineFault : List ℕ → ℕ → Option (List ℕ) → Option (List ℕ) → Fault → Type 0
     IsLineFault line number before after (NoSuchPositionInLine n) = (n ≡ number) × IsNone (without_return line) × Keeps before after
     IsLineFault line number before after (OutOfMemory error) = Keeps before after
@@ -92,7 +92,7 @@ module _ (IsText : List ℕ → List ℕ → Type 0) where
     AreLinesAnswered input before after (Ok status) = (status ≡ 0) × AreAllAnswered input before after
     AreLinesAnswered input before after (Err fault) = IsLeftOff input before after fault
 
--- what is written of the position with this text: its value as a line, or its moves
+-- the text for the position with this text: its value as a line, or its moves
 abbrev pub IsFilterText : Rules → (Position → List ℕ) → (Position → ℕ → List ℕ) → Filter → List ℕ → List ℕ → Type 0
 IsFilterText r shown move_shown Value text out = IsQueryLine r shown move_shown text out
 IsFilterText r shown move_shown (Moves distinct json) text out = IsMovesText r shown move_shown text distinct json out
@@ -106,7 +106,7 @@ abbrev pub IsNotBegun : Rules → Option (List ℕ) → Option (List ℕ) → Re
 IsNotBegun r before after (Ok status) = ⊥
 IsNotBegun r before after (Err fault) = IsUnbuilt r r.initial.tier fault × Keeps before after
 
--- each position that is read is answered, up to a fault
+-- each position of the input is answered, up to a fault
 abbrev pub IsFiltered : Rules → (Position → List ℕ) → (Position → ℕ → List ℕ) → Filter → Option (List ℕ) → Option (List ℕ) → Option (List ℕ) → Result ℕ Fault
     → Type 0
 IsFiltered r shown move_shown asked input before after result =

@@ -1,4 +1,4 @@
--- What `find` tells.
+-- The output of `find`.
 use Rattle.std.specs.Prelude.{◌≡◌, ◌++◌, ℕ, ◌⊎◌, List, [], ◌∷◌, codes, length, take, Option, None, Some, Result, Ok, Err, IfErr}
 use Rattle.std.specs.Io.KnownBytes.{Keeps, Appends}
 use Rattle.std.specs.List.{flat_map}
@@ -25,7 +25,7 @@ use Rattle.gamesman.specs.Told.{IsTold}
 abbrev pub board_row : GameSpec → Found → List ℕ
 board_row g x = (g.drawn x.position ++ codes "\n") ++ found_row g.shown g.move_shown x
 
--- found positions as a text: of each its row, its line of JSON, or its row below its board; or a sheet of all
+-- found positions as a text: for each its row, its line of JSON, or its row below its board; or a sheet of all
 abbrev pub IsTextOf : GameSpec → Form → List Found → List ℕ → Type 0
 IsTextOf g Rows xs out = out ≡ flat_map (found_row g.shown g.move_shown) xs
 IsTextOf g Json xs out = out ≡ flat_map (found_line g.shown g.move_shown) xs
@@ -33,67 +33,67 @@ IsTextOf g Boards xs out = out ≡ flat_map (board_row g) xs
 IsTextOf g Sheet xs out = (es : List Entry)
     × AreEntries g.rules g.shown g.move_shown g.drawn g.mover g.style g.title g.board xs es × (out ≡ sheet_of g.title es)
 
--- those of the positions of these tiers that are sought that the choice takes, as a text
+-- the chosen ones of the positions of these tiers that are searched for, as a text
 abbrev pub IsFoundIn : GameSpec → PositionSearch → List ℕ → List ℕ → Type 0
 IsFoundIn g asked tiers out = (xs : List Found) × AreChosen g.rules asked.sought asked.reached asked.choice tiers xs × IsTextOf g asked.form xs out
 
--- the first of those of one tier, at most so many, as a text
+-- the first of them in one tier, up to a limit, as a text
 abbrev pub IsFoundAt : GameSpec → PositionSearch → ℕ → ℕ → List ℕ → Type 0
 IsFoundAt g asked tier left out = (xs : List Found) × AreFound g.rules asked.sought asked.reached left (tier ∷ []) xs × IsTextOf g asked.form xs out
 
--- the tiers that are looked in: the one that is named, or all of the game in their order
+-- the tiers that are searched: the named one, or all of the game in their order
 abbrev pub AreTiersFor : Rules → Option ℕ → List ℕ → Type 0
 AreTiersFor r None tiers = IsTierOrder r tiers
 AreTiersFor r (Some tier) tiers = tiers ≡ tier ∷ []
 
--- what is found in all of them
+-- the positions found in all of them
 abbrev pub IsFoundOf : GameSpec → PositionSearch → List ℕ → Type 0
 IsFoundOf g asked out = (tiers : List ℕ) × AreTiersFor g.rules asked.tier tiers × IsFoundIn g asked tiers out
 
--- what is found in the first of them, however many these are
+-- the positions found in some number of the first tiers
 abbrev pub IsFoundSoFar : GameSpec → PositionSearch → List ℕ → Type 0
 IsFoundSoFar g asked out = (tiers : List ℕ) × AreTiersFor g.rules asked.tier tiers × ((k : ℕ) × IsFoundIn g asked (take k tiers) out)
 
--- after a fault: a first part of such a text is written where a write failed; where memory is refused nothing or the whole of one; and nothing otherwise
+-- the output after a fault: a first part of such a text if a write failed; nothing or the whole of one if memory is refused; otherwise nothing
 abbrev pub IsLeft : (List ℕ → Type 0) → Option (List ℕ) → Option (List ℕ) → Fault → Type 0
 IsLeft IsText before after OutputFailed = (text : List ℕ) × IsText text × AppendsPart before after text
 IsLeft IsText before after OutputClosed = (text : List ℕ) × IsText text × AppendsPart before after text
 IsLeft IsText before after (OutOfMemory error) = Keeps before after ⊎ ((text : List ℕ) × IsText text × Appends before after text)
 IsLeft IsText before after _ = Keeps before after
 
--- what is found is written tier by tier; after a fault that is what the first tiers have, of which a part is left out where a write failed
+-- found positions are written tier by tier; after a fault those of the first tiers are written, without a last part if a write failed
 abbrev pub IsWrittenByTier : GameSpec → PositionSearch → Option (List ℕ) → Option (List ℕ) → Result ℕ Fault → Type 0
 IsWrittenByTier g asked before after (Ok status) = (status ≡ 0) × ((text : List ℕ) × IsFoundOf g asked text × Appends before after text)
 IsWrittenByTier g asked before after (Err fault) = IsLeft (IsFoundSoFar g asked) before after fault
 
--- the same; and why it is refused where no write failed
+-- found positions are written tier by tier, with the reason of a refusal if no write failed
 pub record IsToldByTier (g : GameSpec) (q : PositionSearch) (IsWhy : Fault → Type 0) (before after : Option (List ℕ)) (result : Result ℕ Fault) : Type 0 where
   pub written : IsWrittenByTier g q before after result
   pub refused : IfErr result (λ fault. IsOutputFault fault ⊎ IsWhy fault)
 
--- the first of the positions of one tier are written, and are so many; after a fault a part of them is where a write failed, and else nothing
+-- the first positions of one tier are written, and their number is returned; after a fault a part of them if a write failed, and otherwise nothing
 abbrev pub IsTierTold : GameSpec → PositionSearch → ℕ → ℕ → Option (List ℕ) → Option (List ℕ) → Result ℕ Fault → Type 0
 IsTierTold g asked tier left before after (Ok n) = (xs : List Found) × AreFound g.rules asked.sought asked.reached left (tier ∷ []) xs × (n ≡ length xs)
     × ((text : List ℕ) × IsTextOf g asked.form xs text × Appends before after text)
 IsTierTold g asked tier left before after (Err fault) = IsCutOff (IsFoundAt g asked tier left) before after fault
 
--- how many are asked for where the first are
+-- the limit, if the first positions are requested
 abbrev pub first_limit : Choice → Option ℕ
 first_limit (First n) = Some n
 first_limit (Random n seed) = None
 
--- how many at most are told tier by tier; none where all are told at once: a sheet, and those that chance takes
+-- the limit for positions that are written tier by tier; no limit if all are written at once: a sheet, or positions chosen by chance
 abbrev pub limit_by_tier : Form → Choice → Option ℕ
 limit_by_tier Rows choice = first_limit choice
 limit_by_tier Json choice = first_limit choice
 limit_by_tier Boards choice = first_limit choice
 limit_by_tier Sheet choice = None
 
--- what is found is told tier by tier, or at once
+-- found positions are written tier by tier, or at once
 abbrev pub AreFoundWith : Option ℕ → GameSpec → PositionSearch → (Fault → Type 0) → Option (List ℕ) → Option (List ℕ) → Result ℕ Fault → Type 0
 AreFoundWith (Some limit) g asked IsWhy before after result = IsToldByTier g asked IsWhy before after result
 AreFoundWith None g asked IsWhy before after result = IsTold (IsFoundOf g asked) IsWhy before after result
 
--- what `find` finds is told
+-- the positions that `find` finds are written
 abbrev pub AreFoundBy : GameSpec → PositionSearch → (Fault → Type 0) → Option (List ℕ) → Option (List ℕ) → Result ℕ Fault → Type 0
 AreFoundBy g asked IsWhy before after result = AreFoundWith (limit_by_tier asked.form asked.choice) g asked IsWhy before after result

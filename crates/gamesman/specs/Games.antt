@@ -1,4 +1,4 @@
--- The games by their names: the rules, the texts and the drawings that each name means.
+-- The games by their names: the rules, the texts and the drawings of each.
 use Rattle.std.specs.Prelude.{ℕ, Bool, true, false, List, codes, Option, None, Some, nat_eq, if◌then◌else◌}
 use Rattle.std.specs.Cmp.Lexicographic.{pointwise}
 use Rattle.gm_game.specs.declared.position.Position.{Position}
@@ -231,7 +231,7 @@ tactix_spec n misere = record {
   points = square_points (side_of n);
 }
 
--- whether two texts are the same
+-- tests whether two texts are the same
 abbrev pub is_same : List ℕ → List ℕ → Bool
 is_same name text = pointwise nat_eq name text
 
@@ -255,7 +255,7 @@ tactix_named name =
     else (if is_same name (codes "tactix-5") then Some (tactix_spec 5 false)
     else misere_named name))))
 
--- Mu Torere, Dao, Hare and Hounds, Pong Hau K'i or Shisima, or Tac Tix
+-- Mu Torere, Dao, Hare and Hounds, Pong Hau K'i, Shisima, or Tac Tix
 abbrev pub moving_named : List ℕ → Option GameSpec
 moving_named name =
     if is_same name (codes "mutorere") then Some mutorere_spec
@@ -267,7 +267,7 @@ moving_named name =
     else (if is_same name (codes "dodgem") then Some dodgem_spec
     else tactix_named name))))))
 
--- a game of three in a row, or one of those above
+-- a game of three in a row, or a game of `moving_named`
 abbrev pub lines_named : List ℕ → Option GameSpec
 lines_named name =
     if is_same name (codes "tictactoe") then Some (nine_spec 9)
@@ -275,7 +275,7 @@ lines_named name =
     else (if is_same name (codes "achi") then Some (nine_spec 8)
     else moving_named name))
 
--- the game of this name, where there is one
+-- the game of this name, if there is one
 abbrev pub game_named : List ℕ → Option GameSpec
 game_named name =
     if is_same name (codes "countdown") then Some countdown_spec

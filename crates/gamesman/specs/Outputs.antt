@@ -1,4 +1,4 @@
--- What a command has written when it ends.
+-- The output of a command when it ends.
 use Rattle.std.specs.Prelude.{◌≡◌, ℕ, List, ◌++◌, codes, Option, Result, Ok, Err}
 use Rattle.std.specs.Io.KnownBytes.{Keeps, Appends}
 use Rattle.gm_play.specs.Sessions.{AppendsPart}
@@ -11,13 +11,13 @@ IsOutputFault OutputFailed = Unit {0}
 IsOutputFault OutputClosed = Unit {0}
 IsOutputFault _ = ⊥
 
--- after a fault: a first part of such a text is written where a write failed, and nothing otherwise
+-- the output after a fault: a first part of such a text if a write failed, and otherwise nothing
 abbrev pub IsCutOff : (List ℕ → Type 0) → Option (List ℕ) → Option (List ℕ) → Fault → Type 0
 IsCutOff IsText before after OutputFailed = (text : List ℕ) × IsText text × AppendsPart before after text
 IsCutOff IsText before after OutputClosed = (text : List ℕ) × IsText text × AppendsPart before after text
 IsCutOff IsText before after _ = Keeps before after
 
--- the whole of such a text is written, and the status says that all is done; or else what is left after a fault
+-- the whole of such a text is written, and the status is that of success; or the output is that after a fault
 abbrev pub IsWritten : (List ℕ → Type 0) → Option (List ℕ) → Option (List ℕ) → Result ℕ Fault → Type 0
 IsWritten IsText before after (Ok status) = (status ≡ 0) × ((text : List ℕ) × IsText text × Appends before after text)
 IsWritten IsText before after (Err fault) = IsCutOff IsText before after fault

@@ -1,4 +1,4 @@
--- What a session of play has read and written when it ends.
+-- The input that a session of play has read and its output, when it ends.
 use Rattle.std.specs.Prelude.{◌≡◌, ℕ, ◌⊎◌, Bool, true, false, List, [], ◌++◌, codes, Option, None, Some, Result, Ok, Err, if◌then◌else◌}
 use Rattle.std.specs.Borrow.{Bor}
 use Rattle.std.specs.Str.{bytes_eq}
@@ -30,37 +30,37 @@ IsSessionFault TooMuch TooMuchInput = Unit {0}
 IsSessionFault Closed OutputClosed = Unit {0}
 IsSessionFault _ _ = ⊥
 
--- who moves first, where the sides have no names of their own
+-- who moves first, if the sides have no names of their own
 abbrev pub first_text : Side → List ℕ
 first_text You = codes "you move first\n"
 first_text Computer = codes "the computer moves first\n"
 
--- which side this one has
+-- the words before the side's name
 abbrev pub whose_text : Side → List ℕ
 whose_text You = codes "you are the "
 whose_text Computer = codes "the computer is the "
 
--- the line on who the person is, where this side is named so and moves first: always `x` in a game of `x` and `o`
+-- the line on who the person is, for a mover of this name and the side that moves first: the person is always `x` in a game of `x` and `o`
 abbrev pub sides_text : List ℕ → Side → List ℕ
 sides_text mover first =
     if bytes_eq mover (codes "x") then codes "you are x, the computer is o\n"
     else (if bytes_eq mover (codes "player") then first_text first
     else whose_text first ++ mover ++ codes "\n")
 
--- what stands before the dialogue: this line, where boards are drawn
+-- the opening before the dialogue: this line, if boards are drawn
 abbrev pub opening : Bool → List ℕ → Side → List ℕ
 opening true mover first = sides_text mover first
 opening false mover first = []
 
 module _ (r : Rules) (shown : Position → List ℕ) (move_shown : Position → ℕ → List ℕ) (drawn mover : Position → List ℕ) where
-  -- what the person sees before a question: the board, where boards are drawn
+  -- the text that the person sees before a question: the board, if boards are drawn
   abbrev pub seen_by : Bool → Question → Position → List ℕ
   seen_by true = sight r move_shown drawn
   seen_by false = unseen
 
   module _ (asked : PlayRequest) (start : Position) where
-    -- the opening is written and then a session held, by every look-up of true values and best moves, and there is one. Where the computer can win it wins
-    -- in the end, unless the person leaves; where the start is even it doesn't lose
+    -- the opening is written and then a session held, by every look-up of true values and best moves, of which there is at least one. If the computer can
+    -- win, it wins in the end unless the person leaves. If the start is even, it doesn't lose
     pub record IsHeld (input before after : Option (List ℕ)) : Type 0 where
       pub left : Option (List ℕ)
       pub between : Option (List ℕ)
@@ -103,7 +103,7 @@ module _ (r : Rules) (shown : Position → List ℕ) (move_shown : Position → 
   IsFromNone None = ⊥
   IsFromNone (Some text) = IsNoPosition r shown move_shown text.now
 
-  -- a session from the position that is asked for, or nothing where there is none
+  -- a session from the requested position, or nothing if there is no such position
   abbrev pub IsPlayed : PlayRequest → Option (List ℕ) → Option (List ℕ) → Option (List ℕ) → Result ℕ Fault → Type 0
   IsPlayed asked input before after result =
       (IsFromNone asked.position × (result ≡ Err NoSuchPosition) × Keeps before after)

@@ -10,12 +10,12 @@ use Rattle.gm_play.specs.PlayTexts.{IsReadAs, IsNoPosition}
 use Rattle.gamesman.specs.declared.fault.Fault.{Fault}
 use Rattle.gamesman.specs.declared.fault.Fault.TheVariants.{NoSuchPosition, OutOfMemory, NotBuilt, AnotherGames, OutputFailed, OutputClosed}
 
--- the fault for an error of a build: another game's file is in the way where the store has met one
+-- the fault for an error of a build: another game's file is in the way if the store has met one
 abbrev pub reason_of : BuildError → Bool → Fault
 reason_of (StoreFailed tier) true = AnotherGames tier
 reason_of error met = NotBuilt error
 
--- the tiers that the first one reaches are not built for this reason
+-- the reason why the tiers that the first one reaches are not built
 abbrev pub IsUnbuilt : Rules → ℕ → Fault → Type 0
 IsUnbuilt r first (OutOfMemory error) = Unit {0}
 IsUnbuilt r first (NotBuilt error) = IsBuildError r first error
@@ -23,7 +23,7 @@ IsUnbuilt r first (AnotherGames tier) = IsReachedFrom r first tier
 IsUnbuilt r first _ = ⊥
 
 module _ (r : Rules) (shown : Position → List ℕ) (move_shown : Position → ℕ → List ℕ) where
-  -- a question about the position with this text is refused for this reason: there is none, its tables are not built, or a write failed
+  -- the reason why a question about the position with this text is refused: no position has it, its tables are not built, or a write failed
   abbrev pub IsRefused : List ℕ → Fault → Type 0
   IsRefused text NoSuchPosition = IsNoPosition r shown move_shown text
   IsRefused text OutputFailed = Unit {0}

@@ -1,4 +1,4 @@
--- What the commands answer that look at all tables of a game, or at one place in them.
+-- The answers of the commands that read all tables of a game, or one place in them.
 use Rattle.std.specs.Prelude.{ℕ, ◌⊎◌, Bool, List, Option, None, Some, Result}
 use Rattle.gm_game.specs.declared.position.Position.{Position}
 use Rattle.gm_game.specs.Rules.{Rules}
@@ -18,15 +18,15 @@ use Rattle.gamesman.specs.Refusals.{IsUnbuilt}
 use Rattle.gamesman.specs.Told.{IsNoPlace, IsUnknown, IsTold}
 use Rattle.gamesman.specs.Asks.{IsAskedBy}
 
--- what stands at this index of a tier of the game: a canonical position, with its true value
+-- the canonical position at this index of a tier of the game, with its true value
 abbrev pub IsAtText : Rules → (Position → List ℕ) → ℕ → ℕ → List ℕ → Type 0
 IsAtText r shown tier index out = (p : Position) × IsAt r tier index p × IsReached r tier × IsPositionText r shown p out
 
--- why it is not told: the tier is none of the game, nothing canonical stands at the index, or the tables are not built
+-- the reason for a refusal: the tier is not one of the game, no canonical position has the index, or the tables are not built
 abbrev pub IsUnplaced : Rules → ℕ → ℕ → Fault → Type 0
 IsUnplaced r tier index fault = (IsUnknown r tier fault ⊎ IsNoPlace r tier index fault) ⊎ IsUnbuilt r tier fault
 
--- what stands at a tier and index is told
+-- the position at a tier and index is written
 abbrev pub IsPlaced : Rules → (Position → List ℕ) → ℕ → ℕ → Option (List ℕ) → Option (List ℕ) → Result ℕ Fault → Type 0
 IsPlaced r shown tier index before after result = IsTold (IsAtText r shown tier index) (IsUnplaced r tier index) before after result
 
@@ -38,24 +38,24 @@ IsCountsOf r asked out = (tiers : List ℕ) × IsTierOrder r tiers × IsCountsTe
 abbrev pub IsLongestOf : Rules → (Position → List ℕ) → (Position → ℕ → List ℕ) → Bool → ℕ → List ℕ → Type 0
 IsLongestOf r shown move_shown reached limit out = (tiers : List ℕ) × IsTierOrder r tiers × IsLongestText r shown move_shown reached limit tiers out
 
--- the one tier that is asked about; none where all are
+-- the one tier that a question is limited to; no tier if it is about all of them
 abbrev pub tier_asked : TableRequest → Option ℕ
 tier_asked (Find positions) = positions.tier
 tier_asked (Counts asked) = None
 tier_asked (Longest reached limit) = None
 tier_asked (Ask asked) = None
 
--- the tier whose tables are asked about, with all that it reaches: the initial one where none is named
+-- the tier whose tables a question needs, with all that it reaches: the initial one if no tier is named
 abbrev pub first_of : Rules → Option ℕ → ℕ
 first_of r None = r.initial.tier
 first_of r (Some tier) = tier
 
--- the tier that is named is not known to be one of the game
+-- the named tier is not known to be one of the game
 abbrev pub IsUnnamed : Rules → Option ℕ → Fault → Type 0
 IsUnnamed r None fault = ⊥
 IsUnnamed r (Some tier) fault = IsUnknown r tier fault
 
--- no table is had, for this reason
+-- the reason why there is no table
 abbrev pub IsUnsearched : Rules → Option ℕ → Fault → Type 0
 IsUnsearched r tier fault = IsUnnamed r tier fault ⊎ IsUnbuilt r (first_of r tier) fault
 

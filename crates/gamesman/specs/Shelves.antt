@@ -9,26 +9,26 @@ use Rattle.gm_tierdb.specs.declared.store_error.StoreError.TheVariants.{OutOfMem
 use Rattle.gamesman.specs.declared.shelf.Shelf.{Shelf}
 use Rattle.gamesman.specs.declared.shelf.Shelf.TheVariants.{Folder, ReadOnly, Memory}
 
--- how many calls have failed
+-- the number of calls that have failed
 abbrev pub failed_in : Shelf → ℕ
 failed_in (Folder s) = s.broken
 failed_in (ReadOnly s) = s.inner.broken + s.refused
 failed_in (Memory s) = 0
 
--- the path of the folder in which the files are kept, with whether it is only read; none where they are kept in memory
+-- the path of the folder that keeps the files, with whether it is only read; nothing if they are kept in memory
 abbrev pub kept_in : Shelf → Option (List ℕ × Bool)
 kept_in (Folder s) = Some (string_bytes s.folder, false)
 kept_in (ReadOnly s) = Some (string_bytes s.inner.folder, true)
 kept_in (Memory s) = None
 
--- the texts that are kept in memory; none where they are kept in a folder
+-- the texts that are kept in memory; nothing if they are kept in a folder
 abbrev pub texts_in : Shelf → Texts
 texts_in (Folder s) = λ tier. None
 texts_in (ReadOnly s) = λ tier. None
 texts_in (Memory s) = λ tier. option_map (λ v. v.items) (get nat_cmp s.entries tier)
 
--- a write: in memory the tier then has this text, and no other changes; after refused memory none has changed. A folder that is only read is not written,
--- and the write fails. Of another folder nothing is said
+-- a write: in memory the tier then has this text, and no other changes; after refused memory none has changed. A folder that is only read is not written, and
+-- the write fails. For another folder nothing is promised
 abbrev pub IsShelfWrite : {T : Type 0} → Shelf → Shelf → ℕ → List ℕ → Result T StoreError → Type 0
 IsShelfWrite (Folder s) new tier bytes result = Unit {0}
 IsShelfWrite (ReadOnly s) new tier bytes result = IsErrOf result Failed × (kept_in new ≡ kept_in (ReadOnly s))

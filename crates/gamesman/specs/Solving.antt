@@ -1,4 +1,4 @@
--- What `solve` tells of a build.
+-- The output of `solve`.
 use Rattle.std.specs.Prelude.{◌≡◌, ℕ, List, ◌++◌, codes, Option, None, Result}
 use Rattle.std.specs.Fmt.{decimal}
 use Rattle.gm_game.specs.Rules.{Rules}
@@ -12,13 +12,13 @@ use Rattle.gamesman.specs.Searches.{IsUnsearched}
 abbrev pub part : List ℕ → ℕ → List ℕ
 part words number = words ++ decimal number
 
--- how many tiers were solved, reused and migrated, the deliveries, and those by hand, in words
+-- the numbers of tiers that were solved, reused and migrated, of deliveries, and of those by hand, in words
 abbrev pub report_text : ℕ → ℕ → ℕ → ℕ → ℕ → List ℕ
 report_text solved reused migrated deliveries by_hand =
     part (codes "solved ") solved ++ part (codes " reused ") reused ++ part (codes " migrated ") migrated ++ part (codes " deliveries ") deliveries ++ part
     (codes " by hand ") by_hand ++ codes "\n"
 
--- the line for a build of all tiers of the game, by numbers that tell of its work
+-- the line for a build of all tiers of the game, with the numbers of its work
 pub record IsReport (r : Rules) (line : List ℕ) : Type 0 where
   pub tiers : List ℕ
   pub order : IsTierOrder r tiers
@@ -30,6 +30,6 @@ pub record IsReport (r : Rules) (line : List ℕ) : Type 0 where
   pub work : IsSomeWork r tiers solved reused migrated deliveries by_hand
   pub text : line ≡ report_text solved reused migrated deliveries by_hand
 
--- a game is built, and what that took is told
+-- a game is built, and the work that it took is written
 abbrev pub IsSolvedBy : Rules → Option (List ℕ) → Option (List ℕ) → Result ℕ Fault → Type 0
 IsSolvedBy r before after result = IsTold (IsReport r) (IsUnsearched r None) before after result

@@ -1,4 +1,4 @@
--- What is written of a position: its value, or its moves.
+-- The texts about a position: its value, or its moves.
 use Rattle.std.specs.Prelude.{ℕ, Bool, true, false, List}
 use Rattle.gm_game.specs.declared.position.Position.{Position}
 use Rattle.gm_game.specs.Rules.{Rules}

@@ -1,4 +1,4 @@
-//! What is counted of a game, tier by tier.
+//! The counts of a game, tier by tier.
 ghost use Rattle.std.specs.Prelude.{◌≡◌, ◌++◌, ℕ, List, IfOk, OnOk, string_bytes};
 ghost use Rattle.gm_table.specs.Tables.{IsHeld};
 ghost use Rattle.gm_build.specs.Work.{HoldsExactly};
@@ -21,7 +21,7 @@ use std::sync::Wait;
 use std::thread::Threads;
 use std::time::Clock;
 
-/// Prints what is counted of each tier, in the order of tiers.
+/// Prints the counts of each tier, in the order of tiers.
 pub fn analyse<
     G: Shown + Send + Sync,
     R: Threads + Wait + Clock + Files + Sync + AllocGlobal,
@@ -37,7 +37,7 @@ pub fn analyse<
     put_all(output, lines.as_slice())
 }
 
-// What is counted of each tier, a line for each.
+// Returns a line with the counts of each tier.
 fn lines_of<G: Shown>(alloc: Global, built: &Built<G>) -> Result<Vec<u8>, AllocError>
     requires { HoldsExactly built.now.tables built.now.order }
     ensures { IfOk result (λ v. AreAnalysisLines G.Game.rules built.now.order v.items) }
@@ -49,7 +49,7 @@ fn lines_of<G: Shown>(alloc: Global, built: &Built<G>) -> Result<Vec<u8>, AllocE
     Ok(lines)
 }
 
-// Appends the line of a tier that is held.
+// Appends the line of a tier whose table is held.
 fn push_line<G: Shown>(
     alloc: Global,
     tables: &Tables<G>,
@@ -68,7 +68,7 @@ fn push_line<G: Shown>(
     }
 }
 
-// What is counted of a tier, as a line of JSON.
+// Returns the counts of a tier as a line of JSON.
 fn counts_line<G: Shown>(alloc: Global, table: &Table<G>) -> Result<String, AllocError>
     ensures { IfOk result (λ s. IsAnalysisLine G.Game.rules table.now.tier (string_bytes s)) }
 {

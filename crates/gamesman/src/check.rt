@@ -50,7 +50,7 @@ fn read_file<R: Files>(
     }
 }
 
-// What the text that was read of a tier is found to be, with the tier's table where that is right.
+// Checks the text of a tier's file. Returns the finding, with the tier's table if it is right.
 fn inspect<G: Game + Send + Sync, R: Threads + Sync>(
     rt: &R,
     alloc: Global,
@@ -74,7 +74,8 @@ fn inspect<G: Game + Send + Sync, R: Threads + Sync>(
     }
 }
 
-// What a tier's file is found to be, with the tier's table where it is right. The tables of the tiers that are right are given.
+// Checks a tier's file. Returns the finding, with the tier's table if it is right. The tables of the right tiers before it are
+// given.
 fn find<G: Game + Send + Sync, R: Threads + Files + Sync>(
     rt: &R,
     alloc: Global,
@@ -95,7 +96,7 @@ fn find<G: Game + Send + Sync, R: Threads + Files + Sync>(
     Ok(inspect(rt, alloc, tier, text, tables)?)
 }
 
-// Holds the table of a tier that is right.
+// Adds the table of a right tier to those that are held.
 fn hold<G: Game>(
     tier: u64,
     finding: Finding,
@@ -114,7 +115,7 @@ fn hold<G: Game>(
     }
 }
 
-// Prints what a tier's file is found to be, and holds its table where it is right.
+// Prints the finding on a tier's file, and holds the table if it is right.
 fn check_tier<
     G: Game + Send + Sync,
     R: Threads + Wait + Clock + Files + Sync + AllocGlobal,
@@ -143,7 +144,7 @@ fn check_tier<
     Ok(finding)
 }
 
-// Prints for each of these tiers what its file is found to be, and answers the status to end with.
+// Prints the findings on the files of these tiers, and returns the exit status.
 fn check_tiers<
     G: Game + Send + Sync,
     R: Threads + Wait + Clock + Files + Sync + AllocGlobal,
@@ -171,7 +172,7 @@ fn check_tiers<
     Ok(status)
 }
 
-// The order of the game's tiers.
+// Returns the order of the game's tiers.
 fn order_of<G: Game>(alloc: Global) -> Result<TierOrder<G>, Fault>
     ensures order { IfOk result (IsTierOrder G.rules) }
     ensures unbuilt { IfErr result (IsUnbuilt G.rules G.rules.initial.tier) }
@@ -179,7 +180,8 @@ fn order_of<G: Game>(alloc: Global) -> Result<TierOrder<G>, Fault>
     Ok(TierOrder::from_initial(alloc)?)
 }
 
-/// Prints for each tier what its file in a folder is found to be, in the order of tiers. The status is 0 where all are right, and else 1.
+/// Prints for each tier the finding on its file in a folder, in the order of tiers. The status is 0 if all files are right, and
+/// otherwise 1.
 pub fn check<
     G: Game + Send + Sync,
     R: Threads + Wait + Clock + Files + Sync + AllocGlobal,

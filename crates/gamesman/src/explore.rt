@@ -1,4 +1,4 @@
-//! Questions about a position: what its moves are worth, and best play from it.
+//! Questions about a position: the values of its moves, and best play from it.
 ghost use Rattle.std.specs.Prelude.{◌≡◌, true, None, Ok, IfOk, IfErr, OnErr, IfSome};
 ghost use Rattle.gm_play.specs.PlayTexts.{IsReadAs, IsNoPosition};
 ghost use Rattle.gm_json.specs.Moves.{IsMovesJson};
@@ -57,7 +57,7 @@ pub fn explore<
     written
 }
 
-// Writes what is asked about a position.
+// Writes the answer to a question about a position.
 fn write_answer<G: Pictured, O: Write>(
     alloc: Global,
     known: &Known<'_, G>,
@@ -74,7 +74,8 @@ fn write_answer<G: Pictured, O: Write>(
     Ok(DONE)
 }
 
-/// The position that is asked about: the start where none is given, and else the legal one with this text, if there is one.
+/// Returns the position that a question is about: the start if no text is given, and otherwise the legal position with this text,
+/// if there is one.
 pub fn position_of<G: Shown>(position: Option<&str>) -> Result<Position, Fault>
     ensures legal { IfOk result (λ p. G.Game.rules.is_legal p ≡ true) }
     ensures start { position.entry ≡ None → result ≡ Ok G.Game.rules.initial }
@@ -91,7 +92,7 @@ pub fn position_of<G: Shown>(position: Option<&str>) -> Result<Position, Fault>
     }
 }
 
-// The legal position with this text, if there is one.
+// Reads the legal position with this text, if there is one.
 fn read_position<G: Shown>(text: &str) -> Result<Position, Fault>
     ensures read { IfOk result (IsReadAs G.Game.rules G.shown G.move_shown text.now) }
     ensures refused { OnErr result (IsNoPosition G.Game.rules G.shown G.move_shown text.now) }
@@ -122,7 +123,7 @@ fn text_for<G: Pictured>(
     }
 }
 
-/// The moves of a position, as a line of JSON or as rows.
+/// Returns the moves of a position, as a line of JSON or as rows.
 pub fn moves_for<G: Shown>(
     alloc: Global,
     known: &Known<'_, G>,
@@ -138,7 +139,7 @@ pub fn moves_for<G: Shown>(
     }
 }
 
-// The moves as a line of JSON.
+// Returns the moves as a line of JSON.
 fn moves_line<G: Shown>(
     alloc: Global,
     known: &Known<'_, G>,

@@ -1,4 +1,4 @@
-//! Why a line of words was refused.
+//! The reasons for refusing a line of words.
 
 use gm_build::build_error::BuildError;
 use gm_json::ask_error::AskError;
@@ -15,24 +15,24 @@ pub enum Fault {
     NoSuchGame,
     #[error("no such position")]
     NoSuchPosition,
-    /// This line of the input, from 1, is the text of no position.
+    /// This line of the input, counted from 1, is not the text of a position.
     #[error("no such position in line {line}")]
     NoSuchPositionInLine { line: u64 },
     #[error("no such tier {tier}")]
     NoSuchTier { tier: u64 },
     #[error("no such index {index} in tier {tier}")]
     NoSuchIndex { tier: u64, index: u64 },
-    /// The index is that of no legal position.
+    /// The index is not that of a legal position.
     #[error("index {index} of tier {tier} is no position")]
     NotLegal { tier: u64, index: u64 },
-    /// Another position stands for the one with this index.
+    /// The position with this index is legal but not canonical.
     #[error("index {index} of tier {tier} is not canonical")]
     NotCanonical { tier: u64, index: u64 },
     #[error("out of memory")]
     OutOfMemory(AllocError),
     #[error("{0}")]
     NotBuilt(#[from] BuildError),
-    /// The file of a tier is an intact one of another game, and stays.
+    /// The file of a tier is an intact one of another game. It is not overwritten.
     #[error("tier {tier} is another game's")]
     AnotherGames { tier: u64 },
     #[error("input failed")]
@@ -57,7 +57,7 @@ impl From<AllocError> for Fault {
     }
 }
 
-// Only standard output is written there, so a write that fails is a failure of standard output.
+// Only writes to standard output are converted here, so a failure is one of standard output.
 impl From<io::Error> for Fault {
     ghost use Rattle.gamesman.specs.Outputs.{IsOutputFault};
 
@@ -86,7 +86,7 @@ impl From<SessionError> for Fault {
     }
 }
 
-// Each tier of a game of the program is held, and so are its child tiers.
+// The program holds each tier of a game and its child tiers, so `NotHeld` doesn't occur.
 impl From<AskError> for Fault {
     ghost use Rattle.gamesman.specs.Asks.{IsFaultOf};
 

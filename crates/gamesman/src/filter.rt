@@ -1,4 +1,4 @@
-//! Questions about positions that are read, a line each.
+//! Questions about the positions of the input, one in each line.
 ghost use Rattle.std.specs.Prelude.{◌≡◌, ◌++◌, List, ℕ, codes, IfOk, IfErr, OnOk};
 ghost use Rattle.std.specs.Io.KnownBytes.{Appends};
 ghost use Rattle.gm_tiers.specs.Orders.{IsTierOrder};
@@ -27,10 +27,12 @@ use std::sync::Wait;
 use std::thread::Threads;
 use std::time::Clock;
 
-// How much of a line is kept: the longest text of a position, its return, and a byte that tells a longer line.
+// The number of bytes of a line that are kept: the longest text of a position, a carriage return, and one byte that shows that the
+// line is longer.
 const KEPT: usize = LINE + 2;
 
-/// Answers each position that is read, a line each, before it reads more than the input has at hand. The first line that is the text of no position ends it.
+/// Answers each position of the input, one in each line, before it reads more than the input has available. The first line that is
+/// not the text of a position ends the command.
 pub fn filter<
     G: Shown + Send + Sync,
     R: Threads + Wait + Clock + Files + Sync + AllocGlobal,
@@ -52,7 +54,7 @@ pub fn filter<
     answered
 }
 
-// Reads the input by as much as it has at hand.
+// Answers the lines of the input. Each read takes as much as is available.
 fn answer_input<G: Shown, I: Read, O: Write>(
     alloc: Global,
     built: &Built<G>,
@@ -71,7 +73,7 @@ fn answer_input<G: Shown, I: Read, O: Write>(
     }
 }
 
-// Answers the lines that a reader gives, to its end.
+// Answers the lines of a reader, to its end.
 fn answer_lines<G: Shown, I: Read, O: Write>(
     alloc: Global,
     built: &Built<G>,
@@ -106,7 +108,7 @@ where
     Ok(DONE)
 }
 
-// Answers the line with this number. A carriage return at its end is no part of it.
+// Answers the line with this number. A carriage return at its end is not part of the position's text.
 fn answer_line<G: Shown, O: Write>(
     alloc: Global,
     built: &Built<G>,
@@ -148,7 +150,7 @@ fn text_for<G: Shown>(
     }
 }
 
-// The value of a position, as a line.
+// Returns the value of a position as a line.
 fn value_line<G: Shown>(alloc: Global, known: &Known<'_, G>) -> Result<Vec<u8>, AllocError>
     ensures { IfOk result (λ v. IsQueryLine G.Game.rules G.shown G.move_shown (G.shown known.now.position) v.items) }
 {

@@ -1,4 +1,4 @@
-//! What a tier's file is found to be, and its line.
+//! The finding on a tier's file, and its line.
 ghost use Rattle.std.specs.Prelude.{◌≡◌, ◌+◌, ◌≤◌, ◌++◌};
 ghost use Rattle.arrayvec.specs.ArrayVec.{array_vec_len};
 ghost use Rattle.gamesman.specs.Checking.{file_words, finding_words, finding_line, status_with};
@@ -11,26 +11,26 @@ use gm_game::text::{push_decimal, push_text};
 use gm_table::checker::CheckError;
 use gm_tierdb::file_error::FileError;
 
-// The bytes of the longest line of a tier, and more.
+// A bound on the bytes of a tier's line.
 const ROOM: usize = 2 * LINE + 2;
 
-/// What a tier's file is found to be.
+/// The finding on a tier's file.
 #[derive(Clone, Copy, Debug)]
 pub enum Finding {
-    /// The text of the tier's true table.
+    /// The file has the tier's true table.
     Right,
-    /// There is none.
+    /// There is no file.
     Missing,
-    /// A child tier isn't right, and so the file isn't read.
+    /// A child tier isn't right, so the file isn't read.
     NotChecked,
-    /// No file of the tier.
+    /// The bytes are not a file of the tier.
     NoFile(FileError),
-    /// The file of records that are not the tier's.
+    /// The file has records that are not the tier's.
     NoTable(CheckError),
 }
 
 impl Finding {
-    /// The line for a tier of which this is found.
+    /// Returns the line for a tier with this finding.
     pub fn line(self, tier: u64) -> ArrayVec<u8, ROOM>
         ensures { result.items ≡ finding_line tier self }
     {
@@ -46,7 +46,7 @@ impl Finding {
         line
     }
 
-    /// The status to end with where this is found of one more tier.
+    /// Returns the exit status after one more tier, which has this finding.
     pub fn status(self, before: u8) -> u8
         ensures { result ≡ status_with before self }
     {
@@ -81,7 +81,7 @@ impl Finding {
     }
 }
 
-// Appends why bytes are no file of a tier.
+// Appends the reason why bytes are not a file of a tier.
 fn push_why(line: &mut Line, why: FileError)
     requires { array_vec_len line.old + 32 ≤ LINE }
     ensures { line.new.items ≡ line.old.items ++ file_words why }

@@ -1,4 +1,4 @@
-//! The positions that a search finds, as they are printed.
+//! Printing the positions that a search finds.
 ghost use Rattle.std.specs.Prelude.{◌≡◌, ◌⊎◌, ◌++◌, ℕ, Some, [], ◌∷◌, IfOk, OnOk, IfErr, is_some};
 ghost use Rattle.std.specs.List.{All, flat_map};
 ghost use Rattle.gm_tiers.specs.Orders.{IsOrderFrom};
@@ -31,7 +31,8 @@ use gm_table::tables::Tables;
 use std::alloc::{AllocError, Global};
 use std::io::Write;
 
-/// Writes the positions that are looked for: tier by tier as they are found; a sheet of them, and those that chance takes, when all are found.
+/// Writes the positions that a search finds. They are written tier by tier as they are found, except that a sheet and positions
+/// chosen by chance are written when all are found.
 pub fn write_found<G: Pictured, O: Write>(
     alloc: Global,
     built: &Built<G>,
@@ -49,7 +50,7 @@ pub fn write_found<G: Pictured, O: Write>(
     done
 }
 
-// The same, where the positions that play reaches are known if they are asked for.
+// Writes the positions as `write_found` does. The positions that play reaches are given if the search is limited to them.
 fn write_among<G: Pictured, O: Write>(
     alloc: Global,
     built: &Built<G>,
@@ -82,7 +83,7 @@ fn write_among<G: Pictured, O: Write>(
     }
 }
 
-// Writes those of these tiers.
+// Writes the found positions of these tiers.
 fn write_in<G: Pictured, O: Write>(
     alloc: Global,
     known: &KnownTiers<'_, G>,
@@ -104,7 +105,8 @@ fn write_in<G: Pictured, O: Write>(
     }
 }
 
-// How many at most are written tier by tier; `None` where all are at once: a sheet, and those that chance takes.
+// Returns the limit for positions that are written tier by tier. `None` means that they are written at once: a sheet, or positions
+// chosen by chance.
 fn limit_of(asked: PositionSearch) -> Option<usize>
     ensures { result ≡ limit_by_tier asked.form asked.choice }
 {
@@ -123,7 +125,7 @@ fn limit_for(choice: Choice) -> Option<usize>
     }
 }
 
-// Writes those of one tier after another, up to the limit.
+// Writes the found positions of one tier after another, up to the limit.
 fn write_by_tier<G: Pictured, O: Write>(
     alloc: Global,
     known: &KnownTiers<'_, G>,
@@ -149,7 +151,7 @@ fn write_by_tier<G: Pictured, O: Write>(
     Ok(DONE)
 }
 
-// Writes those of one tier, at most so many, and answers how many they are.
+// Writes the found positions of one tier, up to this limit, and returns their number.
 fn write_tier<G: Pictured, O: Write>(
     alloc: Global,
     tables: &Tables<G>,
@@ -172,7 +174,7 @@ fn write_tier<G: Pictured, O: Write>(
     Ok(found.len())
 }
 
-// The positions of one tier, at most so many.
+// Finds the positions of one tier, up to this limit.
 fn found_in<G: Pictured>(
     alloc: Global,
     tables: &Tables<G>,
@@ -194,7 +196,7 @@ fn found_in<G: Pictured>(
     Ok(found)
 }
 
-// All that the choice takes, as one text.
+// Returns all chosen positions as one text.
 fn text_at_once<G: Pictured>(
     alloc: Global,
     known: &KnownTiers<'_, G>,
@@ -212,7 +214,7 @@ fn text_at_once<G: Pictured>(
     }
 }
 
-// The sheet of them.
+// Returns the sheet of the chosen positions.
 fn sheet_at_once<G: Pictured>(
     alloc: Global,
     known: &KnownTiers<'_, G>,
@@ -229,7 +231,7 @@ fn sheet_at_once<G: Pictured>(
     Ok(sheet)
 }
 
-// The lines of them.
+// Returns the lines of the chosen positions.
 fn lines_at_once<G: Pictured>(
     alloc: Global,
     known: &KnownTiers<'_, G>,
@@ -247,7 +249,7 @@ fn lines_at_once<G: Pictured>(
     Ok(lines)
 }
 
-// Found positions as a text that is no sheet.
+// Returns found positions as a text other than a sheet.
 fn lines_of<G: Pictured>(alloc: Global, found: &[Found], form: Form) -> Result<Vec<u8>, AllocError>
     requires found { All (IsFound G.Game.rules) found.now }
     requires lines { form ≡ Sheet → ⊥ }
@@ -262,7 +264,7 @@ fn lines_of<G: Pictured>(alloc: Global, found: &[Found], form: Form) -> Result<V
     }
 }
 
-// A row for each found position, below its board.
+// Returns a row for each found position, below its board.
 fn board_rows<G: Pictured>(alloc: Global, found: &[Found]) -> Result<Vec<u8>, AllocError>
     requires { All (IsFound G.Game.rules) found.now }
     ensures { IfOk result (λ v. v.items

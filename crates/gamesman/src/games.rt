@@ -37,17 +37,17 @@ use std::sync::Wait;
 use std::thread::Threads;
 use std::time::Clock;
 
-/// What a line reads from and writes to.
+/// The streams that a line reads from and writes to.
 #[derive(Drop)]
 pub struct Streams<'a, I, O, E> {
     pub input: &'a mut I,
     pub output: &'a mut O,
     pub errors: &'a mut E,
-    /// How standard error is told how far a build or a check is: `Terminal` is said of a terminal alone.
+    /// How progress is reported on standard error. It is `Terminal` only if standard error is a terminal.
     pub telling: Telling,
 }
 
-// Where tables are kept and how they are made, for commands that have no options for a plan.
+// Returns the options for a command that has no options for a plan: the place of the tables and the way to make them.
 fn options_of<'a, E>(
     kept: TableLocation<'a>,
     errors: &'a mut E,
@@ -61,7 +61,7 @@ fn options_of<'a, E>(
     }
 }
 
-// Answers what is asked of a game.
+// Answers a request about a game.
 fn answer<
     G: Pictured + Send + Sync,
     R: Threads + Wait + Clock + Files + Sync + AllocGlobal,
@@ -110,7 +110,7 @@ fn answer<
     }
 }
 
-// Answers what is asked of Tac Tix by the misère rule.
+// Answers a request about Tac Tix by the misère rule.
 fn answer_misere<
     R: Threads + Wait + Clock + Files + Sync + AllocGlobal,
     I: Read,
@@ -131,7 +131,7 @@ fn answer_misere<
     }
 }
 
-// Answers what is asked of Tac Tix.
+// Answers a request about Tac Tix.
 fn answer_tactix<
     R: Threads + Wait + Clock + Files + Sync + AllocGlobal,
     I: Read,
@@ -152,7 +152,7 @@ fn answer_tactix<
     }
 }
 
-// Answers what is asked of Mu Torere, Dao, Hare and Hounds, Pong Hau K'i, or Shisima, or of Tac Tix.
+// Answers a request about Mu Torere, Dao, Hare and Hounds, Pong Hau K'i, Shisima, or Tac Tix.
 fn answer_moving<
     R: Threads + Wait + Clock + Files + Sync + AllocGlobal,
     I: Read,
@@ -175,7 +175,7 @@ fn answer_moving<
     }
 }
 
-// Answers what is asked of a game of three in a row, or of one of those after it.
+// Answers a request about a game of three in a row, or about a game of `answer_moving`.
 fn answer_lines<
     R: Threads + Wait + Clock + Files + Sync + AllocGlobal,
     I: Read,
@@ -194,7 +194,7 @@ fn answer_lines<
     }
 }
 
-/// Answers what is asked of the game of this name. The games are tried family by family, each family by a function of its own.
+/// Answers a request about the game of this name. The names are tried family by family, each family by its own function.
 pub fn answer_for<
     R: Threads + Wait + Clock + Files + Sync + AllocGlobal,
     I: Read,

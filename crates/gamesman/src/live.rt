@@ -1,4 +1,4 @@
-//! The line at a terminal that shows how far a build or a check is.
+//! The line at a terminal that shows the progress of a build or a check.
 
 use arrayvec::ArrayString;
 use gm_build::progress::{Stage, is_due};
@@ -12,19 +12,19 @@ use std::sync::atomic::{AtomicU64, AtomicUsize, Ordering};
 use std::sync::{Mutex, Wait};
 use std::time::{Clock, Duration};
 
-/// A build that takes less than so many milliseconds is not told of, unless it comes to a tier of many indexes.
+/// The time in milliseconds before which a build shows no line, unless it comes to a tier of `MANY` indexes or more.
 const SHORT: u64 = 1000;
 
-/// A tier of so many indexes or more is told of at once, since it may be long until anything else is known of it.
+/// The number of indexes from which on a tier is shown at once, since it may be long before there is anything else to report.
 const MANY: u64 = 500_000;
 
 /// The bytes of the longest line.
 const WIDTH: usize = 128;
 
-/// The bytes of a line, and of one as wide that is written over it.
+/// The bytes of a line, and of an equally wide one that is written over it.
 const ROOM: usize = 2 * WIDTH;
 
-// What is done with a tier, in a word or two.
+// The work on a tier, in a word or two.
 #[derive(Drop)]
 struct Doing {
     stage: Stage,
@@ -39,7 +39,7 @@ impl fmt::Display for Doing {
     }
 }
 
-// How much longer it takes, where that can be told.
+// The remaining time, if it can be estimated.
 #[derive(Drop)]
 struct Left {
     seconds: Option<u64>,
@@ -59,16 +59,16 @@ impl fmt::Display for Left {
 #[derive(Drop)]
 struct Screen<'a, E: Write> {
     errors: &'a mut E,
-    // When the line was written last.
+    // The time at which the line was last written.
     last: Option<Duration>,
-    // How many columns of the terminal have it.
+    // The number of columns that the line takes at the terminal.
     width: usize,
-    // Whether it could not be written: then it is not tried again.
+    // Whether a write failed. After that no write is tried.
     closed: bool,
 }
 
 impl<E: Write> Screen<'_, E> {
-    // Writes these words over the line, and spaces over what is left of it.
+    // Writes these words over the line, and spaces over the rest of it.
     fn put<T: fmt::Display>(&mut self, words: &T) {
         let mut text: ArrayString<WIDTH> = ArrayString::new();
         let whole = write!(text, "{words}").is_ok();
@@ -79,7 +79,7 @@ impl<E: Write> Screen<'_, E> {
         self.width = text.len();
     }
 
-    // Writes spaces over the line, and leaves the terminal as it was before.
+    // Writes spaces over the line, and returns the cursor to its start.
     fn clear(&mut self) {
         if self.width > 0 && !self.closed {
             self.put(&"");
@@ -88,17 +88,18 @@ impl<E: Write> Screen<'_, E> {
     }
 }
 
-/// Observes a build, and shows how far it is in one line of a terminal, which is written over and over. No thread waits for another one that is writing.
+/// Observes a build, and shows its progress in one line of a terminal that is overwritten again and again. No thread waits for
+/// another one that is writing.
 #[derive(Drop)]
 pub struct Live<'a, G: Game, C, E: Write> {
     clock: &'a C,
-    // When the build began; where the clock can't be read nothing is told.
+    // The time at which the build began. If the clock can't be read, nothing is shown.
     begun: Option<Duration>,
-    // The indexes of all tiers.
+    // The number of indexes of all tiers.
     total: u64,
     tiers: AtomicUsize,
     number: AtomicU64,
-    // The indexes of the tiers that are done, of this one, and of this one so far.
+    // The numbers of indexes in the tiers before this one, in this one, and in the part of this one that is settled.
     done: AtomicU64,
     size: AtomicU64,
     settled: AtomicU64,
@@ -106,13 +107,13 @@ pub struct Live<'a, G: Game, C, E: Write> {
     game: PhantomData<G>,
 }
 
-// What the line says.
+// The contents of the line.
 #[derive(Drop)]
 struct Step {
     number: u64,
     tiers: usize,
     stage: Stage,
-    // How many of a hundred indexes are done.
+    // The share of the indexes that are done, in per cent.
     share: u64,
     left: Left,
 }
@@ -131,7 +132,8 @@ impl fmt::Display for Step {
     }
 }
 
-// How many more seconds it takes, by how long so many indexes of all took; none where nothing is done, or it has not run for long.
+// Estimates the remaining seconds from the time that the indexes so far took. Returns `None` if no index is done or the build has
+// run for less than `SHORT`.
 fn seconds_left(took: Duration, done: u64, total: u64) -> Option<u64> {
     if done == 0 || took < Duration::from_millis(SHORT) {
         return None;
@@ -142,7 +144,7 @@ fn seconds_left(took: Duration, done: u64, total: u64) -> Option<u64> {
 }
 
 impl<'a, G: Game, C: Clock, E: Write> Live<'a, G, C, E> {
-    /// The line of a build that is to begin, of tiers with so many indexes together.
+    /// Makes the line for a build that is about to begin, of tiers with this many indexes together.
     pub fn new(clock: &'a C, errors: &'a mut E, total: u64) -> Self {
         let screen = Screen {
             errors,
@@ -164,14 +166,14 @@ impl<'a, G: Game, C: Clock, E: Write> Live<'a, G, C, E> {
         }
     }
 
-    /// Takes the line away, so that other lines can be written.
+    /// Removes the line, so that other lines can be written.
     pub fn clear(&self) {
         if let Some(mut screen) = self.screen.try_lock() {
             screen.clear();
         }
     }
 
-    // Whether the line is to be written at this moment.
+    // Tests whether the line is to be written now.
     fn is_due(&self, last: Option<Duration>, took: Duration, now: Duration) -> bool {
         let long = took >= Duration::from_millis(SHORT) || self.size.load(Ordering::SeqCst) >= MANY;
         (last.is_some() || long) && is_due(last, now)
@@ -192,7 +194,7 @@ impl<'a, G: Game, C: Clock, E: Write> Live<'a, G, C, E> {
         }
     }
 
-    // Where the build is.
+    // Returns the contents of the line at this stage.
     fn step(&self, stage: Stage, took: Duration) -> Step {
         let size = self.size.load(Ordering::SeqCst);
         let settled = self.settled.load(Ordering::SeqCst).min(size);

@@ -1,4 +1,4 @@
-//! What stands at a tier and index, and where a position stands.
+//! The position at a tier and index, and the tier and index of a position.
 
 ghost use Rattle.std.specs.Prelude.{IfOk, IfErr};
 ghost use Rattle.gm_best.specs.Places.{IsAt};
@@ -23,7 +23,7 @@ use std::sync::Wait;
 use std::thread::Threads;
 use std::time::Clock;
 
-/// Prints the canonical position with this index of a tier, and its value. What is refused is refused before tables are built.
+/// Prints the canonical position with this index of a tier, and its value. A tier or an index is refused before tables are built.
 pub fn at_place<
     G: Shown + Send + Sync,
     R: Threads + Wait + Clock + Files + Sync + AllocGlobal,
@@ -45,7 +45,7 @@ pub fn at_place<
     put_all(output, row.as_slice())
 }
 
-// The canonical position with this index of a tier.
+// Returns the canonical position with this index of a tier.
 fn position_at<G: Shown>(tier: u64, index: u64) -> Result<Position, Fault>
     ensures position { IfOk result (IsAt G.Game.rules tier index) }
     ensures refused { IfErr result (IsNoPlace G.Game.rules tier index) }
@@ -59,7 +59,7 @@ fn position_at<G: Shown>(tier: u64, index: u64) -> Result<Position, Fault>
     }
 }
 
-/// Prints where a position stands. It builds no table.
+/// Prints the place of a position: its tier and index. It builds no table.
 pub fn locate<G: Shown, O: Write>(
     alloc: Global,
     position: &str,

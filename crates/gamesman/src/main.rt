@@ -1,4 +1,5 @@
-//! The program: it lists games, solves them, answers positions, counts, checks folders, and plays. Its lines are in docs/PROGRAM.md.
+//! The program: it lists games, solves them, answers questions about positions, counts positions, checks folders, and plays. Its
+//! command lines are described in docs/PROGRAM.md.
 #![tactic(auto)]
 
 mod analyse;
@@ -50,7 +51,7 @@ fn main(rt: HostRuntime) -> ExitCode {
     ExitCode::from(status)
 }
 
-// Runs the line of these words. Where standard error is a terminal a bad line is also explained.
+// Runs the line of these words. If standard error is a terminal, a bad line is also explained.
 fn run_args<
     R: Threads + Wait + Clock + Files + Sync + AllocGlobal,
     I: Read,

@@ -1,4 +1,4 @@
-//! What is written to standard output.
+//! Writing to standard output.
 ghost use Rattle.std.specs.Prelude.{◌≡◌, ◌≤◌, ◌++◌, codes, length, IfErr, OnErr, OnOk};
 ghost use Rattle.std.specs.Io.KnownBytes.{Appends};
 ghost use Rattle.gm_play.specs.Sessions.{AppendsPart};
@@ -11,10 +11,11 @@ use arrayvec::ArrayVec;
 use gm_game::limits::LINE;
 use std::io::{ErrorKind, Write};
 
-// The bytes of the longest line and its end.
+// The bytes of the longest line with its end.
 const ROOM: usize = LINE + 1;
 
-/// Writes a text, by one call where the stream takes it whole. After a fault a first part of it is written. The reader may have closed the stream.
+/// Writes a text, with one call if the stream takes it whole. After a fault a first part of it is written. One fault is that the
+/// reader has closed the stream.
 pub fn put<O: Write>(output: &mut O, text: &[u8]) -> Result<(), Fault>
     ensures ok { OnOk result (Appends (O.contents output.old) (O.contents output.new) text.now) }
     ensures err { OnErr result (AppendsPart (O.contents output.old) (O.contents output.new) text.now) }
@@ -35,7 +36,7 @@ pub fn put<O: Write>(output: &mut O, text: &[u8]) -> Result<(), Fault>
     Err(Fault::OutputFailed)
 }
 
-/// Writes a text as `put` does, and answers the status of what is done.
+/// Writes a text as `put` does, and returns the status of a command that is done.
 pub fn put_all<O: Write>(output: &mut O, text: &[u8]) -> Result<u8, Fault>
     ensures { IsPut text.now (O.contents output.old) (O.contents output.new) result }
 {
@@ -53,7 +54,7 @@ pub fn put_line<O: Write>(output: &mut O, text: &[u8]) -> Result<(), Fault>
     put(output, line_of(text).as_slice())
 }
 
-// A text and its line end.
+// Returns a text with its line end.
 fn line_of(text: &[u8]) -> ArrayVec<u8, ROOM>
     requires { length text.now ≤ LINE }
     ensures { result.items ≡ text.now ++ codes "\n" }

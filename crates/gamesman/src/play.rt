@@ -54,7 +54,7 @@ pub fn play<
     played
 }
 
-// Who moves first, as a line.
+// Returns the line that states who moves first.
 fn first_text(first: Side) -> &'static [u8]
     ensures { result.now ≡ first_text_spec first }
 {
@@ -64,7 +64,7 @@ fn first_text(first: Side) -> &'static [u8]
     }
 }
 
-// The beginning of the line on which side one of the two has.
+// Returns the beginning of the line that states the side of one of the two.
 fn whose_text(side: Side) -> &'static [u8]
     ensures { result.now ≡ whose_text_spec side }
 {
@@ -74,7 +74,7 @@ fn whose_text(side: Side) -> &'static [u8]
     }
 }
 
-// Writes which side one of the two has.
+// Writes the line that states the side of one of the two.
 fn write_side<O: Write>(side: Side, mover: &[u8], output: &mut O) -> Result<(), Fault>
     ensures ok { OnOk result (Appends (O.contents output.old) (O.contents output.new) (whose_text_spec side ++ mover.now ++ codes "\n")) }
     ensures err { OnErr result (AppendsPart (O.contents output.old) (O.contents output.new) (whose_text_spec side ++ mover.now ++ codes "\n")) }
@@ -85,7 +85,8 @@ fn write_side<O: Write>(side: Side, mover: &[u8], output: &mut O) -> Result<(), 
     put(output, b"\n")
 }
 
-// Writes who the person is: always `x` in a game of `x` and `o`.
+// Writes who the person is. In a game of `x` and `o` the person is always `x`. If the sides have no names, the line states who
+// moves first.
 fn write_sides<O: Write>(mover: &[u8], first: Side, output: &mut O) -> Result<(), Fault>
     ensures ok { OnOk result (Appends (O.contents output.old) (O.contents output.new) (sides_text mover.now first)) }
     ensures err { OnErr result (AppendsPart (O.contents output.old) (O.contents output.new) (sides_text mover.now first)) }
@@ -100,7 +101,7 @@ fn write_sides<O: Write>(mover: &[u8], first: Side, output: &mut O) -> Result<()
     write_side(first, mover, output)
 }
 
-// Writes what stands before the dialogue: who the person is, where boards are drawn.
+// Writes the opening before the dialogue. It states who the person is if boards are drawn, and otherwise it is empty.
 fn write_opening<G: Drawn, O: Write>(
     start: Position,
     first: Side,
@@ -118,7 +119,7 @@ fn write_opening<G: Drawn, O: Write>(
     write_sides(G::mover(start), first, output)
 }
 
-// Holds the session, with boards or without.
+// Holds the session, with or without boards.
 fn sit<G: Drawn, I: Read, O: Write>(
     known: &Known<'_, G>,
     first: Side,
@@ -144,7 +145,7 @@ fn sit<G: Drawn, I: Read, O: Write>(
     }
 }
 
-// Plays over the tables of all tiers that play from its start can come to.
+// Plays over the tables of all tiers that play from its start can reach.
 fn play_from<G: Drawn, I: Read, O: Write>(
     built: &Built<G>,
     start: Position,

@@ -1,4 +1,4 @@
-//! What a person at a terminal can do after a fault: a second line below it.
+//! Advice to a person at a terminal after a fault: a second line below it.
 ghost use Rattle.std.specs.Prelude.{◌≡◌};
 
 use crate::fault::Fault;
@@ -13,7 +13,7 @@ use std::sync::Wait;
 use std::thread::Threads;
 use std::time::Clock;
 
-/// Says what to do after a fault of what was asked of a game, where there is something. Where it can't be written nothing more is.
+/// Writes advice after a fault of a request about a game, if there is any. If that write fails, nothing more is written.
 pub fn advise<
     R: Threads + Wait + Clock + Files + Sync + AllocGlobal,
     I: Read,
@@ -52,7 +52,7 @@ pub fn advise<
     };
 }
 
-// The folder that a command names, and whether it is only read.
+// Returns the folder that a command names, and whether it is only read.
 fn kept_in(asked: GameRequest<'_>) -> Option<(&str, bool)> {
     match asked {
         GameRequest::Solve(asked) => Some((asked.folder, false)),
@@ -68,7 +68,7 @@ fn kept_in(asked: GameRequest<'_>) -> Option<(&str, bool)> {
     }
 }
 
-// Says where the names of games are, and the one that was meant, if it is near.
+// Writes how to list the names of the games, and the name that was probably meant, if one is near.
 fn advise_on_game<E: Write>(alloc: Global, game: &str, errors: &mut E) -> io::Result<()> {
     match nearest_name(alloc, game) {
         Ok(Some(name)) => writeln!(
@@ -79,7 +79,7 @@ fn advise_on_game<E: Write>(alloc: Global, game: &str, errors: &mut E) -> io::Re
     }
 }
 
-// Says what is wrong with a folder in which a file could not be read or written.
+// Writes what is wrong with a folder if a file in it could not be read or written.
 fn advise_on_folder<R: Files, E: Write>(
     rt: &R,
     game: &str,

@@ -1,4 +1,4 @@
-//! A line of words, from the program's name to the status that it ends with.
+//! Running a line of words, from the program's name to the exit status.
 ghost use Rattle.std.specs.Prelude.{◌≡◌};
 ghost use Rattle.gamesman.specs.Told.{IsPut};
 ghost use Rattle.gamesman.specs.Listing.{listed};
@@ -19,16 +19,17 @@ use std::sync::Wait;
 use std::thread::Threads;
 use std::time::Clock;
 
-/// The status where the command was done.
+/// The status of a command that is done.
 pub const DONE: u8 = 0;
 
-/// The status where the command was refused or failed, for a reason written to standard error.
+/// The status of a command that is refused or fails, with the reason on standard error.
 pub const REFUSED: u8 = 1;
 
 /// The status of a line that the program doesn't know.
 pub const BAD_LINE: u8 = 2;
 
-// The names of the games that `list` says, a line each, and the names that `list --all` says after them. The contract of `list` ties both to gm_command.
+// The names of the games that `list` prints, each in its own line, and after them the names that only `list --all` prints. The
+// contract of `list` ties both to gm_command.
 const LISTED: &[u8] =
     b"countdown\nwheel\ntactix-1\ntactix-2\ntactix-3\ntactix-4\ntactix-5\ntactix-1-misere\ntactix-2-misere\n\
 tactix-3-misere\ntactix-4-misere\ntactix-5-misere\ntictactoe\nthreemens\nachi\nmutorere\ndao\nhare\n";
@@ -45,7 +46,7 @@ fn list<O: Write>(all: bool, output: &mut O) -> Result<u8, Fault>
     Ok(DONE)
 }
 
-// Writes a text about the program, by one call.
+// Writes a text about the program, with one call.
 fn write_manual<O: Write>(alloc: Global, asked: Manual, output: &mut O) -> Result<u8, Fault> {
     let text = manual_text(alloc, asked)?;
     put(output, text.as_slice())?;
@@ -57,7 +58,7 @@ fn write_help<O: Write>(text: Help, output: &mut O) -> Result<u8, Fault> {
     Ok(DONE)
 }
 
-// Does what is asked for.
+// Answers a request.
 fn answer<
     R: Threads + Wait + Clock + Files + Sync + AllocGlobal,
     I: Read,
@@ -73,7 +74,8 @@ fn answer<
     }
 }
 
-/// Says on standard error why a line was refused. Where this write fails nothing more is written, but the status still tells.
+/// Reports on standard error why a line was refused. If this write fails nothing more is written, but the status still shows the
+/// refusal.
 pub fn refused<E: Write>(fault: &Fault, errors: &mut E) -> u8
     ensures { result ≡ REFUSED }
 {
@@ -83,20 +85,20 @@ pub fn refused<E: Write>(fault: &Fault, errors: &mut E) -> u8
     REFUSED
 }
 
-/// Says on standard error that the program doesn't know the line.
+/// Reports on standard error that the program doesn't know the line.
 pub fn bad_line<E: Write>(errors: &mut E) -> u8 {
     let _ = errors.write_all(b"gamesman: bad line\n");
     BAD_LINE
 }
 
-/// Says on standard error what is wrong with a bad line.
+/// Reports on standard error what is wrong with a bad line.
 pub fn explain<E: Write>(alloc: Global, words: &[&str], errors: &mut E) {
     if let Some(text) = what_is_wrong(alloc, words) {
         let _ = write!(errors, "{text}");
     }
 }
 
-// How it is told how far a build is: one line that is written over and over is for a terminal alone.
+// Returns how the progress of a build is reported. The line that is overwritten again and again is only for a terminal.
 fn telling_of(asked: Request<'_>, terminal: bool) -> Telling {
     match asked {
         Request::Of {
@@ -108,7 +110,7 @@ fn telling_of(asked: Request<'_>, terminal: bool) -> Telling {
     }
 }
 
-/// Does what is asked for, and says why where it is refused: at a terminal also what to do. Answers the status to end with.
+/// Answers a request, and returns the exit status. A refusal is reported with its reason, and at a terminal also with advice.
 pub fn run_asked<
     R: Threads + Wait + Clock + Files + Sync + AllocGlobal,
     I: Read,
@@ -135,8 +137,8 @@ pub fn run_asked<
     }
 }
 
-/// Runs a line of words, of which the first is the program's name, and answers the status to end with. Where standard error is a terminal it is also told
-/// there how far a build is, and what to do after a refusal.
+/// Runs a line of words, and returns the exit status. The first word is the program's name. If standard error is a terminal, it
+/// also shows the progress of a build, and advice after a refusal.
 pub fn run_words<
     R: Threads + Wait + Clock + Files + Sync + AllocGlobal,
     I: Read,

@@ -83,7 +83,7 @@ fn answer<G: Pictured, I: Read, O: Write>(
     }
 }
 
-// Answers each position that is read.
+// Answers each position of the input.
 fn serve<G: Shown, I: Read, O: Write>(
     alloc: Global,
     built: &Built<G>,
@@ -105,7 +105,7 @@ fn serve<G: Shown, I: Read, O: Write>(
     Ok(DONE)
 }
 
-// Tells that the tables are there, where that is asked for.
+// Reports on request that the tables are ready.
 fn write_ready<O: Write>(asked: bool, output: &mut O) -> Result<(), Fault>
     ensures ok { OnOk result (Appends (O.contents output.old) (O.contents output.new) (ready_text asked)) }
     ensures err { OnErr result (AppendsPart (O.contents output.old) (O.contents output.new) (ready_text asked)) }
@@ -117,7 +117,7 @@ fn write_ready<O: Write>(asked: bool, output: &mut O) -> Result<(), Fault>
     Ok(())
 }
 
-// The one tier that is asked about; `None` where all are.
+// Returns the one tier that a question is limited to. `None` means all tiers.
 fn tier_of(asked: TableRequest) -> Option<u64>
     ensures { result ≡ tier_asked asked }
 {
@@ -127,7 +127,7 @@ fn tier_of(asked: TableRequest) -> Option<u64>
     }
 }
 
-// The tier whose tables are asked about: the one that is named, which is one of the game, or else the initial one.
+// Returns the tier whose tables a question needs: the named one, if it is one of the game, or the initial one if none is named.
 fn first_tier<G: Shown>(alloc: Global, asked: TableRequest) -> Result<u64, Fault>
     ensures first { IfOk result (λ tier. tier ≡ first_of G.Game.rules (tier_asked asked)) }
     ensures reached { IfOk result (IsReached G.Game.rules) }
@@ -142,7 +142,7 @@ fn first_tier<G: Shown>(alloc: Global, asked: TableRequest) -> Result<u64, Fault
     }
 }
 
-/// Refuses a tier that is none of the game.
+/// Refuses a tier that is not one of the game.
 pub fn known_tier<G: Shown>(alloc: Global, tier: u64) -> Result<(), Fault>
     ensures reached { OnOk result (IsReached G.Game.rules tier) }
     ensures refused { IfErr result (IsUnknown G.Game.rules tier) }
@@ -170,7 +170,7 @@ fn write_counts<G: Shown, O: Write>(
     put_all(output, text.as_slice())
 }
 
-// The counts of all tiers.
+// Returns the counts of all tiers as a text.
 fn counted<G: Shown>(
     alloc: Global,
     built: &Built<G>,
@@ -215,7 +215,7 @@ fn write_longest<G: Shown, O: Write>(
     put_all(output, text.as_slice())
 }
 
-// The rows of the longest wins and the longest losses.
+// Returns the rows of the longest wins and the longest losses.
 fn longest<G: Shown>(
     alloc: Global,
     built: &Built<G>,
@@ -237,7 +237,7 @@ fn longest<G: Shown>(
     Ok(text?)
 }
 
-/// The positions that play reaches, where they are asked for.
+/// Finds the positions that play reaches, on request.
 pub fn reached_from_start<G: Shown>(alloc: Global, asked: bool) -> Result<Option<Reached<G>>, Fault>
     ensures asked { IfOk result (λ reached. is_some reached ≡ asked) }
     ensures fault { IfErr result IsMemoryFault }

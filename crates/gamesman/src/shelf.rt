@@ -13,8 +13,8 @@ use gm_tierdb::store_error::StoreError;
 use std::alloc::{AllocError, Global};
 use std::fs::Files;
 
-/// Where the files of tiers are: in a folder, in one that is only read, or in memory. One type for all three, since a build is compiled once for each type of
-/// store. As a store it promises only its count of failures, like a folder.
+/// The place of the tier files: a folder, a folder that is only read, or memory. One type covers all three, since a build is
+/// compiled once for each type of store. As a store it promises only its count of failures, like a folder.
 #[derive(Drop)]
 pub enum Shelf {
     Folder(FolderStore),
@@ -23,7 +23,8 @@ pub enum Shelf {
 }
 
 impl Shelf {
-    /// The store that a line asks for: its folder, which is only read where the line says so, or memory where it names none. No call of it has failed.
+    /// Makes the store for a line. It is the folder that the line names, which is only read on request, or memory if the line names
+    /// none. No call of it has failed.
     pub fn at(alloc: Global, kept: TableLocation<'_>) -> Result<Shelf, AllocError>
         ensures failed { IfOk result (λ s. failed_in s ≡ 0) }
         ensures kept { IfOk result (λ s. kept_in s ≡ option_map (λ folder. (folder.now, kept.entry.read_only)) kept.entry.folder) }
@@ -39,7 +40,8 @@ impl Shelf {
         }
     }
 
-    /// Whether a tier can't be written, since its file is an intact one of another game than the one of this name. No failure is counted.
+    /// Tests whether a tier can't be written because its file is an intact one of a game with a name other than this one. No
+    /// failure is counted.
     pub fn is_anothers<R: Files>(
         &mut self,
         rt: &R,
@@ -54,7 +56,7 @@ impl Shelf {
         }
     }
 
-    /// Whether a write has failed because the file there is another game's.
+    /// Tests whether a write has failed because the file there is another game's.
     pub fn met_another(&self) -> bool {
         match self {
             Shelf::Folder(store) => store.met_another(),

@@ -1,4 +1,4 @@
-//! A game solved into a folder.
+//! Solving a game into a folder.
 ghost use Rattle.std.specs.Prelude.{◌≡◌, ◌++◌, IfOk, OnOk, IfErr};
 ghost use Rattle.gamesman.specs.Refusals.{IsUnbuilt};
 ghost use Rattle.gamesman.specs.Solving.{part, report_text, IsReport, IsSolvedBy};
@@ -18,7 +18,7 @@ use std::sync::Wait;
 use std::thread::Threads;
 use std::time::Clock;
 
-/// Builds a game into a folder, and prints what that took.
+/// Builds a game into a folder, and prints the work that it took.
 pub fn solve<
     G: Game + Send + Sync,
     R: Threads + Wait + Clock + Files + Sync + AllocGlobal,
@@ -37,7 +37,7 @@ pub fn solve<
     put_all(output, line.as_slice())
 }
 
-// Builds a game into a folder, and makes the line that tells what that took.
+// Builds a game into a folder, and returns the line that reports the work.
 fn report_of<
     G: Game + Send + Sync,
     R: Threads + Wait + Clock + Files + Sync + AllocGlobal,
@@ -62,7 +62,7 @@ fn report_of<
     Ok(line?)
 }
 
-// What a build took, as a line.
+// Returns the work of a build as a line.
 fn line_of<G: Game>(alloc: Global, built: &Built<G>) -> Result<Vec<u8>, AllocError>
     ensures { IfOk result (λ v. v.items ≡ report_text built.now.solved built.now.reused built.now.migrated built.now.deliveries built.now.by_hand) }
 {

@@ -25,14 +25,14 @@ use std::sync::Wait;
 use std::thread::Threads;
 use std::time::Clock;
 
-/// Where the tables of a game are kept, and how they are made.
+/// The options of a build: the place of the tables of a game, and how they are made.
 #[derive(Drop)]
 pub struct BuildOptions<'a, E> {
     pub kept: TableLocation<'a>,
     pub plan: Plan,
     /// Standard error.
     pub errors: &'a mut E,
-    /// How it is told how far a build is.
+    /// How progress is reported.
     pub telling: Telling,
 }
 
@@ -50,7 +50,7 @@ impl<E: Write + Send> BuildOptions<'_, E> {
         self.build_from::<G, R>(rt, G::initial().tier)
     }
 
-    /// Builds the tiers that one tier reaches: all on which the values of that tier rest.
+    /// Builds the tiers that one tier reaches: all tiers on which its values depend.
     pub fn build_from<
         G: Game + Send + Sync,
         R: Threads + Wait + Clock + Files + Sync + AllocGlobal,
@@ -83,7 +83,7 @@ impl<E: Write + Send> BuildOptions<'_, E> {
     }
 }
 
-// The first of these tiers that can't be written, since its file is an intact one of another game.
+// Returns the first of these tiers that can't be written because its file is an intact one of another game.
 fn first_anothers<G: Game, R: Files>(
     rt: &R,
     shelf: &mut Shelf,
@@ -101,7 +101,7 @@ fn first_anothers<G: Game, R: Files>(
     Ok(None)
 }
 
-// Builds the tiers that one tier reaches over a store that has not failed yet.
+// Builds the tiers that one tier reaches, over a store without a failed call.
 fn build_over<
     G: Game + Send + Sync,
     R: Threads + Wait + Clock + Files + Sync + AllocGlobal,
@@ -138,7 +138,7 @@ fn build_over<
     built
 }
 
-// Why a game is not built over a folder, for instance since the folder has another game's file.
+// Returns the reason why a game is not built over a folder. If the folder has another game's file, that is the reason.
 fn why_not(error: BuildError, met_another: bool) -> Fault
     ensures { result ≡ reason_of error met_another }
 {

@@ -1,4 +1,4 @@
-//! Reports on standard error how far a build or a check is.
+//! Progress reports of a build or a check on standard error.
 
 use crate::live::Live;
 use gm_build::progress::Progress;
@@ -10,7 +10,8 @@ use std::io::Write;
 use std::sync::Wait;
 use std::time::Clock;
 
-/// Reports a build by lines, by one line at a terminal, or not at all. One type for all three, since a build is compiled once for each type of observer.
+/// The reporter of a build: by lines, by one line at a terminal, or not at all. One type covers all three, since a build is
+/// compiled once for each type of observer.
 #[derive(Drop)]
 pub enum Teller<'a, G: Game, C, E: Write> {
     Lines(Progress<'a, C, E>),
@@ -18,7 +19,7 @@ pub enum Teller<'a, G: Game, C, E: Write> {
 }
 
 impl<'a, G: Game, C: Clock, E: Write> Teller<'a, G, C, E> {
-    /// Returns what reports a build of these tiers, or a check of them.
+    /// Returns the reporter for a build or a check of these tiers.
     pub fn new(clock: &'a C, errors: &'a mut E, telling: Telling, tiers: &[u64]) -> Self {
         match telling {
             Telling::Quiet => Teller::Lines(Progress::quiet(clock, errors)),
@@ -27,7 +28,7 @@ impl<'a, G: Game, C: Clock, E: Write> Teller<'a, G, C, E> {
         }
     }
 
-    /// Takes a line at a terminal away.
+    /// Removes the line at a terminal, if there is one.
     pub fn clear(&self) {
         match self {
             Teller::Lines(_) => {}
@@ -36,7 +37,7 @@ impl<'a, G: Game, C: Clock, E: Write> Teller<'a, G, C, E> {
     }
 }
 
-// How many indexes these tiers have together.
+// Returns the number of indexes that these tiers have together.
 fn indexes_of<G: Game>(tiers: &[u64]) -> u64 {
     let mut all = 0u64;
     for tier in tiers {

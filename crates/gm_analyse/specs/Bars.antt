@@ -32,7 +32,7 @@ abbrev pub count_row : ℕ → Count → List ℕ
 count_row greatest c = (value_text_of c.value c.remoteness ++ codes "\t") ++ (decimal c.number ++ codes "\t") ++
     (take (bar_length greatest c.number) whole_bar ++ codes "\n")
 
--- the number of a tier before its rows, with what stands after it; nothing where all tiers are counted together
+-- the number of a tier before its rows, with what is after it; nothing if all tiers are counted together
 abbrev pub tier_field : List ℕ → Option ℕ → List ℕ
 tier_field after None = []
 tier_field after (Some t) = decimal t ++ after

@@ -16,7 +16,7 @@ AreTierRows r among reached (t ∷ ts) rows = (counts : List Count) × (rest : L
     among reached ts rest
     × (rows ≡ map (with_tier (Some t)) counts ++ rest)
 
--- the counts of these tiers: of each by itself, where that is asked for, and else of all together
+-- the counts of these tiers: of each by itself, if that is wanted, and else of all together
 abbrev pub AreRows : Rules → Among → Bool → Bool → List ℕ → List TierCount → Type 0
 AreRows r among reached true tiers rows = AreTierRows r among reached tiers rows
 AreRows r among reached false tiers rows = (counts : List Count) × AreCounts r among reached tiers counts × (rows ≡ map (with_tier None) counts)

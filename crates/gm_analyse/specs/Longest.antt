@@ -21,7 +21,7 @@ IsLastAbove numbers i None = (n : ℕ) → n < i → slice_index_or numbers n 0 
 IsLastAbove numbers i (Some k) = (k < i) × (0 < slice_index_or numbers k 0) × ((n : ℕ) → k < n → n < i → slice_index_or numbers n 0 ≡ 0)
 
 module _ (r : Rules) (shown : Position → List ℕ) (move_shown : Position → ℕ → List ℕ) (reached : Bool) (limit : ℕ) (tiers : List ℕ) where
-  -- the rows of the positions of the value with this remoteness; none where there is no greatest one
+  -- the rows of the positions of the value with this remoteness; none if there is no greatest one
   abbrev pub AreRowsAt : Value → Option ℕ → List ℕ → Type 0
   AreRowsAt v None out = out ≡ []
   AreRowsAt v (Some n) out = IsFoundText r shown move_shown (longest v n) reached (First limit) tiers out

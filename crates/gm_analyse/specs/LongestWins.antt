@@ -15,7 +15,7 @@ pub record IsLongest (records : List (Option Solved)) (n remoteness index : ℕ)
   pub greatest : (m i : ℕ) → IsWinAt records n m i → m ≤ remoteness
   pub first : (i : ℕ) → IsWinAt records n remoteness i → index ≤ i
 
--- the greatest remoteness of a win among the first n indexes, with the least index that has it; none where there is no win
+-- the greatest remoteness of a win among the first n indexes, with the least index that has it; none if there is no win
 abbrev pub IsLongestWin : List (Option Solved) → ℕ → Option (ℕ × ℕ) → Type 0
 IsLongestWin records n None = (m i : ℕ) → IsWinAt records n m i → ⊥
 IsLongestWin records n (Some l) = IsLongest records n l.0 l.1

@@ -21,7 +21,7 @@ count_tree c = array (item (string (value_word c.value)) (item (whole c.remotene
 abbrev pub counts_tree : List Count → Data
 counts_tree cs = array (items_of (map count_tree cs))
 
--- the longest win: its remoteness and its index, or null where there is none
+-- the longest win: its remoteness and its index, or null if there is none
 abbrev pub longest_tree : Option (ℕ × ℕ) → Data
 longest_tree None = null
 longest_tree (Some l) = array (item (whole l.0) (item (whole l.1) no_items))

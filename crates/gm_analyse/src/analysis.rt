@@ -45,7 +45,7 @@ pub fn analyse<G: Game>(alloc: Global, table: &Table<G>) -> Result<Analysis, All
     })
 }
 
-// How many indexes of the tier are legal positions.
+// Returns how many indexes of the tier are legal positions.
 fn legal_in<G: Game>(table: &Table<G>) -> u64
     ensures { result ≡ count_where (is_legal_at G.rules table.now.tier) (length table.now.records) }
 {
@@ -59,7 +59,7 @@ fn legal_in<G: Game>(table: &Table<G>) -> u64
     number
 }
 
-// How many indexes of the tier have a record.
+// Returns how many indexes of the tier have a record.
 fn canonical_in<G: Game>(table: &Table<G>) -> u64
     ensures { result ≡ count_where (has_record table.now.records) (length table.now.records) }
 {

@@ -64,7 +64,7 @@ fn rows_text(
     }
 }
 
-// The rows of some counts, with bars.
+// Returns the rows of some counts, with bars.
 fn bar_rows(alloc: Global, counts: &[TierCount]) -> Result<Vec<u8>, AllocError>
     ensures { IfOk result (λ v. v.items ≡ flat_map (bar_row (most_spec counts.now)) counts.now) }
 {
@@ -76,7 +76,7 @@ fn bar_rows(alloc: Global, counts: &[TierCount]) -> Result<Vec<u8>, AllocError>
     Ok(rows)
 }
 
-// The greatest of the numbers.
+// Returns the greatest of the numbers.
 fn most(counts: &[TierCount]) -> u64
     ensures { result ≡ most_spec counts.now }
 {
@@ -116,7 +116,7 @@ fn push_count(rows: &mut Vec<u8>, greatest: u64, count: Count) -> Result<(), All
     push_field(rows, bar(bar_length(greatest, count.number)), b"\n")
 }
 
-// How long the bar of a number is.
+// Returns how long the bar of a number is.
 fn bar_length(greatest: u64, number: u64) -> usize
     ensures length { result ≡ bar_length_spec greatest number }
     ensures few { result ≤ 40 }
@@ -126,7 +126,7 @@ fn bar_length(greatest: u64, number: u64) -> usize
     length.min(40) as usize
 }
 
-// The bar of this length.
+// Returns the bar of this length.
 fn bar(length: usize) -> &'static [u8]
     requires { length ≤ 40 }
     ensures { result.now ≡ take length whole_bar }
@@ -134,7 +134,7 @@ fn bar(length: usize) -> &'static [u8]
     &WHOLE[..length]
 }
 
-// The rows of some counts, as comma-separated values.
+// Returns the rows of some counts, as comma-separated values.
 fn csv_rows(alloc: Global, by_tier: bool, counts: &[TierCount]) -> Result<Vec<u8>, AllocError>
     ensures { IfOk result (λ v. v.items ≡ csv_head_spec by_tier ++ flat_map csv_row counts.now) }
 {
@@ -146,7 +146,7 @@ fn csv_rows(alloc: Global, by_tier: bool, counts: &[TierCount]) -> Result<Vec<u8
     Ok(rows)
 }
 
-// The names of the columns.
+// Returns the names of the columns.
 fn csv_head(by_tier: bool) -> &'static [u8]
     ensures { result.now ≡ csv_head_spec by_tier }
 {

@@ -40,7 +40,7 @@ pub fn tier_counts<G: Game>(
     }
 }
 
-// The counts of all tiers together.
+// Returns the counts of all tiers together.
 fn rows_together<G: Game>(
     alloc: Global,
     known: &KnownTiers<'_, G>,
@@ -54,7 +54,7 @@ fn rows_together<G: Game>(
     with_tier(alloc, None, counted.as_slice())
 }
 
-// The counts of each tier.
+// Returns the counts of each tier.
 fn rows_by_tier<G: Game>(
     alloc: Global,
     known: &KnownTiers<'_, G>,
@@ -90,7 +90,7 @@ fn add_tier<G: Game>(
     add_counts(rows, Some(tier), counted.as_slice())
 }
 
-// Some counts, with the tier that they are of.
+// Pairs counts with their tier.
 fn with_tier(
     alloc: Global,
     tier: Option<u64>,

@@ -34,7 +34,7 @@ impl Model for Counts {
 }
 
 impl Counts {
-    /// The counts, without memory: in the order Lose, Draw, Tie, Win, then by remoteness.
+    /// Returns the counts, without memory: in the order Lose, Draw, Tie, Win, then by remoteness.
     pub fn list(&self) -> &[Count]
         ensures { result.now ≡ self.now }
     {
@@ -75,7 +75,7 @@ fn add_counts<G: Game>(
     Ok(())
 }
 
-// How many records have this value, for each remoteness up to the greatest.
+// Returns how many records have this value, for each remoteness up to the greatest.
 fn numbers_of<G: Game>(
     alloc: Global,
     table: &Table<G>,
@@ -108,7 +108,7 @@ fn grow(numbers: &mut Vec<u64>, level: usize) -> Result<(), AllocError>
     Ok(())
 }
 
-/// The remoteness of a record of this value.
+/// Returns the remoteness of a record of this value.
 pub(crate) fn remoteness_in(value: Value, known: Option<Solved>) -> Option<u32>
     ensures { result ≡ remoteness_in_spec value known }
 {

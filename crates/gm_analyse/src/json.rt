@@ -16,8 +16,8 @@ use serde_json::{Map, Value as Json, json, push, put};
 use std::alloc::{AllocError, Global};
 use std::str;
 
-/// The analysis of a tier of the game as one line of compact JSON, with its members in alphabetical order. Each count is a list of a value's word, the
-/// remoteness and the number; the longest win is a list of the remoteness and the index, or null if there is none.
+/// Returns the analysis of a tier of the game as one line of compact JSON, with its members in alphabetical order. Each count is a list of a value's word, the
+/// remoteness and the number; the longest win is a list of the remoteness and the index, or null if the tier has no win.
 pub fn to_json<G: Game>(alloc: Global, analysis: &Analysis) -> Result<String, AllocError>
     ensures { IfOk result (λ s. string_bytes s ≡ compact_text (analysis_tree (name_text G.rules.name) analysis.now)) }
 {
@@ -29,7 +29,7 @@ pub fn to_json<G: Game>(alloc: Global, analysis: &Analysis) -> Result<String, Al
     text
 }
 
-// The text of a padded name.
+// Returns the text of a padded name.
 fn text_of(name: &[u8; NAME]) -> &str
     requires { IsPaddedText name.now }
     ensures { result.now ≡ name_text name.now }
@@ -46,7 +46,7 @@ fn first_zero(name: &[u8]) -> Option<usize>
     name.iter().position(|byte| *byte == 0)
 }
 
-// The analysis as a tree.
+// Returns the analysis as a tree.
 fn tree(alloc: Global, game: &str, analysis: &Analysis) -> Result<Json, AllocError>
     ensures { IfOk result (λ v. view v ≡ analysis_tree game.now analysis.now) }
 {

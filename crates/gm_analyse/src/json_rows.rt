@@ -11,7 +11,7 @@ use gm_play::texts::word_of;
 use serde_json::{Value as Json, json};
 use std::alloc::{AllocError, Global};
 
-/// The lines of some counts, each of compact JSON.
+/// Returns the lines of some counts, each of compact JSON.
 pub(crate) fn json_rows(alloc: Global, counts: &[TierCount]) -> Result<Vec<u8>, AllocError>
     ensures { IfOk result (λ v. v.items ≡ flat_map json_row counts.now) }
 {
@@ -23,7 +23,7 @@ pub(crate) fn json_rows(alloc: Global, counts: &[TierCount]) -> Result<Vec<u8>, 
     Ok(rows)
 }
 
-// A count as a tree.
+// Returns a count as a tree.
 fn row_value(alloc: Global, tier: Option<u64>, count: Count) -> Result<Json, AllocError>
     ensures { IfOk result (λ v. view v ≡ row_tree tier count) }
 {

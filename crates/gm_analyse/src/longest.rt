@@ -7,7 +7,7 @@ use gm_game::game::Game;
 use gm_game::position::Value;
 use gm_table::table::Table;
 
-/// The greatest remoteness of a win, and the least index that has it.
+/// Returns the greatest remoteness of a win, and the least index that has it.
 pub(crate) fn longest_win<G: Game>(table: &Table<G>) -> Option<(u32, u64)>
     ensures { IsLongestWin table.now.records (length table.now.records) result }
 {
@@ -18,7 +18,7 @@ pub(crate) fn longest_win<G: Game>(table: &Table<G>) -> Option<(u32, u64)>
     longest
 }
 
-// The longest win so far, with the remoteness of a win at one more index, if it is one.
+// Returns the longest win so far, with the remoteness of a win at one more index, if it is one.
 fn longer(longest: Option<(u32, u64)>, remoteness: Option<u32>, index: u64) -> Option<(u32, u64)>
     ensures { result ≡ longer_spec longest remoteness index }
 {

@@ -17,9 +17,9 @@ use gm_game::position::Value;
 use gm_game::shown::Shown;
 use std::alloc::{AllocError, Global};
 
-/// The rows of the longest wins of some tiers, and then of the longest losses: the position, its value, its best move and the number of its moves, with a tab
-/// between them. They are the canonical positions with the greatest remoteness, tier by tier in the order given and by ascending index: of the wins the first,
-/// at most `limit`, and of the losses too. If a set of reached positions is given, only positions in it count.
+/// Returns the rows of the longest wins of some tiers, and then of the longest losses: the position, its value, its best move and the number of its moves, with
+/// a tab between them. They are the canonical positions with the greatest remoteness, tier by tier in the order given and by ascending index: of the wins the
+/// first, at most `limit`, and of the losses too. If a set of reached positions is given, only positions in it count.
 pub fn longest_text<G: Shown>(
     alloc: Global,
     known: &KnownTiers<'_, G>,
@@ -34,7 +34,7 @@ pub fn longest_text<G: Shown>(
     Ok(rows)
 }
 
-// The rows of the positions of a value with the greatest remoteness.
+// Returns the rows of the positions of a value with the greatest remoteness.
 fn rows_of_longest<G: Shown>(
     alloc: Global,
     known: &KnownTiers<'_, G>,
@@ -84,7 +84,7 @@ pub fn greatest<G: Game>(
     Ok(last_above(numbers.as_slice()))
 }
 
-// The last place with a number above 0.
+// Returns the last place with a number above 0.
 fn last_above(numbers: &[u64]) -> Option<u32>
     requires { length numbers.now ≤ REMOTENESS + 1 }
     ensures { IsLastAbove numbers.now (length numbers.now) result }

@@ -17,7 +17,7 @@ use gm_game::position::{Position, Solved, Value};
 use gm_table::tables::Tables;
 use std::alloc::{AllocError, Global};
 
-/// How many positions of some tiers have this value, for each remoteness up to the greatest.
+/// Returns how many positions of some tiers have this value, for each remoteness up to the greatest.
 pub(crate) fn numbers_of<G: Game>(
     alloc: Global,
     known: &KnownTiers<'_, G>,
@@ -103,7 +103,7 @@ fn count(numbers: &mut Vec<u64>, level: usize) -> Result<(), AllocError>
     }
 }
 
-// The remoteness with which a position is counted, if it is.
+// Returns the remoteness with which a position is counted, if it is.
 fn level<G: Game>(
     tables: &Tables<G>,
     p: Position,
@@ -122,7 +122,7 @@ fn level<G: Game>(
     Some(solved.remoteness)
 }
 
-// The true value of a position that is one of those; `None` for any other.
+// Returns the true value of a position that is one of those; `None` for any other.
 fn record_among<G: Game>(tables: &Tables<G>, p: Position, among: Among) -> Option<Solved>
     requires { IsHeld tables.now p.tier }
     ensures among { IsRecordAmong G.rules among p result }

@@ -1,4 +1,4 @@
--- What stands at a tier and index, and where a text is located, undo each other.
+-- What is at a tier and index, and where a text is located, undo each other.
 use Rattle.std.proofs.Common.{◌≡◌, ℕ, true, List, refl, sym, ap, subst, ◌∙◌, arith}
 use Rattle.gm_game.specs.declared.position.Position.{Position}
 use Rattle.gm_game.specs.Laws.{IsGame}
@@ -28,7 +28,7 @@ module _ (r : Rules) (g : IsGame r) (shown : Position → List ℕ) (move_shown 
         ),
       )
 
-  -- what stands at a tier and index is refused for no reason
+  -- what is at a tier and index is refused for no reason
   never : (tier index : ℕ) (p : Position) (why : PlaceError) → IsAt r tier index p → IsRefusedAt r tier index why → ⊥
   never tier index p NoSuchTier a e = (let low = g.index_below (at tier index) (subst (λ (q : Position). r.is_legal q ≡ true) a.0 a.1.0) in omega arith)
   never tier index p NoSuchIndex a e = (let low = g.index_below (at tier index) (subst (λ (q : Position). r.is_legal q ≡ true) a.0 a.1.0) in let past = e.1

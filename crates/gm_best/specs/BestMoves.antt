@@ -63,7 +63,7 @@ pub record IsBest (r : Rules) (p : Position) (m : ℕ) : Type 0 where
   pub remoteness : ℕ
   pub best : IsBestOf r p value (r.moves p) m remoteness
 
--- the best move of a position; none where the game has ended
+-- the best move of a position; none if the game has ended
 abbrev pub IsBestMove : Rules → Position → Option ℕ → Type 0
 IsBestMove r p None = r.primitive p ≢ None
 IsBestMove r p (Some m) = (r.primitive p ≡ None) × IsBest r p m

@@ -6,7 +6,7 @@ use Rattle.gm_best.specs.declared.side.Side.{Side}
 use Rattle.gm_best.specs.declared.side.Side.TheVariants.{You, Computer}
 use Rattle.gm_best.specs.Sides.{other}
 
--- who wins, by how the game has ended for the side to move: nobody in a tie
+-- who wins, by how the game has ended for the side to move: neither side in a tie
 abbrev pub winner : Side → End → Option Side
 winner s EndTie = None
 winner s EndLose = Some (other s)

@@ -1,4 +1,4 @@
--- Where positions stand: their tiers and indexes.
+-- The places of positions: their tiers and indexes.
 use Rattle.std.specs.Prelude.{◌≡◌, ◌≢◌, ℕ, ◌<◌, ◌≤◌, true, false, List}
 use Rattle.gm_game.specs.declared.position.Position.{Position}
 use Rattle.gm_game.specs.Rules.{Rules, at, IsCanonical}
@@ -10,7 +10,7 @@ use Rattle.gm_best.specs.declared.place.PlaceError.TheVariants.{NoSuchTier, NoSu
 abbrev pub IsAt : Rules → ℕ → ℕ → Position → Type 0
 IsAt r tier index p = (p ≡ at tier index) × IsCanonical r p
 
--- why there is none: of these conditions no two hold, and none holds where there is one
+-- why there is none: of these conditions no two hold, and none holds if there is one
 abbrev pub IsRefusedAt : Rules → ℕ → ℕ → PlaceError → Type 0
 IsRefusedAt r tier index NoSuchTier = r.tier_size tier ≡ 0
 IsRefusedAt r tier index NoSuchIndex = (0 < r.tier_size tier) × (r.tier_size tier ≤ index)
@@ -27,14 +27,14 @@ pub record IsLocated (r : Rules) (shown : Position → List ℕ) (text : List �
 abbrev pub IsUnlocated : Rules → (Position → List ℕ) → List ℕ → Type 0
 IsUnlocated r shown text = (p : Position) → r.is_legal p ≡ true → shown p ≡ text → ⊥
 
--- what stands at a tier and index, and where a text is located, undo each other
+-- what is at a tier and index, and where a text is located, undo each other
 pub record ArePlaces (r : Rules) (shown : Position → List ℕ) : Type 0 where
-  -- the text of what stands at a tier and index is located there, as that of a canonical position
+  -- the text of what is at a tier and index is located there, as that of a canonical position
   pub located : (tier index : ℕ) (p : Position) (l : Located) → IsAt r tier index p → IsLocated r shown (shown p) l → (l.position ≡ at tier index) ×
       (l.canonical ≡ l.position)
   -- it is located
   pub there : (tier index : ℕ) (p : Position) → IsAt r tier index p → IsUnlocated r shown (shown p) → ⊥
-  -- the canonical position of what is located stands at the tier that is located, by its own index
+  -- the canonical position of what is located is at the tier that is located, by its own index
   pub found : (text : List ℕ) (l : Located) → IsLocated r shown text l → IsAt r l.position.tier l.canonical.index l.canonical
   -- and nothing is refused there
   pub unrefused : (text : List ℕ) (l : Located) (why : PlaceError) → IsLocated r shown text l → IsRefusedAt r l.position.tier l.canonical.index why → ⊥

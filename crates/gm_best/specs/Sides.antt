@@ -17,7 +17,7 @@ abbrev pub IsWonIn : Rules → Position → Side → ℕ → Type 0
 IsWonIn r p Computer n = HasValue r p Win n
 IsWonIn r p You n = HasValue r p Lose n
 
--- nobody wins
+-- neither side wins
 abbrev pub IsEven : Rules → Position → Type 0
 IsEven r p = (n : ℕ) × (HasValue r p Tie n ⊎ HasValue r p Draw n)
 

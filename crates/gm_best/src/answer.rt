@@ -19,7 +19,7 @@ pub enum AnswerError {
 }
 
 impl AnswerError {
-    /// The number of the error.
+    /// Returns the number of the error.
     pub fn number(&self) -> u8
         ensures { result ≡ number_of self.now }
     {
@@ -30,7 +30,7 @@ impl AnswerError {
     }
 }
 
-/// The true value of a position with its remoteness, canonical or not. It takes no memory.
+/// Returns the true value of a position with its remoteness, canonical or not. It takes no memory.
 pub fn answer<G: Game>(tables: &Tables<G>, p: Position) -> Result<Solved, AnswerError>
     ensures value { IfOk result (IsTrueValue G.rules p) }
     ensures illegal { IsErrOf result AnswerError.Illegal ↔ (G.rules.is_legal p ≡ false) }

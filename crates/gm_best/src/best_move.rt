@@ -37,7 +37,7 @@ pub fn best_move<G: Game>(tables: &Tables<G>, p: Position) -> Result<Option<u32>
     Ok(best_of(tables, p))
 }
 
-/// The best move of a legal position whose tier and child tiers have tables.
+/// Returns the best move of a legal position whose tier and child tiers have tables.
 pub(crate) fn best_of<G: Game>(tables: &Tables<G>, p: Position) -> Option<u32>
     requires legal { G.rules.is_legal p ≡ true }
     requires own { IsHeld tables.now p.tier }
@@ -60,7 +60,7 @@ fn number_of(choice: Option<Choice>) -> Option<u32>
     }
 }
 
-// The best move towards a wanted value, if one goes to it.
+// Returns the best move towards a wanted value, if one goes to it.
 fn choose<G: Game>(tables: &Tables<G>, p: Position, value: Value) -> Option<Choice>
     requires legal { G.rules.is_legal p ≡ true }
     requires own { IsHeld tables.now p.tier }
@@ -74,7 +74,7 @@ fn choose<G: Game>(tables: &Tables<G>, p: Position, value: Value) -> Option<Choi
     best
 }
 
-// The choice after one more move.
+// Returns the choice after one more move.
 fn consider<G: Game>(
     tables: &Tables<G>,
     p: Position,
@@ -96,7 +96,7 @@ fn consider<G: Game>(
     Some(better(value, best, Choice { number, remoteness }))
 }
 
-/// The value of the result of a best move from a position with this value.
+/// Returns the value of the result of a best move from a position with this value.
 pub fn wanted(value: Value) -> Value
     ensures { result ≡ wanted_from value }
 {
@@ -108,7 +108,7 @@ pub fn wanted(value: Value) -> Value
     }
 }
 
-// Whether a result of this remoteness is better than one of another.
+// Returns whether a result of this remoteness is better than one of another.
 fn is_nearer(value: Value, remoteness: u32, than: u32) -> bool
     ensures { IsTrue result ↔ IsNearer value remoteness than }
 {
@@ -119,7 +119,7 @@ fn is_nearer(value: Value, remoteness: u32, than: u32) -> bool
     }
 }
 
-// The choice so far, unless the new one is better.
+// Returns the choice so far, unless the new one is better.
 fn better(value: Value, best: Option<Choice>, choice: Choice) -> Choice
     ensures { Chooses value best choice.number choice.remoteness result }
 {

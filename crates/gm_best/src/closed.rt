@@ -17,7 +17,7 @@ impl<'t, G: Game> Closed<'t, G> {
     ghost use Rattle.std.specs.Prelude.{◌≡◌, ◌↔◌, true, IsSome, IfSome};
     ghost use Rattle.gm_table.specs.Tables.{IsHeld};
 
-    /// A legal position, if its tier has a table. It takes no memory.
+    /// Returns a legal position, if its tier has a table. It takes no memory.
     pub fn known(&self, position: Position) -> Option<Known<'t, G>>
         requires { G.rules.is_legal position ≡ true }
         ensures known { IfSome result (λ known. known.position ≡ position) }

@@ -5,7 +5,7 @@ ghost use Rattle.gm_best.specs.Endings.{over as over_spec};
 use crate::side::Side;
 use gm_game::position::End;
 
-/// The line that announces how a game ended, with this side to move.
+/// Returns the line that announces how a game ended, with this side to move.
 pub fn over(side: Side, end: End) -> &'static [u8]
     ensures { result.now ≡ over_spec side end }
 {

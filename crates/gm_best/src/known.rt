@@ -36,7 +36,7 @@ impl<'t, G: Game> Known<'t, G> {
     ghost use Rattle.gm_best.specs.BestMoves.{IsBestMove};
     ghost use Rattle.gm_best.specs.Reached.{IsReached};
 
-    /// The true value of the position with its remoteness. It takes no memory.
+    /// Returns the true value of the position with its remoteness. It takes no memory.
     pub fn value(&self) -> Solved
         ensures value { IsTrueValue G.rules self.now.position result }
         ensures small { result.remoteness ≤ REMOTENESS }
@@ -51,7 +51,7 @@ impl<'t, G: Game> Known<'t, G> {
         best_of(self.tables, self.position)
     }
 
-    /// The result of a move. It takes no memory.
+    /// Returns the result of a move. It takes no memory.
     pub fn play(&self, number: u32) -> Known<'t, G>
         requires { Contains (G.rules.moves self.now.position) number }
         ensures { result.position ≡ G.rules.play self.now.position number }
@@ -59,7 +59,7 @@ impl<'t, G: Game> Known<'t, G> {
         self.at(G::play(self.position, number))
     }
 
-    /// A position to whose tier play from this one can come.
+    /// Returns a position to whose tier play from this one can come.
     pub fn at(&self, position: Position) -> Known<'t, G>
         requires { IsReached G.rules self.now.position.tier position }
         ensures { result.position ≡ position }

@@ -25,7 +25,7 @@ pub enum PlaceError {
 }
 
 impl PlaceError {
-    /// The number of the error.
+    /// Returns the number of the error.
     pub fn number(&self) -> u8
         ensures { result ≡ place_number_of self.now }
     {
@@ -45,7 +45,7 @@ pub struct Located {
     pub canonical: Position,
 }
 
-/// The canonical position with this index of a tier. It takes no memory and asks no table.
+/// Returns the canonical position with this index of a tier. It takes no memory and asks no table.
 ///
 /// The refusals are tested in the order of their numbers, and each comes exactly if its condition holds and no earlier one's does.
 pub fn at<G: Game>(tier: u64, index: u64) -> Result<Position, PlaceError>

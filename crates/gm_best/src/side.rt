@@ -10,7 +10,7 @@ pub enum Side {
 }
 
 impl Side {
-    /// The other side.
+    /// Returns the other side.
     pub fn other(self) -> Side
         ensures { result ≡ other_spec self }
     {

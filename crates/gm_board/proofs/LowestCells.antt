@@ -102,6 +102,6 @@ lowest mask next rest h g p =
       };
     }
 
--- where nothing is left, the mask has no cell from `next` on
+-- if nothing is left, the mask has no cell from `next` on
 pub nothing_left : (mask next rest i : ℕ) → IsRest mask next rest → rest ≡ 0 → next ≤ i → bit_at mask i ≡ 0
 nothing_left mask next rest i h e l = sym (h.same i l) ∙ ap (λ (v : ℕ). bit_at v i) e ∙ bit_at_above 0 0 i (omega arith) (omega arith)

@@ -220,7 +220,7 @@ next_is a c m r fits small low run none is =
       fits = below;
     }
 
--- it has no further cells where there is a subset with its rank
+-- it has no further cells if there is a subset with its rank
 pub next_within : (m r n : ℕ) → IsNextMask m r → n ≤ 32 → mask_rank m + 1 < binomial n (count_ones m) → r < 2 ^ n
 next_within m r n h few below =
     let k = count_ones m in

@@ -244,7 +244,7 @@ pub record IsStepDown (theirs n free packed : ℕ) : Type 0 where
   pub fits : theirs / 2 ^ n / 2 * 2 ^ free ≤ packed
   pub left : packed - theirs / 2 ^ n / 2 * 2 ^ free ≡ theirs / 2 ^ n / 2 * 2 ^ free + packed % 2 ^ free
 
--- where the cell has no piece of the opponent's
+-- if the cell has no piece of the opponent's
 pub step_down : (mine theirs n free packed : ℕ) → IsPackedTo mine theirs n free packed → has_cell theirs n ≡ false → IsStepDown theirs n free packed
 step_down mine theirs n free packed h e =
     let a = theirs / 2 ^ n / 2 in

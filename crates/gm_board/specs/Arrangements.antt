@@ -5,14 +5,14 @@ use Rattle.gm_board.specs.declared.cell.Cell.TheVariants.{Empty, Mine, Theirs}
 use Rattle.gm_board.specs.Binomials.{binomial}
 use Rattle.gm_board.specs.Ranks.{members, rank, unrank}
 
--- for each cell, whether a piece of the mover's stands on it
+-- for each cell, whether a piece of the mover's is on it
 abbrev pub mine_bits : List Cell → List Bool
 mine_bits [] = []
 mine_bits (Mine ∷ cs) = true ∷ mine_bits cs
 mine_bits (Theirs ∷ cs) = false ∷ mine_bits cs
 mine_bits (Empty ∷ cs) = false ∷ mine_bits cs
 
--- for each cell without a piece of the mover's, whether a piece of the opponent's stands on it
+-- for each cell without a piece of the mover's, whether a piece of the opponent's is on it
 abbrev pub their_bits : List Cell → List Bool
 their_bits [] = []
 their_bits (Mine ∷ cs) = their_bits cs

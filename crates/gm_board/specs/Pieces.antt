@@ -7,13 +7,13 @@ use Rattle.gm_board.specs.Ranks.{members}
 use Rattle.gm_board.specs.Masks.{has_cell, tests_of, mask_of}
 use Rattle.gm_board.specs.Arrangements.{mine_bits, merge, arrangement}
 
--- what stands on a cell, by the tests of the mover's and of the opponent's pieces
+-- what is on a cell, by the tests of the mover's and of the opponent's pieces
 abbrev pub cell_by : Bool → Bool → Cell
 cell_by true t = Mine
 cell_by false true = Theirs
 cell_by false false = Empty
 
--- what stands on the cells below n, the highest cell first
+-- what is on the cells below n, the highest cell first
 unfoldable pub cells_of : ℕ → ℕ → ℕ → List Cell
 cells_of zero mine theirs = []
 cells_of (suc n) mine theirs = cell_by (has_cell mine n) (has_cell theirs n) ∷ cells_of n mine theirs
@@ -26,7 +26,7 @@ pub record HasPieces (n m t mine theirs : ℕ) : Type 0 where
   pub mine_number : count_ones mine ≡ m
   pub their_number : count_ones theirs ≡ t
 
--- for each cell, whether a piece of the opponent's stands on it
+-- for each cell, whether a piece of the opponent's is on it
 abbrev pub their_tests : List Cell → List Bool
 their_tests [] = []
 their_tests (Mine ∷ cs) = false ∷ their_tests cs

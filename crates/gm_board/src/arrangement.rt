@@ -20,14 +20,14 @@ pub struct Arrangement {
 }
 
 impl Arrangement {
-    /// The number of arrangements: `C(cells, mine) * C(cells - mine, theirs)`.
+    /// Returns the number of arrangements: `C(cells, mine) * C(cells - mine, theirs)`.
     pub fn size(self) -> u64
         ensures { result ≡ arrangements self.cells self.mine self.theirs }
     {
         binomial(self.cells, self.mine) * binomial(self.free(), self.theirs)
     }
 
-    /// The index of the arrangement with these masks of pieces. Inlined, as `masks` is.
+    /// Returns the index of the arrangement with these masks of pieces. Inlined, as `masks` is.
     #[tactic(auto, using(crate::specs::laws::Binomials::binomial_small, crate::proofs::IndexSteps::index_is))]
     #[inline(always)]
     pub fn index(self, mine: u32, theirs: u32) -> u64
@@ -41,8 +41,8 @@ impl Arrangement {
         rank_subset(mine) * binomial(self.free(), self.theirs) + rank_subset(packed)
     }
 
-    /// The masks of the mover's and of the opponent's pieces in the arrangement with this index. Inlined, so that a game with constant numbers of pieces
-    /// divides by constants.
+    /// Returns the masks of the mover's and of the opponent's pieces in the arrangement with this index. Inlined, so that a game with constant numbers of
+    /// pieces divides by constants.
     #[tactic(auto, using(crate::proofs::IndexSteps::digits_are, crate::proofs::IndexSteps::mine_mask_is, crate::proofs::IndexSteps::their_mask_is))]
     #[inline(always)]
     pub fn masks(self, index: u64) -> (u32, u32)
@@ -60,7 +60,7 @@ impl Arrangement {
         (mine, theirs)
     }
 
-    /// The number of cells without the mover's pieces, 0 if the mover has more pieces than there are cells.
+    /// Returns the number of cells without the mover's pieces, 0 if the mover has more pieces than there are cells.
     #[inline(always)]
     fn free(self) -> u32
         ensures { result ≡ self.cells - self.mine }
@@ -69,7 +69,7 @@ impl Arrangement {
     }
 }
 
-/// The mask of the opponent's pieces on the cells without the mover's pieces, where these cells are numbered from 0 in ascending order.
+/// Returns the mask of the opponent's pieces on the cells without the mover's pieces, where these cells are numbered from 0 in ascending order.
 #[tactic(auto, using(crate::proofs::PackSteps::packing, crate::proofs::PackSteps::pack_turn))]
 #[inline(always)]
 fn pack(cells: u32, mine: u32, theirs: u32) -> u32
@@ -92,7 +92,7 @@ fn pack(cells: u32, mine: u32, theirs: u32) -> u32
     packed
 }
 
-/// The mask of the opponent's pieces on all cells, from their mask on the cells without the mover's pieces.
+/// Returns the mask of the opponent's pieces on all cells, from their mask on the cells without the mover's pieces.
 #[tactic(auto, using(crate::proofs::PackSteps::spreading))]
 fn spread(cells: u32, mine: u32, packed: u32) -> u32
     requires cells { cells ≤ 32 }

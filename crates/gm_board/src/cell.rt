@@ -12,7 +12,7 @@ pub enum Cell {
 }
 
 impl Cell {
-    /// What is on a cell, where the masks have the mover's and the opponent's pieces.
+    /// Returns the content of a cell, by the masks of the mover's and of the opponent's pieces.
     pub fn at(mine: u32, theirs: u32, cell: u32) -> Cell
         requires { cell < 32 }
         ensures { result ≡ cell_by (has_cell mine cell) (has_cell theirs cell) }

@@ -149,7 +149,7 @@ static ROWS: [[u32; 33]; 33] = [
     ],
 ];
 
-/// The number of subsets of `k` elements of a set of `n` elements, for `n` up to 32: 0 if `k` is above `n`.
+/// Returns the number of subsets of `k` elements of a set of `n` elements, for `n` up to 32: 0 if `k` is above `n`.
 #[tactic(auto, using(crate::specs::laws::Binomials::binomial_past))]
 #[inline(always)]
 pub fn binomial(n: u32, k: u32) -> u64

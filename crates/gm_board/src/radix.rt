@@ -10,7 +10,7 @@ pub struct MixedRadix<const K: usize> {
 }
 
 impl<const K: usize> MixedRadix<K> {
-    /// How many numbers there are: the product of the radices.
+    /// Returns how many numbers there are: the product of the radices.
     #[tactic(auto, using(crate::proofs::RadixSteps::size_more))]
     pub fn size(&self) -> u64
         ensures { result ≡ radix_size self.now.radices }
@@ -23,7 +23,7 @@ impl<const K: usize> MixedRadix<K> {
         size
     }
 
-    /// The number that has these digits.
+    /// Returns the number that has these digits.
     #[tactic(auto, using(crate::specs::laws::Digits::number_below, crate::specs::laws::Digits::digits_back, crate::proofs::RadixSteps::number_more, crate::proofs::RadixSteps::prefix_below, crate::proofs::RadixSteps::number_all))]
     pub fn encode(&self, digits: &[u64; K]) -> u64
         requires { AreBelow self.now.radices digits.now }
@@ -38,7 +38,7 @@ impl<const K: usize> MixedRadix<K> {
         number
     }
 
-    /// The digits of this number.
+    /// Returns the digits of this number.
     #[tactic(auto, using(crate::proofs::RadixSteps::decoded_all, crate::proofs::RadixSteps::radix_positive))]
     pub fn decode(&self, number: u64) -> [u64; K]
         requires { number < radix_size self.now.radices }

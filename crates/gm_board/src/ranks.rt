@@ -188,7 +188,7 @@ const HIGH: [[u16; 256]; 9] = [
     ],
 ];
 
-/// The rank of a subset of sixteen cells among the subsets with equally many cells.
+/// Returns the rank of a subset of sixteen cells among the subsets with equally many cells.
 #[inline]
 pub fn short_rank(mask: u32) -> u64
     requires { mask < 2 ^ 16 }
@@ -1007,7 +1007,7 @@ static UPPER: [[u32; 512]; 17] = [
     ],
 ];
 
-/// The rank of a subset of 25 cells among the subsets with equally many cells.
+/// Returns the rank of a subset of 25 cells among the subsets with equally many cells.
 #[tactic(auto, using(crate::proofs::RankTables::long_rank_is))]
 #[inline]
 pub fn long_rank(mask: u32) -> u64

@@ -509,12 +509,12 @@ static SUBSETS: [u16; 8192] = [
     8187, 8189, 8190, 8191,
 ];
 
-/// For each number of members, where the sets with so many start.
+/// For each number of members, the number of the first set with that many.
 const STARTS: [u16; 14] = [
     0, 1, 14, 92, 378, 1093, 2380, 4096, 5812, 7099, 7814, 8100, 8178, 8191,
 ];
 
-/// The mask of the set of `members` of thirteen cells with this rank.
+/// Returns the mask of the set of `members` of thirteen cells with this rank.
 #[tactic(auto, using(crate::proofs::ThirteenSteps::thirteen_at))]
 #[inline]
 pub fn subset_of_13(members: u32, rank: u64) -> u32

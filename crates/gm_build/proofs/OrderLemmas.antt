@@ -14,7 +14,7 @@ use Rattle.gm_build.specs.Outcomes.{MayHaveText, StopsAt}
 use Rattle.gm_build.proofs.StoreLemmas.{texts_kept, others_more}
 
 module _ (r : Rules) (first : ℕ) (tiers : List ℕ) (order : IsOrderFrom r first tiers) (k : ℕ) (inside : k < length tiers) where
-  -- the tier is none of those before it
+  -- the tier is not one of those before it
   pub fresh_tier : Contains (take k tiers) (get_or tiers k 0) → ⊥
   fresh_tier (j, low, e) =
       let t = get_or tiers k 0 in

@@ -38,6 +38,6 @@ pub record IsSomeWork (r : Rules) (tiers : List ℕ) (solved reused migrated del
 abbrev pub HoldsExactly : List TableData → List ℕ → Type 0
 HoldsExactly entries tiers = (tier : ℕ) → IsHeld entries tier ↔ Contains tiers tier
 
--- this tier has a table too, beside those that had one before
+-- this tier has a table too, besides those that had one before
 abbrev pub HoldsToo : ℕ → List TableData → List TableData → Type 0
 HoldsToo tier old new = (t : ℕ) → IsHeld new t ↔ (IsHeld old t ⊎ (tier ≡ t))

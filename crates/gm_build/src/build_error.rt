@@ -25,7 +25,7 @@ pub enum BuildError {
 }
 
 impl BuildError {
-    /// The number of the error.
+    /// Returns the number of the error.
     pub fn number(&self) -> u8
         ensures { result ≡ number_of self.now }
     {

@@ -60,8 +60,8 @@ pub(crate) fn load_tier<G: Game + Send + Sync, R: Threads + Files + Sync, S: Sto
     }
 }
 
-/// Whether the bytes of an entry are the text of the tier's true table, in either version, and that table. Takes time and memory in proportion to the tier's
-/// size.
+/// Returns whether the bytes of an entry are the text of the tier's true table, in either version, and that table. Takes time and memory in proportion to the
+/// tier's size.
 pub fn read_entry_table<G: Game + Send + Sync, R: Threads + Sync>(
     rt: &R,
     alloc: Global,
@@ -86,7 +86,7 @@ pub fn read_entry_table<G: Game + Send + Sync, R: Threads + Sync>(
     }
 }
 
-// The true table of a tier, where these bytes are its text in version 1.
+// Returns the true table of a tier, where these bytes are its text in version 1.
 fn old_table<G: Game + Send + Sync, R: Threads + Sync>(
     rt: &R,
     alloc: Global,

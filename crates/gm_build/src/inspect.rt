@@ -28,7 +28,7 @@ const FEW: usize = 65_536;
 pub enum Inspected<G: Game> {
     /// The text of the tier's true table, which is this one.
     Right(Table<G>),
-    /// There is none.
+    /// The store has no entry.
     Missing,
     /// The bytes are no text of a tier file of the present version.
     NoFile(FileError),
@@ -36,7 +36,7 @@ pub enum Inspected<G: Game> {
     NoTable(CheckError),
 }
 
-/// Reads the entry of a tier once, and answers what it is; nothing is written. The tables of the child tiers are given. Unless memory runs out, the entry
+/// Reads the entry of a tier once, and returns its state. It writes nothing. The tables of the child tiers are given. Unless memory runs out, the entry
 /// determines the answer.
 ///
 /// The bytes are decoded first, and then the records are checked in turn: `NoFile` and `NoTable` have the first reason that applies.
@@ -51,7 +51,7 @@ pub fn inspect_tier<G: Game + Send + Sync, R: Threads + Files + Sync, S: Store>(
     requires small { G.rules.tier_size tier ≤ TIER_SIZE }
     requires few { S.failed store.old < u64.MAX }
     ensures found { IsTrue S.KEEPS → IfOk result (IsInspectedIn G.rules tables.now (S.texts store.old) tier) }
-    // Over a store that does not keep its map this is said of the bytes that were read.
+    // Over a store that does not keep its map this holds for the bytes that were read.
     ensures told { IfOk result (λ i. (read : Texts) × IsInspectedIn G.rules tables.now read tier i) }
     ensures same { IsTrue S.KEEPS → AreSame (S.texts store.old) (S.texts store.new) }
     ensures error { IfErr result (IsTierError G.rules tier) }
@@ -87,9 +87,9 @@ pub(crate) fn read_entry<R: Files, S: Store>(
     }
 }
 
-/// What the bytes of an entry are: they are decoded first, and then the records are checked in turn, by the tables of the child tiers, while another thread
-/// takes the digest of a long one. `NoFile` and `NoTable` have the first reason that applies; `Missing` is never the answer. Takes time and memory in
-/// proportion to the tier's size.
+/// Returns the state of an entry by its bytes: they are decoded first, and then the records are checked in turn, by the tables of the child tiers, while
+/// another thread takes the digest of a long one. `NoFile` and `NoTable` have the first reason that applies; `Missing` is never the answer. Takes time and
+/// memory in proportion to the tier's size.
 pub fn inspect_text<G: Game + Send + Sync, R: Threads + Sync>(
     rt: &R,
     alloc: Global,
@@ -116,7 +116,7 @@ pub fn inspect_text<G: Game + Send + Sync, R: Threads + Sync>(
     }
 }
 
-// Whether an entry ends with its digest, and what its records are: of a long one by a thread each.
+// Returns whether an entry ends with its digest, and what its records are: of a long one by a thread each.
 fn read_both<G: Game + Send + Sync, R: Threads + Sync>(
     rt: &R,
     alloc: Global,
@@ -144,7 +144,7 @@ fn read_both<G: Game + Send + Sync, R: Threads + Sync>(
     )
 }
 
-// The table of the records of an entry, or why they are not the tier's, whatever its digest.
+// Returns the table of the records of an entry, or why they are not the tier's; the digest is not tested.
 fn read_table<G: Game + Send + Sync, R: Threads + Sync>(
     rt: &R,
     alloc: Global,

@@ -71,7 +71,7 @@ impl fmt::Display for ProgressLine {
     }
 }
 
-/// Whether a line is due: the first at once, and each further one a quarter of a second after the last, by readings of one clock.
+/// Returns whether a line is due: the first at once, and each further one a quarter of a second after the last, by readings of one clock.
 pub fn is_due(last: Option<Duration>, now: Duration) -> bool
     ensures first { last ≡ None → result ≡ true }
     ensures later { IfSome last (λ told. (result ≡ true) ↔ (as_nanos told + PAUSE * 1_000_000 ≤ as_nanos now)) }
@@ -107,14 +107,14 @@ pub struct Progress<'a, C, E: Write> {
 }
 
 impl<'a, C: Clock, E: Write> Progress<'a, C, E> {
-    /// The progress of a build that is to begin.
+    /// Returns the progress of a build that is to begin.
     pub fn new(clock: &'a C, errors: &'a mut E) -> Self
         ensures { result.quiet ≡ false }
     {
         Progress::begun(clock, errors, false)
     }
 
-    /// A progress that writes nothing, so that a build with lines and one without are the same code.
+    /// Returns a progress that writes nothing, so that a build with lines and one without are the same code.
     pub fn quiet(clock: &'a C, errors: &'a mut E) -> Self
         ensures { result.quiet ≡ true }
     {

@@ -1,4 +1,4 @@
-//! A line of words, read.
+//! Reading a line of words.
 
 use crate::commands::gamesman;
 use crate::explore_commands::explore_of;
@@ -16,7 +16,7 @@ use gm_solver::plan::Plan;
 use std::alloc::Global;
 use std::fmt;
 
-/// A text that the command line itself makes: help, the version, or what is wrong with a line.
+/// A text that the command line itself makes: help, the version, or the reason why a line is bad.
 #[derive(Drop)]
 pub struct Help(Error);
 
@@ -27,14 +27,14 @@ impl fmt::Display for Help {
     }
 }
 
-/// Why a line of words can't be read.
+/// The reason why a line of words can't be read.
 #[derive(Clone, Copy, Debug, PartialEq, Eq)]
 pub enum ReadError {
     BadLine,
     OutOfMemory,
 }
 
-// Where a line keeps its tables.
+// Returns the place where a line keeps its tables.
 fn kept_of<'a>(inner: &ArgMatches<'a>) -> TableLocation<'a> {
     TableLocation {
         folder: inner.get_str("folder"),
@@ -42,7 +42,7 @@ fn kept_of<'a>(inner: &ArgMatches<'a>) -> TableLocation<'a> {
     }
 }
 
-// The plan of a line of `solve`: its defaults and ranges are those of the command.
+// Returns the plan of a line of `solve`. Its defaults and ranges are those of the command.
 fn plan_of(matches: &ArgMatches<'_>) -> Option<Plan> {
     let workers = matches.get_one::<u32>("workers")?;
     let shards = matches.get_one::<u32>("shards")?;
@@ -57,7 +57,7 @@ fn solve_of<'a>(inner: &ArgMatches<'a>) -> Option<GameRequest<'a>> {
     }))
 }
 
-// For `-` the positions are read from standard input.
+// Reads a line of `query`. For `-` the positions are read from standard input.
 fn query_of<'a>(inner: &ArgMatches<'a>) -> Option<GameRequest<'a>> {
     let kept = kept_of(inner);
     match inner.get_str("POSITION")? {
@@ -69,7 +69,7 @@ fn query_of<'a>(inner: &ArgMatches<'a>) -> Option<GameRequest<'a>> {
     }
 }
 
-// A tier and an index are numbers without a sign and without zeros before them.
+// Reads a line of `at`. A tier and an index are numbers without a sign and without leading zeros.
 fn at_of<'a>(inner: &ArgMatches<'a>) -> Option<GameRequest<'a>> {
     Some(GameRequest::At {
         tier: read_decimal(inner.get_str("TIER")?.as_bytes())?,
@@ -107,7 +107,7 @@ fn play_of<'a>(inner: &ArgMatches<'a>) -> GameRequest<'a> {
     }
 }
 
-// A question about the moves of a position, or of each position that is read.
+// Reads a line that asks about the moves of one position, or of each position of the input.
 fn moves_of<'a>(name: &str, inner: &ArgMatches<'a>) -> Option<GameRequest<'a>> {
     if inner.get_str("POSITION") != Some("-") {
         return question_of(name, inner);
@@ -121,7 +121,7 @@ fn moves_of<'a>(name: &str, inner: &ArgMatches<'a>) -> Option<GameRequest<'a>> {
     })
 }
 
-// A question about a position, or a search over all tables.
+// Reads a line that asks about a position, or that searches all tables.
 fn question_of<'a>(name: &str, inner: &ArgMatches<'a>) -> Option<GameRequest<'a>> {
     let kept = kept_of(inner);
     match search_of(name, inner) {
@@ -133,7 +133,7 @@ fn question_of<'a>(name: &str, inner: &ArgMatches<'a>) -> Option<GameRequest<'a>
     }
 }
 
-// What a command asks of a game.
+// Reads the request that a command makes of a game.
 fn game_asked_of<'a>(name: &str, inner: &ArgMatches<'a>) -> Option<GameRequest<'a>> {
     match name {
         "solve" => solve_of(inner),
@@ -150,7 +150,7 @@ fn game_asked_of<'a>(name: &str, inner: &ArgMatches<'a>) -> Option<GameRequest<'
     }
 }
 
-// How standard error is told how far a build is.
+// Returns how the progress of a build is reported on standard error.
 fn telling_of(inner: &ArgMatches<'_>) -> Telling {
     if inner.get_flag("quiet") {
         Telling::Quiet
@@ -182,7 +182,7 @@ fn matched<'a>(alloc: Global, words: &'a [&'a str]) -> Result<ArgMatches<'a>, Er
     gamesman(alloc)?.try_get_matches_from(words)
 }
 
-// Why a line asks for nothing whose words are those of a command.
+// Returns the reason why a line is refused although its words are those of a command.
 fn misfit(matches: &ArgMatches<'_>) -> Option<&'static str> {
     let (name, inner) = matches.subcommand()?;
     if !are_plain(name, inner) {
@@ -195,7 +195,7 @@ fn misfit(matches: &ArgMatches<'_>) -> Option<&'static str> {
     }
 }
 
-// What the command line says of such a line.
+// Makes the message for such a line.
 fn told(alloc: Global, why: &'static str) -> Option<Help> {
     let mut command = gamesman(alloc).ok()?;
     let error = command.error(ErrorKind::ValueValidation, why).ok();
@@ -203,7 +203,7 @@ fn told(alloc: Global, why: &'static str) -> Option<Help> {
     Some(Help(error?))
 }
 
-/// What the command line says of a bad line: `None` where nothing is wrong with it, or memory runs out.
+/// Returns the message of the command line about a bad line. `None` means that the line is good or that memory ran out.
 pub fn what_is_wrong(alloc: Global, words: &[&str]) -> Option<Help> {
     match matched(alloc, words) {
         Ok(matches) => {
@@ -215,7 +215,7 @@ pub fn what_is_wrong(alloc: Global, words: &[&str]) -> Option<Help> {
     }
 }
 
-// The text that the command line itself makes, where a line that it did not take as a command asks for one.
+// Returns the text that the command line itself makes, if the line asks for one.
 fn help_of(error: Error) -> Result<Help, ReadError> {
     let why = match error.kind() {
         ErrorKind::DisplayHelp | ErrorKind::DisplayVersion => return Ok(Help(error)),
@@ -226,7 +226,7 @@ fn help_of(error: Error) -> Result<Help, ReadError> {
     Err(why)
 }
 
-/// Reads a line of words, of which the first is the program's name.
+/// Reads a line of words. The first word is the program's name.
 pub fn read_words<'a>(alloc: Global, words: &'a [&'a str]) -> Result<Reading<'a>, ReadError> {
     match matched(alloc, words) {
         Ok(matches) => {

@@ -1,4 +1,4 @@
-//! The program's command line, by clap.
+//! The program's command line, made with clap.
 
 use crate::lines::lines;
 use crate::relations::{barred_by, needed_by, values_of};
@@ -8,7 +8,7 @@ use std::alloc::{AllocError, Global};
 
 const VERSION: &str = "1.1.0";
 
-// An option with a number of a range.
+// Gives an option a number within a range as its value.
 fn with_number<'a>(
     option: Arg<'a>,
     least: i64,
@@ -22,7 +22,7 @@ fn with_number<'a>(
     }
 }
 
-// An argument with what its words can be, and with which others it goes. The help says itself what they can be.
+// Adds to an argument its possible values and its relations to other arguments. The text of the help already lists the values.
 fn related<'a>(arg: Arg<'a>, name: &str) -> Result<Arg<'a>, AllocError> {
     let named = match values_of(name) {
         Some(values) => arg.value_parser(values).hide_possible_values(true),
@@ -35,7 +35,7 @@ fn related<'a>(arg: Arg<'a>, name: &str) -> Result<Arg<'a>, AllocError> {
     needing.conflicts_with_all(barred_by(name))
 }
 
-// A word of a command, by itself.
+// Makes the argument for a word of a command, without its relations.
 fn arg_of<'a>(alloc: Global, word: &'static ArgSpec) -> Arg<'a> {
     let arg = Arg::new(alloc, word.name).help(word.help);
     match word.kind {
@@ -68,7 +68,7 @@ fn add_words<'a>(
     Ok(())
 }
 
-// A command of the program.
+// Makes a command of the program.
 fn command_of<'a>(alloc: Global, line: &'static CommandSpec) -> Result<Command<'a>, AllocError> {
     let mut words = Vec::new(alloc);
     add_words(alloc, line.words, &mut words)?;
@@ -90,7 +90,7 @@ fn add_commands<'a>(alloc: Global, all: &mut Vec<Command<'a>>) -> Result<(), All
     Ok(())
 }
 
-/// The program's command line.
+/// Makes the program's command line.
 pub fn gamesman<'a>(alloc: Global) -> Result<Command<'a>, AllocError> {
     let mut all = Vec::new(alloc);
     add_commands(alloc, &mut all)?;

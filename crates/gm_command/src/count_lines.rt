@@ -1,4 +1,4 @@
-//! The words of `counts` and `longest`, with what `--help` says of them.
+//! The words of `counts` and `longest`, with their texts in `--help`.
 
 use crate::words::{
     ArgKind, ArgSpec, CommandSpec, FOLDER, GAME, JSON, MOST, QUIET, REACHED, READ_ONLY,

@@ -1,11 +1,11 @@
-//! What a line that asks about a position says.
+//! Reading the commands that ask about a position.
 ghost use Rattle.std.specs.Prelude.{◌≡◌, ◌⊎◌, codes, IfSome, IsSome, option_map};
 ghost use Rattle.clap.specs.Words.{first_value, found_of};
 
 use crate::requests::{PositionRequest, Question};
 use clap::ArgMatches;
 
-/// The limit that a line gives, or none.
+/// Returns the limit that a line gives. Without one it returns the greatest `usize`.
 pub(crate) fn limit_of(inner: &ArgMatches<'_>) -> usize {
     match inner.get_one::<u32>("limit") {
         Some(limit) => limit as usize,
@@ -13,7 +13,7 @@ pub(crate) fn limit_of(inner: &ArgMatches<'_>) -> usize {
     }
 }
 
-// How a board is shown. The value can be left out of a diagram alone.
+// Returns how a board is shown. Only a diagram can leave out the value.
 fn show_of(inner: &ArgMatches<'_>) -> Option<Question> {
     let valued = !inner.get_flag("no-value");
     if inner.get_flag("svg") {

@@ -1,4 +1,4 @@
-//! The words of `find`, with what `--help` says of them.
+//! The words of `find`, with their texts in `--help`.
 
 use crate::words::{
     ArgKind, ArgSpec, CommandSpec, FOLDER, GAME, JSON, MOST, QUIET, REACHED, READ_ONLY,

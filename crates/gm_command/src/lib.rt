@@ -1,4 +1,5 @@
-//! The program's command line: what a line of words asks for, and the texts about the program that are made from it. The words are in docs/PROGRAM.md.
+//! The program's command line: reading a line of words as a request, and the texts about the program that are made from it. The
+//! words are in docs/PROGRAM.md.
 #![tactic(auto)]
 
 pub mod asked;

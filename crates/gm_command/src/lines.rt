@@ -1,4 +1,4 @@
-//! The commands of the program and the words of each, with what `--help` says of them.
+//! The commands of the program and the words of each, with their texts in `--help`.
 
 use crate::count_lines::{COUNTS, LONGEST};
 use crate::defaults::{PIECE_WORD, SHARDS_WORD, WORKERS_WORD};
@@ -289,7 +289,7 @@ static MAN: CommandSpec = CommandSpec {
     words: &[],
 };
 
-/// All commands, in the order of the help.
+/// Returns all commands, in the order of the help.
 pub(crate) fn lines() -> [&'static CommandSpec; 19] {
     [
         &LIST,

@@ -1,4 +1,4 @@
-//! Texts about the program, made from the table of its command lines: completions for shells, and a man page.
+//! Texts about the program, made from the table of its commands: completions for shells, and a man page.
 ghost use Rattle.std.specs.Prelude.{◌≡◌, ◌↔◌, codes, Some};
 ghost use Rattle.clap.specs.Words.{first_value, found_of};
 
@@ -17,7 +17,7 @@ pub enum Manual {
     Man,
 }
 
-/// The completions for the shell that a line of `completions` names.
+/// Returns the completions for the shell that a line of `completions` names.
 pub fn manual_of(inner: &ArgMatches<'_>) -> Option<Manual>
     ensures bash { (result ≡ Some Manual.Bash) ↔ (first_value (found_of inner.now) (codes "SHELL") ≡ Some (codes "bash")) }
     ensures zsh { (result ≡ Some Manual.Zsh) ↔ (first_value (found_of inner.now) (codes "SHELL") ≡ Some (codes "zsh")) }
@@ -32,7 +32,7 @@ pub fn manual_of(inner: &ArgMatches<'_>) -> Option<Manual>
     }
 }
 
-/// The text that is asked for.
+/// Writes a text about the program.
 pub fn manual_text(alloc: Global, asked: Manual) -> Result<Vec<u8>, AllocError> {
     let mut text = String::new(alloc);
     write_manual(asked, &mut text)?;
@@ -48,7 +48,7 @@ fn write_manual(asked: Manual, text: &mut String) -> Result<(), AllocError> {
     }
 }
 
-// The name of an option; none for a word by its place.
+// Returns the name of an option, and `None` for a word that is known by its place.
 fn option_of(word: &ArgSpec) -> Option<&'static str> {
     match word.kind {
         ArgKind::Word | ArgKind::Optional => None,
@@ -56,7 +56,7 @@ fn option_of(word: &ArgSpec) -> Option<&'static str> {
     }
 }
 
-// Whether a word is an option with a value.
+// Tests whether a word is an option with a value.
 fn has_value(word: &ArgSpec) -> bool {
     match word.kind {
         ArgKind::Text { .. } | ArgKind::Number { .. } | ArgKind::Tier => true,
@@ -64,7 +64,7 @@ fn has_value(word: &ArgSpec) -> bool {
     }
 }
 
-// Adds some strings, one after another.
+// Appends some strings, one after another.
 fn add(text: &mut String, parts: &[&str]) -> Result<(), AllocError> {
     for part in parts {
         text.push_str(part)?;
@@ -72,7 +72,7 @@ fn add(text: &mut String, parts: &[&str]) -> Result<(), AllocError> {
     Ok(())
 }
 
-// The names of the commands, a space before each.
+// Appends the names of the commands, with a space before each.
 fn write_commands(text: &mut String) -> Result<(), AllocError> {
     for line in &lines() {
         add(text, &[" ", line.name])?;
@@ -80,7 +80,7 @@ fn write_commands(text: &mut String) -> Result<(), AllocError> {
     Ok(())
 }
 
-// The words that can follow a command: its options, and the names of the games.
+// Appends the words that can follow a command: its options, and the names of the games.
 fn write_words(line: &CommandSpec, text: &mut String) -> Result<(), AllocError> {
     for word in line.words {
         match option_of(word) {
@@ -91,7 +91,7 @@ fn write_words(line: &CommandSpec, text: &mut String) -> Result<(), AllocError> 
     Ok(())
 }
 
-// The values that a word of the command line can have.
+// Appends the values that a word of the command line can have.
 fn write_values(place: &str, text: &mut String) -> Result<(), AllocError> {
     match place {
         "GAME" => {
@@ -108,7 +108,7 @@ fn write_values(place: &str, text: &mut String) -> Result<(), AllocError> {
     }
 }
 
-// The options that have a value, with `|` before each.
+// Appends the options that have a value, with `|` before each.
 fn write_valued(text: &mut String) -> Result<(), AllocError> {
     for line in &lines() {
         for word in line.words {
@@ -120,7 +120,7 @@ fn write_valued(text: &mut String) -> Result<(), AllocError> {
     Ok(())
 }
 
-// The name of a command, and its other one, with `|` between them.
+// Appends the name of a command and its alias, with `|` between them.
 fn write_names(line: &CommandSpec, text: &mut String) -> Result<(), AllocError> {
     text.push_str(line.name)?;
     match line.alias {
@@ -129,7 +129,7 @@ fn write_names(line: &CommandSpec, text: &mut String) -> Result<(), AllocError> 
     }
 }
 
-// The words of each command, with strings before its name, before its words and after them.
+// Appends the words of each command, with a string before its name, one before its words and one after them.
 fn write_cases(
     start: &'static str,
     before: &'static str,
@@ -206,7 +206,7 @@ fn write_fish_command(line: &CommandSpec, text: &mut String) -> Result<(), Alloc
     Ok(())
 }
 
-// An option, or the values that a word of the command line can have.
+// Appends an option, or the values that a word of the command line can have.
 fn write_fish_word(
     name: &'static str,
     word: &ArgSpec,

@@ -3,7 +3,7 @@
 use std::alloc::{AllocError, Global};
 use strsim::jaro;
 
-/// The names that `list` says, in this order: scripts read them, so the list stays as it is.
+/// The names that `list` prints, in this order. The list doesn't change, since scripts read it.
 pub const NAMES: [&str; 18] = [
     "countdown",
     "wheel",
@@ -25,13 +25,13 @@ pub const NAMES: [&str; 18] = [
     "hare",
 ];
 
-/// The names of the games that came later, which `list --all` says after those.
+/// The names of the games that were added later. `list --all` prints them after `NAMES`.
 pub const LATER_NAMES: [&str; 5] = ["ponghauki", "shisima", "takeaway", "tapatan", "dodgem"];
 
-/// From which likeness on a name is taken for a misspelled one; the command line takes the same for its commands.
+/// The likeness above which a name is taken for a misspelled one. The command line uses the same limit for its commands.
 const ALIKE: f64 = 0.7;
 
-// The name that is most like this text, if it is more so than the best one before.
+// Returns this name if it is more like the text than the best name before it, and else that one.
 fn better<'a>(
     alloc: Global,
     text: &str,
@@ -46,7 +46,7 @@ fn better<'a>(
     }
 }
 
-/// The name of the game that this text is most like, if it is much like one.
+/// Returns the name of the game that is most like this text, if one is much like it.
 pub fn nearest_name(alloc: Global, text: &str) -> Result<Option<&'static str>, AllocError> {
     let mut best = None;
     for name in NAMES.iter().chain(LATER_NAMES.iter()) {

@@ -1,11 +1,11 @@
-//! Numbers of a command line, without a sign and without zeros before them.
+//! Numbers of a command line, without a sign and without leading zeros.
 
 use crate::lines::lines;
 use crate::words::{ArgKind, CommandSpec};
 use clap::ArgMatches;
 use gm_find::sought::Span;
 
-// Whether a text that may be a number has no sign and no zero before it.
+// Tests whether a text that may be a number has no sign and no leading zero.
 fn is_plain(text: &str) -> bool {
     let digits = text.as_bytes();
     match digits.first() {
@@ -15,7 +15,7 @@ fn is_plain(text: &str) -> bool {
     }
 }
 
-// Whether all numbers of a command are written so.
+// Tests whether all numbers of a command are written so.
 fn are_plain_in(line: &CommandSpec, inner: &ArgMatches<'_>) -> bool {
     line.words.iter().all(|word| match word.kind {
         ArgKind::Number { .. } | ArgKind::Tier => match inner.get_str(word.name) {
@@ -26,7 +26,7 @@ fn are_plain_in(line: &CommandSpec, inner: &ArgMatches<'_>) -> bool {
     })
 }
 
-/// Whether all numbers of the command of this name are written without a sign and without zeros before them.
+/// Tests whether all numbers of the command of this name are written without a sign and without leading zeros.
 pub(crate) fn are_plain(name: &str, inner: &ArgMatches<'_>) -> bool {
     match lines().iter().find(|line| line.name == name) {
         Some(line) => are_plain_in(line, inner),
@@ -34,7 +34,7 @@ pub(crate) fn are_plain(name: &str, inner: &ArgMatches<'_>) -> bool {
     }
 }
 
-/// A number of at most 4,294,967,295, in decimal digits.
+/// Reads a number of at most 4,294,967,295, in decimal digits.
 pub(crate) fn number_of(text: &str) -> Option<u32> {
     if is_plain(text) {
         text.parse::<u32>().ok()
@@ -43,7 +43,7 @@ pub(crate) fn number_of(text: &str) -> Option<u32> {
     }
 }
 
-/// A span of numbers: `N` alone, or `A..B` from A to B, of which B is not the smaller one.
+/// Reads a span of numbers: `N`, or `A..B` from A to B. It refuses a B that is less than A.
 pub(crate) fn span_of(text: &str) -> Option<Span> {
     let (first, last) = match text.split_once("..") {
         Some((first, last)) => (first, last),

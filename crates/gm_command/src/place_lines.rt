@@ -1,4 +1,4 @@
-//! The words of `at`, `locate` and `why`, with what `--help` says of them.
+//! The words of `at`, `locate` and `why`, with their texts in `--help`.
 
 use crate::words::{ArgKind, ArgSpec, CommandSpec, FOLDER, GAME, QUIET, READ_ONLY, START};
 

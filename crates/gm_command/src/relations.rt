@@ -1,6 +1,6 @@
-//! What words of a command line can be, and which of them go together.
+//! The possible values of the words of a command line, and the options that need or exclude each other.
 
-/// The words that a word of this name can be; none where any text is taken.
+/// Returns the values that a word of this name can have, and `None` if it takes any text.
 pub(crate) fn values_of(name: &str) -> Option<&'static [&'static str]> {
     match name {
         "value" => Some(&["win", "tie", "draw", "lose"]),
@@ -9,7 +9,7 @@ pub(crate) fn values_of(name: &str) -> Option<&'static [&'static str]> {
     }
 }
 
-/// The option without which this one says nothing.
+/// Returns the option without which this one has no meaning.
 pub(crate) fn needed_by(name: &str) -> Option<&'static str> {
     match name {
         "read-only" => Some("folder"),
@@ -19,7 +19,7 @@ pub(crate) fn needed_by(name: &str) -> Option<&'static str> {
     }
 }
 
-/// The options beside which this one can't stand.
+/// Returns the options that this one can't be combined with.
 pub(crate) fn barred_by(name: &str) -> &'static [&'static str] {
     match name {
         "limit" => &["random"],

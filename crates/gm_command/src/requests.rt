@@ -1,4 +1,4 @@
-//! What a line of words can ask for.
+//! The requests that a line of words can make.
 
 use crate::asked::Help;
 use crate::manual::Manual;
@@ -9,29 +9,29 @@ use gm_find::sought::{Choice, Sought};
 use gm_json::asked::Asked as PositionJson;
 use gm_solver::plan::Plan;
 
-/// Where the tables of a game are kept.
+/// The place where the tables of a game are kept.
 #[derive(Clone, Copy)]
 pub struct TableLocation<'a> {
-    /// The folder; tables are kept in memory where there is none.
+    /// The folder. Without one the tables are kept in memory.
     pub folder: Option<&'a str>,
     /// Whether the folder is only read.
     pub read_only: bool,
 }
 
-/// What is asked about a position.
+/// A question about a position.
 #[derive(Clone, Copy, Debug, PartialEq, Eq)]
 pub enum Question {
-    /// What each move is worth; with `distinct`, of several moves that lead to one canonical position only the first.
+    /// The value of each move. With `distinct`, only the first of several moves that lead to one canonical position.
     Moves { distinct: bool, json: bool },
-    /// What each move is worth, the best answer to it, and what is left.
+    /// The value of each move, the best answer to it, and the position after that.
     Why,
     /// Best play of both sides, of at most this many moves.
     Line { limit: usize, json: bool },
-    /// The board and the value; where an explanation is asked for, also how cells, positions and moves are written.
+    /// The board and the value; on request, also how cells, positions and moves are written.
     Show { explained: bool },
-    /// The board as a diagram for print, with the value under it where that is asked for.
+    /// The board as a diagram for print; on request, with the value under it.
     Diagram { valued: bool },
-    /// A page that explores at most this many positions that play reaches.
+    /// A page that explores at most this many of the positions that play reaches.
     Page { limit: usize },
 }
 
@@ -42,16 +42,16 @@ pub struct PositionRequest<'a> {
     pub question: Question,
 }
 
-/// What is asked of each position that is read.
+/// A question about each position of the input.
 #[derive(Clone, Copy, Debug, PartialEq, Eq)]
 pub enum Filter {
     /// Its value.
     Value,
-    /// What each of its moves is worth, as `Question::Moves`.
+    /// The value of each of its moves, as in `Question::Moves`.
     Moves { distinct: bool, json: bool },
 }
 
-/// How positions that are found are written.
+/// The form in which found positions are written.
 #[derive(Clone, Copy, Debug, PartialEq, Eq)]
 pub enum Form {
     /// A row for each.
@@ -64,81 +64,81 @@ pub enum Form {
     Boards,
 }
 
-/// Positions that are looked for.
+/// A search for positions.
 #[derive(Clone, Copy, Debug, PartialEq, Eq)]
 pub struct PositionSearch {
     pub sought: Sought,
-    /// The one tier to look in; all tiers where there is none.
+    /// The one tier to search. Without one all tiers are searched.
     pub tier: Option<u64>,
-    /// Whether only positions that play from the start reaches are looked for.
+    /// Whether the search is limited to positions that play from the start reaches.
     pub reached: bool,
-    /// Which of them are answered.
+    /// Which of the found positions are returned.
     pub choice: Choice,
-    /// How they are written.
+    /// The form in which they are written.
     pub form: Form,
 }
 
-/// Positions that are counted.
+/// A request for counts of positions.
 #[derive(Clone, Copy, Debug, PartialEq, Eq)]
 pub struct CountsRequest {
     pub among: Among,
-    /// Whether each tier is counted by itself.
+    /// Whether each tier is counted separately.
     pub by_tier: bool,
-    /// Whether only positions that play from the start reaches are counted.
+    /// Whether the counts are limited to positions that play from the start reaches.
     pub reached: bool,
-    /// How the counts are written.
+    /// The form in which the counts are written.
     pub form: CountsForm,
 }
 
-/// A service that is asked for.
+/// A request for the service that answers positions.
 #[derive(Clone, Copy, Debug, PartialEq, Eq)]
 pub struct AskRequest {
-    /// What is asked of each position.
+    /// The answer that each position gets.
     pub asked: PositionJson,
-    /// Whether a first line tells that the tables are there.
+    /// Whether a first line reports that the tables are ready.
     pub ready: bool,
 }
 
-/// What is asked of all tables of a game.
+/// A question about all tables of a game.
 #[derive(Clone, Copy, Debug, PartialEq, Eq)]
 pub enum TableRequest {
     Find(PositionSearch),
-    /// How many positions there are of each value and remoteness.
+    /// The number of positions of each value and remoteness.
     Counts(CountsRequest),
-    /// The longest wins and the longest losses, of each at most this many; on request, of those that play reaches.
+    /// The longest wins and the longest losses, at most this many of each; on request, only those that play reaches.
     Longest { reached: bool, limit: usize },
-    /// An answer to each position that is read.
+    /// An answer to each position of the input.
     Ask(AskRequest),
 }
 
-/// A game that is to be solved into a folder.
+/// A request to solve a game into a folder.
 #[derive(Clone, Copy)]
 pub struct SolveRequest<'a> {
     pub folder: &'a str,
     pub plan: Plan,
 }
 
-/// How standard error is told, while a game is built or checked, how far that is.
+/// How progress is reported on standard error while a game is built or checked.
 #[derive(Clone, Copy, Debug, PartialEq, Eq)]
 pub enum Telling {
-    /// By one line that is gone at the end, where standard error is a terminal.
+    /// By one line that is removed at the end, if standard error is a terminal.
     Terminal,
-    /// By lines, wherever they go.
+    /// By lines, to a terminal or not.
     Lines,
     Quiet,
 }
 
-/// A session that is asked for.
+/// A request for a session of play.
 #[derive(Clone, Copy)]
 pub struct PlayRequest<'a> {
-    /// The position to start from; the game's start where there is none.
+    /// The position to start from. Without one the session starts at the game's start.
     pub position: Option<&'a str>,
     pub first: Side,
     /// Whether the board is drawn before each question.
     pub drawn: bool,
 }
 
-/// What is asked of one game.
+/// A request about one game.
 #[derive(Clone, Copy)]
 pub enum GameRequest<'a> {
     Solve(SolveRequest<'a>),
@@ -146,18 +146,18 @@ pub enum GameRequest<'a> {
         position: &'a str,
         kept: TableLocation<'a>,
     },
-    /// Questions about positions that are read, a line each.
+    /// Questions about the positions of the input, one in each line.
     Filter {
         asked: Filter,
         kept: TableLocation<'a>,
     },
-    /// What stands at a tier and index.
+    /// The position at a tier and index.
     At {
         tier: u64,
         index: u64,
         kept: TableLocation<'a>,
     },
-    /// Where a position stands.
+    /// The tier and index of a position.
     Locate {
         position: &'a str,
     },
@@ -179,14 +179,14 @@ pub enum GameRequest<'a> {
         asked: PlayRequest<'a>,
         kept: TableLocation<'a>,
     },
-    /// How its positions and moves are written, for a person at a terminal. No line of words asks for this alone.
+    /// How its positions and moves are written, for a person at a terminal. No line of words makes only this request.
     Naming,
 }
 
-/// What a line of words asks for.
+/// A request that a line of words makes.
 #[derive(Clone, Copy)]
 pub enum Request<'a> {
-    /// The names of the games, with those that came later if all are asked for.
+    /// The names of the games; on request, also those that were added later.
     List {
         all: bool,
     },
@@ -199,7 +199,7 @@ pub enum Request<'a> {
     Manual(Manual),
 }
 
-/// What a line of words is read as: something that it asks for, or a text that the command line itself makes.
+/// The reading of a line of words: a request, or a text that the command line itself makes.
 #[derive(Drop)]
 pub enum Reading<'a> {
     Request(Request<'a>),

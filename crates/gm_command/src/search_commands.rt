@@ -1,4 +1,4 @@
-//! What a line says that asks about all tables, or for the service that answers positions.
+//! Reading the commands that ask about all tables, and the one for the service that answers positions.
 ghost use Rattle.std.specs.Prelude.{◌≡◌, ◌⊎◌, codes, IsSome};
 
 use crate::explore_commands::limit_of;
@@ -21,7 +21,7 @@ fn value_of(word: &str) -> Option<Value> {
     }
 }
 
-// Why no position can have what these ask for, if none can.
+// Returns the reason why no position can have these properties, if there is one.
 fn misfit(sought: Sought) -> Option<&'static str> {
     let counted = sought.only_move || sought.whole_line;
     if sought.value == Value::Draw && sought.remoteness.is_some() {
@@ -37,7 +37,7 @@ fn misfit(sought: Sought) -> Option<&'static str> {
     }
 }
 
-// The span of remoteness that is asked for, if one is.
+// Reads the span of remoteness, if the line has one.
 fn remoteness_of(inner: &ArgMatches<'_>) -> Result<Option<Span>, &'static str> {
     let Some(text) = inner.get_str("remoteness") else {
         return Ok(None);
@@ -50,8 +50,9 @@ fn remoteness_of(inner: &ArgMatches<'_>) -> Result<Option<Span>, &'static str> {
     }
 }
 
-/// What is sought, or why nothing can be: a draw has no remoteness; an only move can be asked for with win and tie alone, and a whole line with win alone;
-/// moves can be told apart by symmetry only where they are counted.
+/// Reads the properties that are searched for, or returns the reason why no position can have them. A draw has no remoteness. An
+/// only move goes only with win and tie, and a whole line only with win. Moves can be distinguished by symmetry only if they are
+/// counted.
 pub(crate) fn sought_of(inner: &ArgMatches<'_>) -> Result<Sought, &'static str> {
     let remoteness = remoteness_of(inner)?;
     let Some(value) = inner.get_str("value").and_then(value_of) else {
@@ -71,7 +72,7 @@ pub(crate) fn sought_of(inner: &ArgMatches<'_>) -> Result<Sought, &'static str> 
     }
 }
 
-// Which of the positions are answered: so many by chance, or the first up to a limit.
+// Returns which of the positions are returned: a number of them by chance, or the first up to a limit.
 fn choice_of(inner: &ArgMatches<'_>) -> Choice {
     match inner.get_one::<u32>("random") {
         Some(number) => Choice::Random {
@@ -82,7 +83,7 @@ fn choice_of(inner: &ArgMatches<'_>) -> Choice {
     }
 }
 
-// How positions are written: the command line lets no two of these words through.
+// Returns the form in which positions are written. The command line accepts at most one of these words.
 fn form_of(inner: &ArgMatches<'_>) -> Form {
     if inner.get_flag("json") {
         Form::Json
@@ -105,7 +106,7 @@ fn positions_of(inner: &ArgMatches<'_>) -> Option<PositionSearch> {
     })
 }
 
-// How counts are written: the command line lets no two of these words through.
+// Returns the form in which counts are written. The command line accepts at most one of these words.
 fn counts_form_of(inner: &ArgMatches<'_>) -> CountsForm {
     if inner.get_flag("csv") {
         CountsForm::Csv
@@ -130,7 +131,7 @@ fn counts_of(inner: &ArgMatches<'_>) -> CountsRequest {
     }
 }
 
-// One word more of what is told beside a position's value and moves; none for an unknown word, and for one that has come before.
+// Adds a word to the parts that an answer has besides a position's value and moves. Refuses an unknown word and a repeated one.
 fn with_word(with: With, word: &str) -> Option<With> {
     match word {
         "canonical" if !with.canonical => Some(With {
@@ -150,7 +151,7 @@ fn with_word(with: With, word: &str) -> Option<With> {
     }
 }
 
-// What is told beside a position's value and moves: words with commas between them, each once.
+// Reads the parts that an answer has besides a position's value and moves: words separated by commas, each once.
 fn with_of(text: &str) -> Option<With> {
     let mut with = Asked::PLAIN.with;
     for word in text.split(',') {
@@ -159,7 +160,7 @@ fn with_of(text: &str) -> Option<With> {
     Some(with)
 }
 
-/// What is asked of each position, or why nothing can be: the words of `--with` are known ones, each once.
+/// Reads the answer that each position gets, or returns the reason for a refusal: the words of `--with` are known ones, each once.
 pub(crate) fn asked_of_each(inner: &ArgMatches<'_>) -> Result<Asked, &'static str> {
     let with = match inner.get_str("with") {
         Some(text) => with_of(text).ok_or(

@@ -1,20 +1,20 @@
-//! What commands are made of, and the words that several of them have.
+//! The parts that commands are made of, and the words that several of them have.
 
-/// What a word of a command line is.
+/// The kind of a word of a command line.
 #[derive(Clone, Copy)]
 pub(crate) enum ArgKind {
-    /// A word by its place, which has to be there.
+    /// A required word that is known by its place.
     Word,
-    /// A word by its place, which may be left out.
+    /// An optional word that is known by its place.
     Optional,
-    /// An option that is there or not.
+    /// An option without a value.
     Flag,
-    /// An option with a text, which the help shows by a name.
+    /// An option with a text, for which the help shows a name.
     Text {
         shown: &'static str,
         required: bool,
     },
-    /// An option with a number of a range, which the help shows by a name.
+    /// An option with a number within a range, for which the help shows a name.
     Number {
         shown: &'static str,
         least: i64,
@@ -33,7 +33,7 @@ pub(crate) struct ArgSpec {
     pub help: &'static str,
 }
 
-/// A command: what it does, examples of it, and its words in their order.
+/// A command: its purpose, examples of it, and its words in their order.
 #[derive(Clone, Copy)]
 pub(crate) struct CommandSpec {
     pub name: &'static str,
@@ -43,7 +43,7 @@ pub(crate) struct CommandSpec {
     pub words: &'static [ArgSpec],
 }
 
-/// The greatest number that a limit or a remoteness can be.
+/// The greatest number for a limit or a remoteness.
 pub(crate) const MOST: i64 = 4_294_967_295;
 
 pub(crate) const GAME: ArgSpec = ArgSpec {

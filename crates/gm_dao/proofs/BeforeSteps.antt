@@ -36,8 +36,8 @@ earlier_has d e a c l w q n h =
       no_formation = sym (formation_left e x 0 s) ∙ sym (formation_turned x) ∙ ap (has_formation is_mine) back ∙ k.no_formation;
     }
 
--- ---- where the game goes on
--- the last move has not ended the game where no piece is trapped
+-- ---- if the game goes on
+-- the last move has not ended the game if no piece is trapped
 plays_by : (e : List Cell) → has_formation is_theirs e ≡ false → has_trapped e ≡ false → plays_on (end_by_last_move e) ≡ true
 unfolding end_by_last_move
 plays_by e f g = ap plays_on (cond-false _ _ _ f ∙ cond-false _ _ _ g)
@@ -91,7 +91,7 @@ module _ (t : ℕ) (d e : List Cell) (a c : ℕ) (la : a < 16) (lc : c < 16) (l 
   taken : undo d (16 * a + c) ≡ e
   taken = taken_at d a c lc ∙ sym q
 
-  -- where a test fails there is none
+  -- if a test fails there is none
   pub no_before : (slides e a c ≡ true → eqb t 0 ≡ true → is_open e ≡ true → ⊥) → before_at dao t d (16 * a + c) ≡ None
   no_before z = before_none dao t d (16 * a + c) (λ u. elim (cases_Bool (goes_on dao t (undo d (16 * a + c)) (16 * a + c))) [
     | inl g ↦ absurd (let x = went_on (subst (λ (b : List Cell). goes_on dao t b (16 * a + c) ≡ true) taken g) in z x.0 x.1 x.2)
@@ -105,7 +105,7 @@ module _ (t : ℕ) (d e : List Cell) (a c : ℕ) (la : a < 16) (lc : c < 16) (l 
     has : IsEarlier e
     has = earlier_has d e a c l w q n slide
 
-    -- where all are passed the board is legal
+    -- if all are passed the board is legal
     pub earlier_legal : legal e ≡ true
     earlier_legal = legal_from e (record { cells = n; own = has.own; other = has.other; no_formation = not-true _ (and_left _ _ o) })
 

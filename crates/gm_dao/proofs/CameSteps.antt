@@ -130,7 +130,7 @@ module _ (d : List Cell) (a c free taken : ℕ) (la : a < 16) (lc : c < 16) (lon
             ∙ all_at (λ (i : ℕ). is_empty (cell_at (brought_back d a c) i)) (path a c) k (and_left _ _ r) (listed_in (path a c) k (and_right _ _ z)))
       ]
 
-  -- and where it can have come, it slid
+  -- and if it can have come, it slid
   pub came_slid : in_line a c ≡ true → came_by_masks free taken c a ≡ true → slides (brought_back d a c) a c ≡ true
   came_slid e h =
       let r = and_right _ _ h in

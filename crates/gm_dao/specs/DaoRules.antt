@@ -59,7 +59,7 @@ legal b = length b == 16 && (number_of is_mine b == 4 && (number_of is_theirs b 
 unfoldable pub around : ℕ → List ℕ
 around k = filter (λ j. not (j == k) && (nat_le (rows_apart k j) 1 && nat_le (columns_apart k j) 1)) (range_with_len 0 16)
 
--- whether a piece of the mover's stands on a cell, and the opponent's pieces on all cells next to it
+-- whether a piece of the mover's is on a cell, and the opponent's pieces on all cells next to it
 abbrev pub is_trapped : List Cell → ℕ → Bool
 is_trapped b k = is_mine (cell_at b k) && fills Empty is_theirs b (around k)
 
@@ -116,7 +116,7 @@ can_move b m = can_go b (from_point m) (to_point m)
 abbrev pub move_number_bound : ℕ
 move_number_bound = 256
 
--- how the last move has ended the game, if it has: the mover loses where the opponent has a formation, which is tested first, and wins where a piece of the
+-- how the last move has ended the game, if it has: the mover loses if the opponent has a formation, which is tested first, and wins if a piece of the
 -- mover's is trapped in a corner
 unfoldable pub end_by_last_move : List Cell → Option End
 end_by_last_move b = if has_formation is_theirs b then Some Lose else (if has_trapped b then Some Win else None)
@@ -126,7 +126,7 @@ unfoldable pub play : List Cell → ℕ → List Cell
 play b m = gone b (from_point m) (to_point m)
 
 -- ---- moves back
--- whether the move can have led to d: a piece of the opponent's stands where it ended, and none where it began
+-- whether the move can have led to d: a piece of the opponent's is where it ended, and none where it began
 unfoldable pub can_have_led_here : List Cell → ℕ → Bool
 can_have_led_here d m = in_line (from_point m) (to_point m) && (is_theirs (cell_at d (to_point m)) && is_empty (cell_at d (from_point m)))
 
@@ -139,7 +139,7 @@ undo d m = brought_back d (from_point m) (to_point m)
 abbrev pub dao_name : List ℕ
 dao_name = codes "dao" ++ 0 ∷ 0 ∷ 0 ∷ 0 ∷ 0 ∷ 0 ∷ 0 ∷ 0 ∷ 0 ∷ 0 ∷ 0 ∷ 0 ∷ 0 ∷ []
 
--- the starting board: the mover's pieces stand on one diagonal, the opponent's on the other
+-- the starting board: the mover's pieces are on one diagonal, the opponent's on the other
 abbrev pub start_board : List Cell
 start_board =
     Mine ∷ Empty ∷ Empty ∷ Theirs

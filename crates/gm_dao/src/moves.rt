@@ -23,7 +23,7 @@ pub const PIECES: u32 = 4;
 /// All numbers of moves are below this.
 pub const NUMBERS: u32 = 256;
 
-/// Whether the mover has a formation.
+/// Returns whether the mover has a formation.
 #[tactic(auto, using(crate::proofs::MoveSteps::own_formation))]
 pub fn has_own_formation(board: Board) -> bool
     ensures { result ≡ has_formation_of is_mine (board_of 16 board.mine board.theirs) }
@@ -31,7 +31,7 @@ pub fn has_own_formation(board: Board) -> bool
     has_formation(board.mine)
 }
 
-/// Whether the opponent has a formation.
+/// Returns whether the opponent has a formation.
 #[tactic(auto, using(crate::proofs::MoveSteps::their_formation))]
 pub fn has_their_formation(board: Board) -> bool
     ensures { result ≡ has_formation_of is_theirs (board_of 16 board.mine board.theirs) }
@@ -39,7 +39,7 @@ pub fn has_their_formation(board: Board) -> bool
     has_formation(board.theirs)
 }
 
-/// Whether a piece of the mover's is trapped in a corner.
+/// Returns whether a piece of the mover's is trapped in a corner.
 #[tactic(auto, using(crate::proofs::MoveSteps::trapped_is))]
 pub fn is_trapped(board: Board) -> bool
     ensures { result ≡ has_trapped_of (board_of 16 board.mine board.theirs) }
@@ -47,14 +47,14 @@ pub fn is_trapped(board: Board) -> bool
     has_trapped(board.mine, board.theirs)
 }
 
-// Whether each side has four pieces.
+// Returns whether each side has four pieces.
 fn has_all_pieces(board: Board) -> bool
     ensures { result ≡ (number_of is_mine (board_of 16 board.mine board.theirs) == 4 && number_of is_theirs (board_of 16 board.mine board.theirs) == 4) }
 {
     board.own_pieces() == PIECES && board.their_pieces() == PIECES
 }
 
-/// Whether a board is legal: each side has four pieces, and the mover has no formation.
+/// Returns whether a board is legal: each side has four pieces, and the mover has no formation.
 #[tactic(auto, using(crate::proofs::MoveSteps::legal_by), unfolding(crate::specs::DaoRules::legal))]
 pub fn is_legal_board(board: Board) -> bool
     ensures { result ≡ legal (board_of 16 board.mine board.theirs) }
@@ -62,7 +62,7 @@ pub fn is_legal_board(board: Board) -> bool
     has_all_pieces(board) && !has_own_formation(board)
 }
 
-/// Whether the move with this number can be made.
+/// Returns whether the move with this number can be made.
 #[tactic(auto, using(gm_board::specs::Images::board_of, crate::proofs::MoveSteps::from_below, crate::proofs::MoveSteps::to_below, crate::proofs::MoveSteps::slides_by, crate::proofs::MoveSteps::move_by, crate::proofs::MoveSteps::no_move_by))]
 pub fn can_move(board: Board, number: u32) -> bool
     requires { number < 256 }
@@ -72,7 +72,7 @@ pub fn can_move(board: Board, number: u32) -> bool
     board.has_mine(step.from) && can_slide(board.free(), board.taken(), step.from, step.to)
 }
 
-/// How many moves could be made if the game were not over.
+/// Returns how many moves could be made if the game were not over.
 #[tactic(auto, using(gm_board::specs::Images::board_of))]
 pub fn count_moves(board: Board) -> usize
     ensures { result ≡ length (steps dao (board_of 16 board.mine board.theirs)) }
@@ -91,14 +91,14 @@ pub fn count_moves(board: Board) -> usize
     count as usize
 }
 
-/// Whether no move can be made.
+/// Returns whether no move can be made.
 pub fn is_stuck(board: Board) -> bool
     ensures { result ≡ (length (steps dao (board_of 16 board.mine board.theirs)) == 0) }
 {
     count_moves(board) == 0
 }
 
-/// How the last move has ended the game, if it has: the mover loses if the opponent has a formation, which is tested first, and wins if a piece of the
+/// Returns how the last move has ended the game, if it has: the mover loses if the opponent has a formation, which is tested first, and wins if a piece of the
 /// mover's is trapped in a corner.
 #[tactic(auto, unfolding(crate::specs::DaoRules::end_by_last_move))]
 pub fn end_by_last_move(board: Board) -> Option<End>
@@ -133,7 +133,7 @@ fn push_moves(list: &mut ArrayVec<u32, MOVES>, board: Board, from: u32)
     }
 }
 
-/// The numbers of the moves that could be made if the game were not over, ascending.
+/// Returns the numbers of the moves that could be made if the game were not over, ascending.
 #[tactic(auto, using(gm_board::specs::Images::board_of, crate::specs::laws::BoardFacts::legal_in, crate::specs::laws::MoveFacts::steps_few, crate::proofs::LoopSteps::moves_skip, crate::proofs::LoopSteps::moves_end, gm_board::specs::laws::NextCells::next_cell))]
 pub fn open_moves(board: Board) -> ArrayVec<u32, MOVES>
     requires { legal (board_of 16 board.mine board.theirs) ≡ true }
@@ -152,7 +152,7 @@ pub fn open_moves(board: Board) -> ArrayVec<u32, MOVES>
     list
 }
 
-/// The board after a move, as the other side sees it.
+/// Returns the board after a move, as the other side sees it.
 #[tactic(auto, unfolding(crate::specs::DaoRules::play))]
 pub fn play(board: Board, number: u32) -> Board
     requires { can_move_of (board_of 16 board.mine board.theirs) number ≡ true }

@@ -1,7 +1,7 @@
 //! Moves taken back: the boards before a board.
 //!
-//! Each piece that may have moved is put on each cell from which it can have slid to where it is, with the roles of the sides swapped.
-//! Of these boards, those are kept from which the game goes on by the move that leads back.
+//! Each piece that may have moved is put on each cell from which it can have slid to its cell, with the roles of the sides swapped. Of these boards, those are
+//! kept from which the game goes on by the move that leads back.
 ghost use Rattle.std.specs.Prelude.{◌≡◌, ◌<◌, ◌≤◌, ◌+◌, ◌*◌, true, length, map, [], MatchOption, None, Some};
 ghost use Rattle.gm_game.specs.Ascending.{put_all};
 ghost use Rattle.gm_board.specs.Images.{board_of};
@@ -20,7 +20,7 @@ use gm_game::limits::PARENTS;
 use gm_pieces::ascending::put;
 use gm_pieces::step::Step;
 
-/// Whether the move with this number can have led to the board.
+/// Returns whether the move with this number can have led to the board.
 #[tactic(auto, using(crate::proofs::MoveSteps::from_below, crate::proofs::MoveSteps::to_below), unfolding(crate::specs::DaoRules::can_have_led_here))]
 pub fn can_have_led_here(board: Board, number: u32) -> bool
     requires { number < 256 }
@@ -33,7 +33,7 @@ pub fn can_have_led_here(board: Board, number: u32) -> bool
     board.has_theirs(step.to) && board.is_free(step.from)
 }
 
-/// The board before the move with this number.
+/// Returns the board before the move with this number.
 #[tactic(auto, unfolding(crate::specs::DaoRules::undo))]
 pub fn undo(board: Board, number: u32) -> Board
     requires { was_moved_of (board_of 16 board.mine board.theirs) number ≡ true }
@@ -43,7 +43,7 @@ pub fn undo(board: Board, number: u32) -> Board
     board.brought_back(step.from, step.to)
 }
 
-/// Whether the board is a legal one of the tier from which the game goes on by this move. The move is tested before the board.
+/// Returns whether the board is a legal one of the tier from which the game goes on by this move. The move is tested before the board.
 pub fn goes_on(tier: u64, board: Board, number: u32) -> bool
     requires { number < 256 }
     ensures { result ≡ goes_on_of dao tier (board_of 16 board.mine board.theirs) number }
@@ -54,15 +54,15 @@ pub fn goes_on(tier: u64, board: Board, number: u32) -> bool
         && end_by_last_move(board).is_none()
 }
 
-// Whether the mover has neither a formation nor a trapped piece.
+// Returns whether the mover has neither a formation nor a trapped piece.
 fn is_open(board: Board) -> bool
     ensures { result ≡ is_open_of (board_of 16 board.mine board.theirs) }
 {
     !has_own_formation(board) && !is_trapped(board)
 }
 
-// The board of the tier before the opponent's piece slid from one cell to another, if there is one. That the board after it is legal leaves little to be
-// tested: each side has its pieces, and the other side no formation.
+// Returns the board of the tier before the opponent's piece slid from one cell to another, if there is one. That the board after it is legal leaves little to
+// be tested: each side has its pieces, and the other side no formation.
 #[tactic(auto, using(gm_board::specs::laws::Images::board_length, gm_pieces::specs::laws::MaskFacts::was_within, crate::proofs::BeforeSteps::no_before, crate::proofs::BeforeSteps::earlier_legal, crate::proofs::BeforeSteps::one_before))]
 fn gone_before(tier: u64, board: Board, from: u32, to: u32) -> Option<Board>
     requires from { from < 16 }

@@ -154,7 +154,7 @@ ties_after r m n c s = go s.own_phase s.own_level s.stands s.before
     go WinLose k h b = record { own_phase = WinLose; own_level = k; stands = h; before = tt }
     go Ties k h b = absurd b
 
--- before the next level that follows stands what stands at the present one or before
+-- before the next level that follows stands what is at the present one or before
 to_here : (r : Rules) (tier : ℕ) (here : Place) (ph : Phase) (n : ℕ) (c : Position) → Follows r tier (Some here) ph n → IsNear r tier c → StandsBefore r ph n c
     → StandsBefore r here.phase (here.level + 1) c
 to_here r tier here ph n c (inl (p, l)) near s =
@@ -324,7 +324,7 @@ pub closes_reached : (r : Rules) (e : ExpectedData) (s t : ShardState) (answer :
 closes_reached r e s t (Ok done) h l = refl
 closes_reached r e s t (Err short) h l = absurd (let a = h.2 in let b = h.3 in let c = h.4 in omega arith)
 
--- where no child at the present place is there, the pairs are all those whose child stands before it
+-- if no child at the present place is there, the pairs are all those whose child is before it
 module _ {r : Rules} {s : ShardState} (t : IsGood r s) (none : (i : ℕ) (c : Position) → IsInRange s i → Contains (delivered_to s i) c
     → StandsAt r s.phase s.level c → ⊥) where
   before_has : (p : Position × ℕ) → IsPairInto r s.tier s.lo (s.lo + length s.delivered) p.0 p.1 × StandsBefore r s.phase s.level p.0

@@ -43,7 +43,7 @@ module _ {r : Rules} (g : IsGame r) {s : ShardState} {statuses : List Status} (t
       let e : x.remoteness ≡ y.remoteness =
       (HasValue_once r (at s.tier i) x.value y.value x.remoteness y.remoteness (settled_truth i x m h) (settled_truth i y m k)).1 in omega arith
 
-  -- a position that stands at the place or before is settled
+  -- a position that is at the place or before is settled
   settled_of : (i : ℕ) (m : IsInRange s i) → IsCanonical r (at s.tier i) → StandsBefore r s.phase (s.level + 1) (at s.tier i) → (y : Status) → StatusIs r s i y
       → (x : Solved) × StatusIs r s i (Settled x)
   settled_of i m c b Hole k = absurd (k c)

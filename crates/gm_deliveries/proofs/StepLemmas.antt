@@ -44,7 +44,7 @@ in_children r p c h = set_has (map r.canonical (children r p)) c h
 pub from_children_of : (r : Rules) (p c : Position) → Contains (canonical_children_of r p) c → IsCanonicalChild r p c
 from_children_of r p c h = has_set (map r.canonical (children r p)) c h
 
--- what stands before a place at which a note stands
+-- what is before a place at which a note stands
 note_stands : (r : Rules) (p : Position) (v : Value) (n : ℕ) → HasValue r p v n → (v ≢ Draw) → StandsAt r (phase_of v) n p
 note_stands r p Lose n h some = inr h
 note_stands r p Draw n h some = absurd (some refl)
@@ -221,13 +221,13 @@ above_open Tie n last e = (solved Tie (n + 1), refl, refl, refl)
 above_open Win n true e = (solved Lose (n + 1), refl, refl, refl)
 above_open Win n false e = absurd (true≢false (sym e))
 
--- where no status is settled the status stays
+-- if no status is settled the status stays
 pub stays : (old : Status) (note : Solved) (last : Bool) → is_settling old (next_status old note last) ≡ false → next_status old note last ≡ old
 stays Hole note last e = refl
 stays (Settled x) note last e = refl
 stays Undecided note last e = stays_open note.value note.remoteness last e
 
--- where one is settled it was open, and has a value one above the note
+-- if one is settled it was open, and has a value one above the note
 pub settles_one_above : (old : Status) (note : Solved) (last : Bool) → is_settling old (next_status old note last) ≡ true
     → (old ≡ Undecided) × ((x : Solved) × (next_status old note last ≡ Settled x) × (x.remoteness ≡ note.remoteness + 1)
     × (phase_of x.value ≡ phase_of note.value))

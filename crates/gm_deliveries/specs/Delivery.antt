@@ -18,7 +18,7 @@ use Rattle.gm_deliveries.specs.declared.status.Refused.TheVariants.{NotThisLevel
 use Rattle.gm_deliveries.specs.State.{ShardState, IsInRange, delivered_to, with_pair}
 use Rattle.gm_deliveries.specs.Status.{StatusIs}
 
--- the note stands at the present place
+-- the note is at the present place
 abbrev pub IsThisLevel : ShardState → NoteData → Type 0
 IsThisLevel s note = (phase_of note.solved.value ≡ s.phase) × (note.solved.remoteness ≡ s.level)
 
@@ -42,7 +42,7 @@ pub record KeepsStatus (r : Rules) (s t : ShardState) (parent : ℕ) : Type 0 wh
   pub before : StatusIs r s parent status
   pub after : StatusIs r t parent status
 
--- the place of c among the canonical children of the parent; none where the index is no parent of c
+-- the place of c among the canonical children of the parent; none if the index is no parent of c
 abbrev pub IsPlaceOf : Rules → Position → ℕ → ℕ → Option ℕ → Type 0
 IsPlaceOf r c tier parent None = IsParent r c tier parent → ⊥
 IsPlaceOf r c tier parent (Some k) = IsInner r (at tier parent) × (slice_get (canonical_children_of r (at tier parent)) k ≡ Some c) × (k < MOVES)

@@ -16,10 +16,10 @@ use Rattle.gm_deliveries.specs.Status.{StatusIs}
 pub record IsGood (r : Rules) (s : ShardState) : Type 0 where
   -- the children of an index are a set
   pub once : (i : ℕ) → IsInRange s i → AreAscending (delivered_to s i)
-  -- each delivered pair is a pair of the tier, and its child stands at or before the present place
+  -- each delivered pair is a pair of the tier, and its child is at or before the present place
   pub pairs : (i : ℕ) (c : Position) → IsInRange s i → Contains (delivered_to s i) c
       → IsParent r c s.tier i × StandsBefore r s.phase (s.level + 1) c
-  -- each pair of the range whose child stands before the present place is delivered
+  -- each pair of the range whose child is before the present place is delivered
   pub whole : (i : ℕ) (c : Position) → IsInRange s i → IsParent r c s.tier i → StandsBefore r s.phase s.level c
       → Contains (delivered_to s i) c
   -- each settled status is the true value, of remoteness within the limit

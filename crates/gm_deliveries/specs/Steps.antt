@@ -14,11 +14,11 @@ use Rattle.gm_deliveries.specs.declared.status.Status.TheVariants.{Settled}
 use Rattle.gm_deliveries.specs.State.{ShardState, IsInRange, delivered_to, with_pair}
 use Rattle.gm_deliveries.specs.Status.{StatusIs}
 
--- where a shard stands
+-- the place of a shard
 abbrev pub place_of : ShardState → Place
 place_of s = place_at s.tier s.phase s.level
 
--- c stands at the present place and is a child of the parent, which lies in the range; the pair is new, and settles nothing above the limit
+-- c is at the present place and is a child of the parent, which lies in the range; the pair is new, and settles nothing above the limit
 pub record CanDeliver (r : Rules) (s : ShardState) (c : Position) (parent : ℕ) : Type 0 where
   pub stands : StandsAt r s.phase s.level c
   pub is_mine : IsInRange s parent
@@ -26,7 +26,7 @@ pub record CanDeliver (r : Rules) (s : ShardState) (c : Position) (parent : ℕ)
   pub new : Contains (delivered_to s parent) c → ⊥
   pub near : (x : Solved) → StatusIs r (with_pair s c parent) parent (Settled x) → x.remoteness ≤ REMOTENESS
 
--- every pair into the range whose child stands at or before the present place is delivered
+-- every pair into the range whose child is at or before the present place is delivered
 abbrev pub IsWhole : Rules → ShardState → Type 0
 IsWhole r s = (i : ℕ) (c : Position) → IsInRange s i → IsParent r c s.tier i → StandsBefore r s.phase (s.level + 1) c → Contains (delivered_to s i) c
 

@@ -19,14 +19,14 @@ impl<A, B> Model for Log<A, B> {
 unsafe impl<A: Send, B: Send> Send for Log<A, B> {}
 
 impl<A, B> Log<A, B> {
-    /// No pairs.
+    /// Returns an empty log.
     pub fn new() -> Log<A, B>
         ensures { result.items ≡ [] }
     {
         Log { of: PhantomData }
     }
 
-    /// The pairs, and one more.
+    /// Returns the pairs, and one more.
     pub fn and(&self, first: &A, second: &B) -> Log<A, B>
         ensures { result.items ≡ self.now.items ++ (first.now, second.now) ∷ [] }
     {

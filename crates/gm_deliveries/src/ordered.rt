@@ -66,7 +66,7 @@ impl<G: Game> Ordered<G> {
     ghost use Rattle.gm_deliveries.specs.Closing.{IsNoteOf};
     ghost use Rattle.gm_game.specs.declared.limits.TheConstants.{REMOTENESS};
 
-    /// The range of the indexes from `lo` on, with no pair.
+    /// Returns the range of the indexes from `lo` on, with no pair.
     pub fn begin(alloc: Global, tier: u64, lo: u64, starts: &[Start]) -> Result<Self, AllocError>
         requires starts { AreStarts G.rules tier lo starts.now }
         requires within { lo + length starts.now ≤ TIER_SIZE }
@@ -88,14 +88,14 @@ impl<G: Game> Ordered<G> {
         })
     }
 
-    /// The tier.
+    /// Returns the tier.
     pub fn tier(&self) -> u64
         ensures { result ≡ self.now.tier }
     {
         self.tier
     }
 
-    /// The first index of the range, and how many there are.
+    /// Returns the first index of the range, and how many there are.
     pub fn range(&self) -> (u64, u64)
         ensures lo { result.0 ≡ self.now.lo }
         ensures count { result.1 ≡ length self.now.delivered }
@@ -105,7 +105,7 @@ impl<G: Game> Ordered<G> {
         (self.lo, self.left.len() as u64)
     }
 
-    /// The present place.
+    /// Returns the present place.
     pub fn place(&self) -> Place
         ensures { result ≡ place_of self.now }
     {
@@ -116,7 +116,7 @@ impl<G: Game> Ordered<G> {
         }
     }
 
-    /// What is known of an index.
+    /// Returns the record of an index, if one is known.
     pub fn status(&self, index: u64) -> Status
         requires { IsInRange self.now index }
         ensures { StatusIs G.rules self.now index result }
@@ -124,7 +124,7 @@ impl<G: Game> Ordered<G> {
         self.statuses.get((index - self.lo) as usize)
     }
 
-    /// How many canonical children are not delivered.
+    /// Returns how many canonical children are not delivered.
     pub fn counter(&self, index: u64) -> u32
         requires { IsInRange self.now index }
         ensures { IsCounter G.rules self.now index result }
@@ -147,7 +147,7 @@ impl<G: Game> Ordered<G> {
         }
     }
 
-    /// The number of pairs.
+    /// Returns the number of pairs.
     pub fn delivered(&self) -> u64
         ensures value { result ≡ pairs_in self.now }
         ensures small { pairs_in self.now ≤ MOVES * TIER_SIZE }

@@ -50,7 +50,7 @@ pub enum Refused {
 }
 
 impl Refused {
-    /// The number of the refusal.
+    /// Returns the number of the refusal.
     pub fn number(&self) -> u8
         ensures { result ≡ number_of self.now }
     {
@@ -72,7 +72,7 @@ pub struct Short {
 }
 
 impl Short {
-    /// The number of the error.
+    /// Returns the number of the error.
     pub fn number(&self) -> u8
         ensures { result ≡ 1 }
     {
@@ -80,7 +80,7 @@ impl Short {
     }
 }
 
-/// The status after a note is delivered; `last`: no other child is missing.
+/// Returns the status after a note is delivered; `last`: no other child is missing.
 pub(crate) fn next_status(old: Status, note: Solved, last: bool) -> Status
     requires { note.remoteness + 1 < 2 ^ 32 }
     ensures { result ≡ next_status old note last }
@@ -122,7 +122,7 @@ pub(crate) fn first_status(start: Start) -> Status
     }
 }
 
-/// The counter that an index begins with.
+/// Returns the counter that an index begins with.
 pub(crate) fn first_left(start: Start) -> u8
     ensures { result ≡ first_left start }
 {
@@ -133,7 +133,7 @@ pub(crate) fn first_left(start: Start) -> u8
     }
 }
 
-/// The phase in which a value is settled.
+/// Returns the phase in which a value is settled.
 pub fn phase_of(value: Value) -> Phase
     ensures { result ≡ phase_of value }
 {
@@ -143,7 +143,7 @@ pub fn phase_of(value: Value) -> Phase
     }
 }
 
-/// Whether a status is settled in the step from `old` to `next`.
+/// Returns whether a status is settled in the step from `old` to `next`.
 pub(crate) fn is_settling(old: Status, next: Status) -> bool
     ensures { result ≡ is_settling old next }
 {

@@ -29,7 +29,7 @@ impl Model for Statuses {
 }
 
 impl Statuses {
-    /// This many statuses, each undecided.
+    /// Returns this many statuses, each undecided.
     pub(crate) fn undecided(alloc: Global, count: usize) -> Result<Statuses, AllocError>
         ensures { IfOk result (λ statuses. statuses ≡ replicate count Undecided) }
     {
@@ -37,7 +37,7 @@ impl Statuses {
         Ok(Statuses { numbers })
     }
 
-    /// The status at a place.
+    /// Returns the status at a place.
     pub(crate) fn get(&self, k: usize) -> Status
         requires { k < length self.now }
         ensures { slice_get self.now k ≡ Some result }
@@ -55,7 +55,7 @@ impl Statuses {
     }
 }
 
-// The number of a status.
+// Returns the number of a status.
 fn number_of_status(status: Status) -> u32
     requires { IsWithinLimit status }
     ensures { status_of result ≡ status }
@@ -67,7 +67,7 @@ fn number_of_status(status: Status) -> u32
     }
 }
 
-// The status with this number.
+// Returns the status with this number.
 fn status_of(number: u32) -> Status
     ensures { result ≡ status_of number }
 {

@@ -41,7 +41,7 @@ leads a c = if c == 9 then a % 3 == 2 else ((a + 1 == c && not (a % 3 == 2)) || 
 unfoldable pub is_clear : ℕ → ℕ → Bool
 is_clear theirs k = k == 9 || not (holds theirs (across k))
 
--- a legal board has two crews that stand on different cells, and the side to move has a car on the board
+-- a legal board has two crews that are on different cells, and the side to move has a car on the board
 unfoldable pub legal : ℕ → Bool
 legal b = is_crew (b / 100) && (is_crew (b % 100) && (is_clear (b % 100) (b / 1000) && is_clear (b % 100) (b / 100 % 10)))
 

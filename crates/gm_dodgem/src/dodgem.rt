@@ -34,7 +34,7 @@ pub struct DodgemRules;
 /// Dodgem. A board is four digits: the cells of the mover's two cars, and those of the other side's.
 pub type Dodgem = OnBoards<DodgemRules>;
 
-// Whether a crew has a car on a cell.
+// Returns whether a crew has a car on a cell.
 #[tactic(auto, unfolding(crate::specs::Dodgem::holds))]
 fn holds(crew: u64, cell: u64) -> bool
     ensures { result ≡ holds_of crew cell }
@@ -42,7 +42,7 @@ fn holds(crew: u64, cell: u64) -> bool
     crew / 10 == cell || crew % 10 == cell
 }
 
-// The crew of two cars.
+// Returns the crew of two cars.
 #[tactic(auto, unfolding(crate::specs::Dodgem::crew_of))]
 fn crew_of(one: u64, other: u64) -> u64
     requires one { one < 10 }
@@ -57,7 +57,7 @@ fn crew_of(one: u64, other: u64) -> u64
     }
 }
 
-// The crew after its car has gone from one cell to another.
+// Returns the crew after its car has gone from one cell to another.
 #[tactic(auto, unfolding(crate::specs::Dodgem::driven))]
 fn driven(crew: u64, from: u64, to: u64) -> u64
     requires crew { crew < 100 }
@@ -72,7 +72,7 @@ fn driven(crew: u64, from: u64, to: u64) -> u64
     }
 }
 
-// Whether this is the number of a crew.
+// Returns whether this is the number of a crew.
 #[tactic(auto, unfolding(crate::specs::Dodgem::is_crew))]
 fn is_crew(crew: u64) -> bool
     ensures { result ≡ is_crew_of crew }
@@ -80,7 +80,7 @@ fn is_crew(crew: u64) -> bool
     crew / 10 < crew % 10 || crew == 99
 }
 
-// A cell as the other side sees it.
+// Returns a cell as the other side sees it.
 #[tactic(auto, unfolding(crate::specs::Dodgem::across))]
 fn across(cell: u64) -> u64
     requires { cell < 10 }
@@ -89,7 +89,7 @@ fn across(cell: u64) -> u64
     3 * (cell % 3) + cell / 3
 }
 
-// Whether a car can go from one cell to another, or off the board.
+// Returns whether a car can go from one cell to another, or off the board.
 #[tactic(auto, unfolding(crate::specs::Dodgem::leads))]
 fn leads(from: u64, to: u64) -> bool
     requires from { from < 10 }
@@ -103,7 +103,7 @@ fn leads(from: u64, to: u64) -> bool
     }
 }
 
-// Whether the other side's crew leaves a cell free.
+// Returns whether the other side's crew leaves a cell free.
 #[tactic(auto, unfolding(crate::specs::Dodgem::is_clear))]
 fn is_clear(theirs: u64, cell: u64) -> bool
     requires { cell < 10 }
@@ -112,7 +112,7 @@ fn is_clear(theirs: u64, cell: u64) -> bool
     cell == OFF || !holds(theirs, across(cell))
 }
 
-// Whether a board is legal.
+// Returns whether a board is legal.
 #[tactic(auto, unfolding(crate::specs::Dodgem::legal))]
 fn is_legal_number(board: u64) -> bool
     ensures { result ≡ is_board dodgem board }
@@ -124,7 +124,7 @@ fn is_legal_number(board: u64) -> bool
                     && is_clear(board % 100, board / 100 % 10))))
 }
 
-// Whether the move with this number could be made if the game were not over.
+// Returns whether the move with this number could be made if the game were not over.
 #[tactic(auto, unfolding(crate::specs::Dodgem::can_move))]
 fn can_move(board: u64, number: u64) -> bool
     requires { number < 90 }
@@ -137,7 +137,7 @@ fn can_move(board: u64, number: u64) -> bool
             && (is_clear(board % 100, to) && (to == OFF || !holds(board / 100, to))))
 }
 
-// The board after a move.
+// Returns the board after a move.
 #[tactic(auto, unfolding(crate::specs::Dodgem::moved))]
 fn moved(board: u64, number: u64) -> u64
     requires board { board < 10000 }
@@ -147,7 +147,7 @@ fn moved(board: u64, number: u64) -> u64
     board % 100 * 100 + driven(board / 100, number / 10, number % 10)
 }
 
-// Whether the move with this number can have led to the board.
+// Returns whether the move with this number can have led to the board.
 #[tactic(auto, unfolding(crate::specs::Dodgem::can_have_led_here))]
 fn can_have_led_here(board: u64, number: u64) -> bool
     requires { number < 90 }
@@ -159,7 +159,7 @@ fn can_have_led_here(board: u64, number: u64) -> bool
         && (leads(from, to) && (is_clear(board / 100, from) && !holds(board % 100, from)))
 }
 
-// The board before the move with this number.
+// Returns the board before the move with this number.
 #[tactic(auto, unfolding(crate::specs::Dodgem::undo))]
 fn undo(board: u64, number: u64) -> u64
     requires board { board < 10000 }
@@ -169,7 +169,7 @@ fn undo(board: u64, number: u64) -> u64
     driven(board % 100, number % 10, number / 10) * 100 + board / 100
 }
 
-// The byte of a cell.
+// Returns the byte of a cell.
 #[tactic(auto, unfolding(crate::specs::Dodgem::cell_byte))]
 fn cell_byte(board: u64, cell: u64) -> u8
     requires { cell < 9 }
@@ -184,7 +184,7 @@ fn cell_byte(board: u64, cell: u64) -> u8
     }
 }
 
-// The cell, where the byte of a place is the mark, or what the other places say.
+// Returns the cell if the byte of the place is the mark, else `rest`.
 #[tactic(auto, unfolding(crate::specs::Dodgem::picked))]
 fn picked(text: &[u8], mark: u8, place: u32, cell: u64, rest: u64) -> u64
     requires cell { cell < 10 }
@@ -200,7 +200,7 @@ fn picked(text: &[u8], mark: u8, place: u32, cell: u64, rest: u64) -> u64
     }
 }
 
-// The crew with this mark in a text: the first and the last cell that have it.
+// Returns the crew with this mark in a text: the first and the last cell that have it.
 #[tactic(auto, unfolding(crate::specs::Dodgem::crew_in))]
 fn crew_in(text: &[u8], mark: u8, places: &[u32; 9]) -> u64
     requires { 0 < mark }

@@ -23,7 +23,7 @@ use Rattle.gm_find.specs.Lists.{AreThose}
 use Rattle.gm_find.specs.Finding.{IsMatch, IsAskedFor, IsValueOf, IsFitting, IsOnlyLine, level_of, place_for, kept_by, KeepsValue, HasOnlyMove}
 use Rattle.gm_find.proofs.ListLemmas.{those_once, IsRun}
 
--- the one remoteness, where there is one
+-- the one remoteness, if there is one
 abbrev IsLevel : Option ℕ → ℕ → Type 0
 IsLevel None n = Unit {0}
 IsLevel (Some k) n = k ≡ n
@@ -36,7 +36,7 @@ asked_level (Some s) n h = pick (s.least == s.most) refl
     pick true e = let same = eqb-true s.least s.most e in let low = h.0 in let high = h.1 in omega arith
     pick false e = tt
 
--- a position that is sought stands at the place that is searched
+-- a position that is sought is at the place that is searched
 stands : (r : Rules) (p : Position) (v : Value) (o : Option ℕ) (place : Phase × ℕ) (s : Solved) → Some place ≡ place_for v o → IsTrueValue r p s → v ≡
     s.value → IsLevel o s.remoteness → StandsAt r place.0 place.1 p
 stands r p v None place s e h w n = absurd (cc)

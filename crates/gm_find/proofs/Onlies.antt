@@ -119,7 +119,7 @@ each_more P ms k m l e h p n has = elim (Contains-push_cases (take k ms) (get_or
 pub no_line : (r : Rules) (d : Bool) (p : Position) (s : Solved) → IsTrueValue r p s → (s.value ≡ Win → ⊥) → IsOnlyLine r d p → ⊥
 no_line r d p s h n (k, w, t) = n (is_win r p s k h w).0
 
--- a win of this remoteness has such a line where it has one in so many moves
+-- a win of this remoteness has such a line if it has one in so many moves
 pub line_is : (r : Rules) (d : Bool) (p : Position) (s : Solved) → IsTrueValue r p s → s.value ≡ Win → IsOnlyWin r d s.remoteness p ↔ IsOnlyLine r d p
 line_is r d p s h v = (
   λ t. (s.remoteness, win_is r p s s.remoteness h v refl, t),

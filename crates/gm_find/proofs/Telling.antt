@@ -1,4 +1,4 @@
--- What is told of found positions.
+-- What is reported of found positions.
 use Rattle.std.proofs.Common.{◌≡◌, ℕ, zero, suc, inl, inr, Bool, true, List, [], ◌∷◌, map, get_or, ap, subst, Result, Ok, Err, IfOk}
 use Rattle.std.specs.List.{All, Contains, range_with_len}
 use Rattle.std.proofs.lemmas.List.Elements.{Contains-get_or, Contains-append_cases, All-contains}
@@ -69,7 +69,7 @@ chosen_in r q reached (Random n seed) tiers xs (all, are, sample, each) x has =
       All-contains P (map position_of xs) x.position (picked_all P all (map position_of xs) sample.picked within) (map_from position_of xs x has),
     )
 
--- what holds where two things are told
+-- what holds where two things are reported
 pub both_told : {T E : Type 0} → (m : Result T E) (A B C : T → Type 0) → ((x : T) → A x → B x → C x) → IfOk m A → IfOk m B → IfOk m C
 both_told (Ok x) A B C f a b = f x a b
 both_told (Err e) A B C f a b = tt

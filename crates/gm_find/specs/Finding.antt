@@ -90,7 +90,7 @@ abbrev pub IsAskedFor : Option Span → ℕ → Type 0
 IsAskedFor None n = Unit {0}
 IsAskedFor (Some s) n = (s.least ≤ n) × (n ≤ s.most)
 
--- the one remoteness that is asked for, where there is one
+-- the one remoteness that is wanted, if there is one
 abbrev pub level_of : Option Span → Option ℕ
 level_of None = None
 level_of (Some s) = if s.least == s.most then Some s.least else None
@@ -99,11 +99,11 @@ level_of (Some s) = if s.least == s.most then Some s.least else None
 abbrev pub IsValueOf : Sought → Solved → Type 0
 IsValueOf q s = (q.value ≡ s.value) × IsAskedFor q.remoteness s.remoteness
 
--- p has as many moves as are asked for, and where that is asked exactly one that keeps the value
+-- p has as many moves as are asked for, and if that is asked exactly one that keeps the value
 abbrev pub HasFittingMoves : Rules → Sought → Position → Type 0
 HasFittingMoves r q p = HasMoves r q.distinct q.min_moves p × (IsTrue q.only_move → HasOnly r q.distinct q.value p)
 
--- p, which has this true value, is all that is asked for beside a whole line
+-- p, which has this true value, is all that is wanted besides a whole line
 abbrev pub IsFitting : Rules → Sought → Bool → Position → Solved → Type 0
 IsFitting r q reached p s = IsValueOf q s × HasFittingMoves r q p × (IsTrue reached → IsReachedByPlay r p)
 

@@ -1,4 +1,4 @@
--- What is told of found positions.
+-- What is reported of found positions.
 use Rattle.std.specs.Prelude.{◌≡◌, ◌^◌, ◌-◌, ℕ, Bool, true, List, map, length}
 use Rattle.std.specs.List.{All}
 use Rattle.gm_game.specs.declared.position.Position.{Position}
@@ -25,7 +25,7 @@ pub record IsFound (r : Rules) (x : Found) : Type 0 where
 abbrev pub position_of : Found → Position
 position_of x = x.position
 
--- the first positions that are sought, at most this many, and what is told of each
+-- the first positions that are sought, at most this many, and what is reported of each
 pub record AreFound (r : Rules) (q : Sought) (reached : Bool) (limit : ℕ) (tiers : List ℕ) (xs : List Found) : Type 0 where
   pub positions : IsFirst (IsMatch r q reached) limit (all_positions r tiers) (map position_of xs)
   pub each : All (IsFound r) xs

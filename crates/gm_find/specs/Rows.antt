@@ -14,7 +14,7 @@ use Rattle.gm_find.specs.Founds.{AreChosen}
 abbrev pub row : List ℕ → List ℕ → List ℕ → List ℕ → List ℕ
 row a b c d = (a ++ codes "\t") ++ (b ++ codes "\t") ++ (c ++ codes "\t") ++ (d ++ codes "\n")
 
--- the text of a best move, and none where the game has ended
+-- the text of a best move, and none if the game has ended
 abbrev pub best_text : (Position → ℕ → List ℕ) → Position → Option ℕ → List ℕ
 best_text move_shown p None = []
 best_text move_shown p (Some m) = move_shown p m

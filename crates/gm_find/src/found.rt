@@ -60,7 +60,7 @@ pub(crate) fn look_up<G: Game>(
     Ok(found)
 }
 
-// The answer for a position: its value, its best move and the number of its moves.
+// Returns the answer for a position: its value, its best move and the number of its moves.
 fn found_at<G: Game>(known: &Known<'_, G>) -> Found
     ensures position { result.position ≡ known.now.position }
     ensures found { IsFound G.rules result }

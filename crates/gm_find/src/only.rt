@@ -8,7 +8,7 @@ use gm_best::known::Known;
 use gm_game::game::Game;
 use gm_game::position::{Position, Value};
 
-/// Whether exactly one move keeps this value; where distinct moves are asked for, exactly one up to symmetry.
+/// Returns whether exactly one move keeps this value; where distinct moves are asked for, exactly one up to symmetry.
 pub(crate) fn has_only<G: Game>(known: &Known<'_, G>, value: Value, distinct: bool) -> bool
     ensures { IsTrue result ↔ HasOnly G.rules distinct value known.now.position }
 {
@@ -19,7 +19,7 @@ pub(crate) fn has_only<G: Game>(known: &Known<'_, G>, value: Value, distinct: bo
     }
 }
 
-/// Whether there are as many moves as are sought, counted up to symmetry for distinct moves.
+/// Returns whether there are as many moves as are sought, counted up to symmetry for distinct moves.
 pub(crate) fn has_moves<G: Game>(p: Position, least: usize, distinct: bool) -> bool
     requires { G.rules.is_legal p ≡ true }
     ensures { IsTrue result ↔ HasMoves G.rules distinct least p }
@@ -31,7 +31,7 @@ pub(crate) fn has_moves<G: Game>(p: Position, least: usize, distinct: bool) -> b
     }
 }
 
-// How many moves keep this value.
+// Returns how many moves keep this value.
 fn keeping<G: Game>(known: &Known<'_, G>, value: Value) -> usize
     ensures { (kept : List ℕ) × AreThose (KeepsValue G.rules value known.now.position) (G.rules.moves known.now.position) kept × (length kept ≡ result) }
 {
@@ -45,7 +45,7 @@ fn keeping<G: Game>(known: &Known<'_, G>, value: Value) -> usize
     number
 }
 
-// Whether the moves that keep this value lead to one position, up to symmetry.
+// Returns whether the moves that keep this value lead to one position, up to symmetry.
 fn has_only_result<G: Game>(known: &Known<'_, G>, value: Value) -> bool
     ensures { IsTrue result ↔ HasOnlyResult G.rules value known.now.position }
 {
@@ -63,7 +63,7 @@ fn has_only_result<G: Game>(known: &Known<'_, G>, value: Value) -> bool
     only.is_some()
 }
 
-// Whether there is no other position yet.
+// Returns whether there is no other position yet.
 fn agrees(only: Option<Position>, found: Position) -> bool
     ensures { IsTrue result ↔ AgreesWith only found }
 {
@@ -73,7 +73,7 @@ fn agrees(only: Option<Position>, found: Position) -> bool
     }
 }
 
-/// Whether a move keeps this value.
+/// Returns whether a move keeps this value.
 pub(crate) fn keeps<G: Game>(known: &Known<'_, G>, value: Value, m: u32) -> bool
     requires { Contains (G.rules.moves known.now.position) m }
     ensures { IsTrue result ↔ KeepsValue G.rules value known.now.position m }
@@ -81,7 +81,7 @@ pub(crate) fn keeps<G: Game>(known: &Known<'_, G>, value: Value, m: u32) -> bool
     known.play(m).value().value == kept(value)
 }
 
-// The value of a result that keeps this one for the side that moves.
+// Returns the value of a result that keeps this one for the side that moves.
 fn kept(value: Value) -> Value
     ensures { result ≡ kept_by value }
 {

@@ -13,8 +13,8 @@ use gm_game::position::{Solved, Value};
 /// The greatest remoteness at which the winner has one turn left.
 const LAST_TURN: u32 = 2;
 
-/// Whether a position of this true value is a win in which, against every longest defence, exactly one move keeps the win at each turn of the winner but the
-/// last; where distinct moves are asked for, exactly one up to symmetry.
+/// Returns whether a position of this true value is a win in which, against every longest defence, exactly one move keeps the win at each turn of the winner
+/// but the last; where distinct moves are asked for, exactly one up to symmetry.
 ///
 /// It goes through all lines of longest defences, to a depth of the remoteness on the call stack, and ends at the first turn with a choice.
 pub(crate) fn is_only_line<G: Game>(known: &Known<'_, G>, solved: Solved, distinct: bool) -> bool
@@ -27,7 +27,7 @@ pub(crate) fn is_only_line<G: Game>(known: &Known<'_, G>, solved: Solved, distin
     }
 }
 
-// True if the winner has exactly one winning move at every turn but the last.
+// Returns true if the winner has exactly one winning move at every turn but the last.
 #[cycle(turns)]
 fn is_only_win<G: Game>(known: &Known<'_, G>, remoteness: u32, distinct: bool) -> bool
     ensures { IsTrue result ↔ IsOnlyWin G.rules distinct remoteness known.now.position }
@@ -46,7 +46,7 @@ fn is_only_win<G: Game>(known: &Known<'_, G>, remoteness: u32, distinct: bool) -
     true
 }
 
-// Whether a move of the winner, if it keeps the win, leads to a loss in which each longest defence leads to such a win.
+// Returns whether a move of the winner, if it keeps the win, leads to a loss in which each longest defence leads to such a win.
 #[cycle(turns)]
 fn is_only_after<G: Game>(known: &Known<'_, G>, m: u32, remoteness: u32, distinct: bool) -> bool
     requires { Contains (G.rules.moves known.now.position) m }
@@ -59,7 +59,7 @@ fn is_only_after<G: Game>(known: &Known<'_, G>, m: u32, remoteness: u32, distinc
     }
 }
 
-// True if each longest defence leads to such a win, one move nearer the end.
+// Returns true if each longest defence leads to such a win, one move nearer the end.
 #[cycle(turns)]
 fn are_only_defences<G: Game>(known: &Known<'_, G>, remoteness: u32, distinct: bool) -> bool
     ensures { IsTrue result ↔ AfterDefence G.rules remoteness (IsOnlyWin G.rules distinct remoteness) known.now.position }
@@ -72,7 +72,7 @@ fn are_only_defences<G: Game>(known: &Known<'_, G>, remoteness: u32, distinct: b
     true
 }
 
-// True if the result of a defence is such a win, or is no win of that length.
+// Returns true if the result of a defence is such a win, or is no win of that length.
 #[cycle(turns)]
 fn is_only_defence<G: Game>(known: &Known<'_, G>, e: u32, remoteness: u32, distinct: bool) -> bool
     requires { Contains (G.rules.moves known.now.position) e }
@@ -86,7 +86,7 @@ fn is_only_defence<G: Game>(known: &Known<'_, G>, e: u32, remoteness: u32, disti
     }
 }
 
-// Whether a value is a win with this remoteness.
+// Returns whether a value is a win with this remoteness.
 fn is_win_in(solved: Solved, remoteness: u32) -> bool
     ensures { IsTrue result ↔ ((solved.value ≡ Win) × (solved.remoteness ≡ remoteness)) }
 {

@@ -170,7 +170,7 @@ fn add_position<G: Game>(
     Ok(())
 }
 
-// Whether a position is sought.
+// Returns whether a position is sought.
 fn is_sought<G: Game>(
     tables: &Tables<G>,
     p: Position,
@@ -190,7 +190,7 @@ fn is_sought<G: Game>(
     is_fitting(&known, solved, sought, reached) && has_fitting_line(&known, solved, sought)
 }
 
-// Whether a position of this true value fits in everything but its line.
+// Returns whether a position of this true value fits in everything but its line.
 fn is_fitting<G: Game>(
     known: &Known<'_, G>,
     solved: Solved,
@@ -202,7 +202,7 @@ fn is_fitting<G: Game>(
     is_value(sought, solved) && has_fitting_moves(known, sought) && is_in(reached, known.position)
 }
 
-// Whether a position has the moves that are sought.
+// Returns whether a position has the moves that are sought.
 fn has_fitting_moves<G: Game>(known: &Known<'_, G>, sought: Sought) -> bool
     ensures { IsTrue result ↔ HasFittingMoves G.rules sought known.now.position }
 {
@@ -210,7 +210,7 @@ fn has_fitting_moves<G: Game>(known: &Known<'_, G>, sought: Sought) -> bool
         && (!sought.only_move || has_only(known, sought.value, sought.distinct))
 }
 
-// Whether a position has the line that is sought.
+// Returns whether a position has the line that is sought.
 fn has_fitting_line<G: Game>(known: &Known<'_, G>, solved: Solved, sought: Sought) -> bool
     requires { IsTrueValue G.rules known.now.position solved }
     ensures { IsTrue result ↔ (IsTrue sought.whole_line → IsOnlyLine G.rules sought.distinct known.now.position) }
@@ -218,7 +218,7 @@ fn has_fitting_line<G: Game>(known: &Known<'_, G>, solved: Solved, sought: Sough
     !sought.whole_line || is_only_line(known, solved, sought.distinct)
 }
 
-/// The true value of a canonical position of a tier that is held; `None` for any other.
+/// Returns the true value of a canonical position of a tier that is held; `None` for any other.
 pub fn record<G: Game>(tables: &Tables<G>, p: Position) -> Option<Solved>
     requires { IsHeld tables.now p.tier }
     ensures { IsRecord G.rules REMOTENESS (IsTrueValue G.rules) p result }
@@ -226,7 +226,7 @@ pub fn record<G: Game>(tables: &Tables<G>, p: Position) -> Option<Solved>
     tables.table(p.tier).unwrap().at(p.index)
 }
 
-// Whether a value and its remoteness are sought.
+// Returns whether a value and its remoteness are sought.
 fn is_value(sought: Sought, solved: Solved) -> bool
     ensures { IsTrue result ↔ IsValueOf sought solved }
 {

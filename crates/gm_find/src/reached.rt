@@ -34,7 +34,7 @@ impl<G: Game> Model for Reached<G> {
 }
 
 impl<G: Game> Reached<G> {
-    /// All canonical positions that play from the start reaches, found by a search: each of them once, with its canonical children.
+    /// Finds all canonical positions that play from the start reaches: each of them once, with its canonical children.
     pub fn from_start(alloc: Global) -> Result<Self, AllocError>
         ensures { IfOk result (AreReached G.rules) }
     {
@@ -44,7 +44,7 @@ impl<G: Game> Reached<G> {
         })
     }
 
-    /// Whether some line of play from the start ends in a position that has this one as its canonical position. It takes no memory.
+    /// Returns whether some line of play from the start ends in a position that has this one as its canonical position. It takes no memory.
     pub fn has(&self, c: Position) -> bool
         ensures { IsTrue result ↔ IsReachedByPlay G.rules c }
     {
@@ -52,7 +52,7 @@ impl<G: Game> Reached<G> {
     }
 }
 
-/// True if no set is given, or if some line of play from the start ends in a position that has this one as its canonical position.
+/// Returns true if no set is given, or if some line of play from the start ends in a position that has this one as its canonical position.
 pub fn is_in<G: Game>(reached: Option<&Reached<G>>, c: Position) -> bool
     ensures { IsTrue result ↔ (IsTrue (is_some reached.entry) → IsReachedByPlay G.rules c) }
 {

@@ -32,7 +32,7 @@ pub fn find_text<G: Shown>(
     found_rows::<G>(alloc, found.as_slice())
 }
 
-/// The rows of found positions, as `find_text` has them.
+/// Returns the rows of found positions, as `find_text` has them.
 pub fn found_rows<G: Shown>(alloc: Global, found: &[Found]) -> Result<Vec<u8>, AllocError>
     requires { All (IsFound G.Game.rules) found.now }
     ensures { IfOk result (λ v. v.items ≡ flat_map (found_row G.shown G.move_shown) found.now) }

@@ -31,7 +31,7 @@ pub fn sample_of(
     Ok(chosen)
 }
 
-// A random number below this one.
+// Returns a random number below this one.
 fn number_below(random: &mut Xoshiro256PlusPlus, bound: u64) -> u64
     requires { 0 < bound }
     ensures { result < bound }

@@ -11,7 +11,7 @@ use gm_game::position::Position;
 use std::alloc::{AllocError, Global};
 use std::collections::HashSet;
 
-/// All canonical positions that are reached: that of the start, and the canonical children of each.
+/// Finds all canonical positions that play reaches: that of the start, and the canonical children of each.
 pub(crate) fn search<G: Game>(alloc: Global) -> Result<HashSet<(u64, u64)>, AllocError>
     ensures { IfOk result (λ s. AreReached G.rules s.keys) }
 {

@@ -60,7 +60,7 @@ module _ (r : Rules) (g : IsGame r) (lo hi : ℕ) (place : Place) (notes : List 
     },
   )
 
--- where no win or loss is left, as many stand before the first level of ties
+-- if no win or loss is left, as many are before the first level of ties
 pub ties_begin : (r : Rules) → IsGame r → (tier lo hi n number : ℕ) → IsLastLevel r tier WinLose n → IsNumberBefore r tier lo hi WinLose n number
     → IsNumberBefore r tier lo hi Ties 0 number
 ties_begin r g tier lo hi n number last (xs, count, exact) = (

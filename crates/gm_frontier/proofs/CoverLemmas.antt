@@ -1,4 +1,4 @@
--- Over all pieces and tiles each pair whose child stands at the place comes once.
+-- Over all pieces and tiles each pair whose child is at the place comes once.
 use Rattle.std.proofs.Common.{◌≡◌, ◌≢◌, ℕ, ◌+◌, ◌*◌, ◌/◌, ◌%◌, ◌<◌, inl, inr, List, length, get_or, take, drop, refl, sym, ap, ap₂, subst, ◌∙◌, arith}
 use Rattle.std.specs.List.{Contains, flat_map}
 use Rattle.std.specs.Int.{div_ceil}
@@ -32,7 +32,7 @@ use Rattle.gm_frontier.proofs.PairLemmas.{piece_canonical}
 use Rattle.gm_frontier.proofs.SumLemmas.{numbers_once}
 use Rattle.gm_frontier.proofs.TileLemmas.{in_tile, tile_below}
 
--- a note stands at its place
+-- a note is at its place
 stands_of : (r : Rules) (p : Position) (v : Value) (m : ℕ) (phase : Phase) (n : ℕ) → HasValue r p v m → v ≢ Draw → phase_of v ≡ phase → m ≡ n
     → StandsAt r phase n p
 stands_of r p Lose m WinLose n h d e f = inr (subst (HasValue r p Lose) f h)

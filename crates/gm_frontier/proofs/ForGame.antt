@@ -14,7 +14,7 @@ use Rattle.gm_game.specs.Places.{StandsAt, StandsBefore, IsPlaceBefore, IsNear, 
 use Rattle.gm_game.proofs.Basic.{HasValue_once}
 use Rattle.gm_game.proofs.SetLemmas.{length_with_le}
 
--- what stands before the next level stands before this one or at it
+-- what is before the next level is before this one or at it
 pub stands_now : (r : Rules) (phase : Phase) (n : ℕ) (c : Position) → StandsBefore r phase (n + 1) c → StandsBefore r phase n c ⊎ StandsAt r phase n c
 stands_now r phase n c s = go phase s.own_phase s.own_level s.stands s.before
   where
@@ -34,7 +34,7 @@ pub now_stands : (r : Rules) (phase : Phase) (n : ℕ) (c : Position) → Stands
 now_stands r WinLose n c h = record { own_phase = WinLose; own_level = n; stands = h; before = omega arith }
 now_stands r Ties n c h = record { own_phase = Ties; own_level = n; stands = h; before = omega arith }
 
--- a position stands at one place
+-- a position is at one place
 pub one_place : (r : Rules) (q phase : Phase) (k n : ℕ) (c : Position) → StandsAt r q k c → StandsAt r phase n c → (q ≡ phase) × (k ≡ n)
 one_place r WinLose WinLose k n c (inl a) (inl b) = (refl, (HasValue_once r c Win Win k n a b).1)
 one_place r WinLose WinLose k n c (inl a) (inr b) = (refl, (HasValue_once r c Win Lose k n a b).1)

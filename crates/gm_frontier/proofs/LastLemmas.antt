@@ -1,4 +1,4 @@
--- A level is the last of its phase where it is empty and the child tiers have nothing from it on.
+-- A level is the last of its phase if it is empty and the child tiers have nothing from it on.
 use Rattle.std.proofs.Common.{◌≡◌, ℕ, ◌<◌, ◌≤◌, ◌↔◌, inl, inr, List, [], ◌∷◌, refl, sym, ap, subst, arith, Some, true, IsTrue, nat_lt, length, get_or, take}
 use Rattle.std.specs.List.{Contains}
 use Rattle.std.proofs.lemmas.Bool.{cases_lt}

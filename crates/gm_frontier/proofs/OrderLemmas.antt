@@ -63,7 +63,7 @@ first_one_way tier p q = go (p.tier == tier) (q.tier == tier)
     go false true a b = cc
     go false false a b = before_one_way p q a b
 
--- joined lists, where each of the first comes before each of the second
+-- joined lists, if each of the first comes before each of the second
 pub in_order_append : (comes_before : Position → Position → Bool) (ps qs : List Position) → AreInOrder comes_before ps → AreInOrder comes_before qs
     → ((p q : Position) → Contains ps p → Contains qs q → comes_before p q ≡ true) → AreInOrder comes_before (ps ++ qs)
 in_order_append before [] qs up down apart = down

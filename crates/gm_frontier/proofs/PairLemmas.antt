@@ -1,4 +1,4 @@
--- The pairs of a level's notes: each pair whose child stands at the place, once.
+-- The pairs of a level's notes: each pair whose child is at the place, once.
 use Rattle.std.proofs.Common.{◌≡◌, ℕ, zero, suc, ◌<◌, ◌≤◌, ◌*◌, ◌↔◌, inl, inr, true, List, [], ◌∷◌, take, drop, map, filter, refl, sym, ap, ap₂, subst, ◌∙◌}
 use Rattle.std.proofs.Common.{arith, length}
 use Rattle.std.specs.List.{Contains}
@@ -114,7 +114,7 @@ module _ (r : Rules) (g : IsGame r) (place : Place) (notes : List NoteData) (lev
   pub canonical_notes : (n : NoteData) → Contains notes n → IsCanonical r n.position
   canonical_notes n l = (level.noted n l).note.canonical
 
-  -- the pairs into a range are exactly those whose child stands at the place
+  -- the pairs into a range are exactly those whose child is at the place
   pub level_pairs_exact : (lo hi : ℕ) (p : Position × ℕ) → (IsPairInto r place.tier lo hi p.0 p.1 × StandsAt r place.phase place.level p.0)
       ↔ Contains (bare_pairs r place.tier lo hi notes) p
   level_pairs_exact lo hi p = (

@@ -9,7 +9,7 @@ use Rattle.std.proofs.lemmas.Option.{get_or_from_slice_get, slice_get_within, sl
 use Rattle.std.proofs.lemmas.Bool.{cases_lt}
 use Rattle.gm_game.proofs.Lists.{contains_none, contains_cases}
 
--- what stands in a part stands there in the parts from it on
+-- what is in a part is there in the parts from it on
 pub found_in_part : {A : Type 0} (xss : List (List A)) (i j : ℕ) (xs : List A) (x d : A) → i < length xss → xs ≡ get_or xss i xs → slice_get xs j ≡ Some x
     → get_or (flat_map (λ part. part) (drop i xss)) j d ≡ x
 found_in_part {A} xss i j xs x d l e s =
@@ -18,7 +18,7 @@ found_in_part {A} xss i j xs x d l e s =
     ∙ get_or_append_left xs (flat_map (λ part. part) (drop (suc i) xss)) d j (slice_get_within xs j x s)
     ∙ get_or_from_slice_get xs j x d s
 
--- so the whole has it where it was looked for
+-- so the whole has it if it was looked for
 pub found_in_whole : {A : Type 0} (xss : List (List A)) (i j k : ℕ) (xs : List A) (x : A) → k < length (flat_map (λ part. part) xss) → i < length xss
     → xs ≡ get_or xss i xs
     → ((d : A) → get_or (flat_map (λ part. part) xss) k d ≡ get_or (flat_map (λ part. part) (drop i xss)) j d) → slice_get xs j ≡ Some x
@@ -34,7 +34,7 @@ parts_left {A} xss i j l = elim (cases_lt i (length xss)) [
       (drop_all i xss h) in absurd (omega arith))
 ]
 
--- what stands in a list
+-- what is in a list
 pub listed_at : {A : Type 0} (xs : List A) (k : ℕ) (x y : A) → k < length xs → x ≡ get_or xs k x → y ≡ x → slice_get xs k ≡ Some y
 listed_at xs k x y l e s = slice_get-get_or xs k x l ∙ ap Some (sym e ∙ sym s)
 

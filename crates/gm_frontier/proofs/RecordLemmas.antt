@@ -1,4 +1,4 @@
--- The notes of a table's records at a place are those of the positions that stand there.
+-- The notes of a table's records at a place are those of the positions that are there.
 use Rattle.std.proofs.Common.{◌≡◌, ◌≢◌, ℕ, ◌<◌, ◌↔◌, inl, inr, true, List, [], ◌∷◌, map, length, get_or, refl, sym, ap, subst, ◌∙◌, arith, Option, None, Some}
 use Rattle.std.proofs.Common.{IsSome, slice_get, unwrap_or}
 use Rattle.std.specs.List.{AllByRecursion, Contains}
@@ -61,7 +61,7 @@ positions-notes_at t [] = refl
 positions-notes_at t (i ∷ is) = ap (λ (ps : List Position). at t.tier i ∷ ps) (positions-notes_at t is)
 
 module _ (r : Rules) (g : IsGame r) (t : TableData) (h : IsTable r t) (place : Place) where
-  -- the record of a canonical position that stands at the place
+  -- the record of a canonical position that is at the place
   record_there : (i : ℕ) (o : Option Solved) → record_at t.records i ≡ o → slice_get t.records i ≡ Some o → IsCanonical r (at t.tier i)
       → StandsAt r place.phase place.level (at t.tier i) → IsRecorded r t i × IsNoteAt r place (note_of t i)
   record_there i None e l c s = absurd (h.is_true.each i None l c)

@@ -63,7 +63,7 @@ row_next held n indexes read k p e s less is =
     ap (λ (o : Option NoteData). row_pairs o (drop k indexes)) (sym e) ∙ ap (row_pairs (Some n)) front
     ∙ ap (λ (o : Option NoteData). (n, p) ∷ row_pairs o (drop (k + 1) indexes)) e
 
--- where nothing is left, nothing is given
+-- if nothing is left, nothing is given
 pub none_left : {A : Type 0} (o : Option A) (left : List A) → o ≡ None → left ≡ [] → MatchOption o ((left ≡ []) × (left ≡ [])) (λ x. left ≡ x ∷ left)
 none_left None left e h = (h, h)
 none_left (Some x) left e h = absurd (let z : ⊥ = cc in z)

@@ -15,7 +15,7 @@ pub record IsPairInto (r : Rules) (tier lo hi : ℕ) (c : Position) (index : ℕ
   pub high : index < hi
   pub is_parent : IsParent r c tier index
 
--- there are this many pairs into the range whose child stands before the place
+-- there are this many pairs into the range whose child is before the place
 abbrev pub IsNumberBefore : Rules → ℕ → ℕ → ℕ → Phase → ℕ → ℕ → Type 0
 IsNumberBefore r tier lo hi phase level number =
     AreThere number (λ (pair : Position × ℕ). IsPairInto r tier lo hi pair.0 pair.1 × StandsBefore r phase level pair.0)
@@ -42,7 +42,7 @@ abbrev pub next_level : Option Place → Phase → ℕ
 next_level None phase = 0
 next_level (Some last) phase = level_after last.phase last.level phase
 
--- the next level follows the last one: it is one above it, or the first of ties where no win or loss is left
+-- the next level follows the last one: it is one above it, or the first of ties if no win or loss is left
 abbrev pub Follows : Rules → ℕ → Option Place → Phase → ℕ → Type 0
 Follows r tier None WinLose n = n ≡ 0
 Follows r tier None Ties n = (n ≡ 0) × IsLastLevel r tier WinLose 0

@@ -28,7 +28,7 @@ place_at tier phase level = record { tier = tier; phase = phase; level = level }
 abbrev pub positions : List NoteData → List Position
 positions notes = map (λ n. n.position) notes
 
--- a position of the tier with an index in this range, which stands at the place
+-- a position of the tier with an index in this range, which is at the place
 pub record IsInRun (r : Rules) (place : Place) (lo hi : ℕ) (c : Position) : Type 0 where
   pub tier : c.tier ≡ place.tier
   pub low : lo ≤ c.index
@@ -36,7 +36,7 @@ pub record IsInRun (r : Rules) (place : Place) (lo hi : ℕ) (c : Position) : Ty
   pub canonical : IsCanonical r c
   pub stands : StandsAt r place.phase place.level c
 
--- a position of this tier, which stands at the place
+-- a position of this tier, which is at the place
 pub record IsInTier (r : Rules) (place : Place) (t : ℕ) (c : Position) : Type 0 where
   pub tier : c.tier ≡ t
   pub canonical : IsCanonical r c
@@ -47,7 +47,7 @@ abbrev pub AreInOrder : (Position → Position → Bool) → List Position → T
 AreInOrder comes_before [] = Unit {0}
 AreInOrder comes_before (p ∷ ps) = AllByRecursion (λ q. comes_before p q ≡ true) ps × AreInOrder comes_before ps
 
--- the notes are those of the positions of a kind, which stand at the place, once each and in this order
+-- the notes are those of the positions of a kind, which are at the place, once each and in this order
 pub record AreNotesOf (r : Rules) (place : Place) (Is : Position → Type 0) (comes_before : Position → Position → Bool) (notes : List NoteData) : Type 0 where
   pub each : (c : Position) → Is c ↔ Contains (positions notes) c
   pub noted : (n : NoteData) → Contains notes n → IsNoteAt r place n

@@ -21,7 +21,7 @@ pairs_of_note r tier lo hi n = pairs_with n lo hi (r.parents n.position tier)
 abbrev pub pairs_of : Rules → ℕ → ℕ → ℕ → List NoteData → List (NoteData × ℕ)
 pairs_of r tier lo hi notes = flat_map (pairs_of_note r tier lo hi) notes
 
--- the notes of a piece, where each piece but the last has n of them
+-- the notes of a piece, if each piece but the last has n of them
 abbrev pub piece_of : ℕ → ℕ → List NoteData → List NoteData
 piece_of piece n notes = take n (drop (piece * n) notes)
 

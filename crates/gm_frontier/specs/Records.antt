@@ -25,6 +25,6 @@ IsRecorded r t index = IsSome (record_at t.records index) × IsNote r (note_of t
 abbrev pub AreRecorded : Rules → TableData → List ℕ → Type 0
 AreRecorded r t indexes = (index : ℕ) → Contains indexes index → IsRecorded r t index
 
--- the notes of a tier at a place, by the tier's table; none where the table isn't held
+-- the notes of a tier at a place, by the tier's table; none if the table isn't held
 abbrev pub notes_of_tier : List TableData → Place → ℕ → List NoteData
 notes_of_tier entries place tier = elim (table_of entries tier) [ None ↦ [] | Some t ↦ notes_at t (indexes_at place.phase place.level t.records) ]

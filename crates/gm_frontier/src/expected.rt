@@ -38,7 +38,7 @@ impl<G: Game> Expected<G> {
     ghost use Rattle.gm_frontier.specs.Counts.{ExpectedData, IsExpected, with_level};
     ghost use Rattle.gm_frontier.specs.Tallies.{number_into, AreTallies};
 
-    /// The count before the first level: no pairs into the indexes of the tier from `lo` up to `hi`.
+    /// Returns the count before the first level: no pairs into the indexes of the tier from `lo` up to `hi`.
     pub fn start(tier: u64, lo: u64, hi: u64) -> Self
         requires { G.rules.tier_size tier ≤ TIER_SIZE }
         ensures { result ≡ record { tier = tier; lo = lo; hi = hi; last = None; phase = WinLose; level = 0; number = 0 } }
@@ -54,7 +54,7 @@ impl<G: Game> Expected<G> {
         }
     }
 
-    /// Whether the level is the next one, as `add` and `add_counted` want it.
+    /// Returns whether the level is the next one, as `add` and `add_counted` want it.
     pub fn takes(&self, level: &Level<G>) -> bool
         ensures { IsTrue result ↔ (level.now.place ≡ place_at self.now.tier self.now.phase self.now.level) }
     {
@@ -97,7 +97,7 @@ impl<G: Game> Expected<G> {
         self.phase = Phase::Ties;
     }
 
-    /// The number of pairs, which is exact.
+    /// Returns the number of pairs, which is exact.
     pub fn number(&self) -> u64
         ensures value { result ≡ self.now.number }
         ensures exact { IsExpected G.rules self.now }
@@ -105,14 +105,14 @@ impl<G: Game> Expected<G> {
         self.number
     }
 
-    /// The tier.
+    /// Returns the tier.
     pub fn tier(&self) -> u64
         ensures { result ≡ self.now.tier }
     {
         self.tier
     }
 
-    /// The index range: the first index, and the one past the last.
+    /// Returns the index range: the first index, and the one past the last.
     pub fn range(&self) -> (u64, u64)
         ensures lo { result.0 ≡ self.now.lo }
         ensures hi { result.1 ≡ self.now.hi }
@@ -120,7 +120,7 @@ impl<G: Game> Expected<G> {
         (self.lo, self.hi)
     }
 
-    /// The place of the last level that was added, or `None` before the first.
+    /// Returns the place of the last level that was added, or `None` before the first.
     pub fn last(&self) -> Option<Place>
         ensures { result ≡ self.now.last }
     {

@@ -26,7 +26,7 @@ impl<G: Game> Model for Last<G> {
     ghost invariant = { λ l. IsLastLevel G.rules l.place.tier l.place.phase l.place.level };
 }
 
-// Whether a held tier has no value of the place's phase with its remoteness or more.
+// Returns whether a held tier has no value of the place's phase with its remoteness or more.
 fn is_below<G: Game>(tables: &Tables<G>, tier: u64, place: Place) -> bool
     requires { IsHeld tables.now tier }
     ensures { IsTrue result ↔ IsBelow G.rules place tier }
@@ -37,7 +37,7 @@ fn is_below<G: Game>(tables: &Tables<G>, tier: u64, place: Place) -> bool
     }
 }
 
-/// Whether no child tier has a value of the place's phase with its remoteness or more.
+/// Returns whether no child tier has a value of the place's phase with its remoteness or more.
 pub(crate) fn are_below<G: Game>(tables: &Tables<G>, place: Place) -> bool
     requires { AreHeld G.rules tables.now place.tier }
     ensures { IsTrue result ↔ AreBelow G.rules place }
@@ -63,14 +63,14 @@ impl<G: Game> Last<G> {
         }
     }
 
-    /// The tier.
+    /// Returns the tier.
     pub fn tier(&self) -> u64
         ensures { result ≡ self.now.tier }
     {
         self.place.tier
     }
 
-    /// The place from which on nothing of its phase is left.
+    /// Returns the place from which on nothing of its phase is left.
     pub fn place(&self) -> Place
         ensures value { result ≡ self.now }
         ensures last { IsLastLevel G.rules self.now.tier self.now.phase self.now.level }

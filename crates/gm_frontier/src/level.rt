@@ -85,7 +85,7 @@ impl<'a, G: Game> Level<'a, G> {
         Some(Last::of(place))
     }
 
-    /// The tier.
+    /// Returns the tier.
     pub fn tier(&self) -> u64
         ensures value { result ≡ self.now.place.tier }
         ensures small { G.rules.tier_size self.now.place.tier ≤ TIER_SIZE }
@@ -93,7 +93,7 @@ impl<'a, G: Game> Level<'a, G> {
         self.place.tier
     }
 
-    /// The place.
+    /// Returns the place.
     pub fn place(&self) -> Place
         ensures value { result ≡ self.now.place }
         ensures level { IsLevel G.rules self.now.place self.now.notes }
@@ -102,14 +102,14 @@ impl<'a, G: Game> Level<'a, G> {
         self.place
     }
 
-    /// How many notes there are.
+    /// Returns how many notes there are.
     pub fn len(&self) -> usize
         ensures { result ≡ length self.now.notes }
     {
         self.len
     }
 
-    /// The note with this number, from 0.
+    /// Returns the note with this number, from 0.
     pub fn note(&self, k: usize) -> Note<G>
         requires { k < length self.now.notes }
         ensures { slice_get self.now.notes k ≡ Some result }
@@ -117,8 +117,8 @@ impl<'a, G: Game> Level<'a, G> {
         note_in(self.parts.as_slice(), k)
     }
 
-    /// How many pieces of `n` notes there are; the last one may have fewer. Over all pieces and all tiles of the tier, of any width, each pair whose child is
-    /// at the place comes exactly once.
+    /// Returns how many pieces of `n` notes there are; the last one may have fewer. Over all pieces and all tiles of the tier, of any width, each pair whose
+    /// child is at the place comes exactly once.
     pub fn pieces(&self, n: usize) -> usize
         requires { 0 < n }
         ensures count { result ≡ div_ceil (length self.now.notes) n }
@@ -160,7 +160,7 @@ impl<'a, G: Game> Level<'a, G> {
         Ok(Tally::of(self, piece, n, width, counts))
     }
 
-    /// The tallies of all pieces of `n` notes, in order, as `Expected::add_counted` wants them: it walks each piece once.
+    /// Returns the tallies of all pieces of `n` notes, in order, as `Expected::add_counted` wants them: it walks each piece once.
     pub fn tallies(&self, alloc: Global, n: usize, width: u64) -> Result<Vec<Tally<G>>, AllocError>
         requires piece_size { 0 < n }
         requires width { 0 < width }
@@ -175,7 +175,7 @@ impl<'a, G: Game> Level<'a, G> {
         Ok(tallies)
     }
 
-    /// How many pairs there are from `lo` up to `hi`: it walks them.
+    /// Returns how many pairs there are from `lo` up to `hi`: it walks them.
     pub(crate) fn number_into(&self, lo: u64, hi: u64) -> u64
         ensures { result ≡ number_into G.rules self.now.place.tier lo hi self.now.notes }
     {

@@ -40,7 +40,7 @@ impl<G: Game> Note<G> {
         }
     }
 
-    /// The position.
+    /// Returns the position.
     pub fn position(&self) -> Position
         ensures value { result ≡ self.now.position }
         ensures note { IsNote G.rules self.now.position self.now.solved }
@@ -48,7 +48,7 @@ impl<G: Game> Note<G> {
         self.position
     }
 
-    /// Its value and remoteness.
+    /// Returns the value and remoteness of the position.
     pub fn solved(&self) -> Solved
         ensures value { result ≡ self.now.solved }
         ensures note { IsNote G.rules self.now.position self.now.solved }
@@ -56,7 +56,7 @@ impl<G: Game> Note<G> {
         self.solved
     }
 
-    /// The same note again.
+    /// Returns the same note again.
     pub(crate) fn copied(&self) -> Self
         ensures { result ≡ self.now }
     {

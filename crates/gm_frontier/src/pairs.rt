@@ -57,7 +57,7 @@ impl<'a, G: Game> Iterator for Pairs<'a, G> {
 }
 
 impl<'a, G: Game> Pairs<'a, G> {
-    /// The pairs of the level's notes from one number up to another.
+    /// Returns the pairs of the level's notes from one number up to another.
     pub(crate) fn of(
         level: &'a Level<'a, G>,
         from: usize,

@@ -22,7 +22,7 @@ enum Source<'a, G: Game> {
     Recorded(&'a Table<G>, &'a [u32]),
 }
 
-// A note of a list.
+// Returns a note of a list.
 fn listed_note<G: Game>(notes: &[Note<G>], k: usize) -> Note<G>
     requires { k < length notes.now }
     ensures { slice_get notes.now k ≡ Some result }
@@ -31,7 +31,7 @@ fn listed_note<G: Game>(notes: &[Note<G>], k: usize) -> Note<G>
     note.copied()
 }
 
-// The note of an index by its record.
+// Returns the note of an index by its record.
 fn recorded_note<G: Game>(table: &Table<G>, indexes: &[u32], k: usize) -> Note<G>
     requires recorded { AreRecorded G.rules table.now indexes.now }
     requires index { k < length indexes.now }
@@ -63,7 +63,7 @@ impl<'a, G: Game> Model for Part<'a, G> {
 }
 
 impl<'a, G: Game> Part<'a, G> {
-    /// The notes of a run.
+    /// Returns the notes of a run.
     pub(crate) fn listed(notes: &'a [Note<G>]) -> Part<'a, G>
         ensures { result ≡ notes.now }
     {
@@ -72,7 +72,7 @@ impl<'a, G: Game> Part<'a, G> {
         }
     }
 
-    /// The notes of some indexes of a table.
+    /// Returns the notes of some indexes of a table.
     pub(crate) fn recorded(table: &'a Table<G>, indexes: &'a [u32]) -> Part<'a, G>
         requires { AreRecorded G.rules table.now indexes.now }
         ensures { result ≡ notes_at table.now indexes.now }
@@ -82,7 +82,7 @@ impl<'a, G: Game> Part<'a, G> {
         }
     }
 
-    /// How many notes there are.
+    /// Returns how many notes there are.
     pub(crate) fn len(&self) -> usize
         ensures { result ≡ length self.now }
     {
@@ -92,7 +92,7 @@ impl<'a, G: Game> Part<'a, G> {
         }
     }
 
-    /// The note with this number.
+    /// Returns the note with this number.
     pub(crate) fn note(&self, k: usize) -> Note<G>
         requires { k < length self.now }
         ensures { slice_get self.now k ≡ Some result }
@@ -104,7 +104,7 @@ impl<'a, G: Game> Part<'a, G> {
     }
 }
 
-/// The notes of a tier at a place, by its table.
+/// Returns the notes of a tier at a place, by its table.
 fn child_part<'a, G: Game>(tables: &'a Tables<G>, tier: u64, place: Place) -> Part<'a, G>
     requires { IsHeld tables.now tier }
     ensures notes { result ≡ notes_of_tier tables.now place tier }
@@ -156,7 +156,7 @@ pub(crate) fn push_children<'a, G: Game>(
     Ok(())
 }
 
-/// How many notes the parts have together.
+/// Returns how many notes the parts have together.
 pub(crate) fn note_count<'a, G: Game>(parts: &[Part<'a, G>]) -> usize
     requires { length (joined parts.now) < 2 ^ 64 }
     ensures { result ≡ length (joined parts.now) }
@@ -168,7 +168,7 @@ pub(crate) fn note_count<'a, G: Game>(parts: &[Part<'a, G>]) -> usize
     count
 }
 
-/// The note with this number in the parts, one after another.
+/// Returns the note with this number in the parts, one after another.
 pub(crate) fn note_in<'a, G: Game>(parts: &[Part<'a, G>], k: usize) -> Note<G>
     requires { k < length (joined parts.now) }
     ensures { slice_get (joined parts.now) k ≡ Some result }

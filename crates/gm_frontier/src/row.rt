@@ -34,7 +34,7 @@ fn keep_within(list: &mut ArrayVec<u64, PARENTS>, lo: u64, hi: u64)
 }
 
 impl<G: Game> Row<G> {
-    /// No pairs.
+    /// Returns an empty row.
     pub(crate) fn empty() -> Row<G>
         ensures { result ≡ [] }
     {
@@ -55,7 +55,7 @@ impl<G: Game> Row<G> {
         self.passed = 0;
     }
 
-    /// The next pair.
+    /// Returns the next pair.
     pub(crate) fn next(&mut self) -> Option<(Note<G>, u64)>
         ensures { MatchOption result ((self.old ≡ []) × (self.new ≡ [])) (λ pair. self.old ≡ pair ∷ self.new) }
     {

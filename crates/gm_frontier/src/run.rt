@@ -41,7 +41,7 @@ impl<G: Game> Run<G> {
         }
     }
 
-    /// The notes, ascending by index.
+    /// Returns the notes, ascending by index.
     pub fn list(&self) -> &[Note<G>]
         ensures value { result.now ≡ self.now.notes }
         ensures run { IsRun G.rules self.now.place self.now.lo self.now.hi self.now.notes }
@@ -49,21 +49,21 @@ impl<G: Game> Run<G> {
         self.notes.as_slice()
     }
 
-    /// The tier.
+    /// Returns the tier.
     pub fn tier(&self) -> u64
         ensures { result ≡ self.now.place.tier }
     {
         self.place.tier
     }
 
-    /// The place.
+    /// Returns the place.
     pub fn place(&self) -> Place
         ensures { result ≡ self.now.place }
     {
         self.place
     }
 
-    /// The index range: the first index, and the one past the last.
+    /// Returns the index range: the first index, and the one past the last.
     pub fn range(&self) -> (u64, u64)
         ensures lo { result.0 ≡ self.now.lo }
         ensures hi { result.1 ≡ self.now.hi }

@@ -55,7 +55,7 @@ pub(crate) fn tile_counts<G: Game>(
     Ok(counts)
 }
 
-/// The number of a level's pairs into a range, by the tallies of its pieces.
+/// Returns the number of a level's pairs into a range, by the tallies of its pieces.
 pub(crate) fn tallied<G: Game>(level: &Level<G>, tallies: &[Tally<G>], lo: u64, hi: u64) -> u64
     requires { AreTallies G.rules level.now lo hi tallies.now }
     ensures { result ≡ number_into G.rules level.now.place.tier lo hi level.now.notes }
@@ -95,7 +95,7 @@ impl<G: Game> Tally<G> {
         }
     }
 
-    /// How many pairs there are into a tile: 0 past the last.
+    /// Returns how many pairs there are into a tile: 0 past the last.
     pub fn count(&self, tile: usize) -> u64
         ensures value { result ≡ slice_index self.now.counts tile }
         ensures tally { IsTally G.rules self.now }
@@ -103,28 +103,28 @@ impl<G: Game> Tally<G> {
         self.counts.get(tile).copied().unwrap_or(0)
     }
 
-    /// The tier.
+    /// Returns the tier.
     pub fn tier(&self) -> u64
         ensures { result ≡ self.now.place.tier }
     {
         self.place.tier
     }
 
-    /// The place of the level.
+    /// Returns the place of the level.
     pub fn place(&self) -> Place
         ensures { result ≡ self.now.place }
     {
         self.place
     }
 
-    /// The number of the piece.
+    /// Returns the number of the piece.
     pub fn piece(&self) -> usize
         ensures { result ≡ self.now.piece }
     {
         self.piece
     }
 
-    /// How many notes a piece has.
+    /// Returns how many notes a piece has.
     pub fn n(&self) -> usize
         ensures value { result ≡ self.now.n }
         ensures some { 0 < self.now.n }
@@ -132,7 +132,7 @@ impl<G: Game> Tally<G> {
         self.n
     }
 
-    /// How many indexes a tile has.
+    /// Returns how many indexes a tile has.
     pub fn width(&self) -> u64
         ensures value { result ≡ self.now.width }
         ensures some { 0 < self.now.width }
@@ -140,7 +140,7 @@ impl<G: Game> Tally<G> {
         self.width
     }
 
-    // The tile that has this index.
+    // Returns the tile that has this index.
     fn tile_of(&self, index: u64) -> usize
         ensures value { result ≡ index / self.now.width }
         ensures some { 0 < self.now.width }

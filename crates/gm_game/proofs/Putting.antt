@@ -8,7 +8,7 @@ use Rattle.gm_game.specs.Rules.{IsAscending}
 use Rattle.gm_game.specs.Ascending.{put, put_all}
 use Rattle.gm_game.proofs.Lists.{contains_first, contains_later, contains_cases}
 
--- put, where what stands before the place is less and what stands at it is greater
+-- put, where what is before the place is less and what is at it is greater
 pub put_at : (x : ℕ) (ys : List ℕ) (i : ℕ) → i ≤ length ys → ((k : ℕ) → k < i → get_or ys k 0 < x) → (i < length ys → x < get_or ys i 0) → put x ys ≡ insert
     ys i x
 put_at x [] zero l before here = refl
@@ -20,7 +20,7 @@ put_at x (y ∷ ys) (suc i) l before here =
     let b : eqb x y ≡ false = grind (arith, nat_tests) in
     rw (a, b, put_at x ys i (omega arith) (λ k m. before (suc k) (omega arith)) (λ m. here (omega arith))) refl
 
--- put, where x stands there already
+-- put, where x is there already
 pub put_there : (x : ℕ) (ys : List ℕ) (i : ℕ) → i < length ys → ((k : ℕ) → k < i → get_or ys k 0 < x) → get_or ys i 0 ≡ x → put x ys ≡ ys
 put_there x [] i l before here = absurd (omega arith)
 put_there x (y ∷ ys) zero l before here =

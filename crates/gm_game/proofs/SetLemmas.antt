@@ -117,7 +117,7 @@ place_none : (p q : Position) (qs : List Position) → is_before q p ≡ false �
 place_none p q qs b =
     let m = prefix_len (λ (x : Position). is_before x p) qs in ap (λ (t : Bool). length (take (cond t (1 + m) 0) (q ∷ qs))) b
 
--- a position that stands at its place changes nothing
+-- a position that is at its place changes nothing
 pub with_there_at : (p : Position) (qs : List Position) → slice_get qs (place_in p qs) ≡ Some p → with_position p qs ≡ qs
 with_there_at p [] e = absurd (cc)
 with_there_at p (q ∷ qs) e =
@@ -201,7 +201,7 @@ no_longer xs ys up within =
     length-le_from_is_member is_same_equivalence xs ys (distinct xs up)
     (λ q h. (is_member-Decides is_same_decides ys q).1 (within q ((is_member-Decides is_same_decides xs q).0 h)))
 
--- and shorter, where it lacks one
+-- and shorter, if it lacks one
 pub shorter : (xs ys : List Position) (c : Position) → AreAscending xs → ((x : Position) → Contains xs x → Contains ys x) → Contains ys c →
     (Contains xs c → ⊥) → length xs + 1 ≤ length ys
 shorter xs ys c up within there absent =

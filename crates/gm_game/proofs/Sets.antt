@@ -8,7 +8,7 @@ use Rattle.gm_game.proofs.Lists.{map_in, map_from}
 use Rattle.gm_game.proofs.Within.{IsWithin, least_in, least_from, all_won_in, all_won_from}
 use Rattle.gm_game.proofs.Settled.{settled_open}
 
--- the record that children's records give depends on the members alone
+-- the record that children's records give depends on the members only
 within_same : (a b : Option ℕ) → ((n : ℕ) → IsWithin a n ↔ IsWithin b n) → a ≡ b
 within_same None None h = refl
 within_same None (Some k) h = absurd ((h k).1 (omega arith))

@@ -19,7 +19,7 @@ IsPlaceBefore WinLose m Ties n = Unit {0}
 IsPlaceBefore Ties m WinLose n = ⊥
 IsPlaceBefore Ties m Ties n = m < n
 
--- p stands somewhere before this place; p stands at or before (phase, n) where it stands before (phase, n + 1)
+-- p is somewhere before this place; p is at or before (phase, n) if it is before (phase, n + 1)
 pub record StandsBefore (r : Rules) (phase : Phase) (n : ℕ) (p : Position) : Type 0 where
   pub own_phase : Phase
   pub own_level : ℕ
@@ -30,7 +30,7 @@ pub record StandsBefore (r : Rules) (phase : Phase) (n : ℕ) (p : Position) : T
 abbrev pub IsNear : Rules → ℕ → Position → Type 0
 IsNear r tier c = IsCanonical r c × IsTierOrChild r tier c.tier
 
--- a canonical legal position of the tier or of one of its child tiers, which stands at the place: F(place, tier)
+-- a canonical legal position of the tier or of one of its child tiers, which is at the place: F(place, tier)
 abbrev pub IsAtLevel : Rules → ℕ → Phase → ℕ → Position → Type 0
 IsAtLevel r tier phase n c = IsCanonical r c × IsTierOrChild r tier c.tier × StandsAt r phase n c
 

@@ -9,7 +9,7 @@ use Rattle.gm_game.specs.Rules.{Rules}
 abbrev pub is_plain : ℕ → Bool
 is_plain c = nat_le 32 c && nat_le c 126
 
--- a text of visible ASCII characters and spaces alone
+-- a text of visible ASCII characters and spaces only
 abbrev pub IsPlain : List ℕ → Type 0
 IsPlain text = list_all is_plain text ≡ true
 

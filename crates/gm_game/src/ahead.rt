@@ -63,7 +63,7 @@ fn greater(a: Option<u32>, b: Option<u32>) -> Option<u32>
     }
 }
 
-// This value, with a remoteness greater by one than the given one.
+// Returns this value, with a remoteness greater by one than the given one.
 fn one_move_more(value: Value, remoteness: u32) -> Solved
     requires { remoteness + 1 < 2 ^ 32 }
     ensures { result ≡ solved value (remoteness + 1) }
@@ -74,8 +74,8 @@ fn one_move_more(value: Value, remoteness: u32) -> Solved
     }
 }
 
-// What is decided by the least remoteness of a Lose child, the greatest of a Win child and the least of a Tie child; the last decides only if all children
-// are known.
+// Returns what is decided by the least remoteness of a Lose child, the greatest of a Win child and the least of a Tie child; the last decides only if all
+// children are known.
 fn choose(lost: Option<u32>, won: Option<u32>, known: bool, tied: Option<u32>) -> Option<Solved>
     requires lost_fits { IfSome lost (λ k. k + 1 < 2 ^ 32) }
     requires won_fits { IfSome won (λ k. k + 1 < 2 ^ 32) }
@@ -92,8 +92,8 @@ fn choose(lost: Option<u32>, won: Option<u32>, known: bool, tied: Option<u32>) -
     }
 }
 
-/// The true value and remoteness of p, where looking n moves ahead decides them. `None` says that p neither wins nor loses within n moves, and that some line
-/// of play is longer.
+/// Returns the true value and remoteness of p, where looking n moves ahead decides them. `None` means that p neither wins nor loses within n moves, and that
+/// some line of play is longer.
 ///
 /// This is the slow forward evaluator: it knows no canonical position and no table, and its time grows with the number of lines of play.
 pub fn within<G: Game>(p: Position, n: u32) -> Option<Solved>
@@ -104,7 +104,7 @@ pub fn within<G: Game>(p: Position, n: u32) -> Option<Solved>
     look_ahead::<G>(p, n)
 }
 
-// What is known of p within n moves.
+// Returns the value of p as far as n moves decide it.
 fn look_ahead<G: Game>(p: Position, n: u32) -> Option<Solved>
     requires { G.rules.is_legal p ≡ true }
     ensures { result ≡ evaluated G.rules n p }

@@ -4,7 +4,7 @@ ghost use Rattle.gm_game.specs.Records.{from_end};
 
 use crate::position::{End, Solved, Value};
 
-/// The value of a position in which the game has ended.
+/// Returns the value of a position in which the game has ended.
 pub fn of_end(end: End) -> Solved
     ensures { result ≡ from_end end }
 {

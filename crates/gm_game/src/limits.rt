@@ -40,7 +40,7 @@ pub struct Limits {
 }
 
 impl Limits {
-    /// The limits, stated by the contract as numbers, those of docs/DEFINITIONS.md, and as the constants above.
+    /// Returns the limits, stated by the contract as numbers, those of docs/DEFINITIONS.md, and as the constants above.
     pub fn all() -> Limits
         ensures moves { result.moves ≡ 128 }
         ensures parents { result.parents ≡ 128 }

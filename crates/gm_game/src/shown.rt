@@ -20,22 +20,22 @@ pub trait Shown: Game {
     /// The text of a move from a position.
     ghost move_shown: { Position → ℕ → List ℕ };
 
-    /// The text of a legal position.
+    /// Returns the text of a legal position.
     fn show(p: Position) -> Line
         requires { Self.rules.is_legal p ≡ true }
         ensures { result.items ≡ shown p };
 
-    /// The legal position with this text, if there is one. Any bytes may be given.
+    /// Returns the legal position with this text, if there is one. Any bytes may be given.
     fn read(text: &[u8]) -> Option<Position>
         ensures { (p : Position) → (result ≡ Some p) ↔ ((Self.rules.is_legal p ≡ true) × (shown p ≡ text.now)) };
 
-    /// The text of a move from a legal position.
+    /// Returns the text of a move from a legal position.
     fn move_text(p: Position, m: u32) -> Line
         requires legal { Self.rules.is_legal p ≡ true }
         requires listed { Contains (Self.rules.moves p) m }
         ensures { result.items ≡ move_shown p m };
 
-    /// The move from a legal position with this text, if there is one. Any bytes may be given.
+    /// Returns the move from a legal position with this text, if there is one. Any bytes may be given.
     fn read_move(p: Position, text: &[u8]) -> Option<u32>
         requires { Self.rules.is_legal p ≡ true }
         ensures { (m : ℕ) → (result ≡ Some m) ↔ (Contains (Self.rules.moves p) m × (move_shown p m ≡ text.now)) };

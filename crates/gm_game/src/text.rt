@@ -39,7 +39,7 @@ fn words(value: Value) -> &'static [u8]
     }
 }
 
-/// The text of a value: `win in 7`, `lose in 4`, `tie in 9` or `draw`.
+/// Returns the text of a value: `win in 7`, `lose in 4`, `tie in 9` or `draw`.
 pub fn value_text(solved: Solved) -> Line
     ensures { result.items ≡ text_of solved }
 {
@@ -51,7 +51,7 @@ pub fn value_text(solved: Solved) -> Line
     line
 }
 
-// The number that std reads from the text, which may have a sign or leading zeros.
+// Returns the number that std reads from the text, which may have a sign or leading zeros.
 fn parsed(text: &[u8]) -> Option<u64>
     ensures { (n : ℕ) → n < 2 ^ 64 → decimal n ≡ text.now → result ≡ Some n }
 {
@@ -61,7 +61,7 @@ fn parsed(text: &[u8]) -> Option<u64>
     }
 }
 
-// Whether the text is this number in decimal.
+// Returns whether the text is this number in decimal.
 fn is_written(number: u64, text: &[u8]) -> bool
     ensures { IsTrue result ↔ (decimal number ≡ text.now) }
 {
@@ -70,7 +70,7 @@ fn is_written(number: u64, text: &[u8]) -> bool
     line.as_slice() == text
 }
 
-/// The number below 2^64 whose decimal form, without sign or leading zeros, is this text, if there is one. Any bytes may be given.
+/// Returns the number below 2^64 whose decimal form, without sign or leading zeros, is this text, if there is one. Any bytes may be given.
 pub fn read_decimal(text: &[u8]) -> Option<u64>
     ensures { (n : ℕ) → (result ≡ Some n) ↔ ((n < 2 ^ 64) × (decimal n ≡ text.now)) }
 {

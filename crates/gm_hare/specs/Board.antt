@@ -132,7 +132,7 @@ mirror_point k = slice_index_or mirror k 0
 abbrev pub mirrored : Hunt → Hunt
 mirrored b = record { hounds_move = b.hounds_move; hounds = permute false mirror b.hounds; hare = mirror_point b.hare }
 
--- 0 where the hounds move, 1 where the hare does
+-- 0 if the hounds move, 1 if the hare does
 abbrev pub turn_of : Bool → ℕ
 turn_of hounds_move = if hounds_move then 0 else 1
 

@@ -6,7 +6,7 @@ use Rattle.gm_pieces.specs.Steps.{from_point, to_point}
 use Rattle.gm_hare.specs.declared.hunt.Hunt.{Hunt}
 use Rattle.gm_hare.specs.Board.{has_hound, hunt_board}
 
--- the byte at a place of a text: for each point `d` for a hound, `h` for the hare, `.` where it is empty; then a space, and `d` or `h` for who moves
+-- the byte at a place of a text: for each point `d` for a hound, `h` for the hare, `.` if it is empty; then a space, and `d` or `h` for who moves
 abbrev pub hunt_char : Hunt → ℕ → ℕ
 hunt_char b k =
     if k == 11 then 32

@@ -12,7 +12,7 @@ use gm_pieces::step::Step;
 /// All numbers of moves are below this.
 pub const NUMBERS: u32 = 176;
 
-// Whether a point is empty.
+// Returns whether a point is empty.
 fn is_free(board: &Hunt, point: u32) -> bool
     requires { point < 11 }
     ensures { result ≡ is_free_of board.now point }
@@ -20,7 +20,7 @@ fn is_free(board: &Hunt, point: u32) -> bool
     !board.hounds[point as usize] && point != board.hare
 }
 
-// Whether a piece of the side to move can go from one point to another: a hound can't go back, and the hare can go along any edge.
+// Returns whether a piece of the side to move can go from one point to another: a hound can't go back, and the hare can go along any edge.
 #[tactic(auto, using(crate::specs::laws::PointFacts::joined_from, crate::specs::laws::PointFacts::joined_to))]
 fn can_go(board: &Hunt, from: u32, to: u32) -> bool
     ensures { result ≡ can_go_of board.now from to }
@@ -38,7 +38,7 @@ fn can_go(board: &Hunt, from: u32, to: u32) -> bool
     }
 }
 
-/// Whether the move with this number could be made if the game were not over.
+/// Returns whether the move with this number could be made if the game were not over.
 #[tactic(auto, unfolding(crate::specs::Board::can_move))]
 pub fn can_move(board: &Hunt, number: u32) -> bool
     ensures { result ≡ can_move_of board.now number }
@@ -47,7 +47,7 @@ pub fn can_move(board: &Hunt, number: u32) -> bool
     can_go(board, step.from, step.to)
 }
 
-// The board after a piece of the side to move has gone from one point to another.
+// Returns the board after a piece of the side to move has gone from one point to another.
 #[tactic(auto, using(crate::specs::laws::PointFacts::joined_from, crate::specs::laws::PointFacts::joined_to))]
 fn gone(board: &Hunt, from: u32, to: u32) -> Hunt
     requires { are_joined_of from to ≡ true }
@@ -71,7 +71,7 @@ fn gone(board: &Hunt, from: u32, to: u32) -> Hunt
     }
 }
 
-/// The board after a move.
+/// Returns the board after a move.
 #[tactic(auto, using(crate::specs::laws::MoveFacts::move_joined), unfolding(crate::specs::Board::play))]
 pub fn play(board: &Hunt, number: u32) -> Hunt
     requires { can_move_of board.now number ≡ true }
@@ -81,7 +81,7 @@ pub fn play(board: &Hunt, number: u32) -> Hunt
     gone(board, step.from, step.to)
 }
 
-// Whether a piece of the side that moved last can have gone from one point to another.
+// Returns whether a piece of the side that moved last can have gone from one point to another.
 #[tactic(auto, using(crate::specs::laws::PointFacts::joined_from, crate::specs::laws::PointFacts::joined_to))]
 fn can_have_gone(board: &Hunt, from: u32, to: u32) -> bool
     ensures { result ≡ can_have_gone_of board.now from to }
@@ -99,7 +99,7 @@ fn can_have_gone(board: &Hunt, from: u32, to: u32) -> bool
     }
 }
 
-/// Whether the move with this number can have led to the board.
+/// Returns whether the move with this number can have led to the board.
 #[tactic(auto, unfolding(crate::specs::Board::can_have_led_here))]
 pub fn can_have_led_here(board: &Hunt, number: u32) -> bool
     ensures { result ≡ was_moved_of board.now number }
@@ -108,7 +108,7 @@ pub fn can_have_led_here(board: &Hunt, number: u32) -> bool
     can_have_gone(board, step.from, step.to)
 }
 
-// The board before a piece of the side that moved last went from one point to another.
+// Returns the board before a piece of the side that moved last went from one point to another.
 #[tactic(auto, using(crate::specs::laws::PointFacts::joined_from, crate::specs::laws::PointFacts::joined_to))]
 fn back(board: &Hunt, from: u32, to: u32) -> Hunt
     requires { are_joined_of from to ≡ true }
@@ -132,7 +132,7 @@ fn back(board: &Hunt, from: u32, to: u32) -> Hunt
     }
 }
 
-/// The board before a move with this number.
+/// Returns the board before a move with this number.
 #[tactic(auto, unfolding(crate::specs::Board::undo))]
 pub fn undo(board: &Hunt, number: u32) -> Hunt
     requires { is_step number ≡ true }

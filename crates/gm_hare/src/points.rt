@@ -5,7 +5,7 @@ ghost use Rattle.gm_hare.specs.Board.{column as column_of, edges, are_joined as 
 /// The column of each point.
 const COLUMNS: [u32; 11] = [0, 1, 1, 1, 2, 2, 2, 3, 3, 3, 4];
 
-/// The column of a point.
+/// Returns the column of a point.
 #[tactic(auto, unfolding(crate::specs::Board::column))]
 pub fn column(point: u32) -> u32
     requires { point < 11 }
@@ -14,7 +14,7 @@ pub fn column(point: u32) -> u32
     COLUMNS[point as usize]
 }
 
-// The points that an edge joins to a point: none if there is no such point.
+// Returns the points that an edge joins to a point: none if there is no such point.
 fn neighbors(point: u32) -> &'static [u32]
     ensures { result.now ≡ slice_index_or edges point [] }
 {
@@ -34,7 +34,7 @@ fn neighbors(point: u32) -> &'static [u32]
     }
 }
 
-/// Whether an edge joins the two points.
+/// Returns whether an edge joins the two points.
 #[tactic(auto, using(gm_board::specs::laws::Filters::listed_test), unfolding(crate::specs::Board::are_joined))]
 pub fn are_joined(a: u32, c: u32) -> bool
     ensures { result ≡ are_joined_of a c }
@@ -42,7 +42,7 @@ pub fn are_joined(a: u32, c: u32) -> bool
     neighbors(a).contains(&c)
 }
 
-/// Whether the second point is in the next column or in the column of the first.
+/// Returns whether the second point is in the next column or in the column of the first.
 #[tactic(auto, using(crate::proofs::PointSteps::column_small), unfolding(crate::specs::Board::is_ahead))]
 pub fn is_ahead(a: u32, c: u32) -> bool
     requires from { a < 11 }

@@ -11,7 +11,7 @@ use gm_game::text::push_text;
 use gm_pieces::step::Step;
 use gm_pieces::text::has_mark;
 
-// The byte at a place of a board's text: for each point what is there, then a space, then who moves.
+// Returns the byte at a place of a board's text: for each point its mark, then a space, then the side to move.
 fn hunt_byte(board: &Hunt, place: usize) -> u8
     requires { place < 13 }
     ensures { result ≡ hunt_char board.now place }
@@ -29,8 +29,8 @@ fn hunt_byte(board: &Hunt, place: usize) -> u8
     }
 }
 
-/// The text of a board: its points in order, `d` for a hound, `h` for the hare and `.` for an empty point; a space; `d` or `h` for who moves (docs/GAMES.md,
-/// Hare and Hounds).
+/// Returns the text of a board: its points in order, `d` for a hound, `h` for the hare and `.` for an empty point; a space; `d` or `h` for who moves
+/// (docs/GAMES.md, Hare and Hounds).
 #[tactic(auto, using(crate::proofs::HoundSteps::chars_more, crate::proofs::HoundSteps::chars_few), unfolding(crate::specs::Texts::hunt_text))]
 pub fn hunt_text(board: &Hunt) -> Line
     ensures { result.items ≡ hunt_text_of board.now }
@@ -42,7 +42,7 @@ pub fn hunt_text(board: &Hunt) -> Line
     line
 }
 
-// The point at which a text has the hare: 0 if it has none.
+// Returns the point at which a text has the hare: 0 if it has none.
 #[tactic(auto, using(crate::specs::laws::TextLaws::hare_found, crate::specs::laws::TextLaws::hare_somewhere))]
 fn hare_in(text: &[u8]) -> u32
     ensures { (b : Hunt) → legal b ≡ true → hunt_text_of b ≡ text.now → b.hare ≡ result }
@@ -55,7 +55,7 @@ fn hare_in(text: &[u8]) -> u32
     0
 }
 
-// The points at which a text has a hound.
+// Returns the points at which a text has a hound.
 fn hounds_in(text: &[u8]) -> [bool; 11]
     ensures { (j : ℕ) → j < 11 → slice_index_or result j false ≡ (slice_index text.now j == 100) }
 {
@@ -66,7 +66,7 @@ fn hounds_in(text: &[u8]) -> [bool; 11]
     hounds
 }
 
-/// The board that has this text, if there is one. Any bytes may be given.
+/// Returns the board that has this text, if there is one. Any bytes may be given.
 pub fn hunt_in(text: &[u8]) -> Hunt
     ensures { (b : Hunt) → legal b ≡ true → hunt_text_of b ≡ text.now → b ≡ result }
 {
@@ -77,7 +77,7 @@ pub fn hunt_in(text: &[u8]) -> Hunt
     }
 }
 
-// The name of a point.
+// Returns the name of a point.
 fn point_name(point: u32) -> &'static [u8]
     ensures name { result.now ≡ slice_index_or names point [] }
     ensures short { length result.now ≤ 2 }
@@ -98,7 +98,7 @@ fn point_name(point: u32) -> &'static [u8]
     }
 }
 
-/// The text of a move: the names of the two points with `-` between them (docs/GAMES.md, Hare and Hounds).
+/// Returns the text of a move: the names of the two points with `-` between them (docs/GAMES.md, Hare and Hounds).
 #[tactic(auto, unfolding(crate::specs::Texts::step_text, crate::specs::Texts::point_name))]
 pub fn step_text(number: u32) -> Line
     ensures { result.items ≡ step_text_of number }

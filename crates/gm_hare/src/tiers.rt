@@ -5,14 +5,14 @@ ghost use Rattle.gm_hare.specs.laws.HareLaws.{tier_size_of, child_tiers_of, tier
 use arrayvec::ArrayVec;
 use gm_game::limits::CHILD_TIERS;
 
-/// How many indexes a tier has: 3,630 for tiers 2 to 10, else 0.
+/// Returns how many indexes a tier has: 3,630 for tiers 2 to 10, else 0.
 pub fn tier_size(tier: u64) -> u64
     ensures { result ≡ tier_size_of tier }
 {
     if 2 <= tier && tier <= 10 { 3630 } else { 0 }
 }
 
-/// The tier that a hound's move to the next column leads to.
+/// Returns the tier that a hound's move to the next column leads to.
 pub fn child_tiers(tier: u64) -> ArrayVec<u64, CHILD_TIERS>
     ensures { result.items ≡ child_tiers_of tier }
 {
@@ -23,7 +23,7 @@ pub fn child_tiers(tier: u64) -> ArrayVec<u64, CHILD_TIERS>
     list
 }
 
-/// 10 minus the tier for tiers 2 to 10, else 0.
+/// Returns 10 minus the tier for tiers 2 to 10, else 0.
 pub fn tier_rank(tier: u64) -> u64
     ensures { result ≡ tier_rank_of tier }
 {

@@ -16,11 +16,11 @@ use Rattle.gm_json.specs.Words.{whole, text}
 use Rattle.gm_json.specs.Moves.{move_trees, position_members}
 use Rattle.gm_json.specs.Extras.{extras, AreBestMoves}
 
--- how much of a line that is the text of no position is told
+-- how much of a line that is the text of no position is reported
 abbrev pub read_bytes : ℕ
 read_bytes = 64
 
--- what is told of a line that is the text of no position: its number, and what was read
+-- what is reported of a line that is the text of no position: its number, and what was read
 abbrev pub unread_tree : ℕ → List ℕ → Data
 unread_tree n read =
     object (member (codes "error") (string (codes "no such position"))
@@ -31,14 +31,14 @@ abbrev pub error_tree : ℕ → List ℕ → Data
 error_tree n line = unread_tree n (take read_bytes line)
 
 module _ (r : Rules) (shown : Position → List ℕ) (move_shown : Position → ℕ → List ℕ) (asked : Asked) where
-  -- what is told of a position: its moves unless its value alone is asked for, its value and its remoteness, and then more
+  -- what is reported of a position: its moves unless its value alone is asked for, its value and its remoteness, and then more
   abbrev pub answer_members : Position → Solved → List MoveValue → Members → Members
   answer_members p s xs more =
       if asked.values then position_members r shown move_shown p s more else member (codes "moves") (move_trees r shown move_shown p xs)
       (position_members r shown move_shown p s more)
 
   module _ (tiers : List ℕ) where
-    -- what is told of a position with its true value, these moves of it, and more
+    -- what is reported of a position with its true value, these moves of it, and more
     pub record IsTold (p : Position) (xs : List MoveValue) (out : List ℕ) : Type 0 where
       pub value : Solved
       pub is_true : IsTrueValue r p value
@@ -46,7 +46,7 @@ module _ (r : Rules) (shown : Position → List ℕ) (move_shown : Position → 
       pub along : asked.with.best ≡ true → AreBestMoves r p best
       pub out_is : out ≡ compact_text (object (answer_members p value xs (extras r shown move_shown asked.with tiers p best)))
 
-    -- what is asked for of the position with this text: its true value, its moves, the best first, and more
+    -- the answer for the position with this text: its true value, its moves, the best first, and more
     pub record IsPositionJson (line out : List ℕ) : Type 0 where
       pub position : Position
       pub read : IsReadAs r shown move_shown line position
@@ -59,7 +59,7 @@ module _ (r : Rules) (shown : Position → List ℕ) (move_shown : Position → 
       pub out_is : out ≡ compact_text (object (answer_members position value (chosen r asked.distinct list)
           (extras r shown move_shown asked.with tiers position best)))
 
-    -- the answer to the line with this number: what is asked for of the position, or that there is no such position
+    -- the answer to the line with this number: the answer for the position, or that there is no such position
     abbrev pub IsAnswer : List ℕ → ℕ → List ℕ → Type 0
     IsAnswer line n out = IsPositionJson (without_return line) out
         ⊎ (IsNoPosition r shown move_shown (without_return line) × (out ≡ compact_text (error_tree n (without_return line))))

@@ -1,4 +1,4 @@
--- What is told of a position beside its value and its moves.
+-- What is reported of a position besides its value and its moves.
 use Rattle.std.specs.Prelude.{◌≡◌, ℕ, zero, suc, ◌+◌, Bool, true, false, List, [], ◌∷◌, ◌++◌, map, codes, if◌then◌else◌}
 use Rattle.std.specs.List.{flat_map}
 use Rattle.serde_json.specs.Data.{Data, array, object, Members, member, no_members}
@@ -20,12 +20,12 @@ most_moves = 18446744073709551615
 abbrev pub member_if : Bool → List ℕ → Data → Members → Members
 member_if asked k d more = if asked then member k d more else more
 
--- the text goes on by a member where that is asked for: whatever members follow
+-- the text goes on by a member if that is wanted: whatever members follow
 abbrev pub AddsMember : Bool → List ℕ → Data → List ℕ → List ℕ → Type 0
 AddsMember asked k d old new = (more : Members) → new ++ members_text true more ≡ old ++ members_text true (member_if asked k d more)
 
 module _ (shown : Position → List ℕ) where
-  -- a canonical position, with where it stands; the members in alphabetical order
+  -- a canonical position, with its place; the members in alphabetical order
   abbrev pub canonical_tree : Position → Data
   canonical_tree c =
       object (member (codes "index") (whole c.index)
@@ -44,7 +44,7 @@ module _ (r : Rules) where
   abbrev pub is_of_class : Position → Position → Bool
   is_of_class c p = if r.is_legal p then is_same (r.canonical p) c else false
 
-  -- how many of the first indexes of c's tier are those of positions for which c stands
+  -- how many of the first indexes of c's tier are those of positions that c represents
   abbrev pub class_below : Position → ℕ → ℕ
   class_below c zero = 0
   class_below c (suc n) = class_below c n + (if is_of_class c (at c.tier n) then 1 else 0)
@@ -54,7 +54,7 @@ module _ (r : Rules) where
   class_size c = class_below c (r.tier_size c.tier)
 
 module _ (r : Rules) (shown : Position → List ℕ) where
-  -- what is asked for of a canonical position, in this order, and then more
+  -- the answer for a canonical position, in this order, and then more
   abbrev pub around : With → List ℕ → Position → Members → Members
   around w tiers c more =
       member_if w.canonical (codes "canonical") (canonical_tree shown c)
@@ -67,7 +67,7 @@ module _ (r : Rules) (shown : Position → List ℕ) (move_shown : Position → 
   move_texts_along p [] = []
   move_texts_along p (m ∷ ms) = text (move_shown p m) ∷ move_texts_along (r.play p m) ms
 
-  -- what is asked for of a position
+  -- the answer for a position
   abbrev pub extras : With → List ℕ → Position → List ℕ → Members
   extras w tiers p best = around r shown w tiers (r.canonical p) (member_if w.best (codes "best") (array (items_of (move_texts_along p best))) no_members)
 

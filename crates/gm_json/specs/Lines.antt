@@ -12,7 +12,7 @@ use Rattle.gm_play.specs.BestLines.{IsBestLine, IsWhole}
 use Rattle.gm_play.specs.PlayTexts.{value_word, after_best, IsReadAs}
 use Rattle.gm_json.specs.Words.{whole, text, line_of}
 
--- the tree that tells where the last position has come before
+-- the tree with the place where the last position has come before
 abbrev pub again_tree : ℕ → Data
 again_tree k = object (member (codes "again") (whole k) no_members)
 

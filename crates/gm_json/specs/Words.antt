@@ -12,7 +12,7 @@ whole n = number (unsigned n)
 abbrev pub text : List ℕ → Data
 text bs = string (utf8_lossy bs)
 
--- a move of p, and null where there is none
+-- a move of p, and null if there is none
 abbrev pub move_or_null : (Position → ℕ → List ℕ) → Position → Option ℕ → Data
 move_or_null move_shown p None = null
 move_or_null move_shown p (Some m) = text (move_shown p m)

@@ -27,9 +27,9 @@ use std::alloc::{AllocError, Global};
 // The number of bytes that are repeated of a line that is the text of no position.
 const READ: usize = 64;
 
-/// The answer to the line with this number: what is asked for of the position with this text, or that there is no such position, with the first 64 bytes of the
-/// line. A carriage return at the end of the line is no part of it. Parents are looked for in these tiers. `NotHeld` comes exactly if the tier of the
-/// position has no table.
+/// Returns the answer to the line with this number: the answer for the position with this text, or the error that there is no such position, with the first 64
+/// bytes of the line. A carriage return at the end of the line is no part of it. Parents are looked for in these tiers. `NotHeld` comes exactly if the tier of
+/// the position has no table.
 pub fn ask_line<G: Shown>(
     alloc: Global,
     tables: &Closed<'_, G>,
@@ -73,7 +73,7 @@ fn position_json<G: Shown>(
     whole_json(alloc, known, tiers, asked, list.as_slice())
 }
 
-// A position with some of its moves, and with what else is asked for.
+// Returns a position with some of its moves, and with what else is asked for.
 fn whole_json<G: Shown>(
     alloc: Global,
     known: &Known<'_, G>,
@@ -113,7 +113,7 @@ fn push_front<G: Shown>(
     push_value::<G>(alloc, out, true, p, value)
 }
 
-// The answer to a line that is the text of no position.
+// Returns the answer to a line that is the text of no position.
 fn no_position(alloc: Global, number: u64, line: &[u8]) -> Result<Vec<u8>, AllocError>
     ensures { IfOk result (λ out. out.items ≡ compact_text (error_tree number line.now)) }
 {
@@ -122,7 +122,7 @@ fn no_position(alloc: Global, number: u64, line: &[u8]) -> Result<Vec<u8>, Alloc
     Ok(out)
 }
 
-// The first bytes of a line.
+// Returns the first bytes of a line.
 fn first_bytes(line: &[u8]) -> &[u8]
     ensures { result.now ≡ take read_bytes line.now }
 {

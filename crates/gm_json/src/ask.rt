@@ -1,4 +1,4 @@
-//! A service that reads positions, a line each, and answers each with a line of JSON.
+//! A service that reads positions, one per line, and answers each with a line of JSON.
 ghost use Rattle.std.specs.Prelude.{◌≡◌, ◌+◌, ◌≤◌, ◌<◌, ◌^◌, ◌∷◌, ◌++◌, [], List, ℕ, Option, codes, length, IfOk, OnOk, OnErr, IfErr, IsErrOf};
 ghost use Rattle.std.specs.Io.KnownBytes.{Appends, Consumes, Keeps, IsAtEnd};
 ghost use Rattle.gm_game.specs.declared.position.Position.{Position};
@@ -39,7 +39,7 @@ struct Hand {
     answers: Vec<u8>,
 }
 
-/// Reads positions, a line each, and answers each with one line of JSON: the position with its value and the other parts of the query, or `{"error":"no such
+/// Reads positions, one per line, and answers each with one line of JSON: the position with its value and the other parts of the query, or `{"error":"no such
 /// position","line":N,"read":".."}` with the number of the line, from 1, and its first 64 bytes. A carriage return before the end of a line is no part of it;
 /// the last line needs no line end. Parents are looked for in these tiers.
 ///
@@ -222,7 +222,7 @@ fn next_line<W: Write>(hand: &mut Hand, output: &mut W) -> Result<(), AskError>
     flush(&mut hand.answers, output)
 }
 
-// Answers the line at hand, if there is one, where the input ends.
+// Answers the line at hand, if there is one, at the end of the input.
 fn answer_last<G: Shown, W: Write>(
     alloc: Global,
     tables: &Closed<'_, G>,
@@ -269,7 +269,7 @@ fn take_answer<G: Shown>(
     }
 }
 
-// The answer to a line, with its end.
+// Returns the answer to a line, with its end.
 fn answer_line<G: Shown>(
     alloc: Global,
     tables: &Closed<'_, G>,

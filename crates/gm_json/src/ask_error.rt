@@ -22,7 +22,7 @@ pub enum AskError {
 }
 
 impl AskError {
-    /// The number of the error.
+    /// Returns the number of the error.
     pub fn number(&self) -> u8
         ensures { result ≡ number_of self.now }
     {

@@ -1,6 +1,6 @@
-//! What is asked of a position.
+//! The members that an answer has.
 
-/// What is told of a position beside its value and its moves.
+/// The members of an answer besides the value and the moves.
 #[derive(Clone, Copy, Debug, PartialEq, Eq)]
 pub struct With {
     /// The canonical position: its index, its text and its tier.
@@ -13,7 +13,7 @@ pub struct With {
     pub best: bool,
 }
 
-/// What is asked of a position.
+/// The members that an answer has.
 #[derive(Clone, Copy, Debug, PartialEq, Eq)]
 pub struct Asked {
     /// Its value and remoteness without its moves.

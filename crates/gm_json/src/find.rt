@@ -36,7 +36,7 @@ pub fn find_json<G: Shown>(
     found_lines::<G>(alloc, found.as_slice())
 }
 
-/// The lines of found positions, as `find_json` has them.
+/// Returns the lines of found positions, as `find_json` has them.
 pub fn found_lines<G: Shown>(alloc: Global, found: &[Found]) -> Result<Vec<u8>, AllocError>
     requires { All (IsFound G.Game.rules) found.now }
     ensures { IfOk result (λ v. v.items ≡ flat_map (found_line G.shown G.move_shown) found.now) }
@@ -76,7 +76,7 @@ fn put_found<G: Shown>(
     put_word(alloc, members, "value", word_of(x.value.value))
 }
 
-// A best move; null at an end.
+// Returns a best move; null at an end.
 fn best_value<G: Shown>(alloc: Global, p: Position, best: Option<u32>) -> Result<Json, AllocError>
     requires legal { G.Game.rules.is_legal p ≡ true }
     requires best { IsBestMove G.Game.rules p best }

@@ -17,9 +17,9 @@ use gm_play::texts::{value_after, word_of};
 use serde_json::{Map, Value as Json, json, put};
 use std::alloc::{AllocError, Global};
 
-/// The line of best play from a position as lines of compact JSON, each with its end: the move (`null` at first), the position, its remoteness and its value,
-/// the members in alphabetical order; and at the end of a draw `{"again":K}` with the number of the line, from 0, in which the last position stood before. At
-/// most `limit` moves are made.
+/// Returns the line of best play from a position as lines of compact JSON, each with its end: the move (`null` at first), the position, its remoteness and its
+/// value, the members in alphabetical order; and at the end of a draw `{"again":K}` with the number of the line, from 0, in which the last position stood
+/// before. At most `limit` moves are made.
 pub fn line_json<G: Shown>(
     alloc: Global,
     start: &Known<'_, G>,
@@ -37,7 +37,7 @@ pub fn line_json<G: Shown>(
     )
 }
 
-// The lines of best moves from a position of this value.
+// Returns the lines of best moves from a position of this value.
 fn line_lines<G: Shown>(
     alloc: Global,
     start: Position,

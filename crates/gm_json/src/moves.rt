@@ -17,9 +17,9 @@ use gm_play::firsts::moves_of;
 use gm_play::move_values::MoveValue;
 use std::alloc::{AllocError, Global};
 
-/// Returns a position as one line of compact JSON, without its end: its value and remoteness, and its moves, the best first, each with what it is worth, its
-/// result, the result's value and remoteness, and the remoteness counted from before the move. If `distinct` is set, only the first of several moves that lead
-/// to one canonical position is kept.
+/// Returns a position as one line of compact JSON, without its end: its value and remoteness, and its moves, the best first, each with its worth, its result,
+/// the result's value and remoteness, and the remoteness counted from before the move. If `distinct` is set, only the first of several moves that lead to one
+/// canonical position is kept.
 pub fn moves_json<G: Shown>(
     alloc: Global,
     known: &Known<'_, G>,

@@ -16,7 +16,7 @@ use gm_play::texts::word_of;
 use itoa::Buffer;
 use std::alloc::{AllocError, Global};
 
-// Whether a byte stands for itself in a string.
+// Returns whether a byte stands for itself in a string.
 fn is_clear(byte: u8) -> bool
     ensures { result ≡ is_clear_spec byte }
 {

@@ -9,7 +9,7 @@ ghost use Rattle.gm_json.specs.Words.{line_of};
 use serde_json::{Map, Value as Json, put};
 use std::alloc::{AllocError, Global};
 
-/// A text.
+/// Returns a text.
 pub(crate) fn text_value(alloc: Global, text: &[u8]) -> Result<Json, AllocError>
     ensures { IfOk result (λ v. view v ≡ string (utf8_lossy text.now)) }
 {

@@ -1,4 +1,4 @@
--- A pass is full exactly where it has delivered all pairs of the level.
+-- A pass is full exactly if it has delivered all pairs of the level.
 use Rattle.std.proofs.Common.{◌≡◌, ℕ, ◌+◌, ◌↔◌, inl, inr, length, List, sym, subst, arith, Some, Option, IsTrue, ◌==◌}
 use Rattle.std.proofs.lemmas.Bool.Decides.{Decides-eqb}
 use Rattle.gm_game.specs.declared.position.Phase.{Phase}
@@ -23,7 +23,7 @@ there_once Is m n (xs, long, first) (ys, wide, second) =
     let b = no_longer ys xs (no_repeats_from ys second.once) (λ x h. (first.each x).0 ((second.each x).1 h)) in
     omega arith
 
--- what stands before the next place is what stands at this one or before
+-- what is before the next place is what is at this one or before
 after_level : (r : Rules) → IsGame r → (tier lo hi : ℕ) (place : Place) (phase : Phase) (level number : ℕ) → Follows r tier (Some place) phase level
     → IsNumberBefore r tier lo hi place.phase (place.level + 1) number → IsNumberBefore r tier lo hi phase level number
 after_level r g tier lo hi place phase level number (inl (same, n)) h =

@@ -316,7 +316,7 @@ begun_pieced r g spot notes size base n d level some pieces at none zeros clear 
     all_same (suc n) zero x = refl
     all_same (suc n) (suc i) x = all_same n i x
 
--- where each pair of the level is delivered, the level is whole
+-- if each pair of the level is delivered, the level is whole
 pub whole_all : (r : Rules) → IsGame r → (t : ShardState) (notes : List NoteData) → IsLevel r (place_of t) notes → IsGood r t
     → ((n : NoteData) (i : ℕ) → Contains notes n → Contains (r.parents n.position t.tier) i → t.lo ≤ i → i < t.lo + length t.delivered
     → Contains (delivered_to t i) n.position) → IsWhole r t
@@ -329,7 +329,7 @@ whole_all r g t notes level good all i c mine parent before = elim (split_level 
       subst (λ (q : Position). Contains (delivered_to t i) q) e (all note i among listed mine.0 mine.1))
 ]
 
--- where all pieces are delivered, the level is whole
+-- if all pieces are delivered, the level is whole
 pub pieces_whole : (r : Rules) → IsGame r → (spot : Spot) (notes : List NoteData) (size base : ℕ) (d : PiecedData)
     → IsPieced r spot notes size base d → IsGood r d.shard
     → ((p : ℕ) → p < div_ceil (length notes) size → get_or d.whole p false ≡ true) → IsWhole r d.shard

@@ -13,26 +13,26 @@ use Rattle.gm_game.specs.Places.{StandsAt, IsPlaceBefore, StandsBefore}
 use Rattle.gm_game.proofs.Basic.{HasValue_once}
 use Rattle.gm_frontier.specs.Notes.{phase_of}
 
--- a value that is no draw stands in its phase
+-- a value that is no draw is in its phase
 pub value_stands : (r : Rules) (p : Position) (v : Value) (n : ℕ) → HasValue r p v n → v ≢ Draw → StandsAt r (phase_of v) n p
 value_stands r p Lose n h some = inr h
 value_stands r p Draw n h some = absurd (some refl)
 value_stands r p Tie n h some = h
 value_stands r p Win n h some = inl h
 
--- what stands at a level has that remoteness
+-- what is at a level has that remoteness
 pub stands_remoteness : (r : Rules) (p : Position) (phase : Phase) (n : ℕ) (x : Solved) → StandsAt r phase n p → IsTrueValue r p x → x.remoteness ≡ n
 stands_remoteness r p WinLose n x (inl h) t = (HasValue_once r p x.value Win x.remoteness n t h).1
 stands_remoteness r p WinLose n x (inr h) t = (HasValue_once r p x.value Lose x.remoteness n t h).1
 stands_remoteness r p Ties n x h t = (HasValue_once r p x.value Tie x.remoteness n t h).1
 
--- what stands somewhere is no draw
+-- what is somewhere is no draw
 pub stands_no_draw : (r : Rules) (p : Position) (phase : Phase) (n : ℕ) → StandsAt r phase n p → HasValue r p Draw 0 → ⊥
 stands_no_draw r p WinLose n (inl h) d = let e = (HasValue_once r p Win Draw n 0 h d).0 in cc
 stands_no_draw r p WinLose n (inr h) d = let e = (HasValue_once r p Lose Draw n 0 h d).0 in cc
 stands_no_draw r p Ties n h d = let e = (HasValue_once r p Tie Draw n 0 h d).0 in cc
 
--- and what is no draw stands somewhere
+-- and what is no draw is somewhere
 pub value_place : (r : Rules) (p : Position) (v : Value) (n : ℕ) → HasValue r p v n → (HasValue r p Draw 0 → ⊥) → (phase : Phase) × StandsAt r phase n p
 value_place r p Lose n h some = (WinLose, inr h)
 value_place r p Draw n h some = absurd (some (subst (HasValue r p Draw) h.0 h))

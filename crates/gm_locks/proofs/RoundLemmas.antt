@@ -38,7 +38,7 @@ use Rattle.gm_locks.proofs.Places.{value_stands}
 use Rattle.gm_locks.proofs.Kept.{stays_delivered, new_delivered}
 use Rattle.gm_locks.proofs.Gains.{gained}
 
--- the item at a place of a list without repeats stands at no other place
+-- the item at a place of a list without repeats is at no other place
 pub item_in : {X : Type 0} (xs : List X) (k : ℕ) (x : X) → slice_get xs k ≡ Some x → Contains xs x
 item_in {X} xs k x e = subst (λ (u : X). Contains xs u) (get_or_from_slice_get xs k x x e) (Contains-get_or xs k x (slice_get_within xs k x e))
 
@@ -69,7 +69,7 @@ with_has s c parent m index d n h = elim (cases_eq index parent) [
       (get_or-set_other s.delivered (parent - s.lo) (index - s.lo) (with_position c (delivered_to s parent)) [] (λ e. o (omega arith))) h)
 ]
 
--- notes of different positions that stand at the spot's place
+-- notes of different positions that are at the spot's place
 pub record AreHere (r : Rules) (spot : Spot) (notes : List NoteData) : Type 0 where
   pub noted : (n : NoteData) → Contains notes n → IsNoteAt r (place_of_spot spot) n
   pub once : HasNoRepeats (positions notes)
@@ -118,7 +118,7 @@ module _ (r : Rules) (g : IsGame r) (spot : Spot) (notes : List NoteData) (here 
       item_once pairs (pairs_once r g spot.tier spot.lo spot.hi notes here.once (λ n l. (here.noted n l).note.canonical)) k j p a
       (subst (λ (x : NoteData × ℕ). slice_get pairs j ≡ Some x) (sym is) b)
 
-  -- its child stands at the shard's place
+  -- its child is at the shard's place
   stands_here : (s : ShardState) (pair : NoteData × ℕ) → IsDeliverable r s pair → StandsAt r s.phase s.level pair.0.position
   stands_here s pair d =
       let is = d.here.is_level in

@@ -60,7 +60,7 @@ pub record IsTurn (r : Rules) (pairs : List (NoteData × ℕ)) (piece to n : ℕ
   pub book : e.book ≡ d.book + n
   pub most : slice_index d.counts piece + n ≤ max (slice_index d.counts piece) to
 
--- one call at a good shard at the spot, which leaves a good one there; where it answers Ok the pairs up to the number that was asked for are delivered
+-- one call at a good shard at the spot, which leaves a good one there; if it answers Ok, the pairs up to the number that was wanted are delivered
 pub record IsTurnAt (r : Rules) (s : Spot) (notes : List NoteData) (size base piece to n : ℕ)
     (answer : Result (Unit {0}) Refused) (d e : PiecedData) : Type 0 where
   pub old_good : IsGood r d.shard
@@ -70,7 +70,7 @@ pub record IsTurnAt (r : Rules) (s : Spot) (notes : List NoteData) (size base pi
   pub turn : IsTurn r (piece_pairs r s notes size piece) piece to n d e
   pub done : IsOk answer → to ≤ slice_index e.counts piece
 
--- the shard stands where the name says, before the level, and has as many pairs as the name says and none of the level's
+-- the shard is where the name says, before the level, and has as many pairs as the name says and none of the level's
 pub record IsReadyFor (r : Rules) (t : ShardState) (level : LevelData) (s : Spot) (notes : List NoteData) (base : ℕ) : Type 0 where
   pub spot : spot_of t ≡ s
   pub level_at : IsLevelAt level s notes

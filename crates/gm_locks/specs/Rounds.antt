@@ -35,12 +35,12 @@ pub record AreFirst (pairs : List (NoteData × ℕ)) (s : ShardState) (n : ℕ) 
   pub within : n ≤ length pairs
   pub each : (k : ℕ) (pair : NoteData × ℕ) → slice_get pairs k ≡ Some pair → Contains (delivered_to s pair.1) pair.0.position ↔ (k < n)
 
--- these are delivered beside `base` other pairs
+-- these are delivered besides `base` other pairs
 pub record IsRound (pairs : List (NoteData × ℕ)) (base : ℕ) (s : ShardState) (n : ℕ) : Type 0 where
   pub count : pairs_in s ≡ base + n
   pub first : AreFirst pairs s n
 
--- no delivered child stands at the shard's place
+-- no delivered child is at the shard's place
 abbrev pub HasNoneHere : Rules → ShardState → Type 0
 HasNoneHere r s = (i : ℕ) (c : Position) → IsInRange s i → Contains (delivered_to s i) c → StandsAt r s.phase s.level c → ⊥
 
@@ -51,12 +51,12 @@ pub record IsForSpot (e : ExpectedData) (s : Spot) : Type 0 where
   pub hi : e.hi ≡ s.hi
   pub last : e.last ≡ Some (place_of_spot s)
 
--- the level stands at the spot's place, and has these notes
+-- the level is at the spot's place, and has these notes
 pub record IsLevelAt (level : LevelData) (s : Spot) (notes : List NoteData) : Type 0 where
   pub place : level.place ≡ place_of_spot s
   pub notes_are : level.notes ≡ notes
 
--- whatever a close of the shard by this count answers, it isn't Short
+-- no close of the shard by this count returns Short
 abbrev pub ClosesSurely : Rules → ExpectedData → ShardState → Type 0
 ClosesSurely r e s = (t : ShardState) (answer : Result (Unit {0}) Short) → Closes r e s t answer → IsOk answer
 

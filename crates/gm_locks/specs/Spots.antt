@@ -1,4 +1,4 @@
--- Spots: where a shard stands, and four spots that tile a tier.
+-- Spots: the place of a shard, and four spots that tile a tier.
 use Rattle.std.specs.Prelude.{◌≡◌, ℕ, ◌+◌, ◌<◌, ◌≤◌, ◌↔◌, ◌==◌, if◌then◌else◌, length, Result, Ok, Err}
 use Rattle.gm_game.specs.declared.limits.TheConstants.{REMOTENESS}
 use Rattle.gm_game.specs.declared.position.Phase.{Phase}
@@ -21,7 +21,7 @@ pub record Spot : Type 0 where
   pub phase : Phase
   pub level : ℕ
 
--- where a shard stands
+-- the place of a shard
 abbrev pub spot_of : ShardState → Spot
 spot_of s = record { tier = s.tier; lo = s.lo; hi = s.lo + length s.delivered; phase = s.phase; level = s.level }
 
@@ -58,7 +58,7 @@ pub record IsSameSpot (s t : ShardState) : Type 0 where
   pub phase : t.phase ≡ s.phase
   pub level : t.level ≡ s.level
 
--- a note and a parent of it in the shard's range, where the note stands at the shard's place
+-- a note and a parent of it in the shard's range, where the note is at the shard's place
 pub record IsDeliverable (r : Rules) (s : ShardState) (pair : NoteData × ℕ) : Type 0 where
   pub is_note : IsNote r pair.0.position pair.0.solved
   pub here : IsPairHere r s pair.0 pair.1
@@ -70,7 +70,7 @@ gain (Ok FreshSettled) = 1
 gain (Ok Repeat) = 0
 gain (Err e) = 0
 
--- the note stands at the spot's place
+-- the note is at the spot's place
 abbrev pub IsAtPlace : Spot → NoteData → Type 0
 IsAtPlace s note = (phase_of note.solved.value ≡ s.phase) × (note.solved.remoteness ≡ s.level)
 
@@ -78,7 +78,7 @@ IsAtPlace s note = (phase_of note.solved.value ≡ s.phase) × (note.solved.remo
 abbrev pub IsWithin : Spot → ℕ → Type 0
 IsWithin s index = (s.lo ≤ index) × (index < s.hi)
 
--- an answer is one of the first three refusals exactly where that refusal's condition holds, in their order, and the fourth only at the limit
+-- an answer is one of the first three refusals exactly if that refusal's condition holds, in their order, and the fourth only at the limit
 pub record IsAnswer (r : Rules) (s : Spot) (note : NoteData) (parent : ℕ) (answer : Result Delivery Refused) : Type 0 where
   pub not_this_level : (answer ≡ Err NotThisLevel) ↔ (IsAtPlace s note → ⊥)
   pub not_mine : (answer ≡ Err NotMine) ↔ (IsAtPlace s note × (IsWithin s parent → ⊥))

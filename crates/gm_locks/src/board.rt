@@ -61,7 +61,7 @@ impl<A: ShardLedger, B: ShardLedger, C: ShardLedger, D: ShardLedger> Shares<A, B
         }
     }
 
-    /// The number of parts of each share.
+    /// Returns the number of parts of each share.
     pub fn parts(&self) -> u64
         ensures { result ≡ self.now.parts }
     {
@@ -160,27 +160,27 @@ impl<G: Game, A: ShardLedger, B: ShardLedger, C: ShardLedger, D: ShardLedger> Bo
         (board, shares)
     }
 
-    /// The lock of shard 0.
+    /// Returns the lock of shard 0.
     pub fn a(&self) -> &Mutex<Held<G, A>> {
         &self.a
     }
 
-    /// The lock of shard 1.
+    /// Returns the lock of shard 1.
     pub fn b(&self) -> &Mutex<Held<G, B>> {
         &self.b
     }
 
-    /// The lock of shard 2.
+    /// Returns the lock of shard 2.
     pub fn c(&self) -> &Mutex<Held<G, C>> {
         &self.c
     }
 
-    /// The lock of shard 3.
+    /// Returns the lock of shard 3.
     pub fn d(&self) -> &Mutex<Held<G, D>> {
         &self.d
     }
 
-    /// The index range of a shard: the first index, and the one past the last.
+    /// Returns the index range of a shard: the first index, and the one past the last.
     pub fn range(&self, shard: usize) -> (u64, u64)
         requires { shard < 4 }
         ensures lo { result.0 ≡ (choose shard A.spot B.spot C.spot D.spot).lo }
@@ -194,7 +194,7 @@ impl<G: Game, A: ShardLedger, B: ShardLedger, C: ShardLedger, D: ShardLedger> Bo
         }
     }
 
-    /// The shard whose range has this index of the tier.
+    /// Returns the shard whose range has this index of the tier.
     pub fn shard_of(&self, parent: u64) -> usize
         requires { parent < G.rules.tier_size A.spot.tier }
         ensures shard { result < 4 }
@@ -270,7 +270,7 @@ impl<G: Game, A: ShardLedger, B: ShardLedger, C: ShardLedger, D: ShardLedger> Bo
     }
 }
 
-// A shard with its book, and the share that has all parts.
+// Returns a shard with its book, and the share that has all parts.
 fn hold<G: Game, L: ShardLedger>(blank: Blank, shard: Shard<G>) -> (Held<G, L>, Share<L>)
     requires name { blank.name ≡ L.name }
     requires parts { blank.parts ≡ L.parts }

@@ -61,8 +61,8 @@ impl<L: PassLedger> Pass<L> {
         self.share.amount()
     }
 
-    /// Whether the pairs that were delivered before this pass and by it are as many as the count: for the pass of a desk (`around`), whether it has delivered
-    /// all pairs of the level into the range.
+    /// Returns whether the pairs that were delivered before this pass and by it are as many as the count: for the pass of a desk (`around`), whether it has
+    /// delivered all pairs of the level into the range.
     pub fn full<G: Game>(&self, expected: &Expected<G>) -> bool
         requires { IsForSpot expected.now L.spot }
         ensures number { IsTrue result ↔ (L.base + self.now ≡ expected.now.number) }
@@ -155,7 +155,7 @@ impl<G: Game, L: PassLedger> PassDesk<G, L> {
         (desk, Pass { share, before })
     }
 
-    /// The index range of the shard: the first index, and the one past the last.
+    /// Returns the index range of the shard: the first index, and the one past the last.
     pub fn range(&self) -> (u64, u64)
         ensures lo { result.0 ≡ L.spot.lo }
         ensures hi { result.1 ≡ L.spot.hi }

@@ -189,7 +189,7 @@ impl<G: Game, L: PieceLedger> Taken<G, L> {
         Taken { pieced, share }
     }
 
-    /// The index range of the shard: the first index, and the one past the last.
+    /// Returns the index range of the shard: the first index, and the one past the last.
     pub fn range(&self) -> (u64, u64)
         ensures lo { result.0 ≡ L.spot.lo }
         ensures hi { result.1 ≡ L.spot.hi }
@@ -197,7 +197,7 @@ impl<G: Game, L: PieceLedger> Taken<G, L> {
         self.pieced.range()
     }
 
-    /// Whether all pairs of a piece are delivered.
+    /// Returns whether all pairs of a piece are delivered.
     pub fn is_whole(&self, piece: usize) -> bool
         requires { piece < div_ceil (length L.notes) L.size }
         ensures { result ≡ slice_index_or self.now.whole piece false }

@@ -38,7 +38,7 @@ impl<L: ShardLedger> Model for Share<L> {
 }
 
 impl<L: ShardLedger> Share<L> {
-    /// A share by which nothing was delivered yet.
+    /// Returns a share by which nothing was delivered yet.
     pub(crate) fn whole(mark: ledger::Share<L>) -> Share<L>
         requires { mark.amount ≡ 0 }
         ensures { result ≡ record { parts = mark.parts; amount = 0 } }

@@ -55,7 +55,7 @@ can_move v b m = if pieces b == last_tier v
 unfoldable pub move_number_bound : Variant → ℕ → ℕ
 move_number_bound v t = if t == last_tier v then 144 else 9
 
--- how the last move has ended the game, if it has: the mover has lost where the opponent has a line
+-- how the last move has ended the game, if it has: the mover has lost if the opponent has a line
 unfoldable pub end_by_last_move : Variant → List Cell → Option End
 end_by_last_move v b = if has_line v is_theirs b then Some Lose else None
 

@@ -12,7 +12,7 @@ use crate::tiers::{is_last_tier, pieces};
 use crate::variant::Variant;
 use gm_game::position::End;
 
-/// Whether the mover has a line.
+/// Returns whether the mover has a line.
 #[tactic(auto, using(crate::proofs::MoveSteps::own_line))]
 pub fn has_own_line(variant: Variant, board: Board) -> bool
     ensures { result ≡ has_line_of variant is_mine (board_of 9 board.mine board.theirs) }
@@ -20,7 +20,7 @@ pub fn has_own_line(variant: Variant, board: Board) -> bool
     variant.has_line(board.mine)
 }
 
-/// Whether the opponent has a line.
+/// Returns whether the opponent has a line.
 #[tactic(auto, using(crate::proofs::MoveSteps::their_line))]
 pub fn has_their_line(variant: Variant, board: Board) -> bool
     ensures { result ≡ has_line_of variant is_theirs_cell (board_of 9 board.mine board.theirs) }
@@ -28,7 +28,7 @@ pub fn has_their_line(variant: Variant, board: Board) -> bool
     variant.has_line(board.theirs)
 }
 
-/// Whether a board is legal: the mover has half of the pieces, rounded down, there are no more pieces than in the last tier, and the mover has no line.
+/// Returns whether a board is legal: the mover has half of the pieces, rounded down, there are no more pieces than in the last tier, and the mover has no line.
 #[tactic(auto, using(gm_board::specs::laws::Images::board_length), unfolding(crate::specs::Morris::legal))]
 pub fn is_legal_board(variant: Variant, board: Board) -> bool
     ensures { result ≡ legal variant (board_of 9 board.mine board.theirs) }
@@ -40,14 +40,14 @@ pub fn is_legal_board(variant: Variant, board: Board) -> bool
     pieces <= variant.last_tier() && !has_own_line(variant, board)
 }
 
-/// Whether pieces move on a board, in the last tier, and are not placed.
+/// Returns whether pieces move on a board, in the last tier, and are not placed.
 pub fn is_last(variant: Variant, board: Board) -> bool
     ensures { result ≡ is_last_of variant (board_of 9 board.mine board.theirs) }
 {
     is_last_tier(variant, pieces(board))
 }
 
-// Whether a piece of the mover's can go from point to point by the move with this number.
+// Returns whether a piece of the mover's can go from point to point by the move with this number.
 #[tactic(auto, using(crate::specs::laws::PointFacts::joined_to))]
 fn can_slide(variant: Variant, board: Board, number: u32) -> bool
     requires { number < 144 }
@@ -61,7 +61,7 @@ fn can_slide(variant: Variant, board: Board, number: u32) -> bool
     board.has_mine(from) && board.is_free(to)
 }
 
-/// Whether the move with this number can be made.
+/// Returns whether the move with this number can be made.
 #[tactic(auto, unfolding(crate::specs::Morris::can_move, crate::specs::Morris::move_number_bound))]
 pub fn can_move(variant: Variant, board: Board, number: u32) -> bool
     requires { number < numbers_end_of variant (pieces_of (board_of 9 board.mine board.theirs)) }
@@ -74,7 +74,7 @@ pub fn can_move(variant: Variant, board: Board, number: u32) -> bool
     }
 }
 
-/// How the last move has ended the game, if it has: the mover loses if the opponent has a line.
+/// Returns how the last move has ended the game, if it has: the mover loses if the opponent has a line.
 #[tactic(auto, unfolding(crate::specs::Morris::end_by_last_move))]
 pub fn end_by_last_move(variant: Variant, board: Board) -> Option<End>
     ensures { result ≡ over_of variant (board_of 9 board.mine board.theirs) }
@@ -86,7 +86,7 @@ pub fn end_by_last_move(variant: Variant, board: Board) -> Option<End>
     }
 }
 
-/// The board after a move, as the other side sees it.
+/// Returns the board after a move, as the other side sees it.
 #[tactic(auto, using(gm_board::specs::laws::Images::board_length, crate::proofs::MoveSteps::slide_here, crate::proofs::MoveSteps::place_point, crate::proofs::MoveSteps::place_free, crate::proofs::MoveSteps::slide_played, crate::proofs::MoveSteps::place_played))]
 pub fn play(variant: Variant, board: Board, number: u32) -> Board
     requires { IsMove (morris variant) (board_of 9 board.mine board.theirs) number }

@@ -8,7 +8,7 @@ use crate::board::Board;
 use crate::tiers::is_last_tier;
 use crate::variant::Variant;
 
-// Whether a piece of the opponent's can have gone from point to point by the move with this number.
+// Returns whether a piece of the opponent's can have gone from point to point by the move with this number.
 #[tactic(auto, using(crate::specs::laws::PointFacts::joined_to))]
 fn was_slid(variant: Variant, board: Board, number: u32) -> bool
     requires { number < 144 }
@@ -22,7 +22,7 @@ fn was_slid(variant: Variant, board: Board, number: u32) -> bool
     board.has_theirs(to) && board.is_free(from)
 }
 
-/// Whether the move with this number can have led to the board from a board of the tier.
+/// Returns whether the move with this number can have led to the board from a board of the tier.
 #[tactic(auto, unfolding(crate::specs::Morris::can_have_led_here, crate::specs::Morris::move_number_bound))]
 pub fn can_have_led_here(variant: Variant, tier: u64, board: Board, number: u32) -> bool
     requires { number < numbers_end_of variant tier }
@@ -35,7 +35,7 @@ pub fn can_have_led_here(variant: Variant, tier: u64, board: Board, number: u32)
     }
 }
 
-/// The board before the move with this number.
+/// Returns the board before the move with this number.
 #[tactic(auto, using(crate::proofs::MoveSteps::slid_from, crate::proofs::MoveSteps::slid_step, crate::proofs::MoveSteps::placed_point, crate::proofs::MoveSteps::placed_mine, crate::proofs::MoveSteps::slid_back, crate::proofs::MoveSteps::placed_back))]
 pub fn undo(variant: Variant, tier: u64, board: Board, number: u32) -> Board
     requires within { number < numbers_end_of variant tier }

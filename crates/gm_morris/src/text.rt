@@ -14,7 +14,7 @@ use gm_board::square::square_cell_text;
 use gm_game::shown::Line;
 use gm_game::text::push_text;
 
-// The text of a move from point to point: the point that a piece leaves, `-` and the point to which it goes.
+// Returns the text of a move from point to point: the point that a piece leaves, `-` and the point to which it goes.
 fn slide_text(number: u32) -> Line
     requires from { number / 16 < 9 }
     requires to { number % 16 < 9 }
@@ -27,7 +27,7 @@ fn slide_text(number: u32) -> Line
     line
 }
 
-// The text of a placement: the point.
+// Returns the text of a placement: the point.
 fn point_text(number: u32) -> Line
     requires { number < 9 }
     ensures { result.items ≡ cell_text 3 number }
@@ -37,8 +37,8 @@ fn point_text(number: u32) -> Line
     line
 }
 
-/// The text of a move: the point on which a piece is placed; in the last tier the point that a piece leaves, `-` and the point to which it goes (docs/GAMES.md,
-/// Common forms).
+/// Returns the text of a move: the point on which a piece is placed; in the last tier the point that a piece leaves, `-` and the point to which it goes
+/// (docs/GAMES.md, Common forms).
 #[tactic(auto, using(crate::proofs::MoveSteps::slide_from, crate::proofs::MoveSteps::slide_to, crate::proofs::MoveSteps::place_point), unfolding(crate::specs::Texts::step_text))]
 pub fn move_text(variant: Variant, board: Board, number: u32) -> Line
     requires { IsMove (morris variant) (board_of 9 board.mine board.theirs) number }

@@ -30,7 +30,7 @@ const STRAIGHT_LINES: [u32; 6] = [
     0b100_100_100,
 ];
 
-/// For each point, the mask of the points beside it in its row and its column.
+/// For each point, the mask of its neighbors in its row and its column.
 const BESIDE: [u32; 9] = [
     0b000_001_010,
     0b000_010_101,
@@ -43,7 +43,8 @@ const BESIDE: [u32; 9] = [
     0b010_100_000,
 ];
 
-/// For each point, the mask of its neighbors along the lines of the board: the points beside it, and the corners for the center and the center for a corner.
+/// For each point, the mask of its neighbors along the lines of the board: those in its row and its column, and the corners for the center and the center for a
+/// corner.
 const ALONG_LINES: [u32; 9] = [
     0b000_011_010,
     0b000_010_101,
@@ -65,7 +66,7 @@ pub enum Variant {
 }
 
 impl Variant {
-    /// The game with this last tier: 9 Tic-tac-toe, 6 Three Men's Morris, 8 Achi; any other number stands for Tic-tac-toe.
+    /// Returns the game with this last tier: 9 Tic-tac-toe, 6 Three Men's Morris, 8 Achi; any other number stands for Tic-tac-toe.
     #[tactic(auto, unfolding(crate::specs::Points::variant_of))]
     pub fn with_last_tier(last: u64) -> Variant
         ensures { result ≡ variant_of last }
@@ -77,7 +78,7 @@ impl Variant {
         }
     }
 
-    /// The name, padded with zeros.
+    /// Returns the name, padded with zeros.
     #[tactic(auto, unfolding(crate::specs::Points::name_of))]
     pub fn name(self) -> [u8; NAME]
         ensures { result ≡ name_of self }
@@ -89,7 +90,7 @@ impl Variant {
         }
     }
 
-    /// The last tier, which has the most pieces: from it no piece is placed.
+    /// Returns the last tier, which has the most pieces: from it no piece is placed.
     #[tactic(auto, unfolding(crate::specs::Points::last_tier))]
     pub fn last_tier(self) -> u64
         ensures value { result ≡ last_tier_of self }
@@ -102,7 +103,7 @@ impl Variant {
         }
     }
 
-    /// How the game ends for a player who can't move: in Tic-tac-toe the board is full, which is a tie, and in the other games the player loses.
+    /// Returns how the game ends for a player who can't move: a tie in Tic-tac-toe, because the board is full; a loss in the other games.
     #[tactic(auto, unfolding(crate::specs::Points::end_if_no_move))]
     pub fn end_if_no_move(self) -> End
         ensures { result ≡ stuck_of self }
@@ -113,7 +114,7 @@ impl Variant {
         }
     }
 
-    /// Whether these points include all points of a line.
+    /// Returns whether these points include all points of a line.
     pub fn has_line(self, points: u32) -> bool
         ensures { result ≡ list_any (λ line. list_all (has_cell points) line) (lines self) }
     {
@@ -123,7 +124,7 @@ impl Variant {
         }
     }
 
-    /// Whether a piece can move from one point to the other in the last tier. Points are below 16, of which the board has nine.
+    /// Returns whether a piece can move from one point to the other in the last tier. Points are below 16, of which the board has nine.
     #[tactic(auto, using(crate::specs::laws::PointFacts::beside_joins, crate::specs::laws::PointFacts::along_joins), unfolding(crate::specs::Points::joins))]
     pub fn joins(self, from: u32, to: u32) -> bool
         requires from { from < 9 }
@@ -138,7 +139,7 @@ impl Variant {
     }
 }
 
-// Whether the point is one of these points.
+// Returns whether the point is one of these points.
 fn has_point(points: u32, point: u32) -> bool
     requires { point < 32 }
     ensures { result ≡ has_cell points point }

@@ -1,4 +1,4 @@
--- What holds of each element of a list that a loop goes over.
+-- A property of each element of a list that a loop visits.
 use Rattle.std.proofs.Common.{ℕ, ◌+◌, ◌<◌, ◌≤◌, List, length, take, get_or, sym, subst, inl, inr}
 use Rattle.std.specs.List.{Contains}
 use Rattle.std.proofs.lemmas.List.{take_more, take_all}

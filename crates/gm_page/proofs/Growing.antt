@@ -1,4 +1,4 @@
--- Lists that grow by one position at a time: what each step keeps, and what is in them afterwards.
+-- Lists that grow by one position at a time: the properties that each step preserves, and the contents afterwards.
 use Rattle.std.proofs.Common.{◌≡◌, ℕ, zero, suc, ◌+◌, ◌<◌, ◌≤◌, List, [], ◌∷◌, ◌++◌, map, length, take, get_or, refl, sym, ap, ◌∙◌, subst, ◌⊎◌, inl, inr, arith}
 use Rattle.std.specs.List.{Contains}
 use Rattle.std.proofs.lemmas.Bool.{cases_lt}
@@ -16,7 +16,7 @@ use Rattle.gm_page.proofs.Places.{new_cases}
 long_more : (old : List Position) (q : Position) → length (old ++ q ∷ []) ≡ length old + 1
 long_more old q = length-append old (q ∷ [])
 
--- ---- what one more position keeps
+-- ---- properties that one more position preserves
 pub fresh_more : (old : List Position) (q : Position) → AreFresh old → (Contains old q → ⊥) → AreFresh (old ++ q ∷ [])
 fresh_more old q fresh new i j d less inside same =
     let long = long_more old q in
@@ -30,7 +30,7 @@ fresh_more old q fresh new i j d less inside same =
           new (subst (Contains old) (sym at_i ∙ same ∙ at_j) (Contains-get_or old i d i_in)))
     ]
 
--- a list of one, and one with a result of one of its positions
+-- a list of one position, and a list with the result of a move of one of its positions added
 pub earlier_one : (r : Rules) (p : Position) → ComesFromEarlier r (p ∷ [])
 earlier_one r p j d some inside = absurd (omega arith)
 
@@ -69,7 +69,7 @@ module _ (limit : ℕ) where
     | inr b ↦ subst P (sym b.0) (step b.1 b.2)
   ]
 
-  -- what each step keeps, all of them keep
+  -- a property that each step preserves is preserved by all
   pub all_keep : (P : List Position → Type 0) (Q : Position → Type 0) → ((old : List Position) (q : Position) → Q q → P old → (Contains old q → ⊥) → length
       old < limit → P (old ++ q ∷ []))
       → (ps : List Position) → ((q : Position) → Contains ps q → Q q) → (old : List Position) → P old → P (with_all limit old ps)
@@ -78,12 +78,12 @@ module _ (limit : ℕ) where
       all_keep P Q step ps (λ q c. each q (contains_later p q ps c)) (with_new limit old p)
       (new_keeps P old p h (λ absent room. step old p (each p (contains_first p ps)) h absent room))
 
-  -- one position more at the end
+  -- one more position at the end
   pub with_push : (ps : List Position) (old : List Position) (p : Position) → with_all limit old (ps ++ p ∷ []) ≡ with_new limit (with_all limit old ps) p
   with_push [] old p = refl
   with_push (x ∷ xs) old p = with_push xs (with_new limit old x) p
 
-  -- ---- what is in the list stays
+  -- ---- listed positions stay listed
   pub new_stays : (old : List Position) (q p : Position) → Contains old p → Contains (with_new limit old q) p
   new_stays old q p c = new_keeps (λ l. Contains l p) old q c (λ absent room. Contains-append_left old (q ∷ []) p c)
 
@@ -98,7 +98,7 @@ module _ (limit : ℕ) where
   all_longer [] old = omega arith
   all_longer (x ∷ xs) old = let a = new_longer old x in let b = all_longer xs (with_new limit old x) in omega arith
 
-  -- ---- what is added is in the list, or the list is full
+  -- ---- an added position is in the list, or the list is full
   pub new_there : (old : List Position) (q : Position) → Contains (with_new limit old q) q ⊎ (limit ≤ length (with_new limit old q))
   new_there old q = elim (new_cases limit old q) [
     | inl a ↦ elim a.1 [
@@ -138,7 +138,7 @@ module _ (limit : ℕ) where
   once_after r line (suc k) all (old, p, xs, before, here, values, e) = subst IsOnceEach (sym e)
       (once_all (map result_of xs) old (once_after r line k old before))
 
-  -- no more were gone through than there are
+  -- at most as many positions were processed as there are
   pub gone_within : (r : Rules) (line : List Position) (k : ℕ) (all : List Position) → IsListedAfter r limit line k all → k ≤ length all
   gone_within r line zero all h = omega arith
   gone_within r line (suc k) all (old, p, xs, before, here, values, e) =

@@ -11,7 +11,7 @@ use Rattle.gm_game.proofs.Lists.{contains_none, contains_first, contains_later, 
 use Rattle.gm_game.proofs.SetLemmas.{same_position}
 use Rattle.gm_page.specs.Listings.{is_same, place_from, place_of, is_key, Tells, with_new}
 
--- the test of two positions
+-- the test for equal positions
 same_is : (p q : Position) → is_same p q ≡ true → p ≡ q
 same_is p q e = let (a, b) = and_parts (nat_eq p.tier q.tier) (nat_eq p.index q.index) e in same_position p q (eqb-true _ _ a) (eqb-true _ _ b)
 
@@ -26,7 +26,7 @@ place_in n k (q ∷ qs) p e = elim (cases_Bool (is_same p q)) [
   | inr f ↦ contains_later q p qs (place_in (n + 1) k qs p (sym (cond-false _ _ _ f) ∙ e))
 ]
 
--- and a position without one is not
+-- and a position without a place is not listed
 place_out : (n : ℕ) (ps : List Position) (p : Position) → place_from n ps p ≡ None → Contains ps p → ⊥
 place_out n [] p e c = contains_none p c
 place_out n (q ∷ qs) p e c = elim (cases_Bool (is_same p q)) [
@@ -51,7 +51,7 @@ place_cases ps p = elim (option_cases (place_of ps p)) [
   | inr e ↦ inr (e, place_out 0 ps p e)
 ]
 
--- the place of a position that is added
+-- the place of an added position
 place_added : (n : ℕ) (ps : List Position) (p : Position) → place_from n ps p ≡ None → place_from n (ps ++ p ∷ []) p ≡ Some (n + length ps)
 place_added n [] p e = cond-true _ _ _ (same_self p) ∙ ap Some (let z : n ≡ n + 0 = omega arith in z)
 place_added n (q ∷ qs) p e = elim (cases_Bool (is_same p q)) [
@@ -60,13 +60,13 @@ place_added n (q ∷ qs) p e = elim (cases_Bool (is_same p q)) [
       (let z : n + 1 + length qs ≡ n + length (q ∷ qs) = omega arith in z)
 ]
 
--- the place of any other stays
+-- the place of any other position is unchanged
 place_kept : (n : ℕ) (ps : List Position) (p q : Position) → is_same q p ≡ false → place_from n (ps ++ p ∷ []) q ≡ place_from n ps q
 place_kept n [] p q e = cond-false _ _ _ e
 place_kept n (x ∷ xs) p q e = ap (λ (o : Option ℕ). cond (is_same q x) (Some n) o) (place_kept (n + 1) xs p q e)
 
 -- ---- the map
--- the test of a key after one is inserted
+-- the test of a key after another key is inserted
 key_apart : (p : Position) (k : ℕ × ℕ) → is_key (p.tier, p.index) k ≡ false → is_same (at k.0 k.1) p ≡ false
 key_apart p k e = elim (cases_Bool (is_same (at k.0 k.1) p)) [
   | inl f ↦ (
@@ -82,11 +82,11 @@ key_same : (p : Position) (k : ℕ × ℕ) → is_key (p.tier, p.index) k ≡ tr
 key_same p k e = let (a, b) = and_parts (nat_eq p.tier k.0) (nat_eq p.index k.1) e in same_position (at k.0 k.1) p (sym (eqb-true _ _ a)) (sym (eqb-true _ _ b))
 
 module _ {S : Type 0} where
-  -- a map without entries tells of no position
+  -- a map without entries has no position
   pub tells_none : (places : HashMap (ℕ × ℕ) ℕ S) (ps : List Position) → places.entries ≡ [] → ps ≡ [] → Tells places ps
   tells_none places ps e f k = rw (e, f) refl
 
-  -- a map with one position more
+  -- a map with one more position
   pub tells_more : (old new : HashMap (ℕ × ℕ) ℕ S) (ps : List Position) (p : Position) → Tells old ps → place_of ps p ≡ None
       → ((k : ℕ × ℕ) → get is_key new k ≡ cond (is_key (p.tier, p.index) k) (Some (length ps)) (get is_key old k)) → Tells new (ps ++ p ∷ [])
   tells_more old new ps p tells none updates k = elim (cases_Bool (is_key (p.tier, p.index) k)) [
@@ -95,8 +95,8 @@ module _ {S : Type 0} where
     | inr f ↦ updates k ∙ cond-false _ _ _ f ∙ tells k ∙ sym (place_kept 0 ps p (at k.0 k.1) (key_apart p k f))
   ]
 
--- ---- one position more, or none
--- what is added, by the place of the position
+-- ---- one more position, or no change
+-- the list with a position added, by the position's place
 abbrev added : ℕ → List Position → Position → Option ℕ → List Position
 added limit old p o = cond (is_some o) old (cond (leb limit (length old)) old (old ++ p ∷ []))
 
@@ -130,13 +130,13 @@ new_cases limit old p = elim (place_cases old p) [
   ]
 ]
 
--- whether a position has a place tells whether it is listed
+-- a position has a place if and only if it is listed
 pub has_place : (ps : List Position) (p : Position) (b : Bool) → b ≡ is_some (place_of ps p) → (b ≡ true) ↔ Contains ps p
 has_place ps p b e = elim (place_cases ps p) [
   | inl h ↦ (λ t. h.2, λ c. e ∙ ap is_some h.1)
   | inr h ↦ (λ t. absurd (let z : false ≡ true = sym (e ∙ ap is_some h.0) ∙ t in false≢true z), λ c. absurd (h.1 c))
 ]
 
--- a position is made of its tier and its index
+-- a position is determined by its tier and its index
 pub made_of : (p : Position) → at p.tier p.index ≡ p
 made_of p = same_position (at p.tier p.index) p refl refl

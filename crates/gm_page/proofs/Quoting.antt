@@ -1,4 +1,4 @@
--- Strings in texts that open no tag are read as the strings that they are.
+-- Strings in texts that open no tag are read back unchanged.
 use Rattle.std.proofs.Common.{◌≡◌, ℕ, zero, suc, ◌<◌, ◌≤◌, Bool, true, false, cond, List, [], ◌∷◌, ◌++◌, Some, inl, inr, ◌⊎◌, refl, sym, ap, ◌∙◌, subst, arith}
 use Rattle.std.proofs.Common.{append_assoc}
 use Rattle.std.specs.List.{flat_map}
@@ -15,7 +15,7 @@ use Rattle.gm_page.specs.Scripts.{script_byte}
 abbrev pub script : List ℕ → List ℕ
 script = flat_map script_byte
 
--- what both readers make of the escape of x, before any text
+-- both readers read the escape of x, followed by any text, as x
 record Passes (x : ℕ) : Type 0 where
   read : (r : List ℕ) → content plain (script (escape_byte x) ++ r) ≡ prepend (x ∷ []) (content plain r)
   lexed : (r : List ℕ) → lex in_string (script (escape_byte x) ++ r) ≡ lex in_string r

@@ -1,4 +1,4 @@
--- What a listing has: what play from its start reaches, from earlier positions, and all of it where nothing is missing.
+-- The contents of a listing: positions that play from its start reaches, each from an earlier one, and all of them if no result is missing.
 use Rattle.std.proofs.Common.{◌≡◌, ℕ, zero, suc, ◌+◌, ◌-◌, ◌<◌, ◌≤◌, true, false, List, [], ◌∷◌, ◌++◌, map, length, get_or, slice_get, Some, Result, Ok, Err}
 use Rattle.std.proofs.Common.{◌↔◌, refl, sym, ap, ◌∙◌, subst, ◌⊎◌, inl, inr, arith}
 use Rattle.std.specs.List.{All, Contains}
@@ -77,7 +77,7 @@ module _ (r : Rules) where
       subst (Contains (map result_of xs)) ((All-contains (IsMoveValue r p) xs x h.each has).position ∙ ap (r.play p) e) (map_from result_of xs x has)
 
   module _ (start : Position) (limit : ℕ) where
-    -- ---- all that is listed is reached
+    -- ---- each listed position is reached
     abbrev AreReached : List Position → Type 0
     AreReached l = (p : Position) → Contains l p → IsReachedFrom r start p
 
@@ -107,8 +107,8 @@ module _ (r : Rules) where
         subst AreReached (sym e) (all_keep limit AreReached (IsReachedFrom r start) (λ l q g a absent room. reached_step l q g a) (map result_of xs) results
         old old_reached)
 
-    -- ---- each comes from an earlier one
-    -- with a position that has earlier ones, or follows one
+    -- ---- each position comes from an earlier one
+    -- a list whose positions come from earlier ones, with a result of one of them added
     earlier_new : (old : List Position) (p q : Position) (m : ℕ) → ComesFromEarlier r old → Contains old p → Contains (r.moves p) m → r.play p m ≡ q →
         ComesFromEarlier r (with_new limit old q)
     earlier_new old p q m h has listed e = new_keeps limit (ComesFromEarlier r) old q h (λ absent room. earlier_more r old p q m h has listed e)
@@ -121,7 +121,7 @@ module _ (r : Rules) where
     full_all [] old full = refl
     full_all (x ∷ xs) old full = ap (λ (l : List Position). with_all limit l xs) (full_new old x full) ∙ full_all xs old full
 
-    -- a line of play from a position that is listed now
+    -- a line of play from a newly listed position
     earlier_along : (ms : List ℕ) (old : List Position) (q : Position) → IsPlay r q ms → ComesFromEarlier r (with_new limit old q) → ComesFromEarlier r
         (with_all limit old (positions_along r q ms))
     earlier_along [] old q h k = k
@@ -175,8 +175,8 @@ module _ (r : Rules) where
     first_after some ms (suc k) all (old, p, xs, before, here, values, e) = ap (λ (l : List Position). slice_get l 0) e ∙ first_all (map result_of xs) old
         (first_after some ms k old before)
 
-    -- ---- nothing is missing, or the list is full
-    -- of the first k positions each result is listed, or the list is full
+    -- ---- no result is missing, or the list is full
+    -- each result of the first k positions is listed, or the list is full
     pub missing_after : (line : List Position) (k : ℕ) (all : List Position) → IsListedAfter r limit line k all
         → (i : ℕ) (p : Position) (m : ℕ) → i < k → slice_get all i ≡ Some p → Contains (r.moves p) m → Contains all (r.play p m) ⊎ (limit ≤ length all)
     missing_after line zero all e i p m below here listed = absurd (omega arith)
@@ -217,7 +217,7 @@ module _ (r : Rules) where
         place_stays [] old j x h = h
         place_stays (y ∷ ys) old j x h = place_stays ys (with_new limit old y) j x (place_new old y j x h)
 
-    -- what is closed has all that is reached
+    -- a closed list has every position that is reached
     closed_after : (all : List Position) → IsClosed r all → (p : Position) (ms : List ℕ) → Contains all p → IsPlay r p ms → Contains all (position_after r p ms)
     closed_after all closed p [] has h = has
     closed_after all closed p (m ∷ ms) has h = closed_after all closed (r.play p m) ms (closed p m has h.0) h.1
@@ -225,24 +225,24 @@ module _ (r : Rules) where
     pub closed_has : (all : List Position) → IsClosed r all → slice_get all 0 ≡ Some start → (p : Position) → IsReachedFrom r start p → Contains all p
     closed_has all closed first p (ms, h, e) = subst (Contains all) e (closed_after all closed start ms (at_place all 0 start first) h)
 
--- ---- a listing that is being made
--- the first k positions were gone through, from those of the line of best play on
+-- ---- a listing under construction
+-- the first k positions have been processed, beginning with those of the line of best play
 abbrev pub IsGoneThrough : Rules → Position → ℕ → ℕ → List Position → Type 0
 IsGoneThrough r start limit k all = (line : BestLine) × IsBestLine r start (limit - 1) line × IsListedAfter r limit line.positions.items k all
 
 module _ (r : Rules) (start : Position) (limit : ℕ) where
-  -- nothing was gone through at first
+  -- at first no position has been processed
   pub none_through : (all : List Position) → ((line : BestLine) × IsBestLine r start (limit - 1) line × (all ≡ with_all limit [] line.positions.items)) →
       IsGoneThrough r start limit 0 all
   none_through all h = h
 
-  -- one position more was
+  -- one more position has been processed
   pub more_through : (k : ℕ) (old new : List Position) (p : Position) → IsGoneThrough r start limit k old → slice_get old k ≡ Some p
       → ((xs : List MoveValue) × AreMoveValues r p xs × (new ≡ with_all limit old (map result_of xs))) → IsGoneThrough r start limit (k + 1) new
   more_through k old new p (line, best, before) here (xs, values, e) =
       subst (λ (n : ℕ). IsGoneThrough r start limit n new) (let z : suc k ≡ k + 1 = omega arith in z) (line, best, (old, p, xs, before, here, values, e))
 
-  -- all of them were
+  -- all positions have been processed
   pub all_through : (k : ℕ) (all : List Position) → IsGoneThrough r start limit k all → length all ≤ k → IsListing r start limit all
   all_through k all (line, best, through) l =
       let within = gone_within limit r line.positions.items k all through in
@@ -257,7 +257,7 @@ module _ (r : Rules) (start : Position) (limit : ℕ) where
         best.positions h,
   )
 
-  -- play reaches each of them
+  -- play reaches each listed position
   pub through_reached : (k : ℕ) (all : List Position) → IsGoneThrough r start limit k all → (p : Position) → Contains all p → IsReachedFrom r start p
   through_reached k all (line, best, through) =
       let w = line_is_play line best k all through in reached_after r start limit line.moves.items w.0 k all w.1
@@ -290,7 +290,7 @@ module _ (r : Rules) (start : Position) (limit : ℕ) where
       all p
   listing_whole some all h closed = closed_has r start limit all closed (listing_first some all h)
 
-  -- a list that isn't full is closed
+  -- a list that is not full is closed
   pub listing_closed : (all : List Position) → IsListing r start limit all → length all < limit → IsClosed r all
   listing_closed all h room p m (k, inside, e) listed = elim (missing_after r start limit h.line.positions.items (length all) all h.gone_through k p m
       inside (place_is all k p inside e) listed) [
@@ -307,6 +307,6 @@ module _ (r : Rules) (start : Position) (limit : ℕ) where
     | inr full ↦ (let few = listing_few all h in omega arith)
   ]
 
--- one position more leaves one fewer to go through
+-- one more position leaves one fewer to process
 pub fewer_left : (k n limit : ℕ) → k < n → n ≤ limit → limit - (k + 1) < limit - k
 fewer_left k n limit l h = omega arith

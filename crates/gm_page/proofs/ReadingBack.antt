@@ -1,4 +1,4 @@
--- Lines of a page are read as the trees that they are written for.
+-- Lines of a page are read as the trees that they were written from.
 use Rattle.std.proofs.Common.{◌≡◌, ℕ, ◌<◌, ◌≤◌, ◌^◌, Bool, true, false, cond, List, [], ◌∷◌, ◌++◌, Some, option_and_then, decimal, refl, sym, ap, ap₂, ◌∙◌}
 use Rattle.std.proofs.Common.{subst, arith, append_assoc, append-nil}
 use Rattle.std.specs.Char.{digit_value}
@@ -58,7 +58,7 @@ digits_same : (ds : List ℕ) → AllDigits 10 ds → script ds ≡ ds
 digits_same [] h = refl
 digits_same (d ∷ ds) h = ap (λ b. cond b (script_byte 60) (d ∷ []) ++ script ds) (ne_eqb d 60 (digit_is d h.0)) ∙ ap (λ l. d ∷ l) (digits_same ds h.1)
 
--- two texts that go on alike
+-- two texts with the same continuation
 record Alike (r s : List ℕ) : Type 0 where
   ends : ends_word r ≡ true
   other_ends : ends_word s ≡ true

@@ -21,7 +21,7 @@ use Rattle.gm_page.specs.Rows.{Group, place_cells, move_cells, group_cells, grou
 use Rattle.gm_page.specs.Scripts.{script_line}
 use Rattle.gm_page.proofs.ReadingBack.{IsSmall, AreSmall, read_line}
 
--- what is written for a tree is read as this tree, which nests at most so deep
+-- the text of a tree is read as this tree, which has at most this depth
 pub record Reads (n : ℕ) (d : Data) : Type 0 where
   pub small : IsSmall d
   pub same : of_json (outline d) ≡ Some d

@@ -20,7 +20,7 @@ use Rattle.gm_page.specs.Listings.{place_of}
 use Rattle.gm_page.specs.Rows.{Group, IsRun, AreGroups, AreRows, IsRow, place_cells, move_cells, group_tree, row_tree}
 
 -- ---- groups
--- the moves before the rest are in groups, whose trees were added to what was there before
+-- the moves before the rest are in groups, whose trees were appended to the earlier ones
 pub record IsGrouped (tree : Group → Data) (moves rest : List MoveValue) (old now : List Data) : Type 0 where
   pub done : List Group
   pub cells : now ≡ old ++ map tree done
@@ -30,7 +30,7 @@ module _ (tree : Group → Data) (moves : List MoveValue) (old : List Data) wher
   pub none_grouped : IsGrouped tree moves moves old old
   none_grouped = record { done = []; cells = sym (append-nil old); goes = λ gs h. h }
 
-  -- one group more
+  -- one more group
   pub more_grouped : (g : Group) (rest others : List MoveValue) (now new : List Data) → IsGrouped tree moves rest old now → rest ≡ g.moves ++ others → IsRun
       g others → new ≡ now ++ tree g ∷ []
       → IsGrouped tree moves others old new
@@ -41,12 +41,12 @@ module _ (tree : Group → Data) (moves : List MoveValue) (old : List Data) wher
     goes = λ gs k. subst (AreGroups moves) (sym (append_assoc h.done (g ∷ []) gs)) (h.goes (g ∷ gs) (others, e, run, k));
   }
 
-  -- all of them
+  -- all groups
   pub all_grouped : (rest : List MoveValue) (now : List Data) → IsGrouped tree moves rest old now → rest ≡ []
       → (groups : List Group) × AreGroups moves groups × (now ≡ old ++ map tree groups)
   all_grouped rest now h e = (h.done, subst (AreGroups moves) (append-nil h.done) (h.goes [] e), h.cells)
 
--- a run that ends where the next move is worth something else
+-- a run that ends at a move of another worth
 pub is_run : (worth : Solved) (rest : List MoveValue) (n : ℕ) (x : MoveValue) → slice_get rest 0 ≡ Some x → x.worth ≡ worth → n ≤ length rest
     → All (λ (y : MoveValue). y.worth ≡ worth) (take n rest) → IfSome (slice_get rest n) (λ (y : MoveValue). y.worth ≡ worth → ⊥)
     → IsRun (record { worth = worth; moves = take n rest }) (drop n rest)
@@ -71,7 +71,7 @@ is_run worth rest n x first e within same ends = record {
     some_moves (y ∷ ys) zero f last l = absurd (last (ap (λ (z : MoveValue). z.worth) (same_move y f) ∙ e))
     some_moves (y ∷ ys) (suc k) f last l = omega arith
 
--- the next run, where a list is split
+-- the next run, if a list is split
 pub next_grouped : (tree : Group → Data) (moves rest : List MoveValue) (old now new : List Data) (x : MoveValue) (n : ℕ) (run others : List MoveValue) →
     IsGrouped tree moves rest old now
     → Some x ≡ slice_get rest 0 → n ≤ length rest → All (λ (y : MoveValue). y.worth ≡ x.worth) (take n rest) → IfSome (slice_get rest n)
@@ -119,8 +119,8 @@ pub head_without : (name : List ℕ) (style : Style) (title board : List ℕ) (p
     (head_tree name style title board points naming whole) ≡ false
 head_without name style title board points naming whole = rw (texts_without points) refl
 
--- ---- one thing after the other
--- the trees of some things, and of one thing more
+-- ---- lists that grow by one element
+-- the trees of some things, and of one more
 pub trees_more : {X : Type 0} (cells : X → List Data) (xs : List X) (i : ℕ) (d : X) (base old new : List Data) → i < length xs → old ≡ base ++ flat_map
     cells (take i xs)
     → new ≡ old ++ cells (get_or xs i d) → new ≡ base ++ flat_map cells (take (i + 1) xs)
@@ -143,7 +143,7 @@ module _ (r : Rules) (shown : Position → List ℕ) (move_shown : Position → 
   two_rows (p ∷ ps) qs [] es h k = absurd h
   two_rows (p ∷ ps) qs (d ∷ ds) es h k = (h.0, two_rows ps qs ds es h.1 k)
 
-  -- the rows of the first positions, as lines after what was there before
+  -- the rows of the first positions, as lines after the earlier text
   pub record HasRows (line : Data → List ℕ) (ps : List Position) (old now : List ℕ) : Type 0 where
     pub rows : List Data
     pub are_rows : AreRows r shown move_shown all ps rows

@@ -25,7 +25,7 @@ pub text_opens_none : (xs : List ℕ) → list_all opens_none (script_text xs) �
 unfolding script_text
 text_opens_none xs = bytes_open_none xs
 
--- one byte more of a text, and all of them
+-- one more byte of a text, and all of them
 pub script_next : (xs : List ℕ) (i : ℕ) (base cur new : List ℕ) → i < length xs → cur ≡ base ++ flat_map script_byte (take i xs) → new ≡ cur ++ script_byte
     (get_or xs i 0)
     → new ≡ base ++ flat_map script_byte (take (i + 1) xs)
@@ -41,7 +41,7 @@ pub script_all : (xs : List ℕ) (i : ℕ) (base cur : List ℕ) → length xs �
 unfolding script_text
 script_all xs i base cur l e = e ∙ ap (λ (t : List ℕ). base ++ flat_map script_byte t) (take_all i xs l)
 
--- no byte of some lines does
+-- no byte of the lines of a page opens a tag
 pub lines_open_none : (head : Data) (rows : List Data) → list_all opens_none (script_lines head rows) ≡ true
 lines_open_none head rows = list_all-append opens_none (script_line head) (flat_map script_line rows) ∙ and_from _ _ (text_opens_none (line_of head))
     (each_opens_none rows)

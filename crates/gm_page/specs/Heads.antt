@@ -1,4 +1,4 @@
--- The first line of a page: what it tells of the game.
+-- The first line of a page, which describes the game.
 use Rattle.std.specs.Prelude.{ℕ, Bool, true, false, List, [], ◌∷◌, ◌==◌, map, codes}
 use Rattle.std.specs.List.{before_first}
 use Rattle.serde_json.specs.Data.{Data, boolean, string, array, object, member, no_members}
@@ -16,7 +16,7 @@ men_of Stones = codes "xo"
 men_of Discs = codes "xo"
 men_of Letters = codes "dh"
 
--- what the side that begins is called, and the other one
+-- the name of the side that begins, and that of the other side
 abbrev pub first_side : Style → List ℕ
 first_side Row = codes "First"
 first_side Crosses = codes "X"
@@ -33,7 +33,7 @@ second_side Stones = codes "White"
 second_side Discs = codes "White"
 second_side Letters = codes "Hare"
 
--- whether the first of the men is always the side to move's, so that the sides change after each move
+-- whether the first kind of men always belongs to the side to move, so that the sides swap after each move
 abbrev pub swaps : Style → Bool
 swaps Row = false
 swaps Crosses = true
@@ -49,7 +49,8 @@ sides_tree style = array (items_of (string (first_side style) ∷ string (second
 abbrev pub name_text : List ℕ → List ℕ
 name_text bs = before_first (λ b. b == 0) bs
 
--- the board, the names of the points and what else a page shows, and whether it has every position that play reaches; the members in alphabetical order
+-- the board, the names of the points and the other members that a page shows, and whether it has every position that play reaches; the members are in
+-- alphabetical order
 abbrev pub head_tree : List ℕ → Style → List ℕ → List ℕ → List (List ℕ) → List ℕ → Bool → Data
 head_tree name style title board points naming whole =
     object (member (codes "board") (text board)

@@ -1,4 +1,4 @@
--- Pages: the viewer with what it shows between its two parts.
+-- Pages: the viewer with its lines of data between its two parts.
 use Rattle.std.specs.Prelude.{◌≡◌, ◌↔◌, ℕ, Bool, List, ◌++◌, IsTrue}
 use Rattle.std.specs.List.{flat_map}
 use Rattle.serde_json.specs.Data.{Data}
@@ -23,7 +23,7 @@ with_viewer lines = FRONT.now ++ lines ++ BACK.now
 
 module _ (r : Rules) (shown : Position → List ℕ) (move_shown : Position → ℕ → List ℕ) (style : Style) (title board : List ℕ) (points : List (List ℕ))
     (naming : List ℕ) where
-  -- the page of these positions: a line that tells of the game, and whether each result of a move is among them; and then their rows
+  -- the page of these positions: a line that describes the game and states whether each result of a move is among them, and then their rows
   pub record IsListedPage (all : List Position) (out : List ℕ) : Type 0 where
     pub whole : Bool
     pub is_whole : IsTrue whole ↔ IsClosed r all

@@ -1,4 +1,4 @@
--- Rows: what a line of a page tells of a position.
+-- Rows: the lines of a page that describe its positions.
 use Rattle.std.specs.Prelude.{◌≡◌, ℕ, ◌<◌, List, [], ◌∷◌, ◌++◌, map, length, slice_get, IfSome, Option, None, Some}
 use Rattle.std.specs.List.{All, flat_map}
 use Rattle.serde_json.specs.Data.{Data, array}
@@ -14,7 +14,7 @@ use Rattle.gm_json.specs.Words.{whole, text}
 use Rattle.gm_page.specs.Listings.{place_of}
 
 -- ---- groups
--- moves that are worth the same, and what each of them is worth
+-- moves of equal worth, and their worth
 pub record Group : Type 0 where
   pub worth : Solved
   pub moves : List MoveValue
@@ -31,17 +31,17 @@ AreGroups xs [] = xs ≡ []
 AreGroups xs (g ∷ gs) = (rest : List MoveValue) × (xs ≡ g.moves ++ rest) × IsRun g rest × AreGroups rest gs
 
 -- ---- trees
--- the number of a line, where there is one
+-- the number of a row, if there is one
 abbrev pub place_cells : Option ℕ → List Data
 place_cells None = []
 place_cells (Some k) = whole k ∷ []
 
 module _ (shown : Position → List ℕ) (move_shown : Position → ℕ → List ℕ) (all : List Position) where
-  -- the text of a move, and after it the number of its result's line, where the page has one
+  -- the text of a move, and the number of its result's row if the page has it
   abbrev pub move_cells : Position → MoveValue → List Data
   move_cells p x = text (move_shown p x.number) ∷ place_cells (place_of all x.position)
 
-  -- a group: what its moves are worth, counted from before the move, and then each of them
+  -- a group: the worth of its moves, counted from before the move, and then each of them
   abbrev pub group_cells : Position → Group → List Data
   group_cells p g = text (text_of g.worth) ∷ flat_map (move_cells p) g.moves
 

@@ -1,4 +1,4 @@
--- Texts that stand in an element of a page: no byte of them opens a tag.
+-- Texts in an element of a page: no byte of them opens a tag.
 use Rattle.std.specs.Prelude.{◌≡◌, ℕ, Some, Bool, not, ◌==◌, List, [], ◌∷◌, codes, if◌then◌else◌}
 use Rattle.std.specs.List.{flat_map}
 use Rattle.serde_json.specs.Data.{Data}
@@ -9,7 +9,7 @@ use Rattle.gm_json.specs.Words.{line_of}
 abbrev pub opens_none : ℕ → Bool
 opens_none b = not (b == 60)
 
--- a byte: `<` is written by its number, as a text of JSON may write it
+-- a byte: `<` is written as its JSON escape
 abbrev pub script_byte : ℕ → List ℕ
 script_byte b = if b == 60 then codes "\\u003c" else b ∷ []
 
@@ -20,6 +20,6 @@ script_text text = flat_map script_byte text
 abbrev pub script_line : Data → List ℕ
 script_line d = script_text (line_of d)
 
--- the line of a tree, read as JSON, is this tree
+-- the line of a tree is read, as JSON, as this tree
 abbrev pub IsReadBack : Data → Type 0
 IsReadBack d = read (script_line d) ≡ Some d

@@ -1,6 +1,7 @@
 //! The last part of a page: the script that shows the lines of its data.
 
-/// What stands after the lines of a page's data: the end of their element, and the script that shows them. It knows no rules of a game and computes no value.
+/// The text after the lines of a page's data: the end of their element, and the script that shows them. The script has no rules of
+/// a game and computes no value.
 pub const BACK: &[u8] = br##"</script>
 <script>
 "use strict";
@@ -13,8 +14,8 @@ const maker = space => (name, attributes = {}, ...children) => {
 };
 const html = maker("http://www.w3.org/1999/xhtml"), svg = maker("http://www.w3.org/2000/svg");
 
-// ---- The data: a line about the game, and a line for each position, with its text, its value, and its moves by what they
-// are worth, the best first. After a move stands the number of its result's line, from 0, where it has one.
+// ---- The data: a line about the game, and a line for each position, with its text, its value, and its moves by what they are worth, the best first. A move is
+// followed by the number of its result's line, from 0, if it has one.
 const [game, ...rows] = $("data").textContent.trim().split("\n").map(text => JSON.parse(text));
 const word = value => value.split(" ")[0], number = value => Number(value.split(" ")[2] || 0);
 
@@ -33,7 +34,7 @@ function movesOf(row) {
 let line = [{ row: 0 }], at = 0, moves = [], picked = null, hidden = false;
 const textAt = k => rows[line[k].row][0], valueAt = k => rows[line[k].row][1];
 
-// The side to move, 0 or 1: by the text's last byte, where it has one more than there are points; else by turns.
+// The side to move, 0 or 1: by the text's last byte if it has one more than there are points, else by turns.
 function side(k) {
   const text = textAt(k);
   return game.men && text.length > game.points.length ? game.men.indexOf(text.at(-1)) : k % 2;
@@ -48,8 +49,8 @@ function told(k) {
   return game.sides[who] + (left ? " in " + left : " won");
 }
 
-// ---- The board, from its drawing, in which capital letters are the places of the bytes of a position's text. A column of
-// the drawing is one unit wide, a row two units high. Without capitals the points stand in two rows.
+// ---- The board, from its drawing, in which capital letters are the places of the bytes of a position's text. A column of the drawing is one unit wide, a row
+// two units high. Without capitals the points are in two rows.
 const UNIT = 20, places = [];
 const net = svg("g"), under = svg("g"), last = svg("g", { class: "mark" }), hint = svg("g", { class: "mark hint" });
 const inRow = !/[A-Z]/.test(game.board), crossed = game.board.includes("+"), netted = !crossed && game.board.includes("-");
@@ -86,7 +87,7 @@ for (const [k, place] of places.entries()) {
   const g = place.g = svg("g");
   g.onclick = () => press(k);
   g.onkeydown = e => { if (e.key === "Enter" || e.key === " ") { e.preventDefault(); press(k); } };
-  // On a touch screen the pressed element would keep the pointer, and a drag would end where it began.
+  // On a touch screen the pressed element would keep the pointer, and a drag would end on its first place.
   g.onpointerdown = e => { e.target.releasePointerCapture(e.pointerId); dragged = k; };
   g.onpointerup = () => { if (dragged !== null && dragged !== k) { picked = dragged; press(k); } };
 }
@@ -97,12 +98,11 @@ $("board").append(net, last, hint, under, ...places.map(place => place.g));
   const left = Math.min(...xs) - width / 2 - edge, right = Math.max(...xs) + width / 2 + 6;
   const top = Math.min(...ys) - width / 2 - edge, foot = Math.max(...ys) + (inRow ? 1.5 : .5) * width + 6;
   $("board").setAttribute("viewBox", [left, top, right - left, foot - top].join(" "));
-  // Only where a drag is how one plays is the board kept from scrolling the page.
+  // If moves are drags, the board does not scroll the page.
   $("board").style.touchAction = game.men.length === 1 ? "none" : "manipulation";
 }
 
-// ---- Men and values.
-// A man of the first or the second side; where there is but one kind of men, nobody's.
+// ---- Men and values. A man of the first or the second side, or of neither if there is only one kind of men.
 function man(who, x, y, r) {
   if (crossed && who) return [svg("circle", { class: "stroke", cx: x, cy: y, r })];
   if (crossed) return [svg("path", { class: "stroke", d: `M${x - r} ${y - r}l${2 * r} ${2 * r}M${x - r} ${y + r}l${2 * r} ${-2 * r}` })];
@@ -123,8 +123,7 @@ function badge(value, x, y, size) {
     svg("text", { x, y, "font-size": size }, name));
 }
 
-// ---- Places.
-// Whose man stands on the place k: 0, 1 or -1. Where sides swap, the first kind of men is that of the side to move.
+// ---- Places. The side whose man is on the place k: 0, 1 or -1. If sides swap, the first kind of men is that of the side to move.
 function owner(k) {
   const kind = inRow ? -1 : game.men.indexOf(textAt(at)[k]);
   return kind < 0 || !game.swap || side(at) === 0 ? kind : 1 - kind;
@@ -133,7 +132,7 @@ function owner(k) {
 function movesAt(k) {
   return moves.filter(m => m.ends.includes(k) && (picked === null || (k === picked ? m.ends.length === 1 : m.ends.includes(picked))));
 }
-// What a place is called, with what stands there and what a press on it is worth.
+// The name of a place, with its man and the worth of a press on it.
 function nameOf(k, mine) {
   const who = owner(k), what = inRow ? "" : who < 0 ? "empty" : game.men.length < 2 ? "counter" : game.sides[who];
   return [game.points[k], what, k === picked ? "chosen" : hidden ? "" : mine[0].worth].filter(Boolean).join(", ");
@@ -310,7 +309,7 @@ function draw() {
   for (const part of [drawState, drawPlaces, drawMoves, drawLine, drawPlot, writeAddress]) part();
 }
 
-// ---- Buttons and keys. Letters act within the page's parts alone.
+// ---- Buttons and keys. Letters act only within the page's parts.
 const acts = {
   first: () => go(0), back: () => go(at - 1), next: () => go(at + 1), end: () => go(line.length - 1), lead,
   best: () => { if (moves.length) play(moves[0]); }, hide: () => { hidden = !hidden; draw(); },

@@ -1,6 +1,7 @@
 //! The first part of a page: its head, its style, and its parts, up to the lines of its data.
 
-/// What stands before the lines of a page's data: one document of HTML up to the beginning of its data element. It names no other file and no address.
+/// The text before the lines of a page's data: an HTML document up to the beginning of its data element. It refers to no other file
+/// and to no address.
 pub const FRONT: &[u8] = br##"<!doctype html>
 <html lang="en">
 <head>

@@ -1,4 +1,4 @@
-//! The first line of a page: what it tells of the game.
+//! The first line of a page, which describes the game.
 ghost use Rattle.std.specs.Prelude.{◌≡◌, ◌==◌, ◌<◌, ◌++◌, ◌∷◌, [], length, map, slice_index_or, IfOk, OnOk, IfSome};
 ghost use Rattle.std.specs.List.{position};
 ghost use Rattle.serde_json.specs.Data.{array, object};
@@ -54,7 +54,7 @@ fn put_head<G: Pictured>(
     put(members, alloc, "whole", Json::Bool(whole))
 }
 
-// The text of a padded name.
+// Returns the text of a padded name.
 fn name_value(alloc: Global, name: &[u8; NAME]) -> Result<Json, AllocError>
     ensures { IfOk result (λ v. view v ≡ text (name_text name.now)) }
 {
@@ -62,7 +62,7 @@ fn name_value(alloc: Global, name: &[u8; NAME]) -> Result<Json, AllocError>
     text_value(alloc, &name[..end])
 }
 
-// Where a padded name ends, if it is shorter than its bytes.
+// Returns the length of a padded name that is shorter than its array.
 fn first_zero(name: &[u8]) -> Option<usize>
     ensures value { result ≡ position (λ b. b == 0) name.now }
     ensures within { IfSome result (λ end. end < length name.now) }
@@ -70,7 +70,7 @@ fn first_zero(name: &[u8]) -> Option<usize>
     name.iter().position(|byte| *byte == 0)
 }
 
-// The names of the points.
+// Returns the names of the points.
 fn points_value<G: Pictured>(alloc: Global) -> Result<Json, AllocError>
     ensures { IfOk result (λ v. view v ≡ array (items_of (map text G.points))) }
 {
@@ -89,7 +89,7 @@ fn push_point<G: Pictured>(alloc: Global, cells: &mut Vec<Json>, k: usize) -> Re
     push(cells, text_value(alloc, G::point(k).as_slice())?)
 }
 
-// What the two sides are called.
+// Returns the names of the two sides.
 fn sides_value(alloc: Global, style: Style) -> Result<Json, AllocError>
     ensures { IfOk result (λ v. view v ≡ sides_tree style) }
 {
@@ -99,7 +99,7 @@ fn sides_value(alloc: Global, style: Style) -> Result<Json, AllocError>
     Ok(Json::Array(cells))
 }
 
-// The bytes that are men.
+// Returns the bytes that stand for men.
 fn men(style: Style) -> &'static str
     ensures { result.now ≡ men_of style }
 {
@@ -111,7 +111,7 @@ fn men(style: Style) -> &'static str
     }
 }
 
-// What the side that begins is called.
+// Returns the name of the side that begins.
 fn first(style: Style) -> &'static str
     ensures { result.now ≡ first_side style }
 {
@@ -123,7 +123,7 @@ fn first(style: Style) -> &'static str
     }
 }
 
-// What the other side is called.
+// Returns the name of the other side.
 fn second(style: Style) -> &'static str
     ensures { result.now ≡ second_side style }
 {
@@ -135,7 +135,7 @@ fn second(style: Style) -> &'static str
     }
 }
 
-// Whether the men change sides after each move.
+// Tests whether the men change sides after each move.
 fn swaps(style: Style) -> bool
     ensures { result ≡ swaps_spec style }
 {

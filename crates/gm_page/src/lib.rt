@@ -1,6 +1,6 @@
-//! Pages that anybody can open: the positions of a page, what each line of it says, and the viewer around them.
+//! Pages for any browser: the positions of a page, its lines of data, and the viewer around them.
 //!
-//! `specs/` has the definitions that contracts cite, and `proofs/` what follows from them.
+//! `specs/` has the definitions that contracts cite, and `proofs/` has the facts that follow from them.
 #![tactic(auto)]
 
 pub mod back;

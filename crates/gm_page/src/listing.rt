@@ -18,7 +18,7 @@ use std::alloc::{AllocError, Global};
 use std::collections::HashMap;
 use std::marker::Model;
 
-/// The positions of a page, each with its place: 16 bytes each, and a place in a hash table.
+/// The positions of a page, each with its place. A position takes 16 bytes and a place in a hash table.
 pub struct Listing {
     positions: Vec<Position>,
     places: HashMap<(u64, u64), usize>,
@@ -47,21 +47,21 @@ impl Model for Listing {
 }
 
 impl Listing {
-    /// The positions, in their order.
+    /// Returns the positions, in their order.
     pub fn positions(&self) -> &[Position]
         ensures { result.now ≡ self.now }
     {
         self.positions.as_slice()
     }
 
-    /// The place of a position, from 0, if it is listed. It takes no memory.
+    /// Returns the place of a position, from 0, if it is listed. Allocates no memory.
     pub fn place(&self, p: Position) -> Option<usize>
         ensures { result ≡ place_of self.now p }
     {
         place_in(&self.places, p)
     }
 
-    /// Whether a position is listed. It takes no memory.
+    /// Tests whether a position is listed. Allocates no memory.
     pub fn has(&self, p: Position) -> bool
         ensures { IsTrue result ↔ Contains self.now p }
     {
@@ -69,8 +69,10 @@ impl Listing {
     }
 }
 
-/// The listing of a position: the positions of the line of best play from it, each once; and then, going through this very list from its first position on, the
-/// results of the moves of each, the best first, each where it isn't listed yet; at most `limit`. Positions are as played, and not canonical.
+/// Returns the listing of a position, of at most `limit` positions. Positions are as played, and not canonical.
+///
+/// First come the positions of the line of best play, each once. The listing is then processed from its first position on: the
+/// results of the moves of each, the best first, are added at the end unless they are already listed.
 pub fn listing_of<G: Game>(
     alloc: Global,
     start: &Known<'_, G>,
@@ -91,7 +93,7 @@ pub fn listing_of<G: Game>(
     }
 }
 
-// Lists them all, from empty lists.
+// Fills the empty lists of a listing.
 fn fill<G: Game>(
     alloc: Global,
     start: &Known<'_, G>,
@@ -137,7 +139,7 @@ fn list_line<G: Game>(
     listed
 }
 
-// Lists each of some positions that isn't listed yet, up to the limit.
+// Lists each of these positions that is not yet listed, up to the limit.
 fn list_all(
     these: &[Position],
     limit: usize,
@@ -170,7 +172,7 @@ fn list_results<G: Game>(
     list_moves(list.as_slice(), limit, positions, places)
 }
 
-// Lists each result of some moves that isn't listed yet, up to the limit.
+// Lists each result of these moves that is not yet listed, up to the limit.
 fn list_moves(
     list: &[MoveValue],
     limit: usize,
@@ -187,7 +189,7 @@ fn list_moves(
     Ok(())
 }
 
-// Lists a position that isn't listed yet, up to the limit.
+// Lists a position unless it is already listed, up to the limit.
 fn list_new(
     p: Position,
     limit: usize,
@@ -204,14 +206,14 @@ fn list_new(
     }
 }
 
-// What a map tells of a position.
+// Returns the place of a position in a map.
 fn place_in(places: &HashMap<(u64, u64), usize>, p: Position) -> Option<usize>
     ensures { result ≡ get is_key places.now (p.tier, p.index) }
 {
     places.get(&(p.tier, p.index)).copied()
 }
 
-// Lists a position that isn't listed, up to the limit.
+// Lists a position that is not yet listed, up to the limit.
 fn list_missing(
     p: Position,
     limit: usize,
@@ -230,7 +232,7 @@ fn list_missing(
     }
 }
 
-// Adds a position that isn't listed.
+// Adds a position that is not yet listed.
 fn add(
     p: Position,
     positions: &mut Vec<Position>,
@@ -249,7 +251,7 @@ fn add(
     }
 }
 
-/// Whether each result of a move of a listed position is listed. It takes no memory.
+/// Tests whether each result of a move of a listed position is listed. Allocates no memory.
 pub fn is_whole<G: Game>(list: &Listing) -> bool
     requires { All (λ p. G.rules.is_legal p ≡ true) list.now }
     ensures { IsTrue result ↔ IsClosed G.rules list.now }
@@ -262,7 +264,7 @@ pub fn is_whole<G: Game>(list: &Listing) -> bool
     true
 }
 
-// Whether each result of a move of a position is listed.
+// Tests whether each result of a move of a position is listed.
 fn has_results<G: Game>(list: &Listing, p: Position) -> bool
     requires { G.rules.is_legal p ≡ true }
     ensures { IsTrue result ↔ ((m : ℕ) → Contains (G.rules.moves p) m → Contains list.now (G.rules.play p m)) }
@@ -276,15 +278,15 @@ fn has_results<G: Game>(list: &Listing, p: Position) -> bool
     true
 }
 
-/// Has no effect; its contract states that a listing has no position twice, and at most as many as the limit says.
+/// Has no effect; its contract states that a listing has no position twice, and at most as many positions as its limit.
 pub fn each_once<G: Game>(start: Position, limit: usize, list: &[Position])
     requires { IsListing G.rules start limit list.now }
     ensures once { AreFresh list.now }
     ensures few { length list.now ≤ limit }
 {}
 
-/// Has no effect; its contract states that play from the start reaches each position of a listing, and that each but the first, which is the start, is the
-/// result of a move of an earlier one.
+/// Has no effect; its contract states that play from the start reaches each position of a listing. The first position is the start,
+/// and each other one is the result of a move of an earlier one.
 pub fn each_reached<G: Game>(start: Position, limit: usize, list: &[Position])
     requires some { 1 ≤ limit }
     requires listing { IsListing G.rules start limit list.now }
@@ -293,8 +295,8 @@ pub fn each_reached<G: Game>(start: Position, limit: usize, list: &[Position])
     ensures earlier { ComesFromEarlier G.rules list.now }
 {}
 
-/// Has no effect; its contract states that a listing to which no result is missing has every position that play from the start reaches, and that any other has
-/// as many as the limit says.
+/// Has no effect; its contract states that a listing to which no result is missing has every position that play from the start
+/// reaches, and that any other listing has as many positions as its limit.
 pub fn all_or_full<G: Game>(start: Position, limit: usize, list: &[Position])
     requires some { 1 ≤ limit }
     requires listing { IsListing G.rules start limit list.now }

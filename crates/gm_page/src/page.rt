@@ -1,4 +1,4 @@
-//! Pages: an explorer of the positions that play reaches from one of them.
+//! Pages: explorers of the positions that play reaches from a position.
 ghost use Rattle.std.specs.Prelude.{◌≡◌, ◌<◌, ◌≤◌, ◌++◌, ◌^◌, [], true, List, length, IfOk, OnOk};
 ghost use Rattle.std.specs.List.{All, list_all};
 ghost use Rattle.serde_json.specs.Data.{Data};
@@ -22,9 +22,11 @@ use gm_draw::pictured::Pictured;
 use gm_game::position::Position;
 use std::alloc::{AllocError, Global};
 
-/// The page of a position, as one HTML file: the viewer, and in it a line that tells of the game, and then a row of each position of the `listing_of` this
-/// one. A row is an array in JSON: the position's text, its value, and its moves, the best first, in groups of equal worth; of each move its text, and the
-/// number of its result's row, from 0, where the page has one. The whole page is made in memory.
+/// Returns the page of a position, as one HTML file: the viewer, and in it a line that describes the game, and a row for each
+/// position of its `listing_of`. The whole page is built in memory.
+///
+/// A row is a JSON array: the position's text, its value, and its moves, the best first, in groups of equal worth. A move has its
+/// text and the number of its result's row, from 0, if the page has that row.
 pub fn page_text<G: Pictured>(
     alloc: Global,
     start: &Known<'_, G>,
@@ -39,7 +41,7 @@ pub fn page_text<G: Pictured>(
     page
 }
 
-// The page of listed positions.
+// Returns the page of listed positions.
 fn page_of_listing<G: Pictured>(
     alloc: Global,
     start: &Known<'_, G>,
@@ -76,7 +78,7 @@ fn push_page<G: Pictured>(
     Ok(())
 }
 
-// Appends the first part of the viewer, and the line that tells of the game.
+// Appends the first part of the viewer, and the line that describes the game.
 fn push_first<G: Pictured>(alloc: Global, whole: bool, page: &mut Vec<u8>) -> Result<(), AllocError>
     ensures { OnOk result (page.new.items
         ≡ page.old.items ++ FRONT.now ++ script_line (head_tree G.Game.rules.name G.style G.title G.board G.points G.naming whole)) }
@@ -85,7 +87,8 @@ fn push_first<G: Pictured>(alloc: Global, whole: bool, page: &mut Vec<u8>) -> Re
     push_head::<G>(alloc, page, whole)
 }
 
-/// Has no effect; its contract states that no byte of a page's lines opens a tag, and that each of them, read as JSON, is the tree that it is written for.
+/// Has no effect; its contract states that no byte of a page's lines opens a tag, and that each line, read as JSON, is the tree
+/// that it was written from.
 pub fn lines_are_read<G: Pictured>(list: &[Position], whole: bool)
     ensures closed { (head : Data) (rows : List Data) → list_all opens_none (script_lines head rows) ≡ true }
     ensures head { IsReadBack (head_tree G.Game.rules.name G.style G.title G.board G.points G.naming whole) }

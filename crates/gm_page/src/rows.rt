@@ -1,4 +1,4 @@
-//! The rows of a page: each tells of one position.
+//! The rows of a page, each of which describes one position.
 ghost use Rattle.std.specs.Prelude.{◌≡◌, ◌≤◌, ◌++◌, [], true, List, length, map, take, slice_get, IfOk, OnOk, IfSome};
 ghost use Rattle.std.specs.List.{All, flat_map};
 ghost use Rattle.serde_json.specs.Data.{Data};
@@ -110,7 +110,7 @@ fn push_groups<G: Shown>(
     Ok(())
 }
 
-// How many of the first moves are worth this.
+// Returns the number of moves at the beginning of the list that have this worth.
 fn run_length(moves: &[MoveValue], worth: Solved) -> usize
     ensures within { result ≤ length moves.now }
     ensures same { All (λ (x : MoveValue). x.worth ≡ worth) (take result moves.now) }
@@ -123,7 +123,7 @@ fn run_length(moves: &[MoveValue], worth: Solved) -> usize
     count
 }
 
-// A group of moves that are worth this.
+// Returns a group of moves of this worth.
 fn group_value<G: Shown>(
     alloc: Global,
     list: &Listing,
@@ -143,7 +143,7 @@ fn group_value<G: Shown>(
     Ok(Json::Array(cells))
 }
 
-// Appends a move, and after it the number of its result's line, where there is one.
+// Appends a move, and the number of its result's row if the page has it.
 fn push_move<G: Shown>(
     alloc: Global,
     list: &Listing,

@@ -1,11 +1,12 @@
-//! Texts that stand in an element of a page, as lines of JSON for a script.
+//! Texts in an element of a page: lines of JSON for a script.
 ghost use Rattle.std.specs.Prelude.{◌≡◌, ◌++◌, true, OnOk};
 ghost use Rattle.std.specs.List.{list_all};
 ghost use Rattle.gm_page.specs.Scripts.{opens_none, script_byte, script_text};
 
 use std::alloc::AllocError;
 
-/// Appends a text in which each `<` is written as `\u003c`: in JSON it says the same, and in a page it can neither end its element nor begin a comment.
+/// Appends a text in which each `<` is written as `\u003c`. In JSON the two are equal, and in a page the escape can neither end the
+/// element nor begin a comment.
 pub fn push_script(page: &mut Vec<u8>, text: &[u8]) -> Result<(), AllocError>
     ensures { OnOk result (page.new.items ≡ page.old.items ++ script_text text.now) }
 {

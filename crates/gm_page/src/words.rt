@@ -11,14 +11,14 @@ use crate::script::push_script;
 use serde_json::{Map, Value as Json, put};
 use std::alloc::{AllocError, Global};
 
-/// A text.
+/// Returns a JSON string with this text.
 pub(crate) fn text_value(alloc: Global, bytes: &[u8]) -> Result<Json, AllocError>
     ensures { IfOk result (λ v. view v ≡ text bytes.now) }
 {
     Ok(Json::String(String::from_utf8_lossy(alloc, bytes)?))
 }
 
-/// A word.
+/// Returns a JSON string with this word.
 pub(crate) fn word_value(alloc: Global, word: &str) -> Result<Json, AllocError>
     ensures { IfOk result (λ v. view v ≡ string word.now) }
 {

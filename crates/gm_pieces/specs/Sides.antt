@@ -8,14 +8,14 @@ use Rattle.gm_board.specs.Cells.{cell_at}
 use Rattle.gm_board.specs.Permutations.{permute}
 
 -- ---- moves of a piece
--- a piece of the mover's stands on the first cell, and no piece on the second
+-- a piece of the mover's is on the first cell, and no piece on the second
 pub record IsStep (b : List Cell) (a c : ℕ) : Type 0 where
   pub from_below : a < length b
   pub to_below : c < length b
   pub mine : cell_at b a ≡ Mine
   pub free : cell_at b c ≡ Empty
 
--- no piece stands on the first cell, and a piece of the opponent's, who can have moved it, stands on the second
+-- no piece is on the first cell, and a piece of the opponent's, who can have moved it, is on the second
 pub record WasStep (d : List Cell) (a c : ℕ) : Type 0 where
   pub there : cell_at d c ≡ Theirs
   pub left : cell_at d a ≡ Empty

@@ -6,7 +6,7 @@ ghost use Rattle.gm_game.specs.Ascending.{put as put_once};
 use arrayvec::ArrayVec;
 use gm_game::limits::PARENTS;
 
-// The place of the first number of a list that isn't below x, or the list's length.
+// Returns the place of the first number of a list that isn't below x, or the list's length.
 fn place_of(list: &[u64], x: u64) -> usize
     ensures within { result ≤ length list.now }
     ensures before { (k : ℕ) → k < result → slice_index list.now k < x }

@@ -16,7 +16,7 @@ use gm_game::position::{End, Kind, Position};
 
 /// The lists of a game on boards. Each call has a body here, and a game may put a faster one in its place.
 pub trait MoveLists: MoveRules {
-    /// Whether no move could be made if the game were not over.
+    /// Returns whether no move could be made if the game were not over.
     fn is_stuck(board: Self::Board) -> bool
         requires { Self.game.legal (Self.cells board) ≡ true }
         ensures { result ≡ (length (steps Self.game (Self.cells board)) == 0) }
@@ -24,7 +24,7 @@ pub trait MoveLists: MoveRules {
         has_no_move::<Self>(board)
     }
 
-    /// How the game has ended: by the last move, or else because the player to move can't move.
+    /// Returns how the game has ended: by the last move, or else because the player to move can't move.
     fn end(board: Self::Board) -> Option<End>
         requires { Self.game.legal (Self.cells board) ≡ true }
         ensures { result ≡ (board_game Self.game).ended (Self.cells board) }
@@ -41,7 +41,7 @@ pub trait MoveLists: MoveRules {
         }
     }
 
-    /// The numbers of the moves that could be made if the game were not over, ascending.
+    /// Returns the numbers of the moves that could be made if the game were not over, ascending.
     fn open_moves(board: Self::Board) -> ArrayVec<u32, MOVES>
         requires { Self.game.legal (Self.cells board) ≡ true }
         ensures { result.items ≡ steps Self.game (Self.cells board) }
@@ -49,7 +49,7 @@ pub trait MoveLists: MoveRules {
         list_moves::<Self>(board)
     }
 
-    /// The numbers of the moves, ascending.
+    /// Returns the numbers of the moves, ascending.
     fn moves(board: Self::Board) -> ArrayVec<u32, MOVES>
         requires { Self.game.legal (Self.cells board) ≡ true }
         ensures { result.items ≡ (board_game Self.game).moves (Self.cells board) }
@@ -83,7 +83,7 @@ pub trait MoveLists: MoveRules {
         list_results::<Self>(board, moves.as_slice(), list);
     }
 
-    /// How many positions `fill_children` writes.
+    /// Returns how many positions `fill_children` writes.
     #[tactic(auto, using(gm_game::proofs::ChildrenLemmas::set_once))]
     fn count_children(board: Self::Board) -> usize
         requires { Self.game.legal (Self.cells board) ≡ true }
@@ -94,7 +94,7 @@ pub trait MoveLists: MoveRules {
         set.len()
     }
 
-    /// The kind of p, for a solver.
+    /// Returns the kind of p, for a solver.
     fn kind(p: Position) -> Kind
         ensures { IsKind (move_rules Self.game) p result }
     {
@@ -111,7 +111,7 @@ pub trait MoveLists: MoveRules {
         }
     }
 
-    /// The first canonical legal position of the tier with an index from `lo` up to `hi`: its index and its board; `None` if there is none.
+    /// Returns the first canonical legal position of the tier with an index from `lo` up to `hi`: its index and its board; `None` if there is no such position.
     fn first_board(tier: u64, lo: u64, hi: u64) -> Option<(u64, Self::Board)>
         ensures { IsFirstBoard Self.cells Self.game tier lo hi result }
     {
@@ -124,7 +124,7 @@ pub trait MoveLists: MoveRules {
         None
     }
 
-    /// The least indexes of the boards of the tier from which a move leads to this one, ascending and once each.
+    /// Returns the least indexes of the boards of the tier from which a move leads to this one, ascending and once each.
     fn parents(tier: u64, board: Self::Board) -> ArrayVec<u64, PARENTS>
         requires { Self.game.legal (Self.cells board) ≡ true }
         ensures { result.items ≡ put_all [] (map (least_index_of (board_game Self.game)) (befores Self.game tier (Self.cells board))) }

@@ -11,7 +11,7 @@ use arrayvec::ArrayVec;
 use gm_game::limits::{MOVES, PARENTS};
 use gm_game::position::Position;
 
-/// Whether the last move has not ended the game.
+/// Returns whether the last move has not ended the game.
 pub fn plays_on<T: MoveRules>(board: T::Board) -> bool
     requires { T.game.legal (T.cells board) ≡ true }
     ensures { result ≡ plays_on_of (T.game.end_by_last_move (T.cells board)) }
@@ -19,7 +19,7 @@ pub fn plays_on<T: MoveRules>(board: T::Board) -> bool
     T::end_by_last_move(board).is_none()
 }
 
-/// The numbers of the moves that could be made if the game were not over, ascending.
+/// Returns the numbers of the moves that could be made if the game were not over, ascending.
 #[tactic(auto, using(gm_board::specs::laws::Filters::filter_in, gm_board::specs::laws::Filters::filter_out, crate::specs::laws::MoveLaws::all_steps))]
 pub fn list_moves<T: MoveRules>(board: T::Board) -> ArrayVec<u32, MOVES>
     requires { T.game.legal (T.cells board) ≡ true }
@@ -34,7 +34,7 @@ pub fn list_moves<T: MoveRules>(board: T::Board) -> ArrayVec<u32, MOVES>
     list
 }
 
-/// Whether no move could be made if the game were not over.
+/// Returns whether no move could be made if the game were not over.
 #[tactic(auto, using(gm_board::specs::laws::Filters::filter_out, crate::specs::laws::MoveLaws::step_listed, crate::specs::laws::MoveLaws::all_steps))]
 pub fn has_no_move<T: MoveRules>(board: T::Board) -> bool
     requires { T.game.legal (T.cells board) ≡ true }
@@ -64,7 +64,7 @@ pub fn list_results<T: MoveRules>(
     }
 }
 
-/// The board of the tier from which a move with this number led to this board, if there is one.
+/// Returns the board of the tier from which a move with this number led to this board, if there is one.
 #[tactic(auto, using(gm_board::specs::laws::Lists::and_left, crate::specs::laws::MoveLaws::before_some, crate::specs::laws::MoveLaws::before_none))]
 pub fn before<T: MoveRules>(tier: u64, board: T::Board, number: u32) -> Option<T::Board>
     requires legal { T.game.legal (T.cells board) ≡ true }

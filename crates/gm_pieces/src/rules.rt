@@ -33,55 +33,55 @@ pub trait MoveRules: Drop {
     /// The text of a move, by its tier and number.
     ghost step_text: { ℕ → ℕ → List ℕ };
 
-    /// The game's name in ASCII, padded with zeros.
+    /// Returns the game's name in ASCII, padded with zeros.
     fn name() -> [u8; NAME]
         ensures { result ≡ game.name };
 
-    /// The position that the game starts from.
+    /// Returns the position that the game starts from.
     fn initial() -> Position
         ensures { result ≡ position_of (board_game game) game.start };
 
-    /// How many indexes the tier has: 0 for a number that is no tier of the game.
+    /// Returns how many indexes the tier has: 0 for a number that is no tier of the game.
     fn tier_size(tier: u64) -> u64
         ensures { result ≡ game.size tier };
 
-    /// The other tiers, ascending, that a move from this tier can lead to.
+    /// Returns the other tiers, ascending, that a move from this tier can lead to.
     fn child_tiers(tier: u64) -> ArrayVec<u64, CHILD_TIERS>
         ensures { result.items ≡ game.child_tiers tier };
 
-    /// A number that is smaller for each child tier.
+    /// Returns a number that is smaller for each child tier.
     fn tier_rank(tier: u64) -> u64
         ensures { result ≡ game.tier_rank tier };
 
-    /// All numbers of moves from a tier are below this number.
+    /// Returns a number above all numbers of moves from a tier.
     fn move_number_bound(tier: u64) -> u32
         ensures { result ≡ game.move_number_bound tier };
 
-    /// The board with this index.
+    /// Returns the board with this index.
     fn board(tier: u64, index: u64) -> Self::Board
         requires { index < game.size tier }
         ensures { cells result ≡ game.board tier index };
 
-    /// Whether a board is legal.
+    /// Returns whether a board is legal.
     fn is_legal_board(board: Self::Board) -> bool
         ensures { result ≡ game.legal (cells board) };
 
-    /// The tier of a board.
+    /// Returns the tier of a board.
     fn tier(board: Self::Board) -> u64
         requires { game.legal (cells board) ≡ true }
         ensures { result ≡ game.tier (cells board) };
 
-    /// The index of a board.
+    /// Returns the index of a board.
     fn index(board: Self::Board) -> u64
         requires { game.legal (cells board) ≡ true }
         ensures { result ≡ game.index (cells board) };
 
-    /// The least of the indexes of a board's images.
+    /// Returns the least of the indexes of a board's images.
     fn least_index(board: Self::Board) -> u64
         requires { game.legal (cells board) ≡ true }
         ensures { result ≡ least_index_of (board_game game) (cells board) };
 
-    /// Whether p, whose board is given, is legal and the representative of its symmetric positions. A game may make the tests in another order.
+    /// Returns whether p, whose board is given, is legal and the representative of its symmetric positions. A game may make the tests in another order.
     fn is_canonical(p: Position, board: Self::Board) -> bool
         requires below { p.index < game.size p.tier }
         requires own { cells board ≡ board_of (board_game game) p }
@@ -92,7 +92,7 @@ pub trait MoveRules: Drop {
             && Self::least_index(board) == p.index
     }
 
-    /// Whether p is a legal position. A game may have a test that needs no board.
+    /// Returns whether p is a legal position. A game may have a test that needs no board.
     fn is_legal(p: Position) -> bool
         ensures { result ≡ (move_rules game).is_legal p }
     {
@@ -103,42 +103,42 @@ pub trait MoveRules: Drop {
         Self::is_legal_board(board) && Self::tier(board) == p.tier
     }
 
-    /// How the last move has ended the game, if it has.
+    /// Returns how the last move has ended the game, if it has.
     fn end_by_last_move(board: Self::Board) -> Option<End>
         requires { game.legal (cells board) ≡ true }
         ensures { result ≡ game.end_by_last_move (cells board) };
 
-    /// How the game ends if the player to move can't move.
+    /// Returns how the game ends if the player to move can't move.
     fn end_if_no_move(board: Self::Board) -> End
         requires { game.legal (cells board) ≡ true }
         ensures { result ≡ game.end_if_no_move (cells board) };
 
-    /// Whether the move with this number could be made if the game were not over.
+    /// Returns whether the move with this number could be made if the game were not over.
     fn can_move(board: Self::Board, number: u32) -> bool
         requires legal { game.legal (cells board) ≡ true }
         requires below { number < game.move_number_bound (game.tier (cells board)) }
         ensures { result ≡ game.can_move (cells board) number };
 
-    /// The board after a move, as the other player sees it.
+    /// Returns the board after a move, as the other player sees it.
     fn moved(board: Self::Board, number: u32) -> Self::Board
         requires legal { game.legal (cells board) ≡ true }
         requires step { IsMove game (cells board) number }
         ensures { cells result ≡ game.moved (cells board) number };
 
-    /// Whether the move with this number can have led to this board from a board of the tier.
+    /// Returns whether the move with this number can have led to this board from a board of the tier.
     fn can_have_led_here(tier: u64, board: Self::Board, number: u32) -> bool
         requires legal { game.legal (cells board) ≡ true }
         requires below { number < game.move_number_bound tier }
         ensures { result ≡ game.can_have_led_here tier (cells board) number };
 
-    /// The board before the move with this number, as the player who made it saw it.
+    /// Returns the board before the move with this number, as the player who made it saw it.
     fn undo(tier: u64, board: Self::Board, number: u32) -> Self::Board
         requires legal { game.legal (cells board) ≡ true }
         requires below { number < game.move_number_bound tier }
         requires was { game.can_have_led_here tier (cells board) number ≡ true }
         ensures { cells result ≡ game.undo tier (cells board) number };
 
-    /// Whether the board is a legal one of the tier from which the game goes on by this move. A game may make the tests in another order.
+    /// Returns whether the board is a legal one of the tier from which the game goes on by this move. A game may make the tests in another order.
     fn goes_on(tier: u64, board: Self::Board, number: u32) -> bool
         requires { number < game.move_number_bound tier }
         ensures { result ≡ goes_on_of game tier (cells board) number }
@@ -149,16 +149,16 @@ pub trait MoveRules: Drop {
             && Self::can_move(board, number)
     }
 
-    /// The text of a board.
+    /// Returns the text of a board.
     fn board_text(board: Self::Board) -> Line
         requires { game.legal (cells board) ≡ true }
         ensures { result.items ≡ text (cells board) };
 
-    /// The board that has this text, if there is one. Any bytes may be given.
+    /// Returns the board that has this text, if there is one. Any bytes may be given.
     fn board_in(bytes: &[u8]) -> Self::Board
         ensures { (b : Cells) → game.legal b ≡ true → text b ≡ bytes.now → b ≡ cells result };
 
-    /// The text of a move.
+    /// Returns the text of a move.
     fn move_text(board: Self::Board, number: u32) -> Line
         requires legal { game.legal (cells board) ≡ true }
         requires step { IsMove game (cells board) number }

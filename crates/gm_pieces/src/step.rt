@@ -10,7 +10,7 @@ pub struct Step {
 }
 
 impl Step {
-    /// The move with this number.
+    /// Returns the move with this number.
     #[tactic(auto, unfolding(crate::specs::Steps::from_point, crate::specs::Steps::to_point))]
     pub fn numbered(number: u32) -> Step
         ensures from { result.from ≡ from_point number }

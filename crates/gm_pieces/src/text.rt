@@ -18,7 +18,7 @@ const THEIRS: u8 = b'o';
 /// The byte of an empty cell.
 const EMPTY: u8 = b'.';
 
-// The byte of a cell.
+// Returns the byte of a cell.
 fn cell_byte(cell: Cell) -> u8
     ensures { result ≡ cell_char cell }
 {
@@ -29,8 +29,8 @@ fn cell_byte(cell: Cell) -> u8
     }
 }
 
-/// The text of a board of this many cells with these pieces: its cells in order, `x` for a piece of the mover's, `o` for one of the opponent's and `.` for an
-/// empty cell (docs/GAMES.md, Common forms).
+/// Returns the text of a board of this many cells with these pieces: its cells in order, `x` for a piece of the mover's, `o` for one of the opponent's and `.`
+/// for an empty cell (docs/GAMES.md, Common forms).
 #[tactic(auto, using(crate::proofs::TextSteps::text_none, crate::proofs::TextSteps::text_more, crate::proofs::TextSteps::text_long))]
 pub fn board_text(cells: u32, mine: u32, theirs: u32) -> Line
     requires { cells ≤ 25 }
@@ -43,7 +43,7 @@ pub fn board_text(cells: u32, mine: u32, theirs: u32) -> Line
     line
 }
 
-/// Whether the text has this byte in the place of a cell. Any bytes may be given.
+/// Returns whether the text has this byte in the place of a cell. Any bytes may be given.
 pub fn has_mark(text: &[u8], byte: u8, cell: u32) -> bool
     requires { 0 < byte }
     ensures { result ≡ (slice_index text.now cell == byte) }
@@ -54,7 +54,7 @@ pub fn has_mark(text: &[u8], byte: u8, cell: u32) -> bool
     }
 }
 
-/// The mask of the cells in whose places the text has this byte. Any bytes may be given.
+/// Returns the mask of the cells in whose places the text has this byte. Any bytes may be given.
 #[tactic(auto, using(gm_board::specs::laws::Marks::read_in, gm_board::specs::laws::Marks::read_out, gm_board::specs::laws::Marks::read_start, gm_board::specs::laws::MaskChanges::with_within))]
 pub fn marks(cells: u32, text: &[u8], byte: u8) -> u32
     requires few { cells ≤ 25 }
@@ -71,7 +71,7 @@ pub fn marks(cells: u32, text: &[u8], byte: u8) -> u32
     marks
 }
 
-/// The masks of the mover's and of the opponent's pieces on the board of this many cells that has this text, if there is one. Any bytes may be given.
+/// Returns the masks of the mover's and of the opponent's pieces on the board of this many cells that has this text, if there is one. Any bytes may be given.
 #[tactic(auto, using(crate::proofs::TextSteps::read_all))]
 pub fn masks_in(cells: u32, text: &[u8]) -> (u32, u32)
     requires { cells ≤ 25 }

@@ -13,7 +13,7 @@ use crate::rules::MoveRules;
 use gm_game::position::Position;
 use gm_game::shown::{Line, Shown};
 
-// Whether this is the text of a board.
+// Returns whether this is the text of a board.
 fn is_shown<T: MoveRules>(board: T::Board, text: &[u8]) -> bool
     requires { T.game.legal (T.cells board) ≡ true }
     ensures { IsTrue result ↔ (T.text (T.cells board) ≡ text.now) }
@@ -21,7 +21,7 @@ fn is_shown<T: MoveRules>(board: T::Board, text: &[u8]) -> bool
     T::board_text(board).as_slice() == text
 }
 
-// The legal board with this text, if there is one.
+// Returns the legal board with this text, if there is one.
 fn read_board<T: MoveRules>(text: &[u8]) -> Option<T::Board>
     ensures { MatchOption result
         ((b : T.Cells) → T.game.legal b ≡ true → T.text b ≡ text.now → ⊥)
@@ -35,7 +35,7 @@ fn read_board<T: MoveRules>(text: &[u8]) -> Option<T::Board>
     }
 }
 
-// Whether this is the text of a move.
+// Returns whether this is the text of a move.
 fn has_text<T: MoveRules>(board: T::Board, number: u32, text: &[u8]) -> bool
     requires legal { T.game.legal (T.cells board) ≡ true }
     requires step { IsMove T.game (T.cells board) number }
@@ -44,7 +44,7 @@ fn has_text<T: MoveRules>(board: T::Board, number: u32, text: &[u8]) -> bool
     T::move_text(board, number).as_slice() == text
 }
 
-// The move with this text, if there is one.
+// Returns the move with this text, if there is one.
 #[tactic(auto, using(crate::specs::laws::TextFacts::move_missing, crate::specs::laws::MoveLaws::plays, crate::specs::laws::MoveLaws::plays_not))]
 fn read_step<T: MoveRules>(board: T::Board, text: &[u8]) -> Option<u32>
     requires { T.game.legal (T.cells board) ≡ true }

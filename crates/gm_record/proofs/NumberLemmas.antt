@@ -84,7 +84,7 @@ number_back : (v : Version) (n : ℕ) → n < 256 ^ width v → from_le_bytes (w
 number_back One n h = from_le_bytes-to_le_bytes_2 n h
 number_back Two n h = from_le_bytes-to_le_bytes_4 n h
 
--- where a number is that of no record, its bytes are those of none
+-- if a number is that of no record, its bytes are those of none
 pub none_here : (v : Version) (number : ℕ) (one : List ℕ) → number < 256 ^ width v → to_le_bytes (word v) number ≡ one →
     ((o : Option Solved) → IsStorable v o → record_number v o ≢ number)
     → (o : Option Solved) → IsStorable v o → one ≢ record_bytes v o

@@ -48,7 +48,7 @@ abbrev pub IsStorable : Version → Option Solved → Type 0
 IsStorable v None = Unit {0}
 IsStorable v (Some s) = IsStorableSolved v s.value s.remoteness
 
--- the number of a record: 0 where there is none
+-- the number of a record: 0 if there is none
 abbrev pub record_number : Version → Option Solved → ℕ
 record_number v None = 0
 record_number v (Some s) = code s.value * step v + s.remoteness

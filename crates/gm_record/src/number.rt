@@ -6,7 +6,7 @@ ghost use Rattle.gm_record.specs.Numbers.{code, record_number, IsStorable};
 use crate::version::Version;
 use gm_game::position::{Solved, Value};
 
-/// The number of a record.
+/// Returns the number of a record.
 pub fn number_of(version: Version, entry: Option<Solved>) -> u32
     requires { IsStorable version entry }
     ensures { result ≡ record_number version entry }
@@ -34,7 +34,7 @@ pub fn record_of(version: Version, number: u32) -> Option<Option<Solved>>
     Some(Some(Solved { value, remoteness }))
 }
 
-// The code of a value.
+// Returns the code of a value.
 fn code_of(value: Value) -> u32
     ensures value { result ≡ code value }
     ensures few { result ≤ 4 }

@@ -13,7 +13,7 @@ pub struct Summary {
 }
 
 impl Summary {
-    /// What the records of no children say: none is a loss or a tie, and as all of none are wins, the greatest remoteness of a win is 0.
+    /// Returns the summary of no children: vacuously all children are wins, with greatest remoteness 0.
     pub fn of_none() -> Summary
         ensures lost { result.lost ≡ None }
         ensures won { result.won ≡ Some 0 }
@@ -26,7 +26,7 @@ impl Summary {
         }
     }
 
-    /// The same with one more child's record.
+    /// Returns the same with one more child's record.
     pub fn with(self, known: Option<Solved>) -> Summary
         ensures lost { result.lost ≡ lesser self.lost (lost_in known) }
         ensures won { result.won ≡ greater self.won (won_in known) }
@@ -66,7 +66,7 @@ impl Summary {
         }
     }
 
-    /// Whether a position with these children has this value.
+    /// Returns whether a position with these children has this value.
     pub fn settles(self, solved: Solved) -> bool
         ensures { IsTrue result ↔ (solved ≡ settle self.lost self.won self.tied) }
     {
@@ -79,14 +79,14 @@ impl Summary {
     }
 }
 
-// The lesser of a remoteness, if there is one, and n.
+// Returns the lesser of a remoteness, if there is one, and n.
 fn least(lost: Option<u32>, n: u32) -> Option<u32>
     ensures { result ≡ lesser lost (Some n) }
 {
     Some(lost.map_or(n, |m| m.min(n)))
 }
 
-// Whether a value is this one, with a remoteness of one more.
+// Returns whether a value is this one, with a remoteness of one more.
 fn is_next(solved: Solved, value: Value, n: u32) -> bool
     ensures { IsTrue result ↔ (solved ≡ solved_spec value (n + 1)) }
 {

@@ -15,7 +15,7 @@ pub enum Version {
 }
 
 impl Version {
-    /// The bytes of a record.
+    /// Returns the bytes of a record.
     pub fn record_len(self) -> usize
         ensures value { result ≡ width self }
         ensures some { 0 < result }
@@ -27,7 +27,7 @@ impl Version {
         }
     }
 
-    /// How many numbers of records there are for each code.
+    /// Returns how many numbers of records there are for each code.
     pub fn step(self) -> u32
         ensures value { result ≡ step_of self }
         ensures some { 0 < result }

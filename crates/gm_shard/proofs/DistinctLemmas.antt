@@ -66,7 +66,7 @@ fewer_than n k xs d below l new =
     below_more x (zero, m, e) = omega (arith, e)
     below_more x (suc i, m, e) = below x (i, omega arith, e)
 
--- which place of a list stands at place k once the places i and j are exchanged
+-- which place of a list is at place k once the places i and j are exchanged
 abbrev Exchanged : ℕ → ℕ → ℕ → ℕ → Type 0
 Exchanged i j k o = ((k ≡ i) × (o ≡ j)) ⊎ (((k ≡ j) × (o ≡ i)) ⊎ ((k ≡ o) × (k ≡ i → ⊥) × (k ≡ j → ⊥)))
 

@@ -52,7 +52,7 @@ filled_few r s phase n q f l =
     let room = f.room in
     omega arith
 
--- a settled status has this phase exactly where the record has
+-- a settled status has this phase exactly if the record has
 has_phase_of : (r : Rules) (s : ShardState) → IsGood r s → (phase : Phase) (i : ℕ) → IsInRange s i → (status : Status) (x : Solved) → StatusIs r s i status
     → StatusIs r s i (Settled x) → HasPhase phase (Settled x) → HasPhase phase status
 has_phase_of r s g phase i m Hole x a b p = absurd (none_of r (at s.tier i) (delivered_to s i) Hole a (λ y e. cc) x b)
@@ -106,7 +106,7 @@ module _ (r : Rules) (s : ShardState) (good : IsGood r s) (phase : Phase) (n : �
     room = f.room;
   }
 
--- where no child is delivered a settled position has ended
+-- if no child is delivered a settled position has ended
 end_at_once : (e : End) → (from_end e).remoteness ≡ 0
 end_at_once EndLose = refl
 end_at_once EndTie = refl

@@ -152,14 +152,14 @@ in_order tier lo [] h = tt
 in_order tier lo (k ∷ ks) h =
     (later_all tier lo k ks (λ j l. h 0 (suc j) (omega arith) (omega arith)), in_order tier lo ks (λ i j l m. h (suc i) (suc j) (omega arith) (omega arith)))
 
--- a settled value stands in its phase
+-- a settled value is in its phase
 pub stands_of : (r : Rules) (p : Position) (v : Value) (n : ℕ) → HasValue r p v n → (v ≢ Draw) → StandsAt r (phase_of v) n p
 stands_of r p Lose n h some = inr h
 stands_of r p Draw n h some = absurd (some refl)
 stands_of r p Tie n h some = h
 stands_of r p Win n h some = inl h
 
--- what stands at a place has that phase and remoteness
+-- what is at a place has that phase and remoteness
 pub place_is : (r : Rules) (p : Position) (x : Solved) (phase : Phase) (n : ℕ) → IsTrueValue r p x → (x.value ≢ Draw) → StandsAt r phase n p
     → (phase_of x.value ≡ phase) × (x.remoteness ≡ n)
 place_is r p x WinLose n h some (inl w) = let (e, f) = HasValue_once r p x.value Win x.remoteness n h w in (ap phase_of e, f)

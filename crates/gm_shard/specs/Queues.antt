@@ -25,13 +25,13 @@ pub record IsSettledIn (r : Rules) (s : ShardState) (phase : Phase) (k : ℕ) : 
   pub settled : StatusIs r s (s.lo + k) (Settled value)
   pub phase_is : phase_of value.value ≡ phase
 
--- the remoteness that stands at a place of a queue: below the level before the present part, the level itself in that part, and the next level after it
+-- the remoteness that is at a place of a queue: below the level before the present part, the level itself in that part, and the next level after it
 pub record IsPlaced (level : ℕ) (q : QueueData) (place remoteness : ℕ) : Type 0 where
   pub before : place < q.from → remoteness < level
   pub present : q.from ≤ place → place < q.to → remoteness ≡ level
   pub after : q.to ≤ place → remoteness ≡ level + 1
 
--- no number stands at two places
+-- no number is at two places
 abbrev pub AreDistinct : List ℕ → Type 0
 AreDistinct xs = (i j : ℕ) → i < length xs → j < length xs → slice_index xs i ≡ slice_index xs j → i ≡ j
 

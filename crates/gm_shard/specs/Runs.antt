@@ -1,4 +1,4 @@
--- Runs of events over the states of shards, whatever the order of the events.
+-- Runs of events over the states of shards, in any order of the events.
 use Rattle.std.specs.Prelude.{◌≡◌, ℕ, suc, ◌⊎◌, List, [], ◌∷◌, Some, slice_get, slice_set}
 use Rattle.gm_game.specs.Rules.{Rules}
 use Rattle.gm_shard.specs.declared.event.Event.{Event}

@@ -34,7 +34,7 @@ fn ended<G: Game>(alloc: Global, children: &Ordered<G>, phase: Phase) -> Result<
     Ok(queue)
 }
 
-// The notes of settled indexes of the range, in order.
+// Returns the notes of settled indexes of the range, in order.
 fn notes_at<G: Game>(
     alloc: Global,
     children: &Ordered<G>,
@@ -111,14 +111,14 @@ impl<G: Game> OrderedShard<G> {
         })
     }
 
-    /// The tier.
+    /// Returns the tier.
     pub fn tier(&self) -> u64
         ensures { result ≡ self.now.tier }
     {
         self.children.tier()
     }
 
-    /// The index range: the first index, and the one past the last.
+    /// Returns the index range: the first index, and the one past the last.
     pub fn range(&self) -> (u64, u64)
         ensures lo { result.0 ≡ self.now.lo }
         ensures hi { result.1 ≡ self.now.lo + length self.now.delivered }
@@ -129,14 +129,14 @@ impl<G: Game> OrderedShard<G> {
         (lo, lo + count)
     }
 
-    /// The present place.
+    /// Returns the present place.
     pub fn place(&self) -> Place
         ensures { result ≡ place_of self.now }
     {
         self.children.place()
     }
 
-    /// How many pairs are delivered.
+    /// Returns how many pairs are delivered.
     pub fn delivered(&self) -> u64
         ensures value { result ≡ pairs_in self.now }
         ensures small { pairs_in self.now ≤ MOVES * TIER_SIZE }
@@ -144,7 +144,7 @@ impl<G: Game> OrderedShard<G> {
         self.children.delivered()
     }
 
-    /// What is known of an index.
+    /// Returns the record of an index, if one is known.
     pub fn status(&self, index: u64) -> Status
         requires { IsInRange self.now index }
         ensures { StatusIs G.rules self.now index result }
@@ -201,7 +201,7 @@ impl<G: Game> OrderedShard<G> {
         }
     }
 
-    // The indexes of the range that are settled at the present place, in the order in which they were settled.
+    // Returns the indexes of the range that are settled at the present place, in the order in which they were settled.
     fn present(&self) -> &[u32]
         ensures { AreSettledAt G.rules self.now self.now.phase self.now.level result.now }
     {
@@ -211,7 +211,7 @@ impl<G: Game> OrderedShard<G> {
         }
     }
 
-    /// The notes of the present place, ascending. Takes time in proportion to the level.
+    /// Returns the notes of the present place, ascending. Takes time in proportion to the level.
     pub fn fresh(&self, alloc: Global) -> Result<Run<G>, AllocError>
         ensures place { IfOk result (λ run. run.place ≡ place_of self.now) }
         ensures lo { IfOk result (λ run. run.lo ≡ self.now.lo) }

@@ -24,7 +24,7 @@ impl Model for Queue {
 }
 
 impl Queue {
-    /// An empty queue with room for this many indexes.
+    /// Returns an empty queue with room for this many indexes.
     pub(crate) fn new(alloc: Global, room: usize) -> Result<Self, AllocError>
         ensures { IfOk result (λ q. (q.indexes ≡ []) × (q.from ≡ 0) × (q.to ≡ 0) × (room ≤ q.room)) }
     {
@@ -56,7 +56,7 @@ impl Queue {
         self.to = self.indexes.len();
     }
 
-    /// The indexes of the present level, in the order in which they were settled.
+    /// Returns the indexes of the present level, in the order in which they were settled.
     pub(crate) fn present(&self) -> &[u32]
         ensures { result.now ≡ slice_range self.now.indexes self.now.from self.now.to }
     {

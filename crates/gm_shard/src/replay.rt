@@ -13,7 +13,7 @@ use gm_frontier::note::Note;
 use gm_game::game::Game;
 use gm_game::limits::REMOTENESS;
 
-// The place of the shard that an event names.
+// Returns the place of the shard that an event names.
 fn shard_of<G: Game>(event: &Event<G>) -> usize
     ensures { result ≡ shard_of event.now }
 {
@@ -28,7 +28,7 @@ fn shard_of<G: Game>(event: &Event<G>) -> usize
     }
 }
 
-// Whether a delivery added its pair.
+// Returns whether a delivery added its pair.
 fn has_added(answer: &Result<Delivery, Refused>) -> bool
     ensures { MatchBool result (IsAdded answer.now) (IsAdded answer.now → ⊥) }
 {

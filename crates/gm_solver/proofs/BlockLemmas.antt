@@ -6,7 +6,7 @@ use Rattle.gm_deliveries.specs.declared.status.Start.{Start}
 use Rattle.gm_deliveries.specs.Begin.{IsStart, AreStarts}
 use Rattle.gm_table.proofs.Dealt.{append_cases}
 
--- the starts of a range, and those of the range that goes on where it ends
+-- the starts of a range, and those of the range that goes on if it ends
 pub starts_more : (r : Rules) (tier lo : ℕ) (xs ys : List Start) → length xs ≡ lo → AreStarts r tier 0 xs → AreStarts r tier lo ys
     → AreStarts r tier 0 (xs ++ ys)
 starts_more r tier lo xs ys long before more k x e = elim (append_cases xs ys k x e) [
@@ -14,7 +14,7 @@ starts_more r tier lo xs ys long before more k x e = elim (append_cases xs ys k 
   | inr (j, i, q) ↦ (let here : lo + j ≡ 0 + k = omega arith in subst (λ (m : ℕ). IsStart r (at tier m) x) here (more j x q))
 ]
 
--- an item of a part of a list stands in the list
+-- an item of a part of a list is in the list
 take_get : {X : Type 0} (n k : ℕ) (xs : List X) (x : X) → slice_get (take n xs) k ≡ Some x → slice_get xs k ≡ Some x
 take_get zero k xs x e = absurd (cc)
 take_get (suc n) k [] x e = absurd (cc)

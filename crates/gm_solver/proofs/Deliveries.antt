@@ -75,7 +75,7 @@ deliveries_outer r p none =
     there_none (IsDeliveryIn r p.tier p.index (p.index + 1))
     (λ pair d. none (subst (λ (i : ℕ). IsInner r (at p.tier i)) (one_index p.index pair.1 d.low d.high) d.delivery.is_parent.0))
 
--- none into indexes that are none of canonical positions
+-- none into indexes that are not any of canonical positions
 pub deliveries_holes : (r : Rules) (tier lo hi : ℕ) → AreHoles r tier lo hi → AreThere 0 (IsDeliveryIn r tier lo hi)
 deliveries_holes r tier lo hi holes =
     there_none (IsDeliveryIn r tier lo hi) (λ pair d. let inner = d.delivery.is_parent.0 in holes pair.1 d.low d.high (inner.legal, inner.canonical))

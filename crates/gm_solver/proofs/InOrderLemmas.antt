@@ -67,7 +67,7 @@ module _ (r : Rules) (g : IsGame r) (s : ShardState) (notes : List NoteData) (le
       subst (λ (v : ShardState). AreFirst (pairs_into r (spot_of s) notes) v (n + 1)) (sym is.0)
       (first_more r g (spot_of s) notes (of_level r g (spot_of s) notes level) t n pair at e is.1.is_mine first)
 
-  -- where none is left the level is whole
+  -- if none is left the level is whole
   pub whole_at_end : (t : ShardState) (n : ℕ) → spot_of t ≡ spot_of s → IsGood r t → length (pairs_into r (spot_of s) notes) ≤ n
       → AreFirst (pairs_into r (spot_of s) notes) t n → IsWhole r t
   whole_at_end t n at good most first =

@@ -99,7 +99,7 @@ passed_more r tier lo index records next number more o old is there small e =
       few = omega arith;
     })
 
--- no record stands at indexes that are none of canonical positions
+-- no record is at indexes that are not any of canonical positions
 none_at : (n k : ℕ) (o : Option Solved) → slice_get (replicate n None) k ≡ Some o → (k < n) × (o ≡ None)
 none_at zero k o e = absurd (cc)
 none_at (suc n) zero o e = (omega arith, (let same : None ≡ o = cc in sym same))

@@ -37,7 +37,7 @@ filter_mapped : {X Y : Type 0} (f : X → Y) (p : Y → Bool) (xs : List X) → 
 filter_mapped f p [] = refl
 filter_mapped f p (x ∷ xs) = map_step f x (filter p (map f xs)) (filter (λ y. p (f y)) xs) (filter_mapped f p xs) (p (f x))
 
--- an index is in the tile where it is in the tier and its quotient is the tile's number
+-- an index is in the tile if it is in the tier and its quotient is the tile's number
 same_test : (width size k i : ℕ) → 0 < width → (is_within 0 size i && (i / width == k)) ≡ is_within (min (k * width) size) (min (suc k * width) size) i
 same_test width size k i some = elim (cases_lt i size) [
   | inr past ↦ grind (arith, nat_tests)

@@ -39,7 +39,7 @@ choose_tile r place width a b c d ea eb ec ed (suc (suc zero)) l = ec
 choose_tile r place width a b c d ea eb ec ed (suc (suc (suc zero))) l = ed
 choose_tile r place width a b c d ea eb ec ed (suc (suc (suc (suc k)))) l = absurd (omega arith)
 
--- where a shard stands, by its spot
+-- the place of a shard, by its spot
 pub spot_place : (r : Rules) (place : Place) (width k : ℕ) (s : ShardState) → spot_of s ≡ tile_at r place width k → place_of s ≡ place
 spot_place r place width k s e = ap (λ (x : Spot). place_at x.tier x.phase x.level) e
 
@@ -130,7 +130,7 @@ number_joined r tier lo mid hi phase level m n below above (xs, long, first) (ys
     in_second : (pair : Position × ℕ) → Contains ys pair → Contains (xs ++ ys) pair
     in_second pair h = Contains-append_right xs ys pair h
 
--- the number of pairs into a tile whose child stands before the place
+-- the number of pairs into a tile whose child is before the place
 pub number_at : (r : Rules) (place : Place) (width k : ℕ) (s : ShardState) (n : ℕ) → spot_of s ≡ tile_at r place width k → IsGood r s
     → HasNoneHere r s → n ≡ pairs_in s
     → IsNumberBefore r place.tier (min (k * width) (r.tier_size place.tier)) (min (suc k * width) (r.tier_size place.tier)) place.phase place.level n

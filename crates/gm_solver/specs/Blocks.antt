@@ -13,7 +13,7 @@ pub record IsPart (r : Rules) (tier k : ℕ) (starts : List Start) : Type 0 wher
   pub long : min (k * 512) (r.tier_size tier) + length starts ≡ min (suc k * 512) (r.tier_size tier)
   pub starts_are : AreStarts r tier (min (k * 512) (r.tier_size tier)) starts
 
--- what is found at each place are the starts of the block that belongs to it, unless memory ran out, where each class has so many blocks
+-- what is found at each place are the starts of the block that belongs to it, unless memory ran out, if each class has that many blocks
 pub record ArePartsOf (r : Rules) (tier rows : ℕ) (found : List (Result (Vec Start Global) AllocError)) : Type 0 where
   pub many : length found ≡ rows * 32
   pub each : AllZip (λ place x. IfOk x (λ part. IsPart r tier (block_in rows place) part.items)) (range_with_len 0 (length found)) found

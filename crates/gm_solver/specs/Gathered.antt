@@ -23,7 +23,7 @@ pub record AreOnce (r : Rules) (p : Position) (cs : List Position) : Type 0 wher
   pub exact : AreResults r p cs
   pub once : IsOnce cs
 
--- the tables know these positions, this is what they say of them, and so many of them are no draws
+-- the tables know these positions, these are their records, and this is the number of those that are not draws
 pub record IsGathered (r : Rules) (entries : List TableData) (cs : List Position) (seen : Summary) (number : ℕ) : Type 0 where
   pub known : (c : Position) → Contains cs c → IsKnown r (value_in r entries) c
   pub lost : seen.lost ≡ least_of lost_in (map (value_in r entries) cs)

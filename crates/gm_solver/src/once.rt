@@ -12,7 +12,7 @@ use gm_game::position::Position;
 /// How many marks there are.
 const MARKS: u64 = 1024;
 
-// The mark of a position.
+// Returns the mark of a position.
 fn mark_of(p: Position) -> usize
     ensures value { result ≡ p.index % 1024 }
     ensures within { result < 1024 }
@@ -20,7 +20,7 @@ fn mark_of(p: Position) -> usize
     (p.index % MARKS) as usize
 }
 
-// Whether `p` is in `once`, all of whose positions are marked. The marks rule out most others.
+// Returns whether `p` is in `once`, all of whose positions are marked. The marks rule out most others.
 fn is_among(marks: &[bool], once: &[Position], p: Position) -> bool
     requires long { length marks.now ≡ 1024 }
     requires marked { AreMarked marks.now once.now }

@@ -83,14 +83,14 @@ impl Plan {
         }
     }
 
-    /// Whether one pass is tried first.
+    /// Returns whether one pass is tried first.
     pub fn is_fastest(&self) -> bool
         ensures { result ≡ self.now.fastest }
     {
         self.fastest
     }
 
-    /// The number of workers, 1 to `WORKERS`.
+    /// Returns the number of workers, 1 to `WORKERS`.
     pub fn workers(&self) -> usize
         ensures value { result ≡ self.now.workers }
         ensures within { (0 < result) × (result ≤ WORKERS) }
@@ -98,7 +98,7 @@ impl Plan {
         self.workers
     }
 
-    /// The number of shards of a tier, 1 to `SHARDS`.
+    /// Returns the number of shards of a tier, 1 to `SHARDS`.
     pub fn shards(&self) -> usize
         ensures value { result ≡ self.now.shards }
         ensures within { (0 < result) × (result ≤ SHARDS) }
@@ -106,7 +106,7 @@ impl Plan {
         self.shards
     }
 
-    /// The number of notes in a piece of a level, 1 to `PIECE`.
+    /// Returns the number of notes in a piece of a level, 1 to `PIECE`.
     pub fn piece(&self) -> usize
         ensures value { result ≡ self.now.piece }
         ensures within { (0 < result) × (result ≤ PIECE) }

@@ -34,7 +34,7 @@ pub(crate) struct Lists {
 }
 
 impl Lists {
-    /// Empty lists.
+    /// Returns empty lists.
     pub(crate) fn new() -> Self {
         Lists {
             results: ArrayVec::new(),

@@ -27,7 +27,7 @@ struct Frame<G: Game> {
 }
 
 impl<G: Game> Frame<G> {
-    // The frame of a tier.
+    // Returns the frame of a tier.
     fn of(tier: u64) -> Self
         requires { G.rules.tier_size tier ≤ TIER_SIZE }
         ensures { result.tier ≡ tier }

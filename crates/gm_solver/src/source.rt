@@ -20,7 +20,7 @@ pub struct Counter {
 }
 
 impl Counter {
-    /// A counter before the first level, which hands out nothing.
+    /// Returns a counter before the first level, which hands out nothing.
     pub fn new() -> Self {
         Counter {
             pieces: AtomicUsize::new(0),

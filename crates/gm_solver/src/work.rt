@@ -22,7 +22,7 @@ use std::sync::Wait;
 /// The pairs of a piece, each in the list of the tile that has its parent.
 pub(crate) type Lists<G> = [Vec<(Note<G>, u64)>; 4];
 
-// Four empty lists.
+// Returns four empty lists.
 fn empty_lists<G: Game>(alloc: Global) -> Lists<G> {
     [
         Vec::new(alloc),

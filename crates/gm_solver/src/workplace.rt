@@ -152,7 +152,7 @@ impl<'a, G: Game, L: PassLedger> Workplace<'a, G, L> {
     }
 }
 
-// Whether a walk found as many pairs.
+// Returns whether a walk found as many pairs.
 fn is_full<G: Game, L: PassLedger>(found: &Option<PairCount<G, L>>, number: u64) -> bool
     ensures { IsTrue result → number ≡ length (pairs_into G.rules L.spot L.notes) }
 {

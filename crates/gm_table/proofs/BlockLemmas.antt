@@ -101,7 +101,7 @@ module _ (r : Rules) (entries : List TableData) (tier : ℕ) (records : List (Op
       (length records)
   class_fits rounds class enough before = record { before = λ i e l. before i e (omega arith); wrong = λ l. absurd (omega arith) }
 
-  -- where nothing is said, nothing wrong is
+  -- if nothing is said, nothing wrong is
   pub of_none : (firsts : List (Option ℕ)) → HasNone firsts → AreFirsts r entries tier records firsts
   of_none firsts none = record { each = λ class first e. absurd (let h : None ≡ Some first = sym (none class) ∙ e in cc) }
 
@@ -138,7 +138,7 @@ module _ (r : Rules) (entries : List TableData) (tier : ℕ) (records : List (Op
       either : (class first : ℕ) → option_or (get_or one class None) (get_or other class None) ≡ Some first → IsFirstOfClass r entries tier records class first
       either class first e = of_either class first _ _ refl refl e
 
-  -- before the first index, all records of the classes below a bound fit, and where it is an index, its record doesn't
+  -- before the first index, all records of the classes below a bound fit, and if it is an index, its record doesn't
   pub record IsFirstBelow (classes first : ℕ) : Type 0 where
     pub before : (i : ℕ) → class_of i < classes → i < first → FitsAt r entries tier records i
     pub wrong : first < length records → FitsAt r entries tier records first → ⊥
@@ -170,7 +170,7 @@ module _ (r : Rules) (entries : List TableData) (tier : ℕ) (records : List (Op
     before = λ i k. below.before i (mod-lt (i / 64) {m = 256} (omega arith)) k;
   }
 
-  -- where there is none, all records fit
+  -- if there is none, all records fit
   pub all_fit : (first : ℕ) → IsFirstBelow 256 first → length records ≤ first → (i : ℕ) → FitsAt r entries tier records i
   all_fit first below l i o q = let in_list = slice_get_within records i o q in below.before i (mod-lt (i / 64) {m = 256} (omega arith)) (omega arith) o q
 

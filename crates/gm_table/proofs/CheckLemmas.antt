@@ -60,7 +60,7 @@ settled_at_end r look p e o = rw (o, settled_by) refl
 value_canonical : (r : Rules) (entries : List TableData) (c : Position) → IsCanonical r c → value_in r entries c ≡ record_in entries c
 value_canonical r entries c (legal, same) = rw (legal, same) refl
 
--- what is said of one record, for the record at an index
+-- what is known of one record, for the record at an index
 module _ (r : Rules) (entries : List TableData) (tier : ℕ) (records : List (Option Solved)) where
   pub fits_at : (i : ℕ) (d : Option Solved) → i < length records → RecordFits r entries tier records (at tier i) (get_or records i d) → FitsAt r entries
       tier records i
@@ -71,7 +71,7 @@ module _ (r : Rules) (entries : List TableData) (tier : ℕ) (records : List (Op
       entries tier records i → ⊥
   wrong_at i d l h f = h (f (get_or records i d) (slice_get-get_or records i d l))
 
-  -- at an index that is none of a canonical position no record fits but none
+  -- at an index that is not one of a canonical position no record fits but none
   pub hole_fits : (i : ℕ) (o : Option Solved) → (IsCanonical r (at tier i) → ⊥) → is_some o ≡ false → RecordFits r entries tier records (at tier i) o
   hole_fits i None hole e = hole
   hole_fits i (Some s) hole e = absurd (cc)

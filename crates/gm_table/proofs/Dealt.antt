@@ -8,7 +8,7 @@ use Rattle.std.proofs.lemmas.Slice.Zip.{AllZip-long}
 use Rattle.std.proofs.lemmas.List.FromFn.{length-range_with_len}
 use Rattle.gm_table.specs.Dealing.{block_in}
 
--- an item of two lists, one after the other, stands in one of them
+-- an item of two lists, one after the other, is in one of them
 pub append_cases : {X : Type 0} (xs ys : List X) (k : ℕ) (x : X) → slice_get (xs ++ ys) k ≡ Some x → (slice_get xs k ≡ Some x) ⊎
     ((j : ℕ) × (k ≡ length xs + j) × (slice_get ys j ≡ Some x))
 append_cases [] ys k x e = inr (k, (let same : k ≡ 0 + k = omega arith in same), e)

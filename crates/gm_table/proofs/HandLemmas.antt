@@ -10,12 +10,12 @@ use Rattle.gm_table.proofs.CheckLemmas.{at_hand_found}
 
 module _ (entries : List TableData) (hand : List (Option (Bor TableData))) (slot tier : ℕ) (o : Option (Bor TableData)) (at_hand : AreAtHand entries hand)
     (inside : slot < length hand) where
-  -- what stands in a slot, where it is this tier's table
+  -- what is in a slot, if it is this tier's table
   pub known_table : o ≡ get_or hand slot o → (t : TableData) × (option_copied o ≡ Some t) × (t.tier ≡ tier) → option_copied o ≡ table_of entries tier
   known_table is (t, e, f) = e ∙ sym (subst (λ (k : ℕ). table_of entries k ≡ Some t) f
       (at_hand slot inside t (ap option_copied (get_or_default hand slot None o inside ∙ sym is) ∙ e)))
 
-  -- the table of a tier in a slot, in place of what stood there
+  -- the table of a tier in a slot, instead of what stood there
   pub still_at_hand : option_copied o ≡ table_of entries tier → AreAtHand entries (set hand slot o)
   still_at_hand found k l = elim (cases_Bool (eqb k slot)) [
     | inl e ↦ subst (IsAtHand entries) (ap option_copied (sym (subst (λ (i : ℕ). get_or (set hand slot o) i None ≡ o) (sym (eqb-true k slot e))

@@ -1,8 +1,10 @@
 -- Records that are packed one by one.
 use Rattle.std.proofs.Common.{◌≡◌, ℕ, ◌+◌, ◌<◌, ◌≤◌, List, [], ◌∷◌, ◌++◌, Option, length, map, take, get_or, ap, ◌∙◌, sym}
 use Rattle.std.proofs.lemmas.List.{map-append, take_more, take_all}
+use Rattle.std.proofs.lemmas.Simd.{map-map}
 use Rattle.std.proofs.lemmas.Option.{slice_get-get_or}
 use Rattle.gm_game.specs.declared.position.Solved.{Solved}
+use Rattle.gm_table.specs.Numbers.{wide}
 use Rattle.gm_table.specs.Packed.{unpacked, IsNear, AreNear}
 
 -- the record at an index is near
@@ -21,3 +23,7 @@ packed_more numbers new records i n d inside before is e =
 pub packed_all : (numbers : List ℕ) (records : List (Option Solved)) (i : ℕ) → length records ≤ i → map unpacked numbers ≡ take i records → map unpacked
     numbers ≡ records
 packed_all numbers records i past e = e ∙ take_all i records past
+
+-- short forms are widened and read in one step
+pub packed_short : (shorts : List ℕ) → map unpacked (map wide shorts) ≡ map (λ (short : ℕ). unpacked (wide short)) shorts
+packed_short shorts = map-map unpacked wide shorts

@@ -1,4 +1,4 @@
--- Records at a place are those of the positions that stand there.
+-- Records at a place are those of the positions that are there.
 use Rattle.std.proofs.Common.{◌≡◌, ℕ, zero, suc, ◌<◌, ◌≤◌, ◌+◌, ◌↔◌, Bool, true, false, if◌then◌else◌, List, [], ◌∷◌, get_or, refl, sym, ap, ◌∙◌, subst, inl}
 use Rattle.std.proofs.Common.{inr, arith, Option, None, Some, IsSome, slice_get, eq-eqb, eqb-true}
 use Rattle.std.specs.List.{Contains}
@@ -27,7 +27,7 @@ level_is n (Some m) h = ap Some (eqb-true m n h)
 is_level_is : (n : ℕ) (a : Option ℕ) → a ≡ Some n → is_level n a ≡ true
 is_level_is n a e = ap (is_level n) e ∙ eq-eqb n n refl
 
--- a record at this place of the list stands at this level
+-- a record at this place of the list is at this level
 IsAt : Phase → ℕ → List (Option Solved) → ℕ → Type 0
 IsAt phase n os j = (o : Option Solved) × (slice_get os j ≡ Some o) × (level_in phase o ≡ Some n)
 
@@ -134,21 +134,21 @@ module _ (r : Rules) (g : IsGame r) (t : TableData) (h : IsTable r t) (phase : P
   record_there : (i : ℕ) → IsCanonical r (at t.tier i) → slice_get t.records i ≡ Some (get_or t.records i None)
   record_there i c = slice_get-get_or t.records i None (subst (λ m. i < m) (sym h.is_true.whole) (g.index_below (at t.tier i) c.0))
 
-  -- the indexes at a place are those of the positions that stand there
+  -- the indexes at a place are those of the positions that are there
   pub indexes_stand : (i : ℕ) → Contains (indexes_at phase n t.records) i ↔ (IsCanonical r (at t.tier i) × StandsAt r phase n (at t.tier i))
   indexes_stand i = (
     λ c. (let (o, e, l) = (indexes_exact phase n t.records i).0 c in stands_there i o e l),
     λ (c, s). (indexes_exact phase n t.records i).1 (get_or t.records i None, record_there i c, level_there i (get_or t.records i None) (record_there i c) c s),
   )
 
-  -- and a level has a record where some position stands there
+  -- and a level has a record where some position is there
   pub level_stands : HasLevel phase t.records n ↔ ((i : ℕ) × IsCanonical r (at t.tier i) × StandsAt r phase n (at t.tier i))
   level_stands = (
     λ (i, o, e, l). (i, (stands_there i o e l).0, (stands_there i o e l).1),
     λ (i, c, s). (i, get_or t.records i None, record_there i c, level_there i (get_or t.records i None) (record_there i c) c s),
   )
 
--- the run of a place has the positions that stand there
+-- the run of a place has the positions that are there
 module _ (r : Rules) (g : IsGame r) (entries : List TableData) (h : AreTables r entries) (tier : ℕ) (phase : Phase) (n : ℕ) where
   IsThere : ℕ → Type 0
   IsThere i = IsHeld entries tier × IsCanonical r (at tier i) × StandsAt r phase n (at tier i)

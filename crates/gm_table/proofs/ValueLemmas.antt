@@ -96,7 +96,7 @@ module _ (r : Rules) (g : IsGame r) (entries : List TableData) (tables : AreTabl
   pub holds_children : (tier : ℕ) → AreHeld r entries tier → HoldsChildren r tier (value_in r entries)
   holds_children tier h c k i = held_known c (table_of entries c.tier) refl (h c.tier k) i
 
-  -- records fit exactly where they are the true ones
+  -- records fit exactly if they are the true ones
   pub true_iff_fit : (tier : ℕ) (records : List (Option Solved)) → AreHeld r entries tier → IsTrueTable r REMOTENESS tier records ↔ Fits r REMOTENESS tier
       (value_in r entries) records
   true_iff_fit tier records h = true_iff_fits r g tier (value_in r entries) records REMOTENESS (holds_children tier h)

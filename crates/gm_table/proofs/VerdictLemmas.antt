@@ -29,7 +29,7 @@ module _ (r : Rules) (entries : List TableData) (tier : ℕ) (records : List (Op
     | inr apart ↦ elim apart [ inl less ↦ absurd (a.wrong (b.before i less)) | inr more ↦ absurd (b.wrong (a.before j more)) ]
   ]
 
-  -- a wrong record is named exactly where it is the first one
+  -- a wrong record is named exactly if it is the first one
   pub names_first : (why : CheckError) → AreWrong r entries tier records why → (i : ℕ) → (why ≡ WrongRecord i) ↔
       ((length records ≡ r.tier_size tier) × IsFirstWrong r entries tier records i)
   names_first OutOfMemory wrong i = absurd wrong

@@ -28,7 +28,7 @@ child_records r entries tier records p = map (look_up r entries tier records) (c
 abbrev pub value_from : Rules → List TableData → ℕ → List (Option Solved) → Position → Solved
 value_from r entries tier records p = settled_by r (look_up r entries tier records) p
 
--- a record of a position fits: it has the value that the records and the tables give, within the limit, and there is none where the position isn't legal and
+-- a record of a position fits: it has the value that the records and the tables give, within the limit, and there is none if the position isn't legal and
 -- canonical
 abbrev pub RecordFits : Rules → List TableData → ℕ → List (Option Solved) → Position → Option Solved → Type 0
 RecordFits r entries tier records p o = IsRecord r REMOTENESS (λ q s. s ≡ value_from r entries tier records q) p o
@@ -56,20 +56,20 @@ IsFirstWrongIn r entries tier records lo hi first = MatchOption first (FitBetwee
 abbrev pub class_of : ℕ → ℕ
 class_of i = i / 64 % 256
 
--- the records of the class before this index fit, and the record at the index, where there is one, doesn't
+-- the records of the class before this index fit, and the record at the index, if there is one, doesn't
 pub record IsFirstOfClass (r : Rules) (entries : List TableData) (tier : ℕ) (records : List (Option Solved)) (class first : ℕ) : Type 0 where
   pub before : (i : ℕ) → class_of i ≡ class → i < first → FitsAt r entries tier records i
   pub wrong : first < length records → FitsAt r entries tier records first → ⊥
 
--- what is said of a class is its first index whose record doesn't fit
+-- what is known of a class is its first index whose record doesn't fit
 pub record AreFirsts (r : Rules) (entries : List TableData) (tier : ℕ) (records : List (Option Solved)) (firsts : List (Option ℕ)) : Type 0 where
   pub each : (class first : ℕ) → slice_index_or firsts class None ≡ Some first → IsFirstOfClass r entries tier records class first
 
--- nothing is said of any class
+-- nothing is known of any class
 abbrev pub HasNone : List (Option ℕ) → Type 0
 HasNone firsts = (class : ℕ) → slice_index_or firsts class None ≡ None
 
--- the last list says of each class what the first one says, and what the second one says where the first says nothing
+-- the last list says of each class what the first one says, and what the second one says where the first has nothing
 abbrev pub IsOfBoth : List (Option ℕ) → List (Option ℕ) → List (Option ℕ) → Type 0
 IsOfBoth one other both = (class : ℕ) → class < length both
     → slice_index_or both class None ≡ option_or (slice_index_or one class None) (slice_index_or other class None)

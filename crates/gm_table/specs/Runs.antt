@@ -16,6 +16,6 @@ abbrev pub run_in : Runs → Phase → ℕ → List ℕ
 run_in runs WinLose n = run_at runs.win_lose n
 run_in runs Ties n = run_at runs.ties n
 
--- each run has the indexes of the records that stand at its place
+-- each run has the indexes of the records that are at its place
 abbrev pub AreRunsOf : List (Option Solved) → Runs → Type 0
 AreRunsOf records runs = (phase : Phase) (n : ℕ) → run_in runs phase n ≡ indexes_at phase n records

@@ -1,4 +1,4 @@
--- What is asked of a solver of a tier.
+-- The duties of a solver of a tier.
 use Rattle.std.specs.Prelude.{ℕ, ◌+◌}
 use Rattle.gm_game.specs.declared.limits.TheConstants.{REMOTENESS}
 use Rattle.gm_game.specs.declared.position.Position.{Position}

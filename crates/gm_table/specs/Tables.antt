@@ -30,12 +30,12 @@ pub record IsKept (r : Rules) (t : TableData) (outline : Outline) : Type 0 where
   pub table : IsTable r t
   pub outlined : IsOutlineOf t.records outline
 
--- the table of a tier, where it is held
+-- the table of a tier, if it is held
 abbrev pub table_of : List TableData → ℕ → Option TableData
 table_of [] tier = None
 table_of (t ∷ ts) tier = if t.tier == tier then Some t else table_of ts tier
 
--- one more table is held, in place of any other of its tier
+-- one more table is held, instead of any other of its tier
 abbrev pub Inserts : List TableData → List TableData → TableData → Type 0
 Inserts old new t = (tier : ℕ) → table_of new tier ≡ (if t.tier == tier then Some t else table_of old tier)
 
@@ -51,7 +51,7 @@ AreHeld r entries tier = (child : ℕ) → Contains (r.child_tiers tier) child �
 abbrev pub IsAtHand : List TableData → Option TableData → Type 0
 IsAtHand entries o = (t : TableData) → o ≡ Some t → table_of entries t.tier ≡ Some t
 
--- the record at an index of a table, where there is one
+-- the record at an index of a table, if there is one
 abbrev pub record_of : Option TableData → ℕ → Option Solved
 record_of None index = None
 record_of (Some t) index = record_at t.records index
@@ -64,7 +64,7 @@ record_in entries p = elim (table_of entries p.tier) [ None ↦ None | Some t �
 abbrev pub value_in : Rules → List TableData → Position → Option Solved
 value_in r entries p = if r.is_legal p then record_in entries (r.canonical p) else None
 
--- the indexes at a place of the table of a tier, ascending; none where the table isn't held
+-- the indexes at a place of the table of a tier, ascending; none if the table isn't held
 abbrev pub run_of : List TableData → ℕ → Phase → ℕ → List ℕ
 run_of entries tier phase n = elim (table_of entries tier) [ None ↦ [] | Some t ↦ indexes_at phase n t.records ]
 
@@ -72,7 +72,7 @@ run_of entries tier phase n = elim (table_of entries tier) [ None ↦ [] | Some 
 abbrev pub AreTables : Rules → List TableData → Type 0
 AreTables r entries = (tier : ℕ) (t : TableData) → table_of entries tier ≡ Some t → (t.tier ≡ tier) × IsTable r t
 
--- what a map of tables keeps: each table stands at its own tier, and is true
+-- what a map of tables keeps: each table is at its own tier, and is true
 abbrev pub AreKept : Rules → List (ℕ × TableData) → Type 0
 AreKept r [] = Unit {0}
 AreKept r (e ∷ es) = (e.1.tier ≡ e.0) × IsTable r e.1 × AreKept r es

@@ -14,6 +14,6 @@ abbrev pub is_decided : Option Solved → Bool
 is_decided None = false
 is_decided (Some s) = elim s.value [ Lose ↦ true | Draw ↦ false | Tie ↦ true | Win ↦ true ]
 
--- a remoteness, or none where the mark is 4,294,967,296
+-- a remoteness, or none if the mark is 4,294,967,296
 abbrev pub marked : ℕ → Option ℕ
 marked mark = if mark == 4294967296 then None else Some mark

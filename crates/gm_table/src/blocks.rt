@@ -59,7 +59,8 @@ impl<'a, G: Game, C: Records> Given<'a, G, C> {
         None
     }
 
-    // Whether the record at the index of a canonical legal position fits, at which the game has ended so, or else goes on to the results that the lists hold.
+    // Returns whether the record at the index of a canonical legal position fits, at which the game has ended so, or else goes on to the results that the lists
+    // hold.
     fn fits_at(
         &self,
         hand: &mut [Option<&'a Table<G>>],
@@ -93,7 +94,7 @@ impl<'a, G: Game, C: Records> Given<'a, G, C> {
         )
     }
 
-    // The least index from `lo` up to `hi` whose record doesn't fit. `lists` is scratch space.
+    // Returns the least index from `lo` up to `hi` whose record doesn't fit. `lists` is scratch space.
     fn first_between(
         &self,
         hand: &mut [Option<&'a Table<G>>],
@@ -129,7 +130,7 @@ impl<'a, G: Game, C: Records> Given<'a, G, C> {
         self.first_filled(next, hi)
     }
 
-    // The least index of a class whose record doesn't fit, or how many records there are.
+    // Returns the least index of a class whose record doesn't fit, or how many records there are.
     fn first_of(&self, class: usize) -> u64
         ensures { IsFirstOfClass G.rules self.now.tables.now self.now.tier (C.listed self.now.records.now) class result }
     {
@@ -149,14 +150,14 @@ impl<'a, G: Game, C: Records> Given<'a, G, C> {
 }
 
 impl<'a, G: Game + Send + Sync, C: Records + Sync> Given<'a, G, C> {
-    // How many threads are to check: one for each processor, and enough records for each.
+    // Returns how many threads are to check: one for each processor, and enough records for each.
     fn workers(&self, processors: usize) -> u32
         ensures { result ≡ min processors (length (C.listed self.now.records.now) / PIECE) }
     {
         processors.min(self.records.count() / PIECE) as u32
     }
 
-    // The firsts of the classes that one thread draws, until all are drawn.
+    // Returns the firsts of the classes that one thread draws, until all are drawn.
     fn drawn(&self, next: &AtomicUsize) -> Firsts
         ensures { AreFirsts G.rules self.now.tables.now self.now.tier (C.listed self.now.records.now) result.classes }
     {
@@ -171,7 +172,7 @@ impl<'a, G: Game + Send + Sync, C: Records + Sync> Given<'a, G, C> {
         Firsts { classes }
     }
 
-    // The least index whose record doesn't fit, or how many records there are.
+    // Returns the least index whose record doesn't fit, or how many records there are.
     fn first_of_all<R: Threads + Sync>(&self, rt: &R) -> u64
         ensures wrong { result < length (C.listed self.now.records.now)
             → IsFirstWrong G.rules self.now.tables.now self.now.tier (C.listed self.now.records.now) result }
@@ -204,7 +205,7 @@ impl<'a, G: Game + Send + Sync, C: Records + Sync> Given<'a, G, C> {
         first
     }
 
-    // The first of a class. Each has been drawn; the first of one that had not would be found here.
+    // Returns the first of a class. Each has been drawn; the first of one that had not would be found here.
     fn first_at(&self, firsts: &Firsts, class: usize) -> u64
         requires class { class < CLASSES }
         requires firsts { AreFirsts G.rules self.now.tables.now self.now.tier (C.listed self.now.records.now) firsts.now.classes }
@@ -224,7 +225,7 @@ struct Firsts {
 }
 
 impl Firsts {
-    // Nothing yet.
+    // Returns a result that has no fault yet.
     fn none() -> Firsts
         ensures { HasNone result.classes }
     {
@@ -233,7 +234,7 @@ impl Firsts {
         }
     }
 
-    // What both have found.
+    // Joins what two threads have found.
     fn and(self, other: &Firsts) -> Firsts
         ensures { IsOfBoth self.classes other.now.classes result.classes }
     {
@@ -245,7 +246,7 @@ impl Firsts {
     }
 }
 
-/// The least index whose record doesn't fit.
+/// Returns the least index whose record doesn't fit.
 pub(crate) fn first_wrong<G: Game, C: Records>(
     tier: u64,
     records: &C,
@@ -263,7 +264,7 @@ pub(crate) fn first_wrong<G: Game, C: Records>(
     given.first_between(&mut [None; SLOTS], &mut Lists::new(), 0, records.count())
 }
 
-/// The least index whose record doesn't fit, found by as many threads as there are processors.
+/// Returns the least index whose record doesn't fit, found by as many threads as there are processors.
 pub(crate) fn first_wrong_by<G: Game + Send + Sync, C: Records + Sync, R: Threads + Sync>(
     rt: &R,
     tier: u64,

@@ -33,7 +33,7 @@ pub enum CheckError {
 }
 
 impl CheckError {
-    /// The number of the error.
+    /// Returns the number of the error.
     pub fn number(&self) -> u8
         ensures { result ≡ number_of self.now }
     {
@@ -78,7 +78,7 @@ pub fn check<G: Game>(
     table_unless(alloc, tier, records, tables, fault)
 }
 
-/// As `check`, by as many threads as there are processors.
+/// Works as `check`, with as many threads as there are processors.
 pub fn check_by<G: Game + Send + Sync, R: Threads + Sync>(
     rt: &R,
     alloc: Global,
@@ -130,7 +130,7 @@ pub fn check_packed_by<G: Game + Send + Sync, R: Threads + Sync>(
     }
 }
 
-// The outline of records, and why they aren't those of a tier, if they aren't: of many by a thread each.
+// Returns the outline of records, and why they aren't those of a tier, if they aren't: of many by a thread each.
 fn outline_beside<G: Game + Send + Sync, R: Threads + Sync>(
     rt: &R,
     tier: u64,
@@ -159,7 +159,7 @@ fn outline_beside<G: Game + Send + Sync, R: Threads + Sync>(
     )
 }
 
-// The table of these records, or the reason for which they aren't those of the tier.
+// Returns the table of these records, or the reason for which they aren't those of the tier.
 fn table_unless<G: Game>(
     alloc: Global,
     tier: u64,
@@ -196,7 +196,7 @@ fn table_unless<G: Game>(
     }
 }
 
-// Why records aren't those of a tier, if they aren't.
+// Returns why records are not those of a tier, if they are not.
 fn fault<G: Game, C: Records>(tier: u64, records: &C, tables: &Tables<G>) -> Option<CheckError>
     requires children { AreHeld G.rules tables.now tier }
     requires is_small { G.rules.tier_size tier ≤ TIER_SIZE }
@@ -211,7 +211,7 @@ fn fault<G: Game, C: Records>(tier: u64, records: &C, tables: &Tables<G>) -> Opt
     fault_of(tier, records, tables, first)
 }
 
-// As `fault`, by as many threads as there are processors.
+// Works as `fault`, with as many threads as there are processors.
 fn fault_by<G: Game + Send + Sync, C: Records + Sync, R: Threads + Sync>(
     rt: &R,
     tier: u64,

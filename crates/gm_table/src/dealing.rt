@@ -39,14 +39,14 @@ impl Dealing {
         }
     }
 
-    /// How many indexes there are.
+    /// Returns how many indexes there are.
     pub fn size(&self) -> u64
         ensures { result ≡ self.now.size }
     {
         self.size
     }
 
-    /// How many blocks there are, and as many places at which they are gone through.
+    /// Returns how many blocks there are, and as many places at which they are gone through.
     pub fn blocks(&self) -> u32
         ensures count { result ≡ self.now.rows * 32 }
         ensures enough { self.now.size ≤ result * 512 }
@@ -54,7 +54,7 @@ impl Dealing {
         (self.rows * CLASSES) as u32
     }
 
-    /// The first index of the block at a place, and the first one past it.
+    /// Returns the first index of the block at a place, and the first one past it.
     pub fn range(&self, place: u32) -> (u64, u64)
         ensures lo { result.0 ≡ min (block_in self.now.rows place * 512) self.now.size }
         ensures hi { result.1 ≡ min (suc (block_in self.now.rows place) * 512) self.now.size }
@@ -69,7 +69,7 @@ impl Dealing {
         )
     }
 
-    /// The place at which the block with this number is gone through.
+    /// Returns the place at which the block with this number is gone through.
     pub fn place_of(&self, block: u32) -> u32
         requires { block < self.now.rows * 32 }
         ensures within { result < self.now.rows * 32 }

@@ -51,7 +51,7 @@ impl<G: Game> Entry<G> {
         }
     }
 
-    /// The table.
+    /// Returns the table.
     pub(crate) fn table(&self) -> &Table<G>
         ensures value { result.now ≡ self.now }
         ensures table { IsTable G.rules self.now }
@@ -60,7 +60,7 @@ impl<G: Game> Entry<G> {
         &self.table
     }
 
-    /// The table by value, without its layout.
+    /// Returns the table by value, without its layout.
     pub(crate) fn into_table(self) -> Table<G>
         ensures { result ≡ self }
     {
@@ -68,7 +68,7 @@ impl<G: Game> Entry<G> {
         table
     }
 
-    /// The indexes of the records at a place, ascending.
+    /// Returns the indexes of the records at a place, ascending.
     pub(crate) fn run(&self, phase: Phase, level: u32) -> &[u32]
         ensures { result.now ≡ indexes_at phase level self.now.records }
     {

@@ -28,7 +28,7 @@ pub(crate) struct Lists {
 }
 
 impl Lists {
-    /// Empty lists.
+    /// Returns empty lists.
     pub(crate) fn new() -> Self {
         Lists {
             results: ArrayVec::new(),
@@ -37,7 +37,7 @@ impl Lists {
     }
 }
 
-/// Whether this record of a canonical legal position fits, at which the game has ended so, or else goes on to the results that the lists hold.
+/// Returns whether this record of a canonical legal position fits, at which the game has ended so, or else goes on to the results that the lists hold.
 pub(crate) fn fits<'a, G: Game, C: Records>(
     tier: u64,
     records: &C,
@@ -67,7 +67,7 @@ pub(crate) fn fits<'a, G: Game, C: Records>(
     }
 }
 
-// Whether a value is the one that follows, by the rules, for a position in which the game goes on.
+// Returns whether a value is the one that follows, by the rules, for a position in which the game goes on.
 fn follows<'a, G: Game, C: Records>(
     tier: u64,
     records: &C,
@@ -88,7 +88,7 @@ fn follows<'a, G: Game, C: Records>(
     gather::<G, C>(tier, records, tables, hand, lists, p).settles(solved)
 }
 
-// What the results of a position say, which the lists hold: their words first, and then what the words say, so that no record is waited for before the next is
+// Returns the summary of the results in the lists: it reads all their words first, and then folds the words, so that no record is waited for before the next is
 // asked for.
 fn gather<'a, G: Game, C: Records>(
     tier: u64,
@@ -115,7 +115,7 @@ fn gather<'a, G: Game, C: Records>(
     summary
 }
 
-// The word of a canonical position's record: a given one in the tier, and elsewhere that of a table.
+// Returns the word of a canonical position's record: a given one in the tier, and elsewhere that of a table.
 fn look_up<'a, G: Game, C: Records>(
     tier: u64,
     records: &C,

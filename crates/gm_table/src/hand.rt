@@ -10,8 +10,8 @@ use gm_game::game::Game;
 /// How many tables may be at hand: the child tiers of a tier are mostly few and next to each other.
 pub const SLOTS: usize = 8;
 
-/// The table of a tier. Those that were read last are at hand, each in the slot of its tier: most children lie in few tiers, so the map of tables is seldom
-/// searched.
+/// Returns the table of a tier. Those that were read last are at hand, each in the slot of its tier: most children lie in few tiers, so the map of tables is
+/// seldom searched.
 pub fn table_for<'a, G: Game>(
     tables: &'a Tables<G>,
     hand: &mut [Option<&'a Table<G>>],
@@ -33,7 +33,7 @@ pub fn table_for<'a, G: Game>(
     found
 }
 
-// Whether there is a table, and it is this tier's.
+// Returns whether there is a table, and it is this tier's.
 fn is_of<G: Game>(known: Option<&Table<G>>, tier: u64) -> bool
     ensures { IsTrue result → (t : TableData) × (option_copied known.entry ≡ Some t) × (t.tier ≡ tier) }
 {

@@ -33,12 +33,23 @@ impl Model for Numbers {
 }
 
 impl Numbers {
-    /// An empty list, with room for this many numbers in their short forms.
+    /// Returns an empty list, with room for this many numbers in their short forms.
     pub(crate) fn with_capacity(alloc: Global, room: usize) -> Result<Numbers, AllocError>
         ensures { IfOk result (λ numbers. numbers ≡ []) }
     {
         let stored = Stored::Short(Vec::with_capacity(alloc, room)?);
         Ok(Numbers { stored })
+    }
+
+    /// Returns the numbers with these short forms. Copies them at once.
+    pub(crate) fn of_short(alloc: Global, shorts: &[u8]) -> Result<Numbers, AllocError>
+        ensures { IfOk result (λ numbers. numbers ≡ map wide shorts.now) }
+    {
+        let mut numbers = Vec::with_capacity(alloc, shorts.len())?;
+        numbers.extend_from_slice(shorts)?;
+        Ok(Numbers {
+            stored: Stored::Short(numbers),
+        })
     }
 
     /// Adds a number at the end. If memory is refused, the numbers are unchanged.
@@ -111,7 +122,7 @@ impl Numbers {
         }
     }
 
-    /// The allocator of their memory.
+    /// Returns the allocator of their memory.
     pub(crate) fn allocator(&self) -> Global {
         match &self.stored {
             Stored::Short(numbers) => *numbers.allocator(),
@@ -119,7 +130,7 @@ impl Numbers {
         }
     }
 
-    /// How many numbers there are.
+    /// Returns how many numbers there are.
     pub(crate) fn len(&self) -> usize
         ensures { result ≡ length self.now }
     {
@@ -129,7 +140,7 @@ impl Numbers {
         }
     }
 
-    /// The number at an index; `None` past the end.
+    /// Returns the number at an index; `None` past the end.
     #[inline]
     pub(crate) fn get(&self, index: usize) -> Option<u32>
         ensures { result ≡ slice_get self.now index }
@@ -141,14 +152,14 @@ impl Numbers {
     }
 }
 
-// Whether a number has a short form.
+// Returns whether a number has a short form.
 fn is_short(number: u32) -> bool
     ensures { IsTrue result ↔ IsShort number }
 {
     number / STEP < 8 && number % STEP < SHORT_STEP
 }
 
-// The short form of a number.
+// Returns the short form of a number.
 fn narrowed(number: u32) -> u8
     requires { IsShort number }
     ensures { wide result ≡ number }
@@ -156,14 +167,14 @@ fn narrowed(number: u32) -> u8
     (number / STEP * SHORT_STEP + number % STEP) as u8
 }
 
-// The number with this short form.
+// Returns the number with this short form.
 fn wide(short: u8) -> u32
     ensures { result ≡ wide short }
 {
     u32::from(short) / SHORT_STEP * STEP + u32::from(short) % SHORT_STEP
 }
 
-// The numbers with these short forms.
+// Returns the numbers with these short forms.
 fn widened(numbers: &Vec<u8>) -> Result<Vec<u32>, AllocError>
     ensures { IfOk result (λ long. long.items ≡ map wide numbers.now.items) }
 {

@@ -20,7 +20,7 @@ pub(crate) struct Outline {
 }
 
 impl Outline {
-    /// The outline of these records, without runs. It takes no memory.
+    /// Returns the outline of these records, without runs. It takes no memory.
     pub(crate) fn of(records: &Packed) -> Outline
         ensures outline { IsOutlineOf records.now result }
         ensures none { result.runs ≡ None }
@@ -33,7 +33,7 @@ impl Outline {
         }
     }
 
-    /// The outline of these records, with runs if there are as many records as a tier may have, their levels are near, and there is memory for them.
+    /// Returns the outline of these records, with runs if there are as many records as a tier may have, their levels are near, and there is memory for them.
     pub(crate) fn with_runs(records: &Packed) -> Outline
         ensures outline { IsOutlineOf records.now result }
         ensures near { IsSome result.runs → IfSome result.greatest_win_lose (λ n. n ≤ NEAR) × IfSome result.greatest_tie (λ n. n ≤ NEAR) }
@@ -56,7 +56,7 @@ impl Outline {
     }
 }
 
-// Whether runs may be laid out up to this level, if there is one.
+// Returns whether runs may be laid out up to this level, if there is one.
 fn is_near(level: Option<u32>) -> bool
     ensures { IsTrue result ↔ IfSome level (λ n. n ≤ NEAR) }
 {

@@ -3,6 +3,7 @@ ghost use Rattle.std.specs.Prelude.{◌≡◌, ◌≢◌, ◌*◌, ◌≤◌, �
 ghost use Rattle.gm_game.specs.declared.limits.TheConstants.{REMOTENESS};
 ghost use Rattle.gm_record.specs.declared.version.Version.TheVariants.{Two};
 ghost use Rattle.gm_record.specs.Numbers.{code, record_number};
+ghost use Rattle.gm_table.specs.Numbers.{wide};
 ghost use Rattle.gm_table.specs.Packed.{code_of, unpacked, IsNear, AreNear};
 ghost use Rattle.gm_table.specs.Tables.{record_at};
 ghost use Rattle.gm_table.specs.Words.{record_of_word};
@@ -33,11 +34,20 @@ impl Model for Packed {
 }
 
 impl Packed {
-    /// An empty list, with room for this many records.
+    /// Returns an empty list, with room for this many records.
     pub fn with_capacity(alloc: Global, room: usize) -> Result<Packed, AllocError>
         ensures { IfOk result (λ packed. packed ≡ []) }
     {
         let numbers = Numbers::with_capacity(alloc, room)?;
+        Ok(Packed { numbers })
+    }
+
+    /// Packs records from their short forms, of a byte each: the upper three bits are the code of the value, and the others the remoteness. Copies the bytes.
+    #[tactic(auto, using(crate::proofs::PackedLemmas::packed_short))]
+    pub fn of_short(alloc: Global, shorts: &[u8]) -> Result<Packed, AllocError>
+        ensures { IfOk result (λ packed. packed ≡ map (λ short. unpacked (wide short)) shorts.now) }
+    {
+        let numbers = Numbers::of_short(alloc, shorts)?;
         Ok(Packed { numbers })
     }
 
@@ -90,7 +100,7 @@ impl Packed {
         Ok(Packed { numbers })
     }
 
-    /// The records in a list, of 12 bytes each.
+    /// Returns the records in a list, of 12 bytes each.
     pub fn to_vec(&self, alloc: Global) -> Result<Vec<Option<Solved>>, AllocError>
         ensures { IfOk result (λ v. v.items ≡ self.now) }
     {
@@ -101,26 +111,26 @@ impl Packed {
         Ok(records)
     }
 
-    /// The allocator of their memory.
+    /// Returns the allocator of their memory.
     pub(crate) fn allocator(&self) -> Global {
         self.numbers.allocator()
     }
 
-    /// How many records there are.
+    /// Returns how many records there are.
     pub fn len(&self) -> usize
         ensures { result ≡ length self.now }
     {
         self.numbers.len()
     }
 
-    /// The record at an index; `None` past the end.
+    /// Returns the record at an index; `None` past the end.
     pub fn get(&self, index: usize) -> Option<Solved>
         ensures { result ≡ record_at self.now index }
     {
         unpacked(self.numbers.get(index)?)
     }
 
-    /// The word of the record at an index; 0 past the end.
+    /// Returns the word of the record at an index; 0 past the end.
     pub(crate) fn word(&self, index: usize) -> u64
         ensures { record_of_word result ≡ record_at self.now index }
     {
@@ -131,7 +141,7 @@ impl Packed {
     }
 }
 
-/// The code of a value.
+/// Returns the code of a value.
 pub(crate) fn code_of(value: Value) -> u32
     ensures value { result ≡ code_of value }
     ensures stored { result ≡ code value }
@@ -145,7 +155,7 @@ pub(crate) fn code_of(value: Value) -> u32
     }
 }
 
-/// The number of a record within the greatest remoteness: that of a tier file of version 2 (docs/FORMATS.md, "Tier file"). It is never 1.
+/// Returns the number of a record within the greatest remoteness: that of a tier file of version 2 (docs/FORMATS.md, "Tier file"). It is never 1.
 pub fn number_of(known: Option<Solved>) -> u32
     requires { IsNear known }
     ensures stored { result ≡ record_number Two known }
@@ -158,7 +168,7 @@ pub fn number_of(known: Option<Solved>) -> u32
     }
 }
 
-/// The record with this number.
+/// Returns the record with this number.
 pub fn unpacked(number: u32) -> Option<Solved>
     ensures { result ≡ unpacked number }
 {

@@ -13,15 +13,15 @@ pub(crate) trait Records {
     /// The records.
     ghost listed: { Self → List (Option SolvedSpec) };
 
-    /// How many there are.
+    /// Returns how many there are.
     fn count(&self) -> usize
         ensures { result ≡ length (listed self.now) };
 
-    /// The record at an index; `None` past the end.
+    /// Returns the record at an index; `None` past the end.
     fn record(&self, index: usize) -> Option<Solved>
         ensures { result ≡ record_at (listed self.now) index };
 
-    /// The word of the record at an index; 0 past the end.
+    /// Returns the word of the record at an index; 0 past the end.
     fn word(&self, index: usize) -> u64
         ensures { record_of_word result ≡ record_at (listed self.now) index };
 }

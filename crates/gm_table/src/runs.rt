@@ -47,7 +47,7 @@ impl Runs {
         }
     }
 
-    /// The indexes at a place.
+    /// Returns the indexes at a place.
     pub(crate) fn at(&self, phase: Phase, level: u32) -> &[u32]
         ensures { result.now ≡ run_in self.now phase level }
     {

@@ -88,7 +88,7 @@ impl<G: Game> Table<G> {
         self.outline.runs.take()
     }
 
-    /// The tier of the table.
+    /// Returns the tier of the table.
     pub fn tier(&self) -> u64
         ensures value { result ≡ self.now.tier }
         ensures table { IsTable G.rules self.now }
@@ -96,7 +96,7 @@ impl<G: Game> Table<G> {
         self.tier
     }
 
-    /// How many indexes the tier has.
+    /// Returns how many indexes the tier has.
     pub fn size(&self) -> u64
         ensures value { result ≡ length self.now.records }
         ensures table { IsTable G.rules self.now }
@@ -104,7 +104,7 @@ impl<G: Game> Table<G> {
         self.records.len() as u64
     }
 
-    /// The records by index.
+    /// Returns the records by index.
     pub(crate) fn records(&self) -> &Packed
         ensures value { result.now ≡ self.now.records }
         ensures table { IsTable G.rules self.now }
@@ -112,7 +112,7 @@ impl<G: Game> Table<G> {
         &self.records
     }
 
-    /// The value of the canonical legal position with this index; `None` for any other index, also past the size.
+    /// Returns the value of the canonical legal position with this index; `None` for any other index, also past the size.
     pub fn at(&self, index: u64) -> Option<Solved>
         ensures value { result ≡ record_at self.now.records index }
         ensures is_true { IsRecord G.rules REMOTENESS (IsTrueValue G.rules) (at self.now.tier index) result }
@@ -121,7 +121,7 @@ impl<G: Game> Table<G> {
         self.records.get(index as usize)
     }
 
-    /// Returns the word of the record at an index, without a branch; 0 if there is none.
+    /// Returns the word of the record at an index, without a branch; 0 for an index without a record.
     pub fn word(&self, index: u64) -> u64
         ensures value { record_of_word result ≡ record_at self.now.records index }
         ensures is_true { IsRecord G.rules REMOTENESS (IsTrueValue G.rules) (at self.now.tier index) (record_of_word result) }
@@ -130,7 +130,7 @@ impl<G: Game> Table<G> {
         self.records.word(index as usize)
     }
 
-    /// Returns the greatest remoteness of wins and losses, or of ties; `None` if there is none.
+    /// Returns the greatest remoteness of wins and losses, or of ties; `None` if the table has no such record.
     pub fn greatest(&self, phase: Phase) -> Option<u32>
         ensures value { IsGreatest phase self.now.records result }
         ensures table { IsTable G.rules self.now }

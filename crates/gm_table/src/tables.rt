@@ -35,7 +35,7 @@ impl<G: Game> Model for Tables<G> {
 impl<G: Game> Tables<G> {
     ghost use Rattle.gm_table.specs.Tables.{table_of, Inserts, IsHeld, AreHeld, AreTables, record_in, value_in, run_of};
 
-    /// An empty map. Inserted tables that are not laid out yet are laid out in memory of this allocator.
+    /// Returns an empty map. Inserted tables that are not laid out yet are laid out in memory of this allocator.
     pub fn new(alloc: Global) -> Self
         ensures { result ≡ [] }
     {
@@ -65,7 +65,7 @@ impl<G: Game> Tables<G> {
         }
     }
 
-    /// Whether the tier has a table.
+    /// Returns whether the tier has a table.
     pub fn has(&self, tier: u64) -> bool
         ensures value { IsTrue result ↔ IsHeld self.now tier }
         ensures tables { AreTables G.rules self.now }
@@ -73,7 +73,7 @@ impl<G: Game> Tables<G> {
         self.table(tier).is_some()
     }
 
-    /// Whether each child tier of the tier has a table.
+    /// Returns whether each child tier of the tier has a table.
     pub fn has_children(&self, tier: u64) -> bool
         ensures value { IsTrue result ↔ AreHeld G.rules self.now tier }
         ensures tables { AreTables G.rules self.now }
@@ -87,7 +87,7 @@ impl<G: Game> Tables<G> {
         true
     }
 
-    /// The table of a tier.
+    /// Returns the table of a tier.
     pub fn table(&self, tier: u64) -> Option<&Table<G>>
         ensures value { option_copied result ≡ table_of self.now tier }
         ensures tables { AreTables G.rules self.now }
@@ -102,7 +102,7 @@ impl<G: Game> Tables<G> {
         let _ = &self.entries;
     }
 
-    // The table of a tier with its layout.
+    // Returns the table of a tier with its layout.
     fn entry(&self, tier: u64) -> Option<&Entry<G>>
         ensures value { option_copied result ≡ table_of self.now tier }
         ensures tables { AreTables G.rules self.now }
@@ -110,7 +110,7 @@ impl<G: Game> Tables<G> {
         self.entries.get(&tier)
     }
 
-    /// The true value of a legal position of a held tier; `None` for any other position.
+    /// Returns the true value of a legal position of a held tier; `None` for any other position.
     pub fn get(&self, p: Position) -> Option<Solved>
         ensures value { result ≡ value_in G.rules self.now p }
         ensures held { IsSome result ↔ ((G.rules.is_legal p ≡ true) × IsHeld self.now p.tier) }
@@ -124,7 +124,7 @@ impl<G: Game> Tables<G> {
         table.at(G::canonical(p).index)
     }
 
-    /// The record of a position in the table of its tier.
+    /// Returns the record of a position in the table of its tier.
     pub(crate) fn record(&self, p: Position) -> Option<Solved>
         ensures value { result ≡ record_in self.now p }
         ensures tables { AreTables G.rules self.now }

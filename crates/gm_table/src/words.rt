@@ -22,7 +22,7 @@ pub fn word_of(known: Option<Solved>) -> u64
     }
 }
 
-/// The word of the record with this number.
+/// Returns the word of the record with this number.
 pub fn word_with(number: u32) -> u64
     ensures { record_of_word result ≡ unpacked number }
 {
@@ -30,7 +30,7 @@ pub fn word_with(number: u32) -> u64
 }
 
 // A fold over the words that were read: the least remoteness of a loss, the greatest of a win if all are wins, the least of a tie, each of them `NONE` if there
-// is none; and how many of the records are no draws.
+// is no such record; and the number of records that are not draws.
 #[derive(Clone, Copy)]
 struct Sum {
     lost: u64,
@@ -43,7 +43,7 @@ struct Sum {
 }
 
 impl Sum {
-    // The same with one more word.
+    // Returns the same with one more word.
     fn with(self, word: u64) -> Sum
         requires { self.decided < 18446744073709551615 }
         ensures lost { marked result.lost ≡ lesser (marked self.lost) (lost_in (record_of_word word)) }
@@ -62,7 +62,7 @@ impl Sum {
     }
 }
 
-// What a mark stands for.
+// Returns the number of a mark.
 fn marked(mark: u64) -> Option<u32>
     requires { mark ≤ 4294967296 }
     ensures { result ≡ marked mark }
@@ -74,7 +74,7 @@ fn marked(mark: u64) -> Option<u32>
     }
 }
 
-/// What children say whose records have these words, and how many of the records are no draws.
+/// Returns the summary of children whose records have these words, and how many of the records are not draws.
 pub fn sum_of(words: &[u64]) -> (Summary, u64)
     ensures lost { result.0.lost ≡ least_of lost_in (map record_of_word words.now) }
     ensures won { result.0.won ≡ all_won (map record_of_word words.now) }

@@ -16,7 +16,7 @@ when_segment : (s : ℕ) (b : List Bool) (m : ℕ) → is_segment s m ≡ true �
 unfolding can_take
 when_segment s b m e = rw e refl
 
--- nothing can be taken where there is no segment
+-- nothing can be taken if there is no segment
 pub no_segment : (s : ℕ) (b : List Bool) (m : ℕ) → is_segment s m ≡ false → can_take s b m ≡ false
 unfolding can_take
 no_segment s b m e = rw e refl

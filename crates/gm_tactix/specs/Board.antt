@@ -12,7 +12,7 @@ use Rattle.gm_board.specs.Squares.{square_symmetries}
 use Rattle.gm_pieces.specs.MoveGames.{MoveGame, move_rules}
 use Rattle.gm_tactix.specs.Segments.{is_segment, segment_cells, segment_length, move_number_bound}
 
--- the side of the square in the game for N: N where it is 1 to 5, and 1 for any other N
+-- the side of the square in the game for N: N if it is 1 to 5, and 1 for any other N
 unfoldable pub side_of : ℕ → ℕ
 side_of n = if nat_le 1 n && nat_le n 5 then n else 1
 

@@ -2,10 +2,10 @@
 ghost use Rattle.std.specs.Prelude.{◌≡◌, ◌≤◌, ◌<◌, ◌^◌, ◌*◌};
 ghost use Rattle.gm_tactix.specs.SegmentMasks.{segment_mask as segment_mask_of};
 
-/// For each side from 1, where the masks of its segments begin.
+/// For each side from 1, the index of the first mask of its segments.
 const STARTS: [u32; 5] = [0, 16, 80, 224, 480];
 
-/// For each side from 1 and each number below 16 times its cells, the mask of the segment with this number; 0 if there is none.
+/// For each side from 1 and each number below 16 times its cells, the mask of the segment with this number, or 0.
 static MASKS: [u32; 880] = [
     0, 0, 1, 0, 0, 0, 0, 0, 0, 0, 0, 0, 0, 0, 0, 0, 0, 0, 1, 0, 3, 5, 0, 0, 0, 0, 0, 0, 0, 0, 0, 0,
     0, 0, 2, 0, 0, 10, 0, 0, 0, 0, 0, 0, 0, 0, 0, 0, 0, 0, 4, 0, 12, 0, 0, 0, 0, 0, 0, 0, 0, 0, 0,
@@ -45,7 +45,7 @@ static MASKS: [u32; 880] = [
     0, 0, 0, 0, 0,
 ];
 
-/// The mask of the cells of the segment with this number; 0 if the square has no such segment.
+/// Returns the mask of the cells of the segment with this number; 0 if the square has no such segment.
 #[tactic(auto, using(crate::specs::laws::SegmentFacts::square_small, crate::proofs::MaskTable::mask_at, crate::proofs::MaskTable::mask_past, crate::proofs::MaskTable::place_below))]
 pub fn segment_mask(side: u32, number: u32) -> u32
     requires low { 1 ≤ side }

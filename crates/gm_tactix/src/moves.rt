@@ -6,7 +6,7 @@ ghost use Rattle.gm_tactix.specs.CounterMasks.{counters_of};
 
 use crate::masks::segment_mask;
 
-/// Whether the segment with this number can be taken: false if there is no such segment.
+/// Returns whether the segment with this number can be taken: false if there is no such segment.
 #[tactic(auto, using(crate::proofs::MaskMoves::take_of, crate::proofs::MaskMoves::no_segment, crate::proofs::MaskTable::mask_of_segment, crate::proofs::MaskTable::none_by_mask, crate::proofs::MaskTable::segment_by_mask))]
 pub fn can_take(side: u32, counters: u32, number: u32) -> bool
     requires low { 1 ≤ side }
@@ -17,7 +17,7 @@ pub fn can_take(side: u32, counters: u32, number: u32) -> bool
     cells != 0 && counters & cells == cells
 }
 
-/// The counters that are left when those of a segment are taken.
+/// Returns the counters that are left when those of a segment are taken.
 #[tactic(auto, using(crate::specs::laws::MoveFacts::take_segment, crate::proofs::MaskMoves::play_of, crate::proofs::MaskTable::mask_of_segment))]
 pub fn play(side: u32, counters: u32, number: u32) -> u32
     requires low { 1 ≤ side }
@@ -30,7 +30,7 @@ pub fn play(side: u32, counters: u32, number: u32) -> u32
     counters & !segment_mask(side, number)
 }
 
-/// Whether taking the segment with this number can have left these counters of `tier` counters: false if there is no such segment.
+/// Returns whether taking the segment with this number can have left these counters of `tier` counters: false if there is no such segment.
 #[tactic(auto, using(crate::proofs::MaskMoves::not_taken, crate::proofs::MaskTable::none_by_mask))]
 pub fn was_taken(side: u32, tier: u64, counters: u32, number: u32) -> bool
     requires low { 1 ≤ side }
@@ -47,7 +47,7 @@ pub fn was_taken(side: u32, tier: u64, counters: u32, number: u32) -> bool
     counters & cells == 0 && number_before == tier
 }
 
-/// The counters before the segment with this number was taken.
+/// Returns the counters before the segment with this number was taken.
 #[tactic(auto, using(crate::specs::laws::MoveFacts::taken_in, crate::proofs::MaskMoves::back_of, crate::proofs::MaskTable::mask_of_segment))]
 pub fn given_back(side: u32, tier: u64, counters: u32, number: u32) -> u32
     requires low { 1 ≤ side }

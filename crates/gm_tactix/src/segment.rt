@@ -15,7 +15,7 @@ pub struct Segment {
 }
 
 impl Segment {
-    /// The segment with this number, or `None` if the square has no such segment.
+    /// Returns the segment with this number, or `None` if the square has no such segment.
     pub fn numbered(side: u32, number: u32) -> Option<Segment>
         requires low { 1 ≤ side }
         requires high { side ≤ 5 }
@@ -28,7 +28,7 @@ impl Segment {
         }
     }
 
-    /// Its least cell.
+    /// Returns its least cell.
     #[tactic(auto, using(crate::specs::laws::SegmentFacts::first_within))]
     pub fn first(self) -> u32
         ensures value { result ≡ first_cell self.number }
@@ -37,7 +37,7 @@ impl Segment {
         self.number / 16
     }
 
-    /// The number of its cells.
+    /// Returns the number of its cells.
     #[tactic(auto, using(crate::specs::laws::SegmentFacts::length_bounds))]
     pub fn length(self) -> u32
         ensures value { result ≡ segment_length self.number }
@@ -47,7 +47,7 @@ impl Segment {
         self.number % 16 / 2
     }
 
-    /// The step from each of its cells to the next.
+    /// Returns the step from each of its cells to the next.
     pub fn stride(self) -> u32
         ensures value { result ≡ stride self.side self.number }
         ensures high { result ≤ self.side }
@@ -55,7 +55,7 @@ impl Segment {
         if self.number % 2 == 1 { self.side } else { 1 }
     }
 
-    /// Its last cell.
+    /// Returns its last cell.
     #[tactic(auto, using(crate::proofs::MaskSteps::segment_cell))]
     pub fn last(self) -> u32
         ensures value { result ≡ last_cell self.side self.number }
@@ -65,7 +65,7 @@ impl Segment {
     }
 }
 
-// Whether there is a segment with this number.
+// Returns whether there is a segment with this number.
 #[tactic(auto, unfolding(crate::specs::Segments::is_segment))]
 fn is_numbered(side: u32, number: u32) -> bool
     requires low { 1 ≤ side }

@@ -93,8 +93,8 @@ static COUNTS: [[u8; 32]; 2] = [
 /// What the numbers of a line's segments are above those of the first row or the first column.
 static SHIFTS: [u16; 10] = [0, 80, 160, 240, 320, 0, 16, 32, 48, 64];
 
-/// Writes the numbers of the segments of the square of side 5 that can be taken, line by line. The result is how many there are; what stands behind them is of
-/// no use. No branch hangs on which they are, since that is seldom foreseen.
+/// Writes the numbers of the segments of the square of side 5 that can be taken, line by line. Returns their count; the numbers behind them are meaningless. No
+/// branch depends on the segments, because it would be mispredicted.
 pub fn list_takeable(counters: u32, numbers: &mut [u16; 132]) -> usize
     ensures numbers { take result numbers.new ≡ filter (can_take 5 (counters_of 25 counters)) segments_by_line }
     ensures count { result ≤ 125 }
@@ -106,7 +106,7 @@ pub fn list_takeable(counters: u32, numbers: &mut [u16; 132]) -> usize
     count
 }
 
-// Which cells of a line have counters: bit 0 for its least cell.
+// Returns which cells of a line have counters: bit 0 for its least cell.
 #[tactic(auto, using(crate::proofs::LineContents::row_cell, crate::proofs::LineContents::column_cell))]
 fn content(counters: u32, line: usize) -> usize
     requires line { line < 10 }
@@ -121,8 +121,8 @@ fn content(counters: u32, line: usize) -> usize
     (column * 0x111110 >> 20 & 31) as usize
 }
 
-// Puts the numbers of a line's segments that lie in its content behind the first `count` numbers. What stands behind them is of no use. The result is how many
-// numbers there are then.
+// Puts the numbers of a line's segments that lie in its content behind the first `count` numbers. The numbers behind them are meaningless. Returns the new
+// count.
 #[tactic(auto, using(crate::proofs::LineTable::block, crate::proofs::LineTable::shifted, crate::proofs::LineTable::few, crate::proofs::LineTable::small, crate::proofs::LineTable::most, crate::proofs::LineTable::long, crate::proofs::LineSegments::put_more, crate::proofs::LineSegments::put_all))]
 fn put_line(numbers: &mut [u16; 132], count: usize, line: usize, content: usize) -> usize
     requires line { line < 10 }

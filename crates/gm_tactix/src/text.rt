@@ -17,7 +17,7 @@ const COUNTER: u8 = b'x';
 /// The byte of an empty cell.
 const EMPTY: u8 = b'.';
 
-// The byte of a cell.
+// Returns the byte of a cell.
 fn counter_byte(counters: u32, cell: u32) -> u8
     requires { cell < 32 }
     ensures { result ≡ counter_text (has_cell counters cell) }
@@ -29,7 +29,7 @@ fn counter_byte(counters: u32, cell: u32) -> u8
     }
 }
 
-/// The text of a board: its cells in order, `x` for a counter and `.` for an empty cell (docs/GAMES.md, Tac Tix).
+/// Returns the text of a board: its cells in order, `x` for a counter and `.` for an empty cell (docs/GAMES.md, Tac Tix).
 #[tactic(auto, using(crate::specs::laws::SegmentFacts::square_few, crate::proofs::TextSteps::text_none, crate::proofs::TextSteps::text_more, crate::proofs::TextSteps::text_long))]
 pub fn board_text(side: u32, counters: u32) -> Line
     requires { side ≤ 5 }
@@ -42,7 +42,7 @@ pub fn board_text(side: u32, counters: u32) -> Line
     line
 }
 
-/// The mask of the cells of the square at which the text has the byte of a counter. Any bytes may be given.
+/// Returns the mask of the cells of the square at which the text has the byte of a counter. Any bytes may be given.
 #[tactic(auto, using(crate::specs::laws::SegmentFacts::square_few, crate::proofs::TextSteps::read_all))]
 pub fn marks(side: u32, text: &[u8]) -> u32
     requires { side ≤ 5 }
@@ -52,7 +52,7 @@ pub fn marks(side: u32, text: &[u8]) -> u32
     gm_pieces::text::marks(side * side, text, COUNTER)
 }
 
-/// The text of a segment: its first cell, and for more than one cell `-` and its last (docs/GAMES.md, Tac Tix).
+/// Returns the text of a segment: its first cell, and for more than one cell `-` and its last (docs/GAMES.md, Tac Tix).
 pub fn segment_text(side: u32, number: u32) -> Line
     requires low { 1 ≤ side }
     requires high { side ≤ 5 }

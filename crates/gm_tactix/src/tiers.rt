@@ -9,7 +9,7 @@ use gm_board::pascal::binomial;
 use gm_game::limits::{CHILD_TIERS, NAME};
 use gm_game::position::End;
 
-/// The name of a game: `tactix-N` or `tactix-N-misere`, padded with zeros (docs/GAMES.md, Tac Tix).
+/// Returns the name of a game: `tactix-N` or `tactix-N-misere`, padded with zeros (docs/GAMES.md, Tac Tix).
 #[tactic(auto, unfolding(crate::specs::Board::tactix_name))]
 pub fn name(side: u32, misere: bool) -> [u8; NAME]
     requires { side ≤ 5 }
@@ -27,7 +27,7 @@ pub fn name(side: u32, misere: bool) -> [u8; NAME]
     }
 }
 
-/// How many boards of a square of side up to 5 have `tier` counters: 0 if there are fewer cells.
+/// Returns how many boards of a square of side up to 5 have `tier` counters: 0 if there are fewer cells.
 #[tactic(auto, using(gm_board::specs::laws::Binomials::binomial_past))]
 pub fn tier_size(side: u32, tier: u64) -> u64
     requires { side ≤ 5 }
@@ -41,7 +41,7 @@ pub fn tier_size(side: u32, tier: u64) -> u64
     }
 }
 
-/// How the game has ended for the player to move with `tier` counters left: without counters Lose, or Win in misère, and `None` if there are counters.
+/// Returns how the game has ended for the player to move with `tier` counters left: without counters Lose, or Win in misère, and `None` if there are counters.
 pub fn end(misere: bool, tier: u64) -> Option<End>
     ensures { result ≡ (if tier == 0 then Some (if misere then End.Win else End.Lose) else None) }
 {
@@ -55,7 +55,7 @@ pub fn end(misere: bool, tier: u64) -> Option<End>
     }
 }
 
-/// The tiers that a move can lead to, ascending: those with 1 to `side` counters fewer.
+/// Returns the tiers that a move can lead to, ascending: those with 1 to `side` counters fewer.
 #[tactic(auto, using(crate::specs::laws::MoveFacts::range_push))]
 pub fn child_tiers(side: u32, tier: u64) -> ArrayVec<u64, CHILD_TIERS>
     requires { side ≤ 5 }

@@ -1,4 +1,4 @@
-//! Takeaway: twelve counters, one to three are taken at a time, and whoever takes the last one wins.
+//! Takeaway: twelve counters, one to three are taken at a time, and the player who takes the last one wins.
 ghost use Rattle.std.specs.Prelude.{◌≡◌, refl};
 ghost use Rattle.std.proofs.Common.{rules};
 ghost use Rattle.gm_toys.specs.Subtraction.{number_text, step_text};

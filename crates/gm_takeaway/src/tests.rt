@@ -5,7 +5,7 @@ use gm_game::game::Game;
 use gm_game::position::{Position, Solved, Value};
 use gm_game::shown::Shown;
 
-// The value with this many counters left, looking twelve moves ahead.
+// Returns the value with this many counters left, looking twelve moves ahead.
 fn value(counters: u64) -> Option<Solved> {
     let p = Position {
         tier: 0,

@@ -20,7 +20,7 @@ use gm_solver::starts::begin_range;
 use gm_table::tables::Tables;
 use std::alloc::{AllocError, Global};
 
-/// The shard of a whole tier, at its first place.
+/// Returns the shard of a whole tier, at its first place.
 pub fn begin_whole<G: Game>(alloc: Global, tier: u64) -> Result<Shard<G>, AllocError>
     requires { G.rules.tier_size tier ≤ TIER_SIZE }
     ensures { IfOk result (λ shard. shard ≡ first_state tier 0 (G.rules.tier_size tier)) }
@@ -28,14 +28,14 @@ pub fn begin_whole<G: Game>(alloc: Global, tier: u64) -> Result<Shard<G>, AllocE
     begin_range(alloc, tier, 0, G::tier_size(tier))
 }
 
-/// The fresh notes of a shard, as the one run of a list.
+/// Returns the fresh notes of a shard, as the one run of a list.
 pub fn fresh_run<G: Game>(alloc: Global, shard: &Shard<G>) -> Result<Vec<Run<G>>, AllocError>
     ensures { IfOk result (λ runs. AreTiles (place_of shard.now) shard.now.lo (shard.now.lo + length shard.now.delivered) runs.items) }
 {
     Ok(vec![in alloc; shard.fresh(alloc)?]?)
 }
 
-// The end of a phase, where the level of these runs is it.
+// Returns the end of a phase, if the level of these runs is it.
 fn end_of<G: Game>(
     alloc: Global,
     place: Place,
@@ -50,7 +50,7 @@ fn end_of<G: Game>(
     Ok(Level::gather(alloc, place, runs, tables)?.last(tables))
 }
 
-/// The end of the phase of a shard of a whole tier, where its level is the end.
+/// Returns the end of the phase of a shard of a whole tier, where its level is the end.
 pub fn last_of<G: Game>(
     alloc: Global,
     shard: &Shard<G>,
@@ -67,7 +67,7 @@ pub fn last_of<G: Game>(
     last
 }
 
-/// The shard of a whole tier, at its first place, and the count of its pairs.
+/// Returns the shard of a whole tier, at its first place, and the count of its pairs.
 pub fn begin_counted<G: Game>(
     alloc: Global,
     tier: u64,
@@ -130,7 +130,7 @@ pub fn finish_phase<G: Game>(
     Ok(None)
 }
 
-/// The shard of a tier at its first level of ties, after its wins and losses; none if one of these is too far.
+/// Returns the shard of a tier at its first level of ties, after its wins and losses; none if one of these is too far.
 pub fn at_ties<G: Game>(
     alloc: Global,
     tier: u64,

@@ -22,7 +22,7 @@ pub enum Habit {
     Own,
 }
 
-/// A source with a habit. It counts the levels that are begun, the pieces that it was told of at their beginning, and how often it was asked.
+/// A source with a habit. It counts the levels that are begun, the pieces that it was given at their beginning, and its calls.
 #[derive(Drop)]
 pub struct TestSource {
     habit: Habit,
@@ -36,12 +36,12 @@ pub struct TestSource {
 }
 
 impl TestSource {
-    /// One that hands out each piece once.
+    /// Returns a source that hands out each piece once.
     pub fn counter() -> Self {
         TestSource::of(Habit::Once)
     }
 
-    /// A source of this habit, before its first level.
+    /// Returns a source of this habit, before its first level.
     pub fn of(habit: Habit) -> Self {
         TestSource {
             habit,
@@ -55,7 +55,7 @@ impl TestSource {
         }
     }
 
-    /// How many levels were begun, how many pieces it was told of, and how often it was asked.
+    /// Returns the numbers of the levels that were begun, of the pieces that it was given, and of its calls.
     pub fn asked(&self) -> (usize, usize, usize) {
         (
             self.levels.load(Ordering::SeqCst),
@@ -121,7 +121,7 @@ impl Meeting {
         false
     }
 
-    // A worker comes to a delivery at this place.
+    // Waits until both workers have come to a delivery.
     fn come<R: Wait>(&self, rt: &R, worker: usize, place: Place) {
         let is_here = place.phase == Phase::WinLose && place.level == self.level;
         if is_here && is_first(rt, &self.arrived, worker) && !self.wait(rt) {
@@ -130,7 +130,7 @@ impl Meeting {
     }
 }
 
-/// Counts the calls before and after deliveries, and takes and frees a mutex so many times before each.
+/// Counts the calls before and after deliveries, and takes and frees a mutex a number of times before each.
 #[derive(Drop)]
 pub struct Turnstile {
     before: AtomicUsize,
@@ -178,7 +178,7 @@ pub enum TestGate {
 }
 
 impl TestGate {
-    /// A meeting at this level.
+    /// Returns a meeting at this level.
     pub fn meeting(level: u32) -> Self {
         TestGate::Meeting(Meeting {
             level,
@@ -187,7 +187,7 @@ impl TestGate {
         })
     }
 
-    /// A turnstile that takes its mutex this many times before a delivery.
+    /// Returns a turnstile that takes its mutex this many times before a delivery.
     pub fn turnstile(turns: u32) -> Self {
         TestGate::Turnstile(Turnstile {
             before: AtomicUsize::new(0),
@@ -197,7 +197,7 @@ impl TestGate {
         })
     }
 
-    /// A free seat.
+    /// Returns a free seat.
     pub fn seat() -> Self {
         TestGate::Seat(Seat {
             taken: Mutex::new(false),
@@ -206,7 +206,7 @@ impl TestGate {
         })
     }
 
-    /// How often a seat was taken, and how often a worker gave up waiting for it.
+    /// Returns how often a seat was taken, and how often a worker gave up waiting for it.
     pub fn seated(&self) -> (usize, usize) {
         match self {
             TestGate::Seat(seat) => (
@@ -217,7 +217,7 @@ impl TestGate {
         }
     }
 
-    /// Whether both workers arrived at a meeting, and none gave up.
+    /// Returns whether both workers arrived at a meeting, and none gave up.
     pub fn met<R: Wait>(&self, rt: &R) -> bool {
         match self {
             TestGate::Meeting(meeting) => {
@@ -227,7 +227,7 @@ impl TestGate {
         }
     }
 
-    /// How often a turnstile was called before deliveries and after them.
+    /// Returns how often a turnstile was called before deliveries and after them.
     pub fn passed(&self) -> (usize, usize) {
         match self {
             TestGate::Turnstile(turnstile) => (
@@ -272,12 +272,12 @@ impl Gate for TestGate {
 pub struct Together(TestGate);
 
 impl Together {
-    /// One that nothing has passed.
+    /// Returns a gate that nothing has passed.
     pub fn new() -> Self {
         Together(TestGate::turnstile(0))
     }
 
-    /// How often it was called before deliveries and after them.
+    /// Returns how often it was called before deliveries and after them.
     pub fn passed(&self) -> (usize, usize) {
         self.0.passed()
     }

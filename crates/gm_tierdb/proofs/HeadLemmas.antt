@@ -3,7 +3,7 @@ use Rattle.std.proofs.Common.{◌≡◌, ◌≤◌, ℕ, List, length, take, dro
 use Rattle.std.proofs.lemmas.List.{drop-take, take-take}
 use Rattle.gm_tierdb.specs.Owners.{owner_of}
 
--- the name stands in the first 24 bytes
+-- the name is in the first 24 bytes
 in_head : (text : List ℕ) → drop 8 (take 24 text) ≡ owner_of text
 in_head text = drop-take 8 16 text
 

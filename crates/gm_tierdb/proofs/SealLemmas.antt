@@ -30,7 +30,7 @@ pub digest_sealed : (v : Version) (r : Rules) (tier : ℕ) (bytes : List ℕ) �
 digest_sealed v r tier bytes len digest =
     (omega (arith, len), subst (λ n. drop n bytes ≡ sha256 (take n bytes)) (sym (digest_place (length bytes) (width v * r.tier_size tier) len)) digest)
 
--- the records of a whole file are those of a text, where it is sealed
+-- the records of a whole file are those of a text, if it is sealed
 pub sealed_text : (v : Version) (r : Rules) (tier : ℕ) (bytes : List ℕ) → IsWhole v r tier bytes → IsSealed bytes → (records : List (Option Solved))
     → AreRecords v (r.tier_size tier) records (records_part v (r.tier_size tier) bytes) → IsVersionText v r tier records bytes
 sealed_text v r tier bytes whole seal records are = text_of_parts v r tier bytes records whole.0 are (sealed_digest v r tier bytes whole.1 seal)

@@ -38,7 +38,7 @@ after_two a b c d e f = simp append_assoc
 after_three : (a b c d e f : List ℕ) → a ++ b ++ c ++ d ++ e ++ f ≡ (a ++ b ++ c) ++ (d ++ (e ++ f))
 after_three a b c d e f = simp append_assoc
 
--- what stands before the records
+-- what is before the records
 abbrev header : Version → List ℕ → ℕ → ℕ → List ℕ
 header v name tier size = magic v ++ name ++ to_le_bytes w64 tier ++ to_le_bytes w64 size
 

@@ -6,7 +6,7 @@ use Rattle.gm_record.specs.Numbers.{width}
 use Rattle.gm_tierdb.specs.declared.decode.Parts.{Parts}
 use Rattle.gm_tierdb.specs.Refusals.{HasHeader, records_part}
 
--- the header is that of the tier's file, the records stand after it, and what stands after them may be the digest and more
+-- the header is that of the tier's file, the records are after it, and what is after them may be the digest and more
 pub record AreParts (v : Version) (r : Rules) (tier : ℕ) (bytes : List ℕ) (parts : Parts) : Type 0 where
   pub header : HasHeader v r tier bytes
   pub size : parts.size ≡ r.tier_size tier

@@ -41,7 +41,7 @@ body_len v size = 40 + width v * size
 abbrev pub file_len : Version → ℕ → ℕ
 file_len v size = 72 + width v * size
 
--- where the records stand
+-- the place of the records
 abbrev pub records_part : Version → ℕ → List ℕ → List ℕ
 records_part v size bytes = drop 40 (take (body_len v size) bytes)
 
@@ -64,7 +64,7 @@ abbrev pub AreRead : Version → ℕ → List ℕ → Option (List (Option Solve
 AreRead v size bytes None = HasRecords v size bytes
 AreRead v size bytes (Some records) = AreRecords v size records bytes
 
--- why the bytes are refused; memory comes last, where they are the text of some records
+-- why the bytes are refused; memory comes last, if they are the text of some records
 abbrev pub RefusesIn : Version → Rules → ℕ → List ℕ → FileError → Type 0
 RefusesIn v r tier bytes OutOfMemory = (records : List (Option Solved)) × IsVersionText v r tier records bytes
 RefusesIn v r tier bytes Truncated = (length bytes < 40) ⊎ (HasHeader v r tier bytes × (length bytes < file_len v (r.tier_size tier)))

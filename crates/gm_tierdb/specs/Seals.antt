@@ -15,7 +15,7 @@ use Rattle.gm_tierdb.specs.Refusals.{HasHeader, HasRecords, RefusesIn, Refuses, 
 abbrev pub IsSealed : List ℕ → Type 0
 IsSealed bytes = (32 ≤ length bytes) × (drop (length bytes - 32) bytes ≡ sha256 (take (length bytes - 32) bytes))
 
--- these are the records that the bytes have where they are sealed; else they are refused for their digest and nothing before it, and are the text of no records
+-- these are the records that the bytes have if they are sealed; else they are refused for their digest and nothing before it, and are the text of no records
 pub record IsUnsealed (r : Rules) (tier : ℕ) (records : List (Option Solved)) (bytes : List ℕ) : Type 0 where
   pub sealed : IsSealed bytes → IsTierText r tier records bytes
   pub unsealed : (IsSealed bytes → ⊥) → Refuses r tier bytes BadDigest
@@ -39,7 +39,7 @@ RefusesWhole v r tier bytes Trailing = RefusesIn v r tier bytes Trailing
 RefusesWhole v r tier bytes BadDigest = ⊥
 RefusesWhole v r tier bytes OldVersion = RefusesIn v r tier bytes OldVersion
 
--- why bytes are refused whose digest is not tested: for want of memory only where they are those of a file
+-- why bytes are refused whose digest is not tested: for want of memory only if they are those of a file
 abbrev pub RefusesUnsealed : Rules → ℕ → List ℕ → FileError → Type 0
 RefusesUnsealed r tier bytes OutOfMemory = IsWhole Two r tier bytes
 RefusesUnsealed r tier bytes Truncated = Refuses r tier bytes Truncated

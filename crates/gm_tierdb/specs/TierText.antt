@@ -51,7 +51,7 @@ IsTierText = IsVersionText Two
 abbrev pub IsTierText1 : Rules → ℕ → List (Option Solved) → List ℕ → Type 0
 IsTierText1 = IsVersionText One
 
--- no record of a table stands above this level, in either phase
+-- no record of a table is above this level, in either phase
 pub record AreUpTo (limit : ℕ) (records : List (Option Solved)) : Type 0 where
   pub each : (phase : Phase) (n : ℕ) → HasLevel phase records n → n ≤ limit
 

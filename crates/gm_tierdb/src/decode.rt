@@ -20,9 +20,9 @@ use sha2::{Digest, Sha256};
 use std::alloc::Global;
 use std::thread::Threads;
 
-/// The records of a tier, from its file: docs/FORMATS.md, "Tier file". Any bytes may be given. All is tested but the digest, which `is_sealed` tests, so that
-/// another thread may do so; the records of a large file are read by four threads. `OutOfMemory` is the last reason: it is told only of bytes that are those
-/// of a file. Takes memory as the records do.
+/// Returns the records of a tier, from its file: docs/FORMATS.md, "Tier file". Any bytes may be given. All is tested but the digest, which `is_sealed` tests,
+/// so that another thread may do so; the records of a large file are read by four threads. `OutOfMemory` is the last reason: only bytes that are those of a
+/// file get it. Takes memory as the records do.
 ///
 /// Only the checker of gm_table tells whether the records are the true ones. A file of version 1 is refused as `OldVersion`; `decode_v1` reads it.
 pub fn decode_unsealed<G: Game, R: Threads + Sync>(
@@ -53,7 +53,7 @@ pub fn decode_unsealed<G: Game, R: Threads + Sync>(
     }
 }
 
-/// Whether bytes end with the digest of those before it, as the file of a tier does.
+/// Returns whether bytes end with the digest of those before it, as the file of a tier does.
 pub fn is_sealed(bytes: &[u8]) -> bool
     ensures { IsTrue result ↔ IsSealed bytes.now }
 {
@@ -64,8 +64,8 @@ pub fn is_sealed(bytes: &[u8]) -> bool
     Sha256::digest(body).as_slice() == digest
 }
 
-/// The records of a tier, from its file: docs/FORMATS.md, "Tier file". Any bytes may be given; `OutOfMemory` is the last reason. A file of version 1 is refused
-/// as `OldVersion`.
+/// Returns the records of a tier, from its file: docs/FORMATS.md, "Tier file". Any bytes may be given; `OutOfMemory` is the last reason. A file of version 1 is
+/// refused as `OldVersion`.
 pub fn decode<G: Game>(
     alloc: Global,
     tier: u64,
@@ -80,7 +80,7 @@ pub fn decode<G: Game>(
     read_list::<G>(alloc, Version::Two, tier, bytes)
 }
 
-/// The records of a tier, from its file of version 1: docs/FORMATS.md, "Version 1". It answers as `decode` does, but never `OldVersion`.
+/// Returns the records of a tier, from its file of version 1: docs/FORMATS.md, "Version 1". It answers as `decode` does, but never `OldVersion`.
 pub fn decode_v1<G: Game>(
     alloc: Global,
     tier: u64,
@@ -94,7 +94,7 @@ pub fn decode_v1<G: Game>(
     read_list::<G>(alloc, Version::One, tier, bytes)
 }
 
-// The records in a list, or why the bytes are refused.
+// Returns the records in a list, or why the bytes are refused.
 fn read_list<G: Game>(
     alloc: Global,
     version: Version,
@@ -114,7 +114,7 @@ fn read_list<G: Game>(
     }
 }
 
-// The records, or why the bytes are refused.
+// Returns the records, or why the bytes are refused.
 fn read_file<G: Game>(
     alloc: Global,
     version: Version,
@@ -169,7 +169,7 @@ struct Parts<'a> {
     digest: &'a [u8],
 }
 
-// The parts of a file that has a header and room for the records and the digest.
+// Returns the parts of a file that has a header and room for the records and the digest.
 fn parts_of<G: Game>(version: Version, tier: u64, bytes: &[u8]) -> Result<Parts, FileError>
     ensures parts { IfOk result (AreParts version G.rules tier bytes.now) }
     ensures refused { IfErr result (RefusesWhole version G.rules tier bytes.now) }
@@ -232,7 +232,7 @@ fn records_len(version: Version, size: u64, file_len: usize) -> Option<usize>
     if len <= room { Some(len) } else { None }
 }
 
-// The number that eight bytes stand for.
+// Returns the number that eight bytes stand for.
 fn u64_of(bytes: &[u8]) -> u64
     requires { length bytes.now ≡ 8 }
     ensures { to_le_bytes w64 result ≡ bytes.now }

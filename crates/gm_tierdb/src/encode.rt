@@ -16,15 +16,15 @@ use gm_table::table::Table;
 use sha2::{Digest, Sha256};
 use std::alloc::{AllocError, Global};
 
-/// The file of a table's tier: docs/FORMATS.md, "Tier file". It has 72 bytes and 4 for each index of the tier.
+/// Returns the file of a table's tier: docs/FORMATS.md, "Tier file". It has 72 bytes and 4 for each index of the tier.
 pub fn encode<G: Game>(alloc: Global, table: &Table<G>) -> Result<Vec<u8>, AllocError>
     ensures { IfOk result (λ file. IsTierText G.rules table.now.tier table.now.records file.items) }
 {
     write_file(alloc, Version::Two, table)
 }
 
-/// The file of a table's tier in version 1: docs/FORMATS.md, "Version 1". It has 72 bytes and 2 for each index of the tier. No record of the table may have a
-/// remoteness above 4,095, which `fits_v1` tests.
+/// Returns the file of a table's tier in version 1: docs/FORMATS.md, "Version 1". It has 72 bytes and 2 for each index of the tier. No record of the table may
+/// have a remoteness above 4,095, which `fits_v1` tests.
 pub fn encode_v1<G: Game>(alloc: Global, table: &Table<G>) -> Result<Vec<u8>, AllocError>
     requires { AreUpTo REMOTENESS_1 table.now.records }
     ensures { IfOk result (λ file. IsTierText1 G.rules table.now.tier table.now.records file.items) }
@@ -32,14 +32,14 @@ pub fn encode_v1<G: Game>(alloc: Global, table: &Table<G>) -> Result<Vec<u8>, Al
     write_file(alloc, Version::One, table)
 }
 
-/// Whether a file of version 1 can have the records of a table: whether the `greatest` of both phases is at most 4,095.
+/// Returns whether a file of version 1 can have the records of a table: whether the `greatest` of both phases is at most 4,095.
 pub fn fits_v1<G: Game>(table: &Table<G>) -> bool
     ensures { IsTrue result ↔ AreUpTo REMOTENESS_1 table.now.records }
 {
     is_within(table.greatest(Phase::WinLose)) && is_within(table.greatest(Phase::Ties))
 }
 
-// Whether a file of version 1 can have a remoteness.
+// Returns whether a file of version 1 can have a remoteness.
 fn is_within(greatest: Option<u32>) -> bool
     ensures { IsTrue result ↔ MatchOption greatest (Unit {0}) (λ n. n ≤ REMOTENESS_1) }
 {
@@ -49,7 +49,7 @@ fn is_within(greatest: Option<u32>) -> bool
     }
 }
 
-// The file of a table's tier, in this version.
+// Returns the file of a table's tier, in this version.
 fn write_file<G: Game>(
     alloc: Global,
     version: Version,

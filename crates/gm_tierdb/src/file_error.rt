@@ -31,7 +31,7 @@ pub enum FileError {
 }
 
 impl FileError {
-    /// The number of the error.
+    /// Returns the number of the error.
     pub fn number(&self) -> u8
         ensures { result ≡ number_of self.now }
     {

@@ -22,7 +22,7 @@ pub struct Flaky<S: Store> {
 }
 
 impl<S: Store> Flaky<S> {
-    /// A store round this one, whose reads and writes from number `from` to number `to` fail.
+    /// Returns a store round this one, whose reads and writes from number `from` to number `to` fail.
     pub fn new(inner: S, from: u64, to: u64) -> Self
         ensures inner { result.inner ≡ inner }
         ensures from { result.from ≡ from }
@@ -40,7 +40,7 @@ impl<S: Store> Flaky<S> {
         }
     }
 
-    /// The inner store.
+    /// Returns the inner store.
     pub fn into_inner(self) -> S
         ensures { result ≡ self.inner }
     {

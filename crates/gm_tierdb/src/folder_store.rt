@@ -30,7 +30,7 @@ pub struct FolderStore {
 }
 
 impl FolderStore {
-    /// A store in the folder with this path. The names of files are made in memory of this allocator.
+    /// Returns a store in the folder with this path. The names of files are made in memory of this allocator.
     pub fn new(alloc: Global, folder: String) -> Self
         ensures folder { result.folder ≡ folder }
         ensures failed { ⟦<FolderStore as Store>⟧.failed result ≡ 0 }
@@ -46,16 +46,16 @@ impl FolderStore {
         }
     }
 
-    /// Whether a write has failed because the file there is another game's.
+    /// Returns whether a write has failed because the file there is another game's.
     pub fn met_another(&self) -> bool
         ensures { result ≡ self.now.met_another }
     {
         self.met_another
     }
 
-    /// Whether the file of a tier is an intact one of another game than the one of this name, for a caller that looks ahead. Nothing is written, and no failure
-    /// is counted: if the file can't be read, the result is false, and a later `read` of that tier fails. The whole file is read only if its first bytes name
-    /// another game.
+    /// Returns whether the file of a tier is an intact one of another game than the one of this name, for a caller that looks ahead. Nothing is written, and no
+    /// failure is counted: if the file can't be read, the result is false, and a later `read` of that tier fails. The whole file is read only if its first
+    /// bytes name another game.
     pub fn is_anothers<R: Files>(
         &mut self,
         rt: &R,
@@ -96,7 +96,7 @@ impl FolderStore {
         holds_another(rt, self.alloc, path.as_str(), &bytes)
     }
 
-    // The path of a tier's file with this ending.
+    // Returns the path of a tier's file with this ending.
     fn path(&self, tier: u64, ending: &str) -> Result<String, StoreError>
         ensures text { IfOk result (λ s. string_bytes s ≡ path_text (string_bytes self.now.folder) tier ending.now) }
         ensures count { failures_of result ≡ 0 }
@@ -261,7 +261,7 @@ fn read_head<R: Files>(rt: &R, path: &str) -> Result<Option<[u8; NAME_END]>, Sto
     Ok(Some(head))
 }
 
-// Whether the file is an intact one of another game than the text's. Mostly its first bytes show this.
+// Returns whether the file is an intact one of another game than the text's. Mostly its first bytes show this.
 fn holds_another<R: Files>(
     rt: &R,
     alloc: Global,
@@ -274,7 +274,7 @@ fn holds_another<R: Files>(
     }
 }
 
-// The same, by all bytes of the file.
+// Returns the same, by all bytes of the file.
 fn is_whole_another<R: Files>(
     rt: &R,
     alloc: Global,

@@ -6,7 +6,7 @@ ghost use Rattle.gm_tierdb.specs.Refusals.{IsOld};
 use crate::layout::MAGIC_LEN;
 use gm_record::version::Version;
 
-/// What a file of this version begins with.
+/// Returns the first bytes of a file of this version.
 pub(crate) fn magic(version: Version) -> &'static [u8]
     ensures { result.now ≡ magic version }
 {
@@ -16,7 +16,7 @@ pub(crate) fn magic(version: Version) -> &'static [u8]
     }
 }
 
-/// Whether these first bytes of a file are those of a version before this one.
+/// Returns whether these first bytes of a file are those of a version before this one.
 pub(crate) fn is_older(version: Version, first: &[u8]) -> bool
     requires { length first.now ≡ MAGIC_LEN }
     ensures { IsTrue result ↔ IsOld version first.now }

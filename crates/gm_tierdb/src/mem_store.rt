@@ -18,7 +18,7 @@ pub struct MemStore {
 }
 
 impl MemStore {
-    /// A store without texts. Texts that are written are copied to memory of this allocator.
+    /// Returns a store without texts. Texts that are written are copied to memory of this allocator.
     pub fn new(alloc: Global) -> Self
         ensures { (t : ℕ) → ⟦<MemStore as Store>⟧.texts result t ≡ None }
     {

@@ -101,7 +101,7 @@ pub(crate) fn read_records(
     Ok(Some(records))
 }
 
-// No records, or the first index without one.
+// Returns no records, or the first index without one.
 fn without_memory(version: Version, bytes: &[u8], size: usize) -> Result<Option<Packed>, u64>
     requires { length bytes.now ≡ width version * size }
     ensures found { IfOk result (AreRead version size bytes.now) }
@@ -130,7 +130,7 @@ fn first_bad(version: Version, bytes: &[u8], size: usize) -> Option<u64>
     None
 }
 
-// The number that the bytes of a record stand for.
+// Returns the number that the bytes of a record stand for.
 fn number_at(version: Version, bytes: &[u8]) -> u32
     requires { length bytes.now ≡ width version }
     ensures bytes { to_le_bytes (word version) result ≡ bytes.now }

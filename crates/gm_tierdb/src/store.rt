@@ -41,7 +41,7 @@ pub trait Store: Drop {
         ensures err { IsTrue KEEPS → IsErrOf result StoreError.Failed → MaySet tier bytes.now (texts self.old) (texts self.new) }
         ensures count { failed self.new ≡ failed self.old + failures_of result };
 
-    /// How many calls have answered `Failed`.
+    /// Returns how many calls have answered `Failed`.
     fn failures(&self) -> u64
         ensures { result ≡ failed self.now };
 }

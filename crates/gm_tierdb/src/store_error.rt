@@ -14,7 +14,7 @@ pub enum StoreError {
 }
 
 impl StoreError {
-    /// The number of the error.
+    /// Returns the number of the error.
     pub fn number(&self) -> u8
         ensures { result ≡ error_number self.now }
     {

@@ -14,7 +14,7 @@ pub const READ_LEN: usize = FILE_LEN + 1;
 /// How many bytes are read at a time.
 const CHUNK_LEN: usize = 65_536;
 
-/// The bytes of a reader up to its end, but at most 67,108,937 of them (`READ_LEN`). After an error the reader has lost some of its bytes.
+/// Returns the bytes of a reader up to its end, but at most 67,108,937 of them (`READ_LEN`). After an error the reader has lost some of its bytes.
 pub fn read_text<R: Read>(alloc: Global, reader: &mut R) -> Result<Vec<u8>, StoreError>
     ensures text { IfOk result (λ v. Consumes (R.remaining reader.old) (R.remaining reader.new) v.items) }
     ensures most { IfOk result (λ v. length v.items ≤ READ_LEN) }

@@ -37,7 +37,7 @@ pub one_more_comes : (r : Rules) (s now : Search) (ts : List ℕ) (i : ℕ) → 
 one_more_comes r s now ts i h e =
     ap (comes_to_all r s) (take_more ts i 0 h) ∙ all_append r s (take i ts) (get_or ts i 0 ∷ []) ∙ ap (λ u. comes_to r u (get_or ts i 0)) e
 
--- where it ends among some, it ends among all
+-- if it ends among some, it ends among all
 ends_among : (r : Rules) (s : Search) (e : TierError) (ts : List ℕ) (n : ℕ) → comes_to_all r s (take n ts) ≡ Err e → comes_to_all r s ts ≡ Err e
 ends_among r s e ts n h =
     ap (comes_to_all r s) (sym (take-append-drop n ts)) ∙ all_append r s (take n ts) (drop n ts) ∙ ap (λ u. comes_to_all r u (drop n ts)) h ∙ ended_all r e

@@ -34,7 +34,7 @@ impl<G: Game> Model for TierOrder<G> {
 }
 
 impl<G: Game> TierOrder<G> {
-    /// All tiers reached from the initial one by `child_tiers`, by ascending rank and then by number. At most 1,024 tiers are allowed, each of at most
+    /// Returns all tiers reached from the initial one by `child_tiers`, by ascending rank and then by number. At most 1,024 tiers are allowed, each of at most
     /// 16,777,216 positions.
     ///
     /// The search comes to the initial tier, and then to the child tiers of each tier in the order in which it was found. For each new tier its size is tested
@@ -51,8 +51,8 @@ impl<G: Game> TierOrder<G> {
         TierOrder::from_tier(alloc, G::initial().tier)
     }
 
-    /// All tiers reached from this one, itself included, in the order and with the limits of `from_initial`: the tiers on which the values of this tier rest.
-    /// The tier need not be one that the game reaches.
+    /// Returns all tiers reached from this one, itself included, in the order and with the limits of `from_initial`: the tiers on which the values of this tier
+    /// rest. The tier need not be one that the game reaches.
     pub fn from_tier(alloc: Global, first: u64) -> Result<Self, TierError>
         ensures order { IfOk result (IsOrderFrom G.rules first) }
         ensures answer { IfOk result (λ o. (found : List ℕ) × (search_of G.rules first ≡ Ok found) × IsPermutation found o) }
@@ -72,7 +72,7 @@ impl<G: Game> TierOrder<G> {
         }
     }
 
-    /// The tiers. No tier comes before one of its child tiers.
+    /// Returns the tiers. No tier comes before one of its child tiers.
     pub fn tiers(&self) -> &[u64]
         ensures value { result.now ≡ self.now }
         ensures order { IsSomeOrder G.rules self.now }

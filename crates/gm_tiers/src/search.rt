@@ -8,7 +8,7 @@ use gm_game::limits::{TIER_SIZE, TIERS};
 use indexmap::IndexSet;
 use std::alloc::Global;
 
-/// All tiers that are reached from the first one, in the order in which they are found: that one, then the child tiers of each in turn.
+/// Finds all tiers that are reached from the first one, in the order in which they are found: that one, then the child tiers of each in turn.
 pub(crate) fn search<G: Game>(alloc: Global, first: u64) -> Result<IndexSet<u64>, TierError>
     ensures { Answers result (search_of G.rules first) (λ found. found.keys) }
 {

@@ -16,7 +16,7 @@ pub enum TierError {
 }
 
 impl TierError {
-    /// The number of the error.
+    /// Returns the number of the error.
     pub fn number(&self) -> u8
         ensures { result ≡ number_of self.now }
     {

@@ -10,7 +10,7 @@ use Rattle.gm_toys.specs.Subtraction.{moves_down}
 abbrev pub stairs_name : List ℕ
 stairs_name = codes "stairs" ++ 0 ∷ 0 ∷ 0 ∷ 0 ∷ 0 ∷ 0 ∷ 0 ∷ 0 ∷ 0 ∷ 0 ∷ []
 
--- x alone where the test holds, and else nothing
+-- x alone if the test holds, and else nothing
 abbrev pub only_if : Bool → ℕ → List ℕ
 only_if b x = if b then x ∷ [] else []
 

@@ -1,4 +1,4 @@
--- The rules of Wheel: ten numbers, and moves between them that can go round for ever.
+-- The rules of Wheel: ten numbers, and moves between them that can go round forever.
 use Rattle.std.specs.Prelude.{ℕ, nat_lt, ◌&&◌, ◌==◌, List, [], ◌∷◌, ◌++◌, codes, if◌then◌else◌, Option, None, Some}
 use Rattle.std.specs.Fmt.{decimal}
 use Rattle.gm_game.specs.declared.position.Position.{Position}

@@ -9,7 +9,7 @@ use gm_game::limits::{MOVES, PARENTS};
 use gm_game::shown::Line;
 use gm_game::text::{push_decimal, read_decimal};
 
-/// The moves at a number: 1 up to `most`, but at most the number itself.
+/// Returns the moves at a number: 1 up to `most`, but at most the number itself.
 #[tactic(auto, using(crate::specs::laws::SubtractionLaws::range_push))]
 pub fn moves_down(most: u32, index: u64) -> ArrayVec<u32, MOVES>
     requires { most ≤ MOVES }
@@ -23,7 +23,7 @@ pub fn moves_down(most: u32, index: u64) -> ArrayVec<u32, MOVES>
     list
 }
 
-/// The numbers up to `last` from which taking at most `most` leads to this one, ascending.
+/// Returns the numbers up to `last` from which taking at most `most` leads to this one, ascending.
 #[tactic(auto, using(crate::specs::laws::SubtractionLaws::range_push))]
 pub fn numbers_above(most: u32, last: u64, index: u64) -> ArrayVec<u64, PARENTS>
     requires few { most ≤ PARENTS }
@@ -38,7 +38,7 @@ pub fn numbers_above(most: u32, last: u64, index: u64) -> ArrayVec<u64, PARENTS>
     list
 }
 
-/// A number in decimal.
+/// Returns a number in decimal.
 pub fn show_number(number: u64) -> Line
     ensures { result.items ≡ decimal number }
 {
@@ -47,7 +47,7 @@ pub fn show_number(number: u64) -> Line
     line
 }
 
-/// The number up to `last` with this text.
+/// Returns the number up to `last` with this text.
 pub fn read_number(last: u64, text: &[u8]) -> Option<u64>
     ensures { (n : ℕ) → (result ≡ Some n) ↔ ((n ≤ last) × (decimal n ≡ text.now)) }
 {
@@ -57,14 +57,14 @@ pub fn read_number(last: u64, text: &[u8]) -> Option<u64>
     }
 }
 
-// Whether this much may be taken from a number.
+// Returns whether this much may be taken from a number.
 fn is_step(most: u32, index: u64, taken: u64) -> bool
     ensures { IsTrue result ↔ ((1 ≤ taken) × (taken ≤ index) × (taken ≤ most)) }
 {
     1 <= taken && taken <= index && taken <= u64::from(most)
 }
 
-/// The move at a number with this text.
+/// Returns the move at a number with this text.
 pub fn read_step(most: u32, index: u64, text: &[u8]) -> Option<u32>
     ensures { (m : ℕ) → (result ≡ Some m) ↔ (Contains (moves_down most index) m × (decimal m ≡ text.now)) }
 {

@@ -41,7 +41,7 @@ fn targets(index: u64) -> &'static [u32]
     }
 }
 
-// The numbers from which a move leads to this one.
+// Returns the numbers from which a move leads to this one.
 fn sources(index: u64) -> &'static [u64]
     ensures value { result.now ≡ wheel_sources index }
     ensures few { length result.now ≤ 3 }
@@ -59,14 +59,14 @@ fn sources(index: u64) -> &'static [u64]
     }
 }
 
-// Whether a move leads from the one number to the other.
+// Returns whether a move leads from the one number to the other.
 fn is_target(index: u64, number: u32) -> bool
     ensures { IsTrue result ↔ Contains (wheel_targets index) number }
 {
     targets(index).contains(&number)
 }
 
-// The move from a number with this text.
+// Returns the move from a number with this text.
 #[tactic(auto, using(crate::specs::laws::WheelLaws::target_in))]
 fn read_target(index: u64, text: &[u8]) -> Option<u32>
     requires { index < 10 }

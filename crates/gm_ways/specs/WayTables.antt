@@ -49,7 +49,7 @@ pub record IsWayGame (n : ℕ) (g : WayGame) : Type 0 where
   pub kept : keeps_ways n g.symmetries g.ways ≡ true
   pub lines : keeps_patterns n g.symmetries g.lines ≡ true
   pub names : are_names n g.point_char ≡ true
-  -- where a piece may go from point to point, its image may
+  -- if a piece may go from point to point, its image may
   pub may_go : (p : List ℕ) (b : List Cell) (i j : ℕ) → Contains g.symmetries p → length b ≡ n → i < n → j < n
       → are_joined g.ways (slice_index_or p i 0) (slice_index_or p j 0) ≡ true → g.may_go b (slice_index_or p i 0) (slice_index_or p j 0) ≡ true
       → g.may_go (permute Empty p b) i j ≡ true

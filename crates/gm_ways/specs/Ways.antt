@@ -1,5 +1,5 @@
--- Games on n points that ways join: each side has as many pieces as the other, a piece goes along a way to a free point, whoever fills a line wins, and a
--- player who can't move has lost. A board is a list of n points as the player to move sees them.
+-- Games on n points that ways join: each side has as many pieces as the other, a piece goes along a way to a free point, the player who fills a line wins,
+-- and a player who can't move has lost. A board is a list of n points as the player to move sees them.
 use Rattle.std.specs.Prelude.{ℕ, ◌*◌, Bool, false, ◌&&◌, ◌==◌, List, [], length, slice_index_or, if◌then◌else◌, Option, None, Some}
 use Rattle.std.specs.List.{list_any}
 use Rattle.gm_game.specs.declared.position.End.{End}
@@ -26,7 +26,7 @@ pub record WayGame : Type 0 where
   pub ways : List (List ℕ)
   -- whether a piece may go along a way from one point to another, besides that the other is free
   pub may_go : List Cell → ℕ → ℕ → Bool
-  -- the lines, the points of each ascending: whoever fills one wins
+  -- the lines, the points of each ascending: the player who fills one wins
   pub lines : List (List ℕ)
   -- the symmetries: for each point, the point whose piece comes there
   pub symmetries : List (List ℕ)
@@ -42,7 +42,7 @@ has_numbers n m t b = length b == n && (number_of is_mine b == m && number_of is
 unfoldable pub legal : ℕ → WayGame → List Cell → Bool
 legal n g b = if has_filled Empty g.lines is_mine b then false else has_numbers n g.pieces g.pieces b
 
--- how the last move has ended the game, if it has: the mover has lost where the opponent has a line
+-- how the last move has ended the game, if it has: the mover has lost if the opponent has a line
 unfoldable pub end_by_last_move : WayGame → List Cell → Option End
 end_by_last_move g b = if has_filled Empty g.lines is_theirs b then Some Lose else None
 

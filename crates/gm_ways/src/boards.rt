@@ -11,7 +11,7 @@ use gm_board::pattern::has_some;
 use gm_game::position::End;
 use gm_pieces::board::Board;
 
-/// Whether the mover and the opponent have these numbers of pieces.
+/// Returns whether the mover and the opponent have these numbers of pieces.
 #[tactic(auto, using(gm_board::specs::laws::Images::board_length), unfolding(crate::specs::Ways::has_numbers))]
 pub fn has_numbers<const CELLS: u32>(board: Board<CELLS>, mine: u32, theirs: u32) -> bool
     ensures { result ≡ has_numbers_of CELLS mine theirs (board_of CELLS board.entry.mine board.entry.theirs) }
@@ -19,7 +19,7 @@ pub fn has_numbers<const CELLS: u32>(board: Board<CELLS>, mine: u32, theirs: u32
     board.own_pieces() == mine && board.their_pieces() == theirs
 }
 
-// Whether the mover has a line.
+// Returns whether the mover has a line.
 #[tactic(auto, using(gm_pieces::specs::laws::MaskFacts::own_patterns))]
 fn has_own_line<const POINTS: u32, T: WayRules<POINTS>>(board: Board<POINTS>) -> bool
     ensures { result ≡ has_filled Empty T.game.lines is_mine (board_of POINTS board.entry.mine board.entry.theirs) }
@@ -27,7 +27,7 @@ fn has_own_line<const POINTS: u32, T: WayRules<POINTS>>(board: Board<POINTS>) ->
     has_some(board.mine, T::lines())
 }
 
-// Whether the opponent has a line.
+// Returns whether the opponent has a line.
 #[tactic(auto, using(gm_pieces::specs::laws::MaskFacts::their_patterns))]
 fn has_their_line<const POINTS: u32, T: WayRules<POINTS>>(board: Board<POINTS>) -> bool
     ensures { result ≡ has_filled Empty T.game.lines is_theirs (board_of POINTS board.entry.mine board.entry.theirs) }
@@ -35,7 +35,7 @@ fn has_their_line<const POINTS: u32, T: WayRules<POINTS>>(board: Board<POINTS>) 
     has_some(board.theirs, T::lines())
 }
 
-/// Whether each side has the game's number of pieces, and the mover has no line.
+/// Returns whether each side has the game's number of pieces, and the mover has no line.
 #[tactic(auto, unfolding(crate::specs::Ways::legal))]
 pub fn is_legal_board<const POINTS: u32, T: WayRules<POINTS>>(board: Board<POINTS>) -> bool
     ensures { result ≡ legal POINTS T.game (board_of POINTS board.entry.mine board.entry.theirs) }
@@ -47,7 +47,7 @@ pub fn is_legal_board<const POINTS: u32, T: WayRules<POINTS>>(board: Board<POINT
     }
 }
 
-/// How the last move has ended the game, if it has: the mover has lost if the opponent has a line.
+/// Returns how the last move has ended the game, if it has: the mover has lost if the opponent has a line.
 #[tactic(auto, unfolding(crate::specs::Ways::end_by_last_move))]
 pub fn end_by_last_move<const POINTS: u32, T: WayRules<POINTS>>(board: Board<POINTS>) -> Option<End>
     ensures { result ≡ over_of T.game (board_of POINTS board.entry.mine board.entry.theirs) }

@@ -9,7 +9,7 @@ use crate::rules::WayRules;
 use gm_pieces::board::Board;
 use gm_pieces::step::Step;
 
-/// Whether a way leads from one point to another. Any numbers may be given.
+/// Returns whether a way leads from one point to another. Any numbers may be given.
 #[tactic(auto, using(gm_board::specs::laws::Filters::listed_test), unfolding(crate::specs::Ways::are_joined))]
 pub fn are_joined<const POINTS: u32, T: WayRules<POINTS>>(a: u32, c: u32) -> bool
     ensures { result ≡ are_joined_of T.game.ways a c }
@@ -17,7 +17,7 @@ pub fn are_joined<const POINTS: u32, T: WayRules<POINTS>>(a: u32, c: u32) -> boo
     T::neighbors(a).contains(&c)
 }
 
-// Whether a piece of the mover's is on the first point, and none on the second.
+// Returns whether a piece of the mover's is on the first point, and none on the second.
 #[tactic(auto, using(crate::specs::laws::WayFacts::joined_from, crate::specs::laws::WayFacts::joined_to))]
 fn is_open<const POINTS: u32, T: WayRules<POINTS>>(board: Board<POINTS>, from: u32, to: u32) -> bool
     requires { are_joined_of T.game.ways from to ≡ true }
@@ -27,7 +27,7 @@ fn is_open<const POINTS: u32, T: WayRules<POINTS>>(board: Board<POINTS>, from: u
     board.has_mine(from) && board.is_free(to)
 }
 
-// Whether a piece of the opponent's is on the second point, and none on the first.
+// Returns whether a piece of the opponent's is on the second point, and none on the first.
 #[tactic(auto, using(crate::specs::laws::WayFacts::joined_from, crate::specs::laws::WayFacts::joined_to))]
 fn is_left<const POINTS: u32, T: WayRules<POINTS>>(board: Board<POINTS>, from: u32, to: u32) -> bool
     requires { are_joined_of T.game.ways from to ≡ true }
@@ -37,7 +37,7 @@ fn is_left<const POINTS: u32, T: WayRules<POINTS>>(board: Board<POINTS>, from: u
     board.has_theirs(to) && board.is_free(from)
 }
 
-/// Whether the move with this number can be made if the game is not over.
+/// Returns whether the move with this number can be made if the game is not over.
 #[tactic(auto, unfolding(crate::specs::Ways::can_move))]
 pub fn can_move<const POINTS: u32, T: WayRules<POINTS>>(board: Board<POINTS>, number: u32) -> bool
     ensures { result ≡ can_move_of T.game (board_of POINTS board.entry.mine board.entry.theirs) number }
@@ -52,7 +52,7 @@ pub fn can_move<const POINTS: u32, T: WayRules<POINTS>>(board: Board<POINTS>, nu
     T::may_go(&board, step.from, step.to)
 }
 
-/// The board after a move, as the other side sees it.
+/// Returns the board after a move, as the other side sees it.
 #[tactic(auto, unfolding(crate::specs::Ways::moved))]
 pub fn moved<const POINTS: u32, T: WayRules<POINTS>>(
     board: Board<POINTS>,
@@ -65,7 +65,7 @@ pub fn moved<const POINTS: u32, T: WayRules<POINTS>>(
     board.gone(step.from, step.to)
 }
 
-/// Whether the move with this number can have led to the board.
+/// Returns whether the move with this number can have led to the board.
 #[tactic(auto, unfolding(crate::specs::Ways::can_have_led_here))]
 pub fn can_have_led_here<const POINTS: u32, T: WayRules<POINTS>>(
     board: Board<POINTS>,
@@ -80,7 +80,7 @@ pub fn can_have_led_here<const POINTS: u32, T: WayRules<POINTS>>(
     is_left::<POINTS, T>(board, step.from, step.to)
 }
 
-/// The board before the move with this number, as the side that made it saw it.
+/// Returns the board before the move with this number, as the side that made it saw it.
 #[tactic(auto, unfolding(crate::specs::Ways::undo))]
 pub fn undo<const POINTS: u32, T: WayRules<POINTS>>(
     board: Board<POINTS>,

@@ -9,42 +9,42 @@ ghost use Rattle.gm_ways.specs.WayTables.{IsWayGame};
 use gm_game::limits::NAME;
 use gm_pieces::board::Board;
 
-/// A game on `POINTS` points, at most 16, in tables. Each side has as many pieces as the other, a move takes a piece along a way to a free point, whoever fills
-/// a line wins, and a player who can't move has lost.
+/// A game on `POINTS` points, at most 16, in tables. Each side has as many pieces as the other, a move takes a piece along a way to a free point, a player who
+/// fills a line wins, and a player who can't move has lost.
 pub trait WayRules<const POINTS: u32>: Drop {
     /// The game, as its rules are stated.
     ghost game: { WayGame };
 
-    /// The name in ASCII, padded with zeros.
+    /// Returns the name in ASCII, padded with zeros.
     fn name() -> [u8; NAME]
         ensures { result ≡ game.name };
 
-    /// How many pieces each side has.
+    /// Returns how many pieces each side has.
     fn pieces() -> u32
         ensures { result ≡ game.pieces };
 
-    /// The board at the start, as the player who begins sees it.
+    /// Returns the board at the start, as the player who begins sees it.
     fn start() -> Board<POINTS>
         ensures { board_of POINTS result.mine result.theirs ≡ game.start };
 
-    /// The points to which a way leads from a point. Any number may be given.
+    /// Returns the points to which a way leads from a point. Any number may be given.
     fn neighbors(point: u32) -> &'static [u32]
         ensures { result.now ≡ slice_index_or game.ways point [] };
 
-    /// Whether a piece may go along a way from one point to another, besides that the other is free.
+    /// Returns whether a piece may go along a way from one point to another, besides that the other is free.
     fn may_go(board: &Board<POINTS>, from: u32, to: u32) -> bool
         requires { are_joined game.ways from to ≡ true }
         ensures { result ≡ game.may_go (board_of POINTS board.now.mine board.now.theirs) from to };
 
-    /// The masks of the lines: whoever fills one wins.
+    /// Returns the masks of the lines: the player who fills one wins.
     fn lines() -> &'static [u32]
         ensures { map pattern_mask game.lines ≡ result.now };
 
-    /// The least of the indexes of a board's images under the symmetries, as `least_index_under` finds it.
+    /// Returns the least of the indexes of a board's images under the symmetries, as `least_index_under` finds it.
     fn least_index(board: &Board<POINTS>) -> u64
         ensures { result ≡ least_index_under game.symmetries (board_of POINTS board.now.mine board.now.theirs) };
 
-    /// The byte of a point's name.
+    /// Returns the byte of a point's name.
     fn point_byte(point: u32) -> u8
         requires { point < POINTS }
         ensures { result ≡ game.point_char point };

@@ -8,7 +8,7 @@ use arrayvec::ArrayVec;
 use gm_game::shown::Line;
 use gm_pieces::step::Step;
 
-/// The text of a move along a way: the names of the two points with `-` between them.
+/// Returns the text of a move along a way: the names of the two points with `-` between them.
 #[tactic(auto, unfolding(crate::specs::WayTexts::step_text))]
 pub fn step_text<const POINTS: u32, T: WayRules<POINTS>>(number: u32) -> Line
     requires { is_step T.game.ways number ≡ true }

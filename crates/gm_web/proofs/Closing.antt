@@ -1,4 +1,4 @@
--- Tables stay closed when the table of a tier is held whose child tiers are.
+-- Tables stay closed when a table is added whose child tiers are held.
 use Rattle.std.proofs.Common.{◌≡◌, ◌==◌, ℕ, ◌⊎◌, ◌↔◌, inl, inr, zero, suc, true, false, if◌then◌else◌, List, [], Some, IsSome, refl, ap, sym, subst, ◌∙◌}
 use Rattle.std.proofs.Common.{eqb-true, eq-eqb}
 use Rattle.gm_game.specs.Rules.{Rules}
@@ -6,7 +6,7 @@ use Rattle.gm_table.specs.Tables.{TableData, table_of, Inserts, IsHeld, AreHeld}
 use Rattle.gm_best.specs.Reached.{IsBelow, AreClosed}
 
 module _ (old new : List TableData) (table : TableData) (inserts : Inserts old new table) where
-  held_too : (t : ℕ) → IsHeld new t ↔ (IsHeld old t ⊎ (table.tier ≡ t))
+  pub held_too : (t : ℕ) → IsHeld new t ↔ (IsHeld old t ⊎ (table.tier ≡ t))
   held_too t =
       elim (table.tier == t) as (λ b. table.tier == t ≡ b → IsHeld new t ↔ (IsHeld old t ⊎ (table.tier ≡ t))) [
         | true ↦ λ e. (

@@ -1,3 +1,4 @@
 mod Closing
+mod Ordering
 mod Refused
 mod Trueness

@@ -15,7 +15,7 @@ use Rattle.gm_web.specs.Records.{record_with, records_of, IsTrueTier, AreTrue}
 pub append_one : (xs more old new : List ℕ) (b : ℕ) → old ≡ xs ++ more → new ≡ old ++ b ∷ [] → new ≡ xs ++ (more ++ b ∷ [])
 append_one xs more old new b is pushed = pushed ∙ ap (λ (v : List ℕ). v ++ b ∷ []) is ∙ append_assoc xs more (b ∷ [])
 
--- what is left is cut once more
+-- the remaining bytes are split once more
 pub cut_more : (all known rest front back : List ℕ) (n : ℕ) → all ≡ known ++ rest → front ≡ take n rest → back ≡ drop n rest → all ≡ (known ++ front) ++ back
 cut_more all known rest front back n is f b =
     is ∙ ap (λ (v : List ℕ). known ++ v) (sym (take-append-drop n rest) ∙ ap (λ (v : List ℕ). v ++ drop n rest) (sym f) ∙ ap (λ (v : List ℕ). front ++ v) (sym b))
@@ -30,8 +30,8 @@ record_more records more i b within same is =
     ∙ ap (λ (v : Option Solved). take i records ++ v ∷ []) (is ∙ at) ∙ sym (take_more records i None within)
 
 module _ (r : Rules) where
-  -- as many bytes as the tier has indexes
-  long : (t : ℕ) (ys : List ℕ) → IsTrueTier r t ys → length ys ≡ r.tier_size t
+  -- there are as many bytes as the tier has indexes
+  pub long : (t : ℕ) (ys : List ℕ) → IsTrueTier r t ys → length ys ≡ r.tier_size t
   long t ys is = sym (length-map ys record_with) ∙ is.whole
 
   one : (t : ℕ) (ys : List ℕ) → IsTrueTier r t ys → AreTrue r (t ∷ []) ys
@@ -54,12 +54,12 @@ module _ (r : Rules) where
   one_more_at ts k xs ys within known is =
       subst (λ (v : List ℕ). AreTrue r v (xs ++ ys)) (sym (take_more ts k 0 within)) (one_more (take k ts) xs (slice_index_or ts k 0) ys known is)
 
-  -- true records by way of a table
+  -- true records, from a table
   pub from_table : (tier : ℕ) (t : TableData) (more : List ℕ) → IsTable r t → t.tier ≡ tier → records_of more ≡ t.records → IsTrueTier r tier more
   from_table tier t more is same records = subst (λ (v : List (Option Solved)). IsTrueTable r REMOTENESS tier v) (sym records)
       (subst (λ (u : ℕ). IsTrueTable r REMOTENESS u t.records) same is.is_true)
 
-  -- the records of these tiers from one on are its own, and then those of the later ones
+  -- the records of these tiers from the k-th on are its own, and then those of the later tiers
   pub first_of : (ts : List ℕ) (k : ℕ) (bytes : List ℕ) → k < length ts → AreTrue r (drop k ts) bytes
       → IsTrueTier r (slice_index_or ts k 0) (take (r.tier_size (slice_index_or ts k 0)) bytes)
       × AreTrue r (drop (k + 1) ts) (drop (r.tier_size (slice_index_or ts k 0)) bytes)
@@ -77,6 +77,6 @@ module _ (r : Rules) where
       let m : length front ≡ min (r.tier_size t) (length bytes) = length-take (r.tier_size t) bytes in
       omega arith
 
-  -- past the last tier no bytes are left
+  -- after the last tier no bytes remain
   pub none_left : (ts : List ℕ) (k : ℕ) (bytes : List ℕ) → length ts ≤ k → AreTrue r (drop k ts) bytes → bytes ≡ []
   none_left ts k bytes past known = subst (λ (v : List ℕ). AreTrue r v bytes) (drop_of_length-le ts past) known

@@ -29,7 +29,7 @@ pub record PlayedGame : Type 0 where
 abbrev pub played : Rules → (Position → List ℕ) → (Position → ℕ → List ℕ) → PlayedGame
 played rules shown move_shown = record { rules = rules; shown = shown; move_shown = move_shown }
 
--- the fact holds of the game with this number, if there is one. (13 is Mu Torere by its ways, which gm_mutorere proves to be that of its board.)
+-- the property holds for the game with this number, if there is one. (13 is Mu Torere by its ways, which gm_mutorere proves equal to that by its board.)
 abbrev pub IsFor : ℕ → (PlayedGame → Type 0) → Type 0
 IsFor number fact =
     (number ≡ 0 → fact (played (countdown 10) number_text step_text))

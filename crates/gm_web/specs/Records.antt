@@ -1,4 +1,4 @@
--- Records of a byte each, as the host keeps them.
+-- Records of one byte each, as the host keeps them.
 use Rattle.std.specs.Prelude.{◌≡◌, ℕ, List, [], ◌∷◌, Option, map, take, drop}
 use Rattle.gm_game.specs.declared.position.Solved.{Solved}
 use Rattle.gm_game.specs.declared.limits.TheConstants.{REMOTENESS}
@@ -7,7 +7,7 @@ use Rattle.gm_game.specs.Records.{IsTrueTable}
 use Rattle.gm_table.specs.Packed.{unpacked}
 use Rattle.gm_table.specs.Numbers.{wide}
 
--- the record that a byte stands for: its upper three bits are the code of the value, and the others the remoteness
+-- the record that a byte stands for: its upper three bits are the code of the value, and the others are the remoteness
 abbrev pub record_with : ℕ → Option Solved
 record_with byte = unpacked (wide byte)
 

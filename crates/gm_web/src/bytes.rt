@@ -1,4 +1,4 @@
-//! Records of a byte each, as the host keeps them.
+//! Records of one byte each, as the host keeps them.
 ghost use Rattle.std.specs.Prelude.{◌≡◌, ◌++◌, ℕ, List, None, IfOk, IfErr, OnOk, IfSome};
 ghost use Rattle.gm_table.specs.Numbers.{wide as wide_spec, IsShort};
 ghost use Rattle.gm_web.specs.Records.{record_with, records_of};
@@ -11,13 +11,14 @@ use gm_table::packed::{Packed, number_of, unpacked};
 use gm_table::table::Table;
 use std::alloc::Global;
 
-/// One more than the greatest remoteness of a record: its number is the code of its value times this, plus its remoteness.
+/// One more than the greatest remoteness of a record. The number of a record is the code of its value times this, plus its
+/// remoteness.
 const STEP: u32 = 1_048_576;
 
-/// One more than the greatest remoteness of a record that a byte has.
+/// One more than the greatest remoteness that a byte can hold.
 const SHORT_STEP: u32 = 32;
 
-// Returns the number with this short form.
+// Returns the number of the record with this short form.
 fn wide(short: u8) -> u32
     ensures { result ≡ wide_spec short }
 {
@@ -48,15 +49,10 @@ pub fn pack(alloc: Global, bytes: &[u8]) -> Result<Packed, Refusal>
     ensures records { IfOk result (λ packed. packed ≡ records_of bytes.now) }
     ensures refused { IfErr result (λ e. e ≡ Refusal.Memory) }
 {
-    let Ok(mut packed) = Packed::with_capacity(alloc, bytes.len()) else {
-        return Err(Refusal::Memory);
-    };
-    for byte in bytes {
-        if packed.push(record_with(*byte)).is_err() {
-            return Err(Refusal::Memory);
-        }
+    match Packed::of_short(alloc, bytes) {
+        Ok(packed) => Ok(packed),
+        Err(_refused) => Err(Refusal::Memory),
     }
-    Ok(packed)
 }
 
 /// Lists the records that bytes stand for.

@@ -1,15 +1,16 @@
-//! What the exports do, for any game.
-ghost use Rattle.std.specs.Prelude.{◌≡◌, ◌≢◌, ◌≤◌, ◌<◌, ◌^◌, ◌++◌, ◌∷◌, [], ℕ, List, true, false, OnOk, IfOk, IfErr, IsErrOf, length, take};
-ghost use Rattle.gm_table.specs.Tables.{AreHeld, IsTable};
+//! The work of the exports, for any game.
+ghost use Rattle.std.specs.Prelude.{◌≡◌, ◌≢◌, ◌≤◌, ◌<◌, ◌^◌, ◌⊎◌, ◌++◌, ◌∷◌, [], ℕ, List, true, false, OnOk, IfOk, IfErr, IsErrOf, length, map, take};
+ghost use Rattle.std.specs.List.{Contains, sum};
+ghost use Rattle.gm_table.specs.Tables.{IsHeld, AreHeld, IsTable};
 ghost use Rattle.gm_table.specs.Solving.{AreDeliveries};
-ghost use Rattle.gm_tiers.specs.Orders.{IsTierOrder};
+ghost use Rattle.gm_tiers.specs.Orders.{IsTierOrder, ComeChildrenFirst};
 ghost use Rattle.gm_game.specs.declared.position.Position.{Position as PositionSpec};
 ghost use Rattle.gm_best.specs.Reached.{AreClosed};
 ghost use Rattle.gm_best.specs.Places.{IsAt};
 ghost use Rattle.gm_json.specs.Asking.{AreAnswers, lines_of};
 ghost use Rattle.gm_web.specs.Records.{IsTrueTier, AreTrue};
 ghost use Rattle.gm_web.specs.Saying.{Says, asked_of};
-ghost use Rattle.gm_web.specs.Refusing.{IsUnordered, IsUnlisted, IsUnchecked, IsTierUnchecked, IsUnheld, IsUnread, IsTierUnsolved, IsUnsolved, IsUnsolvedGame, IsUnanswered, IsUnwritten, IsUnshown};
+ghost use Rattle.gm_web.specs.Refusing.{IsNotNext, HaveTables, AreDisordered, IsUnordered, IsUnlisted, IsUnchecked, IsTierUnchecked, IsUnheld, IsUnread, IsTierUnsolved, IsUnsolved, AreUnsolved, IsUnsolvedGame, IsUnanswered, IsUnwritten, IsUnshown};
 
 use crate::bytes::{add, list, pack};
 use crate::refusal::Refusal;
@@ -30,7 +31,7 @@ use gm_tiers::order::TierOrder;
 use gm_tiers::tier_error::TierError;
 use std::alloc::Global;
 
-/// A number that the host is given is smaller.
+/// The exclusive upper bound of the numbers that the host receives, apart from refusals.
 const MOST: u64 = 0x8000_0000_0000_0000;
 
 /// Writes the tiers of a game, child tiers first.
@@ -56,7 +57,7 @@ fn order_of<G: Game>(alloc: Global) -> Result<TierOrder<G>, Refusal>
     }
 }
 
-// Writes these tiers at the beginning, and returns how many there are.
+// Writes these tiers at the beginning, and returns their number.
 fn put_tiers(tiers: &[u64], out: &mut [u64]) -> Result<usize, Refusal>
     ensures few { IfOk result (λ n. n < 2 ^ 63) }
     ensures same { IfOk result (λ n. take n out.new ≡ tiers.now) }
@@ -70,11 +71,12 @@ fn put_tiers(tiers: &[u64], out: &mut [u64]) -> Result<usize, Refusal>
     Ok(number)
 }
 
-// Holds a table when the tables of its child tiers are held.
+// Adds a table. The tables of its child tiers must be held.
 fn hold<G: Game>(tables: &mut Tables<G>, table: Table<G>) -> Result<(), Refusal>
     requires closed { AreClosed G.rules tables.old }
     requires children { AreHeld G.rules tables.old table.tier }
     ensures closed { OnOk result (AreClosed G.rules tables.new) }
+    ensures held { OnOk result ((t : ℕ) → IsHeld tables.old t ⊎ (table.tier ≡ t) → IsHeld tables.new t) }
     ensures refused { IfErr result (λ e. e ≡ Refusal.Memory) }
 {
     match tables.insert(table) {
@@ -83,10 +85,11 @@ fn hold<G: Game>(tables: &mut Tables<G>, table: Table<G>) -> Result<(), Refusal>
     }
 }
 
-// Returns whether a tier can be solved or checked: it is small, and its child tiers are held.
+// Tests whether a tier can be solved or checked: it is small enough, and its child tiers are held.
 fn is_next<G: Game>(tables: &Tables<G>, tier: u64) -> bool
     ensures small { result ≡ true → G.rules.tier_size tier ≤ TIER_SIZE }
     ensures held { result ≡ true → AreHeld G.rules tables.now tier }
+    ensures none { result ≡ false → IsNotNext G.rules tables.now tier }
 {
     G::tier_size(tier) <= TIER_SIZE && tables.has_children(tier)
 }
@@ -100,8 +103,9 @@ fn check_tier<G: Game>(
 ) -> Result<(), Refusal>
     requires closed { AreClosed G.rules tables.old }
     ensures closed { OnOk result (AreClosed G.rules tables.new) }
+    ensures held { OnOk result ((t : ℕ) → IsHeld tables.old t ⊎ (tier ≡ t) → IsHeld tables.new t) }
     ensures known { OnOk result (IsTrueTier G.rules tier bytes.now) }
-    ensures refused { IfErr result (IsTierUnchecked G.rules tier bytes.now) }
+    ensures refused { IfErr result (IsTierUnchecked G.rules tables.old tier bytes.now) }
 {
     if !is_next(tables, tier) {
         return Err(Refusal::Order);
@@ -150,7 +154,8 @@ fn hold_true<G: Game>(
     requires closed { AreClosed G.rules tables.old }
     requires known { IsTrueTier G.rules tier bytes.now }
     ensures closed { OnOk result (AreClosed G.rules tables.new) }
-    ensures refused { IfErr result IsUnheld }
+    ensures held { OnOk result ((t : ℕ) → IsHeld tables.old t ⊎ (tier ≡ t) → IsHeld tables.new t) }
+    ensures refused { IfErr result (IsUnheld (IsNotNext G.rules tables.old tier)) }
 {
     if !is_next(tables, tier) {
         return Err(Refusal::Order);
@@ -159,7 +164,7 @@ fn hold_true<G: Game>(
     hold(tables, Table::from_packed(tier, records))
 }
 
-// Holds the tables of these tiers, which have these records, one tier after another.
+// Holds the tables of these tiers, from these records, one tier after another.
 fn hold_all<G: Game>(
     alloc: Global,
     tables: &mut Tables<G>,
@@ -169,7 +174,8 @@ fn hold_all<G: Game>(
     requires closed { AreClosed G.rules tables.old }
     requires known { AreTrue G.rules tiers.now records.now }
     ensures closed { OnOk result (AreClosed G.rules tables.new) }
-    ensures refused { IfErr result IsUnheld }
+    ensures held { OnOk result (HaveTables tables.new tiers.now) }
+    ensures refused { IfErr result (IsUnheld (AreDisordered G.rules tiers.now)) }
 {
     let mut rest = records;
     for tier in tiers {
@@ -184,13 +190,13 @@ fn hold_all<G: Game>(
     Ok(())
 }
 
-// Solves a tier: returns its table and the number of deliveries.
+// Solves a tier. Returns its table and the number of deliveries.
 fn solve<G: Game>(alloc: Global, tables: &Tables<G>, tier: u64) -> Result<(Table<G>, u64), Refusal>
     ensures table { IfOk result (λ answer. IsTable G.rules answer.0) }
     ensures tier { IfOk result (λ answer. answer.0.tier ≡ tier) }
     ensures children { IfOk result (λ answer. AreHeld G.rules tables.now answer.0.tier) }
     ensures deliveries { IfOk result (λ answer. AreDeliveries G.rules tier answer.1) }
-    ensures refused { IfErr result (IsTierUnsolved G.rules tier) }
+    ensures refused { IfErr result (IsTierUnsolved G.rules tables.now tier) }
 {
     if !is_next(tables, tier) {
         return Err(Refusal::Order);
@@ -202,7 +208,7 @@ fn solve<G: Game>(alloc: Global, tables: &Tables<G>, tier: u64) -> Result<(Table
     }
 }
 
-/// Solves a tier when these tiers have these records: writes its records, and returns the number of deliveries.
+/// Solves a tier from the records of these tiers. Writes its records, and returns the number of deliveries.
 pub fn solve_next<G: Game>(
     alloc: Global,
     solved: &[u64],
@@ -214,7 +220,7 @@ pub fn solve_next<G: Game>(
     ensures few { IfOk result (λ n. n < 2 ^ 63) }
     ensures known { OnOk result (IsTrueTier G.rules tier out.new) }
     ensures deliveries { IfOk result (AreDeliveries G.rules tier) }
-    ensures refused { IfErr result (IsUnsolved G.rules tier (length out.old)) }
+    ensures refused { IfErr result (IsUnsolved G.rules solved.now tier (length out.old)) }
 {
     let mut tables: Tables<G> = Tables::new(alloc);
     hold_all(alloc, &mut tables, solved, records)?;
@@ -228,7 +234,7 @@ pub fn solve_next<G: Game>(
     Ok(deliveries)
 }
 
-// Writes bytes when there is exactly as much room.
+// Writes bytes into room of exactly their size, and refuses room of any other size.
 fn put_bytes(bytes: &Vec<u8>, out: &mut [u8]) -> Result<(), Refusal>
     ensures same { OnOk result (out.new ≡ bytes.now.items) }
     ensures refused { IfErr result (λ e. (e ≡ Refusal.Room) × (length bytes.now.items ≢ length out.old)) }
@@ -249,15 +255,16 @@ fn solve_and_hold<G: Game>(
 ) -> Result<(), Refusal>
     requires closed { AreClosed G.rules tables.old }
     ensures closed { OnOk result (AreClosed G.rules tables.new) }
+    ensures held { OnOk result ((t : ℕ) → IsHeld tables.old t ⊎ (tier ≡ t) → IsHeld tables.new t) }
     ensures known { (tiers : List ℕ) → AreTrue G.rules tiers bytes.old.items → OnOk result (AreTrue G.rules (tiers ++ tier ∷ []) bytes.new.items) }
-    ensures refused { IfErr result IsUnsolvedGame }
+    ensures refused { IfErr result (IsTierUnsolved G.rules tables.old tier) }
 {
     let (table, _deliveries) = solve(alloc, tables, tier)?;
     add(bytes, &table)?;
     hold(tables, table)
 }
 
-/// Solves all tiers of a game: writes them, child tiers first, and their records, one tier after another.
+/// Solves all tiers of a game. Writes the tiers, child tiers first, and their records, one tier after another.
 pub fn solve_game<G: Game>(
     alloc: Global,
     order: &mut [u64],
@@ -266,7 +273,7 @@ pub fn solve_game<G: Game>(
     ensures few { IfOk result (λ n. n < 2 ^ 63) }
     ensures order { IfOk result (λ n. IsTierOrder G.rules (take n order.new)) }
     ensures known { IfOk result (λ n. AreTrue G.rules (take n order.new) out.new) }
-    ensures refused { IfErr result IsUnsolvedGame }
+    ensures refused { IfErr result (IsUnsolvedGame G.rules (length order.old) (length out.old)) }
 {
     let tiers = order_of::<G>(alloc)?;
     let bytes = solve_tiers::<G>(alloc, tiers.tiers())?;
@@ -274,10 +281,12 @@ pub fn solve_game<G: Game>(
     put_tiers(tiers.tiers(), order)
 }
 
-// Solves tiers, and returns their records, one tier after another.
+// Solves tiers, each after its child tiers, and returns their records, one tier after another.
 fn solve_tiers<G: Game>(alloc: Global, tiers: &[u64]) -> Result<Vec<u8>, Refusal>
+    requires small { (t : ℕ) → Contains tiers.now t → G.rules.tier_size t ≤ TIER_SIZE }
+    requires children_first { ComeChildrenFirst G.rules tiers.now }
     ensures known { IfOk result (λ bytes. AreTrue G.rules tiers.now bytes.items) }
-    ensures refused { IfErr result IsUnsolvedGame }
+    ensures refused { IfErr result (AreUnsolved G.rules tiers.now) }
 {
     let mut tables: Tables<G> = Tables::new(alloc);
     let mut bytes = Vec::new(alloc);
@@ -287,7 +296,7 @@ fn solve_tiers<G: Game>(alloc: Global, tiers: &[u64]) -> Result<Vec<u8>, Refusal
     Ok(bytes)
 }
 
-/// Answers lines when these tiers have these records.
+/// Answers lines from the records of these tiers.
 pub fn ask_lines<G: Shown>(
     alloc: Global,
     solved: &[u64],
@@ -313,7 +322,7 @@ pub fn ask_lines<G: Shown>(
     Ok(number)
 }
 
-// Returns what these bits ask for.
+// Returns the options that these bits stand for.
 fn asked_of(bits: u32) -> Asked
     ensures { result ≡ asked_of bits }
 {
@@ -338,7 +347,7 @@ fn answers<G: Shown>(
     lines: &[u8],
 ) -> Result<Vec<u8>, Refusal>
     ensures answers { IfOk result (λ v. AreAnswers (Says G.Game.rules G.shown G.move_shown asked tiers.now) 1 (lines_of lines.now) v.items) }
-    ensures refused { IfErr result IsUnread }
+    ensures refused { IfErr result (IsUnread G.Game.rules closed.now.tables.now) }
 {
     let mut source = lines;
     let mut out: Vec<u8> = Vec::new(alloc);

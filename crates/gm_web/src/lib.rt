@@ -1,6 +1,8 @@
-//! The solver for a host such as a web page: exports that keep nothing. The host keeps the records of the tiers that were solved, a byte each, in memory of its
-//! own. `web_solve_game` and `web_solve` write them, and `web_check` tests bytes from elsewhere. `web_solve` and `web_ask` require bytes that one of these three
-//! has written or accepted for the same tiers of the same game, unchanged since.
+//! The solver for a host such as a web page: exports that keep no state. The host keeps the records of the solved tiers, one byte
+//! each, in memory of its own.
+//!
+//! `web_solve_game` and `web_solve` write records, and `web_check` tests bytes from elsewhere. `web_solve` and `web_ask` require
+//! bytes that one of these three has written or accepted for the same tiers of the same game, unchanged since.
 #![tactic(auto)]
 
 ghost use Rattle.std.specs.Prelude.{◌≡◌};
@@ -28,7 +30,8 @@ use gm_toys::countdown::Countdown;
 use gm_toys::wheel::Wheel;
 use std::alloc::Global;
 
-// Calls a function of the game with this number; where there is none, the last value is the answer. Each game has a line here and one in specs/Games.antt.
+// Calls a function of the game with this number; if there is no such game, the last argument is the result. Each game has a line
+// here and one in specs/Games.antt.
 macro_rules! of_game {
     ($game:expr, $of:ident, $given:tt, $none:expr) => {
         match $game {
@@ -56,7 +59,7 @@ macro_rules! of_game {
     };
 }
 
-/// Returns how many indexes a tier has, or 0 when there is no such game.
+/// Returns the number of indexes of a tier, or 0 if there is no such game.
 #[unsafe(no_mangle)]
 pub extern "C" fn web_size(game: u32, tier: u64) -> u64
     ensures size { IsFor game (λ g. result ≡ g.rules.tier_size tier) }
@@ -65,7 +68,7 @@ pub extern "C" fn web_size(game: u32, tier: u64) -> u64
     of_game!(game, tell_size, (tier), 0)
 }
 
-/// Writes the tiers of a game, child tiers first. The answer is how many there are, or a refusal.
+/// Writes the tiers of a game, child tiers first. Returns their number, or a refusal.
 #[unsafe(no_mangle)]
 pub extern "C" fn web_order(alloc: Global, game: u32, out: &mut [u64]) -> u64
     ensures order { IsFor game (λ g. IsOrder g out.old out.new result) }
@@ -74,16 +77,17 @@ pub extern "C" fn web_order(alloc: Global, game: u32, out: &mut [u64]) -> u64
     of_game!(game, tell_order, (alloc, out), REFUSED)
 }
 
-/// Solves a whole game: writes its tiers, child tiers first, and their records, one tier after another. The answer is how many tiers there are, or a refusal.
+/// Solves a whole game. Writes its tiers, child tiers first, and their records, one tier after another. Returns the number of
+/// tiers, or a refusal.
 #[unsafe(no_mangle)]
 pub extern "C" fn web_solve_game(alloc: Global, game: u32, order: &mut [u64], out: &mut [u8]) -> u64
-    ensures solved { IsFor game (λ g. IsSolvedGame g order.new out.new result) }
+    ensures solved { IsFor game (λ g. IsSolvedGame g order.old out.old order.new out.new result) }
     ensures none { IsNoGame game → result ≡ refused }
 {
     of_game!(game, tell_game, (alloc, order, out), REFUSED)
 }
 
-/// Solves a tier when these tiers have these records, and writes its records. The answer is the number of deliveries, or a refusal.
+/// Solves a tier from the records of these tiers, and writes its records. Returns the number of deliveries, or a refusal.
 #[unsafe(no_mangle)]
 pub extern "C" fn web_solve(
     alloc: Global,
@@ -94,7 +98,7 @@ pub extern "C" fn web_solve(
     out: &mut [u8],
 ) -> u64
     requires known { IsFor game (λ g. AreTrue g.rules solved.now records.now) }
-    ensures solved { IsFor game (λ g. IsSolved g tier out.old out.new result) }
+    ensures solved { IsFor game (λ g. IsSolved g solved.now tier out.old out.new result) }
     ensures none { IsNoGame game → result ≡ refused }
 {
     of_game!(
@@ -105,7 +109,7 @@ pub extern "C" fn web_solve(
     )
 }
 
-/// Tests whether these bytes are the records of these tiers. The answer is 0, or a refusal.
+/// Tests whether these bytes are the records of these tiers. Returns 0, or a refusal.
 #[unsafe(no_mangle)]
 pub extern "C" fn web_check(alloc: Global, game: u32, tiers: &[u64], records: &[u8]) -> u64
     ensures checked { IsFor game (λ g. IsChecked g tiers.now records.now result) }
@@ -114,7 +118,8 @@ pub extern "C" fn web_check(alloc: Global, game: u32, tiers: &[u64], records: &[
     of_game!(game, tell_check, (alloc, tiers, records), REFUSED)
 }
 
-/// Answers lines when these tiers have these records, in the words of `gamesman ask`. The answer is how many bytes are written, or a refusal.
+/// Answers lines from the records of these tiers, in the words of `gamesman ask`. Returns the number of bytes written, or a
+/// refusal.
 #[unsafe(no_mangle)]
 pub extern "C" fn web_ask(
     alloc: Global,
@@ -137,7 +142,7 @@ pub extern "C" fn web_ask(
     )
 }
 
-/// Writes the text of the canonical position with this index of a tier. The answer is how many bytes that takes, or a refusal.
+/// Writes the text of the canonical position with this index of a tier. Returns the number of bytes written, or a refusal.
 #[unsafe(no_mangle)]
 pub extern "C" fn web_text(game: u32, tier: u64, index: u64, out: &mut [u8]) -> u64
     ensures text { IsFor game (λ g. IsText g tier index out.old out.new result) }

@@ -1,8 +1,8 @@
-//! Why there is no answer.
+//! Reasons for refusals.
 ghost use Rattle.std.specs.Prelude.{◌≡◌};
 ghost use Rattle.gm_web.specs.Replies.{number_of};
 
-/// Why there is no answer.
+/// The reason why there is no answer.
 #[derive(Clone, Copy, Debug, PartialEq, Eq)]
 pub enum Refusal {
     /// There is no memory left.
@@ -11,13 +11,13 @@ pub enum Refusal {
     Order,
     /// The bytes are not the records of the tiers.
     Records,
-    /// A position of the tier is further from its end than a byte holds.
+    /// The remoteness of a position of the tier is too great for a byte.
     TooFar,
-    /// There is less room than the answer takes, or the room is not that of the records.
+    /// There is less room than the answer takes, or the room for the records has another size.
     Room,
     /// No canonical position has this index of the tier.
     Position,
-    /// A line names a position of a tier that is not among those given.
+    /// A line names a position of a tier that is not among the given ones.
     NotSolved,
 }
 

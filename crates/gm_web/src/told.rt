@@ -1,4 +1,4 @@
-//! What the exports answer, for any game: a number, or a refusal with its reason.
+//! The answers of the exports, for any game: a number, or a refusal with its reason.
 ghost use Rattle.std.specs.Prelude.{◌≡◌, ◌+◌, ◌<◌, ◌^◌, IfOk, IfErr, OnOk};
 ghost use Rattle.gm_web.specs.Games.{played};
 ghost use Rattle.gm_web.specs.Records.{AreTrue};
@@ -10,7 +10,7 @@ use gm_game::game::Game;
 use gm_game::shown::Shown;
 use std::alloc::Global;
 
-/// Numbers from this one on are refusals. This one comes where there is no such game.
+/// The first number that is a refusal. It is the answer if there is no such game.
 pub const REFUSED: u64 = 0xffff_ffff_ffff_ff00;
 
 // Returns the number, or that of the refusal.
@@ -24,7 +24,7 @@ fn number_or(done: Result<u64, Refusal>) -> u64
     }
 }
 
-// Returns how many there are, or the number of the refusal.
+// Returns the count, or the number of the refusal.
 fn count_or(done: Result<usize, Refusal>) -> u64
     ensures ok { IfOk done (λ n. result ≡ n) }
     ensures refused { IfErr done (λ e. result ≡ refused + number_of e) }
@@ -46,7 +46,7 @@ fn status_of(done: Result<(), Refusal>) -> u64
     }
 }
 
-/// Returns how many indexes a tier has.
+/// Returns the number of indexes of a tier.
 pub fn tell_size<G: Shown>(tier: u64) -> u64
     ensures { result ≡ G.Game.rules.tier_size tier }
 {
@@ -62,7 +62,7 @@ pub fn tell_order<G: Shown>(alloc: Global, out: &mut [u64]) -> u64
 
 /// Solves a whole game.
 pub fn tell_game<G: Shown>(alloc: Global, order: &mut [u64], out: &mut [u8]) -> u64
-    ensures { IsSolvedGame (played G.Game.rules G.shown G.move_shown) order.new out.new result }
+    ensures { IsSolvedGame (played G.Game.rules G.shown G.move_shown) order.old out.old order.new out.new result }
 {
     count_or(solve_game::<G>(alloc, order, out))
 }
@@ -76,7 +76,7 @@ pub fn tell_tier<G: Shown>(
     out: &mut [u8],
 ) -> u64
     requires { AreTrue G.Game.rules solved.now records.now }
-    ensures { IsSolved (played G.Game.rules G.shown G.move_shown) tier out.old out.new result }
+    ensures { IsSolved (played G.Game.rules G.shown G.move_shown) solved.now tier out.old out.new result }
 {
     number_or(solve_next::<G>(alloc, solved, records, tier, out))
 }

@@ -1,4 +1,4 @@
-//! Builds of whole games over stores, also stores that fail; progress; questions about what is not built.
+//! Builds of whole games over stores, also over stores that fail; progress; questions about positions without a table.
 mod progresses;
 mod questions;
 mod stores;

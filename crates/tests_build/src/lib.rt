@@ -1,5 +1,6 @@
-//! The worked values of the solver and of what stands on it (docs/EXAMPLES.md): levels, shards, workers and tiers solved on the toys in `solver`, and builds
-//! over stores and their progress in `builds`. Whole games, answers and lines of play are looked at on the built program (tools/lines).
+//! The worked values of the solver and of the builds over it: levels, shards, workers and tiers solved on the toys in `solver`, and
+//! builds over stores and their progress in `builds`. Whole games, answers and lines of play are tested on the built program
+//! (tools/lines).
 #![tactic(auto)]
 
 #[cfg(test)]

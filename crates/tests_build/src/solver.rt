@@ -1,4 +1,4 @@
-//! Tables, levels, shards, tiers solved, boards and passes by hand, on the toys.
+//! Tables, levels, shards, solved tiers, boards and passes by hand, on the toys.
 mod boards;
 mod checks;
 mod desks;

@@ -23,7 +23,7 @@ pub(crate) const VALUES: [(Value, u32); 11] = [
     (Value::Win, 7),
 ];
 
-/// The records of the first of these.
+/// Returns this many of the first records.
 pub(crate) fn records(rt: &impl Abort, alloc: Global, number: usize) -> Vec<Option<Solved>> {
     let mut records = Vec::new(alloc);
     for (value, remoteness) in VALUES.get(..number).unwrap_or(&[]) {
@@ -36,7 +36,7 @@ pub(crate) fn records(rt: &impl Abort, alloc: Global, number: usize) -> Vec<Opti
     records
 }
 
-/// The table of Countdown from 10.
+/// Returns the table of Countdown from 10.
 pub(crate) fn countdown(rt: &impl Abort, alloc: Global) -> Table<Countdown<10>> {
     let records = records(rt, alloc, 11);
     let tables: Tables<Countdown<10>> = Tables::new(alloc);

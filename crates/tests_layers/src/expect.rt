@@ -1,15 +1,15 @@
-//! What tests expect. A call is far cheaper to prove than `assert!` or `assert_eq!` written out.
+//! Expectations of tests. A call is far cheaper to prove than `assert!` or `assert_eq!` written out.
 ghost use Rattle.std.specs.Prelude.{◌≡◌, Ok, IsTrue};
 
 use std::fmt::Debug;
 use std::process::Abort;
 
-/// Fails where a value is not the wanted one.
+/// Fails if a value is not the wanted one.
 pub(crate) fn expect_eq<T: Debug + PartialEq + Drop>(rt: &impl Abort, found: T, wanted: T) {
     assert_eq!(rt; found, wanted);
 }
 
-/// The same, of many values: also says which one it is.
+/// Fails if one of many values is not the wanted one, and reports which one it is.
 pub(crate) fn expect_eq_at<T: Debug + PartialEq + Drop>(
     rt: &impl Abort,
     found: T,
@@ -19,14 +19,14 @@ pub(crate) fn expect_eq_at<T: Debug + PartialEq + Drop>(
     expect_eq(rt, (at, found), (at, wanted));
 }
 
-/// Fails where what a test says is not so.
+/// Fails if a condition is not true.
 pub(crate) fn expect(rt: &impl Abort, is_so: bool)
     ensures { IsTrue is_so }
 {
     assert!(rt; is_so);
 }
 
-/// What a call answers where it goes well: otherwise the test fails.
+/// Returns the value of a successful call. The test fails if the call failed.
 pub(crate) fn must<T: Drop, E: Drop>(rt: &impl Abort, found: Result<T, E>) -> T
     ensures { found ≡ Ok result }
 {

@@ -1,5 +1,5 @@
-//! What the layers below the solver say of worked positions and tables (docs/EXAMPLES.md): boards, toys, Tac Tix and orders of tiers in `rules`, tier files and
-//! the stores that keep them in `files`.
+//! The worked positions and tables of the layers below the solver: boards, toys, Tac Tix and orders of tiers in `rules`, tier files
+//! and the stores that keep them in `files`.
 #![tactic(auto)]
 
 #[cfg(test)]

@@ -1,4 +1,4 @@
-//! What boards, the toys and Tac Tix say of worked positions, and orders of tiers.
+//! Worked positions of boards, the toys and Tac Tix, and orders of tiers.
 mod asking;
 mod boards;
 mod chain;

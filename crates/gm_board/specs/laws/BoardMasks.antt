@@ -77,7 +77,7 @@ pattern_only (j ∷ l) k e = elim (cases_eq k j) [
 test_one : (m k : ℕ) → has_cell m k ≡ true → bit_at m k ≡ 1
 test_one m k e = eqb-true (bit_at m k) 1 e
 
--- a mask has all bits of a pattern's mask exactly where it has all cells of the pattern
+-- a mask has all bits of a pattern's mask exactly if it has all cells of the pattern
 pub pattern_filled : (m : ℕ) (l : List ℕ) → (bit_and m (pattern_mask l) ≡ pattern_mask l) ↔ (list_all (has_cell m) l ≡ true)
 pattern_filled m l = (
   (λ e. all_from (has_cell m) l (λ k c.
@@ -107,7 +107,7 @@ any_mask : (m : ℕ) (ls : List (List ℕ)) → list_any (λ mask. eqb (bit_and 
 any_mask m [] = refl
 any_mask m (l ∷ ls) = ap₂ (λ (x y : Bool). x || y) (same_pattern m l) (any_mask m ls)
 
--- one of the masks is filled exactly where one of their patterns is
+-- one of the masks is filled exactly if one of their patterns is
 pub some_filled : (m : ℕ) (ws : List ℕ) (ls : List (List ℕ)) → map pattern_mask ls ≡ ws → list_any (λ mask. eqb (bit_and m mask) mask) ws ≡ list_any
     (λ line. list_all (has_cell m) line) ls
 some_filled m ws ls e = subst (λ (vs : List ℕ). list_any (λ mask. eqb (bit_and m mask) mask) vs ≡ list_any (λ line. list_all (has_cell m) line) ls) e

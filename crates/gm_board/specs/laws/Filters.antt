@@ -18,7 +18,7 @@ range_in a n x c =
     let e : get_or (range_with_len a n) c.0 x ≡ a + c.0 = get_or-range_with_len a n c.0 x l in
     (omega (arith, e, c.2), omega (arith, e, c.2))
 
--- a number stands in a list where the test of some holds
+-- a number is in a list where the test of some holds
 pub listed_test : (x : Bool) (xs : List ℕ) (c : ℕ) → (IsTrue x ↔ Contains xs c) → x ≡ list_any (λ k. eqb k c) xs
 listed_test x xs c h =
     same_tests x (list_any (λ (k : ℕ). eqb k c) xs)

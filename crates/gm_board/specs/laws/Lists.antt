@@ -1,4 +1,4 @@
--- Steps over lists: what stands in them, the least of a list, ranges and filters.
+-- Steps over lists: what is in them, the least of a list, ranges and filters.
 use Rattle.std.proofs.Common.{◌≡◌, ℕ, zero, suc, ◌+◌, ◌<◌, ◌≤◌, min, Bool, true, false, ◌&&◌, cond, if◌then◌else◌, List, [], ◌∷◌, ◌++◌, map, Option, None, Some}
 use Rattle.std.proofs.Common.{zero-add, length, get_or, ◌⊎◌, inl, inr, refl, sym, ap, ◌∙◌, subst, arith}
 use Rattle.std.proofs.lemmas.List.{get_or-map, length-map}
@@ -27,24 +27,24 @@ and_true a = grind arith
 pub and_false : (a : Bool) → (a && false) ≡ false
 and_false a = grind arith
 
--- the head of a list stands in the list
+-- the head of a list is in the list
 pub contains_head : {X : Type 0} (x : X) (xs : List X) → Contains (x ∷ xs) x
 contains_head x xs = (0, omega arith, refl)
 
--- what stands in the tail stands in the list
+-- what is in the tail is in the list
 pub contains_later : {X : Type 0} (y : X) (xs : List X) (x : X) → Contains xs x → Contains (y ∷ xs) x
 contains_later y xs x c = (suc c.0, omega (arith, c.1), c.2)
 
--- what stands in a list is its head or stands in its tail
+-- what is in a list is its head or is in its tail
 pub contains_cases : {X : Type 0} (y : X) (xs : List X) (x : X) → Contains (y ∷ xs) x → (y ≡ x) ⊎ Contains xs x
 contains_cases y xs x (zero, l, e) = inl e
 contains_cases y xs x (suc k, l, e) = inr (k, omega (arith, l), e)
 
--- what stands in a list stands in its image
+-- what is in a list is in its image
 pub contains_map : {X Y : Type 0} (f : X → Y) (xs : List X) (x : X) → Contains xs x → Contains (map f xs) (f x)
 contains_map f xs x c = (c.0, omega (arith, length-map xs f, c.1), get_or-map f xs c.0 x (f x) c.1 ∙ ap f c.2)
 
--- what stands in the image comes from the list
+-- what is in the image comes from the list
 pub contains_unmap : {X Y : Type 0} (f : X → Y) (xs : List X) (y : Y) → Contains (map f xs) y → (x : X) × Contains xs x × (f x ≡ y)
 contains_unmap f [] y c = absurd (omega (arith, c.1))
 contains_unmap f (x ∷ xs) y c =
@@ -56,7 +56,7 @@ pub all_from : {X : Type 0} (p : X → Bool) (xs : List X) → ((x : X) → Cont
 all_from p [] h = refl
 all_from p (x ∷ xs) h = and_both _ _ (h x (contains_head x xs)) (all_from p xs (λ y c. h y (contains_later x xs y c)))
 
--- what stands in a list of one element, if a test is passed, and else of none
+-- what is in a list of one element, if a test is passed, and else of none
 pub lone_in : {X : Type 0} (b : Bool) (y x : X) → Contains (if b then y ∷ [] else []) x → (b ≡ true) × (y ≡ x)
 lone_in true y x c = elim (contains_cases y [] x c) [ inl e ↦ (refl, e) | inr d ↦ absurd (omega (arith, d.1)) ]
 lone_in false y x c = absurd (omega (arith, c.1))
@@ -79,7 +79,7 @@ least_le a (y ∷ ys) x c =
 pub min_is : (a x : ℕ) → (min a x ≡ a) ⊎ (min a x ≡ x)
 min_is a x = grind arith
 
--- the least is the first or stands in the list
+-- the least is the first or is in the list
 pub least_is : (a : ℕ) (xs : List ℕ) → (fold min a xs ≡ a) ⊎ Contains xs (fold min a xs)
 least_is a [] = inl refl
 least_is a (x ∷ xs) =
@@ -91,7 +91,7 @@ least_is a (x ∷ xs) =
       | inr d ↦ inr (contains_later x xs _ d)
     ]
 
--- the least stands in a list that has the first
+-- the least is in a list that has the first
 pub least_in : (a : ℕ) (xs : List ℕ) → Contains xs a → Contains xs (fold min a xs)
 least_in a xs c =
     elim (least_is a xs) [
@@ -103,7 +103,7 @@ least_in a xs c =
 pub contains_range : (n k : ℕ) → k < n → Contains (range_with_len 0 n) k
 contains_range n k l = (k, omega (arith, length-range_with_len 0 n), get_or-range_with_len 0 n k k l ∙ zero-add k)
 
--- what stands in a range is below its end
+-- what is in a range is below its end
 pub range_below : (n k : ℕ) → Contains (range_with_len 0 n) k → k < n
 range_below n k c =
     let l : c.0 < n = omega (arith, c.1, length-range_with_len 0 n) in
@@ -130,7 +130,7 @@ kept_head : {X : Type 0} (b : Bool) (y : X) (ys : List X) → b ≡ true → Con
 kept_head true y ys e = contains_head y ys
 kept_head false y ys e = cc
 
--- what a filter keeps stands in the list and passes
+-- what a filter keeps is in the list and passes
 pub filter_from : {X : Type 0} (p : X → Bool) (xs : List X) (x : X) → Contains (filter p xs) x → Contains xs x × (p x ≡ true)
 filter_from p [] x c = absurd (omega (arith, c.1))
 filter_from p (y ∷ ys) x c = elim (kept_cases (p y) y (filter p ys) x c) [
@@ -138,7 +138,7 @@ filter_from p (y ∷ ys) x c = elim (kept_cases (p y) y (filter p ys) x c) [
   | inr d ↦ let r = filter_from p ys x d in (contains_later y ys x r.0, r.1)
 ]
 
--- what stands in the list and passes is kept
+-- what is in the list and passes is kept
 pub filter_to : {X : Type 0} (p : X → Bool) (xs : List X) (x : X) → Contains xs x → p x ≡ true → Contains (filter p xs) x
 filter_to p [] x c e = absurd (omega (arith, c.1))
 filter_to p (y ∷ ys) x c e = elim (contains_cases y ys x c) [

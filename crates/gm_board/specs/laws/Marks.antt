@@ -13,7 +13,7 @@ map_back : {X Y : Type 0} (f : X → Y) (g : Y → X) → ((x : X) → g (f x) �
 map_back f g h [] = refl
 map_back f g h (x ∷ xs) = ap₂ (λ (y : _) (ys : List _). y ∷ ys) (h x) (map_back f g h xs)
 
--- where the byte of a cell determines the cell, the text of a board determines the board
+-- if the byte of a cell determines the cell, the text of a board determines the board
 pub map_once : {X Y : Type 0} (f : X → Y) (g : Y → X) → ((x : X) → g (f x) ≡ x) → (xs ys : List X) → map f xs ≡ map f ys → xs ≡ ys
 map_once f g h xs ys e = sym (map_back f g h xs) ∙ ap (map g) e ∙ map_back f g h ys
 

@@ -51,7 +51,7 @@ cell_below mask n c l e =
       | inr k ↦ absurd (let z : false ≡ true = sym (cell_none mask c (bit_at_above mask n c l k)) ∙ e in cc)
     ]
 
--- where nothing is left, the mask has no cell from `next` on
+-- if nothing is left, the mask has no cell from `next` on
 pub none_left : (mask next rest i : ℕ) → rest ≡ mask / 2 ^ next → rest ≡ 0 → next ≤ i → has_cell mask i ≡ false
 none_left mask next rest i e n l =
     let q = shr_split mask next in

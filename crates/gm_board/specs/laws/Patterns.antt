@@ -37,7 +37,7 @@ pub or_right : (a b : Bool) → b ≡ true → (a || b) ≡ true
 or_right true b e = refl
 or_right false b e = e
 
--- where an element passes a test, some element does
+-- if an element passes a test, some element does
 pub any_from : {X : Type 0} (p : X → Bool) (xs : List X) (x : X) → Contains xs x → p x ≡ true → list_any p xs ≡ true
 any_from p [] x c e = absurd (omega (arith, c.1))
 any_from p (y ∷ ys) x c e =
@@ -80,7 +80,7 @@ filled_from_image d p n G L o t g c xs e =
     ∙ sym (fills_image d p n g xs (group_length n G o g c) x.0 lb)
     ∙ x.2)
 
--- an image has a filled pattern exactly where the board has
+-- an image has a filled pattern exactly if the board has
 pub filled_image : {X : Type 0} (d : X) (p : X → Bool) (n : ℕ) (G L : List (List ℕ)) → IsGroup n G → keeps_patterns n G L ≡ true → (g : List ℕ) → Contains G g
     → (xs : List X) → length xs ≡ n → has_filled d L p (permute d g xs) ≡ has_filled d L p xs
 filled_image d p n G L o t g c xs e =

@@ -10,7 +10,7 @@ use Rattle.gm_board.specs.Permutations.{permute}
 pub cell_turned : (b : List Cell) (k : ℕ) → get_or (map turned b) k Empty ≡ turned (get_or b k Empty)
 cell_turned b k = get_or-map turned b k Empty
 
--- what stands on a cell, as the other player sees it
+-- what is on a cell, as the other player sees it
 pub turned_cell : (b : List Cell) (k : ℕ) (c : Cell) → get_or b k Empty ≡ c → get_or (map turned b) k Empty ≡ turned c
 turned_cell b k c e = cell_turned b k ∙ ap turned e
 

@@ -13,7 +13,7 @@ pub record WasMoved (d : List Cell) (a c : ℕ) : Type 0 where
   pub line : in_line a c ≡ true
   pub step : WasStep d a c
 
--- what holds where the test is passed
+-- what holds if the test is passed
 pub was_in : (d : List Cell) (m : ℕ) → can_have_led_here d m ≡ true → WasMoved d (from_point m) (to_point m)
 unfolding can_have_led_here
 was_in d m e =
@@ -23,7 +23,7 @@ was_in d m e =
       step = record { there = their_cell _ (and_left _ _ r); left = empty_cell _ (and_right _ _ r) };
     }
 
--- where that holds, the test is passed
+-- if that holds, the test is passed
 pub was_from : (d : List Cell) (m : ℕ) → WasMoved d (from_point m) (to_point m) → can_have_led_here d m ≡ true
 unfolding can_have_led_here
 was_from d m h = and_both _ _ h.line (and_both _ _ (ap is_theirs h.step.there) (ap is_empty h.step.left))

@@ -17,7 +17,7 @@ pub formation_left : (b d : List Cell) (more : ℕ) → IsLeft b d more → has_
 unfolding has_formation
 formation_left b d more h = h.filled formations
 
--- an image has a formation where the board has one
+-- an image has a formation if the board has one
 pub image_formation : (p : Cell → Bool) (g : List ℕ) (b : List Cell) → Contains (square_symmetries 4) g → length b ≡ 16 → has_formation p
     (permute Empty g b) ≡ has_formation p b
 unfolding has_formation
@@ -30,7 +30,7 @@ pub record IsLegal (b : List Cell) : Type 0 where
   pub other : number_of is_theirs b ≡ 4
   pub no_formation : has_formation is_mine b ≡ false
 
--- what holds where the test is passed
+-- what holds if the test is passed
 pub legal_in : (b : List Cell) → legal b ≡ true → IsLegal b
 unfolding legal
 legal_in b l =
@@ -43,7 +43,7 @@ legal_in b l =
       no_formation = not-true _ (and_right _ _ s);
     }
 
--- where that holds, the board is legal
+-- if that holds, the board is legal
 pub legal_from : (b : List Cell) → IsLegal b → legal b ≡ true
 unfolding legal
 legal_from b h = and_both _ _ (eq-eqb _ _ h.cells) (and_both _ _ (eq-eqb _ _ h.own) (and_both _ _ (eq-eqb _ _ h.other) (ap not h.no_formation)))

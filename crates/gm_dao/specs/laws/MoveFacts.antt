@@ -15,7 +15,7 @@ pub record IsSlide (b : List Cell) (a c : ℕ) : Type 0 where
   pub clear : fills Empty is_empty b (path a c) ≡ true
   pub stopped : fills Empty is_taken b (beyond a c) ≡ true
 
--- what holds where the test is passed
+-- what holds if the test is passed
 pub go_in : (b : List Cell) (a c : ℕ) → can_go b a c ≡ true → IsSlide b a c
 go_in b a c e =
     let r = and_right _ _ e in
@@ -27,7 +27,7 @@ go_in b a c e =
       stopped = and_right _ _ s;
     }
 
--- where that holds, the test is passed
+-- if that holds, the test is passed
 pub go_from : (b : List Cell) (a c : ℕ) → IsSlide b a c → can_go b a c ≡ true
 go_from b a c h = and_both _ _ (ap is_mine h.mine) (and_both _ _ h.line (and_both _ _ h.clear h.stopped))
 
@@ -41,7 +41,7 @@ slide_step b a c n h =
     let w = line_within a c h.line in
     record { from_below = omega (arith, w.0, n); to_below = omega (arith, w.1, n); mine = h.mine; free = slide_free b a c h }
 
--- where the test holds for a number, the number is that of a slide
+-- if the test holds for a number, the number is that of a slide
 pub move_slide : (b : List Cell) (m : ℕ) → can_move b m ≡ true → IsSlide b (from_point m) (to_point m)
 unfolding can_move
 move_slide b m e = go_in b (from_point m) (to_point m) e

@@ -84,7 +84,7 @@ trapped_from g b c e =
     (all_from (λ (j : ℕ). is_theirs (cell_at b j)) (around (get_or g x.0 0))
     (λ j d. all_at (λ (j : ℕ). is_theirs (cell_at b j)) (permute 0 (around x.0) g) j near (k.next j d))))
 
--- an image has a trapped piece where the board has one
+-- an image has a trapped piece if the board has one
 pub image_trapped : (g : List ℕ) (b : List Cell) → Contains (square_symmetries 4) g → length b ≡ 16 → has_trapped (permute Empty g b) ≡ has_trapped b
 image_trapped g b c e =
     let h = image_back Empty 16 (square_symmetries 4) group g c b e in

@@ -53,7 +53,7 @@ pub legal_tier : (b : Hunt) → IsLegal b → (2 ≤ hunt_tier b) × (hunt_tier 
 legal_tier b l = three_columns b.hounds l.eleven l.three
 
 -- ---- numbering
--- three hounds stand on eleven points in 165 ways
+-- three hounds are on eleven points in 165 ways
 pub ways : binomial 11 3 ≡ 165
 unfolding binomial
 ways = refl

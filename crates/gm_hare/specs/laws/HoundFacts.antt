@@ -38,7 +38,7 @@ columns_set n p [] k v e l = absurd (omega arith)
 columns_set n p (x ∷ xs) zero v e l = (let q : p ≡ n = omega arith in rw q (omega arith))
 columns_set n p (x ∷ xs) (suc k) v e l = (let h = columns_set (n + 1) p xs k v (omega arith) (omega arith) in omega (arith, h))
 
--- writing what stands there already changes nothing
+-- writing what is there already changes nothing
 same_set : (xs : List Bool) (k : ℕ) (v : Bool) → get_or xs k false ≡ v → set xs k v ≡ xs
 same_set xs k v e = ap (set xs k) (sym e) ∙ set-get_or xs k false
 
@@ -47,15 +47,15 @@ module _ (xs : List Bool) (a c : ℕ) (u v : Bool) (apart : a ≢ c) where
   pub both_length : length (set (set xs a u) c v) ≡ length xs
   both_length = length-set (set xs a u) c v ∙ length-set xs a u
 
-  -- what stands on the second of two points changed
+  -- what is on the second of two points changed
   pub both_second : c < length xs → get_or (set (set xs a u) c v) c false ≡ v
   both_second l = get_or-set_same (set xs a u) c v false (omega (arith, length-set xs a u, l))
 
-  -- what stands on the first of two points changed
+  -- what is on the first of two points changed
   pub both_first : a < length xs → get_or (set (set xs a u) c v) a false ≡ u
   both_first l = get_or-set_other (set xs a u) c a v false apart ∙ get_or-set_same xs a u false l
 
-  -- what stands on the other points
+  -- what is on the other points
   pub both_other : (k : ℕ) → k ≢ a → k ≢ c → get_or (set (set xs a u) c v) k false ≡ get_or xs k false
   both_other k n m = get_or-set_other (set xs a u) c k v false m ∙ get_or-set_other xs a k u false n
 

@@ -20,7 +20,7 @@ pub record IsLegal (b : Hunt) : Type 0 where
   pub below : b.hare < 11
   pub apart : has_hound b b.hare ≡ false
 
--- what holds where the test is passed
+-- what holds if the test is passed
 pub legal_in : (b : Hunt) → legal b ≡ true → IsLegal b
 unfolding legal
 legal_in b l =
@@ -37,7 +37,7 @@ legal_in b l =
 pub hare_below : (b : Hunt) → legal b ≡ true → b.hare < 11
 hare_below b l = (legal_in b l).below
 
--- where that holds, the board is legal
+-- if that holds, the board is legal
 pub legal_from : (b : Hunt) → IsLegal b → legal b ≡ true
 unfolding legal
 legal_from b h =
@@ -52,7 +52,7 @@ free_in b k e = (not-true _ (and_left _ _ e), differ k b.hare (and_right (not (h
 pub free_from : (b : Hunt) (k : ℕ) → has_hound b k ≡ false → k ≢ b.hare → is_free b k ≡ true
 free_from b k e n = and_both _ _ (ap not e) (ap not (ne_eqb k b.hare n))
 
--- whether the piece at a is one of the side to move, and may go to c where it is a hound
+-- whether the piece at a is one of the side to move, and may go to c if it is a hound
 abbrev pub may_go : Hunt → ℕ → ℕ → Bool
 may_go b a c = if b.hounds_move then (has_hound b a && is_ahead a c) else eqb a b.hare
 
@@ -67,7 +67,7 @@ go_in b a c e =
     let r = and_right (are_joined a c) (is_free b c && may_go b a c) e in
     record { joined = and_left _ _ e; free = and_left (is_free b c) (may_go b a c) r; may = and_right (is_free b c) (may_go b a c) r }
 
--- what holds where the test is passed
+-- what holds if the test is passed
 pub move_in : (b : Hunt) (m : ℕ) → can_move b m ≡ true → CanGo b (from_point m) (to_point m)
 unfolding can_move
 move_in b m e = go_in b (from_point m) (to_point m) e

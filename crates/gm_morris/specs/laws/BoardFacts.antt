@@ -36,7 +36,7 @@ image_pieces g b c e =
     let t = image_number 9 (square_symmetries 3) group g b c is_theirs e in
     omega (arith, m, t)
 
--- an image has a line where the board has one
+-- an image has a line if the board has one
 pub image_line : (v : Variant) (p : Cell → Bool) (g : List ℕ) (b : List Cell) → Contains (square_symmetries 3) g → length b ≡ 9 → has_line v p
     (permute Empty g b) ≡ has_line v p b
 unfolding has_line
@@ -49,7 +49,7 @@ pub record IsLegal (v : Variant) (b : List Cell) : Type 0 where
   pub few : mine b + theirs b ≤ last_tier v
   pub no_line : has_line v is_mine b ≡ false
 
--- what holds where the test is passed
+-- what holds if the test is passed
 pub legal_in : (v : Variant) (b : List Cell) → legal v b ≡ true → IsLegal v b
 unfolding legal
 legal_in v b l =

@@ -39,7 +39,7 @@ pub step_in : (v : Variant) (b : List Cell) (m : ℕ) → IsMove (morris v) b m 
 unfolding can_move move_number_bound
 step_in v b m h = record { below = h.below; can = h.can }
 
--- where the game is not over, that makes it one
+-- if the game is not over, that makes it one
 pub step_from : (v : Variant) (b : List Cell) (m : ℕ) → CanStep v (is_last v b) b m → end_by_last_move v b ≡ None → IsMove (morris v) b m
 unfolding can_move move_number_bound
 step_from v b m h o = record { below = h.below; not_over = o; can = h.can }
@@ -61,7 +61,7 @@ line_none : (x : Bool) → (if x then Some Lose else None) ≡ None → x ≡ fa
 line_none true e = absurd (let z : ⊥ = cc in z)
 line_none false e = refl
 
--- where the game goes on the opponent has no line
+-- if the game goes on the opponent has no line
 pub no_line : (v : Variant) (b : List Cell) → end_by_last_move v b ≡ None → has_line v is_theirs b ≡ false
 unfolding end_by_last_move
 no_line v b e = line_none _ e

@@ -140,7 +140,7 @@ module _ (v : Variant) (g : List ℕ) (b : List Cell) (c : Contains (square_symm
         sym x.3,
       )
 
-  -- an image has ended where the board has
+  -- an image has ended if the board has
   pub image_over : end_by_last_move v (permute Empty g b) ≡ end_by_last_move v b
   unfolding end_by_last_move
   image_over = ap (λ (x : Bool). if x then Some Lose else None) (image_line v is_theirs g b c e)

@@ -53,7 +53,7 @@ joined_within Achi a b e = (ltb-true a 9 (and_left _ _ e), ltb-true b 9 (and_lef
 pub joined_to : (v : Variant) (a b : ℕ) → joins v a b ≡ true → b < 9
 joined_to v a b e = (joined_within v a b e).1
 
--- whether two points are joined exactly where the points that a symmetry brings to them are
+-- whether two points are joined exactly if the points that a symmetry brings to them are
 unfoldable pub keeps_joins : Variant → Bool
 keeps_joins v = list_all (λ g. at_all 9 9 (λ a b. agree (joins v (get_or g a 0) (get_or g b 0)) (joins v a b))) (square_symmetries 3)
 

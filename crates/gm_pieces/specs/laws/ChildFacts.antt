@@ -17,11 +17,11 @@ module _ {B S : Type 0} (g : MoveGame B S) (b : B) where
   one_listed ms i p list more l e m h =
       m ∙ ap₂ (λ (xs : List Position) (q : Position). xs ++ q ∷ []) h e ∙ sym (map_more (position_after g b) ms i 0 l)
 
--- where the last move has not ended the game each number that can be played is a move's
+-- if the last move has not ended the game each number that can be played is a move's
 pub all_are_moves : (o : Option End) (ms : List ℕ) → o ≡ None → moves_by o ms ≡ ms
 all_are_moves o ms e = ap (λ (x : Option End). moves_by x ms) e
 
--- and where there is none
+-- and if there is none
 pub none_are_moves : (o : Option End) (ms : List ℕ) → ms ≡ [] → moves_by o ms ≡ ms
 none_are_moves None ms e = refl
 none_are_moves (Some x) ms e = sym e

@@ -63,7 +63,7 @@ free_without b cs =
     all_from (λ (k : ℕ). not (has_counter (without b cs) k)) cs
     (λ k c. ap not (without_at b cs k ∙ ap (λ (x : Bool). has_counter b k && not x) (among_from k cs c) ∙ and_false (has_counter b k)))
 
--- free cells that are filled and emptied again leave the board as it was
+-- free cells that are filled and emptied again leave the board unchanged
 pub without_with : (b : List Bool) (cs : List ℕ) → is_free b cs ≡ true → without (with_counters b cs) cs ≡ b
 without_with b cs e =
     same_board (without (with_counters b cs) cs) b (length_without (with_counters b cs) cs ∙ length_with b cs)
@@ -78,7 +78,7 @@ without_with b cs e =
     back false true h = refl
     back false false h = refl
 
--- full cells that are emptied and filled again leave the board as it was
+-- full cells that are emptied and filled again leave the board unchanged
 pub with_without : (b : List Bool) (cs : List ℕ) → is_full b cs ≡ true → with_counters (without b cs) cs ≡ b
 with_without b cs e =
     same_board (with_counters (without b cs) cs) b (length_with (without b cs) cs ∙ length_without b cs)

@@ -68,7 +68,7 @@ has_pattern (c ∷ cs) k =
 
 -- ---- segments and masks
 module _ (n mask : ℕ) (cs : List ℕ) (below : (k : ℕ) → Contains cs k → k < n) where
-  -- the mask has all cells of the list exactly where they all have counters
+  -- the mask has all cells of the list exactly if they all have counters
   pub full_mask : (bit_and mask (pattern_mask cs) ≡ pattern_mask cs) ↔ (is_full (counters_of n mask) cs ≡ true)
   full_mask =
       let same : is_full (counters_of n mask) cs ≡ list_all (has_cell mask) cs = same_all (has_counter (counters_of n mask)) (has_cell mask) cs
@@ -77,7 +77,7 @@ module _ (n mask : ℕ) (cs : List ℕ) (below : (k : ℕ) → Contains cs k →
         λ e. (pattern_filled mask cs).1 (sym same ∙ e),
       )
 
-  -- it has none of them exactly where none has a counter
+  -- it has none of them exactly if none has a counter
   pub free_mask : (bit_and mask (pattern_mask cs) ≡ 0) ↔ (is_free (counters_of n mask) cs ≡ true)
   free_mask = (
     λ e. all_from (λ (k : ℕ). not (has_counter (counters_of n mask) k)) cs

@@ -102,7 +102,7 @@ some_move s b l e h =
           (ap (is_full b) (single_cells s x.0) ∙ and_both _ _ x.1 refl),
     )
 
--- so a player has no move exactly where there are no counters
+-- so a player has no move exactly if there are no counters
 pub stuck_is : (s : ℕ) (misere : Bool) (b : List Bool) → 1 ≤ s → length b ≡ s * s → eqb (length (steps (tactix s misere) b)) 0 ≡ eqb (members b) 0
 stuck_is s misere b l e = elim (cases_lt 0 (members b)) [
   | inl h ↦ (
@@ -122,7 +122,7 @@ pub record WasTaken (s t : ℕ) (d : List Bool) (m : ℕ) : Type 0 where
   pub free : is_free d (segment_cells s m) ≡ true
   pub tier : members d + segment_length m ≡ t
 
--- what holds where the test is passed
+-- what holds if the test is passed
 pub taken_in : (s t : ℕ) (d : List Bool) (m : ℕ) → was_taken s t d m ≡ true → WasTaken s t d m
 unfolding was_taken
 taken_in s t d m e = record {
@@ -135,7 +135,7 @@ taken_from : (s t : ℕ) (d : List Bool) (m : ℕ) → WasTaken s t d m → was_
 unfolding was_taken
 taken_from s t d m h = and_both _ _ h.segment (and_both _ _ h.free (eq-eqb _ _ h.tier))
 
--- a segment taken and given back leaves the board as it was
+-- a segment taken and given back leaves the board unchanged
 pub undone : (s : ℕ) (b : List Bool) (m : ℕ) → 1 ≤ s → can_take s b m ≡ true
     → (was_taken s (members b) (play s b m) m ≡ true) × (with_counters (play s b m) (segment_cells s m) ≡ b)
 unfolding play
@@ -146,7 +146,7 @@ undone s b m low e =
       with_without b cs v.1,
     )
 
--- a segment given back and taken again leaves the board as it was
+-- a segment given back and taken again leaves the board unchanged
 pub redone : (s t : ℕ) (d : List Bool) (m : ℕ) → was_taken s t d m ≡ true → play s (with_counters d (segment_cells s m)) m ≡ d
 unfolding play
 redone s t d m e = without_with d (segment_cells s m) (taken_in s t d m e).free

@@ -53,7 +53,7 @@ few_sources : (i : ℕ) → i < 10 → length (wheel_sources i) ≤ 3
 few_sources = below_ten (λ i. length (wheel_sources i) ≤ 3) (omega arith) (omega arith) (omega arith) (omega arith) (omega arith) (omega arith)
     (omega arith) (omega arith) (omega arith) (omega arith)
 
--- the game ends exactly where there is no move
+-- the game ends exactly if there is no move
 no_targets : (i : ℕ) → i < 10 → wheel_end i ≢ None → wheel_targets i ≡ []
 no_targets = below_ten (λ i. wheel_end i ≢ None → wheel_targets i ≡ []) (λ h. refl) (λ h. absurd (h refl)) (λ h. absurd (h refl)) (λ h. absurd (h refl))
     (λ h. absurd (h refl)) (λ h. refl) (λ h. absurd (h refl)) (λ h. absurd (h refl)) (λ h. absurd (h refl)) (λ h. absurd (h refl))

@@ -8,14 +8,14 @@ use Rattle.gm_ways.specs.WayTables.{IsWayGame}
 use Rattle.gm_ways.specs.laws.WayFacts.{group}
 
 -- ---- numbers of pieces
--- what holds where the test is passed
+-- what holds if the test is passed
 pub numbers_in : (n m t : ℕ) (b : List Cell) → has_numbers n m t b ≡ true → HasNumbers n m t b
 unfolding has_numbers
 numbers_in n m t b l =
     let r = and_right _ _ l in
     record { cells = eqb-true _ _ (and_left _ _ l); own = eqb-true _ _ (and_left _ _ r); other = eqb-true _ _ (and_right _ _ r) }
 
--- where that holds, the test is passed
+-- if that holds, the test is passed
 pub numbers_from : (n m t : ℕ) (b : List Cell) → HasNumbers n m t b → has_numbers n m t b ≡ true
 unfolding has_numbers
 numbers_from n m t b h = and_both _ _ (eq-eqb _ _ h.cells) (and_both _ _ (eq-eqb _ _ h.own) (eq-eqb _ _ h.other))
@@ -29,12 +29,12 @@ unless : (x y : Bool) → cond x false y ≡ true → (x ≡ false) × (y ≡ tr
 unless true y e = absurd (true≢false (sym e))
 unless false y e = (refl, e)
 
--- what holds where the test is passed
+-- what holds if the test is passed
 pub legal_in : (n : ℕ) (g : WayGame) (b : List Cell) → legal n g b ≡ true → IsLegal n g b
 unfolding legal
 legal_in n g b l = let u = unless _ _ l in record { numbers = numbers_in n g.pieces g.pieces b u.1; no_line = u.0 }
 
--- where that holds, the test is passed
+-- if that holds, the test is passed
 pub legal_from : (n : ℕ) (g : WayGame) (b : List Cell) → IsLegal n g b → legal n g b ≡ true
 unfolding legal
 legal_from n g b h = cond-false _ _ _ h.no_line ∙ numbers_from n g.pieces g.pieces b h.numbers
@@ -43,7 +43,7 @@ line_none : (x : Bool) → cond x (Some Lose) None ≡ None → x ≡ false
 line_none true e = absurd (let z : ⊥ = cc in z)
 line_none false e = refl
 
--- where the last move has not ended the game the opponent has no line
+-- if the last move has not ended the game the opponent has no line
 pub not_over : (g : WayGame) (b : List Cell) → end_by_last_move g b ≡ None → has_filled Empty g.lines is_theirs b ≡ false
 unfolding end_by_last_move
 not_over g b e = line_none _ e
@@ -67,7 +67,7 @@ module _ (n : ℕ) (g : WayGame) (h : IsWayGame n g) (p : List ℕ) (b : List Ce
         no_line = image_line is_mine long ∙ k.no_line;
       })
 
-  -- the game is over on an image where it is on the board
+  -- the game is over on an image if it is on the board
   pub image_over : length b ≡ n → end_by_last_move g (permute Empty p b) ≡ end_by_last_move g b
   unfolding end_by_last_move
   image_over e = ap (λ (x : Bool). cond x (Some Lose) None) (image_line is_theirs e)

@@ -9,7 +9,7 @@ use std::sync::Wait;
 use std::sync::atomic::{AtomicU64, Ordering};
 use std::time::{Clock, Duration};
 
-// A clock that goes on by a tenth of a second at each reading, or can't be read.
+// A clock that advances by a tenth of a second at each reading, or can't be read.
 #[derive(Drop)]
 struct Tenths {
     works: bool,
@@ -30,7 +30,7 @@ impl Clock for Tenths {
     }
 }
 
-// An output that accepts this many calls, and keeps what they wrote and how many there were.
+// An output that accepts this many calls, and records their text and number.
 #[derive(Drop)]
 struct Lines {
     text: Vec<u8>,
@@ -68,14 +68,14 @@ fn deliver<R: Wait, C: Clock + Sync, E: Write + Send>(rt: &R, progress: &Progres
     }
 }
 
-// Tells an output of eight pairs.
+// Reports the progress of eight pairs to an output.
 fn tell<R: Wait>(rt: &R, clock: &Tenths, errors: &mut Lines) {
     let progress = Progress::new(clock, errors);
     deliver(rt, &progress);
     drop(progress);
 }
 
-// What is told with such a clock to an output that accepts this many calls, and the number of calls.
+// Checks the report with such a clock to an output that accepts this many calls, and the number of calls.
 fn check_told<R: Wait + AllocGlobal + Abort>(
     rt: &R,
     works: bool,
@@ -107,7 +107,7 @@ const ALL: &[u8] = b"tier 7 (1 of 3): check, 0 delivered\n\
     tier 7 (1 of 3): wins and losses, level 4, 4 delivered\n\
     tier 7 (1 of 3): wins and losses, level 7, 7 delivered\n";
 
-// A line is one call, none follows a failure, and nothing is told without a clock.
+// Checks that a line is one call, that no call follows a failure, and that nothing is reported without a clock.
 #[test]
 fn lines_are_told_a_quarter_of_a_second_apart(rt: HostRuntime) {
     check_told(&rt, true, 100, 4, ALL);
@@ -117,7 +117,7 @@ fn lines_are_told_a_quarter_of_a_second_apart(rt: HostRuntime) {
     check_told(&rt, false, 100, 0, b"");
 }
 
-// A tier of 2,000 indexes is settled in four blocks.
+// Settles a tier of 2,000 indexes in four blocks.
 fn settle<R: Wait>(rt: &R, clock: &Tenths, errors: &mut Lines) {
     let progress = Progress::new(clock, errors);
     progress.begin(rt, 3);

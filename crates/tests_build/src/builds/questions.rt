@@ -7,7 +7,7 @@ use gm_table::tables::Tables;
 use gm_toys::countdown::Countdown;
 use std::process::Abort;
 
-// What is asked of an index of tier 0, without a table, is refused so.
+// Checks that questions about an index of tier 0 without a table are refused for this reason.
 fn refuses(rt: &impl Abort, tables: &Tables<Countdown<10>>, index: u64, why: AnswerError) {
     let position = Position { tier: 0, index };
     expect_eq(rt, answer(tables, position), Err(why));

@@ -18,10 +18,10 @@ use std::process::Abort;
 use std::sync::Wait;
 use std::thread::Threads;
 
-// How many tiers a build solved and reused, the number of deliveries, and how many of them were by hand.
+// The numbers of tiers that a build solved and reused, of deliveries, and of deliveries by hand.
 type Took = Result<(usize, usize, u64, u64), BuildError>;
 
-// What a build took, none of whose tiers was migrated.
+// Returns the work of a build that migrated no tier.
 fn took<G: Game>(rt: &impl Abort, built: Built<G>) -> (usize, usize, u64, u64) {
     expect_eq(rt, built.migrated, 0);
     let took = (built.solved, built.reused, built.deliveries, built.by_hand);
@@ -51,7 +51,7 @@ fn built_by<
     }
 }
 
-// The same with a gate that does nothing and a source that hands out each piece once.
+// Builds such tiers with a gate that does nothing and a source that hands out each piece once.
 fn built<G: Game + Send + Sync, R: Threads + Wait + Files + Sync + AllocGlobal + Abort, S: Store>(
     rt: &R,
     first: u64,
@@ -62,7 +62,7 @@ fn built<G: Game + Send + Sync, R: Threads + Wait + Files + Sync + AllocGlobal +
     built_by::<G, R, S>(rt, first, store, plan, &TestGate::Open, &source)
 }
 
-// Builds a game once for each of these answers, over an empty store of which one call fails.
+// Builds a game once for each of these results, over an empty store that fails at one call.
 fn builds<G: Game + Send + Sync, R: Threads + Wait + Files + Sync + AllocGlobal + Abort>(
     rt: &R,
     call: u64,
@@ -76,7 +76,7 @@ fn builds<G: Game + Send + Sync, R: Threads + Wait + Files + Sync + AllocGlobal 
     store
 }
 
-// No call has this number.
+// The number of no call.
 const NEVER: u64 = 0;
 
 const FAILED: Took = Err(BuildError::StoreFailed { tier: 0 });
@@ -93,7 +93,7 @@ const FILE: [u8; 116] = [
     0x4a, 0xe3, 0x9b, 0xd4,
 ];
 
-// The store fails to read or to write, and then Countdown is built.
+// Checks that Countdown is built after the store fails to read or to write.
 #[test]
 fn a_failing_store_is_built_later(rt: HostRuntime) {
     for call in [1, 2] {
@@ -105,7 +105,7 @@ fn a_failing_store_is_built_later(rt: HostRuntime) {
     }
 }
 
-// The file of Countdown from 10 in version 1 (docs/EXAMPLES.md, `old_file_of_countdown`).
+// The file of Countdown from 10 in version 1 (docs/FORMATS.md, `old_file_of_countdown`).
 const OLD_FILE: [u8; 94] = [
     0x47, 0x4d, 0x54, 0x49, 0x45, 0x52, 0x30, 0x31, 0x63, 0x6f, 0x75, 0x6e, 0x74, 0x64, 0x6f, 0x77,
     0x6e, 0x00, 0x00, 0x00, 0x00, 0x00, 0x00, 0x00, 0x00, 0x00, 0x00, 0x00, 0x00, 0x00, 0x00, 0x00,
@@ -115,7 +115,8 @@ const OLD_FILE: [u8; 94] = [
     0x0c, 0xb2, 0xb7, 0xc0, 0x03, 0x1d, 0x4f, 0xcd, 0xeb, 0x40, 0xa4, 0x4c, 0xa2, 0xae,
 ];
 
-// A store in memory has the file of version 1: it is migrated and nothing is solved, and then the store has the file of today.
+// Checks that a file of version 1 in a store in memory is migrated without solving a tier, and that the store then has the file of
+// today.
 #[test]
 fn an_old_file_in_memory_is_migrated(rt: HostRuntime) {
     let mut store = MemStore::new(rt.alloc());
@@ -143,18 +144,19 @@ fn an_old_file_in_memory_is_migrated(rt: HostRuntime) {
     drop((store, text));
 }
 
-// Tac Tix of four counters: one tier for each number of counters that are left.
+// Tac Tix of four counters. It has one tier for each number of counters on the board.
 type Square = TacTix<2, false>;
 
-// The deliveries that are left to a build after so many tiers: these take 0, 1, 3, 3 and 2, as many as their canonical positions have canonical children.
+// The deliveries that remain for a build after this many tiers. The tiers take 0, 1, 3, 3 and 2, as many as their canonical
+// positions have canonical children.
 const LEFT: [u64; 5] = [9, 9, 8, 5, 2];
 
 const SOLVED: Took = Ok((5, 0, 9, 0));
 
 const REUSED: Took = Ok((0, 5, 0, 0));
 
-// Each of the five tiers is read and then written, ten calls in all. A build that fails at one of them goes on later after the tiers that were done, and
-// then all texts are right.
+// Checks that a build that fails at one of its calls later goes on after the finished tiers, and that then all texts are right.
+// Each of the five tiers is read and then written, which makes ten calls.
 #[test]
 fn a_build_goes_on_where_the_store_failed(rt: HostRuntime) {
     for call in 1..11 {
@@ -166,13 +168,13 @@ fn a_build_goes_on_where_the_store_failed(rt: HostRuntime) {
     }
 }
 
-// The text of a tier, which a store in memory has.
+// Returns the text of a tier in a store in memory.
 fn text_of<R: Files + AllocGlobal + Abort>(rt: &R, store: &mut MemStore, tier: u64) -> Vec<u8> {
     assert!(rt; store.failures() < u64::MAX);
     must(rt, store.read(rt, rt.alloc(), tier)).expect(rt, "it has a text")
 }
 
-// Two stores in memory have the same texts of the five tiers.
+// Checks that two stores in memory have the same texts of the five tiers.
 fn have_same_texts<R: Files + AllocGlobal + Abort>(
     rt: &R,
     one: &mut MemStore,
@@ -185,8 +187,8 @@ fn have_same_texts<R: Files + AllocGlobal + Abort>(
     }
 }
 
-// What a failed build left in the inner store is built to its end there, without the store round it that failed: the tiers that were done are reused, and the
-// texts are those of a build that nothing stopped.
+// Checks that a failed build can be completed in the inner store, without the failing store round it: finished tiers are reused,
+// and the texts are those of a build without failures.
 #[test]
 fn a_build_goes_on_over_the_inner_store(rt: HostRuntime) {
     let mut right = MemStore::new(rt.alloc());
@@ -204,14 +206,14 @@ fn a_build_goes_on_over_the_inner_store(rt: HostRuntime) {
     drop(right);
 }
 
-// A build makes ten calls, and one over what it left makes five, since what is reused is read and not written.
+// Checks that a build makes ten calls, and a second build over its texts five, since reused texts are read and not written.
 #[test]
 fn a_build_reads_and_writes_each_tier_once(rt: HostRuntime) {
     drop(builds::<Square, _>(&rt, 11, &[SOLVED, FAILED, REUSED]));
     drop(builds::<Square, _>(&rt, 16, &[SOLVED, REUSED, FAILED]));
 }
 
-// The stairs are built from tier 1, and then the whole: each step but the first takes one delivery.
+// Builds the stairs from tier 1, and then all of them. Each step but the first takes one delivery.
 #[test]
 fn what_a_tier_rests_on_is_built(rt: HostRuntime) {
     let mut store = Flaky::new(MemStore::new(rt.alloc()), NEVER, NEVER);
@@ -232,7 +234,7 @@ fn games_without_an_order_are_not_built(rt: HostRuntime) {
     drop(builds::<Countdown<16777216>, _>(&rt, NEVER, &[large]));
 }
 
-// A chain whose top has a remoteness one above the limit is not built, and the store is left empty.
+// Checks that a chain whose top has a remoteness one above the limit is not built, and that the store is left empty.
 #[test]
 fn a_game_that_is_too_far_is_not_built(rt: HostRuntime) {
     let far = Err(BuildError::TooFar { tier: 0 });
@@ -242,7 +244,8 @@ fn a_game_that_is_too_far_is_not_built(rt: HostRuntime) {
     drop(store);
 }
 
-// Builds a game by a plan over an empty store: what that took, for how many levels the source was asked, and how often the gate was passed.
+// Builds a game by a plan over an empty store. Returns the work, the number of levels for which the source was asked, and the
+// number of passes through the gate.
 fn asked<G: Game + Send + Sync, R: Threads + Wait + Files + Sync + AllocGlobal + Abort>(
     rt: &R,
     plan: Option<Plan>,
@@ -255,8 +258,9 @@ fn asked<G: Game + Send + Sync, R: Threads + Wait + Files + Sync + AllocGlobal +
     (took, source.asked().0, gate.passed().0)
 }
 
-// By a plan of numbers workers solve each tier: the levels of Tac Tix are those of wins and losses up to the greatest remoteness below. By the fastest plan no
-// tier of Tac Tix is solved by workers, and so nothing is asked; Countdown, in which each move stays, is solved by one.
+// Checks which plans use workers. By a plan of numbers workers solve each tier: the levels of Tac Tix are those of wins and losses
+// up to the greatest remoteness below. By the fastest plan workers solve no tier of Tac Tix, so neither the gate nor the source is
+// asked. They do solve the tier of Countdown, in which each move stays.
 #[test]
 fn gate_and_source_are_asked_where_workers_deliver(rt: HostRuntime) {
     let (took, levels, passed) = asked::<Square, _>(&rt, Plan::new(2, 2, 1));

@@ -13,7 +13,8 @@ use std::process::Abort;
 use std::sync::Wait;
 use std::thread::Threads;
 
-// Takes these steps with the note of index 0 and a parent, on a board round tier 0 that is cut at this index, and two shards without positions.
+// Takes these steps with the note of index 0 and a parent, on a board round tier 0 that is split at this index, and two shards
+// without positions.
 fn take_steps<G: Game + Send + Sync, R: Threads + Wait + Sync + AllocGlobal + Abort>(
     rt: &R,
     at: u64,
@@ -61,7 +62,7 @@ fn three_of_four_shards_are_empty(rt: HostRuntime) {
 
 const CALLS: [Call; 2] = [Call::Deliver, Call::DeliverAt];
 
-// Index 1 has the one move to 0.
+// Checks that shards have locks of their own. Index 1 has one move, to 0.
 #[test]
 fn locks_are_separate(rt: HostRuntime) {
     for call in CALLS {

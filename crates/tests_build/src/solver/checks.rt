@@ -1,4 +1,4 @@
-//! Records that are checked, and the tables that are made of them.
+//! Checked records, and the tables made from them.
 use crate::expect::{expect, expect_eq, must};
 use crate::solver::records::{COUNTDOWN, Known, WHEEL, check_table, held, hold, record};
 use gm_game::game::Game;
@@ -12,7 +12,7 @@ use std::process::Abort;
 
 type Ten = Countdown<10>;
 
-// Why records of Countdown are refused.
+// Returns the reason why records of Countdown are refused.
 fn refusal(alloc: Global, tables: &Tables<Ten>, records: &[Option<Solved>]) -> Option<CheckError> {
     check(alloc, 0, records, tables).err()
 }
@@ -34,7 +34,8 @@ fn check_of_countdown(rt: HostRuntime) {
 // A place, and the indexes that a table has there.
 type Run = (u64, Phase, u32, &'static [u32]);
 
-// What the tables of a game say whose tier 0 is held: the greatest remotenesses, the runs, and that there is nothing past the last index or in another tier.
+// Checks the tables of a game whose tier 0 is held: the greatest remotenesses, the runs, and that there is nothing past the last
+// index or in another tier.
 fn check_held<G: Game>(
     rt: &impl Abort,
     tables: &Tables<G>,
@@ -66,7 +67,7 @@ const RUNS: &[Run] = &[
 fn runs_of_tables(rt: HostRuntime) {
     let mut tables = held::<Ten>(&rt, rt.alloc(), &COUNTDOWN);
     check_held(&rt, &tables, (Some(7), None), RUNS);
-    // The same after it was inserted again.
+    // The result is the same after the table was inserted again.
     hold(&rt, rt.alloc(), &mut tables, 0, &COUNTDOWN);
     check_held(&rt, &tables, (Some(7), None), RUNS);
     drop(tables);

@@ -1,4 +1,4 @@
-//! A board of four shards, as callers with workers of their own use it.
+//! A board of four shards, used as by callers with workers of their own.
 ghost use Rattle.std.specs.Prelude.{◌≡◌, ◌<◌};
 ghost use Rattle.gm_locks.specs.Spots.{spot_of, AreFourTiles};
 ghost use Rattle.gm_deliveries.specs.Delivery.{IsPlaceOf};
@@ -24,22 +24,22 @@ pub enum Call {
     DeliverAt,
 }
 
-/// What is done with the pair of a note and a parent on a board, and what must come of it.
+/// An action with the pair of a note and a parent on a board, and its required result.
 #[derive(Clone, Copy)]
 pub enum Deed {
-    /// It is delivered to a shard, which answers so.
+    /// Delivers the pair to a shard, with this result.
     Once(Result<Delivery, Refused>),
-    /// Nothing is delivered. The shard has the indexes from the first of these up to the second.
+    /// Delivers nothing. The shard has the indexes from the first of these up to the second.
     HasRange(u64, u64),
-    /// It is delivered by a call while another thread holds the lock of shard 0, reads this counter of an index, and waits for the answer: so many
-    /// pairs are new.
+    /// Delivers the pair by a call while another thread holds the lock of shard 0, reads this counter of an index, and waits for
+    /// the result. This many pairs are new.
     Meanwhile(Call, u64, Option<u32>, u64),
 }
 
 /// A deed with its shard, and the amounts of the first two shards after it.
 pub type Step = (Deed, usize, (u64, u64));
 
-// Waits for the other thread's mark, at most a million turns: whether it came.
+// Waits for the other thread's mark, for at most a million turns. Returns whether it came.
 fn comes<R: Wait>(rt: &R, mark: &Mutex<bool>) -> bool {
     for _ in 0..1_000_000 {
         if *mark.lock(rt) {
@@ -49,7 +49,7 @@ fn comes<R: Wait>(rt: &R, mark: &Mutex<bool>) -> bool {
     false
 }
 
-// The counter of an index, where the shard has it.
+// Returns the counter of an index, if the shard has it.
 fn counter_of<G: Game>(shard: &Shard<G>, index: u64) -> Option<u32> {
     let (lo, hi) = shard.range();
     if lo <= index && index < hi {
@@ -59,7 +59,8 @@ fn counter_of<G: Game>(shard: &Shard<G>, index: u64) -> Option<u32> {
     }
 }
 
-// Holds the lock of shard 0: reads a counter, marks that it has, and waits until the other thread has its answer: the counter, and whether the answer came.
+// Holds the lock of shard 0, reads a counter, sets its mark, and waits until the other thread has its result. Returns the counter,
+// and whether the result came.
 fn hold<G: Game, A: ShardLedger, B: ShardLedger, C: ShardLedger, D: ShardLedger, R: Wait>(
     rt: &R,
     board: &Board<G, A, B, C, D>,
@@ -78,7 +79,7 @@ fn hold<G: Game, A: ShardLedger, B: ShardLedger, C: ShardLedger, D: ShardLedger,
 // A note and a parent, with the place of the note's position among the parent's children.
 type Pair<'a, G> = (&'a Note<G>, u64, Option<u32>);
 
-// Delivers a pair to a shard by a call: how many are new.
+// Delivers a pair to a shard by a call. Returns the number of new pairs.
 fn deliver_by<G: Game, A: ShardLedger, B: ShardLedger, C: ShardLedger, D: ShardLedger, R: Wait>(
     rt: &R,
     board: &Board<G, A, B, C, D>,
@@ -97,7 +98,7 @@ fn deliver_by<G: Game, A: ShardLedger, B: ShardLedger, C: ShardLedger, D: ShardL
     }
 }
 
-// Waits until the other thread has read its counter, delivers to a shard, and marks that it has the answer.
+// Waits until the other thread has read its counter, delivers to a shard, and then sets its mark.
 fn deliver_meanwhile<
     G: Game,
     A: ShardLedger,
@@ -123,7 +124,7 @@ fn deliver_meanwhile<
     new
 }
 
-// Runs both, each in a thread of its own, and waits for them.
+// Runs the two threads, and waits for them.
 fn run_both<
     G: Game + Send + Sync,
     A: ShardLedger + Send + Sync,
@@ -186,7 +187,7 @@ fn take_steps<
     }
 }
 
-// The same on a board of these names, whose first two shards then have so many pairs.
+// Takes the steps on a board of these names, and checks the numbers of pairs in the first two shards after them.
 fn named<
     G: Game + Send + Sync,
     A: ShardLedger + Send + Sync,
@@ -218,7 +219,7 @@ fn named<
     drop(shards);
 }
 
-/// Takes these steps on a board round these shards, of which the first two then have so many pairs.
+/// Takes these steps on a board round these shards, and checks the numbers of pairs in the first two after them.
 pub fn by_hand<G: Game + Send + Sync, R: Threads + Wait + Sync + Abort>(
     rt: &R,
     shards: Four<Shard<G>>,

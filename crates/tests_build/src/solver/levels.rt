@@ -25,7 +25,7 @@ use std::process::Abort;
 
 type Ten = Countdown<10>;
 
-// A place among the wins and losses.
+// Returns a place among the wins and losses.
 fn level_of(tier: u64, level: u32) -> Place
     ensures { result ≡ place_at tier WinLose level }
 {
@@ -36,7 +36,7 @@ fn level_of(tier: u64, level: u32) -> Place
     }
 }
 
-// What is wanted of a level of one note: the note, its pairs, and their counts into the first tiles of six.
+// The required level of one note: the note, its pairs, and their counts into the first tiles of six.
 #[derive(Clone, Copy)]
 struct Wanted<'a> {
     position: Position,
@@ -45,7 +45,7 @@ struct Wanted<'a> {
     counts: (u64, u64),
 }
 
-// The pairs of a level of one note: the index of the note, and that of a parent.
+// Checks the pairs of a level of one note: the index of the note, and that of a parent.
 fn check_pairs<G: Game>(rt: &impl Abort, level: &Level<G>, pairs: &[(u64, u64)]) {
     let mut count = 0usize;
     for (note, parent) in level.pairs(0, 1, 0, TIER_SIZE) {
@@ -56,7 +56,7 @@ fn check_pairs<G: Game>(rt: &impl Abort, level: &Level<G>, pairs: &[(u64, u64)])
     expect_eq(rt, count, pairs.len());
 }
 
-// A level of one note, which is not the last one of its phase.
+// Checks a level of one note that is not the last one of its phase.
 fn check_level<G: Game>(
     rt: &impl Abort,
     alloc: Global,
@@ -77,7 +77,7 @@ fn check_level<G: Game>(
     drop(tally);
 }
 
-// The level at the place of a shard of a whole tier, by the run of its fresh notes.
+// Returns the level at the place of a shard of a whole tier, from the run of its fresh notes.
 fn level_here<'a, G: Game>(
     rt: &impl Abort,
     alloc: Global,
@@ -94,7 +94,7 @@ fn level_here<'a, G: Game>(
     must(rt, Level::gather(alloc, shard.place(), runs, tables))
 }
 
-// Checks the present level of a shard of a whole tier.
+// Checks the current level of a shard of a whole tier.
 fn check_here<G: Game>(
     rt: &impl Abort,
     alloc: Global,
@@ -123,7 +123,7 @@ fn tally_of_a_piece(rt: HostRuntime) {
     drop((shard, tables));
 }
 
-// Delivers the pairs of a shard's present level, adds them to its count, and closes it.
+// Delivers the pairs of a shard's current level, adds them to its count, and closes it.
 fn close_level<G: Game>(
     rt: &impl Abort,
     shard: &mut Shard<G>,
@@ -139,7 +139,8 @@ fn close_level<G: Game>(
     closes(rt, shard, expected, Ok(()));
 }
 
-// The tables of Stairs from 3 are held, whose tiers 0 to 3 are lost, won, lost and won, and the level of tier 2 is looked at from tier 3.
+// Checks a level of a child tier. The tables of Stairs from 3 are held. Its tiers 0 to 3 are lost, won, lost and won, and the level
+// of tier 2 is checked from tier 3.
 #[test]
 fn level_of_a_child_tier(rt: HostRuntime) {
     let mut tables: Tables<Stairs<3>> = Tables::new(rt.alloc());
@@ -165,7 +166,7 @@ fn level_of_a_child_tier(rt: HostRuntime) {
     drop((shard, expected, tables));
 }
 
-// The tier of 3 has the levels 0 to 3 of wins and losses, each at its place, and the next one is the end of the phase.
+// Checks that the tier of 3 has the levels 0 to 3 of wins and losses, each at its place, and that the phase ends with the next one.
 #[test]
 fn levels_of_the_last_stair(rt: HostRuntime) {
     let mut tables: Tables<Stairs<3>> = Tables::new(rt.alloc());
@@ -191,7 +192,7 @@ fn levels_of_the_last_stair(rt: HostRuntime) {
     drop((shard, expected, tables));
 }
 
-// The level of a tier without positions.
+// Checks the level of a tier without positions.
 #[test]
 fn level_of_an_empty_tier(rt: HostRuntime) {
     let tables: Tables<Stairs<3>> = Tables::new(rt.alloc());
@@ -227,7 +228,7 @@ fn add_level<G: Game>(
     drop(tallies);
 }
 
-// The pairs of all levels of Countdown into a tile of this width are so many, by a walk and by tallies.
+// Checks the number of pairs of all levels of Countdown into a tile of this width, by a walk and by tallies.
 fn check_count(rt: &impl Abort, alloc: Global, lo: u64, hi: u64, width: u64, number: u64)
     requires width { 0 < width }
     requires tile { IsTile 11 width lo hi }

@@ -13,7 +13,7 @@ use gm_table::checker::CheckError;
 use gm_table::tables::Tables;
 use gm_toys::chain::Chain;
 
-// Numbers of workers, of shards, and of notes in a piece, and whether there is a plan of them.
+// Numbers of workers, of shards, and of notes in a piece, and whether they make a plan.
 const PLANS: [(usize, usize, usize, bool); 9] = [
     (0, 1, 1, false),
     (17, 1, 1, false),

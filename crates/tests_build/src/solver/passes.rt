@@ -1,4 +1,4 @@
-//! Desks that are delivered to in order, as callers with workers of their own use them.
+//! Desks with deliveries in order, used as by callers with workers of their own.
 ghost use Rattle.std.specs.Prelude.{◌≡◌, ◌-◌, ◌<◌, ◌≤◌, IfOk};
 ghost use Rattle.gm_deliveries.specs.State.{pairs_in};
 ghost use Rattle.gm_deliveries.specs.Begin.{first_state};
@@ -23,10 +23,11 @@ use std::process::Abort;
 use std::sync::Wait;
 use std::sync::ledger::Blank;
 
-// What a desk answers to one delivery, with the amount of the pass after it, and whether that is full.
+// The result of one delivery at a desk, with the amount of the pass after it, and whether the pass is full.
 type Told = (Result<Delivery, Refused>, u64, bool);
 
-// Delivers the level's pairs into the desk's range, each as the pass's next one: whether these are the answers, and there are no more pairs.
+// Delivers the level's pairs into the desk's range, each as the next one of the pass. Returns whether these are the results, and
+// there are no more pairs.
 fn answers<G: Game, L: PassLedger, R: Wait>(
     rt: &R,
     desk: &PassDesk<G, L>,
@@ -50,7 +51,8 @@ fn answers<G: Game, L: PassLedger, R: Wait>(
     desk.next_pair(level, pass).is_none()
 }
 
-// At a desk of this name round a shard, whose pass is full at once where nothing is to be told, and at the end. Then the shard has so many pairs, and closes.
+// Delivers at a desk of this name round a shard. The pass is full at the end, and at once if nothing is to be delivered. Then the
+// shard has this many pairs, and closes.
 fn pass_named<G: Game, L: PassLedger, R: Wait + Abort>(
     rt: &R,
     blank: Blank,
@@ -80,7 +82,7 @@ fn pass_named<G: Game, L: PassLedger, R: Wait + Abort>(
     drop(shard);
 }
 
-// The shard of the indexes of a tier from `lo` up to `hi`, before the first level.
+// Returns the shard of the indexes of a tier from `lo` up to `hi`, before the first level.
 fn ordered_range<G: Game>(
     alloc: Global,
     tier: u64,
@@ -95,7 +97,7 @@ fn ordered_range<G: Game>(
     OrderedShard::begin(alloc, tier, lo, list.as_slice())
 }
 
-// Delivers the first level of a tier at a desk round the indexes from `lo` up to `hi`, which answers so.
+// Delivers the first level of a tier at a desk round the indexes from `lo` up to `hi`, with these results.
 fn pass_by_hand<G: Game, R: Wait + Abort>(
     rt: &R,
     alloc: Global,
@@ -118,13 +120,13 @@ fn pass_by_hand<G: Game, R: Wait + Abort>(
     drop(expected);
 }
 
-// The note of 0 to its parents 1 and 2.
+// The deliveries of the note of 0 to its parents 1 and 2.
 const TOLD: [Told; 2] = [
     (Ok(Delivery::FreshSettled), 1, false),
     (Ok(Delivery::FreshSettled), 2, true),
 ];
 
-// The first level of Countdown, at desks round the indexes below 6 and from 6 on.
+// Delivers the first level of Countdown, at desks round the indexes below 6 and from 6 on.
 #[test]
 fn desks_by_hand(rt: HostRuntime) {
     let alloc = rt.alloc();

@@ -14,7 +14,7 @@ use std::process::Abort;
 /// A value with its remoteness, 0 for a draw.
 pub(crate) type Known = (Value, u32);
 
-/// Those of Countdown<10>, from 0 to 10.
+/// The values of Countdown<10>, from 0 to 10.
 pub(crate) const COUNTDOWN: [Known; 11] = [
     (Value::Lose, 0),
     (Value::Win, 1),
@@ -29,7 +29,7 @@ pub(crate) const COUNTDOWN: [Known; 11] = [
     (Value::Win, 7),
 ];
 
-/// Those of Wheel, from 0 to 9.
+/// The values of Wheel, from 0 to 9.
 pub(crate) const WHEEL: [Known; 10] = [
     (Value::Tie, 0),
     (Value::Tie, 1),
@@ -43,12 +43,12 @@ pub(crate) const WHEEL: [Known; 10] = [
     (Value::Win, 3),
 ];
 
-/// The record of a decided position.
+/// Returns the record of a decided position.
 pub(crate) fn record((value, remoteness): Known) -> Option<Solved> {
     Some(Solved { value, remoteness })
 }
 
-/// A table has these records from an index on, and no more.
+/// Checks that a table has these records from an index on, and no more.
 pub(crate) fn check_table<G: Game>(
     rt: &impl Abort,
     table: &Table<G>,
@@ -81,7 +81,7 @@ pub(crate) fn hold<G: Game>(
     must(rt, tables.insert(must(rt, table)));
 }
 
-/// Tables of which that of tier 0 is held.
+/// Returns tables that hold only tier 0.
 pub(crate) fn held<G: Game>(rt: &impl Abort, alloc: Global, known: &[Known]) -> Tables<G>
     ensures { IsHeld result 0 }
 {

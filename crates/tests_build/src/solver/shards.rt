@@ -1,4 +1,4 @@
-//! Shards that are taken through their levels from outside.
+//! Shards whose levels are run from outside.
 ghost use Rattle.std.specs.Prelude.{◌≡◌, ◌≤◌};
 ghost use Rattle.gm_game.specs.declared.position.Phase.TheVariants.{Ties};
 ghost use Rattle.gm_table.specs.Tables.{AreHeld};
@@ -27,14 +27,14 @@ use std::process::Abort;
 
 type Ten = Countdown<10>;
 
-/// The note of index 0, which is lost.
+/// Returns the note of index 0, which is lost.
 pub(crate) fn first_note<G: Game>(rt: &impl Abort, shard: &Shard<G>) -> Note<G> {
     let (lo, hi) = shard.range();
     assert!(rt; lo == 0 && 0 < hi);
     shard.note(0).expect(rt, "0 is lost")
 }
 
-/// Closes a level with a count that is for the shard, which is answered so.
+/// Closes a level with a count that is for the shard, with this result.
 pub(crate) fn closes<G: Game>(
     rt: &impl Abort,
     shard: &mut Shard<G>,
@@ -45,14 +45,14 @@ pub(crate) fn closes<G: Game>(
     expect_eq(rt, shard.close(expected), answer);
 }
 
-// What is known of an index in the range, and its counter.
+// Returns the status of an index in the range, and its counter.
 fn known<G: Game>(rt: &impl Abort, shard: &Shard<G>, index: u64) -> (Status, u32) {
     let (lo, hi) = shard.range();
     assert!(rt; lo <= index && index < hi);
     (shard.status(index), shard.counter(index))
 }
 
-// Delivers a note to these parents in turn, which is answered so.
+// Delivers a note to these parents in turn, with these results.
 fn delivers<G: Game>(
     rt: &impl Abort,
     shard: &mut Shard<G>,
@@ -64,7 +64,7 @@ fn delivers<G: Game>(
     }
 }
 
-// The first level of Countdown: the note of 0, which has two parents.
+// Takes the first level of Countdown: the note of 0, which has two parents.
 fn first_level<G: Game>(
     rt: &impl Abort,
     shard: &mut Shard<G>,
@@ -88,7 +88,7 @@ fn first_level<G: Game>(
     delivers(rt, shard, zero, &[(1, Err(Refused::NotThisLevel))]);
 }
 
-// The second level: the notes of 1 and 2. The moves from 3 lead to both, one of those from 2 leads to 1.
+// Takes the second level: the notes of 1 and 2. The moves from 3 lead to both, and one of those from 2 leads to 1.
 fn second_level<G: Game>(rt: &impl Abort, shard: &mut Shard<G>, notes: &[Note<G>]) {
     assert!(rt; notes.len() == 2);
     let (one, two) = (&notes[0], &notes[1]);
@@ -106,7 +106,7 @@ fn second_level<G: Game>(rt: &impl Abort, shard: &mut Shard<G>, notes: &[Note<G>
     expect_eq(rt, shard.delivered(), 5);
 }
 
-// The count of the first level of a shard over all of Countdown.
+// Returns the count of the first level of a shard over all of Countdown.
 fn first_expected(rt: &impl Abort, alloc: Global, shard: &Shard<Ten>) -> Expected<Ten>
     requires { shard.now ≡ first_state 0 0 11 }
 {
@@ -135,7 +135,7 @@ fn one_shard_by_hand(rt: HostRuntime) {
     drop((shard, expected, first, second));
 }
 
-// The records of a shard of one position, which is lost, at the end of ties.
+// Checks the records of a shard of one position, which is lost, at the end of ties.
 fn check_end<G: Game>(rt: &impl Abort, alloc: Global, shard: &Shard<G>, tables: &Tables<G>)
     requires ties { shard.now.phase ≡ Ties }
     requires whole { IsOfTier G.rules shard.now }
@@ -165,7 +165,7 @@ fn one_position_to_its_end(rt: HostRuntime) {
     drop((shard, tables));
 }
 
-// The delivery of a note to a parent in a shard.
+// Returns the delivery of a note to a parent in a shard.
 fn delivery(note: Note<Ten>, shard: usize, parent: u64) -> Event<Ten> {
     Event::Deliver {
         shard,
@@ -174,8 +174,8 @@ fn delivery(note: Note<Ten>, shard: usize, parent: u64) -> Event<Ten> {
     }
 }
 
-// Deliveries of the only note of the first level: to a parent twice, to an index that is no parent, to a shard that isn't there, and to another parent. Then
-// the close of that level.
+// Replays deliveries of the only note of the first level: to a parent twice, to an index that is not a parent, to a shard that
+// doesn't exist, and to another parent. Then the level is closed.
 #[test]
 fn replay_of_a_level(rt: HostRuntime) {
     let shard = must(&rt, begin_whole::<Ten>(rt.alloc(), 0));
@@ -195,7 +195,7 @@ fn replay_of_a_level(rt: HostRuntime) {
     drop((events, shards));
 }
 
-// What the wheel's shard says at the end of ties: each index with its counter.
+// Checks the wheel's shard at the end of ties: each index with its counter.
 fn check_counters<G: Game>(rt: &impl Abort, shard: &Shard<G>) {
     for (index, counter) in [(8, 1), (3, 1), (4, 1), (2, 1), (9, 0)] {
         expect_eq(rt, known(rt, shard, index).1, counter);

@@ -1,4 +1,4 @@
-//! Tiers solved by workers, in either of the two ways.
+//! Tiers solved by workers, in each of the two ways.
 use crate::expect::{expect_eq, must};
 use crate::solver::records::{COUNTDOWN, Known, WHEEL, check_table};
 use gm_game::game::Game;
@@ -13,7 +13,7 @@ use std::process::Abort;
 use std::sync::Wait;
 use std::thread::Threads;
 
-/// What solving a tier shows: its records from an index to its end, and the number of deliveries.
+/// The results of solving a tier: its records from an index to its end, and the number of deliveries.
 #[derive(Clone, Copy)]
 pub struct Truth {
     pub from: u64,
@@ -21,42 +21,43 @@ pub struct Truth {
     pub deliveries: u64,
 }
 
-/// Countdown from 10.
+/// The results of Countdown from 10.
 pub const TEN: Truth = Truth {
     from: 0,
     records: &COUNTDOWN,
     deliveries: 19,
 };
 
-/// The wheel.
+/// The results of the wheel.
 pub const ROUND: Truth = Truth {
     from: 0,
     records: &WHEEL,
     deliveries: 9,
 };
 
-/// Countdown from 0.
+/// The results of Countdown from 0.
 pub const NOTHING: Truth = Truth {
     from: 0,
     records: &[(Value::Lose, 0)],
     deliveries: 0,
 };
 
-/// The top of a chain of more positions than a piece has notes.
+/// The result at the top of a chain of more positions than a piece has notes.
 pub const LONG: Truth = Truth {
     from: 4096,
     records: &[(Value::Lose, 4096)],
     deliveries: 4096,
 };
 
-/// The last tier of Stairs from 3.
+/// The results of the last tier of Stairs from 3.
 pub const TOP: Truth = Truth {
     from: 0,
     records: &[(Value::Win, 3)],
     deliveries: 1,
 };
 
-/// A tier whose child tiers are held is solved in a way, by this many workers and shards with this many notes in a piece, and this many deliveries are by hand.
+/// Solves a tier in a way, by this many workers and shards with this many notes in a piece. The tables of its child tiers are held.
+/// Checks the results, and the number of deliveries by hand.
 pub fn solves_tier<G: Game + Send + Sync, R: Threads + Wait + Sync + AllocGlobal + Abort, T: Gate>(
     rt: &R,
     tables: &Tables<G>,
@@ -80,7 +81,7 @@ pub fn solves_tier<G: Game + Send + Sync, R: Threads + Wait + Sync + AllocGlobal
     );
 }
 
-/// The same of a game of one tier.
+/// Solves a game of one tier in a way, and checks the same.
 pub fn solves<G: Game + Send + Sync, R: Threads + Wait + Sync + AllocGlobal + Abort, T: Gate>(
     rt: &R,
     how: (Way, usize, usize, usize),

@@ -1,4 +1,4 @@
-//! Tiers solved by workers, whatever their plan, source and gate are.
+//! Tiers solved by workers, under all plans, sources and gates.
 use crate::expect::{expect, expect_eq, must};
 use crate::solver::records::hold;
 use crate::solver::ways::{LONG, NOTHING, ROUND, TEN, TOP, Truth, solves, solves_tier};
@@ -29,7 +29,7 @@ const WORKERS: [usize; 3] = [1, 2, 16];
 
 const SHARDS: [usize; 3] = [1, 2, 4];
 
-// A game by this many workers in a way, for each number of shards and for pieces of one and of 64 notes.
+// Checks a game by this many workers in a way, for each number of shards and for pieces of one and of 64 notes.
 fn check_workers<G: Game + Send + Sync, R: Threads + Wait + Sync + AllocGlobal + Abort>(
     rt: &R,
     way: Way,
@@ -45,7 +45,7 @@ fn check_workers<G: Game + Send + Sync, R: Threads + Wait + Sync + AllocGlobal +
     }
 }
 
-// The same in both ways, and for each number of workers.
+// Checks a game in both ways, and for each number of workers.
 fn check_plans<G: Game + Send + Sync, R: Threads + Wait + Sync + AllocGlobal + Abort>(
     rt: &R,
     truth: Truth,
@@ -63,7 +63,7 @@ fn toys_under_nine_plans(rt: HostRuntime) {
     check_plans::<Wheel, _>(&rt, ROUND);
 }
 
-// A game by sources of these habits with a gate, each with how many deliveries then are by hand.
+// Checks a game by sources of these habits with a gate, each with the number of deliveries by hand.
 fn by_habit<G: Game + Send + Sync, R: Threads + Wait + Sync + AllocGlobal + Abort, T: Gate>(
     rt: &R,
     gate: &T,
@@ -101,15 +101,16 @@ fn sources_of_every_habit(rt: HostRuntime) {
     by_habit::<Wheel, _, _>(&rt, &TestGate::Open, ROUND, HABITS_OF_WHEEL);
 }
 
-// Whole pieces are lost, repeated and walked twice.
+// Checks sources by which whole pieces are lost, repeated and walked twice.
 #[test]
 fn sources_of_every_habit_without_a_gate(rt: HostRuntime) {
     by_habit::<Ten, _, _>(&rt, &NoGate, TEN, HABITS);
     by_habit::<Wheel, _, _>(&rt, &NoGate, ROUND, HABITS_OF_WHEEL);
 }
 
-// Each habit with how often the gate is called before deliveries, and as often after them. The levels 1, 3 and 5 have two notes, with two pairs each: a source that
-// always names the first of them has it walked four times, and one that gives each number twice has both walked twice.
+// Each habit with the number of gate calls before deliveries (there are as many after them), and the number of deliveries by hand.
+// The levels 1, 3 and 5 have two notes, with two pairs each. A source that always names the first of them has it walked four times,
+// and one that gives each number twice has both walked twice.
 const PASSED: [(Habit, usize, u64); 5] = [
     (Habit::Once, 19, 0),
     (Habit::Silent, 0, 19),
@@ -127,7 +128,7 @@ fn gate_is_called_for_each_delivery_of_a_piece(rt: HostRuntime) {
     }
 }
 
-// Each way with the level at which two workers wait for each other: by passes both have pairs at level 3.
+// Each way with the level at which two workers wait for each other. By passes both have pairs at level 3.
 #[test]
 fn two_workers_meet(rt: HostRuntime) {
     for (way, level) in [(Way::Pieces, 1), (Way::Passes, 3)] {
@@ -138,7 +139,7 @@ fn two_workers_meet(rt: HostRuntime) {
     }
 }
 
-// Each way with the number of notes in a piece, and the turns that the gate takes.
+// Each way with the number of notes in a piece, and the number of turns that the gate takes.
 const TURNS: [(Way, usize, u32); 5] = [
     (Way::Pieces, 1, 0),
     (Way::Pieces, 64, 0),
@@ -157,7 +158,7 @@ fn gate_is_called_for_each_delivery(rt: HostRuntime) {
     }
 }
 
-// The tables of the first tiers of a game, each solved by one thread.
+// Inserts the tables of the first tiers of a game, each solved by one thread.
 fn hold_first<G: Game, R: AllocGlobal + Abort>(rt: &R, tables: &mut Tables<G>, count: u64) {
     for tier in 0..count {
         assert!(rt; tables.has_children(tier) && G::tier_size(tier) <= TIER_SIZE);
@@ -166,10 +167,10 @@ fn hold_first<G: Game, R: AllocGlobal + Abort>(rt: &R, tables: &mut Tables<G>, c
     }
 }
 
-// The pairs of tier 8 of Tac Tix on 4 by 4, counted by a plain program: so many that batches are full.
+// The number of pairs of tier 8 of Tac Tix on 4 by 4, counted by a plain program. It is large enough to fill batches.
 const MANY: u64 = 25_069;
 
-// A worker that called the gate for a second delivery before it has left the seat of the first one would wait for itself.
+// Checks that a worker leaves the seat of a delivery before it calls the gate for the next one. Otherwise it would wait for itself.
 #[test]
 fn one_seat_serves_all_workers(rt: HostRuntime) {
     let mut tables: Tables<TacTix<4, false>> = Tables::new(rt.alloc());
@@ -204,7 +205,8 @@ fn shards_without_positions(rt: HostRuntime) {
     }
 }
 
-// The top of a chain has a remoteness one above the limit. Each of its levels has one note, so no level starts a thread.
+// Checks that a chain is refused if its top has a remoteness one above the limit. Each of its levels has one note, so no level
+// starts a thread.
 fn check_too_far<R: Threads + Wait + Sync + AllocGlobal + Abort>(rt: &R, way: Way) {
     let source = TestSource::counter();
     let tables: Tables<Chain<1048576>> = Tables::new(rt.alloc());
@@ -239,7 +241,8 @@ fn a_chain_above_the_limit_by_passes(rt: HostRuntime) {
     check_too_far(&rt, Way::Passes);
 }
 
-// The last of the stairs by a source that hands out each number twice: how many levels are begun, how many pieces it is told of, and how often it is asked.
+// Solves the last of the stairs by a source that hands out each number twice. Returns the number of levels that are begun, of
+// pieces that are reported to it, and of the requests to it.
 fn asked_on_stairs<R: Threads + Wait + Sync + AllocGlobal + Abort>(
     rt: &R,
     tables: &Tables<Stairs<3>>,
@@ -257,9 +260,9 @@ fn levels_of_stairs(rt: HostRuntime) {
     hold(&rt, rt.alloc(), &mut tables, 0, &[(Value::Lose, 0)]);
     hold(&rt, rt.alloc(), &mut tables, 1, &[(Value::Win, 1)]);
     hold(&rt, rt.alloc(), &mut tables, 2, &[(Value::Lose, 2)]);
-    // The levels 0 to 3 of wins and losses, and none of ties.
+    // The levels 0 to 3 of wins and losses, and no level of ties.
     expect_eq(&rt, asked_on_stairs(&rt, &tables, Way::Pieces).0, 4);
-    // By passes the levels 0 and 1 and 3 have no pair. Two workers ask four times a level.
+    // By passes the levels 0, 1 and 3 have no pair. Two workers ask four times at each level.
     let by_passes = asked_on_stairs(&rt, &tables, Way::Passes);
     expect_eq(&rt, by_passes, (4, 16, 32));
     drop(tables);

@@ -27,7 +27,7 @@ fn old_file() -> &'static [u8] {
     &FILE
 }
 
-// Why these bytes are refused as a file of version 1.
+// Returns the reason why these bytes are refused as a file of version 1.
 fn old_refusal(alloc: Global, bytes: &[u8]) -> Option<FileError> {
     decode_v1::<Game>(alloc, 0, bytes).err()
 }
@@ -51,7 +51,7 @@ fn an_old_file_is_read_as_that_alone(rt: HostRuntime) {
     expect_eq(&rt, new, Some(FileError::BadMagic));
 }
 
-// The old file, cut before a byte or with that byte changed.
+// Checks the old file, cut before a byte or with that byte changed.
 fn expect_found(rt: &impl Abort, alloc: Global, at: usize) {
     let cut = old_refusal(alloc, part(old_file(), 0, at));
     expect_eq_at(rt, cut, Some(FileError::Truncated), at);
@@ -60,7 +60,7 @@ fn expect_found(rt: &impl Abort, alloc: Global, at: usize) {
     let today = refusal(alloc, file.as_slice());
     drop(file);
     expect_eq_at(rt, changed, Some(why_changed(at, false)), at);
-    // Read as a file of version 2, it is refused as old, whatever follows its first bytes.
+    // Read as a file of version 2, it is refused as old, independently of the bytes after the first eight.
     let why = if at < 8 {
         FileError::BadMagic
     } else {
@@ -76,7 +76,7 @@ fn old_files_that_are_cut_or_changed(rt: HostRuntime) {
     }
 }
 
-// The old file with a draw in 3 for its first record, and with a fresh digest.
+// Returns the old file with a draw in 3 as its first record, and with a fresh digest.
 fn with_a_late_draw(rt: &impl Abort, alloc: Global) -> Vec<u8> {
     let mut file = must(rt, Vec::from_slice(alloc, part(old_file(), 0, 40)));
     must(rt, file.extend_from_slice(b"\x03\x20"));
@@ -93,7 +93,7 @@ fn a_bad_record_of_an_old_file(rt: HostRuntime) {
     expect_eq(&rt, old_refusal(rt.alloc(), file.as_slice()), Some(bad));
 }
 
-// The records of a chain, each position of which is one move further from the end.
+// Returns the records of a chain. Each of its positions is one move further from the end.
 fn chain_records(rt: &impl Abort, alloc: Global, last: u32) -> Vec<Option<Solved>> {
     let mut records = Vec::new(alloc);
     for remoteness in 0..=last {
@@ -107,7 +107,7 @@ fn chain_records(rt: &impl Abort, alloc: Global, last: u32) -> Vec<Option<Solved
     records
 }
 
-// Whether version 1 can have the table of a chain.
+// Tests whether version 1 can hold the table of a chain.
 fn chain_fits<const N: u32>(rt: &impl Abort, alloc: Global) -> bool {
     let records = chain_records(rt, alloc, N);
     let tables: Tables<Chain<N>> = Tables::new(alloc);

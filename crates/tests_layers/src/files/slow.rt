@@ -1,7 +1,7 @@
 //! Readers and writers that fail, and readers that give many bytes.
 use std::io::{self, ErrorKind, Read, Write};
 
-/// A reader that gives a byte at a time, and fails at one of its calls.
+/// A reader that gives one byte at a time, and fails at one of its calls.
 #[derive(Drop)]
 pub(crate) struct SlowReader<'a> {
     pub(crate) rest: &'a [u8],
@@ -37,14 +37,14 @@ impl Read for Endless {
     }
 }
 
-/// What a writer does at one of its calls.
+/// The behaviour of a writer at one of its calls.
 #[derive(Clone, Copy)]
 pub(crate) enum Fault {
     Fails,
     TakesNothing,
 }
 
-/// A writer that takes a byte at a time, up to one of its calls.
+/// A writer that takes one byte at a time, and has a fault at one of its calls.
 #[derive(Drop)]
 pub(crate) struct SlowWriter {
     pub(crate) got: Vec<u8>,

@@ -7,12 +7,12 @@ use gm_tierdb::store_error::StoreError;
 use std::fs::Files;
 use std::process::Abort;
 
-// Whether a store keeps its map.
+// Returns whether a store keeps its map.
 fn keeps<S: Store>(_store: &S) -> bool {
     S::KEEPS
 }
 
-// The text of a tier, in a store that can count one more failure.
+// Reads the text of a tier, in a store that can count one more failure.
 fn read_from<S: Store, R: Files + AllocGlobal>(
     rt: &R,
     store: &mut S,
@@ -37,24 +37,24 @@ fn write_to<S: Store, R: Files>(
     store.write(rt, tier, bytes)
 }
 
-// A tier gets this text.
+// Gives a tier this text, and checks that the write succeeded.
 fn put<S: Store, R: Files + Abort>(rt: &R, store: &mut S, tier: u64, bytes: &[u8]) {
     must(rt, write_to(rt, store, tier, bytes));
 }
 
-// A tier does not get this text, since the store fails.
+// Checks that a tier does not get this text, since the store fails.
 fn check_unwritten<S: Store, R: Files + Abort>(rt: &R, store: &mut S, tier: u64, bytes: &[u8]) {
     let found = write_to(rt, store, tier, bytes);
     expect_eq(rt, found, Err(StoreError::Failed));
 }
 
-// A tier is not read, since the store fails.
+// Checks that a tier is not read, since the store fails.
 fn check_unread<S: Store, R: Files + AllocGlobal + Abort>(rt: &R, store: &mut S, tier: u64) {
     let found = read_from(rt, store, tier).err();
     expect_eq(rt, found, Some(StoreError::Failed));
 }
 
-// A tier has this text, or none.
+// Checks that a tier has this text, or no text.
 fn check_text<S: Store, R: Files + AllocGlobal + Abort>(
     rt: &R,
     store: &mut S,
@@ -71,7 +71,7 @@ fn check_text<S: Store, R: Files + AllocGlobal + Abort>(
     expect(rt, same);
 }
 
-// What a store in memory keeps.
+// Checks the texts of a store in memory.
 fn check_in_memory<R: Files + AllocGlobal + Abort>(rt: &R) {
     let mut store = MemStore::new(rt.alloc());
     expect(rt, keeps(&store));
@@ -90,7 +90,7 @@ fn a_memory_store_keeps_texts(rt: HostRuntime) {
     check_in_memory(&rt);
 }
 
-// A store whose second and third calls fail.
+// Checks a store whose second and third calls fail.
 fn check_flaky<R: Files + AllocGlobal + Abort>(rt: &R) {
     let mut store = Flaky::new(MemStore::new(rt.alloc()), 2, 3);
     expect(rt, keeps(&store));

@@ -7,7 +7,7 @@ use std::process::Abort;
 
 const TEXT: &[u8] = b"the text of a tier";
 
-// What is read where the reader fails at one of its calls.
+// Reads a text from a reader that fails at one of its calls.
 fn read_slowly(alloc: Global, fails_at: usize) -> Result<Vec<u8>, StoreError> {
     let mut reader = SlowReader {
         rest: TEXT,
@@ -35,7 +35,7 @@ fn a_long_text_is_cut(rt: HostRuntime) {
     expect_eq(&rt, READ_LEN, 67_108_937);
 }
 
-// The writer gets all before the call that goes wrong.
+// Checks that the writer gets all bytes before the call with the fault.
 fn check_written(rt: &impl Abort, alloc: Global, fault: Fault, fault_at: usize) {
     let mut writer = SlowWriter {
         got: Vec::new(alloc),

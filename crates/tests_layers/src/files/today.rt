@@ -25,17 +25,17 @@ const FILE: [u8; 116] = [
     0x4a, 0xe3, 0x9b, 0xd4,
 ];
 
-/// The file of Countdown from 10.
+/// Returns the file of Countdown from 10.
 pub(crate) fn file_of_countdown() -> &'static [u8] {
     &FILE
 }
 
-/// The bytes from one place to another; none if there are no such places.
+/// Returns the bytes from one place to another, or no bytes if there are no such places.
 pub(crate) fn part(bytes: &[u8], from: usize, to: usize) -> &[u8] {
     bytes.get(from..to).unwrap_or(&[])
 }
 
-/// These bytes with one of them changed.
+/// Returns these bytes with one of them changed.
 pub(crate) fn with_other_byte(rt: &impl Abort, alloc: Global, bytes: &[u8], at: usize) -> Vec<u8> {
     let mut file = must(rt, Vec::from_slice(alloc, bytes));
     if let Some(byte) = file.get_mut(at) {
@@ -44,7 +44,7 @@ pub(crate) fn with_other_byte(rt: &impl Abort, alloc: Global, bytes: &[u8], at: 
     file
 }
 
-// The file with the bytes from `at` on changed, and with a fresh digest.
+// Returns the file with the bytes from `at` on changed, and with a fresh digest.
 fn with_bytes(rt: &impl Abort, alloc: Global, at: usize, bytes: &[u8]) -> Vec<u8> {
     let end = at.saturating_add(bytes.len());
     let mut file = must(rt, Vec::from_slice(alloc, part(file_of_countdown(), 0, at)));
@@ -58,7 +58,7 @@ fn with_bytes(rt: &impl Abort, alloc: Global, at: usize, bytes: &[u8]) -> Vec<u8
     file
 }
 
-/// Why these bytes are refused as the file of Countdown.
+/// Returns the reason why these bytes are refused as the file of Countdown.
 pub(crate) fn refusal(alloc: Global, bytes: &[u8]) -> Option<FileError> {
     decode::<Game>(alloc, 0, bytes).err()
 }
@@ -77,7 +77,7 @@ fn a_file_is_read(rt: HostRuntime) {
     expect_eq(&rt, must(&rt, found), records(&rt, rt.alloc(), 11));
 }
 
-// What is changed, from which byte on, and why that is refused.
+// The place of the first changed byte, the new bytes, and the reason for the refusal.
 const CHANGES: &[(usize, &[u8], FileError)] = &[
     (0, b"X", FileError::BadMagic),
     (16, b"m", FileError::WrongGame),
@@ -115,7 +115,8 @@ fn cut_files_are_truncated(rt: HostRuntime) {
     }
 }
 
-/// Why a file is refused where a byte is changed: that of today, some of whose records then have a code that none has, or that of version 1.
+/// Returns the reason why a file with one changed byte is refused. In a file of today, and not of version 1, a record may then have
+/// a code that no record has.
 pub(crate) fn why_changed(at: usize, today: bool) -> FileError {
     match at {
         0..=7 => FileError::BadMagic,
@@ -139,7 +140,7 @@ fn each_changed_byte_is_found(rt: HostRuntime) {
     }
 }
 
-// A file with these bits of one record changed, and with a fresh digest: it is read, and its records are not true.
+// Checks a file with these bits of one record changed, and with a fresh digest. It is read, and its records are not true.
 fn expect_false(rt: &impl Abort, alloc: Global, index: u8, bits: u8) {
     let at = 40 + 4 * usize::from(index);
     let low = file_of_countdown().get(at).map_or(0, |byte| byte ^ bits);

@@ -150,9 +150,9 @@ fn mixed_radix_with_a_zero(rt: HostRuntime) {
 fn groups(rt: HostRuntime) {
     expect(&rt, is_group(&SQUARE));
     expect(&rt, is_group(&[[0, 1, 2], [1, 2, 0], [2, 0, 1]]));
-    // A permutation may come twice.
+    // A permutation may occur twice.
     expect(&rt, is_group(&[[0, 1], [0, 1]]));
-    // A cell comes twice.
+    // A cell occurs twice.
     expect(&rt, !is_group(&[[0, 1], [1, 1]]));
     // A cell is past the last.
     expect(&rt, !is_group(&[[0, 1], [1, 2]]));
@@ -171,7 +171,7 @@ fn images(rt: HostRuntime) {
 
 #[test]
 fn least_subsets(rt: HostRuntime) {
-    // The cells 1 and 7 come to the cells 2 and 4, and 2, 8 and 14 to 1, 8 and 11.
+    // The cells 1 and 7 are mapped to the cells 2 and 4, and 2, 8 and 14 to 1, 8 and 11.
     expect_eq(&rt, least_subset(&SQUARE, 0b1000_0010), 0b1_0100);
     expect_eq(
         &rt,
@@ -188,7 +188,7 @@ fn least_arrangements(rt: HostRuntime) {
         least_arrangement(&SQUARE, DIAGONAL, OTHER_DIAGONAL),
         (OTHER_DIAGONAL, DIAGONAL),
     );
-    // The mover on the cells 11 and 15, the opponent on 0 and 14.
+    // The mover has the cells 11 and 15, the opponent 0 and 14.
     let least = least_arrangement(&SQUARE, 0b1000_1000_0000_0000, 0b0100_0000_0000_0001);
     expect_eq(&rt, least, (0b11, 0b1000_0000_0001_0000));
 }

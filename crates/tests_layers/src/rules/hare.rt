@@ -6,7 +6,7 @@ use gm_hare::hare::Hare;
 
 const START: &[u8] = b"dd.d......h d";
 
-// A hound's move has 16 times the number of the point that it leaves, and that of the point to which it goes.
+// The number of a hound's move is 16 times the number of the point that it leaves, plus that of the point to which it goes.
 #[test]
 fn move_numbers_of_hare(rt: HostRuntime) {
     expect(&rt, starts::<Hare>(START));

@@ -14,11 +14,12 @@ use std::process::Abort;
 
 type Ten = Countdown<10>;
 
-// A number, the side that moves there, replies, and what the line leads to: a number, the side that moves there, and how many moves were played.
+// A number, the side that moves there, the replies, and the end of the line: a number, the side that moves there, and the number of
+// moves played.
 type Row = (u64, Side, &'static [u32], Option<(u64, Side, u64)>);
 
-// From 10 the computer's moves are 1, 2, 2 and 1 where the replies are 1, 1 and 2, and the game ends after seven moves, as a win in 7 has to: then no further
-// reply is read. Where it has no more replies the line ends before one.
+// From 10 the computer's moves are 1, 2, 2 and 1 if the replies are 1, 1 and 2. The game ends after seven moves, as a win in 7
+// requires. Then no further reply is read. If there are no more replies, the line ends before a reply.
 const ROWS: [Row; 7] = [
     (10, Side::Computer, &[1, 1, 2], Some((0, Side::You, 7))),
     (10, Side::Computer, &[1, 1, 2, 9], Some((0, Side::You, 7))),
@@ -29,14 +30,14 @@ const ROWS: [Row; 7] = [
     (0, Side::You, &[1], Some((0, Side::You, 0))),
 ];
 
-// Has no effect; its contract states that each tier below tier 0 has a table where tier 0 has one, which has no child tiers.
+// Has no effect. Its contract states that each tier below tier 0 has a table if tier 0 has one. Tier 0 has no child tiers.
 fn all_held(rt: &impl Abort, tables: &Tables<Ten>)
     ensures { AreAllHeld (countdown 10) tables.now 0 }
 {
     assert!(rt; tables.has(0));
 }
 
-// The line of a row.
+// Checks the line of a row.
 fn check_line(rt: &impl Abort, tables: &Tables<Ten>, row: Row)
     requires { AreAllHeld (countdown 10) tables.now 0 }
 {

@@ -11,19 +11,19 @@ use gm_toys::wheel::Wheel;
 use std::alloc::Global;
 use std::process::Abort;
 
-// A game's tiers come in this order.
+// Checks the order of a game's tiers.
 fn check_order<G: Game>(rt: &impl Abort, alloc: Global, tiers: &[u64]) {
     let order = must(rt, TierOrder::<G>::from_initial(alloc));
     expect_eq(rt, order.tiers(), tiers);
 }
 
-// The tiers that one tier reaches come in this order.
+// Checks the order of the tiers that one tier reaches.
 fn check_order_from<G: Game>(rt: &impl Abort, alloc: Global, first: u64, tiers: &[u64]) {
     let order = must(rt, TierOrder::<G>::from_tier(alloc, first));
     expect_eq(rt, order.tiers(), tiers);
 }
 
-// An order has this many tiers, the numbers from 0 on.
+// Checks that an order has this many tiers, numbered from 0.
 fn check_counted_up<G: Game>(
     rt: &impl Abort,
     order: Result<TierOrder<G>, TierError>,
@@ -38,7 +38,7 @@ fn check_counted_up<G: Game>(
     expect_eq(rt, order.tiers().len(), number);
 }
 
-// Why a game has no order.
+// Returns the reason why a game has no order.
 fn refusal<G: Game>(alloc: Global) -> Option<TierError> {
     TierOrder::<G>::from_initial(alloc).err()
 }
@@ -65,7 +65,7 @@ fn games_on_boards_come_from_their_ends(rt: HostRuntime) {
 #[test]
 fn tiers_below_a_tier(rt: HostRuntime) {
     check_order_from::<TacTix<2, false>>(&rt, rt.alloc(), 2, &[0, 1, 2]);
-    // All but the first of a game with one tier too many.
+    // All tiers but the first, of a game with one tier too many.
     let many = TierOrder::<Stairs<1024>>::from_tier(rt.alloc(), 1023);
     check_counted_up(&rt, many, 1024);
 }

@@ -5,7 +5,7 @@ use gm_game::position::Value;
 use gm_game::shown::Shown;
 use gm_tactix::tactix::TacTix;
 
-// How many moves the start has, and how many canonical children.
+// Returns the number of moves of the start, and that of its canonical children.
 fn at_start<G: Shown>() -> (usize, usize) {
     let p = G::initial();
     (G::moves(p).len(), canonical_children::<G>(p).len())
@@ -42,12 +42,12 @@ fn tactix_starts(rt: HostRuntime) {
     expect_eq(&rt, at_start::<TacTix<3, false>>(), (27, 7));
     expect_eq(&rt, at_start::<TacTix<4, false>>(), (64, 11));
     expect_eq(&rt, at_start::<TacTix<5, false>>(), (125, 24));
-    // Any other side plays as 1.
+    // Any other side is treated as 1.
     expect_eq(&rt, at_start::<TacTix<0, false>>(), (1, 1));
     expect_eq(&rt, at_start::<TacTix<6, true>>(), (1, 1));
 }
 
-// How many results the board with this text has: one for each move.
+// Returns the number of results of the board with this text: one for each move.
 fn number_of_results<G: Shown>(text: &[u8]) -> Option<usize> {
     let p = G::read(text)?;
     if !G::is_legal(p) {
@@ -80,7 +80,7 @@ const MOVES: &[(&[u8], &[u8], bool)] = &[
     (b"xxxxxxxxx", b"a1", true),
     (b"xxxxxxxxx", b"a1-a3", true),
     (b"xxxxxxxxx", b"a1-c1", true),
-    // One counter is no range, and a range goes up.
+    // One counter is not a range, and a range goes up.
     (b"xxxxxxxxx", b"a1-a1", false),
     (b"xxxxxxxxx", b"a3-a1", false),
 ];

@@ -9,19 +9,19 @@ use Rattle.gamesman.specs.Plays.{IsFrom, IsFromNone}
 use Rattle.gamesman.proofs.Cut.{kept, one_answer}
 use Rattle.gamesman.proofs.play.play.Goals as goal
 
--- an error
+-- a failed result
 abbrev IsFailed : Result Position Fault → Type 0
 IsFailed (Ok p) = ⊥
 IsFailed (Err fault) = Unit {0}
 
 module _ (r : Rules) (shown : Position → List ℕ) (move_shown : Position → ℕ → List ℕ) (drawn mover : Position → List ℕ) where
-  -- where play starts
+  -- the position from which play starts
   from : (asked : Option (Bor (List ℕ))) (p : Position) → (asked ≡ None → p ≡ r.initial) → IfSome asked (λ text. IsReadAs r shown move_shown text.now p)
       → IsFrom r shown move_shown drawn mover asked p
   from None p start read = start refl
   from (Some text) p start read = read
 
-  -- where it starts nowhere
+  -- there is no such position
   from_none : (asked : Option (Bor (List ℕ))) (fault : Fault) → (asked ≡ None → Err fault ≡ Ok r.initial)
       → IfSome asked (λ text. IsNoPosition r shown move_shown text.now) → IsFromNone r shown move_shown drawn mover asked
   from_none None fault start none = subst IsFailed (start refl) tt

@@ -1,6 +1,7 @@
-use Rattle.std.proofs.Common.{rules, ◌≡◌, ◌≤◌, ◌++◌, ◌+◌, ℕ, List, [], take, drop, length, slice_index_or, subst, sym, arith}
+use Rattle.std.proofs.Common.{rules, ◌≡◌, ◌≤◌, ◌++◌, ◌+◌, take, drop, length, slice_index_or, subst, sym, arith}
 use Rattle.gm_web.specs.Records.{IsTrueTier, AreTrue}
 use Rattle.gm_web.proofs.Trueness.{one_more_at, cut_more, first_of, enough_for, none_left}
+use Rattle.gm_web.proofs.Ordering.{have_more, disordered}
 use Rattle.gm_web.proofs.Refused.{unchecked}
 use Rattle.gm_web.proofs.engine.check_tiers.Goals as goal
 
@@ -10,9 +11,10 @@ loop-tier-preserved g c =
     let ts = c.args.tiers.now in
     let k = c.loop-tier.tier-index in
     let rest = c.loop-tier.rest.now in
-    let (closed, (known, true_, is), later) = c.loop-tier.invariant in
+    let (closed, have, (known, true_, is), later) = c.loop-tier.invariant in
     let back : c.split_at.result.1.now ≡ drop (r.tier_size (slice_index_or ts k 0)) rest = search rules in (
       c.in_ok-check_tier.ensures.closed,
+      have_more c.loop-tier.tables c.check_tier.new.tables ts k c.loop-tier-test.true have c.in_ok-check_tier.ensures.held,
       (
         known ++ c.split_at.result.0.now,
         one_more_at r ts k known c.split_at.result.0.now c.loop-tier-test.true true_ c.in_ok-check_tier.ensures.known,
@@ -23,7 +25,7 @@ loop-tier-preserved g c =
 
 pub returns-then-size-rest-clause-refused : goal.returns-then-size-rest-clause-refused
 returns-then-size-rest-clause-refused g c all =
-    let (closed, known, later) = c.loop-tier.invariant in
+    let (closed, have, known, later) = c.loop-tier.invariant in
     let enough = enough_for g.G.Game.rules c.args.tiers.now c.loop-tier.tier-index c.loop-tier.rest.now c.loop-tier-test.true (later all) in
     let none : ⊥ = search rules in
     none
@@ -34,16 +36,18 @@ returns-in_err-check_tier-clause-refused g c =
     let ts = c.args.tiers.now in
     let k = c.loop-tier.tier-index in
     let rest = c.loop-tier.rest.now in
-    let (closed, known, later) = c.loop-tier.invariant in
+    let (closed, have, known, later) = c.loop-tier.invariant in
     let front : c.split_at.result.0.now ≡ take (r.tier_size (slice_index_or ts k 0)) rest = search rules in
     let is : AreTrue r ts c.args.records.now → IsTrueTier r (slice_index_or ts k 0) c.split_at.result.0.now =
     λ all. subst (IsTrueTier r (slice_index_or ts k 0)) (sym front) (first_of r ts k rest c.loop-tier-test.true (later all)).0 in
-    let why = unchecked r ts c.args.records.now (slice_index_or ts k 0) c.split_at.result.0.now is c.in_err-check_tier.field-0.0 c.in_err-check_tier.ensures.refused in
+    let order = disordered r c.loop-tier.tables ts k c.loop-tier-test.true have in
+    let why = unchecked r ts c.args.records.now c.loop-tier.tables (slice_index_or ts k 0) c.split_at.result.0.now is order c.in_err-check_tier.field-0.0
+    c.in_err-check_tier.ensures.refused in
     search rules
 
 pub returns-clause-refused : goal.returns-clause-refused
 returns-clause-refused g c all =
-    let (closed, known, later) = c.loop-tier.invariant in
+    let (closed, have, known, later) = c.loop-tier.invariant in
     let test = c.loop-tier-test.false in
     let past : length c.args.tiers.now ≤ c.loop-tier.tier-index = omega arith in
     let empty = none_left g.G.Game.rules c.args.tiers.now c.loop-tier.tier-index c.loop-tier.rest.now past (later all) in

@@ -1,5 +1,6 @@
-use Rattle.std.proofs.Common.{◌++◌, ◌∷◌, [], ℕ, List, Ok, Err, OnOk, subst, sym}
+use Rattle.std.proofs.Common.{rules, ◌++◌, ◌∷◌, [], ℕ, List, Ok, Err, OnOk, subst, sym}
 use Rattle.gm_web.specs.Records.{AreTrue}
+use Rattle.gm_web.proofs.Refused.{unadded}
 use Rattle.gm_web.proofs.Trueness.{one_more, from_table}
 use Rattle.gm_web.proofs.engine.solve_and_hold.Goals as goal
 
@@ -11,3 +12,9 @@ returns-clause-known g c tiers known =
     let all = one_more r tiers c.args.bytes.now.items c.args.tier more known tier_is in
     let new = subst (λ (v : List ℕ). AreTrue r (tiers ++ c.args.tier ∷ []) v) (sym is) all in
     elim c.hold.result as (λ o. OnOk o (AreTrue r (tiers ++ c.args.tier ∷ []) c.add.new.bytes.items)) [ Ok u ↦ new | Err e ↦ tt ]
+
+pub returns-in_err-add-clause-refused : goal.returns-in_err-add-clause-refused
+returns-in_err-add-clause-refused g c =
+    let why = unadded g.G.Game.rules c.args.tables.now c.args.tier c.in_ok-table.table c.in_ok-table.ensures.table c.in_ok-table.ensures.tier
+    c.in_err-add.field-0.0 c.in_err-add.ensures.refused in
+    search rules
