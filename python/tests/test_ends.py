@@ -166,7 +166,8 @@ class Ends(WithRoom):
         game.close()
 
     def test_interrupted_while_it_waits(self) -> None:
-        """As by Ctrl-C: the next question is asked of another process."""
+        """As by Ctrl-C: the next question is asked of another process. (A process that is started in the background ignores the signal.)"""
+        self.addCleanup(signal.signal, signal.SIGINT, signal.signal(signal.SIGINT, signal.default_int_handler))
         mark = os.path.join(self.room, "mark")
         script = f"[ -e {mark} ] && exec {GAMESMAN} \"$@\"; touch {mark}; echo '{{\"ready\":true}}'; read line; exec sleep 600"
         with Game("wheel", program=self.program(KNOWS + script)) as game:
