@@ -5,6 +5,7 @@ thread. A level has the positions of the tier and its child tiers that win or lo
 finish the work; they don't depend on `--piece`."""
 import collections
 import csv
+import functools
 import os
 import shutil
 import subprocess
@@ -12,6 +13,13 @@ import subprocess
 from common import GAMESMAN, SECONDS
 
 STRACE = "strace"
+
+
+@functools.lru_cache(None)
+def can_trace():
+    """Returns whether strace is here, and may follow a process on this machine."""
+    words = [STRACE, "-f", "-qq", "-o", os.devnull, "true"]
+    return bool(shutil.which(STRACE)) and subprocess.run(words, capture_output=True, timeout=SECONDS, check=False).returncode == 0
 
 
 def started(room, game, workers, piece):
@@ -53,7 +61,7 @@ def wrong(room, game, workers, piece):
 
 
 def first_wrong(room, *cases):
-    return next((why for case in cases if (why := wrong(room, *case))), None) if shutil.which(STRACE) else None
+    return next((why for case in cases if (why := wrong(room, *case))), None) if can_trace() else None
 
 
 def workers_of_hare(room):
@@ -66,7 +74,7 @@ def workers_of_achi(room):
 
 def workers_of_dao(room):
     why = first_wrong(room, ("dao", 1, 64))
-    if why or not shutil.which(STRACE):
+    if why or not can_trace():
         return why
     few, many = (started(room, "dao", 4, piece) for piece in (4096, 64))
     more = wanted("dao", TIERS["dao"], 4, 64) - wanted("dao", TIERS["dao"], 4, 4096)
