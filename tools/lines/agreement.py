@@ -3,7 +3,7 @@ import subprocess
 
 GAMES = (
     "countdown wheel tactix-1 tactix-2 tactix-3 tactix-4 tactix-1-misere tactix-2-misere tactix-3-misere tactix-4-misere"
-    " tictactoe threemens achi mutorere hare dao ponghauki shisima takeaway tapatan dodgem"
+    " tictactoe threemens achi mutorere hare dao ponghauki shisima takeaway tapatan dodgem krk kqk foxhounds"
 ).split()
 
 # The most columns that a drawing takes.

@@ -1,4 +1,5 @@
-"""All legal positions of the games up to Achi, of Mu Torere, Hare and Hounds and Dodgem beside an independent solver (tools/solver), a process for each game."""
+"""All legal positions of the games up to Achi, of Mu Torere, Hare and Hounds, Dodgem and the chess endings beside an independent solver (tools/solver), a
+process for each game."""
 import os
 import subprocess
 import sys
@@ -10,7 +11,7 @@ SECONDS = 900
 
 GAMES_BESIDE = (
     "countdown wheel tactix-1 tactix-2 tactix-3 tactix-4 tactix-1-misere tactix-2-misere tactix-3-misere tactix-4-misere"
-    " tictactoe threemens achi mutorere hare dodgem"
+    " tictactoe threemens achi mutorere hare dodgem krk kqk"
 ).split()
 
 

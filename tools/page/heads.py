@@ -40,6 +40,15 @@ def of_numbers(title, count):
 
 HARE = "      B---E---H\n    / | \\ | / | \\\n  A---C---F---I---K\n    \\ | / | \\ | /\n      D---G---J"
 
+# The board of chess, whose squares are all alike in it, and their names from the eighth rank down.
+CHESS = "\n".join(["    a b c d e f g h"] + [f"{rank}   A A A A A A A A" for rank in range(8, 0, -1)])
+SQUARES = [f"{file}{rank}" for rank in range(8, 0, -1) for file in "abcdefgh"]
+
+
+def of_chess(title, men="KQRk", sides=("White", "Black")):
+    return head(title, CHESS, SQUARES, men, False, list(sides))
+
+
 HEADS = {
     "countdown": of_numbers("Countdown", 11),
     "wheel": of_numbers("Wheel", 10),
@@ -56,4 +65,7 @@ HEADS = {
     "shisima": head("Shisima", RING, POINTS, "xo", True, COLOURS),
     "tapatan": head("Tapatan", "A---B---C\n| \\ | / |\nD---E---F\n| / | \\ |\nG---H---I", list("123456789"), "xo", True, COLOURS),
     "dodgem": head("Dodgem", square(3), cells(3), "xo", True, COLOURS),
+    "krk": of_chess("King and Rook against King"),
+    "kqk": of_chess("King and Queen against King"),
+    "foxhounds": of_chess("Fox and Hounds", "fh", ["Fox", "Hounds"]),
 }

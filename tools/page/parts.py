@@ -1,4 +1,4 @@
-"""What can be said of a page without a browser: its three parts, its bytes, and that it names no other file."""
+"""What can be said of a page without a browser: its parts, its bytes, and that it names no other file."""
 import html.parser
 import os
 import re
@@ -11,13 +11,44 @@ POLICY = b"default-src 'none'; style-src 'unsafe-inline'; script-src 'unsafe-inl
 ASKS = rb"\bsrc\s*=|url\(|\bfetch\b|\bimport\b|@font-face|XMLHttp|WebSocket|EventSource|sendBeacon|\beval\b|innerHTML"
 
 
-def constant(name):
-    """The text of a raw string of the library."""
+def constants(name):
+    """The texts of the raw strings of a file of the library."""
     with open(os.path.join(SOURCES, f"{name}.rt"), "rb") as it:
-        return re.search(rb'(?s)br##"(.*?)"##;', it.read())[1]
+        return re.findall(rb'(?s)br##"(.*?)"##;', it.read())
 
 
-FRONT, BACK = constant("front"), constant("back")
+FRONT, BACK = b"".join(constants("front")), constants("back")[0]
+STYLE = constants("front")[1]
+VIEWER = b"".join(constants(f"viewer_{name}")[0] for name in ("asking", "boards", "playing", "choosing", "drawing"))
+BETWEEN = constants("engine")[0]
+OPENING, MORE, PARTS = constants("engine_front")
+ENGINE_FRONT = OPENING + STYLE + MORE + PARTS
+ENGINE_POLICY = b"script-src 'unsafe-inline' 'wasm-unsafe-eval'; worker-src blob:; img-src data:; base-uri 'none';\n  form-action 'none'"
+
+
+def engine_parts(page):
+    """The lines of a page with the engine, and the engine's digits."""
+    lines, digits = page[len(ENGINE_FRONT) : len(page) - len(VIEWER)].split(BETWEEN)
+    return lines, digits
+
+
+def wrong_with_engine(page, engine):
+    """Why a page is not made of its parts around its lines and this engine, if so."""
+    if not (page.startswith(ENGINE_FRONT) and page.endswith(VIEWER) and page.count(BETWEEN) == 1):
+        return "it does not begin and end as the library says, or has no engine"
+    lines, digits = engine_parts(page)
+    outside = set(re.findall(rb"\w+://[^\"'`\s]*", page)) - {name.encode() for name in NAMESPACES}
+    checks = {
+        "a byte is not ASCII": page.isascii(),
+        "its data open a tag": b"<" not in lines,
+        "its data end in the middle of a line": lines.endswith(b"\n"),
+        "its engine is not that of the file": digits == engine.rstrip(b"\n"),
+        f"it names {sorted(outside)}": not outside,
+        "it has words of those that ask for a file": not re.search(ASKS, (ENGINE_FRONT + VIEWER).replace(ENGINE_POLICY, b"")),
+        "its policy does not forbid to ask": ENGINE_POLICY in ENGINE_FRONT and b"default-src 'none'" in ENGINE_FRONT,
+    }
+    found = [why for why, well in checks.items() if not well]
+    return found[0] if found else wrong_tags(page)
 
 
 def data_in(page):
@@ -28,7 +59,7 @@ def data_in(page):
 class Balanced(html.parser.HTMLParser):
     """Reads a page, and keeps the tags that don't pair and the names of its elements."""
 
-    VOID = {"meta", "link", "br"}
+    VOID = {"meta", "link", "br", "input"}
 
     def __init__(self):
         super().__init__()

@@ -1,4 +1,5 @@
-"""The page with all games, opened from its file in Chromium: looks, names, addresses, keys, typing, play, puzzles, editing, answers, and no request."""
+"""The page with all games and that of one game, opened from their files in Chromium: looks, names, addresses, keys, typing, play, puzzles, editing, answers, and
+no request; and both without WebAssembly."""
 import os
 import re
 import sys
@@ -14,7 +15,7 @@ READY = """$('fault').textContent !== ''
 || (!$('explorer').hidden && line.length > 0 && rows[line[at].row].moves !== undefined && $('state').textContent !== '')"""
 SOME = """(async () => {
   const texts = [];
-  for (let k = 0; k < 12; k++) texts.push(await ask("random", { game: game.game, byte: 0 }));
+  for (let k = 0; k < 12; k++) texts.push(await ask("random", { game: game.game, record: 0 }));
   return texts;
 })()"""
 SHOWN = """(async text => {
@@ -25,7 +26,7 @@ OVER = "document.documentElement.scrollWidth > document.documentElement.clientWi
 FRESH = """(async () => {
   const took = [];
   for (let k = 0; k < 9; k++) {
-    const text = await ask("random", { game: game.game, byte: 0 }), start = performance.now();
+    const text = await ask("random", { game: game.game, record: 0 }), start = performance.now();
     await find(text);
     took.push(performance.now() - start);
   }
@@ -34,7 +35,7 @@ FRESH = """(async () => {
 # (wide, high, the size of letters in per cent)
 SIZES = ((1280, 960, 100), (360, 780, 100), (1280, 960, 200), (640, 480, 100))
 PRESSED = ("button", "link", "textbox", "combobox", "option")
-GAMES = "tictactoe dao mutorere hare tactix-4 countdown".split()
+GAMES = "tictactoe dao mutorere hare tactix-4 countdown dodgem".split()
 
 
 def worth(value, left):
@@ -42,10 +43,11 @@ def worth(value, left):
 
 
 class Tried:
-    """The page in a browser, with what was found wrong and what was measured."""
+    """The page in a browser, with what was found wrong and what was measured; and the page of Dao with some positions."""
 
-    def __init__(self, file, asked, pictures=None):
+    def __init__(self, file, one, asked, pictures=None):
         self.url, self.asked, self.pictures = f"file://{os.path.abspath(file)}", asked, pictures
+        self.all, self.one = self.url, f"file://{os.path.abspath(one)}"
         self.browser, self.wrong, self.figures = chromium.Browser(), [], {}
 
     def want(self, what, got, wanted=True):
@@ -182,7 +184,7 @@ class Tried:
         self.soon("edited", "edited === null && textAt(at) === '....o....'")
 
     def answers(self):
-        """What the page shows of random positions, beside the program's answers."""
+        """What the page shows of random positions, compared with the program's answers."""
         for game in GAMES:
             self.open(f"#{game}")
             texts = self.js(SOME)
@@ -196,14 +198,48 @@ class Tried:
             self.figures[f"{game} to the first value, ms"] = min(self.open(f"#{game}") for _ in range(3))
             self.figures[f"{game}, a new position, ms"] = round(self.js(FRESH), 1)
 
+    def worths(self):
+        """The counts of a game of one tier, and a position that is picked by them."""
+        self.open("#dodgem")
+        self.want("counts", self.js("[...document.querySelectorAll('#counts em')].reduce((sum, it) => sum + Number(it.textContent.replace(/\\D/g, '')), 0)"), 1377)
+        self.js("document.querySelector('#counts button').click()")
+        self.soon("a position of a worth", "$('say').textContent === 'A random position of this worth.'")
+        self.want("its worth", self.js("valueAt(at) === document.querySelector('#counts .value').textContent"))
+
+    def single(self):
+        """The page of one game: it opens that game, and solves it."""
+        self.url = self.one
+        self.figures["Dao's own page to the first value, ms"] = self.open("#")
+        self.want("the page's game", self.js("[game.game, textAt(at), $('way').hidden, valueAt(at)]"), ["dao", "x..o.xo..ox.o..x", True, "draw"])
+        self.want("a position that it has not", self.js("given.every(row => row[0] !== 'x.x..x.x.o.oo..o')"))
+        self.open("#dao/" + urllib.parse.quote("x.x..x.x.o.oo..o", safe=""))
+        self.want("it solves that", self.js("textAt(at)"), "x.x..x.x.o.oo..o")
+        self.open("#chess")
+        self.soon("another game", "$('say').textContent === 'There is no such position or move.'")
+
     def without(self):
         self.browser.call("Page.addScriptToEvaluateOnNewDocument", source="delete globalThis.WebAssembly")
-        self.browser.open(self.url)
+        self.browser.open(self.all)
         self.want("without WebAssembly", "no WebAssembly" in self.js("$('fault').textContent"))
+        self.browser.open(self.one)
+        self.browser.until("!$('explorer').hidden && $('state').textContent !== ''")
+        self.want("Dao without WebAssembly", "shows the positions that it has been given" in self.js("$('fault').textContent"))
+        self.want("its first position", self.js("[textAt(at), valueAt(at), moves.length]"), ["x..o.xo..ox.o..x", "draw", 12])
+        self.want("what needs the engine", self.js("['random', 'against', 'worths'].every(id => $(id).hidden)"))
+        self.js("play(moves.find(m => m.to !== null))")
+        self.browser.until("at === 1")
+        self.js("go(0)")
+        self.browser.until("at === 0")
+        self.want("given rows", self.js("rows.length"), 50)
+        self.js("begin(49)")
+        self.browser.until("line[0].row === 49")
+        self.js("play(moves.find(m => m.to === null))")
+        self.soon("a move that leads out", "$('say').textContent.endsWith('is not in this page.')")
 
     def run(self):
         try:
-            for part in (self.looks, self.names, self.addresses, self.typing, self.keys, self.play, self.puzzles, self.editing, self.answers, self.times):
+            for part in (self.looks, self.names, self.addresses, self.typing, self.keys, self.play, self.puzzles, self.editing, self.answers, self.worths, self.times,
+                         self.single):
                 part()
                 faults = [it for it in self.browser.faults(self.url) if not str(it).startswith("blob:")]
                 self.want(f"{part.__name__}: what is said on the console or asked for", faults, [])

@@ -4,7 +4,7 @@ import { execFileSync } from "child_process";
 import fs from "fs";
 import os from "os";
 import path from "path";
-import { NAMES, answer, check, load, texts, whole } from "./host.mjs";
+import { NAMES, STEP, answer, check, load, texts, whole } from "./host.mjs";
 const [file, program] = process.argv.slice(2), engine = await load(file), n = BigInt;
 const CHOICES = [0, 1, 2, 4, 8, 16, 32, 62], WORDS = ["canonical", "parents", "symmetric", "best"], SMALL = 2000, SAMPLE = 400, ROOM = 96 << 20;
 const kept = fs.mkdtempSync(path.join(os.tmpdir(), "web-"));
@@ -29,16 +29,20 @@ function said(name, asked, input) {
 }
 // Every canonical position of a small game and all results of its moves; of a large one a sample. And what is no position.
 function linesOf(name) {
-  const count = engine.counts(name).reduce((a, b) => a + b, 0), step = count > SMALL ? Math.floor(count / SAMPLE) : 1;
+  const count = engine.counts(name).reduce((sum, [, of]) => sum + of, 0), step = count > SMALL ? Math.floor(count / SAMPLE) : 1;
   const some = texts(engine, name, step), seen = new Set(some);
   const moves = engine.ask(name, some.map(text => text + "\n").join(""), 0, ROOM).trim().split("\n");
   for (const line of moves) for (const m of JSON.parse(line).moves) seen.add(m.position);
   return [...seen, "no position", "", "x".repeat(70), "\u00e9\u00e9"];
 }
-function compare(name) {
+// A solve by one call writes what a solve tier by tier does.
+function solved(name) {
   const held = engine.solve(name), one = whole(engine, name);
   want(`${name}: tiers by one call`, one.tiers.join(), held.tiers.join());
   want(`${name}: records by one call`, Buffer.compare(Buffer.from(one.bytes), Buffer.from(engine.bytes(name))), 0);
+}
+function compare(name) {
+  solved(name);
   const all = linesOf(name);
   for (const asked of CHOICES) {
     const step = asked ? Math.max(1, all.length >> 6) : 1, some = all.filter((_, k) => k % step === 0);
@@ -48,16 +52,25 @@ function compare(name) {
     want(`${name} ${flagsOf(asked).join(" ")}`, got, wanted);
   }
 }
-// Records with one byte changed, at places all over.
+// Records with one byte changed, the lowest, at places all over.
 function change(name) {
-  const held = engine.games.get(name), tries = Math.min(held.filled, 20);
+  const held = engine.games.get(name), width = held.width, tries = Math.min(held.filled / width, 20);
   want(`${name}: its own records`, check(engine, held), 0);
   for (let k = 0; k < tries; k++) {
-    const at = Math.floor(held.filled * k / tries), bytes = engine.bytes(name), was = bytes[at];
+    const at = Math.floor(held.filled / width * k / tries) * width, bytes = engine.bytes(name), was = bytes[at];
     bytes[at] = was ? was ^ 1 : 32;
     refused(`${name}: record ${at} changed`, check(engine, held), "wrong records");
     engine.bytes(name)[at] = was;
   }
+}
+// A game with records of four bytes: its longest, and rooms and records that are not whole.
+function wide(name) {
+  const held = engine.games.get(name), room = n(engine.room(8192)), out = n(engine.room(held.total));
+  want(`${name}: its longest`, Math.max(...engine.counts(name).map(([record]) => record % STEP)), 32);
+  for (const size of [held.total - 1, held.total + 1, held.total / 4])
+    refused(`${name}: room of ${size} bytes`, answer(engine.x.web_solve_game(held.game, room, 1024n, out, n(size))), "no room");
+  for (const size of [held.total - 1, held.total - 3, held.total - 4])
+    refused(`${name}: ${size} bytes`, answer(engine.x.web_check(held.game, n(held.order), n(held.done), n(held.records), n(size))), "wrong records");
 }
 // Each reason for which nothing is done.
 function reasons() {
@@ -86,6 +99,7 @@ function reasons() {
     ["too little room for a text", answer(x.web_text(game, first, 0n, out, 3n)), "no room"],
     ["a tier before its child tiers", answer(x.web_solve(game, order, 0n, records, 0n, first, out, n(sizes.at(-1)))), "wrong order of tiers"],
     ["the last tier into too little room", answer(x.web_solve(game, order, 0n, records, 0n, tiers[0], out, n(sizes[0] - 1))), "no room"],
+    ["the width of records", [game, NAMES.indexOf("krk"), 77].map(of => Number(x.web_width(of))).join(), "1,4,0"],
   ]) refused(what, got, wanted);
 }
 try {
@@ -93,6 +107,7 @@ try {
     compare(name);
     change(name);
   }
+  wide("krk");
   reasons();
   // A comparison that can't fail is none: with a record turned, the answers differ.
   const bytes = engine.bytes("countdown"), before = engine.ask("countdown", "10\n", 1);

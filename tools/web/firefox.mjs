@@ -8,7 +8,7 @@ const page = path.resolve(process.argv[2]), READY = "($('fault').textContent !==
 const FRESH = `(async () => {
   const took = [];
   for (let k = 0; k < 9; k++) {
-    const text = await ask("random", { game: game.game, byte: 0 }), start = performance.now();
+    const text = await ask("random", { game: game.game, record: 0 }), start = performance.now();
     await find(text);
     took.push(performance.now() - start);
   }

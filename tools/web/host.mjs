@@ -1,7 +1,7 @@
 // The page's engine in node, with what the page has no use for: a solve by one call, and a check.
 import fs from "fs";
 const text = fs.readFileSync(new URL("./page/engine.js", import.meta.url), "utf8");
-export const { Engine, NAMES, REFUSED, REASONS } = new Function(text + "; return { Engine, NAMES, REFUSED, REASONS };")();
+export const { Engine, NAMES, REFUSED, REASONS, STEP } = new Function(text + "; return { Engine, NAMES, REFUSED, REASONS, STEP };")();
 export const load = file => Engine.load(fs.readFileSync(file));
 const n = BigInt;
 
@@ -22,11 +22,11 @@ export function whole(engine, name) {
 export const check = (engine, { game, order, done, records, filled }) => answer(engine.x.web_check(game, n(order), n(done), n(records), n(filled)));
 // The texts of a game's canonical positions, each `step`th one.
 export function texts(engine, name, step) {
-  const { game, tiers, sizes } = engine.games.get(name), bytes = engine.bytes(name).slice(), out = engine.room(64), found = [];
+  const { game, tiers, sizes } = engine.games.get(name), records = engine.kept(name).slice(), out = engine.room(64), found = [];
   let base = 0, met = 0;
   tiers.forEach((tier, t) => {
     for (let i = 0; i < sizes[t]; i++) {
-      if (!bytes[base + i] || met++ % step) continue;
+      if (!records[base + i] || met++ % step) continue;
       const long = engine.number(engine.x.web_text(game, tier, n(i), n(out), 64n));
       found.push(Buffer.from(engine.view(Uint8Array, out, long)).toString("latin1"));
     }

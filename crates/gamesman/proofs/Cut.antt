@@ -14,6 +14,7 @@ use Rattle.gamesman.specs.declared.fault.Fault.{Fault}
 use Rattle.gamesman.specs.declared.fault.Fault.TheVariants.{NoSuchGame, NoSuchPosition, NoSuchPositionInLine, NoSuchTier, NoSuchIndex, NotLegal, NotCanonical}
 use Rattle.gamesman.specs.declared.fault.Fault.TheVariants.{OutOfMemory as NoMemory, NotBuilt, AnotherGames, InputFailed, OutputFailed, OutputClosed}
 use Rattle.gamesman.specs.declared.fault.Fault.TheVariants.{TooMuchInput}
+use Rattle.gamesman.specs.declared.fault.Fault.TheVariants.{EngineNotRead, NotAnEngine}
 use Rattle.gamesman.specs.Outputs.{IsOutputFault, IsCutOff}
 use Rattle.gm_play.specs.PlaceTexts.{IsPlaceText}
 use Rattle.gamesman.specs.Answers.{IsAnsweredBy, IsUnlocatedFor, IsLocatedBy}
@@ -54,6 +55,8 @@ cut_off IsText before after (NotBuilt error) text out is part = absurd out
 cut_off IsText before after (AnotherGames tier) text out is part = absurd out
 cut_off IsText before after InputFailed text out is part = absurd out
 cut_off IsText before after TooMuchInput text out is part = absurd out
+cut_off IsText before after EngineNotRead text out is part = absurd out
+cut_off IsText before after NotAnEngine text out is part = absurd out
 
 -- nothing is built, so nothing is written
 pub unbuilt_cut : (IsText : List ℕ → Type 0) (o : Option (List ℕ)) (r : Rules) (first : ℕ) (fault : Fault) → IsUnbuilt r first fault → IsCutOff IsText o o fault
@@ -71,6 +74,8 @@ unbuilt_cut IsText o r first (NotBuilt error) is = kept o
 unbuilt_cut IsText o r first (AnotherGames tier) is = kept o
 unbuilt_cut IsText o r first InputFailed is = kept o
 unbuilt_cut IsText o r first TooMuchInput is = kept o
+unbuilt_cut IsText o r first EngineNotRead is = kept o
+unbuilt_cut IsText o r first NotAnEngine is = kept o
 
 module _ (r : Rules) (shown : Position → List ℕ) (move_shown : Position → ℕ → List ℕ) (text : List ℕ) where
   pub write_refused : (fault : Fault) → IsOutputFault fault → IsRefused r shown move_shown text fault
@@ -88,6 +93,8 @@ module _ (r : Rules) (shown : Position → List ℕ) (move_shown : Position → 
   write_refused (AnotherGames tier) out = absurd out
   write_refused InputFailed out = absurd out
   write_refused TooMuchInput out = absurd out
+  write_refused EngineNotRead out = absurd out
+  write_refused NotAnEngine out = absurd out
 
   pub unbuilt_refused : (p : Position) → IsReadAs r shown move_shown text p → (fault : Fault) → IsUnbuilt r p.tier fault → IsRefused r shown move_shown text
       fault
@@ -105,6 +112,8 @@ module _ (r : Rules) (shown : Position → List ℕ) (move_shown : Position → 
   unbuilt_refused p read (AnotherGames tier) is = (p, read, is)
   unbuilt_refused p read InputFailed is = absurd is
   unbuilt_refused p read TooMuchInput is = absurd is
+  unbuilt_refused p read EngineNotRead is = absurd is
+  unbuilt_refused p read NotAnEngine is = absurd is
 
 module _ (r : Rules) (shown : Position → List ℕ) (move_shown : Position → ℕ → List ℕ) (text : List ℕ) (IsText : List ℕ → Type 0) (p : Position)
     (read : IsReadAs r shown move_shown text p) (fault : Fault) where
@@ -141,6 +150,8 @@ module _ (r : Rules) (shown : Position → List ℕ) (text : List ℕ) where
   write_unlocated (AnotherGames tier) out = absurd out
   write_unlocated InputFailed out = absurd out
   write_unlocated TooMuchInput out = absurd out
+  write_unlocated EngineNotRead out = absurd out
+  write_unlocated NotAnEngine out = absurd out
 
   -- the write of a position's tier and index failed
   pub unlocated_answer : (fault : Fault) (before after : Option (List ℕ)) (out : List ℕ) → IsOutputFault fault → IsPlaceText r shown text out → AppendsPart

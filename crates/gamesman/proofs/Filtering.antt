@@ -19,6 +19,7 @@ use Rattle.gm_json.proofs.Splitting.{lines_more, lines_next, lines_end, lines_no
 use Rattle.gamesman.specs.declared.fault.Fault.{Fault}
 use Rattle.gamesman.specs.declared.fault.Fault.TheVariants.{NoSuchGame, NoSuchPosition, NoSuchPositionInLine, NoSuchTier, NoSuchIndex, NotLegal, NotCanonical}
 use Rattle.gamesman.specs.declared.fault.Fault.TheVariants.{OutOfMemory, NotBuilt, AnotherGames, InputFailed, OutputFailed, OutputClosed, TooMuchInput}
+use Rattle.gamesman.specs.declared.fault.Fault.TheVariants.{EngineNotRead, NotAnEngine}
 use Rattle.gamesman.specs.Filters.{last_number, AreTexts, AreAnswered, AreBefore, AreAllAnswered, IsStopped, IsLeftOff, IsLineFault, IsOfNone}
 
 module _ (IsText : List ℕ → List ℕ → Type 0) where
@@ -79,6 +80,8 @@ module _ (IsText : List ℕ → List ℕ → Type 0) where
     left_off (AnotherGames tier) is = absurd is
     left_off InputFailed is = absurd is
     left_off TooMuchInput is = absurd is
+    left_off EngineNotRead is = absurd is
+    left_off NotAnEngine is = absurd is
 
   -- ---- one more byte
   module _ (number : ℕ) (kept : List ℕ) (b : ℕ) (input l1 l2 before w1 : Option (List ℕ)) (h : Amid number kept input l1 before w1)

@@ -31,6 +31,7 @@ use Rattle.gm_command.specs.declared.requests.PositionSearch.{PositionSearch}
 use Rattle.gamesman.specs.declared.fault.Fault.{Fault}
 use Rattle.gamesman.specs.declared.fault.Fault.TheVariants.{NoSuchGame, NoSuchPosition, NoSuchPositionInLine, NoSuchTier, NoSuchIndex, NotLegal, NotCanonical}
 use Rattle.gamesman.specs.declared.fault.Fault.TheVariants.{OutOfMemory, NotBuilt, AnotherGames, InputFailed, OutputFailed, OutputClosed, TooMuchInput}
+use Rattle.gamesman.specs.declared.fault.Fault.TheVariants.{EngineNotRead, NotAnEngine}
 use Rattle.gamesman.specs.Games.{GameSpec}
 use Rattle.gamesman.specs.Outputs.{IsOutputFault, IsCutOff}
 use Rattle.gamesman.specs.Told.{IsMemoryFault}
@@ -209,6 +210,8 @@ module _ (g : GameSpec) (asked : PositionSearch) (limit : ℕ) (by_tier : limit_
       left_told (AnotherGames t) told why = absurd (neither why)
       left_told InputFailed told why = absurd (neither why)
       left_told TooMuchInput told why = absurd (neither why)
+      left_told EngineNotRead told why = absurd (neither why)
+      left_told NotAnEngine told why = absurd (neither why)
 
       pub failed_told : ((fault : Fault) → IsMemoryFault fault → IsWhy fault) → (fault : Fault) → IsTierTold g asked tier left b c (Err fault) →
           IsOutputFault fault ⊎ IsMemoryFault fault

@@ -7,3 +7,5 @@ pub mod Checks
 pub mod Analyses
 pub mod Finds
 pub mod Filtering
+pub mod Lined
+pub mod Paged

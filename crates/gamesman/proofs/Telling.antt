@@ -10,6 +10,7 @@ use Rattle.gm_command.specs.declared.requests.TableRequest.TheVariants.{Find, Co
 use Rattle.gamesman.specs.declared.fault.Fault.{Fault}
 use Rattle.gamesman.specs.declared.fault.Fault.TheVariants.{NoSuchGame, NoSuchPosition, NoSuchPositionInLine, NoSuchTier, NoSuchIndex, NotLegal, NotCanonical}
 use Rattle.gamesman.specs.declared.fault.Fault.TheVariants.{OutOfMemory, NotBuilt, AnotherGames, InputFailed, OutputFailed, OutputClosed, TooMuchInput}
+use Rattle.gamesman.specs.declared.fault.Fault.TheVariants.{EngineNotRead, NotAnEngine}
 use Rattle.gamesman.specs.Outputs.{IsCutOff}
 use Rattle.gamesman.specs.Refusals.{IsUnbuilt}
 use Rattle.gamesman.specs.Told.{IsMemoryFault, IsNoTier, IsNoPlace, IsUnknown, IsPut, IsTold}
@@ -34,6 +35,8 @@ module _ (IsText : List ℕ → Type 0) (o : Option (List ℕ)) where
   memory_cut OutputFailed is = absurd is
   memory_cut OutputClosed is = absurd is
   memory_cut TooMuchInput is = absurd is
+  memory_cut EngineNotRead is = absurd is
+  memory_cut NotAnEngine is = absurd is
 
   no_tier_cut : (r : Rules) (tier : ℕ) (fault : Fault) → IsNoTier r tier fault → IsCutOff IsText o o fault
   no_tier_cut r tier NoSuchGame is = absurd is
@@ -50,6 +53,8 @@ module _ (IsText : List ℕ → Type 0) (o : Option (List ℕ)) where
   no_tier_cut r tier OutputFailed is = absurd is
   no_tier_cut r tier OutputClosed is = absurd is
   no_tier_cut r tier TooMuchInput is = absurd is
+  no_tier_cut r tier EngineNotRead is = absurd is
+  no_tier_cut r tier NotAnEngine is = absurd is
 
   no_place_cut : (r : Rules) (tier index : ℕ) (fault : Fault) → IsNoPlace r tier index fault → IsCutOff IsText o o fault
   no_place_cut r tier index NoSuchGame is = absurd is
@@ -66,6 +71,8 @@ module _ (IsText : List ℕ → Type 0) (o : Option (List ℕ)) where
   no_place_cut r tier index OutputFailed is = absurd is
   no_place_cut r tier index OutputClosed is = absurd is
   no_place_cut r tier index TooMuchInput is = absurd is
+  no_place_cut r tier index EngineNotRead is = absurd is
+  no_place_cut r tier index NotAnEngine is = absurd is
 
   unknown_cut : (r : Rules) (tier : ℕ) (fault : Fault) → IsUnknown r tier fault → IsCutOff IsText o o fault
   unknown_cut r tier fault (inl is) = unbuilt_cut IsText o r r.initial.tier fault is
@@ -113,6 +120,8 @@ memory_unbuilt r first InputFailed is = absurd is
 memory_unbuilt r first OutputFailed is = absurd is
 memory_unbuilt r first OutputClosed is = absurd is
 memory_unbuilt r first TooMuchInput is = absurd is
+memory_unbuilt r first EngineNotRead is = absurd is
+memory_unbuilt r first NotAnEngine is = absurd is
 
 -- a text of the right kind that is put is an answer
 pub put_told : (IsText : List ℕ → Type 0) (IsWhy : Fault → Type 0) (text : List ℕ) (before after : Option (List ℕ)) (result : Result ℕ Fault) → IsText text
@@ -148,6 +157,8 @@ left_from IsText o (NotBuilt error) is = is
 left_from IsText o (AnotherGames t) is = is
 left_from IsText o InputFailed is = is
 left_from IsText o TooMuchInput is = is
+left_from IsText o EngineNotRead is = is
+left_from IsText o NotAnEngine is = is
 
 -- the output of `find` if there is no table
 pub find_unsearched : (limit : Option ℕ) (g : GameSpec) (asked : PositionSearch) (o : Option (List ℕ)) (fault : Fault) → IsUnsearched g.rules asked.tier fault

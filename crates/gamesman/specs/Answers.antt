@@ -15,9 +15,9 @@ use Rattle.gm_command.specs.declared.requests.Question.{Question}
 use Rattle.gm_command.specs.declared.requests.Question.TheVariants.{Moves, Why, Line, Show, Diagram, Page}
 use Rattle.gm_command.specs.declared.requests.PositionRequest.{PositionRequest}
 use Rattle.gm_command.specs.declared.requests.Request.{Request}
-use Rattle.gm_command.specs.declared.requests.Request.TheVariants.{List as Names, Of}
+use Rattle.gm_command.specs.declared.requests.Request.TheVariants.{List as Names, Of, AllGames}
 use Rattle.gm_command.specs.declared.requests.GameRequest.{GameRequest}
-use Rattle.gm_command.specs.declared.requests.GameRequest.TheVariants.{Solve, Query, Filter, Explore, Locate, At, Search, Analyse, Check, Play}
+use Rattle.gm_command.specs.declared.requests.GameRequest.TheVariants.{Solve, Query, Filter, Explore, EnginePage, Locate, At, Search, Analyse, Check, Play}
 use Rattle.gamesman.specs.declared.fault.Fault.{Fault}
 use Rattle.gamesman.specs.declared.fault.Fault.TheVariants.{NoSuchGame, NoSuchPosition, OutOfMemory, OutputFailed, OutputClosed}
 use Rattle.gamesman.specs.Games.{GameSpec, game_named}
@@ -32,6 +32,7 @@ use Rattle.gamesman.specs.Analysing.{IsAnalysedBy}
 use Rattle.gamesman.specs.Plays.{IsPlayed}
 use Rattle.gamesman.specs.Listing.{listed}
 use Rattle.gamesman.specs.Told.{IsPut}
+use Rattle.gamesman.specs.Engines.{IsPaged, IsEnginePaged, IsEveryGame}
 
 module _ (r : Rules) (shown : Position → List ℕ) (move_shown : Position → ℕ → List ℕ) (position : List ℕ) where
   -- a question about the position with this text is answered by such a text; if no position has the text, that is the fault
@@ -59,6 +60,10 @@ abbrev pub IsExplored : GameSpec → PositionRequest → Option (List ℕ) → O
 IsExplored g asked before after result = IsAnsweredBy g.rules g.shown g.move_shown (text_asked g asked) (IsTextFor g asked.question (text_asked g asked))
     before after result
 
+-- the page of a legal position is written with an engine that was read
+abbrev pub IsEnginePagedBy : GameSpec → List ℕ → ℕ → Option (List ℕ) → Option (List ℕ) → Result ℕ Fault → Type 0
+IsEnginePagedBy g position limit = IsAnsweredBy g.rules g.shown g.move_shown position (IsPaged g position limit)
+
 -- the reason why a position is not located: no position has this text, or a write failed
 abbrev pub IsUnlocatedFor : Rules → (Position → List ℕ) → List ℕ → Fault → Type 0
 IsUnlocatedFor r shown text NoSuchPosition = IsUnlocated r shown text
@@ -79,6 +84,7 @@ IsAnswered g (Query position kept) input before after result =
     IsAnsweredBy g.rules g.shown g.move_shown position.now (IsQueryLine g.rules g.shown g.move_shown position.now) before after result
 IsAnswered g (Filter asked kept) input before after result = IsFiltered g.rules g.shown g.move_shown asked input before after result
 IsAnswered g (Explore asked kept) input before after result = IsExplored g asked before after result
+IsAnswered g (EnginePage asked kept) input before after result = IsEnginePaged g asked before after result
 IsAnswered g (Locate position) input before after result = IsLocatedBy g.rules g.shown position.now before after result
 IsAnswered g (Solve asked) input before after result = IsSolvedBy g.rules before after result
 IsAnswered g (At tier index kept) input before after result = IsPlaced g.rules g.shown tier index before after result
@@ -97,6 +103,7 @@ IsAnsweredFor (Some g) asked input before after result = IsAnswered g asked inpu
 abbrev pub IsDone : Request → Option (List ℕ) → Option (List ℕ) → Option (List ℕ) → Result ℕ Fault → Type 0
 IsDone (Names all) input before after result = IsPut (listed all) before after result
 IsDone (Of game asked telling) input before after result = IsAnsweredFor (game_named game.now) asked input before after result
+IsDone (AllGames engine) input before after result = IsEveryGame before after result
 IsDone _ input before after result = Unit {0}
 
 -- the status that a line ends with: 1 after a fault

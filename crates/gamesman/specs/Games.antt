@@ -21,17 +21,22 @@ use Rattle.gm_pong.specs.PongRules.{pong, pong_rules}
 use Rattle.gm_shisima.specs.ShisimaRules.{shisima, shisima_rules}
 use Rattle.gm_tapatan.specs.TapatanRules.{tapatan, tapatan_rules}
 use Rattle.gm_dodgem.specs.Dodgem.{dodgem_rules, dodgem_text, dodgem_move}
+use Rattle.gm_pieces.specs.MoveTexts.{position_text as text_by, move_text as move_text_by}
+use Rattle.gm_chess.specs.Chess.{ending, chess_rules, board_text as men_text, step_text as man_move_text}
+use Rattle.gm_foxhounds.specs.FoxHounds.{fox_and_hounds, foxhounds_rules, board_text as chase_text, step_text as chase_move_text}
 use Rattle.gm_tactix.specs.Board.{side_of, tactix_rules}
 use Rattle.gm_tactix.specs.Texts.{position_text as tactix_text, move_text as tactix_move_text}
 use Rattle.gm_draw.specs.Templates.{filled}
+use Rattle.gm_draw.specs.Chessboards.{chess_board, chess_points}
+use Rattle.gm_draw.specs.ChessDrawings.{chess_drawing}
 use Rattle.gm_draw.specs.Rows.{countdown_row, takeaway_row, wheel_row}
 use Rattle.gm_draw.specs.Pictures.{nine_points, dao_board, dodgem_board, tactix_board, ring_board, pong_board, tapatan_board, hare_board}
 use Rattle.gm_draw.specs.Points.{number_points, square_points, ring_points, pong_points, tapatan_points, hare_points, countdown_board, takeaway_board, wheel_board, nine_title}
-use Rattle.gm_draw.specs.Points.{nine_style, tactix_title}
+use Rattle.gm_draw.specs.Points.{nine_style, tactix_title, chess_title}
 use Rattle.gm_draw.specs.Names.{x_moves, player_moves, hare_mover, countdown_naming, takeaway_naming, wheel_naming, nine_naming, dao_naming, dodgem_naming, tactix_naming}
-use Rattle.gm_draw.specs.Names.{ring_naming, pong_naming, tapatan_naming, hare_naming}
+use Rattle.gm_draw.specs.Names.{ring_naming, pong_naming, tapatan_naming, hare_naming, chess_mover, chess_naming, chase_mover, chase_naming}
 use Rattle.gm_draw.specs.declared.pictured.Style.{Style}
-use Rattle.gm_draw.specs.declared.pictured.Style.TheVariants.{Row, Discs, Letters, Counters, Stones}
+use Rattle.gm_draw.specs.declared.pictured.Style.TheVariants.{Row, Discs, Letters, Counters, Stones, Chess, Hounds}
 
 -- a game: its rules, the texts of its positions and of their moves, and how they are drawn
 pub record GameSpec : Type 0 where
@@ -216,6 +221,35 @@ dodgem_spec = record {
   points = square_points 3;
 }
 
+-- king and queen, or king and rook, against king
+abbrev pub chess_spec : Bool → GameSpec
+chess_spec queen = record {
+  rules = chess_rules queen;
+  shown = text_by (ending queen) (men_text queen);
+  move_shown = move_text_by (λ t m. man_move_text queen m);
+  drawn = λ p. chess_drawing (text_by (ending queen) (men_text queen) p);
+  mover = chess_mover;
+  naming = chess_naming queen;
+  style = Chess;
+  title = chess_title queen;
+  board = chess_board;
+  points = chess_points;
+}
+
+abbrev pub foxhounds_spec : GameSpec
+foxhounds_spec = record {
+  rules = foxhounds_rules;
+  shown = text_by fox_and_hounds chase_text;
+  move_shown = move_text_by (λ t m. chase_move_text m);
+  drawn = λ p. chess_drawing (text_by fox_and_hounds chase_text p);
+  mover = chase_mover;
+  naming = chase_naming;
+  style = Hounds;
+  title = codes "Fox and Hounds";
+  board = chess_board;
+  points = chess_points;
+}
+
 -- Tac Tix on a square of side n, by the misère rule or the normal one
 abbrev pub tactix_spec : ℕ → Bool → GameSpec
 tactix_spec n misere = record {
@@ -255,7 +289,15 @@ tactix_named name =
     else (if is_same name (codes "tactix-5") then Some (tactix_spec 5 false)
     else misere_named name))))
 
--- Mu Torere, Dao, Hare and Hounds, Pong Hau K'i, Shisima, or Tac Tix
+-- the games on the board of chess, or Tac Tix
+abbrev pub chess_named : List ℕ → Option GameSpec
+chess_named name =
+    if is_same name (codes "krk") then Some (chess_spec false)
+    else (if is_same name (codes "kqk") then Some (chess_spec true)
+    else (if is_same name (codes "foxhounds") then Some foxhounds_spec
+    else tactix_named name))
+
+-- the games in which men move from point to point, or a game of `chess_named`
 abbrev pub moving_named : List ℕ → Option GameSpec
 moving_named name =
     if is_same name (codes "mutorere") then Some mutorere_spec
@@ -265,7 +307,7 @@ moving_named name =
     else (if is_same name (codes "shisima") then Some shisima_spec
     else (if is_same name (codes "tapatan") then Some tapatan_spec
     else (if is_same name (codes "dodgem") then Some dodgem_spec
-    else tactix_named name))))))
+    else chess_named name))))))
 
 -- a game of three in a row, or a game of `moving_named`
 abbrev pub lines_named : List ℕ → Option GameSpec

@@ -13,4 +13,5 @@ pub mod Checking
 pub mod Analysing
 pub mod Listing
 pub mod Plays
+pub mod Engines
 pub mod Answers

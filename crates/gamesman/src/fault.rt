@@ -44,6 +44,12 @@ pub enum Fault {
     OutputClosed,
     #[error("too much input")]
     TooMuchInput,
+    /// There is no ordinary file with the engine's path, or it can't be read.
+    #[error("engine not read")]
+    EngineNotRead,
+    /// The file has other bytes than digits of base64 and one line end, no digit, or more than `ENGINE_LEN` bytes.
+    #[error("file is no engine")]
+    NotAnEngine,
 }
 
 impl From<AllocError> for Fault {

@@ -1,10 +1,11 @@
 //! The games by their names.
 ghost use Rattle.std.specs.Prelude.{◌≡◌};
-ghost use Rattle.gamesman.specs.Games.{game_spec, game_named, lines_named, moving_named, tactix_named, misere_named};
+ghost use Rattle.gamesman.specs.Games.{game_spec, game_named, lines_named, moving_named, chess_named, tactix_named, misere_named};
 ghost use Rattle.gamesman.specs.Answers.{IsAnswered, IsAnsweredFor};
 
 use crate::analyse::analyse;
 use crate::check::check;
+use crate::engine::engine_page;
 use crate::explore::explore;
 use crate::fault::Fault;
 use crate::filter::filter;
@@ -15,11 +16,13 @@ use crate::query::query;
 use crate::search::search;
 use crate::solve::solve;
 use crate::tables::BuildOptions;
+pub use gm_chess::chess::{Kqk, Krk};
 use gm_command::defaults::{PIECE, SHARDS, WORKERS};
 use gm_command::requests::{GameRequest, TableLocation, Telling};
 pub use gm_dao::dao::Dao;
 pub use gm_dodgem::dodgem::Dodgem;
 use gm_draw::pictured::Pictured;
+pub use gm_foxhounds::foxhounds::FoxHounds;
 pub use gm_hare::hare::Hare;
 pub use gm_morris::games::{Achi, ThreeMens, TicTacToe};
 pub use gm_mutorere::mutorere::MuTorere;
@@ -94,6 +97,9 @@ fn answer<
         GameRequest::Explore { asked, kept } => {
             explore::<G, R, O, E>(rt, asked, options_of(kept, errors, telling), output)
         }
+        GameRequest::EnginePage { asked, kept } => {
+            engine_page::<G, R, O, E>(rt, asked, options_of(kept, errors, telling), output)
+        }
         GameRequest::Search { asked, kept } => {
             search::<G, R, I, O, E>(rt, asked, options_of(kept, errors, telling), input, output)
         }
@@ -152,7 +158,26 @@ fn answer_tactix<
     }
 }
 
-// Answers a request about Mu Torere, Dao, Hare and Hounds, Pong Hau K'i, Shisima, or Tac Tix.
+// Answers a request about a game on the board of chess, or about Tac Tix.
+fn answer_chess<
+    R: Threads + Wait + Clock + Files + Sync + AllocGlobal,
+    I: Read,
+    O: Write,
+    E: Write + Send,
+>(rt: &R, game: &str, asked: GameRequest<'_>, streams: Streams<'_, I, O, E>) -> Result<u8, Fault>
+    ensures answered { IsAnsweredFor (chess_named game.now) asked.entry (I.remaining streams.entry.input.now) (O.contents streams.entry.output.now)
+        (O.contents streams.exit.1.0.now) result }
+    ensures naming { asked.entry ≡ GameRequest.Naming → streams.exit.1.0.now ≡ streams.entry.output.now }
+{
+    match game {
+        "krk" => answer::<Krk, R, I, O, E>(rt, asked, streams),
+        "kqk" => answer::<Kqk, R, I, O, E>(rt, asked, streams),
+        "foxhounds" => answer::<FoxHounds, R, I, O, E>(rt, asked, streams),
+        _ => answer_tactix(rt, game, asked, streams),
+    }
+}
+
+// Answers a request about a game in which men move from point to point, or about a game of `answer_chess`.
 fn answer_moving<
     R: Threads + Wait + Clock + Files + Sync + AllocGlobal,
     I: Read,
@@ -171,7 +196,7 @@ fn answer_moving<
         "shisima" => answer::<Shisima, R, I, O, E>(rt, asked, streams),
         "tapatan" => answer::<Tapatan, R, I, O, E>(rt, asked, streams),
         "dodgem" => answer::<Dodgem, R, I, O, E>(rt, asked, streams),
-        _ => answer_tactix(rt, game, asked, streams),
+        _ => answer_chess(rt, game, asked, streams),
     }
 }
 

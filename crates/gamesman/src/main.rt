@@ -4,6 +4,8 @@
 
 mod analyse;
 mod check;
+mod engine;
+mod every_game;
 mod explore;
 mod fault;
 mod filter;

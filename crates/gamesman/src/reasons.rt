@@ -61,6 +61,7 @@ fn kept_in(asked: GameRequest<'_>) -> Option<(&str, bool)> {
         | GameRequest::Filter { kept, .. }
         | GameRequest::At { kept, .. }
         | GameRequest::Explore { kept, .. }
+        | GameRequest::EnginePage { kept, .. }
         | GameRequest::Search { kept, .. }
         | GameRequest::Analyse { kept }
         | GameRequest::Play { kept, .. } => Some((kept.folder?, kept.read_only)),

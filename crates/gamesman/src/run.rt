@@ -4,6 +4,7 @@ ghost use Rattle.gamesman.specs.Told.{IsPut};
 ghost use Rattle.gamesman.specs.Listing.{listed};
 ghost use Rattle.gamesman.specs.Answers.{IsDone, IsRun};
 
+use crate::engine::page_of_games;
 use crate::fault::Fault;
 use crate::games::{Streams, answer_for};
 use crate::output::{put, put_all};
@@ -34,7 +35,7 @@ const LISTED: &[u8] =
     b"countdown\nwheel\ntactix-1\ntactix-2\ntactix-3\ntactix-4\ntactix-5\ntactix-1-misere\ntactix-2-misere\n\
 tactix-3-misere\ntactix-4-misere\ntactix-5-misere\ntictactoe\nthreemens\nachi\nmutorere\ndao\nhare\n";
 
-const LISTED_LATER: &[u8] = b"ponghauki\nshisima\ntakeaway\ntapatan\ndodgem\n";
+const LISTED_LATER: &[u8] = b"ponghauki\nshisima\ntakeaway\ntapatan\ndodgem\nkrk\nkqk\nfoxhounds\n";
 
 fn list<O: Write>(all: bool, output: &mut O) -> Result<u8, Fault>
     ensures { IsPut (listed all) (O.contents output.old) (O.contents output.new) result }
@@ -70,6 +71,7 @@ fn answer<
     match asked {
         Request::List { all } => list(all, streams.output),
         Request::Of { game, asked, .. } => answer_for(rt, game, asked, streams),
+        Request::AllGames { engine } => page_of_games(rt, engine, streams.output),
         Request::Manual(asked) => write_manual(rt.alloc(), asked, streams.output),
     }
 }
@@ -106,7 +108,7 @@ fn telling_of(asked: Request<'_>, terminal: bool) -> Telling {
             ..
         } if !terminal => Telling::Quiet,
         Request::Of { telling, .. } => telling,
-        Request::List { .. } | Request::Manual(_) => Telling::Quiet,
+        Request::List { .. } | Request::AllGames { .. } | Request::Manual(_) => Telling::Quiet,
     }
 }
 

@@ -1,3 +1,3 @@
 pub mod Chess
-pub mod Rows
+pub mod Runs
 pub mod laws

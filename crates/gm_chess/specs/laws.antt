@@ -2,9 +2,7 @@
 pub mod SquareFacts
 pub mod MenFacts
 pub mod Numbering
-pub mod Few
+pub mod TriedMoves
 pub mod Moves
 pub mod Images
 pub mod Texts
-pub mod RowFacts
-pub mod ChessLaws

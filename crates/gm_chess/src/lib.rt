@@ -2,7 +2,6 @@
 #![tactic(auto)]
 
 pub mod chess;
-pub mod lists;
 pub mod men;
 pub mod squares;
 pub mod text;

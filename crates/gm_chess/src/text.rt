@@ -20,12 +20,10 @@ fn piece_byte(queen: bool) -> u8
 fn man_byte(queen: bool, man: u32) -> u8
     ensures { result ≡ man_char_of queen man }
 {
-    if man == 0 {
-        b'K'
-    } else if man == 1 {
-        piece_byte(queen)
-    } else {
-        b'k'
+    match man {
+        0 => b'K',
+        1 => piece_byte(queen),
+        _ => b'k',
     }
 }
 
@@ -52,43 +50,35 @@ fn side_byte(white_moves: bool) -> u8
 }
 
 /// Returns the text of a board.
-#[tactic(auto, using(crate::specs::laws::Texts::king_below, crate::specs::laws::Texts::foe_below, crate::specs::laws::Texts::piece_below, crate::specs::laws::Texts::bare_is, crate::specs::laws::Texts::armed_is))]
+#[tactic(auto, using(crate::specs::laws::MenFacts::king_below, crate::specs::laws::MenFacts::foe_below, crate::specs::laws::MenFacts::piece_most, crate::specs::laws::Texts::bare_is, crate::specs::laws::Texts::armed_is))]
 pub fn board_text(queen: bool, b: Men) -> Line
     requires { legal queen b ≡ true }
     ensures { result.items ≡ board_text_of queen b }
 {
     let mut line = ArrayVec::new();
-    if b.piece == TAKEN {
-        let text = [
-            b'K',
-            file_byte(b.king),
-            row_byte(b.king),
-            b' ',
-            b'k',
-            file_byte(b.foe),
-            row_byte(b.foe),
-            b' ',
-            side_byte(b.white_moves),
-        ];
-        push_text(&mut line, &text);
-    } else {
-        let text = [
-            b'K',
-            file_byte(b.king),
-            row_byte(b.king),
-            b' ',
-            piece_byte(queen),
-            file_byte(b.piece),
-            row_byte(b.piece),
-            b' ',
-            b'k',
-            file_byte(b.foe),
-            row_byte(b.foe),
-            b' ',
-            side_byte(b.white_moves),
-        ];
-        push_text(&mut line, &text);
+    push_text(&mut line, &[b'K', file_byte(b.king), row_byte(b.king)]);
+    if b.piece != TAKEN {
+        push_text(
+            &mut line,
+            &[
+                b' ',
+                piece_byte(queen),
+                file_byte(b.piece),
+                row_byte(b.piece),
+            ],
+        );
     }
+    push_text(
+        &mut line,
+        &[
+            b' ',
+            b'k',
+            file_byte(b.foe),
+            row_byte(b.foe),
+            b' ',
+            side_byte(b.white_moves),
+        ],
+    );
     line
 }
 

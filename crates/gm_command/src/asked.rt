@@ -5,7 +5,8 @@ use crate::explore_commands::explore_of;
 use crate::manual::{Manual, manual_of};
 use crate::numbers::are_plain;
 use crate::requests::{
-    Filter, GameRequest, PlayRequest, Reading, Request, SolveRequest, TableLocation, Telling,
+    EnginePageRequest, Filter, GameRequest, PlayRequest, Reading, Request, SolveRequest,
+    TableLocation, Telling,
 };
 use crate::search_commands::{asked_of_each, search_of, sought_of};
 use clap::error::ErrorKind;
@@ -133,6 +134,22 @@ fn question_of<'a>(name: &str, inner: &ArgMatches<'a>) -> Option<GameRequest<'a>
     }
 }
 
+// Reads a line of `page`. With an engine the page is another one.
+fn page_of<'a>(inner: &ArgMatches<'a>) -> Option<GameRequest<'a>> {
+    let Some(engine) = inner.get_str("engine") else {
+        return question_of("page", inner);
+    };
+    let asked = EnginePageRequest {
+        position: inner.get_str("POSITION"),
+        limit: inner.get_one::<u32>("limit")? as usize,
+        engine,
+    };
+    Some(GameRequest::EnginePage {
+        asked,
+        kept: kept_of(inner),
+    })
+}
+
 // Reads the request that a command makes of a game.
 fn game_asked_of<'a>(name: &str, inner: &ArgMatches<'a>) -> Option<GameRequest<'a>> {
     match name {
@@ -146,6 +163,7 @@ fn game_asked_of<'a>(name: &str, inner: &ArgMatches<'a>) -> Option<GameRequest<'
         }),
         "check" => check_of(inner),
         "play" => Some(play_of(inner)),
+        "page" => page_of(inner),
         _ => question_of(name, inner),
     }
 }
@@ -169,6 +187,9 @@ fn asked_of<'a>(matches: &ArgMatches<'a>) -> Option<Request<'a>> {
         }),
         Some(("completions", inner)) => Some(Request::Manual(manual_of(inner)?)),
         Some(("man", _)) => Some(Request::Manual(Manual::Man)),
+        Some(("page", inner)) if inner.get_flag("all") => Some(Request::AllGames {
+            engine: inner.get_str("engine")?,
+        }),
         Some((name, inner)) => Some(Request::Of {
             game: inner.get_str("GAME")?,
             asked: game_asked_of(name, inner)?,

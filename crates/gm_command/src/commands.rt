@@ -22,24 +22,28 @@ fn with_number<'a>(
     }
 }
 
-// Adds to an argument its possible values and its relations to other arguments. The text of the help already lists the values.
-fn related<'a>(arg: Arg<'a>, name: &str) -> Result<Arg<'a>, AllocError> {
+// Adds to an argument its possible values and its relations to other arguments of its command. The text of the help already lists
+// the values. An option needs another one only in commands that have both.
+fn related<'a>(arg: Arg<'a>, name: &str, words: &'static [ArgSpec]) -> Result<Arg<'a>, AllocError> {
     let named = match values_of(name) {
         Some(values) => arg.value_parser(values).hide_possible_values(true),
         None => arg,
     };
     let needing = match needed_by(name) {
-        Some(needed) => named.requires_arg(needed)?,
-        None => named,
+        Some(needed) if words.iter().any(|word| word.name == needed) => {
+            named.requires_arg(needed)?
+        }
+        _ => named,
     };
     needing.conflicts_with_all(barred_by(name))
 }
 
 // Makes the argument for a word of a command, without its relations.
-fn arg_of<'a>(alloc: Global, word: &'static ArgSpec) -> Arg<'a> {
+fn arg_of<'a>(alloc: Global, word: &'static ArgSpec) -> Result<Arg<'a>, AllocError> {
     let arg = Arg::new(alloc, word.name).help(word.help);
-    match word.kind {
+    let made = match word.kind {
         ArgKind::Word => arg.required(true).action(ArgAction::Set),
+        ArgKind::Unless { option } => arg.required_unless_present(option)?,
         ArgKind::Optional => arg,
         ArgKind::Flag => arg.long(word.name).action(ArgAction::SetTrue),
         ArgKind::Text { shown, required } => arg
@@ -53,7 +57,8 @@ fn arg_of<'a>(alloc: Global, word: &'static ArgSpec) -> Arg<'a> {
             default,
         } => with_number(arg.long(word.name).value_name(shown), least, most, default),
         ArgKind::Tier => arg.long(word.name).value_parser(value_parser!(u64)),
-    }
+    };
+    Ok(made)
 }
 
 // Adds the words of a command.
@@ -63,7 +68,7 @@ fn add_words<'a>(
     all: &mut Vec<Arg<'a>>,
 ) -> Result<(), AllocError> {
     for word in words {
-        all.push(related(arg_of(alloc, word), word.name)?)?;
+        all.push(related(arg_of(alloc, word)?, word.name, words)?)?;
     }
     Ok(())
 }

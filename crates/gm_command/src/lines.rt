@@ -5,7 +5,8 @@ use crate::defaults::{PIECE_WORD, SHARDS_WORD, WORKERS_WORD};
 use crate::find_line::FIND;
 use crate::place_lines::{AT, LOCATE, WHY};
 use crate::words::{
-    ArgKind, ArgSpec, CommandSpec, DISTINCT, FOLDER, GAME, JSON, MOST, QUIET, READ_ONLY, START,
+    ArgKind, ArgSpec, CommandSpec, DISTINCT, FOLDER, GAME, GAME_OR_ALL, JSON, MOST, QUIET,
+    READ_ONLY, START,
 };
 
 static LIST: CommandSpec = CommandSpec {
@@ -162,9 +163,9 @@ static PAGE: CommandSpec = CommandSpec {
     name: "page",
     alias: None,
     about: "Writes an HTML page for exploring the positions that can be reached from a position, with boards, moves and values",
-    examples: "Examples:\n  gamesman page tictactoe > tictactoe.html\n  gamesman page dao x...x..x.x.o.ooo --limit 500 > puzzle.html",
+    examples: "Examples:\n  gamesman page tictactoe > tictactoe.html\n  gamesman page dao x...x..x.x.o.ooo --limit 500 > puzzle.html\n  gamesman page --all --engine engine.txt > games.html",
     words: &[
-        GAME,
+        GAME_OR_ALL,
         START,
         ArgSpec {
             name: "limit",
@@ -175,6 +176,19 @@ static PAGE: CommandSpec = CommandSpec {
                 default: Some("2000"),
             },
             help: "Put at most this many positions on the page, 1 to 1000000",
+        },
+        ArgSpec {
+            name: "engine",
+            kind: ArgKind::Text {
+                shown: "FILE",
+                required: false,
+            },
+            help: "Put the engine of this file on the page, which then solves the game in the browser",
+        },
+        ArgSpec {
+            name: "all",
+            kind: ArgKind::Flag,
+            help: "Make one page of all games that the engine solves, without tables",
         },
         FOLDER,
         READ_ONLY,

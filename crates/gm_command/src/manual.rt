@@ -51,7 +51,7 @@ fn write_manual(asked: Manual, text: &mut String) -> Result<(), AllocError> {
 // Returns the name of an option, and `None` for a word that is known by its place.
 fn option_of(word: &ArgSpec) -> Option<&'static str> {
     match word.kind {
-        ArgKind::Word | ArgKind::Optional => None,
+        ArgKind::Word | ArgKind::Unless { .. } | ArgKind::Optional => None,
         _ => Some(word.name),
     }
 }
@@ -60,7 +60,7 @@ fn option_of(word: &ArgSpec) -> Option<&'static str> {
 fn has_value(word: &ArgSpec) -> bool {
     match word.kind {
         ArgKind::Text { .. } | ArgKind::Number { .. } | ArgKind::Tier => true,
-        ArgKind::Word | ArgKind::Optional | ArgKind::Flag => false,
+        ArgKind::Word | ArgKind::Unless { .. } | ArgKind::Optional | ArgKind::Flag => false,
     }
 }
 

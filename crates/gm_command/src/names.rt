@@ -26,7 +26,16 @@ pub const NAMES: [&str; 18] = [
 ];
 
 /// The names of the games that were added later. `list --all` prints them after `NAMES`.
-pub const LATER_NAMES: [&str; 5] = ["ponghauki", "shisima", "takeaway", "tapatan", "dodgem"];
+pub const LATER_NAMES: [&str; 8] = [
+    "ponghauki",
+    "shisima",
+    "takeaway",
+    "tapatan",
+    "dodgem",
+    "krk",
+    "kqk",
+    "foxhounds",
+];
 
 /// The likeness above which a name is taken for a misspelled one. The command line uses the same limit for its commands.
 const ALIKE: f64 = 0.7;

@@ -15,6 +15,7 @@ pub(crate) fn needed_by(name: &str) -> Option<&'static str> {
         "read-only" => Some("folder"),
         "no-value" => Some("svg"),
         "seed" => Some("random"),
+        "all" => Some("engine"),
         _ => None,
     }
 }
@@ -22,6 +23,7 @@ pub(crate) fn needed_by(name: &str) -> Option<&'static str> {
 /// Returns the options that this one can't be combined with.
 pub(crate) fn barred_by(name: &str) -> &'static [&'static str] {
     match name {
+        "all" => &["GAME", "POSITION", "limit", "folder", "quiet"],
         "limit" => &["random"],
         "csv" => &["json"],
         "page" => &["json", "show"],

@@ -42,6 +42,17 @@ pub struct PositionRequest<'a> {
     pub question: Question,
 }
 
+/// A request for a page with the engine.
+#[derive(Clone, Copy)]
+pub struct EnginePageRequest<'a> {
+    /// The position that the page begins with. Without one it begins with the game's start.
+    pub position: Option<&'a str>,
+    /// The number of positions that the page has at most.
+    pub limit: usize,
+    /// The file with the engine's text.
+    pub engine: &'a str,
+}
+
 /// A question about each position of the input.
 #[derive(Clone, Copy, Debug, PartialEq, Eq)]
 pub enum Filter {
@@ -165,6 +176,11 @@ pub enum GameRequest<'a> {
         asked: PositionRequest<'a>,
         kept: TableLocation<'a>,
     },
+    /// A page with the engine, which solves the game in a browser.
+    EnginePage {
+        asked: EnginePageRequest<'a>,
+        kept: TableLocation<'a>,
+    },
     Search {
         asked: TableRequest,
         kept: TableLocation<'a>,
@@ -194,6 +210,10 @@ pub enum Request<'a> {
         game: &'a str,
         asked: GameRequest<'a>,
         telling: Telling,
+    },
+    /// The page of all games, with the engine in this file.
+    AllGames {
+        engine: &'a str,
     },
     /// A text about the program.
     Manual(Manual),

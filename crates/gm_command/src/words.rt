@@ -5,6 +5,10 @@
 pub(crate) enum ArgKind {
     /// A required word that is known by its place.
     Word,
+    /// A word that is known by its place, and is required only without this option.
+    Unless {
+        option: &'static str,
+    },
     /// An optional word that is known by its place.
     Optional,
     /// An option without a value.
@@ -49,6 +53,12 @@ pub(crate) const MOST: i64 = 4_294_967_295;
 pub(crate) const GAME: ArgSpec = ArgSpec {
     name: "GAME",
     kind: ArgKind::Word,
+    help: "The name of a game, one of those that `gamesman list` prints",
+};
+
+pub(crate) const GAME_OR_ALL: ArgSpec = ArgSpec {
+    name: "GAME",
+    kind: ArgKind::Unless { option: "all" },
     help: "The name of a game, one of those that `gamesman list` prints",
 };
 

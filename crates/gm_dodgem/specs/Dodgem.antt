@@ -1,9 +1,9 @@
 -- The rules of Dodgem on three by three. A side sees its cars go to the right; the other side sees the board across the diagonal, so that its cars come down.
 -- A crew is a number of two digits: the cells of a side's two cars as it sees them, the lesser first; 9 is a car that is off the board. A board is the crew of
 -- the side to move, and then that of the other: four digits.
-use Rattle.std.specs.Prelude.{ℕ, ◌+◌, ◌*◌, ◌/◌, ◌%◌, Bool, true, false, not, ◌&&◌, ◌||◌, ◌==◌, nat_lt, List, [], ◌∷◌, ◌++◌, map, slice_index_or, codes, Option, None, Some}
+use Rattle.std.specs.Prelude.{ℕ, ◌+◌, ◌*◌, ◌/◌, ◌%◌, Bool, not, ◌&&◌, ◌||◌, ◌==◌, nat_lt, List, [], ◌∷◌, ◌++◌, map, slice_index_or, codes, Option, None, Some}
 use Rattle.std.specs.Prelude.{if◌then◌else◌}
-use Rattle.std.specs.List.{filter, range_with_len}
+use Rattle.std.specs.List.{range_with_len}
 use Rattle.gm_game.specs.declared.position.End.{End}
 use Rattle.gm_game.specs.declared.position.End.TheVariants.{Lose, Win}
 use Rattle.gm_game.specs.declared.position.Position.{Position}

@@ -1,28 +1,20 @@
 //! Dodgem on three by three, with two cars a side (docs/GAMES.md, Dodgem).
-ghost use Rattle.std.specs.Prelude.{◌≡◌, ◌<◌, ◌≤◌, ℕ, true};
-ghost use Rattle.gm_game.specs.Boards.{least_index as least_index_of};
-ghost use Rattle.gm_pieces.specs.MoveGames.{board_game};
+ghost use Rattle.std.specs.Prelude.{◌≡◌, ◌<◌};
 ghost use Rattle.gm_dodgem.specs.Dodgem.{dodgem, dodgem_rules, holds as holds_of, crew_of as crew_of_cars, driven as driven_of, is_crew as is_crew_of};
-ghost use Rattle.gm_dodgem.specs.Dodgem.{across as across_of, leads as leads_of, is_clear as is_clear_of, can_move as can_move_of};
-ghost use Rattle.gm_dodgem.specs.Dodgem.{moved as moved_of, can_have_led_here as was_of, undo as undo_of, end_by_last_move as over_of};
-ghost use Rattle.gm_dodgem.specs.Dodgem.{cell_byte as cell_byte_of, board_text as board_text_of, step_text as step_text_of, dodgem_text, dodgem_move, picked as picked_of, crew_in as crew_in_of};
-ghost use Rattle.gm_small.specs.Small.{small_game, is_board};
-ghost use Rattle.gm_dodgem.specs.laws.DodgemLaws.{lawful, numbered, symmetric, readable};
+ghost use Rattle.gm_dodgem.specs.Dodgem.{across as across_of, leads as leads_of, is_clear as is_clear_of, cell_byte as cell_byte_of, picked as picked_of};
+ghost use Rattle.gm_dodgem.specs.Dodgem.{crew_in as crew_in_of, dodgem_text, dodgem_move};
+ghost use Rattle.gm_dodgem.specs.laws.DodgemLaws.{tables};
 
 use arrayvec::ArrayVec;
 use gm_board::square::square_cell_text;
 use gm_game::game::Game;
-use gm_game::limits::{CHILD_TIERS, NAME};
-use gm_game::position::{End, Position};
+use gm_game::limits::NAME;
+use gm_game::position::End;
 use gm_game::shown::{Line, Shown};
 use gm_game::text::push_text;
-use gm_pieces::lists::MoveLists;
-use gm_pieces::on_boards::OnBoards;
-use gm_pieces::rules::MoveRules;
 use gm_pieces::text::has_mark;
-
-/// How many boards there are, legal or not.
-const SIZE: u64 = 9900;
+use gm_small::on_numbers::OnNumbers;
+use gm_small::rules::SmallRules;
 
 /// A car that is off the board.
 const OFF: u64 = 9;
@@ -32,7 +24,7 @@ const OFF: u64 = 9;
 pub struct DodgemRules;
 
 /// Dodgem. A board is four digits: the cells of the mover's two cars, and those of the other side's.
-pub type Dodgem = OnBoards<DodgemRules>;
+pub type Dodgem = OnNumbers<DodgemRules>;
 
 // Returns whether a crew has a car on a cell.
 #[tactic(auto, unfolding(crate::specs::Dodgem::holds))]
@@ -112,63 +104,6 @@ fn is_clear(theirs: u64, cell: u64) -> bool
     cell == OFF || !holds(theirs, across(cell))
 }
 
-// Returns whether a board is legal.
-#[tactic(auto, unfolding(crate::specs::Dodgem::legal))]
-fn is_legal_number(board: u64) -> bool
-    ensures { result ≡ is_board dodgem board }
-{
-    board < SIZE
-        && (is_crew(board / 100)
-            && (is_crew(board % 100)
-                && (is_clear(board % 100, board / 1000)
-                    && is_clear(board % 100, board / 100 % 10))))
-}
-
-// Returns whether the move with this number could be made if the game were not over.
-#[tactic(auto, unfolding(crate::specs::Dodgem::can_move))]
-fn can_move(board: u64, number: u64) -> bool
-    requires { number < 90 }
-    ensures { result ≡ can_move_of board number }
-{
-    let from = number / 10;
-    let to = number % 10;
-    holds(board / 100, from)
-        && (leads(from, to)
-            && (is_clear(board % 100, to) && (to == OFF || !holds(board / 100, to))))
-}
-
-// Returns the board after a move.
-#[tactic(auto, unfolding(crate::specs::Dodgem::moved))]
-fn moved(board: u64, number: u64) -> u64
-    requires board { board < 10000 }
-    requires number { number < 90 }
-    ensures { result ≡ moved_of board number }
-{
-    board % 100 * 100 + driven(board / 100, number / 10, number % 10)
-}
-
-// Returns whether the move with this number can have led to the board.
-#[tactic(auto, unfolding(crate::specs::Dodgem::can_have_led_here))]
-fn can_have_led_here(board: u64, number: u64) -> bool
-    requires { number < 90 }
-    ensures { result ≡ was_of board number }
-{
-    let from = number / 10;
-    let to = number % 10;
-    holds(board % 100, to)
-        && (leads(from, to) && (is_clear(board / 100, from) && !holds(board % 100, from)))
-}
-
-// Returns the board before the move with this number.
-#[tactic(auto, unfolding(crate::specs::Dodgem::undo))]
-fn undo(board: u64, number: u64) -> u64
-    requires board { board < 10000 }
-    requires number { number < 90 }
-    ensures { result ≡ undo_of board number }
-{
-    driven(board % 100, number % 10, number / 10) * 100 + board / 100
-}
-
 // Returns the byte of a cell.
 #[tactic(auto, unfolding(crate::specs::Dodgem::cell_byte))]
 fn cell_byte(board: u64, cell: u64) -> u8
@@ -207,104 +142,24 @@ fn crew_in(text: &[u8], mark: u8, places: &[u32; 9]) -> u64
     ensures value { result ≡ crew_in_of text.now mark places.now }
     ensures small { result < 100 }
 {
-    let first = picked(
-        text,
-        mark,
-        places[0],
-        0,
-        picked(
-            text,
-            mark,
-            places[1],
-            1,
-            picked(
-                text,
-                mark,
-                places[2],
-                2,
-                picked(
-                    text,
-                    mark,
-                    places[3],
-                    3,
-                    picked(
-                        text,
-                        mark,
-                        places[4],
-                        4,
-                        picked(
-                            text,
-                            mark,
-                            places[5],
-                            5,
-                            picked(
-                                text,
-                                mark,
-                                places[6],
-                                6,
-                                picked(
-                                    text,
-                                    mark,
-                                    places[7],
-                                    7,
-                                    picked(text, mark, places[8], 8, OFF),
-                                ),
-                            ),
-                        ),
-                    ),
-                ),
-            ),
-        ),
-    );
-    let last = picked(
-        text,
-        mark,
-        places[8],
-        8,
-        picked(
-            text,
-            mark,
-            places[7],
-            7,
-            picked(
-                text,
-                mark,
-                places[6],
-                6,
-                picked(
-                    text,
-                    mark,
-                    places[5],
-                    5,
-                    picked(
-                        text,
-                        mark,
-                        places[4],
-                        4,
-                        picked(
-                            text,
-                            mark,
-                            places[3],
-                            3,
-                            picked(
-                                text,
-                                mark,
-                                places[2],
-                                2,
-                                picked(
-                                    text,
-                                    mark,
-                                    places[1],
-                                    1,
-                                    picked(text, mark, places[0], 0, OFF),
-                                ),
-                            ),
-                        ),
-                    ),
-                ),
-            ),
-        ),
-    );
+    let first = picked(text, mark, places[8], 8, OFF);
+    let first = picked(text, mark, places[7], 7, first);
+    let first = picked(text, mark, places[6], 6, first);
+    let first = picked(text, mark, places[5], 5, first);
+    let first = picked(text, mark, places[4], 4, first);
+    let first = picked(text, mark, places[3], 3, first);
+    let first = picked(text, mark, places[2], 2, first);
+    let first = picked(text, mark, places[1], 1, first);
+    let first = picked(text, mark, places[0], 0, first);
+    let last = picked(text, mark, places[0], 0, OFF);
+    let last = picked(text, mark, places[1], 1, last);
+    let last = picked(text, mark, places[2], 2, last);
+    let last = picked(text, mark, places[3], 3, last);
+    let last = picked(text, mark, places[4], 4, last);
+    let last = picked(text, mark, places[5], 5, last);
+    let last = picked(text, mark, places[6], 6, last);
+    let last = picked(text, mark, places[7], 7, last);
+    let last = picked(text, mark, places[8], 8, last);
     if first == last {
         10 * first + 9
     } else {
@@ -312,66 +167,32 @@ fn crew_in(text: &[u8], mark: u8, places: &[u32; 9]) -> u64
     }
 }
 
-impl MoveRules for DodgemRules {
-    ghost Cells = { ℕ };
-
-    ghost Symmetry = { ℕ };
-
-    ghost game = { small_game dodgem };
-
-    type Board = u64;
-
-    ghost cells = { λ b. b };
-
-    ghost text = { board_text_of };
-
-    ghost step_text = { λ t m. step_text_of m };
+impl SmallRules for DodgemRules {
+    ghost game = { dodgem };
 
     fn name() -> [u8; NAME] {
         *b"dodgem\0\0\0\0\0\0\0\0\0\0"
     }
 
-    fn initial() -> Position {
-        Position {
-            tier: 0,
-            index: 3636,
-        }
+    fn size() -> u64 {
+        9900
     }
 
-    fn tier_size(tier: u64) -> u64 {
-        if tier == 0 { SIZE } else { 0 }
-    }
-
-    fn child_tiers(_tier: u64) -> ArrayVec<u64, CHILD_TIERS> {
-        ArrayVec::new()
-    }
-
-    fn tier_rank(_tier: u64) -> u64 {
-        0
-    }
-
-    fn move_number_bound(_tier: u64) -> u32 {
+    fn bound() -> u32 {
         90
     }
 
-    fn board(_tier: u64, index: u64) -> u64 {
-        index
+    fn start() -> u64 {
+        3636
     }
 
+    #[tactic(auto, unfolding(crate::specs::Dodgem::legal))]
     fn is_legal_board(board: u64) -> bool {
-        is_legal_number(board)
-    }
-
-    fn tier(_board: u64) -> u64 {
-        0
-    }
-
-    fn index(board: u64) -> u64 {
-        board
-    }
-
-    fn least_index(board: u64) -> u64 {
-        board
+        board < Self::size()
+            && (is_crew(board / 100)
+                && (is_crew(board % 100)
+                    && (is_clear(board % 100, board / 1000)
+                        && is_clear(board % 100, board / 100 % 10))))
     }
 
     #[tactic(auto, unfolding(crate::specs::Dodgem::end_by_last_move))]
@@ -383,31 +204,39 @@ impl MoveRules for DodgemRules {
         }
     }
 
-    fn end_if_no_move(_board: u64) -> End {
+    fn end_if_no_move() -> End {
         End::Win
     }
 
-    fn can_move(board: u64, number: u32) -> bool {
-        can_move(board, u64::from(number))
+    #[tactic(auto, unfolding(crate::specs::Dodgem::can_move))]
+    fn can_move(board: u64, number: u64) -> bool {
+        let from = number / 10;
+        let to = number % 10;
+        holds(board / 100, from)
+            && (leads(from, to)
+                && (is_clear(board % 100, to) && (to == OFF || !holds(board / 100, to))))
     }
 
-    #[tactic(auto, using(crate::specs::laws::DodgemLaws::legal_below))]
-    fn moved(board: u64, number: u32) -> u64 {
-        moved(board, u64::from(number))
+    #[tactic(auto, unfolding(crate::specs::Dodgem::moved))]
+    fn moved(board: u64, number: u64) -> u64 {
+        board % 100 * 100 + driven(board / 100, number / 10, number % 10)
     }
 
-    fn can_have_led_here(_tier: u64, board: u64, number: u32) -> bool {
-        can_have_led_here(board, u64::from(number))
+    #[tactic(auto, unfolding(crate::specs::Dodgem::can_have_led_here))]
+    fn can_have_led_here(board: u64, number: u64) -> bool {
+        let from = number / 10;
+        let to = number % 10;
+        holds(board % 100, to)
+            && (leads(from, to) && (is_clear(board / 100, from) && !holds(board % 100, from)))
     }
 
-    #[tactic(auto, using(crate::specs::laws::DodgemLaws::legal_below))]
-    fn undo(_tier: u64, board: u64, number: u32) -> u64 {
-        undo(board, u64::from(number))
+    #[tactic(auto, unfolding(crate::specs::Dodgem::undo))]
+    fn undo(board: u64, number: u64) -> u64 {
+        driven(board % 100, number % 10, number / 10) * 100 + board / 100
     }
 
     #[tactic(auto, unfolding(crate::specs::Dodgem::board_text))]
     fn board_text(board: u64) -> Line {
-        let mut line = ArrayVec::new();
         let cells = [
             cell_byte(board, 0),
             cell_byte(board, 1),
@@ -419,38 +248,31 @@ impl MoveRules for DodgemRules {
             cell_byte(board, 7),
             cell_byte(board, 8),
         ];
+        let mut line = ArrayVec::new();
         push_text(&mut line, &cells);
         line
     }
 
-    #[tactic(auto, using(crate::specs::laws::DodgemLaws::told), unfolding(crate::specs::Dodgem::number_in))]
-    fn board_in(bytes: &[u8]) -> u64 {
-        crew_in(bytes, b'x', &[0, 1, 2, 3, 4, 5, 6, 7, 8]) * 100
-            + crew_in(bytes, b'o', &[0, 3, 6, 1, 4, 7, 2, 5, 8])
+    #[tactic(auto, unfolding(crate::specs::Dodgem::number_in))]
+    fn board_in(text: &[u8]) -> u64 {
+        crew_in(text, b'x', &[0, 1, 2, 3, 4, 5, 6, 7, 8]) * 100
+            + crew_in(text, b'o', &[0, 3, 6, 1, 4, 7, 2, 5, 8])
     }
 
     #[tactic(auto, unfolding(crate::specs::Dodgem::step_text))]
-    fn move_text(_board: u64, number: u32) -> Line {
+    fn move_text(number: u64) -> Line {
         let mut line = ArrayVec::new();
-        push_text(&mut line, &square_cell_text(3, number / 10));
+        push_text(&mut line, &square_cell_text(3, (number / 10) as u32));
         let to = number % 10;
-        if u64::from(to) != OFF {
+        if to != OFF {
             push_text(&mut line, b"-");
-            push_text(&mut line, &square_cell_text(3, to));
+            push_text(&mut line, &square_cell_text(3, to as u32));
         }
         line
     }
 
-    ghost lawful = { lawful };
-
-    ghost numbered = { numbered };
-
-    ghost symmetric = { symmetric };
-
-    ghost readable = { readable };
+    ghost tables = { tables };
 }
-
-impl MoveLists for DodgemRules {}
 
 /// Dodgem implements the rules and notation in `specs/`.
 pub fn dodgem_is()

@@ -1,5 +1,5 @@
 -- Diagrams: SVG documents of positions, byte by byte.
-use Rattle.std.specs.Prelude.{◌≡◌, ℕ, ◌+◌, ◌-◌, ◌*◌, ◌/◌, max, Bool, true, false, ◌||◌, ◌==◌, List, [], ◌∷◌, ◌++◌, count_by, nat_lt, slice_index, codes}
+use Rattle.std.specs.Prelude.{◌≡◌, ℕ, ◌+◌, ◌-◌, ◌*◌, ◌/◌, max, Bool, true, false, ◌||◌, ◌&&◌, ◌==◌, List, [], ◌∷◌, ◌++◌, count_by, nat_lt, slice_index, codes}
 use Rattle.std.specs.Prelude.{if◌then◌else◌}
 use Rattle.std.specs.Fmt.{decimal}
 use Rattle.std.specs.List.{flat_map}
@@ -10,8 +10,9 @@ use Rattle.gm_game.specs.Texts.{text_of}
 use Rattle.gm_game.specs.Values.{IsTrueValue}
 use Rattle.gm_play.specs.PlayTexts.{IsReadAs}
 use Rattle.gm_draw.specs.declared.pictured.Style.{Style}
-use Rattle.gm_draw.specs.declared.pictured.Style.TheVariants.{Row, Crosses, Counters, Stones, Discs, Letters}
+use Rattle.gm_draw.specs.declared.pictured.Style.TheVariants.{Row, Crosses, Counters, Stones, Discs, Letters, Chess, Hounds}
 use Rattle.gm_draw.specs.Templates.{is_slot}
+use Rattle.gm_draw.specs.Chessboards.{is_dark, man_at}
 
 -- ---- texts in XML
 -- a byte of a text, with `<` and `&` replaced by their character references
@@ -59,6 +60,8 @@ has_cells Counters = true
 has_cells Stones = true
 has_cells Discs = false
 has_cells Letters = false
+has_cells Chess = true
+has_cells Hounds = true
 
 -- whether men are on points
 abbrev pub has_points : Style → Bool
@@ -68,10 +71,23 @@ has_points Counters = false
 has_points Stones = false
 has_points Discs = true
 has_points Letters = true
+has_points Chess = false
+has_points Hounds = false
+
+-- whether men are on the squares of a chess board
+abbrev pub has_squares : Style → Bool
+has_squares Chess = true
+has_squares Hounds = true
+has_squares style = false
+
+-- a square, filled if it is a dark square of a chess board
+unfoldable pub square_of : Style → ℕ → ℕ → List ℕ
+square_of style x y =
+    path (x - 20) (y - 20) (if has_squares style && is_dark x y then codes "h40v40h-40z\" fill=\"#ccc\"/>\n" else codes "h40v40h-40z\"/>\n")
 
 -- the strokes and squares under the men
 unfoldable pub under_at : Style → ℕ → ℕ → ℕ → List ℕ
-under_at style x y b = if is_slot b then (if has_cells style then path (x - 20) (y - 20) (codes "h40v40h-40z\"/>\n") else []) else stroke_of x y b
+under_at style x y b = if is_slot b then (if has_cells style then square_of style x y else []) else stroke_of x y b
 
 -- a cross or a nought; nothing for any other byte
 unfoldable pub cross_of : ℕ → ℕ → ℕ → List ℕ
@@ -107,6 +123,21 @@ letter_of x y b =
     (codes "d") else
     []
 
+-- whether a letter is of the first side: a capital in chess, the fox in Fox and Hounds
+abbrev pub is_first : Style → ℕ → Bool
+is_first Hounds b = b == 102
+is_first style b = is_slot b
+
+-- a man with its letter on a square of a chess board: black on white for the first side, white on black for the other
+abbrev pub letter_on : ℕ → ℕ → ℕ → Bool → List ℕ
+letter_on x y b first =
+    if first then circle x y (codes "\" r=\"16\" fill=\"#fff\"/>\n") ++ words_at x (y + 7) (codes "\" stroke=\"none\" fill=\"#000\">") (b ∷ [])
+    else circle x y (codes "\" r=\"16\" fill=\"#000\"/>\n") ++ words_at x (y + 7) (codes "\" stroke=\"none\" fill=\"#fff\">") (b ∷ [])
+
+-- a man of chess or of Fox and Hounds; nothing on an empty square
+unfoldable pub chessman_of : Style → ℕ → ℕ → ℕ → List ℕ
+chessman_of style x y b = if b == 0 then [] else letter_on x y b (is_first style b)
+
 -- the man of a byte of the position's text; nothing if the byte is not a man
 abbrev pub man_of : Style → ℕ → ℕ → ℕ → List ℕ
 man_of Row x y b = []
@@ -115,6 +146,8 @@ man_of Counters x y b = counter_of x y b
 man_of Stones x y b = stone_of x y b
 man_of Discs x y b = disc_of x y b
 man_of Letters x y b = letter_of x y b
+man_of Chess x y b = chessman_of Chess x y b
+man_of Hounds x y b = chessman_of Hounds x y b
 
 -- a point of the net, under its man
 abbrev pub point_of : Style → ℕ → ℕ → List ℕ
@@ -132,9 +165,13 @@ label_y style y = if has_points style then (if y == 40 then 38 else y + 6) else 
 abbrev pub label_of : Style → ℕ → ℕ → ℕ → List ℕ
 label_of style x y b = words_at (label_x style x) (label_y style y) (codes "\" stroke=\"none\">") (b ∷ [])
 
+-- the byte of the man in a slot: the letter of the square at this point, or the byte of the position's text for which the slot stands
+abbrev pub slot_byte : Style → List ℕ → ℕ → ℕ → ℕ → ℕ
+slot_byte style text x y b = if has_squares style then man_at text x y else slice_index text (b - 65)
+
 -- the men in their places, over strokes and squares, and the names of rows and columns
 unfoldable pub over_at : Style → List ℕ → ℕ → ℕ → ℕ → List ℕ
-over_at style text x y b = if is_slot b then point_of style x y ++ man_of style x y (slice_index text (b - 65)) else if is_stroke b then [] else label_of
+over_at style text x y b = if is_slot b then point_of style x y ++ man_of style x y (slot_byte style text x y b) else if is_stroke b then [] else label_of
     style x y b
 
 -- ---- a board

@@ -6,7 +6,9 @@ pub mod Names
 pub mod Points
 pub mod Pictured
 pub mod ShowTexts
+pub mod Chessboards
 pub mod Diagrams
+pub mod ChessDrawings
 pub mod Spots
 pub mod Sights
 pub mod laws

@@ -4,6 +4,8 @@ use Rattle.gm_game.specs.declared.position.Position.{Position}
 use Rattle.gm_morris.specs.declared.variant.Variant.{Variant}
 use Rattle.gm_morris.specs.declared.variant.Variant.TheVariants.{TicTacToe, ThreeMens, Achi}
 use Rattle.gm_hare.specs.Board.{hunt_board}
+use Rattle.gm_chess.specs.Chess.{board as men_at}
+use Rattle.gm_foxhounds.specs.FoxHounds.{board as chase_at}
 
 -- the side to move, in games whose positions are seen from the side to move
 abbrev pub x_moves : Position → List ℕ
@@ -53,6 +55,29 @@ dodgem_naming = square_naming ++ codes "Your cars go to the right, up or down. A
 abbrev pub hare_naming : List ℕ
 hare_naming =
     codes "Points are named so:\n     T1--T2--T3\n   / | \\ | / | \\\n  L--M1--M2--M3--R\n   \\ | / | \\ | /\n     B1--B2--B3\nA position is L T1 M1 B1 T2 M2 B2 T3 M3 B3 R:\nd for a hound, h for the hare, . where it is\nempty; then a space, and d or h for who moves.\nA move is from one point to another.\n"
+
+-- the side to move in a chess ending
+abbrev pub chess_side : Bool → List ℕ
+chess_side white = if white then codes "White" else codes "Black"
+
+abbrev pub chess_mover : Position → List ℕ
+chess_mover p = chess_side (men_at p.tier p.index).white_moves
+
+unfoldable pub chess_naming : Bool → List ℕ
+chess_naming queen =
+    codes "A square is its file and its rank, as e4.\nA position is White's king and " ++ (if queen then codes "queen, as Ke1 Qa1,\n" else codes "rook, as Ke1 Ra1,\n")
+    ++ codes "Black's king, as ke8, and who moves: w or b.\nA move is a man's letter, its square, - and the\nsquare that it goes to.\n"
+
+-- the side to move in Fox and Hounds
+abbrev pub chase_side : Bool → List ℕ
+chase_side hounds = if hounds then codes "hounds" else codes "fox"
+
+abbrev pub chase_mover : Position → List ℕ
+chase_mover p = chase_side (chase_at p.index).hounds_move
+
+abbrev pub chase_naming : List ℕ
+chase_naming =
+    codes "A square is its file and its rank, as e3.\nA position is the fox, as fd8, and the hounds, as\nha1, from the first rank up; then f or h for who\nmoves. A move is from one square to another.\n"
 
 abbrev pub countdown_naming : List ℕ
 countdown_naming = codes "A position is a number. A move is how much is\ntaken from it.\n"

@@ -69,6 +69,9 @@ nine_style Achi = Discs
 unfoldable pub tactix_title : ℕ → Bool → List ℕ
 tactix_title s misere = codes "Tac Tix " ++ (48 + s) ∷ codes " by " ++ (48 + s) ∷ (if misere then codes ", misere" else [])
 
+unfoldable pub chess_title : Bool → List ℕ
+chess_title queen = if queen then codes "King and Queen against King" else codes "King and Rook against King"
+
 -- ---- names and moves
 -- whether a name is not empty and has no `-`
 abbrev pub is_name : List ℕ → Bool

@@ -6,6 +6,8 @@
 #![tactic(auto)]
 
 pub mod boards;
+mod chessboard;
+pub mod chessmen;
 pub mod diagram;
 pub mod drawn;
 mod frame;

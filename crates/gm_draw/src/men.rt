@@ -1,6 +1,6 @@
 //! The men of a diagram, each at its point.
 ghost use Rattle.std.specs.Prelude.{◌≡◌, ◌≤◌, ◌++◌, ◌+◌, OnOk};
-ghost use Rattle.gm_draw.specs.Diagrams.{circle, words_at, cross_of, counter_of, stone_of, disc_of, letter_of, man_of};
+ghost use Rattle.gm_draw.specs.Diagrams.{circle, words_at, cross_of, counter_of, stone_of, disc_of, letter_of, is_first as is_first_spec, letter_on, chessman_of, man_of};
 
 use crate::pictured::Style;
 use crate::svg::{push_circle, push_path, push_words};
@@ -142,6 +142,66 @@ fn push_letter(text: &mut Vec<u8>, x: u64, y: u64, byte: u8) -> Result<(), Alloc
     }
 }
 
+// Tests whether a letter is of the side that is drawn white.
+fn is_first(style: Style, byte: u8) -> bool
+    ensures { result ≡ is_first_spec style byte }
+{
+    match style {
+        Style::Hounds => byte == b'f',
+        _ => byte.is_ascii_uppercase(),
+    }
+}
+
+// Appends a man with its letter on a square of a chess board.
+fn push_letter_on(
+    text: &mut Vec<u8>,
+    x: u64,
+    y: u64,
+    byte: u8,
+    first: bool,
+) -> Result<(), AllocError>
+    requires { y ≤ 16000 }
+    ensures { OnOk result (text.new.items ≡ text.old.items ++ letter_on x y byte first) }
+{
+    if first {
+        push_lettered(
+            text,
+            x,
+            y,
+            b"\" r=\"16\" fill=\"#fff\"/>\n",
+            b"\" stroke=\"none\" fill=\"#000\">",
+            &[byte],
+        )
+    } else {
+        push_lettered(
+            text,
+            x,
+            y,
+            b"\" r=\"16\" fill=\"#000\"/>\n",
+            b"\" stroke=\"none\" fill=\"#fff\">",
+            &[byte],
+        )
+    }
+}
+
+// Appends a man of chess or of Fox and Hounds.
+#[tactic(auto, unfolding(crate::specs::Diagrams::chessman_of))]
+fn push_chessman(
+    text: &mut Vec<u8>,
+    style: Style,
+    x: u64,
+    y: u64,
+    byte: u8,
+) -> Result<(), AllocError>
+    requires { y ≤ 16000 }
+    ensures { OnOk result (text.new.items ≡ text.old.items ++ chessman_of style x y byte) }
+{
+    if byte == 0 {
+        return Ok(());
+    }
+    push_letter_on(text, x, y, byte, is_first(style, byte))
+}
+
 /// Appends the man of a byte of the position's text, if there is one.
 pub(crate) fn push_man(
     text: &mut Vec<u8>,
@@ -162,5 +222,6 @@ pub(crate) fn push_man(
         Style::Stones => push_stone(text, x, y, byte),
         Style::Discs => push_disc(text, x, y, byte),
         Style::Letters => push_letter(text, x, y, byte),
+        Style::Chess | Style::Hounds => push_chessman(text, style, x, y, byte),
     }
 }

@@ -23,6 +23,11 @@ pub enum Style {
     Discs,
     /// `d` and `h` on the points of a net; the last byte of the text is the side to move.
     Letters,
+    /// Letters on the squares of a chess board: capitals for White, small letters for Black. A position's text has a word for each
+    /// man, its letter and its square; the last byte is the side to move.
+    Chess,
+    /// The same with `f`, the fox, and `h`, a hound.
+    Hounds,
 }
 
 /// A game whose board any program can draw.

@@ -2,10 +2,11 @@
 ghost use Rattle.std.specs.Prelude.{◌≡◌, ◌≤◌, ◌++◌, ◌+◌, ◌-◌, slice_index, length, OnOk};
 ghost use Rattle.std.specs.Fmt.{decimal};
 ghost use Rattle.gm_draw.specs.Diagrams.{at_point, path, circle, words_at, stroke_of, has_cells as has_cells_spec, has_points as has_points_spec};
-ghost use Rattle.gm_draw.specs.Diagrams.{is_stroke as is_stroke_spec};
+ghost use Rattle.gm_draw.specs.Diagrams.{is_stroke as is_stroke_spec, has_squares as has_squares_spec, square_of, slot_byte as slot_byte_spec};
 ghost use Rattle.gm_draw.specs.Diagrams.{under_at, over_at, point_of, label_x as label_x_spec, label_y as label_y_spec, label_of, next_x as next_x_spec};
 ghost use Rattle.gm_draw.specs.Diagrams.{next_y as next_y_spec, spread};
 
+use crate::chessboard::{is_dark, man_at};
 use crate::drawn::DRAWING;
 use crate::markup::push_escaped;
 use crate::men::push_man;
@@ -95,7 +96,17 @@ fn push_stroke(text: &mut Vec<u8>, x: u64, y: u64, byte: u8) -> Result<(), Alloc
 pub(crate) fn has_cells(style: Style) -> bool
     ensures { result ≡ has_cells_spec style }
 {
-    matches!(style, Style::Counters | Style::Stones)
+    matches!(
+        style,
+        Style::Counters | Style::Stones | Style::Chess | Style::Hounds
+    )
+}
+
+// Tests whether men are on the squares of a chess board.
+fn has_squares(style: Style) -> bool
+    ensures { result ≡ has_squares_spec style }
+{
+    matches!(style, Style::Chess | Style::Hounds)
 }
 
 // Tests whether men are drawn on points.
@@ -103,6 +114,21 @@ fn has_points(style: Style) -> bool
     ensures { result ≡ has_points_spec style }
 {
     matches!(style, Style::Discs | Style::Letters)
+}
+
+// Appends the square around a point.
+#[tactic(auto, unfolding(crate::specs::Diagrams::square_of))]
+fn push_square(text: &mut Vec<u8>, style: Style, x: u64, y: u64) -> Result<(), AllocError>
+    requires right { 40 ≤ x }
+    requires down { 40 ≤ y }
+    requires near { x + y ≤ 16000 }
+    ensures { OnOk result (text.new.items ≡ text.old.items ++ square_of style x y) }
+{
+    if has_squares(style) && is_dark(x, y) {
+        push_path(text, x - 20, y - 20, b"h40v40h-40z\" fill=\"#ccc\"/>\n")
+    } else {
+        push_path(text, x - 20, y - 20, b"h40v40h-40z\"/>\n")
+    }
 }
 
 // Appends the stroke or the square of a byte of the board, under the men.
@@ -117,7 +143,7 @@ fn push_under(text: &mut Vec<u8>, style: Style, x: u64, y: u64, byte: u8) -> Res
         return push_stroke(text, x, y, byte);
     }
     if has_cells(style) {
-        push_path(text, x - 20, y - 20, b"h40v40h-40z\"/>\n")
+        push_square(text, style, x, y)
     } else {
         Ok(())
     }
@@ -191,11 +217,24 @@ fn push_over(
 {
     if byte.is_ascii_uppercase() {
         push_point(text, style, x, y)?;
-        push_man(text, style, x, y, byte_at(bytes, byte))
+        push_man(text, style, x, y, slot_byte(style, bytes, x, y, byte))
     } else if is_stroke(byte) {
         Ok(())
     } else {
         push_label(text, style, x, y, byte)
+    }
+}
+
+// Returns the byte of the man in a slot of the board.
+fn slot_byte(style: Style, bytes: &[u8], x: u64, y: u64, letter: u8) -> u8
+    requires near { x + y ≤ 16000 }
+    requires slot { 65 ≤ letter }
+    ensures { result ≡ slot_byte_spec style bytes.now x y letter }
+{
+    if has_squares(style) {
+        man_at(bytes, x, y)
+    } else {
+        byte_at(bytes, letter)
     }
 }
 
@@ -210,8 +249,8 @@ fn byte_at(bytes: &[u8], letter: u8) -> u8
     }
 }
 
-// Returns the distance of the next byte of the board from the left.
-fn next_x(x: u64, byte: u8) -> u64
+/// Returns the distance of the next byte of the board from the left.
+pub(crate) fn next_x(x: u64, byte: u8) -> u64
     requires right { 40 ≤ x }
     requires near { x ≤ 16000 }
     ensures value { result ≡ next_x_spec x byte }
@@ -221,8 +260,8 @@ fn next_x(x: u64, byte: u8) -> u64
     if byte == b'\n' { 40 } else { x + 20 }
 }
 
-// Returns the distance of the next byte of the board from the top.
-fn next_y(y: u64, byte: u8) -> u64
+/// Returns the distance of the next byte of the board from the top.
+pub(crate) fn next_y(y: u64, byte: u8) -> u64
     requires { y ≤ 16000 }
     ensures value { result ≡ next_y_spec y byte }
     ensures down { y ≤ result }

@@ -8,3 +8,4 @@ pub mod Quoting
 pub mod ReadingBack
 pub mod ReadingRows
 pub mod Paging
+pub mod Digits

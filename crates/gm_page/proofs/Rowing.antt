@@ -1,7 +1,7 @@
 -- Rows: moves in groups, one group after the other, and rows one by one.
 use Rattle.std.proofs.Common.{◌≡◌, ℕ, zero, suc, ◌+◌, ◌<◌, ◌≤◌, Bool, false, List, [], ◌∷◌, ◌++◌, length, map, take, drop, get_or, slice_get, Option, None}
 use Rattle.std.proofs.Common.{Some, refl, sym, ap, subst, ◌∙◌, arith}
-use Rattle.std.specs.List.{All, Contains, flat_map}
+use Rattle.std.specs.List.{All, flat_map}
 use Rattle.std.specs.Prelude.{IfSome, unwrap_or}
 use Rattle.std.proofs.lemmas.Bool.{or_parts}
 use Rattle.std.proofs.lemmas.Grind.{flat_map-append}
@@ -15,7 +15,7 @@ use Rattle.gm_game.specs.Rules.{Rules}
 use Rattle.gm_play.specs.declared.move_values.MoveValue.{MoveValue}
 use Rattle.gm_json.specs.Words.{text}
 use Rattle.gm_draw.specs.declared.pictured.Style.{Style}
-use Rattle.gm_page.specs.Heads.{head_tree}
+use Rattle.gm_page.specs.Heads.{head_tree, start_tree}
 use Rattle.gm_page.specs.Listings.{place_of}
 use Rattle.gm_page.specs.Rows.{Group, IsRun, AreGroups, AreRows, IsRow, place_cells, move_cells, group_tree, row_tree}
 
@@ -118,6 +118,10 @@ texts_without (t ∷ ts) = texts_without ts
 pub head_without : (name : List ℕ) (style : Style) (title board : List ℕ) (points : List (List ℕ)) (naming : List ℕ) (whole : Bool) → has_float
     (head_tree name style title board points naming whole) ≡ false
 head_without name style title board points naming whole = rw (texts_without points) refl
+
+pub start_without : (name : List ℕ) (style : Style) (title board : List ℕ) (points : List (List ℕ)) (naming start : List ℕ) (whole : Bool) → has_float
+    (start_tree name style title board points naming start whole) ≡ false
+start_without name style title board points naming start whole = rw (texts_without points) refl
 
 -- ---- lists that grow by one element
 -- the trees of some things, and of one more

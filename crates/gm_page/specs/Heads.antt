@@ -1,13 +1,13 @@
 -- The first line of a page, which describes the game.
 use Rattle.std.specs.Prelude.{ℕ, Bool, true, false, List, [], ◌∷◌, ◌==◌, map, codes}
 use Rattle.std.specs.List.{before_first}
-use Rattle.serde_json.specs.Data.{Data, boolean, string, array, object, member, no_members}
+use Rattle.serde_json.specs.Data.{Data, Members, boolean, string, array, object, member, no_members}
 use Rattle.serde_json.specs.View.{items_of}
 use Rattle.gm_json.specs.Words.{text}
 use Rattle.gm_draw.specs.declared.pictured.Style.{Style}
-use Rattle.gm_draw.specs.declared.pictured.Style.TheVariants.{Row, Crosses, Counters, Stones, Discs, Letters}
+use Rattle.gm_draw.specs.declared.pictured.Style.TheVariants.{Row, Crosses, Counters, Stones, Discs, Letters, Chess, Hounds}
 
--- the bytes of a position's text that are men
+-- the bytes of a position's text that are men; on a board of chess the last is that of the second side, and the others are of the first
 abbrev pub men_of : Style → List ℕ
 men_of Row = []
 men_of Crosses = codes "xo"
@@ -15,6 +15,8 @@ men_of Counters = codes "x"
 men_of Stones = codes "xo"
 men_of Discs = codes "xo"
 men_of Letters = codes "dh"
+men_of Chess = codes "KQRk"
+men_of Hounds = codes "fh"
 
 -- the name of the side that begins, and that of the other side
 abbrev pub first_side : Style → List ℕ
@@ -24,6 +26,8 @@ first_side Counters = codes "First"
 first_side Stones = codes "Black"
 first_side Discs = codes "Black"
 first_side Letters = codes "Hounds"
+first_side Chess = codes "White"
+first_side Hounds = codes "Fox"
 
 abbrev pub second_side : Style → List ℕ
 second_side Row = codes "Second"
@@ -32,6 +36,8 @@ second_side Counters = codes "Second"
 second_side Stones = codes "White"
 second_side Discs = codes "White"
 second_side Letters = codes "Hare"
+second_side Chess = codes "Black"
+second_side Hounds = codes "Hounds"
 
 -- whether the first kind of men always belongs to the side to move, so that the sides swap after each move
 abbrev pub swaps : Style → Bool
@@ -41,6 +47,8 @@ swaps Counters = false
 swaps Stones = true
 swaps Discs = true
 swaps Letters = false
+swaps Chess = false
+swaps Hounds = false
 
 abbrev pub sides_tree : Style → Data
 sides_tree style = array (items_of (string (first_side style) ∷ string (second_side style) ∷ []))
@@ -49,16 +57,30 @@ sides_tree style = array (items_of (string (first_side style) ∷ string (second
 abbrev pub name_text : List ℕ → List ℕ
 name_text bs = before_first (λ b. b == 0) bs
 
--- the board, the names of the points and the other members that a page shows, and whether it has every position that play reaches; the members are in
--- alphabetical order
-abbrev pub head_tree : List ℕ → Style → List ℕ → List ℕ → List (List ℕ) → List ℕ → Bool → Data
-head_tree name style title board points naming whole =
-    object (member (codes "board") (text board)
+-- the last members of a head: who plays, and whether the page has every position that play reaches
+abbrev pub last_members : Style → List ℕ → Bool → Members
+last_members style title whole =
+    member (codes "swap") (boolean (swaps style)) (member (codes "title") (text title) (member (codes "whole") (boolean whole) no_members))
+
+-- the members of a head, with these after the sides
+abbrev pub members_before : List ℕ → Style → List ℕ → List (List ℕ) → List ℕ → Members → Members
+members_before name style board points naming later =
+    member (codes "board") (text board)
     (member (codes "game") (text (name_text name))
     (member (codes "men") (string (men_of style))
     (member (codes "naming") (text naming)
     (member (codes "points") (array (items_of (map text points)))
-    (member (codes "sides") (sides_tree style)
-    (member (codes "swap") (boolean (swaps style))
-    (member (codes "title") (text title)
-    (member (codes "whole") (boolean whole) no_members)))))))))
+    (member (codes "sides") (sides_tree style) later)))))
+
+-- the board, the names of the points and the other members that a page shows, and whether it has every position that play reaches; the members are in
+-- alphabetical order
+abbrev pub head_members : List ℕ → Style → List ℕ → List ℕ → List (List ℕ) → List ℕ → Bool → Members
+head_members name style title board points naming whole = members_before name style board points naming (last_members style title whole)
+
+abbrev pub head_tree : List ℕ → Style → List ℕ → List ℕ → List (List ℕ) → List ℕ → Bool → Data
+head_tree name style title board points naming whole = object (head_members name style title board points naming whole)
+
+-- the same with the text of the position that the page begins with
+abbrev pub start_tree : List ℕ → Style → List ℕ → List ℕ → List (List ℕ) → List ℕ → List ℕ → Bool → Data
+start_tree name style title board points naming start whole =
+    object (members_before name style board points naming (member (codes "start") (text start) (last_members style title whole)))

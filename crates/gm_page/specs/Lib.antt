@@ -3,3 +3,4 @@ pub mod Scripts
 pub mod Heads
 pub mod Rows
 pub mod Pages
+pub mod Engines

@@ -6,7 +6,7 @@ use Rattle.gm_game.specs.declared.position.Position.{Position}
 use Rattle.gm_game.specs.Rules.{Rules}
 use Rattle.gm_play.specs.PlayTexts.{IsReadAs}
 use Rattle.gm_draw.specs.declared.pictured.Style.{Style}
-use Rattle.gm_page.specs.declared.front.TheConstants.{FRONT}
+use Rattle.gm_page.specs.declared.front.TheConstants.{OPENING, STYLE, PARTS}
 use Rattle.gm_page.specs.declared.back.TheConstants.{BACK}
 use Rattle.gm_page.specs.Listings.{IsClosed, IsListing}
 use Rattle.gm_page.specs.Heads.{head_tree}
@@ -19,7 +19,7 @@ script_lines head rows = script_line head ++ flat_map script_line rows
 
 -- the viewer around the lines of a page
 unfoldable pub with_viewer : List ℕ → List ℕ
-with_viewer lines = FRONT.now ++ lines ++ BACK.now
+with_viewer lines = OPENING.now ++ STYLE.now ++ PARTS.now ++ lines ++ BACK.now
 
 module _ (r : Rules) (shown : Position → List ℕ) (move_shown : Position → ℕ → List ℕ) (style : Style) (title board : List ℕ) (points : List (List ℕ))
     (naming : List ℕ) where

@@ -17,6 +17,8 @@ const html = maker("http://www.w3.org/1999/xhtml"), svg = maker("http://www.w3.o
 // ---- The data: a line about the game, and a line for each position, with its text, its value, and its moves by what they are worth, the best first. A move is
 // followed by the number of its result's line, from 0, if it has one.
 const [game, ...rows] = $("data").textContent.trim().split("\n").map(text => JSON.parse(text));
+// On a board of chess each square has the same capital letter, and a position's text has a word for each man, its letter and its square.
+const squared = game.board.includes("A A");
 const word = value => value.split(" ")[0], number = value => Number(value.split(" ")[2] || 0);
 
 // The moves of a line of the data: each with its name, its worth, the line of its result or null, and the places of its ends.
@@ -24,7 +26,7 @@ function movesOf(row) {
   return rows[row].slice(2).flatMap(([worth, ...rest]) => rest.flatMap((name, k) => {
     if (typeof name === "number") return [];
     const to = typeof rest[k + 1] === "number" ? rest[k + 1] : null;
-    const ends = game.men ? name.split("-") : to === null ? [] : [rows[to][0]];
+    const ends = game.men ? name.split("-").map(end => squared ? end.slice(-2) : end) : to === null ? [] : [rows[to][0]];
     return [{ name, worth, to, ends: ends.map(end => game.points.indexOf(end)) }];
   }));
 }
@@ -37,6 +39,7 @@ const textAt = k => rows[line[k].row][0], valueAt = k => rows[line[k].row][1];
 // The side to move, 0 or 1: by the text's last byte if it has one more than there are points, else by turns.
 function side(k) {
   const text = textAt(k);
+  if (squared) return "wf".includes(text.at(-1)) ? 0 : 1;
   return game.men && text.length > game.points.length ? game.men.indexOf(text.at(-1)) : k % 2;
 }
 function winner(k) {
@@ -56,6 +59,7 @@ const net = svg("g"), under = svg("g"), last = svg("g", { class: "mark" }), hint
 const inRow = !/[A-Z]/.test(game.board), crossed = game.board.includes("+"), netted = !crossed && game.board.includes("-");
 const width = crossed || netted ? 4 * UNIT : 2 * UNIT, radius = width * .34;
 
+const isDark = ({ x, y }) => squared && (x + y) / (2 * UNIT) % 2 === 0;
 const label = (x, y, text) => under.append(svg("text", { class: "name", x, y }, text));
 // All strokes are one path, so that none is painted twice.
 let ways = "";
@@ -64,7 +68,7 @@ const strokes = { "-": [[1, 0]], "|": [[0, 2]], "/": [[2, -2]], "\\": [[2, 2]], 
 function layBoard() {
   game.board.split("\n").forEach((text, row) => [...text].forEach((byte, column) => {
     const x = UNIT * column, y = 2 * UNIT * row;
-    if (/[A-Z]/.test(byte)) places[byte.charCodeAt(0) - 65] = { x, y };
+    if (/[A-Z]/.test(byte)) places[squared ? places.length : byte.charCodeAt(0) - 65] = { x, y };
     else if (strokes[byte]) for (const [dx, dy] of strokes[byte]) stroke(x, y, dx, dy);
     else if (byte !== " ") label(column ? x : UNIT * text.search(/[A-Z]/) - width / 2 - 15, y, byte);
   }));
@@ -82,7 +86,7 @@ let dragged = null;
 for (const [k, place] of places.entries()) {
   const { x, y } = place, height = inRow ? 2 * width : width;
   if (netted) under.append(svg("circle", { class: "point", cx: x, cy: y, r: lettered ? 6 : radius }));
-  else if (!crossed) net.append(svg("rect", { class: "cell", x: x - width / 2, y: y - width / 2, width, height }));
+  else if (!crossed) net.append(svg("rect", { class: isDark(place) ? "cell dark" : "cell", x: x - width / 2, y: y - width / 2, width, height }));
   if (!lettered) label(x, y, game.points[k]);
   const g = place.g = svg("g");
   g.onclick = () => press(k);
@@ -103,12 +107,12 @@ $("board").append(net, last, hint, under, ...places.map(place => place.g));
 }
 
 // ---- Men and values. A man of the first or the second side, or of neither if there is only one kind of men.
-function man(who, x, y, r) {
+function man(who, x, y, r, letter = game.men.at(-who)) {
   if (crossed && who) return [svg("circle", { class: "stroke", cx: x, cy: y, r })];
   if (crossed) return [svg("path", { class: "stroke", d: `M${x - r} ${y - r}l${2 * r} ${2 * r}M${x - r} ${y + r}l${2 * r} ${-2 * r}` })];
   const disc = colour => svg("circle", { class: "man " + colour, cx: x, cy: y, r });
   if (game.men.length < 2) return [disc("plain")];
-  if (!game.swap) return [disc(who ? "black" : "white"), svg("text", { class: "letter", x, y, "font-size": r }, game.men[who])];
+  if (!game.swap) return [disc(who ? "black" : "white"), svg("text", { class: "letter", x, y, "font-size": r }, letter)];
   return who ? [disc("white"), svg("circle", { class: "ring", cx: x, cy: y, r: r * .55 })] : [disc("black")];
 }
 function swatch(who) {
@@ -123,9 +127,14 @@ function badge(value, x, y, size) {
     svg("text", { x, y, "font-size": size }, name));
 }
 
-// ---- Places. The side whose man is on the place k: 0, 1 or -1. If sides swap, the first kind of men is that of the side to move.
+// ---- Places. The letter of the man on the place k, and the side whose man it is: 0, 1 or -1. If sides swap, the first kind of men is that of the side to
+// move. On a board of chess the last kind is that of the second side.
+function letterAt(k) {
+  return squared ? (textAt(at).split(" ").find(word => word.length === 3 && word.endsWith(game.points[k])) ?? " ")[0] : textAt(at)[k];
+}
 function owner(k) {
-  const kind = inRow ? -1 : game.men.indexOf(textAt(at)[k]);
+  const kind = inRow ? -1 : game.men.indexOf(letterAt(k));
+  if (squared && kind >= 0) return kind < game.men.length - 1 ? 0 : 1;
   return kind < 0 || !game.swap || side(at) === 0 ? kind : 1 - kind;
 }
 // The moves that a press on the place k is about.
@@ -134,12 +143,12 @@ function movesAt(k) {
 }
 // The name of a place, with its man and the worth of a press on it.
 function nameOf(k, mine) {
-  const who = owner(k), what = inRow ? "" : who < 0 ? "empty" : game.men.length < 2 ? "counter" : game.sides[who];
+  const who = owner(k), what = inRow ? "" : who < 0 ? "empty" : game.men.length < 2 ? "counter" : game.sides[who] + (squared ? " " + letterAt(k) : "");
   return [game.points[k], what, k === picked ? "chosen" : hidden ? "" : mine[0].worth].filter(Boolean).join(", ");
 }
 function drawPlace({ x, y, g }, k) {
   const half = width / 2 - 2, mine = movesAt(k), who = owner(k), live = mine.length > 0 || k === picked;
-  g.replaceChildren(...(who < 0 ? [] : man(who, x, y, crossed ? radius * .8 : radius)));
+  g.replaceChildren(...(who < 0 ? [] : man(who, x, y, crossed ? radius * .8 : radius, squared ? letterAt(k) : undefined)));
   if (inRow && game.points[k] === textAt(at)) g.append(svg("rect", { class: "here", x: x - 15, y: y - 15, width: 30, height: 30, rx: 6 }));
   g.append(svg("rect", { class: "hit", x: x - half, y: y - half, width: 2 * half, height: inRow ? 4 * half : 2 * half, rx: 6 }));
   const size = crossed || netted ? 17 : inRow ? 14 : 12;

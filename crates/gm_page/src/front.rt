@@ -1,8 +1,7 @@
 //! The first part of a page: its head, its style, and its parts, up to the lines of its data.
 
-/// The text before the lines of a page's data: an HTML document up to the beginning of its data element. It refers to no other file
-/// and to no address.
-pub const FRONT: &[u8] = br##"<!doctype html>
+/// The beginning of a page: an HTML document up to its style.
+pub const OPENING: &[u8] = br##"<!doctype html>
 <html lang="en">
 <head>
 <meta charset="utf-8">
@@ -12,7 +11,10 @@ pub const FRONT: &[u8] = br##"<!doctype html>
 <link rel="icon" href="data:,">
 <title>gamesman</title>
 <style>
-/* ---- colours: by day, by night, on paper */
+"##;
+
+/// The style of all pages.
+pub const STYLE: &[u8] = br##"/* ---- colours: by day, by night, on paper */
 :root {
   color-scheme: light dark;
   --back: #faf8f4; --card: #fff; --ink: #1d1b18; --soft: #625c52; --rule: #cfc7b8; --hot: #1d4fa8;
@@ -114,6 +116,7 @@ svg text { text-anchor: middle; dominant-baseline: central; }
 .net { fill: none; stroke: var(--lines); stroke-width: 2.5; stroke-linecap: round; }
 .name { font-size: 13px; fill: var(--soft); }
 .cell { fill: var(--card); stroke: var(--lines); }
+.cell.dark { fill: var(--rule); }
 .point { fill: var(--board); stroke: var(--lines); stroke-width: 2; }
 .man { stroke: var(--edge); stroke-width: 2; }
 .plain { fill: var(--lines); }
@@ -156,7 +159,11 @@ svg text { text-anchor: middle; dominant-baseline: central; }
   .tall { max-height: none; overflow: visible; }
   #moves button { min-height: 0; }
 }
-</style>
+"##;
+
+/// The rest before the lines of a page's data: the parts of the page, up to the beginning of its data element. With `OPENING` and
+/// `STYLE` it refers to no other file and to no address.
+pub const PARTS: &[u8] = br##"</style>
 </head>
 <body>
 <header><h1 id="title">gamesman</h1><p id="about"></p></header>

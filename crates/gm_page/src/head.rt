@@ -4,7 +4,7 @@ ghost use Rattle.std.specs.List.{position};
 ghost use Rattle.serde_json.specs.Data.{array, object};
 ghost use Rattle.serde_json.specs.View.{items_of, view, members_view};
 ghost use Rattle.gm_json.specs.Words.{text};
-ghost use Rattle.gm_page.specs.Heads.{head_tree, men_of, first_side, second_side, sides_tree, swaps as swaps_spec, name_text};
+ghost use Rattle.gm_page.specs.Heads.{head_tree, head_members, start_tree, men_of, first_side, second_side, sides_tree, swaps as swaps_spec, name_text};
 ghost use Rattle.gm_page.specs.Scripts.{script_line};
 
 use crate::words::{push_script_line, put_text, text_value, word_value};
@@ -25,6 +25,29 @@ pub(crate) fn push_head<G: Pictured>(
     push_script_line(alloc, page, tree)
 }
 
+/// Appends the line of a game in a page with the engine, which begins with the position of this text.
+pub(crate) fn push_start<G: Pictured>(
+    alloc: Global,
+    page: &mut Vec<u8>,
+    start: &[u8],
+    whole: bool,
+) -> Result<(), AllocError>
+    ensures { OnOk result (page.new.items
+        ≡ page.old.items ++ script_line (start_tree G.Game.rules.name G.style G.title G.board G.points G.naming start.now whole)) }
+{
+    let tree = start_value::<G>(alloc, start, whole)?;
+    push_script_line(alloc, page, tree)
+}
+
+fn start_value<G: Pictured>(alloc: Global, start: &[u8], whole: bool) -> Result<Json, AllocError>
+    ensures { IfOk result (λ v. view v ≡ start_tree G.Game.rules.name G.style G.title G.board G.points G.naming start.now whole) }
+{
+    let mut members = Map::new(alloc);
+    put_head::<G>(alloc, &mut members, whole)?;
+    put_text(alloc, &mut members, "start", start)?;
+    Ok(Json::Object(members))
+}
+
 fn head_value<G: Pictured>(alloc: Global, whole: bool) -> Result<Json, AllocError>
     ensures { IfOk result (λ v. view v ≡ head_tree G.Game.rules.name G.style G.title G.board G.points G.naming whole) }
 {
@@ -40,7 +63,7 @@ fn put_head<G: Pictured>(
     whole: bool,
 ) -> Result<(), AllocError>
     requires { members.old.entries ≡ [] }
-    ensures { OnOk result (object (members_view members.new.entries) ≡ head_tree G.Game.rules.name G.style G.title G.board G.points G.naming whole) }
+    ensures { OnOk result (members_view members.new.entries ≡ head_members G.Game.rules.name G.style G.title G.board G.points G.naming whole) }
 {
     let style = G::style();
     put_text(alloc, members, "board", G::board())?;
@@ -108,6 +131,8 @@ fn men(style: Style) -> &'static str
         Style::Counters => "x",
         Style::Crosses | Style::Stones | Style::Discs => "xo",
         Style::Letters => "dh",
+        Style::Chess => "KQRk",
+        Style::Hounds => "fh",
     }
 }
 
@@ -120,6 +145,8 @@ fn first(style: Style) -> &'static str
         Style::Crosses => "X",
         Style::Stones | Style::Discs => "Black",
         Style::Letters => "Hounds",
+        Style::Chess => "White",
+        Style::Hounds => "Fox",
     }
 }
 
@@ -132,6 +159,8 @@ fn second(style: Style) -> &'static str
         Style::Crosses => "O",
         Style::Stones | Style::Discs => "White",
         Style::Letters => "Hare",
+        Style::Chess => "Black",
+        Style::Hounds => "Hounds",
     }
 }
 
@@ -141,6 +170,6 @@ fn swaps(style: Style) -> bool
 {
     match style {
         Style::Crosses | Style::Stones | Style::Discs => true,
-        Style::Row | Style::Counters | Style::Letters => false,
+        Style::Row | Style::Counters | Style::Letters | Style::Chess | Style::Hounds => false,
     }
 }

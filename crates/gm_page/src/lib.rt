@@ -4,10 +4,18 @@
 #![tactic(auto)]
 
 pub mod back;
+pub mod engine;
+pub mod engine_front;
+pub mod engine_page;
 pub mod front;
 mod head;
 pub mod listing;
 pub mod page;
 mod rows;
 pub mod script;
+pub mod viewer_asking;
+pub mod viewer_boards;
+pub mod viewer_choosing;
+pub mod viewer_drawing;
+pub mod viewer_playing;
 mod words;

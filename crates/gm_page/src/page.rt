@@ -6,14 +6,14 @@ ghost use Rattle.gm_game.specs.declared.position.Position.{Position};
 ghost use Rattle.gm_best.specs.Reached.{IsReached};
 ghost use Rattle.gm_game.specs.declared.position.Solved.{Solved};
 ghost use Rattle.gm_page.specs.declared.back.TheConstants.{BACK};
-ghost use Rattle.gm_page.specs.declared.front.TheConstants.{FRONT};
+ghost use Rattle.gm_page.specs.declared.front.TheConstants.{OPENING, STYLE, PARTS};
 ghost use Rattle.gm_page.specs.Heads.{head_tree};
 ghost use Rattle.gm_page.specs.Scripts.{opens_none, script_line, IsReadBack};
 ghost use Rattle.gm_page.specs.Rows.{Group, row_tree};
 ghost use Rattle.gm_page.specs.Pages.{IsListedPage, IsPage, script_lines};
 
 use crate::back::BACK;
-use crate::front::FRONT;
+use crate::front::{OPENING, PARTS, STYLE};
 use crate::head::push_head;
 use crate::listing::{Listing, is_whole, listing_of};
 use crate::rows::push_rows;
@@ -81,9 +81,11 @@ fn push_page<G: Pictured>(
 // Appends the first part of the viewer, and the line that describes the game.
 fn push_first<G: Pictured>(alloc: Global, whole: bool, page: &mut Vec<u8>) -> Result<(), AllocError>
     ensures { OnOk result (page.new.items
-        ≡ page.old.items ++ FRONT.now ++ script_line (head_tree G.Game.rules.name G.style G.title G.board G.points G.naming whole)) }
+        ≡ page.old.items ++ OPENING.now ++ STYLE.now ++ PARTS.now ++ script_line (head_tree G.Game.rules.name G.style G.title G.board G.points G.naming whole)) }
 {
-    page.extend_from_slice(FRONT)?;
+    page.extend_from_slice(OPENING)?;
+    page.extend_from_slice(STYLE)?;
+    page.extend_from_slice(PARTS)?;
     push_head::<G>(alloc, page, whole)
 }
 

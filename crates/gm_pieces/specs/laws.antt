@@ -6,6 +6,7 @@ pub mod Images
 pub mod StepFacts
 pub mod Listed
 pub mod Skipped
+pub mod TriedFacts
 pub mod CellFacts
 pub mod MoveFacts
 pub mod NumberFacts

@@ -5,6 +5,7 @@
 pub mod ascending;
 pub mod board;
 pub mod boards;
+pub mod candidates;
 pub mod lists;
 pub mod moves;
 pub mod on_boards;

@@ -1,4 +1,4 @@
-//! The loops over the numbers of moves.
+//! The loops over the numbers of moves that are tried.
 ghost use Rattle.std.specs.Prelude.{◌≡◌, ◌<◌, ◌&&◌, true, map, [], length, ◌==◌, MatchOption, None, Some};
 ghost use Rattle.gm_game.specs.Ascending.{put_all};
 ghost use Rattle.gm_game.specs.Boards.{least_index as least_index_of, next_images};
@@ -20,13 +20,14 @@ pub fn plays_on<T: MoveRules>(board: T::Board) -> bool
 }
 
 /// Returns the numbers of the moves that could be made if the game were not over, ascending.
-#[tactic(auto, using(gm_board::specs::laws::Filters::filter_in, gm_board::specs::laws::Filters::filter_out, crate::specs::laws::MoveLaws::all_steps))]
 pub fn list_moves<T: MoveRules>(board: T::Board) -> ArrayVec<u32, MOVES>
     requires { T.game.legal (T.cells board) ≡ true }
     ensures { result.items ≡ steps T.game (T.cells board) }
 {
+    let candidates = T::candidates(board);
     let mut list = ArrayVec::new();
-    for number in 0..T::move_number_bound(T::tier(board)) {
+    for place in 0..candidates.count() {
+        let number = candidates.number(place);
         if T::can_move(board, number) {
             list.push(number);
         }
@@ -35,13 +36,13 @@ pub fn list_moves<T: MoveRules>(board: T::Board) -> ArrayVec<u32, MOVES>
 }
 
 /// Returns whether no move could be made if the game were not over.
-#[tactic(auto, using(gm_board::specs::laws::Filters::filter_out, crate::specs::laws::MoveLaws::step_listed, crate::specs::laws::MoveLaws::all_steps))]
 pub fn has_no_move<T: MoveRules>(board: T::Board) -> bool
     requires { T.game.legal (T.cells board) ≡ true }
     ensures { result ≡ (length (steps T.game (T.cells board)) == 0) }
 {
-    for number in 0..T::move_number_bound(T::tier(board)) {
-        if T::can_move(board, number) {
+    let candidates = T::candidates(board);
+    for place in 0..candidates.count() {
+        if T::can_move(board, candidates.number(place)) {
             return false;
         }
     }
@@ -85,14 +86,14 @@ pub fn before<T: MoveRules>(tier: u64, board: T::Board, number: u32) -> Option<T
 }
 
 /// Writes the least indexes of the boards of the tier from which a move leads to this one, ascending and once each, over what the list holds.
-#[tactic(auto, using(gm_game::proofs::PuttingSteps::put_more_some, gm_game::proofs::PuttingSteps::put_more_none, crate::specs::laws::MoveLaws::before_room, crate::specs::laws::MoveLaws::all_befores))]
 pub fn put_befores<T: MoveRules>(tier: u64, board: T::Board, list: &mut ArrayVec<u64, PARENTS>)
     requires { T.game.legal (T.cells board) ≡ true }
     ensures { list.new.items ≡ put_all [] (map (least_index_of (board_game T.game)) (befores T.game tier (T.cells board))) }
 {
     list.clear();
-    for number in 0..T::move_number_bound(tier) {
-        match before::<T>(tier, board, number) {
+    let candidates = T::earlier_candidates(tier, board);
+    for place in 0..candidates.count() {
+        match before::<T>(tier, board, candidates.number(place)) {
             Some(earlier) => put(list, T::least_index(earlier)),
             None => {}
         }

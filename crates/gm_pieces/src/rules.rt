@@ -4,7 +4,9 @@ ghost use Rattle.gm_game.specs.Boards.{board_of, position_of, least_index as lea
 ghost use Rattle.gm_game.specs.Rules.{IsCanonical};
 ghost use Rattle.gm_pieces.specs.MoveGames.{MoveGame, board_game, move_rules, plays_on, goes_on as goes_on_of, IsMove, IsMoveGame, IsMoveSymmetric};
 ghost use Rattle.gm_pieces.specs.MoveTexts.{AreTexts};
+ghost use Rattle.gm_pieces.specs.Tried.{AreCandidates};
 
+use crate::candidates::Candidates;
 use arrayvec::ArrayVec;
 use gm_game::limits::{CHILD_TIERS, NAME};
 use gm_game::position::{End, Position};
@@ -119,6 +121,15 @@ pub trait MoveRules: Drop {
         requires below { number < game.move_number_bound (game.tier (cells board)) }
         ensures { result ≡ game.can_move (cells board) number };
 
+    /// Returns the numbers that are tried for a board's moves, ascending: all below the bound, unless a game gives fewer.
+    #[inline(always)]
+    fn candidates(board: Self::Board) -> Candidates
+        requires { game.legal (cells board) ≡ true }
+        ensures { AreCandidates (game.can_move (cells board)) (game.move_number_bound (game.tier (cells board))) result }
+    {
+        Candidates::below(Self::move_number_bound(Self::tier(board)))
+    }
+
     /// Returns the board after a move, as the other player sees it.
     fn moved(board: Self::Board, number: u32) -> Self::Board
         requires legal { game.legal (cells board) ≡ true }
@@ -130,6 +141,15 @@ pub trait MoveRules: Drop {
         requires legal { game.legal (cells board) ≡ true }
         requires below { number < game.move_number_bound tier }
         ensures { result ≡ game.can_have_led_here tier (cells board) number };
+
+    /// Returns the numbers that are tried for the moves that can have led to this board from the tier, ascending: all below the bound, unless a game gives fewer.
+    #[inline(always)]
+    fn earlier_candidates(tier: u64, board: Self::Board) -> Candidates
+        requires { game.legal (cells board) ≡ true }
+        ensures { AreCandidates (game.can_have_led_here tier (cells board)) (game.move_number_bound tier) result }
+    {
+        Candidates::below(Self::move_number_bound(tier))
+    }
 
     /// Returns the board before the move with this number, as the player who made it saw it.
     fn undo(tier: u64, board: Self::Board, number: u32) -> Self::Board

@@ -54,7 +54,9 @@ fn read_step<T: MoveRules>(board: T::Board, text: &[u8]) -> Option<u32>
     if !plays_on::<T>(board) {
         return None;
     }
-    for number in 0..T::move_number_bound(T::tier(board)) {
+    let candidates = T::candidates(board);
+    for place in 0..candidates.count() {
+        let number = candidates.number(place);
         if T::can_move(board, number) && has_text::<T>(board, number, text) {
             return Some(number);
         }

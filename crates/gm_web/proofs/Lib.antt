@@ -2,3 +2,4 @@ mod Closing
 mod Ordering
 mod Refused
 mod Trueness
+mod Words

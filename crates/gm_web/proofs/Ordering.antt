@@ -10,7 +10,8 @@ use Rattle.gm_game.specs.declared.limits.TheConstants.{TIER_SIZE}
 use Rattle.gm_game.specs.Rules.{Rules}
 use Rattle.gm_table.specs.Tables.{TableData, IsHeld}
 use Rattle.gm_tiers.specs.Orders.{ComeChildrenFirst}
-use Rattle.gm_web.specs.Records.{AreTrue}
+use Rattle.gm_web.specs.declared.width.Width.{Width}
+use Rattle.gm_web.specs.Records.{AreTrue, room}
 use Rattle.gm_web.specs.Refusing.{IsEarly, AreDisordered, IsNotNext, HaveTables}
 use Rattle.gm_web.proofs.Trueness.{long}
 
@@ -75,14 +76,15 @@ module _ (r : Rules) where
     | inr not ↦ not (λ child is. have child (first k (slice_index_or tiers k 0) child (slice_get-get_or tiers k 0 within) is))
   ]
 
-  -- there are as many records as the tiers have indexes
-  pub total : (tiers : List ℕ) (bytes : List ℕ) → AreTrue r tiers bytes → length bytes ≡ sum (map r.tier_size tiers)
+module _ (r : Rules) (w : Width) where
+  -- there are as many bytes as the records of the tiers have
+  pub total : (tiers : List ℕ) (bytes : List ℕ) → AreTrue r w tiers bytes → length bytes ≡ sum (map (room r w) tiers)
   total [] bytes none = ap length none
   total (t ∷ ts) bytes (first, others) =
-      let a : length (take (r.tier_size t) bytes) ≡ r.tier_size t = long r t (take (r.tier_size t) bytes) first in
-      let b : length (drop (r.tier_size t) bytes) ≡ sum (map r.tier_size ts) = total ts (drop (r.tier_size t) bytes) others in
-      let c : length (take (r.tier_size t) bytes ++ drop (r.tier_size t) bytes) ≡ length (take (r.tier_size t) bytes) + length (drop (r.tier_size t) bytes)
-      = length-append (take (r.tier_size t) bytes) (drop (r.tier_size t) bytes) in
-      let d : length (take (r.tier_size t) bytes ++ drop (r.tier_size t) bytes) ≡ length bytes = ap length (take-append-drop (r.tier_size t) bytes) in
-      let e : sum (map r.tier_size (t ∷ ts)) ≡ r.tier_size t + sum (map r.tier_size ts) = sum_by-cons (λ (n : ℕ). n) (r.tier_size t) (map r.tier_size ts) in
+      let a : length (take (room r w t) bytes) ≡ room r w t = long r w t (take (room r w t) bytes) first in
+      let b : length (drop (room r w t) bytes) ≡ sum (map (room r w) ts) = total ts (drop (room r w t) bytes) others in
+      let c : length (take (room r w t) bytes ++ drop (room r w t) bytes) ≡ length (take (room r w t) bytes) + length (drop (room r w t) bytes)
+      = length-append (take (room r w t) bytes) (drop (room r w t) bytes) in
+      let d : length (take (room r w t) bytes ++ drop (room r w t) bytes) ≡ length bytes = ap length (take-append-drop (room r w t) bytes) in
+      let e : sum (map (room r w) (t ∷ ts)) ≡ room r w t + sum (map (room r w) ts) = sum_by-cons (λ (n : ℕ). n) (room r w t) (map (room r w) ts) in
       omega arith

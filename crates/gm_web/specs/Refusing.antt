@@ -14,7 +14,8 @@ use Rattle.gm_tiers.specs.Search.{search_of}
 use Rattle.gm_tiers.specs.declared.tier_error.TierError.{TierError}
 use Rattle.gm_best.specs.Places.{IsAt}
 use Rattle.gm_json.specs.Asking.{AreAnswers, lines_of}
-use Rattle.gm_web.specs.Records.{IsTrueTier, AreTrue}
+use Rattle.gm_web.specs.Records.{IsTrueTier, AreTrue, room, farthest}
+use Rattle.gm_web.specs.declared.width.Width.{Width}
 use Rattle.gm_web.specs.Saying.{Says}
 use Rattle.gm_web.specs.declared.refusal.Refusal.{Refusal}
 use Rattle.gm_web.specs.declared.refusal.Refusal.TheVariants.{Memory, Order, Records, TooFar, Room, Position as NoPosition, NotSolved}
@@ -52,18 +53,18 @@ IsUnlisted r room Room = (order : List ℕ) × IsTierOrder r order × (room < le
 IsUnlisted r room e = IsUnordered r e
 
 -- why bytes are refused as the records of a tier, by the tables that are held
-abbrev pub IsTierUnchecked : Rules → List TableData → ℕ → List ℕ → Refusal → Type 0
-IsTierUnchecked r entries tier bytes Memory = Unit {0}
-IsTierUnchecked r entries tier bytes Order = IsNotNext r entries tier
-IsTierUnchecked r entries tier bytes Records = IsTrueTier r tier bytes → ⊥
-IsTierUnchecked r entries tier bytes _ = ⊥
+abbrev pub IsTierUnchecked : Rules → Width → List TableData → ℕ → List ℕ → Refusal → Type 0
+IsTierUnchecked r width entries tier bytes Memory = Unit {0}
+IsTierUnchecked r width entries tier bytes Order = IsNotNext r entries tier
+IsTierUnchecked r width entries tier bytes Records = IsTrueTier r width tier bytes → ⊥
+IsTierUnchecked r width entries tier bytes _ = ⊥
 
 -- bytes are refused as the records of these tiers only if they are not the true ones, and the order of the tiers only if it is wrong
-abbrev pub IsUnchecked : Rules → List ℕ → List ℕ → Refusal → Type 0
-IsUnchecked r tiers bytes Memory = Unit {0}
-IsUnchecked r tiers bytes Order = AreDisordered r tiers
-IsUnchecked r tiers bytes Records = AreTrue r tiers bytes → ⊥
-IsUnchecked r tiers bytes _ = ⊥
+abbrev pub IsUnchecked : Rules → Width → List ℕ → List ℕ → Refusal → Type 0
+IsUnchecked r width tiers bytes Memory = Unit {0}
+IsUnchecked r width tiers bytes Order = AreDisordered r tiers
+IsUnchecked r width tiers bytes Records = AreTrue r width tiers bytes → ⊥
+IsUnchecked r width tiers bytes _ = ⊥
 
 -- true records are never refused as records, and the order of their tiers only if it is wrong
 abbrev pub IsUnheld : Type 0 → Refusal → Type 0
@@ -71,39 +72,40 @@ IsUnheld Wrong Memory = Unit {0}
 IsUnheld Wrong Order = Wrong
 IsUnheld Wrong _ = ⊥
 
--- the remoteness of a canonical position of the tier is too great for a byte
-abbrev pub IsFar : Rules → ℕ → Type 0
-IsFar r tier = (index : ℕ) × (value : Value) × (remoteness : ℕ) × IsCanonical r (at tier index) × HasValue r (at tier index) value remoteness × (31 < remoteness)
+-- the remoteness of a canonical position of the tier is too great for a record
+abbrev pub IsFar : Rules → Width → ℕ → Type 0
+IsFar r width tier = (index : ℕ) × (value : Value) × (remoteness : ℕ) × IsCanonical r (at tier index) × HasValue r (at tier index) value remoteness
+    × (farthest width < remoteness)
 
--- a record is refused only if its remoteness is too great for a byte
-abbrev pub IsUnadded : List (Option Solved) → Refusal → Type 0
-IsUnadded records Memory = Unit {0}
-IsUnadded records TooFar = (index : ℕ) × (s : Solved) × (slice_get records index ≡ Some (Some s)) × (31 < s.remoteness)
-IsUnadded records _ = ⊥
+-- a record is refused only if its remoteness is too great
+abbrev pub IsUnadded : Width → List (Option Solved) → Refusal → Type 0
+IsUnadded width records Memory = Unit {0}
+IsUnadded width records TooFar = (index : ℕ) × (s : Solved) × (slice_get records index ≡ Some (Some s)) × (farthest width < s.remoteness)
+IsUnadded width records _ = ⊥
 
 -- a tier is refused as too far only if the remoteness of a position is too great
-abbrev pub IsTierUnsolved : Rules → List TableData → ℕ → Refusal → Type 0
-IsTierUnsolved r entries tier TooFar = IsFar r tier
-IsTierUnsolved r entries tier e = IsUnheld (IsNotNext r entries tier) e
+abbrev pub IsTierUnsolved : Rules → Width → List TableData → ℕ → Refusal → Type 0
+IsTierUnsolved r width entries tier TooFar = IsFar r width tier
+IsTierUnsolved r width entries tier e = IsUnheld (IsNotNext r entries tier) e
 
 -- a tier is refused as too far only if the remoteness of a position is too great, and the order only if it is wrong with this tier at its end; the room is
 -- refused only if it is not that of the tier, or if the number of deliveries is too large
-abbrev pub IsUnsolved : Rules → List ℕ → ℕ → ℕ → Refusal → Type 0
-IsUnsolved r solved tier room TooFar = IsFar r tier
-IsUnsolved r solved tier room Room = (room ≢ r.tier_size tier) ⊎ ((number : ℕ) × AreDeliveries r tier number × (2 ^ 63 ≤ number))
-IsUnsolved r solved tier room e = IsUnheld (AreDisordered r (solved ++ tier ∷ [])) e
+abbrev pub IsUnsolved : Rules → Width → List ℕ → ℕ → ℕ → Refusal → Type 0
+IsUnsolved r width solved tier places TooFar = IsFar r width tier
+IsUnsolved r width solved tier places Room = (places ≢ room r width tier) ⊎ ((number : ℕ) × AreDeliveries r tier number × (2 ^ 63 ≤ number))
+IsUnsolved r width solved tier places e = IsUnheld (AreDisordered r (solved ++ tier ∷ [])) e
 
 -- the tiers are refused only if the remoteness of a position of one of them is too great
-abbrev pub AreUnsolved : Rules → List ℕ → Refusal → Type 0
-AreUnsolved r tiers Memory = Unit {0}
-AreUnsolved r tiers TooFar = (tier : ℕ) × Contains tiers tier × IsFar r tier
-AreUnsolved r tiers _ = ⊥
+abbrev pub AreUnsolved : Rules → Width → List ℕ → Refusal → Type 0
+AreUnsolved r width tiers Memory = Unit {0}
+AreUnsolved r width tiers TooFar = (tier : ℕ) × Contains tiers tier × IsFar r width tier
+AreUnsolved r width tiers _ = ⊥
 
 -- a game is refused only if its tiers have no order, if the remoteness of a position is too great, or if the room is not that of its tiers and their records
-abbrev pub IsUnsolvedGame : Rules → ℕ → ℕ → Refusal → Type 0
-IsUnsolvedGame r places room TooFar = (tiers : List ℕ) × IsTierOrder r tiers × AreUnsolved r tiers TooFar
-IsUnsolvedGame r places room Room = (tiers : List ℕ) × IsTierOrder r tiers × ((places < length tiers) ⊎ (room ≢ sum (map r.tier_size tiers)))
-IsUnsolvedGame r places room e = IsUnordered r e
+abbrev pub IsUnsolvedGame : Rules → Width → ℕ → ℕ → Refusal → Type 0
+IsUnsolvedGame r width places bytes TooFar = (tiers : List ℕ) × IsTierOrder r tiers × AreUnsolved r width tiers TooFar
+IsUnsolvedGame r width places bytes Room = (tiers : List ℕ) × IsTierOrder r tiers × ((places < length tiers) ⊎ (bytes ≢ sum (map (room r width) tiers)))
+IsUnsolvedGame r width places bytes e = IsUnordered r e
 
 -- the reasons why lines have no answers: the tier of a legal position has no table
 abbrev pub IsUnread : Rules → List TableData → Refusal → Type 0

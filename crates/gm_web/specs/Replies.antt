@@ -36,17 +36,17 @@ IsOrder g before after = Replies (λ n. IsTierOrder g.rules (take n after)) (IsU
 
 -- the first n numbers, for the answer n, are the tiers of the game, child tiers first, and the bytes are their true records
 abbrev pub IsSolvedGame : PlayedGame → List ℕ → List ℕ → List ℕ → List ℕ → ℕ → Type 0
-IsSolvedGame g places room order out = Replies (λ n. IsTierOrder g.rules (take n order) × AreTrue g.rules (take n order) out)
-    (IsUnsolvedGame g.rules (length places) (length room))
+IsSolvedGame g places room order out = Replies (λ n. IsTierOrder g.rules (take n order) × AreTrue g.rules g.width (take n order) out)
+    (IsUnsolvedGame g.rules g.width (length places) (length room))
 
 -- the bytes are the true records of the tier, and the answer is the number of its deliveries
 abbrev pub IsSolved : PlayedGame → List ℕ → ℕ → List ℕ → List ℕ → ℕ → Type 0
-IsSolved g solved tier before after = Replies (λ n. IsTrueTier g.rules tier after × AreDeliveries g.rules tier n)
-    (IsUnsolved g.rules solved tier (length before))
+IsSolved g solved tier before after = Replies (λ n. IsTrueTier g.rules g.width tier after × AreDeliveries g.rules tier n)
+    (IsUnsolved g.rules g.width solved tier (length before))
 
 -- the bytes are the true records of the tiers
 abbrev pub IsChecked : PlayedGame → List ℕ → List ℕ → ℕ → Type 0
-IsChecked g tiers records = Replies (λ n. (n ≡ 0) × AreTrue g.rules tiers records) (IsUnchecked g.rules tiers records)
+IsChecked g tiers records = Replies (λ n. (n ≡ 0) × AreTrue g.rules g.width tiers records) (IsUnchecked g.rules g.width tiers records)
 
 -- the first n bytes, for the answer n, are the answers to the lines
 abbrev pub IsAnswered : PlayedGame → ℕ → List ℕ → List ℕ → List ℕ → List ℕ → ℕ → Type 0

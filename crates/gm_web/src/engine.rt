@@ -1,5 +1,5 @@
 //! The work of the exports, for any game.
-ghost use Rattle.std.specs.Prelude.{◌≡◌, ◌≢◌, ◌≤◌, ◌<◌, ◌^◌, ◌⊎◌, ◌++◌, ◌∷◌, [], ℕ, List, true, false, OnOk, IfOk, IfErr, IsErrOf, length, map, take};
+ghost use Rattle.std.specs.Prelude.{◌≡◌, ◌≢◌, ◌≤◌, ◌<◌, ◌^◌, ◌⊎◌, ◌++◌, ◌∷◌, [], ℕ, List, None, true, false, IfSome, OnOk, IfOk, IfErr, IsErrOf, length, map, take};
 ghost use Rattle.std.specs.List.{Contains, sum};
 ghost use Rattle.gm_table.specs.Tables.{IsHeld, AreHeld, IsTable};
 ghost use Rattle.gm_table.specs.Solving.{AreDeliveries};
@@ -8,12 +8,13 @@ ghost use Rattle.gm_game.specs.declared.position.Position.{Position as PositionS
 ghost use Rattle.gm_best.specs.Reached.{AreClosed};
 ghost use Rattle.gm_best.specs.Places.{IsAt};
 ghost use Rattle.gm_json.specs.Asking.{AreAnswers, lines_of};
-ghost use Rattle.gm_web.specs.Records.{IsTrueTier, AreTrue};
+ghost use Rattle.gm_web.specs.Records.{IsTrueTier, AreTrue, room};
 ghost use Rattle.gm_web.specs.Saying.{Says, asked_of};
 ghost use Rattle.gm_web.specs.Refusing.{IsNotNext, HaveTables, AreDisordered, IsUnordered, IsUnlisted, IsUnchecked, IsTierUnchecked, IsUnheld, IsUnread, IsTierUnsolved, IsUnsolved, AreUnsolved, IsUnsolvedGame, IsUnanswered, IsUnwritten, IsUnshown};
 
 use crate::bytes::{add, list, pack};
 use crate::refusal::Refusal;
+use crate::width::Width;
 use gm_best::closed::Closed;
 use gm_best::place::at;
 use gm_game::game::Game;
@@ -94,23 +95,38 @@ fn is_next<G: Game>(tables: &Tables<G>, tier: u64) -> bool
     G::tier_size(tier) <= TIER_SIZE && tables.has_children(tier)
 }
 
+// Returns the number of bytes of the records of a tier, if it is at most this.
+fn room_of<G: Game>(width: Width, tier: u64, most: usize) -> Option<usize>
+    ensures some { IfSome result (λ n. (n ≡ room G.rules width tier) × (n ≤ most)) }
+    ensures none { result ≡ None → most < room G.rules width tier }
+{
+    let size = G::tier_size(tier);
+    match width {
+        Width::Byte if size <= most as u64 => Some(size as usize),
+        Width::Word if size <= most as u64 / 4 => Some(4 * size as usize),
+        _ => None,
+    }
+}
+
 // Checks the records of a tier, and holds its table.
 fn check_tier<G: Game>(
     alloc: Global,
+    width: Width,
     tables: &mut Tables<G>,
     tier: u64,
     bytes: &[u8],
 ) -> Result<(), Refusal>
     requires closed { AreClosed G.rules tables.old }
+    requires long { length bytes.now ≡ room G.rules width tier }
     ensures closed { OnOk result (AreClosed G.rules tables.new) }
     ensures held { OnOk result ((t : ℕ) → IsHeld tables.old t ⊎ (tier ≡ t) → IsHeld tables.new t) }
-    ensures known { OnOk result (IsTrueTier G.rules tier bytes.now) }
-    ensures refused { IfErr result (IsTierUnchecked G.rules tables.old tier bytes.now) }
+    ensures known { OnOk result (IsTrueTier G.rules width tier bytes.now) }
+    ensures refused { IfErr result (IsTierUnchecked G.rules width tables.old tier bytes.now) }
 {
     if !is_next(tables, tier) {
         return Err(Refusal::Order);
     }
-    let records = list(alloc, bytes)?;
+    let records = list(alloc, width, bytes)?;
     let checked = check(alloc, tier, records.as_slice(), tables);
     drop(records);
     match checked {
@@ -122,19 +138,23 @@ fn check_tier<G: Game>(
 }
 
 /// Checks the records of these tiers, one tier after another.
-pub fn check_tiers<G: Game>(alloc: Global, tiers: &[u64], records: &[u8]) -> Result<(), Refusal>
-    ensures known { OnOk result (AreTrue G.rules tiers.now records.now) }
-    ensures refused { IfErr result (IsUnchecked G.rules tiers.now records.now) }
+pub fn check_tiers<G: Game>(
+    alloc: Global,
+    width: Width,
+    tiers: &[u64],
+    records: &[u8],
+) -> Result<(), Refusal>
+    ensures known { OnOk result (AreTrue G.rules width tiers.now records.now) }
+    ensures refused { IfErr result (IsUnchecked G.rules width tiers.now records.now) }
 {
     let mut tables: Tables<G> = Tables::new(alloc);
     let mut rest = records;
     for tier in tiers {
-        let size = G::tier_size(*tier);
-        if size > rest.len() as u64 {
+        let Some(count) = room_of::<G>(width, *tier, rest.len()) else {
             return Err(Refusal::Records);
-        }
-        let (bytes, later) = rest.split_at(size as usize);
-        check_tier(alloc, &mut tables, *tier, bytes)?;
+        };
+        let (bytes, later) = rest.split_at(count);
+        check_tier(alloc, width, &mut tables, *tier, bytes)?;
         rest = later;
     }
     if rest.is_empty() {
@@ -147,12 +167,13 @@ pub fn check_tiers<G: Game>(alloc: Global, tiers: &[u64], records: &[u8]) -> Res
 // Holds the table of a tier that has these records.
 fn hold_true<G: Game>(
     alloc: Global,
+    width: Width,
     tables: &mut Tables<G>,
     tier: u64,
     bytes: &[u8],
 ) -> Result<(), Refusal>
     requires closed { AreClosed G.rules tables.old }
-    requires known { IsTrueTier G.rules tier bytes.now }
+    requires known { IsTrueTier G.rules width tier bytes.now }
     ensures closed { OnOk result (AreClosed G.rules tables.new) }
     ensures held { OnOk result ((t : ℕ) → IsHeld tables.old t ⊎ (tier ≡ t) → IsHeld tables.new t) }
     ensures refused { IfErr result (IsUnheld (IsNotNext G.rules tables.old tier)) }
@@ -160,43 +181,48 @@ fn hold_true<G: Game>(
     if !is_next(tables, tier) {
         return Err(Refusal::Order);
     }
-    let records = pack(alloc, bytes)?;
+    let records = pack(alloc, width, bytes)?;
     hold(tables, Table::from_packed(tier, records))
 }
 
 // Holds the tables of these tiers, from these records, one tier after another.
 fn hold_all<G: Game>(
     alloc: Global,
+    width: Width,
     tables: &mut Tables<G>,
     tiers: &[u64],
     records: &[u8],
 ) -> Result<(), Refusal>
     requires closed { AreClosed G.rules tables.old }
-    requires known { AreTrue G.rules tiers.now records.now }
+    requires known { AreTrue G.rules width tiers.now records.now }
     ensures closed { OnOk result (AreClosed G.rules tables.new) }
     ensures held { OnOk result (HaveTables tables.new tiers.now) }
     ensures refused { IfErr result (IsUnheld (AreDisordered G.rules tiers.now)) }
 {
     let mut rest = records;
     for tier in tiers {
-        let size = G::tier_size(*tier);
-        if size > rest.len() as u64 {
+        let Some(count) = room_of::<G>(width, *tier, rest.len()) else {
             return Err(Refusal::Records);
-        }
-        let (bytes, later) = rest.split_at(size as usize);
-        hold_true(alloc, tables, *tier, bytes)?;
+        };
+        let (bytes, later) = rest.split_at(count);
+        hold_true(alloc, width, tables, *tier, bytes)?;
         rest = later;
     }
     Ok(())
 }
 
 // Solves a tier. Returns its table and the number of deliveries.
-fn solve<G: Game>(alloc: Global, tables: &Tables<G>, tier: u64) -> Result<(Table<G>, u64), Refusal>
+fn solve<G: Game>(
+    alloc: Global,
+    width: Width,
+    tables: &Tables<G>,
+    tier: u64,
+) -> Result<(Table<G>, u64), Refusal>
     ensures table { IfOk result (λ answer. IsTable G.rules answer.0) }
     ensures tier { IfOk result (λ answer. answer.0.tier ≡ tier) }
     ensures children { IfOk result (λ answer. AreHeld G.rules tables.now answer.0.tier) }
     ensures deliveries { IfOk result (λ answer. AreDeliveries G.rules tier answer.1) }
-    ensures refused { IfErr result (IsTierUnsolved G.rules tables.now tier) }
+    ensures refused { IfErr result (IsTierUnsolved G.rules width tables.now tier) }
 {
     if !is_next(tables, tier) {
         return Err(Refusal::Order);
@@ -211,25 +237,26 @@ fn solve<G: Game>(alloc: Global, tables: &Tables<G>, tier: u64) -> Result<(Table
 /// Solves a tier from the records of these tiers. Writes its records, and returns the number of deliveries.
 pub fn solve_next<G: Game>(
     alloc: Global,
+    width: Width,
     solved: &[u64],
     records: &[u8],
     tier: u64,
     out: &mut [u8],
 ) -> Result<u64, Refusal>
-    requires known { AreTrue G.rules solved.now records.now }
+    requires known { AreTrue G.rules width solved.now records.now }
     ensures few { IfOk result (λ n. n < 2 ^ 63) }
-    ensures known { OnOk result (IsTrueTier G.rules tier out.new) }
+    ensures known { OnOk result (IsTrueTier G.rules width tier out.new) }
     ensures deliveries { IfOk result (AreDeliveries G.rules tier) }
-    ensures refused { IfErr result (IsUnsolved G.rules solved.now tier (length out.old)) }
+    ensures refused { IfErr result (IsUnsolved G.rules width solved.now tier (length out.old)) }
 {
     let mut tables: Tables<G> = Tables::new(alloc);
-    hold_all(alloc, &mut tables, solved, records)?;
-    let (table, deliveries) = solve(alloc, &tables, tier)?;
+    hold_all(alloc, width, &mut tables, solved, records)?;
+    let (table, deliveries) = solve(alloc, width, &tables, tier)?;
     if deliveries >= MOST {
         return Err(Refusal::Room);
     }
     let mut bytes = Vec::new(alloc);
-    add(&mut bytes, &table)?;
+    add(width, &mut bytes, &table)?;
     put_bytes(&bytes, out)?;
     Ok(deliveries)
 }
@@ -249,6 +276,7 @@ fn put_bytes(bytes: &Vec<u8>, out: &mut [u8]) -> Result<(), Refusal>
 // Solves a tier, holds its table, and adds its records.
 fn solve_and_hold<G: Game>(
     alloc: Global,
+    width: Width,
     tables: &mut Tables<G>,
     tier: u64,
     bytes: &mut Vec<u8>,
@@ -256,42 +284,43 @@ fn solve_and_hold<G: Game>(
     requires closed { AreClosed G.rules tables.old }
     ensures closed { OnOk result (AreClosed G.rules tables.new) }
     ensures held { OnOk result ((t : ℕ) → IsHeld tables.old t ⊎ (tier ≡ t) → IsHeld tables.new t) }
-    ensures known { (tiers : List ℕ) → AreTrue G.rules tiers bytes.old.items → OnOk result (AreTrue G.rules (tiers ++ tier ∷ []) bytes.new.items) }
-    ensures refused { IfErr result (IsTierUnsolved G.rules tables.old tier) }
+    ensures known { (tiers : List ℕ) → AreTrue G.rules width tiers bytes.old.items → OnOk result (AreTrue G.rules width (tiers ++ tier ∷ []) bytes.new.items) }
+    ensures refused { IfErr result (IsTierUnsolved G.rules width tables.old tier) }
 {
-    let (table, _deliveries) = solve(alloc, tables, tier)?;
-    add(bytes, &table)?;
+    let (table, _deliveries) = solve(alloc, width, tables, tier)?;
+    add(width, bytes, &table)?;
     hold(tables, table)
 }
 
 /// Solves all tiers of a game. Writes the tiers, child tiers first, and their records, one tier after another.
 pub fn solve_game<G: Game>(
     alloc: Global,
+    width: Width,
     order: &mut [u64],
     out: &mut [u8],
 ) -> Result<usize, Refusal>
     ensures few { IfOk result (λ n. n < 2 ^ 63) }
     ensures order { IfOk result (λ n. IsTierOrder G.rules (take n order.new)) }
-    ensures known { IfOk result (λ n. AreTrue G.rules (take n order.new) out.new) }
-    ensures refused { IfErr result (IsUnsolvedGame G.rules (length order.old) (length out.old)) }
+    ensures known { IfOk result (λ n. AreTrue G.rules width (take n order.new) out.new) }
+    ensures refused { IfErr result (IsUnsolvedGame G.rules width (length order.old) (length out.old)) }
 {
     let tiers = order_of::<G>(alloc)?;
-    let bytes = solve_tiers::<G>(alloc, tiers.tiers())?;
+    let bytes = solve_tiers::<G>(alloc, width, tiers.tiers())?;
     put_bytes(&bytes, out)?;
     put_tiers(tiers.tiers(), order)
 }
 
 // Solves tiers, each after its child tiers, and returns their records, one tier after another.
-fn solve_tiers<G: Game>(alloc: Global, tiers: &[u64]) -> Result<Vec<u8>, Refusal>
+fn solve_tiers<G: Game>(alloc: Global, width: Width, tiers: &[u64]) -> Result<Vec<u8>, Refusal>
     requires small { (t : ℕ) → Contains tiers.now t → G.rules.tier_size t ≤ TIER_SIZE }
     requires children_first { ComeChildrenFirst G.rules tiers.now }
-    ensures known { IfOk result (λ bytes. AreTrue G.rules tiers.now bytes.items) }
-    ensures refused { IfErr result (AreUnsolved G.rules tiers.now) }
+    ensures known { IfOk result (λ bytes. AreTrue G.rules width tiers.now bytes.items) }
+    ensures refused { IfErr result (AreUnsolved G.rules width tiers.now) }
 {
     let mut tables: Tables<G> = Tables::new(alloc);
     let mut bytes = Vec::new(alloc);
     for tier in tiers {
-        solve_and_hold(alloc, &mut tables, *tier, &mut bytes)?;
+        solve_and_hold(alloc, width, &mut tables, *tier, &mut bytes)?;
     }
     Ok(bytes)
 }
@@ -299,19 +328,20 @@ fn solve_tiers<G: Game>(alloc: Global, tiers: &[u64]) -> Result<Vec<u8>, Refusal
 /// Answers lines from the records of these tiers.
 pub fn ask_lines<G: Shown>(
     alloc: Global,
+    width: Width,
     solved: &[u64],
     records: &[u8],
     asked: u32,
     lines: &[u8],
     out: &mut [u8],
 ) -> Result<usize, Refusal>
-    requires known { AreTrue G.Game.rules solved.now records.now }
+    requires known { AreTrue G.Game.rules width solved.now records.now }
     ensures few { IfOk result (λ n. n < 2 ^ 63) }
     ensures answers { IfOk result (λ n. AreAnswers (Says G.Game.rules G.shown G.move_shown asked solved.now) 1 (lines_of lines.now) (take n out.new)) }
     ensures refused { IfErr result (IsUnanswered G.Game.rules G.shown G.move_shown asked solved.now lines.now (length out.old)) }
 {
     let mut tables: Tables<G> = Tables::new(alloc);
-    hold_all(alloc, &mut tables, solved, records)?;
+    hold_all(alloc, width, &mut tables, solved, records)?;
     let closed = Closed { tables: &tables };
     let answers = answers(alloc, &closed, solved, asked, lines)?;
     let number = answers.len();

@@ -1,5 +1,5 @@
-//! The solver for a host such as a web page: exports that keep no state. The host keeps the records of the solved tiers, one byte
-//! each, in memory of its own.
+//! The solver for a host such as a web page: exports that keep no state. The host keeps the records of the solved tiers in memory
+//! of its own, each in as many bytes as `web_width` returns for the game.
 //!
 //! `web_solve_game` and `web_solve` write records, and `web_check` tests bytes from elsewhere. `web_solve` and `web_ask` require
 //! bytes that one of these three has written or accepted for the same tiers of the same game, unchanged since.
@@ -7,18 +7,23 @@
 
 ghost use Rattle.std.specs.Prelude.{◌≡◌};
 ghost use Rattle.gm_web.specs.Games.{IsFor, IsNoGame};
-ghost use Rattle.gm_web.specs.Records.{AreTrue};
+ghost use Rattle.gm_web.specs.Records.{AreTrue, bytes_of};
 ghost use Rattle.gm_web.specs.Replies.{IsAnswered, IsText, IsOrder, IsSolved, IsSolvedGame, IsChecked, refused};
 
 pub mod bytes;
 pub mod engine;
 pub mod refusal;
 pub mod told;
+pub mod width;
 
 use crate::told::{
     REFUSED, tell_check, tell_game, tell_lines, tell_order, tell_size, tell_text, tell_tier,
+    tell_width,
 };
+use crate::width::Width;
+use gm_chess::chess::{Kqk, Krk};
 use gm_dao::dao::Dao;
+use gm_dodgem::dodgem::Dodgem;
 use gm_hare::hare::Hare;
 use gm_morris::games::{Achi, ThreeMens, TicTacToe};
 use gm_mutorere::mutorere::MuTorere;
@@ -26,37 +31,51 @@ use gm_pong::pong::Pong;
 use gm_shisima::shisima::Shisima;
 use gm_tactix::tactix::TacTix;
 use gm_takeaway::takeaway::Takeaway;
+use gm_tapatan::tapatan::Tapatan;
 use gm_toys::countdown::Countdown;
 use gm_toys::wheel::Wheel;
 use std::alloc::Global;
 
-// Calls a function of the game with this number; if there is no such game, the last argument is the result. Each game has a line
-// here and one in specs/Games.antt.
+// Calls a function of the game with this number, with the width of its records as the first argument; if there is no such game, the
+// last argument is the result. Each game has a line here and one in specs/Games.antt.
 macro_rules! of_game {
-    ($game:expr, $of:ident, $given:tt, $none:expr) => {
+    ($game:expr, $of:ident, ($($given:expr),*), $none:expr) => {
         match $game {
-            0 => $of::<Countdown<10>> $given,
-            1 => $of::<Wheel> $given,
-            2 => $of::<TacTix<1, false>> $given,
-            3 => $of::<TacTix<2, false>> $given,
-            4 => $of::<TacTix<3, false>> $given,
-            5 => $of::<TacTix<4, false>> $given,
-            6 => $of::<TacTix<1, true>> $given,
-            7 => $of::<TacTix<2, true>> $given,
-            8 => $of::<TacTix<3, true>> $given,
-            9 => $of::<TacTix<4, true>> $given,
-            10 => $of::<TicTacToe> $given,
-            11 => $of::<ThreeMens> $given,
-            12 => $of::<Achi> $given,
-            13 => $of::<MuTorere> $given,
-            14 => $of::<Dao> $given,
-            15 => $of::<Hare> $given,
-            16 => $of::<Pong> $given,
-            17 => $of::<Shisima> $given,
-            18 => $of::<Takeaway> $given,
+            0 => $of::<Countdown<10>>(Width::Byte, $($given),*),
+            1 => $of::<Wheel>(Width::Byte, $($given),*),
+            2 => $of::<TacTix<1, false>>(Width::Byte, $($given),*),
+            3 => $of::<TacTix<2, false>>(Width::Byte, $($given),*),
+            4 => $of::<TacTix<3, false>>(Width::Byte, $($given),*),
+            5 => $of::<TacTix<4, false>>(Width::Byte, $($given),*),
+            6 => $of::<TacTix<1, true>>(Width::Byte, $($given),*),
+            7 => $of::<TacTix<2, true>>(Width::Byte, $($given),*),
+            8 => $of::<TacTix<3, true>>(Width::Byte, $($given),*),
+            9 => $of::<TacTix<4, true>>(Width::Byte, $($given),*),
+            10 => $of::<TicTacToe>(Width::Byte, $($given),*),
+            11 => $of::<ThreeMens>(Width::Byte, $($given),*),
+            12 => $of::<Achi>(Width::Byte, $($given),*),
+            13 => $of::<MuTorere>(Width::Byte, $($given),*),
+            14 => $of::<Dao>(Width::Byte, $($given),*),
+            15 => $of::<Hare>(Width::Byte, $($given),*),
+            16 => $of::<Pong>(Width::Byte, $($given),*),
+            17 => $of::<Shisima>(Width::Byte, $($given),*),
+            18 => $of::<Takeaway>(Width::Byte, $($given),*),
+            19 => $of::<Tapatan>(Width::Byte, $($given),*),
+            20 => $of::<Dodgem>(Width::Byte, $($given),*),
+            21 => $of::<Krk>(Width::Word, $($given),*),
+            22 => $of::<Kqk>(Width::Byte, $($given),*),
             _ => $none,
         }
     };
+}
+
+/// Returns the number of bytes of each record of a game, or 0 if there is no such game.
+#[unsafe(no_mangle)]
+pub extern "C" fn web_width(game: u32) -> u64
+    ensures width { IsFor game (λ g. result ≡ bytes_of g.width) }
+    ensures none { IsNoGame game → result ≡ 0 }
+{
+    of_game!(game, tell_width, (), 0)
 }
 
 /// Returns the number of indexes of a tier, or 0 if there is no such game.
@@ -97,7 +116,7 @@ pub extern "C" fn web_solve(
     tier: u64,
     out: &mut [u8],
 ) -> u64
-    requires known { IsFor game (λ g. AreTrue g.rules solved.now records.now) }
+    requires known { IsFor game (λ g. AreTrue g.rules g.width solved.now records.now) }
     ensures solved { IsFor game (λ g. IsSolved g solved.now tier out.old out.new result) }
     ensures none { IsNoGame game → result ≡ refused }
 {
@@ -130,7 +149,7 @@ pub extern "C" fn web_ask(
     lines: &[u8],
     out: &mut [u8],
 ) -> u64
-    requires known { IsFor game (λ g. AreTrue g.rules solved.now records.now) }
+    requires known { IsFor game (λ g. AreTrue g.rules g.width solved.now records.now) }
     ensures answered { IsFor game (λ g. IsAnswered g asked solved.now lines.now out.old out.new result) }
     ensures none { IsNoGame game → result ≡ refused }
 {

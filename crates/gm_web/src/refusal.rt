@@ -11,7 +11,7 @@ pub enum Refusal {
     Order,
     /// The bytes are not the records of the tiers.
     Records,
-    /// The remoteness of a position of the tier is too great for a byte.
+    /// The remoteness of a position of the tier is too great for a record.
     TooFar,
     /// There is less room than the answer takes, or the room for the records has another size.
     Room,

@@ -1,11 +1,12 @@
 //! The answers of the exports, for any game: a number, or a refusal with its reason.
 ghost use Rattle.std.specs.Prelude.{◌≡◌, ◌+◌, ◌<◌, ◌^◌, IfOk, IfErr, OnOk};
 ghost use Rattle.gm_web.specs.Games.{played};
-ghost use Rattle.gm_web.specs.Records.{AreTrue};
+ghost use Rattle.gm_web.specs.Records.{AreTrue, bytes_of};
 ghost use Rattle.gm_web.specs.Replies.{IsOrder, IsSolvedGame, IsSolved, IsChecked, IsAnswered, IsText, number_of, refused};
 
 use crate::engine::{ask_lines, check_tiers, put_order, put_text, solve_game, solve_next};
 use crate::refusal::Refusal;
+use crate::width::Width;
 use gm_game::game::Game;
 use gm_game::shown::Shown;
 use std::alloc::Global;
@@ -46,50 +47,59 @@ fn status_of(done: Result<(), Refusal>) -> u64
     }
 }
 
+/// Returns the number of bytes of a record.
+pub fn tell_width<G: Shown>(width: Width) -> u64
+    ensures { result ≡ bytes_of width }
+{
+    width.bytes()
+}
+
 /// Returns the number of indexes of a tier.
-pub fn tell_size<G: Shown>(tier: u64) -> u64
+pub fn tell_size<G: Shown>(_width: Width, tier: u64) -> u64
     ensures { result ≡ G.Game.rules.tier_size tier }
 {
     G::tier_size(tier)
 }
 
 /// Writes the tiers of a game.
-pub fn tell_order<G: Shown>(alloc: Global, out: &mut [u64]) -> u64
-    ensures { IsOrder (played G.Game.rules G.shown G.move_shown) out.old out.new result }
+pub fn tell_order<G: Shown>(width: Width, alloc: Global, out: &mut [u64]) -> u64
+    ensures { IsOrder (played width G.Game.rules G.shown G.move_shown) out.old out.new result }
 {
     count_or(put_order::<G>(alloc, out))
 }
 
 /// Solves a whole game.
-pub fn tell_game<G: Shown>(alloc: Global, order: &mut [u64], out: &mut [u8]) -> u64
-    ensures { IsSolvedGame (played G.Game.rules G.shown G.move_shown) order.old out.old order.new out.new result }
+pub fn tell_game<G: Shown>(width: Width, alloc: Global, order: &mut [u64], out: &mut [u8]) -> u64
+    ensures { IsSolvedGame (played width G.Game.rules G.shown G.move_shown) order.old out.old order.new out.new result }
 {
-    count_or(solve_game::<G>(alloc, order, out))
+    count_or(solve_game::<G>(alloc, width, order, out))
 }
 
 /// Solves a tier.
 pub fn tell_tier<G: Shown>(
+    width: Width,
     alloc: Global,
     solved: &[u64],
     records: &[u8],
     tier: u64,
     out: &mut [u8],
 ) -> u64
-    requires { AreTrue G.Game.rules solved.now records.now }
-    ensures { IsSolved (played G.Game.rules G.shown G.move_shown) solved.now tier out.old out.new result }
+    requires { AreTrue G.Game.rules width solved.now records.now }
+    ensures { IsSolved (played width G.Game.rules G.shown G.move_shown) solved.now tier out.old out.new result }
 {
-    number_or(solve_next::<G>(alloc, solved, records, tier, out))
+    number_or(solve_next::<G>(alloc, width, solved, records, tier, out))
 }
 
 /// Checks records.
-pub fn tell_check<G: Shown>(alloc: Global, tiers: &[u64], records: &[u8]) -> u64
-    ensures { IsChecked (played G.Game.rules G.shown G.move_shown) tiers.now records.now result }
+pub fn tell_check<G: Shown>(width: Width, alloc: Global, tiers: &[u64], records: &[u8]) -> u64
+    ensures { IsChecked (played width G.Game.rules G.shown G.move_shown) tiers.now records.now result }
 {
-    status_of(check_tiers::<G>(alloc, tiers, records))
+    status_of(check_tiers::<G>(alloc, width, tiers, records))
 }
 
 /// Answers lines.
 pub fn tell_lines<G: Shown>(
+    width: Width,
     alloc: Global,
     solved: &[u64],
     records: &[u8],
@@ -97,15 +107,15 @@ pub fn tell_lines<G: Shown>(
     lines: &[u8],
     out: &mut [u8],
 ) -> u64
-    requires { AreTrue G.Game.rules solved.now records.now }
-    ensures { IsAnswered (played G.Game.rules G.shown G.move_shown) asked solved.now lines.now out.old out.new result }
+    requires { AreTrue G.Game.rules width solved.now records.now }
+    ensures { IsAnswered (played width G.Game.rules G.shown G.move_shown) asked solved.now lines.now out.old out.new result }
 {
-    count_or(ask_lines::<G>(alloc, solved, records, asked, lines, out))
+    count_or(ask_lines::<G>(alloc, width, solved, records, asked, lines, out))
 }
 
 /// Writes the text of a position.
-pub fn tell_text<G: Shown>(tier: u64, index: u64, out: &mut [u8]) -> u64
-    ensures { IsText (played G.Game.rules G.shown G.move_shown) tier index out.old out.new result }
+pub fn tell_text<G: Shown>(width: Width, tier: u64, index: u64, out: &mut [u8]) -> u64
+    ensures { IsText (played width G.Game.rules G.shown G.move_shown) tier index out.old out.new result }
 {
     count_or(put_text::<G>(tier, index, out))
 }

@@ -6,7 +6,7 @@ const does = {
     return { total: held.total, counts: engine.counts(game) };
   },
   ask: ({ game, text }) => engine.ask(game, text),
-  random: ({ game, byte }) => engine.random(game, byte),
+  random: ({ game, record }) => engine.random(game, record),
   puzzle: ({ game }) => engine.puzzle(game),
 };
 onmessage = async ({ data }) => {

@@ -1,59 +1,46 @@
 -- Legal boards and their moves, part by part.
-use Rattle.std.specs.Prelude.{◌≡◌, ◌≢◌, ◌+◌, ◌<◌, ◌≤◌, ◌&&◌, ◌||◌, ◌*◌, ◌/◌, ◌%◌, ◌-◌, ◌∷◌, ◌⊎◌, if◌then◌else◌}
-use Rattle.gm_pieces.specs.Common.{ℕ, Bool, true, false, not, eqb, eqb-true, eq-eqb, ltb, ltb-true, lt-ltb, nat_tests, refl, sym, ap, ap₂, ◌∙◌, subst, arith}
-use Rattle.gm_pieces.specs.Common.{inl, inr, cases_Bool, true≢false, and_left, and_right, and_both, Option, None, Some, IsMove}
+use Rattle.std.specs.Prelude.{◌≡◌, ◌<◌, ◌≤◌, ◌&&◌, ◌||◌, ◌⊎◌, if◌then◌else◌}
+use Rattle.gm_pieces.specs.Common.{ℕ, Bool, true, false, not, eqb, eqb-true, eq-eqb, ltb-true, lt-ltb, nat_tests, refl, sym, ap, ap₂, ◌∙◌, subst, arith}
+use Rattle.gm_pieces.specs.Common.{inl, inr, cases_Bool, true≢false, and_left, and_right, and_both, or_cases}
 use Rattle.gm_chess.specs.declared.men.Men.{Men}
 use Rattle.gm_chess.specs.Chess.{king_attacks, piece_attacks, in_check, legal, man, from_square, to_square, king_can, piece_can, foe_can, can_move, moved}
-use Rattle.gm_chess.specs.Chess.{king_gone, piece_gone, foe_gone, can_have_led_here, undo, king_back, piece_back, foe_back, end_by_last_move, ending, tier}
+use Rattle.gm_chess.specs.Chess.{king_gone, piece_gone, foe_gone, can_have_led_here, undo, king_back, piece_back, foe_back}
 use Rattle.gm_chess.specs.laws.SquareFacts.{king_mutual}
+
+-- ---- tests
+pub if_true : {X : Type 0} (x : Bool) (y z : X) → x ≡ true → (if x then y else z) ≡ y
+if_true true y z e = refl
+if_true false y z e = absurd (true≢false (sym e))
+
+pub if_false : {X : Type 0} (x : Bool) (y z : X) → x ≡ false → (if x then y else z) ≡ z
+if_false true y z e = absurd (true≢false e)
+if_false false y z e = refl
+
+differ : (a c : ℕ) → not (eqb a c) ≡ true → (not (eqb c a) ≡ true) × (eqb c a ≡ false)
+differ a c e = (grind (arith, nat_tests), grind (arith, nat_tests))
+
+-- squares differ of which only one is attacked
+apart_by : (a c d : ℕ) → king_attacks a c ≡ true → not (king_attacks a d) ≡ true → not (eqb c d) ≡ true
+apart_by a c d e f = elim (cases_Bool (eqb c d)) [
+  | inl i ↦ absurd (true≢false (sym f ∙ ap not (ap (king_attacks a) (sym (eqb-true c d i)) ∙ e)))
+  | inr i ↦ ap not i
+]
 
 -- ---- legal boards
 -- the rook or queen, if it has not been taken
 pub record IsArmed (q : Bool) (b : Men) : Type 0 where
   pub below : b.piece < 64
-  pub king : b.piece ≢ b.king
-  pub foe : b.piece ≢ b.foe
-  pub check : b.white_moves ≡ true → in_check q b ≡ false
+  pub king : not (eqb b.piece b.king) ≡ true
+  pub foe : not (eqb b.piece b.foe) ≡ true
+  pub check : not (b.white_moves && in_check q b) ≡ true
 
 pub record IsLegal (q : Bool) (b : Men) : Type 0 where
   pub king : b.king < 64
   pub foe : b.foe < 64
-  pub kings : b.king ≢ b.foe
-  pub apart : king_attacks b.king b.foe ≡ false
-  pub bare : b.piece ≡ 64 → b.white_moves ≡ true
-  pub armed : b.piece ≢ 64 → IsArmed q b
-
-not_true : (x : Bool) → not x ≡ true → x ≡ false
-not_true true e = absurd (true≢false (sym e))
-not_true false e = refl
-
-not_false : (x : Bool) → x ≡ false → not x ≡ true
-not_false x e = ap not e
-
-differs : (a c : ℕ) → not (eqb a c) ≡ true → a ≢ c
-differs a c e = grind (arith, nat_tests)
-
-differing : (a c : ℕ) → a ≢ c → not (eqb a c) ≡ true
-differing a c h = grind (arith, nat_tests)
-
-if_true : {X : Type 0} (x : Bool) (y z : X) → x ≡ true → (if x then y else z) ≡ y
-if_true true y z e = refl
-if_true false y z e = absurd (true≢false (sym e))
-
-if_false : {X : Type 0} (x : Bool) (y z : X) → x ≡ false → (if x then y else z) ≡ z
-if_false true y z e = absurd (true≢false e)
-if_false false y z e = refl
-
-unequal : (a c : ℕ) → a ≢ c → eqb a c ≡ false
-unequal a c h = grind (arith, nat_tests)
-
-no_check : (w c : Bool) → not (w && c) ≡ true → w ≡ true → c ≡ false
-no_check true c e f = not_true c e
-no_check false c e f = absurd (true≢false (sym f))
-
-check_none : (w c : Bool) → (w ≡ true → c ≡ false) → not (w && c) ≡ true
-check_none true c h = not_false c (h refl)
-check_none false c h = refl
+  pub kings : not (eqb b.king b.foe) ≡ true
+  pub apart : not (king_attacks b.king b.foe) ≡ true
+  pub bare : eqb b.piece 64 ≡ true → b.white_moves ≡ true
+  pub armed : eqb b.piece 64 ≡ false → IsArmed q b
 
 pub legal_in : (q : Bool) (b : Men) → legal q b ≡ true → IsLegal q b
 unfolding legal
@@ -65,40 +52,43 @@ legal_in q b l =
     record {
       king = ltb-true _ _ (and_left _ _ l);
       foe = ltb-true _ _ (and_left _ _ l1);
-      kings = differs _ _ (and_left _ _ l2);
-      apart = not_true _ (and_left _ _ l3);
-      bare = λ e. sym (if_true (eqb b.piece 64) _ _ (eq-eqb _ _ e)) ∙ l4;
-      armed = λ n.
-          let r = sym (if_false (eqb b.piece 64) b.white_moves _ (unequal _ _ n)) ∙ l4 in
+      kings = and_left _ _ l2;
+      apart = and_left _ _ l3;
+      bare = λ e. sym (if_true (eqb b.piece 64) _ _ e) ∙ l4;
+      armed = λ e.
+          let r = sym (if_false (eqb b.piece 64) b.white_moves _ e) ∙ l4 in
           let r1 = and_right _ _ r in
           let r2 = and_right _ _ r1 in
-          record {
-            below = ltb-true _ _ (and_left _ _ r);
-            king = differs _ _ (and_left _ _ r1);
-            foe = differs _ _ (and_left _ _ r2);
-            check = λ w. no_check _ _ (and_right _ _ r2) w;
-          };
+          record { below = ltb-true _ _ (and_left _ _ r); king = and_left _ _ r1; foe = and_left _ _ r2; check = and_right _ _ r2 };
     }
 
-pub legal_from : (q : Bool) (b : Men) → IsLegal q b → legal q b ≡ true
+legal_from : (q : Bool) (b : Men) → IsLegal q b → legal q b ≡ true
 unfolding legal
 legal_from q b h =
-    and_both _ _ (lt-ltb _ _ h.king)
-    (and_both _ _ (lt-ltb _ _ h.foe)
-    (and_both _ _ (differing _ _ h.kings)
-    (and_both _ _ (not_false _ h.apart)
+    and_both _ _ (lt-ltb _ _ h.king) (and_both _ _ (lt-ltb _ _ h.foe) (and_both _ _ h.kings (and_both _ _ h.apart
     (elim (cases_Bool (eqb b.piece 64)) [
-      | inl e ↦ if_true (eqb b.piece 64) _ _ e ∙ h.bare (eqb-true _ _ e)
-      | inr e ↦
-          let a = h.armed (λ i. true≢false (sym (eq-eqb _ _ i) ∙ e)) in
-          if_false (eqb b.piece 64) _ _ e
-          ∙ and_both _ _ (lt-ltb _ _ a.below) (and_both _ _ (differing _ _ a.king) (and_both _ _ (differing _ _ a.foe) (check_none _ _ a.check)))
+      | inl e ↦ if_true (eqb b.piece 64) _ _ e ∙ h.bare e
+      | inr e ↦ if_false (eqb b.piece 64) _ _ e
+          ∙ (let a = h.armed e in and_both _ _ (lt-ltb _ _ a.below) (and_both _ _ a.king (and_both _ _ a.foe a.check)))
     ]))))
 
-pub piece_small : (q : Bool) (b : Men) → IsLegal q b → b.piece ≤ 64
-piece_small q b h = elim (cases_Bool (eqb b.piece 64)) [
+-- the squares of a legal board
+pub king_below : (q : Bool) (b : Men) → legal q b ≡ true → b.king < 64
+king_below q b l = (legal_in q b l).king
+
+pub foe_below : (q : Bool) (b : Men) → legal q b ≡ true → b.foe < 64
+foe_below q b l = (legal_in q b l).foe
+
+pub piece_most : (q : Bool) (b : Men) → legal q b ≡ true → b.piece ≤ 64
+piece_most q b l = elim (cases_Bool (eqb b.piece 64)) [
   | inl e ↦ (let i = eqb-true _ _ e in omega (arith, i))
-  | inr e ↦ (let a = (h.armed (λ i. true≢false (sym (eq-eqb _ _ i) ∙ e))).below in omega (arith, a))
+  | inr e ↦ (let a = ((legal_in q b l).armed e).below in omega (arith, a))
+]
+
+pub piece_below : (q : Bool) (b : Men) → legal q b ≡ true → b.white_moves ≡ false → b.piece < 64
+piece_below q b l w = elim (cases_Bool (eqb b.piece 64)) [
+  | inl e ↦ absurd (true≢false (sym ((legal_in q b l).bare e) ∙ w))
+  | inr e ↦ ((legal_in q b l).armed e).below
 ]
 
 -- boards with the same men are equal
@@ -107,130 +97,10 @@ same_men x y e f g h =
     ap₂ (λ (t : Bool) (k : ℕ). let z : Men = record { white_moves = t; king = k; piece = x.piece; foe = x.foe } in z) e f
     ∙ ap₂ (λ (p r : ℕ). let z : Men = record { white_moves = y.white_moves; king = y.king; piece = p; foe = r } in z) g h
 
--- ---- moves
-pub record IsKingMove (b : Men) (m : ℕ) : Type 0 where
-  pub white : b.white_moves ≡ true
-  pub is : man m ≡ 0
-  pub from : from_square m ≡ b.king
-  pub attacks : king_attacks (from_square m) (to_square m) ≡ true
-  pub free : to_square m ≢ b.piece
-  pub safe : king_attacks (to_square m) b.foe ≡ false
-
-pub record IsPieceMove (q : Bool) (b : Men) (m : ℕ) : Type 0 where
-  pub white : b.white_moves ≡ true
-  pub is : man m ≡ 1
-  pub from : from_square m ≡ b.piece
-  pub attacks : piece_attacks q (from_square m) (to_square m) b.king b.foe ≡ true
-  pub king : to_square m ≢ b.king
-  pub foe : to_square m ≢ b.foe
-
-pub record IsFoeMove (q : Bool) (b : Men) (m : ℕ) : Type 0 where
-  pub black : b.white_moves ≡ false
-  pub is : man m ≡ 2
-  pub from : from_square m ≡ b.foe
-  pub attacks : king_attacks (from_square m) (to_square m) ≡ true
-  pub safe : king_attacks b.king (to_square m) ≡ false
-  pub unguarded : (eqb (to_square m) b.piece || not (piece_attacks q b.piece (to_square m) b.king b.king)) ≡ true
-
-abbrev pub IsManMove : Bool → Men → ℕ → Type 0
-IsManMove q b m = IsKingMove b m ⊎ (IsPieceMove q b m ⊎ IsFoeMove q b m)
-
-either : (x y : Bool) → (x || y) ≡ true → (x ≡ true) ⊎ (y ≡ true)
-either true y e = inl refl
-either false y e = inr e
-
-either_left : (x y : Bool) → x ≡ true → (x || y) ≡ true
-either_left true y e = refl
-either_left false y e = absurd (true≢false (sym e))
-
-either_right : (x y : Bool) → y ≡ true → (x || y) ≡ true
-either_right true y e = refl
-either_right false y e = e
-
-king_in : (b : Men) (m : ℕ) → b.white_moves ≡ true → (eqb (man m) 0 && king_can b (from_square m) (to_square m)) ≡ true → IsKingMove b m
-unfolding king_can
-king_in b m w e =
-    let e1 = and_right (eqb (man m) 0) _ e in
-    let e2 = and_right (eqb (from_square m) b.king) _ e1 in
-    let e3 = and_right (king_attacks (from_square m) (to_square m)) _ e2 in
-    record {
-      white = w;
-      is = eqb-true _ _ (and_left _ _ e);
-      from = eqb-true _ _ (and_left _ _ e1);
-      attacks = and_left _ _ e2;
-      free = differs _ _ (and_left _ _ e3);
-      safe = not_true _ (and_right _ _ e3);
-    }
-
-piece_in : (q : Bool) (b : Men) (m : ℕ) → b.white_moves ≡ true → (eqb (man m) 1 && piece_can q b (from_square m) (to_square m)) ≡ true → IsPieceMove q b m
-unfolding piece_can
-piece_in q b m w e =
-    let e1 = and_right (eqb (man m) 1) _ e in
-    let e2 = and_right (eqb (from_square m) b.piece) _ e1 in
-    let e3 = and_right (piece_attacks q (from_square m) (to_square m) b.king b.foe) _ e2 in
-    record {
-      white = w;
-      is = eqb-true _ _ (and_left _ _ e);
-      from = eqb-true _ _ (and_left _ _ e1);
-      attacks = and_left _ _ e2;
-      king = differs _ _ (and_left _ _ e3);
-      foe = differs _ _ (and_right _ _ e3);
-    }
-
-foe_in : (q : Bool) (b : Men) (m : ℕ) → b.white_moves ≡ false → (eqb (man m) 2 && foe_can q b (from_square m) (to_square m)) ≡ true → IsFoeMove q b m
-unfolding foe_can
-foe_in q b m w e =
-    let e1 = and_right (eqb (man m) 2) _ e in
-    let e2 = and_right (eqb (from_square m) b.foe) _ e1 in
-    let e3 = and_right (king_attacks (from_square m) (to_square m)) _ e2 in
-    record {
-      black = w;
-      is = eqb-true _ _ (and_left _ _ e);
-      from = eqb-true _ _ (and_left _ _ e1);
-      attacks = and_left _ _ e2;
-      safe = not_true _ (and_left _ _ e3);
-      unguarded = and_right _ _ e3;
-    }
-
-pub move_in : (q : Bool) (b : Men) (m : ℕ) → can_move q b m ≡ true → IsManMove q b m
-unfolding can_move
-move_in q b m e = elim (cases_Bool b.white_moves) [
-  | inl w ↦ elim (either _ _ (sym (if_true b.white_moves _ _ w) ∙ e)) [ inl k ↦ inl (king_in b m w k) | inr p ↦ inr (inl (piece_in q b m w p)) ]
-  | inr w ↦ inr (inr (foe_in q b m w (sym (if_false b.white_moves _ _ w) ∙ e)))
-]
-
-pub king_from : (q : Bool) (b : Men) (m : ℕ) → IsKingMove b m → can_move q b m ≡ true
-unfolding can_move king_can
-king_from q b m h =
-    if_true b.white_moves _ _ h.white
-    ∙ either_left _ _ (and_both _ _ (eq-eqb _ _ h.is) (and_both _ _ (eq-eqb _ _ h.from) (and_both _ _ h.attacks
-    (and_both _ _ (differing _ _ h.free) (not_false _ h.safe)))))
-
-pub piece_from : (q : Bool) (b : Men) (m : ℕ) → IsPieceMove q b m → can_move q b m ≡ true
-unfolding can_move piece_can
-piece_from q b m h =
-    if_true b.white_moves _ _ h.white
-    ∙ either_right _ _ (and_both _ _ (eq-eqb _ _ h.is) (and_both _ _ (eq-eqb _ _ h.from) (and_both _ _ h.attacks
-    (and_both _ _ (differing _ _ h.king) (differing _ _ h.foe)))))
-
-pub foe_from : (q : Bool) (b : Men) (m : ℕ) → IsFoeMove q b m → can_move q b m ≡ true
-unfolding can_move foe_can
-foe_from q b m h =
-    if_false b.white_moves _ _ h.black
-    ∙ and_both _ _ (eq-eqb _ _ h.is) (and_both _ _ (eq-eqb _ _ h.from) (and_both _ _ h.attacks (and_both _ _ (not_false _ h.safe) h.unguarded)))
-
--- ---- the board after a move
-pub by_king : (b : Men) (m : ℕ) → man m ≡ 0 → (moved b m ≡ king_gone b (to_square m)) × (undo b m ≡ king_back b (from_square m))
-unfolding moved undo
-by_king b m e = rw e (refl, refl)
-
-pub by_piece : (b : Men) (m : ℕ) → man m ≡ 1 → (moved b m ≡ piece_gone b (to_square m)) × (undo b m ≡ piece_back b (from_square m))
-unfolding moved undo
-by_piece b m e = rw e (refl, refl)
-
-pub by_foe : (b : Men) (m : ℕ) → man m ≡ 2 → (moved b m ≡ foe_gone b (to_square m)) × (undo b m ≡ foe_back b (from_square m))
-unfolding moved undo
-by_foe b m e = rw e (refl, refl)
+-- ---- numbers
+pub man_small : (m : ℕ) → m < 12288 → man m ≤ 2
+unfolding man
+man_small m l = omega (arith, l)
 
 pub to_below : (m : ℕ) → to_square m < 64
 unfolding to_square
@@ -240,162 +110,175 @@ pub from_below : (m : ℕ) → from_square m < 64
 unfolding from_square
 from_below m = omega arith
 
--- no man on the board has the square of men that are taken
-off_board : (s : ℕ) → s < 64 → s ≢ 64
-off_board s l = λ e. omega (arith, l, e)
+-- ---- moves
+-- a move of the man k, of this side and from this square, that passes the rest of its test
+pub record IsManMove (b : Men) (m k : ℕ) (white : Bool) (square : ℕ) (rest : ℕ → Bool) : Type 0 where
+  pub side : b.white_moves ≡ white
+  pub is : man m ≡ k
+  pub from : from_square m ≡ square
+  pub can : rest square ≡ true
 
-king_legal : (q : Bool) (b : Men) (m : ℕ) → IsLegal q b → b.piece ≢ 64 → IsKingMove b m → IsLegal q (king_gone b (to_square m))
-king_legal q b m h n k =
+abbrev king_rest : Men → ℕ → ℕ → Bool
+king_rest b c a = king_attacks a c && (not (eqb c b.piece) && not (king_attacks c b.foe))
+
+abbrev piece_rest : Bool → Men → ℕ → ℕ → Bool
+piece_rest q b c a = piece_attacks q a c b.king b.foe && (not (eqb c b.king) && not (eqb c b.foe))
+
+abbrev foe_rest : Bool → Men → ℕ → ℕ → Bool
+foe_rest q b c a = king_attacks a c && (not (king_attacks b.king c) && (eqb c b.piece || not (piece_attacks q b.piece c b.king b.king)))
+
+abbrev pub IsMoveOf : Bool → Men → ℕ → Type 0
+IsMoveOf q b m =
+    IsManMove b m 0 true b.king (king_rest b (to_square m))
+    ⊎ (IsManMove b m 1 true b.piece (piece_rest q b (to_square m)) ⊎ IsManMove b m 2 false b.foe (foe_rest q b (to_square m)))
+
+man_in : (b : Men) (m k : ℕ) (w : Bool) (s : ℕ) (rest : ℕ → Bool) → b.white_moves ≡ w
+    → (eqb (man m) k && (eqb (from_square m) s && rest (from_square m))) ≡ true → IsManMove b m k w s rest
+man_in b m k w s rest i e =
+    let f = and_right (eqb (man m) k) _ e in
+    let from = eqb-true _ _ (and_left _ _ f) in
+    record { side = i; is = eqb-true _ _ (and_left _ _ e); from = from; can = ap rest (sym from) ∙ and_right (eqb (from_square m) s) _ f }
+
+pub move_in : (q : Bool) (b : Men) (m : ℕ) → can_move q b m ≡ true → IsMoveOf q b m
+unfolding can_move king_can piece_can foe_can
+move_in q b m e =
+    let c = to_square m in
+    elim (cases_Bool b.white_moves) [
+      | inl w ↦ elim (or_cases _ _ (sym (if_true b.white_moves _ _ w) ∙ e)) [
+        | inl k ↦ inl (man_in b m 0 true b.king (king_rest b c) w k)
+        | inr k ↦ inr (inl (man_in b m 1 true b.piece (piece_rest q b c) w k))
+      ]
+      | inr w ↦ inr (inr (man_in b m 2 false b.foe (foe_rest q b c) w (sym (if_false b.white_moves _ _ w) ∙ e)))
+    ]
+
+-- ---- legal after a move
+king_legal : (q : Bool) (b : Men) (c : ℕ) → IsLegal q b → eqb b.piece 64 ≡ false → c < 64 → king_rest b c b.king ≡ true → IsLegal q (king_gone b c)
+king_legal q b c h n l k =
     let a = h.armed n in
+    let r = and_right (king_attacks b.king c) _ k in
     record {
-      king = to_below m;
+      king = l;
       foe = h.foe;
-      kings = λ e. true≢false (sym k.attacks ∙ ap₂ king_attacks k.from e ∙ h.apart);
-      apart = k.safe;
-      bare = λ e. absurd (n e);
-      armed = λ i. record { below = a.below; king = λ e. k.free (sym e); foe = a.foe; check = λ w. absurd (true≢false (sym w)) };
+      kings = apart_by b.king c b.foe (and_left _ _ k) h.apart;
+      apart = and_right (not (eqb c b.piece)) _ r;
+      bare = λ e. absurd (true≢false (sym e ∙ n));
+      armed = λ i. record { below = a.below; king = (differ c b.piece (and_left _ _ r)).0; foe = a.foe; check = refl };
     }
 
-piece_legal : (q : Bool) (b : Men) (m : ℕ) → IsLegal q b → b.piece ≢ 64 → IsPieceMove q b m → IsLegal q (piece_gone b (to_square m))
-piece_legal q b m h n k = record {
-  king = h.king;
-  foe = h.foe;
-  kings = h.kings;
-  apart = h.apart;
-  bare = λ e. absurd (off_board _ (to_below m) e);
-  armed = λ i. record { below = to_below m; king = k.king; foe = k.foe; check = λ w. absurd (true≢false (sym w)) };
-}
-
--- if the rook or queen is not taken when the black king goes to a square, it is unchanged
-left : (q : Bool) (b : Men) (c : ℕ) → IsArmed q b → (p : ℕ) → p ≡ (if eqb c b.piece then 64 else b.piece) → p ≢ 64 → (p ≡ b.piece) × (eqb c b.piece ≡ false)
-left q b c a p e n = elim (cases_Bool (eqb c b.piece)) [
-  | inl i ↦ absurd (n (e ∙ if_true (eqb c b.piece) 64 b.piece i))
-  | inr i ↦ (e ∙ if_false (eqb c b.piece) 64 b.piece i, i)
-]
-
-kept_safe : (x y : Bool) → (x || not y) ≡ true → x ≡ false → y ≡ false
-kept_safe true y e f = absurd (true≢false f)
-kept_safe false y e f = not_true y e
-
-foe_legal : (q : Bool) (b : Men) (m : ℕ) → IsLegal q b → b.piece ≢ 64 → IsFoeMove q b m → IsLegal q (foe_gone b (to_square m))
-unfolding in_check
-foe_legal q b m h n k =
-    let a = h.armed n in
-    let c = to_square m in
-    let p = if eqb c b.piece then 64 else b.piece in
+piece_legal : (q : Bool) (b : Men) (c : ℕ) → IsLegal q b → c < 64 → piece_rest q b c b.piece ≡ true → IsLegal q (piece_gone b c)
+piece_legal q b c h l k =
+    let r = and_right (piece_attacks q b.piece c b.king b.foe) _ k in
     record {
       king = h.king;
-      foe = to_below m;
-      kings = λ e. true≢false (sym k.attacks ∙ ap₂ king_attacks k.from (sym e) ∙ sym (king_mutual b.king b.foe h.king h.foe) ∙ h.apart);
-      apart = k.safe;
+      foe = h.foe;
+      kings = h.kings;
+      apart = h.apart;
+      bare = λ e. absurd (let i = eqb-true c 64 e in omega (arith, l, i));
+      armed = λ i. record { below = l; king = and_left _ _ r; foe = and_right (not (eqb c b.king)) _ r; check = refl };
+    }
+
+foe_legal : (q : Bool) (b : Men) (c : ℕ) → IsLegal q b → eqb b.piece 64 ≡ false → c < 64 → foe_rest q b c b.foe ≡ true → IsLegal q (foe_gone b c)
+unfolding in_check
+foe_legal q b c h n l k =
+    let a = h.armed n in
+    let r = and_right (king_attacks b.foe c) _ k in
+    record {
+      king = h.king;
+      foe = l;
+      kings = (differ c b.king (apart_by b.foe c b.king (and_left _ _ k) (ap not (king_mutual b.foe b.king h.foe h.king) ∙ h.apart))).0;
+      apart = and_left _ _ r;
       bare = λ e. refl;
-      armed = λ i.
-          let l = left q b c a p refl i in
-          record {
-            below = subst (λ (s : ℕ). s < 64) (sym l.0) a.below;
-            king = λ e. a.king (sym l.0 ∙ e);
-            foe = λ e. true≢false (sym (eq-eqb c b.piece (sym e ∙ l.0)) ∙ l.1);
-            check = λ w. ap (λ (s : ℕ). piece_attacks q s c b.king b.king) l.0 ∙ kept_safe _ _ k.unguarded l.1;
-          };
+      armed = λ i. elim (cases_Bool (eqb c b.piece)) [
+        | inl e ↦ absurd (true≢false (ap (λ (t : Bool). eqb (if t then 64 else b.piece) 64) (sym e) ∙ i))
+        | inr e ↦ (
+            let o = sym (if_false (eqb c b.piece) 64 b.piece e) in
+            record {
+              below = subst (λ (s : ℕ). s < 64) o a.below;
+              king = subst (λ (s : ℕ). not (eqb s b.king) ≡ true) o a.king;
+              foe = subst (λ (s : ℕ). not (eqb s c) ≡ true) o (differ c b.piece (ap not e)).0;
+              check = subst (λ (s : ℕ). not (piece_attacks q s c b.king b.king) ≡ true) o
+                  (elim (or_cases _ _ (and_right (not (king_attacks b.king c)) _ r)) [ inl f ↦ absurd (true≢false (sym f ∙ e)) | inr f ↦ f ]);
+            })
+      ];
     }
 
 -- a move from a board with three men keeps the board legal
-pub moved_legal : (q : Bool) (b : Men) (m : ℕ) → IsLegal q b → b.piece ≢ 64 → IsManMove q b m → IsLegal q (moved b m)
+pub moved_legal : (q : Bool) (b : Men) (m : ℕ) → IsLegal q b → eqb b.piece 64 ≡ false → IsMoveOf q b m → legal q (moved b m) ≡ true
+unfolding moved
 moved_legal q b m h n v = elim v [
-  | inl k ↦ subst (IsLegal q) (sym (by_king b m k.is).0) (king_legal q b m h n k)
+  | inl k ↦ rw k.is (legal_from q _ (king_legal q b (to_square m) h n (to_below m) k.can))
   | inr u ↦ elim u [
-    | inl k ↦ subst (IsLegal q) (sym (by_piece b m k.is).0) (piece_legal q b m h n k)
-    | inr k ↦ subst (IsLegal q) (sym (by_foe b m k.is).0) (foe_legal q b m h n k)
+    | inl k ↦ rw k.is (legal_from q _ (piece_legal q b (to_square m) h (to_below m) k.can))
+    | inr k ↦ rw k.is (legal_from q _ (foe_legal q b (to_square m) h n (to_below m) k.can))
   ]
 ]
 
 -- ---- moves back
-was_white : (d : Men) (m : ℕ) → d.white_moves ≡ false → ((eqb (man m) 0 && eqb (to_square m) d.king) || (eqb (man m) 1 && eqb (to_square m) d.piece)) ≡ true
-    → can_have_led_here d m ≡ true
-unfolding can_have_led_here
-was_white d m w e = if_false d.white_moves _ _ w ∙ e
-
-was_black : (d : Men) (m : ℕ) → d.white_moves ≡ true → (eqb (man m) 2 && eqb (to_square m) d.foe) ≡ true → can_have_led_here d m ≡ true
-unfolding can_have_led_here
-was_black d m w e = if_true d.white_moves _ _ w ∙ e
-
 -- taking back a move of the black king restores the rook or queen
-stood : (b : Men) (c : ℕ) → b.piece ≢ 64 → (if eqb (if eqb c b.piece then 64 else b.piece) 64 then c else (if eqb c b.piece then 64 else b.piece)) ≡ b.piece
+stood : (b : Men) (c : ℕ) → eqb b.piece 64 ≡ false → (if eqb (if eqb c b.piece then 64 else b.piece) 64 then c else (if eqb c b.piece then 64 else b.piece))
+    ≡ b.piece
 stood b c n = elim (cases_Bool (eqb c b.piece)) [
   | inl e ↦ rw e (eqb-true c b.piece e)
-  | inr e ↦ rw e (if_false (eqb b.piece 64) c b.piece (unequal _ _ n))
+  | inr e ↦ rw e (if_false (eqb b.piece 64) c b.piece n)
 ]
 
 -- a move that is taken back gives the board
-pub undone : (q : Bool) (b : Men) (m : ℕ) → b.piece ≢ 64 → IsManMove q b m → (can_have_led_here (moved b m) m ≡ true) × (undo (moved b m) m ≡ b)
-undone q b m n v = elim v [
-  | inl k ↦
-      let d = king_gone b (to_square m) in
-      subst (λ (d : Men). (can_have_led_here d m ≡ true) × (undo d m ≡ b)) (sym (by_king b m k.is).0) (
-        was_white d m refl (either_left _ _ (and_both _ _ (eq-eqb _ _ k.is) (eq-eqb (to_square m) (to_square m) refl))),
-        (by_king d m k.is).1 ∙ same_men (king_back d (from_square m)) b (sym k.white) k.from refl refl,
-      )
-  | inr u ↦ elim u [
-    | inl k ↦
-        let d = piece_gone b (to_square m) in
-        subst (λ (d : Men). (can_have_led_here d m ≡ true) × (undo d m ≡ b)) (sym (by_piece b m k.is).0) (
-          was_white d m refl (either_right _ _ (and_both _ _ (eq-eqb _ _ k.is) (eq-eqb (to_square m) (to_square m) refl))),
-          (by_piece d m k.is).1 ∙ same_men (piece_back d (from_square m)) b (sym k.white) refl k.from refl,
-        )
-    | inr k ↦
-        let d = foe_gone b (to_square m) in
-        subst (λ (d : Men). (can_have_led_here d m ≡ true) × (undo d m ≡ b)) (sym (by_foe b m k.is).0) (
-          was_black d m refl (and_both _ _ (eq-eqb _ _ k.is) (eq-eqb (to_square m) (to_square m) refl)),
-          (by_foe d m k.is).1 ∙ same_men (foe_back d (from_square m)) b (sym k.black) refl (stood b (to_square m) n) k.from,
-        )
+pub undone : (q : Bool) (b : Men) (m : ℕ) → eqb b.piece 64 ≡ false → IsMoveOf q b m → (can_have_led_here (moved b m) m ≡ true) × (undo (moved b m) m ≡ b)
+unfolding moved undo can_have_led_here
+undone q b m n v =
+    let a = from_square m in
+    let c = to_square m in
+    let same = eq-eqb c c refl in
+    elim v [
+      | inl k ↦ rw (k.is, same) (refl, same_men (king_back (king_gone b c) a) b (sym k.side) k.from refl refl)
+      | inr u ↦ elim u [
+        | inl k ↦ rw (k.is, same) (refl, same_men (piece_back (piece_gone b c) a) b (sym k.side) refl k.from refl)
+        | inr k ↦ rw (k.is, same) (refl, same_men (foe_back (foe_gone b c) a) b (sym k.side) refl (stood b c n) k.from)
+      ]
+    ]
+
+-- the move of a man to its square
+abbrev pub IsBack : Men → ℕ → Type 0
+IsBack d m =
+    ((d.white_moves ≡ true) × (man m ≡ 2) × (to_square m ≡ d.foe))
+    ⊎ (((d.white_moves ≡ false) × (man m ≡ 0) × (to_square m ≡ d.king)) ⊎ ((d.white_moves ≡ false) × (man m ≡ 1) × (to_square m ≡ d.piece)))
+
+man_to : (m k s : ℕ) → (eqb (man m) k && eqb (to_square m) s) ≡ true → (man m ≡ k) × (to_square m ≡ s)
+man_to m k s e = (eqb-true _ _ (and_left _ _ e), eqb-true _ _ (and_right (eqb (man m) k) _ e))
+
+pub was_in : (d : Men) (m : ℕ) → can_have_led_here d m ≡ true → IsBack d m
+unfolding can_have_led_here
+was_in d m e = elim (cases_Bool d.white_moves) [
+  | inl w ↦ (let x = man_to m 2 d.foe (sym (if_true d.white_moves _ _ w) ∙ e) in inl (w, x.0, x.1))
+  | inr w ↦ elim (or_cases _ _ (sym (if_false d.white_moves _ _ w) ∙ e)) [
+    | inl f ↦ (let x = man_to m 0 d.king f in inr (inl (w, x.0, x.1)))
+    | inr f ↦ (let x = man_to m 1 d.piece f in inr (inr (w, x.0, x.1)))
   ]
 ]
 
-pub was_in_white : (d : Men) (m : ℕ) → d.white_moves ≡ true → can_have_led_here d m ≡ true → (man m ≡ 2) × (to_square m ≡ d.foe)
-unfolding can_have_led_here
-was_in_white d m w e =
-    let f = sym (if_true d.white_moves _ _ w) ∙ e in
-    (eqb-true _ _ (and_left _ _ f), eqb-true _ _ (and_right (eqb (man m) 2) _ f))
-
-pub was_in_black : (d : Men) (m : ℕ) → d.white_moves ≡ false → can_have_led_here d m ≡ true
-    → ((man m ≡ 0) × (to_square m ≡ d.king)) ⊎ ((man m ≡ 1) × (to_square m ≡ d.piece))
-unfolding can_have_led_here
-was_in_black d m w e =
-    let f = sym (if_false d.white_moves _ _ w) ∙ e in
-    elim (either _ _ f) [
-      | inl g ↦ inl (eqb-true _ _ (and_left _ _ g), eqb-true _ _ (and_right (eqb (man m) 0) _ g))
-      | inr g ↦ inr (eqb-true _ _ (and_left _ _ g), eqb-true _ _ (and_right (eqb (man m) 1) _ g))
-    ]
-
--- putting the rook or queen back and moving the black king again changes nothing
-put_back : (p r : ℕ) → p ≢ r → (if eqb r (if eqb p 64 then r else p) then 64 else (if eqb p 64 then r else p)) ≡ p
-put_back p r n = elim (cases_Bool (eqb p 64)) [
-  | inl e ↦ rw e (if_true (eqb r r) 64 r (eq-eqb r r refl) ∙ sym (eqb-true p 64 e))
-  | inr e ↦ rw e (if_false (eqb r p) 64 p (unequal r p (λ i. n (sym i))))
+apart_foe : (q : Bool) (d : Men) → IsLegal q d → not (eqb d.piece d.foe) ≡ true
+apart_foe q d h = elim (cases_Bool (eqb d.piece 64)) [
+  | inl e ↦ (let l = h.foe in let f = eqb-true d.piece 64 e in grind (arith, nat_tests, l, f))
+  | inr e ↦ (h.armed e).foe
 ]
 
-apart_foe : (q : Bool) (d : Men) → IsLegal q d → d.piece ≢ d.foe
-apart_foe q d h = elim (cases_Bool (eqb d.piece 64)) [
-  | inl e ↦ (λ i. (let l = h.foe in let f = eqb-true d.piece 64 e in omega (arith, l, f, i)))
-  | inr e ↦ (h.armed (λ i. true≢false (sym (eq-eqb _ _ i) ∙ e))).foe
+-- putting the rook or queen back and moving the black king again changes nothing
+put_back : (p c r : ℕ) → c ≡ r → not (eqb p r) ≡ true → (if eqb c (if eqb p 64 then r else p) then 64 else (if eqb p 64 then r else p)) ≡ p
+put_back p c r i n = elim (cases_Bool (eqb p 64)) [
+  | inl e ↦ rw (e, i) (if_true (eqb r r) 64 r (eq-eqb r r refl) ∙ sym (eqb-true p 64 e))
+  | inr e ↦ rw (e, i) (if_false (eqb r p) 64 p (differ p r n).1)
 ]
 
 -- a move that is taken back and made again gives the board
 pub redone : (q : Bool) (d : Men) (m : ℕ) → IsLegal q d → can_have_led_here d m ≡ true → moved (undo d m) m ≡ d
-redone q d m h e = elim (cases_Bool d.white_moves) [
-  | inl w ↦ (
-      let x = was_in_white d m w e in
-      let b = foe_back d (from_square m) in
-      ap (λ (y : Men). moved y m) (by_foe d m x.0).1 ∙ (by_foe b m x.0).0
-      ∙ same_men (foe_gone b (to_square m)) d (sym w) refl
-      (ap (λ (c : ℕ). if eqb c (if eqb d.piece 64 then d.foe else d.piece) then 64 else (if eqb d.piece 64 then d.foe else d.piece)) x.1
-      ∙ put_back d.piece d.foe (apart_foe q d h)) x.1)
-  | inr w ↦ elim (was_in_black d m w e) [
-    | inl x ↦ (
-        let b = king_back d (from_square m) in
-        ap (λ (y : Men). moved y m) (by_king d m x.0).1 ∙ (by_king b m x.0).0 ∙ same_men (king_gone b (to_square m)) d (sym w) x.1 refl refl)
-    | inr x ↦ (
-        let b = piece_back d (from_square m) in
-        ap (λ (y : Men). moved y m) (by_piece d m x.0).1 ∙ (by_piece b m x.0).0 ∙ same_men (piece_gone b (to_square m)) d (sym w) refl x.1 refl)
-  ]
-]
+unfolding moved undo
+redone q d m h e =
+    let a = from_square m in
+    let c = to_square m in
+    elim (was_in d m e) [
+      | inl x ↦ rw x.1 (same_men (foe_gone (foe_back d a) c) d (sym x.0) refl (put_back d.piece c d.foe x.2 (apart_foe q d h)) x.2)
+      | inr u ↦ elim u [
+        | inl x ↦ rw x.1 (same_men (king_gone (king_back d a) c) d (sym x.0) x.2 refl refl)
+        | inr x ↦ rw x.1 (same_men (piece_gone (piece_back d a) c) d (sym x.0) refl x.2 refl)
+      ]
+    ]

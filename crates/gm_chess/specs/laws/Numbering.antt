@@ -1,9 +1,9 @@
 -- The numbering of boards is one to one.
-use Rattle.std.specs.Prelude.{◌≡◌, ◌≢◌, ◌+◌, ◌<◌, ◌≤◌, ◌*◌, ◌/◌, ◌%◌, ◌^◌, ◌-◌, if◌then◌else◌}
-use Rattle.gm_pieces.specs.Common.{ℕ, zero, suc, Bool, true, false, eqb, eqb-true, eq-eqb, nat_tests, refl, sym, ap, ap₂, ◌∙◌, subst, arith, cases_Bool}
-use Rattle.gm_pieces.specs.Common.{true≢false, inl, inr, IsNumbered, board_game}
+use Rattle.std.specs.Prelude.{◌≡◌, ◌+◌, ◌<◌, ◌≤◌, ◌*◌, ◌/◌, ◌%◌}
+use Rattle.gm_pieces.specs.Common.{ℕ, zero, suc, Bool, true, false, eqb, eqb-true, nat_tests, refl, sym, ap, ap₂, ◌∙◌, arith, cases_Bool, cond_both}
+use Rattle.gm_pieces.specs.Common.{inl, inr, IsNumbered, board_game}
 use Rattle.gm_chess.specs.declared.men.Men.{Men}
-use Rattle.gm_chess.specs.Chess.{turn_of, tier, index, board, size, legal, ending}
+use Rattle.gm_chess.specs.Chess.{turn_of, tier, index, board, size, ending}
 use Rattle.gm_chess.specs.laws.MenFacts.{IsLegal, legal_in, same_men}
 
 -- ---- bare kings, and three men
@@ -42,14 +42,9 @@ turn_test false = refl
 turn_back : (n : ℕ) → n < 2 → turn_of (eqb n 0) ≡ n
 turn_back n l = grind (arith, nat_tests)
 
-no_men : (p : ℕ) → eqb p 64 ≡ false → p ≢ 64
-no_men p e i = true≢false (sym (eq-eqb _ _ i) ∙ e)
-
 tier_small : (b : Men) → tier b ≤ 1
-tier_small b = elim (cases_Bool (eqb b.piece 64)) [
-  | inl e ↦ (let t = (bare_is b e).0 in omega (arith, t))
-  | inr e ↦ (let t = (armed_is b e).0 in omega (arith, t))
-]
+unfolding tier
+tier_small b = cond_both (eqb b.piece 64) 0 1 (λ (t : ℕ). t ≤ 1) (λ e. omega arith) (λ e. omega arith)
 
 size_past : (t : ℕ) → 2 ≤ t → size t ≡ 0
 unfolding size
@@ -71,7 +66,7 @@ index_below q b h = elim (cases_Bool (eqb b.piece 64)) [
       let t = armed_is b e in
       let s = ap size t.0 ∙ sizes.1 in
       let k = h.king in let f = h.foe in
-      let p = (h.armed (no_men _ e)).below in
+      let p = (h.armed e).below in
       let w = turn_small b.white_moves in
       omega (arith, s, t.1, k, f, p, w))
 ]
@@ -83,12 +78,12 @@ board_back q b h = elim (cases_Bool (eqb b.piece 64)) [
       let i = bare_index b in
       let k = h.king in let f = h.foe in
       ap₂ board t.0 t.1 ∙ ap (λ (g : ℕ → Men). g i) sizes.2
-      ∙ same_men (bare_board i) b (sym (h.bare (eqb-true _ _ e))) (omega (arith, k, f)) (sym (eqb-true _ _ e)) (omega (arith, f)))
+      ∙ same_men (bare_board i) b (sym (h.bare e)) (omega (arith, k, f)) (sym (eqb-true _ _ e)) (omega (arith, f)))
   | inr e ↦ (
       let t = armed_is b e in
       let i = armed_index b in
       let k = h.king in let f = h.foe in
-      let p = (h.armed (no_men _ e)).below in
+      let p = (h.armed e).below in
       let w = turn_small b.white_moves in
       let turn : i / 262144 ≡ turn_of b.white_moves = omega (arith, k, f, p) in
       ap₂ board t.0 t.1 ∙ ap (λ (g : ℕ → Men). g i) sizes.3

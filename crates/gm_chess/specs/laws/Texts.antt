@@ -1,23 +1,11 @@
 -- Texts are plain, fit a line, and distinguish boards and moves.
-use Rattle.std.specs.Prelude.{◌≡◌, ◌≢◌, ◌+◌, ◌<◌, ◌≤◌, ◌*◌, ◌/◌, ◌%◌, ◌-◌, ◌∷◌, ◌&&◌, if◌then◌else◌, slice_index}
-use Rattle.gm_pieces.specs.Common.{ℕ, zero, suc, Bool, true, false, eqb, eqb-true, eq-eqb, List, [], length, refl, sym, ap, ◌∙◌, arith, inl, inr, cases_Bool}
-use Rattle.gm_pieces.specs.Common.{true≢false, and_both, cond_both, list_all, is_plain, IsPlain, IsMove, AreTexts}
+use Rattle.std.specs.Prelude.{◌≡◌, ◌≢◌, ◌+◌, ◌<◌, ◌≤◌, ◌*◌, ◌/◌, ◌%◌, ◌-◌, ◌∷◌, if◌then◌else◌, slice_index}
+use Rattle.gm_pieces.specs.Common.{ℕ, zero, suc, Bool, true, false, eqb, eqb-true, eq-eqb, nat_tests, List, [], length, refl, sym, ap, ◌∙◌, arith, inl, inr, cases_Bool}
+use Rattle.gm_pieces.specs.Common.{and_both, cond_both, list_all, is_plain, IsPlain, AreTexts}
 use Rattle.gm_game.proofs.PlainTexts.{plain_in}
 use Rattle.gm_chess.specs.declared.men.Men.{Men}
-use Rattle.gm_chess.specs.Chess.{legal, man, from_square, to_square, piece_char, man_char, board_text, step_text, square_in, told, ending}
-use Rattle.gm_chess.specs.laws.MenFacts.{IsLegal, legal_in, same_men, move_in, from_below, to_below}
-use Rattle.gm_chess.specs.laws.Moves.{same_number}
-use Rattle.gm_chess.specs.laws.Images.{man_small}
-
--- ---- bounds
-pub king_below : (q : Bool) (b : Men) → legal q b ≡ true → b.king < 64
-king_below q b l = (legal_in q b l).king
-
-pub foe_below : (q : Bool) (b : Men) → legal q b ≡ true → b.foe < 64
-foe_below q b l = (legal_in q b l).foe
-
-pub piece_below : (q : Bool) (b : Men) → legal q b ≡ true → b.piece ≢ 64 → b.piece < 64
-piece_below q b l n = ((legal_in q b l).armed n).below
+use Rattle.gm_chess.specs.Chess.{legal, man, from_square, to_square, piece_char, man_char, board_text, step_text, told, ending}
+use Rattle.gm_chess.specs.laws.MenFacts.{IsLegal, legal_in, same_men, from_below, to_below, man_small}
 
 -- ---- the bytes of a text
 abbrev side_char : Bool → ℕ
@@ -40,14 +28,11 @@ armed_by : (q : Bool) (b : Men) → eqb b.piece 64 ≡ false → board_text q b 
 unfolding board_text
 armed_by q b e = rw e refl
 
-apart : (p : ℕ) → p ≢ 64 → eqb p 64 ≡ false
-apart p n = elim (cases_Bool (eqb p 64)) [ inl e ↦ absurd (n (eqb-true p 64 e)) | inr e ↦ e ]
-
 pub bare_is : (q : Bool) (b : Men) → b.piece ≡ 64 → board_text q b ≡ bare_text b
 bare_is q b e = bare_by q b (eq-eqb _ _ e)
 
 pub armed_is : (q : Bool) (b : Men) → b.piece ≢ 64 → board_text q b ≡ armed_text q b
-armed_is q b n = armed_by q b (apart b.piece n)
+armed_is q b n = armed_by q b (grind (arith, nat_tests))
 
 -- ---- plain
 file_plain : (s : ℕ) → is_plain (97 + s % 8) ≡ true
@@ -85,7 +70,7 @@ square_told s = omega arith
 
 bare_told : (q : Bool) (b : Men) → IsLegal q b → b.piece ≡ 64 → told (bare_text b) ≡ b
 unfolding told
-bare_told q b h e = same_men (told (bare_text b)) b (sym (h.bare e)) (square_told b.king) (sym e) (square_told b.foe)
+bare_told q b h e = same_men (told (bare_text b)) b (sym (h.bare (eq-eqb _ _ e))) (square_told b.king) (sym e) (square_told b.foe)
 
 armed_told : (q : Bool) (b : Men) → told (armed_text q b) ≡ b
 unfolding told
@@ -130,6 +115,10 @@ step_plain q m =
 byte : (k : ℕ) (xs ys : List ℕ) → xs ≡ ys → slice_index xs k ≡ slice_index ys k
 byte k xs ys e = ap (λ (t : List ℕ). slice_index t k) e
 
+same_number : (l m : ℕ) → man l ≡ man m → from_square l ≡ from_square m → to_square l ≡ to_square m → l ≡ m
+unfolding man from_square to_square
+same_number l m e f g = omega (arith, e, f, g)
+
 square_once : (s t : ℕ) → 97 + s % 8 ≡ 97 + t % 8 → 49 + s / 8 ≡ 49 + t / 8 → s ≡ t
 square_once s t e f = omega (arith, e, f)
 
@@ -146,7 +135,7 @@ pub readable : (q : Bool) → AreTexts (ending q) (board_text q) (λ t m. step_t
 readable q = record {
   text_plain = λ b l. elim (cases_Bool (eqb b.piece 64)) [
     | inl e ↦ ap (λ (t : List ℕ). list_all is_plain t) (bare_by q b e) ∙ bare_plain q b (legal_in q b l)
-    | inr e ↦ ap (λ (t : List ℕ). list_all is_plain t) (armed_by q b e) ∙ armed_plain q b (legal_in q b l) (piece_below q b l (λ i. true≢false (sym (eq-eqb _ _ i) ∙ e)))
+    | inr e ↦ ap (λ (t : List ℕ). list_all is_plain t) (armed_by q b e) ∙ armed_plain q b (legal_in q b l) ((legal_in q b l).armed e).below
   ];
   text_fits = λ b l. elim (cases_Bool (eqb b.piece 64)) [
     | inl e ↦ (let n = ap (λ (t : List ℕ). length t) (bare_by q b e) in omega (arith, n))
@@ -155,5 +144,5 @@ readable q = record {
   text_once = λ a b l k e. sym (told_text q a l) ∙ ap told e ∙ told_text q b k;
   step_plain = λ b m l k. ap (λ (t : List ℕ). list_all is_plain t) (step_is q m) ∙ step_plain q m;
   step_fits = λ b m l k. let n = ap (λ (t : List ℕ). length t) (step_is q m) in omega (arith, n);
-  step_once = λ b m n l k i e. step_once q m n (man_small q b m (move_in q b m k.can)) (man_small q b n (move_in q b n i.can)) (sym (step_is q m) ∙ e ∙ step_is q n);
+  step_once = λ b m n l k i e. step_once q m n (man_small m k.below) (man_small n i.below) (sym (step_is q m) ∙ e ∙ step_is q n);
 }

@@ -67,7 +67,7 @@ use Rattle.gm_toys.specs.laws.SubtractionLaws.{legal_in as number_in, legal_from
 use Rattle.gm_toys.specs.laws.WheelLaws.{wheel_legal_in, wheel_legal_from, target_in}
 use Rattle.gm_draw.specs.declared.pictured.Style.TheVariants.{Row, Counters, Stones, Discs, Letters}
 use Rattle.gm_draw.specs.Pictures.{nine_points, dao_board, dodgem_board, tactix_board, ring_board, pong_board, tapatan_board, hare_board}
-use Rattle.gm_draw.specs.Pictured.{IsBoard, IsBoardOf, IsRow, IsPictured}
+use Rattle.gm_draw.specs.Pictured.{IsBoard, IsBoardOf, IsRow, IsPictured, most_points, IsMoveWord}
 use Rattle.gm_draw.specs.Points.{square_points, ring_points, pong_points, tapatan_points, hare_points, number_points, countdown_board, takeaway_board, wheel_board, nine_style}
 use Rattle.gm_draw.specs.Points.{IsPointWord}
 use Rattle.gm_draw.specs.Templates.{filled}
@@ -118,14 +118,27 @@ nine_kind TicTacToe r shown drawn board points h = h
 nine_kind ThreeMens r shown drawn board points h = h
 nine_kind Achi r shown drawn board points h = h
 
+nine_few : (v : Variant) → 9 ≤ most_points (nine_style v)
+unfolding nine_style
+nine_few TicTacToe = omega arith
+nine_few ThreeMens = omega arith
+nine_few Achi = omega arith
+
+nine_word : (v : Variant) (points : List (List ℕ)) (text : List ℕ) → IsPointWord points text → IsMoveWord (nine_style v) points text
+unfolding nine_style
+nine_word TicTacToe points text h = h
+nine_word ThreeMens points text h = h
+nine_word Achi points text h = h
+
 pub nine_pictured : (n : ℕ) → IsPictured (morris_rules n) nine_text (nine_move n) (λ p. filled (nine_points (variant_of n)) (nine_text p))
     (nine_style (variant_of n)) (nine_points (variant_of n)) (square_points 3)
 nine_pictured n =
-    let names = square_names_3 in record {
-      few = omega (arith, names.many);
+    let names = square_names_3 in
+    let few = nine_few (variant_of n) in record {
+      few = omega (arith, names.many, few);
       named = names.named;
       apart = names.apart;
-      words = nine_words n;
+      words = λ p m l c. nine_word (variant_of n) (square_points 3) (nine_move n p m) (nine_words n p m l c);
       board_is = nine_kind (variant_of n) _ _ _ _ _ (nine_board_of n);
     }
 

@@ -8,6 +8,10 @@ use Rattle.gm_pieces.specs.Common.{board_game, plays_on, steps, IsMove, IsMoveGa
 use Rattle.gm_small.specs.Small.{SmallGame, is_board, small_game}
 use Rattle.gm_small.specs.SmallTables.{failing, first_wrong, implies, keeps, is_kept, redoes, is_redone, tells, is_apart, names, has_room, IsSmallGame}
 
+-- a legal board is below the size
+pub board_below : (g : SmallGame) (b : ℕ) → is_board g b ≡ true → b < g.size
+board_below g b l = ltb-true b g.size (and_left _ _ l)
+
 -- ---- tests that all numbers pass
 unless_wrong : (x : Bool) (k : ℕ) (rest : Option ℕ) → (if x then rest else Some k) ≡ None → (x ≡ true) × (rest ≡ None)
 unless_wrong true k rest e = (refl, e)

@@ -1,18 +1,23 @@
 -- What the tables of a game on points say.
-use Rattle.std.specs.Prelude.{◌≡◌, ◌*◌, ◌<◌, ◌≤◌, if◌then◌else◌, ◌∷◌}
-use Rattle.gm_pieces.specs.Common.{ℕ, zero, suc, Bool, true, false, eqb, ltb, eqb-true, eq-eqb, ltb-true, leb-true, List}
+use Rattle.std.specs.Prelude.{◌≡◌, ◌*◌, ◌<◌, ◌≤◌, if◌then◌else◌}
+use Rattle.gm_pieces.specs.Common.{ℕ, Bool, true, false, eqb, ltb, eqb-true, eq-eqb, ltb-true, leb-true, List}
 use Rattle.gm_pieces.specs.Common.{[], length, get_or, sym, ap, ◌∙◌, subst, arith, inl, inr, Contains, filter, list_all, list_any, range_with_len}
-use Rattle.gm_pieces.specs.Common.{cases_lt, true≢false, get_or_past, is_plain, and_left, and_right, contains_range, all_at, IsGroup, group_from_table, any_at}
+use Rattle.gm_pieces.specs.Common.{filter_to, cases_Bool, not, cases_lt, true≢false, get_or_past, is_plain, and_left, and_right, contains_range, all_at, IsGroup, group_from_table, any_at}
 use Rattle.gm_pieces.specs.Common.{from_point, to_point, number_below}
+use Rattle.std.proofs.lemmas.List.{get_or_default}
 use Rattle.gm_ways.specs.Ways.{WayGame, are_joined}
-use Rattle.gm_ways.specs.WayTables.{IsWayGame, is_step, keeps_way}
+use Rattle.gm_ways.specs.WayTables.{IsWayGame, wrong, is_within, is_step, keeps_way, keeps_ways, is_name}
 
 -- ---- lists that a table holds
--- what all rows of a table pass, the row of an index passes
-row_all : (p : List ℕ → Bool) (xss : List (List ℕ)) (a : ℕ) → list_all p xss ≡ true → a < length xss → p (get_or xss a []) ≡ true
-row_all p [] a e l = absurd (omega arith)
-row_all p (xs ∷ xss) zero e l = and_left _ _ e
-row_all p (xs ∷ xss) (suc a) e l = row_all p xss a (and_right _ _ e) (omega arith)
+-- where no number is wrong, each passes
+passes : (n : ℕ) (p : ℕ → Bool) → wrong n p ≡ [] → (k : ℕ) → k < n → p k ≡ true
+passes n p e k l = elim (cases_Bool (p k)) [
+  | inl t ↦ t
+  | inr f ↦ absurd (
+      let c = filter_to (λ (k : ℕ). not (p k)) (range_with_len 0 n) k (contains_range n k l) (ap not f) in
+      let d = (subst (λ (xs : List ℕ). Contains xs k) e c).1 in
+      omega (arith, d))
+]
 
 chosen : (x y : Bool) → (if x then y else true) ≡ true → x ≡ true → y ≡ true
 chosen true y e f = e
@@ -33,14 +38,14 @@ module _ (n : ℕ) (g : WayGame) (h : IsWayGame n g) where
   -- ---- ways
   -- a way leads from one of the points
   pub joined_from : (a c : ℕ) → are_joined g.ways a c ≡ true → a < n
-  joined_from a c e = let l = from_row g.ways a c e in let m = leb-true (length g.ways) n (and_left _ _ h.ways) in omega (arith, l, m)
+  joined_from a c e = ltb-true a n (and_left _ _ (passes (length g.ways) (is_within n g.ways) h.ways a (from_row g.ways a c e)))
 
   -- a way leads to one of the points
   pub joined_to : (a c : ℕ) → are_joined g.ways a c ≡ true → c < n
   unfolding are_joined
   joined_to a c e =
       let x = any_at (λ (k : ℕ). eqb k c) (get_or g.ways a []) e in
-      let row = row_all (list_all (λ (c : ℕ). ltb c n)) g.ways a (and_right _ _ h.ways) (from_row g.ways a c e) in
+      let row = and_right (ltb a n) _ (passes (length g.ways) (is_within n g.ways) h.ways a (from_row g.ways a c e)) in
       subst (λ (k : ℕ). k < n) (eqb-true x.0 c x.2) (ltb-true x.0 n (all_at (λ (c : ℕ). ltb c n) (get_or g.ways a []) x.0 row x.1))
 
   -- the number of a move along a way is below 16 times the number of points
@@ -60,8 +65,8 @@ module _ (n : ℕ) (g : WayGame) (h : IsWayGame n g) where
   pub kept : (p : List ℕ) (i j : ℕ) → Contains g.symmetries p → i < n → j < n → are_joined g.ways (get_or p i 0) (get_or p j 0) ≡ true → are_joined g.ways i
       j ≡ true
   kept p i j c l m e =
-      let t = all_at (λ (p : List ℕ). list_all (λ (i : ℕ). list_all (keeps_way g.ways p i) (range_with_len 0 n)) (range_with_len 0 n)) g.symmetries p h.kept
-      c in
+      let s = passes (length g.symmetries) (λ (k : ℕ). keeps_ways n g.ways (get_or g.symmetries k [])) h.kept c.0 c.1 in
+      let t = subst (λ (p : List ℕ). keeps_ways n g.ways p ≡ true) (get_or_default g.symmetries c.0 [] p c.1 ∙ c.2) s in
       let u = all_at (λ (i : ℕ). list_all (keeps_way g.ways p i) (range_with_len 0 n)) (range_with_len 0 n) i t (contains_range n i l) in
       let v = all_at (keeps_way g.ways p i) (range_with_len 0 n) j u (contains_range n j m) in
       chosen _ _ v e
@@ -69,12 +74,12 @@ module _ (n : ℕ) (g : WayGame) (h : IsWayGame n g) where
   -- ---- names
   -- the name of a point is plain
   pub name_plain : (k : ℕ) → k < n → is_plain (g.point_char k) ≡ true
-  name_plain k l = all_at (λ (i : ℕ). is_plain (g.point_char i)) (range_with_len 0 n) k (and_left _ _ h.names) (contains_range n k l)
+  name_plain k l = and_left _ _ (passes n (is_name n g.point_char) h.names k l)
 
   -- different points have different names
   pub name_once : (i j : ℕ) → i < n → j < n → g.point_char i ≡ g.point_char j → i ≡ j
   name_once i j l m e =
       let pair : ℕ → ℕ → Bool = λ i j. if eqb (g.point_char i) (g.point_char j) then eqb i j else true in
-      let u = all_at (λ (i : ℕ). list_all (pair i) (range_with_len 0 n)) (range_with_len 0 n) i (and_right _ _ h.names) (contains_range n i l) in
+      let u = and_right (is_plain (g.point_char i)) _ (passes n (is_name n g.point_char) h.names i l) in
       let v = all_at (pair i) (range_with_len 0 n) j u (contains_range n j m) in
       eqb-true i j (chosen _ _ v (eq-eqb _ _ e))

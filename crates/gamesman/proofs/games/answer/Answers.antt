@@ -1,5 +1,5 @@
 use Rattle.gamesman.proofs.games.answer.Goals as goal
-use Rattle.gamesman.proofs.games.answer.Goals.{in-Solve, in-Query, in-Filter, in-At, in-Locate, in-Explore, in-Search, in-Analyse, in-Check, in-Play, in-Naming}
+use Rattle.gamesman.proofs.games.answer.Goals.{in-Solve, in-Query, in-Filter, in-At, in-Locate, in-Explore, in-EnginePage, in-Search, in-Analyse, in-Check, in-Play, in-Naming}
 
 pub returns-clause-answered : goal.returns-clause-answered
 returns-clause-answered g c = elim c.match-asked.branch [
@@ -9,6 +9,7 @@ returns-clause-answered g c = elim c.match-asked.branch [
   | in-At w ↦ rw (w.in-At.is, w.output-is, w.result-is) w.at_place.ensures
   | in-Locate w ↦ rw (w.in-Locate.is, w.output-is, w.result-is) w.locate.ensures
   | in-Explore w ↦ rw (w.in-Explore.is, w.output-is, w.result-is) w.explore.ensures
+  | in-EnginePage w ↦ rw (w.in-EnginePage.is, w.output-is, w.result-is) w.engine_page.ensures
   | in-Search w ↦ rw (w.in-Search.is, w.output-is, w.result-is) w.search.ensures
   | in-Analyse w ↦ rw (w.in-Analyse.is, w.output-is, w.result-is) w.analyse.ensures
   | in-Check w ↦ rw (w.in-Check.is, w.output-is, w.result-is) w.check.ensures

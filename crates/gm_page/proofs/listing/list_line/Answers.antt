@@ -1,4 +1,4 @@
-use Rattle.std.proofs.Common.{◌-◌, [], List, ap, ◌∙◌}
+use Rattle.std.proofs.Common.{[], List, ap, ◌∙◌}
 use Rattle.std.proofs.lemmas.Result.{on_ok_weaker}
 use Rattle.gm_game.specs.declared.position.Position.{Position}
 use Rattle.gm_page.specs.Listings.{with_all}

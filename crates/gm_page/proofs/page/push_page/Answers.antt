@@ -1,6 +1,6 @@
 use Rattle.std.proofs.Common.{ℕ, List, ◌++◌, ap, ◌∙◌}
 use Rattle.std.specs.List.{flat_map}
-use Rattle.gm_page.specs.declared.front.TheConstants.{FRONT}
+use Rattle.gm_page.specs.declared.front.TheConstants.{OPENING, STYLE, PARTS}
 use Rattle.gm_page.specs.declared.back.TheConstants.{BACK}
 use Rattle.gm_page.specs.Heads.{head_tree}
 use Rattle.gm_page.specs.Pages.{with_viewer}
@@ -23,7 +23,7 @@ returns g c =
       is_whole = c.is_whole-whole.ensures;
       rows = rows.0;
       are_rows = rows.1;
-      out_is = parts_of FRONT.now head (flat_map script_line rows.0) BACK.now c.args.page.now.items c.push_first.new.page.items
+      out_is = parts_of OPENING.now STYLE.now PARTS.now head (flat_map script_line rows.0) BACK.now c.args.page.now.items c.push_first.new.page.items
           c.extend_from_slice.new.self.items c.requires.empty c.in_ok-push_first.ensures
           (c.in_ok-extend_from_slice.ensures.items ∙ ap (λ (l : List ℕ). l ++ BACK.now) rows.2);
     }

@@ -1,6 +1,10 @@
 use Rattle.std.specs.Prelude.{◌≡◌}
 use Rattle.gm_pieces.specs.Lower.{[], filter, range_with_len}
+use Rattle.gm_pieces.specs.Tried.{edge}
 use Rattle.gm_pieces.proofs.moves.has_no_move.Given as goal
 
-abbrev pub invariant-loop-number : goal.invariant-loop-number
-invariant-loop-number g l = filter (g.T.MoveRules.game.can_move (g.T.MoveRules.cells l.board)) (range_with_len 0 l.number) ≡ []
+abbrev pub invariant-loop-place : goal.invariant-loop-place
+invariant-loop-place g l =
+    let r = g.T.MoveRules.game in
+    let b = g.T.MoveRules.cells l.board in
+    filter (r.can_move b) (range_with_len 0 (edge l.candidates (r.move_number_bound (r.tier b)) l.place)) ≡ []

@@ -1,18 +1,11 @@
-use Rattle.std.proofs.Common.{rules, ◌≡◌, ◌++◌, ◌∷◌, [], ap, ◌<◌, length, arith, ◌∙◌}
-use Rattle.gm_table.specs.Packed.{unpacked}
-use Rattle.gm_web.proofs.Trueness.{record_more, append_one}
+use Rattle.std.proofs.Common.{length, sym, ap, ◌∙◌}
+use Rattle.std.proofs.lemmas.List.{length-map}
+use Rattle.std.proofs.lemmas.Result.{on_ok_weaker}
+use Rattle.gm_web.specs.Records.{record_with}
 use Rattle.gm_web.proofs.bytes.add.Goals as goal
 
-pub loop-index-preserved : goal.loop-index-preserved
-loop-index-preserved g c =
-    let (more, is, same) = c.loop-index.invariant in
-    let test = c.loop-index-test.true in
-    let long = c.size-index-end.ensures.value in
-    let within : c.loop-index.index < length c.args.table.now.records = omega arith in
-    let ok = c.if-is_err.ensures.negation in
-    let pushed : c.push.new.self.items ≡ c.loop-index.bytes.items ++ c.in-Some.byte ∷ [] = search rules in (
-      more ++ c.in-Some.byte ∷ [],
-      append_one c.args.bytes.now.items more c.loop-index.bytes.items c.push.new.self.items c.in-Some.byte is pushed,
-      record_more c.args.table.now.records more c.loop-index.index c.in-Some.byte within same
-          (ap unpacked c.in-Some.ensures.byte ∙ c.number_of.ensures.number ∙ c.at.ensures.value),
+pub returns-in-Byte-clause-added : goal.returns-in-Byte-clause-added
+returns-in-Byte-clause-added g c =
+    rw c.in-Byte.is (
+    on_ok_weaker c.add_bytes.result (λ (more, is, same). (more, is, (sym (length-map more record_with) ∙ ap length same, same))) c.add_bytes.ensures.added
     )

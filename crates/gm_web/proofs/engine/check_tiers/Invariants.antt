@@ -6,5 +6,5 @@ use Rattle.gm_web.proofs.engine.check_tiers.Given as goal
 
 abbrev pub invariant-loop-tier : goal.invariant-loop-tier
 invariant-loop-tier g l = AreClosed g.G.Game.rules l.tables × HaveTables l.tables (take l.tier-index l.tiers)
-    × ((known : List ℕ) × AreTrue g.G.Game.rules (take l.tier-index l.tiers) known × (l.records ≡ known ++ l.rest))
-    × (AreTrue g.G.Game.rules l.tiers l.records → AreTrue g.G.Game.rules (drop l.tier-index l.tiers) l.rest)
+    × ((known : List ℕ) × AreTrue g.G.Game.rules l.width (take l.tier-index l.tiers) known × (l.records ≡ known ++ l.rest))
+    × (AreTrue g.G.Game.rules l.width l.tiers l.records → AreTrue g.G.Game.rules l.width (drop l.tier-index l.tiers) l.rest)

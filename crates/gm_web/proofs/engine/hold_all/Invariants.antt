@@ -6,4 +6,4 @@ use Rattle.gm_web.proofs.engine.hold_all.Given as goal
 
 abbrev pub invariant-loop-tier : goal.invariant-loop-tier
 invariant-loop-tier g l = AreClosed g.G.Game.rules l.tables × HaveTables l.tables (take l.tier-index l.tiers)
-    × AreTrue g.G.Game.rules (drop l.tier-index l.tiers) l.rest
+    × AreTrue g.G.Game.rules l.width (drop l.tier-index l.tiers) l.rest

@@ -12,6 +12,6 @@ returns-in_err-put_bytes-clause-refused g c =
     let r = g.G.Game.rules in
     let order = subst (λ (v : List ℕ). IsTierOrder r v) (sym c.tiers-2.ensures.value) c.in_ok-tiers.ensures.order in
     let (is, other) = c.in_err-put_bytes.ensures.refused in
-    let why = unroomed_game r (length c.args.order.now) (length c.args.out.now) c.tiers-2.result.now c.in_ok-bytes.bytes.items order c.in_ok-bytes.ensures.known
+    let why = unroomed_game r c.args.width (length c.args.order.now) (length c.args.out.now) c.tiers-2.result.now c.in_ok-bytes.bytes.items order c.in_ok-bytes.ensures.known
     c.in_err-put_bytes.field-0.0 is other in
     search rules

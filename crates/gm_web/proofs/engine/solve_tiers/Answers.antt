@@ -12,7 +12,7 @@ returns-in_err-solve_and_hold-clause-refused g c =
     let k = c.loop-tier.tier-index in
     let (closed, held, known) = c.loop-tier.invariant in
     let next = in_order r c.loop-tier.tables ts k c.loop-tier-test.true c.requires.children_first c.requires.small held in
-    let why = unsolved_one r c.loop-tier.tables ts k c.loop-tier-test.true next c.in_err-solve_and_hold.field-0.0 c.in_err-solve_and_hold.ensures.refused in
+    let why = unsolved_one r c.args.width c.loop-tier.tables ts k c.loop-tier-test.true next c.in_err-solve_and_hold.field-0.0 c.in_err-solve_and_hold.ensures.refused in
     search rules
 
 pub loop-tier-preserved : goal.loop-tier-preserved
@@ -23,6 +23,6 @@ loop-tier-preserved g c =
     let (closed, held, known) = c.loop-tier.invariant in (
       c.in_ok-solve_and_hold.ensures.closed,
       have_more c.loop-tier.tables c.solve_and_hold.new.tables ts k c.loop-tier-test.true held c.in_ok-solve_and_hold.ensures.held,
-      subst (λ (v : List ℕ). AreTrue r v c.solve_and_hold.new.bytes.items) (sym (take_more ts k 0 c.loop-tier-test.true))
+      subst (λ (v : List ℕ). AreTrue r c.args.width v c.solve_and_hold.new.bytes.items) (sym (take_more ts k 0 c.loop-tier-test.true))
           (c.in_ok-solve_and_hold.ensures.known (take k ts) known),
     )

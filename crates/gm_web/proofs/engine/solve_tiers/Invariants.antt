@@ -6,4 +6,4 @@ use Rattle.gm_web.proofs.engine.solve_tiers.Given as goal
 
 abbrev pub invariant-loop-tier : goal.invariant-loop-tier
 invariant-loop-tier g l = AreClosed g.G.Game.rules l.tables × HaveTables l.tables (take l.tier-index l.tiers)
-    × AreTrue g.G.Game.rules (take l.tier-index l.tiers) l.bytes.items
+    × AreTrue g.G.Game.rules l.width (take l.tier-index l.tiers) l.bytes.items

@@ -1,0 +1,14 @@
+use Rattle.std.proofs.Common.{[], ◌∷◌}
+use Rattle.std.proofs.lemmas.Result.{on_ok_weaker}
+use Rattle.gamesman.specs.Games.{dao_spec, nine_spec}
+use Rattle.gamesman.proofs.Lined.{line_first, line_more}
+use Rattle.gamesman.proofs.every_game.push_lines.Goals as goal
+
+pub returns : goal.returns
+returns c =
+    let start = c.args.page.now.items in
+    let e1 = line_first (nine_spec 9) start c.push_game.new.page.items c.in_ok-push_game.ensures in
+    let e2 = line_more (nine_spec 9 ∷ []) (dao_spec) start c.push_game.new.page.items c.push_game-2.new.page.items e1 c.in_ok-push_game-2.ensures in
+    let e3 = line_more (nine_spec 9 ∷ dao_spec ∷ []) (nine_spec 8) start c.push_game-2.new.page.items c.push_game-3.new.page.items e2 c.in_ok-push_game-3.ensures in
+    on_ok_weaker c.push_game-4.result (λ e. line_more (nine_spec 9 ∷ dao_spec ∷ nine_spec 8 ∷ []) (nine_spec 6) start c.push_game-3.new.page.items c.push_game-4.new.page.items e3 e)
+    c.push_game-4.ensures

@@ -1,0 +1,76 @@
+-- Pages with the engine.
+use Rattle.std.specs.Prelude.{◌≡◌, ◌⊎◌, ◌++◌, ℕ, max, true, false, List, [], ◌∷◌, Option, None, Some, Result, Err, IfErr}
+use Rattle.std.specs.List.{flat_map}
+use Rattle.gm_play.specs.PlayTexts.{IsNoPosition}
+use Rattle.gm_page.specs.Engines.{AreDigits, IsEnginePage, game_tree, with_engine}
+use Rattle.gm_page.specs.Scripts.{script_line}
+use Rattle.gm_command.specs.declared.requests.EnginePageRequest.{EnginePageRequest}
+use Rattle.gamesman.specs.declared.fault.Fault.{Fault}
+use Rattle.gamesman.specs.declared.fault.Fault.TheVariants.{NoSuchPosition, OutOfMemory, EngineNotRead, NotAnEngine}
+use Rattle.gamesman.specs.Games.{GameSpec, countdown_spec, takeaway_spec, wheel_spec, nine_spec, mutorere_spec, dao_spec, hare_spec, pong_spec, shisima_spec}
+use Rattle.gamesman.specs.Games.{tapatan_spec, dodgem_spec, chess_spec, tactix_spec}
+use Rattle.gamesman.specs.Outputs.{IsWritten}
+use Rattle.gamesman.specs.Refusals.{IsRefused}
+use Rattle.gamesman.specs.Told.{IsTold}
+
+-- no engine is there: memory is refused, its file can't be read, or has no engine's text
+abbrev pub IsEngineFault : Fault → Type 0
+IsEngineFault (OutOfMemory error) = Unit {0}
+IsEngineFault EngineNotRead = Unit {0}
+IsEngineFault NotAnEngine = Unit {0}
+IsEngineFault _ = ⊥
+
+-- ---- one game
+-- the page of the position with this text, with some engine
+abbrev pub IsPaged : GameSpec → List ℕ → ℕ → List ℕ → Type 0
+IsPaged g position limit out = (digits : List ℕ) × AreDigits digits
+    × IsEnginePage g.rules g.shown g.move_shown g.style g.title g.board g.points g.naming position limit digits out
+
+-- the page of the position with this text is written; if no position has the text, that is the fault, and else it is that of the engine or of a question about
+-- the position
+pub record IsEnginePagedAt (g : GameSpec) (position : List ℕ) (limit : ℕ) (before after : Option (List ℕ)) (result : Result ℕ Fault) : Type 0 where
+  pub written : IsWritten (IsPaged g position limit) before after result
+  pub refused : IfErr result (λ fault. IsEngineFault fault ⊎ IsRefused g.rules g.shown g.move_shown position fault)
+  pub unread : IsNoPosition g.rules g.shown g.move_shown position → result ≡ Err NoSuchPosition
+
+-- the text of the position that a page begins with: that of the start if none is given
+abbrev pub text_paged : GameSpec → EnginePageRequest → List ℕ
+text_paged g asked = elim asked.position [ None ↦ g.shown g.rules.initial | Some text ↦ text.now ]
+
+-- a page is written as requested
+abbrev pub IsEnginePaged : GameSpec → EnginePageRequest → Option (List ℕ) → Option (List ℕ) → Result ℕ Fault → Type 0
+IsEnginePaged g asked = IsEnginePagedAt g (text_paged g asked) (max asked.limit 1)
+
+-- ---- all games
+-- the line of a game
+abbrev pub game_line : GameSpec → List ℕ
+game_line g = script_line (game_tree g.rules g.shown g.style g.title g.board g.points g.naming)
+
+-- the games that the engine solves, those with the most to see first
+abbrev pub line_games : List GameSpec
+line_games = nine_spec 9 ∷ dao_spec ∷ nine_spec 8 ∷ nine_spec 6 ∷ []
+
+abbrev pub board_games : List GameSpec
+board_games = mutorere_spec ∷ hare_spec ∷ shisima_spec ∷ pong_spec ∷ tapatan_spec ∷ dodgem_spec ∷ chess_spec false ∷ chess_spec true ∷ []
+
+abbrev pub tactix_games : List GameSpec
+tactix_games = tactix_spec 4 false ∷ tactix_spec 4 true ∷ tactix_spec 3 false ∷ tactix_spec 3 true ∷ tactix_spec 2 false ∷ tactix_spec 2 true
+    ∷ tactix_spec 1 false ∷ tactix_spec 1 true ∷ []
+
+abbrev pub number_games : List GameSpec
+number_games = countdown_spec ∷ takeaway_spec ∷ wheel_spec ∷ []
+
+abbrev pub engine_games : List GameSpec
+engine_games = line_games ++ board_games ++ tactix_games ++ number_games
+
+-- the page of all games with this engine
+abbrev pub games_page : List ℕ → List ℕ
+games_page digits = with_engine (flat_map game_line engine_games) digits
+
+-- the page of all games with some engine
+abbrev pub IsGamesPage : List ℕ → Type 0
+IsGamesPage out = (digits : List ℕ) × AreDigits digits × (out ≡ games_page digits)
+
+-- the page of all games is written, or refused for the reason that no engine is there
+abbrev pub IsEveryGame : Option (List ℕ) → Option (List ℕ) → Result ℕ Fault → Type 0
+IsEveryGame = IsTold IsGamesPage IsEngineFault

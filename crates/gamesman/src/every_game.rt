@@ -1,0 +1,68 @@
+//! The lines of the page of all games: those that the engine solves, those with the most to see first.
+ghost use Rattle.std.specs.Prelude.{◌≡◌, ◌++◌, OnOk};
+ghost use Rattle.std.specs.List.{flat_map};
+ghost use Rattle.gamesman.specs.Engines.{game_line, line_games, board_games, tactix_games, number_games, engine_games};
+
+use crate::games::{
+    Achi, Countdown, Dao, Dodgem, Hare, Kqk, Krk, MuTorere, Pong, Shisima, TacTix, Takeaway,
+    Tapatan, ThreeMens, TicTacToe, Wheel,
+};
+use gm_page::engine_page::push_game;
+use std::alloc::{AllocError, Global};
+
+/// Appends the lines of all games that the engine solves.
+pub fn push_games(alloc: Global, page: &mut Vec<u8>) -> Result<(), AllocError>
+    ensures { OnOk result (page.new.items ≡ page.old.items ++ flat_map game_line engine_games) }
+{
+    push_lines(alloc, page)?;
+    push_boards(alloc, page)?;
+    push_tactix(alloc, page)?;
+    push_numbers(alloc, page)
+}
+
+// Appends the lines of the games on squares in which a row wins.
+fn push_lines(alloc: Global, page: &mut Vec<u8>) -> Result<(), AllocError>
+    ensures { OnOk result (page.new.items ≡ page.old.items ++ flat_map game_line line_games) }
+{
+    push_game::<TicTacToe>(alloc, page)?;
+    push_game::<Dao>(alloc, page)?;
+    push_game::<Achi>(alloc, page)?;
+    push_game::<ThreeMens>(alloc, page)
+}
+
+// Appends the lines of the other games on boards.
+fn push_boards(alloc: Global, page: &mut Vec<u8>) -> Result<(), AllocError>
+    ensures { OnOk result (page.new.items ≡ page.old.items ++ flat_map game_line board_games) }
+{
+    push_game::<MuTorere>(alloc, page)?;
+    push_game::<Hare>(alloc, page)?;
+    push_game::<Shisima>(alloc, page)?;
+    push_game::<Pong>(alloc, page)?;
+    push_game::<Tapatan>(alloc, page)?;
+    push_game::<Dodgem>(alloc, page)?;
+    push_game::<Krk>(alloc, page)?;
+    push_game::<Kqk>(alloc, page)
+}
+
+// Appends the lines of Tac Tix.
+fn push_tactix(alloc: Global, page: &mut Vec<u8>) -> Result<(), AllocError>
+    ensures { OnOk result (page.new.items ≡ page.old.items ++ flat_map game_line tactix_games) }
+{
+    push_game::<TacTix<4, false>>(alloc, page)?;
+    push_game::<TacTix<4, true>>(alloc, page)?;
+    push_game::<TacTix<3, false>>(alloc, page)?;
+    push_game::<TacTix<3, true>>(alloc, page)?;
+    push_game::<TacTix<2, false>>(alloc, page)?;
+    push_game::<TacTix<2, true>>(alloc, page)?;
+    push_game::<TacTix<1, false>>(alloc, page)?;
+    push_game::<TacTix<1, true>>(alloc, page)
+}
+
+// Appends the lines of the games on numbers.
+fn push_numbers(alloc: Global, page: &mut Vec<u8>) -> Result<(), AllocError>
+    ensures { OnOk result (page.new.items ≡ page.old.items ++ flat_map game_line number_games) }
+{
+    push_game::<Countdown<10>>(alloc, page)?;
+    push_game::<Takeaway>(alloc, page)?;
+    push_game::<Wheel>(alloc, page)
+}

@@ -1,0 +1,5 @@
+use Rattle.std.proofs.Common.{length}
+use Rattle.gm_draw.proofs.chessboard.+man_on.Given as goal
+
+abbrev pub decreases-man_on : goal.decreases-man_on
+decreases-man_on l = length l.text.now

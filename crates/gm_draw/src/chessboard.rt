@@ -1,0 +1,124 @@
+//! The board of chess: its squares, and the men that a position's text puts on them.
+ghost use Rattle.std.specs.Prelude.{◌≡◌, ◌≤◌, ◌<◌, [], ◌∷◌, length, slice_index_or};
+ghost use Rattle.gm_draw.specs.Chessboards.{chess_board, chess_points, file_at as file_at_spec, rank_at as rank_at_spec, is_dark as is_dark_spec};
+ghost use Rattle.gm_draw.specs.Chessboards.{man_on as man_on_spec, man_at as man_at_spec, square_byte as square_byte_spec};
+ghost use Rattle.gm_draw.specs.ChessDrawings.{chess_byte, chess_drawing};
+ghost use Rattle.gm_draw.specs.Diagrams.{spread};
+
+use crate::drawn::{DRAWING, Drawing};
+use crate::svg::{next_x, next_y};
+use arrayvec::ArrayVec;
+
+/// Returns the board, a template with a slot for each square.
+#[tactic(auto, unfolding(crate::specs::Chessboards::chess_board))]
+pub(crate) fn board() -> &'static [u8]
+    ensures value { result.now ≡ chess_board }
+    ensures fits { length result.now ≤ DRAWING }
+{
+    b"    a b c d e f g h\n8   A A A A A A A A\n7   A A A A A A A A\n6   A A A A A A A A\n5   A A A A A A A A\n4   A A A A A A A A\n3   A A A A A A A A\n2   A A A A A A A A\n1   A A A A A A A A"
+}
+
+/// Returns the name of a square, by its number from the eighth rank down.
+#[tactic(auto, using(crate::specs::laws::Chessboards::square_named))]
+pub(crate) fn square_name(k: usize) -> [u8; 2]
+    requires { k < 64 }
+    ensures { result ≡ slice_index_or chess_points k [] }
+{
+    [b'a' + (k % 8) as u8, b'8' - (k / 8) as u8]
+}
+
+// Returns the letter of the file of the square at a point.
+fn file_at(x: u64) -> u64
+    requires { x ≤ 16000 }
+    ensures { result ≡ file_at_spec x }
+{
+    94 + x / 40
+}
+
+// Returns the digit of the rank of the square at a point.
+fn rank_at(y: u64) -> u64
+    ensures { result ≡ rank_at_spec y }
+{
+    58_u64.saturating_sub(y / 40)
+}
+
+/// Tests whether the square at a point is dark.
+pub(crate) fn is_dark(x: u64, y: u64) -> bool
+    ensures { result ≡ is_dark_spec x y }
+{
+    (x / 40 + y / 40) % 2 == 0
+}
+
+// Returns the letter of the man on the square of a file and a rank, or 0 if there is none.
+#[tactic(auto, unfolding(crate::specs::Chessboards::man_on))]
+fn man_on(file: u64, rank: u64, text: &[u8]) -> u8
+    ensures { result ≡ man_on_spec file rank text.now }
+{
+    match text {
+        [man, f, r, _, rest @ ..] => {
+            if u64::from(*f) == file && u64::from(*r) == rank {
+                *man
+            } else {
+                man_on(file, rank, rest)
+            }
+        }
+        _ => 0,
+    }
+}
+
+/// Returns the letter of the man on the square at a point, by a position's text, or 0 if there is none.
+pub(crate) fn man_at(text: &[u8], x: u64, y: u64) -> u8
+    requires { x ≤ 16000 }
+    ensures { result ≡ man_at_spec text.now x y }
+{
+    man_on(file_at(x), rank_at(y), text)
+}
+
+// Returns the byte of a square's drawing.
+fn square_byte(man: u8, dark: bool) -> u8
+    ensures { result ≡ square_byte_spec man dark }
+{
+    if man != 0 {
+        man
+    } else if dark {
+        b':'
+    } else {
+        b'.'
+    }
+}
+
+// Returns the byte of a drawing for a byte of the board at a point.
+fn byte_for(text: &[u8], x: u64, y: u64, byte: u8) -> u8
+    requires { x ≤ 16000 }
+    ensures { chess_byte text.now x y byte ≡ result ∷ [] }
+{
+    if byte.is_ascii_uppercase() {
+        square_byte(man_at(text, x, y), is_dark(x, y))
+    } else {
+        byte
+    }
+}
+
+// Returns a board with the men of a position's text.
+fn filled(board: &[u8], text: &[u8]) -> Drawing
+    requires { length board.now ≤ DRAWING }
+    ensures { result.items ≡ spread (chess_byte text.now) 40 40 board.now }
+{
+    let mut drawing = ArrayVec::new();
+    let mut x = 40;
+    let mut y = 40;
+    for byte in board {
+        drawing.push(byte_for(text, x, y, *byte));
+        x = next_x(x, *byte);
+        y = next_y(y, *byte);
+    }
+    drawing
+}
+
+/// Returns the board of chess with the men of a position's text.
+#[tactic(auto, unfolding(crate::specs::ChessDrawings::chess_drawing))]
+pub(crate) fn draw(text: &[u8]) -> Drawing
+    ensures { result.items ≡ chess_drawing text.now }
+{
+    filled(board(), text)
+}

@@ -1,0 +1,2 @@
+pub mod FoxHounds
+pub mod laws

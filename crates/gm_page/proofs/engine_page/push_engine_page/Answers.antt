@@ -1,0 +1,32 @@
+use Rattle.std.proofs.Common.{rules, ◌≡◌, ◌++◌, ℕ, List, subst}
+use Rattle.std.specs.List.{flat_map}
+use Rattle.std.proofs.lemmas.Result.{on_ok_weaker}
+use Rattle.gm_page.specs.Heads.{start_tree}
+use Rattle.gm_page.specs.Engines.{engine_front, engine_back}
+use Rattle.gm_page.specs.Scripts.{script_line}
+use Rattle.gm_page.proofs.Paging.{engine_parts_of}
+use Rattle.gm_page.proofs.engine_page.push_engine_page.Goals as goal
+
+pub is_whole-whole-requires : goal.is_whole-whole-requires
+is_whole-whole-requires g c = λ k d l. (c.requires.reached k d l).0
+
+pub returns : goal.returns
+returns g c =
+    let whole = c.is_whole-whole.result in
+    let head = script_line (start_tree g.G.Game.rules.name g.G.Pictured.style g.G.Pictured.title g.G.Pictured.board g.G.Pictured.points g.G.Drawn.naming
+    (g.G.Shown.shown c.args.start.now.position) whole) in
+    let rows = c.in_ok-push_rows.ensures in
+    let shown_is : c.as_slice.result.now ≡ g.G.Shown.shown c.args.start.now.position = search rules in
+    let started = subst (λ (t : List ℕ). c.push_start.new.page.items ≡ c.push_front.new.page.items ++ script_line (start_tree g.G.Game.rules.name
+    g.G.Pictured.style g.G.Pictured.title g.G.Pictured.board g.G.Pictured.points g.G.Drawn.naming t whole)) shown_is c.in_ok-push_start.ensures in
+    on_ok_weaker c.push_engine.result
+    (λ e. record {
+      whole = whole;
+      is_whole = c.is_whole-whole.ensures;
+      rows = rows.0;
+      are_rows = rows.1;
+      out_is = engine_parts_of engine_front head (flat_map script_line rows.0) (engine_back c.args.digits.now) c.args.page.now.items
+          c.push_front.new.page.items c.push_start.new.page.items c.push_rows.new.page.items c.push_engine.new.page.items c.requires.empty
+          c.in_ok-push_front.ensures started rows.2 e;
+    })
+    c.push_engine.ensures

@@ -1,0 +1,11 @@
+use Rattle.std.proofs.Common.{◌≡◌, false, sym, subst}
+use Rattle.serde_json.specs.Data.{Data}
+use Rattle.serde_json.specs.Written.{has_float}
+use Rattle.gm_page.proofs.Rowing.{start_without}
+use Rattle.gm_page.proofs.head.push_start.Goals as goal
+
+pub push_script_line-requires : goal.push_script_line-requires
+push_script_line-requires g c =
+    subst (λ (d : Data). has_float d ≡ false) (sym c.in_ok-tree.ensures)
+    (start_without g.G.Game.rules.name g.G.Pictured.style g.G.Pictured.title g.G.Pictured.board g.G.Pictured.points g.G.Drawn.naming c.args.start.now
+    c.args.whole)

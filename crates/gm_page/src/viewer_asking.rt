@@ -1,0 +1,184 @@
+//! A part of the script of a page with the engine.
+
+/// The first part of its script: the lines of the page, words about the games, the engine in a thread of its own, and questions to it.
+pub const ASKING: &[u8] = br##"</script>
+<script>
+"use strict";
+const $ = id => document.getElementById(id);
+const maker = space => (name, attributes = {}, ...children) => {
+  const made = document.createElementNS(space, name);
+  for (const key in attributes) made.setAttribute(key, attributes[key]);
+  made.append(...children);
+  return made;
+};
+const html = maker("http://www.w3.org/1999/xhtml"), svg = maker("http://www.w3.org/2000/svg");
+const counted = n => n.toLocaleString("en");
+
+// ---- The lines of the page: one for each game and, in a page of one game, the positions that it has been given. And the game that is open.
+const lines = $("data").textContent.trim().split("\n").map(text => JSON.parse(text));
+const games = lines.filter(line => !Array.isArray(line)), given = lines.filter(line => Array.isArray(line));
+const single = games.length === 1;
+let game = null;
+
+// ---- Words about the games: the rules of each in a few lines, and how many legal positions it has.
+const RULES = {
+  "countdown":
+    "Start with ten. Each player in turn takes away one or two. Who has nothing left to take from loses: take the last one and you win.",
+  "takeaway":
+    "Twelve counters lie on a pile. Each player in turn takes one, two or three of them. Who takes the last one wins.",
+  "wheel":
+    "A made-up game on ten numbers, to show each kind of value. From 9 go to 1 or 7; from 8 to 3 or 6; from 7 to 6; from 6 to 0 or 5; from 4 to " +
+    "3; from 3 to 4; from 2 to 1 or 3; from 1 to 0 or 2. At 0 the game is tied; who is to move at 5 loses.",
+  "tictactoe":
+    "X and O take turns to fill a cell. Three in a row, a column or a diagonal win. A full board without such a line is a tie.",
+  "threemens":
+    "Each side puts three pieces on the board, one a turn. Then a move takes a piece to an empty cell beside it, along a row or a column. Three " +
+    "in a row or a column win. Who can't move loses.",
+  "achi":
+    "Each side puts four pieces on the board, one a turn. Then a move takes a piece along a line to the next point, if it is empty. Three in a " +
+    "row, a column or a diagonal win. Who can't move loses.",
+  "mutorere":
+    "Four pieces a side on a ring of eight points around a center. A piece moves to the one empty point: to a ring point beside it, or between " +
+    "the center and the ring. From the ring to the center only a piece may go that has a piece of the other side beside it. Who can't move loses.",
+  "dao":
+    "Four stones a side. A stone slides in one of eight directions as far as it can. A full row or column, a square of two by two, or all four " +
+    "corners win. Who has a stone in a corner that three stones of the other side shut in wins.",
+  "hare":
+    "Three hounds chase a hare. A hound moves along a line to an empty point, forward or up and down, never back. The hare moves along any line. " +
+    "The hare wins when it has got past all hounds; the hounds win when the hare can't move.",
+  "ponghauki":
+    "Two pieces a side on five points. A piece moves along a line to the one empty point. Who can't move loses.",
+  "shisima":
+    "Three pieces a side on a ring of eight points around a pool. A piece moves along a line to an empty point; none jumps. Three in a row " +
+    "through the pool win.",
+  "tapatan":
+    "Three pieces a side on three by three points. A piece moves along a line to the next point, if it is empty: along a row or a column, and " +
+    "between the center and a corner. Three in a row, a column or a diagonal win. Who can't move loses.",
+  "dodgem":
+    "Two cars a side on three by three cells. Each side's own cars go to the right, and the other side sees the board mirrored in its diagonal. A " +
+    "car moves one cell to the right, up or down, if that cell is free; from the last column it can leave the board. Who has both cars off the " +
+    "board wins. Who can't move wins.",
+  "krk":
+    "White has king and rook, Black the king alone. All move as in chess. White wins by checkmate. The game is drawn by stalemate, or when Black takes " +
+    "the rook.",
+  "kqk":
+    "White has king and queen, Black the king alone. All move as in chess. White wins by checkmate. The game is drawn by stalemate, or when Black takes " +
+    "the queen.",
+  "tactix":
+    "Counters on a square board. Each player in turn takes one or more that lie side by side, without a gap, in one row or one column. Who takes " +
+    "the last one wins.",
+  "tactix-misere":
+    "Counters on a square board. Each player in turn takes one or more that lie side by side, without a gap, in one row or one column. Who takes " +
+    "the last one loses.",
+};
+const LEGAL = {
+  "tictactoe": 5478, "dao": 891990, "achi": 5400, "threemens": 3910, "mutorere": 630, "hare": 2640, "shisima": 1600, "ponghauki": 30, "tapatan": 1520,
+  "dodgem": 1377, "krk": 402724, "kqk": 372064, "tactix-4": 65536, "tactix-4-misere": 65536, "tactix-3": 512, "tactix-3-misere": 512, "tactix-2": 16, "tactix-2-misere": 16,
+  "tactix-1": 2, "tactix-1-misere": 2, "countdown": 11, "takeaway": 13, "wheel": 10
+};
+
+// ---- The engine, in a thread of its own. It answers questions in turn. Its text unpacks to the script of that thread, a zero, and the module.
+const lacking = ["WebAssembly", "DecompressionStream", "Worker"].filter(name => typeof globalThis[name] === "undefined");
+// Whether games are solved here: not if the browser can't, or if the engine doesn't know the game.
+let solving = !lacking.length;
+let worker = null, asks = 0;
+const awaited = new Map();
+async function unpacked(text) {
+  const bytes = Uint8Array.from(atob(text), byte => byte.charCodeAt(0));
+  return new Uint8Array(await new Response(new Blob([bytes]).stream().pipeThrough(new DecompressionStream("gzip"))).arrayBuffer());
+}
+const ask = (act, given = {}, tell) => new Promise((done, failed) => {
+  awaited.set(++asks, { done, failed, tell });
+  worker.postMessage({ id: asks, act, ...given });
+});
+async function startEngine() {
+  const bytes = await unpacked($("engine").textContent), end = bytes.indexOf(0);
+  worker = new Worker(URL.createObjectURL(new Blob([bytes.subarray(0, end)], { type: "text/javascript" })));
+  worker.onmessage = ({ data }) => {
+    const waits = awaited.get(data.id);
+    if (data.told) return waits.tell?.(data.told);
+    awaited.delete(data.id);
+    if (data.failed) waits.failed(new Error(data.failed));
+    else waits.done(data.said);
+  };
+  worker.onerror = error => { for (const { failed } of awaited.values()) failed(new Error(error.message)); };
+  return ask("begin", { bytes: bytes.slice(end + 1).buffer });
+}
+let engine = null;
+
+// ---- What the engine has said of the game: rows of a text, its worth and its moves, and the row of each text.
+let rows = [], numbers = new Map();
+const word = value => value.split(" ")[0], number = value => Number(value.split(" ")[2] || 0);
+const worth = (value, count) => value === "draw" ? value : value + " in " + count;
+function rowOf(text, value) {
+  if (!numbers.has(text)) { numbers.set(text, rows.length); rows.push([text, value]); }
+  return numbers.get(text);
+}
+// Takes what was answered of a row.
+function take(row, got) {
+  rows[row][1] = worth(got.positionValue, got.remoteness);
+  const to = m => rowOf(m.position, worth(m.positionValue, m.remoteness));
+  rows[row].moves = got.moves.map(m => ({ name: m.move, worth: worth(m.moveValue, m.moveRemoteness), to: to(m) }));
+}
+// The rows of the positions that the page has been given, for a browser that can't solve games. A move is followed by the number of its result's row, if the page
+// has it.
+function takeGiven() {
+  const moveOf = (worth, rest) => (name, k) => typeof name === "number" ? [] : [{ name, worth, to: typeof rest[k + 1] === "number" ? rest[k + 1] : null }];
+  given.forEach(([text, value, ...groups]) => {
+    rows[rowOf(text, value)].moves = groups.flatMap(([worth, ...rest]) => rest.flatMap(moveOf(worth, rest)));
+  });
+}
+// Asks for the moves of those of these rows that have none yet.
+async function fill(...some) {
+  const fresh = some.filter(row => row !== null && !rows[row].moves), of = game;
+  if (!fresh.length) return;
+  const said = await ask("ask", { game: of.game, text: fresh.map(row => rows[row][0] + "\n").join("") });
+  if (of === game) said.trim().split("\n").forEach((line, k) => take(fresh[k], JSON.parse(line)));
+}
+// The row of the position with this text, with its moves, or null.
+async function find(text) {
+  const of = game;
+  if (!numbers.has(text) || !rows[numbers.get(text)].moves) {
+    if (!solving || /[\n\r]/.test(text)) return null;
+    const got = JSON.parse(await ask("ask", { game: of.game, text: text + "\n" }));
+    if (got.error || of !== game) return null;
+    take(rowOf(text, ""), got);
+  }
+  return numbers.get(text);
+}
+// The moves of a row: each with its name, its worth, the row of its result, and the places of its ends.
+function movesOf(row) {
+  return rows[row].moves.map(m => {
+    const named = m.name.split("-").map(end => squared(game) ? end.slice(-2) : end);
+    const ends = game.men ? named : m.to === null ? [] : [rows[m.to][0]];
+    return { ...m, ends: ends.map(end => game.points.indexOf(end)) };
+  });
+}
+
+// The line of play: its positions, each with the move that led to it. `at` is the one that is shown, `moves` what can be
+// played there, `picked` the place that was pressed first, and `hidden` whether values are hidden.
+let line = [], at = 0, moves = [], picked = null, hidden = false;
+// The side that the player has against the solver, or null; whether the line's first position is a puzzle; the text on a board that is edited, or null; and the
+// place that the keyboard is at.
+let mine = null, puzzled = false, edited = null, cursor = 0;
+const textAt = k => rows[line[k].row][0], valueAt = k => rows[line[k].row][1];
+
+// On a board of chess each square has the same capital letter, and a position's text has a word for each man, its letter and its square.
+const squared = of => of.board.includes("A A");
+// The side to move, 0 or 1: by the text's last byte on a board of chess, or if the text has one byte more than there are points; else by turns.
+function sideOf(of, text, k) {
+  if (squared(of)) return "wf".includes(text.at(-1)) ? 0 : 1;
+  return of.men && text.length > of.points.length ? of.men.indexOf(text.at(-1)) : k % 2;
+}
+const side = k => sideOf(game, textAt(k), k);
+function winner(k) {
+  return { win: side(k), lose: 1 - side(k) }[word(valueAt(k))] ?? null;
+}
+// The value of a position of the line, told by who wins.
+function told(k) {
+  const left = number(valueAt(k)), who = winner(k);
+  if (who === null) return valueAt(k) === "tie in 0" ? "a tie" : valueAt(k);
+  return game.sides[who] + (left ? " in " + left : " won");
+}
+
+"##;
