@@ -49,11 +49,12 @@ def cases():
     for name in names:
         text = helped(name)
         places, flags = section(text, "Arguments"), options(text)
-        values = (games if "<GAME>" in places else []) + (SHELLS if "<SHELL>" in places else [])
+        takes_game = "<GAME>" in places or "[GAME]" in places
+        values = (games if takes_game else []) + (SHELLS if "<SHELL>" in places else [])
         yield ["gamesman", name, ""], flags + values
         for start in ("--", "--re", "--f", "tactix-3", "h", "ba", "no"):
             yield ["gamesman", name, start], [it for it in flags + values if it.startswith(start)]
-        if "<GAME>" in places:
+        if takes_game:
             yield ["gamesman", name, "dao", "--"], flags
     yield ["gamesman", "chess", ""], []
     yield ["gamesman", "analyze", "tactix-3"], ["tactix-3", "tactix-3-misere"]

@@ -10,6 +10,9 @@ from samples import run_line
 # What the samples write to: folders for tables, and where the shells of a user read completions.
 FOLDERS = ("tables", "dao-tables", ".local/share/bash-completion/completions", ".config/fish/completions")
 
+# A text that the program takes for an engine: it looks only at its digits.
+ENGINE = "engine.txt", "H4sIAAAA+/8=\n"
+
 
 def helped(*words):
     return subprocess.run([GAMESMAN, *words, "--help"], capture_output=True, text=True, timeout=SECONDS, check=True).stdout
@@ -34,6 +37,9 @@ def home(folder):
     """A folder, with what the samples take as given."""
     for name in FOLDERS:
         os.makedirs(f"{folder}/{name}")
+    name, text = ENGINE
+    with open(f"{folder}/{name}", "w", encoding="ascii") as file:
+        file.write(text)
     return folder
 
 

@@ -52,14 +52,15 @@ function compare(name) {
     want(`${name} ${flagsOf(asked).join(" ")}`, got, wanted);
   }
 }
-// Records with one byte changed, the lowest, at places all over.
+// Records with one byte changed, at places all over: a record's remoteness by one, and a lost position where there is none.
 function change(name) {
   const held = engine.games.get(name), width = held.width, tries = Math.min(held.filled / width, 20);
   want(`${name}: its own records`, check(engine, held), 0);
   for (let k = 0; k < tries; k++) {
-    const at = Math.floor(held.filled / width * k / tries) * width, bytes = engine.bytes(name), was = bytes[at];
-    bytes[at] = was ? was ^ 1 : 32;
-    refused(`${name}: record ${at} changed`, check(engine, held), "wrong records");
+    const place = Math.floor(held.filled / width * k / tries), has = engine.kept(name)[place] !== 0, at = width * place + (has || width === 1 ? 0 : 2);
+    const bytes = engine.bytes(name), was = bytes[at];
+    bytes[at] = has ? was ^ 1 : width === 1 ? 32 : 16;
+    refused(`${name}: record ${place} changed`, check(engine, held), "wrong records");
     engine.bytes(name)[at] = was;
   }
 }

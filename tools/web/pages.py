@@ -22,7 +22,7 @@ def said(program, *words):
 def solved_names():
     """The names of the games that the engine knows and the program too."""
     with open(os.path.join(HERE, "page/engine.js"), encoding="ascii") as it:
-        return re.findall(r'"([a-z0-9-]+)"', re.search(r"(?s)NAMES = \[(.*?)\]", it.read())[1])[:-1]
+        return re.findall(r'"([a-z0-9-]+)"', re.search(r"(?s)NAMES = \[(.*?)\]", it.read())[1])
 
 
 def words_of(name):
