@@ -6,13 +6,15 @@ from listing import value_text, worth
 from looks import CONTRAST, NAMED, NAMELESS
 
 # How a place's middle is found (above the badge that may stand there), and what a game in a page is at.
-MIDDLE = "k => { const r = places[k].g.querySelector('.hit').getBoundingClientRect(); return [r.x + r.width / 2, r.y + r.height / 3]; }"
+MIDDLE = "k => { const r = board.places[k].g.querySelector('.hit').getBoundingClientRect(); return [r.x + r.width / 2, r.y + r.height / 3]; }"
 WIDTHS = ((360, 740), (1280, 800))
-SOME_MOVES = """for (let k = 0; k < 4; k++) {
-  const inside = moves.filter(m => m.to !== null);
-  if (inside.length) play(inside[k % 2 && inside.length - 1]);
-}
-lead()"""
+SOME_MOVES = """(async () => {
+  for (let k = 0; k < 4; k++) {
+    const inside = moves.filter(m => m.to !== null);
+    if (inside.length) await play(inside[k % 2 && inside.length - 1]);
+  }
+  await lead();
+})()"""
 
 
 class Tried:
@@ -32,13 +34,18 @@ class Tried:
     def js(self, text):
         return self.browser.js(text)
 
+    def open(self, address=""):
+        """Opens the page anew at an address, and waits until its position is there."""
+        self.browser.open(self.url + address)
+        self.browser.until("game && line.length > 0 && $('state').textContent !== ''")
+
     def middle(self, k):
         return self.js(f"({MIDDLE})({k})")
 
     def looks(self, width, height, scheme):
         """The page as it is opened, and some moves later: its places, its width, its colours, and the names of what can be pressed."""
         self.browser.size(width, height, scheme)
-        self.browser.open(self.url)
+        self.open()
         self.want("places", self.js("document.querySelectorAll('#board .hit').length === game.points.length"))
         for when in ("at first", "later"):
             what = f"at {width}, {scheme}, {when}"
@@ -50,7 +57,7 @@ class Tried:
 
     def press(self, ends, dragging):
         """One move on the board: a drag, or a press on each end, the second time on the same for a move of one place, where it is asked for."""
-        self.js(f"places[{ends[0]}].g.scrollIntoView({{ block: 'center' }})")
+        self.js(f"board.places[{ends[0]}].g.scrollIntoView({{ block: 'center' }})")
         if dragging and len(ends) == 2:
             return self.browser.drag(self.middle(ends[0]), self.middle(ends[1]))
         for k in ends:
@@ -60,7 +67,7 @@ class Tried:
 
     def by_clicks(self):
         """A game on the board, to its end or to the page's."""
-        self.js("follow([]); go(0)")
+        self.js("begin(0)")
         for ply in range(40):
             inside = self.js("moves.filter(m => m.to !== null).map(m => [m.name, m.to, m.ends])")
             if not inside:
@@ -74,7 +81,7 @@ class Tried:
     def by_keys(self):
         """The list, the line and a place by the keyboard."""
         key, at = self.browser.key, "at"
-        self.js("follow([]); go(0); document.querySelector('#moves button').focus()")
+        self.js("begin(0).then(() => document.querySelector('#moves button').focus())")
         for _ in range(self.js("[...document.querySelectorAll('#moves button')].findIndex(x => !x.classList.contains('far'))")):
             key("ArrowDown")
         key("Enter", "\r")
@@ -92,7 +99,7 @@ class Tried:
 
     def hidden(self):
         """Hidden values are told by nothing; shown again they are there."""
-        self.js("follow([]); go(0); $('hide').focus()")
+        self.js("begin(0).then(() => $('hide').focus())")
         self.browser.key("v", "v")
         self.want("nothing is shown", self.js("document.querySelectorAll('.value, .badge').length"), 0)
         self.want("no plot", self.js("getComputedStyle($('plot')).display"), "none")
@@ -106,7 +113,7 @@ class Tried:
         self.want("the best line", self.js("$('say').textContent.startsWith('The best line')"))
 
     def beside_ask(self, count):
-        """What the page shows of positions, come to by their addresses, beside what `ask` says of them."""
+        """What the page shows of positions beside what `ask` says of them."""
         chosen = self.chance.sample(range(len(self.answers)), min(count, len(self.answers)))
         shown = self.js(SHOWN % json.dumps(chosen))
         for k, (text, state, moves) in zip(chosen, shown):
@@ -121,23 +128,28 @@ class Tried:
     def addresses(self):
         """Links to positions and lines; what is none; many steps at once."""
         for k in self.chance.sample(range(len(self.answers)), min(3, len(self.answers))):
-            self.js(f"location.hash = '#' + encodeURIComponent(rows[{k}][0])")
             text = json.dumps(self.answers[k]["position"])
-            self.browser.until(f"textAt(at) === {text} && $('say').textContent === ''")
-            self.browser.until("decodeURIComponent(location.hash) === ['#', ...line.slice(1, at + 1).map(x => '/' + x.name)].join('').replace(/^#$/, '')")
+            for front in ("'#'", "'#' + game.game + '/'"):
+                self.js(f"location.hash = {front} + encodeURIComponent({text})")
+                self.browser.until(f"textAt(at) === {text} && $('say').textContent === ''")
+                self.browser.until(f"decodeURIComponent(location.hash) === '#' + game.game + ({text} === game.start ? '' : '/' + {text})")
+        names = self.js("begin(0).then(lead).then(() => line.slice(1, 3).map(step => step.name))")
+        for front, hidden in (("#", False), ("#?", True)):
+            self.open(front + "".join(f"/{name}" for name in names))
+            self.want(f"a line after {front}", self.js("[line[0].row, at, hidden]"), [0, len(names), hidden])
         for bad in ("#no such position", "#%E0%A4%A", "#/no/such/line"):
-            self.browser.open(self.url + bad)
+            self.open(bad)
             self.want(bad, self.js("[at, $('say').textContent]"), [0, "What the address names is not in this page."])
-        self.js("lead(); for (let k = 0; k < 300; k++) go(k % 2); 0")
-        self.browser.until("location.hash === '' || location.hash.startsWith('#/')")
+        self.js("lead().then(() => { for (let k = 0; k < 300; k++) go(k % 2); })")
+        self.browser.until("location.hash.startsWith('#' + game.game)")
 
     def by_touch(self):
         """A move by a finger: a drag where the board doesn't scroll the page, else taps."""
         self.browser.size(*WIDTHS[0], "light")
         self.browser.call("Emulation.setTouchEmulationEnabled", enabled=True, maxTouchPoints=1)
-        self.browser.open(self.url)
+        self.open()
         name, ends, dragged = self.js("(m => [m.name, m.ends, game.men.length === 1])(moves.find(m => m.to !== null && m.ends.length === 2) || moves[0])")
-        self.js(f"places[{ends[0]}].g.scrollIntoView({{ block: 'center' }})")
+        self.js(f"board.places[{ends[0]}].g.scrollIntoView({{ block: 'center' }})")
         start, end = self.middle(ends[0]), self.middle(ends[-1])
         way = [[start, [(a + b) / 2 for a, b in zip(start, end)], end]] if dragged else [[point] for point in (start, end)[: len(ends)]]
         for first, *further in way:
@@ -164,10 +176,14 @@ class Tried:
         return self.wrong
 
 
-# The text, the state and the moves of lines of the data, each come to by its address.
-SHOWN = """%s.map(k => {
-  readAddress("#" + encodeURIComponent(rows[k][0]));
-  const moves = [...document.querySelectorAll("#moves li")].flatMap(li =>
-    [...li.querySelectorAll("button")].map(b => [b.textContent, li.querySelector(".value").textContent, b.classList.contains("far")]));
-  return [textAt(at), $("state").textContent, moves];
-})"""
+# The text, the state and the moves of lines of the data.
+SHOWN = """(async () => {
+  const shown = [];
+  for (const k of %s) {
+    await begin(k);
+    const moves = [...document.querySelectorAll("#moves li")].flatMap(li =>
+      [...li.querySelectorAll("button")].map(b => [b.textContent, li.querySelector(".value").textContent, b.classList.contains("far")]));
+    shown.push([textAt(at), $("state").textContent, moves]);
+  }
+  return shown;
+})()"""

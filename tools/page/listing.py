@@ -97,5 +97,5 @@ def data_of(game, folder, start, limit):
     asker = Asker(game, folder)
     answers, places, whole = positions(asker, start, limit)
     asker.close()
-    first = {**HEADS[game], "game": game, "naming": naming(game), "whole": whole}
+    first = {**HEADS[game], "game": game, "naming": naming(game), "start": start, "whole": whole}
     return "".join([line(first)] + [line(row(answer, places)) for answer in answers]), answers, places

@@ -34,4 +34,4 @@ NAMELESS = """[...document.querySelectorAll("button, a, [role=button], svg[role]
 }).map(e => e.outerHTML.slice(0, 80))"""
 
 # Whether each place of the board that can be pressed is called by the name of its point.
-NAMED = "places.every(({ g }, k) => !g.hasAttribute('role') || (g.getAttribute('aria-label') || '').startsWith(game.points[k]))"
+NAMED = "board.places.every(({ g }, k) => !g.hasAttribute('role') || (g.getAttribute('aria-label') || '').startsWith(game.points[k]))"

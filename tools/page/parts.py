@@ -7,7 +7,8 @@ from common import ROOT
 
 SOURCES = os.path.join(ROOT, "crates/gm_page/src")
 NAMESPACES = {"http://www.w3.org/1999/xhtml", "http://www.w3.org/2000/svg"}
-POLICY = b"default-src 'none'; style-src 'unsafe-inline'; script-src 'unsafe-inline'; img-src data:; base-uri 'none'; form-action 'none'"
+POLICY = b"""default-src 'none'; style-src 'unsafe-inline'; script-src 'unsafe-inline' 'wasm-unsafe-eval'; worker-src blob:; img-src data:; base-uri 'none';
+  form-action 'none'"""
 ASKS = rb"\bsrc\s*=|url\(|\bfetch\b|\bimport\b|@font-face|XMLHttp|WebSocket|EventSource|sendBeacon|\beval\b|innerHTML"
 
 
@@ -17,43 +18,20 @@ def constants(name):
         return re.findall(rb'(?s)br##"(.*?)"##;', it.read())
 
 
-FRONT, BACK = b"".join(constants("front")), constants("back")[0]
-STYLE = constants("front")[1]
+FRONT = b"".join(constants("front"))
 VIEWER = b"".join(constants(f"viewer_{name}")[0] for name in ("asking", "boards", "playing", "choosing", "drawing"))
 BETWEEN = constants("engine")[0]
-OPENING, MORE, PARTS = constants("engine_front")
-ENGINE_FRONT = OPENING + STYLE + MORE + PARTS
-ENGINE_POLICY = b"script-src 'unsafe-inline' 'wasm-unsafe-eval'; worker-src blob:; img-src data:; base-uri 'none';\n  form-action 'none'"
 
 
-def engine_parts(page):
-    """The lines of a page with the engine, and the engine's digits."""
-    lines, digits = page[len(ENGINE_FRONT) : len(page) - len(VIEWER)].split(BETWEEN)
+def halves(page):
+    """The lines of a page's data, and the engine's digits."""
+    lines, digits = page[len(FRONT) : len(page) - len(VIEWER)].split(BETWEEN)
     return lines, digits
-
-
-def wrong_with_engine(page, engine):
-    """Why a page is not made of its parts around its lines and this engine, if so."""
-    if not (page.startswith(ENGINE_FRONT) and page.endswith(VIEWER) and page.count(BETWEEN) == 1):
-        return "it does not begin and end as the library says, or has no engine"
-    lines, digits = engine_parts(page)
-    outside = set(re.findall(rb"\w+://[^\"'`\s]*", page)) - {name.encode() for name in NAMESPACES}
-    checks = {
-        "a byte is not ASCII": page.isascii(),
-        "its data open a tag": b"<" not in lines,
-        "its data end in the middle of a line": lines.endswith(b"\n"),
-        "its engine is not that of the file": digits == engine.rstrip(b"\n"),
-        f"it names {sorted(outside)}": not outside,
-        "it has words of those that ask for a file": not re.search(ASKS, (ENGINE_FRONT + VIEWER).replace(ENGINE_POLICY, b"")),
-        "its policy does not forbid to ask": ENGINE_POLICY in ENGINE_FRONT and b"default-src 'none'" in ENGINE_FRONT,
-    }
-    found = [why for why, well in checks.items() if not well]
-    return found[0] if found else wrong_tags(page)
 
 
 def data_in(page):
     """The lines of a page's data."""
-    return page[len(FRONT) : len(page) - len(BACK)]
+    return halves(page)[0]
 
 
 class Balanced(html.parser.HTMLParser):
@@ -84,16 +62,19 @@ def wrong_tags(page):
     return None if len(reader.ids) == len(set(reader.ids)) else "two elements have one name"
 
 
-def wrong(page):
-    """Why a page is not made of its parts, or is no page that asks for nothing, if so."""
+def wrong(page, engine=b""):
+    """Why a page is not made of its parts around its lines and this engine, or is no page that asks for nothing, if so."""
+    if not (page.startswith(FRONT) and page.endswith(VIEWER) and page.count(BETWEEN) == 1):
+        return "it does not begin and end as the library says, or has no place for the engine"
+    lines, digits = halves(page)
     outside = set(re.findall(rb"\w+://[^\"'`\s]*", page)) - {name.encode() for name in NAMESPACES}
     checks = {
-        "it does not begin and end as the library says": page.startswith(FRONT) and page.endswith(BACK),
         "a byte is not ASCII": page.isascii(),
-        "its data open a tag": b"<" not in data_in(page),
-        "its data end in the middle of a line": data_in(page).endswith(b"\n"),
+        "its data open a tag": b"<" not in lines,
+        "its data end in the middle of a line": lines.endswith(b"\n"),
+        "its engine is not that of the file": digits == engine.rstrip(b"\n"),
         f"it names {sorted(outside)}": not outside,
-        "it has words of those that ask for a file": not re.search(ASKS, FRONT + BACK),
+        "it has words of those that ask for a file": not re.search(ASKS, (FRONT + VIEWER).replace(POLICY, b"")),
         "its policy does not forbid to ask": POLICY in FRONT,
     }
     found = [why for why, well in checks.items() if not well]

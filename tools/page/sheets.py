@@ -19,6 +19,7 @@ SHEETS = [
     ("hare", "--value win --whole-line --limit 2"),
     ("tactix-3-misere", "--value win --limit 4"),
     ("mutorere", "--value draw --limit 2"),
+    ("krk", "--value win --remoteness 5 --only-fastest --limit 2"),
 ]
 
 

@@ -60,12 +60,12 @@ def wrong_page_of_all(program, engine, page):
     with open(page, "wb") as it:
         it.write(out)
     with open(engine, "rb") as it:
-        why = parts.wrong_with_engine(out, it.read())
-    return [f"page --all: {why}"] if why else [f"page --all: {why}" for why in wrong_lines(program, parts.engine_parts(out)[0])]
+        why = parts.wrong(out, it.read())
+    return [f"page --all: {why}"] if why else [f"page --all: {why}" for why in wrong_lines(program, parts.data_in(out))]
 
 
 def wrong_page_of_one(program, engine, page):
-    """The lines of a page with the engine are those of the page without, and the first also has the position's text."""
+    """The lines of a page with the engine are those of the page without."""
     words = ("page", "dao", "--limit", "50")
     status, out, errors = said(program, *words, "--engine", engine)
     if status or errors:
@@ -73,13 +73,10 @@ def wrong_page_of_one(program, engine, page):
     with open(page, "wb") as it:
         it.write(out)
     with open(engine, "rb") as it:
-        why = parts.wrong_with_engine(out, it.read())
+        why = parts.wrong(out, it.read())
     if why:
         return [f"page dao --engine: {why}"]
-    (head, *rows), (plain, *others) = parts.engine_parts(out)[0].splitlines(), parts.data_in(said(program, *words)[1]).splitlines()
-    wanted = {**json.loads(plain), "start": json.loads(others[0])[0]}
-    wanted = json.dumps(wanted, separators=(",", ":"), sort_keys=True).replace("<", "\\u003c").encode()
-    return [] if rows == others and head == wanted else ["page dao --engine: its lines are not those of the page without"]
+    return [] if parts.data_in(out) == parts.data_in(said(program, *words)[1]) else ["page dao --engine: its lines are not those of the page without"]
 
 
 def refusals(engine, room):

@@ -47,9 +47,9 @@ const TEXTS: &[&str] = &[".........", "x...o....", "xo.......", "xxx......"];
 
 // Prints what a build took and what its gate saw, and then the answers.
 fn tell<G: Shown, R: Print>(rt: &R, game: &Built<G>, seen: u64) -> io::Result<ExitCode> {
-    let (tiers, deliveries) = (game.solved, game.deliveries);
+    let (tiers, deliveries) = (game.work.solved, game.work.deliveries);
     // What the coordinator did itself went through no gate.
-    let counted = seen >= deliveries.saturating_sub(game.by_hand);
+    let counted = seen >= deliveries.saturating_sub(game.work.by_hand);
     println!(rt;
         "{tiers} tiers, {deliveries} deliveries\nthe gate saw each delivery of a worker: {counted}"
     )?;

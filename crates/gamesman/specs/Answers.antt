@@ -1,5 +1,5 @@
 -- The answer of each command.
-use Rattle.std.specs.Prelude.{◌≡◌, ℕ, max, true, false, List, Option, None, Some, Result, Ok, Err, IfErr}
+use Rattle.std.specs.Prelude.{◌≡◌, ℕ, max, true, false, List, [], Option, None, Some, Result, Ok, Err, IfErr}
 use Rattle.std.specs.Io.KnownBytes.{Keeps}
 use Rattle.gm_game.specs.declared.position.Position.{Position}
 use Rattle.gm_game.specs.Rules.{Rules}
@@ -49,7 +49,7 @@ IsTextFor g (Line limit true) position out = IsLineJson g.rules g.shown g.move_s
 IsTextFor g (Line limit false) position out = IsLineText g.rules g.shown g.move_shown position limit out
 IsTextFor g (Show explained) position out = IsShowText g.rules g.shown g.move_shown g.drawn g.mover g.naming explained position out
 IsTextFor g (Diagram valued) position out = IsDiagram g.rules g.shown g.move_shown g.drawn g.mover g.style g.title g.board valued position out
-IsTextFor g (Page limit) position out = IsPage g.rules g.shown g.move_shown g.style g.title g.board g.points g.naming position (max limit 1) out
+IsTextFor g (Page limit) position out = IsPage g.rules g.shown g.move_shown g.style g.title g.board g.points g.naming position (max limit 1) [] out
 
 -- the text of the position that a question is about: that of the start if none is given
 abbrev pub text_asked : GameSpec → PositionRequest → List ℕ

@@ -2,7 +2,8 @@
 use Rattle.std.specs.Prelude.{◌≡◌, ◌⊎◌, ◌++◌, ℕ, max, true, false, List, [], ◌∷◌, Option, None, Some, Result, Err, IfErr}
 use Rattle.std.specs.List.{flat_map}
 use Rattle.gm_play.specs.PlayTexts.{IsNoPosition}
-use Rattle.gm_page.specs.Engines.{AreDigits, IsEnginePage, game_tree, with_engine}
+use Rattle.gm_page.specs.Engines.{AreDigits}
+use Rattle.gm_page.specs.Pages.{IsPage, game_tree, with_viewer}
 use Rattle.gm_page.specs.Scripts.{script_line}
 use Rattle.gm_command.specs.declared.requests.EnginePageRequest.{EnginePageRequest}
 use Rattle.gamesman.specs.declared.fault.Fault.{Fault}
@@ -24,7 +25,7 @@ IsEngineFault _ = ⊥
 -- the page of the position with this text, with some engine
 abbrev pub IsPaged : GameSpec → List ℕ → ℕ → List ℕ → Type 0
 IsPaged g position limit out = (digits : List ℕ) × AreDigits digits
-    × IsEnginePage g.rules g.shown g.move_shown g.style g.title g.board g.points g.naming position limit digits out
+    × IsPage g.rules g.shown g.move_shown g.style g.title g.board g.points g.naming position limit digits out
 
 -- the page of the position with this text is written; if no position has the text, that is the fault, and else it is that of the engine or of a question about
 -- the position
@@ -65,7 +66,7 @@ engine_games = line_games ++ board_games ++ tactix_games ++ number_games
 
 -- the page of all games with this engine
 abbrev pub games_page : List ℕ → List ℕ
-games_page digits = with_engine (flat_map game_line engine_games) digits
+games_page digits = with_viewer (flat_map game_line engine_games) digits
 
 -- the page of all games with some engine
 abbrev pub IsGamesPage : List ℕ → Type 0

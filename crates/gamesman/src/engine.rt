@@ -1,6 +1,6 @@
 //! Pages with the engine, for a browser that solves the games itself.
 ghost use Rattle.std.specs.Prelude.{◌≡◌, ◌≤◌, [], true, IfOk, IfErr, OnOk};
-ghost use Rattle.gm_page.specs.Engines.{AreDigits, IsEnginePage};
+ghost use Rattle.gm_page.specs.Engines.{AreDigits};
 ghost use Rattle.gamesman.specs.Games.{game_spec};
 ghost use Rattle.gamesman.specs.Answers.{IsEnginePagedBy};
 ghost use Rattle.gamesman.specs.Engines.{IsEngineFault, IsEnginePaged, IsEnginePagedAt, IsEveryGame, games_page};
@@ -15,7 +15,7 @@ use gm_command::requests::EnginePageRequest;
 use gm_draw::pictured::Pictured;
 use gm_game::position::Position;
 use gm_page::engine::engine_in;
-use gm_page::engine_page::{engine_page_text, push_engine, push_front};
+use gm_page::page::{page_text, push_back, push_front};
 use gm_tierdb::store_error::StoreError;
 use gm_tierdb::streams::read_text;
 use std::alloc::{AllocError, Global};
@@ -138,7 +138,7 @@ fn write_page<G: Pictured, O: Write>(
     ensures { IsEnginePagedBy (game_spec G.Game.rules G.shown G.move_shown G.drawn G.mover G.naming G.style G.title G.board G.points)
         (G.shown known.now.position) limit (O.contents output.old) (O.contents output.new) result }
 {
-    let text = engine_page_text(alloc, known, limit, digits)?;
+    let text = page_text(alloc, known, limit, digits)?;
     put(output, text.as_slice())?;
     Ok(DONE)
 }
@@ -198,5 +198,5 @@ fn push_games_page(alloc: Global, digits: &[u8], page: &mut Vec<u8>) -> Result<(
 {
     push_front(page)?;
     push_games(alloc, page)?;
-    push_engine(page, digits)
+    push_back(page, digits)
 }

@@ -7,7 +7,7 @@ use crate::games::{
     Achi, Countdown, Dao, Dodgem, Hare, Kqk, Krk, MuTorere, Pong, Shisima, TacTix, Takeaway,
     Tapatan, ThreeMens, TicTacToe, Wheel,
 };
-use gm_page::engine_page::push_game;
+use gm_page::page::push_game;
 use std::alloc::{AllocError, Global};
 
 /// Appends the lines of all games that the engine solves.

@@ -119,7 +119,7 @@ fn text_for<G: Pictured>(
         Question::Line { limit, .. } => line_text(alloc, known, limit),
         Question::Show { explained } => show_text(alloc, known, explained),
         Question::Diagram { valued } => diagram_text(alloc, known, valued),
-        Question::Page { limit } => page_text(alloc, known, limit.max(1)),
+        Question::Page { limit } => page_text(alloc, known, limit.max(1), b""),
     }
 }
 

@@ -64,14 +64,15 @@ fn report_of<
 
 // Returns the work of a build as a line.
 fn line_of<G: Game>(alloc: Global, built: &Built<G>) -> Result<Vec<u8>, AllocError>
-    ensures { IfOk result (λ v. v.items ≡ report_text built.now.solved built.now.reused built.now.migrated built.now.deliveries built.now.by_hand) }
+    ensures { IfOk result (λ v. v.items ≡ report_text built.now.work) }
 {
+    let work = built.work;
     let mut line = Vec::new(alloc);
-    push_part(&mut line, b"solved ", built.solved as u64)?;
-    push_part(&mut line, b" reused ", built.reused as u64)?;
-    push_part(&mut line, b" migrated ", built.migrated as u64)?;
-    push_part(&mut line, b" deliveries ", built.deliveries)?;
-    push_part(&mut line, b" by hand ", built.by_hand)?;
+    push_part(&mut line, b"solved ", work.solved as u64)?;
+    push_part(&mut line, b" reused ", work.reused as u64)?;
+    push_part(&mut line, b" migrated ", work.migrated as u64)?;
+    push_part(&mut line, b" deliveries ", work.deliveries)?;
+    push_part(&mut line, b" by hand ", work.by_hand)?;
     line.extend_from_slice(b"\n")?;
     Ok(line)
 }

@@ -44,7 +44,7 @@ impl<E: Write + Send> BuildOptions<'_, E> {
     ) -> Result<Built<G>, Fault>
         ensures order { IfOk result (λ built. IsTierOrder G.rules built.order) }
         ensures held { IfOk result (λ built. HoldsExactly built.tables built.order) }
-        ensures work { IfOk result (λ built. IsSomeWork G.rules built.order built.solved built.reused built.migrated built.deliveries built.by_hand) }
+        ensures work { IfOk result (λ built. IsSomeWork G.rules built.order built.work) }
         ensures unbuilt { IfErr result (IsUnbuilt G.rules G.rules.initial.tier) }
     {
         self.build_from::<G, R>(rt, G::initial().tier)
@@ -57,7 +57,7 @@ impl<E: Write + Send> BuildOptions<'_, E> {
     >(self, rt: &R, first: u64) -> Result<Built<G>, Fault>
         ensures order { IfOk result (λ built. IsOrderFrom G.rules first built.order) }
         ensures held { IfOk result (λ built. HoldsExactly built.tables built.order) }
-        ensures work { IfOk result (λ built. IsSomeWork G.rules built.order built.solved built.reused built.migrated built.deliveries built.by_hand) }
+        ensures work { IfOk result (λ built. IsSomeWork G.rules built.order built.work) }
         ensures unbuilt { IfErr result (IsUnbuilt G.rules first) }
     {
         let BuildOptions {
@@ -118,7 +118,7 @@ fn build_over<
     requires { failed_in shelf.old ≡ 0 }
     ensures order { IfOk result (λ built. IsOrderFrom G.rules first built.order) }
     ensures held { IfOk result (λ built. HoldsExactly built.tables built.order) }
-    ensures work { IfOk result (λ built. IsSomeWork G.rules built.order built.solved built.reused built.migrated built.deliveries built.by_hand) }
+    ensures work { IfOk result (λ built. IsSomeWork G.rules built.order built.work) }
     ensures error { IfErr result (IsBuildError G.rules first) }
 {
     let alloc = rt.alloc();

@@ -64,6 +64,7 @@ fn longest(value: Value, remoteness: u32) -> Sought
             most: remoteness,
         }),
         only_move: false,
+        only_fastest: false,
         whole_line: false,
         distinct: false,
         min_moves: 0,

@@ -1,17 +1,14 @@
 -- What an error of a tier says of the build.
 use Rattle.std.proofs.Common.{◌≡◌, ℕ, ◌+◌, inl, inr, Result, Ok, Err, IfErr, refl, sym, ap, subst, ◌∙◌, arith}
 use Rattle.std.specs.Result.{IsErrAnd, IsErrOf}
-use Rattle.gm_game.specs.Rules.{Rules}
-use Rattle.gm_game.specs.declared.limits.TheConstants.{TIERS}
+use Rattle.gm_build.proofs.Lower.{Rules, TIERS, IsReachedFrom, Texts, of_tier_error, IsBuildError, StopsAt, IsStopped}
 use Rattle.gm_tiers.specs.declared.tier_error.TierError.{TierError}
 use Rattle.gm_tiers.specs.declared.tier_error.TierError.TheVariants.{OutOfMemory as NoMemory, TooManyTiers as TooMany, TierTooLarge as TooLarge}
-use Rattle.gm_tiers.specs.Reach.{IsReachedFrom}
 use Rattle.gm_tiers.specs.Limits.{HasTooMany, AreMoreThan, IsTooLarge}
-use Rattle.gm_tierdb.specs.StoreTexts.{Texts}
 use Rattle.gm_table.specs.Solving.{IsTooFar}
 use Rattle.gm_build.specs.declared.build_error.BuildError.{BuildError}
 use Rattle.gm_build.specs.declared.build_error.BuildError.TheVariants.{OutOfMemory, TooFar, StoreFailed, TooManyTiers, TierTooLarge}
-use Rattle.gm_build.specs.Outcomes.{of_tier_error, failures_in, IsTierError, IsBuildError, StopsAt, IsStopped}
+use Rattle.gm_build.specs.Outcomes.{failures_in, IsTierError}
 
 pub build_error : (r : Rules) (first tier : ℕ) (e : BuildError) → IsReachedFrom r first tier → IsTierError r tier e → IsBuildError r first e
 build_error r first tier OutOfMemory reached is = tt

@@ -4,3 +4,4 @@ pub mod OrderLemmas
 pub mod SoFar
 pub mod ErrorLemmas
 mod WholeLines
+pub mod Lower

@@ -1,47 +1,16 @@
 -- How the numbers of a build grow, tier by tier.
-use Rattle.std.proofs.Common.{◌≡◌, ℕ, ◌+◌, ◌*◌, ◌≤◌, ◌⊎◌, ◌↔◌, inl, inr, List, [], ◌∷◌, ◌++◌, length, take, map, Fits, refl, ap, sym, subst, ◌∙◌, arith}
-use Rattle.std.proofs.Common.{length-append, length-take}
-use Rattle.std.specs.Int.{w64}
-use Rattle.std.specs.List.{Contains}
+use Rattle.std.proofs.Common.{◌≡◌, ℕ, ◌+◌, ◌*◌, ◌≤◌, ◌↔◌, inl, inr, List, [], ◌∷◌, ◌++◌, map, refl, ap, sym, subst, ◌∙◌, arith}
+use Rattle.gm_build.proofs.Lower.{Contains, Contains-append_left, Contains-push, Contains-push_cases, MOVES, TIER_SIZE, Position, Rules, IsGame}
+use Rattle.gm_build.proofs.Lower.{contains_none, AreDeliveries, IsWorkOn, IsSomeWork, IsDoneBy, IsStepWork, no_work, with_tier}
+use Rattle.gm_build.proofs.Lower.{TierOutcome, Reused, Migrated, Solved, Work}
 use Rattle.std.proofs.lemmas.List.{length-map}
-use Rattle.std.proofs.lemmas.List.Elements.{Contains-append_left, Contains-append_right, Contains-append_cases, Contains-push, Contains-push_cases}
-use Rattle.gm_game.specs.declared.limits.TheConstants.{MOVES, TIERS, TIER_SIZE}
-use Rattle.gm_game.specs.declared.position.Position.{Position}
-use Rattle.gm_game.specs.Rules.{Rules}
-use Rattle.gm_game.specs.Laws.{IsGame}
 use Rattle.gm_game.specs.Numbers.{AreThere}
-use Rattle.gm_game.proofs.Lists.{contains_none, contains_first, contains_cases, map_from, map_in}
-use Rattle.gm_frontier.proofs.Distinct.{no_repeats_from, no_repeats_to, no_repeats_append, no_repeats_map}
+use Rattle.gm_game.proofs.Lists.{contains_first, contains_cases, map_from, map_in}
+use Rattle.gm_frontier.proofs.Distinct.{no_repeats_from, no_repeats_to, no_repeats_map}
 use Rattle.gm_frontier.proofs.CountLemmas.{pairs_few}
-use Rattle.gm_table.specs.Solving.{IsDelivery, AreDeliveries}
-use Rattle.gm_build.specs.Work.{IsSolvedTier, IsSolvedDelivery, IsWorkOn, IsSomeWork}
-
--- things of one of two kinds that have nothing in common
-there_sum : {A : Type 0} (n m : ℕ) (K L M : A → Type 0) → AreThere n K → AreThere m L → ((x : A) → K x → L x → ⊥) → ((x : A) → M x ↔ (K x ⊎ L x))
-    → AreThere (n + m) M
-there_sum n m K L M (xs, count, a) (ys, many, b) apart same = (
-  xs ++ ys,
-  omega (arith, length-append xs ys),
-  record {
-    each = λ x. (
-      λ h. elim ((same x).0 h) [ inl k ↦ Contains-append_left xs ys x ((a.each x).0 k) | inr l ↦ Contains-append_right xs ys x ((b.each x).0 l) ],
-      λ h. (same x).1 (elim (Contains-append_cases xs ys x h) [ inl k ↦ inl ((a.each x).1 k) | inr l ↦ inr ((b.each x).1 l) ]),
-    );
-    once = no_repeats_to (xs ++ ys) (no_repeats_append xs ys (no_repeats_from xs a.once) (no_repeats_from ys b.once)
-        (λ x i j. apart x ((a.each x).1 i) ((b.each x).1 j)));
-  },
-)
-
--- things of the same kind, said otherwise
-there_same : {A : Type 0} (n : ℕ) (K M : A → Type 0) → AreThere n K → ((x : A) → M x ↔ K x) → AreThere n M
-there_same n K M (xs, count, a) same = (
-  xs,
-  count,
-  record {
-    each = λ x. (λ m. (a.each x).0 ((same x).0 m), λ h. (same x).1 ((a.each x).1 h));
-    once = a.once;
-  },
-)
+use Rattle.gm_table.specs.Solving.{IsDelivery}
+use Rattle.gm_solver.proofs.Deliveries.{there_sum, there_same, there_none}
+use Rattle.gm_build.specs.Work.{IsSolvedTier, IsSolvedDelivery}
 
 -- one tier
 there_one : (tier : ℕ) → AreThere 1 (λ (t : ℕ). tier ≡ t)
@@ -57,39 +26,28 @@ there_one tier = (
   },
 )
 
--- nothing of a kind that there is not
-there_none : {A : Type 0} (K : A → Type 0) → ((x : A) → K x → ⊥) → AreThere 0 K
-there_none K none = (
-  [],
-  refl,
-  record {
-    each = λ x. (λ k. absurd (none x k), λ h. absurd (contains_none x h));
-    once = no_repeats_to [] tt;
-  },
-)
-
 -- the deliveries of one tier, told with it
 abbrev IsDeliveryOf : Rules → ℕ → ℕ × (Position × ℕ) → Type 0
 IsDeliveryOf r tier d = (tier ≡ d.0) × IsDelivery r d.0 d.1
 
-with_tier : ℕ → Position × ℕ → ℕ × (Position × ℕ)
-with_tier tier pair = (tier, pair)
+paired : ℕ → Position × ℕ → ℕ × (Position × ℕ)
+paired tier pair = (tier, pair)
 
 there_of_tier : (r : Rules) (tier n : ℕ) → AreDeliveries r tier n → AreThere n (IsDeliveryOf r tier)
-unfolding with_tier
+unfolding paired
 there_of_tier r tier n (xs, count, a) = (
-  map (with_tier tier) xs,
-  length-map xs (with_tier tier) ∙ count,
+  map (paired tier) xs,
+  length-map xs (paired tier) ∙ count,
   record {
     each = λ (d : ℕ × (Position × ℕ)). (
-      λ k. subst (λ (u : ℕ). Contains (map (with_tier tier) xs) (u, d.1)) k.0
-          (map_from (with_tier tier) xs d.1 ((a.each d.1).0 (subst (λ (u : ℕ). IsDelivery r u d.1) (sym k.0) k.1))),
-      λ h. (let (p, has, e) = map_in (with_tier tier) xs d h in (
+      λ k. subst (λ (u : ℕ). Contains (map (paired tier) xs) (u, d.1)) k.0
+          (map_from (paired tier) xs d.1 ((a.each d.1).0 (subst (λ (u : ℕ). IsDelivery r u d.1) (sym k.0) k.1))),
+      λ h. (let (p, has, e) = map_in (paired tier) xs d h in (
         ap (λ (x : ℕ × (Position × ℕ)). x.0) e,
         subst (λ (x : ℕ × (Position × ℕ)). IsDelivery r x.0 x.1) e ((a.each p).1 has),
       )),
     );
-    once = no_repeats_to (map (with_tier tier) xs) (no_repeats_map (with_tier tier) xs (λ x y i j e. ap (λ (z : ℕ × (Position × ℕ)). z.1) e)
+    once = no_repeats_to (map (paired tier) xs) (no_repeats_map (paired tier) xs (λ x y i j e. ap (λ (z : ℕ × (Position × ℕ)). z.1) e)
         (no_repeats_from xs a.once));
   },
 )
@@ -100,7 +58,7 @@ deliveries_few r laws tier n small (xs, count, a) =
     let few = pairs_few r laws tier xs (no_repeats_from xs a.once) (λ p h. ((a.each p).1 h).is_parent) in omega arith
 
 -- nothing is done with no tiers
-pub work_none : (r : Rules) (IsReused IsMigrated : ℕ → Type 0) → IsWorkOn r [] IsReused IsMigrated 0 0 0 0 0
+pub work_none : (r : Rules) (IsReused IsMigrated : ℕ → Type 0) → IsWorkOn r [] IsReused IsMigrated no_work
 work_none r IsReused IsMigrated = record {
   those_solved = there_none (λ (t : ℕ). Contains [] t × IsSolvedTier IsReused IsMigrated t) (λ t k. contains_none t k.0);
   those_reused = there_none (λ (t : ℕ). Contains [] t × IsReused t) (λ t k. contains_none t k.0);
@@ -164,60 +122,55 @@ module _ (front : List ℕ) (tier : ℕ) (fresh : Contains front tier → ⊥) (
 -- one tier more, where those before it were reused and migrated as before
 module _ (r : Rules) (front : List ℕ) (tier : ℕ) (fresh : Contains front tier → ⊥) (WasReused IsReused WasMigrated IsMigrated : ℕ → Type 0)
     (reused_as : (t : ℕ) → Contains front t → WasReused t ↔ IsReused t) (migrated_as : (t : ℕ) → Contains front t → WasMigrated t ↔ IsMigrated t)
-    (solved reused migrated deliveries by_hand : ℕ) (work : IsWorkOn r front WasReused WasMigrated solved reused migrated deliveries by_hand) where
+    (w : Work) (work : IsWorkOn r front WasReused WasMigrated w) where
   solved_as : (t : ℕ) → Contains front t → IsSolvedTier WasReused WasMigrated t ↔ IsSolvedTier IsReused IsMigrated t
   solved_as t i = (
     λ n. (λ p. n.0 ((reused_as t i).1 p), λ p. n.1 ((migrated_as t i).1 p)),
     λ n. (λ p. n.0 ((reused_as t i).0 p), λ p. n.1 ((migrated_as t i).0 p)),
   )
 
-  pub work_reused : IsReused tier → (IsMigrated tier → ⊥) → IsWorkOn r (front ++ tier ∷ []) IsReused IsMigrated solved (reused + 1) migrated deliveries by_hand
-  work_reused is is_not = record {
+  pub work_more : (outcome : TierOutcome) → IsDoneBy IsReused IsMigrated tier outcome → IsStepWork r tier outcome
+      → IsWorkOn r (front ++ tier ∷ []) IsReused IsMigrated (with_tier w outcome)
+  work_more Reused is took = record {
     those_solved = kind_same front tier fresh (IsSolvedTier WasReused WasMigrated) (IsSolvedTier IsReused IsMigrated)
-        solved_as solved work.those_solved (λ n. n.0 is);
-    those_reused = kind_more front tier fresh WasReused IsReused reused_as reused work.those_reused is;
-    those_migrated = kind_same front tier fresh WasMigrated IsMigrated migrated_as migrated work.those_migrated is_not;
+        solved_as w.solved work.those_solved (λ n. n.0 is.0);
+    those_reused = kind_more front tier fresh WasReused IsReused reused_as w.reused work.those_reused is.0;
+    those_migrated = kind_same front tier fresh WasMigrated IsMigrated migrated_as w.migrated work.those_migrated is.1;
     those_delivered = delivered_same front tier fresh (IsSolvedTier WasReused WasMigrated) (IsSolvedTier IsReused IsMigrated)
-        solved_as r deliveries work.those_delivered (λ n. n.0 is);
+        solved_as r w.deliveries work.those_delivered (λ n. n.0 is.0);
     few_by_hand = work.few_by_hand;
   }
-
-  pub work_migrated : IsMigrated tier → (IsReused tier → ⊥)
-      → IsWorkOn r (front ++ tier ∷ []) IsReused IsMigrated solved reused (migrated + 1) deliveries by_hand
-  work_migrated is is_not = record {
+  work_more Migrated is took = record {
     those_solved = kind_same front tier fresh (IsSolvedTier WasReused WasMigrated) (IsSolvedTier IsReused IsMigrated)
-        solved_as solved work.those_solved (λ n. n.1 is);
-    those_reused = kind_same front tier fresh WasReused IsReused reused_as reused work.those_reused is_not;
-    those_migrated = kind_more front tier fresh WasMigrated IsMigrated migrated_as migrated work.those_migrated is;
+        solved_as w.solved work.those_solved (λ n. n.1 is.0);
+    those_reused = kind_same front tier fresh WasReused IsReused reused_as w.reused work.those_reused is.1;
+    those_migrated = kind_more front tier fresh WasMigrated IsMigrated migrated_as w.migrated work.those_migrated is.0;
     those_delivered = delivered_same front tier fresh (IsSolvedTier WasReused WasMigrated) (IsSolvedTier IsReused IsMigrated)
-        solved_as r deliveries work.those_delivered (λ n. n.1 is);
+        solved_as r w.deliveries work.those_delivered (λ n. n.1 is.0);
     few_by_hand = work.few_by_hand;
   }
-
-  pub work_solved : IsSolvedTier IsReused IsMigrated tier → (more hand : ℕ) → AreDeliveries r tier more → hand ≤ more
-      → IsWorkOn r (front ++ tier ∷ []) IsReused IsMigrated (solved + 1) reused migrated (deliveries + more) (by_hand + hand)
-  work_solved is more hand are few = record {
-    those_solved = kind_more front tier fresh (IsSolvedTier WasReused WasMigrated) (IsSolvedTier IsReused IsMigrated) solved_as solved work.those_solved is;
-    those_reused = kind_same front tier fresh WasReused IsReused reused_as reused work.those_reused is.0;
-    those_migrated = kind_same front tier fresh WasMigrated IsMigrated migrated_as migrated work.those_migrated is.1;
+  work_more (Solved report) is took = record {
+    those_solved = kind_more front tier fresh (IsSolvedTier WasReused WasMigrated) (IsSolvedTier IsReused IsMigrated)
+        solved_as w.solved work.those_solved is;
+    those_reused = kind_same front tier fresh WasReused IsReused reused_as w.reused work.those_reused is.0;
+    those_migrated = kind_same front tier fresh WasMigrated IsMigrated migrated_as w.migrated work.those_migrated is.1;
     those_delivered = delivered_more front tier fresh (IsSolvedTier WasReused WasMigrated) (IsSolvedTier IsReused IsMigrated)
-        solved_as r deliveries more work.those_delivered is are;
-    few_by_hand = (let a = work.few_by_hand in omega arith);
+        solved_as r w.deliveries report.deliveries work.those_delivered is took.0;
+    few_by_hand = (let a = work.few_by_hand in let b = took.1 in omega arith);
   }
 
 -- the same, whichever were reused and migrated
-pub some_none : (r : Rules) → IsSomeWork r [] 0 0 0 0 0
+pub some_none : (r : Rules) → IsSomeWork r [] no_work
 some_none r = record {
   reused_tiers = [];
   migrated_tiers = [];
   among = λ t i. i;
   among_too = λ t i. i;
   apart = λ t i j. contains_none t i;
-  work = work_none r (Contains []) (Contains []);
+  among_all = work_none r (Contains []) (Contains []);
 }
 
-module _ (r : Rules) (front : List ℕ) (tier : ℕ) (fresh : Contains front tier → ⊥) (solved reused migrated deliveries by_hand : ℕ)
-    (w : IsSomeWork r front solved reused migrated deliveries by_hand) where
+module _ (r : Rules) (front : List ℕ) (tier : ℕ) (fresh : Contains front tier → ⊥) (work : Work) (w : IsSomeWork r front work) where
   -- some of the tiers before, and this one
   among_more : (some : List ℕ) → ((t : ℕ) → Contains some t → Contains front t) → (t : ℕ) → Contains (some ++ tier ∷ []) t → Contains (front ++ tier ∷ []) t
   among_more some among t i = elim (Contains-push_cases some tier t i) [
@@ -231,47 +184,40 @@ module _ (r : Rules) (front : List ℕ) (tier : ℕ) (fresh : Contains front tie
     λ h. elim (Contains-push_cases some tier t h) [ inl k ↦ k | inr e ↦ absurd (fresh (subst (Contains front) (sym e) i)) ],
   )
 
-  pub some_reused : IsSomeWork r (front ++ tier ∷ []) solved (reused + 1) migrated deliveries by_hand
-  some_reused = record {
+  -- those of some tiers, whatever else they are
+  stays : (some : List ℕ) → (t : ℕ) → Contains front t → Contains some t ↔ Contains some t
+  stays some t i = (λ h. h, λ h. h)
+
+  pub some_more : (outcome : TierOutcome) → IsStepWork r tier outcome → IsSomeWork r (front ++ tier ∷ []) (with_tier work outcome)
+  some_more Reused took = record {
     reused_tiers = w.reused_tiers ++ tier ∷ [];
     migrated_tiers = w.migrated_tiers;
     among = among_more w.reused_tiers w.among;
     among_too = λ t i. Contains-append_left front (tier ∷ []) t (w.among_too t i);
     apart = λ t i j. elim (Contains-push_cases w.reused_tiers tier t i)
         [ inl h ↦ w.apart t h j | inr e ↦ fresh (subst (Contains front) (sym e) (w.among_too t j)) ];
-    work = work_reused r front tier fresh (Contains w.reused_tiers) (Contains (w.reused_tiers ++ tier ∷ [])) (Contains w.migrated_tiers)
-        (Contains w.migrated_tiers)
-        (among_as w.reused_tiers) (λ t i. (λ h. h, λ h. h)) solved reused migrated deliveries by_hand w.work (Contains-push w.reused_tiers tier)
-        (λ h. fresh (w.among_too tier h));
+    among_all = work_more r front tier fresh (Contains w.reused_tiers) (Contains (w.reused_tiers ++ tier ∷ [])) (Contains w.migrated_tiers)
+        (Contains w.migrated_tiers) (among_as w.reused_tiers) (stays w.migrated_tiers) work w.among_all Reused
+        (Contains-push w.reused_tiers tier, λ h. fresh (w.among_too tier h)) took;
   }
-
-  pub some_migrated : IsSomeWork r (front ++ tier ∷ []) solved reused (migrated + 1) deliveries by_hand
-  some_migrated = record {
+  some_more Migrated took = record {
     reused_tiers = w.reused_tiers;
     migrated_tiers = w.migrated_tiers ++ tier ∷ [];
     among = λ t i. Contains-append_left front (tier ∷ []) t (w.among t i);
     among_too = among_more w.migrated_tiers w.among_too;
     apart = λ t i j. elim (Contains-push_cases w.migrated_tiers tier t j)
         [ inl h ↦ w.apart t i h | inr e ↦ fresh (subst (Contains front) (sym e) (w.among t i)) ];
-    work = work_migrated r front tier fresh (Contains w.reused_tiers) (Contains w.reused_tiers) (Contains w.migrated_tiers)
-        (Contains (w.migrated_tiers ++ tier ∷ []))
-        (λ t i. (λ h. h, λ h. h)) (among_as w.migrated_tiers) solved reused migrated deliveries by_hand w.work (Contains-push w.migrated_tiers tier)
-        (λ h. fresh (w.among tier h));
+    among_all = work_more r front tier fresh (Contains w.reused_tiers) (Contains w.reused_tiers) (Contains w.migrated_tiers)
+        (Contains (w.migrated_tiers ++ tier ∷ [])) (stays w.reused_tiers) (among_as w.migrated_tiers) work w.among_all Migrated
+        (Contains-push w.migrated_tiers tier, λ h. fresh (w.among tier h)) took;
   }
-
-  pub some_solved : (more hand : ℕ) → AreDeliveries r tier more → hand ≤ more
-      → IsSomeWork r (front ++ tier ∷ []) (solved + 1) reused migrated (deliveries + more) (by_hand + hand)
-  some_solved more hand are few = record {
+  some_more (Solved report) took = record {
     reused_tiers = w.reused_tiers;
     migrated_tiers = w.migrated_tiers;
     among = λ t i. Contains-append_left front (tier ∷ []) t (w.among t i);
     among_too = λ t i. Contains-append_left front (tier ∷ []) t (w.among_too t i);
     apart = w.apart;
-    work = work_solved r front tier fresh (Contains w.reused_tiers) (Contains w.reused_tiers) (Contains w.migrated_tiers) (Contains w.migrated_tiers)
-        (λ t i. (λ h. h, λ h. h)) (λ t i. (λ h. h, λ h. h)) solved reused migrated deliveries by_hand w.work
-        (λ h. fresh (w.among tier h), λ h. fresh (w.among_too tier h)) more hand are few;
+    among_all = work_more r front tier fresh (Contains w.reused_tiers) (Contains w.reused_tiers) (Contains w.migrated_tiers) (Contains w.migrated_tiers)
+        (stays w.reused_tiers) (stays w.migrated_tiers) work w.among_all (Solved report)
+        (λ h. fresh (w.among tier h), λ h. fresh (w.among_too tier h)) took;
   }
-
--- one more than a number of tiers that are done
-pub one_fits : (n index : ℕ) (tiers : List ℕ) → n ≤ length (take index tiers) → length tiers ≤ TIERS → Fits w64 (n + 1)
-one_fits n index tiers few most = let long = length-take index tiers in omega arith

@@ -1,7 +1,6 @@
 -- Whether a tier's entry is the text of its true table.
 use Rattle.std.specs.Prelude.{◌≡◌, ℕ, List}
-use Rattle.gm_game.specs.Rules.{Rules}
-use Rattle.gm_tierdb.specs.StoreTexts.{Texts}
+use Rattle.gm_build.specs.Lower.{Rules, Texts}
 use Rattle.gm_build.specs.declared.found.Found.{Found}
 use Rattle.gm_build.specs.declared.found.Found.TheVariants.{Current, Old, Nothing}
 use Rattle.gm_build.specs.TrueTexts.{IsTrueText, IsOldText, HasText, HasOldText}

@@ -1,18 +1,12 @@
 -- What a tier's entry is found to be.
 use Rattle.std.specs.Prelude.{◌≡◌, ℕ, List, Option, None, Some, Result, Ok, Err, IfOk, IfErr, IsErrOf, MatchResult}
-use Rattle.gm_game.specs.declared.position.Solved.{Solved}
-use Rattle.gm_game.specs.declared.limits.TheConstants.{REMOTENESS}
-use Rattle.gm_game.specs.Records.{IsTrueTable}
-use Rattle.gm_game.specs.Rules.{Rules}
+use Rattle.gm_build.specs.Lower.{Solved, REMOTENESS, IsTrueTable, Rules, TableData, IsTierText, IsTierText1, Texts}
 use Rattle.gm_table.specs.declared.checker.CheckError.{CheckError}
-use Rattle.gm_table.specs.Tables.{TableData}
 use Rattle.gm_table.specs.Checks.{AreWrong}
 use Rattle.gm_tierdb.specs.declared.file_error.FileError.{FileError}
 use Rattle.gm_tierdb.specs.declared.file_error.FileError.TheVariants.{OutOfMemory, OldVersion}
-use Rattle.gm_tierdb.specs.TierText.{IsTierText, IsTierText1}
 use Rattle.gm_tierdb.specs.Seals.{IsUnsealed, RefusesUnsealed}
 use Rattle.gm_tierdb.specs.Refusals.{Refuses}
-use Rattle.gm_tierdb.specs.StoreTexts.{Texts}
 use Rattle.gm_build.specs.declared.inspect.Inspected.{Inspected}
 use Rattle.gm_build.specs.declared.inspect.Inspected.TheVariants.{Right, Missing, NoFile, NoTable}
 use Rattle.gm_build.specs.TrueTexts.{IsTrueText, IsOldText}

@@ -4,3 +4,4 @@ pub mod Inspections
 pub mod Work
 pub mod Outcomes
 pub mod Steps
+pub mod Lower

@@ -1,13 +1,11 @@
 -- How a build ends without its tables, and what the store has then.
 use Rattle.std.specs.Prelude.{◌≡◌, ℕ, ◌⊎◌, ◌+◌, List, take, slice_get, Some, Result, Ok, Err}
 use Rattle.gm_game.specs.declared.limits.TheConstants.{TIERS}
-use Rattle.gm_game.specs.Rules.{Rules}
+use Rattle.gm_build.specs.Lower.{Rules, IsOrderFrom, Texts, AreSame}
 use Rattle.gm_tiers.specs.declared.tier_error.TierError.{TierError}
 use Rattle.gm_tiers.specs.declared.tier_error.TierError.TheVariants.{OutOfMemory as NoRoom, TooManyTiers as TooMany, TierTooLarge as TooLarge}
 use Rattle.gm_tiers.specs.Reach.{IsReachedFrom}
-use Rattle.gm_tiers.specs.Orders.{IsOrderFrom}
 use Rattle.gm_tiers.specs.Limits.{HasTooMany, AreMoreThan, IsTooLarge}
-use Rattle.gm_tierdb.specs.StoreTexts.{Texts, AreSame}
 use Rattle.gm_table.specs.Solving.{IsTooFar}
 use Rattle.gm_build.specs.declared.build_error.BuildError.{BuildError}
 use Rattle.gm_build.specs.declared.build_error.BuildError.TheVariants.{OutOfMemory, TooFar, StoreFailed, TooManyTiers, TierTooLarge}

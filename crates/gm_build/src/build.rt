@@ -1,13 +1,15 @@
 //! The build of a game.
 ghost use Rattle.std.specs.Prelude.{◌≡◌, ◌+◌, ◌<◌, IsTrue, IfOk, IfErr};
 ghost use Rattle.gm_table.specs.Tables.{AreTables};
-ghost use Rattle.gm_tiers.specs.Orders.{IsTierOrder, IsOrderFrom};
+ghost use Rattle.gm_build.specs.Lower.{IsOrderFrom};
+ghost use Rattle.gm_tiers.specs.Orders.{IsTierOrder};
 ghost use Rattle.gm_build.specs.TrueTexts.{HasText, HasOldText, HaveTexts, KeepsOthers};
 ghost use Rattle.gm_build.specs.Work.{IsWorkOn, IsSomeWork, HoldsExactly};
 ghost use Rattle.gm_build.specs.Outcomes.{failures_in, IsBuildError, IsStopped};
 
 use crate::build_error::BuildError;
-use crate::tier::{TierOutcome, build_tier};
+use crate::tier::build_tier;
+use crate::work::Work;
 use gm_game::game::{Game, laws};
 use gm_solver::gate::Gate;
 use gm_solver::observer::{NoObserver, Observer};
@@ -27,16 +29,8 @@ pub struct Built<G: Game> {
     pub tables: Tables<G>,
     /// The tiers that are built, child tiers first.
     pub order: TierOrder<G>,
-    /// How many of them were solved.
-    pub solved: usize,
-    /// How many of them were reused: the store had the text of their true table.
-    pub reused: usize,
-    /// How many of them were migrated: the store had the text of their true table in version 1, and has the new one.
-    pub migrated: usize,
-    /// The number of deliveries of the tiers that were solved. It does not depend on the workers.
-    pub deliveries: u64,
-    /// The number of deliveries that the coordinator made itself.
-    pub by_hand: u64,
+    /// The work on these tiers.
+    pub work: Work,
 }
 
 // Dropped in one call, so that the prover tracks one value instead of every field.
@@ -45,11 +39,7 @@ impl<G: Game> Drop for Built<G> {
         let Built {
             tables: _,
             order: _,
-            solved: _,
-            reused: _,
-            migrated: _,
-            deliveries: _,
-            by_hand: _,
+            work: _,
         } = self;
     }
 }
@@ -76,7 +66,7 @@ pub fn build<G: Game + Send + Sync, R: Threads + Wait + Files + Sync, S: Store, 
     ensures order { IfOk result (λ built. IsTierOrder G.rules built.order) }
     ensures held { IfOk result (λ built. HoldsExactly built.tables built.order) }
     ensures tables { IfOk result (λ built. AreTables G.rules built.tables) }
-    ensures some_work { IfOk result (λ built. IsSomeWork G.rules built.order built.solved built.reused built.migrated built.deliveries built.by_hand) }
+    ensures some_work { IfOk result (λ built. IsSomeWork G.rules built.order built.work) }
 
     // A store that keeps its map then has the texts of their tables, and nothing else has changed; the tiers that were reused or migrated are those whose text
     // it had before.
@@ -84,7 +74,7 @@ pub fn build<G: Game + Send + Sync, R: Threads + Wait + Files + Sync, S: Store, 
     ensures others { IsTrue S.KEEPS → IfOk result (λ built. KeepsOthers built.order (S.texts store.old) (S.texts store.new)) }
     ensures work { IsTrue S.KEEPS → IfOk result (λ built. IsWorkOn G.rules built.order
         (HasText G.rules (S.texts store.old)) (HasOldText G.rules (S.texts store.old))
-        built.solved built.reused built.migrated built.deliveries built.by_hand) }
+        built.work) }
 
     // Why the game is not built, and what the store has then.
     ensures error { IfErr result (IsBuildError G.rules G.rules.initial.tier) }
@@ -120,7 +110,7 @@ pub fn build_from<
     ensures order { IfOk result (λ built. IsOrderFrom G.rules first built.order) }
     ensures held { IfOk result (λ built. HoldsExactly built.tables built.order) }
     ensures tables { IfOk result (λ built. AreTables G.rules built.tables) }
-    ensures some_work { IfOk result (λ built. IsSomeWork G.rules built.order built.solved built.reused built.migrated built.deliveries built.by_hand) }
+    ensures some_work { IfOk result (λ built. IsSomeWork G.rules built.order built.work) }
 
     // A store that keeps its map then has the texts of their tables, and nothing else has changed; the tiers that were reused or migrated are those whose text
     // it had before.
@@ -128,7 +118,7 @@ pub fn build_from<
     ensures others { IsTrue S.KEEPS → IfOk result (λ built. KeepsOthers built.order (S.texts store.old) (S.texts store.new)) }
     ensures work { IsTrue S.KEEPS → IfOk result (λ built. IsWorkOn G.rules built.order
         (HasText G.rules (S.texts store.old)) (HasOldText G.rules (S.texts store.old))
-        built.solved built.reused built.migrated built.deliveries built.by_hand) }
+        built.work) }
 
     // Why the game is not built, and what the store has then.
     ensures error { IfErr result (IsBuildError G.rules first) }
@@ -138,15 +128,11 @@ pub fn build_from<
     let order = TierOrder::from_tier(alloc, first)?;
     observer.begin(rt, order.tiers().len());
     let mut tables = Tables::new(alloc);
-    let mut solved = 0;
-    let mut reused = 0;
-    let mut migrated = 0;
-    let mut deliveries = 0;
-    let mut by_hand = 0;
+    let mut work = Work::none();
     // By the laws of the game the sum of the deliveries fits.
     laws::<G>();
     for tier in order.tiers() {
-        match build_tier(
+        let outcome = build_tier(
             rt,
             alloc,
             *tier,
@@ -156,25 +142,14 @@ pub fn build_from<
             gate,
             source,
             observer,
-        )? {
-            TierOutcome::Reused => reused += 1,
-            TierOutcome::Migrated => migrated += 1,
-            TierOutcome::Solved(report) => {
-                solved += 1;
-                deliveries += report.deliveries;
-                by_hand += report.by_hand;
-            }
-        }
+        )?;
+        work = work.with_tier(outcome);
     }
     // For the proof: the tables that are held are true.
     let _held = tables.has(first);
     Ok(Built {
         tables,
         order,
-        solved,
-        reused,
-        migrated,
-        deliveries,
-        by_hand,
+        work,
     })
 }

@@ -1,8 +1,6 @@
 //! The true table of a tier, by its entry in a store.
 ghost use Rattle.std.specs.Prelude.{◌≡◌, ◌+◌, ◌<◌, ◌≤◌, IsTrue, IfOk, IfErr, MatchOption};
-ghost use Rattle.gm_game.specs.Records.{IsTrueTable};
-ghost use Rattle.gm_table.specs.Tables.{AreHeld};
-ghost use Rattle.gm_tierdb.specs.StoreTexts.{AreSame};
+ghost use Rattle.gm_build.specs.Lower.{IsTrueTable, AreHeld, AreSame};
 ghost use Rattle.gm_build.specs.TrueTexts.{IsOldText};
 ghost use Rattle.gm_build.specs.Findings.{IsOfTier, IsFound, IsFoundIn};
 ghost use Rattle.gm_build.specs.Outcomes.{failures_in, IsTierError};

@@ -1,8 +1,7 @@
 //! What a tier's entry in a store is found to be.
 ghost use Rattle.std.specs.Prelude.{◌≡◌, ◌+◌, ◌<◌, ◌≤◌, ◌↔◌, IsTrue, IfOk, IfErr, option_map};
-ghost use Rattle.gm_table.specs.Tables.{AreHeld};
+ghost use Rattle.gm_build.specs.Lower.{AreHeld, Texts, AreSame};
 ghost use Rattle.gm_tierdb.specs.Seals.{IsSealed};
-ghost use Rattle.gm_tierdb.specs.StoreTexts.{Texts, AreSame};
 ghost use Rattle.gm_build.specs.Inspections.{IsInspected, IsInspectedIn, IsRead};
 ghost use Rattle.gm_build.specs.Outcomes.{failures_in, IsTierError, IsReadError};
 

@@ -12,3 +12,4 @@ pub mod inspect;
 pub mod progress;
 mod tier;
 pub mod whole_line;
+pub mod work;

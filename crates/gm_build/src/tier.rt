@@ -1,8 +1,7 @@
 //! One tier of a build.
 ghost use Rattle.std.specs.Prelude.{◌≡◌, ◌+◌, ◌<◌, ◌≤◌, IsTrue, IfOk, OnOk, OnErr, IfErr};
-ghost use Rattle.gm_table.specs.Tables.{AreHeld};
+ghost use Rattle.gm_build.specs.Lower.{AreHeld, AreDeliveries};
 ghost use Rattle.gm_tierdb.specs.StoreTexts.{AreSameBut};
-ghost use Rattle.gm_table.specs.Solving.{AreDeliveries};
 ghost use Rattle.gm_build.specs.TrueTexts.{HasText};
 ghost use Rattle.gm_build.specs.Work.{HoldsToo};
 ghost use Rattle.gm_build.specs.Steps.{IsStep, IsStepWork};

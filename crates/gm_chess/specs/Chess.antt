@@ -1,11 +1,12 @@
 -- King and rook, or king and queen, against king, by the laws of chess. A square is a number below 64: eight times its row, plus its file.
-use Rattle.std.specs.Prelude.{ℕ, zero, suc, ◌+◌, ◌-◌, ◌*◌, ◌/◌, ◌%◌, Bool, true, false, not, ◌&&◌, ◌||◌, ◌==◌, nat_lt, nat_le, List, [], ◌∷◌, ◌++◌}
+use Rattle.std.specs.Prelude.{ℕ, zero, suc, ◌+◌, ◌-◌, ◌*◌, ◌/◌, ◌%◌, Bool, true, false, not, ◌&&◌, ◌||◌, ◌==◌, nat_lt, List, [], ◌∷◌, ◌++◌}
 use Rattle.std.specs.Prelude.{codes, length, slice_index, Option, None, Some, if◌then◌else◌}
 use Rattle.std.specs.List.{list_any, range_with_len}
 use Rattle.gm_game.specs.declared.position.End.{End}
 use Rattle.gm_game.specs.declared.position.End.TheVariants.{Lose, Tie}
 use Rattle.gm_game.specs.Rules.{Rules}
 use Rattle.gm_pieces.specs.MoveGames.{MoveGame, move_rules}
+use Rattle.gm_squares.specs.Squares.{goes_on_board, beside, square_text, square_in}
 use Rattle.gm_chess.specs.declared.men.Men.{Men}
 
 -- ---- squares
@@ -13,19 +14,12 @@ use Rattle.gm_chess.specs.declared.men.Men.{Men}
 abbrev pub TAKEN : ℕ
 TAKEN = 64
 
--- a way is a number below 9: three times its step in rows, plus its step in files, with one added to each step; 4 is not a way
+-- ways are numbers, as specs/Squares.antt of gm_squares has them
 abbrev pub rook_ways : List ℕ
 rook_ways = 1 ∷ 3 ∷ 5 ∷ 7 ∷ []
 
 abbrev pub all_ways : List ℕ
 all_ways = 0 ∷ 1 ∷ 2 ∷ 3 ∷ 5 ∷ 6 ∷ 7 ∷ 8 ∷ []
-
--- whether there is a next square on this way, and which
-unfoldable pub goes_on_board : ℕ → ℕ → Bool
-goes_on_board d s = nat_lt s 64 && (nat_le 1 (s / 8 + d / 3) && (nat_le (s / 8 + d / 3) 8 && (nat_le 1 (s % 8 + d % 3) && nat_le (s % 8 + d % 3) 8)))
-
-unfoldable pub beside : ℕ → ℕ → ℕ
-beside d s = 8 * (s / 8 + d / 3 - 1) + (s % 8 + d % 3 - 1)
 
 -- the next n squares from a square on a way, up to the edge of the board
 unfoldable pub ray : ℕ → ℕ → ℕ → List ℕ
@@ -175,9 +169,6 @@ unfoldable pub child_tiers : ℕ → List ℕ
 child_tiers t = if t == 1 then 0 ∷ [] else []
 
 -- ---- texts
-abbrev pub square_text : ℕ → List ℕ
-square_text s = (97 + s % 8) ∷ (49 + s / 8) ∷ []
-
 abbrev pub piece_char : Bool → ℕ
 piece_char queen = if queen then 81 else 82
 
@@ -186,10 +177,7 @@ board_text q b =
     75 ∷ square_text b.king ++ (if b.piece == TAKEN then [] else 32 ∷ piece_char q ∷ square_text b.piece)
     ++ 32 ∷ 107 ∷ square_text b.foe ++ 32 ∷ (if b.white_moves then 119 else 98) ∷ []
 
--- the square whose text is at a place, and the board with a text, if there is one
-abbrev pub square_in : List ℕ → ℕ → ℕ
-square_in t k = 8 * (slice_index t (k + 1) - 49) + (slice_index t k - 97)
-
+-- the board with a text, if there is one
 unfoldable pub told : List ℕ → Men
 told t =
     if length t == 13 then record { white_moves = slice_index t 12 == 119; king = square_in t 1; piece = square_in t 5; foe = square_in t 9 }

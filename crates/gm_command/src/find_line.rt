@@ -28,6 +28,12 @@ const ONLY_MOVE: ArgSpec = ArgSpec {
     help: "Only positions in which exactly one move keeps the win or tie",
 };
 
+const ONLY_FASTEST: ArgSpec = ArgSpec {
+    name: "only-fastest",
+    kind: ArgKind::Flag,
+    help: "Only wins in which exactly one move wins in the fewest moves",
+};
+
 const WHOLE_LINE: ArgSpec = ArgSpec {
     name: "whole-line",
     kind: ArgKind::Flag,
@@ -111,6 +117,7 @@ pub(crate) static FIND: CommandSpec = CommandSpec {
             help: "Only positions of this tier",
         },
         ONLY_MOVE,
+        ONLY_FASTEST,
         WHOLE_LINE,
         DISTINCT,
         MIN_MOVES,

@@ -23,15 +23,19 @@ fn value_of(word: &str) -> Option<Value> {
 
 // Returns the reason why no position can have these properties, if there is one.
 fn misfit(sought: Sought) -> Option<&'static str> {
-    let counted = sought.only_move || sought.whole_line;
+    let counted = sought.only_move || sought.only_fastest || sought.whole_line;
     if sought.value == Value::Draw && sought.remoteness.is_some() {
         Some("a draw has no remoteness")
     } else if sought.whole_line && sought.value != Value::Win {
         Some("'--whole-line' goes with '--value win' alone")
     } else if sought.only_move && !matches!(sought.value, Value::Win | Value::Tie) {
         Some("'--only-move' goes with '--value win' and '--value tie' alone")
+    } else if sought.only_fastest && sought.value != Value::Win {
+        Some("'--only-fastest' goes with '--value win' alone")
     } else if sought.distinct && !counted && sought.min_moves == 0 {
-        Some("'--distinct' goes with '--only-move', '--whole-line' or '--min-moves'")
+        Some(
+            "'--distinct' goes with '--only-move', '--only-fastest', '--whole-line' or '--min-moves'",
+        )
     } else {
         None
     }
@@ -51,8 +55,8 @@ fn remoteness_of(inner: &ArgMatches<'_>) -> Result<Option<Span>, &'static str> {
 }
 
 /// Reads the properties that are searched for, or returns the reason why no position can have them. A draw has no remoteness. An
-/// only move goes only with win and tie, and a whole line only with win. Moves can be distinguished by symmetry only if they are
-/// counted.
+/// only move goes only with win and tie, a fastest move and a whole line only with win. Moves can be distinguished by symmetry only
+/// if they are counted.
 pub(crate) fn sought_of(inner: &ArgMatches<'_>) -> Result<Sought, &'static str> {
     let remoteness = remoteness_of(inner)?;
     let Some(value) = inner.get_str("value").and_then(value_of) else {
@@ -62,6 +66,7 @@ pub(crate) fn sought_of(inner: &ArgMatches<'_>) -> Result<Sought, &'static str> 
         value,
         remoteness,
         only_move: inner.get_flag("only-move"),
+        only_fastest: inner.get_flag("only-fastest"),
         whole_line: inner.get_flag("whole-line"),
         distinct: inner.get_flag("distinct"),
         min_moves: inner.get_one::<u32>("min-moves").unwrap_or(0) as usize,

@@ -1,31 +1,13 @@
 -- A shard with no pair.
-use Rattle.std.proofs.Common.{◌≡◌, ℕ, ◌+◌, ◌-◌, ◌<◌, ◌≤◌, inl, List, [], length, get_or, map, refl, ap, sym, subst, ◌∙◌, arith, Some, None, replicate, ◌*◌}
+use Rattle.std.proofs.Common.{◌≡◌, ℕ, ◌+◌, ◌-◌, ◌<◌, ◌≤◌, inl, List, [], length, get_or, map, refl, ap, sym, subst, ◌∙◌, arith, Some, None, ◌*◌}
 use Rattle.std.proofs.Common.{take, ◌++◌, ◌∷◌, set, length-set}
-use Rattle.std.specs.List.{Contains, slice_get}
-use Rattle.std.proofs.lemmas.List.{length-map, get_or-map, get_or-replicate, length-replicate, map_more, take_all, take_more_set}
-use Rattle.std.proofs.lemmas.List.Folds.{sum_by-replicate}
-use Rattle.std.proofs.lemmas.Option.{slice_get-get_or, get_or_from_slice_get}
-use Rattle.gm_game.specs.declared.limits.TheConstants.{TIER_SIZE}
-use Rattle.gm_game.specs.declared.position.Position.{Position}
-use Rattle.gm_game.specs.declared.position.End.{End}
+use Rattle.gm_deliveries.proofs.Lower.{Contains, slice_get, length-map, get_or-map, get_or-replicate, length-replicate, map_more, take_all, take_more_set}
+use Rattle.gm_deliveries.proofs.Lower.{sum_by-replicate, slice_get-get_or, get_or_from_slice_get, TIER_SIZE, Position, End, Phase, WinLose, Ties, Lose, Draw}
+use Rattle.gm_deliveries.proofs.Lower.{Tie, Win, IsUndecided, Rules, at, StandsBefore, IsPlaceBefore, AreAscending, canonical_children_of, from_end, Start}
+use Rattle.gm_deliveries.proofs.Lower.{Ended, Inner, Status, Hole, Settled, IsInRange, delivered_to, In, HasStatus, StatusIs, IsShard, IsWithinLimit, IsKept}
+use Rattle.gm_deliveries.proofs.Lower.{IsCounter, IsStart, AreStarts, first_status, first_left, first_state, has_none}
 use Rattle.gm_game.specs.declared.position.End.TheVariants.{Lose as EndLose, Tie as EndTie, Win as EndWin}
-use Rattle.gm_game.specs.declared.position.Phase.{Phase}
-use Rattle.gm_game.specs.declared.position.Phase.TheVariants.{WinLose, Ties}
-use Rattle.gm_game.specs.declared.position.Value.TheVariants.{Lose, Draw, Tie, Win}
-use Rattle.gm_game.specs.Settling.{IsUndecided}
-use Rattle.gm_game.specs.Rules.{Rules, at}
-use Rattle.gm_game.specs.Places.{StandsBefore, IsPlaceBefore}
-use Rattle.gm_game.specs.Children.{AreAscending, canonical_children_of}
-use Rattle.gm_game.specs.Records.{from_end}
-use Rattle.gm_deliveries.specs.declared.status.Start.{Start}
-use Rattle.gm_deliveries.specs.declared.status.Start.TheVariants.{Hole as NoStart, Ended, Inner}
-use Rattle.gm_deliveries.specs.declared.status.Status.{Status}
-use Rattle.gm_deliveries.specs.declared.status.Status.TheVariants.{Hole, Settled}
-use Rattle.gm_deliveries.specs.State.{IsInRange, delivered_to}
-use Rattle.gm_deliveries.specs.Status.{In, HasStatus, StatusIs}
-use Rattle.gm_deliveries.specs.Good.{IsShard, IsWithinLimit, IsKept, IsCounter}
-use Rattle.gm_deliveries.specs.Begin.{IsStart, AreStarts, first_status, first_left, first_state}
-use Rattle.gm_game.proofs.SetLemmas.{has_none}
+use Rattle.gm_deliveries.specs.declared.status.Start.TheVariants.{Hole as NoStart}
 
 near_end : (e : End) → IsWithinLimit (Settled (from_end e))
 near_end EndLose = omega arith
@@ -55,21 +37,28 @@ nothing_before : (r : Rules) (p : Position) (ph : Phase) (n : ℕ) → IsPlaceBe
 nothing_before r p WinLose n b = absurd (omega arith)
 nothing_before r p Ties n b = b
 
-none_at : (n k : ℕ) → k < n → get_or (replicate n []) k [] ≡ (let e : List Position = [] in e)
-none_at n k l = get_or-replicate n k [] [] l
+-- a shard with no pair has as many indexes as starts, and nothing is delivered to any of them
+first_count : (tier lo n : ℕ) → length (first_state tier lo n).delivered ≡ n
+first_count tier lo n = length-replicate n []
+
+first_inside : (tier lo n i : ℕ) → IsInRange (first_state tier lo n) i → i - lo < n
+first_inside tier lo n i m = let e = first_count tier lo n in let a = m.0 in let b = m.1 in omega arith
+
+pub first_empty : (tier lo n i : ℕ) → IsInRange (first_state tier lo n) i → delivered_to (first_state tier lo n) i ≡ []
+first_empty tier lo n i m = get_or-replicate n (i - lo) [] [] (first_inside tier lo n i m)
 
 pub first_good : (r : Rules) (tier lo : ℕ) (starts : List Start) → AreStarts r tier lo starts
     → IsShard r (first_state tier lo (length starts)) (map first_status starts)
 first_good r tier lo starts are = record {
-  once = λ (i : ℕ) (m : IsInRange (first_state tier lo (length starts)) i). subst AreAscending (sym (empty i m)) tt;
+  once = λ (i : ℕ) (m : IsInRange (first_state tier lo (length starts)) i). subst AreAscending (sym (first_empty tier lo (length starts) i m)) tt;
   pairs = λ (i : ℕ) (c : Position) (m : IsInRange (first_state tier lo (length starts)) i)
       (h : Contains (delivered_to (first_state tier lo (length starts)) i) c).
-      absurd (has_none c (subst (λ (d : List Position). Contains d c) (empty i m) h));
+      absurd (has_none c (subst (λ (d : List Position). Contains d c) (first_empty tier lo (length starts) i m) h));
   whole = λ (i : ℕ) (c : Position) m p (b : StandsBefore r WinLose 0 c). absurd (nothing_before r c b.own_phase b.own_level b.before);
   fits = omega arith;
-  many = length-map starts first_status ∙ sym (length-replicate (length starts) []);
+  many = length-map starts first_status ∙ sym (first_count tier lo (length starts));
   known = λ (i : ℕ) (x : Status) (m : IsInRange (first_state tier lo (length starts)) i) (got : slice_get (map first_status starts) (i - lo) ≡ Some x).
-      let l : i - lo < length starts = short i m in
+      let l : i - lo < length starts = first_inside tier lo (length starts) i m in
       let s : Start = get_or starts (i - lo) NoStart in
       let is : slice_get starts (i - lo) ≡ Some s = slice_get-get_or starts (i - lo) NoStart l in
       let at' : lo + (i - lo) ≡ i = (let q : lo ≤ i = m.0 in omega arith) in
@@ -78,42 +67,31 @@ first_good r tier lo starts are = record {
       let same : first_status s ≡ x =
       sym (get_or-map first_status starts (i - lo) NoStart Hole l) ∙ get_or_from_slice_get (map first_status starts) (i - lo) x Hole got in
       subst (λ (y : Status). StatusIs r (first_state tier lo (length starts)) i y × IsWithinLimit y) same (
-        subst (λ (d : List Position). HasStatus r (at tier i) d (first_status s)) (sym (empty i m))
+        subst (λ (d : List Position). HasStatus r (at tier i) d (first_status s)) (sym (first_empty tier lo (length starts) i m))
             (subst (λ (j : ℕ). HasStatus r (at tier j) [] (first_status s)) at' k.0),
         k.1,
       );
 }
-  where
-    short : (i : ℕ) → IsInRange (first_state tier lo (length starts)) i → i - lo < length starts
-    short i m = let e : length (replicate (length starts) (let e : List Position = [] in e)) ≡ length starts = length-replicate (length starts) [] in
-        let a = m.0 in let b = m.1 in omega arith
-
-    empty : (i : ℕ) → IsInRange (first_state tier lo (length starts)) i → delivered_to (first_state tier lo (length starts)) i ≡ []
-    empty i m = none_at (length starts) (i - lo) (short i m)
 
 -- and of the other fields
 pub first_kept : (r : Rules) (tier lo : ℕ) (starts : List Start) → AreStarts r tier lo starts → lo + length starts ≤ TIER_SIZE
     → IsKept r (first_state tier lo (length starts)) (map first_status starts) (map first_left starts) 0
 first_kept r tier lo starts are few' = record {
   shard = first_good r tier lo starts are;
-  as_many = length-map starts first_left ∙ sym (length-replicate (length starts) []);
+  as_many = length-map starts first_left ∙ sym (first_count tier lo (length starts));
   counted = λ (i n : ℕ) (m : IsInRange (first_state tier lo (length starts)) i) (got : slice_get (map first_left starts) (i - lo) ≡ Some n).
-      let l : i - lo < length starts =
-      (let e : length (replicate (length starts) (let e : List Position = [] in e)) ≡ length starts = length-replicate (length starts) [] in let a = m.0 in
-      let b = m.1 in omega arith) in
+      let l = first_inside tier lo (length starts) i m in
       let s : Start = get_or starts (i - lo) NoStart in
       let is : slice_get starts (i - lo) ≡ Some s = slice_get-get_or starts (i - lo) NoStart l in
       let at' : lo + (i - lo) ≡ i = (let q : lo ≤ i = m.0 in omega arith) in
       let k : IsStart r (at tier i) s = subst (λ (j : ℕ). IsStart r (at tier j) s) at' (are (i - lo) s is) in
       let same : first_left s ≡ n = sym (get_or-map first_left starts (i - lo) NoStart 0 l) ∙ get_or_from_slice_get (map first_left starts) (i - lo) n 0 got in
       subst (λ (y : ℕ). IsCounter r (first_state tier lo (length starts)) i y) same
-      (first_counter r tier lo (length starts) i s (none_at (length starts) (i - lo) l) k);
+      (first_counter r tier lo (length starts) i s (first_empty tier lo (length starts) i m) k);
   number = sym (sum_by-replicate (length {A = Position}) (length starts) [] ∙ (let z : length starts * 0 ≡ 0 = omega arith in z));
   short = λ (i : ℕ) (m : IsInRange (first_state tier lo (length starts)) i).
-      let e : length (replicate (length starts) (let e : List Position = [] in e)) ≡ length starts = length-replicate (length starts) [] in
-      let l : i - lo < length starts = (let a = m.0 in let b = m.1 in omega arith) in
-      let z = ap (λ (xs : List Position). length xs) (none_at (length starts) (i - lo) l) in omega arith;
-  few = (let e : length (replicate (length starts) (let e : List Position = [] in e)) ≡ length starts = length-replicate (length starts) [] in omega arith);
+      (let none = ap (λ (xs : List Position). length xs) (first_empty tier lo (length starts) i m) in omega arith);
+  few = (let e = first_count tier lo (length starts) in omega arith);
 }
   where
     first_counter : (r : Rules) (tier lo n i : ℕ) (s : Start) → delivered_to (first_state tier lo n) i ≡ [] → IsStart r (at tier i) s

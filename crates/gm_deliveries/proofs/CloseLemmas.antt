@@ -1,70 +1,17 @@
 -- A level is whole exactly where as many pairs are delivered as there are.
-use Rattle.std.proofs.Common.{◌≡◌, ◌≢◌, ℕ, zero, suc, ◌+◌, ◌-◌, ◌*◌, ◌<◌, ◌≤◌, ◌⊎◌, inl, inr, true, List, [], ◌∷◌, ◌++◌, length, get_or, map, refl, ap, sym}
-use Rattle.std.proofs.Common.{subst, arith, Some, Option, Result, Ok, Err, sum_by, AllPairs}
-use Rattle.std.specs.Result.{IsOk}
-use Rattle.std.specs.List.{Contains}
-use Rattle.std.proofs.lemmas.List.{length-map, length-append}
-use Rattle.std.proofs.lemmas.List.Sums.{sum_by-cons}
-use Rattle.gm_game.specs.declared.limits.TheConstants.{REMOTENESS, MOVES, TIER_SIZE}
-use Rattle.gm_game.specs.declared.position.Position.{Position}
-use Rattle.gm_game.specs.declared.position.Phase.{Phase}
-use Rattle.gm_game.specs.declared.position.Phase.TheVariants.{WinLose, Ties}
-use Rattle.gm_game.specs.declared.position.Place.{Place}
-use Rattle.gm_game.specs.Rules.{Rules, at, IsParent}
-use Rattle.gm_game.specs.Laws.{IsGame}
-use Rattle.gm_game.specs.Places.{StandsAt, StandsBefore, IsPlaceBefore, IsNear, IsLastLevel}
-use Rattle.gm_game.specs.Children.{is_before, AreAscending}
-use Rattle.gm_game.proofs.Lists.{contains_none, contains_first, contains_later, contains_cases, map_from, map_in}
-use Rattle.gm_game.proofs.Counts.{HasNoRepeats, all_there, no_longer}
-use Rattle.gm_game.proofs.SetLemmas.{before_itself, all_there as fact_there}
-use Rattle.gm_game.proofs.Symmetry.{near_child}
-use Rattle.gm_frontier.specs.Counts.{ExpectedData, IsExpected, IsPairInto, IsNumberBefore, Follows}
-use Rattle.gm_frontier.proofs.Distinct.{no_repeats_to}
-use Rattle.gm_frontier.proofs.ForGame.{stands_now}
-use Rattle.gm_deliveries.specs.declared.status.Short.{Short}
-use Rattle.gm_deliveries.specs.declared.status.Status.{Status}
-use Rattle.gm_deliveries.specs.State.{ShardState, IsInRange, delivered_to, pairs_in}
-use Rattle.gm_deliveries.specs.Good.{IsGood, IsKept}
-use Rattle.gm_deliveries.specs.Steps.{IsFor, IsWhole, place_of, next_level, first_ties, CanTurn}
-use Rattle.gm_deliveries.specs.Closing.{Closes}
+use Rattle.std.proofs.Common.{◌≡◌, ℕ, zero, suc, ◌+◌, ◌-◌, ◌*◌, ◌<◌, ◌≤◌, inl, inr, true, List, [], ◌∷◌, ◌++◌, length, get_or, map, refl, ap, sym}
+use Rattle.std.proofs.Common.{subst, arith, Some, Option, Result, Ok, Err, sum_by}
+use Rattle.gm_deliveries.proofs.Lower.{IsOk, Contains, length-map, length-append, sum_by-cons, REMOTENESS, MOVES, TIER_SIZE, Position, Phase, WinLose, Ties}
+use Rattle.gm_deliveries.proofs.Lower.{Place, Rules, IsParent, IsGame, StandsAt, StandsBefore, IsNear, IsLastLevel, is_before, AreAscending, contains_none}
+use Rattle.gm_deliveries.proofs.Lower.{map_from, map_in, HasNoRepeats, all_there, before_itself, ExpectedData, IsExpected, IsPairInto, IsNumberBefore, Follows}
+use Rattle.gm_deliveries.proofs.Lower.{no_repeats_from, no_repeats_to, no_repeats_append, no_repeats_map, Contains-append_left, Contains-append_right}
+use Rattle.gm_deliveries.proofs.Lower.{Contains-append_cases, near_of_pair, stands_now, before_later, before_ties, ties_after, Short, Status, ShardState}
+use Rattle.gm_deliveries.proofs.Lower.{IsInRange, delivered_to, pairs_in, IsGood, IsKept, IsFor, IsWhole, place_of, next_level, first_ties, CanTurn, Closes}
+use Rattle.gm_game.proofs.Counts.{no_longer}
+use Rattle.gm_game.proofs.SetLemmas.{all_there as fact_there}
 use Rattle.gm_deliveries.proofs.MaskList.{sum_small}
 
--- lists joined
-pub append_cases : {X : Type 0} (xs ys : List X) (x : X) → Contains (xs ++ ys) x → Contains xs x ⊎ Contains ys x
-append_cases [] ys x h = inr h
-append_cases (z ∷ zs) ys x h =
-    elim (contains_cases z x (zs ++ ys) h) [
-      | inl e ↦ inl (subst (λ u. Contains (z ∷ zs) u) e (contains_first z zs))
-      | inr t ↦ elim (append_cases zs ys x t) [ inl a ↦ inl (contains_later z x zs a) | inr b ↦ inr b ]
-    ]
-
-pub append_left : {X : Type 0} (xs ys : List X) (x : X) → Contains xs x → Contains (xs ++ ys) x
-append_left [] ys x h = absurd (contains_none x h)
-append_left (z ∷ zs) ys x h =
-    elim (contains_cases z x zs h) [
-      | inl e ↦ subst (λ u. Contains (z ∷ (zs ++ ys)) u) e (contains_first z (zs ++ ys))
-      | inr t ↦ contains_later z x (zs ++ ys) (append_left zs ys x t)
-    ]
-
-pub append_right : {X : Type 0} (xs ys : List X) (x : X) → Contains ys x → Contains (xs ++ ys) x
-append_right [] ys x h = h
-append_right (z ∷ zs) ys x h = contains_later z x (zs ++ ys) (append_right zs ys x h)
-
-pub no_repeats_append : {X : Type 0} (xs ys : List X) → HasNoRepeats xs → HasNoRepeats ys → ((x : X) → Contains xs x → Contains ys x → ⊥)
-    → HasNoRepeats (xs ++ ys)
-no_repeats_append [] ys n m f = m
-no_repeats_append (x ∷ xs) ys n m f = (
-  λ h. elim (append_cases xs ys x h) [ inl a ↦ n.0 a | inr b ↦ f x (contains_first x xs) b ],
-  no_repeats_append xs ys n.1 m (λ y a b. f y (contains_later x y xs a) b),
-)
-
-pub no_repeats_from : {X : Type 0} (xs : List X) → AllPairs (λ x y. x ≢ y) xs → HasNoRepeats xs
-no_repeats_from [] all = tt
-no_repeats_from (x ∷ xs) all = (
-  λ h. all 0 (suc h.0) x (omega arith) (let l = h.1 in omega arith) (sym h.2),
-  no_repeats_from xs (λ i j d a b. all (suc i) (suc j) d (omega arith) (omega arith)),
-)
-
+-- ascending positions are different
 no_repeats_ascending : (d : List Position) → AreAscending d → HasNoRepeats d
 no_repeats_ascending [] up = tt
 no_repeats_ascending (q ∷ qs) up = (λ h. before_itself q (fact_there (λ x. is_before q x ≡ true) qs q up.0 h), no_repeats_ascending qs up.1)
@@ -90,18 +37,18 @@ pair_there : (i : ℕ) (ds : List (List Position)) (j : ℕ) (c : Position) → 
 pair_there i [] j c l h = absurd (omega arith)
 pair_there i (d ∷ ds) zero c l h =
     let e : i ≡ i + 0 = omega arith in
-    append_left (map (with_index i) d) (pairs_from (suc i) ds) (c, i + 0)
+    Contains-append_left (map (with_index i) d) (pairs_from (suc i) ds) (c, i + 0)
     (subst (λ (k : ℕ). Contains (map (with_index i) d) (c, k)) e (map_from (with_index i) d c h))
 pair_there i (d ∷ ds) (suc j) c l h =
     let e : suc i + j ≡ i + suc j = omega arith in
-    append_right (map (with_index i) d) (pairs_from (suc i) ds) (c, i + suc j)
+    Contains-append_right (map (with_index i) d) (pairs_from (suc i) ds) (c, i + suc j)
     (subst (λ (k : ℕ). Contains (pairs_from (suc i) ds) (c, k)) e (pair_there (suc i) ds j c (omega arith) h))
 
 pair_from : (i : ℕ) (ds : List (List Position)) (p : Position × ℕ) → Contains (pairs_from i ds) p → (j : ℕ) × (p.1 ≡ i + j) × (j < length ds)
     × Contains (get_or ds j []) p.0
 pair_from i [] p h = absurd (contains_none p h)
 pair_from i (d ∷ ds) p h =
-    elim (append_cases (map (with_index i) d) (pairs_from (suc i) ds) p h) [
+    elim (Contains-append_cases (map (with_index i) d) (pairs_from (suc i) ds) p h) [
       | inl a ↦ (let (c, l, e) = map_in (with_index i) d p a in
           let e1 : i ≡ p.1 = ap (λ (q : Position × ℕ). q.1) e in
           (0, omega arith, omega arith, subst (λ (x : Position). Contains d x) (ap (λ (q : Position × ℕ). q.0) e) l))
@@ -111,48 +58,11 @@ pair_from i (d ∷ ds) p h =
 no_repeats_pairs : (i : ℕ) (ds : List (List Position)) → ((j : ℕ) → j < length ds → AreAscending (get_or ds j [])) → HasNoRepeats (pairs_from i ds)
 no_repeats_pairs i [] up = tt
 no_repeats_pairs i (d ∷ ds) up =
-    no_repeats_append (map (with_index i) d) (pairs_from (suc i) ds) (no_repeats_map i d (no_repeats_ascending d (up 0 (omega arith))))
+    no_repeats_append (map (with_index i) d) (pairs_from (suc i) ds)
+    (no_repeats_map (with_index i) d (λ x y a b e. ap (λ (q : Position × ℕ). q.0) e) (no_repeats_ascending d (up 0 (omega arith))))
     (no_repeats_pairs (suc i) ds (λ j l. up (suc j) (omega arith)))
     (λ x a b. (let (c, l, e) = map_in (with_index i) d x a in let e1 : i ≡ x.1 = ap (λ (q : Position × ℕ). q.1) e in
     let (j, f, m, k) = pair_from (suc i) ds x b in absurd (omega arith)))
-  where
-    no_repeats_map : (i : ℕ) (d : List Position) → HasNoRepeats d → HasNoRepeats (map (with_index i) d)
-    no_repeats_map i [] n = tt
-    no_repeats_map i (c ∷ cs) n = (
-      λ h. (let (x, l, e) = map_in (with_index i) cs (c, i) h in n.0 (subst (λ (y : Position). Contains cs y) (ap (λ (q : Position × ℕ). q.0) e) l)),
-      no_repeats_map i cs n.1,
-    )
-
--- later places
-later_place : (q ph : Phase) (k m n : ℕ) → m ≤ n → IsPlaceBefore q k ph m → IsPlaceBefore q k ph n
-later_place WinLose WinLose k m n l b = omega arith
-later_place WinLose Ties k m n l b = tt
-later_place Ties WinLose k m n l b = b
-later_place Ties Ties k m n l b = omega arith
-
-pub before_later : (r : Rules) (ph : Phase) (m n : ℕ) (c : Position) → m ≤ n → StandsBefore r ph m c → StandsBefore r ph n c
-before_later r ph m n c l s = record {
-  own_phase = s.own_phase;
-  own_level = s.own_level;
-  stands = s.stands;
-  before = later_place s.own_phase ph s.own_level m n l s.before;
-}
-
--- before the first level of ties stand exactly the wins and losses
-pub before_ties : (r : Rules) (tier n : ℕ) (c : Position) → IsLastLevel r tier WinLose n → IsNear r tier c → StandsBefore r Ties 0 c
-    → StandsBefore r WinLose n c
-before_ties r tier n c last near s = go s.own_phase s.own_level s.stands s.before
-  where
-    go : (q : Phase) (m : ℕ) → StandsAt r q m c → IsPlaceBefore q m Ties 0 → StandsBefore r WinLose n c
-    go WinLose m h b = record { own_phase = WinLose; own_level = m; stands = h; before = last c m near h }
-    go Ties m h b = absurd (omega arith)
-
-pub ties_after : (r : Rules) (m n : ℕ) (c : Position) → StandsBefore r WinLose m c → StandsBefore r Ties n c
-ties_after r m n c s = go s.own_phase s.own_level s.stands s.before
-  where
-    go : (q : Phase) (k : ℕ) → StandsAt r q k c → IsPlaceBefore q k WinLose m → StandsBefore r Ties n c
-    go WinLose k h b = record { own_phase = WinLose; own_level = k; stands = h; before = tt }
-    go Ties k h b = absurd b
 
 -- before the next level that follows stands what is at the present one or before
 to_here : (r : Rules) (tier : ℕ) (here : Place) (ph : Phase) (n : ℕ) (c : Position) → Follows r tier (Some here) ph n → IsNear r tier c → StandsBefore r ph n c
@@ -169,9 +79,6 @@ from_here r tier here ph n c (inl (p, l)) s =
     subst (λ (q : Phase). StandsBefore r q n c) p (subst (λ (k : ℕ). StandsBefore r here.phase k c) (sym l) s)
 from_here r tier here ph n c (inr (p, l, w, last)) s =
     subst (λ (q : Phase). StandsBefore r q n c) (sym p) (ties_after r (here.level + 1) n c (subst (λ (q : Phase). StandsBefore r q (here.level + 1) c) w s))
-
-pub near_of_pair : (r : Rules) → IsGame r → (tier i : ℕ) (c : Position) → IsParent r c tier i → IsNear r tier c
-near_of_pair r g tier i c p = near_child r g tier (at tier i) c refl p.0.legal p.1
 
 -- a good shard, and a count for it that has the present level
 module _ {r : Rules} (g : IsGame r) {s : ShardState} (t : IsGood r s) {e : ExpectedData} (x : IsExpected r e) (f : IsFor e s) where

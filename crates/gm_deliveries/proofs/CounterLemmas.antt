@@ -1,12 +1,6 @@
 -- The counter and the status of an index of a shard.
 use Rattle.std.proofs.Common.{◌≡◌, ℕ, ◌-◌, ◌<◌, List, Some, length, get_or, refl, subst, arith}
-use Rattle.std.specs.List.{slice_get}
-use Rattle.std.proofs.lemmas.Option.{slice_get_read}
-use Rattle.gm_game.specs.Rules.{Rules}
-use Rattle.gm_deliveries.specs.declared.status.Status.{Status}
-use Rattle.gm_deliveries.specs.State.{ShardState, IsInRange}
-use Rattle.gm_deliveries.specs.Status.{StatusIs}
-use Rattle.gm_deliveries.specs.Good.{IsKept, IsCounter}
+use Rattle.gm_deliveries.proofs.Lower.{slice_get, slice_get_read, Rules, Status, ShardState, IsInRange, StatusIs, IsKept, IsCounter}
 
 -- the stored counter is the counter
 pub counter_read : (r : Rules) (s t : ShardState) (statuses : List Status) (left : List ℕ) (count index n : ℕ) → IsKept r s statuses left count → s ≡ t

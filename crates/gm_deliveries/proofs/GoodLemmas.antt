@@ -1,20 +1,8 @@
 -- A good shard, from what its fields keep.
 use Rattle.std.proofs.Common.{◌≡◌, ℕ, ◌+◌, ◌-◌, ◌<◌, ◌≤◌, inl, inr, List, length, get_or, sym, subst, ◌∙◌, arith, None, Some}
-use Rattle.std.proofs.lemmas.Option.{slice_get-get_or}
-use Rattle.gm_game.specs.declared.limits.TheConstants.{REMOTENESS}
-use Rattle.gm_game.specs.declared.position.Solved.{Solved}
-use Rattle.gm_game.specs.Rules.{Rules, at, IsCanonical}
-use Rattle.gm_game.specs.Laws.{IsGame}
-use Rattle.gm_game.specs.Values.{IsTrueValue}
-use Rattle.gm_game.specs.Places.{StandsBefore}
-use Rattle.gm_game.proofs.Basic.{HasValue_once}
-use Rattle.gm_game.proofs.Settled.{end_value}
-use Rattle.gm_game.proofs.Reached.{reached_true, reached_settled}
-use Rattle.gm_deliveries.specs.declared.status.Status.{Status}
-use Rattle.gm_deliveries.specs.declared.status.Status.TheVariants.{Hole, Undecided, Settled}
-use Rattle.gm_deliveries.specs.State.{ShardState, IsInRange, delivered_to}
-use Rattle.gm_deliveries.specs.Status.{In, StatusIs}
-use Rattle.gm_deliveries.specs.Good.{IsShard, IsWithinLimit, IsGood}
+use Rattle.gm_deliveries.proofs.Lower.{slice_get-get_or, REMOTENESS, Solved, Rules, at, IsCanonical, IsGame, IsTrueValue, StandsBefore, HasValue_once}
+use Rattle.gm_deliveries.proofs.Lower.{end_value, reached_true, reached_settled, Status, Hole, Undecided, Settled, ShardState, IsInRange, delivered_to, In}
+use Rattle.gm_deliveries.proofs.Lower.{StatusIs, IsShard, IsWithinLimit, IsGood}
 use Rattle.gm_deliveries.proofs.StatusLemmas.{reached_at}
 
 module _ {r : Rules} (g : IsGame r) {s : ShardState} {statuses : List Status} (t : IsShard r s statuses) where

@@ -1,8 +1,8 @@
+pub mod AddedLemmas
 pub mod MaskList
 pub mod MaskedLemmas
 pub mod StatusLemmas
 pub mod StepLemmas
-pub mod SeenLemmas
 pub mod BeginLemmas
 pub mod GoodLemmas
 pub mod CloseLemmas
@@ -11,3 +11,4 @@ pub mod CounterLemmas
 pub mod NumberLemmas
 mod LogWalks
 pub mod OrderedLemmas
+pub mod Lower

@@ -1,14 +1,6 @@
 -- The children that a list of masks stands for.
 use Rattle.std.proofs.Common.{◌≡◌, ℕ, zero, suc, ◌+◌, ◌*◌, ◌<◌, ◌≤◌, List, [], ◌∷◌, length, get_or, refl, ap, ◌∙◌, arith, replicate, sum_by}
-use Rattle.std.proofs.Math.ListN.{set}
-use Rattle.std.proofs.lemmas.List.Sums.{sum_by-cons}
-use Rattle.std.proofs.Math.Nat.{mul-suc}
-use Rattle.gm_game.specs.declared.position.Position.{Position}
-use Rattle.gm_game.specs.Rules.{Rules, at}
-use Rattle.gm_game.specs.Children.{canonical_children_of}
-use Rattle.gm_game.specs.Masks.{picked}
-use Rattle.gm_game.proofs.MaskLemmas.{picked_none}
-use Rattle.gm_deliveries.specs.State.{children_of_masks}
+use Rattle.gm_deliveries.proofs.Lower.{set, sum_by-cons, mul-suc, Position, Rules, at, canonical_children_of, picked, picked_none, children_of_masks}
 
 pub zero_plus : (k : ℕ) → 0 + k ≡ k
 zero_plus k = omega arith

@@ -1,21 +1,8 @@
 -- The note of a settled index.
 use Rattle.std.proofs.Common.{◌≡◌, ◌≢◌, ℕ, inl, inr, List, refl, ap, sym, subst, ◌∙◌, None, Some}
-use Rattle.gm_game.specs.declared.position.Position.{Position}
-use Rattle.gm_game.specs.declared.position.Solved.{Solved}
-use Rattle.gm_game.specs.declared.position.Value.{Value}
-use Rattle.gm_game.specs.declared.position.Value.TheVariants.{Draw}
-use Rattle.gm_game.specs.declared.position.End.{End}
+use Rattle.gm_deliveries.proofs.Lower.{Position, Solved, Value, Draw, End, Rules, at, IsCanonical, from_end, IsGame, IsSettled, IsNote, Status, Hole, Undecided}
+use Rattle.gm_deliveries.proofs.Lower.{Settled, ShardState, IsInRange, delivered_to, In, StatusIs, HasStatus, IsShard}
 use Rattle.gm_game.specs.declared.position.End.TheVariants.{Lose as EndLose, Tie as EndTie, Win as EndWin}
-use Rattle.gm_game.specs.Rules.{Rules, at, IsCanonical}
-use Rattle.gm_game.specs.Records.{from_end}
-use Rattle.gm_game.specs.Laws.{IsGame}
-use Rattle.gm_game.specs.Settling.{IsSettled}
-use Rattle.gm_frontier.specs.Notes.{IsNote}
-use Rattle.gm_deliveries.specs.declared.status.Status.{Status}
-use Rattle.gm_deliveries.specs.declared.status.Status.TheVariants.{Hole, Undecided, Settled}
-use Rattle.gm_deliveries.specs.State.{ShardState, IsInRange, delivered_to}
-use Rattle.gm_deliveries.specs.Status.{In, StatusIs, HasStatus}
-use Rattle.gm_deliveries.specs.Good.{IsShard}
 use Rattle.gm_deliveries.proofs.GoodLemmas.{settled_truth}
 
 end_decided : (e : End) → (from_end e).value ≢ Draw

@@ -1,11 +1,6 @@
 -- Statuses as numbers.
 use Rattle.std.proofs.Common.{◌≡◌, ℕ, zero, suc, ◌<◌, List, ◌∷◌, Some, length, map, replicate, get_or, refl, ap, sym, subst, ◌∙◌, arith}
-use Rattle.std.specs.List.{slice_get}
-use Rattle.std.proofs.lemmas.List.{length-map, get_or-map, get_or_read}
-use Rattle.std.proofs.lemmas.Option.{slice_get-get_or}
-use Rattle.gm_deliveries.specs.declared.status.Status.{Status}
-use Rattle.gm_deliveries.specs.declared.status.Status.TheVariants.{Hole, Undecided}
-use Rattle.gm_deliveries.specs.Statuses.{status_of}
+use Rattle.gm_deliveries.proofs.Lower.{slice_get, length-map, get_or-map, get_or_read, slice_get-get_or, Status, Hole, Undecided, status_of}
 
 -- so many numbers of an undecided index are so many undecided statuses
 pub all_undecided : (n : ℕ) → map status_of (replicate n 1) ≡ replicate n Undecided

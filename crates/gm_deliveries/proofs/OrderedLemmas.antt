@@ -1,33 +1,14 @@
 -- A range to which no pair is delivered twice.
-use Rattle.std.proofs.Common.{◌≡◌, ◌≢◌, ℕ, ◌+◌, ◌-◌, ◌^◌, ◌<◌, ◌≤◌, true, false, List, [], ◌∷◌, ◌++◌, length, get_or, map, refl, ap, sym, subst, ◌∙◌}
-use Rattle.std.proofs.Common.{arith, Some, get_or-set_same, get_or-set_other, length-set, true≢false, ◌==◌, replicate}
-use Rattle.std.specs.List.{Contains, slice_get}
-use Rattle.std.proofs.Math.ListN.{set}
-use Rattle.std.proofs.lemmas.List.{length-map}
-use Rattle.std.proofs.lemmas.List.Sums.{sum_by-set}
-use Rattle.std.proofs.lemmas.Option.{slice_get-get_or, get_or_from_slice_get, slice_get_read}
-use Rattle.std.proofs.lemmas.Bool.Decides.{Decides-eqb}
-use Rattle.gm_game.specs.declared.limits.TheConstants.{MOVES, TIER_SIZE}
-use Rattle.gm_game.specs.declared.position.Position.{Position}
-use Rattle.gm_game.specs.declared.position.Phase.{Phase}
-use Rattle.gm_game.specs.declared.position.Phase.TheVariants.{WinLose}
-use Rattle.gm_game.specs.Rules.{Rules, at}
-use Rattle.gm_game.specs.Laws.{IsGame}
-use Rattle.gm_game.specs.Children.{with_position, canonical_children_of}
-use Rattle.gm_game.proofs.ChildrenLemmas.{canonical_children_few}
-use Rattle.gm_frontier.specs.Notes.{NoteData, IsNote}
-use Rattle.gm_deliveries.specs.declared.status.Start.{Start}
-use Rattle.gm_deliveries.specs.declared.status.Status.{Status}
-use Rattle.gm_deliveries.specs.State.{ShardState, IsInRange, delivered_to, with_pair}
-use Rattle.gm_deliveries.specs.Ordered.{with_one, with_all, state_by}
-use Rattle.gm_deliveries.specs.Status.{StatusIs}
-use Rattle.gm_deliveries.specs.Good.{IsShard, IsWithinLimit, IsKept, IsCounter}
-use Rattle.gm_deliveries.specs.Steps.{CanDeliver}
-use Rattle.gm_deliveries.specs.Delivery.{IsPairHere}
-use Rattle.gm_deliveries.specs.Begin.{AreStarts, first_status, first_left, first_state}
+use Rattle.std.proofs.Common.{◌≡◌, ℕ, ◌+◌, ◌-◌, ◌^◌, ◌<◌, ◌≤◌, List, [], ◌∷◌, ◌++◌, length, get_or, map, refl, ap, sym, subst, ◌∙◌}
+use Rattle.std.proofs.Common.{arith, Some, length-set, ◌==◌, replicate}
+use Rattle.gm_deliveries.proofs.Lower.{Contains, slice_get, set, length-map, slice_get_read, MOVES, TIER_SIZE, Position, Phase, WinLose, Rules, at, IsGame}
+use Rattle.gm_deliveries.proofs.Lower.{with_position, canonical_children_of, canonical_children_few, NoteData, IsNote, Start, Status, ShardState, IsInRange}
+use Rattle.gm_deliveries.proofs.Lower.{delivered_to, with_pair, with_one, with_all, state_by, StatusIs, IsShard, IsWithinLimit, IsKept, IsCounter, CanDeliver}
+use Rattle.gm_deliveries.proofs.Lower.{IsPairHere, AreStarts, first_status, first_left, first_state}
+use Rattle.gm_deliveries.proofs.AddedLemmas.{set_cases, range_is, same_here, cases_at, pairs_more}
 use Rattle.gm_deliveries.proofs.BeginLemmas.{first_kept}
 use Rattle.gm_deliveries.proofs.CloseLemmas.{few_there}
-use Rattle.gm_deliveries.proofs.StepLemmas.{NewPair, Step, within_after, same_test, fewer, long, same_here, cases_at, range_is, shard_after}
+use Rattle.gm_deliveries.proofs.StepLemmas.{NewPair, Step, within_after, same_test, fewer, long, shard_after}
 
 all_more : (lo : ℕ) (ds : List (List Position)) (xs : List (Position × ℕ)) (p : Position × ℕ)
     → with_all lo ds (xs ++ p ∷ []) ≡ with_one lo (with_all lo ds xs) p
@@ -121,49 +102,26 @@ module _ {r : Rules} {s : ShardState} {statuses : List Status} {left : List ℕ}
     shard = shard_after kept.shard fresh_pair next after near;
     as_many = length-set left (parent - s.lo) (l - 1) ∙ kept.as_many ∙ sym (length-set s.delivered (parent - s.lo) (with_position c (delivered_to s parent)));
     counted = λ (i n : ℕ) (m : IsInRange (with_pair s c parent) i) (got : slice_get (set left (parent - s.lo) (l - 1)) (i - s.lo) ≡ Some n). counted i n
-        (range_is kept.shard fresh_pair i m) got;
-    number = (let t = sum_by-set (length {A = Position}) s.delivered (parent - s.lo) (with_position c (delivered_to s parent)) [] high in
-        let g = long kept.shard fresh_pair in let n = kept.number in omega arith);
+        (range_is s c parent can.is_mine i m) got;
+    number = (let more = pairs_more s c parent can.is_mine can.new in let n = kept.number in omega arith);
     short = λ (i : ℕ) (m : IsInRange (with_pair s c parent) i).
-        cases_at kept.shard fresh_pair (λ d. length d ≤ MOVES) i (range_is kept.shard fresh_pair i m) (λ _. small)
-        (λ _. kept.short i (range_is kept.shard fresh_pair i m));
+        cases_at s c parent can.is_mine (λ d. length d ≤ MOVES) i (range_is s c parent can.is_mine i m) (λ _. small)
+        (λ _. kept.short i (range_is s c parent can.is_mine i m));
     few = (let e = length-set s.delivered (parent - s.lo) (with_position c (delivered_to s parent)) in let f = kept.few in omega arith);
   }
     where
       counted : (i n : ℕ) → IsInRange s i → slice_get (set left (parent - s.lo) (l - 1)) (i - s.lo) ≡ Some n → IsCounter r (with_pair s c parent) i n
-      counted i n m got =
-          elim (i == parent) as (λ b. (i == parent) ≡ b → IsCounter r (with_pair s c parent) i n) [
-            | true ↦ λ e. let same : i ≡ parent = (Decides-eqb i parent).0 e in
-                let w : parent - s.lo < length left = place_left in
-                let read : get_or (set left (parent - s.lo) (l - 1)) (i - s.lo) 0 ≡ n =
-                get_or_from_slice_get (set left (parent - s.lo) (l - 1)) (i - s.lo) n 0 got in
-                let put : get_or (set left (parent - s.lo) (l - 1)) (parent - s.lo) 0 ≡ l - 1 = get_or-set_same left (parent - s.lo) (l - 1) 0 w in
-                let n_is : l - 1 ≡ n = sym put ∙ ap (λ (j : ℕ). get_or (set left (parent - s.lo) (l - 1)) (j - s.lo) 0) (sym same) ∙ read in
-                let one : 1 ≤ l = can_fall l is in
-                let sum = counter_here l is in
-                let g = long kept.shard fresh_pair in
-                let here' = same_here kept.shard fresh_pair in
-                let total : n + length (delivered_to (with_pair s c parent) parent) ≡ length (canonical_children_of r (at s.tier parent)) =
-                (let hl = ap (λ (xs : List Position). length xs) here' in omega arith) in
-                subst (λ (j : ℕ). IsCounter r (with_pair s c parent) j n) (sym same)
-                (record { inner = λ _. total; other = λ none. absurd (none can.is_parent.0) })
-            | false ↦ λ e. let ne : i ≢ parent = λ h. true≢false (sym ((Decides-eqb i parent).1 h) ∙ e) in
-                let low' = can.is_mine.0 in
-                let ml = m.0 in
-                let far : (i - s.lo) ≢ (parent - s.lo) = λ h. ne (omega arith) in
-                let w : i - s.lo < length left = (let q = kept.as_many in let a = m.1 in omega arith) in
-                let read : get_or (set left (parent - s.lo) (l - 1)) (i - s.lo) 0 ≡ n =
-                get_or_from_slice_get (set left (parent - s.lo) (l - 1)) (i - s.lo) n 0 got in
-                let other' : get_or (set left (parent - s.lo) (l - 1)) (i - s.lo) 0 ≡ get_or left (i - s.lo) 0 =
-                get_or-set_other left (parent - s.lo) (i - s.lo) (l - 1) 0 far in
-                let was' : slice_get left (i - s.lo) ≡ Some n = slice_get-get_or left (i - s.lo) 0 w ∙ ap (λ (y : ℕ). Some y) (sym other' ∙ read) in
-                let kept' = kept.counted i n m was' in
-                record {
-                  inner = λ x. cases_at kept.shard fresh_pair (λ d. n + length d ≡ length (canonical_children_of r (at s.tier i))) i m
-                      (λ same. absurd (ne same)) (λ _. kept'.inner x);
-                  other = kept'.other;
-                }
-          ] refl
+      counted i n m got = set_cases (IsCounter r (with_pair s c parent) i) left (parent - s.lo) (l - 1) (i - s.lo) n got
+          (λ e. (let a = can.is_mine.0 in let b = m.0 in let same : parent ≡ i = omega arith in
+          let one = can_fall l is in let sum = counter_here l is in let grown = long kept.shard fresh_pair in
+          let here = ap (λ (xs : List Position). length xs) (same_here s c parent can.is_mine) in
+          subst (λ (j : ℕ). IsCounter r (with_pair s c parent) j (l - 1)) same
+          (record { inner = λ _. omega arith; other = λ none. absurd (none can.is_parent.0) })))
+          (λ ne was. (let old = kept.counted i n m was in record {
+            inner = λ x. cases_at s c parent can.is_mine (λ d. n + length d ≡ length (canonical_children_of r (at s.tier i))) i m
+                (λ e. absurd (ne (ap (λ (j : ℕ). j - s.lo) e))) (λ _. old.inner x);
+            other = old.other;
+          }))
 
 -- what the fields keep after the pair is added, where the state is what the fields show
 pub kept_seen : {r : Rules} {statuses : List Status} {left : List ℕ} {count : ℕ} → IsGame r

@@ -1,24 +1,9 @@
 -- How a status changes where one more child is delivered.
 use Rattle.std.proofs.Common.{◌≡◌, ◌≢◌, ℕ, ◌+◌, inl, inr, ⊎_elim, Bool, true, false, List, ◌∙◌, sym, subst, refl, None, Some}
-use Rattle.std.specs.List.{Contains}
-use Rattle.gm_game.specs.declared.position.Position.{Position}
-use Rattle.gm_game.specs.declared.position.Value.{Value}
-use Rattle.gm_game.specs.declared.position.Value.TheVariants.{Lose, Draw, Tie, Win}
-use Rattle.gm_game.specs.declared.position.Phase.{Phase}
-use Rattle.gm_game.specs.Rules.{Rules, at, IsInner, IsCanonicalChild}
-use Rattle.gm_game.specs.Values.{HasValue}
-use Rattle.gm_game.specs.Places.{StandsAt}
-use Rattle.gm_game.specs.Children.{with_position}
-use Rattle.gm_game.specs.Records.{solved}
-use Rattle.gm_game.specs.Settling.{AreAll, IsSettled, IsUndecided, AreReached, And}
-use Rattle.gm_game.proofs.SetLemmas.{has_new, has_old, with_cases}
-use Rattle.gm_game.proofs.Delivered.{settled_stays, settles_win, settles_tie, settles_loss, settles_nothing}
-use Rattle.gm_deliveries.specs.declared.status.Status.{Status}
-use Rattle.gm_deliveries.specs.declared.status.Status.TheVariants.{Hole, Undecided, Settled}
-use Rattle.gm_deliveries.specs.State.{ShardState, IsInRange, delivered_to}
-use Rattle.gm_deliveries.specs.Status.{In, HasStatus}
-use Rattle.gm_deliveries.specs.Good.{IsShard}
-use Rattle.gm_deliveries.specs.Delivery.{next_status}
+use Rattle.gm_deliveries.proofs.Lower.{Contains, Position, Value, Lose, Draw, Tie, Win, Phase, Rules, at, IsInner, IsCanonicalChild, IsParent, HasValue}
+use Rattle.gm_deliveries.proofs.Lower.{StandsAt, StandsBefore, with_position, solved, AreAll, IsSettled, IsUndecided, AreReached, And, has_new, has_old}
+use Rattle.gm_deliveries.proofs.Lower.{with_cases, settled_stays, settles_win, settles_tie, settles_loss, settles_nothing, Status, Hole, Undecided, Settled}
+use Rattle.gm_deliveries.proofs.Lower.{ShardState, IsInRange, delivered_to, In, HasStatus, IsShard, next_status}
 
 -- the same positions settle the same
 pub settled_same : (r : Rules) (p : Position) (I J : Position → Type 0) → ((y : Position) → I y → J y) → ((y : Position) → J y → I y) → (v : Value) (n : ℕ)
@@ -81,10 +66,16 @@ after_any r p c d v phase n last (Settled y) h inner k s w some all more (inr x)
     )
 
 -- the children delivered to an inner position of a shard, at its place
+pub reached_by : (r : Rules) (s : ShardState) (i : ℕ) → IsInner r (at s.tier i)
+    → ((c : Position) → Contains (delivered_to s i) c → IsParent r c s.tier i × StandsBefore r s.phase (s.level + 1) c)
+    → ((c : Position) → IsParent r c s.tier i → StandsBefore r s.phase s.level c → Contains (delivered_to s i) c)
+    → AreReached r (at s.tier i) s.phase s.level (In (delivered_to s i))
+reached_by r s i inner pairs whole = record {
+  children = λ c h. (pairs c h).0.1;
+  up_to = λ c h. (let b = (pairs c h).1 in (b.own_phase, b.own_level, b.stands, b.before));
+  before = λ c q n k stands b. whole c (inner, k) (record { own_phase = q; own_level = n; stands = stands; before = b });
+}
+
 pub reached_at : (r : Rules) (s : ShardState) (statuses : List Status) → IsShard r s statuses → (i : ℕ) → IsInRange s i → IsInner r (at s.tier i)
     → AreReached r (at s.tier i) s.phase s.level (In (delivered_to s i))
-reached_at r s statuses t i m inner = record {
-  children = λ c h. (t.pairs i c m h).0.1;
-  up_to = λ c h. (let b = (t.pairs i c m h).1 in (b.own_phase, b.own_level, b.stands, b.before));
-  before = λ c q n k stands b. t.whole i c m (inner, k) (record { own_phase = q; own_level = n; stands = stands; before = b });
-}
+reached_at r s statuses t i m inner = reached_by r s i inner (λ c. t.pairs i c m) (λ c. t.whole i c m)

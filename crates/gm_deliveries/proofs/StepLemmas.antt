@@ -1,41 +1,16 @@
 -- One delivery of a new pair.
-use Rattle.std.proofs.Common.{◌≡◌, ◌≢◌, ℕ, ◌+◌, ◌-◌, ◌^◌, ◌<◌, ◌≤◌, ◌⊎◌, inl, inr, ⊎_elim, Bool, true, false, List, [], length, get_or, map, refl, ap, sym}
-use Rattle.std.proofs.Common.{subst, ◌∙◌, arith, Some, Ok, get_or-set_same, get_or-set_other, length-set, true≢false, ◌==◌}
-use Rattle.std.specs.List.{Contains, slice_get}
-use Rattle.std.proofs.Math.ListN.{set}
-use Rattle.std.proofs.lemmas.Bool.{false_from_ne_true}
-use Rattle.std.proofs.lemmas.Option.{slice_get-get_or, get_or_from_slice_get}
-use Rattle.std.proofs.lemmas.Bool.Decides.{Decides-eqb}
-use Rattle.gm_game.specs.declared.limits.TheConstants.{REMOTENESS}
-use Rattle.gm_game.specs.declared.position.Position.{Position}
-use Rattle.gm_game.specs.declared.position.Solved.{Solved}
-use Rattle.gm_game.specs.declared.position.Value.{Value}
-use Rattle.gm_game.specs.declared.position.Value.TheVariants.{Lose, Draw, Tie, Win}
-use Rattle.gm_game.specs.declared.position.Phase.{Phase}
-use Rattle.gm_game.specs.declared.position.Phase.TheVariants.{WinLose, Ties}
-use Rattle.gm_game.specs.contracts.position.Phase.{the_type}
-use denote.Enum.Bare.{sameb}
-use mathlib.Core.Bool.{not}
-use Rattle.gm_game.specs.Rules.{Rules, at, children, IsCanonicalChild, IsParent}
-use Rattle.gm_game.specs.Laws.{IsGame}
-use Rattle.gm_game.specs.Values.{HasValue}
-use Rattle.gm_game.specs.Places.{StandsAt, StandsBefore, IsPlaceBefore}
-use Rattle.gm_game.specs.Children.{with_position, canonical_children_of, AreAscending}
-use Rattle.gm_game.specs.Records.{solved}
-use Rattle.gm_frontier.specs.Notes.{NoteData, IsNote, phase_of}
-use Rattle.gm_deliveries.specs.declared.status.Status.{Status}
-use Rattle.gm_deliveries.specs.declared.status.Status.TheVariants.{Hole, Undecided, Settled}
-use Rattle.gm_deliveries.specs.declared.status.Delivery.TheVariants.{Fresh, Repeat}
-use Rattle.gm_game.specs.Settling.{AreAll}
-use Rattle.gm_deliveries.specs.State.{ShardState, IsInRange, delivered_to, with_pair}
-use Rattle.gm_deliveries.specs.Status.{In, HasStatus, StatusIs}
-use Rattle.gm_deliveries.specs.Good.{IsShard, IsWithinLimit, IsKept, IsCounter}
-use Rattle.gm_deliveries.specs.Steps.{CanDeliver}
-use Rattle.gm_deliveries.specs.Delivery.{IsPlaceOf, Delivers, next_status, is_settling, IsThisLevel, IsPairHere, IsSettledNow, KeepsStatus}
-use Rattle.gm_game.proofs.SetLemmas.{has_old, with_cases, set_has, has_set, ascending_set, ascending_with, shorter, no_longer, has_all, length_with}
+use Rattle.std.proofs.Common.{◌≡◌, ℕ, ◌+◌, ◌-◌, ◌^◌, ◌<◌, ◌≤◌, ⊎_elim, Bool, true, false, List, length, map, refl, ap, sym}
+use Rattle.std.proofs.Common.{subst, ◌∙◌, arith, Some, Ok, length-set, true≢false, ◌==◌}
+use Rattle.gm_deliveries.proofs.Lower.{Contains, slice_get, set, false_from_ne_true, Decides-eqb, REMOTENESS, Position, Solved, Value, Lose, Draw, Tie, Win}
+use Rattle.gm_deliveries.proofs.Lower.{Rules, at, children, IsCanonicalChild, IsParent, IsGame, HasValue, StandsAt, StandsBefore, with_position}
+use Rattle.gm_deliveries.proofs.Lower.{canonical_children_of, AreAscending, solved, NoteData, IsNote, phase_of, Status, Hole, Undecided, Settled, Fresh, Repeat}
+use Rattle.gm_deliveries.proofs.Lower.{AreAll, ShardState, IsInRange, delivered_to, with_pair, In, HasStatus, StatusIs, IsShard, IsWithinLimit, IsKept}
+use Rattle.gm_deliveries.proofs.Lower.{CanDeliver, IsPlaceOf, Delivers, next_status, is_settling, IsThisLevel, IsPairHere, IsSettledNow, KeepsStatus, has_old}
+use Rattle.gm_deliveries.proofs.Lower.{with_cases, set_has, has_set, ascending_set, ascending_with, shorter, no_longer, has_all, length_with, now_stands}
+use Rattle.gm_deliveries.proofs.Lower.{at_place}
+use Rattle.gm_deliveries.proofs.AddedLemmas.{set_cases, range_is, still_mine, same_here, cases_at, note_stands}
 use Rattle.gm_deliveries.proofs.StatusLemmas.{after_any, reached_at}
 use Rattle.gm_deliveries.proofs.GoodLemmas.{near_of, within_limit}
-use Rattle.gm_game.proofs.MaskLemmas.{at_place}
 
 -- the children in K(p), as a list and as a fact
 pub in_children : (r : Rules) (p c : Position) → IsCanonicalChild r p c → Contains (canonical_children_of r p) c
@@ -43,17 +18,6 @@ in_children r p c h = set_has (map r.canonical (children r p)) c h
 
 pub from_children_of : (r : Rules) (p c : Position) → Contains (canonical_children_of r p) c → IsCanonicalChild r p c
 from_children_of r p c h = has_set (map r.canonical (children r p)) c h
-
--- what is before a place at which a note stands
-note_stands : (r : Rules) (p : Position) (v : Value) (n : ℕ) → HasValue r p v n → (v ≢ Draw) → StandsAt r (phase_of v) n p
-note_stands r p Lose n h some = inr h
-note_stands r p Draw n h some = absurd (some refl)
-note_stands r p Tie n h some = h
-note_stands r p Win n h some = inl h
-
-next_place : (ph : Phase) (n : ℕ) → IsPlaceBefore ph n ph (n + 1)
-next_place WinLose n = omega arith
-next_place Ties n = omega arith
 
 -- a child at the present place that is not delivered to its parent
 pub record NewPair (r : Rules) (s : ShardState) (c : Position) (parent : ℕ) : Type 0 where
@@ -81,80 +45,36 @@ module _ {r : Rules} {s : ShardState} {statuses : List Status} (shard : IsShard 
   pub long : length (with_position child (delivered_to s parent)) ≡ length (delivered_to s parent) + 1
   long = length_with child (delivered_to s parent) t.new
 
-  within : parent - s.lo < length s.delivered
-  within = let m = t.is_mine in omega arith
-
-  pub same_here : delivered_to (with_pair s child parent) parent ≡ with_position child (delivered_to s parent)
-  same_here = let w = within in get_or-set_same s.delivered (parent - s.lo) (with_position child (delivered_to s parent)) [] w
-
-  pub range_is : (i : ℕ) → IsInRange (with_pair s child parent) i → IsInRange s i
-  range_is i m = (m.0, let e = length-set s.delivered (parent - s.lo) (with_position child (delivered_to s parent)) in omega arith)
-
-  pub cases_at : (P : List Position → Type 0) (i : ℕ) → IsInRange s i → (i ≡ parent → P (with_position child (delivered_to s parent)))
-      → (i ≢ parent → P (delivered_to s i))
-      → P (delivered_to (with_pair s child parent) i)
-  cases_at P i m there other =
-      elim (i == parent) as (λ b. (i == parent) ≡ b → P (delivered_to (with_pair s child parent) i)) [
-        | true ↦ λ e. let same : i ≡ parent = (Decides-eqb i parent).0 e in
-            subst P (sym same_here ∙ ap (λ (j : ℕ). delivered_to (with_pair s child parent) j) (sym same)) (there same)
-        | false ↦ λ e. let ne : i ≢ parent = λ h. true≢false (sym ((Decides-eqb i parent).1 h) ∙ e) in
-            let m' = t.is_mine in
-            let far : (i - s.lo) ≢ (parent - s.lo) = λ h. ne (omega arith) in
-            subst P (sym (get_or-set_other s.delivered (parent - s.lo) (i - s.lo) (with_position child (delivered_to s parent)) [] far)) (other ne)
-      ] refl
-
-  pub still_mine : IsInRange (with_pair s child parent) parent
-  still_mine = (t.is_mine.0, let e = length-set s.delivered (parent - s.lo) (with_position child (delivered_to s parent)) in let m = t.is_mine.1 in omega arith)
-
-  stands_before : StandsBefore r s.phase (s.level + 1) child
-  stands_before = record { own_phase = s.phase; own_level = s.level; stands = t.stands; before = next_place s.phase s.level }
-
   known_after : (next : Status) → StatusIs r (with_pair s child parent) parent next → IsWithinLimit next → (i : ℕ) (x : Status) → IsInRange s i
       → slice_get (set statuses (parent - s.lo) next) (i - s.lo) ≡ Some x
       → StatusIs r (with_pair s child parent) i x × IsWithinLimit x
   known_after next after near i x m got =
-      elim (i == parent) as (λ b. (i == parent) ≡ b → StatusIs r (with_pair s child parent) i x × IsWithinLimit x) [
-        | true ↦ λ e. let same : i ≡ parent = (Decides-eqb i parent).0 e in
-            let w : parent - s.lo < length statuses = (let v = within in let k = shard.many in omega arith) in
-            let read : get_or (set statuses (parent - s.lo) next) (i - s.lo) Hole ≡ x =
-            get_or_from_slice_get (set statuses (parent - s.lo) next) (i - s.lo) x Hole got in
-            let here' : get_or (set statuses (parent - s.lo) next) (parent - s.lo) Hole ≡ next = get_or-set_same statuses (parent - s.lo) next Hole w in
-            let is : next ≡ x = sym here' ∙ ap (λ (j : ℕ). get_or (set statuses (parent - s.lo) next) (j - s.lo) Hole) (sym same) ∙ read in
-            subst (λ (y : Status). StatusIs r (with_pair s child parent) i y × IsWithinLimit y) is
-            (subst (λ (j : ℕ). StatusIs r (with_pair s child parent) j next) (sym same) after, near)
-        | false ↦ λ e. let ne : i ≢ parent = λ h. true≢false (sym ((Decides-eqb i parent).1 h) ∙ e) in
-            let m' = t.is_mine in
-            let far : (i - s.lo) ≢ (parent - s.lo) = λ h. ne (omega arith) in
-            let w : i - s.lo < length statuses = (let k = shard.many in omega arith) in
-            let read : get_or (set statuses (parent - s.lo) next) (i - s.lo) Hole ≡ x =
-            get_or_from_slice_get (set statuses (parent - s.lo) next) (i - s.lo) x Hole got in
-            let other : get_or (set statuses (parent - s.lo) next) (i - s.lo) Hole ≡ get_or statuses (i - s.lo) Hole =
-            get_or-set_other statuses (parent - s.lo) (i - s.lo) next Hole far in
-            let was : slice_get statuses (i - s.lo) ≡ Some x = slice_get-get_or statuses (i - s.lo) Hole w ∙ ap (λ (y : Status). Some y) (sym other ∙ read) in
-            let k = shard.known i x m was in
-            (cases_at (λ d. HasStatus r (at s.tier i) d x) i m (λ same. absurd (ne same)) (λ _. k.0), k.1)
-      ] refl
+      set_cases (λ y. StatusIs r (with_pair s child parent) i y × IsWithinLimit y) statuses (parent - s.lo) next (i - s.lo) x got
+      (λ e. (let a = t.is_mine.0 in let b = m.0 in let same : parent ≡ i = omega arith in
+      (subst (λ (j : ℕ). StatusIs r (with_pair s child parent) j next) same after, near)))
+      (λ ne was. (let k = shard.known i x m was in
+      (cases_at s child parent t.is_mine (λ d. HasStatus r (at s.tier i) d x) i m (λ e. absurd (ne (ap (λ (j : ℕ). j - s.lo) e))) (λ _. k.0), k.1)))
 
   pub shard_after : (next : Status) → StatusIs r (with_pair s child parent) parent next → IsWithinLimit next
       → IsShard r (with_pair s child parent) (set statuses (parent - s.lo) next)
   shard_after next after near = record {
-    once = λ (i : ℕ) (m : IsInRange (with_pair s child parent) i). cases_at AreAscending i (range_is i m) (λ _. up_with) (λ _. shard.once i (range_is i m));
+    once = λ (i : ℕ) (m : IsInRange (with_pair s child parent) i). cases_at s child parent t.is_mine AreAscending i (range_is s child parent t.is_mine i m) (λ _. up_with) (λ _. shard.once i (range_is s child parent t.is_mine i m));
     pairs = λ (i : ℕ) (c : Position) (m : IsInRange (with_pair s child parent) i).
-        cases_at (λ d. Contains d c → IsParent r c s.tier i × StandsBefore r s.phase (s.level + 1) c) i (range_is i m)
+        cases_at s child parent t.is_mine (λ d. Contains d c → IsParent r c s.tier i × StandsBefore r s.phase (s.level + 1) c) i (range_is s child parent t.is_mine i m)
         (λ same h. ⊎_elim
         (λ (e : child ≡ c). subst (λ (x : Position). IsParent r x s.tier i × StandsBefore r s.phase (s.level + 1) x) e
-        (subst (λ (j : ℕ). IsParent r child s.tier j) (sym same) t.is_parent, stands_before))
+        (subst (λ (j : ℕ). IsParent r child s.tier j) (sym same) t.is_parent, now_stands r s.phase s.level child t.stands))
         (λ (o : Contains (delivered_to s parent) c). subst (λ (j : ℕ). IsParent r c s.tier j × StandsBefore r s.phase (s.level + 1) c) (sym same)
         (shard.pairs parent c t.is_mine o))
         (with_cases child c (delivered_to s parent) h))
-        (λ _. shard.pairs i c (range_is i m));
+        (λ _. shard.pairs i c (range_is s child parent t.is_mine i m));
     whole = λ (i : ℕ) (c : Position) (m : IsInRange (with_pair s child parent) i) (p : IsParent r c s.tier i) (b : StandsBefore r s.phase s.level c).
-        cases_at (λ d. Contains d c) i (range_is i m)
+        cases_at s child parent t.is_mine (λ d. Contains d c) i (range_is s child parent t.is_mine i m)
         (λ same. has_old child c (delivered_to s parent) (shard.whole parent c t.is_mine (subst (λ (j : ℕ). IsParent r c s.tier j) same p) b))
-        (λ _. shard.whole i c (range_is i m) p b);
+        (λ _. shard.whole i c (range_is s child parent t.is_mine i m) p b);
     fits = shard.fits;
     many = length-set statuses (parent - s.lo) next ∙ shard.many ∙ sym (length-set s.delivered (parent - s.lo) (with_position child (delivered_to s parent)));
-    known = λ (i : ℕ) (x : Status) (m : IsInRange (with_pair s child parent) i). known_after next after near i x (range_is i m);
+    known = λ (i : ℕ) (x : Status) (m : IsInRange (with_pair s child parent) i). known_after next after near i x (range_is s child parent t.is_mine i m);
   }
 
 -- a note at the present place, a new pair, and the status that its parent has
@@ -168,14 +88,8 @@ pub record Step (r : Rules) (s : ShardState) (statuses : List Status) (note : No
 
 module _ {r : Rules} {s : ShardState} {statuses : List Status} {note : NoteData} {parent : ℕ} {old : Status} {last : Bool}
     (t : Step r s statuses note parent old last) where
-  stands : StandsAt r s.phase s.level note.position
-  stands =
-      subst (λ (ph : Phase). StandsAt r ph s.level note.position) t.here.is_level.0
-      (subst (λ (n : ℕ). StandsAt r (phase_of note.solved.value) n note.position) t.here.is_level.1
-      (note_stands r note.position note.solved.value note.solved.remoteness t.is_note.value t.is_note.decided))
-
   pub fresh : NewPair r s note.position parent
-  fresh = record { stands = stands; is_mine = t.here.is_mine; is_parent = t.here.is_parent; new = t.new }
+  fresh = record { stands = note_stands r s note parent t.is_note t.here; is_mine = t.here.is_mine; is_parent = t.here.is_parent; new = t.new }
 
   all_there : last ≡ true → AreAll r (at s.tier parent) (In (with_position note.position (delivered_to s parent)))
   all_there e y h = has_all _ _ (up_with t.shard fresh) (subset_with t.shard fresh)
@@ -193,7 +107,7 @@ module _ {r : Rules} {s : ShardState} {statuses : List Status} {note : NoteData}
 
   pub status_after : StatusIs r (with_pair s note.position parent) parent (next_status old note.solved last)
   status_after =
-      subst (λ (d : List Position). HasStatus r (at s.tier parent) d (next_status old note.solved last)) (sym (same_here t.shard fresh))
+      subst (λ (d : List Position). HasStatus r (at s.tier parent) d (next_status old note.solved last)) (sym (same_here s note.position parent t.here.is_mine))
       (after_level note.solved.remoteness t.here.is_level.1 t.is_note.value)
     where
       after_level : (n : ℕ) → n ≡ s.level → HasValue r note.position note.solved.value n
@@ -203,7 +117,7 @@ module _ {r : Rules} {s : ShardState} {statuses : List Status} {note : NoteData}
           → HasStatus r (at s.tier parent) (with_position note.position (delivered_to s parent)) (next_status old (solved note.solved.value m) last)) (sym e)
           (λ value. after_any r (at s.tier parent) note.position (delivered_to s parent) note.solved.value s.phase s.level last old
           (reached_at r s statuses t.shard parent t.here.is_mine t.here.is_parent.0)
-          t.here.is_parent.0 t.here.is_parent.1 stands value t.is_note.decided all_there not_all t.before)
+          t.here.is_parent.0 t.here.is_parent.1 fresh.stands value t.is_note.decided all_there not_all t.before)
 
 stays_open : (v : Value) (n : ℕ) (last : Bool) → is_settling Undecided (next_status Undecided (solved v n) last) ≡ false
     → next_status Undecided (solved v n) last ≡ Undecided
@@ -294,7 +208,7 @@ module _ {r : Rules} {s : ShardState} {statuses : List Status} {note : NoteData}
     is_parent = t.here.is_parent;
     new = t.new;
     near = λ (x : Solved) (h : StatusIs r (with_pair s note.position parent) parent (Settled x)).
-        near_of g (shard_after t.shard (fresh t) (next_status old note.solved last) (status_after t) near) parent x (still_mine t.shard (fresh t)) h
+        near_of g (shard_after t.shard (fresh t) (next_status old note.solved last) (status_after t) near) parent x (still_mine s note.position parent t.here.is_mine) h
         (next_status old note.solved last) (status_after t) near;
   }
 
@@ -329,21 +243,6 @@ pair_here r s note parent k level mine place = record {
   is_parent = (place.0, from_children_of r (at s.tier parent) note.position (at_place (canonical_children_of r (at s.tier parent)) k note.position place.1));
 }
 
--- what a delivery has found, where the pair is new
-pub step_of : {r : Rules} {u s : ShardState} {statuses : List Status} {left : List ℕ} {count : ℕ} {note : NoteData} {parent : ℕ} (k : ℕ) {old : Status} (l : ℕ)
-    → IsKept r u statuses left count → u ≡ s → IsNote r note.position note.solved
-    → IsThisLevel s note → IsInRange s parent → IsPlaceOf r note.position s.tier parent (Some k) → (Contains (delivered_to s parent) note.position → ⊥)
-    → StatusIs r s parent old → IsCounter r s parent l
-    → Step r s statuses note parent old (l == 1)
-step_of {r} {u} {s} {statuses} {left} {count} {note} {parent} k {old} l kept e is_note level mine place new before counter = record {
-  shard = subst (λ (u : ShardState). IsShard r u statuses) e kept.shard;
-  is_note = is_note;
-  here = pair_here r s note parent k level mine place;
-  new = new;
-  before = before;
-  last_is = same_test l (length (delivered_to s parent)) (length (canonical_children_of r (at s.tier parent))) (counter.inner place.0);
-}
-
 -- a remoteness one above that of a note of the present level fits
 pub room_above : {r : Rules} {u s : ShardState} {statuses : List Status} {left : List ℕ} {count : ℕ} {x y : Solved} → IsKept r u statuses left count → u ≡ s
     → x ≡ y → y.remoteness ≡ s.level → x.remoteness + 1 < 2 ^ 32
@@ -352,13 +251,6 @@ room_above kept e same level =
     let here = ap (λ (s : ShardState). s.level) e in
     let known = ap (λ (z : Solved). z.remoteness) same in
     omega arith
-
--- the test of two phases says whether they are the same
-pub same_phase : (a b : Phase) → false ≡ not (sameb the_type a b) → a ≡ b
-same_phase WinLose WinLose e = refl
-same_phase WinLose Ties e = absurd (true≢false (sym e))
-same_phase Ties WinLose e = absurd (true≢false (sym e))
-same_phase Ties Ties e = refl
 
 -- a pair that is there
 pub out_repeat : (r : Rules) (s : ShardState) (note : NoteData) (parent k : ℕ) → IsThisLevel s note → IsInRange s parent

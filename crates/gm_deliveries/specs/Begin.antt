@@ -1,10 +1,6 @@
 -- How a shard begins.
 use Rattle.std.specs.Prelude.{◌≡◌, ℕ, ◌+◌, List, [], Some, length, slice_get, replicate}
-use Rattle.gm_game.specs.declared.position.Position.{Position}
-use Rattle.gm_game.specs.declared.position.Phase.TheVariants.{WinLose}
-use Rattle.gm_game.specs.Rules.{Rules, at, IsCanonical, IsInner}
-use Rattle.gm_game.specs.Children.{canonical_children_of}
-use Rattle.gm_game.specs.Records.{from_end}
+use Rattle.gm_deliveries.specs.Lower.{Position, WinLose, Rules, at, IsCanonical, IsInner, canonical_children_of, from_end}
 use Rattle.gm_deliveries.specs.declared.status.Start.{Start}
 use Rattle.gm_deliveries.specs.declared.status.Start.TheVariants.{Hole, Ended, Inner}
 use Rattle.gm_deliveries.specs.declared.status.Status.{Status}

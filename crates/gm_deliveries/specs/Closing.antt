@@ -1,13 +1,6 @@
 -- What a shard answers of its level and of its positions.
 use Rattle.std.specs.Prelude.{◌≡◌, ℕ, ◌+◌, ◌<◌, List, Option, None, Some, Result, Ok, Err, slice_get}
-use Rattle.gm_game.specs.declared.limits.TheConstants.{REMOTENESS}
-use Rattle.gm_game.specs.declared.position.Solved.{Solved}
-use Rattle.gm_game.specs.Rules.{Rules, at}
-use Rattle.gm_game.specs.Records.{IsRecord, solved}
-use Rattle.gm_game.specs.declared.position.Value.TheVariants.{Draw}
-use Rattle.gm_game.specs.Values.{IsTrueValue}
-use Rattle.gm_frontier.specs.Notes.{NoteData}
-use Rattle.gm_frontier.specs.Counts.{ExpectedData}
+use Rattle.gm_deliveries.specs.Lower.{REMOTENESS, Solved, Rules, at, IsRecord, solved, Draw, IsTrueValue, NoteData, ExpectedData}
 use Rattle.gm_deliveries.specs.declared.status.Short.{Short}
 use Rattle.gm_deliveries.specs.declared.status.Status.{Status}
 use Rattle.gm_deliveries.specs.declared.status.Status.TheVariants.{Hole, Undecided, Settled}

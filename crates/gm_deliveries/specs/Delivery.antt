@@ -1,14 +1,7 @@
 -- What one delivery does.
 use Rattle.std.specs.Prelude.{◌≡◌, ℕ, ◌+◌, ◌≤◌, ◌<◌, Option, None, Some, Result, Ok, Err, Bool, true, false, if◌then◌else◌, slice_get}
-use Rattle.std.specs.List.{Contains}
-use Rattle.gm_game.specs.declared.limits.TheConstants.{MOVES, REMOTENESS}
-use Rattle.gm_game.specs.declared.position.Position.{Position}
-use Rattle.gm_game.specs.declared.position.Solved.{Solved}
-use Rattle.gm_game.specs.declared.position.Value.TheVariants.{Lose, Draw, Tie, Win}
-use Rattle.gm_game.specs.Records.{solved}
-use Rattle.gm_game.specs.Rules.{Rules, at, IsInner, IsParent}
-use Rattle.gm_game.specs.Children.{canonical_children_of}
-use Rattle.gm_frontier.specs.Notes.{NoteData, phase_of}
+use Rattle.gm_deliveries.specs.Lower.{Contains, MOVES, REMOTENESS, Position, Solved, Lose, Draw, Tie, Win, solved, Rules, at, IsInner, IsParent}
+use Rattle.gm_deliveries.specs.Lower.{canonical_children_of, NoteData, phase_of}
 use Rattle.gm_deliveries.specs.declared.status.Status.{Status}
 use Rattle.gm_deliveries.specs.declared.status.Status.TheVariants.{Hole, Undecided, Settled}
 use Rattle.gm_deliveries.specs.declared.status.Delivery.{Delivery}

@@ -1,13 +1,7 @@
 -- A good shard.
 use Rattle.std.specs.Prelude.{◌≡◌, ℕ, ◌+◌, ◌-◌, ◌≤◌, List, Some, length, slice_get}
-use Rattle.std.specs.List.{Contains}
-use Rattle.gm_game.specs.declared.limits.TheConstants.{REMOTENESS, MOVES, TIER_SIZE}
-use Rattle.gm_game.specs.declared.position.Position.{Position}
-use Rattle.gm_game.specs.declared.position.Solved.{Solved}
-use Rattle.gm_game.specs.Rules.{Rules, at, IsCanonical, IsInner, IsParent}
-use Rattle.gm_game.specs.Values.{IsTrueValue}
-use Rattle.gm_game.specs.Places.{StandsBefore}
-use Rattle.gm_game.specs.Children.{AreAscending, canonical_children_of}
+use Rattle.gm_deliveries.specs.Lower.{Contains, REMOTENESS, MOVES, TIER_SIZE, Position, Solved, Rules, at, IsCanonical, IsInner, IsParent, IsTrueValue}
+use Rattle.gm_deliveries.specs.Lower.{StandsBefore, AreAscending, canonical_children_of}
 use Rattle.gm_deliveries.specs.declared.status.Status.{Status}
 use Rattle.gm_deliveries.specs.declared.status.Status.TheVariants.{Hole, Undecided, Settled}
 use Rattle.gm_deliveries.specs.State.{ShardState, IsInRange, delivered_to, pairs_in}

@@ -7,3 +7,5 @@ pub mod Steps
 pub mod Closing
 pub mod Statuses
 pub mod Ordered
+pub mod Lower
+pub mod Logged

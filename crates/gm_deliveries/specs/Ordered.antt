@@ -1,8 +1,6 @@
 -- A shard's state by the pairs that were delivered to it, in their order.
-use Rattle.std.specs.Prelude.{ℕ, ◌-◌, List, [], ◌∷◌, length, slice_index_or, slice_set, replicate}
-use Rattle.gm_game.specs.declared.position.Position.{Position}
-use Rattle.gm_game.specs.declared.position.Phase.{Phase}
-use Rattle.gm_game.specs.Children.{with_position}
+use Rattle.std.specs.Prelude.{ℕ, ◌-◌, List, [], ◌∷◌, slice_index_or, slice_set, replicate}
+use Rattle.gm_deliveries.specs.Lower.{Position, Phase, with_position}
 use Rattle.gm_deliveries.specs.State.{ShardState}
 
 -- the children of each index of a range from lo on, with one pair more

@@ -1,10 +1,6 @@
 -- A shard's state, and the pairs that are delivered to it.
 use Rattle.std.specs.Prelude.{ℕ, ◌+◌, ◌-◌, ◌<◌, ◌≤◌, suc, List, [], ◌∷◌, length, slice_index_or, slice_set, sum_by}
-use Rattle.gm_game.specs.declared.position.Position.{Position}
-use Rattle.gm_game.specs.declared.position.Phase.{Phase}
-use Rattle.gm_game.specs.Rules.{Rules, at}
-use Rattle.gm_game.specs.Children.{with_position, canonical_children_of}
-use Rattle.gm_game.specs.Masks.{picked}
+use Rattle.gm_deliveries.specs.Lower.{Position, Phase, Rules, at, with_position, canonical_children_of, picked}
 
 -- a tier, a range of its indexes from lo on, the present place, and for each index of the range the children
 -- that are delivered to it, ascending
@@ -19,11 +15,6 @@ pub record ShardState : Type 0 where
 abbrev pub children_of_masks : Rules → ℕ → ℕ → List ℕ → List (List Position)
 children_of_masks r tier i [] = []
 children_of_masks r tier i (mask ∷ masks) = picked (canonical_children_of r (at tier i)) mask ∷ children_of_masks r tier (suc i) masks
-
--- the state that a shard's fields show
-abbrev pub state_of : Rules → ℕ → ℕ → Phase → ℕ → List ℕ → ShardState
-state_of r tier lo phase level masks =
-    record { tier = tier; lo = lo; phase = phase; level = level; delivered = children_of_masks r tier lo masks }
 
 abbrev pub IsInRange : ShardState → ℕ → Type 0
 IsInRange s index = (s.lo ≤ index) × (index < s.lo + length s.delivered)

@@ -1,12 +1,6 @@
 -- What the delivered children say of a position.
 use Rattle.std.specs.Prelude.{◌≡◌, ◌⊎◌, ℕ, List, Some}
-use Rattle.std.specs.List.{Contains}
-use Rattle.gm_game.specs.declared.position.Position.{Position}
-use Rattle.gm_game.specs.declared.position.End.{End}
-use Rattle.gm_game.specs.declared.position.Solved.{Solved}
-use Rattle.gm_game.specs.Rules.{Rules, at, IsCanonical, IsInner}
-use Rattle.gm_game.specs.Records.{from_end}
-use Rattle.gm_game.specs.Settling.{IsSettled, IsUndecided}
+use Rattle.gm_deliveries.specs.Lower.{Contains, Position, End, Solved, Rules, at, IsCanonical, IsInner, from_end, IsSettled, IsUndecided}
 use Rattle.gm_deliveries.specs.declared.status.Status.{Status}
 use Rattle.gm_deliveries.specs.declared.status.Status.TheVariants.{Hole, Undecided, Settled}
 use Rattle.gm_deliveries.specs.State.{ShardState, delivered_to}

@@ -1,15 +1,7 @@
 -- What events a state takes, and what they leave.
 use Rattle.std.specs.Prelude.{◌≡◌, ℕ, ◌+◌, ◌≤◌, Some, length}
-use Rattle.std.specs.List.{Contains}
-use Rattle.gm_game.specs.declared.limits.TheConstants.{REMOTENESS}
-use Rattle.gm_game.specs.declared.position.Position.{Position}
-use Rattle.gm_game.specs.declared.position.Phase.TheVariants.{WinLose, Ties}
-use Rattle.gm_game.specs.declared.position.Place.{Place}
-use Rattle.gm_game.specs.declared.position.Solved.{Solved}
-use Rattle.gm_game.specs.Rules.{Rules, IsParent}
-use Rattle.gm_game.specs.Places.{StandsAt, StandsBefore}
-use Rattle.gm_frontier.specs.Counts.{ExpectedData}
-use Rattle.gm_frontier.specs.Levels.{place_at}
+use Rattle.gm_deliveries.specs.Lower.{Contains, REMOTENESS, Position, WinLose, Ties, Place, Solved, Rules, IsParent, StandsAt, StandsBefore, ExpectedData}
+use Rattle.gm_deliveries.specs.Lower.{place_at}
 use Rattle.gm_deliveries.specs.declared.status.Status.TheVariants.{Settled}
 use Rattle.gm_deliveries.specs.State.{ShardState, IsInRange, delivered_to, with_pair}
 use Rattle.gm_deliveries.specs.Status.{StatusIs}

@@ -19,16 +19,11 @@ impl<A, B> Model for Log<A, B> {
 unsafe impl<A: Send, B: Send> Send for Log<A, B> {}
 
 impl<A, B> Log<A, B> {
-    /// Returns an empty log.
-    pub fn new() -> Log<A, B>
-        ensures { result.items ≡ [] }
-    {
-        Log { of: PhantomData }
-    }
+    ghost use Rattle.gm_deliveries.specs.Logged.{logged};
 
-    /// Returns the pairs, and one more.
-    pub fn and(&self, first: &A, second: &B) -> Log<A, B>
-        ensures { result.items ≡ self.now.items ++ (first.now, second.now) ∷ [] }
+    /// Returns the pairs of a log, or none if there is no log, and one more.
+    pub fn after(before: &Option<Log<A, B>>, first: &A, second: &B) -> Log<A, B>
+        ensures { result.items ≡ logged before.now ++ (first.now, second.now) ∷ [] }
     {
         Log { of: PhantomData }
     }

@@ -18,7 +18,7 @@ pub struct Ordered<G: Game> {
     lo: u64,
     phase: Phase,
     level: u32,
-    pairs: Log<Position, u64>,
+    pairs: Option<Log<Position, u64>>,
     left: Vec<u8>,
     statuses: Statuses,
     delivered: u64,
@@ -43,6 +43,7 @@ impl<G: Game> Drop for Ordered<G> {
 }
 
 impl<G: Game> Model for Ordered<G> {
+    ghost use Rattle.gm_deliveries.specs.Logged.{logged};
     ghost use Rattle.std.specs.Prelude.{length};
     ghost use Rattle.gm_deliveries.specs.State.{ShardState};
     ghost use Rattle.gm_deliveries.specs.Ordered.{state_by};
@@ -50,21 +51,20 @@ impl<G: Game> Model for Ordered<G> {
 
     ghost Value = { ShardState };
 
-    ghost view = { λ s. state_by s.tier s.lo s.phase s.level (length s.left.items) s.pairs.items };
+    ghost view = { λ s. state_by s.tier s.lo s.phase s.level (length s.left.items) (logged s.pairs) };
 
-    ghost invariant = { λ s. IsKept G.rules (state_by s.tier s.lo s.phase s.level (length s.left.items) s.pairs.items) s.statuses s.left.items s.delivered };
+    ghost invariant = { λ s. IsKept G.rules (state_by s.tier s.lo s.phase s.level (length s.left.items) (logged s.pairs)) s.statuses s.left.items s.delivered };
 }
 
 impl<G: Game> Ordered<G> {
     ghost use Rattle.std.specs.Prelude.{◌≡◌, ◌+◌, ◌*◌, ◌≤◌, length, IfOk};
-    ghost use Rattle.gm_game.specs.declared.limits.TheConstants.{MOVES};
+    ghost use Rattle.gm_deliveries.specs.Lower.{MOVES, REMOTENESS};
     ghost use Rattle.gm_deliveries.specs.Begin.{AreStarts, first_state};
     ghost use Rattle.gm_deliveries.specs.State.{IsInRange, pairs_in};
     ghost use Rattle.gm_deliveries.specs.Status.{StatusIs};
     ghost use Rattle.gm_deliveries.specs.Good.{IsGood, IsCounter};
     ghost use Rattle.gm_deliveries.specs.Steps.{CanTurn, IsWhole, place_of, next_level, first_ties};
     ghost use Rattle.gm_deliveries.specs.Closing.{IsNoteOf};
-    ghost use Rattle.gm_game.specs.declared.limits.TheConstants.{REMOTENESS};
 
     /// Returns the range of the indexes from `lo` on, with no pair.
     pub fn begin(alloc: Global, tier: u64, lo: u64, starts: &[Start]) -> Result<Self, AllocError>
@@ -80,7 +80,7 @@ impl<G: Game> Ordered<G> {
             lo,
             phase: Phase::WinLose,
             level: 0,
-            pairs: Log::new(),
+            pairs: None,
             left,
             statuses,
             delivered: 0,
@@ -177,8 +177,7 @@ impl<G: Game> Ordered<G> {
 
 impl<G: Game> Ordered<G> {
     ghost use Rattle.std.specs.Prelude.{◌≡◌, ◌<◌};
-    ghost use Rattle.gm_game.specs.declared.limits.TheConstants.{REMOTENESS};
-    ghost use Rattle.std.specs.List.{Contains};
+    ghost use Rattle.gm_deliveries.specs.Lower.{REMOTENESS, Contains};
     ghost use Rattle.gm_deliveries.specs.State.{delivered_to, with_pair};
     ghost use Rattle.gm_deliveries.specs.Status.{StatusIs};
     ghost use Rattle.gm_deliveries.specs.Steps.{CanDeliver};
@@ -235,6 +234,6 @@ impl<G: Game> Ordered<G> {
         self.statuses.set(k, next);
         self.delivered += 1;
         let child = note.position();
-        self.pairs = self.pairs.and(&child, &parent);
+        self.pairs = Some(Log::after(&self.pairs, &child, &parent));
     }
 }

@@ -1,8 +1,9 @@
 //! What is known of an index, and what a delivery makes of it.
 ghost use Rattle.std.specs.Prelude.{◌≡◌, ◌+◌, ◌<◌, ◌^◌};
-ghost use Rattle.gm_frontier.specs.Notes.{phase_of};
+ghost use Rattle.gm_deliveries.specs.Lower.{phase_of, solved};
 ghost use Rattle.gm_deliveries.specs.Delivery.{next_status, is_settling, number_of};
 ghost use Rattle.gm_deliveries.specs.Begin.{first_status, first_left};
+ghost use Rattle.gm_deliveries.specs.declared.status.Status.TheVariants.{Settled};
 
 use gm_game::evaluate::of_end;
 use gm_game::position::{End, Phase, Solved, Value};
@@ -85,31 +86,23 @@ pub(crate) fn next_status(old: Status, note: Solved, last: bool) -> Status
     requires { note.remoteness + 1 < 2 ^ 32 }
     ensures { result ≡ next_status old note last }
 {
-    match old {
-        Status::Undecided => match note.value {
-            Value::Lose => Status::Settled(Solved {
-                value: Value::Win,
-                remoteness: note.remoteness + 1,
-            }),
-            Value::Draw => Status::Undecided,
-            Value::Tie => Status::Settled(Solved {
-                value: Value::Tie,
-                remoteness: note.remoteness + 1,
-            }),
-            Value::Win => {
-                if last {
-                    Status::Settled(Solved {
-                        value: Value::Lose,
-                        remoteness: note.remoteness + 1,
-                    })
-                } else {
-                    Status::Undecided
-                }
-            }
-        },
-        Status::Hole => Status::Hole,
-        Status::Settled(x) => Status::Settled(x),
+    match (old, note.value) {
+        (Status::Undecided, Value::Lose) => one_above(Value::Win, note),
+        (Status::Undecided, Value::Tie) => one_above(Value::Tie, note),
+        (Status::Undecided, Value::Win) if last => one_above(Value::Lose, note),
+        _ => old,
     }
+}
+
+// Returns the settled status of this value, one move above a note.
+fn one_above(value: Value, note: Solved) -> Status
+    requires { note.remoteness + 1 < 2 ^ 32 }
+    ensures { result ≡ Settled (solved value (note.remoteness + 1)) }
+{
+    Status::Settled(Solved {
+        value,
+        remoteness: note.remoteness + 1,
+    })
 }
 
 pub(crate) fn first_status(start: Start) -> Status
@@ -127,8 +120,7 @@ pub(crate) fn first_left(start: Start) -> u8
     ensures { result ≡ first_left start }
 {
     match start {
-        Start::Hole => 0,
-        Start::Ended(_) => 0,
+        Start::Hole | Start::Ended(_) => 0,
         Start::Inner { children } => children,
     }
 }
@@ -147,11 +139,8 @@ pub fn phase_of(value: Value) -> Phase
 pub(crate) fn is_settling(old: Status, next: Status) -> bool
     ensures { result ≡ is_settling old next }
 {
-    match old {
-        Status::Undecided => match next {
-            Status::Settled(_) => true,
-            _ => false,
-        },
+    match (old, next) {
+        (Status::Undecided, Status::Settled(_)) => true,
         _ => false,
     }
 }

@@ -1,5 +1,5 @@
 -- What is known of sought positions.
-use Rattle.std.proofs.Common.{◌≡◌, ℕ, ◌↔◌, inl, inr, ◌==◌, if◌then◌else◌, eqb-true, Bool, true, false, List, ◌∷◌, [], length, refl, sym}
+use Rattle.std.proofs.Common.{◌≡◌, ℕ, suc, ◌↔◌, inl, inr, ◌==◌, if◌then◌else◌, eqb-true, Bool, true, false, List, ◌∷◌, [], length, refl, sym}
 use Rattle.std.proofs.Common.{ap, ◌∙◌, subst, arith, IsTrue, Option, None, Some}
 use Rattle.std.specs.List.{Contains}
 use Rattle.std.proofs.lemmas.Option.{same_Some}
@@ -17,10 +17,12 @@ use Rattle.gm_game.specs.Rules.{Rules, at, IsCanonical, IsAscending}
 use Rattle.gm_game.specs.Values.{HasValue, IsTrueValue}
 use Rattle.gm_game.proofs.Basic.{HasValue_once}
 use Rattle.gm_table.specs.Tables.{TableData, IsHeld}
+use Rattle.gm_find.specs.declared.only.Aim.{Aim}
+use Rattle.gm_find.specs.declared.only.Aim.TheVariants.{Keep, WinIn}
 use Rattle.gm_find.specs.declared.sought.Sought.{Sought}
 use Rattle.gm_find.specs.declared.sought.Span.{Span}
 use Rattle.gm_find.specs.Lists.{AreThose}
-use Rattle.gm_find.specs.Finding.{IsMatch, IsAskedFor, IsValueOf, IsFitting, IsOnlyLine, level_of, place_for, kept_by, KeepsValue, HasOnlyMove}
+use Rattle.gm_find.specs.Finding.{IsMatch, IsAskedFor, IsValueOf, IsFitting, IsOnlyLine, level_of, place_for, kept_by, Achieves, IsAchievedBy, HasOnlyMove}
 use Rattle.gm_find.proofs.ListLemmas.{those_once, IsRun}
 
 -- the one remoteness, if there is one
@@ -78,34 +80,43 @@ match_value r q reached p s h m =
 pub line_left : (r : Rules) (q : Sought) (reached : Bool) (p : Position) (s : Solved) → IsCanonical r p → IsTrueValue r p s → IsFitting r q reached p s
     → (IsTrue q.whole_line → IsOnlyLine r q.distinct p) ↔ IsMatch r q reached p
 line_left r q reached p s c h f = (
-  λ l. record { canonical = c; value = (s, h, f.0); choice = f.1.0; only = f.1.1; line = l; reaches = f.2 },
+  λ l. record { canonical = c; value = (s, h, f.0); choice = f.1.0; only = f.1.1; fastest = f.1.2; line = l; reaches = f.2 },
   λ m. m.line,
 )
 
 -- what is sought is fitting
 pub fitting : (r : Rules) (q : Sought) (reached : Bool) (p : Position) (s : Solved) → IsTrueValue r p s → IsMatch r q reached p → IsFitting r q reached p s
-fitting r q reached p s h m = (match_value r q reached p s h m, (m.choice, m.only), m.reaches)
+fitting r q reached p s h m = (match_value r q reached p s h m, (m.choice, m.only, m.fastest), m.reaches)
 
--- a move keeps a value
-pub keeps_is : (r : Rules) (p c : Position) (m : ℕ) (v : Value) (s : Solved) → c ≡ r.play p m → IsTrueValue r c s → s.value ≡ kept_by v → KeepsValue r v p m
-keeps_is r p c m v s e h w = (
+-- a move achieves an aim by the value of its result
+pub achieves_is : (r : Rules) (p c : Position) (m : ℕ) (aim : Aim) (s : Solved) → c ≡ r.play p m → IsTrueValue r c s → IsAchievedBy aim s → Achieves r aim p m
+achieves_is r p c m (Keep v) s e h w = (
   s.remoteness,
   subst (λ (x : Value). HasValue r (r.play p m) x s.remoteness) w
       (subst (λ (x : Position). HasValue r x s.value s.remoteness) e h),
 )
+achieves_is r p c m (WinIn n) s e h (w, k) = (
+  s.remoteness,
+  subst (λ (x : Value). HasValue r (r.play p m) x s.remoteness) w
+      (subst (λ (x : Position). HasValue r x s.value s.remoteness) e h),
+  k,
+)
 
-pub is_kept : (r : Rules) (p c : Position) (m : ℕ) (v : Value) (s : Solved) → c ≡ r.play p m → IsTrueValue r c s → KeepsValue r v p m → s.value ≡ kept_by v
-is_kept r p c m v s e h k = (HasValue_once r (r.play p m) s.value (kept_by v) s.remoteness k.0
+pub is_achieved : (r : Rules) (p c : Position) (m : ℕ) (aim : Aim) (s : Solved) → c ≡ r.play p m → IsTrueValue r c s → Achieves r aim p m → IsAchievedBy aim s
+is_achieved r p c m (Keep v) s e h k = (HasValue_once r (r.play p m) s.value (kept_by v) s.remoteness k.0
     (subst (λ (x : Position). HasValue r x s.value s.remoteness) e h) k.1).0
+is_achieved r p c m (WinIn n) s e h (k, w, q) =
+    let same = HasValue_once r (r.play p m) s.value Lose s.remoteness k (subst (λ (x : Position). HasValue r x s.value s.remoteness) e h) w in
+    (same.0, ap suc same.1 ∙ q)
 
--- one move keeps it
+-- one move achieves it
 one_element : (ms : List ℕ) → length ms ≡ 1 → (m : ℕ) × (ms ≡ m ∷ [])
 one_element [] e = absurd (omega arith)
 one_element (m ∷ []) e = (m, refl)
 one_element (m ∷ n ∷ ms) e = absurd (omega arith)
 
-pub only_is : (r : Rules) (p : Position) (v : Value) (kept : List ℕ) → AreThose (KeepsValue r v p) (r.moves p) kept → length kept ≡ 1 → HasOnlyMove r v p
-only_is r p v kept h e = let (m, q) = one_element kept e in (m, subst (AreThose (KeepsValue r v p) (r.moves p)) q h)
+pub only_is : (r : Rules) (p : Position) (aim : Aim) (kept : List ℕ) → AreThose (Achieves r aim p) (r.moves p) kept → length kept ≡ 1 → HasOnlyMove r aim p
+only_is r p aim kept h e = let (m, q) = one_element kept e in (m, subst (AreThose (Achieves r aim p) (r.moves p)) q h)
 
-pub is_only : (r : Rules) (p : Position) (v : Value) (kept : List ℕ) → AreThose (KeepsValue r v p) (r.moves p) kept → HasOnlyMove r v p → length kept ≡ 1
-is_only r p v kept h (m, k) = ap length (those_once (KeepsValue r v p) (r.moves p) kept (m ∷ []) h k)
+pub is_only : (r : Rules) (p : Position) (aim : Aim) (kept : List ℕ) → AreThose (Achieves r aim p) (r.moves p) kept → HasOnlyMove r aim p → length kept ≡ 1
+is_only r p aim kept h (m, k) = ap length (those_once (Achieves r aim p) (r.moves p) kept (m ∷ []) h k)

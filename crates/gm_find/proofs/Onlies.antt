@@ -1,4 +1,4 @@
--- Moves that keep a value, up to symmetry, and wins in which there is one at each turn.
+-- Moves that achieve an aim, up to symmetry, and wins in which there is one at each turn.
 use Rattle.std.proofs.Common.{◌≡◌, ℕ, zero, suc, ◌<◌, ◌≤◌, ◌+◌, ◌-◌, ◌↔◌, ◌⊎◌, inl, inr, Bool, IsTrue, List, [], ◌∷◌, ◌++◌, take, get_or, length, refl, sym}
 use Rattle.std.proofs.Common.{◌∙◌, subst, arith, Option, None, Some}
 use Rattle.std.specs.List.{Contains}
@@ -13,16 +13,18 @@ use Rattle.gm_game.specs.Rules.{Rules}
 use Rattle.gm_game.specs.Values.{HasValue, IsTrueValue}
 use Rattle.gm_game.proofs.Basic.{HasValue_once}
 use Rattle.gm_game.proofs.Lists.{contains_none, contains_first, contains_later, contains_cases}
-use Rattle.gm_find.specs.Finding.{KeepsValue, AgreesWith, HasOnly, HasOnlyResult, IsOnlyWin, IsOnlyAfter, IsOnlyLine}
+use Rattle.gm_find.specs.declared.only.Aim.{Aim}
+use Rattle.gm_find.specs.declared.only.Aim.TheVariants.{Keep, WinIn}
+use Rattle.gm_find.specs.Finding.{Achieves, AgreesWith, HasOnly, HasOnlyFastest, HasOnlyResult, IsOnlyWin, IsOnlyAfter, IsOnlyLine}
 
--- c is the canonical position of the result of one of these moves that keeps the value
-abbrev pub IsKeptBy : Rules → Value → Position → List ℕ → Position → Type 0
-IsKeptBy r v p ms c = (m : ℕ) × Contains ms m × KeepsValue r v p m × (r.canonical (r.play p m) ≡ c)
+-- c is the canonical position of the result of one of these moves that achieves the aim
+abbrev pub IsAchievedAmong : Rules → Aim → Position → List ℕ → Position → Type 0
+IsAchievedAmong r aim p ms c = (m : ℕ) × Contains ms m × Achieves r aim p m × (r.canonical (r.play p m) ≡ c)
 
--- these moves, if they keep the value, lead to one position
-abbrev pub IsOnlySoFar : Rules → Value → Position → List ℕ → Option Position → Type 0
-IsOnlySoFar r v p ms None = (c : Position) → IsKeptBy r v p ms c → ⊥
-IsOnlySoFar r v p ms (Some c) = IsKeptBy r v p ms c × ((d : Position) → IsKeptBy r v p ms d → d ≡ c)
+-- these moves, if they achieve the aim, lead to one position
+abbrev pub IsOnlySoFar : Rules → Aim → Position → List ℕ → Option Position → Type 0
+IsOnlySoFar r aim p ms None = (c : Position) → IsAchievedAmong r aim p ms c → ⊥
+IsOnlySoFar r aim p ms (Some c) = IsAchievedAmong r aim p ms c × ((d : Position) → IsAchievedAmong r aim p ms d → d ≡ c)
 
 pub contains_taken : {X : Type 0} (k : ℕ) (xs : List X) (y : X) → Contains (take k xs) y → Contains xs y
 contains_taken zero xs y c = absurd (contains_none y c)
@@ -32,45 +34,45 @@ contains_taken (suc k) (x ∷ xs) y c = elim (contains_cases x y (take k xs) c) 
   | inr d ↦ contains_later x y xs (contains_taken k xs y d)
 ]
 
-module _ (r : Rules) (v : Value) (p : Position) where
-  pub only_none : IsOnlySoFar r v p [] None
+module _ (r : Rules) (aim : Aim) (p : Position) where
+  pub only_none : IsOnlySoFar r aim p [] None
   only_none c (m, has, k, e) = absurd (contains_none m has)
 
   -- what one of these moves or one more leads to
-  kept_cases : (ms : List ℕ) (m : ℕ) (d : Position) → IsKeptBy r v p (ms ++ m ∷ []) d
-      → IsKeptBy r v p ms d ⊎ (KeepsValue r v p m × (r.canonical (r.play p m) ≡ d))
+  kept_cases : (ms : List ℕ) (m : ℕ) (d : Position) → IsAchievedAmong r aim p (ms ++ m ∷ []) d
+      → IsAchievedAmong r aim p ms d ⊎ (Achieves r aim p m × (r.canonical (r.play p m) ≡ d))
   kept_cases ms m d (n, has, k, e) = elim (Contains-push_cases ms m n has) [
     | inl o ↦ inl (n, o, k, e)
-    | inr f ↦ inr (subst (λ (x : ℕ). KeepsValue r v p x × (r.canonical (r.play p x) ≡ d)) (sym f) (k, e))
+    | inr f ↦ inr (subst (λ (x : ℕ). Achieves r aim p x × (r.canonical (r.play p x) ≡ d)) (sym f) (k, e))
   ]
 
-  kept_still : (ms : List ℕ) (m : ℕ) (d : Position) → IsKeptBy r v p ms d → IsKeptBy r v p (ms ++ m ∷ []) d
+  kept_still : (ms : List ℕ) (m : ℕ) (d : Position) → IsAchievedAmong r aim p ms d → IsAchievedAmong r aim p (ms ++ m ∷ []) d
   kept_still ms m d (n, has, k, e) = (n, Contains-append_left ms (m ∷ []) n has, k, e)
 
-  kept_last : (ms : List ℕ) (m : ℕ) (d : Position) → KeepsValue r v p m → r.canonical (r.play p m) ≡ d → IsKeptBy r v p (ms ++ m ∷ []) d
+  kept_last : (ms : List ℕ) (m : ℕ) (d : Position) → Achieves r aim p m → r.canonical (r.play p m) ≡ d → IsAchievedAmong r aim p (ms ++ m ∷ []) d
   kept_last ms m d k e = (m, Contains-push ms m, k, e)
 
-  -- one move more, which doesn't keep the value
-  pub only_skip : (ms : List ℕ) (m : ℕ) (o : Option Position) → IsOnlySoFar r v p ms o → (KeepsValue r v p m → ⊥) → IsOnlySoFar r v p (ms ++ m ∷ []) o
+  -- one move more, which doesn't achieve the aim
+  pub only_skip : (ms : List ℕ) (m : ℕ) (o : Option Position) → IsOnlySoFar r aim p ms o → (Achieves r aim p m → ⊥) → IsOnlySoFar r aim p (ms ++ m ∷ []) o
   only_skip ms m None h n = λ c k. elim (kept_cases ms m c k) [ inl a ↦ h c a | inr b ↦ n b.0 ]
   only_skip ms m (Some c) h n = (kept_still ms m c h.0, λ d k. elim (kept_cases ms m d k) [ inl a ↦ h.1 d a | inr b ↦ absurd (n b.0) ])
 
-  -- one move more, which keeps the value and leads to no other position
-  pub only_more : (ms : List ℕ) (m : ℕ) (o : Option Position) (c : Position) → IsOnlySoFar r v p ms o → KeepsValue r v p m → r.canonical (r.play p m) ≡ c →
+  -- one move more, which achieves the aim and leads to no other position
+  pub only_more : (ms : List ℕ) (m : ℕ) (o : Option Position) (c : Position) → IsOnlySoFar r aim p ms o → Achieves r aim p m → r.canonical (r.play p m) ≡ c →
       AgreesWith o c
-      → IsOnlySoFar r v p (ms ++ m ∷ []) (Some c)
+      → IsOnlySoFar r aim p (ms ++ m ∷ []) (Some c)
   only_more ms m None c h k e n = (kept_last ms m c k e, λ d q. elim (kept_cases ms m d q) [ inl a ↦ absurd (h d a) | inr b ↦ sym b.1 ∙ e ])
   only_more ms m (Some b) c h k e n = (kept_last ms m c k e, λ d q. elim (kept_cases ms m d q) [ inl a ↦ h.1 d a ∙ n | inr f ↦ sym f.1 ∙ e ])
 
   -- two moves that lead to different positions
-  pub only_two : (ms : List ℕ) (m : ℕ) (o : Option Position) (c : Position) → IsOnlySoFar r v p ms o → ((n : ℕ) → Contains ms n → Contains (r.moves p) n) →
-      Contains (r.moves p) m → KeepsValue r v p m
-      → r.canonical (r.play p m) ≡ c → (AgreesWith o c → ⊥) → HasOnlyResult r v p → ⊥
+  pub only_two : (ms : List ℕ) (m : ℕ) (o : Option Position) (c : Position) → IsOnlySoFar r aim p ms o → ((n : ℕ) → Contains ms n → Contains (r.moves p) n) →
+      Contains (r.moves p) m → Achieves r aim p m
+      → r.canonical (r.play p m) ≡ c → (AgreesWith o c → ⊥) → HasOnlyResult r aim p → ⊥
   only_two ms m None c h inside has k e n x = n tt
   only_two ms m (Some b) c ((w, own, kw, ew), h) inside has k e n (d, kd, same) = n (same b (w, inside w own, kw, ew) ∙ sym (same c (m, has, k, e)))
 
   -- after all moves
-  pub only_all : (o : Option Position) → IsOnlySoFar r v p (r.moves p) o → IsTrue (is_some o) ↔ HasOnlyResult r v p
+  pub only_all : (o : Option Position) → IsOnlySoFar r aim p (r.moves p) o → IsTrue (is_some o) ↔ HasOnlyResult r aim p
   only_all None h = (λ t. absurd (cc), λ (c, k, same). absurd (h c k))
   only_all (Some c) h = (λ t. (c, h.0, h.1), λ x. refl)
 
@@ -89,7 +91,7 @@ last_turn r d (suc (suc zero)) p l = tt
 last_turn r d (suc (suc (suc n))) p l = absurd (omega arith)
 
 -- a turn before the last
-pub turn_parts : (r : Rules) (d : Bool) (n : ℕ) (p : Position) → 2 < n → IsOnlyWin r d n p → HasOnly r d Win p ×
+pub turn_parts : (r : Rules) (d : Bool) (n : ℕ) (p : Position) → 2 < n → IsOnlyWin r d n p → HasOnly r d (Keep Win) p ×
     ((m : ℕ) → Contains (r.moves p) m → IsOnlyAfter r d (n - 2) p m)
 turn_parts r d zero p l h = absurd (omega arith)
 turn_parts r d (suc zero) p l h = absurd (omega arith)
@@ -98,7 +100,7 @@ turn_parts r d (suc (suc (suc n))) p l h =
     let e : suc n ≡ suc (suc (suc n)) - 2 = omega arith in
     (h.0, λ m has. subst (λ (k : ℕ). IsOnlyAfter r d k p m) e (h.1 m has))
 
-pub turn_from : (r : Rules) (d : Bool) (n : ℕ) (p : Position) → 2 < n → HasOnly r d Win p → ((m : ℕ) → Contains (r.moves p) m → IsOnlyAfter r d (n - 2) p m)
+pub turn_from : (r : Rules) (d : Bool) (n : ℕ) (p : Position) → 2 < n → HasOnly r d (Keep Win) p → ((m : ℕ) → Contains (r.moves p) m → IsOnlyAfter r d (n - 2) p m)
     → IsOnlyWin r d n p
 turn_from r d zero p l h k = absurd (omega arith)
 turn_from r d (suc zero) p l h k = absurd (omega arith)
@@ -125,6 +127,10 @@ line_is r d p s h v = (
   λ t. (s.remoteness, win_is r p s s.remoteness h v refl, t),
   λ (k, w, t). subst (λ (n : ℕ). IsOnlyWin r d n p) (sym (is_win r p s k h w).1) t,
 )
+
+-- what is no win has no fastest move
+pub no_fastest : (r : Rules) (d : Bool) (p : Position) (s : Solved) → IsTrueValue r p s → (s.value ≡ Win → ⊥) → HasOnlyFastest r d p → ⊥
+no_fastest r d p s h n (k, w, o) = n (is_win r p s k h w).0
 
 -- an answer about a fact is one about another that comes to the same
 pub same_answer : (b : Bool) (A B : Type 0) → (A ↔ B) → IsTrue b ↔ A → IsTrue b ↔ B

@@ -10,6 +10,8 @@ use Rattle.gm_game.specs.declared.position.Value.TheVariants.{Lose, Draw, Tie, W
 use Rattle.gm_game.specs.Rules.{Rules, at, IsCanonical}
 use Rattle.gm_game.specs.Values.{HasValue, IsTrueValue}
 use Rattle.gm_game.specs.Children.{canonical_children_of}
+use Rattle.gm_find.specs.declared.only.Aim.{Aim}
+use Rattle.gm_find.specs.declared.only.Aim.TheVariants.{Keep, WinIn}
 use Rattle.gm_find.specs.declared.sought.Sought.{Sought}
 use Rattle.gm_find.specs.declared.sought.Span.{Span}
 use Rattle.gm_find.specs.Lists.{AreThose}
@@ -34,27 +36,45 @@ kept_by Win = Lose
 abbrev pub KeepsValue : Rules → Value → Position → ℕ → Type 0
 KeepsValue r v p m = (k : ℕ) × HasValue r (r.play p m) (kept_by v) k
 
--- of the moves of p exactly one keeps the value
-abbrev pub HasOnlyMove : Rules → Value → Position → Type 0
-HasOnlyMove r v p = (m : ℕ) × AreThose (KeepsValue r v p) (r.moves p) (m ∷ [])
+-- this move wins in n moves, itself included
+abbrev pub WinsIn : Rules → ℕ → Position → ℕ → Type 0
+WinsIn r n p m = (k : ℕ) × HasValue r (r.play p m) Lose k × (suc k ≡ n)
 
--- c is the canonical position of the result of a move that keeps the value
-abbrev pub IsKept : Rules → Value → Position → Position → Type 0
-IsKept r v p c = (m : ℕ) × Contains (r.moves p) m × KeepsValue r v p m × (r.canonical (r.play p m) ≡ c)
+-- the move achieves an aim
+abbrev pub Achieves : Rules → Aim → Position → ℕ → Type 0
+Achieves r (Keep v) p m = KeepsValue r v p m
+Achieves r (WinIn n) p m = WinsIn r n p m
 
--- the moves of p that keep the value lead to one position, up to symmetry, and there is such a move
-abbrev pub HasOnlyResult : Rules → Value → Position → Type 0
-HasOnlyResult r v p = (c : Position) × IsKept r v p c × ((d : Position) → IsKept r v p d → d ≡ c)
+-- a move to a position of this value achieves the aim
+abbrev pub IsAchievedBy : Aim → Solved → Type 0
+IsAchievedBy (Keep v) s = s.value ≡ kept_by v
+IsAchievedBy (WinIn n) s = (s.value ≡ Lose) × (suc s.remoteness ≡ n)
+
+-- of the moves of p exactly one achieves the aim
+abbrev pub HasOnlyMove : Rules → Aim → Position → Type 0
+HasOnlyMove r a p = (m : ℕ) × AreThose (Achieves r a p) (r.moves p) (m ∷ [])
+
+-- c is the canonical position of the result of a move that achieves the aim
+abbrev pub IsAchieved : Rules → Aim → Position → Position → Type 0
+IsAchieved r a p c = (m : ℕ) × Contains (r.moves p) m × Achieves r a p m × (r.canonical (r.play p m) ≡ c)
+
+-- the moves of p that achieve the aim lead to one position, up to symmetry, and there is such a move
+abbrev pub HasOnlyResult : Rules → Aim → Position → Type 0
+HasOnlyResult r a p = (c : Position) × IsAchieved r a p c × ((d : Position) → IsAchieved r a p d → d ≡ c)
 
 -- there is no position yet, or it is this one
 abbrev pub AgreesWith : Option Position → Position → Type 0
 AgreesWith None c = Unit {0}
 AgreesWith (Some d) c = d ≡ c
 
--- exactly one move keeps the value; where distinct moves are asked for, exactly one up to symmetry
-abbrev pub HasOnly : Rules → Bool → Value → Position → Type 0
-HasOnly r false v p = HasOnlyMove r v p
-HasOnly r true v p = HasOnlyResult r v p
+-- exactly one move achieves the aim; if only distinct moves count, exactly one up to symmetry
+abbrev pub HasOnly : Rules → Bool → Aim → Position → Type 0
+HasOnly r false a p = HasOnlyMove r a p
+HasOnly r true a p = HasOnlyResult r a p
+
+-- p is a win, and exactly one move wins in the fewest moves; if only distinct moves count, exactly one up to symmetry
+abbrev pub HasOnlyFastest : Rules → Bool → Position → Type 0
+HasOnlyFastest r d p = (n : ℕ) × HasValue r p Win n × HasOnly r d (WinIn n) p
 
 -- there are at least n moves; where distinct moves are asked for, at least n up to symmetry
 abbrev pub HasMoves : Rules → Bool → ℕ → Position → Type 0
@@ -70,7 +90,7 @@ abbrev pub IsOnlyWin : Rules → Bool → ℕ → Position → Type 0
 IsOnlyWin r d zero p = Unit {0}
 IsOnlyWin r d (suc zero) p = Unit {0}
 IsOnlyWin r d (suc (suc zero)) p = Unit {0}
-IsOnlyWin r d (suc (suc (suc n))) p = HasOnly r d Win p
+IsOnlyWin r d (suc (suc (suc n))) p = HasOnly r d (Keep Win) p
     × ((m : ℕ) → Contains (r.moves p) m → KeepsValue r Win p m → AfterDefence r (suc n) (IsOnlyWin r d (suc n)) (r.play p m))
 
 -- the move e of the loser, if the winner wins in n after it, leads to a win as said above
@@ -99,9 +119,10 @@ level_of (Some s) = if s.least == s.most then Some s.least else None
 abbrev pub IsValueOf : Sought → Solved → Type 0
 IsValueOf q s = (q.value ≡ s.value) × IsAskedFor q.remoteness s.remoteness
 
--- p has as many moves as are asked for, and if that is asked exactly one that keeps the value
+-- p has as many moves as are sought, and, if those are sought, exactly one that keeps the value, and exactly one that wins in the fewest moves
 abbrev pub HasFittingMoves : Rules → Sought → Position → Type 0
-HasFittingMoves r q p = HasMoves r q.distinct q.min_moves p × (IsTrue q.only_move → HasOnly r q.distinct q.value p)
+HasFittingMoves r q p = HasMoves r q.distinct q.min_moves p × (IsTrue q.only_move → HasOnly r q.distinct (Keep q.value) p)
+    × (IsTrue q.only_fastest → HasOnlyFastest r q.distinct p)
 
 -- p, which has this true value, is all that is wanted besides a whole line
 abbrev pub IsFitting : Rules → Sought → Bool → Position → Solved → Type 0
@@ -112,7 +133,8 @@ pub record IsMatch (r : Rules) (q : Sought) (reached : Bool) (p : Position) : Ty
   pub canonical : IsCanonical r p
   pub value : (s : Solved) × IsTrueValue r p s × IsValueOf q s
   pub choice : HasMoves r q.distinct q.min_moves p
-  pub only : IsTrue q.only_move → HasOnly r q.distinct q.value p
+  pub only : IsTrue q.only_move → HasOnly r q.distinct (Keep q.value) p
+  pub fastest : IsTrue q.only_fastest → HasOnlyFastest r q.distinct p
   pub line : IsTrue q.whole_line → IsOnlyLine r q.distinct p
   pub reaches : IsTrue reached → IsReachedByPlay r p
 

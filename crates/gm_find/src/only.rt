@@ -1,21 +1,47 @@
-//! Whether exactly one move of a position keeps its value.
+//! Whether exactly one move of a position achieves an aim.
 ghost use Rattle.std.specs.Prelude.{◌↔◌, ◌≡◌, ℕ, List, true, length, IsTrue};
 ghost use Rattle.std.specs.List.{Contains};
+ghost use Rattle.gm_game.specs.Values.{IsTrueValue};
 ghost use Rattle.gm_find.specs.Lists.{AreThose};
-ghost use Rattle.gm_find.specs.Finding.{kept_by, KeepsValue, HasOnlyMove, HasOnlyResult, HasOnly, HasMoves, AgreesWith};
+ghost use Rattle.gm_find.specs.Finding.{kept_by, Achieves, HasOnlyMove, HasOnlyResult, HasOnly, HasOnlyFastest, HasMoves, AgreesWith, IsAchievedBy};
 
 use gm_best::known::Known;
 use gm_game::game::Game;
-use gm_game::position::{Position, Value};
+use gm_game::position::{Position, Solved, Value};
 
-/// Returns whether exactly one move keeps this value; where distinct moves are asked for, exactly one up to symmetry.
-pub(crate) fn has_only<G: Game>(known: &Known<'_, G>, value: Value, distinct: bool) -> bool
-    ensures { IsTrue result ↔ HasOnly G.rules distinct value known.now.position }
+/// What a move has to achieve to count.
+#[derive(Clone, Copy, Debug, PartialEq, Eq)]
+pub enum Aim {
+    /// After the move the side that made it still has this value.
+    Keep(Value),
+    /// The move wins in this many moves, itself included.
+    WinIn(u32),
+}
+
+/// Returns whether exactly one move achieves the aim; if only distinct moves count, exactly one up to symmetry.
+pub(crate) fn has_only<G: Game>(known: &Known<'_, G>, aim: Aim, distinct: bool) -> bool
+    ensures { IsTrue result ↔ HasOnly G.rules distinct aim known.now.position }
 {
     if distinct {
-        has_only_result(known, value)
+        has_only_result(known, aim)
     } else {
-        keeping(known, value) == 1
+        achieving(known, aim) == 1
+    }
+}
+
+/// Returns whether a position of this true value is a win in which exactly one move wins in the fewest moves; if only distinct moves
+/// count, exactly one up to symmetry.
+pub(crate) fn has_only_fastest<G: Game>(
+    known: &Known<'_, G>,
+    solved: Solved,
+    distinct: bool,
+) -> bool
+    requires { IsTrueValue G.rules known.now.position solved }
+    ensures { IsTrue result ↔ HasOnlyFastest G.rules distinct known.now.position }
+{
+    match solved.value {
+        Value::Win => has_only(known, Aim::WinIn(solved.remoteness), distinct),
+        Value::Lose | Value::Draw | Value::Tie => false,
     }
 }
 
@@ -31,28 +57,28 @@ pub(crate) fn has_moves<G: Game>(p: Position, least: usize, distinct: bool) -> b
     }
 }
 
-// Returns how many moves keep this value.
-fn keeping<G: Game>(known: &Known<'_, G>, value: Value) -> usize
-    ensures { (kept : List ℕ) × AreThose (KeepsValue G.rules value known.now.position) (G.rules.moves known.now.position) kept × (length kept ≡ result) }
+// Returns how many moves achieve the aim.
+fn achieving<G: Game>(known: &Known<'_, G>, aim: Aim) -> usize
+    ensures { (kept : List ℕ) × AreThose (Achieves G.rules aim known.now.position) (G.rules.moves known.now.position) kept × (length kept ≡ result) }
 {
     let moves = G::moves(known.position);
     let mut number = 0;
     for m in moves.as_slice() {
-        if keeps(known, value, *m) {
+        if achieves(known, aim, *m) {
             number += 1;
         }
     }
     number
 }
 
-// Returns whether the moves that keep this value lead to one position, up to symmetry.
-fn has_only_result<G: Game>(known: &Known<'_, G>, value: Value) -> bool
-    ensures { IsTrue result ↔ HasOnlyResult G.rules value known.now.position }
+// Returns whether the moves that achieve the aim lead to one position, up to symmetry.
+fn has_only_result<G: Game>(known: &Known<'_, G>, aim: Aim) -> bool
+    ensures { IsTrue result ↔ HasOnlyResult G.rules aim known.now.position }
 {
     let moves = G::moves(known.position);
     let mut only = None;
     for m in moves.as_slice() {
-        if keeps(known, value, *m) {
+        if achieves(known, aim, *m) {
             let found = G::canonical(known.play(*m).position);
             if !agrees(only, found) {
                 return false;
@@ -73,12 +99,24 @@ fn agrees(only: Option<Position>, found: Position) -> bool
     }
 }
 
-/// Returns whether a move keeps this value.
-pub(crate) fn keeps<G: Game>(known: &Known<'_, G>, value: Value, m: u32) -> bool
+/// Returns whether a move achieves the aim.
+pub(crate) fn achieves<G: Game>(known: &Known<'_, G>, aim: Aim, m: u32) -> bool
     requires { Contains (G.rules.moves known.now.position) m }
-    ensures { IsTrue result ↔ KeepsValue G.rules value known.now.position m }
+    ensures { IsTrue result ↔ Achieves G.rules aim known.now.position m }
 {
-    known.play(m).value().value == kept(value)
+    is_achieved(aim, known.play(m).value())
+}
+
+// Returns whether a move to a position of this value achieves the aim.
+fn is_achieved(aim: Aim, after: Solved) -> bool
+    ensures { IsTrue result ↔ IsAchievedBy aim after }
+{
+    match aim {
+        Aim::Keep(value) => after.value == kept(value),
+        Aim::WinIn(moves) => {
+            after.value == Value::Lose && after.remoteness < moves && after.remoteness == moves - 1
+        }
+    }
 }
 
 // Returns the value of a result that keeps this one for the side that moves.

@@ -5,7 +5,7 @@ ghost use Rattle.gm_game.specs.declared.position.Value.TheVariants.{Win};
 ghost use Rattle.gm_game.specs.Values.{IsTrueValue};
 ghost use Rattle.gm_find.specs.Finding.{IsOnlyLine, IsOnlyWin, IsOnlyAfter, IsOnlyDefence, AfterDefence};
 
-use crate::only::{has_only, keeps};
+use crate::only::{Aim, achieves, has_only};
 use gm_best::known::Known;
 use gm_game::game::Game;
 use gm_game::position::{Solved, Value};
@@ -35,7 +35,7 @@ fn is_only_win<G: Game>(known: &Known<'_, G>, remoteness: u32, distinct: bool) -
     if remoteness <= LAST_TURN {
         return true;
     }
-    if !has_only(known, Value::Win, distinct) {
+    if !has_only(known, Aim::Keep(Value::Win), distinct) {
         return false;
     }
     for m in G::moves(known.position).as_slice() {
@@ -52,7 +52,7 @@ fn is_only_after<G: Game>(known: &Known<'_, G>, m: u32, remoteness: u32, distinc
     requires { Contains (G.rules.moves known.now.position) m }
     ensures { IsTrue result ↔ IsOnlyAfter G.rules distinct remoteness known.now.position m }
 {
-    if keeps(known, Value::Win, m) {
+    if achieves(known, Aim::Keep(Value::Win), m) {
         are_only_defences(&known.play(m), remoteness, distinct)
     } else {
         true

@@ -13,7 +13,7 @@ ghost use Rattle.gm_find.specs.Reaching.{IsReachedByPlay};
 ghost use Rattle.gm_find.specs.Finding.{IsMatch, positions_in, all_positions, place_for, level_of};
 ghost use Rattle.gm_find.specs.Finding.{IsValueOf, IsFitting, HasFittingMoves, IsOnlyLine};
 
-use crate::only::{has_moves, has_only};
+use crate::only::{Aim, has_moves, has_only, has_only_fastest};
 use crate::only_line::is_only_line;
 use crate::reached::{Reached, is_in};
 use crate::sought::{Sought, Span};
@@ -197,17 +197,22 @@ fn is_fitting<G: Game>(
     sought: Sought,
     reached: Option<&Reached<G>>,
 ) -> bool
+    requires { IsTrueValue G.rules known.now.position solved }
     ensures { IsTrue result ↔ IsFitting G.rules sought (is_some reached.entry) known.now.position solved }
 {
-    is_value(sought, solved) && has_fitting_moves(known, sought) && is_in(reached, known.position)
+    is_value(sought, solved)
+        && has_fitting_moves(known, solved, sought)
+        && is_in(reached, known.position)
 }
 
 // Returns whether a position has the moves that are sought.
-fn has_fitting_moves<G: Game>(known: &Known<'_, G>, sought: Sought) -> bool
+fn has_fitting_moves<G: Game>(known: &Known<'_, G>, solved: Solved, sought: Sought) -> bool
+    requires { IsTrueValue G.rules known.now.position solved }
     ensures { IsTrue result ↔ HasFittingMoves G.rules sought known.now.position }
 {
     has_moves::<G>(known.position, sought.min_moves, sought.distinct)
-        && (!sought.only_move || has_only(known, sought.value, sought.distinct))
+        && (!sought.only_move || has_only(known, Aim::Keep(sought.value), sought.distinct))
+        && (!sought.only_fastest || has_only_fastest(known, solved, sought.distinct))
 }
 
 // Returns whether a position has the line that is sought.

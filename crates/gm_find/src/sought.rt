@@ -17,6 +17,8 @@ pub struct Sought {
     pub remoteness: Option<Span>,
     /// Those from which exactly one move keeps the value.
     pub only_move: bool,
+    /// Wins from which exactly one move wins in the fewest moves.
+    pub only_fastest: bool,
     /// Wins in which, against every longest defence, exactly one move keeps the win at each turn of the winner but the last.
     pub whole_line: bool,
     /// Whether moves whose results are the same but for symmetry count as one.

@@ -1,8 +1,7 @@
 -- What follows from the definitions.
 pub mod SquareFacts
-pub mod HoundFacts
+pub mod MaskFacts
 pub mod ChaseFacts
-pub mod Numbering
-pub mod ListFacts
-pub mod Texts
 pub mod ChaseLaws
+pub mod Numbering
+pub mod Texts

@@ -7,29 +7,31 @@ ghost use Rattle.gm_foxhounds.specs.laws.ChaseLaws.{lawful, symmetric};
 ghost use Rattle.gm_foxhounds.specs.laws.Numbering.{numbered};
 ghost use Rattle.gm_foxhounds.specs.laws.Texts.{readable};
 
-use crate::chase::{
-    Chase, board_at, end_by_last_move, has_square, hounds_gone, index, is_free, is_legal,
-};
-use crate::lists::{fill_parents, open_moves};
-use crate::squares::{beside, is_on_board};
-use crate::text::{byte_at, file_byte, hound_in, row_byte, side_byte, square_in};
+use crate::chase::{Chase, can_go, gone, has_square, lowest, toggled};
+use crate::squares::{dark, dark_in, leads, to_square};
 use arrayvec::ArrayVec;
+use gm_board::arrangement::Arrangement;
 use gm_game::game::Game;
-use gm_game::limits::{CHILD_TIERS, MOVES, NAME, PARENTS};
+use gm_game::limits::{CHILD_TIERS, NAME};
 use gm_game::position::{End, Position};
 use gm_game::shown::{Line, Shown};
 use gm_game::text::push_text;
 use gm_pieces::lists::MoveLists;
 use gm_pieces::on_boards::OnBoards;
 use gm_pieces::rules::MoveRules;
+use gm_squares::text::{byte_at, push_square};
 
 /// The number of positions in the one tier.
 const POSITIONS: u64 = 2_013_760;
 
-/// The ways forwards are from this one on.
-const FORWARDS: u32 = 2;
+/// Arrangements of four hounds and a fox on 32 squares.
+const MEN: Arrangement = Arrangement {
+    cells: 32,
+    mine: 4,
+    theirs: 1,
+};
 
-/// The rules of Fox and Hounds. The fox wins as soon as it is past the hounds, and a side that can't move loses (docs/GAMES.md, Fox and Hounds).
+/// The rules of Fox and Hounds. A fox past the hounds wins at once, and a side that can't move loses (docs/GAMES.md, Fox and Hounds).
 #[derive(Drop)]
 pub struct FoxRules;
 
@@ -76,161 +78,104 @@ impl MoveRules for FoxRules {
         128
     }
 
+    #[tactic(auto, using(crate::specs::laws::Numbering::half_below), unfolding(crate::specs::FoxHounds::board))]
     fn board(_tier: u64, index: u64) -> Chase {
-        board_at(index)
+        let (hounds, fox) = MEN.masks(index / 2);
+        Chase {
+            hounds_move: index % 2 == 1,
+            hounds,
+            fox: fox.trailing_zeros(),
+        }
     }
 
+    #[tactic(auto, unfolding(crate::specs::FoxHounds::legal))]
     fn is_legal_board(board: Chase) -> bool {
-        is_legal(board)
+        board.hounds.count_ones() == 4 && (board.fox < 32 && !has_square(board.hounds, board.fox))
     }
 
     fn tier(_board: Chase) -> u64 {
         0
     }
 
+    #[tactic(auto, using(crate::specs::laws::ChaseFacts::fox_below, crate::specs::laws::Numbering::size_is, crate::specs::laws::Numbering::men), unfolding(crate::specs::FoxHounds::index))]
     fn index(board: Chase) -> u64 {
-        index(board)
+        2 * MEN.index(board.hounds, toggled(0, board.fox)) + u64::from(board.hounds_move)
     }
 
     fn least_index(board: Chase) -> u64 {
-        index(board)
+        Self::index(board)
     }
 
-    // Each index is that of a legal board, and there is no symmetry.
-    #[tactic(auto, using(crate::specs::laws::Numbering::all_canonical))]
-    fn is_canonical(_p: Position, _board: Chase) -> bool {
-        true
-    }
-
-    #[tactic(auto, using(crate::specs::laws::Numbering::all_legal))]
-    fn is_legal(p: Position) -> bool {
-        p.index < Self::tier_size(p.tier)
-    }
-
-    #[tactic(auto, using(crate::specs::laws::ChaseFacts::fox_below))]
+    #[tactic(auto, unfolding(crate::specs::FoxHounds::end_by_last_move))]
     fn end_by_last_move(board: Chase) -> Option<End> {
-        end_by_last_move(board)
+        if board.fox / 4 > board.hounds.trailing_zeros() / 4 {
+            None
+        } else if board.hounds_move {
+            Some(End::Lose)
+        } else {
+            Some(End::Win)
+        }
     }
 
     fn end_if_no_move(_board: Chase) -> End {
         End::Lose
     }
 
-    #[tactic(auto, unfolding(crate::specs::FoxHounds::can_move, crate::specs::FoxHounds::from_square, crate::specs::FoxHounds::way, crate::specs::FoxHounds::to_square))]
+    #[tactic(auto, unfolding(crate::specs::FoxHounds::can_move, crate::specs::FoxHounds::from_square))]
     fn can_move(board: Chase, number: u32) -> bool {
-        let from = number / 4;
-        let way = number % 4;
-        if !is_on_board(way, from) {
-            return false;
-        }
-        if !is_free(board, beside(way, from)) {
-            return false;
-        }
-        if board.hounds_move {
-            has_square(board.hounds, from) && FORWARDS <= way
-        } else {
-            from == board.fox
-        }
+        let side = board.hounds_move;
+        leads(side, number) && can_go(side, board, number / 4, to_square(number))
     }
 
-    #[tactic(auto, using(crate::specs::laws::ChaseFacts::goes), unfolding(crate::specs::FoxHounds::moved, crate::specs::FoxHounds::from_square, crate::specs::FoxHounds::way, crate::specs::FoxHounds::to_square))]
+    #[tactic(auto, using(crate::specs::laws::ChaseLaws::on_board), unfolding(crate::specs::FoxHounds::moved, crate::specs::FoxHounds::from_square))]
     fn moved(board: Chase, number: u32) -> Chase {
-        let from = number / 4;
-        let to = beside(number % 4, from);
-        if board.hounds_move {
-            Chase {
-                hounds_move: false,
-                hounds: hounds_gone(board.hounds, from, to),
-                fox: board.fox,
-            }
-        } else {
-            Chase {
-                hounds_move: true,
-                hounds: board.hounds,
-                fox: to,
-            }
-        }
+        let side = board.hounds_move;
+        gone(side, board, number / 4, to_square(number))
     }
 
-    #[tactic(auto, unfolding(crate::specs::FoxHounds::can_have_led_here, crate::specs::FoxHounds::from_square, crate::specs::FoxHounds::way, crate::specs::FoxHounds::to_square))]
+    #[tactic(auto, unfolding(crate::specs::FoxHounds::can_have_led_here, crate::specs::FoxHounds::from_square))]
     fn can_have_led_here(_tier: u64, board: Chase, number: u32) -> bool {
-        let from = number / 4;
-        let way = number % 4;
-        if !is_on_board(way, from) {
-            return false;
-        }
-        if !is_free(board, from) {
-            return false;
-        }
-        let to = beside(way, from);
-        if board.hounds_move {
-            to == board.fox
-        } else {
-            has_square(board.hounds, to) && FORWARDS <= way
-        }
+        let side = !board.hounds_move;
+        leads(side, number) && can_go(side, board, to_square(number), number / 4)
     }
 
-    #[tactic(auto, using(crate::specs::laws::ChaseFacts::went), unfolding(crate::specs::FoxHounds::undo, crate::specs::FoxHounds::from_square, crate::specs::FoxHounds::way, crate::specs::FoxHounds::to_square))]
+    #[tactic(auto, using(crate::specs::laws::ChaseLaws::was_on_board), unfolding(crate::specs::FoxHounds::undo, crate::specs::FoxHounds::from_square))]
     fn undo(_tier: u64, board: Chase, number: u32) -> Chase {
-        let from = number / 4;
-        if board.hounds_move {
-            Chase {
-                hounds_move: false,
-                hounds: board.hounds,
-                fox: from,
-            }
-        } else {
-            let to = beside(number % 4, from);
-            Chase {
-                hounds_move: true,
-                hounds: hounds_gone(board.hounds, to, from),
-                fox: board.fox,
-            }
-        }
+        let side = !board.hounds_move;
+        gone(side, board, to_square(number), number / 4)
     }
 
-    #[tactic(auto, using(crate::specs::laws::ChaseFacts::fox_below, crate::specs::laws::Texts::text_in, crate::specs::laws::Texts::text_out, crate::specs::laws::Texts::text_room), unfolding(crate::specs::FoxHounds::board_text, crate::specs::FoxHounds::hound_squares))]
+    #[tactic(auto, using(crate::specs::laws::ChaseFacts::legal_in), unfolding(crate::specs::FoxHounds::board_text, crate::specs::FoxHounds::squares_of))]
     fn board_text(board: Chase) -> Line {
+        let (first, rest) = lowest(board.hounds);
+        let (second, rest) = lowest(rest);
+        let (third, rest) = lowest(rest);
+        let (fourth, _) = lowest(rest);
         let mut line = ArrayVec::new();
-        push_text(
-            &mut line,
-            &[b'f', file_byte(board.fox), row_byte(board.fox)],
-        );
-        for square in 0..32 {
-            if has_square(board.hounds, square) {
-                push_text(
-                    &mut line,
-                    &[b' ', b'h', file_byte(square), row_byte(square)],
-                );
-            }
-        }
-        push_text(&mut line, &[b' ', side_byte(board.hounds_move)]);
+        push_square(&mut line, b"f", dark(board.fox));
+        push_square(&mut line, b" h", dark(first));
+        push_square(&mut line, b" h", dark(second));
+        push_square(&mut line, b" h", dark(third));
+        push_square(&mut line, b" h", dark(fourth));
+        push_text(&mut line, if board.hounds_move { b" h" } else { b" f" });
         line
     }
 
     #[tactic(auto, using(crate::specs::laws::Texts::told_text), unfolding(crate::specs::FoxHounds::told))]
     fn board_in(text: &[u8]) -> Chase {
+        let hounds = toggled(toggled(0, dark_in(text, 17)), dark_in(text, 13));
         Chase {
             hounds_move: byte_at(text, 20) == b'h',
-            hounds: (hound_in(text, 5) | hound_in(text, 9))
-                | (hound_in(text, 13) | hound_in(text, 17)),
-            fox: square_in(text, 1),
+            hounds: toggled(toggled(hounds, dark_in(text, 9)), dark_in(text, 5)),
+            fox: dark_in(text, 1),
         }
     }
 
-    #[tactic(auto, using(crate::specs::laws::ChaseFacts::goes), unfolding(crate::specs::FoxHounds::step_text, crate::specs::FoxHounds::way, crate::specs::FoxHounds::from_square, crate::specs::FoxHounds::to_square))]
+    #[tactic(auto, using(crate::specs::laws::ChaseLaws::on_board), unfolding(crate::specs::FoxHounds::step_text, crate::specs::FoxHounds::from_square))]
     fn move_text(_board: Chase, number: u32) -> Line {
-        let from = number / 4;
-        let to = beside(number % 4, from);
-        let text = [
-            file_byte(from),
-            row_byte(from),
-            b'-',
-            file_byte(to),
-            row_byte(to),
-        ];
         let mut line = ArrayVec::new();
-        push_text(&mut line, &text);
+        push_square(&mut line, b"", dark(number / 4));
+        push_square(&mut line, b"-", dark(to_square(number)));
         line
     }
 
@@ -243,22 +188,7 @@ impl MoveRules for FoxRules {
     ghost readable = { readable };
 }
 
-impl MoveLists for FoxRules {
-    #[tactic(auto, unfolding(gm_pieces::specs::MoveGames::steps))]
-    fn is_stuck(board: Chase) -> bool {
-        open_moves(board).len() == 0
-    }
-
-    #[tactic(auto, unfolding(gm_pieces::specs::MoveGames::steps))]
-    fn open_moves(board: Chase) -> ArrayVec<u32, MOVES> {
-        open_moves(board)
-    }
-
-    #[tactic(auto, unfolding(gm_pieces::specs::MoveGames::befores))]
-    fn fill_parents(tier: u64, board: Chase, list: &mut ArrayVec<u64, PARENTS>) {
-        fill_parents(tier, board, list);
-    }
-}
+impl MoveLists for FoxRules {}
 
 /// The rules and texts of Fox and Hounds are those that `specs/` states.
 pub fn foxhounds_is()

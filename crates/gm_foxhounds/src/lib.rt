@@ -3,6 +3,4 @@
 
 pub mod chase;
 pub mod foxhounds;
-pub mod lists;
 pub mod squares;
-pub mod text;

@@ -1,20 +1,7 @@
 -- A pass is full exactly if it has delivered all pairs of the level.
 use Rattle.std.proofs.Common.{◌≡◌, ℕ, ◌+◌, ◌↔◌, inl, inr, length, List, sym, subst, arith, Some, Option, IsTrue, ◌==◌}
-use Rattle.std.proofs.lemmas.Bool.Decides.{Decides-eqb}
-use Rattle.gm_game.specs.declared.position.Phase.{Phase}
-use Rattle.gm_game.specs.declared.position.Phase.TheVariants.{Ties}
-use Rattle.gm_game.specs.declared.position.Place.{Place}
-use Rattle.gm_game.specs.Rules.{Rules}
-use Rattle.gm_game.specs.Laws.{IsGame}
-use Rattle.gm_game.specs.Numbers.{AreThere}
-use Rattle.gm_game.proofs.Counts.{no_longer}
-use Rattle.gm_frontier.specs.Notes.{NoteData}
-use Rattle.gm_frontier.specs.Levels.{IsLevel}
-use Rattle.gm_frontier.specs.Counts.{ExpectedData, IsExpected, IsNumberBefore, Follows}
-use Rattle.gm_frontier.proofs.Distinct.{no_repeats_from}
-use Rattle.gm_frontier.proofs.CountLemmas.{level_added, ties_begin}
-use Rattle.gm_locks.specs.Spots.{Spot}
-use Rattle.gm_locks.specs.Rounds.{pairs_into, place_of_spot, IsForSpot}
+use Rattle.gm_locks.proofs.Lower.{Decides-eqb, Phase, Ties, Place, Rules, IsGame, AreThere, no_longer, NoteData, IsLevel, ExpectedData, IsExpected}
+use Rattle.gm_locks.proofs.Lower.{IsNumberBefore, Follows, no_repeats_from, level_added, ties_begin, Spot, pairs_into, place_of_spot, IsForSpot}
 
 -- there is one number of things of a kind
 pub there_once : {A : Type 0} (Is : A → Type 0) (m n : ℕ) → AreThere m Is → AreThere n Is → m ≡ n

@@ -1,56 +1,52 @@
 -- What a delivery answers by where the shard stands, and by how much it raises the number of pairs.
-use Rattle.std.proofs.Common.{◌≡◌, ℕ, ◌+◌, ◌-◌, ◌≤◌, [], length, refl, ap, subst, ◌∙◌, arith, Result, Ok, Err}
-use Rattle.std.specs.List.{Contains}
-use Rattle.std.proofs.lemmas.List.Sums.{sum_by-set}
-use Rattle.gm_game.specs.declared.limits.TheConstants.{REMOTENESS}
-use Rattle.gm_game.specs.declared.position.Position.{Position}
-use Rattle.gm_game.specs.Rules.{Rules}
-use Rattle.gm_game.specs.Children.{with_position}
-use Rattle.gm_game.proofs.SetLemmas.{length_with}
-use Rattle.gm_frontier.specs.Notes.{NoteData}
-use Rattle.gm_deliveries.specs.declared.status.Delivery.{Delivery}
-use Rattle.gm_deliveries.specs.declared.status.Delivery.TheVariants.{Fresh, FreshSettled, Repeat}
-use Rattle.gm_deliveries.specs.declared.status.Refused.{Refused}
-use Rattle.gm_deliveries.specs.declared.status.Refused.TheVariants.{NotThisLevel, NotMine, NotAParent, TooFar}
-use Rattle.gm_deliveries.specs.State.{ShardState, IsInRange, delivered_to, with_pair, pairs_in}
-use Rattle.gm_deliveries.specs.Delivery.{IsPairHere, Delivers}
-use Rattle.gm_locks.specs.Parts.{Part}
-use Rattle.gm_locks.specs.Spots.{IsSameSpot, Spot, spot_of, gain, IsAnswer}
-use Rattle.gm_locks.proofs.Kept.{spot_kept}
+use Rattle.std.proofs.Common.{◌≡◌, ℕ, ◌+◌, ◌≤◌, ◌⊎◌, inl, inr, List, sym, refl, ap, subst, ◌∙◌, arith, Result, Ok, Err}
+use Rattle.gm_locks.proofs.Lower.{Contains, REMOTENESS, Position, Rules, has_new, has_old, with_cases, NoteData, Delivery, Fresh, FreshSettled, Repeat, Refused}
+use Rattle.gm_locks.proofs.Lower.{NotThisLevel, NotMine, NotAParent, TooFar, ShardState, IsInRange, delivered_to, with_pair, pairs_in, IsPairHere, Delivers}
+use Rattle.gm_locks.proofs.Lower.{IsAdded, Part, Spot, spot_of, gain, IsAnswer, count_same, same_here, cases_at, pairs_more, outcome}
 
--- one pair more
-new_pair : (s : ShardState) (c : Position) (parent : ℕ) → IsInRange s parent → (Contains (delivered_to s parent) c → ⊥)
-    → pairs_in (with_pair s c parent) ≡ pairs_in s + 1
-new_pair s c parent m new =
-    let e = sum_by-set (length {A = Position}) s.delivered (parent - s.lo) (with_position c (delivered_to s parent)) [] (omega arith) in
-    let l = length_with c (delivered_to s parent) new in
-    omega arith
+-- with a pair more, what was delivered stays so
+pub stays_delivered : (s : ShardState) (c : Position) (parent : ℕ) → IsInRange s parent → (index : ℕ) (d : Position) → IsInRange s index
+    → Contains (delivered_to s index) d → Contains (delivered_to (with_pair s c parent) index) d
+stays_delivered s c parent m index d n h = cases_at s c parent m (λ (ds : List Position). Contains ds d) index n
+    (λ e. has_old c d (delivered_to s parent) (subst (λ (i : ℕ). Contains (delivered_to s i) d) e h)) (λ _. h)
 
-none_more : (s t : ShardState) → t ≡ s → pairs_in t ≡ pairs_in s + 0
-none_more s t e = let same = ap pairs_in e in omega arith
+pub new_delivered : (s : ShardState) (c : Position) (parent : ℕ) → IsInRange s parent → Contains (delivered_to (with_pair s c parent) parent) c
+new_delivered s c parent m = subst (λ (ds : List Position). Contains ds c) (sym (same_here s c parent m)) (has_new c (delivered_to s parent))
 
-one_more : (s t : ShardState) (c : Position) (parent : ℕ) → t ≡ with_pair s c parent → IsInRange s parent → (Contains (delivered_to s parent) c → ⊥)
-    → pairs_in t ≡ pairs_in s + 1
-one_more s t c parent e m new = ap pairs_in e ∙ new_pair s c parent m new
+-- and nothing else is delivered
+pub with_has : (s : ShardState) (c : Position) (parent : ℕ) → IsInRange s parent → (index : ℕ) (d : Position) → IsInRange s index
+    → Contains (delivered_to (with_pair s c parent) index) d
+    → Contains (delivered_to s index) d ⊎ ((index ≡ parent) × (c ≡ d))
+with_has s c parent m index d n =
+    cases_at s c parent m (λ (ds : List Position). Contains ds d → Contains (delivered_to s index) d ⊎ ((index ≡ parent) × (c ≡ d))) index n
+    (λ e h. elim (with_cases c d (delivered_to s parent) h) [
+      | inl q ↦ inr (e, q)
+      | inr k ↦ inl (subst (λ (i : ℕ). Contains (delivered_to s i) d) (sym e) k)
+    ]) (λ _ h. inl h)
 
--- the number of pairs rises by the gain
-pub gained : (r : Rules) (note : NoteData) (parent : ℕ) (s t : ShardState) (answer : Result Delivery Refused) → Delivers r note parent s t answer
-    → pairs_in t ≡ pairs_in s + gain answer
-gained r note parent s t (Err NotThisLevel) h = none_more s t h.0
-gained r note parent s t (Err NotMine) h = none_more s t h.0
-gained r note parent s t (Err NotAParent) h = none_more s t h.0
-gained r note parent s t (Err TooFar) h = none_more s t h.0
-gained r note parent s t (Ok Repeat) h = none_more s t h.0
-gained r note parent s t (Ok Fresh) h = one_more s t note.position parent h.0 h.1.is_mine h.2
-gained r note parent s t (Ok FreshSettled) h = one_more s t note.position parent h.0 h.1.is_mine h.2
-
--- the shard stays where it stands
-same_spot : (s t : ShardState) → IsSameSpot s t → spot_of t ≡ spot_of s
-same_spot s t e = let a = e.tier in let b = e.lo in let c = e.size in let d = e.phase in let f = e.level in cc
-
+-- a delivery keeps the shard's tier, range and place
 pub stays : (r : Rules) (note : NoteData) (parent : ℕ) (s t : ShardState) (answer : Result Delivery Refused) → Delivers r note parent s t answer
     → spot_of t ≡ spot_of s
-stays r note parent s t answer h = same_spot s t (spot_kept r note parent s t answer h)
+stays r note parent s t answer d = elim (outcome r note parent s t answer d) [
+  | inl (_, is, here, _) ↦ ap spot_of is ∙ ap (λ (n : ℕ).
+      let x : Spot = record { tier = s.tier; lo = s.lo; hi = s.lo + n; phase = s.phase; level = s.level } in x)
+      (count_same s note.position parent here.is_mine)
+  | inr (_, is) ↦ ap spot_of is
+]
+
+-- the number of pairs rises by the gain: one for a pair that is added
+pub gain_is : (answer : Result Delivery Refused) → (IsAdded answer → gain answer ≡ 1) × ((IsAdded answer → ⊥) → gain answer ≡ 0)
+gain_is (Err e) = (λ a. absurd a, λ n. refl)
+gain_is (Ok Fresh) = (λ a. refl, λ n. absurd (n tt))
+gain_is (Ok FreshSettled) = (λ a. refl, λ n. absurd (n tt))
+gain_is (Ok Repeat) = (λ a. absurd a, λ n. refl)
+
+pub gained : (r : Rules) (note : NoteData) (parent : ℕ) (s t : ShardState) (answer : Result Delivery Refused) → Delivers r note parent s t answer
+    → pairs_in t ≡ pairs_in s + gain answer
+gained r note parent s t answer d = elim (outcome r note parent s t answer d) [
+  | inl (a, is, here, new) ↦ ap pairs_in is ∙ pairs_more s note.position parent here.is_mine new ∙ ap (λ (n : ℕ). pairs_in s + n) (sym ((gain_is answer).0 a))
+  | inr (n, is) ↦ (let same = ap pairs_in is in let none = (gain_is answer).1 n in omega arith)
+]
 
 -- a pair that passes the first three tests is refused by none of them
 passed : (r : Rules) (s : ShardState) (note : NoteData) (parent : ℕ) (answer : Result Delivery Refused) → IsPairHere r s note parent

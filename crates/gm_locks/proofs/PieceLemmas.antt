@@ -1,38 +1,15 @@
 -- A shard to which the pieces of a level are delivered, each pair once.
 use Rattle.std.proofs.Common.{◌≡◌, ℕ, zero, suc, ◌+◌, ◌-◌, ◌<◌, ◌≤◌, ◌==◌, max, inl, inr, Bool, true, false, List, [], ◌∷◌, ◌++◌, length, take, drop, replicate}
 use Rattle.std.proofs.Common.{get_or, set, slice_get, refl, sym, ap, subst, ◌∙◌, arith, Some, Result, Ok, Err, get_or-set_same, get_or-set_other, length-set}
-use Rattle.std.specs.List.{Contains}
-use Rattle.std.specs.Int.{div_ceil}
-use Rattle.std.specs.Result.{IsOk, is_err}
-use Rattle.std.proofs.lemmas.Bool.{cases_eq}
-use Rattle.std.proofs.lemmas.Bool.Decides.{Decides-eqb}
-use Rattle.std.proofs.lemmas.List.{length-take-le, length-drop, length-replicate, take_more, get_or-drop}
-use Rattle.std.proofs.lemmas.Option.{slice_get-get_or, slice_get_within, get_or_from_slice_get}
-use Rattle.gm_game.specs.declared.position.Position.{Position}
-use Rattle.gm_game.specs.Rules.{Rules, IsParent}
-use Rattle.gm_game.specs.Laws.{IsGame}
-use Rattle.gm_game.proofs.Lists.{map_in}
-use Rattle.gm_frontier.specs.Notes.{NoteData}
-use Rattle.gm_frontier.specs.Levels.{IsLevel}
-use Rattle.gm_frontier.specs.Pairs.{piece_of}
-use Rattle.gm_frontier.proofs.Distinct.{same_image, no_repeats_before}
-use Rattle.gm_frontier.proofs.PairLemmas.{in_pairs, in_piece, pairs_have, positions_once, near_of_pair, contains_taken}
-use Rattle.gm_frontier.proofs.CoverLemmas.{one_piece, in_some_piece}
-use Rattle.gm_deliveries.specs.declared.status.Delivery.{Delivery}
-use Rattle.gm_deliveries.specs.declared.status.Delivery.TheVariants.{Fresh, FreshSettled, Repeat}
-use Rattle.gm_deliveries.specs.declared.status.Refused.{Refused}
-use Rattle.gm_deliveries.specs.declared.status.Refused.TheVariants.{NotThisLevel, NotMine, NotAParent, TooFar}
-use Rattle.gm_deliveries.specs.State.{ShardState, IsInRange, delivered_to, with_pair, pairs_in}
-use Rattle.gm_deliveries.specs.Good.{IsGood}
-use Rattle.gm_deliveries.specs.Delivery.{IsPairHere, Delivers, IsAdded}
-use Rattle.gm_deliveries.specs.Steps.{IsWhole, place_of}
-use Rattle.gm_locks.specs.Spots.{Spot, spot_of, gain, IsDeliverable}
-use Rattle.gm_locks.specs.Rounds.{pairs_into, place_of_spot, AreFirst, HasNoneHere}
-use Rattle.gm_locks.specs.Pieces.{PiecedData, piece_pairs, IsPieced, AreNew, IsTurn, IsTurnAt, IsRefusedAt}
-use Rattle.gm_locks.proofs.Places.{split_level}
-use Rattle.gm_locks.proofs.Kept.{stays_delivered}
-use Rattle.gm_locks.proofs.Gains.{gained, stays}
-use Rattle.gm_locks.proofs.RoundLemmas.{AreHere, item_in, with_has, next_here, first_none, first_more, of_piece}
+use Rattle.gm_locks.proofs.Lower.{Contains, div_ceil, IsOk, is_err, cases_eq, Decides-eqb, length-take-le, length-drop, length-replicate, take_more}
+use Rattle.gm_locks.proofs.Lower.{get_or-drop, slice_get-get_or, slice_get_within, get_or_from_slice_get, Position, Rules, IsParent, IsGame, map_in, NoteData}
+use Rattle.gm_locks.proofs.Lower.{IsLevel, piece_of, same_image, no_repeats_before, in_pairs, in_piece, pairs_have, positions_once, near_of_pair}
+use Rattle.gm_locks.proofs.Lower.{contains_taken, one_piece, in_some_piece, Delivery, Fresh, FreshSettled, Repeat, Refused, NotThisLevel, NotMine, NotAParent}
+use Rattle.gm_locks.proofs.Lower.{TooFar, ShardState, IsInRange, delivered_to, with_pair, pairs_in, IsGood, IsPairHere, Delivers, IsAdded, IsWhole, place_of}
+use Rattle.gm_locks.proofs.Lower.{Spot, spot_of, IsDeliverable, pairs_into, place_of_spot, AreFirst, HasNoneHere, PiecedData, piece_pairs, IsPieced, AreNew}
+use Rattle.gm_locks.proofs.Lower.{IsTurn, IsTurnAt, IsRefusedAt, stands_now}
+use Rattle.gm_locks.proofs.Gains.{gained, gain_is, stays, stays_delivered, with_has}
+use Rattle.gm_locks.proofs.RoundLemmas.{AreHere, item_in, next_here, first_none, first_more, of_piece}
 
 dropped_in : {X : Type 0} (n : ℕ) (xs : List X) (x : X) → Contains (drop n xs) x → Contains xs x
 dropped_in n xs x (k, l, e) = let long = length-drop n xs in (n + k, omega arith, sym (get_or-drop n xs k x) ∙ e)
@@ -44,12 +21,6 @@ added_is r x s t (Err e) d a = absurd a
 added_is r x s t (Ok Fresh) d a = (d.0, d.1)
 added_is r x s t (Ok FreshSettled) d a = (d.0, d.1)
 added_is r x s t (Ok Repeat) d a = absurd a
-
-added_gain : (answer : Result Delivery Refused) → IsAdded answer → gain answer ≡ 1
-added_gain (Err e) a = absurd a
-added_gain (Ok Fresh) a = refl
-added_gain (Ok FreshSettled) a = refl
-added_gain (Ok Repeat) a = absurd a
 
 -- what is not refused, and was not there, is added
 pub ok_added : (r : Rules) (x : NoteData × ℕ) (s t : ShardState) (answer : Delivery) → (Contains (delivered_to s x.1) x.0.position → ⊥)
@@ -70,7 +41,7 @@ run_count r [] s t run = (let same = ap pairs_in run in omega arith)
 run_count r (x ∷ xs) s t run =
     let rest = run_count r xs run.0 t run.4 in
     let first = gained r x.0 x.1 s run.0 run.1 run.2 in
-    let one = added_gain run.1 run.3 in
+    let one = (gain_is run.1).0 run.3 in
     omega arith
 
 pub run_spot : (r : Rules) (xs : List (NoteData × ℕ)) (s t : ShardState) → AreNew r xs s t → spot_of t ≡ spot_of s
@@ -123,56 +94,42 @@ module _ (r : Rules) (g : IsGame r) (spot : Spot) (notes : List NoteData) (here 
 
 -- the next pair of a piece is for the shard and new, and is delivered, or too far
 module _ (r : Rules) (g : IsGame r) (spot : Spot) (notes : List NoteData) (level : IsLevel r (place_of_spot spot) notes) (size piece : ℕ)
-    (pairs : List (NoteData × ℕ)) (are : pairs ≡ piece_pairs r spot notes size piece) where
-  pub piece_next : (s : ShardState) (k : ℕ) (x : NoteData × ℕ) → spot_of s ≡ spot → slice_get pairs k ≡ Some x → AreFirst pairs s k
-      → IsDeliverable r s x × (Contains (delivered_to s x.1) x.0.position → ⊥)
-  piece_next s k x at e first = (
-    next_here r g spot (piece_of piece size notes) (of_piece r g spot notes level piece size) s at k x
-        (subst (λ (ps : List (NoteData × ℕ)). slice_get ps k ≡ Some x) are e),
+    (pairs : List (NoteData × ℕ)) (are : pairs ≡ piece_pairs r spot notes size piece) (s : ShardState) (k : ℕ) (x : NoteData × ℕ) (at : spot_of s ≡ spot)
+    (e : slice_get pairs k ≡ Some x) (first : AreFirst pairs s k) where
+  there : slice_get (piece_pairs r spot notes size piece) k ≡ Some x
+  there = subst (λ (ps : List (NoteData × ℕ)). slice_get ps k ≡ Some x) are e
+
+  pub piece_next : IsDeliverable r s x × (Contains (delivered_to s x.1) x.0.position → ⊥)
+  piece_next = (
+    next_here r g spot (piece_of piece size notes) (of_piece r g spot notes level piece size) s at k x there,
     (λ h. (let l = (first.each k x e).0 h in omega arith)),
   )
 
-  pub piece_more : (s t : ShardState) (k : ℕ) (x : NoteData × ℕ) (answer : Delivery) → spot_of s ≡ spot → slice_get pairs k ≡ Some x → AreFirst pairs s k
-      → Delivers r x.0 x.1 s t (Ok answer) → AreFirst pairs t (k + 1)
-  piece_more s t k x answer at e first d =
-      let next = piece_next s k x at e first in
-      let is = added_is r x s t (Ok answer) d (ok_added r x s t answer next.1 d) in
-      let here = of_piece r g spot notes level piece size in
-      let P : List (NoteData × ℕ) → ShardState → Type 0 = λ ps u. AreFirst ps u (k + 1) in
-      subst (λ (ps : List (NoteData × ℕ)). P ps t) (sym are)
-      (subst (λ (u : ShardState). P (piece_pairs r spot notes size piece) u) (sym is.0)
-      (first_more r g spot (piece_of piece size notes) here s k x at (subst (λ (ps : List (NoteData × ℕ)). slice_get ps k ≡ Some x) are e) is.1.is_mine
+  piece_more : (t : ShardState) (answer : Delivery) → Delivers r x.0 x.1 s t (Ok answer) → AreFirst pairs t (k + 1)
+  piece_more t answer d =
+      let is = added_is r x s t (Ok answer) d (ok_added r x s t answer piece_next.1 d) in
+      subst (λ (ps : List (NoteData × ℕ)). AreFirst ps t (k + 1)) (sym are)
+      (subst (λ (u : ShardState). AreFirst (piece_pairs r spot notes size piece) u (k + 1)) (sym is.0)
+      (first_more r g spot (piece_of piece size notes) (of_piece r g spot notes level piece size) s k x at there is.1.is_mine
       (subst (λ (ps : List (NoteData × ℕ)). AreFirst ps s k) are first)))
 
-  pub piece_refused : (s t : ShardState) (k : ℕ) (x : NoteData × ℕ) (refused : Refused) → spot_of s ≡ spot → slice_get pairs k ≡ Some x → AreFirst pairs s k
-      → IsGood r t → Delivers r x.0 x.1 s t (Err refused) → (t ≡ s) × IsRefusedAt r spot
-  piece_refused s t k x NotThisLevel at e first good d = absurd (d.1 (piece_next s k x at e first).0.here.is_level)
-  piece_refused s t k x NotMine at e first good d = absurd (d.2 (piece_next s k x at e first).0.here.is_mine)
-  piece_refused s t k x NotAParent at e first good d = absurd (d.3 (piece_next s k x at e first).0.here.is_parent)
-  piece_refused s t k x TooFar at e first good d = (
-    d.0,
-    record {
-      state = s;
-      good = subst (IsGood r) d.0 good;
-      spot = at;
-      pair = x;
-      here = (piece_next s k x at e first).0;
-      event = (refl, d.1, d.2, d.3, d.4);
-    },
-  )
+  piece_refused : (t : ShardState) (refused : Refused) → IsGood r t → Delivers r x.0 x.1 s t (Err refused) → IsRefusedAt r spot
+  piece_refused t NotThisLevel good d = absurd (d.1 piece_next.0.here.is_level)
+  piece_refused t NotMine good d = absurd (d.2 piece_next.0.here.is_mine)
+  piece_refused t NotAParent good d = absurd (d.3 piece_next.0.here.is_parent)
+  piece_refused t TooFar good d =
+      record { state = s; good = subst (IsGood r) d.0 good; spot = at; pair = x; here = piece_next.0; event = (refl, d.1, d.2, d.3, d.4) }
 
   -- by what the delivery answers
-  pub piece_taken : (s t : ShardState) (k : ℕ) (x : NoteData × ℕ) (answer : Result Delivery Refused) → spot_of s ≡ spot → slice_get pairs k ≡ Some x
-      → AreFirst pairs s k → is_err answer ≡ false → Delivers r x.0 x.1 s t answer
+  pub piece_taken : (t : ShardState) (answer : Result Delivery Refused) → is_err answer ≡ false → Delivers r x.0 x.1 s t answer
       → AreFirst pairs t (k + 1) × IsAdded answer
-  piece_taken s t k x (Ok a) at e first off d = (piece_more s t k x a at e first d, ok_added r x s t a (piece_next s k x at e first).1 d)
-  piece_taken s t k x (Err refused) at e first off d = absurd (cc)
+  piece_taken t (Ok a) off d = (piece_more t a d, ok_added r x s t a piece_next.1 d)
+  piece_taken t (Err refused) off d = absurd (cc)
 
-  pub piece_left : (s t : ShardState) (k : ℕ) (x : NoteData × ℕ) (answer : Result Delivery Refused) → spot_of s ≡ spot → slice_get pairs k ≡ Some x
-      → AreFirst pairs s k → is_err answer ≡ true → IsGood r t → Delivers r x.0 x.1 s t answer
-      → (t ≡ s) × IsRefusedAt r spot
-  piece_left s t k x (Ok a) at e first on good d = absurd (cc)
-  piece_left s t k x (Err refused) at e first on good d = piece_refused s t k x refused at e first good d
+  pub piece_left : (t : ShardState) (answer : Result Delivery Refused) → is_err answer ≡ true → IsGood r t → Delivers r x.0 x.1 s t answer
+      → IsRefusedAt r spot
+  piece_left t (Ok a) on good d = absurd (cc)
+  piece_left t (Err refused) on good d = piece_refused t refused good d
 
 -- two pieces of a level have no common child
 module _ (r : Rules) (g : IsGame r) (spot : Spot) (notes : List NoteData) (level : IsLevel r (place_of_spot spot) notes) (size : ℕ) where
@@ -203,32 +160,23 @@ module _ (r : Rules) (g : IsGame r) (spot : Spot) (notes : List NoteData) (level
         some = h.some;
         many = ap length turn.counts ∙ length-set d.counts piece (count + n) ∙ h.many;
         bits = ap length turn.whole ∙ length-set d.whole piece (count + n == length pairs) ∙ h.bits;
-        first = λ q. elim (cases_eq q piece) [
-          | inl is ↦ (let now : get_or e.counts q 0 ≡ count + n = ap (λ (ns : List ℕ). get_or ns q 0) turn.counts
-              ∙ ap (λ (k : ℕ). get_or (set d.counts piece (count + n)) k 0) is ∙ get_or-set_same d.counts piece (count + n) 0 within in
-              subst (λ (k : ℕ). AreFirst (piece_pairs r spot notes size q) e.shard k) (sym now)
-              (subst (λ (k : ℕ). AreFirst (piece_pairs r spot notes size k) e.shard (count + n)) (sym is) here))
-          | inr other ↦ (let now : get_or e.counts q 0 ≡ get_or d.counts q 0 = ap (λ (ns : List ℕ). get_or ns q 0) turn.counts
-              ∙ get_or-set_other d.counts piece q (count + n) 0 other in
-              subst (λ (k : ℕ). AreFirst (piece_pairs r spot notes size q) e.shard k) (sym now)
+        first = λ q. subst (λ (ns : List ℕ). AreFirst (piece_pairs r spot notes size q) e.shard (get_or ns q 0)) (sym turn.counts) (elim (cases_eq q piece) [
+          | inl is ↦ subst (λ (k : ℕ). AreFirst (piece_pairs r spot notes size k) e.shard (get_or (set d.counts piece (count + n)) k 0)) (sym is)
+              (subst (AreFirst pairs e.shard) (sym (get_or-set_same d.counts piece (count + n) 0 within)) here)
+          | inr other ↦ subst (AreFirst (piece_pairs r spot notes size q) e.shard) (sym (get_or-set_other d.counts piece q (count + n) 0 other))
               (run_other r g spot (piece_of q size notes) (of_piece r g spot notes level q size) (take n (drop count pairs)) d.shard e.shard
               (get_or d.counts q 0) h.spot
-              (λ x c y b child. pieces_apart piece q (λ s. other (sym s)) x y (from x c) b child) run (h.first q)))
-        ];
-        all = λ q yes. elim (cases_eq q piece) [
-          | inl is ↦ (let now : get_or e.counts q 0 ≡ count + n = ap (λ (ns : List ℕ). get_or ns q 0) turn.counts
-              ∙ ap (λ (k : ℕ). get_or (set d.counts piece (count + n)) k 0) is ∙ get_or-set_same d.counts piece (count + n) 0 within in
-              let bit : get_or e.whole q false ≡ (count + n == length pairs) = ap (λ (bs : List Bool). get_or bs q false) turn.whole
-              ∙ ap (λ (k : ℕ). get_or (set d.whole piece (count + n == length pairs)) k false) is
-              ∙ get_or-set_same d.whole piece (count + n == length pairs) false in_bits in
-              let full = (Decides-eqb (count + n) (length pairs)).0 (sym bit ∙ yes) in
-              now ∙ full ∙ ap (λ (k : ℕ). length (piece_pairs r spot notes size k)) (sym is))
-          | inr other ↦ (let now : get_or e.counts q 0 ≡ get_or d.counts q 0 = ap (λ (ns : List ℕ). get_or ns q 0) turn.counts
-              ∙ get_or-set_other d.counts piece q (count + n) 0 other in
-              let bit : get_or e.whole q false ≡ get_or d.whole q false =
-              ap (λ (bs : List Bool). get_or bs q false) turn.whole ∙ get_or-set_other d.whole piece q (count + n == length pairs) false other in
-              now ∙ h.all q (sym bit ∙ yes))
-        ];
+              (λ x c y b child. pieces_apart piece q (λ s. other (sym s)) x y (from x c) b child) run (h.first q))
+        ]);
+        all = λ q yes. (let bit = subst (λ (bs : List Bool). get_or bs q false ≡ true) turn.whole yes in
+            subst (λ (ns : List ℕ). get_or ns q 0 ≡ length (piece_pairs r spot notes size q)) (sym turn.counts) (elim (cases_eq q piece) [
+              | inl is ↦ (let set_bit = subst (λ (k : ℕ). get_or (set d.whole piece (count + n == length pairs)) k false ≡ true) is bit in
+                  subst (λ (k : ℕ). get_or (set d.counts piece (count + n)) k 0 ≡ length (piece_pairs r spot notes size k)) (sym is)
+                  (get_or-set_same d.counts piece (count + n) 0 within ∙ (Decides-eqb (count + n) (length pairs)).0
+                  (sym (get_or-set_same d.whole piece (count + n == length pairs) false in_bits) ∙ set_bit)))
+              | inr other ↦ get_or-set_other d.counts piece q (count + n) 0 other
+                  ∙ h.all q (sym (get_or-set_other d.whole piece q (count + n == length pairs) false other) ∙ bit)
+            ]));
         number = (let more = run_count r (take n (drop count pairs)) d.shard e.shard run in
             let left = length-drop count pairs in
             let most = here.within in
@@ -320,7 +268,7 @@ begun_pieced r g spot notes size base n d level some pieces at none zeros clear 
 pub whole_all : (r : Rules) → IsGame r → (t : ShardState) (notes : List NoteData) → IsLevel r (place_of t) notes → IsGood r t
     → ((n : NoteData) (i : ℕ) → Contains notes n → Contains (r.parents n.position t.tier) i → t.lo ≤ i → i < t.lo + length t.delivered
     → Contains (delivered_to t i) n.position) → IsWhole r t
-whole_all r g t notes level good all i c mine parent before = elim (split_level r t.phase t.level c before) [
+whole_all r g t notes level good all i c mine parent before = elim (stands_now r t.phase t.level c before) [
   | inl earlier ↦ good.whole i c mine parent earlier
   | inr stands ↦ (let near = near_of_pair r g t.tier i c parent in
       let (note, among, e) = map_in (λ (x : NoteData). x.position) notes c ((level.each c).0 (near.0, near.1, stands)) in

@@ -1,27 +1,29 @@
 -- The parts and amounts of shares, and the amounts of four after that of one of them has risen.
 use Rattle.std.proofs.Common.{◌≡◌, ℕ, ◌+◌, ◌-◌, ◌<◌, ◌≤◌, min, ap, sym, subst, ◌∙◌, arith}
-use Rattle.gm_locks.specs.Parts.{Part}
-use Rattle.gm_locks.specs.Amounts.{Amounts, raised}
+use Rattle.gm_locks.proofs.Lower.{Part, Amounts, raised}
 
-pub raised_a : (s : Amounts) (k n x : ℕ) → k ≡ 0 → x ≡ s.a + n → record { parts = s.parts; a = x; b = s.b; c = s.c; d = s.d } ≡ raised s k n
-raised_a s k n x e up =
-    subst (λ (j : ℕ). record { parts = s.parts; a = x; b = s.b; c = s.c; d = s.d } ≡ raised s j n) (sym e)
-    (let b : s.b ≡ s.b + 0 = omega arith in let c : s.c ≡ s.c + 0 = omega arith in let d : s.d ≡ s.d + 0 = omega arith in cc)
+abbrev amounts : ℕ → ℕ → ℕ → ℕ → ℕ → Amounts
+amounts p a b c d = record { parts = p; a = a; b = b; c = c; d = d }
 
-pub raised_b : (s : Amounts) (k n x : ℕ) → k ≡ 1 → x ≡ s.b + n → record { parts = s.parts; a = s.a; b = x; c = s.c; d = s.d } ≡ raised s k n
-raised_b s k n x e up =
-    subst (λ (j : ℕ). record { parts = s.parts; a = s.a; b = x; c = s.c; d = s.d } ≡ raised s j n) (sym e)
-    (let a : s.a ≡ s.a + 0 = omega arith in let c : s.c ≡ s.c + 0 = omega arith in let d : s.d ≡ s.d + 0 = omega arith in cc)
+pub raised_a : (n : ℕ) {p a b c d k x : ℕ} {s : Amounts} → amounts p a b c d ≡ s → k ≡ 0 → x ≡ a + n → amounts p x b c d ≡ raised s k n
+raised_a n {p} {a} {b} {c} {d} {k} {x} view e up =
+    subst (λ (u : Amounts). amounts p x b c d ≡ raised u k n) view (subst (λ (j : ℕ). amounts p x b c d ≡ raised (amounts p a b c d) j n) (sym e)
+    (let same_b : b ≡ b + 0 = omega arith in let same_c : c ≡ c + 0 = omega arith in let same_d : d ≡ d + 0 = omega arith in cc))
 
-pub raised_c : (s : Amounts) (k n x : ℕ) → k ≡ 2 → x ≡ s.c + n → record { parts = s.parts; a = s.a; b = s.b; c = x; d = s.d } ≡ raised s k n
-raised_c s k n x e up =
-    subst (λ (j : ℕ). record { parts = s.parts; a = s.a; b = s.b; c = x; d = s.d } ≡ raised s j n) (sym e)
-    (let a : s.a ≡ s.a + 0 = omega arith in let b : s.b ≡ s.b + 0 = omega arith in let d : s.d ≡ s.d + 0 = omega arith in cc)
+pub raised_b : (n : ℕ) {p a b c d k x : ℕ} {s : Amounts} → amounts p a b c d ≡ s → k ≡ 1 → x ≡ b + n → amounts p a x c d ≡ raised s k n
+raised_b n {p} {a} {b} {c} {d} {k} {x} view e up =
+    subst (λ (u : Amounts). amounts p a x c d ≡ raised u k n) view (subst (λ (j : ℕ). amounts p a x c d ≡ raised (amounts p a b c d) j n) (sym e)
+    (let same_a : a ≡ a + 0 = omega arith in let same_c : c ≡ c + 0 = omega arith in let same_d : d ≡ d + 0 = omega arith in cc))
 
-pub raised_d : (s : Amounts) (k n x : ℕ) → k ≡ 3 → x ≡ s.d + n → record { parts = s.parts; a = s.a; b = s.b; c = s.c; d = x } ≡ raised s k n
-raised_d s k n x e up =
-    subst (λ (j : ℕ). record { parts = s.parts; a = s.a; b = s.b; c = s.c; d = x } ≡ raised s j n) (sym e)
-    (let a : s.a ≡ s.a + 0 = omega arith in let b : s.b ≡ s.b + 0 = omega arith in let c : s.c ≡ s.c + 0 = omega arith in cc)
+pub raised_c : (n : ℕ) {p a b c d k x : ℕ} {s : Amounts} → amounts p a b c d ≡ s → k ≡ 2 → x ≡ c + n → amounts p a b x d ≡ raised s k n
+raised_c n {p} {a} {b} {c} {d} {k} {x} view e up =
+    subst (λ (u : Amounts). amounts p a b x d ≡ raised u k n) view (subst (λ (j : ℕ). amounts p a b x d ≡ raised (amounts p a b c d) j n) (sym e)
+    (let same_a : a ≡ a + 0 = omega arith in let same_b : b ≡ b + 0 = omega arith in let same_d : d ≡ d + 0 = omega arith in cc))
+
+pub raised_d : (n : ℕ) {p a b c d k x : ℕ} {s : Amounts} → amounts p a b c d ≡ s → k ≡ 3 → x ≡ d + n → amounts p a b c x ≡ raised s k n
+raised_d n {p} {a} {b} {c} {d} {k} {x} view e up =
+    subst (λ (u : Amounts). amounts p a b c x ≡ raised u k n) view (subst (λ (j : ℕ). amounts p a b c x ≡ raised (amounts p a b c d) j n) (sym e)
+    (let same_a : a ≡ a + 0 = omega arith in let same_b : b ≡ b + 0 = omega arith in let same_c : c ≡ c + 0 = omega arith in cc))
 
 -- the same amounts
 pub same_amounts : (p : ℕ) {a b c d x y z w : ℕ} → a ≡ x → b ≡ y → c ≡ z → d ≡ w

@@ -1,42 +1,13 @@
 -- A shard to which the pairs of a level are delivered in their order.
-use Rattle.std.proofs.Common.{◌≡◌, ℕ, zero, suc, ◌+◌, ◌-◌, ◌<◌, ◌⊎◌, inl, inr, List, [], ◌∷◌, length, slice_get, refl, sym, ap, ap₂, subst, ◌∙◌, arith, Some}
-use Rattle.std.proofs.Common.{Result, Ok, Err, get_or-set_same, get_or-set_other, Option, None, option_map}
-use Rattle.std.specs.List.{Contains}
-use Rattle.std.specs.Iterator.{SkipsThenYields, YieldsFirst}
-use Rattle.std.proofs.lemmas.Iterator.Consumers.{nth_from_yields_List, YieldsList-from_first}
-use Rattle.std.proofs.lemmas.Bool.{cases_eq, cases_lt}
-use Rattle.std.proofs.lemmas.Option.{slice_get_within, get_or_from_slice_get}
-use Rattle.std.proofs.lemmas.List.Elements.{Contains-get_or}
-use Rattle.gm_game.specs.declared.position.Position.{Position}
-use Rattle.gm_game.specs.declared.position.Phase.{Phase}
-use Rattle.gm_game.specs.declared.position.Place.{Place}
-use Rattle.gm_game.specs.Rules.{Rules, at, IsParent}
-use Rattle.gm_game.specs.Laws.{IsGame}
-use Rattle.gm_game.specs.Children.{with_position}
-use Rattle.gm_game.specs.Places.{StandsAt}
-use Rattle.gm_game.proofs.Counts.{HasNoRepeats}
-use Rattle.gm_game.proofs.SetLemmas.{with_cases}
-use Rattle.gm_frontier.specs.Notes.{NoteData, IsNoteAt, phase_of}
-use Rattle.gm_frontier.specs.Levels.{LevelData, IsLevel, positions}
-use Rattle.gm_frontier.proofs.PairLemmas.{pairs_once, in_pairs, in_piece, positions_once, piece_positions_once}
-use Rattle.gm_frontier.specs.Pairs.{pairs_of, piece_of}
-use Rattle.gm_frontier.specs.Counts.{ExpectedData, IsExpected}
-use Rattle.gm_frontier.proofs.Distinct.{same_image}
-use Rattle.gm_frontier.proofs.ForGame.{now_stands}
-use Rattle.gm_deliveries.specs.declared.status.Delivery.{Delivery}
-use Rattle.gm_deliveries.specs.declared.status.Delivery.TheVariants.{Fresh, FreshSettled, Repeat}
-use Rattle.gm_deliveries.specs.declared.status.Refused.{Refused}
-use Rattle.gm_deliveries.specs.declared.status.Refused.TheVariants.{NotThisLevel, NotMine, NotAParent, TooFar}
-use Rattle.gm_deliveries.specs.State.{ShardState, IsInRange, delivered_to, with_pair, pairs_in}
-use Rattle.gm_deliveries.specs.Good.{IsGood}
-use Rattle.gm_deliveries.specs.Delivery.{Delivers}
-use Rattle.gm_deliveries.specs.Steps.{IsFor, IsWhole}
-use Rattle.gm_deliveries.proofs.CloseLemmas.{whole_from}
-use Rattle.gm_locks.specs.Spots.{Spot, spot_of, gain, IsDeliverable}
-use Rattle.gm_locks.specs.Rounds.{pairs_into, place_of_spot, AreFirst, IsRound, HasNoneHere, IsForSpot, IsLevelAt, IsNextAnswer}
-use Rattle.gm_locks.proofs.Places.{value_stands}
-use Rattle.gm_locks.proofs.Kept.{stays_delivered, new_delivered}
-use Rattle.gm_locks.proofs.Gains.{gained}
+use Rattle.std.proofs.Common.{◌≡◌, ℕ, zero, suc, ◌+◌, ◌<◌, inl, inr, List, [], ◌∷◌, length, slice_get, refl, sym, ap, ap₂, subst, ◌∙◌, arith, Some}
+use Rattle.std.proofs.Common.{Result, Ok, Err, Option, None, option_map}
+use Rattle.gm_locks.proofs.Lower.{Contains, SkipsThenYields, YieldsFirst, nth_from_yields_List, YieldsList-from_first, cases_lt, slice_get_within}
+use Rattle.gm_locks.proofs.Lower.{get_or_from_slice_get, Contains-get_or, Place, Rules, at, IsParent, IsGame, HasNoRepeats, NoteData, IsNoteAt, LevelData}
+use Rattle.gm_locks.proofs.Lower.{IsLevel, positions, pairs_once, in_pairs, in_piece, positions_once, piece_positions_once, pairs_of, piece_of, ExpectedData}
+use Rattle.gm_locks.proofs.Lower.{IsExpected, same_image, now_stands, Delivery, Fresh, FreshSettled, Repeat, Refused, NotThisLevel, NotMine, NotAParent, TooFar}
+use Rattle.gm_locks.proofs.Lower.{ShardState, IsInRange, delivered_to, with_pair, pairs_in, IsGood, Delivers, IsFor, IsWhole, whole_from, Spot, spot_of, gain}
+use Rattle.gm_locks.proofs.Lower.{IsDeliverable, pairs_into, place_of_spot, AreFirst, IsRound, HasNoneHere, IsForSpot, IsLevelAt, IsNextAnswer, note_stands}
+use Rattle.gm_locks.proofs.Gains.{gained, stays_delivered, new_delivered, with_has}
 
 -- the item at a place of a list without repeats is at no other place
 pub item_in : {X : Type 0} (xs : List X) (k : ℕ) (x : X) → slice_get xs k ≡ Some x → Contains xs x
@@ -53,21 +24,6 @@ item_at : {X : Type 0} (xs : List X) (k : ℕ) → k < length xs → (x : X) × 
 item_at [] k l = absurd (omega arith)
 item_at (y ∷ ys) zero l = (y, refl)
 item_at (y ∷ ys) (suc k) l = item_at ys k (omega arith)
-
--- what is delivered with one pair more
-pub with_has : (s : ShardState) (c : Position) (parent : ℕ) → IsInRange s parent → (index : ℕ) (d : Position) → IsInRange s index
-    → Contains (delivered_to (with_pair s c parent) index) d
-    → Contains (delivered_to s index) d ⊎ ((index ≡ parent) × (c ≡ d))
-with_has s c parent m index d n h = elim (cases_eq index parent) [
-  | inl e ↦ elim (with_cases c d (delivered_to s parent) (subst (λ (ds : List Position). Contains ds d)
-      (get_or-set_same s.delivered (parent - s.lo) (with_position c (delivered_to s parent)) [] (omega arith))
-      (subst (λ (i : ℕ). Contains (delivered_to (with_pair s c parent) i) d) e h))) [
-        | inl q ↦ inr (e, q)
-        | inr k ↦ inl (subst (λ (i : ℕ). Contains (delivered_to s i) d) (sym e) k)
-      ]
-  | inr o ↦ inl (subst (λ (ds : List Position). Contains ds d)
-      (get_or-set_other s.delivered (parent - s.lo) (index - s.lo) (with_position c (delivered_to s parent)) [] (λ e. o (omega arith))) h)
-]
 
 -- notes of different positions that are at the spot's place
 pub record AreHere (r : Rules) (spot : Spot) (notes : List NoteData) : Type 0 where
@@ -118,21 +74,13 @@ module _ (r : Rules) (g : IsGame r) (spot : Spot) (notes : List NoteData) (here 
       item_once pairs (pairs_once r g spot.tier spot.lo spot.hi notes here.once (λ n l. (here.noted n l).note.canonical)) k j p a
       (subst (λ (x : NoteData × ℕ). slice_get pairs j ≡ Some x) (sym is) b)
 
-  -- its child is at the shard's place
-  stands_here : (s : ShardState) (pair : NoteData × ℕ) → IsDeliverable r s pair → StandsAt r s.phase s.level pair.0.position
-  stands_here s pair d =
-      let is = d.here.is_level in
-      subst (λ (ph : Phase). StandsAt r ph s.level pair.0.position) is.0
-      (subst (λ (n : ℕ). StandsAt r (phase_of pair.0.solved.value) n pair.0.position) is.1
-      (value_stands r pair.0.position pair.0.solved.value pair.0.solved.remoteness d.is_note.value d.is_note.decided))
-
   -- none is delivered to a shard that has no pair of the place
   pub first_none : (s : ShardState) → spot_of s ≡ spot → HasNoneHere r s → AreFirst (pairs_into r spot notes) s 0
   first_none s at none = record {
     within = omega arith;
     each = λ k pair e. (
       (λ h. (let d = next_here s at k pair e in
-          absurd (none pair.1 pair.0.position d.here.is_mine h (stands_here s pair d)))),
+          absurd (none pair.1 pair.0.position d.here.is_mine h (note_stands r s pair.0 pair.1 d.is_note d.here)))),
       (λ l. absurd (let z : k < 0 = l in omega arith)),
     );
   }
@@ -195,7 +143,7 @@ module _ (r : Rules) (g : IsGame r) (spot : Spot) (notes : List NoteData) (here 
     | inl less ↦ (let (pair, e) = item_at (pairs_into r spot notes) n less in
         let d = next_here s at n pair e in
         let l = (h.first.each n pair e).0 (whole pair.1 pair.0.position d.here.is_mine d.here.is_parent
-        (now_stands r s.phase s.level pair.0.position (stands_here s pair d))) in
+        (now_stands r s.phase s.level pair.0.position (note_stands r s pair.0 pair.1 d.is_note d.here))) in
         omega arith)
     | inr all ↦ (let most = h.first.within in omega arith)
   ]

@@ -1,9 +1,6 @@
 -- A level that is delivered to a spot to which all earlier levels have been delivered.
 use Rattle.std.specs.Prelude.{ℕ, List}
-use Rattle.gm_game.specs.Rules.{Rules}
-use Rattle.gm_frontier.specs.Notes.{NoteData}
-use Rattle.gm_frontier.specs.Levels.{IsLevel}
-use Rattle.gm_frontier.specs.Counts.{IsNumberBefore}
+use Rattle.gm_locks.specs.Lower.{Rules, NoteData, IsLevel, IsNumberBefore}
 use Rattle.gm_locks.specs.Spots.{Spot}
 use Rattle.gm_locks.specs.Rounds.{place_of_spot}
 

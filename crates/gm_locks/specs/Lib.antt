@@ -4,3 +4,4 @@ pub mod Rounds
 pub mod Begun
 pub mod Pieces
 pub mod Amounts
+pub mod Lower

@@ -1,25 +1,8 @@
 -- Deliveries to a shard in the order of a level's pairs.
 use Rattle.std.specs.Prelude.{◌≡◌, ℕ, ◌+◌, ◌<◌, ◌≤◌, ◌↔◌, List, Some, Result, Ok, Err, length, slice_get}
-use Rattle.std.specs.List.{Contains}
-use Rattle.std.specs.Result.{IsOk}
-use Rattle.gm_game.specs.declared.limits.TheConstants.{REMOTENESS}
-use Rattle.gm_game.specs.declared.position.Position.{Position}
-use Rattle.gm_game.specs.declared.position.Place.{Place}
-use Rattle.gm_game.specs.Rules.{Rules}
-use Rattle.gm_game.specs.Places.{StandsAt}
-use Rattle.gm_frontier.specs.Notes.{NoteData}
-use Rattle.gm_frontier.specs.Levels.{LevelData, place_at}
-use Rattle.gm_frontier.specs.Pairs.{pairs_of}
-use Rattle.gm_frontier.specs.Counts.{ExpectedData}
-use Rattle.gm_deliveries.specs.declared.status.Delivery.{Delivery}
-use Rattle.gm_deliveries.specs.declared.status.Delivery.TheVariants.{Fresh, FreshSettled, Repeat}
-use Rattle.gm_deliveries.specs.declared.status.Refused.{Refused}
-use Rattle.gm_deliveries.specs.declared.status.Refused.TheVariants.{NotThisLevel, NotMine, NotAParent, TooFar}
-use Rattle.gm_deliveries.specs.declared.status.Short.{Short}
-use Rattle.gm_deliveries.specs.Closing.{Closes}
-use Rattle.gm_deliveries.specs.State.{ShardState, IsInRange, delivered_to, pairs_in}
-use Rattle.gm_deliveries.specs.Delivery.{Delivers}
-use Rattle.gm_deliveries.specs.Good.{IsGood}
+use Rattle.gm_locks.specs.Lower.{Contains, IsOk, REMOTENESS, Position, Place, Rules, StandsAt, NoteData, LevelData, place_at, pairs_of, ExpectedData, Delivery}
+use Rattle.gm_locks.specs.Lower.{Fresh, FreshSettled, Repeat, Refused, NotThisLevel, NotMine, NotAParent, TooFar, Short, Closes, ShardState, IsInRange}
+use Rattle.gm_locks.specs.Lower.{delivered_to, pairs_in, Delivers, IsGood}
 use Rattle.gm_locks.specs.Spots.{Spot, spot_of}
 
 -- the pairs of a level's notes into the range of a spot, in the order of a walk

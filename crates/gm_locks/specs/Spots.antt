@@ -1,17 +1,7 @@
 -- Spots: the place of a shard, and four spots that tile a tier.
 use Rattle.std.specs.Prelude.{◌≡◌, ℕ, ◌+◌, ◌<◌, ◌≤◌, ◌↔◌, ◌==◌, if◌then◌else◌, length, Result, Ok, Err}
-use Rattle.gm_game.specs.declared.limits.TheConstants.{REMOTENESS}
-use Rattle.gm_game.specs.declared.position.Phase.{Phase}
-use Rattle.gm_game.specs.declared.position.Phase.TheVariants.{WinLose}
-use Rattle.gm_game.specs.Rules.{Rules, IsParent}
-use Rattle.gm_frontier.specs.Notes.{NoteData, IsNote, phase_of}
-use Rattle.gm_deliveries.specs.declared.status.Delivery.{Delivery}
-use Rattle.gm_deliveries.specs.declared.status.Delivery.TheVariants.{Fresh, FreshSettled, Repeat}
-use Rattle.gm_deliveries.specs.declared.status.Refused.{Refused}
-use Rattle.gm_deliveries.specs.declared.status.Refused.TheVariants.{NotThisLevel, NotMine, NotAParent, TooFar}
-use Rattle.gm_deliveries.specs.State.{ShardState}
-use Rattle.gm_deliveries.specs.Delivery.{IsPairHere, Delivers}
-use Rattle.gm_deliveries.specs.Good.{IsGood}
+use Rattle.gm_locks.specs.Lower.{REMOTENESS, Phase, WinLose, Rules, IsParent, NoteData, IsNote, phase_of, Delivery, Fresh, FreshSettled, Repeat, Refused}
+use Rattle.gm_locks.specs.Lower.{NotThisLevel, NotMine, NotAParent, TooFar, ShardState, IsPairHere, Delivers, IsGood}
 
 -- a range of a tier at a place
 pub record Spot : Type 0 where

@@ -1,7 +1,6 @@
 //! Four shards of a tier, each under a lock of its own, and shares of their ledgers.
 ghost use Rattle.std.specs.Prelude.{◌≡◌, ◌+◌, ◌^◌, ◌-◌, ◌<◌, ◌≤◌, min};
-ghost use Rattle.gm_deliveries.specs.State.{pairs_in};
-ghost use Rattle.gm_deliveries.specs.Delivery.{IsPlaceOf};
+ghost use Rattle.gm_locks.specs.Lower.{pairs_in, IsPlaceOf};
 ghost use Rattle.gm_locks.specs.Spots.{spot_of, choose, gain, AreFourTiles, IsWithin, IsAnswer, IsDeliveryAt};
 ghost use Rattle.gm_locks.specs.Amounts.{Amounts, one_part, amount_of, raised, joined, split_of};
 
@@ -272,10 +271,7 @@ impl<G: Game, A: ShardLedger, B: ShardLedger, C: ShardLedger, D: ShardLedger> Bo
 
 // Returns a shard with its book, and the share that has all parts.
 fn hold<G: Game, L: ShardLedger>(blank: Blank, shard: Shard<G>) -> (Held<G, L>, Share<L>)
-    requires name { blank.name ≡ L.name }
-    requires parts { blank.parts ≡ L.parts }
-    requires some { 0 < L.parts }
-    requires spot { spot_of shard ≡ L.spot }
+    requires { (blank.name ≡ L.name) × (blank.parts ≡ L.parts) × (0 < L.parts) × (spot_of shard ≡ L.spot) }
     ensures { result.1 ≡ record { parts = L.parts; amount = pairs_in shard } }
 {
     let delivered = shard.delivered();

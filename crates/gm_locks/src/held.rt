@@ -1,8 +1,6 @@
 //! The contents of one lock.
 ghost use Rattle.std.specs.Prelude.{◌≡◌, ◌+◌, ◌<◌, ◌≤◌};
-ghost use Rattle.gm_deliveries.specs.State.{pairs_in};
-ghost use Rattle.gm_deliveries.specs.Good.{IsGood};
-ghost use Rattle.gm_deliveries.specs.Delivery.{IsPlaceOf, Delivers};
+ghost use Rattle.gm_locks.specs.Lower.{pairs_in, IsGood, IsPlaceOf, Delivers};
 ghost use Rattle.gm_locks.specs.Spots.{spot_of, gain, IsAnswer, IsDeliveryAt};
 
 use crate::share::{ShardLedger, Share, gained};

@@ -1,9 +1,6 @@
 //! Deliveries of a level's pieces to one shard, each piece once: under the shard's lock a bit for each piece shows whether its pairs are delivered.
 ghost use Rattle.std.specs.Prelude.{◌≡◌, ℕ, ◌+◌, ◌-◌, ◌<◌, ◌≤◌, true, false, take, drop, length, slice_index, slice_index_or, IfOk, OnErr};
-ghost use Rattle.std.specs.Int.{div_ceil};
-ghost use Rattle.gm_frontier.specs.Levels.{IsLevel};
-ghost use Rattle.gm_deliveries.specs.State.{pairs_in};
-ghost use Rattle.gm_deliveries.specs.Steps.{IsWhole};
+ghost use Rattle.gm_locks.specs.Lower.{div_ceil, IsLevel, pairs_in, IsWhole};
 ghost use Rattle.gm_locks.specs.Spots.{spot_of};
 ghost use Rattle.gm_locks.specs.Rounds.{place_of_spot, AreFirst};
 ghost use Rattle.gm_locks.specs.Pieces.{piece_pairs, AreNew, IsRefusedAt, IsTurnAt, IsReadyFor};
@@ -168,13 +165,7 @@ impl<G: Game, L: PieceLedger> Pieced<G, L> {
         ensures book { share.old.parts ≡ L.parts → self.old.book ≡ share.old.amount }
         ensures pairs { pairs_in self.old.shard ≡ L.base + self.old.book }
     {
-        let Pieced {
-            shard: _,
-            counts: _,
-            whole: _,
-            book,
-        } = self;
-        share.audit(book);
+        share.audit(&mut self.book);
     }
 
     /// Returns the shard when all pieces are delivered: it has every pair of the level into its range, as many as the amount of the whole share, and the pairs

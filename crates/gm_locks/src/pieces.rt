@@ -1,8 +1,6 @@
 //! Four shards of a tier, each under a lock of its own, to which a level is delivered piece by piece.
 ghost use Rattle.std.specs.Prelude.{◌≡◌, ℕ, ◌+◌, ◌<◌, ◌≤◌, true, false, length, slice_index_or, IfOk, OnOk, OnErr};
-ghost use Rattle.std.specs.Int.{div_ceil};
-ghost use Rattle.gm_deliveries.specs.State.{pairs_in};
-ghost use Rattle.gm_deliveries.specs.Steps.{IsWhole};
+ghost use Rattle.gm_locks.specs.Lower.{div_ceil, pairs_in, IsWhole};
 ghost use Rattle.gm_locks.specs.Spots.{spot_of, choose};
 ghost use Rattle.gm_locks.specs.Amounts.{raised};
 ghost use Rattle.gm_locks.specs.Pieces.{PiecedData, piece_pairs, IsRefusedAt, IsTurnAt, IsReadyFor};
@@ -141,19 +139,11 @@ impl<G: Game, A: PieceLedger, B: PieceLedger, C: PieceLedger, D: PieceLedger> Pi
         ensures c { pairs_in result.2.shard ≡ C.base + result.2.book }
         ensures d { pairs_in result.3.shard ≡ D.base + result.3.book }
     {
-        let PieceBoard { a, b, c, d } = self;
-        let Shares {
-            parts: _,
-            a: one,
-            b: two,
-            c: three,
-            d: four,
-        } = shares;
         (
-            Taken::new(a.into_inner(), one),
-            Taken::new(b.into_inner(), two),
-            Taken::new(c.into_inner(), three),
-            Taken::new(d.into_inner(), four),
+            Taken::new(self.a.into_inner(), shares.a),
+            Taken::new(self.b.into_inner(), shares.b),
+            Taken::new(self.c.into_inner(), shares.c),
+            Taken::new(self.d.into_inner(), shares.d),
         )
     }
 }

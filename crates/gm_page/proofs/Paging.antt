@@ -2,17 +2,10 @@
 use Rattle.std.proofs.Common.{◌≡◌, ℕ, List, [], ◌++◌, ap, ◌∙◌}
 use Rattle.std.proofs.lemmas.List.{append_assoc}
 
--- the parts that were appended to an empty text
-pub parts_of : (opening style parts head rows back p0 p1 p2 : List ℕ) → p0 ≡ [] → p1 ≡ p0 ++ opening ++ style ++ parts ++ head → p2 ≡ p1 ++ rows ++ back
-    → p2 ≡ opening ++ style ++ parts ++ (head ++ rows) ++ back
-parts_of opening style parts head rows back p0 p1 p2 empty e f =
-    let one : p1 ≡ opening ++ style ++ parts ++ head = e ∙ ap (λ (l : List ℕ). l ++ opening ++ style ++ parts ++ head) empty in
-    f ∙ ap (λ (l : List ℕ). l ++ rows ++ back) one ∙ simp append_assoc
-
--- the parts of a page with the engine that were appended to an empty text
-pub engine_parts_of : (front head rows back p0 p1 p2 p3 p4 : List ℕ) → p0 ≡ [] → p1 ≡ p0 ++ front → p2 ≡ p1 ++ head → p3 ≡ p2 ++ rows → p4 ≡ p3 ++ back
+-- the parts of a page that were appended to an empty text
+pub parts_of : (front head rows back p0 p1 p2 p3 p4 : List ℕ) → p0 ≡ [] → p1 ≡ p0 ++ front → p2 ≡ p1 ++ head → p3 ≡ p2 ++ rows → p4 ≡ p3 ++ back
     → p4 ≡ front ++ (head ++ rows) ++ back
-engine_parts_of front head rows back p0 p1 p2 p3 p4 empty a b c d =
+parts_of front head rows back p0 p1 p2 p3 p4 empty a b c d =
     d ∙ ap (λ (l : List ℕ). l ++ back) (c ∙ ap (λ (l : List ℕ). l ++ rows) (b ∙ ap (λ (l : List ℕ). l ++ head) (a ∙ ap (λ (l : List ℕ). l ++ front) empty)))
     ∙ simp append_assoc
 

@@ -15,7 +15,7 @@ use Rattle.gm_game.specs.declared.position.Solved.{Solved}
 use Rattle.gm_play.specs.declared.move_values.MoveValue.{MoveValue}
 use Rattle.gm_json.specs.Words.{text, whole}
 use Rattle.gm_draw.specs.declared.pictured.Style.{Style}
-use Rattle.gm_page.specs.Heads.{head_tree, start_tree}
+use Rattle.gm_page.specs.Heads.{head_tree}
 use Rattle.gm_page.specs.Listings.{is_same, place_from, place_of}
 use Rattle.gm_page.specs.Rows.{Group, place_cells, move_cells, group_cells, group_tree, row_cells, row_tree}
 use Rattle.gm_page.specs.Scripts.{script_line}
@@ -98,18 +98,10 @@ texts_read : (ts : List (List ℕ)) → AllRead 0 (map text ts)
 texts_read [] = tt
 texts_read (t ∷ ts) = (reads_text 0 t, texts_read ts)
 
-pub head_read : (name : List ℕ) (style : Style) (title board : List ℕ) (points : List (List ℕ)) (naming : List ℕ) (whole : Bool)
-    → read (script_line (head_tree name style title board points naming whole)) ≡ Some (head_tree name style title board points naming whole)
-head_read name style title board points naming whole =
+pub head_read : (name : List ℕ) (style : Style) (title board : List ℕ) (points : List (List ℕ)) (naming start : List ℕ) (whole : Bool)
+    → read (script_line (head_tree name style title board points naming start whole)) ≡ Some (head_tree name style title board points naming start whole)
+head_read name style title board points naming start whole =
     let names = reads_array 0 (map text points) (texts_read points) in
-    let d = head_tree name style title board points naming whole in
-    let a = names.shallow in
-    read_line d (tt, (tt, (tt, (tt, (names.small, ((tt, (tt, tt)), (tt, (tt, (tt, tt))))))))) (omega arith) (rw names.same refl)
-
-pub start_read : (name : List ℕ) (style : Style) (title board : List ℕ) (points : List (List ℕ)) (naming start : List ℕ) (whole : Bool)
-    → read (script_line (start_tree name style title board points naming start whole)) ≡ Some (start_tree name style title board points naming start whole)
-start_read name style title board points naming start whole =
-    let names = reads_array 0 (map text points) (texts_read points) in
-    let d = start_tree name style title board points naming start whole in
+    let d = head_tree name style title board points naming start whole in
     let a = names.shallow in
     read_line d (tt, (tt, (tt, (tt, (names.small, ((tt, (tt, tt)), (tt, (tt, (tt, (tt, tt)))))))))) (omega arith) (rw names.same refl)

@@ -15,7 +15,7 @@ use Rattle.gm_game.specs.Rules.{Rules}
 use Rattle.gm_play.specs.declared.move_values.MoveValue.{MoveValue}
 use Rattle.gm_json.specs.Words.{text}
 use Rattle.gm_draw.specs.declared.pictured.Style.{Style}
-use Rattle.gm_page.specs.Heads.{head_tree, start_tree}
+use Rattle.gm_page.specs.Heads.{head_tree}
 use Rattle.gm_page.specs.Listings.{place_of}
 use Rattle.gm_page.specs.Rows.{Group, IsRun, AreGroups, AreRows, IsRow, place_cells, move_cells, group_tree, row_tree}
 
@@ -115,13 +115,9 @@ texts_without : (ts : List (List ℕ)) → items_have_float (items_of (map text 
 texts_without [] = refl
 texts_without (t ∷ ts) = texts_without ts
 
-pub head_without : (name : List ℕ) (style : Style) (title board : List ℕ) (points : List (List ℕ)) (naming : List ℕ) (whole : Bool) → has_float
-    (head_tree name style title board points naming whole) ≡ false
-head_without name style title board points naming whole = rw (texts_without points) refl
-
-pub start_without : (name : List ℕ) (style : Style) (title board : List ℕ) (points : List (List ℕ)) (naming start : List ℕ) (whole : Bool) → has_float
-    (start_tree name style title board points naming start whole) ≡ false
-start_without name style title board points naming start whole = rw (texts_without points) refl
+pub head_without : (name : List ℕ) (style : Style) (title board : List ℕ) (points : List (List ℕ)) (naming start : List ℕ) (whole : Bool) → has_float
+    (head_tree name style title board points naming start whole) ≡ false
+head_without name style title board points naming start whole = rw (texts_without points) refl
 
 -- ---- lists that grow by one element
 -- the trees of some things, and of one more

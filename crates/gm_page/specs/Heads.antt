@@ -57,30 +57,18 @@ sides_tree style = array (items_of (string (first_side style) ∷ string (second
 abbrev pub name_text : List ℕ → List ℕ
 name_text bs = before_first (λ b. b == 0) bs
 
--- the last members of a head: who plays, and whether the page has every position that play reaches
-abbrev pub last_members : Style → List ℕ → Bool → Members
-last_members style title whole =
-    member (codes "swap") (boolean (swaps style)) (member (codes "title") (text title) (member (codes "whole") (boolean whole) no_members))
-
--- the members of a head, with these after the sides
-abbrev pub members_before : List ℕ → Style → List ℕ → List (List ℕ) → List ℕ → Members → Members
-members_before name style board points naming later =
+-- the board, the names of the points and the other members that a page shows, the text of the position that it begins with, and whether it has every position
+-- that play reaches; the members are in alphabetical order
+abbrev pub head_members : List ℕ → Style → List ℕ → List ℕ → List (List ℕ) → List ℕ → List ℕ → Bool → Members
+head_members name style title board points naming start whole =
     member (codes "board") (text board)
     (member (codes "game") (text (name_text name))
     (member (codes "men") (string (men_of style))
     (member (codes "naming") (text naming)
     (member (codes "points") (array (items_of (map text points)))
-    (member (codes "sides") (sides_tree style) later)))))
+    (member (codes "sides") (sides_tree style)
+    (member (codes "start") (text start)
+    (member (codes "swap") (boolean (swaps style)) (member (codes "title") (text title) (member (codes "whole") (boolean whole) no_members)))))))))
 
--- the board, the names of the points and the other members that a page shows, and whether it has every position that play reaches; the members are in
--- alphabetical order
-abbrev pub head_members : List ℕ → Style → List ℕ → List ℕ → List (List ℕ) → List ℕ → Bool → Members
-head_members name style title board points naming whole = members_before name style board points naming (last_members style title whole)
-
-abbrev pub head_tree : List ℕ → Style → List ℕ → List ℕ → List (List ℕ) → List ℕ → Bool → Data
-head_tree name style title board points naming whole = object (head_members name style title board points naming whole)
-
--- the same with the text of the position that the page begins with
-abbrev pub start_tree : List ℕ → Style → List ℕ → List ℕ → List (List ℕ) → List ℕ → List ℕ → Bool → Data
-start_tree name style title board points naming start whole =
-    object (members_before name style board points naming (member (codes "start") (text start) (last_members style title whole)))
+abbrev pub head_tree : List ℕ → Style → List ℕ → List ℕ → List (List ℕ) → List ℕ → List ℕ → Bool → Data
+head_tree name style title board points naming start whole = object (head_members name style title board points naming start whole)

@@ -1,5 +1,5 @@
--- Pages: the viewer with its lines of data between its two parts.
-use Rattle.std.specs.Prelude.{◌≡◌, ◌↔◌, ℕ, Bool, List, ◌++◌, IsTrue}
+-- Pages: the viewer with its lines of data, and the engine's text, between its parts.
+use Rattle.std.specs.Prelude.{◌≡◌, ◌↔◌, ℕ, Bool, false, List, ◌++◌, IsTrue}
 use Rattle.std.specs.List.{flat_map}
 use Rattle.serde_json.specs.Data.{Data}
 use Rattle.gm_game.specs.declared.position.Position.{Position}
@@ -7,7 +7,12 @@ use Rattle.gm_game.specs.Rules.{Rules}
 use Rattle.gm_play.specs.PlayTexts.{IsReadAs}
 use Rattle.gm_draw.specs.declared.pictured.Style.{Style}
 use Rattle.gm_page.specs.declared.front.TheConstants.{OPENING, STYLE, PARTS}
-use Rattle.gm_page.specs.declared.back.TheConstants.{BACK}
+use Rattle.gm_page.specs.declared.engine.TheConstants.{BETWEEN}
+use Rattle.gm_page.specs.declared.viewer_asking.TheConstants.{ASKING}
+use Rattle.gm_page.specs.declared.viewer_boards.TheConstants.{BOARDS}
+use Rattle.gm_page.specs.declared.viewer_playing.TheConstants.{PLAYING}
+use Rattle.gm_page.specs.declared.viewer_choosing.TheConstants.{CHOOSING}
+use Rattle.gm_page.specs.declared.viewer_drawing.TheConstants.{DRAWING}
 use Rattle.gm_page.specs.Listings.{IsClosed, IsListing}
 use Rattle.gm_page.specs.Heads.{head_tree}
 use Rattle.gm_page.specs.Rows.{AreRows}
@@ -17,24 +22,37 @@ use Rattle.gm_page.specs.Scripts.{script_line}
 abbrev pub script_lines : Data → List Data → List ℕ
 script_lines head rows = script_line head ++ flat_map script_line rows
 
--- the viewer around the lines of a page
-unfoldable pub with_viewer : List ℕ → List ℕ
-with_viewer lines = OPENING.now ++ STYLE.now ++ PARTS.now ++ lines ++ BACK.now
+-- the text before the lines of a page
+unfoldable pub page_front : List ℕ
+page_front = OPENING.now ++ (STYLE.now ++ PARTS.now)
+
+-- the text after them: the element with the engine's digits, and the script
+unfoldable pub page_back : List ℕ → List ℕ
+page_back digits = BETWEEN.now ++ (digits ++ (ASKING.now ++ (BOARDS.now ++ (PLAYING.now ++ (CHOOSING.now ++ DRAWING.now)))))
+
+-- the viewer around the lines of a page, with an engine of these digits
+abbrev pub with_viewer : List ℕ → List ℕ → List ℕ
+with_viewer lines digits = page_front ++ lines ++ page_back digits
+
+-- the line of a game in the page of all games
+abbrev pub game_tree : Rules → (Position → List ℕ) → Style → List ℕ → List ℕ → List (List ℕ) → List ℕ → Data
+game_tree r shown style title board points naming = head_tree r.name style title board points naming (shown r.initial) false
 
 module _ (r : Rules) (shown : Position → List ℕ) (move_shown : Position → ℕ → List ℕ) (style : Style) (title board : List ℕ) (points : List (List ℕ))
     (naming : List ℕ) where
-  -- the page of these positions: a line that describes the game and states whether each result of a move is among them, and then their rows
-  pub record IsListedPage (all : List Position) (out : List ℕ) : Type 0 where
+  -- the page of these positions with an engine of these digits, which may be none: a line that describes the game and the page, and then the rows of the
+  -- positions
+  pub record IsListedPage (start : List ℕ) (all : List Position) (digits out : List ℕ) : Type 0 where
     pub whole : Bool
     pub is_whole : IsTrue whole ↔ IsClosed r all
     pub rows : List Data
     pub are_rows : AreRows r shown move_shown all all rows
-    pub out_is : out ≡ with_viewer (script_lines (head_tree r.name style title board points naming whole) rows)
+    pub out_is : out ≡ with_viewer (script_lines (head_tree r.name style title board points naming start whole) rows) digits
 
-  -- the page of the position with this text
-  pub record IsPage (asked : List ℕ) (limit : ℕ) (out : List ℕ) : Type 0 where
+  -- the page of the position with this text, with an engine of these digits
+  pub record IsPage (asked : List ℕ) (limit : ℕ) (digits out : List ℕ) : Type 0 where
     pub start : Position
     pub read : IsReadAs r shown move_shown asked start
     pub all : List Position
     pub listing : IsListing r start limit all
-    pub lines : IsListedPage all out
+    pub lines : IsListedPage asked all digits out

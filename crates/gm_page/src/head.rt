@@ -4,7 +4,7 @@ ghost use Rattle.std.specs.List.{position};
 ghost use Rattle.serde_json.specs.Data.{array, object};
 ghost use Rattle.serde_json.specs.View.{items_of, view, members_view};
 ghost use Rattle.gm_json.specs.Words.{text};
-ghost use Rattle.gm_page.specs.Heads.{head_tree, head_members, start_tree, men_of, first_side, second_side, sides_tree, swaps as swaps_spec, name_text};
+ghost use Rattle.gm_page.specs.Heads.{head_tree, head_members, men_of, first_side, second_side, sides_tree, swaps as swaps_spec, name_text};
 ghost use Rattle.gm_page.specs.Scripts.{script_line};
 
 use crate::words::{push_script_line, put_text, text_value, word_value};
@@ -13,46 +13,25 @@ use gm_game::limits::NAME;
 use serde_json::{Map, Value as Json, push, put};
 use std::alloc::{AllocError, Global};
 
-/// Appends the first line of a page.
+/// Appends the first line of a page, which begins with the position of this text.
 pub(crate) fn push_head<G: Pictured>(
-    alloc: Global,
-    page: &mut Vec<u8>,
-    whole: bool,
-) -> Result<(), AllocError>
-    ensures { OnOk result (page.new.items ≡ page.old.items ++ script_line (head_tree G.Game.rules.name G.style G.title G.board G.points G.naming whole)) }
-{
-    let tree = head_value::<G>(alloc, whole)?;
-    push_script_line(alloc, page, tree)
-}
-
-/// Appends the line of a game in a page with the engine, which begins with the position of this text.
-pub(crate) fn push_start<G: Pictured>(
     alloc: Global,
     page: &mut Vec<u8>,
     start: &[u8],
     whole: bool,
 ) -> Result<(), AllocError>
     ensures { OnOk result (page.new.items
-        ≡ page.old.items ++ script_line (start_tree G.Game.rules.name G.style G.title G.board G.points G.naming start.now whole)) }
+        ≡ page.old.items ++ script_line (head_tree G.Game.rules.name G.style G.title G.board G.points G.naming start.now whole)) }
 {
-    let tree = start_value::<G>(alloc, start, whole)?;
+    let tree = head_value::<G>(alloc, start, whole)?;
     push_script_line(alloc, page, tree)
 }
 
-fn start_value<G: Pictured>(alloc: Global, start: &[u8], whole: bool) -> Result<Json, AllocError>
-    ensures { IfOk result (λ v. view v ≡ start_tree G.Game.rules.name G.style G.title G.board G.points G.naming start.now whole) }
+fn head_value<G: Pictured>(alloc: Global, start: &[u8], whole: bool) -> Result<Json, AllocError>
+    ensures { IfOk result (λ v. view v ≡ head_tree G.Game.rules.name G.style G.title G.board G.points G.naming start.now whole) }
 {
     let mut members = Map::new(alloc);
-    put_head::<G>(alloc, &mut members, whole)?;
-    put_text(alloc, &mut members, "start", start)?;
-    Ok(Json::Object(members))
-}
-
-fn head_value<G: Pictured>(alloc: Global, whole: bool) -> Result<Json, AllocError>
-    ensures { IfOk result (λ v. view v ≡ head_tree G.Game.rules.name G.style G.title G.board G.points G.naming whole) }
-{
-    let mut members = Map::new(alloc);
-    put_head::<G>(alloc, &mut members, whole)?;
+    put_head::<G>(alloc, &mut members, start, whole)?;
     Ok(Json::Object(members))
 }
 
@@ -60,10 +39,12 @@ fn head_value<G: Pictured>(alloc: Global, whole: bool) -> Result<Json, AllocErro
 fn put_head<G: Pictured>(
     alloc: Global,
     members: &mut Map<String, Json>,
+    start: &[u8],
     whole: bool,
 ) -> Result<(), AllocError>
     requires { members.old.entries ≡ [] }
-    ensures { OnOk result (members_view members.new.entries ≡ head_members G.Game.rules.name G.style G.title G.board G.points G.naming whole) }
+    ensures { OnOk result (members_view members.new.entries
+        ≡ head_members G.Game.rules.name G.style G.title G.board G.points G.naming start.now whole) }
 {
     let style = G::style();
     put_text(alloc, members, "board", G::board())?;
@@ -72,6 +53,7 @@ fn put_head<G: Pictured>(
     put_text(alloc, members, "naming", G::naming())?;
     put(members, alloc, "points", points_value::<G>(alloc)?)?;
     put(members, alloc, "sides", sides_value(alloc, style)?)?;
+    put_text(alloc, members, "start", start)?;
     put(members, alloc, "swap", Json::Bool(swaps(style)))?;
     put_text(alloc, members, "title", G::title().as_slice())?;
     put(members, alloc, "whole", Json::Bool(whole))

@@ -3,10 +3,7 @@
 //! `specs/` has the definitions that contracts cite, and `proofs/` has the facts that follow from them.
 #![tactic(auto)]
 
-pub mod back;
 pub mod engine;
-pub mod engine_front;
-pub mod engine_page;
 pub mod front;
 mod head;
 pub mod listing;

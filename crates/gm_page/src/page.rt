@@ -1,29 +1,34 @@
-//! Pages: explorers of the positions that play reaches from a position.
+//! Pages: explorers of the positions that play reaches from a position. With the engine they solve the game in the browser.
 ghost use Rattle.std.specs.Prelude.{◌≡◌, ◌<◌, ◌≤◌, ◌++◌, ◌^◌, [], true, List, length, IfOk, OnOk};
 ghost use Rattle.std.specs.List.{All, list_all};
 ghost use Rattle.serde_json.specs.Data.{Data};
 ghost use Rattle.gm_game.specs.declared.position.Position.{Position};
-ghost use Rattle.gm_best.specs.Reached.{IsReached};
 ghost use Rattle.gm_game.specs.declared.position.Solved.{Solved};
-ghost use Rattle.gm_page.specs.declared.back.TheConstants.{BACK};
-ghost use Rattle.gm_page.specs.declared.front.TheConstants.{OPENING, STYLE, PARTS};
+ghost use Rattle.gm_best.specs.Reached.{IsReached};
 ghost use Rattle.gm_page.specs.Heads.{head_tree};
-ghost use Rattle.gm_page.specs.Scripts.{opens_none, script_line, IsReadBack};
+ghost use Rattle.gm_page.specs.Pages.{page_front, page_back, game_tree, script_lines, IsListedPage, IsPage};
 ghost use Rattle.gm_page.specs.Rows.{Group, row_tree};
-ghost use Rattle.gm_page.specs.Pages.{IsListedPage, IsPage, script_lines};
+ghost use Rattle.gm_page.specs.Scripts.{opens_none, script_line, IsReadBack};
 
-use crate::back::BACK;
+use crate::engine::BETWEEN;
 use crate::front::{OPENING, PARTS, STYLE};
 use crate::head::push_head;
 use crate::listing::{Listing, is_whole, listing_of};
 use crate::rows::push_rows;
+use crate::viewer_asking::ASKING;
+use crate::viewer_boards::BOARDS;
+use crate::viewer_choosing::CHOOSING;
+use crate::viewer_drawing::DRAWING;
+use crate::viewer_playing::PLAYING;
 use gm_best::known::Known;
 use gm_draw::pictured::Pictured;
+use gm_game::game::laws;
 use gm_game::position::Position;
 use std::alloc::{AllocError, Global};
 
-/// Returns the page of a position, as one HTML file: the viewer, and in it a line that describes the game, and a row for each
-/// position of its `listing_of`. The whole page is built in memory.
+/// Returns the page of a position, as one HTML file: the viewer, and in it a line that describes the game, a row for each position
+/// of its `listing_of`, and the engine of these digits, if there are any. The whole page is built in memory. With the engine, a
+/// browser that can run it solves the game; else the page shows its rows.
 ///
 /// A row is a JSON array: the position's text, its value, and its moves, the best first, in groups of equal worth. A move has its
 /// text and the number of its result's row, from 0, if the page has that row.
@@ -31,12 +36,14 @@ pub fn page_text<G: Pictured>(
     alloc: Global,
     start: &Known<'_, G>,
     limit: usize,
+    digits: &[u8],
 ) -> Result<Vec<u8>, AllocError>
     requires { 1 ≤ limit }
-    ensures { IfOk result (λ v. IsPage G.Game.rules G.shown G.move_shown G.style G.title G.board G.points G.naming (G.shown start.now.position) limit v.items) }
+    ensures { IfOk result (λ v. IsPage G.Game.rules G.shown G.move_shown G.style G.title G.board G.points G.naming (G.shown start.now.position)
+        limit digits.now v.items) }
 {
     let list = listing_of(alloc, start, limit)?;
-    let page = page_of_listing(alloc, start, &list);
+    let page = page_of_listing(alloc, start, &list, digits);
     drop(list);
     page
 }
@@ -46,12 +53,14 @@ fn page_of_listing<G: Pictured>(
     alloc: Global,
     start: &Known<'_, G>,
     list: &Listing,
+    digits: &[u8],
 ) -> Result<Vec<u8>, AllocError>
     requires { All (IsReached G.Game.rules start.now.position.tier) list.now }
-    ensures { IfOk result (λ v. IsListedPage G.Game.rules G.shown G.move_shown G.style G.title G.board G.points G.naming list.now v.items) }
+    ensures { IfOk result (λ v. IsListedPage G.Game.rules G.shown G.move_shown G.style G.title G.board G.points G.naming
+        (G.shown start.now.position) list.now digits.now v.items) }
 {
     let mut page = Vec::new(alloc);
-    match push_page(alloc, start, list, &mut page) {
+    match push_page(alloc, start, list, digits, &mut page) {
         Ok(()) => Ok(page),
         Err(error) => {
             drop(page);
@@ -65,35 +74,59 @@ fn push_page<G: Pictured>(
     alloc: Global,
     start: &Known<'_, G>,
     list: &Listing,
+    digits: &[u8],
     page: &mut Vec<u8>,
 ) -> Result<(), AllocError>
     requires reached { All (IsReached G.Game.rules start.now.position.tier) list.now }
     requires empty { page.old.items ≡ [] }
-    ensures { OnOk result (IsListedPage G.Game.rules G.shown G.move_shown G.style G.title G.board G.points G.naming list.now page.new.items) }
+    ensures { OnOk result (IsListedPage G.Game.rules G.shown G.move_shown G.style G.title G.board G.points G.naming
+        (G.shown start.now.position) list.now digits.now page.new.items) }
 {
     let whole = is_whole::<G>(list);
-    push_first::<G>(alloc, whole, page)?;
+    push_front(page)?;
+    push_head::<G>(alloc, page, G::show(start.position).as_slice(), whole)?;
     push_rows(alloc, start, list, page)?;
-    page.extend_from_slice(BACK)?;
-    Ok(())
+    push_back(page, digits)
 }
 
-// Appends the first part of the viewer, and the line that describes the game.
-fn push_first<G: Pictured>(alloc: Global, whole: bool, page: &mut Vec<u8>) -> Result<(), AllocError>
-    ensures { OnOk result (page.new.items
-        ≡ page.old.items ++ OPENING.now ++ STYLE.now ++ PARTS.now ++ script_line (head_tree G.Game.rules.name G.style G.title G.board G.points G.naming whole)) }
+/// Appends the first part of a page, up to its lines.
+pub fn push_front(page: &mut Vec<u8>) -> Result<(), AllocError>
+    ensures { OnOk result (page.new.items ≡ page.old.items ++ page_front) }
 {
     page.extend_from_slice(OPENING)?;
     page.extend_from_slice(STYLE)?;
     page.extend_from_slice(PARTS)?;
-    push_head::<G>(alloc, page, whole)
+    Ok(())
+}
+
+/// Appends the line of a game in the page of all games.
+pub fn push_game<G: Pictured>(alloc: Global, page: &mut Vec<u8>) -> Result<(), AllocError>
+    ensures { OnOk result (page.new.items
+        ≡ page.old.items ++ script_line (game_tree G.Game.rules G.shown G.style G.title G.board G.points G.naming)) }
+{
+    laws::<G>();
+    push_head::<G>(alloc, page, G::show(G::initial()).as_slice(), false)
+}
+
+/// Appends the last part of a page: the element of the engine with these digits, and the script.
+pub fn push_back(page: &mut Vec<u8>, digits: &[u8]) -> Result<(), AllocError>
+    ensures { OnOk result (page.new.items ≡ page.old.items ++ page_back digits.now) }
+{
+    page.extend_from_slice(BETWEEN)?;
+    page.extend_from_slice(digits)?;
+    page.extend_from_slice(ASKING)?;
+    page.extend_from_slice(BOARDS)?;
+    page.extend_from_slice(PLAYING)?;
+    page.extend_from_slice(CHOOSING)?;
+    page.extend_from_slice(DRAWING)?;
+    Ok(())
 }
 
 /// Has no effect; its contract states that no byte of a page's lines opens a tag, and that each line, read as JSON, is the tree
 /// that it was written from.
-pub fn lines_are_read<G: Pictured>(list: &[Position], whole: bool)
+pub fn lines_are_read<G: Pictured>(list: &[Position], start: &[u8], whole: bool)
     ensures closed { (head : Data) (rows : List Data) → list_all opens_none (script_lines head rows) ≡ true }
-    ensures head { IsReadBack (head_tree G.Game.rules.name G.style G.title G.board G.points G.naming whole) }
+    ensures head { IsReadBack (head_tree G.Game.rules.name G.style G.title G.board G.points G.naming start.now whole) }
     ensures rows { length list.now < 2 ^ 64 → (p : Position) (s : Solved) (groups : List Group)
         → IsReadBack (row_tree G.shown G.move_shown list.now p s groups) }
 {}

@@ -1,4 +1,4 @@
-//! A part of the script of a page with the engine.
+//! A part of the script of a page.
 
 /// The first part of its script: the lines of the page, words about the games, the engine in a thread of its own, and questions to it.
 pub const ASKING: &[u8] = br##"</script>
@@ -18,6 +18,9 @@ const counted = n => n.toLocaleString("en");
 const lines = $("data").textContent.trim().split("\n").map(text => JSON.parse(text));
 const games = lines.filter(line => !Array.isArray(line)), given = lines.filter(line => Array.isArray(line));
 const single = games.length === 1;
+// A page without the engine shows the positions that it has been given.
+const engined = $("engine").textContent !== "";
+for (const part of document.querySelectorAll(engined ? ".tables" : ".solver")) part.hidden = true;
 let game = null;
 
 // ---- Words about the games: the rules of each in a few lines, and how many legal positions it has.
@@ -64,6 +67,9 @@ const RULES = {
   "kqk":
     "White has king and queen, Black the king alone. All move as in chess. White wins by checkmate. The game is drawn by stalemate, or when Black takes " +
     "the queen.",
+  "foxhounds":
+    "Four hounds hunt a fox on the dark squares of a chess board. A man moves one square diagonally to a free square: a hound only forwards, the fox " +
+    "any way. The fox wins as soon as no hound is on a lower row. Who can't move loses.",
   "tactix":
     "Counters on a square board. Each player in turn takes one or more that lie side by side, without a gap, in one row or one column. Who takes " +
     "the last one wins.",
@@ -79,8 +85,8 @@ const LEGAL = {
 
 // ---- The engine, in a thread of its own. It answers questions in turn. Its text unpacks to the script of that thread, a zero, and the module.
 const lacking = ["WebAssembly", "DecompressionStream", "Worker"].filter(name => typeof globalThis[name] === "undefined");
-// Whether games are solved here: not if the browser can't, or if the engine doesn't know the game.
-let solving = !lacking.length;
+// Whether games are solved here: not if the page has no engine, if the browser can't run it, or if it doesn't know the game.
+let solving = engined && !lacking.length;
 let worker = null, asks = 0;
 const awaited = new Map();
 async function unpacked(text) {
@@ -120,7 +126,7 @@ function take(row, got) {
   const to = m => rowOf(m.position, worth(m.positionValue, m.remoteness));
   rows[row].moves = got.moves.map(m => ({ name: m.move, worth: worth(m.moveValue, m.moveRemoteness), to: to(m) }));
 }
-// The rows of the positions that the page has been given, for a browser that can't solve games. A move is followed by the number of its result's row, if the page
+// The rows of the positions that the page has been given, if games are not solved here. A move is followed by the number of its result's row, if the page
 // has it.
 function takeGiven() {
   const moveOf = (worth, rest) => (name, k) => typeof name === "number" ? [] : [{ name, worth, to: typeof rest[k + 1] === "number" ? rest[k + 1] : null }];

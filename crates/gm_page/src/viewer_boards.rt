@@ -1,4 +1,4 @@
-//! A part of the script of a page with the engine.
+//! A part of the script of a page.
 
 /// Boards and men, small and large, and places that are pressed.
 pub const BOARDS: &[u8] =

@@ -1,18 +1,16 @@
-//! A part of the script of a page with the engine.
+//! A part of the script of a page.
 
 /// Addresses, the list of games, and a game that is opened.
 pub const CHOOSING: &[u8] =
     br##"// ---- The address: the game, the position, and the moves played from it.
 let turns = 0;
 async function route() {
-  const turn = ++turns, [, name, asked, rest] = location.hash.match(/^#?([^/?]*)(\??)\/?(.*)$/);
+  const turn = ++turns, [name, asked, parts] = addressed(location.hash);
   const wanted = games.find(of => single || of.game === name);
   if (!wanted || !(solving || given.length)) return showGames(solving && name ? "There is no game " + name + " here." : unable());
   try {
     await open(wanted, turn);
     if (turn !== turns) return;
-    let parts = [], row = null;
-    try { parts = rest.split("/").map(decodeURIComponent); } catch { parts = ["?"]; }
     const [text, ...names] = parts, path = [{ row: await find(text || game.start) }];
     hidden = asked === "?";
     let found = path[0].row !== null && (!name || name === game.game);
@@ -30,9 +28,20 @@ async function route() {
     if (!found) say(solving ? "There is no such position or move." : "What the address names is not in this page.");
   } catch (error) { if (turn === turns) fail(error); }
 }
-// What a page without the engine says of itself, or nothing.
+// The game that an address names, whether its values are hidden, the text of a position, and the moves played from it. In a page of one game the game's name may
+// be missing: the address is then a position's text, or moves from the start with a / before each.
+function addressed(hash) {
+  const [, name, asked, slash, rest] = hash.match(/^#?([^/?]*)(\??)(\/?)(.*)$/);
+  try {
+    const parts = rest.split("/").map(decodeURIComponent);
+    if (!single || name === games[0].game) return [name, asked, parts];
+    if (name) return ["", asked, [decodeURIComponent(name), ...parts]];
+    return ["", asked, slash ? ["", ...parts] : parts];
+  } catch { return [name, asked, ["?"]]; }
+}
+// What a page that can't solve its game says of itself, or nothing.
 function unable() {
-  if (solving) return "";
+  if (solving || !engined) return "";
   if (!lacking.length) return "The engine of this page does not know the game, so it shows the positions that it has been given.";
   return `This browser has no ${lacking.join(", no ")}, so this page can't solve games in it. ${given.length ? "It shows the positions that it has been given."
     : "Browsers of the last years have all of them."}`;
@@ -68,7 +77,6 @@ for (const of of games) {
 }
 // Solves a game, and shows how far that is: how many canonical positions have each record.
 async function solve(wanted, turn) {
-  $("way").hidden = single;
   $("about").textContent = "";
   $("work").hidden = false;
   $("bar").removeAttribute("value");
@@ -86,6 +94,7 @@ async function open(wanted, turn) {
   $("fault").textContent = unable();
   if (game === wanted) return;
   document.title = $("title").textContent = wanted.title;
+  $("way").hidden = single;
   $("games").hidden = $("explorer").hidden = $("rules").hidden = true;
   let solved = { counts: [] };
   if (solving) {

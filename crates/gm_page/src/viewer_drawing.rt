@@ -1,4 +1,4 @@
-//! A part of the script of a page with the engine.
+//! A part of the script of a page.
 
 /// What changes with each step, buttons and keys, and the end of the page.
 pub const DRAWING: &[u8] = br##"// ---- What changes with each step.
@@ -86,7 +86,7 @@ $("typed").onsubmit = async e => {
   const text = $("typing").value, row = await find(text);
   if (row !== null) return begin(row);
   $("typing").setAttribute("aria-invalid", "true");
-  say("No position of this game has this text; how one is written is described below.");
+  say(`No position of this ${solving ? "game" : "page"} has this text; how one is written is described below.`);
 };
 addEventListener("keydown", e => {
   const focus = document.activeElement;

@@ -1,4 +1,4 @@
-//! A part of the script of a page with the engine.
+//! A part of the script of a page.
 
 /// Editing, play against the solver, puzzles, and the line of play.
 pub const PLAYING: &[u8] =
@@ -86,7 +86,10 @@ async function puzzle() {
 // ---- The line.
 const say = (...words) => $("say").replaceChildren(...words);
 async function play(m) {
-  if (m.to === null) return say(`The position after ${m.name} is not in this page.`);
+  if (m.to === null) {
+    const command = html("code", {}, `gamesman page ${game.game} '${textAt(at)}'`);
+    return say(`The position after ${m.name} is not in this page. It is in that of `, command);
+  }
   const was = at, kept = word(m.worth) === word(valueAt(at)), own = mine !== null && side(at) === mine;
   if (line[at + 1]?.name !== m.name) {
     line.length = at + 1;

@@ -34,8 +34,8 @@ pub fn record_of(version: Version, number: u32) -> Option<Option<Solved>>
     Some(Some(Solved { value, remoteness }))
 }
 
-// Returns the code of a value.
-fn code_of(value: Value) -> u32
+/// Returns the code of a value.
+pub fn code_of(value: Value) -> u32
     ensures value { result ≡ code value }
     ensures few { result ≤ 4 }
 {

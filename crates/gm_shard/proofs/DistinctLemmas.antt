@@ -1,17 +1,8 @@
 -- Lists of numbers in which no number stands twice.
 use Rattle.std.proofs.Common.{◌≡◌, ℕ, zero, suc, ◌<◌, ◌≤◌, ◌⊎◌, inl, inr, List, [], ◌∷◌, ◌++◌, length, get_or, refl, sym, ap, subst, ◌∙◌, arith, length-append}
-use Rattle.std.specs.List.{Contains, range_with_len, swap}
-use Rattle.std.proofs.lemmas.List.{get_or_append_left}
-use Rattle.std.proofs.Math.Seq.{get_or-append_seam}
-use Rattle.std.proofs.lemmas.Bool.{cases_lt, cases_eq}
-use Rattle.std.proofs.lemmas.Grind.{get_or_default_zero}
-use Rattle.std.proofs.lemmas.List.Edits.{length-swap, Swapped, swapped_from_swap}
-use Rattle.std.specs.List.Sorted.{IsPermutation, IsNonDecreasing}
-use Rattle.std.proofs.lemmas.List.Sorted.{IsPermutation-keeps}
-use Rattle.std.proofs.lemmas.List.FromFn.{length-range_with_len, get_or-range_with_len}
-use Rattle.std.proofs.lemmas.List.Elements.{Contains-get_or}
-use Rattle.gm_game.proofs.Counts.{HasNoRepeats, no_longer}
-use Rattle.gm_shard.specs.Queues.{AreDistinct}
+use Rattle.gm_shard.proofs.Lower.{Contains, range_with_len, swap, get_or_append_left, get_or-append_seam, cases_lt, cases_eq, get_or_default_zero, length-swap}
+use Rattle.gm_shard.proofs.Lower.{Swapped, swapped_from_swap, IsPermutation, IsNonDecreasing, IsPermutation-keeps, length-range_with_len, get_or-range_with_len}
+use Rattle.gm_shard.proofs.Lower.{Contains-get_or, HasNoRepeats, no_longer, AreDistinct}
 
 pub distinct_none : AreDistinct []
 distinct_none i j l m e = absurd (omega arith)

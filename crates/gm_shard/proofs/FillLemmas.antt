@@ -1,29 +1,11 @@
 -- The queue of the positions of a range that have ended, index by index.
-use Rattle.std.proofs.Common.{◌≡◌, ℕ, ◌+◌, ◌<◌, ◌≤◌, ◌-◌, ◌↔◌, replicate, inl, inr, List, [], ◌∷◌, ◌++◌, length, refl, sym, ap, subst, ◌∙◌, arith, Some}
-use Rattle.std.specs.List.{Contains, slice_get}
-use Rattle.std.proofs.lemmas.Bool.{cases_eq}
-use Rattle.std.proofs.lemmas.List.{get_or-replicate, length-replicate}
-use Rattle.std.proofs.lemmas.Option.{slice_get_within, get_or_from_slice_get}
-use Rattle.std.proofs.lemmas.List.Elements.{Contains-get_or, Contains-append_left, Contains-append_right, Contains-append_cases}
-use Rattle.gm_game.specs.declared.position.Position.{Position}
-use Rattle.gm_game.specs.declared.position.End.{End}
+use Rattle.std.proofs.Common.{◌≡◌, ℕ, ◌+◌, ◌<◌, ◌≤◌, ◌↔◌, inl, inr, List, [], ◌∷◌, ◌++◌, length, refl, sym, ap, subst, ◌∙◌, arith, Some}
+use Rattle.gm_shard.proofs.Lower.{Contains, slice_get, cases_eq, slice_get_within, get_or_from_slice_get, Contains-get_or, Contains-append_left}
+use Rattle.gm_shard.proofs.Lower.{Contains-append_right, Contains-append_cases, Position, End, Phase, WinLose, Ties, Solved, Rules, at, from_end, IsSettled}
+use Rattle.gm_shard.proofs.Lower.{contains_none, contains_first, contains_cases, Status, Hole, Undecided, Settled, first_state, ShardState, IsInRange}
+use Rattle.gm_shard.proofs.Lower.{delivered_to, In, StatusIs, IsGood, QueueData, IsSettledIn, IsQueue, AreQueues, AreDistinct, HasPhase, IsEmptied, none_of}
+use Rattle.gm_shard.proofs.Lower.{nothing_settled, first_empty}
 use Rattle.gm_game.specs.declared.position.End.TheVariants.{Lose as EndLose, Tie as EndTie, Win as EndWin}
-use Rattle.gm_game.specs.declared.position.Phase.{Phase}
-use Rattle.gm_game.specs.declared.position.Phase.TheVariants.{WinLose, Ties}
-use Rattle.gm_game.specs.declared.position.Solved.{Solved}
-use Rattle.gm_game.specs.Rules.{Rules, at}
-use Rattle.gm_game.specs.Records.{from_end}
-use Rattle.gm_game.specs.Settling.{IsSettled}
-use Rattle.gm_game.proofs.Lists.{contains_none, contains_first, contains_cases}
-use Rattle.gm_deliveries.specs.declared.status.Status.{Status}
-use Rattle.gm_deliveries.specs.declared.status.Status.TheVariants.{Hole, Undecided, Settled}
-use Rattle.gm_deliveries.specs.Begin.{first_state}
-use Rattle.gm_deliveries.specs.State.{ShardState, IsInRange, delivered_to}
-use Rattle.gm_deliveries.specs.Status.{In, StatusIs}
-use Rattle.gm_deliveries.specs.Good.{IsGood}
-use Rattle.gm_shard.specs.Queues.{QueueData, IsSettledIn, IsQueue, AreQueues, AreDistinct, HasPhase, IsEmptied}
-use Rattle.gm_deliveries.proofs.NoteLemmas.{none_of}
-use Rattle.gm_deliveries.proofs.BeginLemmas.{nothing_settled}
 use Rattle.gm_shard.proofs.DistinctLemmas.{distinct_none, distinct_push, distinct_few}
 use Rattle.gm_shard.proofs.QueueLemmas.{settled_once}
 
@@ -141,14 +123,11 @@ filled_all r s phase n q none all f = record {
 
 -- a shard at the first place has no child delivered
 pub first_emptied : (s : ShardState) (tier lo n : ℕ) → s ≡ first_state tier lo n → IsEmptied s
-first_emptied s tier lo n e =
-    subst IsEmptied (sym e)
-    (λ i within. (let a = within.0 in let b = within.1 in let long : length (replicate n (let none : List Position = [] in none)) ≡ n =
-    length-replicate n [] in get_or-replicate n (i - lo) [] [] (omega arith)))
+first_emptied s tier lo n e = subst IsEmptied (sym e) (λ i within. first_empty tier lo n i within)
 
 -- its queues have what has ended
-pub first_queues : (r : Rules) (s : ShardState) (tier lo n : ℕ) (wins ties : QueueData) → s ≡ first_state tier lo n → IsQueue r s WinLose 0 wins
-    → IsQueue r s Ties 0 ties → AreQueues r s s.phase wins ties
-first_queues r s tier lo n wins ties e w t =
-    subst (λ (x : ShardState). AreQueues r x x.phase wins ties) (sym e)
-    (subst (λ (x : ShardState). IsQueue r x WinLose 0 wins) e w, subst (λ (x : ShardState). IsQueue r x Ties 0 ties) e t)
+pub first_queues : (r : Rules) (s : ShardState) (tier lo n : ℕ) (queue ties : QueueData) → s ≡ first_state tier lo n → IsQueue r s WinLose 0 queue
+    → IsQueue r s Ties 0 ties → AreQueues r s queue ties
+first_queues r s tier lo n queue ties e w t =
+    subst (λ (x : ShardState). AreQueues r x queue ties) (sym e)
+    (subst (λ (x : ShardState). IsQueue r x WinLose 0 queue) e w, λ _. subst (λ (x : ShardState). IsQueue r x Ties 0 ties) e t)

@@ -1,37 +1,14 @@
 -- The records of a range at the end of ties.
 use Rattle.std.proofs.Common.{◌≡◌, ℕ, ◌+◌, List, [], ◌∷◌, ◌++◌, length, get_or, refl, sym, ap, subst, ◌∙◌, arith, inl, inr, Option, Some, length-append}
-use Rattle.std.proofs.lemmas.Bool.{cases_lt}
-use Rattle.std.proofs.lemmas.List.{get_or_append_left}
-use Rattle.std.proofs.Math.Seq.{get_or-append_seam}
-use Rattle.std.proofs.lemmas.Option.{slice_get-get_or, get_or_from_slice_get, slice_get_within}
-use Rattle.gm_game.specs.declared.limits.TheConstants.{REMOTENESS}
-use Rattle.gm_game.specs.declared.position.Phase.{Phase}
-use Rattle.gm_game.specs.declared.position.Phase.TheVariants.{Ties}
-use Rattle.gm_game.specs.declared.position.Solved.{Solved}
-use Rattle.gm_game.specs.Rules.{Rules, at, IsInner}
-use Rattle.gm_game.specs.Laws.{IsGame}
-use Rattle.gm_game.specs.Records.{IsRecord}
-use Rattle.gm_game.specs.Values.{IsTrueValue}
-use Rattle.gm_game.specs.Places.{IsLastLevel}
-use Rattle.gm_game.specs.Settling.{AreReached}
-use Rattle.gm_game.proofs.Levels.{undecided_draw}
-use Rattle.gm_table.specs.Packed.{IsNear}
-use Rattle.gm_deliveries.specs.declared.status.Status.{Status}
-use Rattle.gm_deliveries.specs.declared.status.Status.TheVariants.{Hole, Undecided, Settled}
-use Rattle.gm_deliveries.specs.State.{ShardState, IsInRange, delivered_to}
-use Rattle.gm_deliveries.specs.Status.{In, StatusIs}
-use Rattle.gm_deliveries.specs.Good.{IsGood}
-use Rattle.gm_deliveries.specs.Closing.{record_of, ArePart}
-use Rattle.gm_deliveries.proofs.NoteLemmas.{settled_canonical}
+use Rattle.gm_shard.proofs.Lower.{cases_lt, get_or_append_left, get_or-append_seam, slice_get-get_or, get_or_from_slice_get, slice_get_within, REMOTENESS}
+use Rattle.gm_shard.proofs.Lower.{Phase, Ties, Solved, Rules, at, IsInner, IsGame, IsRecord, IsTrueValue, IsLastLevel, AreReached, undecided_draw, IsNear}
+use Rattle.gm_shard.proofs.Lower.{Status, Hole, Undecided, Settled, ShardState, IsInRange, delivered_to, In, StatusIs, IsGood, record_of, ArePart}
+use Rattle.gm_shard.proofs.Lower.{settled_canonical, reached_by}
 
 -- the children delivered to an inner position of a good shard
 reached_good : (r : Rules) (s : ShardState) → IsGood r s → (i : ℕ) → IsInRange s i → IsInner r (at s.tier i)
     → AreReached r (at s.tier i) s.phase s.level (In (delivered_to s i))
-reached_good r s good i m inner = record {
-  children = λ c h. (good.pairs i c m h).0.1;
-  up_to = λ c h. (let b = (good.pairs i c m h).1 in (b.own_phase, b.own_level, b.stands, b.before));
-  before = λ c q n k stands b. good.whole i c m (inner, k) (record { own_phase = q; own_level = n; stands = stands; before = b });
-}
+reached_good r s good i m inner = reached_by r s i inner (λ c. good.pairs i c m) (λ c. good.whole i c m)
 
 -- the record of a status is the true one
 record_true : (r : Rules) → IsGame r → (s : ShardState) → IsGood r s → s.phase ≡ Ties → IsLastLevel r s.tier Ties s.level → (i : ℕ) → IsInRange s i

@@ -1,37 +1,12 @@
 -- The indexes that are settled at the present place, and their notes.
 use Rattle.std.proofs.Common.{◌≡◌, ◌≢◌, ℕ, suc, ◌+◌, ◌-◌, ◌<◌, ◌≤◌, inl, inr, true, List, [], ◌∷◌, map, drop, length, get_or, refl, sym, ap, subst, ◌∙◌, arith}
 use Rattle.std.proofs.Common.{Some, length-drop, length-take}
-use Rattle.std.specs.List.{Contains, slice_get, slice_range, AllByRecursion}
-use Rattle.std.specs.List.Sorted.{IsPermutation, IsNonDecreasing}
-use Rattle.std.proofs.lemmas.List.{get_or-drop, get_or-take}
-use Rattle.std.proofs.lemmas.List.Sorted.{Contains-permutation, IsPermutation-sym}
-use Rattle.std.proofs.lemmas.List.Elements.{Contains-get_or}
-use Rattle.std.proofs.lemmas.Bool.{cases_lt}
-use Rattle.std.proofs.lemmas.Bool.Decides.{nat_tests}
-use Rattle.std.proofs.lemmas.Grind.{get_or_default_zero}
-use Rattle.std.proofs.lemmas.Option.{slice_get-get_or}
-use Rattle.gm_game.specs.declared.position.Position.{Position}
-use Rattle.gm_game.specs.declared.position.Phase.{Phase}
-use Rattle.gm_game.specs.declared.position.Phase.TheVariants.{WinLose, Ties}
-use Rattle.gm_game.specs.declared.position.Solved.{Solved}
-use Rattle.gm_game.specs.Rules.{Rules, at, IsCanonical}
-use Rattle.gm_game.specs.Children.{is_before}
-use Rattle.gm_game.specs.declared.position.Value.{Value}
-use Rattle.gm_game.specs.declared.position.Value.TheVariants.{Lose, Draw, Tie, Win}
-use Rattle.gm_game.specs.Values.{HasValue, IsTrueValue}
-use Rattle.gm_game.specs.Places.{StandsAt, IsPlaceBefore}
-use Rattle.gm_game.proofs.Basic.{HasValue_once}
-use Rattle.gm_game.proofs.SetLemmas.{same_position}
-use Rattle.gm_game.proofs.Lists.{contains_none, contains_first, contains_later, contains_cases, map_in, map_from}
-use Rattle.gm_frontier.specs.Notes.{NoteData, IsNote, IsNoteAt, phase_of}
-use Rattle.gm_frontier.specs.Levels.{IsInRun, IsRun, AreInOrder, positions}
-use Rattle.gm_deliveries.specs.Steps.{place_of}
-use Rattle.gm_deliveries.proofs.NoteLemmas.{settled_canonical, settled_decided}
-use Rattle.gm_deliveries.specs.declared.status.Status.TheVariants.{Settled}
-use Rattle.gm_deliveries.specs.State.{ShardState, IsInRange, delivered_to}
-use Rattle.gm_deliveries.specs.Status.{StatusIs}
-use Rattle.gm_deliveries.specs.Good.{IsGood}
-use Rattle.gm_shard.specs.Queues.{QueueData, IsSettledAt, AreSettledAt, IsQueue, AreQueues, IsNoteAtIndex, AreNotesAt}
+use Rattle.gm_shard.proofs.Lower.{Contains, slice_get, slice_range, AllByRecursion, IsPermutation, IsNonDecreasing, get_or-drop, get_or-take}
+use Rattle.gm_shard.proofs.Lower.{Contains-permutation, IsPermutation-sym, Contains-get_or, cases_lt, nat_tests, get_or_default_zero, slice_get-get_or}
+use Rattle.gm_shard.proofs.Lower.{Position, Phase, Solved, Rules, at, IsCanonical, is_before, Draw, IsTrueValue, StandsAt, same_position, contains_none}
+use Rattle.gm_shard.proofs.Lower.{contains_first, contains_later, contains_cases, map_in, map_from, NoteData, IsNote, IsNoteAt, phase_of, IsInRun, IsRun}
+use Rattle.gm_shard.proofs.Lower.{AreInOrder, positions, now_stands, one_place, place_of, value_stands, settled_canonical, settled_decided, Settled, ShardState}
+use Rattle.gm_shard.proofs.Lower.{IsInRange, delivered_to, StatusIs, IsGood, QueueData, IsSettledAt, AreSettledAt, IsQueue, IsNoteAtIndex, AreNotesAt}
 use Rattle.gm_shard.proofs.QueueLemmas.{settled_once}
 use Rattle.gm_shard.proofs.DistinctLemmas.{distinct_permuted, distinct_ascending}
 
@@ -98,19 +73,6 @@ present_of r s phase level q old =
           omega arith;
     }
 
--- the present part of the queue of the present phase
-pub present_wins : (r : Rules) (s : ShardState) (w q : QueueData) → s.phase ≡ WinLose → AreQueues r s s.phase w q
-    → AreSettledAt r s s.phase s.level (slice_range w.indexes w.from w.to)
-present_wins r s w q e x =
-    let y : AreQueues r s WinLose w q = subst (λ (ph : Phase). AreQueues r s ph w q) e x in
-    subst (λ (ph : Phase). AreSettledAt r s ph s.level (slice_range w.indexes w.from w.to)) (sym e) (present_of r s WinLose s.level w y.0)
-
-pub present_ties : (r : Rules) (s : ShardState) (w q : QueueData) → s.phase ≡ Ties → AreQueues r s s.phase w q
-    → AreSettledAt r s s.phase s.level (slice_range q.indexes q.from q.to)
-present_ties r s w q e x =
-    let y : AreQueues r s Ties w q = subst (λ (ph : Phase). AreQueues r s ph w q) e x in
-    subst (λ (ph : Phase). AreSettledAt r s ph s.level (slice_range q.indexes q.from q.to)) (sym e) (present_of r s Ties s.level q y)
-
 -- in another order
 pub settled_permuted : (r : Rules) (s : ShardState) (phase : Phase) (level : ℕ) (xs ys : List ℕ) → IsPermutation xs ys → AreSettledAt r s phase level xs
     → AreSettledAt r s phase level ys
@@ -152,24 +114,10 @@ in_order tier lo [] h = tt
 in_order tier lo (k ∷ ks) h =
     (later_all tier lo k ks (λ j l. h 0 (suc j) (omega arith) (omega arith)), in_order tier lo ks (λ i j l m. h (suc i) (suc j) (omega arith) (omega arith)))
 
--- a settled value is in its phase
-pub stands_of : (r : Rules) (p : Position) (v : Value) (n : ℕ) → HasValue r p v n → (v ≢ Draw) → StandsAt r (phase_of v) n p
-stands_of r p Lose n h some = inr h
-stands_of r p Draw n h some = absurd (some refl)
-stands_of r p Tie n h some = h
-stands_of r p Win n h some = inl h
-
 -- what is at a place has that phase and remoteness
 pub place_is : (r : Rules) (p : Position) (x : Solved) (phase : Phase) (n : ℕ) → IsTrueValue r p x → (x.value ≢ Draw) → StandsAt r phase n p
     → (phase_of x.value ≡ phase) × (x.remoteness ≡ n)
-place_is r p x WinLose n h some (inl w) = let (e, f) = HasValue_once r p x.value Win x.remoteness n h w in (ap phase_of e, f)
-place_is r p x WinLose n h some (inr l) = let (e, f) = HasValue_once r p x.value Lose x.remoteness n h l in (ap phase_of e, f)
-place_is r p x Ties n h some t = let (e, f) = HasValue_once r p x.value Tie x.remoteness n h t in (ap phase_of e, f)
-
--- a place comes before the next one
-here_before : (ph : Phase) (n : ℕ) → IsPlaceBefore ph n ph (n + 1)
-here_before WinLose n = omega arith
-here_before Ties n = omega arith
+place_is r p x phase n h some at = one_place r (phase_of x.value) phase x.remoteness n p (value_stands r p x.value x.remoteness h some) at
 
 -- the notes of all indexes that are settled at the place are a run
 pub run_of : (r : Rules) (s : ShardState) → IsGood r s → (ks : List ℕ) (ns : List NoteData) → AreSettledAt r s s.phase s.level ks → IsNonDecreasing ks
@@ -204,7 +152,7 @@ run_of r s good ks ns h up notes = record {
         let stands : StandsAt r s.phase s.level (at s.tier c.index) = subst (StandsAt r s.phase s.level) (sym here) i.stands in
         let canonical : IsCanonical r (at s.tier c.index) = subst (IsCanonical r) (sym here) i.canonical in
         let (x, h) = good.true_is_settled c.index (low, high) canonical
-        (record { own_phase = s.phase; own_level = s.level; stands = stands; before = here_before s.phase s.level }) in
+        (now_stands r s.phase s.level (at s.tier c.index) stands) in
         let (e, n) = place_is r (at s.tier c.index) x s.phase s.level (good.settled_is_true c.index x (low, high) h).0
         (settled_decided r (at s.tier c.index) (delivered_to s c.index) x h) stands in
         record { within = omega arith; value = x; settled = subst (λ (j : ℕ). StatusIs r s j (Settled x)) (sym back) h; phase_is = e; level_is = n }
@@ -224,7 +172,7 @@ run_of r s good ks ns h up notes = record {
           canonical = settled_canonical r (at s.tier (s.lo + k)) (delivered_to s (s.lo + k)) x w.settled;
           stands = subst (λ (ph : Phase). StandsAt r ph s.level (at s.tier (s.lo + k))) w.phase_is
               (subst (λ (n : ℕ). StandsAt r (phase_of x.value) n (at s.tier (s.lo + k))) w.level_is
-              (stands_of r (at s.tier (s.lo + k)) x.value x.remoteness (good.settled_is_true (s.lo + k) x m w.settled).0 some));
+              (value_stands r (at s.tier (s.lo + k)) x.value x.remoteness (good.settled_is_true (s.lo + k) x m w.settled).0 some));
         }
 
     noted_one : (k : ℕ) (n : NoteData) → IsSettledAt r s s.phase s.level k → IsNoteAtIndex r s k n → IsNoteAt r (place_of s) n

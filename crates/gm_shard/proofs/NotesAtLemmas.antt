@@ -1,14 +1,6 @@
 -- Notes of settled indexes, one after another.
 use Rattle.std.proofs.Common.{◌≡◌, ℕ, ◌+◌, ◌<◌, List, [], ◌∷◌, ◌++◌, take, length, get_or, refl, sym, subst, Option, None, Some, IsSome}
-use Rattle.std.proofs.lemmas.List.{take_more}
-use Rattle.gm_game.specs.Rules.{Rules}
-use Rattle.gm_frontier.specs.Notes.{NoteData}
-use Rattle.gm_game.specs.declared.position.Solved.{Solved}
-use Rattle.gm_deliveries.specs.declared.status.Status.TheVariants.{Settled}
-use Rattle.gm_deliveries.specs.State.{ShardState}
-use Rattle.gm_deliveries.specs.Status.{StatusIs}
-use Rattle.gm_deliveries.specs.Closing.{IsNoteOf}
-use Rattle.gm_shard.specs.Queues.{IsNoteAtIndex, AreNotesAt}
+use Rattle.gm_shard.proofs.Lower.{take_more, Rules, NoteData, Solved, Settled, ShardState, StatusIs, IsNoteOf, IsNoteAtIndex, AreNotesAt}
 
 pub notes_push : (r : Rules) (s : ShardState) (ks : List ℕ) (ns : List NoteData) (k : ℕ) (n : NoteData) → AreNotesAt r s ks ns → IsNoteAtIndex r s k n
     → AreNotesAt r s (ks ++ k ∷ []) (ns ++ n ∷ [])

@@ -1,29 +1,11 @@
 -- How queues follow a shard's state.
 use Rattle.std.proofs.Common.{◌≡◌, ◌≢◌, ℕ, ◌+◌, ◌-◌, ◌<◌, ◌≤◌, inl, inr, List, [], ◌∷◌, ◌++◌, length, get_or, sym, ap, subst, ◌∙◌, arith, Some}
-use Rattle.std.proofs.Common.{get_or-set_other, length-set, length-append}
-use Rattle.std.specs.List.{Contains, slice_get}
-use Rattle.std.proofs.lemmas.Bool.{cases_lt, cases_eq}
-use Rattle.std.proofs.lemmas.List.{get_or_append_left}
-use Rattle.std.proofs.Math.Seq.{get_or-append_seam}
-use Rattle.std.proofs.lemmas.List.Elements.{Contains-get_or, Contains-append_left, Contains-append_right, Contains-append_cases}
-use Rattle.std.proofs.lemmas.Option.{slice_get-get_or, get_or_from_slice_get, slice_get_within}
-use Rattle.gm_game.specs.declared.position.Position.{Position}
-use Rattle.gm_game.specs.declared.position.Phase.{Phase}
-use Rattle.gm_game.specs.declared.position.Solved.{Solved}
-use Rattle.gm_game.specs.Rules.{Rules, at}
-use Rattle.gm_game.specs.Children.{with_position}
-use Rattle.gm_game.proofs.Checker.{IsTrueValue_once}
-use Rattle.gm_game.proofs.Lists.{contains_none, contains_first, contains_cases}
-use Rattle.gm_frontier.specs.Notes.{phase_of}
-use Rattle.gm_deliveries.specs.declared.status.Status.{Status}
-use Rattle.gm_deliveries.specs.declared.status.Status.TheVariants.{Hole, Undecided, Settled}
-use Rattle.gm_deliveries.specs.State.{ShardState, IsInRange, delivered_to, with_pair}
-use Rattle.gm_deliveries.specs.Status.{HasStatus, StatusIs}
-use Rattle.gm_deliveries.specs.Good.{IsGood}
-use Rattle.gm_deliveries.specs.Delivery.{IsSettledNow, KeepsStatus}
-use Rattle.gm_deliveries.specs.Steps.{next_level, first_ties}
-use Rattle.gm_shard.specs.Queues.{QueueData, IsSettledIn, IsPlaced, AreDistinct, IsQueue}
-use Rattle.gm_deliveries.proofs.NoteLemmas.{none_of}
+use Rattle.std.proofs.Common.{get_or-set_other, length-append}
+use Rattle.gm_shard.proofs.Lower.{Contains, slice_get, cases_lt, cases_eq, get_or_append_left, get_or-append_seam, Contains-get_or, Contains-append_left}
+use Rattle.gm_shard.proofs.Lower.{Contains-append_right, Contains-append_cases, slice_get-get_or, get_or_from_slice_get, slice_get_within, Position, Phase}
+use Rattle.gm_shard.proofs.Lower.{Solved, Rules, at, with_position, IsTrueValue_once, contains_none, contains_first, contains_cases, phase_of, Status, Hole}
+use Rattle.gm_shard.proofs.Lower.{Undecided, Settled, ShardState, IsInRange, delivered_to, with_pair, HasStatus, StatusIs, IsGood, IsSettledNow, KeepsStatus}
+use Rattle.gm_shard.proofs.Lower.{QueueData, IsSettledIn, IsPlaced, AreDistinct, IsQueue, count_same, still_mine, none_of}
 use Rattle.gm_shard.proofs.DistinctLemmas.{distinct_push, fewer_than}
 
 -- a settled status is one record
@@ -34,6 +16,13 @@ settled_once r s g i m x y a b = IsTrueValue_once r (at s.tier i) x y (g.settled
 -- an undecided index is in no queue
 not_settled : (r : Rules) (s : ShardState) (i : ℕ) (x : Solved) → StatusIs r s i Undecided → StatusIs r s i (Settled x) → ⊥
 not_settled r s i x u h = none_of r (at s.tier i) (delivered_to s i) Undecided u (λ y e. cc) x h
+
+-- an index of the same status in two states has its record in both
+kept_settled : (r : Rules) (s t : ShardState) → IsGood r s → (i : ℕ) → IsInRange s i → (y : Status) → StatusIs r s i y → StatusIs r t i y → (x : Solved)
+    → StatusIs r s i (Settled x) → StatusIs r t i (Settled x)
+kept_settled r s t g i m Hole a b x h = absurd (none_of r (at s.tier i) (delivered_to s i) Hole a (λ y e. cc) x h)
+kept_settled r s t g i m Undecided a b x h = absurd (not_settled r s i x a h)
+kept_settled r s t g i m (Settled y) a b x h = subst (λ (z : Solved). StatusIs r t i (Settled z)) (settled_once r s g i m y x a h) b
 
 -- states in which the same indexes are settled in a phase, with the same records, have the same queue
 pub queue_same : (r : Rules) (s t : ShardState) (phase : Phase) (level : ℕ) (q : QueueData) → length t.delivered ≡ length s.delivered
@@ -78,73 +67,43 @@ stays_other s c parent k l ne = get_or-set_other s.delivered (parent - s.lo) (s.
 
 module _ (r : Rules) (s : ShardState) (c : Position) (parent : ℕ) (mine : IsInRange s parent) (good : IsGood r s)
     (after : IsGood r (with_pair s c parent)) where
-  count_same : length (with_pair s c parent).delivered ≡ length s.delivered
-  count_same = length-set s.delivered (parent - s.lo) (with_position c (delivered_to s parent))
-
-  mine_after : IsInRange (with_pair s c parent) parent
-  mine_after = let n = count_same in let a = mine.0 in let b = mine.1 in (omega arith, omega arith)
-
   other_to : (k : ℕ) (x : Solved) → (s.lo + k ≢ parent) → StatusIs r s (s.lo + k) (Settled x) → StatusIs r (with_pair s c parent) (s.lo + k) (Settled x)
   other_to k x ne h = subst (λ (d : List Position). HasStatus r (at s.tier (s.lo + k)) d (Settled x)) (sym (stays_other s c parent k mine.0 ne)) h
 
   other_from : (k : ℕ) (x : Solved) → (s.lo + k ≢ parent) → StatusIs r (with_pair s c parent) (s.lo + k) (Settled x) → StatusIs r s (s.lo + k) (Settled x)
   other_from k x ne h = subst (λ (d : List Position). HasStatus r (at s.tier (s.lo + k)) d (Settled x)) (stays_other s c parent k mine.0 ne) h
 
-  -- a pair that settles nothing
-  kept_status : KeepsStatus r s (with_pair s c parent) parent → (x : Solved)
-      → (StatusIs r s parent (Settled x) → StatusIs r (with_pair s c parent) parent (Settled x))
-      × (StatusIs r (with_pair s c parent) parent (Settled x) → StatusIs r s parent (Settled x))
-  kept_status kept x = (
-    λ h. kept_to kept.status kept.before kept.after h,
-    λ h. kept_from kept.status kept.before kept.after h,
-  )
-    where
-      kept_to : (y : Status) → StatusIs r s parent y → StatusIs r (with_pair s c parent) parent y → StatusIs r s parent (Settled x)
-          → StatusIs r (with_pair s c parent) parent (Settled x)
-      kept_to Hole a b h = absurd (none_of r (at s.tier parent) (delivered_to s parent) Hole a (λ y e. cc) x h)
-      kept_to Undecided a b h = absurd (not_settled r s parent x a h)
-      kept_to (Settled y) a b h = subst (λ (z : Solved). StatusIs r (with_pair s c parent) parent (Settled z)) (settled_once r s good parent mine y x a h) b
-
-      kept_from : (y : Status) → StatusIs r s parent y → StatusIs r (with_pair s c parent) parent y → StatusIs r (with_pair s c parent) parent (Settled x)
-          → StatusIs r s parent (Settled x)
-      kept_from Hole a b h = absurd (none_of r (at s.tier parent) (delivered_to (with_pair s c parent) parent) Hole b (λ y e. cc) x h)
-      kept_from Undecided a b h = absurd (none_of r (at s.tier parent) (delivered_to (with_pair s c parent) parent) Undecided b (λ y e. cc) x h)
-      kept_from (Settled y) a b h = subst (λ (z : Solved). StatusIs r s parent (Settled z))
-          (settled_once r (with_pair s c parent) after parent mine_after y x b h) a
-
-  pub queue_kept : KeepsStatus r s (with_pair s c parent) parent → (phase : Phase) (level : ℕ) (q : QueueData) → IsQueue r s phase level q
-      → IsQueue r (with_pair s c parent) phase level q
-  queue_kept kept phase level q old =
-      queue_same r s (with_pair s c parent) phase level q count_same
+  -- the queue stays where the parent's records in the phase do
+  queue_by : (phase : Phase) (level : ℕ) (q : QueueData)
+      → ((x : Solved) → phase_of x.value ≡ phase → StatusIs r s parent (Settled x) → StatusIs r (with_pair s c parent) parent (Settled x))
+      → ((x : Solved) → phase_of x.value ≡ phase → StatusIs r (with_pair s c parent) parent (Settled x) → StatusIs r s parent (Settled x))
+      → IsQueue r s phase level q → IsQueue r (with_pair s c parent) phase level q
+  queue_by phase level q to from old =
+      queue_same r s (with_pair s c parent) phase level q (count_same s c parent mine)
       (λ k x l e h. elim (cases_eq (s.lo + k) parent) [
-        | inl is ↦ subst (λ (i : ℕ). StatusIs r (with_pair s c parent) i (Settled x)) (sym is)
-            ((kept_status kept x).0 (subst (λ (i : ℕ). StatusIs r s i (Settled x)) is h))
+        | inl is ↦ subst (λ (i : ℕ). StatusIs r (with_pair s c parent) i (Settled x)) (sym is) (to x e (subst (λ (i : ℕ). StatusIs r s i (Settled x)) is h))
         | inr ne ↦ other_to k x ne h
       ])
       (λ k x l e h. elim (cases_eq (s.lo + k) parent) [
-        | inl is ↦ subst (λ (i : ℕ). StatusIs r s i (Settled x)) (sym is)
-            ((kept_status kept x).1 (subst (λ (i : ℕ). StatusIs r (with_pair s c parent) i (Settled x)) is h))
+        | inl is ↦ subst (λ (i : ℕ). StatusIs r s i (Settled x)) (sym is) (from x e (subst (λ (i : ℕ). StatusIs r (with_pair s c parent) i (Settled x)) is h))
         | inr ne ↦ other_from k x ne h
       ])
       after old
+
+  -- a pair that settles nothing
+  pub queue_kept : KeepsStatus r s (with_pair s c parent) parent → (phase : Phase) (level : ℕ) (q : QueueData) → IsQueue r s phase level q
+      → IsQueue r (with_pair s c parent) phase level q
+  queue_kept kept phase level q = queue_by phase level q
+      (λ x e h. kept_settled r s (with_pair s c parent) good parent mine kept.status kept.before kept.after x h)
+      (λ x e h. kept_settled r (with_pair s c parent) s after parent (still_mine s c parent mine) kept.status kept.after kept.before x h)
 
   -- a pair that settles in another phase
   pub queue_other : (now : IsSettledNow r s (with_pair s c parent) parent) → (phase : Phase) (level : ℕ) (q : QueueData) → (s.phase ≢ phase)
       → IsQueue r s phase level q → IsQueue r (with_pair s c parent) phase level q
-  queue_other now phase level q apart old =
-      queue_same r s (with_pair s c parent) phase level q count_same
-      (λ k x l e h. elim (cases_eq (s.lo + k) parent) [
-        | inl is ↦ absurd (not_settled r s parent x now.was_open (subst (λ (i : ℕ). StatusIs r s i (Settled x)) is h))
-        | inr ne ↦ other_to k x ne h
-      ])
-      (λ k x l e h. elim (cases_eq (s.lo + k) parent) [
-        | inl is ↦ absurd (apart
-            (sym now.phase ∙ ap (λ (y : Solved). phase_of y.value)
-            (settled_once r (with_pair s c parent) after parent mine_after now.value x now.settled
-            (subst (λ (i : ℕ). StatusIs r (with_pair s c parent) i (Settled x)) is h)) ∙ e))
-        | inr ne ↦ other_from k x ne h
-      ])
-      after old
+  queue_other now phase level q apart = queue_by phase level q
+      (λ x e h. absurd (not_settled r s parent x now.was_open h))
+      (λ x e h. absurd (apart (sym now.phase ∙ ap (λ (y : Solved). phase_of y.value)
+      (settled_once r (with_pair s c parent) after parent (still_mine s c parent mine) now.value x now.settled h) ∙ e)))
 
   -- the parent's place in the range, which is in no queue before it is settled
   here : parent - s.lo < length s.delivered
@@ -185,7 +144,7 @@ module _ (r : Rules) (s : ShardState) (c : Position) (parent : ℕ) (mine : IsIn
     placed = λ place k x got h. place_of place k x (subst (λ (l : List ℕ). slice_get l place ≡ Some k) is got) h;
     order = (let l = old.order in omega arith);
     inside = (let l = old.inside in let n = length-append q.indexes last in let e = ap (λ (l : List ℕ). length l) is in omega arith);
-    room = (let n = count_same in let l = old.room in omega arith);
+    room = (let n = count_same s c parent mine in let l = old.room in omega arith);
   }
     where
       last : List ℕ
@@ -199,7 +158,7 @@ module _ (r : Rules) (s : ShardState) (c : Position) (parent : ℕ) (mine : IsIn
 
       old_settled : (k : ℕ) → IsSettledIn r s s.phase k → (k ≢ parent - s.lo) → IsSettledIn r (with_pair s c parent) s.phase k
       old_settled k w ne = record {
-        within = (let n = count_same in let l = w.within in omega arith);
+        within = (let n = count_same s c parent mine in let l = w.within in omega arith);
         value = w.value;
         settled = other_to k w.value (apart_of k ne) w.settled;
         phase_is = w.phase_is;
@@ -207,7 +166,7 @@ module _ (r : Rules) (s : ShardState) (c : Position) (parent : ℕ) (mine : IsIn
 
       was_settled : (k : ℕ) → IsSettledIn r (with_pair s c parent) s.phase k → (k ≢ parent - s.lo) → IsSettledIn r s s.phase k
       was_settled k w ne = record {
-        within = (let n = count_same in let l = w.within in omega arith);
+        within = (let n = count_same s c parent mine in let l = w.within in omega arith);
         value = w.value;
         settled = other_from k w.value (apart_of k ne) w.settled;
         phase_is = w.phase_is;
@@ -215,7 +174,7 @@ module _ (r : Rules) (s : ShardState) (c : Position) (parent : ℕ) (mine : IsIn
 
       now_settled : IsSettledIn r (with_pair s c parent) s.phase (parent - s.lo)
       now_settled = record {
-        within = (let n = count_same in let l = here in omega arith);
+        within = (let n = count_same s c parent mine in let l = here in omega arith);
         value = now.value;
         settled = subst (λ (i : ℕ). StatusIs r (with_pair s c parent) i (Settled now.value)) (sym back) now.settled;
         phase_is = now.phase;
@@ -245,7 +204,7 @@ module _ (r : Rules) (s : ShardState) (c : Position) (parent : ℕ) (mine : IsIn
             ∙ get_or_from_slice_get (q.indexes ++ last) place k 0 got in
             let h' : StatusIs r (with_pair s c parent) parent (Settled x) =
             subst (λ (i : ℕ). StatusIs r (with_pair s c parent) i (Settled x)) (ap (λ (j : ℕ). s.lo + j) (sym k_is) ∙ back) h in
-            let e = ap (λ (y : Solved). y.remoteness) (settled_once r (with_pair s c parent) after parent mine_after now.value x now.settled h') in
+            let e = ap (λ (y : Solved). y.remoteness) (settled_once r (with_pair s c parent) after parent (still_mine s c parent mine) now.value x now.settled h') in
             let level : x.remoteness ≡ s.level + 1 = sym e ∙ now.remoteness in
             record {
               before = λ a. absurd (omega arith);
@@ -256,12 +215,9 @@ module _ (r : Rules) (s : ShardState) (c : Position) (parent : ℕ) (mine : IsIn
 
 -- the queue of a level that is closed
 pub queue_closed : (r : Rules) (s : ShardState) (phase : Phase) (level : ℕ) (q : QueueData) → IsQueue r s phase level q
-    → IsQueue r (next_level s) phase (level + 1) (record q { from = q.to; to = length q.indexes })
+    → IsQueue r s phase (level + 1) (record q { from = q.to; to = length q.indexes })
 queue_closed r s phase level q old = record {
-  listed = λ k. (
-    λ h. let w = (old.listed k).0 h in record { within = w.within; value = w.value; settled = w.settled; phase_is = w.phase_is },
-    λ w. (old.listed k).1 (record { within = w.within; value = w.value; settled = w.settled; phase_is = w.phase_is }),
-  );
+  listed = old.listed;
   once = old.once;
   placed = λ place k x is h.
       let p = old.placed place k x is h in
@@ -276,30 +232,16 @@ queue_closed r s phase level q old = record {
   room = old.room;
 }
 
--- the queue of ties, where ties begin
-pub queue_turned : (r : Rules) (s : ShardState) (phase : Phase) (level : ℕ) (q : QueueData) → IsQueue r s phase level q → IsQueue r (first_ties s) phase level q
-queue_turned r s phase level q old = record {
+-- a queue does not depend on the place at which the shard is
+pub queue_moved : (r : Rules) (s : ShardState) (to : Phase) (n : ℕ) (phase : Phase) (level : ℕ) (q : QueueData) → IsQueue r s phase level q
+    → IsQueue r (record s { phase = to; level = n }) phase level q
+queue_moved r s to n phase level q old = record {
   listed = λ k. (
     λ h. let w = (old.listed k).0 h in record { within = w.within; value = w.value; settled = w.settled; phase_is = w.phase_is },
     λ w. (old.listed k).1 (record { within = w.within; value = w.value; settled = w.settled; phase_is = w.phase_is }),
   );
   once = old.once;
-  placed = λ place k x is h. let p = old.placed place k x is h in record { before = p.before; present = p.present; after = p.after };
-  order = old.order;
-  inside = old.inside;
-  room = old.room;
-}
-
--- the queue of another phase, where a level is closed
-pub queue_kept_level : (r : Rules) (s : ShardState) (phase : Phase) (level : ℕ) (q : QueueData) → IsQueue r s phase level q
-    → IsQueue r (next_level s) phase level q
-queue_kept_level r s phase level q old = record {
-  listed = λ k. (
-    λ h. let w = (old.listed k).0 h in record { within = w.within; value = w.value; settled = w.settled; phase_is = w.phase_is },
-    λ w. (old.listed k).1 (record { within = w.within; value = w.value; settled = w.settled; phase_is = w.phase_is }),
-  );
-  once = old.once;
-  placed = λ place k x is h. let p = old.placed place k x is h in record { before = p.before; present = p.present; after = p.after };
+  placed = old.placed;
   order = old.order;
   inside = old.inside;
   room = old.room;

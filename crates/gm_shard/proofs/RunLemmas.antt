@@ -1,60 +1,35 @@
 -- Events, and what they leave.
-use Rattle.std.proofs.Common.{◌≡◌, ℕ, suc, ◌+◌, ◌-◌, ◌<◌, ◌≤◌, inl, inr, List, [], ◌∷◌, Some, Result, Ok, Err, Bool, true, false, MatchBool, slice_get}
-use Rattle.std.proofs.Common.{slice_set, get_or, drop, length, refl, sym, ap, subst, ◌∙◌, arith, length-set}
-use Rattle.std.specs.List.{Contains}
-use Rattle.std.proofs.Math.Seq.{drop-cons}
-use Rattle.std.proofs.lemmas.Option.{slice_get-get_or, slice_get_within, get_or_from_slice_get, same_Some}
-use Rattle.std.proofs.lemmas.List.{set-get_or, drop_all}
-use Rattle.std.proofs.lemmas.Bool.{cases_lt}
-use Rattle.gm_game.specs.declared.position.Position.{Position}
-use Rattle.gm_game.specs.declared.position.Phase.{Phase}
-use Rattle.gm_game.specs.Rules.{Rules}
-use Rattle.gm_game.specs.Places.{StandsAt}
-use Rattle.gm_game.specs.Children.{with_position}
-use Rattle.gm_frontier.specs.Notes.{NoteData, IsNote, phase_of}
-use Rattle.gm_shard.specs.declared.event.Event.{Event}
-use Rattle.gm_deliveries.specs.declared.status.Status.TheVariants.{Settled}
-use Rattle.gm_deliveries.specs.declared.status.Delivery.{Delivery}
-use Rattle.gm_deliveries.specs.declared.status.Delivery.TheVariants.{Fresh, FreshSettled, Repeat}
-use Rattle.gm_deliveries.specs.declared.status.Refused.{Refused}
-use Rattle.gm_deliveries.specs.declared.status.Refused.TheVariants.{NotThisLevel, NotMine, NotAParent, TooFar}
-use Rattle.gm_deliveries.specs.State.{ShardState, IsInRange, delivered_to, with_pair}
-use Rattle.gm_deliveries.specs.Status.{StatusIs}
-use Rattle.gm_deliveries.specs.Good.{IsGood}
-use Rattle.gm_deliveries.specs.Delivery.{IsPairHere, IsAdded, Delivers}
-use Rattle.gm_deliveries.specs.Steps.{CanDeliver}
-use Rattle.gm_shard.specs.Runs.{shard_of, Takes, Changes, Runs}
-use Rattle.gm_shard.proofs.FreshLemmas.{stands_of, place_is}
+use Rattle.std.proofs.Common.{◌≡◌, ℕ, suc, ◌+◌, ◌<◌, ◌≤◌, inl, inr, List, [], ◌∷◌, Some, Result, Ok, Err, Bool, true, false, MatchBool, slice_get}
+use Rattle.std.proofs.Common.{slice_set, get_or, drop, length, refl, sym, ap, subst, ◌∙◌, arith, IsTrue, ◌↔◌}
+use Rattle.gm_shard.proofs.Lower.{Contains, drop-cons, slice_get-get_or, slice_get_within, get_or_from_slice_get, same_Some, set-get_or, drop_all, cases_lt}
+use Rattle.gm_shard.proofs.Lower.{Rules, NoteData, IsNote, Event, Settled, Delivery, Fresh, FreshSettled, Repeat, Refused, NotThisLevel, NotMine, NotAParent}
+use Rattle.gm_shard.proofs.Lower.{TooFar, ShardState, IsInRange, delivered_to, with_pair, StatusIs, IsGood, IsPairHere, IsAdded, Delivers, CanDeliver, shard_of}
+use Rattle.gm_shard.proofs.Lower.{Takes, Changes, Runs, note_stands, still_mine, outcome}
+use Rattle.gm_shard.proofs.FreshLemmas.{place_is}
 
 -- a note that passes the first three tests, whose pair is new and leaves a good shard
 can_deliver : (r : Rules) (note : NoteData) (parent : ℕ) (s t : ShardState) → IsNote r note.position note.solved → IsGood r t → IsInRange t parent
     → t ≡ with_pair s note.position parent → IsPairHere r s note parent → (Contains (delivered_to s parent) note.position → ⊥)
     → CanDeliver r s note.position parent
 can_deliver r note parent s t true_note good mine is here new = record {
-  stands = subst (λ (ph : Phase). StandsAt r ph s.level note.position) here.is_level.0
-      (subst (λ (n : ℕ). StandsAt r (phase_of note.solved.value) n note.position) here.is_level.1
-      (stands_of r note.position note.solved.value note.solved.remoteness true_note.value true_note.decided));
+  stands = note_stands r s note parent true_note here;
   is_mine = here.is_mine;
   is_parent = here.is_parent;
   new = new;
   near = λ x h. (good.settled_is_true parent x mine (subst (λ (u : ShardState). StatusIs r u parent (Settled x)) (sym is) h)).1;
 }
 
--- a parent stays in the range
-still_mine : (s t : ShardState) (c : Position) (parent : ℕ) → t ≡ with_pair s c parent → IsInRange s parent → IsInRange t parent
-still_mine s t c parent is m = subst (λ (u : ShardState). IsInRange u parent) (sym is)
-    (let e = length-set s.delivered (parent - s.lo) (with_position c (delivered_to s parent)) in let a = m.0 in let b = m.1 in (omega arith, omega arith))
-
 -- a delivery that added its pair could be made
 pub added_can : (r : Rules) (note : NoteData) (parent : ℕ) (s t : ShardState) → IsNote r note.position note.solved → IsGood r t
     → (answer : Result Delivery Refused) → IsAdded answer → Delivers r note parent s t answer → CanDeliver r s note.position parent
     × (t ≡ with_pair s note.position parent)
-added_can r note parent s t n g (Err e) a d = absurd a
-added_can r note parent s t n g (Ok Repeat) a d = absurd a
-added_can r note parent s t n g (Ok Fresh) a (is, here, new, kept) =
-    (can_deliver r note parent s t n g (still_mine s t note.position parent is here.is_mine) is here new, is)
-added_can r note parent s t n g (Ok FreshSettled) a (is, here, new, now, near) =
-    (can_deliver r note parent s t n g (still_mine s t note.position parent is here.is_mine) is here new, is)
+added_can r note parent s t n g answer a d = elim (outcome r note parent s t answer d) [
+  | inl (_, is, here, new) ↦ (
+    can_deliver r note parent s t n g (subst (λ (u : ShardState). IsInRange u parent) (sym is) (still_mine s note.position parent here.is_mine)) is here new,
+    is,
+  )
+  | inr (none, same) ↦ absurd (none a)
+]
 
 -- a delivery that added nothing could not
 pub refused_cannot : (r : Rules) (note : NoteData) (parent : ℕ) (s t : ShardState) → IsNote r note.position note.solved
@@ -114,10 +89,10 @@ leads_end r ss es us n h = subst (λ (j : ℕ). Runs r ss es us j) (omega arith)
 
 -- what the answer of a delivery says of whether it could be made
 pub note_taken : (r : Rules) (note : NoteData) (parent : ℕ) (s t : ShardState) → IsNote r note.position note.solved → IsGood r t
-    → (answer : Result Delivery Refused) → Delivers r note parent s t answer → (b : Bool) → MatchBool b (IsAdded answer) (IsAdded answer → ⊥)
+    → (answer : Result Delivery Refused) → Delivers r note parent s t answer → (b : Bool) → (IsTrue b ↔ IsAdded answer)
     → MatchBool b (CanDeliver r s note.position parent × (t ≡ with_pair s note.position parent)) ((t ≡ s) × (CanDeliver r s note.position parent → ⊥))
-note_taken r note parent s t n good answer d true a = added_can r note parent s t n good answer a d
-note_taken r note parent s t n good answer d false a = refused_cannot r note parent s t n answer a d
+note_taken r note parent s t n good answer d true a = added_can r note parent s t n good answer (a.0 refl) d
+note_taken r note parent s t n good answer d false a = refused_cannot r note parent s t n answer (λ h. (let z : false ≡ true = a.1 h in cc)) d
 
 -- all events have been taken
 pub all_events : {G : Type 0} → (r : Rules) (ss : List ShardState) (es : List (Event G)) (us : List ShardState) (i n : ℕ) → length es ≤ i

@@ -1,15 +1,7 @@
 -- Settled indexes of a shard in the order in which they were settled.
 use Rattle.std.specs.Prelude.{◌≡◌, ℕ, ◌+◌, ◌<◌, ◌≤◌, ◌↔◌, List, [], ◌∷◌, length, Some, slice_get, slice_index}
-use Rattle.std.specs.List.{Contains}
-use Rattle.gm_game.specs.declared.position.Phase.{Phase}
-use Rattle.gm_game.specs.declared.position.Phase.TheVariants.{WinLose, Ties}
-use Rattle.gm_game.specs.declared.position.Solved.{Solved}
-use Rattle.gm_game.specs.Rules.{Rules, at}
-use Rattle.gm_frontier.specs.Notes.{NoteData, phase_of}
-use Rattle.gm_deliveries.specs.declared.status.Status.{Status}
-use Rattle.gm_deliveries.specs.declared.status.Status.TheVariants.{Hole, Undecided, Settled}
-use Rattle.gm_deliveries.specs.State.{ShardState, IsInRange, delivered_to}
-use Rattle.gm_deliveries.specs.Status.{StatusIs}
+use Rattle.gm_shard.specs.Lower.{Contains, Phase, WinLose, Ties, Solved, Rules, at, NoteData, phase_of, Status, Hole, Undecided, Settled, ShardState, IsInRange}
+use Rattle.gm_shard.specs.Lower.{delivered_to, StatusIs}
 
 -- what a queue shows: its indexes, the part of the present level, and how many indexes it has room for
 pub record QueueData : Type 0 where
@@ -45,9 +37,8 @@ pub record IsQueue (r : Rules) (s : ShardState) (phase : Phase) (level : ℕ) (q
   pub room : length s.delivered ≤ q.room
 
 -- the queue of the present phase, and before the phase of ties also the queue of the ties that have ended
-abbrev pub AreQueues : Rules → ShardState → Phase → QueueData → QueueData → Type 0
-AreQueues r s WinLose wins ties = IsQueue r s WinLose s.level wins × IsQueue r s Ties 0 ties
-AreQueues r s Ties wins ties = IsQueue r s Ties s.level ties
+abbrev pub AreQueues : Rules → ShardState → QueueData → QueueData → Type 0
+AreQueues r s queue ties = IsQueue r s s.phase s.level queue × (s.phase ≡ WinLose → IsQueue r s Ties 0 ties)
 
 -- the status is a settled one of this phase
 abbrev pub HasPhase : Phase → Status → Type 0

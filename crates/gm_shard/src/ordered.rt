@@ -17,6 +17,7 @@ use gm_game::position::{Phase, Place};
 use gm_table::packed::Packed;
 use std::alloc::{AllocError, Global};
 use std::marker::Model;
+use std::mem::swap;
 
 // Returns the queue of the positions that have ended in a phase, before any child is delivered.
 fn ended<G: Game>(alloc: Global, children: &Ordered<G>, phase: Phase) -> Result<Queue, AllocError>
@@ -54,7 +55,9 @@ fn notes_at<G: Game>(
 /// A range of a tier at a place, with the children delivered to each of its positions. It is good after any calls: see the contract of `range`.
 pub struct OrderedShard<G: Game> {
     children: Ordered<G>,
-    wins: Queue,
+    // The positions that are settled in the present phase.
+    queue: Queue,
+    // Before the phase of ties: the positions that have ended as ties.
     ties: Queue,
 }
 
@@ -63,7 +66,7 @@ impl<G: Game> Drop for OrderedShard<G> {
     fn drop(self) {
         let OrderedShard {
             children: _,
-            wins: _,
+            queue: _,
             ties: _,
         } = self;
     }
@@ -77,23 +80,14 @@ impl<G: Game> Model for OrderedShard<G> {
 
     ghost view = { λ s. s.children };
 
-    ghost invariant = { λ s. AreQueues G.rules s.children s.children.phase s.wins s.ties };
+    ghost invariant = { λ s. AreQueues G.rules s.children s.queue s.ties };
 }
 
 impl<G: Game> OrderedShard<G> {
     ghost use Rattle.std.specs.Prelude.{◌≡◌, ◌+◌, ◌*◌, ◌≤◌, ◌++◌, List, Option, length, IfOk, OnOk, OnErr};
-    ghost use Rattle.gm_game.specs.declared.limits.TheConstants.{MOVES};
-    ghost use Rattle.gm_game.specs.declared.position.Solved.{Solved};
-    ghost use Rattle.gm_game.specs.declared.position.Phase.TheVariants.{Ties};
-    ghost use Rattle.std.specs.List.{Contains};
-    ghost use Rattle.gm_deliveries.specs.Begin.{AreStarts, first_state};
+    ghost use Rattle.gm_shard.specs.Lower.{MOVES, Solved, Ties, Contains, AreStarts, first_state, IsInRange, delivered_to, pairs_in, StatusIs, IsGood};
+    ghost use Rattle.gm_shard.specs.Lower.{IsCounter, IsPairHere, Delivers, IsWhole, CanTurn, place_of, next_level, first_ties, IsNoteOf, ArePart};
     ghost use Rattle.gm_shard.specs.Queues.{AreSettledAt};
-    ghost use Rattle.gm_deliveries.specs.State.{IsInRange, delivered_to, pairs_in};
-    ghost use Rattle.gm_deliveries.specs.Status.{StatusIs};
-    ghost use Rattle.gm_deliveries.specs.Good.{IsGood, IsCounter};
-    ghost use Rattle.gm_deliveries.specs.Delivery.{IsPairHere, Delivers};
-    ghost use Rattle.gm_deliveries.specs.Steps.{IsWhole, CanTurn, place_of, next_level, first_ties};
-    ghost use Rattle.gm_deliveries.specs.Closing.{IsNoteOf, ArePart};
 
     /// Makes the shard of the indexes from `lo` on with these start values; nothing is delivered yet.
     pub fn begin(alloc: Global, tier: u64, lo: u64, starts: &[Start]) -> Result<Self, AllocError>
@@ -102,11 +96,11 @@ impl<G: Game> OrderedShard<G> {
         ensures { IfOk result (λ s. s ≡ first_state tier lo (length starts.now)) }
     {
         let children = Ordered::begin(alloc, tier, lo, starts)?;
-        let wins = ended(alloc, &children, Phase::WinLose)?;
+        let queue = ended(alloc, &children, Phase::WinLose)?;
         let ties = ended(alloc, &children, Phase::Ties)?;
         Ok(OrderedShard {
             children,
-            wins,
+            queue,
             ties,
         })
     }
@@ -179,11 +173,7 @@ impl<G: Game> OrderedShard<G> {
         let answer = self.children.deliver_new(note, parent);
         let _good = self.children.range();
         if has_settled(&answer) {
-            let index = (parent - lo) as u32;
-            match self.children.place().phase {
-                Phase::WinLose => self.wins.push(index),
-                Phase::Ties => self.ties.push(index),
-            }
+            self.queue.push((parent - lo) as u32);
         }
         answer
     }
@@ -195,20 +185,14 @@ impl<G: Game> OrderedShard<G> {
         ensures { self.new ≡ next_level self.old }
     {
         self.children.close();
-        match self.children.place().phase {
-            Phase::WinLose => self.wins.advance(),
-            Phase::Ties => self.ties.advance(),
-        }
+        self.queue.advance();
     }
 
     // Returns the indexes of the range that are settled at the present place, in the order in which they were settled.
     fn present(&self) -> &[u32]
         ensures { AreSettledAt G.rules self.now self.now.phase self.now.level result.now }
     {
-        match self.children.place().phase {
-            Phase::WinLose => self.wins.present(),
-            Phase::Ties => self.ties.present(),
-        }
+        self.queue.present()
     }
 
     /// Returns the notes of the present place, ascending. Takes time in proportion to the level.
@@ -250,5 +234,6 @@ impl<G: Game> OrderedShard<G> {
         ensures { self.new ≡ first_ties self.old }
     {
         self.children.next_phase(last);
+        swap(&mut self.queue, &mut self.ties);
     }
 }

@@ -1,14 +1,10 @@
 //! Runs of events over shards.
 ghost use Rattle.std.specs.Prelude.{◌≡◌, List, MatchBool, All};
-ghost use Rattle.gm_deliveries.specs.State.{ShardState, with_pair};
-ghost use Rattle.gm_deliveries.specs.Good.{IsGood};
-ghost use Rattle.gm_deliveries.specs.Delivery.{IsAdded};
-ghost use Rattle.gm_deliveries.specs.Steps.{CanDeliver};
+ghost use Rattle.gm_shard.specs.Lower.{ShardState, with_pair, IsGood, CanDeliver};
 ghost use Rattle.gm_shard.specs.Runs.{shard_of, Takes, Changes, Runs};
 
 use crate::event::Event;
-use crate::shard::Shard;
-use gm_deliveries::status::{Delivery, Refused};
+use crate::shard::{Shard, is_added};
 use gm_frontier::note::Note;
 use gm_game::game::Game;
 use gm_game::limits::REMOTENESS;
@@ -28,16 +24,6 @@ fn shard_of<G: Game>(event: &Event<G>) -> usize
     }
 }
 
-// Returns whether a delivery added its pair.
-fn has_added(answer: &Result<Delivery, Refused>) -> bool
-    ensures { MatchBool result (IsAdded answer.now) (IsAdded answer.now → ⊥) }
-{
-    match answer {
-        Ok(Delivery::Fresh | Delivery::FreshSettled) => true,
-        Ok(Delivery::Repeat) | Err(_) => false,
-    }
-}
-
 // Delivers a note if it can be delivered. Returns whether it could.
 fn take_note<G: Game>(shard: &mut Shard<G>, note: &Note<G>, parent: u64) -> bool
     ensures { MatchBool result (CanDeliver G.rules shard.old note.now.position parent × (shard.new ≡ with_pair shard.old note.now.position parent))
@@ -47,7 +33,7 @@ fn take_note<G: Game>(shard: &mut Shard<G>, note: &Note<G>, parent: u64) -> bool
     let _before = shard.range();
     let answer = shard.deliver(note, parent);
     let _after = shard.range();
-    has_added(&answer)
+    is_added(&answer)
 }
 
 // Applies an event to the shard that it names. Returns whether it could be applied.

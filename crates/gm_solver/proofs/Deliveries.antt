@@ -1,24 +1,15 @@
 -- Deliveries into ranges of a tier.
 use Rattle.std.proofs.Common.{◌≡◌, ℕ, ◌+◌, ◌<◌, ◌≤◌, ◌⊎◌, ◌↔◌, inl, inr, Bool, true, List, [], ◌++◌, length, map, filter, refl, ap, sym, subst, arith}
 use Rattle.std.proofs.Common.{length-append}
-use Rattle.std.specs.List.{Contains}
-use Rattle.std.proofs.lemmas.Bool.{cases_lt}
-use Rattle.std.proofs.lemmas.List.{length-map}
-use Rattle.std.proofs.lemmas.List.Elements.{Contains-append_left, Contains-append_right, Contains-append_cases}
-use Rattle.gm_game.specs.declared.position.Position.{Position}
-use Rattle.gm_game.specs.declared.position.Value.TheVariants.{Draw}
-use Rattle.gm_game.specs.Rules.{Rules, at, IsInner, IsCanonicalChild, AreHoles}
-use Rattle.gm_game.specs.Laws.{IsGame}
-use Rattle.gm_game.specs.Values.{HasValue}
-use Rattle.gm_game.specs.Numbers.{AreThere}
-use Rattle.gm_solver.specs.Gathered.{AreOnce}
-use Rattle.gm_game.proofs.Lists.{contains_none, map_from, map_in}
-use Rattle.gm_solver.proofs.Distinct.{no_repeats_from, no_repeats_to, no_repeats_append, no_repeats_map, no_repeats_filter, in_filter, filter_has}
-use Rattle.gm_table.specs.Solving.{AreDeliveries}
-use Rattle.gm_solver.specs.Passes.{IsDeliveryIn}
+use Rattle.gm_solver.proofs.Lower.{Contains, cases_lt, length-map, Contains-append_left, Contains-append_right, Position, Draw, Rules, at, IsInner}
+use Rattle.gm_solver.proofs.Lower.{IsCanonicalChild, AreHoles, IsGame, HasValue, AreThere, AreOnce, contains_none, no_repeats_to, no_repeats_append, IsDelivery}
+use Rattle.gm_solver.proofs.Lower.{AreDeliveries, IsDeliveryIn}
+use Rattle.std.proofs.lemmas.List.Elements.{Contains-append_cases}
+use Rattle.gm_game.proofs.Lists.{map_from, map_in}
+use Rattle.gm_frontier.proofs.Distinct.{no_repeats_from, no_repeats_map, no_repeats_filter, in_filter, filter_has}
 
 -- things of one of two kinds that have nothing in common
-there_sum : {A : Type 0} (n m : ℕ) (K L M : A → Type 0) → AreThere n K → AreThere m L → ((x : A) → K x → L x → ⊥) → ((x : A) → M x ↔ (K x ⊎ L x))
+pub there_sum : {A : Type 0} (n m : ℕ) (K L M : A → Type 0) → AreThere n K → AreThere m L → ((x : A) → K x → L x → ⊥) → ((x : A) → M x ↔ (K x ⊎ L x))
     → AreThere (n + m) M
 there_sum n m K L M (xs, count, a) (ys, many, b) apart same = (
   xs ++ ys,
@@ -33,8 +24,16 @@ there_sum n m K L M (xs, count, a) (ys, many, b) apart same = (
   },
 )
 
+-- things of the same kind, said otherwise
+pub there_same : {A : Type 0} (n : ℕ) (K M : A → Type 0) → AreThere n K → ((x : A) → M x ↔ K x) → AreThere n M
+there_same n K M (xs, count, a) same = (
+  xs,
+  count,
+  record { each = λ x. (λ m. (a.each x).0 ((same x).0 m), λ h. (same x).1 ((a.each x).1 h)); once = a.once },
+)
+
 -- nothing of a kind that there is not
-there_none : {A : Type 0} (K : A → Type 0) → ((x : A) → K x → ⊥) → AreThere 0 K
+pub there_none : {A : Type 0} (K : A → Type 0) → ((x : A) → K x → ⊥) → AreThere 0 K
 there_none K none = (
   [],
   refl,
@@ -117,14 +116,7 @@ deliveries_inner r p cs f inner are decides = (
 
 -- those into all indexes of a tier
 pub deliveries_whole : (r : Rules) → IsGame r → (tier n : ℕ) → AreThere n (IsDeliveryIn r tier 0 (r.tier_size tier)) → AreDeliveries r tier n
-deliveries_whole r g tier n (xs, count, a) = (
-  xs,
-  count,
-  record {
-    each = λ pair. (
-      λ d. (a.each pair).0 (record { delivery = d; low = omega arith; high = g.index_below (at tier pair.1) d.is_parent.0.legal }),
-      λ h. ((a.each pair).1 h).delivery,
-    );
-    once = a.once;
-  },
-)
+deliveries_whole r g tier n are = there_same n (IsDeliveryIn r tier 0 (r.tier_size tier)) (IsDelivery r tier) are (λ pair. (
+  λ d. record { delivery = d; low = omega arith; high = g.index_below (at tier pair.1) d.is_parent.0.legal },
+  λ d. d.delivery,
+))

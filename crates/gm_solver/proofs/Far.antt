@@ -1,40 +1,25 @@
 -- A delivery that would settle a position above the limit, and the last level within it.
 use Rattle.std.proofs.Common.{◌≡◌, ℕ, ◌+◌, ◌-◌, ◌<◌, ◌≤◌, inl, inr, ⊎_elim, List, [], length, get_or, refl, sym, subst, ◌∙◌, arith, Option, None, Some, IsSome}
 use Rattle.std.proofs.Common.{Err, get_or-set_same}
-use Rattle.std.specs.List.{Contains}
-use Rattle.std.proofs.lemmas.Bool.{cases_lt, false≢true}
-use Rattle.std.proofs.lemmas.Option.{slice_get-get_or}
-use Rattle.gm_game.specs.declared.limits.TheConstants.{REMOTENESS}
-use Rattle.gm_game.specs.declared.position.Position.{Position}
-use Rattle.gm_game.specs.declared.position.Solved.{Solved}
-use Rattle.gm_game.specs.declared.position.Phase.{Phase}
-use Rattle.gm_game.specs.declared.position.Phase.TheVariants.{WinLose, Ties}
-use Rattle.gm_game.specs.declared.position.Place.{Place}
-use Rattle.gm_game.specs.Rules.{Rules, at, IsCanonical, IsInner}
-use Rattle.gm_game.specs.Laws.{IsGame}
-use Rattle.gm_game.specs.Values.{HasValue, IsTrueValue}
+use Rattle.gm_solver.proofs.Lower.{Contains, cases_lt, false≢true, slice_get-get_or, REMOTENESS, Position, Solved, Phase, WinLose, Ties, Place, Rules, at}
+use Rattle.gm_solver.proofs.Lower.{IsCanonical, IsInner, IsGame, HasValue, IsTrueValue, IsRecord, IsTrueTable, StandsAt, IsPlaceBefore, IsLastLevel, TableData}
+use Rattle.gm_solver.proofs.Lower.{table_of, AreHeld, AreTables, NoteData, ShardState, delivered_to, IsGood, TooFar, Delivers, IsTooFar, IsDeliverable}
+use Rattle.gm_solver.proofs.Lower.{IsCovered}
 use Rattle.gm_game.specs.Children.{with_position}
-use Rattle.gm_game.specs.Records.{IsRecord, IsTrueTable}
-use Rattle.gm_game.specs.Places.{StandsAt, IsPlaceBefore, IsLastLevel, IsAtLevel}
+use Rattle.gm_game.specs.Places.{IsAtLevel}
 use Rattle.gm_game.specs.Settling.{IsSettled, AreReached, And}
 use Rattle.gm_game.proofs.SetLemmas.{has_new, has_old, with_cases}
 use Rattle.gm_game.proofs.Delivered.{reached_more}
 use Rattle.gm_game.proofs.Reached.{reached_true}
 use Rattle.gm_game.proofs.Frontier.{none_from_last}
-use Rattle.gm_table.specs.Tables.{TableData, table_of, AreHeld, AreTables}
-use Rattle.gm_frontier.specs.Notes.{NoteData, IsNote, phase_of}
+use Rattle.gm_frontier.specs.Notes.{IsNote, phase_of}
 use Rattle.gm_deliveries.specs.declared.status.Status.TheVariants.{Settled}
-use Rattle.gm_deliveries.specs.State.{ShardState, IsInRange, delivered_to, with_pair}
+use Rattle.gm_deliveries.specs.State.{IsInRange, with_pair}
 use Rattle.gm_deliveries.specs.Status.{In, StatusIs}
-use Rattle.gm_deliveries.specs.Good.{IsGood}
 use Rattle.gm_deliveries.specs.declared.status.Refused.{Refused}
-use Rattle.gm_deliveries.specs.declared.status.Refused.TheVariants.{NotThisLevel, NotMine, NotAParent, TooFar}
-use Rattle.gm_deliveries.specs.Delivery.{IsPairHere, IsSettledNow, Delivers}
+use Rattle.gm_deliveries.specs.declared.status.Refused.TheVariants.{NotThisLevel, NotMine, NotAParent}
+use Rattle.gm_deliveries.specs.Delivery.{IsPairHere, IsSettledNow}
 use Rattle.gm_deliveries.proofs.StatusLemmas.{settled_same}
-use Rattle.gm_deliveries.specs.Steps.{place_of}
-use Rattle.gm_table.specs.Solving.{IsTooFar}
-use Rattle.gm_locks.specs.Spots.{IsDeliverable}
-use Rattle.gm_solver.specs.Covered.{IsCovered}
 use Rattle.gm_locks.proofs.Places.{value_stands, stands_remoteness}
 
 -- the children delivered to an inner position of a good shard, at its place
@@ -175,8 +160,3 @@ level_near r g entries tables place covered held more = elim (cases_lt REMOTENES
   | inl above ↦ absurd (more (past_limit r g entries tables place covered held above))
   | inr near ↦ near
 ]
-
--- one shard over a whole tier has every index
-pub whole_covered : (r : Rules) (s : ShardState) → IsGood r s → s.lo ≡ 0 → length s.delivered ≡ r.tier_size s.tier → (i : ℕ) → i < r.tier_size s.tier
-    → IsCovered r (place_of s) i
-whole_covered r s good lo whole i l = record { shard = s; good = good; mine = (omega arith, omega arith); here = refl }

@@ -1,32 +1,13 @@
 -- What is known once the levels of both phases are passed.
-use Rattle.std.proofs.Common.{◌≡◌, ℕ, ◌+◌, inl, inr, List, length, refl, subst, arith, Option}
-use Rattle.gm_game.specs.declared.limits.TheConstants.{REMOTENESS}
-use Rattle.gm_game.specs.declared.position.Position.{Position}
-use Rattle.gm_game.specs.declared.position.Solved.{Solved}
-use Rattle.gm_game.specs.declared.position.Phase.{Phase}
-use Rattle.gm_game.specs.declared.position.Phase.TheVariants.{WinLose, Ties}
-use Rattle.gm_game.specs.declared.position.Place.{Place}
-use Rattle.gm_game.specs.Rules.{Rules, at}
-use Rattle.gm_game.specs.Laws.{IsGame}
-use Rattle.gm_game.specs.Values.{IsTrueValue}
-use Rattle.gm_game.specs.Records.{IsRecord, IsTrueTable}
-use Rattle.gm_game.specs.Places.{StandsAt, IsPlaceBefore, StandsBefore, IsNear, IsLastLevel}
-use Rattle.gm_game.proofs.Basic.{HasValue_once}
-use Rattle.gm_table.specs.Tables.{TableData, AreHeld, AreTables}
-use Rattle.gm_frontier.specs.Counts.{IsPairInto, IsNumberBefore}
+use Rattle.std.proofs.Common.{◌≡◌, ℕ, ◌+◌, inl, inr, List, refl, subst, arith, Option}
+use Rattle.gm_solver.proofs.Lower.{REMOTENESS, Position, Solved, Phase, WinLose, Ties, Place, Rules, at, IsGame, IsTrueValue, IsTrueTable, StandsAt}
+use Rattle.gm_solver.proofs.Lower.{IsPlaceBefore, StandsBefore, IsLastLevel, HasValue_once, TableData, AreHeld, AreTables, IsPairInto, IsNumberBefore}
+use Rattle.gm_solver.proofs.Lower.{IsDelivery, AreDeliveries, IsTooFar}
+use Rattle.gm_game.specs.Places.{IsNear}
 use Rattle.gm_frontier.proofs.PairLemmas.{near_of_pair}
-use Rattle.gm_deliveries.specs.Closing.{ArePart}
-use Rattle.gm_table.specs.Solving.{IsDelivery, AreDeliveries, IsTooFar}
 use Rattle.gm_locks.proofs.Places.{stands_no_draw, value_place}
 use Rattle.gm_solver.proofs.Far.{table_knows, child_known}
-
--- the part of a shard over the whole tier is its true table
-pub whole_part : (r : Rules) (tier : ℕ) (records : List (Option Solved)) → length records ≡ r.tier_size tier → ArePart r tier 0 records
-    → IsTrueTable r REMOTENESS tier records
-whole_part r tier records whole part = record {
-  whole = whole;
-  each = λ i o e. subst (λ (k : ℕ). IsRecord r REMOTENESS (IsTrueValue r) (at tier k) o) (let same : 0 + i ≡ i = omega arith in same) (part.each i o e);
-}
+use Rattle.gm_solver.proofs.Deliveries.{there_same}
 
 -- no position of a tier with a true table has a remoteness above the limit
 pub not_too_far : (r : Rules) → IsGame r → (tier : ℕ) (records : List (Option Solved)) → IsTrueTable r REMOTENESS tier records → IsTooFar r tier → ⊥
@@ -61,14 +42,9 @@ module _ (r : Rules) (g : IsGame r) (entries : List TableData) (tables : AreTabl
       )
 
   pub all_deliveries : (number : ℕ) → IsNumberBefore r tier 0 (r.tier_size tier) Ties level number → AreDeliveries r tier number
-  all_deliveries number (xs, long, lists) = (
-    xs,
-    long,
-    record {
-      each = λ pair. ((λ d. (lists.each pair).0 (uncounted pair d)), (λ k. counted pair ((lists.each pair).1 k)));
-      once = lists.once;
-    },
-  )
+  all_deliveries number are =
+      there_same number (λ (pair : Position × ℕ). IsPairInto r tier 0 (r.tier_size tier) pair.0 pair.1 × StandsBefore r Ties level pair.0)
+      (IsDelivery r tier) are (λ pair. (uncounted pair, counted pair))
 
 -- the same, of the number of all pairs before the end of ties
 pub end_deliveries : (r : Rules) → IsGame r → (entries : List TableData) → AreTables r entries → (tier : ℕ) → AreHeld r entries tier

@@ -1,17 +1,8 @@
 -- What the coordinator makes up for at the end of a level.
 use Rattle.std.proofs.Common.{◌≡◌, ℕ, ◌≤◌, List, sym, ap, subst, ◌∙◌, arith}
-use Rattle.gm_game.specs.declared.limits.TheConstants.{REMOTENESS}
-use Rattle.gm_game.specs.declared.position.Place.{Place}
-use Rattle.gm_game.specs.Rules.{Rules}
-use Rattle.gm_game.specs.Laws.{IsGame}
-use Rattle.gm_frontier.specs.Notes.{NoteData}
+use Rattle.gm_solver.proofs.Lower.{REMOTENESS, Place, Rules, IsGame, NoteData, pairs_of, piece_of, TooFar, Spot, IsLevelAt, piece_pairs, IsTooFar}
 use Rattle.gm_frontier.specs.Levels.{LevelData}
-use Rattle.gm_frontier.specs.Pairs.{pairs_of, piece_of}
-use Rattle.gm_deliveries.specs.declared.status.Refused.TheVariants.{TooFar}
-use Rattle.gm_locks.specs.Spots.{Spot}
-use Rattle.gm_locks.specs.Rounds.{IsLevelAt}
-use Rattle.gm_locks.specs.Pieces.{piece_pairs, IsRefusedAt}
-use Rattle.gm_table.specs.Solving.{IsTooFar}
+use Rattle.gm_locks.specs.Pieces.{IsRefusedAt}
 use Rattle.gm_solver.proofs.Far.{refused_far}
 
 -- a pair of the place that was refused tells of a position one above the limit

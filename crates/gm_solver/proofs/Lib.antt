@@ -7,7 +7,7 @@ pub mod RoundLemmas
 pub mod BlockLemmas
 pub mod InOrderLemmas
 pub mod Deliveries
-pub mod Distinct
 pub mod Values
 pub mod Parts
 pub mod OnceLemmas
+pub mod Lower

@@ -1,27 +1,18 @@
 -- True records of parts of a tier.
 use Rattle.std.proofs.Common.{◌≡◌, ℕ, zero, suc, ◌+◌, ◌-◌, ◌*◌, ◌<◌, ◌≤◌, inl, inr, List, [], ◌∷◌, ◌++◌, length, length-append, replicate, get_or, min, Option}
 use Rattle.std.proofs.Common.{None, Some, Result, slice_get, refl, sym, ap, subst, ◌∙◌, arith}
-use Rattle.std.specs.List.{AllZip, range_with_len}
-use Rattle.gm_game.specs.declared.limits.TheConstants.{REMOTENESS, MOVES}
-use Rattle.gm_game.specs.declared.position.Solved.{Solved}
-use Rattle.gm_game.specs.Rules.{Rules, at, AreHoles}
-use Rattle.gm_game.specs.Values.{IsTrueValue}
-use Rattle.gm_game.specs.Records.{IsRecord, IsTrueTable}
-use Rattle.gm_table.proofs.Dealt.{append_cases}
-use Rattle.std.proofs.lemmas.Option.{slice_get-get_or}
-use Rattle.std.proofs.lemmas.List.{length-replicate}
-use Rattle.gm_table.specs.Dealing.{block_in}
+use Rattle.gm_solver.proofs.Lower.{AllZip, range_with_len, REMOTENESS, Solved, Rules, at, AreHoles, IsTrueValue, IsRecord, IsTrueTable, append_cases}
+use Rattle.gm_solver.proofs.Lower.{slice_get-get_or, length-replicate, block_in, ArePart, IsGame, AreThere, AreDeliveries, IsDeliveryIn, IsFound}
+use Rattle.gm_game.specs.declared.limits.TheConstants.{MOVES}
 use Rattle.gm_solver.specs.declared.stop.Stop.{Stop}
-use Rattle.gm_game.specs.Laws.{IsGame}
-use Rattle.gm_game.specs.Numbers.{AreThere}
-use Rattle.gm_table.specs.Solving.{AreDeliveries}
-use Rattle.gm_solver.specs.Passes.{IsPart, IsDeliveryIn, IsBlock, IsFound, AreFound}
+use Rattle.gm_solver.specs.Passes.{IsBlock, AreFound}
+use Rattle.gm_solver.proofs.BlockLemmas.{zip_at}
 use Rattle.gm_solver.proofs.Deliveries.{deliveries_start, deliveries_join, deliveries_holes, deliveries_whole}
 
-pub part_none : (r : Rules) (tier lo : ℕ) → IsPart r tier lo []
+pub part_none : (r : Rules) (tier lo : ℕ) → ArePart r tier lo []
 part_none r tier lo = record { each = λ k o e. absurd (cc) }
 
-pub part_one : (r : Rules) (tier lo i : ℕ) (o : Option Solved) → i ≡ lo → IsRecord r REMOTENESS (IsTrueValue r) (at tier i) o → IsPart r tier lo (o ∷ [])
+pub part_one : (r : Rules) (tier lo i : ℕ) (o : Option Solved) → i ≡ lo → IsRecord r REMOTENESS (IsTrueValue r) (at tier i) o → ArePart r tier lo (o ∷ [])
 part_one r tier lo i o same h = record { each = each }
   where
     each : (k : ℕ) (x : Option Solved) → slice_get (o ∷ []) k ≡ Some x → IsRecord r REMOTENESS (IsTrueValue r) (at tier (lo + k)) x
@@ -32,8 +23,8 @@ part_one r tier lo i o same h = record { each = each }
     each (suc k) x e = absurd (cc)
 
 -- a part and the one behind it
-pub part_more : (r : Rules) (tier lo mid : ℕ) (xs ys : List (Option Solved)) → lo + length xs ≡ mid → IsPart r tier lo xs → IsPart r tier mid ys
-    → IsPart r tier lo (xs ++ ys)
+pub part_more : (r : Rules) (tier lo mid : ℕ) (xs ys : List (Option Solved)) → lo + length xs ≡ mid → ArePart r tier lo xs → ArePart r tier mid ys
+    → ArePart r tier lo (xs ++ ys)
 part_more r tier lo mid xs ys long a b = record {
   each = λ k o e. elim (append_cases xs ys k o e) [
     | inl h ↦ a.each k o h
@@ -41,24 +32,12 @@ part_more r tier lo mid xs ys long a b = record {
   ];
 }
 
-pub part_whole : (r : Rules) (tier : ℕ) (records : List (Option Solved)) → length records ≡ r.tier_size tier → IsPart r tier 0 records
+pub part_whole : (r : Rules) (tier : ℕ) (records : List (Option Solved)) → length records ≡ r.tier_size tier → ArePart r tier 0 records
     → IsTrueTable r REMOTENESS tier records
 part_whole r tier records long part = record {
   whole = long;
   each = λ i o e. subst (λ (k : ℕ). IsRecord r REMOTENESS (IsTrueValue r) (at tier k) o) (let same : 0 + i ≡ i = omega arith in same) (part.each i o e);
 }
-
--- items that go with the numbers from n on have their property at their places
-pub zip_each : {X : Type 0} (P : ℕ → X → Type 0) (n : ℕ) (xs : List X) → AllZip P (range_with_len n (length xs)) xs → (k : ℕ) (x : X)
-    → slice_get xs k ≡ Some x → P (n + k) x
-zip_each {X} P n [] z k x e = absurd (cc)
-zip_each {X} P n (y ∷ ys) z zero x e =
-    let here : n ≡ n + zero = omega arith in
-    let is : y ≡ x = cc in
-    subst (λ (j : ℕ). P j x) here (subst (P n) is z.0)
-zip_each {X} P n (y ∷ ys) z (suc k) x e =
-    let here : n + 1 + k ≡ n + suc k = omega arith in
-    subst (λ (j : ℕ). P j x) here (zip_each P (n + 1) ys z.1 k x e)
 
 -- what passes over all blocks find, by the numbers of their places
 pub found_by_zip : (r : Rules) (tier rows : ℕ) (found : List (Result (List (Option Solved) × ℕ) Stop))
@@ -67,13 +46,13 @@ pub found_by_zip : (r : Rules) (tier rows : ℕ) (found : List (Result (List (Op
 found_by_zip r tier rows found (many, zip) = record {
   many = many;
   each = λ place x e. subst (λ (k : ℕ). IsFound r tier (block_in rows k) x) (let same : 0 + place ≡ place = omega arith in same)
-      (zip_each (λ k y. IsFound r tier (block_in rows k) y) 0 found zip place x e);
+      (zip_at (λ k y. IsFound r tier (block_in rows k) y) 0 found zip place x e);
 }
 
 -- ---- a range, one index after another
 pub record ArePassed (r : Rules) (tier lo index : ℕ) (records : List (Option Solved)) (number : ℕ) : Type 0 where
   pub long : lo + length records ≡ index
-  pub part : IsPart r tier lo records
+  pub part : ArePart r tier lo records
   pub deliveries : AreThere number (IsDeliveryIn r tier lo index)
   pub few : number ≤ MOVES * length records
 
@@ -105,7 +84,7 @@ none_at zero k o e = absurd (cc)
 none_at (suc n) zero o e = (omega arith, (let same : None ≡ o = cc in sym same))
 none_at (suc n) (suc k) o e = let (inside, is) = none_at n k o e in (omega arith, is)
 
-part_holes : (r : Rules) (tier lo hi : ℕ) → AreHoles r tier lo hi → IsPart r tier lo (replicate (hi - lo) None)
+part_holes : (r : Rules) (tier lo hi : ℕ) → AreHoles r tier lo hi → ArePart r tier lo (replicate (hi - lo) None)
 part_holes r tier lo hi holes = record {
   each = λ k o e. let (inside, is) = none_at (hi - lo) k o e in
       subst (IsRecord r REMOTENESS (IsTrueValue r) (at tier (lo + k))) (sym is) (λ canonical. holes (lo + k) (omega arith) (omega arith) canonical);
@@ -132,7 +111,7 @@ passed_holes r tier lo next index records more number old up holes e =
 -- ---- blocks, one after another
 pub record AreJoined (r : Rules) (tier k : ℕ) (records : List (Option Solved)) (number : ℕ) : Type 0 where
   pub long : length records ≡ min (k * 512) (r.tier_size tier)
-  pub part : IsPart r tier 0 records
+  pub part : ArePart r tier 0 records
   pub deliveries : AreThere number (IsDeliveryIn r tier 0 (min (k * 512) (r.tier_size tier)))
   pub few : number ≤ MOVES * length records
 

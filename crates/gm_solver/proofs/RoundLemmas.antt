@@ -1,28 +1,12 @@
 -- A walk of the pairs of a level into a range, and shards to which none of the place is delivered.
 use Rattle.std.proofs.Common.{◌≡◌, ℕ, zero, suc, ◌+◌, ◌-◌, ◌<◌, ◌≤◌, List, [], ◌∷◌, length, drop, replicate, slice_get, slice_index_or, ◌^◌, refl, sym, ap}
 use Rattle.std.proofs.Common.{subst, ◌∙◌, arith, Some}
-use Rattle.std.specs.List.{Contains}
-use Rattle.std.proofs.lemmas.List.{length-drop}
-use Rattle.gm_game.specs.declared.limits.TheConstants.{TIER_SIZE}
-use Rattle.gm_game.specs.declared.position.Position.{Position}
-use Rattle.gm_game.specs.declared.position.Phase.{Phase}
-use Rattle.gm_game.specs.declared.position.Phase.TheVariants.{WinLose, Ties}
-use Rattle.gm_game.specs.declared.position.Place.{Place}
-use Rattle.gm_game.specs.Rules.{Rules, at}
-use Rattle.gm_game.specs.Laws.{IsGame}
-use Rattle.gm_game.specs.Places.{StandsBefore}
-use Rattle.gm_frontier.specs.Notes.{NoteData}
-use Rattle.gm_frontier.specs.Levels.{IsLevel}
+use Rattle.gm_solver.proofs.Lower.{Contains, length-drop, TIER_SIZE, Position, Phase, WinLose, Ties, Place, Rules, at, IsGame, StandsBefore, NoteData, IsLevel}
+use Rattle.gm_solver.proofs.Lower.{tile_at, ShardState, first_state, IsGood, Spot, spot_of, pairs_into, place_of_spot, HasNoneHere}
 use Rattle.gm_frontier.proofs.PairLemmas.{positions_once, canonical_notes}
 use Rattle.gm_frontier.proofs.CountLemmas.{notes_few}
 use Rattle.gm_frontier.proofs.ForGame.{not_before_and_at, ties_after}
-use Rattle.gm_solver.specs.Tiling.{tile_at}
-use Rattle.gm_deliveries.specs.State.{ShardState}
-use Rattle.gm_deliveries.specs.Begin.{first_state}
-use Rattle.gm_deliveries.specs.Good.{IsGood}
 use Rattle.gm_deliveries.specs.Steps.{next_level, first_ties}
-use Rattle.gm_locks.specs.Spots.{Spot, spot_of}
-use Rattle.gm_locks.specs.Rounds.{pairs_into, place_of_spot, HasNoneHere}
 
 -- the pairs of a level into a spot's range
 module _ (r : Rules) (g : IsGame r) (spot : Spot) (notes : List NoteData) (level : IsLevel r (place_of_spot spot) notes) where

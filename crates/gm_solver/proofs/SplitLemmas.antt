@@ -1,23 +1,14 @@
 -- The pairs of a piece by the tiles that have their parents.
 use Rattle.std.proofs.Common.{◌≡◌, ◌≢◌, ℕ, zero, suc, ◌*◌, ◌/◌, ◌<◌, ◌≤◌, ◌==◌, ◌&&◌, inl, inr, Bool, true, false, if◌then◌else◌, min, List, [], ◌∷◌, ◌++◌, map}
 use Rattle.std.proofs.Common.{filter, length, set, slice_get, refl, sym, ap, subst, ◌∙◌, arith, Some, Vec, length-set, get_or-set_same}
-use Rattle.std.specs.declared.alloc.Global.{Global}
-use Rattle.std.proofs.lemmas.Bool.{cases_lt, cases_eq}
+use Rattle.gm_solver.proofs.Lower.{Global, cases_lt, cases_eq, Contains, Contains-append_right, contains_first, slice_get_within, slice_get-get_or, Place}
+use Rattle.gm_solver.proofs.Lower.{Rules, NoteData, pairs_of, piece_of, Spot, piece_pairs, AreSplit, tile_at}
 use Rattle.std.proofs.lemmas.Bool.Decides.{nat_tests}
-use Rattle.std.specs.List.{Contains}
-use Rattle.std.proofs.lemmas.List.Elements.{filter-append, filter_agree, Contains-append_right}
-use Rattle.gm_game.proofs.Lists.{contains_first}
+use Rattle.std.proofs.lemmas.List.Elements.{filter-append, filter_agree}
 use Rattle.gm_frontier.proofs.PairLemmas.{in_pairs}
-use Rattle.std.proofs.lemmas.Option.{slice_get_within, slice_get-get_or}
-use Rattle.gm_game.specs.declared.position.Place.{Place}
-use Rattle.gm_game.specs.Rules.{Rules}
-use Rattle.gm_frontier.specs.Notes.{NoteData}
-use Rattle.gm_frontier.specs.Pairs.{is_within, pairs_with, pairs_of_note, pairs_of, piece_of}
+use Rattle.gm_frontier.specs.Pairs.{is_within, pairs_with, pairs_of_note}
 use Rattle.gm_frontier.proofs.TileLemmas.{in_tile as index_in_tile}
-use Rattle.gm_locks.specs.Spots.{Spot}
-use Rattle.gm_locks.specs.Pieces.{piece_pairs}
-use Rattle.gm_solver.specs.Split.{in_tile, AreSplit}
-use Rattle.gm_solver.specs.Tiling.{tile_at}
+use Rattle.gm_solver.specs.Split.{in_tile}
 
 -- a filter of a filter, and of a mapped list
 twice_step : {X : Type 0} (p : X → Bool) (x : X) (F Z : List X) → filter p F ≡ Z → (a : Bool)

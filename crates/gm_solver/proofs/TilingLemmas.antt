@@ -1,34 +1,16 @@
 -- Four tiles of a tier: every index is in one, and what is known of each is known of the tier.
-use Rattle.std.proofs.Common.{◌≡◌, ℕ, zero, suc, ◌+◌, ◌*◌, ◌<◌, ◌≤◌, ◌⊎◌, inl, inr, min, List, [], ◌∷◌, ◌++◌, length, replicate, Option, Some, slice_get, sym}
+use Rattle.std.proofs.Common.{◌≡◌, ℕ, zero, suc, ◌+◌, ◌*◌, ◌<◌, ◌≤◌, inl, inr, min, List, [], ◌++◌, length, replicate, Option, Some, slice_get, sym}
 use Rattle.std.proofs.Common.{ap, subst, ◌∙◌, arith}
-use Rattle.std.specs.List.{Contains}
-use Rattle.std.proofs.lemmas.Bool.{cases_lt}
-use Rattle.std.proofs.lemmas.List.{length-append, length-replicate}
-use Rattle.std.proofs.lemmas.List.Elements.{Contains-append_cases, Contains-append_left, Contains-append_right}
-use Rattle.gm_game.specs.declared.limits.TheConstants.{REMOTENESS}
-use Rattle.gm_game.specs.declared.position.Position.{Position}
-use Rattle.gm_game.specs.declared.position.Phase.{Phase}
-use Rattle.gm_game.specs.declared.position.Phase.TheVariants.{WinLose}
-use Rattle.gm_game.specs.declared.position.Place.{Place}
-use Rattle.gm_game.specs.declared.position.Solved.{Solved}
-use Rattle.gm_game.specs.Rules.{Rules, at}
-use Rattle.gm_game.specs.Records.{IsRecord, IsTrueTable}
-use Rattle.gm_game.specs.Values.{IsTrueValue}
-use Rattle.gm_frontier.specs.Counts.{IsNumberBefore}
+use Rattle.gm_solver.proofs.Lower.{cases_lt, length-replicate, REMOTENESS, Position, Phase, WinLose, Place, Solved, Rules, IsTrueTable, StandsBefore}
+use Rattle.gm_solver.proofs.Lower.{IsPairInto, IsNumberBefore, ShardState, pairs_in, first_state, IsGood, place_of, ArePart, Spot, spot_of, choose, HasNoneHere}
+use Rattle.gm_solver.proofs.Lower.{IsCovered, tile_at, AreShardsAt}
+use Rattle.std.proofs.lemmas.List.{length-append}
 use Rattle.gm_frontier.specs.Levels.{place_at}
-use Rattle.gm_frontier.proofs.Distinct.{no_repeats_from, no_repeats_to, no_repeats_append}
 use Rattle.gm_deliveries.proofs.CloseLemmas.{number_before}
-use Rattle.gm_deliveries.specs.State.{ShardState, pairs_in}
-use Rattle.gm_deliveries.specs.Begin.{first_state}
-use Rattle.gm_deliveries.specs.Good.{IsGood}
-use Rattle.gm_deliveries.specs.Steps.{place_of}
-use Rattle.gm_deliveries.specs.Closing.{ArePart}
 use Rattle.gm_locks.specs.declared.board.Four.{Four}
-use Rattle.gm_locks.specs.Spots.{Spot, spot_of, choose}
-use Rattle.gm_locks.specs.Rounds.{HasNoneHere}
-use Rattle.gm_solver.specs.Covered.{IsCovered}
-use Rattle.gm_solver.specs.Tiling.{IsWide, tile_at, AreShardsAt, AreGood, HaveNoneHere}
-use Rattle.gm_solver.proofs.Final.{whole_part}
+use Rattle.gm_solver.specs.Tiling.{IsWide, AreGood, HaveNoneHere}
+use Rattle.gm_solver.proofs.Deliveries.{there_sum}
+use Rattle.gm_solver.proofs.Parts.{part_more, part_whole}
 
 -- the spot of tile k
 pub choose_tile : (r : Rules) (place : Place) (width : ℕ) (a b c d : Spot) → a ≡ tile_at r place width 0 → b ≡ tile_at r place width 1
@@ -73,62 +55,37 @@ pub record AreFirst (r : Rules) (tier n : ℕ) (records : List (Option Solved)) 
   pub part : ArePart r tier 0 records
 
 -- with the part of one more shard
-record_at : (xs ys : List (Option Solved)) (k : ℕ) (o : Option Solved) → slice_get (xs ++ ys) k ≡ Some o
-    → (slice_get xs k ≡ Some o) ⊎ ((j : ℕ) × (k ≡ length xs + j) × (slice_get ys j ≡ Some o))
-record_at [] ys k o e = inr (k, omega arith, e)
-record_at (x ∷ xs) ys zero o e = inl e
-record_at (x ∷ xs) ys (suc k) o e = elim (record_at xs ys k o e) [ inl h ↦ inl h | inr (j, q, h) ↦ inr (j, omega arith, h) ]
-
 pub first_more : (r : Rules) (tier : ℕ) (s : ShardState) (old new : List (Option Solved)) → AreFirst r tier s.lo old → s.tier ≡ tier
     → ((part : List (Option Solved)) × (new ≡ old ++ part) × (length part ≡ length s.delivered) × ArePart r s.tier s.lo part)
     → AreFirst r tier (s.lo + length s.delivered) new
 first_more r tier s old new first same (part, is, long, are) = subst (AreFirst r tier (s.lo + length s.delivered)) (sym is) (record {
   long = (let a = length-append old part in let b = first.long in omega arith);
-  part = record {
-    each = λ k o e. elim (record_at old part k o e) [
-      | inl h ↦ first.part.each k o h
-      | inr (j, q, h) ↦ (let b = first.long in
-          let here : s.lo + j ≡ 0 + k = omega arith in
-          subst (λ (i : ℕ). IsRecord r REMOTENESS (IsTrueValue r) (at tier i) o) here
-          (subst (λ (t : ℕ). IsRecord r REMOTENESS (IsTrueValue r) (at t (s.lo + j)) o) same (are.each j o h)))
-    ];
-  };
+  part = part_more r tier 0 s.lo old part (let a = first.long in omega arith) first.part (subst (λ (t : ℕ). ArePart r t s.lo part) same are);
 })
 
 -- four parts are the true table
 pub first_all : (r : Rules) (tier n : ℕ) (records : List (Option Solved)) → AreFirst r tier n records → n ≡ r.tier_size tier
     → IsTrueTable r REMOTENESS tier records
-first_all r tier n records first e = whole_part r tier records (first.long ∙ e) first.part
+first_all r tier n records first e = part_whole r tier records (first.long ∙ e) first.part
 
 -- the pairs into two ranges that follow one another
 pub number_joined : (r : Rules) (tier lo mid hi : ℕ) (phase : Phase) (level m n : ℕ) → lo ≤ mid → mid ≤ hi → IsNumberBefore r tier lo mid phase level m
     → IsNumberBefore r tier mid hi phase level n → IsNumberBefore r tier lo hi phase level (m + n)
-number_joined r tier lo mid hi phase level m n below above (xs, long, first) (ys, wide, second) = (
-  xs ++ ys,
-  (let e = length-append xs ys in omega arith),
-  record {
-    each = λ pair. (
-      (λ h. elim (cases_lt pair.1 mid) [
-        | inl l ↦ in_first pair ((first.each pair).0 (record { low = h.0.low; high = l; is_parent = h.0.is_parent }, h.1))
-        | inr l ↦ in_second pair ((second.each pair).0 (record { low = l; high = h.0.high; is_parent = h.0.is_parent }, h.1))
-      ]),
-      (λ k. elim (Contains-append_cases xs ys pair k) [
-        | inl i ↦ (let (into, before) = (first.each pair).1 i in let high = into.high in
-            (record { low = into.low; high = omega arith; is_parent = into.is_parent }, before))
-        | inr i ↦ (let (into, before) = (second.each pair).1 i in let low = into.low in
-            (record { low = omega arith; high = into.high; is_parent = into.is_parent }, before))
-      ]),
-    );
-    once = no_repeats_to (xs ++ ys) (no_repeats_append xs ys (no_repeats_from xs first.once) (no_repeats_from ys second.once)
-        (λ pair i j. (let a = ((first.each pair).1 i).0.high in let b = ((second.each pair).1 j).0.low in omega arith)));
-  },
-)
-  where
-    in_first : (pair : Position × ℕ) → Contains xs pair → Contains (xs ++ ys) pair
-    in_first pair h = Contains-append_left xs ys pair h
-
-    in_second : (pair : Position × ℕ) → Contains ys pair → Contains (xs ++ ys) pair
-    in_second pair h = Contains-append_right xs ys pair h
+number_joined r tier lo mid hi phase level m n below above first second =
+    there_sum m n (λ (pair : Position × ℕ). IsPairInto r tier lo mid pair.0 pair.1 × StandsBefore r phase level pair.0)
+    (λ (pair : Position × ℕ). IsPairInto r tier mid hi pair.0 pair.1 × StandsBefore r phase level pair.0)
+    (λ (pair : Position × ℕ). IsPairInto r tier lo hi pair.0 pair.1 × StandsBefore r phase level pair.0) first second
+    (λ pair h k. let a = h.0.high in let b = k.0.low in omega arith)
+    (λ pair. (
+      λ h. elim (cases_lt pair.1 mid) [
+        | inl l ↦ inl (record { low = h.0.low; high = l; is_parent = h.0.is_parent }, h.1)
+        | inr l ↦ inr (record { low = l; high = h.0.high; is_parent = h.0.is_parent }, h.1)
+      ],
+      λ h. elim h [
+        | inl k ↦ (record { low = k.0.low; high = (let a = k.0.high in omega arith); is_parent = k.0.is_parent }, k.1)
+        | inr k ↦ (record { low = (let a = k.0.low in omega arith); high = k.0.high; is_parent = k.0.is_parent }, k.1)
+      ],
+    ))
 
 -- the number of pairs into a tile whose child is before the place
 pub number_at : (r : Rules) (place : Place) (width k : ℕ) (s : ShardState) (n : ℕ) → spot_of s ≡ tile_at r place width k → IsGood r s

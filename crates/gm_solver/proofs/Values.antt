@@ -1,31 +1,23 @@
 -- The value of a position whose canonical children the tables know.
 use Rattle.std.proofs.Common.{◌≡◌, ℕ, ◌+◌, ◌<◌, ◌≤◌, suc, ◌==◌, ◌↔◌, ◌⊎◌, inl, inr, eqb-true, if◌then◌else◌, Bool, true, false, not, List, [], ◌∷◌, ◌++◌}
 use Rattle.std.proofs.Common.{length, map, take, get_or, filter, replicate, option_copied, Option, None, Some, IfSome, refl, sym, ap, subst, ◌∙◌, arith}
-use Rattle.std.specs.List.{Contains}
-use Rattle.std.proofs.lemmas.Option.{same_Some, slice_get-get_or}
-use Rattle.std.proofs.lemmas.List.{map-append, map_more, take_more, take_all, length-map, length-take, get_or-replicate}
+use Rattle.gm_solver.proofs.Lower.{Contains, take_more, take_all, length-map, Contains-push_cases, REMOTENESS, Position, Solved, Draw, Rules, at, IsCanonical}
+use Rattle.gm_solver.proofs.Lower.{IsInner, IsCanonicalChild, IsGame, HasValue, IsTrueValue, IsRecord, HasValue_once, contains_none, contains_first, Summary}
+use Rattle.gm_solver.proofs.Lower.{TableData, table_of, AreHeld, value_in, AreAtHand, IsTooFar, is_decided}
+use Rattle.std.proofs.lemmas.Option.{same_Some}
+use Rattle.std.proofs.lemmas.List.{map-append, map_more, length-take, get_or-replicate}
 use Rattle.std.proofs.lemmas.List.Filters.{length-filter_both}
-use Rattle.std.proofs.lemmas.List.Elements.{Contains-get_or, Contains-push_cases}
-use Rattle.gm_game.specs.declared.limits.TheConstants.{REMOTENESS}
-use Rattle.gm_game.specs.declared.position.Position.{Position}
-use Rattle.gm_game.specs.declared.position.Solved.{Solved}
+use Rattle.std.proofs.lemmas.List.Elements.{Contains-get_or}
 use Rattle.gm_game.specs.declared.position.Value.{Value}
-use Rattle.gm_game.specs.declared.position.Value.TheVariants.{Lose, Draw, Tie, Win}
-use Rattle.gm_game.specs.Rules.{Rules, at, IsCanonical, IsInner, IsCanonicalChild}
-use Rattle.gm_game.specs.Laws.{IsGame}
-use Rattle.gm_game.specs.Values.{HasValue, IsTrueValue}
+use Rattle.gm_game.specs.declared.position.Value.TheVariants.{Lose, Tie, Win}
 use Rattle.gm_game.specs.Children.{AreResults}
-use Rattle.gm_game.specs.Records.{lost_in, won_in, tied_in, lesser, greater, least_of, all_won, settle, settled_by, IsKnown, IsRecord, IsTrueTable}
-use Rattle.gm_game.proofs.Basic.{HasValue_once}
-use Rattle.gm_game.proofs.Lists.{contains_none, contains_first, contains_later}
+use Rattle.gm_game.specs.Records.{lost_in, won_in, tied_in, lesser, greater, least_of, all_won, settle, settled_by, IsKnown}
+use Rattle.gm_game.proofs.Lists.{contains_later}
 use Rattle.gm_game.proofs.Sets.{settled_by_list}
 use Rattle.gm_game.proofs.Settled.{known_since, known_record, value_from_children}
 use Rattle.gm_game.proofs.Symmetry.{near_child}
-use Rattle.gm_record.specs.declared.summary.Summary.{Summary}
-use Rattle.gm_table.specs.Tables.{TableData, table_of, AreHeld, record_at, record_in, value_in}
-use Rattle.gm_table.specs.Hands.{AreAtHand}
-use Rattle.gm_table.specs.Solving.{IsTooFar}
-use Rattle.gm_table.specs.Words.{record_of_word, is_decided}
+use Rattle.gm_table.specs.Tables.{record_at, record_in}
+use Rattle.gm_table.specs.Words.{record_of_word}
 use Rattle.gm_solver.specs.Gathered.{IsGathered}
 
 -- bounds on what children say
@@ -264,23 +256,3 @@ words_few r entries cs i ws h =
 pub read_all : (r : Rules) (entries : List TableData) (cs : List Position) (i : ℕ) (ws : List ℕ) → length cs ≤ i → AreRead r entries (take i cs) ws
     → AreRead r entries cs ws
 read_all r entries cs i ws past h = subst (λ (ds : List Position). AreRead r entries ds ws) (take_all i cs past) h
-
--- a true table has no position that is too far
-table_knows : (r : Rules) → IsGame r → (limit tier : ℕ) (records : List (Option Solved)) → IsTrueTable r limit tier records → (c : Position) → IsCanonical r c
-    → c.tier ≡ tier → (x : Solved) × IsTrueValue r c x × (x.remoteness ≤ limit)
-table_knows r g limit tier records t c canonical e =
-    let size : c.index < r.tier_size tier = subst (λ (u : ℕ). c.index < r.tier_size u) e (g.index_below c canonical.0) in
-    let long = t.whole in
-    let within : c.index < length records = omega arith in
-    found (get_or records c.index None) (subst (λ (u : ℕ). IsRecord r limit (IsTrueValue r) (at u c.index) (get_or records c.index None)) (sym e)
-    (t.each c.index (get_or records c.index None) (slice_get-get_or records c.index None within)))
-  where
-    found : (o : Option Solved) → IsRecord r limit (IsTrueValue r) (at c.tier c.index) o → (x : Solved) × IsTrueValue r c x × (x.remoteness ≤ limit)
-    found None none = absurd (none canonical)
-    found (Some x) (k, is_true, near) = (x, is_true, near)
-
-pub not_too_far : (r : Rules) → IsGame r → (tier : ℕ) (records : List (Option Solved)) → IsTrueTable r REMOTENESS tier records → IsTooFar r tier → ⊥
-not_too_far r g tier records t far =
-    let (x, is_true, near) = table_knows r g REMOTENESS tier records t (at tier far.index) far.canonical refl in
-    let e = (HasValue_once r (at tier far.index) x.value far.value x.remoteness (REMOTENESS + 1) is_true far.far).1 in
-    omega arith

@@ -1,12 +1,9 @@
 -- A tier in blocks of 512 indexes that are dealt out to 32 classes in turn.
 use Rattle.std.specs.Prelude.{◌≡◌, ℕ, ◌+◌, ◌*◌, suc, min, List, Vec, Result, IfOk, length}
 use Rattle.std.specs.declared.alloc.AllocError.{AllocError}
-use Rattle.std.specs.declared.alloc.Global.{Global}
+use Rattle.gm_solver.specs.Lower.{Global, Rules, AreStarts, block_in}
 use Rattle.std.specs.List.{AllZip, range_with_len}
-use Rattle.gm_game.specs.Rules.{Rules}
 use Rattle.gm_deliveries.specs.declared.status.Start.{Start}
-use Rattle.gm_deliveries.specs.Begin.{AreStarts}
-use Rattle.gm_table.specs.Dealing.{block_in}
 
 -- what the indexes of block k are at the start
 pub record IsPart (r : Rules) (tier k : ℕ) (starts : List Start) : Type 0 where

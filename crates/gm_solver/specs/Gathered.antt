@@ -1,10 +1,7 @@
 -- The canonical children of a position, once each, and what the tables of the child tiers say of them.
 use Rattle.std.specs.Prelude.{◌≡◌, ◌≢◌, ℕ, ◌≤◌, Bool, true, false, List, length, map, IfSome, AllPairs, ◌%◌, slice_index_or}
-use Rattle.std.specs.List.{Contains, filter}
-use Rattle.gm_game.specs.declared.limits.TheConstants.{REMOTENESS}
-use Rattle.gm_game.specs.declared.position.Position.{Position}
-use Rattle.gm_game.specs.Rules.{Rules}
-use Rattle.gm_game.specs.Children.{AreResults}
+use Rattle.gm_solver.specs.Lower.{Contains, REMOTENESS, Position, Rules, AreResults}
+use Rattle.std.specs.List.{filter}
 use Rattle.gm_game.specs.Records.{lost_in, tied_in, least_of, all_won, IsKnown}
 use Rattle.gm_record.specs.declared.summary.Summary.{Summary}
 use Rattle.gm_table.specs.Tables.{TableData, value_in}

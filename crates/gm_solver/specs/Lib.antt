@@ -1,6 +1,4 @@
 pub mod Solving
-pub mod Over
-pub mod Ready
 pub mod Plans
 pub mod Tiling
 pub mod Covered
@@ -8,3 +6,4 @@ pub mod Blocks
 pub mod Split
 pub mod Gathered
 pub mod Passes
+pub mod Lower

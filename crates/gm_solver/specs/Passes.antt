@@ -1,14 +1,9 @@
 -- What one pass over a tier finds, whole or in parts.
 use Rattle.std.specs.Prelude.{◌≡◌, ℕ, ◌+◌, ◌*◌, ◌<◌, ◌≤◌, suc, min, List, length, Option, Some, Result, Ok, Err, slice_get}
-use Rattle.gm_game.specs.declared.limits.TheConstants.{REMOTENESS, MOVES}
-use Rattle.gm_game.specs.declared.position.Position.{Position}
+use Rattle.gm_solver.specs.Lower.{REMOTENESS, MOVES, Position, Rules, IsTrueTable, AreThere, ArePart, block_in, IsTooFar}
 use Rattle.gm_game.specs.declared.position.Solved.{Solved}
-use Rattle.gm_game.specs.Rules.{Rules, at, IsParent}
-use Rattle.gm_game.specs.Values.{IsTrueValue}
-use Rattle.gm_game.specs.Records.{IsRecord, IsTrueTable}
-use Rattle.gm_game.specs.Numbers.{AreThere}
-use Rattle.gm_table.specs.Dealing.{block_in}
-use Rattle.gm_table.specs.Solving.{IsDelivery, IsTooFar}
+use Rattle.gm_game.specs.Rules.{IsParent}
+use Rattle.gm_table.specs.Solving.{IsDelivery}
 use Rattle.gm_solver.specs.declared.stop.Stop.{Stop}
 use Rattle.gm_solver.specs.declared.stop.Stop.TheVariants.{OutOfMemory, Stays, TooFar}
 
@@ -25,10 +20,6 @@ IsStop r tier OutOfMemory = Unit {0}
 IsStop r tier Stays = IsStaying r tier
 IsStop r tier TooFar = IsTooFar r tier
 
--- the true records of the tier from an index on
-pub record IsPart (r : Rules) (tier lo : ℕ) (records : List (Option Solved)) : Type 0 where
-  pub each : (k : ℕ) (o : Option Solved) → slice_get records k ≡ Some o → IsRecord r REMOTENESS (IsTrueValue r) (at tier (lo + k)) o
-
 -- a pair of the tier whose child is no draw, and whose parent is in the range
 pub record IsDeliveryIn (r : Rules) (tier lo hi : ℕ) (pair : Position × ℕ) : Type 0 where
   pub delivery : IsDelivery r tier pair
@@ -42,7 +33,7 @@ AreTrue r tier records = IsTrueTable r REMOTENESS tier records
 -- the true records of block k of the tier, whose blocks have 512 indexes, and the number of deliveries into it
 pub record IsBlock (r : Rules) (tier k : ℕ) (records : List (Option Solved)) (number : ℕ) : Type 0 where
   pub long : min (k * 512) (r.tier_size tier) + length records ≡ min (suc k * 512) (r.tier_size tier)
-  pub part : IsPart r tier (min (k * 512) (r.tier_size tier)) records
+  pub part : ArePart r tier (min (k * 512) (r.tier_size tier)) records
   pub deliveries : AreThere number (IsDeliveryIn r tier (min (k * 512) (r.tier_size tier)) (min (suc k * 512) (r.tier_size tier)))
   pub few : number ≤ MOVES * length records
 

@@ -1,7 +1,6 @@
 -- What the solver answers of a tier.
 use Rattle.std.specs.Prelude.{◌≡◌, ℕ}
-use Rattle.gm_game.specs.Rules.{Rules}
-use Rattle.gm_table.specs.Solving.{IsTooFar}
+use Rattle.gm_solver.specs.Lower.{Rules, IsTooFar}
 use Rattle.gm_solver.specs.declared.error.SolveError.{SolveError}
 use Rattle.gm_solver.specs.declared.error.SolveError.TheVariants.{OutOfMemory, TooFar}
 

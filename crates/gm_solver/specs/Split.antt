@@ -1,7 +1,6 @@
 -- The pairs of a piece by the tiles that have their parents.
 use Rattle.std.specs.Prelude.{◌≡◌, ℕ, ◌/◌, ◌==◌, List, Some, Vec, filter, slice_get}
-use Rattle.std.specs.declared.alloc.Global.{Global}
-use Rattle.gm_frontier.specs.Notes.{NoteData}
+use Rattle.gm_solver.specs.Lower.{Global, NoteData}
 
 -- the pairs whose parent is in tile k, where the tiles have no end
 abbrev pub in_tile : ℕ → ℕ → List (NoteData × ℕ) → List (NoteData × ℕ)

@@ -1,15 +1,17 @@
 //! The workers of one level.
-ghost use Rattle.std.specs.Prelude.{◌≡◌, ℕ, ◌+◌, ◌-◌, ◌^◌, ◌<◌, min, OnOk, IfOk, vec_len};
-ghost use Rattle.gm_locks.specs.Spots.{choose};
+ghost use Rattle.std.specs.Prelude.{◌≡◌, ℕ, ◌+◌, ◌-◌, ◌^◌, ◌<◌, length, min, OnOk, IfOk, vec_len};
+ghost use Rattle.gm_solver.specs.Lower.{div_ceil, choose};
 ghost use Rattle.gm_locks.specs.Amounts.{total_of};
+ghost use Rattle.gm_locks.specs.Pieces.{piece_pairs};
 ghost use Rattle.gm_solver.specs.Tiling.{tile_at};
 
 use crate::context::SolveContext;
 use crate::gate::Gate;
 use crate::level_job::LevelJob;
 use crate::observer::Observer;
+use crate::pieces::{Lists, empty_lists, split};
 use crate::source::Source;
-use crate::work::Walker;
+use gm_frontier::note::Note;
 use gm_game::game::Game;
 use gm_locks::board::Shares;
 use gm_locks::piece::PieceLedger;
@@ -28,14 +30,14 @@ struct WorkerSlot<A: ShardLedger, B: ShardLedger, C: ShardLedger, D: ShardLedger
 }
 
 impl<A: PieceLedger, B: PieceLedger, C: PieceLedger, D: PieceLedger> WorkerSlot<A, B, C, D> {
-    // Lets a worker work with these shares.
+    // Lets a worker of a crew work with these shares.
     fn work<G: Game, R: Wait, T: Gate, S: Source>(
         &mut self,
-        walker: &Walker<G, A, B, C, D, R, T>,
-        alloc: Global,
-        source: &S,
+        crew: &Crew<G, A, B, C, D, T, S>,
+        rt: &R,
+        worker: usize,
     ) {
-        walker.work(alloc, source, &mut self.shares);
+        crew.serve(rt, worker, &mut self.shares);
     }
 }
 
@@ -94,17 +96,86 @@ impl<
     T: Gate,
     S: Source,
 > Crew<'a, 'b, G, A, B, C, D, T, S> {
+    // Delivers the pairs of a piece to a shard. If the gate asks for it, each is delivered between its own two calls and under the lock, up to a pair that is
+    // too far; otherwise all are delivered while the lock is held once. The gate is called while no lock is held.
+    fn deliver<R: Wait>(
+        &self,
+        rt: &R,
+        worker: usize,
+        shard: usize,
+        piece: usize,
+        pairs: &[(Note<G>, u64)],
+        shares: &mut Shares<A, B, C, D>,
+    )
+        requires shard { shard < 4 }
+        requires piece { piece < div_ceil (length A.notes) A.size }
+        requires pairs { pairs.now ≡ piece_pairs G.rules (choose shard A.spot B.spot C.spot D.spot) A.notes A.size piece }
+        ensures { shares.new.parts ≡ shares.old.parts }
+    {
+        let place = self.job.level.place();
+        if T::EACH && !pairs.is_empty() {
+            for k in 0..pairs.len() {
+                self.gate.before(rt, worker, place);
+                let answer = self.board.deliver(rt, shard, piece, pairs, k + 1, shares);
+                self.gate.after(rt, worker, place);
+                if answer.is_err() {
+                    return;
+                }
+            }
+            return;
+        }
+        for _ in 0..pairs.len() {
+            self.gate.before(rt, worker, place);
+        }
+        let _answer = self
+            .board
+            .deliver(rt, shard, piece, pairs, pairs.len(), shares);
+        for _ in 0..pairs.len() {
+            self.gate.after(rt, worker, place);
+        }
+    }
+
+    // Walks a piece's pairs once, while no lock is held, and delivers them shard by shard. A pair that is refused as too far is missing at the end of the
+    // level, and the coordinator finds it.
+    fn walk<R: Wait>(
+        &self,
+        rt: &R,
+        worker: usize,
+        piece: usize,
+        lists: &mut Lists<G>,
+        shares: &mut Shares<A, B, C, D>,
+    ) -> Result<(), AllocError>
+        requires { piece < div_ceil (length A.notes) A.size }
+        ensures { shares.new.parts ≡ shares.old.parts }
+    {
+        split(self.job, piece, lists)?;
+        for shard in 0..4 {
+            self.deliver(rt, worker, shard, piece, lists[shard].as_slice(), shares);
+        }
+        Ok(())
+    }
+
+    // Takes pieces of the level for a worker until there are no more for it, and delivers their pairs. It asks at most as many times as there are pieces, and
+    // skips numbers that are no piece's. If memory is refused, a piece is not delivered, and the coordinator walks it.
+    fn serve<R: Wait>(&self, rt: &R, worker: usize, shares: &mut Shares<A, B, C, D>)
+        ensures { shares.new.parts ≡ shares.old.parts }
+    {
+        let count = self.job.level.pieces(self.job.notes);
+        let mut lists = empty_lists::<G>(self.alloc);
+        for _ in 0..count {
+            let Some(piece) = self.source.next(rt, worker) else {
+                return;
+            };
+            if piece < count {
+                let _walked = self.walk(rt, worker, piece, &mut lists, shares);
+            }
+        }
+    }
+
     // Does the work of one worker, over its slot.
     fn work<R: Wait>(&self, rt: &R, worker: usize) {
         if let Some(slot) = self.slots.get(worker) {
-            let walker = Walker {
-                rt,
-                board: self.board,
-                job: self.job,
-                gate: self.gate,
-                worker,
-            };
-            slot.lock(rt).work(&walker, self.alloc, self.source);
+            slot.lock(rt).work(self, rt, worker);
         }
     }
 }

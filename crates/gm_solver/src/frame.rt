@@ -1,11 +1,9 @@
 //! A tier that is settled in blocks of indexes.
 ghost use Rattle.std.specs.Prelude.{◌≡◌, ◌*◌, ◌≤◌, IfOk, IfErr, OnOk};
-ghost use Rattle.gm_table.specs.Tables.{AreHeld};
-ghost use Rattle.gm_table.specs.Dealing.{block_in};
-ghost use Rattle.gm_table.specs.Solving.{AreDeliveries, IsTooFar};
+ghost use Rattle.gm_solver.specs.Lower.{AreHeld, block_in, AreDeliveries, IsTooFar, TIER_SIZE};
 ghost use Rattle.gm_solver.specs.Passes.{IsStop, AreTrue, IsFound, AreFound};
-ghost use Rattle.gm_game.specs.declared.limits.TheConstants.{TIER_SIZE};
 
+use crate::few::FEW;
 use crate::observer::Observer;
 use crate::range::settle_range;
 use crate::stop::Stop;
@@ -16,9 +14,6 @@ use gm_table::tables::Tables;
 use rayon::prelude::*;
 use std::alloc::{AllocError, Global};
 use std::thread::Threads;
-
-/// A tier of at most this many indexes is settled by the calling thread: starting threads would cost more than it saves.
-const FEW: u64 = 16_384;
 
 /// A tier within the limits whose child tiers are held.
 #[derive(Drop)]

@@ -1,11 +1,7 @@
 //! What the tables of the child tiers say of a position's canonical children.
 ghost use Rattle.std.specs.Prelude.{◌≡◌, ◌≤◌, true, length, IfNone, IfSome};
-ghost use Rattle.gm_game.specs.declared.limits.TheConstants.{MOVES};
-ghost use Rattle.gm_game.specs.declared.position.Position.{Position};
+ghost use Rattle.gm_solver.specs.Lower.{MOVES, Position, AreResults, AreAtHand, AreHeld};
 ghost use Rattle.gm_game.specs.Rules.{IsCanonicalChild};
-ghost use Rattle.gm_game.specs.Children.{AreResults};
-ghost use Rattle.gm_table.specs.Hands.{AreAtHand};
-ghost use Rattle.gm_table.specs.Tables.{AreHeld};
 ghost use Rattle.gm_solver.specs.Gathered.{IsGathered};
 
 use arrayvec::ArrayVec;

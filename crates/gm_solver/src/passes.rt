@@ -1,14 +1,13 @@
 //! One level by passes: each shard has one pass, which delivers the level's pairs to it in their order.
 ghost use Rattle.std.specs.Prelude.{◌≡◌, ◌<◌, ◌≤◌, IfOk, IfErr};
-ghost use Rattle.gm_locks.specs.Pieces.{IsReadyFor};
+ghost use Rattle.gm_solver.specs.Lower.{IsReadyFor};
 ghost use Rattle.gm_solver.specs.Solving.{IsError};
 ghost use Rattle.gm_solver.specs.Tiling.{AreShardsAt, AreWhole, HaveNoneHere};
 
 use crate::context::SolveContext;
 use crate::gate::Gate;
-use crate::level_job::LevelJob;
+use crate::level_job::{LevelEnd, LevelJob};
 use crate::observer::Observer;
-use crate::round::LevelEnd;
 use crate::source::Source;
 use crate::workplace::Workplace;
 use gm_game::game::Game;
@@ -90,23 +89,6 @@ fn run_workers<
     });
 }
 
-// Runs workers one after another in this thread.
-fn run_in_turn<
-    'a,
-    G: Game,
-    A: PassLedger,
-    B: PassLedger,
-    C: PassLedger,
-    D: PassLedger,
-    R: Wait,
-    T: Gate,
-    S: Source,
->(rt: &R, workplaces: &Workplaces<'a, G, A, B, C, D, T, S>, workers: usize) {
-    for worker in 0..workers {
-        workplaces.work(rt, worker);
-    }
-}
-
 // Runs a level at desks with these ledgers' names.
 fn run_at_desks<
     G: Game + Send + Sync,
@@ -149,7 +131,9 @@ fn run_at_desks<
     let workers = context.plan.workers().min(4);
     // Starting a thread for an empty level, or for one of a single piece, would cost more than it saves.
     if level.pieces(job.notes) <= 1 {
-        run_in_turn(context.rt, &workplaces, workers);
+        for worker in 0..workers {
+            workplaces.work(context.rt, worker);
+        }
     } else {
         run_workers(context.rt, &workplaces, workers);
     }

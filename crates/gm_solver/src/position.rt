@@ -1,13 +1,9 @@
 //! One position of a tier.
 ghost use Rattle.std.specs.Prelude.{◌≡◌, ◌≤◌, ◌+◌, length, None, Some, IfOk, IfErr, IfSome};
-ghost use Rattle.gm_game.specs.declared.limits.TheConstants.{MOVES, REMOTENESS};
-ghost use Rattle.gm_game.specs.Numbers.{AreThere};
+ghost use Rattle.gm_solver.specs.Lower.{MOVES, REMOTENESS, AreThere, AreResults, AreAtHand, AreHeld};
 ghost use Rattle.gm_game.specs.Records.{settle, IsRecord};
-ghost use Rattle.gm_game.specs.Children.{AreResults};
 ghost use Rattle.gm_game.specs.Rules.{IsCanonical, IsInner};
 ghost use Rattle.gm_game.specs.Values.{IsTrueValue};
-ghost use Rattle.gm_table.specs.Hands.{AreAtHand};
-ghost use Rattle.gm_table.specs.Tables.{AreHeld};
 ghost use Rattle.gm_solver.specs.Gathered.{AreOnce};
 ghost use Rattle.gm_solver.specs.Passes.{IsDeliveryIn, IsStop};
 

@@ -1,9 +1,7 @@
 //! A range of a tier.
 ghost use Rattle.std.specs.Prelude.{◌≡◌, ◌≤◌, ◌+◌, ◌*◌, IfOk, IfErr, length};
-ghost use Rattle.gm_game.specs.declared.limits.TheConstants.{MOVES, TIER_SIZE};
-ghost use Rattle.gm_game.specs.Numbers.{AreThere};
-ghost use Rattle.gm_table.specs.Tables.{AreHeld};
-ghost use Rattle.gm_solver.specs.Passes.{IsPart, IsDeliveryIn, IsStop};
+ghost use Rattle.gm_solver.specs.Lower.{MOVES, TIER_SIZE, AreThere, AreHeld, ArePart};
+ghost use Rattle.gm_solver.specs.Passes.{IsDeliveryIn, IsStop};
 
 use crate::position::{Lists, settle_position};
 use crate::stop::Stop;
@@ -27,7 +25,7 @@ pub(crate) fn settle_range<G: Game>(
     requires order { lo ≤ hi }
     requires within { hi ≤ TIER_SIZE }
     ensures long { IfOk result (λ part. lo + length part.0 ≡ hi) }
-    ensures records { IfOk result (λ part. IsPart G.rules tier lo part.0) }
+    ensures records { IfOk result (λ part. ArePart G.rules tier lo part.0) }
     ensures number { IfOk result (λ part. AreThere part.1 (IsDeliveryIn G.rules tier lo hi)) }
     ensures few { IfOk result (λ part. part.1 ≤ MOVES * length part.0) }
     ensures stop { IfErr result (IsStop G.rules tier) }

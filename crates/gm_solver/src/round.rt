@@ -1,11 +1,6 @@
 //! One level by workers: they deliver, and then the coordinator delivers the missing pairs.
 ghost use Rattle.std.specs.Prelude.{◌≡◌, ℕ, ◌+◌, ◌<◌, ◌≤◌, true, false, length, slice_index_or, IfOk, IfErr, OnOk};
-ghost use Rattle.std.specs.Int.{div_ceil};
-ghost use Rattle.gm_frontier.specs.Levels.{place_at};
-ghost use Rattle.gm_deliveries.specs.Steps.{IsWhole};
-ghost use Rattle.gm_locks.specs.Spots.{spot_of, choose};
-ghost use Rattle.gm_locks.specs.Rounds.{IsLevelAt};
-ghost use Rattle.gm_locks.specs.Pieces.{IsReadyFor};
+ghost use Rattle.gm_solver.specs.Lower.{div_ceil, place_at, IsWhole, spot_of, choose, IsLevelAt, IsReadyFor};
 ghost use Rattle.gm_solver.specs.Solving.{IsError};
 ghost use Rattle.gm_solver.specs.Tiling.{AreShardsAt, HaveNoneHere, AreWhole, tile_at, next_place};
 
@@ -13,7 +8,7 @@ use crate::context::SolveContext;
 use crate::crew::run_crew;
 use crate::error::SolveError;
 use crate::gate::Gate;
-use crate::level_job::LevelJob;
+use crate::level_job::{LevelEnd, LevelJob};
 use crate::observer::Observer;
 use crate::source::Source;
 use gm_frontier::note::Note;
@@ -29,9 +24,6 @@ use std::marker::Brand;
 use std::sync::Wait;
 use std::sync::ledger::Blank;
 use std::thread::Threads;
-
-/// The shards at the end of a level, after the workers and the coordinator, and the number of pairs that the workers delivered.
-pub(crate) type LevelEnd<G> = Result<(Four<OrderedShard<G>>, u64), SolveError>;
 
 // Collects the pairs into a list.
 fn list_of<G: Game>(alloc: Global, pairs: Pairs<G>) -> Result<Vec<(Note<G>, u64)>, AllocError>

@@ -1,9 +1,7 @@
-//! The start values of the indexes of a tier, found block by block: for several workers by at most as many threads as workers or processors.
+//! The start values of the indexes of a tier, found block by block by at most as many threads as workers or processors.
 ghost use Rattle.std.specs.Prelude.{◌≡◌, ◌≤◌, length, IfOk};
-ghost use Rattle.gm_deliveries.specs.Begin.{AreStarts};
-ghost use Rattle.gm_table.specs.Dealing.{block_in};
+ghost use Rattle.gm_solver.specs.Lower.{AreStarts, block_in, TIER_SIZE};
 ghost use Rattle.gm_solver.specs.Blocks.{IsPart, ArePartsOf};
-ghost use Rattle.gm_game.specs.declared.limits.TheConstants.{TIER_SIZE};
 
 use crate::starts::starts;
 use gm_deliveries::status::Start;
@@ -13,9 +11,6 @@ use rayon::prelude::*;
 use std::alloc::{AllocError, Global};
 use std::marker::PhantomData;
 use std::thread::Threads;
-
-/// A tier of at most this many indexes is scanned, and its shards are made, by the calling thread: starting threads would cost more than it saves.
-pub(crate) const FEW: u64 = 16_384;
 
 // A tier within the limits that is to be scanned in blocks.
 #[derive(Drop)]
@@ -106,22 +101,4 @@ pub(crate) fn starts_by_threads<G: Game + Send + Sync, R: Threads + Sync>(
     let frame = Frame::<G>::of(tier);
     let found = frame.start_all(rt, alloc, workers)?;
     frame.in_order_of(alloc, found.as_slice())
-}
-
-/// Returns the start value of each index of a tier, in order: as `starts_by_threads`, but for one worker or a small tier no thread is started.
-pub(crate) fn find_starts<G: Game + Send + Sync, R: Threads + Sync>(
-    rt: &R,
-    alloc: Global,
-    tier: u64,
-    workers: usize,
-) -> Result<Vec<Start>, AllocError>
-    requires { G.rules.tier_size tier ≤ TIER_SIZE }
-    ensures length { IfOk result (λ all. length all.items ≡ G.rules.tier_size tier) }
-    ensures starts { IfOk result (λ all. AreStarts G.rules tier 0 all.items) }
-{
-    let size = G::tier_size(tier);
-    if workers == 1 || size <= FEW {
-        return starts::<G>(alloc, tier, 0, size);
-    }
-    starts_by_threads::<G, R>(rt, alloc, tier, workers)
 }

@@ -1,11 +1,11 @@
 //! One tier, by the method that its plan chooses.
 ghost use Rattle.std.specs.Prelude.{◌≡◌, ◌≤◌, IfOk, IfErr, OnOk};
-ghost use Rattle.gm_table.specs.Tables.{AreHeld, IsTable};
-ghost use Rattle.gm_table.specs.Solving.{IsTooFar, AreDeliveries};
+ghost use Rattle.gm_solver.specs.Lower.{AreHeld, IsTable, IsTooFar, AreDeliveries};
 ghost use Rattle.gm_solver.specs.Solving.{IsError};
 
 use crate::context::{Schedule, SolveContext};
 use crate::error::SolveError;
+use crate::few::FEW_FOR_LEVELS;
 use crate::gate::Gate;
 use crate::observer::Observer;
 use crate::plan::Plan;
@@ -20,9 +20,6 @@ use gm_table::tables::Tables;
 use std::alloc::Global;
 use std::sync::Wait;
 use std::thread::Threads;
-
-/// A tier of at most this many indexes has one worker, in the calling thread: starting threads would cost more than it saves.
-const FEW: u64 = 512;
 
 /// Solves a tier by its plan. By `Plan::fastest` the tier is first tried in one pass (immediate transition), which solves it if no move stays in it. Otherwise
 /// the tier is solved as by `solve_tier`, with one worker if the tier has few indexes.
@@ -57,7 +54,7 @@ pub fn solve<G: Game + Send + Sync, R: Threads + Wait + Sync, T: Gate, S: Source
         }
     }
     observer.solve(rt, tier);
-    let plan = if G::tier_size(tier) <= FEW {
+    let plan = if G::tier_size(tier) <= FEW_FOR_LEVELS {
         plan.by_one()
     } else {
         plan

@@ -1,6 +1,7 @@
 //! A tier before its first level.
 ghost use Rattle.std.specs.Prelude.{◌≡◌, ◌-◌, ◌≤◌, length, IfOk};
-ghost use Rattle.gm_deliveries.specs.Begin.{AreStarts, first_state};
+ghost use Rattle.gm_solver.specs.Lower.{AreStarts};
+ghost use Rattle.gm_deliveries.specs.Begin.{first_state};
 
 use gm_deliveries::begin::start;
 use gm_deliveries::status::Start;

@@ -1,20 +1,14 @@
 //! A tier solved by workers.
 ghost use Rattle.std.specs.Prelude.{◌≡◌, ◌≤◌, ℕ, IfOk, IfErr, OnOk};
-ghost use Rattle.gm_game.specs.declared.position.Phase.TheVariants.{WinLose, Ties};
-ghost use Rattle.gm_table.specs.Tables.{AreHeld, IsTable};
-ghost use Rattle.gm_frontier.specs.Levels.{place_at};
-ghost use Rattle.gm_deliveries.specs.Steps.{place_of};
-ghost use Rattle.gm_table.specs.Solving.{IsTooFar, AreDeliveries};
+ghost use Rattle.gm_solver.specs.Lower.{AreHeld, IsTable, IsTooFar, AreDeliveries};
 ghost use Rattle.gm_solver.specs.Solving.{IsError};
 
 use crate::context::{Schedule, SolveContext};
 use crate::error::SolveError;
 use crate::gate::Gate;
-use crate::observer::{NoObserver, Observer};
+use crate::observer::NoObserver;
 use crate::plan::Plan;
 use crate::source::Source;
-use crate::tiles::{Tiles, begin_tiles, tile_width};
-use gm_frontier::last::Last;
 use gm_game::game::Game;
 use gm_game::limits::TIER_SIZE;
 use gm_table::table::Table;
@@ -117,56 +111,6 @@ pub fn solve_passes<G: Game + Send + Sync, R: Threads + Wait + Sync, T: Gate, S:
         observer: &NoObserver,
     };
     context.solve(tier)
-}
-
-impl<
-    'a,
-    G: Game + Send + Sync,
-    R: Threads + Wait + Sync,
-    T: Gate,
-    S: Source,
-    O: Observer,
-> SolveContext<'a, G, R, T, S, O> {
-    // Takes a tier from its first level through both phases. Returns the number of the workers' deliveries too.
-    fn finish_phases(&self, tiles: Tiles<G>) -> Result<(Tiles<G>, Last<G>, u64), SolveError>
-        requires held { AreHeld G.rules self.now.tables.now tiles.shards.a.tier }
-        requires small { G.rules.tier_size tiles.shards.a.tier ≤ TIER_SIZE }
-        requires first { place_of tiles.shards.a ≡ place_at tiles.shards.a.tier WinLose 0 }
-        ensures tier { IfOk result (λ done. done.0.shards.a.tier ≡ tiles.shards.a.tier) }
-        ensures ties { IfOk result (λ done. done.0.shards.a.phase ≡ Ties) }
-        ensures last { IfOk result (λ done. done.1 ≡ place_of done.0.shards.a) }
-        ensures error { IfErr result (IsError G.rules tiles.shards.a.tier) }
-    {
-        let (mut tiles, last, wins) = self.finish_levels(tiles)?;
-        tiles.next_phase(&last);
-        let (tiles, last, ties) = self.finish_levels(tiles)?;
-        Ok((tiles, last, wins.saturating_add(ties)))
-    }
-
-    /// Solves a tier level by level.
-    pub(crate) fn solve(&self, tier: u64) -> Result<(Table<G>, Report), SolveError>
-        requires held { AreHeld G.rules self.now.tables.now tier }
-        requires small { G.rules.tier_size tier ≤ TIER_SIZE }
-        ensures tier { IfOk result (λ answer. answer.0.tier ≡ tier) }
-        ensures table { IfOk result (λ answer. IsTable G.rules answer.0) }
-        ensures deliveries { IfOk result (λ answer. AreDeliveries G.rules tier answer.1.deliveries) }
-        ensures by_hand { IfOk result (λ answer. answer.1.by_hand ≤ answer.1.deliveries) }
-        ensures near { OnOk result (IsTooFar G.rules tier → ⊥) }
-        ensures error { IfErr result (IsError G.rules tier) }
-    {
-        let workers = self.plan.workers();
-        let width = tile_width::<G>(tier, self.plan.shards());
-        let tiles = begin_tiles(self.rt, self.alloc, tier, width, workers)?;
-        let (tiles, last, by_workers) = self.finish_phases(tiles)?;
-        let solved = tiles.table(self.alloc, self.tables, &last);
-        drop(tiles);
-        let (table, deliveries) = solved?;
-        let report = Report {
-            deliveries,
-            by_hand: deliveries.saturating_sub(by_workers),
-        };
-        Ok((table, report))
-    }
 }
 
 /// Has no effect; its contract states that the number of deliveries of a tier depends on the game only: there is one such number.

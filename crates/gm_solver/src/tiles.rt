@@ -1,27 +1,24 @@
 //! The tiles of a tier, each with a shard.
 ghost use Rattle.std.specs.Prelude.{ℕ, ◌≡◌, ◌+◌, ◌-◌, ◌<◌, ◌≤◌, length, max, IfOk, IfErr, OnOk};
-ghost use Rattle.std.specs.Int.{div_ceil};
-ghost use Rattle.gm_game.specs.declared.position.Phase.TheVariants.{WinLose, Ties};
-ghost use Rattle.gm_game.specs.Records.{IsTrueTable};
-ghost use Rattle.gm_frontier.specs.Levels.{place_at};
-ghost use Rattle.gm_deliveries.specs.Begin.{AreStarts};
+ghost use Rattle.gm_solver.specs.Lower.{div_ceil, WinLose, IsTrueTable, place_at, AreStarts, place_of, AreHeld, IsTable, IsTooFar, AreDeliveries, spot_of};
+ghost use Rattle.gm_solver.specs.Lower.{HasNoneHere};
+ghost use Rattle.gm_game.specs.declared.position.Phase.TheVariants.{Ties};
 ghost use Rattle.gm_frontier.specs.Counts.{IsNumberBefore};
-ghost use Rattle.gm_deliveries.specs.Steps.{place_of, CanTurn};
+ghost use Rattle.gm_deliveries.specs.Steps.{CanTurn};
 ghost use Rattle.gm_game.specs.Places.{IsLastLevel};
-ghost use Rattle.gm_table.specs.Tables.{AreHeld, IsTable};
-ghost use Rattle.gm_table.specs.Solving.{IsTooFar, AreDeliveries};
 ghost use Rattle.gm_solver.specs.Solving.{IsError};
-ghost use Rattle.gm_locks.specs.Spots.{spot_of};
-ghost use Rattle.gm_solver.specs.Tiling.{IsWide, AreShardsAt, HaveNoneHere, AreGood, AreTwo, tile_at, next_place};
-ghost use Rattle.gm_locks.specs.Rounds.{HasNoneHere};
+ghost use Rattle.gm_solver.specs.Tiling.{IsWide, AreShardsAt, HaveNoneHere, AreGood, AreTwo, AreWhole, tile_at, next_place};
 
 use crate::context::SolveContext;
 use crate::error::SolveError;
+use crate::few::FEW;
 use crate::gate::Gate;
+use crate::in_order::deliver_level;
 use crate::level_job::LevelJob;
 use crate::observer::Observer;
-use crate::scan::{FEW, find_starts};
+use crate::scan::starts_by_threads;
 use crate::source::Source;
+use crate::starts::starts;
 use gm_deliveries::status::Start;
 use gm_frontier::last::Last;
 use gm_frontier::level::Level;
@@ -106,14 +103,13 @@ fn begin_two<G: Game>(alloc: Global, tier: u64, width: u64, k: u64, starts: &[St
     Ok((low, high))
 }
 
-// Makes the shards of all four tiles: for several workers and many indexes, by two threads with two tiles each.
+// Makes the shards of all four tiles, by two threads with two tiles each.
 fn begin_four<G: Game + Send + Sync, R: Threads + Sync>(
     rt: &R,
     alloc: Global,
     tier: u64,
     width: u64,
     starts: &[Start],
-    workers: usize,
 ) -> (Two<G>, Two<G>)
     requires starts { AreStarts G.rules tier 0 starts.now }
     requires whole { length starts.now ≡ G.rules.tier_size tier }
@@ -122,11 +118,6 @@ fn begin_four<G: Game + Send + Sync, R: Threads + Sync>(
     ensures low { IfOk result.0 (λ two. AreTwo G.rules tier width 0 two.0 two.1) }
     ensures high { IfOk result.1 (λ two. AreTwo G.rules tier width 2 two.0 two.1) }
 {
-    if workers == 1 || starts.len() as u64 <= FEW {
-        let low = begin_two(alloc, tier, width, 0, starts);
-        let high = begin_two(alloc, tier, width, 2, starts);
-        return (low, high);
-    }
     join(
         rt,
         || -> Two<G>
@@ -142,21 +133,18 @@ fn begin_four<G: Game + Send + Sync, R: Threads + Sync>(
     )
 }
 
-/// Returns a tier before its first level. For one worker no thread is started.
-pub(crate) fn begin_tiles<G: Game + Send + Sync, R: Threads + Sync>(
-    rt: &R,
-    alloc: Global,
+// Returns a tier before its first level, of the shards of its tiles.
+fn tiles_of<G: Game>(
     tier: u64,
     width: u64,
-    workers: usize,
+    low: Two<G>,
+    high: Two<G>,
 ) -> Result<Tiles<G>, AllocError>
-    requires small { G.rules.tier_size tier ≤ TIER_SIZE }
     requires wide { IsWide G.rules tier width }
-    ensures place { IfOk result (λ tiles. place_of tiles.shards.a ≡ place_at tier WinLose 0) }
+    requires low { IfOk low (λ two. AreTwo G.rules tier width 0 two.0 two.1) }
+    requires high { IfOk high (λ two. AreTwo G.rules tier width 2 two.0 two.1) }
+    ensures { IfOk result (λ tiles. place_of tiles.shards.a ≡ place_at tier WinLose 0) }
 {
-    let starts = find_starts::<G, R>(rt, alloc, tier, workers)?;
-    let (low, high) = begin_four::<G, R>(rt, alloc, tier, width, starts.as_slice(), workers);
-    drop(starts);
     let ((a, b), (c, d)) = match (low, high) {
         (Ok(low), Ok(high)) => (low, high),
         (low, high) => {
@@ -168,6 +156,68 @@ pub(crate) fn begin_tiles<G: Game + Send + Sync, R: Threads + Sync>(
         shards: Four { a, b, c, d },
         width,
     })
+}
+
+/// Returns a tier before its first level, made by this thread.
+pub(crate) fn begin_in_turn<G: Game>(
+    alloc: Global,
+    tier: u64,
+    width: u64,
+) -> Result<Tiles<G>, AllocError>
+    requires small { G.rules.tier_size tier ≤ TIER_SIZE }
+    requires wide { IsWide G.rules tier width }
+    ensures { IfOk result (λ tiles. place_of tiles.shards.a ≡ place_at tier WinLose 0) }
+{
+    let starts = starts::<G>(alloc, tier, 0, G::tier_size(tier))?;
+    let low = begin_two(alloc, tier, width, 0, starts.as_slice());
+    let high = begin_two(alloc, tier, width, 2, starts.as_slice());
+    drop(starts);
+    tiles_of(tier, width, low, high)
+}
+
+/// Returns a tier before its first level: for several workers and many indexes the start values are found by threads, and two threads make two shards each.
+pub(crate) fn begin_tiles<G: Game + Send + Sync, R: Threads + Sync>(
+    rt: &R,
+    alloc: Global,
+    tier: u64,
+    width: u64,
+    workers: usize,
+) -> Result<Tiles<G>, AllocError>
+    requires small { G.rules.tier_size tier ≤ TIER_SIZE }
+    requires wide { IsWide G.rules tier width }
+    ensures { IfOk result (λ tiles. place_of tiles.shards.a ≡ place_at tier WinLose 0) }
+{
+    if workers == 1 || G::tier_size(tier) <= FEW {
+        return begin_in_turn(alloc, tier, width);
+    }
+    let starts = starts_by_threads::<G, R>(rt, alloc, tier, workers)?;
+    let (low, high) = begin_four::<G, R>(rt, alloc, tier, width, starts.as_slice());
+    drop(starts);
+    tiles_of(tier, width, low, high)
+}
+
+// Closes a level in all four shards, which have all of its pairs.
+fn close_all<G: Game>(
+    level: &Level<G>,
+    width: u64,
+    shards: Four<OrderedShard<G>>,
+) -> Four<OrderedShard<G>>
+    requires here { AreShardsAt G.rules level.now.place width shards }
+    requires whole { AreWhole G.rules shards }
+    requires near { level.now.place.level ≤ REMOTENESS }
+    ensures shards { AreShardsAt G.rules (next_place level.now.place) width result }
+    ensures none { HaveNoneHere G.rules result }
+{
+    let mut shards = shards;
+    let _a = shards.a.range();
+    let _b = shards.b.range();
+    let _c = shards.c.range();
+    let _d = shards.d.range();
+    shards.a.close();
+    shards.b.close();
+    shards.c.close();
+    shards.d.close();
+    shards
 }
 
 impl<G: Game> Tiles<G> {
@@ -252,10 +302,26 @@ impl<G: Game> Tiles<G> {
         let records = self.records(alloc, last)?;
         Ok((Table::from_packed(tier, records), self.number()))
     }
+
+    /// Delivers the pairs of a level in this thread, and closes it.
+    pub(crate) fn run_in_order(self, level: &Level<G>) -> Result<Tiles<G>, SolveError>
+        requires place { level.now.place ≡ place_of self.shards.a }
+        requires near { self.shards.a.level ≤ REMOTENESS }
+        ensures next { IfOk result (λ next. place_of next.shards.a ≡ next_place (place_of self.shards.a)) }
+        ensures error { IfErr result (IsError G.rules self.shards.a.tier) }
+    {
+        let Tiles { shards, width } = self;
+        let a = deliver_level(shards.a, level)?;
+        let b = deliver_level(shards.b, level)?;
+        let c = deliver_level(shards.c, level)?;
+        let d = deliver_level(shards.d, level)?;
+        let shards = close_all(level, width, Four { a, b, c, d });
+        Ok(Tiles { shards, width })
+    }
 }
 
 impl<G: Game + Send + Sync> Tiles<G> {
-    /// Runs one level of a tier: workers deliver its pairs, and the coordinator the rest. Returns the number of the workers' deliveries too.
+    /// Lets workers deliver the pairs of a level, and the coordinator the rest, and closes it. Returns the number of the workers' deliveries too.
     pub(crate) fn run<R: Threads + Wait + Sync, T: Gate, S: Source, O: Observer>(
         self,
         context: &SolveContext<G, R, T, S, O>,
@@ -272,7 +338,8 @@ impl<G: Game + Send + Sync> Tiles<G> {
             notes: context.plan.piece(),
             width,
         };
-        let (shards, by_workers) = context.run_job(&job, shards)?;
+        let (shards, by_workers) = context.deliver(&job, shards)?;
+        let shards = close_all(level, width, shards);
         Ok((Tiles { shards, width }, by_workers))
     }
 }

@@ -1,23 +1,10 @@
 -- What a checked position's canonical children say, and the records that fit.
 use Rattle.std.proofs.Common.{◌≡◌, ◌≢◌, ◌==◌, ℕ, ◌<◌, ◌≤◌, ◌+◌, true, false, Bool, ne_eqb, eq-eqb, eqb-true, if◌then◌else◌, MatchOption, List, [], ◌∷◌, ◌++◌}
 use Rattle.std.proofs.Common.{map, take, length, get_or, refl, sym, ap, ◌∙◌, subst, arith, inl, inr, Option, None, Some}
-use Rattle.std.specs.Option.{is_some}
-use Rattle.std.proofs.lemmas.List.{map-append, map_more, take_all, length-map, length-take}
-use Rattle.std.proofs.lemmas.Bool.{cases_eq}
-use Rattle.std.proofs.lemmas.Option.{same_Some, slice_get-get_or, slice_get_within}
-use Rattle.std.proofs.lemmas.List.Elements.{Contains-get_or}
-use Rattle.gm_game.specs.declared.position.Position.{Position}
-use Rattle.gm_game.specs.declared.position.End.{End}
-use Rattle.gm_game.specs.declared.position.Solved.{Solved}
-use Rattle.gm_game.specs.Rules.{Rules, at, IsCanonical}
-use Rattle.gm_game.specs.Laws.{IsGame}
-use Rattle.gm_game.specs.Children.{AreResults}
-use Rattle.gm_game.specs.Records.{lost_in, tied_in, least_of, all_won, settle, settled_by, from_end}
-use Rattle.gm_game.proofs.Symmetry.{near_child}
-use Rattle.gm_game.proofs.Sets.{settled_by_list}
-use Rattle.gm_table.specs.Tables.{TableData, table_of, record_at, record_of, record_in, value_in, IsAtHand}
-use Rattle.gm_table.specs.Words.{record_of_word}
-use Rattle.gm_table.specs.Checks.{look_up, RecordFits, FitsAt, IsFirstWrong, IsFirstWrongIn, FitBetween}
+use Rattle.gm_table.proofs.Lower.{is_some, map-append, map_more, take_all, length-map, length-take, cases_eq, same_Some, slice_get-get_or, slice_get_within}
+use Rattle.gm_table.proofs.Lower.{Contains-get_or, Position, End, Solved, Rules, at, IsCanonical, IsGame, AreResults, lost_in, tied_in, least_of, all_won}
+use Rattle.gm_table.proofs.Lower.{settle, settled_by, from_end, near_child, settled_by_list, TableData, table_of, record_at, record_of, record_in, value_in}
+use Rattle.gm_table.proofs.Lower.{IsAtHand, record_of_word, look_up, RecordFits, FitsAt, IsFirstWrong, IsFirstWrongIn, FitBetween}
 
 -- one child's word more
 pub words_more : (look : Position → Option Solved) (cs : List Position) (ws new : List ℕ) (i w : ℕ) (d : Position) → i < length cs → map record_of_word ws ≡

@@ -1,11 +1,7 @@
 -- Tables at hand: one is found there, and one more is put there.
 use Rattle.std.proofs.Common.{◌≡◌, ℕ, ◌<◌, List, Option, None, Some, length, get_or, set, option_copied, sym, ap, subst, ◌∙◌, eqb, eqb-true, arith, inl, inr}
-use Rattle.std.specs.Borrow.{Bor}
-use Rattle.std.proofs.lemmas.Bool.{cases_Bool, eqb-false}
-use Rattle.std.proofs.lemmas.List.{length-set, get_or-set_same, get_or-set_other}
-use Rattle.std.proofs.lemmas.List.{get_or_default}
-use Rattle.gm_table.specs.Tables.{TableData, table_of, IsAtHand}
-use Rattle.gm_table.specs.Hands.{AreAtHand}
+use Rattle.gm_table.proofs.Lower.{Bor, cases_Bool, eqb-false, length-set, get_or-set_same, get_or-set_other, get_or_default, TableData, table_of, IsAtHand}
+use Rattle.gm_table.proofs.Lower.{AreAtHand}
 use Rattle.gm_table.proofs.CheckLemmas.{at_hand_found}
 
 module _ (entries : List TableData) (hand : List (Option (Bor TableData))) (slot tier : ℕ) (o : Option (Bor TableData)) (at_hand : AreAtHand entries hand)

@@ -11,3 +11,4 @@ pub mod PackedLemmas
 pub mod WordLemmas
 pub mod VerdictLemmas
 mod HandLemmas
+pub mod Lower

@@ -1,7 +1,6 @@
 -- Short forms one after the other.
 use Rattle.std.proofs.Common.{◌≡◌, ℕ, List, map, take, sym}
-use Rattle.std.proofs.lemmas.List.{take-map}
-use Rattle.gm_table.specs.Numbers.{wide}
+use Rattle.gm_table.proofs.Lower.{take-map, wide}
 
 -- the first numbers are those of the first short forms
 pub take_wide : (n : ℕ) (xs : List ℕ) → map wide (take n xs) ≡ take n (map wide xs)

@@ -1,11 +1,6 @@
 -- Records that are packed one by one.
 use Rattle.std.proofs.Common.{◌≡◌, ℕ, ◌+◌, ◌<◌, ◌≤◌, List, [], ◌∷◌, ◌++◌, Option, length, map, take, get_or, ap, ◌∙◌, sym}
-use Rattle.std.proofs.lemmas.List.{map-append, take_more, take_all}
-use Rattle.std.proofs.lemmas.Simd.{map-map}
-use Rattle.std.proofs.lemmas.Option.{slice_get-get_or}
-use Rattle.gm_game.specs.declared.position.Solved.{Solved}
-use Rattle.gm_table.specs.Numbers.{wide}
-use Rattle.gm_table.specs.Packed.{unpacked, IsNear, AreNear}
+use Rattle.gm_table.proofs.Lower.{map-append, take_more, take_all, map-map, slice_get-get_or, Solved, wide, unpacked, IsNear, AreNear}
 
 -- the record at an index is near
 pub near_at : (records : List (Option Solved)) (i : ℕ) (d : Option Solved) → AreNear records → i < length records → IsNear (get_or records i d)

@@ -1,23 +1,10 @@
 -- Records at a place are those of the positions that are there.
 use Rattle.std.proofs.Common.{◌≡◌, ℕ, zero, suc, ◌<◌, ◌≤◌, ◌+◌, ◌↔◌, Bool, true, false, if◌then◌else◌, List, [], ◌∷◌, get_or, refl, sym, ap, ◌∙◌, subst, inl}
 use Rattle.std.proofs.Common.{inr, arith, Option, None, Some, IsSome, slice_get, eq-eqb, eqb-true}
-use Rattle.std.specs.List.{Contains}
-use Rattle.std.proofs.lemmas.Option.{same_Some, none-some, slice_get-get_or}
-use Rattle.gm_game.specs.declared.position.Position.{Position}
-use Rattle.gm_game.specs.declared.position.Solved.{Solved}
-use Rattle.gm_game.specs.declared.position.Value.{Value}
-use Rattle.gm_game.specs.declared.position.Value.TheVariants.{Lose, Draw, Tie, Win}
-use Rattle.gm_game.specs.declared.position.Phase.{Phase}
-use Rattle.gm_game.specs.declared.position.Phase.TheVariants.{WinLose, Ties}
-use Rattle.gm_game.specs.Rules.{Rules, at, IsCanonical, IsAscending}
-use Rattle.gm_game.specs.Laws.{IsGame}
-use Rattle.gm_game.specs.Values.{HasValue, IsTrueValue}
-use Rattle.gm_game.specs.Records.{solved}
-use Rattle.gm_game.specs.Places.{StandsAt}
-use Rattle.gm_game.proofs.Lists.{contains_none, contains_first, contains_later, contains_cases}
-use Rattle.gm_game.proofs.Basic.{HasValue_once}
-use Rattle.gm_table.specs.Levels.{level_in, HasLevel, is_level, indexes_from, indexes_at}
-use Rattle.gm_table.specs.Tables.{TableData, IsTable, table_of, IsHeld, AreTables, run_of}
+use Rattle.gm_table.proofs.Lower.{Contains, same_Some, none-some, slice_get-get_or, Position, Solved, Value, Lose, Draw, Tie, Win, Phase, WinLose, Ties, Rules}
+use Rattle.gm_table.proofs.Lower.{at, IsCanonical, IsAscending, IsGame, HasValue, IsTrueValue, solved, StandsAt, contains_none, contains_first, contains_later}
+use Rattle.gm_table.proofs.Lower.{contains_cases, HasValue_once, level_in, HasLevel, is_level, indexes_from, indexes_at, TableData, IsTable, table_of, IsHeld}
+use Rattle.gm_table.proofs.Lower.{AreTables, run_of}
 
 -- the test of a level
 level_is : (n : ℕ) (a : Option ℕ) → is_level n a ≡ true → a ≡ Some n

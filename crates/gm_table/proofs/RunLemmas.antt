@@ -1,14 +1,8 @@
 -- The indexes at a place with one record more, and a run with one index more.
 use Rattle.std.proofs.Common.{◌≡◌, ℕ, suc, ◌<◌, ◌+◌, ◌==◌, Bool, true, false, if◌then◌else◌, List, [], ◌∷◌, ◌++◌, map, set, take, length, get_or, refl, sym, ap}
 use Rattle.std.proofs.Common.{◌∙◌, subst, arith, Option, None, Vec, inl, inr, eq-eqb, ne_eqb}
-use Rattle.std.proofs.lemmas.List.{take_more, map-set, get_or-map, get_or-set_same, get_or-set_other, length-map, length-take}
-use Rattle.std.proofs.lemmas.Bool.{cases_eq}
-use Rattle.std.specs.declared.alloc.Global.{Global}
-use Rattle.gm_game.specs.declared.position.Solved.{Solved}
-use Rattle.gm_game.specs.declared.position.Phase.{Phase}
-use Rattle.gm_table.specs.Levels.{level_in, is_level, indexes_from, indexes_at}
-use Rattle.gm_table.specs.Runs.{run_at}
-use Rattle.gm_table.specs.Tables.{record_at}
+use Rattle.gm_table.proofs.Lower.{take_more, map-set, get_or-map, get_or-set_same, get_or-set_other, length-map, length-take, cases_eq, Global, Solved, Phase}
+use Rattle.gm_table.proofs.Lower.{level_in, is_level, indexes_from, indexes_at, run_at, record_at}
 use Rattle.gm_table.proofs.LevelLemmas.{record_read}
 
 push_first : (c : Bool) (k : ℕ) → (if c then k ∷ [] else []) ≡ (if c then (k + 0) ∷ [] else [])

@@ -1,34 +1,12 @@
 -- A map of tables, and what is in it.
-use Rattle.std.proofs.Common.{◌≡◌, ℕ, ◌<◌, ◌==◌, Bool, true, false, if◌then◌else◌, cond, List, [], ◌∷◌, refl, sym, ap, ◌∙◌, subst, inl, inr, arith, Option}
-use Rattle.std.proofs.Common.{Some, eq-eqb, ne_eqb, eqb-true}
-use Rattle.std.specs.declared.cmp.Ordering.{Ordering}
-use Rattle.std.specs.declared.cmp.Ordering.TheVariants.{Less, Equal, Greater}
-use Rattle.std.specs.Ordering.{nat_cmp, is_eq, match_ordering}
-use Rattle.std.specs.Cmp.{nat_cmp_is}
-use Rattle.std.proofs.lemmas.Option.{same_Some}
-use Rattle.std.specs.BTreeMap.{is_at, insert_entry}
-use Rattle.std.specs.Map.{lookup, values_of}
-use Rattle.std.proofs.lemmas.Bool.{cases_order}
-use Rattle.gm_game.specs.Rules.{Rules}
-use Rattle.gm_table.specs.Tables.{TableData, IsTable, table_of, AreTables, AreKept}
+use Rattle.std.proofs.Common.{◌≡◌, ℕ, ◌<◌, ◌==◌, Bool, true, false, if◌then◌else◌, cond, List, [], ◌∷◌, refl, sym, ap, ◌∙◌, subst, arith, Option}
+use Rattle.std.proofs.Common.{Some, ne_eqb, eqb-true}
+use Rattle.gm_table.proofs.Lower.{Ordering, Less, Equal, Greater, nat_cmp, is_eq, match_ordering, MatchOrdering, ranked, nat_tests, same_Some, is_at}
+use Rattle.gm_table.proofs.Lower.{insert_entry, lookup, values_of, Rules, TableData, IsTable, table_of, AreTables, AreKept}
 
 -- the two tests of a key
 same_key : (tier key : ℕ) → is_eq (nat_cmp tier key) ≡ (key == tier)
-same_key tier key =
-    elim (cases_order tier key) [
-      | inl e ↦ ap is_eq (sym (nat_cmp_is tier key Equal e)) ∙ sym (eq-eqb key tier (sym e))
-      | inr d ↦ elim d [
-        | inl l ↦ ap is_eq (sym (nat_cmp_is tier key Less l)) ∙ sym (ne_eqb key tier (λ e. absurd (omega arith)))
-        | inr m ↦ ap is_eq (sym (nat_cmp_is tier key Greater m)) ∙ sym (ne_eqb key tier (λ e. absurd (omega arith)))
-      ]
-    ]
-
-same_place : (k x : ℕ) → nat_cmp k x ≡ Equal → k ≡ x
-same_place k x h =
-    elim (cases_order k x) [
-      | inl e ↦ e
-      | inr d ↦ elim d [ inl l ↦ (let q = nat_cmp_is k x Less l in absurd (cc)) | inr m ↦ (let q = nat_cmp_is k x Greater m in absurd (cc)) ]
-    ]
+same_key tier key = grind (arith, nat_tests)
 
 -- the look-up by key finds the table of the tier
 pub lookup-values : (r : Rules) (es : List (ℕ × TableData)) → AreKept r es → (tier : ℕ) → lookup (is_at (nat_cmp tier)) es ≡ table_of (values_of es) tier
@@ -49,16 +27,16 @@ kept_tables r [] h tier t e = absurd (cc)
 kept_tables r (e ∷ es) h tier t q = held_at r e.1 t (values_of es) tier (e.1.tier == tier) refl h.1 (kept_tables r es h.2 tier) q
 
 -- one table more
-kept_match : (r : Rules) (x : ℕ × TableData) (xs : List (ℕ × TableData)) (k : ℕ) (t : TableData) (o : Ordering) → AreKept r (x ∷ xs) → (o ≡ Equal → k ≡ x.0)
-    → t.tier ≡ k → IsTable r t → AreKept r (insert_entry nat_cmp xs k t)
+kept_match : (r : Rules) (x : ℕ × TableData) (xs : List (ℕ × TableData)) (k : ℕ) (t : TableData) (o : Ordering) → AreKept r (x ∷ xs)
+    → MatchOrdering o (k < x.0) (k ≡ x.0) (x.0 < k) → t.tier ≡ k → IsTable r t → AreKept r (insert_entry nat_cmp xs k t)
     → AreKept r (match_ordering o ((k, t) ∷ x ∷ xs) ((x.0, t) ∷ xs) (x ∷ insert_entry nat_cmp xs k t))
 kept_match r x xs k t Less h s e i m = (e, i, h)
-kept_match r x xs k t Equal h s e i m = (e ∙ s refl, i, h.2)
+kept_match r x xs k t Equal h s e i m = (e ∙ s, i, h.2)
 kept_match r x xs k t Greater h s e i m = (h.0, h.1, m)
 
 kept_with : (r : Rules) (es : List (ℕ × TableData)) (k : ℕ) (t : TableData) → AreKept r es → t.tier ≡ k → IsTable r t → AreKept r (insert_entry nat_cmp es k t)
 kept_with r [] k t h e i = (e, i, tt)
-kept_with r (x ∷ xs) k t h e i = kept_match r x xs k t (nat_cmp k x.0) h (same_place k x.0) e i (kept_with r xs k t h.2 e i)
+kept_with r (x ∷ xs) k t h e i = kept_match r x xs k t (nat_cmp k x.0) h (ranked k x.0 (nat_cmp k x.0) refl) e i (kept_with r xs k t h.2 e i)
 
 -- the table of a tier once a table more is held
 same_cases : (b c : Bool) (t x : TableData) (o : Option TableData) → c ≡ b → cond b (Some t) o ≡ cond b (Some t) (cond c (Some x) o)
@@ -70,30 +48,23 @@ later_cases : (b c : Bool) (t x : TableData) (o : Option TableData) → (b ≡ t
 later_cases true c t x o h = ap (λ d. cond d (Some x) (Some t)) (h refl)
 later_cases false c t x o h = refl
 
-after_key : (k x : ℕ) → nat_cmp k x ≡ Greater → x < k
-after_key k x h =
-    elim (cases_order k x) [
-      | inl e ↦ (let q = nat_cmp_is k x Equal e in absurd (cc))
-      | inr d ↦ elim d [ inl l ↦ (let q = nat_cmp_is k x Less l in absurd (cc)) | inr m ↦ m ]
-    ]
-
 table_match : (x : ℕ × TableData) (xs : List (ℕ × TableData)) (k : ℕ) (t : TableData) (u : ℕ) (o : Ordering) → x.1.tier ≡ x.0 → t.tier ≡ k →
-    (o ≡ Equal → k ≡ x.0) → (o ≡ Greater → x.0 < k)
+    MatchOrdering o (k < x.0) (k ≡ x.0) (x.0 < k)
     → table_of (values_of (insert_entry nat_cmp xs k t)) u ≡ cond (t.tier == u) (Some t) (table_of (values_of xs) u)
     → table_of (values_of (match_ordering o ((k, t) ∷ x ∷ xs) ((x.0, t) ∷ xs) (x ∷ insert_entry nat_cmp xs k t))) u ≡ cond (t.tier == u) (Some t)
     (table_of (values_of (x ∷ xs)) u)
-table_match x xs k t u Less a b e f m = refl
-table_match x xs k t u Equal a b e f m =
-    same_cases (t.tier == u) (x.1.tier == u) t x.1 (table_of (values_of xs) u) (let q = e refl in let s : x.1.tier ≡ t.tier = omega arith in ap (λ i. i == u) s)
-table_match x xs k t u Greater a b e f m =
+table_match x xs k t u Less a b s m = refl
+table_match x xs k t u Equal a b s m =
+    same_cases (t.tier == u) (x.1.tier == u) t x.1 (table_of (values_of xs) u) (let q : x.1.tier ≡ t.tier = omega arith in ap (λ i. i == u) q)
+table_match x xs k t u Greater a b s m =
     ap (cond (x.1.tier == u) (Some x.1)) m
     ∙ later_cases (t.tier == u) (x.1.tier == u) t x.1 (table_of (values_of xs) u)
-    (λ q. let s = eqb-true t.tier u q in let l = f refl in ne_eqb x.1.tier u (λ i. absurd (omega arith)))
+    (λ q. let here = eqb-true t.tier u q in ne_eqb x.1.tier u (λ i. absurd (omega arith)))
 
 table_with : (r : Rules) (es : List (ℕ × TableData)) (k : ℕ) (t : TableData) → AreKept r es → t.tier ≡ k → (u : ℕ) → table_of
     (values_of (insert_entry nat_cmp es k t)) u ≡ cond (t.tier == u) (Some t) (table_of (values_of es) u)
 table_with r [] k t h e u = refl
-table_with r (x ∷ xs) k t h e u = table_match x xs k t u (nat_cmp k x.0) h.0 e (same_place k x.0) (after_key k x.0) (table_with r xs k t h.2 e u)
+table_with r (x ∷ xs) k t h e u = table_match x xs k t u (nat_cmp k x.0) h.0 e (ranked k x.0 (nat_cmp k x.0) refl) (table_with r xs k t h.2 e u)
 
 -- what a map of tables keeps, and shows, once a table is inserted
 module _ (r : Rules) (old new : List (ℕ × TableData)) (k : ℕ) (entry table : TableData) (h : AreKept r old) (e : k ≡ table.tier) (q : entry ≡ table)

@@ -1,18 +1,9 @@
 -- The values that tables give.
 use Rattle.std.proofs.Common.{◌≡◌, ℕ, ◌<◌, ◌↔◌, true, false, List, length, get_or, refl, sym, ap, ◌∙◌, subst, Bool, Option, None, Some, IsSome, IfSome}
 use Rattle.std.proofs.Common.{slice_get}
-use Rattle.std.proofs.lemmas.Option.{slice_get-get_or}
-use Rattle.gm_game.specs.declared.position.Position.{Position}
-use Rattle.gm_game.specs.declared.position.Solved.{Solved}
-use Rattle.gm_game.specs.declared.limits.TheConstants.{REMOTENESS}
-use Rattle.gm_game.specs.Rules.{Rules, at, IsCanonical}
-use Rattle.gm_game.specs.Laws.{IsGame}
-use Rattle.gm_game.specs.Values.{IsTrueValue}
-use Rattle.gm_game.specs.Records.{IsTrueTable, IsRecord, HoldsChildren, IsKnown, Fits}
-use Rattle.gm_game.proofs.Symmetry.{IsTrueValue-canonical}
-use Rattle.gm_game.proofs.Settled.{known_since}
-use Rattle.gm_game.proofs.Checker.{true_iff_fits}
-use Rattle.gm_table.specs.Tables.{TableData, IsTable, record_at, table_of, IsHeld, AreHeld, AreTables, record_in, value_in}
+use Rattle.gm_table.proofs.Lower.{slice_get-get_or, Position, Solved, REMOTENESS, Rules, at, IsCanonical, IsGame, IsTrueValue, IsTrueTable, IsRecord}
+use Rattle.gm_table.proofs.Lower.{HoldsChildren, IsKnown, Fits, IsTrueValue-canonical, known_since, true_iff_fits, TableData, IsTable, record_at, table_of}
+use Rattle.gm_table.proofs.Lower.{IsHeld, AreHeld, AreTables, record_in, value_in}
 
 -- a table has the record of each canonical position of its tier
 record_there : (r : Rules) (t : TableData) (c : Position) (s : Option Solved) → IsTrueTable r REMOTENESS t.tier t.records → IsCanonical r c → c.tier ≡

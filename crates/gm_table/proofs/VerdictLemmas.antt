@@ -1,14 +1,7 @@
 -- What the checker says of records, each reason by itself.
 use Rattle.std.proofs.Common.{◌≡◌, ◌↔◌, ℕ, inl, inr, List, length, Option, ap, subst}
-use Rattle.std.proofs.lemmas.Bool.{cases_order}
-use Rattle.gm_game.specs.declared.position.Solved.{Solved}
-use Rattle.gm_game.specs.declared.limits.TheConstants.{REMOTENESS}
-use Rattle.gm_game.specs.Rules.{Rules}
-use Rattle.gm_game.specs.Records.{IsTrueTable}
-use Rattle.gm_table.specs.Tables.{TableData}
-use Rattle.gm_table.specs.declared.checker.CheckError.{CheckError}
-use Rattle.gm_table.specs.declared.checker.CheckError.TheVariants.{OutOfMemory, WrongSize, WrongRecord}
-use Rattle.gm_table.specs.Checks.{FitTables, IsFirstWrong, AreWrong}
+use Rattle.gm_table.proofs.Lower.{cases_order, Solved, REMOTENESS, Rules, IsTrueTable, TableData, CheckError, OutOfMemory, WrongSize, WrongRecord, FitTables}
+use Rattle.gm_table.proofs.Lower.{IsFirstWrong, AreWrong}
 
 module _ (r : Rules) (entries : List TableData) (tier : ℕ) (records : List (Option Solved))
     (same : IsTrueTable r REMOTENESS tier records ↔ FitTables r entries tier records) where

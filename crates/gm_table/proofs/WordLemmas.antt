@@ -1,13 +1,8 @@
 -- Words that are read one by one.
 use Rattle.std.proofs.Common.{◌≡◌, ◌+◌, ◌<◌, ◌≤◌, ◌∙◌, ℕ, Bool, true, false, List, [], ◌∷◌, ◌++◌, length, length-append, map, take, get_or, filter, not, cond}
 use Rattle.std.proofs.Common.{Option, ap, refl, arith}
-use Rattle.std.proofs.lemmas.List.{map_more, length-map, length-take}
-use Rattle.std.proofs.lemmas.List.Elements.{filter-append}
-use Rattle.std.proofs.lemmas.List.Filters.{length-filter_both}
-use Rattle.gm_game.specs.declared.position.Solved.{Solved}
-use Rattle.gm_game.specs.Records.{won_in, lesser, greater, least_of, all_won}
-use Rattle.gm_game.proofs.Folding.{least_push, all_won_push}
-use Rattle.gm_table.specs.Words.{record_of_word, is_decided}
+use Rattle.gm_table.proofs.Lower.{map_more, length-map, length-take, filter-append, length-filter_both, Solved, won_in, lesser, greater, least_of, all_won}
+use Rattle.gm_table.proofs.Lower.{least_push, all_won_push, record_of_word, is_decided}
 
 -- one of a list passes a test, or none
 one_passes : (p : Option Solved → Bool) (o : Option Solved) → length (filter p (o ∷ [])) ≡ cond (p o) 1 0

@@ -1,12 +1,6 @@
 -- Records that are checked one by one.
-use Rattle.std.specs.Prelude.{◌≡◌, ◌≢◌, ℕ, ◌<◌, ◌≤◌, ◌/◌, ◌%◌, List, Option, None, Some, MatchOption, length, map, slice_get, slice_index_or}
-use Rattle.std.specs.Option.{option_or}
-use Rattle.gm_game.specs.declared.position.Position.{Position}
-use Rattle.gm_game.specs.declared.position.Solved.{Solved}
-use Rattle.gm_game.specs.declared.limits.TheConstants.{REMOTENESS}
-use Rattle.gm_game.specs.Rules.{Rules, at}
-use Rattle.gm_game.specs.Children.{canonical_children_of}
-use Rattle.gm_game.specs.Records.{IsRecord, settled_by, look_in, Fits}
+use Rattle.std.specs.Prelude.{◌≡◌, ◌≢◌, ℕ, ◌<◌, ◌≤◌, ◌/◌, List, Option, Some, MatchOption, length, map, slice_get}
+use Rattle.gm_table.specs.Lower.{Position, Solved, REMOTENESS, Rules, at, canonical_children_of, IsRecord, settled_by, look_in, Fits}
 use Rattle.gm_table.specs.declared.checker.CheckError.{CheckError}
 use Rattle.gm_table.specs.declared.checker.CheckError.TheVariants.{OutOfMemory, WrongSize, WrongRecord}
 use Rattle.gm_table.specs.Tables.{TableData, value_in}
@@ -52,27 +46,10 @@ abbrev pub IsFirstWrongIn : Rules → List TableData → ℕ → List (Option So
 IsFirstWrongIn r entries tier records lo hi first = MatchOption first (FitBetween r entries tier records lo hi)
     (λ w. (lo ≤ w) × (w < hi) × (FitsAt r entries tier records w → ⊥) × FitBetween r entries tier records lo w)
 
--- the class of an index: blocks of 64 indexes are dealt out to 256 classes in turn
-abbrev pub class_of : ℕ → ℕ
-class_of i = i / 64 % 256
-
--- the records of the class before this index fit, and the record at the index, if there is one, doesn't
-pub record IsFirstOfClass (r : Rules) (entries : List TableData) (tier : ℕ) (records : List (Option Solved)) (class first : ℕ) : Type 0 where
-  pub before : (i : ℕ) → class_of i ≡ class → i < first → FitsAt r entries tier records i
+-- the records of a block of 512 before this index fit, and the record at the index, if there is one, doesn't
+pub record IsFirstOfBlock (r : Rules) (entries : List TableData) (tier : ℕ) (records : List (Option Solved)) (block first : ℕ) : Type 0 where
+  pub before : (i : ℕ) → i / 512 ≡ block → i < first → FitsAt r entries tier records i
   pub wrong : first < length records → FitsAt r entries tier records first → ⊥
-
--- what is known of a class is its first index whose record doesn't fit
-pub record AreFirsts (r : Rules) (entries : List TableData) (tier : ℕ) (records : List (Option Solved)) (firsts : List (Option ℕ)) : Type 0 where
-  pub each : (class first : ℕ) → slice_index_or firsts class None ≡ Some first → IsFirstOfClass r entries tier records class first
-
--- nothing is known of any class
-abbrev pub HasNone : List (Option ℕ) → Type 0
-HasNone firsts = (class : ℕ) → slice_index_or firsts class None ≡ None
-
--- the last list says of each class what the first one says, and what the second one says where the first has nothing
-abbrev pub IsOfBoth : List (Option ℕ) → List (Option ℕ) → List (Option ℕ) → Type 0
-IsOfBoth one other both = (class : ℕ) → class < length both
-    → slice_index_or both class None ≡ option_or (slice_index_or one class None) (slice_index_or other class None)
 
 -- these records are not the tier's, for this reason
 abbrev pub AreWrong : Rules → List TableData → ℕ → List (Option Solved) → CheckError → Type 0

@@ -1,9 +1,6 @@
 -- The levels of the records of a table.
 use Rattle.std.specs.Prelude.{◌≡◌, ℕ, suc, ◌≤◌, max, Bool, false, ◌==◌, List, [], ◌∷◌, Option, None, Some, slice_get, if◌then◌else◌}
-use Rattle.gm_game.specs.declared.position.Value.TheVariants.{Lose, Draw, Tie, Win}
-use Rattle.gm_game.specs.declared.position.Solved.{Solved}
-use Rattle.gm_game.specs.declared.position.Phase.{Phase}
-use Rattle.gm_game.specs.declared.position.Phase.TheVariants.{WinLose, Ties}
+use Rattle.gm_table.specs.Lower.{Lose, Draw, Tie, Win, Solved, Phase, WinLose, Ties}
 
 -- the level at which a record is in a phase: its remoteness, if its value is settled in that phase
 abbrev pub level_in : Phase → Option Solved → Option ℕ

@@ -9,3 +9,4 @@ pub mod Outlines
 pub mod Solving
 pub mod Tables
 pub mod Words
+pub mod Lower

@@ -1,7 +1,6 @@
 -- What records are found to have by going over them.
 use Rattle.std.specs.Prelude.{◌≡◌, List, Option, IfSome}
-use Rattle.gm_game.specs.declared.position.Solved.{Solved}
-use Rattle.gm_game.specs.declared.position.Phase.TheVariants.{WinLose, Ties}
+use Rattle.gm_table.specs.Lower.{Solved, WinLose, Ties}
 use Rattle.gm_table.specs.declared.outline.Outline.{Outline}
 use Rattle.gm_table.specs.Levels.{greatest_of}
 use Rattle.gm_table.specs.Runs.{AreRunsOf}

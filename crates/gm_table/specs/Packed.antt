@@ -1,17 +1,6 @@
 -- Records as numbers of 32 bits.
 use Rattle.std.specs.Prelude.{◌≡◌, ℕ, ◌/◌, ◌%◌, ◌==◌, ◌≤◌, if◌then◌else◌, List, Option, None, Some, IfSome, slice_get}
-use Rattle.gm_game.specs.declared.position.Value.{Value}
-use Rattle.gm_game.specs.declared.position.Value.TheVariants.{Lose, Draw, Tie, Win}
-use Rattle.gm_game.specs.declared.position.Solved.{Solved}
-use Rattle.gm_game.specs.declared.limits.TheConstants.{REMOTENESS}
-use Rattle.gm_game.specs.Records.{solved}
-
--- the code of a value
-abbrev pub code_of : Value → ℕ
-code_of Lose = 1
-code_of Draw = 2
-code_of Tie = 3
-code_of Win = 4
+use Rattle.gm_table.specs.Lower.{Value, Lose, Draw, Tie, Win, Solved, REMOTENESS, solved}
 
 -- the value with this code
 abbrev pub value_of : ℕ → Value

@@ -1,9 +1,6 @@
 -- The indexes of a table, laid out by place.
 use Rattle.std.specs.Prelude.{◌≡◌, ℕ, List, [], map, slice_index_or, Option, Vec}
-use Rattle.std.specs.declared.alloc.Global.{Global}
-use Rattle.gm_game.specs.declared.position.Solved.{Solved}
-use Rattle.gm_game.specs.declared.position.Phase.{Phase}
-use Rattle.gm_game.specs.declared.position.Phase.TheVariants.{WinLose, Ties}
+use Rattle.gm_table.specs.Lower.{Global, Solved, Phase, WinLose, Ties}
 use Rattle.gm_table.specs.declared.runs.Runs.{Runs}
 use Rattle.gm_table.specs.Levels.{indexes_at}
 

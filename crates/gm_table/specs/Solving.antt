@@ -1,12 +1,6 @@
 -- The duties of a solver of a tier.
 use Rattle.std.specs.Prelude.{ℕ, ◌+◌}
-use Rattle.gm_game.specs.declared.limits.TheConstants.{REMOTENESS}
-use Rattle.gm_game.specs.declared.position.Position.{Position}
-use Rattle.gm_game.specs.declared.position.Value.{Value}
-use Rattle.gm_game.specs.declared.position.Value.TheVariants.{Draw}
-use Rattle.gm_game.specs.Rules.{Rules, at, IsCanonical, IsParent}
-use Rattle.gm_game.specs.Values.{HasValue}
-use Rattle.gm_game.specs.Numbers.{AreThere}
+use Rattle.gm_table.specs.Lower.{REMOTENESS, Position, Value, Draw, Rules, at, IsCanonical, IsParent, HasValue, AreThere}
 
 -- a pair of the tier whose child is no draw
 pub record IsDelivery (r : Rules) (tier : ℕ) (pair : Position × ℕ) : Type 0 where

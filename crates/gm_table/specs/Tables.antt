@@ -1,12 +1,6 @@
 -- Tables as data.
 use Rattle.std.specs.Prelude.{◌≡◌, ℕ, ◌≤◌, ◌==◌, if◌then◌else◌, List, [], ◌∷◌, Option, None, Some, IsSome, length, slice_get}
-use Rattle.std.specs.List.{Contains}
-use Rattle.gm_game.specs.declared.position.Position.{Position}
-use Rattle.gm_game.specs.declared.position.Phase.{Phase}
-use Rattle.gm_game.specs.declared.position.Solved.{Solved}
-use Rattle.gm_game.specs.declared.limits.TheConstants.{REMOTENESS, TIER_SIZE}
-use Rattle.gm_game.specs.Rules.{Rules}
-use Rattle.gm_game.specs.Records.{IsTrueTable}
+use Rattle.gm_table.specs.Lower.{Contains, Position, Phase, Solved, REMOTENESS, TIER_SIZE, Rules, IsTrueTable}
 use Rattle.gm_table.specs.declared.outline.Outline.{Outline}
 use Rattle.gm_table.specs.Levels.{indexes_at}
 use Rattle.gm_table.specs.Outlines.{IsOutlineOf}

@@ -1,8 +1,6 @@
 -- Records as words of 64 bits, and what the words of children say.
 use Rattle.std.specs.Prelude.{ℕ, ◌/◌, ◌%◌, ◌==◌, if◌then◌else◌, Bool, true, false, Option, None, Some}
-use Rattle.gm_game.specs.declared.position.Value.TheVariants.{Lose, Draw, Tie, Win}
-use Rattle.gm_game.specs.declared.position.Solved.{Solved}
-use Rattle.gm_game.specs.Records.{solved}
+use Rattle.gm_table.specs.Lower.{Lose, Draw, Tie, Win, Solved, solved}
 use Rattle.gm_table.specs.Packed.{value_of}
 
 -- the record with this word, which is the code of its value times 4,294,967,296 plus its remoteness; words below 4,294,967,296 stand for no record

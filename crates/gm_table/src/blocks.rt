@@ -1,11 +1,11 @@
 //! Records checked by as many threads as there are processors.
-ghost use Rattle.std.specs.Prelude.{◌≡◌, ◌↔◌, ◌/◌, ◌<◌, ◌≤◌, ℕ, min, length, IsTrue, None, MatchOption};
-ghost use Rattle.gm_game.specs.Children.{AreResults};
-ghost use Rattle.gm_game.specs.Rules.{AreHoles, IsCanonical, at};
-ghost use Rattle.gm_game.specs.declared.limits.TheConstants.{TIER_SIZE};
+ghost use Rattle.std.specs.Prelude.{◌≡◌, ◌↔◌, ◌<◌, ◌≤◌, ℕ, min, length, IsTrue, None, MatchOption};
+ghost use Rattle.gm_table.specs.Lower.{AreResults, AreHoles, IsCanonical, at, TIER_SIZE};
 ghost use Rattle.gm_table.specs.Hands.{AreAtHand};
-ghost use Rattle.gm_table.specs.Checks.{FitsAt, IsFirstWrong, IsFirstWrongIn, IsFirstOfClass, AreFirsts, HasNone, IsOfBoth};
+ghost use Rattle.gm_table.specs.Checks.{FitsAt, IsFirstWrong, IsFirstWrongIn, IsFirstOfBlock};
+ghost use Rattle.gm_table.specs.Dealing.{block_in};
 
+use crate::dealing::Dealing;
 use crate::fits::{Lists, fits};
 use crate::hand::SLOTS;
 use crate::records::Records;
@@ -14,26 +14,14 @@ use crate::tables::Tables;
 use gm_game::game::Game;
 use gm_game::limits::TIER_SIZE;
 use gm_game::position::{End, Position};
-use rayon::current_num_threads;
 use rayon::prelude::*;
-use std::sync::atomic::{AtomicUsize, Ordering};
 use std::thread::Threads;
 
-/// How few records are worth a thread of their own.
-const PIECE: usize = 4096;
+/// How few blocks are worth a thread of their own.
+const PIECE: usize = 8;
 
 /// Up to this many records are checked by the caller's thread alone.
 const FEW: usize = 8192;
-
-/// The number of indexes of a block. Blocks are dealt out to the classes in turn: canonical positions have low indexes, so contiguous parts of the tier would
-/// mean unequal work.
-const BLOCK: usize = 64;
-
-/// The number of classes. Threads draw them one after another, so that they end almost together on a busy machine too.
-const CLASSES: usize = 256;
-
-/// The indexes of one round of blocks, one for each class.
-const ROUND: usize = 16_384;
 
 // Records of a tier that are to be checked, with the tables that they are checked against.
 #[derive(Drop)]
@@ -41,7 +29,8 @@ struct Given<'a, G: Game, C: Records> {
     tier: u64,
     records: &'a C,
     tables: &'a Tables<G>,
-    ghost small: { length (C.listed records.now) ≤ TIER_SIZE },
+    dealing: Dealing,
+    ghost size_is: { dealing.size ≡ length (C.listed records.now) },
 }
 
 impl<'a, G: Game, C: Records> Given<'a, G, C> {
@@ -130,119 +119,51 @@ impl<'a, G: Game, C: Records> Given<'a, G, C> {
         self.first_filled(next, hi)
     }
 
-    // Returns the least index of a class whose record doesn't fit, or how many records there are.
-    fn first_of(&self, class: usize) -> u64
-        ensures { IsFirstOfClass G.rules self.now.tables.now self.now.tier (C.listed self.now.records.now) class result }
+    // Returns the least index of the block that belongs to a place whose record doesn't fit, or how many records there are.
+    fn first_in(&self, place: u32) -> u64
+        ensures { IsFirstOfBlock G.rules self.now.tables.now self.now.tier (C.listed self.now.records.now) (block_in self.now.dealing.rows place) result }
     {
-        let size = self.records.count();
-        let mut lists = Lists::new();
-        let mut hand = [None; SLOTS];
-        for round in 0..size.div_ceil(ROUND) {
-            let start = round * ROUND + class % CLASSES * BLOCK;
-            let lo = start.min(size);
-            let hi = (start + BLOCK).min(size);
-            if let Some(index) = self.first_between(&mut hand, &mut lists, lo, hi) {
-                return index;
-            }
+        let (lo, hi) = self.dealing.range(place);
+        let first = self.first_between(
+            &mut [None; SLOTS],
+            &mut Lists::new(),
+            lo as usize,
+            hi as usize,
+        );
+        match first {
+            Some(index) => index,
+            None => self.dealing.size(),
         }
-        size as u64
     }
 }
 
 impl<'a, G: Game + Send + Sync, C: Records + Sync> Given<'a, G, C> {
-    // Returns how many threads are to check: one for each processor, and enough records for each.
-    fn workers(&self, processors: usize) -> u32
-        ensures { result ≡ min processors (length (C.listed self.now.records.now) / PIECE) }
-    {
-        processors.min(self.records.count() / PIECE) as u32
-    }
-
-    // Returns the firsts of the classes that one thread draws, until all are drawn.
-    fn drawn(&self, next: &AtomicUsize) -> Firsts
-        ensures { AreFirsts G.rules self.now.tables.now self.now.tier (C.listed self.now.records.now) result.classes }
-    {
-        let mut classes = [None; CLASSES];
-        for _ in 0..CLASSES {
-            let class = next.fetch_add(1, Ordering::SeqCst);
-            if class >= CLASSES {
-                return Firsts { classes };
-            }
-            classes[class] = Some(self.first_of(class));
-        }
-        Firsts { classes }
-    }
-
-    // Returns the least index whose record doesn't fit, or how many records there are.
+    // Returns the least index whose record doesn't fit, or a number past the last index if each fits.
     fn first_of_all<R: Threads + Sync>(&self, rt: &R) -> u64
         ensures wrong { result < length (C.listed self.now.records.now)
             → IsFirstWrong G.rules self.now.tables.now self.now.tier (C.listed self.now.records.now) result }
         ensures fit { length (C.listed self.now.records.now) ≤ result
             → (i : ℕ) → FitsAt G.rules self.now.tables.now self.now.tier (C.listed self.now.records.now) i }
     {
-        let next = AtomicUsize::new(0);
-        let workers = self.workers(current_num_threads(rt));
-        let firsts = (0..workers)
+        let blocks = self.dealing.blocks();
+        (0..blocks)
             .into_par_iter()
-            .with_min_len(1)
+            .with_min_len(PIECE)
             .map(
-                |_worker: u32| -> Firsts
-                    ensures { AreFirsts G.rules self.entry.now.tables.now self.entry.now.tier (C.listed self.entry.now.records.now) result.classes }
-                { self.drawn(&next) },
+                |place: u32| -> u64
+                    ensures { IsFirstOfBlock G.rules self.entry.now.tables.now self.entry.now.tier (C.listed self.entry.now.records.now)
+                        (block_in self.entry.now.dealing.rows place) result }
+                { self.first_in(place) },
             )
             .reduce(
                 rt,
-                || -> Firsts
-                    ensures { HasNone result.classes }
-                { Firsts::none() },
-                |some: Firsts, others: Firsts| -> Firsts
-                    ensures { IsOfBoth some.classes others.classes result.classes }
-                { some.and(&others) },
-            );
-        let mut first = self.records.count() as u64;
-        for class in 0..CLASSES {
-            first = first.min(self.first_at(&firsts, class));
-        }
-        first
-    }
-
-    // Returns the first of a class. Each has been drawn; the first of one that had not would be found here.
-    fn first_at(&self, firsts: &Firsts, class: usize) -> u64
-        requires class { class < CLASSES }
-        requires firsts { AreFirsts G.rules self.now.tables.now self.now.tier (C.listed self.now.records.now) firsts.now.classes }
-        ensures { IsFirstOfClass G.rules self.now.tables.now self.now.tier (C.listed self.now.records.now) class result }
-    {
-        match firsts.classes[class] {
-            Some(first) => first,
-            None => self.first_of(class),
-        }
-    }
-}
-
-// What one thread has found: for each class that it drew, the least index whose record doesn't fit, or how many records there are.
-#[derive(Drop)]
-struct Firsts {
-    classes: [Option<u64>; CLASSES],
-}
-
-impl Firsts {
-    // Returns a result that has no fault yet.
-    fn none() -> Firsts
-        ensures { HasNone result.classes }
-    {
-        Firsts {
-            classes: [None; CLASSES],
-        }
-    }
-
-    // Joins what two threads have found.
-    fn and(self, other: &Firsts) -> Firsts
-        ensures { IsOfBoth self.classes other.now.classes result.classes }
-    {
-        let mut classes = self.classes;
-        for class in 0..CLASSES {
-            classes[class] = classes[class].or(other.classes[class]);
-        }
-        Firsts { classes }
+                || -> u64
+                    ensures { result ≡ 18446744073709551615 }
+                { u64::MAX },
+                |a: u64, b: u64| -> u64
+                    ensures { result ≡ min a b }
+                { a.min(b) },
+            )
     }
 }
 
@@ -260,6 +181,7 @@ pub(crate) fn first_wrong<G: Game, C: Records>(
         tier,
         records,
         tables,
+        dealing: Dealing::of(records.count() as u64),
     };
     given.first_between(&mut [None; SLOTS], &mut Lists::new(), 0, records.count())
 }
@@ -282,6 +204,7 @@ pub(crate) fn first_wrong_by<G: Game + Send + Sync, C: Records + Sync, R: Thread
         tier,
         records,
         tables,
+        dealing: Dealing::of(records.count() as u64),
     };
     let first = given.first_of_all(rt);
     if first < records.count() as u64 {

@@ -1,8 +1,6 @@
 //! Whether one record follows from the records of its position's canonical children.
 ghost use Rattle.std.specs.Prelude.{◌≡◌, ◌↔◌, IsTrue, None, length, option_copied};
-ghost use Rattle.gm_game.specs.Rules.{IsCanonical, IsInner};
-ghost use Rattle.gm_game.specs.Children.{AreResults};
-ghost use Rattle.gm_game.specs.Records.{settle};
+ghost use Rattle.gm_table.specs.Lower.{IsCanonical, IsInner, AreResults, settle};
 ghost use Rattle.gm_table.specs.Hands.{AreAtHand};
 ghost use Rattle.gm_table.specs.Tables.{record_of};
 ghost use Rattle.gm_table.specs.Words.{record_of_word};

@@ -1,16 +1,15 @@
 //! Records of one byte or four each.
 ghost use Rattle.std.specs.Prelude.{◌≡◌, ◌≢◌, ◌*◌, ◌≤◌, ◌<◌, ◌++◌, [], ◌∷◌, None, map, replicate, take, IfSome, IfOk, length, OnOk, OnErr};
-ghost use Rattle.gm_game.specs.declared.limits.TheConstants.{REMOTENESS};
-ghost use Rattle.gm_record.specs.declared.version.Version.TheVariants.{Two};
-ghost use Rattle.gm_record.specs.Numbers.{code, record_number};
+ghost use Rattle.gm_table.specs.Lower.{REMOTENESS, Two, record_number};
 ghost use Rattle.gm_table.specs.Numbers.{wide};
-ghost use Rattle.gm_table.specs.Packed.{code_of, unpacked, IsNear, AreNear};
+ghost use Rattle.gm_table.specs.Packed.{unpacked, IsNear, AreNear};
 ghost use Rattle.gm_table.specs.Tables.{record_at};
 ghost use Rattle.gm_table.specs.Words.{record_of_word};
 
 use crate::numbers::Numbers;
 use crate::words::word_with;
 use gm_game::position::{Solved, Value};
+use gm_record::number::code_of;
 use std::alloc::{AllocError, Global};
 use std::marker::Model;
 
@@ -138,20 +137,6 @@ impl Packed {
             Some(number) => word_with(number),
             None => 0,
         }
-    }
-}
-
-/// Returns the code of a value.
-pub(crate) fn code_of(value: Value) -> u32
-    ensures value { result ≡ code_of value }
-    ensures stored { result ≡ code value }
-    ensures few { result ≤ 4 }
-{
-    match value {
-        Value::Lose => 1,
-        Value::Draw => 2,
-        Value::Tie => 3,
-        Value::Win => 4,
     }
 }
 

@@ -1,8 +1,6 @@
 //! The true table of a tier.
 ghost use Rattle.std.specs.Prelude.{◌≡◌, ◌≤◌, length, IfOk, IfSome};
-ghost use Rattle.gm_game.specs.Rules.{at};
-ghost use Rattle.gm_game.specs.Values.{IsTrueValue};
-ghost use Rattle.gm_game.specs.Records.{IsTrueTable, IsRecord};
+ghost use Rattle.gm_table.specs.Lower.{at, IsTrueValue, IsTrueTable, IsRecord};
 ghost use Rattle.gm_table.specs.Levels.{IsGreatest};
 ghost use Rattle.gm_table.specs.Words.{record_of_word};
 

@@ -1,9 +1,6 @@
 //! Tables by tier.
 ghost use Rattle.std.specs.Prelude.{◌≡◌, ◌↔◌, ℕ, [], true, IsTrue, IsSome, IfSome, OnOk, OnErr, IfErr, option_copied};
-ghost use Rattle.std.specs.List.{Contains};
-ghost use Rattle.gm_game.specs.Rules.{at, IsCanonical, IsAscending};
-ghost use Rattle.gm_game.specs.Places.{StandsAt};
-ghost use Rattle.gm_game.specs.Values.{IsTrueValue};
+ghost use Rattle.gm_table.specs.Lower.{Contains, at, IsCanonical, IsAscending, StandsAt, IsTrueValue};
 
 use crate::entry::Entry;
 use crate::table::Table;

@@ -1,12 +1,12 @@
 //! Records as words of 64 bits, and what the words of children say. They are read without a branch on what they hold, so a processor waits for many at once.
 ghost use Rattle.std.specs.Prelude.{◌≡◌, ◌≤◌, ◌<◌, ◌+◌, map, length, cond};
-ghost use Rattle.std.specs.List.{filter};
-ghost use Rattle.gm_game.specs.Records.{lost_in, won_in, tied_in, lesser, greater, least_of, all_won};
+ghost use Rattle.gm_table.specs.Lower.{filter, lost_in, won_in, tied_in, lesser, greater, least_of, all_won};
 ghost use Rattle.gm_table.specs.Packed.{unpacked};
 ghost use Rattle.gm_table.specs.Words.{record_of_word, is_decided, marked};
 
-use crate::packed::{STEP, code_of};
+use crate::packed::STEP;
 use gm_game::position::Solved;
+use gm_record::number::code_of;
 use gm_record::summary::Summary;
 
 /// One more than the greatest remoteness of a word: its number is the code of the value times this, plus the remoteness. As a mark it stands for none.

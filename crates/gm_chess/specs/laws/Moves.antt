@@ -4,9 +4,10 @@ use Rattle.gm_pieces.specs.Common.{ℕ, Bool, true, false, eqb, eqb-true, List, 
 use Rattle.gm_pieces.specs.Common.{inl, inr, cond_both, lone_in, Contains, None, Some}
 use Rattle.gm_pieces.specs.Common.{IsAscending, IsPaddedText, IsMoveGame, steps}
 use Rattle.gm_game.specs.declared.position.End.TheVariants.{Tie}
+use Rattle.gm_squares.specs.Squares.{goes_on_board, beside}
 use Rattle.gm_chess.specs.declared.men.Men.{Men}
 use Rattle.gm_chess.specs.Chess.{legal, moved, end_by_last_move, tier, child_tiers}
-use Rattle.gm_chess.specs.Chess.{chess_name, start, ending, king_attacks, piece_attacks, in_check, goes_on_board, beside, ray, reaches}
+use Rattle.gm_chess.specs.Chess.{chess_name, start, ending, king_attacks, piece_attacks, in_check, ray, reaches}
 use Rattle.gm_chess.specs.laws.MenFacts.{legal_in, move_in, moved_legal, undone, redone}
 use Rattle.gm_chess.specs.laws.TriedMoves.{moves_few, befores_few}
 

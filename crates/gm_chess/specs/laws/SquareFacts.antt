@@ -4,7 +4,8 @@ use Rattle.gm_pieces.specs.Common.{ℕ, zero, suc, Bool, true, false, not, eqb, 
 use Rattle.gm_pieces.specs.Common.{subst, arith, inl, inr, Contains, list_all, list_any, range_with_len, cases_Bool, true≢false}
 use Rattle.gm_pieces.specs.Common.{and_left, and_right, and_both, all_at, any_at, any_from, same_tests, at_below, at_all, at_each, range_below}
 use Rattle.gm_pieces.specs.Common.{agree, agree_same, or_cases, contains_head, contains_later}
-use Rattle.gm_chess.specs.Chess.{goes_on_board, beside, ray, reaches, attacks, king_attacks, piece_attacks, piece_ways, all_ways, rook_ways, image_square}
+use Rattle.gm_squares.specs.Squares.{goes_on_board, beside}
+use Rattle.gm_chess.specs.Chess.{ray, reaches, attacks, king_attacks, piece_attacks, piece_ways, all_ways, rook_ways, image_square}
 
 -- ---- tables
 abbrev pub implies : Bool → Bool → Bool

@@ -1,8 +1,9 @@
 -- Texts are plain, fit a line, and distinguish boards and moves.
-use Rattle.std.specs.Prelude.{◌≡◌, ◌≢◌, ◌+◌, ◌<◌, ◌≤◌, ◌*◌, ◌/◌, ◌%◌, ◌-◌, ◌∷◌, if◌then◌else◌, slice_index}
+use Rattle.std.specs.Prelude.{◌≡◌, ◌≢◌, ◌+◌, ◌<◌, ◌≤◌, ◌/◌, ◌%◌, ◌∷◌, if◌then◌else◌, slice_index}
 use Rattle.gm_pieces.specs.Common.{ℕ, zero, suc, Bool, true, false, eqb, eqb-true, eq-eqb, nat_tests, List, [], length, refl, sym, ap, ◌∙◌, arith, inl, inr, cases_Bool}
 use Rattle.gm_pieces.specs.Common.{and_both, cond_both, list_all, is_plain, IsPlain, AreTexts}
-use Rattle.gm_game.proofs.PlainTexts.{plain_in}
+use Rattle.gm_squares.specs.Squares.{square_in}
+use Rattle.gm_squares.specs.laws.Texts.{square_plain, square_told}
 use Rattle.gm_chess.specs.declared.men.Men.{Men}
 use Rattle.gm_chess.specs.Chess.{legal, man, from_square, to_square, piece_char, man_char, board_text, step_text, told, ending}
 use Rattle.gm_chess.specs.laws.MenFacts.{IsLegal, legal_in, same_men, from_below, to_below, man_small}
@@ -35,12 +36,6 @@ pub armed_is : (q : Bool) (b : Men) → b.piece ≢ 64 → board_text q b ≡ ar
 armed_is q b n = armed_by q b (grind (arith, nat_tests))
 
 -- ---- plain
-file_plain : (s : ℕ) → is_plain (97 + s % 8) ≡ true
-file_plain s = plain_in (97 + s % 8) (omega arith) (omega arith)
-
-row_plain : (s : ℕ) → s < 64 → is_plain (49 + s / 8) ≡ true
-row_plain s l = plain_in (49 + s / 8) (omega arith) (omega arith)
-
 side_plain : (w : Bool) → IsPlain (side_char w ∷ [])
 side_plain true = refl
 side_plain false = refl
@@ -50,23 +45,15 @@ piece_plain true = refl
 piece_plain false = refl
 
 bare_plain : (q : Bool) (b : Men) → IsLegal q b → IsPlain (bare_text b)
-bare_plain q b h =
-    and_both _ _ (file_plain b.king) (and_both _ _ (row_plain b.king h.king) (and_both _ _ (file_plain b.foe) (and_both _ _ (row_plain b.foe h.foe)
-    (side_plain b.white_moves))))
+bare_plain q b h = square_plain b.king h.king (square_plain b.foe h.foe (side_plain b.white_moves))
 
 armed_plain : (q : Bool) (b : Men) → IsLegal q b → b.piece < 64 → IsPlain (armed_text q b)
-armed_plain q b h p =
-    and_both _ _ (file_plain b.king) (and_both _ _ (row_plain b.king h.king) (and_both _ _ (piece_plain q)
-    (and_both _ _ (file_plain b.piece) (and_both _ _ (row_plain b.piece p)
-    (and_both _ _ (file_plain b.foe) (and_both _ _ (row_plain b.foe h.foe) (side_plain b.white_moves)))))))
+armed_plain q b h p = square_plain b.king h.king (and_both _ _ (piece_plain q) (square_plain b.piece p (square_plain b.foe h.foe (side_plain b.white_moves))))
 
 -- ---- a text determines its board
 side_told : (w : Bool) → eqb (side_char w) 119 ≡ w
 side_told true = refl
 side_told false = refl
-
-square_told : (s : ℕ) → 8 * (49 + s / 8 - 49) + (97 + s % 8 - 97) ≡ s
-square_told s = omega arith
 
 bare_told : (q : Bool) (b : Men) → IsLegal q b → b.piece ≡ 64 → told (bare_text b) ≡ b
 unfolding told
@@ -108,28 +95,18 @@ man_plain q k =
     (λ e. cond_both (eqb k 1) (piece_char q) 107 (λ (c : ℕ). is_plain c ≡ true) (λ f. piece_plain q) (λ f. refl))
 
 step_plain : (q : Bool) (m : ℕ) → IsPlain (step_bytes q m)
-step_plain q m =
-    and_both _ _ (man_plain q (man m)) (and_both _ _ (file_plain (from_square m)) (and_both _ _ (row_plain (from_square m) (from_below m))
-    (and_both _ _ (file_plain (to_square m)) (and_both _ _ (row_plain (to_square m) (to_below m)) refl))))
-
-byte : (k : ℕ) (xs ys : List ℕ) → xs ≡ ys → slice_index xs k ≡ slice_index ys k
-byte k xs ys e = ap (λ (t : List ℕ). slice_index t k) e
+step_plain q m = and_both _ _ (man_plain q (man m)) (square_plain (from_square m) (from_below m) (square_plain (to_square m) (to_below m) refl))
 
 same_number : (l m : ℕ) → man l ≡ man m → from_square l ≡ from_square m → to_square l ≡ to_square m → l ≡ m
 unfolding man from_square to_square
 same_number l m e f g = omega (arith, e, f, g)
 
-square_once : (s t : ℕ) → 97 + s % 8 ≡ 97 + t % 8 → 49 + s / 8 ≡ 49 + t / 8 → s ≡ t
-square_once s t e f = omega (arith, e, f)
-
 step_once : (q : Bool) (m n : ℕ) → man m ≤ 2 → man n ≤ 2 → step_bytes q m ≡ step_bytes q n → m ≡ n
 step_once q m n l k e =
-    let xs = step_bytes q m in
-    let ys = step_bytes q n in
     same_number m n
-    (sym (man_back q (man m) l) ∙ ap man_told (byte 0 xs ys e) ∙ man_back q (man n) k)
-    (square_once (from_square m) (from_square n) (byte 1 xs ys e) (byte 2 xs ys e))
-    (square_once (to_square m) (to_square n) (byte 4 xs ys e) (byte 5 xs ys e))
+    (sym (man_back q (man m) l) ∙ ap (λ (t : List ℕ). man_told (slice_index t 0)) e ∙ man_back q (man n) k)
+    (sym (square_told (from_square m)) ∙ ap (λ (t : List ℕ). square_in t 1) e ∙ square_told (from_square n))
+    (sym (square_told (to_square m)) ∙ ap (λ (t : List ℕ). square_in t 4) e ∙ square_told (to_square n))
 
 pub readable : (q : Bool) → AreTexts (ending q) (board_text q) (λ t m. step_text q m)
 readable q = record {

@@ -1,26 +1,28 @@
 -- The drawing of Fox and Hounds distinguishes positions, and its picture satisfies the laws of pictures.
-use Rattle.std.proofs.Common.{◌≡◌, ℕ, ◌+◌, ◌*◌, ◌/◌, ◌%◌, ◌<◌, Bool, true, false, ◌&&◌, ◌||◌, if◌then◌else◌, eqb, eqb-true, eq-eqb, List, [], ◌∷◌, ◌++◌}
-use Rattle.std.proofs.Common.{get_or, refl, sym, ap, ap₂, subst, ◌∙◌, arith, inl, inr}
-use Rattle.std.specs.List.{Contains, list_any, flat_map, filter, range_with_len}
-use Rattle.std.proofs.lemmas.Bool.{cases_Bool, true≢false}
+use Rattle.std.proofs.Common.{◌≡◌, ℕ, zero, suc, ◌+◌, ◌/◌, ◌%◌, ◌<◌, Bool, true, false, ◌||◌, if◌then◌else◌, eqb, eqb-true, eq-eqb, List, [], ◌∷◌, ◌++◌}
+use Rattle.std.proofs.Common.{get_or, refl, sym, ap, subst, ◌∙◌, arith, inl, inr}
+use Rattle.std.specs.List.{Contains, list_any, flat_map}
+use Rattle.std.specs.Int.{trailing_zeros, w32}
+use Rattle.std.proofs.lemmas.Bool.{cases_eq}
 use Rattle.std.proofs.lemmas.Bool.Decides.{nat_tests}
 use Rattle.gm_game.proofs.BoardLaws.{legal_board}
 use Rattle.gm_board.specs.Masks.{has_cell}
-use Rattle.gm_board.specs.laws.Groups.{any_at}
-use Rattle.gm_board.specs.laws.Patterns.{any_from}
-use Rattle.gm_board.specs.laws.Lists.{and_left, contains_head, contains_later, contains_range, range_below, filter_to, filter_from}
-use Rattle.std.proofs.lemmas.Nat.Bits.{bit_at-lt, same_from_bits_below}
-use Rattle.gm_pieces.specs.Common.{bit_at}
+use Rattle.gm_board.specs.laws.NextCells.{cell_one, cell_none}
+use Rattle.gm_board.specs.laws.Lists.{contains_cases, contains_head, contains_later}
+use Rattle.std.proofs.lemmas.Nat.Bits.{bit_at-lt, bit_at-zero, same_from_bits_below}
+use Rattle.gm_pieces.specs.Common.{bit_at, ne_eqb}
 use Rattle.gm_pieces.specs.MoveGames.{board_game, IsMove}
 use Rattle.gm_pieces.specs.MoveTexts.{position_text, move_text}
 use Rattle.gm_pieces.specs.laws.MoveLaws.{move_in}
 use Rattle.gm_pieces.specs.laws.TextFacts.{texts_are_shown}
 use Rattle.gm_foxhounds.specs.declared.chase.Chase.{Chase}
-use Rattle.gm_foxhounds.specs.FoxHounds.{fox_and_hounds, foxhounds_rules, board as chase_at, legal, row, file, can_move, from_square, to_square, hound_squares, hound_text, square_text, board_text, step_text, side_char}
-use Rattle.gm_foxhounds.specs.laws.ChaseFacts.{IsLegal, legal_in}
-use Rattle.gm_foxhounds.specs.laws.Numbering.{same_chase, numbered}
-use Rattle.gm_foxhounds.specs.laws.SquareFacts.{step}
-use Rattle.gm_foxhounds.specs.laws.Texts.{readable}
+use Rattle.gm_foxhounds.specs.FoxHounds.{fox_and_hounds, foxhounds_rules, board as chase_at, legal, dark, toggled, squares_of, hound_text, from_square, to_square, board_text, step_text, side_char}
+use Rattle.gm_foxhounds.specs.laws.ChaseFacts.{IsLegal, legal_in, same_chase}
+use Rattle.gm_foxhounds.specs.laws.ChaseLaws.{on_board as stays_on}
+use Rattle.gm_foxhounds.specs.laws.MaskFacts.{toggled_other}
+use Rattle.gm_foxhounds.specs.laws.Numbering.{numbered}
+use Rattle.gm_foxhounds.specs.laws.SquareFacts.{dark_below, step}
+use Rattle.gm_foxhounds.specs.laws.Texts.{AreLowest, lowest_of, readable}
 use Rattle.gm_draw.specs.declared.pictured.Style.TheVariants.{Hounds}
 use Rattle.gm_draw.specs.Chessboards.{chess_points, chess_board, man_on}
 use Rattle.gm_draw.specs.ChessDrawings.{chess_drawing}
@@ -31,29 +33,8 @@ use Rattle.gm_draw.specs.Pictured.{IsPictured}
 use Rattle.gm_draw.specs.laws.Chessboards.{is_man, man_of_text, same_on_board, same_square, two_squares, chess_fits, squares_named, squares_apart, square_many}
 
 -- ---- dark squares among all squares
-abbrev dark : ℕ → ℕ
-dark k = 8 * row k + file k
-
-dark_below : (k : ℕ) → k < 32 → dark k < 64
-unfolding row file
-dark_below k l = omega (arith, l)
-
-dark_file : (k : ℕ) → 97 + dark k % 8 ≡ 97 + file k
-unfolding row file
-dark_file k = omega arith
-
-dark_row : (k : ℕ) → 49 + dark k / 8 ≡ 49 + row k
-unfolding row file
-dark_row k = omega arith
-
 dark_once : (j k : ℕ) → dark j ≡ dark k → j ≡ k
-unfolding row file
 dark_once j k e = omega (arith, e)
-
--- whether the name of a dark square is that of a square
-named_at : (k s : ℕ) → k < 32 → s < 64 → (eqb (97 + file k) (97 + s % 8) && eqb (49 + row k) (49 + s / 8)) ≡ eqb s (dark k)
-named_at k s l h =
-    sym (ap₂ (λ (a b : ℕ). eqb a (97 + s % 8) && eqb b (49 + s / 8)) (dark_file k) (dark_row k)) ∙ same_square (dark k) s (dark_below k l) h
 
 -- ---- the man on a square
 abbrev after : List ℕ → Bool → List ℕ
@@ -69,27 +50,34 @@ chosen false false z c = refl
 
 -- the men are a first one on a square, and the hounds on others
 man_first : (c k s : ℕ) (xs : List ℕ) (turn : Bool) → k < 32 → s < 64 → ((j : ℕ) → Contains xs j → j < 32)
-    → man_of_text (c ∷ (97 + file k) ∷ (49 + row k) ∷ after xs turn) s ≡ (if eqb s (dark k) then c else (if any_on s xs then 104 else 0))
+    → man_of_text (c ∷ (97 + dark k % 8) ∷ (49 + dark k / 8) ∷ after xs turn) s ≡ (if eqb s (dark k) then c else (if any_on s xs then 104 else 0))
 unfolding man_on
-man_first c k s [] turn l h all = rw (named_at k s l h) refl
+man_first c k s [] turn l h all = rw (same_square (dark k) s (dark_below k l) h) refl
 man_first c k s (x ∷ xs) turn l h all =
     let first = man_first 104 x s xs turn (all x (contains_head x xs)) h (λ j i. all j (contains_later x xs j i)) in
-    rw (named_at k s l h, first) (chosen (eqb s (dark k)) (eqb s (dark x)) (any_on s xs) c)
+    rw (same_square (dark k) s (dark_below k l) h, first) (chosen (eqb s (dark k)) (eqb s (dark x)) (any_on s xs) c)
 
-squares_below : (b : Chase) (j : ℕ) → Contains (hound_squares b) j → j < 32
-unfolding hound_squares
-squares_below b j c = range_below 32 j (filter_from (has_cell b.hounds) (range_with_len 0 32) j c).0
+squares_below : (n m : ℕ) → AreLowest n m → (j : ℕ) → Contains (squares_of n m) j → j < 32
+unfolding squares_of AreLowest
+squares_below zero m a j c = absurd (omega (arith, c.1))
+squares_below (suc n) m a j c = elim (contains_cases _ _ j c) [
+  | inl e ↦ subst (λ (k : ℕ). k < 32) e a.0.below
+  | inr d ↦ squares_below n _ a.1 j d
+]
+
+hounds_of : (b : Chase) → IsLegal b → AreLowest 4 b.hounds
+hounds_of b h = lowest_of 4 b.hounds h.within h.four
 
 -- the man on a square, by whether it is the fox's and whether it is a hound's
 abbrev man_by : Bool → Bool → ℕ
 man_by x y = if x then 102 else (if y then 104 else 0)
 
 abbrev man_of_board : Chase → ℕ → ℕ
-man_of_board b s = man_by (eqb s (dark b.fox)) (any_on s (hound_squares b))
+man_of_board b s = man_by (eqb s (dark b.fox)) (any_on s (squares_of 4 b.hounds))
 
 on_board : (b : Chase) → IsLegal b → (s : ℕ) → s < 64 → man_of_text (board_text b) s ≡ man_of_board b s
 unfolding board_text
-on_board b h s l = man_first 102 b.fox s (hound_squares b) b.hounds_move h.fox l (squares_below b)
+on_board b h s l = man_first 102 b.fox s (squares_of 4 b.hounds) b.hounds_move h.fox l (squares_below 4 b.hounds (hounds_of b h))
 
 men_are : (x y : Bool) → is_man (man_by x y) ≡ true
 men_are true y = refl
@@ -97,23 +85,21 @@ men_are false true = refl
 men_are false false = refl
 
 letters : (b : Chase) → IsLegal b → (s : ℕ) → s < 64 → is_man (man_of_text (board_text b) s) ≡ true
-letters b h s l = ap is_man (on_board b h s l) ∙ men_are (eqb s (dark b.fox)) (any_on s (hound_squares b))
+letters b h s l = ap is_man (on_board b h s l) ∙ men_are (eqb s (dark b.fox)) (any_on s (squares_of 4 b.hounds))
 
 -- ---- a board is known by its men and the side to move
-any_hound : (b : Chase) (j : ℕ) → j < 32 → any_on (dark j) (hound_squares b) ≡ has_cell b.hounds j
-unfolding hound_squares
-any_hound b j l = elim (cases_Bool (has_cell b.hounds j)) [
-  | inl e ↦ any_from (λ k. eqb (dark j) (dark k)) (filter (has_cell b.hounds) (range_with_len 0 32)) j
-      (filter_to (has_cell b.hounds) (range_with_len 0 32) j (contains_range 32 j l) e) (eq-eqb (dark j) (dark j) refl) ∙ sym e
-  | inr e ↦ elim (cases_Bool (any_on (dark j) (filter (has_cell b.hounds) (range_with_len 0 32)))) [
-    | inr f ↦ f ∙ sym e
-    | inl f ↦
-        let (k, c, g) = any_at (λ k. eqb (dark j) (dark k)) (filter (has_cell b.hounds) (range_with_len 0 32)) f in
-        let same : j ≡ k = dark_once j k (eqb-true _ _ g) in
-        let has = (filter_from (has_cell b.hounds) (range_with_len 0 32) k c).1 in
-        absurd (true≢false (sym has ∙ ap (has_cell b.hounds) (sym same) ∙ e))
-  ]
-]
+any_square : (n m : ℕ) → AreLowest n m → (j : ℕ) → any_on (dark j) (squares_of n m) ≡ has_cell m j
+unfolding squares_of AreLowest
+any_square zero m a j = sym (ap (λ (v : ℕ). has_cell v j) a ∙ cell_none 0 j (bit_at-zero j))
+any_square (suc n) m a j =
+    let k = trailing_zeros w32 m in
+    ap (λ (x : Bool). eqb (dark j) (dark k) || x) (any_square n (toggled m k) a.1 j) ∙ elim (cases_eq j k) [
+      | inl e ↦ ap (λ (x : Bool). x || has_cell (toggled m k) j) (eq-eqb _ _ (ap dark e)) ∙ sym (ap (has_cell m) e ∙ cell_one m k a.0.has)
+      | inr d ↦ ap (λ (x : Bool). x || has_cell (toggled m k) j) (ne_eqb _ _ (λ q. d (dark_once j k q))) ∙ ap (λ (v : ℕ). eqb v 1) (toggled_other m k j d)
+    ]
+
+any_hound : (b : Chase) → IsLegal b → (j : ℕ) → any_on (dark j) (squares_of 4 b.hounds) ≡ has_cell b.hounds j
+any_hound b h j = any_square 4 b.hounds (hounds_of b h) j
 
 fox_on : (x y z : Bool) → man_by x y ≡ man_by true z → x ≡ true
 fox_on true y z e = refl
@@ -139,19 +125,19 @@ same_fox b c h same =
     let s = dark b.fox in
     let e = same s (dark_below b.fox h.fox) in
     let own : eqb s (dark b.fox) ≡ true = eq-eqb s s refl in
-    let f = subst (λ (x : Bool). man_by x (any_on s (hound_squares b)) ≡ man_of_board c s) own e in
-    dark_once b.fox c.fox (eqb-true _ _ (fox_on (eqb s (dark c.fox)) (any_on s (hound_squares c)) (any_on s (hound_squares b)) (sym f)))
+    let f = subst (λ (x : Bool). man_by x (any_on s (squares_of 4 b.hounds)) ≡ man_of_board c s) own e in
+    dark_once b.fox c.fox (eqb-true _ _ (fox_on (eqb s (dark c.fox)) (any_on s (squares_of 4 c.hounds)) (any_on s (squares_of 4 b.hounds)) (sym f)))
 
 -- no hound is on the fox's square
-no_hound : (b : Chase) → IsLegal b → (j : ℕ) → j < 32 → eqb (dark j) (dark b.fox) ≡ true → any_on (dark j) (hound_squares b) ≡ false
-no_hound b h j l e = any_hound b j l ∙ ap (has_cell b.hounds) (dark_once j b.fox (eqb-true _ _ e)) ∙ h.apart
+no_hound : (b : Chase) → IsLegal b → (j : ℕ) → j < 32 → eqb (dark j) (dark b.fox) ≡ true → any_on (dark j) (squares_of 4 b.hounds) ≡ false
+no_hound b h j l e = any_hound b h j ∙ ap (has_cell b.hounds) (dark_once j b.fox (eqb-true _ _ e)) ∙ h.apart
 
 same_hound : (b c : Chase) → IsLegal b → IsLegal c → AreSame b c → (j : ℕ) → j < 32 → has_cell b.hounds j ≡ has_cell c.hounds j
 same_hound b c h i same j l =
-    sym (any_hound b j l)
-    ∙ hound_on (eqb (dark j) (dark b.fox)) (any_on (dark j) (hound_squares b)) (eqb (dark j) (dark c.fox)) (any_on (dark j) (hound_squares c))
+    sym (any_hound b h j)
+    ∙ hound_on (eqb (dark j) (dark b.fox)) (any_on (dark j) (squares_of 4 b.hounds)) (eqb (dark j) (dark c.fox)) (any_on (dark j) (squares_of 4 c.hounds))
     (same (dark j) (dark_below j l)) (no_hound b h j l) (no_hound c i j l)
-    ∙ any_hound c j l
+    ∙ any_hound c i j
 
 same_bit : (m n k : ℕ) → has_cell m k ≡ has_cell n k → bit_at m k ≡ bit_at n k
 same_bit m n k e =
@@ -185,18 +171,12 @@ chase_drawn = record {
       (texts_are_shown fox_and_hounds board_text (λ t n. step_text n) numbered readable).shown_once p q l k (ap board_text same);
 }
 
-square_word : (k : ℕ) → square_text k ≡ (97 + dark k % 8) ∷ (49 + dark k / 8) ∷ []
-square_word k = sym (ap₂ (λ (a b : ℕ). a ∷ b ∷ []) (dark_file k) (dark_row k))
-
 step_words : (m : ℕ) → from_square m < 32 → to_square m < 32 → IsPointWord chess_points (step_text m)
 unfolding step_text
-step_words m l h =
-    subst (IsPointWord chess_points) (sym (ap₂ (λ (a b : List ℕ). a ++ 45 ∷ b) (square_word (from_square m)) (square_word (to_square m))))
-    (two_squares (dark (from_square m)) (dark (to_square m)) (dark_below _ l) (dark_below _ h))
+step_words m l h = two_squares (dark (from_square m)) (dark (to_square m)) (dark_below _ l) (dark_below _ h)
 
 move_words : (b : Chase) (m : ℕ) → IsMove fox_and_hounds b m → IsPointWord chess_points (step_text m)
-unfolding can_move
-move_words b m h = let s = step m h.below (and_left _ _ h.can) in step_words m s.from_below s.to_below
+move_words b m h = let s = step m h.below (stays_on b m h.can) in step_words m s.from_below s.to_below
 
 pub chase_pictured : IsPictured foxhounds_rules (position_text fox_and_hounds board_text) (move_text (λ t m. step_text m))
     (λ p. chess_drawing (position_text fox_and_hounds board_text p)) Hounds chess_board chess_points

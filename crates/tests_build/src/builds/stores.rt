@@ -2,6 +2,7 @@
 use crate::expect::{expect_eq, must};
 use gm_build::build::{Built, build_from};
 use gm_build::build_error::BuildError;
+use gm_build::work::Work;
 use gm_game::game::Game;
 use gm_solver::observer::NoObserver;
 use gm_solver::plan::Plan;
@@ -23,10 +24,10 @@ type Took = Result<(usize, usize, u64, u64), BuildError>;
 
 // Returns the work of a build that migrated no tier.
 fn took<G: Game>(rt: &impl Abort, built: Built<G>) -> (usize, usize, u64, u64) {
-    expect_eq(rt, built.migrated, 0);
-    let took = (built.solved, built.reused, built.deliveries, built.by_hand);
+    let work = built.work;
     drop(built);
-    took
+    expect_eq(rt, work.migrated, 0);
+    (work.solved, work.reused, work.deliveries, work.by_hand)
 }
 
 // Builds the tiers of a game that one tier reaches, with this gate and source.
@@ -135,8 +136,14 @@ fn an_old_file_in_memory_is_migrated(rt: HostRuntime) {
         &NoObserver,
     );
     let built = must(&rt, built);
-    expect_eq(&rt, (built.solved, built.reused, built.migrated), (0, 0, 1));
-    expect_eq(&rt, (built.deliveries, built.by_hand), (0, 0));
+    let migrated = Work {
+        solved: 0,
+        reused: 0,
+        migrated: 1,
+        deliveries: 0,
+        by_hand: 0,
+    };
+    expect_eq(&rt, built.work, migrated);
     drop(built);
     assert!(rt; store.failures() < u64::MAX);
     let text = must(&rt, store.read(&rt, rt.alloc(), 0)).expect(&rt, "it has a text");

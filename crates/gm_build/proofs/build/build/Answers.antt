@@ -1,7 +1,5 @@
 use Rattle.std.proofs.Common.{ℕ, IfOk, IfErr, IsTrue, ap, subst}
-use Rattle.gm_game.specs.declared.position.Position.{Position}
-use Rattle.gm_tiers.specs.Orders.{IsOrderFrom}
-use Rattle.gm_build.specs.Outcomes.{IsBuildError, IsStopped}
+use Rattle.gm_build.proofs.Lower.{Position, IsOrderFrom, IsBuildError, IsStopped}
 use Rattle.gm_build.proofs.build.build.Goals as goal
 
 pub returns-clause-order : goal.returns-clause-order

@@ -5,6 +5,6 @@ use Rattle.gm_build.proofs.build.build_from.Given as goal
 abbrev pub invariant-loop-tier : goal.invariant-loop-tier
 invariant-loop-tier g l = record {
   so_far : IsSoFar g.G.Game.rules (IsTrue g.S.Store.KEEPS) (g.S.Store.texts l.initial.store) (g.S.Store.texts l.store) l.tables
-      (take l.tier-index l.tier-items) l.solved l.reused l.migrated l.deliveries l.by_hand;
+      (take l.tier-index l.tier-items) l.work;
   count : g.S.Store.failed l.store ≡ g.S.Store.failed l.initial.store;
 }

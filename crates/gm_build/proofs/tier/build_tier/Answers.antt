@@ -1,4 +1,4 @@
-use Rattle.std.proofs.lemmas.Result.{IfOk-from_err}
+use Rattle.gm_build.proofs.Lower.{IfOk-from_err}
 use Rattle.gm_build.proofs.tier.build_tier.Goals as goal
 
 pub returns-in_err-table-clause-held : goal.returns-in_err-table-clause-held

@@ -1,6 +1,5 @@
 use Rattle.std.proofs.Common.{ℕ, ◌<◌, subst, sym, refl}
-use Rattle.gm_deliveries.specs.Begin.{first_left, first_status}
-use Rattle.gm_deliveries.specs.Good.{IsWithinLimit}
+use Rattle.gm_deliveries.proofs.Lower.{first_left, first_status, IsWithinLimit}
 use Rattle.gm_deliveries.proofs.BeginLemmas.{filled_more, filled_all, near_start}
 use Rattle.gm_deliveries.proofs.begin.fill.Goals as goal
 

@@ -1,8 +1,6 @@
 use Rattle.std.proofs.Common.{◌≡◌, ◌==◌, ◌↔◌, ℕ, subst, sym}
 use Rattle.std.specs.Prelude.{IsTrue}
-use Rattle.std.specs.Int.{bit_at}
-use Rattle.std.proofs.lemmas.Nat.Bits.{shr_and_one}
-use Rattle.std.proofs.lemmas.Bool.Decides.{Decides-eqb}
+use Rattle.gm_deliveries.proofs.Lower.{bit_at, shr_and_one, Decides-eqb}
 use Rattle.gm_deliveries.proofs.bits.has_bit.Goals as goal
 
 pub returns : goal.returns

@@ -1,7 +1,5 @@
 use Rattle.std.proofs.Common.{◌*◌, ◌%◌, ◌^◌, arith}
-use Rattle.std.proofs.lemmas.Nat.{or_lt}
-use Rattle.std.specs.Int.{w128}
-use Rattle.std.proofs.lemmas.Nat.Bits.{bit_at_set_same, bit_at_set_other}
+use Rattle.gm_deliveries.proofs.Lower.{or_lt, w128, bit_at_set_same, bit_at_set_other}
 use Rattle.gm_deliveries.proofs.bits.with_bit.Goals as goal
 
 pub returns-clause-same : goal.returns-clause-same

@@ -5,11 +5,11 @@ use Rattle.gm_find.proofs.only.has_only.Goals as goal
 
 pub returns-else-distinct : goal.returns-else-distinct
 returns-else-distinct g c =
-    let (kept, those, long) = c.keeping.ensures in
+    let (kept, those, long) = c.achieving.ensures in
     let r = g.G.Game.rules in
     let p = c.args.known.now.position in
-    let v = c.args.value in
-    subst (λ (d : Bool). IsTrue (nat_eq c.keeping.result 1) ↔ HasOnly r d v p) (sym c.if-distinct.false) (
-      λ h. only_is r p v kept those (long ∙ eqb-true c.keeping.result 1 h),
-      λ h. eq-eqb c.keeping.result 1 (sym long ∙ is_only r p v kept those h),
+    let aim = c.args.aim in
+    subst (λ (d : Bool). IsTrue (nat_eq c.achieving.result 1) ↔ HasOnly r d aim p) (sym c.if-distinct.false) (
+      λ h. only_is r p aim kept those (long ∙ eqb-true c.achieving.result 1 h),
+      λ h. eq-eqb c.achieving.result 1 (sym long ∙ is_only r p aim kept those h),
     )

@@ -23,13 +23,13 @@ are_only_defences-returns g t c =
     let all = take_all c.loop-e.e-index items c.loop-e-test.false ∙ c.as_slice-e-items.ensures.value ∙ c.moves.ensures in
     (λ x e has. c.loop-e.invariant e (subst (λ (xs : List ℕ). Contains xs e) (sym all) has), λ x. refl)
 
-pub is_only_after-returns-then-keeps : goal.is_only_after-returns-then-keeps
-is_only_after-returns-then-keeps g t c =
+pub is_only_after-returns-then-achieves : goal.is_only_after-returns-then-achieves
+is_only_after-returns-then-achieves g t c =
     let r = g.G.Game.rules in
     let n = c.args.remoteness in
     let A : Position → Type 0 = AfterDefence r n (IsOnlyWin r c.args.distinct n) in
     same_answer c.are_only_defences.result (A c.play.result.position) (IsOnlyAfter r c.args.distinct n c.args.known.now.position c.args.m)
-    (λ a k. subst A c.play.ensures a, λ f. subst A (sym c.play.ensures) (f (c.keeps.ensures.0 c.if-keeps.true))) c.are_only_defences.ensures
+    (λ a k. subst A c.play.ensures a, λ f. subst A (sym c.play.ensures) (f (c.achieves.ensures.0 c.if-achieves.true))) c.are_only_defences.ensures
 
 pub is_only_defence-returns-then-is_win_in : goal.is_only_defence-returns-then-is_win_in
 is_only_defence-returns-then-is_win_in g t c =

@@ -1,7 +1,5 @@
 use Rattle.std.proofs.Common.{◌≡◌, ◌-◌, ◌≤◌, take, drop}
-use Rattle.gm_locks.specs.Spots.{spot_of}
-use Rattle.gm_locks.specs.Rounds.{AreFirst}
-use Rattle.gm_locks.specs.Pieces.{AreNew}
+use Rattle.gm_locks.proofs.Lower.{spot_of, AreFirst, AreNew}
 use Rattle.gm_locks.proofs.piece.deliver_from.Given as goal
 
 abbrev pub invariant-loop-k : goal.invariant-loop-k

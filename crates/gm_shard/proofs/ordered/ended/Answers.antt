@@ -1,6 +1,5 @@
 use Rattle.std.proofs.Common.{◌≡◌, ℕ, ◌+◌, ◌<◌, length, sym, subst, ◌∙◌, true≢false, arith}
-use Rattle.gm_deliveries.specs.Status.{StatusIs}
-use Rattle.gm_shard.specs.Queues.{IsQueue}
+use Rattle.gm_shard.proofs.Lower.{StatusIs, IsQueue}
 use Rattle.gm_shard.proofs.FillLemmas.{IsFilled, filled_none, filled_few, filled_more, filled_past, filled_all}
 use Rattle.gm_shard.proofs.ordered.ended.Goals as goal
 use Rattle.gm_shard.proofs.ordered.ended.Goals.{then-has_phase, else-has_phase}

@@ -1,10 +1,6 @@
-use Rattle.std.proofs.lemmas.Result.{IfOk-from_err}
+use Rattle.gm_shard.proofs.Lower.{IfOk-from_err, Contains-get_or, IsSettledAt, StatusIs, Settled}
 use Rattle.std.proofs.Common.{rules, [], ◌∷◌, ◌++◌, ◌≡◌, ℕ, ◌+◌, ◌<◌, length, get_or, sym, subst, arith, Some}
-use Rattle.std.proofs.lemmas.List.Elements.{Contains-get_or}
-use Rattle.gm_shard.specs.Queues.{IsSettledAt}
 use Rattle.gm_shard.proofs.NotesAtLemmas.{notes_more, some_note, note_is}
-use Rattle.gm_deliveries.specs.Status.{StatusIs}
-use Rattle.gm_deliveries.specs.declared.status.Status.TheVariants.{Settled}
 use Rattle.gm_shard.proofs.ordered.notes_at.Goals as goal
 
 pub note-requires : goal.note-requires

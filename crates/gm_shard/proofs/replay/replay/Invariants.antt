@@ -1,6 +1,5 @@
 use Rattle.std.proofs.Common.{ℕ, ◌<◌, ◌≤◌, drop, slice_index_or}
-use Rattle.gm_deliveries.specs.State.{ShardState}
-use Rattle.gm_deliveries.specs.Good.{IsGood}
+use Rattle.gm_shard.proofs.Lower.{ShardState, IsGood}
 use Rattle.gm_shard.proofs.RunLemmas.{Leads}
 use Rattle.gm_shard.proofs.replay.replay.Given as goal
 

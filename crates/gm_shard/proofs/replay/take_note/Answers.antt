@@ -5,4 +5,4 @@ pub returns : goal.returns
 returns g c =
     note_taken g.G.Game.rules c.args.note.now c.args.parent c.args.shard.now c.deliver-answer.new.self c.position-position.ensures.note
     c.range-after.ensures.good
-    c.deliver-answer.result c.deliver-answer.ensures c.has_added.result c.has_added.ensures
+    c.deliver-answer.result c.deliver-answer.ensures c.is_added.result c.is_added.ensures

@@ -1,7 +1,5 @@
 use Rattle.std.proofs.Common.{◌≡◌, ℕ, Option, IfNone, take, sym, subst, arith}
-use Rattle.gm_game.specs.declared.position.Position.{Position}
-use Rattle.gm_record.specs.declared.summary.Summary.{Summary}
-use Rattle.gm_game.specs.Rules.{at, IsCanonicalChild}
+use Rattle.gm_solver.proofs.Lower.{Position, Summary, at, IsCanonicalChild}
 use Rattle.gm_solver.proofs.Values.{AreRead, read_none, read_step, read_all, gathered_read, listed_child, own_tier, words_few}
 use Rattle.gm_solver.proofs.gather.gather.Goals as goal
 

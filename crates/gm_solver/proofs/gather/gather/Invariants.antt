@@ -1,5 +1,5 @@
 use Rattle.std.proofs.Common.{◌≡◌, take, length}
-use Rattle.gm_table.specs.Hands.{AreAtHand}
+use Rattle.gm_solver.proofs.Lower.{AreAtHand}
 use Rattle.gm_solver.proofs.Values.{AreRead}
 use Rattle.gm_solver.proofs.gather.gather.Given as goal
 

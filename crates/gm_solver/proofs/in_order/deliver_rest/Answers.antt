@@ -1,18 +1,10 @@
 use Rattle.std.proofs.Common.{◌≡◌, ◌+◌, ◌<◌, ◌≤◌, max, ℕ, suc, length, drop, refl, sym, ap, subst, ◌∙◌, arith, Ok, Err}
-use Rattle.std.proofs.lemmas.Option.{slice_get_within}
-use Rattle.gm_game.specs.declared.limits.TheConstants.{REMOTENESS, TIER_SIZE}
-use Rattle.gm_game.specs.declared.position.Place.{Place}
-use Rattle.gm_frontier.specs.Notes.{NoteData}
-use Rattle.gm_frontier.specs.Levels.{IsLevel}
-use Rattle.gm_deliveries.specs.Steps.{place_of}
-use Rattle.gm_locks.specs.Spots.{Spot, spot_of}
-use Rattle.gm_locks.specs.Rounds.{pairs_into, AreFirst, IsLevelAt}
-use Rattle.gm_locks.proofs.RoundLemmas.{pairs_are_into}
+use Rattle.gm_solver.proofs.Lower.{slice_get_within, REMOTENESS, TIER_SIZE, Place, NoteData, IsLevel, place_of, Spot, spot_of, pairs_into, AreFirst, IsLevelAt}
+use Rattle.gm_solver.proofs.Lower.{pairs_are_into, IsTooFar}
 use Rattle.gm_locks.proofs.Gains.{stays}
-use Rattle.gm_table.specs.Solving.{IsTooFar}
 use Rattle.gm_solver.proofs.Far.{refused_far}
 use Rattle.gm_solver.proofs.RoundLemmas.{item_next, item_last, into_fit}
-use Rattle.gm_solver.proofs.InOrderLemmas.{same_spot_from, next_of, next_new, next_first, whole_at_end}
+use Rattle.gm_solver.proofs.InOrderLemmas.{next_of, next_new, next_first, whole_at_end}
 use Rattle.gm_solver.proofs.in_order.deliver_rest.Goals as goal
 
 pub loop-note-init : goal.loop-note-init
@@ -114,10 +106,9 @@ overflow_add-number-in-Ok g c =
     let few = into_fit r g.met.G.Game.lawful (spot_of s) l.notes level small in
     omega arith
 
-pub returns-in-Err-clause-same : goal.returns-in-Err-clause-same
-returns-in-Err-clause-same g c =
-    same_spot_from c.args.shard.now c.deliver_new.new.self (stays g.G.Game.rules c.in-Some.note c.in-Some.parent c.loop-note.shard c.deliver_new.new.self
-    (Err c.in-Err._refused) c.in-Err.ensures ∙ c.loop-note.invariant.at)
+pub returns-in-Err-clause-spot : goal.returns-in-Err-clause-spot
+returns-in-Err-clause-spot g c = stays g.G.Game.rules c.in-Some.note c.in-Some.parent c.loop-note.shard c.deliver_new.new.self
+    (Err c.in-Err._refused) c.in-Err.ensures ∙ c.loop-note.invariant.at
 
 pub returns-in-Err-clause-whole : goal.returns-in-Err-clause-whole
 returns-in-Err-clause-whole g c = tt
@@ -138,8 +129,8 @@ returns-in-Err-clause-error g c =
           (refused_far r g.met.G.Game.lawful c.loop-note.shard c.deliver_new.new.self pair c.in-Err._refused d c.range-good.ensures.good near c.in-Err.ensures),
     )
 
-pub returns-clause-same : goal.returns-clause-same
-returns-clause-same g c = same_spot_from c.args.shard.now c.loop-note.shard c.loop-note.invariant.at
+pub returns-clause-spot : goal.returns-clause-spot
+returns-clause-spot g c = c.loop-note.invariant.at
 
 pub returns-clause-whole : goal.returns-clause-whole
 returns-clause-whole g c =

@@ -1,6 +1,5 @@
 use Rattle.std.proofs.Common.{◌≡◌, ◌≤◌, max, length, drop}
-use Rattle.gm_locks.specs.Spots.{spot_of}
-use Rattle.gm_locks.specs.Rounds.{pairs_into, AreFirst}
+use Rattle.gm_solver.proofs.Lower.{spot_of, pairs_into, AreFirst}
 use Rattle.gm_solver.proofs.in_order.deliver_rest.Given as goal
 
 -- the pairs that the walk has passed are delivered, as are the first ones that were so before it

@@ -1,10 +1,5 @@
 use Rattle.std.proofs.Common.{List, get_or, sym, subst, arith}
-use Rattle.std.specs.List.{Contains}
-use Rattle.std.proofs.lemmas.List.{take_all}
-use Rattle.gm_game.specs.declared.position.Position.{Position}
-use Rattle.gm_game.specs.Rules.{at}
-use Rattle.gm_game.specs.Children.{HasSame}
-use Rattle.gm_solver.proofs.Distinct.{no_repeats_to}
+use Rattle.gm_solver.proofs.Lower.{Contains, take_all, Position, at, HasSame, no_repeats_to}
 use Rattle.gm_solver.proofs.OnceLemmas.{listed_old, listed_new}
 use Rattle.gm_solver.proofs.once.list_once.Goals as goal
 use Rattle.gm_solver.proofs.once.list_once.Goals.{then-not-is_among, else-not-is_among}

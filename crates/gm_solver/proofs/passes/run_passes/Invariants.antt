@@ -1,5 +1,4 @@
-use Rattle.gm_deliveries.specs.State.{pairs_in}
-use Rattle.gm_locks.specs.Spots.{spot_of}
+use Rattle.gm_solver.proofs.Lower.{pairs_in, spot_of}
 use Rattle.gm_solver.proofs.passes.run_passes.Given as goal
 
 abbrev pub ghosts-run_at_desks-A-Ledger : goal.ghosts-run_at_desks-A-Ledger

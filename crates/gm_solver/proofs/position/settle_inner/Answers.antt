@@ -1,9 +1,5 @@
 use Rattle.std.proofs.Common.{ℕ, ◌+◌, sym, subst, arith}
-use Rattle.gm_game.specs.Numbers.{AreThere}
-use Rattle.gm_table.specs.Tables.{value_in}
-use Rattle.gm_table.specs.Words.{is_decided}
-use Rattle.gm_solver.specs.Gathered.{AreOnce}
-use Rattle.gm_solver.specs.Passes.{IsDeliveryIn}
+use Rattle.gm_solver.proofs.Lower.{AreThere, value_in, is_decided, AreOnce, IsDeliveryIn}
 use Rattle.gm_solver.proofs.Deliveries.{deliveries_inner}
 use Rattle.gm_solver.proofs.Values.{value_true, decides, too_far, number_few}
 use Rattle.gm_solver.proofs.position.settle_inner.Goals as goal

@@ -1,5 +1,5 @@
 use Rattle.std.proofs.Common.{◌≡◌, ◌≤◌, ◌-◌, length}
-use Rattle.gm_table.specs.Hands.{AreAtHand}
+use Rattle.gm_solver.proofs.Lower.{AreAtHand}
 use Rattle.gm_solver.proofs.Parts.{ArePassed}
 use Rattle.gm_solver.proofs.range.settle_range.Given as goal
 

@@ -1,8 +1,5 @@
-use Rattle.std.proofs.lemmas.Result.{IfOk-from_err}
+use Rattle.gm_solver.proofs.Lower.{IfOk-from_err, at, IsStart, AreStarts, one_at}
 use Rattle.std.proofs.Common.{◌≡◌, ℕ, ◌+◌, [], ◌∷◌, ◌++◌, length, length-append, sym, ap, subst, arith}
-use Rattle.gm_game.specs.Rules.{at}
-use Rattle.gm_deliveries.specs.Begin.{IsStart, AreStarts}
-use Rattle.gm_table.proofs.Dealt.{one_at}
 use Rattle.gm_solver.proofs.starts.starts.Goals as goal
 
 pub loop-index-preserved : goal.loop-index-preserved

@@ -1,10 +1,8 @@
-use Rattle.std.proofs.lemmas.Result.{IfOk-from_err}
+use Rattle.gm_solver.proofs.Lower.{IfOk-from_err, length-drop, Start, HasNoneHere}
 use Rattle.std.proofs.Common.{◌+◌, ◌-◌, ◌*◌, ◌≤◌, arith, ◌≡◌, ℕ, List, length, take, drop, min, suc, sym, ap, subst}
 use Rattle.gm_solver.proofs.BlockLemmas.{starts_part}
 use Rattle.std.proofs.Math.Nat.{mul-le-mul_right}
-use Rattle.std.proofs.lemmas.List.{length-take-le, length-drop}
-use Rattle.gm_deliveries.specs.declared.status.Start.{Start}
-use Rattle.gm_locks.specs.Rounds.{HasNoneHere}
+use Rattle.std.proofs.lemmas.List.{length-take-le}
 use Rattle.gm_solver.proofs.TilingLemmas.{begun_at}
 use Rattle.gm_solver.proofs.RoundLemmas.{none_first}
 use Rattle.gm_solver.proofs.tiles.begin_tile.Goals as goal

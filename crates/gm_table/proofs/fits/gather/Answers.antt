@@ -1,8 +1,5 @@
 use Rattle.std.proofs.Common.{sym, ap, map, subst, ◌∙◌, arith}
-use Rattle.gm_game.specs.Children.{AreResults}
-use Rattle.gm_game.specs.Rules.{at}
-use Rattle.gm_table.specs.Checks.{look_up}
-use Rattle.gm_table.specs.Words.{record_of_word}
+use Rattle.gm_table.proofs.Lower.{AreResults, at, look_up, record_of_word}
 use Rattle.gm_table.proofs.CheckLemmas.{words_more, words_few, child_canonical, settled_results}
 use Rattle.gm_table.proofs.fits.gather.Goals as goal
 

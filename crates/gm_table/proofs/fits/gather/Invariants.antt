@@ -1,8 +1,5 @@
 use Rattle.std.proofs.Common.{◌≡◌, map, take, length}
-use Rattle.gm_game.specs.Children.{AreResults}
-use Rattle.gm_table.specs.Checks.{look_up}
-use Rattle.gm_table.specs.Hands.{AreAtHand}
-use Rattle.gm_table.specs.Words.{record_of_word}
+use Rattle.gm_table.proofs.Lower.{AreResults, look_up, AreAtHand, record_of_word}
 use Rattle.gm_table.proofs.fits.gather.Given as goal
 
 abbrev pub invariant-loop-c : goal.invariant-loop-c

@@ -1,6 +1,5 @@
 use Rattle.std.proofs.Common.{◌≡◌, ◌<◌, length, false, is_some, ap, arith, rules, ◌∙◌}
-use Rattle.gm_game.specs.declared.position.Phase.TheVariants.{WinLose, Ties}
-use Rattle.gm_table.specs.Levels.{later}
+use Rattle.gm_table.proofs.Lower.{WinLose, Ties, later}
 use Rattle.gm_table.proofs.LevelLemmas.{greatest_with_one, greatest_without}
 use Rattle.gm_table.proofs.levels.greatest_levels.Goals as goal
 use Rattle.gm_table.proofs.levels.greatest_levels.Goals.{then-is_some, else-is_some}

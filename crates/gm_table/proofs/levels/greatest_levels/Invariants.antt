@@ -1,6 +1,5 @@
 use Rattle.std.proofs.Common.{◌≡◌, take}
-use Rattle.gm_game.specs.declared.position.Phase.TheVariants.{WinLose, Ties}
-use Rattle.gm_table.specs.Levels.{greatest_of}
+use Rattle.gm_table.proofs.Lower.{WinLose, Ties, greatest_of}
 use Rattle.gm_table.proofs.levels.greatest_levels.Given as goal
 
 abbrev pub invariant-loop-index : goal.invariant-loop-index

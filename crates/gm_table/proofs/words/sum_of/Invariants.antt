@@ -1,7 +1,5 @@
 use Rattle.std.proofs.Common.{◌≡◌, ◌≤◌, map, length, take}
-use Rattle.std.specs.List.{filter}
-use Rattle.gm_game.specs.Records.{lost_in, tied_in, least_of, all_won}
-use Rattle.gm_table.specs.Words.{record_of_word, is_decided, marked}
+use Rattle.gm_table.proofs.Lower.{filter, lost_in, tied_in, least_of, all_won, record_of_word, is_decided, marked}
 use Rattle.gm_table.proofs.words.sum_of.Given as goal
 
 abbrev pub invariant-loop-word : goal.invariant-loop-word

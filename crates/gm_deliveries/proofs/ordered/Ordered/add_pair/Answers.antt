@@ -1,6 +1,6 @@
+use Rattle.gm_deliveries.specs.Logged.{logged}
 use Rattle.std.proofs.Common.{ℕ, ◌-◌, ◌<◌, ◌≤◌, length, sym, subst, arith, length-set}
-use Rattle.gm_deliveries.specs.State.{ShardState}
-use Rattle.gm_deliveries.specs.Steps.{CanDeliver}
+use Rattle.gm_deliveries.proofs.Lower.{ShardState, CanDeliver}
 use Rattle.gm_deliveries.proofs.StepLemmas.{within_after}
 use Rattle.gm_deliveries.proofs.OrderedLemmas.{place_left, place_statuses, can_fall, can_rise, kept_seen, shown_more}
 use Rattle.gm_deliveries.proofs.ordered.Ordered.add_pair.Goals as goal
@@ -42,13 +42,13 @@ pub invariant_of-self : goal.invariant_of-self
 invariant_of-self g c =
     let r = g.G.Game.rules in
     let f = c.self.inside in
-    kept_seen g.met.G.Game.lawful f.tier f.lo f.phase f.level f.pairs.items c.and-self-inside.result.items c.args.note.now.position c.position-child.result
+    kept_seen g.met.G.Game.lawful f.tier f.lo f.phase f.level (logged f.pairs) c.after.result.items c.args.note.now.position c.position-child.result
     c.args.parent c.args.self.now c.self.view_is c.self.invariant c.requires.can c.args.next c.requires.next
-    c.index_mut.result.now c.index_mut.ensures.value c.set.new.self c.set.ensures c.position-child.ensures.value c.and-self-inside.ensures
+    c.index_mut.result.now c.index_mut.ensures.value c.set.new.self c.set.ensures c.position-child.ensures.value c.after.ensures
 
 pub returns : goal.returns
 returns g c =
     let f = c.self.inside in
     shown_more f.tier f.lo f.phase f.level (length f.left.items)
-    _ f.pairs.items c.and-self-inside.result.items c.args.note.now.position c.position-child.result c.args.parent c.args.self.now c.self.view_is
-    (sym (length-set f.left.items (c.args.parent - f.lo) (c.index_mut.result.now - 1))) c.position-child.ensures.value c.and-self-inside.ensures
+    _ (logged f.pairs) c.after.result.items c.args.note.now.position c.position-child.result c.args.parent c.args.self.now c.self.view_is
+    (sym (length-set f.left.items (c.args.parent - f.lo) (c.index_mut.result.now - 1))) c.position-child.ensures.value c.after.ensures

@@ -1,7 +1,5 @@
-use Rattle.std.proofs.lemmas.Result.{IfOk-from_err}
-use Rattle.std.proofs.Common.{length, ◌∙◌, ap, sym}
-use Rattle.std.proofs.lemmas.List.{length-replicate}
-use Rattle.gm_deliveries.specs.declared.status.Status.TheVariants.{Undecided}
+use Rattle.gm_deliveries.proofs.Lower.{IfOk-from_err, length-replicate, Undecided}
+use Rattle.std.proofs.Common.{[], refl, length, ◌∙◌, ap, sym}
 use Rattle.gm_deliveries.proofs.OrderedLemmas.{first_fields, first_by}
 use Rattle.gm_deliveries.proofs.ordered.Ordered.begin.Goals as goal
 
@@ -14,11 +12,11 @@ fill-requires-clause-statuses g c = ap length c.in_ok-statuses.ensures ∙ lengt
 pub invariant_of-result : goal.invariant_of-result
 invariant_of-result g c =
     first_fields g.G.Game.rules c.args.tier c.args.lo c.args.starts.now c.requires.starts c.requires.within c.fill.new.left.items
-    c.fill.new.statuses c.new.result.items
-    c.fill.ensures.counters c.fill.ensures.statuses c.new.ensures
+    c.fill.new.statuses []
+    c.fill.ensures.counters c.fill.ensures.statuses refl
 
 pub returns : goal.returns
-returns g c = first_by c.args.tier c.args.lo c.args.starts.now c.fill.new.left.items c.new.result.items c.fill.ensures.counters c.new.ensures
+returns g c = first_by c.args.tier c.args.lo c.args.starts.now c.fill.new.left.items [] c.fill.ensures.counters refl
 
 pub returns-in_err-left : goal.returns-in_err-left
 returns-in_err-left g c = IfOk-from_err c.from_residual.result _ c.from_residual.ensures.0

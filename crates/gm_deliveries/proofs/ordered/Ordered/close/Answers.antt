@@ -1,8 +1,6 @@
+use Rattle.gm_deliveries.specs.Logged.{logged}
 use Rattle.std.proofs.Common.{◌≤◌, length, ap, subst, sym}
-use Rattle.gm_game.specs.declared.limits.TheConstants.{REMOTENESS}
-use Rattle.gm_deliveries.specs.State.{ShardState}
-use Rattle.gm_deliveries.specs.Ordered.{state_by}
-use Rattle.gm_deliveries.specs.Steps.{IsWhole, next_level}
+use Rattle.gm_deliveries.proofs.Lower.{REMOTENESS, ShardState, state_by, IsWhole, next_level}
 use Rattle.gm_deliveries.proofs.CloseLemmas.{kept_next}
 use Rattle.gm_deliveries.proofs.ordered.Ordered.close.Goals as goal
 
@@ -10,7 +8,7 @@ pub invariant_of-self : goal.invariant_of-self
 invariant_of-self g c =
     let r = g.G.Game.rules in
     let f = c.self.inside in
-    kept_next r (state_by f.tier f.lo f.phase f.level (length f.left.items) f.pairs.items) f.statuses f.left.items f.delivered c.self.invariant
+    kept_next r (state_by f.tier f.lo f.phase f.level (length f.left.items) (logged f.pairs)) f.statuses f.left.items f.delivered c.self.invariant
     (subst (IsWhole r) (sym c.self.view_is) c.requires.whole)
     (subst (λ (s : ShardState). s.level ≤ REMOTENESS) (sym c.self.view_is) c.requires.fits)
 

@@ -1,6 +1,6 @@
+use Rattle.gm_deliveries.specs.Logged.{logged}
 use Rattle.std.proofs.Common.{ℕ, length, ◌-◌, ◌<◌, ◌≤◌, subst, sym}
-use Rattle.gm_deliveries.specs.State.{ShardState}
-use Rattle.gm_deliveries.specs.Ordered.{state_by}
+use Rattle.gm_deliveries.proofs.Lower.{ShardState, state_by}
 use Rattle.gm_deliveries.proofs.CounterLemmas.{in_left, counter_read}
 use Rattle.gm_deliveries.proofs.ordered.Ordered.counter.Goals as goal
 
@@ -8,7 +8,7 @@ pub returns : goal.returns
 returns g c =
     let r = g.G.Game.rules in
     let f = c.self.inside in
-    counter_read r (state_by f.tier f.lo f.phase f.level (length f.left.items) f.pairs.items)
+    counter_read r (state_by f.tier f.lo f.phase f.level (length f.left.items) (logged f.pairs))
     c.args.self.now f.statuses f.left.items f.delivered c.args.index c.index.result.now c.self.invariant c.self.view_is c.requires c.index.ensures
 
 pub overflow_sub-index : goal.overflow_sub-index
@@ -19,5 +19,5 @@ index-requires g c =
     let r = g.G.Game.rules in
     let f = c.self.inside in
     subst (λ (n : ℕ). c.args.index - f.lo < n) (sym f.left.ok.0)
-    (in_left r (state_by f.tier f.lo f.phase f.level (length f.left.items) f.pairs.items)
+    (in_left r (state_by f.tier f.lo f.phase f.level (length f.left.items) (logged f.pairs))
     c.args.self.now f.statuses f.left.items f.delivered c.args.index c.self.invariant c.self.view_is c.requires)

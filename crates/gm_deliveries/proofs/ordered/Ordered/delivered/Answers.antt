@@ -1,7 +1,6 @@
+use Rattle.gm_deliveries.specs.Logged.{logged}
 use Rattle.std.proofs.Common.{length, ◌≤◌, ◌*◌, subst}
-use Rattle.gm_game.specs.declared.limits.TheConstants.{MOVES, TIER_SIZE}
-use Rattle.gm_deliveries.specs.State.{ShardState, pairs_in}
-use Rattle.gm_deliveries.specs.Ordered.{state_by}
+use Rattle.gm_deliveries.proofs.Lower.{MOVES, TIER_SIZE, ShardState, pairs_in, state_by}
 use Rattle.gm_deliveries.proofs.CloseLemmas.{few_there}
 use Rattle.gm_deliveries.proofs.ordered.Ordered.delivered.Goals as goal
 
@@ -10,4 +9,4 @@ returns-clause-small g c =
     let r = g.G.Game.rules in
     let f = c.self.inside in
     subst (λ (s : ShardState). pairs_in s ≤ MOVES * TIER_SIZE) c.self.view_is
-    (few_there r (state_by f.tier f.lo f.phase f.level (length f.left.items) f.pairs.items) f.statuses f.left.items f.delivered c.self.invariant)
+    (few_there r (state_by f.tier f.lo f.phase f.level (length f.left.items) (logged f.pairs)) f.statuses f.left.items f.delivered c.self.invariant)

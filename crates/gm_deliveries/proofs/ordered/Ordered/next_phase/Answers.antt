@@ -1,7 +1,6 @@
+use Rattle.gm_deliveries.specs.Logged.{logged}
 use Rattle.std.proofs.Common.{length, ap, subst, sym}
-use Rattle.gm_deliveries.specs.State.{ShardState}
-use Rattle.gm_deliveries.specs.Ordered.{state_by}
-use Rattle.gm_deliveries.specs.Steps.{CanTurn, first_ties}
+use Rattle.gm_deliveries.proofs.Lower.{ShardState, state_by, CanTurn, first_ties}
 use Rattle.gm_deliveries.proofs.CloseLemmas.{kept_ties}
 use Rattle.gm_deliveries.proofs.ordered.Ordered.next_phase.Goals as goal
 
@@ -9,7 +8,7 @@ pub invariant_of-self : goal.invariant_of-self
 invariant_of-self g c =
     let r = g.G.Game.rules in
     let f = c.self.inside in
-    let s : ShardState = state_by f.tier f.lo f.phase f.level (length f.left.items) f.pairs.items in
+    let s : ShardState = state_by f.tier f.lo f.phase f.level (length f.left.items) (logged f.pairs) in
     kept_ties r g.met.G.Game.lawful s f.statuses f.left.items f.delivered c.self.invariant c.args.last.now c.place-place.ensures.last
     (subst (λ (u : ShardState). CanTurn u c.args.last.now) (sym c.self.view_is) c.requires)
 

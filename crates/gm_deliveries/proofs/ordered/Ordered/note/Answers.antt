@@ -1,11 +1,6 @@
+use Rattle.gm_deliveries.specs.Logged.{logged}
 use Rattle.std.proofs.Common.{length, ap, subst, sym, ◌∙◌}
-use Rattle.gm_game.specs.declared.position.Solved.{Solved}
-use Rattle.gm_game.specs.Rules.{at}
-use Rattle.gm_deliveries.specs.declared.status.Status.{Status}
-use Rattle.gm_deliveries.specs.declared.status.Status.TheVariants.{Settled}
-use Rattle.gm_deliveries.specs.State.{ShardState, IsInRange, delivered_to}
-use Rattle.gm_deliveries.specs.Ordered.{state_by}
-use Rattle.gm_deliveries.specs.Status.{StatusIs}
+use Rattle.gm_deliveries.proofs.Lower.{Solved, at, Status, Settled, ShardState, IsInRange, delivered_to, state_by, StatusIs}
 use Rattle.gm_deliveries.proofs.NoteLemmas.{note_of, none_of}
 use Rattle.gm_deliveries.proofs.ordered.Ordered.note.Goals as goal
 
@@ -14,7 +9,7 @@ of-requires g c =
     let r = g.G.Game.rules in
     let f = c.self.inside in
     let x = c.in-Settled.x in
-    let s : ShardState = state_by f.tier f.lo f.phase f.level (length f.left.items) f.pairs.items in
+    let s : ShardState = state_by f.tier f.lo f.phase f.level (length f.left.items) (logged f.pairs) in
     let h : StatusIs r c.args.self.now c.args.index (Settled x) =
     subst (λ (y : Status). StatusIs r c.args.self.now c.args.index y) c.in-Settled.is c.status.ensures in
     note_of r g.met.G.Game.lawful s f.statuses c.self.invariant.shard c.args.index

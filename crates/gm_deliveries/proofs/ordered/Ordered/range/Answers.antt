@@ -1,7 +1,5 @@
 use Rattle.std.proofs.Common.{◌∙◌, ◌+◌, ◌≤◌, length, ap, subst}
-use Rattle.gm_game.specs.declared.limits.TheConstants.{TIER_SIZE}
-use Rattle.gm_deliveries.specs.State.{ShardState}
-use Rattle.gm_deliveries.specs.Good.{IsGood}
+use Rattle.gm_deliveries.proofs.Lower.{TIER_SIZE, ShardState, IsGood}
 use Rattle.gm_deliveries.proofs.GoodLemmas.{good_from}
 use Rattle.gm_deliveries.proofs.ordered.Ordered.range.Goals as goal
 

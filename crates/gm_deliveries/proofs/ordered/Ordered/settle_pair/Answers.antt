@@ -1,7 +1,5 @@
 use Rattle.std.proofs.Common.{ℕ, ◌<◌, ◌≤◌, ap, arith, refl, subst, sym}
-use Rattle.gm_game.specs.declared.limits.TheConstants.{REMOTENESS}
-use Rattle.gm_deliveries.specs.State.{ShardState}
-use Rattle.gm_deliveries.specs.Delivery.{IsSettledNow}
+use Rattle.gm_deliveries.proofs.Lower.{REMOTENESS, ShardState, IsSettledNow}
 use Rattle.gm_deliveries.proofs.ordered.Ordered.settle_pair.Goals as goal
 
 pub returns-then-self-ge-REMOTENESS : goal.returns-then-self-ge-REMOTENESS

@@ -1,6 +1,6 @@
+use Rattle.gm_deliveries.specs.Logged.{logged}
 use Rattle.gm_deliveries.proofs.CounterLemmas.{in_statuses, status_read}
-use Rattle.gm_deliveries.specs.State.{ShardState}
-use Rattle.gm_deliveries.specs.Ordered.{state_by}
+use Rattle.gm_deliveries.proofs.Lower.{ShardState, state_by}
 use Rattle.std.proofs.Common.{◌≤◌, length, subst, sym}
 use Rattle.gm_deliveries.proofs.ordered.Ordered.status.Goals as goal
 
@@ -11,12 +11,12 @@ pub get-requires : goal.get-requires
 get-requires g c =
     let r = g.G.Game.rules in
     let f = c.self.inside in
-    in_statuses r (state_by f.tier f.lo f.phase f.level (length f.left.items) f.pairs.items)
+    in_statuses r (state_by f.tier f.lo f.phase f.level (length f.left.items) (logged f.pairs))
     c.args.self.now f.statuses f.left.items f.delivered c.args.index c.self.invariant c.self.view_is c.requires
 
 pub returns : goal.returns
 returns g c =
     let r = g.G.Game.rules in
     let f = c.self.inside in
-    status_read r (state_by f.tier f.lo f.phase f.level (length f.left.items) f.pairs.items)
+    status_read r (state_by f.tier f.lo f.phase f.level (length f.left.items) (logged f.pairs))
     c.args.self.now f.statuses f.left.items f.delivered c.args.index c.get.result c.self.invariant c.self.view_is c.requires c.get.ensures

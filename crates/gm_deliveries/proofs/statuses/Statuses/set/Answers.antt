@@ -1,7 +1,5 @@
 use Rattle.std.proofs.Common.{List, set, ap, ◌∙◌}
-use Rattle.std.proofs.lemmas.List.{map-set}
-use Rattle.gm_deliveries.specs.declared.status.Status.{Status}
-use Rattle.gm_deliveries.specs.Statuses.{status_of}
+use Rattle.gm_deliveries.proofs.Lower.{map-set, Status, status_of}
 use Rattle.gm_deliveries.proofs.NumberLemmas.{in_numbers}
 use Rattle.gm_deliveries.proofs.statuses.Statuses.set.Goals as goal
 

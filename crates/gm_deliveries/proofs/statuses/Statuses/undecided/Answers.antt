@@ -1,6 +1,5 @@
-use Rattle.std.proofs.lemmas.Result.{IfOk-from_err}
+use Rattle.gm_deliveries.proofs.Lower.{IfOk-from_err, status_of}
 use Rattle.std.proofs.Common.{◌∙◌, ap, map}
-use Rattle.gm_deliveries.specs.Statuses.{status_of}
 use Rattle.gm_deliveries.proofs.NumberLemmas.{all_undecided}
 use Rattle.gm_deliveries.proofs.statuses.Statuses.undecided.Goals as goal
 

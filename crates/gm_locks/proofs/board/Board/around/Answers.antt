@@ -1,56 +1,19 @@
 use Rattle.std.proofs.Common.{ℕ, ◌<◌, ◌^◌, ap, sym, subst, ◌∙◌}
-use Rattle.gm_locks.specs.Spots.{Spot}
-use Rattle.gm_locks.specs.Parts.{Part}
+use Rattle.gm_locks.proofs.Lower.{Spot, Part}
 use Rattle.gm_locks.proofs.Raises.{same_amounts}
 use Rattle.gm_locks.proofs.board.Board.around.Goals as goal
 
-pub hold-a-requires-clause-name : goal.hold-a-requires-clause-name
-hold-a-requires-clause-name g c = c.requires.names.0
+pub hold-a-requires : goal.hold-a-requires
+hold-a-requires g c = (c.requires.names.0, c.requires.parts.0, rw c.requires.equal.0 c.requires.some, c.requires.spots.0)
 
-pub hold-a-requires-clause-parts : goal.hold-a-requires-clause-parts
-hold-a-requires-clause-parts g c = c.requires.parts.0
+pub hold-b-requires : goal.hold-b-requires
+hold-b-requires g c = (c.requires.names.1, c.requires.parts.1, rw c.requires.equal.1 c.requires.some, c.requires.spots.1)
 
-pub hold-a-requires-clause-some : goal.hold-a-requires-clause-some
-hold-a-requires-clause-some g c = subst (λ (n : ℕ). 0 < n) (sym c.requires.equal.0) c.requires.some
+pub hold-c-requires : goal.hold-c-requires
+hold-c-requires g c = (c.requires.names.2, c.requires.parts.2, rw c.requires.equal.2 c.requires.some, c.requires.spots.2)
 
-pub hold-a-requires-clause-spot : goal.hold-a-requires-clause-spot
-hold-a-requires-clause-spot g c = c.requires.spots.0
-
-pub hold-b-requires-clause-name : goal.hold-b-requires-clause-name
-hold-b-requires-clause-name g c = c.requires.names.1
-
-pub hold-b-requires-clause-parts : goal.hold-b-requires-clause-parts
-hold-b-requires-clause-parts g c = c.requires.parts.1
-
-pub hold-b-requires-clause-some : goal.hold-b-requires-clause-some
-hold-b-requires-clause-some g c = subst (λ (n : ℕ). 0 < n) (sym c.requires.equal.1) c.requires.some
-
-pub hold-b-requires-clause-spot : goal.hold-b-requires-clause-spot
-hold-b-requires-clause-spot g c = c.requires.spots.1
-
-pub hold-c-requires-clause-name : goal.hold-c-requires-clause-name
-hold-c-requires-clause-name g c = c.requires.names.2
-
-pub hold-c-requires-clause-parts : goal.hold-c-requires-clause-parts
-hold-c-requires-clause-parts g c = c.requires.parts.2
-
-pub hold-c-requires-clause-some : goal.hold-c-requires-clause-some
-hold-c-requires-clause-some g c = subst (λ (n : ℕ). 0 < n) (sym c.requires.equal.2) c.requires.some
-
-pub hold-c-requires-clause-spot : goal.hold-c-requires-clause-spot
-hold-c-requires-clause-spot g c = c.requires.spots.2
-
-pub hold-d-requires-clause-name : goal.hold-d-requires-clause-name
-hold-d-requires-clause-name g c = c.requires.names.3
-
-pub hold-d-requires-clause-parts : goal.hold-d-requires-clause-parts
-hold-d-requires-clause-parts g c = c.requires.parts.3
-
-pub hold-d-requires-clause-some : goal.hold-d-requires-clause-some
-hold-d-requires-clause-some g c = subst (λ (n : ℕ). 0 < n) (sym c.requires.equal.3) c.requires.some
-
-pub hold-d-requires-clause-spot : goal.hold-d-requires-clause-spot
-hold-d-requires-clause-spot g c = c.requires.spots.3
+pub hold-d-requires : goal.hold-d-requires
+hold-d-requires g c = (c.requires.names.3, c.requires.parts.3, rw c.requires.equal.3 c.requires.some, c.requires.spots.3)
 
 pub invariant_of-shares : goal.invariant_of-shares
 invariant_of-shares g c =

@@ -1,6 +1,5 @@
 use Rattle.std.proofs.Common.{◌-◌, ap, ◌∙◌, arith}
-use Rattle.gm_locks.specs.Amounts.{Amounts, split_of}
-use Rattle.gm_locks.specs.Parts.{Part}
+use Rattle.gm_locks.proofs.Lower.{Amounts, split_of, Part}
 use Rattle.gm_locks.proofs.Raises.{same_amounts, more_than_one, at_least_one, some_left, one_off}
 use Rattle.gm_locks.proofs.board.Shares.split.Goals as goal
 

@@ -1,6 +1,5 @@
 use Rattle.std.proofs.Common.{ℕ, ap, subst, ◌∙◌}
-use Rattle.gm_deliveries.specs.Delivery.{IsPlaceOf}
-use Rattle.gm_locks.specs.Spots.{Spot}
+use Rattle.gm_locks.proofs.Lower.{IsPlaceOf, Spot}
 use Rattle.gm_locks.proofs.held.Held.deliver.Goals as goal
 
 pub deliver_at-requires-clause-place : goal.deliver_at-requires-clause-place

@@ -1,8 +1,5 @@
 use Rattle.std.proofs.Common.{◌≡◌, ℕ, ◌+◌, ap, subst, sym, ◌∙◌, arith}
-use Rattle.gm_deliveries.specs.State.{pairs_in}
-use Rattle.gm_deliveries.specs.Delivery.{IsPlaceOf, Delivers}
-use Rattle.gm_locks.specs.Spots.{Spot}
-use Rattle.gm_locks.specs.Parts.{Part, HeldData}
+use Rattle.gm_locks.proofs.Lower.{pairs_in, IsPlaceOf, Delivers, Spot, Part, HeldData}
 use Rattle.gm_locks.proofs.Gains.{gained, stays, answered}
 use Rattle.gm_locks.proofs.Raises.{below}
 use Rattle.gm_locks.proofs.held.Held.deliver_at.Goals as goal

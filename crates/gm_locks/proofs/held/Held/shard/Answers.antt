@@ -1,8 +1,5 @@
 use Rattle.std.proofs.Common.{ap, sym, subst, ◌∙◌}
-use Rattle.gm_deliveries.specs.State.{pairs_in}
-use Rattle.gm_deliveries.specs.Good.{IsGood}
-use Rattle.gm_locks.specs.Spots.{spot_of}
-use Rattle.gm_locks.specs.Parts.{HeldData}
+use Rattle.gm_locks.proofs.Lower.{pairs_in, IsGood, spot_of, HeldData}
 use Rattle.gm_locks.proofs.held.Held.shard.Goals as goal
 
 pub returns-clause-shard : goal.returns-clause-shard

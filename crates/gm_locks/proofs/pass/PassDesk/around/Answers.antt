@@ -1,10 +1,5 @@
 use Rattle.std.proofs.Common.{ℕ, ap, sym, subst, ◌∙◌}
-use Rattle.gm_frontier.specs.Counts.{IsNumberBefore}
-use Rattle.gm_deliveries.specs.State.{pairs_in}
-use Rattle.gm_deliveries.proofs.CloseLemmas.{number_before}
-use Rattle.gm_locks.specs.Spots.{Spot}
-use Rattle.gm_locks.specs.Parts.{Part}
-use Rattle.gm_locks.specs.Rounds.{pairs_into, IsRound}
+use Rattle.gm_locks.proofs.Lower.{IsNumberBefore, pairs_in, number_before, Spot, Part, pairs_into, IsRound}
 use Rattle.gm_locks.proofs.Raises.{small_sum}
 use Rattle.gm_locks.proofs.RoundLemmas.{of_level, round_first, level_into}
 use Rattle.gm_locks.proofs.pass.PassDesk.around.Goals as goal

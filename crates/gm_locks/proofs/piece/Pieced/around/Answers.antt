@@ -1,8 +1,7 @@
 use Rattle.std.proofs.Common.{ℕ, ◌<◌, sym, subst, ◌∙◌, ap, length}
-use Rattle.std.specs.Int.{div_ceil}
+use Rattle.gm_locks.proofs.Lower.{div_ceil, NoteData}
 use Rattle.gm_locks.proofs.RoundLemmas.{level_into}
 use Rattle.gm_locks.proofs.PieceLemmas.{begun_pieced}
-use Rattle.gm_frontier.specs.Notes.{NoteData}
 use Rattle.std.proofs.Common.{List}
 use Rattle.gm_locks.proofs.piece.Pieced.around.Goals as goal
 

@@ -1,122 +1,60 @@
-use Rattle.std.proofs.Common.{◌-◌, ◌<◌, ◌==◌, length, set, refl, subst, arith, Ok, Err}
-use Rattle.std.proofs.lemmas.List.{get_or_read}
-use Rattle.gm_deliveries.specs.declared.status.Refused.TheVariants.{TooFar}
-use Rattle.gm_locks.specs.Pieces.{PiecedData, IsTurnAt}
+use Rattle.std.proofs.Common.{◌-◌, ◌<◌, ◌≤◌, ◌==◌, length, set, refl, subst, arith, Result, Ok, Err}
+use Rattle.gm_locks.proofs.Lower.{IsOk, get_or_read, Refused, TooFar, PiecedData, IsTurnAt}
 use Rattle.gm_locks.proofs.PieceLemmas.{turned_at}
+use Rattle.gm_locks.proofs.piece.Pieced.deliver.Given.{Over}
+use Rattle.gm_locks.proofs.piece.Pieced.deliver.Goals.{After-range-after}
 use Rattle.gm_locks.proofs.piece.Pieced.deliver.Goals as goal
 
-pub invariant_of-self : goal.invariant_of-self
-invariant_of-self g c =
-    let r = g.G.Game.rules in
-    let old : PiecedData = record {
-      shard = c.self.inside.shard;
-      counts = c.self.inside.counts.items;
-      whole = c.self.inside.whole.items;
-      book = c.self.inside.book.total;
-    } in
+-- the contents of the lock before and after
+abbrev old : (g : Over) → After-range-after g → PiecedData
+old g c = record {
+  shard = c.self.inside.shard;
+  counts = c.self.inside.counts.items;
+  whole = c.self.inside.whole.items;
+  book = c.self.inside.book.total;
+}
+
+abbrev new : (g : Over) → After-range-after g → PiecedData
+new g c = record {
+  shard = c.deliver_from-next.new.shard;
+  counts = set c.self.inside.counts.items c.args.piece c.deliver_from-next.result;
+  whole = set c.self.inside.whole.items c.args.piece (c.deliver_from-next.result == length c.args.pairs.now);
+  book = c.raise.new.book.total;
+}
+
+turn : (g : Over) (c : After-range-after g) (answer : Result (Unit {0}) Refused) → (IsOk answer → c.max-end.result ≤ c.deliver_from-next.result)
+    → IsTurnAt g.G.Game.rules g.L.ShardLedger.spot g.L.PassLedger.notes g.L.PieceLedger.size g.L.PassLedger.base c.args.piece c.args.to
+    (c.deliver_from-next.result - c.index-from.result.now) answer (old g c) (new g c)
+turn g c answer done =
     let next = c.deliver_from-next in
-    let new : PiecedData = record {
-      shard = next.new.shard;
-      counts = set c.self.inside.counts.items c.args.piece next.result;
-      whole = set c.self.inside.whole.items c.args.piece (next.result == length c.args.pairs.now);
-      book = c.raise.new.book.total;
-    } in
     let h = c.self.invariant in
     let within : c.args.piece < length c.self.inside.counts.items = (let a = h.many in let b = c.requires.piece in omega arith) in
     let begin = get_or_read c.self.inside.counts.items c.args.piece c.index-from.result.now within c.index-from.ensures 0 in
-    let turn = turned_at r g.met.G.Game.lawful g.L.ShardLedger.spot g.L.PassLedger.notes h.level g.L.PieceLedger.size g.L.PassLedger.base old new
-    c.args.pairs.now c.args.piece
-    c.index-from.result.now c.args.to c.max-end.result next.result (Err TooFar) h
+    turned_at g.G.Game.rules g.met.G.Game.lawful g.L.ShardLedger.spot g.L.PassLedger.notes h.level g.L.PieceLedger.size g.L.PassLedger.base (old g c) (new g c)
+    c.args.pairs.now c.args.piece c.index-from.result.now c.args.to c.max-end.result next.result answer h
     c.range-before.ensures.good c.range-after.ensures.good c.requires.piece c.requires.pairs begin c.max-end.ensures next.ensures.order next.ensures.most
-    next.ensures.run next.ensures.first refl refl c.raise.ensures.book (λ ok. absurd (cc)) in
-    turn.new_kept
+    next.ensures.run next.ensures.first refl refl c.raise.ensures.book done
+
+pub invariant_of-self : goal.invariant_of-self
+invariant_of-self g c = (turn g (goal.at.invariant_of-self g c).After-range-after (Err TooFar) (λ ok. absurd (cc))).new_kept
 
 pub invariant_of-self-2 : goal.invariant_of-self-2
-invariant_of-self-2 g c =
-    let r = g.G.Game.rules in
-    let old : PiecedData = record {
-      shard = c.self.inside.shard;
-      counts = c.self.inside.counts.items;
-      whole = c.self.inside.whole.items;
-      book = c.self.inside.book.total;
-    } in
-    let next = c.deliver_from-next in
-    let new : PiecedData = record {
-      shard = next.new.shard;
-      counts = set c.self.inside.counts.items c.args.piece next.result;
-      whole = set c.self.inside.whole.items c.args.piece (next.result == length c.args.pairs.now);
-      book = c.raise.new.book.total;
-    } in
-    let h = c.self.invariant in
-    let within : c.args.piece < length c.self.inside.counts.items = (let a = h.many in let b = c.requires.piece in omega arith) in
-    let begin = get_or_read c.self.inside.counts.items c.args.piece c.index-from.result.now within c.index-from.ensures 0 in
-    let turn = turned_at r g.met.G.Game.lawful g.L.ShardLedger.spot g.L.PassLedger.notes h.level g.L.PieceLedger.size g.L.PassLedger.base old new
-    c.args.pairs.now c.args.piece
-    c.index-from.result.now c.args.to c.max-end.result next.result (Ok tt) h
-    c.range-before.ensures.good c.range-after.ensures.good c.requires.piece c.requires.pairs begin c.max-end.ensures next.ensures.order next.ensures.most
-    next.ensures.run next.ensures.first refl refl c.raise.ensures.book (λ ok. c.if-next-end.false) in
-    turn.new_kept
+invariant_of-self-2 g c = (turn g (goal.at.invariant_of-self-2 g c).After-range-after (Ok tt) (λ ok. c.if-next-end.false)).new_kept
 
 pub returns-then-next-end-clause-turn : goal.returns-then-next-end-clause-turn
 returns-then-next-end-clause-turn g c =
-    let r = g.G.Game.rules in
-    let old : PiecedData = record {
-      shard = c.self.inside.shard;
-      counts = c.self.inside.counts.items;
-      whole = c.self.inside.whole.items;
-      book = c.self.inside.book.total;
-    } in
-    let next = c.deliver_from-next in
-    let new : PiecedData = record {
-      shard = next.new.shard;
-      counts = set c.self.inside.counts.items c.args.piece next.result;
-      whole = set c.self.inside.whole.items c.args.piece (next.result == length c.args.pairs.now);
-      book = c.raise.new.book.total;
-    } in
-    let h = c.self.invariant in
-    let within : c.args.piece < length c.self.inside.counts.items = (let a = h.many in let b = c.requires.piece in omega arith) in
-    let begin = get_or_read c.self.inside.counts.items c.args.piece c.index-from.result.now within c.index-from.ensures 0 in
-    let turn = turned_at r g.met.G.Game.lawful g.L.ShardLedger.spot g.L.PassLedger.notes h.level g.L.PieceLedger.size g.L.PassLedger.base old new
-    c.args.pairs.now c.args.piece
-    c.index-from.result.now c.args.to c.max-end.result next.result (Err TooFar) h
-    c.range-before.ensures.good c.range-after.ensures.good c.requires.piece c.requires.pairs begin c.max-end.ensures next.ensures.order next.ensures.most
-    next.ensures.run next.ensures.first refl refl c.raise.ensures.book (λ ok. absurd (cc)) in
-    let n = next.result - c.index-from.result.now in (
-      n,
-      subst (λ (d : PiecedData). IsTurnAt r g.L.ShardLedger.spot g.L.PassLedger.notes g.L.PieceLedger.size g.L.PassLedger.base c.args.piece c.args.to n
-          (Err TooFar) d new)
-          c.self.view_is turn,
+    let at = (goal.at.returns-then-next-end-clause-turn g c).After-range-after in (
+      c.deliver_from-next.result - c.index-from.result.now,
+      subst (λ (d : PiecedData). IsTurnAt g.G.Game.rules g.L.ShardLedger.spot g.L.PassLedger.notes g.L.PieceLedger.size g.L.PassLedger.base c.args.piece
+          c.args.to (c.deliver_from-next.result - c.index-from.result.now) (Err TooFar) d (new g at)) c.self.view_is (turn g at (Err TooFar) (λ ok. absurd (cc))),
       c.raise.ensures.share,
     )
 
 pub returns-clause-turn : goal.returns-clause-turn
 returns-clause-turn g c =
-    let r = g.G.Game.rules in
-    let old : PiecedData = record {
-      shard = c.self.inside.shard;
-      counts = c.self.inside.counts.items;
-      whole = c.self.inside.whole.items;
-      book = c.self.inside.book.total;
-    } in
-    let next = c.deliver_from-next in
-    let new : PiecedData = record {
-      shard = next.new.shard;
-      counts = set c.self.inside.counts.items c.args.piece next.result;
-      whole = set c.self.inside.whole.items c.args.piece (next.result == length c.args.pairs.now);
-      book = c.raise.new.book.total;
-    } in
-    let h = c.self.invariant in
-    let within : c.args.piece < length c.self.inside.counts.items = (let a = h.many in let b = c.requires.piece in omega arith) in
-    let begin = get_or_read c.self.inside.counts.items c.args.piece c.index-from.result.now within c.index-from.ensures 0 in
-    let turn = turned_at r g.met.G.Game.lawful g.L.ShardLedger.spot g.L.PassLedger.notes h.level g.L.PieceLedger.size g.L.PassLedger.base old new
-    c.args.pairs.now c.args.piece
-    c.index-from.result.now c.args.to c.max-end.result next.result (Ok tt) h
-    c.range-before.ensures.good c.range-after.ensures.good c.requires.piece c.requires.pairs begin c.max-end.ensures next.ensures.order next.ensures.most
-    next.ensures.run next.ensures.first refl refl c.raise.ensures.book (λ ok. c.if-next-end.false) in
-    let n = next.result - c.index-from.result.now in (
-      n,
-      subst (λ (d : PiecedData). IsTurnAt r g.L.ShardLedger.spot g.L.PassLedger.notes g.L.PieceLedger.size g.L.PassLedger.base c.args.piece c.args.to n
-          (Ok tt) d new)
-          c.self.view_is turn,
+    let at = (goal.at.returns-clause-turn g c).After-range-after in (
+      c.deliver_from-next.result - c.index-from.result.now,
+      subst (λ (d : PiecedData). IsTurnAt g.G.Game.rules g.L.ShardLedger.spot g.L.PassLedger.notes g.L.PieceLedger.size g.L.PassLedger.base c.args.piece
+          c.args.to (c.deliver_from-next.result - c.index-from.result.now) (Ok tt) d (new g at)) c.self.view_is (turn g at (Ok tt) (λ ok. c.if-next-end.false)),
       c.raise.ensures.share,
     )

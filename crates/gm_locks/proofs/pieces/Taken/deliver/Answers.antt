@@ -1,7 +1,5 @@
 use Rattle.std.proofs.Common.{◌≡◌, ℕ, true, false, get_or, length, refl, ap, ◌∙◌, Result, Ok, Err, OnOk, List}
-use Rattle.std.specs.Result.{IsOk}
-use Rattle.gm_frontier.specs.Notes.{NoteData}
-use Rattle.gm_locks.specs.Pieces.{PiecedData}
+use Rattle.gm_locks.proofs.Lower.{IsOk, NoteData, PiecedData}
 use Rattle.gm_locks.proofs.PieceLemmas.{turned_whole, turned_kept}
 use Rattle.gm_locks.proofs.pieces.Taken.deliver.Goals as goal
 

@@ -1,12 +1,5 @@
 use Rattle.std.proofs.Common.{◌≡◌, ◌++◌, [], ◌∷◌, List, Option, sym, ap, subst, ◌∙◌, arith, length-append}
-use Rattle.std.proofs.lemmas.List.{append_assoc}
-use Rattle.gm_game.specs.declared.position.Place.{Place}
-use Rattle.gm_game.specs.declared.position.Phase.{Phase}
-use Rattle.gm_game.specs.declared.position.Phase.TheVariants.{Ties}
-use Rattle.gm_game.specs.declared.position.Solved.{Solved}
-use Rattle.gm_game.specs.Places.{IsLastLevel}
-use Rattle.gm_deliveries.specs.Closing.{record_of}
-use Rattle.gm_table.specs.Packed.{IsNear}
+use Rattle.gm_shard.proofs.Lower.{append_assoc, Place, Phase, Ties, Solved, IsLastLevel, record_of, IsNear}
 use Rattle.gm_shard.proofs.FinishLemmas.{part_more, record_near}
 use Rattle.gm_shard.proofs.ordered.OrderedShard.finish.Goals as goal
 

@@ -1,6 +1,5 @@
 use Rattle.std.proofs.Common.{◌≡◌, ◌+◌, ◌++◌, List, Option, length}
-use Rattle.gm_game.specs.declared.position.Solved.{Solved}
-use Rattle.gm_deliveries.specs.Closing.{ArePart}
+use Rattle.gm_shard.proofs.Lower.{Solved, ArePart}
 use Rattle.gm_shard.proofs.ordered.OrderedShard.finish.Given as goal
 
 abbrev pub invariant-loop-index : goal.invariant-loop-index

@@ -1,7 +1,5 @@
-use Rattle.std.proofs.Common.{◌≡◌, ℕ, ◌-◌, ◌∙◌, get_or, subst, sym, arith}
-use Rattle.gm_deliveries.specs.State.{ShardState, IsInRange}
-use Rattle.gm_deliveries.proofs.MaskedLemmas.{tells_state, in_told}
-use Rattle.gm_deliveries.proofs.SeenLemmas.{pair_is}
+use Rattle.std.proofs.Common.{◌≡◌, ℕ, ◌-◌, ◌↔◌, IsTrue, Some, get_or, subst, sym, arith}
+use Rattle.gm_shard.proofs.Lower.{Contains, ShardState, IsInRange, delivered_to, IsPlaceOf, in_told, pair_is}
 use Rattle.gm_shard.proofs.shard.Shard.has_pair.Goals as goal
 
 pub index-requires : goal.index-requires
@@ -13,8 +11,11 @@ index-requires g c =
 
 pub returns : goal.returns
 returns g c =
+    let r = g.G.Game.rules in
     let f = c.self.inside in
+    let child = c.args.note.now.position in
     let read = subst (λ (n : ℕ). c.index.result.now ≡ get_or f.masks.items (c.args.parent - n) c.index.result.now) c.range-lo.ensures.lo c.index.ensures in
-    pair_is g.G.Game.rules f.order.tier f.order.lo f.order.phase f.order.level f.masks.items c.args.self.now c.args.note.now.position c.args.parent c.args.place
-    c.index.result.now (tells_state g.G.Game.rules f.order f.masks.items c.self.invariant ∙ c.self.view_is) c.requires.range c.requires.place read _
-    c.has_bit.ensures
+    subst (λ (s : ShardState). IsInRange s c.args.parent → IsPlaceOf r child s.tier c.args.parent (Some c.args.place)
+    → IsTrue c.has_bit.result ↔ Contains (delivered_to s c.args.parent) child) c.self.view_is
+    (λ m p. pair_is r f.order f.masks.items child c.args.parent c.args.place c.index.result.now c.self.invariant m p read _ c.has_bit.ensures)
+    c.requires.range c.requires.place

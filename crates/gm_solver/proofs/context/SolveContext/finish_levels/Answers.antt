@@ -1,4 +1,4 @@
-use Rattle.std.proofs.lemmas.Result.{IfOk-from_err}
+use Rattle.gm_solver.proofs.Lower.{IfOk-from_err}
 use Rattle.gm_solver.proofs.context.SolveContext.finish_levels.Goals as goal
 
 pub returns-in_err-next-clause-later : goal.returns-in_err-next-clause-later

@@ -1,6 +1,5 @@
 use Rattle.std.proofs.Common.{◌+◌, ◌-◌, ◌≤◌}
-use Rattle.gm_game.specs.declared.limits.TheConstants.{REMOTENESS}
-use Rattle.gm_deliveries.specs.Steps.{place_of}
+use Rattle.gm_solver.proofs.Lower.{REMOTENESS, place_of}
 use Rattle.gm_solver.specs.Tiling.{IsLaterPlace}
 use Rattle.gm_solver.proofs.context.SolveContext.finish_levels.Given as goal
 

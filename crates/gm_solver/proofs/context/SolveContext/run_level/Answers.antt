@@ -1,10 +1,5 @@
 use Rattle.std.proofs.Common.{◌≡◌, sym, subst, ◌∙◌, ◌≤◌, refl}
-use Rattle.std.proofs.lemmas.Bool.{false≢true}
-use Rattle.gm_game.specs.declared.position.Place.{Place}
-use Rattle.gm_game.specs.Places.{IsLastLevel}
-use Rattle.gm_deliveries.specs.Steps.{place_of}
-use Rattle.gm_game.specs.declared.limits.TheConstants.{TIER_SIZE}
-use Rattle.gm_table.specs.Tables.{AreHeld}
+use Rattle.gm_solver.proofs.Lower.{false≢true, Place, IsLastLevel, place_of, TIER_SIZE, AreHeld}
 use Rattle.gm_frontier.specs.Levels.{AreTiles}
 use Rattle.gm_solver.proofs.context.SolveContext.run_level.Goals as goal
 

@@ -1,11 +1,6 @@
 use Rattle.std.proofs.Common.{◌≡◌, ◌*◌, ap, subst, ◌∙◌}
-use Rattle.std.specs.List.{AllZip}
+use Rattle.gm_solver.proofs.Lower.{AllZip, nat_range, IfOk-then, block_in, IsFound, zip_whole}
 use Rattle.rayon.specs.Lists.{range_start, range_end, min_len_base}
-use Rattle.rayon.specs.Numbers.{nat_range}
-use Rattle.rayon.proofs.ListFacts.{IfOk-then}
-use Rattle.gm_table.specs.Dealing.{block_in}
-use Rattle.gm_solver.specs.Passes.{IsFound}
-use Rattle.gm_table.proofs.Dealt.{zip_whole}
 use Rattle.gm_solver.proofs.Parts.{found_by_zip}
 use Rattle.gm_solver.proofs.frame.Frame.settle_all.Goals as goal
 

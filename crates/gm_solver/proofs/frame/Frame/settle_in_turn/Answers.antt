@@ -1,7 +1,5 @@
 use Rattle.std.proofs.Common.{rules, ◌≡◌, ℕ, [], ◌∷◌, ◌++◌, length, length-append, sym, ap, subst, arith}
-use Rattle.gm_table.specs.Dealing.{block_in}
-use Rattle.gm_table.proofs.Dealt.{EachAt, one_at}
-use Rattle.gm_solver.specs.Passes.{IsFound}
+use Rattle.gm_solver.proofs.Lower.{block_in, EachAt, one_at, IsFound}
 use Rattle.gm_solver.proofs.frame.Frame.settle_in_turn.Goals as goal
 
 pub loop-place-preserved : goal.loop-place-preserved

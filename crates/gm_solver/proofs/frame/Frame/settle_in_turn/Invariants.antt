@@ -1,7 +1,5 @@
 use Rattle.std.proofs.Common.{◌≡◌, length}
-use Rattle.gm_table.specs.Dealing.{block_in}
-use Rattle.gm_table.proofs.Dealt.{EachAt}
-use Rattle.gm_solver.specs.Passes.{IsFound}
+use Rattle.gm_solver.proofs.Lower.{block_in, EachAt, IsFound}
 use Rattle.gm_solver.proofs.frame.Frame.settle_in_turn.Given as goal
 
 abbrev pub invariant-loop-place : goal.invariant-loop-place

@@ -1,6 +1,5 @@
 use Rattle.std.proofs.Common.{List, sym, subst}
-use Rattle.std.specs.List.{Contains}
-use Rattle.gm_game.specs.declared.position.Position.{Position}
+use Rattle.gm_solver.proofs.Lower.{Contains, Position}
 use Rattle.gm_solver.proofs.position.Lists.list_children.Goals as goal
 
 pub returns : goal.returns

@@ -1,7 +1,5 @@
 use Rattle.std.proofs.Common.{◌∙◌}
-use Rattle.rayon.specs.Numbers.{nat_range}
-use Rattle.rayon.proofs.ListFacts.{IfOk-then}
-use Rattle.gm_table.proofs.Dealt.{zip_whole}
+use Rattle.gm_solver.proofs.Lower.{nat_range, IfOk-then, zip_whole}
 use Rattle.gm_solver.proofs.scan.Frame.start_all.Goals as goal
 
 pub returns : goal.returns

@@ -1,4 +1,4 @@
-use Rattle.gm_deliveries.specs.Steps.{place_of}
+use Rattle.gm_solver.proofs.Lower.{place_of}
 use Rattle.gm_solver.proofs.TilingLemmas.{number_all}
 use Rattle.gm_solver.proofs.tiles.Tiles.number.Goals as goal
 

@@ -1,7 +1,6 @@
-use Rattle.gm_deliveries.specs.Steps.{place_of}
+use Rattle.gm_solver.proofs.Lower.{place_of, Spot}
 use Rattle.gm_solver.proofs.TilingLemmas.{four_parts, spot_place}
 use Rattle.std.proofs.Common.{sym, ap, ◌∙◌}
-use Rattle.gm_locks.specs.Spots.{Spot}
 use Rattle.gm_solver.proofs.tiles.Tiles.records.Goals as goal
 
 pub returns : goal.returns

@@ -1,4 +1,4 @@
-use Rattle.gm_deliveries.specs.Steps.{place_of}
+use Rattle.gm_solver.proofs.Lower.{place_of}
 use Rattle.gm_solver.proofs.Far.{level_near}
 use Rattle.gm_solver.proofs.TilingLemmas.{covered}
 use Rattle.gm_solver.proofs.tiles.Tiles.show_near.Goals as goal

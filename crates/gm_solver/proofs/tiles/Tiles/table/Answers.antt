@@ -1,10 +1,6 @@
 use Rattle.std.proofs.Common.{subst, refl, ℕ, ◌≤◌, sym, ◌∙◌}
-use Rattle.gm_game.specs.declared.position.Place.{Place}
-use Rattle.gm_game.specs.Places.{IsLastLevel}
-use Rattle.gm_deliveries.specs.Steps.{place_of}
+use Rattle.gm_solver.proofs.Lower.{Place, IsLastLevel, place_of, REMOTENESS, TIER_SIZE, IsTrueTable}
 use Rattle.gm_solver.proofs.Final.{end_deliveries, not_too_far}
-use Rattle.gm_game.specs.declared.limits.TheConstants.{REMOTENESS, TIER_SIZE}
-use Rattle.gm_game.specs.Records.{IsTrueTable}
 use Rattle.gm_solver.proofs.tiles.Tiles.table.Goals as goal
 
 pub returns-clause-deliveries : goal.returns-clause-deliveries

@@ -1,10 +1,5 @@
 use Rattle.std.proofs.Common.{◌≡◌, ℕ, ◌-◌, List, sym, subst, ◌∙◌, arith}
-use Rattle.gm_deliveries.specs.State.{ShardState}
-use Rattle.gm_deliveries.specs.Steps.{IsWhole}
-use Rattle.gm_frontier.specs.Notes.{NoteData}
-use Rattle.gm_locks.specs.Spots.{Spot, spot_of}
-use Rattle.gm_locks.specs.Rounds.{pairs_into, AreFirst}
-use Rattle.gm_locks.proofs.RoundLemmas.{level_into}
+use Rattle.gm_solver.proofs.Lower.{ShardState, IsWhole, NoteData, Spot, spot_of, pairs_into, AreFirst, level_into}
 use Rattle.gm_solver.proofs.InOrderLemmas.{full_whole}
 use Rattle.gm_solver.proofs.workplace.Workplace.end.Goals as goal
 use Rattle.gm_solver.proofs.workplace.Workplace.end.Goals.{then-not-is_full+in_ok-deliver_rest, else-not-is_full}

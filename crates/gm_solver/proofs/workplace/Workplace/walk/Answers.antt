@@ -1,11 +1,6 @@
 use Rattle.std.proofs.Common.{refl, ◌≡◌, ◌≤◌, ◌+◌, ℕ, Some, suc, slice_get, length, drop, sym, subst, ◌∙◌, arith}
-use Rattle.std.proofs.lemmas.Option.{slice_get_within}
-use Rattle.gm_game.specs.declared.position.Place.{Place}
-use Rattle.gm_game.specs.declared.limits.TheConstants.{TIER_SIZE}
-use Rattle.gm_frontier.specs.Notes.{NoteData}
-use Rattle.gm_locks.specs.Rounds.{pairs_into}
+use Rattle.gm_solver.proofs.Lower.{slice_get_within, Place, TIER_SIZE, NoteData, pairs_into, level_into, pairs_are_into}
 use Rattle.gm_solver.proofs.RoundLemmas.{into_fit, item_next, item_last}
-use Rattle.gm_locks.proofs.RoundLemmas.{level_into, pairs_are_into}
 use Rattle.gm_solver.proofs.workplace.Workplace.walk.Goals as goal
 
 pub loop-note-init : goal.loop-note-init

@@ -1,5 +1,5 @@
 use Rattle.std.proofs.Common.{◌≡◌, ◌≤◌, length, drop}
-use Rattle.gm_locks.specs.Rounds.{pairs_into}
+use Rattle.gm_solver.proofs.Lower.{pairs_into}
 use Rattle.gm_solver.proofs.workplace.Workplace.walk.Given as goal
 
 abbrev pub invariant-loop-note : goal.invariant-loop-note

@@ -1,6 +1,5 @@
 use Rattle.std.proofs.Common.{◌≡◌, ◌≤◌, ◌-◌, length}
-use Rattle.gm_table.specs.Checks.{FitBetween}
-use Rattle.gm_table.specs.Hands.{AreAtHand}
+use Rattle.gm_table.proofs.Lower.{FitBetween, AreAtHand}
 use Rattle.gm_table.proofs.blocks.Given.first_between.Given as goal
 
 abbrev pub invariant-loop-canonical : goal.invariant-loop-canonical

@@ -1,55 +1,45 @@
-use Rattle.std.proofs.Common.{◌≡◌, ℕ, ◌+◌, sym, subst, arith}
-use Rattle.std.specs.List.{AllZip}
-use Rattle.gm_table.specs.declared.blocks.Firsts.{Firsts}
-use Rattle.gm_table.specs.Checks.{AreFirsts}
-use Rattle.gm_table.proofs.BlockLemmas.{IsFirstBelow, below_none, below_more, below_all, all_fit, all_found}
+use Rattle.std.proofs.Common.{◌≡◌, refl, subst, ◌∙◌, arith}
+use Rattle.gm_table.proofs.Lower.{slice_get_within, nat_range, AllZip, range_start, range_end, min_len_base, block_in, IsFirstOfBlock}
+use Rattle.gm_table.proofs.Dealt.{zip_whole}
+use Rattle.gm_table.proofs.BlockLemmas.{IsFirst, first_is}
+use Rattle.gm_table.proofs.blocks.Given.first_of_all.Given.{Over}
+use Rattle.gm_table.proofs.blocks.Given.first_of_all.Goals.{After-reduce}
 use Rattle.gm_table.proofs.blocks.Given.first_of_all.Goals as goal
 
-pub loop-class-init : goal.loop-class-init
-loop-class-init g c =
+first : (g : Over) (c : After-reduce g) → IsFirst g.G.Game.rules c.args.self.now.tables.now c.args.self.now.tier
+    (g.C.Records.listed c.args.self.now.records.now) c.reduce.result
+first g c =
     let self = c.args.self.now in
-    let r = g.G.Game.rules in
-    let records = g.C.Records.listed self.records.now in
-    subst (IsFirstBelow r self.tables.now self.tier records 0) (sym c.count-first.ensures) (below_none r self.tables.now self.tier records)
-
-pub first_at-requires-clause-firsts : goal.first_at-requires-clause-firsts
-first_at-requires-clause-firsts g c κs within =
-    let self = c.args.self.now in
-    let r = g.G.Game.rules in
-    let records = g.C.Records.listed self.records.now in
-    let (found, given, reduced) = c.reduce-firsts.ensures in
+    let ends = c.into_par_iter.ensures in
+    let base = c.map.ensures.base in
+    let least = c.with_min_len.ensures.base in
+    let (found, given, reduced) = c.reduce.ensures in
     let (numbers, places, zip) = given in
-    let each : AllZip (λ (_ : ℕ) (one : Firsts). AreFirsts r self.tables.now self.tier records one.classes) numbers found =
-    subst (λ f. AllZip (λ (_ : ℕ) (one : Firsts). AreFirsts r f.0.now.tables.now f.0.now.tier (g.C.Records.listed f.0.now.records.now) one.classes)
-    numbers found) c.map.ensures.f zip in
-    all_found r self.tables.now self.tier records numbers found c.reduce-firsts.result each reduced
-
-pub loop-class-preserved : goal.loop-class-preserved
-loop-class-preserved g c =
-    let self = c.args.self.now in
     let r = g.G.Game.rules in
-    let records = g.C.Records.listed self.records.now in
-    subst (IsFirstBelow r self.tables.now self.tier records (c.loop-class.class + 1)) (sym c.min-first.ensures)
-    (below_more r self.tables.now self.tier records c.loop-class.class c.loop-class.first c.first_at.result c.loop-class.invariant c.first_at.ensures)
+    let whole : numbers ≡ nat_range 0 c.blocks-blocks.result =
+    places
+    ∙ (λ i. nat_range (range_start (min_len_base (base i))) (range_end (min_len_base (base i))))
+    ∙ (λ i. nat_range (range_start (least i)) (range_end (least i)))
+    ∙ (λ i. nat_range (ends.0 i) (ends.1 i)) in
+    let asked : AllZip (λ place w. IsFirstOfBlock r self.tables.now self.tier (g.C.Records.listed self.records.now) (block_in self.dealing.rows place) w)
+    numbers found =
+    subst (λ f. AllZip (λ place w. IsFirstOfBlock r f.0.now.tables.now f.0.now.tier (g.C.Records.listed f.0.now.records.now)
+    (block_in f.0.now.dealing.rows place) w) numbers found) c.map.ensures.f zip in
+    let each = zip_whole (λ place w. IsFirstOfBlock r self.tables.now self.tier (g.C.Records.listed self.records.now) (block_in self.dealing.rows place) w)
+    c.blocks-blocks.result numbers found found whole asked refl in
+    let size = self.size_is in
+    let enough = self.dealing.enough in
+    let small = self.dealing.within in
+    first_is r self.tables.now self.tier (g.C.Records.listed self.records.now) self.dealing.rows found c.reduce.result (omega arith) (omega arith)
+    (each.0 ∙ c.blocks-blocks.ensures.count) each.1 reduced
 
 pub returns-clause-wrong : goal.returns-clause-wrong
-returns-clause-wrong g c =
-    let self = c.args.self.now in
-    let r = g.G.Game.rules in
-    let records = g.C.Records.listed self.records.now in
-    let low = c.loop-class-test.false in
-    let high = c.loop-class.auto.class-end in
-    let end : c.loop-class.class ≡ 256 = omega arith in
-    below_all r self.tables.now self.tier records c.loop-class.first
-    (subst (λ n. IsFirstBelow r self.tables.now self.tier records n c.loop-class.first) end c.loop-class.invariant)
+returns-clause-wrong g c l =
+    let is = first g (goal.at.returns-clause-wrong g c).After-reduce in
+    record { there = l; wrong = is.wrong l; before = is.before }
 
 pub returns-clause-fit : goal.returns-clause-fit
-returns-clause-fit g c =
-    let self = c.args.self.now in
-    let r = g.G.Game.rules in
-    let records = g.C.Records.listed self.records.now in
-    let low = c.loop-class-test.false in
-    let high = c.loop-class.auto.class-end in
-    let end : c.loop-class.class ≡ 256 = omega arith in
-    all_fit r self.tables.now self.tier records c.loop-class.first
-    (subst (λ n. IsFirstBelow r self.tables.now self.tier records n c.loop-class.first) end c.loop-class.invariant)
+returns-clause-fit g c l i o q =
+    let is = first g (goal.at.returns-clause-fit g c).After-reduce in
+    let inside = slice_get_within (g.C.Records.listed c.args.self.now.records.now) i o q in
+    is.before i (omega arith) o q

@@ -1,6 +1,5 @@
 use Rattle.std.proofs.Common.{◌≡◌, ℕ, ◌++◌, [], ◌∷◌, List, Option, None, replicate, append_assoc, ap, ◌∙◌, arith}
-use Rattle.std.proofs.lemmas.List.{replicate-append-replicate}
-use Rattle.gm_game.specs.declared.position.Solved.{Solved}
+use Rattle.gm_table.proofs.Lower.{replicate-append-replicate, Solved}
 use Rattle.gm_table.proofs.packed.Packed.push_none.Goals as goal
 
 pub loop-preserved : goal.loop-preserved

@@ -1,6 +1,5 @@
 use Rattle.std.proofs.Common.{◌<◌, ◌++◌, ◌∷◌, [], List, None, Option, length, take, ap, sym, ◌∙◌, arith}
-use Rattle.std.proofs.lemmas.List.{take_more, take_all}
-use Rattle.gm_game.specs.declared.position.Solved.{Solved}
+use Rattle.gm_table.proofs.Lower.{take_more, take_all, Solved}
 use Rattle.gm_table.proofs.LevelLemmas.{record_read}
 use Rattle.gm_table.proofs.packed.Packed.to_vec.Goals as goal
 

@@ -1,6 +1,5 @@
 use Rattle.std.proofs.Common.{map, take, ap, sym, ◌∙◌}
-use Rattle.std.proofs.lemmas.List.{take-map}
-use Rattle.gm_table.specs.Packed.{unpacked}
+use Rattle.gm_table.proofs.Lower.{take-map, unpacked}
 use Rattle.gm_table.proofs.packed.Packed.truncate.Goals as goal
 
 pub returns : goal.returns

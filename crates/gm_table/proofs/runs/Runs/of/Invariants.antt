@@ -1,7 +1,5 @@
 use Rattle.std.proofs.Common.{◌≡◌, ℕ, take}
-use Rattle.gm_game.specs.declared.position.Phase.{Phase}
-use Rattle.gm_table.specs.Levels.{indexes_at}
-use Rattle.gm_table.specs.Runs.{run_in}
+use Rattle.gm_table.proofs.Lower.{Phase, indexes_at, run_in}
 use Rattle.gm_table.proofs.runs.Runs.of.Given as goal
 
 abbrev pub invariant-loop-index : goal.invariant-loop-index

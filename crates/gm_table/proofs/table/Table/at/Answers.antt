@@ -1,9 +1,5 @@
 use Rattle.std.proofs.Common.{ap, sym, subst, ◌∙◌}
-use Rattle.gm_game.specs.declared.limits.TheConstants.{REMOTENESS}
-use Rattle.gm_game.specs.Rules.{at}
-use Rattle.gm_game.specs.Values.{IsTrueValue}
-use Rattle.gm_game.specs.Records.{IsRecord}
-use Rattle.gm_table.specs.Tables.{record_at, IsTable}
+use Rattle.gm_table.proofs.Lower.{REMOTENESS, at, IsTrueValue, IsRecord, record_at, IsTable}
 use Rattle.gm_table.proofs.ValueLemmas.{record_is}
 use Rattle.gm_table.proofs.table.Table.at.Goals as goal
 

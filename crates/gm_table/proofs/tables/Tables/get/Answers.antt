@@ -1,6 +1,5 @@
 use Rattle.std.proofs.Common.{◌≡◌, ◌↔◌, true, sym, ap, ◌∙◌, subst, IsSome, IfSome}
-use Rattle.gm_game.specs.Values.{IsTrueValue}
-use Rattle.gm_table.specs.Tables.{IsHeld, record_at}
+use Rattle.gm_table.proofs.Lower.{IsTrueValue, IsHeld, record_at}
 use Rattle.gm_table.proofs.ValueLemmas.{value_read, value_known, value_true}
 use Rattle.gm_table.proofs.tables.Tables.get.Goals as goal
 

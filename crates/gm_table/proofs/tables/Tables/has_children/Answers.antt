@@ -1,7 +1,5 @@
 use Rattle.std.proofs.Common.{ℕ, List, refl, sym, subst, ◌∙◌, arith, below_more}
-use Rattle.std.specs.List.{Contains}
-use Rattle.std.proofs.lemmas.Grind.{get_or_default_zero}
-use Rattle.gm_table.specs.Tables.{IsHeld}
+use Rattle.gm_table.proofs.Lower.{Contains, get_or_default_zero, IsHeld}
 use Rattle.gm_table.proofs.tables.Tables.has_children.Goals as goal
 
 pub loop-child-preserved : goal.loop-child-preserved

@@ -1,8 +1,5 @@
 use Rattle.std.proofs.Common.{◌≡◌, ◌↔◌, ℕ, List, rules, sym, subst}
-use Rattle.std.specs.List.{Contains}
-use Rattle.gm_game.specs.Rules.{at, IsCanonical, IsAscending}
-use Rattle.gm_game.specs.Places.{StandsAt}
-use Rattle.gm_table.specs.Tables.{IsHeld, run_of}
+use Rattle.gm_table.proofs.Lower.{Contains, at, IsCanonical, IsAscending, StandsAt, IsHeld, run_of}
 use Rattle.gm_table.proofs.PlaceLemmas.{run_stands, run_ascending}
 use Rattle.gm_table.proofs.tables.Tables.run.Goals as goal
 

@@ -1,0 +1,9 @@
+use Rattle.std.proofs.Common.{take, drop}
+use Rattle.gm_best.specs.Reached.{AreClosed}
+use Rattle.gm_engine.specs.Records.{AreTrue}
+use Rattle.gm_engine.specs.Refusing.{HaveTables}
+use Rattle.gm_engine.proofs.engine.hold_all.Given as goal
+
+abbrev pub invariant-loop-tier : goal.invariant-loop-tier
+invariant-loop-tier g l = AreClosed g.G.Game.rules l.tables × HaveTables l.tables (take l.tier-index l.tiers)
+    × AreTrue g.G.Game.rules l.width (drop l.tier-index l.tiers) l.rest

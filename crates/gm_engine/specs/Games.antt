@@ -1,0 +1,69 @@
+-- The games of the module by their numbers: a line for each.
+use Rattle.std.specs.Prelude.{◌≡◌, ℕ, true, false, List}
+use Rattle.gm_game.specs.declared.position.Position.{Position}
+use Rattle.gm_game.specs.Rules.{Rules}
+use Rattle.gm_ways.specs.Ways.{way_rules}
+use Rattle.gm_ways.specs.WayTexts.{way_text, way_move_text}
+use Rattle.gm_toys.specs.Subtraction.{number_text, step_text}
+use Rattle.gm_toys.specs.Countdown.{countdown}
+use Rattle.gm_toys.specs.Wheel.{wheel, target_text}
+use Rattle.gm_takeaway.specs.Takeaway.{takeaway}
+use Rattle.gm_morris.specs.Morris.{morris_rules}
+use Rattle.gm_morris.specs.Texts.{position_text as nine_text, move_text as nine_move_text}
+use Rattle.gm_mutorere.specs.laws.RingTables.{ring_game}
+use Rattle.gm_pieces.specs.MoveTexts.{position_text, move_text}
+use Rattle.gm_chess.specs.Chess.{ending, chess_rules, board_text, step_text as man_move}
+use Rattle.gm_dao.specs.DaoRules.{dao_rules}
+use Rattle.gm_dao.specs.Texts.{position_text as dao_text, move_text as dao_move_text}
+use Rattle.gm_hare.specs.Board.{hare_rules}
+use Rattle.gm_hare.specs.Texts.{position_text as hare_text, move_text as hare_move_text}
+use Rattle.gm_pong.specs.PongRules.{pong, pong_rules}
+use Rattle.gm_shisima.specs.ShisimaRules.{shisima, shisima_rules}
+use Rattle.gm_tapatan.specs.TapatanRules.{tapatan, tapatan_rules}
+use Rattle.gm_dodgem.specs.Dodgem.{dodgem_rules, dodgem_text, dodgem_move}
+use Rattle.gm_tactix.specs.Board.{tactix_rules}
+use Rattle.gm_engine.specs.declared.width.Width.{Width}
+use Rattle.gm_engine.specs.declared.width.Width.TheVariants.{Byte, Word}
+use Rattle.gm_tactix.specs.Texts.{position_text as tactix_text, move_text as tactix_move_text}
+
+-- a game: how its records are kept, its rules, and the texts of its positions and moves
+pub record PlayedGame : Type 0 where
+  pub width : Width
+  pub rules : Rules
+  pub shown : Position → List ℕ
+  pub move_shown : Position → ℕ → List ℕ
+
+abbrev pub played : Width → Rules → (Position → List ℕ) → (Position → ℕ → List ℕ) → PlayedGame
+played width rules shown move_shown = record { width = width; rules = rules; shown = shown; move_shown = move_shown }
+
+-- the property holds for the game with this number, if there is one. (13 is Mu Torere by its ways, which
+-- gm_mutorere proves equal to that by its board.)
+abbrev pub IsFor : ℕ → (PlayedGame → Type 0) → Type 0
+IsFor number fact =
+    (number ≡ 0 → fact (played Byte (countdown 10) number_text step_text))
+    × (number ≡ 1 → fact (played Byte wheel number_text target_text))
+    × (number ≡ 2 → fact (played Byte (tactix_rules 1 false) (tactix_text 1) (tactix_move_text 1)))
+    × (number ≡ 3 → fact (played Byte (tactix_rules 2 false) (tactix_text 2) (tactix_move_text 2)))
+    × (number ≡ 4 → fact (played Byte (tactix_rules 3 false) (tactix_text 3) (tactix_move_text 3)))
+    × (number ≡ 5 → fact (played Byte (tactix_rules 4 false) (tactix_text 4) (tactix_move_text 4)))
+    × (number ≡ 6 → fact (played Byte (tactix_rules 1 true) (tactix_text 1) (tactix_move_text 1)))
+    × (number ≡ 7 → fact (played Byte (tactix_rules 2 true) (tactix_text 2) (tactix_move_text 2)))
+    × (number ≡ 8 → fact (played Byte (tactix_rules 3 true) (tactix_text 3) (tactix_move_text 3)))
+    × (number ≡ 9 → fact (played Byte (tactix_rules 4 true) (tactix_text 4) (tactix_move_text 4)))
+    × (number ≡ 10 → fact (played Byte (morris_rules 9) nine_text (nine_move_text 9)))
+    × (number ≡ 11 → fact (played Byte (morris_rules 6) nine_text (nine_move_text 6)))
+    × (number ≡ 12 → fact (played Byte (morris_rules 8) nine_text (nine_move_text 8)))
+    × (number ≡ 13 → fact (played Byte (way_rules 9 ring_game) (way_text 9 ring_game) (way_move_text ring_game)))
+    × (number ≡ 14 → fact (played Byte dao_rules dao_text dao_move_text))
+    × (number ≡ 15 → fact (played Byte hare_rules hare_text hare_move_text))
+    × (number ≡ 16 → fact (played Byte pong_rules (way_text 5 pong) (way_move_text pong)))
+    × (number ≡ 17 → fact (played Byte shisima_rules (way_text 9 shisima) (way_move_text shisima)))
+    × (number ≡ 18 → fact (played Byte takeaway number_text step_text))
+    × (number ≡ 19 → fact (played Byte tapatan_rules (way_text 9 tapatan) (way_move_text tapatan)))
+    × (number ≡ 20 → fact (played Byte dodgem_rules dodgem_text dodgem_move))
+    × (number ≡ 21 → fact (played Word (chess_rules false) (position_text (ending false) (board_text false)) (move_text (λ t m. man_move false m))))
+    × (number ≡ 22 → fact (played Byte (chess_rules true) (position_text (ending true) (board_text true)) (move_text (λ t m. man_move true m))))
+
+-- no game has this number
+abbrev pub IsNoGame : ℕ → Type 0
+IsNoGame number = IsFor number (λ g. ⊥)

@@ -1,0 +1,59 @@
+-- The answers of the exports: a number, or a refusal with its reason.
+use Rattle.std.specs.Prelude.{◌≡◌, ℕ, ◌<◌, ◌+◌, ◌⊎◌, List, length, take}
+use Rattle.gm_game.specs.declared.position.Position.{Position}
+use Rattle.gm_table.specs.Solving.{AreDeliveries}
+use Rattle.gm_tiers.specs.Orders.{IsTierOrder}
+use Rattle.gm_best.specs.Places.{IsAt}
+use Rattle.gm_json.specs.Asking.{AreAnswers, lines_of}
+use Rattle.gm_engine.specs.Games.{PlayedGame}
+use Rattle.gm_engine.specs.Records.{IsTrueTier, AreTrue}
+use Rattle.gm_engine.specs.Saying.{Says}
+use Rattle.gm_engine.specs.Refusing.{IsUnlisted, IsUnchecked, IsUnsolved, IsUnsolvedGame, IsUnanswered, IsUnshown}
+use Rattle.gm_engine.specs.declared.refusal.Refusal.{Refusal}
+use Rattle.gm_engine.specs.declared.refusal.Refusal.TheVariants.{Memory, Order, Records, TooFar, Room, Position as NoPosition, NotSolved}
+
+-- the first number that is a refusal; it is the answer if there is no such game
+abbrev pub refused : ℕ
+refused = 18446744073709551360
+
+-- the numbers of the refusals
+abbrev pub number_of : Refusal → ℕ
+number_of Memory = 1
+number_of Order = 2
+number_of Records = 3
+number_of TooFar = 4
+number_of Room = 5
+number_of NoPosition = 6
+number_of NotSolved = 7
+
+-- the answer is a number with the first property, or a refusal for a reason with the second
+abbrev pub Replies : (ℕ → Type 0) → (Refusal → Type 0) → ℕ → Type 0
+Replies Holds Refuses result = ((result < refused) × Holds result) ⊎ ((e : Refusal) × (result ≡ refused + number_of e) × Refuses e)
+
+-- the first n numbers, for the answer n, are the tiers of the game, child tiers first
+abbrev pub IsOrder : PlayedGame → List ℕ → List ℕ → ℕ → Type 0
+IsOrder g before after = Replies (λ n. IsTierOrder g.rules (take n after)) (IsUnlisted g.rules (length before))
+
+-- the first n numbers, for the answer n, are the tiers of the game, child tiers first, and the bytes are their true records
+abbrev pub IsSolvedGame : PlayedGame → List ℕ → List ℕ → List ℕ → List ℕ → ℕ → Type 0
+IsSolvedGame g places room order out = Replies (λ n. IsTierOrder g.rules (take n order) × AreTrue g.rules g.width (take n order) out)
+    (IsUnsolvedGame g.rules g.width (length places) (length room))
+
+-- the bytes are the true records of the tier, and the answer is the number of its deliveries
+abbrev pub IsSolved : PlayedGame → List ℕ → ℕ → List ℕ → List ℕ → ℕ → Type 0
+IsSolved g solved tier before after = Replies (λ n. IsTrueTier g.rules g.width tier after × AreDeliveries g.rules tier n)
+    (IsUnsolved g.rules g.width solved tier (length before))
+
+-- the bytes are the true records of the tiers
+abbrev pub IsChecked : PlayedGame → List ℕ → List ℕ → ℕ → Type 0
+IsChecked g tiers records = Replies (λ n. (n ≡ 0) × AreTrue g.rules g.width tiers records) (IsUnchecked g.rules g.width tiers records)
+
+-- the first n bytes, for the answer n, are the answers to the lines
+abbrev pub IsAnswered : PlayedGame → ℕ → List ℕ → List ℕ → List ℕ → List ℕ → ℕ → Type 0
+IsAnswered g bits tiers lines before after = Replies (λ n. AreAnswers (Says g.rules g.shown g.move_shown bits tiers) 1 (lines_of lines) (take n after))
+    (IsUnanswered g.rules g.shown g.move_shown bits tiers lines (length before))
+
+-- the first n bytes, for the answer n, are the text of the canonical position with this index of the tier
+abbrev pub IsText : PlayedGame → ℕ → ℕ → List ℕ → List ℕ → ℕ → Type 0
+IsText g tier index before after = Replies (λ n. (p : Position) × IsAt g.rules tier index p × (take n after ≡ g.shown p))
+    (IsUnshown g.rules g.shown tier index (length before))

@@ -1,0 +1,38 @@
+use Rattle.std.proofs.Common.{◌++◌, ◌∷◌, [], ℕ, List, take, get_or, sym, subst, arith, length-append, length-take}
+use Rattle.std.proofs.lemmas.List.{take_more}
+use Rattle.gm_find.specs.Lists.{AreThose}
+use Rattle.gm_find.specs.Finding.{Achieves}
+use Rattle.gm_find.proofs.ListLemmas.{those_push, those_skip, those_few}
+use Rattle.gm_find.proofs.only.achieving.Goals as goal
+use Rattle.gm_find.proofs.only.achieving.Goals.{then-achieves, else-achieves}
+
+pub overflow_add-number : goal.overflow_add-number
+overflow_add-number g c =
+    let items = c.as_slice-m-items.result.now in
+    let few = those_few (Achieves g.G.Game.rules c.args.aim c.args.known.now.position) (take c.loop-m.m-index items) c.loop-m.invariant.0
+    c.loop-m.invariant.1 in
+    let same = c.loop-m.invariant.2 in
+    let cut = length-take c.loop-m.m-index items in
+    omega arith
+
+pub loop-m-preserved : goal.loop-m-preserved
+loop-m-preserved g c =
+    let P : ℕ → Type 0 = Achieves g.G.Game.rules c.args.aim c.args.known.now.position in
+    let items = c.as_slice-m-items.result.now in
+    let k = c.loop-m.m-index in
+    let m = get_or items k 0 in
+    let (kept, those, long) = c.loop-m.invariant in
+    let more = take_more items k 0 c.loop-m-test.true in
+    elim c.if-achieves.branch [
+      | then-achieves w ↦ (
+        kept ++ m ∷ [],
+        subst (λ (xs : List ℕ). AreThose P xs (kept ++ m ∷ [])) (sym more) (those_push P (take k items) kept m those (c.achieves.ensures.0 w.if-achieves.true)),
+        let n = length-append kept (m ∷ []) in let same = w.number-is in omega arith,
+      )
+      | else-achieves w ↦ (
+        kept,
+        subst (λ (xs : List ℕ). AreThose P xs kept) (sym more) (those_skip P (take k items) kept m those
+            (λ p. let t = c.achieves.ensures.1 p in let f = w.if-achieves.false in cc)),
+        let same = w.number-is in omega arith,
+      )
+    ]

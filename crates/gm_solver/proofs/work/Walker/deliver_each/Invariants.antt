@@ -1,5 +1,0 @@
-use Rattle.std.proofs.Common.{◌≡◌}
-use Rattle.gm_solver.proofs.work.Walker.deliver_each.Given as goal
-
-abbrev pub invariant-loop-k : goal.invariant-loop-k
-invariant-loop-k g l = l.shares.parts ≡ l.fn.shares.parts

@@ -1,6 +1,0 @@
-use Rattle.std.proofs.Common.{◌≡◌, ◌++◌, ℕ, List, map, take}
-use Rattle.gm_web.specs.Records.{record_with}
-use Rattle.gm_web.proofs.bytes.add_bytes.Given as goal
-
-abbrev pub invariant-loop-index : goal.invariant-loop-index
-invariant-loop-index g l = (more : List ℕ) × (l.bytes.items ≡ l.initial.bytes.items ++ more) × (map record_with more ≡ take l.index l.table.records)

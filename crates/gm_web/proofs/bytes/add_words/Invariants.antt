@@ -1,8 +1,0 @@
-use Rattle.std.proofs.Common.{◌≡◌, ◌++◌, ◌*◌, ℕ, List, length, map, take}
-use Rattle.gm_table.specs.Packed.{unpacked}
-use Rattle.gm_web.specs.Records.{words_of}
-use Rattle.gm_web.proofs.bytes.add_words.Given as goal
-
-abbrev pub invariant-loop-index : goal.invariant-loop-index
-invariant-loop-index g l = (more : List ℕ) × (l.bytes.items ≡ l.initial.bytes.items ++ more) × (length more ≡ 4 * l.index)
-    × (map unpacked (words_of more) ≡ take l.index l.table.records)

@@ -1,6 +1,0 @@
-use Rattle.std.proofs.Common.{◌≡◌, ◌+◌, ◌*◌, ◌/◌, ◌%◌, ◌∷◌, [], List, ℕ, ap, arith}
-use Rattle.gm_web.proofs.Words.{word_again}
-use Rattle.gm_web.proofs.bytes.word_of.Goals as goal
-
-pub returns-clause-value : goal.returns-clause-value
-returns-clause-value c = word_again c.args.number

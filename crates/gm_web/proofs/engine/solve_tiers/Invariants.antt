@@ -1,9 +1,0 @@
-use Rattle.std.proofs.Common.{take}
-use Rattle.gm_best.specs.Reached.{AreClosed}
-use Rattle.gm_web.specs.Records.{AreTrue}
-use Rattle.gm_web.specs.Refusing.{HaveTables}
-use Rattle.gm_web.proofs.engine.solve_tiers.Given as goal
-
-abbrev pub invariant-loop-tier : goal.invariant-loop-tier
-invariant-loop-tier g l = AreClosed g.G.Game.rules l.tables × HaveTables l.tables (take l.tier-index l.tiers)
-    × AreTrue g.G.Game.rules l.width (take l.tier-index l.tiers) l.bytes.items
