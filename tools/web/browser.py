@@ -234,7 +234,7 @@ class Tried:
         self.js("begin(49)")
         self.browser.until("line[0].row === 49")
         self.js("play(moves.find(m => m.to === null))")
-        self.soon("a move that leads out", "$('say').textContent.endsWith('is not in this page.')")
+        self.soon("a move that leads out", "$('say').textContent.includes('is not in this page. It is in that of gamesman page dao ')")
 
     def run(self):
         try:
