@@ -25,7 +25,7 @@ SHEETS = [
 
 def constants():
     """The constant parts of a sheet, by their names."""
-    with open(os.path.join(ROOT, "crates/gm_sheet/src/parts.rt"), encoding="ascii") as it:
+    with open(os.path.join(ROOT, "crates/gm_page/src/parts.rt"), encoding="ascii") as it:
         return dict(re.findall(r'(?s)pub const (\w+): &\[u8\] = br##"(.*?)"##;', it.read()))
 
 

@@ -4,13 +4,13 @@
 mod workers;
 
 use crate::workers::{Backwards, Tachometer};
-use gm_best::answer::answer;
-use gm_best::best_move::best_move;
 use gm_build::build::{Built, build};
 use gm_game::game::Game;
 use gm_game::shown::Shown;
 use gm_game::text::value_text;
 use gm_morris::games::TicTacToe;
+use gm_play::answers::answer;
+use gm_play::best_moves::best_move;
 use gm_solver::plan::Plan;
 use gm_table::tables::Tables;
 use gm_tierdb::mem_store::MemStore;

@@ -13,8 +13,7 @@ use Rattle.gm_play.specs.PlayTexts.{IsReadAs}
 use Rattle.gamesman.specs.declared.fault.Fault.{Fault}
 use Rattle.gamesman.specs.declared.fault.Fault.TheVariants.{NoSuchGame, NoSuchPosition, NoSuchPositionInLine, NoSuchTier, NoSuchIndex, NotLegal, NotCanonical}
 use Rattle.gamesman.specs.declared.fault.Fault.TheVariants.{OutOfMemory as NoMemory, NotBuilt, AnotherGames, InputFailed, OutputFailed, OutputClosed}
-use Rattle.gamesman.specs.declared.fault.Fault.TheVariants.{TooMuchInput}
-use Rattle.gamesman.specs.declared.fault.Fault.TheVariants.{EngineNotRead, NotAnEngine}
+use Rattle.gamesman.specs.declared.fault.Fault.TheVariants.{TooMuchInput, EngineNotRead, NotAnEngine}
 use Rattle.gamesman.specs.Outputs.{IsOutputFault, IsCutOff}
 use Rattle.gm_play.specs.PlaceTexts.{IsPlaceText}
 use Rattle.gamesman.specs.Answers.{IsAnsweredBy, IsUnlocatedFor, IsLocatedBy}

@@ -12,7 +12,7 @@ use Rattle.gm_game.specs.declared.position.Position.{Position}
 use Rattle.gm_game.specs.Rules.{Rules}
 use Rattle.gm_game.proofs.Lists.{contains_none, contains_cases}
 use Rattle.gm_table.specs.Tables.{TableData}
-use Rattle.gm_best.specs.Reached.{AreAllHeld}
+use Rattle.gm_play.specs.Reached.{AreAllHeld}
 use Rattle.gm_play.specs.Sessions.{AppendsPart}
 use Rattle.gm_play.proofs.Parts.{part_after}
 use Rattle.gm_find.specs.declared.found.Found.{Found}
@@ -35,8 +35,7 @@ use Rattle.gamesman.specs.declared.fault.Fault.TheVariants.{EngineNotRead, NotAn
 use Rattle.gamesman.specs.Games.{GameSpec}
 use Rattle.gamesman.specs.Outputs.{IsOutputFault, IsCutOff}
 use Rattle.gamesman.specs.Told.{IsMemoryFault}
-use Rattle.gamesman.specs.Finds.{board_row, IsTextOf, IsFoundAt, AreTiersFor, IsFoundSoFar, IsLeft, IsToldByTier, IsTierTold}
-use Rattle.gamesman.specs.Finds.{limit_by_tier, AreFoundWith}
+use Rattle.gamesman.specs.Finds.{board_row, IsTextOf, IsFoundAt, AreTiersFor, IsFoundSoFar, IsLeft, IsToldByTier, IsTierTold, limit_by_tier, AreFoundWith}
 
 -- ---- the tables
 -- a list of one tier

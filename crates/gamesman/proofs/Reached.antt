@@ -6,8 +6,8 @@ use Rattle.gm_table.specs.Tables.{TableData}
 use Rattle.gm_tiers.specs.Orders.{IsOrderFrom}
 use Rattle.gm_tiers.specs.Reach.{IsReachedFrom}
 use Rattle.gm_build.specs.Work.{HoldsExactly}
-use Rattle.gm_best.specs.Reached.{AreAllHeld, AreClosed}
-use Rattle.gm_best.proofs.Held.{all_held}
+use Rattle.gm_play.specs.Reached.{AreAllHeld, AreClosed}
+use Rattle.gm_play.proofs.Held.{all_held}
 
 -- the tiers that are reached from one of them
 pub order_held : (r : Rules) (entries : List TableData) (order : List ℕ) (first : ℕ) → IsOrderFrom r first order → HoldsExactly entries order → (tier : ℕ) →

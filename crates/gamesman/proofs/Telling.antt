@@ -1,6 +1,5 @@
 -- The output of an answer about all of a game after a fault, and the tables for it.
-use Rattle.std.proofs.Common.{◌≡◌, ℕ, true, false, nat_eq, inl, inr, List, Option, None, Some, Result, Ok, Err, refl, sym, subst, ◌∙◌, eqb-true}
-use Rattle.std.proofs.Common.{eq-eqb}
+use Rattle.std.proofs.Common.{◌≡◌, ℕ, true, false, nat_eq, inl, inr, List, Option, None, Some, Result, Ok, Err, refl, sym, subst, ◌∙◌, eqb-true, eq-eqb}
 use Rattle.std.specs.List.{Contains, list_any}
 use Rattle.gm_game.proofs.Lists.{any_in, any_from}
 use Rattle.gm_game.specs.Rules.{Rules}

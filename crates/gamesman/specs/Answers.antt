@@ -6,7 +6,7 @@ use Rattle.gm_game.specs.Rules.{Rules}
 use Rattle.gm_play.specs.PlayTexts.{IsNoPosition, IsLineText}
 use Rattle.gm_play.specs.PlaceTexts.{IsPlaceText}
 use Rattle.gm_play.specs.Why.{IsWhyText}
-use Rattle.gm_best.specs.Places.{IsUnlocated}
+use Rattle.gm_play.specs.Places.{IsUnlocated}
 use Rattle.gm_json.specs.Lines.{IsLineJson}
 use Rattle.gm_draw.specs.ShowTexts.{IsShowText}
 use Rattle.gm_draw.specs.Diagrams.{IsDiagram}

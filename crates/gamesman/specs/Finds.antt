@@ -11,7 +11,7 @@ use Rattle.gm_find.specs.declared.sought.Choice.TheVariants.{First, Random}
 use Rattle.gm_find.specs.Founds.{AreFound, AreChosen}
 use Rattle.gm_find.specs.Rows.{found_row}
 use Rattle.gm_json.specs.Founds.{found_line}
-use Rattle.gm_sheet.specs.Sheets.{Entry, AreEntries, sheet_of}
+use Rattle.gm_page.specs.Sheets.{Entry, AreEntries, sheet_of}
 use Rattle.gm_command.specs.declared.requests.Form.{Form}
 use Rattle.gm_command.specs.declared.requests.Form.TheVariants.{Rows, Json, Sheet, Boards}
 use Rattle.gm_command.specs.declared.requests.PositionSearch.{PositionSearch}

@@ -7,7 +7,7 @@ use Rattle.gm_ways.specs.WayTexts.{way_text, way_move_text}
 use Rattle.gm_toys.specs.Subtraction.{number_text, step_text}
 use Rattle.gm_toys.specs.Countdown.{countdown}
 use Rattle.gm_toys.specs.Wheel.{wheel, target_text}
-use Rattle.gm_takeaway.specs.Takeaway.{takeaway}
+use Rattle.gm_toys.specs.Takeaway.{takeaway}
 use Rattle.gm_morris.specs.Points.{variant_of}
 use Rattle.gm_morris.specs.Morris.{morris_rules}
 use Rattle.gm_morris.specs.Texts.{position_text as nine_text, move_text as nine_move_text}
@@ -18,12 +18,12 @@ use Rattle.gm_dao.specs.Texts.{position_text as dao_text, move_text as dao_move_
 use Rattle.gm_hare.specs.Board.{hare_rules}
 use Rattle.gm_hare.specs.Texts.{position_text as hare_text, move_text as hare_move_text}
 use Rattle.gm_pong.specs.PongRules.{pong, pong_rules}
-use Rattle.gm_shisima.specs.ShisimaRules.{shisima, shisima_rules}
-use Rattle.gm_tapatan.specs.TapatanRules.{tapatan, tapatan_rules}
+use Rattle.gm_ways.specs.ShisimaRules.{shisima, shisima_rules}
+use Rattle.gm_ways.specs.TapatanRules.{tapatan, tapatan_rules}
 use Rattle.gm_dodgem.specs.Dodgem.{dodgem_rules, dodgem_text, dodgem_move}
 use Rattle.gm_pieces.specs.MoveTexts.{position_text as text_by, move_text as move_text_by}
-use Rattle.gm_chess.specs.Chess.{ending, chess_rules, board_text as men_text, step_text as man_move_text}
-use Rattle.gm_foxhounds.specs.FoxHounds.{fox_and_hounds, foxhounds_rules, board_text as chase_text, step_text as chase_move_text}
+use Rattle.gm_squares.specs.Chess.{ending, chess_rules, board_text as men_text, step_text as man_move_text}
+use Rattle.gm_squares.specs.FoxHounds.{fox_and_hounds, foxhounds_rules, board_text as chase_text, step_text as chase_move_text}
 use Rattle.gm_tactix.specs.Board.{side_of, tactix_rules}
 use Rattle.gm_tactix.specs.Texts.{position_text as tactix_text, move_text as tactix_move_text}
 use Rattle.gm_draw.specs.Templates.{filled}

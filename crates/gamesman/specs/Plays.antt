@@ -5,9 +5,9 @@ use Rattle.std.specs.Str.{bytes_eq}
 use Rattle.std.specs.Io.KnownBytes.{Appends, Keeps}
 use Rattle.gm_game.specs.declared.position.Position.{Position}
 use Rattle.gm_game.specs.Rules.{Rules}
-use Rattle.gm_best.specs.declared.side.Side.{Side}
-use Rattle.gm_best.specs.declared.side.Side.TheVariants.{You, Computer}
-use Rattle.gm_best.specs.Sides.{IsWonIn, IsEven}
+use Rattle.gm_play.specs.declared.sides.Side.{Side}
+use Rattle.gm_play.specs.declared.sides.Side.TheVariants.{You, Computer}
+use Rattle.gm_play.specs.Sides.{IsWonIn, IsEven}
 use Rattle.gm_play.specs.declared.view.Question.{Question}
 use Rattle.gm_play.specs.declared.session_error.SessionError.{SessionError}
 use Rattle.gm_play.specs.declared.session_error.SessionError.TheVariants.{ReadFailed, WriteFailed, TooMuchInput as TooMuch, OutputClosed as Closed}

@@ -4,7 +4,7 @@ use Rattle.gm_game.specs.declared.position.Position.{Position}
 use Rattle.gm_game.specs.Rules.{Rules}
 use Rattle.gm_tiers.specs.Reach.{IsReached}
 use Rattle.gm_tiers.specs.Orders.{IsTierOrder}
-use Rattle.gm_best.specs.Places.{IsAt}
+use Rattle.gm_play.specs.Places.{IsAt}
 use Rattle.gm_play.specs.PlaceTexts.{IsPositionText}
 use Rattle.gm_analyse.specs.Bars.{IsCountsText}
 use Rattle.gm_analyse.specs.Longest.{IsLongestText}

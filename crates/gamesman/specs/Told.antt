@@ -3,8 +3,8 @@ use Rattle.std.specs.Prelude.{◌≡◌, ℕ, ◌⊎◌, List, Option, Result, O
 use Rattle.std.specs.Io.KnownBytes.{Appends}
 use Rattle.gm_game.specs.Rules.{Rules}
 use Rattle.gm_tiers.specs.Reach.{IsReached}
-use Rattle.gm_best.specs.Places.{IsRefusedAt}
-use Rattle.gm_best.specs.declared.place.PlaceError.TheVariants.{NoSuchTier as NoTier, NoSuchIndex as NoIndex, NotLegal as Illegal, NotCanonical as Uncanonical}
+use Rattle.gm_play.specs.Places.{IsRefusedAt}
+use Rattle.gm_play.specs.declared.places.PlaceError.TheVariants.{NoSuchTier as NoTier, NoSuchIndex as NoIndex, NotLegal as Illegal, NotCanonical as Uncanonical}
 use Rattle.gm_play.specs.Sessions.{AppendsPart}
 use Rattle.gamesman.specs.declared.fault.Fault.{Fault}
 use Rattle.gamesman.specs.declared.fault.Fault.TheVariants.{NoSuchTier, NoSuchIndex, NotLegal, NotCanonical, OutOfMemory}

@@ -1,7 +1,7 @@
 //! The position at a tier and index, and the tier and index of a position.
 
 ghost use Rattle.std.specs.Prelude.{IfOk, IfErr};
-ghost use Rattle.gm_best.specs.Places.{IsAt};
+ghost use Rattle.gm_play.specs.Places.{IsAt};
 ghost use Rattle.gamesman.specs.Told.{IsNoPlace};
 ghost use Rattle.gamesman.specs.Searches.{IsPlaced};
 ghost use Rattle.gamesman.specs.Answers.{IsLocatedBy};
@@ -11,11 +11,11 @@ use crate::output::{put, put_all};
 use crate::run::DONE;
 use crate::search::known_tier;
 use crate::tables::BuildOptions;
-use gm_best::known::Known;
-use gm_best::place::{self, PlaceError, at};
 use gm_game::position::Position;
 use gm_game::shown::Shown;
+use gm_play::known::Known;
 use gm_play::place_texts::{place_text, position_text};
+use gm_play::places::{self, PlaceError, at};
 use std::alloc::Global;
 use std::fs::Files;
 use std::io::Write;
@@ -67,7 +67,7 @@ pub fn locate<G: Shown, O: Write>(
 ) -> Result<u8, Fault>
     ensures { IsLocatedBy G.Game.rules G.shown position.now (O.contents output.old) (O.contents output.new) result }
 {
-    let Some(located) = place::locate::<G>(position.as_bytes()) else {
+    let Some(located) = places::locate::<G>(position.as_bytes()) else {
         return Err(Fault::NoSuchPosition);
     };
     let row = place_text::<G>(alloc, located)?;

@@ -1,17 +1,10 @@
 -- Numbers of indexes with one index more.
-use Rattle.std.proofs.Common.{◌≡◌, ℕ, zero, suc, ◌<◌, ◌≤◌, ◌+◌, ◌==◌, Bool, true, false, if◌then◌else◌, List, set, length, get_or, refl, sym, ap, ◌∙◌, subst}
-use Rattle.std.proofs.Common.{arith, inl, inr, Option, None, Some, eq-eqb, ne_eqb}
-use Rattle.std.proofs.lemmas.Bool.{cases_eq}
+use Rattle.gm_analyse.proofs.Lower.{◌≡◌, ℕ, zero, suc, ◌<◌, ◌≤◌, ◌+◌, ◌==◌, Bool, true, false, if◌then◌else◌, List, set, length, get_or, refl, sym, ap, ◌∙◌}
+use Rattle.gm_analyse.proofs.Lower.{subst, arith, inl, inr, Option, None, Some, cases_eq, same_Some, Position, Solved, Value, Rules, IsRecord, record_at}
+use Rattle.gm_analyse.proofs.Lower.{count_where, rank, remoteness_in, is_solved, number_in}
+use Rattle.std.proofs.Common.{eq-eqb, ne_eqb}
 use Rattle.std.proofs.lemmas.List.{get_or-set_same, get_or-set_other}
-use Rattle.std.proofs.lemmas.Option.{same_Some}
-use Rattle.gm_game.specs.declared.position.Position.{Position}
-use Rattle.gm_game.specs.declared.position.Solved.{Solved}
-use Rattle.gm_game.specs.declared.position.Value.{Value}
-use Rattle.gm_game.specs.Rules.{Rules}
-use Rattle.gm_game.specs.Records.{IsRecord}
 use Rattle.gm_table.specs.Levels.{is_level}
-use Rattle.gm_table.specs.Tables.{record_at}
-use Rattle.gm_analyse.specs.Numbers.{count_where, rank, remoteness_in, is_solved, number_in}
 
 count_more : (test : ℕ → Bool) (n : ℕ) → count_where test (n + 1) ≡ (if test n then count_where test n + 1 else count_where test n)
 count_more test n = let e : n + 1 ≡ suc n = omega arith in rw e refl

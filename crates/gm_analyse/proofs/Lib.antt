@@ -6,3 +6,4 @@ pub mod Longer
 pub mod Names
 pub mod NoFloat
 pub mod Reporting
+pub mod Lower

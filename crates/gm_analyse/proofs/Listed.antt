@@ -1,18 +1,11 @@
 -- Counts of the positions of tiers, with one value and remoteness or one position more.
-use Rattle.std.proofs.Common.{◌≡◌, ℕ, ◌<◌, ◌≤◌, ◌+◌, inl, inr, Bool, List, [], ◌∷◌, ◌++◌, length, get_or, Result, Ok, Err, OnOk, refl, sym, ap, ◌∙◌, subst}
-use Rattle.std.proofs.lemmas.Bool.{cases_eq}
+use Rattle.gm_analyse.proofs.Lower.{◌≡◌, ℕ, ◌<◌, ◌≤◌, ◌+◌, inl, inr, Bool, List, [], ◌∷◌, ◌++◌, length, get_or, Result, Ok, Err, refl, sym, ap, ◌∙◌, subst}
+use Rattle.gm_analyse.proofs.Lower.{cases_eq, Position, Value, Rules, HasValue_once, Among, Count, rank, all_positions, IsCounted, IsNumber, AreCounts}
+use Rattle.gm_analyse.proofs.Lower.{AreCountsBefore, AreNumbers}
+use Rattle.std.proofs.Common.{OnOk}
 use Rattle.std.proofs.lemmas.List.{length-append}
-use Rattle.gm_game.specs.declared.position.Position.{Position}
-use Rattle.gm_game.specs.declared.position.Value.{Value}
-use Rattle.gm_game.specs.Rules.{Rules}
-use Rattle.gm_game.proofs.Basic.{HasValue_once}
-use Rattle.gm_analyse.specs.declared.among.Among.{Among}
-use Rattle.gm_analyse.specs.declared.counts.Count.{Count}
-use Rattle.gm_analyse.specs.Numbers.{rank}
 use Rattle.gm_analyse.proofs.CountLists as lists
-use Rattle.gm_find.specs.Finding.{all_positions}
 use Rattle.gm_find.proofs.ListLemmas.{those_once, those_push, those_skip}
-use Rattle.gm_analyse.specs.Totals.{IsCounted, IsNumber, AreCounts, AreCountsBefore, AreNumbers}
 
 module _ (r : Rules) (among : Among) (reached : Bool) (ps : List Position) where
   abbrev Num : Value → ℕ → ℕ → Type 0

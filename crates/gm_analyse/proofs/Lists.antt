@@ -1,9 +1,5 @@
 -- The counts of a table, with one value and remoteness more.
-use Rattle.std.proofs.Common.{◌≡◌, ℕ, ◌<◌, ◌≤◌, ◌+◌, List, [], ◌∷◌, ◌++◌, length, sym, ◌∙◌, Option}
-use Rattle.gm_game.specs.declared.position.Solved.{Solved}
-use Rattle.gm_game.specs.declared.position.Value.{Value}
-use Rattle.gm_analyse.specs.declared.counts.Count.{Count}
-use Rattle.gm_analyse.specs.Numbers.{rank, number_in}
+use Rattle.gm_analyse.proofs.Lower.{◌≡◌, ℕ, ◌<◌, ◌≤◌, ◌+◌, List, [], ◌∷◌, ◌++◌, length, sym, ◌∙◌, Option, Solved, Value, Count, rank, number_in}
 use Rattle.gm_analyse.specs.Listing.{AreCounts, AreCountsBefore}
 use Rattle.gm_analyse.proofs.CountLists as lists
 

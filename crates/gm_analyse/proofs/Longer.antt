@@ -1,13 +1,9 @@
 -- The longest win with one index more.
-use Rattle.std.proofs.Common.{◌≡◌, ℕ, ◌<◌, ◌≤◌, ◌+◌, ◌⊎◌, inl, inr, Bool, true, false, if◌then◌else◌, List, refl, sym, ◌∙◌, subst, arith, Option, None, Some}
+use Rattle.gm_analyse.proofs.Lower.{◌≡◌, ℕ, ◌<◌, ◌≤◌, ◌+◌, ◌⊎◌, inl, inr, Bool, true, false, if◌then◌else◌, List, refl, sym, ◌∙◌, subst, arith, Option, None}
+use Rattle.gm_analyse.proofs.Lower.{Some, cases_lt, same_Some, Solved, Win, record_at, remoteness_in, IsLongestWin}
 use Rattle.std.proofs.Common.{leb}
-use Rattle.std.proofs.lemmas.Bool.{cases_lt, leb-true, leb-false}
-use Rattle.std.proofs.lemmas.Option.{same_Some}
-use Rattle.gm_game.specs.declared.position.Solved.{Solved}
-use Rattle.gm_game.specs.declared.position.Value.TheVariants.{Win}
-use Rattle.gm_table.specs.Tables.{record_at}
-use Rattle.gm_analyse.specs.Numbers.{remoteness_in}
-use Rattle.gm_analyse.specs.LongestWins.{IsWinAt, IsLongest, IsLongestWin, longer}
+use Rattle.std.proofs.lemmas.Bool.{leb-true, leb-false}
+use Rattle.gm_analyse.specs.LongestWins.{IsWinAt, IsLongest, longer}
 
 -- no index is below zero
 pub longest_none : (records : List (Option Solved)) → IsLongestWin records 0 None

@@ -1,26 +1,15 @@
 -- Rows of counts, with one tier or one count more; the greatest remoteness that is counted.
-use Rattle.std.proofs.Common.{◌≡◌, ℕ, ◌+◌, ◌<◌, ◌≤◌, ◌↔◌, Bool, true, List, [], ◌∷◌, ◌++◌, length, map, take, get_or, Option, None, Some, IsSome, IfSome, inl}
-use Rattle.std.proofs.Common.{inr, refl, sym, ap, ap₂, subst, ◌∙◌, arith, append_assoc}
-use Rattle.std.specs.List.{Contains, flat_map}
-use Rattle.std.proofs.lemmas.Bool.{cases_lt}
-use Rattle.std.proofs.lemmas.List.{append-nil, take_more, take_all, map-append, get_or_past}
-use Rattle.gm_game.specs.declared.limits.TheConstants.{REMOTENESS}
-use Rattle.gm_game.specs.declared.position.Position.{Position}
-use Rattle.gm_game.specs.declared.position.Solved.{Solved}
-use Rattle.gm_game.specs.declared.position.Value.{Value}
-use Rattle.gm_game.specs.Records.{IsRecord}
-use Rattle.gm_game.specs.Rules.{Rules}
-use Rattle.gm_game.specs.Values.{IsTrueValue}
-use Rattle.gm_game.proofs.Lists.{contains_none, contains_first, contains_later, contains_cases}
+use Rattle.gm_analyse.proofs.Lower.{◌≡◌, ℕ, ◌+◌, ◌<◌, ◌≤◌, ◌↔◌, Bool, true, List, [], ◌∷◌, ◌++◌, length, map, take, get_or, Option, None, Some, IfSome, inl}
+use Rattle.gm_analyse.proofs.Lower.{inr, refl, sym, ap, subst, ◌∙◌, arith, append_assoc, Contains, flat_map, cases_lt, append-nil, take_more, take_all}
+use Rattle.gm_analyse.proofs.Lower.{map-append, get_or_past, REMOTENESS, Position, Solved, Value, IsRecord, Rules, IsTrueValue, contains_none, contains_cases}
+use Rattle.gm_analyse.proofs.Lower.{Among, Canonical, TierCount, Count, with_tier, AreTierRows, IsLastAbove, IsCounted, IsRecordAmong, AreCounts, AreNumbers}
+use Rattle.std.proofs.Common.{IsSome}
+use Rattle.std.proofs.Common.{ap₂}
+use Rattle.gm_game.proofs.Lists.{contains_first, contains_later}
 use Rattle.gm_table.specs.Tables.{TableData, IsHeld}
 use Rattle.gm_find.specs.Lists.{AreThose}
-use Rattle.gm_analyse.specs.declared.among.Among.{Among}
-use Rattle.gm_analyse.specs.declared.among.Among.TheVariants.{Canonical, Legal}
-use Rattle.gm_analyse.specs.declared.by_tier.TierCount.{TierCount}
-use Rattle.gm_analyse.specs.declared.counts.Count.{Count}
-use Rattle.gm_analyse.specs.ByTier.{with_tier, AreTierRows}
-use Rattle.gm_analyse.specs.Longest.{IsLastAbove}
-use Rattle.gm_analyse.specs.Totals.{IsCounted, IsRecordAmong, AreCounts, AreNumbers, IsGreatest}
+use Rattle.gm_analyse.specs.declared.among.Among.TheVariants.{Legal}
+use Rattle.gm_analyse.specs.Totals.{IsGreatest}
 
 -- the record of a canonical position
 pub canonical_among : (r : Rules) (p : Position) (o : Option Solved) → IsRecord r REMOTENESS (IsTrueValue r) p o → IsRecordAmong r Canonical p o

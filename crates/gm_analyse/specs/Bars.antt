@@ -1,10 +1,8 @@
 -- Counts as lines of text: with bars, as CSV, or as JSON.
-use Rattle.std.specs.Prelude.{◌≡◌, ℕ, ◌+◌, ◌-◌, ◌*◌, ◌/◌, max, min, Bool, true, false, List, [], ◌++◌, codes, take, fold, Option, None, Some}
-use Rattle.std.specs.Fmt.{decimal}
-use Rattle.std.specs.List.{flat_map}
-use Rattle.serde_json.specs.Data.{Data, string, object, member, no_members}
-use Rattle.serde_json.specs.Written.{compact_text}
-use Rattle.gm_game.specs.Rules.{Rules}
+use Rattle.std.specs.Prelude.{◌≡◌, ℕ, ◌+◌, max, Bool, true, false, List, [], ◌++◌, codes, take, Option, None, Some}
+use Rattle.gm_analyse.specs.Lower.{decimal, flat_map, Data, string}
+use Rattle.gm_analyse.specs.Lower.{object, member, no_members, compact_text, Rules, value_word}
+use Rattle.std.specs.Prelude.{◌-◌, ◌*◌, ◌/◌, min, fold}
 use Rattle.gm_game.specs.Texts.{value_text_of}
 use Rattle.gm_analyse.specs.declared.among.Among.{Among}
 use Rattle.gm_analyse.specs.declared.bars.Form.{Form}
@@ -12,7 +10,6 @@ use Rattle.gm_analyse.specs.declared.bars.Form.TheVariants.{Bars, Csv, Json}
 use Rattle.gm_analyse.specs.declared.by_tier.TierCount.{TierCount}
 use Rattle.gm_analyse.specs.declared.counts.Count.{Count}
 use Rattle.gm_analyse.specs.ByTier.{AreRows}
-use Rattle.gm_play.specs.PlayTexts.{value_word}
 use Rattle.gm_analyse.specs.Tree.{whole}
 
 -- the greatest of the numbers

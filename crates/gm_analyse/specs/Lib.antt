@@ -6,3 +6,4 @@ pub mod LongestWins
 pub mod Tree
 pub mod ByTier
 pub mod Longest
+pub mod Lower

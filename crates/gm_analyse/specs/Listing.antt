@@ -1,7 +1,7 @@
 -- The counts of a table.
-use Rattle.std.specs.Prelude.{◌≡◌, ℕ, ◌<◌, ◌⊎◌, ◌↔◌, List, Option, length}
-use Rattle.std.specs.List.{Contains, AllPairs}
-use Rattle.gm_game.specs.declared.position.Solved.{Solved}
+use Rattle.std.specs.Prelude.{◌≡◌, ℕ, ◌<◌, ◌↔◌, List, Option, length}
+use Rattle.gm_analyse.specs.Lower.{Contains, AllPairs, Solved}
+use Rattle.std.specs.Prelude.{◌⊎◌}
 use Rattle.gm_analyse.specs.declared.counts.Count.{Count}
 use Rattle.gm_analyse.specs.Numbers.{rank, number_in}
 

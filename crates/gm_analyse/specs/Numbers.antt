@@ -1,11 +1,10 @@
 -- How many indexes of a table pass a test.
-use Rattle.std.specs.Prelude.{ℕ, zero, suc, ◌+◌, ◌==◌, Bool, true, false, List, Option, None, Some, if◌then◌else◌}
-use Rattle.gm_game.specs.declared.position.Value.{Value}
-use Rattle.gm_game.specs.declared.position.Value.TheVariants.{Lose, Draw, Tie, Win}
-use Rattle.gm_game.specs.declared.position.Solved.{Solved}
-use Rattle.gm_game.specs.Rules.{Rules, at}
+use Rattle.std.specs.Prelude.{ℕ, ◌+◌, ◌==◌, Bool, true, false, List, Option, None, Some, if◌then◌else◌}
+use Rattle.gm_analyse.specs.Lower.{Value, Lose, Win, Solved, Rules, record_at}
+use Rattle.std.specs.Prelude.{zero, suc}
+use Rattle.gm_game.specs.declared.position.Value.TheVariants.{Draw, Tie}
+use Rattle.gm_game.specs.Rules.{at}
 use Rattle.gm_table.specs.Levels.{is_level}
-use Rattle.gm_table.specs.Tables.{record_at}
 
 -- how many numbers below n pass the test
 abbrev pub count_where : (ℕ → Bool) → ℕ → ℕ

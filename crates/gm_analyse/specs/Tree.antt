@@ -1,9 +1,9 @@
 -- An analysis as a JSON tree.
 use Rattle.std.specs.Prelude.{ℕ, ◌==◌, List, map, codes, Option, None, Some}
+use Rattle.gm_analyse.specs.Lower.{Data, string, object, member, no_members, value_word}
 use Rattle.std.specs.List.{before_first}
-use Rattle.serde_json.specs.Data.{Data, null, number, unsigned, string, array, object, item, no_items, member, no_members}
+use Rattle.serde_json.specs.Data.{null, number, unsigned, array, item, no_items}
 use Rattle.serde_json.specs.View.{items_of}
-use Rattle.gm_play.specs.PlayTexts.{value_word}
 use Rattle.gm_analyse.specs.declared.counts.Count.{Count}
 use Rattle.gm_analyse.specs.declared.analysis.Analysis.{Analysis}
 

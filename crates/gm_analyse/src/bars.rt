@@ -1,7 +1,6 @@
 //! Counts as lines of text: with bars, as CSV, or as JSON.
 ghost use Rattle.std.specs.Prelude.{◌≡◌, ◌≤◌, ◌<◌, ◌++◌, take, IfOk, OnOk, is_some};
-ghost use Rattle.std.specs.Fmt.{decimal};
-ghost use Rattle.std.specs.List.{flat_map};
+ghost use Rattle.gm_analyse.specs.Lower.{decimal, flat_map};
 ghost use Rattle.gm_analyse.specs.Bars.{most as most_spec, bar_length as bar_length_spec, whole_bar, count_row, tier_field, bar_row, csv_head as csv_head_spec};
 ghost use Rattle.gm_analyse.specs.Bars.{csv_row, rows_text as rows_text_spec, IsCountsText};
 
@@ -9,12 +8,12 @@ use crate::among::Among;
 use crate::by_tier::{TierCount, tier_counts};
 use crate::counts::Count;
 use crate::json_rows::json_rows;
-use gm_best::known_tiers::KnownTiers;
 use gm_find::reached::Reached;
 use gm_game::game::Game;
 use gm_game::position::Solved;
 use gm_game::shown::Line;
 use gm_game::text::{push_decimal, value_text};
+use gm_play::known_tiers::KnownTiers;
 use gm_play::texts::{push_field, word_of};
 use std::alloc::{AllocError, Global};
 

@@ -1,16 +1,16 @@
 //! Counts over all tiers together, or tier by tier.
 ghost use Rattle.std.specs.Prelude.{◌≡◌, ◌++◌, ◌∷◌, [], List, map, Some, None, IfOk, OnOk, is_some};
 ghost use Rattle.gm_analyse.specs.declared.counts.Count.{Count as CountData};
-ghost use Rattle.gm_best.specs.Reached.{AreAllHeld};
+ghost use Rattle.gm_play.specs.Reached.{AreAllHeld};
 ghost use Rattle.gm_analyse.specs.Totals.{AreCounts};
 ghost use Rattle.gm_analyse.specs.ByTier.{with_tier as with_tier_spec, AreRows, AreTierRows};
 
 use crate::among::Among;
 use crate::counts::Count;
 use crate::totals::counts;
-use gm_best::known_tiers::KnownTiers;
 use gm_find::reached::Reached;
 use gm_game::game::Game;
+use gm_play::known_tiers::KnownTiers;
 use gm_table::tables::Tables;
 use std::alloc::{AllocError, Global};
 

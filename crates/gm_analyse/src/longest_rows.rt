@@ -1,20 +1,19 @@
 //! The longest wins and the longest losses of some tiers, as rows of positions.
 ghost use Rattle.std.specs.Prelude.{◌≡◌, ◌≤◌, ◌+◌, length, IfOk, is_some};
-ghost use Rattle.gm_game.specs.declared.limits.TheConstants.{REMOTENESS};
-ghost use Rattle.gm_find.specs.Finding.{all_positions};
+ghost use Rattle.gm_analyse.specs.Lower.{REMOTENESS, all_positions};
 ghost use Rattle.gm_analyse.specs.declared.among.Among.TheVariants.{Canonical};
 ghost use Rattle.gm_analyse.specs.Totals.{IsGreatest};
 ghost use Rattle.gm_analyse.specs.Longest.{longest as longest_spec, IsLastAbove, IsLongestRows, IsLongestText};
 
 use crate::among::Among;
 use crate::numbers::numbers_of;
-use gm_best::known_tiers::KnownTiers;
 use gm_find::reached::Reached;
 use gm_find::rows::find_text;
 use gm_find::sought::{Choice, Sought, Span};
 use gm_game::game::Game;
 use gm_game::position::Value;
 use gm_game::shown::Shown;
+use gm_play::known_tiers::KnownTiers;
 use std::alloc::{AllocError, Global};
 
 /// Returns the rows of the longest wins of some tiers, and then of the longest losses: the position, its value, its best move and the number of its moves, with

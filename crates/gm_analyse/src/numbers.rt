@@ -1,19 +1,18 @@
 //! How many positions of a value there are, by remoteness.
-ghost use Rattle.std.specs.Prelude.{◌≡◌, ◌<◌, ◌≤◌, ◌+◌, ◌++◌, ◌∷◌, [], ◌↔◌, ℕ, List, true, max, vec_len, slice_index_or, IfOk, OnOk, IfSome, IsTrue, is_some};
-ghost use Rattle.gm_game.specs.declared.limits.TheConstants.{REMOTENESS};
-ghost use Rattle.gm_game.specs.declared.position.Position.{Position};
+ghost use Rattle.std.specs.Prelude.{◌≡◌, ◌<◌, ◌≤◌, ◌+◌, ◌++◌, ◌∷◌, [], ◌↔◌, ℕ, List, true, max, vec_len, slice_index_or, IfOk, OnOk, IfSome, IsTrue};
+ghost use Rattle.std.specs.Prelude.{is_some};
+ghost use Rattle.gm_analyse.specs.Lower.{REMOTENESS, Position, all_positions, IsReachedByPlay};
 ghost use Rattle.gm_table.specs.Tables.{IsHeld};
-ghost use Rattle.gm_find.specs.Finding.{all_positions, positions_in};
-ghost use Rattle.gm_find.specs.Reaching.{IsReachedByPlay};
+ghost use Rattle.gm_find.specs.Finding.{positions_in};
 ghost use Rattle.gm_analyse.specs.Totals.{AreNumbers, IsLevel, IsRecordAmong};
 
 use crate::among::Among;
-use gm_best::known_tiers::KnownTiers;
 use gm_find::positions::record;
 use gm_find::reached::{Reached, is_in};
 use gm_game::game::Game;
 use gm_game::limits::REMOTENESS;
 use gm_game::position::{Position, Solved, Value};
+use gm_play::known_tiers::KnownTiers;
 use gm_table::tables::Tables;
 use std::alloc::{AllocError, Global};
 

@@ -1,16 +1,16 @@
 //! How many positions of some tiers have each value and remoteness.
 ghost use Rattle.std.specs.Prelude.{◌+◌, IfOk, OnOk, is_some};
+ghost use Rattle.gm_analyse.specs.Lower.{all_positions};
 ghost use Rattle.gm_analyse.specs.Numbers.{rank};
-ghost use Rattle.gm_find.specs.Finding.{all_positions};
 ghost use Rattle.gm_analyse.specs.Totals.{AreCounts, AreCountsBefore};
 
 use crate::among::Among;
 use crate::counts::Count;
 use crate::numbers::numbers_of;
-use gm_best::known_tiers::KnownTiers;
 use gm_find::reached::Reached;
 use gm_game::game::Game;
 use gm_game::position::Value;
+use gm_play::known_tiers::KnownTiers;
 use std::alloc::{AllocError, Global};
 
 /// Counts the positions of some tiers by value and remoteness, in the order Lose, Draw, Tie, Win, then by remoteness: the canonical ones, or all legal ones. If

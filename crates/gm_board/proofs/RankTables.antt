@@ -12,7 +12,7 @@ use Rattle.gm_board.specs.laws.Ranks.{members_le}
 use Rattle.gm_board.specs.Masks.{tests_of, mask_rank}
 use Rattle.gm_board.specs.laws.Masks.{tests_none, tests_more, tests_length, tests_same, mask_rank_at, members_small}
 use Rattle.gm_board.specs.declared.pascal.TheConstants.{ROWS}
-use Rattle.gm_board.specs.declared.ranks.TheConstants.{LOW, HIGH, UPPER}
+use Rattle.gm_board.specs.declared.ranks.TheConstants.{ONES, LOW, HIGH, UPPER}
 use Rattle.gm_board.proofs.PascalRows.{triangle_is}
 
 -- what cells add to a rank that have so many cells and so many members below them
@@ -72,6 +72,10 @@ tests_both (suc n) w a b l =
     ∙ sym (ap (λ (bs : List Bool). bs ++ tests_of w b) (tests_more n a))
 
 -- the tables
+ones_are : map (λ b. members (tests_of 8 b)) (range_with_len 0 256) ≡ ONES
+unfolding tests_of
+ones_are = refl
+
 low_are : map (λ b. rank_by_rows 0 0 (tests_of 8 b)) (range_with_len 0 256) ≡ LOW
 unfolding tests_of
 low_are = refl
@@ -91,6 +95,24 @@ rank_alone (true ∷ bs) =
     (ap₂ (λ (n k : ℕ). binomial n (suc k)) (let e : 0 + length bs ≡ length bs = omega arith in e) (let e : 0 + members bs ≡ members bs = omega arith in e))
     (rank_alone bs)
 rank_alone (false ∷ bs) = rank_alone bs
+
+pub ones_at : (b : ℕ) → b < 256 → get_or ONES b 0 ≡ count_ones b
+ones_at b l =
+    ap (λ (xs : List ℕ). get_or xs b 0) (sym ones_are)
+    ∙ get_or-map-range_with_len (λ (b : ℕ). members (tests_of 8 b)) 0 256 b b 0 l (omega arith)
+    ∙ members_small 8 b l
+
+-- the members of sixteen cells, by bytes
+pub ones_of_both : (mask low high : ℕ) → mask < 2 ^ 16 → low ≡ mask % 256 → high ≡ mask / 2 ^ 8 → count_ones low + count_ones high ≡ count_ones mask
+ones_of_both mask low high f e g =
+    let l : low < 2 ^ 8 = omega (arith, e) in
+    let h : high < 2 ^ 8 = omega (arith, g, f) in
+    let whole : high * 2 ^ 8 + low ≡ mask = omega (arith, e, g) in
+    ap₂ (λ (a b : ℕ). a + b) (sym (members_small 8 low l)) (sym (members_small 8 high h))
+    ∙ sym (members_both (tests_of 8 high) (tests_of 8 low))
+    ∙ sym (ap members (tests_both 8 8 high low l))
+    ∙ ap (λ (v : ℕ). members (tests_of 16 v)) whole
+    ∙ members_small 16 mask f
 
 low_at : (b : ℕ) → b < 256 → get_or LOW b 0 ≡ rank (tests_of 8 b)
 low_at b l =

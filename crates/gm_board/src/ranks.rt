@@ -1,6 +1,18 @@
 //! Ranks of the subsets of up to 25 cells, by parts of their masks.
-ghost use Rattle.std.specs.Prelude.{◌≡◌, ◌<◌, ◌^◌};
+ghost use Rattle.std.specs.Prelude.{◌≡◌, ◌<◌, ◌^◌, count_ones};
 ghost use Rattle.gm_board.specs.Masks.{mask_rank};
+
+/// The number of members of each subset of eight cells.
+const ONES: [u8; 256] = [
+    0, 1, 1, 2, 1, 2, 2, 3, 1, 2, 2, 3, 2, 3, 3, 4, 1, 2, 2, 3, 2, 3, 3, 4, 2, 3, 3, 4, 3, 4, 4, 5,
+    1, 2, 2, 3, 2, 3, 3, 4, 2, 3, 3, 4, 3, 4, 4, 5, 2, 3, 3, 4, 3, 4, 4, 5, 3, 4, 4, 5, 4, 5, 5, 6,
+    1, 2, 2, 3, 2, 3, 3, 4, 2, 3, 3, 4, 3, 4, 4, 5, 2, 3, 3, 4, 3, 4, 4, 5, 3, 4, 4, 5, 4, 5, 5, 6,
+    2, 3, 3, 4, 3, 4, 4, 5, 3, 4, 4, 5, 4, 5, 5, 6, 3, 4, 4, 5, 4, 5, 5, 6, 4, 5, 5, 6, 5, 6, 6, 7,
+    1, 2, 2, 3, 2, 3, 3, 4, 2, 3, 3, 4, 3, 4, 4, 5, 2, 3, 3, 4, 3, 4, 4, 5, 3, 4, 4, 5, 4, 5, 5, 6,
+    2, 3, 3, 4, 3, 4, 4, 5, 3, 4, 4, 5, 4, 5, 5, 6, 3, 4, 4, 5, 4, 5, 5, 6, 4, 5, 5, 6, 5, 6, 6, 7,
+    2, 3, 3, 4, 3, 4, 4, 5, 3, 4, 4, 5, 4, 5, 5, 6, 3, 4, 4, 5, 4, 5, 5, 6, 4, 5, 5, 6, 5, 6, 6, 7,
+    3, 4, 4, 5, 4, 5, 5, 6, 4, 5, 5, 6, 5, 6, 6, 7, 4, 5, 5, 6, 5, 6, 6, 7, 5, 6, 6, 7, 6, 7, 7, 8,
+];
 
 /// What the cells 0 to 7 of a subset add to its rank, for each mask of these cells.
 const LOW: [u16; 256] = [
@@ -188,6 +200,25 @@ const HIGH: [[u16; 256]; 9] = [
     ],
 ];
 
+/// Returns the number of members of a subset of eight cells, by a table: processors without an instruction for it take longer.
+#[inline]
+#[tactic(auto, using(crate::proofs::RankTables::ones_at))]
+fn members_of_8(mask: u32) -> usize
+    requires { mask < 256 }
+    ensures { result ≡ count_ones mask }
+{
+    usize::from(ONES[mask as usize])
+}
+
+/// Returns the number of members of a subset of sixteen cells.
+#[inline]
+fn members_of_16(mask: u32) -> usize
+    requires { mask < 2 ^ 16 }
+    ensures { result ≡ count_ones mask }
+{
+    members_of_8(mask % 256) + members_of_8(mask >> 8)
+}
+
 /// Returns the rank of a subset of sixteen cells among the subsets with equally many cells.
 #[inline]
 pub fn short_rank(mask: u32) -> u64
@@ -196,7 +227,7 @@ pub fn short_rank(mask: u32) -> u64
 {
     let low = mask % 256;
     let high = mask >> 8;
-    u64::from(LOW[low as usize]) + u64::from(HIGH[low.count_ones() as usize][high as usize])
+    u64::from(LOW[low as usize]) + u64::from(HIGH[members_of_8(low)][high as usize])
 }
 
 /// What the cells 16 to 24 of a subset add to its rank, for each number of members among the cells 0 to 15, and each mask of the cells 16 to 24.
@@ -1016,5 +1047,5 @@ pub fn long_rank(mask: u32) -> u64
 {
     let low = mask % (1 << 16);
     let high = mask >> 16;
-    short_rank(low) + u64::from(UPPER[low.count_ones() as usize][high as usize])
+    short_rank(low) + u64::from(UPPER[members_of_16(low)][high as usize])
 }

@@ -5,6 +5,8 @@ use Rattle.gm_build.proofs.Lower.{Contains, Contains-append_left, Contains-push,
 use Rattle.gm_build.proofs.Lower.{HaveTexts, KeepsOthers, IsInspected, HoldsExactly, HoldsToo}
 use Rattle.gm_table.specs.Tables.{table_of, Inserts, IsHeld}
 use Rattle.gm_build.specs.TrueTexts.{IsTrueText, IsOldText}
+use Rattle.gm_build.specs.Outcomes.{MayHaveText}
+use Rattle.gm_tierdb.specs.StoreTexts.{AreSame}
 use Rattle.gm_build.specs.declared.found.Found.{Found}
 use Rattle.gm_build.specs.declared.found.Found.TheVariants.{Current, Old, Nothing}
 use Rattle.gm_build.specs.Findings.{IsFound, IsFoundIn}
@@ -18,6 +20,11 @@ text_kept r old new tier e h = record { bytes = h.bytes; entry = e ∙ h.entry; 
 
 pub old_kept : (r : Rules) (old new : Texts) (tier : ℕ) → new tier ≡ old tier → HasOldText r old tier → HasOldText r new tier
 old_kept r old new tier e h = record { bytes = h.bytes; entry = e ∙ h.entry; is_true = h.is_true }
+
+-- what an entry may be, it may be after a read too
+pub may_have_text : (r : Rules) (old read new : Texts) (t tier : ℕ) → t ≡ tier → AreSame old read → MayHaveText r read new t → MayHaveText r old new tier
+may_have_text r old read new t tier is same here =
+    subst (MayHaveText r old new) is (elim here [ inl e ↦ inl (e ∙ same t) | inr h ↦ inr h ])
 
 -- what a text is, the entry is that has it
 one_entry : (texts : Texts) (tier : ℕ) (bytes others : List ℕ) → texts tier ≡ Some bytes → texts tier ≡ Some others → others ≡ bytes
@@ -94,6 +101,10 @@ holds_too old new table tier is inserts t =
         ],
       )
     ] refl
+
+pub inserted : (old new : List TableData) (table : TableData) (tier : ℕ) → table.tier ≡ tier → Inserts old new table → table_of new tier ≡ Some table
+inserted old new table tier is inserts =
+    inserts tier ∙ ap (λ b. if b then Some table else table_of old tier) (eq-eqb table.tier tier is)
 
 pub holds_more : (old new : List TableData) (front : List ℕ) (tier : ℕ) → HoldsExactly old front → HoldsToo tier old new → HoldsExactly new (front ++ tier ∷ [])
 holds_more old new front tier exact too t = (

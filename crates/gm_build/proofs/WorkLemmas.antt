@@ -1,8 +1,7 @@
 -- How the numbers of a build grow, tier by tier.
 use Rattle.std.proofs.Common.{◌≡◌, ℕ, ◌+◌, ◌*◌, ◌≤◌, ◌↔◌, inl, inr, List, [], ◌∷◌, ◌++◌, map, refl, ap, sym, subst, ◌∙◌, arith}
-use Rattle.gm_build.proofs.Lower.{Contains, Contains-append_left, Contains-push, Contains-push_cases, MOVES, TIER_SIZE, Position, Rules, IsGame}
-use Rattle.gm_build.proofs.Lower.{contains_none, AreDeliveries, IsWorkOn, IsSomeWork, IsDoneBy, IsStepWork, no_work, with_tier}
-use Rattle.gm_build.proofs.Lower.{TierOutcome, Reused, Migrated, Solved, Work}
+use Rattle.gm_build.proofs.Lower.{Contains, Contains-append_left, Contains-push, Contains-push_cases, MOVES, TIER_SIZE, Position, Rules, IsGame, contains_none}
+use Rattle.gm_build.proofs.Lower.{AreDeliveries, IsWorkOn, IsSomeWork, IsDoneBy, IsStepWork, no_work, with_tier, TierOutcome, Reused, Migrated, Solved, Work}
 use Rattle.std.proofs.lemmas.List.{length-map}
 use Rattle.gm_game.specs.Numbers.{AreThere}
 use Rattle.gm_game.proofs.Lists.{contains_first, contains_cases, map_from, map_in}

@@ -1,7 +1,8 @@
 -- What was done with a tier, and the work that this makes.
-use Rattle.std.specs.Prelude.{ℕ, ◌+◌, ◌^◌, ◌<◌, ◌≤◌}
+use Rattle.std.specs.Prelude.{ℕ, ◌+◌, ◌^◌, ◌<◌, ◌≤◌, IfSome}
 use Rattle.gm_build.specs.Lower.{Rules, Texts, AreDeliveries}
 use Rattle.gm_build.specs.TrueTexts.{HasText, HasOldText}
+use Rattle.gm_build.specs.declared.ahead.Ahead.{Ahead}
 use Rattle.gm_build.specs.declared.tier.TierOutcome.{TierOutcome}
 use Rattle.gm_build.specs.declared.tier.TierOutcome.TheVariants.{Reused, Migrated, Solved}
 use Rattle.gm_build.specs.declared.work.Work.{Work}
@@ -21,6 +22,10 @@ abbrev pub IsStepWork : Rules → ℕ → TierOutcome → Type 0
 IsStepWork r tier Reused = Unit {0}
 IsStepWork r tier Migrated = Unit {0}
 IsStepWork r tier (Solved report) = AreDeliveries r tier report.deliveries × (report.by_hand ≤ report.deliveries)
+
+-- what was done for a tier before its turn: the work of the table, if there is one
+abbrev pub IsAhead : {G : Type 0} → Rules → Ahead G → Type 0
+IsAhead r ahead = IfSome ahead.solved (λ s. IsStepWork r s.0.tier (Solved s.1))
 
 -- these numbers of tiers that were solved, reused and migrated, of deliveries, and of those by hand
 abbrev pub work_of : ℕ → ℕ → ℕ → ℕ → ℕ → Work

@@ -8,7 +8,7 @@ ghost use Rattle.gm_build.specs.Work.{IsWorkOn, IsSomeWork, HoldsExactly};
 ghost use Rattle.gm_build.specs.Outcomes.{failures_in, IsBuildError, IsStopped};
 
 use crate::build_error::BuildError;
-use crate::tier::build_tier;
+use crate::tier::Builder;
 use crate::work::Work;
 use gm_game::game::{Game, laws};
 use gm_solver::gate::Gate;
@@ -47,7 +47,8 @@ impl<G: Game> Drop for Built<G> {
 /// Builds a game: the true table of each tier that it reaches, child tiers first. The order of tiers is made before the first read. Then each tier is read
 /// once: a text that `decode` and `check` accept is reused and not written; a text of version 1 that `decode_v1` and `check` accept is migrated, by one write
 /// of the tier's text; otherwise the tier is solved, and its text is written once. By `Plan::new` workers solve every tier, with the gate round each delivery
-/// and the source asked for each piece; by `Plan::fastest` they solve only tiers in which a move stays.
+/// and the source asked for each piece; by `Plan::fastest` they solve only tiers in which a move stays. While the text of a large tier that was solved is made,
+/// the next tier is solved ahead if there are several workers; its table is dropped if its entry is reused or migrated.
 ///
 /// Neither the tables nor the texts nor the number of deliveries depend on the plan, the gate or the source. Of a store that does not keep its map, such as a
 /// folder, nothing is promised about its texts, but the tables are true all the same. The store's count of failures rises exactly if the result is
@@ -105,22 +106,15 @@ pub fn build_from<
     observer: &O,
 ) -> Result<Built<G>, BuildError>
     requires { S.failed store.old < u64.MAX }
-
-    // What is built: the tiers, their true tables, and what was done with them.
     ensures order { IfOk result (λ built. IsOrderFrom G.rules first built.order) }
     ensures held { IfOk result (λ built. HoldsExactly built.tables built.order) }
     ensures tables { IfOk result (λ built. AreTables G.rules built.tables) }
     ensures some_work { IfOk result (λ built. IsSomeWork G.rules built.order built.work) }
-
-    // A store that keeps its map then has the texts of their tables, and nothing else has changed; the tiers that were reused or migrated are those whose text
-    // it had before.
     ensures texts { IsTrue S.KEEPS → IfOk result (λ built. HaveTexts G.rules (S.texts store.new) built.order) }
     ensures others { IsTrue S.KEEPS → IfOk result (λ built. KeepsOthers built.order (S.texts store.old) (S.texts store.new)) }
     ensures work { IsTrue S.KEEPS → IfOk result (λ built. IsWorkOn G.rules built.order
         (HasText G.rules (S.texts store.old)) (HasOldText G.rules (S.texts store.old))
         built.work) }
-
-    // Why the game is not built, and what the store has then.
     ensures error { IfErr result (IsBuildError G.rules first) }
     ensures stopped { IsTrue S.KEEPS → IfErr result (IsStopped G.rules first (S.texts store.old) (S.texts store.new)) }
     ensures count { S.failed store.new ≡ S.failed store.old + failures_in result }
@@ -129,20 +123,21 @@ pub fn build_from<
     observer.begin(rt, order.tiers().len());
     let mut tables = Tables::new(alloc);
     let mut work = Work::none();
+    let builder = Builder {
+        rt,
+        alloc,
+        plan,
+        gate,
+        source,
+        observer,
+    };
+    let mut later = order.tiers().iter().skip(1);
+    let mut ahead = None;
     // By the laws of the game the sum of the deliveries fits.
     laws::<G>();
     for tier in order.tiers() {
-        let outcome = build_tier(
-            rt,
-            alloc,
-            *tier,
-            &mut tables,
-            store,
-            plan,
-            gate,
-            source,
-            observer,
-        )?;
+        let next = later.next().copied();
+        let outcome = builder.build_tier(*tier, next, &mut ahead, &mut tables, store)?;
         work = work.with_tier(outcome);
     }
     // For the proof: the tables that are held are true.

@@ -5,6 +5,7 @@
 //! `specs/` has the definitions that contracts cite, and `proofs/` what follows from them.
 #![tactic(auto)]
 
+mod ahead;
 pub mod build;
 pub mod build_error;
 pub mod found;

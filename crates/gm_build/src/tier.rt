@@ -1,12 +1,13 @@
 //! One tier of a build.
-ghost use Rattle.std.specs.Prelude.{◌≡◌, ◌+◌, ◌<◌, ◌≤◌, IsTrue, IfOk, OnOk, OnErr, IfErr};
+ghost use Rattle.std.specs.Prelude.{◌≡◌, ◌+◌, ◌<◌, ◌≤◌, IsTrue, IfOk, OnOk, OnErr, IfErr, IfSome};
 ghost use Rattle.gm_build.specs.Lower.{AreHeld, AreDeliveries};
 ghost use Rattle.gm_tierdb.specs.StoreTexts.{AreSameBut};
-ghost use Rattle.gm_build.specs.TrueTexts.{HasText};
+ghost use Rattle.gm_build.specs.TrueTexts.{HasText, IsTrueText};
 ghost use Rattle.gm_build.specs.Work.{HoldsToo};
-ghost use Rattle.gm_build.specs.Steps.{IsStep, IsStepWork};
+ghost use Rattle.gm_build.specs.Steps.{IsAhead, IsStep, IsStepWork};
 ghost use Rattle.gm_build.specs.Outcomes.{failures_in, IsTierError, MayHaveText};
 
+use crate::ahead::{Ahead, is_ahead, text_of};
 use crate::build_error::BuildError;
 use crate::found::{Found, load_tier};
 use gm_game::game::Game;
@@ -20,13 +21,12 @@ use gm_solver::source::Source;
 use gm_solver::tier::Report;
 use gm_table::table::Table;
 use gm_table::tables::Tables;
-use gm_tierdb::encode::encode;
 use gm_tierdb::store::Store;
 use gm_tierdb::store_error::StoreError;
-use std::alloc::Global;
+use std::alloc::{AllocError, Global};
 use std::fs::Files;
 use std::sync::Wait;
-use std::thread::Threads;
+use std::thread::{Threads, join};
 
 /// What was done with a tier.
 #[derive(Clone, Copy, Debug, PartialEq, Eq)]
@@ -39,148 +39,204 @@ pub(crate) enum TierOutcome {
     Solved(Report),
 }
 
-/// Puts the true table of a tier into the tables, and ensures that its text is in the store. The tier is solved if the store has no text of its true table in
-/// either version.
-pub(crate) fn build_tier<
-    G: Game + Send + Sync,
-    R: Threads + Wait + Files + Sync,
-    S: Store,
-    T: Gate,
-    P: Source,
-    O: Observer,
->(
+/// Builds tiers: what its calls share.
+#[derive(Drop)]
+pub(crate) struct Builder<'a, R: Threads + Wait + Files + Sync, T: Gate, P: Source, O: Observer> {
+    pub rt: &'a R,
+    pub alloc: Global,
+    pub plan: Plan,
+    pub gate: &'a T,
+    pub source: &'a P,
+    pub observer: &'a O,
+}
+
+impl<R: Threads + Wait + Files + Sync, T: Gate, P: Source, O: Observer> Builder<'_, R, T, P, O> {
+    /// Puts the true table of a tier into the tables, and ensures that its text is in the store. The tier is solved if the store has no text of its true table
+    /// in either version, unless `ahead` has its table. Then `ahead` has what was done for the next tier meanwhile.
+    pub(crate) fn build_tier<G: Game + Send + Sync, S: Store>(
+        &self,
+        tier: u64,
+        next: Option<u64>,
+        ahead: &mut Option<Ahead<G>>,
+        tables: &mut Tables<G>,
+        store: &mut S,
+    ) -> Result<TierOutcome, BuildError>
+        requires held { AreHeld G.rules tables.old tier }
+        requires small { G.rules.tier_size tier ≤ TIER_SIZE }
+        requires few { S.failed store.old < u64.MAX }
+        requires ahead { IfSome ahead.old (IsAhead G.rules) }
+        ensures ahead { IfSome ahead.new (IsAhead G.rules) }
+        ensures held { OnOk result (HoldsToo tier tables.old tables.new) }
+        ensures work { IfOk result (IsStepWork G.rules tier) }
+        ensures step { IsTrue S.KEEPS → IfOk result (IsStep G.rules (S.texts store.old) tier) }
+        ensures text { IsTrue S.KEEPS → OnOk result (HasText G.rules (S.texts store.new) tier) }
+        ensures here { IsTrue S.KEEPS → OnErr result (MayHaveText G.rules (S.texts store.old) (S.texts store.new) tier) }
+        ensures others { IsTrue S.KEEPS → AreSameBut tier (S.texts store.old) (S.texts store.new) }
+        ensures error { IfErr result (IsTierError G.rules tier) }
+        ensures count { S.failed store.new ≡ S.failed store.old + failures_in result }
+    {
+        let done = ahead.take();
+        if done.is_none() {
+            self.observer.read(self.rt, tier);
+        }
+        match load_tier(self.rt, self.alloc, tier, tables, store) {
+            Err(error) => Err(error),
+            Ok(Found::Current(table)) => match tables.insert(table) {
+                Ok(()) => Ok(TierOutcome::Reused),
+                Err(_refused) => Err(BuildError::OutOfMemory),
+            },
+            Ok(Found::Old(table)) => match self.keep(table, None, tables, store) {
+                Ok(_none) => Ok(TierOutcome::Migrated),
+                Err(error) => Err(error),
+            },
+            Ok(Found::Nothing) => {
+                let (table, report) = self.solved(tier, done, tables)?;
+                *ahead = self.keep(table, next, tables, store)?;
+                Ok(TierOutcome::Solved(report))
+            }
+        }
+    }
+
+    // Returns the true table of a tier, which is solved by the method that the plan chooses, unless that was done ahead.
+    fn solved<G: Game + Send + Sync>(
+        &self,
+        tier: u64,
+        done: Option<Ahead<G>>,
+        tables: &Tables<G>,
+    ) -> Result<(Table<G>, Report), BuildError>
+        requires done { IfSome done (IsAhead G.rules) }
+        requires held { AreHeld G.rules tables.now tier }
+        requires small { G.rules.tier_size tier ≤ TIER_SIZE }
+        ensures tier { IfOk result (λ solved. solved.0.tier ≡ tier) }
+        ensures deliveries { IfOk result (λ solved. AreDeliveries G.rules tier solved.1.deliveries) }
+        ensures by_hand { IfOk result (λ solved. solved.1.by_hand ≤ solved.1.deliveries) }
+        ensures error { IfErr result (IsTierError G.rules tier) }
+        ensures count { failures_in result ≡ 0 }
+    {
+        if let Some(
+            Ahead {
+                solved: Some((table, report)),
+            },
+        ) = done
+        {
+            if table.tier() == tier {
+                return Ok((table, report));
+            }
+        }
+        let answer = solve::solve(
+            self.rt,
+            self.alloc,
+            tier,
+            tables,
+            self.plan,
+            self.gate,
+            self.source,
+            self.observer,
+        );
+        match answer {
+            Ok(solved) => Ok(solved),
+            Err(SolveError::OutOfMemory) => Err(BuildError::OutOfMemory),
+            Err(SolveError::TooFar { tier }) => Err(BuildError::TooFar { tier }),
+        }
+    }
+
+    // Holds the table of a tier, and writes its text once. Returns what was done for the next tier while the text was made.
+    fn keep<G: Game + Send + Sync, S: Store>(
+        &self,
+        table: Table<G>,
+        next: Option<u64>,
+        tables: &mut Tables<G>,
+        store: &mut S,
+    ) -> Result<Option<Ahead<G>>, BuildError>
+        requires { S.failed store.old < u64.MAX }
+        ensures ahead { IfOk result (λ ahead. IfSome ahead (IsAhead G.rules)) }
+        ensures held { OnOk result (HoldsToo table.tier tables.old tables.new) }
+        ensures text { IsTrue S.KEEPS → OnOk result (HasText G.rules (S.texts store.new) table.tier) }
+        ensures here { IsTrue S.KEEPS → OnErr result (MayHaveText G.rules (S.texts store.old) (S.texts store.new) table.tier) }
+        ensures others { IsTrue S.KEEPS → AreSameBut table.tier (S.texts store.old) (S.texts store.new) }
+        ensures error { IfErr result (IsTierError G.rules table.tier) }
+        ensures count { S.failed store.new ≡ S.failed store.old + failures_in result }
+    {
+        let tier = table.tier();
+        if let Err(refused) = tables.insert(table) {
+            // The next build reuses the text.
+            let text = text_of(self.alloc, &refused.value);
+            return match write::<G, R, S>(self.rt, tier, text, store) {
+                Ok(()) => Err(BuildError::OutOfMemory),
+                Err(error) => Err(error),
+            };
+        }
+        let Some(table) = tables.table(tier) else {
+            unreachable!()
+        };
+        let (text, ahead) = self.make_text(table, next, tables);
+        match write::<G, R, S>(self.rt, tier, text, store) {
+            Ok(()) => Ok(ahead),
+            Err(error) => Err(error),
+        }
+    }
+
+    // Returns the text of a table. While a long one is made, the next tier is solved.
+    fn make_text<G: Game + Send + Sync>(
+        &self,
+        table: &Table<G>,
+        next: Option<u64>,
+        tables: &Tables<G>,
+    ) -> (Result<Vec<u8>, AllocError>, Option<Ahead<G>>)
+        ensures text { IfOk result.0 (λ text. IsTrueText G.rules table.now.tier text.items) }
+        ensures ahead { IfSome result.1 (IsAhead G.rules) }
+    {
+        let rt = self.rt;
+        let alloc = self.alloc;
+        let plan = self.plan;
+        let gate = self.gate;
+        let source = self.source;
+        let observer = self.observer;
+        match next {
+            Some(next) if is_ahead(table, next, tables, plan) => {
+                observer.read(rt, next);
+                let (text, answer) = join(
+                    rt,
+                    || -> Result<Vec<u8>, AllocError>
+                        ensures { IfOk result (λ text. IsTrueText G.rules table.entry.now.tier text.items) }
+                    { text_of(alloc, table) },
+                    || -> Result<(Table<G>, Report), SolveError>
+                        requires { AreHeld G.rules tables.now next × (G.rules.tier_size next ≤ TIER_SIZE) }
+                        ensures { IfOk result (λ s. AreDeliveries G.rules s.0.tier s.1.deliveries × (s.1.by_hand ≤ s.1.deliveries)) }
+                    { solve::solve(rt, alloc, next, tables, plan, gate, source, observer) },
+                );
+                let solved = match answer {
+                    Ok(solved) => Some(solved),
+                    Err(_error) => None,
+                };
+                (text, Some(Ahead { solved }))
+            }
+            _ => (text_of(alloc, table), None),
+        }
+    }
+}
+
+// Writes the text of a tier once, if there was memory for it.
+fn write<G: Game, R: Files, S: Store>(
     rt: &R,
-    alloc: Global,
     tier: u64,
-    tables: &mut Tables<G>,
+    text: Result<Vec<u8>, AllocError>,
     store: &mut S,
-    plan: Plan,
-    gate: &T,
-    source: &P,
-    observer: &O,
-) -> Result<TierOutcome, BuildError>
-    requires held { AreHeld G.rules tables.old tier }
-    requires small { G.rules.tier_size tier ≤ TIER_SIZE }
+) -> Result<(), BuildError>
+    requires text { IfOk text (λ t. IsTrueText G.rules tier t.items) }
     requires few { S.failed store.old < u64.MAX }
-    ensures held { OnOk result (HoldsToo tier tables.old tables.new) }
-    ensures work { IfOk result (IsStepWork G.rules tier) }
-    ensures step { IsTrue S.KEEPS → IfOk result (IsStep G.rules (S.texts store.old) tier) }
     ensures text { IsTrue S.KEEPS → OnOk result (HasText G.rules (S.texts store.new) tier) }
     ensures here { IsTrue S.KEEPS → OnErr result (MayHaveText G.rules (S.texts store.old) (S.texts store.new) tier) }
     ensures others { IsTrue S.KEEPS → AreSameBut tier (S.texts store.old) (S.texts store.new) }
     ensures error { IfErr result (IsTierError G.rules tier) }
     ensures count { S.failed store.new ≡ S.failed store.old + failures_in result }
 {
-    observer.read(rt, tier);
-    match load_tier(rt, alloc, tier, tables, store)? {
-        Found::Current(table) => {
-            hold(table, tables)?;
-            Ok(TierOutcome::Reused)
-        }
-        Found::Old(table) => {
-            keep(rt, alloc, table, tables, store)?;
-            Ok(TierOutcome::Migrated)
-        }
-        Found::Nothing => {
-            let (table, report) = solve_tier(
-                rt, alloc, tier, tables, plan, gate, source, observer,
-            )?;
-            keep(rt, alloc, table, tables, store)?;
-            Ok(TierOutcome::Solved(report))
-        }
-    }
-}
-
-// Solves a tier by the method that the plan chooses.
-fn solve_tier<
-    G: Game + Send + Sync,
-    R: Threads + Wait + Files + Sync,
-    T: Gate,
-    P: Source,
-    O: Observer,
->(
-    rt: &R,
-    alloc: Global,
-    tier: u64,
-    tables: &Tables<G>,
-    plan: Plan,
-    gate: &T,
-    source: &P,
-    observer: &O,
-) -> Result<(Table<G>, Report), BuildError>
-    requires held { AreHeld G.rules tables.now tier }
-    requires small { G.rules.tier_size tier ≤ TIER_SIZE }
-    ensures tier { IfOk result (λ solved. solved.0.tier ≡ tier) }
-    ensures deliveries { IfOk result (λ solved. AreDeliveries G.rules tier solved.1.deliveries) }
-    ensures by_hand { IfOk result (λ solved. solved.1.by_hand ≤ solved.1.deliveries) }
-    ensures error { IfErr result (IsTierError G.rules tier) }
-    ensures count { failures_in result ≡ 0 }
-{
-    match solve::solve(rt, alloc, tier, tables, plan, gate, source, observer) {
-        Ok(solved) => Ok(solved),
-        Err(SolveError::OutOfMemory) => Err(BuildError::OutOfMemory),
-        Err(SolveError::TooFar { tier }) => Err(BuildError::TooFar { tier }),
-    }
-}
-
-// Writes the text of a tier once, and holds its table.
-fn keep<G: Game, R: Files, S: Store>(
-    rt: &R,
-    alloc: Global,
-    table: Table<G>,
-    tables: &mut Tables<G>,
-    store: &mut S,
-) -> Result<(), BuildError>
-    requires { S.failed store.old < u64.MAX }
-    ensures held { OnOk result (HoldsToo table.tier tables.old tables.new) }
-    ensures text { IsTrue S.KEEPS → OnOk result (HasText G.rules (S.texts store.new) table.tier) }
-    ensures here { IsTrue S.KEEPS → OnErr result (MayHaveText G.rules (S.texts store.old) (S.texts store.new) table.tier) }
-    ensures others { IsTrue S.KEEPS → AreSameBut table.tier (S.texts store.old) (S.texts store.new) }
-    ensures error { IfErr result (IsTierError G.rules table.tier) }
-    ensures count { S.failed store.new ≡ S.failed store.old + failures_in result }
-{
-    match write(rt, alloc, &table, store) {
-        Ok(()) => hold(table, tables),
-        Err(error) => {
-            drop(table);
-            Err(error)
-        }
-    }
-}
-
-// Writes the text of a tier once.
-fn write<G: Game, R: Files, S: Store>(
-    rt: &R,
-    alloc: Global,
-    table: &Table<G>,
-    store: &mut S,
-) -> Result<(), BuildError>
-    requires { S.failed store.old < u64.MAX }
-    ensures text { IsTrue S.KEEPS → OnOk result (HasText G.rules (S.texts store.new) table.now.tier) }
-    ensures here { IsTrue S.KEEPS → OnErr result (MayHaveText G.rules (S.texts store.old) (S.texts store.new) table.now.tier) }
-    ensures others { IsTrue S.KEEPS → AreSameBut table.now.tier (S.texts store.old) (S.texts store.new) }
-    ensures error { IfErr result (IsTierError G.rules table.now.tier) }
-    ensures count { S.failed store.new ≡ S.failed store.old + failures_in result }
-{
-    let tier = table.tier();
-    let text = match encode(alloc, table) {
-        Ok(text) => text,
-        Err(_refused) => return Err(BuildError::OutOfMemory),
+    let Ok(text) = text else {
+        return Err(BuildError::OutOfMemory);
     };
     match store.write(rt, tier, text.as_slice()) {
         Ok(()) => Ok(()),
         Err(StoreError::OutOfMemory) => Err(BuildError::OutOfMemory),
         Err(StoreError::Failed) => Err(BuildError::StoreFailed { tier }),
-    }
-}
-
-// Holds a table.
-fn hold<G: Game>(table: Table<G>, tables: &mut Tables<G>) -> Result<(), BuildError>
-    ensures held { OnOk result (HoldsToo table.tier tables.old tables.new) }
-    ensures error { IfErr result (λ e. e ≡ BuildError.OutOfMemory) }
-{
-    match tables.insert(table) {
-        Ok(()) => Ok(()),
-        Err(_refused) => Err(BuildError::OutOfMemory),
     }
 }

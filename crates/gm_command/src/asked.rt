@@ -11,8 +11,8 @@ use crate::requests::{
 use crate::search_commands::{asked_of_each, search_of, sought_of};
 use clap::error::ErrorKind;
 use clap::{ArgMatches, Error};
-use gm_best::side::Side;
 use gm_game::text::read_decimal;
+use gm_play::sides::Side;
 use gm_solver::plan::Plan;
 use std::alloc::Global;
 use std::fmt;

@@ -4,9 +4,9 @@ use crate::asked::Help;
 use crate::manual::Manual;
 use gm_analyse::among::Among;
 use gm_analyse::bars::Form as CountsForm;
-use gm_best::side::Side;
 use gm_find::sought::{Choice, Sought};
 use gm_json::asked::Asked as PositionJson;
+use gm_play::sides::Side;
 use gm_solver::plan::Plan;
 
 /// The place where the tables of a game are kept.

@@ -9,7 +9,7 @@ use Rattle.gm_game.specs.declared.position.End.TheVariants.{Lose, Win}
 use Rattle.gm_game.specs.declared.position.Position.{Position}
 use Rattle.gm_game.specs.Rules.{Rules}
 use Rattle.gm_board.specs.Squares.{cell_text}
-use Rattle.gm_small.specs.Small.{SmallGame, small_rules}
+use Rattle.gm_pieces.specs.Small.{SmallGame, small_rules}
 
 -- ---- crews
 -- a crew has a car on a cell, or off the board for 9

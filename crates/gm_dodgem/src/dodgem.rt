@@ -12,9 +12,9 @@ use gm_game::limits::NAME;
 use gm_game::position::End;
 use gm_game::shown::{Line, Shown};
 use gm_game::text::push_text;
+use gm_pieces::on_numbers::OnNumbers;
+use gm_pieces::small_rules::SmallRules;
 use gm_pieces::text::has_mark;
-use gm_small::on_numbers::OnNumbers;
-use gm_small::rules::SmallRules;
 
 /// A car that is off the board.
 const OFF: u64 = 9;

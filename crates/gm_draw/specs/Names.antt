@@ -4,8 +4,8 @@ use Rattle.gm_game.specs.declared.position.Position.{Position}
 use Rattle.gm_morris.specs.declared.variant.Variant.{Variant}
 use Rattle.gm_morris.specs.declared.variant.Variant.TheVariants.{TicTacToe, ThreeMens, Achi}
 use Rattle.gm_hare.specs.Board.{hunt_board}
-use Rattle.gm_chess.specs.Chess.{board as men_at}
-use Rattle.gm_foxhounds.specs.FoxHounds.{board as chase_at}
+use Rattle.gm_squares.specs.Chess.{board as men_at}
+use Rattle.gm_squares.specs.FoxHounds.{board as chase_at}
 
 -- the side to move, in games whose positions are seen from the side to move
 abbrev pub x_moves : Position → List ℕ

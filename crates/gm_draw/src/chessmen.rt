@@ -1,8 +1,8 @@
 //! The games on the board of chess: king and rook, and king and queen, against king; Fox and Hounds.
 ghost use Rattle.std.specs.Prelude.{◌≡◌, codes, ◌≤◌, ◌<◌, [], length, slice_index_or};
 ghost use Rattle.gm_pieces.specs.MoveTexts.{position_text};
-ghost use Rattle.gm_chess.specs.Chess.{ending, board_text};
-ghost use Rattle.gm_foxhounds.specs.FoxHounds.{fox_and_hounds, board_text as chase_text};
+ghost use Rattle.gm_squares.specs.Chess.{ending, board_text};
+ghost use Rattle.gm_squares.specs.FoxHounds.{fox_and_hounds, board_text as chase_text};
 ghost use Rattle.gm_draw.specs.declared.pictured.Style.TheVariants.{Chess, Hounds};
 ghost use Rattle.gm_draw.specs.Chessboards.{chess_board, chess_points};
 ghost use Rattle.gm_draw.specs.ChessDrawings.{chess_drawing};
@@ -14,12 +14,12 @@ ghost use Rattle.gm_draw.specs.laws.Hounds.{chase_drawn, chase_pictured};
 use crate::chessboard;
 use crate::drawn::{DRAWING, Drawing, Drawn};
 use crate::pictured::{Pictured, Style, line_of};
-use gm_chess::chess::ChessRules;
-use gm_foxhounds::foxhounds::{FoxHounds, FoxRules};
 use gm_game::position::Position;
 use gm_game::shown::{Line, Shown};
 use gm_pieces::on_boards::OnBoards;
 use gm_pieces::rules::MoveRules;
+use gm_squares::chess::ChessRules;
+use gm_squares::foxhounds::{FoxHounds, FoxRules};
 
 // Returns the name of a side.
 fn side_name(white: bool) -> &'static [u8]

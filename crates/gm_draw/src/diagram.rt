@@ -9,9 +9,9 @@ use crate::frame::{Frame, frame_of};
 use crate::markup::push_escaped;
 use crate::pictured::{Pictured, Style};
 use crate::svg::{push_at, push_men, push_net, push_number, push_words};
-use gm_best::known::Known;
 use gm_game::position::{Position, Solved};
 use gm_game::text::value_text;
+use gm_play::known::Known;
 use std::alloc::{AllocError, Global};
 
 /// Returns the SVG document of a position: its board with the men in their places, and under it the side to move. If `valued` is

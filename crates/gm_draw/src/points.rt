@@ -7,8 +7,8 @@ ghost use Rattle.gm_hare.specs.Texts.{position_text as hare_text};
 ghost use Rattle.gm_draw.specs.Templates.{filled};
 ghost use Rattle.gm_ways.specs.WayTexts.{way_text};
 ghost use Rattle.gm_pong.specs.PongRules.{pong};
-ghost use Rattle.gm_shisima.specs.ShisimaRules.{shisima};
-ghost use Rattle.gm_tapatan.specs.TapatanRules.{tapatan};
+ghost use Rattle.gm_ways.specs.ShisimaRules.{shisima};
+ghost use Rattle.gm_ways.specs.TapatanRules.{tapatan};
 ghost use Rattle.gm_draw.specs.Pictures.{ring_board, pong_board, tapatan_board, hare_board};
 ghost use Rattle.gm_draw.specs.Names.{x_moves, hare_mover, ring_naming, pong_naming, tapatan_naming, hare_naming};
 ghost use Rattle.gm_draw.specs.laws.Drawn.{ring_drawn, pong_drawn, shisima_drawn, tapatan_drawn, hare_drawn};
@@ -24,8 +24,8 @@ use gm_hare::hare::Hare;
 use gm_hare::hunt::hunt_at;
 use gm_mutorere::mutorere::MuTorere;
 use gm_pong::pong::Pong;
-use gm_shisima::shisima::Shisima;
-use gm_tapatan::tapatan::Tapatan;
+use gm_ways::shisima::Shisima;
+use gm_ways::tapatan::Tapatan;
 
 /// The board of Mu Torere and Shisima: point 0 is at the top, and the ring is numbered clockwise.
 const RING: &[u8] = b"H---A---B\n| \\ | / |\nG---I---C\n| / | \\ |\nF---E---D";

@@ -15,8 +15,8 @@ use arrayvec::ArrayVec;
 use gm_game::position::Position;
 use gm_game::shown::Line;
 use gm_game::text::push_decimal;
-use gm_takeaway::takeaway::Takeaway;
 use gm_toys::countdown::Countdown;
+use gm_toys::takeaway::Takeaway;
 use gm_toys::wheel::Wheel;
 
 // Returns the numbers of Countdown with the current one in brackets, and its moves.

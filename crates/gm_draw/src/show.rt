@@ -3,9 +3,9 @@ ghost use Rattle.std.specs.Prelude.{◌≡◌, ◌++◌, codes, true, OnOk, IfOk
 ghost use Rattle.gm_draw.specs.ShowTexts.{board_text, naming_text, first_move, explained_text, IsShowText};
 
 use crate::drawn::Drawn;
-use gm_best::known::Known;
 use gm_game::position::{Position, Solved};
 use gm_game::text::value_text;
+use gm_play::known::Known;
 use std::alloc::{AllocError, Global};
 
 /// Returns the board of a position, and a line with the side to move and the true value. If `explained` is set, a description of

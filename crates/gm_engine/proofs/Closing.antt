@@ -3,7 +3,7 @@ use Rattle.std.proofs.Common.{◌≡◌, ◌==◌, ℕ, ◌⊎◌, ◌↔◌, in
 use Rattle.std.proofs.Common.{eqb-true, eq-eqb}
 use Rattle.gm_game.specs.Rules.{Rules}
 use Rattle.gm_table.specs.Tables.{TableData, table_of, Inserts, IsHeld, AreHeld}
-use Rattle.gm_best.specs.Reached.{IsBelow, AreClosed}
+use Rattle.gm_play.specs.Reached.{IsBelow, AreClosed}
 
 module _ (old new : List TableData) (table : TableData) (inserts : Inserts old new table) where
   pub held_too : (t : ℕ) → IsHeld new t ↔ (IsHeld old t ⊎ (table.tier ≡ t))

@@ -7,19 +7,19 @@ use Rattle.gm_ways.specs.WayTexts.{way_text, way_move_text}
 use Rattle.gm_toys.specs.Subtraction.{number_text, step_text}
 use Rattle.gm_toys.specs.Countdown.{countdown}
 use Rattle.gm_toys.specs.Wheel.{wheel, target_text}
-use Rattle.gm_takeaway.specs.Takeaway.{takeaway}
+use Rattle.gm_toys.specs.Takeaway.{takeaway}
 use Rattle.gm_morris.specs.Morris.{morris_rules}
 use Rattle.gm_morris.specs.Texts.{position_text as nine_text, move_text as nine_move_text}
 use Rattle.gm_mutorere.specs.laws.RingTables.{ring_game}
 use Rattle.gm_pieces.specs.MoveTexts.{position_text, move_text}
-use Rattle.gm_chess.specs.Chess.{ending, chess_rules, board_text, step_text as man_move}
+use Rattle.gm_squares.specs.Chess.{ending, chess_rules, board_text, step_text as man_move}
 use Rattle.gm_dao.specs.DaoRules.{dao_rules}
 use Rattle.gm_dao.specs.Texts.{position_text as dao_text, move_text as dao_move_text}
 use Rattle.gm_hare.specs.Board.{hare_rules}
 use Rattle.gm_hare.specs.Texts.{position_text as hare_text, move_text as hare_move_text}
 use Rattle.gm_pong.specs.PongRules.{pong, pong_rules}
-use Rattle.gm_shisima.specs.ShisimaRules.{shisima, shisima_rules}
-use Rattle.gm_tapatan.specs.TapatanRules.{tapatan, tapatan_rules}
+use Rattle.gm_ways.specs.ShisimaRules.{shisima, shisima_rules}
+use Rattle.gm_ways.specs.TapatanRules.{tapatan, tapatan_rules}
 use Rattle.gm_dodgem.specs.Dodgem.{dodgem_rules, dodgem_text, dodgem_move}
 use Rattle.gm_tactix.specs.Board.{tactix_rules}
 use Rattle.gm_engine.specs.declared.width.Width.{Width}

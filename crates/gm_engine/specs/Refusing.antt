@@ -12,7 +12,7 @@ use Rattle.gm_table.specs.Solving.{AreDeliveries}
 use Rattle.gm_tiers.specs.Orders.{IsTierOrder}
 use Rattle.gm_tiers.specs.Search.{search_of}
 use Rattle.gm_tiers.specs.declared.tier_error.TierError.{TierError}
-use Rattle.gm_best.specs.Places.{IsAt}
+use Rattle.gm_play.specs.Places.{IsAt}
 use Rattle.gm_json.specs.Asking.{AreAnswers, lines_of}
 use Rattle.gm_engine.specs.Records.{IsTrueTier, AreTrue, room, farthest}
 use Rattle.gm_engine.specs.declared.width.Width.{Width}

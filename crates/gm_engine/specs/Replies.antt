@@ -3,7 +3,7 @@ use Rattle.std.specs.Prelude.{◌≡◌, ℕ, ◌<◌, ◌+◌, ◌⊎◌, List,
 use Rattle.gm_game.specs.declared.position.Position.{Position}
 use Rattle.gm_table.specs.Solving.{AreDeliveries}
 use Rattle.gm_tiers.specs.Orders.{IsTierOrder}
-use Rattle.gm_best.specs.Places.{IsAt}
+use Rattle.gm_play.specs.Places.{IsAt}
 use Rattle.gm_json.specs.Asking.{AreAnswers, lines_of}
 use Rattle.gm_engine.specs.Games.{PlayedGame}
 use Rattle.gm_engine.specs.Records.{IsTrueTier, AreTrue}

@@ -9,19 +9,19 @@ use crate::replies::{
     width_reply,
 };
 use crate::width::Width;
-use gm_chess::chess::{Kqk, Krk};
 use gm_dao::dao::Dao;
 use gm_dodgem::dodgem::Dodgem;
 use gm_hare::hare::Hare;
 use gm_morris::games::{Achi, ThreeMens, TicTacToe};
 use gm_mutorere::mutorere::MuTorere;
 use gm_pong::pong::Pong;
-use gm_shisima::shisima::Shisima;
+use gm_squares::chess::{Kqk, Krk};
 use gm_tactix::tactix::TacTix;
-use gm_takeaway::takeaway::Takeaway;
-use gm_tapatan::tapatan::Tapatan;
 use gm_toys::countdown::Countdown;
+use gm_toys::takeaway::Takeaway;
 use gm_toys::wheel::Wheel;
+use gm_ways::shisima::Shisima;
+use gm_ways::tapatan::Tapatan;
 use std::alloc::Global;
 
 // Calls a function of the game with this number, with the width of its records as the first argument; if there is no such game, the

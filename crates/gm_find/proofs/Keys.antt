@@ -1,12 +1,10 @@
 -- Pairs of numbers in a set.
-use Rattle.std.proofs.Common.{◌≡◌, ℕ, Bool, true, false, ◌&&◌, nat_eq, List, [], ◌∷◌, ◌++◌, cond, refl, sym, ap, ◌∙◌, ◌⊎◌, inl, inr, subst, eqb-true, eq-eqb}
-use Rattle.std.specs.List.{Contains, list_any}
+use Rattle.gm_find.proofs.Lower.{◌≡◌, ℕ, Bool, true, false, nat_eq, List, [], ◌∷◌, ◌++◌, refl, sym, ap, ◌∙◌, ◌⊎◌, inl, inr, subst, eqb-true, eq-eqb, Contains}
+use Rattle.gm_find.proofs.Lower.{Contains-append_left, Contains-push, Contains-push_cases, Position, at, IsGrown, AreWaiting, key_of}
+use Rattle.std.proofs.Common.{◌&&◌, cond}
+use Rattle.std.specs.List.{list_any}
 use Rattle.std.proofs.lemmas.Bool.{and_parts, and_from}
-use Rattle.std.proofs.lemmas.List.Elements.{Contains-append_left, Contains-push, Contains-push_cases}
-use Rattle.gm_game.specs.declared.position.Position.{Position}
-use Rattle.gm_game.specs.Rules.{at}
 use Rattle.gm_game.proofs.Lists.{any_in, any_from}
-use Rattle.gm_find.specs.Reaching.{IsGrown, AreWaiting, key_of}
 
 -- the test of a key
 abbrev pub is_key : ℕ → ℕ → ℕ × ℕ → Bool

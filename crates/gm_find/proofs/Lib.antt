@@ -5,3 +5,4 @@ pub mod Keys
 pub mod Searching
 pub mod Telling
 pub mod Picking
+pub mod Lower

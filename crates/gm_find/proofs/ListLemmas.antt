@@ -1,11 +1,9 @@
 -- The elements of a list that have a property, with one element or list more.
-use Rattle.std.proofs.Common.{◌≡◌, ℕ, zero, suc, ◌<◌, ◌≤◌, ◌+◌, ◌-◌, inl, inr, List, [], ◌∷◌, ◌++◌, map, take, length, refl, sym, ap, ◌∙◌, subst, arith}
-use Rattle.std.proofs.Common.{append_assoc, length-append}
-use Rattle.std.specs.List.{Contains, range_with_len}
+use Rattle.gm_find.proofs.Lower.{◌≡◌, ℕ, zero, suc, ◌<◌, ◌≤◌, ◌+◌, ◌-◌, inl, inr, List, [], ◌∷◌, ◌++◌, map, take, length, refl, sym, ap, ◌∙◌, subst, arith}
+use Rattle.gm_find.proofs.Lower.{length-append, Contains, range_with_len, IsAscending, contains_none, contains_first, contains_later, contains_cases, AreThose}
+use Rattle.gm_find.proofs.Lower.{IsFirst}
+use Rattle.std.proofs.Common.{append_assoc}
 use Rattle.std.proofs.lemmas.Bool.{cases_lt}
-use Rattle.gm_game.specs.Rules.{IsAscending}
-use Rattle.gm_game.proofs.Lists.{contains_none, contains_first, contains_later, contains_cases}
-use Rattle.gm_find.specs.Lists.{AreThose, IsFirst}
 
 module _ {A : Type 0} (P : A → Type 0) where
   -- one element more, which has the property or not

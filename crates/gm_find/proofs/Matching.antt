@@ -1,28 +1,19 @@
 -- What is known of sought positions.
-use Rattle.std.proofs.Common.{◌≡◌, ℕ, suc, ◌↔◌, inl, inr, ◌==◌, if◌then◌else◌, eqb-true, Bool, true, false, List, ◌∷◌, [], length, refl, sym}
-use Rattle.std.proofs.Common.{ap, ◌∙◌, subst, arith, IsTrue, Option, None, Some}
-use Rattle.std.specs.List.{Contains}
+use Rattle.gm_find.proofs.Lower.{◌≡◌, ℕ, suc, ◌↔◌, inl, inr, eqb-true, Bool, true, false, List, ◌∷◌, [], length, refl, sym, ap, ◌∙◌, subst, arith, IsTrue}
+use Rattle.gm_find.proofs.Lower.{Option, None, Some, Contains, Position, Solved, Value, Win, IsGame, Rules, at, IsAscending, HasValue, IsTrueValue}
+use Rattle.gm_find.proofs.Lower.{HasValue_once, TableData, Aim, Keep, WinIn, Sought, AreThose, IsMatch, IsOnlyLine, Achieves}
+use Rattle.std.proofs.Common.{◌==◌, if◌then◌else◌}
 use Rattle.std.proofs.lemmas.Option.{same_Some}
 use Rattle.gm_game.specs.declared.limits.TheConstants.{REMOTENESS}
-use Rattle.gm_game.specs.declared.position.Position.{Position}
 use Rattle.gm_game.specs.declared.position.Phase.{Phase}
 use Rattle.gm_game.specs.declared.position.Phase.TheVariants.{WinLose, Ties}
-use Rattle.gm_game.specs.declared.position.Solved.{Solved}
-use Rattle.gm_game.specs.declared.position.Value.{Value}
-use Rattle.gm_game.specs.declared.position.Value.TheVariants.{Lose, Draw, Tie, Win}
-use Rattle.gm_game.specs.Laws.{IsGame}
+use Rattle.gm_game.specs.declared.position.Value.TheVariants.{Lose, Draw, Tie}
 use Rattle.gm_game.specs.Places.{StandsAt}
 use Rattle.gm_game.specs.Records.{IsRecord}
-use Rattle.gm_game.specs.Rules.{Rules, at, IsCanonical, IsAscending}
-use Rattle.gm_game.specs.Values.{HasValue, IsTrueValue}
-use Rattle.gm_game.proofs.Basic.{HasValue_once}
-use Rattle.gm_table.specs.Tables.{TableData, IsHeld}
-use Rattle.gm_find.specs.declared.only.Aim.{Aim}
-use Rattle.gm_find.specs.declared.only.Aim.TheVariants.{Keep, WinIn}
-use Rattle.gm_find.specs.declared.sought.Sought.{Sought}
+use Rattle.gm_game.specs.Rules.{IsCanonical}
+use Rattle.gm_table.specs.Tables.{IsHeld}
 use Rattle.gm_find.specs.declared.sought.Span.{Span}
-use Rattle.gm_find.specs.Lists.{AreThose}
-use Rattle.gm_find.specs.Finding.{IsMatch, IsAskedFor, IsValueOf, IsFitting, IsOnlyLine, level_of, place_for, kept_by, Achieves, IsAchievedBy, HasOnlyMove}
+use Rattle.gm_find.specs.Finding.{IsAskedFor, IsValueOf, IsFitting, level_of, place_for, kept_by, IsAchievedBy, HasOnlyMove}
 use Rattle.gm_find.proofs.ListLemmas.{those_once, IsRun}
 
 -- the one remoteness, if there is one

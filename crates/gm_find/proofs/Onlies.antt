@@ -1,21 +1,9 @@
 -- Moves that achieve an aim, up to symmetry, and wins in which there is one at each turn.
-use Rattle.std.proofs.Common.{◌≡◌, ℕ, zero, suc, ◌<◌, ◌≤◌, ◌+◌, ◌-◌, ◌↔◌, ◌⊎◌, inl, inr, Bool, IsTrue, List, [], ◌∷◌, ◌++◌, take, get_or, length, refl, sym}
-use Rattle.std.proofs.Common.{◌∙◌, subst, arith, Option, None, Some}
-use Rattle.std.specs.List.{Contains}
-use Rattle.std.specs.Option.{is_some}
-use Rattle.std.proofs.lemmas.List.{take_more}
-use Rattle.std.proofs.lemmas.List.Elements.{Contains-push_cases, Contains-append_left, Contains-push}
-use Rattle.gm_game.specs.declared.position.Position.{Position}
-use Rattle.gm_game.specs.declared.position.Solved.{Solved}
-use Rattle.gm_game.specs.declared.position.Value.{Value}
-use Rattle.gm_game.specs.declared.position.Value.TheVariants.{Win}
-use Rattle.gm_game.specs.Rules.{Rules}
-use Rattle.gm_game.specs.Values.{HasValue, IsTrueValue}
-use Rattle.gm_game.proofs.Basic.{HasValue_once}
-use Rattle.gm_game.proofs.Lists.{contains_none, contains_first, contains_later, contains_cases}
-use Rattle.gm_find.specs.declared.only.Aim.{Aim}
-use Rattle.gm_find.specs.declared.only.Aim.TheVariants.{Keep, WinIn}
-use Rattle.gm_find.specs.Finding.{Achieves, AgreesWith, HasOnly, HasOnlyFastest, HasOnlyResult, IsOnlyWin, IsOnlyAfter, IsOnlyLine}
+use Rattle.gm_find.proofs.Lower.{◌≡◌, ℕ, zero, suc, ◌<◌, ◌≤◌, ◌+◌, ◌-◌, ◌↔◌, ◌⊎◌, inl, inr, Bool, IsTrue, List, [], ◌∷◌, ◌++◌, take, get_or, length, refl, sym}
+use Rattle.gm_find.proofs.Lower.{◌∙◌, subst, arith, Option, None, Some, Contains, is_some, take_more, Contains-push_cases, Contains-append_left, Contains-push}
+use Rattle.gm_find.proofs.Lower.{Position, Solved, Value, Win, Rules, HasValue, IsTrueValue, HasValue_once, contains_none, contains_first, contains_later}
+use Rattle.gm_find.proofs.Lower.{contains_cases, Aim, Keep, WinIn, Achieves, HasOnly, IsOnlyWin, IsOnlyAfter, IsOnlyLine}
+use Rattle.gm_find.specs.Finding.{AgreesWith, HasOnlyFastest, HasOnlyResult}
 
 -- c is the canonical position of the result of one of these moves that achieves the aim
 abbrev pub IsAchievedAmong : Rules → Aim → Position → List ℕ → Position → Type 0

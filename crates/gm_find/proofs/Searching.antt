@@ -1,14 +1,10 @@
 -- What a search for reached positions keeps.
-use Rattle.std.proofs.Common.{◌≡◌, ℕ, ◌<◌, ◌+◌, ◌⊎◌, inl, inr, true, List, [], ◌∷◌, ◌++◌, length, take, get_or, refl, sym, ap, ◌∙◌, subst, arith}
-use Rattle.std.specs.List.{Contains}
-use Rattle.std.proofs.lemmas.List.{take_more}
-use Rattle.std.proofs.lemmas.List.Elements.{Contains-append_left, Contains-push_cases, Contains-push}
-use Rattle.gm_game.specs.declared.position.Position.{Position}
-use Rattle.gm_game.specs.Laws.{IsGame}
-use Rattle.gm_game.specs.Rules.{Rules, children, IsCanonicalChild}
-use Rattle.gm_game.proofs.Lists.{map_from, map_in, contains_none}
+use Rattle.gm_find.proofs.Lower.{◌≡◌, ℕ, ◌<◌, ◌+◌, ◌⊎◌, inl, inr, true, List, [], ◌∷◌, ◌++◌, length, take, get_or, refl, sym, ap, ◌∙◌, subst, arith, Contains}
+use Rattle.gm_find.proofs.Lower.{take_more, Contains-append_left, Contains-push_cases, Contains-push, Position, IsGame, Rules, map_from, map_in, contains_none}
+use Rattle.gm_find.proofs.Lower.{IsGrown, AreWaiting, key_of}
+use Rattle.gm_game.specs.Rules.{children, IsCanonicalChild}
 use Rattle.gm_play.specs.Lines.{position_after}
-use Rattle.gm_find.specs.Reaching.{IsPlay, IsReachedByPlay, AreReached, IsGrown, AreWaiting, key_of}
+use Rattle.gm_find.specs.Reaching.{IsPlay, IsReachedByPlay, AreReached}
 
 -- a line with one move more
 play_more : (r : Rules) (p : Position) (ms : List ℕ) (m : ℕ) → IsPlay r p ms → Contains (r.moves (position_after r p ms)) m → IsPlay r p (ms ++ m ∷ [])

@@ -1,19 +1,14 @@
 -- What is reported of found positions.
-use Rattle.std.proofs.Common.{◌≡◌, ℕ, zero, suc, inl, inr, Bool, true, List, [], ◌∷◌, map, get_or, ap, subst, Result, Ok, Err, IfOk}
-use Rattle.std.specs.List.{All, Contains, range_with_len}
-use Rattle.std.proofs.lemmas.List.Elements.{Contains-get_or, Contains-append_cases, All-contains}
-use Rattle.gm_game.specs.declared.position.Position.{Position}
-use Rattle.gm_game.specs.Rules.{Rules, at}
-use Rattle.gm_game.proofs.Lists.{contains_none, contains_first, contains_later, contains_cases, map_in, map_from}
-use Rattle.gm_table.specs.Tables.{TableData}
-use Rattle.gm_best.specs.Reached.{AreAllHeld}
+use Rattle.gm_find.proofs.Lower.{◌≡◌, ℕ, zero, suc, inl, inr, Bool, true, List, [], ◌∷◌, map, get_or, ap, subst, All, Contains, range_with_len, Contains-get_or}
+use Rattle.gm_find.proofs.Lower.{Position, Rules, at, contains_none, contains_first, contains_later, contains_cases, map_in, map_from, TableData, Sought}
+use Rattle.gm_find.proofs.Lower.{IsFirst, IsMatch, positions_in, all_positions, IsKnownAt, IsFound, position_of}
+use Rattle.std.proofs.Common.{Result, Ok, Err, IfOk}
+use Rattle.std.proofs.lemmas.List.Elements.{Contains-append_cases, All-contains}
+use Rattle.gm_play.specs.Reached.{AreAllHeld}
 use Rattle.gm_find.specs.declared.found.Found.{Found}
 use Rattle.gm_find.specs.declared.sought.Choice.{Choice}
 use Rattle.gm_find.specs.declared.sought.Choice.TheVariants.{First, Random}
-use Rattle.gm_find.specs.declared.sought.Sought.{Sought}
-use Rattle.gm_find.specs.Lists.{IsFirst}
-use Rattle.gm_find.specs.Finding.{IsMatch, positions_in, all_positions}
-use Rattle.gm_find.specs.Founds.{IsKnownAt, IsFound, AreFound, AreChosen, position_of}
+use Rattle.gm_find.specs.Founds.{AreFound, AreChosen}
 use Rattle.gm_find.proofs.Picking.{picked_all}
 
 -- the first of those with a property have it, and are in the list

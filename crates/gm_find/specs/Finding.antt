@@ -1,14 +1,15 @@
 -- Positions that are sought.
-use Rattle.std.specs.Prelude.{◌≡◌, ◌≤◌, ◌==◌, if◌then◌else◌, ℕ, zero, suc, List, [], ◌∷◌, map, length, Bool, true, false, IsTrue, Option, None, Some}
-use Rattle.std.specs.List.{Contains, flat_map, range_with_len}
-use Rattle.gm_game.specs.declared.position.Position.{Position}
+use Rattle.std.specs.Prelude.{◌≡◌, ℕ, zero, suc, List, [], ◌∷◌, map, length, Bool, true, IsTrue, Option, None, Some}
+use Rattle.gm_find.specs.Lower.{Contains, flat_map, range_with_len}
+use Rattle.gm_find.specs.Lower.{Position, Win, Rules, at, IsTrueValue}
+use Rattle.std.specs.Prelude.{◌≤◌, ◌==◌, if◌then◌else◌, false}
 use Rattle.gm_game.specs.declared.position.Phase.{Phase}
 use Rattle.gm_game.specs.declared.position.Phase.TheVariants.{WinLose, Ties}
 use Rattle.gm_game.specs.declared.position.Solved.{Solved}
 use Rattle.gm_game.specs.declared.position.Value.{Value}
-use Rattle.gm_game.specs.declared.position.Value.TheVariants.{Lose, Draw, Tie, Win}
-use Rattle.gm_game.specs.Rules.{Rules, at, IsCanonical}
-use Rattle.gm_game.specs.Values.{HasValue, IsTrueValue}
+use Rattle.gm_game.specs.declared.position.Value.TheVariants.{Lose, Draw, Tie}
+use Rattle.gm_game.specs.Rules.{IsCanonical}
+use Rattle.gm_game.specs.Values.{HasValue}
 use Rattle.gm_game.specs.Children.{canonical_children_of}
 use Rattle.gm_find.specs.declared.only.Aim.{Aim}
 use Rattle.gm_find.specs.declared.only.Aim.TheVariants.{Keep, WinIn}

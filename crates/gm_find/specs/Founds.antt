@@ -1,12 +1,8 @@
 -- What is reported of found positions.
-use Rattle.std.specs.Prelude.{◌≡◌, ◌^◌, ◌-◌, ℕ, Bool, true, List, map, length}
-use Rattle.std.specs.List.{All}
-use Rattle.gm_game.specs.declared.position.Position.{Position}
-use Rattle.gm_game.specs.Rules.{Rules}
-use Rattle.gm_game.specs.Values.{IsTrueValue}
+use Rattle.std.specs.Prelude.{◌≡◌, ◌-◌, ℕ, Bool, true, List, map, length}
+use Rattle.gm_find.specs.Lower.{All, Position, Rules, IsTrueValue, AreAllHeld, IsBestMove}
+use Rattle.std.specs.Prelude.{◌^◌}
 use Rattle.gm_table.specs.Tables.{TableData}
-use Rattle.gm_best.specs.Reached.{AreAllHeld}
-use Rattle.gm_best.specs.BestMoves.{IsBestMove}
 use Rattle.gm_find.specs.declared.found.Found.{Found}
 use Rattle.gm_find.specs.declared.sought.Sought.{Sought}
 use Rattle.gm_find.specs.declared.sought.Choice.{Choice}

@@ -4,3 +4,4 @@ pub mod Finding
 pub mod Samples
 pub mod Founds
 pub mod Rows
+pub mod Lower

@@ -1,6 +1,6 @@
 //! The positions that are sought, or some of them.
 ghost use Rattle.std.specs.Prelude.{IfOk, is_some};
-ghost use Rattle.std.specs.List.{All};
+ghost use Rattle.gm_find.specs.Lower.{All};
 ghost use Rattle.gm_find.specs.Founds.{IsFound, AreChosen};
 
 use crate::found::{Found, find, look_up};
@@ -8,8 +8,8 @@ use crate::positions::find_positions;
 use crate::reached::Reached;
 use crate::sample::sample_of;
 use crate::sought::{Choice, Sought};
-use gm_best::known_tiers::KnownTiers;
 use gm_game::game::Game;
+use gm_play::known_tiers::KnownTiers;
 use std::alloc::{AllocError, Global};
 
 /// Returns the canonical positions that are sought and that the choice takes, each with its value, its best move and the number of its moves: tier by tier in the

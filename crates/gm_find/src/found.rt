@@ -1,15 +1,15 @@
 //! Found positions, each with its value, its best move and the number of its moves.
 ghost use Rattle.std.specs.Prelude.{◌≡◌, map, IfOk, is_some};
-ghost use Rattle.std.specs.List.{All};
+ghost use Rattle.gm_find.specs.Lower.{All};
 ghost use Rattle.gm_find.specs.Founds.{IsFound, AreFound, IsKnownAt, position_of};
 
 use crate::positions::find_positions;
 use crate::reached::Reached;
 use crate::sought::Sought;
-use gm_best::known::Known;
-use gm_best::known_tiers::KnownTiers;
 use gm_game::game::Game;
 use gm_game::position::{Position, Solved};
+use gm_play::known::Known;
+use gm_play::known_tiers::KnownTiers;
 use gm_table::tables::Tables;
 use std::alloc::{AllocError, Global};
 

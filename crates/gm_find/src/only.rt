@@ -1,13 +1,12 @@
 //! Whether exactly one move of a position achieves an aim.
 ghost use Rattle.std.specs.Prelude.{◌↔◌, ◌≡◌, ℕ, List, true, length, IsTrue};
-ghost use Rattle.std.specs.List.{Contains};
-ghost use Rattle.gm_game.specs.Values.{IsTrueValue};
+ghost use Rattle.gm_find.specs.Lower.{Contains, IsTrueValue};
 ghost use Rattle.gm_find.specs.Lists.{AreThose};
 ghost use Rattle.gm_find.specs.Finding.{kept_by, Achieves, HasOnlyMove, HasOnlyResult, HasOnly, HasOnlyFastest, HasMoves, AgreesWith, IsAchievedBy};
 
-use gm_best::known::Known;
 use gm_game::game::Game;
 use gm_game::position::{Position, Solved, Value};
+use gm_play::known::Known;
 
 /// What a move has to achieve to count.
 #[derive(Clone, Copy, Debug, PartialEq, Eq)]

@@ -1,14 +1,12 @@
 //! Wins in which the winner has one move at each turn but the last.
 ghost use Rattle.std.specs.Prelude.{◌≡◌, ◌↔◌, IsTrue};
-ghost use Rattle.std.specs.List.{Contains};
-ghost use Rattle.gm_game.specs.declared.position.Value.TheVariants.{Win};
-ghost use Rattle.gm_game.specs.Values.{IsTrueValue};
+ghost use Rattle.gm_find.specs.Lower.{Contains, Win, IsTrueValue};
 ghost use Rattle.gm_find.specs.Finding.{IsOnlyLine, IsOnlyWin, IsOnlyAfter, IsOnlyDefence, AfterDefence};
 
 use crate::only::{Aim, achieves, has_only};
-use gm_best::known::Known;
 use gm_game::game::Game;
 use gm_game::position::{Solved, Value};
+use gm_play::known::Known;
 
 /// The greatest remoteness at which the winner has one turn left.
 const LAST_TURN: u32 = 2;

@@ -1,13 +1,10 @@
 //! Positions of a value.
 ghost use Rattle.std.specs.Prelude.{◌≡◌, ◌<◌, ◌-◌, ◌++◌, ◌∷◌, [], ◌↔◌, ℕ, List, true, map, length, IsTrue, IfOk, OnOk, is_some, Some};
-ghost use Rattle.std.specs.List.{range_with_len};
-ghost use Rattle.gm_game.specs.declared.position.Position.{Position};
+ghost use Rattle.gm_find.specs.Lower.{range_with_len};
+ghost use Rattle.gm_find.specs.Lower.{Position, at, IsTrueValue, AreAllHeld};
 ghost use Rattle.gm_game.specs.declared.limits.TheConstants.{REMOTENESS};
 ghost use Rattle.gm_game.specs.Records.{IsRecord};
-ghost use Rattle.gm_game.specs.Rules.{at};
-ghost use Rattle.gm_game.specs.Values.{IsTrueValue};
 ghost use Rattle.gm_table.specs.Tables.{IsHeld};
-ghost use Rattle.gm_best.specs.Reached.{AreAllHeld};
 ghost use Rattle.gm_find.specs.Lists.{IsFirst};
 ghost use Rattle.gm_find.specs.Reaching.{IsReachedByPlay};
 ghost use Rattle.gm_find.specs.Finding.{IsMatch, positions_in, all_positions, place_for, level_of};
@@ -17,10 +14,10 @@ use crate::only::{Aim, has_moves, has_only, has_only_fastest};
 use crate::only_line::is_only_line;
 use crate::reached::{Reached, is_in};
 use crate::sought::{Sought, Span};
-use gm_best::known::Known;
-use gm_best::known_tiers::KnownTiers;
 use gm_game::game::Game;
 use gm_game::position::{Phase, Position, Solved, Value};
+use gm_play::known::Known;
+use gm_play::known_tiers::KnownTiers;
 use gm_table::tables::Tables;
 use std::alloc::{AllocError, Global};
 

@@ -1,7 +1,6 @@
 //! Found positions as rows of text.
 ghost use Rattle.std.specs.Prelude.{◌≡◌, ◌++◌, true, IfOk, OnOk, is_some};
-ghost use Rattle.std.specs.List.{All, flat_map};
-ghost use Rattle.gm_best.specs.BestMoves.{IsBestMove};
+ghost use Rattle.gm_find.specs.Lower.{All, flat_map, IsBestMove};
 ghost use Rattle.gm_find.specs.Founds.{IsFound};
 ghost use Rattle.gm_find.specs.Rows.{best_text as best_text_spec, found_row, row, IsFoundText};
 
@@ -9,10 +8,10 @@ use crate::choice::find_some;
 use crate::found::Found;
 use crate::reached::Reached;
 use crate::sought::{Choice, Sought};
-use gm_best::known_tiers::KnownTiers;
 use gm_game::position::Position;
 use gm_game::shown::{Line, Shown};
 use gm_game::text::{push_decimal, value_text};
+use gm_play::known_tiers::KnownTiers;
 use gm_play::texts::push_field;
 use std::alloc::{AllocError, Global};
 

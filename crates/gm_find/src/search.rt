@@ -1,7 +1,6 @@
 //! The search for the positions that play from the start reaches.
 ghost use Rattle.std.specs.Prelude.{◌≡◌, ◌⊎◌, [], true, IfOk, OnOk};
-ghost use Rattle.std.specs.List.{Contains};
-ghost use Rattle.gm_game.specs.declared.position.Position.{Position};
+ghost use Rattle.gm_find.specs.Lower.{Contains, Position};
 ghost use Rattle.gm_game.specs.Rules.{IsCanonicalChild};
 ghost use Rattle.gm_find.specs.Reaching.{AreReached, IsGrown, AreWaiting, key_of};
 

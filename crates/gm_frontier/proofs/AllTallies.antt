@@ -1,13 +1,9 @@
 -- The tallies of all pieces of a level, as they grow by one.
-use Rattle.std.proofs.Common.{◌≡◌, ℕ, ◌+◌, ◌<◌, inl, inr, List, [], ◌∷◌, ◌++◌, map, length, refl, sym, ap, subst, ◌∙◌, arith}
-use Rattle.std.specs.List.{Contains}
-use Rattle.std.specs.Int.{div_ceil}
+use Rattle.gm_frontier.proofs.Lower.{◌≡◌, ℕ, ◌+◌, ◌<◌, inl, inr, List, [], ◌∷◌, ◌++◌, map, length, refl, sym, ap, subst, ◌∙◌, arith, Contains, div_ceil, Rules}
+use Rattle.gm_frontier.proofs.Lower.{contains_none, LevelData, TallyData, AreTallies, AreAllTallies, numbers_from}
 use Rattle.std.proofs.lemmas.List.{map_push}
 use Rattle.std.proofs.lemmas.List.Elements.{Contains-push_cases}
-use Rattle.gm_game.specs.Rules.{Rules}
-use Rattle.gm_game.proofs.Lists.{contains_none}
-use Rattle.gm_frontier.specs.Levels.{LevelData}
-use Rattle.gm_frontier.specs.Tallies.{TallyData, IsTallyOf, IsTile, AreTallies, AreAllTallies, numbers_from}
+use Rattle.gm_frontier.specs.Tallies.{IsTallyOf, IsTile}
 use Rattle.gm_frontier.proofs.TalliedLemmas.{numbers_push, tallies_in_order}
 
 -- the tallies of the first k pieces, in order

@@ -1,30 +1,14 @@
 -- Over all pieces and tiles each pair whose child is at the place comes once.
-use Rattle.std.proofs.Common.{◌≡◌, ◌≢◌, ℕ, ◌+◌, ◌*◌, ◌/◌, ◌%◌, ◌<◌, inl, inr, List, length, get_or, take, drop, refl, sym, ap, ap₂, subst, ◌∙◌, arith}
-use Rattle.std.specs.List.{Contains, flat_map}
-use Rattle.std.specs.Int.{div_ceil}
-use Rattle.std.proofs.Math.Nat.{lt-div-mul-add}
-use Rattle.std.proofs.lemmas.Nat.{div-add-mod', div-mul-add}
-use Rattle.std.proofs.lemmas.List.{length-drop, length-take, get_or-drop, get_or-take}
-use Rattle.std.proofs.lemmas.Bool.{cases_lt}
-use Rattle.gm_game.specs.declared.position.Position.{Position}
-use Rattle.gm_game.specs.declared.position.Solved.{Solved}
-use Rattle.gm_game.specs.declared.position.Value.{Value}
-use Rattle.gm_game.specs.declared.position.Value.TheVariants.{Lose, Draw, Tie, Win}
-use Rattle.gm_game.specs.declared.position.Phase.{Phase}
-use Rattle.gm_game.specs.declared.position.Phase.TheVariants.{WinLose, Ties}
-use Rattle.gm_game.specs.declared.position.Place.{Place}
-use Rattle.gm_game.specs.Rules.{Rules, at, IsParent}
-use Rattle.gm_game.specs.Laws.{IsGame}
-use Rattle.gm_game.specs.Values.{HasValue, IsTrueValue}
-use Rattle.gm_game.specs.Places.{StandsAt}
-use Rattle.gm_game.specs.Numbers.{ListsExactly}
-use Rattle.gm_game.proofs.Lists.{map_in}
-use Rattle.gm_game.proofs.Counts.{HasNoRepeats}
-use Rattle.gm_game.proofs.Checker.{IsTrueValue_once}
-use Rattle.gm_frontier.specs.Notes.{NoteData, IsNoteAt, phase_of}
-use Rattle.gm_frontier.specs.Levels.{IsLevel}
-use Rattle.gm_frontier.specs.Pairs.{pairs_of, piece_of, IsPairAt}
-use Rattle.gm_frontier.specs.Tallies.{tile_start, tile_end, tiled_pairs, numbers_from}
+use Rattle.gm_frontier.proofs.Lower.{◌≡◌, ◌≢◌, ℕ, ◌+◌, ◌/◌, ◌<◌, inl, inr, List, length, get_or, take, drop, refl, sym, ap, ap₂, subst, ◌∙◌, arith, Contains}
+use Rattle.gm_frontier.proofs.Lower.{flat_map, div_ceil, lt-div-mul-add, div-add-mod', length-drop, cases_lt, Position, Solved, Value, Lose, Draw, Tie, Win}
+use Rattle.gm_frontier.proofs.Lower.{Phase, WinLose, Ties, Place, Rules, at, IsParent, IsGame, HasValue, IsTrueValue, StandsAt, ListsExactly, map_in}
+use Rattle.gm_frontier.proofs.Lower.{HasNoRepeats, IsTrueValue_once, NoteData, IsNoteAt, phase_of, IsLevel, pairs_of, piece_of, tile_start, tile_end}
+use Rattle.gm_frontier.proofs.Lower.{numbers_from}
+use Rattle.std.proofs.Common.{◌*◌, ◌%◌}
+use Rattle.std.proofs.lemmas.Nat.{div-mul-add}
+use Rattle.std.proofs.lemmas.List.{length-take, get_or-drop, get_or-take}
+use Rattle.gm_frontier.specs.Pairs.{IsPairAt}
+use Rattle.gm_frontier.specs.Tallies.{tiled_pairs}
 use Rattle.gm_frontier.proofs.CountLemmas.{numbers_have}
 use Rattle.gm_frontier.proofs.Distinct.{in_flat_map, flat_map_has, no_repeats_flat_map, no_repeats_before, no_repeats_to}
 use Rattle.gm_frontier.proofs.PairLemmas.{near_of_pair, in_pairs, pairs_have, pairs_once, in_piece, positions_once, canonical_notes, piece_positions_once}

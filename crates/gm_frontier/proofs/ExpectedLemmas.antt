@@ -1,15 +1,8 @@
 -- An exact count stays exact when a level is added, and when it turns to ties.
-use Rattle.std.proofs.Common.{◌≡◌, ℕ, ◌+◌, ◌<◌, ◌^◌, inl, inr, List, refl, sym, ap, subst, ◌∙◌, arith, Option, None, Some}
-use Rattle.gm_game.specs.declared.position.Phase.{Phase}
-use Rattle.gm_game.specs.declared.position.Phase.TheVariants.{WinLose, Ties}
-use Rattle.gm_game.specs.declared.position.Place.{Place}
-use Rattle.gm_game.specs.Rules.{Rules}
-use Rattle.gm_game.specs.Laws.{IsGame}
-use Rattle.gm_game.specs.Places.{IsLastLevel}
-use Rattle.gm_frontier.specs.Notes.{NoteData}
-use Rattle.gm_frontier.specs.Levels.{LevelData, IsLevel, place_at}
-use Rattle.gm_frontier.specs.Tallies.{number_into}
-use Rattle.gm_frontier.specs.Counts.{ExpectedData, IsExpected, IsNumberBefore, level_after, next_level}
+use Rattle.gm_frontier.proofs.Lower.{◌≡◌, ℕ, ◌+◌, ◌<◌, ◌^◌, inl, inr, List, refl, sym, ap, subst, ◌∙◌, arith, Option, None, Some, Phase, WinLose, Ties, Place}
+use Rattle.gm_frontier.proofs.Lower.{Rules, IsGame, IsLastLevel, NoteData, LevelData, IsLevel, place_at, number_into, ExpectedData, IsExpected, IsNumberBefore}
+use Rattle.gm_frontier.proofs.Lower.{next_level}
+use Rattle.gm_frontier.specs.Counts.{level_after}
 use Rattle.gm_frontier.proofs.CountLemmas.{level_added, number_few, ties_begin}
 
 -- what the fields of an Expected show

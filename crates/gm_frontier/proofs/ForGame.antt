@@ -1,17 +1,10 @@
 -- Places and canonical children: facts over the definitions of the game's crate.
-use Rattle.std.proofs.Common.{◌≡◌, ℕ, ◌+◌, ◌≤◌, ◌⊎◌, inl, inr, true, List, [], ◌∷◌, map, length, refl, subst, arith}
-use Rattle.std.proofs.lemmas.List.{length-map}
-use Rattle.std.proofs.lemmas.Bool.{cases_lt}
-use Rattle.gm_game.specs.declared.position.Position.{Position}
-use Rattle.gm_game.specs.declared.position.Value.TheVariants.{Lose, Tie, Win}
-use Rattle.gm_game.specs.declared.position.Phase.{Phase}
-use Rattle.gm_game.specs.declared.position.Phase.TheVariants.{WinLose, Ties}
-use Rattle.gm_game.specs.declared.limits.TheConstants.{MOVES}
-use Rattle.gm_game.specs.Rules.{Rules, children}
-use Rattle.gm_game.specs.Laws.{IsGame}
-use Rattle.gm_game.specs.Children.{set_of, canonical_children_of}
-use Rattle.gm_game.specs.Places.{StandsAt, StandsBefore, IsPlaceBefore, IsNear, IsLastLevel}
-use Rattle.gm_game.proofs.Basic.{HasValue_once}
+use Rattle.gm_frontier.proofs.Lower.{◌≡◌, ℕ, ◌+◌, ◌≤◌, ◌⊎◌, inl, inr, true, List, [], ◌∷◌, map, length, refl, subst, arith, length-map, cases_lt, Position}
+use Rattle.gm_frontier.proofs.Lower.{Lose, Tie, Win, Phase, WinLose, Ties, MOVES, Rules, IsGame, canonical_children_of, StandsAt, IsNear, IsLastLevel}
+use Rattle.gm_frontier.proofs.Lower.{HasValue_once}
+use Rattle.gm_game.specs.Rules.{children}
+use Rattle.gm_game.specs.Children.{set_of}
+use Rattle.gm_game.specs.Places.{StandsBefore, IsPlaceBefore}
 use Rattle.gm_game.proofs.SetLemmas.{length_with_le}
 
 -- what is before the next level is before this one or at it

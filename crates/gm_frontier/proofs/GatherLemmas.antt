@@ -1,20 +1,11 @@
 -- What is gathered is a level, and not too long.
-use Rattle.std.proofs.Common.{◌≡◌, ℕ, ◌+◌, ◌*◌, ◌<◌, ◌≤◌, inl, inr, List, [], ◌∷◌, ◌++◌, map, length, sym, ap, subst, ◌∙◌, arith}
-use Rattle.std.specs.List.{Contains, flat_map}
+use Rattle.gm_frontier.proofs.Lower.{◌≡◌, ℕ, ◌+◌, ◌<◌, ◌≤◌, inl, inr, List, [], ◌∷◌, ◌++◌, map, length, sym, ap, subst, ◌∙◌, arith, Contains, flat_map}
+use Rattle.gm_frontier.proofs.Lower.{length-map, Position, Place, TIER_SIZE, Rules, at, IsGame, contains_first, contains_later, map_from, no_longer, TableData}
+use Rattle.gm_frontier.proofs.Lower.{numbers_from, NoteData, RunData, positions, IsLevel, IsChildPart, AreRuns, AreTiles, notes_of_tier}
+use Rattle.std.proofs.Common.{◌*◌}
 use Rattle.std.proofs.Math.Nat.{mul-le-mul_left}
-use Rattle.std.proofs.lemmas.List.{length-map}
-use Rattle.gm_game.specs.declared.position.Position.{Position}
-use Rattle.gm_game.specs.declared.position.Place.{Place}
-use Rattle.gm_game.specs.declared.limits.TheConstants.{TIER_SIZE, CHILD_TIERS}
-use Rattle.gm_game.specs.Rules.{Rules, at, IsTierOrChild}
-use Rattle.gm_game.specs.Laws.{IsGame}
-use Rattle.gm_game.proofs.Lists.{contains_first, contains_later, map_from}
-use Rattle.gm_game.proofs.Counts.{no_longer}
-use Rattle.gm_table.specs.Tables.{TableData}
-use Rattle.gm_frontier.specs.Tallies.{numbers_from}
-use Rattle.gm_frontier.specs.Notes.{NoteData}
-use Rattle.gm_frontier.specs.Levels.{RunData, positions, IsLevel, IsChildPart, AreRuns, AreTiles}
-use Rattle.gm_frontier.specs.Records.{notes_of_tier}
+use Rattle.gm_game.specs.declared.limits.TheConstants.{CHILD_TIERS}
+use Rattle.gm_game.specs.Rules.{IsTierOrChild}
 use Rattle.gm_frontier.proofs.Distinct.{flat_map_has}
 use Rattle.gm_frontier.proofs.CountLemmas.{length-numbers_from, numbers_have, flat_map_few}
 use Rattle.gm_frontier.proofs.LevelLemmas.{tiled_run, level_joined}

@@ -1,20 +1,11 @@
 -- A level is the last of its phase if it is empty and the child tiers have nothing from it on.
-use Rattle.std.proofs.Common.{◌≡◌, ℕ, ◌<◌, ◌≤◌, ◌↔◌, inl, inr, List, [], ◌∷◌, refl, sym, ap, subst, arith, Some, true, IsTrue, nat_lt, length, get_or, take}
-use Rattle.std.specs.List.{Contains}
-use Rattle.std.proofs.lemmas.Bool.{cases_lt}
-use Rattle.std.proofs.lemmas.Bool.Decides.{nat_tests}
-use Rattle.gm_game.specs.declared.position.Position.{Position}
-use Rattle.gm_game.specs.declared.position.Place.{Place}
-use Rattle.gm_game.specs.Rules.{Rules, at, IsCanonical}
-use Rattle.gm_game.specs.Laws.{IsGame}
-use Rattle.gm_game.specs.Places.{StandsAt, IsLastLevel}
-use Rattle.gm_game.proofs.Lists.{contains_none, contains_first}
+use Rattle.gm_frontier.proofs.Lower.{◌≡◌, ℕ, ◌<◌, ◌≤◌, ◌↔◌, inl, inr, List, [], ◌∷◌, refl, sym, ap, subst, arith, Some, true, nat_lt, length, get_or, take}
+use Rattle.gm_frontier.proofs.Lower.{Contains, cases_lt, nat_tests, Position, Place, Rules, at, IsCanonical, IsGame, StandsAt, IsLastLevel, contains_none}
+use Rattle.gm_frontier.proofs.Lower.{contains_first, TableData, IsTable, table_of, AreTables, NoteData, positions, IsLevel, IsBelow, AreBelow}
+use Rattle.std.proofs.Common.{IsTrue}
 use Rattle.gm_game.proofs.Frontier.{none_from_last}
 use Rattle.gm_table.specs.Levels.{HasLevel, IsGreatestLevel}
-use Rattle.gm_table.specs.Tables.{TableData, IsTable, table_of, AreTables}
 use Rattle.gm_table.proofs.PlaceLemmas.{level_stands}
-use Rattle.gm_frontier.specs.Notes.{NoteData}
-use Rattle.gm_frontier.specs.Levels.{positions, IsLevel, IsBelow, AreBelow}
 use Rattle.gm_frontier.proofs.Distinct.{stands_there}
 use Rattle.gm_frontier.proofs.PieceLemmas.{all_taken}
 

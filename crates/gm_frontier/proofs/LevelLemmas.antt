@@ -1,19 +1,12 @@
 -- A level is whole: its tier's runs, and then the child tiers' records, one list after another.
-use Rattle.std.proofs.Common.{◌≡◌, ◌≢◌, ℕ, ◌<◌, ◌≤◌, ◌↔◌, ◌⊎◌, inl, inr, Bool, true, List, [], ◌∷◌, ◌++◌, sym, ap, subst, ◌∙◌, arith}
-use Rattle.std.specs.List.{AllByRecursion, Contains, flat_map}
+use Rattle.gm_frontier.proofs.Lower.{◌≡◌, ◌≢◌, ℕ, ◌<◌, ◌≤◌, ◌↔◌, ◌⊎◌, inl, inr, Bool, true, List, [], ◌∷◌, ◌++◌, sym, ap, subst, ◌∙◌, arith, AllByRecursion}
+use Rattle.gm_frontier.proofs.Lower.{Contains, flat_map, Contains-append_left, Contains-append_right, Contains-append_cases, cases_lt, nat_tests, Position}
+use Rattle.gm_frontier.proofs.Lower.{Place, Rules, IsCanonical, IsAscending, IsGame, is_before, StandsAt, contains_none, contains_first, contains_later}
+use Rattle.gm_frontier.proofs.Lower.{contains_cases, NoteData, RunData, positions, IsInTier, AreInOrder, AreNotesOf, comes_first, IsRun, IsLevel, AreRuns}
+use Rattle.gm_frontier.proofs.Lower.{AreTiles}
 use Rattle.std.proofs.lemmas.List.{map-append}
-use Rattle.std.proofs.lemmas.List.Elements.{Contains-append_left, Contains-append_right, Contains-append_cases}
-use Rattle.std.proofs.lemmas.Bool.{cases_lt}
-use Rattle.std.proofs.lemmas.Bool.Decides.{nat_tests}
-use Rattle.gm_game.specs.declared.position.Position.{Position}
-use Rattle.gm_game.specs.declared.position.Place.{Place}
-use Rattle.gm_game.specs.Rules.{Rules, IsCanonical, IsAscending}
-use Rattle.gm_game.specs.Laws.{IsGame}
-use Rattle.gm_game.specs.Children.{is_before}
-use Rattle.gm_game.specs.Places.{StandsAt, IsAtLevel}
-use Rattle.gm_game.proofs.Lists.{contains_none, contains_first, contains_later, contains_cases}
-use Rattle.gm_frontier.specs.Notes.{NoteData}
-use Rattle.gm_frontier.specs.Levels.{RunData, positions, IsInRun, IsInTier, AreInOrder, AreNotesOf, comes_first, IsRun, IsLevel, AreRuns, AreTiles}
+use Rattle.gm_game.specs.Places.{IsAtLevel}
+use Rattle.gm_frontier.specs.Levels.{IsInRun}
 use Rattle.gm_frontier.proofs.Distinct.{ascending_above}
 use Rattle.gm_frontier.proofs.OrderLemmas.{in_order_append}
 

@@ -1,15 +1,6 @@
 -- There is one list of notes of a level.
-use Rattle.std.proofs.Common.{◌≡◌, List, [], ◌∷◌, refl, ap₂, subst}
-use Rattle.std.specs.List.{Contains}
-use Rattle.gm_game.specs.declared.position.Position.{Position}
-use Rattle.gm_game.specs.declared.position.Solved.{Solved}
-use Rattle.gm_game.specs.declared.position.Place.{Place}
-use Rattle.gm_game.specs.Rules.{Rules}
-use Rattle.gm_game.specs.Values.{IsTrueValue}
-use Rattle.gm_game.proofs.Lists.{contains_first, contains_later}
-use Rattle.gm_game.proofs.Checker.{IsTrueValue_once}
-use Rattle.gm_frontier.specs.Notes.{NoteData, IsNoteAt}
-use Rattle.gm_frontier.specs.Levels.{positions, IsLevel, comes_first}
+use Rattle.gm_frontier.proofs.Lower.{◌≡◌, List, [], ◌∷◌, refl, ap₂, subst, Contains, Position, Solved, Place, Rules, IsTrueValue, contains_first}
+use Rattle.gm_frontier.proofs.Lower.{contains_later, IsTrueValue_once, NoteData, IsNoteAt, positions, IsLevel, comes_first}
 use Rattle.gm_frontier.proofs.OrderLemmas.{in_order_same, first_one_way}
 
 same_notes : (r : Rules) (place : Place) (ms ns : List NoteData) → ((n : NoteData) → Contains ms n → IsNoteAt r place n)

@@ -18,3 +18,4 @@ pub mod TalliedLemmas
 pub mod TallyLemmas
 pub mod TileLemmas
 pub mod ReadLemmas
+pub mod Lower

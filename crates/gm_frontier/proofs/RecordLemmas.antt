@@ -1,28 +1,11 @@
 -- The notes of a table's records at a place are those of the positions that are there.
-use Rattle.std.proofs.Common.{◌≡◌, ◌≢◌, ℕ, ◌<◌, ◌↔◌, inl, inr, true, List, [], ◌∷◌, map, length, get_or, refl, sym, ap, subst, ◌∙◌, arith, Option, None, Some}
-use Rattle.std.proofs.Common.{IsSome, slice_get, unwrap_or}
-use Rattle.std.specs.List.{AllByRecursion, Contains}
-use Rattle.std.proofs.lemmas.Option.{slice_get-get_or}
-use Rattle.std.proofs.lemmas.Bool.Decides.{nat_tests}
-use Rattle.gm_game.specs.declared.position.Position.{Position}
-use Rattle.gm_game.specs.declared.position.Solved.{Solved}
-use Rattle.gm_game.specs.declared.position.Value.{Value}
-use Rattle.gm_game.specs.declared.position.Value.TheVariants.{Lose, Draw, Tie, Win}
-use Rattle.gm_game.specs.declared.position.Phase.{Phase}
-use Rattle.gm_game.specs.declared.position.Phase.TheVariants.{WinLose, Ties}
-use Rattle.gm_game.specs.declared.position.Place.{Place}
-use Rattle.gm_game.specs.Rules.{Rules, at, IsCanonical, IsAscending}
-use Rattle.gm_game.specs.Laws.{IsGame}
-use Rattle.gm_game.specs.Values.{HasValue, IsTrueValue}
-use Rattle.gm_game.specs.Records.{solved}
-use Rattle.gm_game.specs.Children.{is_before}
-use Rattle.gm_game.specs.Places.{StandsAt}
-use Rattle.gm_game.proofs.Lists.{contains_first, contains_later, map_from, map_in}
-use Rattle.gm_game.proofs.Basic.{HasValue_once}
-use Rattle.gm_table.specs.Tables.{TableData, IsTable, record_at, table_of, IsHeld, AreTables}
-use Rattle.gm_frontier.specs.Notes.{IsNote, IsNoteAt, phase_of}
-use Rattle.gm_frontier.specs.Levels.{positions, IsInTier, AreInOrder, AreNotesOf, IsChildPart}
-use Rattle.gm_frontier.specs.Records.{note_of, notes_at, IsRecorded, AreRecorded}
+use Rattle.gm_frontier.proofs.Lower.{◌≡◌, ◌≢◌, ℕ, ◌<◌, ◌↔◌, inl, inr, true, List, [], ◌∷◌, map, length, get_or, refl, sym, ap, subst, ◌∙◌, arith, Option, None}
+use Rattle.gm_frontier.proofs.Lower.{Some, IsSome, slice_get, unwrap_or, AllByRecursion, Contains, slice_get-get_or, nat_tests, Position, Solved, Value, Lose}
+use Rattle.gm_frontier.proofs.Lower.{Draw, Tie, Win, Phase, WinLose, Ties, Place, Rules, at, IsCanonical, IsAscending, IsGame, HasValue, IsTrueValue, solved}
+use Rattle.gm_frontier.proofs.Lower.{is_before, StandsAt, contains_first, contains_later, map_from, map_in, HasValue_once, TableData, IsTable, record_at}
+use Rattle.gm_frontier.proofs.Lower.{table_of, AreTables, IsNote, IsNoteAt, phase_of, positions, IsInTier, AreInOrder, AreNotesOf, IsChildPart, note_of}
+use Rattle.gm_frontier.proofs.Lower.{notes_at, IsRecorded, AreRecorded}
+use Rattle.gm_table.specs.Tables.{IsHeld}
 use Rattle.gm_frontier.proofs.Distinct.{ascending_above}
 
 -- what the place of a position says of its value

@@ -1,21 +1,10 @@
 -- The pairs into a tile, counted among all pairs of some notes, and read from a list of pieces.
-use Rattle.std.proofs.Common.{◌≡◌, ◌≢◌, ℕ, suc, ◌+◌, ◌*◌, ◌/◌, ◌<◌, ◌≤◌, ◌^◌, ◌↔◌, inl, inr, Bool, true, false, if◌then◌else◌, min, List, [], ◌∷◌, ◌++◌, map}
-use Rattle.std.proofs.Common.{filter, length, get_or, refl, sym, ap, subst, ◌∙◌, arith}
-use Rattle.std.specs.List.{Contains}
-use Rattle.std.specs.Int.{div_ceil}
-use Rattle.std.proofs.Math.Nat.{lt-div-mul-add}
-use Rattle.std.proofs.lemmas.Nat.{div_below, le-div, div-add-mod'}
-use Rattle.std.proofs.lemmas.List.{length-append}
-use Rattle.std.proofs.lemmas.Grind.{div_ceil_times}
-use Rattle.std.proofs.lemmas.Bool.{cases_Bool}
-use Rattle.std.proofs.lemmas.Bool.Decides.{nat_tests}
-use Rattle.gm_game.specs.declared.limits.TheConstants.{TIER_SIZE}
-use Rattle.gm_game.specs.Rules.{Rules}
-use Rattle.gm_game.specs.Laws.{IsGame}
-use Rattle.gm_frontier.specs.Notes.{NoteData}
-use Rattle.gm_frontier.specs.Levels.{LevelData, IsLevel}
-use Rattle.gm_frontier.specs.Pairs.{is_within, pairs_with, pairs_of_note, pairs_of, piece_of}
-use Rattle.gm_frontier.specs.Tallies.{tile_count, tile_start, tile_end, number_into, AreCounts}
+use Rattle.gm_frontier.proofs.Lower.{◌≡◌, ◌≢◌, ℕ, suc, ◌+◌, ◌/◌, ◌<◌, ◌≤◌, ◌^◌, ◌↔◌, inl, inr, Bool, true, false, if◌then◌else◌, min, List, [], ◌∷◌, ◌++◌, map}
+use Rattle.gm_frontier.proofs.Lower.{filter, length, get_or, refl, sym, ap, subst, ◌∙◌, arith, Contains, div_ceil, lt-div-mul-add, div-add-mod', length-append}
+use Rattle.gm_frontier.proofs.Lower.{div_ceil_times, cases_Bool, nat_tests, TIER_SIZE, Rules, IsGame, NoteData, LevelData, IsLevel, is_within, pairs_with}
+use Rattle.gm_frontier.proofs.Lower.{pairs_of_note, pairs_of, piece_of, tile_count, tile_start, tile_end, number_into, AreCounts}
+use Rattle.std.proofs.Common.{◌*◌}
+use Rattle.std.proofs.lemmas.Nat.{div_below, le-div}
 use Rattle.gm_frontier.proofs.CountLemmas.{notes_few}
 use Rattle.gm_frontier.proofs.PairLemmas.{in_pairs, piece_positions_once, piece_canonical}
 use Rattle.gm_frontier.proofs.TallyLemmas.{count_first, count_other}

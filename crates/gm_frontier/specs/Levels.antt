@@ -1,11 +1,9 @@
 -- Levels, and the runs that they are made of.
-use Rattle.std.specs.Prelude.{◌≡◌, ℕ, ◌<◌, ◌≤◌, ◌↔◌, Bool, true, false, List, [], ◌∷◌, map, length, nat_lt, ◌==◌, if◌then◌else◌}
-use Rattle.std.specs.List.{AllByRecursion, Contains}
-use Rattle.gm_game.specs.declared.position.Position.{Position}
-use Rattle.gm_game.specs.declared.position.Phase.{Phase}
-use Rattle.gm_game.specs.declared.position.Place.{Place}
-use Rattle.gm_game.specs.declared.limits.TheConstants.{TIER_SIZE}
-use Rattle.gm_game.specs.Rules.{Rules, IsCanonical}
+use Rattle.std.specs.Prelude.{◌≡◌, ℕ, ◌<◌, ◌≤◌, ◌↔◌, Bool, List, [], ◌∷◌, map, length, nat_lt, ◌==◌, if◌then◌else◌}
+use Rattle.gm_frontier.specs.Lower.{Contains, Position, Phase, Place}
+use Rattle.gm_frontier.specs.Lower.{TIER_SIZE, Rules, IsCanonical}
+use Rattle.std.specs.Prelude.{true, false}
+use Rattle.std.specs.List.{AllByRecursion}
 use Rattle.gm_game.specs.Children.{is_before}
 use Rattle.gm_game.specs.Places.{StandsAt, IsAtLevel}
 use Rattle.gm_frontier.specs.Notes.{NoteData, IsNoteAt}

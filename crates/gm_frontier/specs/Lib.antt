@@ -6,3 +6,4 @@ pub mod Counts
 pub mod Parts
 pub mod Records
 pub mod Rows
+pub mod Lower

@@ -1,14 +1,10 @@
 -- Notes: positions with their values.
-use Rattle.std.specs.Prelude.{◌≡◌, ◌≢◌, List}
-use Rattle.std.specs.List.{flat_map}
-use Rattle.gm_game.specs.declared.position.Position.{Position}
+use Rattle.std.specs.Prelude.{◌≡◌, List}
+use Rattle.gm_frontier.specs.Lower.{flat_map, Position, Draw, Phase, WinLose, Ties, Place, Rules, IsCanonical}
+use Rattle.std.specs.Prelude.{◌≢◌}
 use Rattle.gm_game.specs.declared.position.Solved.{Solved}
 use Rattle.gm_game.specs.declared.position.Value.{Value}
-use Rattle.gm_game.specs.declared.position.Value.TheVariants.{Lose, Draw, Tie, Win}
-use Rattle.gm_game.specs.declared.position.Phase.{Phase}
-use Rattle.gm_game.specs.declared.position.Phase.TheVariants.{WinLose, Ties}
-use Rattle.gm_game.specs.declared.position.Place.{Place}
-use Rattle.gm_game.specs.Rules.{Rules, IsCanonical}
+use Rattle.gm_game.specs.declared.position.Value.TheVariants.{Lose, Tie, Win}
 use Rattle.gm_game.specs.Values.{IsTrueValue}
 
 -- what a note shows

@@ -1,6 +1,6 @@
 -- Parts of a level: the notes of a run, or those of a table's records at some indexes.
 use Rattle.std.specs.Prelude.{List}
-use Rattle.gm_game.specs.Rules.{Rules}
+use Rattle.gm_frontier.specs.Lower.{Rules}
 use Rattle.gm_frontier.specs.Notes.{NoteData}
 use Rattle.gm_frontier.specs.Records.{notes_at, AreRecorded}
 use Rattle.gm_frontier.specs.declared.part.Source.{Source}

@@ -1,9 +1,8 @@
 -- Tallies: the number of a piece's pairs into each tile of a tier.
-use Rattle.std.specs.Prelude.{◌≡◌, ℕ, zero, suc, ◌+◌, ◌*◌, ◌/◌, ◌<◌, ◌≤◌, ◌⊎◌, ◌==◌, min, if◌then◌else◌, List, [], ◌∷◌, map, length, slice_index}
-use Rattle.std.specs.List.{Contains, flat_map}
-use Rattle.std.specs.Int.{div_ceil}
-use Rattle.gm_game.specs.declared.position.Place.{Place}
-use Rattle.gm_game.specs.Rules.{Rules}
+use Rattle.std.specs.Prelude.{◌≡◌, ℕ, ◌+◌, ◌/◌, ◌<◌, ◌≤◌, ◌⊎◌, ◌==◌, if◌then◌else◌, List, [], ◌∷◌, map, length, slice_index}
+use Rattle.gm_frontier.specs.Lower.{Contains, flat_map, div_ceil}
+use Rattle.gm_frontier.specs.Lower.{Place, Rules}
+use Rattle.std.specs.Prelude.{zero, suc, ◌*◌, min}
 use Rattle.gm_game.specs.Numbers.{ListsExactly}
 use Rattle.gm_frontier.specs.Notes.{NoteData}
 use Rattle.gm_frontier.specs.Levels.{LevelData, IsLevel}

@@ -1,6 +1,7 @@
 //! How many pairs a piece of a level has into each tile of its tier.
-ghost use Rattle.std.specs.Prelude.{◌≡◌, ℕ, ◌+◌, ◌/◌, ◌<◌, ◌≤◌, ◌^◌, length, slice_index, vec_len, IfOk};
-ghost use Rattle.std.specs.List.{Contains};
+ghost use Rattle.std.specs.Prelude.{◌≡◌, ℕ, ◌+◌, ◌/◌, ◌<◌, ◌≤◌, ◌^◌, length, slice_index, IfOk};
+ghost use Rattle.gm_frontier.specs.Lower.{Contains};
+ghost use Rattle.std.specs.Prelude.{vec_len};
 ghost use Rattle.gm_frontier.specs.Notes.{NoteData};
 ghost use Rattle.gm_frontier.specs.Pairs.{pairs_of, piece_of};
 ghost use Rattle.gm_frontier.specs.Tallies.{AreCounts, AreTallies, tile_count, number_into};
@@ -9,7 +10,7 @@ use crate::level::Level;
 use crate::pairs::Pairs;
 use gm_game::game::Game;
 use gm_game::position::Place;
-use gm_record::tile::count_index;
+use gm_table::tile::count_index;
 use std::alloc::{AllocError, Global};
 use std::marker::{Model, PhantomData};
 

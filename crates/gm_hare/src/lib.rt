@@ -3,7 +3,4 @@
 
 pub mod hare;
 pub mod hunt;
-pub mod moves;
 pub mod points;
-pub mod text;
-pub mod tiers;

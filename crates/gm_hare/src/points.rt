@@ -1,55 +1,61 @@
-//! The eleven points: their columns and the edges between them.
-ghost use Rattle.std.specs.Prelude.{◌≡◌, ◌<◌, slice_index_or, []};
-ghost use Rattle.gm_hare.specs.Board.{column as column_of, edges, are_joined as are_joined_of, is_ahead as is_ahead_of};
+//! The eleven points: their columns, their names, and the edges between them.
+ghost use Rattle.std.specs.Prelude.{◌≡◌, ◌<◌, ◌≤◌, length};
+ghost use Rattle.gm_board.specs.Masks.{has_cell};
+ghost use Rattle.gm_hare.specs.Texts.{point_name as name_of};
+ghost use Rattle.gm_hare.specs.laws.PointFacts.{leads as leads_of};
+
+use gm_pieces::step::Step;
 
 /// The column of each point.
-const COLUMNS: [u32; 11] = [0, 1, 1, 1, 2, 2, 2, 3, 3, 3, 4];
+pub const COLUMNS: [u32; 11] = [0, 1, 1, 1, 2, 2, 2, 3, 3, 3, 4];
 
-/// Returns the column of a point.
-#[tactic(auto, unfolding(crate::specs::Board::column))]
-pub fn column(point: u32) -> u32
-    requires { point < 11 }
-    ensures { result ≡ column_of point }
+/// For each point, the point that comes in its place when top and bottom are exchanged.
+pub const MIRROR: [u32; 11] = [0, 3, 2, 1, 6, 5, 4, 9, 8, 7, 10];
+
+/// For each point, the mask of the points that an edge joins to it: bit k for point k.
+const EDGES: [u32; 11] = [
+    0x00e, 0x035, 0x02b, 0x065, 0x0a2, 0x3de, 0x228, 0x530, 0x6a0, 0x560, 0x380,
+];
+
+/// For each point, those of them that are in the next column or in its own.
+const AHEAD: [u32; 11] = [
+    0x00e, 0x034, 0x02a, 0x064, 0x0a0, 0x3d0, 0x220, 0x500, 0x680, 0x500, 0x000,
+];
+
+/// Returns whether the mask has a point.
+#[tactic(auto, using(std::proofs::lemmas::Nat::Bits::shr_and_one))]
+pub fn has(mask: u32, point: u32) -> bool
+    requires { point < 32 }
+    ensures { result ≡ has_cell mask point }
 {
-    COLUMNS[point as usize]
+    mask >> point & 1 == 1
 }
 
-// Returns the points that an edge joins to a point: none if there is no such point.
-fn neighbors(point: u32) -> &'static [u32]
-    ensures { result.now ≡ slice_index_or edges point [] }
+/// Returns whether a move of a side goes along an edge, and not back if it is a hound's.
+#[tactic(auto, using(crate::specs::laws::PointFacts::hound_leads, crate::specs::laws::PointFacts::hare_leads), unfolding(gm_pieces::specs::Steps::from_point, gm_pieces::specs::Steps::to_point))]
+pub fn leads(hounds: bool, number: u32) -> bool
+    requires { number < 176 }
+    ensures { result ≡ leads_of hounds number }
 {
-    match point {
-        0 => &[1, 2, 3],
-        1 => &[0, 2, 4, 5],
-        2 => &[0, 1, 3, 5],
-        3 => &[0, 2, 5, 6],
-        4 => &[1, 5, 7],
-        5 => &[1, 2, 3, 4, 6, 7, 8, 9],
-        6 => &[3, 5, 9],
-        7 => &[4, 5, 8, 10],
-        8 => &[5, 7, 9, 10],
-        9 => &[5, 6, 8, 10],
-        10 => &[7, 8, 9],
-        _ => &[],
+    let step = Step::numbered(number);
+    if hounds {
+        has(AHEAD[step.from as usize], step.to)
+    } else {
+        has(EDGES[step.from as usize], step.to)
     }
 }
 
-/// Returns whether an edge joins the two points.
-#[tactic(auto, using(gm_board::specs::laws::Filters::listed_test), unfolding(crate::specs::Board::are_joined))]
-pub fn are_joined(a: u32, c: u32) -> bool
-    ensures { result ≡ are_joined_of a c }
-{
-    neighbors(a).contains(&c)
-}
+/// The name of each point.
+const NAMES: [&[u8]; 11] = [
+    b"L", b"T1", b"M1", b"B1", b"T2", b"M2", b"B2", b"T3", b"M3", b"B3", b"R",
+];
 
-/// Returns whether the second point is in the next column or in the column of the first.
-#[tactic(auto, using(crate::proofs::PointSteps::column_small), unfolding(crate::specs::Board::is_ahead))]
-pub fn is_ahead(a: u32, c: u32) -> bool
-    requires from { a < 11 }
-    requires to { c < 11 }
-    ensures { result ≡ is_ahead_of a c }
+/// Returns the name of a point.
+#[tactic(auto, unfolding(crate::specs::Texts::point_name))]
+pub fn point_name(point: u32) -> &'static [u8]
+    requires { point < 11 }
+    ensures name { result.now ≡ name_of point }
+    ensures short { length result.now ≤ 2 }
 {
-    let here = column(a);
-    let there = column(c);
-    there == here || there == here + 1
+    NAMES[point as usize]
 }

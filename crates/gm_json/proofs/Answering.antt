@@ -1,17 +1,10 @@
 -- The answer about a position, put together.
-use Rattle.std.proofs.Common.{◌≡◌, ℕ, Bool, true, false, List, refl, sym, ap, ◌∙◌}
-use Rattle.std.specs.Prelude.{if◌then◌else◌, codes}
-use Rattle.serde_json.specs.Data.{Members, object, member}
-use Rattle.serde_json.specs.Written.{compact_text}
-use Rattle.gm_game.specs.declared.position.Position.{Position}
-use Rattle.gm_game.specs.declared.position.Solved.{Solved}
-use Rattle.gm_game.specs.Rules.{Rules}
-use Rattle.gm_play.specs.declared.move_values.MoveValue.{MoveValue}
+use Rattle.gm_json.proofs.Lower.{◌≡◌, ℕ, Bool, true, false, List, refl, sym, ap, ◌∙◌, if◌then◌else◌, Members, member, compact_text, Position, Solved, Rules}
+use Rattle.gm_json.proofs.Lower.{MoveValue, AreMovesOf, move_trees, position_members, extras}
+use Rattle.std.specs.Prelude.{codes}
+use Rattle.serde_json.specs.Data.{object}
 use Rattle.gm_play.specs.Firsts.{chosen}
-use Rattle.gm_play.specs.PlayTexts.{AreMovesOf}
 use Rattle.gm_json.specs.declared.asked.Asked.{Asked}
-use Rattle.gm_json.specs.Moves.{move_trees, position_members}
-use Rattle.gm_json.specs.Extras.{extras}
 use Rattle.gm_json.specs.Answers.{answer_members, IsPositionJson, IsTold}
 
 not_both : (b : Bool) → b ≡ true → b ≡ false → ⊥

@@ -1,7 +1,7 @@
 -- What is known at the exits of a service.
-use Rattle.std.proofs.Common.{◌≡◌, ℕ, List, [], take, Option, Some, None, Result, Ok, Err, IfErr, OnOk, OnErr, sym, subst}
+use Rattle.gm_json.proofs.Lower.{◌≡◌, ℕ, List, [], take, Option, Some, None, OnOk, sym, subst, Consumes, Keeps}
+use Rattle.std.proofs.Common.{Result, Ok, Err, IfErr, OnErr}
 use Rattle.std.specs.Result.{IsErrAnd}
-use Rattle.std.specs.Io.KnownBytes.{Consumes, Keeps}
 
 -- an error that is passed on broke what it broke
 pub passed : {T E : Type 0} → (r : Result T E) (Q : E → Type 0) (e : E) → IsErrAnd r (λ y. y ≡ e) → Q e → IfErr r Q

@@ -1,8 +1,6 @@
 -- The trees of found positions have no float.
-use Rattle.std.proofs.Common.{◌≡◌, ℕ, false, List, Option, None, Some, refl}
-use Rattle.serde_json.specs.Data.{Data}
+use Rattle.gm_json.proofs.Lower.{◌≡◌, ℕ, false, List, Option, None, Some, refl, Data, Position}
 use Rattle.serde_json.specs.Written.{has_float}
-use Rattle.gm_game.specs.declared.position.Position.{Position}
 use Rattle.gm_find.specs.declared.found.Found.{Found}
 use Rattle.gm_json.specs.Founds.{found_tree}
 use Rattle.gm_json.specs.Words.{move_or_null}

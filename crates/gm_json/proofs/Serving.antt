@@ -1,16 +1,15 @@
 -- A service in its midst.
-use Rattle.std.proofs.Common.{◌≡◌, ℕ, ◌+◌, ◌≤◌, ◌<◌, inl, inr, true, false, List, [], ◌∷◌, ◌++◌, length, take, codes, Option, refl, sym, ap, subst, ◌∙◌}
-use Rattle.std.proofs.Common.{append_assoc, append-nil, arith}
-use Rattle.std.specs.Prelude.{◌==◌}
-use Rattle.std.proofs.lemmas.List.{length-take, length-append}
-use Rattle.std.specs.Io.KnownBytes.{Appends, Consumes, Keeps, IsAtEnd}
+use Rattle.gm_json.proofs.Lower.{◌≡◌, ℕ, ◌+◌, ◌≤◌, ◌<◌, true, false, List, [], ◌∷◌, ◌++◌, length, take, codes, Option, refl, sym, ap, subst, ◌∙◌, append_assoc}
+use Rattle.gm_json.proofs.Lower.{arith, ◌==◌, length-take, length-append, Consumes, Keeps, GoesOn, Midst, kept_bytes, block_bytes, IsOfOutput}
+use Rattle.std.proofs.Common.{inl, inr}
+use Rattle.std.proofs.Common.{append-nil}
+use Rattle.std.specs.Io.KnownBytes.{Appends, IsAtEnd}
 use Rattle.std.proofs.KnownBytes.{Consumes-trans, Consumes-kept, Consumes-nil, Appends-trans, Appends-nil, Appends-kept}
 use Rattle.gm_json.specs.declared.ask_error.AskError.{AskError}
 use Rattle.gm_json.specs.declared.ask_error.AskError.TheVariants.{OutOfMemory, NotHeld, ReadFailed, WriteFailed, OutputClosed}
 use Rattle.gm_play.specs.Sessions.{AppendsPart}
 use Rattle.gm_json.proofs.Splitting.{lines_more, lines_next, lines_end, lines_none, none_kept, kept_push, kept_full, one_begun}
-use Rattle.gm_json.specs.Midst.{GoesOn, Midst}
-use Rattle.gm_json.specs.Asking.{kept_bytes, block_bytes, lines_from, lines_of, AreAnswers, IsServed, IsUnread, IsUnanswered, IsUnwritten, IsBroken, IsOfOutput}
+use Rattle.gm_json.specs.Asking.{lines_from, lines_of, AreAnswers, IsServed, IsUnread, IsUnanswered, IsUnwritten, IsBroken}
 use Rattle.gm_json.specs.Asking.{IsOfLine, IsLineDone, IsCut, IsLineBroken}
 
 module _ (Says : List ℕ → ℕ → List ℕ → Type 0) where

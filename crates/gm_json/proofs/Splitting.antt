@@ -1,8 +1,8 @@
 -- Bytes as lines, of which fronts are kept.
-use Rattle.std.proofs.Common.{◌≡◌, ℕ, ◌≤◌, ◌<◌, Bool, true, false, List, [], ◌∷◌, ◌++◌, length, take, refl, sym, ap, ◌∙◌, arith}
-use Rattle.std.specs.Prelude.{◌==◌, if◌then◌else◌}
-use Rattle.std.proofs.lemmas.List.{take_all, take-append-le, length-take, length-append}
-use Rattle.gm_json.specs.Asking.{kept_bytes, lines_from}
+use Rattle.gm_json.proofs.Lower.{◌≡◌, ℕ, ◌≤◌, ◌<◌, Bool, true, false, List, [], ◌∷◌, ◌++◌, length, take, refl, sym, ap, ◌∙◌, arith, ◌==◌, if◌then◌else◌}
+use Rattle.gm_json.proofs.Lower.{take_all, length-take, length-append, kept_bytes}
+use Rattle.std.proofs.lemmas.List.{take-append-le}
+use Rattle.gm_json.specs.Asking.{lines_from}
 
 -- a byte of a line, the byte that ends it, and the end of all
 pub lines_more : (line : List ℕ) (b : ℕ) (bs : List ℕ) → (b == 10) ≡ false → lines_from line (b ∷ bs) ≡ lines_from (line ++ b ∷ []) bs

@@ -1,18 +1,16 @@
 -- Objects and arrays, written part by part.
-use Rattle.std.proofs.Common.{◌≡◌, ℕ, zero, suc, ◌<◌, ◌≤◌, Bool, true, List, [], ◌∷◌, ◌++◌, refl, sym, ap, ap₂, ◌∙◌, append_assoc, arith}
-use Rattle.std.specs.List.{list_all}
+use Rattle.gm_json.proofs.Lower.{◌≡◌, ℕ, ◌<◌, ◌≤◌, Bool, true, List, [], ◌∷◌, ◌++◌, refl, sym, ap, ap₂, ◌∙◌, append_assoc, arith, list_all, utf8_lossy, quoted}
+use Rattle.gm_json.proofs.Lower.{Data, Members, member, comma_if, compact_text, items_text, members_text, value_word, is_clear, member_text, item_text}
+use Rattle.std.proofs.Common.{zero, suc}
 use Rattle.std.specs.Str.{IsAscii}
-use Rattle.std.specs.Str.Lossy.{utf8_lossy}
 use Rattle.std.proofs.lemmas.Bool.{and_parts}
 use Rattle.std.proofs.lemmas.Str.{utf8_lossy-IsUtf8, IsUtf8-from_ascii}
-use Rattle.json.specs.Print.{escape, quoted}
+use Rattle.json.specs.Print.{escape}
 use Rattle.json.proofs.Printed.Strings.{escape_byte_plain}
-use Rattle.serde_json.specs.Data.{Data, Items, Members, member, item}
-use Rattle.serde_json.specs.Written.{comma_if, compact_text, items_text, members_text}
+use Rattle.serde_json.specs.Data.{Items, item}
 use Rattle.gm_game.specs.declared.position.Value.{Value}
 use Rattle.gm_game.specs.declared.position.Value.TheVariants.{Lose, Draw, Tie, Win}
-use Rattle.gm_play.specs.PlayTexts.{value_word}
-use Rattle.gm_json.specs.Parts.{is_clear, key_text, member_text, item_text}
+use Rattle.gm_json.specs.Parts.{key_text}
 
 -- ---- strings
 -- what the test of a byte says

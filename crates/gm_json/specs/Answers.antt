@@ -1,16 +1,9 @@
 -- The answer to a line that should be the text of a position.
 use Rattle.std.specs.Prelude.{◌≡◌, ℕ, ◌⊎◌, true, false, List, take, codes, if◌then◌else◌}
-use Rattle.serde_json.specs.Data.{Data, string, object, Members, member, no_members}
-use Rattle.serde_json.specs.Written.{compact_text}
-use Rattle.gm_game.specs.declared.position.Position.{Position}
-use Rattle.gm_game.specs.declared.position.Solved.{Solved}
-use Rattle.gm_game.specs.Rules.{Rules}
-use Rattle.gm_game.specs.Values.{IsTrueValue}
-use Rattle.gm_play.specs.declared.move_values.MoveValue.{MoveValue}
+use Rattle.gm_json.specs.Lower.{Data, string, object, Members, member, no_members, compact_text}
+use Rattle.gm_json.specs.Lower.{Position, Solved, Rules, IsTrueValue, MoveValue, chosen, AreMoveValues, BeginsBest, IsReadAs}
 use Rattle.gm_play.specs.Dialogue.{without_return}
-use Rattle.gm_play.specs.Firsts.{chosen}
-use Rattle.gm_play.specs.MoveValues.{AreMoveValues, BeginsBest}
-use Rattle.gm_play.specs.PlayTexts.{IsNoPosition, IsReadAs}
+use Rattle.gm_play.specs.PlayTexts.{IsNoPosition}
 use Rattle.gm_json.specs.declared.asked.Asked.{Asked}
 use Rattle.gm_json.specs.Words.{whole, text}
 use Rattle.gm_json.specs.Moves.{move_trees, position_members}

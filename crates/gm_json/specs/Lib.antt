@@ -7,3 +7,4 @@ pub mod Extras
 pub mod Answers
 pub mod Asking
 pub mod Midst
+pub mod Lower

@@ -1,6 +1,6 @@
 -- A service in its midst.
 use Rattle.std.specs.Prelude.{◌≡◌, ℕ, ◌+◌, ◌≤◌, List, ◌++◌, length, take, Option}
-use Rattle.std.specs.Io.KnownBytes.{Appends, Consumes}
+use Rattle.gm_json.specs.Lower.{Appends, Consumes}
 use Rattle.gm_json.specs.Asking.{kept_bytes, block_bytes, AreEnded, AreAnswers}
 
 module _ (Says : List ℕ → ℕ → List ℕ → Type 0) where

@@ -1,8 +1,7 @@
 -- The texts of JSON, part by part.
-use Rattle.std.specs.Prelude.{ℕ, Bool, not, ◌&&◌, ◌==◌, nat_le, nat_lt, List, [], ◌∷◌, ◌++◌}
-use Rattle.json.specs.Print.{quoted}
-use Rattle.serde_json.specs.Data.{Data}
-use Rattle.serde_json.specs.Written.{comma_if, compact_text}
+use Rattle.std.specs.Prelude.{ℕ, Bool, ◌==◌, List, [], ◌∷◌, ◌++◌}
+use Rattle.gm_json.specs.Lower.{quoted, Data, comma_if, compact_text}
+use Rattle.std.specs.Prelude.{not, ◌&&◌, nat_le, nat_lt}
 
 -- a byte that stands for itself in a string: visible ASCII or a space, but no quote and no backslash
 abbrev pub is_clear : ℕ → Bool

@@ -1,9 +1,8 @@
 -- Texts and values in JSON.
-use Rattle.std.specs.Prelude.{ℕ, List, ◌++◌, codes, Option, None, Some}
-use Rattle.std.specs.Str.Lossy.{utf8_lossy}
-use Rattle.serde_json.specs.Data.{Data, null, number, unsigned, string}
-use Rattle.serde_json.specs.Written.{compact_text}
-use Rattle.gm_game.specs.declared.position.Position.{Position}
+use Rattle.std.specs.Prelude.{ℕ, List, ◌++◌, codes, Option}
+use Rattle.gm_json.specs.Lower.{utf8_lossy, Data, null, string, compact_text, Position}
+use Rattle.std.specs.Prelude.{None, Some}
+use Rattle.serde_json.specs.Data.{number, unsigned}
 
 abbrev pub whole : ℕ → Data
 whole n = number (unsigned n)

@@ -1,12 +1,9 @@
 //! The answer to one line that should be the text of a position.
-ghost use Rattle.std.specs.Prelude.{◌≡◌, ◌↔◌, ◌++◌, ◌∷◌, true, false, take, IfOk, IfErr, OnOk, IsErrOf};
-ghost use Rattle.std.specs.List.{All};
-ghost use Rattle.gm_game.specs.declared.position.Position.{Position};
-ghost use Rattle.serde_json.specs.Data.{Members};
-ghost use Rattle.serde_json.specs.Written.{compact_text, members_text};
-ghost use Rattle.gm_best.specs.Refusals.{IsNotHeld};
+ghost use Rattle.std.specs.Prelude.{◌≡◌, ◌++◌, ◌∷◌, true, false, take, IfOk, IfErr, OnOk, IsErrOf};
+ghost use Rattle.gm_json.specs.Lower.{All, Position, Members, compact_text, members_text};
+ghost use Rattle.gm_json.specs.Lower.{IsNotHeld, IsMoveOf, IsReadAs};
+ghost use Rattle.std.specs.Prelude.{◌↔◌};
 ghost use Rattle.gm_play.specs.Dialogue.{without_return as without_return_spec};
-ghost use Rattle.gm_play.specs.PlayTexts.{IsMoveOf, IsReadAs};
 ghost use Rattle.gm_json.specs.Answers.{IsAnswer, IsPositionJson, IsTold, answer_members, read_bytes, unread_tree, error_tree};
 ghost use Rattle.gm_json.specs.Asking.{IsOfLine};
 
@@ -15,11 +12,11 @@ use crate::asked::Asked;
 use crate::extras::push_extras;
 use crate::moves::{push_moves, push_value};
 use crate::parts::{push_bytes, push_number_member, push_text_member};
-use gm_best::closed::Closed;
-use gm_best::known::Known;
 use gm_game::position::{Position, Solved};
 use gm_game::shown::Shown;
+use gm_play::closed::Closed;
 use gm_play::firsts::moves_of;
+use gm_play::known::Known;
 use gm_play::move_values::MoveValue;
 use gm_play::streams::without_return;
 use std::alloc::{AllocError, Global};

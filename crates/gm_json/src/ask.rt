@@ -1,9 +1,8 @@
 //! A service that reads positions, one per line, and answers each with a line of JSON.
-ghost use Rattle.std.specs.Prelude.{◌≡◌, ◌+◌, ◌≤◌, ◌<◌, ◌^◌, ◌∷◌, ◌++◌, [], List, ℕ, Option, codes, length, IfOk, OnOk, OnErr, IfErr, IsErrOf};
-ghost use Rattle.std.specs.Io.KnownBytes.{Appends, Consumes, Keeps, IsAtEnd};
-ghost use Rattle.gm_game.specs.declared.position.Position.{Position};
-ghost use Rattle.gm_play.specs.Sessions.{AppendsPart};
-ghost use Rattle.gm_best.specs.Refusals.{IsNotHeld};
+ghost use Rattle.std.specs.Prelude.{◌≡◌, ◌+◌, ◌≤◌, ◌∷◌, ◌++◌, [], List, ℕ, Option, codes, length, IfOk, OnOk, IfErr, IsErrOf};
+ghost use Rattle.gm_json.specs.Lower.{Appends, Consumes, Keeps};
+ghost use Rattle.gm_json.specs.Lower.{IsAtEnd, Position, AppendsPart, IsNotHeld};
+ghost use Rattle.std.specs.Prelude.{◌<◌, ◌^◌, OnErr};
 ghost use Rattle.gm_json.specs.Answers.{IsAnswer};
 ghost use Rattle.gm_json.specs.Asking.{IsServed, IsBroken, IsLineDone, IsLineBroken, IsOfOutput, IsOfLine};
 ghost use Rattle.gm_json.specs.Midst.{GoesOn, Midst};
@@ -12,9 +11,9 @@ use crate::answer::ask_line;
 use crate::ask_error::AskError;
 use crate::asked::Asked;
 use arrayvec::ArrayVec;
-use gm_best::closed::Closed;
 use gm_game::limits::LINE;
 use gm_game::shown::Shown;
+use gm_play::closed::Closed;
 use gm_play::streams::write_text;
 use std::alloc::Global;
 use std::io::{ErrorKind, Read, Write};

@@ -1,21 +1,20 @@
 //! Found positions, in JSON.
-ghost use Rattle.std.specs.Prelude.{◌≡◌, [], true, IfOk, OnOk, is_some};
-ghost use Rattle.std.specs.List.{All, flat_map};
-ghost use Rattle.serde_json.specs.Data.{object};
-ghost use Rattle.serde_json.specs.View.{view, members_view};
-ghost use Rattle.gm_best.specs.BestMoves.{IsBestMove};
+ghost use Rattle.std.specs.Prelude.{◌≡◌, [], true, IfOk, OnOk};
+ghost use Rattle.gm_json.specs.Lower.{All, flat_map, object, view, members_view};
+ghost use Rattle.std.specs.Prelude.{is_some};
+ghost use Rattle.gm_play.specs.BestMoves.{IsBestMove};
 ghost use Rattle.gm_find.specs.Founds.{IsFound};
 ghost use Rattle.gm_json.specs.Words.{move_or_null};
 ghost use Rattle.gm_json.specs.Founds.{found_tree, found_line, IsFoundJson};
 
 use crate::words::{push_line, put_text, put_word, text_value};
-use gm_best::known_tiers::KnownTiers;
 use gm_find::choice::find_some;
 use gm_find::found::Found;
 use gm_find::reached::Reached;
 use gm_find::sought::{Choice, Sought};
 use gm_game::position::Position;
 use gm_game::shown::Shown;
+use gm_play::known_tiers::KnownTiers;
 use gm_play::texts::word_of;
 use serde_json::{Map, Value as Json, put};
 use std::alloc::{AllocError, Global};

@@ -1,18 +1,14 @@
 //! Lines of best play, in JSON.
 ghost use Rattle.std.specs.Prelude.{◌≡◌, ◌++◌, [], true, false, IfOk, OnOk};
-ghost use Rattle.serde_json.specs.Data.{null, object};
-ghost use Rattle.serde_json.specs.View.{view, members_view};
-ghost use Rattle.serde_json.specs.Written.{has_float};
-ghost use Rattle.gm_game.specs.Values.{IsTrueValue};
-ghost use Rattle.gm_play.specs.BestLines.{AreBest};
+ghost use Rattle.gm_json.specs.Lower.{null, object, view, members_view, has_float, IsTrueValue, AreBest};
 ghost use Rattle.gm_json.specs.Words.{line_of};
 ghost use Rattle.gm_json.specs.Lines.{again_tree, end_line, step_tree, steps_from, IsLineJson};
 
 use crate::words::{push_line, put_text, put_word, text_value};
-use gm_best::known::Known;
 use gm_game::position::{Position, Solved};
 use gm_game::shown::Shown;
 use gm_play::best_line::{LineEnd, best_line};
+use gm_play::known::Known;
 use gm_play::texts::{value_after, word_of};
 use serde_json::{Map, Value as Json, json, put};
 use std::alloc::{AllocError, Global};

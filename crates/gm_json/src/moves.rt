@@ -1,19 +1,16 @@
 //! What the moves of a position are worth, in JSON.
 ghost use Rattle.std.specs.Prelude.{◌≡◌, ◌++◌, true, false, codes, IfOk, OnOk};
-ghost use Rattle.std.specs.List.{All};
-ghost use Rattle.serde_json.specs.Data.{Members};
-ghost use Rattle.serde_json.specs.Written.{compact_text, members_text};
-ghost use Rattle.gm_play.specs.PlayTexts.{IsMoveOf};
+ghost use Rattle.gm_json.specs.Lower.{All, Members, compact_text, members_text, IsMoveOf};
 ghost use Rattle.gm_json.specs.Parts.{item_text, member_text};
 ghost use Rattle.gm_json.specs.Moves.{move_tree, move_trees, moves_tree, position_members, IsMovesJson};
 
 use crate::parts::{
     push_bytes, push_comma, push_key, push_number_member, push_text_member, push_value_member,
 };
-use gm_best::known::Known;
 use gm_game::position::{Position, Solved};
 use gm_game::shown::Shown;
 use gm_play::firsts::moves_of;
+use gm_play::known::Known;
 use gm_play::move_values::MoveValue;
 use std::alloc::{AllocError, Global};
 

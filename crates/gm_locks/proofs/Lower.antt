@@ -1,14 +1,14 @@
 -- The words of this crate and the crates below that its proofs use, passed on from one place. Declares nothing.
-pub use Rattle.gm_deliveries.proofs.AddedLemmas.{cases_at, count_same, note_stands, outcome, pairs_more, same_here}
-pub use Rattle.gm_deliveries.proofs.CloseLemmas.{closes_reached, number_before, whole_from}
-pub use Rattle.gm_deliveries.specs.Delivery.{Delivers, IsAdded, IsPairHere, IsPlaceOf}
-pub use Rattle.gm_deliveries.specs.Good.{IsGood}
-pub use Rattle.gm_deliveries.specs.State.{IsInRange, ShardState, delivered_to, pairs_in, with_pair}
-pub use Rattle.gm_deliveries.specs.Steps.{IsFor, IsWhole, place_of}
-pub use Rattle.gm_deliveries.specs.declared.status.Delivery.{Delivery}
-pub use Rattle.gm_deliveries.specs.declared.status.Delivery.TheVariants.{Fresh, FreshSettled, Repeat}
-pub use Rattle.gm_deliveries.specs.declared.status.Refused.{Refused}
-pub use Rattle.gm_deliveries.specs.declared.status.Refused.TheVariants.{NotAParent, NotMine, NotThisLevel, TooFar}
+pub use Rattle.gm_shard.proofs.AddedLemmas.{cases_at, count_same, note_stands, outcome, pairs_more, same_here}
+pub use Rattle.gm_shard.proofs.CloseLemmas.{closes_reached, number_before, whole_from}
+pub use Rattle.gm_shard.specs.Delivery.{Delivers, IsAdded, IsPairHere, IsPlaceOf}
+pub use Rattle.gm_shard.specs.Good.{IsGood}
+pub use Rattle.gm_shard.specs.State.{IsInRange, ShardState, delivered_to, pairs_in, with_pair}
+pub use Rattle.gm_shard.specs.Steps.{IsFor, IsWhole, place_of}
+pub use Rattle.gm_shard.specs.declared.status.Delivery.{Delivery}
+pub use Rattle.gm_shard.specs.declared.status.Delivery.TheVariants.{Fresh, FreshSettled, Repeat}
+pub use Rattle.gm_shard.specs.declared.status.Refused.{Refused}
+pub use Rattle.gm_shard.specs.declared.status.Refused.TheVariants.{NotAParent, NotMine, NotThisLevel, TooFar}
 pub use Rattle.gm_frontier.proofs.CountLemmas.{level_added, ties_begin}
 pub use Rattle.gm_frontier.proofs.CoverLemmas.{in_some_piece, one_piece}
 pub use Rattle.gm_frontier.proofs.Distinct.{no_repeats_before, no_repeats_from, same_image}

@@ -1,7 +1,7 @@
 -- Where positions stand, by their values.
 use Rattle.std.proofs.Common.{◌≡◌, ℕ, inl, inr, subst}
 use Rattle.gm_locks.proofs.Lower.{Position, Solved, Value, Lose, Draw, Tie, Win, Phase, WinLose, Ties, Rules, HasValue, IsTrueValue, StandsAt, HasValue_once}
-pub use Rattle.gm_deliveries.proofs.AddedLemmas.{value_stands}
+pub use Rattle.gm_shard.proofs.AddedLemmas.{value_stands}
 
 -- what is at a level has that remoteness
 pub stands_remoteness : (r : Rules) (p : Position) (phase : Phase) (n : ℕ) (x : Solved) → StandsAt r phase n p → IsTrueValue r p x → x.remoteness ≡ n

@@ -1,14 +1,14 @@
 -- The words of the crates below that contracts and definitions of this crate use, passed on from one place. Declares nothing.
-pub use Rattle.gm_deliveries.specs.Closing.{Closes}
-pub use Rattle.gm_deliveries.specs.Delivery.{Delivers, IsAdded, IsPairHere, IsPlaceOf}
-pub use Rattle.gm_deliveries.specs.Good.{IsGood}
-pub use Rattle.gm_deliveries.specs.State.{IsInRange, ShardState, delivered_to, pairs_in}
-pub use Rattle.gm_deliveries.specs.Steps.{IsWhole}
-pub use Rattle.gm_deliveries.specs.declared.status.Delivery.{Delivery}
-pub use Rattle.gm_deliveries.specs.declared.status.Delivery.TheVariants.{Fresh, FreshSettled, Repeat}
-pub use Rattle.gm_deliveries.specs.declared.status.Refused.{Refused}
-pub use Rattle.gm_deliveries.specs.declared.status.Refused.TheVariants.{NotAParent, NotMine, NotThisLevel, TooFar}
-pub use Rattle.gm_deliveries.specs.declared.status.Short.{Short}
+pub use Rattle.gm_shard.specs.Closing.{Closes}
+pub use Rattle.gm_shard.specs.Delivery.{Delivers, IsAdded, IsPairHere, IsPlaceOf}
+pub use Rattle.gm_shard.specs.Good.{IsGood}
+pub use Rattle.gm_shard.specs.State.{IsInRange, ShardState, delivered_to, pairs_in}
+pub use Rattle.gm_shard.specs.Steps.{IsWhole}
+pub use Rattle.gm_shard.specs.declared.status.Delivery.{Delivery}
+pub use Rattle.gm_shard.specs.declared.status.Delivery.TheVariants.{Fresh, FreshSettled, Repeat}
+pub use Rattle.gm_shard.specs.declared.status.Refused.{Refused}
+pub use Rattle.gm_shard.specs.declared.status.Refused.TheVariants.{NotAParent, NotMine, NotThisLevel, TooFar}
+pub use Rattle.gm_shard.specs.declared.status.Short.{Short}
 pub use Rattle.gm_frontier.specs.Counts.{ExpectedData, IsNumberBefore}
 pub use Rattle.gm_frontier.specs.Levels.{IsLevel, LevelData, place_at}
 pub use Rattle.gm_frontier.specs.Notes.{IsNote, NoteData, phase_of}

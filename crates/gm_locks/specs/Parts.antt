@@ -1,6 +1,6 @@
 -- Parts of a ledger, and a shard with its book.
 use Rattle.std.specs.Prelude.{ℕ}
-use Rattle.gm_deliveries.specs.State.{ShardState}
+use Rattle.gm_shard.specs.State.{ShardState}
 
 -- some parts of a ledger and an amount
 pub record Part : Type 0 where

@@ -6,11 +6,11 @@ ghost use Rattle.gm_locks.specs.Amounts.{Amounts, one_part, amount_of, raised, j
 
 use crate::held::Held;
 use crate::share::{ShardLedger, Share};
-use gm_deliveries::place::place_of;
-use gm_deliveries::status::{Delivery, Refused};
 use gm_frontier::note::Note;
 use gm_game::game::Game;
+use gm_shard::place::place_of;
 use gm_shard::shard::Shard;
+use gm_shard::status::{Delivery, Refused};
 use std::marker::Model;
 use std::sync::ledger::Blank;
 use std::sync::{Mutex, Wait};

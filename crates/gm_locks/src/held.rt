@@ -4,11 +4,11 @@ ghost use Rattle.gm_locks.specs.Lower.{pairs_in, IsGood, IsPlaceOf, Delivers};
 ghost use Rattle.gm_locks.specs.Spots.{spot_of, gain, IsAnswer, IsDeliveryAt};
 
 use crate::share::{ShardLedger, Share, gained};
-use gm_deliveries::place::place_of;
-use gm_deliveries::status::{Delivery, Refused};
 use gm_frontier::note::Note;
 use gm_game::game::Game;
+use gm_shard::place::place_of;
 use gm_shard::shard::Shard;
+use gm_shard::status::{Delivery, Refused};
 use std::marker::Model;
 use std::sync::ledger::Book;
 
@@ -21,7 +21,7 @@ pub struct Held<G: Game, L: ShardLedger> {
 
 impl<G: Game, L: ShardLedger> Model for Held<G, L> {
     ghost use Rattle.std.specs.Prelude.{◌≡◌};
-    ghost use Rattle.gm_deliveries.specs.State.{pairs_in};
+    ghost use Rattle.gm_shard.specs.State.{pairs_in};
     ghost use Rattle.gm_locks.specs.Spots.{spot_of};
     ghost use Rattle.gm_locks.specs.Parts.{HeldData};
 

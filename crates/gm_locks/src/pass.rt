@@ -6,12 +6,12 @@ ghost use Rattle.gm_locks.specs.Rounds.{pairs_into, place_of_spot, IsRound, HasN
 ghost use Rattle.gm_locks.specs.Begun.{IsBegun};
 
 use crate::share::{ShardLedger, Share, gained};
-use gm_deliveries::status::{Delivery, Refused};
 use gm_frontier::expected::Expected;
 use gm_frontier::level::Level;
 use gm_frontier::note::Note;
 use gm_game::game::Game;
 use gm_shard::ordered::OrderedShard;
+use gm_shard::status::{Delivery, Refused};
 use std::marker::{Brand, Model};
 use std::sync::ledger::{Blank, Book};
 use std::sync::{Mutex, Wait};

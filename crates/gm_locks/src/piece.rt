@@ -7,11 +7,11 @@ ghost use Rattle.gm_locks.specs.Pieces.{piece_pairs, AreNew, IsRefusedAt, IsTurn
 
 use crate::pass::PassLedger;
 use crate::share::Share;
-use gm_deliveries::status::Refused;
 use gm_frontier::level::Level;
 use gm_frontier::note::Note;
 use gm_game::game::Game;
 use gm_shard::ordered::OrderedShard;
+use gm_shard::status::Refused;
 use std::alloc::{AllocError, Global};
 use std::marker::{Brand, Model};
 use std::sync::ledger::{Blank, Book};

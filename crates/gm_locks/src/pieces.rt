@@ -8,11 +8,11 @@ ghost use Rattle.gm_locks.specs.Pieces.{PiecedData, piece_pairs, IsRefusedAt, Is
 use crate::board::{Four, Shares};
 use crate::piece::{PieceLedger, Pieced};
 use crate::share::Share;
-use gm_deliveries::status::Refused;
 use gm_frontier::level::Level;
 use gm_frontier::note::Note;
 use gm_game::game::Game;
 use gm_shard::ordered::OrderedShard;
+use gm_shard::status::Refused;
 use std::alloc::{AllocError, Global};
 use std::marker::Model;
 use std::sync::ledger::Blank;

@@ -3,7 +3,7 @@ ghost use Rattle.std.specs.Prelude.{◌≡◌, ◌+◌, ◌-◌, ◌^◌, ◌<�
 ghost use Rattle.gm_locks.specs.Spots.{Spot, first_spot, gain};
 ghost use Rattle.gm_locks.specs.Parts.{Part};
 
-use gm_deliveries::status::{Delivery, Refused};
+use gm_shard::status::{Delivery, Refused};
 use std::marker::{Brand, Model};
 use std::sync::ledger;
 use std::sync::ledger::{Book, Ledger};

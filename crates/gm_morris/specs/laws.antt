@@ -2,6 +2,5 @@
 pub mod PointFacts
 pub mod BoardFacts
 pub mod MoveFacts
-pub mod PlayFacts
 pub mod MorrisLaws
 pub mod TextLaws

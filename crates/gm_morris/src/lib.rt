@@ -2,10 +2,5 @@
 //! states them.
 #![tactic(auto)]
 
-pub mod board;
 pub mod games;
-pub mod moves;
-pub mod parents;
-pub mod text;
-pub mod tiers;
 pub mod variant;

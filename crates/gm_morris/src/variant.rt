@@ -1,60 +1,27 @@
-//! The differences of the games of nine points: their names, last tiers, lines, and the points between which pieces move.
-ghost use Rattle.std.specs.Prelude.{◌≡◌, ◌<◌, ◌≤◌};
-ghost use Rattle.std.specs.List.{list_any, list_all};
-ghost use Rattle.gm_board.specs.Masks.{has_cell};
-ghost use Rattle.gm_morris.specs.Points.{variant_of, name_of, last_tier as last_tier_of, end_if_no_move as stuck_of, lines, joins as joins_of};
+//! The differences of the games of nine points: their names, last tiers, lines, and the points between which pieces move. In a mask of points each octal digit is
+//! a row.
+ghost use Rattle.std.specs.Prelude.{◌≡◌, ◌<◌, map};
+ghost use Rattle.gm_board.specs.BoardMasks.{pattern_mask};
+ghost use Rattle.gm_morris.specs.Points.{variant_of, name_of, last_tier as last_tier_of, end_if_no_move as stuck_of, lines as lines_of, joins as joins_of};
 
-use gm_board::pattern::has_some;
 use gm_game::limits::NAME;
 use gm_game::position::End;
 
-/// The masks of the rows, the columns and the diagonals.
-const LINES: [u32; 8] = [
-    0b000_000_111,
-    0b000_111_000,
-    0b111_000_000,
-    0b001_001_001,
-    0b010_010_010,
-    0b100_100_100,
-    0b100_010_001,
-    0b001_010_100,
-];
-
 /// The masks of the rows and the columns.
-const STRAIGHT_LINES: [u32; 6] = [
-    0b000_000_111,
-    0b000_111_000,
-    0b111_000_000,
-    0b001_001_001,
-    0b010_010_010,
-    0b100_100_100,
-];
+const STRAIGHT_LINES: [u32; 6] = [0o007, 0o070, 0o700, 0o111, 0o222, 0o444];
+
+/// The masks of the rows, the columns and the diagonals.
+const LINES: [u32; 8] = [0o007, 0o070, 0o700, 0o111, 0o222, 0o444, 0o421, 0o124];
 
 /// For each point, the mask of its neighbors in its row and its column.
 const BESIDE: [u32; 9] = [
-    0b000_001_010,
-    0b000_010_101,
-    0b000_100_010,
-    0b001_010_001,
-    0b010_101_010,
-    0b100_010_100,
-    0b010_001_000,
-    0b101_010_000,
-    0b010_100_000,
+    0o012, 0o025, 0o042, 0o121, 0o252, 0o424, 0o210, 0o520, 0o240,
 ];
 
 /// For each point, the mask of its neighbors along the lines of the board: those in its row and its column, and the corners for the center and the center for a
 /// corner.
 const ALONG_LINES: [u32; 9] = [
-    0b000_011_010,
-    0b000_010_101,
-    0b000_110_010,
-    0b001_010_001,
-    0b111_101_111,
-    0b100_010_100,
-    0b010_011_000,
-    0b101_010_000,
-    0b010_110_000,
+    0o032, 0o025, 0o062, 0o121, 0o757, 0o424, 0o230, 0o520, 0o260,
 ];
 
 /// A game of nine points (docs/GAMES.md, games of nine points).
@@ -93,8 +60,7 @@ impl Variant {
     /// Returns the last tier, which has the most pieces: from it no piece is placed.
     #[tactic(auto, unfolding(crate::specs::Points::last_tier))]
     pub fn last_tier(self) -> u64
-        ensures value { result ≡ last_tier_of self }
-        ensures small { result ≤ 9 }
+        ensures { result ≡ last_tier_of self }
     {
         match self {
             Variant::TicTacToe => 9,
@@ -114,18 +80,19 @@ impl Variant {
         }
     }
 
-    /// Returns whether these points include all points of a line.
-    pub fn has_line(self, points: u32) -> bool
-        ensures { result ≡ list_any (λ line. list_all (has_cell points) line) (lines self) }
+    /// Returns the masks of the lines.
+    #[tactic(auto, unfolding(crate::specs::Points::lines))]
+    pub fn lines(self) -> &'static [u32]
+        ensures { map pattern_mask (lines_of self) ≡ result.now }
     {
         match self {
-            Variant::TicTacToe | Variant::Achi => has_some(points, &LINES),
-            Variant::ThreeMens => has_some(points, &STRAIGHT_LINES),
+            Variant::TicTacToe | Variant::Achi => &LINES,
+            Variant::ThreeMens => &STRAIGHT_LINES,
         }
     }
 
     /// Returns whether a piece can move from one point to the other in the last tier. Points are below 16, of which the board has nine.
-    #[tactic(auto, using(crate::specs::laws::PointFacts::beside_joins, crate::specs::laws::PointFacts::along_joins), unfolding(crate::specs::Points::joins))]
+    #[tactic(auto, using(std::proofs::lemmas::Nat::Bits::shr_and_one, crate::specs::laws::PointFacts::beside_joins, crate::specs::laws::PointFacts::along_joins), unfolding(crate::specs::Points::joins))]
     pub fn joins(self, from: u32, to: u32) -> bool
         requires from { from < 9 }
         requires to { to < 16 }
@@ -133,16 +100,8 @@ impl Variant {
     {
         match self {
             Variant::TicTacToe => false,
-            Variant::ThreeMens => has_point(BESIDE[from as usize], to),
-            Variant::Achi => has_point(ALONG_LINES[from as usize], to),
+            Variant::ThreeMens => BESIDE[from as usize] >> to & 1 == 1,
+            Variant::Achi => ALONG_LINES[from as usize] >> to & 1 == 1,
         }
     }
-}
-
-// Returns whether the point is one of these points.
-fn has_point(points: u32, point: u32) -> bool
-    requires { point < 32 }
-    ensures { result ≡ has_cell points point }
-{
-    points >> point & 1 == 1
 }

@@ -1,9 +1,6 @@
 -- A property of each element of a list that a loop visits.
-use Rattle.std.proofs.Common.{ℕ, ◌+◌, ◌<◌, ◌≤◌, List, length, take, get_or, sym, subst, inl, inr}
-use Rattle.std.specs.List.{Contains}
-use Rattle.std.proofs.lemmas.List.{take_more, take_all}
-use Rattle.std.proofs.lemmas.List.Elements.{Contains-push_cases}
-use Rattle.gm_game.proofs.Lists.{contains_none}
+use Rattle.gm_page.proofs.Lower.{ℕ, ◌+◌, ◌<◌, ◌≤◌, List, length, take, get_or, sym, subst, inl, inr, Contains, take_more, take_all, Contains-push_cases}
+use Rattle.gm_page.proofs.Lower.{contains_none}
 
 module _ {X : Type 0} (P : X → Type 0) where
   pub each_none : (xs : List X) (x : X) → Contains (take 0 xs) x → P x

@@ -1,11 +1,9 @@
 -- Digits of an engine.
-use Rattle.std.proofs.Common.{◌≡◌, ◌&&◌, ℕ, Bool, true, false, List, [], ◌∷◌, ◌++◌, codes, inl, inr, sym, ap, subst, ◌∙◌, not, eqb, eqb-true, refl}
-use Rattle.std.specs.List.{list_all}
-use Rattle.std.proofs.lemmas.Bool.{cases_Bool, and_parts, and_from}
+use Rattle.gm_page.proofs.Lower.{◌≡◌, ℕ, Bool, true, false, List, [], ◌∷◌, ◌++◌, inl, inr, sym, ap, subst, ◌∙◌, not, eqb, eqb-true, refl, list_all, cases_Bool}
+use Rattle.gm_page.proofs.Lower.{and_parts, and_from, list_all-append, opens_none}
+use Rattle.std.proofs.Common.{◌&&◌, codes}
 use Rattle.std.proofs.lemmas.List.{append_cancel_right}
-use Rattle.std.proofs.lemmas.List.Folds.{list_all-append}
 use Rattle.gm_page.specs.Engines.{is_digit, AreDigits, IsBeforeEnd, IsEngine}
-use Rattle.gm_page.specs.Scripts.{opens_none}
 
 no_and : (b : Bool) → (b && false) ≡ true → ⊥
 no_and true h = let none : ⊥ = cc in none

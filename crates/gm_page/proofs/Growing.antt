@@ -1,16 +1,10 @@
 -- Lists that grow by one position at a time: the properties that each step preserves, and the contents afterwards.
-use Rattle.std.proofs.Common.{◌≡◌, ℕ, zero, suc, ◌+◌, ◌<◌, ◌≤◌, List, [], ◌∷◌, ◌++◌, map, length, take, get_or, refl, sym, ap, ◌∙◌, subst, ◌⊎◌, inl, inr, arith}
-use Rattle.std.specs.List.{Contains}
-use Rattle.std.proofs.lemmas.Bool.{cases_lt}
-use Rattle.std.proofs.lemmas.List.{length-append, get_or_append_left, get_or_push, take-append-le, take_all, take_more, map-append}
-use Rattle.std.proofs.lemmas.List.Elements.{Contains-append_left, Contains-push, Contains-get_or}
-use Rattle.std.proofs.lemmas.Option.{slice_get_within}
-use Rattle.gm_game.specs.declared.position.Position.{Position}
-use Rattle.gm_game.specs.Rules.{Rules}
-use Rattle.gm_game.proofs.Lists.{contains_none, contains_first, contains_later, contains_cases}
-use Rattle.gm_play.specs.BestLines.{AreFresh}
-use Rattle.gm_play.specs.declared.move_values.MoveValue.{MoveValue}
-use Rattle.gm_page.specs.Listings.{with_new, with_all, result_of, IsListedAfter, ComesFromEarlier}
+use Rattle.gm_page.proofs.Lower.{◌≡◌, ℕ, zero, suc, ◌+◌, ◌<◌, ◌≤◌, List, [], ◌∷◌, ◌++◌, map, length, take, get_or, refl, sym, ap, ◌∙◌, subst, ◌⊎◌, inl, inr}
+use Rattle.gm_page.proofs.Lower.{arith, Contains, cases_lt, take_all, take_more, map-append, Contains-get_or, slice_get_within, Position, Rules, contains_none}
+use Rattle.gm_page.proofs.Lower.{contains_first, contains_later, contains_cases, AreFresh, MoveValue, with_new, with_all, result_of, IsListedAfter}
+use Rattle.gm_page.proofs.Lower.{ComesFromEarlier}
+use Rattle.std.proofs.lemmas.List.{length-append, get_or_append_left, get_or_push, take-append-le}
+use Rattle.std.proofs.lemmas.List.Elements.{Contains-append_left, Contains-push}
 use Rattle.gm_page.proofs.Places.{new_cases}
 
 long_more : (old : List Position) (q : Position) → length (old ++ q ∷ []) ≡ length old + 1

@@ -9,3 +9,5 @@ pub mod ReadingBack
 pub mod ReadingRows
 pub mod Paging
 pub mod Digits
+pub mod Sheeting
+pub mod Lower

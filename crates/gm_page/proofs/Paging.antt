@@ -1,6 +1,5 @@
 -- A page is the viewer with its lines between the two parts.
-use Rattle.std.proofs.Common.{◌≡◌, ℕ, List, [], ◌++◌, ap, ◌∙◌}
-use Rattle.std.proofs.lemmas.List.{append_assoc}
+use Rattle.gm_page.proofs.Lower.{◌≡◌, ℕ, List, [], ◌++◌, ap, ◌∙◌, append_assoc}
 
 -- the parts of a page that were appended to an empty text
 pub parts_of : (front head rows back p0 p1 p2 p3 p4 : List ℕ) → p0 ≡ [] → p1 ≡ p0 ++ front → p2 ≡ p1 ++ head → p3 ≡ p2 ++ rows → p4 ≡ p3 ++ back

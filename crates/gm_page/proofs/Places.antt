@@ -1,15 +1,12 @@
 -- Places of positions in a list.
-use Rattle.std.proofs.Common.{◌≡◌, ℕ, ◌+◌, ◌<◌, ◌≤◌, Bool, true, false, cond, nat_eq, eqb-true, eq-eqb, leb, leb-true, le-leb, ◌↔◌, List, [], ◌∷◌, ◌++◌, length}
-use Rattle.std.proofs.Common.{Option, None, Some, is_some, refl, sym, ap, ◌∙◌, subst, ◌⊎◌, inl, inr, arith}
-use Rattle.std.specs.HashMap.{get, HashMap}
-use Rattle.std.specs.List.{Contains}
-use Rattle.std.proofs.lemmas.Bool.{cases_Bool, cond-true, cond-false, and_parts, and_from, false≢true}
+use Rattle.gm_page.proofs.Lower.{◌≡◌, ℕ, ◌+◌, ◌<◌, ◌≤◌, Bool, true, false, cond, eqb-true, List, [], ◌∷◌, ◌++◌, length, Option, None, Some, is_some, refl, sym}
+use Rattle.gm_page.proofs.Lower.{ap, ◌∙◌, subst, ◌⊎◌, inl, inr, arith, get, Contains, cases_Bool, cond-true, cond-false, and_parts, and_from, false≢true}
+use Rattle.gm_page.proofs.Lower.{Position, at, contains_none, contains_first, contains_later, contains_cases, is_same, place_from, place_of, is_key, Tells}
+use Rattle.gm_page.proofs.Lower.{with_new}
+use Rattle.std.proofs.Common.{nat_eq, eq-eqb, leb, leb-true, le-leb, ◌↔◌}
+use Rattle.std.specs.HashMap.{HashMap}
 use Rattle.std.proofs.lemmas.Bool.Decides.{nat_tests}
-use Rattle.gm_game.specs.declared.position.Position.{Position}
-use Rattle.gm_game.specs.Rules.{at}
-use Rattle.gm_game.proofs.Lists.{contains_none, contains_first, contains_later, contains_cases}
 use Rattle.gm_game.proofs.SetLemmas.{same_position}
-use Rattle.gm_page.specs.Listings.{is_same, place_from, place_of, is_key, Tells, with_new}
 
 -- the test for equal positions
 same_is : (p q : Position) → is_same p q ≡ true → p ≡ q

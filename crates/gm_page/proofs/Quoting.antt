@@ -1,16 +1,14 @@
 -- Strings in texts that open no tag are read back unchanged.
-use Rattle.std.proofs.Common.{◌≡◌, ℕ, zero, suc, ◌<◌, ◌≤◌, Bool, true, false, cond, List, [], ◌∷◌, ◌++◌, Some, inl, inr, ◌⊎◌, refl, sym, ap, ◌∙◌, subst, arith}
+use Rattle.gm_page.proofs.Lower.{◌≡◌, ℕ, zero, suc, ◌<◌, ◌≤◌, Bool, true, false, cond, List, [], ◌∷◌, ◌++◌, Some, inl, inr, ◌⊎◌, refl, sym, ap, ◌∙◌, subst}
+use Rattle.gm_page.proofs.Lower.{arith, flat_map, cases_lt, ne_eqb, flat_map-append, Lexeme, between, escape, script_byte}
 use Rattle.std.proofs.Common.{append_assoc}
-use Rattle.std.specs.List.{flat_map}
-use Rattle.std.proofs.lemmas.Bool.{cases_eq, cases_lt, ne_eqb, le-ltb}
-use Rattle.std.proofs.lemmas.Grind.{flat_map-append}
+use Rattle.std.proofs.lemmas.Bool.{cases_eq, le-ltb}
 use lib.Utf8.{encode}
 use Rattle.json.specs.Text.{content, plain, prepend, code_unit, short_escape}
 use Rattle.json.specs.Word.{is_operator, is_space}
-use Rattle.json.specs.Lex.{Lexeme, Mode, lex, lex_byte, between, in_string, operator, space, other}
-use Rattle.json.specs.Print.{escape_byte, escape}
+use Rattle.json.specs.Lex.{Mode, lex, lex_byte, in_string, operator, space, other}
+use Rattle.json.specs.Print.{escape_byte}
 use Rattle.json.proofs.Printed.Strings.{escape_byte_plain}
-use Rattle.gm_page.specs.Scripts.{script_byte}
 
 abbrev pub script : List ℕ → List ℕ
 script = flat_map script_byte

@@ -1,24 +1,20 @@
 -- The contents of a listing: positions that play from its start reaches, each from an earlier one, and all of them if no result is missing.
-use Rattle.std.proofs.Common.{◌≡◌, ℕ, zero, suc, ◌+◌, ◌-◌, ◌<◌, ◌≤◌, true, List, [], ◌∷◌, ◌++◌, map, length, get_or, slice_get, Some}
-use Rattle.std.proofs.Common.{refl, sym, ap, ◌∙◌, subst, ◌⊎◌, inl, inr, arith}
-use Rattle.std.specs.List.{All, Contains}
-use Rattle.std.proofs.lemmas.Bool.{cases_lt}
-use Rattle.std.proofs.lemmas.Option.{slice_get_within, get_or_from_slice_get, slice_get-get_or}
-use Rattle.std.proofs.lemmas.List.Elements.{All-contains, Contains-get_or, Contains-push_cases}
+use Rattle.gm_page.proofs.Lower.{◌≡◌, ℕ, zero, suc, ◌+◌, ◌-◌, ◌<◌, ◌≤◌, true, List, [], ◌∷◌, ◌++◌, map, length, get_or, slice_get, Some, refl, sym, ap, ◌∙◌}
+use Rattle.gm_page.proofs.Lower.{subst, ◌⊎◌, inl, inr, arith, All, Contains, cases_lt, slice_get_within, Contains-get_or, Contains-push_cases, Position, Rules}
+use Rattle.gm_page.proofs.Lower.{contains_none, contains_first, contains_later, contains_cases, IsReached, MoveValue, AreBest, AreFresh, IsBestLine}
+use Rattle.gm_page.proofs.Lower.{AreMoveValues, with_new, with_all, result_of, IsListedAfter, ComesFromEarlier}
+use Rattle.std.proofs.lemmas.Option.{get_or_from_slice_get, slice_get-get_or}
+use Rattle.std.proofs.lemmas.List.Elements.{All-contains}
 use Rattle.std.proofs.lemmas.List.Sorted.{Contains-permutation, IsPermutation-sym}
-use Rattle.gm_game.specs.declared.position.Position.{Position}
 use Rattle.gm_game.specs.Laws.{IsGame}
-use Rattle.gm_game.specs.Rules.{Rules}
-use Rattle.gm_game.proofs.Lists.{contains_none, contains_first, contains_later, contains_cases, map_in, map_from}
-use Rattle.gm_best.specs.Reached.{IsReached}
-use Rattle.gm_best.proofs.Reaching.{own_reached, played_reached, reached_reached}
+use Rattle.gm_game.proofs.Lists.{map_in, map_from}
+use Rattle.gm_play.proofs.Reaching.{own_reached, played_reached, reached_reached}
 use Rattle.gm_find.specs.Reaching.{IsPlay}
-use Rattle.gm_play.specs.declared.move_values.MoveValue.{MoveValue}
 use Rattle.gm_play.specs.declared.best_line.BestLine.{BestLine}
-use Rattle.gm_play.specs.BestLines.{AreBest, positions_along, AreFresh, IsBestLine}
+use Rattle.gm_play.specs.BestLines.{positions_along}
 use Rattle.gm_play.specs.Lines.{position_after}
-use Rattle.gm_play.specs.MoveValues.{IsMoveValue, AreMoveValues}
-use Rattle.gm_page.specs.Listings.{with_new, with_all, result_of, IsListedAfter, IsListing, IsReachedFrom, ComesFromEarlier, IsClosed}
+use Rattle.gm_play.specs.MoveValues.{IsMoveValue}
+use Rattle.gm_page.specs.Listings.{IsListing, IsReachedFrom, IsClosed}
 use Rattle.gm_page.proofs.Places.{new_cases}
 use Rattle.gm_page.proofs.Growing.{earlier_one, earlier_more, new_keeps, new_there, new_stays, all_keep, all_stays, all_longer, all_there, once_after}
 use Rattle.gm_page.proofs.Growing.{gone_within}

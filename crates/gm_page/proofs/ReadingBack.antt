@@ -1,16 +1,15 @@
 -- Lines of a page are read as the trees that they were written from.
-use Rattle.std.proofs.Common.{◌≡◌, ℕ, ◌<◌, ◌≤◌, ◌^◌, Bool, true, false, cond, List, [], ◌∷◌, ◌++◌, Some, option_and_then, decimal, refl, sym, ap, ap₂, ◌∙◌}
-use Rattle.std.proofs.Common.{subst, arith, append_assoc, append-nil}
+use Rattle.gm_page.proofs.Lower.{◌≡◌, ℕ, ◌<◌, ◌≤◌, ◌^◌, Bool, true, false, cond, List, [], ◌∷◌, ◌++◌, Some, refl, sym, ap, ap₂, ◌∙◌, subst, arith, ne_eqb}
+use Rattle.gm_page.proofs.Lower.{flat_map-append, Lexeme, between, escape, Data, number, array, read, of_json, outline, items_outline, script_byte, script_line}
+use Rattle.std.proofs.Common.{option_and_then, decimal, append_assoc, append-nil}
 use Rattle.std.specs.Char.{digit_value}
 use Rattle.std.specs.Prelude.{⊤}
 use Rattle.std.specs.Str.Parse.{AllDigits}
-use Rattle.std.proofs.lemmas.Bool.{ne_eqb}
 use Rattle.std.proofs.lemmas.Fmt.{decimal_is_IsNumeral}
-use Rattle.std.proofs.lemmas.Grind.{flat_map-append}
 use Rattle.json.specs.Token.{Token}
 use Rattle.json.specs.Word.{ends_word, word}
-use Rattle.json.specs.Lex.{Lexeme, token, string_token, lex, between, fresh, punctuate, tokens}
-use Rattle.json.specs.Print.{escape, quoted}
+use Rattle.json.specs.Lex.{token, string_token, lex, fresh, punctuate, tokens}
+use Rattle.json.specs.Print.{quoted}
 use Rattle.json.specs.Json as json
 use Rattle.json.specs.Tree.{json_tokens, HasNumbers, ItemsHaveNumbers, MembersHaveNumbers}
 use Rattle.json.specs.Tree as tree
@@ -19,12 +18,11 @@ use Rattle.json.proofs.Printed.Numbers.{in_word-ended, lex-number}
 use Rattle.json.proofs.Printed.Strings.{content-escape, lex-escape}
 use Rattle.json.proofs.Printed.Tokens.{tokens-print}
 use Rattle.json.proofs.Printed.Trees.{ArePrintable-json_tokens, value-json_tokens}
-use Rattle.serde_json.specs.Data.{unsigned, negative, float, Data, null, boolean, number, string, array, object, Items, no_items, item, Members, no_members}
-use Rattle.serde_json.specs.Data.{member}
-use Rattle.serde_json.specs.Read.{read, of_json, max_depth}
-use Rattle.serde_json.specs.Written.{compact_text, items_text, members_text, comma_if, outline, items_outline, members_outline}
+use Rattle.serde_json.specs.Data.{unsigned, negative, float, null, boolean, string, object, Items, no_items, item, Members, no_members, member}
+use Rattle.serde_json.specs.Read.{max_depth}
+use Rattle.serde_json.specs.Written.{compact_text, items_text, members_text, comma_if, members_outline}
 use Rattle.serde_json.proofs.Texts.{print-outline}
-use Rattle.gm_page.specs.Scripts.{script_byte, script_text, script_line}
+use Rattle.gm_page.specs.Scripts.{script_text}
 use Rattle.gm_page.proofs.Quoting.{script, content-script, lex-script}
 
 -- ---- trees whose numbers are of 64 bits

@@ -1,24 +1,14 @@
 -- The rows of a page, and its first line, are read as their trees.
-use Rattle.std.proofs.Common.{◌≡◌, ℕ, suc, ◌+◌, ◌<◌, ◌≤◌, ◌^◌, Bool, List, [], ◌∷◌, ◌++◌, length, map, Option, None, Some, option_map, refl, sym, ap, ◌∙◌}
-use Rattle.std.proofs.Common.{arith, inl, inr}
-use Rattle.std.specs.List.{flat_map}
-use Rattle.std.specs.Option.{unwrap_or}
-use Rattle.std.proofs.lemmas.Bool.{cases_Bool, cond-true, cond-false}
+use Rattle.gm_page.proofs.Lower.{◌≡◌, ℕ, suc, ◌+◌, ◌<◌, ◌≤◌, ◌^◌, Bool, List, [], ◌∷◌, ◌++◌, length, map, Option, None, Some, refl, sym, ap, ◌∙◌, arith, inl}
+use Rattle.gm_page.proofs.Lower.{inr, flat_map, unwrap_or, cases_Bool, cond-true, cond-false, Data, number, array, read, of_json, items_of, outline}
+use Rattle.gm_page.proofs.Lower.{items_outline, Position, Solved, MoveValue, text, Style, head_tree, is_same, place_from, place_of, Group, place_cells}
+use Rattle.gm_page.proofs.Lower.{move_cells, group_tree, row_tree, script_line}
+use Rattle.std.proofs.Common.{option_map}
 use Rattle.json.specs.Tree.{depth, items_depth}
-use Rattle.serde_json.specs.Data.{Data, number, array}
-use Rattle.serde_json.specs.Read.{read, of_json, of_items}
-use Rattle.serde_json.specs.View.{items_of}
-use Rattle.serde_json.specs.Written.{outline, items_outline}
+use Rattle.serde_json.specs.Read.{of_items}
 use Rattle.serde_json.proofs.Numbers.{number_of-decimal}
-use Rattle.gm_game.specs.declared.position.Position.{Position}
-use Rattle.gm_game.specs.declared.position.Solved.{Solved}
-use Rattle.gm_play.specs.declared.move_values.MoveValue.{MoveValue}
-use Rattle.gm_json.specs.Words.{text, whole}
-use Rattle.gm_draw.specs.declared.pictured.Style.{Style}
-use Rattle.gm_page.specs.Heads.{head_tree}
-use Rattle.gm_page.specs.Listings.{is_same, place_from, place_of}
-use Rattle.gm_page.specs.Rows.{Group, place_cells, move_cells, group_cells, group_tree, row_cells, row_tree}
-use Rattle.gm_page.specs.Scripts.{script_line}
+use Rattle.gm_json.specs.Words.{whole}
+use Rattle.gm_page.specs.Rows.{group_cells, row_cells}
 use Rattle.gm_page.proofs.ReadingBack.{IsSmall, AreSmall, read_line}
 
 -- the text of a tree is read as this tree, which has at most this depth

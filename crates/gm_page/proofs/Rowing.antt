@@ -1,23 +1,13 @@
 -- Rows: moves in groups, one group after the other, and rows one by one.
-use Rattle.std.proofs.Common.{◌≡◌, ℕ, zero, suc, ◌+◌, ◌<◌, ◌≤◌, Bool, false, List, [], ◌∷◌, ◌++◌, length, map, take, drop, get_or, slice_get, Option, None}
-use Rattle.std.proofs.Common.{Some, refl, sym, ap, subst, ◌∙◌, arith}
-use Rattle.std.specs.List.{All, flat_map}
+use Rattle.gm_page.proofs.Lower.{◌≡◌, ℕ, zero, suc, ◌+◌, ◌<◌, ◌≤◌, Bool, false, List, [], ◌∷◌, ◌++◌, length, map, take, drop, get_or, slice_get, Option, None}
+use Rattle.gm_page.proofs.Lower.{Some, refl, sym, ap, subst, ◌∙◌, arith, All, flat_map, flat_map-append, append_assoc, append-nil, map-append, take_more}
+use Rattle.gm_page.proofs.Lower.{take_all, Data, items_of, has_float, Position, Solved, Rules, MoveValue, text, Style, head_tree, place_of, Group, AreGroups}
+use Rattle.gm_page.proofs.Lower.{IsRow, place_cells, move_cells, group_tree, row_tree}
 use Rattle.std.specs.Prelude.{IfSome, unwrap_or}
 use Rattle.std.proofs.lemmas.Bool.{or_parts}
-use Rattle.std.proofs.lemmas.Grind.{flat_map-append}
-use Rattle.std.proofs.lemmas.List.{append_assoc, append-nil, map-append, take_more, take_all, take-append-drop}
-use Rattle.serde_json.specs.Data.{Data}
-use Rattle.serde_json.specs.View.{items_of}
-use Rattle.serde_json.specs.Written.{has_float, items_have_float}
-use Rattle.gm_game.specs.declared.position.Position.{Position}
-use Rattle.gm_game.specs.declared.position.Solved.{Solved}
-use Rattle.gm_game.specs.Rules.{Rules}
-use Rattle.gm_play.specs.declared.move_values.MoveValue.{MoveValue}
-use Rattle.gm_json.specs.Words.{text}
-use Rattle.gm_draw.specs.declared.pictured.Style.{Style}
-use Rattle.gm_page.specs.Heads.{head_tree}
-use Rattle.gm_page.specs.Listings.{place_of}
-use Rattle.gm_page.specs.Rows.{Group, IsRun, AreGroups, AreRows, IsRow, place_cells, move_cells, group_tree, row_tree}
+use Rattle.std.proofs.lemmas.List.{take-append-drop}
+use Rattle.serde_json.specs.Written.{items_have_float}
+use Rattle.gm_page.specs.Rows.{IsRun, AreRows}
 
 -- ---- groups
 -- the moves before the rest are in groups, whose trees were appended to the earlier ones

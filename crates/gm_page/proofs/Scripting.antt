@@ -1,14 +1,10 @@
 -- Texts that open no tag.
-use Rattle.std.proofs.Common.{◌≡◌, ℕ, ◌+◌, ◌<◌, ◌≤◌, true, eqb, not, List, [], ◌∷◌, ◌++◌, length, take, get_or, refl, ap, sym, ◌∙◌, inl, inr}
-use Rattle.std.specs.List.{flat_map, list_all}
-use Rattle.std.proofs.lemmas.Bool.{cases_Bool, cond-true, cond-false, and_from}
-use Rattle.std.proofs.lemmas.Grind.{flat_map-append}
-use Rattle.std.proofs.lemmas.List.{append_assoc, append-nil, take_more, take_all}
-use Rattle.std.proofs.lemmas.List.Folds.{list_all-append}
-use Rattle.serde_json.specs.Data.{Data}
+use Rattle.gm_page.proofs.Lower.{◌≡◌, ℕ, ◌+◌, ◌<◌, ◌≤◌, true, eqb, not, List, [], ◌∷◌, ◌++◌, length, take, get_or, refl, ap, sym, ◌∙◌, inl, inr, flat_map}
+use Rattle.gm_page.proofs.Lower.{list_all, cases_Bool, cond-true, cond-false, and_from, flat_map-append, append_assoc, append-nil, take_more, take_all}
+use Rattle.gm_page.proofs.Lower.{list_all-append, Data, opens_none, script_byte, script_line}
 use Rattle.gm_json.specs.Words.{line_of}
 use Rattle.gm_page.specs.Pages.{script_lines}
-use Rattle.gm_page.specs.Scripts.{opens_none, script_byte, script_line, script_text}
+use Rattle.gm_page.specs.Scripts.{script_text}
 
 byte_opens_none : (b : ℕ) → list_all opens_none (script_byte b) ≡ true
 byte_opens_none b = elim (cases_Bool (eqb b 60)) [

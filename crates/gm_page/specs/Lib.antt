@@ -4,3 +4,5 @@ pub mod Heads
 pub mod Rows
 pub mod Pages
 pub mod Engines
+pub mod Sheets
+pub mod Lower

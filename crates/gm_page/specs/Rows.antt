@@ -1,16 +1,9 @@
 -- Rows: the lines of a page that describe its positions.
 use Rattle.std.specs.Prelude.{◌≡◌, ℕ, ◌<◌, List, [], ◌∷◌, ◌++◌, map, length, slice_get, IfSome, Option, None, Some}
-use Rattle.std.specs.List.{All, flat_map}
-use Rattle.serde_json.specs.Data.{Data, array}
-use Rattle.serde_json.specs.View.{items_of}
-use Rattle.gm_game.specs.declared.position.Position.{Position}
-use Rattle.gm_game.specs.declared.position.Solved.{Solved}
-use Rattle.gm_game.specs.Rules.{Rules}
+use Rattle.gm_page.specs.Lower.{All, flat_map, Data, array, items_of, Position, Solved, Rules, MoveValue, AreMoveValues, text}
 use Rattle.gm_game.specs.Texts.{text_of}
 use Rattle.gm_game.specs.Values.{IsTrueValue}
-use Rattle.gm_play.specs.declared.move_values.MoveValue.{MoveValue}
-use Rattle.gm_play.specs.MoveValues.{AreMoveValues}
-use Rattle.gm_json.specs.Words.{whole, text}
+use Rattle.gm_json.specs.Words.{whole}
 use Rattle.gm_page.specs.Listings.{place_of}
 
 -- ---- groups

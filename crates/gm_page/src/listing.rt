@@ -1,18 +1,13 @@
 //! The positions of a page.
 ghost use Rattle.std.specs.Prelude.{◌≡◌, ◌≤◌, ◌-◌, ◌↔◌, ◌++◌, ◌∷◌, ℕ, [], List, true, length, map, IsTrue, IfOk, OnOk, slice_get, Some, None};
-ghost use Rattle.std.specs.HashMap.{get};
-ghost use Rattle.std.specs.List.{All, Contains};
-ghost use Rattle.gm_game.specs.declared.position.Position.{Position};
-ghost use Rattle.gm_play.specs.declared.best_line.BestLine.{BestLine};
-ghost use Rattle.gm_play.specs.declared.move_values.MoveValue.{MoveValue};
-ghost use Rattle.gm_play.specs.BestLines.{AreFresh, IsBestLine};
-ghost use Rattle.gm_play.specs.MoveValues.{AreMoveValues};
+ghost use Rattle.gm_page.specs.Lower.{get, All, Contains, Position, BestLine, MoveValue, IsBestLine, AreMoveValues};
+ghost use Rattle.gm_play.specs.BestLines.{AreFresh};
 ghost use Rattle.gm_page.specs.Listings.{place_of, with_new, with_all, result_of, Tells, IsListing, IsReachedFrom, ComesFromEarlier, IsClosed, is_key};
 
-use gm_best::known::Known;
 use gm_game::game::{Game, laws};
 use gm_game::position::Position;
 use gm_play::best_line::best_line;
+use gm_play::known::Known;
 use gm_play::move_values::{MoveValue, move_values};
 use std::alloc::{AllocError, Global};
 use std::collections::HashMap;

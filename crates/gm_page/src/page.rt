@@ -1,10 +1,6 @@
 //! Pages: explorers of the positions that play reaches from a position. With the engine they solve the game in the browser.
-ghost use Rattle.std.specs.Prelude.{◌≡◌, ◌<◌, ◌≤◌, ◌++◌, ◌^◌, [], true, List, length, IfOk, OnOk};
-ghost use Rattle.std.specs.List.{All, list_all};
-ghost use Rattle.serde_json.specs.Data.{Data};
-ghost use Rattle.gm_game.specs.declared.position.Position.{Position};
-ghost use Rattle.gm_game.specs.declared.position.Solved.{Solved};
-ghost use Rattle.gm_best.specs.Reached.{IsReached};
+ghost use Rattle.std.specs.Prelude.{◌≡◌, ◌<◌, ◌≤◌, ◌++◌, [], true, List, length, IfOk, OnOk, ◌^◌};
+ghost use Rattle.gm_page.specs.Lower.{All, list_all, Data, Position, Solved, IsReached};
 ghost use Rattle.gm_page.specs.Heads.{head_tree};
 ghost use Rattle.gm_page.specs.Pages.{page_front, page_back, game_tree, script_lines, IsListedPage, IsPage};
 ghost use Rattle.gm_page.specs.Rows.{Group, row_tree};
@@ -20,10 +16,10 @@ use crate::viewer_boards::BOARDS;
 use crate::viewer_choosing::CHOOSING;
 use crate::viewer_drawing::DRAWING;
 use crate::viewer_playing::PLAYING;
-use gm_best::known::Known;
 use gm_draw::pictured::Pictured;
 use gm_game::game::laws;
 use gm_game::position::Position;
+use gm_play::known::Known;
 use std::alloc::{AllocError, Global};
 
 /// Returns the page of a position, as one HTML file: the viewer, and in it a line that describes the game, a row for each position

@@ -1,20 +1,16 @@
 //! The rows of a page, each of which describes one position.
 ghost use Rattle.std.specs.Prelude.{◌≡◌, ◌≤◌, ◌++◌, [], true, List, length, map, take, slice_get, IfOk, OnOk, IfSome};
-ghost use Rattle.std.specs.List.{All, flat_map};
-ghost use Rattle.serde_json.specs.Data.{Data};
-ghost use Rattle.serde_json.specs.View.{view};
-ghost use Rattle.gm_best.specs.Reached.{IsReached};
-ghost use Rattle.gm_play.specs.declared.move_values.MoveValue.{MoveValue};
+ghost use Rattle.gm_page.specs.Lower.{All, flat_map, Data, view, IsReached, MoveValue};
 ghost use Rattle.gm_play.specs.PlayTexts.{IsMoveOf};
 ghost use Rattle.gm_page.specs.Rows.{Group, AreGroups, AreRows, IsRow, move_cells, group_tree, row_tree};
 ghost use Rattle.gm_page.specs.Scripts.{script_line};
 
 use crate::listing::Listing;
 use crate::words::{push_script_line, text_value};
-use gm_best::known::Known;
 use gm_game::position::{Position, Solved};
 use gm_game::shown::Shown;
 use gm_game::text::value_text;
+use gm_play::known::Known;
 use gm_play::move_values::{MoveValue, move_values};
 use serde_json::{Value as Json, push};
 use std::alloc::{AllocError, Global};

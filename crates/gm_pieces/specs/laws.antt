@@ -13,3 +13,4 @@ pub mod NumberFacts
 pub mod SideTextFacts
 pub mod MaskFacts
 pub mod Tables
+pub mod SmallLaws

@@ -1,18 +1,9 @@
 -- If every table is held, a look-up of all values and best moves exists.
-use Rattle.std.proofs.Common.{ℕ, List, Option, None, Some, IsSome, IfSome}
-use Rattle.gm_game.specs.declared.position.Position.{Position}
-use Rattle.gm_game.specs.declared.position.Value.TheVariants.{Draw}
-use Rattle.gm_game.specs.declared.position.Solved.{Solved}
-use Rattle.gm_game.specs.Rules.{Rules}
-use Rattle.gm_game.specs.Laws.{IsGame}
-use Rattle.gm_game.specs.Values.{IsTrueValue}
-use Rattle.gm_table.specs.Tables.{TableData, AreTables, value_in}
-use Rattle.gm_table.proofs.ValueLemmas.{value_known, value_true}
-use Rattle.gm_best.proofs.Existing.{best_at}
-use Rattle.gm_best.specs.Reached.{AreAllHeld}
-use Rattle.gm_play.specs.Dialogue.{Advice, IsKnown}
-use Rattle.gm_best.proofs.Held.{held_own, held_children}
-use Rattle.gm_best.proofs.Reaching.{held_from}
+use Rattle.gm_play.proofs.Lower.{ℕ, List, Option, None, Some, IsSome, IfSome, Position, Draw, Solved, Rules, IsGame, IsTrueValue, TableData, AreTables}
+use Rattle.gm_play.proofs.Lower.{value_in, value_known, value_true, AreAllHeld, Advice, IsKnown}
+use Rattle.gm_play.proofs.Existing.{best_at}
+use Rattle.gm_play.proofs.Held.{held_own, held_children}
+use Rattle.gm_play.proofs.Reaching.{held_from}
 
 module _ (r : Rules) (g : IsGame r) (entries : List TableData) (tables : AreTables r entries) where
   nothing : Solved

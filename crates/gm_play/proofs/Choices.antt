@@ -1,11 +1,9 @@
 -- Distinct moves: of those that lead to the same canonical position, only the first.
-use Rattle.std.proofs.Common.{◌≡◌, ◌+◌, ◌<◌, ◌≤◌, Bool, true, false, List, [], ◌∷◌, ◌++◌, ℕ, length, drop, get_or, if◌then◌else◌, sym, ap, subst, ◌∙◌, arith}
-use Rattle.std.specs.List.{All}
-use Rattle.std.proofs.lemmas.List.{length-append, drop_more}
-use Rattle.std.proofs.lemmas.List.Elements.{All-push, All-head, All-tail}
-use Rattle.gm_game.specs.Rules.{Rules}
-use Rattle.gm_play.specs.declared.move_values.MoveValue.{MoveValue}
-use Rattle.gm_play.specs.Firsts.{leads_alike, with_first, firsts_onto, chosen}
+use Rattle.gm_play.proofs.Lower.{◌≡◌, ◌+◌, ◌<◌, ◌≤◌, Bool, true, false, List, [], ◌∷◌, ◌++◌, ℕ, length, drop, get_or, sym, ap, subst, ◌∙◌, arith, All}
+use Rattle.gm_play.proofs.Lower.{length-append, drop_more, All-push, Rules, MoveValue, leads_alike, firsts_onto}
+use Rattle.std.proofs.Common.{if◌then◌else◌}
+use Rattle.std.proofs.lemmas.List.Elements.{All-head, All-tail}
+use Rattle.gm_play.specs.Firsts.{with_first, chosen}
 
 kept_if : (P : MoveValue → Type 0) (b : Bool) (kept : List MoveValue) (x : MoveValue) → All P kept → P x → All P (if b then kept else kept ++ x ∷ [])
 kept_if P true kept x h p = h

@@ -1,27 +1,15 @@
 -- What the computer's best moves guarantee in a dialogue, for any input.
-use Rattle.std.proofs.Common.{◌≡◌, ◌≢◌, ℕ, ◌+◌, ◌<◌, ◌≤◌, Bool, true, false, List, [], ◌∷◌, ◌++◌, length, codes, Option, None, Some, IfSome, refl, arith}
-use Rattle.std.specs.Prelude.{◌==◌, if◌then◌else◌}
-use Rattle.std.specs.List.{Contains, find}
-use Rattle.std.specs.Str.{bytes_eq}
-use Rattle.gm_game.specs.declared.position.Position.{Position}
-use Rattle.gm_game.specs.declared.position.End.{End}
+use Rattle.gm_play.proofs.Lower.{◌≡◌, ◌≢◌, ℕ, ◌+◌, ◌<◌, ◌≤◌, Bool, true, false, List, [], ◌∷◌, ◌++◌, length, codes, Option, None, Some, IfSome, refl, arith}
+use Rattle.gm_play.proofs.Lower.{◌==◌, if◌then◌else◌, Contains, find, bytes_eq, Position, End, Lose, Win, Rules, IsGame, HasValue, Side, You, Computer}
+use Rattle.gm_play.proofs.Lower.{IsBestMove, IsWonIn, IsEven, IsReached, Advice, IsKnown, Said, Course, before, after_move, ends, place, asks_or_ends}
+use Rattle.gm_play.proofs.Lower.{persons_turn, moves_or_ends, computers_turn, turn, without_return, answer_to, reply, unmoved, course_with, course_after}
+use Rattle.gm_play.proofs.Lower.{course, Question}
 use Rattle.gm_game.specs.declared.position.End.TheVariants.{Lose as EndLose, Tie as EndTie, Win as EndWin}
-use Rattle.gm_game.specs.declared.position.Value.TheVariants.{Lose, Win}
-use Rattle.gm_game.specs.Rules.{Rules}
-use Rattle.gm_game.specs.Laws.{IsGame}
-use Rattle.gm_game.specs.Values.{HasValue}
-use Rattle.gm_best.specs.declared.side.Side.{Side}
-use Rattle.gm_best.specs.declared.side.Side.TheVariants.{You, Computer}
-use Rattle.gm_best.specs.BestMoves.{IsBestMove}
-use Rattle.gm_best.specs.Sides.{IsWonIn, IsEven}
-use Rattle.gm_best.specs.Reached.{IsReached}
-use Rattle.gm_play.specs.Dialogue.{Advice, IsKnown, Said, Course, before, after_move, ends, place, asks_or_ends, persons_turn, moves_or_ends, computers_turn}
-use Rattle.gm_play.specs.Dialogue.{turn, without_return, answer_to, reply, unmoved, course_with, course_after, course_from, course}
+use Rattle.gm_play.specs.Dialogue.{course_from}
 use Rattle.gm_play.specs.Courses.{IsWonCourse, IsUnlostCourse}
 use Rattle.gm_play.proofs.Keeping.{reply_won, best_won, won_at, IsSafe, even_safe, reply_safe, best_safe, not_lost}
-use Rattle.gm_best.proofs.Reaching.{reached_reached, played_reached}
+use Rattle.gm_play.proofs.Reaching.{reached_reached, played_reached}
 use Rattle.gm_play.proofs.Reading.{find_is}
-use Rattle.gm_play.specs.declared.view.Question.{Question}
 
 module _ (r : Rules) (g : IsGame r) (shown : Position → List ℕ) (move_shown : Position → ℕ → List ℕ) (k : Advice) (seen : Question → Position → List ℕ)
     (tier : ℕ) (known : IsKnown r tier k) where

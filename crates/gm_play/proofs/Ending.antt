@@ -1,26 +1,14 @@
 -- The last line of a dialogue, by the end of its game.
-use Rattle.std.proofs.Common.{◌≡◌, ◌≢◌, ℕ, ◌⊎◌, Bool, true, false, List, [], ◌∷◌, ◌++◌, length, codes, Option, None, Some, IfSome, refl, sym, ap, subst, ◌∙◌}
-use Rattle.std.proofs.Common.{append_assoc, append-nil, inl, inr}
-use Rattle.std.specs.Prelude.{◌==◌, if◌then◌else◌}
-use Rattle.std.specs.List.{Contains, find}
-use Rattle.std.specs.Str.{bytes_eq}
-use Rattle.gm_game.specs.declared.position.Position.{Position}
-use Rattle.gm_game.specs.declared.position.End.{End}
-use Rattle.gm_game.specs.Rules.{Rules}
-use Rattle.gm_game.specs.Laws.{IsGame}
-use Rattle.gm_game.specs.Texts.{text_of}
-use Rattle.gm_best.specs.declared.side.Side.{Side}
-use Rattle.gm_best.specs.declared.side.Side.TheVariants.{You, Computer}
-use Rattle.gm_best.specs.BestMoves.{IsBestMove}
-use Rattle.gm_best.specs.Reached.{IsReached}
-use Rattle.gm_best.specs.Endings.{over_line}
-use Rattle.gm_play.specs.Dialogue.{Advice, IsKnown, Said, Course, before, ends, text_after, place, asks_or_ends, persons_turn, moves_or_ends, computers_turn}
-use Rattle.gm_play.specs.Dialogue.{turn, without_return, answer_to, reply, closing, talk, dialogue, unmoved, course_with, course_after, course_from, course}
+use Rattle.gm_play.proofs.Lower.{◌≡◌, ◌≢◌, ℕ, ◌⊎◌, Bool, true, false, List, [], ◌∷◌, ◌++◌, length, codes, Option, None, Some, IfSome, refl, sym, ap, subst, ◌∙◌}
+use Rattle.gm_play.proofs.Lower.{append_assoc, append-nil, inl, inr, ◌==◌, if◌then◌else◌, Contains, find, bytes_eq, Position, End, Rules, IsGame, text_of, Side}
+use Rattle.gm_play.proofs.Lower.{You, Computer, IsBestMove, IsReached, Advice, IsKnown, Said, Course, before, ends, text_after, place, asks_or_ends}
+use Rattle.gm_play.proofs.Lower.{persons_turn, moves_or_ends, computers_turn, turn, without_return, answer_to, reply, closing, dialogue, unmoved, course_with}
+use Rattle.gm_play.proofs.Lower.{course_after, course, First, Again, Question}
+use Rattle.gm_play.specs.Endings.{over_line}
+use Rattle.gm_play.specs.Dialogue.{talk, course_from}
 use Rattle.gm_play.specs.LastLines.{IsLastLine, EndsWon, EndsUnlost}
-use Rattle.gm_best.proofs.Reaching.{reached_reached, played_reached}
+use Rattle.gm_play.proofs.Reaching.{reached_reached, played_reached}
 use Rattle.gm_play.proofs.Reading.{find_is}
-use Rattle.gm_play.specs.declared.view.Question.TheVariants.{First, Again}
-use Rattle.gm_play.specs.declared.view.Question.{Question}
 
 abbrev newline : List ℕ
 newline = codes "\n"

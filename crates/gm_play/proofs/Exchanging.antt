@@ -1,18 +1,10 @@
 -- Moves with their best answers.
-use Rattle.std.proofs.Common.{◌≡◌, ℕ, ◌+◌, ◌<◌, ◌≤◌, true, List, [], ◌∷◌, ◌++◌, length, take, get_or, None, Some, refl, sym, ap, ap₂, subst, ◌∙◌}
-use Rattle.std.proofs.Common.{arith}
-use Rattle.std.proofs.lemmas.List.{append-nil, take_more, take_all, map-append}
-use Rattle.std.proofs.lemmas.Grind.{flat_map-append}
-use Rattle.std.proofs.lemmas.List.Elements.{All-push}
-use Rattle.gm_game.specs.declared.position.Position.{Position}
-use Rattle.gm_game.specs.Laws.{IsGame}
-use Rattle.gm_game.specs.Rules.{Rules}
-use Rattle.gm_game.specs.Values.{IsTrueValue}
-use Rattle.gm_best.specs.BestMoves.{IsBestMove}
-use Rattle.gm_play.specs.declared.move_values.MoveValue.{MoveValue}
+use Rattle.gm_play.proofs.Lower.{◌≡◌, ℕ, ◌+◌, ◌<◌, ◌≤◌, true, List, [], ◌∷◌, ◌++◌, length, take, get_or, None, Some, refl, sym, ap, ap₂, subst, ◌∙◌, arith}
+use Rattle.gm_play.proofs.Lower.{take_more, take_all, map-append, flat_map-append, All-push, Position, IsGame, Rules, IsTrueValue, IsBestMove, MoveValue}
+use Rattle.gm_play.proofs.Lower.{after_best, AreExchangeRows}
+use Rattle.std.proofs.lemmas.List.{append-nil}
 use Rattle.gm_play.specs.declared.why.Exchange.{Exchange}
-use Rattle.gm_play.specs.PlayTexts.{after_best}
-use Rattle.gm_play.specs.Why.{made_of, left_after, value_left, IsExchange, exchange_row, AreExchangeRows}
+use Rattle.gm_play.specs.Why.{made_of, left_after, value_left, IsExchange, exchange_row}
 use Rattle.gm_play.proofs.Rows.{after_true}
 
 module _ (r : Rules) (shown : Position → List ℕ) (move_shown : Position → ℕ → List ℕ) (p : Position) where

@@ -1,8 +1,5 @@
 -- If the game goes on, there is a best move.
-use Rattle.std.proofs.Common.{◌≡◌, ℕ, Option, None, Some, IsSome, refl}
-use Rattle.gm_game.specs.declared.position.Position.{Position}
-use Rattle.gm_game.specs.Rules.{Rules}
-use Rattle.gm_best.specs.BestMoves.{IsBestMove}
+use Rattle.gm_play.proofs.Lower.{◌≡◌, ℕ, Option, None, Some, IsSome, refl, Position, Rules, IsBestMove}
 
 pub best_there : (r : Rules) (p : Position) (o : Option ℕ) → r.primitive p ≡ None → IsBestMove r p o → IsSome o
 best_there r p None e h = absurd (h e)

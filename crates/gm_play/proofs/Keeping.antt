@@ -1,22 +1,11 @@
 -- Properties that best moves preserve, move by move.
-use Rattle.std.proofs.Common.{◌≡◌, ◌≢◌, ℕ, zero, suc, ◌<◌, ◌≤◌, inl, inr, Bool, true, false, List, Option, None, Some, refl, sym, ◌∙◌, subst, arith}
-use Rattle.std.specs.List.{Contains}
-use Rattle.gm_game.specs.declared.position.Position.{Position}
-use Rattle.gm_game.specs.declared.position.End.{End}
+use Rattle.gm_play.proofs.Lower.{◌≡◌, ◌≢◌, ℕ, zero, suc, ◌<◌, ◌≤◌, inl, inr, Bool, true, false, List, Option, None, Some, refl, sym, ◌∙◌, subst, arith}
+use Rattle.gm_play.proofs.Lower.{Contains, Position, End, Value, Lose, Draw, Tie, Win, Rules, IsGame, loses, wins, HasValue, contains_none, map_from, map_in}
+use Rattle.gm_play.proofs.Lower.{loses_zero, wins_zero, loses_suc, wins_suc, loses_at_end, wins_at_end, ties_at_end, wins_from, HasValue_once, never_both}
+use Rattle.gm_play.proofs.Lower.{no_win_of_tie, no_loss_of_tie, win_within, loss_within, Side, You, Computer, wanted_from, IsNoFarther, IsBestOf, IsBestMove}
+use Rattle.gm_play.proofs.Lower.{IsWonIn, IsEven, HasWon, HasLost}
 use Rattle.gm_game.specs.declared.position.End.TheVariants.{Lose as EndLose, Tie as EndTie, Win as EndWin}
-use Rattle.gm_game.specs.declared.position.Value.{Value}
-use Rattle.gm_game.specs.declared.position.Value.TheVariants.{Lose, Draw, Tie, Win}
-use Rattle.gm_game.specs.Rules.{Rules}
-use Rattle.gm_game.specs.Laws.{IsGame}
-use Rattle.gm_game.specs.Values.{loses, wins, HasValue}
-use Rattle.gm_game.proofs.Lists.{contains_none, map_from, map_in}
-use Rattle.gm_game.proofs.Steps.{loses_zero, wins_zero, loses_suc, wins_suc, loses_at_end, wins_at_end, ties_at_end, wins_from}
-use Rattle.gm_game.proofs.Basic.{HasValue_once, never_both, no_win_of_tie, no_loss_of_tie}
-use Rattle.gm_game.proofs.Frontier.{win_within, loss_within}
-use Rattle.gm_best.specs.declared.side.Side.{Side}
-use Rattle.gm_best.specs.declared.side.Side.TheVariants.{You, Computer}
-use Rattle.gm_best.specs.BestMoves.{wanted_from, IsNoFarther, IsBestOf, IsBest, IsBestMove}
-use Rattle.gm_best.specs.Sides.{IsWonIn, IsEven, HasWon, HasLost}
+use Rattle.gm_play.specs.BestMoves.{IsBest}
 
 false_unless : (b : Bool) → (b ≡ true → ⊥) → b ≡ false
 false_unless true h = absurd (h refl)

@@ -1,20 +1,12 @@
 -- A line is answered from its kept prefix as from the whole line, because no move has a longer text.
-use Rattle.std.proofs.Common.{◌≡◌, ℕ, ◌+◌, ◌-◌, ◌≤◌, ◌<◌, ◌⊎◌, inl, inr, Bool, true, false, List, [], ◌∷◌, ◌++◌, length, take, drop, codes, nat_eq, None, sym}
-use Rattle.std.proofs.Common.{ap, ◌∙◌, arith}
-use Rattle.std.specs.Prelude.{◌==◌, if◌then◌else◌}
-use Rattle.std.specs.Str.{bytes_eq}
+use Rattle.gm_play.proofs.Lower.{◌≡◌, ℕ, ◌+◌, ◌-◌, ◌≤◌, ◌<◌, ◌⊎◌, inl, inr, Bool, true, false, List, [], ◌∷◌, ◌++◌, length, take, drop, codes, None, sym, ap}
+use Rattle.gm_play.proofs.Lower.{◌∙◌, arith, ◌==◌, if◌then◌else◌, bytes_eq, cases_lt, take_all, length-take, length-take-le, length-append, Position, Rules}
+use Rattle.gm_play.proofs.Lower.{IsShown, KEPT, Advice, Said, asks, without_return, reply, closing, Question, Again}
+use Rattle.std.proofs.Common.{nat_eq}
 use Rattle.std.specs.Cmp.Lexicographic.{unequal}
-use Rattle.std.proofs.lemmas.Bool.{cases_lt}
-use Rattle.std.proofs.lemmas.List.{take_all, take-append-le, length-take, length-take-le, length-append}
+use Rattle.std.proofs.lemmas.List.{take-append-le}
 use Rattle.gm_game.specs.declared.limits.TheConstants.{LINE}
-use Rattle.gm_game.specs.declared.position.Position.{Position}
-use Rattle.gm_game.specs.Rules.{Rules}
-use Rattle.gm_game.specs.Shown.{IsShown}
-use Rattle.gm_play.specs.declared.session.TheConstants.{KEPT}
-use Rattle.gm_play.specs.Dialogue.{Advice, Said, asks, without_return, reply, closing}
 use Rattle.gm_play.proofs.Reading.{none_found, reply_is, after_reply, closing_is}
-use Rattle.gm_play.specs.declared.view.Question.{Question}
-use Rattle.gm_play.specs.declared.view.Question.TheVariants.{Again}
 
 -- one more byte
 pub kept_push : (kept line : List ℕ) (b : ℕ) → kept ≡ take KEPT line → length kept < KEPT → kept ++ b ∷ [] ≡ take KEPT (line ++ b ∷ [])

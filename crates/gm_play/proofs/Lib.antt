@@ -17,3 +17,11 @@ pub mod Courses
 pub mod Advising
 pub mod Ending
 pub mod Exchanging
+pub mod Wanted
+pub mod Choosing
+pub mod Existing
+pub mod Placing
+pub mod Reaching
+pub mod Held
+pub mod Small
+pub mod Lower

@@ -1,19 +1,9 @@
 -- A best move lowers the remoteness of its position by one.
-use Rattle.std.proofs.Common.{◌≡◌, ℕ, zero, suc, ◌+◌, ◌<◌, ◌≤◌, inl, inr, true, None, sym, ap, subst, ◌∙◌, arith}
-use Rattle.std.specs.List.{Contains}
-use Rattle.std.proofs.lemmas.Bool.{cases_lt}
-use Rattle.gm_game.specs.declared.position.Position.{Position}
-use Rattle.gm_game.specs.declared.position.Value.{Value}
-use Rattle.gm_game.specs.declared.position.Value.TheVariants.{Lose, Draw, Tie, Win}
-use Rattle.gm_game.specs.Records.{solved}
-use Rattle.gm_game.specs.Rules.{Rules, IsChild}
-use Rattle.gm_game.specs.Values.{wins, loses, ties, HasValue}
+use Rattle.gm_play.proofs.Lower.{◌≡◌, ℕ, zero, suc, ◌+◌, ◌<◌, ◌≤◌, inl, inr, true, None, sym, ap, subst, ◌∙◌, arith, Contains, cases_lt, Position, Value, Lose}
+use Rattle.gm_play.proofs.Lower.{Draw, Tie, Win, solved, Rules, IsChild, wins, loses, ties, HasValue, win_within, loss_within, map_from, map_in, loses_zero}
+use Rattle.gm_play.proofs.Lower.{wins_zero, loses_suc, wins_suc, ties_suc, wins_from, ties_from, ties_at_end, wanted_from, IsBestOf, worth_from}
 use Rattle.gm_game.proofs.Basic.{wins_later}
-use Rattle.gm_game.proofs.Frontier.{win_within, loss_within}
-use Rattle.gm_game.proofs.Lists.{map_from, map_in}
-use Rattle.gm_game.proofs.Steps.{loses_zero, wins_zero, loses_suc, wins_suc, ties_suc, loses_from, wins_from, ties_from, ties_at_end}
-use Rattle.gm_best.specs.BestMoves.{wanted_from, IsBestOf}
-use Rattle.gm_play.specs.MoveValues.{worth_from}
+use Rattle.gm_game.proofs.Steps.{loses_from}
 
 -- a best move of a position lowers its remoteness by one
 module _ (r : Rules) (p : Position) (open_ : r.primitive p ≡ None) where

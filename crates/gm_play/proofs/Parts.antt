@@ -1,13 +1,8 @@
 -- Prefixes of texts that are written.
-use Rattle.std.proofs.Common.{◌≡◌, ℕ, List, [], ◌++◌, take, drop, Option, Result, Ok, Err, sym, subst, ap, ◌∙◌, append_assoc, take-append-drop, append-nil}
-use Rattle.std.specs.Prelude.{OnOk, OnErr, IfOk}
-use Rattle.std.specs.Io.KnownBytes.{Appends, Keeps}
-use Rattle.std.proofs.KnownBytes.{Appends-trans, Appends-kept}
-use Rattle.std.proofs.lemmas.Result.{IfOk-weaker, on_err_weaker}
-use Rattle.gm_game.specs.declared.position.Position.{Position}
-use Rattle.gm_play.specs.declared.streams.Unwritten.{Unwritten}
-use Rattle.gm_play.specs.Dialogue.{Said, before}
-use Rattle.gm_play.specs.Sessions.{AppendsPart, Says}
+use Rattle.gm_play.proofs.Lower.{◌≡◌, ℕ, List, [], ◌++◌, take, drop, Option, Result, Ok, Err, sym, subst, ap, ◌∙◌, append_assoc, append-nil, OnOk, OnErr, IfOk}
+use Rattle.gm_play.proofs.Lower.{Appends, Keeps, Appends-trans, IfOk-weaker, on_err_weaker, Position, Unwritten, Said, before, AppendsPart, Says}
+use Rattle.std.proofs.Common.{take-append-drop}
+use Rattle.std.proofs.KnownBytes.{Appends-kept}
 
 pub on_err : {T E : Type 0} (r : Result T E) (P : Type 0) → P → OnErr r P
 on_err (Ok x) P h = tt

@@ -1,22 +1,12 @@
 -- A line of play, move by move.
-use Rattle.std.proofs.Common.{◌≡◌, ◌≢◌, ℕ, ◌+◌, ◌<◌, ◌≤◌, ◌⊎◌, inl, inr, true, List, [], ◌∷◌, ◌++◌, length, Option, None, Some, refl, sym, ap, ◌∙◌, subst}
-use Rattle.std.proofs.Common.{arith, append_assoc, append-nil, drop, get_or}
-use Rattle.std.proofs.lemmas.List.{drop_more, drop_all}
-use Rattle.std.specs.Prelude.{MatchOption, IfSome}
-use Rattle.std.specs.List.{Contains}
-use Rattle.gm_game.specs.declared.position.Position.{Position}
-use Rattle.gm_game.specs.Rules.{Rules}
-use Rattle.gm_game.specs.Laws.{IsGame}
-use Rattle.gm_table.specs.Tables.{TableData}
-use Rattle.gm_best.specs.declared.side.Side.{Side}
-use Rattle.gm_best.specs.declared.side.Side.TheVariants.{You, Computer}
-use Rattle.gm_play.specs.declared.play_line.PlayLine.{PlayLine}
-use Rattle.gm_best.specs.BestMoves.{IsBestMove}
-use Rattle.gm_best.specs.Sides.{other}
-use Rattle.gm_best.specs.Reached.{AreAllHeld}
-use Rattle.gm_play.specs.Lines.{position_after, side_after, IsLine, LeadsTo, IsPlayed, one_more, IsAnswered, IsReplied}
+use Rattle.gm_play.proofs.Lower.{◌≡◌, ◌≢◌, ℕ, ◌+◌, ◌<◌, ◌≤◌, ◌⊎◌, inl, inr, true, List, [], ◌∷◌, ◌++◌, length, Option, None, Some, refl, sym, ap, ◌∙◌, subst}
+use Rattle.gm_play.proofs.Lower.{arith, append_assoc, append-nil, drop, get_or, drop_more, drop_all, MatchOption, Contains, Position, Rules, IsGame, TableData}
+use Rattle.gm_play.proofs.Lower.{Side, You, Computer, PlayLine, IsBestMove, AreAllHeld, position_after, side_after, IsLine, LeadsTo, IsPlayed, IsReplied}
+use Rattle.std.specs.Prelude.{IfSome}
+use Rattle.gm_play.specs.Sides.{other}
+use Rattle.gm_play.specs.Lines.{one_more, IsAnswered}
 use Rattle.gm_play.proofs.Keeping.{best_once}
-use Rattle.gm_best.proofs.Held.{held_after}
+use Rattle.gm_play.proofs.Held.{held_after}
 
 -- the state of a line after some moves: its continuations from here are those of the line from the start
 pub record OnLine (r : Rules) (start : Position) (first : Side) (replies rest : List ℕ) (line : PlayLine) : Type 0 where

@@ -1,14 +1,7 @@
 -- What the computer's best moves guarantee for any replies.
-use Rattle.std.proofs.Common.{◌≡◌, ◌≢◌, ℕ, ◌≤◌, inl, inr, true, List, [], ◌∷◌, length, None, refl, sym, ap, ◌∙◌, subst, arith}
-use Rattle.gm_game.specs.declared.position.Position.{Position}
-use Rattle.gm_game.specs.Rules.{Rules}
-use Rattle.gm_game.specs.Laws.{IsGame}
-use Rattle.gm_best.specs.declared.side.Side.{Side}
-use Rattle.gm_best.specs.declared.side.Side.TheVariants.{You, Computer}
-use Rattle.gm_play.specs.declared.play_line.PlayLine.{PlayLine}
-use Rattle.gm_best.specs.Sides.{IsWonIn, IsEven, HasWon, HasLost}
+use Rattle.gm_play.proofs.Lower.{◌≡◌, ◌≢◌, ℕ, ◌≤◌, inl, inr, true, List, [], ◌∷◌, length, None, refl, sym, ap, ◌∙◌, subst, arith, Position, Rules, IsGame, Side}
+use Rattle.gm_play.proofs.Lower.{You, Computer, PlayLine, IsWonIn, IsEven, HasWon, HasLost, position_after, side_after, IsLine, LeadsTo, IsPlayed, WinsWithin}
 use Rattle.gm_play.proofs.Keeping.{goes_on, best_once, reply_won, best_won, won_at, IsSafe, even_safe, reply_safe, best_safe, not_lost}
-use Rattle.gm_play.specs.Lines.{position_after, side_after, IsLine, LeadsTo, IsPlayed, WinsWithin}
 
 module _ (r : Rules) (g : IsGame r) where
   abbrev KeepsWin : Position → Side → List ℕ → ℕ → Type 0

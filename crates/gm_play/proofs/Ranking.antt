@@ -1,28 +1,14 @@
 -- The first of the sorted moves is the best move, and its worth is the value of the position.
-use Rattle.std.proofs.Common.{◌≡◌, ℕ, suc, ◌+◌, ◌*◌, ◌^◌, ◌<◌, ◌≤◌, true, List, [], ◌∷◌, map, None, refl, sym, ap, subst, ◌∙◌, arith}
-use Rattle.std.specs.Prelude.{IsPermutation}
-use Rattle.std.specs.List.{Contains}
+use Rattle.gm_play.proofs.Lower.{◌≡◌, ℕ, suc, ◌+◌, ◌<◌, ◌≤◌, true, List, [], ◌∷◌, map, None, refl, sym, ap, subst, ◌∙◌, arith, IsPermutation, Contains}
+use Rattle.gm_play.proofs.Lower.{Contains-permutation, IsPermutation-sym, REMOTENESS, Position, Solved, Value, Lose, Draw, Tie, Win, IsGame, solved, Rules}
+use Rattle.gm_play.proofs.Lower.{IsChild, wins, HasValue, IsTrueValue, HasValue_once, win_within, contains_none, contains_first, map_from, map_in, wins_from}
+use Rattle.gm_play.proofs.Lower.{ties_from, MoveValue, wanted_from, IsNoFarther, IsBestOf, worth_from, IsMoveValue, AreMoveValues}
+use Rattle.std.proofs.Common.{◌*◌, ◌^◌}
 use Rattle.std.specs.List.Sorted.{IsNonDecreasingBy}
 use Rattle.std.proofs.lemmas.List.Elements.{All-contains}
-use Rattle.std.proofs.lemmas.List.Sorted.{Contains-permutation, IsPermutation-sym}
-use Rattle.gm_game.specs.declared.limits.TheConstants.{REMOTENESS}
-use Rattle.gm_game.specs.declared.position.Position.{Position}
-use Rattle.gm_game.specs.declared.position.Solved.{Solved}
-use Rattle.gm_game.specs.declared.position.Value.{Value}
-use Rattle.gm_game.specs.declared.position.Value.TheVariants.{Lose, Draw, Tie, Win}
-use Rattle.gm_game.specs.Laws.{IsGame}
-use Rattle.gm_game.specs.Records.{solved}
-use Rattle.gm_game.specs.Rules.{Rules, IsChild}
-use Rattle.gm_game.specs.Values.{wins, HasValue, IsTrueValue}
-use Rattle.gm_game.proofs.Basic.{HasValue_once}
-use Rattle.gm_game.proofs.Frontier.{win_within}
-use Rattle.gm_game.proofs.Lists.{contains_none, contains_first, map_from, map_in}
-use Rattle.gm_game.proofs.Steps.{wins_from, ties_from}
-use Rattle.gm_play.specs.declared.move_values.MoveValue.{MoveValue}
-use Rattle.gm_best.specs.BestMoves.{wanted_from, IsNoFarther, IsBestOf}
-use Rattle.gm_play.specs.MoveValues.{worth_from, rank, place, IsMoveValue, AreMoveValues, BeginsBest}
+use Rattle.gm_play.specs.MoveValues.{rank, place, BeginsBest}
 use Rattle.gm_play.proofs.Lowering.{best_worth}
-use Rattle.gm_best.proofs.Wanted.{leads}
+use Rattle.gm_play.proofs.Wanted.{leads}
 use Rattle.gm_play.proofs.Keeping.{goes_on, reply_won}
 
 -- an order by place

@@ -1,14 +1,11 @@
 -- The lines that a person writes.
-use Rattle.std.proofs.Common.{◌≡◌, ℕ, Bool, true, false, List, [], ◌∷◌, ◌++◌, codes, cond, length, Option, None, Some, refl, sym, ap, ap₂, ◌∙◌, subst, inl, inr}
-use Rattle.std.specs.Prelude.{◌↔◌, ◌==◌, if◌then◌else◌}
-use Rattle.std.specs.List.{Contains, find}
-use Rattle.std.specs.Str.{bytes_eq}
+use Rattle.gm_play.proofs.Lower.{◌≡◌, ℕ, Bool, true, false, List, [], ◌∷◌, ◌++◌, codes, length, Option, None, Some, refl, sym, ap, ap₂, ◌∙◌, subst, inl, inr}
+use Rattle.gm_play.proofs.Lower.{◌==◌, if◌then◌else◌, Contains, find, bytes_eq, Position, Rules, contains_none, contains_first, contains_later, contains_cases}
+use Rattle.gm_play.proofs.Lower.{Advice, Said, ends, after_move, computers_turn, without_return, answer_to, reply, text_after, closing, Question}
+use Rattle.std.proofs.Common.{cond}
+use Rattle.std.specs.Prelude.{◌↔◌}
 use Rattle.std.proofs.lemmas.Slice.Eq.{bytes_eq-Decides}
-use Rattle.gm_game.specs.declared.position.Position.{Position}
-use Rattle.gm_game.specs.Rules.{Rules}
-use Rattle.gm_game.proofs.Lists.{contains_none, contains_first, contains_later, contains_cases}
-use Rattle.gm_play.specs.Dialogue.{Advice, Said, ends, after_move, computers_turn, without_return, move_read, answer_to, reply, text_after, closing}
-use Rattle.gm_play.specs.declared.view.Question.{Question}
+use Rattle.gm_play.specs.Dialogue.{move_read}
 
 module _ {X : Type 0} (test : X → Bool) where
   find_first : (y x : X) (ys : List X) (b : Bool) → (find test ys ≡ Some x → Contains ys x × (test x ≡ true)) → test y ≡ b → cond b (Some y) (find test ys)

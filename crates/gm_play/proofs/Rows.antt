@@ -1,26 +1,11 @@
 -- The rows of moves and of lines of play.
-use Rattle.std.proofs.Common.{◌≡◌, ℕ, ◌+◌, ◌-◌, ◌<◌, ◌≤◌, true, List, [], ◌∷◌, ◌++◌, length, map, take, drop, get_or, Some, refl, sym, ap, ap₂, subst}
-use Rattle.std.proofs.Common.{◌∙◌, arith}
-use Rattle.std.specs.List.{All, Contains, flat_map}
-use Rattle.std.proofs.lemmas.List.{append_assoc, append-nil, take_more, take_all, drop_more}
-use Rattle.std.proofs.lemmas.Grind.{flat_map-append}
+use Rattle.gm_play.proofs.Lower.{◌≡◌, ℕ, ◌+◌, ◌-◌, ◌<◌, ◌≤◌, true, List, [], ◌∷◌, ◌++◌, length, map, take, drop, get_or, Some, refl, sym, ap, ap₂, subst, ◌∙◌}
+use Rattle.gm_play.proofs.Lower.{arith, All, Contains, flat_map, take_more, take_all, drop_more, flat_map-append, Contains-permutation, IsPermutation-sym}
+use Rattle.gm_play.proofs.Lower.{Position, Solved, Value, Lose, Draw, Tie, Win, IsGame, solved, Rules, text_of, HasValue, IsTrueValue, map_from, MoveValue}
+use Rattle.gm_play.proofs.Lower.{AreBest, wanted_from, IsBestMove, worth_from, AreMoveValues, row, after_best, IsMoveOf, rows_from}
+use Rattle.std.proofs.lemmas.List.{append_assoc, append-nil}
 use Rattle.std.proofs.lemmas.List.Elements.{All-contains_itself}
-use Rattle.std.proofs.lemmas.List.Sorted.{Contains-permutation, IsPermutation-sym}
-use Rattle.gm_game.specs.declared.position.Position.{Position}
-use Rattle.gm_game.specs.declared.position.Solved.{Solved}
-use Rattle.gm_game.specs.declared.position.Value.{Value}
-use Rattle.gm_game.specs.declared.position.Value.TheVariants.{Lose, Draw, Tie, Win}
-use Rattle.gm_game.specs.Laws.{IsGame}
-use Rattle.gm_game.specs.Records.{solved}
-use Rattle.gm_game.specs.Rules.{Rules}
-use Rattle.gm_game.specs.Texts.{text_of}
-use Rattle.gm_game.specs.Values.{HasValue, IsTrueValue}
-use Rattle.gm_game.proofs.Lists.{map_from}
-use Rattle.gm_play.specs.declared.move_values.MoveValue.{MoveValue}
-use Rattle.gm_play.specs.BestLines.{AreBest}
-use Rattle.gm_best.specs.BestMoves.{wanted_from, IsBestMove}
-use Rattle.gm_play.specs.MoveValues.{worth_from, AreMoveValues}
-use Rattle.gm_play.specs.PlayTexts.{row, after_best, IsMoveOf, AreLineRows, rows_from}
+use Rattle.gm_play.specs.PlayTexts.{AreLineRows}
 use Rattle.gm_play.proofs.Walking.{step_value}
 
 -- moves with their values have legal results

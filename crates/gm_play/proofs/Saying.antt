@@ -1,30 +1,16 @@
 -- Turns, by the state of the game.
-use Rattle.std.proofs.Common.{◌≡◌, ℕ, true, List, ◌++◌, codes, Option, None, Some, refl, sym, ap, ◌∙◌, subst}
+use Rattle.gm_play.proofs.Lower.{◌≡◌, ℕ, true, List, ◌++◌, codes, Option, None, Some, refl, sym, ap, ◌∙◌, subst, IfOk, OnErr, Appends, Position, Solved, End}
+use Rattle.gm_play.proofs.Lower.{Rules, text_of, IsTrueValue, You, Computer, IsGame, Unwritten, AppendsPart, Says, Advice, Said, IsKnown, before, after_move}
+use Rattle.gm_play.proofs.Lower.{game_over, asks, place, asks_or_ends, persons_turn, moves_or_ends, IsBestMove, IsReached, First, Question}
 use Rattle.std.specs.Result.{is_ok}
-use Rattle.std.specs.Prelude.{Result, Ok, Err, IfOk, OnErr}
-use Rattle.std.specs.Io.KnownBytes.{Appends}
-use Rattle.gm_best.specs.declared.answer.AnswerError.{AnswerError}
-use Rattle.gm_best.specs.declared.answer.AnswerError.TheVariants.{Illegal, NotHeld}
-use Rattle.gm_game.specs.declared.position.Position.{Position}
-use Rattle.gm_game.specs.declared.position.Solved.{Solved}
-use Rattle.gm_game.specs.declared.position.End.{End}
-use Rattle.gm_game.specs.Rules.{Rules}
-use Rattle.gm_game.specs.Texts.{text_of}
-use Rattle.gm_game.specs.Values.{IsTrueValue}
+use Rattle.std.specs.Prelude.{Result, Ok, Err}
+use Rattle.gm_play.specs.declared.answers.AnswerError.{AnswerError}
+use Rattle.gm_play.specs.declared.answers.AnswerError.TheVariants.{Illegal, NotHeld}
 use Rattle.gm_game.proofs.Checker.{IsTrueValue_once}
-use Rattle.gm_best.specs.declared.side.Side.TheVariants.{You, Computer}
-use Rattle.gm_game.specs.Laws.{IsGame}
-use Rattle.gm_play.specs.declared.streams.Unwritten.{Unwritten}
-use Rattle.gm_play.specs.Sessions.{AppendsPart, Says}
 use Rattle.gm_play.proofs.Parts.{part_is, part_longer, text_is, done_by, stops_in}
-use Rattle.gm_play.specs.Dialogue.{Advice, Said, IsKnown, before, after_move, game_over, asks, place, asks_or_ends, persons_turn, moves_or_ends}
-use Rattle.gm_best.specs.BestMoves.{IsBestMove}
-use Rattle.gm_best.specs.Reached.{IsReached}
 use Rattle.gm_play.proofs.Keeping.{best_once}
-use Rattle.gm_best.proofs.Reaching.{own_reached, reached_by}
+use Rattle.gm_play.proofs.Reaching.{own_reached, reached_by}
 use Rattle.gm_play.proofs.Knowing.{known_from}
-use Rattle.gm_play.specs.declared.view.Question.TheVariants.{First}
-use Rattle.gm_play.specs.declared.view.Question.{Question}
 
 -- the true value is the known one
 pub value_known : (r : Rules) (k : Advice) (p : Position) (s : Solved) → r.is_legal p ≡ true → IsKnown r p.tier k → IsTrueValue r p s → s ≡ k.value p

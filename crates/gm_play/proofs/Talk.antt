@@ -1,20 +1,14 @@
 -- The middle of a session: the bytes read and written so far, and the rest.
-use Rattle.std.proofs.Common.{◌≡◌, ℕ, ◌+◌, ◌≤◌, Bool, true, false, List, [], ◌∷◌, ◌++◌, length, take, Option, Some, None, refl, sym, ap, ◌∙◌, append_assoc}
-use Rattle.std.proofs.Common.{append-nil, arith, inl, inr}
-use Rattle.std.specs.Prelude.{◌==◌, if◌then◌else◌}
-use Rattle.std.proofs.lemmas.List.{length-append}
-use Rattle.std.specs.Io.KnownBytes.{Consumes, Appends, Keeps, IsAtEnd}
-use Rattle.std.proofs.KnownBytes.{Consumes-trans, Consumes-kept, Consumes-nil, Appends-trans}
-use Rattle.gm_game.specs.declared.position.Position.{Position}
-use Rattle.gm_game.specs.Rules.{Rules}
-use Rattle.gm_best.specs.declared.side.Side.{Side}
-use Rattle.gm_play.specs.declared.session.TheConstants.{SESSION_BYTES, KEPT}
-use Rattle.gm_play.specs.Dialogue.{Advice, Said, text_after, count_after, waiting, turn, reply, closing, talk, count, spoken, used}
-use Rattle.gm_play.specs.Sessions.{AppendsPart, Says, IsRead, IsSession, IsUnread, IsUnwritten, IsTooLong, IsBroken, IsOfOutput}
+use Rattle.gm_play.proofs.Lower.{◌≡◌, ℕ, ◌+◌, ◌≤◌, Bool, true, false, List, [], ◌∷◌, ◌++◌, length, take, Option, Some, None, refl, sym, ap, ◌∙◌, append_assoc}
+use Rattle.gm_play.proofs.Lower.{append-nil, arith, inl, inr, ◌==◌, if◌then◌else◌, length-append, Appends, Keeps, Appends-trans, Position, Rules, Side}
+use Rattle.gm_play.proofs.Lower.{SESSION_BYTES, KEPT, Advice, Said, text_after, turn, reply, closing, AppendsPart, Says, Question}
+use Rattle.std.specs.Io.KnownBytes.{Consumes, IsAtEnd}
+use Rattle.std.proofs.KnownBytes.{Consumes-trans, Consumes-kept, Consumes-nil}
+use Rattle.gm_play.specs.Dialogue.{count_after, waiting, talk, count, spoken, used}
+use Rattle.gm_play.specs.Sessions.{IsRead, IsSession, IsUnread, IsUnwritten, IsTooLong, IsBroken, IsOfOutput}
 use Rattle.gm_play.specs.declared.session_error.SessionError.{SessionError}
 use Rattle.gm_play.specs.declared.session_error.SessionError.TheVariants.{ReadFailed, WriteFailed, TooMuchInput, OutputClosed}
 use Rattle.gm_play.proofs.Parts.{part_after, part_longer, part_is, text_is}
-use Rattle.gm_play.specs.declared.view.Question.{Question}
 
 -- the text after a question, which is empty if no question was asked
 asked_text : (said : Said) (f : Position → List ℕ) (q : Position) → Some q ≡ said.asked → said.text ++ text_after f said.asked ≡ said.text ++ f q

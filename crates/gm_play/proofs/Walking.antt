@@ -1,28 +1,16 @@
 -- Lines of best play: their state after some moves, and their length.
-use Rattle.std.proofs.Common.{◌≡◌, ◌≢◌, ℕ, zero, suc, ◌+◌, ◌-◌, ◌<◌, ◌≤◌, inl, inr, true, List, [], ◌∷◌, ◌++◌, length, take, get_or, slice_get, Option, None}
-use Rattle.std.proofs.Common.{Some, refl, sym, ap, subst, ◌∙◌, arith}
-use Rattle.std.specs.List.{Contains}
-use Rattle.std.proofs.lemmas.Bool.{cases_lt}
-use Rattle.std.proofs.lemmas.List.{length-append, length-take-le, get_or_append_left}
+use Rattle.gm_play.proofs.Lower.{◌≡◌, ◌≢◌, ℕ, zero, suc, ◌+◌, ◌-◌, ◌<◌, ◌≤◌, inl, inr, true, List, [], ◌∷◌, ◌++◌, length, take, get_or, slice_get, Option, None}
+use Rattle.gm_play.proofs.Lower.{Some, refl, sym, ap, subst, ◌∙◌, arith, Contains, cases_lt, length-append, length-take-le, End, Position, Value, Lose, Draw}
+use Rattle.gm_play.proofs.Lower.{Tie, Win, solved, Rules, HasValue, HasValue_once, loses_zero, wins_zero, loses_at_end, wins_at_end, ties_at_end, AreBest}
+use Rattle.gm_play.proofs.Lower.{wanted_from, IsBestMove, position_after, worth_from}
+use Rattle.std.proofs.lemmas.List.{get_or_append_left}
 use Rattle.std.proofs.lemmas.Option.{slice_get_within, get_or_from_slice_get, slice_get-get_or}
 use Rattle.std.proofs.Math.Seq.{get_or-append_seam, take-append_seam}
-use Rattle.gm_game.specs.declared.position.End.{End}
 use Rattle.gm_game.specs.declared.position.End.TheVariants.{Lose as EndLose, Tie as EndTie, Win as EndWin}
-use Rattle.gm_game.specs.declared.position.Position.{Position}
-use Rattle.gm_game.specs.declared.position.Value.{Value}
-use Rattle.gm_game.specs.declared.position.Value.TheVariants.{Lose, Draw, Tie, Win}
-use Rattle.gm_game.specs.Records.{solved}
-use Rattle.gm_game.specs.Rules.{Rules}
-use Rattle.gm_game.specs.Values.{HasValue}
-use Rattle.gm_game.proofs.Basic.{HasValue_once}
-use Rattle.gm_game.proofs.Steps.{loses_zero, wins_zero, loses_at_end, wins_at_end, ties_at_end}
 use Rattle.gm_play.specs.declared.best_line.BestLine.{BestLine}
 use Rattle.gm_play.specs.declared.best_line.LineEnd.{LineEnd}
 use Rattle.gm_play.specs.declared.best_line.LineEnd.TheVariants.{Over, Again, Cut}
-use Rattle.gm_play.specs.BestLines.{AreBest, positions_along, AreFresh, EndsSo, IsBestLine, IsWhole}
-use Rattle.gm_best.specs.BestMoves.{wanted_from, IsBestMove}
-use Rattle.gm_play.specs.Lines.{position_after}
-use Rattle.gm_play.specs.MoveValues.{worth_from}
+use Rattle.gm_play.specs.BestLines.{positions_along, AreFresh, EndsSo, IsBestLine, IsWhole}
 use Rattle.gm_play.proofs.Lowering.{best_worth}
 
 -- one more move

@@ -1,14 +1,11 @@
 -- Lines of best play by both sides.
-use Rattle.std.specs.Prelude.{◌≡◌, ◌≢◌, ℕ, ◌<◌, ◌≤◌, List, [], ◌∷◌, length, take, get_or, slice_get, None, Some}
-use Rattle.gm_game.specs.declared.position.Position.{Position}
-use Rattle.gm_game.specs.declared.position.Value.{Value}
-use Rattle.gm_game.specs.declared.position.Value.TheVariants.{Draw}
-use Rattle.gm_game.specs.Rules.{Rules}
-use Rattle.gm_game.specs.Values.{HasValue}
+use Rattle.std.specs.Prelude.{◌≡◌, ◌≢◌, ℕ, ◌<◌, ◌≤◌, List, [], ◌∷◌, length, take, slice_get, None, Some}
+use Rattle.gm_play.specs.Lower.{Position, Value, Draw, Rules, HasValue}
+use Rattle.std.specs.Prelude.{get_or}
 use Rattle.gm_play.specs.declared.best_line.BestLine.{BestLine}
 use Rattle.gm_play.specs.declared.best_line.LineEnd.{LineEnd}
 use Rattle.gm_play.specs.declared.best_line.LineEnd.TheVariants.{Over, Again, Cut}
-use Rattle.gm_best.specs.BestMoves.{IsBestMove}
+use Rattle.gm_play.specs.BestMoves.{IsBestMove}
 use Rattle.gm_play.specs.Lines.{position_after}
 
 -- each of these moves is the best one of its position

@@ -1,6 +1,6 @@
 -- Properties of the course of a game for the computer's side.
 use Rattle.std.specs.Prelude.{◌≡◌, ◌≢◌, ℕ, ◌≤◌, Some, IfSome}
-use Rattle.gm_best.specs.declared.side.Side.TheVariants.{You, Computer}
+use Rattle.gm_play.specs.declared.sides.Side.TheVariants.{You, Computer}
 use Rattle.gm_play.specs.Dialogue.{Course}
 
 -- at most n moves are played, and if the game ends, the computer wins

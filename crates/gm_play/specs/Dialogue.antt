@@ -1,18 +1,15 @@
 -- The dialogue of a session: the text that is written in answer to the input.
-use Rattle.std.specs.Prelude.{ℕ, ◌+◌, ◌-◌, List, [], ◌∷◌, ◌++◌, length, take, drop, codes, ◌==◌, if◌then◌else◌, Option, None, Some}
+use Rattle.std.specs.Prelude.{ℕ, ◌+◌, ◌-◌, List, [], ◌∷◌, ◌++◌, length, take, codes, ◌==◌, if◌then◌else◌, Option, None, Some}
+use Rattle.gm_play.specs.Lower.{Position, Solved, End, Rules}
+use Rattle.gm_play.specs.Lower.{text_of, IsTrueValue}
+use Rattle.std.specs.Prelude.{drop}
 use Rattle.std.specs.List.{find}
 use Rattle.std.specs.Str.{bytes_eq}
-use Rattle.gm_game.specs.declared.position.Position.{Position}
-use Rattle.gm_game.specs.declared.position.Solved.{Solved}
-use Rattle.gm_game.specs.declared.position.End.{End}
-use Rattle.gm_game.specs.Rules.{Rules}
-use Rattle.gm_game.specs.Texts.{text_of}
-use Rattle.gm_game.specs.Values.{IsTrueValue}
-use Rattle.gm_best.specs.declared.side.Side.{Side}
-use Rattle.gm_best.specs.declared.side.Side.TheVariants.{You, Computer}
-use Rattle.gm_best.specs.BestMoves.{IsBestMove}
-use Rattle.gm_best.specs.Endings.{winner, over}
-use Rattle.gm_best.specs.Reached.{IsReached}
+use Rattle.gm_play.specs.declared.sides.Side.{Side}
+use Rattle.gm_play.specs.declared.sides.Side.TheVariants.{You, Computer}
+use Rattle.gm_play.specs.BestMoves.{IsBestMove}
+use Rattle.gm_play.specs.Endings.{winner, over}
+use Rattle.gm_play.specs.Reached.{IsReached}
 use Rattle.gm_play.specs.declared.view.Question.{Question}
 use Rattle.gm_play.specs.declared.view.Question.TheVariants.{First, Again}
 

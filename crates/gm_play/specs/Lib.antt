@@ -9,3 +9,10 @@ pub mod Courses
 pub mod LastLines
 pub mod Why
 pub mod PlaceTexts
+pub mod Refusals
+pub mod BestMoves
+pub mod Sides
+pub mod Endings
+pub mod Places
+pub mod Reached
+pub mod Lower

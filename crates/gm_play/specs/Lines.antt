@@ -1,13 +1,11 @@
 -- Lines of play: the computer plays its best moves, the other side replies.
 use Rattle.std.specs.Prelude.{◌≡◌, ◌≢◌, ℕ, ◌+◌, ◌≤◌, ◌⊎◌, List, [], ◌∷◌, length, Option, None, Some}
-use Rattle.std.specs.List.{Contains}
-use Rattle.gm_game.specs.declared.position.Position.{Position}
-use Rattle.gm_game.specs.Rules.{Rules}
-use Rattle.gm_best.specs.declared.side.Side.{Side}
-use Rattle.gm_best.specs.declared.side.Side.TheVariants.{You, Computer}
+use Rattle.gm_play.specs.Lower.{Contains, Position, Rules}
+use Rattle.gm_play.specs.declared.sides.Side.{Side}
+use Rattle.gm_play.specs.declared.sides.Side.TheVariants.{You, Computer}
 use Rattle.gm_play.specs.declared.play_line.PlayLine.{PlayLine}
-use Rattle.gm_best.specs.BestMoves.{IsBestMove}
-use Rattle.gm_best.specs.Sides.{other, HasWon}
+use Rattle.gm_play.specs.BestMoves.{IsBestMove}
+use Rattle.gm_play.specs.Sides.{other, HasWon}
 
 -- the position and the side to move, after these moves
 abbrev pub position_after : Rules → Position → List ℕ → Position

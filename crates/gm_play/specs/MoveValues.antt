@@ -1,16 +1,10 @@
 -- The moves of a position, by their worth.
-use Rattle.std.specs.Prelude.{◌≡◌, ℕ, ◌+◌, ◌-◌, ◌*◌, ◌^◌, ◌≤◌, List, [], ◌∷◌, map, IsPermutation, None, Some}
-use Rattle.std.specs.List.{All}
-use Rattle.std.specs.List.Sorted.{IsNonDecreasingBy}
+use Rattle.std.specs.Prelude.{◌≡◌, ℕ, ◌+◌, ◌-◌, ◌^◌, ◌≤◌, List, [], ◌∷◌, map, IsPermutation, None, Some}
+use Rattle.gm_play.specs.Lower.{All, IsNonDecreasingBy, Position, Solved, Value}
+use Rattle.gm_play.specs.Lower.{Lose, Draw, Tie, Win, solved, Rules, IsTrueValue}
+use Rattle.std.specs.Prelude.{◌*◌}
 use Rattle.gm_game.specs.declared.limits.TheConstants.{REMOTENESS}
-use Rattle.gm_game.specs.declared.position.Position.{Position}
-use Rattle.gm_game.specs.declared.position.Solved.{Solved}
-use Rattle.gm_game.specs.declared.position.Value.{Value}
-use Rattle.gm_game.specs.declared.position.Value.TheVariants.{Lose, Draw, Tie, Win}
-use Rattle.gm_game.specs.Records.{solved}
-use Rattle.gm_game.specs.Rules.{Rules}
-use Rattle.gm_game.specs.Values.{IsTrueValue}
-use Rattle.gm_best.specs.BestMoves.{IsBestMove}
+use Rattle.gm_play.specs.BestMoves.{IsBestMove}
 use Rattle.gm_play.specs.declared.move_values.MoveValue.{MoveValue}
 
 -- the worth of a move to the side that makes it, from the value and remoteness of its result; the remoteness is counted from before the move

@@ -1,20 +1,12 @@
 -- The texts of answers: values, moves and lines of play.
 use Rattle.std.specs.Prelude.{◌≡◌, ℕ, ◌-◌, Bool, true, List, [], ◌∷◌, ◌++◌, codes}
-use Rattle.std.specs.Fmt.{decimal}
-use Rattle.std.specs.List.{Contains, flat_map}
-use Rattle.gm_game.specs.declared.position.Position.{Position}
-use Rattle.gm_game.specs.declared.position.Solved.{Solved}
-use Rattle.gm_game.specs.declared.position.Value.{Value}
-use Rattle.gm_game.specs.declared.position.Value.TheVariants.{Lose, Draw, Tie, Win}
-use Rattle.gm_game.specs.Records.{solved}
-use Rattle.gm_game.specs.Rules.{Rules}
-use Rattle.gm_game.specs.Texts.{text_of}
-use Rattle.gm_game.specs.Values.{IsTrueValue}
+use Rattle.gm_play.specs.Lower.{decimal, Contains, flat_map, Position, Solved, Value, Lose, Draw, Tie, Win}
+use Rattle.gm_play.specs.Lower.{solved, Rules, text_of, IsTrueValue}
 use Rattle.gm_play.specs.declared.best_line.BestLine.{BestLine}
 use Rattle.gm_play.specs.declared.best_line.LineEnd.{LineEnd}
 use Rattle.gm_play.specs.declared.best_line.LineEnd.TheVariants.{Over, Again, Cut}
 use Rattle.gm_play.specs.declared.move_values.MoveValue.{MoveValue}
-use Rattle.gm_best.specs.BestMoves.{wanted_from}
+use Rattle.gm_play.specs.BestMoves.{wanted_from}
 use Rattle.gm_play.specs.BestLines.{IsBestLine, IsWhole}
 use Rattle.gm_play.specs.Firsts.{chosen}
 use Rattle.gm_play.specs.MoveValues.{AreMoveValues, BeginsBest}

@@ -1,9 +1,8 @@
 -- The input and the output of a session.
 use Rattle.std.specs.Prelude.{◌≡◌, ℕ, ◌+◌, ◌≤◌, ◌⊎◌, List, [], ◌∷◌, ◌++◌, length, Option, None, Some}
-use Rattle.std.specs.Io.KnownBytes.{Keeps, Appends, Consumes, IsAtEnd}
-use Rattle.gm_game.specs.declared.position.Position.{Position}
-use Rattle.gm_game.specs.Rules.{Rules}
-use Rattle.gm_best.specs.declared.side.Side.{Side}
+use Rattle.gm_play.specs.Lower.{Keeps, Appends, Position, Rules}
+use Rattle.std.specs.Io.KnownBytes.{Consumes, IsAtEnd}
+use Rattle.gm_play.specs.declared.sides.Side.{Side}
 use Rattle.gm_play.specs.declared.session_error.SessionError.{SessionError}
 use Rattle.gm_play.specs.declared.session_error.SessionError.TheVariants.{ReadFailed, WriteFailed, TooMuchInput, OutputClosed}
 use Rattle.gm_play.specs.Dialogue.{Advice, Said, dialogue, dialogue_so_far, used}

@@ -1,12 +1,7 @@
 -- Why a position has its value: its moves, the best answer to each, and the result of the answer.
 use Rattle.std.specs.Prelude.{◌≡◌, ℕ, true, List, [], ◌++◌, codes, map, Option, None, Some}
-use Rattle.std.specs.List.{All, flat_map}
-use Rattle.gm_game.specs.declared.position.Position.{Position}
-use Rattle.gm_game.specs.declared.position.Solved.{Solved}
-use Rattle.gm_game.specs.Rules.{Rules}
-use Rattle.gm_game.specs.Texts.{text_of}
-use Rattle.gm_game.specs.Values.{IsTrueValue}
-use Rattle.gm_best.specs.BestMoves.{IsBestMove}
+use Rattle.gm_play.specs.Lower.{All, flat_map, Position, Solved, Rules, text_of, IsTrueValue}
+use Rattle.gm_play.specs.BestMoves.{IsBestMove}
 use Rattle.gm_play.specs.declared.move_values.MoveValue.{MoveValue}
 use Rattle.gm_play.specs.declared.why.Exchange.{Exchange}
 use Rattle.gm_play.specs.MoveValues.{AreMoveValues, BeginsBest}

@@ -1,9 +1,9 @@
 //! Lines of best play by both sides.
 ghost use Rattle.std.specs.Prelude.{◌≡◌, [], MatchOption, IfOk, Some, slice_get};
-ghost use Rattle.std.specs.List.{Contains};
+ghost use Rattle.gm_play.specs.Lower.{Contains};
 ghost use Rattle.gm_play.specs.BestLines.{IsBestLine, IsWhole};
 
-use gm_best::known::Known;
+use crate::known::Known;
 use gm_game::game::Game;
 use gm_game::position::Position;
 use std::alloc::{AllocError, Global};

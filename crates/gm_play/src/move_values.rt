@@ -1,11 +1,10 @@
 //! The worth of each move of a position.
 ghost use Rattle.std.specs.Prelude.{◌≡◌, ◌<◌, ◌^◌, map, IsPermutation};
-ghost use Rattle.std.specs.List.{All, Contains};
-ghost use Rattle.std.specs.List.Sorted.{IsNonDecreasingBy};
+ghost use Rattle.gm_play.specs.Lower.{All, Contains, IsNonDecreasingBy};
 ghost use Rattle.gm_play.specs.MoveValues.{rank as rank_spec, place as place_spec, worth_of, IsMoveValue, AreMoveValues, BeginsBest};
 
+use crate::known::Known;
 use arrayvec::ArrayVec;
-use gm_best::known::Known;
 use gm_game::game::Game;
 use gm_game::limits::MOVES;
 use gm_game::position::{Position, Solved, Value};

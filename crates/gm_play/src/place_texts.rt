@@ -1,12 +1,12 @@
 //! The texts of positions with their values, and of the tiers and indexes of positions.
 ghost use Rattle.std.specs.Prelude.{◌≡◌, true, IfOk};
-ghost use Rattle.std.specs.Fmt.{decimal};
+ghost use Rattle.gm_play.specs.Lower.{decimal};
 ghost use Rattle.gm_play.specs.PlaceTexts.{place_row, place_word, IsPositionText};
 
+use crate::known::Known;
+use crate::places::Located;
 use crate::texts::push_field;
 use crate::why::push_five;
-use gm_best::known::Known;
-use gm_best::place::Located;
 use gm_game::shown::{Line, Shown};
 use gm_game::text::{push_decimal, value_text};
 use std::alloc::{AllocError, Global};

@@ -1,14 +1,14 @@
 //! Lines of play: the computer's best moves against any replies.
-ghost use Rattle.std.specs.Prelude.{◌≡◌, ◌≢◌, ◌+◌, ◌^◌, ◌<◌, ℕ, List, true, None, IfSome, IfNone, MatchOption};
-ghost use Rattle.std.specs.List.{Contains};
-ghost use Rattle.gm_table.specs.Tables.{IsHeld, AreHeld};
-ghost use Rattle.gm_best.specs.BestMoves.{IsBestMove};
-ghost use Rattle.gm_best.specs.Sides.{IsWonIn, IsEven, HasLost};
-ghost use Rattle.gm_best.specs.Reached.{AreAllHeld};
+ghost use Rattle.std.specs.Prelude.{◌≡◌, ◌≢◌, ◌+◌, ◌^◌, ◌<◌, ℕ, List, true, None, IfSome, MatchOption};
+ghost use Rattle.gm_play.specs.Lower.{Contains, IsHeld, AreHeld};
+ghost use Rattle.std.specs.Prelude.{IfNone};
+ghost use Rattle.gm_play.specs.BestMoves.{IsBestMove};
+ghost use Rattle.gm_play.specs.Sides.{IsWonIn, IsEven, HasLost};
+ghost use Rattle.gm_play.specs.Reached.{AreAllHeld};
 ghost use Rattle.gm_play.specs.Lines.{IsLine, LeadsTo, IsPlayed, WinsWithin, one_more, IsAnswered, IsReplied};
 
-use gm_best::best_move::best_move;
-use gm_best::side::Side;
+use crate::best_moves::best_move;
+use crate::sides::Side;
 use gm_game::game::Game;
 use gm_game::position::Position;
 use gm_table::tables::Tables;

@@ -1,19 +1,19 @@
 //! Sessions against the computer over a reader and a writer.
 ghost use Rattle.std.specs.Prelude.{◌≡◌, ℕ, List, true, OnOk, IfErr};
-ghost use Rattle.gm_best.specs.Reached.{AreAllHeld};
+ghost use Rattle.gm_play.specs.Reached.{AreAllHeld};
 ghost use Rattle.gm_play.specs.Dialogue.{Advice, IsKnown, course, unseen};
 ghost use Rattle.gm_play.specs.Courses.{IsWonCourse, IsUnlostCourse};
 ghost use Rattle.gm_play.specs.LastLines.{EndsWon, EndsUnlost, WritesOne};
-ghost use Rattle.gm_best.specs.Sides.{IsWonIn, IsEven};
+ghost use Rattle.gm_play.specs.Sides.{IsWonIn, IsEven};
 ghost use Rattle.gm_play.specs.Sessions.{IsSession, IsBroken};
 
+use crate::known::Known;
 use crate::session_error::SessionError;
+use crate::sides::Side;
 use crate::streams::read_byte;
 use crate::turns::{close, reply, turn};
 use crate::view::{Plain, View};
 use arrayvec::ArrayVec;
-use gm_best::known::Known;
-use gm_best::side::Side;
 use gm_game::game::Game;
 use gm_game::limits::LINE;
 use gm_game::position::Position;

@@ -1,15 +1,14 @@
 //! The texts of answers: values, moves and lines of play.
 ghost use Rattle.std.specs.Prelude.{◌≡◌, ◌++◌, [], true, IfOk, OnOk};
-ghost use Rattle.std.specs.List.{All, flat_map};
-ghost use Rattle.gm_game.specs.Texts.{text_of};
+ghost use Rattle.gm_play.specs.Lower.{All, flat_map, text_of};
 ghost use Rattle.gm_play.specs.BestLines.{AreBest};
 ghost use Rattle.gm_play.specs.PlayTexts.{row, value_word, end_row, after_best, IsMoveOf, move_row, AreMoveRows, rows_from, IsLineText};
 
 use crate::best_line::{BestLine, LineEnd, best_line};
+use crate::best_moves::wanted;
 use crate::firsts::moves_of;
+use crate::known::Known;
 use crate::move_values::MoveValue;
-use gm_best::best_move::wanted;
-use gm_best::known::Known;
 use gm_game::position::{Position, Solved, Value};
 use gm_game::shown::{Line, Shown};
 use gm_game::text::{push_decimal, value_text};

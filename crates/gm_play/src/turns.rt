@@ -1,16 +1,16 @@
 //! The turns of a session.
 ghost use Rattle.std.specs.Prelude.{◌≡◌, ◌++◌, codes, true, None, Some, OnOk, OnErr, IfOk, IfSome};
-ghost use Rattle.std.specs.Io.KnownBytes.{Appends};
-ghost use Rattle.gm_best.specs.BestMoves.{IsBestMove};
-ghost use Rattle.gm_best.specs.Reached.{IsReached};
+ghost use Rattle.gm_play.specs.Lower.{Appends};
+ghost use Rattle.gm_play.specs.BestMoves.{IsBestMove};
+ghost use Rattle.gm_play.specs.Reached.{IsReached};
 ghost use Rattle.gm_play.specs.Dialogue.{Advice, IsKnown, place, persons_turn, moves_or_ends, computers_turn, turn as turn_spec, reply as reply_spec, closing};
 ghost use Rattle.gm_play.specs.Sessions.{AppendsPart, Says};
 
+use crate::endings::over;
+use crate::known::Known;
+use crate::sides::Side;
 use crate::streams::{Unwritten, say, without_return, write_line};
 use crate::view::{Question, View};
-use gm_best::ending::over;
-use gm_best::known::Known;
-use gm_best::side::Side;
 use gm_game::game::Game;
 use gm_game::position::{End, Position};
 use gm_game::shown::Shown;

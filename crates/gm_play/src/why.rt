@@ -1,15 +1,15 @@
 //! Why a position has its value: its moves, the best answer to each, and the result of the answer.
 ghost use Rattle.std.specs.Prelude.{◌≡◌, ◌++◌, true, IfOk, OnOk};
-ghost use Rattle.std.specs.List.{All};
-ghost use Rattle.gm_best.specs.BestMoves.{IsBestMove};
+ghost use Rattle.gm_play.specs.Lower.{All};
+ghost use Rattle.gm_play.specs.BestMoves.{IsBestMove};
 ghost use Rattle.gm_play.specs.MoveValues.{IsMoveValue};
 ghost use Rattle.gm_play.specs.PlayTexts.{IsMoveOf};
 ghost use Rattle.gm_play.specs.Why.{answer_text, IsExchange, exchange_row, AreExchangeRows, two, five, IsWhyText};
 
 use crate::firsts::moves_of;
+use crate::known::Known;
 use crate::move_values::MoveValue;
 use crate::texts::{push_field, push_row, value_after};
-use gm_best::known::Known;
 use gm_game::game::Game;
 use gm_game::position::{Position, Solved};
 use gm_game::shown::{Line, Shown};

@@ -2,7 +2,8 @@
 use Rattle.std.proofs.Common.{◌≡◌, ℕ, zero, suc, ◌<◌, ◌≤◌, ◌⊎◌, inl, inr, List, [], ◌∷◌, ◌++◌, length, get_or, refl, sym, ap, subst, ◌∙◌, arith, length-append}
 use Rattle.gm_shard.proofs.Lower.{Contains, range_with_len, swap, get_or_append_left, get_or-append_seam, cases_lt, cases_eq, get_or_default_zero, length-swap}
 use Rattle.gm_shard.proofs.Lower.{Swapped, swapped_from_swap, IsPermutation, IsNonDecreasing, IsPermutation-keeps, length-range_with_len, get_or-range_with_len}
-use Rattle.gm_shard.proofs.Lower.{Contains-get_or, HasNoRepeats, no_longer, AreDistinct}
+use Rattle.gm_shard.proofs.Lower.{Contains-get_or, HasNoRepeats, AreDistinct}
+use Rattle.gm_game.proofs.Counts.{no_longer}
 
 pub distinct_none : AreDistinct []
 distinct_none i j l m e = absurd (omega arith)

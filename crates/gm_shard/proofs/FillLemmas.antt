@@ -3,8 +3,9 @@ use Rattle.std.proofs.Common.{◌≡◌, ℕ, ◌+◌, ◌<◌, ◌≤◌, ◌�
 use Rattle.gm_shard.proofs.Lower.{Contains, slice_get, cases_eq, slice_get_within, get_or_from_slice_get, Contains-get_or, Contains-append_left}
 use Rattle.gm_shard.proofs.Lower.{Contains-append_right, Contains-append_cases, Position, End, Phase, WinLose, Ties, Solved, Rules, at, from_end, IsSettled}
 use Rattle.gm_shard.proofs.Lower.{contains_none, contains_first, contains_cases, Status, Hole, Undecided, Settled, first_state, ShardState, IsInRange}
-use Rattle.gm_shard.proofs.Lower.{delivered_to, In, StatusIs, IsGood, QueueData, IsSettledIn, IsQueue, AreQueues, AreDistinct, HasPhase, IsEmptied, none_of}
-use Rattle.gm_shard.proofs.Lower.{nothing_settled, first_empty}
+use Rattle.gm_shard.proofs.Lower.{delivered_to, In, StatusIs, IsGood, QueueData, IsSettledIn, IsQueue, AreQueues, AreDistinct, HasPhase, IsEmptied}
+use Rattle.gm_shard.proofs.NoteLemmas.{none_of}
+use Rattle.gm_shard.proofs.BeginLemmas.{nothing_settled, first_empty}
 use Rattle.gm_game.specs.declared.position.End.TheVariants.{Lose as EndLose, Tie as EndTie, Win as EndWin}
 use Rattle.gm_shard.proofs.DistinctLemmas.{distinct_none, distinct_push, distinct_few}
 use Rattle.gm_shard.proofs.QueueLemmas.{settled_once}

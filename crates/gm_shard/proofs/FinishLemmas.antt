@@ -1,9 +1,11 @@
 -- The records of a range at the end of ties.
 use Rattle.std.proofs.Common.{◌≡◌, ℕ, ◌+◌, List, [], ◌∷◌, ◌++◌, length, get_or, refl, sym, ap, subst, ◌∙◌, arith, inl, inr, Option, Some, length-append}
 use Rattle.gm_shard.proofs.Lower.{cases_lt, get_or_append_left, get_or-append_seam, slice_get-get_or, get_or_from_slice_get, slice_get_within, REMOTENESS}
-use Rattle.gm_shard.proofs.Lower.{Phase, Ties, Solved, Rules, at, IsInner, IsGame, IsRecord, IsTrueValue, IsLastLevel, AreReached, undecided_draw, IsNear}
+use Rattle.gm_shard.proofs.Lower.{Phase, Ties, Solved, Rules, at, IsInner, IsGame, IsRecord, IsTrueValue, IsLastLevel, AreReached, undecided_draw}
+use Rattle.gm_table.specs.Packed.{IsNear}
 use Rattle.gm_shard.proofs.Lower.{Status, Hole, Undecided, Settled, ShardState, IsInRange, delivered_to, In, StatusIs, IsGood, record_of, ArePart}
-use Rattle.gm_shard.proofs.Lower.{settled_canonical, reached_by}
+use Rattle.gm_shard.proofs.NoteLemmas.{settled_canonical}
+use Rattle.gm_shard.proofs.StatusLemmas.{reached_by}
 
 -- the children delivered to an inner position of a good shard
 reached_good : (r : Rules) (s : ShardState) → IsGood r s → (i : ℕ) → IsInRange s i → IsInner r (at s.tier i)

@@ -5,7 +5,9 @@ use Rattle.gm_shard.proofs.Lower.{Contains, slice_get, slice_range, AllByRecursi
 use Rattle.gm_shard.proofs.Lower.{Contains-permutation, IsPermutation-sym, Contains-get_or, cases_lt, nat_tests, get_or_default_zero, slice_get-get_or}
 use Rattle.gm_shard.proofs.Lower.{Position, Phase, Solved, Rules, at, IsCanonical, is_before, Draw, IsTrueValue, StandsAt, same_position, contains_none}
 use Rattle.gm_shard.proofs.Lower.{contains_first, contains_later, contains_cases, map_in, map_from, NoteData, IsNote, IsNoteAt, phase_of, IsInRun, IsRun}
-use Rattle.gm_shard.proofs.Lower.{AreInOrder, positions, now_stands, one_place, place_of, value_stands, settled_canonical, settled_decided, Settled, ShardState}
+use Rattle.gm_shard.proofs.Lower.{AreInOrder, positions, now_stands, one_place, place_of, Settled, ShardState}
+use Rattle.gm_shard.proofs.AddedLemmas.{value_stands}
+use Rattle.gm_shard.proofs.NoteLemmas.{settled_canonical, settled_decided}
 use Rattle.gm_shard.proofs.Lower.{IsInRange, delivered_to, StatusIs, IsGood, QueueData, IsSettledAt, AreSettledAt, IsQueue, IsNoteAtIndex, AreNotesAt}
 use Rattle.gm_shard.proofs.QueueLemmas.{settled_once}
 use Rattle.gm_shard.proofs.DistinctLemmas.{distinct_permuted, distinct_ascending}

@@ -5,7 +5,9 @@ use Rattle.gm_shard.proofs.Lower.{Contains, slice_get, cases_lt, cases_eq, get_o
 use Rattle.gm_shard.proofs.Lower.{Contains-append_right, Contains-append_cases, slice_get-get_or, get_or_from_slice_get, slice_get_within, Position, Phase}
 use Rattle.gm_shard.proofs.Lower.{Solved, Rules, at, with_position, IsTrueValue_once, contains_none, contains_first, contains_cases, phase_of, Status, Hole}
 use Rattle.gm_shard.proofs.Lower.{Undecided, Settled, ShardState, IsInRange, delivered_to, with_pair, HasStatus, StatusIs, IsGood, IsSettledNow, KeepsStatus}
-use Rattle.gm_shard.proofs.Lower.{QueueData, IsSettledIn, IsPlaced, AreDistinct, IsQueue, count_same, still_mine, none_of}
+use Rattle.gm_shard.proofs.Lower.{QueueData, IsSettledIn, IsPlaced, AreDistinct, IsQueue}
+use Rattle.gm_shard.proofs.AddedLemmas.{count_same, still_mine}
+use Rattle.gm_shard.proofs.NoteLemmas.{none_of}
 use Rattle.gm_shard.proofs.DistinctLemmas.{distinct_push, fewer_than}
 
 -- a settled status is one record

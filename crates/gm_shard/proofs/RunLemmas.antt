@@ -4,7 +4,8 @@ use Rattle.std.proofs.Common.{slice_set, get_or, drop, length, refl, sym, ap, su
 use Rattle.gm_shard.proofs.Lower.{Contains, drop-cons, slice_get-get_or, slice_get_within, get_or_from_slice_get, same_Some, set-get_or, drop_all, cases_lt}
 use Rattle.gm_shard.proofs.Lower.{Rules, NoteData, IsNote, Event, Settled, Delivery, Fresh, FreshSettled, Repeat, Refused, NotThisLevel, NotMine, NotAParent}
 use Rattle.gm_shard.proofs.Lower.{TooFar, ShardState, IsInRange, delivered_to, with_pair, StatusIs, IsGood, IsPairHere, IsAdded, Delivers, CanDeliver, shard_of}
-use Rattle.gm_shard.proofs.Lower.{Takes, Changes, Runs, note_stands, still_mine, outcome}
+use Rattle.gm_shard.proofs.Lower.{Takes, Changes, Runs}
+use Rattle.gm_shard.proofs.AddedLemmas.{note_stands, still_mine, outcome}
 use Rattle.gm_shard.proofs.FreshLemmas.{place_is}
 
 -- a note that passes the first three tests, whose pair is new and leaves a good shard

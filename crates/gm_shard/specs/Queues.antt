@@ -1,7 +1,10 @@
 -- Settled indexes of a shard in the order in which they were settled.
 use Rattle.std.specs.Prelude.{◌≡◌, ℕ, ◌+◌, ◌<◌, ◌≤◌, ◌↔◌, List, [], ◌∷◌, length, Some, slice_get, slice_index}
-use Rattle.gm_shard.specs.Lower.{Contains, Phase, WinLose, Ties, Solved, Rules, at, NoteData, phase_of, Status, Hole, Undecided, Settled, ShardState, IsInRange}
-use Rattle.gm_shard.specs.Lower.{delivered_to, StatusIs}
+use Rattle.gm_shard.specs.Lower.{Contains, Phase, WinLose, Ties, Solved, Rules, at, NoteData, phase_of}
+use Rattle.gm_shard.specs.declared.status.Status.{Status}
+use Rattle.gm_shard.specs.declared.status.Status.TheVariants.{Hole, Undecided, Settled}
+use Rattle.gm_shard.specs.State.{ShardState, IsInRange, delivered_to}
+use Rattle.gm_shard.specs.Status.{StatusIs}
 
 -- what a queue shows: its indexes, the part of the present level, and how many indexes it has room for
 pub record QueueData : Type 0 where

@@ -4,10 +4,10 @@ ghost use Rattle.std.specs.Prelude.{◌≡◌, ℕ, IfOk};
 ghost use Rattle.std.specs.List.{Contains};
 ghost use Rattle.gm_shard.specs.Queues.{IsEmptied, IsQueue, IsSettledAt, AreNotesAt};
 
+use crate::deliveries::Ordered;
 use crate::queue::Queue;
 use crate::shard::{has_phase, has_settled, record_of};
-use gm_deliveries::ordered::Ordered;
-use gm_deliveries::status::{Delivery, Refused, Start, Status};
+use crate::status::{Delivery, Refused, Start, Status};
 use gm_frontier::last::Last;
 use gm_frontier::note::Note;
 use gm_frontier::run::Run;
@@ -73,7 +73,7 @@ impl<G: Game> Drop for OrderedShard<G> {
 }
 
 impl<G: Game> Model for OrderedShard<G> {
-    ghost use Rattle.gm_deliveries.specs.State.{ShardState};
+    ghost use Rattle.gm_shard.specs.State.{ShardState};
     ghost use Rattle.gm_shard.specs.Queues.{AreQueues};
 
     ghost Value = { ShardState };
@@ -85,8 +85,14 @@ impl<G: Game> Model for OrderedShard<G> {
 
 impl<G: Game> OrderedShard<G> {
     ghost use Rattle.std.specs.Prelude.{◌≡◌, ◌+◌, ◌*◌, ◌≤◌, ◌++◌, List, Option, length, IfOk, OnOk, OnErr};
-    ghost use Rattle.gm_shard.specs.Lower.{MOVES, Solved, Ties, Contains, AreStarts, first_state, IsInRange, delivered_to, pairs_in, StatusIs, IsGood};
-    ghost use Rattle.gm_shard.specs.Lower.{IsCounter, IsPairHere, Delivers, IsWhole, CanTurn, place_of, next_level, first_ties, IsNoteOf, ArePart};
+    ghost use Rattle.gm_shard.specs.Lower.{MOVES, Solved, Ties, Contains};
+    ghost use Rattle.gm_shard.specs.Begin.{AreStarts, first_state};
+    ghost use Rattle.gm_shard.specs.State.{IsInRange, delivered_to, pairs_in};
+    ghost use Rattle.gm_shard.specs.Status.{StatusIs};
+    ghost use Rattle.gm_shard.specs.Good.{IsGood, IsCounter};
+    ghost use Rattle.gm_shard.specs.Delivery.{IsPairHere, Delivers};
+    ghost use Rattle.gm_shard.specs.Steps.{IsWhole, CanTurn, place_of, next_level, first_ties};
+    ghost use Rattle.gm_shard.specs.Closing.{IsNoteOf, ArePart};
     ghost use Rattle.gm_shard.specs.Queues.{AreSettledAt};
 
     /// Makes the shard of the indexes from `lo` on with these start values; nothing is delivered yet.

@@ -13,13 +13,13 @@ use Rattle.gm_game.proofs.Delivered.{reached_more}
 use Rattle.gm_game.proofs.Reached.{reached_true}
 use Rattle.gm_game.proofs.Frontier.{none_from_last}
 use Rattle.gm_frontier.specs.Notes.{IsNote, phase_of}
-use Rattle.gm_deliveries.specs.declared.status.Status.TheVariants.{Settled}
-use Rattle.gm_deliveries.specs.State.{IsInRange, with_pair}
-use Rattle.gm_deliveries.specs.Status.{In, StatusIs}
-use Rattle.gm_deliveries.specs.declared.status.Refused.{Refused}
-use Rattle.gm_deliveries.specs.declared.status.Refused.TheVariants.{NotThisLevel, NotMine, NotAParent}
-use Rattle.gm_deliveries.specs.Delivery.{IsPairHere, IsSettledNow}
-use Rattle.gm_deliveries.proofs.StatusLemmas.{settled_same}
+use Rattle.gm_shard.specs.declared.status.Status.TheVariants.{Settled}
+use Rattle.gm_shard.specs.State.{IsInRange, with_pair}
+use Rattle.gm_shard.specs.Status.{In, StatusIs}
+use Rattle.gm_shard.specs.declared.status.Refused.{Refused}
+use Rattle.gm_shard.specs.declared.status.Refused.TheVariants.{NotThisLevel, NotMine, NotAParent}
+use Rattle.gm_shard.specs.Delivery.{IsPairHere, IsSettledNow}
+use Rattle.gm_shard.proofs.StatusLemmas.{settled_same}
 use Rattle.gm_locks.proofs.Places.{value_stands, stands_remoteness}
 
 -- the children delivered to an inner position of a good shard, at its place

@@ -3,7 +3,7 @@ use Rattle.std.proofs.Common.{◌≡◌, ℕ, ◌+◌, ◌≤◌, List, length, 
 use Rattle.gm_solver.proofs.Lower.{Contains, slice_get-get_or, Rules, IsGame, NoteData, IsLevel, ShardState, delivered_to, IsGood, Delivers, place_of, IsWhole}
 use Rattle.gm_solver.proofs.Lower.{Spot, spot_of, IsDeliverable, pairs_into, place_of_spot, AreFirst, HasNoneHere}
 use Rattle.gm_frontier.proofs.PairLemmas.{pairs_have}
-use Rattle.gm_deliveries.specs.declared.status.Delivery.{Delivery}
+use Rattle.gm_shard.specs.declared.status.Delivery.{Delivery}
 use Rattle.gm_locks.specs.Spots.{IsSameSpot}
 use Rattle.gm_locks.specs.Rounds.{IsRound}
 use Rattle.gm_locks.proofs.RoundLemmas.{of_level, next_here, first_none, first_more}

@@ -1,12 +1,12 @@
 -- Words that proofs here use.
-pub use Rattle.gm_deliveries.specs.Begin.{AreStarts, IsStart, first_state}
-pub use Rattle.gm_deliveries.specs.Closing.{ArePart}
-pub use Rattle.gm_deliveries.specs.Delivery.{Delivers}
-pub use Rattle.gm_deliveries.specs.Good.{IsGood}
-pub use Rattle.gm_deliveries.specs.State.{ShardState, delivered_to, pairs_in}
-pub use Rattle.gm_deliveries.specs.Steps.{IsWhole, place_of}
-pub use Rattle.gm_deliveries.specs.declared.status.Refused.TheVariants.{TooFar}
-pub use Rattle.gm_deliveries.specs.declared.status.Start.{Start}
+pub use Rattle.gm_shard.specs.Begin.{AreStarts, IsStart, first_state}
+pub use Rattle.gm_shard.specs.Closing.{ArePart}
+pub use Rattle.gm_shard.specs.Delivery.{Delivers}
+pub use Rattle.gm_shard.specs.Good.{IsGood}
+pub use Rattle.gm_shard.specs.State.{ShardState, delivered_to, pairs_in}
+pub use Rattle.gm_shard.specs.Steps.{IsWhole, place_of}
+pub use Rattle.gm_shard.specs.declared.status.Refused.TheVariants.{TooFar}
+pub use Rattle.gm_shard.specs.declared.status.Start.{Start}
 pub use Rattle.gm_frontier.proofs.Distinct.{no_repeats_append, no_repeats_to}
 pub use Rattle.gm_frontier.specs.Counts.{IsNumberBefore, IsPairInto}
 pub use Rattle.gm_frontier.specs.Levels.{IsLevel}
@@ -32,7 +32,7 @@ pub use Rattle.gm_locks.proofs.RoundLemmas.{level_into, pairs_are_into}
 pub use Rattle.gm_locks.specs.Pieces.{piece_pairs}
 pub use Rattle.gm_locks.specs.Rounds.{AreFirst, HasNoneHere, IsLevelAt, pairs_into, place_of_spot}
 pub use Rattle.gm_locks.specs.Spots.{IsDeliverable, Spot, choose, spot_of}
-pub use Rattle.gm_record.specs.declared.summary.Summary.{Summary}
+pub use Rattle.gm_table.specs.declared.summary.Summary.{Summary}
 pub use Rattle.gm_solver.specs.Covered.{IsCovered}
 pub use Rattle.gm_solver.specs.Gathered.{AreOnce}
 pub use Rattle.gm_solver.specs.Passes.{IsDeliveryIn, IsFound}

@@ -6,7 +6,7 @@ use Rattle.gm_solver.proofs.Lower.{tile_at, ShardState, first_state, IsGood, Spo
 use Rattle.gm_frontier.proofs.PairLemmas.{positions_once, canonical_notes}
 use Rattle.gm_frontier.proofs.CountLemmas.{notes_few}
 use Rattle.gm_frontier.proofs.ForGame.{not_before_and_at, ties_after}
-use Rattle.gm_deliveries.specs.Steps.{next_level, first_ties}
+use Rattle.gm_shard.specs.Steps.{next_level, first_ties}
 
 -- the pairs of a level into a spot's range
 module _ (r : Rules) (g : IsGame r) (spot : Spot) (notes : List NoteData) (level : IsLevel r (place_of_spot spot) notes) where

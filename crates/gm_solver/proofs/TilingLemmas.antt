@@ -6,7 +6,7 @@ use Rattle.gm_solver.proofs.Lower.{IsPairInto, IsNumberBefore, ShardState, pairs
 use Rattle.gm_solver.proofs.Lower.{IsCovered, tile_at, AreShardsAt}
 use Rattle.std.proofs.lemmas.List.{length-append}
 use Rattle.gm_frontier.specs.Levels.{place_at}
-use Rattle.gm_deliveries.proofs.CloseLemmas.{number_before}
+use Rattle.gm_shard.proofs.CloseLemmas.{number_before}
 use Rattle.gm_locks.specs.declared.board.Four.{Four}
 use Rattle.gm_solver.specs.Tiling.{IsWide, AreGood, HaveNoneHere}
 use Rattle.gm_solver.proofs.Deliveries.{there_sum}

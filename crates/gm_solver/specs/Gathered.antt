@@ -3,7 +3,7 @@ use Rattle.std.specs.Prelude.{◌≡◌, ◌≢◌, ℕ, ◌≤◌, Bool, true, 
 use Rattle.gm_solver.specs.Lower.{Contains, REMOTENESS, Position, Rules, AreResults}
 use Rattle.std.specs.List.{filter}
 use Rattle.gm_game.specs.Records.{lost_in, tied_in, least_of, all_won, IsKnown}
-use Rattle.gm_record.specs.declared.summary.Summary.{Summary}
+use Rattle.gm_table.specs.declared.summary.Summary.{Summary}
 use Rattle.gm_table.specs.Tables.{TableData, value_in}
 use Rattle.gm_table.specs.Words.{is_decided}
 

@@ -1,9 +1,9 @@
 -- Words of std and of the crates below that contracts and definitions here use.
-pub use Rattle.gm_deliveries.specs.Begin.{AreStarts}
-pub use Rattle.gm_deliveries.specs.Closing.{ArePart}
-pub use Rattle.gm_deliveries.specs.Good.{IsGood}
-pub use Rattle.gm_deliveries.specs.State.{ShardState}
-pub use Rattle.gm_deliveries.specs.Steps.{IsWhole, place_of}
+pub use Rattle.gm_shard.specs.Begin.{AreStarts}
+pub use Rattle.gm_shard.specs.Closing.{ArePart}
+pub use Rattle.gm_shard.specs.Good.{IsGood}
+pub use Rattle.gm_shard.specs.State.{ShardState}
+pub use Rattle.gm_shard.specs.Steps.{IsWhole, place_of}
 pub use Rattle.gm_frontier.specs.Levels.{place_at}
 pub use Rattle.gm_frontier.specs.Notes.{NoteData}
 pub use Rattle.gm_game.specs.Children.{AreResults}

@@ -3,8 +3,8 @@ ghost use Rattle.std.specs.Prelude.{◌≡◌, ◌*◌, ◌≤◌, IfOk, IfErr, 
 ghost use Rattle.gm_solver.specs.Lower.{AreHeld, block_in, AreDeliveries, IsTooFar, TIER_SIZE};
 ghost use Rattle.gm_solver.specs.Passes.{IsStop, AreTrue, IsFound, AreFound};
 
-use crate::few::FEW;
 use crate::observer::Observer;
+use crate::plan::FEW;
 use crate::range::settle_range;
 use crate::stop::Stop;
 use gm_game::game::Game;

@@ -7,7 +7,6 @@ pub mod alone;
 mod context;
 mod crew;
 pub mod error;
-mod few;
 mod frame;
 pub mod gate;
 mod gather;

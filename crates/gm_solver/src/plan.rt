@@ -11,6 +11,12 @@ pub const SHARDS: usize = 4;
 /// The most notes of a piece.
 pub const PIECE: usize = 4096;
 
+/// A tier of at most this many indexes is solved level by level by one worker, in the calling thread: starting threads would cost more than it saves.
+pub(crate) const FEW_FOR_LEVELS: u64 = 512;
+
+/// A tier of at most this many indexes is scanned, and its shards are made, by the calling thread.
+pub(crate) const FEW: u64 = 16_384;
+
 /// The number of workers that solve a tier, of shards into which it is split, and of notes in a piece of a level; and whether one pass is tried first.
 #[derive(Clone, Copy, Debug, PartialEq, Eq)]
 pub struct Plan {

@@ -15,8 +15,8 @@ use gm_game::evaluate::of_end;
 use gm_game::game::Game;
 use gm_game::limits::{MOVES, REMOTENESS};
 use gm_game::position::{End, Position, Solved, Value};
-use gm_record::summary::Summary;
 use gm_table::hand::SLOTS;
+use gm_table::summary::Summary;
 use gm_table::table::Table;
 use gm_table::tables::Tables;
 

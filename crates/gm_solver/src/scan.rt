@@ -4,8 +4,8 @@ ghost use Rattle.gm_solver.specs.Lower.{AreStarts, block_in, TIER_SIZE};
 ghost use Rattle.gm_solver.specs.Blocks.{IsPart, ArePartsOf};
 
 use crate::starts::starts;
-use gm_deliveries::status::Start;
 use gm_game::game::Game;
+use gm_shard::status::Start;
 use gm_table::dealing::Dealing;
 use rayon::prelude::*;
 use std::alloc::{AllocError, Global};

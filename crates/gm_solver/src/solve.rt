@@ -5,10 +5,9 @@ ghost use Rattle.gm_solver.specs.Solving.{IsError};
 
 use crate::context::{Schedule, SolveContext};
 use crate::error::SolveError;
-use crate::few::FEW_FOR_LEVELS;
 use crate::gate::Gate;
 use crate::observer::Observer;
-use crate::plan::Plan;
+use crate::plan::{FEW_FOR_LEVELS, Plan};
 use crate::settle::settle_tier;
 use crate::source::Source;
 use crate::stop::Stop;

@@ -1,14 +1,14 @@
 //! A tier before its first level.
 ghost use Rattle.std.specs.Prelude.{◌≡◌, ◌-◌, ◌≤◌, length, IfOk};
 ghost use Rattle.gm_solver.specs.Lower.{AreStarts};
-ghost use Rattle.gm_deliveries.specs.Begin.{first_state};
+ghost use Rattle.gm_shard.specs.Begin.{first_state};
 
-use gm_deliveries::begin::start;
-use gm_deliveries::status::Start;
 use gm_game::game::Game;
 use gm_game::limits::TIER_SIZE;
 use gm_game::position::Position;
+use gm_shard::begin::start;
 use gm_shard::shard::Shard;
+use gm_shard::status::Start;
 use std::alloc::{AllocError, Global};
 
 /// Returns the start value of each index of a tier from `lo` up to `hi`, in order.

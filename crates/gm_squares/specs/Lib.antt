@@ -1,2 +1,5 @@
 pub mod Squares
 pub mod laws
+pub mod Chess
+pub mod Runs
+pub mod FoxHounds

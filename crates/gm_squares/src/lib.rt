@@ -1,5 +1,13 @@
-//! The squares of a chess board: the next square on a way, and texts. What the games on that board have in common.
+//! Games on the squares of a chess board: endings of chess (king and rook, or king and queen, against king), and Fox and Hounds. They share the next square on
+//! a way and the texts of squares. Their rules are in docs/GAMES.md, and `specs/` states them.
 #![tactic(auto)]
 
+pub mod attacks;
+pub mod chase;
+pub mod chess;
+pub mod dark_squares;
+pub mod foxhounds;
+pub mod men;
+pub mod men_text;
 pub mod squares;
 pub mod text;

@@ -12,3 +12,4 @@ pub mod WordLemmas
 pub mod VerdictLemmas
 mod HandLemmas
 pub mod Lower
+pub mod CodeLemmas

@@ -10,3 +10,4 @@ pub mod Solving
 pub mod Tables
 pub mod Words
 pub mod Lower
+pub mod RecordCodes

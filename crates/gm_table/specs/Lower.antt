@@ -13,7 +13,5 @@ pub use Rattle.gm_game.specs.declared.position.Position.{Position}
 pub use Rattle.gm_game.specs.declared.position.Solved.{Solved}
 pub use Rattle.gm_game.specs.declared.position.Value.{Value}
 pub use Rattle.gm_game.specs.declared.position.Value.TheVariants.{Draw, Lose, Tie, Win}
-pub use Rattle.gm_record.specs.Numbers.{record_number}
-pub use Rattle.gm_record.specs.declared.version.Version.TheVariants.{Two}
 pub use Rattle.std.specs.List.{Contains, filter}
 pub use Rattle.std.specs.declared.alloc.Global.{Global}

@@ -8,6 +8,7 @@ ghost use Rattle.gm_table.specs.Checks.{look_up, value_from, RecordFits};
 
 use crate::hand::{SLOTS, table_for};
 use crate::records::Records;
+use crate::summary::Summary;
 use crate::table::Table;
 use crate::tables::Tables;
 use crate::words::sum_of;
@@ -16,7 +17,6 @@ use gm_game::evaluate::of_end;
 use gm_game::game::Game;
 use gm_game::limits::{MOVES, REMOTENESS};
 use gm_game::position::{End, Position, Solved};
-use gm_record::summary::Summary;
 
 /// Lists that serve many positions: of one its results, and the words of their records.
 #[derive(Drop)]

@@ -1,7 +1,7 @@
-//! The true tables of tiers, and the checker that makes them from records of any origin.
+//! Records of positions, the true tables of tiers, and the checker that makes tables from records of any origin.
 //!
-//! A table is true by its type: a value of the type is the true table of its tier. `specs/` has the definitions that contracts cite, and `proofs/` what follows
-//! from them.
+//! A table is true by its type: a value of the type is the true table of its tier. A record follows from the records of its canonical children, and a tier file
+//! stores it as a number (docs/FORMATS.md, "Tier file"). `specs/` has the definitions that contracts cite, and `proofs/` what follows from them.
 #![tactic(auto)]
 
 mod blocks;
@@ -11,11 +11,15 @@ mod entry;
 mod fits;
 pub mod hand;
 mod levels;
+pub mod number;
 mod numbers;
 mod outline;
 pub mod packed;
 mod records;
 mod runs;
+pub mod summary;
 pub mod table;
 pub mod tables;
+pub mod tile;
+pub mod version;
 pub mod words;

@@ -1,15 +1,17 @@
 //! Records of one byte or four each.
 ghost use Rattle.std.specs.Prelude.{◌≡◌, ◌≢◌, ◌*◌, ◌≤◌, ◌<◌, ◌++◌, [], ◌∷◌, None, map, replicate, take, IfSome, IfOk, length, OnOk, OnErr};
-ghost use Rattle.gm_table.specs.Lower.{REMOTENESS, Two, record_number};
+ghost use Rattle.gm_table.specs.Lower.{REMOTENESS};
+ghost use Rattle.gm_table.specs.declared.version.Version.TheVariants.{Two};
+ghost use Rattle.gm_table.specs.RecordCodes.{record_number};
 ghost use Rattle.gm_table.specs.Numbers.{wide};
 ghost use Rattle.gm_table.specs.Packed.{unpacked, IsNear, AreNear};
 ghost use Rattle.gm_table.specs.Tables.{record_at};
 ghost use Rattle.gm_table.specs.Words.{record_of_word};
 
+use crate::number::code_of;
 use crate::numbers::Numbers;
 use crate::words::word_with;
 use gm_game::position::{Solved, Value};
-use gm_record::number::code_of;
 use std::alloc::{AllocError, Global};
 use std::marker::Model;
 

@@ -4,10 +4,10 @@ ghost use Rattle.gm_table.specs.Lower.{filter, lost_in, won_in, tied_in, lesser,
 ghost use Rattle.gm_table.specs.Packed.{unpacked};
 ghost use Rattle.gm_table.specs.Words.{record_of_word, is_decided, marked};
 
+use crate::number::code_of;
 use crate::packed::STEP;
+use crate::summary::Summary;
 use gm_game::position::Solved;
-use gm_record::number::code_of;
-use gm_record::summary::Summary;
 
 /// One more than the greatest remoteness of a word: its number is the code of the value times this, plus the remoteness. As a mark it stands for none.
 const NONE: u64 = 4_294_967_296;

@@ -1,9 +1,8 @@
 -- The cells of a line as a mask of five bits.
 use Rattle.std.specs.Prelude.{◌≡◌, ◌+◌, ◌-◌, ◌*◌, ◌/◌, ◌%◌, ◌^◌, ◌<◌, ◌≤◌, ◌&&◌, ◌∷◌}
-use Rattle.gm_pieces.specs.Common.{ℕ, zero, suc, Bool, true, false, eqb, eqb-true, List, [], get_or}
-use Rattle.gm_pieces.specs.Common.{refl, sym, ap, ap₂, ◌∙◌, arith, bit_and, list_all, range_with_len, div-div-eq-div-mul, cond_below, cond-false, le-ltb}
-use Rattle.gm_pieces.specs.Common.{pow-add, and_le_r, bit_at_ones, has_cell, tests_of, mask_of, mask_below, mask_tests_small, tests_mask, contains_range}
-use Rattle.gm_pieces.specs.Common.{and_true, has_and, all_at}
+use Rattle.gm_pieces.specs.Common.{ℕ, zero, suc, Bool, true, false, eqb, eqb-true, List, [], get_or, refl, sym, ap, ap₂, ◌∙◌, arith, bit_and, list_all}
+use Rattle.gm_pieces.specs.Common.{range_with_len, div-div-eq-div-mul, cond_below, cond-false, le-ltb, pow-add, and_le_r, bit_at_ones, has_cell, tests_of}
+use Rattle.gm_pieces.specs.Common.{mask_of, mask_below, mask_tests_small, tests_mask, contains_range, and_true, has_and, all_at}
 use Rattle.gm_tactix.specs.Lines.{line_cell}
 
 -- a cell of a mask moved down

@@ -1,7 +1,6 @@
 -- Steps on the masks of segments.
 use Rattle.std.specs.Prelude.{◌≡◌, ◌+◌, ◌*◌, ◌^◌, ◌<◌, ◌≤◌, ◌∷◌}
-use Rattle.gm_pieces.specs.Common.{ℕ, zero, suc, true, List, [], subst, arith, pow_pos}
-use Rattle.gm_pieces.specs.Common.{Contains, pow-lt, or_lt, contains_head, contains_later, pattern_mask}
+use Rattle.gm_pieces.specs.Common.{ℕ, zero, suc, true, List, [], subst, arith, pow_pos, Contains, pow-lt, or_lt, contains_head, contains_later, pattern_mask}
 use Rattle.gm_tactix.specs.Segments.{first_cell, segment_length, stride, cells_from, segment_cells, is_segment}
 use Rattle.gm_tactix.specs.laws.SegmentFacts.{cells_within}
 

@@ -1,8 +1,7 @@
 -- The table of the segments' masks against the segments.
 use Rattle.std.specs.Prelude.{◌≡◌, ◌≢◌, ◌+◌, ◌-◌, ◌*◌, ◌^◌, ◌<◌, ◌≤◌, ◌&&◌}
-use Rattle.gm_pieces.specs.Common.{ℕ, Bool, true, false, not, cond, eqb, eqb-true, eq-eqb, ltb, ltb-true, get_or}
-use Rattle.gm_pieces.specs.Common.{refl, sym, ap, ◌∙◌, arith, inl, inr, list_all, range_with_len, cases_Bool, cond-true, cond-false, true≢false, and_left}
-use Rattle.gm_pieces.specs.Common.{and_right, pattern_mask, at_below}
+use Rattle.gm_pieces.specs.Common.{ℕ, Bool, true, false, not, cond, eqb, eqb-true, eq-eqb, ltb, ltb-true, get_or, refl, sym, ap, ◌∙◌, arith, inl, inr, list_all}
+use Rattle.gm_pieces.specs.Common.{range_with_len, cases_Bool, cond-true, cond-false, true≢false, and_left, and_right, pattern_mask, at_below}
 use Rattle.gm_tactix.specs.declared.masks.TheConstants.{MASKS, STARTS}
 use Rattle.gm_tactix.specs.Segments.{segment_cells, is_segment}
 use Rattle.gm_tactix.specs.SegmentMasks.{segment_mask}

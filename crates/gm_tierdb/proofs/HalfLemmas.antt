@@ -6,9 +6,9 @@ use Rattle.std.proofs.lemmas.Grind.{flat_map-append}
 use Rattle.std.proofs.lemmas.List.{take-append-le}
 use Rattle.std.proofs.lemmas.List.Elements.{All-append}
 use Rattle.gm_game.specs.declared.position.Solved.{Solved}
-use Rattle.gm_record.specs.declared.version.Version.{Version}
-use Rattle.gm_record.specs.declared.version.Version.TheVariants.{One, Two}
-use Rattle.gm_record.specs.Numbers.{width, record_bytes, IsStorable}
+use Rattle.gm_table.specs.declared.version.Version.{Version}
+use Rattle.gm_table.specs.declared.version.Version.TheVariants.{One, Two}
+use Rattle.gm_table.specs.RecordCodes.{width, record_bytes, IsStorable}
 use Rattle.gm_tierdb.specs.TierText.{AreRecords}
 use Rattle.gm_tierdb.specs.Refusals.{HasRecords, IsFirstBad, AreRead}
 use Rattle.gm_tierdb.proofs.RecordLemmas.{length_records}

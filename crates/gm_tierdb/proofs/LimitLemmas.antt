@@ -7,9 +7,9 @@ use Rattle.gm_game.specs.declared.position.Phase.{Phase}
 use Rattle.gm_game.specs.declared.position.Phase.TheVariants.{WinLose, Ties}
 use Rattle.gm_game.specs.Records.{solved}
 use Rattle.gm_table.specs.Levels.{HasLevel, IsGreatest}
-use Rattle.gm_record.specs.declared.version.TheConstants.{REMOTENESS_1}
-use Rattle.gm_record.specs.declared.version.Version.TheVariants.{One, Two}
-use Rattle.gm_record.specs.Numbers.{IsStorableSolved, IsStorable}
+use Rattle.gm_table.specs.declared.version.TheConstants.{REMOTENESS_1}
+use Rattle.gm_table.specs.declared.version.Version.TheVariants.{One, Two}
+use Rattle.gm_table.specs.RecordCodes.{IsStorableSolved, IsStorable}
 use Rattle.gm_tierdb.specs.TierText.{AreUpTo}
 
 -- a record of a table without a level above that of version 1 can be in a file of it

@@ -9,11 +9,11 @@ use Rattle.std.proofs.lemmas.Option.{slice_get-get_or}
 use Rattle.gm_game.specs.declared.position.Solved.{Solved}
 use Rattle.gm_game.specs.Rules.{Rules, at}
 use Rattle.gm_table.specs.Tables.{TableData, IsTable, record_at}
-use Rattle.gm_record.specs.declared.version.Version.{Version}
-use Rattle.gm_record.specs.declared.version.Version.TheVariants.{One, Two}
-use Rattle.gm_record.specs.Numbers.{word, width, IsStorable, record_number, record_bytes}
+use Rattle.gm_table.specs.declared.version.Version.{Version}
+use Rattle.gm_table.specs.declared.version.Version.TheVariants.{One, Two}
+use Rattle.gm_table.specs.RecordCodes.{word, width, IsStorable, record_number, record_bytes}
 use Rattle.gm_tierdb.specs.TierText.{AreRecords, IsFor}
-use Rattle.gm_record.proofs.NumberLemmas.{same_bytes, storable_record}
+use Rattle.gm_table.proofs.CodeLemmas.{same_bytes, storable_record}
 use Rattle.gm_tierdb.proofs.LimitLemmas.{old_record}
 
 -- each record has as many bytes

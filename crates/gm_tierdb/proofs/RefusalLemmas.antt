@@ -12,8 +12,8 @@ use Rattle.gm_game.specs.Rules.{Rules}
 use Rattle.gm_tierdb.specs.declared.file_error.FileError.{FileError}
 use Rattle.gm_tierdb.specs.declared.file_error.FileError.TheVariants.{OutOfMemory, Truncated, BadMagic, WrongGame, WrongTier, WrongSize, BadRecord, Trailing}
 use Rattle.gm_tierdb.specs.declared.file_error.FileError.TheVariants.{BadDigest, OldVersion}
-use Rattle.gm_record.specs.declared.version.Version.{Version}
-use Rattle.gm_record.specs.declared.version.Version.TheVariants.{One, Two}
+use Rattle.gm_table.specs.declared.version.Version.{Version}
+use Rattle.gm_table.specs.declared.version.Version.TheVariants.{One, Two}
 use Rattle.gm_tierdb.specs.TierText.{magic, IsVersionText}
 use Rattle.gm_tierdb.specs.Refusals.{HasHeader, RefusesIn, IsOld, file_len}
 use Rattle.gm_tierdb.proofs.RecordLemmas.{none_bad}

@@ -10,9 +10,9 @@ use Rattle.sha2.proofs.Facts256.{length-sha256}
 use Rattle.gm_game.specs.declared.limits.TheConstants.{NAME}
 use Rattle.gm_game.specs.declared.position.Solved.{Solved}
 use Rattle.gm_game.specs.Rules.{Rules}
-use Rattle.gm_record.specs.declared.version.Version.{Version}
-use Rattle.gm_record.specs.declared.version.Version.TheVariants.{One, Two}
-use Rattle.gm_record.specs.Numbers.{width, record_bytes}
+use Rattle.gm_table.specs.declared.version.Version.{Version}
+use Rattle.gm_table.specs.declared.version.Version.TheVariants.{One, Two}
+use Rattle.gm_table.specs.RecordCodes.{width, record_bytes}
 use Rattle.gm_tierdb.specs.TierText.{magic, body, version_text, AreRecords, IsVersionText}
 use Rattle.gm_tierdb.specs.Refusals.{HasHeader, records_part, body_len, file_len}
 use Rattle.gm_tierdb.proofs.RecordLemmas.{length_records, same_records}

@@ -7,10 +7,10 @@ use Rattle.gm_game.specs.declared.position.Solved.{Solved}
 use Rattle.gm_game.specs.declared.position.Phase.{Phase}
 use Rattle.gm_game.specs.Rules.{Rules}
 use Rattle.gm_table.specs.Levels.{HasLevel}
-use Rattle.gm_record.specs.declared.version.TheConstants.{REMOTENESS_1}
-use Rattle.gm_record.specs.declared.version.Version.{Version}
-use Rattle.gm_record.specs.declared.version.Version.TheVariants.{One, Two}
-use Rattle.gm_record.specs.Numbers.{record_bytes, IsStorable}
+use Rattle.gm_table.specs.declared.version.TheConstants.{REMOTENESS_1}
+use Rattle.gm_table.specs.declared.version.Version.{Version}
+use Rattle.gm_table.specs.declared.version.Version.TheVariants.{One, Two}
+use Rattle.gm_table.specs.RecordCodes.{record_bytes, IsStorable}
 
 -- what a file of this version begins with
 abbrev pub magic : Version → List ℕ

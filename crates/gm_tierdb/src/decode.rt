@@ -2,7 +2,7 @@
 ghost use Rattle.std.specs.Prelude.{◌≡◌, ◌+◌, ◌*◌, ◌^◌, ◌<◌, ◌≤◌, ◌↔◌, IsTrue, IfOk, OnOk, IfErr, IsErrOf, IfSome, IfNone, length, Option, List, MatchResult};
 ghost use Rattle.std.specs.Int.{to_le_bytes, w64};
 ghost use Rattle.gm_game.specs.declared.position.Solved.{Solved};
-ghost use Rattle.gm_record.specs.Numbers.{word, width};
+ghost use Rattle.gm_table.specs.RecordCodes.{word, width};
 ghost use Rattle.gm_tierdb.specs.TierText.{IsTierText, IsTierText1, IsVersionText};
 ghost use Rattle.gm_tierdb.specs.Refusals.{IsFirstBad, AreRead, HasRecords, HasHeader, Refuses, Refuses1, RefusesIn, records_part};
 ghost use Rattle.gm_tierdb.specs.Parts.{AreParts};
@@ -14,8 +14,8 @@ use crate::magic::{is_older, magic};
 use crate::records::{HALVINGS, read_records, read_records_by};
 use gm_game::game::Game;
 use gm_game::position::Solved;
-use gm_record::version::Version;
 use gm_table::packed::Packed;
+use gm_table::version::Version;
 use sha2::{Digest, Sha256};
 use std::alloc::Global;
 use std::thread::Threads;

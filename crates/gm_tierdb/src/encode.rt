@@ -2,7 +2,7 @@
 ghost use Rattle.std.specs.Prelude.{◌≡◌, ◌↔◌, ◌≤◌, ◌++◌, IsTrue, IfOk, OnOk, MatchOption, All};
 ghost use Rattle.std.specs.List.{flat_map};
 ghost use Rattle.std.specs.Int.{to_le_bytes, w64};
-ghost use Rattle.gm_record.specs.Numbers.{record_bytes, IsStorable};
+ghost use Rattle.gm_table.specs.RecordCodes.{record_bytes, IsStorable};
 ghost use Rattle.gm_tierdb.specs.TierText.{IsTierText, IsTierText1, IsVersionText, AreUpTo, IsFor};
 
 use crate::layout::{DIGEST_LEN, HEADER_LEN, RECORD_LEN};
@@ -10,9 +10,9 @@ use crate::magic::magic;
 use byteorder::{ByteOrder, LittleEndian};
 use gm_game::game::Game;
 use gm_game::position::{Phase, Solved};
-use gm_record::number::number_of;
-use gm_record::version::{REMOTENESS_1, Version};
+use gm_table::number::number_of;
 use gm_table::table::Table;
+use gm_table::version::{REMOTENESS_1, Version};
 use sha2::{Digest, Sha256};
 use std::alloc::{AllocError, Global};
 

@@ -4,7 +4,7 @@ ghost use Rattle.gm_tierdb.specs.TierText.{magic};
 ghost use Rattle.gm_tierdb.specs.Refusals.{IsOld};
 
 use crate::layout::MAGIC_LEN;
-use gm_record::version::Version;
+use gm_table::version::Version;
 
 /// Returns the first bytes of a file of this version.
 pub(crate) fn magic(version: Version) -> &'static [u8]

@@ -2,13 +2,13 @@
 ghost use Rattle.std.specs.Prelude.{◌≡◌, ◌*◌, ◌^◌, ◌<◌, ◌++◌, Some, List, Option, IfOk, IfErr, IfSome, IfNone, length};
 ghost use Rattle.gm_game.specs.declared.position.Solved.{Solved as SolvedSpec};
 ghost use Rattle.std.specs.Int.{to_le_bytes};
-ghost use Rattle.gm_record.specs.Numbers.{word, width};
+ghost use Rattle.gm_table.specs.RecordCodes.{word, width};
 ghost use Rattle.std.specs.Thread.{IsSync};
 ghost use Rattle.gm_tierdb.specs.Refusals.{IsFirstBad, AreRead, HasRecords};
 
-use gm_record::number::record_of;
-use gm_record::version::Version;
+use gm_table::number::record_of;
 use gm_table::packed::Packed;
+use gm_table::version::Version;
 use std::alloc::Global;
 use std::thread::{Threads, join};
 

@@ -4,3 +4,4 @@ pub mod Chain
 pub mod Wheel
 pub mod Stairs
 pub mod laws
+pub mod Takeaway

@@ -2,3 +2,5 @@ pub mod Ways
 pub mod WayTables
 pub mod WayTexts
 pub mod laws
+pub mod ShisimaRules
+pub mod TapatanRules

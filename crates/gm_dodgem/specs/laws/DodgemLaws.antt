@@ -1,8 +1,8 @@
 -- The tables of Dodgem are right: each field but the first two is a computation.
 use Rattle.gm_pieces.specs.Common.{refl, arith, IsShown, texts_are_shown}
-use Rattle.gm_small.specs.Small.{small_game}
-use Rattle.gm_small.specs.SmallTables.{IsSmallGame, failing}
-use Rattle.gm_small.specs.laws.SmallLaws.{small_numbered, small_readable}
+use Rattle.gm_pieces.specs.Small.{small_game}
+use Rattle.gm_pieces.specs.SmallTables.{IsSmallGame, failing}
+use Rattle.gm_pieces.specs.laws.SmallLaws.{small_numbered, small_readable}
 use Rattle.gm_dodgem.specs.Dodgem.{dodgem, dodgem_rules, dodgem_text, dodgem_move, holds, crew_of, driven, is_crew, across, leads, is_clear, legal, can_move, moved, can_have_led_here, undo}
 use Rattle.gm_dodgem.specs.Dodgem.{end_by_last_move, cell_byte, board_text, step_text, picked, crew_in, number_in}
 

@@ -7,11 +7,11 @@ use Rattle.gm_game.proofs.BoardLaws.{legal_board}
 use Rattle.gm_pieces.specs.MoveGames.{board_game}
 use Rattle.gm_pieces.specs.MoveTexts.{position_text, move_text}
 use Rattle.gm_pieces.specs.laws.TextFacts.{texts_are_shown}
-use Rattle.gm_chess.specs.declared.men.Men.{Men}
-use Rattle.gm_chess.specs.Chess.{ending, chess_rules, board as men_at, board_text, step_text, piece_char, man_char, man, from_square, to_square, legal}
-use Rattle.gm_chess.specs.laws.MenFacts.{legal_in, IsLegal, same_men, from_below, to_below}
-use Rattle.gm_chess.specs.laws.Numbering.{numbered}
-use Rattle.gm_chess.specs.laws.Texts.{readable}
+use Rattle.gm_squares.specs.declared.men.Men.{Men}
+use Rattle.gm_squares.specs.Chess.{ending, chess_rules, board as men_at, board_text, step_text, piece_char, man_char, man, from_square, to_square, legal}
+use Rattle.gm_squares.specs.laws.MenFacts.{legal_in, IsLegal, same_men, from_below, to_below}
+use Rattle.gm_squares.specs.laws.MenNumbering.{numbered}
+use Rattle.gm_squares.specs.laws.MenTexts.{readable}
 use Rattle.gm_draw.specs.declared.pictured.Style.TheVariants.{Chess}
 use Rattle.gm_draw.specs.Chessboards.{chess_points, chess_board, man_on}
 use Rattle.gm_draw.specs.ChessDrawings.{chess_drawing}

@@ -42,10 +42,10 @@ use Rattle.gm_ways.specs.laws.WayBoards.{legal_in as legal_way}
 use Rattle.gm_ways.specs.laws.WayTextLaws.{way_shown}
 use Rattle.gm_pong.specs.PongRules.{pong, pong_rules}
 use Rattle.gm_pong.specs.laws.PongTables.{tables as pong_tables}
-use Rattle.gm_shisima.specs.ShisimaRules.{shisima, shisima_rules}
-use Rattle.gm_shisima.specs.laws.ShisimaTables.{tables as shisima_tables}
-use Rattle.gm_tapatan.specs.TapatanRules.{tapatan, tapatan_rules}
-use Rattle.gm_tapatan.specs.laws.TapatanTables.{tables as tapatan_tables}
+use Rattle.gm_ways.specs.ShisimaRules.{shisima, shisima_rules}
+use Rattle.gm_ways.specs.laws.ShisimaTables.{tables as shisima_tables}
+use Rattle.gm_ways.specs.TapatanRules.{tapatan, tapatan_rules}
+use Rattle.gm_ways.specs.laws.TapatanTables.{tables as tapatan_tables}
 use Rattle.gm_dodgem.specs.Dodgem.{dodgem_rules, dodgem_text, dodgem_move, board_text as dodgem_cells}
 use Rattle.gm_dodgem.specs.laws.DodgemLaws.{shown as dodgem_shown}
 use Rattle.gm_hare.specs.declared.hunt.Hunt.{Hunt}

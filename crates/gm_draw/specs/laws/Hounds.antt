@@ -15,14 +15,14 @@ use Rattle.gm_pieces.specs.MoveGames.{board_game, IsMove}
 use Rattle.gm_pieces.specs.MoveTexts.{position_text, move_text}
 use Rattle.gm_pieces.specs.laws.MoveLaws.{move_in}
 use Rattle.gm_pieces.specs.laws.TextFacts.{texts_are_shown}
-use Rattle.gm_foxhounds.specs.declared.chase.Chase.{Chase}
-use Rattle.gm_foxhounds.specs.FoxHounds.{fox_and_hounds, foxhounds_rules, board as chase_at, legal, dark, toggled, squares_of, hound_text, from_square, to_square, board_text, step_text, side_char}
-use Rattle.gm_foxhounds.specs.laws.ChaseFacts.{IsLegal, legal_in, same_chase}
-use Rattle.gm_foxhounds.specs.laws.ChaseLaws.{on_board as stays_on}
-use Rattle.gm_foxhounds.specs.laws.MaskFacts.{toggled_other}
-use Rattle.gm_foxhounds.specs.laws.Numbering.{numbered}
-use Rattle.gm_foxhounds.specs.laws.SquareFacts.{dark_below, step}
-use Rattle.gm_foxhounds.specs.laws.Texts.{AreLowest, lowest_of, readable}
+use Rattle.gm_squares.specs.declared.chase.Chase.{Chase}
+use Rattle.gm_squares.specs.FoxHounds.{fox_and_hounds, foxhounds_rules, board as chase_at, legal, dark, toggled, squares_of, hound_text, from_square, to_square, board_text, step_text, side_char}
+use Rattle.gm_squares.specs.laws.ChaseFacts.{IsLegal, legal_in, same_chase}
+use Rattle.gm_squares.specs.laws.ChaseLaws.{on_board as stays_on}
+use Rattle.gm_squares.specs.laws.MaskFacts.{toggled_other}
+use Rattle.gm_squares.specs.laws.ChaseNumbering.{numbered}
+use Rattle.gm_squares.specs.laws.DarkFacts.{dark_below, step}
+use Rattle.gm_squares.specs.laws.ChaseTexts.{AreLowest, lowest_of, readable}
 use Rattle.gm_draw.specs.declared.pictured.Style.TheVariants.{Hounds}
 use Rattle.gm_draw.specs.Chessboards.{chess_points, chess_board, man_on}
 use Rattle.gm_draw.specs.ChessDrawings.{chess_drawing}

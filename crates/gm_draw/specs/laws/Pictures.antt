@@ -47,19 +47,19 @@ use Rattle.gm_mutorere.specs.laws.RingFacts.{tables as ring_tables}
 use Rattle.gm_mutorere.specs.laws.RingTables.{ring_game}
 use Rattle.gm_pong.specs.PongRules.{pong, pong_rules}
 use Rattle.gm_pong.specs.laws.PongTables.{tables as pong_tables}
-use Rattle.gm_shisima.specs.ShisimaRules.{shisima, shisima_rules}
-use Rattle.gm_shisima.specs.laws.ShisimaTables.{tables as shisima_tables}
-use Rattle.gm_tapatan.specs.TapatanRules.{tapatan, tapatan_rules}
-use Rattle.gm_tapatan.specs.laws.TapatanTables.{tables as tapatan_tables}
+use Rattle.gm_ways.specs.ShisimaRules.{shisima, shisima_rules}
+use Rattle.gm_ways.specs.laws.ShisimaTables.{tables as shisima_tables}
+use Rattle.gm_ways.specs.TapatanRules.{tapatan, tapatan_rules}
+use Rattle.gm_ways.specs.laws.TapatanTables.{tables as tapatan_tables}
 use Rattle.gm_dodgem.specs.Dodgem.{dodgem, dodgem_rules, dodgem_text, dodgem_move, step_text as dodgem_step}
-use Rattle.gm_small.specs.Small.{small_game}
+use Rattle.gm_pieces.specs.Small.{small_game}
 use Rattle.gm_draw.specs.laws.Drawn.{dodgem_long}
 use Rattle.gm_hare.specs.Board.{are_joined, hunt_board, move_number_bound, hare_and_hounds, hare_rules}
 use Rattle.gm_hare.specs.Texts.{point_name, step_text as hare_step, position_text as hare_text, move_text as hare_move}
 use Rattle.gm_hare.specs.laws.MoveFacts.{move_in as hunt_in, step_below}
 use Rattle.gm_hare.specs.laws.PointFacts.{is_step}
 use Rattle.gm_hare.specs.laws.TextLaws.{text_length as hunt_length}
-use Rattle.gm_takeaway.specs.Takeaway.{takeaway, takeaway_name}
+use Rattle.gm_toys.specs.Takeaway.{takeaway, takeaway_name}
 use Rattle.gm_toys.specs.Countdown.{countdown, countdown_name}
 use Rattle.gm_toys.specs.Subtraction.{subtraction, number_text, step_text as number_step}
 use Rattle.gm_toys.specs.Wheel.{wheel, target_text}

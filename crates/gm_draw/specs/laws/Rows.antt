@@ -6,7 +6,7 @@ use Rattle.std.proofs.lemmas.Bool.Decides.{nat_tests}
 use Rattle.gm_game.proofs.SetLemmas.{same_position}
 use Rattle.gm_board.specs.laws.Lists.{contains_range, and_left, and_right}
 use Rattle.gm_board.specs.laws.Permutations.{all_at}
-use Rattle.gm_takeaway.specs.Takeaway.{takeaway, takeaway_name}
+use Rattle.gm_toys.specs.Takeaway.{takeaway, takeaway_name}
 use Rattle.gm_toys.specs.Countdown.{countdown, countdown_name}
 use Rattle.gm_toys.specs.Subtraction.{subtraction}
 use Rattle.gm_toys.specs.laws.SubtractionLaws.{legal_in}

@@ -1,56 +1,16 @@
 -- Hare and Hounds has the laws of a game.
 use Rattle.std.specs.Prelude.{◌≡◌, ◌+◌, ◌-◌, ◌*◌, ◌/◌, ◌%◌, ◌<◌, ◌≤◌, ◌&&◌, ◌||◌, if◌then◌else◌, ◌∷◌, ◌⊎◌}
-use Rattle.gm_pieces.specs.Common.{ℕ, Bool, true, false, not, eqb, eqb-true, eq-eqb, leb}
-use Rattle.gm_pieces.specs.Common.{List, [], reverse, length, set, None, Some, refl, sym, ap, ap₂, ◌∙◌, subst, arith, inl, inr, Contains, cond-true}
-use Rattle.gm_pieces.specs.Common.{cond_both, nat_tests, div-mul-add, mod-mul-add, length-reverse, reverse-reverse, Lose, Win, IsPaddedText, at, IsAscending}
-use Rattle.gm_pieces.specs.Common.{position_of, IsNumbered, and_both, contains_head, lone_in, binomial, members, rank, unrank, rank_below, rank_unrank}
-use Rattle.gm_pieces.specs.Common.{unrank_rank, same_tests, permute, permute_get, permute_length, image_slide, step_number, from_point, to_point, from_back}
-use Rattle.gm_pieces.specs.Common.{to_back, board_game, IsMove, IsMoveGame, IsMoveSymmetric}
+use Rattle.gm_pieces.specs.Common.{ℕ, Bool, true, false, not, eqb, leb, leb-true, List, [], reverse, length, set, None, Some, refl, sym, ap, ap₂, ◌∙◌, subst}
+use Rattle.gm_pieces.specs.Common.{arith, inl, inr, Contains, cond-true, cond_both, nat_tests, div-mul-add, mod-mul-add, length-reverse, reverse-reverse, Lose, Win}
+use Rattle.gm_pieces.specs.Common.{at, IsAscending, length-set, and_both, position_of, IsNumbered, contains_head, lone_in, binomial, members, rank, unrank, rank_below, list_all, range_with_len}
+use Rattle.gm_pieces.specs.Common.{rank_unrank, unrank_rank, same_tests, all_from, range_below, permute_get, permute_length, filter_few, steps}
+use Rattle.gm_pieces.specs.Common.{mask_of, mask_rank, mask_rank_at, from_point, to_point, from_back, to_back, at_below, board_game, IsMove, IsMoveGame, IsMoveSymmetric, and_left, and_right}
 use Rattle.gm_hare.specs.declared.hunt.Hunt.{Hunt}
-use Rattle.gm_hare.specs.Board.{column, has_hound, hunt_tier, has_escaped, legal, end_by_last_move, can_go, can_move, gone, play, mirror, mirror_point}
-use Rattle.gm_hare.specs.Board.{mirrored, turn_of}
-use Rattle.gm_hare.specs.Board.{hunt_index, hunt_board, hare_name, hare_and_hounds}
-use Rattle.gm_hare.specs.laws.PointFacts.{at_point, all_points, joined_from, joined_to, mirror_below, mirror_twice, mirror_column, mirror_joined, mirror_ahead}
-use Rattle.gm_hare.specs.laws.PointFacts.{two, two_group, mirror_in}
-use Rattle.gm_hare.specs.laws.HoundFacts.{count, members_count, same_hunt, for_eleven, mirror_count, mirror_columns, mirror_hounds_twice, three_columns}
-use Rattle.gm_hare.specs.laws.MoveFacts.{hunt, IsLegal, legal_in, legal_from, free_in, free_from, may_go, CanGo, move_in, step_below, moves_few, gone_legal}
-use Rattle.gm_hare.specs.laws.MoveFacts.{gone_tier, undone, redone, befores_few}
-
--- ---- tiers
-abbrev pub tier_size_of : ℕ → ℕ
-tier_size_of t = if (leb 2 t && leb t 10) then 3630 else 0
-
-abbrev pub child_tiers_of : ℕ → List ℕ
-child_tiers_of t = if (leb 2 t && leb t 9) then (t + 1) ∷ [] else []
-
-abbrev pub tier_rank_of : ℕ → ℕ
-tier_rank_of t = if (leb 2 t && leb t 10) then 10 - t else 0
-
-size_in : (t : ℕ) → 2 ≤ t → t ≤ 10 → tier_size_of t ≡ 3630
-size_in t l h = grind (arith, nat_tests)
-
-size_most : (t : ℕ) → tier_size_of t ≤ 3630
-size_most t = cond_both (leb 2 t && leb t 10) 3630 0 (λ (n : ℕ). n ≤ 3630) (λ e. omega arith) (λ e. omega arith)
-
-child_in : (t : ℕ) → 2 ≤ t → t ≤ 9 → (leb 2 t && leb t 9) ≡ true
-child_in t l h = grind (arith, nat_tests)
-
-child_bounds : (t : ℕ) → (leb 2 t && leb t 9) ≡ true → (2 ≤ t) × (t ≤ 9)
-child_bounds t e = (grind (arith, nat_tests), grind (arith, nat_tests))
-
-rank_in : (t : ℕ) → 2 ≤ t → t ≤ 10 → tier_rank_of t ≡ 10 - t
-rank_in t l h = grind (arith, nat_tests)
-
-child_rank : (t u : ℕ) → Contains (child_tiers_of t) u → tier_rank_of u < tier_rank_of t
-child_rank t u c =
-    let h = lone_in (leb 2 t && leb t 9) (t + 1) u c in
-    let b = child_bounds t h.0 in
-    let x = rank_in t (omega (arith, b.0)) (omega (arith, b.1)) in
-    let y = rank_in u (omega (arith, b.0, h.1)) (omega (arith, b.1, h.1)) in omega (arith, x, y, h.1, b.0, b.1)
-
--- the tier of a legal board
-pub legal_tier : (b : Hunt) → IsLegal b → (2 ≤ hunt_tier b) × (hunt_tier b ≤ 10)
-legal_tier b l = three_columns b.hounds l.eleven l.three
+use Rattle.gm_hare.specs.Board.{column, columns_from, is_ahead, has_hound, hunt_tier, has_escaped, legal, end_by_last_move, can_move, play, can_have_led_here}
+use Rattle.gm_hare.specs.Board.{mirror, mirror_point, mirrored, turn_of, hunt_index, hunt_board, hare_and_hounds}
+use Rattle.gm_hare.specs.laws.PointFacts.{is_step, step, step_below, steps_few, point, mirror_same, image_step, image_leads}
+use Rattle.gm_hare.specs.laws.HoundFacts.{mirror_hounds, hounds_kept, mirror_set, members_total, reverse_members, mask_fits, tests_down}
+use Rattle.gm_hare.specs.laws.MoveFacts.{hunt, same_hunt, IsLegal, legal_in, legal_from, goes, went, by_man, move_in, led_in, move_gone, undone, redone}
 
 -- ---- numbering
 -- three hounds are on eleven points in 165 ways
@@ -58,37 +18,37 @@ pub ways : binomial 11 3 ≡ 165
 unfolding binomial
 ways = refl
 
-pub count_reverse : (xs : List Bool) → length xs ≡ 11 → count (reverse xs) ≡ count xs
-count_reverse = for_eleven (λ xs. count (reverse xs) ≡ count xs) (λ a b c d e f g h i j k. omega arith)
+module _ (b : Hunt) (l : IsLegal b) where
+  down : (length (reverse b.hounds) ≡ 11) × (members (reverse b.hounds) ≡ 3)
+  down = (length-reverse b.hounds ∙ l.eleven, reverse_members b.hounds l.eleven ∙ l.three)
 
--- three hounds, the highest point first
-pub down_members : (b : Hunt) → IsLegal b → members (reverse b.hounds) ≡ 3
-down_members b l = members_count (reverse b.hounds) ∙ count_reverse b.hounds l.eleven ∙ l.three
+  rank_fits : rank (reverse b.hounds) < 165
+  rank_fits = subst (λ (n : ℕ). rank (reverse b.hounds) < n) (ap₂ binomial down.0 down.1 ∙ ways) (rank_below (reverse b.hounds))
 
--- eleven points, the highest first
-pub down_length : (b : Hunt) → IsLegal b → length (reverse b.hounds) ≡ 11
-down_length b l = length-reverse b.hounds ∙ l.eleven
+  -- the hounds come back from their rank
+  hounds_back : reverse (unrank 11 3 (rank (reverse b.hounds))) ≡ b.hounds
+  hounds_back =
+      ap reverse (sym (ap₂ (λ (n k : ℕ). unrank n k (rank (reverse b.hounds))) down.0 down.1) ∙ unrank_rank (reverse b.hounds)) ∙ reverse-reverse b.hounds
 
--- the rank of the hounds is below 165
-pub hounds_rank : (b : Hunt) → IsLegal b → rank (reverse b.hounds) < 165
-hounds_rank b l =
-    subst (λ (n : ℕ). rank (reverse b.hounds) < n) (ap₂ binomial (down_length b l) (down_members b l) ∙ ways) (rank_below (reverse b.hounds))
+-- the rank of the hounds, by their mask
+pub rank_is : (b : Hunt) → legal b ≡ true → mask_rank (mask_of (reverse b.hounds)) ≡ rank (reverse b.hounds)
+rank_is b l =
+    let xs = b.hounds in
+    let e = (legal_in b l).eleven in mask_rank_at 11 (mask_of (reverse xs)) (omega arith) (mask_fits xs e) ∙ ap rank (tests_down xs e)
 
-turn_small : (x : Bool) → turn_of x ≤ 1
-turn_small true = omega arith
-turn_small false = omega arith
+pub rank_small : (b : Hunt) → legal b ≡ true → mask_rank (mask_of (reverse b.hounds)) < 165
+rank_small b l = let r = rank_fits b (legal_in b l) in omega (arith, r, rank_is b l)
 
-turn_test : (x : Bool) → eqb (turn_of x) 0 ≡ x
-turn_test true = refl
-turn_test false = refl
+turn : (x : Bool) → (turn_of x ≤ 1) × (eqb (turn_of x) 0 ≡ x)
+turn true = (omega arith, refl)
+turn false = (omega arith, refl)
 
 turn_back : (n : ℕ) → n < 2 → turn_of (eqb n 0) ≡ n
 turn_back n l = grind (arith, nat_tests)
 
--- an index is below 3,630
-pub index_small : (b : Hunt) → IsLegal b → hunt_index b < 3630
+index_small : (b : Hunt) → IsLegal b → hunt_index b < 3630
 unfolding hunt_index
-index_small b l = let t = turn_small b.hounds_move in let r = hounds_rank b l in omega (arith, t, r, l.below)
+index_small b l = let t = (turn b.hounds_move).0 in let r = rank_fits b l in omega (arith, t, r, l.below)
 
 board_back : (b : Hunt) → IsLegal b → hunt_board (hunt_index b) ≡ b
 unfolding hunt_index hunt_board
@@ -96,83 +56,98 @@ board_back b l =
     let t = turn_of b.hounds_move in
     let r = rank (reverse b.hounds) in
     let i = (t * 165 + r) * 11 + b.hare in
-    let end_by_last_move : i / 11 ≡ t * 165 + r = div-mul-add (t * 165 + r) 11 b.hare l.below in
-    let turn : i / 11 / 165 ≡ t = ap (λ (n : ℕ). n / 165) end_by_last_move ∙ div-mul-add t 165 r (hounds_rank b l) in
-    let hounds : i / 11 % 165 ≡ r = ap (λ (n : ℕ). n % 165) end_by_last_move ∙ mod-mul-add t 165 r (hounds_rank b l) in
-    let hare : i % 11 ≡ b.hare = mod-mul-add (t * 165 + r) 11 b.hare l.below in
-    same_hunt (record { hounds_move = eqb (i / 11 / 165) 0; hounds = reverse (unrank 11 3 (i / 11 % 165)); hare = i % 11 }) b
-    (ap (λ (n : ℕ). eqb n 0) turn ∙ turn_test b.hounds_move)
-    (ap (λ (n : ℕ). reverse (unrank 11 3 n)) hounds
-    ∙ ap reverse (sym (ap₂ (λ (n k : ℕ). unrank n k r) (down_length b l) (down_members b l)) ∙ unrank_rank (reverse b.hounds))
-    ∙ reverse-reverse b.hounds)
-    hare
+    let men : i / 11 ≡ t * 165 + r = div-mul-add (t * 165 + r) 11 b.hare l.below in
+    same_hunt (hunt (eqb (i / 11 / 165) 0) (reverse (unrank 11 3 (i / 11 % 165))) (i % 11)) b
+    (ap (λ (n : ℕ). eqb (n / 165) 0) men ∙ ap (λ (n : ℕ). eqb n 0) (div-mul-add t 165 r (rank_fits b l)) ∙ (turn b.hounds_move).1)
+    (ap (λ (n : ℕ). reverse (unrank 11 3 (n % 165))) men ∙ ap (λ (n : ℕ). reverse (unrank 11 3 n)) (mod-mul-add t 165 r (rank_fits b l)) ∙ hounds_back b l)
+    (mod-mul-add (t * 165 + r) 11 b.hare l.below)
 
 index_back : (i : ℕ) → i < 3630 → hunt_index (hunt_board i) ≡ i
 unfolding hunt_index hunt_board
 index_back i l =
-    let q = i / 11 in
-    let turn : turn_of (eqb (q / 165) 0) ≡ q / 165 = turn_back (q / 165) (omega arith) in
-    let few : q % 165 < binomial 11 3 = omega (arith, ways) in
-    let hounds : rank (reverse (reverse (unrank 11 3 (q % 165)))) ≡ q % 165 = ap rank (reverse-reverse (unrank 11 3 (q % 165))) ∙ rank_unrank 11 3 (q % 165)
-    few in
-    ap₂ (λ (t r : ℕ). (t * 165 + r) * 11 + i % 11) turn hounds ∙ omega arith
+    let r = i / 11 % 165 in
+    let few : r < binomial 11 3 = omega (arith, ways) in
+    ap₂ (λ (t r : ℕ). (t * 165 + r) * 11 + i % 11) (turn_back (i / 11 / 165) (omega arith))
+    (ap rank (reverse-reverse (unrank 11 3 r)) ∙ rank_unrank 11 3 r few) ∙ omega arith
+
+abbrev is_tier : ℕ → Bool
+is_tier r = leb 2 (columns_from 0 (reverse (unrank 11 3 r))) && leb (columns_from 0 (reverse (unrank 11 3 r))) 10
+
+tiers_fit : list_all is_tier (range_with_len 0 165) ≡ true
+unfolding column binomial
+tiers_fit = refl
+
+legal_tier : (b : Hunt) → IsLegal b → (2 ≤ hunt_tier b) × (hunt_tier b ≤ 10)
+legal_tier b l =
+    let t = at_below 165 is_tier tiers_fit (rank (reverse b.hounds)) (rank_fits b l) in
+    subst (λ (xs : List Bool). (2 ≤ columns_from 0 xs) × (columns_from 0 xs ≤ 10)) (hounds_back b l) (leb-true _ _ (and_left _ _ t), leb-true _ _ (and_right _ _ t))
+
+abbrev size_of : ℕ → ℕ
+size_of t = if (leb 2 t && leb t 10) then 3630 else 0
+
+size : (t : ℕ) → (size_of t ≤ 3630) × (2 ≤ t → t ≤ 10 → size_of t ≡ 3630)
+size t = (grind (arith, nat_tests), λ l h. grind (arith, nat_tests))
 
 -- the numbering is one to one
 pub numbered : IsNumbered (board_game hare_and_hounds)
 numbered = record {
   tier_fits = λ b l. let t = legal_tier b (legal_in b l) in omega (arith, t.1);
-  size_fits = λ b l. let s = size_most (hunt_tier b) in omega (arith, s);
-  index_below = λ b l. let h = legal_in b l in let t = legal_tier b h in let s = size_in (hunt_tier b) t.0 t.1 in omega (arith, s, index_small b h);
+  size_fits = λ b l. let s = (size (hunt_tier b)).0 in omega (arith, s);
+  index_below = λ b l. let h = legal_in b l in let t = legal_tier b h in let s = (size (hunt_tier b)).1 t.0 t.1 in omega (arith, s, index_small b h);
   board_back = λ b l. board_back b (legal_in b l);
-  index_back = λ t i l k e. let s = size_most t in index_back i (omega (arith, s));
+  index_back = λ t i l k e. let s = (size t).0 in index_back i (omega (arith, s));
 }
 
+-- the start has tier 2 and index 21
+pub start_position : position_of (board_game hare_and_hounds) hare_and_hounds.start ≡ at 2 21
+unfolding hunt_index column binomial
+start_position = refl
+
 -- ---- moves
--- a move keeps a legal board legal
-pub play_legal : (b : Hunt) (m : ℕ) → legal b ≡ true → can_move b m ≡ true → legal (play b m) ≡ true
-unfolding play
-play_legal b m l c = legal_from (play b m) (gone_legal b (from_point m) (to_point m) (legal_in b l) (move_in b m c))
+abbrev child_tiers_of : ℕ → List ℕ
+child_tiers_of t = if (leb 2 t && leb t 9) then (t + 1) ∷ [] else []
 
-play_tier : (b : Hunt) (m : ℕ) → legal b ≡ true → can_move b m ≡ true → (hunt_tier (play b m) ≡ hunt_tier b) ⊎ Contains (child_tiers_of (hunt_tier b))
-    (hunt_tier (play b m))
-unfolding play
-play_tier b m l c =
-    let h = legal_in b l in
-    let v = move_in b m c in
-    let a = from_point m in
-    let z = to_point m in
-    elim (gone_tier b a z h v) [
-      | inl e ↦ inl e
-      | inr e ↦ (
-          let low = legal_tier b h in
-          let high = legal_tier (gone b a z) (gone_legal b a z h v) in
-          let few : hunt_tier b ≤ 9 = omega (arith, high.1, e) in
-          inr (subst (λ (xs : List ℕ). Contains xs (hunt_tier (gone b a z))) (sym (cond-true _ ((hunt_tier b + 1) ∷ []) [] (child_in (hunt_tier b) low.0 few)))
-          (subst (λ (n : ℕ). Contains ((hunt_tier b + 1) ∷ []) n) (sym e) (contains_head (hunt_tier b + 1) []))))
-    ]
+-- the tier stays, or a hound goes to the next column
+tier_by : (t : Bool) (x y c d : ℕ) → x + (if t then c else 0) ≡ y + (if t then d else 0) → (not t || (eqb d c || eqb d (c + 1))) ≡ true → (x ≡ y) ⊎ (x ≡ y + 1)
+tier_by t x y c d e f = grind (arith, nat_tests)
 
-start_legal : legal (hare_and_hounds.start) ≡ true
-unfolding legal
-start_legal = refl
+moved_tier : (b : Hunt) (m : ℕ) → legal b ≡ true → can_move b m ≡ true → (hunt_tier (play b m) ≡ hunt_tier b) ⊎ (hunt_tier (play b m) ≡ hunt_tier b + 1)
+unfolding is_ahead
+moved_tier b m l e =
+    subst (λ (d : Hunt). (hunt_tier d ≡ hunt_tier b) ⊎ (hunt_tier d ≡ hunt_tier b + 1)) (sym (by_man b m).play_is)
+    (tier_by b.hounds_move _ _ (column (from_point m)) (column (to_point m)) (move_gone b m l e).tier (and_right _ _ (move_in b m e).leads))
 
-name_text : (length hare_name ≡ 16) × IsPaddedText hare_name
-name_text = (refl, refl)
+play_legal : (b : Hunt) (m : ℕ) → legal b ≡ true → can_move b m ≡ true → legal (play b m) ≡ true
+play_legal b m l e = ap legal (by_man b m).play_is ∙ legal_from _ (move_gone b m l e).legal
+
+child_in : (t u : ℕ) → 2 ≤ t → u ≤ 10 → u ≡ t + 1 → Contains (child_tiers_of t) u
+child_in t u l h e =
+    let test : (leb 2 t && leb t 9) ≡ true = grind (arith, nat_tests) in
+    subst (λ (xs : List ℕ). Contains xs u) (sym (cond-true _ ((t + 1) ∷ []) [] test)) (subst (Contains ((t + 1) ∷ [])) (sym e) (contains_head (t + 1) []))
+
+rank_less : (t u : ℕ) → (leb 2 t && leb t 9) ≡ true → t + 1 ≡ u
+    → (if (leb 2 u && leb u 10) then 10 - u else 0) < (if (leb 2 t && leb t 10) then 10 - t else 0)
+rank_less t u e f = grind (arith, nat_tests)
 
 -- the game's own laws
 pub lawful : IsMoveGame hare_and_hounds
+unfolding steps legal
 lawful = record {
-  name_length = name_text.0;
-  name_text = name_text.1;
-  start_legal = start_legal;
+  name_length = refl;
+  name_text = refl;
+  start_legal = refl;
   numbers_fit = λ t. omega arith;
   moved_legal = λ b m l h. play_legal b m l h.can;
-  moved_tier = λ b m l h. play_tier b m l h.can;
-  child_rank = child_rank;
+  moved_tier = λ b m l h. elim (moved_tier b m l h.can) [
+    | inl e ↦ inl e
+    | inr e ↦ inr (child_in (hunt_tier b) (hunt_tier (play b m)) (legal_tier b (legal_in b l)).0 (legal_tier (play b m) (legal_in (play b m) (play_legal b m l h.can))).1 e)
+  ];
+  child_rank = λ t u c. let h = lone_in (leb 2 t && leb t 9) (t + 1) u c in rank_less t u h.0 h.1;
   child_tiers_ascending = λ t. cond_both (leb 2 t && leb t 9) ((t + 1) ∷ []) [] IsAscending (λ e. tt) (λ e. tt);
-  undone = λ b m l h. undone b m (legal_in b l) (move_in b m h.can);
-  redone = λ t d m l w k e h. redone d m w;
-  moves_few = λ b l. moves_few b;
-  befores_few = λ t d l. befores_few d;
+  undone = λ b m l h. undone b m l h.can;
+  redone = λ t d m l w k e h. redone d m l w;
+  moves_few = λ b l. let n = filter_few (can_move b) is_step (λ m e. (move_in b m e).joined) (range_with_len 0 176) in omega (arith, n, steps_few);
+  befores_few = λ t d l. let n = filter_few (can_have_led_here d) is_step (λ m e. (led_in d m e).joined) (range_with_len 0 176) in omega (arith, n, steps_few);
   child_tiers_few = λ t. cond_both (leb 2 t && leb t 9) ((t + 1) ∷ []) [] (λ (xs : List ℕ). length xs ≤ 16) (λ e. omega arith) (λ e. omega arith);
 }
 
@@ -182,136 +157,109 @@ mirrored_on b k l = permute_get false mirror b.hounds k l
 
 -- the point of a hound goes to its mirror point
 mirrored_at : (b : Hunt) (k : ℕ) → k < 11 → has_hound (mirrored b) (mirror_point k) ≡ has_hound b k
-mirrored_at b k l = mirrored_on b (mirror_point k) (mirror_below k l) ∙ ap (has_hound b) (mirror_twice k l)
+mirrored_at b k l = mirrored_on b (mirror_point k) (point k l).below ∙ ap (has_hound b) (point k l).twice
 
--- an image of a legal board is legal
-pub mirrored_legal : (b : Hunt) → IsLegal b → IsLegal (mirrored b)
+mirrored_legal : (b : Hunt) → IsLegal b → IsLegal (mirrored b)
 mirrored_legal b l = record {
   eleven = permute_length false mirror b.hounds;
-  three = mirror_count b.hounds l.eleven ∙ l.three;
-  below = mirror_below b.hare l.below;
+  three = members_total 0 (mirror_hounds b.hounds) ∙ (hounds_kept b.hounds l.eleven).1 ∙ sym (members_total 0 b.hounds) ∙ l.three;
+  below = (point b.hare l.below).below;
   apart = mirrored_at b b.hare l.below ∙ l.apart;
 }
 
--- by the test of a legal board
 pub mirrored_is_legal : (b : Hunt) → legal b ≡ true → legal (mirrored b) ≡ true
 mirrored_is_legal b l = legal_from (mirrored b) (mirrored_legal b (legal_in b l))
 
--- exchanging top and bottom twice gives the board back
-pub mirrored_twice : (b : Hunt) → IsLegal b → mirrored (mirrored b) ≡ b
-mirrored_twice b l = same_hunt (mirrored (mirrored b)) b refl (mirror_hounds_twice b.hounds l.eleven) (mirror_twice b.hare l.below)
+mirrored_twice : (b : Hunt) → IsLegal b → mirrored (mirrored b) ≡ b
+mirrored_twice b l = same_hunt (mirrored (mirrored b)) b refl (hounds_kept b.hounds l.eleven).3 (point b.hare l.below).twice
+
+abbrev guards : Hunt → ℕ → Bool
+guards b k = not (has_hound b k) || leb (column b.hare) (column k)
 
 -- an escape stays an escape
 mirrored_escape : (b : Hunt) → IsLegal b → has_escaped b ≡ true → has_escaped (mirrored b) ≡ true
 unfolding has_escaped
 mirrored_escape b l e =
-    all_points (λ (k : ℕ). not (has_hound (mirrored b) k) || leb (column (mirror_point b.hare)) (column k))
-    (λ k h. ap₂ (λ (x y : Bool). not x || y) (mirrored_on b k h) (ap₂ leb (mirror_column b.hare l.below) (sym (mirror_column k h)))
-    ∙ at_point (λ (k : ℕ). not (has_hound b k) || leb (column b.hare) (column k)) e (mirror_point k) (mirror_below k h))
-
-mirrored_escaped : (b : Hunt) → IsLegal b → has_escaped (mirrored b) ≡ has_escaped b
-mirrored_escaped b l =
-    same_tests _ _
-    (λ e. sym (ap has_escaped (mirrored_twice b l)) ∙ mirrored_escape (mirrored b) (mirrored_legal b l) e)
-    (λ e. mirrored_escape b l e)
-
-mirrored_may : (x : Bool) (h : List Bool) (r a c : ℕ) → a < 11 → c < 11 → may_go (hunt x h r) a c ≡ true → may_go (mirrored (hunt x h r)) (mirror_point a)
-    (mirror_point c) ≡ true
-mirrored_may true h r a c la lc e = ap₂ (λ (x y : Bool). x && y) (mirrored_at (hunt true h r) a la) (mirror_ahead a c la lc) ∙ e
-mirrored_may false h r a c la lc e = eq-eqb _ _ (ap mirror_point (eqb-true a r e))
-
-mirrored_go : (b : Hunt) (a c : ℕ) → IsLegal b → CanGo b a c → can_go (mirrored b) (mirror_point a) (mirror_point c) ≡ true
-mirrored_go b a c l k =
-    let la = joined_from a c k.joined in
-    let lc = joined_to a c k.joined in
-    let free = free_in b c k.free in
-    and_both _ _ (mirror_joined a c k.joined)
-    (and_both _ _ (free_from (mirrored b) (mirror_point c) (mirrored_at b c lc ∙ free.0)
-    (λ e. free.1 (sym (mirror_twice c lc) ∙ ap mirror_point e ∙ mirror_twice b.hare l.below)))
-    (mirrored_may b.hounds_move b.hounds b.hare a c la lc k.may))
-
-mirrored_gone : (x : Bool) (h : List Bool) (r a c : ℕ) → length h ≡ 11 → a < 11 → c < 11 → gone (mirrored (hunt x h r)) (mirror_point a) (mirror_point c) ≡
-    mirrored (gone (hunt x h r) a c)
-mirrored_gone true h r a c e la lc =
-    let x = image_slide false 11 two two_group mirror mirror_in h a c false true e la lc in
-    let i : x.0 ≡ mirror_point a = sym (mirror_twice x.0 x.2) ∙ ap mirror_point x.4 in
-    let j : x.1 ≡ mirror_point c = sym (mirror_twice x.1 x.3) ∙ ap mirror_point x.5 in
-    ap (λ (hs : List Bool). hunt false hs (mirror_point r)) (sym (x.6 ∙ ap₂ (λ (p q : ℕ). set (set (permute false mirror h) p false) q true) i j))
-mirrored_gone false h r a c e la lc = refl
-
--- a move of a board has an image among the moves of the image
-mirrored_moves : (b : Hunt) (m : ℕ) → IsLegal b → can_move b m ≡ true → (n : ℕ) × (can_move (mirrored b) n ≡ true) × (play (mirrored b) n ≡ mirrored (play b m))
-unfolding play can_move
-mirrored_moves b m l d =
-    let a = from_point m in
-    let c = to_point m in
-    let k = move_in b m d in
-    let la = joined_from a c k.joined in
-    let lc = joined_to a c k.joined in
-    let n = step_number (mirror_point a) (mirror_point c) in
-    let small = mirror_below c lc in
-    let from : from_point n ≡ mirror_point a = from_back (mirror_point a) (mirror_point c) (omega (arith, small)) in
-    let to : to_point n ≡ mirror_point c = to_back (mirror_point a) (mirror_point c) (omega (arith, small)) in (
-      n,
-      ap₂ (can_go (mirrored b)) from to ∙ mirrored_go b a c l k,
-      ap₂ (gone (mirrored b)) from to ∙ mirrored_gone b.hounds_move b.hounds b.hare a c l.eleven la lc,
-    )
+    all_from (guards (mirrored b)) (range_with_len 0 11)
+    (λ k c. let h = range_below 11 k c in
+    ap₂ (λ (x y : Bool). not x || y) (mirrored_on b k h) (ap₂ leb (point b.hare l.below).same_column (sym (point k h).same_column))
+    ∙ at_below 11 (guards b) e (mirror_point k) (point k h).below)
 
 mirrored_over : (b : Hunt) → IsLegal b → end_by_last_move (mirrored b) ≡ end_by_last_move b
 unfolding end_by_last_move
-mirrored_over b l = ap (λ (x : Bool). if x then Some (if b.hounds_move then Lose else Win) else None) (mirrored_escaped b l)
+mirrored_over b l =
+    ap (λ (x : Bool). if x then Some (if b.hounds_move then Lose else Win) else None)
+    (same_tests _ _ (λ e. sym (ap has_escaped (mirrored_twice b l)) ∙ mirrored_escape (mirrored b) (mirrored_legal b l) e) (mirrored_escape b l))
+
+-- a man goes on the image as on the board
+mirrored_goes : (t : Bool) (b : Hunt) (a c : ℕ) → IsLegal b → a < 11 → c < 11 → goes t (mirrored b) (mirror_point a) (mirror_point c) ≡ goes t b a c
+mirrored_goes t b a c l la lc =
+    ap₂ (λ (x y : Bool). x && y) (man t) (ap₂ (λ (x y : Bool). not x && not y) (mirrored_at b c lc) (mirror_same c b.hare lc l.below))
+  where
+    man : (t : Bool) → (if t then has_hound (mirrored b) (mirror_point a) else eqb (mirror_point a) (mirror_point b.hare)) ≡ (if t then has_hound b a else eqb a b.hare)
+    man true = mirrored_at b a la
+    man false = mirror_same a b.hare la l.below
+
+mirrored_went : (t : Bool) (b : Hunt) (a c : ℕ) → IsLegal b → a < 11 → c < 11 → went t (mirrored b) (mirror_point a) (mirror_point c) ≡ mirrored (went t b a c)
+mirrored_went true b a c l la lc =
+    ap (λ (hs : List Bool). hunt (not b.hounds_move) hs (mirror_point b.hare))
+    (sym (mirror_set true (set b.hounds a false) (length-set b.hounds a false ∙ l.eleven) c lc
+    ∙ ap (λ (hs : List Bool). set hs (mirror_point c) true) (mirror_set false b.hounds l.eleven a la)))
+mirrored_went false b a c l la lc = refl
+
+-- a move of a board has an image among the moves of the image
+mirrored_moves : (b : Hunt) (m : ℕ) → legal b ≡ true → IsMove hare_and_hounds b m
+    → (n : ℕ) × IsMove hare_and_hounds (mirrored b) n × (play (mirrored b) n ≡ mirrored (play b m))
+mirrored_moves b m l i =
+    let k = move_in b m i.can in
+    let s = step m k.joined in
+    let h = legal_in b l in
+    let t = b.hounds_move in
+    let n = image_step m in
+    let small = (point (to_point m) s.to_below).below in
+    let from = from_back (mirror_point (from_point m)) (mirror_point (to_point m)) (omega (arith, small)) in
+    let to = to_back (mirror_point (from_point m)) (mirror_point (to_point m)) (omega (arith, small)) in
+    let can = (by_man (mirrored b) n).move_is ∙ and_both _ _ (image_leads t m k.leads)
+    (ap₂ (goes t (mirrored b)) from to ∙ mirrored_goes t b (from_point m) (to_point m) h s.from_below s.to_below ∙ k.goes) in (
+      n,
+      record { below = step_below n (move_in (mirrored b) n can).joined; not_over = mirrored_over b h ∙ i.not_over; can = can },
+      (by_man (mirrored b) n).play_is
+          ∙ ap₂ (went t (mirrored b)) from to
+          ∙ mirrored_went t b (from_point m) (to_point m) h s.from_below s.to_below
+          ∙ ap mirrored (sym (by_man b m).play_is),
+    )
 
 -- the image under one of the two symmetries
 abbrev image : Bool → Hunt → Hunt
 image exchanged b = if exchanged then mirrored b else b
 
+-- what holds of both
+by : (P : Bool → Type 0) → P false → P true → (g : Bool) → P g
+by P f t true = t
+by P f t false = f
+
 both : (g : Bool) → Contains (false ∷ true ∷ []) g
-both false = (0, omega arith, refl)
-both true = (1, omega arith, refl)
+both = by (Contains (false ∷ true ∷ [])) (0, omega arith, refl) (1, omega arith, refl)
 
 product : (g h : Bool) → (k : Bool) × Contains (false ∷ true ∷ []) k × ((b : Hunt) → legal b ≡ true → image g (image h b) ≡ image k b)
 product false h = (h, both h, λ b l. refl)
 product true false = (true, both true, λ b l. refl)
 product true true = (false, both false, λ b l. mirrored_twice b (legal_in b l))
 
-inverse : (g : Bool) → (h : Bool) × Contains (false ∷ true ∷ []) h × ((b : Hunt) → legal b ≡ true → image h (image g b) ≡ b)
-inverse false = (false, both false, λ b l. refl)
-inverse true = (true, both true, λ b l. mirrored_twice b (legal_in b l))
-
-image_legal : (g : Bool) (b : Hunt) → legal b ≡ true → legal (image g b) ≡ true
-image_legal false b l = l
-image_legal true b l = mirrored_is_legal b l
-
-image_over : (g : Bool) (b : Hunt) → legal b ≡ true → end_by_last_move (image g b) ≡ end_by_last_move b
-image_over false b l = refl
-image_over true b l = mirrored_over b (legal_in b l)
-
-image_tier : (g : Bool) (b : Hunt) → legal b ≡ true → hunt_tier (image g b) ≡ hunt_tier b
-image_tier false b l = refl
-image_tier true b l = mirror_columns b.hounds (legal_in b l).eleven
-
-image_move : (g : Bool) (b : Hunt) (m : ℕ) → legal b ≡ true → IsMove hare_and_hounds b m → (n : ℕ) × IsMove hare_and_hounds (image g b) n ×
-    (play (image g b) n ≡ image g (play b m))
-image_move false b m l h = (m, h, refl)
-image_move true b m l h =
-    let x = mirrored_moves b m (legal_in b l) h.can in
-    (x.0, record { below = step_below x.0 (move_in (mirrored b) x.0 x.1).joined; not_over = mirrored_over b (legal_in b l) ∙ h.not_over; can = x.1 }, x.2)
+image_twice : (g : Bool) (b : Hunt) → legal b ≡ true → image g (image g b) ≡ b
+image_twice g b l = by (λ g. image g (image g b) ≡ b) refl (mirrored_twice b (legal_in b l)) g
 
 pub symmetric : IsMoveSymmetric hare_and_hounds
 symmetric = record {
   group = record {
     identity = (false, both false, λ b l. refl);
     closed = λ g h c d. product g h;
-    inverse = λ g c. inverse g;
+    inverse = λ g c. (g, both g, image_twice g);
   };
-  keeps_legal = λ g b c l. image_legal g b l;
-  keeps_over = λ g b c l. image_over g b l;
+  keeps_legal = λ g b c l. by (λ g. legal (image g b) ≡ true) l (mirrored_is_legal b l) g;
+  keeps_over = λ g b c l. by (λ g. end_by_last_move (image g b) ≡ end_by_last_move b) refl (mirrored_over b (legal_in b l)) g;
   keeps_stuck = λ g b c l. refl;
-  keeps_tier = λ g b c l. image_tier g b l;
-  keeps_move = λ g b m c l h. image_move g b m l h;
+  keeps_tier = λ g b c l. by (λ g. hunt_tier (image g b) ≡ hunt_tier b) refl (hounds_kept b.hounds (legal_in b l).eleven).2 g;
+  keeps_move = λ g b m c l h.
+      by (λ g. (n : ℕ) × IsMove hare_and_hounds (image g b) n × (play (image g b) n ≡ image g (play b m))) (m, h, refl) (mirrored_moves b m l h) g;
 }
-
--- the start has tier 2 and index 21
-pub start_position : position_of (board_game hare_and_hounds) hare_and_hounds.start ≡ at 2 21
-unfolding hunt_index column binomial
-start_position = refl

@@ -1,95 +1,70 @@
--- The hounds: how many there are, the sum of their columns, and one of them moved.
-use Rattle.std.specs.Prelude.{◌≡◌, ◌≢◌, ◌+◌, ◌*◌, ◌<◌, ◌≤◌, if◌then◌else◌, ◌∷◌}
-use Rattle.gm_pieces.specs.Common.{ℕ, zero, suc, Bool, true, false, List, [], length, get_or, set, refl, sym}
-use Rattle.gm_pieces.specs.Common.{ap, ap₂, ◌∙◌, arith, length-set, get_or-set_same, get_or-set_other, set-set, set-get_or, members, permute}
-use Rattle.gm_hare.specs.declared.hunt.Hunt.{Hunt}
-use Rattle.gm_hare.specs.Board.{column, columns_from, mirror}
+-- The hounds: how many there are, the sum of their columns, their mask, and one of them moved.
+use Rattle.std.specs.Prelude.{◌≡◌, ◌≢◌, ◌+◌, ◌*◌, ◌^◌, ◌<◌, ◌≤◌, if◌then◌else◌, ◌∷◌}
+use Rattle.gm_pieces.specs.Common.{ℕ, zero, suc, Bool, true, false, List, [], reverse, length, get_or, set, refl, sym, ap, ◌∙◌, subst, arith, length-reverse}
+use Rattle.gm_pieces.specs.Common.{length-set, get_or-set_same, get_or-set_other, set-set, set-get_or, members, permute, count_ones, cases_eq, inl, inr}
+use Rattle.gm_pieces.specs.Common.{mask_of, mask_below, members_small, tests_of, tests_mask}
+use Rattle.gm_hare.specs.Board.{column, columns_from, mirror, mirror_point}
 
-abbrev pub one : Bool → ℕ
-one x = if x then 1 else 0
+-- ---- sums over the hounds, on points from n on
+abbrev pub total : (ℕ → ℕ) → ℕ → List Bool → ℕ
+total w n [] = 0
+total w n (x ∷ xs) = (if x then w n else 0) + total w (n + 1) xs
 
--- how many hounds there are, as a sum
+pub columns_total : (n : ℕ) (xs : List Bool) → columns_from n xs ≡ total column n xs
+columns_total n [] = refl
+columns_total n (x ∷ xs) = ap (λ (s : ℕ). (if x then column n else 0) + s) (columns_total (n + 1) xs)
+
 abbrev pub count : List Bool → ℕ
-count [] = 0
-count (x ∷ xs) = one x + count xs
+count xs = total (λ k. 1) 0 xs
 
--- the members of a list of tests
-pub members_count : (xs : List Bool) → members xs ≡ count xs
-members_count [] = refl
-members_count (true ∷ xs) = omega (arith, members_count xs)
-members_count (false ∷ xs) = omega (arith, members_count xs)
+pub members_total : (n : ℕ) (xs : List Bool) → members xs ≡ total (λ k. 1) n xs
+members_total n [] = refl
+members_total n (true ∷ xs) = omega (arith, members_total (n + 1) xs)
+members_total n (false ∷ xs) = omega (arith, members_total (n + 1) xs)
 
--- boards with the same parts are the same
-pub same_hunt : (x y : Hunt) → x.hounds_move ≡ y.hounds_move → x.hounds ≡ y.hounds → x.hare ≡ y.hare → x ≡ y
-same_hunt x y e f g =
-    ap (λ (t : Bool). let z : Hunt = record { hounds_move = t; hounds = x.hounds; hare = x.hare } in z) e
-    ∙ ap₂ (λ (h : List Bool) (r : ℕ). let z : Hunt = record { hounds_move = y.hounds_move; hounds = h; hare = r } in z) f g
+total_set : (w : ℕ → ℕ) (n p : ℕ) (xs : List Bool) (k : ℕ) (v : Bool) → p ≡ n + k → k < length xs
+    → total w n (set xs k v) + (if get_or xs k false then w p else 0) ≡ total w n xs + (if v then w p else 0)
+total_set w n p [] k v e l = absurd (omega arith)
+total_set w n p (x ∷ xs) zero v e l = (let q : p ≡ n = omega arith in rw q (omega arith))
+total_set w n p (x ∷ xs) (suc k) v e l = (let h = total_set w (n + 1) p xs k v (omega arith) (omega arith) in omega (arith, h))
 
--- ---- one point changed
-pub count_set : (xs : List Bool) (k : ℕ) (v : Bool) → k < length xs → count (set xs k v) + one (get_or xs k false) ≡ count xs + one v
-count_set [] k v l = absurd (omega arith)
-count_set (x ∷ xs) zero v l = omega arith
-count_set (x ∷ xs) (suc k) v l = omega (arith, count_set xs k v (omega arith))
-
--- the sum of the columns with one point changed
-pub columns_set : (n p : ℕ) (xs : List Bool) (k : ℕ) (v : Bool) → p ≡ n + k → k < length xs
-    → columns_from n (set xs k v) + (if get_or xs k false then column p else 0) ≡ columns_from n xs + (if v then column p else 0)
-columns_set n p [] k v e l = absurd (omega arith)
-columns_set n p (x ∷ xs) zero v e l = (let q : p ≡ n = omega arith in rw q (omega arith))
-columns_set n p (x ∷ xs) (suc k) v e l = (let h = columns_set (n + 1) p xs k v (omega arith) (omega arith) in omega (arith, h))
-
--- writing what is there already changes nothing
+-- ---- a hound that goes from a to c
 same_set : (xs : List Bool) (k : ℕ) (v : Bool) → get_or xs k false ≡ v → set xs k v ≡ xs
 same_set xs k v e = ap (set xs k) (sym e) ∙ set-get_or xs k false
 
-module _ (xs : List Bool) (a c : ℕ) (u v : Bool) (apart : a ≢ c) where
-  -- two points changed
-  pub both_length : length (set (set xs a u) c v) ≡ length xs
-  both_length = length-set (set xs a u) c v ∙ length-set xs a u
+module _ (xs : List Bool) (a c : ℕ) (apart : a ≢ c) (la : a < length xs) (lc : c < length xs) (here : get_or xs a false ≡ true) (free : get_or xs c false ≡ false) where
+  abbrev left : List Bool
+  left = set xs a false
 
-  -- what is on the second of two points changed
-  pub both_second : c < length xs → get_or (set (set xs a u) c v) c false ≡ v
-  both_second l = get_or-set_same (set xs a u) c v false (omega (arith, length-set xs a u, l))
+  left_length : c < length left
+  left_length = omega (arith, length-set xs a false, lc)
 
-  -- what is on the first of two points changed
-  pub both_first : a < length xs → get_or (set (set xs a u) c v) a false ≡ u
-  both_first l = get_or-set_other (set xs a u) c a v false apart ∙ get_or-set_same xs a u false l
+  still : get_or left c false ≡ false
+  still = get_or-set_other xs a c false false (λ q. apart (sym q)) ∙ free
 
-  -- what is on the other points
-  pub both_other : (k : ℕ) → k ≢ a → k ≢ c → get_or (set (set xs a u) c v) k false ≡ get_or xs k false
-  both_other k n m = get_or-set_other (set xs a u) c k v false m ∙ get_or-set_other xs a k u false n
+  pub slid_length : length (set left c true) ≡ length xs
+  slid_length = length-set left c true ∙ length-set xs a false
 
-  -- two points changed and changed back
-  pub both_back : (x y : Bool) → get_or xs a false ≡ x → get_or xs c false ≡ y → set (set (set (set xs a u) c v) c y) a x ≡ xs
-  both_back x y e f =
-      ap (λ (ys : List Bool). set ys a x) (set-set (set xs a u) c v y ∙ same_set (set xs a u) c y (get_or-set_other xs a c u false (λ q. apart (sym q)) ∙ f))
-      ∙ set-set xs a u x
-      ∙ same_set xs a x e
+  pub slid_there : get_or (set left c true) c false ≡ true
+  slid_there = get_or-set_same left c true false left_length
 
--- a hound that goes from a to c leaves as many hounds
-pub moved_count : (xs : List Bool) (a c : ℕ) → a ≢ c → a < length xs → c < length xs → get_or xs a false ≡ true → get_or xs c false ≡ false → count
-    (set (set xs a false) c true) ≡ count xs
-moved_count xs a c apart la lc e f =
-    let left = set xs a false in
-    let x = count_set xs a false la in
-    let y = count_set left c true (let z : c < length left = omega (arith, length-set xs a false) in z) in
-    let there : get_or left c false ≡ false = get_or-set_other xs a c false false (λ q. apart (sym q)) ∙ f in
-    let u : count left + 1 ≡ count xs + 0 = sym (ap (λ (v : Bool). count left + one v) e) ∙ x in
-    let w : count (set left c true) + 0 ≡ count left + 1 = sym (ap (λ (v : Bool). count (set left c true) + one v) there) ∙ y in
-    omega (arith, u, w)
+  pub slid_here : get_or (set left c true) a false ≡ false
+  slid_here = get_or-set_other left c a true false apart ∙ get_or-set_same xs a false false la
 
--- a hound that goes from a to c leaves the column of a for that of c
-pub moved_columns : (xs : List Bool) (a c : ℕ) → a ≢ c → a < length xs → c < length xs → get_or xs a false ≡ true → get_or xs c false ≡ false
-    → columns_from 0 (set (set xs a false) c true) + column a ≡ columns_from 0 xs + column c
-moved_columns xs a c apart la lc e f =
-    let left = set xs a false in
-    let x = columns_set 0 a xs a false (omega arith) la in
-    let y = columns_set 0 c left c true (omega arith) (let z : c < length left = omega (arith, length-set xs a false) in z) in
-    let there : get_or left c false ≡ false = get_or-set_other xs a c false false (λ q. apart (sym q)) ∙ f in
-    let u : columns_from 0 left + column a ≡ columns_from 0 xs + 0 = sym (ap (λ (v : Bool). columns_from 0 left + (if v then column a else 0)) e) ∙ x in
-    let w : columns_from 0 (set left c true) + 0 ≡ columns_from 0 left + column c = sym
-    (ap (λ (v : Bool). columns_from 0 (set left c true) + (if v then column c else 0)) there) ∙ y in
-    omega (arith, u, w)
+  pub slid_other : (k : ℕ) → k ≢ a → k ≢ c → get_or (set left c true) k false ≡ get_or xs k false
+  slid_other k n m = get_or-set_other left c k true false m ∙ get_or-set_other xs a k false false n
+
+  pub slid_back : set (set (set left c true) c false) a true ≡ xs
+  slid_back = ap (λ (ys : List Bool). set ys a true) (set-set left c true false ∙ same_set left c false still) ∙ set-set xs a false true ∙ same_set xs a true here
+
+  -- it leaves what a counts for what c counts
+  pub slid_total : (w : ℕ → ℕ) → total w 0 (set left c true) + w a ≡ total w 0 xs + w c
+  slid_total w =
+      let x = total_set w 0 a xs a false (omega arith) la in
+      let y = total_set w 0 c left c true (omega arith) left_length in
+      let u : total w 0 left + w a ≡ total w 0 xs + 0 = rw here at x in
+      let v : total w 0 (set left c true) + 0 ≡ total w 0 left + w c = rw still at y in
+      omega (arith, u, v)
 
 -- ---- eleven points
 -- what holds of each list of eleven tests
@@ -99,38 +74,85 @@ for_eleven P p (a ∷ b ∷ c ∷ d ∷ e ∷ f ∷ g ∷ h ∷ i ∷ j ∷ k �
 for_eleven P p xs q = absurd (omega arith)
 
 -- top and bottom exchanged
-abbrev mirror_hounds : List Bool → List Bool
+abbrev pub mirror_hounds : List Bool → List Bool
 mirror_hounds xs = permute false mirror xs
 
--- there are as many hounds after the exchange
-pub mirror_count : (xs : List Bool) → length xs ≡ 11 → count (mirror_hounds xs) ≡ count xs
-mirror_count = for_eleven (λ xs. count (mirror_hounds xs) ≡ count xs) (λ a b c d e f g h i j k. omega arith)
+-- what both orders keep
+abbrev IsKept : List Bool → Type 0
+IsKept xs = (count (reverse xs) ≡ count xs) × (count (mirror_hounds xs) ≡ count xs) × (columns_from 0 (mirror_hounds xs) ≡ columns_from 0 xs)
+    × (mirror_hounds (mirror_hounds xs) ≡ xs)
 
--- the hounds are in the same columns after the exchange
-pub mirror_columns : (xs : List Bool) → length xs ≡ 11 → columns_from 0 (mirror_hounds xs) ≡ columns_from 0 xs
+pub hounds_kept : (xs : List Bool) → length xs ≡ 11 → IsKept xs
 unfolding column
-mirror_columns = for_eleven (λ xs. columns_from 0 (mirror_hounds xs) ≡ columns_from 0 xs) (λ a b c d e f g h i j k. omega arith)
+hounds_kept = for_eleven IsKept (λ a b c d e f g h i j k. (omega arith, omega arith, omega arith, refl))
 
--- exchanging top and bottom twice gives the hounds back
-pub mirror_hounds_twice : (xs : List Bool) → length xs ≡ 11 → mirror_hounds (mirror_hounds xs) ≡ xs
-mirror_hounds_twice = for_eleven (λ xs. mirror_hounds (mirror_hounds xs) ≡ xs) (λ a b c d e f g h i j k. refl)
+pub reverse_members : (xs : List Bool) → length xs ≡ 11 → members (reverse xs) ≡ members xs
+reverse_members xs e = members_total 0 (reverse xs) ∙ (hounds_kept xs e).0 ∙ sym (members_total 0 xs)
 
-times : (x : Bool) (n : ℕ) → (if x then n else 0) ≡ n * one x
-times true n = omega arith
-times false n = omega arith
+-- what holds of n numbers from k on
+abbrev pub Each : (ℕ → Type 0) → ℕ → ℕ → Type 0
+Each P k zero = Unit {0}
+Each P k (suc n) = P k × Each P (k + 1) n
 
-small : (x : Bool) → one x ≤ 1
-small true = omega arith
-small false = omega arith
+pub each_at : (P : ℕ → Type 0) (k n : ℕ) → Each P k n → (j : ℕ) → k ≤ j → j < k + n → P j
+each_at P k zero h j l m = absurd (omega arith)
+each_at P k (suc n) h j l m = elim (cases_eq j k) [
+  | inl e ↦ subst P (sym e) h.0
+  | inr q ↦ each_at P (k + 1) n h.1 j (omega (arith, q)) (omega arith)
+]
 
-sums : (a b c d e f g h i j k : Bool) → count (a ∷ b ∷ c ∷ d ∷ e ∷ f ∷ g ∷ h ∷ i ∷ j ∷ k ∷ []) ≡ 3
-    → (2 ≤ columns_from 0 (a ∷ b ∷ c ∷ d ∷ e ∷ f ∷ g ∷ h ∷ i ∷ j ∷ k ∷ [])) × (columns_from 0 (a ∷ b ∷ c ∷ d ∷ e ∷ f ∷ g ∷ h ∷ i ∷ j ∷ k ∷ []) ≤ 10)
-unfolding column
-sums a b c d e f g h i j k q = (
-  omega (arith, small a, times e 2, times f 2, times g 2, times h 3, times i 3, times j 3, times k 4, times a 0),
-  omega (arith, small k, times e 2, times f 2, times g 2, times h 3, times i 3, times j 3, times k 4, times a 0),
-)
+-- a write to a point, and the write to its image
+pub mirror_set : (v : Bool) (xs : List Bool) → length xs ≡ 11 → (k : ℕ) → k < 11 → mirror_hounds (set xs k v) ≡ set (mirror_hounds xs) (mirror_point k) v
+mirror_set v = for_eleven (λ xs. (k : ℕ) → k < 11 → mirror_hounds (set xs k v) ≡ set (mirror_hounds xs) (mirror_point k) v)
+    (λ a b c d e f g h i j k n l.
+    let xs = a ∷ b ∷ c ∷ d ∷ e ∷ f ∷ g ∷ h ∷ i ∷ j ∷ k ∷ [] in
+    each_at (λ n. mirror_hounds (set xs n v) ≡ set (mirror_hounds xs) (mirror_point n) v) 0 11
+    (refl, (refl, (refl, (refl, (refl, (refl, (refl, (refl, (refl, (refl, (refl, tt))))))))))) n (omega arith) l)
 
--- three hounds are in columns that add up to 2 at least and to 10 at most
-pub three_columns : (xs : List Bool) → length xs ≡ 11 → count xs ≡ 3 → (2 ≤ columns_from 0 xs) × (columns_from 0 xs ≤ 10)
-three_columns = for_eleven (λ xs. count xs ≡ 3 → (2 ≤ columns_from 0 xs) × (columns_from 0 xs ≤ 10)) sums
+-- ---- masks
+abbrev bits : List Bool → ℕ
+bits [] = 0
+bits (x ∷ xs) = (if x then 1 else 0) * 2 ^ length xs + bits xs
+
+mask_bits : (xs : List Bool) → mask_of xs ≡ bits xs
+mask_bits [] = refl
+mask_bits (true ∷ xs) = omega (arith, mask_bits xs)
+mask_bits (false ∷ xs) = omega (arith, mask_bits xs)
+
+-- 1 if a hound is on a point, else 0
+unfoldable pub one : List Bool → ℕ → ℕ
+one xs k = if get_or xs k false then 1 else 0
+
+-- the mask of three points
+unfoldable pub three : List Bool → ℕ → ℕ
+three xs k = one xs k + 2 * one xs (k + 1) + 4 * one xs (k + 2)
+
+-- the mask of the hounds, by columns
+pub mask_is : (xs : List Bool) → length xs ≡ 11 → one xs 0 + 2 * three xs 1 + 16 * three xs 4 + 128 * three xs 7 + 1024 * one xs 10 ≡ mask_of (reverse xs)
+unfolding one three
+mask_is xs l =
+    for_eleven (λ xs. one xs 0 + 2 * three xs 1 + 16 * three xs 4 + 128 * three xs 7 + 1024 * one xs 10 ≡ bits (reverse xs))
+    (λ a b c d e f g h i j k. omega arith) xs l ∙ sym (mask_bits (reverse xs))
+
+-- the sum of the columns
+pub tier_is : (xs : List Bool) → length xs ≡ 11 → one xs 1 + one xs 2 + one xs 3 + 2 * (one xs 4 + one xs 5 + one xs 6) + 3 * (one xs 7 + one xs 8 + one xs 9)
+    + 4 * one xs 10 ≡ columns_from 0 xs
+unfolding column one
+tier_is = for_eleven (λ xs. one xs 1 + one xs 2 + one xs 3 + 2 * (one xs 4 + one xs 5 + one xs 6) + 3 * (one xs 7 + one xs 8 + one xs 9) + 4 * one xs 10
+    ≡ columns_from 0 xs)
+    (λ a b c d e f g h i j k. omega (arith, times a 0, times e 2, times f 2, times g 2, times h 3, times i 3, times j 3, times k 4))
+  where
+    times : (x : Bool) (n : ℕ) → (if x then n else 0) ≡ n * (if x then 1 else 0)
+    times true n = omega arith
+    times false n = omega arith
+
+module _ (xs : List Bool) (l : length xs ≡ 11) where
+  pub tests_down : tests_of 11 (mask_of (reverse xs)) ≡ reverse xs
+  tests_down = ap (λ (n : ℕ). tests_of n (mask_of (reverse xs))) (sym (length-reverse xs ∙ l)) ∙ tests_mask (reverse xs)
+
+  pub mask_fits : mask_of (reverse xs) < 2 ^ 11
+  mask_fits = subst (λ (n : ℕ). mask_of (reverse xs) < 2 ^ n) (length-reverse xs ∙ l) (mask_below (reverse xs))
+
+  -- how many hounds, by the mask
+  pub ones_are : count_ones (mask_of (reverse xs)) ≡ members xs
+  ones_are = sym (members_small 11 (mask_of (reverse xs)) mask_fits) ∙ ap members tests_down ∙ reverse_members xs l

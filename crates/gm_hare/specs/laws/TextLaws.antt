@@ -1,145 +1,112 @@
 -- The texts of Hare and Hounds are plain, fit a line, and tell positions and moves apart.
-use Rattle.std.specs.Prelude.{◌≡◌, ◌<◌, ◌≤◌, ◌&&◌, if◌then◌else◌, ◌∷◌}
-use Rattle.gm_pieces.specs.Common.{ℕ, Bool, true, false, cond, eqb, leb, leb-true, eqb-true, eq-eqb, List, [], length}
-use Rattle.gm_pieces.specs.Common.{get_or, refl, sym, ap, ◌∙◌, subst, arith, zero-add, Contains, filter, list_all, range_with_len, true≢false, cond-true}
-use Rattle.gm_pieces.specs.Common.{nat_tests, ext_get_or, length-map-range_with_len, get_or-map-range_with_len, is_plain, IsPlain, IsShown, plain_map, and_left}
-use Rattle.gm_pieces.specs.Common.{and_right, and_both, contains_range, filter_to, all_at, same_list, from_point, to_point, AreTexts, texts_are_shown}
+use Rattle.std.specs.Prelude.{◌≡◌, ◌^◌, ◌<◌, ◌&&◌, if◌then◌else◌}
+use Rattle.gm_pieces.specs.Common.{ℕ, w32, Bool, true, false, eqb, eqb-true, eq-eqb, lt-ltb, List, length, reverse, get_or, refl, sym, ap, ◌∙◌, arith}
+use Rattle.gm_pieces.specs.Common.{zero-add, nat_tests, ext_get_or, length-map-range_with_len, get_or-map-range_with_len, IsPlain, IsShown, plain_map}
+use Rattle.gm_pieces.specs.Common.{has_cell, tests_of, IsRead, trailing_zeros, bit_at-zero, bit_at, AreTexts, texts_are_shown, cases_eq, ltb, and_left, and_right, and_both, ltb-true, length-reverse, tests_length, inl, inr, range_with_len}
+use Rattle.std.proofs.lemmas.Nat.Bits.{bit_at-trailing_zeros}
 use Rattle.gm_hare.specs.declared.hunt.Hunt.{Hunt}
-use Rattle.gm_hare.specs.Board.{legal, has_hound, are_joined, move_number_bound, hare_and_hounds, hare_rules}
-use Rattle.gm_hare.specs.laws.PointFacts.{is_step}
-use Rattle.gm_hare.specs.laws.HoundFacts.{same_hunt}
-use Rattle.gm_hare.specs.laws.MoveFacts.{IsLegal, legal_in, move_in, step_below}
+use Rattle.gm_hare.specs.Board.{legal, has_hound, hare_and_hounds, hare_rules}
+use Rattle.gm_hare.specs.Texts.{hunt_char, hunt_text, step_text, position_text, move_text}
+use Rattle.gm_hare.specs.laws.PointFacts.{step, step_told}
+use Rattle.gm_hare.specs.laws.HoundFacts.{each_at}
+use Rattle.gm_hare.specs.laws.MoveFacts.{hunt, same_hunt, legal_in, move_in}
 use Rattle.gm_hare.specs.laws.HareLaws.{numbered}
-use Rattle.gm_hare.specs.Texts.{hunt_char, hunt_text, point_name, step_text, position_text, move_text}
 
 -- ---- boards
 pub text_length : (b : Hunt) → length (hunt_text b) ≡ 13
 unfolding hunt_text
 text_length b = length-map-range_with_len (hunt_char b) 0 13
 
-char_plain : (b : Hunt) (k : ℕ) → is_plain (hunt_char b k) ≡ true
-char_plain b k = grind (arith, nat_tests)
-
--- the text of a board is plain
-pub text_plain : (b : Hunt) → IsPlain (hunt_text b)
+text_plain : (b : Hunt) → IsPlain (hunt_text b)
 unfolding hunt_text
-text_plain b = plain_map (hunt_char b) (char_plain b) (range_with_len 0 13)
+text_plain b = plain_map (hunt_char b) (λ k. grind (arith, nat_tests)) (range_with_len 0 13)
 
 -- a byte of the text
 pub text_at : (b : Hunt) (k : ℕ) → k < 13 → get_or (hunt_text b) k 0 ≡ hunt_char b k
 unfolding hunt_text
 text_at b k l = get_or-map-range_with_len (hunt_char b) 0 13 k k 0 l (zero-add k)
 
-point_at : (x : Bool) (k h t : ℕ) → k < 11 → (if eqb k 11 then 32 else (if eqb k 12 then t else (if x then 100 else (if eqb k h then 104 else 46)))) ≡
-    (if x then 100 else (if eqb k h then 104 else 46))
-point_at x k h t l = grind (arith, nat_tests)
-
--- the byte of a point
-pub point_char : (b : Hunt) (k : ℕ) → k < 11 → get_or (hunt_text b) k 0 ≡ (if has_hound b k then 100 else (if eqb k b.hare then 104 else 46))
-point_char b k l = text_at b k (omega arith) ∙ point_at (has_hound b k) k b.hare (if b.hounds_move then 100 else 104) l
-
-hound_by : (x : Bool) (k h : ℕ) → eqb (if x then 100 else (if eqb k h then 104 else 46)) 100 ≡ x
-hound_by x k h = grind (arith, nat_tests)
-
--- the byte of a hound
-pub hound_char : (b : Hunt) (k : ℕ) → k < 11 → eqb (get_or (hunt_text b) k 0) 100 ≡ has_hound b k
-hound_char b k l = ap (λ (n : ℕ). eqb n 100) (point_char b k l) ∙ hound_by (has_hound b k) k b.hare
-
-hare_by : (x : Bool) (k h : ℕ) → eqb (if x then 100 else (if eqb k h then 104 else 46)) 104 ≡ true → k ≡ h
-hare_by x k h e = grind (arith, nat_tests)
-
--- a point with the byte of the hare is the hare's
-pub hare_char : (b : Hunt) (k : ℕ) → k < 11 → eqb (get_or (hunt_text b) k 0) 104 ≡ true → k ≡ b.hare
-hare_char b k l e = hare_by (has_hound b k) k b.hare (sym (ap (λ (n : ℕ). eqb n 104) (point_char b k l)) ∙ e)
-
-hare_there : (x : Bool) (k h : ℕ) → x ≡ false → k ≡ h → eqb (if x then 100 else (if eqb k h then 104 else 46)) 104 ≡ true
-hare_there x k h e f = grind (arith, nat_tests)
-
--- the hare's point has the byte of the hare
-pub hare_at : (b : Hunt) → IsLegal b → eqb (get_or (hunt_text b) b.hare 0) 104 ≡ true
-hare_at b l = ap (λ (n : ℕ). eqb n 104) (point_char b b.hare l.below) ∙ hare_there (has_hound b b.hare) b.hare b.hare l.apart refl
-
--- the hare is where its text has it
-pub hare_found : (b : Hunt) (k : ℕ) (t : List ℕ) → hunt_text b ≡ t → k < 11 → eqb (get_or t k 0) 104 ≡ true → b.hare ≡ k
-hare_found b k t e l f = sym (hare_char b k l (ap (λ (t : List ℕ). eqb (get_or t k 0) 104) e ∙ f))
-
--- and its text has it somewhere
-pub hare_somewhere : (b : Hunt) (t : List ℕ) → legal b ≡ true → hunt_text b ≡ t → ((k : ℕ) → k < 11 → eqb (get_or t k 0) 104 ≡ false) → ⊥
-hare_somewhere b t l e f = let h = legal_in b l in true≢false (sym (sym (ap (λ (t : List ℕ). eqb (get_or t b.hare 0) 104) e) ∙ hare_at b h) ∙ f b.hare h.below)
+-- the byte of a point is a hound's where there is a hound, and the hare's where the hare is
+point_by : (x : Bool) (k r t : ℕ) → k < 11 → (k ≡ r → x ≡ false)
+    → (eqb (if eqb k 11 then 32 else (if eqb k 12 then t else (if x then 100 else (if eqb k r then 104 else 46)))) 100 ≡ x)
+    × (eqb (if eqb k 11 then 32 else (if eqb k 12 then t else (if x then 100 else (if eqb k r then 104 else 46)))) 104 ≡ eqb k r)
+point_by x k r t l h = (grind (arith, nat_tests), grind (arith, nat_tests))
 
 turn_by : (x : Bool) → eqb (if x then 100 else 104) 100 ≡ x
 turn_by true = refl
 turn_by false = refl
 
--- the byte of who moves
-pub turn_char : (b : Hunt) → eqb (get_or (hunt_text b) 12 0) 100 ≡ b.hounds_move
-turn_char b = ap (λ (n : ℕ). eqb n 100) (text_at b 12 (omega arith)) ∙ turn_by b.hounds_move
+-- what a text tells of a legal board
+record IsTold (b : Hunt) (t : List ℕ) : Type 0 where
+  pub turn : eqb (get_or t 12 0) 100 ≡ b.hounds_move
+  pub hound : (k : ℕ) → k < 11 → eqb (get_or t k 0) 100 ≡ has_hound b k
+  pub hare : (k : ℕ) → k < 11 → eqb (get_or t k 0) 104 ≡ eqb k b.hare
+
+told : (b : Hunt) (t : List ℕ) → legal b ≡ true → hunt_text b ≡ t → IsTold b t
+told b t l e =
+    let h = legal_in b l in
+    let byte : (k : ℕ) → k < 13 → get_or t k 0 ≡ hunt_char b k = (λ k m. ap (λ (t : List ℕ). get_or t k 0) (sym e) ∙ text_at b k m) in
+    let by = (λ (k : ℕ) (m : k < 11). point_by (has_hound b k) k b.hare (if b.hounds_move then 100 else 104) m (λ q. ap (has_hound b) q ∙ h.apart)) in
+    record {
+      turn = ap (λ (n : ℕ). eqb n 100) (byte 12 (omega arith)) ∙ turn_by b.hounds_move;
+      hound = λ k m. ap (λ (n : ℕ). eqb n 100) (byte k (omega arith)) ∙ (by k m).0;
+      hare = λ k m. ap (λ (n : ℕ). eqb n 104) (byte k (omega arith)) ∙ (by k m).1;
+    }
 
 -- boards with the same text are the same
-pub text_once : (x y : Hunt) → IsLegal x → IsLegal y → hunt_text x ≡ hunt_text y → x ≡ y
+text_once : (x y : Hunt) → legal x ≡ true → legal y ≡ true → hunt_text x ≡ hunt_text y → x ≡ y
 text_once x y l m e =
+    let a = told x (hunt_text y) l e in
+    let b = told y (hunt_text y) m refl in
+    let h = legal_in x l in
     same_hunt x y
-    (sym (turn_char x) ∙ ap (λ (t : List ℕ). eqb (get_or t 12 0) 100) e ∙ turn_char y)
-    (ext_get_or false x.hounds y.hounds (l.eleven ∙ sym m.eleven)
-    (λ k h. let below : k < 11 = omega (arith, l.eleven) in
-    sym (hound_char x k below) ∙ ap (λ (t : List ℕ). eqb (get_or t k 0) 100) e ∙ hound_char y k below))
-    (hare_char y x.hare l.below (sym (ap (λ (t : List ℕ). eqb (get_or t x.hare 0) 104) e) ∙ hare_at x l))
+    (sym a.turn ∙ b.turn)
+    (ext_get_or false x.hounds y.hounds (h.eleven ∙ sym (legal_in y m).eleven)
+    (λ k n. let j : k < 11 = omega (arith, n, h.eleven) in sym (a.hound k j) ∙ b.hound k j))
+    (eqb-true _ _ (sym (b.hare x.hare h.below) ∙ a.hare x.hare h.below ∙ eq-eqb _ _ refl))
 
--- ---- moves
-abbrev steps : List ℕ
-steps = filter is_step (range_with_len 0 move_number_bound)
+-- ---- boards read
+-- the tests of a mask, the lowest point first
+test_at : (m j : ℕ) → j < 11 → get_or (reverse (tests_of 11 m)) j false ≡ has_cell m j
+unfolding tests_of
+test_at m j l = each_at (λ j. get_or (reverse (tests_of 11 m)) j false ≡ has_cell m j) 0 11
+    (refl, (refl, (refl, (refl, (refl, (refl, (refl, (refl, (refl, (refl, (refl, tt))))))))))) j (omega arith) l
 
-apart_test : ℕ → ℕ → Bool
-apart_test m n = cond (same_list (step_text m) (step_text n)) (eqb m n) true
+-- the one mark of the hare is its point
+hare_in : (t : List ℕ) (n r : ℕ) → n < 2 ^ 11 → r < 11 → IsRead t 104 11 n → ((k : ℕ) → k < 11 → eqb (get_or t k 0) 104 ≡ eqb k r) → r ≡ trailing_zeros w32 n
+hare_in t n r l m read h =
+    let has : bit_at n r ≡ 1 = eqb-true _ _ (read r ∙ and_both _ _ (lt-ltb r 11 m) (h r m ∙ eq-eqb r r refl)) in
+    let some : 0 < n = (elim (cases_eq n 0) [
+      | inl q ↦ absurd (let z = ap (λ (v : ℕ). bit_at v r) q ∙ bit_at-zero r in omega (arith, z, has))
+      | inr q ↦ omega (arith, q)
+    ]) in
+    let z = bit_at-trailing_zeros w32 n some (omega (arith, l)) in
+    let k = trailing_zeros w32 n in
+    let mark : (ltb k 11 && eqb (get_or t k 0) 104) ≡ true = sym (read k) ∙ eq-eqb _ _ z.1 in
+    sym (eqb-true k r (sym (h k (ltb-true k 11 (and_left _ _ mark))) ∙ and_right (ltb k 11) _ mark))
 
-texts_table : list_all (λ m. list_all (apart_test m) steps) steps ≡ true
-unfolding are_joined from_point to_point step_text point_name apart_test
-texts_table = refl
-
-same_self : (xs : List ℕ) → same_list xs xs ≡ true
-same_self [] = refl
-same_self (x ∷ xs) = and_both _ _ (eq-eqb x x refl) (same_self xs)
-
-listed : (m : ℕ) → is_step m ≡ true → Contains steps m
-listed m e = filter_to is_step (range_with_len 0 move_number_bound) m (contains_range move_number_bound m (step_below m e)) e
-
--- moves with the same text are the same
-pub step_once : (m n : ℕ) → is_step m ≡ true → is_step n ≡ true → step_text m ≡ step_text n → m ≡ n
-unfolding apart_test
-step_once m n e f g =
-    let t = all_at (apart_test m) steps n (all_at (λ (m : ℕ). list_all (apart_test m) steps) steps m texts_table (listed m e)) (listed n f) in
-    eqb-true m n (sym (cond-true (same_list (step_text m) (step_text n)) (eqb m n) true
-    (subst (λ (t : List ℕ). same_list (step_text m) t ≡ true) g (same_self (step_text m)))) ∙ t)
-
-is_short : ℕ → Bool
-is_short m = leb (length (step_text m)) 5 && list_all is_plain (step_text m)
-
-short_table : list_all is_short steps ≡ true
-unfolding are_joined from_point to_point step_text point_name is_short
-short_table = refl
-
-short : (m : ℕ) → is_step m ≡ true → is_short m ≡ true
-short m e = all_at is_short steps m short_table (listed m e)
-
--- the text of a move has at most five bytes
-pub step_short : (m : ℕ) → is_step m ≡ true → length (step_text m) ≤ 5
-unfolding is_short
-step_short m e = leb-true (length (step_text m)) 5 (and_left _ _ (short m e))
-
--- the text of a move is plain
-pub step_plain : (m : ℕ) → is_step m ≡ true → IsPlain (step_text m)
-unfolding is_short
-step_plain m e = and_right _ _ (short m e)
+-- a board that is read
+pub read_is : (b : Hunt) (t : List ℕ) (x : Bool) (d n : ℕ) → legal b ≡ true → hunt_text b ≡ t → x ≡ eqb (get_or t 12 0) 100 → IsRead t 100 11 d
+    → IsRead t 104 11 n → n < 2 ^ 11 → b ≡ hunt x (reverse (tests_of 11 d)) (trailing_zeros w32 n)
+read_is b t x d n l e f r s m =
+    let h = legal_in b l in
+    let a = told b t l e in
+    same_hunt b (hunt x (reverse (tests_of 11 d)) (trailing_zeros w32 n))
+    (sym a.turn ∙ sym f)
+    (ext_get_or false b.hounds (reverse (tests_of 11 d)) (h.eleven ∙ sym (length-reverse (tests_of 11 d) ∙ tests_length 11 d))
+    (λ k q. let j : k < 11 = omega (arith, q, h.eleven) in
+    sym (a.hound k j) ∙ sym (test_at d k j ∙ r k ∙ ap (λ (y : Bool). y && eqb (get_or t k 0) 100) (lt-ltb k 11 j))))
+    (hare_in t n b.hare m h.below s a.hare)
 
 -- ---- the laws of texts
 pub readable : AreTexts hare_and_hounds hunt_text (λ t m. step_text m)
 readable = record {
   text_plain = λ b l. text_plain b;
   text_fits = λ b l. let a = text_length b in omega (arith, a);
-  text_once = λ a b l k e. text_once a b (legal_in a l) (legal_in b k) e;
-  step_plain = λ b m l h. step_plain m (move_in b m h.can).joined;
-  step_fits = λ b m l h. let a = step_short m (move_in b m h.can).joined in omega (arith, a);
-  step_once = λ b m n l h k e. step_once m n (move_in b m h.can).joined (move_in b n k.can).joined e;
+  text_once = λ a b l k e. text_once a b l k e;
+  step_plain = λ b m l h. (step m (move_in b m h.can).joined).text_plain;
+  step_fits = λ b m l h. let a = (step m (move_in b m h.can).joined).text_short in omega (arith, a);
+  step_once = λ b m n l h k e. sym (step m (move_in b m h.can).joined).text_told ∙ ap step_told e ∙ (step n (move_in b n k.can).joined).text_told;
 }
 
 -- the laws of texts, for positions and their moves

@@ -1,16 +1,19 @@
 -- Moves of the games of nine points: in the last tier a piece goes from point to point, and in any other a piece is placed.
-use Rattle.std.specs.Prelude.{◌≡◌, ◌+◌, ◌/◌, ◌%◌, ◌<◌, ◌≤◌, ◌&&◌, if◌then◌else◌}
-use Rattle.gm_pieces.specs.Common.{ℕ, Bool, true, false, List, map, length, set, None, Some, refl, arith}
-use Rattle.gm_pieces.specs.Common.{eqb, filter, range_with_len, Lose, Cell, Empty, Mine, and_left, and_right, filter_few, mine_cell, their_cell, empty_cell}
-use Rattle.gm_pieces.specs.Common.{turned, cell_at, is_mine, is_theirs, is_empty, steps, IsMove, brought_back, IsStep, WasStep}
+use Rattle.std.specs.Prelude.{◌≡◌, ◌+◌, ◌*◌, ◌/◌, ◌%◌, ◌<◌, ◌≤◌, ◌&&◌, if◌then◌else◌, ◌⊎◌}
+use Rattle.gm_pieces.specs.Common.{ℕ, Bool, true, false, List, map, length, set, None, Some, inl, inr, refl, sym, ap, ◌∙◌, subst, arith, eqb, eqb-true, eq-eqb, leb-true}
+use Rattle.gm_pieces.specs.Common.{lt-ltb, get_or-set_same, cond-true, true≢false, length-map, Contains, filter, range_with_len, Lose, Cell, Empty, Mine, Theirs}
+use Rattle.gm_pieces.specs.Common.{and_left, and_right, and_both, filter_few, mine_cell, their_cell, empty_cell, turned, turned_cell, turned_twice, mine_turned}
+use Rattle.gm_pieces.specs.Common.{theirs_turned, permute_turned, filled_turned, cell_at, is_mine, is_theirs, is_empty, image_set, image_slide, image_cell, permute}
+use Rattle.gm_pieces.specs.Common.{square_symmetries, IsMove, brought_back, IsStep, WasStep, IsLeft, step_left, placed_left, set_and_back, gone_again, back_again}
 use Rattle.gm_morris.specs.declared.variant.Variant.{Variant}
-use Rattle.gm_morris.specs.Points.{last_tier, joins}
-use Rattle.gm_morris.specs.Morris.{mine, theirs, has_line, end_by_last_move, can_move, move_number_bound, can_have_led_here, morris}
-use Rattle.gm_morris.specs.laws.PointFacts.{joined_within, joined_few}
+use Rattle.gm_morris.specs.Points.{last_tier, lines, joins}
+use Rattle.gm_morris.specs.Morris.{theirs, pieces, has_line, end_by_last_move, can_move, move_number_bound, moved, play, child_tiers_of, morris}
+use Rattle.gm_morris.specs.laws.PointFacts.{joined_within, joined_image, right}
+use Rattle.gm_morris.specs.laws.BoardFacts.{group, image_pieces, image_over, IsLegal}
 
 -- ---- the rules of moves, by whether the tier is the last
 abbrev pub is_last : Variant → List Cell → Bool
-is_last v b = eqb (mine b + theirs b) (last_tier v)
+is_last v b = eqb (pieces b) (last_tier v)
 
 -- all numbers of moves are below this number
 abbrev pub end_by : Bool → ℕ
@@ -19,15 +22,24 @@ end_by x = if x then 144 else 9
 abbrev pub can_by : Variant → Bool → List Cell → ℕ → Bool
 can_by v x b m = if x then (joins v (m / 16) (m % 16) && (is_mine (cell_at b (m / 16)) && is_empty (cell_at b (m % 16)))) else is_empty (cell_at b m)
 
--- the board after a move, before the roles swap
+-- the board after a move, before the roles swap, and how many pieces it has more
 abbrev pub left_by : Bool → List Cell → ℕ → List Cell
 left_by x b m = if x then set (set b (m / 16) Empty) (m % 16) Mine else set b m Mine
+
+abbrev more_by : Bool → ℕ
+more_by x = if x then 0 else 1
 
 abbrev pub was_by : Variant → Bool → List Cell → ℕ → Bool
 was_by v x d m = if x then (joins v (m / 16) (m % 16) && (is_theirs (cell_at d (m % 16)) && is_empty (cell_at d (m / 16)))) else is_theirs (cell_at d m)
 
 abbrev pub back_by : Bool → List Cell → ℕ → List Cell
 back_by x d m = if x then brought_back d (m / 16) (m % 16) else set (map turned d) m Empty
+
+-- at most 128 numbers pass a test that in the last tier only those of moves pass
+pub few : (v : Variant) (x : Bool) (p : ℕ → Bool) → (x ≡ true → (m : ℕ) → p m ≡ true → joins v (m / 16) (m % 16) ≡ true)
+    → length (filter p (range_with_len 0 (end_by x))) ≤ 128
+few v true p h = let less = filter_few p (λ m. joins v (m / 16) (m % 16)) (h refl) (range_with_len 0 144) in let all = leb-true _ _ (right v).few_moves in omega (arith, less, all)
+few v false p h = let less = filter_few p (λ m. true) (λ m e. refl) (range_with_len 0 9) in omega (arith, less)
 
 -- ---- what a move is
 pub record CanStep (v : Variant) (x : Bool) (b : List Cell) (m : ℕ) : Type 0 where
@@ -38,11 +50,6 @@ pub record CanStep (v : Variant) (x : Bool) (b : List Cell) (m : ℕ) : Type 0 w
 pub step_in : (v : Variant) (b : List Cell) (m : ℕ) → IsMove (morris v) b m → CanStep v (is_last v b) b m
 unfolding can_move move_number_bound
 step_in v b m h = record { below = h.below; can = h.can }
-
--- if the game is not over, that makes it one
-pub step_from : (v : Variant) (b : List Cell) (m : ℕ) → CanStep v (is_last v b) b m → end_by_last_move v b ≡ None → IsMove (morris v) b m
-unfolding can_move move_number_bound
-step_from v b m h o = record { below = h.below; not_over = o; can = h.can }
 
 -- a move from point to point is the step of a piece
 pub slide_step : (v : Variant) (b : List Cell) (m : ℕ) → length b ≡ 9 → can_by v true b m ≡ true → IsStep b (m / 16) (m % 16)
@@ -57,42 +64,110 @@ slide_was v d m e =
     let r = and_right (joins v (m / 16) (m % 16)) (is_theirs (cell_at d (m % 16)) && is_empty (cell_at d (m / 16))) e in
     record { there = their_cell _ (and_left _ _ r); left = empty_cell _ (and_right _ _ r) }
 
+-- ---- a move made and taken back
+pub record IsMade (v : Variant) (x : Bool) (b : List Cell) (m : ℕ) : Type 0 where
+  pub left : IsLeft b (left_by x b m) (more_by x)
+  pub was : was_by v x (map turned (left_by x b m)) m ≡ true
+  pub back : back_by x (map turned (left_by x b m)) m ≡ b
+
+-- a move leads to a board that it can have led to, and taken back it gives the board before
+pub made : (v : Variant) (x : Bool) (b : List Cell) (m : ℕ) → length b ≡ 9 → CanStep v x b m → IsMade v x b m
+made v true b m n h =
+    let s = slide_step v b m n h.can in
+    let y = back_again b (m / 16) (m % 16) s in
+    record {
+      left = step_left b (m / 16) (m % 16) s;
+      was = and_both _ _ (and_left _ _ h.can) (and_both _ _ (ap is_theirs y.0.there) (ap is_empty y.0.left));
+      back = y.1;
+    }
+made v false b m n h =
+    let l : m < length b = (let k = h.below in omega (arith, k, n)) in
+    let free = empty_cell _ h.can in
+    record {
+      left = placed_left b m l free;
+      was = ap is_theirs (turned_cell (set b m Mine) m Mine (get_or-set_same b m Mine Empty l));
+      back = ap (λ (d : List Cell). set d m Empty) (turned_twice (set b m Mine)) ∙ set_and_back b m Empty Mine free;
+    }
+
+-- a move taken back and made again leads to the same board
+pub redone : (v : Variant) (x : Bool) (d : List Cell) (m : ℕ) → was_by v x d m ≡ true → map turned (left_by x (back_by x d m) m) ≡ d
+redone v true d m e = gone_again d (m / 16) (m % 16) (slide_was v d m e)
+redone v false d m e = ap (map turned) (set_and_back (map turned d) m Mine Empty (turned_cell d m Theirs (their_cell _ e))) ∙ turned_twice d
+
+-- ---- the board after a move
+-- half of the pieces then, rounded down, are the opponent's, and they are not too many
+halves : (v : Variant) (x : Bool) (b : List Cell) (m : ℕ) → x ≡ is_last v b → IsLegal v b → CanStep v x b m
+    → (theirs b ≡ (pieces b + more_by x) / 2) × (pieces b + more_by x ≤ last_tier v)
+halves v true b m e h s =
+    let last = eqb-true (pieces b) (last_tier v) (sym e) in
+    let w = joined_within v (m / 16) (m % 16) (and_left _ _ s.can) in
+    (let half = h.half in omega (arith, last, w.2, half), omega (arith, h.few))
+halves v false b m e h s =
+    let other : pieces b ≡ last_tier v → ⊥ = λ q. true≢false (sym (eq-eqb _ _ q) ∙ sym e) in
+    (let half = h.half in omega (arith, half), omega (arith, h.few, other))
+
+next_tier : (v : Variant) (x : Bool) (t n : ℕ) → t + more_by x ≤ last_tier v → n ≡ t + more_by x → (n ≡ t) ⊎ Contains (child_tiers_of v t) n
+unfolding child_tiers_of
+next_tier v true t n l e = inl (omega (arith, e))
+next_tier v false t n l e = inr (subst (λ (xs : List ℕ). Contains xs n) (sym (cond-true _ _ _ (lt-ltb t (last_tier v) (omega arith)))) (0, omega arith, sym e))
+
 line_none : (x : Bool) → (if x then Some Lose else None) ≡ None → x ≡ false
 line_none true e = absurd (let z : ⊥ = cc in z)
 line_none false e = refl
 
--- if the game goes on the opponent has no line
-pub no_line : (v : Variant) (b : List Cell) → end_by_last_move v b ≡ None → has_line v is_theirs b ≡ false
-unfolding end_by_last_move
-no_line v b e = line_none _ e
+-- a move leads to a legal board of its tier or of the next
+pub lands : (v : Variant) (b : List Cell) (m : ℕ) → IsLegal v b → IsMove (morris v) b m
+    → IsLegal v (play v b m) × ((pieces (play v b m) ≡ pieces b) ⊎ Contains (child_tiers_of v (pieces b)) (pieces (play v b m)))
+unfolding play moved has_line end_by_last_move
+lands v b m h c =
+    let s = step_in v b m c in
+    let x = is_last v b in
+    let d = left_by x b m in
+    let k = (made v x b m h.cells s).left in
+    let n = halves v x b m refl h s in
+    let p = mine_turned d in
+    let q = theirs_turned d in
+    let all : pieces (map turned d) ≡ pieces b + more_by x = omega (arith, p, q, k.own, k.other) in (
+      record {
+        cells = length-map d turned ∙ k.cells ∙ h.cells;
+        half = p ∙ k.other ∙ n.0 ∙ ap (λ (j : ℕ). j / 2) (sym all);
+        few = omega (arith, all, n.1);
+        no_line = filled_turned (lines v) d ∙ k.filled (lines v) ∙ line_none _ c.not_over;
+      },
+      next_tier v x (pieces b) (pieces (map turned d)) n.1 all,
+    )
 
--- ---- lists of moves
--- whether a number is one of a move
-abbrev is_number : Variant → Bool → ℕ → Bool
-is_number v x m = if x then joins v (m / 16) (m % 16) else true
+-- ---- images
+module _ (v : Variant) (g : List ℕ) (b : List Cell) (c : Contains (square_symmetries 3) g) (e : length b ≡ 9) where
+  step_image : (x : Bool) (m : ℕ) → CanStep v x b m
+      → (n : ℕ) × CanStep v x (permute Empty g b) n × (left_by x (permute Empty g b) n ≡ permute Empty g (left_by x b m))
+  step_image true m h =
+      let w = joined_within v (m / 16) (m % 16) (and_left _ _ h.can) in
+      let y = image_slide Empty 9 (square_symmetries 3) group g c b (m / 16) (m % 16) Empty Mine e w.0 w.1 in
+      let cell = image_cell 9 (square_symmetries 3) group g b c in
+      let lx = y.2 in
+      let ly = y.3 in
+      let n = 16 * y.0 + y.1 in
+      let from : n / 16 ≡ y.0 = omega (arith, ly) in
+      let to : n % 16 ≡ y.1 = omega (arith, ly) in (
+        n,
+        record { below = omega (arith, lx, ly); can = rw (from, to, cell y.0 lx, cell y.1 ly, ← joined_image v g y.0 y.1 c lx ly, y.4, y.5) h.can },
+        rw (from, to) (sym y.6),
+      )
+  step_image false m h =
+      let y = image_set Empty 9 (square_symmetries 3) group g c b m Mine e h.below in
+      (y.0, record { below = y.1; can = rw (image_cell 9 (square_symmetries 3) group g b c y.0 y.1, y.2) h.can }, sym y.3)
 
-numbers_few : (v : Variant) (x : Bool) → length (filter (λ m. is_number v x m) (range_with_len 0 (end_by x))) ≤ 128
-numbers_few v true = joined_few v
-numbers_few v false = omega arith
-
--- at most 128 numbers pass a test that only those of moves pass
-few : (v : Variant) (x : Bool) (p : ℕ → Bool) → ((m : ℕ) → p m ≡ true → is_number v x m ≡ true) → length (filter p (range_with_len 0 (end_by x))) ≤ 128
-few v x p h = let less = filter_few p (λ m. is_number v x m) h (range_with_len 0 (end_by x)) in let all = numbers_few v x in omega (arith, less, all)
-
-can_number : (v : Variant) (x : Bool) (b : List Cell) (m : ℕ) → can_by v x b m ≡ true → is_number v x m ≡ true
-can_number v true b m e = and_left _ _ e
-can_number v false b m e = refl
-
-was_number : (v : Variant) (x : Bool) (d : List Cell) (m : ℕ) → was_by v x d m ≡ true → is_number v x m ≡ true
-was_number v true d m e = and_left _ _ e
-was_number v false d m e = refl
-
--- at most 128 moves can be made
-pub steps_few : (v : Variant) (b : List Cell) → length (steps (morris v) b) ≤ 128
-unfolding steps can_move move_number_bound
-steps_few v b = few v (is_last v b) (can_by v (is_last v b) b) (can_number v (is_last v b) b)
-
--- there are at most 128 boards before
-pub befores_few : (v : Variant) (t : ℕ) (d : List Cell) → length (filter (can_have_led_here v t d) (range_with_len 0 (move_number_bound v t))) ≤ 128
-unfolding can_have_led_here move_number_bound
-befores_few v t d = let x = eqb t (last_tier v) in few v x (was_by v x d) (was_number v x d)
+  -- a move of a board has an image among the moves of the image
+  pub image_move : (m : ℕ) → IsMove (morris v) b m → (n : ℕ) × IsMove (morris v) (permute Empty g b) n × (play v (permute Empty g b) n ≡ permute Empty g (play v b m))
+  unfolding can_move move_number_bound play moved
+  image_move m d =
+      let image = permute Empty g b in
+      let x = is_last v b in
+      let y = step_image x m (step_in v b m d) in
+      let same : x ≡ is_last v image = sym (ap (λ (n : ℕ). eqb n (last_tier v)) (image_pieces v g b c e)) in
+      let h = subst (λ (z : Bool). CanStep v z image y.0) same y.1 in (
+        y.0,
+        record { below = h.below; not_over = image_over v g b c e ∙ d.not_over; can = h.can },
+        ap (λ (z : Bool). map turned (left_by z image y.0)) (sym same) ∙ ap (map turned) y.2 ∙ sym (permute_turned g (left_by x b m)),
+      )

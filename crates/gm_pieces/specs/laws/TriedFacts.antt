@@ -1,7 +1,9 @@
 -- A loop over candidates passes over each number that passes the test.
 use Rattle.std.specs.Prelude.{◌≡◌, ◌⊎◌, ◌+◌, ◌-◌, ◌<◌, ◌≤◌, ◌^◌, ◌∷◌, ◌++◌}
-use Rattle.gm_pieces.specs.Lower.{length-append, subst, zero, suc, ℕ, Bool, true, false, ltb, lt-ltb, List, [], map, Option, None, Some, refl, sym, ap, ◌∙◌, arith, inl, inr}
-use Rattle.gm_pieces.specs.Lower.{true≢false, cases_Bool, cases_lt, nat_tests, length, filter, filter_map, range_with_len, filter_in, filter_out, filter_room, put_all, put}
+use Rattle.gm_pieces.specs.Lower.{length-append, subst, zero, suc, ℕ, Bool, true, false, ltb, lt-ltb, List, [], map, Option, None, Some, refl, sym, ap, ◌∙◌}
+use Rattle.gm_pieces.specs.Lower.{arith, inl, inr}
+use Rattle.gm_pieces.specs.Lower.{true≢false, cases_Bool, cases_lt, nat_tests, length, filter, filter_map, range_with_len, filter_in, filter_out, filter_room}
+use Rattle.gm_pieces.specs.Lower.{put_all, put}
 use Rattle.gm_pieces.specs.Lower.{put_more_some, put_more_none}
 use Rattle.gm_pieces.specs.laws.Skipped.{filter_skip, puts_skip}
 use Rattle.gm_pieces.specs.declared.candidates.Run.{Run}

@@ -1,8 +1,8 @@
 //! Questions about positions without an answer.
 use crate::expect::expect_eq;
-use gm_best::answer::{AnswerError, answer};
-use gm_best::best_move::best_move;
 use gm_game::position::Position;
+use gm_play::answers::{AnswerError, answer};
+use gm_play::best_moves::best_move;
 use gm_table::tables::Tables;
 use gm_toys::countdown::Countdown;
 use std::process::Abort;

@@ -2,11 +2,11 @@
 use crate::expect::must;
 use crate::solver::desks::{Call, Deed, Step, by_hand};
 use crate::solver::shards::first_note;
-use gm_deliveries::status::{Delivery, Refused};
 use gm_game::game::Game;
 use gm_game::limits::TIER_SIZE;
 use gm_locks::board::Four;
 use gm_shard::shard::Shard;
+use gm_shard::status::{Delivery, Refused};
 use gm_solver::starts::begin_range;
 use gm_toys::countdown::Countdown;
 use std::process::Abort;

@@ -1,16 +1,16 @@
 //! A board of four shards, used as by callers with workers of their own.
 ghost use Rattle.std.specs.Prelude.{◌≡◌, ◌<◌};
 ghost use Rattle.gm_locks.specs.Spots.{spot_of, AreFourTiles};
-ghost use Rattle.gm_deliveries.specs.Delivery.{IsPlaceOf};
+ghost use Rattle.gm_shard.specs.Delivery.{IsPlaceOf};
 
 use crate::expect::expect_eq;
-use gm_deliveries::place::place_of;
-use gm_deliveries::status::{Delivery, Refused};
 use gm_frontier::note::Note;
 use gm_game::game::Game;
 use gm_locks::board::{Board, Four, Shares};
 use gm_locks::share::{ShardLedger, gained};
+use gm_shard::place::place_of;
 use gm_shard::shard::Shard;
+use gm_shard::status::{Delivery, Refused};
 use std::marker::Brand;
 use std::process::Abort;
 use std::sync::ledger::Blank;

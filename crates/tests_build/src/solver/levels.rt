@@ -4,7 +4,7 @@ ghost use Rattle.gm_game.specs.declared.position.Phase.TheVariants.{WinLose};
 ghost use Rattle.gm_table.specs.Tables.{AreHeld};
 ghost use Rattle.gm_frontier.specs.Levels.{place_at, AreTiles};
 ghost use Rattle.gm_frontier.specs.Tallies.{IsTile};
-ghost use Rattle.gm_deliveries.specs.Steps.{place_of};
+ghost use Rattle.gm_shard.specs.Steps.{place_of};
 
 use crate::expect::{expect, expect_eq, must};
 use crate::solver::records::{Known, hold, record};

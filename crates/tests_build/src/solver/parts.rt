@@ -1,10 +1,10 @@
 //! Plans, sources, the numbers of errors, and the limit on remoteness.
 use crate::expect::{expect_eq, must};
 use crate::solver::records::record;
-use gm_best::answer::AnswerError;
 use gm_build::build_error::BuildError;
-use gm_deliveries::status::{Refused, Short};
 use gm_game::position::Value;
+use gm_play::answers::AnswerError;
+use gm_shard::status::{Refused, Short};
 use gm_solver::alone::solve_alone;
 use gm_solver::error::SolveError;
 use gm_solver::plan::Plan;

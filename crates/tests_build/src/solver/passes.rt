@@ -1,18 +1,18 @@
 //! Desks with deliveries in order, used as by callers with workers of their own.
 ghost use Rattle.std.specs.Prelude.{◌≡◌, ◌-◌, ◌<◌, ◌≤◌, IfOk};
-ghost use Rattle.gm_deliveries.specs.State.{pairs_in};
-ghost use Rattle.gm_deliveries.specs.Begin.{first_state};
+ghost use Rattle.gm_shard.specs.State.{pairs_in};
+ghost use Rattle.gm_shard.specs.Begin.{first_state};
 ghost use Rattle.gm_locks.specs.Spots.{spot_of};
 ghost use Rattle.gm_locks.specs.Rounds.{place_of_spot, HasNoneHere, IsForSpot, IsLevelAt};
 
 use crate::expect::{expect, expect_eq, must};
-use gm_deliveries::status::{Delivery, Refused};
 use gm_frontier::expected::Expected;
 use gm_frontier::level::Level;
 use gm_game::game::Game;
 use gm_game::limits::{REMOTENESS, TIER_SIZE};
 use gm_locks::pass::{Pass, PassDesk, PassLedger};
 use gm_shard::ordered::OrderedShard;
+use gm_shard::status::{Delivery, Refused};
 use gm_solver::starts::starts;
 use gm_table::tables::Tables;
 use gm_testing::by_hand::begin_whole;

@@ -2,12 +2,11 @@
 ghost use Rattle.std.specs.Prelude.{◌≡◌, ◌≤◌};
 ghost use Rattle.gm_game.specs.declared.position.Phase.TheVariants.{Ties};
 ghost use Rattle.gm_table.specs.Tables.{AreHeld};
-ghost use Rattle.gm_deliveries.specs.Begin.{first_state};
+ghost use Rattle.gm_shard.specs.Begin.{first_state};
 ghost use Rattle.gm_testing.specs.ByHand.{IsOfTier};
 
 use crate::expect::{expect_eq, must};
 use crate::solver::records::record;
-use gm_deliveries::status::{Delivery, Refused, Short, Status};
 use gm_frontier::expected::Expected;
 use gm_frontier::level::Level;
 use gm_frontier::note::Note;
@@ -17,6 +16,7 @@ use gm_game::position::{Solved, Value};
 use gm_shard::event::Event;
 use gm_shard::replay::replay;
 use gm_shard::shard::Shard;
+use gm_shard::status::{Delivery, Refused, Short, Status};
 use gm_table::packed::Packed;
 use gm_table::tables::Tables;
 use gm_testing::by_hand::{at_ties, begin_counted, begin_whole, finish_phase, last_of};

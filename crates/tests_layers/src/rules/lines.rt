@@ -1,13 +1,13 @@
 //! Lines of play on Countdown, against replies of every kind.
-ghost use Rattle.gm_best.specs.Reached.{AreAllHeld};
+ghost use Rattle.gm_play.specs.Reached.{AreAllHeld};
 ghost use Rattle.gm_toys.specs.Countdown.{countdown};
 
 use crate::countdowns::countdown;
 use crate::expect::{expect_eq, must};
 use crate::rules::asking::at;
-use gm_best::side::Side;
 use gm_game::game::Game;
 use gm_play::play_line::{PlayLine, play_line};
+use gm_play::sides::Side;
 use gm_table::tables::Tables;
 use gm_toys::countdown::Countdown;
 use std::process::Abort;

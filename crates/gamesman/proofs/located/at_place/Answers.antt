@@ -1,7 +1,7 @@
 use Rattle.std.proofs.Common.{inl, inr, sym, subst}
 use Rattle.std.proofs.lemmas.Result.{err_from_is_err_and}
 use Rattle.gm_game.specs.declared.position.Position.{Position}
-use Rattle.gm_best.specs.Reached.{AreAllHeld}
+use Rattle.gm_play.specs.Reached.{AreAllHeld}
 use Rattle.gm_play.specs.PlaceTexts.{IsPositionText}
 use Rattle.gamesman.specs.declared.fault.Fault.TheVariants.{OutOfMemory}
 use Rattle.gamesman.specs.Searches.{IsAtText, IsUnplaced}

@@ -1,5 +1,4 @@
-use Rattle.std.proofs.Common.{◌≡◌}
-use Rattle.gm_analyse.specs.Numbers.{count_where, has_record}
+use Rattle.gm_analyse.proofs.Lower.{◌≡◌, count_where, has_record}
 use Rattle.gm_analyse.proofs.analysis.canonical_in.Given as goal
 
 abbrev pub invariant-loop-index : goal.invariant-loop-index

@@ -1,4 +1,4 @@
-use Rattle.std.proofs.lemmas.Result.{IfOk-from_err}
+use Rattle.gm_analyse.proofs.Lower.{IfOk-from_err}
 use Rattle.gm_analyse.proofs.bars.bar_rows.Goals as goal
 
 pub returns-in_err-push_bar : goal.returns-in_err-push_bar

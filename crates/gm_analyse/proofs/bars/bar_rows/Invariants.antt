@@ -1,5 +1,4 @@
-use Rattle.std.proofs.Common.{◌≡◌, take}
-use Rattle.std.specs.List.{flat_map}
+use Rattle.gm_analyse.proofs.Lower.{◌≡◌, take, flat_map}
 use Rattle.gm_analyse.specs.Bars.{bar_row}
 use Rattle.gm_analyse.proofs.bars.bar_rows.Given as goal
 

@@ -1,5 +1,4 @@
-use Rattle.std.proofs.Common.{refl}
-use Rattle.gm_analyse.specs.Bars.{csv_head, csv_row}
+use Rattle.gm_analyse.proofs.Lower.{refl, csv_head, csv_row}
 use Rattle.gm_analyse.proofs.Reporting.{written_more, written_all}
 use Rattle.gm_analyse.proofs.bars.csv_rows.Goals as goal
 

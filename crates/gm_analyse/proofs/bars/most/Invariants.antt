@@ -1,5 +1,5 @@
-use Rattle.std.proofs.Common.{◌≡◌, max, take, fold}
-use Rattle.gm_analyse.specs.declared.by_tier.TierCount.{TierCount}
+use Rattle.gm_analyse.proofs.Lower.{◌≡◌, max, take, TierCount}
+use Rattle.std.proofs.Common.{fold}
 use Rattle.gm_analyse.proofs.bars.most.Given as goal
 
 abbrev pub invariant-loop-x : goal.invariant-loop-x

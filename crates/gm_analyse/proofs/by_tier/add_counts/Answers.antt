@@ -1,4 +1,4 @@
-use Rattle.std.proofs.Common.{refl}
+use Rattle.gm_analyse.proofs.Lower.{refl}
 use Rattle.gm_analyse.proofs.Reporting.{count_more, counts_all}
 use Rattle.gm_analyse.proofs.by_tier.add_counts.Goals as goal
 

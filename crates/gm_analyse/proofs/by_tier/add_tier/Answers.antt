@@ -1,6 +1,5 @@
-use Rattle.std.proofs.Common.{[], inl, inr, subst}
-use Rattle.gm_game.proofs.Lists.{contains_none, contains_cases}
-use Rattle.gm_best.specs.Reached.{AreAllHeld}
+use Rattle.gm_analyse.proofs.Lower.{[], inl, inr, subst, contains_none, contains_cases}
+use Rattle.gm_play.specs.Reached.{AreAllHeld}
 use Rattle.gm_analyse.proofs.by_tier.add_tier.Goals as goal
 
 pub invariant_of-one : goal.invariant_of-one

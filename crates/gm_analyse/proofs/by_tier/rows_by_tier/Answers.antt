@@ -1,6 +1,4 @@
-use Rattle.std.proofs.Common.{get_or}
-use Rattle.std.proofs.lemmas.List.Elements.{Contains-get_or}
-use Rattle.std.specs.Option.{is_some}
+use Rattle.gm_analyse.proofs.Lower.{get_or, Contains-get_or, is_some}
 use Rattle.gm_analyse.proofs.Reporting.{tiers_next, tiers_all}
 use Rattle.gm_analyse.proofs.by_tier.rows_by_tier.Goals as goal
 

@@ -1,6 +1,4 @@
-use Rattle.std.proofs.Common.{take}
-use Rattle.std.specs.Option.{is_some}
-use Rattle.gm_analyse.specs.ByTier.{AreTierRows}
+use Rattle.gm_analyse.proofs.Lower.{take, is_some, AreTierRows}
 use Rattle.gm_analyse.proofs.by_tier.rows_by_tier.Given as goal
 
 abbrev pub invariant-loop-tier : goal.invariant-loop-tier

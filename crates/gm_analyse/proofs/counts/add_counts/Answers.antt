@@ -1,8 +1,5 @@
-use Rattle.std.proofs.Common.{◌≡◌, ◌+◌, ℕ, List, [], ◌∷◌, ◌++◌, Vec, length, get_or, sym, ap, ◌∙◌, subst, arith}
-use Rattle.std.proofs.lemmas.List.{get_or_past}
-use Rattle.std.specs.declared.alloc.Global.{Global}
-use Rattle.gm_analyse.specs.declared.counts.Count.{Count}
-use Rattle.gm_analyse.specs.Numbers.{rank, number_in}
+use Rattle.gm_analyse.proofs.Lower.{◌≡◌, ◌+◌, ℕ, List, [], ◌∷◌, ◌++◌, Vec, length, get_or, sym, ap, ◌∙◌, subst, arith, get_or_past, Global, Count, rank}
+use Rattle.gm_analyse.proofs.Lower.{number_in}
 use Rattle.gm_analyse.specs.Listing.{AreCountsBefore}
 use Rattle.gm_analyse.proofs.Lists.{with_count, without_count, next_value}
 use Rattle.gm_analyse.proofs.counts.add_counts.Goals as goal

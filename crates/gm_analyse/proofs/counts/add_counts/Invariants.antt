@@ -1,4 +1,4 @@
-use Rattle.gm_analyse.specs.Numbers.{rank}
+use Rattle.gm_analyse.proofs.Lower.{rank}
 use Rattle.gm_analyse.specs.Listing.{AreCountsBefore}
 use Rattle.gm_analyse.proofs.counts.add_counts.Given as goal
 

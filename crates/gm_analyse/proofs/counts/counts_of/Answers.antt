@@ -1,5 +1,4 @@
-use Rattle.std.proofs.lemmas.Result.{IfOk-from_err}
-use Rattle.std.proofs.Common.{◌≡◌, subst, arith}
+use Rattle.gm_analyse.proofs.Lower.{IfOk-from_err, ◌≡◌, subst, arith}
 use Rattle.gm_analyse.specs.Listing.{AreCountsBefore}
 use Rattle.gm_analyse.proofs.Lists.{all_counts}
 use Rattle.gm_analyse.proofs.counts.counts_of.Goals as goal

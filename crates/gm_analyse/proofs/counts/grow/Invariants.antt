@@ -1,4 +1,4 @@
-use Rattle.std.proofs.Common.{◌≡◌, ℕ, ◌+◌, ◌-◌, ◌≤◌, max, slice_index_or, vec_len}
+use Rattle.gm_analyse.proofs.Lower.{◌≡◌, ℕ, ◌+◌, ◌-◌, ◌≤◌, max, slice_index_or, vec_len}
 use Rattle.gm_analyse.proofs.counts.grow.Given as goal
 
 abbrev pub invariant-loop-numbers : goal.invariant-loop-numbers

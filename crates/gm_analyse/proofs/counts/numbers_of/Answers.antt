@@ -1,11 +1,6 @@
-use Rattle.std.proofs.Common.{◌≡◌, ◌<◌, ◌≤◌, ◌+◌, ℕ, None, Vec, vec_len, length, get_or, set, sym, ap, ◌∙◌, arith}
+use Rattle.gm_analyse.proofs.Lower.{◌≡◌, ◌<◌, ◌≤◌, ◌+◌, ℕ, None, Vec, vec_len, length, get_or, set, sym, ap, ◌∙◌, arith, Global, REMOTENESS, at, IsTrueValue}
+use Rattle.gm_analyse.proofs.Lower.{record_at, remoteness_in, number_in, is_solved}
 use Rattle.std.proofs.lemmas.Grind.{get_or_default_zero}
-use Rattle.std.specs.declared.alloc.Global.{Global}
-use Rattle.gm_game.specs.declared.limits.TheConstants.{REMOTENESS}
-use Rattle.gm_game.specs.Rules.{at}
-use Rattle.gm_game.specs.Values.{IsTrueValue}
-use Rattle.gm_table.specs.Tables.{record_at}
-use Rattle.gm_analyse.specs.Numbers.{remoteness_in, number_in, is_solved}
 use Rattle.gm_analyse.proofs.Counting.{count_le, within_limit, numbers_with, numbers_without}
 use Rattle.gm_analyse.proofs.counts.numbers_of.Goals as goal
 use Rattle.gm_analyse.proofs.counts.numbers_of.Goals.{in-Some+in_ok-grow, in_default}

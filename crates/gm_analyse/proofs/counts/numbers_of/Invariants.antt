@@ -1,6 +1,4 @@
-use Rattle.std.proofs.Common.{◌≡◌, ◌+◌, ◌≤◌, ℕ, slice_index_or, vec_len}
-use Rattle.gm_game.specs.declared.limits.TheConstants.{REMOTENESS}
-use Rattle.gm_analyse.specs.Numbers.{number_in}
+use Rattle.gm_analyse.proofs.Lower.{◌≡◌, ◌+◌, ◌≤◌, ℕ, slice_index_or, vec_len, REMOTENESS, number_in}
 use Rattle.gm_analyse.proofs.counts.numbers_of.Given as goal
 
 abbrev pub invariant-loop-index : goal.invariant-loop-index

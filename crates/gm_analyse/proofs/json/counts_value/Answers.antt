@@ -1,10 +1,7 @@
-use Rattle.std.proofs.Common.{◌≡◌, ℕ, ◌+◌, ◌<◌, List, [], ◌∷◌, ◌++◌, length, map, take, get_or, sym, ap, ◌∙◌}
-use Rattle.std.proofs.lemmas.List.{map-append, take_more, take_all}
-use Rattle.serde_json.specs.Data.{Data, array}
-use Rattle.serde_json.specs.View.{items_of}
+use Rattle.gm_analyse.proofs.Lower.{◌≡◌, ℕ, ◌+◌, ◌<◌, List, [], ◌∷◌, ◌++◌, length, map, take, get_or, sym, ap, ◌∙◌, map-append, take_more, take_all, Data}
+use Rattle.gm_analyse.proofs.Lower.{items_of, Count, count_tree}
+use Rattle.serde_json.specs.Data.{array}
 use Rattle.serde_json.proofs.Views.{view-Array}
-use Rattle.gm_analyse.specs.declared.counts.Count.{Count}
-use Rattle.gm_analyse.specs.Tree.{count_tree}
 use Rattle.gm_analyse.proofs.json.counts_value.Goals as goal
 
 -- the trees of some counts, and of one more

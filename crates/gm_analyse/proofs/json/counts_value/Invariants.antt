@@ -1,6 +1,4 @@
-use Rattle.std.proofs.Common.{◌≡◌, take, map}
-use Rattle.serde_json.specs.View.{view}
-use Rattle.gm_analyse.specs.Tree.{count_tree}
+use Rattle.gm_analyse.proofs.Lower.{◌≡◌, take, map, view, count_tree}
 use Rattle.gm_analyse.proofs.json.counts_value.Given as goal
 
 abbrev pub invariant-loop-count : goal.invariant-loop-count

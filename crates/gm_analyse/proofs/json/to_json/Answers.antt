@@ -1,8 +1,5 @@
-use Rattle.std.proofs.Common.{◌≡◌, ℕ, List, ap, ◌∙◌}
+use Rattle.gm_analyse.proofs.Lower.{◌≡◌, ℕ, List, ap, ◌∙◌, compact_text, view, name_text, analysis_tree}
 use Rattle.std.proofs.lemmas.Result.{IfOk-weaker}
-use Rattle.serde_json.specs.Written.{compact_text}
-use Rattle.serde_json.specs.View.{view}
-use Rattle.gm_analyse.specs.Tree.{name_text, analysis_tree}
 use Rattle.gm_analyse.proofs.NoFloat.{tree_no_float}
 use Rattle.gm_analyse.proofs.json.to_json.Goals as goal
 

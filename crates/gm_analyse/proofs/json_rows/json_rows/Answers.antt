@@ -1,7 +1,5 @@
-use Rattle.std.proofs.Common.{◌++◌, [], codes, ap}
-use Rattle.serde_json.specs.Data.{Data}
-use Rattle.serde_json.specs.Written.{compact_text}
-use Rattle.gm_analyse.specs.Bars.{json_row}
+use Rattle.gm_analyse.proofs.Lower.{◌++◌, [], ap, Data, compact_text, json_row}
+use Rattle.std.proofs.Common.{codes}
 use Rattle.gm_analyse.proofs.NoFloat.{row_no_float}
 use Rattle.gm_analyse.proofs.Reporting.{written_more, written_all}
 use Rattle.gm_analyse.proofs.json_rows.json_rows.Goals as goal

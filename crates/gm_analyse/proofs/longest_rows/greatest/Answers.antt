@@ -1,8 +1,4 @@
-use Rattle.std.proofs.Common.{List, ℕ, length, subst}
-use Rattle.std.specs.Option.{is_some}
-use Rattle.gm_find.specs.Finding.{all_positions}
-use Rattle.gm_analyse.specs.declared.among.Among.TheVariants.{Canonical}
-use Rattle.gm_analyse.specs.Longest.{IsLastAbove}
+use Rattle.gm_analyse.proofs.Lower.{List, ℕ, length, subst, is_some, all_positions, Canonical, IsLastAbove}
 use Rattle.gm_analyse.proofs.Reporting.{greatest_is}
 use Rattle.gm_analyse.proofs.longest_rows.greatest.Goals as goal
 

@@ -1,4 +1,4 @@
-use Rattle.std.specs.Option.{is_some}
+use Rattle.gm_analyse.proofs.Lower.{is_some}
 use Rattle.gm_analyse.proofs.Listed.{numbers_with, numbers_without, both_ok}
 use Rattle.gm_analyse.proofs.numbers.add_position.Goals as goal
 

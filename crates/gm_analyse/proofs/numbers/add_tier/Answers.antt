@@ -1,10 +1,6 @@
-use Rattle.std.proofs.Common.{◌≡◌, ◌+◌, ◌++◌, ◌∷◌, [], List, ℕ, map, sym, ap, ◌∙◌, subst, arith, append_assoc}
-use Rattle.std.specs.List.{range_with_len}
-use Rattle.std.specs.Option.{is_some}
+use Rattle.gm_analyse.proofs.Lower.{◌≡◌, ◌+◌, ◌++◌, ◌∷◌, [], List, ℕ, map, sym, ap, ◌∙◌, subst, arith, append_assoc, range_with_len, is_some, Position, at}
+use Rattle.gm_analyse.proofs.Lower.{AreNumbers}
 use Rattle.std.proofs.lemmas.List.FromFn.{map-range_with_len_more}
-use Rattle.gm_game.specs.declared.position.Position.{Position}
-use Rattle.gm_game.specs.Rules.{at}
-use Rattle.gm_analyse.specs.Totals.{AreNumbers}
 use Rattle.gm_analyse.proofs.numbers.add_tier.Goals as goal
 
 pub loop-index-preserved : goal.loop-index-preserved

@@ -1,10 +1,4 @@
-use Rattle.std.proofs.Common.{◌+◌, ◌≤◌, ◌++◌, List, map, vec_len}
-use Rattle.std.specs.List.{range_with_len}
-use Rattle.std.specs.Option.{is_some}
-use Rattle.gm_game.specs.declared.limits.TheConstants.{REMOTENESS}
-use Rattle.gm_game.specs.declared.position.Position.{Position}
-use Rattle.gm_game.specs.Rules.{at}
-use Rattle.gm_analyse.specs.Totals.{AreNumbers}
+use Rattle.gm_analyse.proofs.Lower.{◌+◌, ◌≤◌, ◌++◌, List, map, vec_len, range_with_len, is_some, REMOTENESS, Position, at, AreNumbers}
 use Rattle.gm_analyse.proofs.numbers.add_tier.Given as goal
 
 abbrev pub invariant-loop-index : goal.invariant-loop-index

@@ -1,4 +1,4 @@
-use Rattle.std.proofs.lemmas.Result.{IfOk-from_err}
+use Rattle.gm_analyse.proofs.Lower.{IfOk-from_err}
 use Rattle.gm_analyse.proofs.numbers.count.Goals as goal
 
 pub returns-in_err-push-clause-few : goal.returns-in_err-push-clause-few

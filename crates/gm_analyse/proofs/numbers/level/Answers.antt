@@ -1,6 +1,5 @@
-use Rattle.std.proofs.Common.{◌≡◌, sym, subst, rules}
-use Rattle.gm_game.specs.declared.position.Position.{Position}
-use Rattle.gm_game.proofs.Basic.{HasValue_once}
+use Rattle.gm_analyse.proofs.Lower.{◌≡◌, sym, subst, Position, HasValue_once}
+use Rattle.std.proofs.Common.{rules}
 use Rattle.gm_find.specs.Reaching.{IsReachedByPlay}
 use Rattle.gm_analyse.proofs.numbers.level.Goals as goal
 use Rattle.gm_analyse.proofs.numbers.level.Goals.{then-ne-via-then-ne, then-ne-via-else-ne+then-not-is_in}

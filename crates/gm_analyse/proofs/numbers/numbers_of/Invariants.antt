@@ -1,8 +1,4 @@
-use Rattle.std.proofs.Common.{◌+◌, ◌≤◌, take, vec_len}
-use Rattle.std.specs.Option.{is_some}
-use Rattle.gm_game.specs.declared.limits.TheConstants.{REMOTENESS}
-use Rattle.gm_find.specs.Finding.{all_positions}
-use Rattle.gm_analyse.specs.Totals.{AreNumbers}
+use Rattle.gm_analyse.proofs.Lower.{◌+◌, ◌≤◌, take, vec_len, is_some, REMOTENESS, all_positions, AreNumbers}
 use Rattle.gm_analyse.proofs.numbers.numbers_of.Given as goal
 
 abbrev pub invariant-loop-tier : goal.invariant-loop-tier

@@ -1,9 +1,5 @@
-use Rattle.std.proofs.Common.{◌≤◌, sym, subst, IfSome, Option}
-use Rattle.gm_game.specs.declared.limits.TheConstants.{REMOTENESS}
-use Rattle.gm_game.specs.declared.position.Solved.{Solved}
-use Rattle.gm_best.proofs.Small.{value_small}
-use Rattle.gm_analyse.specs.declared.among.Among.{Among}
-use Rattle.gm_analyse.specs.Totals.{IsRecordAmong}
+use Rattle.gm_analyse.proofs.Lower.{◌≤◌, sym, subst, IfSome, Option, REMOTENESS, Solved, Among, IsRecordAmong}
+use Rattle.gm_play.proofs.Small.{value_small}
 use Rattle.gm_analyse.proofs.Reporting.{canonical_among, legal_among}
 use Rattle.gm_analyse.proofs.numbers.record_among.Goals as goal
 

@@ -1,11 +1,5 @@
-use Rattle.std.proofs.Common.{◌≡◌, ◌+◌, ℕ, List, [], ◌∷◌, ◌++◌, Vec, length, get_or, sym, ap, ◌∙◌, subst, arith}
-use Rattle.std.proofs.lemmas.List.{get_or_past}
-use Rattle.std.specs.declared.alloc.Global.{Global}
-use Rattle.gm_analyse.specs.declared.counts.Count.{Count}
-use Rattle.gm_analyse.specs.Numbers.{rank}
-use Rattle.std.specs.Option.{is_some}
-use Rattle.gm_find.specs.Finding.{all_positions}
-use Rattle.gm_analyse.specs.Totals.{AreCountsBefore, IsNumber}
+use Rattle.gm_analyse.proofs.Lower.{◌≡◌, ◌+◌, ℕ, List, [], ◌∷◌, ◌++◌, Vec, length, get_or, sym, ap, ◌∙◌, subst, arith, get_or_past, Global, Count, rank}
+use Rattle.gm_analyse.proofs.Lower.{is_some, all_positions, AreCountsBefore, IsNumber}
 use Rattle.gm_analyse.proofs.Listed.{with_count, without_count, next_value}
 use Rattle.gm_analyse.proofs.totals.add_counts.Goals as goal
 use Rattle.gm_analyse.proofs.totals.add_counts.Goals.{then-number-gt0+in_ok-push, else-number-gt0}

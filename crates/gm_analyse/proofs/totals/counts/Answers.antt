@@ -1,8 +1,4 @@
-use Rattle.std.proofs.lemmas.Result.{IfOk-from_err}
-use Rattle.std.proofs.Common.{◌≡◌, ◌+◌, ℕ, sym, subst, arith}
-use Rattle.std.specs.Option.{is_some}
-use Rattle.gm_find.specs.Finding.{all_positions}
-use Rattle.gm_analyse.specs.Totals.{AreCountsBefore}
+use Rattle.gm_analyse.proofs.Lower.{IfOk-from_err, ◌≡◌, ◌+◌, ℕ, sym, subst, arith, is_some, all_positions, AreCountsBefore}
 use Rattle.gm_analyse.proofs.CountLists.{rank_listed}
 use Rattle.gm_analyse.proofs.Listed.{all_counts}
 use Rattle.gm_analyse.proofs.totals.counts.Goals as goal

@@ -1,6 +1,4 @@
-use Rattle.std.specs.Option.{is_some}
-use Rattle.gm_find.specs.Finding.{all_positions}
-use Rattle.gm_analyse.specs.Totals.{AreCountsBefore}
+use Rattle.gm_analyse.proofs.Lower.{is_some, all_positions, AreCountsBefore}
 use Rattle.gm_analyse.proofs.totals.counts.Given as goal
 
 abbrev pub invariant-loop-value : goal.invariant-loop-value

@@ -14,6 +14,7 @@ use Rattle.gm_build.proofs.build.build_from.Goals as goal
 pub loop-tier-init : goal.loop-tier-init
 loop-tier-init g c = record {
   so_far = rw (c.new-tables.ensures, c.none-work.ensures) (so_far_none g.G.Game.rules (IsTrue g.S.Store.KEEPS) (g.S.Store.texts c.args.store.now));
+  ahead = tt;
   count = refl;
 }
 
@@ -79,6 +80,7 @@ with_tier-work-requires g c =
 pub loop-tier-preserved : goal.loop-tier-preserved
 loop-tier-preserved g c = record {
   so_far = rw c.with_tier-work.ensures (so_far_next g (goal.at.loop-tier-preserved g c).In_ok-outcome);
+  ahead = c.in_ok-outcome.ensures.ahead;
   count = (let a = c.in_ok-outcome.ensures.count in let b = c.loop-tier.invariant.count in omega arith);
 }
 

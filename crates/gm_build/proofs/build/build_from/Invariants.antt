@@ -1,4 +1,5 @@
-use Rattle.std.proofs.Common.{◌≡◌, IsTrue, take}
+use Rattle.std.proofs.Common.{◌≡◌, IfSome, IsTrue, take}
+use Rattle.gm_build.specs.Steps.{IsAhead}
 use Rattle.gm_build.proofs.SoFar.{IsSoFar}
 use Rattle.gm_build.proofs.build.build_from.Given as goal
 
@@ -6,5 +7,6 @@ abbrev pub invariant-loop-tier : goal.invariant-loop-tier
 invariant-loop-tier g l = record {
   so_far : IsSoFar g.G.Game.rules (IsTrue g.S.Store.KEEPS) (g.S.Store.texts l.initial.store) (g.S.Store.texts l.store) l.tables
       (take l.tier-index l.tier-items) l.work;
+  ahead : IfSome l.ahead (IsAhead g.G.Game.rules);
   count : g.S.Store.failed l.store ≡ g.S.Store.failed l.initial.store;
 }

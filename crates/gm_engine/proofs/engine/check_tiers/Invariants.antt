@@ -1,5 +1,5 @@
 use Rattle.std.proofs.Common.{◌≡◌, ◌++◌, ℕ, List, take, drop}
-use Rattle.gm_best.specs.Reached.{AreClosed}
+use Rattle.gm_play.specs.Reached.{AreClosed}
 use Rattle.gm_engine.specs.Records.{AreTrue}
 use Rattle.gm_engine.specs.Refusing.{HaveTables}
 use Rattle.gm_engine.proofs.engine.check_tiers.Given as goal

@@ -1,8 +1,4 @@
-use Rattle.std.proofs.Common.{sym, subst}
-use Rattle.std.specs.List.{All}
-use Rattle.std.specs.Option.{is_some}
-use Rattle.gm_game.specs.declared.position.Position.{Position}
-use Rattle.gm_find.specs.Founds.{IsKnownAt}
+use Rattle.gm_find.proofs.Lower.{sym, subst, All, is_some, Position, IsKnownAt}
 use Rattle.gm_find.proofs.Picking.{picked_all}
 use Rattle.gm_find.proofs.Telling.{all_known}
 use Rattle.gm_find.proofs.choice.find_some.Goals as goal

@@ -1,9 +1,4 @@
-use Rattle.std.proofs.Common.{sym, subst, ◌∙◌}
-use Rattle.std.specs.List.{All}
-use Rattle.std.specs.Option.{is_some}
-use Rattle.gm_find.specs.Lists.{IsFirst}
-use Rattle.gm_find.specs.Finding.{IsMatch, all_positions}
-use Rattle.gm_find.specs.Founds.{IsKnownAt}
+use Rattle.gm_find.proofs.Lower.{sym, subst, ◌∙◌, All, is_some, IsFirst, IsMatch, all_positions, IsKnownAt}
 use Rattle.gm_find.proofs.Telling.{all_known, both_told}
 use Rattle.gm_find.proofs.found.find.Goals as goal
 

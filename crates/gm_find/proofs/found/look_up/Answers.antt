@@ -1,10 +1,6 @@
-use Rattle.std.proofs.Common.{◌≡◌, ◌+◌, List, ◌∷◌, [], ◌++◌, map, take, sym, ap, ◌∙◌, subst}
-use Rattle.std.specs.List.{All}
-use Rattle.std.proofs.lemmas.List.{take_more, take_all, map-append}
+use Rattle.gm_find.proofs.Lower.{◌≡◌, ◌+◌, List, ◌∷◌, [], ◌++◌, map, take, sym, ap, ◌∙◌, subst, All, take_more, take_all, map-append, Position, at, IsFound}
+use Rattle.gm_find.proofs.Lower.{position_of}
 use Rattle.std.proofs.lemmas.List.Elements.{All-push}
-use Rattle.gm_game.specs.declared.position.Position.{Position}
-use Rattle.gm_game.specs.Rules.{at}
-use Rattle.gm_find.specs.Founds.{IsFound, position_of}
 use Rattle.gm_find.proofs.found.look_up.Goals as goal
 
 pub loop-p-preserved : goal.loop-p-preserved

@@ -1,6 +1,4 @@
-use Rattle.std.proofs.Common.{◌≡◌, take, map}
-use Rattle.std.specs.List.{All}
-use Rattle.gm_find.specs.Founds.{IsFound, position_of}
+use Rattle.gm_find.proofs.Lower.{◌≡◌, take, map, All, IsFound, position_of}
 use Rattle.gm_find.proofs.found.look_up.Given as goal
 
 abbrev pub invariant-loop-p : goal.invariant-loop-p

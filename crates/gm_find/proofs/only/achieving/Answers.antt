@@ -1,7 +1,5 @@
-use Rattle.std.proofs.Common.{◌++◌, ◌∷◌, [], ℕ, List, take, get_or, sym, subst, arith, length-append, length-take}
-use Rattle.std.proofs.lemmas.List.{take_more}
-use Rattle.gm_find.specs.Lists.{AreThose}
-use Rattle.gm_find.specs.Finding.{Achieves}
+use Rattle.gm_find.proofs.Lower.{◌++◌, ◌∷◌, [], ℕ, List, take, get_or, sym, subst, arith, length-append, take_more, AreThose, Achieves}
+use Rattle.std.proofs.Common.{length-take}
 use Rattle.gm_find.proofs.ListLemmas.{those_push, those_skip, those_few}
 use Rattle.gm_find.proofs.only.achieving.Goals as goal
 use Rattle.gm_find.proofs.only.achieving.Goals.{then-achieves, else-achieves}

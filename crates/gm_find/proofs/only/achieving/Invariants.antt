@@ -1,6 +1,4 @@
-use Rattle.std.proofs.Common.{◌≡◌, ℕ, List, take, length}
-use Rattle.gm_find.specs.Lists.{AreThose}
-use Rattle.gm_find.specs.Finding.{Achieves}
+use Rattle.gm_find.proofs.Lower.{◌≡◌, ℕ, List, take, length, AreThose, Achieves}
 use Rattle.gm_find.proofs.only.achieving.Given as goal
 
 abbrev pub invariant-loop-m : goal.invariant-loop-m

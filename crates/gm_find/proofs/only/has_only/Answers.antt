@@ -1,5 +1,4 @@
-use Rattle.std.proofs.Common.{◌↔◌, ◌∙◌, Bool, IsTrue, nat_eq, sym, subst, eq-eqb, eqb-true}
-use Rattle.gm_find.specs.Finding.{HasOnly}
+use Rattle.gm_find.proofs.Lower.{◌↔◌, ◌∙◌, Bool, IsTrue, nat_eq, sym, subst, eq-eqb, eqb-true, HasOnly}
 use Rattle.gm_find.proofs.Matching.{only_is, is_only}
 use Rattle.gm_find.proofs.only.has_only.Goals as goal
 

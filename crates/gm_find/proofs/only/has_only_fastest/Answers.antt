@@ -1,4 +1,4 @@
-use Rattle.std.proofs.Common.{inl, inr}
+use Rattle.gm_find.proofs.Lower.{inl, inr}
 use Rattle.gm_find.proofs.Onlies.{no_fastest}
 use Rattle.gm_find.proofs.only.has_only_fastest.Goals as goal
 

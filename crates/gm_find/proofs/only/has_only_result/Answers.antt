@@ -1,7 +1,4 @@
-use Rattle.std.proofs.Common.{◌≡◌, ◌+◌, ◌++◌, ◌∷◌, [], ℕ, List, take, get_or, IsTrue, sym, ap, ◌∙◌, subst}
-use Rattle.std.specs.List.{Contains}
-use Rattle.std.proofs.lemmas.List.{take_more, take_all}
-use Rattle.std.proofs.lemmas.List.Elements.{Contains-get_or}
+use Rattle.gm_find.proofs.Lower.{◌≡◌, ◌+◌, ◌++◌, ◌∷◌, [], ℕ, List, take, get_or, IsTrue, sym, ap, ◌∙◌, subst, Contains, take_more, take_all, Contains-get_or}
 use Rattle.gm_find.proofs.Onlies.{IsOnlySoFar, contains_taken, only_skip, only_more, only_two, only_all}
 use Rattle.gm_find.proofs.only.has_only_result.Goals as goal
 use Rattle.gm_find.proofs.only.has_only_result.Goals.{then-achieves+else-not-agrees, else-achieves}

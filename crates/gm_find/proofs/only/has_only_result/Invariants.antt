@@ -1,4 +1,4 @@
-use Rattle.std.proofs.Common.{take}
+use Rattle.gm_find.proofs.Lower.{take}
 use Rattle.gm_find.proofs.Onlies.{IsOnlySoFar}
 use Rattle.gm_find.proofs.only.has_only_result.Given as goal
 

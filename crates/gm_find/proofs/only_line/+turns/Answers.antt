@@ -1,11 +1,6 @@
-use Rattle.std.proofs.Common.{◌<◌, ◌-◌, ℕ, List, get_or, refl, sym, ◌∙◌, subst, arith}
-use Rattle.std.specs.List.{Contains}
-use Rattle.std.proofs.lemmas.List.{take_all}
-use Rattle.std.proofs.lemmas.List.Elements.{Contains-get_or}
-use Rattle.gm_game.specs.declared.position.Position.{Position}
-use Rattle.gm_game.specs.declared.position.Value.TheVariants.{Win}
-use Rattle.gm_game.specs.Values.{HasValue}
-use Rattle.gm_find.specs.Finding.{IsOnlyWin, IsOnlyAfter, IsOnlyDefence, AfterDefence}
+use Rattle.gm_find.proofs.Lower.{◌<◌, ◌-◌, ℕ, List, get_or, refl, sym, ◌∙◌, subst, arith, Contains, take_all, Contains-get_or, Position, Win, HasValue}
+use Rattle.gm_find.proofs.Lower.{IsOnlyWin, IsOnlyAfter, IsOnlyDefence}
+use Rattle.gm_find.specs.Finding.{AfterDefence}
 use Rattle.gm_find.proofs.Onlies.{each_more, turn_parts, turn_from, same_answer, win_is, is_win}
 use Rattle.gm_find.proofs.only_line.+turns.Goals as goal
 

@@ -1,6 +1,5 @@
-use Rattle.std.proofs.Common.{ℕ, ◌*◌, ◌+◌, ◌-◌, take}
-use Rattle.std.specs.List.{Contains}
-use Rattle.gm_find.specs.Finding.{IsOnlyAfter, IsOnlyDefence}
+use Rattle.gm_find.proofs.Lower.{ℕ, ◌+◌, ◌-◌, take, Contains, IsOnlyAfter, IsOnlyDefence}
+use Rattle.std.proofs.Common.{◌*◌}
 use Rattle.gm_find.proofs.only_line.+turns.Given as goal
 
 abbrev pub decreases-is_only_win : goal.decreases-is_only_win

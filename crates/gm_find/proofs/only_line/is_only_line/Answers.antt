@@ -1,4 +1,4 @@
-use Rattle.std.proofs.Common.{inl, inr}
+use Rattle.gm_find.proofs.Lower.{inl, inr}
 use Rattle.gm_find.proofs.Onlies.{no_line}
 use Rattle.gm_find.proofs.only_line.is_only_line.Goals as goal
 

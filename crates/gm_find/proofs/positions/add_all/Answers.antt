@@ -1,11 +1,6 @@
-use Rattle.std.proofs.Common.{◌≡◌, ◌-◌, ◌+◌, ◌++◌, ◌∷◌, [], List, map, take, length, sym, subst, arith}
-use Rattle.std.specs.List.{range_with_len}
-use Rattle.std.specs.Option.{is_some}
+use Rattle.gm_find.proofs.Lower.{◌≡◌, ◌-◌, ◌+◌, ◌++◌, ◌∷◌, [], List, map, take, length, sym, subst, arith, range_with_len, is_some, Position, at, IsFirst}
+use Rattle.gm_find.proofs.Lower.{IsMatch, positions_in}
 use Rattle.std.proofs.lemmas.List.FromFn.{map-range_with_len_more, take-map-range_with_len}
-use Rattle.gm_game.specs.declared.position.Position.{Position}
-use Rattle.gm_game.specs.Rules.{at}
-use Rattle.gm_find.specs.Lists.{IsFirst}
-use Rattle.gm_find.specs.Finding.{IsMatch, positions_in}
 use Rattle.gm_find.proofs.ListLemmas.{first_more, first_full}
 use Rattle.gm_find.proofs.positions.add_all.Goals as goal
 

@@ -1,10 +1,4 @@
-use Rattle.std.proofs.Common.{◌≡◌, ◌-◌, ◌++◌, List, map, length}
-use Rattle.std.specs.List.{range_with_len}
-use Rattle.std.specs.Option.{is_some}
-use Rattle.gm_game.specs.declared.position.Position.{Position}
-use Rattle.gm_game.specs.Rules.{at}
-use Rattle.gm_find.specs.Lists.{IsFirst}
-use Rattle.gm_find.specs.Finding.{IsMatch}
+use Rattle.gm_find.proofs.Lower.{◌≡◌, ◌-◌, ◌++◌, List, map, length, range_with_len, is_some, Position, at, IsFirst, IsMatch}
 use Rattle.gm_find.proofs.positions.add_all.Given as goal
 
 abbrev pub invariant-loop-index : goal.invariant-loop-index

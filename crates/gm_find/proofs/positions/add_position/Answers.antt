@@ -1,7 +1,4 @@
-use Rattle.std.proofs.Common.{◌-◌, ◌∷◌, [], length, sym, arith}
-use Rattle.std.proofs.lemmas.List.{append-nil}
-use Rattle.std.specs.Option.{is_some}
-use Rattle.gm_find.specs.Finding.{IsMatch}
+use Rattle.gm_find.proofs.Lower.{◌-◌, ◌∷◌, [], length, sym, arith, append-nil, is_some, IsMatch}
 use Rattle.gm_find.proofs.ListLemmas.{first_is, first_not}
 use Rattle.gm_find.proofs.positions.add_position.Goals as goal
 

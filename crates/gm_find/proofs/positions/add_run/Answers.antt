@@ -1,10 +1,5 @@
-use Rattle.std.proofs.Common.{◌≡◌, ◌-◌, ◌+◌, ◌++◌, ◌∷◌, [], ℕ, List, map, take, length, get_or, ap, sym, subst, arith, ◌∙◌}
-use Rattle.std.specs.Option.{is_some}
-use Rattle.std.proofs.lemmas.List.{take_more, take_all, map-append}
-use Rattle.gm_game.specs.declared.position.Position.{Position}
-use Rattle.gm_game.specs.Rules.{at}
-use Rattle.gm_find.specs.Lists.{IsFirst}
-use Rattle.gm_find.specs.Finding.{IsMatch}
+use Rattle.gm_find.proofs.Lower.{◌≡◌, ◌-◌, ◌+◌, ◌++◌, ◌∷◌, [], ℕ, List, map, take, length, get_or, ap, sym, subst, arith, ◌∙◌, is_some, take_more, take_all}
+use Rattle.gm_find.proofs.Lower.{map-append, Position, at, IsFirst, IsMatch}
 use Rattle.gm_find.proofs.ListLemmas.{first_more, first_full, take_map}
 use Rattle.gm_find.proofs.positions.add_run.Goals as goal
 

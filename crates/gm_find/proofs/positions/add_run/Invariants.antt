@@ -1,9 +1,4 @@
-use Rattle.std.proofs.Common.{◌≡◌, ◌-◌, ◌++◌, List, map, take, length}
-use Rattle.std.specs.Option.{is_some}
-use Rattle.gm_game.specs.declared.position.Position.{Position}
-use Rattle.gm_game.specs.Rules.{at}
-use Rattle.gm_find.specs.Lists.{IsFirst}
-use Rattle.gm_find.specs.Finding.{IsMatch}
+use Rattle.gm_find.proofs.Lower.{◌≡◌, ◌-◌, ◌++◌, List, map, take, length, is_some, Position, at, IsFirst, IsMatch}
 use Rattle.gm_find.proofs.positions.add_run.Given as goal
 
 abbrev pub invariant-loop-i : goal.invariant-loop-i

@@ -1,10 +1,5 @@
-use Rattle.std.proofs.Common.{◌-◌, length, sym, ◌∙◌}
-use Rattle.std.specs.Option.{is_some}
+use Rattle.gm_find.proofs.Lower.{◌-◌, length, sym, ◌∙◌, is_some, Position, at, held_own, IsMatch}
 use Rattle.std.proofs.lemmas.Result.{on_ok_weaker}
-use Rattle.gm_game.specs.declared.position.Position.{Position}
-use Rattle.gm_game.specs.Rules.{at}
-use Rattle.gm_best.proofs.Held.{held_own}
-use Rattle.gm_find.specs.Finding.{IsMatch}
 use Rattle.gm_find.proofs.ListLemmas.{run_first}
 use Rattle.gm_find.proofs.Matching.{run_has}
 use Rattle.gm_find.proofs.positions.add_tier.Goals as goal

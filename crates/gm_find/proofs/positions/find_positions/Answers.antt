@@ -1,11 +1,6 @@
-use Rattle.std.proofs.Common.{◌≡◌, ◌+◌, ◌++◌, ◌∷◌, [], ℕ, List, take, get_or, ap, sym, subst, ◌∙◌}
-use Rattle.std.specs.Option.{is_some}
-use Rattle.std.proofs.lemmas.List.{take_more, take_all, append-nil}
-use Rattle.std.proofs.lemmas.List.Elements.{Contains-get_or}
+use Rattle.gm_find.proofs.Lower.{◌≡◌, ◌+◌, ◌++◌, ◌∷◌, [], ℕ, List, take, get_or, ap, sym, subst, ◌∙◌, is_some, take_more, take_all, append-nil, Contains-get_or}
+use Rattle.gm_find.proofs.Lower.{Position, IsFirst, IsMatch, positions_in, all_positions}
 use Rattle.std.proofs.lemmas.Grind.{flat_map-append}
-use Rattle.gm_game.specs.declared.position.Position.{Position}
-use Rattle.gm_find.specs.Lists.{IsFirst}
-use Rattle.gm_find.specs.Finding.{IsMatch, positions_in, all_positions}
 use Rattle.gm_find.proofs.ListLemmas.{first_append}
 use Rattle.gm_find.proofs.positions.find_positions.Goals as goal
 

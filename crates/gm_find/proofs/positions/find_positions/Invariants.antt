@@ -1,7 +1,4 @@
-use Rattle.std.proofs.Common.{take}
-use Rattle.std.specs.Option.{is_some}
-use Rattle.gm_find.specs.Lists.{IsFirst}
-use Rattle.gm_find.specs.Finding.{IsMatch, all_positions}
+use Rattle.gm_find.proofs.Lower.{take, is_some, IsFirst, IsMatch, all_positions}
 use Rattle.gm_find.proofs.positions.find_positions.Given as goal
 
 abbrev pub invariant-loop-tier : goal.invariant-loop-tier

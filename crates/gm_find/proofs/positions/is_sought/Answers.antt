@@ -1,5 +1,4 @@
-use Rattle.std.specs.Option.{is_some}
-use Rattle.gm_best.proofs.Held.{held_own}
+use Rattle.gm_find.proofs.Lower.{is_some, held_own}
 use Rattle.gm_find.proofs.Matching.{fitting}
 use Rattle.gm_find.proofs.positions.is_sought.Goals as goal
 

@@ -1,7 +1,5 @@
-use Rattle.std.proofs.Common.{ap, ◌∙◌}
-use Rattle.std.specs.List.{flat_map}
+use Rattle.gm_find.proofs.Lower.{ap, ◌∙◌, flat_map, found_row}
 use Rattle.std.proofs.lemmas.Result.{IfOk-weaker}
-use Rattle.gm_find.specs.Rows.{found_row}
 use Rattle.gm_find.proofs.rows.find_text.Goals as goal
 
 pub returns : goal.returns

@@ -1,8 +1,4 @@
-use Rattle.std.proofs.Common.{◌++◌, ◌∷◌, [], List, get_or, take, length, sym, ap, ◌∙◌, subst, arith, length-append}
-use Rattle.std.proofs.lemmas.List.{take_more}
-use Rattle.gm_game.specs.declared.position.Position.{Position}
-use Rattle.gm_game.specs.Rules.{at}
-use Rattle.gm_find.specs.Samples.{ArePicked}
+use Rattle.gm_find.proofs.Lower.{◌++◌, ◌∷◌, [], List, get_or, take, length, sym, ap, ◌∙◌, subst, arith, length-append, take_more, Position, at, ArePicked}
 use Rattle.gm_find.proofs.Picking.{picked_skip, picked_push}
 use Rattle.gm_find.proofs.sample.sample_of.Goals as goal
 use Rattle.gm_find.proofs.sample.sample_of.Goals.{then-number_below-wanted+in_ok-push, else-number_below-wanted}

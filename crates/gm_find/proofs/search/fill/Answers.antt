@@ -1,7 +1,4 @@
-use Rattle.std.proofs.Common.{◌≡◌, ◌⊎◌, sym, ap, subst, ◌∙◌}
-use Rattle.std.specs.List.{Contains}
-use Rattle.gm_game.specs.declared.position.Position.{Position}
-use Rattle.gm_find.specs.Reaching.{key_of}
+use Rattle.gm_find.proofs.Lower.{◌≡◌, ◌⊎◌, sym, ap, subst, ◌∙◌, Contains, Position, key_of}
 use Rattle.gm_find.proofs.Searching.{searched_none, searched_more, all_searched, reached_legal, last_reached}
 use Rattle.gm_find.proofs.search.fill.Goals as goal
 

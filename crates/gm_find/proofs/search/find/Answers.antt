@@ -1,5 +1,4 @@
-use Rattle.std.proofs.Common.{sym, subst}
-use Rattle.gm_find.specs.Reaching.{AreWaiting}
+use Rattle.gm_find.proofs.Lower.{sym, subst, AreWaiting}
 use Rattle.gm_find.proofs.Keys.{inserted_grown, inserted_there, inserted_only, inserted_new}
 use Rattle.gm_find.proofs.search.find.Goals as goal
 

@@ -1,9 +1,5 @@
 use Rattle.std.proofs.lemmas.Result.{IfOk-from_err}
-use Rattle.std.proofs.Common.{◌≡◌, inl, inr, List, take, sym, subst, ◌∙◌, arith}
-use Rattle.std.specs.List.{Contains}
-use Rattle.std.proofs.lemmas.List.{take_all}
-use Rattle.gm_game.specs.declared.position.Position.{Position}
-use Rattle.gm_game.specs.Rules.{at}
+use Rattle.gm_find.proofs.Lower.{◌≡◌, inl, inr, List, take, sym, subst, ◌∙◌, arith, Contains, take_all, Position, at}
 use Rattle.gm_find.proofs.Searching.{children_more, waiting_again}
 use Rattle.gm_find.proofs.search.find_children.Goals as goal
 

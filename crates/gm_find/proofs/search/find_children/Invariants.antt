@@ -1,7 +1,4 @@
-use Rattle.std.proofs.Common.{take, ◌⊎◌}
-use Rattle.std.specs.List.{Contains}
-use Rattle.gm_game.specs.declared.position.Position.{Position}
-use Rattle.gm_find.specs.Reaching.{IsGrown, AreWaiting, key_of}
+use Rattle.gm_find.proofs.Lower.{take, ◌⊎◌, Contains, Position, IsGrown, AreWaiting, key_of}
 use Rattle.gm_find.proofs.search.find_children.Given as goal
 
 abbrev pub invariant-loop-child : goal.invariant-loop-child

@@ -1,5 +1,4 @@
-use Rattle.std.proofs.Common.{◌∙◌, refl, get_or}
-use Rattle.gm_frontier.specs.Levels.{IsBelow}
+use Rattle.gm_frontier.proofs.Lower.{◌∙◌, refl, get_or, IsBelow}
 use Rattle.gm_frontier.proofs.LastLemmas.{below_end, below_at}
 use Rattle.gm_frontier.proofs.PieceLemmas.{all_more}
 use Rattle.gm_frontier.proofs.last.are_below.Goals as goal

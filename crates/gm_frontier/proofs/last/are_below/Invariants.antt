@@ -1,6 +1,4 @@
-use Rattle.std.proofs.Common.{ℕ, take}
-use Rattle.std.specs.List.{Contains}
-use Rattle.gm_frontier.specs.Levels.{IsBelow}
+use Rattle.gm_frontier.proofs.Lower.{ℕ, take, Contains, IsBelow}
 use Rattle.gm_frontier.proofs.last.are_below.Given as goal
 
 abbrev pub invariant-loop-tier : goal.invariant-loop-tier

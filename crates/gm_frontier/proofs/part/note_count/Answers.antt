@@ -1,6 +1,5 @@
-use Rattle.std.proofs.Common.{◌≡◌, List, length, get_or, ap, sym, ◌∙◌, arith}
+use Rattle.gm_frontier.proofs.Lower.{◌≡◌, List, length, get_or, ap, sym, ◌∙◌, arith, NoteData}
 use Rattle.std.proofs.lemmas.List.Folds.{length-flat_map-take}
-use Rattle.gm_frontier.specs.Notes.{NoteData}
 use Rattle.gm_frontier.proofs.part.note_count.Goals as goal
 
 pub overflow_add-count : goal.overflow_add-count

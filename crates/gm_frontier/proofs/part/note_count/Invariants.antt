@@ -1,5 +1,4 @@
-use Rattle.std.proofs.Common.{◌≡◌, length, take}
-use Rattle.gm_frontier.specs.Notes.{joined}
+use Rattle.gm_frontier.proofs.Lower.{◌≡◌, length, take, joined}
 use Rattle.gm_frontier.proofs.part.note_count.Given as goal
 
 abbrev pub invariant-loop-part : goal.invariant-loop-part

@@ -1,4 +1,4 @@
-use Rattle.std.proofs.Common.{refl, ◌∙◌, arith, rules}
+use Rattle.gm_frontier.proofs.Lower.{refl, ◌∙◌, arith, rules}
 use Rattle.gm_frontier.proofs.PieceLemmas.{found_in_whole, parts_left, same_length, same_within, passed_left, passed_same}
 use Rattle.gm_frontier.proofs.part.note_in.Goals as goal
 

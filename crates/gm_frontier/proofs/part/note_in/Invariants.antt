@@ -1,5 +1,4 @@
-use Rattle.std.proofs.Common.{◌≡◌, ◌<◌, ◌-◌, length, get_or, drop}
-use Rattle.gm_frontier.specs.Notes.{NoteData, joined}
+use Rattle.gm_frontier.proofs.Lower.{◌≡◌, ◌<◌, ◌-◌, length, get_or, drop, NoteData, joined}
 use Rattle.gm_frontier.proofs.part.note_in.Given as goal
 
 abbrev pub invariant-loop-left : goal.invariant-loop-left

@@ -1,12 +1,6 @@
-use Rattle.std.proofs.lemmas.Result.{IfOk-from_err}
-use Rattle.std.proofs.Common.{ℕ, List, ◌++◌, get_or, refl, sym, ap, subst, ◌∙◌, append-nil}
-use Rattle.std.specs.List.{Contains, flat_map}
-use Rattle.std.proofs.lemmas.List.{take_all}
-use Rattle.std.proofs.lemmas.List.Elements.{Contains-get_or}
-use Rattle.gm_game.proofs.Lists.{contains_none}
-use Rattle.gm_frontier.specs.Notes.{joined}
-use Rattle.gm_frontier.specs.Levels.{IsChildPart}
-use Rattle.gm_frontier.specs.Records.{notes_of_tier}
+use Rattle.gm_frontier.proofs.Lower.{IfOk-from_err, ℕ, List, ◌++◌, get_or, refl, sym, ap, subst, ◌∙◌, Contains, flat_map, take_all, Contains-get_or}
+use Rattle.gm_frontier.proofs.Lower.{contains_none, joined, IsChildPart, notes_of_tier}
+use Rattle.std.proofs.Common.{append-nil}
 use Rattle.gm_frontier.proofs.PieceLemmas.{joined_more, all_more}
 use Rattle.gm_frontier.proofs.part.push_children.Goals as goal
 

@@ -1,8 +1,4 @@
-use Rattle.std.proofs.Common.{◌≡◌, ℕ, ◌++◌, take}
-use Rattle.std.specs.List.{Contains, flat_map}
-use Rattle.gm_frontier.specs.Levels.{IsChildPart}
-use Rattle.gm_frontier.specs.Records.{notes_of_tier}
-use Rattle.gm_frontier.specs.Notes.{joined}
+use Rattle.gm_frontier.proofs.Lower.{◌≡◌, ℕ, ◌++◌, take, Contains, flat_map, IsChildPart, notes_of_tier, joined}
 use Rattle.gm_frontier.proofs.part.push_children.Given as goal
 
 abbrev pub invariant-loop-tier : goal.invariant-loop-tier

@@ -1,4 +1,4 @@
-use Rattle.std.proofs.lemmas.Result.{IfOk-from_err}
+use Rattle.gm_frontier.proofs.Lower.{IfOk-from_err}
 use Rattle.gm_frontier.proofs.part.push_part.Goals as goal
 
 pub returns-in_err-push : goal.returns-in_err-push

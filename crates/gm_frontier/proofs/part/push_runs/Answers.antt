@@ -1,7 +1,4 @@
-use Rattle.std.proofs.lemmas.Result.{IfOk-from_err}
-use Rattle.std.proofs.Common.{◌∙◌}
-use Rattle.gm_frontier.specs.Notes.{joined}
-use Rattle.gm_frontier.specs.Levels.{RunData, IsRun}
+use Rattle.gm_frontier.proofs.Lower.{IfOk-from_err, ◌∙◌, joined, RunData, IsRun}
 use Rattle.gm_frontier.proofs.PieceLemmas.{joined_more, all_more, all_taken}
 use Rattle.gm_frontier.proofs.part.push_runs.Goals as goal
 

@@ -1,7 +1,4 @@
-use Rattle.std.proofs.Common.{◌≡◌, ◌++◌, take}
-use Rattle.std.specs.List.{flat_map}
-use Rattle.gm_frontier.specs.Levels.{AreRuns}
-use Rattle.gm_frontier.specs.Notes.{joined}
+use Rattle.gm_frontier.proofs.Lower.{◌≡◌, ◌++◌, take, flat_map, AreRuns, joined}
 use Rattle.gm_frontier.proofs.part.push_runs.Given as goal
 
 abbrev pub invariant-loop-run : goal.invariant-loop-run

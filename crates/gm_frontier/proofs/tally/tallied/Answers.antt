@@ -1,6 +1,4 @@
-use Rattle.std.proofs.Common.{◌+◌, sym, ap, ◌∙◌, arith, List, get_or, sum_by}
-use Rattle.std.proofs.lemmas.List.{take_all}
-use Rattle.gm_frontier.specs.Tallies.{TallyData, IsTally}
+use Rattle.gm_frontier.proofs.Lower.{◌+◌, sym, ap, ◌∙◌, arith, List, get_or, sum_by, take_all, TallyData, IsTally}
 use Rattle.gm_frontier.proofs.PieceLemmas.{all_more, all_taken}
 use Rattle.gm_frontier.proofs.SumLemmas.{sum_more}
 use Rattle.gm_frontier.proofs.TalliedLemmas.{tile_of, so_far, finished, none_into, none_first, first_in, none_tallied}

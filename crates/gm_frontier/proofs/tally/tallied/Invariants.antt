@@ -1,6 +1,4 @@
-use Rattle.std.proofs.Common.{◌≡◌, sum_by, take, get_or}
-use Rattle.std.specs.List.{Contains}
-use Rattle.gm_frontier.specs.Tallies.{TallyData, IsTally}
+use Rattle.gm_frontier.proofs.Lower.{◌≡◌, sum_by, take, get_or, Contains, TallyData, IsTally}
 use Rattle.gm_frontier.proofs.tally.tallied.Given as goal
 
 abbrev pub invariant-loop-tally : goal.invariant-loop-tally

@@ -1,8 +1,5 @@
-use Rattle.std.proofs.Common.{rules, ◌≡◌, ◌∙◌, ℕ, ◌+◌, ◌<◌, ◌/◌, List, length, get_or, subst}
-use Rattle.std.specs.List.{Contains}
-use Rattle.gm_game.proofs.Lists.{contains_first, contains_later}
-use Rattle.gm_frontier.specs.Notes.{NoteData}
-use Rattle.gm_frontier.specs.Tallies.{tile_count}
+use Rattle.gm_frontier.proofs.Lower.{rules, ◌≡◌, ◌∙◌, ℕ, ◌+◌, ◌<◌, ◌/◌, List, length, get_or, subst, Contains, contains_first, contains_later, NoteData}
+use Rattle.gm_frontier.proofs.Lower.{tile_count}
 use Rattle.gm_frontier.proofs.TallyLemmas.{counted_more, room_left}
 use Rattle.gm_frontier.proofs.tally.tile_counts.Goals as goal
 

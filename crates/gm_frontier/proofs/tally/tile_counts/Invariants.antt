@@ -1,7 +1,5 @@
-use Rattle.std.proofs.Common.{◌≡◌, ℕ, ◌<◌, ◌+◌, ◌/◌, vec_len, get_or}
-use Rattle.std.specs.List.{Contains}
-use Rattle.gm_frontier.specs.Notes.{NoteData}
-use Rattle.gm_frontier.specs.Tallies.{tile_count}
+use Rattle.gm_frontier.proofs.Lower.{◌≡◌, ℕ, ◌<◌, ◌+◌, ◌/◌, get_or, Contains, NoteData, tile_count}
+use Rattle.std.proofs.Common.{vec_len}
 use Rattle.gm_frontier.proofs.tally.tile_counts.Given as goal
 
 abbrev pub invariant-loop-parent : goal.invariant-loop-parent

@@ -1,5 +1,4 @@
-use Rattle.std.proofs.Common.{◌<◌, length, sym, arith}
-use Rattle.std.proofs.lemmas.List.{length-take, take_all}
+use Rattle.gm_json.proofs.Lower.{◌<◌, length, sym, arith, length-take, take_all}
 use Rattle.gm_json.proofs.answer.first_bytes.Goals as goal
 
 pub slice_bounds-result-end : goal.slice_bounds-result-end

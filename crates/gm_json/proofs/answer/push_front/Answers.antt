@@ -1,9 +1,5 @@
-use Rattle.std.proofs.Common.{◌++◌, ◌∷◌, Bool, false, codes, sym, ap, ◌∙◌}
-use Rattle.std.specs.Prelude.{if◌then◌else◌}
-use Rattle.std.proofs.lemmas.Result.{on_ok_weaker}
-use Rattle.serde_json.specs.Data.{Members, member}
-use Rattle.serde_json.specs.Written.{members_text}
-use Rattle.gm_json.specs.Moves.{move_trees, position_members}
+use Rattle.gm_json.proofs.Lower.{◌++◌, ◌∷◌, Bool, false, codes, sym, ap, ◌∙◌, if◌then◌else◌, on_ok_weaker, Members, member, members_text, move_trees}
+use Rattle.gm_json.proofs.Lower.{position_members}
 use Rattle.gm_json.proofs.Writing.{opened, member_next}
 use Rattle.gm_json.proofs.answer.push_front.Goals as goal
 

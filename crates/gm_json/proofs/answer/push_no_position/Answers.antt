@@ -1,9 +1,5 @@
-use Rattle.std.proofs.Common.{◌≡◌, ◌++◌, ◌∷◌, List, ℕ, true, false, codes, ap, refl, ◌∙◌}
-use Rattle.std.proofs.lemmas.Result.{on_ok_weaker}
-use Rattle.serde_json.specs.Data.{Members, member, no_members, string}
-use Rattle.serde_json.specs.Written.{members_text}
-use Rattle.gm_json.specs.Words.{whole, text}
-use Rattle.gm_json.specs.Parts.{member_text}
+use Rattle.gm_json.proofs.Lower.{◌≡◌, ◌++◌, ◌∷◌, List, ℕ, true, false, codes, ap, refl, ◌∙◌, on_ok_weaker, Members, member, no_members, string, members_text}
+use Rattle.gm_json.proofs.Lower.{whole, text, member_text}
 use Rattle.gm_json.proofs.Writing.{opened, member_next, clear_lossy}
 use Rattle.gm_json.proofs.answer.push_no_position.Goals as goal
 

@@ -1,9 +1,4 @@
-use Rattle.std.proofs.Common.{◌+◌, [], List, ℕ, drop, subst, arith}
-use Rattle.std.proofs.lemmas.List.{drop_more, drop_all}
-use Rattle.std.proofs.lemmas.Result.{on_ok_weaker}
-use Rattle.gm_json.specs.Answers.{IsAnswer}
-use Rattle.gm_json.specs.Asking.{IsOfOutput}
-use Rattle.gm_json.specs.Midst.{Midst}
+use Rattle.gm_json.proofs.Lower.{◌+◌, [], List, ℕ, drop, subst, arith, drop_more, drop_all, on_ok_weaker, IsAnswer, IsOfOutput, Midst}
 use Rattle.gm_json.proofs.Serving.{opens, closes, unwritten, broken_output}
 use Rattle.gm_json.proofs.Exits.{passed, err_kind}
 use Rattle.gm_json.proofs.ask.answer_block.Goals as goal

@@ -1,7 +1,4 @@
-use Rattle.std.proofs.Common.{ℕ, List, Option, ◌+◌, ◌≤◌, drop}
-use Rattle.std.specs.Io.KnownBytes.{Consumes}
-use Rattle.gm_json.specs.Answers.{IsAnswer}
-use Rattle.gm_json.specs.Midst.{GoesOn, Midst}
+use Rattle.gm_json.proofs.Lower.{ℕ, List, Option, ◌+◌, ◌≤◌, drop, Consumes, IsAnswer, GoesOn, Midst}
 use Rattle.gm_json.proofs.ask.answer_block.Given as goal
 
 abbrev pub invariant-loop-byte : goal.invariant-loop-byte

@@ -1,8 +1,5 @@
-use Rattle.std.proofs.Common.{◌≡◌, ◌<◌, length, arith, rules}
+use Rattle.gm_json.proofs.Lower.{◌≡◌, ◌<◌, length, arith, rules, on_ok_weaker, IsAnswer, IsOfOutput}
 use Rattle.std.proofs.KnownBytes.{Keeps-refl}
-use Rattle.std.proofs.lemmas.Result.{on_ok_weaker}
-use Rattle.gm_json.specs.Answers.{IsAnswer}
-use Rattle.gm_json.specs.Asking.{IsOfOutput}
 use Rattle.gm_json.proofs.Serving.{all_served, last_done, last_failed, last_refused}
 use Rattle.gm_json.proofs.Exits.{passed, err_kind}
 use Rattle.gm_json.proofs.ask.answer_last.Goals as goal

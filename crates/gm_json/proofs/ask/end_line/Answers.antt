@@ -1,6 +1,4 @@
-use Rattle.std.proofs.lemmas.Result.{on_ok_weaker}
-use Rattle.gm_json.specs.Answers.{IsAnswer}
-use Rattle.gm_json.specs.Asking.{IsOfOutput}
+use Rattle.gm_json.proofs.Lower.{on_ok_weaker, IsAnswer, IsOfOutput}
 use Rattle.gm_json.proofs.Serving.{line_said, line_unsaid, line_cut}
 use Rattle.gm_json.proofs.Exits.{err_kind}
 use Rattle.gm_json.proofs.ask.end_line.Goals as goal

@@ -1,6 +1,4 @@
-use Rattle.std.proofs.Common.{◌≡◌, ◌≤◌, ◌<◌, length, arith, rules}
-use Rattle.gm_json.specs.Asking.{block_bytes}
-use Rattle.gm_json.specs.Answers.{IsAnswer}
+use Rattle.gm_json.proofs.Lower.{◌≡◌, ◌≤◌, ◌<◌, length, arith, rules, block_bytes, IsAnswer}
 use Rattle.gm_json.proofs.Serving.{begins, read_fails}
 use Rattle.gm_json.proofs.Exits.{none_read, passed}
 use Rattle.gm_json.proofs.ask.serve.Goals as goal

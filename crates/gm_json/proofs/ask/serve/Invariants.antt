@@ -1,7 +1,5 @@
-use Rattle.std.proofs.Common.{◌≡◌, ◌+◌, ◌*◌, ◌≤◌, [], length}
-use Rattle.gm_json.specs.Asking.{block_bytes}
-use Rattle.gm_json.specs.Answers.{IsAnswer}
-use Rattle.gm_json.specs.Midst.{GoesOn}
+use Rattle.gm_json.proofs.Lower.{◌≡◌, ◌+◌, ◌≤◌, [], length, block_bytes, IsAnswer, GoesOn}
+use Rattle.std.proofs.Common.{◌*◌}
 use Rattle.gm_json.proofs.ask.serve.Given as goal
 
 abbrev pub invariant-loop-turn : goal.invariant-loop-turn

@@ -1,7 +1,4 @@
-use Rattle.std.proofs.Common.{◌≡◌, ◌≤◌, ◌<◌, ◌++◌, ◌∷◌, [], true, false, length, refl, arith, rules}
-use Rattle.std.specs.Prelude.{◌==◌}
-use Rattle.gm_json.specs.Asking.{kept_bytes}
-use Rattle.gm_json.specs.Answers.{IsAnswer}
+use Rattle.gm_json.proofs.Lower.{◌≡◌, ◌≤◌, ◌<◌, ◌++◌, ◌∷◌, [], true, false, length, refl, arith, rules, ◌==◌, kept_bytes, IsAnswer}
 use Rattle.gm_json.proofs.Serving.{byte_kept, byte_past, line_done, line_broken}
 use Rattle.gm_json.proofs.Exits.{err_map, ok_three}
 use Rattle.gm_json.proofs.ask.take_byte.Goals as goal

@@ -1,7 +1,5 @@
-use Rattle.std.proofs.Common.{ap}
+use Rattle.gm_json.proofs.Lower.{ap, line_of, found_line}
 use Rattle.gm_play.proofs.Rows.{flat_more, flat_all}
-use Rattle.gm_json.specs.Words.{line_of}
-use Rattle.gm_json.specs.Founds.{found_line}
 use Rattle.gm_json.proofs.NoFloat.{found_no_float}
 use Rattle.gm_json.proofs.find.found_lines.Goals as goal
 

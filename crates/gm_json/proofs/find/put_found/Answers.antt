@@ -1,4 +1,4 @@
-use Rattle.std.proofs.lemmas.Result.{IfOk-from_err}
+use Rattle.gm_json.proofs.Lower.{IfOk-from_err}
 use Rattle.gm_json.proofs.find.put_found.Goals as goal
 
 pub returns-in_err-best : goal.returns-in_err-best

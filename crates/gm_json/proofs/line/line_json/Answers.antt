@@ -1,9 +1,5 @@
-use Rattle.std.proofs.Common.{◌≡◌, ℕ, List, ◌++◌, refl, sym, subst}
-use Rattle.std.proofs.lemmas.Result.{IfOk-weaker}
-use Rattle.serde_json.specs.Data.{null}
-use Rattle.gm_play.specs.BestLines.{AreBest}
-use Rattle.gm_json.specs.Words.{line_of}
-use Rattle.gm_json.specs.Lines.{end_line, step_tree, steps_from, IsLineJson}
+use Rattle.gm_json.proofs.Lower.{◌≡◌, ℕ, List, ◌++◌, refl, sym, subst, IfOk-weaker, null, AreBest, line_of, end_line, step_tree, steps_from}
+use Rattle.gm_json.specs.Lines.{IsLineJson}
 use Rattle.gm_json.proofs.Steps.{steps_true}
 use Rattle.gm_json.proofs.line.line_json.Goals as goal
 

@@ -1,12 +1,6 @@
-use Rattle.std.proofs.lemmas.Result.{IfOk-from_err}
-use Rattle.std.proofs.Common.{◌≡◌, ◌+◌, ◌≤◌, ◌∷◌, ◌++◌, true, length, ℕ, List, [], drop, get_or, sym, ap, subst, ◌∙◌}
-use Rattle.std.proofs.lemmas.List.{drop_more, drop_all}
-use Rattle.serde_json.specs.Data.{Data, null}
+use Rattle.gm_json.proofs.Lower.{IfOk-from_err, ◌≡◌, ◌+◌, ◌≤◌, ◌∷◌, ◌++◌, true, length, ℕ, List, [], drop, get_or, sym, ap, subst, ◌∙◌, drop_more, drop_all}
+use Rattle.gm_json.proofs.Lower.{Data, null, Position, AreBest, text, line_of, end_line, step_tree, steps_from}
 use Rattle.serde_json.specs.View.{view}
-use Rattle.gm_game.specs.declared.position.Position.{Position}
-use Rattle.gm_play.specs.BestLines.{AreBest}
-use Rattle.gm_json.specs.Words.{text, line_of}
-use Rattle.gm_json.specs.Lines.{end_line, step_tree, steps_from}
 use Rattle.gm_json.proofs.Steps.{steps_end, steps_next}
 use Rattle.gm_json.proofs.line.line_lines.Goals as goal
 

@@ -1,8 +1,4 @@
-use Rattle.std.proofs.Common.{◌≡◌, true, ◌++◌, drop}
-use Rattle.serde_json.specs.Data.{null}
-use Rattle.gm_play.specs.BestLines.{AreBest}
-use Rattle.gm_json.specs.Words.{line_of}
-use Rattle.gm_json.specs.Lines.{step_tree, steps_from}
+use Rattle.gm_json.proofs.Lower.{◌≡◌, true, ◌++◌, drop, null, AreBest, line_of, step_tree, steps_from}
 use Rattle.gm_json.proofs.line.line_lines.Given as goal
 
 abbrev pub invariant-loop-number : goal.invariant-loop-number

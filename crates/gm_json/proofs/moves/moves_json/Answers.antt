@@ -1,8 +1,4 @@
-use Rattle.std.proofs.Common.{List, ℕ, ◌++◌, refl, ap, sym, subst, ◌∙◌}
-use Rattle.std.specs.List.{All}
-use Rattle.serde_json.specs.Written.{compact_text}
-use Rattle.gm_play.specs.declared.move_values.MoveValue.{MoveValue}
-use Rattle.gm_play.specs.PlayTexts.{IsMoveOf}
+use Rattle.gm_json.proofs.Lower.{List, ℕ, ◌++◌, refl, ap, sym, subst, ◌∙◌, All, compact_text, MoveValue, IsMoveOf}
 use Rattle.gm_json.specs.Moves.{moves_tree}
 use Rattle.gm_json.proofs.moves.moves_json.Goals as goal
 

@@ -1,7 +1,4 @@
-use Rattle.std.proofs.Common.{◌++◌, List, ℕ, ap, ◌∙◌, append_assoc}
-use Rattle.std.proofs.lemmas.Result.{on_ok_weaker}
-use Rattle.serde_json.specs.Written.{comma_if, compact_text}
-use Rattle.gm_json.specs.Moves.{move_tree}
+use Rattle.gm_json.proofs.Lower.{◌++◌, List, ℕ, ap, ◌∙◌, append_assoc, on_ok_weaker, comma_if, compact_text, move_tree}
 use Rattle.gm_json.proofs.moves.push_item.Goals as goal
 
 pub returns : goal.returns

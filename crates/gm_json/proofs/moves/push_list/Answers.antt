@@ -1,10 +1,5 @@
-use Rattle.std.proofs.Common.{◌++◌, ◌+◌, List, ℕ, false, map, drop, get_or, sym, ap, ◌∙◌}
-use Rattle.std.proofs.lemmas.List.{drop_more, drop_all}
-use Rattle.std.proofs.lemmas.Result.{on_ok_weaker}
-use Rattle.serde_json.specs.View.{items_of}
-use Rattle.serde_json.specs.Written.{items_text}
-use Rattle.gm_play.specs.declared.move_values.MoveValue.{MoveValue}
-use Rattle.gm_json.specs.Moves.{move_tree}
+use Rattle.gm_json.proofs.Lower.{◌++◌, ◌+◌, List, ℕ, false, map, drop, get_or, sym, ap, ◌∙◌, drop_more, drop_all, on_ok_weaker, items_of, items_text, MoveValue}
+use Rattle.gm_json.proofs.Lower.{move_tree}
 use Rattle.gm_json.proofs.Writing.{opened, item_next}
 use Rattle.gm_json.proofs.moves.push_list.Goals as goal
 

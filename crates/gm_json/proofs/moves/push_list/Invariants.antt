@@ -1,7 +1,4 @@
-use Rattle.std.proofs.Common.{◌≡◌, ◌++◌, ◌∷◌, false, map, drop}
-use Rattle.serde_json.specs.View.{items_of}
-use Rattle.serde_json.specs.Written.{items_text}
-use Rattle.gm_json.specs.Moves.{move_tree}
+use Rattle.gm_json.proofs.Lower.{◌≡◌, ◌++◌, ◌∷◌, false, map, drop, items_of, items_text, move_tree}
 use Rattle.gm_json.proofs.moves.push_list.Given as goal
 
 abbrev pub invariant-loop-x : goal.invariant-loop-x

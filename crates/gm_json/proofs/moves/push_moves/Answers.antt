@@ -1,7 +1,4 @@
-use Rattle.std.proofs.Common.{false, codes, refl}
-use Rattle.std.proofs.lemmas.Result.{on_ok_weaker}
-use Rattle.serde_json.specs.Written.{compact_text}
-use Rattle.gm_json.specs.Moves.{move_trees}
+use Rattle.gm_json.proofs.Lower.{false, codes, refl, on_ok_weaker, compact_text, move_trees}
 use Rattle.gm_json.proofs.Writing.{value_after}
 use Rattle.gm_json.proofs.moves.push_moves.Goals as goal
 

@@ -1,8 +1,4 @@
-use Rattle.std.proofs.Common.{◌≡◌, ◌++◌, ◌∷◌, true, false, codes, ◌∙◌}
-use Rattle.std.proofs.lemmas.Result.{on_ok_weaker}
-use Rattle.serde_json.specs.Data.{member, no_members}
-use Rattle.serde_json.specs.Written.{members_text}
-use Rattle.gm_json.specs.Moves.{move_trees, position_members}
+use Rattle.gm_json.proofs.Lower.{◌≡◌, ◌++◌, ◌∷◌, true, false, codes, ◌∙◌, on_ok_weaker, member, no_members, members_text, move_trees, position_members}
 use Rattle.gm_json.proofs.Writing.{opened, member_next}
 use Rattle.gm_json.proofs.moves.push_position.Goals as goal
 

@@ -1,9 +1,4 @@
-use Rattle.std.proofs.Common.{◌≡◌, ◌++◌, List, ℕ, true, codes, ap, ◌∙◌}
-use Rattle.std.proofs.lemmas.Result.{on_ok_weaker}
-use Rattle.serde_json.specs.Data.{Members, member, string}
-use Rattle.gm_json.specs.Parts.{member_text}
-use Rattle.gm_play.specs.PlayTexts.{value_word}
-use Rattle.gm_json.specs.Words.{whole, text}
+use Rattle.gm_json.proofs.Lower.{◌≡◌, ◌++◌, List, ℕ, true, codes, ap, ◌∙◌, on_ok_weaker, Members, member, string, member_text, value_word, whole, text}
 use Rattle.gm_json.proofs.Writing.{member_next}
 use Rattle.gm_json.proofs.moves.push_value.Goals as goal
 

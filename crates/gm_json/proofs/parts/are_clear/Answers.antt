@@ -1,8 +1,6 @@
-use Rattle.std.proofs.Common.{Bool, ◌&&◌, sym, ap, ap₂, ◌∙◌}
-use Rattle.std.specs.List.{list_all}
-use Rattle.std.proofs.lemmas.List.{take_all}
+use Rattle.gm_json.proofs.Lower.{Bool, sym, ap, ap₂, ◌∙◌, list_all, take_all, is_clear}
+use Rattle.std.proofs.Common.{◌&&◌}
 use Rattle.std.proofs.lemmas.List.Folds.{list_all_more, list_all_at}
-use Rattle.gm_json.specs.Parts.{is_clear}
 use Rattle.gm_json.proofs.parts.are_clear.Goals as goal
 
 pub loop-byte-preserved : goal.loop-byte-preserved

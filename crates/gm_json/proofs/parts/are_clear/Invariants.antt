@@ -1,6 +1,4 @@
-use Rattle.std.proofs.Common.{◌≡◌, true, take}
-use Rattle.std.specs.List.{list_all}
-use Rattle.gm_json.specs.Parts.{is_clear}
+use Rattle.gm_json.proofs.Lower.{◌≡◌, true, take, list_all, is_clear}
 use Rattle.gm_json.proofs.parts.are_clear.Given as goal
 
 abbrev pub invariant-loop-byte : goal.invariant-loop-byte

@@ -1,4 +1,4 @@
-use Rattle.std.proofs.lemmas.Result.{on_ok_weaker}
+use Rattle.gm_json.proofs.Lower.{on_ok_weaker}
 use Rattle.gm_json.proofs.Writing.{clear_quoted}
 use Rattle.gm_json.proofs.parts.push_clear.Goals as goal
 

@@ -1,7 +1,5 @@
-use Rattle.std.proofs.Common.{refl}
+use Rattle.gm_json.proofs.Lower.{refl, on_ok_weaker, whole}
 use Rattle.std.specs.Fmt.{decimal}
-use Rattle.std.proofs.lemmas.Result.{on_ok_weaker}
-use Rattle.gm_json.specs.Words.{whole}
 use Rattle.gm_json.proofs.Writing.{value_after}
 use Rattle.gm_json.proofs.parts.push_number_member.Goals as goal
 

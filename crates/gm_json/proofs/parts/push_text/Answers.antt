@@ -1,5 +1,4 @@
-use Rattle.std.proofs.Common.{◌≡◌, ◌++◌, List, ℕ, OnOk, sym, subst, ◌∙◌}
-use Rattle.json.specs.Print.{quoted}
+use Rattle.gm_json.proofs.Lower.{◌≡◌, ◌++◌, List, ℕ, OnOk, sym, subst, ◌∙◌, quoted}
 use Rattle.gm_json.proofs.Writing.{clear_lossy}
 use Rattle.gm_json.proofs.parts.push_text.Goals as goal
 

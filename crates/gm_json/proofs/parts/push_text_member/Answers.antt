@@ -1,8 +1,4 @@
-use Rattle.std.proofs.Common.{refl}
-use Rattle.std.specs.Str.Lossy.{utf8_lossy}
-use Rattle.std.proofs.lemmas.Result.{on_ok_weaker}
-use Rattle.json.specs.Print.{quoted}
-use Rattle.gm_json.specs.Words.{text}
+use Rattle.gm_json.proofs.Lower.{refl, utf8_lossy, on_ok_weaker, quoted, text}
 use Rattle.gm_json.proofs.Writing.{value_after}
 use Rattle.gm_json.proofs.parts.push_text_member.Goals as goal
 

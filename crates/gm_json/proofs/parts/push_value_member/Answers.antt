@@ -1,10 +1,4 @@
-use Rattle.std.proofs.Common.{◌≡◌, List, ℕ, true, sym, ap, subst, ◌∙◌}
-use Rattle.std.specs.List.{list_all}
-use Rattle.std.proofs.lemmas.Result.{on_ok_weaker}
-use Rattle.json.specs.Print.{quoted}
-use Rattle.serde_json.specs.Data.{string}
-use Rattle.gm_json.specs.Parts.{is_clear}
-use Rattle.gm_play.specs.PlayTexts.{value_word}
+use Rattle.gm_json.proofs.Lower.{◌≡◌, List, ℕ, true, sym, ap, subst, ◌∙◌, list_all, on_ok_weaker, quoted, string, is_clear, value_word}
 use Rattle.gm_json.proofs.Writing.{value_after, word_clear}
 use Rattle.gm_json.proofs.parts.push_value_member.Goals as goal
 

@@ -1,4 +1,4 @@
-use Rattle.std.proofs.lemmas.Result.{IfOk-from_err}
+use Rattle.gm_json.proofs.Lower.{IfOk-from_err}
 use Rattle.gm_json.proofs.words.push_line.Goals as goal
 
 pub returns-in_err-text : goal.returns-in_err-text

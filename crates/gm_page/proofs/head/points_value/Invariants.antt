@@ -1,6 +1,4 @@
-use Rattle.std.proofs.Common.{◌≡◌, take, map}
-use Rattle.serde_json.specs.View.{view}
-use Rattle.gm_json.specs.Words.{text}
+use Rattle.gm_page.proofs.Lower.{◌≡◌, take, map, view, text}
 use Rattle.gm_page.proofs.head.points_value.Given as goal
 
 abbrev pub invariant-loop-k : goal.invariant-loop-k

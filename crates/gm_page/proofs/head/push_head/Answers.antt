@@ -1,6 +1,4 @@
-use Rattle.std.proofs.Common.{◌≡◌, false, sym, subst}
-use Rattle.serde_json.specs.Data.{Data}
-use Rattle.serde_json.specs.Written.{has_float}
+use Rattle.gm_page.proofs.Lower.{◌≡◌, false, sym, subst, Data, has_float}
 use Rattle.gm_page.proofs.Rowing.{head_without}
 use Rattle.gm_page.proofs.head.push_head.Goals as goal
 

@@ -1,7 +1,4 @@
-use Rattle.std.proofs.Common.{ℕ, List, Some, cond, sym, ap, subst, ◌∙◌}
-use Rattle.std.specs.HashMap.{get}
-use Rattle.gm_game.specs.declared.position.Position.{Position}
-use Rattle.gm_page.specs.Listings.{is_key, Tells}
+use Rattle.gm_page.proofs.Lower.{ℕ, List, Some, cond, sym, ap, subst, ◌∙◌, get, Position, is_key, Tells}
 use Rattle.gm_page.proofs.Places.{tells_more}
 use Rattle.gm_page.proofs.listing.add.Goals as goal
 

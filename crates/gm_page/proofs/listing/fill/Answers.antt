@@ -1,9 +1,6 @@
-use Rattle.std.proofs.Common.{◌≡◌, ℕ, ◌<◌, ◌≤◌, List, length, map, slice_get, Some, refl, subst, ◌∙◌}
+use Rattle.gm_page.proofs.Lower.{◌≡◌, ℕ, ◌<◌, ◌≤◌, List, length, map, slice_get, Some, refl, subst, ◌∙◌, Position, MoveValue, AreMoveValues, result_of}
+use Rattle.gm_page.proofs.Lower.{with_all}
 use Rattle.std.proofs.lemmas.Option.{slice_get_read}
-use Rattle.gm_game.specs.declared.position.Position.{Position}
-use Rattle.gm_play.specs.declared.move_values.MoveValue.{MoveValue}
-use Rattle.gm_play.specs.MoveValues.{AreMoveValues}
-use Rattle.gm_page.specs.Listings.{result_of, with_all}
 use Rattle.gm_page.proofs.Reaching.{all_through, fewer_left, more_through, reached_on, through_at, through_few}
 use Rattle.gm_page.proofs.listing.fill.Goals as goal
 

@@ -1,5 +1,4 @@
-use Rattle.std.proofs.Common.{◌-◌}
-use Rattle.gm_page.specs.Listings.{Tells}
+use Rattle.gm_page.proofs.Lower.{◌-◌, Tells}
 use Rattle.gm_page.proofs.Reaching.{IsGoneThrough}
 use Rattle.gm_page.proofs.listing.fill.Given as goal
 

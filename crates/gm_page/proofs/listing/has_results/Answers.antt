@@ -1,8 +1,4 @@
-use Rattle.std.proofs.Common.{◌≡◌, ℕ, List, get_or, refl, sym, subst, ◌∙◌}
-use Rattle.std.specs.List.{Contains}
-use Rattle.std.proofs.lemmas.Bool.{false≢true}
-use Rattle.std.proofs.lemmas.List.Elements.{Contains-get_or}
-use Rattle.gm_game.specs.declared.position.Position.{Position}
+use Rattle.gm_page.proofs.Lower.{◌≡◌, ℕ, List, get_or, refl, sym, subst, ◌∙◌, Contains, false≢true, Contains-get_or, Position}
 use Rattle.gm_page.proofs.Closing.{each_next, each_done}
 use Rattle.gm_page.proofs.listing.has_results.Goals as goal
 

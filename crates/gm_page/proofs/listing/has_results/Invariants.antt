@@ -1,5 +1,4 @@
-use Rattle.std.proofs.Common.{ℕ, take}
-use Rattle.std.specs.List.{Contains}
+use Rattle.gm_page.proofs.Lower.{ℕ, take, Contains}
 use Rattle.gm_page.proofs.listing.has_results.Given as goal
 
 abbrev pub invariant-loop-m : goal.invariant-loop-m

@@ -1,7 +1,4 @@
-use Rattle.std.proofs.Common.{◌≡◌, ℕ, List, refl, sym, subst}
-use Rattle.std.specs.List.{Contains}
-use Rattle.gm_game.specs.declared.position.Position.{Position}
-use Rattle.gm_game.specs.Rules.{at}
+use Rattle.gm_page.proofs.Lower.{◌≡◌, ℕ, List, refl, sym, subst, Contains, Position, at}
 use Rattle.gm_page.proofs.Closing.{each_next, each_done}
 use Rattle.gm_page.proofs.listing.is_whole.Goals as goal
 

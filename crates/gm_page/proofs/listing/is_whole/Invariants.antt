@@ -1,6 +1,4 @@
-use Rattle.std.proofs.Common.{ℕ, take}
-use Rattle.std.specs.List.{Contains}
-use Rattle.gm_game.specs.declared.position.Position.{Position}
+use Rattle.gm_page.proofs.Lower.{ℕ, take, Contains, Position}
 use Rattle.gm_page.proofs.listing.is_whole.Given as goal
 
 abbrev pub invariant-loop-p : goal.invariant-loop-p

@@ -1,4 +1,4 @@
-use Rattle.gm_game.specs.Rules.{at}
+use Rattle.gm_page.proofs.Lower.{at}
 use Rattle.gm_page.proofs.Growing.{all_next, all_done}
 use Rattle.gm_page.proofs.listing.list_all.Goals as goal
 

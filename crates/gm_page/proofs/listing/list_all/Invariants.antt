@@ -1,5 +1,4 @@
-use Rattle.std.proofs.Common.{◌≡◌, take}
-use Rattle.gm_page.specs.Listings.{with_all, Tells}
+use Rattle.gm_page.proofs.Lower.{◌≡◌, take, with_all, Tells}
 use Rattle.gm_page.proofs.listing.list_all.Given as goal
 
 abbrev pub invariant-loop-p : goal.invariant-loop-p

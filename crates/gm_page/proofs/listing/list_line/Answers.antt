@@ -1,7 +1,4 @@
-use Rattle.std.proofs.Common.{[], List, ap, ◌∙◌}
-use Rattle.std.proofs.lemmas.Result.{on_ok_weaker}
-use Rattle.gm_game.specs.declared.position.Position.{Position}
-use Rattle.gm_page.specs.Listings.{with_all}
+use Rattle.gm_page.proofs.Lower.{[], List, ap, ◌∙◌, on_ok_weaker, Position, with_all}
 use Rattle.gm_page.proofs.listing.list_line.Goals as goal
 
 pub returns-clause-line : goal.returns-clause-line

@@ -1,5 +1,4 @@
-use Rattle.std.proofs.Common.{ℕ, ◌<◌, ◌≤◌, sym, subst, ◌∙◌}
-use Rattle.std.proofs.lemmas.Result.{on_ok_weaker}
+use Rattle.gm_page.proofs.Lower.{ℕ, ◌<◌, ◌≤◌, sym, subst, ◌∙◌, on_ok_weaker}
 use Rattle.gm_page.proofs.Places.{new_full, new_room}
 use Rattle.gm_page.proofs.listing.list_missing.Goals as goal
 

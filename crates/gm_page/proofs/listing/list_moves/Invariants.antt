@@ -1,5 +1,4 @@
-use Rattle.std.proofs.Common.{◌≡◌, map, take}
-use Rattle.gm_page.specs.Listings.{with_all, result_of, Tells}
+use Rattle.gm_page.proofs.Lower.{◌≡◌, map, take, with_all, result_of, Tells}
 use Rattle.gm_page.proofs.listing.list_moves.Given as goal
 
 abbrev pub invariant-loop-x : goal.invariant-loop-x

@@ -1,5 +1,4 @@
-use Rattle.std.proofs.Common.{sym, ap, ◌∙◌}
-use Rattle.gm_page.specs.Listings.{place_of}
+use Rattle.gm_page.proofs.Lower.{sym, ap, ◌∙◌, place_of}
 use Rattle.gm_page.proofs.Places.{made_of, new_listed}
 use Rattle.gm_page.proofs.listing.list_new.Goals as goal
 

@@ -1,6 +1,4 @@
-use Rattle.std.proofs.Common.{get_or, refl}
-use Rattle.std.proofs.lemmas.List.Elements.{Contains-get_or}
-use Rattle.std.proofs.lemmas.Result.{IfOk-weaker}
+use Rattle.gm_page.proofs.Lower.{get_or, refl, Contains-get_or, IfOk-weaker}
 use Rattle.gm_page.proofs.Reaching.{listing_reached, reached_on}
 use Rattle.gm_page.proofs.page.page_text.Goals as goal
 

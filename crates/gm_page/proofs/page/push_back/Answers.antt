@@ -1,4 +1,4 @@
-use Rattle.std.proofs.Common.{◌++◌}
+use Rattle.gm_page.proofs.Lower.{◌++◌}
 use Rattle.gm_page.specs.declared.engine.TheConstants.{BETWEEN}
 use Rattle.gm_page.specs.declared.viewer_asking.TheConstants.{ASKING}
 use Rattle.gm_page.specs.declared.viewer_boards.TheConstants.{BOARDS}

@@ -2,7 +2,7 @@ use Rattle.gm_page.specs.declared.front.TheConstants.{OPENING, STYLE, PARTS}
 use Rattle.gm_page.specs.Pages.{page_front}
 use Rattle.gm_page.proofs.Paging.{before_others}
 use Rattle.gm_page.proofs.page.push_front.Goals as goal
-use Rattle.std.proofs.Common.{◌++◌}
+use Rattle.gm_page.proofs.Lower.{◌++◌}
 
 pub returns : goal.returns
 unfolding page_front

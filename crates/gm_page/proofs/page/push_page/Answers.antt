@@ -1,9 +1,6 @@
-use Rattle.std.proofs.Common.{rules, ◌≡◌, ◌++◌, ℕ, List, subst}
-use Rattle.std.specs.List.{flat_map}
-use Rattle.std.proofs.lemmas.Result.{on_ok_weaker}
-use Rattle.gm_page.specs.Heads.{head_tree}
+use Rattle.gm_page.proofs.Lower.{◌≡◌, ◌++◌, ℕ, List, subst, flat_map, on_ok_weaker, head_tree, script_line}
+use Rattle.std.proofs.Common.{rules}
 use Rattle.gm_page.specs.Pages.{page_front, page_back}
-use Rattle.gm_page.specs.Scripts.{script_line}
 use Rattle.gm_page.proofs.Paging.{parts_of}
 use Rattle.gm_page.proofs.page.push_page.Goals as goal
 

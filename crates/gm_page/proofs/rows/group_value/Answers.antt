@@ -1,10 +1,5 @@
-use Rattle.std.proofs.Common.{[], ◌∷◌, List, map, ap, ◌∙◌}
-use Rattle.serde_json.specs.Data.{Data, array}
-use Rattle.serde_json.specs.View.{view, items_of}
+use Rattle.gm_page.proofs.Lower.{[], ◌∷◌, List, map, ap, ◌∙◌, Data, array, view, items_of, text_of, text, move_cells}
 use Rattle.serde_json.proofs.Views.{view-Array}
-use Rattle.gm_game.specs.Texts.{text_of}
-use Rattle.gm_json.specs.Words.{text}
-use Rattle.gm_page.specs.Rows.{move_cells}
 use Rattle.gm_page.proofs.Rowing.{trees_all}
 use Rattle.gm_page.proofs.rows.group_value.Goals as goal
 

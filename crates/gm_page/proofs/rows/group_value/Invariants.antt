@@ -1,9 +1,4 @@
-use Rattle.std.proofs.Common.{◌≡◌, [], ◌∷◌, ◌++◌, take, map}
-use Rattle.std.specs.List.{flat_map}
-use Rattle.serde_json.specs.View.{view}
-use Rattle.gm_game.specs.Texts.{text_of}
-use Rattle.gm_json.specs.Words.{text}
-use Rattle.gm_page.specs.Rows.{move_cells}
+use Rattle.gm_page.proofs.Lower.{◌≡◌, [], ◌∷◌, ◌++◌, take, map, flat_map, view, text_of, text, move_cells}
 use Rattle.gm_page.proofs.rows.group_value.Given as goal
 
 abbrev pub invariant-loop-x : goal.invariant-loop-x

@@ -1,11 +1,5 @@
-use Rattle.std.proofs.Common.{◌≡◌, [], ◌∷◌, ◌++◌, map, sym, ap, subst, ◌∙◌}
-use Rattle.std.specs.List.{All}
-use Rattle.std.proofs.lemmas.List.{map-append}
+use Rattle.gm_page.proofs.Lower.{◌≡◌, [], ◌∷◌, ◌++◌, map, sym, ap, subst, ◌∙◌, All, map-append, Data, view, IsMoveOf, group_tree}
 use Rattle.std.proofs.lemmas.List.Elements.{All-drop}
-use Rattle.serde_json.specs.Data.{Data}
-use Rattle.serde_json.specs.View.{view}
-use Rattle.gm_play.specs.PlayTexts.{IsMoveOf}
-use Rattle.gm_page.specs.Rows.{group_tree}
 use Rattle.gm_page.proofs.Rowing.{all_grouped, next_grouped, none_first}
 use Rattle.gm_page.proofs.rows.push_groups.Goals as goal
 

@@ -1,8 +1,4 @@
-use Rattle.std.proofs.Common.{length, map}
-use Rattle.std.specs.List.{All}
-use Rattle.serde_json.specs.View.{view}
-use Rattle.gm_play.specs.PlayTexts.{IsMoveOf}
-use Rattle.gm_page.specs.Rows.{group_tree}
+use Rattle.gm_page.proofs.Lower.{length, map, All, view, IsMoveOf, group_tree}
 use Rattle.gm_page.proofs.Rowing.{IsGrouped}
 use Rattle.gm_page.proofs.rows.push_groups.Given as goal
 

@@ -1,6 +1,4 @@
-use Rattle.std.proofs.Common.{◌≡◌, false, sym, subst}
-use Rattle.serde_json.specs.Data.{Data}
-use Rattle.serde_json.specs.Written.{has_float}
+use Rattle.gm_page.proofs.Lower.{◌≡◌, false, sym, subst, Data, has_float}
 use Rattle.gm_page.proofs.Rowing.{row_without}
 use Rattle.gm_page.proofs.rows.push_known.Goals as goal
 

@@ -1,10 +1,5 @@
-use Rattle.std.proofs.Common.{List, refl, sym, subst}
-use Rattle.std.specs.List.{All}
-use Rattle.std.proofs.lemmas.Result.{on_ok_weaker}
-use Rattle.gm_play.specs.declared.move_values.MoveValue.{MoveValue}
-use Rattle.gm_play.specs.PlayTexts.{IsMoveOf}
+use Rattle.gm_page.proofs.Lower.{List, refl, sym, subst, All, on_ok_weaker, MoveValue, IsMoveOf, AreGroups, row_tree}
 use Rattle.gm_play.proofs.Rows.{are_moves}
-use Rattle.gm_page.specs.Rows.{AreGroups, row_tree}
 use Rattle.gm_page.proofs.rows.push_row.Goals as goal
 
 pub push_known-requires-clause-each : goal.push_known-requires-clause-each

@@ -1,11 +1,4 @@
-use Rattle.std.proofs.Common.{◌≡◌, ◌++◌, sym, subst}
-use Rattle.serde_json.specs.Data.{Data}
-use Rattle.gm_game.specs.declared.position.Position.{Position}
-use Rattle.gm_game.specs.Rules.{at}
-use Rattle.gm_best.specs.Reached.{IsReached}
-use Rattle.std.specs.List.{All}
-use Rattle.gm_page.specs.Rows.{IsRow}
-use Rattle.gm_page.specs.Scripts.{script_line}
+use Rattle.gm_page.proofs.Lower.{◌≡◌, ◌++◌, sym, subst, Data, Position, at, IsReached, All, IsRow, script_line}
 use Rattle.gm_page.proofs.Rowing.{more_rows}
 use Rattle.gm_page.proofs.rows.push_rows.Goals as goal
 

@@ -1,5 +1,4 @@
-use Rattle.std.proofs.Common.{take}
-use Rattle.gm_page.specs.Scripts.{script_line}
+use Rattle.gm_page.proofs.Lower.{take, script_line}
 use Rattle.gm_page.proofs.Rowing.{HasRows}
 use Rattle.gm_page.proofs.rows.push_rows.Given as goal
 

@@ -1,6 +1,4 @@
-use Rattle.std.proofs.Common.{◌≡◌, ◌-◌, ◌≤◌, length, take}
-use Rattle.std.specs.List.{All}
-use Rattle.gm_play.specs.declared.move_values.MoveValue.{MoveValue}
+use Rattle.gm_page.proofs.Lower.{◌≡◌, ◌-◌, ◌≤◌, length, take, All, MoveValue}
 use Rattle.gm_page.proofs.rows.run_length.Given as goal
 
 abbrev pub invariant-loop-count : goal.invariant-loop-count

@@ -1,6 +1,4 @@
-use Rattle.std.proofs.Common.{◌≡◌, ◌++◌, take}
-use Rattle.std.specs.List.{flat_map}
-use Rattle.gm_page.specs.Scripts.{script_byte}
+use Rattle.gm_page.proofs.Lower.{◌≡◌, ◌++◌, take, flat_map, script_byte}
 use Rattle.gm_page.proofs.script.push_script.Given as goal
 
 abbrev pub invariant-loop-byte : goal.invariant-loop-byte

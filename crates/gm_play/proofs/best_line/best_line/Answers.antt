@@ -1,4 +1,4 @@
-use Rattle.std.proofs.Common.{refl}
+use Rattle.gm_play.proofs.Lower.{refl}
 use Rattle.gm_play.proofs.Walking.{whole}
 use Rattle.gm_play.proofs.best_line.best_line.Goals as goal
 

@@ -1,7 +1,4 @@
-use Rattle.std.proofs.Common.{◌≡◌, ◌<◌, ◌≤◌, ℕ, true, List, [], ◌∷◌, ◌++◌, length, Some, slice_get, sym, ap, subst, ◌∙◌}
-use Rattle.std.specs.List.{Contains}
-use Rattle.gm_game.specs.declared.position.Position.{Position}
-use Rattle.gm_best.specs.BestMoves.{IsBestMove}
+use Rattle.gm_play.proofs.Lower.{◌≡◌, ◌<◌, ◌≤◌, ℕ, true, List, [], ◌∷◌, ◌++◌, length, Some, slice_get, sym, ap, subst, ◌∙◌, Contains, Position, IsBestMove}
 use Rattle.gm_play.proofs.Walking.{IsOnWay, begins, goes_on, line_over, line_cut, line_again, fewer}
 use Rattle.gm_play.proofs.best_line.follow.Goals as goal
 

@@ -1,4 +1,4 @@
-use Rattle.std.proofs.Common.{◌-◌, length}
+use Rattle.gm_play.proofs.Lower.{◌-◌, length}
 use Rattle.gm_play.proofs.Walking.{IsOnWay}
 use Rattle.gm_play.proofs.best_line.follow.Given as goal
 

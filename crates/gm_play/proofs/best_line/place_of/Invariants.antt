@@ -1,5 +1,4 @@
-use Rattle.std.proofs.Common.{◌≡◌, ℕ, ◌<◌, get_or}
-use Rattle.gm_game.specs.declared.position.Position.{Position}
+use Rattle.gm_play.proofs.Lower.{◌≡◌, ℕ, ◌<◌, get_or, Position}
 use Rattle.gm_play.proofs.best_line.place_of.Given as goal
 
 abbrev pub invariant-loop-place : goal.invariant-loop-place

@@ -1,10 +1,7 @@
-use Rattle.std.proofs.Common.{List, ℕ, map, subst}
-use Rattle.std.specs.Prelude.{IsPermutation}
+use Rattle.gm_play.proofs.Lower.{List, ℕ, map, subst, IsPermutation, MoveValue, IsMoveValue}
 use Rattle.std.proofs.lemmas.List.Sorted.{All-permutation, IsPermutation-map}
-use Rattle.gm_best.proofs.Held.{held_own, held_children}
-use Rattle.gm_best.proofs.Wanted.{children_known, own_known}
-use Rattle.gm_play.specs.declared.move_values.MoveValue.{MoveValue}
-use Rattle.gm_play.specs.MoveValues.{IsMoveValue}
+use Rattle.gm_play.proofs.Held.{held_own, held_children}
+use Rattle.gm_play.proofs.Wanted.{children_known, own_known}
 use Rattle.gm_play.proofs.Ranking.{begins_best}
 use Rattle.gm_play.proofs.move_values.move_values.Goals as goal
 

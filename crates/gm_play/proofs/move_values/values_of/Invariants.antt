@@ -1,7 +1,4 @@
-use Rattle.std.proofs.Common.{◌≡◌, take, map}
-use Rattle.std.specs.List.{All}
-use Rattle.gm_play.specs.declared.move_values.MoveValue.{MoveValue}
-use Rattle.gm_play.specs.MoveValues.{IsMoveValue}
+use Rattle.gm_play.proofs.Lower.{◌≡◌, take, map, All, MoveValue, IsMoveValue}
 use Rattle.gm_play.proofs.move_values.values_of.Given as goal
 
 abbrev pub invariant-loop-number : goal.invariant-loop-number

@@ -1,4 +1,4 @@
-use Rattle.gm_best.proofs.Held.{held_own, held_children}
+use Rattle.gm_play.proofs.Held.{held_own, held_children}
 use Rattle.gm_play.proofs.play_line.answered.Goals as goal
 
 pub known_best-requires-clause-own : goal.known_best-requires-clause-own

@@ -1,6 +1,4 @@
-use Rattle.gm_best.specs.Sides.{HasLost}
-use Rattle.gm_play.specs.Lines.{LeadsTo, IsPlayed, WinsWithin}
-use Rattle.gm_play.specs.declared.play_line.PlayLine.{PlayLine}
+use Rattle.gm_play.proofs.Lower.{HasLost, LeadsTo, IsPlayed, WinsWithin, PlayLine}
 use Rattle.gm_play.proofs.Promise.{played_every, played_won, played_even}
 use Rattle.gm_play.proofs.Playing.{if_some}
 use Rattle.gm_play.proofs.play_line.play_line.Goals as goal

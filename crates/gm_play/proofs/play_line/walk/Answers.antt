@@ -1,7 +1,6 @@
-use Rattle.std.proofs.Common.{◌≡◌, ◌≢◌, ◌+◌, ℕ, List, ◌∷◌, drop, get_or, true, false, Option, None, Some, is_some, MatchOption, refl, sym, subst, arith}
-use Rattle.gm_game.specs.declared.position.End.{End}
-use Rattle.gm_play.specs.Lines.{IsLine, IsPlayed, IsReplied}
-use Rattle.gm_play.specs.declared.play_line.PlayLine.{PlayLine}
+use Rattle.gm_play.proofs.Lower.{◌≡◌, ◌≢◌, ◌+◌, ℕ, List, ◌∷◌, drop, get_or, true, false, Option, None, Some, is_some, refl, sym, subst, arith, End, IsLine}
+use Rattle.gm_play.proofs.Lower.{IsPlayed, IsReplied, PlayLine}
+use Rattle.std.proofs.Common.{MatchOption}
 use Rattle.gm_play.proofs.Playing.{reply_is_next, no_reply_is_left, step_on, step_stuck, step_end, step_last, answered_on, held_answered, held_replied}
 use Rattle.gm_play.proofs.Playing.{moves_answered, moves_replied}
 use Rattle.gm_play.proofs.play_line.walk.Goals as goal

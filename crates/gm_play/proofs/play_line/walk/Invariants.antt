@@ -1,5 +1,5 @@
-use Rattle.std.proofs.Common.{◌*◌, ◌≤◌, drop}
-use Rattle.gm_best.specs.Reached.{AreAllHeld}
+use Rattle.gm_play.proofs.Lower.{◌≤◌, drop, AreAllHeld}
+use Rattle.std.proofs.Common.{◌*◌}
 use Rattle.gm_play.proofs.Playing.{OnLine}
 use Rattle.gm_play.proofs.play_line.walk.Given as goal
 

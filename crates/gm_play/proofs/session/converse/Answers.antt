@@ -1,12 +1,9 @@
-use Rattle.std.proofs.Common.{◌≡◌, ◌∙◌, ◌+◌, ◌≤◌, ◌<◌, ◌++◌, ◌∷◌, [], length, List, ℕ, Option, Some, None, IfSome, ap, subst, eq-eqb, arith}
-use Rattle.std.specs.Io.KnownBytes.{Appends}
+use Rattle.gm_play.proofs.Lower.{◌≡◌, ◌∙◌, ◌+◌, ◌≤◌, ◌<◌, ◌++◌, ◌∷◌, [], length, List, ℕ, Option, Some, None, IfSome, ap, subst, arith, Appends, Position}
+use Rattle.gm_play.proofs.Lower.{SESSION_BYTES, KEPT, IsReached, Advice, Said, turn, reply, closing, AppendsPart, Says}
+use Rattle.std.proofs.Common.{eq-eqb}
 use Rattle.std.proofs.lemmas.Bool.{ne_eqb}
-use Rattle.gm_game.specs.declared.position.Position.{Position}
-use Rattle.gm_play.specs.declared.session.TheConstants.{SESSION_BYTES, KEPT}
-use Rattle.gm_best.specs.Reached.{IsReached}
-use Rattle.gm_play.specs.Dialogue.{Advice, Said, turn, reply, closing}
-use Rattle.gm_play.specs.Sessions.{ReadsByte, AppendsPart, Says}
-use Rattle.gm_best.proofs.Reaching.{held_from, reached_reached}
+use Rattle.gm_play.specs.Sessions.{ReadsByte}
+use Rattle.gm_play.proofs.Reaching.{held_from, reached_reached}
 use Rattle.gm_play.proofs.Knowing.{known_from}
 use Rattle.gm_play.proofs.Kept.{kept_push, kept_full, heard, closed}
 use Rattle.gm_play.proofs.Talk.{broken_output, begins, over_at_once, cut_at_once, goes_on, next_line, last_line, input_ends, read_fails, close_fails, reply_fails, too_long}

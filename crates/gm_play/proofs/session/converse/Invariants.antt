@@ -1,7 +1,4 @@
-use Rattle.std.proofs.Common.{◌≤◌}
-use Rattle.gm_play.specs.declared.session.TheConstants.{SESSION_BYTES}
-use Rattle.gm_best.specs.Reached.{IsReached}
-use Rattle.gm_play.specs.Dialogue.{Advice, IsKnown}
+use Rattle.gm_play.proofs.Lower.{◌≤◌, SESSION_BYTES, IsReached, Advice, IsKnown}
 use Rattle.gm_play.proofs.Talk.{GoesOn}
 use Rattle.gm_play.proofs.session.converse.Given as goal
 

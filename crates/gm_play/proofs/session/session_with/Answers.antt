@@ -1,5 +1,5 @@
-use Rattle.gm_play.specs.Dialogue.{course, dialogue}
-use Rattle.gm_best.proofs.Reaching.{own_reached}
+use Rattle.gm_play.proofs.Lower.{course, dialogue}
+use Rattle.gm_play.proofs.Reaching.{own_reached}
 use Rattle.gm_play.proofs.Courses.{course_won, course_even}
 use Rattle.gm_play.proofs.Ending.{dialogue_closed, won_line, unlost_line}
 use Rattle.gm_play.proofs.Parts.{on_ok_map}

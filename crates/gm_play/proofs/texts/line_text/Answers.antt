@@ -1,6 +1,5 @@
-use Rattle.std.proofs.Common.{List, ℕ, [], ◌++◌, refl, ◌∙◌, ap}
-use Rattle.gm_game.specs.Texts.{text_of}
-use Rattle.gm_play.specs.PlayTexts.{row, rows_from, end_row}
+use Rattle.gm_play.proofs.Lower.{List, ℕ, [], ◌++◌, refl, ◌∙◌, ap, text_of, row, rows_from}
+use Rattle.gm_play.specs.PlayTexts.{end_row}
 use Rattle.gm_play.proofs.Rows.{rows_true}
 use Rattle.gm_play.proofs.texts.line_text.Goals as goal
 

@@ -1,5 +1,4 @@
-use Rattle.std.proofs.Common.{refl}
-use Rattle.gm_play.specs.PlayTexts.{move_row}
+use Rattle.gm_play.proofs.Lower.{refl, move_row}
 use Rattle.gm_play.proofs.Rows.{flat_more, flat_all}
 use Rattle.gm_play.proofs.texts.move_rows.Goals as goal
 

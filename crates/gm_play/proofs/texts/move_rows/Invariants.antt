@@ -1,6 +1,4 @@
-use Rattle.std.proofs.Common.{◌≡◌, take}
-use Rattle.std.specs.List.{flat_map}
-use Rattle.gm_play.specs.PlayTexts.{move_row}
+use Rattle.gm_play.proofs.Lower.{◌≡◌, take, flat_map, move_row}
 use Rattle.gm_play.proofs.texts.move_rows.Given as goal
 
 abbrev pub invariant-loop-x : goal.invariant-loop-x

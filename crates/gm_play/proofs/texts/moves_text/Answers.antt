@@ -1,7 +1,5 @@
-use Rattle.std.proofs.Common.{refl, ap, sym, subst, ◌∙◌}
-use Rattle.std.specs.List.{All, flat_map}
-use Rattle.std.proofs.lemmas.Result.{IfOk-weaker}
-use Rattle.gm_play.specs.PlayTexts.{move_row, IsMoveOf, AreMoveRows}
+use Rattle.gm_play.proofs.Lower.{refl, ap, sym, subst, ◌∙◌, All, flat_map, IfOk-weaker, move_row, IsMoveOf}
+use Rattle.gm_play.specs.PlayTexts.{AreMoveRows}
 use Rattle.gm_play.proofs.texts.moves_text.Goals as goal
 
 pub move_rows-requires-clause-each : goal.move_rows-requires-clause-each

@@ -1,8 +1,4 @@
-use Rattle.std.proofs.Common.{◌≡◌, ◌+◌, ◌++◌, true, ℕ, List, drop, get_or, refl, sym, subst, ◌∙◌}
-use Rattle.std.proofs.lemmas.List.{drop_more, drop_all}
-use Rattle.gm_game.specs.declared.position.Position.{Position}
-use Rattle.gm_play.specs.BestLines.{AreBest}
-use Rattle.gm_play.specs.PlayTexts.{rows_from}
+use Rattle.gm_play.proofs.Lower.{◌≡◌, ◌+◌, ◌++◌, true, ℕ, List, drop, get_or, refl, sym, subst, ◌∙◌, drop_more, drop_all, Position, AreBest, rows_from}
 use Rattle.gm_play.proofs.Rows.{best_step, row_named, rows_next, rows_all}
 use Rattle.gm_play.proofs.texts.push_steps.Goals as goal
 

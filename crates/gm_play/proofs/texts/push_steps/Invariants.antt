@@ -1,6 +1,4 @@
-use Rattle.std.proofs.Common.{◌≡◌, true, ◌++◌, drop}
-use Rattle.gm_play.specs.BestLines.{AreBest}
-use Rattle.gm_play.specs.PlayTexts.{rows_from}
+use Rattle.gm_play.proofs.Lower.{◌≡◌, true, ◌++◌, drop, AreBest, rows_from}
 use Rattle.gm_play.proofs.texts.push_steps.Given as goal
 
 abbrev pub invariant-loop-number : goal.invariant-loop-number

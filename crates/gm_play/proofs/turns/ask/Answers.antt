@@ -1,9 +1,6 @@
-use Rattle.std.proofs.Common.{codes, ◌++◌, sym, ◌∙◌, refl}
-use Rattle.gm_best.specs.declared.side.Side.TheVariants.{You}
-use Rattle.gm_play.specs.Dialogue.{game_over, asks, place, asks_or_ends}
+use Rattle.gm_play.proofs.Lower.{codes, ◌++◌, sym, ◌∙◌, refl, You, game_over, asks, place, asks_or_ends, First}
 use Rattle.gm_play.proofs.Parts.{on_err, part_longer, done_by, stops_in}
 use Rattle.gm_play.proofs.Saying.{person_ends, person_is_asked}
-use Rattle.gm_play.specs.declared.view.Question.TheVariants.{First}
 use Rattle.gm_play.proofs.turns.ask.Goals as goal
 
 pub returns-in_err-write_place-clause-err : goal.returns-in_err-write_place-clause-err

@@ -1,9 +1,5 @@
-use Rattle.std.proofs.Common.{◌≡◌, ◌++◌, Some, codes}
-use Rattle.std.specs.Io.KnownBytes.{Appends}
-use Rattle.std.proofs.KnownBytes.{Appends-trans}
-use Rattle.std.proofs.lemmas.Result.{IfOk-weaker, on_err_weaker}
+use Rattle.gm_play.proofs.Lower.{◌≡◌, ◌++◌, Some, codes, Appends, Appends-trans, IfOk-weaker, on_err_weaker, Again}
 use Rattle.gm_play.proofs.Parts.{on_err, part_after, part_longer}
-use Rattle.gm_play.specs.declared.view.Question.TheVariants.{Again}
 use Rattle.gm_play.proofs.turns.ask_again.Goals as goal
 
 pub returns-in_err-say-clause-err : goal.returns-in_err-say-clause-err

@@ -1,5 +1,4 @@
-use Rattle.std.proofs.Common.{◌∙◌, codes, refl}
-use Rattle.std.proofs.KnownBytes.{Appends-trans}
+use Rattle.gm_play.proofs.Lower.{◌∙◌, codes, refl, Appends-trans}
 use Rattle.gm_play.proofs.Parts.{on_err, part_after, part_longer, part_is, text_is}
 use Rattle.gm_play.proofs.turns.ask_move.Goals as goal
 

@@ -1,5 +1,4 @@
-use Rattle.std.proofs.Common.{subst}
-use Rattle.gm_best.specs.BestMoves.{IsBestMove}
+use Rattle.gm_play.proofs.Lower.{subst, IsBestMove}
 use Rattle.gm_play.proofs.Exits.{best_there}
 use Rattle.gm_play.proofs.turns.best_number.Goals as goal
 

@@ -1,8 +1,5 @@
-use Rattle.std.proofs.Common.{◌≡◌, codes, ◌++◌, sym, ap, ◌∙◌, false, length}
-use Rattle.std.specs.Prelude.{◌==◌}
-use Rattle.std.proofs.KnownBytes.{Appends-trans}
-use Rattle.std.proofs.lemmas.Result.{on_ok_weaker, on_err_weaker}
-use Rattle.gm_play.specs.Dialogue.{closing, reply}
+use Rattle.gm_play.proofs.Lower.{◌≡◌, codes, ◌++◌, sym, ap, ◌∙◌, false, length, ◌==◌, Appends-trans, on_err_weaker, closing, reply}
+use Rattle.std.proofs.lemmas.Result.{on_ok_weaker}
 use Rattle.gm_play.proofs.Parts.{on_err, part_is, text_is, part_longer, part_after}
 use Rattle.gm_play.proofs.Reading.{after_reply, closing_is}
 use Rattle.gm_play.proofs.turns.close.Goals as goal

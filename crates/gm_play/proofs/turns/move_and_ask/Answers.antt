@@ -1,8 +1,4 @@
-use Rattle.std.proofs.Common.{sym, ◌∙◌}
-use Rattle.std.proofs.lemmas.Result.{IfOk-weaker, on_err_weaker}
-use Rattle.gm_best.specs.declared.side.Side.TheVariants.{Computer}
-use Rattle.gm_play.specs.Dialogue.{game_over, place, moves_or_ends, before}
-use Rattle.gm_play.specs.Sessions.{Says}
+use Rattle.gm_play.proofs.Lower.{sym, ◌∙◌, IfOk-weaker, on_err_weaker, Computer, game_over, place, moves_or_ends, before, Says}
 use Rattle.gm_play.proofs.Parts.{on_err, part_longer, part_after, says_after, done_by, stops_in}
 use Rattle.gm_play.proofs.Saying.{computer_ends}
 use Rattle.gm_play.proofs.turns.move_and_ask.Goals as goal

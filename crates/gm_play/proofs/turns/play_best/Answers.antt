@@ -1,8 +1,6 @@
-use Rattle.std.proofs.Common.{ℕ, ◌+◌, ◌<◌, ◌≤◌, ◌∙◌, IfSome, arith}
-use Rattle.std.proofs.lemmas.Result.{IfOk-weaker}
-use Rattle.gm_best.specs.Reached.{IsReached}
+use Rattle.gm_play.proofs.Lower.{ℕ, ◌+◌, ◌<◌, ◌≤◌, ◌∙◌, IfSome, arith, IfOk-weaker, IsReached}
 use Rattle.gm_play.proofs.Parts.{on_err}
-use Rattle.gm_best.proofs.Reaching.{reached_option}
+use Rattle.gm_play.proofs.Reaching.{reached_option}
 use Rattle.gm_play.proofs.Saying.{best_reached, move_cut, move_done, move_stops}
 use Rattle.gm_play.proofs.turns.play_best.Goals as goal
 

@@ -1,12 +1,8 @@
-use Rattle.std.proofs.Common.{codes, ◌++◌, None, IfSome}
-use Rattle.std.proofs.lemmas.Result.{IfOk-weaker}
-use Rattle.gm_best.specs.Reached.{IsReached}
-use Rattle.gm_play.specs.Dialogue.{ends, asks, after_move, computers_turn}
+use Rattle.gm_play.proofs.Lower.{codes, ◌++◌, None, IfSome, IfOk-weaker, IsReached, ends, asks, after_move, computers_turn, Again}
 use Rattle.gm_play.proofs.Parts.{ok_is, err_is}
-use Rattle.gm_best.proofs.Reaching.{reached_by, reached_option}
+use Rattle.gm_play.proofs.Reaching.{reached_by, reached_option}
 use Rattle.gm_play.proofs.Knowing.{known_from}
 use Rattle.gm_play.proofs.Reading.{says_bye, answers, moves}
-use Rattle.gm_play.specs.declared.view.Question.TheVariants.{Again}
 use Rattle.gm_play.proofs.turns.reply.Goals as goal
 
 pub returns-then-eq-clause-ok : goal.returns-then-eq-clause-ok

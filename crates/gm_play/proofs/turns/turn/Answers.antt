@@ -1,7 +1,5 @@
-use Rattle.std.proofs.Common.{sym, subst, OnErr}
-use Rattle.gm_best.specs.declared.side.Side.{Side}
-use Rattle.gm_play.specs.Dialogue.{turn}
-use Rattle.gm_play.specs.Sessions.{AppendsPart}
+use Rattle.gm_play.proofs.Lower.{sym, subst, Side, turn, AppendsPart}
+use Rattle.std.proofs.Common.{OnErr}
 use Rattle.gm_play.proofs.turns.turn.Goals as goal
 
 pub returns-in-You-clause-err : goal.returns-in-You-clause-err

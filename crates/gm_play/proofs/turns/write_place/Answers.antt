@@ -1,7 +1,5 @@
-use Rattle.std.proofs.Common.{◌≡◌, ◌∙◌, List, ℕ, OnOk, OnErr, subst, ap}
-use Rattle.std.specs.Io.KnownBytes.{Appends}
-use Rattle.gm_game.specs.Texts.{text_of}
-use Rattle.gm_play.specs.Sessions.{AppendsPart}
+use Rattle.gm_play.proofs.Lower.{◌≡◌, ◌∙◌, List, ℕ, subst, ap, Appends, text_of, AppendsPart}
+use Rattle.std.proofs.Common.{OnOk, OnErr}
 use Rattle.gm_play.proofs.Saying.{value_known, place_is}
 use Rattle.gm_play.proofs.turns.write_place.Goals as goal
 

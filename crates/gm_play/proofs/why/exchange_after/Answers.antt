@@ -1,6 +1,4 @@
-use Rattle.std.proofs.Common.{Some, refl, sym, subst, ◌∙◌}
-use Rattle.gm_game.specs.declared.position.Position.{Position}
-use Rattle.gm_best.specs.BestMoves.{IsBestMove}
+use Rattle.gm_play.proofs.Lower.{Some, refl, sym, subst, ◌∙◌, Position, IsBestMove}
 use Rattle.gm_play.proofs.Exchanging.{with_answer}
 use Rattle.gm_play.proofs.why.exchange_after.Goals as goal
 

@@ -1,6 +1,4 @@
-use Rattle.std.proofs.Common.{sym, subst}
-use Rattle.gm_play.specs.declared.move_values.MoveValue.{MoveValue}
-use Rattle.gm_play.specs.PlayTexts.{IsMoveOf}
+use Rattle.gm_play.proofs.Lower.{sym, subst, MoveValue, IsMoveOf}
 use Rattle.gm_play.proofs.Exchanging.{rows_none, rows_more, rows_all}
 use Rattle.gm_play.proofs.why.rows_for.Goals as goal
 

@@ -1,5 +1,4 @@
-use Rattle.std.proofs.Common.{take}
-use Rattle.gm_play.specs.Why.{AreExchangeRows}
+use Rattle.gm_play.proofs.Lower.{take, AreExchangeRows}
 use Rattle.gm_play.proofs.why.rows_for.Given as goal
 
 abbrev pub invariant-loop-x : goal.invariant-loop-x

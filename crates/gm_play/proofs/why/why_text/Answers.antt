@@ -1,10 +1,5 @@
-use Rattle.std.proofs.Common.{List, refl, sym, subst, ◌∙◌}
-use Rattle.std.specs.List.{All}
-use Rattle.std.proofs.lemmas.Result.{IfOk-weaker}
-use Rattle.gm_play.specs.declared.move_values.MoveValue.{MoveValue}
-use Rattle.gm_play.specs.MoveValues.{IsMoveValue}
-use Rattle.gm_play.specs.PlayTexts.{IsMoveOf}
-use Rattle.gm_play.specs.Why.{AreExchangeRows, IsWhyText}
+use Rattle.gm_play.proofs.Lower.{List, refl, sym, subst, ◌∙◌, All, IfOk-weaker, MoveValue, IsMoveValue, IsMoveOf, AreExchangeRows}
+use Rattle.gm_play.specs.Why.{IsWhyText}
 use Rattle.gm_play.proofs.why.why_text.Goals as goal
 
 pub rows_for-requires-clause-each : goal.rows_for-requires-clause-each

@@ -1,7 +1,7 @@
 use Rattle.std.proofs.Common.{◌≡◌, ◌≤◌, ℕ, ap, sym, subst, ◌∙◌}
 use Rattle.gm_solver.proofs.Lower.{TIER_SIZE, Place, IsLastLevel, AreHeld, false≢true}
 use Rattle.gm_frontier.specs.Levels.{AreTiles}
-use Rattle.gm_deliveries.specs.Steps.{place_of}
+use Rattle.gm_shard.specs.Steps.{place_of}
 use Rattle.gm_solver.proofs.alone.finish_levels.Goals as goal
 
 pub gather-requires-clause-tiles : goal.gather-requires-clause-tiles

@@ -1,5 +1,5 @@
 use Rattle.std.proofs.Common.{sym, subst}
-use Rattle.gm_record.specs.declared.version.Version.TheVariants.{Two}
+use Rattle.gm_table.specs.declared.version.Version.TheVariants.{Two}
 use Rattle.gm_tierdb.specs.Refusals.{AreRead, records_part}
 use Rattle.gm_tierdb.proofs.RefusalLemmas.{old_version}
 use Rattle.gm_tierdb.proofs.SealLemmas.{unsealed_text, whole_of_text, refuses_of_whole, not_old_text, error_again}

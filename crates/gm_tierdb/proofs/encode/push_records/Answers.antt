@@ -2,7 +2,7 @@ use Rattle.std.proofs.Common.{◌++◌, ◌∙◌, ap, sym, subst, append-nil, a
 use Rattle.std.specs.List.{flat_map}
 use Rattle.std.proofs.lemmas.List.{take_all}
 use Rattle.std.proofs.lemmas.Result.{IfOk-from_err}
-use Rattle.gm_record.specs.Numbers.{record_bytes, IsStorable}
+use Rattle.gm_table.specs.RecordCodes.{record_bytes, IsStorable}
 use Rattle.gm_tierdb.proofs.RecordLemmas.{one_more, storable_at}
 use Rattle.gm_tierdb.proofs.encode.push_records.Goals as goal
 

@@ -1,6 +1,6 @@
 use Rattle.std.proofs.Common.{◌≡◌, ◌++◌, take}
 use Rattle.std.specs.List.{flat_map}
-use Rattle.gm_record.specs.Numbers.{record_bytes}
+use Rattle.gm_table.specs.RecordCodes.{record_bytes}
 use Rattle.gm_tierdb.proofs.encode.push_records.Given as goal
 
 abbrev pub invariant-loop-index : goal.invariant-loop-index

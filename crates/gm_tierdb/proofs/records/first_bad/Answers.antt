@@ -2,8 +2,8 @@ use Rattle.std.proofs.Common.{◌≡◌, ◌++◌, ◌∷◌, [], arith, ap, ◌
 use Rattle.std.specs.Int.{to_le_bytes}
 use Rattle.std.proofs.lemmas.List.{length-append}
 use Rattle.std.proofs.lemmas.List.Elements.{All-push}
-use Rattle.gm_record.specs.Numbers.{word, width, IsStorable}
-use Rattle.gm_record.proofs.NumberLemmas.{none_here}
+use Rattle.gm_table.specs.RecordCodes.{word, width, IsStorable}
+use Rattle.gm_table.proofs.CodeLemmas.{none_here}
 use Rattle.gm_tierdb.proofs.RecordLemmas.{grown, one_less}
 use Rattle.gm_tierdb.proofs.records.first_bad.Goals as goal
 

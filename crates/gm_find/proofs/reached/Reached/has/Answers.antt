@@ -1,4 +1,4 @@
-use Rattle.std.proofs.Common.{◌∙◌, sym}
+use Rattle.gm_find.proofs.Lower.{◌∙◌, sym}
 use Rattle.gm_find.proofs.Keys.{key_found, key_there}
 use Rattle.gm_find.proofs.reached.Reached.has.Goals as goal
 

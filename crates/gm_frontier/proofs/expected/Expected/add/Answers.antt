@@ -1,6 +1,4 @@
-use Rattle.std.proofs.Common.{sym, subst, ◌+◌, arith, Some}
-use Rattle.gm_game.specs.declared.position.Place.{Place}
-use Rattle.gm_frontier.specs.Counts.{IsExpected}
+use Rattle.gm_frontier.proofs.Lower.{sym, subst, ◌+◌, arith, Some, Place, IsExpected}
 use Rattle.gm_frontier.proofs.ExpectedLemmas.{level_added_to, expected_fits, shown}
 use Rattle.gm_frontier.proofs.expected.Expected.add.Goals as goal
 

@@ -1,10 +1,4 @@
-use Rattle.std.proofs.Common.{◌≡◌, sym, subst}
-use Rattle.gm_game.specs.declared.position.Phase.{Phase}
-use Rattle.gm_game.specs.declared.position.Phase.TheVariants.{WinLose}
-use Rattle.gm_game.specs.declared.position.Place.{Place}
-use Rattle.gm_game.specs.Places.{IsLastLevel}
-use Rattle.gm_frontier.specs.Levels.{place_at}
-use Rattle.gm_frontier.specs.Counts.{ExpectedData, IsExpected, next_level}
+use Rattle.gm_frontier.proofs.Lower.{◌≡◌, sym, subst, Phase, WinLose, Place, IsLastLevel, place_at, ExpectedData, IsExpected, next_level}
 use Rattle.gm_frontier.proofs.ExpectedLemmas.{expected_turned, shown}
 use Rattle.gm_frontier.proofs.expected.Expected.next_phase.Goals as goal
 

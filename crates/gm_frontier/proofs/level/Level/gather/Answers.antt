@@ -1,5 +1,4 @@
-use Rattle.std.proofs.Common.{◌≡◌, ap, refl, ◌∙◌, length, arith, List}
-use Rattle.gm_frontier.specs.Notes.{NoteData, joined}
+use Rattle.gm_frontier.proofs.Lower.{◌≡◌, ap, refl, ◌∙◌, length, arith, List, NoteData, joined}
 use Rattle.gm_frontier.proofs.GatherLemmas.{gathered}
 use Rattle.gm_frontier.proofs.level.Level.gather.Goals as goal
 

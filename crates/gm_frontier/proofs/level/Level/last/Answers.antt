@@ -1,7 +1,4 @@
-use Rattle.std.proofs.Common.{◌≡◌, refl, sym, ap, subst, arith, length}
-use Rattle.gm_game.specs.declared.position.Place.{Place}
-use Rattle.gm_game.specs.Places.{IsLastLevel}
-use Rattle.gm_frontier.specs.Levels.{AreBelow}
+use Rattle.gm_frontier.proofs.Lower.{◌≡◌, refl, sym, ap, subst, arith, length, Place, IsLastLevel, AreBelow}
 use Rattle.gm_frontier.proofs.LastLemmas.{last_iff, no_notes_left}
 use Rattle.gm_frontier.proofs.level.Level.last.Goals as goal
 

@@ -1,5 +1,5 @@
-use Rattle.std.proofs.Common.{ap, sym, subst, ◌∙◌, ◌*◌, ◌+◌, ◌≡◌, ◌≤◌, ℕ, length, arith, min}
-use Rattle.gm_frontier.specs.Pairs.{pairs_of, piece_of}
+use Rattle.gm_frontier.proofs.Lower.{ap, sym, subst, ◌∙◌, ◌+◌, ◌≡◌, ◌≤◌, ℕ, length, arith, min, pairs_of, piece_of}
+use Rattle.std.proofs.Common.{◌*◌}
 use Rattle.gm_frontier.proofs.PieceLemmas.{stretch_piece}
 use Rattle.gm_frontier.proofs.RowLemmas.{whole_piece}
 use Rattle.gm_frontier.proofs.level.Level.pairs.Goals as goal

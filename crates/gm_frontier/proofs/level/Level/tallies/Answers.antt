@@ -1,6 +1,4 @@
-use Rattle.std.proofs.Common.{◌≡◌, ℕ, length, refl, arith}
-use Rattle.std.specs.Int.{div_ceil}
-use Rattle.gm_frontier.specs.Tallies.{AreAllTallies}
+use Rattle.gm_frontier.proofs.Lower.{◌≡◌, ℕ, length, refl, arith, div_ceil, AreAllTallies}
 use Rattle.gm_frontier.proofs.AllTallies.{none_first, one_more, all_first, all_count}
 use Rattle.gm_frontier.proofs.level.Level.tallies.Goals as goal
 

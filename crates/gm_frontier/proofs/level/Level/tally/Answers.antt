@@ -1,7 +1,4 @@
-use Rattle.std.proofs.Common.{◌≡◌, ap, sym, subst, ◌∙◌, rules, length}
-use Rattle.gm_game.specs.declared.position.Place.{Place}
-use Rattle.gm_frontier.specs.Pairs.{piece_of}
-use Rattle.gm_frontier.specs.Tallies.{TallyData, AreCounts}
+use Rattle.gm_frontier.proofs.Lower.{◌≡◌, ap, sym, subst, ◌∙◌, rules, length, Place, piece_of, TallyData, AreCounts}
 use Rattle.gm_frontier.proofs.TileLemmas.{parents_in_tiles, pairs_fit, tally_right}
 use Rattle.gm_frontier.proofs.level.Level.tally.Goals as goal
 

@@ -1,5 +1,4 @@
-use Rattle.std.proofs.Common.{◌∙◌, ap}
-use Rattle.gm_frontier.specs.Pairs.{pairs_of_note}
+use Rattle.gm_frontier.proofs.Lower.{◌∙◌, ap, pairs_of_note}
 use Rattle.gm_frontier.proofs.RowLemmas.{row_taken}
 use Rattle.gm_frontier.proofs.pairs.PairsIterator.next.Goals as goal
 

@@ -1,6 +1,4 @@
-use Rattle.std.proofs.Common.{◌≡◌, ◌≤◌, length, ◌-◌, ◌++◌}
-use Rattle.gm_frontier.specs.Pairs.{pairs_of}
-use Rattle.gm_frontier.specs.Rows.{stretch}
+use Rattle.gm_frontier.proofs.Lower.{◌≡◌, ◌≤◌, length, ◌-◌, ◌++◌, pairs_of, stretch}
 use Rattle.gm_frontier.proofs.pairs.PairsIterator.next.Given as goal
 
 abbrev pub invariant-loop-pair : goal.invariant-loop-pair

@@ -1,4 +1,4 @@
-use Rattle.std.proofs.Common.{sym, ap, ◌∙◌, Some}
+use Rattle.gm_frontier.proofs.Lower.{sym, ap, ◌∙◌, Some}
 use Rattle.gm_frontier.proofs.RowLemmas.{row_none, row_over, row_next, none_left}
 use Rattle.gm_frontier.proofs.row.Row.next.Goals as goal
 

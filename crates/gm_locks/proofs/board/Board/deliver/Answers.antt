@@ -1,5 +1,5 @@
 use Rattle.std.proofs.Common.{ℕ, subst}
-use Rattle.gm_deliveries.specs.Delivery.{IsPlaceOf}
+use Rattle.gm_shard.specs.Delivery.{IsPlaceOf}
 use Rattle.gm_locks.proofs.board.Board.deliver.Goals as goal
 
 pub deliver_at-requires-clause-shard : goal.deliver_at-requires-clause-shard

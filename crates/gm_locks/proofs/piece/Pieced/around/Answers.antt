@@ -1,8 +1,7 @@
-use Rattle.std.proofs.Common.{ℕ, ◌<◌, sym, subst, ◌∙◌, ap, length}
+use Rattle.std.proofs.Common.{ℕ, ◌<◌, sym, subst, ◌∙◌, ap, length, List}
 use Rattle.gm_locks.proofs.Lower.{div_ceil, NoteData}
 use Rattle.gm_locks.proofs.RoundLemmas.{level_into}
 use Rattle.gm_locks.proofs.PieceLemmas.{begun_pieced}
-use Rattle.std.proofs.Common.{List}
 use Rattle.gm_locks.proofs.piece.Pieced.around.Goals as goal
 
 pub invariant_of-pieced : goal.invariant_of-pieced

@@ -1,6 +1,4 @@
-use Rattle.std.proofs.Common.{List, ap, ◌∙◌}
-use Rattle.gm_game.specs.declared.position.Position.{Position}
-use Rattle.gm_page.specs.Listings.{place_of}
+use Rattle.gm_page.proofs.Lower.{List, ap, ◌∙◌, Position, place_of}
 use Rattle.gm_page.proofs.Places.{made_of}
 use Rattle.gm_page.proofs.listing.Listing.place.Goals as goal
 

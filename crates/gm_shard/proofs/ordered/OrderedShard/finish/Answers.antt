@@ -1,5 +1,6 @@
 use Rattle.std.proofs.Common.{◌≡◌, ◌++◌, [], ◌∷◌, List, Option, sym, ap, subst, ◌∙◌, arith, length-append}
-use Rattle.gm_shard.proofs.Lower.{append_assoc, Place, Phase, Ties, Solved, IsLastLevel, record_of, IsNear}
+use Rattle.gm_shard.proofs.Lower.{append_assoc, Place, Phase, Ties, Solved, IsLastLevel, record_of}
+use Rattle.gm_table.specs.Packed.{IsNear}
 use Rattle.gm_shard.proofs.FinishLemmas.{part_more, record_near}
 use Rattle.gm_shard.proofs.ordered.OrderedShard.finish.Goals as goal
 

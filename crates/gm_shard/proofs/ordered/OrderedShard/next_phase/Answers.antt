@@ -1,5 +1,5 @@
 use Rattle.std.proofs.Common.{ap, ◌∙◌}
-use Rattle.gm_deliveries.specs.State.{ShardState}
+use Rattle.gm_shard.specs.State.{ShardState}
 use Rattle.gm_shard.proofs.ShardLemmas.{turned}
 use Rattle.gm_shard.proofs.ordered.OrderedShard.next_phase.Goals as goal
 

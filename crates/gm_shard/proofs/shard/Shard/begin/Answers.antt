@@ -1,5 +1,5 @@
 use Rattle.std.proofs.Common.{length}
-use Rattle.gm_deliveries.proofs.MaskedLemmas.{tells_none}
+use Rattle.gm_shard.proofs.MaskedLemmas.{tells_none}
 use Rattle.gm_shard.proofs.shard.Shard.begin.Goals as goal
 
 pub invariant_of-result : goal.invariant_of-result

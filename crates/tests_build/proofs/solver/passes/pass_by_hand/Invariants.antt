@@ -1,4 +1,4 @@
-use Rattle.gm_deliveries.specs.State.{pairs_in}
+use Rattle.gm_shard.specs.State.{pairs_in}
 use Rattle.gm_locks.specs.Spots.{spot_of}
 use Rattle.tests_build.proofs.solver.passes.pass_by_hand.Given as goal
 

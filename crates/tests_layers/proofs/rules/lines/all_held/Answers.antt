@@ -1,7 +1,7 @@
 use Rattle.std.proofs.Common.{◌≡◌, ℕ, refl, sym, subst, rules, arith}
 use Rattle.gm_table.specs.Tables.{IsHeld}
 use Rattle.gm_toys.specs.Countdown.{countdown}
-use Rattle.gm_best.proofs.Held.{all_held}
+use Rattle.gm_play.proofs.Held.{all_held}
 use Rattle.tests_layers.proofs.rules.lines.all_held.Goals as goal
 
 pub returns : goal.returns

@@ -1,0 +1,41 @@
+//! What is done for the next tier while the text of a tier is made.
+ghost use Rattle.std.specs.Prelude.{◌≤◌, IsTrue, IfOk};
+ghost use Rattle.gm_build.specs.Lower.{AreHeld};
+ghost use Rattle.gm_build.specs.TrueTexts.{IsTrueText};
+
+use gm_game::game::Game;
+use gm_game::limits::TIER_SIZE;
+use gm_solver::plan::Plan;
+use gm_solver::tier::Report;
+use gm_table::table::Table;
+use gm_table::tables::Tables;
+use gm_tierdb::encode::encode;
+use std::alloc::{AllocError, Global};
+
+// The text of a tier of at most this many indexes is made by the calling thread alone: to start another takes longer.
+const FEW: u64 = 65_536;
+
+/// What was done for a tier before its turn: the observer has its `read` call, and the tier is solved, unless that failed.
+#[derive(Drop)]
+pub(crate) struct Ahead<G: Game> {
+    pub solved: Option<(Table<G>, Report)>,
+}
+
+/// Returns whether the next tier is solved while the text of a table is made: the text is long, the tier can be solved, and the plan has another worker.
+pub(crate) fn is_ahead<G: Game>(table: &Table<G>, next: u64, tables: &Tables<G>, plan: Plan) -> bool
+    ensures held { IsTrue result → AreHeld G.rules tables.now next }
+    ensures small { IsTrue result → G.rules.tier_size next ≤ TIER_SIZE }
+{
+    plan.workers() > 1
+        && table.size() > FEW
+        && G::tier_size(next) <= TIER_SIZE
+        && tables.has_children(next)
+}
+
+/// Returns the text of a table.
+pub(crate) fn text_of<G: Game>(alloc: Global, table: &Table<G>) -> Result<Vec<u8>, AllocError>
+    ensures { IfOk result (λ text. IsTrueText G.rules table.now.tier text.items) }
+{
+    let _tier = table.tier();
+    encode(alloc, table)
+}

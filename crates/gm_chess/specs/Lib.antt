@@ -1,3 +1,0 @@
-pub mod Chess
-pub mod Runs
-pub mod laws

@@ -1,9 +1,0 @@
--- Statuses as numbers of 32 bits.
-use Rattle.std.specs.Prelude.{ℕ, ◌==◌, if◌then◌else◌, None, Some}
-use Rattle.gm_table.specs.Packed.{unpacked}
-use Rattle.gm_deliveries.specs.declared.status.Status.{Status}
-use Rattle.gm_deliveries.specs.declared.status.Status.TheVariants.{Hole, Undecided, Settled}
-
--- the status with this number: 1 is that of an undecided index, and any other is that of its record
-abbrev pub status_of : ℕ → Status
-status_of number = if number == 1 then Undecided else elim (unpacked number) [ None ↦ Hole | Some x ↦ Settled x ]

@@ -1,2 +1,0 @@
-pub mod FoxHounds
-pub mod laws

@@ -1,3 +1,0 @@
-pub mod PointSteps
-pub mod HoundSteps
-pub mod Boards

@@ -1,0 +1,111 @@
+-- The choice among some moves, and one more.
+use Rattle.gm_play.proofs.Lower.{◌≡◌, ℕ, ◌<◌, inl, inr, List, [], ◌∷◌, ◌++◌, Option, None, Some, refl, sym, subst, arith, Contains, cases_lt, Position, Value}
+use Rattle.gm_play.proofs.Lower.{Lose, Draw, Tie, Win, Rules, HasValue, HasValue_once, Choice, wanted_from, IsNearer, IsNoFarther, IsBestOf, IsChoice}
+use Rattle.gm_play.proofs.Lower.{Considers}
+use Rattle.std.proofs.lemmas.List.Elements.{Contains-append_left, Contains-push, Contains-push_cases}
+use Rattle.gm_play.specs.BestMoves.{Chooses}
+
+-- the order of remotenesses
+farther_unless : (value : Value) (k than : ℕ) → (IsNearer value k than → ⊥) → IsNoFarther value than k
+farther_unless Lose k than h = elim (cases_lt than k) [ inl l ↦ absurd (h l) | inr l ↦ l ]
+farther_unless Draw k than h = tt
+farther_unless Tie k than h = elim (cases_lt k than) [ inl l ↦ absurd (h l) | inr l ↦ l ]
+farther_unless Win k than h = elim (cases_lt k than) [ inl l ↦ absurd (h l) | inr l ↦ l ]
+
+nearer_all : (value : Value) (k than other : ℕ) → IsNearer value k than → IsNoFarther value than other → IsNoFarther value k other
+nearer_all Lose k than other a b = omega arith
+nearer_all Draw k than other a b = absurd a
+nearer_all Tie k than other a b = omega arith
+nearer_all Win k than other a b = omega arith
+
+nearer_apart : (value : Value) (k than : ℕ) → IsNearer value k than → IsNoFarther value than k → ⊥
+nearer_apart Lose k than a b = omega arith
+nearer_apart Draw k than a b = a
+nearer_apart Tie k than a b = omega arith
+nearer_apart Win k than a b = omega arith
+
+same_far : (value : Value) (k : ℕ) → IsNoFarther value k k
+same_far Lose k = omega arith
+same_far Draw k = tt
+same_far Tie k = omega arith
+same_far Win k = omega arith
+
+module _ (r : Rules) (p : Position) (value : Value) (front : List ℕ) (m : ℕ) (above : (n : ℕ) → Contains front n → n < m) where
+  abbrev Goes : ℕ → ℕ → Type 0
+  Goes n k = HasValue r (r.play p n) (wanted_from value) k
+
+  goes_once : (n k l : ℕ) → m ≡ n → Goes m k → Goes n l → k ≡ l
+  goes_once n k l e a b = (HasValue_once r (r.play p m) (wanted_from value) (wanted_from value) k l a (subst (λ (x : ℕ). Goes x l) (sym e) b)).1
+
+  -- the move goes elsewhere
+  best_kept : (c k : ℕ) → IsBestOf r p value front c k → ((l : ℕ) → Goes m l → ⊥) → IsBestOf r p value (front ++ m ∷ []) c k
+  best_kept c k b none = record {
+    there = Contains-append_left front (m ∷ []) c b.there;
+    reaches = b.reaches;
+    no_better = λ n l has v. elim (Contains-push_cases front m n has) [
+      | inl i ↦ b.no_better n l i v
+      | inr e ↦ absurd
+          (none l (subst (λ (x : ℕ). Goes x l) (sym e) v))
+    ];
+    first = λ n has v. elim (Contains-push_cases front m n has) [ inl i ↦ b.first n i v | inr e ↦ absurd (none k (subst (λ (x : ℕ). Goes x k) (sym e) v)) ];
+  }
+
+  none_kept : ((n k : ℕ) → Contains front n → Goes n k → ⊥) → ((l : ℕ) → Goes m l → ⊥) → (n k : ℕ) → Contains (front ++ m ∷ []) n → Goes n k → ⊥
+  none_kept before none n k has v = elim (Contains-push_cases front m n has) [ inl i ↦ before n k i v | inr e ↦ none k (subst (λ (x : ℕ). Goes x k) (sym e) v) ]
+
+  -- it is the first that goes there
+  best_first : (k : ℕ) → ((n l : ℕ) → Contains front n → Goes n l → ⊥) → Goes m k → IsBestOf r p value (front ++ m ∷ []) m k
+  best_first k before goes = record {
+    there = Contains-push front m;
+    reaches = goes;
+    no_better = λ n l has v. elim (Contains-push_cases front m n has) [
+      | inl i ↦ absurd (before n l i v)
+      | inr e ↦ subst (IsNoFarther value k)
+          (goes_once n k l e goes v) (same_far value k)
+    ];
+    first = λ n has v. elim (Contains-push_cases front m n has) [ inl i ↦ absurd (before n k i v) | inr e ↦ omega arith ];
+  }
+
+  -- it is better
+  best_new : (c old k : ℕ) → IsBestOf r p value front c old → Goes m k → IsNearer value k old → IsBestOf r p value (front ++ m ∷ []) m k
+  best_new c old k b goes near = record {
+    there = Contains-push front m;
+    reaches = goes;
+    no_better = λ n l has v. elim (Contains-push_cases front m n has) [
+      | inl i ↦ nearer_all value k old l near (b.no_better n l i v)
+      | inr e ↦ subst (IsNoFarther value k) (goes_once n k l e goes v) (same_far value k)
+    ];
+    first = λ n has v. elim (Contains-push_cases front m n has) [ inl i ↦ absurd (nearer_apart value k old near (b.no_better n k i v)) | inr e ↦ omega arith ];
+  }
+
+  -- it is not
+  best_old : (c old k : ℕ) → IsBestOf r p value front c old → Goes m k → (IsNearer value k old → ⊥) → IsBestOf r p value (front ++ m ∷ []) c old
+  best_old c old k b goes far = record {
+    there = Contains-append_left front (m ∷ []) c b.there;
+    reaches = b.reaches;
+    no_better = λ n l has v. elim (Contains-push_cases front m n has) [
+      | inl i ↦ b.no_better n l i v
+      | inr e ↦ subst (IsNoFarther value old) (goes_once n k l e goes v) (farther_unless value k old far)
+    ];
+    first = λ n has v. elim (Contains-push_cases front m n has) [ inl i ↦ b.first n i v | inr e ↦ (let l = above c b.there in omega arith) ];
+  }
+
+  chosen : (best : Option Choice) (c : Choice) (k : ℕ) → IsChoice r p value front best → Goes m k → Chooses value best m k c → IsBestOf r p value
+      (front ++ m ∷ []) c.number c.remoteness
+  chosen None c k before goes e = subst (λ (x : Choice). IsBestOf r p value (front ++ m ∷ []) x.number x.remoteness) (sym e) (best_first k before goes)
+  chosen (Some old) c k b goes (inl (near, e)) = subst (λ (x : Choice). IsBestOf r p value (front ++ m ∷ []) x.number x.remoteness) (sym e)
+      (best_new old.number old.remoteness k b goes near)
+  chosen (Some old) c k b goes (inr (far, e)) = subst (λ (x : Choice). IsBestOf r p value (front ++ m ∷ []) x.number x.remoteness) (sym e)
+      (best_old old.number old.remoteness k b goes far)
+
+  -- the choice after the move
+  pub considered : (best new : Option Choice) → IsChoice r p value front best → Considers r p value m best new → IsChoice r p value (front ++ m ∷ []) new
+  considered best None b (e, none) = none_kept (subst (IsChoice r p value front) e b) none
+  considered best (Some c) b (inl (e, none)) = best_kept c.number c.remoteness (subst (IsChoice r p value front) e b) none
+  considered best (Some c) b (inr (k, goes, chooses)) = chosen best c k b goes chooses
+
+-- a move that goes elsewhere changes nothing
+pub goes_elsewhere : (r : Rules) (p : Position) (value : Value) (m : ℕ) (best : Option Choice) →
+    ((k : ℕ) → HasValue r (r.play p m) (wanted_from value) k → ⊥) → Considers r p value m best best
+goes_elsewhere r p value m None none = (refl, none)
+goes_elsewhere r p value m (Some c) none = inl (refl, none)

@@ -1,0 +1,12 @@
+use Rattle.gm_shard.specs.Logged.{logged}
+use Rattle.std.proofs.Common.{length, ◌≤◌, ◌*◌, subst}
+use Rattle.gm_shard.proofs.Lower.{MOVES, TIER_SIZE, ShardState, pairs_in, state_by}
+use Rattle.gm_shard.proofs.CloseLemmas.{few_there}
+use Rattle.gm_shard.proofs.deliveries.Ordered.delivered.Goals as goal
+
+pub returns-clause-small : goal.returns-clause-small
+returns-clause-small g c =
+    let r = g.G.Game.rules in
+    let f = c.self.inside in
+    subst (λ (s : ShardState). pairs_in s ≤ MOVES * TIER_SIZE) c.self.view_is
+    (few_there r (state_by f.tier f.lo f.phase f.level (length f.left.items) (logged f.pairs)) f.statuses f.left.items f.delivered c.self.invariant)

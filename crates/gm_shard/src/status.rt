@@ -1,0 +1,146 @@
+//! What is known of an index, and what a delivery makes of it.
+ghost use Rattle.std.specs.Prelude.{◌≡◌, ◌+◌, ◌<◌, ◌^◌};
+ghost use Rattle.gm_shard.specs.Lower.{phase_of, solved};
+ghost use Rattle.gm_shard.specs.Delivery.{next_status, is_settling, number_of};
+ghost use Rattle.gm_shard.specs.Begin.{first_status, first_left};
+ghost use Rattle.gm_shard.specs.declared.status.Status.TheVariants.{Settled};
+
+use gm_game::evaluate::of_end;
+use gm_game::position::{End, Phase, Solved, Value};
+use thiserror::Error;
+
+/// What an index is at the start.
+#[derive(Clone, Copy, Debug, PartialEq, Eq)]
+pub enum Start {
+    Hole,
+    Ended(End),
+    Inner { children: u8 },
+}
+
+/// What is known of an index.
+#[derive(Clone, Copy, Debug, PartialEq, Eq)]
+pub enum Status {
+    Hole,
+    Undecided,
+    Settled(Solved),
+}
+
+/// What a delivery did.
+#[derive(Clone, Copy, Debug, PartialEq, Eq)]
+pub enum Delivery {
+    Fresh,
+    FreshSettled,
+    Repeat,
+}
+
+/// Why a delivery was refused.
+#[derive(Clone, Copy, Debug, PartialEq, Eq, Error)]
+pub enum Refused {
+    /// The note is not one of the present level.
+    #[error("not of this level")]
+    NotThisLevel,
+    /// The parent's index is outside the shard's range.
+    #[error("outside the shard")]
+    NotMine,
+    /// The index is not that of a parent of the note.
+    #[error("not a parent")]
+    NotAParent,
+    /// The parent's remoteness would be above the limit.
+    #[error("too far")]
+    TooFar,
+}
+
+impl Refused {
+    /// Returns the number of the refusal.
+    pub fn number(&self) -> u8
+        ensures { result ≡ number_of self.now }
+    {
+        match self {
+            Refused::NotThisLevel => 1,
+            Refused::NotMine => 2,
+            Refused::NotAParent => 3,
+            Refused::TooFar => 4,
+        }
+    }
+}
+
+/// Fewer pairs were delivered than expected.
+#[derive(Clone, Copy, Debug, PartialEq, Eq, Error)]
+#[error("{delivered} of {expected} pairs delivered")]
+pub struct Short {
+    pub delivered: u64,
+    pub expected: u64,
+}
+
+impl Short {
+    /// Returns the number of the error.
+    pub fn number(&self) -> u8
+        ensures { result ≡ 1 }
+    {
+        1
+    }
+}
+
+/// Returns the status after a note is delivered; `last`: no other child is missing.
+pub(crate) fn next_status(old: Status, note: Solved, last: bool) -> Status
+    requires { note.remoteness + 1 < 2 ^ 32 }
+    ensures { result ≡ next_status old note last }
+{
+    match (old, note.value) {
+        (Status::Undecided, Value::Lose) => one_above(Value::Win, note),
+        (Status::Undecided, Value::Tie) => one_above(Value::Tie, note),
+        (Status::Undecided, Value::Win) if last => one_above(Value::Lose, note),
+        _ => old,
+    }
+}
+
+// Returns the settled status of this value, one move above a note.
+fn one_above(value: Value, note: Solved) -> Status
+    requires { note.remoteness + 1 < 2 ^ 32 }
+    ensures { result ≡ Settled (solved value (note.remoteness + 1)) }
+{
+    Status::Settled(Solved {
+        value,
+        remoteness: note.remoteness + 1,
+    })
+}
+
+pub(crate) fn first_status(start: Start) -> Status
+    ensures { result ≡ first_status start }
+{
+    match start {
+        Start::Hole => Status::Hole,
+        Start::Ended(e) => Status::Settled(of_end(e)),
+        Start::Inner { children: _ } => Status::Undecided,
+    }
+}
+
+/// Returns the counter that an index begins with.
+pub(crate) fn first_left(start: Start) -> u8
+    ensures { result ≡ first_left start }
+{
+    match start {
+        Start::Hole | Start::Ended(_) => 0,
+        Start::Inner { children } => children,
+    }
+}
+
+/// Returns the phase in which a value is settled.
+pub fn phase_of(value: Value) -> Phase
+    ensures { result ≡ phase_of value }
+{
+    match value {
+        Value::Lose | Value::Draw | Value::Win => Phase::WinLose,
+        Value::Tie => Phase::Ties,
+    }
+}
+
+/// Returns whether a status is settled in the step from `old` to `next`.
+pub(crate) fn is_settling(old: Status, next: Status) -> bool
+    ensures { result ≡ is_settling old next }
+{
+    match (old, next) {
+        (Status::Undecided, Status::Settled(_)) => true,
+        _ => false,
+    }
+}

@@ -1,0 +1,81 @@
+//! Statuses of four bytes each.
+ghost use Rattle.std.specs.Prelude.{◌≡◌, ◌<◌, Some, length, slice_get, set, replicate, IfOk};
+ghost use Rattle.gm_shard.specs.Good.{IsWithinLimit};
+ghost use Rattle.gm_shard.specs.declared.status.Status.TheVariants.{Undecided};
+ghost use Rattle.gm_shard.specs.Statuses.{status_of};
+
+use crate::status::Status;
+use gm_table::packed::{number_of, unpacked};
+use std::alloc::{AllocError, Global};
+use std::marker::Model;
+
+/// The number of an undecided index: no record has it.
+const UNDECIDED: u32 = 1;
+
+/// Statuses of four bytes each. Contracts see the statuses.
+#[derive(Drop)]
+pub(crate) struct Statuses {
+    numbers: Vec<u32>,
+}
+
+impl Model for Statuses {
+    ghost use Rattle.std.specs.Prelude.{List, map};
+    ghost use Rattle.gm_shard.specs.declared.status.Status.{Status};
+    ghost use Rattle.gm_shard.specs.Statuses.{status_of};
+
+    ghost Value = { List Status };
+
+    ghost view = { λ s. map status_of s.numbers.items };
+}
+
+impl Statuses {
+    /// Returns this many statuses, each undecided.
+    pub(crate) fn undecided(alloc: Global, count: usize) -> Result<Statuses, AllocError>
+        ensures { IfOk result (λ statuses. statuses ≡ replicate count Undecided) }
+    {
+        let numbers = vec![in alloc; UNDECIDED; count]?;
+        Ok(Statuses { numbers })
+    }
+
+    /// Returns the status at a place.
+    pub(crate) fn get(&self, k: usize) -> Status
+        requires { k < length self.now }
+        ensures { slice_get self.now k ≡ Some result }
+    {
+        status_of(self.numbers[k])
+    }
+
+    /// Puts a status in the place of another.
+    pub(crate) fn set(&mut self, k: usize, status: Status)
+        requires place { k < length self.old }
+        requires near { IsWithinLimit status }
+        ensures { self.new ≡ set self.old k status }
+    {
+        self.numbers[k] = number_of_status(status);
+    }
+}
+
+// Returns the number of a status.
+fn number_of_status(status: Status) -> u32
+    requires { IsWithinLimit status }
+    ensures { status_of result ≡ status }
+{
+    match status {
+        Status::Hole => number_of(None),
+        Status::Undecided => UNDECIDED,
+        Status::Settled(solved) => number_of(Some(solved)),
+    }
+}
+
+// Returns the status with this number.
+fn status_of(number: u32) -> Status
+    ensures { result ≡ status_of number }
+{
+    if number == UNDECIDED {
+        return Status::Undecided;
+    }
+    match unpacked(number) {
+        None => Status::Hole,
+        Some(solved) => Status::Settled(solved),
+    }
+}

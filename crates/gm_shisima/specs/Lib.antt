@@ -1,2 +1,0 @@
-pub mod ShisimaRules
-pub mod laws

@@ -1,2 +1,0 @@
--- What follows from the rules.
-pub mod ShisimaTables

@@ -1,3 +1,0 @@
-pub mod Small
-pub mod SmallTables
-pub mod laws

@@ -1,2 +1,0 @@
--- What follows from the tables.
-pub mod SmallLaws

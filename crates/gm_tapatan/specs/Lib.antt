@@ -1,2 +1,0 @@
-pub mod TapatanRules
-pub mod laws
